@@ -1,0 +1,22 @@
+use thiserror::Error;
+
+/// Memory was refused. The one answer that may come from any call that takes an allocator.
+#[derive(Debug, Drop, Error)]
+#[error("no memory")]
+pub struct NoMemory;
+
+/// An input could not be read.
+#[derive(Debug, Drop, Error)]
+#[error("read fault")]
+pub struct ReadFault;
+
+/// An output could not be written.
+#[derive(Debug, Drop, Error)]
+#[error("write fault")]
+pub struct WriteFault;
+
+/// A call on an outside object didn't do its work. The clauses of the call say which count
+/// of the object tells why.
+#[derive(Debug, Drop, Error)]
+#[error("failed")]
+pub struct Failed;
