@@ -8,7 +8,7 @@ ghost use Rattle.weights.specs.Logarithm.{lg};
 ghost use Rattle.weights.specs.Weighting.{weight_of};
 ghost use Rattle.weights.specs.Quantizing.{empty_range, widened, range_of, IsImpactWidth, Holds, IsInRange, impact_of};
 
-/// The logarithm of a number between two powers of two, and how it lies to those of the powers.
+/// The logarithm of a number between two powers of two, which lies between theirs.
 pub fn lg_between_powers_of_two()
     ensures value { (x e : ℕ) → x < 2 ^ 64 → 2 ^ e ≤ x → x < 2 ^ (e + 1) → lg x ≡ 1024 * e + (x - 2 ^ e) * 1024 / 2 ^ e }
     ensures at_least { (x e : ℕ) → x < 2 ^ 64 → 2 ^ e ≤ x → 1024 * e ≤ lg x }

@@ -24,8 +24,7 @@ pub enum Rule {
 /// The weight of a posting: its term has `n` postings in a collection of `docs` documents with `total` terms in all, and
 /// stands `tf` times in a document of `length` terms.
 ///
-/// Under BM25 a term gains less than 1,946 (1.9 times 1,024) with each halving of its postings, and no weight is below 1. A
-/// collection of empty documents counts as one term, so that there is an average length.
+/// Under BM25 no weight is below 1. A collection of empty documents has a `total` of 1, so that there is an average length.
 pub fn weight_of(rule: Rule, docs: u32, total: u64, n: u32, tf: u32, length: u32) -> u64
     requires some_postings { 1 ≤ n }
     requires within_docs { n ≤ docs }
@@ -48,7 +47,7 @@ pub fn weight_of(rule: Rule, docs: u32, total: u64, n: u32, tf: u32, length: u32
     }
 }
 
-// How rare a term is: 0 where each document has it, and 1,024 more with each halving of its postings.
+// How rare a term is: 1,024 times the binary logarithm of (docs + 1) / n.
 fn idf(docs: u32, n: u32) -> u32
     requires some_postings { 1 ≤ n }
     requires within_docs { n ≤ docs }

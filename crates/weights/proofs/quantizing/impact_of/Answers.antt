@@ -6,7 +6,7 @@ pub overflow_sub-steps : goal.overflow_sub-steps
 overflow_sub-steps c =
     let width = rw c.in-Of-2.is at c.requires.width in
     let steps = steps_of c.in-Of-2.b width.0 width.1 in
-    rw steps.0 steps.1
+    rw steps.0 (omega (arith, steps.1))
 
 pub overflow_cast-result-in-Of-2 : goal.overflow_cast-result-in-Of-2
 overflow_cast-result-in-Of-2 c =
