@@ -5,7 +5,7 @@ use Rattle.weights.specs.declared.quantizing.Bits.{Bits}
 use Rattle.weights.specs.declared.quantizing.Bits.TheVariants.{Raw, Of}
 use Rattle.weights.specs.declared.quantizing.Range.{Range}
 
--- the range of no weight, whose ends are the last that any weight of 64 bits moves
+-- the range before its first weight, which then becomes both of its ends
 abbrev pub empty_range : Range
 empty_range = record { least = 2 ^ 64 - 1; greatest = 0 }
 

@@ -22,7 +22,7 @@ pub struct Range {
 }
 
 impl Range {
-    /// The range of no weight, which the first one widens to itself alone.
+    /// The range before its first weight, which then becomes both of its ends.
     pub fn new() -> Range
         ensures { result ≡ empty_range }
     {
