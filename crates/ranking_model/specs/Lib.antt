@@ -1,0 +1,10 @@
+pub mod Order
+pub mod Flat
+pub mod Postings
+pub mod Plan
+pub mod Scores
+pub mod Finality
+pub mod Heaviest
+pub mod Report
+pub mod Search
+pub mod Examples

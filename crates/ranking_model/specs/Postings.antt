@@ -1,0 +1,18 @@
+-- The weighted postings of a query. Weights by the number of mentions are this project's; weight as impact times query
+-- frequency is that of impact-ordered ranking (Lin and Trotman 2015).
+use Rattle.std.specs.Prelude.{ℕ, suc, ◌*◌, List, [], ◌∷◌, ◌++◌, map, filter, ◌==◌}
+use Rattle.ranking_model.specs.declared.entry.Entry.{Entry}
+use Rattle.ranking_model.specs.declared.named.Named.{Named}
+use Rattle.ranking_model.specs.declared.posting.WeightedPosting.{WeightedPosting}
+
+-- what the entries of one term weigh for the query: impact times how often the query names the term
+abbrev pub weighted_at : ℕ → Named → List (Entry ℕ) → List WeightedPosting
+weighted_at place named flat = map (λ e. record { place = place; doc = e.doc; weight = e.impact * named.times }) (filter (λ e. e.term == named.term) flat)
+
+abbrev pub weighted_from : ℕ → List Named → List (Entry ℕ) → List WeightedPosting
+weighted_from place [] flat = []
+weighted_from place (named ∷ terms) flat = weighted_at place named flat ++ weighted_from (suc place) terms flat
+
+-- one posting for each entry whose term the query names; its place is the term's place in the query
+abbrev pub weighted_postings : List (Entry ℕ) → List Named → List WeightedPosting
+weighted_postings flat terms = weighted_from 0 terms flat

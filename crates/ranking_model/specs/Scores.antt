@@ -1,0 +1,43 @@
+-- Scores, the bound and the ranking. Scores as sums of impacts are Lin and Trotman's (ICTIR 2015); ties by document number
+-- and the bound are this project's.
+use Rattle.std.specs.Prelude.{ℕ, zero, suc, ◌+◌, ◌*◌, max, ◌==◌, List, [], ◌∷◌, map, filter, take, drop, sum_by, count_by, fold, if◌then◌else◌}
+use Rattle.std.specs.List.{range_with_len}
+use Rattle.std.specs.declared.cmp.Ordering.{Ordering}
+use Rattle.std.specs.Ordering.{nat_cmp, ordering_then}
+use Rattle.jass_base.specs.declared.answer.Hit.{Hit}
+use Rattle.ranking_model.specs.declared.class.Class.{Class}
+use Rattle.ranking_model.specs.declared.plan.QueryPlan.{QueryPlan}
+use Rattle.ranking_model.specs.Order.{sorted}
+
+-- what a class adds to a document's score: its weight for each of its postings of the document
+abbrev pub gain_of : ℕ → Class → ℕ
+gain_of doc class = class.weight * count_by (λ d. d == doc) class.docs
+
+-- the scores of all documents after the first n classes
+abbrev pub scores_after : ℕ → QueryPlan → List ℕ
+scores_after n plan = map (λ doc. sum_by (gain_of doc) (take n plan.classes)) (range_with_len 0 plan.docs)
+
+-- the greatest weight of a place among some classes, 0 where it has none
+abbrev pub greatest_weight : ℕ → List Class → ℕ
+greatest_weight place classes = fold (λ best class. if class.place == place then max best class.weight else best) 0 classes
+
+-- the bound: over the query's terms, the sum of the greatest weight among the term's classes after the first n
+abbrev pub bound_after : ℕ → QueryPlan → ℕ
+bound_after n plan = sum_by (λ place. greatest_weight place (drop n plan.classes)) (range_with_len 0 plan.places)
+
+-- the documents that have a score, from a document on
+abbrev pub hits_from : ℕ → List ℕ → List Hit
+hits_from doc [] = []
+hits_from doc (score ∷ scores) = if score == 0 then hits_from (doc + 1) scores else record { doc = doc; score = score } ∷ hits_from (doc + 1) scores
+
+-- the order of answers: falling score, then rising document
+abbrev pub rank_cmp : Hit → Hit → Ordering
+rank_cmp a b = ordering_then (nat_cmp b.score a.score) (nat_cmp a.doc b.doc)
+
+-- the first m documents by rank, without those of score 0
+abbrev pub first_ranked : List ℕ → ℕ → List Hit
+first_ranked scores m = take m (sorted rank_cmp (hits_from 0 scores))
+
+-- the answer after the first n classes
+abbrev pub top_k : ℕ → QueryPlan → ℕ → List Hit
+top_k n plan k = first_ranked (scores_after n plan) k
