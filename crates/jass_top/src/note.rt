@@ -20,7 +20,7 @@ pub enum Note<'a> {
 
 /// Puts the line of a note on the notes.
 pub fn put_note<E: Sink>(notes: &mut E, note: Note<'_>) -> Result<(), WriteFault>
-    ensures { Wrote E.written E.faults E.rest notes.old notes.new (note_text note) result }
+    ensures { Wrote E.written E.faults E.rest notes.old notes.new (note_text note.entry) result }
 {
     match note {
         Note::NoMemory => put_all(notes, &[b"no memory\n"]),

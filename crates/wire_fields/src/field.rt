@@ -25,6 +25,49 @@ pub struct Field {
     pub next: usize,
 }
 
+impl Field {
+    /// The field's number where it is the varint of this field number, else the one before.
+    #[inline]
+    pub fn number_or(&self, number: u32, before: u64) -> u64 {
+        if self.number == number {
+            if let Value::Varint(value) = self.value {
+                return value;
+            }
+        }
+        before
+    }
+
+    /// The field's bytes where it is the string of this field number, else those before.
+    /// The field is one of `bytes`.
+    pub fn bytes_or<'a>(&self, number: u32, bytes: &'a [u8], before: &'a [u8]) -> &'a [u8]
+        requires value { IsWithin self.now.value self.now.next }
+        requires within { self.now.next ≤ length bytes.now }
+    {
+        if self.number == number {
+            if let Value::Bytes(first, after) = self.value {
+                return &bytes[first..after];
+            }
+        }
+        before
+    }
+
+    /// The field's eight bytes where it is the fixed value of this field number, else those
+    /// before. The field is one of `bytes`.
+    pub fn eight_or(&self, number: u32, bytes: &[u8], before: [u8; 8]) -> [u8; 8]
+        requires value { IsWithin self.now.value self.now.next }
+        requires within { self.now.next ≤ length bytes.now }
+    {
+        if self.number == number {
+            if let Value::Eight(first) = self.value {
+                let mut eight = before;
+                eight.copy_from_slice(&bytes[first..first + 8]);
+                return eight;
+            }
+        }
+        before
+    }
+}
+
 /// Reads the field at a place of a message's body. None exactly at its end. A fault's place
 /// is the field's first byte. Faults are looked for in the tag's varint, then the field
 /// number, then the wire type, then the value.

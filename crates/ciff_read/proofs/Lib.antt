@@ -1,0 +1,3 @@
+pub mod Postings
+pub mod Tables
+pub mod TermLists

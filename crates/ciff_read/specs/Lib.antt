@@ -1,0 +1,4 @@
+pub mod Judging
+pub mod Kept
+pub mod Seen
+pub mod Table

@@ -1,0 +1,123 @@
+ghost use Rattle.std.specs.Prelude.{◌≡◌, ◌+◌, ◌<◌, ◌≤◌, ◌^◌, ◌↔◌, IsTrue, false, length, IfOk, OnOk};
+ghost use Rattle.jass_base.specs.Limits.{IsName};
+ghost use Rattle.ciff_read.specs.Table.{has_value, values_of};
+
+use crate::documents::Documents;
+use crate::message::Body;
+use crate::refusal::{CiffFault, CiffWhy, refused, refused_field};
+use jass_base::{DocRecord, Text};
+use std::alloc::Global;
+use wire_fields::next_field;
+
+/// The limit of a name's bytes.
+const LONGEST_NAME: usize = 1_048_576;
+
+/// The fields of a document's record as they stand.
+#[derive(Clone, Copy)]
+pub struct DocFields<'a> {
+    pub docid: u64,
+    pub name: &'a [u8],
+    pub length: u64,
+}
+
+/// Walks the fields from a place to the end of `bytes`.
+fn walk_document(bytes: &[u8], from: usize) -> Result<DocFields<'_>, CiffFault>
+    requires { from ≤ length bytes.now }
+{
+    let mut fields = DocFields {
+        docid: 0,
+        name: b"",
+        length: 0,
+    };
+    let mut at = from;
+    'fields: loop {
+        match next_field(bytes, at) {
+            Ok(Some(field)) => {
+                fields.docid = field.number_or(1, fields.docid);
+                fields.name = field.bytes_or(2, bytes, fields.name);
+                fields.length = field.number_or(3, fields.length);
+                at = field.next;
+            }
+            Ok(None) => return Ok(fields),
+            Err(fault) => return Err(refused_field(fault)),
+        }
+    }
+}
+
+/// Reads the record of the message at `at`, in a file of so many documents, and puts it to
+/// those of the messages before.
+pub fn read_document(
+    alloc: Global,
+    bytes: &[u8],
+    at: usize,
+    body: Body,
+    docs: u32,
+    documents: &mut Documents,
+) -> Result<(), CiffFault>
+    requires within { body.end ≤ length bytes.now }
+    ensures one { OnOk result (length (values_of documents.new.records.items) ≡ length (values_of documents.old.records.items) + 1) }
+{
+    let fields = match walk_document(&bytes[..body.end], body.from) {
+        Ok(fields) => fields,
+        Err(fault) => return Err(fault),
+    };
+    let (doc, name) = match judge_document(fields, docs, documents) {
+        Ok(judged) => judged,
+        Err(why) => return Err(refused(at, why)),
+    };
+    let Ok(name) = Text::from_str(alloc, name) else {
+        return Err(CiffFault::NoMemory);
+    };
+    let record = DocRecord {
+        name,
+        length: fields.length as u32,
+    };
+    match documents.put(doc, record) {
+        Ok(()) => Ok(()),
+        Err(_) => Err(CiffFault::NoMemory),
+    }
+}
+
+/// The document's number and name, or why the record is refused.
+fn judge_document<'a>(
+    fields: DocFields<'a>,
+    docs: u32,
+    documents: &Documents,
+) -> Result<(u32, &'a str), CiffWhy>
+    ensures new { IfOk result (λ judged. has_value documents.now.records.items judged.0 ≡ false) }
+    ensures name { IfOk result (λ judged. IsName judged.1.now) }
+    ensures length { IfOk result (λ judged. fields.entry.length < 2 ^ 31) }
+{
+    if fields.docid >= 1 << 31 {
+        return Err(CiffWhy::Range);
+    }
+    if fields.docid >= u64::from(docs) {
+        return Err(CiffWhy::DocRange);
+    }
+    let doc = fields.docid as u32;
+    if documents.has(doc) {
+        return Err(CiffWhy::DocTwice);
+    }
+    let Ok(name) = std::str::from_utf8(fields.name) else {
+        return Err(CiffWhy::Text);
+    };
+    if !is_name(name) {
+        return Err(CiffWhy::NameText);
+    }
+    if fields.length >= 1 << 31 {
+        return Err(CiffWhy::Range);
+    }
+    Ok((doc, name))
+}
+
+/// Whether a text may be the name of a document.
+fn is_name(name: &str) -> bool
+    ensures { IsTrue result ↔ IsName name.now }
+{
+    !name.is_empty()
+        && name.len() <= LONGEST_NAME
+        && name
+            .as_bytes()
+            .iter()
+            .all(|byte| *byte > 32 && *byte != 127)
+}
