@@ -36,8 +36,8 @@ pub fn put_note<E: Sink>(notes: &mut E, note: Note<'_>) -> Result<(), WriteFault
             let at = place_digits.format(at).as_bytes();
             put_refusal(notes, name.as_bytes(), number, at)
         }
-        Note::ReadFault { name } => put_all(notes, &[name.as_bytes(), b": read fault\n"]),
-        Note::WriteFault { name } => put_all(notes, &[name.as_bytes(), b": write fault\n"]),
+        Note::ReadFault { name } => put_fault(notes, name.as_bytes(), b": read fault\n"),
+        Note::WriteFault { name } => put_fault(notes, name.as_bytes(), b": write fault\n"),
     }
 }
 
@@ -51,4 +51,11 @@ fn put_refusal<'x, E: Sink>(
     ensures { Wrote E.written E.faults E.rest notes.old notes.new (name.now ++ (codes ": refusal " ++ (number.now ++ (codes " at " ++ (at.now ++ codes "\n"))))) result }
 {
     put_all(notes, &[name, b": refusal ", number, b" at ", at, b"\n"])
+}
+
+/// Puts a name and what is said of it.
+fn put_fault<'x, E: Sink>(notes: &mut E, name: &'x [u8], fault: &'x [u8]) -> Result<(), WriteFault>
+    ensures { Wrote E.written E.faults E.rest notes.old notes.new (name.now ++ fault.now) result }
+{
+    put_all(notes, &[name, fault])
 }

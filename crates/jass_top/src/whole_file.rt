@@ -9,7 +9,7 @@ use std::alloc::Global;
 pub const MOST_BYTES: usize = 4_294_967_312;
 
 /// How many bytes are read at a time.
-const PIECE: usize = 262_144;
+const PIECE: usize = 65_536;
 
 /// Why a file was not read.
 #[derive(Clone, Copy, Debug, PartialEq, Eq)]
@@ -28,16 +28,14 @@ pub fn read_whole<C: Cabinet>(alloc: Global, files: &mut C, name: &str) -> Resul
     ensures others { C.write_faults files.old ≤ C.write_faults files.new }
 {
     let mut row = Row::new(alloc);
-    let Ok(mut piece) = vec![in alloc; 0u8; PIECE] else {
-        return Err(ReadStop::NoMemory);
-    };
+    let mut piece = [0u8; PIECE];
     'pieces: loop {
-        let room = (MOST_BYTES - row.len()).min(PIECE);
-        if room == 0 {
+        if row.len() >= MOST_BYTES {
+            row.truncate(MOST_BYTES);
             return Ok(row);
         }
         let at = row.len() as u64;
-        let Ok(count) = files.read_at(name, at, &mut piece[..room]) else {
+        let Ok(count) = files.read_at(name, at, &mut piece) else {
             return Err(ReadStop::ReadFault);
         };
         if count == 0 {
