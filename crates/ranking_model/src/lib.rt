@@ -12,10 +12,12 @@ mod named;
 mod plan;
 mod posting;
 mod query;
+mod rank;
 
-pub use class::Class;
+pub use class::{Class, classes_of};
 pub use entry::Entry;
 pub use named::Named;
 pub use plan::QueryPlan;
-pub use posting::WeightedPosting;
+pub use posting::{WeightedPosting, weighted_postings};
 pub use query::Query;
+pub use rank::first_ranked;

@@ -1,0 +1,3 @@
+pub mod Sorting
+pub mod Ranking
+pub mod Classes
