@@ -1,3 +1,4 @@
 pub mod Sorting
 pub mod Ranking
 pub mod Classes
+pub mod Totals
