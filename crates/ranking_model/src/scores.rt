@@ -13,7 +13,8 @@ use std::alloc::Global;
 pub fn scores_after(alloc: Global, count: usize, plan: &QueryPlan) -> Result<Row<u32>, NoMemory>
     requires within { count ≤ length plan.now.classes }
     requires small { IsSmall plan.now }
-    ensures { IfOk result (λ scores. scores ≡ scores_after count plan.now) }
+    ensures scores { IfOk result (λ scores. scores ≡ scores_after count plan.now) }
+    ensures few { IfOk result (λ scores. length scores < 2 ^ 32) }
 {
     let mut scores = match vec![in alloc; 0u32; plan.docs as usize] {
         Ok(scores) => scores,
