@@ -1,0 +1,51 @@
+-- A name of a cabinet seen as a sink.
+use Rattle.std.proofs.Common.{◌≡◌, ℕ, List, [], ◌++◌, take, Option, Some, None, Result, Ok, Err, inl, inr, cond, Bool, true, false, unwrap_or, refl, sym, ap, ◌∙◌, append-nil}
+use Rattle.std.specs.Ordering.{nat_cmp, is_eq, eq_by_cmp}
+use Rattle.std.specs.Cmp.Lexicographic.{slice_cmp}
+use Rattle.std.specs.Io.KnownBytes.{Appends}
+use Rattle.std.specs.FinMap.{get, insert, get-insert}
+use Rattle.std.proofs.lemmas.Cmp.{nat_list_cmp_total, tied_itself}
+use Rattle.jass_base.specs.Outside.{Files, content_or_empty, content_told, others_told, Appended, Extends, Puts}
+use Rattle.jass_base.proofs.FilesOf.{same_files}
+
+-- the content of a name that was set
+content_set : (files : Files) (name content : List ℕ) → content_or_empty (insert files name content) name ≡ content
+content_set files name content =
+    ap (λ o. unwrap_or o []) (get-insert nat_list_cmp_total files name content name ∙ ap (λ b. cond b (Some content) (get files name)) (ap is_eq (tied_itself nat_list_cmp_total name)))
+
+-- a name that is set twice has its last content
+set_twice : (files : Files) (name first last : List ℕ) → insert (insert files name first) name last ≡ insert files name last
+set_twice files name first last = same_files (insert (insert files name first) name last) (insert files name last) (λ q.
+    get-insert nat_list_cmp_total (insert files name first) name last q
+    ∙ again (eq_by_cmp (slice_cmp nat_cmp) q name) q refl
+    ∙ sym (get-insert nat_list_cmp_total files name last q))
+  where
+    again : (b : Bool) (q : List ℕ) → eq_by_cmp (slice_cmp nat_cmp) q name ≡ b → cond b (Some last) (get (insert files name first) q) ≡ cond b (Some last) (get files q)
+    again true q is = refl
+    again false q is = get-insert nat_list_cmp_total files name first q ∙ ap (λ b. cond b (Some first) (get files q)) is
+
+-- what is appended to the name is put into the sink
+extended : (old new : Option Files) (name bytes : List ℕ) → Extends old new name bytes → Appends (content_told old name) (content_told new name) bytes
+extended None new name bytes is = tt
+extended (Some old) None name bytes is = absurd is
+extended (Some old) (Some new) name bytes is = ap (λ files. content_or_empty files name) is ∙ content_set old name (content_or_empty old name ++ bytes)
+
+unchanged : (old : Option Files) (name : List ℕ) → Appends (content_told old name) (content_told old name) []
+unchanged None name = tt
+unchanged (Some old) name = sym (append-nil (content_or_empty old name))
+
+pub puts : {T E : Type 0} (old new : Option Files) (name bytes : List ℕ) (result : Result T E) → Appended old new name bytes result → Puts (content_told old name) (content_told new name) bytes result
+puts old new name bytes (Ok x) is = extended old new name bytes is
+puts old new name bytes (Err e) (inl same) = (0, rw same (unchanged old name))
+puts old new name bytes (Err e) (inr (n, is)) = (n, extended old new name (take n bytes) is)
+
+-- and the other names stay
+kept : (old new : Option Files) (name bytes : List ℕ) → Extends old new name bytes → others_told new name ≡ others_told old name
+kept None new name bytes is = ap (λ files. others_told files name) is
+kept (Some old) None name bytes is = absurd is
+kept (Some old) (Some new) name bytes is = ap (λ files. Some (insert files name [])) is ∙ ap Some (set_twice old name (content_or_empty old name ++ bytes) [])
+
+pub rest_stays : {T E : Type 0} (old new : Option Files) (name bytes : List ℕ) (result : Result T E) → Appended old new name bytes result → others_told new name ≡ others_told old name
+rest_stays old new name bytes (Ok x) is = kept old new name bytes is
+rest_stays old new name bytes (Err e) (inl same) = ap (λ files. others_told files name) same
+rest_stays old new name bytes (Err e) (inr (n, is)) = kept old new name (take n bytes) is

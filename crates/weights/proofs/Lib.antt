@@ -1,0 +1,4 @@
+pub mod Exponents
+pub mod Bounds
+pub mod Limits
+pub mod Ranges

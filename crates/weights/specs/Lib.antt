@@ -1,0 +1,3 @@
+pub mod Logarithm
+pub mod Weighting
+pub mod Quantizing

@@ -1,0 +1,115 @@
+// How weights become impacts.
+
+ghost use Rattle.std.specs.Prelude.{◌≡◌, ◌≤◌};
+ghost use Rattle.weights.specs.Quantizing.{empty_range, widened, IsImpactWidth, IsInRange, impact_of};
+
+/// How a weight becomes an impact.
+#[derive(Clone, Copy, PartialEq, Eq, Debug)]
+pub enum Bits {
+    /// The weight itself, cut off at 65,535.
+    Raw,
+    /// Its place in the range of the collection's weights, in 1 to 16 bits.
+    Of(u8),
+}
+
+/// The least and the greatest weight of a collection.
+#[derive(Clone, Copy, PartialEq, Eq, Debug)]
+pub struct Range {
+    /// The least weight, or `u64::MAX` before the first one.
+    pub least: u64,
+    /// The greatest weight, or 0 before the first one.
+    pub greatest: u64,
+}
+
+impl Range {
+    /// The range before its first weight, which then becomes both of its ends.
+    pub fn new() -> Range
+        ensures { result ≡ empty_range }
+    {
+        Range {
+            least: u64::MAX,
+            greatest: 0,
+        }
+    }
+
+    /// Makes the range hold `w` too.
+    pub fn widen(&mut self, w: u64)
+        ensures { self.new ≡ widened self.old w }
+    {
+        self.least = self.least.min(w);
+        self.greatest = self.greatest.max(w);
+    }
+}
+
+/// The impact of the weight `w` in a collection whose weights have this range.
+///
+/// With `Bits::Of(b)` the least weight gets 1 and the greatest 2^b - 1, and those between them their place on the straight
+/// line, rounded down. Where both ends are the same each weight gets 1.
+pub fn impact_of(bits: Bits, range: Range, w: u64) -> u16
+    requires width { IsImpactWidth bits }
+    requires in_range { IsInRange bits range w }
+    requires some_weight { 1 ≤ w }
+    ensures value { result ≡ impact_of bits range w }
+    ensures positive { 1 ≤ result }
+{
+    match bits {
+        Bits::Raw => w.min(65_535) as u16,
+        Bits::Of(_) if range.least == range.greatest => 1,
+        Bits::Of(b) => {
+            let steps = (1u128 << b) - 2;
+            let above = u128::from(w - range.least);
+            let width = u128::from(range.greatest - range.least);
+            (1 + above * steps / width) as u16
+        }
+    }
+}
+
+#[cfg(test)]
+mod tests {
+    use super::*;
+
+    #[test]
+    fn impacts(rt: HostRuntime) {
+        let range = Range {
+            least: 401,
+            greatest: 572,
+        };
+        assert_eq!(rt; impact_of(Bits::Of(8), range, 572), 255);
+        assert_eq!(rt; impact_of(Bits::Of(8), range, 549), 220);
+        assert_eq!(rt; impact_of(Bits::Of(8), range, 401), 1);
+        for b in 1..17u8 {
+            assert_eq!(rt; impact_of(Bits::Of(b), range, 401), 1);
+            assert_eq!(rt;
+                u32::from(impact_of(Bits::Of(b), range, 572)) + 1,
+                1u32 << b
+            );
+        }
+        assert_eq!(rt;
+            impact_of(
+                Bits::Of(8),
+                Range {
+                    least: 7,
+                    greatest: 7
+                },
+                7
+            ),
+            1
+        );
+        assert_eq!(rt; impact_of(Bits::Raw, Range::new(), 70_000), 65_535);
+    }
+
+    #[test]
+    fn a_range_of_three_weights(rt: HostRuntime) {
+        let mut range = Range::new();
+        range.widen(549);
+        range.widen(572);
+        range.widen(401);
+        assert_eq!(rt;
+            range,
+            Range {
+                least: 401,
+                greatest: 572
+            }
+        );
+    }
+}

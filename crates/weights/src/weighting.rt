@@ -1,0 +1,89 @@
+// The weight of a posting.
+
+ghost use Rattle.std.specs.Prelude.{◌≡◌, ◌+◌, ◌-◌, ◌*◌, ◌/◌, ◌^◌, ◌<◌, ◌≤◌};
+ghost use Rattle.weights.specs.Weighting.{idf, length_norm, weight_of};
+
+use crate::logarithm::lg;
+
+// 1,000 times BM25's k1 + 1, k1 * (1 - b) and k1 * b, for k1 = 0.9 and b = 0.4.
+const GAIN: u128 = 1_900;
+
+const FLAT_PART: u128 = 540;
+
+const LENGTH_PART: u128 = 360;
+
+/// How a posting is weighed.
+#[derive(Clone, Copy, PartialEq, Eq, Debug)]
+pub enum Rule {
+    /// By term frequency: how often the term stands in the document.
+    Tf,
+    /// By Robertson's BM25 in whole numbers, with k1 = 0.9 and b = 0.4.
+    Bm25,
+}
+
+/// The weight of a posting: its term has `n` postings in a collection of `docs` documents with `total` terms in all, and
+/// stands `tf` times in a document of `length` terms.
+///
+/// Under BM25 no weight is below 1. A collection of empty documents has a `total` of 1, so that there is an average length.
+pub fn weight_of(rule: Rule, docs: u32, total: u64, n: u32, tf: u32, length: u32) -> u64
+    requires some_postings { 1 ≤ n }
+    requires within_docs { n ≤ docs }
+    requires docs_limit { docs ≤ 2 ^ 26 }
+    requires some_total { 1 ≤ total }
+    requires some_tf { 1 ≤ tf }
+    requires tf_limit { tf < 2 ^ 31 }
+    ensures value { result ≡ weight_of rule docs total n tf length }
+    ensures positive { 1 ≤ result }
+    ensures limit { result < 2 ^ 31 }
+{
+    match rule {
+        Rule::Tf => u64::from(tf),
+        Rule::Bm25 => {
+            let tf = u128::from(tf);
+            let gain = u128::from(idf(docs, n)) * GAIN * tf;
+            let saturation = 1000 * tf + length_norm(docs, total, length);
+            ((gain / saturation) as u64).max(1)
+        }
+    }
+}
+
+// How rare a term is: 1,024 times the binary logarithm of (docs + 1) / n.
+fn idf(docs: u32, n: u32) -> u32
+    requires some_postings { 1 ≤ n }
+    requires within_docs { n ≤ docs }
+    requires docs_limit { docs ≤ 2 ^ 26 }
+    ensures value { result ≡ idf docs n }
+    ensures limit { result < 27 * 1024 }
+{
+    // The factor keeps ten binary places of the quotient, and the logarithm gives them back.
+    let rarity = 1024 * (u64::from(docs) + 1) / u64::from(n);
+    lg(rarity) - 10 * 1024
+}
+
+// How far a document's length slows the growth of a term's weight, in thousandths: 900 at the average length.
+fn length_norm(docs: u32, total: u64, length: u32) -> u128
+    requires some_total { 1 ≤ total }
+    ensures value { result ≡ length_norm docs total length }
+    ensures limit { result < 2 ^ 74 }
+{
+    let total = u128::from(total);
+    (FLAT_PART * total + LENGTH_PART * u128::from(length) * u128::from(docs)) / total
+}
+
+#[cfg(test)]
+mod tests {
+    use super::*;
+
+    // Three documents of 9, 5 and 1 terms, each of which has no term but one that they share.
+    #[test]
+    fn weights_of_three_documents(rt: HostRuntime) {
+        assert_eq!(rt; idf(3, 3), 341);
+        assert_eq!(rt; length_norm(3, 15, 9), 1_188);
+        assert_eq!(rt; length_norm(3, 15, 5), 900);
+        assert_eq!(rt; length_norm(3, 15, 1), 612);
+        assert_eq!(rt; weight_of(Rule::Bm25, 3, 15, 3, 9, 9), 572);
+        assert_eq!(rt; weight_of(Rule::Bm25, 3, 15, 3, 5, 5), 549);
+        assert_eq!(rt; weight_of(Rule::Bm25, 3, 15, 3, 1, 1), 401);
+        assert_eq!(rt; weight_of(Rule::Tf, 3, 15, 3, 9, 9), 9);
+    }
+}
