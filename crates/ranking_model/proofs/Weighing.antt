@@ -10,7 +10,7 @@ use Rattle.std.proofs.lemmas.List.Elements.{recursion_from_All}
 use Rattle.std.proofs.lemmas.List.Sums.{sum_by-cons, sum_by-append}
 use Rattle.std.proofs.Math.Nat.{mul-le-mul_left}
 use Rattle.ranking_model.specs.declared.entry.Entry.{Entry}
-use Rattle.ranking_model.specs.declared.named.Named.{Named}
+use Rattle.jass_base.specs.declared.named.Named.{Named}
 use Rattle.ranking_model.specs.declared.posting.WeightedPosting.{WeightedPosting}
 use Rattle.ranking_model.specs.Flat.{entry_cmp, IsFlat}
 use Rattle.ranking_model.specs.Postings.{AreTerms, weighted_at, weighted_from, weighted_postings, place_cmp}
@@ -141,20 +141,9 @@ for_each {A} {B} R P Q (x ∷ xs) ys f h k = (inner ys k, for_each R P Q xs ys f
   inner [] k = tt
   inner (y ∷ ys) k = (f x y h.0 k.0, inner ys k.1)
 
-heavy : (impact times : ℕ) → impact ≤ 65535 → times ≤ 255 → impact * times ≤ 16711425
-heavy impact times a b =
-    let first : impact * times ≤ impact * 255 = mul-le-mul_left impact b in
-    let second : impact * 255 ≤ 65535 * 255 = omega arith in
-    omega arith
-
 pub weighted_documents : (docs place : ℕ) (terms : List Named) (flat : List (Entry ℕ)) → IsFlat nat_cmp docs flat → AreTerms terms → AllByRecursion (λ p. p.doc < docs) (weighted_from place terms flat)
 weighted_documents docs place terms flat f t = weighted_all (λ p. p.doc < docs) place terms flat (λ place.
-    for_each (λ named e. e.doc < docs) (λ (named : Named). (1 ≤ named.times) × (named.times ≤ 255)) (λ (e : Entry ℕ). e.doc < docs) terms flat (λ named e a b. b) (recursion_from_All _ terms t.times) (recursion_from_All _ flat f.documents))
-
-pub weighted_weights : (docs place : ℕ) (terms : List Named) (flat : List (Entry ℕ)) → IsFlat nat_cmp docs flat → AreTerms terms → AllByRecursion (λ p. p.weight ≤ 16711425) (weighted_from place terms flat)
-weighted_weights docs place terms flat f t = weighted_all (λ p. p.weight ≤ 16711425) place terms flat (λ place.
-    for_each (λ (named : Named) (e : Entry ℕ). e.impact * named.times ≤ 16711425) (λ (named : Named). (1 ≤ named.times) × (named.times ≤ 255)) (λ (e : Entry ℕ). (1 ≤ e.impact) × (e.impact ≤ 65535)) terms flat
-      (λ named e a b. heavy e.impact named.times b.1 a.1) (recursion_from_All _ terms t.times) (recursion_from_All _ flat f.impacts))
+    for_each (λ named e. e.doc < docs) (λ (named : Named). 1 ≤ named.times) (λ (e : Entry ℕ). e.doc < docs) terms flat (λ named e a b. b) (recursion_from_All _ terms t.named) (recursion_from_All _ flat f.documents))
 
 -- ---- the score of one document
 
@@ -175,28 +164,36 @@ none_left doc place times term e (f ∷ fs) a b h = by (either (f.term == term))
       rw t (sum_by-cons (adds doc) (weigh place times f) (map (weigh place times) (filter (λ f. f.term == term) fs)) ∙ rw other (omega arith))
   by (inr k) rest = rw k rest
 
-term_adds : (doc place times term : ℕ) (es : List (Entry ℕ)) → times ≤ 255 → Pairs (λ a b. a.term ≡ b.term → a.doc ≢ b.doc) es → AllByRecursion (λ e. (1 ≤ e.impact) × (e.impact ≤ 65535)) es → sum_by (adds doc) (map (weigh place times) (filter (λ f. f.term == term) es)) ≤ 16711425
-term_adds doc place times term [] few p h = omega arith
-term_adds doc place times term (e ∷ es) few p h = by (either (e.term == term)) (either (e.doc == doc)) (term_adds doc place times term es few p.1 h.1) where
-  rest_of : ℕ
-  rest_of = sum_by (adds doc) (map (weigh place times) (filter (λ f. f.term == term) es))
-  by : ((e.term == term) ≡ true) ⊎ ((e.term == term) ≡ false) → ((e.doc == doc) ≡ true) ⊎ ((e.doc == doc) ≡ false) → sum_by (adds doc) (map (weigh place times) (filter (λ f. f.term == term) es)) ≤ 16711425
+term_adds : (doc place times term : ℕ) (es : List (Entry ℕ)) → Pairs (λ a b. a.term ≡ b.term → a.doc ≢ b.doc) es → AllByRecursion (λ p. p.weight ≤ 16711425) (map (weigh place times) (filter (λ f. f.term == term) es))
+    → sum_by (adds doc) (map (weigh place times) (filter (λ f. f.term == term) es)) ≤ 16711425
+term_adds doc place times term [] p h = omega arith
+term_adds doc place times term (e ∷ es) p h = by (either (e.term == term)) (either (e.doc == doc)) (λ k. term_adds doc place times term es p.1 k) where
+  by : ((e.term == term) ≡ true) ⊎ ((e.term == term) ≡ false) → ((e.doc == doc) ≡ true) ⊎ ((e.doc == doc) ≡ false)
+      → (AllByRecursion (λ p. p.weight ≤ 16711425) (map (weigh place times) (filter (λ f. f.term == term) es)) → sum_by (adds doc) (map (weigh place times) (filter (λ f. f.term == term) es)) ≤ 16711425)
       → sum_by (adds doc) (map (weigh place times) (filter (λ f. f.term == term) (e ∷ es))) ≤ 16711425
   by (inl t) (inl d) rest =
+      let light = rw t at h in
       let none = none_left doc place times term e es (eqb-true _ _ t) (eqb-true _ _ d) p.0 in
       let one = sum_by-cons (adds doc) (weigh place times e) (map (weigh place times) (filter (λ f. f.term == term) es)) in
-      let most = heavy e.impact times h.0.1 few in
+      let most = light.0 in
       rw t (rw one (rw (d, none) (omega arith)))
   by (inl t) (inr d) rest =
+      let light = rw t at h in
       let one = sum_by-cons (adds doc) (weigh place times e) (map (weigh place times) (filter (λ f. f.term == term) es)) in
+      let others = rest light.1 in
       rw t (rw one (rw d (omega arith)))
-  by (inr t) d rest = rw t rest
+  by (inr t) d rest = rw t (rest (rw t at h))
 
-pub all_add : (doc docs place : ℕ) (terms : List Named) (flat : List (Entry ℕ)) → IsFlat nat_cmp docs flat → AllByRecursion (λ named. (1 ≤ named.times) × (named.times ≤ 255)) terms → sum_by (adds doc) (weighted_from place terms flat) ≤ length terms * 16711425
-all_add doc docs place [] flat f t = omega arith
-all_add doc docs place (named ∷ terms) flat f t =
-    let first = term_adds doc place named.times named.term flat t.0.1 (pairs_by_recursion _ flat f.once) (recursion_from_All _ flat f.impacts) in
-    let rest = all_add doc docs (suc place) terms flat f t.1 in
+all_parts : {A : Type 0} (P : A → Type 0) (xs ys : List A) → AllByRecursion P (xs ++ ys) → AllByRecursion P xs × AllByRecursion P ys
+all_parts P [] ys h = (tt, h)
+all_parts P (x ∷ xs) ys h = let rest = all_parts P xs ys h.1 in ((h.0, rest.0), rest.1)
+
+pub all_add : (doc docs place : ℕ) (terms : List Named) (flat : List (Entry ℕ)) → IsFlat nat_cmp docs flat → AllByRecursion (λ p. p.weight ≤ 16711425) (weighted_from place terms flat) → sum_by (adds doc) (weighted_from place terms flat) ≤ length terms * 16711425
+all_add doc docs place [] flat f h = omega arith
+all_add doc docs place (named ∷ terms) flat f h =
+    let light = all_parts (λ p. p.weight ≤ 16711425) (weighted_at place named flat) (weighted_from (suc place) terms flat) h in
+    let first = term_adds doc place named.times named.term flat (pairs_by_recursion _ flat f.once) light.0 in
+    let rest = all_add doc docs (suc place) terms flat f light.1 in
     let split = sum_by-append (adds doc) (weighted_at place named flat) (weighted_from (suc place) terms flat) in
     let count : suc (length terms) * 16711425 ≡ 16711425 + length terms * 16711425 = omega arith in
     rw (split, count) (omega arith)

@@ -4,14 +4,14 @@ use Rattle.std.specs.Prelude.{ℕ, suc, ◌*◌, ◌≤◌, ◌≢◌, length, A
 use Rattle.std.specs.declared.cmp.Ordering.{Ordering}
 use Rattle.std.specs.Ordering.{nat_cmp, ordering_then}
 use Rattle.ranking_model.specs.declared.entry.Entry.{Entry}
-use Rattle.ranking_model.specs.declared.named.Named.{Named}
+use Rattle.jass_base.specs.declared.named.Named.{Named}
 use Rattle.ranking_model.specs.declared.posting.WeightedPosting.{WeightedPosting}
 
--- the known terms of a query: at most 256, which differ, each named 1 to 255 times
+-- the known terms of a query: at most 256, which differ, each named at least once
 pub record AreTerms (terms : List Named) : Type 0 where
   pub few : length terms ≤ 256
-  pub differ : AllPairs (λ a b. a.term ≢ b.term) terms
-  pub times : All (λ named. (1 ≤ named.times) × (named.times ≤ 255)) terms
+  pub named : All (λ n. 1 ≤ n.times) terms
+  pub differ : AllPairs (λ m n. m.term ≢ n.term) terms
 
 -- what the entries of one term weigh for the query: impact times how often the query names the term
 abbrev pub weighted_at : ℕ → Named → List (Entry ℕ) → List WeightedPosting
@@ -28,3 +28,7 @@ weighted_postings flat terms = weighted_from 0 terms flat
 -- rising places, falling weights: the order in which the postings of an index come
 abbrev pub place_cmp : WeightedPosting → WeightedPosting → Ordering
 place_cmp a b = ordering_then (nat_cmp a.place b.place) (nat_cmp b.weight a.weight)
+
+-- no posting weighs more than the greatest impact, 65,535, named 255 times
+abbrev pub AreLight : List WeightedPosting → Type 0
+AreLight postings = All (λ p. p.weight ≤ 16711425) postings

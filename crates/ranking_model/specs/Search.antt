@@ -4,7 +4,7 @@ use Rattle.std.specs.List.{range_with_len, AllZip}
 use Rattle.jass_base.specs.declared.answer.Budget.{Budget}
 use Rattle.jass_base.specs.declared.answer.Report.{Report}
 use Rattle.ranking_model.specs.declared.entry.Entry.{Entry}
-use Rattle.ranking_model.specs.declared.query.Query.{Query}
+use Rattle.jass_base.specs.declared.query.Query.{Query}
 use Rattle.ranking_model.specs.declared.plan.QueryPlan.{QueryPlan}
 use Rattle.ranking_model.specs.Plan.{plan_of, granted_sum, prefix_within}
 use Rattle.ranking_model.specs.Scores.{top_k}

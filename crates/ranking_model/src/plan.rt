@@ -8,11 +8,10 @@ ghost use Rattle.ranking_model.specs.Scores.{top_k};
 
 use crate::class::{Class, classes_of};
 use crate::entry::Entry;
-use crate::named::Named;
 use crate::posting::weighted_postings;
 use crate::rank::first_ranked;
 use crate::scores::scores_after;
-use jass_base::{Hit, NoMemory, Row};
+use jass_base::{Hit, Named, NoMemory, Row};
 use std::alloc::Global;
 
 /// A query on an index: the number of documents, the number of the query's known terms, and the
