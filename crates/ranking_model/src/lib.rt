@@ -16,6 +16,7 @@ mod prefix;
 mod rank;
 mod report;
 mod scores;
+mod standing;
 
 pub use bound::bound_after;
 pub use budget::granted_sum;
@@ -27,3 +28,4 @@ pub use prefix::{cutoff_after, next_after, prefix_within, size_of_first};
 pub use rank::first_ranked;
 pub use report::report_of;
 pub use scores::scores_after;
+pub use standing::{Standing, standing_of};
