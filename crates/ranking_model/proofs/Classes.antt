@@ -71,6 +71,7 @@ joins [] p ps r a e = absurd (true≢false (sym e))
 joins (c ∷ []) p ps r a e = let e' : is_of c p ≡ true = e in (rw e' refl, all_behind ps r.1) where
   behind : (q : WeightedPosting) → NotBehind c q → NotBehind (record c { docs = c.docs ++ p.doc ∷ [] }) q
   behind q h = record { place = h.place; weight = h.weight }
+
   all_behind : (qs : List WeightedPosting) → AllByRecursion (NotBehind c) qs → AllByRecursion (NotBehind (record c { docs = c.docs ++ p.doc ∷ [] })) qs
   all_behind [] h = tt
   all_behind (q ∷ qs) h = (behind q h.0, all_behind qs h.1)

@@ -5,3 +5,4 @@ pub mod Totals
 pub mod Grouping
 pub mod Weighing
 pub mod Small
+pub mod Gains

@@ -46,6 +46,7 @@ gain_next : (doc : ℕ) (c : Class) (p : WeightedPosting) → is_of c p ≡ true
 gain_next doc c p e = by (either (p.doc == doc)) where
   count : count_by (λ d. d == doc) (c.docs ++ p.doc ∷ []) ≡ count_by (λ d. d == doc) c.docs + cond (p.doc == doc) 1 0
   count = sum_by_push (λ d. cond (d == doc) 1 0) c.docs p.doc
+
   by : ((p.doc == doc) ≡ true) ⊎ ((p.doc == doc) ≡ false) → gain_of doc (more c p.doc) ≡ gain_of doc c + adds doc p
   by (inl t) = let same = same_weight c p e in rw (count, t) (omega arith)
   by (inr f) = rw (count, f) (omega arith)
@@ -75,19 +76,22 @@ bound_le n m plan h =
 
 pub plan_is_small : (docs : ℕ) (flat : List (Entry ℕ)) (terms : List Named) → IsFlat nat_cmp docs flat → AreTerms terms → length flat ≤ 2 ^ 29 → AreLight (weighted_postings flat terms) → IsSmall (plan_of docs flat terms)
 plan_is_small docs flat terms f t few light = record {
-    documents = classes_all (λ c. AllByRecursion (λ doc. doc < docs) c.docs) (λ p. p.doc < docs) (λ p h. (h, tt)) (λ c p e h k. one_more c.docs p.doc h k) ps (weighted_documents docs 0 terms flat f t);
-    postings = let all = take-length (classes_of ps) in let total = sizes ps in rw (all, total) (omega (arith, long));
-    segments = let count = classes_length ps in omega (arith, long);
-    bounds = λ n. let most = bound_le n 16711425 (plan_of docs flat terms) weights in let places = t.few in omega arith;
-    scores = λ n doc. let part = sum_by-take-le (gain_of doc) (classes_of ps) n in let all = gains doc ps in let most = all_add doc docs 0 terms flat f (recursion_from_All _ ps light) in let places = t.few in omega arith;
-  }
+  documents = classes_all (λ c. AllByRecursion (λ doc. doc < docs) c.docs) (λ p. p.doc < docs) (λ p h. (h, tt)) (λ c p e h k. one_more c.docs p.doc h k) ps (weighted_documents docs 0 terms flat f t);
+  postings = let all = take-length (classes_of ps) in let total = sizes ps in rw (all, total) (omega (arith, long));
+  segments = let count = classes_length ps in omega (arith, long);
+  bounds = λ n. let most = bound_le n 16711425 (plan_of docs flat terms) weights in let places = t.few in omega arith;
+  scores = λ n doc. let part = sum_by-take-le (gain_of doc) (classes_of ps) n in let all = gains doc ps in let most = all_add doc docs 0 terms flat f (recursion_from_All _ ps light) in let places = t.few in omega arith;
+}
   where
     ps : List WeightedPosting
     ps = weighted_postings flat terms
+
     long : length ps ≤ length flat
     long = weighted_length 0 terms flat (pairs_by_recursion _ terms t.differ)
+
     weights : AllByRecursion (λ c. c.weight ≤ 16711425) (classes_of ps)
     weights = classes_all (λ c. c.weight ≤ 16711425) (λ p. p.weight ≤ 16711425) (λ p h. h) (λ c p e h k. h) ps (recursion_from_All _ ps light)
+
     one_more : (ds : List ℕ) (d : ℕ) → AllByRecursion (λ doc. doc < docs) ds → d < docs → AllByRecursion (λ doc. doc < docs) (ds ++ d ∷ [])
     one_more [] d h k = (k, tt)
     one_more (x ∷ xs) d h k = (h.0, one_more xs d h.1 k)

@@ -79,7 +79,7 @@ added_here docs scores old weight i doc d h is here inv long within = by (either
       let was = inv d within in
       let old_doc : get_or scores doc 0 ≡ get_or scores d 0 = ap (λ n. get_or scores n 0) e in
       let written : get_or (set scores doc (get_or scores doc 0 + weight)) d 0 ≡ get_or scores doc 0 + weight =
-          ap (λ n. get_or (set scores doc (get_or scores doc 0 + weight)) n 0) (sym e) ∙ get_or-set_same scores doc (get_or scores doc 0 + weight) 0 here in
+      ap (λ n. get_or (set scores doc (get_or scores doc 0 + weight)) n 0) (sym e) ∙ get_or-set_same scores doc (get_or scores doc 0 + weight) 0 here in
       written ∙ rw more (omega arith)
   by (inr f) =
       let apart : d ≢ doc = λ e. eqb-false _ _ f (sym is ∙ sym e) in
@@ -93,6 +93,7 @@ pub bound_step : (classes shown : List Class) (count place places bound more : �
 bound_step classes shown count place places bound more same within is told limit = (total, let most = sum_range_le (λ p. greatest_weight p (drop count classes)) (place + 1) places (omega arith) in omega (arith, total)) where
   told' : more ≡ greatest_weight place (drop count classes)
   told' = told ∙ ap (greatest_weight place) (take_rest shown count) ∙ ap (λ l. greatest_weight place (drop count l)) same
+
   total : bound + more ≡ sum_by (λ p. greatest_weight p (drop count classes)) (range_with_len 0 (place + 1))
   total = let more = sum_range_more (λ p. greatest_weight p (drop count classes)) place in omega (arith, told')
 

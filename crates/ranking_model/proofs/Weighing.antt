@@ -67,13 +67,14 @@ weighted_ascends : (place : ℕ) (terms : List Named) (flat : List (Entry ℕ)) 
 weighted_ascends place [] flat a = tt
 weighted_ascends place (named ∷ terms) flat a =
     ascends_append place_cmp (weighted_at place named flat) (weighted_from (suc place) terms flat)
-      (weighed_ascends place named.times named.term _ (all_of named.term flat) (ascends_filter (entry_cmp nat_cmp) (λ e. e.term == named.term) flat a))
-      (weighted_ascends (suc place) terms flat a)
-      (all_before (weighted_at place named flat) (at_place place named.times (filter (λ e. e.term == named.term) flat)))
+    (weighed_ascends place named.times named.term _ (all_of named.term flat) (ascends_filter (entry_cmp nat_cmp) (λ e. e.term == named.term) flat a))
+    (weighted_ascends (suc place) terms flat a)
+    (all_before (weighted_at place named flat) (at_place place named.times (filter (λ e. e.term == named.term) flat)))
   where
     before : (x : WeightedPosting) → x.place ≡ place → (ys : List WeightedPosting) → AllByRecursion (λ p. suc place ≤ p.place) ys → AllByRecursion (λ y. is_gt (place_cmp x y) ≡ false) ys
     before x e [] h = tt
     before x e (y ∷ ys) h = (let less = h.0 in grind (arith, nat_tests), before x e ys h.1)
+
     all_before : (xs : List WeightedPosting) → AllByRecursion (λ p. p.place ≡ place) xs → AllByRecursion (λ x. AllByRecursion (λ y. is_gt (place_cmp x y) ≡ false) (weighted_from (suc place) terms flat)) xs
     all_before [] h = tt
     all_before (x ∷ xs) h = (before x h.0 _ (from_place (suc place) (suc place) terms flat (omega arith)), all_before xs h.1)
@@ -109,6 +110,7 @@ named_once place (named ∷ terms) e es h = by (either (e.term == named.term)) (
   others : e.term ≡ named.term → (ts : List Named) → AllByRecursion (λ b. named.term ≢ b.term) ts → AllByRecursion (λ b. (e.term == b.term) ≡ false) ts
   others is [] k = tt
   others is (t ∷ ts) k = (let apart : named.term ≢ t.term = k.0 in grind (arith, nat_tests), others is ts k.1)
+
   by : ((e.term == named.term) ≡ true) ⊎ ((e.term == named.term) ≡ false) → length (weighted_from (suc place) terms (e ∷ es)) ≤ suc (length (weighted_from (suc place) terms es))
       → length (weighted_from place (named ∷ terms) (e ∷ es)) ≤ suc (length (weighted_from place (named ∷ terms) es))
   by (inl t) rest = rw (t, unnamed (suc place) terms e es (others (eqb-true _ _ t) terms h.0)) (omega arith)

@@ -18,10 +18,7 @@ pub struct Class {
 
 /// The classes of a query's postings in the order in which they are scored: by falling weight,
 /// then rising number of postings, then rising place.
-pub fn classes_of(
-    alloc: Global,
-    postings: &[WeightedPosting],
-) -> Result<Row<Class>, NoMemory>
+pub fn classes_of(alloc: Global, postings: &[WeightedPosting]) -> Result<Row<Class>, NoMemory>
     requires { IsSorted place_cmp postings.now }
     ensures { IfOk result (λ classes. classes ≡ classes_of postings.now) }
 {
@@ -57,11 +54,7 @@ fn add_to_last(classes: &mut Vec<Class>, doc: u32) -> Result<(), NoMemory>
     }
 }
 
-fn begin(
-    alloc: Global,
-    classes: &mut Vec<Class>,
-    posting: &WeightedPosting,
-) -> Result<(), NoMemory>
+fn begin(alloc: Global, classes: &mut Vec<Class>, posting: &WeightedPosting) -> Result<(), NoMemory>
     ensures { OnOk result (classes.new.items ≡ classes.old.items ++ begun posting.now ∷ []) }
 {
     let mut docs = Row::new(alloc);

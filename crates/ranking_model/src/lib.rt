@@ -10,6 +10,7 @@ mod budget;
 mod class;
 mod entry;
 mod examples;
+mod graded;
 mod plan;
 mod posting;
 mod prefix;

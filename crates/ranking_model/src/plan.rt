@@ -47,12 +47,7 @@ pub fn plan_of(
 }
 
 /// The answer of at most `k` hits after the first `count` classes.
-pub fn top_k(
-    alloc: Global,
-    count: usize,
-    plan: &QueryPlan,
-    k: usize,
-) -> Result<Row<Hit>, NoMemory>
+pub fn top_k(alloc: Global, count: usize, plan: &QueryPlan, k: usize) -> Result<Row<Hit>, NoMemory>
     requires within { count ≤ length plan.now.classes }
     requires small { IsSmall plan.now }
     ensures { IfOk result (λ hits. hits ≡ top_k count plan.now k) }
