@@ -6,3 +6,5 @@ pub mod Grouping
 pub mod Weighing
 pub mod Small
 pub mod Gains
+pub mod Parting
+pub mod Segments

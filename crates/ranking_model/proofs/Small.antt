@@ -16,10 +16,10 @@ use Rattle.ranking_model.specs.declared.plan.QueryPlan.{QueryPlan}
 use Rattle.ranking_model.specs.Flat.{IsFlat}
 use Rattle.ranking_model.specs.Postings.{AreTerms, AreLight, weighted_postings}
 use Rattle.ranking_model.specs.Plan.{is_of, begun, classes_of, plan_of, size_of_first}
-use Rattle.ranking_model.specs.Scores.{gain_of, greatest, greatest_weight, bound_after}
+use Rattle.ranking_model.specs.Scores.{adds, gain_of, greatest, greatest_weight, bound_after}
 use Rattle.ranking_model.specs.Limits.{IsSmall}
 use Rattle.ranking_model.proofs.Grouping.{more, classes_sum, classes_all, classes_length, length_sum}
-use Rattle.ranking_model.proofs.Weighing.{adds, pairs_by_recursion, weighted_length, weighted_documents, all_add}
+use Rattle.ranking_model.proofs.Weighing.{pairs_by_recursion, weighted_length, weighted_documents, all_add}
 use Rattle.ranking_model.proofs.Sorting.{either}
 
 -- ---- what a posting adds to its class

@@ -14,6 +14,7 @@ use Rattle.jass_base.specs.declared.named.Named.{Named}
 use Rattle.ranking_model.specs.declared.posting.WeightedPosting.{WeightedPosting}
 use Rattle.ranking_model.specs.Flat.{entry_cmp, IsFlat}
 use Rattle.ranking_model.specs.Postings.{AreTerms, weighted_at, weighted_from, weighted_postings, place_cmp}
+use Rattle.ranking_model.specs.Scores.{adds}
 use Rattle.ranking_model.proofs.Sorting.{Ascends, either, ascends_sorted, ascends_filter, ascends_append, sorted_ascending}
 use Rattle.ranking_model.proofs.Classes.{place_total}
 
@@ -148,10 +149,6 @@ weighted_documents docs place terms flat f t = weighted_all (λ p. p.doc < docs)
     for_each (λ named e. e.doc < docs) (λ (named : Named). 1 ≤ named.times) (λ (e : Entry ℕ). e.doc < docs) terms flat (λ named e a b. b) (recursion_from_All _ terms t.named) (recursion_from_All _ flat f.documents))
 
 -- ---- the score of one document
-
--- what a posting adds to a document
-abbrev pub adds : ℕ → WeightedPosting → ℕ
-adds doc p = cond (p.doc == doc) p.weight 0
 
 -- once a term's posting of the document is counted, no other of the term counts
 none_left : (doc place times term : ℕ) (e : Entry ℕ) (es : List (Entry ℕ)) → e.term ≡ term → e.doc ≡ doc → AllByRecursion (λ f. e.term ≡ f.term → e.doc ≢ f.doc) es → sum_by (adds doc) (map (weigh place times) (filter (λ f. f.term == term) es)) ≡ 0

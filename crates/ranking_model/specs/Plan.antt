@@ -1,6 +1,6 @@
 -- The plan of a query and its prefixes. Segments by falling weight, taken whole, are Lin and Trotman's ("Anytime Ranking
 -- for Impact-Ordered Indexes", ICTIR 2015); which of equal weights comes first is this project's.
-use Rattle.std.specs.Prelude.{ℕ, zero, suc, ◌+◌, ◌-◌, ◌^◌, min, Bool, false, ◌&&◌, ◌==◌, nat_le, List, [], ◌∷◌, ◌++◌, length, take, drop, sum_by, fold, slice_get, Option, if◌then◌else◌}
+use Rattle.std.specs.Prelude.{ℕ, zero, suc, ◌+◌, ◌-◌, ◌^◌, min, Bool, false, ◌&&◌, ◌==◌, nat_le, List, [], ◌∷◌, ◌++◌, length, map, take, drop, sum_by, fold, slice_get, Option, if◌then◌else◌}
 use Rattle.std.specs.Option.{option_map_or}
 use Rattle.std.specs.declared.cmp.Ordering.{Ordering}
 use Rattle.std.specs.Ordering.{nat_cmp, ordering_then}
@@ -40,6 +40,10 @@ ends_in classes p = option_map_or (λ class. is_of class p) (slice_get classes (
 -- the plan's order: falling weight, then rising number of postings, then rising place
 abbrev pub plan_cmp : Class → Class → Ordering
 plan_cmp a b = ordering_then (ordering_then (nat_cmp b.weight a.weight) (nat_cmp (length a.docs) (length b.docs))) (nat_cmp a.place b.place)
+
+-- the postings of a class
+abbrev pub postings_of : Class → List WeightedPosting
+postings_of class = map (λ doc. record { place = class.place; doc = doc; weight = class.weight }) class.docs
 
 -- the classes of a query's postings, in the plan's order
 abbrev pub classes_of : List WeightedPosting → List Class

@@ -5,6 +5,7 @@ use Rattle.std.specs.List.{range_with_len}
 use Rattle.std.specs.declared.cmp.Ordering.{Ordering}
 use Rattle.std.specs.Ordering.{nat_cmp, ordering_then}
 use Rattle.jass_base.specs.declared.answer.Hit.{Hit}
+use Rattle.ranking_model.specs.declared.posting.WeightedPosting.{WeightedPosting}
 use Rattle.ranking_model.specs.declared.class.Class.{Class}
 use Rattle.ranking_model.specs.declared.plan.QueryPlan.{QueryPlan}
 use Rattle.ranking_model.specs.declared.standing.Standing.{Standing}
@@ -13,6 +14,10 @@ use Rattle.ranking_model.specs.Order.{sorted}
 -- what a class adds to a document's score: its weight for each of its postings of the document
 abbrev pub gain_of : ℕ → Class → ℕ
 gain_of doc class = class.weight * count_by (λ d. d == doc) class.docs
+
+-- what a posting adds to a document's score
+abbrev pub adds : ℕ → WeightedPosting → ℕ
+adds doc p = if p.doc == doc then p.weight else 0
 
 -- the scores of all documents after the first n classes
 abbrev pub scores_after : ℕ → QueryPlan → List ℕ

@@ -11,6 +11,7 @@ mod class;
 mod entry;
 mod examples;
 mod graded;
+pub mod laws;
 mod plan;
 mod posting;
 mod prefix;
