@@ -1,5 +1,5 @@
 -- The plan's weights fall, so a prefix of it is parted from the rest by weight, and is the heaviest of its size.
-use Rattle.std.proofs.Common.{◌≡◌, ℕ, zero, suc, ◌+◌, ◌-◌, ◌*◌, ◌<◌, ◌≤◌, List, [], ◌∷◌, length, take, drop, Bool, true, false, true≢false, refl, sym, ap, ◌∙◌, subst, arith, inl, inr, ◌⊎◌, sum_by, fold, ◌++◌, length-append}
+use Rattle.std.proofs.Common.{◌≡◌, ℕ, zero, suc, ◌+◌, ◌-◌, ◌*◌, ◌<◌, ◌≤◌, List, [], ◌∷◌, length, take, drop, Bool, true, false, true≢false, refl, sym, ap, ◌∙◌, arith, inl, inr, ◌⊎◌, sum_by, fold, ◌++◌, length-append}
 use Rattle.std.specs.Prelude.{⊤, nat_le}
 use Rattle.std.specs.List.{AllByRecursion, items_where_true}
 use Rattle.std.specs.Ordering.{is_gt}
@@ -9,7 +9,7 @@ use Rattle.std.proofs.lemmas.List.Sums.{sum_by-cons, sum_by-take-drop}
 use Rattle.ranking_model.specs.declared.posting.WeightedPosting.{WeightedPosting}
 use Rattle.ranking_model.specs.declared.class.Class.{Class}
 use Rattle.ranking_model.specs.Plan.{joined, is_of, plan_cmp, classes_of, size_of_first, greatest_up_to, prefix_within, weight_at, cutoff_after, next_after}
-use Rattle.ranking_model.specs.Heaviest.{weight_of_first, IsHeaviest}
+use Rattle.ranking_model.specs.Heaviest.{IsHeaviest}
 use Rattle.ranking_model.proofs.Sorting.{Ascends, either, sorted_ascends}
 use Rattle.ranking_model.proofs.Classes.{plan_total}
 use Rattle.ranking_model.proofs.Grouping.{more, classes_sum}
@@ -59,6 +59,7 @@ falls_from [] h = tt
 falls_from (c ∷ cs) h = (all cs h.0, falls_from cs h.1) where
   lighter : (d : Class) → is_gt (plan_cmp c d) ≡ false → d.weight ≤ c.weight
   lighter d k = grind (arith, nat_tests)
+
   all : (ds : List Class) → AllByRecursion (λ d. is_gt (plan_cmp c d) ≡ false) ds → AllByRecursion (λ d. d.weight ≤ c.weight) ds
   all [] k = tt
   all (d ∷ ds) k = (lighter d k.0, all ds k.1)

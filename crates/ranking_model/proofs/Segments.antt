@@ -1,6 +1,5 @@
 -- Segments that differ in place or weight are the classes of their postings.
-use Rattle.std.proofs.Common.{◌≡◌, ◌≢◌, ℕ, zero, suc, ◌+◌, List, [], ◌∷◌, ◌++◌, map, length, Bool, true, false, refl, sym, ap, ◌∙◌, arith, fold, append_assoc, append-nil, ◌&&◌, ◌==◌, flat_map}
-use Rattle.std.specs.Prelude.{⊤}
+use Rattle.std.proofs.Common.{◌≡◌, ◌≢◌, ℕ, List, [], ◌∷◌, ◌++◌, map, true, false, refl, sym, ap, ◌∙◌, arith, fold, append_assoc, append-nil, ◌&&◌, ◌==◌, flat_map}
 use Rattle.std.specs.List.{AllByRecursion}
 use Rattle.std.proofs.lemmas.Bool.Decides.{nat_tests}
 use Rattle.ranking_model.specs.declared.posting.WeightedPosting.{WeightedPosting}
@@ -8,7 +7,7 @@ use Rattle.ranking_model.specs.declared.class.Class.{Class}
 use Rattle.ranking_model.specs.Plan.{is_of, begun, joined, postings_of, plan_cmp, classes_of}
 use Rattle.ranking_model.specs.Order.{sorted}
 use Rattle.ranking_model.proofs.Grouping.{more}
-use Rattle.ranking_model.proofs.Weighing.{Pairs, pairs_by_recursion}
+use Rattle.ranking_model.proofs.Weighing.{Pairs}
 
 abbrev pub Differ : Class → Class → Type 0
 Differ a b = a.place ≡ b.place → a.weight ≢ b.weight
@@ -68,6 +67,7 @@ fold_classes done (c ∷ cs) some apart p =
     push : (done : List Class) (c x : Class) → AllByRecursion (λ d. Differ d x) done → Differ c x → AllByRecursion (λ d. Differ d x) (done ++ c ∷ [])
     push [] c x h k = (k, tt)
     push (d ∷ ds) c x h k = (h.0, push ds c x h.1 k)
+
     with_one : (done : List Class) (c : Class) (cs : List Class) → AllByRecursion (λ x. AllByRecursion (λ d. Differ d x) done) cs → AllByRecursion (λ x. Differ c x) cs → AllByRecursion (λ x. AllByRecursion (λ d. Differ d x) (done ++ c ∷ [])) cs
     with_one done c [] h k = tt
     with_one done c (x ∷ xs) h k = (push done c x h.0 k.0, with_one done c xs h.1 k.1)

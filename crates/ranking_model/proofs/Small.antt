@@ -1,12 +1,12 @@
 -- The numbers of a query's plan on an index fit the types of a report.
-use Rattle.std.proofs.Common.{◌≡◌, ◌≢◌, ℕ, zero, suc, ◌+◌, ◌*◌, ◌^◌, ◌<◌, ◌≤◌, max, List, [], ◌∷◌, ◌++◌, map, filter, length, get_or, take, drop, Bool, true, false, cond, ◌&&◌, refl, sym, ap, ◌∙◌, subst, arith, inl, inr, ◌⊎◌, ◌==◌, sum_by, count_by, eqb-true, eq-eqb, length-append}
-use Rattle.std.specs.Prelude.{⊤, All}
+use Rattle.std.proofs.Common.{◌≡◌, ℕ, zero, suc, ◌+◌, ◌*◌, ◌^◌, ◌<◌, ◌≤◌, List, [], ◌∷◌, ◌++◌, length, drop, true, false, cond, refl, ◌∙◌, arith, inl, inr, ◌⊎◌, ◌==◌, sum_by, count_by, length-append}
+use Rattle.std.specs.Prelude.{All}
 use Rattle.std.specs.List.{AllByRecursion, range_with_len}
 use Rattle.std.specs.Ordering.{nat_cmp}
 use Rattle.std.proofs.lemmas.Bool.Decides.{nat_tests}
 use Rattle.std.proofs.Math.Seq.{take-length}
 use Rattle.std.proofs.lemmas.List.Elements.{recursion_from_All}
-use Rattle.std.proofs.lemmas.List.Sums.{sum_by-cons, sum_by_push, sum_by-take-le, sum_by-le}
+use Rattle.std.proofs.lemmas.List.Sums.{sum_by_push, sum_by-take-le, sum_by-le}
 use Rattle.std.proofs.lemmas.List.FromFn.{length-range_with_len}
 use Rattle.ranking_model.specs.declared.entry.Entry.{Entry}
 use Rattle.jass_base.specs.declared.named.Named.{Named}
@@ -15,8 +15,8 @@ use Rattle.ranking_model.specs.declared.class.Class.{Class}
 use Rattle.ranking_model.specs.declared.plan.QueryPlan.{QueryPlan}
 use Rattle.ranking_model.specs.Flat.{IsFlat}
 use Rattle.ranking_model.specs.Postings.{AreTerms, AreLight, weighted_postings}
-use Rattle.ranking_model.specs.Plan.{is_of, begun, classes_of, plan_of, size_of_first}
-use Rattle.ranking_model.specs.Scores.{adds, gain_of, greatest, greatest_weight, bound_after}
+use Rattle.ranking_model.specs.Plan.{is_of, begun, classes_of, plan_of}
+use Rattle.ranking_model.specs.Scores.{adds, gain_of, greatest_weight, bound_after}
 use Rattle.ranking_model.specs.Limits.{IsSmall}
 use Rattle.ranking_model.proofs.Grouping.{more, classes_sum, classes_all, classes_length, length_sum}
 use Rattle.ranking_model.proofs.Weighing.{pairs_by_recursion, weighted_length, weighted_documents, all_add}

@@ -1,13 +1,12 @@
 -- Sums over a prefix of a list, of a range and of the documents that a class has.
-use Rattle.std.proofs.Common.{◌≡◌, ℕ, suc, zero, ◌+◌, ◌-◌, ◌*◌, ◌^◌, ◌<◌, ◌≤◌, ◌≢◌, List, [], ◌∷◌, ◌++◌, length, get_or, set, take, drop, Bool, true, false, true≢false, cond, refl, sym, ap, ◌∙◌, subst, arith, inl, inr, ◌⊎◌, ⊎_elim, nat_le, ◌==◌, sum_by, count_by, eq-eqb, get_or-set_same, get_or-set_other}
-use Rattle.std.specs.List.{range_with_len, AllByRecursion}
+use Rattle.std.proofs.Common.{◌≡◌, ℕ, suc, zero, ◌+◌, ◌-◌, ◌*◌, ◌^◌, ◌<◌, ◌≤◌, ◌≢◌, List, [], ◌∷◌, ◌++◌, length, get_or, set, take, drop, Bool, true, false, true≢false, cond, sym, ap, ◌∙◌, arith, inl, inr, ◌⊎◌, nat_le, ◌==◌, sum_by, count_by, eq-eqb, get_or-set_same, get_or-set_other}
+use Rattle.std.specs.List.{range_with_len}
 use Rattle.std.proofs.lemmas.List.{take-take, take_rest, ext_get_or}
-use Rattle.std.proofs.lemmas.List.Sums.{sum_by-cons, sum_by-append, sum_by_push, sum_by-take-le, count_by_more_no, count_by_more_yes}
-use Rattle.std.proofs.lemmas.List.Elements.{All-from_recursion}
-use Rattle.std.proofs.lemmas.Bool.{cases_lt, leb-true, le-leb}
+use Rattle.std.proofs.lemmas.List.Sums.{sum_by_push, sum_by-take-le, count_by_more_no, count_by_more_yes}
+use Rattle.std.proofs.lemmas.Bool.{cases_lt, le-leb}
 use Rattle.std.proofs.lemmas.Bool.Decides.{nat_tests}
 use Rattle.std.proofs.Math.Nat.{mul-le-mul_left}
-use native.Mathlib.Numerals.{unary_clauses, add-one}
+use native.Mathlib.Numerals.{unary_clauses}
 use borrow.Author.Tests.{eqb-true, eqb-false}
 use Rattle.ranking_model.specs.declared.class.Class.{Class}
 use Rattle.ranking_model.specs.Plan.{size_of_first, greatest_up_to, prefix_within}

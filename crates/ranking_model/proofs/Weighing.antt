@@ -1,6 +1,6 @@
 -- The weighted postings of a flat list: their order, their number, their documents and their weights.
-use Rattle.std.proofs.Common.{◌≡◌, ◌≢◌, ℕ, zero, suc, ◌+◌, ◌*◌, ◌^◌, ◌<◌, ◌≤◌, List, [], ◌∷◌, ◌++◌, map, filter, length, get_or, Bool, true, false, true≢false, cond, ◌&&◌, refl, sym, ap, ◌∙◌, subst, arith, inl, inr, ◌⊎◌, ◌==◌, sum_by, count_by, eqb-true, length-append}
-use Rattle.std.specs.Prelude.{⊤, All, AllPairs, IsSorted}
+use Rattle.std.proofs.Common.{◌≡◌, ◌≢◌, ℕ, suc, ◌+◌, ◌*◌, ◌<◌, ◌≤◌, List, [], ◌∷◌, ◌++◌, map, filter, length, get_or, true, false, refl, sym, ap, ◌∙◌, arith, inl, inr, ◌⊎◌, ◌==◌, sum_by, eqb-true, length-append}
+use Rattle.std.specs.Prelude.{⊤, AllPairs, IsSorted}
 use Rattle.std.specs.List.{AllByRecursion}
 use Rattle.std.specs.Ordering.{is_gt, nat_cmp}
 use Rattle.std.specs.Cmp.{IsTotalOrder}
@@ -8,7 +8,6 @@ use Rattle.std.proofs.lemmas.Cmp.{then_total, on_total, back_total, nat_cmp_tota
 use Rattle.std.proofs.lemmas.Bool.Decides.{nat_tests}
 use Rattle.std.proofs.lemmas.List.Elements.{recursion_from_All}
 use Rattle.std.proofs.lemmas.List.Sums.{sum_by-cons, sum_by-append}
-use Rattle.std.proofs.Math.Nat.{mul-le-mul_left}
 use Rattle.ranking_model.specs.declared.entry.Entry.{Entry}
 use Rattle.jass_base.specs.declared.named.Named.{Named}
 use Rattle.ranking_model.specs.declared.posting.WeightedPosting.{WeightedPosting}

@@ -1,5 +1,5 @@
 -- Each posting joins the last class or begins one, as the definition says.
-use Rattle.std.proofs.Common.{◌∙◌, ap, List, Vec, Global}
+use Rattle.std.proofs.Common.{◌∙◌, ap, Vec, Global}
 use Rattle.ranking_model.specs.declared.class.Class.{Class}
 use Rattle.ranking_model.specs.Postings.{place_cmp}
 use Rattle.ranking_model.proofs.Sorting.{ascends_sorted}

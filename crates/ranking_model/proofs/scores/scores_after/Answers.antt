@@ -1,4 +1,4 @@
-use Rattle.std.proofs.Common.{◌≡◌, ◌<◌, ◌≤◌, ℕ, ◌∙◌, ap, sym, take, length, get_or, sum_by, arith}
+use Rattle.std.proofs.Common.{◌∙◌, ap, take, length, sum_by, arith}
 use Rattle.std.proofs.lemmas.List.{length-take}
 use Rattle.ranking_model.specs.Scores.{gain_of}
 use Rattle.ranking_model.specs.declared.class.Class.{Class}

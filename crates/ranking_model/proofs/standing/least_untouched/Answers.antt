@@ -1,4 +1,4 @@
-use Rattle.std.proofs.Common.{◌≡◌, ℕ, ◌<◌, List, length, get_or, Some, None, ◌≤◌, true, false, sym, ap, eq-eqb, lt-ltb, le-ltb, refl, arith}
+use Rattle.std.proofs.Common.{◌≡◌, ℕ, ◌<◌, List, length, get_or, Some, None, ◌≤◌, true, false, sym, eq-eqb, lt-ltb, le-ltb, refl, arith}
 use Rattle.std.specs.Prelude.{◌==◌, nat_lt, position}
 use Rattle.std.proofs.lemmas.List.Sums.{position_or_len_is}
 use Rattle.ranking_model.proofs.standing.least_untouched.Goals as goal
