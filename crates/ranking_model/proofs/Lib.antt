@@ -8,3 +8,4 @@ pub mod Small
 pub mod Gains
 pub mod Parting
 pub mod Segments
+pub mod Numbering

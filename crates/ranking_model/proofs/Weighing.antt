@@ -17,7 +17,7 @@ use Rattle.ranking_model.specs.Scores.{adds}
 use Rattle.ranking_model.proofs.Sorting.{Ascends, either, ascends_sorted, ascends_filter, ascends_append, sorted_ascending}
 use Rattle.ranking_model.proofs.Classes.{place_total}
 
-entry_total : IsTotalOrder (entry_cmp nat_cmp)
+pub entry_total : IsTotalOrder (entry_cmp nat_cmp)
 entry_total = then_total (then_total (on_total (λ (e : Entry ℕ). e.term) nat_cmp_total) (on_total (λ (e : Entry ℕ). e.impact) (back_total nat_cmp_total)))
     (on_total (λ (e : Entry ℕ). e.doc) nat_cmp_total)
 

@@ -6,6 +6,10 @@ ghost use Rattle.std.specs.List.{AllByRecursion};
 ghost use Rattle.jass_base.specs.declared.answer.Hit.{Hit};
 ghost use Rattle.ranking_model.specs.declared.posting.WeightedPosting.{WeightedPosting};
 ghost use Rattle.ranking_model.specs.declared.class.Class.{Class};
+ghost use Rattle.std.specs.Ordering.{nat_cmp};
+ghost use Rattle.std.specs.Cmp.Lexicographic.{slice_cmp};
+ghost use Rattle.ranking_model.specs.declared.entry.Entry.{Entry};
+ghost use Rattle.ranking_model.specs.Flat.{IsFlat, numbered};
 ghost use Rattle.ranking_model.specs.Order.{sorted};
 ghost use Rattle.ranking_model.specs.Plan.{postings_of, plan_cmp, classes_of, size_of_first, prefix_within, cutoff_after, next_after};
 ghost use Rattle.ranking_model.specs.Scores.{adds, gain_of, rank_cmp, hits_from, first_ranked};
@@ -46,3 +50,9 @@ pub fn segments_are_classes()
 pub fn the_ranking_is_one()
     ensures { (scores : List ℕ) (m : ℕ) (hits : List Hit) → IsPermutation (hits_from 0 scores) hits → IsSorted rank_cmp hits → take m hits ≡ first_ranked scores m }
 {}
+
+/// Terms by number keep what the flat list is by their bytes.
+pub fn numbers_keep_the_flat_list()
+    ensures { (docs : ℕ) (flat : List (Entry (List ℕ))) → IsFlat (slice_cmp nat_cmp) docs flat → IsFlat nat_cmp docs (numbered flat) }
+{
+}
