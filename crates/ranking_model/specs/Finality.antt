@@ -1,7 +1,6 @@
 -- When what is unscored can change nothing. This project's: by all gains of all documents, never by neighbouring hits.
 use Rattle.std.specs.Prelude.{◌≡◌, ℕ, ◌+◌, ◌≤◌, List, [], ◌∷◌, map, length, IsPermutation}
 use Rattle.std.specs.List.{AllByRecursion}
-use Rattle.jass_base.specs.declared.answer.Hit.{Hit}
 use Rattle.jass_base.specs.declared.answer.Grade.{Grade}
 use Rattle.jass_base.specs.declared.answer.Grade.TheVariants.{Final, Set, Open}
 use Rattle.ranking_model.specs.declared.plan.QueryPlan.{QueryPlan}

@@ -1,0 +1,11 @@
+pub mod Sorting
+pub mod Ranking
+pub mod Classes
+pub mod Totals
+pub mod Grouping
+pub mod Weighing
+pub mod Small
+pub mod Gains
+pub mod Parting
+pub mod Segments
+pub mod Numbering
