@@ -22,6 +22,8 @@ pub struct Once<'a> {
     pub budget: Budget,
     /// 1 to 255 words, each one term as it stands.
     pub terms: &'a [String],
+    pub ghost hits: { (1 ≤ k) × (k ≤ 100000) },
+    pub ghost few_terms: { length terms.now ≤ 255 },
 }
 
 /// The first word such that no command begins with the words up to it, counted from 1; one
@@ -32,10 +34,7 @@ pub struct WordFault {
 }
 
 /// Reads the words of `once`, the one command that there is.
-pub fn read_once<'a>(words: &'a [String]) -> Result<Once<'a>, WordFault>
-    ensures k { IfOk result (λ once. (1 ≤ once.k) × (once.k ≤ 100000)) }
-    ensures terms { IfOk result (λ once. length once.terms.now ≤ 255) }
-{
+pub fn read_once<'a>(words: &'a [String]) -> Result<Once<'a>, WordFault> {
     if words.is_empty() || words[0].as_str() != "once" {
         return Err(WordFault { which: 1 });
     }

@@ -1,0 +1,7 @@
+#![tactic(auto)]
+
+mod building;
+mod flattening;
+
+pub use building::build;
+pub use flattening::entries_of;
