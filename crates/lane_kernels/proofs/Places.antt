@@ -1,0 +1,52 @@
+-- The first place that passes a test.
+use Rattle.std.proofs.Common.{◌≡◌, ◌≢◌, ◌==◌, ◌+◌, ℕ, ◌<◌, ◌≤◌, Bool, true, false, not, cond, suc, ◌*◌, [], ◌∷◌, eqb, List, length, map, get_or, Option, Some, None, sym, ap, ◌∙◌, arith, inl, inr}
+use Rattle.std.specs.List.{position, prefix_len}
+use Rattle.std.proofs.lemmas.Bool.{cases_lt}
+use Rattle.std.proofs.lemmas.Bool.Decides.{nat_tests}
+use Rattle.std.proofs.lemmas.List.Sums.{prefix_len_is}
+use Rattle.std.proofs.lemmas.Simd.{length-chunk, trailing_mask_l, leading_from_mask_l, run_in_chunk_le, run_in_chunk_fails, run_in_chunk_stops, none_from_empty_mask}
+use lib.Count.{count_trailing_zeros}
+use lib.Lanes.{chunk, mask_l}
+
+-- none before it passes, and it does
+pub position_at : {X : Type 0} (p : X → Bool) (xs : List X) (i : ℕ) (d : X) → i < length xs
+    → ((k : ℕ) → k < i → p (get_or xs k d) ≡ false) → p (get_or xs i d) ≡ true → position p xs ≡ Some i
+position_at p xs i d inside before here =
+    let n : prefix_len (λ x. not (p x)) xs ≡ i = prefix_len_is (λ x. not (p x)) xs i d (omega arith) (λ k h. ap not (before k h)) (λ _. ap not here) in
+    rw n (grind (arith, nat_tests))
+
+-- none passes
+pub position_past : {X : Type 0} (p : X → Bool) (xs : List X) (d : X)
+    → ((k : ℕ) → k < length xs → p (get_or xs k d) ≡ false) → position p xs ≡ None
+position_past p xs d before =
+    let n : prefix_len (λ x. not (p x)) xs ≡ length xs = prefix_len_is (λ x. not (p x)) xs (length xs) d (omega arith) (λ k h. ap not (before k h)) (λ h. absurd (omega arith)) in
+    rw n (grind (arith, nat_tests))
+
+-- ---- sixteen lanes, of which a mask shows those that are zero
+abbrev is_zero : ℕ → Bool
+is_zero slot = slot == 0
+
+-- a mask that is not empty shows one
+some_here : (b : Bool) (mask passed long : ℕ) → (0 < mask → passed < long) → 0 < cond b 1 0 + 2 * mask → cond (not b) (1 + passed) 0 < suc long
+some_here true mask passed long later h = omega arith
+some_here false mask passed long later h = omega (arith, later (omega arith))
+
+some_passes : (xs : List ℕ) → 0 < mask_l (map is_zero xs) → prefix_len (λ x. not (is_zero x)) xs < length xs
+some_passes [] h = absurd (omega arith)
+some_passes (x ∷ xs) h = some_here (is_zero x) (mask_l (map is_zero xs)) (prefix_len (λ y. not (is_zero y)) xs) (length xs) (some_passes xs) h
+
+module _ (xs : List ℕ) (at : ℕ) (room : at + 16 ≤ length xs) (before : (k : ℕ) → k < at → is_zero (get_or xs k 0) ≡ false)
+    (mask : ℕ) (is : mask ≡ mask_l (map is_zero (chunk at 16 xs))) where
+  pub first_in_chunk : mask ≢ 0 → Some (at + count_trailing_zeros 64 mask) ≡ position is_zero xs
+  first_in_chunk some =
+      let n : ℕ = count_trailing_zeros 64 mask in
+      let counted : n ≡ prefix_len (λ x. not (is_zero x)) (chunk at 16 xs) =
+      ap (count_trailing_zeros 64) is ∙ trailing_mask_l is_zero 64 (chunk at 16 xs) (omega (arith, length-chunk at 16 xs room)) (omega arith) in
+      let within : n < 16 = omega (arith, counted, length-chunk at 16 xs room, some_passes (chunk at 16 xs) (omega (arith, is))) in
+      sym (position_at is_zero xs (at + n) 0 (omega arith)
+      (λ k h. elim (cases_lt k at) [ inl l ↦ before k l | inr g ↦ run_in_chunk_fails is_zero xs at 16 n 0 room counted k g h ])
+      (run_in_chunk_stops is_zero xs at 16 n 0 room counted within))
+
+  pub none_in_chunk : mask ≡ 0 → (k : ℕ) → k < at + 16 → is_zero (get_or xs k 0) ≡ false
+  none_in_chunk none k h =
+      elim (cases_lt k at) [ inl l ↦ before k l | inr g ↦ none_from_empty_mask is_zero xs at 16 0 room (sym is ∙ none) k (omega arith) h ]

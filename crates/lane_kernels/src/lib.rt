@@ -1,0 +1,12 @@
+// The kernels of the posting decoders, each over a fixed number of lanes: blocks of packed
+// numbers, running sums of gaps, bitmaps, and searches for a zero. None takes memory or fails.
+#![tactic(auto)]
+
+mod bytes;
+mod gaps;
+mod lanes;
+mod zeros;
+
+pub use bytes::{small16, widen16};
+pub use gaps::{fits128, running128};
+pub use zeros::{fill_zero, first_zero};
