@@ -1,3 +1,5 @@
 pub mod Places
+pub mod SetBits
 pub mod Running
 pub mod Sums
+pub mod Widths

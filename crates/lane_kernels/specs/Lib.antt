@@ -1,1 +1,3 @@
+pub mod Bitmap
 pub mod Gaps
+pub mod Width

@@ -2,11 +2,15 @@
 // numbers, running sums of gaps, bitmaps, and searches for a zero. None takes memory or fails.
 #![tactic(auto)]
 
+mod bitmap;
 mod bytes;
 mod gaps;
 mod lanes;
+mod width;
 mod zeros;
 
+pub use bitmap::bits_to_docs;
 pub use bytes::{small16, widen16};
 pub use gaps::{fits128, running128};
+pub use width::width128;
 pub use zeros::{fill_zero, first_zero};
