@@ -1,3 +1,4 @@
 pub mod Bitmap
+pub mod Block
 pub mod Gaps
 pub mod Width

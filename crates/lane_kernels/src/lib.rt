@@ -3,6 +3,7 @@
 #![tactic(auto)]
 
 mod bitmap;
+mod block;
 mod bytes;
 mod gaps;
 mod lanes;
@@ -10,6 +11,7 @@ mod width;
 mod zeros;
 
 pub use bitmap::bits_to_docs;
+pub use block::unpack128;
 pub use bytes::{small16, widen16};
 pub use gaps::{fits128, running128};
 pub use width::width128;
