@@ -1,4 +1,5 @@
 pub mod Bits
+pub mod Pack
 pub mod Places
 pub mod SetBits
 pub mod Running

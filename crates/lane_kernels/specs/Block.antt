@@ -58,3 +58,8 @@ lane_words bytes j = lane_word bytes 0 j ∷ lane_word bytes 1 j ∷ lane_word b
 abbrev pub lane_numbers : List ℕ → ℕ → ℕ → List ℕ
 lane_numbers bytes width first =
     lane_number bytes width 0 first ∷ lane_number bytes width 1 first ∷ lane_number bytes width 2 first ∷ lane_number bytes width 3 first ∷ []
+
+-- the bits of each lane that the values before bit x fill in the word of bit x
+abbrev pub pending_lanes : List ℕ → ℕ → ℕ → List ℕ
+pending_lanes values width x =
+    let lane = λ (l : ℕ). number_of_bits (λ v. packed_bit values width l (32 * (x / 32) + v)) (x % 32) in lane 0 ∷ lane 1 ∷ lane 2 ∷ lane 3 ∷ []

@@ -11,7 +11,7 @@ mod width;
 mod zeros;
 
 pub use bitmap::bits_to_docs;
-pub use block::unpack128;
+pub use block::{pack128, unpack128};
 pub use bytes::{small16, widen16};
 pub use gaps::{fits128, running128};
 pub use width::width128;
