@@ -1,5 +1,6 @@
 pub mod Bits
 pub mod Pack
+pub mod Packed
 pub mod Places
 pub mod SetBits
 pub mod Running

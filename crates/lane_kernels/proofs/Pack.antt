@@ -96,7 +96,7 @@ byte_of_word bit small i h =
 four_reads : (xs : List ℕ) → length xs ≡ 4 → xs ≡ get_or xs 0 0 ∷ get_or xs 1 0 ∷ get_or xs 2 0 ∷ get_or xs 3 0 ∷ []
 four_reads = by_lanes (λ xs. xs ≡ get_or xs 0 0 ∷ get_or xs 1 0 ∷ get_or xs 2 0 ∷ get_or xs 3 0 ∷ []) (λ a b c d. refl)
 
-get_or_of_four : (f : ℕ → ℕ) (l : ℕ) → l < 4 → get_or (f 0 ∷ f 1 ∷ f 2 ∷ f 3 ∷ []) l 0 ≡ f l
+pub get_or_of_four : (f : ℕ → ℕ) (l : ℕ) → l < 4 → get_or (f 0 ∷ f 1 ∷ f 2 ∷ f 3 ∷ []) l 0 ≡ f l
 get_or_of_four f zero h = refl
 get_or_of_four f (suc zero) h = refl
 get_or_of_four f (suc (suc zero)) h = refl

@@ -3,7 +3,7 @@ use Rattle.std.proofs.Common.{◌≡◌, ◌==◌, ℕ, zero, suc, ◌+◌, ◌-
 use Rattle.std.specs.Int.{bit_at}
 use Rattle.std.specs.List.{range_with_len}
 use Rattle.std.proofs.lemmas.Bool.{cases_lt}
-use Rattle.std.proofs.lemmas.List.{append-nil}
+use Rattle.std.proofs.lemmas.List.{append-nil, get_or_append_left, get_or-append-add, length-append}
 use Rattle.std.proofs.lemmas.Nat.{and_block, and_le_r, mod-pow-add, pow-add, shr-shr}
 use Rattle.std.proofs.lemmas.Nat.Bits.{bit_at_cat_low, bit_at_cat_high, bit_at-zero}
 use Rattle.lane_kernels.specs.Bitmap.{bit_of, numbers_of_bits, set_bits, word_bits}
@@ -158,7 +158,7 @@ room_for_one base word rest filled count fits some left room =
     omega (arith, left, length-word_bits base word, ap length (word_bits_first base rest fits some))
 
 -- ---- bytes as one number
-bit_of_number : (bytes : List ℕ) → ((k : ℕ) → get_or bytes k 0 < 256) → (i : ℕ) → bit_of bytes i ≡ bit_at (number_l 256 bytes) i
+pub bit_of_number : (bytes : List ℕ) → ((k : ℕ) → get_or bytes k 0 < 256) → (i : ℕ) → bit_of bytes i ≡ bit_at (number_l 256 bytes) i
 bit_of_number [] fits i = bit_at-zero (i % 8) ∙ sym (bit_at-zero i)
 bit_of_number (x ∷ xs) fits i =
     let all : number_l 256 (x ∷ xs) ≡ number_l 256 xs * 2 ^ 8 + x = omega arith in
@@ -207,3 +207,52 @@ set_bits_of_words base bytes fits short =
     ∙ sym (ap (λ m. bits_from base m n) halves)
     ∙ whole
     ∙ sym (numbers_are (bit_of bytes) n base k (bit_of_number bytes fits))
+
+-- ---- bitmaps in parts
+-- the numbers base + i of those i of a range whose bit is 1
+abbrev in_range : (ℕ → ℕ) → ℕ → ℕ → ℕ → List ℕ
+in_range bit base from n = map (λ i. base + i) (filter (λ i. bit i == 1) (range_with_len from n))
+
+in_range_step : (b : Bool) (base i : ℕ) (xs ys : List ℕ) → map (λ i. base + i) xs ≡ ys → map (λ i. base + i) (cond b (i ∷ xs) xs) ≡ cond b ((base + i) ∷ ys) ys
+in_range_step true base i xs ys e = ap (λ (zs : List ℕ). (base + i) ∷ zs) e
+in_range_step false base i xs ys e = e
+
+-- two ranges give the same numbers where their bits agree
+in_range_same : (bit bit' : ℕ → ℕ) (base base' from from' n : ℕ) → base + from ≡ base' + from' → ((i : ℕ) → i < n → bit (from + i) ≡ bit' (from' + i))
+    → in_range bit base from n ≡ in_range bit' base' from' n
+in_range_same bit bit' base base' from from' zero e same = refl
+in_range_same bit bit' base base' from from' (suc n) e same =
+    let here : bit from ≡ bit' from' = ap bit (let a : from ≡ from + 0 = omega arith in a) ∙ same 0 (omega arith) ∙ ap bit' (let a : from' + 0 ≡ from' = omega arith in a) in
+    let rest = in_range_same bit bit' base base' (from + 1) (from' + 1) n (omega arith) (λ i h.
+    ap bit (let a : from + 1 + i ≡ from + (i + 1) = omega arith in a) ∙ same (i + 1) (omega arith) ∙ ap bit' (let a : from' + (i + 1) ≡ from' + 1 + i = omega arith in a)) in
+    in_range_step (eqb (bit from) 1) base from (filter (λ i. bit i == 1) (range_with_len (from + 1) n)) (in_range bit' base' (from' + 1) n) rest
+    ∙ ap (λ b. cond (eqb b 1) ((base + from) ∷ in_range bit' base' (from' + 1) n) (in_range bit' base' (from' + 1) n)) here
+    ∙ ap (λ x. cond (eqb (bit' from') 1) (x ∷ in_range bit' base' (from' + 1) n) (in_range bit' base' (from' + 1) n)) e
+    ∙ sym (in_range_step (eqb (bit' from') 1) base' from' (filter (λ i. bit' i == 1) (range_with_len (from' + 1) n)) (in_range bit' base' (from' + 1) n) refl)
+
+in_range_parts : (bit : ℕ → ℕ) (base from n m : ℕ) → in_range bit base from (n + m) ≡ in_range bit base from n ++ in_range bit base (from + n) m
+in_range_parts bit base from zero m =
+    ap (in_range bit base from) (let a : 0 + m ≡ m = omega arith in a) ∙ ap (λ f. in_range bit base f m) (let a : from ≡ from + 0 = omega arith in a)
+in_range_parts bit base from (suc n) m =
+    let tail : List ℕ = in_range bit base (from + suc n) m in
+    ap (in_range bit base from) (let a : suc n + m ≡ suc (n + m) = omega arith in a)
+    ∙ in_range_step (eqb (bit from) 1) base from (filter (λ i. bit i == 1) (range_with_len (from + 1) (n + m))) (in_range bit base (from + 1) n ++ tail)
+    (in_range_parts bit base (from + 1) n m ∙ ap (λ f. in_range bit base (from + 1) n ++ in_range bit base f m) (let a : from + 1 + n ≡ from + suc n = omega arith in a))
+    ∙ put-append (eqb (bit from) 1) (base + from) (in_range bit base (from + 1) n) tail
+    ∙ ap (λ (xs : List ℕ). xs ++ tail) (sym (in_range_step (eqb (bit from) 1) base from (filter (λ i. bit i == 1) (range_with_len (from + 1) n)) (in_range bit base (from + 1) n) refl))
+
+pub set_bits-append : (base : ℕ) (xs ys : List ℕ) → set_bits base (xs ++ ys) ≡ set_bits base xs ++ set_bits (base + 8 * length xs) ys
+unfolding numbers_of_bits
+set_bits-append base xs ys =
+    let n : ℕ = 8 * length xs in
+    let m : ℕ = 8 * length ys in
+    let both : List ℕ = xs ++ ys in
+    ap (in_range (bit_of both) base 0) (let a : 8 * length both ≡ n + m = omega (arith, length-append xs ys) in a)
+    ∙ in_range_parts (bit_of both) base 0 n m
+    ∙ ap (λ (zs : List ℕ). zs ++ in_range (bit_of both) base (0 + n) m)
+    (in_range_same (bit_of both) (bit_of xs) base base 0 0 n refl (λ i h. ap (λ b. bit_at b ((0 + i) % 8)) (get_or_append_left xs ys 0 ((0 + i) / 8) (omega arith))))
+    ∙ ap (λ (zs : List ℕ). in_range (bit_of xs) base 0 n ++ zs)
+    (in_range_same (bit_of both) (bit_of ys) base (base + n) (0 + n) 0 m (omega arith) (λ i h.
+    ap (λ q. bit_at (get_or both q 0) ((0 + n + i) % 8)) (let a : (0 + n + i) / 8 ≡ length xs + (0 + i) / 8 = omega arith in a)
+    ∙ ap (λ b. bit_at b ((0 + n + i) % 8)) (get_or-append-add xs ys ((0 + i) / 8) 0)
+    ∙ ap (bit_at (get_or ys ((0 + i) / 8) 0)) (let a : (0 + n + i) % 8 ≡ (0 + i) % 8 = omega arith in a)))

@@ -96,14 +96,14 @@ wider_list : (narrow width : ℕ) → narrow ≤ width → (xs : List ℕ) → B
 wider_list narrow width le [] h = tt
 wider_list narrow width le (x ∷ xs) h = (below_wider narrow width x le h.0, wider_list narrow width le xs h.1)
 
-least_width_holds : (xs : List ℕ) → Below 32 xs → Below (least_width xs) xs
+pub least_width_holds : (xs : List ℕ) → Below 32 xs → Below (least_width xs) xs
 least_width_holds [] small = tt
 least_width_holds (x ∷ xs) small = (
   below_wider (bit_width x) (least_width (x ∷ xs)) x (omega arith) (width_holds x small.0),
   wider_list (least_width xs) (least_width (x ∷ xs)) (omega arith) xs (least_width_holds xs small.1),
 )
 
-least_width_least : (xs : List ℕ) (width : ℕ) → Below 32 xs → Below width xs → least_width xs ≤ width
+pub least_width_least : (xs : List ℕ) (width : ℕ) → Below 32 xs → Below width xs → least_width xs ≤ width
 least_width_least [] width small h = omega arith
 least_width_least (x ∷ xs) width small h =
     omega (arith, width_least x width small.0 h.0, least_width_least xs width small.1 h.1)

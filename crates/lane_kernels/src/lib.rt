@@ -7,6 +7,7 @@ mod block;
 mod bytes;
 mod gaps;
 mod lanes;
+pub mod laws;
 mod width;
 mod zeros;
 
