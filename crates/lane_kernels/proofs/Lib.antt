@@ -1,9 +1,9 @@
 pub mod Bits
-pub mod Pack
+pub mod PackRows
 pub mod Packed
 pub mod Places
 pub mod SetBits
 pub mod Running
 pub mod Sums
-pub mod Unpack
+pub mod UnpackRows
 pub mod Widths

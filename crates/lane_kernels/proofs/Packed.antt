@@ -8,7 +8,7 @@ use Rattle.std.proofs.lemmas.Nat.Bits.{bit_at-lt}
 use Rattle.lane_kernels.specs.Bitmap.{bit_of}
 use Rattle.lane_kernels.specs.Block.{number_of_bits, list_of, word_at, lane_word, lane_bit, block_value, block_values, packed_bit, block_byte, block_bytes}
 use Rattle.lane_kernels.proofs.Bits.{bit_at_number, number_below, number_is, length-list_of, get_or-list_of, list_of_all}
-use Rattle.lane_kernels.proofs.Pack.{get_or_of_four}
+use Rattle.lane_kernels.proofs.PackRows.{get_or_of_four}
 use Rattle.lane_kernels.proofs.SetBits.{bit_of_number}
 use lib.Lanes.{number_l}
 

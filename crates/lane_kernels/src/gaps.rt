@@ -2,10 +2,8 @@
 ghost use Rattle.std.specs.Prelude.{◌≡◌, ℕ, ◌+◌, ◌<◌, ◌^◌, ◌↔◌, IsTrue, length, replicate, slice_index, sum, take};
 ghost use Rattle.lane_kernels.specs.Gaps.{running};
 
-use crate::lanes::{load, store};
+use crate::lanes::{ROWS, load, store};
 use std::simd::prelude::*;
-
-const ROWS: usize = 32;
 
 /// Whether the last of the numbers with these gaps is below `d`. The sum does not wrap.
 pub fn fits128(before: u32, gaps: &[u32; 128], d: u32) -> bool

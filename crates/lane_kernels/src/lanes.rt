@@ -1,9 +1,13 @@
-// Four neighbouring numbers of a list, as lanes.
+// The shape of a block, in which row r holds the numbers 4r to 4r + 3, one in each lane.
 ghost use Rattle.std.specs.Prelude.{◌≡◌, ◌+◌, ◌≤◌, length};
 ghost use Rattle.std.specs.Simd.Lanes.{chunk, put_chunk};
 
 use std::simd::prelude::*;
 
+pub(crate) const ROWS: usize = 32;
+pub(crate) const WORD_BITS: usize = 32;
+
+// Four neighbouring numbers of a list.
 #[inline(always)]
 pub(crate) fn load(values: &[u32], place: usize) -> u32x4
     requires { place + 4 ≤ length values.now }

@@ -3,17 +3,19 @@
 #![tactic(auto)]
 
 mod bitmap;
-mod block;
 mod bytes;
 mod gaps;
 mod lanes;
 pub mod laws;
+mod pack;
+mod unpack;
 mod width;
 mod zeros;
 
 pub use bitmap::bits_to_docs;
-pub use block::{pack128, unpack128};
 pub use bytes::{small16, widen16};
 pub use gaps::{fits128, running128};
+pub use pack::pack128;
+pub use unpack::unpack128;
 pub use width::width128;
 pub use zeros::{fill_zero, first_zero};

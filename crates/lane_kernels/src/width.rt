@@ -2,10 +2,8 @@
 ghost use Rattle.std.specs.Prelude.{◌≡◌, ℕ, ◌<◌, ◌≤◌, ◌^◌, ◌↔◌, All};
 ghost use Rattle.lane_kernels.specs.Width.{least_width};
 
-use crate::lanes::load;
+use crate::lanes::{ROWS, load};
 use std::simd::prelude::*;
-
-const ROWS: usize = 32;
 
 /// The least number of bits, 0 to 32, that holds each of the values.
 pub fn width128(values: &[u32; 128]) -> u8

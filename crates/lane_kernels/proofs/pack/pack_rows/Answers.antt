@@ -2,8 +2,8 @@ use Rattle.std.proofs.Common.{ℕ, ◌≡◌, ◌*◌, ◌/◌, ◌<◌, ◌≤�
 use Rattle.std.proofs.lemmas.Nat.{mul-le}
 use Rattle.lane_kernels.specs.Block.{block_byte}
 use Rattle.lane_kernels.proofs.Bits.{list_of_all}
-use Rattle.lane_kernels.proofs.Pack.{none_pending}
-use Rattle.lane_kernels.proofs.block.pack_rows.Goals as goal
+use Rattle.lane_kernels.proofs.PackRows.{none_pending}
+use Rattle.lane_kernels.proofs.pack.pack_rows.Goals as goal
 
 pub loop-row-init : goal.loop-row-init
 loop-row-init c =

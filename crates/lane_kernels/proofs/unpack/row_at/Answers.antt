@@ -1,7 +1,7 @@
 use Rattle.std.proofs.Common.{◌∙◌}
-use Rattle.lane_kernels.proofs.Unpack.{row_from_one, row_from_two}
-use Rattle.lane_kernels.proofs.block.row_at.Goals as goal
-use Rattle.lane_kernels.proofs.block.row_at.Goals.{then-shift-width-le-WORD_BITS, else-shift-width-le-WORD_BITS}
+use Rattle.lane_kernels.proofs.UnpackRows.{row_from_one, row_from_two}
+use Rattle.lane_kernels.proofs.unpack.row_at.Goals as goal
+use Rattle.lane_kernels.proofs.unpack.row_at.Goals.{then-shift-width-le-WORD_BITS, else-shift-width-le-WORD_BITS}
 
 pub returns : goal.returns
 returns c =

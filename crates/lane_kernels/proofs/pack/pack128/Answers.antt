@@ -1,7 +1,7 @@
 use Rattle.std.proofs.Common.{ℕ, ◌*◌, arith}
 use Rattle.lane_kernels.specs.Block.{block_byte}
 use Rattle.lane_kernels.proofs.Bits.{list_of_all}
-use Rattle.lane_kernels.proofs.block.pack128.Goals as goal
+use Rattle.lane_kernels.proofs.pack.pack128.Goals as goal
 
 pub returns-else-width-gt0 : goal.returns-else-width-gt0
 returns-else-width-gt0 c =

@@ -1,6 +1,6 @@
 use Rattle.std.proofs.Common.{List, ℕ, ◌∙◌, get_or, ap, arith}
-use Rattle.lane_kernels.proofs.Pack.{row_waits, row_full, row_rest, bytes_more, room_for_row}
-use Rattle.lane_kernels.proofs.block.pack_row.Goals as goal
+use Rattle.lane_kernels.proofs.PackRows.{row_waits, row_full, row_rest, bytes_more, room_for_row}
+use Rattle.lane_kernels.proofs.pack.pack_row.Goals as goal
 
 pub returns-then-shift-width-lt-WORD_BITS-clause-pending : goal.returns-then-shift-width-lt-WORD_BITS-clause-pending
 returns-then-shift-width-lt-WORD_BITS-clause-pending c =
