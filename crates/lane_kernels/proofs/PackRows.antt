@@ -6,7 +6,8 @@ use Rattle.std.proofs.lemmas.Bool.{cases_lt}
 use Rattle.std.proofs.lemmas.Nat.{or_lt, shl_below, shr_below, shr-shr, mod_below, pow_pos, div-mul-add, mod-mul-add, row_fits}
 use Rattle.std.proofs.lemmas.Nat.Bits.{bit_at_above, bit_at_or, bit_at-lt}
 use Rattle.std.proofs.lemmas.Simd.{get_or-chunk, length-chunk, get_or-put_chunk_below, get_or-put_chunk_at, get_or_narrower}
-use Rattle.lane_kernels.specs.Block.{number_of_bits, packed_bit, pending_lanes, block_byte}
+use Rattle.lane_kernels.specs.Block.{number_of_bits, packed_bit, block_byte}
+use Rattle.lane_kernels.specs.Lanes.{pending_lanes}
 use Rattle.lane_kernels.proofs.Bits.{bit_at-mod, bit_at-shr, bit_at-shl, bit_at-shl_below, bit_at_number, number_below, number_is, same_numbers}
 use Rattle.lane_kernels.proofs.Running.{by_lanes, same_lanes}
 use lib.Lanes.{zip2, chunk, put_chunk, digits_l, number_l, Each1}

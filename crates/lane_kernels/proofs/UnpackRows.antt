@@ -5,7 +5,8 @@ use Rattle.std.proofs.lemmas.Bool.{cases_lt}
 use Rattle.std.proofs.lemmas.Nat.{and_mask, mod_below, pow_pos}
 use Rattle.std.proofs.lemmas.Nat.Bits.{bit_at_above, bit_at_or, ones_shr}
 use Rattle.std.proofs.lemmas.Simd.{get_or-put_chunk_below, get_or-put_chunk_at}
-use Rattle.lane_kernels.specs.Block.{number_of_bits, lane_word, lane_words, lane_number, lane_numbers, block_value}
+use Rattle.lane_kernels.specs.Block.{number_of_bits, lane_word, lane_number, block_value}
+use Rattle.lane_kernels.specs.Lanes.{lane_words, lane_numbers}
 use Rattle.lane_kernels.proofs.Bits.{bit_at-mod, bit_at-shr, bit_at-shl, bit_at-shl_below, number_is}
 use Rattle.lane_kernels.proofs.Running.{same_lanes}
 use lib.Lanes.{zip2, put_chunk}

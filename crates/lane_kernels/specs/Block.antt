@@ -50,16 +50,3 @@ block_byte values width k = number_of_bits (λ v. packed_bit values width (k % 1
 -- the packed block of 128 values
 abbrev pub block_bytes : List ℕ → ℕ → List ℕ
 block_bytes values width = list_of (block_byte values width) (16 * width)
-
--- word j of the four lanes, and the numbers that stand in them from bit `first` on
-abbrev pub lane_words : List ℕ → ℕ → List ℕ
-lane_words bytes j = lane_word bytes 0 j ∷ lane_word bytes 1 j ∷ lane_word bytes 2 j ∷ lane_word bytes 3 j ∷ []
-
-abbrev pub lane_numbers : List ℕ → ℕ → ℕ → List ℕ
-lane_numbers bytes width first =
-    lane_number bytes width 0 first ∷ lane_number bytes width 1 first ∷ lane_number bytes width 2 first ∷ lane_number bytes width 3 first ∷ []
-
--- the bits of each lane that the values before bit x fill in the word of bit x
-abbrev pub pending_lanes : List ℕ → ℕ → ℕ → List ℕ
-pending_lanes values width x =
-    let lane = λ (l : ℕ). number_of_bits (λ v. packed_bit values width l (32 * (x / 32) + v)) (x % 32) in lane 0 ∷ lane 1 ∷ lane 2 ∷ lane 3 ∷ []

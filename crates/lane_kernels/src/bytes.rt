@@ -1,12 +1,11 @@
 // Sixteen bytes at a time.
-ghost use Rattle.std.specs.Prelude.{◌≡◌, nat_lt};
-ghost use Rattle.std.specs.List.{list_all};
+ghost use Rattle.std.specs.Prelude.{◌≡◌, ◌<◌, ◌↔◌, All, IsTrue};
 
 use std::simd::prelude::*;
 
 /// Whether every byte is below 128, as the one byte of a short varint is.
 pub fn small16(bytes: &[u8; 16]) -> bool
-    ensures { result ≡ list_all (λ byte. nat_lt byte 128) bytes.now }
+    ensures { IsTrue result ↔ All (λ byte. byte < 128) bytes.now }
 {
     u8x16::from_slice(bytes).simd_lt(u8x16::splat(128)).all()
 }

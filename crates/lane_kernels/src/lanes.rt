@@ -5,6 +5,7 @@ ghost use Rattle.std.specs.Simd.Lanes.{chunk, put_chunk};
 use std::simd::prelude::*;
 
 pub(crate) const ROWS: usize = 32;
+
 pub(crate) const WORD_BITS: usize = 32;
 
 // Four neighbouring numbers of a list.

@@ -1,7 +1,8 @@
 // Blocks of 128 numbers, packed to one width.
 ghost use Rattle.std.specs.Prelude.{◌≡◌, ℕ, ◌+◌, ◌*◌, ◌/◌, ◌^◌, ◌<◌, ◌≤◌, All, length, slice_index};
 ghost use Rattle.std.specs.Simd.Lanes.{digits_l, number_l, put_chunk};
-ghost use Rattle.lane_kernels.specs.Block.{block_byte, block_bytes, pending_lanes};
+ghost use Rattle.lane_kernels.specs.Block.{block_byte, block_bytes};
+ghost use Rattle.lane_kernels.specs.Lanes.{pending_lanes};
 
 use crate::lanes::{ROWS, WORD_BITS, load};
 use std::simd::prelude::*;

@@ -1,6 +1,7 @@
 // Blocks of 128 numbers that were packed to one width.
 ghost use Rattle.std.specs.Prelude.{◌≡◌, ℕ, ◌+◌, ◌*◌, ◌%◌, ◌<◌, ◌≤◌, length, slice_index};
-ghost use Rattle.lane_kernels.specs.Block.{block_value, block_values, lane_numbers, lane_words};
+ghost use Rattle.lane_kernels.specs.Block.{block_value, block_values};
+ghost use Rattle.lane_kernels.specs.Lanes.{lane_numbers, lane_words};
 
 use crate::lanes::{ROWS, WORD_BITS, store};
 use crate::zeros::fill_zero;

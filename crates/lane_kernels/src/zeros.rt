@@ -1,5 +1,5 @@
 // Slots that are zero.
-ghost use Rattle.std.specs.Prelude.{◌≡◌, ◌==◌, ℕ, ◌<◌, ◌≤◌, false, length, position, replicate, slice_index};
+ghost use Rattle.std.specs.Prelude.{◌≡◌, ◌==◌, ℕ, ◌<◌, ◌≤◌, ◌≢◌, ◌↔◌, false, All, IsNone, length, position, replicate, slice_index};
 
 use std::simd::prelude::*;
 
@@ -14,7 +14,8 @@ pub fn fill_zero(slots: &mut [u32])
 
 /// The place of the first slot that is zero, if there is one.
 pub fn first_zero(slots: &[u32]) -> Option<usize>
-    ensures { result ≡ position (λ slot. slot == 0) slots.now }
+    ensures place { result ≡ position (λ slot. slot == 0) slots.now }
+    ensures none { IsNone result ↔ All (λ slot. slot ≢ 0) slots.now }
 {
     let mut at = 0;
     while at + LANES <= slots.len() {

@@ -4,5 +4,6 @@ use Rattle.lane_kernels.proofs.unpack.unpack_rows.Given as goal
 
 abbrev pub invariant-loop-row : goal.invariant-loop-row
 invariant-loop-row l = record {
-    long : length l.out ≡ 128;
-    done : (k : ℕ) → k < 4 * l.row → slice_index l.out k ≡ block_value l.bytes l.width k }
+  long : length l.out ≡ 128;
+  done : (k : ℕ) → k < 4 * l.row → slice_index l.out k ≡ block_value l.bytes l.width k;
+}
