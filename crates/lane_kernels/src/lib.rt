@@ -8,6 +8,8 @@ mod gaps;
 mod lanes;
 pub mod laws;
 mod pack;
+#[cfg(test)]
+mod tests;
 mod unpack;
 mod width;
 mod zeros;
