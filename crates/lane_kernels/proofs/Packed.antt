@@ -1,12 +1,11 @@
 -- A packed block and its values determine each other.
-use Rattle.std.proofs.Common.{◌≡◌, ℕ, zero, suc, ◌+◌, ◌-◌, ◌*◌, ◌/◌, ◌%◌, ◌^◌, ◌<◌, ◌≤◌, List, [], ◌∷◌, length, get_or, All, sym, ap, refl, ◌∙◌, arith, inl, inr}
+use Rattle.std.proofs.Common.{◌≡◌, ℕ, zero, suc, ◌+◌, ◌*◌, ◌/◌, ◌%◌, ◌^◌, ◌<◌, List, [], ◌∷◌, length, get_or, All, sym, ap, ◌∙◌, arith, inl, inr}
 use Rattle.std.specs.Int.{bit_at}
 use Rattle.std.proofs.lemmas.Bool.{cases_lt}
 use Rattle.std.proofs.lemmas.List.{get_or_default, get_or_past}
 use Rattle.std.proofs.lemmas.Nat.{div-add-mod', div-mul-add, mod-mul-add, div_below, mod_below, mul-add-lt}
 use Rattle.std.proofs.lemmas.Nat.Bits.{bit_at-lt}
-use Rattle.lane_kernels.specs.Bitmap.{bit_of}
-use Rattle.lane_kernels.specs.Block.{number_of_bits, list_of, word_at, lane_word, lane_bit, block_value, block_values, packed_bit, block_byte, block_bytes}
+use Rattle.lane_kernels.specs.Block.{list_of, word_at, lane_word, lane_bit, block_value, block_values, packed_bit, block_byte, block_bytes}
 use Rattle.lane_kernels.proofs.Bits.{bit_at_number, number_below, number_is, length-list_of, get_or-list_of, list_of_all}
 use Rattle.lane_kernels.proofs.PackRows.{get_or_of_four}
 use Rattle.lane_kernels.proofs.SetBits.{bit_of_number}
@@ -102,3 +101,9 @@ block_of_values bytes width long below =
     ∙ word_bit bytes (reads_below bytes below) (16 * (x / 32) + 4 * lane) (x % 32) (omega arith)
     ∙ ap (λ n. bit_at (get_or bytes n 0) (x % 32 % 8)) (let e : 16 * (x / 32) + 4 * lane + x % 32 / 8 ≡ k = omega arith in e)
     ∙ ap (bit_at (get_or bytes k 0)) (let e : x % 32 % 8 ≡ v = omega arith in e)))))
+
+-- a bit of a value is a bit of its lane
+pub bit_of_value : (bytes : List ℕ) (width i v : ℕ) → i < 128 → v < width → bit_at (get_or (block_values bytes width) i 0) v ≡ lane_bit bytes (i % 4) (i / 4 * width + v)
+bit_of_value bytes width i v h l =
+    ap (λ n. bit_at n v) (get_or-list_of (block_value bytes width) 128 i h)
+    ∙ bit_at_number (λ u. lane_bit bytes (i % 4) (i / 4 * width + u)) width (λ u _. bit_at-lt (lane_word bytes (i % 4) ((i / 4 * width + u) / 32)) ((i / 4 * width + u) % 32)) v l

@@ -1,12 +1,12 @@
 -- The first place that passes a test.
-use Rattle.std.proofs.Common.{◌≡◌, ◌≢◌, ◌==◌, ◌+◌, ℕ, ◌<◌, ◌≤◌, Bool, true, false, not, cond, suc, ◌*◌, [], ◌∷◌, eqb, List, length, map, get_or, All, Option, Some, None, IsNone, ◌↔◌, eqb-true, eq-eqb, refl, zero, ◌^◌, IsTrue, nat_lt, subst, sym, ap, ◌∙◌, arith, inl, inr}
+use Rattle.std.proofs.Common.{◌≡◌, ◌≢◌, ◌==◌, ◌+◌, ℕ, ◌<◌, ◌≤◌, Bool, true, false, not, cond, suc, ◌*◌, [], ◌∷◌, List, length, map, get_or, All, Option, Some, None, IsNone, ◌↔◌, eqb-true, eq-eqb, refl, zero, ◌^◌, IsTrue, nat_lt, subst, sym, ap, ◌∙◌, arith, inl, inr}
 use Rattle.std.specs.List.{position, prefix_len}
 use Rattle.std.proofs.Math.Nat.{pow-suc}
 use Rattle.std.proofs.lemmas.Bool.{cases_lt, ltb-true, lt-ltb}
 use Rattle.std.proofs.lemmas.Bool.Decides.{nat_tests}
 use Rattle.std.proofs.lemmas.List.Sums.{prefix_len_is, prefix_len_passes}
 use Rattle.std.proofs.lemmas.List.Quantifiers.{position-Some}
-use Rattle.std.proofs.lemmas.Simd.{length-chunk, trailing_mask_l, leading_from_mask_l, run_in_chunk_le, run_in_chunk_fails, run_in_chunk_stops, none_from_empty_mask}
+use Rattle.std.proofs.lemmas.Simd.{length-chunk, trailing_mask_l, run_in_chunk_fails, run_in_chunk_stops, none_from_empty_mask}
 use lib.Count.{count_trailing_zeros}
 use lib.Lanes.{chunk, mask_l}
 

@@ -1,16 +1,19 @@
 -- The set bits of a word, and of the bytes that make one.
-use Rattle.std.proofs.Common.{◌≡◌, ◌==◌, ℕ, zero, suc, ◌+◌, ◌-◌, ◌*◌, ◌/◌, ◌%◌, ◌^◌, ◌<◌, ◌≤◌, Bool, true, false, cond, eqb, List, [], ◌∷◌, ◌++◌, length, map, filter, get_or, take, replicate, bit_and, sym, ap, ◌∙◌, refl, arith, subst, inl, inr, add-one}
+use Rattle.std.proofs.Common.{◌≡◌, ◌==◌, ℕ, zero, suc, ◌+◌, ◌-◌, ◌*◌, ◌/◌, ◌%◌, ◌^◌, ◌<◌, ◌≤◌, Bool, true, false, cond, eqb, List, [], ◌∷◌, ◌++◌, length, map, filter, get_or, replicate, bit_and, sym, ap, ◌∙◌, refl, arith, subst, inl, inr, add-one, Contains, All, ◌⊎◌, ◌↔◌, eqb-true, eq-eqb}
 use Rattle.std.specs.Int.{bit_at}
 use Rattle.std.specs.List.{range_with_len}
+use Rattle.std.specs.List.Sorted.{IsStrictlyIncreasing}
 use Rattle.std.proofs.lemmas.Bool.{cases_lt}
-use Rattle.std.proofs.lemmas.List.{append-nil, get_or_append_left, get_or-append-add, length-append}
+use Rattle.std.proofs.lemmas.List.{append-nil, get_or_append_left, get_or-append-add, length-append, get_or-map, get_or_past, length-map}
+use Rattle.std.proofs.lemmas.List.FromFn.{get_or-range_with_len, length-range_with_len}
+use Rattle.std.proofs.lemmas.List.Kept.{IsStrictlyIncreasing-filter}
 use Rattle.std.proofs.lemmas.Nat.{and_block, and_le_r, mod-pow-add, pow-add, shr-shr}
 use Rattle.std.proofs.lemmas.Nat.Bits.{bit_at_cat_low, bit_at_cat_high, bit_at-zero}
 use Rattle.lane_kernels.specs.Bitmap.{bit_of, numbers_of_bits, set_bits, word_bits}
 use Rattle.std.proofs.Math.Nat.{div-eq_of_lt, div-one, pow-suc}
 use lib.Bits.{and_self}
 use lib.Count.{count_trailing_zeros, under}
-use lib.Lanes.{number_l, digits_l}
+use lib.Lanes.{number_l}
 
 -- the numbers base + i of the set bits i below n of a word, by recursion
 pub bits_from : ℕ → ℕ → ℕ → List ℕ
@@ -256,3 +259,78 @@ set_bits-append base xs ys =
     ap (λ q. bit_at (get_or both q 0) ((0 + n + i) % 8)) (let a : (0 + n + i) / 8 ≡ length xs + (0 + i) / 8 = omega arith in a)
     ∙ ap (λ b. bit_at b ((0 + n + i) % 8)) (get_or-append-add xs ys ((0 + i) / 8) 0)
     ∙ ap (bit_at (get_or ys ((0 + i) / 8) 0)) (let a : (0 + n + i) % 8 ≡ (0 + i) % 8 = omega arith in a)))
+
+-- ---- which numbers they are
+Contains_head : (x y : ℕ) (xs : List ℕ) → y ≡ x → Contains (y ∷ xs) x
+Contains_head x y xs e = (0, omega arith, e)
+
+Contains_tail : (x y : ℕ) (xs : List ℕ) → Contains xs x → Contains (y ∷ xs) x
+Contains_tail x y xs c = (suc c.0, omega (arith, c.1), c.2)
+
+in_range_has : (b : Bool) (first x : ℕ) (rest : List ℕ) → Contains (cond b (first ∷ rest) rest) x → ((b ≡ true) × (first ≡ x)) ⊎ Contains rest x
+in_range_has true first x rest (zero, h, e) = inl (refl, e)
+in_range_has true first x rest (suc k, h, e) = inr (k, omega arith, e)
+in_range_has false first x rest c = inr c
+
+in_range_only : (bit : ℕ → ℕ) (base from n x : ℕ) → Contains (in_range bit base from n) (base + x) → bit x ≡ 1
+in_range_only bit base from zero x c = absurd (omega (arith, c.1))
+in_range_only bit base from (suc n) x c =
+    let rest : List ℕ = in_range bit base (from + 1) n in
+    let here : in_range bit base from (suc n) ≡ cond (eqb (bit from) 1) ((base + from) ∷ rest) rest =
+    in_range_step (eqb (bit from) 1) base from (filter (λ i. bit i == 1) (range_with_len (from + 1) n)) rest refl in
+    elim (in_range_has (eqb (bit from) 1) (base + from) (base + x) rest (subst (λ (xs : List ℕ). Contains xs (base + x)) here c)) [
+      | inl first ↦ ap bit (let e : x ≡ from = omega (arith, first.1) in e) ∙ eqb-true (bit from) 1 first.0
+      | inr later ↦ in_range_only bit base (from + 1) n x later
+    ]
+
+in_range_all : (bit : ℕ → ℕ) (base from n x : ℕ) → from ≤ x → x < from + n → bit x ≡ 1 → Contains (in_range bit base from n) (base + x)
+in_range_all bit base from zero x low high set = absurd (omega arith)
+in_range_all bit base from (suc n) x low high set =
+    let rest : List ℕ = in_range bit base (from + 1) n in
+    let here : in_range bit base from (suc n) ≡ cond (eqb (bit from) 1) ((base + from) ∷ rest) rest =
+    in_range_step (eqb (bit from) 1) base from (filter (λ i. bit i == 1) (range_with_len (from + 1) n)) rest refl in
+    subst (λ (xs : List ℕ). Contains xs (base + x)) (sym here) (elim (cases_lt from x) [
+      | inl l ↦ later (eqb (bit from) 1) (in_range_all bit base (from + 1) n x (omega arith) (omega arith) set)
+      | inr g ↦
+          let is : from ≡ x = omega arith in
+          subst (λ b. Contains (cond b ((base + from) ∷ rest) rest) (base + x)) (sym (eq-eqb (bit from) 1 (ap bit is ∙ set)))
+          (Contains_head (base + x) (base + from) rest (omega arith))
+    ])
+  where
+    later : (b : Bool) → Contains (in_range bit base (from + 1) n) (base + x) → Contains (cond b ((base + from) ∷ in_range bit base (from + 1) n) (in_range bit base (from + 1) n)) (base + x)
+    later true c = Contains_tail (base + x) (base + from) (in_range bit base (from + 1) n) c
+    later false c = c
+
+pub set_bits_members : (base : ℕ) (bytes : List ℕ) (i : ℕ) → Contains (set_bits base bytes) (base + i) ↔ (bit_of bytes i ≡ 1)
+unfolding numbers_of_bits
+set_bits_members base bytes i = (
+  in_range_only (bit_of bytes) base 0 (8 * length bytes) i,
+  λ set. elim (cases_lt i (8 * length bytes)) [
+    | inl l ↦ in_range_all (bit_of bytes) base 0 (8 * length bytes) i (omega arith) (omega arith) set
+    | inr g ↦
+        let past : get_or bytes (i / 8) 0 ≡ 0 = get_or_past bytes (i / 8) 0 (omega arith) in
+        absurd (omega (arith, ap (λ b. bit_at b (i % 8)) past, bit_at-zero (i % 8), set))
+  ],
+)
+
+pub set_bits_from_base : (base : ℕ) (bytes : List ℕ) → All (λ x. base ≤ x) (set_bits base bytes)
+unfolding numbers_of_bits
+set_bits_from_base base bytes k d h =
+    let bits : List ℕ = filter (λ i. bit_of bytes i == 1) (range_with_len 0 (8 * length bytes)) in
+    omega (arith, get_or-map (λ i. base + i) bits k 0 d (omega (arith, length-map bits (λ i. base + i))))
+
+range_rises : (from n : ℕ) → IsStrictlyIncreasing (range_with_len from n)
+range_rises from n k h =
+    omega (arith, length-range_with_len from n, get_or-range_with_len from n k 0 (omega (arith, length-range_with_len from n)), get_or-range_with_len from n (k + 1) 0 (omega (arith, length-range_with_len from n)))
+
+pub set_bits_rise : (base : ℕ) (bytes : List ℕ) → IsStrictlyIncreasing (set_bits base bytes)
+unfolding numbers_of_bits
+set_bits_rise base bytes k h =
+    let bits : List ℕ = filter (λ i. bit_of bytes i == 1) (range_with_len 0 (8 * length bytes)) in
+    let long : k + 1 < length bits = omega (arith, length-map bits (λ i. base + i)) in
+    omega (
+      arith,
+      get_or-map (λ i. base + i) bits k 0 0 (omega arith),
+      get_or-map (λ i. base + i) bits (k + 1) 0 0 long,
+      IsStrictlyIncreasing-filter (λ i. bit_of bytes i == 1) (range_with_len 0 (8 * length bytes)) (range_rises 0 (8 * length bytes)) k long,
+    )

@@ -1,5 +1,5 @@
 -- Sums of lanes.
-use Rattle.std.proofs.Common.{◌≡◌, ℕ, zero, suc, ◌+◌, ◌*◌, ◌^◌, ◌<◌, ◌≤◌, List, [], ◌∷◌, ◌++◌, length, get_or, take, drop, sum, sym, ap, ◌∙◌, refl, arith, Fits, w64, map, subst}
+use Rattle.std.proofs.Common.{◌≡◌, ℕ, ◌+◌, ◌*◌, ◌^◌, ◌<◌, ◌≤◌, List, [], ◌∷◌, ◌++◌, length, get_or, take, sum, sym, ap, ◌∙◌, refl, arith, Fits, w64, map, subst}
 use Rattle.std.proofs.lemmas.List.{get_or_default, map-id, take_all}
 use Rattle.std.proofs.lemmas.List.Sums.{sum_by-cons, sum_by-append, sum_by-take-le, sum_by-le}
 use Rattle.std.proofs.Math.Seq.{take-add}

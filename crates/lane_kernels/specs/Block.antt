@@ -1,7 +1,7 @@
 -- Blocks of 128 numbers of one width, packed into four lanes that lie side by side, word by word.
 -- The layout is that of Lemire and Boytsov, "Decoding billions of integers per second through
 -- vectorization" (2015), with a width for each block.
-use Rattle.std.specs.Prelude.{ℕ, zero, suc, ◌+◌, ◌*◌, ◌/◌, ◌%◌, ◌^◌, List, [], ◌∷◌, map, slice_index}
+use Rattle.std.specs.Prelude.{ℕ, zero, suc, ◌+◌, ◌*◌, ◌/◌, ◌%◌, ◌^◌, List, map, slice_index}
 use Rattle.std.specs.Int.{bit_at}
 use Rattle.std.specs.List.{range_with_len}
 

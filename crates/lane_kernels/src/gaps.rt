@@ -1,11 +1,12 @@
-// The gaps of 128 rising numbers, of which each is at least one above the number before it.
+// The gaps of 128 rising numbers: how far each is above the least number that it may be.
 ghost use Rattle.std.specs.Prelude.{◌≡◌, ℕ, ◌+◌, ◌<◌, ◌^◌, ◌↔◌, IsTrue, length, replicate, slice_index, sum, take};
 ghost use Rattle.lane_kernels.specs.Gaps.{running};
 
 use crate::lanes::{ROWS, load, store};
 use std::simd::prelude::*;
 
-/// Whether the last of the numbers with these gaps is below `d`. The sum does not wrap.
+/// Whether the last of 128 rising numbers is below `d`: the first is `before` plus its gap, and each
+/// later one is one more than the number before it, plus its gap. The sum does not wrap.
 pub fn fits128(before: u32, gaps: &[u32; 128], d: u32) -> bool
     ensures { IsTrue result ↔ (before + sum gaps.now + 127 < d) }
 {
@@ -23,12 +24,13 @@ fn sum128(gaps: &[u32; 128]) -> u64
     sums.strict_reduce_sum()
 }
 
-/// Replaces 128 gaps by the numbers that have them, in place. The first number is `before` plus
-/// its gap, and each later one is one more than the number before it, plus its gap.
+/// Replaces the gaps of 128 rising numbers by the numbers, in place: the first is `before` plus its
+/// gap, and each later one is one more than the number before it, plus its gap.
 pub fn running128(before: u32, gaps: &mut [u32; 128])
     requires { before + sum gaps.old + 127 < 2 ^ 26 }
     ensures numbers { gaps.new ≡ running before gaps.old }
-    ensures each { (i : ℕ) → i < 128 → slice_index gaps.new i ≡ before + sum (take (i + 1) gaps.old) + i }
+    ensures each { (i : ℕ) → i < 128
+        → slice_index gaps.new i ≡ before + sum (take (i + 1) gaps.old) + i }
 {
     let mut least = u32x4::splat(before);
     for row in 0..ROWS {

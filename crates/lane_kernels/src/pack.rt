@@ -42,9 +42,11 @@ fn pack_row(values: &[u32; 128], width: usize, row: usize, pending: u32x4, out: 
     requires bytes { length out.old ≡ 16 * width }
     requires fits { All (λ value. value < 2 ^ width) values.now }
     requires pending { pending ≡ pending_lanes values.now width (row * width) }
-    requires done { (k : ℕ) → k < 16 * (row * width / 32) → slice_index out.old k ≡ block_byte values.now width k }
+    requires done { (k : ℕ) → k < 16 * (row * width / 32)
+        → slice_index out.old k ≡ block_byte values.now width k }
     ensures pending { result ≡ pending_lanes values.now width (row * width + width) }
-    ensures done { (k : ℕ) → k < 16 * ((row * width + width) / 32) → slice_index out.new k ≡ block_byte values.now width k }
+    ensures done { (k : ℕ) → k < 16 * ((row * width + width) / 32)
+        → slice_index out.new k ≡ block_byte values.now width k }
 {
     let word = row * width / WORD_BITS;
     let shift = row * width % WORD_BITS;
@@ -61,7 +63,8 @@ fn pack_row(values: &[u32; 128], width: usize, row: usize, pending: u32x4, out: 
 #[inline(always)]
 fn store_words(lanes: u32x4, out: &mut [u8], word: usize)
     requires { 16 * word + 16 ≤ length out.old }
-    ensures { out.new ≡ put_chunk (16 * word) out.old (digits_l 256 16 (number_l (2 ^ 32) lanes)) }
+    ensures { out.new
+        ≡ put_chunk (16 * word) out.old (digits_l 256 16 (number_l (2 ^ 32) lanes)) }
 {
     lanes.to_le_bytes().copy_to_slice(&mut out[16 * word..]);
 }

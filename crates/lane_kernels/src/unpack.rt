@@ -7,7 +7,7 @@ use crate::lanes::{ROWS, WORD_BITS, store};
 use crate::zeros::fill_zero;
 use std::simd::prelude::*;
 
-const PART: usize = 8;
+const ROWS_AT_ONCE: usize = 8;
 
 /// Writes the 128 numbers of a packed block to `out`. The block has `16 * width` bytes, and
 /// `width` is at most 32.
@@ -61,8 +61,8 @@ fn unpack_at(bytes: &[u8], width: usize, out: &mut [u32; 128])
     requires bytes { length bytes.now ≡ 16 * width }
     ensures { out.new ≡ block_values bytes.now width }
 {
-    for part in 0..ROWS / PART {
-        unpack_rows(bytes, width, PART * part, out);
+    for part in 0..ROWS / ROWS_AT_ONCE {
+        unpack_rows(bytes, width, ROWS_AT_ONCE * part, out);
     }
 }
 
@@ -73,10 +73,12 @@ fn unpack_rows(bytes: &[u8], width: usize, first: usize, out: &mut [u32; 128])
     requires width { width ≤ 32 }
     requires bytes { length bytes.now ≡ 16 * width }
     requires rows { first + 8 ≤ 32 }
-    requires done { (k : ℕ) → k < 4 * first → slice_index out.old k ≡ block_value bytes.now width k }
-    ensures { (k : ℕ) → k < 4 * (first + 8) → slice_index out.new k ≡ block_value bytes.now width k }
+    requires done { (k : ℕ) → k < 4 * first
+        → slice_index out.old k ≡ block_value bytes.now width k }
+    ensures { (k : ℕ) → k < 4 * (first + 8)
+        → slice_index out.new k ≡ block_value bytes.now width k }
 {
-    for row in first..first + PART {
+    for row in first..first + ROWS_AT_ONCE {
         store(row_at(bytes, width, row * width), out, 4 * row);
     }
 }

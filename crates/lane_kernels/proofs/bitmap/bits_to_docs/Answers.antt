@@ -1,4 +1,4 @@
-use Rattle.std.proofs.Common.{ℕ, List, ◌≡◌, ◌++◌, ◌∙◌, ◌+◌, ◌/◌, ◌%◌, ◌^◌, length, sym, ap, arith, length-append}
+use Rattle.std.proofs.Common.{ℕ, List, ◌≡◌, ◌++◌, ◌∙◌, ◌+◌, ◌/◌, ◌%◌, ◌^◌, length, ap, arith, length-append}
 use Rattle.lane_kernels.specs.Bitmap.{set_bits, word_bits}
 use Rattle.lane_kernels.proofs.SetBits.{set_bits_of_words}
 use Rattle.lane_kernels.proofs.bitmap.bits_to_docs.Goals as goal

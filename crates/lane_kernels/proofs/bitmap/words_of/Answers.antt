@@ -1,4 +1,4 @@
-use Rattle.std.proofs.Common.{List, ℕ, ◌≡◌, ◌++◌, ◌/◌, ◌%◌, ◌^◌, ◌-◌, length, drop, replicate, ap, ◌∙◌, arith}
+use Rattle.std.proofs.Common.{List, ℕ, ◌≡◌, ◌++◌, ◌/◌, ◌%◌, ◌^◌, ◌-◌, length, drop, replicate, ap, ◌∙◌}
 use Rattle.std.proofs.lemmas.List.{drop-replicate}
 use Rattle.lane_kernels.proofs.SetBits.{number_padded}
 use Rattle.lane_kernels.proofs.bitmap.words_of.Goals as goal

@@ -1,8 +1,8 @@
-use Rattle.std.proofs.Common.{◌≡◌, ◌+◌, ◌*◌, ◌∙◌, ◌≤◌, sum, take, drop, replicate, sym, ap, arith, subst, ℕ, List, get_or, length}
+use Rattle.std.proofs.Common.{◌≡◌, ◌+◌, ◌*◌, ◌∙◌, ◌≤◌, sum, take, drop, replicate, sym, ap, arith, ℕ, List, get_or, length}
 use Rattle.std.proofs.lemmas.Simd.{length-put_chunk}
 use Rattle.lane_kernels.specs.Gaps.{running}
 use Rattle.lane_kernels.proofs.Sums.{sum_to_chunk_le}
-use Rattle.lane_kernels.proofs.Running.{lanes_room, same_lanes_left, least_more, done_more, rest_more, all_done, get_or-running}
+use Rattle.lane_kernels.proofs.Running.{same_lanes_left, least_more, done_more, rest_more, all_done, get_or-running}
 use Rattle.lane_kernels.proofs.gaps.running128.Goals as goal
 
 pub running4-numbers-requires-clause-room : goal.running4-numbers-requires-clause-room

@@ -1,4 +1,4 @@
-use Rattle.std.proofs.Common.{List, ℕ, ◌≡◌, ◌∙◌, length, get_or, replicate, sym, subst, ap, arith}
+use Rattle.std.proofs.Common.{List, ℕ, ◌≡◌, ◌∙◌, length, replicate, sym, ap}
 use Rattle.std.proofs.lemmas.List.{get_or-replicate, length-replicate}
 use Rattle.lane_kernels.specs.Block.{block_value, block_values}
 use Rattle.lane_kernels.proofs.Bits.{list_of_all}

@@ -1,4 +1,4 @@
-use Rattle.std.proofs.Common.{ℕ, arith}
+use Rattle.std.proofs.Common.{arith}
 use Rattle.lane_kernels.specs.Block.{block_value}
 use Rattle.lane_kernels.proofs.Bits.{list_of_all}
 use Rattle.lane_kernels.proofs.unpack.unpack_at.Goals as goal

@@ -1,4 +1,4 @@
-use Rattle.std.proofs.Common.{List, ℕ, ◌*◌, ◌∙◌, length, get_or, ap, arith}
+use Rattle.std.proofs.Common.{List, ℕ, ◌∙◌, length, get_or, ap, arith}
 use Rattle.std.proofs.lemmas.Simd.{length-put_chunk}
 use Rattle.lane_kernels.proofs.UnpackRows.{rows_more}
 use Rattle.lane_kernels.proofs.unpack.unpack_rows.Goals as goal

@@ -1,5 +1,4 @@
-use Rattle.std.proofs.Common.{ℕ, ◌==◌, sym, eq-eqb, arith}
-use Rattle.std.proofs.lemmas.Grind.{common_steps}
+use Rattle.std.proofs.Common.{◌==◌, sym, eq-eqb, arith}
 use Rattle.lane_kernels.proofs.Places.{position_at, position_past}
 use Rattle.lane_kernels.proofs.zeros.first_zero_from.Goals as goal
 
