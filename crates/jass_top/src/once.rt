@@ -1,4 +1,4 @@
-ghost use Rattle.std.specs.Prelude.{ℕ, ◌≡◌, ◌≤◌, ◌<◌, ◌⊎◌, length, IfOk, OnErr, Err, IsErrOf, All};
+ghost use Rattle.std.specs.Prelude.{ℕ, ◌≡◌, ◌≤◌, ◌<◌, ◌⊎◌, length, IfOk, OnErr, IfErr, Err, IsErrOf, ◌≢◌, All};
 ghost use Rattle.jass_base.specs.Outside.{Rose, IsMissing};
 ghost use Rattle.jass_base.specs.declared.answer.Hit.{Hit};
 
@@ -10,6 +10,7 @@ use ciff_read::{CiffFault, read_collection};
 use impact_segments::{build, entries_of};
 use jass_base::{Cabinet, Collection, Grade, Hit, ImpactIndex, NoMemory, Report, Row, Sink};
 use query_reader::name_terms;
+use ranking_model::laws::the_prefix_is_the_longest;
 use ranking_model::{granted_sum, plan_of, prefix_within, report_of, top_k};
 use std::alloc::Global;
 use trec_run::{put_answer, put_report};
@@ -41,6 +42,8 @@ pub fn run_once<C: Cabinet, O: Sink>(
 ) -> Result<(), Stop>
     ensures read { IsErrOf result Stop.ReadFault → Rose (C.read_faults files.old) (C.read_faults files.new) ⊎ IsMissing (C.told files.old) once.entry.ciff.now }
     ensures write { IsErrOf result Stop.WriteFault → Rose (O.faults out.old) (O.faults out.new) }
+    ensures files { C.told files.new ≡ C.told files.old }
+    ensures unwritten { IfErr result (λ stop. stop ≢ Stop.WriteFault → O.written out.new ≡ O.written out.old) }
 {
     let collection = read_file(alloc, files, once.ciff)?;
     let index = match build(alloc, &collection, Rule::Tf, Bits::Raw) {
@@ -57,6 +60,7 @@ pub fn run_once<C: Cabinet, O: Sink>(
 /// Reads a CIFF file whole.
 fn read_file<C: Cabinet>(alloc: Global, files: &mut C, name: &str) -> Result<Collection, Stop>
     ensures no_write { ¬ IsErrOf result Stop.WriteFault }
+    ensures stays { C.told files.new ≡ C.told files.old }
     ensures fault { IsErrOf result Stop.ReadFault → Rose (C.read_faults files.old) (C.read_faults files.new) ⊎ IsMissing (C.told files.old) name.now }
 {
     let bytes = match read_whole(alloc, files, name) {
@@ -95,6 +99,7 @@ fn answer_words(alloc: Global, index: &ImpactIndex, once: Once<'_>) -> Result<An
         Ok(plan) => plan,
         Err(_) => return Err(NoMemory),
     };
+    the_prefix_is_the_longest();
     let count = prefix_within(granted_sum(&[once.budget]), plan.classes.as_slice());
     let hits = match top_k(alloc, count, &plan, once.k as usize) {
         Ok(hits) => hits,

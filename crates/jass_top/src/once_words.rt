@@ -1,3 +1,4 @@
+ghost use Rattle.jass_top.specs.Words.{word_at};
 ghost use Rattle.std.specs.Prelude.{ℕ, ◌≡◌, ◌≤◌, ◌<◌, length, IfOk, IfErr, IfSome, None};
 
 use jass_base::{Budget, read_decimal};
@@ -34,7 +35,9 @@ pub struct WordFault {
 }
 
 /// Reads the words of `once`, the one command that there is.
-pub fn read_once<'a>(words: &'a [String]) -> Result<Once<'a>, WordFault> {
+pub fn read_once<'a>(words: &'a [String]) -> Result<Once<'a>, WordFault>
+    ensures { IfOk result (λ once. once.ciff.now ≡ word_at 1 words.now) }
+{
     if words.is_empty() || words[0].as_str() != "once" {
         return Err(WordFault { which: 1 });
     }

@@ -1,4 +1,7 @@
-ghost use Rattle.std.specs.Prelude.{ℕ, ◌≡◌, ◌⊎◌};
+ghost use Rattle.std.specs.Prelude.{◌≡◌, ◌≢◌, ◌⊎◌};
+ghost use Rattle.jass_top.specs.Notes.{note_text};
+ghost use Rattle.jass_top.specs.Stops.{status_of, stop_text};
+ghost use Rattle.jass_top.specs.Words.{word_at};
 ghost use Rattle.jass_base.specs.Outside.{Rose, IsMissing};
 
 use crate::note::{Note, put_note};
@@ -24,7 +27,10 @@ pub fn run<C: Cabinet, I: Feed, O: Sink, E: Sink, L: Ledger>(
     notes: &mut E,
     _steps: &mut Steps<L>,
 ) -> Status
+    ensures read_fault { result ≡ Status.ReadFault → Rose (C.read_faults files.old) (C.read_faults files.new) ⊎ IsMissing (C.told files.old) (word_at 1 words.now) }
     ensures write_fault { result ≡ Status.WriteFault → Rose (O.faults out.old) (O.faults out.new) }
+    ensures files { C.told files.new ≡ C.told files.old }
+    ensures unwritten { result ≢ Status.Done → result ≢ Status.WriteFault → O.written out.new ≡ O.written out.old }
 {
     let once = match read_once(words) {
         Ok(once) => once,
@@ -44,7 +50,9 @@ pub fn run<C: Cabinet, I: Feed, O: Sink, E: Sink, L: Ledger>(
 }
 
 /// The note of a command that stopped, over the file that it names.
-fn note_of(stop: Stop, name: &str) -> Note<'_> {
+fn note_of(stop: Stop, name: &str) -> Note<'_>
+    ensures { note_text result ≡ stop_text name.now stop }
+{
     match stop {
         Stop::NoMemory => Note::NoMemory,
         Stop::Refused { number, at } => Note::Refusal { name, number, at },
@@ -54,7 +62,9 @@ fn note_of(stop: Stop, name: &str) -> Note<'_> {
 }
 
 /// The status of a command that stopped.
-fn status_of(stop: Stop) -> Status {
+fn status_of(stop: Stop) -> Status
+    ensures { result ≡ status_of stop }
+{
     match stop {
         Stop::NoMemory => Status::NoMemory,
         Stop::Refused { .. } => Status::Refused,
