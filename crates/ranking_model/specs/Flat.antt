@@ -7,7 +7,7 @@ use Rattle.ranking_model.specs.declared.entry.Entry.{Entry}
 
 -- the order of an index: rising terms, falling impacts, rising documents
 abbrev pub entry_cmp : {T : Type 0} → (T → T → Ordering) → Entry T → Entry T → Ordering
-entry_cmp cmp a b = ordering_then (cmp a.term b.term) (ordering_then (nat_cmp b.impact a.impact) (nat_cmp a.doc b.doc))
+entry_cmp cmp a b = ordering_then (ordering_then (cmp a.term b.term) (nat_cmp b.impact a.impact)) (nat_cmp a.doc b.doc)
 
 -- an index of so many documents: in order, a document at most once in a term, each impact at least 1
 pub record IsFlat {T : Type 0} (cmp : T → T → Ordering) (docs : ℕ) (flat : List (Entry T)) : Type 0 where

@@ -3,6 +3,7 @@ pub mod Flat
 pub mod Postings
 pub mod Plan
 pub mod Scores
+pub mod Limits
 pub mod Finality
 pub mod Heaviest
 pub mod Report

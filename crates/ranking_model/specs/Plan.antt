@@ -1,6 +1,6 @@
 -- The plan of a query and its prefixes. Segments by falling weight, taken whole, are Lin and Trotman's ("Anytime Ranking
 -- for Impact-Ordered Indexes", ICTIR 2015); which of equal weights comes first is this project's.
-use Rattle.std.specs.Prelude.{ℕ, zero, suc, ◌+◌, ◌-◌, ◌^◌, min, Bool, ◌&&◌, ◌==◌, nat_le, List, [], ◌∷◌, ◌++◌, length, take, drop, sum_by, fold, slice_get, Option, if◌then◌else◌}
+use Rattle.std.specs.Prelude.{ℕ, zero, suc, ◌+◌, ◌-◌, ◌^◌, min, Bool, false, ◌&&◌, ◌==◌, nat_le, List, [], ◌∷◌, ◌++◌, length, take, drop, sum_by, fold, slice_get, Option, if◌then◌else◌}
 use Rattle.std.specs.Option.{option_map_or}
 use Rattle.std.specs.declared.cmp.Ordering.{Ordering}
 use Rattle.std.specs.Ordering.{nat_cmp, ordering_then}
@@ -18,14 +18,28 @@ use Rattle.ranking_model.specs.Postings.{weighted_postings}
 abbrev pub is_of : Class → WeightedPosting → Bool
 is_of class p = class.place == p.place && class.weight == p.weight
 
+-- the class that a posting begins
+abbrev pub begun : WeightedPosting → Class
+begun p = record { place = p.place; weight = p.weight; docs = p.doc ∷ [] }
+
 -- the posting joins its class, or begins one behind the others
 abbrev pub joined : List Class → WeightedPosting → List Class
-joined [] p = record { place = p.place; weight = p.weight; docs = p.doc ∷ [] } ∷ []
+joined [] p = begun p ∷ []
 joined (class ∷ classes) p = if is_of class p then record class { docs = class.docs ++ p.doc ∷ [] } ∷ classes else class ∷ joined classes p
+
+-- the last of the classes with one document more
+abbrev pub last_with : List Class → ℕ → List Class
+last_with [] doc = []
+last_with (class ∷ []) doc = record class { docs = class.docs ++ doc ∷ [] } ∷ []
+last_with (class ∷ next ∷ classes) doc = class ∷ last_with (next ∷ classes) doc
+
+-- whether the last class is the posting's
+abbrev pub ends_in : List Class → WeightedPosting → Bool
+ends_in classes p = option_map_or (λ class. is_of class p) (slice_get classes (length classes - 1)) false
 
 -- the plan's order: falling weight, then rising number of postings, then rising place
 abbrev pub plan_cmp : Class → Class → Ordering
-plan_cmp a b = ordering_then (nat_cmp b.weight a.weight) (ordering_then (nat_cmp (length a.docs) (length b.docs)) (nat_cmp a.place b.place))
+plan_cmp a b = ordering_then (ordering_then (nat_cmp b.weight a.weight) (nat_cmp (length a.docs) (length b.docs))) (nat_cmp a.place b.place)
 
 -- the classes of a query's postings, in the plan's order
 abbrev pub classes_of : List WeightedPosting → List Class

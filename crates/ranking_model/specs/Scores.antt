@@ -1,6 +1,6 @@
 -- Scores, the bound and the ranking. Scores as sums of impacts are Lin and Trotman's (ICTIR 2015); ties by document number
 -- and the bound are this project's.
-use Rattle.std.specs.Prelude.{ℕ, zero, suc, ◌+◌, ◌*◌, max, ◌==◌, List, [], ◌∷◌, map, filter, take, drop, sum_by, count_by, fold, if◌then◌else◌}
+use Rattle.std.specs.Prelude.{ℕ, zero, suc, ◌+◌, ◌*◌, max, ◌==◌, List, [], ◌∷◌, map, filter, take, drop, sum_by, count_by, if◌then◌else◌}
 use Rattle.std.specs.List.{range_with_len}
 use Rattle.std.specs.declared.cmp.Ordering.{Ordering}
 use Rattle.std.specs.Ordering.{nat_cmp, ordering_then}
@@ -17,9 +17,14 @@ gain_of doc class = class.weight * count_by (λ d. d == doc) class.docs
 abbrev pub scores_after : ℕ → QueryPlan → List ℕ
 scores_after n plan = map (λ doc. sum_by (gain_of doc) (take n plan.classes)) (range_with_len 0 plan.docs)
 
+-- the greatest of some numbers, 0 where there is none
+abbrev pub greatest : List ℕ → ℕ
+greatest [] = 0
+greatest (x ∷ xs) = max x (greatest xs)
+
 -- the greatest weight of a place among some classes, 0 where it has none
 abbrev pub greatest_weight : ℕ → List Class → ℕ
-greatest_weight place classes = fold (λ best class. if class.place == place then max best class.weight else best) 0 classes
+greatest_weight place classes = greatest (map (λ class. class.weight) (filter (λ class. class.place == place) classes))
 
 -- the bound: over the query's terms, the sum of the greatest weight among the term's classes after the first n
 abbrev pub bound_after : ℕ → QueryPlan → ℕ

@@ -1,5 +1,19 @@
-use crate::class::Class;
-use jass_base::Row;
+ghost use Rattle.std.specs.Prelude.{◌≡◌, ◌≤◌, ◌^◌, length, IfOk};
+ghost use Rattle.std.specs.Ordering.{nat_cmp};
+ghost use Rattle.ranking_model.specs.Flat.{IsFlat};
+ghost use Rattle.ranking_model.specs.Postings.{AreTerms};
+ghost use Rattle.ranking_model.specs.Plan.{plan_of};
+ghost use Rattle.ranking_model.specs.Limits.{IsSmall};
+ghost use Rattle.ranking_model.specs.Scores.{top_k};
+
+use crate::class::{Class, classes_of};
+use crate::entry::Entry;
+use crate::named::Named;
+use crate::posting::weighted_postings;
+use crate::rank::first_ranked;
+use crate::scores::scores_after;
+use jass_base::{Hit, NoMemory, Row};
+use std::alloc::Global;
 
 /// A query on an index: the number of documents, the number of the query's known terms, and the
 /// classes of its postings in the order in which they are scored.
@@ -8,4 +22,42 @@ pub struct QueryPlan {
     pub docs: u32,
     pub places: u32,
     pub classes: Row<Class>,
+}
+
+/// The plan of a query with these terms on an index of `docs` documents with these entries, at
+/// most 2^29.
+pub fn plan_of(
+    alloc: Global,
+    docs: u32,
+    entries: &[Entry<u32>],
+    terms: &[Named],
+) -> Result<QueryPlan, NoMemory>
+    requires flat { IsFlat nat_cmp docs entries.now }
+    requires terms { AreTerms terms.now }
+    requires postings { length entries.now ≤ 2 ^ 29 }
+    ensures plan { IfOk result (λ plan. plan ≡ plan_of docs entries.now terms.now) }
+    ensures small { IfOk result (λ plan. IsSmall plan) }
+{
+    let postings = weighted_postings(alloc, entries, terms)?;
+    let classes = classes_of(alloc, postings.as_slice())?;
+    Ok(QueryPlan {
+        docs,
+        places: terms.len() as u32,
+        classes,
+    })
+}
+
+/// The answer of at most `k` hits after the first `count` classes.
+pub fn top_k(
+    alloc: Global,
+    count: usize,
+    plan: &QueryPlan,
+    k: usize,
+) -> Result<Row<Hit>, NoMemory>
+    requires within { count ≤ length plan.now.classes }
+    requires small { IsSmall plan.now }
+    ensures { IfOk result (λ hits. hits ≡ top_k count plan.now k) }
+{
+    let scores = scores_after(alloc, count, plan)?;
+    first_ranked(alloc, scores.as_slice(), k)
 }

@@ -1,3 +1,11 @@
+ghost use Rattle.std.specs.Prelude.{◌≡◌, ◌≤◌, ◌++◌, length, IfOk, OnOk};
+ghost use Rattle.ranking_model.specs.Postings.{weighted_at, weighted_postings};
+
+use crate::entry::Entry;
+use crate::named::Named;
+use jass_base::{NoMemory, Row};
+use std::alloc::Global;
+
 /// One posting of an index as a query weighs it.
 #[derive(Clone, Copy, Debug, PartialEq, Eq)]
 pub struct WeightedPosting {
@@ -6,4 +14,42 @@ pub struct WeightedPosting {
     pub doc: u32,
     /// Impact times how often the query names the term.
     pub weight: u32,
+}
+
+/// The weighted postings of a query with these terms, at most 256, on an index with these
+/// entries: term by term in the query's order, each term's in the order of the entries.
+pub fn weighted_postings(
+    alloc: Global,
+    entries: &[Entry<u32>],
+    terms: &[Named],
+) -> Result<Row<WeightedPosting>, NoMemory>
+    requires { length terms.now ≤ 256 }
+    ensures { IfOk result (λ postings. postings ≡ weighted_postings entries.now terms.now) }
+{
+    let mut postings = Row::new(alloc);
+    for (place, named) in terms.iter().enumerate() {
+        weigh(entries, place as u32, *named, &mut postings)?;
+    }
+    Ok(postings)
+}
+
+fn weigh(
+    entries: &[Entry<u32>],
+    place: u32,
+    named: Named,
+    postings: &mut Row<WeightedPosting>,
+) -> Result<(), NoMemory>
+    ensures { OnOk result (postings.new ≡ postings.old ++ weighted_at place named entries.now) }
+{
+    for entry in entries {
+        if entry.term == named.term {
+            let posting = WeightedPosting {
+                place,
+                doc: entry.doc,
+                weight: u32::from(entry.impact) * u32::from(named.times),
+            };
+            postings.push(posting).map_err(|refused| refused.1)?;
+        }
+    }
+    Ok(())
 }

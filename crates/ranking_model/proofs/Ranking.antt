@@ -1,0 +1,26 @@
+-- The order of answers is total, and tells hits apart.
+use Rattle.std.proofs.Common.{◌≡◌, ℕ, refl, sym, ap, ◌∙◌}
+use Rattle.std.specs.declared.cmp.Ordering.{Ordering}
+use Rattle.std.specs.declared.cmp.Ordering.TheVariants.{Less, Equal, Greater}
+use Rattle.std.specs.Ordering.{nat_cmp, ordering_then, flip_args, on, then_cmp}
+use Rattle.std.specs.Cmp.{IsTotalOrder}
+use Rattle.std.proofs.lemmas.Cmp.{then_total, on_total, back_total, nat_cmp_total}
+use Rattle.std.specs.FinMap.{nat_cmp-IsAntisymmetric}
+use Rattle.jass_base.specs.declared.answer.Hit.{Hit}
+use Rattle.ranking_model.specs.Scores.{rank_cmp}
+
+pub rank_total : IsTotalOrder rank_cmp
+rank_total = then_total (on_total (λ (h : Hit). h.score) (back_total nat_cmp_total)) (on_total (λ (h : Hit). h.doc) nat_cmp_total)
+
+-- an answer in two parts is Equal only where both parts are
+pub both_equal : (r s : Ordering) → ordering_then r s ≡ Equal → (r ≡ Equal) × (s ≡ Equal)
+both_equal Less s e = absurd (cc)
+both_equal Equal s e = (refl, e)
+both_equal Greater s e = absurd (cc)
+
+pub rank_same : (x y : Hit) → rank_cmp x y ≡ Equal → x ≡ y
+rank_same x y e =
+    let both = both_equal (nat_cmp y.score x.score) (nat_cmp x.doc y.doc) e in
+    let score : x.score ≡ y.score = sym (nat_cmp-IsAntisymmetric y.score x.score both.0) in
+    let doc : x.doc ≡ y.doc = nat_cmp-IsAntisymmetric x.doc y.doc both.1 in
+    λ i. record { doc = doc i; score = score i }

@@ -1,0 +1,93 @@
+-- The numbers of a query's plan on an index fit the types of a report.
+use Rattle.std.proofs.Common.{◌≡◌, ◌≢◌, ℕ, zero, suc, ◌+◌, ◌*◌, ◌^◌, ◌<◌, ◌≤◌, max, List, [], ◌∷◌, ◌++◌, map, filter, length, get_or, take, drop, Bool, true, false, cond, ◌&&◌, refl, sym, ap, ◌∙◌, subst, arith, inl, inr, ◌⊎◌, ◌==◌, sum_by, count_by, eqb-true, eq-eqb, length-append}
+use Rattle.std.specs.Prelude.{⊤, All}
+use Rattle.std.specs.List.{AllByRecursion, range_with_len}
+use Rattle.std.specs.Ordering.{nat_cmp}
+use Rattle.std.proofs.lemmas.Bool.Decides.{nat_tests}
+use Rattle.std.proofs.Math.Seq.{take-length}
+use Rattle.std.proofs.lemmas.List.Elements.{recursion_from_All}
+use Rattle.std.proofs.lemmas.List.Sums.{sum_by-cons, sum_by_push, sum_by-take-le, sum_by-le}
+use Rattle.std.proofs.lemmas.List.FromFn.{length-range_with_len}
+use Rattle.ranking_model.specs.declared.entry.Entry.{Entry}
+use Rattle.ranking_model.specs.declared.named.Named.{Named}
+use Rattle.ranking_model.specs.declared.posting.WeightedPosting.{WeightedPosting}
+use Rattle.ranking_model.specs.declared.class.Class.{Class}
+use Rattle.ranking_model.specs.declared.plan.QueryPlan.{QueryPlan}
+use Rattle.ranking_model.specs.Flat.{IsFlat}
+use Rattle.ranking_model.specs.Postings.{AreTerms, weighted_postings}
+use Rattle.ranking_model.specs.Plan.{is_of, begun, classes_of, plan_of, size_of_first}
+use Rattle.ranking_model.specs.Scores.{gain_of, greatest, greatest_weight, bound_after}
+use Rattle.ranking_model.specs.Limits.{IsSmall}
+use Rattle.ranking_model.proofs.Grouping.{more, classes_sum, classes_all, classes_length, length_sum}
+use Rattle.ranking_model.proofs.Weighing.{adds, pairs_by_recursion, weighted_length, weighted_documents, weighted_weights, all_add}
+use Rattle.ranking_model.proofs.Sorting.{either}
+
+-- ---- what a posting adds to its class
+
+size_first : (p : WeightedPosting) → length (begun p).docs ≡ 1
+size_first p = refl
+
+size_next : (c : Class) (p : WeightedPosting) → is_of c p ≡ true → length (more c p.doc).docs ≡ length c.docs + 1
+size_next c p e = length-append c.docs (p.doc ∷ [])
+
+pub sizes : (ps : List WeightedPosting) → sum_by (λ (c : Class). length c.docs) (classes_of ps) ≡ length ps
+sizes ps = classes_sum (λ c. length c.docs) (λ p. 1) size_first size_next ps ∙ length_sum ps
+
+gain_first : (doc : ℕ) (p : WeightedPosting) → gain_of doc (begun p) ≡ adds doc p
+gain_first doc p = by (either (p.doc == doc)) where
+  by : ((p.doc == doc) ≡ true) ⊎ ((p.doc == doc) ≡ false) → gain_of doc (begun p) ≡ adds doc p
+  by (inl t) = rw t (omega arith)
+  by (inr f) = rw f (omega arith)
+
+same_weight : (c : Class) (p : WeightedPosting) → is_of c p ≡ true → c.weight ≡ p.weight
+same_weight c p e = grind (arith, nat_tests)
+
+gain_next : (doc : ℕ) (c : Class) (p : WeightedPosting) → is_of c p ≡ true → gain_of doc (more c p.doc) ≡ gain_of doc c + adds doc p
+gain_next doc c p e = by (either (p.doc == doc)) where
+  count : count_by (λ d. d == doc) (c.docs ++ p.doc ∷ []) ≡ count_by (λ d. d == doc) c.docs + cond (p.doc == doc) 1 0
+  count = sum_by_push (λ d. cond (d == doc) 1 0) c.docs p.doc
+  by : ((p.doc == doc) ≡ true) ⊎ ((p.doc == doc) ≡ false) → gain_of doc (more c p.doc) ≡ gain_of doc c + adds doc p
+  by (inl t) = let same = same_weight c p e in rw (count, t) (omega arith)
+  by (inr f) = rw (count, f) (omega arith)
+
+pub gains : (doc : ℕ) (ps : List WeightedPosting) → sum_by (gain_of doc) (classes_of ps) ≡ sum_by (adds doc) ps
+gains doc ps = classes_sum (gain_of doc) (adds doc) (gain_first doc) (gain_next doc) ps
+
+-- ---- the bound
+
+all_drop : {A : Type 0} (P : A → Type 0) (n : ℕ) (xs : List A) → AllByRecursion P xs → AllByRecursion P (drop n xs)
+all_drop P zero xs h = h
+all_drop P (suc n) [] h = tt
+all_drop P (suc n) (x ∷ xs) h = all_drop P n xs h.1
+
+greatest_weight_le : (place m : ℕ) (cs : List Class) → AllByRecursion (λ c. c.weight ≤ m) cs → greatest_weight place cs ≤ m
+greatest_weight_le place m [] h = omega arith
+greatest_weight_le place m (c ∷ cs) h = by (either (c.place == place)) (greatest_weight_le place m cs h.1) where
+  by : ((c.place == place) ≡ true) ⊎ ((c.place == place) ≡ false) → greatest_weight place cs ≤ m → greatest_weight place (c ∷ cs) ≤ m
+  by (inl t) rest = let here = h.0 in rw t (omega arith)
+  by (inr f) rest = rw f rest
+
+bound_le : (n m : ℕ) (plan : QueryPlan) → AllByRecursion (λ c. c.weight ≤ m) plan.classes → bound_after n plan ≤ plan.places * m
+bound_le n m plan h =
+    let each : All (λ place. greatest_weight place (drop n plan.classes) ≤ m) (range_with_len 0 plan.places) = λ k d j. greatest_weight_le _ m _ (all_drop _ n plan.classes h) in
+    let total = sum_by-le (λ place. greatest_weight place (drop n plan.classes)) m (range_with_len 0 plan.places) each in
+    rw length-range_with_len at total
+
+pub plan_is_small : (docs : ℕ) (flat : List (Entry ℕ)) (terms : List Named) → IsFlat nat_cmp docs flat → AreTerms terms → length flat ≤ 2 ^ 29 → IsSmall (plan_of docs flat terms)
+plan_is_small docs flat terms f t few = record {
+    documents = classes_all (λ c. AllByRecursion (λ doc. doc < docs) c.docs) (λ p. p.doc < docs) (λ p h. (h, tt)) (λ c p e h k. one_more c.docs p.doc h k) ps (weighted_documents docs 0 terms flat f t);
+    postings = let all = take-length (classes_of ps) in let total = sizes ps in rw (all, total) (omega (arith, long));
+    segments = let count = classes_length ps in omega (arith, long);
+    bounds = λ n. let most = bound_le n 16711425 (plan_of docs flat terms) weights in let places = t.few in omega arith;
+    scores = λ n doc. let part = sum_by-take-le (gain_of doc) (classes_of ps) n in let all = gains doc ps in let most = all_add doc docs 0 terms flat f (recursion_from_All _ terms t.times) in let places = t.few in omega arith;
+  }
+  where
+    ps : List WeightedPosting
+    ps = weighted_postings flat terms
+    long : length ps ≤ length flat
+    long = weighted_length 0 terms flat (pairs_by_recursion _ terms t.differ)
+    weights : AllByRecursion (λ c. c.weight ≤ 16711425) (classes_of ps)
+    weights = classes_all (λ c. c.weight ≤ 16711425) (λ p. p.weight ≤ 16711425) (λ p h. h) (λ c p e h k. h) ps (weighted_weights docs 0 terms flat f t)
+    one_more : (ds : List ℕ) (d : ℕ) → AllByRecursion (λ doc. doc < docs) ds → d < docs → AllByRecursion (λ doc. doc < docs) (ds ++ d ∷ [])
+    one_more [] d h k = (k, tt)
+    one_more (x ∷ xs) d h k = (h.0, one_more xs d h.1 k)

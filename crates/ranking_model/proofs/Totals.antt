@@ -1,0 +1,102 @@
+-- Sums over a prefix of a list, of a range and of the documents that a class has.
+use Rattle.std.proofs.Common.{◌≡◌, ℕ, suc, zero, ◌+◌, ◌-◌, ◌*◌, ◌^◌, ◌<◌, ◌≤◌, ◌≢◌, List, [], ◌∷◌, ◌++◌, length, get_or, set, take, drop, Bool, true, false, true≢false, cond, refl, sym, ap, ◌∙◌, subst, arith, inl, inr, ◌⊎◌, ⊎_elim, nat_le, ◌==◌, sum_by, count_by, eq-eqb, get_or-set_same, get_or-set_other}
+use Rattle.std.specs.List.{range_with_len, AllByRecursion}
+use Rattle.std.proofs.lemmas.List.{take-take, take_rest, ext_get_or}
+use Rattle.std.proofs.lemmas.List.Sums.{sum_by-cons, sum_by-append, sum_by_push, sum_by-take-le, count_by_more_no, count_by_more_yes}
+use Rattle.std.proofs.lemmas.List.Elements.{All-from_recursion}
+use Rattle.std.proofs.lemmas.Bool.{cases_lt, leb-true, le-leb}
+use Rattle.std.proofs.lemmas.Bool.Decides.{nat_tests}
+use Rattle.std.proofs.Math.Nat.{mul-le-mul_left}
+use native.Mathlib.Numerals.{unary_clauses, add-one}
+use borrow.Author.Tests.{eqb-true, eqb-false}
+use Rattle.ranking_model.specs.declared.class.Class.{Class}
+use Rattle.ranking_model.specs.Plan.{size_of_first, greatest_up_to, prefix_within}
+use Rattle.ranking_model.specs.Scores.{greatest_weight, gain_of, scores_after}
+use Rattle.ranking_model.specs.declared.plan.QueryPlan.{QueryPlan}
+use Rattle.std.proofs.lemmas.List.FromFn.{length-map-range_with_len, get_or-map-range_with_len}
+use Rattle.ranking_model.proofs.Sorting.{either}
+
+pub range_push : (a n : ℕ) → range_with_len a (n + 1) ≡ range_with_len a n ++ (a + n) ∷ []
+range_push a zero = simp unary_clauses
+range_push a (suc n) =
+    let rest = range_push (a + 1) n in
+    let far : a + 1 + n ≡ a + suc n = omega arith in
+    let one : suc n + 1 ≡ suc (n + 1) = omega arith in
+    rw one (ap (λ l. a ∷ l) (rest ∙ ap (λ m. range_with_len (a + 1) n ++ m ∷ []) far))
+
+pub sum_range_more : (f : ℕ → ℕ) (n : ℕ) → sum_by f (range_with_len 0 (n + 1)) ≡ sum_by f (range_with_len 0 n) + f n
+sum_range_more f n = ap (sum_by f) (range_push 0 n) ∙ sum_by_push f (range_with_len 0 n) (0 + n) ∙ ap (λ m. sum_by f (range_with_len 0 n) + f m) (omega arith)
+
+pub sum_range_le : (f : ℕ → ℕ) (n m : ℕ) → n ≤ m → sum_by f (range_with_len 0 n) ≤ sum_by f (range_with_len 0 m)
+sum_range_le f n zero h = let e : n ≡ 0 = omega arith in rw e (omega arith)
+sum_range_le f n (suc m) h = by (cases_lt m n) (λ k. sum_range_le f n m k) where
+  by : (m < n) ⊎ (n ≤ m) → (n ≤ m → sum_by f (range_with_len 0 n) ≤ sum_by f (range_with_len 0 m)) → sum_by f (range_with_len 0 n) ≤ sum_by f (range_with_len 0 (suc m))
+  by (inl k) rest = let e : n ≡ suc m = omega arith in rw e (omega arith)
+  by (inr k) rest = let e = sum_range_more f m in let one : m + 1 ≡ suc m = omega arith in let e' = rw one at e in omega (arith, rest k)
+
+-- the greatest number that passes a test
+pub greatest_is : (m n : ℕ) (test : ℕ → Bool) → n ≤ m → (0 < n → test n ≡ true) → ((j : ℕ) → n < j → j ≤ m → test j ≡ false) → greatest_up_to m test ≡ n
+greatest_is zero n test h passes no_more = omega arith
+greatest_is (suc m) n test h passes no_more = by (either (test (suc m))) (cases_lt n (suc m)) (λ k. greatest_is m n test k passes (λ j a b. no_more j a (omega arith))) where
+  by : (test (suc m) ≡ true) ⊎ (test (suc m) ≡ false) → (n < suc m) ⊎ (suc m ≤ n) → (n ≤ m → greatest_up_to m test ≡ n) → greatest_up_to (suc m) test ≡ n
+  by (inl t) (inl k) rest = absurd (true≢false (sym t ∙ no_more (suc m) k (omega arith)))
+  by (inl t) (inr k) rest = rw t (omega arith)
+  by (inr f) (inl k) rest = rw f (rest (omega arith))
+  by (inr f) (inr k) rest = let e : n ≡ suc m = omega arith in let t = rw e at passes in absurd (true≢false (sym (t (omega arith)) ∙ f))
+
+pub size_mono : (classes : List Class) (i j : ℕ) → i ≤ j → size_of_first i classes ≤ size_of_first j classes
+size_mono classes i j h = let e = take-take i j classes h in let less = sum_by-take-le (λ (class : Class). length class.docs) (take j classes) i in rw e at less
+
+pub prefix_is : (classes : List Class) (budget n : ℕ) → n ≤ length classes → size_of_first n classes ≤ budget → (n < length classes → budget < size_of_first (n + 1) classes) → prefix_within budget classes ≡ n
+prefix_is classes budget n h fits stops = greatest_is (length classes) n (λ j. nat_le (size_of_first j classes) budget) h (λ k. le-leb _ _ fits)
+    (λ j a b. past j a b (stops (omega arith)) (size_mono classes (n + 1) j (omega arith)))
+  where
+    past : (j : ℕ) → n < j → j ≤ length classes → budget < size_of_first (n + 1) classes → size_of_first (n + 1) classes ≤ size_of_first j classes → nat_le (size_of_first j classes) budget ≡ false
+    past j a b over more = grind (arith, nat_tests)
+
+-- how often a document stands among the first i and one more
+pub count_on : (docs : List ℕ) (i d : ℕ) → i < length docs → count_by (λ x. x == d) (take (i + 1) docs) ≡ count_by (λ x. x == d) (take i docs) + cond (get_or docs i 0 == d) 1 0
+count_on docs i d h = by (either (get_or docs i 0 == d)) where
+  by : ((get_or docs i 0 == d) ≡ true) ⊎ ((get_or docs i 0 == d) ≡ false) → count_by (λ x. x == d) (take (i + 1) docs) ≡ count_by (λ x. x == d) (take i docs) + cond (get_or docs i 0 == d) 1 0
+  by (inl t) = rw t (count_by_more_yes (λ x. x == d) docs i 0 h t)
+  by (inr f) = rw f (count_by_more_no (λ x. x == d) docs i 0 h f ∙ omega arith)
+
+pub room_here : (docs : List ℕ) (now old weight i doc limit : ℕ) → i < length docs → doc ≡ get_or docs i 0 → now ≡ old + weight * count_by (λ x. x == doc) (take i docs) → old + weight * count_by (λ x. x == doc) docs < limit → now + weight < limit
+room_here docs now old weight i doc limit h is inv room =
+    let same : (get_or docs i 0 == doc) ≡ true = eq-eqb _ _ (sym is) in
+    let on = count_by_more_yes (λ x. x == doc) docs i 0 h same in
+    let all = sum_by-take-le (λ (x : ℕ). cond (x == doc) 1 0) docs (i + 1) in
+    let c : count_by (λ x. x == doc) (take i docs) + 1 ≤ count_by (λ x. x == doc) docs = omega arith in
+    omega (arith, mul-le-mul_left weight c)
+
+pub added_here : (docs scores old : List ℕ) (weight i doc d : ℕ) → i < length docs → doc ≡ get_or docs i 0 → doc < length scores → ((d : ℕ) → d < length old → get_or scores d 0 ≡ get_or old d 0 + weight * count_by (λ x. x == d) (take i docs)) → length scores ≡ length old → d < length old
+    → get_or (set scores doc (get_or scores doc 0 + weight)) d 0 ≡ get_or old d 0 + weight * count_by (λ x. x == d) (take (i + 1) docs)
+added_here docs scores old weight i doc d h is here inv long within = by (either (get_or docs i 0 == d)) where
+  by : ((get_or docs i 0 == d) ≡ true) ⊎ ((get_or docs i 0 == d) ≡ false) → get_or (set scores doc (get_or scores doc 0 + weight)) d 0 ≡ get_or old d 0 + weight * count_by (λ x. x == d) (take (i + 1) docs)
+  by (inl t) =
+      let e : doc ≡ d = is ∙ eqb-true _ _ t in
+      let more = count_by_more_yes (λ x. x == d) docs i 0 h t in
+      let was = inv d within in
+      let old_doc : get_or scores doc 0 ≡ get_or scores d 0 = ap (λ n. get_or scores n 0) e in
+      let written : get_or (set scores doc (get_or scores doc 0 + weight)) d 0 ≡ get_or scores doc 0 + weight =
+          ap (λ n. get_or (set scores doc (get_or scores doc 0 + weight)) n 0) (sym e) ∙ get_or-set_same scores doc (get_or scores doc 0 + weight) 0 here in
+      written ∙ rw more (omega arith)
+  by (inr f) =
+      let apart : d ≢ doc = λ e. eqb-false _ _ f (sym is ∙ sym e) in
+      let more = count_by_more_no (λ x. x == d) docs i 0 h f in
+      get_or-set_other scores doc d (get_or scores doc 0 + weight) 0 apart ∙ inv d within ∙ ap (λ n. get_or old d 0 + weight * n) (sym more)
+
+-- the greatest weight of one more place, read from a slice
+pub bound_step : (classes shown : List Class) (count place places bound more : ℕ) → shown ≡ classes → place < places → bound ≡ sum_by (λ p. greatest_weight p (drop count classes)) (range_with_len 0 place)
+    → more ≡ greatest_weight place (take (length shown - count) (drop count shown)) → sum_by (λ p. greatest_weight p (drop count classes)) (range_with_len 0 places) < 2 ^ 32
+    → (bound + more ≡ sum_by (λ p. greatest_weight p (drop count classes)) (range_with_len 0 (place + 1))) × (bound + more < 2 ^ 32)
+bound_step classes shown count place places bound more same within is told limit = (total, let most = sum_range_le (λ p. greatest_weight p (drop count classes)) (place + 1) places (omega arith) in omega (arith, total)) where
+  told' : more ≡ greatest_weight place (drop count classes)
+  told' = told ∙ ap (greatest_weight place) (take_rest shown count) ∙ ap (λ l. greatest_weight place (drop count l)) same
+  total : bound + more ≡ sum_by (λ p. greatest_weight p (drop count classes)) (range_with_len 0 (place + 1))
+  total = let more = sum_range_more (λ p. greatest_weight p (drop count classes)) place in omega (arith, told')
+
+-- a list with each document's sum at its place is the scores
+pub scores_are : (plan : QueryPlan) (scores : List ℕ) (n : ℕ) → length scores ≡ plan.docs → ((d : ℕ) → d < plan.docs → get_or scores d 0 ≡ sum_by (gain_of d) (take n plan.classes)) → scores ≡ scores_after n plan
+scores_are plan scores n long each = ext_get_or 0 scores (scores_after n plan) (long ∙ sym (length-map-range_with_len (λ d. sum_by (gain_of d) (take n plan.classes)) 0 plan.docs))
+    (λ d h. each d (omega arith) ∙ sym (get_or-map-range_with_len (λ d. sum_by (gain_of d) (take n plan.classes)) 0 plan.docs d d 0 (omega arith) (omega arith)))

@@ -1,0 +1,202 @@
+-- The weighted postings of a flat list: their order, their number, their documents and their weights.
+use Rattle.std.proofs.Common.{◌≡◌, ◌≢◌, ℕ, zero, suc, ◌+◌, ◌*◌, ◌^◌, ◌<◌, ◌≤◌, List, [], ◌∷◌, ◌++◌, map, filter, length, get_or, Bool, true, false, true≢false, cond, ◌&&◌, refl, sym, ap, ◌∙◌, subst, arith, inl, inr, ◌⊎◌, ◌==◌, sum_by, count_by, eqb-true, length-append}
+use Rattle.std.specs.Prelude.{⊤, All, AllPairs, IsSorted}
+use Rattle.std.specs.List.{AllByRecursion}
+use Rattle.std.specs.Ordering.{is_gt, nat_cmp}
+use Rattle.std.specs.Cmp.{IsTotalOrder}
+use Rattle.std.proofs.lemmas.Cmp.{then_total, on_total, back_total, nat_cmp_total}
+use Rattle.std.proofs.lemmas.Bool.Decides.{nat_tests}
+use Rattle.std.proofs.lemmas.List.Elements.{recursion_from_All}
+use Rattle.std.proofs.lemmas.List.Sums.{sum_by-cons, sum_by-append}
+use Rattle.std.proofs.Math.Nat.{mul-le-mul_left}
+use Rattle.ranking_model.specs.declared.entry.Entry.{Entry}
+use Rattle.ranking_model.specs.declared.named.Named.{Named}
+use Rattle.ranking_model.specs.declared.posting.WeightedPosting.{WeightedPosting}
+use Rattle.ranking_model.specs.Flat.{entry_cmp, IsFlat}
+use Rattle.ranking_model.specs.Postings.{AreTerms, weighted_at, weighted_from, weighted_postings, place_cmp}
+use Rattle.ranking_model.proofs.Sorting.{Ascends, either, ascends_sorted, ascends_filter, ascends_append, sorted_ascending}
+use Rattle.ranking_model.proofs.Classes.{place_total}
+
+entry_total : IsTotalOrder (entry_cmp nat_cmp)
+entry_total = then_total (then_total (on_total (λ (e : Entry ℕ). e.term) nat_cmp_total) (on_total (λ (e : Entry ℕ). e.impact) (back_total nat_cmp_total)))
+    (on_total (λ (e : Entry ℕ). e.doc) nat_cmp_total)
+
+abbrev weigh : ℕ → ℕ → Entry ℕ → WeightedPosting
+weigh place times e = record { place = place; doc = e.doc; weight = e.impact * times }
+
+-- ---- the order
+
+-- what all postings of one term have in common
+abbrev AllOf : ℕ → List (Entry ℕ) → Type 0
+AllOf term es = AllByRecursion (λ e. e.term ≡ term) es
+
+all_of : (term : ℕ) (es : List (Entry ℕ)) → AllOf term (filter (λ e. e.term == term) es)
+all_of term [] = tt
+all_of term (e ∷ es) = by (either (e.term == term)) (all_of term es) where
+  by : ((e.term == term) ≡ true) ⊎ ((e.term == term) ≡ false) → AllOf term (filter (λ e. e.term == term) es) → AllOf term (filter (λ e. e.term == term) (e ∷ es))
+  by (inl t) rest = rw t (eqb-true _ _ t, rest)
+  by (inr f) rest = rw f rest
+
+falls : (a b : Entry ℕ) → a.term ≡ b.term → is_gt (entry_cmp nat_cmp a b) ≡ false → b.impact ≤ a.impact
+falls a b same h = grind (arith, nat_tests)
+
+lighter : (place times : ℕ) (a b : Entry ℕ) → b.impact ≤ a.impact → is_gt (place_cmp (weigh place times a) (weigh place times b)) ≡ false
+lighter place times a b h =
+    let less : b.impact * times ≤ a.impact * times = grind arith in
+    grind (arith, nat_tests)
+
+weighed_ascends : (place times term : ℕ) (es : List (Entry ℕ)) → AllOf term es → Ascends (entry_cmp nat_cmp) es → Ascends place_cmp (map (weigh place times) es)
+weighed_ascends place times term [] h a = tt
+weighed_ascends place times term (e ∷ es) h a = (behind es h.1 a.0, weighed_ascends place times term es h.1 a.1) where
+  behind : (fs : List (Entry ℕ)) → AllOf term fs → AllByRecursion (λ f. is_gt (entry_cmp nat_cmp e f) ≡ false) fs → AllByRecursion (λ p. is_gt (place_cmp (weigh place times e) p) ≡ false) (map (weigh place times) fs)
+  behind [] k b = tt
+  behind (f ∷ fs) k b = (lighter place times e f (falls e f (h.0 ∙ sym k.0) b.0), behind fs k.1 b.1)
+
+at_place : (place times : ℕ) (es : List (Entry ℕ)) → AllByRecursion (λ p. p.place ≡ place) (map (weigh place times) es)
+at_place place times [] = tt
+at_place place times (e ∷ es) = (refl, at_place place times es)
+
+from_place : (place low : ℕ) (terms : List Named) (flat : List (Entry ℕ)) → low ≤ place → AllByRecursion (λ p. low ≤ p.place) (weighted_from place terms flat)
+from_place place low [] flat h = tt
+from_place place low (named ∷ terms) flat h = both (filter (λ e. e.term == named.term) flat) (from_place (suc place) low terms flat (omega arith)) where
+  both : (es : List (Entry ℕ)) → AllByRecursion (λ p. low ≤ p.place) (weighted_from (suc place) terms flat) → AllByRecursion (λ p. low ≤ p.place) (map (weigh place named.times) es ++ weighted_from (suc place) terms flat)
+  both [] rest = rest
+  both (e ∷ es) rest = (h, both es rest)
+
+weighted_ascends : (place : ℕ) (terms : List Named) (flat : List (Entry ℕ)) → Ascends (entry_cmp nat_cmp) flat → Ascends place_cmp (weighted_from place terms flat)
+weighted_ascends place [] flat a = tt
+weighted_ascends place (named ∷ terms) flat a =
+    ascends_append place_cmp (weighted_at place named flat) (weighted_from (suc place) terms flat)
+      (weighed_ascends place named.times named.term _ (all_of named.term flat) (ascends_filter (entry_cmp nat_cmp) (λ e. e.term == named.term) flat a))
+      (weighted_ascends (suc place) terms flat a)
+      (all_before (weighted_at place named flat) (at_place place named.times (filter (λ e. e.term == named.term) flat)))
+  where
+    before : (x : WeightedPosting) → x.place ≡ place → (ys : List WeightedPosting) → AllByRecursion (λ p. suc place ≤ p.place) ys → AllByRecursion (λ y. is_gt (place_cmp x y) ≡ false) ys
+    before x e [] h = tt
+    before x e (y ∷ ys) h = (let less = h.0 in grind (arith, nat_tests), before x e ys h.1)
+    all_before : (xs : List WeightedPosting) → AllByRecursion (λ p. p.place ≡ place) xs → AllByRecursion (λ x. AllByRecursion (λ y. is_gt (place_cmp x y) ≡ false) (weighted_from (suc place) terms flat)) xs
+    all_before [] h = tt
+    all_before (x ∷ xs) h = (before x h.0 _ (from_place (suc place) (suc place) terms flat (omega arith)), all_before xs h.1)
+
+pub weighted_in_order : (docs : ℕ) (flat : List (Entry ℕ)) (terms : List Named) → IsFlat nat_cmp docs flat → IsSorted place_cmp (weighted_postings flat terms)
+weighted_in_order docs flat terms f = sorted_ascending place_cmp place_total (weighted_postings flat terms) (weighted_ascends 0 terms flat (ascends_sorted (entry_cmp nat_cmp) entry_total flat f.order))
+
+-- ---- pairs, by recursion
+
+abbrev pub Pairs : {A : Type 0} → (A → A → Type 0) → List A → Type 0
+Pairs R [] = ⊤
+Pairs R (x ∷ xs) = AllByRecursion (λ y. R x y) xs × Pairs R xs
+
+pub pairs_by_recursion : {A : Type 0} (R : A → A → Type 0) (xs : List A) → AllPairs R xs → Pairs R xs
+pairs_by_recursion R [] h = tt
+pairs_by_recursion {A} R (x ∷ xs) h = (behind xs (λ j d k. h 0 (suc j) d (omega arith) (omega arith)), pairs_by_recursion R xs (λ i j d a b. h (suc i) (suc j) d (omega arith) (omega arith))) where
+  behind : (ys : List A) → ((j : ℕ) (d : A) → j < length ys → R x (get_or ys j d)) → AllByRecursion (λ y. R x y) ys
+  behind [] k = tt
+  behind (y ∷ ys) k = (k 0 y (omega arith), behind ys (λ j d a. k (suc j) d (omega arith)))
+
+-- ---- their number
+
+-- where the query names none of an entry's term, the entry weighs nothing
+unnamed : (place : ℕ) (terms : List Named) (e : Entry ℕ) (es : List (Entry ℕ)) → AllByRecursion (λ named. (e.term == named.term) ≡ false) terms → weighted_from place terms (e ∷ es) ≡ weighted_from place terms es
+unnamed place [] e es h = refl
+unnamed place (named ∷ terms) e es h =
+    let other : (e.term == named.term) ≡ false = h.0 in
+    rw other (ap (λ l. weighted_at place named es ++ l) (unnamed (suc place) terms e es h.1))
+
+named_once : (place : ℕ) (terms : List Named) (e : Entry ℕ) (es : List (Entry ℕ)) → Pairs (λ a b. a.term ≢ b.term) terms → length (weighted_from place terms (e ∷ es)) ≤ suc (length (weighted_from place terms es))
+named_once place [] e es h = omega arith
+named_once place (named ∷ terms) e es h = by (either (e.term == named.term)) (named_once (suc place) terms e es h.1) where
+  others : e.term ≡ named.term → (ts : List Named) → AllByRecursion (λ b. named.term ≢ b.term) ts → AllByRecursion (λ b. (e.term == b.term) ≡ false) ts
+  others is [] k = tt
+  others is (t ∷ ts) k = (let apart : named.term ≢ t.term = k.0 in grind (arith, nat_tests), others is ts k.1)
+  by : ((e.term == named.term) ≡ true) ⊎ ((e.term == named.term) ≡ false) → length (weighted_from (suc place) terms (e ∷ es)) ≤ suc (length (weighted_from (suc place) terms es))
+      → length (weighted_from place (named ∷ terms) (e ∷ es)) ≤ suc (length (weighted_from place (named ∷ terms) es))
+  by (inl t) rest = rw (t, unnamed (suc place) terms e es (others (eqb-true _ _ t) terms h.0)) (omega arith)
+  by (inr f) rest = rw f (simp length-append (omega arith))
+
+pub weighted_length : (place : ℕ) (terms : List Named) (flat : List (Entry ℕ)) → Pairs (λ a b. a.term ≢ b.term) terms → length (weighted_from place terms flat) ≤ length flat
+weighted_length place terms [] h = none place terms where
+  none : (place : ℕ) (terms : List Named) → length (weighted_from place terms []) ≤ 0
+  none place [] = omega arith
+  none place (named ∷ terms) = none (suc place) terms
+weighted_length place terms (e ∷ es) h = let one = named_once place terms e es h in let rest = weighted_length place terms es h in omega arith
+
+-- ---- their documents and weights
+
+weighted_all : (P : WeightedPosting → Type 0) (place : ℕ) (terms : List Named) (flat : List (Entry ℕ)) → ((place : ℕ) → AllByRecursion (λ named. AllByRecursion (λ e. P (weigh place named.times e)) flat) terms) → AllByRecursion P (weighted_from place terms flat)
+weighted_all P place [] flat h = tt
+weighted_all P place (named ∷ terms) flat h = both flat (h place).0 (weighted_all P (suc place) terms flat (λ p. (h p).1)) where
+  both : (es : List (Entry ℕ)) → AllByRecursion (λ e. P (weigh place named.times e)) es → AllByRecursion P (weighted_from (suc place) terms flat) → AllByRecursion P (weighted_at place named es ++ weighted_from (suc place) terms flat)
+  both [] k rest = rest
+  both (e ∷ es) k rest = one (either (e.term == named.term)) (both es k.1 rest) where
+    one : ((e.term == named.term) ≡ true) ⊎ ((e.term == named.term) ≡ false) → AllByRecursion P (weighted_at place named es ++ weighted_from (suc place) terms flat) → AllByRecursion P (weighted_at place named (e ∷ es) ++ weighted_from (suc place) terms flat)
+    one (inl t) more = rw t (k.0, more)
+    one (inr f) more = rw f more
+
+-- a fact of each entry and each number of mentions
+for_each : {A B : Type 0} (R : A → B → Type 0) (P : A → Type 0) (Q : B → Type 0) (xs : List A) (ys : List B) → ((x : A) (y : B) → P x → Q y → R x y) → AllByRecursion P xs → AllByRecursion Q ys → AllByRecursion (λ x. AllByRecursion (R x) ys) xs
+for_each R P Q [] ys f h k = tt
+for_each {A} {B} R P Q (x ∷ xs) ys f h k = (inner ys k, for_each R P Q xs ys f h.1 k) where
+  inner : (ys : List B) → AllByRecursion Q ys → AllByRecursion (R x) ys
+  inner [] k = tt
+  inner (y ∷ ys) k = (f x y h.0 k.0, inner ys k.1)
+
+heavy : (impact times : ℕ) → impact ≤ 65535 → times ≤ 255 → impact * times ≤ 16711425
+heavy impact times a b =
+    let first : impact * times ≤ impact * 255 = mul-le-mul_left impact b in
+    let second : impact * 255 ≤ 65535 * 255 = omega arith in
+    omega arith
+
+pub weighted_documents : (docs place : ℕ) (terms : List Named) (flat : List (Entry ℕ)) → IsFlat nat_cmp docs flat → AreTerms terms → AllByRecursion (λ p. p.doc < docs) (weighted_from place terms flat)
+weighted_documents docs place terms flat f t = weighted_all (λ p. p.doc < docs) place terms flat (λ place.
+    for_each (λ named e. e.doc < docs) (λ (named : Named). (1 ≤ named.times) × (named.times ≤ 255)) (λ (e : Entry ℕ). e.doc < docs) terms flat (λ named e a b. b) (recursion_from_All _ terms t.times) (recursion_from_All _ flat f.documents))
+
+pub weighted_weights : (docs place : ℕ) (terms : List Named) (flat : List (Entry ℕ)) → IsFlat nat_cmp docs flat → AreTerms terms → AllByRecursion (λ p. p.weight ≤ 16711425) (weighted_from place terms flat)
+weighted_weights docs place terms flat f t = weighted_all (λ p. p.weight ≤ 16711425) place terms flat (λ place.
+    for_each (λ (named : Named) (e : Entry ℕ). e.impact * named.times ≤ 16711425) (λ (named : Named). (1 ≤ named.times) × (named.times ≤ 255)) (λ (e : Entry ℕ). (1 ≤ e.impact) × (e.impact ≤ 65535)) terms flat
+      (λ named e a b. heavy e.impact named.times b.1 a.1) (recursion_from_All _ terms t.times) (recursion_from_All _ flat f.impacts))
+
+-- ---- the score of one document
+
+-- what a posting adds to a document
+abbrev pub adds : ℕ → WeightedPosting → ℕ
+adds doc p = cond (p.doc == doc) p.weight 0
+
+-- once a term's posting of the document is counted, no other of the term counts
+none_left : (doc place times term : ℕ) (e : Entry ℕ) (es : List (Entry ℕ)) → e.term ≡ term → e.doc ≡ doc → AllByRecursion (λ f. e.term ≡ f.term → e.doc ≢ f.doc) es → sum_by (adds doc) (map (weigh place times) (filter (λ f. f.term == term) es)) ≡ 0
+none_left doc place times term e [] a b h = refl
+none_left doc place times term e (f ∷ fs) a b h = by (either (f.term == term)) (none_left doc place times term e fs a b h.1) where
+  by : ((f.term == term) ≡ true) ⊎ ((f.term == term) ≡ false) → sum_by (adds doc) (map (weigh place times) (filter (λ f. f.term == term) fs)) ≡ 0
+      → sum_by (adds doc) (map (weigh place times) (filter (λ f. f.term == term) (f ∷ fs))) ≡ 0
+  by (inl t) rest =
+      let same : e.term ≡ f.term = a ∙ sym (eqb-true _ _ t) in
+      let apart : e.doc ≢ f.doc = h.0 same in
+      let other : (f.doc == doc) ≡ false = grind (arith, nat_tests) in
+      rw t (sum_by-cons (adds doc) (weigh place times f) (map (weigh place times) (filter (λ f. f.term == term) fs)) ∙ rw other (omega arith))
+  by (inr k) rest = rw k rest
+
+term_adds : (doc place times term : ℕ) (es : List (Entry ℕ)) → times ≤ 255 → Pairs (λ a b. a.term ≡ b.term → a.doc ≢ b.doc) es → AllByRecursion (λ e. (1 ≤ e.impact) × (e.impact ≤ 65535)) es → sum_by (adds doc) (map (weigh place times) (filter (λ f. f.term == term) es)) ≤ 16711425
+term_adds doc place times term [] few p h = omega arith
+term_adds doc place times term (e ∷ es) few p h = by (either (e.term == term)) (either (e.doc == doc)) (term_adds doc place times term es few p.1 h.1) where
+  rest_of : ℕ
+  rest_of = sum_by (adds doc) (map (weigh place times) (filter (λ f. f.term == term) es))
+  by : ((e.term == term) ≡ true) ⊎ ((e.term == term) ≡ false) → ((e.doc == doc) ≡ true) ⊎ ((e.doc == doc) ≡ false) → sum_by (adds doc) (map (weigh place times) (filter (λ f. f.term == term) es)) ≤ 16711425
+      → sum_by (adds doc) (map (weigh place times) (filter (λ f. f.term == term) (e ∷ es))) ≤ 16711425
+  by (inl t) (inl d) rest =
+      let none = none_left doc place times term e es (eqb-true _ _ t) (eqb-true _ _ d) p.0 in
+      let one = sum_by-cons (adds doc) (weigh place times e) (map (weigh place times) (filter (λ f. f.term == term) es)) in
+      let most = heavy e.impact times h.0.1 few in
+      rw t (rw one (rw (d, none) (omega arith)))
+  by (inl t) (inr d) rest =
+      let one = sum_by-cons (adds doc) (weigh place times e) (map (weigh place times) (filter (λ f. f.term == term) es)) in
+      rw t (rw one (rw d (omega arith)))
+  by (inr t) d rest = rw t rest
+
+pub all_add : (doc docs place : ℕ) (terms : List Named) (flat : List (Entry ℕ)) → IsFlat nat_cmp docs flat → AllByRecursion (λ named. (1 ≤ named.times) × (named.times ≤ 255)) terms → sum_by (adds doc) (weighted_from place terms flat) ≤ length terms * 16711425
+all_add doc docs place [] flat f t = omega arith
+all_add doc docs place (named ∷ terms) flat f t =
+    let first = term_adds doc place named.times named.term flat t.0.1 (pairs_by_recursion _ flat f.once) (recursion_from_All _ flat f.impacts) in
+    let rest = all_add doc docs (suc place) terms flat f t.1 in
+    let split = sum_by-append (adds doc) (weighted_at place named flat) (weighted_from (suc place) terms flat) in
+    let count : suc (length terms) * 16711425 ≡ 16711425 + length terms * 16711425 = omega arith in
+    rw (split, count) (omega arith)
