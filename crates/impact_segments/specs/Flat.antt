@@ -1,0 +1,29 @@
+-- The flat list of an index in memory: its terms in their order, the segments of each in theirs, and the documents of each
+-- segment (Lin and Trotman, "Anytime Ranking for Impact-Ordered Indexes", ICTIR 2015).
+use Rattle.std.specs.Prelude.{ℕ, suc, List, [], ◌∷◌, ◌++◌, map}
+use Rattle.std.specs.List.{flat_map}
+use Rattle.jass_base.specs.declared.segment.Segment.{Segment}
+use Rattle.jass_base.specs.declared.term_segments.TermSegments.{TermSegments}
+use Rattle.jass_base.specs.declared.impact_index.ImpactIndex.{ImpactIndex}
+use Rattle.ranking_model.specs.declared.entry.Entry.{Entry}
+
+-- the entries of a segment, under its term's bytes or number
+abbrev pub segment_entries : {T : Type 0} → T → Segment → List (Entry T)
+segment_entries term segment = map (λ (doc : ℕ). record { term = term; doc = doc; impact = segment.impact }) segment.docs
+
+-- the entries of a term's segments
+abbrev pub term_entries : {T : Type 0} → T → List Segment → List (Entry T)
+term_entries term segments = flat_map (segment_entries term) segments
+
+-- the flat list of terms
+abbrev pub flat_of_terms : List TermSegments → List (Entry (List ℕ))
+flat_of_terms terms = flat_map (λ (t : TermSegments). term_entries t.term t.segments) terms
+
+-- the flat list of an index
+abbrev pub flat_of : ImpactIndex → List (Entry (List ℕ))
+flat_of index = flat_of_terms index.terms
+
+-- the flat list of terms by number, from a first number on
+abbrev pub numbered_from : ℕ → List TermSegments → List (Entry ℕ)
+numbered_from number [] = []
+numbered_from number (t ∷ terms) = term_entries number t.segments ++ numbered_from (suc number) terms

@@ -1,0 +1,4 @@
+pub mod Collections
+pub mod Flat
+pub mod Pairs
+pub mod Listed

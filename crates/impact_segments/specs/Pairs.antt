@@ -1,0 +1,22 @@
+-- The postings of one term as pairs of a document and its impact.
+use Rattle.std.specs.Prelude.{ℕ, ◌≡◌, ◌≢◌, ◌<◌, ◌≤◌, List, map}
+use Rattle.std.specs.List.{flat_map}
+use Rattle.std.specs.declared.cmp.Ordering.{Ordering}
+use Rattle.std.specs.Ordering.{nat_cmp, ordering_then}
+use Rattle.jass_base.specs.declared.segment.Segment.{Segment}
+
+-- falling impacts, then rising documents
+abbrev pub pair_cmp : ℕ × ℕ → ℕ × ℕ → Ordering
+pair_cmp a b = ordering_then (nat_cmp b.1 a.1) (nat_cmp a.0 b.0)
+
+-- the pairs that segments hold
+abbrev pub pairs_of : List Segment → List (ℕ × ℕ)
+pairs_of segments = flat_map (λ (s : Segment). map (λ (doc : ℕ). (doc, s.impact)) s.docs) segments
+
+-- the documents of pairs
+abbrev pub pair_docs : List (ℕ × ℕ) → List ℕ
+pair_docs pairs = map (λ (p : ℕ × ℕ). p.0) pairs
+
+-- an order in which segments are cut: impacts fall, documents differ, and rise where impacts are equal
+abbrev pub Follows : ℕ × ℕ → ℕ × ℕ → Type 0
+Follows a b = (b.1 ≤ a.1) × (a.0 ≢ b.0) × (a.1 ≡ b.1 → a.0 < b.0)
