@@ -1,0 +1,5 @@
+pub mod Lists
+pub mod Orders
+pub mod Cutting
+pub mod Numbers
+pub mod FlatOrder
