@@ -133,3 +133,16 @@ rising_from_pairs xs h k low = pairs_by_places (λ x y. x < y) xs h k (k + 1) 0 
 -- the fact of one that is contained
 pub all_contained : {A : Type 0} (P : A → Type 0) (xs : List A) (x : A) → AllByRecursion P xs → Contains xs x → P x
 all_contained P xs x h c = subst P c.2 (All-from_recursion P xs h c.0 x c.1)
+
+-- a map of a sort, where the map keeps the order
+module _ {A B : Type 0} (f : A → B) (first : A → A → Ordering) (second : B → B → Ordering) (same : (x y : A) → second (f x) (f y) ≡ first x y) where
+  map_placed : (x : A) (ys : List A) → map f (placed first x ys) ≡ placed second (f x) (map f ys)
+  map_placed x [] = refl
+  map_placed x (y ∷ ys) = step (is_gt (first x y)) refl (map_placed x ys) where
+    step : (b : Bool) → is_gt (first x y) ≡ b → map f (placed first x ys) ≡ placed second (f x) (map f ys) → map f (placed first x (y ∷ ys)) ≡ placed second (f x) (map f (y ∷ ys))
+    step true e rest = let e' : is_gt (second (f x) (f y)) ≡ true = ap is_gt (same x y) ∙ e in rw (e, e') (ap (λ (l : List B). f y ∷ l) rest)
+    step false e rest = let e' : is_gt (second (f x) (f y)) ≡ false = ap is_gt (same x y) ∙ e in rw (e, e') refl
+
+  pub map_sorted : (xs : List A) → map f (sorted first xs) ≡ sorted second (map f xs)
+  map_sorted [] = refl
+  map_sorted (x ∷ xs) = map_placed x (sorted first xs) ∙ ap (λ (l : List B). placed second (f x) l) (map_sorted xs)

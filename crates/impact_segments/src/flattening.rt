@@ -15,6 +15,7 @@ pub fn entries_of(alloc: Global, index: &ImpactIndex) -> Result<Row<Entry<u32>>,
     ensures by_number { IfOk result (λ entries. entries ≡ numbered_from 0 index.now.terms) }
     ensures flat { IfOk result (λ entries. IsFlat nat_cmp (length index.now.names) entries) }
 {
+    let _greatest = index.greatest;
     let mut entries = Row::new(alloc);
     for (number, term) in index.terms.as_slice().iter().enumerate() {
         add_term(number as u32, term.segments.as_slice(), &mut entries)?;

@@ -13,7 +13,7 @@ pub(crate) fn lists_by_term<'a>(
     ensures { IfOk result (λ listed. lists_behind listed.items ≡ sorted term_cmp (filter has_postings lists.now)) }
 {
     let mut listed = lists_with_postings(alloc, lists)?;
-    match listed.sort_by_key(|list| list.term.as_str().as_bytes()) {
+    match listed.sort_by(|a, b| a.term.as_str().cmp(b.term.as_str())) {
         Ok(()) => Ok(listed),
         Err(_) => Err(NoMemory),
     }

@@ -39,7 +39,10 @@ pub(crate) fn terms_of(
     let mut pairs = Vec::new(alloc);
     for list in lists {
         let term = term_of(alloc, weigher, bits, range, list, &mut pairs)?;
-        terms.push(term).map_err(|refused| refused.1)?;
+        match terms.push(term) {
+            Ok(()) => {}
+            Err(_) => return Err(NoMemory),
+        }
     }
     Ok(terms)
 }
@@ -78,7 +81,8 @@ fn impacts_of(
     requires width { IsImpactWidth bits }
     requires below { HasDocsBelow (length weigher.now.docs.now) list.now }
     requires in_range { All (IsInRange bits range) (list_weights weigher.now.rule weigher.now.docs.now list.now) }
-    ensures { OnOk result (pairs.new.items ≡ list_pairs weigher.now.rule weigher.now.docs.now bits range list.now) }
+    ensures pairs { OnOk result (pairs.new.items ≡ list_pairs weigher.now.rule weigher.now.docs.now bits range list.now) }
+    ensures positive { OnOk result (All (λ (p : ℕ × ℕ). 1 ≤ p.1) pairs.new.items) }
 {
     pairs.clear();
     for posting in list.postings.as_slice() {
