@@ -1,0 +1,8 @@
+pub mod Lists
+pub mod Orders
+pub mod Cutting
+pub mod Numbers
+pub mod FlatOrder
+pub mod Weights
+pub mod OneTerm
+pub mod OneIndex

@@ -7,9 +7,13 @@ use Rattle.jass_base.specs.declared.term_segments.TermSegments.{TermSegments}
 use Rattle.jass_base.specs.declared.impact_index.ImpactIndex.{ImpactIndex}
 use Rattle.ranking_model.specs.declared.entry.Entry.{Entry}
 
--- the entries of a segment, under its term's bytes or number
+-- an entry for each of some documents, under a term's bytes or number, with one impact
+abbrev pub doc_entries : {T : Type 0} → T → ℕ → List ℕ → List (Entry T)
+doc_entries term impact docs = map (λ (doc : ℕ). record { term = term; doc = doc; impact = impact }) docs
+
+-- the entries of a segment
 abbrev pub segment_entries : {T : Type 0} → T → Segment → List (Entry T)
-segment_entries term segment = map (λ (doc : ℕ). record { term = term; doc = doc; impact = segment.impact }) segment.docs
+segment_entries term segment = doc_entries term segment.impact segment.docs
 
 -- the entries of a term's segments
 abbrev pub term_entries : {T : Type 0} → T → List Segment → List (Entry T)

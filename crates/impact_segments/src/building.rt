@@ -4,7 +4,10 @@ ghost use Rattle.jass_base.specs.declared.doc_record.DocRecord.{DocRecord};
 ghost use Rattle.impact_segments.specs.Collections.{index_of};
 ghost use Rattle.impact_segments.specs.Flat.{flat_of};
 
-use jass_base::{Collection, ImpactIndex, NoMemory};
+use crate::listing::lists_by_term;
+use crate::terms::{greatest_impact, terms_of};
+use crate::weighing::Weigher;
+use jass_base::{Collection, DocRecord, ImpactIndex, NoMemory, Row, Text};
 use std::alloc::Global;
 use weights::{Bits, Rule};
 
@@ -20,5 +23,26 @@ pub fn build(
     ensures flat { IfOk result (λ index. flat_of index ≡ index_of collection.now rule bits) }
     ensures names { IfOk result (λ index. index.names ≡ map (λ (d : DocRecord). d.name) collection.now.docs) }
 {
-    Err(NoMemory)
+    let weigher = Weigher::new(rule, collection.docs.as_slice());
+    let range = weigher.range_for(bits, collection.lists.as_slice());
+    let lists = lists_by_term(alloc, collection.lists.as_slice())?;
+    let terms = terms_of(alloc, &weigher, bits, range, &lists)?;
+    let names = names_of(alloc, collection.docs.as_slice())?;
+    Ok(ImpactIndex {
+        names,
+        greatest: greatest_impact(terms.as_slice()),
+        terms,
+    })
+}
+
+/// The names of the documents.
+fn names_of(alloc: Global, docs: &[DocRecord]) -> Result<Row<Text>, NoMemory>
+    ensures { IfOk result (λ names. names ≡ map (λ (d : DocRecord). d.name) docs.now) }
+{
+    let mut names = Row::new(alloc);
+    for doc in docs {
+        let name = Text::from_str(alloc, doc.name.as_str())?;
+        names.push(name).map_err(|refused| refused.1)?;
+    }
+    Ok(names)
 }

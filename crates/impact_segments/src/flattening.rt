@@ -1,10 +1,10 @@
-ghost use Rattle.std.specs.Prelude.{◌≡◌, ℕ, length, IfOk};
+ghost use Rattle.std.specs.Prelude.{◌≡◌, ℕ, ◌++◌, length, IfOk, OnOk};
 ghost use Rattle.std.specs.Ordering.{nat_cmp};
 ghost use Rattle.jass_base.specs.declared.impact_index.ImpactIndex.{ImpactIndex};
 ghost use Rattle.ranking_model.specs.Flat.{IsFlat, numbered};
-ghost use Rattle.impact_segments.specs.Flat.{flat_of, numbered_from};
+ghost use Rattle.impact_segments.specs.Flat.{segment_entries, term_entries, flat_of, numbered_from};
 
-use jass_base::{ImpactIndex, NoMemory, Row};
+use jass_base::{ImpactIndex, NoMemory, Row, Segment};
 use ranking_model::Entry;
 use std::alloc::Global;
 
@@ -15,5 +15,33 @@ pub fn entries_of(alloc: Global, index: &ImpactIndex) -> Result<Row<Entry<u32>>,
     ensures by_number { IfOk result (λ entries. entries ≡ numbered_from 0 index.now.terms) }
     ensures flat { IfOk result (λ entries. IsFlat nat_cmp (length index.now.names) entries) }
 {
-    Err(NoMemory)
+    let _greatest = index.greatest;
+    let mut entries = Row::new(alloc);
+    for (number, term) in index.terms.as_slice().iter().enumerate() {
+        add_term(number as u32, term.segments.as_slice(), &mut entries)?;
+    }
+    Ok(entries)
+}
+
+fn add_term(number: u32, segments: &[Segment], entries: &mut Row<Entry<u32>>) -> Result<(), NoMemory>
+    ensures { OnOk result (entries.new ≡ entries.old ++ term_entries number segments.now) }
+{
+    for segment in segments {
+        add_segment(number, segment, entries)?;
+    }
+    Ok(())
+}
+
+fn add_segment(number: u32, segment: &Segment, entries: &mut Row<Entry<u32>>) -> Result<(), NoMemory>
+    ensures { OnOk result (entries.new ≡ entries.old ++ segment_entries number segment.now) }
+{
+    for doc in segment.docs.as_slice() {
+        let entry = Entry {
+            term: number,
+            doc: *doc,
+            impact: segment.impact,
+        };
+        entries.push(entry).map_err(|refused| refused.1)?;
+    }
+    Ok(())
 }

@@ -1,7 +1,15 @@
 #![tactic(auto)]
 
+//! The impact-ordered index of a collection: the weight of each posting as an impact, the
+//! postings of a term in segments of equal impact, and the flat list of such an index.
+
 mod building;
 mod flattening;
+mod grouping;
+mod listing;
+mod terms;
+mod weighing;
 
 pub use building::build;
 pub use flattening::entries_of;
+pub use grouping::group;

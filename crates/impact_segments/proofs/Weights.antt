@@ -1,0 +1,69 @@
+-- A list's postings are few enough, and their weights are in the range of all.
+use Rattle.std.proofs.Common.{◌≡◌, ◌≢◌, ℕ, zero, suc, ◌+◌, ◌<◌, ◌≤◌, ◌^◌, min, max, List, [], ◌∷◌, ◌++◌, map, length, get_or, refl, sym, ap, ◌∙◌, subst, arith, fold}
+use Rattle.std.specs.Prelude.{⊤, All, Contains, slice_index}
+use Rattle.std.specs.List.{AllByRecursion, flat_map}
+use Rattle.std.proofs.lemmas.List.Elements.{recursion_from_All, All-from_recursion}
+use Rattle.std.proofs.lemmas.List.{length-map, get_or-map}
+use Rattle.jass_base.specs.declared.doc_record.DocRecord.{DocRecord}
+use Rattle.jass_base.specs.declared.posting.Posting.{Posting}
+use Rattle.jass_base.specs.declared.postings_list.PostingsList.{PostingsList}
+use Rattle.jass_base.specs.Lists.{HasDocsBelow}
+use Rattle.jass_base.specs.Postings.{docs_of}
+use Rattle.weights.specs.declared.weighting.Rule.{Rule}
+use Rattle.weights.specs.declared.quantizing.Bits.{Bits}
+use Rattle.weights.specs.declared.quantizing.Bits.TheVariants.{Of}
+use Rattle.weights.specs.declared.quantizing.Range.{Range}
+use Rattle.weights.specs.Quantizing.{widened, range_of, empty_range, Holds, IsInRange}
+use Rattle.impact_segments.specs.Collections.{lengths_of, list_weights}
+use Rattle.impact_segments.proofs.Lists.{Pairs, all_weaker, all_unmap, all_contained, all_parts, rising_pairs}
+
+-- numbers that rise and lie from low on below high
+few : (low high : ℕ) (xs : List ℕ) → low ≤ high → Pairs (λ (x y : ℕ). x < y) xs → AllByRecursion (λ (x : ℕ). low ≤ x) xs → AllByRecursion (λ (x : ℕ). x < high) xs → low + length xs ≤ high
+few low high [] room h from below = omega arith
+few low high (x ∷ xs) room h from below =
+    let rest : suc x + length xs ≤ high = few (suc x) high xs (omega (arith, below.0)) h.1 (all_weaker (λ (y : ℕ). x < y) (λ (y : ℕ). suc x ≤ y) (λ y l. omega (arith, l)) xs h.0) below.1 in
+    omega (arith, rest, from.0)
+
+from_zero : (xs : List ℕ) → AllByRecursion (λ (x : ℕ). 0 ≤ x) xs
+from_zero [] = tt
+from_zero (x ∷ xs) = (omega arith, from_zero xs)
+
+pub few_postings : (docs : ℕ) (list : PostingsList) → HasDocsBelow docs list → length list.postings ≤ docs
+few_postings docs list below =
+    let all : 0 + length (docs_of list.postings) ≤ docs = few 0 docs (docs_of list.postings) (omega arith) (rising_pairs (docs_of list.postings) list.rising) (from_zero (docs_of list.postings)) (recursion_from_All (λ (doc : ℕ). doc < docs) (docs_of list.postings) below) in
+    let same : length (docs_of list.postings) ≡ length list.postings = length-map list.postings (λ (p : Posting). p.doc) in
+    omega (arith, all, same)
+
+pub its_doc : (docs : ℕ) (list : PostingsList) (p : Posting) → HasDocsBelow docs list → Contains list.postings p → p.doc < docs
+its_doc docs list p below own = all_contained (λ (p : Posting). p.doc < docs) list.postings p
+    (all_unmap (λ (doc : ℕ). doc < docs) (λ (p : Posting). p.doc) list.postings (recursion_from_All (λ (doc : ℕ). doc < docs) (docs_of list.postings) below)) own
+
+pub its_length : (docs : List DocRecord) (doc : ℕ) (d : DocRecord) → doc < length docs → (get_or docs doc d).length ≡ slice_index (lengths_of docs) doc
+its_length docs doc d low = sym (get_or-map (λ (d : DocRecord). d.length) docs doc d 0 low)
+
+-- ---- the range
+
+least_later : (r : Range) (ws : List ℕ) → (fold widened r ws).least ≤ r.least
+least_later r [] = omega arith
+least_later r (w ∷ ws) = omega (arith, least_later (widened r w) ws)
+
+greatest_later : (r : Range) (ws : List ℕ) → r.greatest ≤ (fold widened r ws).greatest
+greatest_later r [] = omega arith
+greatest_later r (w ∷ ws) = omega (arith, greatest_later (widened r w) ws)
+
+held : (r : Range) (ws : List ℕ) → AllByRecursion (λ (w : ℕ). ((fold widened r ws).least ≤ w) × (w ≤ (fold widened r ws).greatest)) ws
+held r [] = tt
+held r (w ∷ ws) = ((omega (arith, least_later (widened r w) ws), omega (arith, greatest_later (widened r w) ws)), held (widened r w) ws)
+
+pub all_in_range : (rule : Rule) (docs : List DocRecord) (lists : List PostingsList) (range : Range) (bits : Bits) (b : ℕ) → bits ≡ Of b → range ≡ range_of (flat_map (list_weights rule docs) lists) → range.greatest < 2 ^ 31
+    → All (λ (l : PostingsList). All (IsInRange bits range) (list_weights rule docs l)) lists
+all_in_range rule docs lists range bits b of is limit =
+    let weights : List ℕ = flat_map (list_weights rule docs) lists in
+    let P : Range → Type 0 = λ (r : Range). AllByRecursion (λ (w : ℕ). (r.least ≤ w) × (w ≤ r.greatest)) weights in
+    let Q : Bits → Type 0 = λ (k : Bits). All (λ (l : PostingsList). All (IsInRange k range) (list_weights rule docs l)) lists in
+    let each : AllByRecursion (λ (w : ℕ). (range.least ≤ w) × (w ≤ range.greatest)) weights = subst P (sym is) (held empty_range weights) in
+    let holds : AllByRecursion (λ (w : ℕ). Holds range w) weights = all_weaker (λ (w : ℕ). (range.least ≤ w) × (w ≤ range.greatest)) (λ (w : ℕ). Holds range w)
+        (λ w h. record { from_least = h.0; to_greatest = h.1; limit = omega (arith, limit) }) weights each in
+    subst Q (sym of) (All-from_recursion (λ (l : PostingsList). All (IsInRange (Of b) range) (list_weights rule docs l)) lists
+      (all_weaker (λ (l : PostingsList). AllByRecursion (λ (w : ℕ). Holds range w) (list_weights rule docs l)) (λ (l : PostingsList). All (IsInRange (Of b) range) (list_weights rule docs l))
+        (λ l h. All-from_recursion (IsInRange (Of b) range) (list_weights rule docs l) h) lists (all_parts (λ (w : ℕ). Holds range w) (list_weights rule docs) lists holds)))

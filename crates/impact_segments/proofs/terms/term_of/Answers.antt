@@ -1,0 +1,30 @@
+-- The segments hold the pairs of the list.
+use Rattle.std.proofs.Common.{◌≡◌, ℕ, ◌≤◌, List, length, sym, subst, ap, ◌∙◌, arith}
+use Rattle.std.proofs.lemmas.List.{length-map}
+use Rattle.impact_segments.proofs.OneTerm.{docs_rise, docs_below, some_segments, segments_below, term_is}
+use Rattle.impact_segments.proofs.terms.term_of.Goals as goal
+
+pub group_in_place-requires-clause-rising : goal.group_in_place-requires-clause-rising
+group_in_place-requires-clause-rising c = docs_rise c.args.weigher.now.rule c.args.weigher.now.docs.now c.args.bits c.args.range c.args.list.now c.impacts_of.new.pairs.items c.in_ok-impacts_of.ensures.pairs
+
+pub invariant_of-result : goal.invariant_of-result
+invariant_of-result c =
+    let P : List ℕ → Type 0 = λ (l : List ℕ). length l ≤ 65535 in
+    let size : length c.impacts_of.new.pairs.items ≡ length c.args.list.now.postings = ap length c.in_ok-impacts_of.ensures.pairs ∙ length-map c.args.list.now.postings _ in
+    let some : 1 ≤ length c.impacts_of.new.pairs.items = omega (arith, size, c.requires.some) in
+    record {
+      term_fits = subst P (sym (c.in_ok-term.ensures ∙ c.as_str.ensures)) c.args.list.now.term_fits;
+      some = some_segments c.in_ok-segments.segments c.impacts_of.new.pairs.items c.in_ok-segments.ensures.pairs some;
+      falling = c.in_ok-segments.ensures.falling;
+      once = c.in_ok-segments.ensures.once
+    }
+
+pub returns-clause-entries : goal.returns-clause-entries
+returns-clause-entries c =
+    term_is c.args.weigher.now.rule c.args.weigher.now.docs.now c.args.bits c.args.range c.args.list.now c.in_ok-term.term c.in_ok-segments.segments c.impacts_of.new.pairs.items
+      (c.in_ok-term.ensures ∙ c.as_str.ensures) c.in_ok-impacts_of.ensures.pairs c.in_ok-segments.ensures.pairs
+
+pub returns-clause-docs : goal.returns-clause-docs
+returns-clause-docs c =
+    segments_below (length c.args.weigher.now.docs.now) c.in_ok-segments.segments c.impacts_of.new.pairs.items c.in_ok-segments.ensures.pairs
+      (docs_below c.args.weigher.now.rule c.args.weigher.now.docs.now c.args.bits c.args.range c.args.list.now (length c.args.weigher.now.docs.now) c.impacts_of.new.pairs.items c.in_ok-impacts_of.ensures.pairs c.requires.below)

@@ -1,0 +1,102 @@
+ghost use Rattle.std.specs.Prelude.{◌≡◌, ◌≢◌, ℕ, ◌<◌, ◌≤◌, length, take, All, AllPairs, IfOk, slice_index_or};
+ghost use Rattle.std.specs.List.Sorted.{IsStrictlyIncreasing};
+ghost use Rattle.ranking_model.specs.Order.{sorted};
+ghost use Rattle.jass_base.specs.declared.segment.Segment.{Segment};
+ghost use Rattle.jass_base.specs.Segments.{FallsTo, SharesNoDocument};
+ghost use Rattle.impact_segments.specs.Pairs.{pair_cmp, pairs_of, pair_docs, Follows};
+
+use jass_base::{NoMemory, Row, Segment};
+use std::alloc::Global;
+use std::cmp::Reverse;
+
+/// The segments of one term: a segment for each impact, by falling impact, with the documents
+/// that have it, in rising order.
+pub fn group(alloc: Global, postings: &[(u32, u16)]) -> Result<Row<Segment>, NoMemory>
+    requires rising { IsStrictlyIncreasing (pair_docs postings.now) }
+    requires positive { All (λ (p : ℕ × ℕ). 1 ≤ p.1) postings.now }
+    ensures pairs { IfOk result (λ segments. pairs_of segments ≡ sorted pair_cmp postings.now) }
+    ensures falling { IfOk result (λ segments. AllPairs FallsTo segments) }
+    ensures once { IfOk result (λ segments. AllPairs SharesNoDocument segments) }
+{
+    match Vec::from_slice(alloc, postings) {
+        Ok(mut pairs) => group_in_place(alloc, &mut pairs),
+        Err(_) => Err(NoMemory),
+    }
+}
+
+/// The segments of a term whose pairs may be put in order.
+pub(crate) fn group_in_place(
+    alloc: Global,
+    pairs: &mut Vec<(u32, u16)>,
+) -> Result<Row<Segment>, NoMemory>
+    requires rising { IsStrictlyIncreasing (pair_docs pairs.old.items) }
+    requires positive { All (λ (p : ℕ × ℕ). 1 ≤ p.1) pairs.old.items }
+    ensures pairs { IfOk result (λ segments. pairs_of segments ≡ sorted pair_cmp pairs.old.items) }
+    ensures falling { IfOk result (λ segments. AllPairs FallsTo segments) }
+    ensures once { IfOk result (λ segments. AllPairs SharesNoDocument segments) }
+{
+    arrange(pairs);
+    cut(alloc, pairs.as_slice())
+}
+
+/// By falling impact, then rising document.
+fn arrange(pairs: &mut Vec<(u32, u16)>)
+    ensures { pairs.new.items ≡ sorted pair_cmp pairs.old.items }
+{
+    pairs.sort_unstable_by_key(|pair| (Reverse(pair.1), pair.0));
+}
+
+/// One segment for each run of equal impacts.
+fn cut(alloc: Global, pairs: &[(u32, u16)]) -> Result<Row<Segment>, NoMemory>
+    requires order { AllPairs Follows pairs.now }
+    requires positive { All (λ (p : ℕ × ℕ). 1 ≤ p.1) pairs.now }
+    ensures pairs { IfOk result (λ segments. pairs_of segments ≡ pairs.now) }
+    ensures falling { IfOk result (λ segments. AllPairs FallsTo segments) }
+    ensures once { IfOk result (λ segments. AllPairs SharesNoDocument segments) }
+{
+    let mut segments = Row::new(alloc);
+    let mut rest = pairs;
+    'runs: while let Some(first) = rest.first() {
+        let (run, later) = rest.split_at(run_length(rest, first.1));
+        let segment = segment_of(alloc, first.1, run)?;
+        match segments.push(segment) {
+            Ok(()) => rest = later,
+            Err(_) => return Err(NoMemory),
+        }
+    }
+    Ok(segments)
+}
+
+/// The number of pairs in front that have the impact.
+fn run_length(pairs: &[(u32, u16)], impact: u16) -> usize
+    ensures within { result ≤ length pairs.now }
+    ensures same { All (λ (p : ℕ × ℕ). p.1 ≡ impact) (take result pairs.now) }
+    ensures ends { (d : ℕ × ℕ) → result < length pairs.now → (slice_index_or pairs.now result d).1 ≢ impact }
+{
+    for (count, pair) in pairs.iter().enumerate() {
+        if pair.1 != impact {
+            return count;
+        }
+    }
+    pairs.len()
+}
+
+fn segment_of(alloc: Global, impact: u16, run: &[(u32, u16)]) -> Result<Segment, NoMemory>
+    requires positive { 1 ≤ impact }
+    requires some { 1 ≤ length run.now }
+    requires rising { IsStrictlyIncreasing (pair_docs run.now) }
+    ensures impact { IfOk result (λ segment. segment.impact ≡ impact) }
+    ensures docs { IfOk result (λ segment. segment.docs ≡ pair_docs run.now) }
+{
+    let docs = docs_of(alloc, run)?;
+    Ok(Segment { impact, docs })
+}
+
+fn docs_of(alloc: Global, run: &[(u32, u16)]) -> Result<Row<u32>, NoMemory>
+    ensures { IfOk result (λ docs. docs ≡ pair_docs run.now) }
+{
+    match run.iter().map(|pair| pair.0).collect(alloc) {
+        Ok(docs) => Ok(Row::from_vec(docs)),
+        Err(_) => Err(NoMemory),
+    }
+}
