@@ -14,3 +14,6 @@ mod whole_file;
 
 pub use program::run;
 pub use status::Status;
+
+#[cfg(test)]
+mod tests;
