@@ -9,3 +9,4 @@ pub mod Gains
 pub mod Parting
 pub mod Segments
 pub mod Numbering
+pub mod Rest

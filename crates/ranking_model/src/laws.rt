@@ -4,6 +4,7 @@
 ghost use Rattle.std.specs.Prelude.{◌≡◌, ◌≢◌, ℕ, ◌≤◌, List, [], length, take, drop, flat_map, sum_by, AllPairs, IsPermutation, IsSorted};
 ghost use Rattle.std.specs.List.{AllByRecursion};
 ghost use Rattle.jass_base.specs.declared.answer.Hit.{Hit};
+ghost use Rattle.jass_base.specs.declared.named.Named.{Named};
 ghost use Rattle.ranking_model.specs.declared.posting.WeightedPosting.{WeightedPosting};
 ghost use Rattle.ranking_model.specs.declared.class.Class.{Class};
 ghost use Rattle.std.specs.Ordering.{nat_cmp};
@@ -11,8 +12,9 @@ ghost use Rattle.std.specs.Cmp.Lexicographic.{slice_cmp};
 ghost use Rattle.ranking_model.specs.declared.entry.Entry.{Entry};
 ghost use Rattle.ranking_model.specs.Flat.{IsFlat, numbered};
 ghost use Rattle.ranking_model.specs.Order.{sorted};
-ghost use Rattle.ranking_model.specs.Plan.{postings_of, plan_cmp, classes_of, size_of_first, prefix_within, cutoff_after, next_after};
-ghost use Rattle.ranking_model.specs.Scores.{adds, gain_of, rank_cmp, hits_from, first_ranked};
+ghost use Rattle.ranking_model.specs.Plan.{postings_of, plan_of, plan_cmp, classes_of, size_of_first, prefix_within, cutoff_after, next_after};
+ghost use Rattle.ranking_model.specs.Scores.{adds, gain_of, bound_after, scores_after, rank_cmp, hits_from, first_ranked};
+ghost use Rattle.ranking_model.specs.Finality.{AreGains, raised};
 ghost use Rattle.ranking_model.specs.Heaviest.{IsHeaviest};
 
 /// The prefix that a budget pays for fits it, and no longer one does.
@@ -54,5 +56,12 @@ pub fn the_ranking_is_one()
 /// Terms by number keep what the flat list is by their bytes.
 pub fn numbers_keep_the_flat_list()
     ensures { (docs : ℕ) (flat : List (Entry (List ℕ))) → IsFlat (slice_cmp nat_cmp) docs flat → IsFlat nat_cmp docs (numbered flat) }
+{
+}
+
+/// What is unscored gives no document more than the bound: the scores after more classes are those
+/// after fewer with some gains from 0 to the bound of the fewer.
+pub fn the_rest_gains_at_most_the_bound()
+    ensures { (docs n m : ℕ) (terms : List Named) (flat : List (Entry ℕ)) → IsFlat nat_cmp docs flat → n ≤ m → (gains : List ℕ) × AreGains (bound_after n (plan_of docs flat terms)) (scores_after n (plan_of docs flat terms)) gains × (raised (scores_after n (plan_of docs flat terms)) gains ≡ scores_after m (plan_of docs flat terms)) }
 {
 }
