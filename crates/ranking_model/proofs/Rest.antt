@@ -1,6 +1,6 @@
 -- What a document can still gain: a term has one posting of it at most, so it gains at most the bound.
-use Rattle.std.proofs.Common.{◌≡◌, ◌≢◌, ℕ, zero, suc, ◌+◌, ◌-◌, ◌*◌, ◌<◌, ◌≤◌, max, List, [], ◌∷◌, ◌++◌, map, filter, length, get_or, take, drop, Bool, true, false, true≢false, cond, ◌&&◌, refl, sym, ap, ◌∙◌, subst, arith, inl, inr, ◌⊎◌, ◌==◌, sum_by, count_by, eqb-true, eq-eqb, length-append}
-use Rattle.std.specs.Prelude.{⊤, nat_lt}
+use Rattle.std.proofs.Common.{◌≡◌, ◌≢◌, ℕ, zero, suc, ◌+◌, ◌-◌, ◌*◌, ◌<◌, ◌≤◌, max, List, [], ◌∷◌, ◌++◌, map, filter, length, take, drop, true, false, cond, ◌&&◌, refl, sym, ap, ◌∙◌, subst, arith, inl, inr, ◌⊎◌, ◌==◌, sum_by, count_by, eqb-true}
+use Rattle.std.specs.Prelude.{nat_lt}
 use Rattle.std.specs.List.{AllByRecursion, range_with_len}
 use Rattle.std.specs.Ordering.{nat_cmp}
 use Rattle.std.proofs.lemmas.Bool.{cases_lt, cases_eq}
@@ -11,12 +11,11 @@ use Rattle.ranking_model.specs.declared.entry.Entry.{Entry}
 use Rattle.jass_base.specs.declared.named.Named.{Named}
 use Rattle.ranking_model.specs.declared.posting.WeightedPosting.{WeightedPosting}
 use Rattle.ranking_model.specs.declared.class.Class.{Class}
-use Rattle.ranking_model.specs.declared.plan.QueryPlan.{QueryPlan}
 use Rattle.ranking_model.specs.Flat.{IsFlat}
 use Rattle.ranking_model.specs.Postings.{weighted_at, weighted_from, weighted_postings}
 use Rattle.ranking_model.specs.Plan.{is_of, begun, classes_of, plan_of}
 use Rattle.ranking_model.specs.Scores.{gain_of, greatest_weight, bound_after, scores_after}
-use Rattle.ranking_model.specs.Finality.{AreGains, raised}
+use Rattle.ranking_model.specs.Finality.{raised, GainsUpTo}
 use Rattle.ranking_model.proofs.Sorting.{either}
 use Rattle.ranking_model.proofs.Totals.{sum_range_more}
 use Rattle.ranking_model.proofs.Grouping.{more, classes_sum, classes_all}
@@ -42,8 +41,10 @@ at_next : (doc place : ℕ) (c : Class) (p : WeightedPosting) → is_of c p ≡ 
 at_next doc place c p e = by (either (p.place == place)) where
   same : c.place ≡ p.place
   same = grind (arith, nat_tests)
+
   pushed : count_by (λ d. d == doc) (c.docs ++ p.doc ∷ []) ≡ count_by (λ d. d == doc) c.docs + cond (p.doc == doc) 1 0
   pushed = sum_by_push (λ d. cond (d == doc) 1 0) c.docs p.doc
+
   by : ((p.place == place) ≡ true) ⊎ ((p.place == place) ≡ false) → count_at doc place (more c p.doc) ≡ count_at doc place c + one_at doc place p
   by (inl k) = rw (same, k) pushed
   by (inr k) = rw (same, k) refl
@@ -99,6 +100,7 @@ once_in_place doc place from [] flat p = omega arith
 once_in_place doc place from (named ∷ terms) flat p = by (cases_eq from place) (once_in_place doc place (suc from) terms flat p) where
   split : sum_by (one_at doc place) (weighted_from from (named ∷ terms) flat) ≡ sum_by (one_at doc place) (weighted_at from named flat) + sum_by (one_at doc place) (weighted_from (suc from) terms flat)
   split = sum_by-append (one_at doc place) (weighted_at from named flat) (weighted_from (suc from) terms flat)
+
   by : (from ≡ place) ⊎ (from ≡ place → ⊥) → sum_by (one_at doc place) (weighted_from (suc from) terms flat) ≤ 1 → sum_by (one_at doc place) (weighted_from from (named ∷ terms) flat) ≤ 1
   by (inl e) rest =
       let others = above_place doc place (suc from) terms flat (omega arith) in
@@ -125,6 +127,7 @@ none_at doc place [] h = refl
 none_at doc place (c ∷ cs) h = by (either (c.place == place)) (none_at doc place cs) where
   parts : count_at doc place c + sum_by (count_at doc place) cs ≡ 0
   parts = sym (sum_by-cons (count_at doc place) c cs) ∙ h
+
   by : ((c.place == place) ≡ true) ⊎ ((c.place == place) ≡ false) → (sum_by (count_at doc place) cs ≡ 0 → sum_by (gain_at doc place) cs ≡ 0) → sum_by (gain_at doc place) (c ∷ cs) ≡ 0
   by (inl e) rest =
       let split = rw e at parts in
@@ -139,9 +142,11 @@ place_gain doc place [] h = omega arith
 place_gain doc place (c ∷ cs) h = by (either (c.place == place)) (place_gain doc place cs) where
   parts : count_at doc place c + sum_by (count_at doc place) cs ≤ 1
   parts = rw (sum_by-cons (count_at doc place) c cs) at h
+
   here : (n w rest best : ℕ) → n ≤ 1 → (n ≡ 0 → rest ≤ best) → (1 ≤ n → rest ≡ 0) → w * n + rest ≤ max w best
   here zero w rest best a b c = let less = b refl in omega arith
   here (suc n) w rest best a b c = let none = c (omega arith) in let e : n ≡ 0 = omega arith in rw (none, e) (omega arith)
+
   by : ((c.place == place) ≡ true) ⊎ ((c.place == place) ≡ false) → (sum_by (count_at doc place) cs ≤ 1 → sum_by (gain_at doc place) cs ≤ greatest_weight place cs) → sum_by (gain_at doc place) (c ∷ cs) ≤ greatest_weight place (c ∷ cs)
   by (inl e) rest =
       let split = rw e at parts in
@@ -172,8 +177,10 @@ single at x zero = let past : nat_lt at 0 ≡ false = grind (arith, nat_tests) i
 single at x (suc n) = by (cases_lt at n) (cases_eq at n) (single at x n) where
   f : ℕ → ℕ
   f place = cond (at == place) x 0
+
   grown : sum_by (λ place. cond (at == place) x 0) (range_with_len 0 (suc n)) ≡ sum_by (λ place. cond (at == place) x 0) (range_with_len 0 n) + cond (at == n) x 0
   grown = let one : n + 1 ≡ suc n = omega arith in rw one at (sum_range_more (λ place. cond (at == place) x 0) n)
+
   by : (at < n) ⊎ (n ≤ at) → (at ≡ n) ⊎ (at ≡ n → ⊥) → sum_by (λ place. cond (at == place) x 0) (range_with_len 0 n) ≡ cond (nat_lt at n) x 0 → sum_by (λ place. cond (at == place) x 0) (range_with_len 0 (suc n)) ≡ cond (nat_lt at (suc n)) x 0
   by (inl k) e rest =
       let a : nat_lt at n ≡ true = grind (arith, nat_tests) in
@@ -197,7 +204,7 @@ by_place doc places (c ∷ cs) h =
     let within : nat_lt c.place places ≡ true = (let less = h.0 in grind (arith, nat_tests)) in
     let own : sum_by (λ place. gain_at doc place c) (range_with_len 0 places) ≡ gain_of doc c = single c.place (gain_of doc c) places ∙ rw within refl in
     let spread : sum_by (λ place. sum_by (gain_at doc place) (c ∷ cs)) (range_with_len 0 places) ≡ sum_by (λ place. gain_at doc place c + sum_by (gain_at doc place) cs) (range_with_len 0 places) =
-        ap (λ (f : ℕ → ℕ). sum_by f (range_with_len 0 places)) (λ i place. sum_by-cons (gain_at doc place) c cs i) in
+    ap (λ (f : ℕ → ℕ). sum_by f (range_with_len 0 places)) (λ i place. sum_by-cons (gain_at doc place) c cs i) in
     let parts = sum_plus (λ place. gain_at doc place c) (λ place. sum_by (gain_at doc place) cs) (range_with_len 0 places) in
     let rest = by_place doc places cs h.1 in
     sum_by-cons (gain_of doc) c cs ∙ omega arith
@@ -208,6 +215,7 @@ in_places from (named ∷ terms) flat = both (filter (λ e. e.term == named.term
   raise : (ps : List WeightedPosting) → AllByRecursion (λ p. p.place < suc from + length terms) ps → AllByRecursion (λ p. p.place < from + suc (length terms)) ps
   raise [] h = tt
   raise (p ∷ ps) h = (let less = h.0 in omega arith, raise ps h.1)
+
   both : (es : List (Entry ℕ)) → AllByRecursion (λ p. p.place < from + suc (length terms)) (weighted_from (suc from) terms flat) → AllByRecursion (λ p. p.place < from + suc (length terms)) (map (weigh from named.times) es ++ weighted_from (suc from) terms flat)
   both [] rest = rest
   both (e ∷ es) rest = (omega arith, both es rest)
@@ -216,15 +224,18 @@ in_places from (named ∷ terms) flat = both (filter (λ e. e.term == named.term
 rest_within : (doc docs n : ℕ) (terms : List Named) (flat : List (Entry ℕ)) → IsFlat nat_cmp docs flat → sum_by (gain_of doc) (drop n (classes_of (weighted_postings flat terms))) ≤ bound_after n (plan_of docs flat terms)
 rest_within doc docs n terms flat f =
     rw (by_place doc (length terms) (drop n classes) (all_drop (λ c. c.place < length terms) n classes places))
-      (sum_le (λ place. sum_by (gain_at doc place) (drop n classes)) (λ place. greatest_weight place (drop n classes)) (range_with_len 0 (length terms)) (λ place. place_gain doc place (drop n classes) (few place)))
+    (sum_le (λ place. sum_by (gain_at doc place) (drop n classes)) (λ place. greatest_weight place (drop n classes)) (range_with_len 0 (length terms)) (λ place. place_gain doc place (drop n classes) (few place)))
   where
     classes : List Class
     classes = classes_of (weighted_postings flat terms)
+
     from_zero : (ps : List WeightedPosting) → AllByRecursion (λ p. p.place < 0 + length terms) ps → AllByRecursion (λ p. p.place < length terms) ps
     from_zero [] h = tt
     from_zero (p ∷ ps) h = (let less = h.0 in omega arith, from_zero ps h.1)
+
     places : AllByRecursion (λ c. c.place < length terms) (classes_of (weighted_postings flat terms))
     places = classes_all (λ c. c.place < length terms) (λ p. p.place < length terms) (λ p h. h) (λ c p e h k. h) (weighted_postings flat terms) (from_zero _ (in_places 0 terms flat))
+
     few : (place : ℕ) → sum_by (count_at doc place) (drop n (classes_of (weighted_postings flat terms))) ≤ 1
     few place =
         let all = classes_once doc place terms flat (pairs_by_recursion _ flat f.once) in
@@ -247,23 +258,30 @@ all_mapped g bound (x ∷ xs) h = (h x, all_mapped g bound xs h)
 
 -- later scores are earlier ones with gains up to the bound
 pub later_scores : (docs n m : ℕ) (terms : List Named) (flat : List (Entry ℕ)) → IsFlat nat_cmp docs flat → n ≤ m
-    → (gains : List ℕ) × AreGains (bound_after n (plan_of docs flat terms)) (scores_after n (plan_of docs flat terms)) gains × (raised (scores_after n (plan_of docs flat terms)) gains ≡ scores_after m (plan_of docs flat terms))
-later_scores docs n m terms flat f h = (map gain (range_with_len 0 docs), record { each = same_length (score n) gain (range_with_len 0 docs); within = all_mapped gain _ (range_with_len 0 docs) most },
-    raised_map (score n) gain (range_with_len 0 docs) ∙ ap (λ (g : ℕ → ℕ). map g (range_with_len 0 docs)) (λ i doc. joins doc i))
+    → GainsUpTo (bound_after n (plan_of docs flat terms)) (scores_after n (plan_of docs flat terms)) (scores_after m (plan_of docs flat terms))
+later_scores docs n m terms flat f h = record {
+  gains = map gain (range_with_len 0 docs);
+  within = record { each = same_length (score n) gain (range_with_len 0 docs); within = all_mapped gain _ (range_with_len 0 docs) most };
+  reach = raised_map (score n) gain (range_with_len 0 docs) ∙ ap (λ (g : ℕ → ℕ). map g (range_with_len 0 docs)) (λ i doc. joins doc i);
+}
   where
     classes : List Class
     classes = classes_of (weighted_postings flat terms)
+
     score : ℕ → ℕ → ℕ
     score k doc = sum_by (gain_of doc) (take k (classes_of (weighted_postings flat terms)))
+
     gain : ℕ → ℕ
     gain doc = sum_by (gain_of doc) (take (m - n) (drop n (classes_of (weighted_postings flat terms))))
+
     most : (doc : ℕ) → sum_by (gain_of doc) (take (m - n) (drop n (classes_of (weighted_postings flat terms)))) ≤ bound_after n (plan_of docs flat terms)
     most doc = let part = sum_by-take-le (gain_of doc) (drop n (classes_of (weighted_postings flat terms))) (m - n) in let all = rest_within doc docs n terms flat f in omega arith
+
     joins : (doc : ℕ) → sum_by (gain_of doc) (take n (classes_of (weighted_postings flat terms))) + sum_by (gain_of doc) (take (m - n) (drop n (classes_of (weighted_postings flat terms)))) ≡ sum_by (gain_of doc) (take m (classes_of (weighted_postings flat terms)))
     joins doc =
         let split = sum_by-take-drop (gain_of doc) (take m (classes_of (weighted_postings flat terms))) n in
         let front = take-take n m (classes_of (weighted_postings flat terms)) h in
         let whole : n + (m - n) ≡ m = omega arith in
         let back : drop n (take m (classes_of (weighted_postings flat terms))) ≡ take (m - n) (drop n (classes_of (weighted_postings flat terms))) =
-            ap (λ k. drop n (take k (classes_of (weighted_postings flat terms)))) (sym whole) ∙ drop-take n (m - n) (classes_of (weighted_postings flat terms)) in
+        ap (λ k. drop n (take k (classes_of (weighted_postings flat terms)))) (sym whole) ∙ drop-take n (m - n) (classes_of (weighted_postings flat terms)) in
         rw (front, back) at split

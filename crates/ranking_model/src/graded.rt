@@ -2,7 +2,8 @@
 //! where it doesn't, by gains that change it.
 
 ghost use Rattle.ranking_model.specs.Report.{IsReport};
-ghost use Rattle.ranking_model.specs.Examples.{report, cat_dog, a_once, a_twice, cat_twice_dog, close_a, p_q_lower, p_q_higher, p_q_swapping};
+ghost use Rattle.ranking_model.specs.Examples.{report, cat_dog, a_once, a_twice, cat_twice_dog, close_a};
+ghost use Rattle.ranking_model.specs.Examples.{p_q_lower, p_q_higher, p_q_swapping};
 
 use jass_base::Grade;
 
