@@ -1,10 +1,12 @@
 //! The definitions run on small indexes (`specs/Examples.antt`): each clause is proved by computing
 //! both sides. The reports beside these answers stand in the module `graded`.
 
-ghost use Rattle.std.specs.Prelude.{◌≡◌, ◌^◌, ◌-◌, [], ◌∷◌};
+ghost use Rattle.std.specs.Prelude.{◌≡◌, ◌^◌, ◌-◌, [], ◌∷◌, ◌++◌, codes};
 ghost use Rattle.ranking_model.specs.Plan.{prefix_within, granted_sum, most};
 ghost use Rattle.ranking_model.specs.Scores.{scores_after, top_k, runner_up, least_untouched};
-ghost use Rattle.ranking_model.specs.Examples.{hit, cat_dog, cat_twice_dog, a_once, a_twice, close_a};
+ghost use Rattle.ranking_model.specs.Report.{tag_of, run_lines};
+ghost use Rattle.ranking_model.specs.Search.{query_run};
+ghost use Rattle.ranking_model.specs.Examples.{hit, pet_names, cat_dog, cat_twice_dog, a_once, a_twice, close_a};
 ghost use Rattle.ranking_model.specs.Examples.{p_q_lower, p_q_higher, p_q_swapping};
 
 use jass_base::Budget;
@@ -82,3 +84,18 @@ pub fn grants_add_up()
     ensures stops { let greatest = Budget.Postings 18446744073709551615 in
         granted_sum (greatest ∷ greatest ∷ []) ≡ 2 ^ 64 - 1 }
 {}
+
+/// `cat dog` with two hits, at a budget of 2 postings and then of all: an answer for each, as the
+/// parts 1 and 2 of the run. A single budget makes no parts.
+pub fn a_run_of_two_budgets()
+    ensures two {
+        let id = codes "301" in
+        query_run pet_names cat_dog id 2 (Budget.Postings 2 ∷ Budget.All ∷ []) (codes "jass")
+            ≡ run_lines pet_names id (tag_of (codes "jass") 1) 1 (hit 0 3 ∷ hit 2 3 ∷ [])
+                ++ (run_lines pet_names id (tag_of (codes "jass") 2) 1 (hit 0 3 ∷ hit 1 3 ∷ []) ++ []) }
+    ensures one {
+        let id = codes "301" in
+        query_run pet_names cat_dog id 2 (Budget.All ∷ []) (codes "jass")
+            ≡ run_lines pet_names id (codes "jass") 1 (hit 0 3 ∷ hit 1 3 ∷ []) ++ [] }
+{
+}
