@@ -11,8 +11,8 @@ use Rattle.std.specs.Cmp.{IsTotalOrder}
 use Rattle.std.proofs.lemmas.Cmp.{then_total, on_total, back_total, nat_cmp_total}
 use Rattle.ranking_model.specs.declared.class.Class.{Class}
 use Rattle.ranking_model.specs.declared.posting.WeightedPosting.{WeightedPosting}
-use Rattle.ranking_model.specs.Postings.{place_cmp}
-use Rattle.ranking_model.specs.Plan.{plan_cmp, is_of, begun, joined, ends_in, last_with}
+use Rattle.ranking_model.specs.Programs.{ends_in, last_with, place_cmp}
+use Rattle.ranking_model.specs.Plan.{plan_cmp, is_of, begun, joined}
 use Rattle.ranking_model.proofs.Sorting.{Ascends}
 
 pub plan_total : IsTotalOrder plan_cmp

@@ -10,3 +10,4 @@ pub mod Parting
 pub mod Segments
 pub mod Numbering
 pub mod Documents
+pub mod Rest

@@ -1,10 +1,10 @@
 -- Terms by number keep the order that they have by their bytes.
-use Rattle.std.proofs.Common.{◌≡◌, ◌≢◌, ℕ, zero, suc, ◌+◌, ◌<◌, ◌≤◌, List, [], ◌∷◌, map, filter, length, get_or, Bool, true, false, true≢false, cond, not, ◌||◌, refl, sym, ap, ◌∙◌, subst, arith, inl, inr, ◌⊎◌, bytes_eq}
-use Rattle.std.specs.Prelude.{⊤, All, AllPairs, IsSorted}
-use Rattle.std.specs.List.{AllByRecursion, list_any, position_or_len}
+use Rattle.std.proofs.Common.{◌≡◌, ◌≢◌, ℕ, zero, suc, ◌<◌, ◌≤◌, List, [], ◌∷◌, map, filter, true, false, true≢false, not, refl, sym, ap, ◌∙◌, subst, arith, inl, inr, ◌⊎◌, bytes_eq}
+use Rattle.std.specs.Prelude.{⊤, AllPairs}
+use Rattle.std.specs.List.{AllByRecursion, list_any}
 use Rattle.std.specs.declared.cmp.Ordering.{Ordering}
 use Rattle.std.specs.declared.cmp.Ordering.TheVariants.{Less, Equal, Greater}
-use Rattle.std.specs.Ordering.{is_gt, is_eq, nat_cmp, ordering_then, ordering_reverse}
+use Rattle.std.specs.Ordering.{is_gt, is_eq, nat_cmp, ordering_reverse}
 use Rattle.std.specs.Cmp.{IsTotalOrder, tied_itself}
 use Rattle.std.specs.Cmp.Lexicographic.{slice_cmp}
 use Rattle.std.specs.FinMap.{slice_cmp-IsAntisymmetric, nat_cmp-IsAntisymmetric}
@@ -72,6 +72,7 @@ number_rises x y [] r a b e = absurd (true≢false (sym a))
 number_rises x y (t ∷ ts) r a b e = by (either (bytes_eq t x)) (either (bytes_eq t y)) (number_rises x y ts r.1) where
   o : IsTotalOrder text_cmp
   o = nat_list_cmp_total
+
   by : (bytes_eq t x ≡ true) ⊎ (bytes_eq t x ≡ false) → (bytes_eq t y ≡ true) ⊎ (bytes_eq t y ≡ false) → (Among ts x → Among ts y → text_cmp x y ≡ Less → number_of ts x < number_of ts y)
       → number_of (t ∷ ts) x < number_of (t ∷ ts) y
   by (inl p) (inl q) rest = absurd (true≢false (sym (itself x) ∙ eq_by x x Less (subst (λ (z : List ℕ). text_cmp x z ≡ Less) (sym (equal t y q) ∙ equal t x p) e)))
@@ -117,12 +118,14 @@ terms_rise (e ∷ es) a = (before (terms_of es) (all_terms (λ t. is_gt (text_cm
   orders : (fs : List (Entry (List ℕ))) → AllByRecursion (λ f. is_gt (flat_cmp e f) ≡ false) fs → AllByRecursion (λ f. is_gt (text_cmp e.term f.term) ≡ false) fs
   orders [] h = tt
   orders (f ∷ fs) h = (term_order e f h.0, orders fs h.1)
+
   less : (t : List ℕ) → is_gt (text_cmp e.term t) ≡ false → bytes_eq t e.term ≡ false → text_cmp e.term t ≡ Less
   less t h k = by (text_cmp e.term t) refl where
     by : (r : Ordering) → text_cmp e.term t ≡ r → text_cmp e.term t ≡ Less
     by Less i = i
     by Equal i = absurd (true≢false (sym (subst (λ (z : List ℕ). bytes_eq z e.term ≡ true) (same_text e.term t i) (itself e.term)) ∙ k))
     by Greater i = absurd (true≢false (sym (ap is_gt i) ∙ h))
+
   before : (ts : List (List ℕ)) → AllByRecursion (λ t. is_gt (text_cmp e.term t) ≡ false) ts → AllByRecursion (λ u. text_cmp e.term u ≡ Less) (filter (λ term. not (bytes_eq term e.term)) ts)
   before [] h = tt
   before (t ∷ ts) h = one (either (bytes_eq t e.term)) (before ts h.1) where
@@ -130,6 +133,7 @@ terms_rise (e ∷ es) a = (before (terms_of es) (all_terms (λ t. is_gt (text_cm
         → AllByRecursion (λ u. text_cmp e.term u ≡ Less) (filter (λ term. not (bytes_eq term e.term)) (t ∷ ts))
     one (inl p) rest = rw p rest
     one (inr p) rest = rw p (less t h.0 p, rest)
+
   behind : (t : List ℕ) (ts : List (List ℕ)) → AllByRecursion (λ u. text_cmp t u ≡ Less) ts → AllByRecursion (λ u. text_cmp t u ≡ Less) (filter (λ term. not (bytes_eq term e.term)) ts)
   behind t [] h = tt
   behind t (u ∷ us) h = one (either (bytes_eq u e.term)) (behind t us h.1) where
@@ -137,6 +141,7 @@ terms_rise (e ∷ es) a = (before (terms_of es) (all_terms (λ t. is_gt (text_cm
         → AllByRecursion (λ u. text_cmp t u ≡ Less) (filter (λ term. not (bytes_eq term e.term)) (u ∷ us))
     one (inl p) rest = rw p rest
     one (inr p) rest = rw p (h.0, rest)
+
   kept : (ts : List (List ℕ)) → Rises ts → Rises (filter (λ term. not (bytes_eq term e.term)) ts)
   kept [] h = tt
   kept (t ∷ ts) h = one (either (bytes_eq t e.term)) (kept ts h.1) where
@@ -150,6 +155,7 @@ all_among [] = tt
 all_among (e ∷ es) = (here, rest es (all_among es)) where
   here : Among (terms_of (e ∷ es)) e.term
   here = let same = itself e.term in rw same refl
+
   rest : (fs : List (Entry (List ℕ))) → AllByRecursion (λ f. Among (terms_of es) f.term) fs → AllByRecursion (λ f. Among (terms_of (e ∷ es)) f.term) fs
   rest [] h = tt
   rest (f ∷ fs) h = (one (either (bytes_eq e.term f.term)), rest fs h.1) where
@@ -209,15 +215,17 @@ pairs_from_recursion R (x ∷ xs) h (suc i) (suc j) d low high = pairs_from_recu
 
 pub numbered_is_flat : (docs : ℕ) (flat : List (Entry (List ℕ))) → IsFlat text_cmp docs flat → IsFlat nat_cmp docs (numbered flat)
 numbered_is_flat docs flat f = record {
-    order = sorted_ascending (entry_cmp nat_cmp) entry_total (numbered flat) (numbered_ascends ts rise flat (all_among flat) ascends);
-    once = pairs_from_recursion _ (numbered flat) (numbered_once ts rise flat (all_among flat) (pairs_by_recursion _ flat f.once));
-    documents = All-from_recursion _ (numbered flat) (all_map (with_number ts rise) (λ e. e.doc < docs) flat (recursion_from_All _ flat f.documents));
-    impacts = All-from_recursion _ (numbered flat) (all_map (with_number ts rise) (λ e. (1 ≤ e.impact) × (e.impact ≤ 65535)) flat (recursion_from_All _ flat f.impacts));
-  }
+  order = sorted_ascending (entry_cmp nat_cmp) entry_total (numbered flat) (numbered_ascends ts rise flat (all_among flat) ascends);
+  once = pairs_from_recursion _ (numbered flat) (numbered_once ts rise flat (all_among flat) (pairs_by_recursion _ flat f.once));
+  documents = All-from_recursion _ (numbered flat) (all_map (with_number ts rise) (λ e. e.doc < docs) flat (recursion_from_All _ flat f.documents));
+  impacts = All-from_recursion _ (numbered flat) (all_map (with_number ts rise) (λ e. (1 ≤ e.impact) × (e.impact ≤ 65535)) flat (recursion_from_All _ flat f.impacts));
+}
   where
     ts : List (List ℕ)
     ts = terms_of flat
+
     ascends : Ascends flat_cmp flat
     ascends = ascends_sorted flat_cmp flat_total flat f.order
+
     rise : Rises ts
     rise = terms_rise flat ascends

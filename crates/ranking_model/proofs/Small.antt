@@ -9,12 +9,13 @@ use Rattle.std.proofs.lemmas.List.Elements.{recursion_from_All}
 use Rattle.std.proofs.lemmas.List.Sums.{sum_by_push, sum_by-take-le, sum_by-le}
 use Rattle.std.proofs.lemmas.List.FromFn.{length-range_with_len}
 use Rattle.ranking_model.specs.declared.entry.Entry.{Entry}
+use Rattle.ranking_model.specs.Programs.{AreLight}
 use Rattle.jass_base.specs.declared.named.Named.{Named}
 use Rattle.ranking_model.specs.declared.posting.WeightedPosting.{WeightedPosting}
 use Rattle.ranking_model.specs.declared.class.Class.{Class}
 use Rattle.ranking_model.specs.declared.plan.QueryPlan.{QueryPlan}
 use Rattle.ranking_model.specs.Flat.{IsFlat}
-use Rattle.ranking_model.specs.Postings.{AreTerms, AreLight, weighted_postings}
+use Rattle.ranking_model.specs.Postings.{AreTerms, weighted_postings}
 use Rattle.ranking_model.specs.Plan.{is_of, begun, classes_of, plan_of}
 use Rattle.ranking_model.specs.Scores.{adds, gain_of, greatest_weight, bound_after}
 use Rattle.ranking_model.specs.Limits.{IsSmall}
@@ -56,7 +57,7 @@ gains doc ps = classes_sum (gain_of doc) (adds doc) (gain_first doc) (gain_next 
 
 -- ---- the bound
 
-all_drop : {A : Type 0} (P : A → Type 0) (n : ℕ) (xs : List A) → AllByRecursion P xs → AllByRecursion P (drop n xs)
+pub all_drop : {A : Type 0} (P : A → Type 0) (n : ℕ) (xs : List A) → AllByRecursion P xs → AllByRecursion P (drop n xs)
 all_drop P zero xs h = h
 all_drop P (suc n) [] h = tt
 all_drop P (suc n) (x ∷ xs) h = all_drop P n xs h.1

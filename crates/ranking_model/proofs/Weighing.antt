@@ -9,10 +9,11 @@ use Rattle.std.proofs.lemmas.Bool.Decides.{nat_tests}
 use Rattle.std.proofs.lemmas.List.Elements.{recursion_from_All}
 use Rattle.std.proofs.lemmas.List.Sums.{sum_by-cons, sum_by-append}
 use Rattle.ranking_model.specs.declared.entry.Entry.{Entry}
+use Rattle.ranking_model.specs.Programs.{place_cmp}
 use Rattle.jass_base.specs.declared.named.Named.{Named}
 use Rattle.ranking_model.specs.declared.posting.WeightedPosting.{WeightedPosting}
 use Rattle.ranking_model.specs.Flat.{entry_cmp, IsFlat}
-use Rattle.ranking_model.specs.Postings.{AreTerms, weighted_at, weighted_from, weighted_postings, place_cmp}
+use Rattle.ranking_model.specs.Postings.{AreTerms, weighted_at, weighted_from, weighted_postings}
 use Rattle.ranking_model.specs.Scores.{adds}
 use Rattle.ranking_model.proofs.Sorting.{Ascends, either, ascends_sorted, ascends_filter, ascends_append, sorted_ascending}
 use Rattle.ranking_model.proofs.Classes.{place_total}

@@ -26,6 +26,10 @@ report postings segments of cutoff next bound grade = record { postings = postin
 abbrev pub pets : List (Entry (List ℕ))
 pets = entry (codes "cat") 0 3 ∷ entry (codes "cat") 1 1 ∷ entry (codes "cat") 3 1 ∷ entry (codes "dog") 2 3 ∷ entry (codes "dog") 1 2 ∷ []
 
+-- their names
+abbrev pub pet_names : List (List ℕ)
+pet_names = codes "d0" ∷ codes "d1" ∷ codes "d2" ∷ codes "d3" ∷ []
+
 -- three documents with `a`
 abbrev pub falling : List (Entry (List ℕ))
 falling = entry (codes "a") 0 9 ∷ entry (codes "a") 1 5 ∷ entry (codes "a") 2 1 ∷ []

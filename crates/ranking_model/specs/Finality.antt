@@ -17,6 +17,12 @@ raised [] gains = []
 raised (score ∷ scores) [] = score ∷ scores
 raised (score ∷ scores) (gain ∷ gains) = (score + gain) ∷ raised scores gains
 
+-- the later scores are the scores with some gains up to the bound
+pub record GainsUpTo (bound : ℕ) (scores later : List ℕ) : Type 0 where
+  pub gains : List ℕ
+  pub within : AreGains bound scores gains
+  pub reach : raised scores gains ≡ later
+
 -- the documents of the first k
 abbrev pub first_documents : List ℕ → ℕ → List ℕ
 first_documents scores k = map (λ hit. hit.doc) (first_ranked scores k)

@@ -1,7 +1,7 @@
 ghost use Rattle.std.specs.Prelude.{◌≡◌, ◌<◌, [], ◌∷◌, ◌++◌, IfOk, OnOk, fold, IsSorted, vec_len};
 ghost use Rattle.ranking_model.specs.Order.{sorted};
-ghost use Rattle.ranking_model.specs.Postings.{place_cmp};
-ghost use Rattle.ranking_model.specs.Plan.{begun, joined, ends_in, last_with, plan_cmp, classes_of};
+ghost use Rattle.ranking_model.specs.Programs.{ends_in, last_with, place_cmp};
+ghost use Rattle.ranking_model.specs.Plan.{begun, joined, plan_cmp, classes_of};
 
 use crate::posting::WeightedPosting;
 use jass_base::{NoMemory, Row};

@@ -1,10 +1,13 @@
 //! The reports of the small indexes with their grades: where the answer stands, for all gains, and
 //! where it doesn't, by gains that change it.
 
+ghost use Rattle.std.specs.Prelude.{[], ◌∷◌};
 ghost use Rattle.ranking_model.specs.Report.{IsReport};
-ghost use Rattle.ranking_model.specs.Examples.{report, cat_dog, a_once, a_twice, cat_twice_dog, close_a, p_q_lower, p_q_higher, p_q_swapping};
+ghost use Rattle.ranking_model.specs.Search.{AreReports};
+ghost use Rattle.ranking_model.specs.Examples.{report, cat_dog, a_once, a_twice, cat_twice_dog, close_a};
+ghost use Rattle.ranking_model.specs.Examples.{p_q_lower, p_q_higher, p_q_swapping};
 
-use jass_base::Grade;
+use jass_base::{Budget, Grade};
 
 /// Where all is scored, nothing can be gained.
 pub fn exhaustive_answers_are_final()
@@ -55,3 +58,11 @@ pub fn a_final_answer_opens_again()
     ensures first { IsReport 1 close_a 1 (report 1 1 3 9 8 8 Grade.Final) }
     ensures second { IsReport 2 close_a 1 (report 2 2 3 8 7 7 Grade.Open) }
 {}
+
+/// The reports of `cat dog` with two hits, at a budget of 2 postings and then of all.
+pub fn reports_of_two_budgets()
+    ensures {
+        AreReports cat_dog 2 (Budget.Postings 2 ∷ Budget.All ∷ [])
+            (report 2 2 4 3 2 3 Grade.Open ∷ report 5 4 4 1 0 0 Grade.Final ∷ []) }
+{
+}

@@ -9,8 +9,8 @@ mod bound;
 mod budget;
 mod class;
 mod entry;
-mod examples;
-mod graded;
+pub mod examples;
+pub mod graded;
 pub mod laws;
 mod plan;
 mod posting;
@@ -31,3 +31,6 @@ pub use rank::first_ranked;
 pub use report::report_of;
 pub use scores::scores_after;
 pub use standing::{Standing, standing_of};
+
+#[cfg(test)]
+mod tests;

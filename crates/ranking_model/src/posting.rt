@@ -1,5 +1,6 @@
 ghost use Rattle.std.specs.Prelude.{◌≡◌, ◌*◌, ◌≤◌, ◌++◌, length, IfOk, OnOk};
-ghost use Rattle.ranking_model.specs.Postings.{AreLight, weighted_at, weighted_postings};
+ghost use Rattle.ranking_model.specs.Postings.{weighted_at, weighted_postings};
+ghost use Rattle.ranking_model.specs.Programs.{AreLight};
 
 use crate::entry::Entry;
 use jass_base::{Named, NoMemory, Row};

@@ -1,7 +1,7 @@
 -- Each posting joins the last class or begins one, as the definition says.
 use Rattle.std.proofs.Common.{◌∙◌, ap, Vec, Global}
 use Rattle.ranking_model.specs.declared.class.Class.{Class}
-use Rattle.ranking_model.specs.Postings.{place_cmp}
+use Rattle.ranking_model.specs.Programs.{place_cmp}
 use Rattle.ranking_model.proofs.Sorting.{ascends_sorted}
 use Rattle.ranking_model.proofs.Classes.{place_total, grouped_joins, grouped_begins}
 use Rattle.ranking_model.proofs.class.group.Goals.{then-continues+in_ok-add_to_last, else-continues+in_ok-begin}

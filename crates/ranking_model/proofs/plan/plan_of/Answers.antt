@@ -1,7 +1,7 @@
 use Rattle.std.proofs.Common.{◌∙◌, sym, ap, subst, length, List}
 use Rattle.std.specs.Prelude.{IsSorted}
 use Rattle.ranking_model.specs.declared.class.Class.{Class}
-use Rattle.ranking_model.specs.Postings.{AreLight, place_cmp}
+use Rattle.ranking_model.specs.Programs.{AreLight, place_cmp}
 use Rattle.ranking_model.specs.Plan.{classes_of}
 use Rattle.ranking_model.specs.Limits.{IsSmall}
 use Rattle.ranking_model.proofs.Weighing.{weighted_in_order}

@@ -1,5 +1,6 @@
 use Rattle.std.proofs.Common.{◌≡◌, ◌++◌, drop}
-use Rattle.ranking_model.specs.Postings.{AreLight, weighted_at}
+use Rattle.ranking_model.specs.Postings.{weighted_at}
+use Rattle.ranking_model.specs.Programs.{AreLight}
 use Rattle.ranking_model.proofs.posting.weigh.Given as goal
 
 abbrev pub invariant-loop-entry : goal.invariant-loop-entry

@@ -1,5 +1,6 @@
 use Rattle.std.proofs.Common.{◌≡◌, ◌++◌, drop}
-use Rattle.ranking_model.specs.Postings.{AreLight, weighted_from, weighted_postings}
+use Rattle.ranking_model.specs.Postings.{weighted_from, weighted_postings}
+use Rattle.ranking_model.specs.Programs.{AreLight}
 use Rattle.ranking_model.proofs.posting.weighted_postings.Given as goal
 
 abbrev pub invariant-loop-place : goal.invariant-loop-place
