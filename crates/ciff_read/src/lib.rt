@@ -16,3 +16,6 @@ mod terms;
 
 pub use collection::read_collection;
 pub use refusal::{CiffFault, CiffRefusal, CiffWhy};
+
+#[cfg(test)]
+mod tests;
