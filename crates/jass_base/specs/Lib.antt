@@ -6,3 +6,4 @@ pub mod Outside
 pub mod Postings
 pub mod Segments
 pub mod Terms
+pub mod Wire
