@@ -1,4 +1,7 @@
 pub mod Judging
 pub mod Kept
+pub mod Reading
+pub mod Refusals
 pub mod Seen
 pub mod Table
+pub mod Walking

@@ -1,3 +1,5 @@
+pub mod Ciff
+pub mod CiffViews
 pub mod Decimal
 pub mod FilesOf
 pub mod Limits

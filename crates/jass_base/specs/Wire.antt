@@ -50,8 +50,8 @@ wire_of (Eight bytes) = 1
 wire_of (Text bytes) = 2
 wire_of (Four bytes) = 5
 
--- a text: the varint of its length, and its bytes
-pub record IsText (s bytes : List ℕ) : Type 0 where
+-- bytes behind the varint of their length
+pub record IsSized (s bytes : List ℕ) : Type 0 where
   pub size : List ℕ
   pub parts : s ≡ size ++ bytes
   pub sized : IsVarint size (length bytes)
@@ -60,7 +60,7 @@ pub record IsText (s bytes : List ℕ) : Type 0 where
 abbrev pub IsValue : List ℕ → WireValue → Type 0
 IsValue s (Number n) = IsVarint s n
 IsValue s (Eight bytes) = (s ≡ bytes) × (length bytes ≡ 8)
-IsValue s (Text bytes) = IsText s bytes
+IsValue s (Text bytes) = IsSized s bytes
 IsValue s (Four bytes) = (s ≡ bytes) × (length bytes ≡ 4)
 
 -- a field: the varint of its number and wire type, and its value
