@@ -1,3 +1,7 @@
+pub mod Answering
+pub mod FieldValues
+pub mod Messages
 pub mod Postings
 pub mod Tables
 pub mod TermLists
+pub mod Walks

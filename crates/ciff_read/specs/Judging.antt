@@ -20,6 +20,27 @@ pub record FileStart : Type 0 where
   pub lists : ℕ
   pub docs : ℕ
 
+-- a postings list without its postings
+pub record ListStart : Type 0 where
+  pub term : List ℕ
+  pub df : ℕ
+  pub cf : ℕ
+
+-- a document's record with its number
+pub record NumberedDoc : Type 0 where
+  pub number : ℕ
+  pub doc : DocData
+
+-- what the fields of each message stand for
+abbrev pub start_of : List WireField → FileStart
+start_of fields = record { header = header_of fields; lists = number_field 2 fields; docs = number_field 3 fields }
+
+abbrev pub list_start_of : List WireField → ListStart
+list_start_of fields = record { term = text_field 1 fields; df = number_field 2 fields; cf = number_field 3 fields }
+
+abbrev pub numbered_of : List WireField → NumberedDoc
+numbered_of fields = record { number = number_field 1 fields; doc = record { name = text_field 2 fields; length = number_field 3 fields } }
+
 -- whether a number is outside the 31 or 63 bits that a signed one has
 abbrev pub over31 : ℕ → Bool
 over31 n = nat_le (2 ^ 31) n
@@ -27,21 +48,22 @@ over31 n = nat_le (2 ^ 31) n
 abbrev pub over63 : ℕ → Bool
 over63 n = nat_le (2 ^ 63) n
 
-unfoldable pub judge_header : List WireField → Result FileStart CiffWhy
-judge_header fields =
-    if over31 (number_field 1 fields) || over31 (number_field 2 fields) || over31 (number_field 3 fields) || over31 (number_field 4 fields) || over31 (number_field 5 fields) || over63 (number_field 6 fields) then Err Range
-    else (if not (is_utf8 (text_field 8 fields)) then Err Text
-    else (if nat_lt (2 ^ 24) (number_field 2 fields) || nat_lt (2 ^ 26) (number_field 3 fields) then Err Limit
-    else Ok (record { header = header_of fields; lists = number_field 2 fields; docs = number_field 3 fields })))
+-- the start of a file, where no check of its numbers fails
+abbrev pub judge_header : FileStart → Result FileStart CiffWhy
+judge_header x =
+    if over31 x.header.version || over31 x.lists || over31 x.docs || over31 x.header.total_lists || over31 x.header.total_docs || over63 x.header.total_terms then Err Range
+    else (if not (is_utf8 x.header.description) then Err Text
+    else (if nat_lt (2 ^ 24) x.lists || nat_lt (2 ^ 26) x.docs then Err Limit
+    else Ok x))
 
--- the term of a list, behind lists of these terms
-unfoldable pub judge_list : List (List ℕ) → List WireField → Result (List ℕ) CiffWhy
-judge_list terms fields =
-    if not (is_utf8 (text_field 1 fields)) then Err Text
-    else (if nat_lt 65535 (length (text_field 1 fields)) then Err Limit
-    else (if is_seen (text_field 1 fields) terms then Err TermTwice
-    else (if over63 (number_field 2 fields) || over63 (number_field 3 fields) then Err Range
-    else Ok (text_field 1 fields))))
+-- the start of a list behind lists of these terms
+abbrev pub judge_list : List (List ℕ) → ListStart → Result ListStart CiffWhy
+judge_list terms x =
+    if not (is_utf8 x.term) then Err Text
+    else (if nat_lt 65535 (length x.term) then Err Limit
+    else (if is_seen x.term terms then Err TermTwice
+    else (if over63 x.df || over63 x.cf then Err Range
+    else Ok x)))
 
 -- the last document behind one that came before
 abbrev pub last_from : ℕ → List Posting → ℕ
@@ -66,22 +88,17 @@ gather docs before so_far x = so_far >>= λ postings. placed x.at (judge docs be
 abbrev pub postings_of : ℕ → ℕ → List PlacedEntry → Result (List Posting) CiffRefusal
 postings_of docs before entries = fold (gather docs before) (Ok []) entries
 
--- a document's record with its number
-pub record NumberedDoc : Type 0 where
-  pub number : ℕ
-  pub doc : DocData
+-- whether a text may be a name: it has some bytes and not too many, and none is a blank or a control character
+abbrev pub is_name : List ℕ → Bool
+is_name name = not (length name == 0) && nat_le (length name) 1048576 && list_all (λ b. nat_lt 32 b && not (b == 127)) name
 
--- whether a name has no byte or too many, or one that is a blank or a control character
-abbrev pub is_bad_name : List ℕ → Bool
-is_bad_name name = length name == 0 || nat_lt 1048576 (length name) || not (list_all (λ b. nat_lt 32 b && not (b == 127)) name)
-
--- the record of a document in a file of so many, behind those of the table
-unfoldable pub judge_doc : ℕ → List (Option DocData) → List WireField → Result NumberedDoc CiffWhy
-judge_doc docs table fields =
-    if over31 (number_field 1 fields) then Err Range
-    else (if nat_le docs (number_field 1 fields) then Err DocRange
-    else (if has_value table (number_field 1 fields) then Err DocTwice
-    else (if not (is_utf8 (text_field 2 fields)) then Err Text
-    else (if is_bad_name (text_field 2 fields) then Err NameText
-    else (if over31 (number_field 3 fields) then Err Range
-    else Ok (record { number = number_field 1 fields; doc = record { name = text_field 2 fields; length = number_field 3 fields } }))))))
+-- the record of a document in a file of so many, beside those of the table
+abbrev pub judge_doc : ℕ → List (Option DocData) → NumberedDoc → Result NumberedDoc CiffWhy
+judge_doc docs table x =
+    if over31 x.number then Err Range
+    else (if nat_le docs x.number then Err DocRange
+    else (if has_value table x.number then Err DocTwice
+    else (if not (is_utf8 x.doc.name) then Err Text
+    else (if not (is_name x.doc.name) then Err NameText
+    else (if over31 x.doc.length then Err Range
+    else Ok x)))))

@@ -1,5 +1,6 @@
 pub mod Judging
 pub mod Kept
+pub mod Places
 pub mod Reading
 pub mod Refusals
 pub mod Seen

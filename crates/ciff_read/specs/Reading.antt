@@ -1,15 +1,14 @@
 -- Reading a CIFF file from the left, message by message, with the first refusal and its place.
 use Rattle.std.specs.Prelude.{ℕ, zero, suc, ◌+◌, ◌-◌, ◌^◌, List, [], ◌∷◌, ◌++◌, length, take, drop, Option, Result, Ok, Err, nat_lt, if◌then◌else◌}
 use Rattle.jass_base.specs.Ciff.{ListData, DocData, CollectionData}
-use Rattle.jass_base.specs.Wire.{number_field}
 use Rattle.wire_fields.specs.Reading.{varint_at}
 use Rattle.ciff_read.specs.declared.refusal.CiffWhy.{CiffWhy}
 use Rattle.ciff_read.specs.declared.refusal.CiffWhy.TheVariants.{Cut, Limit, Trailing}
 use Rattle.ciff_read.specs.declared.refusal.CiffRefusal.{CiffRefusal}
-use Rattle.ciff_read.specs.Judging.{FileStart, NumberedDoc, judge_header, judge_list, judge_doc, postings_of}
+use Rattle.ciff_read.specs.Judging.{FileStart, ListStart, NumberedDoc, start_of, list_start_of, numbered_of, judge_header, judge_list, judge_doc, postings_of}
 use Rattle.ciff_read.specs.Refusals.{◌>>=◌, placed, field_placed}
 use Rattle.ciff_read.specs.Table.{with_value, values_of}
-use Rattle.ciff_read.specs.Walking.{walk, nothing_inside, entry_inside}
+use Rattle.ciff_read.specs.Walking.{PlacedEntry, walk, nothing_inside, entry_inside}
 
 -- a message: the place of its body, the body, and the bytes behind it
 pub record Message : Type 0 where
@@ -32,19 +31,35 @@ body_at at from size s =
 unfoldable pub message_at : ℕ → List ℕ → Result Message CiffRefusal
 message_at at s = field_placed at (varint_at s) >>= λ x. placed at (body_at at (at + (length s - length x.1)) x.0 x.1)
 
-unfoldable pub read_header : ℕ → Message → Result FileStart CiffRefusal
-read_header at m = walk nothing_inside m.from m.body >>= λ walked. placed at (judge_header walked.fields)
+-- what the bodies of a header, of a list and of a document stand for
+abbrev pub start_at : ℕ → List ℕ → Result FileStart CiffRefusal
+start_at from body = walk nothing_inside from body >>= λ walked. Ok (start_of walked.fields)
+
+pub record ListWalk : Type 0 where
+  pub start : ListStart
+  pub entries : List PlacedEntry
+
+abbrev pub list_walk_at : ℕ → List ℕ → Result ListWalk CiffRefusal
+list_walk_at from body = walk entry_inside from body >>= λ walked. Ok (record { start = list_start_of walked.fields; entries = walked.entries })
+
+abbrev pub numbered_at : ℕ → List ℕ → Result NumberedDoc CiffRefusal
+numbered_at from body = walk nothing_inside from body >>= λ walked. Ok (numbered_of walked.fields)
+
+-- the header in a message that stands at a place
+unfoldable pub header_at : ℕ → Message → Result FileStart CiffRefusal
+header_at at m = start_at m.from m.body >>= λ start. placed at (judge_header start)
 
 -- a list in a file of so many documents, behind lists of so many postings and of these terms
-unfoldable pub read_list : ℕ → ℕ → List (List ℕ) → ℕ → Message → Result ListData CiffRefusal
-read_list docs before terms at m =
-    walk entry_inside m.from m.body >>= λ walked.
-    placed at (judge_list terms walked.fields) >>= λ term.
+unfoldable pub list_at : ℕ → ℕ → List (List ℕ) → ℕ → Message → Result ListData CiffRefusal
+list_at docs before terms at m =
+    list_walk_at m.from m.body >>= λ walked.
+    placed at (judge_list terms walked.start) >>= λ start.
     postings_of docs before walked.entries >>= λ postings.
-    Ok (record { term = term; df = number_field 2 walked.fields; cf = number_field 3 walked.fields; postings = postings })
+    Ok (record { term = start.term; df = start.df; cf = start.cf; postings = postings })
 
-unfoldable pub read_doc : ℕ → List (Option DocData) → ℕ → Message → Result NumberedDoc CiffRefusal
-read_doc docs table at m = walk nothing_inside m.from m.body >>= λ walked. placed at (judge_doc docs table walked.fields)
+-- a document in a file of so many, beside those of a table
+unfoldable pub doc_at : ℕ → List (Option DocData) → ℕ → Message → Result NumberedDoc CiffRefusal
+doc_at docs table at m = numbered_at m.from m.body >>= λ x. placed at (judge_doc docs table x)
 
 -- lists, the place behind them, and the bytes there
 pub record ListsRead : Type 0 where
@@ -53,12 +68,12 @@ pub record ListsRead : Type 0 where
   pub rest : List ℕ
 
 -- so many lists
-unfoldable pub read_lists : ℕ → ℕ → ℕ → List (List ℕ) → ℕ → List ℕ → Result ListsRead CiffRefusal
-read_lists zero docs before terms at s = Ok (record { lists = []; at = at; rest = s })
-read_lists (suc n) docs before terms at s =
+unfoldable pub lists_at : ℕ → ℕ → ℕ → List (List ℕ) → ℕ → List ℕ → Result ListsRead CiffRefusal
+lists_at zero docs before terms at s = Ok (record { lists = []; at = at; rest = s })
+lists_at (suc n) docs before terms at s =
     message_at at s >>= λ m.
-    read_list docs before terms at m >>= λ list.
-    read_lists n docs (before + length list.postings) (terms ++ list.term ∷ []) (message_end m) m.rest >>= λ later.
+    list_at docs before terms at m >>= λ list.
+    lists_at n docs (before + length list.postings) (terms ++ list.term ∷ []) (message_end m) m.rest >>= λ later.
     Ok (record { lists = list ∷ later.lists; at = later.at; rest = later.rest })
 
 -- documents by number, the place behind them, and the bytes there
@@ -68,12 +83,12 @@ pub record DocsRead : Type 0 where
   pub rest : List ℕ
 
 -- the records of so many documents, beside those of the table
-unfoldable pub read_docs : ℕ → ℕ → List (Option DocData) → ℕ → List ℕ → Result DocsRead CiffRefusal
-read_docs zero docs table at s = Ok (record { table = table; at = at; rest = s })
-read_docs (suc n) docs table at s =
+unfoldable pub docs_at : ℕ → ℕ → List (Option DocData) → ℕ → List ℕ → Result DocsRead CiffRefusal
+docs_at zero docs table at s = Ok (record { table = table; at = at; rest = s })
+docs_at (suc n) docs table at s =
     message_at at s >>= λ m.
-    read_doc docs table at m >>= λ x.
-    read_docs n docs (with_value table x.number x.doc) (message_end m) m.rest
+    doc_at docs table at m >>= λ x.
+    docs_at n docs (with_value table x.number x.doc) (message_end m) m.rest
 
 -- nothing may follow the last message
 abbrev pub at_end : {A : Type 0} → ℕ → List ℕ → A → Result A CiffRefusal
@@ -84,7 +99,7 @@ at_end at (b ∷ s) x = Err (record { at = at; why = Trailing })
 unfoldable pub read_ciff : List ℕ → Result CollectionData CiffRefusal
 read_ciff bytes =
     message_at 0 bytes >>= λ m.
-    read_header 0 m >>= λ start.
-    read_lists start.lists start.docs 0 [] (message_end m) m.rest >>= λ x.
-    read_docs start.docs start.docs [] x.at x.rest >>= λ y.
+    header_at 0 m >>= λ start.
+    lists_at start.lists start.docs 0 [] (message_end m) m.rest >>= λ x.
+    docs_at start.docs start.docs [] x.at x.rest >>= λ y.
     at_end y.at y.rest (record { header = start.header; lists = x.lists; docs = values_of y.table })

@@ -42,11 +42,15 @@ nothing_inside at next f = Ok []
 abbrev pub entry_of : List WireField → Entry
 entry_of fields = record { docid = number_field 1 fields; tf = number_field 2 fields }
 
+-- the posting of a body that stands at a place
+abbrev pub entry_at : ℕ → List ℕ → Result Entry CiffRefusal
+entry_at from body = walk nothing_inside from body >>= λ walked. Ok (entry_of walked.fields)
+
 -- the posting in a value that ends at a place
 abbrev pub entry_in : WireValue → ℕ → ℕ → Result (List PlacedEntry) CiffRefusal
 entry_in (Number n) at next = Ok []
 entry_in (Eight bytes) at next = Ok []
-entry_in (Text body) at next = walk nothing_inside (next - length body) body >>= λ walked. Ok (record { at = at; entry = entry_of walked.fields } ∷ [])
+entry_in (Text body) at next = entry_at (next - length body) body >>= λ entry. Ok (record { at = at; entry = entry } ∷ [])
 entry_in (Four bytes) at next = Ok []
 
 -- the postings of a list are its fields of number 4
