@@ -102,6 +102,13 @@ module _ (inside : ℕ → ℕ → WireField → Result (List PlacedEntry) CiffR
             front f before inside_bytes is k left ∙ ap (λ (e : Result (List PlacedEntry) CiffRefusal). e >>= λ entries. walk_within inside k next (drop next bytes) >>= λ later. Ok (in_front f entries later)) found in
         w.read ∙ ap (λ (r : Result Walked CiffRefusal). r >>= λ later. Ok (joined w.done later)) read
 
+    -- what a function answers for what is inside the field
+    pub walks_inside : {A : Type 0} (g : Walked → Result A CiffRefusal) (f : WireField) (answer : CiffFault) → at < next → next ≤ length bytes → field_at (drop at bytes) ≡ Ok (f, drop next bytes) → Fails answer (inside at next f)
+        → Fails answer (walk inside from (drop from bytes) >>= g)
+    walks_inside g f (faults.Refused refusal) before inside_bytes is fails = ap (λ (r : Result Walked CiffRefusal). r >>= g) (walks_into f refusal before inside_bytes is fails)
+    walks_inside g f faults.ReadFault before inside_bytes is fails = absurd fails
+    walks_inside g f faults.NoMemory before inside_bytes is fails = tt
+
   module _ (bytes : List ℕ) (from at : ℕ) (IsSoFar : Walked → Type 0) (w : Walks bytes from at IsSoFar) where
     -- a fault in the field
     pub walks_wrong : (why : WireWhy) → at < length bytes → field_at (drop at bytes) ≡ Err why → walk inside from (drop from bytes) ≡ Err (record { at = at; why = why_of why })

@@ -6,7 +6,6 @@ use Rattle.jass_base.specs.Ciff.{DocData}
 use Rattle.jass_base.specs.CiffViews.{header_data, doc_data}
 use Rattle.ciff_read.specs.declared.doc_fields.DocFields.{DocFields}
 use Rattle.ciff_read.specs.declared.documents.Documents.{Documents}
-use Rattle.ciff_read.specs.declared.entry.Entry.{Entry}
 use Rattle.ciff_read.specs.declared.file_head.FileHead.{FileHead}
 use Rattle.ciff_read.specs.declared.file_head.HeadFields.{HeadFields}
 use Rattle.ciff_read.specs.declared.gathered.Gathered.{Gathered}
@@ -14,7 +13,9 @@ use Rattle.ciff_read.specs.declared.list_fields.ListFields.{ListFields}
 use Rattle.ciff_read.specs.declared.refusal.CiffRefusal.{CiffRefusal}
 use Rattle.ciff_read.specs.Judging.{FileStart, ListStart, NumberedDoc, gather}
 use Rattle.ciff_read.specs.Table.{with_value}
-use Rattle.ciff_read.specs.Walking.{PlacedEntry, entry_at}
+use Rattle.ciff_read.specs.Walking.{PlacedEntry, entry_inside}
+use Rattle.wire_fields.specs.declared.field.Field.{Field}
+use Rattle.wire_fields.specs.Places.{field_in}
 use Rattle.ciff_read.specs.declared.body.Body.{Body}
 use Rattle.ciff_read.specs.declared.refusal.CiffFault.{CiffFault}
 use Rattle.ciff_read.specs.Reading.{Message, message_at, list_walk_at, doc_at}
@@ -74,10 +75,15 @@ abbrev pub ReadsList : List ℕ → ℕ → Result ListFields CiffFault → Gath
 ReadsList bytes from (Ok fields) old now = GathersList bytes from fields old now
 ReadsList bytes from (Err fault) old now = Fails fault (list_walk_at from (drop from bytes))
 
--- a posting was read and gathered
-abbrev pub GathersPosting : List ℕ → ℕ → ℕ → Result Unit CiffFault → Gathered → Gathered → Type 0
-GathersPosting body at from (Ok x) old now = (entry : Entry) × (entry_at from body ≡ Ok entry) × (gathered_of now ≡ gather old.docs old.before (gathered_of old) (record { at = at; entry = entry }))
-GathersPosting body at from (Err fault) old now = Fails fault (entry_at from body)
+-- the posting of a field was read and gathered, where it is one
+pub record GathersInside (bytes : List ℕ) (at : ℕ) (field : Field) (old now : Gathered) : Type 0 where
+  pub entries : List PlacedEntry
+  pub read : entry_inside at field.next (field_in bytes field) ≡ Ok entries
+  pub gathered : gathered_of now ≡ fold (gather old.docs old.before) (gathered_of old) entries
+
+abbrev pub GathersField : List ℕ → ℕ → Field → Result Unit CiffFault → Gathered → Gathered → Type 0
+GathersField bytes at field (Ok x) old now = GathersInside bytes at field old now
+GathersField bytes at field (Err fault) old now = Fails fault (entry_inside at field.next (field_in bytes field))
 
 -- the documents of a table without their ranges
 abbrev pub table_of : Documents → List (Option DocData)

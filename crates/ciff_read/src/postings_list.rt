@@ -1,9 +1,10 @@
-ghost use Rattle.std.specs.Prelude.{◌≡◌, ◌+◌, ◌<◌, ◌≤◌, ◌^◌, false, length, map, [], ◌∷◌, ◌++◌, slice_range, IfOk};
+ghost use Rattle.std.specs.Prelude.{◌≡◌, ◌+◌, ◌<◌, ◌≤◌, ◌^◌, false, length, map, [], ◌∷◌, ◌++◌, IfOk};
 ghost use Rattle.std.specs.Str.{IsUtf8};
 ghost use Rattle.jass_base.specs.CiffViews.{list_data};
 ghost use Rattle.jass_base.specs.Lists.{HasDocsBelow};
+ghost use Rattle.wire_fields.specs.Places.{IsWithin};
 ghost use Rattle.ciff_read.specs.Judging as judging;
-ghost use Rattle.ciff_read.specs.Places.{message_in, list_start_in, ReadsList, GathersPosting};
+ghost use Rattle.ciff_read.specs.Places.{message_in, list_start_in, ReadsList, GathersField};
 ghost use Rattle.ciff_read.specs.Reading.{list_at};
 ghost use Rattle.ciff_read.specs.Refusals.{Gives, placed};
 ghost use Rattle.ciff_read.specs.Seen.{is_seen};
@@ -18,7 +19,7 @@ use crate::text::text_of;
 use indexmap::IndexSet;
 use jass_base::{PostingsList, Text};
 use std::alloc::Global;
-use wire_fields::{Value, next_field};
+use wire_fields::{Field, Value, next_field};
 
 /// The limit of a term's bytes.
 const LONGEST_TERM: usize = 65_535;
@@ -121,10 +122,9 @@ fn walk_list<'a>(
                 fields.term = field.bytes_or(1, bytes, fields.term);
                 fields.df = field.number_or(2, fields.df);
                 fields.cf = field.number_or(3, fields.cf);
-                if field.number == 4 {
-                    if let Value::Bytes(first, after) = field.value {
-                        gather(bytes, at, first, after, gathered)?;
-                    }
+                match gather(bytes, at, &field, gathered) {
+                    Ok(()) => {}
+                    Err(fault) => return Err(fault),
                 }
                 at = field.next;
             }
@@ -134,21 +134,29 @@ fn walk_list<'a>(
     }
 }
 
-/// Reads the posting of the field at `at`, whose body is given by its places.
+/// Reads the posting of the field at `at`, where it is one.
 fn gather(
     bytes: &[u8],
     at: usize,
-    first: usize,
-    after: usize,
+    field: &Field,
     gathered: &mut Gathered,
 ) -> Result<(), CiffFault>
-    requires order { first ≤ after }
-    requires within { after ≤ length bytes.now }
-    ensures read { GathersPosting (slice_range bytes.now first after) at first result gathered.old gathered.new }
+    requires value { IsWithin field.now.value field.now.next }
+    requires within { field.now.next ≤ length bytes.now }
+    ensures read { GathersField bytes.now at field.now result gathered.old gathered.new }
     ensures docs { gathered.new.docs ≡ gathered.old.docs }
     ensures before { gathered.new.before ≡ gathered.old.before }
 {
-    let entry = read_entry(&bytes[..after], first)?;
+    if field.number != 4 {
+        return Ok(());
+    }
+    let Value::Bytes(first, after) = field.value else {
+        return Ok(());
+    };
+    let entry = match read_entry(&bytes[..after], first) {
+        Ok(entry) => entry,
+        Err(fault) => return Err(fault),
+    };
     match gathered.take(at, entry) {
         Ok(()) => Ok(()),
         Err(_) => Err(CiffFault::NoMemory),
