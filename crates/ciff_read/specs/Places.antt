@@ -3,7 +3,9 @@ use Rattle.std.specs.Prelude.{ℕ, ◌≡◌, ◌<◌, ◌≤◌, List, [], leng
 use Rattle.std.specs.Option.{option_map}
 use Rattle.jass_base.specs.declared.posting.Posting.{Posting}
 use Rattle.jass_base.specs.Ciff.{DocData}
-use Rattle.jass_base.specs.CiffViews.{header_data, doc_data}
+use Rattle.jass_base.specs.CiffViews.{header_data, list_data, doc_data}
+use Rattle.jass_base.specs.declared.doc_record.DocRecord.{DocRecord}
+use Rattle.jass_base.specs.declared.postings_list.PostingsList.{PostingsList}
 use Rattle.ciff_read.specs.declared.doc_fields.DocFields.{DocFields}
 use Rattle.ciff_read.specs.declared.documents.Documents.{Documents}
 use Rattle.ciff_read.specs.declared.file_head.FileHead.{FileHead}
@@ -18,7 +20,7 @@ use Rattle.wire_fields.specs.declared.field.Field.{Field}
 use Rattle.wire_fields.specs.Places.{field_in}
 use Rattle.ciff_read.specs.declared.body.Body.{Body}
 use Rattle.ciff_read.specs.declared.refusal.CiffFault.{CiffFault}
-use Rattle.ciff_read.specs.Reading.{Message, message_at, list_walk_at, doc_at}
+use Rattle.ciff_read.specs.Reading.{Message, ListsRead, DocsInOrder, message_at, list_walk_at, doc_at}
 use Rattle.ciff_read.specs.Refusals.{Fails}
 
 -- the message whose body lies between two places
@@ -93,3 +95,11 @@ table_of documents = map (option_map doc_data) documents.records.items
 abbrev pub PutsDoc : List ℕ → ℕ → Body → ℕ → Result Unit CiffFault → Documents → Documents → Type 0
 PutsDoc bytes at body docs (Ok x) old now = (doc : NumberedDoc) × (doc_at docs (table_of old) at (message_in bytes body) ≡ Ok doc) × (table_of now ≡ with_value (table_of old) doc.number doc.doc)
 PutsDoc bytes at body docs (Err fault) old now = Fails fault (doc_at docs (table_of old) at (message_in bytes body))
+
+-- lists, and the place behind them
+abbrev pub lists_in : List ℕ → List PostingsList × ℕ → ListsRead
+lists_in bytes x = record { lists = map list_data x.0; at = x.1; rest = drop x.1 bytes }
+
+-- documents, and the place behind them
+abbrev pub docs_in : List ℕ → List DocRecord × ℕ → DocsInOrder
+docs_in bytes x = record { docs = map doc_data x.0; at = x.1; rest = drop x.1 bytes }

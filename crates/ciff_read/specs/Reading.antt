@@ -90,6 +90,18 @@ docs_at (suc n) docs table at s =
     doc_at docs table at m >>= λ x.
     docs_at n docs (with_value table x.number x.doc) (message_end m) m.rest
 
+-- so many documents by rising numbers, the place behind them, and the bytes there
+pub record DocsInOrder : Type 0 where
+  pub docs : List DocData
+  pub at : ℕ
+  pub rest : List ℕ
+
+abbrev pub docs_in_order : DocsRead → DocsInOrder
+docs_in_order x = record { docs = values_of x.table; at = x.at; rest = x.rest }
+
+abbrev pub all_docs_at : ℕ → ℕ → List ℕ → Result DocsInOrder CiffRefusal
+all_docs_at count at s = docs_at count count [] at s >>= λ x. Ok (docs_in_order x)
+
 -- nothing may follow the last message
 abbrev pub at_end : {A : Type 0} → ℕ → List ℕ → A → Result A CiffRefusal
 at_end at [] x = Ok x
@@ -101,5 +113,5 @@ read_ciff bytes =
     message_at 0 bytes >>= λ m.
     header_at 0 m >>= λ start.
     lists_at start.lists start.docs 0 [] (message_end m) m.rest >>= λ x.
-    docs_at start.docs start.docs [] x.at x.rest >>= λ y.
-    at_end y.at y.rest (record { header = start.header; lists = x.lists; docs = values_of y.table })
+    all_docs_at start.docs x.at x.rest >>= λ y.
+    at_end y.at y.rest (record { header = start.header; lists = x.lists; docs = y.docs })
