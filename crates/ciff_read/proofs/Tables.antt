@@ -1,8 +1,8 @@
 -- How many values a table has, and what lies in one that reaches a number.
-use Rattle.std.proofs.Common.{◌≡◌, ℕ, zero, suc, ◌+◌, ◌-◌, ◌<◌, ◌≤◌, false, List, [], ◌∷◌, ◌++◌, length, get_or, set, replicate, Option, Some, None, refl, sym, ap, ◌∙◌, arith}
+use Rattle.std.proofs.Common.{◌≡◌, ℕ, zero, suc, ◌+◌, ◌-◌, ◌<◌, ◌≤◌, false, List, [], ◌∷◌, ◌++◌, length, get_or, set, replicate, map, option_map, Option, Some, None, refl, sym, ap, ◌∙◌, arith}
 use Rattle.std.specs.Prelude.{is_some}
 use Rattle.std.proofs.lemmas.Grind.{replicate_next}
-use Rattle.std.proofs.lemmas.List.{append_assoc, append-nil, length-append, length-replicate}
+use Rattle.std.proofs.lemmas.List.{append_assoc, length-map, map-append, append-nil, length-append, length-replicate}
 use Rattle.std.proofs.lemmas.List.Elements.{filter_map-append}
 use Rattle.ciff_read.specs.Table.{has_value, reaching, with_value, values_of}
 
@@ -53,3 +53,32 @@ module _ {R : Type 0} where
       let missing : get_or (reaching table n) n None ≡ None = still_missing table (n + 1 - length table) n (missing_is (get_or table n None) new) in
       let more : length (values_of (with_value table n r)) ≡ suc (length (values_of (reaching table n))) = values-set (reaching table n) n r inside missing in
       more ∙ ap (λ (rs : List R). suc (length rs)) (values-reaching table n) ∙ omega arith
+
+module _ {R X : Type 0} (f : R → X) where
+  map-set_some : (table : List (Option R)) (n : ℕ) (r : R) → map (option_map f) (set table n (Some r)) ≡ set (map (option_map f) table) n (Some (f r))
+  map-set_some [] n r = refl
+  map-set_some (o ∷ table) zero r = refl
+  map-set_some (o ∷ table) (suc n) r = ap (λ (t : List (Option X)). option_map f o ∷ t) (map-set_some table n r)
+
+  map-none : (n : ℕ) → map (option_map f) (replicate n None) ≡ replicate n None
+  map-none zero = refl
+  map-none (suc n) = ap (λ (t : List (Option X)). None ∷ t) (map-none n)
+
+  -- a table of other values
+  pub map-with : (table : List (Option R)) (n : ℕ) (r : R) → map (option_map f) (with_value table n r) ≡ with_value (map (option_map f) table) n (f r)
+  map-with table n r =
+      let long : length (map (option_map f) table) ≡ length table = length-map table (option_map f) in
+      let longer : map (option_map f) (reaching table n) ≡ reaching (map (option_map f) table) n =
+          map-append (option_map f) table (replicate (n + 1 - length table) None) ∙ ap (λ (t : List (Option X)). map (option_map f) table ++ t) (map-none (n + 1 - length table)) ∙ ap (λ k. map (option_map f) table ++ replicate (n + 1 - k) None) (sym long) in
+      map-set_some (reaching table n) n r ∙ ap (λ (t : List (Option X)). set t n (Some (f r))) longer
+
+  pub map-has : (table : List (Option R)) (n : ℕ) → has_value (map (option_map f) table) n ≡ has_value table n
+  map-has [] n = refl
+  map-has (None ∷ table) zero = refl
+  map-has (Some r ∷ table) zero = refl
+  map-has (o ∷ table) (suc n) = map-has table n
+
+  pub map-values : (table : List (Option R)) → values_of (map (option_map f) table) ≡ map f (values_of table)
+  map-values [] = refl
+  map-values (None ∷ table) = map-values table
+  map-values (Some r ∷ table) = ap (λ (rs : List X). f r ∷ rs) (map-values table)

@@ -1,10 +1,17 @@
-ghost use Rattle.std.specs.Prelude.{◌≡◌, ◌+◌, ◌<◌, ◌≤◌, ◌^◌, ◌↔◌, IsTrue, false, length, IfOk, OnOk};
+ghost use Rattle.std.specs.Prelude.{◌≡◌, ◌≢◌, ◌==◌, ◌&&◌, ◌+◌, ◌<◌, ◌≤◌, ◌^◌, IsTrue, All, false, not, nat_lt, length, drop, Ok, Err, IfOk, OnOk, MatchResult};
+ghost use Rattle.std.specs.List.{list_all};
 ghost use Rattle.jass_base.specs.Limits.{IsName};
+ghost use Rattle.ciff_read.specs.Judging as judging;
+ghost use Rattle.ciff_read.specs.Places.{numbered_in, table_of, PutsDoc};
+ghost use Rattle.ciff_read.specs.Reading.{numbered_at};
+ghost use Rattle.ciff_read.specs.Refusals.{Gives};
 ghost use Rattle.ciff_read.specs.Table.{has_value, values_of};
 
+use crate::body::Body;
+use crate::doc_fields::DocFields;
 use crate::documents::Documents;
-use crate::message::Body;
 use crate::refusal::{CiffFault, CiffWhy, refused, refused_field};
+use crate::text::text_of;
 use jass_base::{DocRecord, Text};
 use std::alloc::Global;
 use wire_fields::next_field;
@@ -12,17 +19,10 @@ use wire_fields::next_field;
 /// The limit of a name's bytes.
 const LONGEST_NAME: usize = 1_048_576;
 
-/// The fields of a document's record as they stand.
-#[derive(Clone, Copy)]
-pub struct DocFields<'a> {
-    pub docid: u64,
-    pub name: &'a [u8],
-    pub length: u64,
-}
-
 /// Walks the fields from a place to the end of `bytes`.
 fn walk_document(bytes: &[u8], from: usize) -> Result<DocFields<'_>, CiffFault>
     requires { from ≤ length bytes.now }
+    ensures { Gives numbered_in result (numbered_at from (drop from bytes.now)) }
 {
     let mut fields = DocFields {
         docid: 0,
@@ -55,6 +55,7 @@ pub fn read_document(
     documents: &mut Documents,
 ) -> Result<(), CiffFault>
     requires within { body.end ≤ length bytes.now }
+    ensures exact { PutsDoc bytes.now at body docs result documents.old documents.new }
     ensures one { OnOk result (length (values_of documents.new.records.items) ≡ length (values_of documents.old.records.items) + 1) }
 {
     let fields = match walk_document(&bytes[..body.end], body.from) {
@@ -84,6 +85,8 @@ fn judge_document<'a>(
     docs: u32,
     documents: &Documents,
 ) -> Result<(u32, &'a str), CiffWhy>
+    ensures exact { MatchResult result (λ judged. judging.judge_doc docs (table_of documents.now) (numbered_in fields.entry) ≡ Ok (numbered_in fields.entry)) (λ why. judging.judge_doc docs (table_of documents.now) (numbered_in fields.entry) ≡ Err why) }
+    ensures judged { IfOk result (λ judged. (judged.0 ≡ fields.entry.docid) × (judged.1.now ≡ fields.entry.name.now)) }
     ensures new { IfOk result (λ judged. has_value documents.now.records.items judged.0 ≡ false) }
     ensures name { IfOk result (λ judged. IsName judged.1.now) }
     ensures length { IfOk result (λ judged. fields.entry.length < 2 ^ 31) }
@@ -98,7 +101,7 @@ fn judge_document<'a>(
     if documents.has(doc) {
         return Err(CiffWhy::DocTwice);
     }
-    let Ok(name) = std::str::from_utf8(fields.name) else {
+    let Some(name) = text_of(fields.name) else {
         return Err(CiffWhy::Text);
     };
     if !is_name(name) {
@@ -112,12 +115,16 @@ fn judge_document<'a>(
 
 /// Whether a text may be the name of a document.
 fn is_name(name: &str) -> bool
-    ensures { IsTrue result ↔ IsName name.now }
+    ensures test { result ≡ judging.is_name name.now }
+    ensures name { IsTrue result → IsName name.now }
 {
-    !name.is_empty()
-        && name.len() <= LONGEST_NAME
-        && name
-            .as_bytes()
-            .iter()
-            .all(|byte| *byte > 32 && *byte != 127)
+    !name.is_empty() && name.len() <= LONGEST_NAME && is_visible(name.as_bytes())
+}
+
+/// Whether no byte is a blank or a control character.
+fn is_visible(bytes: &[u8]) -> bool
+    ensures test { result ≡ list_all (λ b. nat_lt 32 b && not (b == 127)) bytes.now }
+    ensures visible { IsTrue result → All (λ b. (32 < b) × (b ≢ 127)) bytes.now }
+{
+    bytes.iter().all(|byte| *byte > 32 && *byte != 127)
 }

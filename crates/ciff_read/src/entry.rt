@@ -1,4 +1,6 @@
-ghost use Rattle.std.specs.Prelude.{◌≤◌, length};
+ghost use Rattle.std.specs.Prelude.{◌≤◌, length, drop};
+ghost use Rattle.ciff_read.specs.Refusals.{Gives};
+ghost use Rattle.ciff_read.specs.Walking.{entry_at};
 
 use crate::refusal::{CiffFault, refused_field};
 use wire_fields::next_field;
@@ -15,6 +17,7 @@ pub struct Entry {
 /// Walks the fields of a posting's body, from a place to the end of `bytes`.
 pub fn read_entry(bytes: &[u8], from: usize) -> Result<Entry, CiffFault>
     requires { from ≤ length bytes.now }
+    ensures { Gives (λ entry. entry) result (entry_at from (drop from bytes.now)) }
 {
     let mut entry = Entry { docid: 0, tf: 0 };
     let mut at = from;

@@ -26,10 +26,15 @@ pub struct Gathered {
 }
 
 impl Gathered {
+    ghost use Rattle.std.specs.Prelude.{OnOk, None, []};
+    ghost use Rattle.ciff_read.specs.Judging.{gather};
+    ghost use Rattle.ciff_read.specs.Places.{gathered_of};
+
     /// No postings yet.
     pub fn new(alloc: Global, docs: u32, before: u64) -> Gathered
         requires docs { docs ≤ 2 ^ 26 }
         requires before { before ≤ 2 ^ 29 }
+        ensures empty { gathered_of result ≡ Ok [] }
         ensures docs { result.docs ≡ docs }
         ensures before { result.before ≡ before }
     {
@@ -44,6 +49,7 @@ impl Gathered {
 
     /// Puts the next posting in, or keeps the refusal of it at its place in the file.
     pub fn take(&mut self, at: usize, entry: Entry) -> Result<(), NoMemory>
+        ensures gathered { OnOk result (gathered_of self.new ≡ gather self.old.docs self.old.before (gathered_of self.old) (record { at = at; entry = entry })) }
         ensures docs { self.new.docs ≡ self.old.docs }
         ensures before { self.new.before ≡ self.old.before }
     {

@@ -1,7 +1,14 @@
-ghost use Rattle.std.specs.Prelude.{◌<◌, ◌≤◌, ◌^◌, length, IfOk};
+ghost use Rattle.std.specs.Prelude.{◌≡◌, ◌≤◌, length, drop, Ok, Err, IfOk, MatchResult};
+ghost use Rattle.jass_base.specs.Ciff.{FitsHeader};
+ghost use Rattle.ciff_read.specs.Judging as judging;
+ghost use Rattle.ciff_read.specs.Places.{message_in, start_in, start_data};
+ghost use Rattle.ciff_read.specs.Reading.{start_at, header_at};
+ghost use Rattle.ciff_read.specs.Refusals.{Gives};
 
-use crate::message::Body;
+use crate::body::Body;
+use crate::file_head::{FileHead, HeadFields};
 use crate::refusal::{CiffFault, CiffWhy, refused, refused_field};
+use crate::text::text_of;
 use jass_base::{Header, Text};
 use std::alloc::Global;
 use wire_fields::next_field;
@@ -12,32 +19,7 @@ const MOST_LISTS: u64 = 16_777_216;
 /// The limit of documents in a file.
 const MOST_DOCS: u64 = 67_108_864;
 
-/// The first message of a file: what it says of itself, and how many messages follow.
-#[derive(Debug, Drop)]
-pub struct FileHead {
-    pub header: Header,
-    /// At most 2^24.
-    pub lists: u32,
-    /// At most 2^26.
-    pub docs: u32,
-    pub ghost few_lists: { lists ≤ 2 ^ 24 },
-    pub ghost few_docs: { docs ≤ 2 ^ 26 },
-}
-
-/// The fields of the first message as they stand.
-#[derive(Drop)]
-struct HeadFields<'a> {
-    version: u64,
-    lists: u64,
-    docs: u64,
-    total_lists: u64,
-    total_docs: u64,
-    total_terms: u64,
-    average: [u8; 8],
-    description: &'a [u8],
-}
-
-/// Reads the first message, whose length stands at `at`.
+/// Reads the header, which is the message at `at`.
 pub fn read_header(
     alloc: Global,
     bytes: &[u8],
@@ -45,23 +27,16 @@ pub fn read_header(
     body: Body,
 ) -> Result<FileHead, CiffFault>
     requires { body.end ≤ length bytes.now }
+    ensures { Gives start_data result (header_at at (message_in bytes.now body)) }
 {
-    let fields = walk_header(&bytes[..body.end], body.from)?;
-    if fields.version >= 1 << 31
-        || fields.lists >= 1 << 31
-        || fields.docs >= 1 << 31
-        || fields.total_lists >= 1 << 31
-        || fields.total_docs >= 1 << 31
-        || fields.total_terms >= 1 << 63
-    {
-        return Err(refused(at, CiffWhy::Range));
-    }
-    let Ok(description) = std::str::from_utf8(fields.description) else {
-        return Err(refused(at, CiffWhy::Text));
+    let fields = match walk_header(&bytes[..body.end], body.from) {
+        Ok(fields) => fields,
+        Err(fault) => return Err(fault),
     };
-    if fields.lists > MOST_LISTS || fields.docs > MOST_DOCS {
-        return Err(refused(at, CiffWhy::Limit));
-    }
+    let description = match judge_header(&fields) {
+        Ok(description) => description,
+        Err(why) => return Err(refused(at, why)),
+    };
     let Ok(description) = Text::from_str(alloc, description) else {
         return Err(CiffFault::NoMemory);
     };
@@ -79,9 +54,34 @@ pub fn read_header(
     })
 }
 
+/// The description, or why the header is refused.
+fn judge_header<'a>(fields: &HeadFields<'a>) -> Result<&'a str, CiffWhy>
+    ensures exact { MatchResult result (λ text. judging.judge_header (start_in fields.now) ≡ Ok (start_in fields.now)) (λ why. judging.judge_header (start_in fields.now) ≡ Err why) }
+    ensures text { IfOk result (λ text. text.now ≡ fields.now.description.now) }
+    ensures fits { IfOk result (λ text. FitsHeader (start_in fields.now).header fields.now.lists fields.now.docs) }
+{
+    if fields.version >= 1 << 31
+        || fields.lists >= 1 << 31
+        || fields.docs >= 1 << 31
+        || fields.total_lists >= 1 << 31
+        || fields.total_docs >= 1 << 31
+        || fields.total_terms >= 1 << 63
+    {
+        return Err(CiffWhy::Range);
+    }
+    let Some(description) = text_of(fields.description) else {
+        return Err(CiffWhy::Text);
+    };
+    if fields.lists > MOST_LISTS || fields.docs > MOST_DOCS {
+        return Err(CiffWhy::Limit);
+    }
+    Ok(description)
+}
+
 /// Walks the fields from a place to the end of the body. Of each field the last one counts.
 fn walk_header(bytes: &[u8], from: usize) -> Result<HeadFields<'_>, CiffFault>
     requires { from ≤ length bytes.now }
+    ensures { Gives start_in result (start_at from (drop from bytes.now)) }
 {
     let mut fields = HeadFields {
         version: 0,

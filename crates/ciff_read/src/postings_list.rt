@@ -1,27 +1,28 @@
 ghost use Rattle.std.specs.Prelude.{◌≡◌, ◌+◌, ◌<◌, ◌≤◌, ◌^◌, false, length, map, [], ◌∷◌, ◌++◌, IfOk};
+ghost use Rattle.std.specs.Str.{IsUtf8};
+ghost use Rattle.jass_base.specs.CiffViews.{list_data};
 ghost use Rattle.jass_base.specs.Lists.{HasDocsBelow};
+ghost use Rattle.wire_fields.specs.Places.{IsWithin};
+ghost use Rattle.ciff_read.specs.Judging as judging;
+ghost use Rattle.ciff_read.specs.Places.{message_in, list_start_in, ReadsList, GathersField};
+ghost use Rattle.ciff_read.specs.Reading.{list_at};
+ghost use Rattle.ciff_read.specs.Refusals.{Gives, placed};
 ghost use Rattle.ciff_read.specs.Seen.{is_seen};
 
+use crate::body::Body;
 use crate::entry::read_entry;
 use crate::gathered::Gathered;
-use crate::message::Body;
+use crate::list_fields::ListFields;
 use crate::refusal::{CiffFault, CiffWhy, refused, refused_field};
 use crate::terms::add_term;
+use crate::text::text_of;
 use indexmap::IndexSet;
 use jass_base::{PostingsList, Text};
 use std::alloc::Global;
-use wire_fields::{Value, next_field};
+use wire_fields::{Field, Value, next_field};
 
 /// The limit of a term's bytes.
 const LONGEST_TERM: usize = 65_535;
-
-/// The fields of a postings list beside its postings, as they stand.
-#[derive(Clone, Copy)]
-pub struct ListFields<'a> {
-    pub term: &'a [u8],
-    pub df: u64,
-    pub cf: u64,
-}
 
 /// Reads the postings list of the message at `at`, in a file of so many documents with so
 /// many postings in the lists before, and adds its term to theirs.
@@ -41,6 +42,7 @@ pub fn read_list<'a>(
     ensures terms { IfOk result (λ list. map (λ t. t.now) terms.new.keys ≡ map (λ t. t.now) terms.old.keys ++ list.term ∷ []) }
     ensures few { IfOk result (λ list. before + length list.postings ≤ 2 ^ 29) }
     ensures below { IfOk result (HasDocsBelow docs) }
+    ensures exact { Gives list_data result (list_at docs before (map (λ t. t.now) terms.old.keys) at (message_in bytes.now body)) }
 {
     let mut gathered = Gathered::new(alloc, docs, before);
     let fields = match walk_list(&bytes[..body.end], body.from, &mut gathered) {
@@ -74,11 +76,13 @@ fn judge_list<'a>(
 ) -> Result<&'a str, CiffFault>
     ensures new { IfOk result (λ term. is_seen term.now (map (λ t. t.now) terms.old.keys) ≡ false) }
     ensures terms { IfOk result (λ term. map (λ t. t.now) terms.new.keys ≡ map (λ t. t.now) terms.old.keys ++ term.now ∷ []) }
+    ensures text { IfOk result (λ term. (term.now ≡ fields.entry.term.now) × IsUtf8 term.now) }
     ensures fits { IfOk result (λ term. length term.now ≤ 65535) }
     ensures df { IfOk result (λ term. fields.entry.df < 2 ^ 63) }
     ensures cf { IfOk result (λ term. fields.entry.cf < 2 ^ 63) }
+    ensures exact { Gives (λ term. list_start_in fields.entry) result (placed at (judging.judge_list (map (λ t. t.now) terms.old.keys) (list_start_in fields.entry))) }
 {
-    let Ok(term) = std::str::from_utf8(fields.term) else {
+    let Some(term) = text_of(fields.term) else {
         return Err(refused(at, CiffWhy::Text));
     };
     if term.len() > LONGEST_TERM {
@@ -102,6 +106,7 @@ fn walk_list<'a>(
     gathered: &mut Gathered,
 ) -> Result<ListFields<'a>, CiffFault>
     requires { from ≤ length bytes.now }
+    ensures read { ReadsList bytes.now from result gathered.old gathered.new }
     ensures docs { gathered.new.docs ≡ gathered.old.docs }
     ensures before { gathered.new.before ≡ gathered.old.before }
 {
@@ -117,10 +122,9 @@ fn walk_list<'a>(
                 fields.term = field.bytes_or(1, bytes, fields.term);
                 fields.df = field.number_or(2, fields.df);
                 fields.cf = field.number_or(3, fields.cf);
-                if field.number == 4 {
-                    if let Value::Bytes(first, after) = field.value {
-                        gather(bytes, at, first, after, gathered)?;
-                    }
+                match gather(bytes, at, &field, gathered) {
+                    Ok(()) => {}
+                    Err(fault) => return Err(fault),
                 }
                 at = field.next;
             }
@@ -130,20 +134,29 @@ fn walk_list<'a>(
     }
 }
 
-/// Reads the posting of the field at `at`, whose body is given by its places.
+/// Reads the posting of the field at `at`, where it is one.
 fn gather(
     bytes: &[u8],
     at: usize,
-    first: usize,
-    after: usize,
+    field: &Field,
     gathered: &mut Gathered,
 ) -> Result<(), CiffFault>
-    requires order { first ≤ after }
-    requires within { after ≤ length bytes.now }
+    requires value { IsWithin field.now.value field.now.next }
+    requires within { field.now.next ≤ length bytes.now }
+    ensures read { GathersField bytes.now at field.now result gathered.old gathered.new }
     ensures docs { gathered.new.docs ≡ gathered.old.docs }
     ensures before { gathered.new.before ≡ gathered.old.before }
 {
-    let entry = read_entry(&bytes[..after], first)?;
+    if field.number != 4 {
+        return Ok(());
+    }
+    let Value::Bytes(first, after) = field.value else {
+        return Ok(());
+    };
+    let entry = match read_entry(&bytes[..after], first) {
+        Ok(entry) => entry,
+        Err(fault) => return Err(fault),
+    };
     match gathered.take(at, entry) {
         Ok(()) => Ok(()),
         Err(_) => Err(CiffFault::NoMemory),

@@ -1,3 +1,6 @@
+ghost use Rattle.std.specs.Prelude.{◌≡◌};
+ghost use Rattle.ciff_read.specs.Refusals.{why_of};
+
 use wire_fields::{WireFault, WireWhy};
 
 /// Why bytes are no CIFF file. The number of each refusal stands beside it.
@@ -69,12 +72,16 @@ pub enum CiffFault {
 }
 
 /// A refusal at a place.
-pub fn refused(at: usize, why: CiffWhy) -> CiffFault {
+pub fn refused(at: usize, why: CiffWhy) -> CiffFault
+    ensures { result ≡ CiffFault.Refused (record { at = at; why = why }) }
+{
     CiffFault::Refused(CiffRefusal { at: at as u64, why })
 }
 
 /// What a fault in the fields is as a refusal of the file.
-pub fn refused_field(fault: WireFault) -> CiffFault {
+pub fn refused_field(fault: WireFault) -> CiffFault
+    ensures { result ≡ CiffFault.Refused (record { at = fault.at; why = why_of fault.why }) }
+{
     let why = match fault.why {
         WireWhy::Cut => CiffWhy::Cut,
         WireWhy::LongVarint => CiffWhy::Varint,
