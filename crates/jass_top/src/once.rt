@@ -1,4 +1,6 @@
-ghost use Rattle.std.specs.Prelude.{ℕ, ◌≡◌, ◌≤◌, ◌<◌, ◌⊎◌, length, IfOk, OnErr, IfErr, Err, IsErrOf, ◌≢◌, All};
+ghost use Rattle.std.specs.Prelude.{ℕ, ◌≡◌, ◌≤◌, ◌<◌, ◌^◌, ◌⊎◌, length, IfOk, OnErr, IfErr, Err, IsErrOf, ◌≢◌, All};
+ghost use Rattle.ciff_read.specs.Counts.{posting_count};
+ghost use Rattle.impact_segments.specs.Flat.{flat_of};
 ghost use Rattle.jass_base.specs.Outside.{Rose, IsMissing};
 ghost use Rattle.jass_base.specs.declared.answer.Hit.{Hit};
 
@@ -20,9 +22,6 @@ use weights::{Bits, Rule};
 const ID: &str = "q";
 
 const TAG: &str = "jass";
-
-/// The most postings of an index.
-const MOST_POSTINGS: usize = 536_870_912;
 
 /// What a query of words is answered with.
 #[derive(Drop)]
@@ -61,6 +60,7 @@ pub fn run_once<C: Cabinet, O: Sink>(
 fn read_file<C: Cabinet>(alloc: Global, files: &mut C, name: &str) -> Result<Collection, Stop>
     ensures no_write { ¬ IsErrOf result Stop.WriteFault }
     ensures stays { C.told files.new ≡ C.told files.old }
+    ensures few { IfOk result (λ collection. posting_count collection.lists ≤ 2 ^ 29) }
     ensures fault { IsErrOf result Stop.ReadFault → Rose (C.read_faults files.old) (C.read_faults files.new) ⊎ IsMissing (C.told files.old) name.now }
 {
     let bytes = match read_whole(alloc, files, name) {
@@ -80,6 +80,7 @@ fn read_file<C: Cabinet>(alloc: Global, files: &mut C, name: &str) -> Result<Col
 
 /// Answers a query of words over an index.
 fn answer_words(alloc: Global, index: &ImpactIndex, once: Once<'_>) -> Result<Answer, NoMemory>
+    requires { length (flat_of index.now) ≤ 2 ^ 29 }
     ensures { IfOk result (λ answer. All (λ (hit : Hit). hit.doc < length index.now.names) answer.hits) }
 {
     let view = IndexView { index };
@@ -92,9 +93,6 @@ fn answer_words(alloc: Global, index: &ImpactIndex, once: Once<'_>) -> Result<An
         Err(_) => return Err(NoMemory),
     };
     let docs = index.names.len() as u32;
-    if entries.len() > MOST_POSTINGS {
-        return Err(NoMemory);
-    }
     let plan = match plan_of(alloc, docs, entries.as_slice(), query.terms.as_slice()) {
         Ok(plan) => plan,
         Err(_) => return Err(NoMemory),
