@@ -1,0 +1,4 @@
+pub mod Tallies
+pub mod Named
+pub mod Facts
+pub mod Words

@@ -1,5 +1,5 @@
 -- The mentions of a query and what it names. A mention's factor says how often it counts. This project's.
-use Rattle.std.specs.Prelude.{ℕ, ◌+◌, ◌==◌, Bool, false, not, List, [], ◌∷◌, ◌++◌, map, filter, count_by, sum_by, position, bytes_eq, is_none, Option, Some, None, if◌then◌else◌}
+use Rattle.std.specs.Prelude.{ℕ, ◌==◌, Bool, false, not, List, [], ◌∷◌, map, filter, count_by, sum_by, position, bytes_eq, is_none, Option}
 use Rattle.std.specs.List.{filter_map}
 use Rattle.std.specs.Option.{option_map_or}
 use Rattle.jass_base.specs.declared.named.Named.{Named}
@@ -32,13 +32,10 @@ times_named terms mentions number = sum_by (λ m. m.factor) (filter (names_numbe
 
 -- the known terms of a query by first mention, each with the sum of the factors of its mentions
 abbrev pub named_of : List (List ℕ) → List Mention → List Named
-named_of terms mentions = map (λ number. record { term = number; times = times_named terms mentions number }) (first_mentions (filter_map (number_of terms) mentions))
+named_of terms mentions =
+    map (λ number. record { term = number; times = times_named terms mentions number })
+    (first_mentions (filter_map (number_of terms) mentions))
 
 -- the number of mentions of terms that the index hasn't, whatever their factors
 abbrev pub unknown_of : List (List ℕ) → List Mention → ℕ
 unknown_of terms mentions = count_by (λ m. is_none (number_of terms m)) mentions
-
--- the terms with one of them named once more, or one more behind the others
-abbrev pub tallied : List Named → ℕ → List Named
-tallied [] number = record { term = number; times = 1 } ∷ []
-tallied (n ∷ ns) number = if n.term == number then record n { times = n.times + 1 } ∷ ns else n ∷ tallied ns number

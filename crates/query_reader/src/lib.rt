@@ -6,3 +6,6 @@
 mod naming;
 
 pub use naming::name_terms;
+
+#[cfg(test)]
+mod tests;
