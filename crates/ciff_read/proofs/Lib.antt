@@ -1,10 +1,17 @@
 pub mod Answering
 pub mod FieldValues
+pub mod DocLaws
 pub mod Files
+pub mod ListLaws
+pub mod MessageLaws
 pub mod Messages
+pub mod PartLaws
 pub mod Parts
+pub mod PostingLaws
 pub mod Postings
 pub mod Sequences
 pub mod Tables
 pub mod TermLists
+pub mod WalkLaws
 pub mod Walks
+pub mod WireLaws
