@@ -1,6 +1,7 @@
 pub mod Answering
 pub mod FieldValues
 pub mod DocLaws
+pub mod FileLaws
 pub mod Files
 pub mod ListLaws
 pub mod MessageLaws
