@@ -1,5 +1,5 @@
 -- What postings keep when one more is put behind them.
-use Rattle.std.proofs.Common.{◌≡◌, ℕ, zero, suc, ◌+◌, ◌^◌, ◌<◌, ◌≤◌, Bool, true, false, cond, List, [], ◌∷◌, ◌++◌, length, All, Result, Ok, Err, refl, sym, subst, arith, inl, inr}
+use Rattle.std.proofs.Common.{ap, ◌≡◌, ℕ, zero, suc, ◌+◌, ◌^◌, ◌<◌, ◌≤◌, Bool, true, false, cond, List, [], ◌∷◌, ◌++◌, length, All, Result, Ok, Err, refl, sym, subst, arith, inl, inr}
 use Rattle.std.specs.Prelude.{nat_le, nat_lt, ◌==◌, ◌||◌, ◌&&◌}
 use Rattle.std.specs.List.Sorted.{IsStrictlyIncreasing}
 use Rattle.std.proofs.lemmas.Bool.{cases_lt}
@@ -43,6 +43,12 @@ judge_follows docs before postings e p is =
       room = let a = t.4 in grind (arith, nat_tests);
       tf = let a = t.0 in let b = t.1 in (grind (arith, nat_tests), grind (arith, nat_tests));
     })
+
+-- what a posting that passes is
+pub judge_is : (docs before : ℕ) (postings : List Posting) (e : Entry) (p : Posting) → judge docs before postings e ≡ Ok p → (p.doc ≡ last_from 0 postings + e.docid) × (p.tf ≡ e.tf)
+judge_is docs before postings e p is =
+    let t = passed (nat_le (2 ^ 31) e.docid || nat_le (2 ^ 31) e.tf) (e.tf == 0) (e.docid == 0 && nat_lt 0 (length postings)) (nat_le docs (last_from 0 postings + e.docid)) (nat_le (2 ^ 29) (before + length postings)) (record { doc = last_from 0 postings + e.docid; tf = e.tf }) p is in
+    (ap (λ (q : Posting). q.doc) (sym t.5), ap (λ (q : Posting). q.tf) (sym t.5))
 
 pub last_from-snoc : (last : ℕ) (ps : List Posting) (p : Posting) → last_from last (ps ++ p ∷ []) ≡ p.doc
 last_from-snoc last [] p = refl

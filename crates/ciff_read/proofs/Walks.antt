@@ -24,12 +24,12 @@ abbrev pub nothing : Walked
 nothing = record { fields = []; entries = [] }
 
 module _ (inside : ℕ → ℕ → WireField → Result (List PlacedEntry) CiffRefusal) where
-  no_field : (k at : ℕ) → walk_within inside k at [] ≡ Ok nothing
+  pub no_field : (k at : ℕ) → walk_within inside k at [] ≡ Ok nothing
   unfolding walk_within
   no_field zero at = refl
   no_field (suc k) at = refl
 
-  one_field : (k at next : ℕ) (s rest : List ℕ) (f : WireField) → 0 < length s → field_at s ≡ Ok (f, rest) → at + (length s - length rest) ≡ next
+  pub one_field : (k at next : ℕ) (s rest : List ℕ) (f : WireField) → 0 < length s → field_at s ≡ Ok (f, rest) → at + (length s - length rest) ≡ next
       → walk_within inside (suc k) at s ≡ (inside at next f >>= λ entries. walk_within inside k next rest >>= λ later. Ok (in_front f entries later))
   unfolding walk_within
   one_field k at next [] rest f some is place = absurd (omega arith)

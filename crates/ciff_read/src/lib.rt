@@ -12,6 +12,7 @@ mod entry;
 mod file_head;
 mod gathered;
 mod header;
+pub mod laws;
 mod list_fields;
 mod message;
 mod postings_list;

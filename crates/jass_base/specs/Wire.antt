@@ -1,5 +1,5 @@
 -- The protobuf wire format (protobuf.dev, "Encoding"): varints, and the fields of a message's body.
-use Rattle.std.specs.Prelude.{ℕ, ◌≡◌, ◌≢◌, ◌<◌, ◌≤◌, ◌+◌, ◌*◌, ◌/◌, ◌%◌, ◌^◌, ◌==◌, List, [], ◌∷◌, ◌++◌, length, fold, replicate, if◌then◌else◌}
+use Rattle.std.specs.Prelude.{ℕ, ◌≡◌, ◌≢◌, ◌<◌, ◌≤◌, ◌+◌, ◌*◌, ◌%◌, ◌^◌, ◌==◌, List, [], ◌∷◌, ◌++◌, length, fold, replicate, if◌then◌else◌}
 use Rattle.std.specs.List.{flat_map}
 
 -- the number that groups of 7 bits stand for, the lowest first

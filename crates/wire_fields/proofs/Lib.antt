@@ -1,3 +1,5 @@
+pub mod FieldLaws
 pub mod Fields
 pub mod Groups
+pub mod VarintLaws
 pub mod Varints

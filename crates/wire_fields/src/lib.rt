@@ -5,6 +5,7 @@
 
 mod fault;
 mod field;
+pub mod laws;
 mod varint;
 
 pub use fault::{WireFault, WireWhy};
