@@ -23,7 +23,11 @@ pub fn entries_of(alloc: Global, index: &ImpactIndex) -> Result<Row<Entry<u32>>,
     Ok(entries)
 }
 
-fn add_term(number: u32, segments: &[Segment], entries: &mut Row<Entry<u32>>) -> Result<(), NoMemory>
+fn add_term(
+    number: u32,
+    segments: &[Segment],
+    entries: &mut Row<Entry<u32>>,
+) -> Result<(), NoMemory>
     ensures { OnOk result (entries.new ≡ entries.old ++ term_entries number segments.now) }
 {
     for segment in segments {
@@ -32,7 +36,11 @@ fn add_term(number: u32, segments: &[Segment], entries: &mut Row<Entry<u32>>) ->
     Ok(())
 }
 
-fn add_segment(number: u32, segment: &Segment, entries: &mut Row<Entry<u32>>) -> Result<(), NoMemory>
+fn add_segment(
+    number: u32,
+    segment: &Segment,
+    entries: &mut Row<Entry<u32>>,
+) -> Result<(), NoMemory>
     ensures { OnOk result (entries.new ≡ entries.old ++ segment_entries number segment.now) }
 {
     for doc in segment.docs.as_slice() {
