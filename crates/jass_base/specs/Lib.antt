@@ -1,3 +1,5 @@
+pub mod Ciff
+pub mod CiffViews
 pub mod Decimal
 pub mod FilesOf
 pub mod Limits
@@ -6,4 +8,5 @@ pub mod Outside
 pub mod Postings
 pub mod Segments
 pub mod Terms
+pub mod Wire
 pub mod Writing

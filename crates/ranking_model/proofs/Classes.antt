@@ -1,21 +1,19 @@
 -- Postings in order by place and weight join the last class or begin one behind it.
-use Rattle.std.proofs.Common.{◌≡◌, ℕ, suc, ◌+◌, ◌-◌, ◌<◌, ◌≤◌, List, [], ◌∷◌, ◌++◌, length, get_or, set, take, drop, fold, zero, Bool, true, false, true≢false, cond, ◌&&◌, refl, sym, ap, ◌∙◌, subst, arith, inl, inr, ◌⊎◌, nat_lt, ◌==◌}
+use Rattle.std.proofs.Common.{◌≡◌, ℕ, suc, ◌+◌, ◌<◌, ◌≤◌, List, [], ◌∷◌, ◌++◌, length, get_or, set, take, drop, fold, zero, Bool, true, false, true≢false, refl, sym, ap, ◌∙◌, subst, arith}
 use Rattle.std.proofs.lemmas.Bool.Decides.{nat_tests}
-use Rattle.std.proofs.Math.Seq.{drop-cons, take-suc}
+use Rattle.std.proofs.Math.Seq.{drop-cons}
 use native.Mathlib.Numerals.{unary_clauses, add-one}
 use Rattle.std.proofs.lemmas.List.Sums.{fold_more}
 use Rattle.std.specs.Prelude.{⊤}
 use Rattle.std.specs.List.{AllByRecursion}
-use Rattle.std.specs.declared.cmp.Ordering.{Ordering}
-use Rattle.std.specs.declared.cmp.Ordering.TheVariants.{Less, Equal, Greater}
-use Rattle.std.specs.Ordering.{is_gt, nat_cmp, ordering_then}
+use Rattle.std.specs.Ordering.{is_gt}
 use Rattle.std.specs.Cmp.{IsTotalOrder}
 use Rattle.std.proofs.lemmas.Cmp.{then_total, on_total, back_total, nat_cmp_total}
 use Rattle.ranking_model.specs.declared.class.Class.{Class}
 use Rattle.ranking_model.specs.declared.posting.WeightedPosting.{WeightedPosting}
-use Rattle.ranking_model.specs.Postings.{place_cmp}
-use Rattle.ranking_model.specs.Plan.{plan_cmp, is_of, begun, joined, ends_in, last_with}
-use Rattle.ranking_model.proofs.Sorting.{Ascends, either}
+use Rattle.ranking_model.specs.Programs.{ends_in, last_with, place_cmp}
+use Rattle.ranking_model.specs.Plan.{plan_cmp, is_of, begun, joined}
+use Rattle.ranking_model.proofs.Sorting.{Ascends}
 
 pub plan_total : IsTotalOrder plan_cmp
 plan_total = then_total (then_total (on_total (λ (c : Class). c.weight) (back_total nat_cmp_total)) (on_total (λ (c : Class). length c.docs) nat_cmp_total))
@@ -71,6 +69,7 @@ joins [] p ps r a e = absurd (true≢false (sym e))
 joins (c ∷ []) p ps r a e = let e' : is_of c p ≡ true = e in (rw e' refl, all_behind ps r.1) where
   behind : (q : WeightedPosting) → NotBehind c q → NotBehind (record c { docs = c.docs ++ p.doc ∷ [] }) q
   behind q h = record { place = h.place; weight = h.weight }
+
   all_behind : (qs : List WeightedPosting) → AllByRecursion (NotBehind c) qs → AllByRecursion (NotBehind (record c { docs = c.docs ++ p.doc ∷ [] })) qs
   all_behind [] h = tt
   all_behind (q ∷ qs) h = (behind q h.0, all_behind qs h.1)

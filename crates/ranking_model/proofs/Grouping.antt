@@ -1,13 +1,9 @@
 -- What holds of postings, of the classes that they are grouped into, and of these in the plan's order.
-use Rattle.std.proofs.Common.{◌≡◌, ℕ, suc, ◌+◌, ◌*◌, ◌<◌, ◌≤◌, List, [], ◌∷◌, ◌++◌, length, Bool, true, false, cond, refl, sym, ap, ◌∙◌, subst, arith, zero-add, inl, inr, ◌⊎◌, ◌==◌, fold, sum_by, count_by}
-use Rattle.std.specs.Prelude.{⊤}
+use Rattle.std.proofs.Common.{◌≡◌, ℕ, suc, ◌+◌, ◌≤◌, List, [], ◌∷◌, ◌++◌, length, true, false, refl, sym, ◌∙◌, arith, zero-add, inl, inr, ◌⊎◌, fold, sum_by}
 use Rattle.std.specs.List.{AllByRecursion}
-use Rattle.std.specs.Ordering.{is_gt}
-use Rattle.std.specs.declared.cmp.Ordering.{Ordering}
-use Rattle.std.proofs.lemmas.List.Sums.{sum_by-cons, sum_by_push}
+use Rattle.std.proofs.lemmas.List.Sums.{sum_by-cons}
 use Rattle.ranking_model.specs.declared.class.Class.{Class}
 use Rattle.ranking_model.specs.declared.posting.WeightedPosting.{WeightedPosting}
-use Rattle.ranking_model.specs.Order.{placed, sorted}
 use Rattle.ranking_model.specs.Plan.{plan_cmp, is_of, begun, joined, classes_of}
 use Rattle.ranking_model.proofs.Sorting.{either, sum_by-sorted, all_sorted}
 use Rattle.ranking_model.proofs.Classes.{plan_total}

@@ -5,3 +5,9 @@ pub mod Totals
 pub mod Grouping
 pub mod Weighing
 pub mod Small
+pub mod Gains
+pub mod Parting
+pub mod Segments
+pub mod Numbering
+pub mod Documents
+pub mod Rest

@@ -1,25 +1,26 @@
 -- The numbers of a query's plan on an index fit the types of a report.
-use Rattle.std.proofs.Common.{◌≡◌, ◌≢◌, ℕ, zero, suc, ◌+◌, ◌*◌, ◌^◌, ◌<◌, ◌≤◌, max, List, [], ◌∷◌, ◌++◌, map, filter, length, get_or, take, drop, Bool, true, false, cond, ◌&&◌, refl, sym, ap, ◌∙◌, subst, arith, inl, inr, ◌⊎◌, ◌==◌, sum_by, count_by, eqb-true, eq-eqb, length-append}
-use Rattle.std.specs.Prelude.{⊤, All}
+use Rattle.std.proofs.Common.{◌≡◌, ℕ, zero, suc, ◌+◌, ◌*◌, ◌^◌, ◌<◌, ◌≤◌, List, [], ◌∷◌, ◌++◌, length, drop, true, false, cond, refl, ◌∙◌, arith, inl, inr, ◌⊎◌, ◌==◌, sum_by, count_by, length-append}
+use Rattle.std.specs.Prelude.{All}
 use Rattle.std.specs.List.{AllByRecursion, range_with_len}
 use Rattle.std.specs.Ordering.{nat_cmp}
 use Rattle.std.proofs.lemmas.Bool.Decides.{nat_tests}
 use Rattle.std.proofs.Math.Seq.{take-length}
 use Rattle.std.proofs.lemmas.List.Elements.{recursion_from_All}
-use Rattle.std.proofs.lemmas.List.Sums.{sum_by-cons, sum_by_push, sum_by-take-le, sum_by-le}
+use Rattle.std.proofs.lemmas.List.Sums.{sum_by_push, sum_by-take-le, sum_by-le}
 use Rattle.std.proofs.lemmas.List.FromFn.{length-range_with_len}
 use Rattle.ranking_model.specs.declared.entry.Entry.{Entry}
-use Rattle.ranking_model.specs.declared.named.Named.{Named}
+use Rattle.ranking_model.specs.Programs.{AreLight}
+use Rattle.jass_base.specs.declared.named.Named.{Named}
 use Rattle.ranking_model.specs.declared.posting.WeightedPosting.{WeightedPosting}
 use Rattle.ranking_model.specs.declared.class.Class.{Class}
 use Rattle.ranking_model.specs.declared.plan.QueryPlan.{QueryPlan}
 use Rattle.ranking_model.specs.Flat.{IsFlat}
 use Rattle.ranking_model.specs.Postings.{AreTerms, weighted_postings}
-use Rattle.ranking_model.specs.Plan.{is_of, begun, classes_of, plan_of, size_of_first}
-use Rattle.ranking_model.specs.Scores.{gain_of, greatest, greatest_weight, bound_after}
+use Rattle.ranking_model.specs.Plan.{is_of, begun, classes_of, plan_of}
+use Rattle.ranking_model.specs.Scores.{adds, gain_of, greatest_weight, bound_after}
 use Rattle.ranking_model.specs.Limits.{IsSmall}
 use Rattle.ranking_model.proofs.Grouping.{more, classes_sum, classes_all, classes_length, length_sum}
-use Rattle.ranking_model.proofs.Weighing.{adds, pairs_by_recursion, weighted_length, weighted_documents, weighted_weights, all_add}
+use Rattle.ranking_model.proofs.Weighing.{pairs_by_recursion, weighted_length, weighted_documents, all_add}
 use Rattle.ranking_model.proofs.Sorting.{either}
 
 -- ---- what a posting adds to its class
@@ -46,6 +47,7 @@ gain_next : (doc : ℕ) (c : Class) (p : WeightedPosting) → is_of c p ≡ true
 gain_next doc c p e = by (either (p.doc == doc)) where
   count : count_by (λ d. d == doc) (c.docs ++ p.doc ∷ []) ≡ count_by (λ d. d == doc) c.docs + cond (p.doc == doc) 1 0
   count = sum_by_push (λ d. cond (d == doc) 1 0) c.docs p.doc
+
   by : ((p.doc == doc) ≡ true) ⊎ ((p.doc == doc) ≡ false) → gain_of doc (more c p.doc) ≡ gain_of doc c + adds doc p
   by (inl t) = let same = same_weight c p e in rw (count, t) (omega arith)
   by (inr f) = rw (count, f) (omega arith)
@@ -55,7 +57,7 @@ gains doc ps = classes_sum (gain_of doc) (adds doc) (gain_first doc) (gain_next 
 
 -- ---- the bound
 
-all_drop : {A : Type 0} (P : A → Type 0) (n : ℕ) (xs : List A) → AllByRecursion P xs → AllByRecursion P (drop n xs)
+pub all_drop : {A : Type 0} (P : A → Type 0) (n : ℕ) (xs : List A) → AllByRecursion P xs → AllByRecursion P (drop n xs)
 all_drop P zero xs h = h
 all_drop P (suc n) [] h = tt
 all_drop P (suc n) (x ∷ xs) h = all_drop P n xs h.1
@@ -73,21 +75,24 @@ bound_le n m plan h =
     let total = sum_by-le (λ place. greatest_weight place (drop n plan.classes)) m (range_with_len 0 plan.places) each in
     rw length-range_with_len at total
 
-pub plan_is_small : (docs : ℕ) (flat : List (Entry ℕ)) (terms : List Named) → IsFlat nat_cmp docs flat → AreTerms terms → length flat ≤ 2 ^ 29 → IsSmall (plan_of docs flat terms)
-plan_is_small docs flat terms f t few = record {
-    documents = classes_all (λ c. AllByRecursion (λ doc. doc < docs) c.docs) (λ p. p.doc < docs) (λ p h. (h, tt)) (λ c p e h k. one_more c.docs p.doc h k) ps (weighted_documents docs 0 terms flat f t);
-    postings = let all = take-length (classes_of ps) in let total = sizes ps in rw (all, total) (omega (arith, long));
-    segments = let count = classes_length ps in omega (arith, long);
-    bounds = λ n. let most = bound_le n 16711425 (plan_of docs flat terms) weights in let places = t.few in omega arith;
-    scores = λ n doc. let part = sum_by-take-le (gain_of doc) (classes_of ps) n in let all = gains doc ps in let most = all_add doc docs 0 terms flat f (recursion_from_All _ terms t.times) in let places = t.few in omega arith;
-  }
+pub plan_is_small : (docs : ℕ) (flat : List (Entry ℕ)) (terms : List Named) → IsFlat nat_cmp docs flat → AreTerms terms → length flat ≤ 2 ^ 29 → AreLight (weighted_postings flat terms) → IsSmall (plan_of docs flat terms)
+plan_is_small docs flat terms f t few light = record {
+  documents = classes_all (λ c. AllByRecursion (λ doc. doc < docs) c.docs) (λ p. p.doc < docs) (λ p h. (h, tt)) (λ c p e h k. one_more c.docs p.doc h k) ps (weighted_documents docs 0 terms flat f t);
+  postings = let all = take-length (classes_of ps) in let total = sizes ps in rw (all, total) (omega (arith, long));
+  segments = let count = classes_length ps in omega (arith, long);
+  bounds = λ n. let most = bound_le n 16711425 (plan_of docs flat terms) weights in let places = t.few in omega arith;
+  scores = λ n doc. let part = sum_by-take-le (gain_of doc) (classes_of ps) n in let all = gains doc ps in let most = all_add doc docs 0 terms flat f (recursion_from_All _ ps light) in let places = t.few in omega arith;
+}
   where
     ps : List WeightedPosting
     ps = weighted_postings flat terms
+
     long : length ps ≤ length flat
     long = weighted_length 0 terms flat (pairs_by_recursion _ terms t.differ)
+
     weights : AllByRecursion (λ c. c.weight ≤ 16711425) (classes_of ps)
-    weights = classes_all (λ c. c.weight ≤ 16711425) (λ p. p.weight ≤ 16711425) (λ p h. h) (λ c p e h k. h) ps (weighted_weights docs 0 terms flat f t)
+    weights = classes_all (λ c. c.weight ≤ 16711425) (λ p. p.weight ≤ 16711425) (λ p h. h) (λ c p e h k. h) ps (recursion_from_All _ ps light)
+
     one_more : (ds : List ℕ) (d : ℕ) → AllByRecursion (λ doc. doc < docs) ds → d < docs → AllByRecursion (λ doc. doc < docs) (ds ++ d ∷ [])
     one_more [] d h k = (k, tt)
     one_more (x ∷ xs) d h k = (h.0, one_more xs d h.1 k)

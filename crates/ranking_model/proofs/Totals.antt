@@ -1,13 +1,12 @@
 -- Sums over a prefix of a list, of a range and of the documents that a class has.
-use Rattle.std.proofs.Common.{◌≡◌, ℕ, suc, zero, ◌+◌, ◌-◌, ◌*◌, ◌^◌, ◌<◌, ◌≤◌, ◌≢◌, List, [], ◌∷◌, ◌++◌, length, get_or, set, take, drop, Bool, true, false, true≢false, cond, refl, sym, ap, ◌∙◌, subst, arith, inl, inr, ◌⊎◌, ⊎_elim, nat_le, ◌==◌, sum_by, count_by, eq-eqb, get_or-set_same, get_or-set_other}
-use Rattle.std.specs.List.{range_with_len, AllByRecursion}
+use Rattle.std.proofs.Common.{◌≡◌, ℕ, suc, zero, ◌+◌, ◌-◌, ◌*◌, ◌^◌, ◌<◌, ◌≤◌, ◌≢◌, List, [], ◌∷◌, ◌++◌, length, get_or, set, take, drop, Bool, true, false, true≢false, cond, sym, ap, ◌∙◌, arith, inl, inr, ◌⊎◌, nat_le, ◌==◌, sum_by, count_by, eq-eqb, get_or-set_same, get_or-set_other}
+use Rattle.std.specs.List.{range_with_len}
 use Rattle.std.proofs.lemmas.List.{take-take, take_rest, ext_get_or}
-use Rattle.std.proofs.lemmas.List.Sums.{sum_by-cons, sum_by-append, sum_by_push, sum_by-take-le, count_by_more_no, count_by_more_yes}
-use Rattle.std.proofs.lemmas.List.Elements.{All-from_recursion}
-use Rattle.std.proofs.lemmas.Bool.{cases_lt, leb-true, le-leb}
+use Rattle.std.proofs.lemmas.List.Sums.{sum_by_push, sum_by-take-le, count_by_more_no, count_by_more_yes}
+use Rattle.std.proofs.lemmas.Bool.{cases_lt, le-leb}
 use Rattle.std.proofs.lemmas.Bool.Decides.{nat_tests}
 use Rattle.std.proofs.Math.Nat.{mul-le-mul_left}
-use native.Mathlib.Numerals.{unary_clauses, add-one}
+use native.Mathlib.Numerals.{unary_clauses}
 use borrow.Author.Tests.{eqb-true, eqb-false}
 use Rattle.ranking_model.specs.declared.class.Class.{Class}
 use Rattle.ranking_model.specs.Plan.{size_of_first, greatest_up_to, prefix_within}
@@ -79,7 +78,7 @@ added_here docs scores old weight i doc d h is here inv long within = by (either
       let was = inv d within in
       let old_doc : get_or scores doc 0 ≡ get_or scores d 0 = ap (λ n. get_or scores n 0) e in
       let written : get_or (set scores doc (get_or scores doc 0 + weight)) d 0 ≡ get_or scores doc 0 + weight =
-          ap (λ n. get_or (set scores doc (get_or scores doc 0 + weight)) n 0) (sym e) ∙ get_or-set_same scores doc (get_or scores doc 0 + weight) 0 here in
+      ap (λ n. get_or (set scores doc (get_or scores doc 0 + weight)) n 0) (sym e) ∙ get_or-set_same scores doc (get_or scores doc 0 + weight) 0 here in
       written ∙ rw more (omega arith)
   by (inr f) =
       let apart : d ≢ doc = λ e. eqb-false _ _ f (sym is ∙ sym e) in
@@ -93,6 +92,7 @@ pub bound_step : (classes shown : List Class) (count place places bound more : �
 bound_step classes shown count place places bound more same within is told limit = (total, let most = sum_range_le (λ p. greatest_weight p (drop count classes)) (place + 1) places (omega arith) in omega (arith, total)) where
   told' : more ≡ greatest_weight place (drop count classes)
   told' = told ∙ ap (greatest_weight place) (take_rest shown count) ∙ ap (λ l. greatest_weight place (drop count l)) same
+
   total : bound + more ≡ sum_by (λ p. greatest_weight p (drop count classes)) (range_with_len 0 (place + 1))
   total = let more = sum_range_more (λ p. greatest_weight p (drop count classes)) place in omega (arith, told')
 

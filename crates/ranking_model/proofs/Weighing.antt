@@ -1,6 +1,6 @@
 -- The weighted postings of a flat list: their order, their number, their documents and their weights.
-use Rattle.std.proofs.Common.{◌≡◌, ◌≢◌, ℕ, zero, suc, ◌+◌, ◌*◌, ◌^◌, ◌<◌, ◌≤◌, List, [], ◌∷◌, ◌++◌, map, filter, length, get_or, Bool, true, false, true≢false, cond, ◌&&◌, refl, sym, ap, ◌∙◌, subst, arith, inl, inr, ◌⊎◌, ◌==◌, sum_by, count_by, eqb-true, length-append}
-use Rattle.std.specs.Prelude.{⊤, All, AllPairs, IsSorted}
+use Rattle.std.proofs.Common.{◌≡◌, ◌≢◌, ℕ, suc, ◌+◌, ◌*◌, ◌<◌, ◌≤◌, List, [], ◌∷◌, ◌++◌, map, filter, length, get_or, true, false, refl, sym, ap, ◌∙◌, arith, inl, inr, ◌⊎◌, ◌==◌, sum_by, eqb-true, length-append}
+use Rattle.std.specs.Prelude.{⊤, AllPairs, IsSorted}
 use Rattle.std.specs.List.{AllByRecursion}
 use Rattle.std.specs.Ordering.{is_gt, nat_cmp}
 use Rattle.std.specs.Cmp.{IsTotalOrder}
@@ -8,16 +8,17 @@ use Rattle.std.proofs.lemmas.Cmp.{then_total, on_total, back_total, nat_cmp_tota
 use Rattle.std.proofs.lemmas.Bool.Decides.{nat_tests}
 use Rattle.std.proofs.lemmas.List.Elements.{recursion_from_All}
 use Rattle.std.proofs.lemmas.List.Sums.{sum_by-cons, sum_by-append}
-use Rattle.std.proofs.Math.Nat.{mul-le-mul_left}
 use Rattle.ranking_model.specs.declared.entry.Entry.{Entry}
-use Rattle.ranking_model.specs.declared.named.Named.{Named}
+use Rattle.ranking_model.specs.Programs.{place_cmp}
+use Rattle.jass_base.specs.declared.named.Named.{Named}
 use Rattle.ranking_model.specs.declared.posting.WeightedPosting.{WeightedPosting}
 use Rattle.ranking_model.specs.Flat.{entry_cmp, IsFlat}
-use Rattle.ranking_model.specs.Postings.{AreTerms, weighted_at, weighted_from, weighted_postings, place_cmp}
+use Rattle.ranking_model.specs.Postings.{AreTerms, weighted_at, weighted_from, weighted_postings}
+use Rattle.ranking_model.specs.Scores.{adds}
 use Rattle.ranking_model.proofs.Sorting.{Ascends, either, ascends_sorted, ascends_filter, ascends_append, sorted_ascending}
 use Rattle.ranking_model.proofs.Classes.{place_total}
 
-entry_total : IsTotalOrder (entry_cmp nat_cmp)
+pub entry_total : IsTotalOrder (entry_cmp nat_cmp)
 entry_total = then_total (then_total (on_total (λ (e : Entry ℕ). e.term) nat_cmp_total) (on_total (λ (e : Entry ℕ). e.impact) (back_total nat_cmp_total)))
     (on_total (λ (e : Entry ℕ). e.doc) nat_cmp_total)
 
@@ -67,13 +68,14 @@ weighted_ascends : (place : ℕ) (terms : List Named) (flat : List (Entry ℕ)) 
 weighted_ascends place [] flat a = tt
 weighted_ascends place (named ∷ terms) flat a =
     ascends_append place_cmp (weighted_at place named flat) (weighted_from (suc place) terms flat)
-      (weighed_ascends place named.times named.term _ (all_of named.term flat) (ascends_filter (entry_cmp nat_cmp) (λ e. e.term == named.term) flat a))
-      (weighted_ascends (suc place) terms flat a)
-      (all_before (weighted_at place named flat) (at_place place named.times (filter (λ e. e.term == named.term) flat)))
+    (weighed_ascends place named.times named.term _ (all_of named.term flat) (ascends_filter (entry_cmp nat_cmp) (λ e. e.term == named.term) flat a))
+    (weighted_ascends (suc place) terms flat a)
+    (all_before (weighted_at place named flat) (at_place place named.times (filter (λ e. e.term == named.term) flat)))
   where
     before : (x : WeightedPosting) → x.place ≡ place → (ys : List WeightedPosting) → AllByRecursion (λ p. suc place ≤ p.place) ys → AllByRecursion (λ y. is_gt (place_cmp x y) ≡ false) ys
     before x e [] h = tt
     before x e (y ∷ ys) h = (let less = h.0 in grind (arith, nat_tests), before x e ys h.1)
+
     all_before : (xs : List WeightedPosting) → AllByRecursion (λ p. p.place ≡ place) xs → AllByRecursion (λ x. AllByRecursion (λ y. is_gt (place_cmp x y) ≡ false) (weighted_from (suc place) terms flat)) xs
     all_before [] h = tt
     all_before (x ∷ xs) h = (before x h.0 _ (from_place (suc place) (suc place) terms flat (omega arith)), all_before xs h.1)
@@ -109,6 +111,7 @@ named_once place (named ∷ terms) e es h = by (either (e.term == named.term)) (
   others : e.term ≡ named.term → (ts : List Named) → AllByRecursion (λ b. named.term ≢ b.term) ts → AllByRecursion (λ b. (e.term == b.term) ≡ false) ts
   others is [] k = tt
   others is (t ∷ ts) k = (let apart : named.term ≢ t.term = k.0 in grind (arith, nat_tests), others is ts k.1)
+
   by : ((e.term == named.term) ≡ true) ⊎ ((e.term == named.term) ≡ false) → length (weighted_from (suc place) terms (e ∷ es)) ≤ suc (length (weighted_from (suc place) terms es))
       → length (weighted_from place (named ∷ terms) (e ∷ es)) ≤ suc (length (weighted_from place (named ∷ terms) es))
   by (inl t) rest = rw (t, unnamed (suc place) terms e es (others (eqb-true _ _ t) terms h.0)) (omega arith)
@@ -141,26 +144,11 @@ for_each {A} {B} R P Q (x ∷ xs) ys f h k = (inner ys k, for_each R P Q xs ys f
   inner [] k = tt
   inner (y ∷ ys) k = (f x y h.0 k.0, inner ys k.1)
 
-heavy : (impact times : ℕ) → impact ≤ 65535 → times ≤ 255 → impact * times ≤ 16711425
-heavy impact times a b =
-    let first : impact * times ≤ impact * 255 = mul-le-mul_left impact b in
-    let second : impact * 255 ≤ 65535 * 255 = omega arith in
-    omega arith
-
 pub weighted_documents : (docs place : ℕ) (terms : List Named) (flat : List (Entry ℕ)) → IsFlat nat_cmp docs flat → AreTerms terms → AllByRecursion (λ p. p.doc < docs) (weighted_from place terms flat)
 weighted_documents docs place terms flat f t = weighted_all (λ p. p.doc < docs) place terms flat (λ place.
-    for_each (λ named e. e.doc < docs) (λ (named : Named). (1 ≤ named.times) × (named.times ≤ 255)) (λ (e : Entry ℕ). e.doc < docs) terms flat (λ named e a b. b) (recursion_from_All _ terms t.times) (recursion_from_All _ flat f.documents))
-
-pub weighted_weights : (docs place : ℕ) (terms : List Named) (flat : List (Entry ℕ)) → IsFlat nat_cmp docs flat → AreTerms terms → AllByRecursion (λ p. p.weight ≤ 16711425) (weighted_from place terms flat)
-weighted_weights docs place terms flat f t = weighted_all (λ p. p.weight ≤ 16711425) place terms flat (λ place.
-    for_each (λ (named : Named) (e : Entry ℕ). e.impact * named.times ≤ 16711425) (λ (named : Named). (1 ≤ named.times) × (named.times ≤ 255)) (λ (e : Entry ℕ). (1 ≤ e.impact) × (e.impact ≤ 65535)) terms flat
-      (λ named e a b. heavy e.impact named.times b.1 a.1) (recursion_from_All _ terms t.times) (recursion_from_All _ flat f.impacts))
+    for_each (λ named e. e.doc < docs) (λ (named : Named). 1 ≤ named.times) (λ (e : Entry ℕ). e.doc < docs) terms flat (λ named e a b. b) (recursion_from_All _ terms t.named) (recursion_from_All _ flat f.documents))
 
 -- ---- the score of one document
-
--- what a posting adds to a document
-abbrev pub adds : ℕ → WeightedPosting → ℕ
-adds doc p = cond (p.doc == doc) p.weight 0
 
 -- once a term's posting of the document is counted, no other of the term counts
 none_left : (doc place times term : ℕ) (e : Entry ℕ) (es : List (Entry ℕ)) → e.term ≡ term → e.doc ≡ doc → AllByRecursion (λ f. e.term ≡ f.term → e.doc ≢ f.doc) es → sum_by (adds doc) (map (weigh place times) (filter (λ f. f.term == term) es)) ≡ 0
@@ -175,28 +163,36 @@ none_left doc place times term e (f ∷ fs) a b h = by (either (f.term == term))
       rw t (sum_by-cons (adds doc) (weigh place times f) (map (weigh place times) (filter (λ f. f.term == term) fs)) ∙ rw other (omega arith))
   by (inr k) rest = rw k rest
 
-term_adds : (doc place times term : ℕ) (es : List (Entry ℕ)) → times ≤ 255 → Pairs (λ a b. a.term ≡ b.term → a.doc ≢ b.doc) es → AllByRecursion (λ e. (1 ≤ e.impact) × (e.impact ≤ 65535)) es → sum_by (adds doc) (map (weigh place times) (filter (λ f. f.term == term) es)) ≤ 16711425
-term_adds doc place times term [] few p h = omega arith
-term_adds doc place times term (e ∷ es) few p h = by (either (e.term == term)) (either (e.doc == doc)) (term_adds doc place times term es few p.1 h.1) where
-  rest_of : ℕ
-  rest_of = sum_by (adds doc) (map (weigh place times) (filter (λ f. f.term == term) es))
-  by : ((e.term == term) ≡ true) ⊎ ((e.term == term) ≡ false) → ((e.doc == doc) ≡ true) ⊎ ((e.doc == doc) ≡ false) → sum_by (adds doc) (map (weigh place times) (filter (λ f. f.term == term) es)) ≤ 16711425
+term_adds : (doc place times term : ℕ) (es : List (Entry ℕ)) → Pairs (λ a b. a.term ≡ b.term → a.doc ≢ b.doc) es → AllByRecursion (λ p. p.weight ≤ 16711425) (map (weigh place times) (filter (λ f. f.term == term) es))
+    → sum_by (adds doc) (map (weigh place times) (filter (λ f. f.term == term) es)) ≤ 16711425
+term_adds doc place times term [] p h = omega arith
+term_adds doc place times term (e ∷ es) p h = by (either (e.term == term)) (either (e.doc == doc)) (λ k. term_adds doc place times term es p.1 k) where
+  by : ((e.term == term) ≡ true) ⊎ ((e.term == term) ≡ false) → ((e.doc == doc) ≡ true) ⊎ ((e.doc == doc) ≡ false)
+      → (AllByRecursion (λ p. p.weight ≤ 16711425) (map (weigh place times) (filter (λ f. f.term == term) es)) → sum_by (adds doc) (map (weigh place times) (filter (λ f. f.term == term) es)) ≤ 16711425)
       → sum_by (adds doc) (map (weigh place times) (filter (λ f. f.term == term) (e ∷ es))) ≤ 16711425
   by (inl t) (inl d) rest =
+      let light = rw t at h in
       let none = none_left doc place times term e es (eqb-true _ _ t) (eqb-true _ _ d) p.0 in
       let one = sum_by-cons (adds doc) (weigh place times e) (map (weigh place times) (filter (λ f. f.term == term) es)) in
-      let most = heavy e.impact times h.0.1 few in
+      let most = light.0 in
       rw t (rw one (rw (d, none) (omega arith)))
   by (inl t) (inr d) rest =
+      let light = rw t at h in
       let one = sum_by-cons (adds doc) (weigh place times e) (map (weigh place times) (filter (λ f. f.term == term) es)) in
+      let others = rest light.1 in
       rw t (rw one (rw d (omega arith)))
-  by (inr t) d rest = rw t rest
+  by (inr t) d rest = rw t (rest (rw t at h))
 
-pub all_add : (doc docs place : ℕ) (terms : List Named) (flat : List (Entry ℕ)) → IsFlat nat_cmp docs flat → AllByRecursion (λ named. (1 ≤ named.times) × (named.times ≤ 255)) terms → sum_by (adds doc) (weighted_from place terms flat) ≤ length terms * 16711425
-all_add doc docs place [] flat f t = omega arith
-all_add doc docs place (named ∷ terms) flat f t =
-    let first = term_adds doc place named.times named.term flat t.0.1 (pairs_by_recursion _ flat f.once) (recursion_from_All _ flat f.impacts) in
-    let rest = all_add doc docs (suc place) terms flat f t.1 in
+all_parts : {A : Type 0} (P : A → Type 0) (xs ys : List A) → AllByRecursion P (xs ++ ys) → AllByRecursion P xs × AllByRecursion P ys
+all_parts P [] ys h = (tt, h)
+all_parts P (x ∷ xs) ys h = let rest = all_parts P xs ys h.1 in ((h.0, rest.0), rest.1)
+
+pub all_add : (doc docs place : ℕ) (terms : List Named) (flat : List (Entry ℕ)) → IsFlat nat_cmp docs flat → AllByRecursion (λ p. p.weight ≤ 16711425) (weighted_from place terms flat) → sum_by (adds doc) (weighted_from place terms flat) ≤ length terms * 16711425
+all_add doc docs place [] flat f h = omega arith
+all_add doc docs place (named ∷ terms) flat f h =
+    let light = all_parts (λ p. p.weight ≤ 16711425) (weighted_at place named flat) (weighted_from (suc place) terms flat) h in
+    let first = term_adds doc place named.times named.term flat (pairs_by_recursion _ flat f.once) light.0 in
+    let rest = all_add doc docs (suc place) terms flat f light.1 in
     let split = sum_by-append (adds doc) (weighted_at place named flat) (weighted_from (suc place) terms flat) in
     let count : suc (length terms) * 16711425 ≡ 16711425 + length terms * 16711425 = omega arith in
     rw (split, count) (omega arith)

@@ -4,7 +4,7 @@ use Rattle.jass_base.specs.declared.answer.Hit.{Hit}
 use Rattle.jass_base.specs.declared.answer.Report.{Report}
 use Rattle.jass_base.specs.declared.answer.Grade.{Grade}
 use Rattle.ranking_model.specs.declared.entry.Entry.{Entry}
-use Rattle.ranking_model.specs.declared.named.Named.{Named}
+use Rattle.jass_base.specs.declared.named.Named.{Named}
 use Rattle.ranking_model.specs.declared.plan.QueryPlan.{QueryPlan}
 use Rattle.ranking_model.specs.Flat.{numbered}
 use Rattle.ranking_model.specs.Plan.{plan_of}
@@ -25,6 +25,10 @@ report postings segments of cutoff next bound grade = record { postings = postin
 -- four documents with `cat` and `dog`
 abbrev pub pets : List (Entry (List ℕ))
 pets = entry (codes "cat") 0 3 ∷ entry (codes "cat") 1 1 ∷ entry (codes "cat") 3 1 ∷ entry (codes "dog") 2 3 ∷ entry (codes "dog") 1 2 ∷ []
+
+-- their names
+abbrev pub pet_names : List (List ℕ)
+pet_names = codes "d0" ∷ codes "d1" ∷ codes "d2" ∷ codes "d3" ∷ []
 
 -- three documents with `a`
 abbrev pub falling : List (Entry (List ℕ))

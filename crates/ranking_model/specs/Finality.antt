@@ -1,7 +1,6 @@
 -- When what is unscored can change nothing. This project's: by all gains of all documents, never by neighbouring hits.
 use Rattle.std.specs.Prelude.{◌≡◌, ℕ, ◌+◌, ◌≤◌, List, [], ◌∷◌, map, length, IsPermutation}
 use Rattle.std.specs.List.{AllByRecursion}
-use Rattle.jass_base.specs.declared.answer.Hit.{Hit}
 use Rattle.jass_base.specs.declared.answer.Grade.{Grade}
 use Rattle.jass_base.specs.declared.answer.Grade.TheVariants.{Final, Set, Open}
 use Rattle.ranking_model.specs.declared.plan.QueryPlan.{QueryPlan}
@@ -17,6 +16,12 @@ abbrev pub raised : List ℕ → List ℕ → List ℕ
 raised [] gains = []
 raised (score ∷ scores) [] = score ∷ scores
 raised (score ∷ scores) (gain ∷ gains) = (score + gain) ∷ raised scores gains
+
+-- the later scores are the scores with some gains up to the bound
+pub record GainsUpTo (bound : ℕ) (scores later : List ℕ) : Type 0 where
+  pub gains : List ℕ
+  pub within : AreGains bound scores gains
+  pub reach : raised scores gains ≡ later
 
 -- the documents of the first k
 abbrev pub first_documents : List ℕ → ℕ → List ℕ

@@ -1,6 +1,7 @@
 -- The flat list: an index as one list of its postings. This project's form of an impact-ordered index (Lin and Trotman,
 -- "Anytime Ranking for Impact-Ordered Indexes", ICTIR 2015).
-use Rattle.std.specs.Prelude.{◌≡◌, ◌≢◌, ℕ, ◌<◌, ◌≤◌, List, [], ◌∷◌, map, filter, not, position, unwrap_or, bytes_eq, All, AllPairs, IsSorted}
+use Rattle.std.specs.Prelude.{◌≡◌, ◌≢◌, ℕ, ◌<◌, ◌≤◌, List, [], ◌∷◌, map, filter, not, bytes_eq, All, AllPairs, IsSorted}
+use Rattle.std.specs.List.{position_or_len}
 use Rattle.std.specs.declared.cmp.Ordering.{Ordering}
 use Rattle.std.specs.Ordering.{nat_cmp, ordering_then}
 use Rattle.ranking_model.specs.declared.entry.Entry.{Entry}
@@ -21,9 +22,9 @@ abbrev pub terms_of : List (Entry (List ℕ)) → List (List ℕ)
 terms_of [] = []
 terms_of (e ∷ es) = e.term ∷ filter (λ term. not (bytes_eq term e.term)) (terms_of es)
 
--- a term's number: its place among them
+-- a term's number: its place among them, or how many they are where it is none of them
 abbrev pub number_of : List (List ℕ) → List ℕ → ℕ
-number_of terms term = unwrap_or (position (λ t. bytes_eq t term) terms) 0
+number_of terms term = position_or_len (λ t. bytes_eq t term) terms
 
 -- a flat list with its terms' numbers in place of their bytes
 abbrev pub numbered : List (Entry (List ℕ)) → List (Entry ℕ)

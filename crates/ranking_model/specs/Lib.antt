@@ -7,5 +7,6 @@ pub mod Limits
 pub mod Finality
 pub mod Heaviest
 pub mod Report
+pub mod Programs
 pub mod Search
 pub mod Examples

@@ -1,13 +1,13 @@
 -- The plan of a query and its prefixes. Segments by falling weight, taken whole, are Lin and Trotman's ("Anytime Ranking
 -- for Impact-Ordered Indexes", ICTIR 2015); which of equal weights comes first is this project's.
-use Rattle.std.specs.Prelude.{ℕ, zero, suc, ◌+◌, ◌-◌, ◌^◌, min, Bool, false, ◌&&◌, ◌==◌, nat_le, List, [], ◌∷◌, ◌++◌, length, take, drop, sum_by, fold, slice_get, Option, if◌then◌else◌}
+use Rattle.std.specs.Prelude.{ℕ, zero, suc, ◌-◌, ◌^◌, min, Bool, ◌&&◌, ◌==◌, nat_le, List, [], ◌∷◌, ◌++◌, length, map, take, sum_by, fold, slice_get, if◌then◌else◌}
 use Rattle.std.specs.Option.{option_map_or}
 use Rattle.std.specs.declared.cmp.Ordering.{Ordering}
 use Rattle.std.specs.Ordering.{nat_cmp, ordering_then}
 use Rattle.jass_base.specs.declared.answer.Budget.{Budget}
 use Rattle.jass_base.specs.declared.answer.Budget.TheVariants.{Postings, All}
 use Rattle.ranking_model.specs.declared.entry.Entry.{Entry}
-use Rattle.ranking_model.specs.declared.named.Named.{Named}
+use Rattle.jass_base.specs.declared.named.Named.{Named}
 use Rattle.ranking_model.specs.declared.posting.WeightedPosting.{WeightedPosting}
 use Rattle.ranking_model.specs.declared.class.Class.{Class}
 use Rattle.ranking_model.specs.declared.plan.QueryPlan.{QueryPlan}
@@ -27,23 +27,21 @@ abbrev pub joined : List Class → WeightedPosting → List Class
 joined [] p = begun p ∷ []
 joined (class ∷ classes) p = if is_of class p then record class { docs = class.docs ++ p.doc ∷ [] } ∷ classes else class ∷ joined classes p
 
--- the last of the classes with one document more
-abbrev pub last_with : List Class → ℕ → List Class
-last_with [] doc = []
-last_with (class ∷ []) doc = record class { docs = class.docs ++ doc ∷ [] } ∷ []
-last_with (class ∷ next ∷ classes) doc = class ∷ last_with (next ∷ classes) doc
-
--- whether the last class is the posting's
-abbrev pub ends_in : List Class → WeightedPosting → Bool
-ends_in classes p = option_map_or (λ class. is_of class p) (slice_get classes (length classes - 1)) false
+-- the classes of some postings, in the order in which they begin
+abbrev pub grouped : List WeightedPosting → List Class
+grouped postings = fold joined [] postings
 
 -- the plan's order: falling weight, then rising number of postings, then rising place
 abbrev pub plan_cmp : Class → Class → Ordering
 plan_cmp a b = ordering_then (ordering_then (nat_cmp b.weight a.weight) (nat_cmp (length a.docs) (length b.docs))) (nat_cmp a.place b.place)
 
+-- the postings of a class
+abbrev pub postings_of : Class → List WeightedPosting
+postings_of class = map (λ doc. record { place = class.place; doc = doc; weight = class.weight }) class.docs
+
 -- the classes of a query's postings, in the plan's order
 abbrev pub classes_of : List WeightedPosting → List Class
-classes_of postings = sorted plan_cmp (fold joined [] postings)
+classes_of postings = sorted plan_cmp (grouped postings)
 
 -- the plan of a query on an index: the number of documents, the number of the query's known terms, and the classes
 abbrev pub plan_of : ℕ → List (Entry ℕ) → List Named → QueryPlan

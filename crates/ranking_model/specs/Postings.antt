@@ -1,22 +1,21 @@
 -- The weighted postings of a query. Weights by the number of mentions are this project's; weight as impact times query
 -- frequency is that of impact-ordered ranking (Lin and Trotman 2015).
 use Rattle.std.specs.Prelude.{ℕ, suc, ◌*◌, ◌≤◌, ◌≢◌, length, All, AllPairs, List, [], ◌∷◌, ◌++◌, map, filter, ◌==◌}
-use Rattle.std.specs.declared.cmp.Ordering.{Ordering}
-use Rattle.std.specs.Ordering.{nat_cmp, ordering_then}
 use Rattle.ranking_model.specs.declared.entry.Entry.{Entry}
-use Rattle.ranking_model.specs.declared.named.Named.{Named}
+use Rattle.jass_base.specs.declared.named.Named.{Named}
 use Rattle.ranking_model.specs.declared.posting.WeightedPosting.{WeightedPosting}
 
--- the known terms of a query: at most 256, which differ, each named 1 to 255 times
+-- the known terms of a query: at most 256, which differ, each named at least once
 pub record AreTerms (terms : List Named) : Type 0 where
   pub few : length terms ≤ 256
-  pub differ : AllPairs (λ a b. a.term ≢ b.term) terms
-  pub times : All (λ named. (1 ≤ named.times) × (named.times ≤ 255)) terms
+  pub named : All (λ n. 1 ≤ n.times) terms
+  pub differ : AllPairs (λ m n. m.term ≢ n.term) terms
 
 -- what the entries of one term weigh for the query: impact times how often the query names the term
 abbrev pub weighted_at : ℕ → Named → List (Entry ℕ) → List WeightedPosting
 weighted_at place named flat = map (λ e. record { place = place; doc = e.doc; weight = e.impact * named.times }) (filter (λ e. e.term == named.term) flat)
 
+-- the weighted postings of terms, of which the first has this place in the query
 abbrev pub weighted_from : ℕ → List Named → List (Entry ℕ) → List WeightedPosting
 weighted_from place [] flat = []
 weighted_from place (named ∷ terms) flat = weighted_at place named flat ++ weighted_from (suc place) terms flat
@@ -24,7 +23,3 @@ weighted_from place (named ∷ terms) flat = weighted_at place named flat ++ wei
 -- one posting for each entry whose term the query names; its place is the term's place in the query
 abbrev pub weighted_postings : List (Entry ℕ) → List Named → List WeightedPosting
 weighted_postings flat terms = weighted_from 0 terms flat
-
--- rising places, falling weights: the order in which the postings of an index come
-abbrev pub place_cmp : WeightedPosting → WeightedPosting → Ordering
-place_cmp a b = ordering_then (nat_cmp a.place b.place) (nat_cmp b.weight a.weight)

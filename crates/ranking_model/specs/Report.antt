@@ -1,5 +1,5 @@
 -- What is said of an answer, and the texts. Run lines are TREC's six columns; the report line is this project's.
-use Rattle.std.specs.Prelude.{◌≡◌, ℕ, ◌+◌, List, [], ◌∷◌, ◌++◌, length, decimal, codes}
+use Rattle.std.specs.Prelude.{◌≡◌, ℕ, ◌+◌, List, [], ◌∷◌, ◌++◌, length, decimal, codes, ◌==◌, if◌then◌else◌}
 use Rattle.std.specs.List.{slice_index_or}
 use Rattle.jass_base.specs.declared.answer.Hit.{Hit}
 use Rattle.jass_base.specs.declared.answer.Report.{Report}
@@ -32,6 +32,10 @@ report_line id report unknown = id ++ (codes " postings " ++ (decimal report.pos
 -- `ID Q0 NAME RANK SCORE TAG`
 abbrev pub run_line : List ℕ → List ℕ → List ℕ → ℕ → ℕ → List ℕ
 run_line id name tag rank score = id ++ (codes " Q0 " ++ (name ++ (codes " " ++ (decimal rank ++ (codes " " ++ (decimal score ++ (codes " " ++ (tag ++ codes "\n"))))))))
+
+-- the tag of a part of a run: the tag alone for part 0, else with a point and the part's number
+abbrev pub tag_of : List ℕ → ℕ → List ℕ
+tag_of tag part = if part == 0 then tag else tag ++ (codes "." ++ decimal part)
 
 -- the lines of an answer; the first of the hits has this rank
 abbrev pub run_lines : List (List ℕ) → List ℕ → List ℕ → ℕ → List Hit → List ℕ

@@ -1,17 +1,23 @@
 -- Scores, the bound and the ranking. Scores as sums of impacts are Lin and Trotman's (ICTIR 2015); ties by document number
 -- and the bound are this project's.
-use Rattle.std.specs.Prelude.{ℕ, zero, suc, ◌+◌, ◌*◌, max, ◌==◌, List, [], ◌∷◌, map, filter, take, drop, sum_by, count_by, if◌then◌else◌}
+use Rattle.std.specs.Prelude.{ℕ, ◌+◌, ◌*◌, max, ◌==◌, List, [], ◌∷◌, map, filter, take, drop, sum_by, count_by, slice_get, position, Option, if◌then◌else◌}
 use Rattle.std.specs.List.{range_with_len}
 use Rattle.std.specs.declared.cmp.Ordering.{Ordering}
 use Rattle.std.specs.Ordering.{nat_cmp, ordering_then}
 use Rattle.jass_base.specs.declared.answer.Hit.{Hit}
+use Rattle.ranking_model.specs.declared.posting.WeightedPosting.{WeightedPosting}
 use Rattle.ranking_model.specs.declared.class.Class.{Class}
 use Rattle.ranking_model.specs.declared.plan.QueryPlan.{QueryPlan}
+use Rattle.ranking_model.specs.declared.standing.Standing.{Standing}
 use Rattle.ranking_model.specs.Order.{sorted}
 
 -- what a class adds to a document's score: its weight for each of its postings of the document
 abbrev pub gain_of : ℕ → Class → ℕ
 gain_of doc class = class.weight * count_by (λ d. d == doc) class.docs
+
+-- what a posting adds to a document's score
+abbrev pub adds : ℕ → WeightedPosting → ℕ
+adds doc p = if p.doc == doc then p.weight else 0
 
 -- the scores of all documents after the first n classes
 abbrev pub scores_after : ℕ → QueryPlan → List ℕ
@@ -42,6 +48,18 @@ rank_cmp a b = ordering_then (nat_cmp b.score a.score) (nat_cmp a.doc b.doc)
 -- the first m documents by rank, without those of score 0
 abbrev pub first_ranked : List ℕ → ℕ → List Hit
 first_ranked scores m = take m (sorted rank_cmp (hits_from 0 scores))
+
+-- the hit after the first k, if there is one
+abbrev pub runner_up : List ℕ → ℕ → Option Hit
+runner_up scores k = slice_get (first_ranked scores (k + 1)) k
+
+-- the least document without a score, if there is one
+abbrev pub least_untouched : List ℕ → Option ℕ
+least_untouched scores = position (λ score. score == 0) scores
+
+-- the first k of some scores, with the two documents that come next to them
+abbrev pub standing_of : List ℕ → ℕ → Standing
+standing_of scores k = record { hits = first_ranked scores k; runner_up = runner_up scores k; least_untouched = least_untouched scores }
 
 -- the answer after the first n classes
 abbrev pub top_k : ℕ → QueryPlan → ℕ → List Hit

@@ -1,26 +1,26 @@
 -- What a search of many queries writes. This project's.
-use Rattle.std.specs.Prelude.{◌≡◌, ℕ, ◌==◌, List, [], ◌∷◌, ◌++◌, length, take, flat_map, decimal, codes, if◌then◌else◌}
+use Rattle.std.specs.Prelude.{◌≡◌, ℕ, ◌==◌, List, [], ◌∷◌, ◌++◌, length, take, flat_map, if◌then◌else◌}
 use Rattle.std.specs.List.{range_with_len, AllZip}
 use Rattle.jass_base.specs.declared.answer.Budget.{Budget}
 use Rattle.jass_base.specs.declared.answer.Report.{Report}
 use Rattle.ranking_model.specs.declared.entry.Entry.{Entry}
-use Rattle.ranking_model.specs.declared.query.Query.{Query}
+use Rattle.jass_base.specs.declared.query.Query.{Query}
 use Rattle.ranking_model.specs.declared.plan.QueryPlan.{QueryPlan}
 use Rattle.ranking_model.specs.Plan.{plan_of, granted_sum, prefix_within}
 use Rattle.ranking_model.specs.Scores.{top_k}
-use Rattle.ranking_model.specs.Report.{IsReport, report_line, run_lines}
+use Rattle.ranking_model.specs.Report.{IsReport, report_line, tag_of, run_lines}
 
 -- the prefix after the first j budgets
 abbrev pub prefix_granted : ℕ → List Budget → QueryPlan → ℕ
 prefix_granted j budgets plan = prefix_within (granted_sum (take j budgets)) plan.classes
 
--- the tag of the answer at the j-th budget: the tag alone where there is one budget, else with a point and j
-abbrev pub tag_at : ℕ → List Budget → List ℕ → List ℕ
-tag_at j budgets tag = if length budgets == 1 then tag else tag ++ (codes "." ++ decimal j)
+-- the part of the run at the j-th budget: 0 where there is one budget, else j
+abbrev pub part_at : ℕ → List Budget → ℕ
+part_at j budgets = if length budgets == 1 then 0 else j
 
 -- the run lines of one query, budget by budget
 abbrev pub query_run : List (List ℕ) → QueryPlan → List ℕ → ℕ → List Budget → List ℕ → List ℕ
-query_run names plan id k budgets tag = flat_map (λ j. run_lines names id (tag_at j budgets tag) 1 (top_k (prefix_granted j budgets plan) plan k)) (range_with_len 1 (length budgets))
+query_run names plan id k budgets tag = flat_map (λ j. run_lines names id (tag_of tag (part_at j budgets)) 1 (top_k (prefix_granted j budgets plan) plan k)) (range_with_len 1 (length budgets))
 
 -- the run lines of a search, query by query
 abbrev pub search_run : List (List ℕ) → List (Entry ℕ) → List Query → ℕ → List Budget → List ℕ → List ℕ

@@ -1,7 +1,7 @@
 ghost use Rattle.std.specs.Prelude.{◌≡◌, ◌<◌, [], ◌∷◌, ◌++◌, IfOk, OnOk, fold, IsSorted, vec_len};
 ghost use Rattle.ranking_model.specs.Order.{sorted};
-ghost use Rattle.ranking_model.specs.Postings.{place_cmp};
-ghost use Rattle.ranking_model.specs.Plan.{begun, joined, ends_in, last_with, plan_cmp, classes_of};
+ghost use Rattle.ranking_model.specs.Programs.{ends_in, last_with, place_cmp};
+ghost use Rattle.ranking_model.specs.Plan.{begun, joined, plan_cmp, classes_of};
 
 use crate::posting::WeightedPosting;
 use jass_base::{NoMemory, Row};
@@ -18,10 +18,7 @@ pub struct Class {
 
 /// The classes of a query's postings in the order in which they are scored: by falling weight,
 /// then rising number of postings, then rising place.
-pub fn classes_of(
-    alloc: Global,
-    postings: &[WeightedPosting],
-) -> Result<Row<Class>, NoMemory>
+pub fn classes_of(alloc: Global, postings: &[WeightedPosting]) -> Result<Row<Class>, NoMemory>
     requires { IsSorted place_cmp postings.now }
     ensures { IfOk result (λ classes. classes ≡ classes_of postings.now) }
 {
@@ -57,11 +54,7 @@ fn add_to_last(classes: &mut Vec<Class>, doc: u32) -> Result<(), NoMemory>
     }
 }
 
-fn begin(
-    alloc: Global,
-    classes: &mut Vec<Class>,
-    posting: &WeightedPosting,
-) -> Result<(), NoMemory>
+fn begin(alloc: Global, classes: &mut Vec<Class>, posting: &WeightedPosting) -> Result<(), NoMemory>
     ensures { OnOk result (classes.new.items ≡ classes.old.items ++ begun posting.now ∷ []) }
 {
     let mut docs = Row::new(alloc);

@@ -1,87 +1,101 @@
 //! The definitions run on small indexes (`specs/Examples.antt`): each clause is proved by computing
-//! both sides.
+//! both sides. The reports beside these answers stand in the module `graded`.
 
-ghost use Rattle.std.specs.Prelude.{◌≡◌, ◌^◌, ◌-◌, [], ◌∷◌};
+ghost use Rattle.std.specs.Prelude.{◌≡◌, ◌^◌, ◌-◌, [], ◌∷◌, ◌++◌, codes};
 ghost use Rattle.ranking_model.specs.Plan.{prefix_within, granted_sum, most};
-ghost use Rattle.ranking_model.specs.Scores.{scores_after, top_k};
-ghost use Rattle.ranking_model.specs.Report.{report_of};
-ghost use Rattle.ranking_model.specs.Examples.{hit, report, cat_dog, cat_twice_dog, a_once, a_twice, close_a, p_q_lower, p_q_higher, p_q_swapping};
+ghost use Rattle.ranking_model.specs.Scores.{scores_after, top_k, runner_up, least_untouched};
+ghost use Rattle.ranking_model.specs.Report.{tag_of, run_lines};
+ghost use Rattle.ranking_model.specs.Search.{query_run};
+ghost use Rattle.ranking_model.specs.Examples.{hit, pet_names, cat_dog, cat_twice_dog, a_once, a_twice, close_a};
+ghost use Rattle.ranking_model.specs.Examples.{p_q_lower, p_q_higher, p_q_swapping};
 
-use jass_base::{Budget, Grade};
+use jass_base::Budget;
 
 /// `cat dog` with a budget for all postings.
 pub fn everything_is_scored()
     ensures prefix { prefix_within most cat_dog.classes ≡ 4 }
-    ensures report { report_of 4 cat_dog Grade.Final ≡ report 5 4 4 1 0 0 Grade.Final }
     ensures answer { top_k 4 cat_dog 4 ≡ hit 0 3 ∷ hit 1 3 ∷ hit 2 3 ∷ hit 3 1 ∷ [] }
 {}
 
 /// `cat dog` with 4 postings, of which the last segment would need 2: it is left whole.
 pub fn a_segment_is_left_whole()
     ensures prefix { prefix_within 4 cat_dog.classes ≡ 3 }
-    ensures report { report_of 3 cat_dog Grade.Open ≡ report 3 3 4 2 1 1 Grade.Open }
     ensures answer { top_k 3 cat_dog 4 ≡ hit 0 3 ∷ hit 2 3 ∷ hit 1 2 ∷ [] }
 {}
 
 /// `cat dog` with no postings.
 pub fn nothing_is_scored()
     ensures prefix { prefix_within 0 cat_dog.classes ≡ 0 }
-    ensures report { report_of 0 cat_dog Grade.Open ≡ report 0 0 4 0 3 6 Grade.Open }
     ensures answer { top_k 0 cat_dog 4 ≡ [] }
 {}
 
 /// `cat dog` with 2 postings and two hits; with all postings they are others.
 pub fn two_postings()
     ensures prefix { prefix_within 2 cat_dog.classes ≡ 2 }
-    ensures report { report_of 2 cat_dog Grade.Open ≡ report 2 2 4 3 2 3 Grade.Open }
     ensures answer { top_k 2 cat_dog 2 ≡ hit 0 3 ∷ hit 2 3 ∷ [] }
     ensures exhaustive { top_k 4 cat_dog 2 ≡ hit 0 3 ∷ hit 1 3 ∷ [] }
 {}
 
 /// `a` with 1 and with 2 postings.
 pub fn one_term()
-    ensures first { report_of (prefix_within 1 a_once.classes) a_once Grade.Final ≡ report 1 1 3 9 5 5 Grade.Final }
+    ensures first { prefix_within 1 a_once.classes ≡ 1 }
     ensures first_answer { top_k 1 a_once 1 ≡ hit 0 9 ∷ [] }
-    ensures second { report_of (prefix_within 2 a_once.classes) a_once Grade.Open ≡ report 2 2 3 5 1 1 Grade.Open }
+    ensures second { prefix_within 2 a_once.classes ≡ 2 }
     ensures second_answer { top_k 2 a_once 3 ≡ hit 0 9 ∷ hit 1 5 ∷ [] }
     ensures second_answer_of_two { top_k 2 a_once 2 ≡ hit 0 9 ∷ hit 1 5 ∷ [] }
 {}
 
 /// `p q`, where the documents tie and the lower number is scored first, or the higher.
 pub fn documents_that_tie()
-    ensures lower { report_of (prefix_within 1 p_q_lower.classes) p_q_lower Grade.Final ≡ report 1 1 2 3 3 3 Grade.Final }
+    ensures lower { prefix_within 1 p_q_lower.classes ≡ 1 }
     ensures lower_answer { top_k 1 p_q_lower 1 ≡ hit 0 3 ∷ [] }
-    ensures higher { report_of (prefix_within 1 p_q_higher.classes) p_q_higher Grade.Open ≡ report 1 1 2 3 3 3 Grade.Open }
+    ensures higher { prefix_within 1 p_q_higher.classes ≡ 1 }
     ensures higher_answer { top_k 1 p_q_higher 1 ≡ hit 1 3 ∷ [] }
     ensures exhaustive { top_k 2 p_q_higher 1 ≡ hit 0 3 ∷ [] }
 {}
 
 /// `a a`, and `cat^2 dog`: a term weighs as often as it is named.
 pub fn terms_named_twice()
-    ensures twice { report_of (prefix_within most a_twice.classes) a_twice Grade.Final ≡ report 3 3 3 2 0 0 Grade.Final }
-    ensures twice_answer { top_k 3 a_twice 4 ≡ hit 0 18 ∷ hit 1 10 ∷ hit 2 2 ∷ [] }
-    ensures one_twice { report_of (prefix_within most cat_twice_dog.classes) cat_twice_dog Grade.Final ≡ report 5 4 4 2 0 0 Grade.Final }
-    ensures one_twice_answer { top_k 4 cat_twice_dog 4 ≡ hit 0 6 ∷ hit 1 4 ∷ hit 2 3 ∷ hit 3 2 ∷ [] }
+    ensures twice { top_k 3 a_twice 4 ≡ hit 0 18 ∷ hit 1 10 ∷ hit 2 2 ∷ [] }
+    ensures one_twice { top_k 4 cat_twice_dog 4 ≡ hit 0 6 ∷ hit 1 4 ∷ hit 2 3 ∷ hit 3 2 ∷ [] }
 {}
 
 /// `p q`, where the two documents can only change places.
 pub fn documents_that_swap()
-    ensures report { report_of (prefix_within 2 p_q_swapping.classes) p_q_swapping Grade.Set ≡ report 2 2 3 2 1 1 Grade.Set }
+    ensures prefix { prefix_within 2 p_q_swapping.classes ≡ 2 }
     ensures answer { top_k 2 p_q_swapping 2 ≡ hit 1 3 ∷ hit 0 2 ∷ [] }
     ensures exhaustive { top_k 3 p_q_swapping 2 ≡ hit 0 3 ∷ hit 1 3 ∷ [] }
 {}
 
-/// Three close documents: the bound stays large while the answer shrinks towards its neighbour.
+/// Three close documents: what comes next to the first hit.
 pub fn close_documents()
     ensures first { scores_after 1 close_a ≡ 9 ∷ 0 ∷ 0 ∷ [] }
+    ensures first_runner_up { runner_up (scores_after 1 close_a) 1 ≡ None }
+    ensures first_untouched { least_untouched (scores_after 1 close_a) ≡ Some 1 }
     ensures second { scores_after 2 close_a ≡ 9 ∷ 8 ∷ 0 ∷ [] }
-    ensures first_bound { report_of 1 close_a Grade.Final ≡ report 1 1 3 9 8 8 Grade.Final }
-    ensures second_bound { report_of 2 close_a Grade.Open ≡ report 2 2 3 8 7 7 Grade.Open }
+    ensures second_runner_up { runner_up (scores_after 2 close_a) 1 ≡ Some (hit 1 8) }
+    ensures second_untouched { least_untouched (scores_after 2 close_a) ≡ Some 2 }
 {}
 
 /// Grants add up, and stop at the greatest number that 64 bits hold.
 pub fn grants_add_up()
     ensures two { granted_sum (Budget.Postings 1 ∷ Budget.Postings 2 ∷ []) ≡ 3 }
     ensures all { granted_sum (Budget.All ∷ Budget.Postings 1 ∷ []) ≡ 2 ^ 64 - 1 }
-    ensures twice { granted_sum (Budget.Postings 18446744073709551615 ∷ Budget.Postings 18446744073709551615 ∷ []) ≡ 2 ^ 64 - 1 }
+    ensures stops { let greatest = Budget.Postings 18446744073709551615 in
+        granted_sum (greatest ∷ greatest ∷ []) ≡ 2 ^ 64 - 1 }
 {}
+
+/// `cat dog` with two hits, at a budget of 2 postings and then of all: an answer for each, as the
+/// parts 1 and 2 of the run. A single budget makes no parts.
+pub fn a_run_of_two_budgets()
+    ensures two {
+        let id = codes "301" in
+        query_run pet_names cat_dog id 2 (Budget.Postings 2 ∷ Budget.All ∷ []) (codes "jass")
+            ≡ run_lines pet_names id (tag_of (codes "jass") 1) 1 (hit 0 3 ∷ hit 2 3 ∷ [])
+                ++ (run_lines pet_names id (tag_of (codes "jass") 2) 1 (hit 0 3 ∷ hit 1 3 ∷ []) ++ []) }
+    ensures one {
+        let id = codes "301" in
+        query_run pet_names cat_dog id 2 (Budget.All ∷ []) (codes "jass")
+            ≡ run_lines pet_names id (codes "jass") 1 (hit 0 3 ∷ hit 1 3 ∷ []) ++ [] }
+{
+}

@@ -9,25 +9,28 @@ mod bound;
 mod budget;
 mod class;
 mod entry;
-mod examples;
-mod named;
+pub mod examples;
+pub mod graded;
+pub mod laws;
 mod plan;
 mod posting;
 mod prefix;
-mod query;
 mod rank;
 mod report;
 mod scores;
+mod standing;
 
 pub use bound::bound_after;
 pub use budget::granted_sum;
 pub use class::{Class, classes_of};
 pub use entry::Entry;
-pub use named::Named;
 pub use plan::{QueryPlan, plan_of, top_k};
 pub use posting::{WeightedPosting, weighted_postings};
 pub use prefix::{cutoff_after, next_after, prefix_within, size_of_first};
-pub use query::Query;
 pub use rank::first_ranked;
 pub use report::report_of;
 pub use scores::scores_after;
+pub use standing::{Standing, standing_of};
+
+#[cfg(test)]
+mod tests;

@@ -1,18 +1,18 @@
-ghost use Rattle.std.specs.Prelude.{◌≡◌, ◌≤◌, ◌^◌, length, IfOk};
+ghost use Rattle.std.specs.Prelude.{◌≡◌, ◌<◌, ◌≤◌, ◌^◌, length, IfOk, All};
 ghost use Rattle.std.specs.Ordering.{nat_cmp};
 ghost use Rattle.ranking_model.specs.Flat.{IsFlat};
 ghost use Rattle.ranking_model.specs.Postings.{AreTerms};
 ghost use Rattle.ranking_model.specs.Plan.{plan_of};
 ghost use Rattle.ranking_model.specs.Limits.{IsSmall};
 ghost use Rattle.ranking_model.specs.Scores.{top_k};
+ghost use Rattle.jass_base.specs.declared.answer.Hit.{Hit};
 
 use crate::class::{Class, classes_of};
 use crate::entry::Entry;
-use crate::named::Named;
 use crate::posting::weighted_postings;
 use crate::rank::first_ranked;
 use crate::scores::scores_after;
-use jass_base::{Hit, NoMemory, Row};
+use jass_base::{Hit, Named, NoMemory, Row};
 use std::alloc::Global;
 
 /// A query on an index: the number of documents, the number of the query's known terms, and the
@@ -48,16 +48,13 @@ pub fn plan_of(
 }
 
 /// The answer of at most `k` hits after the first `count` classes.
-pub fn top_k(
-    alloc: Global,
-    count: usize,
-    plan: &QueryPlan,
-    k: usize,
-) -> Result<Row<Hit>, NoMemory>
+pub fn top_k(alloc: Global, count: usize, plan: &QueryPlan, k: usize) -> Result<Row<Hit>, NoMemory>
     requires within { count ≤ length plan.now.classes }
     requires small { IsSmall plan.now }
-    ensures { IfOk result (λ hits. hits ≡ top_k count plan.now k) }
+    ensures hits { IfOk result (λ hits. hits ≡ top_k count plan.now k) }
+    ensures documents { IfOk result (λ hits. All (λ (hit : Hit). hit.doc < plan.now.docs) hits) }
 {
     let scores = scores_after(alloc, count, plan)?;
-    first_ranked(alloc, scores.as_slice(), k)
+    let hits = first_ranked(alloc, scores.as_slice(), k)?;
+    Ok(hits)
 }

@@ -1,9 +1,9 @@
-ghost use Rattle.std.specs.Prelude.{◌≡◌, ◌≤◌, ◌++◌, length, IfOk, OnOk};
+ghost use Rattle.std.specs.Prelude.{◌≡◌, ◌*◌, ◌≤◌, ◌++◌, length, IfOk, OnOk};
 ghost use Rattle.ranking_model.specs.Postings.{weighted_at, weighted_postings};
+ghost use Rattle.ranking_model.specs.Programs.{AreLight};
 
 use crate::entry::Entry;
-use crate::named::Named;
-use jass_base::{NoMemory, Row};
+use jass_base::{Named, NoMemory, Row};
 use std::alloc::Global;
 
 /// One posting of an index as a query weighs it.
@@ -24,7 +24,8 @@ pub fn weighted_postings(
     terms: &[Named],
 ) -> Result<Row<WeightedPosting>, NoMemory>
     requires { length terms.now ≤ 256 }
-    ensures { IfOk result (λ postings. postings ≡ weighted_postings entries.now terms.now) }
+    ensures postings { IfOk result (λ postings. postings ≡ weighted_postings entries.now terms.now) }
+    ensures light { IfOk result AreLight }
 {
     let mut postings = Row::new(alloc);
     for (place, named) in terms.iter().enumerate() {
@@ -39,17 +40,25 @@ fn weigh(
     named: Named,
     postings: &mut Row<WeightedPosting>,
 ) -> Result<(), NoMemory>
-    ensures { OnOk result (postings.new ≡ postings.old ++ weighted_at place named entries.now) }
+    ensures postings { OnOk result (postings.new ≡ postings.old ++ weighted_at place named entries.now) }
+    ensures light { AreLight postings.old → AreLight postings.new }
 {
     for entry in entries {
         if entry.term == named.term {
             let posting = WeightedPosting {
                 place,
                 doc: entry.doc,
-                weight: u32::from(entry.impact) * u32::from(named.times),
+                weight: weight_of(entry.impact, named.times),
             };
             postings.push(posting).map_err(|refused| refused.1)?;
         }
     }
     Ok(())
+}
+
+fn weight_of(impact: u16, times: u8) -> u32
+    ensures product { result ≡ impact * times }
+    ensures light { result ≤ 16711425 }
+{
+    u32::from(impact) * u32::from(times)
 }

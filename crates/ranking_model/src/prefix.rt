@@ -19,7 +19,8 @@ pub fn size_of_first(count: usize, classes: &[Class]) -> u64
 /// How many classes from the front on the budget pays for. It stops before the first that doesn't
 /// fit, even where a later one would.
 pub fn prefix_within(budget: u64, classes: &[Class]) -> usize
-    ensures { result ≡ prefix_within budget classes.now }
+    ensures prefix { result ≡ prefix_within budget classes.now }
+    ensures within { result ≤ length classes.now }
 {
     let mut left = budget;
     for (count, class) in classes.iter().enumerate() {

@@ -28,8 +28,10 @@ pub fn scores_after(alloc: Global, count: usize, plan: &QueryPlan) -> Result<Row
 
 fn add_class(class: &Class, scores: &mut [u32])
     requires documents { AllByRecursion (λ doc. doc < length scores.old) class.now.docs }
-    requires room { (doc : ℕ) → doc < length scores.old → slice_index scores.old doc + gain_of doc class.now < 2 ^ 32 }
-    ensures { (doc : ℕ) → doc < length scores.old → slice_index scores.new doc ≡ slice_index scores.old doc + gain_of doc class.now }
+    requires room { (doc : ℕ) → doc < length scores.old →
+        slice_index scores.old doc + gain_of doc class.now < 2 ^ 32 }
+    ensures { (doc : ℕ) → doc < length scores.old →
+        slice_index scores.new doc ≡ slice_index scores.old doc + gain_of doc class.now }
 {
     for doc in class.docs.as_slice() {
         scores[*doc as usize] += class.weight;

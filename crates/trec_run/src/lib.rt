@@ -11,4 +11,5 @@ mod line;
 mod report;
 
 pub use answer::put_answer;
+pub use gather::put_all;
 pub use report::put_report;

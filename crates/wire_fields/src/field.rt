@@ -1,5 +1,6 @@
-ghost use Rattle.std.specs.Prelude.{◌≡◌, ◌<◌, ◌≤◌, length, IfOk, IfErr, IfSome, IfNone};
-ghost use Rattle.wire_fields.specs.Places.{IsWithin};
+ghost use Rattle.std.specs.Prelude.{ℕ, ◌≡◌, ◌≤◌, List, length};
+ghost use Rattle.jass_base.specs.Wire.{number_after, text_after, eight_after};
+ghost use Rattle.wire_fields.specs.Places.{IsWithin, ReadsField, ReadsValue, field_in};
 
 use crate::fault::{WireFault, WireWhy};
 use crate::varint::read_varint;
@@ -25,16 +26,59 @@ pub struct Field {
     pub next: usize,
 }
 
+impl Field {
+    /// The field's number where it is the varint of this field number, else the one before.
+    #[inline]
+    pub fn number_or(&self, number: u32, before: u64) -> u64
+        ensures { (bytes : List ℕ) → result ≡ number_after number before (field_in bytes self.now) }
+    {
+        if self.number == number {
+            if let Value::Varint(value) = self.value {
+                return value;
+            }
+        }
+        before
+    }
+
+    /// The field's bytes where it is the string of this field number, else those before.
+    /// The field is one of `bytes`.
+    pub fn bytes_or<'a>(&self, number: u32, bytes: &'a [u8], before: &'a [u8]) -> &'a [u8]
+        requires value { IsWithin self.now.value self.now.next }
+        requires within { self.now.next ≤ length bytes.now }
+        ensures { result.now ≡ text_after number before.now (field_in bytes.now self.now) }
+    {
+        if self.number == number {
+            if let Value::Bytes(first, after) = self.value {
+                return &bytes[first..after];
+            }
+        }
+        before
+    }
+
+    /// The field's eight bytes where it is the fixed value of this field number, else those
+    /// before. The field is one of `bytes`.
+    pub fn eight_or(&self, number: u32, bytes: &[u8], before: [u8; 8]) -> [u8; 8]
+        requires value { IsWithin self.now.value self.now.next }
+        requires within { self.now.next ≤ length bytes.now }
+        ensures { result ≡ eight_after number before (field_in bytes.now self.now) }
+    {
+        if self.number == number {
+            if let Value::Eight(first) = self.value {
+                let mut eight = before;
+                eight.copy_from_slice(&bytes[first..first + 8]);
+                return eight;
+            }
+        }
+        before
+    }
+}
+
 /// Reads the field at a place of a message's body. None exactly at its end. A fault's place
 /// is the field's first byte. Faults are looked for in the tag's varint, then the field
 /// number, then the wire type, then the value.
 pub fn next_field(bytes: &[u8], at: usize) -> Result<Option<Field>, WireFault>
     requires { at ≤ length bytes.now }
-    ensures end { IfOk result (λ field. IfNone field (at ≡ length bytes.now)) }
-    ensures after { IfOk result (λ field. IfSome field (λ f. at < f.next)) }
-    ensures within { IfOk result (λ field. IfSome field (λ f. f.next ≤ length bytes.now)) }
-    ensures value { IfOk result (λ field. IfSome field (λ f. IsWithin f.value f.next)) }
-    ensures place { IfErr result (λ e. e.at ≡ at) }
+    ensures { ReadsField bytes.now at result }
 {
     if at == bytes.len() {
         return Ok(None);
@@ -63,9 +107,7 @@ pub fn next_field(bytes: &[u8], at: usize) -> Result<Option<Field>, WireFault>
 /// Reads the value of a wire type, and gives the place behind it.
 fn read_value(bytes: &[u8], from: usize, wire: u64) -> Result<(Value, usize), WireWhy>
     requires { from ≤ length bytes.now }
-    ensures after { IfOk result (λ x. from ≤ x.1) }
-    ensures within { IfOk result (λ x. x.1 ≤ length bytes.now) }
-    ensures value { IfOk result (λ x. IsWithin x.0 x.1) }
+    ensures { ReadsValue wire bytes.now from result }
 {
     match wire {
         0 => match read_varint(bytes, from) {

@@ -1,4 +1,5 @@
-ghost use Rattle.std.specs.Prelude.{◌≡◌, ◌<◌, ◌≤◌, length, IfOk, IfErr};
+ghost use Rattle.std.specs.Prelude.{◌<◌, length};
+ghost use Rattle.wire_fields.specs.Places.{ReadsVarint};
 
 use crate::fault::{WireFault, WireWhy};
 
@@ -8,9 +9,7 @@ use crate::fault::{WireFault, WireWhy};
 /// Cut where the bytes end before a byte without the top bit, unless a tenth byte above 1
 /// stands there, which is a LongVarint.
 pub fn read_varint(bytes: &[u8], at: usize) -> Result<(u64, usize), WireFault>
-    ensures after { IfOk result (λ x. at < x.1) }
-    ensures within { IfOk result (λ x. x.1 ≤ length bytes.now) }
-    ensures place { IfErr result (λ e. e.at ≡ at) }
+    ensures { ReadsVarint bytes.now at result }
 {
     if at >= bytes.len() {
         return Err(WireFault {
@@ -28,9 +27,7 @@ pub fn read_varint(bytes: &[u8], at: usize) -> Result<(u64, usize), WireFault>
 /// Reads a varint group by group.
 fn read_groups(bytes: &[u8], at: usize) -> Result<(u64, usize), WireFault>
     requires { at < length bytes.now }
-    ensures after { IfOk result (λ x. at < x.1) }
-    ensures within { IfOk result (λ x. x.1 ≤ length bytes.now) }
-    ensures place { IfErr result (λ e. e.at ≡ at) }
+    ensures { ReadsVarint bytes.now at result }
 {
     let rest = &bytes[at..];
     let mut value: u64 = 0;

@@ -1,7 +1,7 @@
 -- Each posting joins the last class or begins one, as the definition says.
-use Rattle.std.proofs.Common.{◌∙◌, ap, List, Vec, Global}
+use Rattle.std.proofs.Common.{◌∙◌, ap, Vec, Global}
 use Rattle.ranking_model.specs.declared.class.Class.{Class}
-use Rattle.ranking_model.specs.Postings.{place_cmp}
+use Rattle.ranking_model.specs.Programs.{place_cmp}
 use Rattle.ranking_model.proofs.Sorting.{ascends_sorted}
 use Rattle.ranking_model.proofs.Classes.{place_total, grouped_joins, grouped_begins}
 use Rattle.ranking_model.proofs.class.group.Goals.{then-continues+in_ok-add_to_last, else-continues+in_ok-begin}
@@ -12,7 +12,8 @@ loop-posting-init c = record { same = c.new-classes.ensures.items; ready = rw c.
 
 pub loop-posting-preserved : goal.loop-posting-preserved
 loop-posting-preserved c = elim c.if-continues.branch [
-    then-continues+in_ok-add_to_last w ↦ grouped_joins c.loop-posting.classes.items c.deref.result.now _ c.args.postings.now c.loop-posting.posting-index _ c.continues.result
-        c.loop-posting-test.true c.loop-posting.invariant c.deref.ensures.value c.continues.ensures w.if-continues.true (ap (λ (v : Vec Class Global). v.items) w.classes-is ∙ w.in_ok-add_to_last.ensures)
+  | then-continues+in_ok-add_to_last w ↦ grouped_joins c.loop-posting.classes.items c.deref.result.now _ c.args.postings.now c.loop-posting.posting-index _ c.continues.result
+      c.loop-posting-test.true c.loop-posting.invariant c.deref.ensures.value c.continues.ensures w.if-continues.true (ap (λ (v : Vec Class Global). v.items) w.classes-is ∙ w.in_ok-add_to_last.ensures)
   | else-continues+in_ok-begin w ↦ grouped_begins c.loop-posting.classes.items c.deref.result.now _ c.args.postings.now c.loop-posting.posting-index _ c.continues.result
-        c.loop-posting-test.true c.loop-posting.invariant c.deref.ensures.value c.continues.ensures w.if-continues.false (ap (λ (v : Vec Class Global). v.items) w.classes-is ∙ w.in_ok-begin.ensures) ]
+      c.loop-posting-test.true c.loop-posting.invariant c.deref.ensures.value c.continues.ensures w.if-continues.false (ap (λ (v : Vec Class Global). v.items) w.classes-is ∙ w.in_ok-begin.ensures)
+]

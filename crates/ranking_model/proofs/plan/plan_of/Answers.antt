@@ -1,7 +1,7 @@
 use Rattle.std.proofs.Common.{◌∙◌, sym, ap, subst, length, List}
 use Rattle.std.specs.Prelude.{IsSorted}
 use Rattle.ranking_model.specs.declared.class.Class.{Class}
-use Rattle.ranking_model.specs.Postings.{place_cmp}
+use Rattle.ranking_model.specs.Programs.{AreLight, place_cmp}
 use Rattle.ranking_model.specs.Plan.{classes_of}
 use Rattle.ranking_model.specs.Limits.{IsSmall}
 use Rattle.ranking_model.proofs.Weighing.{weighted_in_order}
@@ -9,9 +9,9 @@ use Rattle.ranking_model.proofs.Small.{plan_is_small}
 use Rattle.ranking_model.proofs.plan.plan_of.Goals as goal
 
 pub classes_of-requires : goal.classes_of-requires
-classes_of-requires c = subst (IsSorted place_cmp) (sym (c.as_slice.ensures ∙ c.in_ok-postings.ensures)) (weighted_in_order c.args.docs c.args.entries.now c.args.terms.now c.requires.flat)
+classes_of-requires c = subst (IsSorted place_cmp) (sym (c.as_slice.ensures ∙ c.in_ok-postings.ensures.postings)) (weighted_in_order c.args.docs c.args.entries.now c.args.terms.now c.requires.flat)
 
 pub returns-clause-small : goal.returns-clause-small
 returns-clause-small c = subst (λ (classes : List Class). IsSmall (record { docs = c.args.docs; places = length c.args.terms.now; classes = classes }))
-    (sym (c.in_ok-classes.ensures ∙ ap classes_of (c.as_slice.ensures ∙ c.in_ok-postings.ensures)))
-    (plan_is_small c.args.docs c.args.entries.now c.args.terms.now c.requires.flat c.requires.terms c.requires.postings)
+    (sym (c.in_ok-classes.ensures ∙ ap classes_of (c.as_slice.ensures ∙ c.in_ok-postings.ensures.postings)))
+    (plan_is_small c.args.docs c.args.entries.now c.args.terms.now c.requires.flat c.requires.terms c.requires.postings (subst AreLight c.in_ok-postings.ensures.postings c.in_ok-postings.ensures.light))

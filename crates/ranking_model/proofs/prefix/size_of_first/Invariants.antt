@@ -1,4 +1,4 @@
-use Rattle.std.proofs.Common.{◌≡◌, take}
+use Rattle.std.proofs.Common.{◌≡◌}
 use Rattle.ranking_model.specs.Plan.{size_of_first}
 use Rattle.ranking_model.proofs.prefix.size_of_first.Given as goal
 

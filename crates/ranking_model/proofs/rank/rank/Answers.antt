@@ -1,5 +1,5 @@
 -- The sort leaves the hits in order, and no order of them is another.
-use Rattle.std.proofs.Common.{rules, ℕ, refl}
+use Rattle.std.proofs.Common.{rules, ℕ}
 use Rattle.std.proofs.lemmas.List.Sorted.{answers_always}
 use Rattle.std.specs.declared.cmp.Reverse.{Reverse}
 use Rattle.jass_base.specs.declared.answer.Hit.{Hit}

@@ -1,4 +1,4 @@
-use Rattle.std.proofs.Common.{◌≡◌, ◌<◌, ◌≤◌, ℕ, ◌∙◌, ap, sym, take, length, get_or, sum_by, arith}
+use Rattle.std.proofs.Common.{◌∙◌, ap, take, length, sum_by, arith}
 use Rattle.std.proofs.lemmas.List.{length-take}
 use Rattle.ranking_model.specs.Scores.{gain_of}
 use Rattle.ranking_model.specs.declared.class.Class.{Class}
@@ -10,4 +10,4 @@ returns-clause-scores c =
     let long = ap length c.as_slice.ensures in
     let part = length-take {A = Class} c.args.count c.as_slice.result.now in
     c.from_vec.ensures ∙ scores_are c.args.plan.now c.loop-class.scores.items c.args.count c.loop-class.invariant.length
-      (λ d h. c.loop-class.invariant.each d h ∙ ap (λ n. sum_by (gain_of d) (take n c.args.plan.now.classes)) (omega arith))
+    (λ d h. c.loop-class.invariant.each d h ∙ ap (λ n. sum_by (gain_of d) (take n c.args.plan.now.classes)) (omega arith))

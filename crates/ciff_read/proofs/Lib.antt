@@ -1,0 +1,10 @@
+pub mod Answering
+pub mod FieldValues
+pub mod Files
+pub mod Messages
+pub mod Parts
+pub mod Postings
+pub mod Sequences
+pub mod Tables
+pub mod TermLists
+pub mod Walks

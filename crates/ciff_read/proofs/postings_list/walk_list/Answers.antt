@@ -1,0 +1,64 @@
+use Rattle.std.proofs.Common.{◌≡◌, refl, ap, ◌∙◌, [], List, ℕ, Result, Ok, subst}
+use Rattle.std.specs.Prelude.{fold}
+use Rattle.jass_base.specs.declared.posting.Posting.{Posting}
+use Rattle.ciff_read.specs.declared.refusal.CiffRefusal.{CiffRefusal}
+use Rattle.ciff_read.specs.Judging.{ListStart, list_start_of, gather}
+use Rattle.ciff_read.specs.Places.{list_start_in, gathered_of}
+use Rattle.ciff_read.specs.Reading.{ListWalk}
+use Rattle.ciff_read.specs.Refusals.{◌>>=◌}
+use Rattle.ciff_read.specs.Walking.{Walked, entry_inside}
+use Rattle.wire_fields.specs.Places.{field_in}
+use Rattle.ciff_read.proofs.FieldValues.{IsListStart, list_start_is, number_more, text_more}
+use Rattle.ciff_read.proofs.Parts.{gathers_more}
+use Rattle.ciff_read.proofs.Walks.{walks_start, walks_on, walks_end, walks_refused, walks_inside}
+use Rattle.ciff_read.proofs.postings_list.walk_list.Goals as goal
+
+pub fields-init : goal.fields-init
+fields-init c = record {
+  walks = walks_start entry_inside c.args.bytes.now c.args.from _ c.requires ((refl, refl, refl), refl);
+  docs = refl;
+  before = refl;
+}
+
+pub fields-preserved : goal.fields-preserved
+fields-preserved c =
+    let bytes = c.args.bytes.now in
+    let f = field_in bytes c.in-Ok-Some.field in
+    let reads = rw c.in-Ok-Some.field-0-is at c.in-Ok-Some.ensures in
+    let g = c.in-Ok.ensures.read in
+    let start = c.args.gathered.now in
+    let old = c.fields.gathered in
+    let v = c.fields.invariant in
+    let gathered : gathered_of c.gather.new.gathered ≡ fold (gather start.docs start.before) (gathered_of old) g.entries = g.gathered ∙ ap (λ d. fold (gather d old.before) (gathered_of old) g.entries) v.docs ∙ ap (λ b. fold (gather start.docs b) (gathered_of old) g.entries) v.before in
+    record {
+      walks = walks_on entry_inside bytes c.args.from c.fields.at c.in-Ok-Some.field.next _ v.walks f g.entries _ reads.1 reads.2 reads.0 g.read
+      (λ done was. (
+        (
+          text_more 1 done.fields f c.fields.fields.term.now c.bytes_or-fields.result.now was.0.0 c.bytes_or-fields.ensures,
+          number_more 2 done.fields f c.fields.fields.df c.number_or.result was.0.1 (c.number_or.ensures bytes),
+          number_more 3 done.fields f c.fields.fields.cf c.number_or-in-Ok-Some.result was.0.2 (c.number_or-in-Ok-Some.ensures bytes)
+        ),
+        gathers_more start.docs start.before (gathered_of start) (gathered_of old) (gathered_of c.gather.new.gathered) done.entries g.entries was.1 gathered
+      ));
+      docs = c.in-Ok.ensures.docs ∙ v.docs;
+      before = c.in-Ok.ensures.before ∙ v.before;
+    }
+
+pub returns-in-Ok-None-clause-read : goal.returns-in-Ok-None-clause-read
+returns-in-Ok-None-clause-read c =
+    let w = c.fields.invariant.walks in
+    let end = rw c.in-Ok-None.field-0-is at c.in-Ok-None.ensures in
+    let read = walks_end entry_inside c.args.bytes.now c.args.from c.fields.at _ w end in
+    record {
+      entries = w.done.entries;
+      read = ap (λ (r : Result Walked CiffRefusal). r >>= λ walked. Ok (record { start = list_start_of walked.fields; entries = walked.entries })) read ∙ ap (λ (x : ListStart). Ok (record { start = x; entries = w.done.entries })) (list_start_is c.fields.fields w.done w.so_far.0);
+      gathered = w.so_far.1;
+    }
+
+pub returns-in-Err-clause-read : goal.returns-in-Err-clause-read
+returns-in-Err-clause-read c = walks_refused entry_inside c.args.bytes.now c.args.from c.fields.at _ c.fields.invariant.walks (λ walked. Ok (record { start = list_start_of walked.fields; entries = walked.entries })) c.in-Err.fault c.refused_field.result c.in-Err.ensures c.refused_field.ensures
+
+pub returns-in-Err-gather-clause-read : goal.returns-in-Err-gather-clause-read
+returns-in-Err-gather-clause-read c =
+    let reads = rw c.in-Ok-Some.field-0-is at c.in-Ok-Some.ensures in
+    walks_inside entry_inside c.args.bytes.now c.args.from c.fields.at c.in-Ok-Some.field.next _ c.fields.invariant.walks (λ walked. Ok (record { start = list_start_of walked.fields; entries = walked.entries })) (field_in c.args.bytes.now c.in-Ok-Some.field) c.in-Err-gather.fault reads.1 reads.2 reads.0 c.in-Err-gather.ensures.read

@@ -1,0 +1,116 @@
+ghost use Rattle.std.specs.Prelude.{◌≡◌, ◌≤◌, ◌^◌, [], length, drop, All, AllPairs, IfOk};
+ghost use Rattle.jass_base.specs.CiffViews.{collection_data};
+ghost use Rattle.jass_base.specs.Lists.{HasDocsBelow, DifferInTerm};
+ghost use Rattle.ciff_read.specs.Places.{lists_in, docs_in};
+ghost use Rattle.ciff_read.specs.Reading.{lists_at, all_docs_at, read_ciff};
+ghost use Rattle.ciff_read.specs.Refusals.{Gives};
+
+use crate::document::read_document;
+use crate::documents::Documents;
+use crate::header::read_header;
+use crate::message::read_length;
+use crate::postings_list::read_list;
+use crate::refusal::{CiffFault, CiffWhy, refused};
+use indexmap::IndexSet;
+use jass_base::{Collection, DocRecord, PostingsList, Row};
+use std::alloc::Global;
+
+/// Reads a whole CIFF file.
+pub fn read_collection(alloc: Global, bytes: &[u8]) -> Result<Collection, CiffFault>
+    ensures { Gives collection_data result (read_ciff bytes.now) }
+{
+    let body = match read_length(bytes, 0) {
+        Ok(body) => body,
+        Err(fault) => return Err(fault),
+    };
+    let head = match read_header(alloc, bytes, 0, body) {
+        Ok(head) => head,
+        Err(fault) => return Err(fault),
+    };
+    let (lists, at) = match read_lists(alloc, bytes, body.end, head.lists, head.docs) {
+        Ok(read) => read,
+        Err(fault) => return Err(fault),
+    };
+    let (docs, at) = match read_documents(alloc, bytes, at, head.docs) {
+        Ok(read) => read,
+        Err(fault) => return Err(fault),
+    };
+    if at < bytes.len() {
+        return Err(refused(at, CiffWhy::Trailing));
+    }
+    Ok(Collection {
+        header: head.header,
+        lists,
+        docs,
+    })
+}
+
+/// Reads so many postings lists from a place on, and gives the place behind the last.
+fn read_lists(
+    alloc: Global,
+    bytes: &[u8],
+    from: usize,
+    count: u32,
+    docs: u32,
+) -> Result<(Row<PostingsList>, usize), CiffFault>
+    requires from { from ≤ length bytes.now }
+    requires docs { docs ≤ 2 ^ 26 }
+    ensures exact { Gives (lists_in bytes.now) result (lists_at count docs 0 [] from (drop from bytes.now)) }
+    ensures within { IfOk result (λ x. x.1 ≤ length bytes.now) }
+    ensures count { IfOk result (λ x. length x.0 ≡ count) }
+    ensures below { IfOk result (λ x. All (HasDocsBelow docs) x.0) }
+    ensures differ { IfOk result (λ x. AllPairs DifferInTerm x.0) }
+{
+    let mut lists = Row::new(alloc);
+    let mut terms: IndexSet<&str> = IndexSet::new(alloc);
+    let mut at = from;
+    let mut before: u64 = 0;
+    'lists: for _ in 0..count {
+        let body = match read_length(bytes, at) {
+            Ok(body) => body,
+            Err(fault) => return Err(fault),
+        };
+        let list = match read_list(alloc, bytes, at, body, docs, before, &mut terms) {
+            Ok(list) => list,
+            Err(fault) => return Err(fault),
+        };
+        before += list.postings.len() as u64;
+        at = body.end;
+        match lists.push(list) {
+            Ok(()) => {}
+            Err(_) => return Err(CiffFault::NoMemory),
+        }
+    }
+    Ok((lists, at))
+}
+
+/// Reads so many documents' records from a place on, and gives the place behind the last.
+fn read_documents(
+    alloc: Global,
+    bytes: &[u8],
+    from: usize,
+    count: u32,
+) -> Result<(Row<DocRecord>, usize), CiffFault>
+    requires { from ≤ length bytes.now }
+    ensures exact { Gives (docs_in bytes.now) result (all_docs_at count from (drop from bytes.now)) }
+    ensures within { IfOk result (λ x. x.1 ≤ length bytes.now) }
+    ensures count { IfOk result (λ x. length x.0 ≡ count) }
+{
+    let mut documents = Documents::new(alloc);
+    let mut at = from;
+    'documents: for _ in 0..count {
+        let body = match read_length(bytes, at) {
+            Ok(body) => body,
+            Err(fault) => return Err(fault),
+        };
+        match read_document(alloc, bytes, at, body, count, &mut documents) {
+            Ok(()) => {}
+            Err(fault) => return Err(fault),
+        }
+        at = body.end;
+    }
+    match documents.into_row(alloc) {
+        Ok(docs) => Ok((docs, at)),
+        Err(_) => Err(CiffFault::NoMemory),
+    }
+}

@@ -1,0 +1,102 @@
+ghost use Rattle.std.specs.Prelude.{ℕ, ◌≡◌, ◌≤◌, ◌^◌};
+ghost use Rattle.ciff_read.specs.Kept.{AreKept};
+ghost use Rattle.ciff_read.specs.Judging.{judge};
+
+use crate::entry::Entry;
+use crate::refusal::{CiffRefusal, CiffWhy};
+use jass_base::{NoMemory, Posting, Row};
+use std::alloc::Global;
+
+/// The limit of postings in a file.
+const MOST_POSTINGS: u64 = 536_870_912;
+
+/// The postings of a list so far, in rising order, and the first refusal among them.
+#[derive(Debug, Drop)]
+pub struct Gathered {
+    pub postings: Row<Posting>,
+    /// The last document; 0 where there is none yet.
+    pub last: u32,
+    /// The number of documents of the file.
+    pub docs: u32,
+    /// The postings of the lists before.
+    pub before: u64,
+    /// Nothing is put in after it.
+    pub refusal: Option<CiffRefusal>,
+    pub ghost kept: { AreKept docs before last postings },
+}
+
+impl Gathered {
+    ghost use Rattle.std.specs.Prelude.{OnOk, None, []};
+    ghost use Rattle.ciff_read.specs.Judging.{gather};
+    ghost use Rattle.ciff_read.specs.Places.{gathered_of};
+
+    /// No postings yet.
+    pub fn new(alloc: Global, docs: u32, before: u64) -> Gathered
+        requires docs { docs ≤ 2 ^ 26 }
+        requires before { before ≤ 2 ^ 29 }
+        ensures empty { gathered_of result ≡ Ok [] }
+        ensures docs { result.docs ≡ docs }
+        ensures before { result.before ≡ before }
+    {
+        Gathered {
+            postings: Row::new(alloc),
+            last: 0,
+            docs,
+            before,
+            refusal: None,
+        }
+    }
+
+    /// Puts the next posting in, or keeps the refusal of it at its place in the file.
+    pub fn take(&mut self, at: usize, entry: Entry) -> Result<(), NoMemory>
+        ensures gathered { OnOk result (gathered_of self.new ≡ gather self.old.docs self.old.before (gathered_of self.old) (record { at = at; entry = entry })) }
+        ensures docs { self.new.docs ≡ self.old.docs }
+        ensures before { self.new.before ≡ self.old.before }
+    {
+        if self.refusal.is_some() {
+            return Ok(());
+        }
+        match self.judge(entry) {
+            Ok(posting) => {
+                match self.postings.push(posting) {
+                    Ok(()) => {}
+                    Err((_, refused)) => return Err(refused),
+                }
+                self.last = posting.doc;
+                Ok(())
+            }
+            Err(why) => {
+                self.refusal = Some(CiffRefusal { at: at as u64, why });
+                Ok(())
+            }
+        }
+    }
+
+    /// The next posting, or why it is refused.
+    fn judge(&self, entry: Entry) -> Result<Posting, CiffWhy>
+        ensures { result ≡ judge self.now.docs self.now.before self.now.postings entry }
+    {
+        if entry.docid >= 1 << 31 || entry.tf >= 1 << 31 {
+            return Err(CiffWhy::Range);
+        }
+        if entry.tf == 0 {
+            return Err(CiffWhy::Tf);
+        }
+        if entry.docid == 0 && !self.postings.is_empty() {
+            return Err(CiffWhy::Gap);
+        }
+        let doc = u64::from(self.last) + entry.docid;
+        if doc >= u64::from(self.docs) {
+            return Err(CiffWhy::DocRange);
+        }
+        if self.before >= MOST_POSTINGS
+            || self.postings.len() as u64 >= MOST_POSTINGS - self.before
+        {
+            return Err(CiffWhy::Limit);
+        }
+        Ok(Posting {
+            doc: doc as u32,
+            tf: entry.tf as u32,
+        })
+    }
+}

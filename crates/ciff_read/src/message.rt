@@ -1,0 +1,28 @@
+ghost use Rattle.ciff_read.specs.Places.{ReadsMessage};
+
+use crate::body::Body;
+use crate::refusal::{CiffFault, CiffWhy, refused, refused_field};
+use wire_fields::read_varint;
+
+/// The place behind the last byte that a file may have.
+const FILE_LIMIT: u64 = 4_294_967_296;
+
+/// Reads the length of the message at a place.
+pub fn read_length(bytes: &[u8], at: usize) -> Result<Body, CiffFault>
+    ensures { ReadsMessage bytes.now at result }
+{
+    let (length, from) = match read_varint(bytes, at) {
+        Ok(read) => read,
+        Err(fault) => return Err(refused_field(fault)),
+    };
+    if from as u64 > FILE_LIMIT || length > FILE_LIMIT - from as u64 {
+        return Err(refused(at, CiffWhy::Limit));
+    }
+    if length > (bytes.len() - from) as u64 {
+        return Err(refused(at, CiffWhy::Cut));
+    }
+    Ok(Body {
+        from,
+        end: from + length as usize,
+    })
+}

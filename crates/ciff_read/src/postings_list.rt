@@ -1,0 +1,164 @@
+ghost use Rattle.std.specs.Prelude.{◌≡◌, ◌+◌, ◌<◌, ◌≤◌, ◌^◌, false, length, map, [], ◌∷◌, ◌++◌, IfOk};
+ghost use Rattle.std.specs.Str.{IsUtf8};
+ghost use Rattle.jass_base.specs.CiffViews.{list_data};
+ghost use Rattle.jass_base.specs.Lists.{HasDocsBelow};
+ghost use Rattle.wire_fields.specs.Places.{IsWithin};
+ghost use Rattle.ciff_read.specs.Judging as judging;
+ghost use Rattle.ciff_read.specs.Places.{message_in, list_start_in, ReadsList, GathersField};
+ghost use Rattle.ciff_read.specs.Reading.{list_at};
+ghost use Rattle.ciff_read.specs.Refusals.{Gives, placed};
+ghost use Rattle.ciff_read.specs.Seen.{is_seen};
+
+use crate::body::Body;
+use crate::entry::read_entry;
+use crate::gathered::Gathered;
+use crate::list_fields::ListFields;
+use crate::refusal::{CiffFault, CiffWhy, refused, refused_field};
+use crate::terms::add_term;
+use crate::text::text_of;
+use indexmap::IndexSet;
+use jass_base::{PostingsList, Text};
+use std::alloc::Global;
+use wire_fields::{Field, Value, next_field};
+
+/// The limit of a term's bytes.
+const LONGEST_TERM: usize = 65_535;
+
+/// Reads the postings list of the message at `at`, in a file of so many documents with so
+/// many postings in the lists before, and adds its term to theirs.
+pub fn read_list<'a>(
+    alloc: Global,
+    bytes: &'a [u8],
+    at: usize,
+    body: Body,
+    docs: u32,
+    before: u64,
+    terms: &mut IndexSet<&'a str>,
+) -> Result<PostingsList, CiffFault>
+    requires within { body.end ≤ length bytes.now }
+    requires docs { docs ≤ 2 ^ 26 }
+    requires before { before ≤ 2 ^ 29 }
+    ensures new { IfOk result (λ list. is_seen list.term (map (λ t. t.now) terms.old.keys) ≡ false) }
+    ensures terms { IfOk result (λ list. map (λ t. t.now) terms.new.keys ≡ map (λ t. t.now) terms.old.keys ++ list.term ∷ []) }
+    ensures few { IfOk result (λ list. before + length list.postings ≤ 2 ^ 29) }
+    ensures below { IfOk result (HasDocsBelow docs) }
+    ensures exact { Gives list_data result (list_at docs before (map (λ t. t.now) terms.old.keys) at (message_in bytes.now body)) }
+{
+    let mut gathered = Gathered::new(alloc, docs, before);
+    let fields = match walk_list(&bytes[..body.end], body.from, &mut gathered) {
+        Ok(fields) => fields,
+        Err(fault) => return Err(fault),
+    };
+    let term = match judge_list(at, fields, terms) {
+        Ok(term) => term,
+        Err(fault) => return Err(fault),
+    };
+    if let Some(refusal) = gathered.refusal {
+        return Err(CiffFault::Refused(refusal));
+    }
+    let Ok(term) = Text::from_str(alloc, term) else {
+        return Err(CiffFault::NoMemory);
+    };
+    let Gathered { postings, .. } = gathered;
+    Ok(PostingsList {
+        term,
+        df: fields.df,
+        cf: fields.cf,
+        postings,
+    })
+}
+
+/// Judges the fields beside the postings, and adds the term to those of the lists before.
+fn judge_list<'a>(
+    at: usize,
+    fields: ListFields<'a>,
+    terms: &mut IndexSet<&'a str>,
+) -> Result<&'a str, CiffFault>
+    ensures new { IfOk result (λ term. is_seen term.now (map (λ t. t.now) terms.old.keys) ≡ false) }
+    ensures terms { IfOk result (λ term. map (λ t. t.now) terms.new.keys ≡ map (λ t. t.now) terms.old.keys ++ term.now ∷ []) }
+    ensures text { IfOk result (λ term. (term.now ≡ fields.entry.term.now) × IsUtf8 term.now) }
+    ensures fits { IfOk result (λ term. length term.now ≤ 65535) }
+    ensures df { IfOk result (λ term. fields.entry.df < 2 ^ 63) }
+    ensures cf { IfOk result (λ term. fields.entry.cf < 2 ^ 63) }
+    ensures exact { Gives (λ term. list_start_in fields.entry) result (placed at (judging.judge_list (map (λ t. t.now) terms.old.keys) (list_start_in fields.entry))) }
+{
+    let Some(term) = text_of(fields.term) else {
+        return Err(refused(at, CiffWhy::Text));
+    };
+    if term.len() > LONGEST_TERM {
+        return Err(refused(at, CiffWhy::Limit));
+    }
+    match add_term(terms, term) {
+        Ok(true) => {}
+        Ok(false) => return Err(refused(at, CiffWhy::TermTwice)),
+        Err(_) => return Err(CiffFault::NoMemory),
+    }
+    if fields.df >= 1 << 63 || fields.cf >= 1 << 63 {
+        return Err(refused(at, CiffWhy::Range));
+    }
+    Ok(term)
+}
+
+/// Walks the fields from a place to the end of `bytes`, and gathers the postings.
+fn walk_list<'a>(
+    bytes: &'a [u8],
+    from: usize,
+    gathered: &mut Gathered,
+) -> Result<ListFields<'a>, CiffFault>
+    requires { from ≤ length bytes.now }
+    ensures read { ReadsList bytes.now from result gathered.old gathered.new }
+    ensures docs { gathered.new.docs ≡ gathered.old.docs }
+    ensures before { gathered.new.before ≡ gathered.old.before }
+{
+    let mut fields = ListFields {
+        term: b"",
+        df: 0,
+        cf: 0,
+    };
+    let mut at = from;
+    'fields: loop {
+        match next_field(bytes, at) {
+            Ok(Some(field)) => {
+                fields.term = field.bytes_or(1, bytes, fields.term);
+                fields.df = field.number_or(2, fields.df);
+                fields.cf = field.number_or(3, fields.cf);
+                match gather(bytes, at, &field, gathered) {
+                    Ok(()) => {}
+                    Err(fault) => return Err(fault),
+                }
+                at = field.next;
+            }
+            Ok(None) => return Ok(fields),
+            Err(fault) => return Err(refused_field(fault)),
+        }
+    }
+}
+
+/// Reads the posting of the field at `at`, where it is one.
+fn gather(
+    bytes: &[u8],
+    at: usize,
+    field: &Field,
+    gathered: &mut Gathered,
+) -> Result<(), CiffFault>
+    requires value { IsWithin field.now.value field.now.next }
+    requires within { field.now.next ≤ length bytes.now }
+    ensures read { GathersField bytes.now at field.now result gathered.old gathered.new }
+    ensures docs { gathered.new.docs ≡ gathered.old.docs }
+    ensures before { gathered.new.before ≡ gathered.old.before }
+{
+    if field.number != 4 {
+        return Ok(());
+    }
+    let Value::Bytes(first, after) = field.value else {
+        return Ok(());
+    };
+    let entry = match read_entry(&bytes[..after], first) {
+        Ok(entry) => entry,
+        Err(fault) => return Err(fault),
+    };
+    match gathered.take(at, entry) {
+        Ok(()) => Ok(()),
+        Err(_) => Err(CiffFault::NoMemory),
+    }
+}

@@ -1,0 +1,5 @@
+pub mod Notes
+pub mod Fronts
+pub mod Views
+pub mod Stops
+pub mod Words

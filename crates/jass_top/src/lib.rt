@@ -1,0 +1,19 @@
+#![tactic(auto)]
+
+//! The program as one call: it reads the command's words, runs the command over a cabinet,
+//! an input, an output and notes, and answers a status.
+
+mod index_view;
+mod note;
+mod once;
+mod once_words;
+mod program;
+mod status;
+mod stop;
+mod whole_file;
+
+pub use program::run;
+pub use status::Status;
+
+#[cfg(test)]
+mod tests;

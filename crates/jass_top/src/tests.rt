@@ -1,0 +1,270 @@
+// The program's worked examples: what it prints for small files, and how it ends where an
+// input, an output or the words are at fault.
+
+ghost use Rattle.std.specs.Prelude.{◌≡◌, ◌<◌};
+
+use crate::run;
+use jass_base::{MemCabinet, MemSink, Row, SliceFeed, Steps};
+use std::alloc::{AllocError, Global};
+use std::marker::Brand;
+use std::sync::ledger::{Blank, Ledger};
+
+/// Documents d0 to d3; `cat`: (0,3), (1,1), (3,1); `dog`: (1,2), (2,3).
+const TWO_TERMS: [u8; 104] = [
+    0x15, 0x08, 0x01, 0x10, 0x02, 0x18, 0x04, 0x20, 0x02, 0x28, 0x04, 0x30, 0x0a, 0x39, 0x00, 0x00,
+    0x00, 0x00, 0x00, 0x00, 0x04, 0x40, 0x19, 0x0a, 0x03, 0x63, 0x61, 0x74, 0x10, 0x03, 0x18, 0x05,
+    0x22, 0x02, 0x10, 0x03, 0x22, 0x04, 0x08, 0x01, 0x10, 0x01, 0x22, 0x04, 0x08, 0x02, 0x10, 0x01,
+    0x15, 0x0a, 0x03, 0x64, 0x6f, 0x67, 0x10, 0x02, 0x18, 0x05, 0x22, 0x04, 0x08, 0x01, 0x10, 0x02,
+    0x22, 0x04, 0x08, 0x01, 0x10, 0x03, 0x06, 0x12, 0x02, 0x64, 0x30, 0x18, 0x03, 0x08, 0x08, 0x01,
+    0x12, 0x02, 0x64, 0x31, 0x18, 0x03, 0x08, 0x08, 0x02, 0x12, 0x02, 0x64, 0x32, 0x18, 0x03, 0x08,
+    0x08, 0x03, 0x12, 0x02, 0x64, 0x33, 0x18, 0x01,
+];
+
+/// Documents d0 to d2; `a`: (0,9), (1,5), (2,1).
+const ONE_TERM: [u8; 71] = [
+    0x15, 0x08, 0x01, 0x10, 0x01, 0x18, 0x03, 0x20, 0x01, 0x28, 0x03, 0x30, 0x0f, 0x39, 0x00, 0x00,
+    0x00, 0x00, 0x00, 0x00, 0x14, 0x40, 0x17, 0x0a, 0x01, 0x61, 0x10, 0x03, 0x18, 0x0f, 0x22, 0x02,
+    0x10, 0x09, 0x22, 0x04, 0x08, 0x01, 0x10, 0x05, 0x22, 0x04, 0x08, 0x01, 0x10, 0x01, 0x06, 0x12,
+    0x02, 0x64, 0x30, 0x18, 0x09, 0x08, 0x08, 0x01, 0x12, 0x02, 0x64, 0x31, 0x18, 0x05, 0x08, 0x08,
+    0x02, 0x12, 0x02, 0x64, 0x32, 0x18, 0x01,
+];
+
+/// The same with a long varint, fields in another order and an unknown field.
+const SLOPPY: [u8; 74] = [
+    0x15, 0x08, 0x01, 0x10, 0x01, 0x18, 0x03, 0x20, 0x01, 0x28, 0x03, 0x30, 0x0f, 0x39, 0x00, 0x00,
+    0x00, 0x00, 0x00, 0x00, 0x14, 0x40, 0x18, 0x0a, 0x01, 0x61, 0x10, 0x83, 0x00, 0x18, 0x0f, 0x22,
+    0x02, 0x10, 0x09, 0x22, 0x04, 0x08, 0x01, 0x10, 0x05, 0x22, 0x04, 0x08, 0x01, 0x10, 0x01, 0x08,
+    0x18, 0x09, 0x12, 0x02, 0x64, 0x30, 0x48, 0x05, 0x08, 0x08, 0x01, 0x12, 0x02, 0x64, 0x31, 0x18,
+    0x05, 0x08, 0x08, 0x02, 0x12, 0x02, 0x64, 0x32, 0x18, 0x01,
+];
+
+/// Documents d0 and d1; `p`: (1,3); `q`: (0,3).
+const LATER_FIRST: [u8; 64] = [
+    0x15, 0x08, 0x01, 0x10, 0x02, 0x18, 0x02, 0x20, 0x02, 0x28, 0x02, 0x30, 0x06, 0x39, 0x00, 0x00,
+    0x00, 0x00, 0x00, 0x00, 0x08, 0x40, 0x0d, 0x0a, 0x01, 0x70, 0x10, 0x01, 0x18, 0x03, 0x22, 0x04,
+    0x08, 0x01, 0x10, 0x03, 0x0b, 0x0a, 0x01, 0x71, 0x10, 0x01, 0x18, 0x03, 0x22, 0x02, 0x10, 0x03,
+    0x06, 0x12, 0x02, 0x64, 0x30, 0x18, 0x03, 0x08, 0x08, 0x01, 0x12, 0x02, 0x64, 0x31, 0x18, 0x03,
+];
+
+/// What a run left.
+#[derive(Drop)]
+struct Left {
+    status: u8,
+    out: Vec<u8>,
+    notes: Vec<u8>,
+}
+
+/// Runs words over a cabinet with one file, whose reads and the output's puts fail where named.
+fn left_by<L: Ledger>(
+    alloc: Global,
+    blank: Blank,
+    ciff: &[u8],
+    words: &str,
+    bad_reads: &[u64],
+    bad_puts: &[u64],
+) -> Result<Left, AllocError>
+    requires name { blank.name ≡ L.name }
+    requires parts { blank.parts ≡ L.parts }
+    requires some { 0 < blank.parts }
+{
+    let mut files = MemCabinet::new(alloc, listed(alloc, bad_reads)?, Row::new(alloc));
+    if files.store("b.ciff", ciff).is_err() {
+        return Err(AllocError);
+    }
+    let words = parted(alloc, words)?;
+    let mut input = SliceFeed::new(b"");
+    let mut out = MemSink::new(alloc, listed(alloc, bad_puts)?);
+    let mut notes = MemSink::new(alloc, Row::new(alloc));
+    let mut steps = Steps::<L>::new(blank);
+    let status = run(
+        alloc,
+        words.as_slice(),
+        &mut files,
+        &mut input,
+        &mut out,
+        &mut notes,
+        &mut steps,
+    );
+    Ok(Left {
+        status: status.number(),
+        out: Vec::from_slice(alloc, out.written())?,
+        notes: Vec::from_slice(alloc, notes.written())?,
+    })
+}
+
+/// The numbers as a row.
+fn listed(alloc: Global, numbers: &[u64]) -> Result<Row<u64>, AllocError> {
+    Ok(Row::from_vec(Vec::from_slice(alloc, numbers)?))
+}
+
+/// The words between the blanks of a line.
+fn parted(alloc: Global, line: &str) -> Result<Vec<String>, AllocError> {
+    let mut words = Vec::new(alloc);
+    for word in line.split_whitespace() {
+        words.push(String::from_str(alloc, word)?)?;
+    }
+    Ok(words)
+}
+
+#[test]
+fn answers_are_printed(rt: HostRuntime) {
+    let table: [(&[u8], &str, &[u8]); 10] = [
+        (
+            &ONE_TERM,
+            "once b.ciff 3 all a",
+            b"q postings 3 segments 3 of 3 cutoff 1 next 0 bound 0 unknown 0 final\nq Q0 d0 1 9 jass\nq Q0 d1 2 5 jass\nq Q0 d2 3 1 jass\n",
+        ),
+        (
+            &SLOPPY,
+            "once b.ciff 3 all a",
+            b"q postings 3 segments 3 of 3 cutoff 1 next 0 bound 0 unknown 0 final\nq Q0 d0 1 9 jass\nq Q0 d1 2 5 jass\nq Q0 d2 3 1 jass\n",
+        ),
+        (
+            &TWO_TERMS,
+            "once b.ciff 4 all cat dog",
+            b"q postings 5 segments 4 of 4 cutoff 1 next 0 bound 0 unknown 0 final\nq Q0 d0 1 3 jass\nq Q0 d1 2 3 jass\nq Q0 d2 3 3 jass\nq Q0 d3 4 1 jass\n",
+        ),
+        (
+            &TWO_TERMS,
+            "once b.ciff 4 4 cat dog",
+            b"q postings 3 segments 3 of 4 cutoff 2 next 1 bound 1 unknown 0 open\nq Q0 d0 1 3 jass\nq Q0 d2 2 3 jass\nq Q0 d1 3 2 jass\n",
+        ),
+        (
+            &TWO_TERMS,
+            "once b.ciff 4 0 cat dog",
+            b"q postings 0 segments 0 of 4 cutoff 0 next 3 bound 6 unknown 0 open\n",
+        ),
+        (
+            &TWO_TERMS,
+            "once b.ciff 2 2 cat dog",
+            b"q postings 2 segments 2 of 4 cutoff 3 next 2 bound 3 unknown 0 open\nq Q0 d0 1 3 jass\nq Q0 d2 2 3 jass\n",
+        ),
+        (
+            &LATER_FIRST,
+            "once b.ciff 1 1 p q",
+            b"q postings 1 segments 1 of 2 cutoff 3 next 3 bound 3 unknown 0 open\nq Q0 d1 1 3 jass\n",
+        ),
+        (
+            &ONE_TERM,
+            "once b.ciff 4 all a a",
+            b"q postings 3 segments 3 of 3 cutoff 2 next 0 bound 0 unknown 0 final\nq Q0 d0 1 18 jass\nq Q0 d1 2 10 jass\nq Q0 d2 3 2 jass\n",
+        ),
+        (
+            &ONE_TERM,
+            "once b.ciff 4 all a zzz",
+            b"q postings 3 segments 3 of 3 cutoff 1 next 0 bound 0 unknown 1 final\nq Q0 d0 1 9 jass\nq Q0 d1 2 5 jass\nq Q0 d2 3 1 jass\n",
+        ),
+        (
+            &[0],
+            "once b.ciff 4 all a",
+            b"q postings 0 segments 0 of 0 cutoff 0 next 0 bound 0 unknown 1 final\n",
+        ),
+    ];
+    for (ciff, words, out) in table {
+        let Ok(left) = left_by::<Brand>(rt.alloc(), Blank::new(1), ciff, words, &[], &[]) else {
+            assert!(&rt; false, "no memory");
+            return;
+        };
+        assert_eq!(&rt; left.status, 0, "{words}");
+        assert!(&rt; left.out.as_slice() == out, "{words}");
+        assert!(&rt; left.notes.is_empty(), "{words}");
+    }
+}
+
+#[test]
+fn other_ends_are_noted(rt: HostRuntime) {
+    let mut longer = [0u8; 72];
+    longer[..71].copy_from_slice(&ONE_TERM);
+    let mut same_document = ONE_TERM;
+    same_document[37] = 0;
+    let mut bad_wire = ONE_TERM;
+    bad_wire[26] = 0x13;
+    let table: [(&[u8], &str, &[u64], &[u64], u8, &[u8]); 13] = [
+        (
+            &[],
+            "once b.ciff 3 all a",
+            &[],
+            &[],
+            3,
+            b"b.ciff: refusal 10 at 0\n",
+        ),
+        (
+            &ONE_TERM[..70],
+            "once b.ciff 3 all a",
+            &[],
+            &[],
+            3,
+            b"b.ciff: refusal 10 at 62\n",
+        ),
+        (
+            &longer,
+            "once b.ciff 3 all a",
+            &[],
+            &[],
+            3,
+            b"b.ciff: refusal 21 at 71\n",
+        ),
+        (
+            &same_document,
+            "once b.ciff 3 all a",
+            &[],
+            &[],
+            3,
+            b"b.ciff: refusal 15 at 34\n",
+        ),
+        (
+            &bad_wire,
+            "once b.ciff 3 all a",
+            &[],
+            &[],
+            3,
+            b"b.ciff: refusal 12 at 26\n",
+        ),
+        (&ONE_TERM, "once b.ciff 0 all a", &[], &[], 2, b"word 3\n"),
+        (&ONE_TERM, "search i q", &[], &[], 2, b"word 1\n"),
+        (&ONE_TERM, "", &[], &[], 2, b"word 1\n"),
+        (&ONE_TERM, "once b.ciff 3 all", &[], &[], 2, b"word 5\n"),
+        (
+            &ONE_TERM,
+            "once x.ciff 3 all a",
+            &[],
+            &[],
+            4,
+            b"x.ciff: read fault\n",
+        ),
+        (
+            &ONE_TERM,
+            "once b.ciff 3 all a",
+            &[0],
+            &[],
+            4,
+            b"b.ciff: read fault\n",
+        ),
+        (
+            &ONE_TERM,
+            "once b.ciff 3 all a",
+            &[1],
+            &[],
+            4,
+            b"b.ciff: read fault\n",
+        ),
+        (
+            &ONE_TERM,
+            "once b.ciff 3 all a",
+            &[],
+            &[0],
+            5,
+            b"output: write fault\n",
+        ),
+    ];
+    for (ciff, words, bad_reads, bad_puts, status, notes) in table {
+        let Ok(left) = left_by::<Brand>(rt.alloc(), Blank::new(1), ciff, words, bad_reads, bad_puts)
+        else {
+            assert!(&rt; false, "no memory");
+            return;
+        };
+        assert_eq!(&rt; left.status, status, "{words}");
+        assert!(&rt; left.notes.as_slice() == notes, "{words}");
+        assert!(&rt; left.out.is_empty(), "{words}");
+    }
+}

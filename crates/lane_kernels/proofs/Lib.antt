@@ -1,0 +1,9 @@
+pub mod Bits
+pub mod PackRows
+pub mod Packed
+pub mod Places
+pub mod SetBits
+pub mod Running
+pub mod Sums
+pub mod UnpackRows
+pub mod Widths

@@ -1,0 +1,5 @@
+pub mod Bitmap
+pub mod Block
+pub mod Gaps
+pub mod Lanes
+pub mod Width

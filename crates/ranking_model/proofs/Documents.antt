@@ -1,0 +1,37 @@
+-- The documents of an answer are those of the index.
+use Rattle.std.proofs.Common.{◌≡◌, ℕ, zero, suc, ◌+◌, ◌<◌, ◌≤◌, ◌==◌, Bool, true, false, List, [], ◌∷◌, length, map, take, sum_by, if◌then◌else◌, refl, sym, ap, subst, ◌∙◌, arith}
+use Rattle.std.specs.Prelude.{All}
+use Rattle.std.specs.List.{AllByRecursion}
+use Rattle.std.proofs.lemmas.List.FromFn.{length-map-range_with_len}
+use Rattle.jass_base.specs.declared.answer.Hit.{Hit}
+use Rattle.ranking_model.specs.Order.{sorted}
+use Rattle.ranking_model.specs.declared.plan.QueryPlan.{QueryPlan}
+use Rattle.ranking_model.specs.Scores.{gain_of, hits_from, rank_cmp, first_ranked, scores_after, top_k}
+use Rattle.ranking_model.proofs.Sorting.{all_sorted}
+use Rattle.ranking_model.proofs.Ranking.{rank_total}
+
+all_take : {A : Type 0} (P : A → Type 0) (n : ℕ) (xs : List A) → AllByRecursion P xs → AllByRecursion P (take n xs)
+all_take P zero xs h = tt
+all_take P (suc n) [] h = tt
+all_take P (suc n) (x ∷ xs) h = (h.0, all_take P n xs h.1)
+
+hits_below : (limit doc : ℕ) (scores : List ℕ) → doc + length scores ≤ limit → AllByRecursion (λ (hit : Hit). hit.doc < limit) (hits_from doc scores)
+hits_below limit doc [] within = tt
+hits_below limit doc (score ∷ scores) within = step (score == 0) (hits_below limit (doc + 1) scores (omega arith)) where
+  step : (b : Bool) → AllByRecursion (λ (hit : Hit). hit.doc < limit) (hits_from (doc + 1) scores) → AllByRecursion (λ (hit : Hit). hit.doc < limit) (if b then hits_from (doc + 1) scores else record { doc = doc; score = score } ∷ hits_from (doc + 1) scores)
+  step true rest = rest
+  step false rest = (omega arith, rest)
+
+pub ranked_below : (scores : List ℕ) (m : ℕ) → AllByRecursion (λ (hit : Hit). hit.doc < length scores) (first_ranked scores m)
+ranked_below scores m = all_take (λ (hit : Hit). hit.doc < length scores) m (sorted rank_cmp (hits_from 0 scores)) (all_sorted rank_cmp rank_total (λ (hit : Hit). hit.doc < length scores) (hits_from 0 scores) (hits_below (length scores) 0 scores (omega arith)))
+
+-- each of a list, by places
+by_places : {A : Type 0} (P : A → Type 0) (xs : List A) → AllByRecursion P xs → All P xs
+by_places P [] h k d inside = absurd (omega arith)
+by_places P (x ∷ xs) h zero d inside = h.0
+by_places P (x ∷ xs) h (suc k) d inside = by_places P xs h.1 k d (omega arith)
+
+pub answer_below : (n : ℕ) (plan : QueryPlan) (k : ℕ) → All (λ (hit : Hit). hit.doc < plan.docs) (top_k n plan k)
+answer_below n plan k =
+    let size : length (scores_after n plan) ≡ plan.docs = length-map-range_with_len (λ doc. sum_by (gain_of doc) (take n plan.classes)) 0 plan.docs in
+    by_places (λ (hit : Hit). hit.doc < plan.docs) (top_k n plan k) (subst (λ limit. AllByRecursion (λ (hit : Hit). hit.doc < limit) (top_k n plan k)) size (ranked_below (scores_after n plan) k))

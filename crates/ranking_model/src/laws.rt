@@ -1,0 +1,86 @@
+//! Laws over the definitions. Each function does nothing: its contract is the law, and a caller
+//! learns it by the call.
+
+ghost use Rattle.std.specs.Prelude.{◌≡◌, ◌≢◌, ℕ, ◌≤◌, List, [], length, take, drop, flat_map, sum_by, AllPairs, IsPermutation, IsSorted};
+ghost use Rattle.std.specs.List.{AllByRecursion};
+ghost use Rattle.std.specs.Ordering.{nat_cmp};
+ghost use Rattle.std.specs.Cmp.Lexicographic.{slice_cmp};
+ghost use Rattle.jass_base.specs.declared.answer.Hit.{Hit};
+ghost use Rattle.jass_base.specs.declared.named.Named.{Named};
+ghost use Rattle.ranking_model.specs.declared.entry.Entry.{Entry};
+ghost use Rattle.ranking_model.specs.declared.posting.WeightedPosting.{WeightedPosting};
+ghost use Rattle.ranking_model.specs.declared.class.Class.{Class};
+ghost use Rattle.ranking_model.specs.Flat.{IsFlat, numbered};
+ghost use Rattle.ranking_model.specs.Order.{sorted};
+ghost use Rattle.ranking_model.specs.Plan.{postings_of, plan_of, plan_cmp, classes_of, size_of_first, prefix_within, cutoff_after, next_after};
+ghost use Rattle.ranking_model.specs.Scores.{adds, gain_of, bound_after, scores_after, rank_cmp, hits_from, first_ranked};
+ghost use Rattle.ranking_model.specs.Finality.{GainsUpTo};
+ghost use Rattle.ranking_model.specs.Heaviest.{IsHeaviest};
+
+/// The prefix that a budget pays for fits it, and no longer one does.
+pub fn the_prefix_is_the_longest()
+    ensures fits { (budget : ℕ) (classes : List Class) →
+        size_of_first (prefix_within budget classes) classes ≤ budget }
+    ensures there { (budget : ℕ) (classes : List Class) →
+        prefix_within budget classes ≤ length classes }
+    ensures longest { (budget n : ℕ) (classes : List Class) →
+        n ≤ length classes → size_of_first n classes ≤ budget → n ≤ prefix_within budget classes }
+{}
+
+/// Scored classes weigh at least the cutoff, and the others at most the next weight, which is at
+/// most the cutoff where anything is scored.
+pub fn the_cutoff_parts_scored_from_unscored()
+    ensures scored { (postings : List WeightedPosting) (n : ℕ) →
+        let classes = classes_of postings in
+        AllByRecursion (λ class. cutoff_after n classes ≤ class.weight) (take n classes) }
+    ensures unscored { (postings : List WeightedPosting) (n : ℕ) →
+        let classes = classes_of postings in
+        AllByRecursion (λ class. class.weight ≤ next_after n classes) (drop n classes) }
+    ensures parted { (postings : List WeightedPosting) (n : ℕ) →
+        1 ≤ n → next_after n (classes_of postings) ≤ cutoff_after n (classes_of postings) }
+{}
+
+/// The postings of a prefix of the plan are the heaviest of their number.
+pub fn the_scored_prefix_is_the_heaviest()
+    ensures { (n : ℕ) (postings : List WeightedPosting) → IsHeaviest n postings }
+{}
+
+/// All classes together have all postings, and give each document the sum of the weights of its
+/// postings.
+pub fn the_classes_have_all_postings()
+    ensures number { (postings : List WeightedPosting) →
+        let classes = classes_of postings in
+        size_of_first (length classes) classes ≡ length postings }
+    ensures scores { (postings : List WeightedPosting) (doc : ℕ) →
+        sum_by (gain_of doc) (classes_of postings) ≡ sum_by (adds doc) postings }
+{}
+
+/// Segments that differ in place or weight, put down one after the other, are the classes.
+pub fn segments_are_classes()
+    ensures { (segments : List Class) →
+        AllByRecursion (λ class. class.docs ≢ []) segments →
+        AllPairs (λ a b. a.place ≡ b.place → a.weight ≢ b.weight) segments →
+        classes_of (flat_map postings_of segments) ≡ sorted plan_cmp segments }
+{}
+
+/// Whatever puts the hits of some scores in order finds the one ranking.
+pub fn the_ranking_is_one()
+    ensures { (scores : List ℕ) (m : ℕ) (hits : List Hit) →
+        IsPermutation (hits_from 0 scores) hits → IsSorted rank_cmp hits →
+        take m hits ≡ first_ranked scores m }
+{}
+
+/// Terms by number keep what the flat list is by their bytes.
+pub fn numbers_keep_the_flat_list()
+    ensures { (docs : ℕ) (flat : List (Entry (List ℕ))) →
+        IsFlat (slice_cmp nat_cmp) docs flat → IsFlat nat_cmp docs (numbered flat) }
+{}
+
+/// What is unscored gives no document more than the bound: the scores after more classes are those
+/// after fewer, with gains up to the bound of the fewer.
+pub fn the_rest_gains_at_most_the_bound()
+    ensures { (docs n m : ℕ) (flat : List (Entry ℕ)) (terms : List Named) →
+        IsFlat nat_cmp docs flat → n ≤ m →
+        let plan = plan_of docs flat terms in
+        GainsUpTo (bound_after n plan) (scores_after n plan) (scores_after m plan) }
+{}
