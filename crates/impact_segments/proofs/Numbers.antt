@@ -94,9 +94,7 @@ module _ (all : List (List ℕ)) (differ : AllPairs (λ (s t : List ℕ). s ≢ 
       let before : (k : ℕ) → k < length front → bytes_eq (get_or all k []) t ≡ false
       = λ k b. false_from (bytes_eq (get_or all k []) t) (λ eq. differ k (length front) [] b low ((bytes_eq-Decides (get_or all k []) t).0 eq ∙ sym at)) in
       let here : length front < length all → bytes_eq (get_or all (length front) []) t ≡ true = λ l. (bytes_eq-Decides (get_or all (length front) []) t).1 at in
-      let is : position_or_len (λ s. bytes_eq s t) all ≡ length front = position_or_len_is (λ s. bytes_eq s t) all (length front) [] (omega arith) before here in
-      let test : nat_lt (length front) (length all) ≡ true = grind (arith, nat_tests) in
-      rw (is, test) refl
+      position_or_len_is (λ s. bytes_eq s t) all (length front) [] (omega arith) before here
 
   renumber : Entry (List ℕ) → Entry ℕ
   renumber e = record { term = number_of all e.term; doc = e.doc; impact = e.impact }
