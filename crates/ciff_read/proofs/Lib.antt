@@ -8,3 +8,4 @@ pub mod Sequences
 pub mod Tables
 pub mod TermLists
 pub mod Walks
+pub mod Counting

@@ -6,3 +6,4 @@ pub mod Refusals
 pub mod Seen
 pub mod Table
 pub mod Walking
+pub mod Counts

@@ -1,6 +1,7 @@
 ghost use Rattle.std.specs.Prelude.{◌≡◌, ◌≤◌, ◌^◌, [], length, drop, All, AllPairs, IfOk};
 ghost use Rattle.jass_base.specs.CiffViews.{collection_data};
 ghost use Rattle.jass_base.specs.Lists.{HasDocsBelow, DifferInTerm};
+ghost use Rattle.ciff_read.specs.Counts.{posting_count};
 ghost use Rattle.ciff_read.specs.Places.{lists_in, docs_in};
 ghost use Rattle.ciff_read.specs.Reading.{lists_at, all_docs_at, read_ciff};
 ghost use Rattle.ciff_read.specs.Refusals.{Gives};
@@ -17,7 +18,8 @@ use std::alloc::Global;
 
 /// Reads a whole CIFF file.
 pub fn read_collection(alloc: Global, bytes: &[u8]) -> Result<Collection, CiffFault>
-    ensures { Gives collection_data result (read_ciff bytes.now) }
+    ensures exact { Gives collection_data result (read_ciff bytes.now) }
+    ensures few { IfOk result (λ collection. posting_count collection.lists ≤ 2 ^ 29) }
 {
     let body = match read_length(bytes, 0) {
         Ok(body) => body,
@@ -60,6 +62,7 @@ fn read_lists(
     ensures count { IfOk result (λ x. length x.0 ≡ count) }
     ensures below { IfOk result (λ x. All (HasDocsBelow docs) x.0) }
     ensures differ { IfOk result (λ x. AllPairs DifferInTerm x.0) }
+    ensures few { IfOk result (λ x. posting_count x.0 ≤ 2 ^ 29) }
 {
     let mut lists = Row::new(alloc);
     let mut terms: IndexSet<&str> = IndexSet::new(alloc);

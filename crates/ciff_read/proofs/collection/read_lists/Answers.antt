@@ -12,6 +12,7 @@ use Rattle.ciff_read.proofs.Sequences.{with_lists, no_lists, lists_end, lists_me
 use Rattle.ciff_read.specs.Seen.{is_seen}
 use Rattle.ciff_read.proofs.Postings.{All-one}
 use Rattle.ciff_read.proofs.TermLists.{differ-snoc}
+use Rattle.ciff_read.proofs.Counting.{count_none, count_more}
 use Rattle.ciff_read.proofs.collection.read_lists.Goals as goal
 
 pub lists-preserved : goal.lists-preserved
@@ -35,6 +36,7 @@ lists-preserved c =
       ∙ ap (λ (ls : List ListData). with_lists ls (lists_at left c.args.docs (before + c.len.result) (map (λ t. t.now) c.read_list.new.terms.keys) c.in-Ok.body.end rest)) (sym (map-append list_data lists (list ∷ [])) ∙ ap (λ (ls : List PostingsList). map list_data ls) (sym put));
       within = c.in-Ok.ensures.2;
       few = omega (arith, c.in-Ok-read_list.ensures.few, c.len.ensures);
+      counted = count_more lists c.push.new.self list c.lists.before c.len.result put c.lists.invariant.counted c.len.ensures;
       count = ap length put ∙ length-append lists (list ∷ []) ∙ omega (arith, c.lists.invariant.count);
       below = subst (All (HasDocsBelow c.args.docs)) (sym put) (All-append (HasDocsBelow c.args.docs) lists (list ∷ []) c.lists.invariant.below (All-one (HasDocsBelow c.args.docs) list c.in-Ok-read_list.ensures.below));
       terms = c.in-Ok-read_list.ensures.terms ∙ ap (λ (terms : List (List ℕ)). terms ++ list.term ∷ []) c.lists.invariant.terms ∙ sym (map-append (λ (l : PostingsList). l.term) lists (list ∷ [])) ∙ ap (map (λ (l : PostingsList). l.term)) (sym put);
@@ -76,6 +78,7 @@ lists-init c =
       ∙ ap (λ (ls : List PostingsList). with_lists (map list_data ls) (lists_at (c.args.count - 0) c.args.docs 0 keys c.args.from s)) (sym none);
       within = c.requires.from;
       few = omega arith;
+      counted = count_none c.new-lists.result none;
       count = ap length none;
       below = subst (All (HasDocsBelow c.args.docs)) (sym none) (All-nil (HasDocsBelow c.args.docs));
       terms = no_keys ∙ ap (λ (ls : List PostingsList). map (λ (l : PostingsList). l.term) ls) (sym none);
