@@ -13,7 +13,7 @@ use Rattle.jass_base.specs.Segments.{FallsTo, SharesNoDocument, HasDocumentsBelo
 use Rattle.jass_base.specs.Terms.{HasTermBelow, greatest_of, greatest_impact}
 use Rattle.ranking_model.specs.declared.entry.Entry.{Entry}
 use Rattle.ranking_model.specs.Flat.{entry_cmp, IsFlat}
-use Rattle.ranking_model.proofs.Sorting.{Ascends, ascends_append, sorted_ascending}
+use Rattle.impact_segments.proofs.Sorting.{Ascends, ascends_append, sorted_ascending}
 use Rattle.impact_segments.specs.Flat.{doc_entries, segment_entries, term_entries, numbered_from}
 use Rattle.impact_segments.proofs.Lists.{Pairs, pairs_by_recursion, pairs_by_places, all_weaker, all_append, all_both, all_map, pairs_append, pairs_map, pairs_weaker, rising_pairs}
 use Rattle.impact_segments.proofs.Orders.{entry_total}
@@ -39,9 +39,11 @@ across P Q R f xs ys h k = all_weaker P (λ x. AllByRecursion (λ y. R x y) ys) 
 
 docs_ascend : (n impact : ℕ) (docs : List ℕ) → Pairs (λ (x y : ℕ). x < y) docs → Ascends (entry_cmp nat_cmp) (doc_entries n impact docs)
 docs_ascend n impact [] h = tt
-docs_ascend n impact (d ∷ ds) h = (all_map (λ (e : Entry ℕ). NotAfter (record { term = n; doc = d; impact = impact }) e) (λ (doc : ℕ). record { term = n; doc = doc; impact = impact }) ds
-    (all_weaker (λ (y : ℕ). d < y) (λ (y : ℕ). NotAfter (record { term = n; doc = d; impact = impact }) (record { term = n; doc = y; impact = impact })) (λ y l. by_doc (record { term = n; doc = d; impact = impact }) (record { term = n; doc = y; impact = impact }) refl refl l) ds h.0),
-    docs_ascend n impact ds h.1)
+docs_ascend n impact (d ∷ ds) h = (
+  all_map (λ (e : Entry ℕ). NotAfter (record { term = n; doc = d; impact = impact }) e) (λ (doc : ℕ). record { term = n; doc = doc; impact = impact }) ds
+      (all_weaker (λ (y : ℕ). d < y) (λ (y : ℕ). NotAfter (record { term = n; doc = d; impact = impact }) (record { term = n; doc = y; impact = impact })) (λ y l. by_doc (record { term = n; doc = d; impact = impact }) (record { term = n; doc = y; impact = impact }) refl refl l) ds h.0),
+  docs_ascend n impact ds h.1,
+)
 
 at_impact : (n impact : ℕ) (docs : List ℕ) → AllByRecursion (λ (e : Entry ℕ). (e.term ≡ n) × (e.impact ≡ impact)) (doc_entries n impact docs)
 at_impact n impact [] = tt
@@ -57,7 +59,7 @@ term_ascends : (n : ℕ) (segments : List Segment) → Pairs FallsTo segments �
 term_ascends n [] h = tt
 term_ascends n (s ∷ ss) h = ascends_append (entry_cmp nat_cmp) (segment_entries n s) (term_entries n ss) (docs_ascend n s.impact s.docs (rising_pairs s.docs s.rising)) (term_ascends n ss h.1)
     (across (λ (e : Entry ℕ). (e.term ≡ n) × (e.impact ≡ s.impact)) (λ (e : Entry ℕ). (e.term ≡ n) × (e.impact < s.impact)) NotAfter (λ x y p q. by_impact x y (p.0 ∙ sym q.0) (omega (arith, p.1, q.1)))
-      (segment_entries n s) (term_entries n ss) (at_impact n s.impact s.docs) (below_impact n s.impact ss h.0))
+    (segment_entries n s) (term_entries n ss) (at_impact n s.impact s.docs) (below_impact n s.impact ss h.0))
 
 from_number : (n : ℕ) (terms : List TermSegments) → AllByRecursion (λ (e : Entry ℕ). n ≤ e.term) (numbered_from n terms)
 from_number n [] = tt
@@ -88,7 +90,7 @@ term_once : (n : ℕ) (segments : List Segment) → Pairs SharesNoDocument segme
 term_once n [] h = tt
 term_once n (s ∷ ss) h = pairs_append Once (segment_entries n s) (term_entries n ss)
     (pairs_map Once (λ (doc : ℕ). record { term = n; doc = doc; impact = s.impact }) s.docs
-      (pairs_weaker (λ (x y : ℕ). x < y) (λ (x y : ℕ). n ≡ n → x ≢ y) (λ x y l _ e. omega (arith, l, e)) s.docs (rising_pairs s.docs s.rising)))
+    (pairs_weaker (λ (x y : ℕ). x < y) (λ (x y : ℕ). n ≡ n → x ≢ y) (λ x y l _ e. omega (arith, l, e)) s.docs (rising_pairs s.docs s.rising)))
     (term_once n ss h.1)
     (across (λ (e : Entry ℕ). Contains s.docs e.doc) (λ (e : Entry ℕ). ¬ Contains s.docs e.doc) Once (λ x y p q _ e. q (subst (Contains s.docs) e p)) (segment_entries n s) (term_entries n ss) (among n s.impact s.docs) (none_among n s ss h.0))
 
@@ -118,8 +120,8 @@ module _ (P : ℕ → ℕ → Type 0) where
 below_docs : (docs : ℕ) (terms : List TermSegments) → All (HasTermBelow docs) terms → AllByRecursion (λ (e : Entry ℕ). e.doc < docs) (numbered_from 0 terms)
 below_docs docs terms h = each_term (λ (doc impact : ℕ). doc < docs) 0 terms
     (all_weaker (HasTermBelow docs) (λ (t : TermSegments). AllByRecursion (λ (s : Segment). AllByRecursion (λ (doc : ℕ). doc < docs) s.docs) t.segments)
-      (λ t k. all_weaker (HasDocumentsBelow docs) (λ (s : Segment). AllByRecursion (λ (doc : ℕ). doc < docs) s.docs) (λ s l. recursion_from_All (λ (doc : ℕ). doc < docs) s.docs l) t.segments (recursion_from_All (HasDocumentsBelow docs) t.segments k))
-      terms (recursion_from_All (HasTermBelow docs) terms h))
+    (λ t k. all_weaker (HasDocumentsBelow docs) (λ (s : Segment). AllByRecursion (λ (doc : ℕ). doc < docs) s.docs) (λ s l. recursion_from_All (λ (doc : ℕ). doc < docs) s.docs l) t.segments (recursion_from_All (HasDocumentsBelow docs) t.segments k))
+    terms (recursion_from_All (HasTermBelow docs) terms h))
 
 all_of : {A : Type 0} (P : A → Type 0) → ((x : A) → P x) → (xs : List A) → AllByRecursion P xs
 all_of P f [] = tt
@@ -141,5 +143,5 @@ numbers_flat index small =
       order = sorted_ascending (entry_cmp nat_cmp) (entry_total nat_cmp nat_cmp_total) flat (numbers_ascend 0 index.terms);
       once = pairs_by_places Once flat (numbers_once 0 index.terms);
       documents = All-from_recursion (λ (e : Entry ℕ). e.doc < length index.names) flat (below_docs (length index.names) index.terms index.docs_below);
-      impacts = All-from_recursion (λ (e : Entry ℕ). (1 ≤ e.impact) × (e.impact ≤ 65535)) flat (each_term (λ (doc impact : ℕ). (1 ≤ impact) × (impact ≤ 65535)) 0 index.terms (up_to_top 65535 index.terms (omega (arith, small, is))))
+      impacts = All-from_recursion (λ (e : Entry ℕ). (1 ≤ e.impact) × (e.impact ≤ 65535)) flat (each_term (λ (doc impact : ℕ). (1 ≤ impact) × (impact ≤ 65535)) 0 index.terms (up_to_top 65535 index.terms (omega (arith, small, is))));
     }

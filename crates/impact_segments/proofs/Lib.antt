@@ -1,3 +1,4 @@
+pub mod Sorting
 pub mod Lists
 pub mod Orders
 pub mod Cutting

@@ -27,7 +27,6 @@ pairs_by_places R (x ∷ xs) h zero (suc j) d a b = All-from_recursion (λ y. R 
 pairs_by_places R (x ∷ xs) h (suc i) (suc j) d a b = pairs_by_places R xs h.1 i j d (omega arith) (omega arith)
 
 module _ {A : Type 0} where
-
   pub all_weaker : (P Q : A → Type 0) → ((x : A) → P x → Q x) → (xs : List A) → AllByRecursion P xs → AllByRecursion Q xs
   all_weaker P Q f [] h = tt
   all_weaker P Q f (x ∷ xs) h = (f x h.0, all_weaker P Q f xs h.1)

@@ -53,7 +53,7 @@ joined t e (f ∷ fs) rest same h =
     let own : bytes_eq t t ≡ true = (bytes_eq-Decides t t).1 refl in
     let dropped : filter (λ term. not (bytes_eq term t)) (t ∷ terms_of rest) ≡ terms_of rest = rw own (kept t (terms_of rest) h) in
     ap₂ (λ (x : List ℕ) (l : List (List ℕ)). x ∷ l) same.0
-      (ap₂ (λ (x : List ℕ) (l : List (List ℕ)). filter (λ term. not (bytes_eq term x)) l) same.0 more ∙ dropped)
+    (ap₂ (λ (x : List ℕ) (l : List (List ℕ)). filter (λ term. not (bytes_eq term x)) l) same.0 more ∙ dropped)
 
 -- the entries of a term are its own
 own_docs : {T : Type 0} (t : T) (impact : ℕ) (docs : List ℕ) → AllByRecursion (λ (e : Entry T). e.term ≡ t) (doc_entries t impact docs)
@@ -72,9 +72,11 @@ texts (t ∷ ts) h = by (texts ts h.1) (term_entries t.term t.segments) (own_ent
     first : (docs : List ℕ) → 1 ≤ length docs → 1 ≤ length (doc_entries t.term s.impact docs ++ more)
     first [] k = absurd (omega arith)
     first (d ∷ docs) k = omega arith
+
   some : (ss : List Segment) → 1 ≤ length ss → 1 ≤ length (term_entries t.term ss)
   some [] k = absurd (omega arith)
   some (s ∷ ss) k = some_docs s (term_entries t.term ss)
+
   by : terms_of (flat_of_terms ts) ≡ texts_of ts → (es : List (Entry (List ℕ))) → AllByRecursion (λ (e : Entry (List ℕ)). e.term ≡ t.term) es → 1 ≤ length es → terms_of (es ++ flat_of_terms ts) ≡ t.term ∷ texts_of ts
   by rest [] same k = absurd (omega arith)
   by rest (e ∷ es) same k =
@@ -90,7 +92,7 @@ module _ (all : List (List ℕ)) (differ : AllPairs (λ (s t : List ℕ). s ≢ 
       let size : length all ≡ length front + suc (length back) = ap length e ∙ length-append front (t ∷ back) in
       let low : length front < length all = omega (arith, size) in
       let before : (k : ℕ) → k < length front → bytes_eq (get_or all k []) t ≡ false
-          = λ k b. false_from (bytes_eq (get_or all k []) t) (λ eq. differ k (length front) [] b low ((bytes_eq-Decides (get_or all k []) t).0 eq ∙ sym at)) in
+      = λ k b. false_from (bytes_eq (get_or all k []) t) (λ eq. differ k (length front) [] b low ((bytes_eq-Decides (get_or all k []) t).0 eq ∙ sym at)) in
       let here : length front < length all → bytes_eq (get_or all (length front) []) t ≡ true = λ l. (bytes_eq-Decides (get_or all (length front) []) t).1 at in
       position_or_len_is (λ s. bytes_eq s t) all (length front) [] (omega arith) before here
 
@@ -108,8 +110,8 @@ module _ (all : List (List ℕ)) (differ : AllPairs (λ (s t : List ℕ). s ≢ 
   renumbered front (t ∷ ts) e =
       map-append renumber (term_entries t.term t.segments) (flat_of_terms ts)
       ∙ ap₂ (λ (x y : List (Entry ℕ)). x ++ y)
-        (renumbered_term t.term t.segments ∙ ap (λ (n : ℕ). term_entries n t.segments) (number_at front t.term (texts_of ts) e))
-        (renumbered (front ++ t.term ∷ []) ts (e ∙ sym (append_assoc front (t.term ∷ []) (texts_of ts))) ∙ ap (λ (n : ℕ). numbered_from n ts) (length_push front t.term ∙ add-one (length front)))
+      (renumbered_term t.term t.segments ∙ ap (λ (n : ℕ). term_entries n t.segments) (number_at front t.term (texts_of ts) e))
+      (renumbered (front ++ t.term ∷ []) ts (e ∙ sym (append_assoc front (t.term ∷ []) (texts_of ts))) ∙ ap (λ (n : ℕ). numbered_from n ts) (length_push front t.term ∙ add-one (length front)))
 
 pub numbered_is : (terms : List TermSegments) → AllPairs RisesTo terms → numbered (flat_of_terms terms) ≡ numbered_from 0 terms
 unfolding renumber

@@ -27,7 +27,7 @@ use Rattle.weights.specs.Quantizing.{impact_of, range_of}
 use Rattle.ranking_model.specs.declared.entry.Entry.{Entry}
 use Rattle.ranking_model.specs.Order.{placed, sorted}
 use Rattle.ranking_model.specs.Flat.{entry_cmp}
-use Rattle.ranking_model.proofs.Sorting.{Ascends, level, same_ranks, sorted_ascends, sorted_level, all_sorted, ascends_append}
+use Rattle.impact_segments.proofs.Sorting.{Ascends, level, same_ranks, sorted_ascends, sorted_level, all_sorted, ascends_append}
 use Rattle.impact_segments.specs.Collections.{posting_weight, list_weights, list_entries, index_of}
 use Rattle.impact_segments.specs.Flat.{flat_of_terms}
 use Rattle.impact_segments.specs.Listed.{has_postings, term_cmp}
@@ -77,7 +77,7 @@ listed_some lists listed is =
     let P : PostingsList → Type 0 = λ (l : PostingsList). 1 ≤ length l.postings in
     let Q : List PostingsList → Type 0 = λ (l : List PostingsList). All P l in
     subst Q (sym is) (All-from_recursion P (sorted term_cmp (filter has_postings lists)) (all_sorted term_cmp term_total P (filter has_postings lists)
-      (all_weaker (λ (l : PostingsList). has_postings l ≡ true) P (λ l h. grind (arith, nat_tests)) (filter has_postings lists) (filter_passes has_postings lists))))
+    (all_weaker (λ (l : PostingsList). has_postings l ≡ true) P (λ l h. grind (arith, nat_tests)) (filter has_postings lists) (filter_passes has_postings lists))))
 
 pub listed_shorter : (lists listed : List PostingsList) → listed ≡ sorted term_cmp (filter has_postings lists) → length listed ≤ length lists
 listed_shorter lists listed is =
@@ -97,7 +97,7 @@ listed_rises lists differ =
     let some : List PostingsList = filter has_postings lists in
     let apart : Pairs DifferInTerm (sorted term_cmp some) = pairs_sorted term_cmp DifferInTerm (λ a b n e. n (sym e)) some (pairs_by_recursion DifferInTerm some (AllPairs-filter DifferInTerm has_postings lists differ)) in
     pairs_weaker (λ a b. (is_gt (term_cmp a b) ≡ false) × DifferInTerm a b) Rises (λ a b h. strictly a.term b.term h.0 h.1) (sorted term_cmp some)
-      (pairs_both (λ a b. is_gt (term_cmp a b) ≡ false) DifferInTerm (sorted term_cmp some) (ascends_pairs (sorted term_cmp some) (sorted_ascends term_cmp term_total some)) apart)
+    (pairs_both (λ a b. is_gt (term_cmp a b) ≡ false) DifferInTerm (sorted term_cmp some) (ascends_pairs (sorted term_cmp some) (sorted_ascends term_cmp term_total some)) apart)
 
 pub terms_rise : (lists listed : List PostingsList) (terms : List TermSegments) → AllPairs DifferInTerm lists → listed ≡ sorted term_cmp (filter has_postings lists)
     → map (λ (t : TermSegments). t.term) terms ≡ map (λ (l : PostingsList). l.term) listed → AllPairs RisesTo terms
@@ -105,7 +105,7 @@ terms_rise lists listed terms differ is texts =
     let P : List PostingsList → Type 0 = λ (l : List PostingsList). Pairs Rises l in
     let Q : List (List ℕ) → Type 0 = λ (l : List (List ℕ)). Pairs (λ (s t : List ℕ). is_lt (text_cmp s t) ≡ true) l in
     pairs_by_places RisesTo terms (pairs_unmap (λ (s t : List ℕ). is_lt (text_cmp s t) ≡ true) (λ (t : TermSegments). t.term) terms
-      (subst Q (sym texts) (pairs_map (λ (s t : List ℕ). is_lt (text_cmp s t) ≡ true) (λ (l : PostingsList). l.term) listed (subst P (sym is) (listed_rises lists differ)))))
+    (subst Q (sym texts) (pairs_map (λ (s t : List ℕ). is_lt (text_cmp s t) ≡ true) (λ (l : PostingsList). l.term) listed (subst P (sym is) (listed_rises lists differ)))))
 
 -- ---- the entries
 
@@ -178,6 +178,7 @@ module _ (rule : Rule) (docs : List DocRecord) (bits : Bits) (range : Range) whe
           greater Less h = refl
           greater Equal h = absurd (true≢false (sym h))
           greater Greater h = refl
+
     by : (b : Bool) → is_eq (text_cmp z.term l.term) ≡ b → (filter (level flat_cmp z) (E l) ≡ []) ⊎ (filter (level flat_cmp z) (E k) ≡ [])
     by true e = inr (none_level z k.term (E k) (other e) (own k))
     by false e = inl (none_level z l.term (E l) e (own l))
@@ -226,14 +227,14 @@ module _ (rule : Rule) (docs : List DocRecord) (bits : Bits) (range : Range) whe
   entries_ascend [] h = tt
   entries_ascend (l ∷ ls) h = ascends_append flat_cmp (S l) (flat_map S ls) (sorted_ascends flat_cmp flat_total (E l)) (entries_ascend ls h.1)
       (all_weaker (λ (e : Entry (List ℕ)). e.term ≡ l.term) (λ (x : Entry (List ℕ)). AllByRecursion (λ (y : Entry (List ℕ)). is_gt (flat_cmp x y) ≡ false) (flat_map S ls))
-        (λ x k. all_weaker (λ (y : Entry (List ℕ)). is_lt (text_cmp l.term y.term) ≡ true) (λ (y : Entry (List ℕ)). is_gt (flat_cmp x y) ≡ false) (λ y i. before x y l.term k i) (flat_map S ls) (behind l.term ls h.0))
-        (S l) (own_sorted l))
+      (λ x k. all_weaker (λ (y : Entry (List ℕ)). is_lt (text_cmp l.term y.term) ≡ true) (λ (y : Entry (List ℕ)). is_gt (flat_cmp x y) ≡ false) (λ y i. before x y l.term k i) (flat_map S ls) (behind l.term ls h.0))
+      (S l) (own_sorted l))
 
   pub one_index : (lists : List PostingsList) → AllPairs DifferInTerm lists → flat_map S (sorted term_cmp (filter has_postings lists)) ≡ sorted flat_cmp (flat_map E lists)
   one_index lists differ =
       let some : List PostingsList = filter has_postings lists in
       same_ranks flat_cmp flat_total (flat_map S (sorted term_cmp some)) (sorted flat_cmp (flat_map E lists)) (entries_ascend (sorted term_cmp some) (listed_rises lists differ)) (sorted_ascends flat_cmp flat_total (flat_map E lists))
-        (λ z. at_rank z (sorted term_cmp some) ∙ sorted_rank z some ∙ ap (filter (level flat_cmp z)) (nonempty lists) ∙ sym (sorted_level flat_cmp flat_total z (flat_map E lists)))
+      (λ z. at_rank z (sorted term_cmp some) ∙ sorted_rank z some ∙ ap (filter (level flat_cmp z)) (nonempty lists) ∙ sym (sorted_level flat_cmp flat_total z (flat_map E lists)))
 
 -- ranges that give the same impacts give the same entries
 pub same_entries : (rule : Rule) (docs : List DocRecord) (bits : Bits) (range other : Range) → ((w : ℕ) → impact_of bits range w ≡ impact_of bits other w) → (list : PostingsList) → list_entries rule docs bits range list ≡ list_entries rule docs bits other list

@@ -28,11 +28,11 @@ use Rattle.weights.specs.Quantizing.{impact_of}
 use Rattle.ranking_model.specs.declared.entry.Entry.{Entry}
 use Rattle.ranking_model.specs.Order.{placed, sorted}
 use Rattle.ranking_model.specs.Flat.{entry_cmp}
-use Rattle.ranking_model.proofs.Sorting.{all_sorted}
-use Rattle.impact_segments.specs.Collections.{posting_weight, list_pairs, list_entries}
+use Rattle.impact_segments.proofs.Sorting.{all_sorted}
+use Rattle.impact_segments.specs.Collections.{posting_weight, list_entries}
 use Rattle.impact_segments.specs.Flat.{doc_entries, segment_entries, term_entries, flat_of_terms}
 use Rattle.impact_segments.specs.Listed.{lists_behind}
-use Rattle.impact_segments.specs.Pairs.{pair_cmp, pairs_of, pair_docs}
+use Rattle.impact_segments.specs.Pairs.{pair_cmp, pairs_of, pair_docs, list_pairs}
 use Rattle.impact_segments.proofs.Lists.{Pairs, pairs_by_recursion, all_unmap, all_map, all_parts, all_weaker, map_sorted}
 use Rattle.impact_segments.proofs.Orders.{pair_total}
 
@@ -61,7 +61,7 @@ module _ (rule : Rule) (docs : List DocRecord) (bits : Bits) (range : Range) (li
       record {
         value = ap (λ (l : List (ℕ × ℕ)). l ++ map pair_of (drop (i + 1) items)) is ∙ append_assoc pairs ((p.doc, impact) ∷ []) (map pair_of (drop (i + 1) items))
             ∙ ap (λ (x : ℕ × ℕ). pairs ++ x ∷ map pair_of (drop (i + 1) items)) one ∙ left;
-        positive = subst P (sym is) (All-push (λ (p : ℕ × ℕ). 1 ≤ p.1) pairs (p.doc, impact) paired.positive positive)
+        positive = subst P (sym is) (All-push (λ (p : ℕ × ℕ). 1 ≤ p.1) pairs (p.doc, impact) paired.positive positive);
       }
 
   pub docs_rise : (pairs : List (ℕ × ℕ)) → pairs ≡ list_pairs rule docs bits range list → IsStrictlyIncreasing (pair_docs pairs)
@@ -73,7 +73,7 @@ module _ (rule : Rule) (docs : List DocRecord) (bits : Bits) (range : Range) (li
   docs_below d pairs is below =
       let P : List ℕ → Type 0 = λ (l : List ℕ). AllByRecursion (λ (doc : ℕ). doc < d) l in
       all_unmap (λ (doc : ℕ). doc < d) (λ (p : ℕ × ℕ). p.0) pairs
-        (subst P (sym (ap pair_docs is ∙ map-map (λ (p : ℕ × ℕ). p.0) pair_of list.postings)) (recursion_from_All (λ (doc : ℕ). doc < d) (docs_of list.postings) below))
+      (subst P (sym (ap pair_docs is ∙ map-map (λ (p : ℕ × ℕ). p.0) pair_of list.postings)) (recursion_from_All (λ (doc : ℕ). doc < d) (docs_of list.postings) below))
 
 -- ---- the segments of pairs
 
@@ -96,10 +96,10 @@ pub segments_below : (d : ℕ) (segments : List Segment) (pairs : List (ℕ × �
 segments_below d segments pairs is below =
     let P : List (ℕ × ℕ) → Type 0 = λ (l : List (ℕ × ℕ)). AllByRecursion (λ (p : ℕ × ℕ). p.0 < d) l in
     let each : AllByRecursion (λ (s : Segment). AllByRecursion (λ (p : ℕ × ℕ). p.0 < d) (map (λ (doc : ℕ). (doc, s.impact)) s.docs)) segments
-        = all_parts (λ (p : ℕ × ℕ). p.0 < d) (λ (s : Segment). map (λ (doc : ℕ). (doc, s.impact)) s.docs) segments (subst P (sym is) (all_sorted pair_cmp pair_total (λ (p : ℕ × ℕ). p.0 < d) pairs below)) in
+    = all_parts (λ (p : ℕ × ℕ). p.0 < d) (λ (s : Segment). map (λ (doc : ℕ). (doc, s.impact)) s.docs) segments (subst P (sym is) (all_sorted pair_cmp pair_total (λ (p : ℕ × ℕ). p.0 < d) pairs below)) in
     All-from_recursion (HasDocumentsBelow d) segments
-      (all_weaker (λ (s : Segment). AllByRecursion (λ (p : ℕ × ℕ). p.0 < d) (map (λ (doc : ℕ). (doc, s.impact)) s.docs)) (HasDocumentsBelow d)
-        (λ s h. All-from_recursion (λ (doc : ℕ). doc < d) s.docs (all_unmap (λ (p : ℕ × ℕ). p.0 < d) (λ (doc : ℕ). (doc, s.impact)) s.docs h)) segments each)
+    (all_weaker (λ (s : Segment). AllByRecursion (λ (p : ℕ × ℕ). p.0 < d) (map (λ (doc : ℕ). (doc, s.impact)) s.docs)) (HasDocumentsBelow d)
+    (λ s h. All-from_recursion (λ (doc : ℕ). doc < d) s.docs (all_unmap (λ (p : ℕ × ℕ). p.0 < d) (λ (doc : ℕ). (doc, s.impact)) s.docs h)) segments each)
 
 abbrev under : List ℕ → ℕ × ℕ → Entry (List ℕ)
 under t p = record { term = t; doc = p.0; impact = p.1 }
@@ -120,7 +120,7 @@ term_is rule docs bits range list t segments pairs same is grouped =
     ∙ ap (map (under t)) grouped
     ∙ map_sorted (under t) pair_cmp (entry_cmp (slice_cmp nat_cmp)) (same_order t) pairs
     ∙ ap (λ (l : List (Entry (List ℕ))). sorted (entry_cmp (slice_cmp nat_cmp)) l)
-      (ap (map (under t)) is ∙ map-map (under t) (pair_of rule docs bits range list) list.postings ∙ ap (λ (s : List ℕ). map (λ (p : Posting). under s (pair_of rule docs bits range list p)) list.postings) same)
+    (ap (map (under t)) is ∙ map-map (under t) (pair_of rule docs bits range list) list.postings ∙ ap (λ (s : List ℕ). map (λ (p : Posting). under s (pair_of rule docs bits range list p)) list.postings) same)
 
 -- ---- all terms
 
@@ -144,10 +144,10 @@ built_more entries docs all terms t i r low at text its below built =
           ∙ ap (λ (s : List ℕ). map (λ (t : TermSegments). t.term) terms ++ s ∷ map (λ (l : PostingsList). l.term) (lists_behind (drop (i + 1) all))) text
           ∙ b.texts;
       flat = ap (λ (l : List (Entry (List ℕ))). l ++ flat_map entries (lists_behind (drop (i + 1) all)))
-            (flat_map-append (λ (t : TermSegments). term_entries t.term t.segments) terms (t ∷ []) ∙ ap (λ (l : List (Entry (List ℕ))). flat_of_terms terms ++ l) (append-nil (term_entries t.term t.segments) ∙ its))
+          (flat_map-append (λ (t : TermSegments). term_entries t.term t.segments) terms (t ∷ []) ∙ ap (λ (l : List (Entry (List ℕ))). flat_of_terms terms ++ l) (append-nil (term_entries t.term t.segments) ∙ its))
           ∙ append_assoc (flat_of_terms terms) (entries r.now) (flat_map entries (lists_behind (drop (i + 1) all)))
           ∙ b.flat;
-      below = All-push (HasTermBelow docs) terms t b.below below
+      below = All-push (HasTermBelow docs) terms t b.below below;
     }
 
 -- ---- the greatest impact

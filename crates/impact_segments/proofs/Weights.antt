@@ -63,7 +63,7 @@ all_in_range rule docs lists range bits b of is limit =
     let Q : Bits → Type 0 = λ (k : Bits). All (λ (l : PostingsList). All (IsInRange k range) (list_weights rule docs l)) lists in
     let each : AllByRecursion (λ (w : ℕ). (range.least ≤ w) × (w ≤ range.greatest)) weights = subst P (sym is) (held empty_range weights) in
     let holds : AllByRecursion (λ (w : ℕ). Holds range w) weights = all_weaker (λ (w : ℕ). (range.least ≤ w) × (w ≤ range.greatest)) (λ (w : ℕ). Holds range w)
-        (λ w h. record { from_least = h.0; to_greatest = h.1; limit = omega (arith, limit) }) weights each in
+    (λ w h. record { from_least = h.0; to_greatest = h.1; limit = omega (arith, limit) }) weights each in
     subst Q (sym of) (All-from_recursion (λ (l : PostingsList). All (IsInRange (Of b) range) (list_weights rule docs l)) lists
-      (all_weaker (λ (l : PostingsList). AllByRecursion (λ (w : ℕ). Holds range w) (list_weights rule docs l)) (λ (l : PostingsList). All (IsInRange (Of b) range) (list_weights rule docs l))
-        (λ l h. All-from_recursion (IsInRange (Of b) range) (list_weights rule docs l) h) lists (all_parts (λ (w : ℕ). Holds range w) (list_weights rule docs) lists holds)))
+    (all_weaker (λ (l : PostingsList). AllByRecursion (λ (w : ℕ). Holds range w) (list_weights rule docs l)) (λ (l : PostingsList). All (IsInRange (Of b) range) (list_weights rule docs l))
+    (λ l h. All-from_recursion (IsInRange (Of b) range) (list_weights rule docs l) h) lists (all_parts (λ (w : ℕ). Holds range w) (list_weights rule docs) lists holds)))

@@ -39,10 +39,6 @@ list_weights rule docs list = map (posting_weight rule docs list) list.postings
 abbrev pub weights_of : Collection → Rule → List ℕ
 weights_of collection rule = flat_map (list_weights rule collection.docs) collection.lists
 
--- a list's documents with the impacts of its postings, from the range
-abbrev pub list_pairs : Rule → List DocRecord → Bits → Range → PostingsList → List (ℕ × ℕ)
-list_pairs rule docs bits range list = map (λ (p : Posting). (p.doc, impact_of bits range (posting_weight rule docs list p))) list.postings
-
 -- the entries of a list's postings, with impacts from the range
 abbrev pub list_entries : Rule → List DocRecord → Bits → Range → PostingsList → List (Entry (List ℕ))
 list_entries rule docs bits range list =

@@ -3,7 +3,15 @@ use Rattle.std.specs.Prelude.{ℕ, ◌≡◌, ◌≢◌, ◌<◌, ◌≤◌, Lis
 use Rattle.std.specs.List.{flat_map}
 use Rattle.std.specs.declared.cmp.Ordering.{Ordering}
 use Rattle.std.specs.Ordering.{nat_cmp, ordering_then}
+use Rattle.jass_base.specs.declared.doc_record.DocRecord.{DocRecord}
+use Rattle.jass_base.specs.declared.posting.Posting.{Posting}
+use Rattle.jass_base.specs.declared.postings_list.PostingsList.{PostingsList}
 use Rattle.jass_base.specs.declared.segment.Segment.{Segment}
+use Rattle.weights.specs.declared.weighting.Rule.{Rule}
+use Rattle.weights.specs.declared.quantizing.Bits.{Bits}
+use Rattle.weights.specs.declared.quantizing.Range.{Range}
+use Rattle.weights.specs.Quantizing.{impact_of}
+use Rattle.impact_segments.specs.Collections.{posting_weight}
 
 -- falling impacts, then rising documents
 abbrev pub pair_cmp : ℕ × ℕ → ℕ × ℕ → Ordering
@@ -17,6 +25,10 @@ pairs_of segments = flat_map (λ (s : Segment). map (λ (doc : ℕ). (doc, s.imp
 abbrev pub pair_docs : List (ℕ × ℕ) → List ℕ
 pair_docs pairs = map (λ (p : ℕ × ℕ). p.0) pairs
 
--- an order in which segments are cut: impacts fall, documents differ, and rise where impacts are equal
+-- b may stand behind a when segments are cut: its impact is no greater, its document another one, and a later one where the impacts are equal
 abbrev pub Follows : ℕ × ℕ → ℕ × ℕ → Type 0
 Follows a b = (b.1 ≤ a.1) × (a.0 ≢ b.0) × (a.1 ≡ b.1 → a.0 < b.0)
+
+-- a list's documents with the impacts of its postings, from the range
+abbrev pub list_pairs : Rule → List DocRecord → Bits → Range → PostingsList → List (ℕ × ℕ)
+list_pairs rule docs bits range list = map (λ (p : Posting). (p.doc, impact_of bits range (posting_weight rule docs list p))) list.postings

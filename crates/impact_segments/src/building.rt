@@ -11,8 +11,10 @@ use jass_base::{Collection, DocRecord, ImpactIndex, NoMemory, Row, Text};
 use std::alloc::Global;
 use weights::{Bits, Rule};
 
-/// The impact-ordered index of a collection. Terms without postings are left out. The impacts
-/// are those of the weights in the range of all weights of the collection.
+/// The impact-ordered index of a collection, with its terms by rising bytes. Terms without
+/// postings are left out. With `Bits::Of(b)`, b from 1 to 16, the weights become impacts by
+/// their place in the range of all weights of the collection (Anh, de Kretser and Moffat,
+/// 2001). Nothing but memory is refused.
 pub fn build(
     alloc: Global,
     collection: &Collection,

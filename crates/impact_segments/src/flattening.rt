@@ -9,12 +9,13 @@ use ranking_model::Entry;
 use std::alloc::Global;
 
 /// The postings of an index as one list: the terms by their numbers, each term's segments in
-/// their order, and the documents of each segment.
+/// their order, and the documents of each segment. Nothing but memory is refused.
 pub fn entries_of(alloc: Global, index: &ImpactIndex) -> Result<Row<Entry<u32>>, NoMemory>
     ensures entries { IfOk result (λ entries. entries ≡ numbered (flat_of index.now)) }
     ensures by_number { IfOk result (λ entries. entries ≡ numbered_from 0 index.now.terms) }
     ensures flat { IfOk result (λ entries. IsFlat nat_cmp (length index.now.names) entries) }
 {
+    // It is read for its range, which is that of each impact.
     let _greatest = index.greatest;
     let mut entries = Row::new(alloc);
     for (number, term) in index.terms.as_slice().iter().enumerate() {
@@ -23,7 +24,11 @@ pub fn entries_of(alloc: Global, index: &ImpactIndex) -> Result<Row<Entry<u32>>,
     Ok(entries)
 }
 
-fn add_term(number: u32, segments: &[Segment], entries: &mut Row<Entry<u32>>) -> Result<(), NoMemory>
+fn add_term(
+    number: u32,
+    segments: &[Segment],
+    entries: &mut Row<Entry<u32>>,
+) -> Result<(), NoMemory>
     ensures { OnOk result (entries.new ≡ entries.old ++ term_entries number segments.now) }
 {
     for segment in segments {
@@ -32,7 +37,11 @@ fn add_term(number: u32, segments: &[Segment], entries: &mut Row<Entry<u32>>) ->
     Ok(())
 }
 
-fn add_segment(number: u32, segment: &Segment, entries: &mut Row<Entry<u32>>) -> Result<(), NoMemory>
+fn add_segment(
+    number: u32,
+    segment: &Segment,
+    entries: &mut Row<Entry<u32>>,
+) -> Result<(), NoMemory>
     ensures { OnOk result (entries.new ≡ entries.old ++ segment_entries number segment.now) }
 {
     for doc in segment.docs.as_slice() {

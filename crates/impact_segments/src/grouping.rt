@@ -9,8 +9,9 @@ use jass_base::{NoMemory, Row, Segment};
 use std::alloc::Global;
 use std::cmp::Reverse;
 
-/// The segments of one term: a segment for each impact, by falling impact, with the documents
-/// that have it, in rising order.
+/// The segments of one term from its documents with their impacts, each at least 1: a segment
+/// for each impact, by falling impact, with the documents that have it, in rising order (Lin
+/// and Trotman, 2015). Nothing but memory is refused.
 pub fn group(alloc: Global, postings: &[(u32, u16)]) -> Result<Row<Segment>, NoMemory>
     requires rising { IsStrictlyIncreasing (pair_docs postings.now) }
     requires positive { All (λ (p : ℕ × ℕ). 1 ≤ p.1) postings.now }

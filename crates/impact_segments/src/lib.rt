@@ -13,3 +13,6 @@ mod weighing;
 pub use building::build;
 pub use flattening::entries_of;
 pub use grouping::group;
+
+#[cfg(test)]
+mod tests;

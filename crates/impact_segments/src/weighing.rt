@@ -74,7 +74,7 @@ impl<'a> Weigher<'a> {
         range
     }
 
-    fn widen(&self, list: &PostingsList, range: &mut Range)
+    pub(crate) fn widen(&self, list: &PostingsList, range: &mut Range)
         requires below { HasDocsBelow (length self.now.docs.now) list.now }
         requires limit { range.old.greatest < 2 ^ 31 }
         ensures value { range.new ≡ fold widened range.old (list_weights self.now.rule self.now.docs.now list.now) }

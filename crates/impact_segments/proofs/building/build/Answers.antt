@@ -28,16 +28,16 @@ pub terms_of-requires-clause-below : goal.terms_of-requires-clause-below
 terms_of-requires-clause-below c =
     let P : List DocRecord → Type 0 = λ (l : List DocRecord). All (HasDocsBelow (length l)) c.args.collection.now.lists in
     listed_all (HasDocsBelow (length c.new-weigher.result.docs.now)) c.args.collection.now.lists (lists_behind c.deref.result.now)
-      (listed_is c.args.collection.now.lists c.as_slice-3.result.now c.in_ok-lists.lists.items c.deref.result.now c.as_slice-3.ensures c.deref.ensures.value c.in_ok-lists.ensures)
-      (subst P (sym (c.new-weigher.ensures.docs ∙ c.as_slice.ensures)) c.args.collection.now.docs_below)
+    (listed_is c.args.collection.now.lists c.as_slice-3.result.now c.in_ok-lists.lists.items c.deref.result.now c.as_slice-3.ensures c.deref.ensures.value c.in_ok-lists.ensures)
+    (subst P (sym (c.new-weigher.ensures.docs ∙ c.as_slice.ensures)) c.args.collection.now.docs_below)
 
 pub terms_of-requires-clause-in_range : goal.terms_of-requires-clause-in_range
 terms_of-requires-clause-in_range c =
     let P : PostingsList → Type 0 = λ (l : PostingsList). All (IsInRange c.args.bits c.range_for-range.result) (list_weights c.new-weigher.result.rule c.new-weigher.result.docs.now l) in
     let Q : List PostingsList → Type 0 = λ (l : List PostingsList). All P l in
     listed_all P c.args.collection.now.lists (lists_behind c.deref.result.now)
-      (listed_is c.args.collection.now.lists c.as_slice-3.result.now c.in_ok-lists.lists.items c.deref.result.now c.as_slice-3.ensures c.deref.ensures.value c.in_ok-lists.ensures)
-      (subst Q c.as_slice-2.ensures c.range_for-range.ensures.in_range)
+    (listed_is c.args.collection.now.lists c.as_slice-3.result.now c.in_ok-lists.lists.items c.deref.result.now c.as_slice-3.ensures c.deref.ensures.value c.in_ok-lists.ensures)
+    (subst Q c.as_slice-2.ensures c.range_for-range.ensures.in_range)
 
 pub invariant_of-result : goal.invariant_of-result
 invariant_of-result c =
@@ -54,12 +54,12 @@ invariant_of-result c =
       few_terms = omega (arith, many, few, c.args.collection.now.few_lists);
       rising = terms_rise c.args.collection.now.lists (lists_behind c.deref.result.now) c.in_ok-terms.terms c.args.collection.now.terms_differ listed c.in_ok-terms.ensures.terms;
       docs_below = subst P docs c.in_ok-terms.ensures.docs;
-      greatest_is = c.greatest_impact.ensures ∙ ap greatest_impact c.as_slice-5.ensures
+      greatest_is = c.greatest_impact.ensures ∙ ap greatest_impact c.as_slice-5.ensures;
     }
 
 pub returns-clause-flat : goal.returns-clause-flat
 returns-clause-flat c =
     built_flat c.args.collection.now c.args.rule c.new-weigher.result.rule c.args.bits c.new-weigher.result.docs.now c.as_slice-2.result.now c.range_for-range.result (lists_behind c.deref.result.now) c.in_ok-terms.terms
-      c.new-weigher.ensures.rule (c.new-weigher.ensures.docs ∙ c.as_slice.ensures) c.as_slice-2.ensures c.range_for-range.ensures.same
-      (listed_is c.args.collection.now.lists c.as_slice-3.result.now c.in_ok-lists.lists.items c.deref.result.now c.as_slice-3.ensures c.deref.ensures.value c.in_ok-lists.ensures)
-      c.in_ok-terms.ensures.entries
+    c.new-weigher.ensures.rule (c.new-weigher.ensures.docs ∙ c.as_slice.ensures) c.as_slice-2.ensures c.range_for-range.ensures.same
+    (listed_is c.args.collection.now.lists c.as_slice-3.result.now c.in_ok-lists.lists.items c.deref.result.now c.as_slice-3.ensures c.deref.ensures.value c.in_ok-lists.ensures)
+    c.in_ok-terms.ensures.entries

@@ -12,5 +12,5 @@ invariant_of-result c =
     record {
       positive = c.requires.positive;
       some = subst P (sym c.in_ok-docs.ensures) (rw length-map c.requires.some);
-      rising = subst Q (sym c.in_ok-docs.ensures) c.requires.rising
+      rising = subst Q (sym c.in_ok-docs.ensures) c.requires.rising;
     }

@@ -7,7 +7,7 @@ use Rattle.std.proofs.lemmas.Cmp.{on_total}
 use Rattle.std.proofs.lemmas.List.Sorted.{answers_always, ranks_by}
 use Rattle.jass_base.specs.declared.postings_list.PostingsList.{PostingsList}
 use Rattle.ranking_model.specs.Order.{sorted}
-use Rattle.ranking_model.proofs.Sorting.{stable_is_sorted}
+use Rattle.impact_segments.proofs.Sorting.{stable_is_sorted}
 use Rattle.impact_segments.specs.Listed.{term_cmp, lists_behind}
 use Rattle.impact_segments.proofs.Lists.{map_sorted}
 use Rattle.impact_segments.proofs.Orders.{term_total}
@@ -29,7 +29,7 @@ ref_less = ranks_by ref_total (λ (r : Bor PostingsList). r)
 pub returns-in-Ok : goal.returns-in-Ok
 returns-in-Ok c =
     ap lists_behind (stable_is_sorted ref_cmp ref_total c.in_ok-listed.listed.items c.sort_by.new.self.items
-      (c.in-Ok.ensures.sorted (λ (a b : Bor PostingsList). is_lt (ref_cmp a b)) ref_less (answers_always _ _ _ (λ f a r f' called. search rules)))
-      (c.in-Ok.ensures.stable (λ (a b : Bor PostingsList). is_lt (ref_cmp a b)) ref_less (answers_always _ _ _ (λ f a r f' called. search rules))))
+    (c.in-Ok.ensures.sorted (λ (a b : Bor PostingsList). is_lt (ref_cmp a b)) ref_less (answers_always _ _ _ (λ f a r f' called. search rules)))
+    (c.in-Ok.ensures.stable (λ (a b : Bor PostingsList). is_lt (ref_cmp a b)) ref_less (answers_always _ _ _ (λ f a r f' called. search rules))))
     ∙ map_sorted behind ref_cmp term_cmp (λ a b. refl) c.in_ok-listed.listed.items
     ∙ ap (λ (l : List PostingsList). sorted term_cmp l) c.in_ok-listed.ensures

@@ -10,4 +10,4 @@ loop-term-preserved c =
     let first : Segment = c.index-as_slice-0.result in
     ap (λ (n : ℕ). max n (greatest_impact (drop (c.loop-term.term-index + 1) c.args.terms.now))) (c.max-greatest.ensures ∙ ap (λ (s : Segment). max s.impact c.loop-term.greatest) (sym c.index-as_slice-0.is))
     ∙ greatest_more c.args.terms.now c.loop-term.term-index c.term-item.result first c.loop-term.greatest c.loop-term-test.true c.term-item.is
-      (c.index-as_slice-0.is ∙ ap (λ (l : List Segment). get_or l 0 first) c.as_slice.ensures) c.loop-term.invariant
+    (c.index-as_slice-0.is ∙ ap (λ (l : List Segment). get_or l 0 first) c.as_slice.ensures) c.loop-term.invariant

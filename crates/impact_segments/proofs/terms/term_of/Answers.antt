@@ -16,15 +16,15 @@ invariant_of-result c =
       term_fits = subst P (sym (c.in_ok-term.ensures ∙ c.as_str.ensures)) c.args.list.now.term_fits;
       some = some_segments c.in_ok-segments.segments c.impacts_of.new.pairs.items c.in_ok-segments.ensures.pairs some;
       falling = c.in_ok-segments.ensures.falling;
-      once = c.in_ok-segments.ensures.once
+      once = c.in_ok-segments.ensures.once;
     }
 
 pub returns-clause-entries : goal.returns-clause-entries
 returns-clause-entries c =
     term_is c.args.weigher.now.rule c.args.weigher.now.docs.now c.args.bits c.args.range c.args.list.now c.in_ok-term.term c.in_ok-segments.segments c.impacts_of.new.pairs.items
-      (c.in_ok-term.ensures ∙ c.as_str.ensures) c.in_ok-impacts_of.ensures.pairs c.in_ok-segments.ensures.pairs
+    (c.in_ok-term.ensures ∙ c.as_str.ensures) c.in_ok-impacts_of.ensures.pairs c.in_ok-segments.ensures.pairs
 
 pub returns-clause-docs : goal.returns-clause-docs
 returns-clause-docs c =
     segments_below (length c.args.weigher.now.docs.now) c.in_ok-segments.segments c.impacts_of.new.pairs.items c.in_ok-segments.ensures.pairs
-      (docs_below c.args.weigher.now.rule c.args.weigher.now.docs.now c.args.bits c.args.range c.args.list.now (length c.args.weigher.now.docs.now) c.impacts_of.new.pairs.items c.in_ok-impacts_of.ensures.pairs c.requires.below)
+    (docs_below c.args.weigher.now.rule c.args.weigher.now.docs.now c.args.bits c.args.range c.args.list.now (length c.args.weigher.now.docs.now) c.impacts_of.new.pairs.items c.in_ok-impacts_of.ensures.pairs c.requires.below)

@@ -33,6 +33,6 @@ pub loop-list-preserved : goal.loop-list-preserved
 loop-list-preserved c =
     let entries : PostingsList → List (Entry (List ℕ)) = λ (p : PostingsList). sorted (entry_cmp (slice_cmp nat_cmp)) (list_entries c.args.weigher.now.rule c.args.weigher.now.docs.now c.args.bits c.args.range p) in
     let more = built_more entries (length c.args.weigher.now.docs.now) c.args.lists.now c.loop-list.terms c.in_ok-term.term c.loop-list.list-index c.list-item.result c.loop-list-test.true c.list-item.is
-        c.in_ok-term.ensures.term c.in_ok-term.ensures.entries c.in_ok-term.ensures.docs c.loop-list.invariant in
+    c.in_ok-term.ensures.term c.in_ok-term.ensures.entries c.in_ok-term.ensures.docs c.loop-list.invariant in
     let P : List TermSegments → Type 0 = λ (l : List TermSegments). Built entries (length c.args.weigher.now.docs.now) c.args.lists.now l (drop (c.loop-list.list-index + 1) c.args.lists.now) in
     subst P (sym c.in-Ok.ensures.ok) more

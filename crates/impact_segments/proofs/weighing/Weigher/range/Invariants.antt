@@ -7,5 +7,5 @@ use Rattle.impact_segments.proofs.weighing.Weigher.range.Given as goal
 abbrev pub invariant-loop-list : goal.invariant-loop-list
 invariant-loop-list l = record {
   value : fold widened l.range (flat_map (list_weights l.self.rule l.self.docs.now) (drop l.list-index l.lists)) ≡ range_of (flat_map (list_weights l.self.rule l.self.docs.now) l.lists);
-  limit : l.range.greatest < 2 ^ 31
+  limit : l.range.greatest < 2 ^ 31;
 }
