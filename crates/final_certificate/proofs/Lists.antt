@@ -1,0 +1,151 @@
+-- Sums, orders and parts of lists of hits.
+use Rattle.std.proofs.Common.{◌≡◌, ℕ, zero, suc, ◌+◌, List, [], ◌∷◌, ◌++◌, map, take, drop, filter, sum_by, count_by, Bool, true, false, cond, refl, sym, ap, ◌∙◌, arith, inl, inr, ◌⊎◌, zero-add}
+use Rattle.std.specs.Prelude.{IsPermutation, replicate}
+use Rattle.std.specs.List.{AllByRecursion}
+use Rattle.std.specs.declared.cmp.Ordering.{Ordering}
+use Rattle.std.specs.declared.cmp.Ordering.TheVariants.{Less, Equal, Greater}
+use Rattle.std.specs.Ordering.{is_gt}
+use Rattle.std.specs.Cmp.{IsTotalOrder}
+use Rattle.std.proofs.lemmas.List.Sorted.{IsPermutation-refl, IsPermutation-cons, IsPermutation-trans, IsPermutation-append_comm, IsPermutation-append_left}
+use Rattle.std.proofs.lemmas.List.Sums.{sum_by-cons, sum_by-append}
+use Rattle.ranking_model.specs.Order.{placed, sorted}
+use Rattle.ranking_model.proofs.Sorting.{Ascends, level, either, same_ranks, sorted_ascends, sum_by-sorted, all_sorted, ascends_append}
+
+-- ---- each item of a list
+
+pub all_imp : {A : Type 0} (P Q : A → Type 0) → ((x : A) → P x → Q x) → (xs : List A) → AllByRecursion P xs → AllByRecursion Q xs
+all_imp P Q imp [] h = tt
+all_imp P Q imp (x ∷ xs) h = (imp x h.0, all_imp P Q imp xs h.1)
+
+pub all_both : {A : Type 0} (P Q : A → Type 0) (xs : List A) → AllByRecursion P xs → AllByRecursion Q xs → AllByRecursion (λ x. P x × Q x) xs
+all_both P Q [] h k = tt
+all_both P Q (x ∷ xs) h k = ((h.0, k.0), all_both P Q xs h.1 k.1)
+
+pub all_take : {A : Type 0} (P : A → Type 0) (n : ℕ) (xs : List A) → AllByRecursion P xs → AllByRecursion P (take n xs)
+all_take P zero xs h = tt
+all_take P (suc n) [] h = tt
+all_take P (suc n) (x ∷ xs) h = (h.0, all_take P n xs h.1)
+
+pub all_drop : {A : Type 0} (P : A → Type 0) (n : ℕ) (xs : List A) → AllByRecursion P xs → AllByRecursion P (drop n xs)
+all_drop P zero xs h = h
+all_drop P (suc n) [] h = tt
+all_drop P (suc n) (x ∷ xs) h = all_drop P n xs h.1
+
+pub all_append : {A : Type 0} (P : A → Type 0) (xs ys : List A) → AllByRecursion P xs → AllByRecursion P ys → AllByRecursion P (xs ++ ys)
+all_append P [] ys h k = k
+all_append P (x ∷ xs) ys h k = (h.0, all_append P xs ys h.1 k)
+
+pub all_map : {A B : Type 0} (P : B → Type 0) (f : A → B) (xs : List A) → AllByRecursion (λ x. P (f x)) xs → AllByRecursion P (map f xs)
+all_map P f [] h = tt
+all_map P f (x ∷ xs) h = (h.0, all_map P f xs h.1)
+
+pub all_filter : {A : Type 0} (P : A → Type 0) (p : A → Bool) (xs : List A) → AllByRecursion P xs → AllByRecursion P (filter p xs)
+all_filter P p [] h = tt
+all_filter P p (x ∷ xs) h = by (either (p x)) (all_filter P p xs h.1) where
+  by : (p x ≡ true) ⊎ (p x ≡ false) → AllByRecursion P (filter p xs) → AllByRecursion P (filter p (x ∷ xs))
+  by (inl t) rest = rw t (h.0, rest)
+  by (inr f) rest = rw f rest
+
+pub all_pass : {A : Type 0} (p : A → Bool) (xs : List A) → AllByRecursion (λ x. p x ≡ true) (filter p xs)
+all_pass p [] = tt
+all_pass p (x ∷ xs) = by (either (p x)) (all_pass p xs) where
+  by : (p x ≡ true) ⊎ (p x ≡ false) → AllByRecursion (λ x. p x ≡ true) (filter p xs) → AllByRecursion (λ x. p x ≡ true) (filter p (x ∷ xs))
+  by (inl t) rest = rw t (t, rest)
+  by (inr f) rest = rw f rest
+
+pub filter_all : {A : Type 0} (p : A → Bool) (xs : List A) → AllByRecursion (λ x. p x ≡ true) xs → filter p xs ≡ xs
+filter_all p [] h = refl
+filter_all p (x ∷ xs) h = let t = h.0 in rw t (ap (λ l. x ∷ l) (filter_all p xs h.1))
+
+-- ---- sums
+
+pub sum_by-filter : {A : Type 0} (p : A → Bool) (f : A → ℕ) (xs : List A) → sum_by f (filter p xs) ≡ sum_by (λ x. cond (p x) (f x) 0) xs
+sum_by-filter p f [] = refl
+sum_by-filter {A} p f (x ∷ xs) = step (p x) refl (sum_by-filter p f xs) where
+  step : (b : Bool) → p x ≡ b → sum_by f (filter p xs) ≡ sum_by (λ x. cond (p x) (f x) 0) xs → sum_by f (filter p (x ∷ xs)) ≡ sum_by (λ x. cond (p x) (f x) 0) (x ∷ xs)
+  step true e rest = rw (sum_by-cons (λ x. cond (p x) (f x) 0) x xs, e) (sum_by-cons f x (filter p xs) ∙ ap (λ n. f x + n) rest)
+  step false e rest = rw (sum_by-cons (λ x. cond (p x) (f x) 0) x xs, e) (rw zero-add rest)
+
+pub sum_by-map : {A B : Type 0} (g : A → B) (f : B → ℕ) (xs : List A) → sum_by f (map g xs) ≡ sum_by (λ x. f (g x)) xs
+sum_by-map g f [] = refl
+sum_by-map g f (x ∷ xs) = sum_by-cons f (g x) (map g xs) ∙ ap (λ n. f (g x) + n) (sum_by-map g f xs) ∙ sym (sum_by-cons (λ x. f (g x)) x xs)
+
+pub sum_by-same : {A : Type 0} (f g : A → ℕ) (xs : List A) → AllByRecursion (λ x. f x ≡ g x) xs → sum_by f xs ≡ sum_by g xs
+sum_by-same f g [] h = refl
+sum_by-same f g (x ∷ xs) h =
+    let a = sum_by-cons f x xs in
+    let b = sum_by-cons g x xs in
+    let rest = sum_by-same f g xs h.1 in
+    let first = h.0 in
+    omega arith
+
+-- ---- order
+
+module _ {A : Type 0} (cmp : A → A → Ordering) (o : IsTotalOrder cmp) (same : (x y : A) → cmp x y ≡ Equal → x ≡ y) where
+  copies : (z : A) (zs : List A) → filter (level cmp z) zs ≡ replicate (count_by (level cmp z) zs) z
+  copies z [] = refl
+  copies z (w ∷ ws) = step (cmp z w) refl (copies z ws) where
+    step : (r : Ordering) → cmp z w ≡ r → filter (level cmp z) ws ≡ replicate (count_by (level cmp z) ws) z → filter (level cmp z) (w ∷ ws) ≡ replicate (count_by (level cmp z) (w ∷ ws)) z
+    step Less e rest = rw (sum_by-cons (λ x. cond (level cmp z x) 1 0) w ws, e) (rw zero-add rest)
+    step Equal e rest = rw (sum_by-cons (λ x. cond (level cmp z x) 1 0) w ws, e) (let n : 1 + count_by (level cmp z) ws ≡ suc (count_by (level cmp z) ws) = omega arith in let first : z ≡ w = same z w e in rw n (λ i. sym first i ∷ rest i))
+    step Greater e rest = rw (sum_by-cons (λ x. cond (level cmp z x) 1 0) w ws, e) (rw zero-add rest)
+
+  -- two lists in order with the same sums
+  pub one_order : (xs ys : List A) → Ascends cmp xs → Ascends cmp ys → ((f : A → ℕ) → sum_by f xs ≡ sum_by f ys) → xs ≡ ys
+  one_order xs ys a b sums = same_ranks cmp o xs ys a b (λ z. copies z xs ∙ ap (λ n. replicate n z) (sums (λ x. cond (level cmp z x) 1 0)) ∙ sym (copies z ys))
+
+  pub sorted_itself : (xs : List A) → Ascends cmp xs → sorted cmp xs ≡ xs
+  sorted_itself xs a = one_order (sorted cmp xs) xs (sorted_ascends cmp o xs) a (λ f. sum_by-sorted cmp o f xs)
+
+  placed_moves : (x : A) (ys : List A) → IsPermutation (x ∷ ys) (placed cmp x ys)
+  placed_moves x [] = IsPermutation-refl (x ∷ [])
+  placed_moves x (y ∷ ys) = step (is_gt (cmp x y)) refl (placed_moves x ys) where
+    step : (b : Bool) → is_gt (cmp x y) ≡ b → IsPermutation (x ∷ ys) (placed cmp x ys) → IsPermutation (x ∷ y ∷ ys) (placed cmp x (y ∷ ys))
+    step true e rest = rw e (IsPermutation-trans (x ∷ y ∷ ys) (y ∷ x ∷ ys) (y ∷ placed cmp x ys) (IsPermutation-append_left ys (x ∷ y ∷ []) (y ∷ x ∷ []) (IsPermutation-append_comm (x ∷ []) (y ∷ []))) (IsPermutation-cons y (x ∷ ys) (placed cmp x ys) rest))
+    step false e rest = rw e (IsPermutation-refl (x ∷ y ∷ ys))
+
+  pub sorted_moves : (xs : List A) → IsPermutation xs (sorted cmp xs)
+  sorted_moves [] = IsPermutation-refl []
+  sorted_moves (x ∷ xs) = IsPermutation-trans (x ∷ xs) (x ∷ sorted cmp xs) (sorted cmp (x ∷ xs)) (IsPermutation-cons x xs (sorted cmp xs) (sorted_moves xs)) (placed_moves x (sorted cmp xs))
+
+  -- what is in front of all the rest is ranked in front of it
+  pub sorted_parts : (p : A → Bool) (all front back : List A) → ((f : A → ℕ) → sum_by f all ≡ sum_by f front + sum_by f back)
+      → AllByRecursion (λ h. p h ≡ true) front → AllByRecursion (λ a. AllByRecursion (λ b. is_gt (cmp a b) ≡ false) back) front
+      → sorted cmp (filter p all) ≡ sorted cmp front ++ sorted cmp (filter p back)
+  sorted_parts p all front back sums passed above =
+      one_order (sorted cmp (filter p all)) (sorted cmp front ++ sorted cmp (filter p back)) (sorted_ascends cmp o (filter p all))
+      (ascends_append cmp (sorted cmp front) (sorted cmp (filter p back)) (sorted_ascends cmp o front) (sorted_ascends cmp o (filter p back)) pairs) by_sums
+    where
+      pairs : AllByRecursion (λ a. AllByRecursion (λ b. is_gt (cmp a b) ≡ false) (sorted cmp (filter p back))) (sorted cmp front)
+      pairs = all_sorted cmp o (λ a. AllByRecursion (λ b. is_gt (cmp a b) ≡ false) (sorted cmp (filter p back))) front
+          (all_imp (λ a. AllByRecursion (λ b. is_gt (cmp a b) ≡ false) back) (λ a. AllByRecursion (λ b. is_gt (cmp a b) ≡ false) (sorted cmp (filter p back)))
+          (λ a h. all_sorted cmp o (λ b. is_gt (cmp a b) ≡ false) (filter p back) (all_filter (λ b. is_gt (cmp a b) ≡ false) p back h)) front above)
+
+      by_sums : (f : A → ℕ) → sum_by f (sorted cmp (filter p all)) ≡ sum_by f (sorted cmp front ++ sorted cmp (filter p back))
+      by_sums f =
+          let a = sum_by-sorted cmp o f (filter p all) in
+          let b = sum_by-filter p f all in
+          let c = sums (λ x. cond (p x) (f x) 0) in
+          let d = sum_by-filter p f front in
+          let e = ap (sum_by f) (filter_all p front passed) in
+          let g = sum_by-filter p f back in
+          let h = sum_by-append f (sorted cmp front) (sorted cmp (filter p back)) in
+          let i = sum_by-sorted cmp o f front in
+          let j = sum_by-sorted cmp o f (filter p back) in
+          omega arith
+
+pub ascends_take : {A : Type 0} (cmp : A → A → Ordering) (n : ℕ) (xs : List A) → Ascends cmp xs → Ascends cmp (take n xs)
+ascends_take cmp zero xs h = tt
+ascends_take cmp (suc n) [] h = tt
+ascends_take cmp (suc n) (x ∷ xs) h = (all_take (λ y. is_gt (cmp x y) ≡ false) n xs h.0, ascends_take cmp n xs h.1)
+
+pub ascends_drop : {A : Type 0} (cmp : A → A → Ordering) (n : ℕ) (xs : List A) → Ascends cmp xs → Ascends cmp (drop n xs)
+ascends_drop cmp zero xs h = h
+ascends_drop cmp (suc n) [] h = tt
+ascends_drop cmp (suc n) (x ∷ xs) h = ascends_drop cmp n xs h.1
+
+-- the first n are not after the others
+pub take_before_drop : {A : Type 0} (cmp : A → A → Ordering) (n : ℕ) (xs : List A) → Ascends cmp xs → AllByRecursion (λ a. AllByRecursion (λ b. is_gt (cmp a b) ≡ false) (drop n xs)) (take n xs)
+take_before_drop cmp zero xs h = tt
+take_before_drop cmp (suc n) [] h = tt
+take_before_drop cmp (suc n) (x ∷ xs) h = (all_drop (λ y. is_gt (cmp x y) ≡ false) n xs h.0, take_before_drop cmp n xs h.1)

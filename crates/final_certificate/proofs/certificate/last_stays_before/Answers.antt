@@ -1,0 +1,7 @@
+use Rattle.std.proofs.Common.{◌∙◌, ap, sym}
+use Rattle.std.specs.Option.{option_copied}
+use Rattle.final_certificate.proofs.Steps.{ends_last}
+use Rattle.final_certificate.proofs.certificate.last_stays_before.Goals as goal
+
+pub returns-in-Some : goal.returns-in-Some
+returns-in-Some c = c.stays_before_any.ensures ∙ ends_last c.args.bound c.args.hits.now c.in-Some.last.now c.args.behind (sym c.last.ensures.value ∙ ap option_copied c.in-Some.is)

@@ -1,0 +1,41 @@
+-- What the functions below `grade` look at. That it decides what a grade is, for all gains, is proved: nobody needs to
+-- believe it.
+use Rattle.std.specs.Prelude.{ℕ, ◌+◌, ◌&&◌, Bool, true, List, [], ◌∷◌, Option, Some, None, length, nat_lt, if◌then◌else◌}
+use Rattle.std.specs.Ordering.{is_lt}
+use Rattle.std.specs.Option.{is_none}
+use Rattle.jass_base.specs.declared.answer.Hit.{Hit}
+use Rattle.ranking_model.specs.Scores.{rank_cmp}
+
+-- a document with a gain
+abbrev pub gained : ℕ → Hit → Hit
+gained gain hit = record { doc = hit.doc; score = hit.score + gain }
+
+-- the first comes before the second, even where only the second gains, and gains the bound
+abbrev pub is_safe : ℕ → Hit → Hit → Bool
+is_safe bound ahead behind = is_lt (rank_cmp ahead (gained bound behind))
+
+-- the same, where there may be none behind
+abbrev pub is_safe_from : ℕ → Hit → Option Hit → Bool
+is_safe_from bound ahead None = true
+is_safe_from bound ahead (Some behind) = is_safe bound ahead behind
+
+-- each hit is safe from the next
+abbrev pub are_safe : ℕ → List Hit → Bool
+are_safe bound [] = true
+are_safe bound (ahead ∷ []) = true
+are_safe bound (ahead ∷ behind ∷ hits) = is_safe bound ahead behind && are_safe bound (behind ∷ hits)
+
+-- the last hit is safe from another document
+abbrev pub ends_safe : ℕ → List Hit → Option Hit → Bool
+ends_safe bound [] other = true
+ends_safe bound (last ∷ []) other = is_safe_from bound last other
+ends_safe bound (ahead ∷ behind ∷ hits) other = ends_safe bound (behind ∷ hits) other
+
+-- a document without a score, as a hit
+abbrev pub unscored : Option ℕ → Option Hit
+unscored None = None
+unscored (Some doc) = Some (record { doc = doc; score = 0 })
+
+-- no other document can enter: where k are hit, the last is safe from the others, and else each document is hit
+abbrev pub do_documents_stay : ℕ → ℕ → List Hit → Option Hit → Option ℕ → Bool
+do_documents_stay k bound hits runner_up untouched = if nat_lt (length hits) k then is_none untouched else ends_safe bound hits runner_up && ends_safe bound hits (unscored untouched)

@@ -1,0 +1,39 @@
+//! What the grades promise, over the definitions. Each function does nothing of its own: its
+//! contract is the law, and a caller learns it by the call.
+
+ghost use Rattle.std.specs.Prelude.{◌≡◌, ℕ, ◌≤◌, List, length, IsPermutation};
+ghost use Rattle.std.specs.Ordering.{nat_cmp};
+ghost use Rattle.jass_base.specs.declared.named.Named.{Named};
+ghost use Rattle.ranking_model.specs.declared.entry.Entry.{Entry};
+ghost use Rattle.ranking_model.specs.declared.plan.QueryPlan.{QueryPlan};
+ghost use Rattle.ranking_model.specs.Flat.{IsFlat};
+ghost use Rattle.ranking_model.specs.Plan.{plan_of};
+ghost use Rattle.ranking_model.specs.Scores.{scores_after};
+ghost use Rattle.ranking_model.specs.Finality.{first_documents, IsFinal, IsSet};
+
+use ranking_model::laws::the_rest_gains_at_most_the_bound;
+
+/// A final answer has the same documents in the same order after any more segments, so at the end.
+pub fn a_final_answer_stands()
+    ensures { (docs n m k : ℕ) (flat : List (Entry ℕ)) (terms : List Named) →
+        IsFlat nat_cmp docs flat → n ≤ m →
+        let plan = plan_of docs flat terms in
+        IsFinal n plan k → first_documents (scores_after m plan) k ≡ first_documents (scores_after n plan) k }
+{
+    the_rest_gains_at_most_the_bound();
+}
+
+/// A set answer has the same documents after any more segments, so at the end, in some order.
+pub fn a_set_answer_keeps_its_documents()
+    ensures { (docs n m k : ℕ) (flat : List (Entry ℕ)) (terms : List Named) →
+        IsFlat nat_cmp docs flat → n ≤ m →
+        let plan = plan_of docs flat terms in
+        IsSet n plan k → IsPermutation (first_documents (scores_after n plan) k) (first_documents (scores_after m plan) k) }
+{
+    the_rest_gains_at_most_the_bound();
+}
+
+/// Where all segments are scored, the answer is final.
+pub fn everything_scored_is_final()
+    ensures { (n k : ℕ) (plan : QueryPlan) → length plan.classes ≤ n → IsFinal n plan k }
+{}

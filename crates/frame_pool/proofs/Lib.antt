@@ -1,0 +1,11 @@
+pub mod Walks
+pub mod Leases
+pub mod Changes
+pub mod Pages
+pub mod Views
+pub mod ChainViews
+pub mod Slots
+pub mod Takes
+pub mod Readings
+pub mod Refusals
+pub mod New

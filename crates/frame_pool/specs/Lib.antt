@@ -1,0 +1,5 @@
+pub mod Pool
+pub mod ChainView
+pub mod Sound
+pub mod Links
+pub mod Kept

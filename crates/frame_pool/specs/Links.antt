@@ -1,0 +1,56 @@
+-- How a pool's table of frames and its leases stand for what contracts see of it.
+use Rattle.std.specs.Prelude.{ℕ, ◌+◌, ◌==◌, if◌then◌else◌, zero, suc, List, [], ◌∷◌, map, replicate, slice_index_or, slice_set, Option, Some, None}
+use Rattle.frame_pool.specs.declared.frame.Frame.{Frame}
+use Rattle.frame_pool.specs.declared.lease.Lease.{Lease}
+use Rattle.frame_pool.specs.Pool.{FrameContent, ChainEntry, PoolView}
+
+-- what stands past the end of the table
+abbrev pub blank : Frame
+blank = record { scores = replicate 256 0; places = replicate 256 0; page = 0; next = 0 }
+
+-- the frame that is linked behind a frame
+abbrev pub link_of : List Frame → ℕ → ℕ
+link_of frames f = (slice_index_or frames f blank).next
+
+-- the page of a frame
+abbrev pub page_of : List Frame → ℕ → ℕ
+page_of frames f = (slice_index_or frames f blank).page
+
+-- the number that is linked behind the last frame of a list
+abbrev pub no_frame : ℕ
+no_frame = 4294967295
+
+-- so many frames along the links
+abbrev pub walk : (ℕ → ℕ) → ℕ → ℕ → List ℕ
+walk next zero f = []
+walk next (suc k) f = f ∷ walk next k (next f)
+
+-- what a frame holds, without its link
+abbrev pub frame_content : Frame → FrameContent
+frame_content f = record { page = f.page; scores = f.scores; places = f.places }
+
+-- the chain of a lease: its first frame, and as many along the links as it has
+abbrev pub chain_entry : (ℕ → ℕ) → Option Lease → Option ChainEntry
+chain_entry next None = None
+chain_entry next (Some l) = Some (record { promise = l.promise; frames = walk next l.taken l.first })
+
+-- what a pool with these frames and leases shows
+abbrev pub view_of : List Frame → List (Option Lease) → PoolView
+view_of frames leases = record { frames = map frame_content frames; chains = map (chain_entry (link_of frames)) leases }
+
+-- the lease with one frame more in front
+abbrev pub grown : Lease → ℕ → Lease
+grown lease frame = record { promise = lease.promise; taken = lease.taken + 1; first = frame; last = (if lease.taken == 0 then frame else lease.last) }
+
+-- the frames with the free list linked behind those of a lease
+abbrev pub relinked : List Frame → Lease → ℕ → List Frame
+relinked frames lease free =
+    if lease.taken == 0 then frames else slice_set frames lease.last (record (slice_index_or frames lease.last blank) { next = free })
+
+-- and the first of the list that this makes
+abbrev pub relinked_first : Lease → ℕ → ℕ
+relinked_first lease free = if lease.taken == 0 then free else lease.first
+
+-- a frame of a new pool
+abbrev pub free_frame : ℕ → Frame
+free_frame next = record { scores = replicate 256 0; places = replicate 256 0; page = 0; next = next }

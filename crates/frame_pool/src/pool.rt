@@ -1,0 +1,254 @@
+ghost use Rattle.std.specs.Prelude.{◌≡◌, ℕ, ◌+◌, ◌*◌, ◌<◌, ◌≤◌, [], length, slice_index, slice_get, slice_set, option_map, IfOk, OnErr};
+ghost use Rattle.std.specs.Result.{result_err};
+ghost use Rattle.frame_pool.specs.Pool.{content_of, chain_of, cleared, IsInUse, IsFree, IsUnused, Promises, spare_of, promise_refusal, with_first, with_score, with_place, number_after};
+ghost use Rattle.frame_pool.specs.ChainView.{HasPage, IsTaken, KeepsFrames, LacksPage, LeavesOthers, chain_view, view_scores, view_places, with_first_held};
+ghost use Rattle.frame_pool.specs.Sound.{IsSound};
+
+use crate::chain::Chain;
+use crate::frame::{Frame, FrameId, linked_frames};
+use crate::lease::{Lease, NO_FRAME, unused_number};
+use crate::refusal::PoolRefusal;
+use jass_base::NoMemory;
+use std::alloc::Global;
+use std::marker::Model;
+
+/// The frames that hold the scores of all sessions. A session is promised some of them as its chain, takes them one by one, and
+/// gives them back together.
+///
+/// The free frames are linked in one list, and the frames of each chain in a list of its own, newest first. A pool never moves or
+/// clears a frame but when it is taken.
+#[derive(Drop)]
+pub struct FramePool {
+    frames: Vec<Frame>,
+    leases: Vec<Option<Lease>>,
+    free: u32,
+    promised: u32,
+}
+
+impl Model for FramePool {
+    ghost use Rattle.frame_pool.specs.Pool.{PoolView};
+    ghost use Rattle.frame_pool.specs.Links.{view_of};
+    ghost use Rattle.frame_pool.specs.Kept.{PoolKept};
+
+    ghost Value = { PoolView };
+
+    ghost view = { λ p. view_of p.frames.items p.leases.items };
+
+    ghost invariant = { λ p. PoolKept p.frames.items p.leases.items p.free p.promised };
+}
+
+impl FramePool {
+    /// A pool of so many frames, for at most so many chains at a time. It takes 2,056 bytes a frame, and no other call takes memory.
+    pub fn new(alloc: Global, frames: u32, chains: u32) -> Result<FramePool, NoMemory>
+        requires frames { frames ≤ 1048576 }
+        requires chains { chains ≤ 1024 }
+        ensures unused { IfOk result (λ pool. IsUnused pool frames chains) }
+        ensures sound { IfOk result (λ pool. IsSound pool) }
+    {
+        let frames = linked_frames(alloc, frames)?;
+        match vec![in alloc; None; chains as usize] {
+            Ok(leases) => Ok(FramePool {
+                frames,
+                leases,
+                free: 0,
+                promised: 0,
+            }),
+            Err(_) => Err(NoMemory),
+        }
+    }
+
+    /// How many frames aren't promised to a chain.
+    pub fn spare(&self) -> u32
+        ensures spare { result ≡ spare_of self.now }
+        ensures sound { IsSound self.now }
+    {
+        self.frames.len() as u32 - self.promised
+    }
+
+    /// Promises `n` frames to a new chain, which has none yet. `Chains` comes where all chain numbers are in use, and else `Short`
+    /// where fewer than `n` frames are spare; then the pool is as it was.
+    pub fn promise(&mut self, n: u32) -> Result<Chain, PoolRefusal>
+        ensures refusal { result_err result ≡ promise_refusal self.old n }
+        ensures promised { IfOk result (λ chain. Promises self.old self.new chain n) }
+        ensures in_use { IfOk result (λ chain. IsInUse self.new chain) }
+        ensures view { IfOk result (λ chain. chain_view self.new chain ≡ record { promise = n; frames = [] }) }
+        ensures others { IfOk result (λ chain. LeavesOthers self.old self.new chain) }
+        ensures spare { IfOk result (λ chain. spare_of self.new + n ≡ spare_of self.old) }
+        ensures err { OnErr result (self.new ≡ self.old) }
+        ensures sound { IsSound self.new }
+    {
+        let Some(at) = unused_number(&self.leases) else {
+            return Err(PoolRefusal::Chains {
+                chains: self.leases.len() as u32,
+            });
+        };
+        let free = self.spare();
+        if free < n {
+            return Err(PoolRefusal::Short { need: n, free });
+        }
+        self.leases[at] = Some(Lease::new(n));
+        self.promised += n;
+        Ok(Chain { number: at as u32 })
+    }
+
+    /// Takes a free frame for a page, which is then the chain's first. All its scores and heap places are 0, whatever it held.
+    pub fn take(&mut self, chain: &Chain, page: u32) -> FrameId
+        requires own { IsInUse self.old chain.now }
+        requires room { length (chain_view self.old chain.now).frames < (chain_view self.old chain.now).promise }
+        requires new_page { LacksPage (chain_view self.old chain.now) page }
+        ensures free { IsFree self.old result.number }
+        ensures frames { self.new.frames ≡ slice_set self.old.frames result.number (cleared page) }
+        ensures chains { self.new.chains ≡ slice_set self.old.chains chain.now (Some (with_first (chain_of self.old chain.now) result.number)) }
+
+        // What the chain's owner and the others see.
+        ensures has { HasPage (chain_view self.new chain.now) page result.number }
+        ensures in_use { IsInUse self.new chain.now }
+        ensures view { chain_view self.new chain.now ≡ with_first_held (chain_view self.old chain.now) result.number (cleared page) }
+        ensures scores { (docs : ℕ) → view_scores docs (chain_view self.new chain.now) ≡ view_scores docs (chain_view self.old chain.now) }
+        ensures places { (docs : ℕ) → view_places docs (chain_view self.new chain.now) ≡ view_places docs (chain_view self.old chain.now) }
+        ensures others { LeavesOthers self.old self.new chain.now }
+        ensures spare { spare_of self.new ≡ spare_of self.old }
+        ensures sound { IsSound self.new }
+    {
+        let at = chain.number as usize;
+        let Some(lease) = self.leases[at] else {
+            unreachable!()
+        };
+        let number = self.free;
+        let frame = &mut self.frames[number as usize];
+        self.free = frame.next;
+        frame.clear(page, lease.first);
+        self.leases[at] = Some(lease.with_frame(number));
+        FrameId { number }
+    }
+
+    /// How many frames the chain has.
+    pub fn taken(&self, chain: &Chain) -> u32
+        requires { IsInUse self.now chain.now }
+        ensures taken { result ≡ length (chain_view self.now chain.now).frames }
+        ensures sound { IsSound self.now }
+    {
+        let Some(lease) = self.leases[chain.number as usize] else {
+            unreachable!()
+        };
+        lease.taken
+    }
+
+    /// The frame that the chain took last, and `None` where it has none.
+    pub fn first(&self, chain: &Chain) -> Option<FrameId>
+        requires { IsInUse self.now chain.now }
+        ensures first { option_map (λ f. f.number) result ≡ slice_get (chain_of self.now chain.now).frames 0 }
+    {
+        let Some(lease) = self.leases[chain.number as usize] else {
+            unreachable!()
+        };
+        if lease.taken == 0 {
+            None
+        } else {
+            Some(FrameId {
+                number: lease.first,
+            })
+        }
+    }
+
+    /// The frame that the same chain took before this one, and `None` at its first taken.
+    pub fn next(&self, frame: FrameId) -> Option<FrameId>
+        requires { IsTaken self.now frame.number }
+        ensures next { (chain page : ℕ) → HasPage (chain_view self.now chain) page frame.number
+            → option_map (λ f. f.number) result ≡ number_after (chain_of self.now chain).frames frame.number }
+    {
+        let next = self.frames[frame.number as usize].next;
+        if next == NO_FRAME {
+            None
+        } else {
+            Some(FrameId { number: next })
+        }
+    }
+
+    /// The page that the frame was taken for.
+    pub fn page(&self, frame: FrameId) -> u32
+        requires { IsTaken self.now frame.number }
+        ensures page { (chain page : ℕ) → HasPage (chain_view self.now chain) page frame.number → result ≡ page }
+        ensures content { result ≡ (content_of self.now frame.number).page }
+    {
+        self.frames[frame.number as usize].page
+    }
+
+    /// The score of the document in a slot of the frame.
+    pub fn score(&self, frame: FrameId, slot: u8) -> u32
+        requires { IsTaken self.now frame.number }
+        ensures score { result ≡ slice_index (content_of self.now frame.number).scores slot }
+        ensures document { (chain page docs : ℕ) → HasPage (chain_view self.now chain) page frame.number → 256 * page + slot < docs
+            → result ≡ slice_index (view_scores docs (chain_view self.now chain)) (256 * page + slot) }
+    {
+        self.frames[frame.number as usize].scores[slot as usize]
+    }
+
+    /// Sets the score of the document in a slot of the frame.
+    pub fn set_score(&mut self, frame: FrameId, slot: u8, score: u32)
+        requires { IsTaken self.old frame.number }
+        ensures frames { self.new.frames ≡ slice_set self.old.frames frame.number (with_score (content_of self.old frame.number) slot score) }
+        ensures chains { self.new.chains ≡ self.old.chains }
+
+        // What the owner of the frame's chain and the others see.
+        ensures scores { (chain page docs : ℕ) → HasPage (chain_view self.old chain) page frame.number
+            → view_scores docs (chain_view self.new chain) ≡ slice_set (view_scores docs (chain_view self.old chain)) (256 * page + slot) score }
+        ensures places { (chain docs : ℕ) → view_places docs (chain_view self.new chain) ≡ view_places docs (chain_view self.old chain) }
+        ensures keeps { (chain : ℕ) → KeepsFrames (chain_view self.old chain) (chain_view self.new chain) }
+        ensures others { (chain page : ℕ) → HasPage (chain_view self.old chain) page frame.number → LeavesOthers self.old self.new chain }
+        ensures spare { spare_of self.new ≡ spare_of self.old }
+        ensures sound { IsSound self.new }
+    {
+        self.frames[frame.number as usize].scores[slot as usize] = score;
+    }
+
+    /// The heap place of the document in a slot of the frame.
+    pub fn place(&self, frame: FrameId, slot: u8) -> u32
+        requires { IsTaken self.now frame.number }
+        ensures place { result ≡ slice_index (content_of self.now frame.number).places slot }
+        ensures document { (chain page docs : ℕ) → HasPage (chain_view self.now chain) page frame.number → 256 * page + slot < docs
+            → result ≡ slice_index (view_places docs (chain_view self.now chain)) (256 * page + slot) }
+    {
+        self.frames[frame.number as usize].places[slot as usize]
+    }
+
+    /// Sets the heap place of the document in a slot of the frame.
+    pub fn set_place(&mut self, frame: FrameId, slot: u8, place: u32)
+        requires { IsTaken self.old frame.number }
+        ensures frames { self.new.frames ≡ slice_set self.old.frames frame.number (with_place (content_of self.old frame.number) slot place) }
+        ensures chains { self.new.chains ≡ self.old.chains }
+
+        // What the owner of the frame's chain and the others see.
+        ensures places { (chain page docs : ℕ) → HasPage (chain_view self.old chain) page frame.number
+            → view_places docs (chain_view self.new chain) ≡ slice_set (view_places docs (chain_view self.old chain)) (256 * page + slot) place }
+        ensures scores { (chain docs : ℕ) → view_scores docs (chain_view self.new chain) ≡ view_scores docs (chain_view self.old chain) }
+        ensures keeps { (chain : ℕ) → KeepsFrames (chain_view self.old chain) (chain_view self.new chain) }
+        ensures others { (chain page : ℕ) → HasPage (chain_view self.old chain) page frame.number → LeavesOthers self.old self.new chain }
+        ensures spare { spare_of self.new ≡ spare_of self.old }
+        ensures sound { IsSound self.new }
+    {
+        self.frames[frame.number as usize].places[slot as usize] = place;
+    }
+
+    /// Ends the chain: its frames are free, still with what they hold, and its promise ends.
+    pub fn give_back(&mut self, chain: Chain)
+        requires { IsInUse self.old chain }
+        ensures frames { self.new.frames ≡ self.old.frames }
+        ensures chains { self.new.chains ≡ slice_set self.old.chains chain None }
+        ensures others { LeavesOthers self.old self.new chain }
+        ensures spare { spare_of self.new ≡ spare_of self.old + (chain_view self.old chain).promise }
+        ensures sound { IsSound self.new }
+    {
+        let Chain { number } = chain;
+        let at = number as usize;
+        let Some(lease) = self.leases[at] else {
+            unreachable!()
+        };
+        self.free = lease.release(&mut self.frames, self.free);
+        self.promised -= lease.promise;
+        self.leases[at] = None;
+    }
+}
+
+#[cfg(test)]
+mod tests;
