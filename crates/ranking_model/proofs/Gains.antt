@@ -1,5 +1,5 @@
 -- An answer to which nothing can be added is settled, and one that some gains change is not kept.
-use Rattle.std.proofs.Common.{◌≡◌, ◌+◌, ◌≤◌, ℕ, List, [], ◌∷◌, refl, ap, sum_by, arith}
+use Rattle.std.proofs.Common.{◌≡◌, ◌+◌, ℕ, List, [], ◌∷◌, refl, ap, sum_by, arith}
 use Rattle.std.proofs.lemmas.List.Sorted.{sum_by-IsPermutation}
 use Rattle.ranking_model.specs.Finality.{AreGains, raised, first_documents, IsSettled, IsKept}
 

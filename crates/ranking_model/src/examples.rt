@@ -88,14 +88,11 @@ pub fn grants_add_up()
 /// `cat dog` with two hits, at a budget of 2 postings and then of all: an answer for each, as the
 /// parts 1 and 2 of the run. A single budget makes no parts.
 pub fn a_run_of_two_budgets()
-    ensures two {
-        let id = codes "301" in
+    ensures two { let id = codes "301" in
         query_run pet_names cat_dog id 2 (Budget.Postings 2 ∷ Budget.All ∷ []) (codes "jass")
-            ≡ run_lines pet_names id (tag_of (codes "jass") 1) 1 (hit 0 3 ∷ hit 2 3 ∷ [])
-                ++ (run_lines pet_names id (tag_of (codes "jass") 2) 1 (hit 0 3 ∷ hit 1 3 ∷ []) ++ []) }
-    ensures one {
-        let id = codes "301" in
+        ≡ run_lines pet_names id (tag_of (codes "jass") 1) 1 (hit 0 3 ∷ hit 2 3 ∷ [])
+        ++ (run_lines pet_names id (tag_of (codes "jass") 2) 1 (hit 0 3 ∷ hit 1 3 ∷ []) ++ []) }
+    ensures one { let id = codes "301" in
         query_run pet_names cat_dog id 2 (Budget.All ∷ []) (codes "jass")
-            ≡ run_lines pet_names id (codes "jass") 1 (hit 0 3 ∷ hit 1 3 ∷ []) ++ [] }
-{
-}
+        ≡ run_lines pet_names id (codes "jass") 1 (hit 0 3 ∷ hit 1 3 ∷ []) ++ [] }
+{}

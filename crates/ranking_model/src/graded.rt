@@ -61,8 +61,6 @@ pub fn a_final_answer_opens_again()
 
 /// The reports of `cat dog` with two hits, at a budget of 2 postings and then of all.
 pub fn reports_of_two_budgets()
-    ensures {
-        AreReports cat_dog 2 (Budget.Postings 2 ∷ Budget.All ∷ [])
-            (report 2 2 4 3 2 3 Grade.Open ∷ report 5 4 4 1 0 0 Grade.Final ∷ []) }
-{
-}
+    ensures { AreReports cat_dog 2 (Budget.Postings 2 ∷ Budget.All ∷ [])
+        (report 2 2 4 3 2 3 Grade.Open ∷ report 5 4 4 1 0 0 Grade.Final ∷ []) }
+{}
