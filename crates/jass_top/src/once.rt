@@ -9,11 +9,14 @@ use crate::once_words::Once;
 use crate::stop::Stop;
 use crate::whole_file::{ReadStop, read_whole};
 use ciff_read::{CiffFault, read_collection};
+use final_certificate::grade;
 use impact_segments::{build, entries_of};
-use jass_base::{Cabinet, Collection, Grade, Hit, ImpactIndex, NoMemory, Report, Row, Sink};
+use jass_base::{Cabinet, Collection, Hit, ImpactIndex, NoMemory, Report, Row, Sink};
 use query_reader::name_terms;
-use ranking_model::laws::the_prefix_is_the_longest;
-use ranking_model::{granted_sum, plan_of, prefix_within, report_of, top_k};
+use ranking_model::laws::{the_prefix_is_the_longest, the_ranking_has_documents_of_the_scores};
+use ranking_model::{
+    bound_after, granted_sum, plan_of, prefix_within, report_of, scores_after, standing_of,
+};
 use std::alloc::Global;
 use trec_run::{put_answer, put_report};
 use weights::{Bits, Rule};
@@ -99,19 +102,26 @@ fn answer_words(alloc: Global, index: &ImpactIndex, once: Once<'_>) -> Result<An
     };
     the_prefix_is_the_longest();
     let count = prefix_within(granted_sum(&[once.budget]), plan.classes.as_slice());
-    let hits = match top_k(alloc, count, &plan, once.k as usize) {
-        Ok(hits) => hits,
+    let scores = match scores_after(alloc, count, &plan) {
+        Ok(scores) => scores,
         Err(_) => return Err(NoMemory),
     };
-    let grade = if count == plan.classes.len() {
-        Grade::Final
-    } else {
-        Grade::Open
+    the_ranking_has_documents_of_the_scores();
+    let standing = match standing_of(alloc, scores.as_slice(), once.k as usize) {
+        Ok(standing) => standing,
+        Err(_) => return Err(NoMemory),
     };
+    let grade = grade(
+        standing.hits.as_slice(),
+        standing.runner_up,
+        standing.least_untouched,
+        once.k,
+        bound_after(count, &plan),
+    );
     Ok(Answer {
         report: report_of(count, &plan, grade),
         unknown: query.unknown,
-        hits,
+        hits: standing.hits,
     })
 }
 

@@ -26,12 +26,15 @@ pub ranked_below : (scores : List ℕ) (m : ℕ) → AllByRecursion (λ (hit : H
 ranked_below scores m = all_take (λ (hit : Hit). hit.doc < length scores) m (sorted rank_cmp (hits_from 0 scores)) (all_sorted rank_cmp rank_total (λ (hit : Hit). hit.doc < length scores) (hits_from 0 scores) (hits_below (length scores) 0 scores (omega arith)))
 
 -- each of a list, by places
-by_places : {A : Type 0} (P : A → Type 0) (xs : List A) → AllByRecursion P xs → All P xs
+pub by_places : {A : Type 0} (P : A → Type 0) (xs : List A) → AllByRecursion P xs → All P xs
 by_places P [] h k d inside = absurd (omega arith)
 by_places P (x ∷ xs) h zero d inside = h.0
 by_places P (x ∷ xs) h (suc k) d inside = by_places P xs h.1 k d (omega arith)
 
+-- there is a score for each document
+pub scores_all : (n : ℕ) (plan : QueryPlan) → length (scores_after n plan) ≡ plan.docs
+scores_all n plan = length-map-range_with_len (λ doc. sum_by (gain_of doc) (take n plan.classes)) 0 plan.docs
+
 pub answer_below : (n : ℕ) (plan : QueryPlan) (k : ℕ) → All (λ (hit : Hit). hit.doc < plan.docs) (top_k n plan k)
 answer_below n plan k =
-    let size : length (scores_after n plan) ≡ plan.docs = length-map-range_with_len (λ doc. sum_by (gain_of doc) (take n plan.classes)) 0 plan.docs in
-    by_places (λ (hit : Hit). hit.doc < plan.docs) (top_k n plan k) (subst (λ limit. AllByRecursion (λ (hit : Hit). hit.doc < limit) (top_k n plan k)) size (ranked_below (scores_after n plan) k))
+    by_places (λ (hit : Hit). hit.doc < plan.docs) (top_k n plan k) (subst (λ limit. AllByRecursion (λ (hit : Hit). hit.doc < limit) (top_k n plan k)) (scores_all n plan) (ranked_below (scores_after n plan) k))

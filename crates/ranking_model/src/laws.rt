@@ -1,11 +1,12 @@
 //! Laws over the definitions. Each function does nothing: its contract is the law, and a caller
 //! learns it by the call.
 
-ghost use Rattle.std.specs.Prelude.{◌≡◌, ◌≢◌, ℕ, ◌≤◌, List, [], length, take, drop, flat_map, sum_by, AllPairs, IsPermutation, IsSorted};
+ghost use Rattle.std.specs.Prelude.{◌≡◌, ◌≢◌, ℕ, ◌<◌, ◌≤◌, List, [], length, take, drop, flat_map, sum_by, All, AllPairs, IsPermutation, IsSorted};
 ghost use Rattle.std.specs.List.{AllByRecursion};
 ghost use Rattle.std.specs.Ordering.{nat_cmp};
 ghost use Rattle.std.specs.Cmp.Lexicographic.{slice_cmp};
 ghost use Rattle.jass_base.specs.declared.answer.Hit.{Hit};
+ghost use Rattle.ranking_model.specs.declared.plan.QueryPlan.{QueryPlan};
 ghost use Rattle.jass_base.specs.declared.named.Named.{Named};
 ghost use Rattle.ranking_model.specs.declared.entry.Entry.{Entry};
 ghost use Rattle.ranking_model.specs.declared.posting.WeightedPosting.{WeightedPosting};
@@ -68,6 +69,12 @@ pub fn the_ranking_is_one()
     ensures { (scores : List ℕ) (m : ℕ) (hits : List Hit) →
         IsPermutation (hits_from 0 scores) hits → IsSorted rank_cmp hits →
         take m hits ≡ first_ranked scores m }
+{}
+
+/// There is a score for each document of the index, and a ranking has documents of its scores.
+pub fn the_ranking_has_documents_of_the_scores()
+    ensures all { (n : ℕ) (plan : QueryPlan) → length (scores_after n plan) ≡ plan.docs }
+    ensures documents { (scores : List ℕ) (m : ℕ) → All (λ (hit : Hit). hit.doc < length scores) (first_ranked scores m) }
 {}
 
 /// Terms by number keep what the flat list is by their bytes.
