@@ -59,10 +59,10 @@ name_found s h =
     let a = u.0 in
     let b = u.1 in
     record { some = some (length s) a; fits = grind (arith, nat_tests); visible = All-from_recursion (λ b. (32 < b) × (b ≢ 127)) s (all_visible s t.1) }
-    where
-      some : (n : ℕ) → not (n == 0) ≡ true → 1 ≤ n
-      some zero h = absurd cc
-      some (suc n) h = omega arith
+  where
+    some : (n : ℕ) → not (n == 0) ≡ true → 1 ≤ n
+    some zero h = absurd cc
+    some (suc n) h = omega arith
 
 name_there : (s : List ℕ) → IsName s → is_name s ≡ true
 name_there s is =
@@ -205,13 +205,15 @@ docs_stand bodies xs final puts =
     let count = puts_count docs [] bodies xs final puts (omega arith) in
     let whole : length (values_of final) ≡ length bodies = omega (arith, count.0) in
     let all = full final (omega (arith, count.0, count.1)) in
-    let there = λ (n : ℕ) (d : DocData) (is : get_or final n None ≡ Some d). sym (ap (λ (t : List (Option DocData)). get_or t n None) all ∙ get_full (values_of final) n) ∙ is in
-    (record {
-      numbers = map (λ (x : NumberedDoc). x.number) xs;
-      each = puts_among (values_of final) docs [] bodies xs final there puts;
-      differ = puts_distinct docs [] bodies xs final puts;
-      all = sym whole;
-    }, whole)
+    let there = λ (n : ℕ) (d : DocData) (is : get_or final n None ≡ Some d). sym (ap (λ (t : List (Option DocData)). get_or t n None) all ∙ get_full (values_of final) n) ∙ is in (
+      record {
+        numbers = map (λ (x : NumberedDoc). x.number) xs;
+        each = puts_among (values_of final) docs [] bodies xs final there puts;
+        differ = puts_distinct docs [] bodies xs final puts;
+        all = sym whole;
+      },
+      whole,
+    )
 
 -- ---- messages
 
@@ -349,10 +351,10 @@ module _ (laws : WireLaws) where
       record {
         final = later.final;
         read = ap (λ (r : Result Message CiffRefusal). r >>= λ m. doc_at (length ds) table at m >>= λ x. docs_at (length bodies) (length ds) (with_value table x.number x.doc) (message_end m) m.rest) read
-        ∙ ap (λ (r : Result NumberedDoc CiffRefusal). r >>= λ x. docs_at (length bodies) (length ds) (with_value table x.number x.doc) (message_end m) m.rest) doc
-        ∙ ap (λ k. docs_at (length bodies) (length ds) (with_value table n d) k (other ++ rest)) ends
-        ∙ later.read
-        ∙ ap (λ k. Ok (record { table = later.final; at = k; rest = rest })) place;
+            ∙ ap (λ (r : Result NumberedDoc CiffRefusal). r >>= λ x. docs_at (length bodies) (length ds) (with_value table x.number x.doc) (message_end m) m.rest) doc
+            ∙ ap (λ k. docs_at (length bodies) (length ds) (with_value table n d) k (other ++ rest)) ends
+            ∙ later.read
+            ∙ ap (λ k. Ok (record { table = later.final; at = k; rest = rest })) place;
         part = later.part;
         count_is = later.count_is ∙ omega (arith, values-with table n d missing.0);
       }

@@ -100,15 +100,15 @@ module _ (laws : WireLaws) where
       let new = new_there [] c.lists (all_unseen c.lists) is.terms_differ in
       let x : ListsRead = record { lists = c.lists; at = length first + length halves.front; rest = halves.back } in
       let lists : lists_at (length c.lists) (length c.docs) 0 [] (message_end m) rest ≡ Ok x =
-          ap (λ n. lists_at (length c.lists) (length c.docs) 0 [] n rest) ends ∙ ap (lists_at (length c.lists) (length c.docs) 0 [] (length first)) halves.parts
-          ∙ lists_read laws (length c.docs) 0 [] (length first) halves.front halves.back is.list_bodies c.lists few halves.first is.lists new (omega (arith, is.few_postings)) (omega arith) in
+      ap (λ n. lists_at (length c.lists) (length c.docs) 0 [] n rest) ends ∙ ap (lists_at (length c.lists) (length c.docs) 0 [] (length first)) halves.parts
+      ∙ lists_read laws (length c.docs) 0 [] (length first) halves.front halves.back is.list_bodies c.lists few halves.first is.lists new (omega (arith, is.few_postings)) (omega arith) in
       let docs = docs_are_read laws c.docs x.at halves.back [] is.doc_bodies few halves.second is.docs (omega arith) in
       let place = x.at + length halves.back in
       let same = docs_all laws c.docs docs.final docs.part docs.count_is in
       let y : DocsInOrder = record { docs = c.docs; at = place; rest = [] } in
       let in_order : all_docs_at (length c.docs) x.at halves.back ≡ Ok y =
-          ap (λ (r : Result DocsRead CiffRefusal). r >>= λ z. Ok (docs_in_order z)) (ap (docs_at (length c.docs) (length c.docs) [] x.at) (sym (append-nil halves.back)) ∙ docs.read)
-          ∙ ap (λ (ds : List DocData). Ok (record { docs = ds; at = place; rest = [] })) same in
+      ap (λ (r : Result DocsRead CiffRefusal). r >>= λ z. Ok (docs_in_order z)) (ap (docs_at (length c.docs) (length c.docs) [] x.at) (sym (append-nil halves.back)) ∙ docs.read)
+      ∙ ap (λ (ds : List DocData). Ok (record { docs = ds; at = place; rest = [] })) same in
       ap (λ (r : Result Message CiffRefusal). r >>= λ m. header_at 0 m >>= λ start. lists_at start.lists start.docs 0 [] (message_end m) m.rest >>= λ x. all_docs_at start.docs x.at x.rest >>= λ y. at_end y.at y.rest (record { header = start.header; lists = x.lists; docs = y.docs })) read
       ∙ ap (λ (r : Result FileStart CiffRefusal). r >>= λ start. lists_at start.lists start.docs 0 [] (message_end m) m.rest >>= λ x. all_docs_at start.docs x.at x.rest >>= λ y. at_end y.at y.rest (record { header = start.header; lists = x.lists; docs = y.docs })) header
       ∙ ap (λ (r : Result ListsRead CiffRefusal). r >>= λ x. all_docs_at start.docs x.at x.rest >>= λ y. at_end y.at y.rest (record { header = start.header; lists = x.lists; docs = y.docs })) lists

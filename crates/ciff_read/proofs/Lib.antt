@@ -11,6 +11,7 @@ pub mod Parts
 pub mod PostingLaws
 pub mod Postings
 pub mod Sequences
+pub mod ShortEntries
 pub mod Tables
 pub mod TermLists
 pub mod WalkLaws

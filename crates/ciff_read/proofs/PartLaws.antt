@@ -38,10 +38,10 @@ four_passed false false false false u v w z x y is = (refl, refl, refl, refl, cc
 
 pub is_text : (s : List ℕ) → not (is_utf8 s) ≡ false → IsUtf8 s
 is_text s h = IsUtf8-from_is_utf8 s (yes_of (is_utf8 s) h)
-    where
-      yes_of : (b : Bool) → not b ≡ false → b ≡ true
-      yes_of true h = refl
-      yes_of false h = absurd cc
+  where
+    yes_of : (b : Bool) → not b ≡ false → b ≡ true
+    yes_of true h = refl
+    yes_of false h = absurd cc
 
 pub no_fault : (s : List ℕ) → IsUtf8 s → not (is_utf8 s) ≡ false
 no_fault s is = ap not (is_utf8-from_IsUtf8 s is)

@@ -39,22 +39,22 @@ gather_found docs before [] [] last old ps zip kept is =
 gather_found docs before [] (x ∷ xs) last old ps zip kept is = absurd zip
 gather_found docs before (body ∷ bodies) [] last old ps zip kept is = absurd zip
 gather_found docs before (body ∷ bodies) (x ∷ xs) last old ps zip kept is = go (judge docs before old x.entry) refl is (λ p k h. gather_found docs before bodies xs p.doc (old ++ p ∷ []) ps zip.1 k h)
-    where
-      go : (r : Result Posting CiffWhy) → judge docs before old x.entry ≡ r → fold (gather docs before) (placed x.at r >>= λ p. Ok (old ++ p ∷ [])) xs ≡ Ok ps
-          → ((p : Posting) → AreKept docs before p.doc (old ++ p ∷ []) → fold (gather docs before) (Ok (old ++ p ∷ [])) xs ≡ Ok ps → Gathered docs before p.doc bodies (old ++ p ∷ []) ps) → Gathered docs before last (body ∷ bodies) old ps
-      go (Err why) judged is rest = absurd (let e = sym (refused_stays docs before (record { at = x.at; why = why }) xs) ∙ is in cc)
-      go (Ok p) judged is rest =
-          let next = subst (λ n. Follows docs before n old p) (sym kept.last_is) (judge_follows docs before old x.entry p judged) in
-          let g = rest p (kept-snoc docs before last old p kept next) is in
-          let e = zip.0 in
-          let j = judge_is docs before old x.entry p judged in
-          record {
-            more = p ∷ g.more;
-            parts = g.parts ∙ append_assoc old (p ∷ []) g.more;
-            are = (record { fields = e.fields; spelled = e.spelled; doc = j.0 ∙ ap (λ n. n + x.entry.docid) (sym kept.last_is) ∙ ap (λ (y : Entry). last + y.docid) e.entry; tf = j.1 ∙ ap (λ (y : Entry). y.tf) e.entry }, g.are);
-            last_now = g.last_now;
-            kept = g.kept;
-          }
+  where
+    go : (r : Result Posting CiffWhy) → judge docs before old x.entry ≡ r → fold (gather docs before) (placed x.at r >>= λ p. Ok (old ++ p ∷ [])) xs ≡ Ok ps
+        → ((p : Posting) → AreKept docs before p.doc (old ++ p ∷ []) → fold (gather docs before) (Ok (old ++ p ∷ [])) xs ≡ Ok ps → Gathered docs before p.doc bodies (old ++ p ∷ []) ps) → Gathered docs before last (body ∷ bodies) old ps
+    go (Err why) judged is rest = absurd (let e = sym (refused_stays docs before (record { at = x.at; why = why }) xs) ∙ is in cc)
+    go (Ok p) judged is rest =
+        let next = subst (λ n. Follows docs before n old p) (sym kept.last_is) (judge_follows docs before old x.entry p judged) in
+        let g = rest p (kept-snoc docs before last old p kept next) is in
+        let e = zip.0 in
+        let j = judge_is docs before old x.entry p judged in
+        record {
+          more = p ∷ g.more;
+          parts = g.parts ∙ append_assoc old (p ∷ []) g.more;
+          are = (record { fields = e.fields; spelled = e.spelled; doc = j.0 ∙ ap (λ n. n + x.entry.docid) (sym kept.last_is) ∙ ap (λ (y : Entry). last + y.docid) e.entry; tf = j.1 ∙ ap (λ (y : Entry). y.tf) e.entry }, g.are);
+          last_now = g.last_now;
+          kept = g.kept;
+        }
 
 -- postings rise from a last one on, where there is one, and are in their ranges
 abbrev pub Rise : ℕ → ℕ → Bool → List Posting → Type 0
@@ -64,16 +64,15 @@ Rise docs last some (p ∷ ps) = (some ≡ true → last < p.doc) × (p.doc < do
 pub rise_there : (docs last : ℕ) (some : Bool) (ps : List Posting) → IsStrictlyIncreasing (docs_of ps) → All HasTfInRange ps → All (λ doc. doc < docs) (docs_of ps) → (some ≡ true → 0 < length ps → last < get_or (docs_of ps) 0 0) → Rise docs last some ps
 rise_there docs last some [] rising tf below above = tt
 rise_there docs last some (p ∷ ps) rising tf below above =
-    let size = length-map ps (λ (q : Posting). q.doc) in
-    (
+    let size = length-map ps (λ (q : Posting). q.doc) in (
       (λ is. above is (omega arith)),
       below 0 0 (omega arith),
       tf 0 p (omega arith),
       rise_there docs p.doc true ps
-      (λ k inside. let e : suc k + 1 ≡ suc (k + 1) = omega arith in subst (λ n. get_or (docs_of ps) k 0 < get_or (docs_of (p ∷ ps)) n 0) e (rising (suc k) (omega arith)))
-      (λ k d inside. tf (suc k) d (omega arith))
-      (λ k d inside. below (suc k) d (omega arith))
-      (λ is more. rising 0 (omega arith))
+          (λ k inside. let e : suc k + 1 ≡ suc (k + 1) = omega arith in subst (λ n. get_or (docs_of ps) k 0 < get_or (docs_of (p ∷ ps)) n 0) e (rising (suc k) (omega arith)))
+          (λ k d inside. tf (suc k) d (omega arith))
+          (λ k d inside. below (suc k) d (omega arith))
+          (λ is more. rising 0 (omega arith)),
     )
 
 judged_ok : (docs before : ℕ) (old : List Posting) (e : Entry) (p : Posting) → docs ≤ 2 ^ 26 → p.doc ≡ last_from 0 old + e.docid → p.tf ≡ e.tf → (nat_lt 0 (length old) ≡ true → last_from 0 old < p.doc) → p.doc < docs → HasTfInRange p → before + length old < 2 ^ 29 → judge docs before old e ≡ Ok p
@@ -87,10 +86,10 @@ judged_ok docs before old e p few doc tf above below range room =
     let f : nat_le docs (last_from 0 old + e.docid) ≡ false = grind (arith, nat_tests) in
     let g : nat_le (2 ^ 29) (before + length old) ≡ false = grind (arith, nat_tests) in
     rw (a, b, c, d, f, g) (ap (λ n. Ok (record { doc = n; tf = e.tf })) (sym doc) ∙ ap (λ n. Ok (record { doc = p.doc; tf = n })) (sym tf))
-    where
-      gap : (test : Bool) → nat_lt 0 (length old) ≡ test → (e.docid == 0 && test) ≡ false
-      gap true some = let rises = above some in grind (arith, nat_tests)
-      gap false none = grind (arith, nat_tests)
+  where
+    gap : (test : Bool) → nat_lt 0 (length old) ≡ test → (e.docid == 0 && test) ≡ false
+    gap true some = let rises = above some in grind (arith, nat_tests)
+    gap false none = grind (arith, nat_tests)
 
 module _ (laws : WireLaws) where
   pub gather_only : (docs before : ℕ) (bodies : List (List ℕ)) (entries : List PlacedEntry) (old more : List Posting) → docs ≤ 2 ^ 26 → AllZip IsEntryOf bodies entries → ArePostings (last_from 0 old) bodies more

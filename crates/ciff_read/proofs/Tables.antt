@@ -69,7 +69,7 @@ module _ {R X : Type 0} (f : R → X) where
   map-with table n r =
       let long : length (map (option_map f) table) ≡ length table = length-map table (option_map f) in
       let longer : map (option_map f) (reaching table n) ≡ reaching (map (option_map f) table) n =
-          map-append (option_map f) table (replicate (n + 1 - length table) None) ∙ ap (λ (t : List (Option X)). map (option_map f) table ++ t) (map-none (n + 1 - length table)) ∙ ap (λ k. map (option_map f) table ++ replicate (n + 1 - k) None) (sym long) in
+      map-append (option_map f) table (replicate (n + 1 - length table) None) ∙ ap (λ (t : List (Option X)). map (option_map f) table ++ t) (map-none (n + 1 - length table)) ∙ ap (λ k. map (option_map f) table ++ replicate (n + 1 - k) None) (sym long) in
       map-set_some (reaching table n) n r ∙ ap (λ (t : List (Option X)). set t n (Some (f r))) longer
 
   pub map-has : (table : List (Option R)) (n : ℕ) → has_value (map (option_map f) table) n ≡ has_value table n

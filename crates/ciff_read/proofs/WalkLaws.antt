@@ -82,10 +82,10 @@ module _ (laws : WireLaws) where
 
   entry_inside_found : (f : WireField) (at next : ℕ) (entries : List PlacedEntry) → entry_inside at next f ≡ Ok entries → AllZip IsEntryOf (texts_four f) entries
   entry_inside_found f at next entries is = go (f.number == 4) is
-      where
-        go : (test : Bool) → cond test (entry_in f.value at next) (Ok []) ≡ Ok entries → AllZip IsEntryOf (cond test (texts_in f.value) []) entries
-        go true is = entry_in_found f.value at next entries is
-        go false is = none_is entries is
+    where
+      go : (test : Bool) → cond test (entry_in f.value at next) (Ok []) ≡ Ok entries → AllZip IsEntryOf (cond test (texts_in f.value) []) entries
+      go true is = entry_in_found f.value at next entries is
+      go false is = none_is entries is
 
   pub entries_found : (k at : ℕ) (s : List ℕ) (w : Walked) → walk_within entry_inside k at s ≡ Ok w → length s ≤ k → AllZip IsEntryOf (texts_field 4 w.fields) w.entries
   entries_found k at [] w is enough = subst (λ (x : Walked). AllZip IsEntryOf (texts_field 4 x.fields) x.entries) (done_is nothing w (sym (no_field entry_inside k at) ∙ is)) tt
@@ -153,10 +153,10 @@ module _ (laws : WireLaws) where
 
   entry_inside_only : (f : WireField) (at next : ℕ) → AllByRecursion HasFields (texts_four f) → Found (entry_inside at next f) (texts_four f)
   entry_inside_only f at next have = go (f.number == 4) have
-      where
-        go : (test : Bool) → AllByRecursion HasFields (cond test (texts_in f.value) []) → Found (cond test (entry_in f.value at next) (Ok [])) (cond test (texts_in f.value) [])
-        go true have = entry_in_only f.value at next have
-        go false have = record { entries = []; found = refl; are = tt }
+    where
+      go : (test : Bool) → AllByRecursion HasFields (cond test (texts_in f.value) []) → Found (cond test (entry_in f.value at next) (Ok [])) (cond test (texts_in f.value) [])
+      go true have = entry_in_only f.value at next have
+      go false have = record { entries = []; found = refl; are = tt }
 
   all_parts : {X : Type 0} (P : X → Type 0) (xs ys : List X) → AllByRecursion P (xs ++ ys) → AllByRecursion P xs × AllByRecursion P ys
   all_parts P [] ys h = (tt, h)
@@ -182,7 +182,7 @@ module _ (laws : WireLaws) where
       record {
         entries = inner.entries ++ later.entries;
         walked = front entry_inside k at s is.0 is.1 f is.2 is.3
-        ∙ ap (λ (r : Result (List PlacedEntry) CiffRefusal). r >>= λ entries. walk_within entry_inside k next is.1 >>= λ later. Ok (in_front f entries later)) inner.found
-        ∙ ap (λ (r : Result Walked CiffRefusal). r >>= λ later. Ok (in_front f inner.entries later)) later.walked;
+            ∙ ap (λ (r : Result (List PlacedEntry) CiffRefusal). r >>= λ entries. walk_within entry_inside k next is.1 >>= λ later. Ok (in_front f entries later)) inner.found
+            ∙ ap (λ (r : Result Walked CiffRefusal). r >>= λ later. Ok (in_front f inner.entries later)) later.walked;
         are = subst (λ (ts : List (List ℕ)). AllZip IsEntryOf ts (inner.entries ++ later.entries)) (sym split) (zip-append IsEntryOf (texts_four f) inner.entries (texts_field 4 fields) later.entries inner.are later.are);
       }

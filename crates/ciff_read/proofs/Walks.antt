@@ -78,7 +78,7 @@ module _ (inside : ℕ → ℕ → WireField → Result (List PlacedEntry) CiffR
         let k : ℕ = w.left - 1 in
         let left : w.left ≡ suc k = omega (arith, w.enough) in
         let read : walk_within inside w.left at (drop at bytes) ≡ (walk_within inside k next (drop next bytes) >>= λ later. Ok (in_front f entries later)) =
-            front f before inside_bytes is k left ∙ ap (λ (e : Result (List PlacedEntry) CiffRefusal). e >>= λ entries. walk_within inside k next (drop next bytes) >>= λ later. Ok (in_front f entries later)) found in
+        front f before inside_bytes is k left ∙ ap (λ (e : Result (List PlacedEntry) CiffRefusal). e >>= λ entries. walk_within inside k next (drop next bytes) >>= λ later. Ok (in_front f entries later)) found in
         record {
           done = with_field w.done f entries;
           left = k;
@@ -87,11 +87,11 @@ module _ (inside : ℕ → ℕ → WireField → Result (List PlacedEntry) CiffR
           read = w.read ∙ ap (λ (r : Result Walked CiffRefusal). r >>= λ later. Ok (joined w.done later)) read ∙ reassoc w.done f entries (walk_within inside k next (drop next bytes));
           so_far = more w.done w.so_far;
         }
-        where
-          reassoc : (done : Walked) (f : WireField) (entries : List PlacedEntry) (r : Result Walked CiffRefusal)
-              → ((r >>= λ later. Ok (in_front f entries later)) >>= λ both. Ok (joined done both)) ≡ (r >>= λ later. Ok (joined (with_field done f entries) later))
-          reassoc done f entries (Ok x) = rw (append_assoc done.fields (f ∷ []) x.fields, append_assoc done.entries entries x.entries) refl
-          reassoc done f entries (Err r) = refl
+      where
+        reassoc : (done : Walked) (f : WireField) (entries : List PlacedEntry) (r : Result Walked CiffRefusal)
+            → ((r >>= λ later. Ok (in_front f entries later)) >>= λ both. Ok (joined done both)) ≡ (r >>= λ later. Ok (joined (with_field done f entries) later))
+        reassoc done f entries (Ok x) = rw (append_assoc done.fields (f ∷ []) x.fields, append_assoc done.entries entries x.entries) refl
+        reassoc done f entries (Err r) = refl
 
     -- a fault inside the field
     pub walks_into : (f : WireField) (refusal : CiffRefusal) → at < next → next ≤ length bytes → field_at (drop at bytes) ≡ Ok (f, drop next bytes) → inside at next f ≡ Err refusal → walk inside from (drop from bytes) ≡ Err refusal
@@ -99,7 +99,7 @@ module _ (inside : ℕ → ℕ → WireField → Result (List PlacedEntry) CiffR
         let k : ℕ = w.left - 1 in
         let left : w.left ≡ suc k = omega (arith, w.enough) in
         let read : walk_within inside w.left at (drop at bytes) ≡ Err refusal =
-            front f before inside_bytes is k left ∙ ap (λ (e : Result (List PlacedEntry) CiffRefusal). e >>= λ entries. walk_within inside k next (drop next bytes) >>= λ later. Ok (in_front f entries later)) found in
+        front f before inside_bytes is k left ∙ ap (λ (e : Result (List PlacedEntry) CiffRefusal). e >>= λ entries. walk_within inside k next (drop next bytes) >>= λ later. Ok (in_front f entries later)) found in
         w.read ∙ ap (λ (r : Result Walked CiffRefusal). r >>= λ later. Ok (joined w.done later)) read
 
     -- what a function answers for what is inside the field

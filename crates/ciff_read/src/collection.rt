@@ -1,4 +1,5 @@
-ghost use Rattle.std.specs.Prelude.{◌≡◌, ◌≤◌, ◌^◌, [], length, drop, All, AllPairs, IfOk};
+ghost use Rattle.std.specs.Prelude.{◌≡◌, ◌≤◌, ◌^◌, Ok, [], length, drop, All, AllPairs, IfOk};
+ghost use Rattle.jass_base.specs.Ciff.{CollectionData, IsCiff};
 ghost use Rattle.jass_base.specs.CiffViews.{collection_data};
 ghost use Rattle.jass_base.specs.Lists.{HasDocsBelow, DifferInTerm};
 ghost use Rattle.ciff_read.specs.Counts.{posting_count};
@@ -9,6 +10,7 @@ ghost use Rattle.ciff_read.specs.Refusals.{Gives};
 use crate::document::read_document;
 use crate::documents::Documents;
 use crate::header::read_header;
+use crate::laws::files_are_read;
 use crate::message::read_length;
 use crate::postings_list::read_list;
 use crate::refusal::{CiffFault, CiffWhy, refused};
@@ -16,10 +18,25 @@ use indexmap::IndexSet;
 use jass_base::{Collection, DocRecord, PostingsList, Row};
 use std::alloc::Global;
 
-/// Reads a whole CIFF file.
+/// Reads a whole CIFF file: the collection exactly where the bytes stand for one, else the
+/// first refusal in the order of the format, with its place. Memory may be refused instead.
 pub fn read_collection(alloc: Global, bytes: &[u8]) -> Result<Collection, CiffFault>
+<<<<<<< HEAD
     ensures exact { Gives collection_data result (read_ciff bytes.now) }
     ensures few { IfOk result (λ collection. posting_count collection.lists ≤ 2 ^ 29) }
+=======
+    ensures accepted { IfOk result (λ c. IsCiff bytes.now (collection_data c)) }
+    ensures only { (c : CollectionData) → IsCiff bytes.now c → Gives collection_data result (Ok c) }
+    ensures exact { Gives collection_data result (read_ciff bytes.now) }
+{
+    files_are_read();
+    read_messages(alloc, bytes)
+}
+
+/// Reads the messages of a file, one after the other.
+fn read_messages(alloc: Global, bytes: &[u8]) -> Result<Collection, CiffFault>
+    ensures { Gives collection_data result (read_ciff bytes.now) }
+>>>>>>> daa67dad3c66b213b5963921880a3868834aef9b
 {
     let body = match read_length(bytes, 0) {
         Ok(body) => body,

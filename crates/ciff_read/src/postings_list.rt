@@ -135,12 +135,7 @@ fn walk_list<'a>(
 }
 
 /// Reads the posting of the field at `at`, where it is one.
-fn gather(
-    bytes: &[u8],
-    at: usize,
-    field: &Field,
-    gathered: &mut Gathered,
-) -> Result<(), CiffFault>
+fn gather(bytes: &[u8], at: usize, field: &Field, gathered: &mut Gathered) -> Result<(), CiffFault>
     requires value { IsWithin field.now.value field.now.next }
     requires within { field.now.next ≤ length bytes.now }
     ensures read { GathersField bytes.now at field.now result gathered.old gathered.new }

@@ -1,5 +1,5 @@
--- What the functions below `grade` look at. That it decides what a grade is, for all gains, is proved: nobody needs to
--- believe it.
+-- What the functions below `grade` look at; this project's. That it decides what a grade is, for all gains, is proved: nobody needs
+-- to believe it.
 use Rattle.std.specs.Prelude.{ℕ, ◌+◌, ◌&&◌, Bool, true, List, [], ◌∷◌, Option, Some, None, length, nat_lt, if◌then◌else◌}
 use Rattle.std.specs.Ordering.{is_lt}
 use Rattle.std.specs.Option.{is_none}

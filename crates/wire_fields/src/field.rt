@@ -76,6 +76,7 @@ impl Field {
 /// Reads the field at a place of a message's body. None exactly at its end. A fault's place
 /// is the field's first byte. Faults are looked for in the tag's varint, then the field
 /// number, then the wire type, then the value.
+#[inline(always)]
 pub fn next_field(bytes: &[u8], at: usize) -> Result<Option<Field>, WireFault>
     requires { at ≤ length bytes.now }
     ensures { ReadsField bytes.now at result }
@@ -105,6 +106,7 @@ pub fn next_field(bytes: &[u8], at: usize) -> Result<Option<Field>, WireFault>
 }
 
 /// Reads the value of a wire type, and gives the place behind it.
+#[inline(always)]
 fn read_value(bytes: &[u8], from: usize, wire: u64) -> Result<(Value, usize), WireWhy>
     requires { from ≤ length bytes.now }
     ensures { ReadsValue wire bytes.now from result }

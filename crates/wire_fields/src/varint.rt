@@ -8,6 +8,7 @@ use crate::fault::{WireFault, WireWhy};
 ///
 /// Cut where the bytes end before a byte without the top bit, unless a tenth byte above 1
 /// stands there, which is a LongVarint.
+#[inline(always)]
 pub fn read_varint(bytes: &[u8], at: usize) -> Result<(u64, usize), WireFault>
     ensures { ReadsVarint bytes.now at result }
 {
@@ -25,6 +26,7 @@ pub fn read_varint(bytes: &[u8], at: usize) -> Result<(u64, usize), WireFault>
 }
 
 /// Reads a varint group by group.
+#[inline(never)]
 fn read_groups(bytes: &[u8], at: usize) -> Result<(u64, usize), WireFault>
     requires { at < length bytes.now }
     ensures { ReadsVarint bytes.now at result }

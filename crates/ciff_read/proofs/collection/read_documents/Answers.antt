@@ -35,8 +35,8 @@ documents-preserved c =
     let rest = drop c.in-Ok.body.end c.args.bytes.now in
     record {
       read = docs_on total (c.args.count - c.documents.counter) c.args.count (table_of c.documents.documents) c.documents.at (drop c.documents.at c.args.bytes.now) c.documents.invariant.read left more (message_in c.args.bytes.now c.in-Ok.body) c.in-Ok.ensures.0 x put.1
-      ∙ ap (λ n. docs_at left c.args.count (with_value (table_of c.documents.documents) x.number x.doc) n rest) (end_there c.args.bytes.now c.in-Ok.body c.in-Ok.ensures.2)
-      ∙ ap (λ (t : List (Option DocData)). docs_at left c.args.count t c.in-Ok.body.end rest) (sym put.2);
+          ∙ ap (λ n. docs_at left c.args.count (with_value (table_of c.documents.documents) x.number x.doc) n rest) (end_there c.args.bytes.now c.in-Ok.body c.in-Ok.ensures.2)
+          ∙ ap (λ (t : List (Option DocData)). docs_at left c.args.count t c.in-Ok.body.end rest) (sym put.2);
       within = c.in-Ok.ensures.2;
       count = c.in-Ok-read_document.ensures.one ∙ omega (arith, c.documents.invariant.count);
     }

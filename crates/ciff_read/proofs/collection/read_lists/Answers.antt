@@ -30,10 +30,10 @@ lists-preserved c =
     let front = map list_data lists in
     record {
       read = lists_on total (c.args.count - c.lists.counter) c.args.docs before keys c.lists.at (drop c.lists.at c.args.bytes.now) front c.lists.invariant.read left more (message_in c.args.bytes.now c.in-Ok.body) c.in-Ok.ensures.0 (list_data list) c.in-Ok-read_list.ensures.exact
-      ∙ ap (λ n. with_lists (front ++ list_data list ∷ []) (lists_at left c.args.docs (before + length list.postings) (keys ++ list.term ∷ []) n rest)) (end_there c.args.bytes.now c.in-Ok.body c.in-Ok.ensures.2)
-      ∙ ap (λ n. with_lists (front ++ list_data list ∷ []) (lists_at left c.args.docs (before + n) (keys ++ list.term ∷ []) c.in-Ok.body.end rest)) (sym c.len.ensures)
-      ∙ ap (λ (ts : List (List ℕ)). with_lists (front ++ list_data list ∷ []) (lists_at left c.args.docs (before + c.len.result) ts c.in-Ok.body.end rest)) (sym c.in-Ok-read_list.ensures.terms)
-      ∙ ap (λ (ls : List ListData). with_lists ls (lists_at left c.args.docs (before + c.len.result) (map (λ t. t.now) c.read_list.new.terms.keys) c.in-Ok.body.end rest)) (sym (map-append list_data lists (list ∷ [])) ∙ ap (λ (ls : List PostingsList). map list_data ls) (sym put));
+          ∙ ap (λ n. with_lists (front ++ list_data list ∷ []) (lists_at left c.args.docs (before + length list.postings) (keys ++ list.term ∷ []) n rest)) (end_there c.args.bytes.now c.in-Ok.body c.in-Ok.ensures.2)
+          ∙ ap (λ n. with_lists (front ++ list_data list ∷ []) (lists_at left c.args.docs (before + n) (keys ++ list.term ∷ []) c.in-Ok.body.end rest)) (sym c.len.ensures)
+          ∙ ap (λ (ts : List (List ℕ)). with_lists (front ++ list_data list ∷ []) (lists_at left c.args.docs (before + c.len.result) ts c.in-Ok.body.end rest)) (sym c.in-Ok-read_list.ensures.terms)
+          ∙ ap (λ (ls : List ListData). with_lists ls (lists_at left c.args.docs (before + c.len.result) (map (λ t. t.now) c.read_list.new.terms.keys) c.in-Ok.body.end rest)) (sym (map-append list_data lists (list ∷ [])) ∙ ap (λ (ls : List PostingsList). map list_data ls) (sym put));
       within = c.in-Ok.ensures.2;
       few = omega (arith, c.in-Ok-read_list.ensures.few, c.len.ensures);
       counted = count_more lists c.push.new.self list c.lists.before c.len.result put c.lists.invariant.counted c.len.ensures;
@@ -73,9 +73,9 @@ lists-init c =
     let all : c.args.count ≡ c.args.count - 0 = omega arith in
     record {
       read = no_lists total
-      ∙ ap (λ n. with_lists [] (lists_at n c.args.docs 0 [] c.args.from s)) all
-      ∙ ap (λ (ts : List (List ℕ)). with_lists [] (lists_at (c.args.count - 0) c.args.docs 0 ts c.args.from s)) (sym no_keys)
-      ∙ ap (λ (ls : List PostingsList). with_lists (map list_data ls) (lists_at (c.args.count - 0) c.args.docs 0 keys c.args.from s)) (sym none);
+          ∙ ap (λ n. with_lists [] (lists_at n c.args.docs 0 [] c.args.from s)) all
+          ∙ ap (λ (ts : List (List ℕ)). with_lists [] (lists_at (c.args.count - 0) c.args.docs 0 ts c.args.from s)) (sym no_keys)
+          ∙ ap (λ (ls : List PostingsList). with_lists (map list_data ls) (lists_at (c.args.count - 0) c.args.docs 0 keys c.args.from s)) (sym none);
       within = c.requires.from;
       few = omega arith;
       counted = count_none c.new-lists.result none;

@@ -20,7 +20,7 @@ fields-preserved c =
     walks_on nothing_inside bytes c.args.from c.fields.at field.next (IsEntry c.fields.entry) c.fields.invariant f [] (IsEntry (record { docid = c.number_or.result; tf = c.number_or-in-Ok-Some.result })) reads.1 reads.2 reads.0 refl
     (λ done was. (
       number_more 1 done.fields f c.fields.entry.docid c.number_or.result was.0 (c.number_or.ensures bytes),
-      number_more 2 done.fields f c.fields.entry.tf c.number_or-in-Ok-Some.result was.1 (c.number_or-in-Ok-Some.ensures bytes)
+      number_more 2 done.fields f c.fields.entry.tf c.number_or-in-Ok-Some.result was.1 (c.number_or-in-Ok-Some.ensures bytes),
     ))
 
 pub returns-in-Ok-None : goal.returns-in-Ok-None

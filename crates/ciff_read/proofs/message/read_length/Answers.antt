@@ -25,9 +25,8 @@ returns-then-length-bytes c =
 
 pub returns : goal.returns
 returns c =
-    let e = c.in-Ok.ensures in
-    (
+    let e = c.in-Ok.ensures in (
       message_there c.args.bytes.now c.args.at c.in-Ok.read.1 c.in-Ok.read.0 e.0 e.1 e.2 (omega (arith, c.if-from-gt-FILE_LIMIT.false, c.if-length-from.false)) c.if-length-bytes.false,
       omega (arith, e.1),
-      omega (arith, e.2, c.if-length-bytes.false)
+      omega (arith, e.2, c.if-length-bytes.false),
     )

@@ -32,14 +32,14 @@ fields-preserved c =
     let gathered : gathered_of c.gather.new.gathered ≡ fold (gather start.docs start.before) (gathered_of old) g.entries = g.gathered ∙ ap (λ d. fold (gather d old.before) (gathered_of old) g.entries) v.docs ∙ ap (λ b. fold (gather start.docs b) (gathered_of old) g.entries) v.before in
     record {
       walks = walks_on entry_inside bytes c.args.from c.fields.at c.in-Ok-Some.field.next _ v.walks f g.entries _ reads.1 reads.2 reads.0 g.read
-      (λ done was. (
-        (
-          text_more 1 done.fields f c.fields.fields.term.now c.bytes_or-fields.result.now was.0.0 c.bytes_or-fields.ensures,
-          number_more 2 done.fields f c.fields.fields.df c.number_or.result was.0.1 (c.number_or.ensures bytes),
-          number_more 3 done.fields f c.fields.fields.cf c.number_or-in-Ok-Some.result was.0.2 (c.number_or-in-Ok-Some.ensures bytes)
-        ),
-        gathers_more start.docs start.before (gathered_of start) (gathered_of old) (gathered_of c.gather.new.gathered) done.entries g.entries was.1 gathered
-      ));
+          (λ done was. (
+            (
+              text_more 1 done.fields f c.fields.fields.term.now c.bytes_or-fields.result.now was.0.0 c.bytes_or-fields.ensures,
+              number_more 2 done.fields f c.fields.fields.df c.number_or.result was.0.1 (c.number_or.ensures bytes),
+              number_more 3 done.fields f c.fields.fields.cf c.number_or-in-Ok-Some.result was.0.2 (c.number_or-in-Ok-Some.ensures bytes),
+            ),
+            gathers_more start.docs start.before (gathered_of start) (gathered_of old) (gathered_of c.gather.new.gathered) done.entries g.entries was.1 gathered,
+          ));
       docs = c.in-Ok.ensures.docs ∙ v.docs;
       before = c.in-Ok.ensures.before ∙ v.before;
     }
