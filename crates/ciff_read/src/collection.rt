@@ -21,13 +21,10 @@ use std::alloc::Global;
 /// Reads a whole CIFF file: the collection exactly where the bytes stand for one, else the
 /// first refusal in the order of the format, with its place. Memory may be refused instead.
 pub fn read_collection(alloc: Global, bytes: &[u8]) -> Result<Collection, CiffFault>
-<<<<<<< HEAD
-    ensures exact { Gives collection_data result (read_ciff bytes.now) }
-    ensures few { IfOk result (λ collection. posting_count collection.lists ≤ 2 ^ 29) }
-=======
     ensures accepted { IfOk result (λ c. IsCiff bytes.now (collection_data c)) }
     ensures only { (c : CollectionData) → IsCiff bytes.now c → Gives collection_data result (Ok c) }
     ensures exact { Gives collection_data result (read_ciff bytes.now) }
+    ensures few { IfOk result (λ c. posting_count c.lists ≤ 2 ^ 29) }
 {
     files_are_read();
     read_messages(alloc, bytes)
@@ -35,8 +32,8 @@ pub fn read_collection(alloc: Global, bytes: &[u8]) -> Result<Collection, CiffFa
 
 /// Reads the messages of a file, one after the other.
 fn read_messages(alloc: Global, bytes: &[u8]) -> Result<Collection, CiffFault>
-    ensures { Gives collection_data result (read_ciff bytes.now) }
->>>>>>> daa67dad3c66b213b5963921880a3868834aef9b
+    ensures exact { Gives collection_data result (read_ciff bytes.now) }
+    ensures few { IfOk result (λ c. posting_count c.lists ≤ 2 ^ 29) }
 {
     let body = match read_length(bytes, 0) {
         Ok(body) => body,
