@@ -1,11 +1,10 @@
 -- A term's number is its place: the flat list by number.
-use Rattle.std.proofs.Common.{◌≡◌, ◌≢◌, ℕ, zero, suc, ◌+◌, ◌<◌, ◌≤◌, List, [], ◌∷◌, ◌++◌, map, filter, not, length, get_or, Bool, true, false, true≢false, cond, refl, sym, ap, ap₂, ◌∙◌, subst, arith, append_assoc, length-append, add-one}
-use Rattle.std.specs.Prelude.{⊤, All, AllPairs, bytes_eq, unwrap_or, position, nat_lt, Some, None}
-use Rattle.std.specs.List.{AllByRecursion, flat_map, position_or_len}
+use Rattle.std.proofs.Common.{◌≡◌, ◌≢◌, ℕ, suc, ◌+◌, ◌<◌, ◌≤◌, List, [], ◌∷◌, ◌++◌, map, filter, not, length, get_or, Bool, true, false, true≢false, refl, sym, ap, ap₂, ◌∙◌, subst, arith, append_assoc, length-append, add-one}
+use Rattle.std.specs.Prelude.{AllPairs, bytes_eq}
+use Rattle.std.specs.List.{AllByRecursion}
 use Rattle.std.specs.Ordering.{is_lt, nat_cmp}
 use Rattle.std.specs.Cmp.Lexicographic.{slice_cmp}
 use Rattle.std.proofs.lemmas.Cmp.{nat_list_cmp_total, tied_itself}
-use Rattle.std.proofs.lemmas.Bool.Decides.{nat_tests}
 use Rattle.std.proofs.lemmas.Slice.Eq.{bytes_eq-Decides}
 use Rattle.std.proofs.lemmas.List.{get_or_at, map-append, length_push}
 use Rattle.std.proofs.lemmas.List.Sums.{position_or_len_is}
@@ -16,7 +15,7 @@ use Rattle.jass_base.specs.Terms.{RisesTo}
 use Rattle.ranking_model.specs.declared.entry.Entry.{Entry}
 use Rattle.ranking_model.specs.Flat.{terms_of, number_of, numbered}
 use Rattle.impact_segments.specs.Flat.{doc_entries, segment_entries, term_entries, flat_of_terms, numbered_from}
-use Rattle.impact_segments.proofs.Lists.{Pairs, pairs_by_recursion, pairs_by_places, all_weaker, all_append, all_map, all_flat, pairs_weaker, pairs_map}
+use Rattle.impact_segments.proofs.Lists.{Pairs, pairs_by_recursion, pairs_by_places, all_append, pairs_weaker, pairs_map}
 
 abbrev pub texts_of : List TermSegments → List (List ℕ)
 texts_of terms = map (λ (t : TermSegments). t.term) terms

@@ -1,6 +1,6 @@
 -- The lists' entries, list by list in the order of terms, are the one sorted list of the definition.
-use Rattle.std.proofs.Common.{◌≡◌, ◌≢◌, ℕ, zero, suc, ◌+◌, ◌<◌, ◌≤◌, ◌^◌, List, [], ◌∷◌, ◌++◌, map, filter, length, Bool, true, false, true≢false, cond, refl, sym, ap, ap₂, ◌∙◌, subst, arith, append_assoc, append-nil, ◌⊎◌, inl, inr}
-use Rattle.std.specs.Prelude.{⊤, All, AllPairs, nat_lt}
+use Rattle.std.proofs.Common.{◌≡◌, ℕ, suc, ◌≤◌, List, [], ◌∷◌, ◌++◌, map, filter, length, Bool, true, false, true≢false, refl, sym, ap, ap₂, ◌∙◌, subst, arith, ◌⊎◌, inl, inr}
+use Rattle.std.specs.Prelude.{All, AllPairs, nat_lt}
 use Rattle.std.specs.List.{AllByRecursion, flat_map}
 use Rattle.std.specs.declared.cmp.Ordering.{Ordering}
 use Rattle.std.specs.declared.cmp.Ordering.TheVariants.{Less, Equal, Greater}
@@ -31,7 +31,7 @@ use Rattle.impact_segments.proofs.Sorting.{Ascends, level, same_ranks, sorted_as
 use Rattle.impact_segments.specs.Collections.{posting_weight, list_weights, list_entries, index_of}
 use Rattle.impact_segments.specs.Flat.{flat_of_terms}
 use Rattle.impact_segments.specs.Listed.{has_postings, term_cmp}
-use Rattle.impact_segments.proofs.Lists.{Pairs, pairs_by_recursion, pairs_by_places, all_append, all_weaker, all_map, pairs_both, pairs_weaker, pairs_sorted, pairs_map, pairs_unmap}
+use Rattle.impact_segments.proofs.Lists.{Pairs, pairs_by_recursion, pairs_by_places, all_append, all_weaker, pairs_both, pairs_weaker, pairs_sorted, pairs_map, pairs_unmap}
 use Rattle.impact_segments.proofs.Orders.{entry_total, term_total, term_same, strictly}
 use Rattle.impact_segments.proofs.OneTerm.{length_sorted}
 

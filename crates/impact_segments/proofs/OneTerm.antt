@@ -1,10 +1,10 @@
 -- A term's segments from its list, and the terms from the lists.
-use Rattle.std.proofs.Common.{◌≡◌, ◌≢◌, ℕ, zero, suc, ◌+◌, ◌<◌, ◌≤◌, max, List, [], ◌∷◌, ◌++◌, map, length, get_or, drop, Bool, true, false, refl, sym, ap, ap₂, ◌∙◌, subst, arith, append-nil, append_assoc, length-append}
-use Rattle.std.specs.Prelude.{⊤, All, AllPairs}
+use Rattle.std.proofs.Common.{◌≡◌, ℕ, suc, ◌+◌, ◌<◌, ◌≤◌, max, List, [], ◌∷◌, ◌++◌, map, length, get_or, drop, Bool, true, false, refl, sym, ap, ap₂, ◌∙◌, subst, arith, append-nil, append_assoc}
+use Rattle.std.specs.Prelude.{All}
 use Rattle.std.specs.List.{AllByRecursion, flat_map}
 use Rattle.std.specs.List.Sorted.{IsStrictlyIncreasing}
 use Rattle.std.specs.declared.cmp.Ordering.{Ordering}
-use Rattle.std.specs.Ordering.{is_gt, nat_cmp, ordering_then}
+use Rattle.std.specs.Ordering.{is_gt, nat_cmp}
 use Rattle.std.specs.Cmp.Lexicographic.{slice_cmp}
 use Rattle.std.proofs.lemmas.Cmp.{nat_list_cmp_total, tied_itself}
 use Rattle.std.proofs.lemmas.List.{length-map, map-append, get_or-map, drop_more}
@@ -30,10 +30,10 @@ use Rattle.ranking_model.specs.Order.{placed, sorted}
 use Rattle.ranking_model.specs.Flat.{entry_cmp}
 use Rattle.impact_segments.proofs.Sorting.{all_sorted}
 use Rattle.impact_segments.specs.Collections.{posting_weight, list_entries}
-use Rattle.impact_segments.specs.Flat.{doc_entries, segment_entries, term_entries, flat_of_terms}
+use Rattle.impact_segments.specs.Flat.{term_entries, flat_of_terms}
 use Rattle.impact_segments.specs.Listed.{lists_behind}
 use Rattle.impact_segments.specs.Pairs.{pair_cmp, pairs_of, pair_docs, list_pairs}
-use Rattle.impact_segments.proofs.Lists.{Pairs, pairs_by_recursion, all_unmap, all_map, all_parts, all_weaker, map_sorted}
+use Rattle.impact_segments.proofs.Lists.{Pairs, pairs_by_recursion, all_unmap, all_parts, all_weaker, map_sorted}
 use Rattle.impact_segments.proofs.Orders.{pair_total}
 
 pub all_map_at : {A B : Type 0} (P : B → Type 0) (f : A → B) (xs : List A) (i : ℕ) (d : A) → i < length xs → All P (map f xs) → P (f (get_or xs i d))

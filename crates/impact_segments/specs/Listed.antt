@@ -1,5 +1,5 @@
 -- The lists of a collection in the order of an index.
-use Rattle.std.specs.Prelude.{ℕ, List, map, length, Bool, nat_lt}
+use Rattle.std.specs.Prelude.{List, map, length, Bool, nat_lt}
 use Rattle.std.specs.declared.cmp.Ordering.{Ordering}
 use Rattle.std.specs.Ordering.{nat_cmp}
 use Rattle.std.specs.Cmp.Lexicographic.{slice_cmp}

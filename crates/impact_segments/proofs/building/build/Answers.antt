@@ -1,11 +1,10 @@
 -- The lists in order give the terms, and the terms the flat list.
-use Rattle.std.proofs.Common.{◌≡◌, ℕ, ◌≤◌, ◌^◌, List, map, filter, length, sym, subst, ap, ◌∙◌, arith}
+use Rattle.std.proofs.Common.{◌≡◌, ℕ, ◌≤◌, List, map, filter, length, sym, subst, ap, ◌∙◌, arith}
 use Rattle.std.specs.Prelude.{All}
 use Rattle.std.proofs.lemmas.List.{length-map}
 use denote.Ref.{Bor}
 use Rattle.jass_base.specs.declared.doc_record.DocRecord.{DocRecord}
 use Rattle.jass_base.specs.declared.postings_list.PostingsList.{PostingsList}
-use Rattle.jass_base.specs.declared.term_segments.TermSegments.{TermSegments}
 use Rattle.jass_base.specs.Lists.{HasDocsBelow}
 use Rattle.jass_base.specs.Terms.{HasTermBelow, greatest_impact}
 use Rattle.weights.specs.Quantizing.{IsInRange}

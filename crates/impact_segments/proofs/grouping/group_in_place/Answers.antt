@@ -1,5 +1,5 @@
 -- The pairs in order follow one another.
-use Rattle.std.proofs.Common.{◌≡◌, ℕ, ◌≤◌, List, ◌∙◌, sym, subst}
+use Rattle.std.proofs.Common.{ℕ, ◌≤◌, List, ◌∙◌, sym, subst}
 use Rattle.std.specs.Prelude.{All, AllPairs}
 use Rattle.impact_segments.specs.Pairs.{Follows}
 use Rattle.impact_segments.proofs.Cutting.{sorted_follows, sorted_positive}

@@ -2,7 +2,6 @@
 use Rattle.std.proofs.Common.{ℕ, ◌≤◌, List, length, sym, subst}
 use Rattle.std.proofs.lemmas.List.{length-map}
 use Rattle.std.specs.List.Sorted.{IsStrictlyIncreasing}
-use Rattle.impact_segments.specs.Pairs.{pair_docs}
 use Rattle.impact_segments.proofs.grouping.segment_of.Goals as goal
 
 pub invariant_of-result : goal.invariant_of-result

@@ -1,5 +1,5 @@
 -- The sort is stable, so it leaves what sorting by insertion leaves.
-use Rattle.std.proofs.Common.{◌≡◌, rules, ℕ, List, Bool, refl, ap, ◌∙◌}
+use Rattle.std.proofs.Common.{rules, List, refl, ap, ◌∙◌}
 use Rattle.std.specs.declared.cmp.Ordering.{Ordering}
 use Rattle.std.specs.Ordering.{is_lt}
 use Rattle.std.specs.Cmp.{IsTotalOrder, IsStrictWeakOrder}

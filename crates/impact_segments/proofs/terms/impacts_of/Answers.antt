@@ -1,9 +1,9 @@
 -- Each posting gives one pair more.
-use Rattle.std.proofs.Common.{◌≡◌, ℕ, ◌<◌, List, map, length, get_or, sym, subst, ap, ◌∙◌}
+use Rattle.std.proofs.Common.{ℕ, List, map, sym, subst}
 use Rattle.std.specs.Prelude.{All}
 use Rattle.jass_base.specs.declared.posting.Posting.{Posting}
 use Rattle.weights.specs.Quantizing.{IsInRange}
-use Rattle.impact_segments.specs.Collections.{posting_weight, list_weights}
+use Rattle.impact_segments.specs.Collections.{posting_weight}
 use Rattle.impact_segments.proofs.OneTerm.{all_map_at, paired_more}
 use Rattle.impact_segments.proofs.terms.impacts_of.Goals as goal
 

@@ -1,4 +1,4 @@
-use Rattle.std.proofs.Common.{ℕ, drop, length}
+use Rattle.std.proofs.Common.{drop, length}
 use Rattle.std.specs.Ordering.{nat_cmp}
 use Rattle.std.specs.Cmp.Lexicographic.{slice_cmp}
 use Rattle.jass_base.specs.declared.postings_list.PostingsList.{PostingsList}

@@ -1,4 +1,4 @@
-use Rattle.std.proofs.Common.{◌≡◌, ◌+◌, ◌*◌, ◌≤◌, ◌^◌, take, sum}
+use Rattle.std.proofs.Common.{◌≡◌, ◌*◌, ◌≤◌, ◌^◌, take, sum}
 use Rattle.impact_segments.specs.Collections.{lengths_of}
 use Rattle.impact_segments.proofs.weighing.total_length.Given as goal
 

@@ -1,5 +1,5 @@
 -- The posting is one of the list, whose documents are below the number of documents.
-use Rattle.std.proofs.Common.{◌≡◌, ℕ, ◌≤◌, ◌<◌, ◌^◌, length, ◌∙◌, sym, arith}
+use Rattle.std.proofs.Common.{◌≤◌, ◌<◌, ◌^◌, length, ◌∙◌, arith}
 use Rattle.weights.specs.Weighting.{weight_of}
 use Rattle.impact_segments.proofs.Weights.{few_postings, its_doc, its_length}
 use Rattle.impact_segments.proofs.weighing.Weigher.weigh.Goals as goal
