@@ -18,7 +18,8 @@ returns c =
     let bytes = c.args.bytes.now in
     let result = c.read_messages.result in
     record {
-      accepted = stands bytes result (c.files_are_read.ensures.found bytes) c.read_messages.ensures;
-      only = λ x is. subst (λ (read : Result CollectionData CiffRefusal). Gives collection_data result read) (c.files_are_read.ensures.only bytes x is) c.read_messages.ensures;
-      exact = c.read_messages.ensures;
+      accepted = stands bytes result (c.files_are_read.ensures.found bytes) c.read_messages.ensures.exact;
+      only = λ x is. subst (λ (read : Result CollectionData CiffRefusal). Gives collection_data result read) (c.files_are_read.ensures.only bytes x is) c.read_messages.ensures.exact;
+      exact = c.read_messages.ensures.exact;
+      few = c.read_messages.ensures.few;
     }
