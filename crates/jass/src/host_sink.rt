@@ -15,6 +15,11 @@ impl<W: Write + Drop> HostSink<W> {
     pub fn new(inner: W) -> HostSink<W> {
         HostSink { inner, faults: 0 }
     }
+
+    #[cfg(test)]
+    pub fn inner(&self) -> &W {
+        &self.inner
+    }
 }
 
 impl<W: Write + Drop> Sink for HostSink<W> {

@@ -11,6 +11,8 @@ use std::sync::ledger::{Blank, Ledger};
 mod host_cabinet;
 mod host_feed;
 mod host_sink;
+#[cfg(test)]
+mod tests;
 mod words;
 
 ghost use Rattle.std.specs.Prelude.{◌≡◌, ◌<◌};
