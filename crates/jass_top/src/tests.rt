@@ -46,6 +46,15 @@ const LATER_FIRST: [u8; 64] = [
     0x06, 0x12, 0x02, 0x64, 0x30, 0x18, 0x03, 0x08, 0x08, 0x01, 0x12, 0x02, 0x64, 0x31, 0x18, 0x03,
 ];
 
+/// Documents d0 and d1; `p`: (0,2), (1,3); `q`: (0,1).
+const LEVEL_AT_LAST: [u8; 68] = [
+    0x15, 0x08, 0x01, 0x10, 0x02, 0x18, 0x02, 0x20, 0x02, 0x28, 0x02, 0x30, 0x06, 0x39, 0x00, 0x00,
+    0x00, 0x00, 0x00, 0x00, 0x08, 0x40, 0x11, 0x0a, 0x01, 0x70, 0x10, 0x02, 0x18, 0x05, 0x22, 0x02,
+    0x10, 0x02, 0x22, 0x04, 0x08, 0x01, 0x10, 0x03, 0x0b, 0x0a, 0x01, 0x71, 0x10, 0x01, 0x18, 0x01,
+    0x22, 0x02, 0x10, 0x01, 0x06, 0x12, 0x02, 0x64, 0x30, 0x18, 0x03, 0x08, 0x08, 0x01, 0x12, 0x02,
+    0x64, 0x31, 0x18, 0x03,
+];
+
 /// What a run left.
 #[derive(Drop)]
 struct Left {
@@ -108,7 +117,10 @@ fn parted(alloc: Global, line: &str) -> Result<Vec<String>, AllocError> {
 
 #[test]
 fn answers_are_printed(rt: HostRuntime) {
-    let table: [(&[u8], &str, &[u8]); 10] = [
+    let mut earlier_first = LATER_FIRST;
+    earlier_first[25] = b'q';
+    earlier_first[39] = b'p';
+    let table: [(&[u8], &str, &[u8]); 15] = [
         (
             &ONE_TERM,
             "once b.ciff 3 all a",
@@ -138,6 +150,31 @@ fn answers_are_printed(rt: HostRuntime) {
             &TWO_TERMS,
             "once b.ciff 2 2 cat dog",
             b"q postings 2 segments 2 of 4 cutoff 3 next 2 bound 3 unknown 0 open\nq Q0 d0 1 3 jass\nq Q0 d2 2 3 jass\n",
+        ),
+        (
+            &ONE_TERM,
+            "once b.ciff 1 1 a",
+            b"q postings 1 segments 1 of 3 cutoff 9 next 5 bound 5 unknown 0 final\nq Q0 d0 1 9 jass\n",
+        ),
+        (
+            &ONE_TERM,
+            "once b.ciff 3 2 a",
+            b"q postings 2 segments 2 of 3 cutoff 5 next 1 bound 1 unknown 0 open\nq Q0 d0 1 9 jass\nq Q0 d1 2 5 jass\n",
+        ),
+        (
+            &ONE_TERM,
+            "once b.ciff 2 2 a",
+            b"q postings 2 segments 2 of 3 cutoff 5 next 1 bound 1 unknown 0 final\nq Q0 d0 1 9 jass\nq Q0 d1 2 5 jass\n",
+        ),
+        (
+            &earlier_first,
+            "once b.ciff 1 1 p q",
+            b"q postings 1 segments 1 of 2 cutoff 3 next 3 bound 3 unknown 0 final\nq Q0 d0 1 3 jass\n",
+        ),
+        (
+            &LEVEL_AT_LAST,
+            "once b.ciff 2 2 p q",
+            b"q postings 2 segments 2 of 3 cutoff 2 next 1 bound 1 unknown 0 set\nq Q0 d1 1 3 jass\nq Q0 d0 2 2 jass\n",
         ),
         (
             &LATER_FIRST,
