@@ -3,7 +3,7 @@ use Rattle.std.specs.Prelude.{ℕ, ◌≡◌, ⊤, Result, Ok, Err}
 use Rattle.wire_fields.specs.declared.fault.WireWhy.{WireWhy}
 use Rattle.wire_fields.specs.declared.fault.WireWhy.TheVariants as wire
 use Rattle.ciff_read.specs.declared.refusal.CiffWhy.{CiffWhy}
-use Rattle.ciff_read.specs.declared.refusal.CiffWhy.TheVariants.{Cut, Varint, Wire}
+use Rattle.ciff_read.specs.declared.refusal.CiffWhy.TheVariants.{Cut, Varint, Wire, Range, Text, Gap, DocRange, Tf, TermTwice, DocTwice, NameText, Trailing, Limit}
 use Rattle.ciff_read.specs.declared.refusal.CiffRefusal.{CiffRefusal}
 use Rattle.ciff_read.specs.declared.refusal.CiffFault.{CiffFault}
 use Rattle.ciff_read.specs.declared.refusal.CiffFault.TheVariants as faults
@@ -13,6 +13,22 @@ infixl 10 ◌>>=◌
 abbrev pub ◌>>=◌ : {A B : Type 0} → Result A CiffRefusal → (A → Result B CiffRefusal) → Result B CiffRefusal
 (Ok x) >>= f = f x
 (Err e) >>= f = Err e
+
+-- the numbers of the refusals
+abbrev pub number_of : CiffWhy → ℕ
+number_of Cut = 10
+number_of Varint = 11
+number_of Wire = 12
+number_of Range = 13
+number_of Text = 14
+number_of Gap = 15
+number_of DocRange = 16
+number_of Tf = 17
+number_of TermTwice = 18
+number_of DocTwice = 19
+number_of NameText = 20
+number_of Trailing = 21
+number_of Limit = 22
 
 -- what a fault in the fields is as a refusal
 abbrev pub why_of : WireWhy → CiffWhy

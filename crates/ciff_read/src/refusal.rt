@@ -1,5 +1,5 @@
 ghost use Rattle.std.specs.Prelude.{◌≡◌};
-ghost use Rattle.ciff_read.specs.Refusals.{why_of};
+ghost use Rattle.ciff_read.specs.Refusals.{number_of, why_of};
 
 use wire_fields::{WireFault, WireWhy};
 
@@ -36,7 +36,9 @@ pub enum CiffWhy {
 
 impl CiffWhy {
     /// The number that is printed for the refusal.
-    pub fn number(self) -> u32 {
+    pub fn number(self) -> u32
+        ensures { result ≡ number_of self }
+    {
         match self {
             CiffWhy::Cut => 10,
             CiffWhy::Varint => 11,
