@@ -120,7 +120,10 @@ fn answers_are_printed(rt: HostRuntime) {
     let mut earlier_first = LATER_FIRST;
     earlier_first[25] = b'q';
     earlier_first[39] = b'p';
-    let table: [(&[u8], &str, &[u8]); 15] = [
+    let mut close = ONE_TERM;
+    close[39] = 8;
+    close[45] = 7;
+    let table: [(&[u8], &str, &[u8]); 17] = [
         (
             &ONE_TERM,
             "once b.ciff 3 all a",
@@ -165,6 +168,16 @@ fn answers_are_printed(rt: HostRuntime) {
             &ONE_TERM,
             "once b.ciff 2 2 a",
             b"q postings 2 segments 2 of 3 cutoff 5 next 1 bound 1 unknown 0 final\nq Q0 d0 1 9 jass\nq Q0 d1 2 5 jass\n",
+        ),
+        (
+            &close,
+            "once b.ciff 1 1 a",
+            b"q postings 1 segments 1 of 3 cutoff 9 next 8 bound 8 unknown 0 final\nq Q0 d0 1 9 jass\n",
+        ),
+        (
+            &close,
+            "once b.ciff 1 2 a",
+            b"q postings 2 segments 2 of 3 cutoff 8 next 7 bound 7 unknown 0 open\nq Q0 d0 1 9 jass\n",
         ),
         (
             &earlier_first,
