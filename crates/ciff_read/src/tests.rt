@@ -1,10 +1,10 @@
 // The file of one term and three documents, cut at each place and with single bytes
-// changed, and spellings that are not the shortest.
+// changed, spellings that are not the shortest, and files at the limits.
 
 ghost use Rattle.std.specs.Prelude.{◌<◌};
 
 use crate::{CiffFault, read_collection};
-use std::alloc::Global;
+use std::alloc::{AllocError, Global};
 
 const FILE: [u8; 71] = [
     0x15, 0x08, 0x01, 0x10, 0x01, 0x18, 0x03, 0x20, 0x01, 0x28, 0x03, 0x30, 0x0f, 0x39, 0x00, 0x00,
@@ -70,5 +70,60 @@ fn cut_files_are_refused_at_the_cut_message(rt: HostRuntime) {
             _ => 62,
         };
         assert!(&rt; answer(alloc, &FILE[..end]) == (10, at));
+    }
+}
+
+#[test]
+fn headers_are_judged_at_the_limits(rt: HostRuntime) {
+    let alloc = rt.alloc();
+    let table: [(&[u8], u32, u64); 9] = [
+        // lists
+        (b"\x05\x10\x80\x80\x80\x08", 10, 6),
+        (b"\x05\x10\x81\x80\x80\x08", 22, 0),
+        // documents
+        (b"\x05\x18\x80\x80\x80\x20", 10, 6),
+        (b"\x05\x18\x81\x80\x80\x20", 22, 0),
+        // the version
+        (b"\x06\x08\xff\xff\xff\xff\x07", 0, 0),
+        (b"\x06\x08\x80\x80\x80\x80\x08", 13, 0),
+        // the end of the message
+        (b"\xfb\xff\xff\xff\x0f", 10, 0),
+        (b"\xfc\xff\xff\xff\x0f", 22, 0),
+        (b"\xff\xff\xff\xff\xff\xff\xff\xff\xff\x02", 11, 0),
+    ];
+    for (bytes, number, at) in table {
+        assert!(&rt; answer(alloc, bytes) == (number, at));
+    }
+}
+
+/// The front of a file, and the letter `a` so often.
+fn filled(alloc: Global, front: &[u8], count: u32) -> Result<Vec<u8>, AllocError> {
+    let mut bytes = Vec::from_slice(alloc, front)?;
+    bytes.resize(front.len() + count as usize, b'a')?;
+    Ok(bytes)
+}
+
+#[test]
+fn texts_are_judged_at_the_limits(rt: HostRuntime) {
+    let alloc = rt.alloc();
+    let table: [(&[u8], u32, u32, u64); 4] = [
+        // a list whose term has 65,535 bytes, and 65,536
+        (b"\x02\x10\x01\x83\x80\x04\x0a\xff\xff\x03", 65_535, 0, 0),
+        (b"\x02\x10\x01\x84\x80\x04\x0a\x80\x80\x04", 65_536, 22, 3),
+        // a document whose name has 1,048,576 bytes, and 1,048,577
+        (b"\x02\x18\x01\x84\x80\x40\x12\x80\x80\x40", 1_048_576, 0, 1),
+        (
+            b"\x02\x18\x01\x85\x80\x40\x12\x81\x80\x40",
+            1_048_577,
+            20,
+            3,
+        ),
+    ];
+    for (front, count, number, at) in table {
+        let Ok(bytes) = filled(alloc, front, count) else {
+            assert!(&rt; false, "no memory");
+            return;
+        };
+        assert!(&rt; answer(alloc, bytes.as_slice()) == (number, at));
     }
 }
