@@ -68,7 +68,7 @@ fn left_by<L: Ledger>(
     alloc: Global,
     blank: Blank,
     ciff: &[u8],
-    words: &str,
+    words: &[String],
     bad_reads: &[u64],
     bad_puts: &[u64],
 ) -> Result<Left, AllocError>
@@ -80,25 +80,37 @@ fn left_by<L: Ledger>(
     if files.store("b.ciff", ciff).is_err() {
         return Err(AllocError);
     }
-    let words = parted(alloc, words)?;
     let mut input = SliceFeed::new(b"");
     let mut out = MemSink::new(alloc, listed(alloc, bad_puts)?);
     let mut notes = MemSink::new(alloc, Row::new(alloc));
     let mut steps = Steps::<L>::new(blank);
     let status = run(
-        alloc,
-        words.as_slice(),
-        &mut files,
-        &mut input,
-        &mut out,
-        &mut notes,
-        &mut steps,
+        alloc, words, &mut files, &mut input, &mut out, &mut notes, &mut steps,
     );
     Ok(Left {
         status: status.number(),
         out: Vec::from_slice(alloc, out.written())?,
         notes: Vec::from_slice(alloc, notes.written())?,
     })
+}
+
+/// The same with a fresh ledger.
+fn ran(
+    alloc: Global,
+    ciff: &[u8],
+    words: &str,
+    bad_reads: &[u64],
+    bad_puts: &[u64],
+) -> Result<Left, AllocError> {
+    let words = parted(alloc, words)?;
+    left_by::<Brand>(
+        alloc,
+        Blank::new(1),
+        ciff,
+        words.as_slice(),
+        bad_reads,
+        bad_puts,
+    )
 }
 
 /// The numbers as a row.
@@ -211,7 +223,7 @@ fn answers_are_printed(rt: HostRuntime) {
         ),
     ];
     for (ciff, words, out) in table {
-        let Ok(left) = left_by::<Brand>(rt.alloc(), Blank::new(1), ciff, words, &[], &[]) else {
+        let Ok(left) = ran(rt.alloc(), ciff, words, &[], &[]) else {
             assert!(&rt; false, "no memory");
             return;
         };
@@ -308,8 +320,7 @@ fn other_ends_are_noted(rt: HostRuntime) {
         ),
     ];
     for (ciff, words, bad_reads, bad_puts, status, notes) in table {
-        let Ok(left) = left_by::<Brand>(rt.alloc(), Blank::new(1), ciff, words, bad_reads, bad_puts)
-        else {
+        let Ok(left) = ran(rt.alloc(), ciff, words, bad_reads, bad_puts) else {
             assert!(&rt; false, "no memory");
             return;
         };
