@@ -9,6 +9,7 @@ mod doc_fields;
 mod document;
 mod documents;
 mod entry;
+pub mod examples;
 mod file_head;
 mod gathered;
 mod header;

@@ -1,7 +1,9 @@
 pub mod Ciff
+pub mod CiffText
 pub mod CiffViews
 pub mod Decimal
 pub mod FilesOf
+pub mod Gaps
 pub mod Limits
 pub mod Lists
 pub mod Outside

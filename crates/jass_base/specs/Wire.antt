@@ -1,5 +1,5 @@
 -- The protobuf wire format (protobuf.dev, "Encoding"): varints, and the fields of a message's body.
-use Rattle.std.specs.Prelude.{ℕ, ◌≡◌, ◌≢◌, ◌<◌, ◌≤◌, ◌+◌, ◌*◌, ◌%◌, ◌^◌, ◌==◌, List, [], ◌∷◌, ◌++◌, length, fold, replicate, if◌then◌else◌}
+use Rattle.std.specs.Prelude.{ℕ, zero, suc, ◌≡◌, ◌≢◌, ◌<◌, ◌≤◌, ◌+◌, ◌*◌, ◌/◌, ◌%◌, ◌^◌, ◌==◌, List, [], ◌∷◌, ◌++◌, length, fold, replicate, nat_lt, if◌then◌else◌}
 use Rattle.std.specs.List.{flat_map}
 
 -- the number that groups of 7 bits stand for, the lowest first
@@ -30,6 +30,14 @@ EndsInBits (b ∷ c ∷ bs) = EndsInBits (c ∷ bs)
 pub record IsShortVarint (s : List ℕ) (n : ℕ) : Type 0 where
   pub varint : IsVarint s n
   pub shortest : length s ≢ 1 → EndsInBits s
+
+-- the shortest varint of a number, with at most so many groups behind the first
+abbrev pub short_varint_within : ℕ → ℕ → List ℕ
+short_varint_within zero n = n ∷ []
+short_varint_within (suc k) n = if nat_lt n 128 then n ∷ [] else (n % 128 + 128) ∷ short_varint_within k (n / 128)
+
+unfoldable pub short_varint : ℕ → List ℕ
+short_varint n = short_varint_within 9 n
 
 -- the value of a field: a number, eight bytes, a text, or four bytes
 pub data WireValue : Type 0 where
