@@ -24,5 +24,5 @@ place-le above steps width within =
     div-le_of_le-mul width (mul-le-mul_right steps within)
 
 -- the steps of b bits
-pub steps_of : (b : ℕ) → 1 ≤ b → b ≤ 16 → (1 * 2 ^ b % 2 ^ 128 ≡ 2 ^ b) × (2 ≤ 2 ^ b) × (2 ^ b ≤ 2 ^ 16)
-steps_of b some limit = (one_shl b 128 (omega arith), pow_mono {i = 1} some, pow_mono limit)
+pub steps_of : (b : ℕ) → 1 ≤ b → b ≤ 16 → (1 * 2 ^ b % 2 ^ 64 ≡ 2 ^ b) × (2 ≤ 2 ^ b) × (2 ^ b ≤ 2 ^ 16)
+steps_of b some limit = (one_shl b 64 (omega arith), pow_mono {i = 1} some, pow_mono limit)

@@ -1,6 +1,6 @@
 // How weights become impacts.
 
-ghost use Rattle.std.specs.Prelude.{◌≡◌, ◌≤◌};
+ghost use Rattle.std.specs.Prelude.{◌≡◌, ◌*◌, ◌/◌, ◌≤◌};
 ghost use Rattle.weights.specs.Quantizing.{empty_range, widened, IsImpactWidth, IsInRange, impact_of};
 
 /// How a weight becomes an impact.
@@ -56,12 +56,18 @@ pub fn impact_of(bits: Bits, range: Range, w: u64) -> u16
         Bits::Raw => w.min(65_535) as u16,
         Bits::Of(_) if range.least == range.greatest => 1,
         Bits::Of(b) => {
-            let steps = (1u128 << b) - 2;
-            let above = u128::from(w - range.least);
-            let width = u128::from(range.greatest - range.least);
-            (1 + above * steps / width) as u16
+            let steps = (1u64 << b) - 2;
+            (1 + steps_to(w - range.least, range.greatest - range.least, steps)) as u16
         }
     }
+}
+
+// How many of the steps that divide a width lie within what is above its least end, rounded down.
+fn steps_to(above: u64, width: u64, steps: u64) -> u128
+    requires { 1 ≤ width }
+    ensures { result ≡ above * steps / width }
+{
+    u128::from(above) * u128::from(steps) / u128::from(width)
 }
 
 #[cfg(test)]

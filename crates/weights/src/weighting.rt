@@ -56,8 +56,15 @@ fn idf(docs: u32, n: u32) -> u32
     ensures limit { result < 27 * 1024 }
 {
     // The factor keeps ten binary places of the quotient, and the logarithm gives them back.
-    let rarity = 1024 * (u64::from(docs) + 1) / u64::from(n);
-    lg(rarity) - 10 * 1024
+    lg(rarity(docs, n)) - 10 * 1024
+}
+
+// 1,024 times (docs + 1) / n.
+fn rarity(docs: u32, n: u32) -> u64
+    requires { 1 ≤ n }
+    ensures { result ≡ 1024 * (docs + 1) / n }
+{
+    1024 * (u64::from(docs) + 1) / u64::from(n)
 }
 
 // How far a document's length slows the growth of a term's weight, in thousandths: 900 at the average length.

@@ -1,7 +1,8 @@
 use Rattle.std.proofs.Common.{◌≡◌, Ok, refl}
 use Rattle.std.specs.Str.{is_utf8, chars}
 use lib.Utf8.{encode}
-use Rattle.jass_base.specs.CiffText.{canonical_ciff, short_varint}
+use Rattle.jass_base.specs.Wire.{short_varint}
+use Rattle.jass_base.specs.CiffText.{canonical_ciff}
 use Rattle.wire_fields.specs.Reading.{varint_at, field_at}
 use Rattle.ciff_read.specs.Examples.{small_file, small_collection}
 use Rattle.ciff_read.specs.Reading.{message_at, header_at, list_at, doc_at, lists_at, docs_at, read_ciff}
