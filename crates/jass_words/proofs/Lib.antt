@@ -1,0 +1,3 @@
+pub mod Parts
+pub mod Beginnings
+pub mod Terms

@@ -1,0 +1,199 @@
+-- The terms of `once`, and the first word that is none.
+use Rattle.std.proofs.Common.{◌≡◌, ◌≢◌, ℕ, zero, suc, ◌+◌, ◌<◌, ◌≤◌, min, List, [], ◌∷◌, ◌++◌, length, take, drop, Option, Some, None, String, Global, refl, sym, ap, subst, ◌∙◌, arith, length-append, length-take, length-drop, ◌-◌, take_all, ◌⊎◌, inl, inr}
+use Rattle.std.specs.Prelude.{slice_get, IfSome}
+use Rattle.std.proofs.lemmas.List.{length-map}
+use Rattle.std.specs.List.{AllByRecursion, slice_index_or}
+use Rattle.std.specs.String.{string_bytes}
+use Rattle.std.proofs.lemmas.List.Elements.{All-from_recursion, recursion_from_All}
+use Rattle.jass_base.specs.declared.answer.Budget.{Budget}
+use Rattle.jass_words.specs.Words.{IsFile, IsCount, IsBudget, IsTerm, AreTerms, IsNoCommand, IsBegun, IsBadWord, IsRewrite, texts}
+use Rattle.jass_words.proofs.Parts.{once_word, rewrite_word, terms_last, opened1, opened2}
+use Rattle.jass_words.proofs.Beginnings.{begun_terms, begun_once, begun_file, begun_count, begun_nothing, never, rewrite_with_more, no_name, no_words}
+
+fewer : (terms : List (List ℕ)) (m j : ℕ) → j ≤ m → AllByRecursion IsTerm (take m terms) → AllByRecursion IsTerm (take j terms)
+fewer terms m zero within all = tt
+fewer terms zero (suc j) within all = absurd (omega (arith, within))
+fewer [] (suc m) (suc j) within all = tt
+fewer (t ∷ ts) (suc m) (suc j) within all = (all.0, fewer ts m j (omega (arith, within)) all.1)
+
+item_short : (terms more : List (List ℕ)) (m : ℕ) (word : List ℕ) → slice_get terms m ≡ Some word → AllByRecursion IsTerm (take (suc m) terms ++ more) → IsTerm word
+item_short [] more m word is all = cc
+item_short (t ∷ ts) more zero word is all =
+    let same : t ≡ word = cc in
+    subst IsTerm same all.0
+item_short (t ∷ ts) more (suc m) word is all = item_short ts more m word is all.1
+
+there : (terms : List (List ℕ)) (m : ℕ) → m < length terms → (word : List ℕ) × (slice_get terms m ≡ Some word)
+there [] m within = absurd (omega (arith, within))
+there (t ∷ ts) zero within = (t, refl)
+there (t ∷ ts) (suc m) within = there ts m (omega (arith, within))
+
+-- too many terms, or one that is too long
+no_terms : (x y z : List ℕ) (terms : List (List ℕ)) (m good : ℕ) → good ≡ min m 255 → good < length terms → ((word : List ℕ) → slice_get terms m ≡ Some word → ¬ IsTerm word)
+    → ¬ IsBegun (once_word ∷ x ∷ y ∷ z ∷ take (suc good) terms)
+no_terms x y z terms m good is within next (more, command, whole) =
+    let named : AreTerms (take (suc good) terms ++ more) = terms_last x y z (take (suc good) terms ++ more) command whole in
+    let size : length (take (suc good) terms ++ more) ≡ length (take (suc good) terms) + length more = length-append (take (suc good) terms) more in
+    let front : length (take (suc good) terms) ≡ min (suc good) (length terms) = length-take (suc good) terms in
+    let below : good < 255 = omega (arith, named.few, size, front, within) in
+    let same : good ≡ m = omega (arith, is, below) in
+    let (word, at) = there terms m (omega (arith, same, within)) in
+    let each : AllByRecursion IsTerm (take (suc m) terms ++ more) = subst (λ (n : ℕ). AllByRecursion IsTerm (take (suc n) terms ++ more)) same (recursion_from_All IsTerm (take (suc good) terms ++ more) named.each) in
+    next word at (item_short terms more m word at each)
+
+pub once_without_terms : (f c b : List ℕ) (k : ℕ) (budget : Budget) (terms : List (List ℕ)) (m good : ℕ) → IsFile f → IsCount c k → IsBudget b budget
+    → good ≡ min m 255 → m ≤ length terms → AllByRecursion IsTerm (take m terms) → ((word : List ℕ) → slice_get terms m ≡ Some word → ¬ IsTerm word) → (good < length terms) ⊎ (length terms ≡ 0)
+    → IsBadWord (once_word ∷ f ∷ c ∷ b ∷ terms) (5 + good)
+once_without_terms f c b k budget terms m good file count limit is within all next fault =
+    record {
+      none = never_once fault;
+      before = front;
+      here = λ inside. unbegun (omega (arith, inside));
+      there = omega (arith, is, within);
+    }
+  where
+    five : suc (suc (suc (suc (suc good)))) ≡ 5 + good
+    five = omega arith
+
+    unbegun : good < length terms → ¬ IsBegun (take (5 + good) (once_word ∷ f ∷ c ∷ b ∷ terms))
+    unbegun inside = subst (λ (n : ℕ). ¬ IsBegun (take n (once_word ∷ f ∷ c ∷ b ∷ terms))) five (no_terms f c b terms m good is inside next)
+
+    never_once : (good < length terms) ⊎ (length terms ≡ 0) → IsNoCommand (once_word ∷ f ∷ c ∷ b ∷ terms)
+    never_once (inl inside) = never (once_word ∷ f ∷ c ∷ b ∷ terms) (5 + good) (unbegun inside)
+    never_once (inr empty) = λ command whole. (let named : AreTerms terms = terms_last f c b terms command whole in omega (arith, named.some, empty))
+
+    front : (n : ℕ) → n < 5 + good → IsBegun (take n (once_word ∷ f ∷ c ∷ b ∷ terms))
+    front zero less = begun_nothing
+    front (suc zero) less = begun_once
+    front (suc (suc zero)) less = begun_file f file
+    front (suc (suc (suc zero))) less = begun_count f c k file count
+    front (suc (suc (suc (suc j)))) less =
+        begun_terms f c b k budget (take j terms) file count limit (omega (arith, length-take j terms, less, is))
+        (All-from_recursion IsTerm (take j terms) (fewer terms m j (omega (arith, less, is)) all))
+
+-- all words are terms
+pub all_terms : (terms : List (List ℕ)) (m good : ℕ) → good ≡ min m 255 → m ≤ length terms → length terms ≤ good → good ≢ 0 → AllByRecursion IsTerm (take m terms) → AreTerms terms
+all_terms terms m good is within enough some all =
+    let whole : take m terms ≡ terms = take_all m terms (omega (arith, is, within, enough)) in
+    record {
+      some = omega (arith, some, is, within);
+      few = omega (arith, is, enough);
+      each = All-from_recursion IsTerm terms (subst (AllByRecursion IsTerm) whole all);
+    }
+
+-- one word more
+pub one_more : (words : List (String Global)) (n : ℕ) (word : String Global) → n < length words → word ≡ slice_index_or words n word → length (string_bytes word) ≤ 65535
+    → AllByRecursion IsTerm (take n (texts words)) → AllByRecursion IsTerm (take (n + 1) (texts words))
+one_more words n word within is short all = subst (λ (k : ℕ). AllByRecursion IsTerm (take k (texts words))) after (longer words n within is all)
+  where
+    after : suc n ≡ n + 1
+    after = omega arith
+
+    longer : (ws : List (String Global)) (i : ℕ) → i < length ws → word ≡ slice_index_or ws i word → AllByRecursion IsTerm (take i (texts ws)) → AllByRecursion IsTerm (take (suc i) (texts ws))
+    longer [] i within is all = absurd (omega (arith, within))
+    longer (w ∷ ws) zero within is all = (subst (λ (x : String Global). IsTerm (string_bytes x)) is short, tt)
+    longer (w ∷ ws) (suc i) within is all = (all.0, longer ws i (omega (arith, within)) is all.1)
+
+pub long_word : (words : List (String Global)) (n : ℕ) (word : String Global) (text : List ℕ) → n < length words → word ≡ slice_index_or words n word → 65535 < length (string_bytes word) → slice_get (texts words) n ≡ Some text → ¬ IsTerm text
+long_word [] n word text within is long at short = absurd (omega (arith, within))
+long_word (w ∷ ws) zero word text within is long at short =
+    let same : string_bytes w ≡ text = cc in
+    omega (arith, long, subst (λ (x : String Global). length (string_bytes w) ≡ length (string_bytes w)) is refl, ap (λ (x : String Global). length (string_bytes x)) is, ap length same, short)
+long_word (w ∷ ws) (suc n) word text within is long at short = long_word ws n word text (omega (arith, within)) is long at short
+
+-- ---- `rewrite` whole, or with a word more
+
+abbrev Three : List (List ℕ) → List ℕ → List ℕ → List ℕ → Type 0
+Three words a b c = (rest : List (List ℕ)) × (words ≡ a ∷ b ∷ c ∷ rest)
+
+pub opened3 : (words : List (List ℕ)) (a b c : List ℕ) → slice_get words 0 ≡ Some a → slice_get words 1 ≡ Some b → slice_get words 2 ≡ Some c → (rest : List (List ℕ)) × (words ≡ a ∷ b ∷ c ∷ rest)
+opened3 [] a b c first second third = cc
+opened3 (x ∷ rest) a b c first second third =
+    let (more, is) = opened2 rest b c second third in
+    let same : x ≡ a = cc in
+    (more, ap (λ (w : List ℕ). w ∷ rest) same ∙ ap (λ (ws : List (List ℕ)). a ∷ ws) is)
+
+pub opened4 : (words : List (List ℕ)) (a b c d : List ℕ) → slice_get words 0 ≡ Some a → slice_get words 1 ≡ Some b → slice_get words 2 ≡ Some c → slice_get words 3 ≡ Some d → (rest : List (List ℕ)) × (words ≡ a ∷ b ∷ c ∷ d ∷ rest)
+opened4 [] a b c d first second third fourth = cc
+opened4 (x ∷ rest) a b c d first second third fourth =
+    let (more, is) = opened3 rest b c d second third fourth in
+    let same : x ≡ a = cc in
+    (more, ap (λ (w : List ℕ). w ∷ rest) same ∙ ap (λ (ws : List (List ℕ)). a ∷ ws) is)
+
+pub rewrite_more : (words : List (List ℕ)) (f t : List ℕ) → slice_get words 0 ≡ Some rewrite_word → slice_get words 1 ≡ Some f → slice_get words 2 ≡ Some t → IsFile f → IsFile t → f ≢ t → 3 < length words → IsBadWord words 4
+rewrite_more words f t name first second file to differ many = at (opened3 words rewrite_word f t name first second)
+  where
+    at : (rest : List (List ℕ)) × (words ≡ rewrite_word ∷ f ∷ t ∷ rest) → IsBadWord words 4
+    at ([], is) = (let size : length words ≡ 3 = ap length is in absurd (omega (arith, size, many)))
+    at (x ∷ rest, is) = subst (λ (ws : List (List ℕ)). IsBadWord ws 4) (sym is) (rewrite_with_more f t x rest file to differ)
+
+pub rewrite_whole : (words : List (List ℕ)) (f t : List ℕ) → slice_get words 0 ≡ Some rewrite_word → slice_get words 1 ≡ Some f → slice_get words 2 ≡ Some t → IsFile f → IsFile t → f ≢ t → length words ≤ 3 → IsRewrite words f t
+rewrite_whole words f t name first second file to differ few = at (opened3 words rewrite_word f t name first second)
+  where
+    at : (rest : List (List ℕ)) × (words ≡ rewrite_word ∷ f ∷ t ∷ rest) → IsRewrite words f t
+    at ([], is) = record { parts = is; read = file; written = to; differ = differ }
+    at (x ∷ rest, is) = (let size : length words ≡ suc (suc (suc (suc (length rest)))) = ap length is in absurd (omega (arith, size, few)))
+
+-- ---- the words as texts
+
+pub some_same : (a b : List ℕ) → Some a ≡ Some b → a ≡ b
+some_same a b is = cc
+
+pub size_of_texts : (words : List (String Global)) → length (texts words) ≡ length words
+size_of_texts words = length-map words string_bytes
+
+pub texts_behind : (words : List (String Global)) (n : ℕ) (rest : List (List ℕ)) → drop n (texts words) ≡ rest → texts (drop n words) ≡ rest
+texts_behind words n rest is = behind words n ∙ is
+  where
+    behind : (ws : List (String Global)) (i : ℕ) → texts (drop i ws) ≡ drop i (texts ws)
+    behind [] zero = refl
+    behind [] (suc i) = refl
+    behind (w ∷ ws) zero = refl
+    behind (w ∷ ws) (suc i) = behind ws i
+
+-- a word that is there, of which something holds
+pub found : (words : List (List ℕ)) (place : ℕ) (P : List ℕ → Type 0) → place < length words → IfSome (slice_get words place) P → (word : List ℕ) × (slice_get words place ≡ Some word) × P word
+found words place P within holds =
+    let (word, at) = there words place within in
+    (word, at, subst (λ (o : Option (List ℕ)). IfSome o P) at holds)
+
+pub first_word : (words : List (String Global)) (name : String Global) → slice_get words 0 ≡ Some name → slice_get (texts words) 0 ≡ Some (string_bytes name)
+first_word [] name is = cc
+first_word (w ∷ ws) name is =
+    let same : w ≡ name = cc in
+    ap (λ (x : String Global). Some (string_bytes x)) same
+
+pub nameless : (words : List (String Global)) (name : List ℕ) → slice_get (texts words) 0 ≡ Some name → name ≢ once_word → name ≢ rewrite_word → IsBadWord (texts words) 1
+nameless words name is not_once not_rewrite =
+    let (rest, opened) = opened1 (texts words) name is in
+    subst (λ (ws : List (List ℕ)). IsBadWord ws 1) (sym opened) (no_name name rest not_once not_rewrite)
+
+pub wordless : (words : List (String Global)) → slice_get words 0 ≡ None → IsBadWord (texts words) 1
+wordless [] is = no_words
+wordless (w ∷ ws) is = cc
+
+-- why words behind the budget are no terms
+pub fault_of : (good size : ℕ) → (good ≡ 0) ⊎ ((good ≡ 0 → ⊥) × (good < size)) → (good < size) ⊎ (size ≡ 0)
+fault_of good size (inr both) = inl both.1
+fault_of good zero (inl none) = inr refl
+fault_of good (suc n) (inl none) = inl (omega (arith, none))
+
+-- the words of `once` from the fifth on
+pub record Behind (words slice : List (String Global)) (f : List ℕ) (k : ℕ) (budget : Budget) : Type 0 where
+  pub count : List ℕ
+  pub limit : List ℕ
+  pub counted : IsCount count k
+  pub limited : IsBudget limit budget
+  pub parts : texts words ≡ once_word ∷ f ∷ count ∷ limit ∷ texts slice
+
+pub behind_four : (words : List (String Global)) (f : List ℕ) (k : ℕ) (budget : Budget) → slice_get (texts words) 0 ≡ Some once_word → slice_get (texts words) 1 ≡ Some f
+    → 2 < length words → IfSome (slice_get (texts words) 2) (λ w. IsCount w k) → 3 < length words → IfSome (slice_get (texts words) 3) (λ w. IsBudget w budget)
+    → Behind words (take (length words - 4) (drop 4 words)) f k budget
+behind_four words f k budget name first third_there third fourth_there fourth =
+    let size : length (texts words) ≡ length words = size_of_texts words in
+    let (count, third_is, counted) = found (texts words) 2 (λ w. IsCount w k) (omega (arith, size, third_there)) third in
+    let (limit, fourth_is, limited) = found (texts words) 3 (λ w. IsBudget w budget) (omega (arith, size, fourth_there)) fourth in
+    let (rest, is) = opened4 (texts words) once_word f count limit name first third_is fourth_is in
+    let whole : take (length words - 4) (drop 4 words) ≡ drop 4 words = take_all (length words - 4) (drop 4 words) (omega (arith, length-drop 4 words)) in
+    let same : texts (take (length words - 4) (drop 4 words)) ≡ rest = ap texts whole ∙ texts_behind words 4 rest (ap (drop 4) is) in
+    record { count = count; limit = limit; counted = counted; limited = limited; parts = is ∙ ap (λ (ws : List (List ℕ)). once_word ∷ f ∷ count ∷ limit ∷ ws) (sym same) }

@@ -1,0 +1,81 @@
+-- The words of the command line: what a command is, and the first word that is none of a command's. This project's grammar.
+use Rattle.std.specs.Prelude.{ℕ, ◌≡◌, ◌≢◌, ◌<◌, ◌≤◌, ◌+◌, List, [], ◌∷◌, ◌++◌, length, take, map, codes, Some, All, String}
+use Rattle.std.specs.String.{string_bytes}
+use Rattle.std.specs.declared.alloc.Global.{Global}
+use Rattle.jass_base.specs.Decimal.{decimal_of}
+use Rattle.jass_base.specs.declared.answer.Budget.{Budget}
+use Rattle.jass_base.specs.declared.answer.Budget.TheVariants as budgets
+
+-- the words as texts
+abbrev pub texts : List (String Global) → List (List ℕ)
+texts words = map string_bytes words
+
+-- a command, and what its words say
+pub data CommandData : Type 0 where
+  Once : List ℕ → ℕ → Budget → List (List ℕ) → CommandData
+  Rewrite : List ℕ → List ℕ → CommandData
+
+-- a file's name: 1 to 4,096 bytes, none of them 0
+pub record IsFile (word : List ℕ) : Type 0 where
+  pub some : 1 ≤ length word
+  pub fits : length word ≤ 4096
+  pub nonzero : All (λ b. b ≢ 0) word
+
+-- a number of hits
+pub record IsCount (word : List ℕ) (k : ℕ) : Type 0 where
+  pub decimal : decimal_of word ≡ Some k
+  pub some : 1 ≤ k
+  pub limit : k ≤ 100000
+
+-- a number of postings, or all
+abbrev pub IsBudget : List ℕ → Budget → Type 0
+IsBudget word (budgets.Postings n) = decimal_of word ≡ Some n
+IsBudget word budgets.All = word ≡ codes "all"
+
+-- a term, as it stands
+abbrev pub IsTerm : List ℕ → Type 0
+IsTerm word = length word ≤ 65535
+
+-- the terms of a query: 1 to 255
+pub record AreTerms (terms : List (List ℕ)) : Type 0 where
+  pub some : 1 ≤ length terms
+  pub few : length terms ≤ 255
+  pub each : All IsTerm terms
+
+-- `once CIFF K BUDGET TERM..`
+pub record IsOnce (words : List (List ℕ)) (ciff : List ℕ) (k : ℕ) (budget : Budget) (terms : List (List ℕ)) : Type 0 where
+  pub count : List ℕ
+  pub limit : List ℕ
+  pub parts : words ≡ codes "once" ∷ ciff ∷ count ∷ limit ∷ terms
+  pub file : IsFile ciff
+  pub counted : IsCount count k
+  pub limited : IsBudget limit budget
+  pub named : AreTerms terms
+
+-- `rewrite FROM TO`, of two files that differ as texts
+pub record IsRewrite (words : List (List ℕ)) (from to : List ℕ) : Type 0 where
+  pub parts : words ≡ codes "rewrite" ∷ from ∷ to ∷ []
+  pub read : IsFile from
+  pub written : IsFile to
+  pub differ : from ≢ to
+
+-- the words are the command
+abbrev pub IsCommand : List (List ℕ) → CommandData → Type 0
+IsCommand words (Once ciff k budget terms) = IsOnce words ciff k budget terms
+IsCommand words (Rewrite from to) = IsRewrite words from to
+
+-- the words are no command
+abbrev pub IsNoCommand : List (List ℕ) → Type 0
+IsNoCommand words = (command : CommandData) → ¬ IsCommand words command
+
+-- a command begins with the words
+abbrev pub IsBegun : List (List ℕ) → Type 0
+IsBegun words = (rest : List (List ℕ)) × (command : CommandData) × IsCommand (words ++ rest) command
+
+-- words that are no command, and the first of them, counted from 1, such that no command begins with the words up to it; one more
+-- than their number where there is none
+pub record IsBadWord (words : List (List ℕ)) (which : ℕ) : Type 0 where
+  pub none : IsNoCommand words
+  pub before : (n : ℕ) → n < which → IsBegun (take n words)
+  pub here : which ≤ length words → ¬ IsBegun (take which words)
+  pub there : which ≤ length words + 1

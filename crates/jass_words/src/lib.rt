@@ -1,0 +1,12 @@
+#![tactic(auto)]
+
+//! The words of the command line as a command, or the first word that is at fault.
+
+mod command;
+mod reading;
+mod slots;
+#[cfg(test)]
+mod tests;
+
+pub use command::Command;
+pub use reading::{WordFault, read_words};

@@ -1,0 +1,88 @@
+ghost use Rattle.std.specs.Prelude.{ℕ, ◌≡◌, ◌<◌, ◌≤◌, ◌↔◌, List, Some, None, IsTrue, IfSome, length, take, slice_get};
+ghost use Rattle.std.specs.List.{AllByRecursion};
+ghost use Rattle.jass_base.specs.declared.answer.Budget.{Budget};
+ghost use Rattle.jass_words.specs.Words.{texts, IsFile, IsCount, IsBudget, IsTerm};
+
+use jass_base::{Budget, read_decimal};
+
+/// The most bytes of a file's name, and of a term.
+const LONGEST_FILE: usize = 4_096;
+
+const LONGEST_TERM: usize = 65_535;
+
+/// The greatest number of hits that can be asked for.
+const MOST_HITS: u64 = 100_000;
+
+/// The word at a place, where it can name a file: 1 to 4,096 bytes, none of them zero.
+pub fn file_at(words: &[String], place: usize) -> Option<&str>
+    ensures some { IfSome result (λ file. slice_get (texts words.now) place ≡ Some file.now) }
+    ensures file { IfSome result (λ file. IsFile file.now) }
+    ensures none { result ≡ None → (word : List ℕ) → slice_get (texts words.now) place ≡ Some word → ¬ IsFile word }
+{
+    match words.get(place) {
+        Some(word) if is_file(word.as_str()) => Some(word.as_str()),
+        _ => None,
+    }
+}
+
+fn is_file(word: &str) -> bool
+    ensures { IsTrue result ↔ IsFile word.now }
+{
+    let bytes = word.as_bytes();
+    !bytes.is_empty() && bytes.len() <= LONGEST_FILE && bytes.iter().all(|byte| *byte != 0)
+}
+
+/// The number of hits in the word at a place.
+pub fn count_at(words: &[String], place: usize) -> Option<u32>
+    ensures some { IfSome result (λ k. IfSome (slice_get (texts words.now) place) (λ word. IsCount word k)) }
+    ensures there { IfSome result (λ k. place < length words.now) }
+    ensures none { result ≡ None → (word : List ℕ) (k : ℕ) → slice_get (texts words.now) place ≡ Some word → ¬ IsCount word k }
+{
+    let Some(word) = words.get(place) else {
+        return None;
+    };
+    match read_decimal(word.as_bytes()) {
+        Some(k) if k >= 1 && k <= MOST_HITS => Some(k as u32),
+        _ => None,
+    }
+}
+
+/// The number of postings, or `all`, in the word at a place.
+pub fn budget_at(words: &[String], place: usize) -> Option<Budget>
+    ensures some { IfSome result (λ budget. IfSome (slice_get (texts words.now) place) (λ word. IsBudget word budget)) }
+    ensures there { IfSome result (λ k. place < length words.now) }
+    ensures none { result ≡ None → (word : List ℕ) (budget : Budget) → slice_get (texts words.now) place ≡ Some word → ¬ IsBudget word budget }
+{
+    let Some(word) = words.get(place) else {
+        return None;
+    };
+    read_budget(word.as_str())
+}
+
+fn read_budget(word: &str) -> Option<Budget>
+    ensures some { IfSome result (λ budget. IsBudget word.now budget) }
+    ensures none { result ≡ None → (budget : Budget) → ¬ IsBudget word.now budget }
+{
+    if word == "all" {
+        return Some(Budget::All);
+    }
+    match read_decimal(word.as_bytes()) {
+        Some(postings) => Some(Budget::Postings(postings)),
+        None => None,
+    }
+}
+
+/// The place of the first word that is no term, or of the last but one too many; how many
+/// words there are where each is a term.
+pub fn terms_in(words: &[String]) -> usize
+    ensures within { result ≤ length words.now }
+    ensures terms { AllByRecursion IsTerm (take result (texts words.now)) }
+    ensures next { (word : List ℕ) → slice_get (texts words.now) result ≡ Some word → ¬ IsTerm word }
+{
+    for (place, word) in words.iter().enumerate() {
+        if word.len() > LONGEST_TERM {
+            return place;
+        }
+    }
+    words.len()
+}

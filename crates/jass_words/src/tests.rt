@@ -1,0 +1,43 @@
+// The words of commands, and where they are at fault.
+
+use crate::read_words;
+use std::alloc::{AllocError, Global};
+
+/// The number of the first bad word, or 0 where the words are a command.
+fn bad_word(alloc: Global, line: &str) -> Result<u32, AllocError> {
+    let mut words = Vec::new(alloc);
+    for word in line.split_whitespace() {
+        words.push(String::from_str(alloc, word)?)?;
+    }
+    match read_words(words.as_slice()) {
+        Ok(_) => Ok(0),
+        Err(fault) => Ok(fault.which),
+    }
+}
+
+#[test]
+fn bad_words_are_counted(rt: HostRuntime) {
+    let table: [(&str, u32); 14] = [
+        ("once b 3 all a", 0),
+        ("once b 100000 18446744073709551615 a b", 0),
+        ("rewrite a b", 0),
+        ("", 1),
+        ("search i q", 1),
+        ("once", 2),
+        ("once b 0 all a", 3),
+        ("once b 100001 all a", 3),
+        ("once b 3 18446744073709551616 a", 4),
+        ("once b 3 all", 5),
+        ("rewrite", 2),
+        ("rewrite a", 3),
+        ("rewrite a a", 3),
+        ("rewrite a b c", 4),
+    ];
+    for (line, which) in table {
+        let Ok(found) = bad_word(rt.alloc(), line) else {
+            assert!(&rt; false, "no memory");
+            return;
+        };
+        assert_eq!(&rt; found, which, "{line}");
+    }
+}
