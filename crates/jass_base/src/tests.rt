@@ -1,6 +1,6 @@
-// Each call that takes memory, once where there is enough, and the number texts of a table.
+// Each call that takes memory, once where there is enough, and the gaps of a table.
 
-use crate::{Cabinet, MemCabinet, NoMemory, Row, Text, read_decimal};
+use crate::{Cabinet, MemCabinet, NoMemory, PayloadFault, Row, Text, put_gap, read_gap};
 use std::alloc::Global;
 
 #[test]
@@ -19,4 +19,28 @@ fn filled(alloc: Global) -> Result<(), NoMemory> {
     }
     let mut files = MemCabinet::new(alloc, Row::new(alloc), Row::new(alloc));
     files.store(text.as_str(), row.as_slice())
+}
+
+#[test]
+fn gaps_are_spelled(rt: HostRuntime) {
+    let mut row = Row::new(rt.alloc());
+    assert!(&rt; put_gap(0, &mut row).is_ok());
+    assert!(&rt; put_gap(67_108_735, &mut row).is_ok());
+    assert!(&rt; row.as_slice() == [0x00, 0xff, 0xfe, 0xff, 0x1f].as_slice());
+}
+
+#[test]
+fn gaps_are_read(rt: HostRuntime) {
+    let table: [(&[u8], Result<(u32, usize), PayloadFault>); 7] = [
+        (&[0x05], Ok((5, 1))),
+        (&[0xff, 0xfe, 0xff, 0x1f], Ok((67_108_735, 4))),
+        (&[], Err(PayloadFault::Cut)),
+        (&[0x80, 0x80, 0x80], Err(PayloadFault::Cut)),
+        (&[0x80, 0x00], Err(PayloadFault::Shape)),
+        (&[0x80, 0x80, 0x80, 0x80], Err(PayloadFault::Shape)),
+        (&[0xff, 0xff, 0xff, 0xff, 0x01], Err(PayloadFault::Shape)),
+    ];
+    for (bytes, read) in table {
+        assert!(&rt; read_gap(bytes, 0) == read);
+    }
 }

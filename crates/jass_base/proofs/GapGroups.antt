@@ -1,0 +1,158 @@
+-- A gap that is read or written group by group.
+use Rattle.std.proofs.Common.{◌≡◌, ℕ, zero, suc, ◌+◌, ◌-◌, ◌*◌, ◌/◌, ◌%◌, ◌^◌, ◌<◌, ◌≤◌, ◌≢◌, ◌==◌, Bool, true, false, cond, List, [], ◌∷◌, ◌++◌, length, get_or, take, drop, Result, Ok, Err, refl, sym, ap, ◌∙◌, subst, arith, add-one, drop-cons, set, append_assoc}
+use Rattle.std.specs.Prelude.{nat_lt}
+use Rattle.std.proofs.lemmas.Bool.Decides.{nat_tests}
+use Rattle.std.proofs.lemmas.List.{drop_all, take_more_set, length-set}
+use Rattle.std.proofs.Math.Nat.{pow-suc, pow-le-pow_right}
+use Rattle.jass_base.specs.declared.payload_fault.PayloadFault.{PayloadFault}
+use Rattle.jass_base.specs.declared.payload_fault.PayloadFault.TheVariants.{Cut, Shape}
+use Rattle.jass_base.specs.Gaps.{GapSpelling, ◌>>=◌, gap_within, gap_in}
+use Rattle.jass_base.specs.Wire.{short_varint, short_varint_within}
+use Rattle.jass_base.proofs.GapSpelling.{spelled, with_first}
+
+-- what is read where lower groups have this value, at this scale, in so many bytes
+abbrev pub behind : ℕ → ℕ → ℕ → Result GapSpelling PayloadFault → Result GapSpelling PayloadFault
+behind gap scale size read = read >>= λ rest. cond (rest.gap == 0) (Err Shape) (spelled (gap + scale * rest.gap) (rest.size + size))
+
+-- at most so many groups
+abbrev pub gap_groups : ℕ → List ℕ → Result GapSpelling PayloadFault
+gap_groups zero bytes = Err Shape
+gap_groups (suc k) bytes = gap_within k bytes
+
+chosen : {A : Type 0} (test : Bool) (x y : A) → test ≡ false → cond test x y ≡ y
+chosen true x y is = absurd cc
+chosen false x y is = refl
+
+behind_some : (gap scale size g s : ℕ) → 1 ≤ g → behind gap scale size (spelled g s) ≡ spelled (gap + scale * g) (s + size)
+behind_some gap scale size g s some = chosen (g == 0) (Err Shape) (spelled (gap + scale * g) (s + size)) (grind (arith, nat_tests))
+
+first_some : (b n s : ℕ) → 1 ≤ n → with_first b (record { gap = n; size = s }) ≡ spelled (b % 128 + 128 * n) (s + 1)
+first_some b n s some = chosen (n == 0) (Err Shape) (spelled (b % 128 + 128 * n) (s + 1)) (grind (arith, nat_tests))
+
+behind_more : (gap scale size b : ℕ) (read : Result GapSpelling PayloadFault) → behind gap scale size (read >>= with_first b) ≡ behind (gap + b % 128 * scale) (scale * 128) (size + 1) read
+behind_more gap scale size b (Err fault) = refl
+behind_more gap scale size b (Ok rest) = go rest.gap rest.size
+  where
+    go : (n s : ℕ) → behind gap scale size (with_first b (record { gap = n; size = s })) ≡ behind (gap + b % 128 * scale) (scale * 128) (size + 1) (spelled n s)
+    go zero s = refl
+    go (suc n) s =
+        let some : 1 ≤ suc n = omega arith in
+        let value : gap + scale * (b % 128 + 128 * suc n) ≡ gap + b % 128 * scale + scale * 128 * suc n = grind arith in
+        let sizes : s + 1 + size ≡ s + (size + 1) = omega arith in
+        ap (behind gap scale size) (first_some b (suc n) s some)
+        ∙ behind_some gap scale size (b % 128 + 128 * suc n) (s + 1) (omega arith)
+        ∙ ap (λ m. spelled m (s + 1 + size)) value ∙ ap (spelled (gap + b % 128 * scale + scale * 128 * suc n)) sizes
+        ∙ sym (behind_some (gap + b % 128 * scale) (scale * 128) (size + 1) (suc n) s some)
+
+groups_more : (k b : ℕ) (bytes : List ℕ) → nat_lt b 128 ≡ false → gap_within k (b ∷ bytes) ≡ (gap_groups k bytes >>= with_first b)
+groups_more zero b bytes large = rw large refl
+groups_more (suc k) b bytes large = rw large refl
+
+none_within : (k : ℕ) → gap_within k [] ≡ Err Cut
+none_within zero = refl
+none_within (suc k) = refl
+
+one_within : (k b : ℕ) (bytes : List ℕ) → nat_lt b 128 ≡ true → gap_within k (b ∷ bytes) ≡ spelled b 1
+one_within zero b bytes low = rw low refl
+one_within (suc k) b bytes low = rw low refl
+
+-- the groups before a place, and what is read behind them
+pub record SoFar (bytes : List ℕ) (i gap scale : ℕ) : Type 0 where
+  pub scale_is : scale ≡ 128 ^ i
+  pub below : gap < scale
+  pub inside : i ≤ length bytes
+  pub read : gap_in bytes ≡ behind gap scale i (gap_groups (4 - i) (drop i bytes))
+
+pub one_group : (bytes : List ℕ) (gap : ℕ) → 0 < length bytes → 128 ≤ get_or bytes 0 0 → get_or bytes 0 0 < 256 → gap ≡ get_or bytes 0 0 - 128 → SoFar bytes 1 gap 128
+unfolding gap_in
+one_group [] gap some high byte is = absurd (omega arith)
+one_group (b ∷ bytes) gap some high byte is =
+    let large : nat_lt b 128 ≡ false = grind (arith, nat_tests) in
+    let low : b % 128 ≡ gap = omega arith in
+    record { scale_is = omega arith; below = omega arith; inside = omega arith; read = groups_more 3 b bytes large ∙ rw (← low) refl }
+
+pub value_small : (value b scale : ℕ) → value < scale → b < 128 → value + b * scale < scale * 128
+value_small value b scale below small = grind arith
+
+pub scale_small : (i scale : ℕ) → i < 4 → scale ≡ 128 ^ i → scale ≤ 128 ^ 3
+scale_small i scale few is = let below : i ≤ 3 = omega arith in rw is (pow-le-pow_right {n = 128} (omega arith) {i = i} {j = 3} below)
+
+pub group_small : (b scale : ℕ) → b < 128 → scale ≤ 128 ^ 3 → b * scale ≤ 127 * 128 ^ 3
+group_small b scale small few = grind arith
+
+module _ (bytes : List ℕ) (i gap scale : ℕ) (far : SoFar bytes i gap scale) (few : i < 4) where
+  left : 4 - i ≡ suc (3 - i)
+  left = omega arith
+
+  pub ends_cut : length bytes ≤ i → gap_in bytes ≡ Err Cut
+  ends_cut short = far.read ∙ rw (left, drop_all i bytes short, none_within (3 - i)) refl
+
+  pub ends_shape : i < length bytes → get_or bytes i 0 ≡ 0 → gap_in bytes ≡ Err Shape
+  ends_shape within is =
+      far.read ∙ rw (left, drop-cons bytes i 0 within, is, one_within (3 - i) 0 (drop (suc i) bytes) refl) refl
+
+  pub ends_group : (b size : ℕ) → i < length bytes → b ≡ get_or bytes i 0 → b ≢ 0 → b < 128 → size ≡ i + 1 → gap_in bytes ≡ spelled (gap + b * scale) size
+  ends_group b size within is some small place =
+      let low : nat_lt b 128 ≡ true = grind (arith, nat_tests) in
+      let not_zero : (b == 0) ≡ false = grind (arith, nat_tests) in
+      let value : gap + scale * b ≡ gap + b * scale = grind arith in
+      let sizes : 1 + i ≡ size = omega arith in
+      far.read ∙ rw (left, drop-cons bytes i 0 within, ← is, one_within (3 - i) b (drop (suc i) bytes) low, not_zero, value, sizes) refl
+
+  pub one_more : (b : ℕ) → i < length bytes → b ≡ get_or bytes i 0 → 128 ≤ b → b < 256 → SoFar bytes (i + 1) (gap + (b - 128) * scale) (scale * 128)
+  one_more b within is high byte =
+      let large : nat_lt b 128 ≡ false = grind (arith, nat_tests) in
+      let low : b % 128 ≡ b - 128 = omega arith in
+      let next : 4 - (i + 1) ≡ 3 - i = omega arith in
+      record {
+        scale_is = ap (λ n. n * 128) far.scale_is ∙ grind (arith, pow-suc 128 i);
+        below = value_small gap (b - 128) scale far.below (omega arith);
+        inside = omega arith;
+        read = far.read ∙ rw (left, drop-cons bytes i 0 within, ← is, groups_more (3 - i) b (drop (suc i) bytes) large, next, add-one, ← low) (behind_more gap scale i b (gap_groups (3 - i) (drop (suc i) bytes)) ∙ rw add-one refl);
+      }
+
+-- all four groups have more behind them
+pub ends_long : (bytes : List ℕ) (gap scale : ℕ) → SoFar bytes 4 gap scale → gap_in bytes ≡ Err Shape
+ends_long bytes gap scale far = far.read
+
+-- a gap of one group, and none
+pub one_byte : (bytes : List ℕ) (at : ℕ) → at < length bytes → get_or bytes at 0 < 128 → gap_in (drop at bytes) ≡ spelled (get_or bytes at 0) 1
+unfolding gap_in
+one_byte bytes at inside small =
+    let low : nat_lt (get_or bytes at 0) 128 ≡ true = grind (arith, nat_tests) in
+    rw (drop-cons bytes at 0 inside, low) refl
+
+pub no_byte : (bytes : List ℕ) (at : ℕ) → length bytes ≤ at → gap_in (drop at bytes) ≡ Err Cut
+unfolding gap_in
+no_byte bytes at past = rw (drop_all at bytes past) refl
+
+-- the groups that are written, and those that are left
+pub record Written (gap size rest : ℕ) (spelling : List ℕ) : Type 0 where
+  pub groups : short_varint gap ≡ take size spelling ++ short_varint_within (9 - size) rest
+  pub fits : rest < 128 ^ (5 - size)
+  pub few : size ≤ 4
+  pub whole : length spelling ≡ 5
+
+pub none_written : (gap : ℕ) (spelling : List ℕ) → gap < 2 ^ 32 → length spelling ≡ 5 → Written gap 0 gap spelling
+unfolding short_varint
+none_written gap spelling small five = record { groups = refl; fits = omega arith; few = omega arith; whole = five }
+
+not_last : (size rest : ℕ) → size ≤ 4 → 128 ≤ rest → rest < 128 ^ (5 - size) → size ≢ 4
+not_last size rest few high fits is = absurd (let one : 128 ^ (5 - size) ≡ 128 = ap (λ n. 128 ^ (5 - n)) is in omega arith)
+
+pub more_written : (gap size rest : ℕ) (spelling : List ℕ) → Written gap size rest spelling → 128 ≤ rest → Written gap (size + 1) (rest / 128) (set spelling size (rest % 128 + 128))
+more_written gap size rest spelling far high =
+    let five = far.whole in
+    let few = far.few in
+    let last = not_last size rest few high far.fits in
+    let large : nat_lt rest 128 ≡ false = grind (arith, nat_tests) in
+    let left : 9 - size ≡ suc (9 - (size + 1)) = omega arith in
+    let power : 5 - size ≡ suc (5 - (size + 1)) = omega arith in
+    let fits : rest < 128 ^ suc (5 - (size + 1)) = subst (λ n. rest < 128 ^ n) power far.fits in
+    record {
+      groups = far.groups ∙ rw (left, large) (sym (ap (λ (s : List ℕ). s ++ short_varint_within (9 - (size + 1)) (rest / 128)) (take_more_set spelling size (rest % 128 + 128) (omega arith))
+          ∙ append_assoc (take size spelling) ((rest % 128 + 128) ∷ []) (short_varint_within (9 - (size + 1)) (rest / 128))));
+      fits = omega (arith, fits, pow-suc 128 (5 - (size + 1)));
+      few = omega arith;
+      whole = length-set spelling size (rest % 128 + 128) ∙ five;
+    }

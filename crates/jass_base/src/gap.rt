@@ -1,0 +1,86 @@
+ghost use Rattle.std.specs.Prelude.{◌≡◌, ◌≤◌, ◌<◌, ◌-◌, ◌^◌, ◌++◌, length, take, drop, slice_index, Ok, Err, OnOk, OnErr, IfOk, IfErr};
+ghost use Rattle.jass_base.specs.Gaps.{gap_in};
+ghost use Rattle.jass_base.specs.Wire.{short_varint};
+
+use crate::faults::NoMemory;
+use crate::payload_fault::PayloadFault;
+use crate::row::Row;
+
+/// Appends the shortest varint of a gap, or nothing where memory is refused.
+pub fn put_gap(gap: u32, out: &mut Row<u8>) -> Result<(), NoMemory>
+    ensures ok { OnOk result (out.new ≡ out.old ++ short_varint gap) }
+    ensures err { OnErr result (out.new ≡ out.old) }
+{
+    let mut spelling = [0u8; 5];
+    let size = spell_gap(gap, &mut spelling);
+    out.extend(&spelling[..size])
+}
+
+// Writes the shortest varint to the front of `spelling`, and returns how many bytes it has.
+fn spell_gap(gap: u32, spelling: &mut [u8; 5]) -> usize
+    ensures most { result ≤ 5 }
+    ensures bytes { take result spelling.new ≡ short_varint gap }
+{
+    let mut size = 0;
+    let mut rest = gap;
+    while rest >= 128 {
+        spelling[size] = (rest % 128 + 128) as u8;
+        rest /= 128;
+        size += 1;
+    }
+    spelling[size] = rest as u8;
+    size + 1
+}
+
+/// Reads the gap at a place, a shortest varint of at most four bytes, so that it is below
+/// 2^28. The answer is the gap and the place behind it.
+///
+/// Cut where the bytes end before the varint does. Shape where its fourth byte has the top
+/// bit set, or where a shorter varint spells the same gap.
+#[inline(always)]
+pub fn read_gap(bytes: &[u8], at: usize) -> Result<(u32, usize), PayloadFault>
+    ensures value { IfOk result (λ read. gap_in (drop at bytes.now) ≡ Ok (record { gap = read.0; size = read.1 - at })) }
+    ensures limit { IfOk result (λ read. read.0 < 2 ^ 28) }
+    ensures behind { IfOk result (λ read. at < read.1) }
+    ensures within { IfOk result (λ read. read.1 ≤ length bytes.now) }
+    ensures fault { IfErr result (λ fault. gap_in (drop at bytes.now) ≡ Err fault) }
+{
+    if at >= bytes.len() {
+        return Err(PayloadFault::Cut);
+    }
+    let first = bytes[at];
+    if first < 128 {
+        return Ok((u32::from(first), at + 1));
+    }
+    read_groups(bytes, at)
+}
+
+// Reads a gap of at least two groups of 7 bits.
+#[inline(never)]
+fn read_groups(bytes: &[u8], at: usize) -> Result<(u32, usize), PayloadFault>
+    requires within { at < length bytes.now }
+    requires more { 128 ≤ slice_index bytes.now at }
+    ensures value { IfOk result (λ read. gap_in (drop at bytes.now) ≡ Ok (record { gap = read.0; size = read.1 - at })) }
+    ensures limit { IfOk result (λ read. read.0 < 2 ^ 28) }
+    ensures behind { IfOk result (λ read. at < read.1) }
+    ensures within { IfOk result (λ read. read.1 ≤ length bytes.now) }
+    ensures fault { IfErr result (λ fault. gap_in (drop at bytes.now) ≡ Err fault) }
+{
+    let mut gap = u32::from(bytes[at]) - 128;
+    let mut scale = 128;
+    for group in 1..4 {
+        if group >= bytes.len() - at {
+            return Err(PayloadFault::Cut);
+        }
+        let byte = u32::from(bytes[at + group]);
+        if byte == 0 {
+            return Err(PayloadFault::Shape);
+        }
+        if byte < 128 {
+            return Ok((gap + byte * scale, at + group + 1));
+        }
+        gap += (byte - 128) * scale;
+        scale *= 128;
+    }
+    Err(PayloadFault::Shape)
+}
