@@ -1,0 +1,4 @@
+pub mod Compose
+pub mod Fields
+pub mod Postings
+pub mod Varints

@@ -1,0 +1,69 @@
+-- A shortest varint that is spelled, or counted, group by group.
+use Rattle.std.proofs.Common.{◌≡◌, ℕ, zero, suc, ◌+◌, ◌*◌, ◌^◌, ◌%◌, ◌/◌, ◌<◌, ◌≤◌, true, false, List, [], ◌∷◌, ◌++◌, length, refl, sym, ap, ◌∙◌, append_assoc, length-append, arith}
+use Rattle.std.specs.Prelude.{nat_lt}
+use Rattle.std.proofs.lemmas.Bool.Decides.{nat_tests}
+use Rattle.std.proofs.Math.Nat.{pow-suc}
+use Rattle.jass_base.specs.Wire.{short_varint_within, short_varint}
+
+-- a number below the greatest that k groups behind the first may hold
+abbrev pub Fits : ℕ → ℕ → Type 0
+Fits k n = n < 2 * 128 ^ k
+
+fits_less : (k n : ℕ) → Fits (suc k) n → Fits k (n / 128)
+fits_less k n fits = let p : 128 ^ suc k ≡ 128 ^ k * 128 = pow-suc 128 k in grind arith
+
+pub last_group : (k n : ℕ) → n < 128 → short_varint_within k n ≡ n ∷ []
+last_group zero n small = refl
+last_group (suc k) n small = let low : nat_lt n 128 ≡ true = grind (arith, nat_tests) in rw low refl
+
+more_groups : (k n : ℕ) → 128 ≤ n → short_varint_within (suc k) n ≡ (n % 128 + 128) ∷ short_varint_within k (n / 128)
+more_groups k n large = let high : nat_lt n 128 ≡ false = grind (arith, nat_tests) in rw high refl
+
+-- the groups in `now` behind `start`, and those of what is left, are the varint of the value
+abbrev pub Spelled : List ℕ → List ℕ → ℕ → ℕ → Type 0
+Spelled start now value left = (k : ℕ) × Fits k left × (length now + k ≡ length start + 9) × (now ++ short_varint_within k left ≡ start ++ short_varint value)
+
+pub spelled_none : (start : List ℕ) (value : ℕ) → value < 2 ^ 64 → Spelled start start value value
+unfolding short_varint
+spelled_none start value fits = (9, fits, refl, refl)
+
+pub spelled_more : (start now : List ℕ) (value left : ℕ) → 128 ≤ left → Spelled start now value left → Spelled start (now ++ (left % 128 + 128) ∷ []) value (left / 128)
+spelled_more start now value left large (zero, fits, size, is) = absurd (omega (arith, fits))
+spelled_more start now value left large (suc k, fits, size, is) = (
+  k,
+  fits_less k left fits,
+  omega (arith, size, length-append now ((left % 128 + 128) ∷ [])),
+  append_assoc now ((left % 128 + 128) ∷ []) (short_varint_within k (left / 128)) ∙ ap (λ (s : List ℕ). now ++ s) (sym (more_groups k left large)) ∙ is,
+)
+
+pub spelled_all : (start now : List ℕ) (value left : ℕ) → left < 128 → Spelled start now value left → now ++ left ∷ [] ≡ start ++ short_varint value
+spelled_all start now value left small (k, fits, size, is) = ap (λ (s : List ℕ). now ++ s) (sym (last_group k left small)) ∙ is
+
+pub spelled_room : (start now : List ℕ) (value left room : ℕ) → length start + 10 ≤ room → Spelled start now value left → length now < room
+spelled_room start now value left room fits (k, few, size, is) = omega (arith, size, fits)
+
+-- so many groups, and those of what is left, are as many as the varint of the value has
+abbrev pub Counted : ℕ → ℕ → ℕ → Type 0
+Counted len value left = (k : ℕ) × Fits k left × (len + k ≡ 10) × (len + length (short_varint_within k left) ≡ 1 + length (short_varint value))
+
+pub counted_none : (value : ℕ) → value < 2 ^ 64 → Counted 1 value value
+unfolding short_varint
+counted_none value fits = (9, fits, refl, refl)
+
+pub counted_more : (len value left : ℕ) → 128 ≤ left → Counted len value left → Counted (len + 1) value (left / 128)
+counted_more len value left large (zero, fits, size, is) = absurd (omega (arith, fits))
+counted_more len value left large (suc k, fits, size, is) =
+    let more : length (short_varint_within (suc k) left) ≡ suc (length (short_varint_within k (left / 128))) = ap length (more_groups k left large) in
+    (k, fits_less k left fits, omega (arith, size), omega (arith, is, more))
+
+pub counted_all : (len value left : ℕ) → left < 128 → Counted len value left → len ≡ length (short_varint value)
+counted_all len value left small (k, fits, size, is) =
+    let one : length (short_varint_within k left) ≡ 1 = ap length (last_group k left small) in
+    omega (arith, is, one)
+
+pub counted_few : (len value left : ℕ) → Counted len value left → len ≤ 10
+counted_few len value left (k, fits, size, is) = omega (arith, size)
+
+pub small_varint : (n : ℕ) → n < 128 → short_varint n ≡ n ∷ []
+unfolding short_varint
+small_varint n small = last_group 9 n small

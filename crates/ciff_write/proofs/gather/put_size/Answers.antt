@@ -1,0 +1,7 @@
+use Rattle.std.proofs.Common.{[]}
+use Rattle.jass_base.specs.Wire.{short_varint}
+use Rattle.ciff_write.proofs.Compose.{gather_cut}
+use Rattle.ciff_write.proofs.gather.put_size.Goals as goal
+
+pub returns-in_err-make_room : goal.returns-in_err-make_room
+returns-in_err-make_room g c = gather_cut [] (short_varint c.args.size) c.from_residual.ensures.0 c.in_err-make_room.ensures.text

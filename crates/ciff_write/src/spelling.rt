@@ -1,0 +1,49 @@
+//! The parts of messages, spelled into a buffer that has the room for them.
+
+ghost use Rattle.std.specs.Prelude.{◌≡◌, ◌+◌, ◌*◌, ◌≤◌, ◌<◌, ◌++◌, length};
+ghost use Rattle.jass_base.specs.Wire.{short_varint};
+ghost use Rattle.jass_base.specs.CiffText.{sized, number_spelling};
+
+use crate::buffer::Buffer;
+use crate::lengths::posting_len;
+
+/// The tag of a posting in its list: field 4, a message.
+const POSTING: u8 = 34;
+
+/// Puts the shortest varint of a number.
+pub fn push_varint(buffer: &mut Buffer, value: u64)
+    requires { length buffer.old + 10 ≤ 65536 }
+    ensures bytes { buffer.new ≡ buffer.old ++ short_varint value }
+    ensures few { length buffer.new ≤ length buffer.old + 10 }
+{
+    let mut left = value;
+    'groups: while left >= 128 {
+        buffer.push_byte((left % 128 + 128) as u8);
+        left /= 128;
+    }
+    buffer.push_byte(left as u8);
+}
+
+/// Puts the field of a number, or nothing for 0.
+pub fn push_number(buffer: &mut Buffer, field: u8, value: u64)
+    requires room { length buffer.old + 11 ≤ 65536 }
+    requires field { field < 16 }
+    ensures bytes { buffer.new ≡ buffer.old ++ number_spelling field value }
+    ensures few { length buffer.new ≤ length buffer.old + 11 }
+{
+    if value != 0 {
+        buffer.push_byte(field * 8);
+        push_varint(buffer, value);
+    }
+}
+
+/// Puts the field of a posting, by its gap.
+pub fn push_posting(buffer: &mut Buffer, gap: u32, tf: u32)
+    requires { length buffer.old + 24 ≤ 65536 }
+    ensures { buffer.new ≡ buffer.old ++ (short_varint (4 * 8 + 2) ++ sized (number_spelling 1 gap ++ number_spelling 2 tf)) }
+{
+    buffer.push_byte(POSTING);
+    buffer.push_byte(posting_len(gap, tf));
+    push_number(buffer, 1, u64::from(gap));
+    push_number(buffer, 2, u64::from(tf));
+}
