@@ -18,3 +18,5 @@ pub mod WalkLaws
 pub mod Walks
 pub mod Counting
 pub mod WireLaws
+pub mod VarintFront
+pub mod FrontLaws
