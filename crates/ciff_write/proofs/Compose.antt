@@ -3,14 +3,14 @@ use Rattle.std.proofs.Common.{◌≡◌, ℕ, List, [], ◌++◌, Option, Result
 use Rattle.std.specs.Prelude.{IsErr, IfOk}
 use Rattle.std.specs.Io.KnownBytes.{Appends}
 use Rattle.jass_base.specs.declared.faults.WriteFault.{WriteFault}
-use Rattle.jass_base.specs.Outside.{Files, Wrote}
+use Rattle.jass_base.specs.Outside.{Rest, Wrote}
 use Rattle.jass_base.specs.Writing.{AppendsPrefix, AppendsPrefix-then, AppendsPrefix-longer, Appends-none, Appends-then, Rose-earlier}
 use Rattle.ciff_write.specs.Gathering.{Gathers}
 
 AppendsPrefix-same : (old new : Option (List ℕ)) (text other : List ℕ) → text ≡ other → AppendsPrefix old new text → AppendsPrefix old new other
 AppendsPrefix-same old new text other is a = subst (λ (t : List ℕ). AppendsPrefix old new t) is a
 
-module _ {S : Type 0} {written : S → Option (List ℕ)} {faults : S → ℕ} {rest : S → Option Files} where
+module _ {S : Type 0} {written : S → Option (List ℕ)} {faults : S → ℕ} {rest : S → Rest} where
   -- the first of two texts failed
   pub gather_cut : {T U E : Type 0} {old new : S} {before after : List ℕ} (first others : List ℕ) {result : Result T E} {e : E} → IsErr result → Gathers {T = U} written faults rest old new before after first (Err e) → Gathers written faults rest old new before after (first ++ others) result
   gather_cut first others {result = Ok x} failed done = cc
@@ -77,10 +77,10 @@ module _ {S : Type 0} {written : S → Option (List ℕ)} {faults : S → ℕ} {
   gather_none old before t = record { bytes = ([], Appends-none (written old), sym (append-nil before)); cause = record { later = omega arith; failed = tt }; rest_stays = refl }
 
 -- a text was gathered as far as what is left of it
-abbrev pub GathersUpTo : {S : Type 0} → (S → Option (List ℕ)) → (S → ℕ) → (S → Option Files) → S → S → List ℕ → List ℕ → List ℕ → List ℕ → Type 0
+abbrev pub GathersUpTo : {S : Type 0} → (S → Option (List ℕ)) → (S → ℕ) → (S → Rest) → S → S → List ℕ → List ℕ → List ℕ → List ℕ → Type 0
 GathersUpTo written faults rest old now before after whole left = (first : List ℕ) × Gathers {T = Unit {0}} {E = WriteFault} written faults rest old now before after first (Ok tt) × (whole ≡ first ++ left)
 
-module _ {S : Type 0} {written : S → Option (List ℕ)} {faults : S → ℕ} {rest : S → Option Files} where
+module _ {S : Type 0} {written : S → Option (List ℕ)} {faults : S → ℕ} {rest : S → Rest} where
   pub up_to_none : (old : S) (before whole : List ℕ) → GathersUpTo written faults rest old old before before whole whole
   up_to_none old before whole = ([], gather_none old before tt, refl)
 

@@ -112,6 +112,9 @@ module _ (all : List (List ℕ)) (differ : AllPairs (λ (s t : List ℕ). s ≢ 
       (renumbered_term t.term t.segments ∙ ap (λ (n : ℕ). term_entries n t.segments) (number_at front t.term (texts_of ts) e))
       (renumbered (front ++ t.term ∷ []) ts (e ∙ sym (append_assoc front (t.term ∷ []) (texts_of ts))) ∙ ap (λ (n : ℕ). numbered_from n ts) (length_push front t.term ∙ add-one (length front)))
 
+pub terms_are_texts : (terms : List TermSegments) → AllPairs RisesTo terms → terms_of (flat_of_terms terms) ≡ texts_of terms
+terms_are_texts terms rising = texts terms (apart terms rising)
+
 pub numbered_is : (terms : List TermSegments) → AllPairs RisesTo terms → numbered (flat_of_terms terms) ≡ numbered_from 0 terms
 unfolding renumber
 numbered_is terms rising =

@@ -6,6 +6,7 @@
 mod building;
 mod flattening;
 mod grouping;
+pub mod laws;
 mod listing;
 mod terms;
 mod weighing;

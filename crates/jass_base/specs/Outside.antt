@@ -77,8 +77,13 @@ Appended old new name bytes result = MatchResult result (λ _. Extends old new n
 abbrev pub Puts : {T E : Type 0} → Option (List ℕ) → Option (List ℕ) → List ℕ → Result T E → Type 0
 Puts old new bytes result = MatchResult result (λ _. Appends old new bytes) (λ _. (n : ℕ) × Appends old new (take n bytes))
 
+-- what no put on a sink changes: the place that it writes to, and the named contents beside that, where they are told
+pub record Rest : Type 0 where
+  pub place : List ℕ
+  pub files : Option Files
+
 -- a text was put on a sink; after a failure a prefix of it was
-pub record Wrote {S T E : Type 0} (written : S → Option (List ℕ)) (faults : S → ℕ) (rest : S → Option Files) (old new : S) (text : List ℕ) (result : Result T E) : Type 0 where
+pub record Wrote {S T E : Type 0} (written : S → Option (List ℕ)) (faults : S → ℕ) (rest : S → Rest) (old new : S) (text : List ℕ) (result : Result T E) : Type 0 where
   pub bytes : Puts (written old) (written new) text result
   pub cause : HasCause (faults old) (faults new) result
   pub rest_stays : rest new ≡ rest old

@@ -1,6 +1,6 @@
-ghost use Rattle.std.specs.Prelude.{ℕ, ◌≡◌, Option, Some, List};
+ghost use Rattle.std.specs.Prelude.{ℕ, ◌≡◌, Option, Some, List, []};
 ghost use Rattle.std.specs.FinMap.{empty};
-ghost use Rattle.jass_base.specs.Outside.{Files, HasCause, Puts};
+ghost use Rattle.jass_base.specs.Outside.{Rest, HasCause, Puts};
 
 use crate::faults::Failed;
 
@@ -11,8 +11,9 @@ pub trait Sink {
 
     ghost faults: { Self → ℕ };
 
-    /// Named contents behind the sink that no put changes, where they are told.
-    ghost rest: { Self → Option Files } = { λ _. Some empty };
+    /// What no put changes: the place that is written to, and the named contents beside it,
+    /// where they are told.
+    ghost rest: { Self → Rest } = { λ _. record { place = []; files = Some empty } };
 
     /// Appends all bytes. After a failure a prefix of them was appended.
     fn put(&mut self, bytes: &[u8]) -> Result<(), Failed>

@@ -2,6 +2,8 @@
 use Rattle.std.proofs.Common.{◌≡◌, ◌≢◌, ℕ, ◌≤◌, List, [], ◌∷◌, length, Some, sym, ap, subst, ◌∙◌, arith, ◌⊎◌, inl, inr}
 use Rattle.std.specs.Prelude.{slice_get}
 use Rattle.jass_base.specs.declared.answer.Budget.{Budget}
+use Rattle.jass_base.specs.declared.answer.Budget.TheVariants as budgets
+use Rattle.jass_base.specs.Decimal.{decimal_of}
 use Rattle.jass_words.specs.Words.{CommandData, Once, Rewrite, IsFile, IsCount, IsBudget, AreTerms, IsCommand}
 
 abbrev first : List (List ℕ) → List ℕ
@@ -11,6 +13,9 @@ first (a ∷ rest) = a
 abbrev behind : List (List ℕ) → List (List ℕ)
 behind [] = []
 behind (a ∷ rest) = rest
+
+abbrev all_word : List ℕ
+all_word = 97 ∷ 108 ∷ 108 ∷ []
 
 abbrev pub once_word : List ℕ
 once_word = 111 ∷ 110 ∷ 99 ∷ 101 ∷ []
@@ -91,3 +96,37 @@ no_empty_command (Once ciff k budget terms) is =
 no_empty_command (Rewrite from to) is =
     let size : length {A = List ℕ} [] ≡ length (rewrite_word ∷ from ∷ to ∷ []) = ap length is.parts in
     omega (arith, size)
+
+-- ---- words are one command at most
+
+same_budget : (word : List ℕ) (budget other : Budget) → IsBudget word budget → IsBudget word other → budget ≡ other
+same_budget word (budgets.Postings m) (budgets.Postings n) is theirs = (let same : m ≡ n = cc in ap budgets.Postings same)
+same_budget word budgets.All budgets.All is theirs = λ i. budgets.All
+same_budget word (budgets.Postings m) budgets.All is theirs = (let none : decimal_of all_word ≡ Some m = subst (λ w. decimal_of w ≡ Some m) theirs is in cc)
+same_budget word budgets.All (budgets.Postings n) is theirs = (let none : decimal_of all_word ≡ Some n = subst (λ w. decimal_of w ≡ Some n) is theirs in cc)
+
+pub one_command : (words : List (List ℕ)) (command other : CommandData) → IsCommand words command → IsCommand words other → command ≡ other
+one_command words (Once f k b ts) (Once g l c us) is theirs =
+    let both : once_word ∷ f ∷ is.count ∷ is.limit ∷ ts ≡ once_word ∷ g ∷ theirs.count ∷ theirs.limit ∷ us = sym is.parts ∙ theirs.parts in
+    let file : f ≡ g = ap (λ ws. first (behind ws)) both in
+    let count : is.count ≡ theirs.count = ap (λ ws. first (behind (behind ws))) both in
+    let limit : is.limit ≡ theirs.limit = ap (λ ws. first (behind (behind (behind ws)))) both in
+    let terms : ts ≡ us = ap (λ ws. behind (behind (behind (behind ws)))) both in
+    let there : decimal_of is.count ≡ Some l = subst (λ w. decimal_of w ≡ Some l) (sym count) theirs.counted.decimal in
+    let k_is : k ≡ l = some_number (sym is.counted.decimal ∙ there) in
+    let b_is : b ≡ c = same_budget is.limit b c is.limited (subst (λ w. IsBudget w c) (sym limit) theirs.limited) in
+    (λ i. Once (file i) (k_is i) (b_is i) (terms i))
+  where
+    some_number : {m n : ℕ} → Some m ≡ Some n → m ≡ n
+    some_number same = cc
+one_command words (Once f k b ts) (Rewrite from to) is theirs =
+    let other : once_word ≡ rewrite_word = ap first (sym is.parts ∙ theirs.parts) in
+    cc
+one_command words (Rewrite from to) (Once g l c us) is theirs =
+    let other : rewrite_word ≡ once_word = ap first (sym is.parts ∙ theirs.parts) in
+    cc
+one_command words (Rewrite from to) (Rewrite from' to') is theirs =
+    let both : rewrite_word ∷ from ∷ to ∷ [] ≡ rewrite_word ∷ from' ∷ to' ∷ [] = sym is.parts ∙ theirs.parts in
+    let from_is : from ≡ from' = ap (λ ws. first (behind ws)) both in
+    let to_is : to ≡ to' = ap (λ ws. first (behind (behind ws))) both in
+    (λ i. Rewrite (from_is i) (to_is i))

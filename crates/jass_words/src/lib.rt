@@ -3,6 +3,7 @@
 //! The words of the command line as a command, or the first word that is at fault.
 
 mod command;
+pub mod laws;
 mod reading;
 mod slots;
 #[cfg(test)]

@@ -3,14 +3,14 @@ use Rattle.std.proofs.Common.{◌≡◌, ℕ, List, [], ◌∷◌, ◌++◌, len
 use Rattle.std.proofs.lemmas.List.{take_more}
 use Rattle.std.specs.Prelude.{IsErr}
 use Rattle.std.proofs.lemmas.Grind.{flat_map-append}
-use Rattle.jass_base.specs.Outside.{Files, Wrote}
+use Rattle.jass_base.specs.Outside.{Rest, Wrote}
 use Rattle.jass_base.specs.Writing.{AppendsPrefix, AppendsPrefix-then, AppendsPrefix-longer, Appends-then, Rose-earlier}
 use Rattle.trec_run.specs.Gathering.{Gathers}
 
 AppendsPrefix-same : (old new : Option (List ℕ)) (text other : List ℕ) → text ≡ other → AppendsPrefix old new text → AppendsPrefix old new other
 AppendsPrefix-same old new text other is a = subst (λ (t : List ℕ). AppendsPrefix old new t) is a
 
-module _ {S : Type 0} (written : S → Option (List ℕ)) (faults : S → ℕ) (rest : S → Option Files) where
+module _ {S : Type 0} (written : S → Option (List ℕ)) (faults : S → ℕ) (rest : S → Rest) where
   -- the flush failed
   pub flush_failed : {T U E : Type 0} (old new : S) (before after piece : List ℕ) (result : Result T E) (e : E) → IsErr result → Wrote {T = U} written faults rest old new before (Err e) → Gathers written faults rest old new before after piece result
   flush_failed old new before after piece (Ok x) e failed wrote = cc
