@@ -9,14 +9,14 @@ use Rattle.jass_base.specs.Wire.{short_varint_within, short_varint}
 abbrev pub Fits : ℕ → ℕ → Type 0
 Fits k n = n < 2 * 128 ^ k
 
-fits_less : (k n : ℕ) → Fits (suc k) n → Fits k (n / 128)
+pub fits_less : (k n : ℕ) → Fits (suc k) n → Fits k (n / 128)
 fits_less k n fits = let p : 128 ^ suc k ≡ 128 ^ k * 128 = pow-suc 128 k in grind arith
 
 pub last_group : (k n : ℕ) → n < 128 → short_varint_within k n ≡ n ∷ []
 last_group zero n small = refl
 last_group (suc k) n small = let low : nat_lt n 128 ≡ true = grind (arith, nat_tests) in rw low refl
 
-more_groups : (k n : ℕ) → 128 ≤ n → short_varint_within (suc k) n ≡ (n % 128 + 128) ∷ short_varint_within k (n / 128)
+pub more_groups : (k n : ℕ) → 128 ≤ n → short_varint_within (suc k) n ≡ (n % 128 + 128) ∷ short_varint_within k (n / 128)
 more_groups k n large = let high : nat_lt n 128 ≡ false = grind (arith, nat_tests) in rw high refl
 
 -- the groups in `now` behind `start`, and those of what is left, are the varint of the value

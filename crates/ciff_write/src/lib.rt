@@ -9,8 +9,12 @@ mod collection;
 mod document;
 mod gather;
 mod header;
+pub mod laws;
 mod lengths;
 mod postings_list;
 mod spelling;
 
 pub use collection::write_collection;
+
+#[cfg(test)]
+mod tests;

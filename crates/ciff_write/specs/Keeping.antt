@@ -1,0 +1,16 @@
+-- What a collection keeps, so that its canonical file stands for it.
+use Rattle.std.specs.Prelude.{◌≡◌, ◌≤◌, ◌^◌, length, map, All}
+use Rattle.std.specs.List.{IsDistinct}
+use Rattle.std.specs.Str.{bytes_eq}
+use Rattle.jass_base.specs.Ciff.{CollectionData, ListData, FitsHeader, FitsList, FitsDoc, postings_count}
+use Rattle.jass_base.specs.CiffText.{canonical_ciff}
+
+-- the numbers, texts, documents and lists are in the ranges and limits of the format, and the file ends by place 2^32
+pub record KeepsLimits (c : CollectionData) : Type 0 where
+  pub header : FitsHeader c.header (length c.lists) (length c.docs)
+  pub average : length c.header.average ≡ 8
+  pub lists : All (FitsList (length c.docs)) c.lists
+  pub docs : All FitsDoc c.docs
+  pub terms_differ : IsDistinct bytes_eq (map (λ (l : ListData). l.term) c.lists)
+  pub few_postings : postings_count c.lists ≤ 2 ^ 29
+  pub short : length (canonical_ciff c) ≤ 2 ^ 32
