@@ -5,7 +5,7 @@ ghost use Rattle.jass_base.specs.CiffText.{number_spelling, text_spelling};
 ghost use Rattle.ciff_write.specs.Gathering.{Gathers};
 
 use crate::buffer::{Buffer, ROOM};
-use crate::spelling::{push_number, push_varint};
+use crate::spelling::{NUMBER_ROOM, VARINT_ROOM, push_number, push_varint};
 use jass_base::{Sink, WriteFault};
 
 /// Puts bytes on the sink.
@@ -60,7 +60,7 @@ pub fn put_bytes<S: Sink>(out: &mut S, buffer: &mut Buffer, bytes: &[u8]) -> Res
 pub fn put_size<S: Sink>(out: &mut S, buffer: &mut Buffer, size: u64) -> Result<(), WriteFault>
     ensures { Gathers S.written S.faults S.rest out.old out.new buffer.old buffer.new (short_varint size) result }
 {
-    make_room(out, buffer, 10)?;
+    make_room(out, buffer, VARINT_ROOM)?;
     push_varint(buffer, size);
     Ok(())
 }
@@ -75,7 +75,7 @@ pub fn put_number<S: Sink>(
     requires { field < 16 }
     ensures { Gathers S.written S.faults S.rest out.old out.new buffer.old buffer.new (number_spelling field value) result }
 {
-    make_room(out, buffer, 11)?;
+    make_room(out, buffer, NUMBER_ROOM)?;
     push_number(buffer, field, value);
     Ok(())
 }
@@ -90,7 +90,7 @@ fn put_text_head<S: Sink>(
     requires { field < 15 }
     ensures { Gathers S.written S.faults S.rest out.old out.new buffer.old buffer.new ((field * 8 + 2) ∷ short_varint len) result }
 {
-    make_room(out, buffer, 11)?;
+    make_room(out, buffer, NUMBER_ROOM)?;
     buffer.push_byte(field * 8 + 2);
     push_varint(buffer, len);
     Ok(())

@@ -27,6 +27,9 @@ const DESCRIPTION: u8 = 8;
 /// The tag of the average length: field 7, eight bytes.
 const AVERAGE: u8 = 57;
 
+/// The most bytes of the six numbers of a header and its average length.
+const NUMBERS_ROOM: usize = 75;
+
 /// Puts the message of the header, in front of so many lists and documents.
 pub fn put_header<S: Sink>(
     out: &mut S,
@@ -38,7 +41,7 @@ pub fn put_header<S: Sink>(
     ensures { Gathers S.written S.faults S.rest out.old out.new buffer.old buffer.new (sized (header_body (header_data header.now) lists docs)) result }
 {
     put_size(out, buffer, header_len(header, lists, docs))?;
-    make_room(out, buffer, 75)?;
+    make_room(out, buffer, NUMBERS_ROOM)?;
     push_numbers(buffer, header, lists, docs);
     push_average(buffer, &header.average);
     put_text(out, buffer, DESCRIPTION, header.description.as_str())

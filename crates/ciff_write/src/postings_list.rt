@@ -10,7 +10,7 @@ ghost use Rattle.ciff_write.specs.Gathering.{Gathers};
 use crate::buffer::Buffer;
 use crate::gather::{make_room, put_number, put_size, put_text};
 use crate::lengths::{number_len, postings_len, text_len};
-use crate::spelling::push_posting;
+use crate::spelling::{POSTING_ROOM, push_posting};
 use jass_base::{Posting, PostingsList, Sink, WriteFault};
 
 const TERM: u8 = 1;
@@ -85,7 +85,7 @@ fn put_posting<S: Sink>(
 ) -> Result<(), WriteFault>
     ensures { Gathers S.written S.faults S.rest out.old out.new buffer.old buffer.new (short_varint (4 * 8 + 2) ++ sized (number_spelling 1 gap ++ number_spelling 2 tf)) result }
 {
-    make_room(out, buffer, 24)?;
+    make_room(out, buffer, POSTING_ROOM)?;
     push_posting(buffer, gap, tf);
     Ok(())
 }

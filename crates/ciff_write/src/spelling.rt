@@ -7,6 +7,15 @@ ghost use Rattle.jass_base.specs.CiffText.{sized, number_spelling};
 use crate::buffer::Buffer;
 use crate::lengths::posting_len;
 
+/// The most bytes of a varint.
+pub const VARINT_ROOM: usize = 10;
+
+/// The most bytes of the field of a number: a tag of one byte, and a varint.
+pub const NUMBER_ROOM: usize = 11;
+
+/// The most bytes of the field of a posting: a tag and a length of one byte, and two numbers.
+pub const POSTING_ROOM: usize = 24;
+
 /// The tag of a posting in its list: field 4, a message.
 const POSTING: u8 = 34;
 
