@@ -1,4 +1,10 @@
+pub mod Answering
+pub mod Contents
+pub mod Ending
 pub mod Fronts
+pub mod Inputs
 pub mod Positions
-pub mod Statuses
+pub mod Printing
+pub mod Running
 pub mod Sizes
+pub mod Wholes

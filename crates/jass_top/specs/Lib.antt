@@ -1,5 +1,7 @@
-pub mod Notes
+pub mod Answers
 pub mod Fronts
-pub mod Views
+pub mod Notes
+pub mod OnceViews
+pub mod Outcomes
 pub mod Stops
-pub mod Words
+pub mod Views

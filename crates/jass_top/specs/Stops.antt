@@ -12,9 +12,25 @@ status_of (Refused number at) = status.Refused
 status_of ReadFault = status.ReadFault
 status_of WriteFault = status.WriteFault
 
--- the line that is noted, of a command that names one file
-abbrev pub stop_text : List ℕ → Stop → List ℕ
-stop_text name NoMemory = codes "no memory\n"
-stop_text name (Refused number at) = name ++ (codes ": refusal " ++ (decimal number ++ (codes " at " ++ (decimal at ++ codes "\n"))))
-stop_text name ReadFault = name ++ codes ": read fault\n"
-stop_text name WriteFault = codes "output: write fault\n"
+-- the lines that are noted
+abbrev pub memory_text : List ℕ
+memory_text = codes "no memory\n"
+
+abbrev pub word_text : ℕ → List ℕ
+word_text which = codes "word " ++ (decimal which ++ codes "\n")
+
+abbrev pub refusal_text : List ℕ → ℕ → ℕ → List ℕ
+refusal_text name number at = name ++ (codes ": refusal " ++ (decimal number ++ (codes " at " ++ (decimal at ++ codes "\n"))))
+
+abbrev pub read_fault_text : List ℕ → List ℕ
+read_fault_text name = name ++ codes ": read fault\n"
+
+abbrev pub write_fault_text : List ℕ → List ℕ
+write_fault_text name = name ++ codes ": write fault\n"
+
+-- the line of a command that reads one file and writes one output
+abbrev pub stop_text : List ℕ → List ℕ → Stop → List ℕ
+stop_text input output NoMemory = memory_text
+stop_text input output (Refused number at) = refusal_text input number at
+stop_text input output ReadFault = read_fault_text input
+stop_text input output WriteFault = write_fault_text output

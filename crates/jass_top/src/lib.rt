@@ -3,11 +3,14 @@
 //! The program as one call: it reads the command's words, runs the command over a cabinet,
 //! an input, an output and notes, and answers a status.
 
+mod command;
 mod index_view;
+mod input;
 mod note;
 mod once;
-mod once_words;
 mod program;
+mod question;
+mod rewrite;
 mod status;
 mod stop;
 mod whole_file;

@@ -1,19 +1,27 @@
-ghost use Rattle.std.specs.Prelude.{ℕ, ◌≡◌, ◌≤◌, ◌<◌, ◌^◌, ◌⊎◌, length, IfOk, OnErr, IfErr, Err, IsErrOf, ◌≢◌, All};
-ghost use Rattle.ciff_read.specs.Counts.{posting_count};
+ghost use Rattle.std.specs.Prelude.{ℕ, ◌≡◌, ◌≢◌, ◌≤◌, ◌^◌, ◌⊎◌, length, IfOk, IfErr, OnOk};
+ghost use Rattle.std.specs.Io.KnownBytes.{Appends};
 ghost use Rattle.impact_segments.specs.Flat.{flat_of};
-ghost use Rattle.jass_base.specs.Outside.{Rose, IsMissing};
-ghost use Rattle.jass_base.specs.declared.answer.Hit.{Hit};
+ghost use Rattle.jass_base.specs.Outside.{Rose, IsMissing, OnContent, Wrote};
+ghost use Rattle.jass_base.specs.Writing.{AppendsPrefix};
+ghost use Rattle.jass_top.specs.Answers.{known_terms, unknown_terms, once_text};
+ghost use Rattle.jass_top.specs.OnceViews.{view_of, query_of, IsAnswer};
+ghost use Rattle.jass_top.specs.Outcomes.{Answers, IsRefused};
 
 use crate::index_view::IndexView;
-use crate::once_words::Once;
+use crate::input::read_file;
+use crate::question::{Answer, Question};
 use crate::stop::Stop;
-use crate::whole_file::{ReadStop, read_whole};
-use ciff_read::{CiffFault, read_collection};
+use ciff_read::laws::files_are_read;
 use final_certificate::grade;
+use final_certificate::laws::{a_final_answer_stands, a_set_answer_keeps_its_documents};
+use impact_segments::laws::the_terms_are_those_of_the_flat_list;
 use impact_segments::{build, entries_of};
-use jass_base::{Cabinet, Collection, Hit, ImpactIndex, NoMemory, Report, Row, Sink};
+use jass_base::{Cabinet, ImpactIndex, NoMemory, Query, Sink, WriteFault};
 use query_reader::name_terms;
-use ranking_model::laws::{the_prefix_is_the_longest, the_ranking_has_documents_of_the_scores};
+use ranking_model::laws::{
+    the_cutoff_parts_scored_from_unscored, the_prefix_is_the_longest,
+    the_ranking_has_documents_of_the_scores, the_scored_prefix_is_the_heaviest,
+};
 use ranking_model::{
     bound_after, granted_sum, plan_of, prefix_within, report_of, scores_after, standing_of,
 };
@@ -26,96 +34,84 @@ const ID: &str = "q";
 
 const TAG: &str = "jass";
 
-/// What a query of words is answered with.
-#[derive(Drop)]
-pub struct Answer {
-    pub report: Report,
-    /// Mentions of terms that no list has.
-    pub unknown: u32,
-    pub hits: Row<Hit>,
-}
-
 /// Answers a query of words over a CIFF file on the output.
 pub fn run_once<C: Cabinet, O: Sink>(
     alloc: Global,
-    once: Once<'_>,
+    ciff: &str,
+    question: Question<'_>,
     files: &mut C,
     out: &mut O,
 ) -> Result<(), Stop>
-    ensures read { IsErrOf result Stop.ReadFault → Rose (C.read_faults files.old) (C.read_faults files.new) ⊎ IsMissing (C.told files.old) once.entry.ciff.now }
-    ensures write { IsErrOf result Stop.WriteFault → Rose (O.faults out.old) (O.faults out.new) }
+    ensures done { OnOk result (Answers (C.told files.old) ciff.now (query_of question.entry) (λ index report. Appends (O.written out.old) (O.written out.new) (once_text index (query_of question.entry) report))) }
+    ensures refused { IfErr result (λ stop. (number at : ℕ) → stop ≡ Stop.Refused number at → OnContent (C.told files.old) ciff.now (λ content. IsRefused content number at)) }
+    ensures read_fault { IfErr result (λ stop. stop ≡ Stop.ReadFault → Rose (C.read_faults files.old) (C.read_faults files.new) ⊎ IsMissing (C.told files.old) ciff.now) }
+    ensures write_fault { IfErr result (λ stop. stop ≡ Stop.WriteFault → Rose (O.faults out.old) (O.faults out.new)) }
+    ensures part { IfErr result (λ stop. stop ≡ Stop.WriteFault → Answers (C.told files.old) ciff.now (query_of question.entry) (λ index report. AppendsPrefix (O.written out.old) (O.written out.new) (once_text index (query_of question.entry) report))) }
     ensures files { C.told files.new ≡ C.told files.old }
     ensures unwritten { IfErr result (λ stop. stop ≢ Stop.WriteFault → O.written out.new ≡ O.written out.old) }
 {
-    let collection = read_file(alloc, files, once.ciff)?;
+    files_are_read();
+    let collection = read_file(alloc, files, ciff)?;
     let index = match build(alloc, &collection, Rule::Tf, Bits::Raw) {
         Ok(index) => index,
         Err(_) => return Err(Stop::NoMemory),
     };
-    let answer = match answer_words(alloc, &index, once) {
+    let answer = match answer_words(alloc, &index, question) {
         Ok(answer) => answer,
         Err(_) => return Err(Stop::NoMemory),
     };
-    put(out, &index, &answer)
-}
-
-/// Reads a CIFF file whole.
-fn read_file<C: Cabinet>(alloc: Global, files: &mut C, name: &str) -> Result<Collection, Stop>
-    ensures no_write { ¬ IsErrOf result Stop.WriteFault }
-    ensures stays { C.told files.new ≡ C.told files.old }
-    ensures few { IfOk result (λ collection. posting_count collection.lists ≤ 2 ^ 29) }
-    ensures fault { IsErrOf result Stop.ReadFault → Rose (C.read_faults files.old) (C.read_faults files.new) ⊎ IsMissing (C.told files.old) name.now }
-{
-    let bytes = match read_whole(alloc, files, name) {
-        Ok(bytes) => bytes,
-        Err(ReadStop::ReadFault) => return Err(Stop::ReadFault),
-        Err(ReadStop::NoMemory) => return Err(Stop::NoMemory),
-    };
-    match read_collection(alloc, bytes.as_slice()) {
-        Ok(collection) => Ok(collection),
-        Err(CiffFault::Refused(refusal)) => Err(Stop::Refused {
-            number: refusal.why.number(),
-            at: refusal.at,
-        }),
-        Err(_) => Err(Stop::NoMemory),
+    match put(out, &index, question, &answer) {
+        Ok(()) => Ok(()),
+        Err(_) => Err(Stop::WriteFault),
     }
 }
 
 /// Answers a query of words over an index.
-fn answer_words(alloc: Global, index: &ImpactIndex, once: Once<'_>) -> Result<Answer, NoMemory>
+fn answer_words(
+    alloc: Global,
+    index: &ImpactIndex,
+    question: Question<'_>,
+) -> Result<Answer, NoMemory>
     requires { length (flat_of index.now) ≤ 2 ^ 29 }
-    ensures { IfOk result (λ answer. All (λ (hit : Hit). hit.doc < length index.now.names) answer.hits) }
+    ensures { IfOk result (λ answer. IsAnswer (view_of index.now) (query_of question.entry) answer) }
 {
+    the_terms_are_those_of_the_flat_list();
     let view = IndexView { index };
-    let query = match name_terms(alloc, ID, once.terms, &view) {
+    let query = match name_terms(alloc, ID, question.terms, &view) {
         Ok(query) => query,
         Err(_) => return Err(NoMemory),
     };
-    let entries = match entries_of(alloc, index) {
-        Ok(entries) => entries,
-        Err(_) => return Err(NoMemory),
-    };
-    let docs = index.names.len() as u32;
-    let plan = match plan_of(alloc, docs, entries.as_slice(), query.terms.as_slice()) {
-        Ok(plan) => plan,
-        Err(_) => return Err(NoMemory),
-    };
+    answer_query(alloc, index, question, &query)
+}
+
+/// Answers a query over an index.
+fn answer_query(
+    alloc: Global,
+    index: &ImpactIndex,
+    question: Question<'_>,
+    query: &Query,
+) -> Result<Answer, NoMemory>
+    requires few { length (flat_of index.now) ≤ 2 ^ 29 }
+    requires terms { query.now.terms ≡ known_terms (view_of index.now) (query_of question) }
+    requires unknown { query.now.unknown ≡ unknown_terms (view_of index.now) (query_of question) }
+    ensures { IfOk result (λ answer. IsAnswer (view_of index.now) (query_of question.entry) answer) }
+{
     the_prefix_is_the_longest();
-    let count = prefix_within(granted_sum(&[once.budget]), plan.classes.as_slice());
-    let scores = match scores_after(alloc, count, &plan) {
-        Ok(scores) => scores,
-        Err(_) => return Err(NoMemory),
-    };
-    the_ranking_has_documents_of_the_scores();
-    let standing = match standing_of(alloc, scores.as_slice(), once.k as usize) {
-        Ok(standing) => standing,
-        Err(_) => return Err(NoMemory),
-    };
+    the_cutoff_parts_scored_from_unscored();
+    the_scored_prefix_is_the_heaviest();
+    a_final_answer_stands();
+    a_set_answer_keeps_its_documents();
+    let entries = entries_of(alloc, index)?;
+    let docs = index.names.len() as u32;
+    let plan = plan_of(alloc, docs, entries.as_slice(), query.terms.as_slice())?;
+    let count = prefix_within(granted_sum(&[question.budget]), plan.classes.as_slice());
+    let scores = scores_after(alloc, count, &plan)?;
+    let standing = standing_of(alloc, scores.as_slice(), question.k as usize)?;
     let grade = grade(
         standing.hits.as_slice(),
         standing.runner_up,
         standing.least_untouched,
-        once.k,
+        question.k,
         bound_after(count, &plan),
     );
     Ok(Answer {
@@ -126,18 +122,20 @@ fn answer_words(alloc: Global, index: &ImpactIndex, once: Once<'_>) -> Result<An
 }
 
 /// Puts the report line and the run lines on the output.
-fn put<O: Sink>(out: &mut O, index: &ImpactIndex, answer: &Answer) -> Result<(), Stop>
-    requires { All (λ (hit : Hit). hit.doc < length index.now.names) answer.now.hits }
-    ensures only { OnErr result (result ≡ Err Stop.WriteFault) }
-    ensures cause { OnErr result (Rose (O.faults out.old) (O.faults out.new)) }
+fn put<O: Sink>(
+    out: &mut O,
+    index: &ImpactIndex,
+    question: Question<'_>,
+    answer: &Answer,
+) -> Result<(), WriteFault>
+    requires { IsAnswer (view_of index.now) (query_of question) answer.now }
+    ensures { Wrote O.written O.faults O.rest out.old out.new (once_text (view_of index.now) (query_of question.entry) answer.now.report) result }
 {
+    the_ranking_has_documents_of_the_scores();
     match put_report(out, ID, answer.unknown, answer.report) {
         Ok(()) => {}
-        Err(_) => return Err(Stop::WriteFault),
+        Err(fault) => return Err(fault),
     }
     let view = IndexView { index };
-    match put_answer(out, ID, &view, answer.hits.as_slice(), TAG, 0) {
-        Ok(()) => Ok(()),
-        Err(_) => Err(Stop::WriteFault),
-    }
+    put_answer(out, ID, &view, answer.hits.as_slice(), TAG, 0)
 }

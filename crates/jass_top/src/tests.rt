@@ -241,7 +241,7 @@ fn other_ends_are_noted(rt: HostRuntime) {
     same_document[37] = 0;
     let mut bad_wire = ONE_TERM;
     bad_wire[26] = 0x13;
-    let table: [(&[u8], &str, &[u64], &[u64], u8, &[u8]); 13] = [
+    let table: [(&[u8], &str, &[u64], &[u64], u8, &[u8]); 15] = [
         (
             &[],
             "once b.ciff 3 all a",
@@ -286,6 +286,15 @@ fn other_ends_are_noted(rt: HostRuntime) {
         (&ONE_TERM, "search i q", &[], &[], 2, b"word 1\n"),
         (&ONE_TERM, "", &[], &[], 2, b"word 1\n"),
         (&ONE_TERM, "once b.ciff 3 all", &[], &[], 2, b"word 5\n"),
+        (&ONE_TERM, "rewrite b.ciff b.ciff", &[], &[], 2, b"word 3\n"),
+        (
+            &ONE_TERM[..70],
+            "rewrite b.ciff c.ciff",
+            &[],
+            &[],
+            3,
+            b"b.ciff: refusal 10 at 62\n",
+        ),
         (
             &ONE_TERM,
             "once x.ciff 3 all a",
@@ -328,4 +337,101 @@ fn other_ends_are_noted(rt: HostRuntime) {
         assert!(&rt; left.notes.as_slice() == notes, "{words}");
         assert!(&rt; left.out.is_empty(), "{words}");
     }
+}
+
+/// What a rewrite left.
+#[derive(Drop)]
+struct Rewritten {
+    status: u8,
+    notes: Vec<u8>,
+    /// The content of the file that is written, where it is there.
+    content: Option<Vec<u8>>,
+}
+
+/// Rewrites a file into another, whose write call of this number fails.
+fn rewrite_by<L: Ledger>(
+    alloc: Global,
+    blank: Blank,
+    ciff: &[u8],
+    bad_write: u64,
+) -> Result<Rewritten, AllocError>
+    requires name { blank.name ≡ L.name }
+    requires parts { blank.parts ≡ L.parts }
+    requires some { 0 < blank.parts }
+{
+    let bad_writes = listed(alloc, &[bad_write])?;
+    let mut files = MemCabinet::new(alloc, Row::new(alloc), bad_writes);
+    if files.store("b.ciff", ciff).is_err() {
+        return Err(AllocError);
+    }
+    let words = parted(alloc, "rewrite b.ciff c.ciff")?;
+    let mut input = SliceFeed::new(b"");
+    let mut out = MemSink::new(alloc, Row::new(alloc));
+    let mut notes = MemSink::new(alloc, Row::new(alloc));
+    let mut steps = Steps::<L>::new(blank);
+    let status = run(
+        alloc,
+        words.as_slice(),
+        &mut files,
+        &mut input,
+        &mut out,
+        &mut notes,
+        &mut steps,
+    );
+    let content = match files.content("c.ciff") {
+        Some(bytes) => Some(Vec::from_slice(alloc, bytes)?),
+        None => None,
+    };
+    Ok(Rewritten {
+        status: status.number(),
+        notes: Vec::from_slice(alloc, notes.written())?,
+        content,
+    })
+}
+
+/// The same with a fresh ledger.
+fn rewrite_file(alloc: Global, ciff: &[u8], bad_write: u64) -> Result<Rewritten, AllocError> {
+    rewrite_by::<Brand>(alloc, Blank::new(1), ciff, bad_write)
+}
+
+#[test]
+fn files_are_rewritten(rt: HostRuntime) {
+    let table: [(&[u8], &[u8]); 4] = [
+        (&SLOPPY, &ONE_TERM),
+        (&ONE_TERM, &ONE_TERM),
+        (&TWO_TERMS, &TWO_TERMS),
+        (&[0], &[0]),
+    ];
+    for (ciff, canonical) in table {
+        let Ok(left) = rewrite_file(rt.alloc(), ciff, 9) else {
+            assert!(&rt; false, "no memory");
+            return;
+        };
+        assert_eq!(&rt; left.status, 0);
+        assert!(&rt; left.notes.is_empty());
+        match left.content {
+            Some(content) => assert!(&rt; content.as_slice() == canonical),
+            None => assert!(&rt; false, "no file"),
+        }
+    }
+}
+
+#[test]
+fn failed_writes_leave_a_prefix(rt: HostRuntime) {
+    for bad_write in 0..9u64 {
+        let Ok(left) = rewrite_file(rt.alloc(), &SLOPPY, bad_write) else {
+            assert!(&rt; false, "no memory");
+            return;
+        };
+        if left.status == 0 {
+            return;
+        }
+        assert_eq!(&rt; left.status, 5);
+        assert!(&rt; left.notes.as_slice() == b"c.ciff: write fault\n".as_slice());
+        match left.content {
+            Some(content) => assert!(&rt; ONE_TERM.starts_with(content.as_slice())),
+            None => assert_eq!(&rt; bad_write, 0),
+        }
+    }
+    assert!(&rt; false, "no run was done");
 }
