@@ -1,0 +1,3 @@
+pub mod Runs
+pub mod Varbyte
+pub mod VarbyteCursor

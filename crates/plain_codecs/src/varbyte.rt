@@ -1,0 +1,70 @@
+//! The gaps of the documents as shortest varints, one after the other.
+
+ghost use Rattle.std.specs.Prelude.{ℕ, ◌≡◌, ◌≤◌, ◌<◌, ◌^◌, ◌++◌, length, OnOk, OnErr};
+ghost use Rattle.jass_base.specs.Gaps.{AreDocs, Judges};
+ghost use Rattle.jass_base.specs.Wire.{short_varint};
+ghost use Rattle.plain_codecs.specs.Varbyte.{varbyte_of, read_varbyte};
+
+mod checking;
+mod cursor;
+pub mod laws;
+mod runs;
+
+pub use checking::check;
+pub use cursor::Cursor;
+use jass_base::laws::{gap_varints_are_read, gaps_of_docs};
+use jass_base::{NoMemory, Row, put_gap};
+
+/// How many bytes the payload of the documents has, in an index of d documents.
+pub fn length(docs: &[u32], d: u32) -> u64
+    requires { AreDocs d docs.now }
+    ensures { result ≡ length (varbyte_of docs.now) }
+{
+    let mut bytes = 0;
+    let mut least = 0;
+    for doc in docs {
+        bytes += gap_length(*doc - least);
+        least = *doc + 1;
+    }
+    bytes
+}
+
+// How many bytes a gap's varint has.
+#[inline]
+fn gap_length(gap: u32) -> u64
+    requires { gap < 2 ^ 28 }
+    ensures is { result ≡ length (short_varint gap) }
+    ensures most { result ≤ 4 }
+{
+    if gap < 1 << 7 {
+        1
+    } else if gap < 1 << 14 {
+        2
+    } else if gap < 1 << 21 {
+        3
+    } else {
+        4
+    }
+}
+
+/// Appends the payload of the documents, in an index of d documents, or nothing where
+/// memory is refused.
+pub fn encode(docs: &[u32], d: u32, out: &mut Row<u8>) -> Result<(), NoMemory>
+    requires { AreDocs d docs.now }
+    ensures ok { OnOk result (out.new ≡ out.old ++ varbyte_of docs.now) }
+    ensures err { OnErr result (out.new ≡ out.old) }
+{
+    let before = out.len();
+    let mut least = 0;
+    for doc in docs {
+        match put_gap(*doc - least, out) {
+            Ok(()) => {}
+            Err(NoMemory) => {
+                out.truncate(before);
+                return Err(NoMemory);
+            }
+        }
+        least = *doc + 1;
+    }
+    Ok(())
+}

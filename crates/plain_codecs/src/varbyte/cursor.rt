@@ -1,0 +1,53 @@
+ghost use Rattle.std.specs.Prelude.{ℕ, ◌≡◌, ◌≤◌, ◌↔◌, List, [], length, take, drop};
+ghost use Rattle.jass_base.specs.Gaps.{AreDocs};
+ghost use Rattle.plain_codecs.specs.Varbyte.{varbyte_of};
+ghost use Rattle.plain_codecs.specs.VarbyteCursor.{Gives};
+
+use crate::varbyte::runs::{docs_of_gaps, read_run};
+use jass_base::laws;
+
+/// Where a reader of a payload stands. It holds no bytes: they are given at each call.
+#[derive(Clone, Copy, Debug)]
+pub struct Cursor {
+    // the place of the next gap
+    at: usize,
+    // the documents that are left
+    left: u32,
+    // the least that the next document may be
+    least: u32,
+}
+
+impl Cursor {
+    /// A cursor in front of the payload of `count` documents, in an index of d documents.
+    #[inline]
+    pub fn new(count: u32, d: u32) -> Cursor
+        ensures { (bytes docs : List ℕ) → AreDocs d docs → length docs ≡ count → bytes ≡ varbyte_of docs → Gives result bytes docs }
+    {
+        laws::gaps_and_docs_are_inverse();
+        laws::gaps_of_docs();
+        laws::docs_of_gaps();
+        Cursor {
+            at: 0,
+            left: count,
+            least: 0,
+        }
+    }
+
+    /// Writes the next documents to the front of `out`, and returns how many they are: 128,
+    /// or those that are left. None are left exactly where the answer is 0. What stands
+    /// behind them in `out` is left open.
+    pub fn next_block(&mut self, bytes: &[u8], out: &mut [u32; 128]) -> usize
+        requires stands { (docs : List ℕ) × Gives self.old bytes.now docs }
+        ensures most { result ≤ 128 }
+        ensures block { (docs : List ℕ) → Gives self.old bytes.now docs → take result out.new ≡ take result docs }
+        ensures rest { (docs : List ℕ) → Gives self.old bytes.now docs → Gives self.new bytes.now (drop result docs) }
+        ensures end { (docs : List ℕ) → Gives self.old bytes.now docs → (result ≡ 0 ↔ docs ≡ []) }
+    {
+        laws::docs_of_gaps();
+        let count = self.left.min(128);
+        self.at = read_run(bytes, self.at, count as usize, out);
+        self.least = docs_of_gaps(self.least, count as usize, out);
+        self.left -= count;
+        count as usize
+    }
+}

@@ -1,0 +1,143 @@
+// Gaps in a row: read from bytes, and made into documents.
+ghost use Rattle.std.specs.Prelude.{ℕ, ◌≡◌, ◌+◌, ◌≤◌, ◌<◌, ◌^◌, List, length, take, drop, sum, ◌++◌, All, IsTrue, IsFalse, IfOk, IfErr, IfSome, Err};
+ghost use Rattle.jass_base.specs.Gaps.{docs_from, read_gaps};
+ghost use Rattle.plain_codecs.specs.Runs.{IsRun, ReadsOn};
+
+use jass_base::{PayloadFault, laws, read_gap};
+use lane_kernels::{running128, small16, widen16};
+
+// Reads so many gaps from a place on to the front of `out`, and returns the place behind them.
+pub(crate) fn read_run(bytes: &[u8], from: usize, count: usize, out: &mut [u32; 128]) -> usize
+    requires block { count ≤ 128 }
+    requires run { (gaps : List ℕ) × IsRun bytes.now from count gaps }
+    ensures gaps { (gaps : List ℕ) → IsRun bytes.now from count gaps → take count out.new ≡ take count gaps }
+    ensures behind { (gaps : List ℕ) → IsRun bytes.now from count gaps → IsRun bytes.now result 0 (drop count gaps) }
+{
+    laws::gap_varints_are_read();
+    let mut at = from;
+    let mut filled = 0;
+    while filled < count {
+        if filled + 16 <= count && copy_small(bytes, at, filled, out) {
+            at += 16;
+            filled += 16;
+        } else {
+            let Ok((gap, next)) = read_gap(bytes, at) else {
+                unreachable!()
+            };
+            out[filled] = gap;
+            at = next;
+            filled += 1;
+        }
+    }
+    at
+}
+
+// Copies sixteen bytes to a place of `out` where each is a gap of its own.
+#[inline(always)]
+fn copy_small(bytes: &[u8], at: usize, place: usize, out: &mut [u32; 128]) -> bool
+    requires within { at ≤ length bytes.now }
+    requires room { place + 16 ≤ 128 }
+    ensures bytes { IsTrue result → at + 16 ≤ length bytes.now }
+    ensures small { IsTrue result → All (λ byte. byte < 128) (take 16 (drop at bytes.now)) }
+    ensures copied { IsTrue result → out.new ≡ take place out.old ++ take 16 (drop at bytes.now) ++ drop (place + 16) out.old }
+    ensures stays { IsFalse result → out.new ≡ out.old }
+{
+    let Some(sixteen) = small_run(bytes, at) else {
+        return false;
+    };
+    let mut gaps = [0; 16];
+    widen16(sixteen, &mut gaps);
+    out[place..place + 16].copy_from_slice(&gaps);
+    true
+}
+
+// The sixteen bytes at a place where each is a gap of its own.
+#[inline(always)]
+fn small_run(bytes: &[u8], at: usize) -> Option<&[u8; 16]>
+    requires { at ≤ length bytes.now }
+    ensures bytes { IfSome result (λ sixteen. sixteen.now ≡ take 16 (drop at bytes.now)) }
+    ensures within { IfSome result (λ sixteen. at + 16 ≤ length bytes.now) }
+    ensures small { IfSome result (λ sixteen. All (λ byte. byte < 128) sixteen.now) }
+{
+    let sixteen = bytes[at..].first_chunk::<16>()?;
+    if small16(sixteen) {
+        Some(sixteen)
+    } else {
+        None
+    }
+}
+
+// Gaps that were read together.
+#[derive(Clone, Copy)]
+pub(crate) struct SomeGaps {
+    pub(crate) sum: u32,
+    pub(crate) count: u32,
+    // the place behind them
+    pub(crate) next: usize,
+}
+
+// Reads sixteen gaps where so many of one byte stand at a place and are left, else one.
+#[inline(always)]
+pub(crate) fn read_some(bytes: &[u8], at: usize, left: u32) -> Result<SomeGaps, PayloadFault>
+    requires within { at ≤ length bytes.now }
+    requires left { 1 ≤ left }
+    ensures some { IfOk result (λ read. 1 ≤ read.count) }
+    ensures few { IfOk result (λ read. read.count ≤ left) }
+    ensures few_at_once { IfOk result (λ read. read.count ≤ 16) }
+    ensures place { IfOk result (λ read. read.next ≤ length bytes.now) }
+    ensures small { IfOk result (λ read. read.sum < 2 ^ 28) }
+    ensures reads { IfOk result (λ read. ReadsOn bytes.now at left read.sum read.count read.next) }
+    ensures fault { IfErr result (λ fault. (d least : ℕ) → read_gaps d least left (drop at bytes.now) ≡ Err fault) }
+{
+    if left >= 16 {
+        if let Some(sixteen) = small_run(bytes, at) {
+            return Ok(SomeGaps {
+                sum: sum16(sixteen),
+                count: 16,
+                next: at + 16,
+            });
+        }
+    }
+    match read_gap(bytes, at) {
+        Ok((gap, next)) => Ok(SomeGaps {
+            sum: gap,
+            count: 1,
+            next,
+        }),
+        Err(fault) => Err(fault),
+    }
+}
+
+#[inline(always)]
+fn sum16(bytes: &[u8; 16]) -> u32
+    ensures is { result ≡ sum bytes.now }
+    ensures small { result < 2 ^ 28 }
+{
+    let mut sum = 0;
+    for byte in bytes {
+        sum += u32::from(*byte);
+    }
+    sum
+}
+
+// Makes the first `count` gaps documents, the first at least `least`, and returns the least
+// that a document behind them may be.
+pub(crate) fn docs_of_gaps(least: u32, count: usize, out: &mut [u32; 128]) -> u32
+    requires block { count ≤ 128 }
+    requires room { least + sum (take count out.old) + count ≤ 2 ^ 26 }
+    ensures docs { take count out.new ≡ docs_from least (take count out.old) }
+    ensures behind { result ≡ least + sum (take count out.old) + count }
+{
+    laws::docs_of_gaps();
+    if count == 128 {
+        running128(least, out);
+        return out[127] + 1;
+    }
+    let mut next = least;
+    for place in 0..count {
+        let doc = next + out[place];
+        out[place] = doc;
+        next = doc + 1;
+    }
+    next
+}
