@@ -1,5 +1,10 @@
+pub mod BitNumbers
+pub mod BitmapCursors
+pub mod Bitmaps
+pub mod Bytes
 pub mod Docs
 pub mod Encoding
+pub mod Members
 pub mod Reading
 pub mod Runs
 pub mod VarbyteCursors

@@ -4,4 +4,5 @@
 //! each, the length and the bytes of a list's payload, the check of bytes that are to be a
 //! payload, and a cursor that gives the documents in blocks.
 
+pub mod bitmap;
 pub mod varbyte;
