@@ -5,4 +5,6 @@
 //! payload, and a cursor that gives the documents in blocks.
 
 pub mod bitmap;
+#[cfg(test)]
+mod tests;
 pub mod varbyte;
