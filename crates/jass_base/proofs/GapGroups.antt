@@ -156,3 +156,9 @@ more_written gap size rest spelling far high =
       few = omega arith;
       whole = length-set spelling size (rest % 128 + 128) ∙ five;
     }
+
+pub one_group_written : (gap : ℕ) → gap < 128 → short_varint gap ≡ gap ∷ []
+unfolding short_varint
+one_group_written gap small =
+    let low : nat_lt gap 128 ≡ true = grind (arith, nat_tests) in
+    rw low refl

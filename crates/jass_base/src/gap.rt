@@ -7,10 +7,17 @@ use crate::payload_fault::PayloadFault;
 use crate::row::Row;
 
 /// Appends the shortest varint of a gap, or nothing where memory is refused.
+#[inline]
 pub fn put_gap(gap: u32, out: &mut Row<u8>) -> Result<(), NoMemory>
     ensures ok { OnOk result (out.new ≡ out.old ++ short_varint gap) }
     ensures err { OnErr result (out.new ≡ out.old) }
 {
+    if gap < 128 {
+        return match out.push(gap as u8) {
+            Ok(()) => Ok(()),
+            Err((_, refused)) => Err(refused),
+        };
+    }
     let mut spelling = [0u8; 5];
     let size = spell_gap(gap, &mut spelling);
     out.extend(&spelling[..size])
@@ -56,7 +63,7 @@ pub fn read_gap(bytes: &[u8], at: usize) -> Result<(u32, usize), PayloadFault>
 }
 
 // Reads a gap of at least two groups of 7 bits.
-#[inline(never)]
+#[inline(always)]
 fn read_groups(bytes: &[u8], at: usize) -> Result<(u32, usize), PayloadFault>
     requires within { at < length bytes.now }
     requires more { 128 ≤ slice_index bytes.now at }
