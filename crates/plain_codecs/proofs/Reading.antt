@@ -7,7 +7,12 @@ use Rattle.std.proofs.lemmas.List.Sums.{sum_by-cons}
 use Rattle.jass_base.specs.declared.payload_fault.PayloadFault.{PayloadFault}
 use Rattle.jass_base.specs.declared.payload_fault.PayloadFault.TheVariants.{Longer, DocRange}
 use Rattle.jass_base.specs.Gaps.{◌>>=◌, Judges, gap_in, read_gaps}
-use Rattle.plain_codecs.specs.Runs.{Continues, ReadsOn}
+use Rattle.plain_codecs.specs.Runs.{Continues}
+
+-- of so many gaps that are left, the first ones have this sum, number and place behind them
+pub record ReadsOn (bytes : List ℕ) (at left sum count next : ℕ) : Type 0 where
+  pub fits : (d least : ℕ) → least + sum + count ≤ d → Continues (read_gaps d least left (drop at bytes)) (read_gaps d (least + sum + count) (left - count) (drop next bytes))
+  pub over : (d least : ℕ) → least ≤ d → d < least + sum + count → read_gaps d least left (drop at bytes) ≡ Err DocRange
 
 abbrev pub before : List ℕ → Result (List ℕ) PayloadFault → Result (List ℕ) PayloadFault
 before front read = read >>= λ docs. Ok (front ++ docs)
@@ -138,3 +143,34 @@ pub bytes_left : (d least left : ℕ) (bytes : List ℕ) → left ≡ 0 → 0 < 
 bytes_left d least left bytes none long =
     let test : (length bytes == 0) ≡ false = grind (arith, nat_tests) in
     rw none (rw test refl)
+
+-- ---- a part of the gaps
+module _ (bytes s : List ℕ) (at least d count n : ℕ) (whole : count ≡ 16) (are : s ≡ take 16 (drop at bytes)) (within : at + 16 ≤ length bytes) (small : All (λ byte. byte < 128) s) (is : n ≡ sum s) where
+  small_on : (left : ℕ) → count ≤ left → ReadsOn bytes at left n 16 (at + 16)
+  small_on left few =
+      subst (λ m. ReadsOn bytes at left m 16 (at + 16)) (sym (is ∙ ap sum are))
+      (small_read bytes at left 16 (subst (λ (xs : List ℕ). All (λ byte. byte < 128) xs) are small) within (omega arith))
+
+  pub sixteen_fit : least + n + 16 ≤ d → (left : ℕ) → count ≤ left → Continues (read_gaps d least left (drop at bytes)) (read_gaps d (least + n + 16) (left - count) (drop (at + 16) bytes))
+  sixteen_fit room left few =
+      subst (λ m. Continues (read_gaps d least left (drop at bytes)) (read_gaps d (least + n + 16) (left - m) (drop (at + 16) bytes))) (sym whole) ((small_on left few).fits d least room)
+
+  pub sixteen_over : least ≤ d → d < least + n + 16 → (left : ℕ) → count ≤ left → read_gaps d least left (drop at bytes) ≡ Err DocRange
+  sixteen_over low over left few = (small_on left few).over d least low over
+
+module _ (all : Result (List ℕ) PayloadFault) (bytes : List ℕ) (at least d left i : ℕ) (far : Continues all (read_gaps d least (left - i) (drop at bytes))) (few : i < left) where
+  pub skip_one : (gap next : ℕ) → gap_in (drop at bytes) ≡ Ok (record { gap = gap; size = next - at }) → at < next → least + gap < d → Continues all (read_gaps d (least + (gap + 1)) (left - (i + 1)) (drop next bytes))
+  skip_one gap next is on low =
+      let behind : least + gap + 1 ≡ least + (gap + 1) = omega arith in
+      let fewer : left - i - 1 ≡ left - (i + 1) = omega arith in
+      let step = (gap_read bytes at (left - i) gap next is (omega arith) (omega arith)).fits d least (omega arith) in
+      subst (λ m. Continues all (read_gaps d m (left - (i + 1)) (drop next bytes))) behind
+      (subst (λ m. Continues all (read_gaps d (least + gap + 1) m (drop next bytes))) fewer
+      (further all (read_gaps d least (left - i) (drop at bytes)) (read_gaps d (least + gap + 1) (left - i - 1) (drop next bytes)) far step))
+
+  pub skip_over : (gap next : ℕ) → gap_in (drop at bytes) ≡ Ok (record { gap = gap; size = next - at }) → at < next → least ≤ d → d ≤ least + gap → all ≡ Err DocRange
+  skip_over gap next is on low high =
+      refused all (read_gaps d least (left - i) (drop at bytes)) DocRange far ((gap_read bytes at (left - i) gap next is (omega arith) (omega arith)).over d least low (omega arith))
+
+  pub skip_fault : (fault : PayloadFault) → gap_in (drop at bytes) ≡ Err fault → all ≡ Err fault
+  skip_fault fault is = refused all (read_gaps d least (left - i) (drop at bytes)) fault far (no_gap d least (left - i) (drop at bytes) fault (omega arith) is)

@@ -2,7 +2,7 @@
 use Rattle.std.proofs.Common.{◌≡◌, ℕ, zero, suc, ◌+◌, ◌-◌, ◌*◌, ◌%◌, ◌/◌, ◌^◌, ◌<◌, ◌≤◌, Bool, true, false, cond, List, [], ◌∷◌, ◌++◌, length, get_or, take, drop, set, All, Result, Ok, Err, refl, sym, ap, ◌∙◌, subst, append_assoc, arith}
 use Rattle.std.specs.Prelude.{nat_lt}
 use Rattle.std.proofs.lemmas.Bool.Decides.{nat_tests}
-use Rattle.std.proofs.lemmas.List.{drop-drop, length-drop, take_more, take_more_set, length-set, length-append, length-take-le, get_or-take}
+use Rattle.std.proofs.lemmas.List.{drop-drop, length-drop, take_more, take_more_set, length-set, length-append, length-take-le, get_or-take, append-nil}
 use Rattle.std.proofs.lemmas.List.Elements.{All-drop}
 use Rattle.std.proofs.Math.Seq.{drop-append_seam, take-append_seam, take-add}
 use Rattle.jass_base.specs.declared.payload_fault.PayloadFault.{PayloadFault}
@@ -118,20 +118,79 @@ pub none_read : (bytes : List ℕ) (from count : ℕ) (out gaps : List ℕ) → 
 none_read bytes from count out gaps run long =
     record { few = omega arith; within = run.within; long = long; front = λ gaps run. refl; rest = λ gaps run. same_run bytes from count (count - 0) gaps gaps (omega arith) refl run }
 
-pub one_more : GapFound → (bytes : List ℕ) (from count at filled gap next : ℕ) (out : List ℕ) → ReadSoFar bytes from count at filled out → count ≤ 128 → filled < count
-    → gap_in (drop at bytes) ≡ spelled gap (next - at) → at < next → next ≤ length bytes → ReadSoFar bytes from count next (filled + 1) (set out filled gap)
-one_more found bytes from count at filled gap next out far block left is on within =
-    let step = λ (gaps : List ℕ) (run : IsRun bytes from count gaps). run_read found bytes at next gap (count - filled) (drop filled gaps) (far.rest gaps run) (omega arith) is on within in
+fewer_run : (bytes : List ℕ) (at m n : ℕ) (gaps : List ℕ) → n ≤ length gaps → IsRun bytes at m gaps → IsRun bytes at n gaps
+fewer_run bytes at m n gaps enough run = record { within = run.within; spelled = run.spelled; small = run.small; enough = enough }
+
+-- the gaps that were read one by one, to the places from `first` on
+pub record EachSoFar (bytes : List ℕ) (from first end at place : ℕ) (old out : List ℕ) : Type 0 where
+  pub up : first ≤ place
+  pub few : place ≤ end
+  pub within : at ≤ length bytes
+  pub long : length out ≡ 128
+  pub front : (gaps : List ℕ) → IsRun bytes from (end - first) gaps → take place out ≡ take first old ++ take (place - first) gaps
+  pub rest : (gaps : List ℕ) → IsRun bytes from (end - first) gaps → IsRun bytes at (end - place) (drop (place - first) gaps)
+
+pub none_each : (bytes : List ℕ) (from first end : ℕ) (old gaps : List ℕ) → IsRun bytes from (end - first) gaps → first ≤ end → length old ≡ 128 → EachSoFar bytes from first end from first old old
+none_each bytes from first end old gaps run order long =
+    let none : first - first ≡ 0 = omega arith in
     record {
+      up = omega arith;
+      few = order;
+      within = run.within;
+      long = long;
+      front = λ gaps run. sym (ap (λ n. take first old ++ take n gaps) none ∙ append-nil (take first old));
+      rest = λ gaps run. same_run bytes from (end - first) (end - first) gaps (drop (first - first) gaps) refl (ap (λ n. drop n gaps) (sym none)) run;
+    }
+
+pub one_each : GapFound → (bytes : List ℕ) (from first end at place gap next : ℕ) (old out : List ℕ) → EachSoFar bytes from first end at place old out → end ≤ 128 → place < end
+    → gap_in (drop at bytes) ≡ spelled gap (next - at) → at < next → next ≤ length bytes → EachSoFar bytes from first end next (place + 1) old (set out place gap)
+one_each found bytes from first end at place gap next old out far block left is on within =
+    let up = far.up in
+    let n : ℕ = place - first in
+    let more : place + 1 - first ≡ n + 1 = omega arith in
+    let step = λ (gaps : List ℕ) (run : IsRun bytes from (end - first) gaps). run_read found bytes at next gap (end - place) (drop n gaps) (far.rest gaps run) (omega arith) is on within in
+    record {
+      up = omega arith;
       few = omega arith;
       within = within;
-      long = length-set out filled gap ∙ far.long;
+      long = length-set out place gap ∙ far.long;
       front = λ gaps run.
-          take_more_set out filled gap (omega (arith, far.long))
+          take_more_set out place gap (omega (arith, far.long))
           ∙ ap (λ (xs : List ℕ). xs ++ gap ∷ []) (far.front gaps run)
-          ∙ ap (λ (xs : List ℕ). take filled gaps ++ xs) (sym (step gaps run).first)
-          ∙ sym (take-add filled 1 gaps);
-      rest = λ gaps run. same_run bytes next (count - filled - 1) (count - (filled + 1)) (drop 1 (drop filled gaps)) (drop (filled + 1) gaps) (omega arith) (drop-drop 1 filled gaps) (step gaps run).rest;
+          ∙ append_assoc (take first old) (take n gaps) (gap ∷ [])
+          ∙ ap (λ (xs : List ℕ). take first old ++ (take n gaps ++ xs)) (sym (step gaps run).first)
+          ∙ ap (λ (xs : List ℕ). take first old ++ xs) (sym (take-add n 1 gaps))
+          ∙ ap (λ m. take first old ++ take m gaps) (sym more);
+      rest = λ gaps run. same_run bytes next (end - place - 1) (end - (place + 1)) (drop 1 (drop n gaps)) (drop (place + 1 - first) gaps) (omega arith) (drop-drop 1 n gaps ∙ ap (λ m. drop m gaps) (sym more)) (step gaps run).rest;
+    }
+
+pub part_run : (bytes : List ℕ) (from count at filled part : ℕ) (out : List ℕ) → ReadSoFar bytes from count at filled out → filled + part ≤ count → (gaps : List ℕ) → IsRun bytes from count gaps → IsRun bytes at (filled + part - filled) (drop filled gaps)
+part_run bytes from count at filled part out far left gaps run =
+    let enough = run.enough in
+    fewer_run bytes at (count - filled) (filled + part - filled) (drop filled gaps) (omega (arith, length-drop filled gaps)) (far.rest gaps run)
+
+-- a part that was read one by one
+pub more_each : (bytes : List ℕ) (from count at filled part behind : ℕ) (out new : List ℕ) → ((gaps : List ℕ) × IsRun bytes from count gaps) → ReadSoFar bytes from count at filled out → filled + part ≤ count → length new ≡ 128
+    → ((gaps : List ℕ) → IsRun bytes at (filled + part - filled) gaps → take (filled + part) new ≡ take filled out ++ take (filled + part - filled) gaps)
+    → ((gaps : List ℕ) → IsRun bytes at (filled + part - filled) gaps → IsRun bytes behind 0 (drop (filled + part - filled) gaps))
+    → ReadSoFar bytes from count behind (filled + part) new
+more_each bytes from count at filled part behind out new stands far left long read rest_read =
+    let size : filled + part - filled ≡ part = omega arith in
+    let inner = part_run bytes from count at filled part out far left in
+    record {
+      few = left;
+      within = (rest_read (drop filled stands.0) (inner stands.0 stands.1)).within;
+      long = long;
+      front = λ gaps run.
+          read (drop filled gaps) (inner gaps run)
+          ∙ ap (λ (xs : List ℕ). xs ++ take (filled + part - filled) (drop filled gaps)) (far.front gaps run)
+          ∙ ap (λ n. take filled gaps ++ take n (drop filled gaps)) size
+          ∙ sym (take-add filled part gaps);
+      rest = λ gaps run.
+          let enough = run.enough in
+          let same : drop (filled + part - filled) (drop filled gaps) ≡ drop (filled + part) gaps = ap (λ n. drop n (drop filled gaps)) size ∙ drop-drop part filled gaps in
+          fewer_run bytes behind 0 (count - (filled + part)) (drop (filled + part) gaps) (omega (arith, length-drop (filled + part) gaps))
+          (same_run bytes behind 0 0 (drop (filled + part - filled) (drop filled gaps)) (drop (filled + part) gaps) refl same (rest_read (drop filled gaps) (inner gaps run)));
     }
 
 pub more_small : (bytes : List ℕ) (from count at filled : ℕ) (out new : List ℕ) → ReadSoFar bytes from count at filled out → count ≤ 128 → filled + 16 ≤ count → at + 16 ≤ length bytes
@@ -158,3 +217,20 @@ more_small bytes from count at filled out new far block left within small is =
           ∙ sym (take-add filled 16 gaps);
       rest = λ gaps run. same_run bytes (at + 16) (count - filled - 16) (count - (filled + 16)) (drop 16 (drop filled gaps)) (drop (filled + 16) gaps) (omega arith) (drop-drop 16 filled gaps) (step gaps run).1;
     }
+
+pub record AllEach (bytes : List ℕ) (from first end at : ℕ) (old out : List ℕ) : Type 0 where
+  pub gaps : (gaps : List ℕ) → IsRun bytes from (end - first) gaps → take end out ≡ take first old ++ take (end - first) gaps
+  pub behind : (gaps : List ℕ) → IsRun bytes from (end - first) gaps → IsRun bytes at 0 (drop (end - first) gaps)
+
+pub all_each : (bytes : List ℕ) (from first end at place : ℕ) (old out : List ℕ) → EachSoFar bytes from first end at place old out → end ≤ place → AllEach bytes from first end at old out
+all_each bytes from first end at place old out far past =
+    let few = far.few in
+    let same : place ≡ end = omega arith in
+    record {
+      gaps = λ gaps run. ap (λ n. take n out) (sym same) ∙ far.front gaps run ∙ ap (λ n. take first old ++ take (n - first) gaps) same;
+      behind = λ gaps run. same_run bytes at (end - place) 0 (drop (place - first) gaps) (drop (end - first) gaps) (omega arith) (ap (λ n. drop (n - first) gaps) same) (far.rest gaps run);
+    }
+
+pub moved : (bytes : List ℕ) (from count at at' filled filled' : ℕ) (out out' : List ℕ) → at ≡ at' → filled ≡ filled' → out ≡ out' → ReadSoFar bytes from count at filled out → ReadSoFar bytes from count at' filled' out'
+moved bytes from count at at' filled filled' out out' same_at same_filled same_out far =
+    subst (λ (xs : List ℕ). ReadSoFar bytes from count at' filled' xs) same_out (subst (λ n. ReadSoFar bytes from count at' n out) same_filled (subst (λ n. ReadSoFar bytes from count n filled out) same_at far))

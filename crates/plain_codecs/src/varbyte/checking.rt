@@ -1,9 +1,10 @@
-ghost use Rattle.std.specs.Prelude.{ℕ, ◌≡◌, ◌≤◌, ◌<◌, ◌^◌, length};
-ghost use Rattle.jass_base.specs.Gaps.{Judges};
+ghost use Rattle.std.specs.Prelude.{ℕ, ◌≡◌, ◌≤◌, ◌<◌, ◌-◌, ◌*◌, ◌^◌, length, drop, sum, IfOk, IfErr, Err};
+ghost use Rattle.jass_base.specs.Gaps.{Judges, read_gaps};
+ghost use Rattle.plain_codecs.specs.Runs.{Continues};
 ghost use Rattle.plain_codecs.specs.Varbyte.{read_varbyte};
 
-use crate::varbyte::runs::read_some;
-use jass_base::PayloadFault;
+use crate::varbyte::runs::small_run;
+use jass_base::{PayloadFault, read_gap};
 
 /// Whether bytes are the payload of `count` documents of an index of d documents.
 ///
@@ -16,23 +17,90 @@ pub fn check(bytes: &[u8], count: u32, d: u32) -> Result<(), PayloadFault>
     requires limit { d ≤ 2 ^ 26 }
     ensures { Judges (read_varbyte d count bytes.now) result }
 {
-    let mut at = 0;
-    let mut least = 0;
+    let mut place = Place { at: 0, least: 0 };
     let mut left = count;
     while left > 0 {
-        let read = match read_some(bytes, at, left) {
-            Ok(read) => read,
+        let part = left.min(16);
+        place = match skip(bytes, place, part, d) {
+            Ok(behind) => behind,
             Err(fault) => return Err(fault),
         };
-        if least + read.sum + read.count > d {
-            return Err(PayloadFault::DocRange);
-        }
-        least += read.sum + read.count;
-        at = read.next;
-        left -= read.count;
+        left -= part;
     }
-    if at < bytes.len() {
+    if place.at < bytes.len() {
         return Err(PayloadFault::Longer);
     }
     Ok(())
+}
+
+// The place of a gap, and the least that its document may be.
+#[derive(Clone, Copy)]
+struct Place {
+    at: usize,
+    least: u32,
+}
+
+// Reads so many documents, sixteen at most, and gives the place behind them.
+#[inline(always)]
+fn skip(bytes: &[u8], place: Place, count: u32, d: u32) -> Result<Place, PayloadFault>
+    requires within { place.at ≤ length bytes.now }
+    requires low { place.least ≤ d }
+    requires limit { d ≤ 2 ^ 26 }
+    ensures within { IfOk result (λ behind. behind.at ≤ length bytes.now) }
+    ensures low { IfOk result (λ behind. behind.least ≤ d) }
+    ensures reads { IfOk result (λ behind. (left : ℕ) → count ≤ left → Continues (read_gaps d place.least left (drop place.at bytes.now)) (read_gaps d behind.least (left - count) (drop behind.at bytes.now))) }
+    ensures fault { IfErr result (λ fault. (left : ℕ) → count ≤ left → read_gaps d place.least left (drop place.at bytes.now) ≡ Err fault) }
+{
+    if count == 16 {
+        if let Some(sixteen) = small_run(bytes, place.at) {
+            let least = place.least + sum16(sixteen) + 16;
+            if least > d {
+                return Err(PayloadFault::DocRange);
+            }
+            return Ok(Place {
+                at: place.at + 16,
+                least,
+            });
+        }
+    }
+    skip_each(bytes, place, count, d)
+}
+
+#[inline(always)]
+fn sum16(bytes: &[u8; 16]) -> u32
+    ensures is { result ≡ sum bytes.now }
+    ensures small { result ≤ 255 * 16 }
+{
+    let mut sum = 0;
+    for byte in bytes {
+        sum += u32::from(*byte);
+    }
+    sum
+}
+
+// Reads so many documents one by one, and gives the place behind them.
+#[inline(always)]
+fn skip_each(bytes: &[u8], from: Place, count: u32, d: u32) -> Result<Place, PayloadFault>
+    requires within { from.at ≤ length bytes.now }
+    requires low { from.least ≤ d }
+    requires limit { d ≤ 2 ^ 26 }
+    ensures within { IfOk result (λ behind. behind.at ≤ length bytes.now) }
+    ensures low { IfOk result (λ behind. behind.least ≤ d) }
+    ensures reads { IfOk result (λ behind. (left : ℕ) → count ≤ left → Continues (read_gaps d from.least left (drop from.at bytes.now)) (read_gaps d behind.least (left - count) (drop behind.at bytes.now))) }
+    ensures fault { IfErr result (λ fault. (left : ℕ) → count ≤ left → read_gaps d from.least left (drop from.at bytes.now) ≡ Err fault) }
+{
+    let mut at = from.at;
+    let mut least = from.least;
+    for _ in 0..count {
+        let (gap, next) = match read_gap(bytes, at) {
+            Ok(read) => read,
+            Err(fault) => return Err(fault),
+        };
+        if least + gap >= d {
+            return Err(PayloadFault::DocRange);
+        }
+        at = next;
+        least += gap + 1;
+    }
+    Ok(Place { at, least })
 }

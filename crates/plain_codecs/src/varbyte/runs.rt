@@ -1,7 +1,7 @@
 // Gaps in a row: read from bytes, and made into documents.
-ghost use Rattle.std.specs.Prelude.{ℕ, ◌≡◌, ◌+◌, ◌≤◌, ◌<◌, ◌^◌, List, length, take, drop, sum, ◌++◌, All, IsTrue, IsFalse, IfOk, IfErr, IfSome, Err};
-ghost use Rattle.jass_base.specs.Gaps.{docs_from, read_gaps};
-ghost use Rattle.plain_codecs.specs.Runs.{IsRun, ReadsOn};
+ghost use Rattle.std.specs.Prelude.{ℕ, ◌≡◌, ◌+◌, ◌-◌, ◌≤◌, ◌<◌, ◌^◌, List, length, take, drop, sum, ◌++◌, All, IsTrue, IsFalse, IfSome};
+ghost use Rattle.jass_base.specs.Gaps.{docs_from};
+ghost use Rattle.plain_codecs.specs.Runs.{IsRun};
 
 use jass_base::{PayloadFault, laws, read_gap};
 use lane_kernels::{running128, small16, widen16};
@@ -17,17 +17,35 @@ pub(crate) fn read_run(bytes: &[u8], from: usize, count: usize, out: &mut [u32; 
     let mut at = from;
     let mut filled = 0;
     while filled < count {
-        if filled + 16 <= count && copy_small(bytes, at, filled, out) {
+        let part = (count - filled).min(16);
+        if part == 16 && copy_small(bytes, at, filled, out) {
             at += 16;
-            filled += 16;
         } else {
-            let Ok((gap, next)) = read_gap(bytes, at) else {
-                unreachable!()
-            };
-            out[filled] = gap;
-            at = next;
-            filled += 1;
+            at = read_each(bytes, at, filled, filled + part, out);
         }
+        filled += part;
+    }
+    at
+}
+
+// Reads gaps one by one to the places of `out` from `first` on, and returns the place behind
+// them.
+#[inline(always)]
+fn read_each(bytes: &[u8], from: usize, first: usize, end: usize, out: &mut [u32; 128]) -> usize
+    requires order { first ≤ end }
+    requires block { end ≤ 128 }
+    requires run { (gaps : List ℕ) × IsRun bytes.now from (end - first) gaps }
+    ensures gaps { (gaps : List ℕ) → IsRun bytes.now from (end - first) gaps → take end out.new ≡ take first out.old ++ take (end - first) gaps }
+    ensures behind { (gaps : List ℕ) → IsRun bytes.now from (end - first) gaps → IsRun bytes.now result 0 (drop (end - first) gaps) }
+{
+    laws::gap_varints_are_read();
+    let mut at = from;
+    for place in first..end {
+        let Ok((gap, next)) = read_gap(bytes, at) else {
+            unreachable!()
+        };
+        out[place] = gap;
+        at = next;
     }
     at
 }
@@ -53,7 +71,7 @@ fn copy_small(bytes: &[u8], at: usize, place: usize, out: &mut [u32; 128]) -> bo
 
 // The sixteen bytes at a place where each is a gap of its own.
 #[inline(always)]
-fn small_run(bytes: &[u8], at: usize) -> Option<&[u8; 16]>
+pub(crate) fn small_run(bytes: &[u8], at: usize) -> Option<&[u8; 16]>
     requires { at ≤ length bytes.now }
     ensures bytes { IfSome result (λ sixteen. sixteen.now ≡ take 16 (drop at bytes.now)) }
     ensures within { IfSome result (λ sixteen. at + 16 ≤ length bytes.now) }
@@ -65,59 +83,6 @@ fn small_run(bytes: &[u8], at: usize) -> Option<&[u8; 16]>
     } else {
         None
     }
-}
-
-// Gaps that were read together.
-#[derive(Clone, Copy)]
-pub(crate) struct SomeGaps {
-    pub(crate) sum: u32,
-    pub(crate) count: u32,
-    // the place behind them
-    pub(crate) next: usize,
-}
-
-// Reads sixteen gaps where so many of one byte stand at a place and are left, else one.
-#[inline(always)]
-pub(crate) fn read_some(bytes: &[u8], at: usize, left: u32) -> Result<SomeGaps, PayloadFault>
-    requires within { at ≤ length bytes.now }
-    requires left { 1 ≤ left }
-    ensures some { IfOk result (λ read. 1 ≤ read.count) }
-    ensures few { IfOk result (λ read. read.count ≤ left) }
-    ensures few_at_once { IfOk result (λ read. read.count ≤ 16) }
-    ensures place { IfOk result (λ read. read.next ≤ length bytes.now) }
-    ensures small { IfOk result (λ read. read.sum < 2 ^ 28) }
-    ensures reads { IfOk result (λ read. ReadsOn bytes.now at left read.sum read.count read.next) }
-    ensures fault { IfErr result (λ fault. (d least : ℕ) → read_gaps d least left (drop at bytes.now) ≡ Err fault) }
-{
-    if left >= 16 {
-        if let Some(sixteen) = small_run(bytes, at) {
-            return Ok(SomeGaps {
-                sum: sum16(sixteen),
-                count: 16,
-                next: at + 16,
-            });
-        }
-    }
-    match read_gap(bytes, at) {
-        Ok((gap, next)) => Ok(SomeGaps {
-            sum: gap,
-            count: 1,
-            next,
-        }),
-        Err(fault) => Err(fault),
-    }
-}
-
-#[inline(always)]
-fn sum16(bytes: &[u8; 16]) -> u32
-    ensures is { result ≡ sum bytes.now }
-    ensures small { result < 2 ^ 28 }
-{
-    let mut sum = 0;
-    for byte in bytes {
-        sum += u32::from(*byte);
-    }
-    sum
 }
 
 // Makes the first `count` gaps documents, the first at least `least`, and returns the least

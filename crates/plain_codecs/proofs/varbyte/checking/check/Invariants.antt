@@ -5,9 +5,9 @@ use Rattle.plain_codecs.proofs.varbyte.checking.check.Given as goal
 
 abbrev pub invariant-loop-left : goal.invariant-loop-left
 invariant-loop-left l = record {
-  reads : Continues (read_gaps l.d 0 l.count l.bytes) (read_gaps l.d l.least l.left (drop l.at l.bytes));
-  low : l.least ≤ l.d;
-  within : l.at ≤ length l.bytes;
+  reads : Continues (read_gaps l.d 0 l.count l.bytes) (read_gaps l.d l.place.least l.left (drop l.place.at l.bytes));
+  low : l.place.least ≤ l.d;
+  within : l.place.at ≤ length l.bytes;
 }
 
 abbrev pub decreases-loop-left : goal.decreases-loop-left

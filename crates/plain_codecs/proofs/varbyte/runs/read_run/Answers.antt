@@ -1,27 +1,30 @@
-use Rattle.std.proofs.Common.{◌≡◌, ◌-◌, ◌∙◌, drop, subst, sym, refl, arith}
-use Rattle.plain_codecs.proofs.Runs.{ReadSoFar, one_more, more_small, run_is_read}
-use Rattle.plain_codecs.proofs.varbyte.runs.read_run.Goals.{else-filled-count-via-then-filled-count+else-copy_small, else-filled-count-via-else-filled-count}
+use Rattle.std.proofs.Common.{◌≡◌, ◌+◌, ◌∙◌, List, ℕ, drop, take, sym, ap, subst, arith}
+use Rattle.plain_codecs.proofs.Runs.{ReadSoFar, moved, more_small, more_each, part_run}
+use Rattle.plain_codecs.proofs.varbyte.runs.read_run.Goals.{then-part-eq16+then-copy_small, else-part-eq16, else-part-eq16-via-then-part-eq16+else-copy_small, else-part-eq16-via-else-part-eq16}
 use Rattle.plain_codecs.proofs.varbyte.runs.read_run.Goals as goal
-
-pub loop-filled-preserved-then-copy_small : goal.loop-filled-preserved-then-copy_small
-loop-filled-preserved-then-copy_small c =
-    let copied = c.if-copy_small.true in
-    more_small c.args.bytes.now c.args.from c.args.count c.loop-filled.at c.loop-filled.filled c.loop-filled.out c.copy_small.new.out c.loop-filled.invariant c.requires.block c.if-filled-count.true
-    (c.copy_small.ensures.bytes copied) (c.copy_small.ensures.small copied) (c.copy_small.ensures.copied copied)
-
-pub unreachable-requires : goal.unreachable-requires
-unreachable-requires c =
-    let gaps = c.requires.run.0 in
-    let filled = c.loop-filled.filled in
-    run_is_read c.gap_varints_are_read.ensures.found c.args.bytes.now c.loop-filled.at (c.args.count - filled) (drop filled gaps) c.in_default.field-0
-    (c.loop-filled.invariant.rest gaps c.requires.run.1) (let left = c.loop-filled-test.true in omega arith) c.in_default.ensures.fault
 
 pub loop-filled-preserved : goal.loop-filled-preserved
 loop-filled-preserved c =
-    let same : c.else-filled-count.out ≡ c.loop-filled.out = elim c.else-filled-count.branch [
-      | else-filled-count-via-then-filled-count+else-copy_small w ↦ w.out-is ∙ w.copy_small.ensures.stays w.if-copy_small.false
-      | else-filled-count-via-else-filled-count w ↦ w.out-is
-    ] in
-    let far = subst (ReadSoFar c.args.bytes.now c.args.from c.args.count c.loop-filled.at c.loop-filled.filled) (sym same) c.loop-filled.invariant in
-    one_more c.gap_varints_are_read.ensures.found c.args.bytes.now c.args.from c.args.count c.loop-filled.at c.loop-filled.filled c.in-Ok.gap c.in-Ok.next c.else-filled-count.out far
-    c.requires.block c.loop-filled-test.true c.in-Ok.ensures.value c.in-Ok.ensures.behind c.in-Ok.ensures.within
+    let bytes = c.args.bytes.now in
+    let from = c.args.from in
+    let count = c.args.count in
+    let filled = c.loop-filled.filled in
+    let part = c.min-part.result in
+    let so_far = c.loop-filled.invariant in
+    elim c.if-part-eq16.branch [
+      | then-part-eq16+then-copy_small w ↦
+          let copied = w.if-copy_small.true in
+          let whole : part ≡ 16 = w.if-part-eq16.true in
+          moved bytes from count (c.loop-filled.at + 16) c.if-part-eq16.at (filled + 16) (filled + part) w.copy_small.new.out c.if-part-eq16.out (sym w.at-is) (omega arith) (sym w.out-is)
+          (more_small bytes from count c.loop-filled.at filled c.loop-filled.out w.copy_small.new.out so_far c.requires.block (omega (arith, c.min-part.ensures, c.loop-filled-test.true, whole))
+          (w.copy_small.ensures.bytes copied) (w.copy_small.ensures.small copied) (w.copy_small.ensures.copied copied))
+      | else-part-eq16 w ↦
+          let same : w.else-part-eq16.out ≡ c.loop-filled.out = elim w.else-part-eq16.branch [
+            | else-part-eq16-via-then-part-eq16+else-copy_small v ↦ v.out-is ∙ v.copy_small.ensures.stays v.if-copy_small.false
+            | else-part-eq16-via-else-part-eq16 v ↦ v.out-is
+          ] in
+          let far = subst (λ (out : List ℕ). ReadSoFar bytes from count c.loop-filled.at filled out) (sym same) so_far in
+          moved bytes from count w.read_each-at.result c.if-part-eq16.at (filled + part) (filled + part) w.read_each-at.new.out c.if-part-eq16.out (sym w.at-is) (omega arith) (sym w.out-is)
+          (more_each bytes from count c.loop-filled.at filled part w.read_each-at.result w.else-part-eq16.out w.read_each-at.new.out (c.requires.run.0, c.requires.run.1) far (omega (arith, c.min-part.ensures, c.loop-filled-test.true))
+          w.read_each-at.array_long w.read_each-at.ensures.gaps w.read_each-at.ensures.behind)
+    ]

@@ -1,5 +1,5 @@
 use Rattle.std.proofs.Common.{◌≡◌, ◌≤◌, ◌*◌, sum, take}
-use Rattle.plain_codecs.proofs.varbyte.runs.sum16.Given as goal
+use Rattle.plain_codecs.proofs.varbyte.checking.sum16.Given as goal
 
 abbrev pub invariant-loop-byte : goal.invariant-loop-byte
 invariant-loop-byte l = (l.sum ≡ sum (take l.byte-index l.bytes)) × (l.sum ≤ 255 * l.byte-index)
