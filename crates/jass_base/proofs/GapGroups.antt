@@ -2,7 +2,7 @@
 use Rattle.std.proofs.Common.{◌≡◌, ℕ, zero, suc, ◌+◌, ◌-◌, ◌*◌, ◌/◌, ◌%◌, ◌^◌, ◌<◌, ◌≤◌, ◌≢◌, ◌==◌, Bool, true, false, cond, List, [], ◌∷◌, ◌++◌, length, get_or, take, drop, Result, Ok, Err, refl, sym, ap, ◌∙◌, subst, arith, add-one, drop-cons, set, append_assoc}
 use Rattle.std.specs.Prelude.{nat_lt}
 use Rattle.std.proofs.lemmas.Bool.Decides.{nat_tests}
-use Rattle.std.proofs.lemmas.List.{drop_all, take_more_set, length-set}
+use Rattle.std.proofs.lemmas.List.{drop_all, take_more_set, length-set, length-drop, get_or-drop}
 use Rattle.std.proofs.Math.Nat.{pow-suc, pow-le-pow_right}
 use Rattle.jass_base.specs.declared.payload_fault.PayloadFault.{PayloadFault}
 use Rattle.jass_base.specs.declared.payload_fault.PayloadFault.TheVariants.{Cut, Shape}
@@ -162,3 +162,46 @@ unfolding short_varint
 one_group_written gap small =
     let low : nat_lt gap 128 ≡ true = grind (arith, nat_tests) in
     rw low refl
+
+-- the groups of a gap that begins at a place, the first of which has more behind it
+module _ (bytes : List ℕ) (at first : ℕ) (within : at < length bytes) (high : 128 ≤ get_or bytes at 0) (byte : get_or bytes at 0 < 256) (is : first ≡ get_or bytes at 0 - 128) where
+  abbrev pub here : List ℕ
+  here = drop at bytes
+
+  long : length here ≡ length bytes - at
+  long = length-drop at bytes
+
+  at_place : (i b : ℕ) → b ≡ get_or bytes (at + i) 0 → b ≡ get_or here i 0
+  at_place i b same = same ∙ sym (get_or-drop at bytes i 0)
+
+  pub after_one : SoFar here 1 first 128
+  after_one =
+      let same : get_or here 0 0 ≡ get_or bytes at 0 = get_or-drop at bytes 0 0 ∙ ap (λ n. get_or bytes n 0) (let e : at + 0 ≡ at = omega arith in e) in
+      one_group here first (omega (arith, long)) (omega (arith, same)) (omega (arith, same)) (omega (arith, same))
+
+  pub after_group : (i gap scale b : ℕ) → SoFar here i gap scale → i < 4 → at + i < length bytes → b ≡ get_or bytes (at + i) 0 → 128 ≤ b → b < 256 → SoFar here (i + 1) (gap + (b - 128) * scale) (scale * 128)
+  after_group i gap scale b far few inside same top fits = one_more here i gap scale far few b (omega (arith, long)) (at_place i b same) top fits
+
+  pub after_two : (second : ℕ) → at + 1 < length bytes → second ≡ get_or bytes (at + 1) 0 → 128 ≤ second → second < 256 → SoFar here 2 (first + (second - 128) * 128) 16384
+  after_two second inside same top fits = after_group 1 first 128 second after_one (omega arith) inside same top fits
+
+  pub after_three : (second third : ℕ) → at + 2 < length bytes → second ≡ get_or bytes (at + 1) 0 → 128 ≤ second → second < 256 → third ≡ get_or bytes (at + 2) 0 → 128 ≤ third → third < 256
+      → SoFar here 3 (first + (second - 128) * 128 + (third - 128) * 16384) 2097152
+  after_three second third inside same top fits same_third top_third fits_third =
+      after_group 2 (first + (second - 128) * 128) 16384 third (after_two second (omega arith) same top fits) (omega arith) inside same_third top_third fits_third
+
+  pub long_at : (i gap scale b : ℕ) → SoFar here i gap scale → i ≡ 3 → at + 3 < length bytes → b ≡ get_or bytes (at + 3) 0 → 128 ≤ b → b < 256 → gap_in here ≡ Err Shape
+  long_at i gap scale b far three inside same top fits =
+      let place : at + i ≡ at + 3 = omega arith in
+      let next : i + 1 ≡ 4 = omega arith in
+      ends_long here (gap + (b - 128) * scale) (scale * 128)
+      (subst (λ n. SoFar here n (gap + (b - 128) * scale) (scale * 128)) next (after_group i gap scale b far (omega arith) (omega arith) (same ∙ ap (λ n. get_or bytes n 0) (sym place)) top fits))
+
+  pub cut_at : (i gap scale : ℕ) → SoFar here i gap scale → i < 4 → length bytes - at ≤ i → gap_in here ≡ Err Cut
+  cut_at i gap scale far few short = ends_cut here i gap scale far few (omega (arith, long))
+
+  pub zero_at : (i gap scale b : ℕ) → SoFar here i gap scale → i < 4 → at + i < length bytes → b ≡ get_or bytes (at + i) 0 → b ≡ 0 → gap_in here ≡ Err Shape
+  zero_at i gap scale b far few inside same none = ends_shape here i gap scale far few (omega (arith, long)) (sym (at_place i b same) ∙ none)
+
+  pub ends_at : (i gap scale b size : ℕ) → SoFar here i gap scale → i < 4 → at + i < length bytes → b ≡ get_or bytes (at + i) 0 → b ≢ 0 → b < 128 → size ≡ i + 1 → gap_in here ≡ spelled (gap + b * scale) size
+  ends_at i gap scale b size far few inside same some small place = ends_group here i gap scale far few b size (omega (arith, long)) (at_place i b same) some small place

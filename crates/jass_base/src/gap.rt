@@ -73,21 +73,36 @@ fn read_groups(bytes: &[u8], at: usize) -> Result<(u32, usize), PayloadFault>
     ensures within { IfOk result (λ read. read.1 ≤ length bytes.now) }
     ensures fault { IfErr result (λ fault. gap_in (drop at bytes.now) ≡ Err fault) }
 {
-    let mut gap = u32::from(bytes[at]) - 128;
-    let mut scale = 128;
-    for group in 1..4 {
-        if group >= bytes.len() - at {
-            return Err(PayloadFault::Cut);
-        }
-        let byte = u32::from(bytes[at + group]);
-        if byte == 0 {
-            return Err(PayloadFault::Shape);
-        }
-        if byte < 128 {
-            return Ok((gap + byte * scale, at + group + 1));
-        }
-        gap += (byte - 128) * scale;
-        scale *= 128;
+    let left = bytes.len() - at;
+    let first = u32::from(bytes[at]) - 128;
+    if left < 2 {
+        return Err(PayloadFault::Cut);
     }
-    Err(PayloadFault::Shape)
+    let second = u32::from(bytes[at + 1]);
+    if second == 0 {
+        return Err(PayloadFault::Shape);
+    }
+    if second < 128 {
+        return Ok((first + second * 128, at + 2));
+    }
+    let two = first + (second - 128) * 128;
+    if left < 3 {
+        return Err(PayloadFault::Cut);
+    }
+    let third = u32::from(bytes[at + 2]);
+    if third == 0 {
+        return Err(PayloadFault::Shape);
+    }
+    if third < 128 {
+        return Ok((two + third * 16_384, at + 3));
+    }
+    let three = two + (third - 128) * 16_384;
+    if left < 4 {
+        return Err(PayloadFault::Cut);
+    }
+    let fourth = u32::from(bytes[at + 3]);
+    if fourth == 0 || fourth >= 128 {
+        return Err(PayloadFault::Shape);
+    }
+    Ok((three + fourth * 2_097_152, at + 4))
 }

@@ -10,6 +10,10 @@ pub running_is : (least : ℕ) (gaps : List ℕ) → running least gaps ≡ docs
 running_is least [] = refl
 running_is least (gap ∷ gaps) = ap (λ (xs : List ℕ). (least + gap) ∷ xs) (running_is (least + gap + 1) gaps)
 
+pub length-docs : (least : ℕ) (gaps : List ℕ) → length (docs_from least gaps) ≡ length gaps
+length-docs least [] = refl
+length-docs least (gap ∷ gaps) = ap suc (length-docs (least + gap + 1) gaps)
+
 -- the places before one have documents, those from it on still gaps
 pub record MadeSoFar (least place next : ℕ) (old out : List ℕ) : Type 0 where
   pub long : length out ≡ length old

@@ -1,11 +1,13 @@
 -- What a cursor gives, in gaps.
-use Rattle.std.proofs.Common.{◌≡◌, ℕ, ◌+◌, ◌-◌, ◌^◌, ◌<◌, ◌≤◌, min, List, length, take, drop, sum, refl, sym, ap, ◌∙◌, subst, arith}
-use Rattle.std.proofs.lemmas.List.{length-drop}
-use Rattle.jass_base.specs.Gaps.{docs_from, spelled_gaps}
+use Rattle.std.proofs.Common.{◌≡◌, ℕ, ◌+◌, ◌-◌, ◌^◌, ◌<◌, ◌≤◌, min, List, [], ◌∷◌, length, take, drop, set, sum, Err, refl, sym, ap, ◌∙◌, subst, arith}
+use Rattle.std.proofs.lemmas.List.{length-drop, take_all, take_more_set}
+use Rattle.jass_base.specs.declared.payload_fault.PayloadFault.{PayloadFault}
+use Rattle.jass_base.specs.Gaps.{docs_from, gap_in, spelled_gaps}
 use Rattle.plain_codecs.specs.declared.varbyte.cursor.Cursor.{Cursor}
 use Rattle.plain_codecs.specs.Runs.{IsRun}
 use Rattle.plain_codecs.specs.VarbyteCursor.{Gives}
-use Rattle.plain_codecs.proofs.Docs.{Parts, Split, split, small_gaps, sum_parts}
+use Rattle.plain_codecs.proofs.Docs.{Parts, Split, split, small_gaps, sum_parts, length-docs}
+use Rattle.plain_codecs.proofs.Runs.{GapFound, Stepped, spelled, run_read, run_is_read}
 
 module _ (cursor : Cursor) (bytes docs : List ℕ) (gives : Gives cursor bytes docs) (count : ℕ) (is : count ≡ min cursor.left 128) where
   pub few : count ≤ length gives.gaps
@@ -36,4 +38,39 @@ module _ (cursor : Cursor) (bytes docs : List ℕ) (gives : Gives cursor bytes d
           within = behind.within;
           spelled = behind.spelled;
           room = omega (arith, now, gives.room, sum_parts count gives.gaps, length-drop count gives.gaps, few);
+        }
+
+-- the last document
+module _ (found : GapFound) (cursor : Cursor) (bytes docs : List ℕ) (gives : Gives cursor bytes docs) (one : cursor.left ≡ 1) where
+  last_run : IsRun bytes cursor.at 1 gives.gaps
+  last_run = record { within = gives.within; spelled = gives.spelled; small = small_gaps gives.gaps (omega (arith, gives.room)); enough = omega (arith, gives.left) }
+
+  pub last_is_read : (fault : PayloadFault) → gap_in (drop cursor.at bytes) ≡ Err fault → ⊥
+  last_is_read fault is = run_is_read found bytes cursor.at 1 gives.gaps fault last_run (omega arith) is
+
+  pub one_doc : length docs ≡ 1
+  one_doc = ap (λ (xs : List ℕ). length xs) gives.docs_are ∙ length-docs cursor.least gives.gaps ∙ sym gives.left ∙ one
+
+  module _ (gap next : ℕ) (is : gap_in (drop cursor.at bytes) ≡ spelled gap (next - cursor.at)) (on : cursor.at < next) (within : next ≤ length bytes) where
+    stepped : Stepped bytes next 0 gap gives.gaps
+    stepped = run_read found bytes cursor.at next gap 1 gives.gaps last_run (omega arith) is on within
+
+    gaps_are : gives.gaps ≡ gap ∷ []
+    gaps_are = sym (take_all 1 gives.gaps (omega (arith, gives.left))) ∙ stepped.first
+
+    docs_are : docs ≡ (cursor.least + gap) ∷ []
+    docs_are = gives.docs_are ∙ ap (docs_from cursor.least) gaps_are
+
+    pub last_block : (out : List ℕ) → 0 < length out → take 1 (set out 0 (cursor.least + gap)) ≡ take 1 docs
+    last_block out some = take_more_set out 0 (cursor.least + gap) some ∙ ap (take 1) (sym docs_are)
+
+    pub last_rest : Gives (record { at = next; left = 0; least = cursor.least + gap + 1 }) bytes (drop 1 docs)
+    last_rest =
+        record {
+          gaps = drop 1 gives.gaps;
+          docs_are = ap (drop 1) docs_are ∙ ap (λ (xs : List ℕ). docs_from (cursor.least + gap + 1) (drop 1 xs)) (sym gaps_are);
+          left = ap (λ (xs : List ℕ). length (drop 1 xs)) (sym gaps_are);
+          within = within;
+          spelled = stepped.rest.spelled;
+          room = omega (arith, gives.room, gives.left, ap (λ (xs : List ℕ). sum xs) gaps_are, ap (λ (xs : List ℕ). sum (drop 1 xs)) gaps_are, length-drop 1 gives.gaps);
         }

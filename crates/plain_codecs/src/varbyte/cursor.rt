@@ -4,7 +4,7 @@ ghost use Rattle.plain_codecs.specs.Varbyte.{varbyte_of};
 ghost use Rattle.plain_codecs.specs.VarbyteCursor.{Gives};
 
 use crate::varbyte::runs::{docs_of_gaps, read_run};
-use jass_base::laws;
+use jass_base::{laws, read_gap};
 
 /// Where a reader of a payload stands. It holds no bytes: they are given at each call.
 #[derive(Clone, Copy, Debug)]
@@ -44,10 +44,36 @@ impl Cursor {
         ensures end { (docs : List ℕ) → Gives self.old bytes.now docs → (result ≡ 0 ↔ docs ≡ []) }
     {
         laws::docs_of_gaps();
+        if self.left == 1 {
+            return self.last(bytes, out);
+        }
         let count = self.left.min(128);
         self.at = read_run(bytes, self.at, count as usize, out);
         self.least = docs_of_gaps(self.least, count as usize, out);
         self.left -= count;
         count as usize
+    }
+    // The last document, which is the only one of most segments.
+    #[inline(always)]
+    fn last(&mut self, bytes: &[u8], out: &mut [u32; 128]) -> usize
+        requires one { self.old.left ≡ 1 }
+        requires stands { (docs : List ℕ) × Gives self.old bytes.now docs }
+        ensures one { result ≡ 1 }
+        ensures block { (docs : List ℕ) → Gives self.old bytes.now docs → take 1 out.new ≡ take 1 docs }
+        ensures rest { (docs : List ℕ) → Gives self.old bytes.now docs → Gives self.new bytes.now (drop 1 docs) }
+        ensures more { (docs : List ℕ) → Gives self.old bytes.now docs → length docs ≡ 1 }
+    {
+        laws::gap_varints_are_read();
+        let Ok((gap, next)) = read_gap(bytes, self.at) else {
+            unreachable!()
+        };
+        let doc = self.least + gap;
+        out[0] = doc;
+        *self = Cursor {
+            at: next,
+            left: 0,
+            least: doc + 1,
+        };
+        1
     }
 }

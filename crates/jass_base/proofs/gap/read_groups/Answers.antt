@@ -1,61 +1,125 @@
-use Rattle.std.proofs.Common.{◌≡◌, ◌≤◌, ◌<◌, ◌+◌, ◌*◌, ◌-◌, ◌^◌, ◌∙◌, refl, ap, sym, arith, drop, length-drop}
-use Rattle.std.proofs.lemmas.List.{get_or-drop}
-use Rattle.jass_base.proofs.GapGroups.{one_group, one_more, ends_group, group_small, scale_small, value_small}
+use Rattle.std.proofs.Common.{◌≡◌, ◌+◌, ◌-◌, ◌*◌, ◌<◌, ◌≤◌, ℕ, get_or, refl, arith}
+use Rattle.jass_base.proofs.GapGroups.{after_one, after_two, after_three, long_at, cut_at, zero_at, ends_at}
+use Rattle.jass_base.proofs.gap.read_groups.Goals.{then-fourth-eq0-via-then-fourth-eq0, then-fourth-eq0-via-else-fourth-eq0+then-fourth-ge128}
 use Rattle.jass_base.proofs.gap.read_groups.Goals as goal
 
-pub loop-group-init : goal.loop-group-init
-loop-group-init c =
-    let place : c.args.at + 0 ≡ c.args.at = omega arith in
-    one_group (drop c.args.at c.args.bytes.now) _ (omega (arith, length-drop c.args.at c.args.bytes.now, c.requires.within))
-    (rw (get_or-drop c.args.at c.args.bytes.now 0 0, place) c.requires.more)
-    (rw (get_or-drop c.args.at c.args.bytes.now 0 0, place) (omega (arith, c.type_inv.bytes c.args.at)))
-    (rw (get_or-drop c.args.at c.args.bytes.now 0 0, place) (omega (arith, c.from-gap.ensures)))
+pub returns-then-left-lt2-clause-fault : goal.returns-then-left-lt2-clause-fault
+returns-then-left-lt2-clause-fault c =
+    let bytes = c.args.bytes.now in
+    let at = c.args.at in
+    let first : ℕ = c.from-first.result - 128 in
+    let within = c.requires.within in
+    let more = c.requires.more in
+    let byte = λ (i : ℕ). c.type_inv.bytes i in
+    let small = byte at in
+    let is : first ≡ get_or bytes at 0 - 128 = omega (arith, c.from-first.ensures) in
+    cut_at bytes at first within more (omega (arith, small)) is 1 first 128 (after_one bytes at first within more (omega (arith, small)) is) (omega arith) (omega (arith, c.if-left-lt2.true))
 
-pub loop-group-preserved : goal.loop-group-preserved
-loop-group-preserved c =
-    one_more (drop c.args.at c.args.bytes.now) c.loop-group.group c.loop-group.gap c.loop-group.scale c.loop-group.invariant c.loop-group-test.true c.from-byte.result
-    (omega (arith, length-drop c.args.at c.args.bytes.now, c.if-group-bytes.false))
-    (c.from-byte.ensures ∙ sym (get_or-drop c.args.at c.args.bytes.now c.loop-group.group 0))
-    c.if-byte-lt128.false
-    (omega (arith, c.from-byte.ensures, c.type_inv.bytes (c.args.at + c.loop-group.group)))
+pub returns-then-second-eq0-clause-fault : goal.returns-then-second-eq0-clause-fault
+returns-then-second-eq0-clause-fault c =
+    let bytes = c.args.bytes.now in
+    let at = c.args.at in
+    let first : ℕ = c.from-first.result - 128 in
+    let within = c.requires.within in
+    let more = c.requires.more in
+    let byte = λ (i : ℕ). c.type_inv.bytes i in
+    let small = byte at in
+    let is : first ≡ get_or bytes at 0 - 128 = omega (arith, c.from-first.ensures) in
+    zero_at bytes at first within more (omega (arith, small)) is 1 first 128 c.from-second.result (after_one bytes at first within more (omega (arith, small)) is) (omega arith) (omega (arith, c.if-left-lt2.false)) c.from-second.ensures c.if-second-eq0.true
 
-pub overflow_mul-result : goal.overflow_mul-result
-overflow_mul-result c =
-    let few = scale_small c.loop-group.group c.loop-group.scale c.loop-group-test.true c.loop-group.invariant.scale_is in
-    omega (arith, group_small c.from-byte.result c.loop-group.scale c.if-byte-lt128.true few)
+pub returns-then-second-lt128-clause-value : goal.returns-then-second-lt128-clause-value
+returns-then-second-lt128-clause-value c =
+    let bytes = c.args.bytes.now in
+    let at = c.args.at in
+    let first : ℕ = c.from-first.result - 128 in
+    let within = c.requires.within in
+    let more = c.requires.more in
+    let byte = λ (i : ℕ). c.type_inv.bytes i in
+    let small = byte at in
+    let is : first ≡ get_or bytes at 0 - 128 = omega (arith, c.from-first.ensures) in
+    ends_at bytes at first within more (omega (arith, small)) is 1 first 128 c.from-second.result _ (after_one bytes at first within more (omega (arith, small)) is) (omega arith) (omega (arith, c.if-left-lt2.false)) c.from-second.ensures c.if-second-eq0.false c.if-second-lt128.true (omega arith)
 
-pub overflow_add-result : goal.overflow_add-result
-overflow_add-result c =
-    let few = scale_small c.loop-group.group c.loop-group.scale c.loop-group-test.true c.loop-group.invariant.scale_is in
-    omega (arith, few, value_small c.loop-group.gap c.from-byte.result c.loop-group.scale c.loop-group.invariant.below c.if-byte-lt128.true)
+pub returns-then-left-lt3-clause-fault : goal.returns-then-left-lt3-clause-fault
+returns-then-left-lt3-clause-fault c =
+    let bytes = c.args.bytes.now in
+    let at = c.args.at in
+    let first : ℕ = c.from-first.result - 128 in
+    let within = c.requires.within in
+    let more = c.requires.more in
+    let byte = λ (i : ℕ). c.type_inv.bytes i in
+    let small = byte at in
+    let is : first ≡ get_or bytes at 0 - 128 = omega (arith, c.from-first.ensures) in
+    let second_byte : c.from-second.result < 256 = omega (arith, c.from-second.ensures, byte (at + 1)) in
+    cut_at bytes at first within more (omega (arith, small)) is 2 (first + (c.from-second.result - 128) * 128) 16384 (after_two bytes at first within more (omega (arith, small)) is c.from-second.result (omega (arith, c.if-left-lt2.false)) c.from-second.ensures c.if-second-lt128.false second_byte) (omega arith) (omega (arith, c.if-left-lt3.true))
 
-pub returns-then-byte-lt128-clause-value : goal.returns-then-byte-lt128-clause-value
-returns-then-byte-lt128-clause-value c =
-    ends_group (drop c.args.at c.args.bytes.now) c.loop-group.group c.loop-group.gap c.loop-group.scale c.loop-group.invariant c.loop-group-test.true c.from-byte.result _
-    (omega (arith, length-drop c.args.at c.args.bytes.now, c.if-group-bytes.false))
-    (c.from-byte.ensures ∙ sym (get_or-drop c.args.at c.args.bytes.now c.loop-group.group 0))
-    c.if-byte-eq0.false c.if-byte-lt128.true (omega arith)
+pub returns-then-third-eq0-clause-fault : goal.returns-then-third-eq0-clause-fault
+returns-then-third-eq0-clause-fault c =
+    let bytes = c.args.bytes.now in
+    let at = c.args.at in
+    let first : ℕ = c.from-first.result - 128 in
+    let within = c.requires.within in
+    let more = c.requires.more in
+    let byte = λ (i : ℕ). c.type_inv.bytes i in
+    let small = byte at in
+    let is : first ≡ get_or bytes at 0 - 128 = omega (arith, c.from-first.ensures) in
+    let second_byte : c.from-second.result < 256 = omega (arith, c.from-second.ensures, byte (at + 1)) in
+    zero_at bytes at first within more (omega (arith, small)) is 2 (first + (c.from-second.result - 128) * 128) 16384 c.from-third.result (after_two bytes at first within more (omega (arith, small)) is c.from-second.result (omega (arith, c.if-left-lt2.false)) c.from-second.ensures c.if-second-lt128.false second_byte) (omega arith) (omega (arith, c.if-left-lt3.false)) c.from-third.ensures c.if-third-eq0.true
 
-pub returns-then-byte-lt128-clause-limit : goal.returns-then-byte-lt128-clause-limit
-returns-then-byte-lt128-clause-limit c =
-    let few = scale_small c.loop-group.group c.loop-group.scale c.loop-group-test.true c.loop-group.invariant.scale_is in
-    omega (arith, few, value_small c.loop-group.gap c.from-byte.result c.loop-group.scale c.loop-group.invariant.below c.if-byte-lt128.true)
+pub returns-then-third-lt128-clause-value : goal.returns-then-third-lt128-clause-value
+returns-then-third-lt128-clause-value c =
+    let bytes = c.args.bytes.now in
+    let at = c.args.at in
+    let first : ℕ = c.from-first.result - 128 in
+    let within = c.requires.within in
+    let more = c.requires.more in
+    let byte = λ (i : ℕ). c.type_inv.bytes i in
+    let small = byte at in
+    let is : first ≡ get_or bytes at 0 - 128 = omega (arith, c.from-first.ensures) in
+    let second_byte : c.from-second.result < 256 = omega (arith, c.from-second.ensures, byte (at + 1)) in
+    ends_at bytes at first within more (omega (arith, small)) is 2 (first + (c.from-second.result - 128) * 128) 16384 c.from-third.result _ (after_two bytes at first within more (omega (arith, small)) is c.from-second.result (omega (arith, c.if-left-lt2.false)) c.from-second.ensures c.if-second-lt128.false second_byte) (omega arith) (omega (arith, c.if-left-lt3.false)) c.from-third.ensures c.if-third-eq0.false c.if-third-lt128.true (omega arith)
 
-pub overflow_mul-gap : goal.overflow_mul-gap
-overflow_mul-gap c =
-    let few = scale_small c.loop-group.group c.loop-group.scale c.loop-group-test.true c.loop-group.invariant.scale_is in
-    let byte : c.from-byte.result < 256 = omega (arith, c.from-byte.ensures, c.type_inv.bytes (c.args.at + c.loop-group.group)) in
-    let small : c.from-byte.result - 128 < 128 = omega arith in
-    omega (arith, group_small (c.from-byte.result - 128) c.loop-group.scale small few)
+pub returns-then-left-lt4-clause-fault : goal.returns-then-left-lt4-clause-fault
+returns-then-left-lt4-clause-fault c =
+    let bytes = c.args.bytes.now in
+    let at = c.args.at in
+    let first : ℕ = c.from-first.result - 128 in
+    let within = c.requires.within in
+    let more = c.requires.more in
+    let byte = λ (i : ℕ). c.type_inv.bytes i in
+    let small = byte at in
+    let is : first ≡ get_or bytes at 0 - 128 = omega (arith, c.from-first.ensures) in
+    let second_byte : c.from-second.result < 256 = omega (arith, c.from-second.ensures, byte (at + 1)) in
+    let third_byte : c.from-third.result < 256 = omega (arith, c.from-third.ensures, byte (at + 2)) in
+    cut_at bytes at first within more (omega (arith, small)) is 3 (first + (c.from-second.result - 128) * 128 + (c.from-third.result - 128) * 16384) 2097152 (after_three bytes at first within more (omega (arith, small)) is c.from-second.result c.from-third.result (omega (arith, c.if-left-lt3.false)) c.from-second.ensures c.if-second-lt128.false second_byte c.from-third.ensures c.if-third-lt128.false third_byte) (omega arith) (omega (arith, c.if-left-lt4.true))
 
-pub overflow_add-gap : goal.overflow_add-gap
-overflow_add-gap c =
-    let few = scale_small c.loop-group.group c.loop-group.scale c.loop-group-test.true c.loop-group.invariant.scale_is in
-    let byte : c.from-byte.result < 256 = omega (arith, c.from-byte.ensures, c.type_inv.bytes (c.args.at + c.loop-group.group)) in
-    let small : c.from-byte.result - 128 < 128 = omega arith in
-    omega (arith, few, value_small c.loop-group.gap (c.from-byte.result - 128) c.loop-group.scale c.loop-group.invariant.below small)
+pub returns-then-fourth-eq0-clause-fault : goal.returns-then-fourth-eq0-clause-fault
+returns-then-fourth-eq0-clause-fault c =
+    let bytes = c.args.bytes.now in
+    let at = c.args.at in
+    let first : ℕ = c.from-first.result - 128 in
+    let within = c.requires.within in
+    let more = c.requires.more in
+    let byte = λ (i : ℕ). c.type_inv.bytes i in
+    let small = byte at in
+    let is : first ≡ get_or bytes at 0 - 128 = omega (arith, c.from-first.ensures) in
+    let second_byte : c.from-second.result < 256 = omega (arith, c.from-second.ensures, byte (at + 1)) in
+    let third_byte : c.from-third.result < 256 = omega (arith, c.from-third.ensures, byte (at + 2)) in
+    let fourth_byte : c.from-fourth.result < 256 = omega (arith, c.from-fourth.ensures, byte (at + 3)) in
+    elim c.then-fourth-eq0.branch [
+      | then-fourth-eq0-via-then-fourth-eq0 w ↦ zero_at bytes at first within more (omega (arith, small)) is 3 (first + (c.from-second.result - 128) * 128 + (c.from-third.result - 128) * 16384) 2097152 c.from-fourth.result (after_three bytes at first within more (omega (arith, small)) is c.from-second.result c.from-third.result (omega (arith, c.if-left-lt3.false)) c.from-second.ensures c.if-second-lt128.false second_byte c.from-third.ensures c.if-third-lt128.false third_byte) (omega arith) (omega (arith, c.if-left-lt4.false)) c.from-fourth.ensures w.if-fourth-eq0.true
+      | then-fourth-eq0-via-else-fourth-eq0+then-fourth-ge128 w ↦ long_at bytes at first within more (omega (arith, small)) is 3 (first + (c.from-second.result - 128) * 128 + (c.from-third.result - 128) * 16384) 2097152 c.from-fourth.result (after_three bytes at first within more (omega (arith, small)) is c.from-second.result c.from-third.result (omega (arith, c.if-left-lt3.false)) c.from-second.ensures c.if-second-lt128.false second_byte c.from-third.ensures c.if-third-lt128.false third_byte) refl (omega (arith, c.if-left-lt4.false)) c.from-fourth.ensures w.if-fourth-ge128.true fourth_byte
+    ]
 
-pub overflow_mul-scale : goal.overflow_mul-scale
-overflow_mul-scale c =
-    let few = scale_small c.loop-group.group c.loop-group.scale c.loop-group-test.true c.loop-group.invariant.scale_is in
-    omega (arith, few)
+pub returns-clause-value : goal.returns-clause-value
+returns-clause-value c =
+    let bytes = c.args.bytes.now in
+    let at = c.args.at in
+    let first : ℕ = c.from-first.result - 128 in
+    let within = c.requires.within in
+    let more = c.requires.more in
+    let byte = λ (i : ℕ). c.type_inv.bytes i in
+    let small = byte at in
+    let is : first ≡ get_or bytes at 0 - 128 = omega (arith, c.from-first.ensures) in
+    let second_byte : c.from-second.result < 256 = omega (arith, c.from-second.ensures, byte (at + 1)) in
+    let third_byte : c.from-third.result < 256 = omega (arith, c.from-third.ensures, byte (at + 2)) in
+    ends_at bytes at first within more (omega (arith, small)) is 3 (first + (c.from-second.result - 128) * 128 + (c.from-third.result - 128) * 16384) 2097152 c.from-fourth.result _ (after_three bytes at first within more (omega (arith, small)) is c.from-second.result c.from-third.result (omega (arith, c.if-left-lt3.false)) c.from-second.ensures c.if-second-lt128.false second_byte c.from-third.ensures c.if-third-lt128.false third_byte) (omega arith) (omega (arith, c.if-left-lt4.false)) c.from-fourth.ensures c.if-fourth-eq0.false c.if-fourth-ge128.false (omega arith)
