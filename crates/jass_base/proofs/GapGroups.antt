@@ -1,6 +1,7 @@
 -- A gap that is read or written group by group.
-use Rattle.std.proofs.Common.{◌≡◌, ℕ, zero, suc, ◌+◌, ◌-◌, ◌*◌, ◌/◌, ◌%◌, ◌^◌, ◌<◌, ◌≤◌, ◌≢◌, ◌==◌, Bool, true, false, cond, List, [], ◌∷◌, ◌++◌, length, get_or, take, drop, Result, Ok, Err, refl, sym, ap, ◌∙◌, subst, arith, add-one, drop-cons, set, append_assoc}
-use Rattle.std.specs.Prelude.{nat_lt}
+use Rattle.std.proofs.Common.{◌≡◌, ℕ, zero, suc, ◌+◌, ◌-◌, ◌*◌, ◌/◌, ◌%◌, ◌^◌, ◌<◌, ◌≤◌, ◌≢◌, ◌==◌, Bool, true, false, cond, List, [], ◌∷◌, ◌++◌, length, get_or, take, drop, Result, Ok, Err, refl, sym, ap, ◌∙◌, subst, inl, inr, arith, add-one, drop-cons, set, append_assoc}
+use Rattle.std.specs.Prelude.{nat_lt, IsOk}
+use Rattle.std.proofs.lemmas.Bool.{cases_lt}
 use Rattle.std.proofs.lemmas.Bool.Decides.{nat_tests}
 use Rattle.std.proofs.lemmas.List.{drop_all, take_more_set, length-set, length-drop, get_or-drop}
 use Rattle.std.proofs.Math.Nat.{pow-suc, pow-le-pow_right}
@@ -163,6 +164,15 @@ one_group_written gap small =
     let low : nat_lt gap 128 ≡ true = grind (arith, nat_tests) in
     rw low refl
 
+-- ---- where a gap is known to stand
+no_fault : (read : Result GapSpelling PayloadFault) (fault : PayloadFault) → IsOk read → read ≡ Err fault → ⊥
+no_fault (Ok spelling) fault known is = absurd cc
+no_fault (Err other) fault known is = absurd cc
+
+pub first_inside : (bytes : List ℕ) (at : ℕ) → IsOk (gap_in (drop at bytes)) → at < length bytes
+first_inside bytes at known =
+    elim (cases_lt at (length bytes)) [ inl l ↦ l | inr g ↦ absurd (no_fault (gap_in (drop at bytes)) Cut known (no_byte bytes at g)) ]
+
 -- the groups of a gap that begins at a place, the first of which has more behind it
 module _ (bytes : List ℕ) (at first : ℕ) (within : at < length bytes) (high : 128 ≤ get_or bytes at 0) (byte : get_or bytes at 0 < 256) (is : first ≡ get_or bytes at 0 - 128) where
   abbrev pub here : List ℕ
@@ -205,3 +215,23 @@ module _ (bytes : List ℕ) (at first : ℕ) (within : at < length bytes) (high 
 
   pub ends_at : (i gap scale b size : ℕ) → SoFar here i gap scale → i < 4 → at + i < length bytes → b ≡ get_or bytes (at + i) 0 → b ≢ 0 → b < 128 → size ≡ i + 1 → gap_in here ≡ spelled (gap + b * scale) size
   ends_at i gap scale b size far few inside same some small place = ends_group here i gap scale far few b size (omega (arith, long)) (at_place i b same) some small place
+
+  module _ (known : IsOk (gap_in here)) where
+    pub inside_at : (i gap scale : ℕ) → SoFar here i gap scale → i < 4 → at + i < length bytes
+    inside_at i gap scale far few =
+        elim (cases_lt (at + i) (length bytes)) [
+          | inl l ↦ l
+          | inr g ↦ absurd (no_fault (gap_in here) Cut known (cut_at i gap scale far few (omega arith)))
+        ]
+
+    pub known_at : (i gap scale b size : ℕ) → SoFar here i gap scale → i < 4 → b ≡ get_or bytes (at + i) 0 → b < 128 → size ≡ i + 1 → gap_in here ≡ spelled (gap + b * scale) size
+    known_at i gap scale b size far few same small place =
+        let inside = inside_at i gap scale far few in
+        ends_at i gap scale b size far few inside same (λ none. no_fault (gap_in here) Shape known (zero_at i gap scale b far few inside same none)) small place
+
+    pub last_small : (gap scale b : ℕ) → SoFar here 3 gap scale → b ≡ get_or bytes (at + 3) 0 → b < 256 → b < 128
+    last_small gap scale b far same fits =
+        elim (cases_lt b 128) [
+          | inl l ↦ l
+          | inr g ↦ absurd (no_fault (gap_in here) Shape known (long_at 3 gap scale b far refl (inside_at 3 gap scale far (omega arith)) same g fits))
+        ]

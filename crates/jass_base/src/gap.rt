@@ -1,4 +1,4 @@
-ghost use Rattle.std.specs.Prelude.{◌≡◌, ◌≤◌, ◌<◌, ◌-◌, ◌^◌, ◌++◌, length, take, drop, slice_index, Ok, Err, OnOk, OnErr, IfOk, IfErr};
+ghost use Rattle.std.specs.Prelude.{◌≡◌, ◌≤◌, ◌<◌, ◌-◌, ◌^◌, ◌++◌, length, take, drop, slice_index, Ok, Err, OnOk, OnErr, IfOk, IfErr, IsOk};
 ghost use Rattle.jass_base.specs.Gaps.{gap_in};
 ghost use Rattle.jass_base.specs.Wire.{short_varint};
 
@@ -105,4 +105,32 @@ fn read_groups(bytes: &[u8], at: usize) -> Result<(u32, usize), PayloadFault>
         return Err(PayloadFault::Shape);
     }
     Ok((three + fourth * 2_097_152, at + 4))
+}
+
+/// The gap that stands at a place, and the place behind it. It reads what `read_gap` reads,
+/// and looks for no fault.
+#[inline(always)]
+pub fn known_gap(bytes: &[u8], at: usize) -> (u32, usize)
+    requires { IsOk (gap_in (drop at bytes.now)) }
+    ensures value { gap_in (drop at bytes.now) ≡ Ok (record { gap = result.0; size = result.1 - at }) }
+    ensures limit { result.0 < 2 ^ 28 }
+    ensures behind { at < result.1 }
+    ensures within { result.1 ≤ length bytes.now }
+{
+    let first = u32::from(bytes[at]);
+    if first < 128 {
+        return (first, at + 1);
+    }
+    let second = u32::from(bytes[at + 1]);
+    if second < 128 {
+        return (first - 128 + second * 128, at + 2);
+    }
+    let two = first - 128 + (second - 128) * 128;
+    let third = u32::from(bytes[at + 2]);
+    if third < 128 {
+        return (two + third * 16_384, at + 3);
+    }
+    let three = two + (third - 128) * 16_384;
+    let fourth = u32::from(bytes[at + 3]);
+    (three + fourth * 2_097_152, at + 4)
 }

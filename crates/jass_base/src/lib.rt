@@ -45,7 +45,7 @@ pub use doc_record::DocRecord;
 pub use faults::{Failed, NoMemory, ReadFault, WriteFault};
 pub use feed::Feed;
 pub use file_sink::FileSink;
-pub use gap::{put_gap, read_gap};
+pub use gap::{known_gap, put_gap, read_gap};
 pub use header::Header;
 pub use impact_index::ImpactIndex;
 pub use lexicon::Lexicon;

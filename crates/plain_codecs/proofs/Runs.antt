@@ -1,6 +1,6 @@
 -- Gaps that bytes spell from a place on.
 use Rattle.std.proofs.Common.{◌≡◌, ℕ, zero, suc, ◌+◌, ◌-◌, ◌*◌, ◌%◌, ◌/◌, ◌^◌, ◌<◌, ◌≤◌, Bool, true, false, cond, List, [], ◌∷◌, ◌++◌, length, get_or, take, drop, set, All, Result, Ok, Err, refl, sym, ap, ◌∙◌, subst, append_assoc, arith}
-use Rattle.std.specs.Prelude.{nat_lt}
+use Rattle.std.specs.Prelude.{nat_lt, IsOk}
 use Rattle.std.proofs.lemmas.Bool.Decides.{nat_tests}
 use Rattle.std.proofs.lemmas.List.{drop-drop, length-drop, take_more, take_more_set, length-set, length-append, length-take-le, get_or-take, append-nil}
 use Rattle.std.proofs.lemmas.List.Elements.{All-drop}
@@ -46,10 +46,10 @@ run_read found bytes at next gap count (x ∷ xs) run some is on within =
       };
     }
 
-pub run_is_read : GapFound → (bytes : List ℕ) (at count : ℕ) (gaps : List ℕ) (fault : PayloadFault) → IsRun bytes at count gaps → 0 < count → gap_in (drop at bytes) ≡ Err fault → ⊥
-run_is_read found bytes at count [] fault run some is = let e = run.enough in omega arith
-run_is_read found bytes at count (x ∷ xs) fault run some is =
-    let read : spelled x (length (short_varint x)) ≡ Err fault = sym (found x (spelled_gaps xs) (run.small 0 0 (omega arith))) ∙ ap gap_in (sym run.spelled) ∙ is in cc
+pub run_known : GapFound → (bytes : List ℕ) (at count : ℕ) (gaps : List ℕ) → IsRun bytes at count gaps → 0 < count → IsOk (gap_in (drop at bytes))
+run_known found bytes at count [] run some = absurd (let e = run.enough in omega arith)
+run_known found bytes at count (x ∷ xs) run some =
+    subst IsOk (sym (ap gap_in run.spelled ∙ found x (spelled_gaps xs) (run.small 0 0 (omega arith)))) refl
 
 -- gaps of one byte
 short_small : (gap : ℕ) → gap < 128 → short_varint gap ≡ gap ∷ []

@@ -1,5 +1,6 @@
 -- What a cursor gives, in gaps.
 use Rattle.std.proofs.Common.{◌≡◌, ℕ, ◌+◌, ◌-◌, ◌^◌, ◌<◌, ◌≤◌, min, List, [], ◌∷◌, length, take, drop, set, sum, Err, refl, sym, ap, ◌∙◌, subst, arith}
+use Rattle.std.specs.Prelude.{IsOk}
 use Rattle.std.proofs.lemmas.List.{length-drop, take_all, take_more_set}
 use Rattle.jass_base.specs.declared.payload_fault.PayloadFault.{PayloadFault}
 use Rattle.jass_base.specs.Gaps.{docs_from, gap_in, spelled_gaps}
@@ -7,7 +8,7 @@ use Rattle.plain_codecs.specs.declared.varbyte.cursor.Cursor.{Cursor}
 use Rattle.plain_codecs.specs.Runs.{IsRun}
 use Rattle.plain_codecs.specs.VarbyteCursor.{Gives}
 use Rattle.plain_codecs.proofs.Docs.{Parts, Split, split, small_gaps, sum_parts, length-docs}
-use Rattle.plain_codecs.proofs.Runs.{GapFound, Stepped, spelled, run_read, run_is_read}
+use Rattle.plain_codecs.proofs.Runs.{GapFound, Stepped, spelled, run_read, run_known}
 
 module _ (cursor : Cursor) (bytes docs : List ℕ) (gives : Gives cursor bytes docs) (count : ℕ) (is : count ≡ min cursor.left 128) where
   pub few : count ≤ length gives.gaps
@@ -45,8 +46,8 @@ module _ (found : GapFound) (cursor : Cursor) (bytes docs : List ℕ) (gives : G
   last_run : IsRun bytes cursor.at 1 gives.gaps
   last_run = record { within = gives.within; spelled = gives.spelled; small = small_gaps gives.gaps (omega (arith, gives.room)); enough = omega (arith, gives.left) }
 
-  pub last_is_read : (fault : PayloadFault) → gap_in (drop cursor.at bytes) ≡ Err fault → ⊥
-  last_is_read fault is = run_is_read found bytes cursor.at 1 gives.gaps fault last_run (omega arith) is
+  pub last_known : IsOk (gap_in (drop cursor.at bytes))
+  last_known = run_known found bytes cursor.at 1 gives.gaps last_run (omega arith)
 
   pub one_doc : length docs ≡ 1
   one_doc = ap (λ (xs : List ℕ). length xs) gives.docs_are ∙ length-docs cursor.least gives.gaps ∙ sym gives.left ∙ one

@@ -4,7 +4,7 @@ ghost use Rattle.plain_codecs.specs.Varbyte.{varbyte_of};
 ghost use Rattle.plain_codecs.specs.VarbyteCursor.{Gives};
 
 use crate::varbyte::runs::{docs_of_gaps, read_run};
-use jass_base::{laws, read_gap};
+use jass_base::{known_gap, laws};
 
 /// Where a reader of a payload stands. It holds no bytes: they are given at each call.
 #[derive(Clone, Copy, Debug)]
@@ -64,9 +64,7 @@ impl Cursor {
         ensures more { (docs : List ℕ) → Gives self.old bytes.now docs → length docs ≡ 1 }
     {
         laws::gap_varints_are_read();
-        let Ok((gap, next)) = read_gap(bytes, self.at) else {
-            unreachable!()
-        };
+        let (gap, next) = known_gap(bytes, self.at);
         let doc = self.least + gap;
         out[0] = doc;
         *self = Cursor {

@@ -3,7 +3,7 @@ ghost use Rattle.std.specs.Prelude.{ℕ, ◌≡◌, ◌+◌, ◌-◌, ◌≤◌,
 ghost use Rattle.jass_base.specs.Gaps.{docs_from};
 ghost use Rattle.plain_codecs.specs.Runs.{IsRun};
 
-use jass_base::{PayloadFault, laws, read_gap};
+use jass_base::{known_gap, laws};
 use lane_kernels::{running128, small16, widen16};
 
 // Reads so many gaps from a place on to the front of `out`, and returns the place behind them.
@@ -41,9 +41,7 @@ fn read_each(bytes: &[u8], from: usize, first: usize, end: usize, out: &mut [u32
     laws::gap_varints_are_read();
     let mut at = from;
     for place in first..end {
-        let Ok((gap, next)) = read_gap(bytes, at) else {
-            unreachable!()
-        };
+        let (gap, next) = known_gap(bytes, at);
         out[place] = gap;
         at = next;
     }

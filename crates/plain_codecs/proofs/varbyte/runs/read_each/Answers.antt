@@ -1,5 +1,5 @@
 use Rattle.std.proofs.Common.{◌-◌, drop, arith}
-use Rattle.plain_codecs.proofs.Runs.{none_each, one_each, all_each, run_is_read}
+use Rattle.plain_codecs.proofs.Runs.{none_each, one_each, all_each, run_known}
 use Rattle.plain_codecs.proofs.varbyte.runs.read_each.Goals as goal
 
 pub loop-place-init : goal.loop-place-init
@@ -7,15 +7,15 @@ loop-place-init c = none_each c.args.bytes.now c.args.from c.args.first c.args.e
 
 pub loop-place-preserved : goal.loop-place-preserved
 loop-place-preserved c =
-    one_each c.gap_varints_are_read.ensures.found c.args.bytes.now c.args.from c.args.first c.args.end c.loop-place.at c.loop-place.place c.in-Ok.gap c.in-Ok.next c.args.out.now c.loop-place.out
-    c.loop-place.invariant c.requires.block c.loop-place-test.true c.in-Ok.ensures.value c.in-Ok.ensures.behind c.in-Ok.ensures.within
+    one_each c.gap_varints_are_read.ensures.found c.args.bytes.now c.args.from c.args.first c.args.end c.loop-place.at c.loop-place.place c.known_gap-gap.result.0 c.known_gap-gap.result.1 c.args.out.now c.loop-place.out
+    c.loop-place.invariant c.requires.block c.loop-place-test.true c.known_gap-gap.ensures.value c.known_gap-gap.ensures.behind c.known_gap-gap.ensures.within
 
-pub unreachable-requires : goal.unreachable-requires
-unreachable-requires c =
+pub known_gap-gap-requires : goal.known_gap-gap-requires
+known_gap-gap-requires c =
     let gaps = c.requires.run.0 in
     let place = c.loop-place.place in
-    run_is_read c.gap_varints_are_read.ensures.found c.args.bytes.now c.loop-place.at (c.args.end - place) (drop (place - c.args.first) gaps) c.in_default.field-0
-    (c.loop-place.invariant.rest gaps c.requires.run.1) (let left = c.loop-place-test.true in omega arith) c.in_default.ensures.fault
+    run_known c.gap_varints_are_read.ensures.found c.args.bytes.now c.loop-place.at (c.args.end - place) (drop (place - c.args.first) gaps)
+    (c.loop-place.invariant.rest gaps c.requires.run.1) (let left = c.loop-place-test.true in omega arith)
 
 pub returns : goal.returns
 returns c =
