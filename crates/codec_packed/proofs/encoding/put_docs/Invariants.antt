@@ -1,0 +1,10 @@
+use Rattle.std.proofs.Common.{◌≡◌, ◌++◌, ◌-◌, ◌*◌, ◌^◌, length, take, drop}
+use Rattle.jass_base.specs.Gaps.{gaps_from}
+use Rattle.codec_packed.specs.Giving.{AreFrom}
+use Rattle.codec_packed.specs.Packing.{packed_gaps, packed_of}
+use Rattle.codec_packed.proofs.encoding.put_docs.Given as goal
+
+abbrev pub invariant-loop-block : goal.invariant-loop-block
+invariant-loop-block l = AreFrom (2 ^ 26) l.least (drop (128 * l.block) l.docs)
+    × (l.out ++ packed_gaps (l.blocks - l.block) (gaps_from l.least (drop (128 * l.block) l.docs)) ≡ l.fn.out ++ packed_of l.docs)
+    × (take (length l.fn.out) l.out ≡ l.fn.out)

@@ -1,0 +1,84 @@
+// The gaps behind the last full block, as shortest varints.
+ghost use Rattle.std.specs.Prelude.{◌≡◌, ◌+◌, ◌*◌, ◌<◌, ◌≤◌, ◌^◌, ◌++◌, length, take, drop, OnOk, OnErr};
+ghost use Rattle.jass_base.specs.Gaps.{gaps_from, read_gaps, spelled_gaps};
+ghost use Rattle.jass_base.specs.Wire.{short_varint};
+ghost use Rattle.codec_packed.specs.Giving.{AreFrom};
+ghost use Rattle.codec_packed.specs.Steps.{verdict};
+
+use jass_base::{NoMemory, PayloadFault, Row, put_gap, read_gap};
+
+/// Appends the gaps of documents, the first at least `least`, or some of them where memory is
+/// refused.
+pub(crate) fn put_gaps(docs: &[u32], least: u32, out: &mut Row<u8>) -> Result<(), NoMemory>
+    requires { AreFrom (2 ^ 26) least docs.now }
+    ensures ok { OnOk result (out.new ≡ out.old ++ spelled_gaps (gaps_from least docs.now)) }
+    ensures err { OnErr result (take (length out.old) out.new ≡ out.old) }
+{
+    let mut next = least;
+    for doc in docs {
+        put_gap(*doc - next, out)?;
+        next = *doc + 1;
+    }
+    Ok(())
+}
+
+/// The number of bytes of the gaps of documents, the first at least `least`.
+pub(crate) fn gaps_size(docs: &[u32], least: u32) -> u64
+    requires { AreFrom (2 ^ 26) least docs.now }
+    ensures { result ≡ length (spelled_gaps (gaps_from least docs.now)) }
+{
+    let mut size = 0;
+    let mut next = least;
+    for doc in docs {
+        size += gap_size(*doc - next);
+        next = *doc + 1;
+    }
+    size
+}
+
+// The number of bytes of a gap.
+fn gap_size(gap: u32) -> u64
+    requires { gap < 2 ^ 28 }
+    ensures { result ≡ length (short_varint gap) }
+{
+    if gap < 0x80 {
+        return 1;
+    }
+    if gap < 0x4000 {
+        return 2;
+    }
+    if gap < 0x20_0000 {
+        return 3;
+    }
+    4
+}
+
+/// Whether the bytes from a place on are so many gaps of documents below `d`, the first at least
+/// `least`.
+pub(crate) fn check_gaps(
+    bytes: &[u8],
+    at: usize,
+    least: u32,
+    count: u32,
+    d: u32,
+) -> Result<(), PayloadFault>
+    requires place { at ≤ length bytes.now }
+    requires least { least ≤ d }
+    requires limit { d ≤ 2 ^ 26 }
+    ensures { result ≡ verdict (read_gaps d least count (drop at bytes.now)) }
+{
+    let mut place = at;
+    let mut next = least;
+    for _turn in 0..count {
+        let (gap, behind) = read_gap(bytes, place)?;
+        if gap >= d - next {
+            return Err(PayloadFault::DocRange);
+        }
+        place = behind;
+        next += gap + 1;
+    }
+    if place < bytes.len() {
+        return Err(PayloadFault::Longer);
+    }
+    Ok(())
+}

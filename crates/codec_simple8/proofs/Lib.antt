@@ -1,0 +1,14 @@
+pub mod Digits
+pub mod GapLists
+pub mod Selectors
+pub mod Tables
+pub mod Words
+pub mod Trying
+pub mod WordParts
+pub mod Docs
+pub mod Putting
+pub mod Moves
+pub mod Fields
+pub mod WordLists
+pub mod Reading
+pub mod PayloadLaws

@@ -1,0 +1,80 @@
+-- What holds of each of the 16 selectors.
+use Rattle.std.proofs.Common.{◌≡◌, ℕ, zero, suc, ◌+◌, ◌*◌, ◌<◌, ◌≤◌, Bool, true, false, refl, arith}
+use Rattle.std.specs.Prelude.{nat_eq, nat_lt, nat_le, ◌&&◌, ◌||◌}
+use Rattle.std.specs.List.{list_all, range_with_len}
+use Rattle.std.proofs.lemmas.Bool.Decides.{nat_tests}
+use Rattle.codec_simple8.specs.Simple8.{count_of, width_of}
+
+pub both : (a b : Bool) → (a && b) ≡ true → (a ≡ true) × (b ≡ true)
+both true b is = (refl, is)
+both false b is = absurd cc
+
+each_from : (p : ℕ → Bool) (n a : ℕ) → list_all p (range_with_len a n) ≡ true → (k : ℕ) → k < n → p (a + k) ≡ true
+each_from p zero a all k within = absurd (omega arith)
+each_from p (suc n) a all zero within =
+    let here : a + 0 ≡ a = omega arith in
+    rw here (both (p a) (list_all p (range_with_len (a + 1) n)) all).0
+each_from p (suc n) a all (suc k) within =
+    let there : a + suc k ≡ a + 1 + k = omega arith in
+    rw there (each_from p n (a + 1) (both (p a) (list_all p (range_with_len (a + 1) n)) all).1 k (omega arith))
+
+-- a test that each selector passes
+pub at_each : (p : ℕ → Bool) (n : ℕ) → list_all p (range_with_len 0 n) ≡ true → (s : ℕ) → s < n → p s ≡ true
+at_each p n all s within = let from = each_from p n 0 all s within in let here : 0 + s ≡ s = omega arith in rw here at from
+
+pub count_some : (s : ℕ) → s < 16 → 1 ≤ count_of s
+unfolding count_of
+count_some s within = let t = at_each (λ s. nat_le 1 (count_of s)) 16 refl s within in grind (arith, nat_tests)
+
+pub count_most : (s : ℕ) → s < 16 → count_of s ≤ 240
+unfolding count_of
+count_most s within = let t = at_each (λ s. nat_le (count_of s) 240) 16 refl s within in grind (arith, nat_tests)
+
+pub width_most : (s : ℕ) → s < 16 → width_of s ≤ 60
+unfolding width_of
+width_most s within = let t = at_each (λ s. nat_le (width_of s) 60) 16 refl s within in grind (arith, nat_tests)
+
+pub bits_most : (s : ℕ) → s < 16 → width_of s * count_of s ≤ 60
+unfolding width_of count_of
+bits_most s within = let t = at_each (λ s. nat_le (width_of s * count_of s) 60) 16 refl s within in grind (arith, nat_tests)
+
+-- a greater selector has no more gaps, and no narrower ones
+pub count_falls : (s : ℕ) → s < 15 → count_of (s + 1) ≤ count_of s
+unfolding count_of
+count_falls s within = let t = at_each (λ s. nat_le (count_of (s + 1)) (count_of s)) 15 refl s within in grind (arith, nat_tests)
+
+pub width_rises : (s : ℕ) → s < 15 → width_of s ≤ width_of (s + 1)
+unfolding width_of
+width_rises s within = let t = at_each (λ s. nat_le (width_of s) (width_of (s + 1))) 15 refl s within in grind (arith, nat_tests)
+
+-- the last selector
+pub last_count : count_of 15 ≡ 1
+unfolding count_of
+last_count = refl
+
+pub last_width : width_of 15 ≡ 60
+unfolding width_of
+last_width = refl
+
+-- the gaps of the first two are all 0
+pub flat_widths : (s : ℕ) → s < 2 → width_of s ≡ 0
+unfolding width_of
+flat_widths s within = let t = at_each (λ s. nat_le (width_of s) 0) 2 refl s within in grind (arith, nat_tests)
+
+-- the words of the others have room in what two of them leave of a block
+pub count_others : (s : ℕ) → 2 ≤ s → s < 16 → count_of s ≤ 60
+unfolding count_of
+count_others s others within =
+    let t = at_each (λ s. nat_lt s 2 || nat_le (count_of s) 60) 16 refl s within in
+    let u : nat_lt s 2 ≡ false = grind (arith, nat_tests) in
+    let v : nat_le (count_of s) 60 ≡ true = rw u at t in
+    grind (arith, nat_tests)
+
+-- only the words of the last one have one gap
+pub last_only : (s : ℕ) → s < 16 → count_of s ≤ 1 → s ≡ 15
+unfolding count_of
+last_only s within one =
+    let t = at_each (λ s. nat_lt 1 (count_of s) || nat_eq s 15) 16 refl s within in
+    let u : nat_lt 1 (count_of s) ≡ false = grind (arith, nat_tests) in
+    let v : nat_eq s 15 ≡ true = rw u at t in
+    grind (arith, nat_tests)

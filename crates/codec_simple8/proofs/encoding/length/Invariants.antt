@@ -1,0 +1,10 @@
+use Rattle.std.proofs.Common.{length, ◌-◌, ◌≡◌, ◌+◌, ◌*◌, ◌≤◌, drop}
+use Rattle.jass_base.specs.Gaps.{gaps_of}
+use Rattle.codec_simple8.specs.Simple8.{simple8_of, spelled_words}
+use Rattle.codec_simple8.proofs.encoding.length.Given as goal
+
+abbrev pub invariant-loop-at : goal.invariant-loop-at
+invariant-loop-at l = (l.at ≤ length l.docs) × (8 * l.words + length (spelled_words (drop l.at (gaps_of l.docs))) ≡ length (simple8_of l.docs))
+
+abbrev pub decreases-loop-at : goal.decreases-loop-at
+decreases-loop-at l = length l.docs - l.at

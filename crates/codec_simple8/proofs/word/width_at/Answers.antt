@@ -1,0 +1,7 @@
+use Rattle.std.proofs.Common.{refl}
+use Rattle.codec_simple8.specs.Simple8.{width_of}
+use Rattle.codec_simple8.proofs.word.width_at.Goals as goal
+
+pub returns : goal.returns
+unfolding width_of
+returns c = refl

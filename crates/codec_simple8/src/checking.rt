@@ -1,0 +1,60 @@
+ghost use Rattle.std.specs.Prelude.{◌≡◌, ◌<◌, ◌≤◌, ◌^◌};
+ghost use Rattle.jass_base.specs.Gaps.{Judges};
+ghost use Rattle.codec_simple8.specs.Simple8.{read_simple8, read_words};
+
+use crate::spelling::is_spelling;
+use crate::sums::sum_gaps;
+use crate::word::{count_at, word_at};
+use jass_base::PayloadFault;
+
+/// Ok where the bytes are the payload of a list of `count` documents below `d`; else the first
+/// fault, word by word: Cut where fewer than eight bytes are left, Shape where a word has more
+/// gaps than are left, DocRange where a document is `d` or above. Then Longer where bytes are left,
+/// and Shape where they aren't the one spelling of the gaps that were read.
+pub fn check(bytes: &[u8], count: u32, d: u32) -> Result<(), PayloadFault>
+    requires some { 1 ≤ count }
+    requires few { count ≤ d }
+    requires limit { d ≤ 2 ^ 26 }
+    ensures { Judges (read_simple8 d count bytes.now) result }
+{
+    match walk(bytes, count, d) {
+        Ok(()) => {}
+        Err(fault) => return Err(fault),
+    }
+    if is_spelling(bytes, count) {
+        Ok(())
+    } else {
+        Err(PayloadFault::Shape)
+    }
+}
+
+// The faults up to Longer.
+fn walk(bytes: &[u8], count: u32, d: u32) -> Result<(), PayloadFault>
+    requires { d ≤ 2 ^ 26 }
+    ensures { Judges (read_words count d 0 count bytes.now) result }
+{
+    let mut at = 0;
+    let mut left = count;
+    let mut least = 0u64;
+    while left > 0 {
+        if bytes.len() - at < 8 {
+            return Err(PayloadFault::Cut);
+        }
+        let word = word_at(bytes, at);
+        let selector = (word % 16) as usize;
+        let gaps = count_at(selector) as u32;
+        if gaps > left {
+            return Err(PayloadFault::Shape);
+        }
+        least += sum_gaps(word / 16, selector) + u64::from(gaps);
+        if least > u64::from(d) {
+            return Err(PayloadFault::DocRange);
+        }
+        left -= gaps;
+        at += 8;
+    }
+    if at < bytes.len() {
+        return Err(PayloadFault::Longer);
+    }
+    Ok(())
+}

@@ -1,0 +1,17 @@
+#![tactic(auto)]
+
+//! The four codecs of a segment's documents behind one type: which one a list takes, the bytes of
+//! its payload, the check of bytes that are to be one, and a cursor over them.
+
+mod choosing;
+mod codec;
+mod cursor;
+pub mod laws;
+mod payloads;
+#[cfg(test)]
+mod tests;
+
+pub use choosing::choose;
+pub use codec::Codec;
+pub use cursor::SegmentCursor;
+pub use payloads::{check, encode, length};
