@@ -1,10 +1,10 @@
 -- A gap and its shortest varint.
-use Rattle.std.proofs.Common.{◌≡◌, ℕ, zero, suc, ◌+◌, ◌-◌, ◌*◌, ◌/◌, ◌%◌, ◌^◌, ◌<◌, ◌≤◌, ◌==◌, Bool, true, false, cond, List, [], ◌∷◌, ◌++◌, length, get_or, take, drop, sum, All, Result, Ok, Err, refl, sym, ap, ◌∙◌, subst, arith, add-one}
+use Rattle.std.proofs.Common.{◌≡◌, ℕ, zero, suc, ◌+◌, ◌*◌, ◌/◌, ◌%◌, ◌^◌, ◌<◌, ◌≤◌, ◌==◌, Bool, true, false, cond, List, [], ◌∷◌, ◌++◌, length, take, All, Result, Ok, Err, refl, ap, subst, arith, add-one}
 use Rattle.std.specs.Prelude.{nat_lt}
 use Rattle.std.proofs.lemmas.Bool.Decides.{nat_tests}
 use Rattle.std.proofs.Math.Nat.{pow-suc}
 use Rattle.jass_base.specs.declared.payload_fault.PayloadFault.{PayloadFault}
-use Rattle.jass_base.specs.declared.payload_fault.PayloadFault.TheVariants.{Cut, Longer, Shape, DocRange}
+use Rattle.jass_base.specs.declared.payload_fault.PayloadFault.TheVariants.{Shape}
 use Rattle.jass_base.specs.Gaps.{GapSpelling, ◌>>=◌, gap_within, gap_in}
 use Rattle.jass_base.specs.Wire.{short_varint, short_varint_within}
 

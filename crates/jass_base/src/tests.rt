@@ -1,6 +1,6 @@
 // Each call that takes memory, once where there is enough, and the gaps of a table.
 
-use crate::{Cabinet, MemCabinet, NoMemory, PayloadFault, Row, Text, put_gap, read_gap};
+use crate::{Cabinet, MemCabinet, NoMemory, PayloadFault, Row, Text, known_gap, put_gap, read_gap};
 use std::alloc::Global;
 
 #[test]
@@ -41,6 +41,10 @@ fn gaps_are_read(rt: HostRuntime) {
         (&[0xff, 0xff, 0xff, 0xff, 0x01], Err(PayloadFault::Shape)),
     ];
     for (bytes, read) in table {
-        assert!(&rt; read_gap(bytes, 0) == read);
+        let found = read_gap(bytes, 0);
+        assert!(&rt; found == read);
+        if let Ok(known) = found {
+            assert!(&rt; known_gap(bytes, 0) == known);
+        }
     }
 }

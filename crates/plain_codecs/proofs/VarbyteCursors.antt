@@ -1,9 +1,8 @@
 -- What a cursor gives, in gaps.
-use Rattle.std.proofs.Common.{◌≡◌, ℕ, ◌+◌, ◌-◌, ◌^◌, ◌<◌, ◌≤◌, min, List, [], ◌∷◌, length, take, drop, set, sum, Err, refl, sym, ap, ◌∙◌, subst, arith}
+use Rattle.std.proofs.Common.{◌≡◌, ℕ, ◌+◌, ◌-◌, ◌^◌, ◌<◌, ◌≤◌, min, List, [], ◌∷◌, length, take, drop, set, sum, sym, ap, ◌∙◌, arith}
 use Rattle.std.specs.Prelude.{IsOk}
 use Rattle.std.proofs.lemmas.List.{length-drop, take_all, take_more_set}
-use Rattle.jass_base.specs.declared.payload_fault.PayloadFault.{PayloadFault}
-use Rattle.jass_base.specs.Gaps.{docs_from, gap_in, spelled_gaps}
+use Rattle.jass_base.specs.Gaps.{docs_from, gap_in}
 use Rattle.plain_codecs.specs.declared.varbyte.cursor.Cursor.{Cursor}
 use Rattle.plain_codecs.specs.Runs.{IsRun}
 use Rattle.plain_codecs.specs.VarbyteCursor.{Gives}

@@ -1,5 +1,6 @@
--- A bitmap: bit x is set exactly where document x is in the list. The lowest bit of the first byte
--- is bit 0.
+-- A bitmap: bit x is set exactly where document x is in the list, as dense lists are kept in Culpepper
+-- and Moffat, "Efficient set intersection for inverted indexing" (2010). The lowest bit of the first
+-- byte is bit 0.
 use Rattle.std.specs.Prelude.{ℕ, ◌+◌, ◌*◌, ◌/◌, ◌==◌, List, length, Result, Ok, Err, nat_lt, if◌then◌else◌}
 use Rattle.std.specs.List.{list_all, list_any}
 use Rattle.jass_base.specs.declared.payload_fault.PayloadFault.{PayloadFault}

@@ -1,4 +1,5 @@
--- Varbyte: the gaps of the documents as shortest varints, one after the other.
+-- Varbyte: the gaps of the documents, each as its shortest varint (protobuf.dev, "Encoding"), one after
+-- the other.
 use Rattle.std.specs.Prelude.{ℕ, List, Result}
 use Rattle.jass_base.specs.Gaps.{gaps_of, spelled_gaps, read_gaps}
 use Rattle.jass_base.specs.declared.payload_fault.PayloadFault.{PayloadFault}

@@ -1,6 +1,6 @@
 //! A bitmap: bit x is set exactly where document x is in the list.
 
-ghost use Rattle.std.specs.Prelude.{ℕ, ◌≡◌, ◌≤◌, ◌<◌, ◌+◌, ◌*◌, ◌^◌, ◌++◌, length, OnOk, OnErr};
+ghost use Rattle.std.specs.Prelude.{◌≡◌, ◌≤◌, ◌<◌, ◌+◌, ◌*◌, ◌^◌, ◌++◌, length, OnOk, OnErr};
 ghost use Rattle.std.specs.List.Sorted.{IsStrictlyIncreasing};
 ghost use Rattle.jass_base.specs.Gaps.{AreDocs};
 ghost use Rattle.plain_codecs.specs.Bitmap.{bitmap_byte, bitmap_of, bitmap_size};
@@ -55,8 +55,8 @@ pub fn encode(docs: &[u32], d: u32, out: &mut Row<u8>) -> Result<(), NoMemory>
     Ok(())
 }
 
-// The byte at a place, of documents that are in it or behind it from `first` on, and the
-// first of those that are behind it.
+// The byte at a place, and the first document behind it. The documents from `first` on are
+// in the byte or behind it, and those before `first` are before it.
 fn byte_at(docs: &[u32], first: usize, place: u32) -> (u8, usize)
     requires docs { IsStrictlyIncreasing docs.now }
     requires place { place < 2 ^ 23 }

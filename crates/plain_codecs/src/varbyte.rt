@@ -1,9 +1,9 @@
 //! The gaps of the documents as shortest varints, one after the other.
 
-ghost use Rattle.std.specs.Prelude.{ℕ, ◌≡◌, ◌≤◌, ◌<◌, ◌^◌, ◌++◌, length, OnOk, OnErr};
-ghost use Rattle.jass_base.specs.Gaps.{AreDocs, Judges};
+ghost use Rattle.std.specs.Prelude.{◌≡◌, ◌≤◌, ◌<◌, ◌^◌, ◌++◌, length, OnOk, OnErr};
+ghost use Rattle.jass_base.specs.Gaps.{AreDocs};
 ghost use Rattle.jass_base.specs.Wire.{short_varint};
-ghost use Rattle.plain_codecs.specs.Varbyte.{varbyte_of, read_varbyte};
+ghost use Rattle.plain_codecs.specs.Varbyte.{varbyte_of};
 
 mod checking;
 mod cursor;
@@ -12,7 +12,6 @@ mod runs;
 
 pub use checking::check;
 pub use cursor::Cursor;
-use jass_base::laws::{gap_varints_are_read, gaps_of_docs};
 use jass_base::{NoMemory, Row, put_gap};
 
 /// How many bytes the payload of the documents has, in an index of d documents.

@@ -1,4 +1,4 @@
-ghost use Rattle.std.specs.Prelude.{ℕ, ◌≡◌, ◌≤◌, ◌<◌, ◌^◌, ◌*◌, length, nat_lt, not};
+ghost use Rattle.std.specs.Prelude.{◌≡◌, ◌≤◌, ◌^◌, length, nat_lt, not};
 ghost use Rattle.std.specs.List.{list_all};
 ghost use Rattle.jass_base.specs.Gaps.{Judges};
 ghost use Rattle.lane_kernels.specs.Bitmap.{set_bits};

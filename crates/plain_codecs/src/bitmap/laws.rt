@@ -7,8 +7,8 @@ ghost use Rattle.plain_codecs.specs.Bitmap.{bitmap_of, bitmap_size, read_bitmap}
 
 use lane_kernels::laws::set_bits_rise;
 
-/// The set bits of a payload are its documents, and bytes that hold no other bits are the
-/// payload of their set bits.
+/// The set bits of a payload are its documents, and so many bytes are the payload of their
+/// set bits.
 pub fn bits_are_documents()
     ensures size { (d : ℕ) (docs : List ℕ) → length (bitmap_of d docs) ≡ bitmap_size d }
     ensures found { (d : ℕ) (docs : List ℕ) → AreDocs d docs → set_bits 0 (bitmap_of d docs) ≡ docs }

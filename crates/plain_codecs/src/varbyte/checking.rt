@@ -1,4 +1,4 @@
-ghost use Rattle.std.specs.Prelude.{ℕ, ◌≡◌, ◌≤◌, ◌<◌, ◌-◌, ◌*◌, ◌^◌, length, drop, sum, IfOk, IfErr, Err};
+ghost use Rattle.std.specs.Prelude.{ℕ, ◌≡◌, ◌≤◌, ◌-◌, ◌*◌, ◌^◌, length, drop, sum, IfOk, IfErr, Err};
 ghost use Rattle.jass_base.specs.Gaps.{Judges, read_gaps};
 ghost use Rattle.plain_codecs.specs.Runs.{Continues};
 ghost use Rattle.plain_codecs.specs.Varbyte.{read_varbyte};

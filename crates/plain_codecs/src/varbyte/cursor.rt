@@ -33,9 +33,10 @@ impl Cursor {
         }
     }
 
-    /// Writes the next documents to the front of `out`, and returns how many they are: 128,
-    /// or those that are left. None are left exactly where the answer is 0. What stands
-    /// behind them in `out` is left open.
+    /// Writes the next documents of the payload to the front of `out`, and returns how many
+    /// they are: 128, or those that are left. None are left exactly where the answer is 0.
+    /// What stands behind them in `out` is left open. `bytes` is the payload that the cursor
+    /// was made for, at each call.
     pub fn next_block(&mut self, bytes: &[u8], out: &mut [u32; 128]) -> usize
         requires stands { (docs : List ℕ) × Gives self.old bytes.now docs }
         ensures most { result ≤ 128 }
@@ -53,6 +54,7 @@ impl Cursor {
         self.left -= count;
         count as usize
     }
+
     // The last document, which is the only one of most segments.
     #[inline(always)]
     fn last(&mut self, bytes: &[u8], out: &mut [u32; 128]) -> usize

@@ -1,4 +1,4 @@
-use Rattle.std.proofs.Common.{◌∙◌, ◌+◌, ◌-◌, ◌≡◌, refl, arith}
+use Rattle.std.proofs.Common.{◌+◌, ◌-◌, ◌≡◌, arith}
 use Rattle.jass_base.proofs.GapGroups.{one_byte, no_byte}
 use Rattle.jass_base.proofs.gap.read_gap.Goals as goal
 

@@ -1,4 +1,4 @@
-use Rattle.std.proofs.Common.{◌≡◌, ◌+◌, ◌-◌, ◌*◌, ◌<◌, ◌≤◌, ℕ, get_or, refl, arith}
+use Rattle.std.proofs.Common.{◌≡◌, ◌+◌, ◌-◌, ◌*◌, ◌<◌, ℕ, get_or, refl, arith}
 use Rattle.jass_base.proofs.GapGroups.{after_one, after_two, after_three, long_at, cut_at, zero_at, ends_at}
 use Rattle.jass_base.proofs.gap.read_groups.Goals.{then-fourth-eq0-via-then-fourth-eq0, then-fourth-eq0-via-else-fourth-eq0+then-fourth-ge128}
 use Rattle.jass_base.proofs.gap.read_groups.Goals as goal

@@ -1,6 +1,5 @@
-use Rattle.std.proofs.Common.{◌≡◌, ◌∙◌, ◌≤◌, ℕ, Ok, List, length, sym, ap, arith}
-use Rattle.jass_base.specs.Gaps.{gaps_from, docs_from, spelled_gaps, read_gaps}
-use Rattle.jass_base.proofs.Gaps.{rise_from_all, docs_again, length-gaps_from, below_room, rising, from_least}
+use Rattle.std.proofs.Common.{arith}
+use Rattle.jass_base.proofs.Gaps.{rise_from_all, rising, from_least}
 use Rattle.jass_base.proofs.GapLists.{docs_found, are_read, bytes_read}
 use Rattle.jass_base.proofs.laws.spelled_gaps_are_read.Goals as goal
 

@@ -1,4 +1,4 @@
-use Rattle.std.proofs.Common.{◌≡◌, ◌+◌, ◌-◌, ◌<◌, ◌≤◌, ℕ, slice_index}
+use Rattle.std.proofs.Common.{◌≡◌, ◌+◌, ◌<◌, ◌≤◌, ℕ, slice_index}
 use Rattle.plain_codecs.proofs.tests.are_docs.Given as goal
 
 abbrev pub invariant-loop-doc : goal.invariant-loop-doc

@@ -1,8 +1,6 @@
-use Rattle.std.proofs.Common.{◌≡◌, ◌≢◌, ◌==◌, ◌-◌, ◌/◌, ◌%◌, ◌^◌, Bool, true, false, length, get_or, ap, sym, ◌∙◌, refl, arith}
+use Rattle.std.proofs.Common.{ap, sym, arith}
 use Rattle.std.specs.Prelude.{not}
-use Rattle.std.proofs.lemmas.Bool.Decides.{nat_tests}
 use Rattle.plain_codecs.proofs.Bitmaps.{unused_clear, unused_test}
-use Rattle.lane_kernels.specs.Bitmap.{set_bits}
 use Rattle.plain_codecs.proofs.bitmap.checking.reaches.Goals as goal
 
 pub returns-then-used-eq0 : goal.returns-then-used-eq0

@@ -1,5 +1,5 @@
-use Rattle.std.proofs.Common.{◌≡◌, ◌+◌, ◌∙◌, List, ℕ, drop, take, sym, ap, subst, arith}
-use Rattle.plain_codecs.proofs.Runs.{ReadSoFar, moved, more_small, more_each, part_run}
+use Rattle.std.proofs.Common.{◌≡◌, ◌+◌, ◌∙◌, List, ℕ, sym, subst, arith}
+use Rattle.plain_codecs.proofs.Runs.{ReadSoFar, moved, more_small, more_each}
 use Rattle.plain_codecs.proofs.varbyte.runs.read_run.Goals.{then-part-eq16+then-copy_small, else-part-eq16, else-part-eq16-via-then-part-eq16+else-copy_small, else-part-eq16-via-else-part-eq16}
 use Rattle.plain_codecs.proofs.varbyte.runs.read_run.Goals as goal
 

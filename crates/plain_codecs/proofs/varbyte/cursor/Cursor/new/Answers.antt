@@ -1,4 +1,4 @@
-use Rattle.std.proofs.Common.{◌≡◌, ◌∙◌, ◌<◌, ℕ, List, All, sym, subst, arith}
+use Rattle.std.proofs.Common.{◌∙◌, ◌<◌, ℕ, List, All, sym, subst, arith}
 use Rattle.jass_base.specs.Gaps.{gaps_of}
 use Rattle.plain_codecs.proofs.varbyte.cursor.Cursor.new.Goals as goal
 
