@@ -31,7 +31,7 @@ impl Cursor {
     }
 
     /// Writes the next documents to the front of `out`, and returns how many: 1 to 128, or 0 at the
-    /// end. The rest of `out` may be written too.
+    /// end. What stands behind them in `out` is left open.
     pub fn next_block(&mut self, bytes: &[u8], out: &mut [u32; 128]) -> usize
         requires stands { (docs : List ℕ) × Gives self.old bytes.now docs }
         ensures most { result ≤ 128 }

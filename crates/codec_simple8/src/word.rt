@@ -59,7 +59,6 @@ pub(crate) fn lowest_at(selector: usize) -> u64
 
 /// The word at a place.
 #[inline(always)]
-#[tactic(auto, unfolding(crate::specs::Simple8::word_in))]
 pub(crate) fn word_at(bytes: &[u8], at: usize) -> u64
     requires { at + 8 ≤ length bytes.now }
     ensures { result ≡ word_in (drop at bytes.now) }

@@ -30,6 +30,7 @@ read_payload Packed d count bytes = read_packed d count bytes
 read_payload Bitmap d count bytes = read_bitmap d count bytes
 read_payload Simple8 d count bytes = read_simple8 d count bytes
 
+-- how many bytes it has
 abbrev pub payload_size : ℕ → List ℕ → Codec → ℕ
 payload_size d docs codec = length (payload_of codec d docs)
 
