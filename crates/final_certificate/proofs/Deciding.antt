@@ -15,8 +15,9 @@ use Rattle.ranking_model.specs.Order.{sorted}
 use Rattle.ranking_model.specs.Scores.{rank_cmp, first_ranked, runner_up, least_untouched, standing_of}
 use Rattle.ranking_model.specs.declared.standing.Standing.{Standing}
 use Rattle.ranking_model.specs.Finality.{raised, first_documents, IsSettled, IsKept}
-use Rattle.ranking_model.proofs.Sorting.{Ascends, either, sorted_ascends}
-use Rattle.ranking_model.proofs.Ranking.{rank_total}
+use Rattle.std.proofs.lemmas.Bool.{cases_Bool}
+use Rattle.ranking_model.specs.Sorting.{Ascends, sorted_ascends}
+use Rattle.ranking_model.specs.Ranking.{rank_total}
 use Rattle.final_certificate.specs.Rule.{gained, is_safe, are_safe, ends_safe, unscored, do_documents_stay}
 use Rattle.final_certificate.proofs.Lists.{all_imp, all_both, all_take, all_drop, all_append, all_filter, all_pass, sum_by-filter, sum_by-same, ascends_take, ascends_drop}
 use Rattle.final_certificate.proofs.Lifting.{is_unscored, is_scored, documents_from, hits_documents, lift, gains_by, raised_documents, are_gains, gain_of_doc, gain_small, gains_by_doc, true_from, documents_below, count_doc, at_most_once, at_least_once}
@@ -82,7 +83,7 @@ unscored_after scores least is =
     after u (inr k) e t = let z = eqb-true u.score 0 t in grind (arith, nat_tests)
 
 no_zero : (scores : List ℕ) → least_untouched scores ≡ None → (k : ℕ) → k < length scores → (get_or scores k 0 == 0) ≡ false
-no_zero scores is k inside = by (either (nat_lt (position_or_len (λ score. score == 0) scores) (length scores))) where
+no_zero scores is k inside = by (cases_Bool (nat_lt (position_or_len (λ score. score == 0) scores) (length scores))) where
   by : (nat_lt (position_or_len (λ score. score == 0) scores) (length scores) ≡ true) ⊎ (nat_lt (position_or_len (λ score. score == 0) scores) (length scores) ≡ false) → (get_or scores k 0 == 0) ≡ false
   by (inl t) = let e = rw t at is in absurd (cc)
   by (inr f) = fails_before_first (λ score. score == 0) scores k 0 (let p = ltb-false _ _ f in omega arith)
@@ -174,7 +175,7 @@ both_true true false e = absurd (true≢false (sym e))
 both_true false q e = absurd (true≢false (sym e))
 
 stays : (scores : List ℕ) (k bound : ℕ) (least : Option ℕ) → least_untouched scores ≡ least → Rule scores k bound least ≡ true → Stays scores k bound
-stays scores k bound least is rule = by (either (nat_lt (length (front (of_scores scores) k)) k)) where
+stays scores k bound least is rule = by (cases_Bool (nat_lt (length (front (of_scores scores) k)) k)) where
   by : (nat_lt (length (front (of_scores scores) k)) k ≡ true) ⊎ (nat_lt (length (front (of_scores scores) k)) k ≡ false) → Stays scores k bound
   by (inl t) = stays_few scores k bound least is (ltb-true _ _ t) (sym (rule_few k bound (front (of_scores scores) k) (slice_get (drop k (ranked (of_scores scores))) 0) least t) ∙ rule)
   by (inr f) =
@@ -248,7 +249,7 @@ unscored_out scores k least is =
     nothing false = refl
 
     one_of : (h : Hit) → h.score ≡ score_at scores h.doc → ◌≡◌ {A = ℕ} (cond (is_unscored h) (cond (h.doc == least) 1 0) 0) (cond (h.doc == least) 1 0)
-    one_of h e = by (either (h.doc == least)) where
+    one_of h e = by (cases_Bool (h.doc == least)) where
       by : ((h.doc == least) ≡ true) ⊎ ((h.doc == least) ≡ false) → ◌≡◌ {A = ℕ} (cond (is_unscored h) (cond (h.doc == least) 1 0) 0) (cond (h.doc == least) 1 0)
       by (inl t) = let z : (h.score == 0) ≡ true = ap (λ n. n == 0) (e ∙ ap (score_at scores) (eqb-true h.doc least t)) ∙ least_is.1 in rw (t, z) refl
       by (inr f) = rw f (nothing (is_unscored h))
@@ -291,7 +292,7 @@ one_false true q e = inr e
 one_false false q e = inl refl
 
 not_kept : (scores : List ℕ) (k bound : ℕ) (least : Option ℕ) → least_untouched scores ≡ least → 1 ≤ bound → Rule scores k bound least ≡ false → IsKept scores k bound → ⊥
-not_kept scores k bound least is some rule still_kept = by (either (nat_lt (length (front (of_scores scores) k)) k)) where
+not_kept scores k bound least is some rule still_kept = by (cases_Bool (nat_lt (length (front (of_scores scores) k)) k)) where
   edge : (ends_safe bound (front (of_scores scores) k) (slice_get (drop k (ranked (of_scores scores))) 0) ≡ false) ⊎ (ends_safe bound (front (of_scores scores) k) (unscored least) ≡ false) → ⊥
   edge (inl e) = runner_passes scores k bound (drop k (ranked (of_scores scores))) refl some e still_kept
   edge (inr e) = unscored_passes scores k bound least is some e still_kept

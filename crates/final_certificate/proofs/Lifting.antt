@@ -7,7 +7,7 @@ use Rattle.std.proofs.lemmas.Bool.Decides.{nat_tests}
 use Rattle.jass_base.specs.declared.answer.Hit.{Hit}
 use Rattle.ranking_model.specs.Scores.{hits_from}
 use Rattle.ranking_model.specs.Finality.{AreGains, raised}
-use Rattle.ranking_model.proofs.Sorting.{either}
+use Rattle.std.proofs.lemmas.Bool.{cases_Bool}
 use Rattle.final_certificate.specs.Rule.{gained}
 
 abbrev pub is_unscored : Hit → Bool
@@ -96,21 +96,21 @@ count_doc doc hits = sum_by (λ (h : Hit). cond (h.doc == doc) 1 0) hits
 
 none_before : (z doc : ℕ) (scores : List ℕ) → z < doc → count_doc z (documents_from doc scores) ≡ 0
 none_before z doc [] before = refl
-none_before z doc (score ∷ scores) before = step (either (doc == z)) (none_before z (doc + 1) scores (omega arith)) where
+none_before z doc (score ∷ scores) before = step (cases_Bool (doc == z)) (none_before z (doc + 1) scores (omega arith)) where
   step : ((doc == z) ≡ true) ⊎ ((doc == z) ≡ false) → count_doc z (documents_from (doc + 1) scores) ≡ 0 → count_doc z (documents_from doc (score ∷ scores)) ≡ 0
   step (inl t) rest = let e = eqb-true doc z t in absurd (omega arith)
   step (inr f) rest = rw (sum_by-cons (λ (h : Hit). cond (h.doc == z) 1 0) (record { doc = doc; score = score }) (documents_from (doc + 1) scores), f) (omega arith)
 
 pub at_most_once : (z doc : ℕ) (scores : List ℕ) → count_doc z (documents_from doc scores) ≤ 1
 at_most_once z doc [] = omega arith
-at_most_once z doc (score ∷ scores) = step (either (doc == z)) (at_most_once z (doc + 1) scores) where
+at_most_once z doc (score ∷ scores) = step (cases_Bool (doc == z)) (at_most_once z (doc + 1) scores) where
   step : ((doc == z) ≡ true) ⊎ ((doc == z) ≡ false) → count_doc z (documents_from (doc + 1) scores) ≤ 1 → count_doc z (documents_from doc (score ∷ scores)) ≤ 1
   step (inl t) rest = let e = eqb-true doc z t in let none = none_before z (doc + 1) scores (omega arith) in rw (sum_by-cons (λ (h : Hit). cond (h.doc == z) 1 0) (record { doc = doc; score = score }) (documents_from (doc + 1) scores), t) (omega arith)
   step (inr f) rest = rw (sum_by-cons (λ (h : Hit). cond (h.doc == z) 1 0) (record { doc = doc; score = score }) (documents_from (doc + 1) scores), f) (omega arith)
 
 pub at_least_once : (z doc : ℕ) (scores : List ℕ) → doc ≤ z → z < doc + length scores → 1 ≤ count_doc z (documents_from doc scores)
 at_least_once z doc [] low high = absurd (omega arith)
-at_least_once z doc (score ∷ scores) low high = step (either (doc == z)) (λ more. at_least_once z (doc + 1) scores more (omega arith)) where
+at_least_once z doc (score ∷ scores) low high = step (cases_Bool (doc == z)) (λ more. at_least_once z (doc + 1) scores more (omega arith)) where
   step : ((doc == z) ≡ true) ⊎ ((doc == z) ≡ false) → (doc + 1 ≤ z → 1 ≤ count_doc z (documents_from (doc + 1) scores)) → 1 ≤ count_doc z (documents_from doc (score ∷ scores))
   step (inl t) rest = rw (sum_by-cons (λ (h : Hit). cond (h.doc == z) 1 0) (record { doc = doc; score = score }) (documents_from (doc + 1) scores), t) (omega arith)
   step (inr f) rest = rw (sum_by-cons (λ (h : Hit). cond (h.doc == z) 1 0) (record { doc = doc; score = score }) (documents_from (doc + 1) scores), f) (let n : doc + 1 ≤ z = apart f in let m = rest n in omega arith) where

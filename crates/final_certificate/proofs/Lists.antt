@@ -9,7 +9,8 @@ use Rattle.std.specs.Cmp.{IsTotalOrder}
 use Rattle.std.proofs.lemmas.List.Sorted.{IsPermutation-refl, IsPermutation-cons, IsPermutation-trans, IsPermutation-append_comm, IsPermutation-append_left}
 use Rattle.std.proofs.lemmas.List.Sums.{sum_by-cons, sum_by-append}
 use Rattle.ranking_model.specs.Order.{placed, sorted}
-use Rattle.ranking_model.proofs.Sorting.{Ascends, level, either, same_ranks, sorted_ascends, sum_by-sorted, all_sorted, ascends_append}
+use Rattle.std.proofs.lemmas.Bool.{cases_Bool}
+use Rattle.ranking_model.specs.Sorting.{Ascends, level, same_ranks, sorted_ascends, sum_by-sorted, all_sorted, ascends_append}
 
 -- ---- each item of a list
 
@@ -41,14 +42,14 @@ all_map P f (x ∷ xs) h = (h.0, all_map P f xs h.1)
 
 pub all_filter : {A : Type 0} (P : A → Type 0) (p : A → Bool) (xs : List A) → AllByRecursion P xs → AllByRecursion P (filter p xs)
 all_filter P p [] h = tt
-all_filter P p (x ∷ xs) h = by (either (p x)) (all_filter P p xs h.1) where
+all_filter P p (x ∷ xs) h = by (cases_Bool (p x)) (all_filter P p xs h.1) where
   by : (p x ≡ true) ⊎ (p x ≡ false) → AllByRecursion P (filter p xs) → AllByRecursion P (filter p (x ∷ xs))
   by (inl t) rest = rw t (h.0, rest)
   by (inr f) rest = rw f rest
 
 pub all_pass : {A : Type 0} (p : A → Bool) (xs : List A) → AllByRecursion (λ x. p x ≡ true) (filter p xs)
 all_pass p [] = tt
-all_pass p (x ∷ xs) = by (either (p x)) (all_pass p xs) where
+all_pass p (x ∷ xs) = by (cases_Bool (p x)) (all_pass p xs) where
   by : (p x ≡ true) ⊎ (p x ≡ false) → AllByRecursion (λ x. p x ≡ true) (filter p xs) → AllByRecursion (λ x. p x ≡ true) (filter p (x ∷ xs))
   by (inl t) rest = rw t (t, rest)
   by (inr f) rest = rw f rest

@@ -9,8 +9,9 @@ use Rattle.std.proofs.lemmas.List.Sums.{sum_by-cons, sum_by-take-drop}
 use borrow.Author.Tests.{eqb-true}
 use Rattle.jass_base.specs.declared.answer.Hit.{Hit}
 use Rattle.ranking_model.specs.Scores.{rank_cmp}
-use Rattle.ranking_model.proofs.Sorting.{Ascends, either, sorted_ascends, sum_by-sorted, all_sorted}
-use Rattle.ranking_model.proofs.Ranking.{rank_total}
+use Rattle.std.proofs.lemmas.Bool.{cases_Bool}
+use Rattle.ranking_model.specs.Sorting.{Ascends, sorted_ascends, sum_by-sorted, all_sorted}
+use Rattle.ranking_model.specs.Ranking.{rank_total}
 use Rattle.final_certificate.specs.Rule.{gained, is_safe, are_safe}
 use Rattle.final_certificate.proofs.Lists.{all_imp, all_both, all_take, all_drop, all_map, all_filter, sum_by-filter, sum_by-map, sum_by-same, ascends_take, take_before_drop}
 use Rattle.final_certificate.proofs.Lifting.{is_scored, lift, count_doc}
@@ -24,7 +25,7 @@ count_other z h xs f = rw (sum_by-cons (λ (h : Hit). cond (h.doc == z) 1 0) h x
 
 pub found : (P : Hit → Type 0) (z : ℕ) (xs : List Hit) → AllByRecursion P xs → 1 ≤ count_doc z xs → (h : Hit) × (h.doc ≡ z) × P h
 found P z [] all some = absurd (omega arith)
-found P z (x ∷ xs) all some = by (either (x.doc == z)) (found P z xs all.1) where
+found P z (x ∷ xs) all some = by (cases_Bool (x.doc == z)) (found P z xs all.1) where
   by : ((x.doc == z) ≡ true) ⊎ ((x.doc == z) ≡ false) → (1 ≤ count_doc z xs → (h : Hit) × (h.doc ≡ z) × P h) → (h : Hit) × (h.doc ≡ z) × P h
   by (inl t) rest = (x, eqb-true x.doc z t, all.0)
   by (inr f) rest = rest (let e = count_other z x xs f in omega arith)
@@ -38,19 +39,19 @@ one_self : (bound z : ℕ) → one bound z z ≡ bound
 one_self bound z = let t : (z == z) ≡ true = eq-eqb z z refl in rw t refl
 
 one_other : (bound z doc : ℕ) → doc ≢ z → one bound z doc ≡ 0
-one_other bound z doc apart = by (either (doc == z)) where
+one_other bound z doc apart = by (cases_Bool (doc == z)) where
   by : ((doc == z) ≡ true) ⊎ ((doc == z) ≡ false) → one bound z doc ≡ 0
   by (inl t) = absurd (apart (eqb-true doc z t))
   by (inr f) = rw f refl
 
 pub one_small : (bound z doc : ℕ) → one bound z doc ≤ bound
-one_small bound z doc = by (either (doc == z)) where
+one_small bound z doc = by (cases_Bool (doc == z)) where
   by : ((doc == z) ≡ true) ⊎ ((doc == z) ≡ false) → one bound z doc ≤ bound
   by (inl t) = rw t (omega arith)
   by (inr f) = rw f (omega arith)
 
 comes : (bound z : ℕ) (h : Hit) → 1 ≤ bound → ◌≡◌ {A = ℕ} (cond (is_scored (lift (one bound z) h)) (cond (h.doc == z) 1 0) 0) (cond (h.doc == z) 1 0)
-comes bound z h some = by (either (h.doc == z)) where
+comes bound z h some = by (cases_Bool (h.doc == z)) where
   nothing : (b : Bool) → ◌≡◌ {A = ℕ} (cond b 0 0) 0
   nothing true = refl
   nothing false = refl

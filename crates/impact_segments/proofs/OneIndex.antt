@@ -27,7 +27,7 @@ use Rattle.weights.specs.Quantizing.{impact_of, range_of}
 use Rattle.ranking_model.specs.declared.entry.Entry.{Entry}
 use Rattle.ranking_model.specs.Order.{placed, sorted}
 use Rattle.ranking_model.specs.Flat.{entry_cmp}
-use Rattle.impact_segments.proofs.Sorting.{Ascends, level, same_ranks, sorted_ascends, sorted_level, all_sorted, ascends_append}
+use Rattle.ranking_model.specs.Sorting.{Ascends, level, same_ranks, sorted_ascends, sorted_level, all_sorted, ascends_append}
 use Rattle.impact_segments.specs.Collections.{posting_weight, list_weights, list_entries, index_of}
 use Rattle.impact_segments.specs.Flat.{flat_of_terms}
 use Rattle.impact_segments.specs.Listed.{has_postings, term_cmp}

@@ -5,7 +5,8 @@ use Rattle.std.proofs.lemmas.List.Sums.{sum_by-cons}
 use Rattle.ranking_model.specs.declared.class.Class.{Class}
 use Rattle.ranking_model.specs.declared.posting.WeightedPosting.{WeightedPosting}
 use Rattle.ranking_model.specs.Plan.{plan_cmp, is_of, begun, joined, classes_of}
-use Rattle.ranking_model.proofs.Sorting.{either, sum_by-sorted, all_sorted}
+use Rattle.std.proofs.lemmas.Bool.{cases_Bool}
+use Rattle.ranking_model.specs.Sorting.{sum_by-sorted, all_sorted}
 use Rattle.ranking_model.proofs.Classes.{plan_total}
 
 -- a class with one document more
@@ -20,7 +21,7 @@ length_sum (x ∷ xs) = sum_by-cons (λ x. 1) x xs ∙ let rest = length_sum xs 
 module _ (f : Class → ℕ) (g : WeightedPosting → ℕ) (first : (p : WeightedPosting) → f (begun p) ≡ g p) (next : (c : Class) (p : WeightedPosting) → is_of c p ≡ true → f (more c p.doc) ≡ f c + g p) where
   joined_sum : (cs : List Class) (p : WeightedPosting) → sum_by f (joined cs p) ≡ sum_by f cs + g p
   joined_sum [] p = sum_by-cons f (begun p) [] ∙ let e = first p in omega arith
-  joined_sum (c ∷ cs) p = by (either (is_of c p)) (joined_sum cs p) where
+  joined_sum (c ∷ cs) p = by (cases_Bool (is_of c p)) (joined_sum cs p) where
     by : (is_of c p ≡ true) ⊎ (is_of c p ≡ false) → sum_by f (joined cs p) ≡ sum_by f cs + g p → sum_by f (joined (c ∷ cs) p) ≡ sum_by f (c ∷ cs) + g p
     by (inl t) rest = rw t (sum_by-cons f (more c p.doc) cs ∙ let e = next c p t in let s = sum_by-cons f c cs in omega arith)
     by (inr e) rest = rw e (sum_by-cons f c (joined cs p) ∙ let s = sum_by-cons f c cs in omega arith)
@@ -36,7 +37,7 @@ module _ (f : Class → ℕ) (g : WeightedPosting → ℕ) (first : (p : Weighte
 module _ (P : Class → Type 0) (Q : WeightedPosting → Type 0) (first : (p : WeightedPosting) → Q p → P (begun p)) (next : (c : Class) (p : WeightedPosting) → is_of c p ≡ true → P c → Q p → P (more c p.doc)) where
   joined_all : (cs : List Class) (p : WeightedPosting) → AllByRecursion P cs → Q p → AllByRecursion P (joined cs p)
   joined_all [] p h q = (first p q, tt)
-  joined_all (c ∷ cs) p h q = by (either (is_of c p)) (joined_all cs p h.1 q) where
+  joined_all (c ∷ cs) p h q = by (cases_Bool (is_of c p)) (joined_all cs p h.1 q) where
     by : (is_of c p ≡ true) ⊎ (is_of c p ≡ false) → AllByRecursion P (joined cs p) → AllByRecursion P (joined (c ∷ cs) p)
     by (inl t) rest = rw t (next c p t h.0 q, h.1)
     by (inr e) rest = rw e (h.0, rest)
@@ -50,7 +51,7 @@ module _ (P : Class → Type 0) (Q : WeightedPosting → Type 0) (first : (p : W
 
 joined_length : (cs : List Class) (p : WeightedPosting) → length (joined cs p) ≤ suc (length cs)
 joined_length [] p = omega arith
-joined_length (c ∷ cs) p = by (either (is_of c p)) (joined_length cs p) where
+joined_length (c ∷ cs) p = by (cases_Bool (is_of c p)) (joined_length cs p) where
   by : (is_of c p ≡ true) ⊎ (is_of c p ≡ false) → length (joined cs p) ≤ suc (length cs) → length (joined (c ∷ cs) p) ≤ suc (suc (length cs))
   by (inl t) rest = rw t (omega arith)
   by (inr e) rest = rw e (omega arith)

@@ -1,5 +1,3 @@
-pub mod Sorting
-pub mod Ranking
 pub mod Classes
 pub mod Totals
 pub mod Grouping

@@ -14,7 +14,8 @@ use Rattle.std.proofs.lemmas.List.Elements.{recursion_from_All, All-from_recursi
 use Rattle.std.proofs.lemmas.Map.Text.{is_eq-slice_cmp}
 use Rattle.ranking_model.specs.declared.entry.Entry.{Entry}
 use Rattle.ranking_model.specs.Flat.{entry_cmp, IsFlat, terms_of, number_of, numbered}
-use Rattle.ranking_model.proofs.Sorting.{Ascends, either, ascends_sorted, sorted_ascending}
+use Rattle.std.proofs.lemmas.Bool.{cases_Bool}
+use Rattle.ranking_model.specs.Sorting.{Ascends, ascends_sorted, sorted_ascending}
 use Rattle.ranking_model.proofs.Weighing.{Pairs, pairs_by_recursion, entry_total}
 
 abbrev text_cmp : List ℕ → List ℕ → Ordering
@@ -45,7 +46,7 @@ equal x y e = by (text_cmp x y) refl where
   by Greater k = absurd (true≢false (sym e ∙ eq_by x y Greater k))
 
 flipped : (x y : List ℕ) → bytes_eq x y ≡ false → bytes_eq y x ≡ false
-flipped x y p = by (either (bytes_eq y x)) where
+flipped x y p = by (cases_Bool (bytes_eq y x)) where
   by : (bytes_eq y x ≡ true) ⊎ (bytes_eq y x ≡ false) → bytes_eq y x ≡ false
   by (inl q) = absurd (true≢false (sym (subst (λ (z : List ℕ). bytes_eq z y ≡ true) (equal y x q) (itself y)) ∙ p))
   by (inr q) = q
@@ -61,7 +62,7 @@ Among ts x = list_any (λ t. bytes_eq t x) ts ≡ true
 
 before_all : (t x : List ℕ) (ts : List (List ℕ)) → AllByRecursion (λ u. text_cmp t u ≡ Less) ts → Among ts x → text_cmp t x ≡ Less
 before_all t x [] h a = absurd (true≢false (sym a))
-before_all t x (u ∷ us) h a = by (either (bytes_eq u x)) (before_all t x us h.1) where
+before_all t x (u ∷ us) h a = by (cases_Bool (bytes_eq u x)) (before_all t x us h.1) where
   by : (bytes_eq u x ≡ true) ⊎ (bytes_eq u x ≡ false) → (Among us x → text_cmp t x ≡ Less) → text_cmp t x ≡ Less
   by (inl e) rest = subst (λ (z : List ℕ). text_cmp t z ≡ Less) (equal u x e) h.0
   by (inr e) rest = rest (rw e at a)
@@ -69,7 +70,7 @@ before_all t x (u ∷ us) h a = by (either (bytes_eq u x)) (before_all t x us h.
 -- a term before another has the lower number
 number_rises : (x y : List ℕ) (ts : List (List ℕ)) → Rises ts → Among ts x → Among ts y → text_cmp x y ≡ Less → number_of ts x < number_of ts y
 number_rises x y [] r a b e = absurd (true≢false (sym a))
-number_rises x y (t ∷ ts) r a b e = by (either (bytes_eq t x)) (either (bytes_eq t y)) (number_rises x y ts r.1) where
+number_rises x y (t ∷ ts) r a b e = by (cases_Bool (bytes_eq t x)) (cases_Bool (bytes_eq t y)) (number_rises x y ts r.1) where
   o : IsTotalOrder text_cmp
   o = nat_list_cmp_total
 
@@ -87,7 +88,7 @@ number_rises x y (t ∷ ts) r a b e = by (either (bytes_eq t x)) (either (bytes_
 
 any_filter : (x t : List ℕ) (ts : List (List ℕ)) → Among ts x → bytes_eq x t ≡ false → Among (filter (λ term. not (bytes_eq term t)) ts) x
 any_filter x t [] a e = a
-any_filter x t (u ∷ us) a e = by (either (bytes_eq u x)) (either (bytes_eq u t)) (λ k. any_filter x t us k e) where
+any_filter x t (u ∷ us) a e = by (cases_Bool (bytes_eq u x)) (cases_Bool (bytes_eq u t)) (λ k. any_filter x t us k e) where
   by : (bytes_eq u x ≡ true) ⊎ (bytes_eq u x ≡ false) → (bytes_eq u t ≡ true) ⊎ (bytes_eq u t ≡ false) → (Among us x → Among (filter (λ term. not (bytes_eq term t)) us) x) → Among (filter (λ term. not (bytes_eq term t)) (u ∷ us)) x
   by (inl p) (inl q) rest = absurd (true≢false (sym (subst (λ (z : List ℕ). bytes_eq z t ≡ true) (equal u x p) q) ∙ e))
   by (inl p) (inr q) rest = rw q (rw p refl)
@@ -99,7 +100,7 @@ all_terms P [] h = tt
 all_terms P (e ∷ es) h = (h.0, kept (terms_of es) (all_terms P es h.1)) where
   kept : (ts : List (List ℕ)) → AllByRecursion P ts → AllByRecursion P (filter (λ term. not (bytes_eq term e.term)) ts)
   kept [] k = tt
-  kept (t ∷ ts) k = one (either (bytes_eq t e.term)) (kept ts k.1) where
+  kept (t ∷ ts) k = one (cases_Bool (bytes_eq t e.term)) (kept ts k.1) where
     one : (bytes_eq t e.term ≡ true) ⊎ (bytes_eq t e.term ≡ false) → AllByRecursion P (filter (λ term. not (bytes_eq term e.term)) ts) → AllByRecursion P (filter (λ term. not (bytes_eq term e.term)) (t ∷ ts))
     one (inl p) rest = rw p rest
     one (inr p) rest = rw p (k.0, rest)
@@ -128,7 +129,7 @@ terms_rise (e ∷ es) a = (before (terms_of es) (all_terms (λ t. is_gt (text_cm
 
   before : (ts : List (List ℕ)) → AllByRecursion (λ t. is_gt (text_cmp e.term t) ≡ false) ts → AllByRecursion (λ u. text_cmp e.term u ≡ Less) (filter (λ term. not (bytes_eq term e.term)) ts)
   before [] h = tt
-  before (t ∷ ts) h = one (either (bytes_eq t e.term)) (before ts h.1) where
+  before (t ∷ ts) h = one (cases_Bool (bytes_eq t e.term)) (before ts h.1) where
     one : (bytes_eq t e.term ≡ true) ⊎ (bytes_eq t e.term ≡ false) → AllByRecursion (λ u. text_cmp e.term u ≡ Less) (filter (λ term. not (bytes_eq term e.term)) ts)
         → AllByRecursion (λ u. text_cmp e.term u ≡ Less) (filter (λ term. not (bytes_eq term e.term)) (t ∷ ts))
     one (inl p) rest = rw p rest
@@ -136,7 +137,7 @@ terms_rise (e ∷ es) a = (before (terms_of es) (all_terms (λ t. is_gt (text_cm
 
   behind : (t : List ℕ) (ts : List (List ℕ)) → AllByRecursion (λ u. text_cmp t u ≡ Less) ts → AllByRecursion (λ u. text_cmp t u ≡ Less) (filter (λ term. not (bytes_eq term e.term)) ts)
   behind t [] h = tt
-  behind t (u ∷ us) h = one (either (bytes_eq u e.term)) (behind t us h.1) where
+  behind t (u ∷ us) h = one (cases_Bool (bytes_eq u e.term)) (behind t us h.1) where
     one : (bytes_eq u e.term ≡ true) ⊎ (bytes_eq u e.term ≡ false) → AllByRecursion (λ u. text_cmp t u ≡ Less) (filter (λ term. not (bytes_eq term e.term)) us)
         → AllByRecursion (λ u. text_cmp t u ≡ Less) (filter (λ term. not (bytes_eq term e.term)) (u ∷ us))
     one (inl p) rest = rw p rest
@@ -144,7 +145,7 @@ terms_rise (e ∷ es) a = (before (terms_of es) (all_terms (λ t. is_gt (text_cm
 
   kept : (ts : List (List ℕ)) → Rises ts → Rises (filter (λ term. not (bytes_eq term e.term)) ts)
   kept [] h = tt
-  kept (t ∷ ts) h = one (either (bytes_eq t e.term)) (kept ts h.1) where
+  kept (t ∷ ts) h = one (cases_Bool (bytes_eq t e.term)) (kept ts h.1) where
     one : (bytes_eq t e.term ≡ true) ⊎ (bytes_eq t e.term ≡ false) → Rises (filter (λ term. not (bytes_eq term e.term)) ts) → Rises (filter (λ term. not (bytes_eq term e.term)) (t ∷ ts))
     one (inl p) rest = rw p rest
     one (inr p) rest = rw p (behind t ts h.0, rest)
@@ -158,7 +159,7 @@ all_among (e ∷ es) = (here, rest es (all_among es)) where
 
   rest : (fs : List (Entry (List ℕ))) → AllByRecursion (λ f. Among (terms_of es) f.term) fs → AllByRecursion (λ f. Among (terms_of (e ∷ es)) f.term) fs
   rest [] h = tt
-  rest (f ∷ fs) h = (one (either (bytes_eq e.term f.term)), rest fs h.1) where
+  rest (f ∷ fs) h = (one (cases_Bool (bytes_eq e.term f.term)), rest fs h.1) where
     one : (bytes_eq e.term f.term ≡ true) ⊎ (bytes_eq e.term f.term ≡ false) → Among (terms_of (e ∷ es)) f.term
     one (inl p) = rw p refl
     one (inr p) = rw p (any_filter f.term e.term (terms_of es) h.0 (flipped e.term f.term p))

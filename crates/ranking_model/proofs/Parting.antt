@@ -10,7 +10,8 @@ use Rattle.ranking_model.specs.declared.posting.WeightedPosting.{WeightedPosting
 use Rattle.ranking_model.specs.declared.class.Class.{Class}
 use Rattle.ranking_model.specs.Plan.{joined, is_of, plan_cmp, classes_of, size_of_first, greatest_up_to, prefix_within, weight_at, cutoff_after, next_after}
 use Rattle.ranking_model.specs.Heaviest.{IsHeaviest}
-use Rattle.ranking_model.proofs.Sorting.{Ascends, either, sorted_ascends}
+use Rattle.std.proofs.lemmas.Bool.{cases_Bool}
+use Rattle.ranking_model.specs.Sorting.{Ascends, sorted_ascends}
 use Rattle.ranking_model.proofs.Classes.{plan_total}
 use Rattle.ranking_model.proofs.Grouping.{more, classes_sum}
 
@@ -18,21 +19,21 @@ use Rattle.ranking_model.proofs.Grouping.{more, classes_sum}
 
 greatest_within : (n : ℕ) (test : ℕ → Bool) → greatest_up_to n test ≤ n
 greatest_within zero test = omega arith
-greatest_within (suc n) test = by (either (test (suc n))) (greatest_within n test) where
+greatest_within (suc n) test = by (cases_Bool (test (suc n))) (greatest_within n test) where
   by : (test (suc n) ≡ true) ⊎ (test (suc n) ≡ false) → greatest_up_to n test ≤ n → greatest_up_to (suc n) test ≤ suc n
   by (inl t) rest = rw t (omega arith)
   by (inr f) rest = rw f (omega arith)
 
 greatest_passes : (n : ℕ) (test : ℕ → Bool) → test 0 ≡ true → test (greatest_up_to n test) ≡ true
 greatest_passes zero test start = start
-greatest_passes (suc n) test start = by (either (test (suc n))) (greatest_passes n test start) where
+greatest_passes (suc n) test start = by (cases_Bool (test (suc n))) (greatest_passes n test start) where
   by : (test (suc n) ≡ true) ⊎ (test (suc n) ≡ false) → test (greatest_up_to n test) ≡ true → test (greatest_up_to (suc n) test) ≡ true
   by (inl t) rest = rw t t
   by (inr f) rest = rw f rest
 
 greatest_greatest : (n j : ℕ) (test : ℕ → Bool) → j ≤ n → test j ≡ true → j ≤ greatest_up_to n test
 greatest_greatest zero j test h passes = h
-greatest_greatest (suc n) j test h passes = by (either (test (suc n))) (cases_lt j (suc n)) (λ k. greatest_greatest n j test k passes) where
+greatest_greatest (suc n) j test h passes = by (cases_Bool (test (suc n))) (cases_lt j (suc n)) (λ k. greatest_greatest n j test k passes) where
   by : (test (suc n) ≡ true) ⊎ (test (suc n) ≡ false) → (j < suc n) ⊎ (suc n ≤ j) → (j ≤ n → j ≤ greatest_up_to n test) → j ≤ greatest_up_to (suc n) test
   by (inl t) k rest = rw t h
   by (inr f) (inl k) rest = rw f (rest (omega arith))

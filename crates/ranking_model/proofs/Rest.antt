@@ -16,7 +16,7 @@ use Rattle.ranking_model.specs.Postings.{weighted_at, weighted_from, weighted_po
 use Rattle.ranking_model.specs.Plan.{is_of, begun, classes_of, plan_of}
 use Rattle.ranking_model.specs.Scores.{gain_of, greatest_weight, bound_after, scores_after}
 use Rattle.ranking_model.specs.Finality.{raised, GainsUpTo}
-use Rattle.ranking_model.proofs.Sorting.{either}
+use Rattle.std.proofs.lemmas.Bool.{cases_Bool}
 use Rattle.ranking_model.proofs.Totals.{sum_range_more}
 use Rattle.ranking_model.proofs.Grouping.{more, classes_sum, classes_all}
 use Rattle.ranking_model.proofs.Weighing.{Pairs, pairs_by_recursion}
@@ -32,13 +32,13 @@ abbrev count_at : ℕ → ℕ → Class → ℕ
 count_at doc place c = cond (c.place == place) (count_by (λ d. d == doc) c.docs) 0
 
 at_first : (doc place : ℕ) (p : WeightedPosting) → count_at doc place (begun p) ≡ one_at doc place p
-at_first doc place p = by (either (p.place == place)) where
+at_first doc place p = by (cases_Bool (p.place == place)) where
   by : ((p.place == place) ≡ true) ⊎ ((p.place == place) ≡ false) → count_at doc place (begun p) ≡ one_at doc place p
   by (inl e) = rw e (omega arith)
   by (inr e) = rw e refl
 
 at_next : (doc place : ℕ) (c : Class) (p : WeightedPosting) → is_of c p ≡ true → count_at doc place (more c p.doc) ≡ count_at doc place c + one_at doc place p
-at_next doc place c p e = by (either (p.place == place)) where
+at_next doc place c p e = by (cases_Bool (p.place == place)) where
   same : c.place ≡ p.place
   same = grind (arith, nat_tests)
 
@@ -69,7 +69,7 @@ above_place doc place from (named ∷ terms) flat h =
 -- once a term's posting of the document is counted, no other of the term counts
 no_more : (doc place times term : ℕ) (e : Entry ℕ) (es : List (Entry ℕ)) → e.term ≡ term → e.doc ≡ doc → AllByRecursion (λ f. e.term ≡ f.term → e.doc ≢ f.doc) es → sum_by (one_at doc place) (map (weigh place times) (filter (λ f. f.term == term) es)) ≡ 0
 no_more doc place times term e [] a b h = refl
-no_more doc place times term e (f ∷ fs) a b h = by (either (f.term == term)) (no_more doc place times term e fs a b h.1) where
+no_more doc place times term e (f ∷ fs) a b h = by (cases_Bool (f.term == term)) (no_more doc place times term e fs a b h.1) where
   by : ((f.term == term) ≡ true) ⊎ ((f.term == term) ≡ false) → sum_by (one_at doc place) (map (weigh place times) (filter (λ f. f.term == term) fs)) ≡ 0
       → sum_by (one_at doc place) (map (weigh place times) (filter (λ f. f.term == term) (f ∷ fs))) ≡ 0
   by (inl t) rest =
@@ -81,7 +81,7 @@ no_more doc place times term e (f ∷ fs) a b h = by (either (f.term == term)) (
 
 in_term : (doc place times term : ℕ) (es : List (Entry ℕ)) → Pairs (λ a b. a.term ≡ b.term → a.doc ≢ b.doc) es → sum_by (one_at doc place) (map (weigh place times) (filter (λ f. f.term == term) es)) ≤ 1
 in_term doc place times term [] p = omega arith
-in_term doc place times term (e ∷ es) p = by (either (e.term == term)) (either (e.doc == doc)) (in_term doc place times term es p.1) where
+in_term doc place times term (e ∷ es) p = by (cases_Bool (e.term == term)) (cases_Bool (e.doc == doc)) (in_term doc place times term es p.1) where
   by : ((e.term == term) ≡ true) ⊎ ((e.term == term) ≡ false) → ((e.doc == doc) ≡ true) ⊎ ((e.doc == doc) ≡ false) → sum_by (one_at doc place) (map (weigh place times) (filter (λ f. f.term == term) es)) ≤ 1
       → sum_by (one_at doc place) (map (weigh place times) (filter (λ f. f.term == term) (e ∷ es))) ≤ 1
   by (inl t) (inl d) rest =
@@ -124,7 +124,7 @@ gain_at doc place c = cond (c.place == place) (gain_of doc c) 0
 
 none_at : (doc place : ℕ) (cs : List Class) → sum_by (count_at doc place) cs ≡ 0 → sum_by (gain_at doc place) cs ≡ 0
 none_at doc place [] h = refl
-none_at doc place (c ∷ cs) h = by (either (c.place == place)) (none_at doc place cs) where
+none_at doc place (c ∷ cs) h = by (cases_Bool (c.place == place)) (none_at doc place cs) where
   parts : count_at doc place c + sum_by (count_at doc place) cs ≡ 0
   parts = sym (sum_by-cons (count_at doc place) c cs) ∙ h
 
@@ -139,7 +139,7 @@ none_at doc place (c ∷ cs) h = by (either (c.place == place)) (none_at doc pla
 -- in a place that has the document once, it gains at most the place's greatest weight
 place_gain : (doc place : ℕ) (cs : List Class) → sum_by (count_at doc place) cs ≤ 1 → sum_by (gain_at doc place) cs ≤ greatest_weight place cs
 place_gain doc place [] h = omega arith
-place_gain doc place (c ∷ cs) h = by (either (c.place == place)) (place_gain doc place cs) where
+place_gain doc place (c ∷ cs) h = by (cases_Bool (c.place == place)) (place_gain doc place cs) where
   parts : count_at doc place c + sum_by (count_at doc place) cs ≤ 1
   parts = rw (sum_by-cons (count_at doc place) c cs) at h
 

@@ -21,7 +21,7 @@ use Rattle.ranking_model.specs.Scores.{adds, gain_of, greatest_weight, bound_aft
 use Rattle.ranking_model.specs.Limits.{IsSmall}
 use Rattle.ranking_model.proofs.Grouping.{more, classes_sum, classes_all, classes_length, length_sum}
 use Rattle.ranking_model.proofs.Weighing.{pairs_by_recursion, weighted_length, weighted_documents, all_add}
-use Rattle.ranking_model.proofs.Sorting.{either}
+use Rattle.std.proofs.lemmas.Bool.{cases_Bool}
 
 -- ---- what a posting adds to its class
 
@@ -35,7 +35,7 @@ pub sizes : (ps : List WeightedPosting) → sum_by (λ (c : Class). length c.doc
 sizes ps = classes_sum (λ c. length c.docs) (λ p. 1) size_first size_next ps ∙ length_sum ps
 
 gain_first : (doc : ℕ) (p : WeightedPosting) → gain_of doc (begun p) ≡ adds doc p
-gain_first doc p = by (either (p.doc == doc)) where
+gain_first doc p = by (cases_Bool (p.doc == doc)) where
   by : ((p.doc == doc) ≡ true) ⊎ ((p.doc == doc) ≡ false) → gain_of doc (begun p) ≡ adds doc p
   by (inl t) = rw t (omega arith)
   by (inr f) = rw f (omega arith)
@@ -44,7 +44,7 @@ same_weight : (c : Class) (p : WeightedPosting) → is_of c p ≡ true → c.wei
 same_weight c p e = grind (arith, nat_tests)
 
 gain_next : (doc : ℕ) (c : Class) (p : WeightedPosting) → is_of c p ≡ true → gain_of doc (more c p.doc) ≡ gain_of doc c + adds doc p
-gain_next doc c p e = by (either (p.doc == doc)) where
+gain_next doc c p e = by (cases_Bool (p.doc == doc)) where
   count : count_by (λ d. d == doc) (c.docs ++ p.doc ∷ []) ≡ count_by (λ d. d == doc) c.docs + cond (p.doc == doc) 1 0
   count = sum_by_push (λ d. cond (d == doc) 1 0) c.docs p.doc
 
@@ -64,7 +64,7 @@ all_drop P (suc n) (x ∷ xs) h = all_drop P n xs h.1
 
 greatest_weight_le : (place m : ℕ) (cs : List Class) → AllByRecursion (λ c. c.weight ≤ m) cs → greatest_weight place cs ≤ m
 greatest_weight_le place m [] h = omega arith
-greatest_weight_le place m (c ∷ cs) h = by (either (c.place == place)) (greatest_weight_le place m cs h.1) where
+greatest_weight_le place m (c ∷ cs) h = by (cases_Bool (c.place == place)) (greatest_weight_le place m cs h.1) where
   by : ((c.place == place) ≡ true) ⊎ ((c.place == place) ≡ false) → greatest_weight place cs ≤ m → greatest_weight place (c ∷ cs) ≤ m
   by (inl t) rest = let here = h.0 in rw t (omega arith)
   by (inr f) rest = rw f rest

@@ -13,7 +13,7 @@ use Rattle.ranking_model.specs.Plan.{size_of_first, greatest_up_to, prefix_withi
 use Rattle.ranking_model.specs.Scores.{greatest_weight, gain_of, scores_after}
 use Rattle.ranking_model.specs.declared.plan.QueryPlan.{QueryPlan}
 use Rattle.std.proofs.lemmas.List.FromFn.{length-map-range_with_len, get_or-map-range_with_len}
-use Rattle.ranking_model.proofs.Sorting.{either}
+use Rattle.std.proofs.lemmas.Bool.{cases_Bool}
 
 pub range_push : (a n : ℕ) → range_with_len a (n + 1) ≡ range_with_len a n ++ (a + n) ∷ []
 range_push a zero = simp unary_clauses
@@ -36,7 +36,7 @@ sum_range_le f n (suc m) h = by (cases_lt m n) (λ k. sum_range_le f n m k) wher
 -- the greatest number that passes a test
 pub greatest_is : (m n : ℕ) (test : ℕ → Bool) → n ≤ m → (0 < n → test n ≡ true) → ((j : ℕ) → n < j → j ≤ m → test j ≡ false) → greatest_up_to m test ≡ n
 greatest_is zero n test h passes no_more = omega arith
-greatest_is (suc m) n test h passes no_more = by (either (test (suc m))) (cases_lt n (suc m)) (λ k. greatest_is m n test k passes (λ j a b. no_more j a (omega arith))) where
+greatest_is (suc m) n test h passes no_more = by (cases_Bool (test (suc m))) (cases_lt n (suc m)) (λ k. greatest_is m n test k passes (λ j a b. no_more j a (omega arith))) where
   by : (test (suc m) ≡ true) ⊎ (test (suc m) ≡ false) → (n < suc m) ⊎ (suc m ≤ n) → (n ≤ m → greatest_up_to m test ≡ n) → greatest_up_to (suc m) test ≡ n
   by (inl t) (inl k) rest = absurd (true≢false (sym t ∙ no_more (suc m) k (omega arith)))
   by (inl t) (inr k) rest = rw t (omega arith)
@@ -55,7 +55,7 @@ prefix_is classes budget n h fits stops = greatest_is (length classes) n (λ j. 
 
 -- how often a document stands among the first i and one more
 pub count_on : (docs : List ℕ) (i d : ℕ) → i < length docs → count_by (λ x. x == d) (take (i + 1) docs) ≡ count_by (λ x. x == d) (take i docs) + cond (get_or docs i 0 == d) 1 0
-count_on docs i d h = by (either (get_or docs i 0 == d)) where
+count_on docs i d h = by (cases_Bool (get_or docs i 0 == d)) where
   by : ((get_or docs i 0 == d) ≡ true) ⊎ ((get_or docs i 0 == d) ≡ false) → count_by (λ x. x == d) (take (i + 1) docs) ≡ count_by (λ x. x == d) (take i docs) + cond (get_or docs i 0 == d) 1 0
   by (inl t) = rw t (count_by_more_yes (λ x. x == d) docs i 0 h t)
   by (inr f) = rw f (count_by_more_no (λ x. x == d) docs i 0 h f ∙ omega arith)
@@ -70,7 +70,7 @@ room_here docs now old weight i doc limit h is inv room =
 
 pub added_here : (docs scores old : List ℕ) (weight i doc d : ℕ) → i < length docs → doc ≡ get_or docs i 0 → doc < length scores → ((d : ℕ) → d < length old → get_or scores d 0 ≡ get_or old d 0 + weight * count_by (λ x. x == d) (take i docs)) → length scores ≡ length old → d < length old
     → get_or (set scores doc (get_or scores doc 0 + weight)) d 0 ≡ get_or old d 0 + weight * count_by (λ x. x == d) (take (i + 1) docs)
-added_here docs scores old weight i doc d h is here inv long within = by (either (get_or docs i 0 == d)) where
+added_here docs scores old weight i doc d h is here inv long within = by (cases_Bool (get_or docs i 0 == d)) where
   by : ((get_or docs i 0 == d) ≡ true) ⊎ ((get_or docs i 0 == d) ≡ false) → get_or (set scores doc (get_or scores doc 0 + weight)) d 0 ≡ get_or old d 0 + weight * count_by (λ x. x == d) (take (i + 1) docs)
   by (inl t) =
       let e : doc ≡ d = is ∙ eqb-true _ _ t in

@@ -15,7 +15,8 @@ use Rattle.ranking_model.specs.declared.posting.WeightedPosting.{WeightedPosting
 use Rattle.ranking_model.specs.Flat.{entry_cmp, IsFlat}
 use Rattle.ranking_model.specs.Postings.{AreTerms, weighted_at, weighted_from, weighted_postings}
 use Rattle.ranking_model.specs.Scores.{adds}
-use Rattle.ranking_model.proofs.Sorting.{Ascends, either, ascends_sorted, ascends_filter, ascends_append, sorted_ascending}
+use Rattle.std.proofs.lemmas.Bool.{cases_Bool}
+use Rattle.ranking_model.specs.Sorting.{Ascends, ascends_sorted, ascends_filter, ascends_append, sorted_ascending}
 use Rattle.ranking_model.proofs.Classes.{place_total}
 
 pub entry_total : IsTotalOrder (entry_cmp nat_cmp)
@@ -33,7 +34,7 @@ AllOf term es = AllByRecursion (λ e. e.term ≡ term) es
 
 all_of : (term : ℕ) (es : List (Entry ℕ)) → AllOf term (filter (λ e. e.term == term) es)
 all_of term [] = tt
-all_of term (e ∷ es) = by (either (e.term == term)) (all_of term es) where
+all_of term (e ∷ es) = by (cases_Bool (e.term == term)) (all_of term es) where
   by : ((e.term == term) ≡ true) ⊎ ((e.term == term) ≡ false) → AllOf term (filter (λ e. e.term == term) es) → AllOf term (filter (λ e. e.term == term) (e ∷ es))
   by (inl t) rest = rw t (eqb-true _ _ t, rest)
   by (inr f) rest = rw f rest
@@ -107,7 +108,7 @@ unnamed place (named ∷ terms) e es h =
 
 named_once : (place : ℕ) (terms : List Named) (e : Entry ℕ) (es : List (Entry ℕ)) → Pairs (λ a b. a.term ≢ b.term) terms → length (weighted_from place terms (e ∷ es)) ≤ suc (length (weighted_from place terms es))
 named_once place [] e es h = omega arith
-named_once place (named ∷ terms) e es h = by (either (e.term == named.term)) (named_once (suc place) terms e es h.1) where
+named_once place (named ∷ terms) e es h = by (cases_Bool (e.term == named.term)) (named_once (suc place) terms e es h.1) where
   others : e.term ≡ named.term → (ts : List Named) → AllByRecursion (λ b. named.term ≢ b.term) ts → AllByRecursion (λ b. (e.term == b.term) ≡ false) ts
   others is [] k = tt
   others is (t ∷ ts) k = (let apart : named.term ≢ t.term = k.0 in grind (arith, nat_tests), others is ts k.1)
@@ -131,7 +132,7 @@ weighted_all P place [] flat h = tt
 weighted_all P place (named ∷ terms) flat h = both flat (h place).0 (weighted_all P (suc place) terms flat (λ p. (h p).1)) where
   both : (es : List (Entry ℕ)) → AllByRecursion (λ e. P (weigh place named.times e)) es → AllByRecursion P (weighted_from (suc place) terms flat) → AllByRecursion P (weighted_at place named es ++ weighted_from (suc place) terms flat)
   both [] k rest = rest
-  both (e ∷ es) k rest = one (either (e.term == named.term)) (both es k.1 rest) where
+  both (e ∷ es) k rest = one (cases_Bool (e.term == named.term)) (both es k.1 rest) where
     one : ((e.term == named.term) ≡ true) ⊎ ((e.term == named.term) ≡ false) → AllByRecursion P (weighted_at place named es ++ weighted_from (suc place) terms flat) → AllByRecursion P (weighted_at place named (e ∷ es) ++ weighted_from (suc place) terms flat)
     one (inl t) more = rw t (k.0, more)
     one (inr f) more = rw f more
@@ -153,7 +154,7 @@ weighted_documents docs place terms flat f t = weighted_all (λ p. p.doc < docs)
 -- once a term's posting of the document is counted, no other of the term counts
 none_left : (doc place times term : ℕ) (e : Entry ℕ) (es : List (Entry ℕ)) → e.term ≡ term → e.doc ≡ doc → AllByRecursion (λ f. e.term ≡ f.term → e.doc ≢ f.doc) es → sum_by (adds doc) (map (weigh place times) (filter (λ f. f.term == term) es)) ≡ 0
 none_left doc place times term e [] a b h = refl
-none_left doc place times term e (f ∷ fs) a b h = by (either (f.term == term)) (none_left doc place times term e fs a b h.1) where
+none_left doc place times term e (f ∷ fs) a b h = by (cases_Bool (f.term == term)) (none_left doc place times term e fs a b h.1) where
   by : ((f.term == term) ≡ true) ⊎ ((f.term == term) ≡ false) → sum_by (adds doc) (map (weigh place times) (filter (λ f. f.term == term) fs)) ≡ 0
       → sum_by (adds doc) (map (weigh place times) (filter (λ f. f.term == term) (f ∷ fs))) ≡ 0
   by (inl t) rest =
@@ -166,7 +167,7 @@ none_left doc place times term e (f ∷ fs) a b h = by (either (f.term == term))
 term_adds : (doc place times term : ℕ) (es : List (Entry ℕ)) → Pairs (λ a b. a.term ≡ b.term → a.doc ≢ b.doc) es → AllByRecursion (λ p. p.weight ≤ 16711425) (map (weigh place times) (filter (λ f. f.term == term) es))
     → sum_by (adds doc) (map (weigh place times) (filter (λ f. f.term == term) es)) ≤ 16711425
 term_adds doc place times term [] p h = omega arith
-term_adds doc place times term (e ∷ es) p h = by (either (e.term == term)) (either (e.doc == doc)) (λ k. term_adds doc place times term es p.1 k) where
+term_adds doc place times term (e ∷ es) p h = by (cases_Bool (e.term == term)) (cases_Bool (e.doc == doc)) (λ k. term_adds doc place times term es p.1 k) where
   by : ((e.term == term) ≡ true) ⊎ ((e.term == term) ≡ false) → ((e.doc == doc) ≡ true) ⊎ ((e.doc == doc) ≡ false)
       → (AllByRecursion (λ p. p.weight ≤ 16711425) (map (weigh place times) (filter (λ f. f.term == term) es)) → sum_by (adds doc) (map (weigh place times) (filter (λ f. f.term == term) es)) ≤ 16711425)
       → sum_by (adds doc) (map (weigh place times) (filter (λ f. f.term == term) (e ∷ es))) ≤ 16711425

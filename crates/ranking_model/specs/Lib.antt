@@ -1,8 +1,10 @@
 pub mod Order
+pub mod Sorting
 pub mod Flat
 pub mod Postings
 pub mod Plan
 pub mod Scores
+pub mod Ranking
 pub mod Limits
 pub mod Finality
 pub mod Heaviest

@@ -12,6 +12,7 @@ mod entry;
 pub mod examples;
 pub mod graded;
 pub mod laws;
+pub mod order_laws;
 mod plan;
 mod posting;
 mod prefix;
