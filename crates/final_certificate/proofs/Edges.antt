@@ -74,13 +74,13 @@ StaysBefore bound xs ys = AllByRecursion (λ a. AllByRecursion (λ b. Leads a (g
 pub parted : (all : List Hit) (k : ℕ) (f : Hit → ℕ) → sum_by f all ≡ sum_by f (front all k) + sum_by f (others all k)
 parted all k f =
     let a = sum_by-filter_both is_unscored is_scored (λ x. refl) f all in
-    let b = sum_by-sorted rank_cmp rank_total f (filter is_scored all) in
+    let b = sum_by-sorted rank_cmp f (filter is_scored all) in
     let c = sum_by-take-drop f (ranked all) k in
     let d = sum_by-append f (drop k (ranked all)) (filter is_unscored all) in
     omega arith
 
 front_scored : (all : List Hit) (k : ℕ) → AllByRecursion (λ h. is_scored h ≡ true) (front all k)
-front_scored all k = all_take (λ h. is_scored h ≡ true) k (ranked all) (all_sorted rank_cmp rank_total (λ h. is_scored h ≡ true) (filter is_scored all) (all_pass is_scored all))
+front_scored all k = all_take (λ h. is_scored h ≡ true) k (ranked all) (all_sorted rank_cmp (λ h. is_scored h ≡ true) (filter is_scored all) (all_pass is_scored all))
 
 lift_scored : (gain : ℕ) (h : Hit) → is_scored h ≡ true → is_scored (gained gain h) ≡ true
 lift_scored gain h t = grind (arith, nat_tests)

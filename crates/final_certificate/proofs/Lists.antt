@@ -96,7 +96,7 @@ module _ {A : Type 0} (cmp : A → A → Ordering) (o : IsTotalOrder cmp) (same 
   one_order xs ys a b sums = same_ranks cmp o xs ys a b (λ z. copies z xs ∙ ap (λ n. replicate n z) (sums (λ x. cond (level cmp z x) 1 0)) ∙ sym (copies z ys))
 
   pub sorted_itself : (xs : List A) → Ascends cmp xs → sorted cmp xs ≡ xs
-  sorted_itself xs a = one_order (sorted cmp xs) xs (sorted_ascends cmp o xs) a (λ f. sum_by-sorted cmp o f xs)
+  sorted_itself xs a = one_order (sorted cmp xs) xs (sorted_ascends cmp o xs) a (λ f. sum_by-sorted cmp f xs)
 
   placed_moves : (x : A) (ys : List A) → IsPermutation (x ∷ ys) (placed cmp x ys)
   placed_moves x [] = IsPermutation-refl (x ∷ [])
@@ -118,21 +118,21 @@ module _ {A : Type 0} (cmp : A → A → Ordering) (o : IsTotalOrder cmp) (same 
       (ascends_append cmp (sorted cmp front) (sorted cmp (filter p back)) (sorted_ascends cmp o front) (sorted_ascends cmp o (filter p back)) pairs) by_sums
     where
       pairs : AllByRecursion (λ a. AllByRecursion (λ b. is_gt (cmp a b) ≡ false) (sorted cmp (filter p back))) (sorted cmp front)
-      pairs = all_sorted cmp o (λ a. AllByRecursion (λ b. is_gt (cmp a b) ≡ false) (sorted cmp (filter p back))) front
+      pairs = all_sorted cmp (λ a. AllByRecursion (λ b. is_gt (cmp a b) ≡ false) (sorted cmp (filter p back))) front
           (all_imp (λ a. AllByRecursion (λ b. is_gt (cmp a b) ≡ false) back) (λ a. AllByRecursion (λ b. is_gt (cmp a b) ≡ false) (sorted cmp (filter p back)))
-          (λ a h. all_sorted cmp o (λ b. is_gt (cmp a b) ≡ false) (filter p back) (all_filter (λ b. is_gt (cmp a b) ≡ false) p back h)) front above)
+          (λ a h. all_sorted cmp (λ b. is_gt (cmp a b) ≡ false) (filter p back) (all_filter (λ b. is_gt (cmp a b) ≡ false) p back h)) front above)
 
       by_sums : (f : A → ℕ) → sum_by f (sorted cmp (filter p all)) ≡ sum_by f (sorted cmp front ++ sorted cmp (filter p back))
       by_sums f =
-          let a = sum_by-sorted cmp o f (filter p all) in
+          let a = sum_by-sorted cmp f (filter p all) in
           let b = sum_by-filter p f all in
           let c = sums (λ x. cond (p x) (f x) 0) in
           let d = sum_by-filter p f front in
           let e = ap (sum_by f) (filter_all p front passed) in
           let g = sum_by-filter p f back in
           let h = sum_by-append f (sorted cmp front) (sorted cmp (filter p back)) in
-          let i = sum_by-sorted cmp o f front in
-          let j = sum_by-sorted cmp o f (filter p back) in
+          let i = sum_by-sorted cmp f front in
+          let j = sum_by-sorted cmp f (filter p back) in
           omega arith
 
 pub ascends_take : {A : Type 0} (cmp : A → A → Ordering) (n : ℕ) (xs : List A) → Ascends cmp xs → Ascends cmp (take n xs)

@@ -66,7 +66,7 @@ with_gain bound z all = map (lift (one bound z)) all
 -- whatever gains is hit
 entered : (all : List Hit) (bound z : ℕ) → 1 ≤ bound → count_doc z (ranked (with_gain bound z all)) ≡ count_doc z all
 entered all bound z some =
-    sum_by-sorted rank_cmp rank_total (λ (h : Hit). cond (h.doc == z) 1 0) (filter is_scored (with_gain bound z all))
+    sum_by-sorted rank_cmp (λ (h : Hit). cond (h.doc == z) 1 0) (filter is_scored (with_gain bound z all))
     ∙ sum_by-filter is_scored (λ (h : Hit). cond (h.doc == z) 1 0) (with_gain bound z all)
     ∙ sum_by-map (lift (one bound z)) (λ (h : Hit). cond (is_scored h) (cond (h.doc == z) 1 0) 0) all
     ∙ sum_by-same (λ (h : Hit). cond (is_scored (lift (one bound z) h)) (cond (h.doc == z) 1 0) 0) (λ (h : Hit). cond (h.doc == z) 1 0) all (each all)
@@ -88,7 +88,7 @@ true_lift score_of gain xs h = all_map (λ (h : Hit). h.score ≡ score_of h.doc
     (all_imp (λ (h : Hit). h.score ≡ score_of h.doc) (λ (h : Hit). h.score + gain h.doc ≡ score_of h.doc + gain h.doc) (λ h e. ap (λ n. n + gain h.doc) e) xs h)
 
 pub true_ranked : (score_of : ℕ → ℕ) (xs : List Hit) → IsTrueTo score_of xs → IsTrueTo score_of (ranked xs)
-true_ranked score_of xs h = all_sorted rank_cmp rank_total (λ (h : Hit). h.score ≡ score_of h.doc) (filter is_scored xs) (all_filter (λ (h : Hit). h.score ≡ score_of h.doc) is_scored xs h)
+true_ranked score_of xs h = all_sorted rank_cmp (λ (h : Hit). h.score ≡ score_of h.doc) (filter is_scored xs) (all_filter (λ (h : Hit). h.score ≡ score_of h.doc) is_scored xs h)
 
 still : (all : List Hit) (k bound z doc : ℕ) → KeepsWith all k bound z → count_doc doc (front (with_gain bound z all) k) ≡ count_doc doc (front all k)
 still all k bound z doc kept =

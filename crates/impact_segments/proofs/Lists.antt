@@ -8,6 +8,7 @@ use Rattle.std.specs.Ordering.{is_gt}
 use Rattle.std.proofs.lemmas.List.Elements.{All-from_recursion}
 use Rattle.std.proofs.lemmas.List.Kept.{AllPairs-from_increasing}
 use Rattle.ranking_model.specs.Order.{placed, sorted}
+use Rattle.ranking_model.specs.Sorting.{all_placed, all_sorted}
 
 abbrev pub Pairs : {A : Type 0} → (A → A → Type 0) → List A → Type 0
 Pairs R [] = ⊤
@@ -75,27 +76,16 @@ module _ {A : Type 0} where
 
   -- a sort keeps what holds of each two, in whichever order
   module _ (cmp : A → A → Ordering) (R : A → A → Type 0) (both_ways : (x y : A) → R x y → R y x) where
-    all_placed : (P : A → Type 0) (x : A) (ys : List A) → P x → AllByRecursion P ys → AllByRecursion P (placed cmp x ys)
-    all_placed P x [] p h = (p, h)
-    all_placed P x (y ∷ ys) p h = step (is_gt (cmp x y)) refl (all_placed P x ys p h.1) where
-      step : (b : Bool) → is_gt (cmp x y) ≡ b → AllByRecursion P (placed cmp x ys) → AllByRecursion P (placed cmp x (y ∷ ys))
-      step true e rest = rw e (h.0, rest)
-      step false e rest = rw e (p, (h.0, h.1))
-
     pairs_placed : (x : A) (ys : List A) → AllByRecursion (λ y. R x y) ys → Pairs R ys → Pairs R (placed cmp x ys)
     pairs_placed x [] a h = (tt, tt)
     pairs_placed x (y ∷ ys) a h = step (is_gt (cmp x y)) refl (pairs_placed x ys a.1 h.1) where
       step : (b : Bool) → is_gt (cmp x y) ≡ b → Pairs R (placed cmp x ys) → Pairs R (placed cmp x (y ∷ ys))
-      step true e rest = rw e (all_placed (λ z. R y z) x ys (both_ways x y a.0) h.0, rest)
+      step true e rest = rw e (all_placed cmp (λ z. R y z) x ys (both_ways x y a.0) h.0, rest)
       step false e rest = rw e ((a.0, a.1), (h.0, h.1))
-
-    all_sorted : (P : A → Type 0) (xs : List A) → AllByRecursion P xs → AllByRecursion P (sorted cmp xs)
-    all_sorted P [] h = tt
-    all_sorted P (x ∷ xs) h = all_placed P x (sorted cmp xs) h.0 (all_sorted P xs h.1)
 
     pub pairs_sorted : (xs : List A) → Pairs R xs → Pairs R (sorted cmp xs)
     pairs_sorted [] h = tt
-    pairs_sorted (x ∷ xs) h = pairs_placed x (sorted cmp xs) (all_sorted (λ y. R x y) xs h.0) (pairs_sorted xs h.1)
+    pairs_sorted (x ∷ xs) h = pairs_placed x (sorted cmp xs) (all_sorted cmp (λ y. R x y) xs h.0) (pairs_sorted xs h.1)
 
 -- pairs and facts of a map
 pub all_map : {A B : Type 0} (P : B → Type 0) (f : A → B) (xs : List A) → AllByRecursion (λ x. P (f x)) xs → AllByRecursion P (map f xs)

@@ -70,13 +70,13 @@ filter_shorter {A} q (x ∷ xs) = step (q x) refl (filter_shorter q xs) where
 pub listed_all : (P : PostingsList → Type 0) (lists listed : List PostingsList) → listed ≡ sorted term_cmp (filter has_postings lists) → All P lists → All P listed
 listed_all P lists listed is h =
     let Q : List PostingsList → Type 0 = λ (l : List PostingsList). All P l in
-    subst Q (sym is) (All-from_recursion P (sorted term_cmp (filter has_postings lists)) (all_sorted term_cmp term_total P (filter has_postings lists) (filter_all P has_postings lists (recursion_from_All P lists h))))
+    subst Q (sym is) (All-from_recursion P (sorted term_cmp (filter has_postings lists)) (all_sorted term_cmp P (filter has_postings lists) (filter_all P has_postings lists (recursion_from_All P lists h))))
 
 pub listed_some : (lists listed : List PostingsList) → listed ≡ sorted term_cmp (filter has_postings lists) → All (λ (l : PostingsList). 1 ≤ length l.postings) listed
 listed_some lists listed is =
     let P : PostingsList → Type 0 = λ (l : PostingsList). 1 ≤ length l.postings in
     let Q : List PostingsList → Type 0 = λ (l : List PostingsList). All P l in
-    subst Q (sym is) (All-from_recursion P (sorted term_cmp (filter has_postings lists)) (all_sorted term_cmp term_total P (filter has_postings lists)
+    subst Q (sym is) (All-from_recursion P (sorted term_cmp (filter has_postings lists)) (all_sorted term_cmp P (filter has_postings lists)
     (all_weaker (λ (l : PostingsList). has_postings l ≡ true) P (λ l h. grind (arith, nat_tests)) (filter has_postings lists) (filter_passes has_postings lists))))
 
 pub listed_shorter : (lists listed : List PostingsList) → listed ≡ sorted term_cmp (filter has_postings lists) → length listed ≤ length lists
@@ -123,7 +123,7 @@ module _ (rule : Rule) (docs : List DocRecord) (bits : Bits) (range : Range) whe
     each (p ∷ ps) = (refl, each ps)
 
   own_sorted : (list : PostingsList) → AllByRecursion (λ (e : Entry (List ℕ)). e.term ≡ list.term) (S list)
-  own_sorted list = all_sorted flat_cmp flat_total (λ (e : Entry (List ℕ)). e.term ≡ list.term) (E list) (own list)
+  own_sorted list = all_sorted flat_cmp (λ (e : Entry (List ℕ)). e.term ≡ list.term) (E list) (own list)
 
   -- a list without postings has no entries
   none_empty : (list : PostingsList) → has_postings list ≡ false → E list ≡ []

@@ -96,7 +96,7 @@ pub segments_below : (d : ℕ) (segments : List Segment) (pairs : List (ℕ × �
 segments_below d segments pairs is below =
     let P : List (ℕ × ℕ) → Type 0 = λ (l : List (ℕ × ℕ)). AllByRecursion (λ (p : ℕ × ℕ). p.0 < d) l in
     let each : AllByRecursion (λ (s : Segment). AllByRecursion (λ (p : ℕ × ℕ). p.0 < d) (map (λ (doc : ℕ). (doc, s.impact)) s.docs)) segments
-    = all_parts (λ (p : ℕ × ℕ). p.0 < d) (λ (s : Segment). map (λ (doc : ℕ). (doc, s.impact)) s.docs) segments (subst P (sym is) (all_sorted pair_cmp pair_total (λ (p : ℕ × ℕ). p.0 < d) pairs below)) in
+    = all_parts (λ (p : ℕ × ℕ). p.0 < d) (λ (s : Segment). map (λ (doc : ℕ). (doc, s.impact)) s.docs) segments (subst P (sym is) (all_sorted pair_cmp (λ (p : ℕ × ℕ). p.0 < d) pairs below)) in
     All-from_recursion (HasDocumentsBelow d) segments
     (all_weaker (λ (s : Segment). AllByRecursion (λ (p : ℕ × ℕ). p.0 < d) (map (λ (doc : ℕ). (doc, s.impact)) s.docs)) (HasDocumentsBelow d)
     (λ s h. All-from_recursion (λ (doc : ℕ). doc < d) s.docs (all_unmap (λ (p : ℕ × ℕ). p.0 < d) (λ (doc : ℕ). (doc, s.impact)) s.docs h)) segments each)

@@ -10,6 +10,7 @@ use Rattle.std.specs.FinMap.{nat_cmp-IsAntisymmetric, slice_cmp-IsAntisymmetric}
 use Rattle.jass_base.specs.declared.postings_list.PostingsList.{PostingsList}
 use Rattle.ranking_model.specs.declared.entry.Entry.{Entry}
 use Rattle.ranking_model.specs.Flat.{entry_cmp}
+use Rattle.ranking_model.specs.Sorting.{both_equal}
 use Rattle.impact_segments.specs.Pairs.{pair_cmp}
 use Rattle.impact_segments.specs.Listed.{term_cmp}
 
@@ -22,12 +23,6 @@ entry_total {T} cmp o = then_total (then_total (on_total (λ (e : Entry T). e.te
 
 pub term_total : IsTotalOrder term_cmp
 term_total = on_total (λ (l : PostingsList). l.term) nat_list_cmp_total
-
--- an answer in two parts is Equal only where both parts are
-pub both_equal : (r s : Ordering) → ordering_then r s ≡ Equal → (r ≡ Equal) × (s ≡ Equal)
-both_equal Less s e = absurd (cc)
-both_equal Equal s e = (refl, e)
-both_equal Greater s e = absurd (cc)
 
 pub pair_same : (x y : ℕ × ℕ) → pair_cmp x y ≡ Equal → x ≡ y
 pair_same x y e =

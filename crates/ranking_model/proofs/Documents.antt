@@ -23,7 +23,7 @@ hits_below limit doc (score ∷ scores) within = step (score == 0) (hits_below l
   step false rest = (omega arith, rest)
 
 pub ranked_below : (scores : List ℕ) (m : ℕ) → AllByRecursion (λ (hit : Hit). hit.doc < length scores) (first_ranked scores m)
-ranked_below scores m = all_take (λ (hit : Hit). hit.doc < length scores) m (sorted rank_cmp (hits_from 0 scores)) (all_sorted rank_cmp rank_total (λ (hit : Hit). hit.doc < length scores) (hits_from 0 scores) (hits_below (length scores) 0 scores (omega arith)))
+ranked_below scores m = all_take (λ (hit : Hit). hit.doc < length scores) m (sorted rank_cmp (hits_from 0 scores)) (all_sorted rank_cmp (λ (hit : Hit). hit.doc < length scores) (hits_from 0 scores) (hits_below (length scores) 0 scores (omega arith)))
 
 -- each of a list, by places
 pub by_places : {A : Type 0} (P : A → Type 0) (xs : List A) → AllByRecursion P xs → All P xs

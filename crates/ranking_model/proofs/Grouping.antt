@@ -31,7 +31,7 @@ module _ (f : Class → ℕ) (g : WeightedPosting → ℕ) (first : (p : Weighte
   grouped_sum cs (p ∷ ps) = grouped_sum (joined cs p) ps ∙ let one = joined_sum cs p in let s = sum_by-cons g p ps in omega arith
 
   pub classes_sum : (ps : List WeightedPosting) → sum_by f (classes_of ps) ≡ sum_by g ps
-  classes_sum ps = sum_by-sorted plan_cmp plan_total f (fold joined [] ps) ∙ grouped_sum [] ps ∙ zero-add (sum_by g ps)
+  classes_sum ps = sum_by-sorted plan_cmp f (fold joined [] ps) ∙ grouped_sum [] ps ∙ zero-add (sum_by g ps)
 
 -- a fact that each posting gives its class
 module _ (P : Class → Type 0) (Q : WeightedPosting → Type 0) (first : (p : WeightedPosting) → Q p → P (begun p)) (next : (c : Class) (p : WeightedPosting) → is_of c p ≡ true → P c → Q p → P (more c p.doc)) where
@@ -47,7 +47,7 @@ module _ (P : Class → Type 0) (Q : WeightedPosting → Type 0) (first : (p : W
   grouped_all cs (p ∷ ps) h q = grouped_all (joined cs p) ps (joined_all cs p h q.0) q.1
 
   pub classes_all : (ps : List WeightedPosting) → AllByRecursion Q ps → AllByRecursion P (classes_of ps)
-  classes_all ps q = all_sorted plan_cmp plan_total P (fold joined [] ps) (grouped_all [] ps tt q)
+  classes_all ps q = all_sorted plan_cmp P (fold joined [] ps) (grouped_all [] ps tt q)
 
 joined_length : (cs : List Class) (p : WeightedPosting) → length (joined cs p) ≤ suc (length cs)
 joined_length [] p = omega arith
@@ -63,6 +63,6 @@ grouped_length cs (p ∷ ps) = let one = joined_length cs p in let rest = groupe
 -- at most as many classes as postings
 pub classes_length : (ps : List WeightedPosting) → length (classes_of ps) ≤ length ps
 classes_length ps =
-    let same : length (classes_of ps) ≡ length (fold joined [] ps) = sym (length_sum (classes_of ps)) ∙ sum_by-sorted plan_cmp plan_total (λ c. 1) (fold joined [] ps) ∙ length_sum (fold joined [] ps) in
+    let same : length (classes_of ps) ≡ length (fold joined [] ps) = sym (length_sum (classes_of ps)) ∙ sum_by-sorted plan_cmp (λ c. 1) (fold joined [] ps) ∙ length_sum (fold joined [] ps) in
     let rest = grouped_length [] ps in
     omega arith

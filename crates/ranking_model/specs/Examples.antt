@@ -5,6 +5,7 @@ use Rattle.jass_base.specs.declared.answer.Report.{Report}
 use Rattle.jass_base.specs.declared.answer.Grade.{Grade}
 use Rattle.ranking_model.specs.declared.entry.Entry.{Entry}
 use Rattle.jass_base.specs.declared.named.Named.{Named}
+use Rattle.ranking_model.specs.declared.class.Class.{Class}
 use Rattle.ranking_model.specs.declared.plan.QueryPlan.{QueryPlan}
 use Rattle.ranking_model.specs.Flat.{numbered}
 use Rattle.ranking_model.specs.Plan.{plan_of}
@@ -17,6 +18,9 @@ hit doc score = record { doc = doc; score = score }
 
 abbrev pub named : ℕ → ℕ → Named
 named term times = record { term = term; times = times }
+
+abbrev pub class : ℕ → ℕ → List ℕ → Class
+class place weight docs = record { place = place; weight = weight; docs = docs }
 
 -- postings, segments, segments of the plan, cutoff, next, bound and grade
 abbrev pub report : ℕ → ℕ → ℕ → ℕ → ℕ → ℕ → Grade → Report
@@ -33,6 +37,10 @@ pet_names = codes "d0" ∷ codes "d1" ∷ codes "d2" ∷ codes "d3" ∷ []
 -- three documents with `a`
 abbrev pub falling : List (Entry (List ℕ))
 falling = entry (codes "a") 0 9 ∷ entry (codes "a") 1 5 ∷ entry (codes "a") 2 1 ∷ []
+
+-- their names
+abbrev pub falling_names : List (List ℕ)
+falling_names = codes "d0" ∷ codes "d1" ∷ codes "d2" ∷ []
 
 -- three documents with `a`, close to one another
 abbrev pub close : List (Entry (List ℕ))
@@ -53,6 +61,9 @@ swapping = entry (codes "p") 1 3 ∷ entry (codes "p") 0 2 ∷ entry (codes "q")
 abbrev pub cat_dog : QueryPlan
 cat_dog = plan_of 4 (numbered pets) (named 0 1 ∷ named 1 1 ∷ [])
 
+abbrev pub dog_cat : QueryPlan
+dog_cat = plan_of 4 (numbered pets) (named 1 1 ∷ named 0 1 ∷ [])
+
 abbrev pub cat_twice_dog : QueryPlan
 cat_twice_dog = plan_of 4 (numbered pets) (named 0 2 ∷ named 1 1 ∷ [])
 
@@ -61,6 +72,10 @@ a_once = plan_of 3 (numbered falling) (named 0 1 ∷ [])
 
 abbrev pub a_twice : QueryPlan
 a_twice = plan_of 3 (numbered falling) (named 0 2 ∷ [])
+
+-- a query of unknown words alone
+abbrev pub nothing_known : QueryPlan
+nothing_known = plan_of 4 (numbered pets) []
 
 abbrev pub close_a : QueryPlan
 close_a = plan_of 3 (numbered close) (named 0 1 ∷ [])

@@ -8,15 +8,10 @@ use Rattle.std.proofs.lemmas.Cmp.{then_total, on_total, back_total, nat_cmp_tota
 use Rattle.std.specs.FinMap.{IsAntisymmetric, nat_cmp-IsAntisymmetric}
 use Rattle.jass_base.specs.declared.answer.Hit.{Hit}
 use Rattle.ranking_model.specs.Scores.{rank_cmp}
+use Rattle.ranking_model.specs.Sorting.{both_equal}
 
 pub rank_total : IsTotalOrder rank_cmp
 rank_total = then_total (on_total (λ (h : Hit). h.score) (back_total nat_cmp_total)) (on_total (λ (h : Hit). h.doc) nat_cmp_total)
-
--- an answer in two parts is Equal only where both parts are
-pub both_equal : (r s : Ordering) → ordering_then r s ≡ Equal → (r ≡ Equal) × (s ≡ Equal)
-both_equal Less s e = absurd (cc)
-both_equal Equal s e = (refl, e)
-both_equal Greater s e = absurd (cc)
 
 pub rank_same : IsAntisymmetric rank_cmp
 rank_same x y e =

@@ -5,15 +5,18 @@ ghost use Rattle.std.specs.Prelude.{[], ◌∷◌};
 ghost use Rattle.ranking_model.specs.Report.{IsReport};
 ghost use Rattle.ranking_model.specs.Search.{AreReports};
 ghost use Rattle.ranking_model.specs.Examples.{report, cat_dog, a_once, a_twice, cat_twice_dog, close_a};
-ghost use Rattle.ranking_model.specs.Examples.{p_q_lower, p_q_higher, p_q_swapping};
+ghost use Rattle.ranking_model.specs.Examples.{p_q_lower, p_q_higher, p_q_swapping, nothing_known};
 
 use jass_base::{Budget, Grade};
 
 /// Where all is scored, nothing can be gained.
 pub fn exhaustive_answers_are_final()
     ensures cat_dog { IsReport 4 cat_dog 4 (report 5 4 4 1 0 0 Grade.Final) }
+    ensures a { IsReport 3 a_once 3 (report 3 3 3 1 0 0 Grade.Final) }
     ensures a_twice { IsReport 3 a_twice 4 (report 3 3 3 2 0 0 Grade.Final) }
     ensures cat_twice_dog { IsReport 4 cat_twice_dog 4 (report 5 4 4 2 0 0 Grade.Final) }
+    ensures p_q { IsReport 3 p_q_swapping 2 (report 3 3 3 1 0 0 Grade.Final) }
+    ensures nothing { IsReport 0 nothing_known 4 (report 0 0 0 0 0 0 Grade.Final) }
 {}
 
 /// The last segment of `cat dog` can bring a fourth document.

@@ -6,6 +6,7 @@ ghost use Rattle.std.specs.List.{AllByRecursion};
 ghost use Rattle.std.specs.Ordering.{nat_cmp};
 ghost use Rattle.std.specs.Cmp.Lexicographic.{slice_cmp};
 ghost use Rattle.jass_base.specs.declared.answer.Hit.{Hit};
+ghost use Rattle.jass_base.specs.declared.answer.Grade.{Grade};
 ghost use Rattle.ranking_model.specs.declared.plan.QueryPlan.{QueryPlan};
 ghost use Rattle.jass_base.specs.declared.named.Named.{Named};
 ghost use Rattle.ranking_model.specs.declared.entry.Entry.{Entry};
@@ -15,7 +16,7 @@ ghost use Rattle.ranking_model.specs.Flat.{IsFlat, numbered};
 ghost use Rattle.ranking_model.specs.Order.{sorted};
 ghost use Rattle.ranking_model.specs.Plan.{postings_of, plan_of, plan_cmp, classes_of, size_of_first, prefix_within, cutoff_after, next_after};
 ghost use Rattle.ranking_model.specs.Scores.{adds, gain_of, bound_after, scores_after, rank_cmp, hits_from, first_ranked};
-ghost use Rattle.ranking_model.specs.Finality.{GainsUpTo};
+ghost use Rattle.ranking_model.specs.Finality.{GainsUpTo, IsSettled, IsKept, IsGrade};
 ghost use Rattle.ranking_model.specs.Heaviest.{IsHeaviest};
 
 /// The prefix that a budget pays for fits it, and no longer one does.
@@ -81,6 +82,13 @@ pub fn the_ranking_has_documents_of_the_scores()
 pub fn numbers_keep_the_flat_list()
     ensures { (docs : ℕ) (flat : List (Entry (List ℕ))) →
         IsFlat (slice_cmp nat_cmp) docs flat → IsFlat nat_cmp docs (numbered flat) }
+{}
+
+/// Scores have one grade at most, and an answer that is settled is kept.
+pub fn the_grade_is_one()
+    ensures one { (scores : List ℕ) (k bound : ℕ) (first second : Grade) →
+        IsGrade scores k bound first → IsGrade scores k bound second → first ≡ second }
+    ensures kept { (scores : List ℕ) (k bound : ℕ) → IsSettled scores k bound → IsKept scores k bound }
 {}
 
 /// What is unscored gives no document more than the bound: the scores after more classes are those

@@ -20,6 +20,7 @@ mod rank;
 mod report;
 mod scores;
 mod standing;
+pub mod texts;
 
 pub use bound::bound_after;
 pub use budget::granted_sum;
