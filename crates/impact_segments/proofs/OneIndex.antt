@@ -32,7 +32,8 @@ use Rattle.impact_segments.specs.Collections.{posting_weight, list_weights, list
 use Rattle.impact_segments.specs.Flat.{flat_of_terms}
 use Rattle.impact_segments.specs.Listed.{has_postings, term_cmp}
 use Rattle.impact_segments.proofs.Lists.{Pairs, pairs_by_recursion, pairs_by_places, all_append, all_weaker, pairs_both, pairs_weaker, pairs_sorted, pairs_map, pairs_unmap}
-use Rattle.impact_segments.proofs.Orders.{entry_total, term_total, term_same, strictly}
+use Rattle.ranking_model.specs.Orders.{entry_total}
+use Rattle.impact_segments.proofs.Orders.{term_total, term_same, strictly}
 use Rattle.impact_segments.proofs.OneTerm.{length_sorted}
 
 abbrev text_cmp : List ℕ → List ℕ → Ordering

@@ -2,24 +2,18 @@
 use Rattle.std.proofs.Common.{◌≡◌, ◌≢◌, ℕ, List, true, false, true≢false, refl, sym}
 use Rattle.std.specs.declared.cmp.Ordering.{Ordering}
 use Rattle.std.specs.declared.cmp.Ordering.TheVariants.{Less, Equal, Greater}
-use Rattle.std.specs.Ordering.{nat_cmp, ordering_then, is_gt, is_lt}
+use Rattle.std.specs.Ordering.{nat_cmp, is_gt, is_lt}
 use Rattle.std.specs.Cmp.{IsTotalOrder}
 use Rattle.std.specs.Cmp.Lexicographic.{slice_cmp}
 use Rattle.std.proofs.lemmas.Cmp.{then_total, on_total, back_total, nat_cmp_total, nat_list_cmp_total}
 use Rattle.std.specs.FinMap.{nat_cmp-IsAntisymmetric, slice_cmp-IsAntisymmetric}
 use Rattle.jass_base.specs.declared.postings_list.PostingsList.{PostingsList}
-use Rattle.ranking_model.specs.declared.entry.Entry.{Entry}
-use Rattle.ranking_model.specs.Flat.{entry_cmp}
 use Rattle.ranking_model.specs.Sorting.{both_equal}
 use Rattle.impact_segments.specs.Pairs.{pair_cmp}
 use Rattle.impact_segments.specs.Listed.{term_cmp}
 
 pub pair_total : IsTotalOrder pair_cmp
 pair_total = then_total (on_total (λ (p : ℕ × ℕ). p.1) (back_total nat_cmp_total)) (on_total (λ (p : ℕ × ℕ). p.0) nat_cmp_total)
-
-pub entry_total : {T : Type 0} (cmp : T → T → Ordering) → IsTotalOrder cmp → IsTotalOrder (entry_cmp cmp)
-entry_total {T} cmp o = then_total (then_total (on_total (λ (e : Entry T). e.term) o) (on_total (λ (e : Entry T). e.impact) (back_total nat_cmp_total)))
-    (on_total (λ (e : Entry T). e.doc) nat_cmp_total)
 
 pub term_total : IsTotalOrder term_cmp
 term_total = on_total (λ (l : PostingsList). l.term) nat_list_cmp_total

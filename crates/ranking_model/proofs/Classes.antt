@@ -12,12 +12,8 @@ use Rattle.std.proofs.lemmas.Cmp.{then_total, on_total, back_total, nat_cmp_tota
 use Rattle.ranking_model.specs.declared.class.Class.{Class}
 use Rattle.ranking_model.specs.declared.posting.WeightedPosting.{WeightedPosting}
 use Rattle.ranking_model.specs.Programs.{ends_in, last_with, place_cmp}
-use Rattle.ranking_model.specs.Plan.{plan_cmp, is_of, begun, joined}
+use Rattle.ranking_model.specs.Plan.{is_of, begun, joined}
 use Rattle.ranking_model.specs.Sorting.{Ascends}
-
-pub plan_total : IsTotalOrder plan_cmp
-plan_total = then_total (then_total (on_total (λ (c : Class). c.weight) (back_total nat_cmp_total)) (on_total (λ (c : Class). length c.docs) nat_cmp_total))
-    (on_total (λ (c : Class). c.place) nat_cmp_total)
 
 pub place_total : IsTotalOrder place_cmp
 place_total = then_total (on_total (λ (p : WeightedPosting). p.place) nat_cmp_total) (on_total (λ (p : WeightedPosting). p.weight) (back_total nat_cmp_total))

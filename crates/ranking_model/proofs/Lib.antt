@@ -9,3 +9,4 @@ pub mod Segments
 pub mod Numbering
 pub mod Documents
 pub mod Rest
+pub mod Searched

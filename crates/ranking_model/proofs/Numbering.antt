@@ -15,8 +15,9 @@ use Rattle.std.proofs.lemmas.Map.Text.{is_eq-slice_cmp}
 use Rattle.ranking_model.specs.declared.entry.Entry.{Entry}
 use Rattle.ranking_model.specs.Flat.{entry_cmp, IsFlat, terms_of, number_of, numbered}
 use Rattle.std.proofs.lemmas.Bool.{cases_Bool}
+use Rattle.ranking_model.specs.Orders.{entry_total}
 use Rattle.ranking_model.specs.Sorting.{Ascends, ascends_sorted, sorted_ascending}
-use Rattle.ranking_model.proofs.Weighing.{Pairs, pairs_by_recursion, entry_total}
+use Rattle.ranking_model.proofs.Weighing.{Pairs, pairs_by_recursion}
 
 abbrev text_cmp : List ℕ → List ℕ → Ordering
 text_cmp = slice_cmp nat_cmp
@@ -207,7 +208,7 @@ all_map : {A B : Type 0} (f : A → B) (P : B → Type 0) (xs : List A) → AllB
 all_map f P [] h = tt
 all_map f P (x ∷ xs) h = (h.0, all_map f P xs h.1)
 
-pairs_from_recursion : {A : Type 0} (R : A → A → Type 0) (xs : List A) → Pairs R xs → AllPairs R xs
+pub pairs_from_recursion : {A : Type 0} (R : A → A → Type 0) (xs : List A) → Pairs R xs → AllPairs R xs
 pairs_from_recursion R [] h i j d low high = absurd (omega arith)
 pairs_from_recursion R (x ∷ xs) h zero zero d low high = absurd (omega arith)
 pairs_from_recursion R (x ∷ xs) h zero (suc j) d low high = All-from_recursion (R x) xs h.0 j d (omega arith)
@@ -216,7 +217,7 @@ pairs_from_recursion R (x ∷ xs) h (suc i) (suc j) d low high = pairs_from_recu
 
 pub numbered_is_flat : (docs : ℕ) (flat : List (Entry (List ℕ))) → IsFlat text_cmp docs flat → IsFlat nat_cmp docs (numbered flat)
 numbered_is_flat docs flat f = record {
-  order = sorted_ascending (entry_cmp nat_cmp) entry_total (numbered flat) (numbered_ascends ts rise flat (all_among flat) ascends);
+  order = sorted_ascending (entry_cmp nat_cmp) (entry_total nat_cmp nat_cmp_total) (numbered flat) (numbered_ascends ts rise flat (all_among flat) ascends);
   once = pairs_from_recursion _ (numbered flat) (numbered_once ts rise flat (all_among flat) (pairs_by_recursion _ flat f.once));
   documents = All-from_recursion _ (numbered flat) (all_map (with_number ts rise) (λ e. e.doc < docs) flat (recursion_from_All _ flat f.documents));
   impacts = All-from_recursion _ (numbered flat) (all_map (with_number ts rise) (λ e. (1 ≤ e.impact) × (e.impact ≤ 65535)) flat (recursion_from_All _ flat f.impacts));

@@ -12,7 +12,7 @@ use Rattle.ranking_model.specs.Plan.{joined, is_of, plan_cmp, classes_of, size_o
 use Rattle.ranking_model.specs.Heaviest.{IsHeaviest}
 use Rattle.std.proofs.lemmas.Bool.{cases_Bool}
 use Rattle.ranking_model.specs.Sorting.{Ascends, sorted_ascends}
-use Rattle.ranking_model.proofs.Classes.{plan_total}
+use Rattle.ranking_model.specs.Orders.{plan_total}
 use Rattle.ranking_model.proofs.Grouping.{more, classes_sum}
 
 -- ---- the longest prefix

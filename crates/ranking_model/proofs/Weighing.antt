@@ -3,8 +3,7 @@ use Rattle.std.proofs.Common.{◌≡◌, ◌≢◌, ℕ, suc, ◌+◌, ◌*◌, 
 use Rattle.std.specs.Prelude.{⊤, AllPairs, IsSorted}
 use Rattle.std.specs.List.{AllByRecursion}
 use Rattle.std.specs.Ordering.{is_gt, nat_cmp}
-use Rattle.std.specs.Cmp.{IsTotalOrder}
-use Rattle.std.proofs.lemmas.Cmp.{then_total, on_total, back_total, nat_cmp_total}
+use Rattle.std.proofs.lemmas.Cmp.{nat_cmp_total}
 use Rattle.std.proofs.lemmas.Bool.Decides.{nat_tests}
 use Rattle.std.proofs.lemmas.List.Elements.{recursion_from_All}
 use Rattle.std.proofs.lemmas.List.Sums.{sum_by-cons, sum_by-append}
@@ -17,11 +16,8 @@ use Rattle.ranking_model.specs.Postings.{AreTerms, weighted_at, weighted_from, w
 use Rattle.ranking_model.specs.Scores.{adds}
 use Rattle.std.proofs.lemmas.Bool.{cases_Bool}
 use Rattle.ranking_model.specs.Sorting.{Ascends, ascends_sorted, ascends_filter, ascends_append, sorted_ascending}
+use Rattle.ranking_model.specs.Orders.{entry_total}
 use Rattle.ranking_model.proofs.Classes.{place_total}
-
-pub entry_total : IsTotalOrder (entry_cmp nat_cmp)
-entry_total = then_total (then_total (on_total (λ (e : Entry ℕ). e.term) nat_cmp_total) (on_total (λ (e : Entry ℕ). e.impact) (back_total nat_cmp_total)))
-    (on_total (λ (e : Entry ℕ). e.doc) nat_cmp_total)
 
 abbrev weigh : ℕ → ℕ → Entry ℕ → WeightedPosting
 weigh place times e = record { place = place; doc = e.doc; weight = e.impact * times }
@@ -82,7 +78,7 @@ weighted_ascends place (named ∷ terms) flat a =
     all_before (x ∷ xs) h = (before x h.0 _ (from_place (suc place) (suc place) terms flat (omega arith)), all_before xs h.1)
 
 pub weighted_in_order : (docs : ℕ) (flat : List (Entry ℕ)) (terms : List Named) → IsFlat nat_cmp docs flat → IsSorted place_cmp (weighted_postings flat terms)
-weighted_in_order docs flat terms f = sorted_ascending place_cmp place_total (weighted_postings flat terms) (weighted_ascends 0 terms flat (ascends_sorted (entry_cmp nat_cmp) entry_total flat f.order))
+weighted_in_order docs flat terms f = sorted_ascending place_cmp place_total (weighted_postings flat terms) (weighted_ascends 0 terms flat (ascends_sorted (entry_cmp nat_cmp) (entry_total nat_cmp nat_cmp_total) flat f.order))
 
 -- ---- pairs, by recursion
 

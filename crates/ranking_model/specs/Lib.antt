@@ -4,7 +4,7 @@ pub mod Flat
 pub mod Postings
 pub mod Plan
 pub mod Scores
-pub mod Ranking
+pub mod Orders
 pub mod Limits
 pub mod Finality
 pub mod Heaviest

@@ -1,14 +1,25 @@
 //! The definitions run on small indexes (`specs/Examples.antt`): each clause is proved by computing
 //! both sides. The reports beside these answers stand in the module `graded`.
 
-ghost use Rattle.std.specs.Prelude.{◌≡◌, ◌^◌, ◌-◌, [], ◌∷◌, ◌++◌, codes};
+ghost use Rattle.std.specs.Prelude.{◌≡◌, ℕ, map, ◌^◌, ◌-◌, [], ◌∷◌, ◌++◌, codes};
+ghost use Rattle.std.specs.Ordering.{nat_cmp};
+ghost use Rattle.std.specs.Cmp.Lexicographic.{slice_cmp};
+ghost use Rattle.ranking_model.specs.declared.entry.Entry.{Entry};
+ghost use Rattle.ranking_model.specs.Flat.{IsFlat, numbered};
 ghost use Rattle.ranking_model.specs.Plan.{prefix_within, granted_sum, most};
 ghost use Rattle.ranking_model.specs.Scores.{scores_after, top_k, runner_up, least_untouched};
 ghost use Rattle.ranking_model.specs.Search.{query_run};
-ghost use Rattle.ranking_model.specs.Examples.{hit, class, pet_names, cat_dog, dog_cat, cat_twice_dog, a_once, a_twice, close_a};
+ghost use Rattle.ranking_model.specs.Examples.{hit, class, pets, falling, pet_names, cat_dog, dog_cat, cat_twice_dog, a_once, a_twice, close_a};
 ghost use Rattle.ranking_model.specs.Examples.{p_q_lower, p_q_higher, p_q_swapping, nothing_known};
 
 use jass_base::Budget;
+
+/// The small indexes are in order, with terms of their own numbers.
+pub fn the_small_indexes_are_flat()
+    ensures pets { IsFlat (slice_cmp nat_cmp) 4 pets }
+    ensures falling { IsFlat (slice_cmp nat_cmp) 3 falling }
+    ensures numbers { map (λ (e : Entry ℕ). e.term) (numbered pets) ≡ 0 ∷ 0 ∷ 0 ∷ 1 ∷ 1 ∷ [] }
+{}
 
 /// The plan of `cat dog` and of `dog cat`: segments by falling weight; of equal weight and number
 /// of postings, the one of the term that is named first.

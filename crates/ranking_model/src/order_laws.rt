@@ -6,7 +6,10 @@ ghost use Rattle.std.specs.List.Sorted.{IsStable};
 ghost use Rattle.std.specs.declared.cmp.Ordering.{Ordering};
 ghost use Rattle.std.specs.Cmp.{IsTotalOrder};
 ghost use Rattle.std.specs.FinMap.{IsAntisymmetric};
+ghost use Rattle.ranking_model.specs.Flat.{entry_cmp};
 ghost use Rattle.ranking_model.specs.Order.{sorted};
+ghost use Rattle.ranking_model.specs.Plan.{plan_cmp};
+ghost use Rattle.ranking_model.specs.Scores.{rank_cmp};
 
 /// Items stand in order in one way: two lists in order with the same items are equal, where only
 /// equal items tie.
@@ -28,4 +31,17 @@ pub fn sorts_leave_sorted<T>()
         IsSorted cmp ys → IsStable cmp xs ys → ys ≡ sorted cmp xs }
     ensures unstable { (cmp : T → T → Ordering) (xs ys : List T) → IsTotalOrder cmp → IsAntisymmetric cmp →
         IsPermutation xs ys → IsSorted cmp ys → ys ≡ sorted cmp xs }
+{}
+
+/// The order of a flat list is total where that of its terms is, and only equal entries tie.
+pub fn entries_have_a_total_order<T>()
+    ensures total { (cmp : T → T → Ordering) → IsTotalOrder cmp → IsTotalOrder (entry_cmp cmp) }
+    ensures differ { (cmp : T → T → Ordering) → IsAntisymmetric cmp → IsAntisymmetric (entry_cmp cmp) }
+{}
+
+/// The orders of a plan and of a ranking are total, and only equal hits tie.
+pub fn plans_and_rankings_have_a_total_order()
+    ensures plan { IsTotalOrder plan_cmp }
+    ensures ranking { IsTotalOrder rank_cmp }
+    ensures differ { IsAntisymmetric rank_cmp }
 {}

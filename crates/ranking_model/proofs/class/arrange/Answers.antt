@@ -5,7 +5,7 @@ use Rattle.std.specs.declared.cmp.Reverse.{Reverse}
 use Rattle.ranking_model.specs.declared.class.Class.{Class}
 use Rattle.ranking_model.specs.Plan.{plan_cmp}
 use Rattle.ranking_model.specs.Sorting.{stable_is_sorted}
-use Rattle.ranking_model.proofs.Classes.{plan_total}
+use Rattle.ranking_model.specs.Orders.{plan_total}
 use Rattle.ranking_model.proofs.class.arrange.Goals as goal
 
 abbrev key : Class → Reverse ℕ × ℕ × ℕ

@@ -1,0 +1,42 @@
+-- The order computes, and of the two entries of document 1 the terms begin with other bytes.
+use Rattle.std.proofs.Common.{◌≡◌, ◌≢◌, ◌<◌, ◌≤◌, ℕ, List, refl, ap, get_or, arith}
+use Rattle.std.specs.Ordering.{nat_cmp}
+use Rattle.std.specs.Cmp.Lexicographic.{slice_cmp}
+use Rattle.std.proofs.lemmas.Cmp.{nat_list_cmp_total}
+use Rattle.std.proofs.lemmas.List.Elements.{All-from_recursion}
+use Rattle.ranking_model.specs.declared.entry.Entry.{Entry}
+use Rattle.ranking_model.specs.Flat.{entry_cmp}
+use Rattle.ranking_model.specs.Orders.{entry_total}
+use Rattle.ranking_model.specs.Sorting.{sorted_ascending}
+use Rattle.ranking_model.specs.Examples.{pets, falling}
+use Rattle.ranking_model.proofs.Numbering.{pairs_from_recursion}
+use Rattle.ranking_model.proofs.examples.the_small_indexes_are_flat.Goals as goal
+
+abbrev Once : Entry (List ℕ) → Entry (List ℕ) → Type 0
+Once a b = a.term ≡ b.term → a.doc ≢ b.doc
+
+abbrev Fits : Entry (List ℕ) → Type 0
+Fits e = (1 ≤ e.impact) × (e.impact ≤ 65535)
+
+pub returns-clause-pets : goal.returns-clause-pets
+returns-clause-pets c = record {
+  order = sorted_ascending (entry_cmp (slice_cmp nat_cmp)) (entry_total (slice_cmp nat_cmp) nat_list_cmp_total) pets
+      ((refl, (refl, (refl, (refl, tt)))), ((refl, (refl, (refl, tt))), ((refl, (refl, tt)), ((refl, tt), (tt, tt)))));
+  once = pairs_from_recursion Once pets (
+    (λ t d. absurd (omega arith), (λ t d. absurd (omega arith), (λ t d. absurd (omega arith), (λ t d. absurd (omega arith), tt)))),
+    (
+      (λ t d. absurd (omega arith), (λ t d. absurd (omega arith), (λ t d. absurd (let first : 99 ≡ 100 = ap (λ (l : List ℕ). get_or l 0 0) t in omega arith), tt))),
+      ((λ t d. absurd (omega arith), (λ t d. absurd (omega arith), tt)), ((λ t d. absurd (omega arith), tt), (tt, tt))),
+    ),
+  );
+  documents = All-from_recursion (λ (e : Entry (List ℕ)). e.doc < 4) pets (omega arith, (omega arith, (omega arith, (omega arith, (omega arith, tt)))));
+  impacts = All-from_recursion Fits pets ((omega arith, omega arith), ((omega arith, omega arith), ((omega arith, omega arith), ((omega arith, omega arith), ((omega arith, omega arith), tt)))));
+}
+
+pub returns-clause-falling : goal.returns-clause-falling
+returns-clause-falling c = record {
+  order = sorted_ascending (entry_cmp (slice_cmp nat_cmp)) (entry_total (slice_cmp nat_cmp) nat_list_cmp_total) falling ((refl, (refl, tt)), ((refl, tt), (tt, tt)));
+  once = pairs_from_recursion Once falling ((λ t d. absurd (omega arith), (λ t d. absurd (omega arith), tt)), ((λ t d. absurd (omega arith), tt), (tt, tt)));
+  documents = All-from_recursion (λ (e : Entry (List ℕ)). e.doc < 3) falling (omega arith, (omega arith, (omega arith, tt)));
+  impacts = All-from_recursion Fits falling ((omega arith, omega arith), ((omega arith, omega arith), ((omega arith, omega arith), tt)));
+}
