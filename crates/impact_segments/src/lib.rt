@@ -4,6 +4,7 @@
 //! postings of a term in segments of equal impact, and the flat list of such an index.
 
 mod building;
+pub mod examples;
 mod flattening;
 mod grouping;
 pub mod laws;
