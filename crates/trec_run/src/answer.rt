@@ -2,9 +2,8 @@ ghost use Rattle.std.specs.Prelude.{ℕ, ◌≡◌, ◌+◌, ◌<◌, ◌++◌, 
 ghost use Rattle.std.specs.List.{slice_index_or};
 ghost use Rattle.jass_base.specs.Outside.{Wrote};
 ghost use Rattle.jass_base.specs.declared.answer.Hit.{Hit};
-ghost use Rattle.ranking_model.specs.Report.{run_line, run_lines};
+ghost use Rattle.ranking_model.specs.Report.{run_line, run_lines, tag_of};
 ghost use Rattle.trec_run.specs.Gathering.{Gathers};
-ghost use Rattle.trec_run.specs.Lines.{tag_of};
 
 use crate::buffer::Buffer;
 use crate::gather::flush;
