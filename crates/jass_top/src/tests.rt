@@ -3,6 +3,8 @@
 
 ghost use Rattle.std.specs.Prelude.{◌≡◌, ◌<◌};
 
+mod rewriting;
+
 use crate::run;
 use jass_base::{MemCabinet, MemSink, Row, SliceFeed, Steps};
 use std::alloc::{AllocError, Global};
@@ -337,111 +339,4 @@ fn other_ends_are_noted(rt: HostRuntime) {
         assert!(&rt; left.notes.as_slice() == notes, "{words}");
         assert!(&rt; left.out.is_empty(), "{words}");
     }
-}
-
-/// What a rewrite left.
-#[derive(Drop)]
-struct Rewritten {
-    status: u8,
-    notes: Vec<u8>,
-    /// The content of the file that is written, where it is there.
-    content: Option<Vec<u8>>,
-}
-
-impl Rewritten {
-    fn holds(&self, text: &[u8]) -> bool {
-        match &self.content {
-            Some(content) => content.as_slice() == text,
-            None => false,
-        }
-    }
-
-    fn holds_prefix_of(&self, text: &[u8]) -> bool {
-        match &self.content {
-            Some(content) => text.starts_with(content.as_slice()),
-            None => true,
-        }
-    }
-}
-
-/// Rewrites a file into another, whose write call of this number fails.
-fn rewrite_by<L: Ledger>(
-    alloc: Global,
-    blank: Blank,
-    ciff: &[u8],
-    bad_write: u64,
-) -> Result<Rewritten, AllocError>
-    requires name { blank.name ≡ L.name }
-    requires parts { blank.parts ≡ L.parts }
-    requires some { 0 < blank.parts }
-{
-    let bad_writes = listed(alloc, &[bad_write])?;
-    let mut files = MemCabinet::new(alloc, Row::new(alloc), bad_writes);
-    if files.store("b.ciff", ciff).is_err() {
-        return Err(AllocError);
-    }
-    let words = parted(alloc, "rewrite b.ciff c.ciff")?;
-    let mut input = SliceFeed::new(b"");
-    let mut out = MemSink::new(alloc, Row::new(alloc));
-    let mut notes = MemSink::new(alloc, Row::new(alloc));
-    let mut steps = Steps::<L>::new(blank);
-    let status = run(
-        alloc,
-        words.as_slice(),
-        &mut files,
-        &mut input,
-        &mut out,
-        &mut notes,
-        &mut steps,
-    );
-    let content = match files.content("c.ciff") {
-        Some(bytes) => Some(Vec::from_slice(alloc, bytes)?),
-        None => None,
-    };
-    Ok(Rewritten {
-        status: status.number(),
-        notes: Vec::from_slice(alloc, notes.written())?,
-        content,
-    })
-}
-
-/// The same with a fresh ledger.
-fn rewrite_file(alloc: Global, ciff: &[u8], bad_write: u64) -> Result<Rewritten, AllocError> {
-    rewrite_by::<Brand>(alloc, Blank::new(1), ciff, bad_write)
-}
-
-#[test]
-fn files_are_rewritten(rt: HostRuntime) {
-    let table: [(&[u8], &[u8]); 4] = [
-        (&SLOPPY, &ONE_TERM),
-        (&ONE_TERM, &ONE_TERM),
-        (&TWO_TERMS, &TWO_TERMS),
-        (&[0], &[0]),
-    ];
-    for (ciff, canonical) in table {
-        let Ok(left) = rewrite_file(rt.alloc(), ciff, 9) else {
-            assert!(&rt; false, "no memory");
-            return;
-        };
-        assert_eq!(&rt; left.status, 0);
-        assert!(&rt; left.notes.is_empty());
-        assert!(&rt; left.holds(canonical));
-    }
-}
-
-#[test]
-fn failed_writes_leave_a_prefix(rt: HostRuntime) {
-    for bad_write in 0..9u64 {
-        let Ok(left) = rewrite_file(rt.alloc(), &SLOPPY, bad_write) else {
-            assert!(&rt; false, "no memory");
-            return;
-        };
-        if left.status == 0 {
-            return;
-        }
-        assert_eq!(&rt; left.status, 5);
-        assert!(&rt; left.notes.as_slice() == b"c.ciff: write fault\n".as_slice());
-        assert!(&rt; left.holds_prefix_of(&ONE_TERM));
-    }
-    assert!(&rt; false, "no run was done");
 }
