@@ -1,5 +1,5 @@
 -- A file that is made empty and written through a sink.
-use Rattle.std.proofs.Common.{◌≡◌, ◌≢◌, ℕ, ◌+◌, ◌<◌, ◌≤◌, List, [], ◌∷◌, ◌++◌, length, take, Option, Some, None, Result, Ok, Err, Bool, true, false, cond, unwrap_or, refl, sym, ap, subst, ◌∙◌, ◌⊎◌, inl, inr, arith, ◌/◌, ◌%◌, length-append}
+use Rattle.std.proofs.Common.{◌≡◌, ℕ, ◌+◌, ◌<◌, List, [], ◌∷◌, ◌++◌, length, take, Option, Some, None, Bool, true, false, cond, unwrap_or, refl, sym, ap, ◌∙◌, ◌⊎◌, inl, inr, arith, ◌/◌, ◌%◌, length-append}
 use Rattle.std.specs.FinMap.{get, insert, get-insert, same_map, slice_cmp-IsAntisymmetric, nat_cmp-IsAntisymmetric}
 use Rattle.std.specs.Ordering.{nat_cmp, eq_by_cmp, is_eq}
 use Rattle.std.specs.Cmp.Lexicographic.{slice_cmp}
@@ -12,9 +12,9 @@ use Rattle.std.specs.List.{flat_map}
 use Rattle.jass_base.specs.Wire.{short_varint, short_varint_within}
 use Rattle.jass_base.specs.Ciff.{CollectionData, ListData}
 use Rattle.jass_base.specs.CiffText.{canonical_ciff, sized, header_body, list_body, docs_spelling}
-use Rattle.jass_base.specs.Outside.{Files, Sets, Creates, content_or_empty, content_told, others_told}
+use Rattle.jass_base.specs.Outside.{Files, Sets, content_or_empty, content_told, others_told}
 use Rattle.jass_base.specs.Writing.{AppendsPrefix}
-use Rattle.jass_top.specs.Outcomes.{HoldsPrefix, LeavesPrefix}
+use Rattle.jass_top.specs.Outcomes.{LeavesPrefix}
 
 same_files : (m n : Files) → ((q : List ℕ) → get m q ≡ get n q) → m ≡ n
 same_files m n alike = same_map nat_list_cmp_total (slice_cmp-IsAntisymmetric nat_cmp-IsAntisymmetric) m n alike

@@ -1,14 +1,14 @@
 -- How a command ends, from what its run says.
-use Rattle.std.proofs.Common.{◌≡◌, ◌≢◌, ℕ, List, Option, Result, Ok, Err, sym, ap, subst, ◌∙◌, ◌⊎◌, inl, inr}
-use Rattle.std.specs.Prelude.{OnOk, IfErr, IsOk}
+use Rattle.std.proofs.Common.{◌≡◌, ◌≢◌, ℕ, List, Result, Ok, Err, sym, ◌∙◌}
+use Rattle.std.specs.Prelude.{OnOk, IfErr}
 use Rattle.std.specs.Io.KnownBytes.{Appends}
 use Rattle.jass_base.specs.declared.answer.Budget.{Budget}
-use Rattle.jass_base.specs.Outside.{OnContent, Rose, IsMissing}
+use Rattle.jass_base.specs.Outside.{OnContent, Rose}
 use Rattle.jass_base.specs.Writing.{AppendsPrefix}
 use Rattle.jass_words.specs.Words.{Once}
 use Rattle.jass_top.specs.declared.stop.Stop.{Stop}
 use Rattle.jass_top.specs.declared.stop.Stop.TheVariants.{Refused, ReadFault, WriteFault}
-use Rattle.jass_top.specs.Answers.{OnceQuery, once_text}
+use Rattle.jass_top.specs.Answers.{once_text}
 use Rattle.jass_top.specs.Outcomes.{World, Answers, IsRefused, ReadFailed, Ends}
 
 pub same_stop : (stop other : Stop) → (let x : Result (Unit {0}) Stop = Err stop in x) ≡ Err other → stop ≡ other

@@ -1,5 +1,5 @@
 -- The text of an answer in memory.
-use Rattle.std.proofs.Common.{◌≡◌, ℕ, List, ◌++◌, ap, ◌∙◌, sym}
+use Rattle.std.proofs.Common.{◌≡◌, ◌++◌}
 use Rattle.std.specs.Prelude.{codes}
 use Rattle.jass_base.specs.declared.impact_index.ImpactIndex.{ImpactIndex}
 use Rattle.ranking_model.specs.Report.{report_line, run_lines}

@@ -1,6 +1,6 @@
 -- What a run leaves, from how its command ended.
-use Rattle.std.proofs.Common.{◌≡◌, ◌≢◌, ℕ, List, Option, Some, None, Result, Ok, Err, refl, sym, ap, subst, ◌∙◌, ◌⊎◌, inl, inr}
-use Rattle.std.specs.Prelude.{IsSomeAnd, IfSome}
+use Rattle.std.proofs.Common.{◌≡◌, ◌≢◌, ℕ, List, Option, Some, None, Ok, Err, refl, ◌⊎◌, inl, inr}
+use Rattle.std.specs.Prelude.{IfSome}
 use Rattle.std.specs.FinMap.{get}
 use Rattle.std.specs.Io.KnownBytes.{Appends}
 use Rattle.jass_base.specs.declared.collection.Collection.{Collection}
@@ -18,7 +18,7 @@ use Rattle.jass_top.specs.declared.stop.Stop.TheVariants.{NoMemory, Refused, Rea
 use Rattle.jass_top.specs.declared.status.Status.{Status}
 use Rattle.jass_top.specs.declared.status.Status.TheVariants as status
 use Rattle.jass_top.specs.Answers.{IndexData, OnceQuery, index_data, once_text, IsOnceReport, IsOnceAnswer}
-use Rattle.jass_top.specs.Outcomes.{World, Does, DoesPart, LeavesPrefix, Prints, IsRefused, ReadFailed, WriteFailed, Ends, input_of}
+use Rattle.jass_top.specs.Outcomes.{World, Does, DoesPart, LeavesPrefix, Prints, IsRefused, WriteFailed, Ends, input_of}
 use Rattle.jass_top.specs.Stops.{status_of}
 use Rattle.jass_top.proofs.Inputs.{on_content, for_content, any_content}
 

@@ -1,5 +1,5 @@
 -- What an index in memory and a question are as plain data, and what an answer in memory is.
-use Rattle.std.specs.Prelude.{◌≡◌, ℕ}
+use Rattle.std.specs.Prelude.{◌≡◌}
 use Rattle.jass_base.specs.declared.impact_index.ImpactIndex.{ImpactIndex}
 use Rattle.ranking_model.specs.Scores.{top_k}
 use Rattle.impact_segments.specs.Flat.{flat_of}

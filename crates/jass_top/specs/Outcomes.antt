@@ -1,5 +1,5 @@
 -- What a run leaves, by its command and status.
-use Rattle.std.specs.Prelude.{◌≡◌, ◌≢◌, ◌≤◌, ℕ, List, [], ◌∷◌, length, take, Option, Some, None, Result, Ok, Err, ◌⊎◌, ⊤, IsOk}
+use Rattle.std.specs.Prelude.{◌≡◌, ◌≢◌, ◌≤◌, ℕ, List, [], ◌∷◌, length, take, Option, Some, None, Result, Err, ◌⊎◌, ⊤, IsOk}
 use Rattle.std.specs.FinMap.{insert}
 use Rattle.std.specs.Io.KnownBytes.{Appends}
 use Rattle.jass_base.specs.declared.collection.Collection.{Collection}
@@ -7,7 +7,7 @@ use Rattle.jass_base.specs.declared.answer.Report.{Report}
 use Rattle.jass_base.specs.Ciff.{CollectionData, IsCiff}
 use Rattle.jass_base.specs.CiffText.{canonical_ciff}
 use Rattle.jass_base.specs.CiffViews.{collection_data}
-use Rattle.jass_base.specs.Outside.{Files, Rose, Sets, IsMissing, OnContent, ForContent, content_or_empty}
+use Rattle.jass_base.specs.Outside.{Files, Rose, Sets, IsMissing, OnContent, content_or_empty}
 use Rattle.jass_base.specs.Writing.{AppendsPrefix}
 use Rattle.ciff_read.specs.declared.refusal.CiffRefusal.{CiffRefusal}
 use Rattle.ciff_read.specs.Reading.{read_ciff}

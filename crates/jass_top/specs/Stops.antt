@@ -12,6 +12,16 @@ status_of (Refused number at) = status.Refused
 status_of ReadFault = status.ReadFault
 status_of WriteFault = status.WriteFault
 
+-- the program's exit status
+abbrev pub exit_number : Status → ℕ
+exit_number status.Done = 0
+exit_number status.NoMemory = 1
+exit_number status.Words = 2
+exit_number status.Refused = 3
+exit_number status.ReadFault = 4
+exit_number status.WriteFault = 5
+exit_number status.InputLimit = 6
+
 -- the lines that are noted
 abbrev pub memory_text : List ℕ
 memory_text = codes "no memory\n"

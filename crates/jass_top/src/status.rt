@@ -1,3 +1,6 @@
+ghost use Rattle.std.specs.Prelude.{◌≡◌};
+ghost use Rattle.jass_top.specs.Stops.{exit_number};
+
 /// How a run ended. The number is the program's exit status.
 #[derive(Clone, Copy, Debug, PartialEq, Eq)]
 pub enum Status {
@@ -19,7 +22,9 @@ pub enum Status {
 
 impl Status {
     /// The exit status.
-    pub fn number(self) -> u8 {
+    pub fn number(self) -> u8
+        ensures { result ≡ exit_number self }
+    {
         match self {
             Status::Done => 0,
             Status::NoMemory => 1,

@@ -1,4 +1,4 @@
-use Rattle.std.proofs.Common.{◌≡◌, List, ℕ, sym, subst}
+use Rattle.std.proofs.Common.{sym, subst}
 use Rattle.jass_words.specs.declared.command.Command.{Command}
 use Rattle.jass_words.specs.Commands.{command_data}
 use Rattle.jass_words.specs.Words.{texts}

@@ -1,4 +1,4 @@
-use Rattle.std.proofs.Common.{◌≡◌, ℕ, List, ◌++◌, codes, ap, sym, subst, ◌∙◌}
+use Rattle.std.proofs.Common.{ℕ, List, ◌++◌, codes, ap, sym, subst, ◌∙◌}
 use Rattle.jass_base.specs.Outside.{Wrote}
 use Rattle.jass_top.specs.Notes.{note_text}
 use Rattle.jass_top.proofs.note.put_note.Goals as goal

@@ -1,11 +1,9 @@
 use Rattle.std.proofs.Common.{◌≡◌, ℕ, List, [], ◌∷◌, length, refl, sym, ap, subst, ◌∙◌}
 use Rattle.std.specs.Ordering.{nat_cmp}
-use Rattle.ranking_model.specs.declared.entry.Entry.{Entry}
 use Rattle.ranking_model.specs.declared.plan.QueryPlan.{QueryPlan}
-use Rattle.ranking_model.specs.Flat.{IsFlat, numbered}
+use Rattle.ranking_model.specs.Flat.{IsFlat}
 use Rattle.ranking_model.specs.Plan.{plan_of, prefix_within, granted_sum}
 use Rattle.ranking_model.specs.Scores.{standing_of}
-use Rattle.impact_segments.specs.Flat.{flat_of}
 use Rattle.jass_top.specs.Answers.{query_plan, query_prefix}
 use Rattle.jass_top.specs.OnceViews.{view_of, query_of}
 use Rattle.jass_top.proofs.Answering.{answered}

@@ -1,10 +1,8 @@
-use Rattle.std.proofs.Common.{◌≡◌, ℕ, List, ◌++◌, Ok, Err, sym, ap, subst, ◌∙◌}
+use Rattle.std.proofs.Common.{ℕ, List, Err, subst}
 use Rattle.std.specs.Prelude.{codes}
 use Rattle.jass_base.specs.declared.faults.WriteFault.{WriteFault}
 use Rattle.jass_base.specs.Outside.{Wrote}
 use Rattle.ranking_model.specs.Report.{report_line, run_lines}
-use Rattle.jass_top.specs.Answers.{once_text}
-use Rattle.jass_top.specs.OnceViews.{view_of, query_of}
 use Rattle.jass_top.proofs.Wholes.{cut, both}
 use Rattle.jass_top.proofs.Printing.{text_is}
 use Rattle.jass_top.proofs.once.put.Goals as goal

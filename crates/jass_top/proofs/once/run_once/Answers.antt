@@ -1,4 +1,4 @@
-use Rattle.std.proofs.Common.{◌≡◌, ℕ, ◌≤◌, List, take, length, sym, ap, subst, ◌∙◌}
+use Rattle.std.proofs.Common.{ℕ, ◌≤◌, length, sym, ap, subst, ◌∙◌}
 use Rattle.std.specs.Io.KnownBytes.{Appends}
 use Rattle.weights.specs.declared.weighting.Rule.TheVariants.{Tf}
 use Rattle.weights.specs.declared.quantizing.Bits.TheVariants.{Raw}

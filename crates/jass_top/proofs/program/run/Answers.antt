@@ -1,4 +1,4 @@
-use Rattle.std.proofs.Common.{◌≡◌, ◌≢◌, ℕ, List, Option, Some, None, Ok, Err, ◌⊎◌, refl, sym, ap, subst, ◌∙◌}
+use Rattle.std.proofs.Common.{◌≡◌, ◌≢◌, ℕ, List, Err, ◌⊎◌, refl, sym, ap, subst, ◌∙◌}
 use Rattle.jass_base.specs.Outside.{OnContent, ForContent, Rose}
 use Rattle.jass_base.specs.Ciff.{CollectionData, IsCiff}
 use Rattle.ciff_read.specs.declared.refusal.CiffRefusal.{CiffRefusal}
@@ -7,7 +7,7 @@ use Rattle.jass_words.specs.Words.{CommandData, texts}
 use Rattle.jass_words.specs.Commands.{command_data}
 use Rattle.jass_top.specs.declared.status.Status.TheVariants as status
 use Rattle.jass_top.specs.Answers.{PartsWeights, IsHeaviestReport, FinalStands, SetStands}
-use Rattle.jass_top.specs.Outcomes.{world, Prints, IsRefused, Noted, WriteFailed, input_of, output_of}
+use Rattle.jass_top.specs.Outcomes.{world, Prints, IsRefused, Noted, WriteFailed, input_of}
 use Rattle.jass_top.specs.Stops.{refusal_text, stop_text}
 use Rattle.jass_top.proofs.Inputs.{on_content}
 use Rattle.jass_top.proofs.Running.{does_prints, does_accepts, done_refuses, stopped_refuses, stopped_complete, refused_stop}

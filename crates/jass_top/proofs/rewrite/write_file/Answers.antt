@@ -1,4 +1,4 @@
-use Rattle.std.proofs.Common.{◌≡◌, List, ℕ, ◌++◌, length, ◌<◌, sym, ap, subst}
+use Rattle.std.proofs.Common.{List, ℕ, sym, subst}
 use Rattle.jass_base.specs.CiffText.{canonical_ciff}
 use Rattle.jass_base.specs.CiffViews.{collection_data}
 use Rattle.jass_base.specs.Outside.{Sets, Rose}

@@ -1,5 +1,5 @@
-use Rattle.std.proofs.Common.{◌≡◌, ◌<◌, ◌≤◌, ℕ, List, ◌++◌, length, take, Option, subst, sym, ap, ◌∙◌, arith}
-use Rattle.jass_base.specs.Outside.{Files, OnContent, ForContent, AreBytesAt}
+use Rattle.std.proofs.Common.{◌≡◌, ◌≤◌, length, take, Option, subst, ◌∙◌, arith}
+use Rattle.jass_base.specs.Outside.{Files, OnContent, AreBytesAt}
 use Rattle.jass_top.specs.Fronts.{IsFrontOf}
 use Rattle.jass_top.proofs.Fronts.{there, kept, front_more, front_whole, front_cut}
 use Rattle.jass_top.proofs.whole_file.read_whole.Goals as goal
