@@ -1,17 +1,16 @@
 -- A name of a cabinet seen as a sink.
-use Rattle.std.proofs.Common.{◌≡◌, ℕ, List, [], ◌++◌, take, Option, Some, None, Result, Ok, Err, inl, inr, cond, Bool, true, false, unwrap_or, refl, sym, ap, ◌∙◌, append-nil}
+use Rattle.std.proofs.Common.{◌≡◌, ℕ, List, [], ◌++◌, take, Option, Some, None, Result, Ok, Err, inl, inr, cond, Bool, true, false, unwrap_or, refl, sym, ap, subst, ◌∙◌, append-nil}
 use Rattle.std.specs.Ordering.{nat_cmp, is_eq, eq_by_cmp}
 use Rattle.std.specs.Cmp.Lexicographic.{slice_cmp}
 use Rattle.std.specs.Io.KnownBytes.{Appends}
 use Rattle.std.specs.FinMap.{get, insert, get-insert}
 use Rattle.std.proofs.lemmas.Cmp.{nat_list_cmp_total, tied_itself}
-use Rattle.jass_base.specs.Outside.{Files, content_or_empty, content_told, others_told, Appended, Extends, Puts}
+use Rattle.jass_base.specs.Outside.{Files, content_or_empty, content_there, others_told, Appended, Extends, Puts}
 use Rattle.jass_base.proofs.FilesOf.{same_files}
 
--- the content of a name that was set
-content_set : (files : Files) (name content : List ℕ) → content_or_empty (insert files name content) name ≡ content
-content_set files name content =
-    ap (λ o. unwrap_or o []) (get-insert nat_list_cmp_total files name content name ∙ ap (λ b. cond b (Some content) (get files name)) (ap is_eq (tied_itself nat_list_cmp_total name)))
+-- a name that was set has its content
+get_set : (files : Files) (name content : List ℕ) → get (insert files name content) name ≡ Some content
+get_set files name content = get-insert nat_list_cmp_total files name content name ∙ ap (λ b. cond b (Some content) (get files name)) (ap is_eq (tied_itself nat_list_cmp_total name))
 
 -- a name that is set twice has its last content
 set_twice : (files : Files) (name first last : List ℕ) → insert (insert files name first) name last ≡ insert files name last
@@ -24,19 +23,25 @@ set_twice files name first last = same_files (insert (insert files name first) n
     again true q is = refl
     again false q is = get-insert nat_list_cmp_total files name first q ∙ ap (λ b. cond b (Some first) (get files q)) is
 
--- what is appended to the name is put into the sink
-extended : (old new : Option Files) (name bytes : List ℕ) → Extends old new name bytes → Appends (content_told old name) (content_told new name) bytes
+-- what is appended to a name that is there is put into the sink; of a missing one nothing is said
+extended_at : (o : Option (List ℕ)) (old new : Files) (name bytes : List ℕ) → get old name ≡ o → new ≡ insert old name (content_or_empty old name ++ bytes) → Appends o (get new name) bytes
+extended_at None old new name bytes there is = tt
+extended_at (Some xs) old new name bytes there is =
+    let got : Some (xs ++ bytes) ≡ get new name = sym (ap (λ (m : Files). get m name) is ∙ get_set old name (content_or_empty old name ++ bytes) ∙ ap (λ o. Some (unwrap_or o [] ++ bytes)) there) in
+    subst (λ o. Appends (Some xs) o bytes) got refl
+
+extended : (old new : Option Files) (name bytes : List ℕ) → Extends old new name bytes → Appends (content_there old name) (content_there new name) bytes
 extended None new name bytes is = tt
 extended (Some old) None name bytes is = absurd is
-extended (Some old) (Some new) name bytes is = ap (λ files. content_or_empty files name) is ∙ content_set old name (content_or_empty old name ++ bytes)
+extended (Some old) (Some new) name bytes is = extended_at (get old name) old new name bytes refl is
 
-unchanged : (old : Option Files) (name : List ℕ) → Appends (content_told old name) (content_told old name) []
-unchanged None name = tt
-unchanged (Some old) name = sym (append-nil (content_or_empty old name))
+unchanged : (o : Option (List ℕ)) → Appends o o []
+unchanged None = tt
+unchanged (Some xs) = sym (append-nil xs)
 
-pub puts : {T E : Type 0} (old new : Option Files) (name bytes : List ℕ) (result : Result T E) → Appended old new name bytes result → Puts (content_told old name) (content_told new name) bytes result
+pub puts : {T E : Type 0} (old new : Option Files) (name bytes : List ℕ) (result : Result T E) → Appended old new name bytes result → Puts (content_there old name) (content_there new name) bytes result
 puts old new name bytes (Ok x) is = extended old new name bytes is
-puts old new name bytes (Err e) (inl same) = (0, rw same (unchanged old name))
+puts old new name bytes (Err e) (inl same) = (0, rw same (unchanged (content_there old name)))
 puts old new name bytes (Err e) (inr (n, is)) = (n, extended old new name (take n bytes) is)
 
 -- and the other names stay

@@ -88,9 +88,10 @@ pub record Wrote {S T E : Type 0} (written : S → Option (List ℕ)) (faults : 
   pub cause : HasCause (faults old) (faults new) result
   pub rest_stays : rest new ≡ rest old
 
--- the content of one name, where the contents are told
-abbrev pub content_told : Option Files → List ℕ → Option (List ℕ)
-content_told files name = option_map (λ (told : Files). content_or_empty told name) files
+-- the content of one name, where the contents are told and the name is among them
+abbrev pub content_there : Option Files → List ℕ → Option (List ℕ)
+content_there None name = None
+content_there (Some files) name = get files name
 
 -- the other names, beside this one with nothing in it, where the contents are told
 abbrev pub others_told : Option Files → List ℕ → Option Files
