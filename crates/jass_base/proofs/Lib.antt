@@ -4,4 +4,5 @@ pub mod GapGroups
 pub mod GapLists
 pub mod GapSpelling
 pub mod Gaps
+pub mod ShortVarints
 pub mod Sinks

@@ -6,9 +6,13 @@ use Rattle.jass_base.specs.declared.segment.Segment.{Segment}
 use Rattle.jass_base.specs.declared.term_segments.TermSegments.{TermSegments}
 use Rattle.jass_base.specs.Segments.{HasDocumentsBelow}
 
+-- the bytes are below those of a later term
+abbrev pub BytesRise : List ℕ → List ℕ → Type 0
+BytesRise bytes later = IsTrue (is_lt (slice_cmp nat_cmp bytes later))
+
 -- the bytes of the term are below those of a later one
 abbrev pub RisesTo : TermSegments → TermSegments → Type 0
-RisesTo term later = IsTrue (is_lt (slice_cmp nat_cmp term.term later.term))
+RisesTo term later = BytesRise term.term later.term
 
 -- each document of the term is below d
 abbrev pub HasTermBelow : ℕ → TermSegments → Type 0

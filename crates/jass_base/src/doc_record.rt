@@ -1,5 +1,5 @@
 ghost use Rattle.std.specs.Prelude.{ℕ, ◌<◌, ◌^◌};
-ghost use Rattle.jass_base.specs.Limits.{IsName};
+ghost use Rattle.jass_base.specs.Limits.{IsName, IsText};
 
 use crate::text::Text;
 
@@ -10,5 +10,6 @@ pub struct DocRecord {
     pub name: Text,
     pub length: u32,
     pub ghost name_fits: { IsName name },
+    pub ghost name_is_text: { IsText name },
     pub ghost length_in_range: { length < 2 ^ 31 },
 }

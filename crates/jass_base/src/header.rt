@@ -1,4 +1,5 @@
 ghost use Rattle.std.specs.Prelude.{ℕ, ◌<◌, ◌^◌};
+ghost use Rattle.jass_base.specs.Limits.{IsText};
 
 use crate::text::Text;
 
@@ -19,4 +20,5 @@ pub struct Header {
     pub ghost lists_in_range: { total_lists < 2 ^ 31 },
     pub ghost docs_in_range: { total_docs < 2 ^ 31 },
     pub ghost terms_in_range: { total_terms < 2 ^ 63 },
+    pub ghost description_is_text: { IsText description },
 }

@@ -1,5 +1,5 @@
 ghost use Rattle.std.specs.Prelude.{ℕ, ◌≡◌, ◌<◌, ◌≤◌, ◌^◌, length, All, AllPairs};
-ghost use Rattle.jass_base.specs.Limits.{IsName};
+ghost use Rattle.jass_base.specs.Limits.{IsName, IsText};
 ghost use Rattle.jass_base.specs.Terms.{RisesTo, HasTermBelow, greatest_impact};
 
 use crate::row::Row;
@@ -18,6 +18,7 @@ pub struct ImpactIndex {
     pub greatest: u16,
     pub ghost few_names: { length names ≤ 2 ^ 26 },
     pub ghost names_fit: { All IsName names },
+    pub ghost names_are_text: { All IsText names },
     pub ghost few_terms: { length terms ≤ 2 ^ 24 },
     pub ghost rising: { AllPairs RisesTo terms },
     pub ghost docs_below: { All (HasTermBelow (length names)) terms },

@@ -1,10 +1,16 @@
-//! Laws of the definitions that the contracts of the codecs cite: gaps, their documents and
-//! their bytes. Each function does nothing: its contract is the law.
+//! Laws of the definitions that the contracts of the formats cite: varints, gaps, their documents
+//! and their bytes. Each function does nothing: its contract is the law.
 
 ghost use Rattle.std.specs.Prelude.{ℕ, ◌≡◌, ◌↔◌, ◌<◌, ◌≤◌, ◌+◌, ◌^◌, List, [], ◌∷◌, ◌++◌, length, take, sum, All, Ok};
 ghost use Rattle.std.specs.List.Sorted.{IsStrictlyIncreasing};
 ghost use Rattle.jass_base.specs.Gaps.{GapSpelling, gaps_from, docs_from, spelled_gaps, gap_in, read_gaps};
-ghost use Rattle.jass_base.specs.Wire.{short_varint};
+ghost use Rattle.jass_base.specs.Wire.{IsShortVarint, short_varint};
+
+/// `short_varint` is the one shortest varint of a number of 64 bits.
+pub fn shortest_varints_are_one()
+    ensures is { (n : ℕ) → n < 2 ^ 64 → IsShortVarint (short_varint n) n }
+    ensures one { (s : List ℕ) (n : ℕ) → All (λ byte. byte < 256) s → IsShortVarint s n → s ≡ short_varint n }
+{}
 
 /// Rising documents and their gaps are each other's inverse, from any least document on.
 pub fn gaps_and_docs_are_inverse()

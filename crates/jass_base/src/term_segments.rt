@@ -1,4 +1,5 @@
 ghost use Rattle.std.specs.Prelude.{ℕ, ◌<◌, ◌≤◌, length, AllPairs};
+ghost use Rattle.jass_base.specs.Limits.{IsText};
 ghost use Rattle.jass_base.specs.Segments.{FallsTo, SharesNoDocument};
 
 use crate::row::Row;
@@ -13,6 +14,7 @@ pub struct TermSegments {
     /// At least one segment.
     pub segments: Row<Segment>,
     pub ghost term_fits: { length term ≤ 65535 },
+    pub ghost term_is_text: { IsText term },
     pub ghost some: { 1 ≤ length segments },
     pub ghost falling: { AllPairs FallsTo segments },
     pub ghost once: { AllPairs SharesNoDocument segments },

@@ -1,4 +1,5 @@
 ghost use Rattle.std.specs.Prelude.{◌≡◌, IfOk};
+ghost use Rattle.jass_base.specs.Limits.{IsText};
 
 use crate::faults::NoMemory;
 use std::alloc::Global;
@@ -22,7 +23,8 @@ impl Model for Text {
 impl Text {
     /// A copy of a text.
     pub fn from_str(alloc: Global, s: &str) -> Result<Text, NoMemory>
-        ensures { IfOk result (λ text. text ≡ s.now) }
+        ensures bytes { IfOk result (λ text. text ≡ s.now) }
+        ensures utf8 { IfOk result IsText }
     {
         match String::from_str(alloc, s) {
             Ok(inner) => Ok(Text { inner }),
@@ -31,7 +33,8 @@ impl Text {
     }
 
     pub fn as_str(&self) -> &str
-        ensures { result.now ≡ self.now }
+        ensures bytes { result.now ≡ self.now }
+        ensures utf8 { IsText result.now }
     {
         self.inner.as_str()
     }
