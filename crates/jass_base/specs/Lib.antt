@@ -7,7 +7,9 @@ pub mod Gaps
 pub mod Limits
 pub mod Lists
 pub mod Outside
+pub mod PayloadFaults
 pub mod Postings
+pub mod Scripts
 pub mod Segments
 pub mod Terms
 pub mod Wire

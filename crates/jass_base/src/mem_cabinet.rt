@@ -1,15 +1,19 @@
-ghost use Rattle.std.specs.Prelude.{ℕ, ◌≡◌, ◌≤◌, ◌++◌, Some, None, IsSome, OnOk, OnErr, MatchOption};
+ghost use Rattle.std.specs.Prelude.{ℕ, ◌≡◌, ◌≤◌, ◌⊎◌, ◌↔◌, ◌++◌, Some, None, IsSome, IsErr, IsTrue, OnOk, OnErr, MatchOption};
+ghost use Rattle.std.specs.Io.{ReadsAtMost};
 ghost use Rattle.std.specs.BTreeMap.{get_by_text};
 ghost use Rattle.std.specs.FinMap.{empty, get, insert};
 ghost use Rattle.jass_base.specs.FilesOf.{files_of};
 ghost use Rattle.std.specs.Bool.{OnTrue};
 ghost use Rattle.std.specs.Option.{option_map};
 ghost use Rattle.jass_base.specs.Outside.{Rose, Sets, IsMissing, OnContent, content_or_empty};
+ghost use Rattle.jass_base.specs.Outside.{GivesBytes, ReadCause, HasCause, Creates, Appended};
+ghost use Rattle.jass_base.specs.Scripts.{uncalled, called, FailsNext};
 
 use crate::cabinet::Cabinet;
 use crate::copy_at::copy_at;
 use crate::faults::{Failed, NoMemory};
 use crate::row::Row;
+use crate::scripted::Scripted;
 use std::alloc::Global;
 use std::collections::BTreeMap;
 
@@ -34,6 +38,8 @@ impl MemCabinet {
         ensures told { ⟦<MemCabinet as Cabinet>⟧.told result ≡ Some empty }
         ensures read_faults { ⟦<MemCabinet as Cabinet>⟧.read_faults result ≡ 0 }
         ensures write_faults { ⟦<MemCabinet as Cabinet>⟧.write_faults result ≡ 0 }
+        ensures reads { ⟦<MemCabinet as Scripted>⟧.reads result ≡ uncalled bad_reads }
+        ensures writes { ⟦<MemCabinet as Scripted>⟧.writes result ≡ uncalled bad_writes }
     {
         MemCabinet {
             alloc,
@@ -53,6 +59,8 @@ impl MemCabinet {
         ensures err { OnErr result (⟦<MemCabinet as Cabinet>⟧.told self.new ≡ ⟦<MemCabinet as Cabinet>⟧.told self.old) }
         ensures read_faults { ⟦<MemCabinet as Cabinet>⟧.read_faults self.new ≡ ⟦<MemCabinet as Cabinet>⟧.read_faults self.old }
         ensures write_faults { ⟦<MemCabinet as Cabinet>⟧.write_faults self.new ≡ ⟦<MemCabinet as Cabinet>⟧.write_faults self.old }
+        ensures script_of_reads { ⟦<MemCabinet as Scripted>⟧.reads self.new ≡ ⟦<MemCabinet as Scripted>⟧.reads self.old }
+        ensures script_of_writes { ⟦<MemCabinet as Scripted>⟧.writes self.new ≡ ⟦<MemCabinet as Scripted>⟧.writes self.old }
     {
         set(self.alloc, &mut self.files, name, bytes)
     }
@@ -70,6 +78,9 @@ impl MemCabinet {
         ensures reads { ⟦<MemCabinet as Cabinet>⟧.read_faults self.new ≡ ⟦<MemCabinet as Cabinet>⟧.read_faults self.old }
         ensures later { ⟦<MemCabinet as Cabinet>⟧.write_faults self.old ≤ ⟦<MemCabinet as Cabinet>⟧.write_faults self.new }
         ensures failed { OnTrue result (Rose (⟦<MemCabinet as Cabinet>⟧.write_faults self.old) (⟦<MemCabinet as Cabinet>⟧.write_faults self.new)) }
+        ensures named { IsTrue result ↔ FailsNext (⟦<MemCabinet as Scripted>⟧.writes self.old) }
+        ensures next { ⟦<MemCabinet as Scripted>⟧.writes self.new ≡ called (⟦<MemCabinet as Scripted>⟧.writes self.old) }
+        ensures stays { ⟦<MemCabinet as Scripted>⟧.reads self.new ≡ ⟦<MemCabinet as Scripted>⟧.reads self.old }
     {
         let write = self.writes;
         self.writes = self.writes.saturating_add(1);
@@ -148,6 +159,12 @@ fn set(
     }
 }
 
+impl Scripted for MemCabinet {
+    ghost reads = { λ m. record { bad = m.bad_reads; calls = m.reads } };
+
+    ghost writes = { λ m. record { bad = m.bad_writes; calls = m.writes } };
+}
+
 impl Cabinet for MemCabinet {
     ghost told = { λ m. Some (files_of m.files) };
 
@@ -155,7 +172,20 @@ impl Cabinet for MemCabinet {
 
     ghost write_faults = { λ m. m.write_faults };
 
-    fn read_at(&mut self, name: &str, at: u64, buf: &mut [u8]) -> Result<usize, Failed> {
+    fn read_at(&mut self, name: &str, at: u64, buf: &mut [u8]) -> Result<usize, Failed>
+        ensures bound { ReadsAtMost result buf.new }
+        ensures bytes { GivesBytes (⟦<MemCabinet as Cabinet>⟧.told self.old) name.now at result buf.new }
+        ensures stays { ⟦<MemCabinet as Cabinet>⟧.told self.new ≡ ⟦<MemCabinet as Cabinet>⟧.told self.old }
+        ensures cause { ReadCause (⟦<MemCabinet as Cabinet>⟧.told self.old) name.now
+            (⟦<MemCabinet as Cabinet>⟧.read_faults self.old) (⟦<MemCabinet as Cabinet>⟧.read_faults self.new) result }
+        ensures missing { IsMissing (⟦<MemCabinet as Cabinet>⟧.told self.old) name.now →
+            ⟦<MemCabinet as Cabinet>⟧.read_faults self.new ≡ ⟦<MemCabinet as Cabinet>⟧.read_faults self.old }
+        ensures others { ⟦<MemCabinet as Cabinet>⟧.write_faults self.old ≤ ⟦<MemCabinet as Cabinet>⟧.write_faults self.new }
+        ensures named { IsErr result ↔
+            (IsMissing (⟦<MemCabinet as Cabinet>⟧.told self.old) name.now ⊎ FailsNext (⟦<MemCabinet as Scripted>⟧.reads self.old)) }
+        ensures next { ⟦<MemCabinet as Scripted>⟧.reads self.new ≡ called (⟦<MemCabinet as Scripted>⟧.reads self.old) }
+        ensures script_stays { ⟦<MemCabinet as Scripted>⟧.writes self.new ≡ ⟦<MemCabinet as Scripted>⟧.writes self.old }
+    {
         let read = self.reads;
         self.reads = self.reads.saturating_add(1);
         let Some(content) = content_of(&self.files, name) else {
@@ -168,7 +198,14 @@ impl Cabinet for MemCabinet {
         Ok(copy_at(content, at as usize, buf))
     }
 
-    fn create(&mut self, name: &str) -> Result<(), Failed> {
+    fn create(&mut self, name: &str) -> Result<(), Failed>
+        ensures content { Creates (⟦<MemCabinet as Cabinet>⟧.told self.old) (⟦<MemCabinet as Cabinet>⟧.told self.new) name.now result }
+        ensures cause { HasCause (⟦<MemCabinet as Cabinet>⟧.write_faults self.old) (⟦<MemCabinet as Cabinet>⟧.write_faults self.new) result }
+        ensures others { ⟦<MemCabinet as Cabinet>⟧.read_faults self.old ≤ ⟦<MemCabinet as Cabinet>⟧.read_faults self.new }
+        ensures named { FailsNext (⟦<MemCabinet as Scripted>⟧.writes self.old) → IsErr result }
+        ensures next { ⟦<MemCabinet as Scripted>⟧.writes self.new ≡ called (⟦<MemCabinet as Scripted>⟧.writes self.old) }
+        ensures script_stays { ⟦<MemCabinet as Scripted>⟧.reads self.new ≡ ⟦<MemCabinet as Scripted>⟧.reads self.old }
+    {
         if self.fails_to_write() {
             return Err(Failed);
         }
@@ -181,7 +218,14 @@ impl Cabinet for MemCabinet {
         }
     }
 
-    fn append(&mut self, name: &str, bytes: &[u8]) -> Result<(), Failed> {
+    fn append(&mut self, name: &str, bytes: &[u8]) -> Result<(), Failed>
+        ensures content { Appended (⟦<MemCabinet as Cabinet>⟧.told self.old) (⟦<MemCabinet as Cabinet>⟧.told self.new) name.now bytes.now result }
+        ensures cause { HasCause (⟦<MemCabinet as Cabinet>⟧.write_faults self.old) (⟦<MemCabinet as Cabinet>⟧.write_faults self.new) result }
+        ensures others { ⟦<MemCabinet as Cabinet>⟧.read_faults self.old ≤ ⟦<MemCabinet as Cabinet>⟧.read_faults self.new }
+        ensures named { FailsNext (⟦<MemCabinet as Scripted>⟧.writes self.old) → IsErr result }
+        ensures next { ⟦<MemCabinet as Scripted>⟧.writes self.new ≡ called (⟦<MemCabinet as Scripted>⟧.writes self.old) }
+        ensures script_stays { ⟦<MemCabinet as Scripted>⟧.reads self.new ≡ ⟦<MemCabinet as Scripted>⟧.reads self.old }
+    {
         if self.fails_to_write() {
             return Err(Failed);
         }

@@ -1,9 +1,14 @@
-ghost use Rattle.std.specs.Prelude.{ℕ, ◌≡◌, Some, drop};
+ghost use Rattle.std.specs.Prelude.{ℕ, ◌≡◌, ◌↔◌, Some, drop, IsErr};
+ghost use Rattle.std.specs.Io.{ReadsAtMost};
+ghost use Rattle.std.specs.Io.KnownBytes.{ReadConsumes};
+ghost use Rattle.jass_base.specs.Outside.{HasCause};
+ghost use Rattle.jass_base.specs.Scripts.{uncalled, called, FailsNext};
 
 use crate::copy_at::copy_at;
 use crate::faults::Failed;
 use crate::feed::Feed;
 use crate::row::Row;
+use crate::scripted::Scripted;
 
 /// A feed over bytes in memory, some of whose reads fail.
 #[derive(Debug, Drop)]
@@ -20,6 +25,7 @@ impl MemFeed {
     pub fn new(bytes: Row<u8>, bad: Row<u64>) -> MemFeed
         ensures left { ⟦<MemFeed as Feed>⟧.left result ≡ Some bytes }
         ensures faults { ⟦<MemFeed as Feed>⟧.faults result ≡ 0 }
+        ensures script { ⟦<MemFeed as Scripted>⟧.reads result ≡ uncalled bad }
     {
         MemFeed {
             bytes,
@@ -31,12 +37,22 @@ impl MemFeed {
     }
 }
 
+impl Scripted for MemFeed {
+    ghost reads = { λ f. record { bad = f.bad; calls = f.reads } };
+}
+
 impl Feed for MemFeed {
     ghost left = { λ f. Some (drop f.at f.bytes) };
 
     ghost faults = { λ f. f.faults };
 
-    fn read(&mut self, buf: &mut [u8]) -> Result<usize, Failed> {
+    fn read(&mut self, buf: &mut [u8]) -> Result<usize, Failed>
+        ensures bound { ReadsAtMost result buf.new }
+        ensures bytes { ReadConsumes (⟦<MemFeed as Feed>⟧.left self.old) (⟦<MemFeed as Feed>⟧.left self.new) result buf.new }
+        ensures cause { HasCause (⟦<MemFeed as Feed>⟧.faults self.old) (⟦<MemFeed as Feed>⟧.faults self.new) result }
+        ensures named { IsErr result ↔ FailsNext (⟦<MemFeed as Scripted>⟧.reads self.old) }
+        ensures next { ⟦<MemFeed as Scripted>⟧.reads self.new ≡ called (⟦<MemFeed as Scripted>⟧.reads self.old) }
+    {
         let read = self.reads;
         self.reads = self.reads.saturating_add(1);
         if self.bad.as_slice().contains(&read) {

@@ -1,7 +1,10 @@
-ghost use Rattle.std.specs.Prelude.{ℕ, ◌≡◌, [], Some};
+ghost use Rattle.std.specs.Prelude.{ℕ, ◌≡◌, [], Some, IsErr};
+ghost use Rattle.jass_base.specs.Outside.{HasCause, Puts};
+ghost use Rattle.jass_base.specs.Scripts.{uncalled, called, FailsNext};
 
 use crate::faults::Failed;
 use crate::row::Row;
+use crate::scripted::Scripted;
 use crate::sink::Sink;
 use std::alloc::Global;
 
@@ -20,6 +23,7 @@ impl MemSink {
     pub fn new(alloc: Global, bad: Row<u64>) -> MemSink
         ensures written { ⟦<MemSink as Sink>⟧.written result ≡ Some [] }
         ensures faults { ⟦<MemSink as Sink>⟧.faults result ≡ 0 }
+        ensures script { ⟦<MemSink as Scripted>⟧.writes result ≡ uncalled bad }
     {
         MemSink {
             bytes: Row::new(alloc),
@@ -36,12 +40,22 @@ impl MemSink {
     }
 }
 
+impl Scripted for MemSink {
+    ghost writes = { λ s. record { bad = s.bad; calls = s.puts } };
+}
+
 impl Sink for MemSink {
     ghost written = { λ s. Some s.bytes };
 
     ghost faults = { λ s. s.faults };
 
-    fn put(&mut self, bytes: &[u8]) -> Result<(), Failed> {
+    fn put(&mut self, bytes: &[u8]) -> Result<(), Failed>
+        ensures bytes { Puts (⟦<MemSink as Sink>⟧.written self.old) (⟦<MemSink as Sink>⟧.written self.new) bytes.now result }
+        ensures cause { HasCause (⟦<MemSink as Sink>⟧.faults self.old) (⟦<MemSink as Sink>⟧.faults self.new) result }
+        ensures stays { ⟦<MemSink as Sink>⟧.rest self.new ≡ ⟦<MemSink as Sink>⟧.rest self.old }
+        ensures named { FailsNext (⟦<MemSink as Scripted>⟧.writes self.old) → IsErr result }
+        ensures next { ⟦<MemSink as Scripted>⟧.writes self.new ≡ called (⟦<MemSink as Scripted>⟧.writes self.old) }
+    {
         let put = self.puts;
         self.puts = self.puts.saturating_add(1);
         if self.bad.as_slice().contains(&put) {

@@ -1,6 +1,10 @@
-// Each call that takes memory, once where there is enough, and the gaps of a table.
+// Each call that takes memory, once where there is enough, a feed one of whose reads fails, and the
+// gaps of a table.
 
-use crate::{Cabinet, MemCabinet, NoMemory, PayloadFault, Row, Text, known_gap, put_gap, read_gap};
+use crate::{
+    Cabinet, Feed, MemCabinet, MemFeed, NoMemory, PayloadFault, Row, Text, known_gap, put_gap,
+    read_gap,
+};
 use std::alloc::Global;
 
 #[test]
@@ -19,6 +23,26 @@ fn filled(alloc: Global) -> Result<(), NoMemory> {
     }
     let mut files = MemCabinet::new(alloc, Row::new(alloc), Row::new(alloc));
     files.store(text.as_str(), row.as_slice())
+}
+
+#[test]
+fn a_feed_fails_where_it_is_told(rt: HostRuntime) {
+    let alloc = rt.alloc();
+    let mut bytes = Row::new(alloc);
+    let mut bad = Row::new(alloc);
+    assert!(&rt; bytes.extend(b"abcdef").is_ok() && bad.extend(&[1]).is_ok());
+    let mut feed = MemFeed::new(bytes, bad);
+    let mut buf = [0u8; 4];
+    let table: [(Option<usize>, &[u8]); 4] = [
+        (Some(4), b"abcd"),
+        (None, b""),
+        (Some(2), b"ef"),
+        (Some(0), b""),
+    ];
+    for (count, front) in table {
+        let read = feed.read(&mut buf);
+        assert!(&rt; read.ok() == count && buf.starts_with(front));
+    }
 }
 
 #[test]
