@@ -31,5 +31,5 @@ returns-in-Ok-put-clause-exact c =
       doc_judged c.args.bytes.now c.args.body c.args.at c.args.docs (table_of c.args.documents.now) (numbered_in x) c.in-Ok.ensures ∙ ap (placed c.args.at) judged.exact,
       ap (λ (t : List (Option DocRecord)). map (option_map doc_data) t) c.in-Ok-put.ensures ∙ map-with doc_data old c.in-Ok-judge_document.judged.0 _
           ∙ ap (λ n. with_value (table_of c.args.documents.now) n (record { name = c.in-Ok-from_str.name; length = x.length })) judged.judged.0
-          ∙ ap (λ (n : List ℕ). with_value (table_of c.args.documents.now) x.docid (record { name = n; length = x.length })) (c.in-Ok-from_str.ensures ∙ judged.judged.1),
+          ∙ ap (λ (n : List ℕ). with_value (table_of c.args.documents.now) x.docid (record { name = n; length = x.length })) (c.in-Ok-from_str.ensures.bytes ∙ judged.judged.1),
     )

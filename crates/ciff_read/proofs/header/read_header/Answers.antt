@@ -31,4 +31,4 @@ returns c =
       };
       lists = h.lists;
       docs = h.docs;
-    })) (sym c.in-Ok-judge_header.ensures.text ∙ sym c.in-Ok-from_str.ensures)
+    })) (sym c.in-Ok-judge_header.ensures.text ∙ sym c.in-Ok-from_str.ensures.bytes)

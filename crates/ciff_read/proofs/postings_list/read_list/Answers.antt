@@ -33,4 +33,4 @@ returns-clause-exact c =
     let gathered = gathers_all c.args.docs c.args.before c.new-gathered.result.docs c.new-gathered.result.before (gathered_of c.new-gathered.result) (gathered_of g) r.entries n.empty n.docs n.before r.gathered in
     list_there c.args.bytes.now c.args.body c.args.at c.args.docs c.args.before (map (λ t. t.now) c.args.terms.now.keys) (record { start = list_start_in x; entries = r.entries }) r.read (list_start_in x) c.in-Ok-judge_list.ensures.exact
     g.postings (gathered ∙ ap (λ (o : Option CiffRefusal). gathered_in o g.postings) c.in_default.is)
-    ∙ ap (λ (t : List ℕ). Ok (record { term = t; df = x.df; cf = x.cf; postings = g.postings })) (sym c.in-Ok-judge_list.ensures.text.0 ∙ sym c.in-Ok-from_str.ensures)
+    ∙ ap (λ (t : List ℕ). Ok (record { term = t; df = x.df; cf = x.cf; postings = g.postings })) (sym c.in-Ok-judge_list.ensures.text.0 ∙ sym c.in-Ok-from_str.ensures.bytes)
