@@ -1,7 +1,7 @@
 -- A Collection keeps the limits of the format where its file does.
 use Rattle.std.proofs.Common.{◌≡◌, ◌≢◌, ℕ, ◌<◌, List, [], ◌∷◌, length, map, get_or, refl, sym, ap, subst, ◌∙◌, arith}
 use Rattle.std.specs.Prelude.{All, AllPairs}
-use Rattle.std.specs.Str.{IsUtf8}
+use Rattle.std.proofs.lemmas.Str.{IsUtf8-from_is_utf8}
 use Rattle.std.proofs.lemmas.List.{length-map, get_or-map}
 use Rattle.std.proofs.lemmas.List.Elements.{All-map}
 use Rattle.std.proofs.lemmas.Map.Made.{IsDistinct-from_AllPairs}
@@ -14,11 +14,11 @@ use Rattle.jass_base.specs.Ciff.{ListData, FitsList, FitsDoc}
 use Rattle.jass_base.specs.CiffViews.{list_data, doc_data, collection_data}
 use Rattle.ciff_write.specs.Keeping.{KeepsLimits, IsWithinFile}
 
-list_fits : (docs : ℕ) (l : PostingsList) → HasDocsBelow docs l → IsUtf8 l.term → FitsList docs (list_data l)
-list_fits docs l below text = record { text = text; short = l.term_fits; df = l.df_in_range; cf = l.cf_in_range; rising = l.rising; tf = l.tf_in_range; below = below }
+list_fits : (docs : ℕ) (l : PostingsList) → HasDocsBelow docs l → FitsList docs (list_data l)
+list_fits docs l below = record { text = IsUtf8-from_is_utf8 l.term l.term_is_text; short = l.term_fits; df = l.df_in_range; cf = l.cf_in_range; rising = l.rising; tf = l.tf_in_range; below = below }
 
-doc_fits : (d : DocRecord) → IsUtf8 d.name → FitsDoc (doc_data d)
-doc_fits d text = record { text = text; name = d.name_fits; length = d.length_in_range }
+doc_fits : (d : DocRecord) → FitsDoc (doc_data d)
+doc_fits d = record { text = IsUtf8-from_is_utf8 d.name d.name_is_text; name = d.name_fits; length = d.length_in_range }
 
 terms_of : (lists : List PostingsList) → map (λ (l : ListData). l.term) (map list_data lists) ≡ map (λ (l : PostingsList). l.term) lists
 terms_of [] = refl
@@ -41,14 +41,14 @@ keeps_limits c within =
         total_lists = c.header.lists_in_range;
         total_docs = c.header.docs_in_range;
         total_terms = c.header.terms_in_range;
-        description = within.description;
+        description = IsUtf8-from_is_utf8 c.header.description c.header.description_is_text;
         few_lists = omega (arith, lists, c.few_lists);
         few_docs = omega (arith, docs, c.few_docs);
       };
       average = within.average;
       lists = subst (λ (n : ℕ). All (FitsList n) (map list_data c.lists)) (sym docs)
-          (All-map (FitsList (length c.docs)) list_data c.lists (λ k d inside. list_fits (length c.docs) (get_or c.lists k d) (c.docs_below k d inside) (within.terms k d inside)));
-      docs = All-map FitsDoc doc_data c.docs (λ k d inside. doc_fits (get_or c.docs k d) (within.names k d inside));
+          (All-map (FitsList (length c.docs)) list_data c.lists (λ k d inside. list_fits (length c.docs) (get_or c.lists k d) (c.docs_below k d inside)));
+      docs = All-map FitsDoc doc_data c.docs (λ k d inside. doc_fits (get_or c.docs k d));
       terms_differ = IsDistinct-from_AllPairs bytes_eq-Decides (map (λ (l : ListData). l.term) (map list_data c.lists)) (subst (AllPairs (λ (s t : List ℕ). s ≢ t)) (sym (terms_of c.lists)) (terms_apart c.lists c.terms_differ));
       few_postings = within.few_postings;
       short = within.short;

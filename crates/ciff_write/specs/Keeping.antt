@@ -1,9 +1,7 @@
 -- What a collection keeps, so that its canonical file stands for it.
 use Rattle.std.specs.Prelude.{◌≡◌, ◌≤◌, ◌^◌, length, map, All}
 use Rattle.std.specs.List.{IsDistinct}
-use Rattle.std.specs.Str.{IsUtf8, bytes_eq}
-use Rattle.jass_base.specs.declared.postings_list.PostingsList.{PostingsList}
-use Rattle.jass_base.specs.declared.doc_record.DocRecord.{DocRecord}
+use Rattle.std.specs.Str.{bytes_eq}
 use Rattle.jass_base.specs.declared.collection.Collection.{Collection}
 use Rattle.jass_base.specs.Ciff.{CollectionData, ListData, FitsHeader, FitsList, FitsDoc, postings_count}
 use Rattle.jass_base.specs.CiffText.{canonical_ciff}
@@ -19,11 +17,8 @@ pub record KeepsLimits (c : CollectionData) : Type 0 where
   pub few_postings : postings_count c.lists ≤ 2 ^ 29
   pub short : length (canonical_ciff c) ≤ 2 ^ 32
 
--- what the fields of a Collection don't say of it: the texts are UTF-8 (as those of a Text are), there are eight bytes of the average (as in their array), and the limits of the whole file
+-- what the fields of a Collection don't say of it: there are eight bytes of the average (as in their array), and the limits of the whole file
 pub record IsWithinFile (c : Collection) : Type 0 where
-  pub description : IsUtf8 c.header.description
-  pub terms : All (λ (l : PostingsList). IsUtf8 l.term) c.lists
-  pub names : All (λ (d : DocRecord). IsUtf8 d.name) c.docs
   pub average : length c.header.average ≡ 8
   pub few_postings : postings_count (collection_data c).lists ≤ 2 ^ 29
   pub short : length (canonical_ciff (collection_data c)) ≤ 2 ^ 32

@@ -18,7 +18,7 @@ use Rattle.jass_base.specs.declared.posting.Posting.{Posting}
 use Rattle.jass_base.specs.declared.postings_list.PostingsList.{PostingsList}
 use Rattle.jass_base.specs.declared.term_segments.TermSegments.{TermSegments}
 use Rattle.jass_base.specs.Lists.{DifferInTerm}
-use Rattle.jass_base.specs.Limits.{IsName}
+use Rattle.jass_base.specs.Limits.{IsName, IsText}
 use Rattle.jass_base.specs.Terms.{RisesTo}
 use Rattle.weights.specs.declared.weighting.Rule.{Rule}
 use Rattle.weights.specs.declared.quantizing.Bits.{Bits}
@@ -251,6 +251,15 @@ all_names docs names is =
     each : (ds : List DocRecord) → AllByRecursion IsName (map (λ (d : DocRecord). d.name) ds)
     each [] = tt
     each (d ∷ ds) = (d.name_fits, each ds)
+
+pub all_text : (docs : List DocRecord) (names : List (List ℕ)) → names ≡ map (λ (d : DocRecord). d.name) docs → All IsText names
+all_text docs names is =
+    let P : List (List ℕ) → Type 0 = λ (l : List (List ℕ)). All IsText l in
+    subst P (sym is) (All-from_recursion IsText (map (λ (d : DocRecord). d.name) docs) (each docs))
+  where
+    each : (ds : List DocRecord) → AllByRecursion IsText (map (λ (d : DocRecord). d.name) ds)
+    each [] = tt
+    each (d ∷ ds) = (d.name_is_text, each ds)
 
 -- ---- the index
 

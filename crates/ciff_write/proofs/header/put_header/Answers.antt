@@ -23,5 +23,5 @@ returns g c =
     let average : List ℕ = eight_spelling 7 h.average in
     let pushed : c.push_average.new.buffer ≡ c.make_room.new.buffer ++ (numbers ++ average)
     = c.push_average.ensures ∙ ap (λ (s : List ℕ). s ++ average) c.push_numbers.ensures.bytes ∙ append_assoc c.make_room.new.buffer numbers average in
-    gather_same (header_spelled h c.args.lists c.args.docs c.header_len.result c.as_str.result.now c.header_len.ensures c.as_str.ensures)
+    gather_same (header_spelled h c.args.lists c.args.docs c.header_len.result c.as_str.result.now c.header_len.ensures c.as_str.ensures.bytes)
     (gather_then _ _ c.in_ok-put_size.ensures (gather_then _ _ {u = tt {0}} (gather_pushed (numbers ++ average) c.in_ok-make_room.ensures.text pushed) c.put_text.ensures))

@@ -11,7 +11,7 @@ use Rattle.weights.specs.Quantizing.{IsInRange}
 use Rattle.ranking_model.specs.Order.{sorted}
 use Rattle.impact_segments.specs.Collections.{list_weights}
 use Rattle.impact_segments.specs.Listed.{has_postings, term_cmp, lists_behind}
-use Rattle.impact_segments.proofs.OneIndex.{listed_all, listed_some, listed_shorter, terms_rise, built_flat, as_many, all_names}
+use Rattle.impact_segments.proofs.OneIndex.{listed_all, listed_some, listed_shorter, terms_rise, built_flat, as_many, all_names, all_text}
 use Rattle.impact_segments.proofs.building.build.Goals as goal
 
 -- the lists that the terms are made of
@@ -50,6 +50,7 @@ invariant_of-result c =
     record {
       few_names = omega (arith, size, c.args.collection.now.few_docs);
       names_fit = all_names c.args.collection.now.docs c.in_ok-names.names names;
+      names_are_text = all_text c.args.collection.now.docs c.in_ok-names.names names;
       few_terms = omega (arith, many, few, c.args.collection.now.few_lists);
       rising = terms_rise c.args.collection.now.lists (lists_behind c.deref.result.now) c.in_ok-terms.terms c.args.collection.now.terms_differ listed c.in_ok-terms.ensures.terms;
       docs_below = subst P docs c.in_ok-terms.ensures.docs;

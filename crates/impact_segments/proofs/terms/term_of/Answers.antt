@@ -13,7 +13,8 @@ invariant_of-result c =
     let size : length c.impacts_of.new.pairs.items ≡ length c.args.list.now.postings = ap length c.in_ok-impacts_of.ensures.pairs ∙ length-map c.args.list.now.postings _ in
     let some : 1 ≤ length c.impacts_of.new.pairs.items = omega (arith, size, c.requires.some) in
     record {
-      term_fits = subst P (sym (c.in_ok-term.ensures ∙ c.as_str.ensures)) c.args.list.now.term_fits;
+      term_fits = subst P (sym (c.in_ok-term.ensures.bytes ∙ c.as_str.ensures.bytes)) c.args.list.now.term_fits;
+      term_is_text = c.in_ok-term.ensures.utf8;
       some = some_segments c.in_ok-segments.segments c.impacts_of.new.pairs.items c.in_ok-segments.ensures.pairs some;
       falling = c.in_ok-segments.ensures.falling;
       once = c.in_ok-segments.ensures.once;
@@ -22,7 +23,7 @@ invariant_of-result c =
 pub returns-clause-entries : goal.returns-clause-entries
 returns-clause-entries c =
     term_is c.args.weigher.now.rule c.args.weigher.now.docs.now c.args.bits c.args.range c.args.list.now c.in_ok-term.term c.in_ok-segments.segments c.impacts_of.new.pairs.items
-    (c.in_ok-term.ensures ∙ c.as_str.ensures) c.in_ok-impacts_of.ensures.pairs c.in_ok-segments.ensures.pairs
+    (c.in_ok-term.ensures.bytes ∙ c.as_str.ensures.bytes) c.in_ok-impacts_of.ensures.pairs c.in_ok-segments.ensures.pairs
 
 pub returns-clause-docs : goal.returns-clause-docs
 returns-clause-docs c =
