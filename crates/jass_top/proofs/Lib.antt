@@ -5,6 +5,7 @@ pub mod Fronts
 pub mod Inputs
 pub mod Positions
 pub mod Printing
+pub mod Rising
 pub mod Running
 pub mod Sizes
 pub mod Wholes

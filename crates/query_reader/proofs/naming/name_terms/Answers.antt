@@ -20,7 +20,7 @@ loop-word-preserved g c =
     let i = c.loop-word.word-index in
     let words = c.args.words.now in
     let word = c.word-item.result in
-    let found = ap (λ bytes. position (λ t. bytes_eq t bytes) terms) (sym c.as_str.ensures.value ∙ sym c.as_bytes.ensures.value) ∙ sym c.find.ensures in
+    let found = ap (λ bytes. position (λ t. bytes_eq t bytes) terms) (sym c.as_str.ensures.value ∙ sym c.as_bytes.ensures.value) ∙ sym c.find.ensures.number in
     elim c.match-find.branch [
       | in-Some+in_ok-tally-in-Some w ↦
           let counted = unknown-more terms words i word (Some w.in-Some.number) c.loop-word-test.true c.word-item.is (found ∙ w.in-Some.is) in
