@@ -10,3 +10,4 @@ pub mod Numbering
 pub mod Documents
 pub mod Rest
 pub mod Searched
+pub mod Candidates

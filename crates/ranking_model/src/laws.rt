@@ -1,7 +1,7 @@
 //! Laws over the definitions. Each function does nothing: its contract is the law, and a caller
 //! learns it by the call.
 
-ghost use Rattle.std.specs.Prelude.{◌≡◌, ◌≢◌, ℕ, ◌<◌, ◌≤◌, List, [], length, take, drop, flat_map, sum_by, All, AllPairs, IsPermutation, IsSorted};
+ghost use Rattle.std.specs.Prelude.{◌≡◌, ◌≢◌, ℕ, ◌<◌, ◌≤◌, List, [], ◌++◌, length, take, drop, flat_map, sum_by, All, AllPairs, Contains, IsPermutation, IsSorted};
 ghost use Rattle.std.specs.List.{AllByRecursion};
 ghost use Rattle.std.specs.Ordering.{nat_cmp};
 ghost use Rattle.std.specs.Cmp.Lexicographic.{slice_cmp};
@@ -15,7 +15,7 @@ ghost use Rattle.ranking_model.specs.declared.class.Class.{Class};
 ghost use Rattle.ranking_model.specs.Flat.{IsFlat, numbered};
 ghost use Rattle.ranking_model.specs.Order.{sorted};
 ghost use Rattle.ranking_model.specs.Plan.{postings_of, plan_of, plan_cmp, classes_of, size_of_first, prefix_within, cutoff_after, next_after};
-ghost use Rattle.ranking_model.specs.Scores.{adds, gain_of, bound_after, scores_after, rank_cmp, hits_from, first_ranked};
+ghost use Rattle.ranking_model.specs.Scores.{adds, gain_of, bound_after, scores_after, rank_cmp, hits_from, first_ranked, AreAhead, AreHitsOf};
 ghost use Rattle.ranking_model.specs.Finality.{GainsUpTo, IsSettled, IsKept, IsGrade};
 ghost use Rattle.ranking_model.specs.Heaviest.{IsHeaviest};
 
@@ -70,6 +70,28 @@ pub fn the_ranking_is_one()
     ensures { (scores : List ℕ) (m : ℕ) (hits : List Hit) →
         IsPermutation (hits_from 0 scores) hits → IsSorted rank_cmp hits →
         take m hits ≡ first_ranked scores m }
+{}
+
+/// The ranking from a part of the hits: where none of the part comes after one of the rest, and the
+/// part has m hits or all, the part in order is the first m.
+pub fn the_hits_ahead_are_the_first()
+    ensures in_order { (scores : List ℕ) (m : ℕ) (hits rest : List Hit) →
+        IsPermutation (hits_from 0 scores) (hits ++ rest) → AreAhead hits rest →
+        length hits ≤ m → (length hits < m → rest ≡ []) →
+        IsSorted rank_cmp hits → hits ≡ first_ranked scores m }
+    ensures in_any_order { (scores : List ℕ) (m : ℕ) (hits rest : List Hit) →
+        IsPermutation (hits_from 0 scores) (hits ++ rest) → AreAhead hits rest →
+        length hits ≤ m → (length hits < m → rest ≡ []) →
+        sorted rank_cmp hits ≡ first_ranked scores m }
+{}
+
+/// The ranking from candidates: where the first m are among them, they are the first m of the
+/// candidates in order.
+pub fn the_candidates_have_the_first()
+    ensures { (scores : List ℕ) (m : ℕ) (candidates : List Hit) →
+        AreHitsOf scores candidates →
+        AllByRecursion (λ hit. Contains candidates hit) (first_ranked scores m) →
+        take m (sorted rank_cmp candidates) ≡ first_ranked scores m }
 {}
 
 /// There is a score for each document of the index, and a ranking has documents of its scores.
