@@ -11,3 +11,4 @@ pub mod Documents
 pub mod Rest
 pub mod Searched
 pub mod Candidates
+pub mod Promises

@@ -9,6 +9,7 @@ pub mod Limits
 pub mod Finality
 pub mod Heaviest
 pub mod Report
+pub mod Promises
 pub mod Programs
 pub mod Search
 pub mod Examples

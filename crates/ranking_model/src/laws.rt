@@ -7,6 +7,7 @@ ghost use Rattle.std.specs.Ordering.{nat_cmp};
 ghost use Rattle.std.specs.Cmp.Lexicographic.{slice_cmp};
 ghost use Rattle.jass_base.specs.declared.answer.Hit.{Hit};
 ghost use Rattle.jass_base.specs.declared.answer.Grade.{Grade};
+ghost use Rattle.jass_base.specs.declared.answer.Report.{Report};
 ghost use Rattle.ranking_model.specs.declared.plan.QueryPlan.{QueryPlan};
 ghost use Rattle.jass_base.specs.declared.named.Named.{Named};
 ghost use Rattle.ranking_model.specs.declared.entry.Entry.{Entry};
@@ -14,10 +15,13 @@ ghost use Rattle.ranking_model.specs.declared.posting.WeightedPosting.{WeightedP
 ghost use Rattle.ranking_model.specs.declared.class.Class.{Class};
 ghost use Rattle.ranking_model.specs.Flat.{IsFlat, numbered};
 ghost use Rattle.ranking_model.specs.Order.{sorted};
+ghost use Rattle.ranking_model.specs.Postings.{weighted_postings};
 ghost use Rattle.ranking_model.specs.Plan.{postings_of, plan_of, plan_cmp, classes_of, size_of_first, prefix_within, cutoff_after, next_after};
 ghost use Rattle.ranking_model.specs.Scores.{adds, gain_of, bound_after, scores_after, rank_cmp, hits_from, first_ranked, AreAhead, AreHitsOf};
 ghost use Rattle.ranking_model.specs.Finality.{GainsUpTo, IsSettled, IsKept, IsGrade};
 ghost use Rattle.ranking_model.specs.Heaviest.{IsHeaviest};
+ghost use Rattle.ranking_model.specs.Report.{IsReport};
+ghost use Rattle.ranking_model.specs.Promises.{IsPromised};
 
 /// The prefix that a budget pays for fits it, and no longer one does.
 pub fn the_prefix_is_the_longest()
@@ -120,4 +124,13 @@ pub fn the_rest_gains_at_most_the_bound()
         IsFlat nat_cmp docs flat → n ≤ m →
         let plan = plan_of docs flat terms in
         GainsUpTo (bound_after n plan) (scores_after n plan) (scores_after m plan) }
+{}
+
+/// A report of a query on an index keeps its promises. Those of its grade are for every later
+/// prefix of the plan, so for the exhaustive answer.
+pub fn reports_keep_their_promises()
+    ensures { (docs n k : ℕ) (flat : List (Entry ℕ)) (terms : List Named) (report : Report) →
+        IsFlat nat_cmp docs flat →
+        let plan = plan_of docs flat terms in
+        IsReport n plan k report → IsPromised (weighted_postings flat terms) n plan k report }
 {}
