@@ -12,3 +12,4 @@ pub mod Rest
 pub mod Searched
 pub mod Candidates
 pub mod Promises
+pub mod Growing

@@ -1,6 +1,6 @@
 -- The plan of a query and its prefixes. Segments by falling weight, taken whole, are Lin and Trotman's ("Anytime Ranking
 -- for Impact-Ordered Indexes", ICTIR 2015); which of equal weights comes first is this project's.
-use Rattle.std.specs.Prelude.{ℕ, zero, suc, ◌-◌, ◌^◌, min, Bool, ◌&&◌, ◌==◌, nat_le, List, [], ◌∷◌, ◌++◌, length, map, take, sum_by, fold, slice_get, if◌then◌else◌}
+use Rattle.std.specs.Prelude.{ℕ, zero, suc, ◌+◌, ◌-◌, ◌^◌, min, Bool, ◌&&◌, ◌==◌, nat_le, List, [], ◌∷◌, ◌++◌, length, map, take, sum_by, fold, slice_get, if◌then◌else◌}
 use Rattle.std.specs.Option.{option_map_or}
 use Rattle.std.specs.declared.cmp.Ordering.{Ordering}
 use Rattle.std.specs.Ordering.{nat_cmp, ordering_then}
@@ -67,6 +67,10 @@ most = 2 ^ 64 - 1
 abbrev pub amount_of : Budget → ℕ
 amount_of (Postings n) = n
 amount_of All = most
+
+-- what one more budget makes of what was granted before it
+abbrev pub granted_with : ℕ → Budget → ℕ
+granted_with granted budget = min most (granted + amount_of budget)
 
 -- the budgets granted so far, in one number
 abbrev pub granted_sum : List Budget → ℕ

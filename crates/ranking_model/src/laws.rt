@@ -1,7 +1,7 @@
 //! Laws over the definitions. Each function does nothing: its contract is the law, and a caller
 //! learns it by the call.
 
-ghost use Rattle.std.specs.Prelude.{◌≡◌, ◌≢◌, ℕ, ◌<◌, ◌≤◌, List, [], ◌++◌, length, take, drop, flat_map, sum_by, All, AllPairs, Contains, IsPermutation, IsSorted};
+ghost use Rattle.std.specs.Prelude.{◌≡◌, ◌≢◌, ℕ, ◌<◌, ◌≤◌, ◌^◌, List, [], ◌++◌, length, take, drop, flat_map, sum_by, All, AllPairs, Contains, IsPermutation, IsSorted};
 ghost use Rattle.std.specs.List.{AllByRecursion};
 ghost use Rattle.std.specs.Ordering.{nat_cmp};
 ghost use Rattle.std.specs.Cmp.Lexicographic.{slice_cmp};
@@ -15,9 +15,10 @@ ghost use Rattle.ranking_model.specs.declared.posting.WeightedPosting.{WeightedP
 ghost use Rattle.ranking_model.specs.declared.class.Class.{Class};
 ghost use Rattle.ranking_model.specs.Flat.{IsFlat, numbered};
 ghost use Rattle.ranking_model.specs.Order.{sorted};
-ghost use Rattle.ranking_model.specs.Postings.{weighted_postings};
+ghost use Rattle.ranking_model.specs.Postings.{AreTerms, weighted_postings};
 ghost use Rattle.ranking_model.specs.Plan.{postings_of, plan_of, plan_cmp, classes_of, size_of_first, prefix_within, cutoff_after, next_after};
 ghost use Rattle.ranking_model.specs.Scores.{adds, gain_of, bound_after, scores_after, rank_cmp, hits_from, first_ranked, AreAhead, AreHitsOf};
+ghost use Rattle.ranking_model.specs.Limits.{IsSmall};
 ghost use Rattle.ranking_model.specs.Finality.{GainsUpTo, IsSettled, IsKept, IsGrade};
 ghost use Rattle.ranking_model.specs.Heaviest.{IsHeaviest};
 ghost use Rattle.ranking_model.specs.Report.{IsReport};
@@ -59,6 +60,14 @@ pub fn the_classes_have_all_postings()
         size_of_first (length classes) classes ≡ length postings }
     ensures scores { (postings : List WeightedPosting) (doc : ℕ) →
         sum_by (gain_of doc) (classes_of postings) ≡ sum_by (adds doc) postings }
+{}
+
+/// The numbers of a plan fit their types, where each term is named at most 255 times and the index
+/// has at most 2^29 postings.
+pub fn plans_are_small()
+    ensures { (docs : ℕ) (flat : List (Entry ℕ)) (terms : List Named) →
+        IsFlat nat_cmp docs flat → AreTerms terms → All (λ named. named.times ≤ 255) terms → length flat ≤ 2 ^ 29 →
+        IsSmall (plan_of docs flat terms) }
 {}
 
 /// Segments that differ in place or weight, put down one after the other, are the classes.
