@@ -11,7 +11,7 @@ use Rattle.std.proofs.lemmas.List.Elements.{recursion_from_All, All-from_recursi
 use Rattle.std.proofs.lemmas.List.FromFn.{length-map-range_with_len, get_or-map-range_with_len}
 use Rattle.std.proofs.lemmas.List.Sums.{sum_by-cons, sum_by-append, sum_by_push}
 use Rattle.std.proofs.Math.Nat.{mul-le-mul}
-use Rattle.std.proofs.Math.Seq.{take-add}
+use Rattle.std.proofs.Math.Seq.{take-add, drop-cons}
 use Rattle.jass_base.specs.declared.answer.Budget.{Budget}
 use Rattle.jass_base.specs.declared.named.Named.{Named}
 use Rattle.ranking_model.specs.declared.entry.Entry.{Entry}
@@ -23,6 +23,7 @@ use Rattle.ranking_model.specs.Postings.{weighted_postings}
 use Rattle.ranking_model.specs.Programs.{AreLight}
 use Rattle.ranking_model.specs.Plan.{size_of_first, prefix_within, most, amount_of, granted_with, granted_sum}
 use Rattle.ranking_model.specs.Scores.{gain_of, added, scores_after}
+use Rattle.ranking_model.specs.Search.{prefix_granted, prefixes_granted}
 use Rattle.ranking_model.proofs.Totals.{prefix_is}
 use Rattle.ranking_model.proofs.Parting.{prefix_there, prefix_fits, prefix_longest}
 use Rattle.ranking_model.proofs.Weighing.{weighted_all, for_each}
@@ -124,6 +125,16 @@ pub grant_added : (budgets : List Budget) (j : ℕ) (budget : Budget) → slice_
 grant_added budgets j budget is = ap granted_sum (take_more budgets j budget is) ∙ ap (min most) (sum_by_push amount_of (take j budgets) budget) ∙ stops (sum_by amount_of (take j budgets)) (amount_of budget) where
   stops : (s a : ℕ) → min most (s + a) ≡ min most (min most s + a)
   stops s a = omega arith
+
+pub prefixes_many : (budgets : List Budget) (plan : QueryPlan) → length (prefixes_granted budgets plan) ≡ length budgets
+prefixes_many budgets plan = length-map-range_with_len (λ j. prefix_granted j budgets plan) 1 (length budgets)
+
+pub prefixes_from : (budgets : List Budget) (plan : QueryPlan) (j : ℕ) → j < length budgets → drop j (prefixes_granted budgets plan) ≡ prefix_granted (j + 1) budgets plan ∷ drop (j + 1) (prefixes_granted budgets plan)
+prefixes_from budgets plan j inside =
+    let here : get_or (prefixes_granted budgets plan) j 0 ≡ prefix_granted (j + 1) budgets plan = get_or-map-range_with_len (λ j. prefix_granted j budgets plan) 1 (length budgets) j (j + 1) 0 inside (omega arith) in
+    let one : suc j ≡ j + 1 = omega arith in
+    drop-cons (prefixes_granted budgets plan) j 0 (let n = prefixes_many budgets plan in omega arith)
+    ∙ (λ i. here i ∷ drop (one i) (prefixes_granted budgets plan))
 
 -- ---- the weights of a query
 

@@ -1,12 +1,13 @@
 //! Laws of prefixes that grow: one class more, and one grant more. Each function does nothing: its
 //! contract is the law.
 
-ghost use Rattle.std.specs.Prelude.{◌≡◌, ℕ, ◌+◌, ◌-◌, ◌≤◌, List, ◌++◌, take, drop, slice_get};
+ghost use Rattle.std.specs.Prelude.{◌≡◌, ℕ, ◌+◌, ◌-◌, ◌<◌, ◌≤◌, List, ◌∷◌, ◌++◌, length, take, drop, slice_get};
 ghost use Rattle.jass_base.specs.declared.answer.Budget.{Budget};
 ghost use Rattle.ranking_model.specs.declared.class.Class.{Class};
 ghost use Rattle.ranking_model.specs.declared.plan.QueryPlan.{QueryPlan};
 ghost use Rattle.ranking_model.specs.Plan.{size_of_first, prefix_within, granted_with, granted_sum};
 ghost use Rattle.ranking_model.specs.Scores.{added, scores_after};
+ghost use Rattle.ranking_model.specs.Search.{prefix_granted, prefixes_granted};
 
 /// One class more adds its weight at each of its documents, which may come in parts.
 pub fn one_class_more_is_added()
@@ -30,4 +31,13 @@ pub fn one_budget_more_is_granted()
     ensures { (budgets : List Budget) (j : ℕ) (budget : Budget) →
         slice_get budgets j ≡ Some budget →
         granted_sum (take (j + 1) budgets) ≡ granted_with (granted_sum (take j budgets)) budget }
+{}
+
+/// There is a prefix for each budget, in the order of the budgets.
+pub fn each_budget_has_its_prefix()
+    ensures many { (budgets : List Budget) (plan : QueryPlan) →
+        length (prefixes_granted budgets plan) ≡ length budgets }
+    ensures from { (budgets : List Budget) (plan : QueryPlan) (j : ℕ) → j < length budgets →
+        let prefixes = prefixes_granted budgets plan in
+        drop j prefixes ≡ prefix_granted (j + 1) budgets plan ∷ drop (j + 1) prefixes }
 {}
