@@ -1,7 +1,7 @@
 //! Laws over the definitions. Each function does nothing: its contract is the law, and a caller
 //! learns it by the call.
 
-ghost use Rattle.std.specs.Prelude.{◌≡◌, ◌≢◌, ℕ, ◌<◌, ◌≤◌, ◌^◌, List, [], ◌++◌, length, take, drop, flat_map, sum_by, All, AllPairs, Contains, IsPermutation, IsSorted};
+ghost use Rattle.std.specs.Prelude.{◌≡◌, ◌≢◌, ℕ, ◌<◌, ◌≤◌, ◌^◌, List, [], ◌++◌, length, replicate, take, drop, flat_map, sum_by, All, AllPairs, Contains, IsPermutation, IsSorted};
 ghost use Rattle.std.specs.List.{AllByRecursion};
 ghost use Rattle.std.specs.Ordering.{nat_cmp};
 ghost use Rattle.std.specs.Cmp.Lexicographic.{slice_cmp};
@@ -19,7 +19,8 @@ ghost use Rattle.ranking_model.specs.Postings.{AreTerms, weighted_postings};
 ghost use Rattle.ranking_model.specs.Plan.{postings_of, plan_of, plan_cmp, classes_of, size_of_first, prefix_within, cutoff_after, next_after};
 ghost use Rattle.ranking_model.specs.Scores.{adds, gain_of, bound_after, scores_after, rank_cmp, hits_from, first_ranked, AreAhead, AreHitsOf};
 ghost use Rattle.ranking_model.specs.Limits.{IsSmall};
-ghost use Rattle.ranking_model.specs.Finality.{GainsUpTo, IsSettled, IsKept, IsGrade};
+ghost use Rattle.ranking_model.specs.Finality.{AreGains, AreGainsWithin, GainsUpTo, IsSettled, IsKept, IsGrade};
+ghost use Rattle.ranking_model.specs.Finality.{IsSettledWithin, IsKeptWithin, IsGradeWithin};
 ghost use Rattle.ranking_model.specs.Heaviest.{IsHeaviest};
 ghost use Rattle.ranking_model.specs.Report.{IsReport};
 ghost use Rattle.ranking_model.specs.Promises.{IsPromised};
@@ -124,6 +125,21 @@ pub fn the_grade_is_one()
     ensures one { (scores : List ℕ) (k bound : ℕ) (first second : Grade) →
         IsGrade scores k bound first → IsGrade scores k bound second → first ≡ second }
     ensures kept { (scores : List ℕ) (k bound : ℕ) → IsSettled scores k bound → IsKept scores k bound }
+    ensures one_within { (scores limits : List ℕ) (k : ℕ) (first second : Grade) →
+        IsGradeWithin scores k limits first → IsGradeWithin scores k limits second → first ≡ second }
+{}
+
+/// Gains up to a bound are gains with that limit for each document, and what is settled or kept by
+/// a bound is so by limits up to it.
+pub fn a_bound_is_a_limit_for_each()
+    ensures gains { (scores gains : List ℕ) (bound : ℕ) →
+        AreGains bound scores gains → AreGainsWithin (replicate (length scores) bound) scores gains }
+    ensures limits { (scores gains : List ℕ) (bound : ℕ) →
+        AreGainsWithin (replicate (length scores) bound) scores gains → AreGains bound scores gains }
+    ensures settled { (scores limits : List ℕ) (k bound : ℕ) →
+        AllByRecursion (λ limit. limit ≤ bound) limits → IsSettled scores k bound → IsSettledWithin scores k limits }
+    ensures kept { (scores limits : List ℕ) (k bound : ℕ) →
+        AllByRecursion (λ limit. limit ≤ bound) limits → IsKept scores k bound → IsKeptWithin scores k limits }
 {}
 
 /// What is unscored gives no document more than the bound: the scores after more classes are those
