@@ -18,8 +18,8 @@ use Rattle.ranking_model.specs.declared.standing.Standing.{Standing}
 use Rattle.ranking_model.specs.Finality.{raised, first_documents, IsSettled, IsKept, IsGrade}
 use Rattle.jass_base.specs.declared.answer.Grade.TheVariants.{Final, Set, Open}
 use Rattle.std.proofs.lemmas.Bool.{cases_Bool}
-use Rattle.ranking_model.specs.Sorting.{Ascends, sorted_ascends}
-use Rattle.ranking_model.specs.Orders.{rank_total}
+use Rattle.ranking_model.proofs.Sorting.{Ascends, sorted_ascends}
+use Rattle.ranking_model.proofs.Orders.{rank_total}
 use Rattle.final_certificate.specs.Rule.{gained, is_safe, are_safe, ends_safe, unscored, do_documents_stay, grade_by}
 use Rattle.final_certificate.proofs.Lists.{all_imp, all_both, all_take, all_drop, all_append, all_filter, all_pass, sum_by-filter, sum_by-same, ascends_take, ascends_drop}
 use Rattle.final_certificate.proofs.Lifting.{is_unscored, is_scored, documents_from, hits_documents, lift, gains_by, raised_documents, are_gains, gain_of_doc, gain_small, gains_by_doc, true_from, documents_below, count_doc, at_most_once, at_least_once}

@@ -16,8 +16,8 @@ use Rattle.std.proofs.Math.ListN.{drop_of_length-le}
 use Rattle.jass_base.specs.declared.answer.Hit.{Hit}
 use Rattle.ranking_model.specs.Order.{placed, sorted}
 use Rattle.ranking_model.specs.Scores.{rank_cmp, hits_from, first_ranked, AreAhead, AreHitsOf}
-use Rattle.ranking_model.specs.Sorting.{Ascends, sorted_ascends, sorted_ascending, sorted_is_permutation, sort_is_sorted, all_sorted, ascends_append, sum_by-sorted}
-use Rattle.ranking_model.specs.Orders.{rank_total, rank_same}
+use Rattle.ranking_model.proofs.Sorting.{Ascends, sorted_ascends, sorted_ascending, sorted_is_permutation, sort_is_sorted, all_sorted, ascends_append, sum_by-sorted}
+use Rattle.ranking_model.proofs.Orders.{rank_total, rank_same}
 use Rattle.ranking_model.proofs.Weighing.{Pairs, pairs_by_recursion}
 
 -- ---- lists of two parts

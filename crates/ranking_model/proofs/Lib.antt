@@ -1,3 +1,5 @@
+pub mod Sorting
+pub mod Orders
 pub mod Classes
 pub mod Totals
 pub mod Grouping

@@ -15,8 +15,8 @@ use Rattle.ranking_model.specs.Flat.{entry_cmp, IsFlat}
 use Rattle.ranking_model.specs.Postings.{AreTerms, weighted_at, weighted_from, weighted_postings}
 use Rattle.ranking_model.specs.Scores.{adds}
 use Rattle.std.proofs.lemmas.Bool.{cases_Bool}
-use Rattle.ranking_model.specs.Sorting.{Ascends, ascends_sorted, ascends_filter, ascends_append, sorted_ascending}
-use Rattle.ranking_model.specs.Orders.{entry_total}
+use Rattle.ranking_model.proofs.Sorting.{Ascends, ascends_sorted, ascends_filter, ascends_append, sorted_ascending}
+use Rattle.ranking_model.proofs.Orders.{entry_total}
 use Rattle.ranking_model.proofs.Classes.{place_total}
 
 abbrev weigh : ℕ → ℕ → Entry ℕ → WeightedPosting

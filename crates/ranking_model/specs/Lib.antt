@@ -1,10 +1,8 @@
 pub mod Order
-pub mod Sorting
 pub mod Flat
 pub mod Postings
 pub mod Plan
 pub mod Scores
-pub mod Orders
 pub mod Limits
 pub mod Finality
 pub mod Heaviest

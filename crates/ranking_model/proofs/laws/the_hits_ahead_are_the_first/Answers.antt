@@ -1,6 +1,6 @@
 use Rattle.std.proofs.Common.{sym, ◌∙◌}
 use Rattle.ranking_model.specs.Scores.{rank_cmp, hits_from}
-use Rattle.ranking_model.specs.Orders.{rank_total, rank_same}
+use Rattle.ranking_model.proofs.Orders.{rank_total, rank_same}
 use Rattle.ranking_model.proofs.Candidates.{first_part, sorted_is_itself}
 use Rattle.ranking_model.proofs.laws.the_hits_ahead_are_the_first.Goals as goal
 
