@@ -30,6 +30,7 @@ kept_later scores later k bound g kept = subst (λ s. IsPermutation (first_docum
 
 pub promised : (docs n k : ℕ) (flat : List (Entry ℕ)) (terms : List Named) (report : Report) → IsFlat nat_cmp docs flat
     → IsReport n (plan_of docs flat terms) k report → IsPromised (weighted_postings flat terms) n (plan_of docs flat terms) k report
+unfolding plan_of
 promised docs n k flat terms report is_flat is = record {
   scored = subst (λ cutoff. AllByRecursion (λ (class : Class). cutoff ≤ class.weight) (take n (plan_of docs flat terms).classes)) (sym (ap (λ (r : Report). r.cutoff) is.numbers)) (scored (weighted_postings flat terms) n);
   unscored = subst (λ next. AllByRecursion (λ (class : Class). class.weight ≤ next) (drop n (plan_of docs flat terms).classes)) (sym (ap (λ (r : Report). r.next) is.numbers)) (unscored (weighted_postings flat terms) n);

@@ -44,7 +44,7 @@ abbrev pub classes_of : List WeightedPosting → List Class
 classes_of postings = sorted plan_cmp (grouped postings)
 
 -- the plan of a query on an index: the number of documents, the number of the query's known terms, and the classes
-abbrev pub plan_of : ℕ → List (Entry ℕ) → List Named → QueryPlan
+unfoldable pub plan_of : ℕ → List (Entry ℕ) → List Named → QueryPlan
 plan_of docs flat terms = record { docs = docs; places = length terms; classes = classes_of (weighted_postings flat terms) }
 
 -- the number of postings of the first n classes

@@ -1,6 +1,8 @@
 //! The definitions run on small indexes (`specs/Examples.antt`): each clause is proved by computing
 //! both sides. The reports beside these answers stand in the module `graded`.
 
+#![tactic(auto, unfolding(crate::specs::Plan::plan_of))]
+
 ghost use Rattle.std.specs.Prelude.{◌≡◌, ℕ, map, ◌^◌, ◌-◌, [], ◌∷◌, ◌++◌, codes};
 ghost use Rattle.std.specs.Ordering.{nat_cmp};
 ghost use Rattle.std.specs.Cmp.Lexicographic.{slice_cmp};

@@ -63,6 +63,16 @@ pub fn the_classes_have_all_postings()
         sum_by (gain_of doc) (classes_of postings) ≡ sum_by (adds doc) postings }
 {}
 
+/// What a plan is, for which nobody has to open it.
+#[tactic(auto, unfolding(crate::specs::Plan::plan_of))]
+pub fn a_plan_has_the_classes_of_its_postings()
+    ensures docs { (docs : ℕ) (flat : List (Entry ℕ)) (terms : List Named) → (plan_of docs flat terms).docs ≡ docs }
+    ensures places { (docs : ℕ) (flat : List (Entry ℕ)) (terms : List Named) →
+        (plan_of docs flat terms).places ≡ length terms }
+    ensures classes { (docs : ℕ) (flat : List (Entry ℕ)) (terms : List Named) →
+        (plan_of docs flat terms).classes ≡ classes_of (weighted_postings flat terms) }
+{}
+
 /// The numbers of a plan fit their types, where each term is named at most 255 times and the index
 /// has at most 2^29 postings.
 pub fn plans_are_small()

@@ -24,6 +24,7 @@ pub fn report_lines()
 {}
 
 /// The run lines of `a`, and of `cat dog` with 4 postings. Nothing scored has no lines.
+#[tactic(auto, unfolding(crate::specs::Plan::plan_of))]
 pub fn lines_of_answers()
     ensures a { run_lines falling_names (codes "q") (codes "jass") 1 (top_k 3 a_once 3)
         ≡ codes "q Q0 d0 1 9 jass\nq Q0 d1 2 5 jass\nq Q0 d2 3 1 jass\n" }
@@ -34,6 +35,7 @@ pub fn lines_of_answers()
 
 /// A search of `cat dog` and of a word that no document has, for two hits, at a budget of 2
 /// postings and then of all: the run, and the report lines.
+#[tactic(auto, unfolding(crate::specs::Plan::plan_of))]
 pub fn a_search_of_two_queries()
     ensures run { search_run pet_names (numbered pets) two_queries 2 (Budget.Postings 2 ∷ Budget.All ∷ []) (codes "jass")
         ≡ codes "301 Q0 d0 1 3 jass.1\n301 Q0 d2 2 3 jass.1\n301 Q0 d0 1 3 jass.2\n301 Q0 d1 2 3 jass.2\n" }
