@@ -7,6 +7,7 @@ use Rattle.std.proofs.lemmas.Bool.{cases_lt, ltb-true, ltb-false}
 use Rattle.std.proofs.lemmas.Bool.Decides.{nat_tests}
 use Rattle.std.proofs.lemmas.List.{length-take}
 use Rattle.std.proofs.lemmas.List.Quantifiers.{position-Some}
+use Rattle.std.proofs.lemmas.List.Sorted.{IsPermutation-refl}
 use Rattle.std.proofs.lemmas.List.Sums.{sum_by-append, sum_by-cons, fails_before_first}
 use Rattle.std.proofs.Math.ListN.{drop_of_length-le}
 use borrow.Author.Tests.{eqb-true}
@@ -14,11 +15,12 @@ use Rattle.jass_base.specs.declared.answer.Hit.{Hit}
 use Rattle.ranking_model.specs.Order.{sorted}
 use Rattle.ranking_model.specs.Scores.{rank_cmp, first_ranked, runner_up, least_untouched, standing_of}
 use Rattle.ranking_model.specs.declared.standing.Standing.{Standing}
-use Rattle.ranking_model.specs.Finality.{raised, first_documents, IsSettled, IsKept}
+use Rattle.ranking_model.specs.Finality.{raised, first_documents, IsSettled, IsKept, IsGrade}
+use Rattle.jass_base.specs.declared.answer.Grade.TheVariants.{Final, Set, Open}
 use Rattle.std.proofs.lemmas.Bool.{cases_Bool}
-use Rattle.ranking_model.specs.Sorting.{Ascends, sorted_ascends}
-use Rattle.ranking_model.specs.Orders.{rank_total}
-use Rattle.final_certificate.specs.Rule.{gained, is_safe, are_safe, ends_safe, unscored, do_documents_stay}
+use Rattle.ranking_model.proofs.Sorting.{Ascends, sorted_ascends}
+use Rattle.ranking_model.proofs.Orders.{rank_total}
+use Rattle.final_certificate.specs.Rule.{gained, is_safe, are_safe, ends_safe, unscored, do_documents_stay, grade_by}
 use Rattle.final_certificate.proofs.Lists.{all_imp, all_both, all_take, all_drop, all_append, all_filter, all_pass, sum_by-filter, sum_by-same, ascends_take, ascends_drop}
 use Rattle.final_certificate.proofs.Lifting.{is_unscored, is_scored, documents_from, hits_documents, lift, gains_by, raised_documents, are_gains, gain_of_doc, gain_small, gains_by_doc, true_from, documents_below, count_doc, at_most_once, at_least_once}
 use Rattle.final_certificate.proofs.Edges.{Leads, leads_trans, both_gain, leads_itself, safe_leads, ranked, front, others, docs, StaysBefore, keeps_documents, keeps_order}
@@ -302,13 +304,35 @@ not_kept scores k bound least is some rule still_kept = by (cases_Bool (nat_lt (
   by (inr f) = edge (one_false (ends_safe bound (front (of_scores scores) k) (slice_get (drop k (ranked (of_scores scores))) 0)) (ends_safe bound (front (of_scores scores) k) (unscored least))
       (sym (rule_full k bound (front (of_scores scores) k) (slice_get (drop k (ranked (of_scores scores))) 0) least f) ∙ rule))
 
+settled_is_kept : (scores : List ℕ) (k bound : ℕ) → IsSettled scores k bound → IsKept scores k bound
+settled_is_kept scores k bound settled gains are = subst (IsPermutation (first_documents scores k)) (sym (settled gains are)) (IsPermutation-refl (first_documents scores k))
+
 pub opened : (scores : List ℕ) (k bound : ℕ) (hits : List Hit) (runner : Option Hit) (least : Option ℕ) → standing_of scores k ≡ record { hits = hits; runner_up = runner; least_untouched = least }
-    → 1 ≤ bound → do_documents_stay k bound hits runner least ≡ false → ¬ IsKept scores k bound
-opened scores k bound hits runner least is some rule still_kept =
-    not_kept scores k bound least (least_of scores k hits runner least is) some (sym (read_rule scores k bound hits runner least is) ∙ rule) still_kept
+    → 1 ≤ bound → do_documents_stay k bound hits runner least ≡ false → IsGrade scores k bound Open
+opened scores k bound hits runner least is some rule = ((λ still_settled. changes (settled_is_kept scores k bound still_settled)), changes) where
+  changes : ¬ IsKept scores k bound
+  changes still_kept = not_kept scores k bound least (least_of scores k hits runner least is) some (sym (read_rule scores k bound hits runner least is) ∙ rule) still_kept
 
 pub unsettled : (scores : List ℕ) (k bound : ℕ) (hits : List Hit) (runner : Option Hit) (least : Option ℕ) → standing_of scores k ≡ record { hits = hits; runner_up = runner; least_untouched = least }
     → are_safe bound hits ≡ false → ¬ IsSettled scores k bound
 unsettled scores k bound hits runner least is unsafe still_settled =
     let safe = settled_safe (of_scores scores) (score_at scores) (trues scores) (once scores) k bound (λ z. from_settled scores k bound still_settled (one bound z) (one_small bound z)) in
     absurd (true≢false (sym safe ∙ ap (are_safe bound) (sym (hits_of scores k hits runner least is)) ∙ unsafe))
+
+-- so the rule's grade is one
+pub graded : (scores : List ℕ) (k bound : ℕ) (hits : List Hit) (runner : Option Hit) (least : Option ℕ) → standing_of scores k ≡ record { hits = hits; runner_up = runner; least_untouched = least }
+    → IsGrade scores k bound (grade_by k bound (record { hits = hits; runner_up = runner; least_untouched = least }))
+unfolding grade_by
+graded scores k bound hits runner least is = at (bound == 0) refl (do_documents_stay k bound hits runner least) refl (are_safe bound hits) refl
+  where
+    some : (bound == 0) ≡ false → 1 ≤ bound
+    some not_zero = grind (arith, nat_tests, not_zero)
+
+    at : (a : Bool) → (bound == 0) ≡ a → (b : Bool) → do_documents_stay k bound hits runner least ≡ b → (c : Bool) → are_safe bound hits ≡ c → IsGrade scores k bound (cond a Final (cond b (cond c Final Set) Open))
+    at true none b docs c safe = settled_at_zero scores k bound (grind (arith, nat_tests, none))
+    at false some_bound true docs true safe = settled scores k bound hits runner least is docs safe
+    at false some_bound true docs false safe = (kept scores k bound hits runner least is docs, unsettled scores k bound hits runner least is safe)
+    at false some_bound false docs c safe = opened scores k bound hits runner least is (some some_bound) docs
+
+pub graded_standing : (scores : List ℕ) (k bound : ℕ) → IsGrade scores k bound (grade_by k bound (standing_of scores k))
+graded_standing scores k bound = graded scores k bound (standing_of scores k).hits (standing_of scores k).runner_up (standing_of scores k).least_untouched refl

@@ -15,8 +15,8 @@ use Rattle.std.proofs.Math.Seq.{take-append_seam}
 use Rattle.jass_base.specs.declared.answer.Hit.{Hit}
 use Rattle.ranking_model.specs.Order.{sorted}
 use Rattle.ranking_model.specs.Scores.{rank_cmp}
-use Rattle.ranking_model.specs.Sorting.{Ascends, sum_by-sorted, all_sorted}
-use Rattle.ranking_model.specs.Orders.{rank_total, rank_same}
+use Rattle.ranking_model.proofs.Sorting.{Ascends, sum_by-sorted, all_sorted}
+use Rattle.ranking_model.proofs.Orders.{rank_total, rank_same}
 use Rattle.final_certificate.specs.Rule.{gained, is_safe, are_safe}
 use Rattle.final_certificate.proofs.Lists.{all_imp, all_take, all_map, all_pass, sum_by-map, sorted_itself, sorted_moves, sorted_parts}
 use Rattle.final_certificate.proofs.Lifting.{is_unscored, is_scored, lift}

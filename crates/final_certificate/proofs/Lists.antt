@@ -10,7 +10,7 @@ use Rattle.std.proofs.lemmas.List.Sorted.{IsPermutation-refl, IsPermutation-cons
 use Rattle.std.proofs.lemmas.List.Sums.{sum_by-cons, sum_by-append}
 use Rattle.ranking_model.specs.Order.{placed, sorted}
 use Rattle.std.proofs.lemmas.Bool.{cases_Bool}
-use Rattle.ranking_model.specs.Sorting.{Ascends, level, same_ranks, sorted_ascends, sum_by-sorted, all_sorted, ascends_append}
+use Rattle.ranking_model.proofs.Sorting.{Ascends, level, same_ranks, sorted_ascends, sum_by-sorted, all_sorted, ascends_append}
 
 -- ---- each item of a list
 

@@ -10,8 +10,8 @@ use borrow.Author.Tests.{eqb-true}
 use Rattle.jass_base.specs.declared.answer.Hit.{Hit}
 use Rattle.ranking_model.specs.Scores.{rank_cmp}
 use Rattle.std.proofs.lemmas.Bool.{cases_Bool}
-use Rattle.ranking_model.specs.Sorting.{Ascends, sorted_ascends, sum_by-sorted, all_sorted}
-use Rattle.ranking_model.specs.Orders.{rank_total}
+use Rattle.ranking_model.proofs.Sorting.{Ascends, sorted_ascends, sum_by-sorted, all_sorted}
+use Rattle.ranking_model.proofs.Orders.{rank_total}
 use Rattle.final_certificate.specs.Rule.{gained, is_safe, are_safe}
 use Rattle.final_certificate.proofs.Lists.{all_imp, all_both, all_take, all_drop, all_map, all_filter, sum_by-filter, sum_by-map, sum_by-same, ascends_take, take_before_drop}
 use Rattle.final_certificate.proofs.Lifting.{is_scored, lift, count_doc}

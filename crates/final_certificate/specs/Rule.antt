@@ -1,9 +1,12 @@
 -- What the functions below `grade` look at; this project's. That it decides what a grade is, for all gains, is proved: nobody needs
 -- to believe it.
-use Rattle.std.specs.Prelude.{ℕ, ◌+◌, ◌&&◌, Bool, true, List, [], ◌∷◌, Option, Some, None, length, nat_lt, if◌then◌else◌}
+use Rattle.std.specs.Prelude.{ℕ, ◌+◌, ◌==◌, ◌&&◌, Bool, true, List, [], ◌∷◌, Option, Some, None, length, nat_lt, if◌then◌else◌}
 use Rattle.std.specs.Ordering.{is_lt}
 use Rattle.std.specs.Option.{is_none}
 use Rattle.jass_base.specs.declared.answer.Hit.{Hit}
+use Rattle.jass_base.specs.declared.answer.Grade.{Grade}
+use Rattle.jass_base.specs.declared.answer.Grade.TheVariants.{Final, Set, Open}
+use Rattle.ranking_model.specs.declared.standing.Standing.{Standing}
 use Rattle.ranking_model.specs.Scores.{rank_cmp}
 
 -- a document with a gain
@@ -39,3 +42,7 @@ unscored (Some doc) = Some (record { doc = doc; score = 0 })
 -- no other document can enter: where k are hit, the last is safe from the others, and else each document is hit
 abbrev pub do_documents_stay : ℕ → ℕ → List Hit → Option Hit → Option ℕ → Bool
 do_documents_stay k bound hits runner_up untouched = if nat_lt (length hits) k then is_none untouched else ends_safe bound hits runner_up && ends_safe bound hits (unscored untouched)
+
+-- the grade that this rule gives a standing
+unfoldable pub grade_by : ℕ → ℕ → Standing → Grade
+grade_by k bound s = if bound == 0 then Final else (if do_documents_stay k bound s.hits s.runner_up s.least_untouched then (if are_safe bound s.hits then Final else Set) else Open)

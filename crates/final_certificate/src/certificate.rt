@@ -1,13 +1,14 @@
 ghost use Rattle.std.specs.Prelude.{◌≡◌, ℕ, List};
 ghost use Rattle.ranking_model.specs.Scores.{standing_of};
 ghost use Rattle.ranking_model.specs.Finality.{IsGrade};
-ghost use Rattle.final_certificate.specs.Rule.{is_safe, is_safe_from, are_safe, ends_safe, unscored, do_documents_stay};
+ghost use Rattle.final_certificate.specs.Rule.{grade_by, is_safe, is_safe_from, are_safe, ends_safe, unscored, do_documents_stay};
 
 use jass_base::{Grade, Hit};
 
 /// What the unscored postings can still change of the first `k` documents, where none of them
 /// adds more than `bound` to a document. `runner_up` is the hit behind the `hits`, and
 /// `least_untouched` the least document without a score.
+#[tactic(auto, unfolding(crate::specs::Rule::grade_by))]
 pub fn grade(
     hits: &[Hit],
     runner_up: Option<Hit>,
@@ -15,7 +16,9 @@ pub fn grade(
     k: u32,
     bound: u32,
 ) -> Grade
-    ensures { (scores : List ℕ) →
+    ensures rule { result ≡
+        grade_by k bound (record { hits = hits.now; runner_up = runner_up; least_untouched = least_untouched }) }
+    ensures graded { (scores : List ℕ) →
         standing_of scores k ≡ record { hits = hits.now; runner_up = runner_up; least_untouched = least_untouched } →
         IsGrade scores k bound result }
 {

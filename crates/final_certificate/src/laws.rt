@@ -6,10 +6,11 @@ ghost use Rattle.std.specs.Ordering.{nat_cmp};
 ghost use Rattle.jass_base.specs.declared.named.Named.{Named};
 ghost use Rattle.ranking_model.specs.declared.entry.Entry.{Entry};
 ghost use Rattle.ranking_model.specs.declared.plan.QueryPlan.{QueryPlan};
+ghost use Rattle.final_certificate.specs.Rule.{grade_by};
 ghost use Rattle.ranking_model.specs.Flat.{IsFlat};
 ghost use Rattle.ranking_model.specs.Plan.{plan_of};
-ghost use Rattle.ranking_model.specs.Scores.{scores_after};
-ghost use Rattle.ranking_model.specs.Finality.{first_documents, IsFinal, IsSet};
+ghost use Rattle.ranking_model.specs.Scores.{scores_after, standing_of};
+ghost use Rattle.ranking_model.specs.Finality.{first_documents, IsFinal, IsSet, IsGrade};
 
 use ranking_model::laws::the_rest_gains_at_most_the_bound;
 
@@ -36,4 +37,9 @@ pub fn a_set_answer_keeps_its_documents()
 /// Where all segments are scored, the answer is final.
 pub fn everything_scored_is_final()
     ensures { (n k : ℕ) (plan : QueryPlan) → length plan.classes ≤ n → IsFinal n plan k }
+{}
+
+/// The rule gives each standing its grade, so that there is one report of a prefix.
+pub fn the_rule_gives_the_grade()
+    ensures { (scores : List ℕ) (k bound : ℕ) → IsGrade scores k bound (grade_by k bound (standing_of scores k)) }
 {}

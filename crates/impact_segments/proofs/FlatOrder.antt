@@ -13,10 +13,10 @@ use Rattle.jass_base.specs.Segments.{FallsTo, SharesNoDocument, HasDocumentsBelo
 use Rattle.jass_base.specs.Terms.{HasTermBelow, greatest_of, greatest_impact}
 use Rattle.ranking_model.specs.declared.entry.Entry.{Entry}
 use Rattle.ranking_model.specs.Flat.{entry_cmp, IsFlat}
-use Rattle.ranking_model.specs.Sorting.{Ascends, ascends_append, sorted_ascending}
+use Rattle.ranking_model.proofs.Sorting.{Ascends, ascends_append, sorted_ascending}
 use Rattle.impact_segments.specs.Flat.{doc_entries, segment_entries, term_entries, numbered_from}
 use Rattle.impact_segments.proofs.Lists.{Pairs, pairs_by_recursion, pairs_by_places, all_weaker, all_append, all_map, pairs_append, pairs_map, pairs_weaker, rising_pairs}
-use Rattle.ranking_model.specs.Orders.{entry_total}
+use Rattle.ranking_model.proofs.Orders.{entry_total}
 use Rattle.impact_segments.proofs.Numbers.{own_entries}
 
 abbrev NotAfter : Entry ℕ → Entry ℕ → Type 0

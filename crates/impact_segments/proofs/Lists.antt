@@ -8,7 +8,7 @@ use Rattle.std.specs.Ordering.{is_gt}
 use Rattle.std.proofs.lemmas.List.Elements.{All-from_recursion}
 use Rattle.std.proofs.lemmas.List.Kept.{AllPairs-from_increasing}
 use Rattle.ranking_model.specs.Order.{placed, sorted}
-use Rattle.ranking_model.specs.Sorting.{all_placed, all_sorted}
+use Rattle.ranking_model.proofs.Sorting.{all_placed, all_sorted}
 
 abbrev pub Pairs : {A : Type 0} → (A → A → Type 0) → List A → Type 0
 Pairs R [] = ⊤

@@ -28,7 +28,7 @@ use Rattle.weights.specs.Quantizing.{impact_of}
 use Rattle.ranking_model.specs.declared.entry.Entry.{Entry}
 use Rattle.ranking_model.specs.Order.{placed, sorted}
 use Rattle.ranking_model.specs.Flat.{entry_cmp}
-use Rattle.ranking_model.specs.Sorting.{all_sorted}
+use Rattle.ranking_model.proofs.Sorting.{all_sorted}
 use Rattle.impact_segments.specs.Collections.{posting_weight, list_entries}
 use Rattle.impact_segments.specs.Flat.{term_entries, flat_of_terms}
 use Rattle.impact_segments.specs.Listed.{lists_behind}

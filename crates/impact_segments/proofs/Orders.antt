@@ -8,7 +8,7 @@ use Rattle.std.specs.Cmp.Lexicographic.{slice_cmp}
 use Rattle.std.proofs.lemmas.Cmp.{then_total, on_total, back_total, nat_cmp_total, nat_list_cmp_total}
 use Rattle.std.specs.FinMap.{nat_cmp-IsAntisymmetric, slice_cmp-IsAntisymmetric}
 use Rattle.jass_base.specs.declared.postings_list.PostingsList.{PostingsList}
-use Rattle.ranking_model.specs.Sorting.{both_equal}
+use Rattle.ranking_model.proofs.Sorting.{both_equal}
 use Rattle.impact_segments.specs.Pairs.{pair_cmp}
 use Rattle.impact_segments.specs.Listed.{term_cmp}
 

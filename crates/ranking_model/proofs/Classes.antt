@@ -13,7 +13,7 @@ use Rattle.ranking_model.specs.declared.class.Class.{Class}
 use Rattle.ranking_model.specs.declared.posting.WeightedPosting.{WeightedPosting}
 use Rattle.ranking_model.specs.Programs.{ends_in, last_with, place_cmp}
 use Rattle.ranking_model.specs.Plan.{is_of, begun, joined}
-use Rattle.ranking_model.specs.Sorting.{Ascends}
+use Rattle.ranking_model.proofs.Sorting.{Ascends}
 
 pub place_total : IsTotalOrder place_cmp
 place_total = then_total (on_total (λ (p : WeightedPosting). p.place) nat_cmp_total) (on_total (λ (p : WeightedPosting). p.weight) (back_total nat_cmp_total))

@@ -7,7 +7,7 @@ use Rattle.jass_base.specs.declared.answer.Hit.{Hit}
 use Rattle.ranking_model.specs.Order.{sorted}
 use Rattle.ranking_model.specs.declared.plan.QueryPlan.{QueryPlan}
 use Rattle.ranking_model.specs.Scores.{gain_of, hits_from, rank_cmp, first_ranked, scores_after, top_k}
-use Rattle.ranking_model.specs.Sorting.{all_sorted}
+use Rattle.ranking_model.proofs.Sorting.{all_sorted}
 
 all_take : {A : Type 0} (P : A → Type 0) (n : ℕ) (xs : List A) → AllByRecursion P xs → AllByRecursion P (take n xs)
 all_take P zero xs h = tt

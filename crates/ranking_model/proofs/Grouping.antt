@@ -6,7 +6,7 @@ use Rattle.ranking_model.specs.declared.class.Class.{Class}
 use Rattle.ranking_model.specs.declared.posting.WeightedPosting.{WeightedPosting}
 use Rattle.ranking_model.specs.Plan.{plan_cmp, is_of, begun, joined, classes_of}
 use Rattle.std.proofs.lemmas.Bool.{cases_Bool}
-use Rattle.ranking_model.specs.Sorting.{sum_by-sorted, all_sorted}
+use Rattle.ranking_model.proofs.Sorting.{sum_by-sorted, all_sorted}
 
 -- a class with one document more
 abbrev pub more : Class → ℕ → Class

@@ -1,3 +1,5 @@
+pub mod Sorting
+pub mod Orders
 pub mod Classes
 pub mod Totals
 pub mod Grouping
@@ -10,3 +12,6 @@ pub mod Numbering
 pub mod Documents
 pub mod Rest
 pub mod Searched
+pub mod Candidates
+pub mod Promises
+pub mod Growing

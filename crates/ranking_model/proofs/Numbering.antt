@@ -15,8 +15,8 @@ use Rattle.std.proofs.lemmas.Map.Text.{is_eq-slice_cmp}
 use Rattle.ranking_model.specs.declared.entry.Entry.{Entry}
 use Rattle.ranking_model.specs.Flat.{entry_cmp, IsFlat, terms_of, number_of, numbered}
 use Rattle.std.proofs.lemmas.Bool.{cases_Bool}
-use Rattle.ranking_model.specs.Orders.{entry_total}
-use Rattle.ranking_model.specs.Sorting.{Ascends, ascends_sorted, sorted_ascending}
+use Rattle.ranking_model.proofs.Orders.{entry_total}
+use Rattle.ranking_model.proofs.Sorting.{Ascends, ascends_sorted, sorted_ascending}
 use Rattle.ranking_model.proofs.Weighing.{Pairs, pairs_by_recursion}
 
 abbrev text_cmp : List ℕ → List ℕ → Ordering

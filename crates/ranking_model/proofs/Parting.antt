@@ -11,8 +11,8 @@ use Rattle.ranking_model.specs.declared.class.Class.{Class}
 use Rattle.ranking_model.specs.Plan.{joined, is_of, plan_cmp, classes_of, size_of_first, greatest_up_to, prefix_within, weight_at, cutoff_after, next_after}
 use Rattle.ranking_model.specs.Heaviest.{IsHeaviest}
 use Rattle.std.proofs.lemmas.Bool.{cases_Bool}
-use Rattle.ranking_model.specs.Sorting.{Ascends, sorted_ascends}
-use Rattle.ranking_model.specs.Orders.{plan_total}
+use Rattle.ranking_model.proofs.Sorting.{Ascends, sorted_ascends}
+use Rattle.ranking_model.proofs.Orders.{plan_total}
 use Rattle.ranking_model.proofs.Grouping.{more, classes_sum}
 
 -- ---- the longest prefix

@@ -222,6 +222,7 @@ in_places from (named ∷ terms) flat = both (filter (λ e. e.term == named.term
 
 -- what a document has among the unscored classes is at most the bound
 rest_within : (doc docs n : ℕ) (terms : List Named) (flat : List (Entry ℕ)) → IsFlat nat_cmp docs flat → sum_by (gain_of doc) (drop n (classes_of (weighted_postings flat terms))) ≤ bound_after n (plan_of docs flat terms)
+unfolding plan_of
 rest_within doc docs n terms flat f =
     rw (by_place doc (length terms) (drop n classes) (all_drop (λ c. c.place < length terms) n classes places))
     (sum_le (λ place. sum_by (gain_at doc place) (drop n classes)) (λ place. greatest_weight place (drop n classes)) (range_with_len 0 (length terms)) (λ place. place_gain doc place (drop n classes) (few place)))
@@ -259,6 +260,7 @@ all_mapped g bound (x ∷ xs) h = (h x, all_mapped g bound xs h)
 -- later scores are earlier ones with gains up to the bound
 pub later_scores : (docs n m : ℕ) (terms : List Named) (flat : List (Entry ℕ)) → IsFlat nat_cmp docs flat → n ≤ m
     → GainsUpTo (bound_after n (plan_of docs flat terms)) (scores_after n (plan_of docs flat terms)) (scores_after m (plan_of docs flat terms))
+unfolding plan_of
 later_scores docs n m terms flat f h = record {
   gains = map gain (range_with_len 0 docs);
   within = record { each = same_length (score n) gain (range_with_len 0 docs); within = all_mapped gain _ (range_with_len 0 docs) most };

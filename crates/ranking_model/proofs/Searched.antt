@@ -3,6 +3,7 @@ use Rattle.std.proofs.Common.{List, ◌∷◌, [], refl, arith}
 use Rattle.jass_base.specs.declared.answer.Budget.{Budget}
 use Rattle.jass_base.specs.declared.answer.Budget.TheVariants.{Postings, All}
 use Rattle.jass_base.specs.declared.answer.Grade.TheVariants.{Final, Open}
+use Rattle.ranking_model.specs.Plan.{plan_of}
 use Rattle.ranking_model.specs.Report.{IsReport}
 use Rattle.ranking_model.specs.Search.{AreReports}
 use Rattle.ranking_model.specs.Examples.{report, cat_dog, nothing_known}
@@ -13,6 +14,7 @@ two_budgets = Postings 2 ∷ All ∷ []
 
 -- where document 1 gains 3 it comes before document 2; where all is scored nothing is gained
 pub cat_dog_reports : AreReports cat_dog 2 two_budgets (report 2 2 4 3 2 3 Open ∷ report 5 4 4 1 0 0 Final ∷ [])
+unfolding plan_of
 cat_dog_reports = (
   record {
     numbers = refl;
@@ -28,6 +30,7 @@ cat_dog_reports = (
 )
 
 pub no_reports : AreReports nothing_known 2 two_budgets (report 0 0 0 0 0 0 Final ∷ report 0 0 0 0 0 0 Final ∷ [])
+unfolding plan_of
 no_reports = (none, (none, tt)) where
   none : IsReport 0 nothing_known 2 (report 0 0 0 0 0 0 Final)
   none = record { numbers = refl; graded = settled_without_gains (0 ∷ 0 ∷ 0 ∷ 0 ∷ []) 2 }

@@ -76,6 +76,7 @@ bound_le n m plan h =
     rw length-range_with_len at total
 
 pub plan_is_small : (docs : ℕ) (flat : List (Entry ℕ)) (terms : List Named) → IsFlat nat_cmp docs flat → AreTerms terms → length flat ≤ 2 ^ 29 → AreLight (weighted_postings flat terms) → IsSmall (plan_of docs flat terms)
+unfolding plan_of
 plan_is_small docs flat terms f t few light = record {
   documents = classes_all (λ c. AllByRecursion (λ doc. doc < docs) c.docs) (λ p. p.doc < docs) (λ p h. (h, tt)) (λ c p e h k. one_more c.docs p.doc h k) ps (weighted_documents docs 0 terms flat f t);
   postings = let all = take-length (classes_of ps) in let total = sizes ps in rw (all, total) (omega (arith, long));

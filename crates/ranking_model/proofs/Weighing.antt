@@ -15,8 +15,8 @@ use Rattle.ranking_model.specs.Flat.{entry_cmp, IsFlat}
 use Rattle.ranking_model.specs.Postings.{AreTerms, weighted_at, weighted_from, weighted_postings}
 use Rattle.ranking_model.specs.Scores.{adds}
 use Rattle.std.proofs.lemmas.Bool.{cases_Bool}
-use Rattle.ranking_model.specs.Sorting.{Ascends, ascends_sorted, ascends_filter, ascends_append, sorted_ascending}
-use Rattle.ranking_model.specs.Orders.{entry_total}
+use Rattle.ranking_model.proofs.Sorting.{Ascends, ascends_sorted, ascends_filter, ascends_append, sorted_ascending}
+use Rattle.ranking_model.proofs.Orders.{entry_total}
 use Rattle.ranking_model.proofs.Classes.{place_total}
 
 abbrev weigh : ℕ → ℕ → Entry ℕ → WeightedPosting
@@ -123,7 +123,7 @@ weighted_length place terms (e ∷ es) h = let one = named_once place terms e es
 
 -- ---- their documents and weights
 
-weighted_all : (P : WeightedPosting → Type 0) (place : ℕ) (terms : List Named) (flat : List (Entry ℕ)) → ((place : ℕ) → AllByRecursion (λ named. AllByRecursion (λ e. P (weigh place named.times e)) flat) terms) → AllByRecursion P (weighted_from place terms flat)
+pub weighted_all : (P : WeightedPosting → Type 0) (place : ℕ) (terms : List Named) (flat : List (Entry ℕ)) → ((place : ℕ) → AllByRecursion (λ named. AllByRecursion (λ e. P (weigh place named.times e)) flat) terms) → AllByRecursion P (weighted_from place terms flat)
 weighted_all P place [] flat h = tt
 weighted_all P place (named ∷ terms) flat h = both flat (h place).0 (weighted_all P (suc place) terms flat (λ p. (h p).1)) where
   both : (es : List (Entry ℕ)) → AllByRecursion (λ e. P (weigh place named.times e)) es → AllByRecursion P (weighted_from (suc place) terms flat) → AllByRecursion P (weighted_at place named es ++ weighted_from (suc place) terms flat)
@@ -134,7 +134,7 @@ weighted_all P place (named ∷ terms) flat h = both flat (h place).0 (weighted_
     one (inr f) more = rw f more
 
 -- a fact of each entry and each number of mentions
-for_each : {A B : Type 0} (R : A → B → Type 0) (P : A → Type 0) (Q : B → Type 0) (xs : List A) (ys : List B) → ((x : A) (y : B) → P x → Q y → R x y) → AllByRecursion P xs → AllByRecursion Q ys → AllByRecursion (λ x. AllByRecursion (R x) ys) xs
+pub for_each : {A B : Type 0} (R : A → B → Type 0) (P : A → Type 0) (Q : B → Type 0) (xs : List A) (ys : List B) → ((x : A) (y : B) → P x → Q y → R x y) → AllByRecursion P xs → AllByRecursion Q ys → AllByRecursion (λ x. AllByRecursion (R x) ys) xs
 for_each R P Q [] ys f h k = tt
 for_each {A} {B} R P Q (x ∷ xs) ys f h k = (inner ys k, for_each R P Q xs ys f h.1 k) where
   inner : (ys : List B) → AllByRecursion Q ys → AllByRecursion (R x) ys

@@ -9,6 +9,7 @@ use Rattle.ranking_model.specs.declared.class.Class.{Class}
 use Rattle.ranking_model.specs.declared.plan.QueryPlan.{QueryPlan}
 use Rattle.ranking_model.specs.Flat.{numbered}
 use Rattle.ranking_model.specs.Plan.{plan_of}
+use Rattle.ranking_model.specs.Search.{QueryData}
 
 abbrev entry : List ℕ → ℕ → ℕ → Entry (List ℕ)
 entry term doc impact = record { term = term; doc = doc; impact = impact }
@@ -88,3 +89,7 @@ p_q_higher = plan_of 2 (numbered higher_first) (named 0 1 ∷ named 1 1 ∷ [])
 
 abbrev pub p_q_swapping : QueryPlan
 p_q_swapping = plan_of 2 (numbered swapping) (named 0 1 ∷ named 1 1 ∷ [])
+
+-- `cat dog`, and a word that no document has
+abbrev pub two_queries : List QueryData
+two_queries = record { id = codes "301"; terms = named 0 1 ∷ named 1 1 ∷ []; unknown = 0 } ∷ record { id = codes "302"; terms = []; unknown = 1 } ∷ []

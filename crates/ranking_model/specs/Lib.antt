@@ -1,14 +1,13 @@
 pub mod Order
-pub mod Sorting
 pub mod Flat
 pub mod Postings
 pub mod Plan
 pub mod Scores
-pub mod Orders
 pub mod Limits
 pub mod Finality
 pub mod Heaviest
 pub mod Report
+pub mod Promises
 pub mod Programs
 pub mod Search
 pub mod Examples

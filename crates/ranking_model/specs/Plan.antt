@@ -1,6 +1,6 @@
 -- The plan of a query and its prefixes. Segments by falling weight, taken whole, are Lin and Trotman's ("Anytime Ranking
 -- for Impact-Ordered Indexes", ICTIR 2015); which of equal weights comes first is this project's.
-use Rattle.std.specs.Prelude.{ℕ, zero, suc, ◌-◌, ◌^◌, min, Bool, ◌&&◌, ◌==◌, nat_le, List, [], ◌∷◌, ◌++◌, length, map, take, sum_by, fold, slice_get, if◌then◌else◌}
+use Rattle.std.specs.Prelude.{ℕ, zero, suc, ◌+◌, ◌-◌, ◌^◌, min, Bool, ◌&&◌, ◌==◌, nat_le, List, [], ◌∷◌, ◌++◌, length, map, take, sum_by, fold, slice_get, if◌then◌else◌}
 use Rattle.std.specs.Option.{option_map_or}
 use Rattle.std.specs.declared.cmp.Ordering.{Ordering}
 use Rattle.std.specs.Ordering.{nat_cmp, ordering_then}
@@ -44,7 +44,7 @@ abbrev pub classes_of : List WeightedPosting → List Class
 classes_of postings = sorted plan_cmp (grouped postings)
 
 -- the plan of a query on an index: the number of documents, the number of the query's known terms, and the classes
-abbrev pub plan_of : ℕ → List (Entry ℕ) → List Named → QueryPlan
+unfoldable pub plan_of : ℕ → List (Entry ℕ) → List Named → QueryPlan
 plan_of docs flat terms = record { docs = docs; places = length terms; classes = classes_of (weighted_postings flat terms) }
 
 -- the number of postings of the first n classes
@@ -67,6 +67,10 @@ most = 2 ^ 64 - 1
 abbrev pub amount_of : Budget → ℕ
 amount_of (Postings n) = n
 amount_of All = most
+
+-- what one more budget makes of what was granted before it
+abbrev pub granted_with : ℕ → Budget → ℕ
+granted_with granted budget = min most (granted + amount_of budget)
 
 -- the budgets granted so far, in one number
 abbrev pub granted_sum : List Budget → ℕ

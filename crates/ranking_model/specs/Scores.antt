@@ -1,9 +1,9 @@
 -- Scores, the bound and the ranking. Scores as sums of impacts are Lin and Trotman's (ICTIR 2015); ties by document number
 -- and the bound are this project's.
-use Rattle.std.specs.Prelude.{ℕ, ◌+◌, ◌*◌, max, ◌==◌, List, [], ◌∷◌, map, filter, take, drop, sum_by, count_by, slice_get, position, Option, if◌then◌else◌}
-use Rattle.std.specs.List.{range_with_len}
+use Rattle.std.specs.Prelude.{◌≡◌, ◌≢◌, ℕ, ◌+◌, ◌*◌, ◌<◌, ◌≤◌, max, ◌==◌, false, List, [], ◌∷◌, length, map, filter, take, drop, sum_by, count_by, slice_get, slice_index, slice_set, position, AllPairs, Option, if◌then◌else◌}
+use Rattle.std.specs.List.{AllByRecursion, range_with_len}
 use Rattle.std.specs.declared.cmp.Ordering.{Ordering}
-use Rattle.std.specs.Ordering.{nat_cmp, ordering_then}
+use Rattle.std.specs.Ordering.{nat_cmp, ordering_then, is_gt}
 use Rattle.jass_base.specs.declared.answer.Hit.{Hit}
 use Rattle.ranking_model.specs.declared.posting.WeightedPosting.{WeightedPosting}
 use Rattle.ranking_model.specs.declared.class.Class.{Class}
@@ -22,6 +22,11 @@ adds doc p = if p.doc == doc then p.weight else 0
 -- the scores of all documents after the first n classes
 abbrev pub scores_after : ℕ → QueryPlan → List ℕ
 scores_after n plan = map (λ doc. sum_by (gain_of doc) (take n plan.classes)) (range_with_len 0 plan.docs)
+
+-- the scores with a weight added at each of these documents, as often as they name it
+abbrev pub added : ℕ → List ℕ → List ℕ → List ℕ
+added weight [] scores = scores
+added weight (doc ∷ docs) scores = added weight docs (slice_set scores doc (slice_index scores doc + weight))
 
 -- the greatest of some numbers, 0 where there is none
 abbrev pub greatest : List ℕ → ℕ
@@ -48,6 +53,15 @@ rank_cmp a b = ordering_then (nat_cmp b.score a.score) (nat_cmp a.doc b.doc)
 -- the first m documents by rank, without those of score 0
 abbrev pub first_ranked : List ℕ → ℕ → List Hit
 first_ranked scores m = take m (sorted rank_cmp (hits_from 0 scores))
+
+-- no hit comes after one of the others
+abbrev pub AreAhead : List Hit → List Hit → Type 0
+AreAhead hits others = AllByRecursion (λ hit. AllByRecursion (λ other. is_gt (rank_cmp hit other) ≡ false) others) hits
+
+-- some of the documents that have a score, each once and with its score
+pub record AreHitsOf (scores : List ℕ) (hits : List Hit) : Type 0 where
+  pub scored : AllByRecursion (λ hit. (hit.doc < length scores) × (1 ≤ hit.score) × (hit.score ≡ slice_index scores hit.doc)) hits
+  pub once : AllPairs (λ a b. a.doc ≢ b.doc) hits
 
 -- the hit after the first k, if there is one
 abbrev pub runner_up : List ℕ → ℕ → Option Hit

@@ -1,5 +1,5 @@
 ghost use Rattle.std.specs.Prelude.{◌≡◌};
-ghost use Rattle.ranking_model.specs.Plan.{amount_of, granted_sum};
+ghost use Rattle.ranking_model.specs.Plan.{amount_of, granted_with, granted_sum};
 
 use jass_base::Budget;
 
@@ -10,9 +10,17 @@ pub fn granted_sum(budgets: &[Budget]) -> u64
 {
     let mut sum: u64 = 0;
     for budget in budgets {
-        sum = sum.saturating_add(amount_of(*budget));
+        sum = granted_with(sum, *budget);
     }
     sum
+}
+
+/// What one more budget makes of what was granted before it, as one number of postings. It stops at
+/// 2^64 - 1.
+pub fn granted_with(granted: u64, budget: Budget) -> u64
+    ensures { result ≡ granted_with granted budget }
+{
+    granted.saturating_add(amount_of(budget))
 }
 
 fn amount_of(budget: Budget) -> u64

@@ -1,6 +1,8 @@
 //! The definitions run on small indexes (`specs/Examples.antt`): each clause is proved by computing
 //! both sides. The reports beside these answers stand in the module `graded`.
 
+#![tactic(auto, unfolding(crate::specs::Plan::plan_of))]
+
 ghost use Rattle.std.specs.Prelude.{◌≡◌, ℕ, map, ◌^◌, ◌-◌, [], ◌∷◌, ◌++◌, codes};
 ghost use Rattle.std.specs.Ordering.{nat_cmp};
 ghost use Rattle.std.specs.Cmp.Lexicographic.{slice_cmp};
@@ -8,7 +10,7 @@ ghost use Rattle.ranking_model.specs.declared.entry.Entry.{Entry};
 ghost use Rattle.ranking_model.specs.Flat.{IsFlat, numbered};
 ghost use Rattle.ranking_model.specs.Plan.{prefix_within, granted_sum, most};
 ghost use Rattle.ranking_model.specs.Scores.{scores_after, top_k, runner_up, least_untouched};
-ghost use Rattle.ranking_model.specs.Search.{query_run};
+ghost use Rattle.ranking_model.specs.Search.{prefixes_granted, query_run};
 ghost use Rattle.ranking_model.specs.Examples.{hit, class, pets, falling, pet_names, cat_dog, dog_cat, cat_twice_dog, a_once, a_twice, close_a};
 ghost use Rattle.ranking_model.specs.Examples.{p_q_lower, p_q_higher, p_q_swapping, nothing_known};
 
@@ -133,8 +135,9 @@ pub fn grants_add_up()
 /// The run of `cat dog` with two hits, at a budget of 2 postings and then of all: an answer for
 /// each, as the parts 1 and 2 of the run. A single budget makes no parts.
 pub fn a_run_of_two_budgets()
-    ensures two { query_run pet_names cat_dog (codes "301") 2 (Budget.Postings 2 ∷ Budget.All ∷ []) (codes "jass")
+    ensures prefixes { prefixes_granted (Budget.Postings 2 ∷ Budget.All ∷ []) cat_dog ≡ 2 ∷ 4 ∷ [] }
+    ensures two { query_run pet_names cat_dog (codes "301") 2 (2 ∷ 4 ∷ []) (codes "jass")
         ≡ codes "301 Q0 d0 1 3 jass.1\n301 Q0 d2 2 3 jass.1\n301 Q0 d0 1 3 jass.2\n301 Q0 d1 2 3 jass.2\n" }
-    ensures one { query_run pet_names cat_dog (codes "301") 2 (Budget.All ∷ []) (codes "jass")
+    ensures one { query_run pet_names cat_dog (codes "301") 2 (4 ∷ []) (codes "jass")
         ≡ codes "301 Q0 d0 1 3 jass\n301 Q0 d1 2 3 jass\n" }
 {}

@@ -1,6 +1,8 @@
 //! The reports of the small indexes with their grades: where the answer stands, for all gains, and
 //! where it doesn't, by gains that change it.
 
+#![tactic(auto, unfolding(crate::specs::Plan::plan_of))]
+
 ghost use Rattle.std.specs.Prelude.{[], ◌∷◌};
 ghost use Rattle.ranking_model.specs.Report.{IsReport};
 ghost use Rattle.ranking_model.specs.Search.{AreReports};

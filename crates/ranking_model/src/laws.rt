@@ -1,12 +1,13 @@
 //! Laws over the definitions. Each function does nothing: its contract is the law, and a caller
 //! learns it by the call.
 
-ghost use Rattle.std.specs.Prelude.{◌≡◌, ◌≢◌, ℕ, ◌<◌, ◌≤◌, List, [], length, take, drop, flat_map, sum_by, All, AllPairs, IsPermutation, IsSorted};
+ghost use Rattle.std.specs.Prelude.{◌≡◌, ◌≢◌, ℕ, ◌<◌, ◌≤◌, ◌^◌, List, [], ◌++◌, length, replicate, take, drop, flat_map, sum_by, All, AllPairs, Contains, IsPermutation, IsSorted};
 ghost use Rattle.std.specs.List.{AllByRecursion};
 ghost use Rattle.std.specs.Ordering.{nat_cmp};
 ghost use Rattle.std.specs.Cmp.Lexicographic.{slice_cmp};
 ghost use Rattle.jass_base.specs.declared.answer.Hit.{Hit};
 ghost use Rattle.jass_base.specs.declared.answer.Grade.{Grade};
+ghost use Rattle.jass_base.specs.declared.answer.Report.{Report};
 ghost use Rattle.ranking_model.specs.declared.plan.QueryPlan.{QueryPlan};
 ghost use Rattle.jass_base.specs.declared.named.Named.{Named};
 ghost use Rattle.ranking_model.specs.declared.entry.Entry.{Entry};
@@ -14,10 +15,15 @@ ghost use Rattle.ranking_model.specs.declared.posting.WeightedPosting.{WeightedP
 ghost use Rattle.ranking_model.specs.declared.class.Class.{Class};
 ghost use Rattle.ranking_model.specs.Flat.{IsFlat, numbered};
 ghost use Rattle.ranking_model.specs.Order.{sorted};
+ghost use Rattle.ranking_model.specs.Postings.{AreTerms, weighted_postings};
 ghost use Rattle.ranking_model.specs.Plan.{postings_of, plan_of, plan_cmp, classes_of, size_of_first, prefix_within, cutoff_after, next_after};
-ghost use Rattle.ranking_model.specs.Scores.{adds, gain_of, bound_after, scores_after, rank_cmp, hits_from, first_ranked};
-ghost use Rattle.ranking_model.specs.Finality.{GainsUpTo, IsSettled, IsKept, IsGrade};
+ghost use Rattle.ranking_model.specs.Scores.{adds, gain_of, bound_after, scores_after, rank_cmp, hits_from, first_ranked, AreAhead, AreHitsOf};
+ghost use Rattle.ranking_model.specs.Limits.{IsSmall};
+ghost use Rattle.ranking_model.specs.Finality.{AreGains, AreGainsWithin, GainsUpTo, IsSettled, IsKept, IsGrade};
+ghost use Rattle.ranking_model.specs.Finality.{IsSettledWithin, IsKeptWithin, IsGradeWithin};
 ghost use Rattle.ranking_model.specs.Heaviest.{IsHeaviest};
+ghost use Rattle.ranking_model.specs.Report.{IsReport};
+ghost use Rattle.ranking_model.specs.Promises.{IsPromised};
 
 /// The prefix that a budget pays for fits it, and no longer one does.
 pub fn the_prefix_is_the_longest()
@@ -57,6 +63,24 @@ pub fn the_classes_have_all_postings()
         sum_by (gain_of doc) (classes_of postings) ≡ sum_by (adds doc) postings }
 {}
 
+/// What a plan is, for which nobody has to open it.
+#[tactic(auto, unfolding(crate::specs::Plan::plan_of))]
+pub fn a_plan_has_the_classes_of_its_postings()
+    ensures docs { (docs : ℕ) (flat : List (Entry ℕ)) (terms : List Named) → (plan_of docs flat terms).docs ≡ docs }
+    ensures places { (docs : ℕ) (flat : List (Entry ℕ)) (terms : List Named) →
+        (plan_of docs flat terms).places ≡ length terms }
+    ensures classes { (docs : ℕ) (flat : List (Entry ℕ)) (terms : List Named) →
+        (plan_of docs flat terms).classes ≡ classes_of (weighted_postings flat terms) }
+{}
+
+/// The numbers of a plan fit their types, where each term is named at most 255 times and the index
+/// has at most 2^29 postings.
+pub fn plans_are_small()
+    ensures { (docs : ℕ) (flat : List (Entry ℕ)) (terms : List Named) →
+        IsFlat nat_cmp docs flat → AreTerms terms → All (λ named. named.times ≤ 255) terms → length flat ≤ 2 ^ 29 →
+        IsSmall (plan_of docs flat terms) }
+{}
+
 /// Segments that differ in place or weight, put down one after the other, are the classes.
 pub fn segments_are_classes()
     ensures { (segments : List Class) →
@@ -70,6 +94,28 @@ pub fn the_ranking_is_one()
     ensures { (scores : List ℕ) (m : ℕ) (hits : List Hit) →
         IsPermutation (hits_from 0 scores) hits → IsSorted rank_cmp hits →
         take m hits ≡ first_ranked scores m }
+{}
+
+/// The ranking from a part of the hits: where none of the part comes after one of the rest, and the
+/// part has m hits or all, the part in order is the first m.
+pub fn the_hits_ahead_are_the_first()
+    ensures in_order { (scores : List ℕ) (m : ℕ) (hits rest : List Hit) →
+        IsPermutation (hits_from 0 scores) (hits ++ rest) → AreAhead hits rest →
+        length hits ≤ m → (length hits < m → rest ≡ []) →
+        IsSorted rank_cmp hits → hits ≡ first_ranked scores m }
+    ensures in_any_order { (scores : List ℕ) (m : ℕ) (hits rest : List Hit) →
+        IsPermutation (hits_from 0 scores) (hits ++ rest) → AreAhead hits rest →
+        length hits ≤ m → (length hits < m → rest ≡ []) →
+        sorted rank_cmp hits ≡ first_ranked scores m }
+{}
+
+/// The ranking from candidates: where the first m are among them, they are the first m of the
+/// candidates in order.
+pub fn the_candidates_have_the_first()
+    ensures { (scores : List ℕ) (m : ℕ) (candidates : List Hit) →
+        AreHitsOf scores candidates →
+        AllByRecursion (λ hit. Contains candidates hit) (first_ranked scores m) →
+        take m (sorted rank_cmp candidates) ≡ first_ranked scores m }
 {}
 
 /// There is a score for each document of the index, and a ranking has documents of its scores.
@@ -89,6 +135,21 @@ pub fn the_grade_is_one()
     ensures one { (scores : List ℕ) (k bound : ℕ) (first second : Grade) →
         IsGrade scores k bound first → IsGrade scores k bound second → first ≡ second }
     ensures kept { (scores : List ℕ) (k bound : ℕ) → IsSettled scores k bound → IsKept scores k bound }
+    ensures one_within { (scores limits : List ℕ) (k : ℕ) (first second : Grade) →
+        IsGradeWithin scores k limits first → IsGradeWithin scores k limits second → first ≡ second }
+{}
+
+/// Gains up to a bound are gains with that limit for each document, and what is settled or kept by
+/// a bound is so by limits up to it.
+pub fn a_bound_is_a_limit_for_each()
+    ensures gains { (scores gains : List ℕ) (bound : ℕ) →
+        AreGains bound scores gains → AreGainsWithin (replicate (length scores) bound) scores gains }
+    ensures limits { (scores gains : List ℕ) (bound : ℕ) →
+        AreGainsWithin (replicate (length scores) bound) scores gains → AreGains bound scores gains }
+    ensures settled { (scores limits : List ℕ) (k bound : ℕ) →
+        AllByRecursion (λ limit. limit ≤ bound) limits → IsSettled scores k bound → IsSettledWithin scores k limits }
+    ensures kept { (scores limits : List ℕ) (k bound : ℕ) →
+        AllByRecursion (λ limit. limit ≤ bound) limits → IsKept scores k bound → IsKeptWithin scores k limits }
 {}
 
 /// What is unscored gives no document more than the bound: the scores after more classes are those
@@ -98,4 +159,13 @@ pub fn the_rest_gains_at_most_the_bound()
         IsFlat nat_cmp docs flat → n ≤ m →
         let plan = plan_of docs flat terms in
         GainsUpTo (bound_after n plan) (scores_after n plan) (scores_after m plan) }
+{}
+
+/// A report of a query on an index keeps its promises. Those of its grade are for every later
+/// prefix of the plan, so for the exhaustive answer.
+pub fn reports_keep_their_promises()
+    ensures { (docs n k : ℕ) (flat : List (Entry ℕ)) (terms : List Named) (report : Report) →
+        IsFlat nat_cmp docs flat →
+        let plan = plan_of docs flat terms in
+        IsReport n plan k report → IsPromised (weighted_postings flat terms) n plan k report }
 {}

@@ -16,6 +16,7 @@ pub mod order_laws;
 mod plan;
 mod posting;
 mod prefix;
+pub mod prefix_laws;
 mod rank;
 mod report;
 mod scores;
@@ -23,7 +24,7 @@ mod standing;
 pub mod texts;
 
 pub use bound::bound_after;
-pub use budget::granted_sum;
+pub use budget::{granted_sum, granted_with};
 pub use class::{Class, classes_of};
 pub use entry::Entry;
 pub use plan::{QueryPlan, plan_of, top_k};

@@ -1,7 +1,7 @@
 //! Laws of order, for items of any kind and any total order of them. Each function does nothing:
 //! its contract is the law.
 
-ghost use Rattle.std.specs.Prelude.{◌≡◌, List, IsPermutation, IsSorted};
+ghost use Rattle.std.specs.Prelude.{◌≡◌, List, map, IsPermutation, IsSorted};
 ghost use Rattle.std.specs.List.Sorted.{IsStable};
 ghost use Rattle.std.specs.declared.cmp.Ordering.{Ordering};
 ghost use Rattle.std.specs.Cmp.{IsTotalOrder};
@@ -31,6 +31,12 @@ pub fn sorts_leave_sorted<T>()
         IsSorted cmp ys → IsStable cmp xs ys → ys ≡ sorted cmp xs }
     ensures unstable { (cmp : T → T → Ordering) (xs ys : List T) → IsTotalOrder cmp → IsAntisymmetric cmp →
         IsPermutation xs ys → IsSorted cmp ys → ys ≡ sorted cmp xs }
+{}
+
+/// A map that keeps the order can be taken before or after `sorted`.
+pub fn sorted_goes_through_a_map<T, U>()
+    ensures { (f : T → U) (cmp : T → T → Ordering) (mapped : U → U → Ordering) (xs : List T) →
+        ((x y : T) → mapped (f x) (f y) ≡ cmp x y) → sorted mapped (map f xs) ≡ map f (sorted cmp xs) }
 {}
 
 /// The order of a flat list is total where that of its terms is, and only equal entries tie.

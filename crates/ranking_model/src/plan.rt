@@ -26,6 +26,7 @@ pub struct QueryPlan {
 
 /// The plan of a query with these terms on an index of `docs` documents with these entries, at
 /// most 2^29.
+#[tactic(auto, unfolding(crate::specs::Plan::plan_of))]
 pub fn plan_of(
     alloc: Global,
     docs: u32,

@@ -1,12 +1,11 @@
 //! The texts of small answers, byte by byte.
 
 ghost use Rattle.std.specs.Prelude.{◌≡◌, [], ◌∷◌, codes};
-ghost use Rattle.jass_base.specs.declared.query.Query.{Query};
 ghost use Rattle.ranking_model.specs.Flat.{numbered};
 ghost use Rattle.ranking_model.specs.Report.{report_line, run_lines};
 ghost use Rattle.ranking_model.specs.Scores.{top_k};
 ghost use Rattle.ranking_model.specs.Search.{search_run, IsSearchReports};
-ghost use Rattle.ranking_model.specs.Examples.{report, named, pets, falling_names, pet_names, a_once, cat_dog};
+ghost use Rattle.ranking_model.specs.Examples.{report, pets, falling_names, pet_names, a_once, cat_dog, two_queries};
 
 use jass_base::{Budget, Grade};
 
@@ -25,6 +24,7 @@ pub fn report_lines()
 {}
 
 /// The run lines of `a`, and of `cat dog` with 4 postings. Nothing scored has no lines.
+#[tactic(auto, unfolding(crate::specs::Plan::plan_of))]
 pub fn lines_of_answers()
     ensures a { run_lines falling_names (codes "q") (codes "jass") 1 (top_k 3 a_once 3)
         ≡ codes "q Q0 d0 1 9 jass\nq Q0 d1 2 5 jass\nq Q0 d2 3 1 jass\n" }
@@ -35,15 +35,10 @@ pub fn lines_of_answers()
 
 /// A search of `cat dog` and of a word that no document has, for two hits, at a budget of 2
 /// postings and then of all: the run, and the report lines.
+#[tactic(auto, unfolding(crate::specs::Plan::plan_of))]
 pub fn a_search_of_two_queries()
-    ensures run { (first second : Query) →
-        first.id ≡ codes "301" → first.terms ≡ named 0 1 ∷ named 1 1 ∷ [] →
-        second.id ≡ codes "302" → second.terms ≡ [] →
-        search_run pet_names (numbered pets) (first ∷ second ∷ []) 2 (Budget.Postings 2 ∷ Budget.All ∷ []) (codes "jass")
+    ensures run { search_run pet_names (numbered pets) two_queries 2 (Budget.Postings 2 ∷ Budget.All ∷ []) (codes "jass")
         ≡ codes "301 Q0 d0 1 3 jass.1\n301 Q0 d2 2 3 jass.1\n301 Q0 d0 1 3 jass.2\n301 Q0 d1 2 3 jass.2\n" }
-    ensures reports { (first second : Query) →
-        first.id ≡ codes "301" → first.terms ≡ named 0 1 ∷ named 1 1 ∷ [] → first.unknown ≡ 0 →
-        second.id ≡ codes "302" → second.terms ≡ [] → second.unknown ≡ 1 →
-        IsSearchReports pet_names (numbered pets) (first ∷ second ∷ []) 2 (Budget.Postings 2 ∷ Budget.All ∷ [])
+    ensures reports { IsSearchReports pet_names (numbered pets) two_queries 2 (Budget.Postings 2 ∷ Budget.All ∷ [])
         (codes "301 postings 2 segments 2 of 4 cutoff 3 next 2 bound 3 unknown 0 open\n301 postings 5 segments 4 of 4 cutoff 1 next 0 bound 0 unknown 0 final\n302 postings 0 segments 0 of 0 cutoff 0 next 0 bound 0 unknown 1 final\n302 postings 0 segments 0 of 0 cutoff 0 next 0 bound 0 unknown 1 final\n") }
 {}

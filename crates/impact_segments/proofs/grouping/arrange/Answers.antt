@@ -2,7 +2,7 @@
 use Rattle.std.proofs.Common.{rules, ℕ}
 use Rattle.std.proofs.lemmas.List.Sorted.{answers_always}
 use Rattle.std.specs.declared.cmp.Reverse.{Reverse}
-use Rattle.ranking_model.specs.Sorting.{sort_is_sorted}
+use Rattle.ranking_model.proofs.Sorting.{sort_is_sorted}
 use Rattle.impact_segments.specs.Pairs.{pair_cmp}
 use Rattle.impact_segments.proofs.Orders.{pair_total, pair_same}
 use Rattle.impact_segments.proofs.grouping.arrange.Goals as goal

@@ -7,7 +7,7 @@ use Rattle.std.proofs.lemmas.Cmp.{on_total}
 use Rattle.std.proofs.lemmas.List.Sorted.{answers_always, ranks_by}
 use Rattle.jass_base.specs.declared.postings_list.PostingsList.{PostingsList}
 use Rattle.ranking_model.specs.Order.{sorted}
-use Rattle.ranking_model.specs.Sorting.{stable_is_sorted}
+use Rattle.ranking_model.proofs.Sorting.{stable_is_sorted}
 use Rattle.impact_segments.specs.Listed.{term_cmp, lists_behind}
 use Rattle.impact_segments.proofs.Lists.{map_sorted}
 use Rattle.impact_segments.proofs.Orders.{term_total}

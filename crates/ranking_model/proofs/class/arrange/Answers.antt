@@ -4,8 +4,8 @@ use Rattle.std.proofs.lemmas.List.Sorted.{answers_always}
 use Rattle.std.specs.declared.cmp.Reverse.{Reverse}
 use Rattle.ranking_model.specs.declared.class.Class.{Class}
 use Rattle.ranking_model.specs.Plan.{plan_cmp}
-use Rattle.ranking_model.specs.Sorting.{stable_is_sorted}
-use Rattle.ranking_model.specs.Orders.{plan_total}
+use Rattle.ranking_model.proofs.Sorting.{stable_is_sorted}
+use Rattle.ranking_model.proofs.Orders.{plan_total}
 use Rattle.ranking_model.proofs.class.arrange.Goals as goal
 
 abbrev key : Class → Reverse ℕ × ℕ × ℕ

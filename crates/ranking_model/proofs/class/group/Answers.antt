@@ -2,7 +2,7 @@
 use Rattle.std.proofs.Common.{◌∙◌, ap, Vec, Global}
 use Rattle.ranking_model.specs.declared.class.Class.{Class}
 use Rattle.ranking_model.specs.Programs.{place_cmp}
-use Rattle.ranking_model.specs.Sorting.{ascends_sorted}
+use Rattle.ranking_model.proofs.Sorting.{ascends_sorted}
 use Rattle.ranking_model.proofs.Classes.{place_total, grouped_joins, grouped_begins}
 use Rattle.ranking_model.proofs.class.group.Goals.{then-continues+in_ok-add_to_last, else-continues+in_ok-begin}
 use Rattle.ranking_model.proofs.class.group.Goals as goal

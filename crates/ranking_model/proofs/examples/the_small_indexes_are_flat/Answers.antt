@@ -6,8 +6,8 @@ use Rattle.std.proofs.lemmas.Cmp.{nat_list_cmp_total}
 use Rattle.std.proofs.lemmas.List.Elements.{All-from_recursion}
 use Rattle.ranking_model.specs.declared.entry.Entry.{Entry}
 use Rattle.ranking_model.specs.Flat.{entry_cmp}
-use Rattle.ranking_model.specs.Orders.{entry_total}
-use Rattle.ranking_model.specs.Sorting.{sorted_ascending}
+use Rattle.ranking_model.proofs.Orders.{entry_total}
+use Rattle.ranking_model.proofs.Sorting.{sorted_ascending}
 use Rattle.ranking_model.specs.Examples.{pets, falling}
 use Rattle.ranking_model.proofs.Numbering.{pairs_from_recursion}
 use Rattle.ranking_model.proofs.examples.the_small_indexes_are_flat.Goals as goal

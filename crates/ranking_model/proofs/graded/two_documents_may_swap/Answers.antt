@@ -2,6 +2,7 @@
 use Rattle.std.proofs.Common.{◌∷◌, [], zero, suc, refl, arith}
 use Rattle.std.proofs.lemmas.List.Sorted.{IsPermutation-refl, IsPermutation-reverse}
 use Rattle.ranking_model.specs.Finality.{IsKept}
+use Rattle.ranking_model.specs.Plan.{plan_of}
 use Rattle.ranking_model.proofs.graded.two_documents_may_swap.Goals as goal
 
 kept : IsKept (2 ∷ 3 ∷ []) 2 1
@@ -16,6 +17,7 @@ kept (g ∷ suc (suc h) ∷ []) a = absurd (let few = a.within.1.0 in omega arit
 kept (g ∷ h ∷ i ∷ gains) a = absurd (omega arith)
 
 pub returns : goal.returns
+unfolding plan_of
 returns c = record {
   numbers = refl;
   graded = (kept, λ settled. let swapped = settled (1 ∷ 0 ∷ []) (record { each = refl; within = (omega arith, (omega arith, tt)) }) in cc);

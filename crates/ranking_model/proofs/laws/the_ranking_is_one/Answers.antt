@@ -1,7 +1,7 @@
 use Rattle.std.proofs.Common.{ap, take}
 use Rattle.ranking_model.specs.Scores.{rank_cmp, hits_from}
-use Rattle.ranking_model.specs.Sorting.{sort_is_sorted}
-use Rattle.ranking_model.specs.Orders.{rank_total, rank_same}
+use Rattle.ranking_model.proofs.Sorting.{sort_is_sorted}
+use Rattle.ranking_model.proofs.Orders.{rank_total, rank_same}
 use Rattle.ranking_model.proofs.laws.the_ranking_is_one.Goals as goal
 
 pub returns : goal.returns

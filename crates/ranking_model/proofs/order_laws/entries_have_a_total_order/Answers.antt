@@ -1,4 +1,4 @@
-use Rattle.ranking_model.specs.Orders.{entry_total, entry_same}
+use Rattle.ranking_model.proofs.Orders.{entry_total, entry_same}
 use Rattle.ranking_model.proofs.order_laws.entries_have_a_total_order.Goals as goal
 
 pub returns-clause-total : goal.returns-clause-total

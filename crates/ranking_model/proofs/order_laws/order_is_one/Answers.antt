@@ -1,4 +1,4 @@
-use Rattle.ranking_model.specs.Sorting.{one_order}
+use Rattle.ranking_model.proofs.Sorting.{one_order}
 use Rattle.ranking_model.proofs.order_laws.order_is_one.Goals as goal
 
 pub returns : goal.returns

@@ -1,4 +1,4 @@
-use Rattle.ranking_model.specs.Orders.{plan_total, rank_total, rank_same}
+use Rattle.ranking_model.proofs.Orders.{plan_total, rank_total, rank_same}
 use Rattle.ranking_model.proofs.order_laws.plans_and_rankings_have_a_total_order.Goals as goal
 
 pub returns-clause-plan : goal.returns-clause-plan

@@ -1,5 +1,5 @@
 use Rattle.ranking_model.specs.Order.{sorted}
-use Rattle.ranking_model.specs.Sorting.{sorted_ascends, sorted_ascending, sorted_is_permutation}
+use Rattle.ranking_model.proofs.Sorting.{sorted_ascends, sorted_ascending, sorted_is_permutation}
 use Rattle.ranking_model.proofs.order_laws.sorted_is_in_order.Goals as goal
 
 pub returns-clause-order : goal.returns-clause-order

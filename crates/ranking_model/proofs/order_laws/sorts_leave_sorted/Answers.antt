@@ -1,4 +1,4 @@
-use Rattle.ranking_model.specs.Sorting.{sort_is_sorted, stable_is_sorted}
+use Rattle.ranking_model.proofs.Sorting.{sort_is_sorted, stable_is_sorted}
 use Rattle.ranking_model.proofs.order_laws.sorts_leave_sorted.Goals as goal
 
 pub returns-clause-stable : goal.returns-clause-stable

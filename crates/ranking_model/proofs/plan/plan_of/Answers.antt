@@ -6,12 +6,15 @@ use Rattle.ranking_model.specs.Plan.{classes_of}
 use Rattle.ranking_model.specs.Limits.{IsSmall}
 use Rattle.ranking_model.proofs.Weighing.{weighted_in_order}
 use Rattle.ranking_model.proofs.Small.{plan_is_small}
+use Rattle.ranking_model.specs.Plan.{plan_of}
 use Rattle.ranking_model.proofs.plan.plan_of.Goals as goal
 
 pub classes_of-requires : goal.classes_of-requires
+unfolding plan_of
 classes_of-requires c = subst (IsSorted place_cmp) (sym (c.as_slice.ensures ∙ c.in_ok-postings.ensures.postings)) (weighted_in_order c.args.docs c.args.entries.now c.args.terms.now c.requires.flat)
 
 pub returns-clause-small : goal.returns-clause-small
+unfolding plan_of
 returns-clause-small c = subst (λ (classes : List Class). IsSmall (record { docs = c.args.docs; places = length c.args.terms.now; classes = classes }))
     (sym (c.in_ok-classes.ensures ∙ ap classes_of (c.as_slice.ensures ∙ c.in_ok-postings.ensures.postings)))
     (plan_is_small c.args.docs c.args.entries.now c.args.terms.now c.requires.flat c.requires.terms c.requires.postings (subst AreLight c.in_ok-postings.ensures.postings c.in_ok-postings.ensures.light))

@@ -4,8 +4,8 @@ use Rattle.std.proofs.lemmas.List.Sorted.{answers_always}
 use Rattle.std.specs.declared.cmp.Reverse.{Reverse}
 use Rattle.jass_base.specs.declared.answer.Hit.{Hit}
 use Rattle.ranking_model.specs.Scores.{rank_cmp}
-use Rattle.ranking_model.specs.Sorting.{sort_is_sorted}
-use Rattle.ranking_model.specs.Orders.{rank_total, rank_same}
+use Rattle.ranking_model.proofs.Sorting.{sort_is_sorted}
+use Rattle.ranking_model.proofs.Orders.{rank_total, rank_same}
 use Rattle.ranking_model.proofs.rank.rank.Goals as goal
 
 abbrev key : Hit → Reverse ℕ × ℕ

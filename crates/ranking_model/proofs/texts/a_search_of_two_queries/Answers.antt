@@ -1,24 +1,20 @@
 -- Each number has one digit, and the rest computes.
-use Rattle.std.proofs.Common.{◌∷◌, [], List, refl, sym, subst, arith}
+use Rattle.std.proofs.Common.{◌∷◌, [], refl, arith}
 use Rattle.std.proofs.lemmas.Fmt.{decimal_digit}
-use Rattle.jass_base.specs.declared.named.Named.{Named}
 use Rattle.jass_base.specs.declared.answer.Grade.TheVariants.{Final, Open}
-use Rattle.ranking_model.specs.Flat.{numbered}
+use Rattle.ranking_model.specs.Examples.{report}
+use Rattle.ranking_model.proofs.Searched.{cat_dog_reports, no_reports}
 use Rattle.ranking_model.specs.Plan.{plan_of}
-use Rattle.ranking_model.specs.Search.{AreReports}
-use Rattle.ranking_model.specs.Examples.{report, pets}
-use Rattle.ranking_model.proofs.Searched.{two_budgets, cat_dog_reports, no_reports}
 use Rattle.ranking_model.proofs.texts.a_search_of_two_queries.Goals as goal
 
 pub returns-clause-run : goal.returns-clause-run
-returns-clause-run c = λ first second id terms other none. rw (id, terms, other, none) (rw (decimal_digit 3 (omega arith), decimal_digit 2 (omega arith), decimal_digit 1 (omega arith)) refl)
+unfolding plan_of
+returns-clause-run c = rw (decimal_digit 3 (omega arith), decimal_digit 2 (omega arith), decimal_digit 1 (omega arith)) refl
 
 pub returns-clause-reports : goal.returns-clause-reports
-returns-clause-reports c = λ first second id terms known other none unknown. record {
+unfolding plan_of
+returns-clause-reports c = record {
   reports = (report 2 2 4 3 2 3 Open ∷ report 5 4 4 1 0 0 Final ∷ []) ∷ (report 0 0 0 0 0 0 Final ∷ report 0 0 0 0 0 0 Final ∷ []) ∷ [];
-  each = (
-    subst (λ (ts : List Named). AreReports (plan_of 4 (numbered pets) ts) 2 two_budgets (report 2 2 4 3 2 3 Open ∷ report 5 4 4 1 0 0 Final ∷ [])) (sym terms) cat_dog_reports,
-    (subst (λ (ts : List Named). AreReports (plan_of 4 (numbered pets) ts) 2 two_budgets (report 0 0 0 0 0 0 Final ∷ report 0 0 0 0 0 0 Final ∷ [])) (sym none) no_reports, tt),
-  );
-  is = rw (id, known, other, unknown) (rw (decimal_digit 5 (omega arith), decimal_digit 4 (omega arith), decimal_digit 3 (omega arith), decimal_digit 2 (omega arith), decimal_digit 1 (omega arith), decimal_digit 0 (omega arith)) refl);
+  each = (cat_dog_reports, (no_reports, tt));
+  is = rw (decimal_digit 5 (omega arith), decimal_digit 4 (omega arith), decimal_digit 3 (omega arith), decimal_digit 2 (omega arith), decimal_digit 1 (omega arith), decimal_digit 0 (omega arith)) refl;
 }

@@ -11,7 +11,7 @@ use Rattle.ranking_model.specs.declared.class.Class.{Class}
 use Rattle.ranking_model.specs.Flat.{entry_cmp}
 use Rattle.ranking_model.specs.Plan.{plan_cmp}
 use Rattle.ranking_model.specs.Scores.{rank_cmp}
-use Rattle.ranking_model.specs.Sorting.{both_equal}
+use Rattle.ranking_model.proofs.Sorting.{both_equal}
 
 pub entry_total : {T : Type 0} (cmp : T → T → Ordering) → IsTotalOrder cmp → IsTotalOrder (entry_cmp cmp)
 entry_total {T} cmp o = then_total (then_total (on_total (λ (e : Entry T). e.term) o) (on_total (λ (e : Entry T). e.impact) (back_total nat_cmp_total)))

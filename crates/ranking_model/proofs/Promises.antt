@@ -1,0 +1,41 @@
+-- A report keeps what it promises: its numbers are the plan's, and its grade is for all gains up to the bound.
+use Rattle.std.proofs.Common.{◌≡◌, ℕ, zero, suc, ◌≤◌, Bool, List, length, take, drop, sum_by, sym, ap, subst, ◌∙◌}
+use Rattle.std.specs.Prelude.{IsPermutation}
+use Rattle.std.specs.List.{AllByRecursion, items_where_true}
+use Rattle.std.specs.Ordering.{nat_cmp}
+use Rattle.jass_base.specs.declared.answer.Grade.{Grade}
+use Rattle.jass_base.specs.declared.answer.Grade.TheVariants.{Final, Set}
+use Rattle.jass_base.specs.declared.answer.Report.{Report}
+use Rattle.jass_base.specs.declared.named.Named.{Named}
+use Rattle.ranking_model.specs.declared.entry.Entry.{Entry}
+use Rattle.ranking_model.specs.declared.class.Class.{Class}
+use Rattle.ranking_model.specs.declared.plan.QueryPlan.{QueryPlan}
+use Rattle.ranking_model.specs.declared.posting.WeightedPosting.{WeightedPosting}
+use Rattle.ranking_model.specs.Flat.{IsFlat}
+use Rattle.ranking_model.specs.Postings.{weighted_postings}
+use Rattle.ranking_model.specs.Plan.{plan_of, classes_of}
+use Rattle.ranking_model.specs.Scores.{scores_after, bound_after}
+use Rattle.ranking_model.specs.Finality.{first_documents, GainsUpTo, IsSettled, IsKept, IsGrade}
+use Rattle.ranking_model.specs.Heaviest.{IsHeaviest, weight_of_first}
+use Rattle.ranking_model.specs.Report.{IsReport}
+use Rattle.ranking_model.specs.Promises.{IsPromised}
+use Rattle.ranking_model.proofs.Parting.{scored, unscored, parted, heaviest}
+use Rattle.ranking_model.proofs.Rest.{later_scores}
+
+settled_later : (scores later : List ℕ) (k bound : ℕ) → GainsUpTo bound scores later → IsSettled scores k bound → first_documents later k ≡ first_documents scores k
+settled_later scores later k bound g settled = ap (λ s. first_documents s k) (sym g.reach) ∙ settled g.gains g.within
+
+kept_later : (scores later : List ℕ) (k bound : ℕ) → GainsUpTo bound scores later → IsKept scores k bound → IsPermutation (first_documents scores k) (first_documents later k)
+kept_later scores later k bound g kept = subst (λ s. IsPermutation (first_documents scores k) (first_documents s k)) g.reach (kept g.gains g.within)
+
+pub promised : (docs n k : ℕ) (flat : List (Entry ℕ)) (terms : List Named) (report : Report) → IsFlat nat_cmp docs flat
+    → IsReport n (plan_of docs flat terms) k report → IsPromised (weighted_postings flat terms) n (plan_of docs flat terms) k report
+unfolding plan_of
+promised docs n k flat terms report is_flat is = record {
+  scored = subst (λ cutoff. AllByRecursion (λ (class : Class). cutoff ≤ class.weight) (take n (plan_of docs flat terms).classes)) (sym (ap (λ (r : Report). r.cutoff) is.numbers)) (scored (weighted_postings flat terms) n);
+  unscored = subst (λ next. AllByRecursion (λ (class : Class). class.weight ≤ next) (drop n (plan_of docs flat terms).classes)) (sym (ap (λ (r : Report). r.next) is.numbers)) (unscored (weighted_postings flat terms) n);
+  parted = λ some. subst (λ (r : Report). r.next ≤ r.cutoff) (sym is.numbers) (parted (weighted_postings flat terms) n (subst (λ segments. 1 ≤ segments) (ap (λ (r : Report). r.segments) is.numbers) some));
+  heaviest = λ choice size. heaviest n (weighted_postings flat terms) choice (size ∙ ap (λ (r : Report). r.postings) is.numbers);
+  final_stands = λ final m more. settled_later _ _ k _ (later_scores docs n m terms flat is_flat more) (subst (IsGrade (scores_after n (plan_of docs flat terms)) k (bound_after n (plan_of docs flat terms))) final is.graded);
+  set_stands = λ set m more. kept_later _ _ k _ (later_scores docs n m terms flat is_flat more) (subst (IsGrade (scores_after n (plan_of docs flat terms)) k (bound_after n (plan_of docs flat terms))) set is.graded).0;
+}

@@ -1,0 +1,8 @@
+use Rattle.ranking_model.proofs.Growing.{class_added, added_parts}
+use Rattle.ranking_model.proofs.prefix_laws.one_class_more_is_added.Goals as goal
+
+pub returns-clause-class : goal.returns-clause-class
+returns-clause-class c = class_added
+
+pub returns-clause-parts : goal.returns-clause-parts
+returns-clause-parts c = added_parts

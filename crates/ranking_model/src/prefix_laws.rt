@@ -1,0 +1,43 @@
+//! Laws of prefixes that grow: one class more, and one grant more. Each function does nothing: its
+//! contract is the law.
+
+ghost use Rattle.std.specs.Prelude.{◌≡◌, ℕ, ◌+◌, ◌-◌, ◌<◌, ◌≤◌, List, ◌∷◌, ◌++◌, length, take, drop, slice_get};
+ghost use Rattle.jass_base.specs.declared.answer.Budget.{Budget};
+ghost use Rattle.ranking_model.specs.declared.class.Class.{Class};
+ghost use Rattle.ranking_model.specs.declared.plan.QueryPlan.{QueryPlan};
+ghost use Rattle.ranking_model.specs.Plan.{size_of_first, prefix_within, granted_with, granted_sum};
+ghost use Rattle.ranking_model.specs.Scores.{added, scores_after};
+ghost use Rattle.ranking_model.specs.Search.{prefix_granted, prefixes_granted};
+
+/// One class more adds its weight at each of its documents, which may come in parts.
+pub fn one_class_more_is_added()
+    ensures class { (n : ℕ) (plan : QueryPlan) (class : Class) →
+        slice_get plan.classes n ≡ Some class →
+        scores_after (n + 1) plan ≡ added class.weight class.docs (scores_after n plan) }
+    ensures parts { (weight : ℕ) (docs more scores : List ℕ) →
+        added weight (docs ++ more) scores ≡ added weight more (added weight docs scores) }
+{}
+
+/// A prefix is resumed: the classes that are left are scored as far as what is left of the budget
+/// goes.
+pub fn a_prefix_is_resumed()
+    ensures { (before budget n : ℕ) (classes : List Class) →
+        n ≡ prefix_within before classes → before ≤ budget →
+        prefix_within budget classes ≡ n + prefix_within (budget - size_of_first n classes) (drop n classes) }
+{}
+
+/// One budget more is added to the sum of those before it.
+pub fn one_budget_more_is_granted()
+    ensures { (budgets : List Budget) (j : ℕ) (budget : Budget) →
+        slice_get budgets j ≡ Some budget →
+        granted_sum (take (j + 1) budgets) ≡ granted_with (granted_sum (take j budgets)) budget }
+{}
+
+/// There is a prefix for each budget, in the order of the budgets.
+pub fn each_budget_has_its_prefix()
+    ensures many { (budgets : List Budget) (plan : QueryPlan) →
+        length (prefixes_granted budgets plan) ≡ length budgets }
+    ensures from { (budgets : List Budget) (plan : QueryPlan) (j : ℕ) → j < length budgets →
+        let prefixes = prefixes_granted budgets plan in
+        drop j prefixes ≡ prefix_granted (j + 1) budgets plan ∷ drop (j + 1) prefixes }
+{}
