@@ -15,7 +15,7 @@ use Rattle.ranking_model.specs.declared.entry.Entry.{Entry}
 use Rattle.ranking_model.specs.Flat.{entry_cmp, IsFlat}
 use Rattle.ranking_model.proofs.Sorting.{Ascends, ascends_append, sorted_ascending}
 use Rattle.impact_segments.specs.Flat.{doc_entries, segment_entries, term_entries, numbered_from}
-use Rattle.impact_segments.proofs.Lists.{Pairs, pairs_by_recursion, pairs_by_places, all_weaker, all_append, all_map, pairs_append, pairs_map, pairs_weaker, rising_pairs}
+use Rattle.index_model.proofs.Lists.{Pairs, pairs_by_recursion, pairs_by_places, all_weaker, all_append, all_map, pairs_append, pairs_map, pairs_weaker, rising_pairs}
 use Rattle.ranking_model.proofs.Orders.{entry_total}
 use Rattle.impact_segments.proofs.Numbers.{own_entries}
 

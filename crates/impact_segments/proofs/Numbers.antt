@@ -15,7 +15,7 @@ use Rattle.jass_base.specs.Terms.{RisesTo}
 use Rattle.ranking_model.specs.declared.entry.Entry.{Entry}
 use Rattle.ranking_model.specs.Flat.{terms_of, number_of, numbered}
 use Rattle.impact_segments.specs.Flat.{doc_entries, segment_entries, term_entries, flat_of_terms, numbered_from}
-use Rattle.impact_segments.proofs.Lists.{Pairs, pairs_by_recursion, pairs_by_places, all_append, pairs_weaker, pairs_map}
+use Rattle.index_model.proofs.Lists.{Pairs, pairs_by_recursion, pairs_by_places, all_append, pairs_weaker, pairs_map}
 
 abbrev pub texts_of : List TermSegments → List (List ℕ)
 texts_of terms = map (λ (t : TermSegments). t.term) terms

@@ -31,7 +31,7 @@ use Rattle.ranking_model.proofs.Sorting.{Ascends, level, same_ranks, sorted_asce
 use Rattle.impact_segments.specs.Collections.{posting_weight, list_weights, list_entries, index_of}
 use Rattle.impact_segments.specs.Flat.{flat_of_terms}
 use Rattle.impact_segments.specs.Listed.{has_postings, term_cmp}
-use Rattle.impact_segments.proofs.Lists.{Pairs, pairs_by_recursion, pairs_by_places, all_append, all_weaker, pairs_both, pairs_weaker, pairs_sorted, pairs_map, pairs_unmap}
+use Rattle.index_model.proofs.Lists.{Pairs, pairs_by_recursion, pairs_by_places, all_append, all_weaker, pairs_both, pairs_weaker, pairs_sorted, pairs_map, pairs_unmap}
 use Rattle.ranking_model.proofs.Orders.{entry_total}
 use Rattle.impact_segments.proofs.Orders.{term_total, term_same, strictly}
 use Rattle.impact_segments.proofs.OneTerm.{length_sorted}

@@ -33,7 +33,7 @@ use Rattle.impact_segments.specs.Collections.{posting_weight, list_entries}
 use Rattle.impact_segments.specs.Flat.{term_entries, flat_of_terms}
 use Rattle.impact_segments.specs.Listed.{lists_behind}
 use Rattle.impact_segments.specs.Pairs.{pair_cmp, pairs_of, pair_docs, list_pairs}
-use Rattle.impact_segments.proofs.Lists.{Pairs, pairs_by_recursion, all_unmap, all_parts, all_weaker, map_sorted}
+use Rattle.index_model.proofs.Lists.{Pairs, pairs_by_recursion, all_unmap, all_parts, all_weaker, map_sorted}
 
 pub all_map_at : {A B : Type 0} (P : B → Type 0) (f : A → B) (xs : List A) (i : ℕ) (d : A) → i < length xs → All P (map f xs) → P (f (get_or xs i d))
 all_map_at P f xs i d low h = let inside : i < length (map f xs) = rw length-map low in subst P (get_or-map f xs i d (f d) low) (h i (f d) inside)

@@ -15,7 +15,7 @@ use Rattle.weights.specs.declared.quantizing.Bits.TheVariants.{Of}
 use Rattle.weights.specs.declared.quantizing.Range.{Range}
 use Rattle.weights.specs.Quantizing.{widened, range_of, empty_range, Holds, IsInRange}
 use Rattle.impact_segments.specs.Collections.{lengths_of, list_weights}
-use Rattle.impact_segments.proofs.Lists.{Pairs, all_weaker, all_unmap, all_contained, all_parts, rising_pairs}
+use Rattle.index_model.proofs.Lists.{Pairs, all_weaker, all_unmap, all_contained, all_parts, rising_pairs}
 
 -- numbers that rise and lie from low on below high
 few : (low high : ℕ) (xs : List ℕ) → low ≤ high → Pairs (λ (x y : ℕ). x < y) xs → AllByRecursion (λ (x : ℕ). low ≤ x) xs → AllByRecursion (λ (x : ℕ). x < high) xs → low + length xs ≤ high

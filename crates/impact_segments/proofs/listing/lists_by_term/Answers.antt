@@ -9,7 +9,7 @@ use Rattle.jass_base.specs.declared.postings_list.PostingsList.{PostingsList}
 use Rattle.ranking_model.specs.Order.{sorted}
 use Rattle.ranking_model.proofs.Sorting.{stable_is_sorted}
 use Rattle.impact_segments.specs.Listed.{term_cmp, lists_behind}
-use Rattle.impact_segments.proofs.Lists.{map_sorted}
+use Rattle.index_model.proofs.Lists.{map_sorted}
 use Rattle.impact_segments.proofs.Orders.{term_total}
 use Rattle.impact_segments.proofs.listing.lists_by_term.Goals as goal
 use denote.Ref.{Bor}

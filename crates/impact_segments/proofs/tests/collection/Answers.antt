@@ -6,7 +6,7 @@ use Rattle.jass_base.specs.declared.posting.Posting.{Posting}
 use Rattle.jass_base.specs.declared.postings_list.PostingsList.{PostingsList}
 use Rattle.jass_base.specs.Lists.{HasDocsBelow, DifferInTerm}
 use Rattle.jass_base.specs.Postings.{docs_of}
-use Rattle.impact_segments.proofs.Lists.{pairs_by_places}
+use Rattle.index_model.proofs.Lists.{pairs_by_places}
 use Rattle.impact_segments.proofs.tests.collection.Goals as goal
 
 below : (n : ℕ) (list : PostingsList) (postings : List Posting) → list.postings ≡ postings → All (λ doc. doc < n) (docs_of postings) → HasDocsBelow n list

@@ -1,0 +1,35 @@
+-- Small indexes on which the definitions are run.
+use Rattle.std.specs.Prelude.{ℕ, List, [], ◌∷◌, codes}
+use Rattle.jass_base.specs.declared.named.Named.{Named}
+use Rattle.ranking_model.specs.declared.entry.Entry.{Entry}
+use Rattle.ranking_model.specs.declared.class.Class.{Class}
+use Rattle.index_model.specs.Index.{SegmentData, TermData, IndexData}
+
+abbrev pub entry : {T : Type 0} → T → ℕ → ℕ → Entry T
+entry term doc impact = record { term = term; doc = doc; impact = impact }
+
+abbrev pub class : ℕ → ℕ → List ℕ → Class
+class place weight docs = record { place = place; weight = weight; docs = docs }
+
+abbrev pub named : ℕ → ℕ → Named
+named term times = record { term = term; times = times }
+
+abbrev pub segment : ℕ → List ℕ → SegmentData
+segment impact docs = record { impact = impact; docs = docs }
+
+abbrev pub term : List ℕ → List SegmentData → TermData
+term bytes segments = record { term = bytes; segments = segments }
+
+-- three documents with one term
+abbrev pub one_term : IndexData
+one_term = record {
+  names = codes "d0" ∷ codes "d1" ∷ codes "d2" ∷ [];
+  terms = term (codes "a") (segment 9 (0 ∷ []) ∷ segment 5 (1 ∷ []) ∷ segment 1 (2 ∷ []) ∷ []) ∷ [];
+}
+
+-- four documents with two terms
+abbrev pub two_terms : IndexData
+two_terms = record {
+  names = codes "d0" ∷ codes "d1" ∷ codes "d2" ∷ codes "d3" ∷ [];
+  terms = term (codes "cat") (segment 3 (0 ∷ []) ∷ segment 1 (1 ∷ 3 ∷ []) ∷ []) ∷ term (codes "dog") (segment 3 (2 ∷ []) ∷ segment 2 (1 ∷ []) ∷ []) ∷ [];
+}

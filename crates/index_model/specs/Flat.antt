@@ -1,0 +1,35 @@
+-- The flat list of an index: its terms in their order, the segments of each in theirs, and the documents of each segment (Lin
+-- and Trotman, "Anytime Ranking for Impact-Ordered Indexes", ICTIR 2015).
+use Rattle.std.specs.Prelude.{ℕ, suc, List, [], ◌∷◌, ◌++◌, map}
+use Rattle.std.specs.List.{flat_map}
+use Rattle.ranking_model.specs.declared.entry.Entry.{Entry}
+use Rattle.index_model.specs.Index.{SegmentData, TermData, IndexData}
+
+-- an entry for each of some documents, under a term's bytes or number, with one impact
+abbrev pub doc_entries : {T : Type 0} → T → ℕ → List ℕ → List (Entry T)
+doc_entries term impact docs = map (λ doc. record { term = term; doc = doc; impact = impact }) docs
+
+-- the entries of a segment
+abbrev pub segment_entries : {T : Type 0} → T → SegmentData → List (Entry T)
+segment_entries term segment = doc_entries term segment.impact segment.docs
+
+-- the entries of a term's segments
+abbrev pub term_entries : {T : Type 0} → T → List SegmentData → List (Entry T)
+term_entries term segments = flat_map (segment_entries term) segments
+
+-- the flat list of terms
+abbrev pub flat_of_terms : List TermData → List (Entry (List ℕ))
+flat_of_terms terms = flat_map (λ (t : TermData). term_entries t.term t.segments) terms
+
+-- the flat list of an index
+abbrev pub flat_of : IndexData → List (Entry (List ℕ))
+flat_of index = flat_of_terms index.terms
+
+-- the flat list of terms by number, from a first number on
+abbrev pub numbered_from : ℕ → List TermData → List (Entry ℕ)
+numbered_from number [] = []
+numbered_from number (t ∷ terms) = term_entries number t.segments ++ numbered_from (suc number) terms
+
+-- the flat list of an index, with its terms' numbers in place of their bytes
+abbrev pub numbered_flat : IndexData → List (Entry ℕ)
+numbered_flat index = numbered_from 0 index.terms

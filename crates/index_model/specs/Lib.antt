@@ -1,0 +1,5 @@
+pub mod Examples
+pub mod Flat
+pub mod Index
+pub mod Querying
+pub mod Views

@@ -1,0 +1,30 @@
+//! The definitions run on the index of three documents and the term `a`, and on that of four
+//! documents and the terms `cat` and `dog` (`specs/Examples.antt`): each clause is proved by
+//! computing both sides.
+
+ghost use Rattle.std.specs.Prelude.{◌≡◌, [], ◌∷◌, codes};
+ghost use Rattle.ranking_model.specs.Order.{sorted};
+ghost use Rattle.ranking_model.specs.Plan.{plan_cmp};
+ghost use Rattle.index_model.specs.Flat.{flat_of, numbered_flat};
+ghost use Rattle.index_model.specs.Querying.{query_classes};
+ghost use Rattle.index_model.specs.Examples.{one_term, two_terms, entry, class, named};
+
+/// The entries of an index, by the terms' bytes and by their numbers.
+pub fn flat_lists()
+    ensures a { flat_of one_term ≡
+        entry (codes "a") 0 9 ∷ entry (codes "a") 1 5 ∷ entry (codes "a") 2 1 ∷ [] }
+    ensures numbers { numbered_flat two_terms ≡
+        entry 0 0 3 ∷ entry 0 1 1 ∷ entry 0 3 1 ∷ entry 1 2 3 ∷ entry 1 1 2 ∷ [] }
+{}
+
+/// The segments of a query: of `cat` named twice and `dog` once, the other way round, and of no
+/// term.
+pub fn segments_of_queries()
+    ensures cat_dog { query_classes two_terms (named 0 2 ∷ named 1 1 ∷ []) ≡
+        class 0 6 (0 ∷ []) ∷ class 0 2 (1 ∷ 3 ∷ []) ∷ class 1 3 (2 ∷ []) ∷ class 1 2 (1 ∷ []) ∷ [] }
+    ensures dog_cat { query_classes two_terms (named 1 1 ∷ named 0 1 ∷ []) ≡
+        class 0 3 (2 ∷ []) ∷ class 0 2 (1 ∷ []) ∷ class 1 3 (0 ∷ []) ∷ class 1 1 (1 ∷ 3 ∷ []) ∷ [] }
+    ensures none { query_classes two_terms [] ≡ [] }
+    ensures plan { sorted plan_cmp (query_classes two_terms (named 0 2 ∷ named 1 1 ∷ [])) ≡
+        class 0 6 (0 ∷ []) ∷ class 1 3 (2 ∷ []) ∷ class 1 2 (1 ∷ []) ∷ class 0 2 (1 ∷ 3 ∷ []) ∷ [] }
+{}

@@ -1,0 +1,51 @@
+//! Laws over the definitions. Each function does nothing: its contract is the law, and a caller
+//! learns it by the call.
+
+ghost use Rattle.std.specs.Prelude.{◌≡◌, ℕ, ◌≤◌, List, length, map, flat_map};
+ghost use Rattle.std.specs.Ordering.{nat_cmp};
+ghost use Rattle.std.specs.Cmp.Lexicographic.{slice_cmp};
+ghost use Rattle.jass_base.specs.declared.impact_index.ImpactIndex.{ImpactIndex};
+ghost use Rattle.jass_base.specs.declared.named.Named.{Named};
+ghost use Rattle.ranking_model.specs.Flat.{IsFlat, terms_of, numbered};
+ghost use Rattle.ranking_model.specs.Order.{sorted};
+ghost use Rattle.ranking_model.specs.Plan.{postings_of, plan_cmp, classes_of, plan_of};
+ghost use Rattle.ranking_model.specs.Postings.{AreTerms, weighted_postings};
+ghost use Rattle.index_model.specs.Index.{TermData, IndexData, IsIndex};
+ghost use Rattle.index_model.specs.Flat.{flat_of, numbered_flat};
+ghost use Rattle.index_model.specs.Querying.{query_classes};
+ghost use Rattle.index_model.specs.Views.{index_data};
+
+use ranking_model::laws::segments_are_classes;
+
+/// The flat list of an index is flat, by the bytes of its terms and by their numbers. Its terms are
+/// those of the index, each once and in the same order, so that a term's number is its place in
+/// both.
+pub fn the_flat_list_is_flat()
+    ensures bytes { (index : IndexData) → IsIndex index →
+        IsFlat (slice_cmp nat_cmp) (length index.names) (flat_of index) }
+    ensures numbers { (index : IndexData) → IsIndex index →
+        IsFlat nat_cmp (length index.names) (numbered_flat index) }
+    ensures terms { (index : IndexData) → IsIndex index →
+        terms_of (flat_of index) ≡ map (λ (t : TermData). t.term) index.terms }
+    ensures numbered { (index : IndexData) → IsIndex index → numbered (flat_of index) ≡ numbered_flat index }
+{}
+
+/// The weighted postings of a query are those of the segments that it names.
+pub fn a_query_weighs_its_segments()
+    ensures { (index : IndexData) (query : List Named) →
+        weighted_postings (numbered_flat index) query ≡ flat_map postings_of (query_classes index query) }
+{}
+
+/// The classes of a query's plan are the segments that it names, in the plan's order.
+pub fn the_plan_has_the_named_segments()
+    ensures { (index : IndexData) (query : List Named) → IsIndex index → AreTerms query →
+        classes_of (weighted_postings (numbered_flat index) query) ≡ sorted plan_cmp (query_classes index query) }
+{
+    segments_are_classes();
+    a_query_weighs_its_segments();
+}
+
+/// An index in memory is an index, as its impacts have 16 bits.
+pub fn indexes_in_memory_are_indexes()
+    ensures { (index : ImpactIndex) → index.greatest ≤ 65535 → IsIndex (index_data index) }
+{}
