@@ -1,7 +1,6 @@
-pub mod Orders
 pub mod Cutting
-pub mod Numbers
-pub mod FlatOrder
-pub mod Weights
-pub mod OneTerm
+pub mod Data
 pub mod OneIndex
+pub mod OneTerm
+pub mod Orders
+pub mod Weights

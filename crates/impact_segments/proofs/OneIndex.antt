@@ -28,8 +28,13 @@ use Rattle.ranking_model.specs.declared.entry.Entry.{Entry}
 use Rattle.ranking_model.specs.Order.{placed, sorted}
 use Rattle.ranking_model.specs.Flat.{entry_cmp}
 use Rattle.ranking_model.proofs.Sorting.{Ascends, level, same_ranks, sorted_ascends, sorted_level, all_sorted, ascends_append}
-use Rattle.impact_segments.specs.Collections.{posting_weight, list_weights, list_entries, index_of}
-use Rattle.impact_segments.specs.Flat.{flat_of_terms}
+use Rattle.jass_base.specs.CiffViews.{collection_data}
+use Rattle.index_model.specs.Flat as model
+use Rattle.index_model.specs.Views.{term_data}
+use Rattle.impact_segments.proofs.Data.{flat_same, index_same}
+use Rattle.impact_segments.specs.Collections.{index_of}
+use Rattle.impact_segments.specs.Weighed.{posting_weight, list_weights, list_entries}
+use Rattle.impact_segments.specs.Held.{flat_of_terms}
 use Rattle.impact_segments.specs.Listed.{has_postings, term_cmp}
 use Rattle.index_model.proofs.Lists.{Pairs, pairs_by_recursion, pairs_by_places, all_append, all_weaker, pairs_both, pairs_weaker, pairs_sorted, pairs_map, pairs_unmap}
 use Rattle.ranking_model.proofs.Orders.{entry_total}
@@ -268,13 +273,14 @@ pub built_flat : (collection : Collection) (rule r : Rule) (bits : Bits) (docs :
     → ((w : ℕ) → impact_of bits range w ≡ impact_of bits (range_of (flat_map (list_weights r docs) lists)) w)
     → listed ≡ sorted term_cmp (filter has_postings collection.lists)
     → flat_of_terms terms ≡ flat_map (λ (l : PostingsList). sorted (entry_cmp (slice_cmp nat_cmp)) (list_entries r docs bits range l)) listed
-    → flat_of_terms terms ≡ index_of collection rule bits
+    → model.flat_of_terms (map term_data terms) ≡ index_of (collection_data collection) rule bits
 built_flat collection rule r bits docs lists range listed terms rule_is docs_is lists_is same listed_is flat =
-    flat
+    sym (flat_same terms) ∙ flat
     ∙ ap (flat_map (λ (l : PostingsList). sorted (entry_cmp (slice_cmp nat_cmp)) (list_entries r docs bits range l))) listed_is
     ∙ one_index r docs bits range collection.lists collection.terms_differ
     ∙ (λ i. sorted flat_cmp (flat_map (λ (l : PostingsList). same_entries r docs bits range (range_of (flat_map (list_weights r docs) lists)) same l i) collection.lists))
     ∙ (λ i. sorted flat_cmp (flat_map (list_entries (rule_is i) (docs_is i) bits (range_of (flat_map (list_weights (rule_is i) (docs_is i)) (lists_is i)))) collection.lists))
+    ∙ index_same collection rule bits
 
 pub as_many : (terms : List TermSegments) (listed : List PostingsList) → map (λ (t : TermSegments). t.term) terms ≡ map (λ (l : PostingsList). l.term) listed → length terms ≡ length listed
 as_many terms listed texts = sym (length-map terms (λ (t : TermSegments). t.term)) ∙ ap length texts ∙ length-map listed (λ (l : PostingsList). l.term)

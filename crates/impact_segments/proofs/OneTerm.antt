@@ -29,8 +29,8 @@ use Rattle.ranking_model.specs.declared.entry.Entry.{Entry}
 use Rattle.ranking_model.specs.Order.{placed, sorted}
 use Rattle.ranking_model.specs.Flat.{entry_cmp}
 use Rattle.ranking_model.proofs.Sorting.{all_sorted}
-use Rattle.impact_segments.specs.Collections.{posting_weight, list_entries}
-use Rattle.impact_segments.specs.Flat.{term_entries, flat_of_terms}
+use Rattle.impact_segments.specs.Weighed.{posting_weight, list_entries}
+use Rattle.impact_segments.specs.Held.{term_entries, flat_of_terms}
 use Rattle.impact_segments.specs.Listed.{lists_behind}
 use Rattle.impact_segments.specs.Pairs.{pair_cmp, pairs_of, pair_docs, list_pairs}
 use Rattle.index_model.proofs.Lists.{Pairs, pairs_by_recursion, all_unmap, all_parts, all_weaker, map_sorted}

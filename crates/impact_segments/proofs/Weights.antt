@@ -14,7 +14,7 @@ use Rattle.weights.specs.declared.quantizing.Bits.{Bits}
 use Rattle.weights.specs.declared.quantizing.Bits.TheVariants.{Of}
 use Rattle.weights.specs.declared.quantizing.Range.{Range}
 use Rattle.weights.specs.Quantizing.{widened, range_of, empty_range, Holds, IsInRange}
-use Rattle.impact_segments.specs.Collections.{lengths_of, list_weights}
+use Rattle.impact_segments.specs.Weighed.{lengths_in, list_weights}
 use Rattle.index_model.proofs.Lists.{Pairs, all_weaker, all_unmap, all_contained, all_parts, rising_pairs}
 
 -- numbers that rise and lie from low on below high
@@ -38,7 +38,7 @@ pub its_doc : (docs : ℕ) (list : PostingsList) (p : Posting) → HasDocsBelow 
 its_doc docs list p below own = all_contained (λ (p : Posting). p.doc < docs) list.postings p
     (all_unmap (λ (doc : ℕ). doc < docs) (λ (p : Posting). p.doc) list.postings (recursion_from_All (λ (doc : ℕ). doc < docs) (docs_of list.postings) below)) own
 
-pub its_length : (docs : List DocRecord) (doc : ℕ) (d : DocRecord) → doc < length docs → (get_or docs doc d).length ≡ slice_index (lengths_of docs) doc
+pub its_length : (docs : List DocRecord) (doc : ℕ) (d : DocRecord) → doc < length docs → (get_or docs doc d).length ≡ slice_index (lengths_in docs) doc
 its_length docs doc d low = sym (get_or-map (λ (d : DocRecord). d.length) docs doc d 0 low)
 
 -- ---- the range

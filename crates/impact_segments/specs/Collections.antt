@@ -5,10 +5,8 @@ use Rattle.std.specs.Prelude.{ℕ, max, List, length, map, sum, slice_index}
 use Rattle.std.specs.List.{flat_map}
 use Rattle.std.specs.Ordering.{nat_cmp}
 use Rattle.std.specs.Cmp.Lexicographic.{slice_cmp}
-use Rattle.jass_base.specs.declared.collection.Collection.{Collection}
-use Rattle.jass_base.specs.declared.doc_record.DocRecord.{DocRecord}
 use Rattle.jass_base.specs.declared.posting.Posting.{Posting}
-use Rattle.jass_base.specs.declared.postings_list.PostingsList.{PostingsList}
+use Rattle.jass_base.specs.Ciff.{ListData, DocData, CollectionData}
 use Rattle.weights.specs.declared.weighting.Rule.{Rule}
 use Rattle.weights.specs.declared.quantizing.Bits.{Bits}
 use Rattle.weights.specs.declared.quantizing.Range.{Range}
@@ -19,32 +17,31 @@ use Rattle.ranking_model.specs.Order.{sorted}
 use Rattle.ranking_model.specs.Flat.{entry_cmp}
 
 -- the documents' lengths, by number
-abbrev pub lengths_of : List DocRecord → List ℕ
-lengths_of docs = map (λ (d : DocRecord). d.length) docs
+abbrev pub lengths_of : List DocData → List ℕ
+lengths_of docs = map (λ (d : DocData). d.length) docs
 
--- the terms of all documents in all, and 1 where there are none
-abbrev pub total_length : List DocRecord → ℕ
-total_length docs = max 1 (sum (lengths_of docs))
+-- the terms of documents of these lengths in all, and 1 where there are none
+abbrev pub total_of : List ℕ → ℕ
+total_of lengths = max 1 (sum lengths)
 
--- the weight of a posting of a list
-abbrev pub posting_weight : Rule → List DocRecord → PostingsList → Posting → ℕ
-posting_weight rule docs list p =
-    weight_of rule (length docs) (total_length docs) (length list.postings) p.tf (slice_index (lengths_of docs) p.doc)
+-- the weight of a posting of a list of so many, where the documents have these lengths and so many terms in all
+abbrev pub weight_in : Rule → List ℕ → ℕ → ℕ → Posting → ℕ
+weight_in rule lengths total count p = weight_of rule (length lengths) total count p.tf (slice_index lengths p.doc)
 
 -- the weights of a list's postings
-abbrev pub list_weights : Rule → List DocRecord → PostingsList → List ℕ
-list_weights rule docs list = map (posting_weight rule docs list) list.postings
+abbrev pub weights_in : Rule → List ℕ → ℕ → List Posting → List ℕ
+weights_in rule lengths total postings = map (weight_in rule lengths total (length postings)) postings
 
 -- the weights of all postings of a collection
-abbrev pub weights_of : Collection → Rule → List ℕ
-weights_of collection rule = flat_map (list_weights rule collection.docs) collection.lists
+abbrev pub weights_of : CollectionData → Rule → List ℕ
+weights_of c rule = flat_map (λ (l : ListData). weights_in rule (lengths_of c.docs) (total_of (lengths_of c.docs)) l.postings) c.lists
 
--- the entries of a list's postings, with impacts from the range
-abbrev pub list_entries : Rule → List DocRecord → Bits → Range → PostingsList → List (Entry (List ℕ))
-list_entries rule docs bits range list =
-    map (λ (p : Posting). record { term = list.term; doc = p.doc; impact = impact_of bits range (posting_weight rule docs list p) }) list.postings
+-- the entries of a term's postings, with impacts from a range
+abbrev pub entries_in : Rule → List ℕ → ℕ → Bits → Range → List ℕ → List Posting → List (Entry (List ℕ))
+entries_in rule lengths total bits range term postings =
+    map (λ (p : Posting). record { term = term; doc = p.doc; impact = impact_of bits range (weight_in rule lengths total (length postings) p) }) postings
 
 -- the flat list of a collection's index: one entry for each posting, by rising term bytes, falling impact, rising document
-abbrev pub index_of : Collection → Rule → Bits → List (Entry (List ℕ))
-index_of collection rule bits =
-    sorted (entry_cmp (slice_cmp nat_cmp)) (flat_map (list_entries rule collection.docs bits (range_of (weights_of collection rule))) collection.lists)
+abbrev pub index_of : CollectionData → Rule → Bits → List (Entry (List ℕ))
+index_of c rule bits = sorted (entry_cmp (slice_cmp nat_cmp))
+    (flat_map (λ (l : ListData). entries_in rule (lengths_of c.docs) (total_of (lengths_of c.docs)) bits (range_of (weights_of c rule)) l.term l.postings) c.lists)

@@ -1,5 +1,6 @@
 pub mod Collections
-pub mod Flat
-pub mod Pairs
-pub mod Listed
 pub mod Examples
+pub mod Held
+pub mod Listed
+pub mod Pairs
+pub mod Weighed

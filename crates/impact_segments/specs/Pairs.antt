@@ -11,7 +11,7 @@ use Rattle.weights.specs.declared.weighting.Rule.{Rule}
 use Rattle.weights.specs.declared.quantizing.Bits.{Bits}
 use Rattle.weights.specs.declared.quantizing.Range.{Range}
 use Rattle.weights.specs.Quantizing.{impact_of}
-use Rattle.impact_segments.specs.Collections.{posting_weight}
+use Rattle.impact_segments.specs.Weighed.{posting_weight}
 
 -- falling impacts, then rising documents
 abbrev pub pair_cmp : ℕ × ℕ → ℕ × ℕ → Ordering

@@ -2,7 +2,9 @@ ghost use Rattle.std.specs.Prelude.{◌≡◌, ℕ, List, map, IfOk};
 ghost use Rattle.weights.specs.Quantizing.{IsImpactWidth};
 ghost use Rattle.jass_base.specs.declared.doc_record.DocRecord.{DocRecord};
 ghost use Rattle.impact_segments.specs.Collections.{index_of};
-ghost use Rattle.impact_segments.specs.Flat.{flat_of};
+ghost use Rattle.index_model.specs.Flat.{flat_of};
+ghost use Rattle.index_model.specs.Views.{index_data};
+ghost use Rattle.jass_base.specs.CiffViews.{collection_data};
 
 use crate::listing::lists_by_term;
 use crate::terms::{greatest_impact, terms_of};
@@ -22,7 +24,8 @@ pub fn build(
     bits: Bits,
 ) -> Result<ImpactIndex, NoMemory>
     requires { IsImpactWidth bits }
-    ensures flat { IfOk result (λ index. flat_of index ≡ index_of collection.now rule bits) }
+    ensures flat { IfOk result (λ index.
+        flat_of (index_data index) ≡ index_of (collection_data collection.now) rule bits) }
     ensures names { IfOk result (λ index. index.names ≡ map (λ (d : DocRecord). d.name) collection.now.docs) }
 {
     let weigher = Weigher::new(rule, collection.docs.as_slice());

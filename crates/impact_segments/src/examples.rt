@@ -1,23 +1,23 @@
 //! The flat list of small collections (`specs/Examples.antt`), by computation.
 
 ghost use Rattle.std.specs.Prelude.{◌≡◌, [], ◌∷◌, codes};
-ghost use Rattle.jass_base.specs.declared.collection.Collection.{Collection};
 ghost use Rattle.ranking_model.specs.Examples.{pets, falling};
 ghost use Rattle.impact_segments.specs.Collections.{index_of};
-ghost use Rattle.impact_segments.specs.Examples.{entry, HasA, HasPets};
+ghost use Rattle.impact_segments.specs.Examples.{entry, one_term, two_terms};
 
 use weights::{Bits, Rule};
 
 /// With raw term frequencies each posting's impact is its tf. Terms stand by their bytes in
 /// whatever order the lists come, and a term without postings has no entry.
 pub fn impacts_are_term_frequencies()
-    ensures a { (c : Collection) → HasA c → index_of c Rule.Tf Bits.Raw ≡ falling }
-    ensures pets { (c : Collection) → HasPets c → index_of c Rule.Tf Bits.Raw ≡ pets }
+    ensures a { index_of one_term Rule.Tf Bits.Raw ≡ falling }
+    ensures pets { index_of two_terms Rule.Tf Bits.Raw ≡ pets }
 {}
 
 /// BM25 weighs the postings of `a` 572, 549 and 401, which are impacts of 8 bits in the range from
 /// 401 to 572.
+#[tactic(auto, unfolding(weights::specs::Logarithm::exponent_of))]
 pub fn impacts_of_eight_bits()
-    ensures { (c : Collection) → HasA c → index_of c Rule.Bm25 (Bits.Of 8)
+    ensures { index_of one_term Rule.Bm25 (Bits.Of 8)
         ≡ entry (codes "a") 0 255 ∷ entry (codes "a") 1 220 ∷ entry (codes "a") 2 1 ∷ [] }
 {}

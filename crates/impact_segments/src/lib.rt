@@ -7,7 +7,6 @@ mod building;
 pub mod examples;
 mod flattening;
 mod grouping;
-pub mod laws;
 mod listing;
 mod terms;
 mod weighing;

@@ -9,8 +9,8 @@ ghost use Rattle.jass_base.specs.Lists.{HasDocsBelow};
 ghost use Rattle.jass_base.specs.Terms.{HasTermBelow, greatest_impact};
 ghost use Rattle.ranking_model.specs.Order.{sorted};
 ghost use Rattle.ranking_model.specs.Flat.{entry_cmp};
-ghost use Rattle.impact_segments.specs.Collections.{list_weights, list_entries};
-ghost use Rattle.impact_segments.specs.Flat.{term_entries, flat_of_terms};
+ghost use Rattle.impact_segments.specs.Weighed.{list_weights, list_entries};
+ghost use Rattle.impact_segments.specs.Held.{term_entries, flat_of_terms};
 ghost use Rattle.impact_segments.specs.Listed.{lists_behind};
 ghost use Rattle.impact_segments.specs.Pairs.{list_pairs};
 

@@ -3,7 +3,7 @@ ghost use Rattle.std.specs.List.{flat_map};
 ghost use Rattle.weights.specs.Quantizing.{widened, range_of, impact_of, IsInRange};
 ghost use Rattle.jass_base.specs.Lists.{HasDocsBelow};
 ghost use Rattle.jass_base.specs.declared.postings_list.PostingsList.{PostingsList};
-ghost use Rattle.impact_segments.specs.Collections.{total_length, posting_weight, list_weights};
+ghost use Rattle.impact_segments.specs.Weighed.{total_length, posting_weight, list_weights};
 
 use jass_base::{DocRecord, Posting, PostingsList};
 use weights::{Bits, Range, Rule, weight_of};

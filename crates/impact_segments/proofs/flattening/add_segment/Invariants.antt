@@ -1,5 +1,5 @@
 use Rattle.std.proofs.Common.{◌≡◌, ◌++◌, drop}
-use Rattle.impact_segments.specs.Flat.{doc_entries, segment_entries}
+use Rattle.impact_segments.specs.Held.{doc_entries, segment_entries}
 use Rattle.impact_segments.proofs.flattening.add_segment.Given as goal
 
 abbrev pub invariant-loop-doc : goal.invariant-loop-doc

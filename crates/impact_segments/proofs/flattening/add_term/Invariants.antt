@@ -1,5 +1,5 @@
 use Rattle.std.proofs.Common.{◌≡◌, ◌++◌, drop}
-use Rattle.impact_segments.specs.Flat.{term_entries}
+use Rattle.impact_segments.specs.Held.{term_entries}
 use Rattle.impact_segments.proofs.flattening.add_term.Given as goal
 
 abbrev pub invariant-loop-segment : goal.invariant-loop-segment

@@ -5,9 +5,10 @@ use Rattle.std.specs.Ordering.{nat_cmp}
 use Rattle.jass_base.specs.declared.term_segments.TermSegments.{TermSegments}
 use Rattle.ranking_model.specs.declared.entry.Entry.{Entry}
 use Rattle.ranking_model.specs.Flat.{IsFlat}
-use Rattle.impact_segments.specs.Flat.{numbered_from}
-use Rattle.impact_segments.proofs.Numbers.{numbered_is}
-use Rattle.impact_segments.proofs.FlatOrder.{numbers_flat}
+use Rattle.impact_segments.specs.Held.{numbered_from}
+use Rattle.index_model.specs.Flat.{numbered_flat}
+use Rattle.index_model.specs.Views.{index_data}
+use Rattle.impact_segments.proofs.Data.{numbers_same}
 use Rattle.impact_segments.proofs.flattening.entries_of.Goals as goal
 
 -- at the end of the loop nothing is left to add
@@ -17,10 +18,17 @@ ended entries n items terms end is = sym (append-nil entries) ∙ ap (λ (l : Li
 pub returns-clause-entries : goal.returns-clause-entries
 returns-clause-entries c =
     ended c.loop-number.entries c.loop-number.number c.as_slice-term-items.result.now c.args.index.now.terms c.loop-number-test.false c.loop-number.invariant
-    ∙ sym (numbered_is c.args.index.now.terms c.args.index.now.rising)
+    ∙ numbers_same 0 c.args.index.now.terms
+
+pub returns-clause-numbered : goal.returns-clause-numbered
+returns-clause-numbered c =
+    let is = c.indexes_in_memory_are_indexes.ensures c.args.index.now (omega arith) in
+    ended c.loop-number.entries c.loop-number.number c.as_slice-term-items.result.now c.args.index.now.terms c.loop-number-test.false c.loop-number.invariant
+    ∙ numbers_same 0 c.args.index.now.terms ∙ sym (c.the_flat_list_is_flat.ensures.numbered (index_data c.args.index.now) is)
 
 pub returns-clause-flat : goal.returns-clause-flat
 returns-clause-flat c =
-    let small : c.args.index.now.greatest ≤ 65535 = omega arith in
+    let is = c.indexes_in_memory_are_indexes.ensures c.args.index.now (omega arith) in
     let P : List (Entry ℕ) → Type 0 = λ (l : List (Entry ℕ)). IsFlat nat_cmp (length c.args.index.now.names) l in
-    subst P (sym (ended c.loop-number.entries c.loop-number.number c.as_slice-term-items.result.now c.args.index.now.terms c.loop-number-test.false c.loop-number.invariant)) (numbers_flat c.args.index.now small)
+    subst P (sym (ended c.loop-number.entries c.loop-number.number c.as_slice-term-items.result.now c.args.index.now.terms c.loop-number-test.false c.loop-number.invariant ∙ numbers_same 0 c.args.index.now.terms))
+    (c.the_flat_list_is_flat.ensures.numbers (index_data c.args.index.now) is)

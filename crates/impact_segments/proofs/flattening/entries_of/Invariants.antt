@@ -1,5 +1,5 @@
 use Rattle.std.proofs.Common.{◌≡◌, ◌++◌, drop}
-use Rattle.impact_segments.specs.Flat.{numbered_from}
+use Rattle.impact_segments.specs.Held.{numbered_from}
 use Rattle.impact_segments.proofs.flattening.entries_of.Given as goal
 
 abbrev pub invariant-loop-number : goal.invariant-loop-number
