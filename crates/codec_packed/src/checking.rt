@@ -1,9 +1,11 @@
 // Whether bytes are the payload of a list.
 ghost use Rattle.std.specs.Prelude.{◌≡◌, ◌+◌, ◌*◌, ◌<◌, ◌≤◌, ◌^◌, length, drop};
-ghost use Rattle.jass_base.specs.Gaps.{Judges};
+ghost use Rattle.codec_packed.specs.Packing.{packed_of};
+ghost use Rattle.jass_base.specs.Gaps.{Accepts, Judges};
 ghost use Rattle.codec_packed.specs.Reading.{read_packed};
 ghost use Rattle.codec_packed.specs.Steps.{ChecksBlock};
 
+use crate::laws::payloads_are_read;
 use crate::block::read_block;
 use crate::tail::check_gaps;
 use jass_base::PayloadFault;
@@ -16,6 +18,18 @@ use lane_kernels::{fits128, running128};
 /// or where a gap isn't a shortest varint of at most four bytes. DocRange where a document is `d` or
 /// above. Longer where bytes are left behind the last gap.
 pub fn check(bytes: &[u8], count: u32, d: u32) -> Result<(), PayloadFault>
+    requires some { 1 ≤ count }
+    requires few { count ≤ d }
+    requires limit { d ≤ 2 ^ 26 }
+    ensures accepted { Accepts packed_of d count bytes.now result }
+    ensures judged { Judges (read_packed d count bytes.now) result }
+{
+    payloads_are_read();
+    judge(bytes, count, d)
+}
+
+// The check, by what is read.
+fn judge(bytes: &[u8], count: u32, d: u32) -> Result<(), PayloadFault>
     requires some { 1 ≤ count }
     requires few { count ≤ d }
     requires limit { d ≤ 2 ^ 26 }

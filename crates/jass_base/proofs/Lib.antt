@@ -1,3 +1,4 @@
+pub mod Accepting
 pub mod DecimalLemmas
 pub mod FilesOf
 pub mod GapGroups

@@ -1,5 +1,5 @@
 -- The documents of a segment as gaps, and a gap as its shortest varint.
-use Rattle.std.specs.Prelude.{ℕ, zero, suc, ◌≡◌, ◌<◌, ◌≤◌, ◌+◌, ◌-◌, ◌*◌, ◌%◌, ◌^◌, ◌==◌, List, [], ◌∷◌, length, drop, All, nat_lt, if◌then◌else◌, Result, Ok, Err, IsOk}
+use Rattle.std.specs.Prelude.{ℕ, zero, suc, ◌≡◌, ◌↔◌, ◌<◌, ◌≤◌, ◌+◌, ◌-◌, ◌*◌, ◌%◌, ◌^◌, ◌==◌, List, [], ◌∷◌, length, drop, All, nat_lt, if◌then◌else◌, Result, Ok, Err, IsOk}
 use Rattle.std.specs.List.{flat_map}
 use Rattle.std.specs.List.Sorted.{IsStrictlyIncreasing}
 use Rattle.jass_base.specs.Wire.{short_varint}
@@ -59,6 +59,10 @@ read_gaps d least zero bytes = if length bytes == 0 then Ok [] else Err Longer
 read_gaps d least (suc n) bytes = gap_in bytes >>= λ first.
     if nat_lt (least + first.gap) d then (read_gaps d (least + first.gap + 1) n (drop first.size bytes) >>= λ docs. Ok ((least + first.gap) ∷ docs))
     else Err DocRange
+
+-- an answer that is Ok exactly for the payload of some list of so many documents below d
+abbrev pub Accepts : {T E : Type 0} → (List ℕ → List ℕ) → ℕ → ℕ → List ℕ → Result T E → Type 0
+Accepts payload d count bytes result = IsOk result ↔ ((docs : List ℕ) × AreDocs d docs × (length docs ≡ count) × (bytes ≡ payload docs))
 
 -- an answer that is Ok exactly where the bytes are read, and else the fault
 abbrev pub Judges : {T : Type 0} → Result (List ℕ) PayloadFault → Result T PayloadFault → Type 0

@@ -1,5 +1,5 @@
 -- The codecs of a segment, and which of them a list of documents takes.
-use Rattle.std.specs.Prelude.{ℕ, List, length, nat_le, if◌then◌else◌, Result}
+use Rattle.std.specs.Prelude.{ℕ, ◌==◌, List, length, nat_le, if◌then◌else◌, Option, Some, None, Result}
 use Rattle.jass_base.specs.declared.payload_fault.PayloadFault.{PayloadFault}
 use Rattle.codec_packed.specs.Packing.{packed_of}
 use Rattle.codec_packed.specs.Reading.{read_packed}
@@ -15,6 +15,14 @@ codec_number Varbyte = 0
 codec_number Packed = 1
 codec_number Bitmap = 2
 codec_number Simple8 = 3
+
+-- the codec with a number, none above 3
+abbrev pub codec_of : ℕ → Option Codec
+codec_of number =
+    if number == 0 then Some Varbyte
+    else (if number == 1 then Some Packed
+    else (if number == 2 then Some Bitmap
+    else (if number == 3 then Some Simple8 else None)))
 
 -- the payload of documents of an index of d documents
 abbrev pub payload_of : Codec → ℕ → List ℕ → List ℕ

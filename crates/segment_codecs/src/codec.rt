@@ -1,5 +1,5 @@
-ghost use Rattle.std.specs.Prelude.{◌≡◌, ◌<◌, IfSome, IsNone};
-ghost use Rattle.segment_codecs.specs.Codecs.{codec_number};
+ghost use Rattle.std.specs.Prelude.{◌≡◌};
+ghost use Rattle.segment_codecs.specs.Codecs.{codec_number, codec_of};
 
 /// How the documents of a segment are spelled.
 #[derive(Clone, Copy, Debug, PartialEq, Eq)]
@@ -29,8 +29,7 @@ impl Codec {
 
     /// The codec with this number, and `None` above 3.
     pub fn from_number(number: u8) -> Option<Codec>
-        ensures some { IfSome result (λ codec. codec_number codec ≡ number) }
-        ensures none { IsNone result → 3 < number }
+        ensures { result ≡ codec_of number }
     {
         match number {
             0 => Some(Codec::Varbyte),

@@ -1,11 +1,12 @@
 //! What the definitions of the codecs promise. Each function does nothing of its own: its contract
 //! is the law, and a caller learns it by the call.
 
-ghost use Rattle.std.specs.Prelude.{ℕ, ◌≡◌, ◌≤◌, ◌<◌, ◌^◌, List, length, All, Ok};
+ghost use Rattle.std.specs.Prelude.{ℕ, ◌≡◌, ◌≤◌, ◌<◌, ◌*◌, ◌^◌, List, length, All, Ok, Some};
 ghost use Rattle.jass_base.specs.Gaps.{AreDocs};
-ghost use Rattle.segment_codecs.specs.Codecs.{chosen_codec, codec_number, payload_of, payload_size, read_payload};
+ghost use Rattle.segment_codecs.specs.Codecs.{chosen_codec, codec_number, codec_of, payload_of, payload_size, read_payload};
 ghost use Rattle.segment_codecs.specs.declared.codec.Codec.{Codec};
 
+use jass_base::laws::{gap_varints_are_read, gaps_of_docs};
 use plain_codecs::{bitmap, varbyte};
 
 /// The bytes that are read are the payloads.
@@ -21,6 +22,24 @@ pub fn payloads_are_read()
     codec_packed::laws::payloads_are_read();
     bitmap::laws::payloads_are_read();
     codec_simple8::laws::payloads_are_read();
+}
+
+/// A codec has its number and no other one.
+pub fn codecs_have_their_numbers()
+    ensures found { (codec : Codec) → codec_of (codec_number codec) ≡ Some codec }
+    ensures only { (codec : Codec) (number : ℕ) → codec_of number ≡ Some codec → codec_number codec ≡ number }
+{}
+
+/// A payload has a byte or more, and the chosen one at most four for each document.
+pub fn payloads_have_few_bytes()
+    ensures some { (codec : Codec) (d : ℕ) (docs : List ℕ) → AreDocs d docs → 1 ≤ payload_size d docs codec }
+    ensures few { (d : ℕ) (docs : List ℕ) → AreDocs d docs
+        → payload_size d docs (chosen_codec d docs) ≤ 4 * length docs }
+{
+    the_choice_is_the_first_of_the_shortest();
+    gap_varints_are_read();
+    gaps_of_docs();
+    bitmap::laws::bits_are_documents();
 }
 
 /// No codec has a shorter payload than the chosen one, and none with a lower number an equal one.

@@ -1,6 +1,6 @@
 // The calls of each codec by its name.
 ghost use Rattle.std.specs.Prelude.{◌≡◌, ◌≤◌, ◌^◌, ◌++◌, OnOk, OnErr};
-ghost use Rattle.jass_base.specs.Gaps.{AreDocs, Judges};
+ghost use Rattle.jass_base.specs.Gaps.{AreDocs, Accepts, Judges};
 ghost use Rattle.segment_codecs.specs.Codecs.{payload_of, payload_size, read_payload};
 
 use crate::codec::Codec;
@@ -41,7 +41,8 @@ pub fn check(codec: Codec, bytes: &[u8], count: u32, d: u32) -> Result<(), Paylo
     requires some { 1 ≤ count }
     requires few { count ≤ d }
     requires limit { d ≤ 2 ^ 26 }
-    ensures { Judges (read_payload codec d count bytes.now) result }
+    ensures accepted { Accepts (payload_of codec d) d count bytes.now result }
+    ensures judged { Judges (read_payload codec d count bytes.now) result }
 {
     match codec {
         Codec::Varbyte => varbyte::check(bytes, count, d),

@@ -1,9 +1,10 @@
 ghost use Rattle.std.specs.Prelude.{◌≡◌, ◌≤◌, ◌^◌, length, nat_lt, not};
 ghost use Rattle.std.specs.List.{list_all};
-ghost use Rattle.jass_base.specs.Gaps.{Judges};
+ghost use Rattle.jass_base.specs.Gaps.{Accepts, Judges};
 ghost use Rattle.lane_kernels.specs.Bitmap.{set_bits};
-ghost use Rattle.plain_codecs.specs.Bitmap.{bitmap_size, read_bitmap};
+ghost use Rattle.plain_codecs.specs.Bitmap.{bitmap_of, bitmap_size, read_bitmap};
 
+use crate::bitmap::laws::payloads_are_read;
 use crate::bitmap::size;
 use jass_base::PayloadFault;
 use lane_kernels::laws::set_bits_rise;
@@ -13,6 +14,18 @@ use lane_kernels::laws::set_bits_rise;
 /// Cut where there are fewer bytes than d bits take, Longer where there are more. Then
 /// DocRange where a bit from d on is set, and Shape where not `count` bits are set.
 pub fn check(bytes: &[u8], count: u32, d: u32) -> Result<(), PayloadFault>
+    requires some { 1 ≤ count }
+    requires few { count ≤ d }
+    requires limit { d ≤ 2 ^ 26 }
+    ensures accepted { Accepts (bitmap_of d) d count bytes.now result }
+    ensures judged { Judges (read_bitmap d count bytes.now) result }
+{
+    payloads_are_read();
+    judge(bytes, count, d)
+}
+
+// The check, by what is read.
+fn judge(bytes: &[u8], count: u32, d: u32) -> Result<(), PayloadFault>
     requires some { 1 ≤ count }
     requires few { count ≤ d }
     requires limit { d ≤ 2 ^ 26 }

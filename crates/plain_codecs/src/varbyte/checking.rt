@@ -1,8 +1,9 @@
 ghost use Rattle.std.specs.Prelude.{ℕ, ◌≡◌, ◌≤◌, ◌-◌, ◌*◌, ◌^◌, length, drop, sum, IfOk, IfErr, Err};
-ghost use Rattle.jass_base.specs.Gaps.{Judges, read_gaps};
+ghost use Rattle.jass_base.specs.Gaps.{Accepts, Judges, read_gaps};
 ghost use Rattle.plain_codecs.specs.Runs.{Continues};
-ghost use Rattle.plain_codecs.specs.Varbyte.{read_varbyte};
+ghost use Rattle.plain_codecs.specs.Varbyte.{varbyte_of, read_varbyte};
 
+use crate::varbyte::laws::payloads_are_read;
 use crate::varbyte::runs::small_run;
 use jass_base::{PayloadFault, read_gap};
 
@@ -12,6 +13,18 @@ use jass_base::{PayloadFault, read_gap};
 /// seen; Shape where a fourth byte has the top bit set, or the varint isn't shortest;
 /// DocRange where the document is d or above. Then Longer where bytes are left.
 pub fn check(bytes: &[u8], count: u32, d: u32) -> Result<(), PayloadFault>
+    requires some { 1 ≤ count }
+    requires few { count ≤ d }
+    requires limit { d ≤ 2 ^ 26 }
+    ensures accepted { Accepts varbyte_of d count bytes.now result }
+    ensures judged { Judges (read_varbyte d count bytes.now) result }
+{
+    payloads_are_read();
+    judge(bytes, count, d)
+}
+
+// The check, by what is read.
+fn judge(bytes: &[u8], count: u32, d: u32) -> Result<(), PayloadFault>
     requires some { 1 ≤ count }
     requires few { count ≤ d }
     requires limit { d ≤ 2 ^ 26 }

@@ -1,19 +1,12 @@
-use Rattle.std.proofs.Common.{◌-◌, drop, arith}
-use Rattle.jass_base.specs.Gaps.{read_gaps}
-use Rattle.plain_codecs.proofs.Reading.{further}
+use Rattle.jass_base.proofs.Accepting.{accepts, all_bytes}
+use Rattle.plain_codecs.specs.Varbyte.{varbyte_of, read_varbyte}
 use Rattle.plain_codecs.proofs.varbyte.checking.check.Goals as goal
 
-pub loop-left-preserved : goal.loop-left-preserved
-loop-left-preserved c =
-    let bytes = c.args.bytes.now in
+pub returns-clause-accepted : goal.returns-clause-accepted
+returns-clause-accepted c =
     let d = c.args.d in
-    let left = c.loop-left.left in
-    let part = c.min-part.result in
-    let place = c.loop-left.place in
-    let behind = c.in-Ok.behind in
-    record {
-      reads = further (read_gaps d 0 c.args.count bytes) (read_gaps d place.least left (drop place.at bytes)) (read_gaps d behind.least (left - part) (drop behind.at bytes))
-          c.loop-left.invariant.reads (c.in-Ok.ensures.reads left (omega (arith, c.min-part.ensures)));
-      low = c.in-Ok.ensures.low;
-      within = c.in-Ok.ensures.within;
-    }
+    let count = c.args.count in
+    let bytes = c.args.bytes.now in
+    accepts varbyte_of d count bytes (read_varbyte d count bytes) c.judge.result c.judge.ensures
+    (λ docs are size is. c.payloads_are_read.ensures.found d count docs bytes are size is)
+    (λ docs is. c.payloads_are_read.ensures.only d count docs bytes c.requires.some c.requires.limit (all_bytes bytes (λ k. (c.type_inv.bytes k).fits)) is)

@@ -1,7 +1,7 @@
 use Rattle.std.proofs.Common.{◌≤◌, drop, length}
 use Rattle.jass_base.specs.Gaps.{read_gaps}
 use Rattle.plain_codecs.specs.Runs.{Continues}
-use Rattle.plain_codecs.proofs.varbyte.checking.check.Given as goal
+use Rattle.plain_codecs.proofs.varbyte.checking.judge.Given as goal
 
 abbrev pub invariant-loop-left : goal.invariant-loop-left
 invariant-loop-left l = record {

@@ -1,7 +1,7 @@
 use Rattle.std.proofs.Common.{◌≡◌, ◌-◌, ◌/◌, ◌%◌, ◌≤◌, length, drop}
 use Rattle.codec_packed.specs.Reading.{read_blocks, read_packed}
 use Rattle.codec_packed.specs.Steps.{verdict}
-use Rattle.codec_packed.proofs.checking.check.Given as goal
+use Rattle.codec_packed.proofs.checking.judge.Given as goal
 
 abbrev pub invariant-loop-turn : goal.invariant-loop-turn
 invariant-loop-turn l = (verdict (read_packed l.d l.count l.bytes) ≡ verdict (read_blocks l.d l.least (l.count / 128 - l._turn) (l.count % 128) (drop l.at l.bytes)))
