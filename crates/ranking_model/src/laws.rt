@@ -1,7 +1,7 @@
 //! Laws over the definitions. Each function does nothing: its contract is the law, and a caller
 //! learns it by the call.
 
-ghost use Rattle.std.specs.Prelude.{◌≡◌, ◌≢◌, ℕ, ◌<◌, ◌≤◌, ◌^◌, List, [], ◌++◌, length, replicate, take, drop, flat_map, sum_by, All, AllPairs, Contains, IsPermutation, IsSorted};
+ghost use Rattle.std.specs.Prelude.{◌≡◌, ◌≢◌, ℕ, ◌<◌, ◌≤◌, ◌^◌, ◌⊎◌, List, [], ◌++◌, length, replicate, take, drop, flat_map, sum_by, count_by, nat_le, All, AllPairs, Contains, IsPermutation, IsSorted};
 ghost use Rattle.std.specs.List.{AllByRecursion};
 ghost use Rattle.std.specs.Ordering.{nat_cmp};
 ghost use Rattle.std.specs.Cmp.Lexicographic.{slice_cmp};
@@ -17,7 +17,7 @@ ghost use Rattle.ranking_model.specs.Flat.{IsFlat, numbered};
 ghost use Rattle.ranking_model.specs.Order.{sorted};
 ghost use Rattle.ranking_model.specs.Postings.{AreTerms, weighted_postings};
 ghost use Rattle.ranking_model.specs.Plan.{postings_of, plan_of, plan_cmp, classes_of, size_of_first, prefix_within, cutoff_after, next_after};
-ghost use Rattle.ranking_model.specs.Scores.{adds, gain_of, bound_after, scores_after, rank_cmp, hits_from, first_ranked, AreAhead, AreHitsOf};
+ghost use Rattle.ranking_model.specs.Scores.{adds, gain_of, bound_after, scores_after, rank_cmp, hits_from, first_ranked, AreAhead, AreHitsOf, HaveAllFrom};
 ghost use Rattle.ranking_model.specs.Limits.{IsSmall};
 ghost use Rattle.ranking_model.specs.Finality.{AreGains, AreGainsWithin, GainsUpTo, IsSettled, IsKept, IsGrade};
 ghost use Rattle.ranking_model.specs.Finality.{IsSettledWithin, IsKeptWithin, IsGradeWithin};
@@ -110,11 +110,15 @@ pub fn the_hits_ahead_are_the_first()
 {}
 
 /// The ranking from candidates: where the first m are among them, they are the first m of the
-/// candidates in order.
+/// candidates in order. They are among them where all hits down to a floor are, and m reach it.
 pub fn the_candidates_have_the_first()
-    ensures { (scores : List ℕ) (m : ℕ) (candidates : List Hit) →
+    ensures among { (scores : List ℕ) (m : ℕ) (candidates : List Hit) →
         AreHitsOf scores candidates →
         AllByRecursion (λ hit. Contains candidates hit) (first_ranked scores m) →
+        take m (sorted rank_cmp candidates) ≡ first_ranked scores m }
+    ensures down_to { (scores : List ℕ) (m floor : ℕ) (candidates : List Hit) →
+        AreHitsOf scores candidates → HaveAllFrom floor scores candidates →
+        (floor ≤ 1) ⊎ (m ≤ count_by (λ hit. nat_le floor hit.score) candidates) →
         take m (sorted rank_cmp candidates) ≡ first_ranked scores m }
 {}
 
