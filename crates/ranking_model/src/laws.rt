@@ -1,7 +1,8 @@
 //! Laws over the definitions. Each function does nothing: its contract is the law, and a caller
 //! learns it by the call.
 
-ghost use Rattle.std.specs.Prelude.{◌≡◌, ◌≢◌, ℕ, ◌<◌, ◌≤◌, ◌^◌, ◌⊎◌, List, [], ◌++◌, length, replicate, take, drop, flat_map, sum_by, count_by, nat_le, All, AllPairs, Contains, IsPermutation, IsSorted};
+ghost use Rattle.std.specs.Prelude.{◌≡◌, ◌≢◌, ℕ, ◌<◌, ◌≤◌, ◌^◌, ◌⊎◌, nat_le, List, [], ◌++◌, length, replicate, take, drop};
+ghost use Rattle.std.specs.Prelude.{flat_map, sum_by, count_by, All, AllPairs, Contains, IsPermutation, IsSorted};
 ghost use Rattle.std.specs.List.{AllByRecursion};
 ghost use Rattle.std.specs.Ordering.{nat_cmp};
 ghost use Rattle.std.specs.Cmp.Lexicographic.{slice_cmp};
@@ -16,8 +17,10 @@ ghost use Rattle.ranking_model.specs.declared.class.Class.{Class};
 ghost use Rattle.ranking_model.specs.Flat.{IsFlat, numbered};
 ghost use Rattle.ranking_model.specs.Order.{sorted};
 ghost use Rattle.ranking_model.specs.Postings.{AreTerms, weighted_postings};
-ghost use Rattle.ranking_model.specs.Plan.{postings_of, plan_of, plan_cmp, classes_of, size_of_first, prefix_within, cutoff_after, next_after};
-ghost use Rattle.ranking_model.specs.Scores.{adds, gain_of, bound_after, scores_after, rank_cmp, hits_from, first_ranked, AreAhead, AreHitsOf, HaveAllFrom};
+ghost use Rattle.ranking_model.specs.Plan.{postings_of, plan_of, plan_cmp, classes_of};
+ghost use Rattle.ranking_model.specs.Plan.{size_of_first, prefix_within, cutoff_after, next_after};
+ghost use Rattle.ranking_model.specs.Scores.{adds, gain_of, bound_after, scores_after, rank_cmp, hits_from, first_ranked};
+ghost use Rattle.ranking_model.specs.Scores.{AreAhead, AreHitsOf, HaveAllFrom};
 ghost use Rattle.ranking_model.specs.Limits.{IsSmall};
 ghost use Rattle.ranking_model.specs.Finality.{AreGains, AreGainsWithin, GainsUpTo, IsSettled, IsKept, IsGrade};
 ghost use Rattle.ranking_model.specs.Finality.{IsSettledWithin, IsKeptWithin, IsGradeWithin};
