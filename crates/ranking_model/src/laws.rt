@@ -125,6 +125,11 @@ pub fn the_candidates_have_the_first()
         take m (sorted rank_cmp candidates) ≡ first_ranked scores m }
 {}
 
+/// A shorter ranking is the front of a longer one.
+pub fn the_first_are_first_of_more()
+    ensures { (scores : List ℕ) (m n : ℕ) → m ≤ n → take m (first_ranked scores n) ≡ first_ranked scores m }
+{}
+
 /// There is a score for each document of the index, and a ranking has documents of its scores.
 pub fn the_ranking_has_documents_of_the_scores()
     ensures all { (n : ℕ) (plan : QueryPlan) → length (scores_after n plan) ≡ plan.docs }
