@@ -1,7 +1,7 @@
 //! Laws over the definitions. Each function does nothing: its contract is the law, and a caller
 //! learns it by the call.
 
-ghost use Rattle.std.specs.Prelude.{◌≡◌, ◌≢◌, ℕ, ◌<◌, ◌≤◌, ◌^◌, ◌⊎◌, nat_le, List, [], ◌++◌, length, replicate, take, drop};
+ghost use Rattle.std.specs.Prelude.{◌≡◌, ◌≢◌, ℕ, ◌<◌, ◌≤◌, ◌^◌, ◌⊎◌, ◌==◌, if◌then◌else◌, nat_le, List, [], ◌++◌, length, replicate, take, drop};
 ghost use Rattle.std.specs.Prelude.{flat_map, sum_by, count_by, All, AllPairs, Contains, IsPermutation, IsSorted};
 ghost use Rattle.std.specs.List.{AllByRecursion};
 ghost use Rattle.std.specs.Ordering.{nat_cmp};
@@ -162,6 +162,13 @@ pub fn a_bound_is_a_limit_for_each()
         AllByRecursion (λ limit. limit ≤ bound) limits → IsSettled scores k bound → IsSettledWithin scores k limits }
     ensures kept { (scores limits : List ℕ) (k bound : ℕ) →
         AllByRecursion (λ limit. limit ≤ bound) limits → IsKept scores k bound → IsKeptWithin scores k limits }
+{}
+
+/// A term of the query has a posting of a document at most once.
+pub fn a_term_has_a_document_once()
+    ensures { (docs doc place : ℕ) (flat : List (Entry ℕ)) (terms : List Named) → IsFlat nat_cmp docs flat →
+        let classes = (plan_of docs flat terms).classes in
+        sum_by (λ class. if class.place == place then count_by (λ d. d == doc) class.docs else 0) classes ≤ 1 }
 {}
 
 /// What is unscored gives no document more than the bound: the scores after more classes are those
