@@ -31,7 +31,8 @@ pub fn a_set_answer_keeps_its_documents()
     ensures { (docs n m k : ℕ) (flat : List (Entry ℕ)) (terms : List Named) →
         IsFlat nat_cmp docs flat → n ≤ m →
         let plan = plan_of docs flat terms in
-        IsSet n plan k → IsPermutation (first_documents (scores_after n plan) k) (first_documents (scores_after m plan) k) }
+        IsSet n plan k →
+        IsPermutation (first_documents (scores_after n plan) k) (first_documents (scores_after m plan) k) }
 {
     the_rest_gains_at_most_the_bound();
 }
@@ -49,7 +50,8 @@ pub fn the_rule_gives_the_grade()
 /// A prefix of a plan has one report, which the rule gives.
 pub fn a_prefix_has_one_report()
     ensures report { (n k : ℕ) (plan : QueryPlan) → IsReport n plan k (report_by n plan k) }
-    ensures one { (n k : ℕ) (plan : QueryPlan) (report : Report) → IsReport n plan k report → report ≡ report_by n plan k }
+    ensures one { (n k : ℕ) (plan : QueryPlan) (report : Report) →
+        IsReport n plan k report → report ≡ report_by n plan k }
 {
     the_grade_is_one();
 }

@@ -1,8 +1,8 @@
 //! Laws over the definitions. Each function does nothing: its contract is the law, and a caller
 //! learns it by the call.
 
-ghost use Rattle.std.specs.Prelude.{◌≡◌, ◌≢◌, ℕ, ◌<◌, ◌≤◌, ◌^◌, ◌⊎◌, ◌==◌, if◌then◌else◌, nat_le, List, [], ◌++◌, length, replicate, take, drop};
-ghost use Rattle.std.specs.Prelude.{flat_map, sum_by, count_by, All, AllPairs, Contains, IsPermutation, IsSorted};
+ghost use Rattle.std.specs.Prelude.{◌≡◌, ◌≢◌, ℕ, ◌<◌, ◌≤◌, ◌^◌, ◌⊎◌, ◌==◌, nat_le, if◌then◌else◌};
+ghost use Rattle.std.specs.Prelude.{List, [], ◌++◌, length, replicate, take, drop, flat_map, sum_by, count_by, All, AllPairs, Contains, IsPermutation, IsSorted};
 ghost use Rattle.std.specs.List.{AllByRecursion};
 ghost use Rattle.std.specs.Ordering.{nat_cmp};
 ghost use Rattle.std.specs.Cmp.Lexicographic.{slice_cmp};
@@ -133,7 +133,8 @@ pub fn the_first_are_first_of_more()
 /// There is a score for each document of the index, and a ranking has documents of its scores.
 pub fn the_ranking_has_documents_of_the_scores()
     ensures all { (n : ℕ) (plan : QueryPlan) → length (scores_after n plan) ≡ plan.docs }
-    ensures documents { (scores : List ℕ) (m : ℕ) → All (λ (hit : Hit). hit.doc < length scores) (first_ranked scores m) }
+    ensures documents { (scores : List ℕ) (m : ℕ) →
+        All (λ (hit : Hit). hit.doc < length scores) (first_ranked scores m) }
 {}
 
 /// Terms by number keep what the flat list is by their bytes.
