@@ -5,9 +5,12 @@ use Rattle.std.specs.Ordering.{is_lt}
 use Rattle.std.specs.Option.{is_none}
 use Rattle.jass_base.specs.declared.answer.Hit.{Hit}
 use Rattle.jass_base.specs.declared.answer.Grade.{Grade}
+use Rattle.jass_base.specs.declared.answer.Report.{Report}
 use Rattle.jass_base.specs.declared.answer.Grade.TheVariants.{Final, Set, Open}
 use Rattle.ranking_model.specs.declared.standing.Standing.{Standing}
-use Rattle.ranking_model.specs.Scores.{rank_cmp}
+use Rattle.ranking_model.specs.declared.plan.QueryPlan.{QueryPlan}
+use Rattle.ranking_model.specs.Scores.{rank_cmp, scores_after, bound_after, standing_of}
+use Rattle.ranking_model.specs.Report.{report_of}
 
 -- a document with a gain
 abbrev pub gained : ℕ → Hit → Hit
@@ -46,3 +49,7 @@ do_documents_stay k bound hits runner_up untouched = if nat_lt (length hits) k t
 -- the grade that this rule gives a standing
 unfoldable pub grade_by : ℕ → ℕ → Standing → Grade
 grade_by k bound s = if bound == 0 then Final else (if do_documents_stay k bound s.hits s.runner_up s.least_untouched then (if are_safe bound s.hits then Final else Set) else Open)
+
+-- the report after the first n classes, with the grade that this rule gives
+abbrev pub report_by : ℕ → QueryPlan → ℕ → Report
+report_by n plan k = report_of n plan (grade_by k (bound_after n plan) (standing_of (scores_after n plan) k))

@@ -3,16 +3,18 @@
 
 ghost use Rattle.std.specs.Prelude.{◌≡◌, ℕ, ◌≤◌, List, length, IsPermutation};
 ghost use Rattle.std.specs.Ordering.{nat_cmp};
+ghost use Rattle.jass_base.specs.declared.answer.Report.{Report};
 ghost use Rattle.jass_base.specs.declared.named.Named.{Named};
 ghost use Rattle.ranking_model.specs.declared.entry.Entry.{Entry};
 ghost use Rattle.ranking_model.specs.declared.plan.QueryPlan.{QueryPlan};
-ghost use Rattle.final_certificate.specs.Rule.{grade_by};
+ghost use Rattle.final_certificate.specs.Rule.{grade_by, report_by};
 ghost use Rattle.ranking_model.specs.Flat.{IsFlat};
 ghost use Rattle.ranking_model.specs.Plan.{plan_of};
 ghost use Rattle.ranking_model.specs.Scores.{scores_after, standing_of};
+ghost use Rattle.ranking_model.specs.Report.{IsReport};
 ghost use Rattle.ranking_model.specs.Finality.{first_documents, IsFinal, IsSet, IsGrade};
 
-use ranking_model::laws::the_rest_gains_at_most_the_bound;
+use ranking_model::laws::{the_grade_is_one, the_rest_gains_at_most_the_bound};
 
 /// A final answer has the same documents in the same order after any more segments, so at the end.
 pub fn a_final_answer_stands()
@@ -29,7 +31,8 @@ pub fn a_set_answer_keeps_its_documents()
     ensures { (docs n m k : ℕ) (flat : List (Entry ℕ)) (terms : List Named) →
         IsFlat nat_cmp docs flat → n ≤ m →
         let plan = plan_of docs flat terms in
-        IsSet n plan k → IsPermutation (first_documents (scores_after n plan) k) (first_documents (scores_after m plan) k) }
+        IsSet n plan k →
+        IsPermutation (first_documents (scores_after n plan) k) (first_documents (scores_after m plan) k) }
 {
     the_rest_gains_at_most_the_bound();
 }
@@ -39,7 +42,16 @@ pub fn everything_scored_is_final()
     ensures { (n k : ℕ) (plan : QueryPlan) → length plan.classes ≤ n → IsFinal n plan k }
 {}
 
-/// The rule gives each standing its grade, so that there is one report of a prefix.
+/// The rule gives each standing its grade.
 pub fn the_rule_gives_the_grade()
     ensures { (scores : List ℕ) (k bound : ℕ) → IsGrade scores k bound (grade_by k bound (standing_of scores k)) }
 {}
+
+/// A prefix of a plan has one report, which the rule gives.
+pub fn a_prefix_has_one_report()
+    ensures report { (n k : ℕ) (plan : QueryPlan) → IsReport n plan k (report_by n plan k) }
+    ensures one { (n k : ℕ) (plan : QueryPlan) (report : Report) →
+        IsReport n plan k report → report ≡ report_by n plan k }
+{
+    the_grade_is_one();
+}

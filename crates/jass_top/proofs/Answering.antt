@@ -36,6 +36,7 @@ module _ (laws : Laws) (index : IndexData) (query : OnceQuery) where
   -- the report at the prefix, with the grade of its scores
   reported : (grade : Grade) → IsFlat nat_cmp (length index.names) (numbered index.flat) → IsGrade (scores_after (query_prefix index query) (query_plan index query)) query.k (bound_after (query_prefix index query) (query_plan index query)) grade
       → IsOnceAnswer index query (report_of (query_prefix index query) (query_plan index query) grade)
+  unfolding plan_of
   reported grade flat graded =
       let n : ℕ = query_prefix index query in
       let plan : QueryPlan = query_plan index query in

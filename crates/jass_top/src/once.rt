@@ -19,8 +19,9 @@ use impact_segments::{build, entries_of};
 use jass_base::{Cabinet, ImpactIndex, NoMemory, Query, Sink, WriteFault};
 use query_reader::name_terms;
 use ranking_model::laws::{
-    the_cutoff_parts_scored_from_unscored, the_prefix_is_the_longest,
-    the_ranking_has_documents_of_the_scores, the_scored_prefix_is_the_heaviest,
+    a_plan_has_the_classes_of_its_postings, the_cutoff_parts_scored_from_unscored,
+    the_prefix_is_the_longest, the_ranking_has_documents_of_the_scores,
+    the_scored_prefix_is_the_heaviest,
 };
 use ranking_model::{
     bound_after, granted_sum, plan_of, prefix_within, report_of, scores_after, standing_of,
@@ -132,6 +133,7 @@ fn put<O: Sink>(
     ensures { Wrote O.written O.faults O.rest out.old out.new (once_text (view_of index.now) (query_of question.entry) answer.now.report) result }
 {
     the_ranking_has_documents_of_the_scores();
+    a_plan_has_the_classes_of_its_postings();
     match put_report(out, ID, answer.unknown, answer.report) {
         Ok(()) => {}
         Err(fault) => return Err(fault),

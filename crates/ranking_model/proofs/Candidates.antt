@@ -1,6 +1,6 @@
 -- The ranking from a part of the hits of some scores, and from candidates among which the first are.
-use Rattle.std.proofs.Common.{◌≡◌, ◌≢◌, ℕ, zero, suc, ◌+◌, ◌-◌, ◌<◌, ◌≤◌, ◌==◌, List, [], ◌∷◌, ◌++◌, length, take, drop, get_or, sum_by, Bool, true, false, true≢false, cond, refl, sym, ap, subst, ◌∙◌, arith, inl, inr, ◌⊎◌, eqb-true, eq-eqb, if◌then◌else◌}
-use Rattle.std.specs.Prelude.{IsPermutation, IsSorted, AllPairs, Contains}
+use Rattle.std.proofs.Common.{◌≡◌, ◌≢◌, ℕ, zero, suc, ◌+◌, ◌-◌, ◌<◌, ◌≤◌, ◌==◌, List, [], ◌∷◌, ◌++◌, length, take, drop, get_or, sum_by, count_by, Bool, true, false, true≢false, cond, refl, sym, ap, subst, ◌∙◌, arith, inl, inr, ◌⊎◌, eqb-true, eq-eqb, if◌then◌else◌}
+use Rattle.std.specs.Prelude.{IsPermutation, IsSorted, AllPairs, Contains, nat_le}
 use Rattle.std.specs.List.{AllByRecursion}
 use Rattle.std.specs.declared.cmp.Ordering.{Ordering}
 use Rattle.std.specs.Ordering.{is_gt}
@@ -15,7 +15,7 @@ use Rattle.std.proofs.Math.Seq.{take-append_seam}
 use Rattle.std.proofs.Math.ListN.{drop_of_length-le}
 use Rattle.jass_base.specs.declared.answer.Hit.{Hit}
 use Rattle.ranking_model.specs.Order.{placed, sorted}
-use Rattle.ranking_model.specs.Scores.{rank_cmp, hits_from, first_ranked, AreAhead, AreHitsOf}
+use Rattle.ranking_model.specs.Scores.{rank_cmp, hits_from, first_ranked, AreAhead, AreHitsOf, HaveAllFrom}
 use Rattle.ranking_model.proofs.Sorting.{Ascends, sorted_ascends, sorted_ascending, sorted_is_permutation, sort_is_sorted, all_sorted, ascends_append, sum_by-sorted}
 use Rattle.ranking_model.proofs.Orders.{rank_total, rank_same}
 use Rattle.ranking_model.proofs.Weighing.{Pairs, pairs_by_recursion}
@@ -328,3 +328,78 @@ module _ (scores : List ℕ) (m : ℕ) (candidates : List Hit) (are : AreHitsOf 
   first_of_candidates =
       sym (first_part rank_cmp rank_total rank_same candidates (first_ranked scores m) parted.others m parted.moved above (let n = length-take m (sorted rank_cmp (hits_from 0 scores)) in omega arith) none)
       ∙ sorted_is_itself rank_cmp rank_total rank_same (first_ranked scores m) (sorted_ascending rank_cmp rank_total (first_ranked scores m) (ascends_take rank_cmp m (sorted rank_cmp (hits_from 0 scores)) all_ascends))
+
+-- ---- candidates down to a floor
+
+hits_each : (P : Hit → Type 0) (from : ℕ) (scores : List ℕ) → ((i : ℕ) → i < length scores → 1 ≤ get_or scores i 0 → P (record { doc = from + i; score = get_or scores i 0 })) → AllByRecursion P (hits_from from scores)
+hits_each P from [] each = tt
+hits_each P from (score ∷ scores) each = by (cases_eq score 0) (hits_each P (from + 1) scores (λ i inside some. let e : from + suc i ≡ from + 1 + i = omega arith in subst (λ d. P (record { doc = d; score = get_or scores i 0 })) e (each (suc i) (omega arith) some))) where
+  first : 1 ≤ score → P (record { doc = from; score = score })
+  first some = let e : from + 0 ≡ from = omega arith in subst (λ d. P (record { doc = d; score = score })) e (each 0 (omega arith) some)
+
+  by : (score ≡ 0) ⊎ (score ≡ 0 → ⊥) → AllByRecursion P (hits_from (from + 1) scores) → AllByRecursion P (hits_from from (score ∷ scores))
+  by (inl e) rest = let t : (score == 0) ≡ true = eq-eqb score 0 e in rw t rest
+  by (inr apart) rest = let f : (score == 0) ≡ false = grind (arith, nat_tests) in rw f (first (omega arith), rest)
+
+abbrev reaching : ℕ → Hit → ℕ
+reaching floor h = cond (nat_le floor h.score) 1 0
+
+none_reach : (floor : ℕ) (x : Hit) (xs : List Hit) → x.score < floor → AllByRecursion (λ y. is_gt (rank_cmp x y) ≡ false) xs → sum_by (reaching floor) xs ≡ 0
+none_reach floor x [] low after = refl
+none_reach floor x (y ∷ ys) low after =
+    let s = sum_by-cons (reaching floor) y ys in
+    let rest = none_reach floor x ys low after.1 in
+    let behind = after.0 in
+    let f : nat_le floor y.score ≡ false = grind (arith, nat_tests) in
+    rw (s, f) (omega arith)
+
+few_reach : (floor m : ℕ) (xs : List Hit) (h : Hit) → Ascends rank_cmp xs → In h (take m xs) → h.score < floor → sum_by (reaching floor) xs < m
+few_reach floor zero xs h order there low = absurd there
+few_reach floor (suc m) [] h order there low = absurd there
+few_reach floor (suc m) (x ∷ xs) h order (inl e) low =
+    let s = sum_by-cons (reaching floor) x xs in
+    let mine : x.score < floor = subst (λ (g : Hit). g.score < floor) e low in
+    let f : nat_le floor x.score ≡ false = grind (arith, nat_tests) in
+    let rest = none_reach floor x xs mine order.0 in
+    rw (s, f) (omega arith)
+few_reach floor (suc m) (x ∷ xs) h order (inr there) low =
+    let s = sum_by-cons (reaching floor) x xs in
+    let rest = few_reach floor m xs h order.1 there low in
+    let one : reaching floor x ≤ 1 = at_most_one (nat_le floor x.score) in
+    omega arith
+  where
+    at_most_one : (b : Bool) → cond {A = ℕ} b 1 0 ≤ 1
+    at_most_one true = omega arith
+    at_most_one false = omega arith
+
+pub first_down_to : (scores : List ℕ) (m floor : ℕ) (candidates : List Hit) → AreHitsOf scores candidates → HaveAllFrom floor scores candidates
+    → (floor ≤ 1) ⊎ (m ≤ count_by (λ hit. nat_le floor hit.score) candidates) → take m (sorted rank_cmp candidates) ≡ first_ranked scores m
+first_down_to scores m floor candidates are has enough = first_of_candidates scores m candidates are (all_in (λ hit. Contains candidates hit) (first_ranked scores m) there) where
+  each : AllByRecursion (λ (h : Hit). (1 ≤ h.score) × (floor ≤ h.score → Contains candidates h)) (hits_from 0 scores)
+  each = hits_each (λ (h : Hit). (1 ≤ h.score) × (floor ≤ h.score → Contains candidates h)) 0 scores
+      (λ i inside some. (some, λ high. let e : i ≡ 0 + i = omega arith in subst (λ d. Contains candidates (record { doc = d; score = get_or scores i 0 })) e (has i inside some high)))
+
+  inside : AllByRecursion (λ h. In h (hits_from 0 scores)) candidates
+  inside = all_imp (λ (h : Hit). (h.doc < length scores) × (1 ≤ h.score) × (h.score ≡ get_or scores h.doc 0)) (λ h. In h (hits_from 0 scores))
+      (λ h own. in_hits 0 scores h h.doc (omega arith) own.0 own.1 own.2) candidates are.scored
+
+  rest : Parted candidates (hits_from 0 scores)
+  rest = part candidates (hits_from 0 scores) (apart_once candidates (λ d. counted_once d candidates (pairs_by_recursion (λ (a b : Hit). a.doc ≢ b.doc) candidates are.once))) inside
+
+  more : sum_by (reaching floor) candidates ≤ sum_by (reaching floor) (sorted rank_cmp (hits_from 0 scores))
+  more =
+      let a = sum_by-sorted rank_cmp (reaching floor) (hits_from 0 scores) in
+      let b = sum_by-IsPermutation (reaching floor) (hits_from 0 scores) (candidates ++ rest.others) rest.moved in
+      let c = sum_by-append (reaching floor) candidates rest.others in
+      omega arith
+
+  there : (h : Hit) → In h (first_ranked scores m) → Contains candidates h
+  there h first = by (cases_lt h.score floor) enough where
+    mine : (1 ≤ h.score) × (floor ≤ h.score → Contains candidates h)
+    mine = all_at (λ (h : Hit). (1 ≤ h.score) × (floor ≤ h.score → Contains candidates h)) (first_ranked scores m) h
+        (all_take (λ (h : Hit). (1 ≤ h.score) × (floor ≤ h.score → Contains candidates h)) m (sorted rank_cmp (hits_from 0 scores)) (all_sorted rank_cmp (λ (h : Hit). (1 ≤ h.score) × (floor ≤ h.score → Contains candidates h)) (hits_from 0 scores) each)) first
+
+    by : (h.score < floor) ⊎ (floor ≤ h.score) → (floor ≤ 1) ⊎ (m ≤ count_by (λ hit. nat_le floor hit.score) candidates) → Contains candidates h
+    by (inr high) k = mine.1 high
+    by (inl low) (inl none) = absurd (let some = mine.0 in omega arith)
+    by (inl low) (inr many) = absurd (let few = few_reach floor m (sorted rank_cmp (hits_from 0 scores)) h (sorted_ascends rank_cmp rank_total (hits_from 0 scores)) first low in let a = more in omega arith)

@@ -1,12 +1,12 @@
 -- One class more, one grant more, a prefix that is resumed, and a sort through a map.
-use Rattle.std.proofs.Common.{◌≡◌, ◌≢◌, ℕ, zero, suc, ◌+◌, ◌-◌, ◌*◌, ◌<◌, ◌≤◌, ◌==◌, min, List, [], ◌∷◌, ◌++◌, map, length, take, drop, get_or, set, sum_by, count_by, Bool, true, false, cond, refl, sym, ap, ◌∙◌, arith, inl, inr, ◌⊎◌, Some, eq-eqb, get_or-set_same, get_or-set_other}
+use Rattle.std.proofs.Common.{◌≡◌, ◌≢◌, ℕ, zero, suc, ◌+◌, ◌-◌, ◌*◌, ◌<◌, ◌≤◌, ◌==◌, min, List, [], ◌∷◌, ◌++◌, map, length, take, drop, get_or, set, sum_by, count_by, ◌^◌, Bool, true, false, cond, refl, sym, ap, subst, ◌∙◌, arith, inl, inr, ◌⊎◌, Some, eq-eqb, get_or-set_same, get_or-set_other}
 use Rattle.std.specs.Prelude.{All, slice_get}
 use Rattle.std.specs.List.{AllByRecursion}
 use Rattle.std.specs.declared.cmp.Ordering.{Ordering}
 use Rattle.std.specs.Ordering.{is_gt, nat_cmp}
 use Rattle.std.proofs.lemmas.Bool.{cases_lt, cases_eq}
 use Rattle.std.proofs.lemmas.Bool.Decides.{nat_tests}
-use Rattle.std.proofs.lemmas.List.{ext_get_or, length-drop, length-set}
+use Rattle.std.proofs.lemmas.List.{ext_get_or, get_or_default, length-drop, length-set}
 use Rattle.std.proofs.lemmas.List.Elements.{recursion_from_All, All-from_recursion}
 use Rattle.std.proofs.lemmas.List.FromFn.{length-map-range_with_len, get_or-map-range_with_len}
 use Rattle.std.proofs.lemmas.List.Sums.{sum_by-cons, sum_by-append, sum_by_push}
@@ -22,6 +22,7 @@ use Rattle.ranking_model.specs.Order.{placed, sorted}
 use Rattle.ranking_model.specs.Postings.{weighted_postings}
 use Rattle.ranking_model.specs.Programs.{AreLight}
 use Rattle.ranking_model.specs.Plan.{size_of_first, prefix_within, most, amount_of, granted_with, granted_sum}
+use Rattle.ranking_model.specs.Limits.{IsSmall}
 use Rattle.ranking_model.specs.Scores.{gain_of, added, scores_after}
 use Rattle.ranking_model.specs.Search.{prefix_granted, prefixes_granted}
 use Rattle.ranking_model.proofs.Totals.{prefix_is}
@@ -30,7 +31,7 @@ use Rattle.ranking_model.proofs.Weighing.{weighted_all, for_each}
 
 -- ---- one class more
 
-length-added : (weight : ℕ) (docs scores : List ℕ) → length (added weight docs scores) ≡ length scores
+pub length-added : (weight : ℕ) (docs scores : List ℕ) → length (added weight docs scores) ≡ length scores
 length-added weight [] scores = refl
 length-added weight (doc ∷ docs) scores = length-added weight docs (set scores doc (get_or scores doc 0 + weight)) ∙ length-set scores doc (get_or scores doc 0 + weight)
 
@@ -78,9 +79,24 @@ class_added n plan class is = ext_get_or 0 (scores_after (n + 1) plan) (added cl
       score (n + 1) d within ∙ ap (sum_by (gain_of d)) (take_more plan.classes n class is) ∙ sum_by_push (gain_of d) (take n plan.classes) class
       ∙ ap (λ s. s + gain_of d class) (sym (score n d within)) ∙ sym (added_at class.weight class.docs (scores_after n plan) d before)
 
+pub scores_small : (n : ℕ) (plan : QueryPlan) → IsSmall plan → All (λ score. score < 2 ^ 32) (scores_after n plan)
+scores_small n plan small k d inside =
+    let long : k < plan.docs = (let a = length-map-range_with_len (λ doc. sum_by (gain_of doc) (take n plan.classes)) 0 plan.docs in omega arith) in
+    let is : get_or (scores_after n plan) k d ≡ sum_by (gain_of k) (take n plan.classes) = get_or-map-range_with_len (λ doc. sum_by (gain_of doc) (take n plan.classes)) 0 plan.docs k k d long (omega arith) in
+    subst (λ score. score < 2 ^ 32) (sym is) (small.scores n k)
+
+pub part_small : (weight limit : ℕ) (docs more scores : List ℕ) → All (λ score. score < limit) (added weight (docs ++ more) scores) → All (λ score. score < limit) (added weight docs scores)
+part_small weight limit docs more scores small k d inside =
+    let long : k < length scores = (let a = length-added weight docs scores in omega arith) in
+    let whole : k < length (added weight (docs ++ more) scores) = (let a = length-added weight (docs ++ more) scores in omega arith) in
+    let below : get_or (added weight (docs ++ more) scores) k 0 < limit = small k 0 whole in
+    let split : get_or (added weight (docs ++ more) scores) k 0 ≡ get_or (added weight docs scores) k 0 + weight * count_by (λ x. x == k) more =
+    ap (λ l. get_or l k 0) (added_parts weight docs more scores) ∙ added_at weight more (added weight docs scores) k inside in
+    subst (λ score. score < limit) (get_or_default (added weight docs scores) k 0 d inside) (omega arith)
+
 -- ---- a prefix that is resumed
 
-size_split : (n p : ℕ) (classes : List Class) → size_of_first (n + p) classes ≡ size_of_first n classes + size_of_first p (drop n classes)
+pub size_split : (n p : ℕ) (classes : List Class) → size_of_first (n + p) classes ≡ size_of_first n classes + size_of_first p (drop n classes)
 size_split n p classes = ap (sum_by (λ (class : Class). length class.docs)) (take-add n p classes) ∙ sum_by-append (λ (class : Class). length class.docs) (take n classes) (take p (drop n classes))
 
 pub resumed : (before budget n : ℕ) (classes : List Class) → n ≡ prefix_within before classes → before ≤ budget → prefix_within budget classes ≡ n + prefix_within (budget - size_of_first n classes) (drop n classes)

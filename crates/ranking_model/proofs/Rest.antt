@@ -111,7 +111,7 @@ once_in_place doc place from (named ∷ terms) flat p = by (cases_eq from place)
       let first = elsewhere doc place from named.times (filter (λ e. e.term == named.term) flat) apart in
       omega (arith, split)
 
-classes_once : (doc place : ℕ) (terms : List Named) (flat : List (Entry ℕ)) → Pairs (λ a b. a.term ≡ b.term → a.doc ≢ b.doc) flat → sum_by (count_at doc place) (classes_of (weighted_postings flat terms)) ≤ 1
+pub classes_once : (doc place : ℕ) (terms : List Named) (flat : List (Entry ℕ)) → Pairs (λ a b. a.term ≡ b.term → a.doc ≢ b.doc) flat → sum_by (count_at doc place) (classes_of (weighted_postings flat terms)) ≤ 1
 classes_once doc place terms flat p =
     let same = classes_sum (count_at doc place) (one_at doc place) (at_first doc place) (at_next doc place) (weighted_postings flat terms) in
     let most = once_in_place doc place 0 terms flat p in

@@ -1,6 +1,6 @@
 -- Scores, the bound and the ranking. Scores as sums of impacts are Lin and Trotman's (ICTIR 2015); ties by document number
 -- and the bound are this project's.
-use Rattle.std.specs.Prelude.{◌≡◌, ◌≢◌, ℕ, ◌+◌, ◌*◌, ◌<◌, ◌≤◌, max, ◌==◌, false, List, [], ◌∷◌, length, map, filter, take, drop, sum_by, count_by, slice_get, slice_index, slice_set, position, AllPairs, Option, if◌then◌else◌}
+use Rattle.std.specs.Prelude.{◌≡◌, ◌≢◌, ℕ, ◌+◌, ◌*◌, ◌<◌, ◌≤◌, max, ◌==◌, false, List, [], ◌∷◌, length, map, filter, take, drop, sum_by, count_by, slice_get, slice_index, slice_set, position, AllPairs, Contains, Option, if◌then◌else◌}
 use Rattle.std.specs.List.{AllByRecursion, range_with_len}
 use Rattle.std.specs.declared.cmp.Ordering.{Ordering}
 use Rattle.std.specs.Ordering.{nat_cmp, ordering_then, is_gt}
@@ -62,6 +62,10 @@ AreAhead hits others = AllByRecursion (λ hit. AllByRecursion (λ other. is_gt (
 pub record AreHitsOf (scores : List ℕ) (hits : List Hit) : Type 0 where
   pub scored : AllByRecursion (λ hit. (hit.doc < length scores) × (1 ≤ hit.score) × (hit.score ≡ slice_index scores hit.doc)) hits
   pub once : AllPairs (λ a b. a.doc ≢ b.doc) hits
+
+-- hits among which is each document whose score is at least the floor
+abbrev pub HaveAllFrom : ℕ → List ℕ → List Hit → Type 0
+HaveAllFrom floor scores hits = (doc : ℕ) → doc < length scores → 1 ≤ slice_index scores doc → floor ≤ slice_index scores doc → Contains hits (record { doc = doc; score = slice_index scores doc })
 
 -- the hit after the first k, if there is one
 abbrev pub runner_up : List ℕ → ℕ → Option Hit

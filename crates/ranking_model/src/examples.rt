@@ -3,13 +3,13 @@
 
 #![tactic(auto, unfolding(crate::specs::Plan::plan_of))]
 
-ghost use Rattle.std.specs.Prelude.{◌≡◌, ℕ, map, ◌^◌, ◌-◌, [], ◌∷◌, ◌++◌, codes};
+ghost use Rattle.std.specs.Prelude.{◌≡◌, ℕ, map, drop, ◌^◌, ◌-◌, [], ◌∷◌, ◌++◌, codes};
 ghost use Rattle.std.specs.Ordering.{nat_cmp};
 ghost use Rattle.std.specs.Cmp.Lexicographic.{slice_cmp};
 ghost use Rattle.ranking_model.specs.declared.entry.Entry.{Entry};
 ghost use Rattle.ranking_model.specs.Flat.{IsFlat, numbered};
-ghost use Rattle.ranking_model.specs.Plan.{prefix_within, granted_sum, most};
-ghost use Rattle.ranking_model.specs.Scores.{scores_after, top_k, runner_up, least_untouched};
+ghost use Rattle.ranking_model.specs.Plan.{size_of_first, prefix_within, granted_with, granted_sum, most};
+ghost use Rattle.ranking_model.specs.Scores.{added, scores_after, top_k, runner_up, least_untouched};
 ghost use Rattle.ranking_model.specs.Search.{prefixes_granted, query_run};
 ghost use Rattle.ranking_model.specs.Examples.{hit, class, pets, falling, pet_names, cat_dog, dog_cat, cat_twice_dog, a_once, a_twice, close_a};
 ghost use Rattle.ranking_model.specs.Examples.{p_q_lower, p_q_higher, p_q_swapping, nothing_known};
@@ -130,6 +130,20 @@ pub fn grants_add_up()
     ensures all { granted_sum (Budget.All ∷ Budget.Postings 1 ∷ []) ≡ 2 ^ 64 - 1 }
     ensures stops { let greatest = Budget.Postings 18446744073709551615 in
         granted_sum (greatest ∷ greatest ∷ []) ≡ 2 ^ 64 - 1 }
+{}
+
+/// One grant more, and one after which nothing is left to grant.
+pub fn one_grant_more()
+    ensures two { granted_with 3 (Budget.Postings 2) ≡ 5 }
+    ensures all { granted_with 3 Budget.All ≡ 2 ^ 64 - 1 }
+    ensures stops { granted_with (2 ^ 64 - 1) (Budget.Postings 1) ≡ 2 ^ 64 - 1 }
+{}
+
+/// `cat dog` with 2 postings and then 3 more: the classes that are left, and the scores of the last.
+pub fn a_search_is_resumed()
+    ensures first { size_of_first 2 cat_dog.classes ≡ 2 }
+    ensures more { prefix_within 3 (drop 2 cat_dog.classes) ≡ 2 }
+    ensures last { added 1 (1 ∷ 3 ∷ []) (scores_after 3 cat_dog) ≡ 3 ∷ 3 ∷ 3 ∷ 1 ∷ [] }
 {}
 
 /// The run of `cat dog` with two hits, at a budget of 2 postings and then of all: an answer for

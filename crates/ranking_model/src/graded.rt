@@ -4,6 +4,7 @@
 #![tactic(auto, unfolding(crate::specs::Plan::plan_of))]
 
 ghost use Rattle.std.specs.Prelude.{[], ◌∷◌};
+ghost use Rattle.ranking_model.specs.Finality.{IsGrade, IsGradeWithin};
 ghost use Rattle.ranking_model.specs.Report.{IsReport};
 ghost use Rattle.ranking_model.specs.Search.{AreReports};
 ghost use Rattle.ranking_model.specs.Examples.{report, cat_dog, a_once, a_twice, cat_twice_dog, close_a};
@@ -62,6 +63,13 @@ pub fn two_documents_may_swap()
 pub fn a_final_answer_opens_again()
     ensures first { IsReport 1 close_a 1 (report 1 1 3 9 8 8 Grade.Final) }
     ensures second { IsReport 2 close_a 1 (report 2 2 3 8 7 7 Grade.Open) }
+{}
+
+/// Where the first two documents have had their posting of the only term, they gain nothing more:
+/// the bound leaves the answer open, and a limit for each document settles it.
+pub fn limits_settle_more_than_a_bound()
+    ensures bound { IsGrade (9 ∷ 8 ∷ 0 ∷ []) 1 7 Grade.Open }
+    ensures limits { IsGradeWithin (9 ∷ 8 ∷ 0 ∷ []) 1 (0 ∷ 0 ∷ 7 ∷ []) Grade.Final }
 {}
 
 /// The reports of `cat dog` with two hits, at a budget of 2 postings and then of all.

@@ -1,7 +1,8 @@
 //! Laws over the definitions. Each function does nothing: its contract is the law, and a caller
 //! learns it by the call.
 
-ghost use Rattle.std.specs.Prelude.{◌≡◌, ◌≢◌, ℕ, ◌<◌, ◌≤◌, ◌^◌, List, [], ◌++◌, length, replicate, take, drop, flat_map, sum_by, All, AllPairs, Contains, IsPermutation, IsSorted};
+ghost use Rattle.std.specs.Prelude.{◌≡◌, ◌≢◌, ℕ, ◌<◌, ◌≤◌, ◌^◌, ◌⊎◌, ◌==◌, nat_le, if◌then◌else◌};
+ghost use Rattle.std.specs.Prelude.{List, [], ◌++◌, length, replicate, take, drop, flat_map, sum_by, count_by, All, AllPairs, Contains, IsPermutation, IsSorted};
 ghost use Rattle.std.specs.List.{AllByRecursion};
 ghost use Rattle.std.specs.Ordering.{nat_cmp};
 ghost use Rattle.std.specs.Cmp.Lexicographic.{slice_cmp};
@@ -16,8 +17,10 @@ ghost use Rattle.ranking_model.specs.declared.class.Class.{Class};
 ghost use Rattle.ranking_model.specs.Flat.{IsFlat, numbered};
 ghost use Rattle.ranking_model.specs.Order.{sorted};
 ghost use Rattle.ranking_model.specs.Postings.{AreTerms, weighted_postings};
-ghost use Rattle.ranking_model.specs.Plan.{postings_of, plan_of, plan_cmp, classes_of, size_of_first, prefix_within, cutoff_after, next_after};
-ghost use Rattle.ranking_model.specs.Scores.{adds, gain_of, bound_after, scores_after, rank_cmp, hits_from, first_ranked, AreAhead, AreHitsOf};
+ghost use Rattle.ranking_model.specs.Plan.{postings_of, plan_of, plan_cmp, classes_of};
+ghost use Rattle.ranking_model.specs.Plan.{size_of_first, prefix_within, cutoff_after, next_after};
+ghost use Rattle.ranking_model.specs.Scores.{adds, gain_of, bound_after, scores_after, rank_cmp, hits_from, first_ranked};
+ghost use Rattle.ranking_model.specs.Scores.{AreAhead, AreHitsOf, HaveAllFrom};
 ghost use Rattle.ranking_model.specs.Limits.{IsSmall};
 ghost use Rattle.ranking_model.specs.Finality.{AreGains, AreGainsWithin, GainsUpTo, IsSettled, IsKept, IsGrade};
 ghost use Rattle.ranking_model.specs.Finality.{IsSettledWithin, IsKeptWithin, IsGradeWithin};
@@ -110,18 +113,28 @@ pub fn the_hits_ahead_are_the_first()
 {}
 
 /// The ranking from candidates: where the first m are among them, they are the first m of the
-/// candidates in order.
+/// candidates in order. They are among them where all hits down to a floor are, and m reach it.
 pub fn the_candidates_have_the_first()
-    ensures { (scores : List ℕ) (m : ℕ) (candidates : List Hit) →
+    ensures among { (scores : List ℕ) (m : ℕ) (candidates : List Hit) →
         AreHitsOf scores candidates →
         AllByRecursion (λ hit. Contains candidates hit) (first_ranked scores m) →
         take m (sorted rank_cmp candidates) ≡ first_ranked scores m }
+    ensures down_to { (scores : List ℕ) (m floor : ℕ) (candidates : List Hit) →
+        AreHitsOf scores candidates → HaveAllFrom floor scores candidates →
+        (floor ≤ 1) ⊎ (m ≤ count_by (λ hit. nat_le floor hit.score) candidates) →
+        take m (sorted rank_cmp candidates) ≡ first_ranked scores m }
+{}
+
+/// A shorter ranking is the front of a longer one.
+pub fn the_first_are_first_of_more()
+    ensures { (scores : List ℕ) (m n : ℕ) → m ≤ n → take m (first_ranked scores n) ≡ first_ranked scores m }
 {}
 
 /// There is a score for each document of the index, and a ranking has documents of its scores.
 pub fn the_ranking_has_documents_of_the_scores()
     ensures all { (n : ℕ) (plan : QueryPlan) → length (scores_after n plan) ≡ plan.docs }
-    ensures documents { (scores : List ℕ) (m : ℕ) → All (λ (hit : Hit). hit.doc < length scores) (first_ranked scores m) }
+    ensures documents { (scores : List ℕ) (m : ℕ) →
+        All (λ (hit : Hit). hit.doc < length scores) (first_ranked scores m) }
 {}
 
 /// Terms by number keep what the flat list is by their bytes.
@@ -150,6 +163,13 @@ pub fn a_bound_is_a_limit_for_each()
         AllByRecursion (λ limit. limit ≤ bound) limits → IsSettled scores k bound → IsSettledWithin scores k limits }
     ensures kept { (scores limits : List ℕ) (k bound : ℕ) →
         AllByRecursion (λ limit. limit ≤ bound) limits → IsKept scores k bound → IsKeptWithin scores k limits }
+{}
+
+/// A term of the query has a posting of a document at most once.
+pub fn a_term_has_a_document_once()
+    ensures { (docs doc place : ℕ) (flat : List (Entry ℕ)) (terms : List Named) → IsFlat nat_cmp docs flat →
+        let classes = (plan_of docs flat terms).classes in
+        sum_by (λ class. if class.place == place then count_by (λ d. d == doc) class.docs else 0) classes ≤ 1 }
 {}
 
 /// What is unscored gives no document more than the bound: the scores after more classes are those

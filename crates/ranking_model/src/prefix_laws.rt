@@ -1,11 +1,12 @@
 //! Laws of prefixes that grow: one class more, and one grant more. Each function does nothing: its
 //! contract is the law.
 
-ghost use Rattle.std.specs.Prelude.{◌≡◌, ℕ, ◌+◌, ◌-◌, ◌<◌, ◌≤◌, List, ◌∷◌, ◌++◌, length, take, drop, slice_get};
+ghost use Rattle.std.specs.Prelude.{◌≡◌, ℕ, ◌+◌, ◌-◌, ◌<◌, ◌≤◌, ◌^◌, List, ◌∷◌, ◌++◌, length, take, drop, slice_get, All};
 ghost use Rattle.jass_base.specs.declared.answer.Budget.{Budget};
 ghost use Rattle.ranking_model.specs.declared.class.Class.{Class};
 ghost use Rattle.ranking_model.specs.declared.plan.QueryPlan.{QueryPlan};
 ghost use Rattle.ranking_model.specs.Plan.{size_of_first, prefix_within, granted_with, granted_sum};
+ghost use Rattle.ranking_model.specs.Limits.{IsSmall};
 ghost use Rattle.ranking_model.specs.Scores.{added, scores_after};
 ghost use Rattle.ranking_model.specs.Search.{prefix_granted, prefixes_granted};
 
@@ -16,12 +17,24 @@ pub fn one_class_more_is_added()
         scores_after (n + 1) plan ≡ added class.weight class.docs (scores_after n plan) }
     ensures parts { (weight : ℕ) (docs more scores : List ℕ) →
         added weight (docs ++ more) scores ≡ added weight more (added weight docs scores) }
+    ensures length { (weight : ℕ) (docs scores : List ℕ) → length (added weight docs scores) ≡ length scores }
+{}
+
+/// The scores of a small plan fit 32 bits, and where those after all of some documents are below a
+/// limit, those after a part of them are.
+pub fn scores_stay_small()
+    ensures scores { (n : ℕ) (plan : QueryPlan) → IsSmall plan → All (λ score. score < 2 ^ 32) (scores_after n plan) }
+    ensures part { (weight limit : ℕ) (docs more scores : List ℕ) →
+        All (λ score. score < limit) (added weight (docs ++ more) scores) →
+        All (λ score. score < limit) (added weight docs scores) }
 {}
 
 /// A prefix is resumed: the classes that are left are scored as far as what is left of the budget
-/// goes.
+/// goes, and their postings are added to those before.
 pub fn a_prefix_is_resumed()
-    ensures { (before budget n : ℕ) (classes : List Class) →
+    ensures size { (n more : ℕ) (classes : List Class) →
+        size_of_first (n + more) classes ≡ size_of_first n classes + size_of_first more (drop n classes) }
+    ensures prefix { (before budget n : ℕ) (classes : List Class) →
         n ≡ prefix_within before classes → before ≤ budget →
         prefix_within budget classes ≡ n + prefix_within (budget - size_of_first n classes) (drop n classes) }
 {}

@@ -15,4 +15,7 @@ pub returns-then-order_stays-clause-graded : goal.returns-then-order_stays-claus
 returns-then-order_stays-clause-graded c = λ scores is. settled scores c.args.k c.args.bound c.args.hits.now c.args.runner_up c.args.least_untouched is (sym c.documents_stay.ensures ∙ c.if-not-documents_stay.false) (sym c.order_stays.ensures ∙ c.if-order_stays.true)
 
 pub returns-else-order_stays-clause-graded : goal.returns-else-order_stays-clause-graded
-returns-else-order_stays-clause-graded c = λ scores is. (kept scores c.args.k c.args.bound c.args.hits.now c.args.runner_up c.args.least_untouched is (sym c.documents_stay.ensures ∙ c.if-not-documents_stay.false), unsettled scores c.args.k c.args.bound c.args.hits.now c.args.runner_up c.args.least_untouched is (sym c.order_stays.ensures ∙ c.if-order_stays.false))
+returns-else-order_stays-clause-graded c = λ scores is.
+    let stays = sym c.documents_stay.ensures ∙ c.if-not-documents_stay.false in
+    let moves = sym c.order_stays.ensures ∙ c.if-order_stays.false in
+    (kept scores c.args.k c.args.bound c.args.hits.now c.args.runner_up c.args.least_untouched is stays, unsettled scores c.args.k c.args.bound c.args.hits.now c.args.runner_up c.args.least_untouched is moves)

@@ -32,5 +32,5 @@ returns c =
     (record { report = c.report_of.result; unknown = c.args.query.now.unknown; hits = c.in_ok-standing.standing.hits })
     (subst (IsFlat nat_cmp (length index.names)) c.in_ok-entries.ensures.entries c.in_ok-entries.ensures.flat)
     plan_is prefix_is c.in_ok-scores.ensures.scores standing_is c.bound_after.ensures
-    (c.grade-grade.ensures c.in_ok-scores.scores (sym standing_is ∙ (λ i. record { hits = sym c.as_slice-5.ensures i; runner_up = c.in_ok-standing.standing.runner_up; least_untouched = c.in_ok-standing.standing.least_untouched })))
+    (c.grade-grade.ensures.graded c.in_ok-scores.scores (sym standing_is ∙ (λ i. record { hits = sym c.as_slice-5.ensures i; runner_up = c.in_ok-standing.standing.runner_up; least_untouched = c.in_ok-standing.standing.least_untouched })))
     c.report_of.ensures c.requires.unknown refl

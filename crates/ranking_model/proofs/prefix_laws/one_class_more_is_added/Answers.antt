@@ -1,4 +1,4 @@
-use Rattle.ranking_model.proofs.Growing.{class_added, added_parts}
+use Rattle.ranking_model.proofs.Growing.{class_added, added_parts, length-added}
 use Rattle.ranking_model.proofs.prefix_laws.one_class_more_is_added.Goals as goal
 
 pub returns-clause-class : goal.returns-clause-class
@@ -6,3 +6,6 @@ returns-clause-class c = class_added
 
 pub returns-clause-parts : goal.returns-clause-parts
 returns-clause-parts c = added_parts
+
+pub returns-clause-length : goal.returns-clause-length
+returns-clause-length c = length-added
