@@ -9,3 +9,4 @@ pub mod Takes
 pub mod Readings
 pub mod Refusals
 pub mod New
+pub mod Leaving

@@ -1,5 +1,5 @@
 -- A frame is taken, a promise is made, a chain is given back: what the pool's fields keep, and what its view shows.
-use Rattle.std.proofs.Common.{◌≡◌, ◌≢◌, ℕ, suc, zero, ◌+◌, ◌-◌, ◌<◌, ◌≤◌, ◌==◌, Bool, List, [], ◌∷◌, length, map, get_or, set, replicate, Option, Some, None, sum_by, cond, IsSome, unwrap_or, option_map, find, refl, sym, ap, ◌∙◌, subst, inl, inr, arith, length-set, get_or-set_same, get_or-set_other}
+use Rattle.std.proofs.Common.{◌≡◌, ◌≢◌, ℕ, suc, zero, ◌+◌, ◌-◌, ◌<◌, ◌≤◌, ◌==◌, Bool, List, [], ◌∷◌, length, map, get_or, set, replicate, Option, Some, None, sum_by, cond, IsSome, unwrap_or, is_some, option_map, find, refl, sym, ap, ◌∙◌, subst, inl, inr, arith, length-set, get_or-set_same, get_or-set_other}
 use Rattle.std.specs.List.{AllByRecursion}
 use Rattle.std.proofs.lemmas.List.{length-map, map-set, length-replicate}
 use Rattle.std.proofs.lemmas.List.Sums.{sum_by-set}
@@ -9,7 +9,7 @@ use Rattle.frame_pool.specs.declared.lease.Lease.{Lease}
 use Rattle.frame_pool.specs.declared.frame.Frame.{Frame}
 use Rattle.frame_pool.specs.Pool.{PoolView, ChainEntry, FrameContent, cleared, content_of, chain_of, IsInUse, HasFrame, IsFree, promise_of, promised, spare_of, with_first, Promises}
 use Rattle.frame_pool.specs.Sound.{IsSound}
-use Rattle.frame_pool.specs.ChainView.{HasPage, number_with_page, frame_with_page, ChainView, HeldFrame, chain_view, held_frame, LacksPage, with_first_held, view_values, LeavesOthers}
+use Rattle.frame_pool.specs.ChainView.{HasPage, number_with_page, frame_with_page, ChainView, HeldFrame, chain_view, held_frame, LacksPage, with_first_held, view_values, LeavesOthers, LeavesPool}
 use Rattle.std.proofs.Math.Path.{fun_ext}
 use Rattle.frame_pool.specs.Links.{walk, grown, blank, link_of, page_of, frame_content, chain_entry, view_of, relinked, relinked_first}
 use Rattle.frame_pool.specs.Kept.{Ends, Belong, LeaseKept, Kept, PoolKept, taken_by}
@@ -166,6 +166,21 @@ takes-has old new c f page t =
 
 pub takes-others : (old new : PoolView) (c f page : ℕ) → Takes old new c f page → LeavesOthers old new c
 takes-others old new c f page t = leaves-others old new c f (Some (with_first (chain_of old c) f)) (cleared page) t.chains t.frames (λ d _. t.free.in_no_chain d)
+
+-- a chain in use with another entry is still in use
+same_uses : (xs : List (Option ChainEntry)) (c : ℕ) (e : ChainEntry) → IsSome (get_or xs c None) → map is_some (set xs c (Some e)) ≡ map is_some xs
+same_uses [] c e used = refl
+same_uses (x ∷ xs) zero e used = ap (λ (b : Bool). b ∷ map is_some xs) (sym used)
+same_uses (x ∷ xs) (suc c) e used = ap (λ (bs : List Bool). is_some x ∷ bs) (same_uses xs c e used)
+
+pub takes-leaves : (old new : PoolView) (c f page : ℕ) → Takes old new c f page → IsInUse old c → LeavesPool old new c
+takes-leaves old new c f page t used = record {
+  others = takes-others old new c f page t;
+  frames = ap (λ (fs : List FrameContent). length fs) t.frames ∙ length-set old.frames f (cleared page);
+  in_use = ap (λ (es : List (Option ChainEntry)). map is_some es) t.chains ∙ same_uses old.chains c (with_first (chain_of old c) f) used;
+  spare = takes-spare old new c f page t;
+  promise = ap (λ (v : ChainView). v.promise) (takes-view old new c f page t);
+}
 
 pub takes-values : (values : FrameContent → List ℕ) (old new : PoolView) (c f page : ℕ) → Takes old new c f page → ((i : ℕ) → get_or (values (cleared page)) i 0 ≡ 0) → LacksPage (chain_view old c) page
     → (docs : ℕ) → view_values values docs (chain_view new c) ≡ view_values values docs (chain_view old c)

@@ -5,6 +5,7 @@
 
 mod chain;
 mod frame;
+pub mod laws;
 mod lease;
 mod pool;
 mod refusal;

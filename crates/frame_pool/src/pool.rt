@@ -1,7 +1,7 @@
 ghost use Rattle.std.specs.Prelude.{◌≡◌, ℕ, ◌+◌, ◌*◌, ◌<◌, ◌≤◌, [], length, slice_index, slice_get, slice_set, option_map, IfOk, OnErr};
 ghost use Rattle.std.specs.Result.{result_err};
 ghost use Rattle.frame_pool.specs.Pool.{content_of, chain_of, cleared, IsInUse, IsFree, IsUnused, Promises, spare_of, promise_refusal, with_first, with_score, with_place, number_after};
-ghost use Rattle.frame_pool.specs.ChainView.{HasPage, IsTaken, KeepsFrames, LacksPage, LeavesOthers, chain_view, view_scores, view_places, with_first_held};
+ghost use Rattle.frame_pool.specs.ChainView.{HasPage, IsTaken, KeepsFrames, LacksPage, LeavesOthers, LeavesPool, chain_view, view_scores, view_places, with_first_held};
 ghost use Rattle.frame_pool.specs.Sound.{IsSound};
 
 use crate::chain::Chain;
@@ -97,6 +97,7 @@ impl FramePool {
         requires room { length (chain_view self.old chain.now).frames < (chain_view self.old chain.now).promise }
         requires new_page { LacksPage (chain_view self.old chain.now) page }
         ensures free { IsFree self.old result.number }
+        ensures small { result.number < 1048576 }
         ensures frames { self.new.frames ≡ slice_set self.old.frames result.number (cleared page) }
         ensures chains { self.new.chains ≡ slice_set self.old.chains chain.now (Some (with_first (chain_of self.old chain.now) result.number)) }
 
@@ -106,8 +107,7 @@ impl FramePool {
         ensures view { chain_view self.new chain.now ≡ with_first_held (chain_view self.old chain.now) result.number (cleared page) }
         ensures scores { (docs : ℕ) → view_scores docs (chain_view self.new chain.now) ≡ view_scores docs (chain_view self.old chain.now) }
         ensures places { (docs : ℕ) → view_places docs (chain_view self.new chain.now) ≡ view_places docs (chain_view self.old chain.now) }
-        ensures others { LeavesOthers self.old self.new chain.now }
-        ensures spare { spare_of self.new ≡ spare_of self.old }
+        ensures leaves { LeavesPool self.old self.new chain.now }
         ensures sound { IsSound self.new }
     {
         let at = chain.number as usize;
@@ -184,6 +184,16 @@ impl FramePool {
         self.frames[frame.number as usize].scores[slot as usize]
     }
 
+    /// The scores of the 256 documents of the frame, by their slots.
+    pub fn scores_of(&self, frame: FrameId) -> &[u32; 256]
+        requires { IsTaken self.now frame.number }
+        ensures scores { result.now ≡ (content_of self.now frame.number).scores }
+        ensures documents { (chain page docs slot : ℕ) → HasPage (chain_view self.now chain) page frame.number → slot < 256
+            → 256 * page + slot < docs → slice_index result.now slot ≡ slice_index (view_scores docs (chain_view self.now chain)) (256 * page + slot) }
+    {
+        &self.frames[frame.number as usize].scores
+    }
+
     /// Sets the score of the document in a slot of the frame.
     pub fn set_score(&mut self, frame: FrameId, slot: u8, score: u32)
         requires { IsTaken self.old frame.number }
@@ -195,8 +205,7 @@ impl FramePool {
             → view_scores docs (chain_view self.new chain) ≡ slice_set (view_scores docs (chain_view self.old chain)) (256 * page + slot) score }
         ensures places { (chain docs : ℕ) → view_places docs (chain_view self.new chain) ≡ view_places docs (chain_view self.old chain) }
         ensures keeps { (chain : ℕ) → KeepsFrames (chain_view self.old chain) (chain_view self.new chain) }
-        ensures others { (chain page : ℕ) → HasPage (chain_view self.old chain) page frame.number → LeavesOthers self.old self.new chain }
-        ensures spare { spare_of self.new ≡ spare_of self.old }
+        ensures leaves { (chain page : ℕ) → HasPage (chain_view self.old chain) page frame.number → LeavesPool self.old self.new chain }
         ensures sound { IsSound self.new }
     {
         self.frames[frame.number as usize].scores[slot as usize] = score;
@@ -223,8 +232,7 @@ impl FramePool {
             → view_places docs (chain_view self.new chain) ≡ slice_set (view_places docs (chain_view self.old chain)) (256 * page + slot) place }
         ensures scores { (chain docs : ℕ) → view_scores docs (chain_view self.new chain) ≡ view_scores docs (chain_view self.old chain) }
         ensures keeps { (chain : ℕ) → KeepsFrames (chain_view self.old chain) (chain_view self.new chain) }
-        ensures others { (chain page : ℕ) → HasPage (chain_view self.old chain) page frame.number → LeavesOthers self.old self.new chain }
-        ensures spare { spare_of self.new ≡ spare_of self.old }
+        ensures leaves { (chain page : ℕ) → HasPage (chain_view self.old chain) page frame.number → LeavesPool self.old self.new chain }
         ensures sound { IsSound self.new }
     {
         self.frames[frame.number as usize].places[slot as usize] = place;

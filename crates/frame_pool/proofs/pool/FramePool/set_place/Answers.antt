@@ -4,9 +4,8 @@ use Rattle.frame_pool.specs.Pool.{PoolView, FrameContent, content_of, with_place
 use Rattle.frame_pool.specs.Sound.{IsSound}
 use Rattle.frame_pool.specs.Links.{frame_content, view_of}
 use Rattle.frame_pool.proofs.Views.{content_read, taken_range, sound_view, sound_pool}
-use Rattle.frame_pool.proofs.ChainViews.{Writes, write-keeps_values, write-sets_value, write-keeps_frames, write-leaves_others}
+use Rattle.frame_pool.proofs.ChainViews.{Writes, write-keeps_values, write-sets_value, write-keeps_frames, write-leaves_pool}
 use Rattle.frame_pool.proofs.Slots.{writes, written-kept}
-use Rattle.frame_pool.proofs.ChainViews.{write-keeps_spare}
 use Rattle.frame_pool.proofs.pool.FramePool.set_place.Goals as goal
 
 pub index_mut-requires : goal.index_mut-requires
@@ -39,7 +38,6 @@ returns c =
           (ap (λ (x : FrameContent). set x.places c.args.slot c.args.place) (sym is)) (omega arith) (omega arith) chain page docs has;
       scores = λ chain docs. write-keeps_values (λ x. x.scores) pool pool' frame (frame_content new) written (ap (λ (x : FrameContent). x.scores) (sym is)) chain docs;
       keeps = λ chain. write-keeps_frames pool pool' frame (frame_content new) written chain;
-      others = λ chain page has. write-leaves_others pool pool' frame (frame_content new) written sound chain page has;
-      spare = write-keeps_spare pool pool' frame (frame_content new) written;
+      leaves = λ chain page has. write-leaves_pool pool pool' frame (frame_content new) written sound chain page has;
       sound = sound_view _ _ _ _ (written-kept _ _ _ _ _ c.self.invariant c.self.view_is c.args.frame.number read new c.requires c.index_mut.ensures.value refl refl refl (length-set read.places c.args.slot c.args.place));
     }
