@@ -42,7 +42,7 @@ some_counted p (x ∷ xs) (suc i) inside is = omega (arith, sum_by-cons (λ y. w
 
 -- ---- pages
 
-in_range : (s : List ℕ) (d : ℕ) → 0 < get_or s d 0 → d < length s
+pub in_range : (s : List ℕ) (d : ℕ) → 0 < get_or s d 0 → d < length s
 in_range [] d some = absurd (omega arith)
 in_range (x ∷ s) zero some = omega arith
 in_range (x ∷ s) (suc d) some = let h : d < length s = in_range s d some in omega arith

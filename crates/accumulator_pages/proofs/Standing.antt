@@ -5,16 +5,16 @@ use Rattle.std.proofs.lemmas.Bool.{cases_lt}
 use Rattle.std.specs.Int.{div_ceil}
 use Rattle.std.specs.List.{AllByRecursion, range_with_len}
 use Rattle.std.proofs.lemmas.Bool.Decides.{eqb_tells}
-use Rattle.std.proofs.lemmas.List.{length-replicate, get_or-replicate}
+use Rattle.std.proofs.lemmas.List.{length-replicate, get_or-replicate, get_or_read}
 use Rattle.std.proofs.lemmas.List.Folds.{sum_by-replicate}
 use Rattle.std.proofs.lemmas.List.FromFn.{length-map-range_with_len, get_or-map-range_with_len}
 use Rattle.frame_pool.specs.Pool.{PoolView, FrameContent}
-use Rattle.frame_pool.specs.ChainView.{ChainView, HeldFrame, KeepsFrames, LeavesOthers, frame_with_page, number_with_page, slot_value, view_values, view_scores}
+use Rattle.frame_pool.specs.ChainView.{ChainView, HasPage, HeldFrame, KeepsFrames, LeavesOthers, frame_with_page, number_with_page, slot_value, view_values, view_scores}
 use Rattle.accumulator_pages.specs.Adding.{page_count, touched_pages, page_is_touched}
 use Rattle.accumulator_pages.specs.declared.pages.Pages.{Pages}
 use Rattle.accumulator_pages.specs.Pages.{Stands, PagesStand, TableStands, HasTouched, HasRoom, HasRoomFor, frame_of_entry, no_frame, own_chain, own_view}
 use Rattle.accumulator_pages.proofs.Adding.{rises}
-use Rattle.accumulator_pages.proofs.Counting.{some_counted, pages_counted, touched_there, untouched_there}
+use Rattle.accumulator_pages.proofs.Counting.{some_counted, pages_counted, in_range, touched_there, untouched_there}
 
 -- ---- calls on other chains
 
@@ -150,3 +150,19 @@ frames_are_pages table docs frames view stands is used =
     (λ i j inside is. subst (λ (k : ℕ). page_is_touched scores k ≡ not (get_or table i 0 == no_frame)) (let same : i ≡ j = omega arith in same) (page_tells table docs view stands used i inside)) in
     let pages : length table ≡ page_count (length scores) = stands.covers ∙ ap page_count (sym (length-values (λ x. x.scores) docs view)) in
     omega (arith, all, stands.frames, is, ap (λ (n : ℕ). count_by (page_is_touched scores) (range_with_len 0 n)) pages)
+
+-- a document with a score has a frame
+pub held_page : (table : List ℕ) (docs : ℕ) (view : ChainView) (d number : ℕ) → TableStands table docs view → d / 256 < length table → number ≡ get_or table (d / 256) number → 0 < get_or (view_scores docs view) d 0
+    → HasPage view (d / 256) number
+held_page table docs view d number stands inside read some =
+    let entry : ℕ = get_or table (d / 256) 0 in
+    let is : number ≡ entry = get_or_read table (d / 256) number inside read 0 in
+    elim (eqb_tells entry no_frame) as (λ _. HasPage view (d / 256) number) [
+      | inl vacant ↦ absurd (omega (
+        arith,
+        some,
+        value-none (λ x. x.scores) docs view d
+            (omega (arith, in_range (view_scores docs view) d some, length-values (λ x. x.scores) docs view)) (entry_none table docs view (d / 256) stands inside vacant.1),
+      ))
+      | inr held ↦ stands.entries (d / 256) inside ∙ ap (λ b. cond b None (Some entry)) held.0 ∙ ap (λ (x : ℕ). Some x) (sym is)
+    ]

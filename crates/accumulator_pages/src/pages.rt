@@ -1,4 +1,4 @@
-ghost use Rattle.std.specs.Prelude.{◌≡◌, ◌≢◌, ℕ, ◌+◌, ◌*◌, ◌/◌, ◌++◌, ◌<◌, ◌≤◌, ◌^◌, ◌==◌, [], All, IfOk, IfErr, option_map, length, replicate, position, slice_index, slice_set};
+ghost use Rattle.std.specs.Prelude.{◌≡◌, ◌≢◌, ℕ, ◌+◌, ◌*◌, ◌/◌, ◌++◌, ◌<◌, ◌≤◌, ◌^◌, ◌==◌, [], All, IfOk, IfErr, IfSome, IsNone, option_map, length, replicate, position, slice_index, slice_set};
 ghost use Rattle.frame_pool.specs.Pool.{PoolView, IsInUse};
 ghost use Rattle.frame_pool.specs.ChainView.{HasPage, LeavesPool, chain_view};
 ghost use Rattle.accumulator_pages.specs.Adding.{added, raised, touched_count, touched_pages};
@@ -8,6 +8,7 @@ use crate::reached::Reached;
 use frame_pool::laws::calls_on_one_chain;
 use frame_pool::{Chain, FrameId, FramePool};
 use jass_base::NoMemory;
+use lane_kernels::first_zero;
 use std::alloc::Global;
 
 /// The documents of a page.
@@ -139,6 +140,47 @@ impl Pages {
         self.frames
     }
 
+    /// The least document without a score, and `None` exactly where each has one.
+    pub fn least_untouched(&self, pool: &FramePool) -> Option<u32>
+        requires { Stands self.now pool.now }
+        ensures { result ≡ position (λ score. score == 0) (pages_scores self.now pool.now) }
+    {
+        for page in 0..self.docs.div_ceil(PAGE_DOCS) {
+            if let Some(slot) = self.untouched_slot(pool, page) {
+                let doc = PAGE_DOCS * page + slot;
+                return if doc < self.docs { Some(doc) } else { None };
+            }
+        }
+        None
+    }
+
+    /// The heap place of a document that has a score.
+    pub fn heap_place(&self, pool: &FramePool, doc: u32) -> u32
+        requires stands { Stands self.now pool.now }
+        requires inside { doc < docs_of self.now }
+        requires touched { 0 < slice_index (pages_scores self.now pool.now) doc }
+        ensures { result ≡ slice_index (pages_places self.now pool.now) doc }
+    {
+        let frame = self.touched_frame(doc);
+        pool.place(frame, (doc % PAGE_DOCS) as u8)
+    }
+
+    /// Sets the heap place of a document that has a score.
+    pub fn set_heap_place(&mut self, pool: &mut FramePool, doc: u32, place: u32)
+        requires stands { Stands self.old pool.old }
+        requires inside { doc < docs_of self.old }
+        requires touched { 0 < slice_index (pages_scores self.old pool.old) doc }
+        ensures scores { pages_scores self.new pool.new ≡ pages_scores self.old pool.old }
+        ensures places { pages_places self.new pool.new ≡ slice_set (pages_places self.old pool.old) doc place }
+        ensures frames { length (own_view self.new pool.new).frames ≡ length (own_view self.old pool.old).frames }
+        ensures stands { Stands self.new pool.new }
+        ensures same { ArePagesOf self.old self.new }
+        ensures leaves { LeavesPool pool.old pool.new (own_chain self.old) }
+    {
+        let frame = self.touched_frame(doc);
+        pool.set_place(frame, (doc % PAGE_DOCS) as u8, place);
+    }
+
     /// The chain, with the frames that it has taken.
     pub fn into_chain(self) -> Chain
         ensures { result ≡ own_chain self }
@@ -186,6 +228,36 @@ impl Pages {
         ensures { result ≡ slice_index (pages_scores self.now pool.now) doc }
     {
         pool.score(frame, (doc % PAGE_DOCS) as u8)
+    }
+
+    // The frame of a document that has a score.
+    fn touched_frame(&self, doc: u32) -> FrameId
+        requires { doc / 256 < length self.now.table.items }
+        ensures { (pool : PoolView) → Stands self.now pool → 0 < slice_index (pages_scores self.now pool) doc
+            → HasPage (own_view self.now pool) (doc / 256) result.number }
+    {
+        FrameId {
+            number: self.table[(doc / PAGE_DOCS) as usize],
+        }
+    }
+
+    // The first slot of a page whose document has no score, where there is one.
+    fn untouched_slot(&self, pool: &FramePool, page: u32) -> Option<u32>
+        requires stands { Stands self.now pool.now }
+        requires inside { page < length self.now.table.items }
+        ensures found { IfSome result (λ slot. slot < 256) }
+        ensures untouched { IfSome result (λ slot. 256 * page + slot < docs_of self.now
+            → slice_index (pages_scores self.now pool.now) (256 * page + slot) ≡ 0) }
+        ensures before { IfSome result (λ slot. (i : ℕ) → i < slot → 256 * page + i < docs_of self.now
+            → slice_index (pages_scores self.now pool.now) (256 * page + i) ≢ 0) }
+        ensures none { IsNone result → (i : ℕ) → i < 256 → 256 * page + i < docs_of self.now
+            → slice_index (pages_scores self.now pool.now) (256 * page + i) ≢ 0 }
+    {
+        let Some(frame) = self.known_frame(page) else {
+            return Some(0);
+        };
+        let slot = first_zero(pool.scores_of(frame))?;
+        Some(slot as u32)
     }
 
     // The frame of a page, where it has one.

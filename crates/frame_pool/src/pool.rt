@@ -188,6 +188,7 @@ impl FramePool {
     pub fn scores_of(&self, frame: FrameId) -> &[u32; 256]
         requires { IsTaken self.now frame.number }
         ensures scores { result.now ≡ (content_of self.now frame.number).scores }
+        ensures slots { length result.now ≡ 256 }
         ensures documents { (chain page docs slot : ℕ) → HasPage (chain_view self.now chain) page frame.number → slot < 256
             → 256 * page + slot < docs → slice_index result.now slot ≡ slice_index (view_scores docs (chain_view self.now chain)) (256 * page + slot) }
     {
