@@ -10,3 +10,4 @@ pub mod Readings
 pub mod Refusals
 pub mod New
 pub mod Leaving
+pub mod Rows

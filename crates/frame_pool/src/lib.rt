@@ -9,6 +9,7 @@ pub mod laws;
 mod lease;
 mod pool;
 mod refusal;
+mod store;
 
 pub use chain::Chain;
 pub use frame::FrameId;

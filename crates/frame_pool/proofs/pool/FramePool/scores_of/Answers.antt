@@ -1,18 +1,16 @@
-use Rattle.std.proofs.Common.{◌≡◌, ℕ, List, length, get_or, sym, ap, ◌∙◌, arith}
+use Rattle.std.proofs.Common.{◌≡◌, ℕ, List, length, get_or, sym, ap, ◌∙◌}
 use Rattle.frame_pool.specs.Pool.{FrameContent, content_of}
-use Rattle.frame_pool.specs.Links.{frame_content}
-use Rattle.frame_pool.proofs.Views.{content_read, taken_range, sound_pool}
+use Rattle.frame_pool.proofs.Views.{content_seen, taken_range, sound_pool}
 use Rattle.frame_pool.proofs.ChainViews.{value-at}
 use Rattle.frame_pool.proofs.pool.FramePool.scores_of.Goals as goal
 
-pub index-requires : goal.index-requires
-index-requires c =
-    omega (arith, taken_range _ _ _ _ _ c.self.invariant c.self.view_is c.args.frame.number c.requires, c.self.inside.frames.ok.0)
+pub scores-requires : goal.scores-requires
+scores-requires c = taken_range _ _ _ _ _ c.self.invariant c.self.view_is c.args.frame.number c.requires
 
 pub returns : goal.returns
 returns c =
-    let is : content_of c.args.self.now c.args.frame.number ≡ frame_content c.index.result.now = content_read _ _ c.args.self.now c.self.view_is _ c.index.result.now (taken_range _ _ _ _ _ c.self.invariant c.self.view_is c.args.frame.number c.requires) c.index.ensures in
-    let value : c.index.result.now.scores ≡ (content_of c.args.self.now c.args.frame.number).scores = sym (ap (λ (x : FrameContent). x.scores) is) in
+    let value : c.scores.result.now ≡ (content_of c.args.self.now c.args.frame.number).scores =
+    c.scores.ensures ∙ sym (ap (λ (x : FrameContent). x.scores) (content_seen _ _ c.args.self.now c.self.view_is c.args.frame.number)) in
     record {
       scores = value;
       slots = ap (λ (xs : List ℕ). length xs) value ∙ (sound_pool _ _ _ _ _ c.self.invariant c.self.view_is).score_slots c.args.frame.number;
