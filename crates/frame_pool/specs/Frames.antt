@@ -1,5 +1,5 @@
 -- Frames, and the three tables that keep them.
-use Rattle.std.specs.Prelude.{◌≡◌, ℕ, false, List, [], ◌∷◌, length, replicate}
+use Rattle.std.specs.Prelude.{◌≡◌, ℕ, false, List, [], ◌∷◌, length, replicate, slice_index_or, slice_set}
 use Rattle.frame_pool.specs.declared.store.Head.{Head}
 
 -- a frame: the scores and heap places of the 256 documents of a page, the page, and the link to the next frame
@@ -9,9 +9,13 @@ pub record Frame : Type 0 where
   pub page : ℕ
   pub next : ℕ
 
--- a frame of a new pool
+-- the frame of a page without scores
+abbrev pub cleared_frame : ℕ → ℕ → Frame
+cleared_frame page next = record { scores = replicate 256 0; places = replicate 256 0; page = page; next = next }
+
+-- a frame of a new pool, and its head
 abbrev pub free_frame : ℕ → Frame
-free_frame next = record { scores = replicate 256 0; places = replicate 256 0; page = 0; next = next }
+free_frame next = cleared_frame 0 next
 
 abbrev pub free_head : ℕ → Head
 free_head next = record { page = 0; next = next; placed = false }
@@ -19,6 +23,20 @@ free_head next = record { page = 0; next = next; placed = false }
 -- what stands past the end of the table
 abbrev pub blank : Frame
 blank = free_frame 0
+
+-- the frame of this number
+abbrev pub frame_at : List Frame → ℕ → Frame
+frame_at frames number = slice_index_or frames number blank
+
+-- a frame with one score changed, with one heap place changed, and with another link
+abbrev pub scored : Frame → ℕ → ℕ → Frame
+scored frame slot score = record frame { scores = slice_set frame.scores slot score }
+
+abbrev pub placed : Frame → ℕ → ℕ → Frame
+placed frame slot place = record frame { places = slice_set frame.places slot place }
+
+abbrev pub linked : Frame → ℕ → Frame
+linked frame next = record frame { next = next }
 
 -- the frame that a head and two rows stand for
 abbrev pub frame_of : Head → List ℕ → List ℕ → Frame

@@ -1,6 +1,6 @@
-ghost use Rattle.std.specs.Prelude.{◌≡◌, ◌<◌, ◌≤◌, IfOk, false, length, map, replicate, slice_index, slice_index_or, slice_set};
+ghost use Rattle.std.specs.Prelude.{◌≡◌, ◌<◌, ◌≤◌, IfOk, false, length, map, replicate, slice_index, slice_set};
 ghost use Rattle.std.specs.List.{range_with_len};
-ghost use Rattle.frame_pool.specs.Frames.{blank, free_frame, free_head};
+ghost use Rattle.frame_pool.specs.Frames.{cleared_frame, frame_at, free_frame, free_head, linked, placed, scored};
 
 use jass_base::NoMemory;
 use lane_kernels::fill_zero;
@@ -64,49 +64,49 @@ impl FrameStore {
 
     pub(crate) fn page(&self, frame: u32) -> u32
         requires { frame < length self.now }
-        ensures { result ≡ (slice_index_or self.now frame blank).page }
+        ensures { result ≡ (frame_at self.now frame).page }
     {
         self.heads[frame as usize].page
     }
 
     pub(crate) fn next(&self, frame: u32) -> u32
         requires { frame < length self.now }
-        ensures { result ≡ (slice_index_or self.now frame blank).next }
+        ensures { result ≡ (frame_at self.now frame).next }
     {
         self.heads[frame as usize].next
     }
 
     pub(crate) fn link(&mut self, frame: u32, next: u32)
         requires { frame < length self.old }
-        ensures { self.new ≡ slice_set self.old frame (record (slice_index_or self.old frame blank) { next = next }) }
+        ensures { self.new ≡ slice_set self.old frame (linked (frame_at self.old frame) next) }
     {
         self.heads[frame as usize].next = next;
     }
 
     pub(crate) fn scores(&self, frame: u32) -> &[u32; SLOTS]
         requires { frame < length self.now }
-        ensures { result.now ≡ (slice_index_or self.now frame blank).scores }
+        ensures { result.now ≡ (frame_at self.now frame).scores }
     {
         &self.scores[frame as usize]
     }
 
     pub(crate) fn set_score(&mut self, frame: u32, slot: u8, score: u32)
         requires { frame < length self.old }
-        ensures { self.new ≡ slice_set self.old frame (record (slice_index_or self.old frame blank) { scores = slice_set (slice_index_or self.old frame blank).scores slot score }) }
+        ensures { self.new ≡ slice_set self.old frame (scored (frame_at self.old frame) slot score) }
     {
         self.scores[frame as usize][slot as usize] = score;
     }
 
     pub(crate) fn place(&self, frame: u32, slot: u8) -> u32
         requires { frame < length self.now }
-        ensures { result ≡ slice_index (slice_index_or self.now frame blank).places slot }
+        ensures { result ≡ slice_index (frame_at self.now frame).places slot }
     {
         self.places[frame as usize][slot as usize]
     }
 
     pub(crate) fn set_place(&mut self, frame: u32, slot: u8, place: u32)
         requires { frame < length self.old }
-        ensures { self.new ≡ slice_set self.old frame (record (slice_index_or self.old frame blank) { places = slice_set (slice_index_or self.old frame blank).places slot place }) }
+        ensures { self.new ≡ slice_set self.old frame (placed (frame_at self.old frame) slot place) }
     {
         self.heads[frame as usize].placed = true;
         self.places[frame as usize][slot as usize] = place;
@@ -115,7 +115,7 @@ impl FrameStore {
     /// Makes it the frame of a page without scores. Heap places that were never set are 0 still.
     pub(crate) fn clear(&mut self, frame: u32, page: u32, next: u32)
         requires { frame < length self.old }
-        ensures { self.new ≡ slice_set self.old frame (record { scores = replicate 256 0; places = replicate 256 0; page = page; next = next }) }
+        ensures { self.new ≡ slice_set self.old frame (cleared_frame page next) }
     {
         let at = frame as usize;
         fill_zero(&mut self.scores[at]);
