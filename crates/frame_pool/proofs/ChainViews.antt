@@ -1,11 +1,11 @@
 -- Chains seen through a pool's view, after a change of it.
-use Rattle.std.proofs.Common.{◌≡◌, ◌≢◌, ℕ, suc, zero, ◌+◌, ◌-◌, ◌*◌, ◌/◌, ◌%◌, ◌<◌, ◌≤◌, ◌==◌, Bool, true, false, List, [], ◌∷◌, length, map, get_or, set, replicate, Option, Some, None, sum_by, cond, eqb, IsSome, find, unwrap_or, option_map, Contains, refl, sym, ap, ◌∙◌, subst, inl, inr, arith, length-set, get_or-set_same, get_or-set_other}
+use Rattle.std.proofs.Common.{◌≡◌, ◌≢◌, ℕ, suc, zero, ◌+◌, ◌-◌, ◌*◌, ◌/◌, ◌%◌, ◌<◌, ◌≤◌, ◌==◌, Bool, true, false, List, [], ◌∷◌, length, map, get_or, set, replicate, Option, Some, None, sum_by, cond, eqb, IsSome, is_some, find, unwrap_or, option_map, Contains, refl, sym, ap, ◌∙◌, subst, inl, inr, arith, length-set, get_or-set_same, get_or-set_other}
 use Rattle.std.specs.List.{range_with_len}
 use Rattle.std.proofs.lemmas.Bool.{ne_eqb, eq-eqb}
 use Rattle.std.proofs.lemmas.Bool.Decides.{eqb_tells}
 use Rattle.std.proofs.lemmas.List.FromFn.{get_or-map-range_with_len}
 use Rattle.frame_pool.specs.Pool.{PoolView, ChainEntry, FrameContent, cleared, content_of, chain_of, HasFrame, with_first, promise_of, promised, spare_of}
-use Rattle.frame_pool.specs.ChainView.{ChainView, HeldFrame, chain_view, held_frame, frame_with_page, number_with_page, LacksPage, slot_value, view_values, KeepsChain, KeepsFrames, HasPage, LeavesOthers, with_first_held}
+use Rattle.frame_pool.specs.ChainView.{ChainView, HeldFrame, chain_view, held_frame, frame_with_page, number_with_page, LacksPage, slot_value, view_values, KeepsChain, KeepsFrames, HasPage, LeavesOthers, LeavesPool, with_first_held}
 use Rattle.frame_pool.specs.Sound.{IsSound}
 use Rattle.std.proofs.lemmas.List.{length-map}
 use Rattle.frame_pool.proofs.Pages.{none_found, held_by, pages_before, of_page}
@@ -241,7 +241,7 @@ write-leaves_own old new f x w sound c has d ne =
     keeps-chain old new d (ap (λ (es : List (Option ChainEntry)). get_or es d None) w.chains)
     (λ g at. written-other old new f x w g (λ same. ne (sound.one_chain d c f (subst (λ (y : ℕ). HasFrame old d y) same at) has)))
 
-pub write-keeps_spare : (old new : PoolView) (f : ℕ) (x : FrameContent) → Writes old new f x → spare_of new ≡ spare_of old
+write-keeps_spare : (old new : PoolView) (f : ℕ) (x : FrameContent) → Writes old new f x → spare_of new ≡ spare_of old
 write-keeps_spare old new f x w =
     ap (λ (n : ℕ). n - promised new) (ap (λ (fs : List FrameContent). length fs) w.frames ∙ length-set old.frames f x)
     ∙ ap (λ (es : List (Option ChainEntry)). length old.frames - sum_by promise_of es) w.chains
@@ -263,13 +263,19 @@ write-sets_value values old new f slot v x w sound is inside small c page docs h
     subst (λ (p : ℕ). view_values values docs (chain_view new c) ≡ set (view_values values docs (chain_view old c)) (256 * p + slot) v) own.1
     (write-sets_own values old new f slot v x w sound is inside small c docs own.0)
 
-pub write-leaves_others : (old new : PoolView) (f : ℕ) (x : FrameContent) → Writes old new f x → IsSound old → (c page : ℕ) → HasPage (chain_view old c) page f → LeavesOthers old new c
-write-leaves_others old new f x w sound c page has = write-leaves_own old new f x w sound c (of_page old c page f has).0
-
 pub write-keeps_frames : (old new : PoolView) (f : ℕ) (x : FrameContent) → Writes old new f x → (c : ℕ) → KeepsFrames (chain_view old c) (chain_view new c)
 write-keeps_frames old new f x w c = record {
   promise = ap (λ (v : ChainView). v.promise) (written-view old new f x w c);
   count = ap (λ (v : ChainView). length v.frames) (written-view old new f x w c)
       ∙ length-map (chain_of old c).frames (held_by (content_of new)) ∙ sym (length-map (chain_of old c).frames (held_frame old));
   pages = λ p. write-keeps_numbers old new f x w c p;
+}
+
+pub write-leaves_pool : (old new : PoolView) (f : ℕ) (x : FrameContent) → Writes old new f x → IsSound old → (c page : ℕ) → HasPage (chain_view old c) page f → LeavesPool old new c
+write-leaves_pool old new f x w sound c page has = record {
+  others = write-leaves_own old new f x w sound c (of_page old c page f has).0;
+  frames = ap (λ (fs : List FrameContent). length fs) w.frames ∙ length-set old.frames f x;
+  in_use = ap (λ (es : List (Option ChainEntry)). map is_some es) w.chains;
+  spare = write-keeps_spare old new f x w;
+  promise = (write-keeps_frames old new f x w c).promise;
 }

@@ -9,3 +9,5 @@ pub mod Takes
 pub mod Readings
 pub mod Refusals
 pub mod New
+pub mod Leaving
+pub mod Rows

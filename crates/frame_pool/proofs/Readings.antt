@@ -3,7 +3,7 @@ use Rattle.std.proofs.Common.{◌≡◌, ◌≢◌, ℕ, suc, zero, ◌+◌, ◌
 use Rattle.std.specs.List.{AllByRecursion}
 use Rattle.std.proofs.lemmas.Bool.{ne_eqb, eq-eqb}
 use Rattle.frame_pool.specs.declared.lease.Lease.{Lease}
-use Rattle.frame_pool.specs.declared.frame.Frame.{Frame}
+use Rattle.frame_pool.specs.Frames.{Frame}
 use Rattle.frame_pool.specs.Pool.{PoolView, ChainEntry, IsInUse, HasFrame, chain_of, number_after}
 use Rattle.std.proofs.lemmas.List.{length-map}
 use Rattle.frame_pool.specs.ChainView.{chain_view, held_frame}

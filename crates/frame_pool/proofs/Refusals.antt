@@ -6,7 +6,7 @@ use Rattle.std.proofs.lemmas.List.Quantifiers.{position-Some}
 use Rattle.std.proofs.lemmas.Bool.{lt-ltb, le-ltb}
 use Rattle.std.proofs.lemmas.Bool.Decides.{nat_tests}
 use Rattle.frame_pool.specs.declared.lease.Lease.{Lease}
-use Rattle.frame_pool.specs.declared.frame.Frame.{Frame}
+use Rattle.frame_pool.specs.Frames.{Frame}
 use Rattle.frame_pool.specs.declared.refusal.PoolRefusal.TheVariants.{Chains, Short}
 use Rattle.frame_pool.specs.Pool.{PoolView, promised, spare_of, all_in_use, promise_refusal}
 use Rattle.frame_pool.specs.Links.{chain_entry, link_of, view_of}

@@ -1,15 +1,15 @@
 -- A frame is taken, a promise is made, a chain is given back: what the pool's fields keep, and what its view shows.
-use Rattle.std.proofs.Common.{◌≡◌, ◌≢◌, ℕ, suc, zero, ◌+◌, ◌-◌, ◌<◌, ◌≤◌, ◌==◌, Bool, List, [], ◌∷◌, length, map, get_or, set, replicate, Option, Some, None, sum_by, cond, IsSome, unwrap_or, option_map, find, refl, sym, ap, ◌∙◌, subst, inl, inr, arith, length-set, get_or-set_same, get_or-set_other}
+use Rattle.std.proofs.Common.{◌≡◌, ◌≢◌, ℕ, suc, zero, ◌+◌, ◌-◌, ◌<◌, ◌≤◌, ◌==◌, Bool, List, [], ◌∷◌, length, map, get_or, set, replicate, Option, Some, None, sum_by, cond, IsSome, unwrap_or, is_some, option_map, find, refl, sym, ap, ◌∙◌, subst, inl, inr, arith, length-set, get_or-set_same, get_or-set_other}
 use Rattle.std.specs.List.{AllByRecursion}
 use Rattle.std.proofs.lemmas.List.{length-map, map-set, length-replicate}
 use Rattle.std.proofs.lemmas.List.Sums.{sum_by-set}
 use Rattle.std.proofs.lemmas.Bool.{eq-eqb}
 use Rattle.std.proofs.lemmas.Bool.Decides.{eqb_tells}
 use Rattle.frame_pool.specs.declared.lease.Lease.{Lease}
-use Rattle.frame_pool.specs.declared.frame.Frame.{Frame}
+use Rattle.frame_pool.specs.Frames.{Frame}
 use Rattle.frame_pool.specs.Pool.{PoolView, ChainEntry, FrameContent, cleared, content_of, chain_of, IsInUse, HasFrame, IsFree, promise_of, promised, spare_of, with_first, Promises}
 use Rattle.frame_pool.specs.Sound.{IsSound}
-use Rattle.frame_pool.specs.ChainView.{HasPage, number_with_page, frame_with_page, ChainView, HeldFrame, chain_view, held_frame, LacksPage, with_first_held, view_values, LeavesOthers}
+use Rattle.frame_pool.specs.ChainView.{HasPage, number_with_page, frame_with_page, ChainView, HeldFrame, chain_view, held_frame, LacksPage, with_first_held, view_values, LeavesOthers, LeavesPool}
 use Rattle.std.proofs.Math.Path.{fun_ext}
 use Rattle.frame_pool.specs.Links.{walk, grown, blank, link_of, page_of, frame_content, chain_entry, view_of, relinked, relinked_first}
 use Rattle.frame_pool.specs.Kept.{Ends, Belong, LeaseKept, Kept, PoolKept, taken_by}
@@ -17,7 +17,7 @@ use Rattle.frame_pool.proofs.Walks.{length-walk, at_end}
 use Rattle.frame_pool.proofs.Leases.{in_range, lease_kept, some_free, free_at}
 use Rattle.frame_pool.proofs.Changes.{took-kept, promised-kept, released-kept, released_none-kept, grown-walk}
 use Rattle.frame_pool.proofs.Pages.{held_by, none_found}
-use Rattle.frame_pool.proofs.Views.{entry_is, content_is, chain_of_is, owned_frame, entries-set, entry-agrees, field-set, sized-set, frame_read, frame_count, lease_count, lease_read, in_use_range}
+use Rattle.frame_pool.proofs.Views.{entry_is, content_is, chain_of_is, owned_frame, entries-set, entry-agrees, field-set, sized-set, frame_count, lease_count, lease_read, in_use_range}
 use Rattle.frame_pool.proofs.ChainViews.{keeps-chain, leaves-others, took-view, took-values}
 
 -- ---- sums of promises
@@ -70,10 +70,10 @@ lacks-all content page' p (g ∷ fs) same none =
 
 -- the fields after frame `free` was taken for chain c
 pub took-pool : (frames : List Frame) (leases : List (Option Lease)) (free sum : ℕ) (pool : PoolView) → PoolKept frames leases free sum → view_of frames leases ≡ pool
-    → (c page : ℕ) (l l' : Lease) (read new : Frame) → get_or leases c None ≡ Some l → length (chain_view pool c).frames < (chain_view pool c).promise → LacksPage (chain_view pool c) page
-    → read ≡ get_or frames free read → new ≡ record { scores = replicate 256 0; places = replicate 256 0; page = page; next = l.first } → l' ≡ grown l free
-    → PoolKept (set frames free new) (set leases c (Some l')) read.next sum × Takes pool (view_of (set frames free new) (set leases c (Some l'))) c free page × (free < length frames)
-took-pool frames leases free sum pool kept view c page l l' read new is room lacks was new_is grown_is =
+    → (c page : ℕ) (l l' : Lease) (after : ℕ) (frames' : List Frame) → get_or leases c None ≡ Some l → length (chain_view pool c).frames < (chain_view pool c).promise → LacksPage (chain_view pool c) page
+    → after ≡ (get_or frames free blank).next → frames' ≡ set frames free (record { scores = replicate 256 0; places = replicate 256 0; page = page; next = l.first }) → l' ≡ grown l free
+    → PoolKept frames' (set leases c (Some l')) after sum × Takes pool (view_of frames' (set leases c (Some l'))) c free page × (free < length frames)
+took-pool frames leases free sum pool kept view c page l l' after frames' is room lacks after_is frames_are grown_is =
     let n : ℕ = length frames in
     let next : ℕ → ℕ = link_of frames in
     let owner : ℕ → ℕ = kept.lists.owner in
@@ -98,10 +98,9 @@ took-pool frames leases free sum pool kept view c page l l' read new is room lac
     (λ g. ap (λ (p : PoolView). (content_of p g).page) (sym view) ∙ ap (λ (x : FrameContent). x.page) (content_is frames leases g)) (none_found (frame_with_page (chain_view pool c) page) lacks)) in
     let lists : Kept n (link_of (set frames free written)) (page_of (set frames free written)) (next free) (set leases c (Some (grown l free))) sum =
     took-kept n next (link_of (set frames free written)) (page_of frames) (page_of (set frames free written)) free page leases sum c l kept.lists is room' new_page same_link link same_page page_is in
-    let next_is : next free ≡ read.next = ap (λ (f : Frame). f.next) (sym (frame_read frames free read exists was)) in
-    let pool_kept : PoolKept (set frames free written) (set leases c (Some (grown l free))) read.next sum = record {
-      lists = subst (λ (k : ℕ). Kept k (link_of (set frames free written)) (page_of (set frames free written)) read.next (set leases c (Some (grown l free))) sum) (sym (length-set frames free written))
-          (subst (λ (f : ℕ). Kept n (link_of (set frames free written)) (page_of (set frames free written)) f (set leases c (Some (grown l free))) sum) next_is lists);
+    let pool_kept : PoolKept (set frames free written) (set leases c (Some (grown l free))) after sum = record {
+      lists = subst (λ (k : ℕ). Kept k (link_of (set frames free written)) (page_of (set frames free written)) after (set leases c (Some (grown l free))) sum) (sym (length-set frames free written))
+          (subst (λ (f : ℕ). Kept n (link_of (set frames free written)) (page_of (set frames free written)) f (set leases c (Some (grown l free))) sum) (sym after_is) lists);
       sized = sized-set frames free written (record { scores = length-replicate {A = ℕ} 256 0; places = length-replicate {A = ℕ} 256 0 }) kept.sized;
     } in
     let entry : chain_entry (link_of (set frames free written)) (Some (grown l free)) ≡ Some (with_first (chain_of pool c) free) =
@@ -120,9 +119,9 @@ took-pool frames leases free sum pool kept view c page l l' read new is room lac
           ∙ ap (λ (p : PoolView). set p.chains c (Some (with_first (chain_of pool c) free))) view;
       inside = omega (arith, lease_count frames leases pool view);
     } in (
-      subst (λ (f : Frame). PoolKept (set frames free f) (set leases c (Some l')) read.next sum) (sym new_is)
-          (subst (λ (x : Lease). PoolKept (set frames free written) (set leases c (Some x)) read.next sum) (sym grown_is) pool_kept),
-      subst (λ (f : Frame). Takes pool (view_of (set frames free f) (set leases c (Some l'))) c free page) (sym new_is)
+      subst (λ (fs : List Frame). PoolKept fs (set leases c (Some l')) after sum) (sym frames_are)
+          (subst (λ (x : Lease). PoolKept (set frames free written) (set leases c (Some x)) after sum) (sym grown_is) pool_kept),
+      subst (λ (fs : List Frame). Takes pool (view_of fs (set leases c (Some l'))) c free page) (sym frames_are)
           (subst (λ (x : Lease). Takes pool (view_of (set frames free written) (set leases c (Some x))) c free page) (sym grown_is) takes),
       exists,
     )
@@ -146,14 +145,14 @@ took-room frames leases free sum pool kept view i c r l same used read is room =
     ((free_at (length frames) (link_of frames) (page_of frames) free (length frames - sum_by taken_by leases - 1) leases sum kept.lists (omega arith)).owned.0.0, room')
 
 pub took-at : (frames : List Frame) (leases : List (Option Lease)) (free sum : ℕ) (pool : PoolView) → PoolKept frames leases free sum → view_of frames leases ≡ pool
-    → (i c page : ℕ) (r : Option Lease) (l l' : Lease) (read new : Frame) → i ≡ c → IsInUse pool c → r ≡ get_or leases i r → r ≡ Some l
+    → (i c page : ℕ) (r : Option Lease) (l l' : Lease) (after : ℕ) (frames' : List Frame) → i ≡ c → IsInUse pool c → r ≡ get_or leases i r → r ≡ Some l
     → length (chain_view pool c).frames < (chain_view pool c).promise → LacksPage (chain_view pool c) page
-    → read ≡ get_or frames free read → new ≡ record { scores = replicate 256 0; places = replicate 256 0; page = page; next = l.first } → l' ≡ grown l free
-    → PoolKept (set frames free new) (set leases i (Some l')) read.next sum × Takes pool (view_of (set frames free new) (set leases i (Some l'))) c free page
-took-at frames leases free sum pool kept view i c page r l l' read new same used lease_is is room lacks was new_is grown_is =
+    → after ≡ (get_or frames free blank).next → frames' ≡ set frames free (record { scores = replicate 256 0; places = replicate 256 0; page = page; next = l.first }) → l' ≡ grown l free
+    → PoolKept frames' (set leases i (Some l')) after sum × Takes pool (view_of frames' (set leases i (Some l'))) c free page
+took-at frames leases free sum pool kept view i c page r l l' after frames' same used lease_is is room lacks after_is frames_are grown_is =
     let at : get_or leases c None ≡ Some l = lease_there frames leases pool view i c r l same used lease_is is in
-    let took = took-pool frames leases free sum pool kept view c page l l' read new at room lacks was new_is grown_is in
-    subst (λ (j : ℕ). PoolKept (set frames free new) (set leases j (Some l')) read.next sum × Takes pool (view_of (set frames free new) (set leases j (Some l'))) c free page) (sym same) (took.0, took.1)
+    let took = took-pool frames leases free sum pool kept view c page l l' after frames' at room lacks after_is frames_are grown_is in
+    subst (λ (j : ℕ). PoolKept frames' (set leases j (Some l')) after sum × Takes pool (view_of frames' (set leases j (Some l'))) c free page) (sym same) (took.0, took.1)
 
 pub takes-view : (old new : PoolView) (c f page : ℕ) → Takes old new c f page → chain_view new c ≡ with_first_held (chain_view old c) f (cleared page)
 takes-view old new c f page t = took-view old new c f page t.chains t.inside t.frames t.free.exists (t.free.in_no_chain c)
@@ -166,6 +165,21 @@ takes-has old new c f page t =
 
 pub takes-others : (old new : PoolView) (c f page : ℕ) → Takes old new c f page → LeavesOthers old new c
 takes-others old new c f page t = leaves-others old new c f (Some (with_first (chain_of old c) f)) (cleared page) t.chains t.frames (λ d _. t.free.in_no_chain d)
+
+-- a chain in use with another entry is still in use
+same_uses : (xs : List (Option ChainEntry)) (c : ℕ) (e : ChainEntry) → IsSome (get_or xs c None) → map is_some (set xs c (Some e)) ≡ map is_some xs
+same_uses [] c e used = refl
+same_uses (x ∷ xs) zero e used = ap (λ (b : Bool). b ∷ map is_some xs) (sym used)
+same_uses (x ∷ xs) (suc c) e used = ap (λ (bs : List Bool). is_some x ∷ bs) (same_uses xs c e used)
+
+pub takes-leaves : (old new : PoolView) (c f page : ℕ) → Takes old new c f page → IsInUse old c → LeavesPool old new c
+takes-leaves old new c f page t used = record {
+  others = takes-others old new c f page t;
+  frames = ap (λ (fs : List FrameContent). length fs) t.frames ∙ length-set old.frames f (cleared page);
+  in_use = ap (λ (es : List (Option ChainEntry)). map is_some es) t.chains ∙ same_uses old.chains c (with_first (chain_of old c) f) used;
+  spare = takes-spare old new c f page t;
+  promise = ap (λ (v : ChainView). v.promise) (takes-view old new c f page t);
+}
 
 pub takes-values : (values : FrameContent → List ℕ) (old new : PoolView) (c f page : ℕ) → Takes old new c f page → ((i : ℕ) → get_or (values (cleared page)) i 0 ≡ 0) → LacksPage (chain_view old c) page
     → (docs : ℕ) → view_values values docs (chain_view new c) ≡ view_values values docs (chain_view old c)

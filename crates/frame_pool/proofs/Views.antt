@@ -5,7 +5,7 @@ use Rattle.std.proofs.lemmas.List.{length-map, get_or_read}
 use Rattle.std.proofs.lemmas.List.Sums.{sum_by-cons}
 use Rattle.std.proofs.lemmas.List.Elements.{All-from_recursion, All-contains}
 use Rattle.frame_pool.specs.declared.lease.Lease.{Lease}
-use Rattle.frame_pool.specs.declared.frame.Frame.{Frame}
+use Rattle.frame_pool.specs.Frames.{Frame}
 use Rattle.frame_pool.specs.Pool.{PoolView, ChainEntry, FrameContent, content_of, chain_of, IsInUse, HasFrame, promise_of}
 use Rattle.frame_pool.specs.ChainView.{IsTaken}
 use Rattle.frame_pool.specs.Sound.{IsSound}
@@ -217,10 +217,5 @@ frame_count frames leases pool view = ap (λ (p : PoolView). length p.frames) (s
 pub lease_count : (frames : List Frame) (leases : List (Option Lease)) (pool : PoolView) → view_of frames leases ≡ pool → length pool.chains ≡ length leases
 lease_count frames leases pool view = ap (λ (p : PoolView). length p.chains) (sym view) ∙ length-map leases (chain_entry (link_of frames))
 
-pub frame_read : (frames : List Frame) (i : ℕ) (read : Frame) → i < length frames → read ≡ get_or frames i read → read ≡ get_or frames i blank
-frame_read frames i read inside is = get_or_read frames i read inside is blank
-
-pub content_read : (frames : List Frame) (leases : List (Option Lease)) (pool : PoolView) → view_of frames leases ≡ pool → (i : ℕ) (read : Frame) → i < length frames
-    → read ≡ get_or frames i read → content_of pool i ≡ frame_content read
-content_read frames leases pool view i read inside is =
-    ap (λ (p : PoolView). content_of p i) (sym view) ∙ content_is frames leases i ∙ ap frame_content (sym (frame_read frames i read inside is))
+pub content_seen : (frames : List Frame) (leases : List (Option Lease)) (pool : PoolView) → view_of frames leases ≡ pool → (i : ℕ) → content_of pool i ≡ frame_content (get_or frames i blank)
+content_seen frames leases pool view i = ap (λ (p : PoolView). content_of p i) (sym view) ∙ content_is frames leases i

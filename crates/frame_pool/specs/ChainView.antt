@@ -1,7 +1,7 @@
 -- What the owner of a chain sees of a pool.
-use Rattle.std.specs.Prelude.{◌≡◌, ◌≢◌, ◌↔◌, ℕ, ◌/◌, ◌%◌, ◌==◌, List, ◌∷◌, length, map, slice_index, Option, Some, None, option_map, find}
+use Rattle.std.specs.Prelude.{◌≡◌, ◌≢◌, ◌↔◌, ℕ, ◌/◌, ◌%◌, ◌==◌, List, ◌∷◌, length, map, slice_index, Option, Some, None, option_map, find, is_some}
 use Rattle.std.specs.List.{range_with_len}
-use Rattle.frame_pool.specs.Pool.{FrameContent, PoolView, content_of, chain_of, IsInUse}
+use Rattle.frame_pool.specs.Pool.{FrameContent, PoolView, content_of, chain_of, spare_of, IsInUse}
 
 -- a frame of a chain: its number, and what it holds
 pub record HeldFrame : Type 0 where
@@ -81,3 +81,12 @@ pub record KeepsChain (old new : PoolView) (chain : ℕ) : Type 0 where
 -- each other chain stays
 abbrev pub LeavesOthers : PoolView → PoolView → ℕ → Type 0
 LeavesOthers old new chain = (other : ℕ) → other ≢ chain → KeepsChain old new other
+
+-- a call on one chain leaves each other chain, how many frames there are, which chain numbers are in use, how many frames
+-- are spare, and the chain's promise
+pub record LeavesPool (old new : PoolView) (chain : ℕ) : Type 0 where
+  pub others : LeavesOthers old new chain
+  pub frames : length new.frames ≡ length old.frames
+  pub in_use : map is_some new.chains ≡ map is_some old.chains
+  pub spare : spare_of new ≡ spare_of old
+  pub promise : (chain_view new chain).promise ≡ (chain_view old chain).promise

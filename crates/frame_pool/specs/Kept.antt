@@ -1,7 +1,7 @@
 -- What a pool's fields keep.
 use Rattle.std.specs.Prelude.{◌≡◌, ◌≢◌, ℕ, ◌+◌, ◌-◌, ◌<◌, ◌≤◌, zero, suc, List, [], ◌∷◌, length, map, slice_index_or, sum_by, Option, Some, None}
 use Rattle.std.specs.List.{AllByRecursion}
-use Rattle.frame_pool.specs.declared.frame.Frame.{Frame}
+use Rattle.frame_pool.specs.Frames.{Frame}
 use Rattle.frame_pool.specs.declared.lease.Lease.{Lease}
 use Rattle.frame_pool.specs.Links.{blank, link_of, no_frame, page_of, walk}
 

@@ -3,3 +3,4 @@ pub mod ChainView
 pub mod Sound
 pub mod Links
 pub mod Kept
+pub mod Frames

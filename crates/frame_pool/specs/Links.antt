@@ -1,12 +1,8 @@
 -- How a pool's table of frames and its leases stand for what contracts see of it.
-use Rattle.std.specs.Prelude.{ℕ, ◌+◌, ◌==◌, if◌then◌else◌, zero, suc, List, [], ◌∷◌, map, replicate, slice_index_or, slice_set, Option, Some, None}
-use Rattle.frame_pool.specs.declared.frame.Frame.{Frame}
+use Rattle.std.specs.Prelude.{ℕ, ◌+◌, ◌==◌, if◌then◌else◌, zero, suc, List, [], ◌∷◌, map, slice_index_or, slice_set, Option, Some, None}
+pub use Rattle.frame_pool.specs.Frames.{Frame, blank, free_frame}
 use Rattle.frame_pool.specs.declared.lease.Lease.{Lease}
 use Rattle.frame_pool.specs.Pool.{FrameContent, ChainEntry, PoolView}
-
--- what stands past the end of the table
-abbrev pub blank : Frame
-blank = record { scores = replicate 256 0; places = replicate 256 0; page = 0; next = 0 }
 
 -- the frame that is linked behind a frame
 abbrev pub link_of : List Frame → ℕ → ℕ
@@ -50,7 +46,3 @@ relinked frames lease free =
 -- and the first of the list that this makes
 abbrev pub relinked_first : Lease → ℕ → ℕ
 relinked_first lease free = if lease.taken == 0 then free else lease.first
-
--- a frame of a new pool
-abbrev pub free_frame : ℕ → Frame
-free_frame next = record { scores = replicate 256 0; places = replicate 256 0; page = 0; next = next }

@@ -1,7 +1,7 @@
 ghost use Rattle.std.specs.Prelude.{◌≡◌, ◌<◌, length, position, is_none};
 ghost use Rattle.frame_pool.specs.Links.{grown, no_frame, relinked, relinked_first};
 
-use crate::frame::Frame;
+use crate::store::FrameStore;
 
 /// The link of a frame that has none behind it.
 pub(crate) const NO_FRAME: u32 = u32::MAX;
@@ -43,15 +43,15 @@ impl Lease {
     }
 
     /// Links the chain's frames in front of the free list that begins at `free`, and answers where that list begins then.
-    pub(crate) fn release(self, frames: &mut Vec<Frame>, free: u32) -> u32
-        requires { 0 < self.taken → self.last < length frames.old.items }
-        ensures frames { frames.new.items ≡ relinked frames.old.items self free }
+    pub(crate) fn release(self, frames: &mut FrameStore, free: u32) -> u32
+        requires { 0 < self.taken → self.last < length frames.old }
+        ensures frames { frames.new ≡ relinked frames.old self free }
         ensures first { result ≡ relinked_first self free }
     {
         if self.taken == 0 {
             return free;
         }
-        frames[self.last as usize].next = free;
+        frames.link(self.last, free);
         self.first
     }
 }

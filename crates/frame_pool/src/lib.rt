@@ -5,9 +5,11 @@
 
 mod chain;
 mod frame;
+pub mod laws;
 mod lease;
 mod pool;
 mod refusal;
+mod store;
 
 pub use chain::Chain;
 pub use frame::FrameId;

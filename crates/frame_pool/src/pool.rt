@@ -1,13 +1,14 @@
 ghost use Rattle.std.specs.Prelude.{◌≡◌, ℕ, ◌+◌, ◌*◌, ◌<◌, ◌≤◌, [], length, slice_index, slice_get, slice_set, option_map, IfOk, OnErr};
 ghost use Rattle.std.specs.Result.{result_err};
 ghost use Rattle.frame_pool.specs.Pool.{content_of, chain_of, cleared, IsInUse, IsFree, IsUnused, Promises, spare_of, promise_refusal, with_first, with_score, with_place, number_after};
-ghost use Rattle.frame_pool.specs.ChainView.{HasPage, IsTaken, KeepsFrames, LacksPage, LeavesOthers, chain_view, view_scores, view_places, with_first_held};
+ghost use Rattle.frame_pool.specs.ChainView.{HasPage, IsTaken, KeepsFrames, LacksPage, LeavesOthers, LeavesPool, chain_view, view_scores, view_places, with_first_held};
 ghost use Rattle.frame_pool.specs.Sound.{IsSound};
 
 use crate::chain::Chain;
-use crate::frame::{Frame, FrameId, linked_frames};
+use crate::frame::FrameId;
 use crate::lease::{Lease, NO_FRAME, unused_number};
 use crate::refusal::PoolRefusal;
+use crate::store::FrameStore;
 use jass_base::NoMemory;
 use std::alloc::Global;
 use std::marker::Model;
@@ -19,7 +20,7 @@ use std::marker::Model;
 /// clears a frame but when it is taken.
 #[derive(Drop)]
 pub struct FramePool {
-    frames: Vec<Frame>,
+    frames: FrameStore,
     leases: Vec<Option<Lease>>,
     free: u32,
     promised: u32,
@@ -32,20 +33,20 @@ impl Model for FramePool {
 
     ghost Value = { PoolView };
 
-    ghost view = { λ p. view_of p.frames.items p.leases.items };
+    ghost view = { λ p. view_of p.frames p.leases.items };
 
-    ghost invariant = { λ p. PoolKept p.frames.items p.leases.items p.free p.promised };
+    ghost invariant = { λ p. PoolKept p.frames p.leases.items p.free p.promised };
 }
 
 impl FramePool {
-    /// A pool of so many frames, for at most so many chains at a time. It takes 2,056 bytes a frame, and no other call takes memory.
+    /// A pool of so many frames, for at most so many chains at a time. It takes 2,060 bytes a frame, and no other call takes memory.
     pub fn new(alloc: Global, frames: u32, chains: u32) -> Result<FramePool, NoMemory>
         requires frames { frames ≤ 1048576 }
         requires chains { chains ≤ 1024 }
         ensures unused { IfOk result (λ pool. IsUnused pool frames chains) }
         ensures sound { IfOk result (λ pool. IsSound pool) }
     {
-        let frames = linked_frames(alloc, frames)?;
+        let frames = FrameStore::linked(alloc, frames)?;
         match vec![in alloc; None; chains as usize] {
             Ok(leases) => Ok(FramePool {
                 frames,
@@ -97,6 +98,7 @@ impl FramePool {
         requires room { length (chain_view self.old chain.now).frames < (chain_view self.old chain.now).promise }
         requires new_page { LacksPage (chain_view self.old chain.now) page }
         ensures free { IsFree self.old result.number }
+        ensures small { result.number < 1048576 }
         ensures frames { self.new.frames ≡ slice_set self.old.frames result.number (cleared page) }
         ensures chains { self.new.chains ≡ slice_set self.old.chains chain.now (Some (with_first (chain_of self.old chain.now) result.number)) }
 
@@ -106,8 +108,7 @@ impl FramePool {
         ensures view { chain_view self.new chain.now ≡ with_first_held (chain_view self.old chain.now) result.number (cleared page) }
         ensures scores { (docs : ℕ) → view_scores docs (chain_view self.new chain.now) ≡ view_scores docs (chain_view self.old chain.now) }
         ensures places { (docs : ℕ) → view_places docs (chain_view self.new chain.now) ≡ view_places docs (chain_view self.old chain.now) }
-        ensures others { LeavesOthers self.old self.new chain.now }
-        ensures spare { spare_of self.new ≡ spare_of self.old }
+        ensures leaves { LeavesPool self.old self.new chain.now }
         ensures sound { IsSound self.new }
     {
         let at = chain.number as usize;
@@ -115,9 +116,8 @@ impl FramePool {
             unreachable!()
         };
         let number = self.free;
-        let frame = &mut self.frames[number as usize];
-        self.free = frame.next;
-        frame.clear(page, lease.first);
+        self.free = self.frames.next(number);
+        self.frames.clear(number, page, lease.first);
         self.leases[at] = Some(lease.with_frame(number));
         FrameId { number }
     }
@@ -157,7 +157,7 @@ impl FramePool {
         ensures next { (chain page : ℕ) → HasPage (chain_view self.now chain) page frame.number
             → option_map (λ f. f.number) result ≡ number_after (chain_of self.now chain).frames frame.number }
     {
-        let next = self.frames[frame.number as usize].next;
+        let next = self.frames.next(frame.number);
         if next == NO_FRAME {
             None
         } else {
@@ -171,7 +171,7 @@ impl FramePool {
         ensures page { (chain page : ℕ) → HasPage (chain_view self.now chain) page frame.number → result ≡ page }
         ensures content { result ≡ (content_of self.now frame.number).page }
     {
-        self.frames[frame.number as usize].page
+        self.frames.page(frame.number)
     }
 
     /// The score of the document in a slot of the frame.
@@ -181,7 +181,18 @@ impl FramePool {
         ensures document { (chain page docs : ℕ) → HasPage (chain_view self.now chain) page frame.number → 256 * page + slot < docs
             → result ≡ slice_index (view_scores docs (chain_view self.now chain)) (256 * page + slot) }
     {
-        self.frames[frame.number as usize].scores[slot as usize]
+        self.frames.scores(frame.number)[slot as usize]
+    }
+
+    /// The scores of the 256 documents of the frame, by their slots.
+    pub fn scores_of(&self, frame: FrameId) -> &[u32; 256]
+        requires { IsTaken self.now frame.number }
+        ensures scores { result.now ≡ (content_of self.now frame.number).scores }
+        ensures slots { length result.now ≡ 256 }
+        ensures documents { (chain page docs slot : ℕ) → HasPage (chain_view self.now chain) page frame.number → slot < 256
+            → 256 * page + slot < docs → slice_index result.now slot ≡ slice_index (view_scores docs (chain_view self.now chain)) (256 * page + slot) }
+    {
+        self.frames.scores(frame.number)
     }
 
     /// Sets the score of the document in a slot of the frame.
@@ -195,11 +206,10 @@ impl FramePool {
             → view_scores docs (chain_view self.new chain) ≡ slice_set (view_scores docs (chain_view self.old chain)) (256 * page + slot) score }
         ensures places { (chain docs : ℕ) → view_places docs (chain_view self.new chain) ≡ view_places docs (chain_view self.old chain) }
         ensures keeps { (chain : ℕ) → KeepsFrames (chain_view self.old chain) (chain_view self.new chain) }
-        ensures others { (chain page : ℕ) → HasPage (chain_view self.old chain) page frame.number → LeavesOthers self.old self.new chain }
-        ensures spare { spare_of self.new ≡ spare_of self.old }
+        ensures leaves { (chain page : ℕ) → HasPage (chain_view self.old chain) page frame.number → LeavesPool self.old self.new chain }
         ensures sound { IsSound self.new }
     {
-        self.frames[frame.number as usize].scores[slot as usize] = score;
+        self.frames.set_score(frame.number, slot, score);
     }
 
     /// The heap place of the document in a slot of the frame.
@@ -209,7 +219,7 @@ impl FramePool {
         ensures document { (chain page docs : ℕ) → HasPage (chain_view self.now chain) page frame.number → 256 * page + slot < docs
             → result ≡ slice_index (view_places docs (chain_view self.now chain)) (256 * page + slot) }
     {
-        self.frames[frame.number as usize].places[slot as usize]
+        self.frames.place(frame.number, slot)
     }
 
     /// Sets the heap place of the document in a slot of the frame.
@@ -223,11 +233,10 @@ impl FramePool {
             → view_places docs (chain_view self.new chain) ≡ slice_set (view_places docs (chain_view self.old chain)) (256 * page + slot) place }
         ensures scores { (chain docs : ℕ) → view_scores docs (chain_view self.new chain) ≡ view_scores docs (chain_view self.old chain) }
         ensures keeps { (chain : ℕ) → KeepsFrames (chain_view self.old chain) (chain_view self.new chain) }
-        ensures others { (chain page : ℕ) → HasPage (chain_view self.old chain) page frame.number → LeavesOthers self.old self.new chain }
-        ensures spare { spare_of self.new ≡ spare_of self.old }
+        ensures leaves { (chain page : ℕ) → HasPage (chain_view self.old chain) page frame.number → LeavesPool self.old self.new chain }
         ensures sound { IsSound self.new }
     {
-        self.frames[frame.number as usize].places[slot as usize] = place;
+        self.frames.set_place(frame.number, slot, place);
     }
 
     /// Ends the chain: its frames are free, still with what they hold, and its promise ends.

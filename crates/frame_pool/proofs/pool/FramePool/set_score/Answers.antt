@@ -1,35 +1,32 @@
-use Rattle.std.proofs.Common.{◌≡◌, ℕ, length, set, refl, sym, ap, ◌∙◌, arith, length-set}
-use Rattle.frame_pool.specs.declared.frame.Frame.{Frame}
+use Rattle.std.proofs.Common.{◌≡◌, ℕ, length, get_or, set, refl, sym, ap, ◌∙◌, arith, length-set}
+use Rattle.frame_pool.specs.Frames.{Frame}
 use Rattle.frame_pool.specs.Pool.{PoolView, FrameContent, content_of, with_score}
 use Rattle.frame_pool.specs.Sound.{IsSound}
-use Rattle.frame_pool.specs.Links.{frame_content, view_of}
-use Rattle.frame_pool.proofs.Views.{content_read, taken_range, sound_view, sound_pool}
-use Rattle.frame_pool.proofs.ChainViews.{Writes, write-keeps_values, write-sets_value, write-keeps_frames, write-leaves_others}
+use Rattle.frame_pool.specs.Links.{blank, frame_content, view_of}
+use Rattle.frame_pool.proofs.Views.{content_seen, taken_range, sound_view, sound_pool}
+use Rattle.frame_pool.proofs.ChainViews.{Writes, write-keeps_values, write-sets_value, write-keeps_frames, write-leaves_pool}
 use Rattle.frame_pool.proofs.Slots.{writes, written-kept}
-use Rattle.frame_pool.proofs.ChainViews.{write-keeps_spare}
 use Rattle.frame_pool.proofs.pool.FramePool.set_score.Goals as goal
 
-pub index_mut-requires : goal.index_mut-requires
-index_mut-requires c =
-    omega (arith, taken_range _ _ _ _ _ c.self.invariant c.self.view_is c.args.frame.number c.requires, c.self.inside.frames.ok.0)
+pub set_score-requires : goal.set_score-requires
+set_score-requires c = taken_range _ _ _ _ _ c.self.invariant c.self.view_is c.args.frame.number c.requires
 
 pub invariant_of-self : goal.invariant_of-self
 invariant_of-self c =
-    let read : Frame = c.index_mut.result.now in
-    let new : Frame = record read { scores = set read.scores c.args.slot c.args.score } in
-    written-kept _ _ _ _ _ c.self.invariant c.self.view_is c.args.frame.number read new c.requires c.index_mut.ensures.value refl refl (length-set read.scores c.args.slot c.args.score) refl
+    let was : Frame = get_or c.self.inside.frames c.args.frame.number blank in
+    let new : Frame = record was { scores = set was.scores c.args.slot c.args.score } in
+    written-kept _ _ _ _ _ c.self.invariant c.args.frame.number new c.set_score.ensures refl refl (length-set was.scores c.args.slot c.args.score) refl
 
 pub returns : goal.returns
 returns c =
-    let read : Frame = c.index_mut.result.now in
-    let new : Frame = record read { scores = set read.scores c.args.slot c.args.score } in
+    let was : Frame = get_or c.self.inside.frames c.args.frame.number blank in
+    let new : Frame = record was { scores = set was.scores c.args.slot c.args.score } in
     let pool : PoolView = c.args.self.now in
     let frame : ℕ = c.args.frame.number in
-    let pool' : PoolView = view_of (set c.self.inside.frames.items frame new) c.self.inside.leases.items in
+    let pool' : PoolView = view_of c.set_score.new.self c.self.inside.leases.items in
     let written : Writes pool pool' frame (frame_content new) =
-    writes _ _ _ _ _ c.self.invariant c.self.view_is frame read new c.requires c.index_mut.ensures.value refl refl in
-    let is : content_of pool frame ≡ frame_content read =
-    content_read _ _ pool c.self.view_is frame read (taken_range _ _ _ _ _ c.self.invariant c.self.view_is c.args.frame.number c.requires) c.index_mut.ensures.value in
+    writes _ _ _ _ _ _ c.self.invariant c.self.view_is frame new c.requires c.set_score.ensures refl refl in
+    let is : content_of pool frame ≡ frame_content was = content_seen _ _ pool c.self.view_is frame in
     let sound : IsSound pool = sound_pool _ _ _ _ _ c.self.invariant c.self.view_is in
     let slots : length (content_of pool frame).scores ≡ 256 = sound.score_slots frame in
     record {
@@ -39,7 +36,6 @@ returns c =
           (ap (λ (x : FrameContent). set x.scores c.args.slot c.args.score) (sym is)) (omega arith) (omega arith) chain page docs has;
       places = λ chain docs. write-keeps_values (λ x. x.places) pool pool' frame (frame_content new) written (ap (λ (x : FrameContent). x.places) (sym is)) chain docs;
       keeps = λ chain. write-keeps_frames pool pool' frame (frame_content new) written chain;
-      others = λ chain page has. write-leaves_others pool pool' frame (frame_content new) written sound chain page has;
-      spare = write-keeps_spare pool pool' frame (frame_content new) written;
-      sound = sound_view _ _ _ _ (written-kept _ _ _ _ _ c.self.invariant c.self.view_is c.args.frame.number read new c.requires c.index_mut.ensures.value refl refl (length-set read.scores c.args.slot c.args.score) refl);
+      leaves = λ chain page has. write-leaves_pool pool pool' frame (frame_content new) written sound chain page has;
+      sound = sound_view _ _ _ _ (written-kept _ _ _ _ _ c.self.invariant c.args.frame.number new c.set_score.ensures refl refl (length-set was.scores c.args.slot c.args.score) refl);
     }

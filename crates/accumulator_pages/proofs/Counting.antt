@@ -1,0 +1,90 @@
+-- Touched documents and pages, counted.
+use Rattle.std.proofs.Common.{◌≡◌, ℕ, suc, zero, Bool, true, false, not, cond, eqb, ◌+◌, ◌*◌, ◌/◌, ◌%◌, ◌<◌, ◌≤◌, List, [], ◌∷◌, length, get_or, set, drop, take, count_by, refl, ap, ◌∙◌, arith, length-set}
+use Rattle.std.specs.List.{range_with_len}
+use Rattle.std.proofs.lemmas.Grind.{get_or_default_zero}
+use Rattle.std.proofs.lemmas.Bool.{lt-ltb, le-ltb}
+use Rattle.std.proofs.lemmas.Bool.Decides.{nat_tests}
+use Rattle.std.proofs.lemmas.List.{get_or-take, get_or-drop, length-take, length-drop}
+use Rattle.std.proofs.lemmas.List.Folds.{list_any-from_Any, list_any_none}
+use Rattle.std.proofs.lemmas.List.Sums.{sum_by-set, sum_by-cons, count_by-le-length}
+use mir.Val.{bool_byte}
+use Rattle.accumulator_pages.specs.Adding.{is_touched, touched_count, page_is_touched}
+use Rattle.accumulator_pages.specs.Pages.{HasTouched}
+
+abbrev pub worth : Bool → ℕ
+worth b = cond b 1 0
+
+pub byte_worth : (b : Bool) → bool_byte b ≡ worth b
+byte_worth true = refl
+byte_worth false = refl
+
+one_touched : (score : ℕ) → worth (is_touched score) + worth (eqb score 0) ≡ 1
+one_touched score = grind (arith, nat_tests)
+
+-- a document that gets a score of at least 1 is one more where it had none
+pub touched-rise : (s : List ℕ) (d v before more touched : ℕ) → d < length s → 0 < v → before ≡ get_or s d 0 → more ≡ worth (eqb before 0) → touched ≡ touched_count s
+    → touched + more ≡ touched_count (set s d v)
+touched-rise s d v before more touched inside some read more_is is =
+    let new : worth (is_touched v) ≡ 1 = ap worth (lt-ltb 0 v some) in
+    let more_here : more ≡ worth (eqb (get_or s d 0) 0) = more_is ∙ ap (λ (b : ℕ). worth (eqb b 0)) read in
+    omega (arith, sum_by-set (λ x. worth (is_touched x)) s d v 0 inside, new, one_touched (get_or s d 0), more_here, is)
+
+-- so the count doesn't pass the number of documents
+pub touched-fits : (s : List ℕ) (d v before more touched : ℕ) → d < length s → 0 < v → before ≡ get_or s d 0 → more ≡ worth (eqb before 0) → touched ≡ touched_count s
+    → touched + more ≤ length s
+touched-fits s d v before more touched inside some read more_is is =
+    omega (arith, touched-rise s d v before more touched inside some read more_is is, count_by-le-length is_touched (set s d v), length-set s d v)
+
+pub some_counted : (p : ℕ → Bool) (xs : List ℕ) (i : ℕ) → i < length xs → p (get_or xs i 0) ≡ true → 0 < count_by p xs
+some_counted p [] i inside is = absurd (omega arith)
+some_counted p (x ∷ xs) zero inside is = omega (arith, sum_by-cons (λ y. worth (p y)) x xs, ap worth is)
+some_counted p (x ∷ xs) (suc i) inside is = omega (arith, sum_by-cons (λ y. worth (p y)) x xs, some_counted p xs i (omega arith) is)
+
+-- ---- pages
+
+pub in_range : (s : List ℕ) (d : ℕ) → 0 < get_or s d 0 → d < length s
+in_range [] d some = absurd (omega arith)
+in_range (x ∷ s) zero some = omega arith
+in_range (x ∷ s) (suc d) some = let h : d < length s = in_range s d some in omega arith
+
+pub touched_there : (scores : List ℕ) (page : ℕ) → HasTouched scores page → page_is_touched scores page ≡ true
+touched_there scores page has =
+    let d : ℕ = has.0 in
+    let slot : ℕ = d % 256 in
+    let here : get_or (take 256 (drop (256 * page) scores)) slot 0 ≡ get_or scores d 0 =
+    get_or-take 256 (drop (256 * page) scores) slot 0 (omega arith) ∙ get_or-drop (256 * page) scores slot 0 ∙ ap (λ j. get_or scores j 0) (omega (arith, has.1)) in
+    let inside : slot < length (take 256 (drop (256 * page) scores)) =
+    omega (arith, in_range scores d has.2, has.1, length-take 256 (drop (256 * page) scores), length-drop (256 * page) scores) in
+    list_any-from_Any is_touched (take 256 (drop (256 * page) scores)) (
+      slot,
+      get_or scores d 0,
+      inside,
+      get_or_default_zero (take 256 (drop (256 * page) scores)) slot (get_or scores d 0) inside ∙ here,
+      lt-ltb 0 (get_or scores d 0) has.2,
+    )
+
+pub untouched_there : (scores : List ℕ) (page : ℕ) → ((d : ℕ) → d / 256 ≡ page → get_or scores d 0 ≡ 0) → page_is_touched scores page ≡ false
+untouched_there scores page none =
+    list_any_none is_touched (take 256 (drop (256 * page) scores)) (λ k d inside.
+    le-ltb 0 (get_or (take 256 (drop (256 * page) scores)) k d) (omega (
+      arith,
+      get_or_default_zero (take 256 (drop (256 * page) scores)) k d inside,
+      get_or-take 256 (drop (256 * page) scores) k 0 (omega (arith, inside, length-take 256 (drop (256 * page) scores))),
+      get_or-drop (256 * page) scores k 0,
+      none (256 * page + k) (omega (arith, inside, length-take 256 (drop (256 * page) scores))),
+    )))
+
+-- the pages with a touched document are those whose entry isn't vacant
+pub pages_counted : (p q : ℕ → Bool) (table : List ℕ) (a : ℕ) → ((i j : ℕ) → i < length table → a + i ≡ j → p j ≡ not (q (get_or table i 0)))
+    → count_by p (range_with_len a (length table)) + count_by q table ≡ length table
+pages_counted p q [] a same = refl
+pages_counted p q (e ∷ table) a same =
+    let rest = pages_counted p q table (a + 1) (λ i j inside is. same (suc i) j (omega arith) (omega arith)) in
+    let here : p a ≡ not (q e) = same 0 a (omega arith) (omega arith) in
+    omega (arith, sum_by-cons (λ x. worth (p x)) a (range_with_len (a + 1) (length table)), sum_by-cons (λ x. worth (q x)) e table, either_one (p a) (q e) here, rest)
+  where
+    either_one : (b c : Bool) → b ≡ not c → worth b + worth c ≡ 1
+    either_one true true h = cc
+    either_one true false h = refl
+    either_one false true h = refl
+    either_one false false h = cc

@@ -1,0 +1,7 @@
+use Rattle.accumulator_pages.specs.Pages.{own_view}
+use Rattle.accumulator_pages.proofs.Standing.{frames_are_pages}
+use Rattle.accumulator_pages.proofs.pages.Pages.frames.Goals as goal
+
+pub returns-clause-pages : goal.returns-clause-pages
+returns-clause-pages c =
+    λ pool stands. frames_are_pages c.args.self.now.table.items c.args.self.now.docs c.args.self.now.frames (own_view c.args.self.now pool) stands.here.fields.table stands.here.fields.frames stands.here.used

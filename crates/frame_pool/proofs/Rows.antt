@@ -1,0 +1,166 @@
+-- Three tables that keep frames, and a write to one row of them.
+use Rattle.std.proofs.Common.{◌≡◌, ℕ, suc, zero, ◌+◌, ◌<◌, true, false, List, [], ◌∷◌, length, map, get_or, set, replicate, refl, sym, ap, ◌∙◌, subst, arith, length-set}
+use Rattle.std.specs.List.{range_with_len}
+use Rattle.std.proofs.lemmas.List.{length-replicate, set-get_or}
+use Rattle.frame_pool.specs.declared.store.Head.{Head}
+use Rattle.frame_pool.specs.Frames.{AreRows, Frame, IsRow, blank, frame_of, frames_of, free_frame, free_head}
+
+pub counts : (heads : List Head) (scores places : List (List ℕ)) → AreRows heads scores places → (length scores ≡ length heads) × (length places ≡ length heads)
+counts [] [] [] rows = (refl, refl)
+counts [] [] (p ∷ places) rows = absurd rows
+counts [] (s ∷ scores) places rows = absurd rows
+counts (h ∷ heads) [] places rows = absurd rows
+counts (h ∷ heads) (s ∷ scores) [] rows = absurd rows
+counts (h ∷ heads) (s ∷ scores) (p ∷ places) rows = let rest = counts heads scores places rows.1 in (ap suc rest.0, ap suc rest.1)
+
+pub length-frames : (heads : List Head) (scores places : List (List ℕ)) → AreRows heads scores places → length (frames_of heads scores places) ≡ length heads
+length-frames [] [] [] rows = refl
+length-frames [] [] (p ∷ places) rows = absurd rows
+length-frames [] (s ∷ scores) places rows = absurd rows
+length-frames (h ∷ heads) [] places rows = absurd rows
+length-frames (h ∷ heads) (s ∷ scores) [] rows = absurd rows
+length-frames (h ∷ heads) (s ∷ scores) (p ∷ places) rows = ap suc (length-frames heads scores places rows.1)
+
+-- one row, and the frame that it is
+pub row_at : (heads : List Head) (scores places : List (List ℕ)) (f : ℕ) (h : Head) (s p : List ℕ) → AreRows heads scores places → f < length heads
+    → IsRow (get_or heads f h) (get_or scores f s) (get_or places f p)
+row_at [] scores places f h s p rows inside = absurd (omega arith)
+row_at (x ∷ heads) [] places f h s p rows inside = absurd rows
+row_at (x ∷ heads) (y ∷ scores) [] f h s p rows inside = absurd rows
+row_at (x ∷ heads) (y ∷ scores) (z ∷ places) zero h s p rows inside = rows.0
+row_at (x ∷ heads) (y ∷ scores) (z ∷ places) (suc f) h s p rows inside = row_at heads scores places f h s p rows.1 (omega arith)
+
+pub frame_at : (heads : List Head) (scores places : List (List ℕ)) (f : ℕ) (h : Head) (s p : List ℕ) → AreRows heads scores places → f < length heads
+    → get_or (frames_of heads scores places) f blank ≡ frame_of (get_or heads f h) (get_or scores f s) (get_or places f p)
+frame_at [] scores places f h s p rows inside = absurd (omega arith)
+frame_at (x ∷ heads) [] places f h s p rows inside = absurd rows
+frame_at (x ∷ heads) (y ∷ scores) [] f h s p rows inside = absurd rows
+frame_at (x ∷ heads) (y ∷ scores) (z ∷ places) zero h s p rows inside = refl
+frame_at (x ∷ heads) (y ∷ scores) (z ∷ places) (suc f) h s p rows inside = frame_at heads scores places f h s p rows.1 (omega arith)
+
+-- all three rows of a frame are written
+pub rows-set : (heads : List Head) (scores places : List (List ℕ)) (f : ℕ) (h : Head) (s p : List ℕ) → AreRows heads scores places → IsRow h s p
+    → AreRows (set heads f h) (set scores f s) (set places f p)
+rows-set [] [] [] f h s p rows row = rows
+rows-set [] [] (z ∷ places) f h s p rows row = absurd rows
+rows-set [] (y ∷ scores) places f h s p rows row = absurd rows
+rows-set (x ∷ heads) [] places f h s p rows row = absurd rows
+rows-set (x ∷ heads) (y ∷ scores) [] f h s p rows row = absurd rows
+rows-set (x ∷ heads) (y ∷ scores) (z ∷ places) zero h s p rows row = (row, rows.1)
+rows-set (x ∷ heads) (y ∷ scores) (z ∷ places) (suc f) h s p rows row = (rows.0, rows-set heads scores places f h s p rows.1 row)
+
+frames-set : (heads : List Head) (scores places : List (List ℕ)) (f : ℕ) (h : Head) (s p : List ℕ) → AreRows heads scores places
+    → frames_of (set heads f h) (set scores f s) (set places f p) ≡ set (frames_of heads scores places) f (frame_of h s p)
+frames-set [] [] [] f h s p rows = refl
+frames-set [] [] (z ∷ places) f h s p rows = absurd rows
+frames-set [] (y ∷ scores) places f h s p rows = absurd rows
+frames-set (x ∷ heads) [] places f h s p rows = absurd rows
+frames-set (x ∷ heads) (y ∷ scores) [] f h s p rows = absurd rows
+frames-set (x ∷ heads) (y ∷ scores) (z ∷ places) zero h s p rows = refl
+frames-set (x ∷ heads) (y ∷ scores) (z ∷ places) (suc f) h s p rows = ap (λ (fs : List Frame). frame_of x y z ∷ fs) (frames-set heads scores places f h s p rows.1)
+
+-- the number of a frame in the list is a place of each table
+pub inside_all : (heads : List Head) (scores places : List (List ℕ)) (frames : List Frame) (f : ℕ) → AreRows heads scores places → frames_of heads scores places ≡ frames → f < length frames
+    → (f < length heads) × (f < length scores) × (f < length places)
+inside_all heads scores places frames f rows view inside =
+    let same = counts heads scores places rows in
+    let size = length-frames heads scores places rows in
+    (omega (arith, size, ap (λ (fs : List Frame). length fs) view), omega (arith, size, same.0, ap (λ (fs : List Frame). length fs) view), omega (arith, size, same.1, ap (λ (fs : List Frame). length fs) view))
+
+-- the frame that the list has there
+pub frame_there : (heads : List Head) (scores places : List (List ℕ)) (frames : List Frame) (f : ℕ) (h : Head) (s p : List ℕ) → AreRows heads scores places → frames_of heads scores places ≡ frames → f < length frames
+    → get_or frames f blank ≡ frame_of (get_or heads f h) (get_or scores f s) (get_or places f p)
+frame_there heads scores places frames f h s p rows view inside =
+    ap (λ (fs : List Frame). get_or fs f blank) (sym view) ∙ frame_at heads scores places f h s p rows (inside_all heads scores places frames f rows view inside).0
+
+-- ---- a write to one frame
+
+-- tables that keep these frames
+pub record Keep (heads : List Head) (scores places : List (List ℕ)) (frames : List Frame) : Type 0 where
+  pub rows : AreRows heads scores places
+  pub view : frames_of heads scores places ≡ frames
+
+keep_written : (heads heads' : List Head) (scores scores' places places' : List (List ℕ)) (frames : List Frame) (f : ℕ) (h : Head) (s p : List ℕ) (new : Frame) → AreRows heads scores places
+    → frames_of heads scores places ≡ frames → heads' ≡ set heads f h → scores' ≡ set scores f s → places' ≡ set places f p → IsRow h s p → frame_of h s p ≡ new
+    → Keep heads' scores' places' (set frames f new)
+keep_written heads heads' scores scores' places places' frames f h s p new rows view heads_are scores_are places_are row new_is = record {
+  rows = subst (λ (hs : List Head). AreRows hs scores' places') (sym heads_are)
+      (subst (λ (ss : List (List ℕ)). AreRows (set heads f h) ss places') (sym scores_are)
+      (subst (λ (ps : List (List ℕ)). AreRows (set heads f h) (set scores f s) ps) (sym places_are) (rows-set heads scores places f h s p rows row)));
+  view = ap (λ (hs : List Head). frames_of hs scores' places') heads_are ∙ ap (λ (ss : List (List ℕ)). frames_of (set heads f h) ss places') scores_are
+      ∙ ap (λ (ps : List (List ℕ)). frames_of (set heads f h) (set scores f s) ps) places_are ∙ frames-set heads scores places f h s p rows
+      ∙ ap (λ (fs : List Frame). set fs f (frame_of h s p)) view ∙ ap (λ (x : Frame). set frames f x) new_is;
+}
+
+module _ (heads : List Head) (scores places : List (List ℕ)) (frames : List Frame) (f : ℕ) (rows : AreRows heads scores places) (view : frames_of heads scores places ≡ frames) (inside : f < length frames) where
+  here : f < length heads
+  here = (inside_all heads scores places frames f rows view inside).0
+
+  pub score_set : (slot v : ℕ) (read : List ℕ) → read ≡ get_or scores f read
+      → Keep heads (set scores f (set read slot v)) places (set frames f (record (get_or frames f blank) { scores = set (get_or frames f blank).scores slot v }))
+  score_set slot v read is =
+      let h : Head = get_or heads f (free_head 0) in
+      let p : List ℕ = get_or places f [] in
+      let row = row_at heads scores places f (free_head 0) read [] rows here in
+      keep_written heads heads scores (set scores f (set read slot v)) places places frames f h (set read slot v) p _ rows view
+      (sym (set-get_or heads f (free_head 0))) refl (sym (set-get_or places f []))
+      (record { score_slots = length-set read slot v ∙ ap (λ (xs : List ℕ). length xs) is ∙ row.score_slots; place_slots = row.place_slots; unset = row.unset })
+      (ap (λ (s : List ℕ). frame_of h (set s slot v) p) is
+      ∙ sym (ap (λ (x : Frame). let y : Frame = record x { scores = set x.scores slot v } in y) (frame_there heads scores places frames f (free_head 0) read [] rows view inside)))
+
+  pub place_set : (slot v : ℕ) (head : Head) (read : List ℕ) → head ≡ get_or heads f head → read ≡ get_or places f read
+      → Keep (set heads f (record head { placed = true })) scores (set places f (set read slot v)) (set frames f (record (get_or frames f blank) { places = set (get_or frames f blank).places slot v }))
+  place_set slot v head read head_is is =
+      let s : List ℕ = get_or scores f [] in
+      let h : Head = record head { placed = true } in
+      let row = row_at heads scores places f head [] read rows here in
+      keep_written heads (set heads f h) scores scores places (set places f (set read slot v)) frames f h s (set read slot v) _ rows view
+      refl (sym (set-get_or scores f [])) refl
+      (record { score_slots = row.score_slots; place_slots = length-set read slot v ∙ ap (λ (xs : List ℕ). length xs) is ∙ row.place_slots; unset = λ e. absurd (not_set e) })
+      (ap (λ (x : Head). frame_of (let y : Head = record x { placed = true } in y) s (set read slot v)) head_is
+      ∙ ap (λ (p : List ℕ). frame_of (get_or heads f head) s (set p slot v)) is
+      ∙ sym (ap (λ (x : Frame). let y : Frame = record x { places = set x.places slot v } in y) (frame_there heads scores places frames f head [] read rows view inside)))
+    where
+      not_set : true ≡ false → ⊥
+      not_set e = cc
+
+  pub link_set : (next : ℕ) (head : Head) → head ≡ get_or heads f head
+      → Keep (set heads f (record head { next = next })) scores places (set frames f (record (get_or frames f blank) { next = next }))
+  link_set next head head_is =
+      let s : List ℕ = get_or scores f [] in
+      let p : List ℕ = get_or places f [] in
+      let h : Head = record head { next = next } in
+      let row = row_at heads scores places f head [] [] rows here in
+      keep_written heads (set heads f h) scores scores places places frames f h s p _ rows view
+      refl (sym (set-get_or scores f [])) (sym (set-get_or places f []))
+      (record { score_slots = row.score_slots; place_slots = row.place_slots; unset = λ e. row.unset (sym (ap (λ (x : Head). x.placed) head_is) ∙ e) })
+      (ap (λ (x : Head). frame_of (let y : Head = record x { next = next } in y) s p) head_is
+      ∙ sym (ap (λ (x : Frame). let y : Frame = record x { next = next } in y) (frame_there heads scores places frames f head [] [] rows view inside)))
+
+  pub cleared_set : (page next : ℕ) (s p : List ℕ) → s ≡ replicate 256 0 → p ≡ replicate 256 0
+      → Keep (set heads f (record { page = page; next = next; placed = false })) (set scores f s) (set places f p) (set frames f (record { scores = replicate 256 0; places = replicate 256 0; page = page; next = next }))
+  cleared_set page next s p s_is p_is =
+      let h : Head = record { page = page; next = next; placed = false } in
+      keep_written heads (set heads f h) scores (set scores f s) places (set places f p) frames f h s p _ rows view refl refl refl
+      (record { score_slots = ap (λ (xs : List ℕ). length xs) s_is ∙ length-replicate {A = ℕ} 256 0; place_slots = ap (λ (xs : List ℕ). length xs) p_is ∙ length-replicate {A = ℕ} 256 0; unset = λ _. p_is })
+      (ap (λ (xs : List ℕ). frame_of h xs p) s_is ∙ ap (λ (xs : List ℕ). frame_of h (replicate 256 0) xs) p_is)
+
+-- ---- new tables
+
+new_rows : (count : ℕ) (a : ℕ) → AreRows (map free_head (range_with_len a count)) (replicate count (replicate 256 0)) (replicate count (replicate 256 0))
+new_rows zero a = tt
+new_rows (suc count) a = (record { score_slots = length-replicate {A = ℕ} 256 0; place_slots = length-replicate {A = ℕ} 256 0; unset = λ _. refl }, new_rows count (a + 1))
+
+new_frames : (count : ℕ) (a : ℕ) → frames_of (map free_head (range_with_len a count)) (replicate count (replicate 256 0)) (replicate count (replicate 256 0)) ≡ map free_frame (range_with_len a count)
+new_frames zero a = refl
+new_frames (suc count) a = ap (λ (fs : List Frame). free_frame a ∷ fs) (new_frames count (a + 1))
+
+pub new_tables : (count : ℕ) (heads : List Head) (scores places : List (List ℕ)) → heads ≡ map free_head (range_with_len 1 count) → scores ≡ replicate count (replicate 256 0) → places ≡ replicate count (replicate 256 0)
+    → AreRows heads scores places × (frames_of heads scores places ≡ map free_frame (range_with_len 1 count))
+new_tables count heads scores places heads_are scores_are places_are = (
+  subst (λ (hs : List Head). AreRows hs scores places) (sym heads_are)
+      (subst (λ (ss : List (List ℕ)). AreRows (map free_head (range_with_len 1 count)) ss places) (sym scores_are)
+      (subst (λ (ps : List (List ℕ)). AreRows (map free_head (range_with_len 1 count)) (replicate count (replicate 256 0)) ps) (sym places_are) (new_rows count 1))),
+  ap (λ (hs : List Head). frames_of hs scores places) heads_are ∙ ap (λ (ss : List (List ℕ)). frames_of (map free_head (range_with_len 1 count)) ss places) scores_are
+      ∙ ap (λ (ps : List (List ℕ)). frames_of (map free_head (range_with_len 1 count)) (replicate count (replicate 256 0)) ps) places_are ∙ new_frames count 1,
+)

@@ -1,0 +1,177 @@
+ghost use Rattle.std.specs.Prelude.{◌≡◌, ◌<◌, ◌≤◌, IfOk, false, length, map, replicate, slice_index, slice_set};
+ghost use Rattle.std.specs.List.{range_with_len};
+ghost use Rattle.frame_pool.specs.Frames.{cleared_frame, frame_at, free_frame, free_head, linked, placed, scored};
+
+use jass_base::NoMemory;
+use lane_kernels::fill_zero;
+use std::alloc::Global;
+use std::marker::Model;
+
+/// The documents of a page, each of which has a slot.
+const SLOTS: usize = 256;
+
+/// The page of a frame, the link to the next frame of the list that the frame is in, and whether a heap place was set since
+/// the frame was taken.
+#[derive(Clone, Copy)]
+pub(crate) struct Head {
+    pub(crate) page: u32,
+    pub(crate) next: u32,
+    pub(crate) placed: bool,
+}
+
+/// Frames, with all scores side by side and all heap places side by side: most postings look at a score alone.
+///
+/// Contracts see it as a list of whole frames.
+#[derive(Drop)]
+pub(crate) struct FrameStore {
+    heads: Vec<Head>,
+    scores: Vec<[u32; SLOTS]>,
+    places: Vec<[u32; SLOTS]>,
+}
+
+impl Model for FrameStore {
+    ghost use Rattle.std.specs.Prelude.{List};
+    ghost use Rattle.frame_pool.specs.Frames.{AreRows, Frame, frames_of};
+
+    ghost Value = { List Frame };
+
+    ghost view = { λ s. frames_of s.heads.items s.scores.items s.places.items };
+
+    ghost invariant = { λ s. AreRows s.heads.items s.scores.items s.places.items };
+}
+
+impl FrameStore {
+    /// So many frames, each linked to the one behind it.
+    pub(crate) fn linked(alloc: Global, count: u32) -> Result<FrameStore, NoMemory>
+        requires { count ≤ 1048576 }
+        ensures { IfOk result (λ store. store ≡ map free_frame (range_with_len 1 count)) }
+    {
+        let heads = linked_heads(alloc, count)?;
+        let scores = zero_rows(alloc, count)?;
+        let places = zero_rows(alloc, count)?;
+        Ok(FrameStore {
+            heads,
+            scores,
+            places,
+        })
+    }
+
+    pub(crate) fn len(&self) -> usize
+        ensures { result ≡ length self.now }
+    {
+        self.heads.len()
+    }
+
+    pub(crate) fn page(&self, frame: u32) -> u32
+        requires { frame < length self.now }
+        ensures { result ≡ (frame_at self.now frame).page }
+    {
+        self.heads[frame as usize].page
+    }
+
+    pub(crate) fn next(&self, frame: u32) -> u32
+        requires { frame < length self.now }
+        ensures { result ≡ (frame_at self.now frame).next }
+    {
+        self.heads[frame as usize].next
+    }
+
+    pub(crate) fn link(&mut self, frame: u32, next: u32)
+        requires { frame < length self.old }
+        ensures { self.new ≡ slice_set self.old frame (linked (frame_at self.old frame) next) }
+    {
+        self.heads[frame as usize].next = next;
+    }
+
+    pub(crate) fn scores(&self, frame: u32) -> &[u32; SLOTS]
+        requires { frame < length self.now }
+        ensures { result.now ≡ (frame_at self.now frame).scores }
+    {
+        &self.scores[frame as usize]
+    }
+
+    pub(crate) fn set_score(&mut self, frame: u32, slot: u8, score: u32)
+        requires { frame < length self.old }
+        ensures { self.new ≡ slice_set self.old frame (scored (frame_at self.old frame) slot score) }
+    {
+        self.scores[frame as usize][slot as usize] = score;
+    }
+
+    pub(crate) fn place(&self, frame: u32, slot: u8) -> u32
+        requires { frame < length self.now }
+        ensures { result ≡ slice_index (frame_at self.now frame).places slot }
+    {
+        self.places[frame as usize][slot as usize]
+    }
+
+    pub(crate) fn set_place(&mut self, frame: u32, slot: u8, place: u32)
+        requires { frame < length self.old }
+        ensures { self.new ≡ slice_set self.old frame (placed (frame_at self.old frame) slot place) }
+    {
+        self.heads[frame as usize].placed = true;
+        self.places[frame as usize][slot as usize] = place;
+    }
+
+    /// Makes it the frame of a page without scores. Heap places that were never set are 0 still.
+    pub(crate) fn clear(&mut self, frame: u32, page: u32, next: u32)
+        requires { frame < length self.old }
+        ensures { self.new ≡ slice_set self.old frame (cleared_frame page next) }
+    {
+        let at = frame as usize;
+        fill_zero(&mut self.scores[at]);
+        clear_places(&mut self.places[at], self.heads[at].placed);
+        self.heads[at] = Head {
+            page,
+            next,
+            placed: false,
+        };
+    }
+}
+
+// Sets all heap places of a frame to 0, which they are where none was set.
+fn clear_places(places: &mut [u32; SLOTS], placed: bool)
+    requires { placed ≡ false → places.old ≡ replicate 256 0 }
+    ensures { places.new ≡ replicate 256 0 }
+{
+    if placed {
+        fill_zero(places);
+    }
+}
+
+fn linked_heads(alloc: Global, count: u32) -> Result<Vec<Head>, NoMemory>
+    requires { count ≤ 1048576 }
+    ensures { IfOk result (λ heads. heads.items ≡ map free_head (range_with_len 1 count)) }
+{
+    let mut heads = match Vec::with_capacity(alloc, count as usize) {
+        Ok(heads) => heads,
+        Err(_) => return Err(NoMemory),
+    };
+    for number in 0..count {
+        let head = Head {
+            page: 0,
+            next: number + 1,
+            placed: false,
+        };
+        match heads.push(head) {
+            Ok(()) => {}
+            Err(_) => return Err(NoMemory),
+        }
+    }
+    Ok(heads)
+}
+
+fn zero_rows(alloc: Global, count: u32) -> Result<Vec<[u32; SLOTS]>, NoMemory>
+    ensures { IfOk result (λ rows. rows.items ≡ replicate count (replicate 256 0)) }
+{
+    let mut rows = match Vec::with_capacity(alloc, count as usize) {
+        Ok(rows) => rows,
+        Err(_) => return Err(NoMemory),
+    };
+    for _ in 0..count {
+        match rows.push([0; SLOTS]) {
+            Ok(()) => {}
+            Err(_) => return Err(NoMemory),
+        }
+    }
+    Ok(rows)
+}
