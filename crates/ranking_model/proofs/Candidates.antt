@@ -1,14 +1,14 @@
 -- The ranking from a part of the hits of some scores, and from candidates among which the first are.
-use Rattle.std.proofs.Common.{◌≡◌, ◌≢◌, ℕ, zero, suc, ◌+◌, ◌-◌, ◌<◌, ◌≤◌, ◌==◌, List, [], ◌∷◌, ◌++◌, length, take, drop, get_or, sum_by, count_by, Bool, true, false, true≢false, cond, refl, sym, ap, subst, ◌∙◌, arith, inl, inr, ◌⊎◌, eqb-true, eq-eqb, if◌then◌else◌}
-use Rattle.std.specs.Prelude.{IsPermutation, IsSorted, AllPairs, Contains, nat_le}
+use Rattle.std.proofs.Common.{◌≡◌, ◌≢◌, ℕ, zero, suc, ◌+◌, ◌<◌, ◌≤◌, ◌==◌, List, [], ◌∷◌, ◌++◌, length, take, drop, get_or, sum_by, count_by, Bool, true, false, cond, refl, sym, ap, subst, ◌∙◌, arith, inl, inr, ◌⊎◌, eq-eqb, if◌then◌else◌}
+use Rattle.std.specs.Prelude.{IsPermutation, IsSorted, Contains, nat_le}
 use Rattle.std.specs.List.{AllByRecursion}
 use Rattle.std.specs.declared.cmp.Ordering.{Ordering}
 use Rattle.std.specs.Ordering.{is_gt}
 use Rattle.std.specs.FinMap.{IsAntisymmetric}
 use Rattle.std.specs.Cmp.{IsTotalOrder}
-use Rattle.std.proofs.lemmas.Bool.{cases_Bool, cases_lt, cases_eq}
+use Rattle.std.proofs.lemmas.Bool.{cases_lt, cases_eq}
 use Rattle.std.proofs.lemmas.Bool.Decides.{nat_tests}
-use Rattle.std.proofs.lemmas.List.{append-nil, take_all, take-append-drop, length-take}
+use Rattle.std.proofs.lemmas.List.{append-nil, take_all, length-take}
 use Rattle.std.proofs.lemmas.List.Sorted.{sum_by-IsPermutation, length_permutation, IsPermutation-refl, IsPermutation-cons, IsPermutation-trans, IsPermutation-middle, IsPermutation-append_left, IsPermutation-append_right}
 use Rattle.std.proofs.lemmas.List.Sums.{sum_by-cons, sum_by-append, sum_by-take-le}
 use Rattle.std.proofs.Math.Seq.{take-append_seam}
@@ -273,9 +273,6 @@ in_hits from (score ∷ scores) h (suc i) is inside some score_is = step (score 
 -- ---- candidates
 
 module _ (scores : List ℕ) (m : ℕ) (candidates : List Hit) (are : AreHitsOf scores candidates) (there : AllByRecursion (λ hit. Contains candidates hit) (first_ranked scores m)) where
-  all : List Hit
-  all = sorted rank_cmp (hits_from 0 scores)
-
   all_ascends : Ascends rank_cmp (sorted rank_cmp (hits_from 0 scores))
   all_ascends = sorted_ascends rank_cmp rank_total (hits_from 0 scores)
 
@@ -314,9 +311,6 @@ module _ (scores : List ℕ) (m : ℕ) (candidates : List Hit) (are : AreHitsOf 
 
   none : length (first_ranked scores m) < m → parted.others ≡ []
   none less = at parted.others (λ h other. subst (In h) gone (behind h other)) where
-    size : length (first_ranked scores m) ≡ length (take m (sorted rank_cmp (hits_from 0 scores)))
-    size = refl
-
     gone : drop m (sorted rank_cmp (hits_from 0 scores)) ≡ []
     gone = drop_of_length-le (sorted rank_cmp (hits_from 0 scores)) (let n = length-take m (sorted rank_cmp (hits_from 0 scores)) in omega arith)
 

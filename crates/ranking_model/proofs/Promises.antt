@@ -1,22 +1,17 @@
 -- A report keeps what it promises: its numbers are the plan's, and its grade is for all gains up to the bound.
-use Rattle.std.proofs.Common.{◌≡◌, ℕ, zero, suc, ◌≤◌, Bool, List, length, take, drop, sum_by, sym, ap, subst, ◌∙◌}
+use Rattle.std.proofs.Common.{◌≡◌, ℕ, ◌≤◌, List, take, drop, sym, ap, subst, ◌∙◌}
 use Rattle.std.specs.Prelude.{IsPermutation}
-use Rattle.std.specs.List.{AllByRecursion, items_where_true}
+use Rattle.std.specs.List.{AllByRecursion}
 use Rattle.std.specs.Ordering.{nat_cmp}
-use Rattle.jass_base.specs.declared.answer.Grade.{Grade}
-use Rattle.jass_base.specs.declared.answer.Grade.TheVariants.{Final, Set}
 use Rattle.jass_base.specs.declared.answer.Report.{Report}
 use Rattle.jass_base.specs.declared.named.Named.{Named}
 use Rattle.ranking_model.specs.declared.entry.Entry.{Entry}
 use Rattle.ranking_model.specs.declared.class.Class.{Class}
-use Rattle.ranking_model.specs.declared.plan.QueryPlan.{QueryPlan}
-use Rattle.ranking_model.specs.declared.posting.WeightedPosting.{WeightedPosting}
 use Rattle.ranking_model.specs.Flat.{IsFlat}
 use Rattle.ranking_model.specs.Postings.{weighted_postings}
-use Rattle.ranking_model.specs.Plan.{plan_of, classes_of}
+use Rattle.ranking_model.specs.Plan.{plan_of}
 use Rattle.ranking_model.specs.Scores.{scores_after, bound_after}
 use Rattle.ranking_model.specs.Finality.{first_documents, GainsUpTo, IsSettled, IsKept, IsGrade}
-use Rattle.ranking_model.specs.Heaviest.{IsHeaviest, weight_of_first}
 use Rattle.ranking_model.specs.Report.{IsReport}
 use Rattle.ranking_model.specs.Promises.{IsPromised}
 use Rattle.ranking_model.proofs.Parting.{scored, unscored, parted, heaviest}
