@@ -22,7 +22,6 @@ use Rattle.jass_top.specs.OnceViews.{IsAnswer}
 
 -- the laws of plans and grades
 pub record Laws : Type 0 where
-  pub there : (budget : ℕ) (classes : List Class) → prefix_within budget classes ≤ length classes
   pub scored : (postings : List WeightedPosting) (n : ℕ) → AllByRecursion (λ class. cutoff_after n (classes_of postings) ≤ class.weight) (take n (classes_of postings))
   pub unscored : (postings : List WeightedPosting) (n : ℕ) → AllByRecursion (λ class. class.weight ≤ next_after n (classes_of postings)) (drop n (classes_of postings))
   pub parted : (postings : List WeightedPosting) (n : ℕ) → 1 ≤ n → next_after n (classes_of postings) ≤ cutoff_after n (classes_of postings)
@@ -39,13 +38,16 @@ module _ (laws : Laws) (index : IndexData) (query : OnceQuery) where
   reported grade flat graded =
       let n : ℕ = query_prefix index query in
       let plan : QueryPlan = query_plan index query in
-      let within : n ≤ length plan.classes = laws.there _ plan.classes in
       record {
         exact = record { numbers = refl; graded = graded };
-        parts = record { scored = laws.scored (query_postings index query) n; unscored = laws.unscored (query_postings index query) n; parted = laws.parted (query_postings index query) n };
-        heaviest = laws.heaviest n (query_postings index query);
-        final = λ is. sym (laws.final (length index.names) n (length plan.classes) query.k (numbered index.flat) (known_terms index query) flat within (subst (IsGrade (scores_after n plan) query.k (bound_after n plan)) is graded));
-        set = λ is. laws.set (length index.names) n (length plan.classes) query.k (numbered index.flat) (known_terms index query) flat within (subst (IsGrade (scores_after n plan) query.k (bound_after n plan)) is graded).0;
+        promised = record {
+          scored = laws.scored (query_postings index query) n;
+          unscored = laws.unscored (query_postings index query) n;
+          parted = laws.parted (query_postings index query) n;
+          heaviest = laws.heaviest n (query_postings index query);
+          final_stands = λ is m later. laws.final (length index.names) n m query.k (numbered index.flat) (known_terms index query) flat later (subst (IsGrade (scores_after n plan) query.k (bound_after n plan)) is graded);
+          set_stands = λ is m later. laws.set (length index.names) n m query.k (numbered index.flat) (known_terms index query) flat later (subst (IsGrade (scores_after n plan) query.k (bound_after n plan)) is graded).0;
+        };
       }
 
   pub answered : (plan : QueryPlan) (n bound : ℕ) (scores : List ℕ) (standing : Standing) (grade : Grade) (answer : Answer)

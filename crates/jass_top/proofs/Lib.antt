@@ -1,10 +1,10 @@
 pub mod Answering
-pub mod Contents
-pub mod Ending
+pub mod Endings
 pub mod Fronts
-pub mod Inputs
+pub mod Judged
+pub mod Outputs
 pub mod Positions
 pub mod Printing
-pub mod Running
+pub mod SinkThere
 pub mod Sizes
 pub mod Wholes

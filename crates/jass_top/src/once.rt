@@ -1,31 +1,31 @@
-ghost use Rattle.std.specs.Prelude.{ℕ, ◌≡◌, ◌≢◌, ◌≤◌, ◌^◌, ◌⊎◌, length, IfOk, IfErr, OnOk};
-ghost use Rattle.std.specs.Io.KnownBytes.{Appends};
+ghost use Rattle.std.specs.Prelude.{ℕ, ◌≡◌, ◌≤◌, ◌^◌, length, IfOk};
 ghost use Rattle.impact_segments.specs.Flat.{flat_of};
-ghost use Rattle.jass_base.specs.Outside.{Rose, IsMissing, OnContent, Wrote};
-ghost use Rattle.jass_base.specs.Writing.{AppendsPrefix};
+ghost use Rattle.jass_base.specs.Outside.{Wrote};
 ghost use Rattle.jass_top.specs.Answers.{known_terms, unknown_terms, once_text};
 ghost use Rattle.jass_top.specs.OnceViews.{view_of, query_of, IsAnswer};
-ghost use Rattle.jass_top.specs.Outcomes.{Answers, IsRefused};
+ghost use Rattle.jass_top.specs.Causes.{Runs};
+ghost use Rattle.jass_top.specs.OnceMeaning.{once_meaning};
+ghost use Rattle.jass_top.specs.Worlds.{outer};
 
 use crate::index_view::IndexView;
 use crate::input::read_file;
 use crate::question::{Answer, Question};
-use crate::stop::Stop;
-use ciff_read::laws::files_are_read;
+use crate::stop::{OUTPUT, Stop};
 use final_certificate::grade;
 use final_certificate::laws::{a_final_answer_stands, a_set_answer_keeps_its_documents};
 use impact_segments::laws::the_terms_are_those_of_the_flat_list;
 use impact_segments::{build, entries_of};
-use jass_base::{Cabinet, ImpactIndex, NoMemory, Query, Sink, WriteFault};
+use jass_base::{Cabinet, ImpactIndex, NoMemory, Query, Sink, Steps, WriteFault};
 use query_reader::name_terms;
 use ranking_model::laws::{
-    the_cutoff_parts_scored_from_unscored, the_prefix_is_the_longest,
-    the_ranking_has_documents_of_the_scores, the_scored_prefix_is_the_heaviest,
+    the_cutoff_parts_scored_from_unscored, the_ranking_has_documents_of_the_scores,
+    the_scored_prefix_is_the_heaviest,
 };
 use ranking_model::{
     bound_after, granted_sum, plan_of, prefix_within, report_of, scores_after, standing_of,
 };
 use std::alloc::Global;
+use std::sync::ledger::Ledger;
 use trec_run::{put_answer, put_report};
 use weights::{Bits, Rule};
 
@@ -35,22 +35,17 @@ const ID: &str = "q";
 const TAG: &str = "jass";
 
 /// Answers a query of words over a CIFF file on the output.
-pub fn run_once<C: Cabinet, O: Sink>(
+pub fn run_once<'a, C: Cabinet, O: Sink, L: Ledger>(
     alloc: Global,
-    ciff: &str,
+    ciff: &'a str,
     question: Question<'_>,
     files: &mut C,
     out: &mut O,
-) -> Result<(), Stop>
-    ensures done { OnOk result (Answers (C.told files.old) ciff.now (query_of question.entry) (λ index report. Appends (O.written out.old) (O.written out.new) (once_text index (query_of question.entry) report))) }
-    ensures refused { IfErr result (λ stop. (number at : ℕ) → stop ≡ Stop.Refused number at → OnContent (C.told files.old) ciff.now (λ content. IsRefused content number at)) }
-    ensures read_fault { IfErr result (λ stop. stop ≡ Stop.ReadFault → Rose (C.read_faults files.old) (C.read_faults files.new) ⊎ IsMissing (C.told files.old) ciff.now) }
-    ensures write_fault { IfErr result (λ stop. stop ≡ Stop.WriteFault → Rose (O.faults out.old) (O.faults out.new)) }
-    ensures part { IfErr result (λ stop. stop ≡ Stop.WriteFault → Answers (C.told files.old) ciff.now (query_of question.entry) (λ index report. AppendsPrefix (O.written out.old) (O.written out.new) (once_text index (query_of question.entry) report))) }
-    ensures files { C.told files.new ≡ C.told files.old }
-    ensures unwritten { IfErr result (λ stop. stop ≢ Stop.WriteFault → O.written out.new ≡ O.written out.old) }
+    _steps: &mut Steps<L>,
+) -> Result<(), Stop<'a>>
+    ensures { Runs (once_meaning ciff.now (query_of question.entry))
+        (outer C.Cabinet O.Sink files.old out.old _steps.old) (outer C.Cabinet O.Sink files.new out.new _steps.new) result }
 {
-    files_are_read();
     let collection = read_file(alloc, files, ciff)?;
     let index = match build(alloc, &collection, Rule::Tf, Bits::Raw) {
         Ok(index) => index,
@@ -62,7 +57,7 @@ pub fn run_once<C: Cabinet, O: Sink>(
     };
     match put(out, &index, question, &answer) {
         Ok(()) => Ok(()),
-        Err(_) => Err(Stop::WriteFault),
+        Err(_) => Err(Stop::WriteFault { name: OUTPUT }),
     }
 }
 
@@ -96,7 +91,6 @@ fn answer_query(
     requires unknown { query.now.unknown ≡ unknown_terms (view_of index.now) (query_of question) }
     ensures { IfOk result (λ answer. IsAnswer (view_of index.now) (query_of question.entry) answer) }
 {
-    the_prefix_is_the_longest();
     the_cutoff_parts_scored_from_unscored();
     the_scored_prefix_is_the_heaviest();
     a_final_answer_stands();

@@ -20,7 +20,6 @@ returns c =
     let standing_is = c.in_ok-standing.ensures ∙ ap (λ (s : List ℕ). standing_of s c.args.question.k) c.as_slice-4.ensures in
     answered
     (record {
-      there = c.the_prefix_is_the_longest.ensures.there;
       scored = c.the_cutoff_parts_scored_from_unscored.ensures.scored;
       unscored = c.the_cutoff_parts_scored_from_unscored.ensures.unscored;
       parted = c.the_cutoff_parts_scored_from_unscored.ensures.parted;

@@ -1,0 +1,10 @@
+use Rattle.std.proofs.Common.{◌∷◌, ap}
+use Rattle.jass_base.specs.Outside.{Rest}
+use Rattle.jass_top.proofs.SinkThere.{puts, rest_stays}
+use Rattle.jass_top.proofs.made_file.MadeFileSink.put.Goals as goal
+
+pub returns-clause-bytes : goal.returns-clause-bytes
+returns-clause-bytes g c = puts (g.C.Cabinet.told c.args.self.now.files.now) (g.C.Cabinet.told c.append.new.self) c.args.self.now.name.now c.args.bytes.now c.append.result c.append.ensures.content
+
+pub returns-clause-stays : goal.returns-clause-stays
+returns-clause-stays g c = ap (λ others. record { place = c.args.self.now.files.ghost_name ∷ c.args.self.now.name.now; files = others }) (rest_stays (g.C.Cabinet.told c.args.self.now.files.now) (g.C.Cabinet.told c.append.new.self) c.args.self.now.name.now c.args.bytes.now c.append.result c.append.ensures.content)
