@@ -2,6 +2,7 @@ pub mod Answering
 pub mod Endings
 pub mod Fronts
 pub mod Judged
+pub mod OneOutput
 pub mod Outputs
 pub mod Positions
 pub mod Printing
