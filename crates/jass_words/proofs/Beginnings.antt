@@ -15,7 +15,7 @@ begun_less words n m less (rest, command, is) = (drop m (take n words) ++ rest, 
   where
     same : take n words ++ rest ≡ take m words ++ (drop m (take n words) ++ rest)
     same = ap (λ (ws : List (List ℕ)). ws ++ rest) (sym (take-append-drop m (take n words))) ∙ append_assoc (take m (take n words)) (drop m (take n words)) rest
-      ∙ ap (λ (ws : List (List ℕ)). ws ++ (drop m (take n words) ++ rest)) (take-take m n words less)
+        ∙ ap (λ (ws : List (List ℕ)). ws ++ (drop m (take n words) ++ rest)) (take-take m n words less)
 
 pub begun_front : (front rest : List (List ℕ)) (m : ℕ) → m ≤ length front → IsBegun front → IsBegun (take m (front ++ rest))
 begun_front front rest m less begun = begun_less (front ++ rest) (length front) m less (subst IsBegun (sym (take-append_seam front rest)) begun)
