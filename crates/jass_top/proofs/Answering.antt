@@ -6,12 +6,11 @@ use Rattle.std.specs.Ordering.{nat_cmp}
 use Rattle.jass_base.specs.declared.answer.Grade.{Grade}
 use Rattle.jass_base.specs.declared.named.Named.{Named}
 use Rattle.ranking_model.specs.declared.entry.Entry.{Entry}
-use Rattle.ranking_model.specs.declared.class.Class.{Class}
 use Rattle.ranking_model.specs.declared.plan.QueryPlan.{QueryPlan}
 use Rattle.ranking_model.specs.declared.posting.WeightedPosting.{WeightedPosting}
 use Rattle.ranking_model.specs.declared.standing.Standing.{Standing}
 use Rattle.ranking_model.specs.Flat.{IsFlat, numbered}
-use Rattle.ranking_model.specs.Plan.{classes_of, plan_of, prefix_within, cutoff_after, next_after}
+use Rattle.ranking_model.specs.Plan.{classes_of, plan_of, cutoff_after, next_after}
 use Rattle.ranking_model.specs.Scores.{scores_after, standing_of, bound_after}
 use Rattle.ranking_model.specs.Finality.{IsGrade, IsFinal, IsSet, first_documents}
 use Rattle.ranking_model.specs.Heaviest.{IsHeaviest}

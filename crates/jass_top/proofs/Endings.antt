@@ -1,14 +1,12 @@
 -- How a run of any command ends, from how the command ran.
-use Rattle.std.proofs.Common.{◌≡◌, ℕ, List, ◌⊎◌, inl, inr, refl, arith}
-use Rattle.std.specs.Prelude.{IsTrue}
-use Rattle.jass_base.specs.Outside.{Rose}
+use Rattle.std.proofs.Common.{◌≡◌, ℕ, List, inl, inr, refl}
 use Rattle.jass_top.specs.declared.stop.Stop.{Stop}
 use Rattle.jass_top.specs.declared.stop.Stop.TheVariants as stops
 use Rattle.jass_top.specs.declared.status.Status.TheVariants as status
 use Rattle.jass_top.specs.Judging.{Judged, Accepted, Missing, Refuses, Untold, Shows, IsUnaccepted}
 use Rattle.jass_top.specs.Meanings.{Meaning}
-use Rattle.jass_top.specs.Standing.{Keeps, Does, DoesPart, Stands}
-use Rattle.jass_top.specs.Causes.{IsOneOf, Stopped, Unread}
+use Rattle.jass_top.specs.Standing.{Keeps, Does, Stands}
+use Rattle.jass_top.specs.Causes.{Stopped, Unread}
 use Rattle.jass_top.specs.Endings.{Noted, Ends}
 use Rattle.jass_top.specs.Stops.{status_of, stop_text}
 use Rattle.jass_top.specs.Worlds.{Outer, World}

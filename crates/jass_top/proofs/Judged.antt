@@ -6,7 +6,7 @@ use Rattle.jass_base.specs.Ciff.{CollectionData, IsCiff}
 use Rattle.jass_base.specs.Outside.{Files, OnContent, IsMissing, Rose}
 use Rattle.ciff_read.specs.declared.refusal.CiffRefusal.{CiffRefusal}
 use Rattle.ciff_read.specs.Reading.{read_ciff}
-use Rattle.jass_top.specs.Judging.{Judged, Accepted, Missing, Shows, judged_ciff, judged_content, judge_ciff}
+use Rattle.jass_top.specs.Judging.{Accepted, Missing, Shows, judged_ciff, judged_content, judge_ciff}
 
 pub shown : (told : Option Files) (name row : List ℕ) (result : Result CollectionData CiffRefusal) → ((bytes : List ℕ) → read_ciff (take 4294967312 bytes) ≡ read_ciff bytes)
     → OnContent told name (λ content. row ≡ take 4294967312 content) → read_ciff row ≡ result → Shows (judge_ciff name told) (judged_ciff name result)

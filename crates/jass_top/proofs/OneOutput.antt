@@ -1,5 +1,5 @@
 -- A command has one output for its inputs.
-use Rattle.std.proofs.Common.{◌≡◌, ℕ, List, [], refl, sym, ap, subst, ◌∙◌}
+use Rattle.std.proofs.Common.{◌≡◌, ℕ, List, [], sym, ap, subst, ◌∙◌}
 use Rattle.std.specs.Prelude.{map}
 use Rattle.std.specs.List.{flat_map}
 use Rattle.std.specs.Ordering.{nat_cmp}
@@ -26,7 +26,7 @@ use Rattle.impact_segments.specs.Collections.{index_of, weights_of, list_entries
 use Rattle.jass_words.specs.Words.{CommandData, Once, Rewrite, Help, Version}
 use Rattle.jass_top.specs.Answers.{IndexData, OnceQuery, index_data, once_text, query_prefix, query_plan, IsOnceReport}
 use Rattle.jass_top.specs.Commands.{meaning_of}
-use Rattle.jass_top.specs.Meanings.{Meaning, Output}
+use Rattle.jass_top.specs.Meanings.{Output}
 use Rattle.jass_top.specs.OnceMeaning.{IsOnceOutput}
 
 -- ---- an index is one for a collection's plain data

@@ -1,5 +1,5 @@
 -- What a command puts out, and how its note is put.
-use Rattle.std.proofs.Common.{◌≡◌, ℕ, List, [], Option, Result, Ok, Err, refl, sym, ap, subst, ◌⊎◌, inl, inr}
+use Rattle.std.proofs.Common.{◌≡◌, ℕ, List, [], Option, Result, Ok, Err, refl, ap, subst, ◌⊎◌, inl, inr}
 use Rattle.std.specs.Io.KnownBytes.{Appends}
 use Rattle.jass_base.specs.declared.collection.Collection.{Collection}
 use Rattle.jass_base.specs.declared.impact_index.ImpactIndex.{ImpactIndex}

@@ -1,5 +1,5 @@
 -- Why a command stops, and how it runs.
-use Rattle.std.specs.Prelude.{◌≡◌, ℕ, List, [], ◌∷◌, Option, Some, Result, Ok, Err, ◌⊎◌, ⊤, IsTrue, codes}
+use Rattle.std.specs.Prelude.{◌≡◌, ℕ, List, [], ◌∷◌, Some, Result, Ok, Err, ◌⊎◌, ⊤, IsTrue, codes}
 use Rattle.jass_base.specs.Outside.{Rose}
 use Rattle.jass_top.specs.declared.stop.Stop.{Stop}
 use Rattle.jass_top.specs.declared.stop.Stop.TheVariants.{NoMemory, Refused, ReadFault, WriteFault}
@@ -26,16 +26,19 @@ ReadFailed judged before after name = Rose before after ⊎ (judged ≡ Missing 
 -- why inputs of these names weren't had
 abbrev pub Unread : {A : Type 0} → List (List ℕ) → Judged A → ℕ → ℕ → Stop → Type 0
 Unread reads judged before after NoMemory = ⊤
-Unread reads judged before after (Refused name number at) = IsOneOf reads name.now × Shows judged (Refuses name.now number at)
+Unread reads judged before after (Refused name number at) =
+    IsOneOf reads name.now × Shows judged (Refuses name.now number at)
 Unread reads judged before after (ReadFault name) = IsOneOf reads name.now × ReadFailed judged before after name.now
 Unread reads judged before after (WriteFault name) = ⊥
 
 -- why a command stopped, and what then stands
 abbrev pub Stopped : Meaning → Outer → Outer → Stop → Type 0
 Stopped m before after NoMemory = Stands m before after
-Stopped m before after (Refused name number at) = IsOneOf m.reads name.now × Shows (m.judge before.told) (Refuses name.now number at) × Keeps before after
+Stopped m before after (Refused name number at) =
+    IsOneOf m.reads name.now × Shows (m.judge before.told) (Refuses name.now number at) × Keeps before after
 Stopped m before after (ReadFault name) =
-    IsOneOf m.reads name.now × ReadFailed (m.judge before.told) before.read_faults after.read_faults name.now × Stands m before after
+    IsOneOf m.reads name.now × ReadFailed (m.judge before.told) before.read_faults after.read_faults name.now
+    × Stands m before after
 Stopped m before after (WriteFault name) = WriteFailed m before after name.now × DoesPart m before after
 
 -- how a command ran

@@ -1,5 +1,5 @@
 -- How a run ends, by its status: what stands, what is noted, and why.
-use Rattle.std.specs.Prelude.{◌≡◌, ◌≢◌, ℕ, List, Option, ◌⊎◌}
+use Rattle.std.specs.Prelude.{◌≡◌, ◌≢◌, ℕ, List, ◌⊎◌}
 use Rattle.std.specs.Io.KnownBytes.{Appends}
 use Rattle.jass_base.specs.Outside.{Rose}
 use Rattle.jass_base.specs.Writing.{AppendsPrefix}
@@ -11,11 +11,13 @@ use Rattle.jass_top.specs.Meanings.{Meaning}
 use Rattle.jass_top.specs.Standing.{Keeps, Does, DoesPart, Stands}
 use Rattle.jass_top.specs.Causes.{IsOneOf, ReadFailed, WriteFailed}
 use Rattle.jass_top.specs.Stops.{memory_text, word_text, refusal_text, read_fault_text, write_fault_text}
-use Rattle.jass_top.specs.Worlds.{Outer, World}
+use Rattle.jass_top.specs.Worlds.{World}
 
 -- a note was put, or a prefix of it after a counted fault of the notes
 abbrev pub Noted : World → World → List ℕ → Type 0
-Noted before after text = Appends before.noted after.noted text ⊎ (Rose before.note_faults after.note_faults × AppendsPrefix before.noted after.noted text)
+Noted before after text =
+    Appends before.noted after.noted text
+    ⊎ (Rose before.note_faults after.note_faults × AppendsPrefix before.noted after.noted text)
 
 -- all was left, and nothing noted
 pub record EndsDone (m : Meaning) (before after : World) : Type 0 where
@@ -53,8 +55,8 @@ pub record EndsForMemory (m : Meaning) (before after : World) : Type 0 where
   pub noted : Noted before after memory_text
   pub stands : Stands m before.outer after.outer
 
--- how a run of a command ends; `refuses` and `complete` say that a refusal and the end yield to nothing but want of memory and
--- counted faults
+-- how a run of a command ends; `refuses` and `complete` say that a refusal, and the end, yield to nothing but want of memory
+-- and counted faults
 pub record Ends (m : Meaning) (before after : World) (result : Status) : Type 0 where
   pub done : result ≡ status.Done → EndsDone m before after
   pub memory : result ≡ status.NoMemory → EndsForMemory m before after
@@ -64,10 +66,13 @@ pub record Ends (m : Meaning) (before after : World) (result : Status) : Type 0 
   pub limit : result ≢ status.InputLimit
   pub unaccepted : IsUnaccepted (m.judge before.outer.told) → Keeps before.outer after.outer
   pub feed : after.left ≡ before.left
-  pub refuses : (name : List ℕ) (number at : ℕ) → m.judge before.outer.told ≡ Refuses name number at → result ≢ status.Refused
-      → (result ≡ status.NoMemory) ⊎ ((result ≡ status.ReadFault) × Rose before.outer.read_faults after.outer.read_faults)
-  pub complete : (inputs : m.Inputs) → m.judge before.outer.told ≡ Accepted inputs → ¬ Rose before.outer.read_faults after.outer.read_faults
-      → ((name : List ℕ) → ¬ WriteFailed m before.outer after.outer name) → result ≢ status.Done → result ≡ status.NoMemory
+  pub refuses : (name : List ℕ) (number at : ℕ) → m.judge before.outer.told ≡ Refuses name number at
+      → result ≢ status.Refused → (result ≡ status.NoMemory)
+      ⊎ ((result ≡ status.ReadFault) × Rose before.outer.read_faults after.outer.read_faults)
+  pub complete : (inputs : m.Inputs) → m.judge before.outer.told ≡ Accepted inputs
+      → ¬ Rose before.outer.read_faults after.outer.read_faults
+      → ((name : List ℕ) → ¬ WriteFailed m before.outer after.outer name)
+      → result ≢ status.Done → result ≡ status.NoMemory
 
 -- some command has these words
 abbrev pub AreSome : List (List ℕ) → Type 0

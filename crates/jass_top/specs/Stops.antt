@@ -30,7 +30,8 @@ abbrev pub word_text : ℕ → List ℕ
 word_text which = codes "word " ++ (decimal which ++ codes "\n")
 
 abbrev pub refusal_text : List ℕ → ℕ → ℕ → List ℕ
-refusal_text name number at = name ++ (codes ": refusal " ++ (decimal number ++ (codes " at " ++ (decimal at ++ codes "\n"))))
+refusal_text name number at =
+    name ++ (codes ": refusal " ++ (decimal number ++ (codes " at " ++ (decimal at ++ codes "\n"))))
 
 abbrev pub read_fault_text : List ℕ → List ℕ
 read_fault_text name = name ++ codes ": read fault\n"

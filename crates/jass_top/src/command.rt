@@ -25,7 +25,8 @@ pub fn run_command<'a, C: Cabinet, O: Sink, L: Ledger>(
 ) -> Result<(), Stop<'a>>
     requires { IsAllowed (command_data command) }
     ensures { Runs (meaning_of (command_data command.entry))
-        (outer C.Cabinet O.Sink files.old out.old steps.old) (outer C.Cabinet O.Sink files.new out.new steps.new) result }
+        (outer C.Cabinet O.Sink files.old out.old steps.old)
+        (outer C.Cabinet O.Sink files.new out.new steps.new) result }
 {
     match command {
         Command::Once {

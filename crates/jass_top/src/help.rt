@@ -7,7 +7,23 @@ use crate::stop::Stop;
 use jass_base::Sink;
 
 /// The commands with their words, the statuses, and where the documents are.
-const TEXT: &str = "commands:\n  once CIFF K BUDGET TERM..  answer a query over a CIFF file\n  rewrite FROM TO            write a CIFF file in the canonical spelling\n  --help                     print this text\n  --version                  print the name and the version\n\nstatuses:\n  0  done\n  1  no memory\n  2  the words are no command\n  3  an input is refused\n  4  an input could not be read, or is missing\n  5  an output could not be written\n\ndocuments: README.md, docs/\n";
+const TEXT: &str = "\
+commands:\n\
+once CIFF K BUDGET TERM..  answer a query over a CIFF file\n\
+rewrite FROM TO            write a CIFF file in the canonical spelling\n\
+--help                     print this text\n\
+--version                  print the name and the version\n\
+\n\
+statuses:\n\
+0  done\n\
+1  no memory\n\
+2  the words are no command\n\
+3  an input is refused\n\
+4  an input could not be read, or is missing\n\
+5  an output could not be written\n\
+\n\
+documents: README.md, docs/\n\
+";
 
 /// Prints how the program is called.
 pub fn run_help<'a, O: Sink>(out: &mut O) -> Result<(), Stop<'a>>

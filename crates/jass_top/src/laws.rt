@@ -16,8 +16,8 @@ use ranking_model::laws::the_grade_is_one;
 pub fn files_are_judged()
     ensures found { (name : List ℕ) (files : Files) (c : CollectionData) → judge_ciff name (Some files) ≡ Accepted c
         → (content : List ℕ) × (get files name ≡ Some content) × IsCiff content c }
-    ensures only { (name : List ℕ) (files : Files) (content : List ℕ) (c : CollectionData) → get files name ≡ Some content
-        → IsCiff content c → judge_ciff name (Some files) ≡ Accepted c }
+    ensures only { (name : List ℕ) (files : Files) (content : List ℕ) (c : CollectionData)
+        → get files name ≡ Some content → IsCiff content c → judge_ciff name (Some files) ≡ Accepted c }
 {
     files_are_read();
 }

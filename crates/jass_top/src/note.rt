@@ -41,7 +41,8 @@ fn put_refusal<'x, E: Sink>(
     number: &'x [u8],
     at: &'x [u8],
 ) -> Result<(), WriteFault>
-    ensures { Wrote E.written E.faults E.rest notes.old notes.new (name.now ++ (codes ": refusal " ++ (number.now ++ (codes " at " ++ (at.now ++ codes "\n"))))) result }
+    ensures { Wrote E.written E.faults E.rest notes.old notes.new
+        (name.now ++ (codes ": refusal " ++ (number.now ++ (codes " at " ++ (at.now ++ codes "\n"))))) result }
 {
     put_all(notes, &[name, b": refusal ", number, b" at ", at, b"\n"])
 }

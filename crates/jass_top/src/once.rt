@@ -44,7 +44,8 @@ pub fn run_once<'a, C: Cabinet, O: Sink, L: Ledger>(
     _steps: &mut Steps<L>,
 ) -> Result<(), Stop<'a>>
     ensures { Runs (once_meaning ciff.now (query_of question.entry))
-        (outer C.Cabinet O.Sink files.old out.old _steps.old) (outer C.Cabinet O.Sink files.new out.new _steps.new) result }
+        (outer C.Cabinet O.Sink files.old out.old _steps.old)
+        (outer C.Cabinet O.Sink files.new out.new _steps.new) result }
 {
     let collection = read_file(alloc, files, ciff)?;
     let index = match build(alloc, &collection, Rule::Tf, Bits::Raw) {
@@ -123,7 +124,8 @@ fn put<O: Sink>(
     answer: &Answer,
 ) -> Result<(), WriteFault>
     requires { IsAnswer (view_of index.now) (query_of question) answer.now }
-    ensures { Wrote O.written O.faults O.rest out.old out.new (once_text (view_of index.now) (query_of question.entry) answer.now.report) result }
+    ensures { Wrote O.written O.faults O.rest out.old out.new
+        (once_text (view_of index.now) (query_of question.entry) answer.now.report) result }
 {
     the_ranking_has_documents_of_the_scores();
     match put_report(out, ID, answer.unknown, answer.report) {

@@ -38,8 +38,10 @@ fn write_file<C: Cabinet>(
     files: &mut C,
     name: &str,
 ) -> Result<(), WriteFault>
-    ensures ok { OnOk result (Sets (C.told files.old) (C.told files.new) name.now (canonical_ciff (collection_data collection.now))) }
-    ensures err { OnErr result (LeavesFront (Some name.now) (C.told files.old) (C.told files.new) (canonical_ciff (collection_data collection.now))) }
+    ensures ok { OnOk result (Sets (C.told files.old) (C.told files.new) name.now
+        (canonical_ciff (collection_data collection.now))) }
+    ensures err { OnErr result (LeavesFront (Some name.now) (C.told files.old) (C.told files.new)
+        (canonical_ciff (collection_data collection.now))) }
     ensures cause { OnErr result (Rose (C.write_faults files.old) (C.write_faults files.new)) }
 {
     match files.create(name) {
@@ -62,9 +64,12 @@ fn write_behind<'a, C: Cabinet>(
 ) -> Result<(), WriteFault>
     ensures same_reference { sink.new.files.ghost_name ≡ sink.old.files.ghost_name }
     ensures same_name { sink.new.name.now ≡ sink.old.name.now }
-    ensures put { Puts (content_there (C.told sink.old.files.now) sink.old.name.now) (content_there (C.told sink.new.files.now) sink.old.name.now) (canonical_ciff (collection_data collection.now)) result }
+    ensures put { Puts (content_there (C.told sink.old.files.now) sink.old.name.now)
+        (content_there (C.told sink.new.files.now) sink.old.name.now)
+        (canonical_ciff (collection_data collection.now)) result }
     ensures cause { HasCause (C.write_faults sink.old.files.now) (C.write_faults sink.new.files.now) result }
-    ensures others { others_told (C.told sink.new.files.now) sink.old.name.now ≡ others_told (C.told sink.old.files.now) sink.old.name.now }
+    ensures others { others_told (C.told sink.new.files.now) sink.old.name.now
+        ≡ others_told (C.told sink.old.files.now) sink.old.name.now }
 {
     write_collection(collection, sink)
 }

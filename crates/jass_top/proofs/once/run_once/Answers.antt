@@ -1,4 +1,4 @@
-use Rattle.std.proofs.Common.{◌≡◌, ℕ, ◌≤◌, [], length, refl, sym, ap, subst, ◌∙◌, inl, arith}
+use Rattle.std.proofs.Common.{ℕ, ◌≤◌, [], length, refl, sym, ap, subst, ◌∙◌, inl, arith}
 use Rattle.weights.specs.declared.weighting.Rule.TheVariants.{Tf}
 use Rattle.weights.specs.declared.quantizing.Bits.TheVariants.{Raw}
 use Rattle.jass_base.specs.CiffViews.{collection_data}

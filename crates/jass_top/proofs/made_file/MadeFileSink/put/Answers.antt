@@ -1,5 +1,4 @@
 use Rattle.std.proofs.Common.{◌∷◌, ap}
-use Rattle.jass_base.specs.Outside.{Rest}
 use Rattle.jass_top.proofs.SinkThere.{puts, rest_stays}
 use Rattle.jass_top.proofs.made_file.MadeFileSink.put.Goals as goal
 
