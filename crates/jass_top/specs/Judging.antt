@@ -38,3 +38,10 @@ judged_content name (Some content) = judged_ciff name (read_ciff content)
 unfoldable pub judge_ciff : List ℕ → Option Files → Judged CollectionData
 judge_ciff name None = Untold
 judge_ciff name (Some files) = judged_content name (get files name)
+
+-- the first refusal of a content has this number and place
+pub record IsRefused (content : List ℕ) (number at : ℕ) : Type 0 where
+  pub refusal : CiffRefusal
+  pub first : read_ciff content ≡ Err refusal
+  pub numbered : number ≡ number_of refusal.why
+  pub placed : at ≡ refusal.at
