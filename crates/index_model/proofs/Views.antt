@@ -1,15 +1,19 @@
 -- An index in memory as plain data.
-use Rattle.std.proofs.Common.{◌≡◌, ℕ, ◌≤◌, ◌^◌, List, [], ◌∷◌, length, map, arith}
+use Rattle.std.proofs.Common.{◌≡◌, ℕ, ◌≤◌, ◌^◌, List, [], ◌∷◌, length, map, arith, ◌∙◌}
 use Rattle.std.specs.List.{AllByRecursion}
 use Rattle.std.proofs.lemmas.List.{length-map}
+use Rattle.std.proofs.lemmas.Simd.{map-map}
 use Rattle.std.proofs.lemmas.List.Elements.{recursion_from_All, All-from_recursion}
 use Rattle.jass_base.specs.declared.segment.Segment.{Segment}
 use Rattle.jass_base.specs.declared.term_segments.TermSegments.{TermSegments}
 use Rattle.jass_base.specs.declared.impact_index.ImpactIndex.{ImpactIndex}
 use Rattle.jass_base.specs.Segments as held
 use Rattle.jass_base.specs.Terms as terms
-use Rattle.index_model.specs.Index.{IsSegment, IsTerm, IsIndex, FallsTo, SharesNoDocument, RisesTo}
+use Rattle.index_model.specs.Index.{SegmentData, TermData, IsSegment, IsTerm, IsIndex, FallsTo, SharesNoDocument, RisesTo}
 use Rattle.index_model.specs.Views.{segment_data, term_data, index_data}
+use Rattle.ranking_model.specs.Flat.{terms_of}
+use Rattle.index_model.specs.Flat.{flat_of}
+use Rattle.index_model.proofs.Numbers.{HasDocuments, terms_are_texts}
 use Rattle.index_model.proofs.Lists.{pairs_by_recursion, pairs_by_places, pairs_map, all_map}
 
 -- the segments of a term keep what they kept
@@ -33,6 +37,24 @@ term_is d top t few small h below = record {
 terms_are : (d top : ℕ) (ts : List TermSegments) → d ≤ 2 ^ 26 → top ≤ 65535 → terms.greatest_impact ts ≤ top → AllByRecursion (terms.HasTermBelow d) ts → AllByRecursion (λ (t : TermSegments). IsTerm d (term_data t)) ts
 terms_are d top [] few small h below = tt
 terms_are d top (t ∷ ts) few small h below = (term_is d top t few small (omega (arith, h)) below.0, terms_are d top ts few small (omega (arith, h)) below.1)
+
+-- ---- the terms
+
+some_docs : (segments : List Segment) → AllByRecursion (λ (s : Segment). 1 ≤ length (segment_data s).docs) segments
+some_docs [] = tt
+some_docs (s ∷ ss) = (s.some, some_docs ss)
+
+have_documents : (ts : List TermSegments) → AllByRecursion (λ (t : TermSegments). HasDocuments (term_data t)) ts
+have_documents [] = tt
+have_documents (t ∷ ts) = ((omega (arith, t.some, length-map t.segments segment_data), all_map (λ (s : SegmentData). 1 ≤ length s.docs) segment_data t.segments (some_docs t.segments)), have_documents ts)
+
+pub terms_are_those : (index : ImpactIndex) → terms_of (flat_of (index_data index)) ≡ map (λ (t : TermSegments). t.term) index.terms
+terms_are_those index =
+    terms_are_texts (map term_data index.terms) (all_map HasDocuments term_data index.terms (have_documents index.terms))
+    (pairs_by_places RisesTo (map term_data index.terms) (pairs_map RisesTo term_data index.terms (pairs_by_recursion terms.RisesTo index.terms index.rising)))
+    ∙ map-map (λ (t : TermData). t.term) term_data index.terms
+
+-- ---- the index
 
 pub index_is : (index : ImpactIndex) → index.greatest ≤ 65535 → IsIndex (index_data index)
 index_is index small =

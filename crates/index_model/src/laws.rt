@@ -6,6 +6,7 @@ ghost use Rattle.std.specs.Ordering.{nat_cmp};
 ghost use Rattle.std.specs.Cmp.Lexicographic.{slice_cmp};
 ghost use Rattle.jass_base.specs.declared.impact_index.ImpactIndex.{ImpactIndex};
 ghost use Rattle.jass_base.specs.declared.named.Named.{Named};
+ghost use Rattle.jass_base.specs.declared.term_segments.TermSegments.{TermSegments};
 ghost use Rattle.ranking_model.specs.Flat.{IsFlat, terms_of, numbered};
 ghost use Rattle.ranking_model.specs.Order.{sorted};
 ghost use Rattle.ranking_model.specs.Plan.{postings_of, plan_cmp, classes_of, plan_of};
@@ -45,7 +46,10 @@ pub fn the_plan_has_the_named_segments()
     a_query_weighs_its_segments();
 }
 
-/// An index in memory is an index, as its impacts have 16 bits.
+/// An index in memory is an index, as its impacts have 16 bits, and its terms are those of its flat
+/// list.
 pub fn indexes_in_memory_are_indexes()
-    ensures { (index : ImpactIndex) → index.greatest ≤ 65535 → IsIndex (index_data index) }
+    ensures index { (index : ImpactIndex) → index.greatest ≤ 65535 → IsIndex (index_data index) }
+    ensures terms { (index : ImpactIndex) →
+        terms_of (flat_of (index_data index)) ≡ map (λ (t : TermSegments). t.term) index.terms }
 {}

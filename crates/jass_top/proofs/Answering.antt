@@ -6,47 +6,36 @@ use Rattle.std.specs.Ordering.{nat_cmp}
 use Rattle.jass_base.specs.declared.answer.Grade.{Grade}
 use Rattle.jass_base.specs.declared.named.Named.{Named}
 use Rattle.ranking_model.specs.declared.entry.Entry.{Entry}
-use Rattle.ranking_model.specs.declared.class.Class.{Class}
 use Rattle.ranking_model.specs.declared.plan.QueryPlan.{QueryPlan}
 use Rattle.ranking_model.specs.declared.posting.WeightedPosting.{WeightedPosting}
 use Rattle.ranking_model.specs.declared.standing.Standing.{Standing}
 use Rattle.ranking_model.specs.Flat.{IsFlat, numbered}
-use Rattle.ranking_model.specs.Plan.{classes_of, plan_of, prefix_within, cutoff_after, next_after}
+use Rattle.ranking_model.specs.Plan.{classes_of, plan_of, cutoff_after, next_after}
 use Rattle.ranking_model.specs.Scores.{scores_after, standing_of, bound_after}
 use Rattle.ranking_model.specs.Finality.{IsGrade, IsFinal, IsSet, first_documents}
 use Rattle.ranking_model.specs.Heaviest.{IsHeaviest}
-use Rattle.ranking_model.specs.Report.{report_of}
+use Rattle.jass_base.specs.declared.answer.Report.{Report}
+use Rattle.ranking_model.specs.Postings.{weighted_postings}
+use Rattle.ranking_model.specs.Promises.{IsPromised}
+use Rattle.ranking_model.specs.Report.{IsReport, report_of}
 use Rattle.jass_top.specs.declared.question.Answer.{Answer}
-use Rattle.jass_top.specs.Answers.{IndexData, OnceQuery, query_plan, query_prefix, query_postings, known_terms, unknown_terms, IsOnceAnswer}
+use Rattle.jass_top.specs.Answers.{FlatIndex, OnceQuery, query_plan, query_prefix, query_postings, known_terms, unknown_terms, IsOnceReport, IsOnceAnswer}
 use Rattle.jass_top.specs.OnceViews.{IsAnswer}
 
--- the laws of plans and grades
-pub record Laws : Type 0 where
-  pub there : (budget : ℕ) (classes : List Class) → prefix_within budget classes ≤ length classes
-  pub scored : (postings : List WeightedPosting) (n : ℕ) → AllByRecursion (λ class. cutoff_after n (classes_of postings) ≤ class.weight) (take n (classes_of postings))
-  pub unscored : (postings : List WeightedPosting) (n : ℕ) → AllByRecursion (λ class. class.weight ≤ next_after n (classes_of postings)) (drop n (classes_of postings))
-  pub parted : (postings : List WeightedPosting) (n : ℕ) → 1 ≤ n → next_after n (classes_of postings) ≤ cutoff_after n (classes_of postings)
-  pub heaviest : (n : ℕ) (postings : List WeightedPosting) → IsHeaviest n postings
-  pub final : (docs n m k : ℕ) (flat : List (Entry ℕ)) (terms : List Named) → IsFlat nat_cmp docs flat → n ≤ m → IsFinal n (plan_of docs flat terms) k
-      → first_documents (scores_after m (plan_of docs flat terms)) k ≡ first_documents (scores_after n (plan_of docs flat terms)) k
-  pub set : (docs n m k : ℕ) (flat : List (Entry ℕ)) (terms : List Named) → IsFlat nat_cmp docs flat → n ≤ m → IsSet n (plan_of docs flat terms) k
-      → IsPermutation (first_documents (scores_after n (plan_of docs flat terms)) k) (first_documents (scores_after m (plan_of docs flat terms)) k)
+-- the law of reports
+abbrev pub KeepPromises : Type 0
+KeepPromises = (docs n k : ℕ) (flat : List (Entry ℕ)) (terms : List Named) (report : Report) → IsFlat nat_cmp docs flat
+    → IsReport n (plan_of docs flat terms) k report → IsPromised (weighted_postings flat terms) n (plan_of docs flat terms) k report
 
-module _ (laws : Laws) (index : IndexData) (query : OnceQuery) where
+module _ (keep : KeepPromises) (index : FlatIndex) (query : OnceQuery) where
   -- the report at the prefix, with the grade of its scores
   reported : (grade : Grade) → IsFlat nat_cmp (length index.names) (numbered index.flat) → IsGrade (scores_after (query_prefix index query) (query_plan index query)) query.k (bound_after (query_prefix index query) (query_plan index query)) grade
       → IsOnceAnswer index query (report_of (query_prefix index query) (query_plan index query) grade)
-  unfolding plan_of
   reported grade flat graded =
-      let n : ℕ = query_prefix index query in
-      let plan : QueryPlan = query_plan index query in
-      let within : n ≤ length plan.classes = laws.there _ plan.classes in
+      let exact : IsOnceReport index query (report_of (query_prefix index query) (query_plan index query) grade) = record { numbers = refl; graded = graded } in
       record {
-        exact = record { numbers = refl; graded = graded };
-        parts = record { scored = laws.scored (query_postings index query) n; unscored = laws.unscored (query_postings index query) n; parted = laws.parted (query_postings index query) n };
-        heaviest = laws.heaviest n (query_postings index query);
-        final = λ is. sym (laws.final (length index.names) n (length plan.classes) query.k (numbered index.flat) (known_terms index query) flat within (subst (IsGrade (scores_after n plan) query.k (bound_after n plan)) is graded));
-        set = λ is. laws.set (length index.names) n (length plan.classes) query.k (numbered index.flat) (known_terms index query) flat within (subst (IsGrade (scores_after n plan) query.k (bound_after n plan)) is graded).0;
+        exact = exact;
+        promised = keep (length index.names) (query_prefix index query) query.k (numbered index.flat) (known_terms index query) (report_of (query_prefix index query) (query_plan index query) grade) flat exact;
       }
 
   pub answered : (plan : QueryPlan) (n bound : ℕ) (scores : List ℕ) (standing : Standing) (grade : Grade) (answer : Answer)

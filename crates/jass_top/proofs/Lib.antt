@@ -1,11 +1,12 @@
 pub mod Answering
-pub mod Contents
-pub mod Ending
+pub mod Endings
 pub mod Fronts
-pub mod Inputs
+pub mod Judged
+pub mod MadeFiles
+pub mod OneOutput
+pub mod Outputs
 pub mod Positions
 pub mod Printing
 pub mod Rising
-pub mod Running
 pub mod Sizes
 pub mod Wholes

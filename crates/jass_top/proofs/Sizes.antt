@@ -1,5 +1,5 @@
 -- An index has as many postings as its collection.
-use Rattle.std.proofs.Common.{◌≡◌, ℕ, suc, ◌+◌, Bool, true, false, List, [], ◌∷◌, length, if◌then◌else◌, refl, ap, ◌∙◌, arith}
+use Rattle.std.proofs.Common.{◌≡◌, ℕ, suc, ◌+◌, Bool, true, false, List, [], ◌∷◌, length, map, if◌then◌else◌, refl, ap, ◌∙◌, arith}
 use Rattle.std.specs.Prelude.{sum_by}
 use Rattle.std.specs.List.{flat_map}
 use Rattle.std.specs.declared.cmp.Ordering.{Ordering}
@@ -8,6 +8,8 @@ use Rattle.std.specs.Cmp.Lexicographic.{slice_cmp}
 use Rattle.std.proofs.lemmas.List.{length-map, length-append}
 use Rattle.std.proofs.lemmas.List.Sums.{sum_by-cons}
 use Rattle.jass_base.specs.declared.collection.Collection.{Collection}
+use Rattle.jass_base.specs.Ciff.{ListData, CollectionData}
+use Rattle.jass_base.specs.CiffViews.{list_data, collection_data}
 use Rattle.jass_base.specs.declared.posting.Posting.{Posting}
 use Rattle.jass_base.specs.declared.postings_list.PostingsList.{PostingsList}
 use Rattle.weights.specs.declared.weighting.Rule.{Rule}
@@ -17,7 +19,7 @@ use Rattle.ranking_model.specs.declared.entry.Entry.{Entry}
 use Rattle.ranking_model.specs.Order.{placed, sorted}
 use Rattle.ranking_model.specs.Flat.{entry_cmp}
 use Rattle.ciff_read.specs.Counts.{posting_count}
-use Rattle.impact_segments.specs.Collections.{weights_of, posting_weight, list_entries, index_of}
+use Rattle.impact_segments.specs.Collections.{lengths_of, total_of, weight_in, weights_of, entries_in, index_of}
 
 module _ {A : Type 0} (cmp : A → A → Ordering) where
   length-placed : (x : A) (ys : List A) → length (placed cmp x ys) ≡ suc (length ys)
@@ -31,19 +33,19 @@ module _ {A : Type 0} (cmp : A → A → Ordering) where
   length-sorted [] = refl
   length-sorted (x ∷ xs) = length-placed x (sorted cmp xs) ∙ ap suc (length-sorted xs)
 
-length-joined : {X Y : Type 0} (f : X → List Y) (size : X → ℕ) (xs : List X) → ((x : X) → length (f x) ≡ size x) → length (flat_map f xs) ≡ sum_by size xs
-length-joined f size [] is = refl
-length-joined f size (x ∷ xs) is =
-    let front : length (flat_map f (x ∷ xs)) ≡ length (f x) + length (flat_map f xs) = length-append (f x) (flat_map f xs) in
-    let rest : length (flat_map f xs) ≡ sum_by size xs = length-joined f size xs is in
-    let whole : sum_by size (x ∷ xs) ≡ size x + sum_by size xs = sum_by-cons size x xs in
-    let here : length (f x) ≡ size x = is x in
-    omega arith
+joined_lists : (f : List ℕ → List Posting → List (Entry (List ℕ))) (lists : List PostingsList) → ((term : List ℕ) (postings : List Posting) → length (f term postings) ≡ length postings)
+    → length (flat_map (λ (l : ListData). f l.term l.postings) (map list_data lists)) ≡ sum_by (λ (l : PostingsList). length l.postings) lists
+joined_lists f [] is = refl
+joined_lists f (l ∷ ls) is =
+    let front = length-append (f l.term l.postings) (flat_map (λ (l : ListData). f l.term l.postings) (map list_data ls)) in
+    let whole = sum_by-cons (λ (l : PostingsList). length l.postings) l ls in
+    omega (arith, front, whole, joined_lists f ls is, is l.term l.postings)
 
-pub index_size : (collection : Collection) (rule : Rule) (bits : Bits) → length (index_of collection rule bits) ≡ posting_count collection.lists
+pub index_size : (collection : Collection) (rule : Rule) (bits : Bits) → length (index_of (collection_data collection) rule bits) ≡ posting_count collection.lists
 index_size collection rule bits =
-    let range = range_of (weights_of collection rule) in
-    let entries : PostingsList → List (Entry (List ℕ)) = list_entries rule collection.docs bits range in
-    length-sorted (entry_cmp (slice_cmp nat_cmp)) (flat_map entries collection.lists)
-    ∙ length-joined entries (λ (list : PostingsList). length list.postings) collection.lists
-    (λ list. length-map list.postings (λ (p : Posting). record { term = list.term; doc = p.doc; impact = impact_of bits range (posting_weight rule collection.docs list p) }))
+    let c : CollectionData = collection_data collection in
+    let lengths : List ℕ = lengths_of c.docs in
+    let entries : List ℕ → List Posting → List (Entry (List ℕ)) = entries_in rule lengths (total_of lengths) bits (range_of (weights_of c rule)) in
+    length-sorted (entry_cmp (slice_cmp nat_cmp)) (flat_map (λ (l : ListData). entries l.term l.postings) c.lists)
+    ∙ joined_lists entries collection.lists
+    (λ term postings. length-map postings (λ (p : Posting). record { term = term; doc = p.doc; impact = impact_of bits (range_of (weights_of c rule)) (weight_in rule lengths (total_of lengths) (length postings) p) }))

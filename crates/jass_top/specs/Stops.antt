@@ -8,9 +8,9 @@ use Rattle.jass_top.specs.declared.status.Status.TheVariants as status
 -- the status of the run
 abbrev pub status_of : Stop → Status
 status_of NoMemory = status.NoMemory
-status_of (Refused number at) = status.Refused
-status_of ReadFault = status.ReadFault
-status_of WriteFault = status.WriteFault
+status_of (Refused name number at) = status.Refused
+status_of (ReadFault name) = status.ReadFault
+status_of (WriteFault name) = status.WriteFault
 
 -- the program's exit status
 abbrev pub exit_number : Status → ℕ
@@ -30,7 +30,8 @@ abbrev pub word_text : ℕ → List ℕ
 word_text which = codes "word " ++ (decimal which ++ codes "\n")
 
 abbrev pub refusal_text : List ℕ → ℕ → ℕ → List ℕ
-refusal_text name number at = name ++ (codes ": refusal " ++ (decimal number ++ (codes " at " ++ (decimal at ++ codes "\n"))))
+refusal_text name number at =
+    name ++ (codes ": refusal " ++ (decimal number ++ (codes " at " ++ (decimal at ++ codes "\n"))))
 
 abbrev pub read_fault_text : List ℕ → List ℕ
 read_fault_text name = name ++ codes ": read fault\n"
@@ -38,9 +39,9 @@ read_fault_text name = name ++ codes ": read fault\n"
 abbrev pub write_fault_text : List ℕ → List ℕ
 write_fault_text name = name ++ codes ": write fault\n"
 
--- the line of a command that reads one file and writes one output
-abbrev pub stop_text : List ℕ → List ℕ → Stop → List ℕ
-stop_text input output NoMemory = memory_text
-stop_text input output (Refused number at) = refusal_text input number at
-stop_text input output ReadFault = read_fault_text input
-stop_text input output WriteFault = write_fault_text output
+-- the line of a command that stopped
+abbrev pub stop_text : Stop → List ℕ
+stop_text NoMemory = memory_text
+stop_text (Refused name number at) = refusal_text name.now number at
+stop_text (ReadFault name) = read_fault_text name.now
+stop_text (WriteFault name) = write_fault_text name.now

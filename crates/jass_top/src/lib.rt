@@ -4,8 +4,11 @@
 //! an input, an output and notes, and answers a status.
 
 mod command;
+mod fixed_text;
+mod help;
 mod index_view;
 mod input;
+pub mod laws;
 mod note;
 mod once;
 mod program;
@@ -13,6 +16,7 @@ mod question;
 mod rewrite;
 mod status;
 mod stop;
+mod version;
 mod whole_file;
 
 pub use program::run;

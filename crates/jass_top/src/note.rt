@@ -1,43 +1,36 @@
 ghost use Rattle.std.specs.Prelude.{◌++◌, codes};
 ghost use Rattle.jass_base.specs.Outside.{Wrote};
-ghost use Rattle.jass_top.specs.Notes.{note_text};
+ghost use Rattle.jass_top.specs.Stops.{stop_text, word_text};
 
+use crate::stop::Stop;
 use itoa::Buffer;
 use jass_base::{Sink, WriteFault};
 use trec_run::put_all;
 
-/// What is noted of a run that isn't done.
-#[derive(Clone, Copy)]
-pub enum Note<'a> {
-    NoMemory,
-    /// The first bad word, counted from 1.
-    Word { which: u32 },
-    /// A refusal's number and its place.
-    Refusal { name: &'a str, number: u32, at: u64 },
-    ReadFault { name: &'a str },
-    WriteFault { name: &'a str },
+/// Puts the line of the first bad word, counted from 1, on the notes.
+pub fn put_word<E: Sink>(notes: &mut E, which: u32) -> Result<(), WriteFault>
+    ensures { Wrote E.written E.faults E.rest notes.old notes.new (word_text which) result }
+{
+    let mut digits = Buffer::new();
+    let which = digits.format(which).as_bytes();
+    put_all(notes, &[b"word ", which, b"\n"])
 }
 
-/// Puts the line of a note on the notes.
-pub fn put_note<E: Sink>(notes: &mut E, note: Note<'_>) -> Result<(), WriteFault>
-    ensures { Wrote E.written E.faults E.rest notes.old notes.new (note_text note.entry) result }
+/// Puts the line of a command that stopped on the notes.
+pub fn put_stop<E: Sink>(notes: &mut E, stop: Stop<'_>) -> Result<(), WriteFault>
+    ensures { Wrote E.written E.faults E.rest notes.old notes.new (stop_text stop.entry) result }
 {
-    match note {
-        Note::NoMemory => put_all(notes, &[b"no memory\n"]),
-        Note::Word { which } => {
-            let mut digits = Buffer::new();
-            let which = digits.format(which).as_bytes();
-            put_all(notes, &[b"word ", which, b"\n"])
-        }
-        Note::Refusal { name, number, at } => {
+    match stop {
+        Stop::NoMemory => put_all(notes, &[b"no memory\n"]),
+        Stop::Refused { name, number, at } => {
             let mut number_digits = Buffer::new();
             let mut place_digits = Buffer::new();
             let number = number_digits.format(number).as_bytes();
             let at = place_digits.format(at).as_bytes();
             put_refusal(notes, name.as_bytes(), number, at)
         }
-        Note::ReadFault { name } => put_fault(notes, name.as_bytes(), b": read fault\n"),
-        Note::WriteFault { name } => put_fault(notes, name.as_bytes(), b": write fault\n"),
+        Stop::ReadFault { name } => put_fault(notes, name.as_bytes(), b": read fault\n"),
+        Stop::WriteFault { name } => put_fault(notes, name.as_bytes(), b": write fault\n"),
     }
 }
 
@@ -48,7 +41,8 @@ fn put_refusal<'x, E: Sink>(
     number: &'x [u8],
     at: &'x [u8],
 ) -> Result<(), WriteFault>
-    ensures { Wrote E.written E.faults E.rest notes.old notes.new (name.now ++ (codes ": refusal " ++ (number.now ++ (codes " at " ++ (at.now ++ codes "\n"))))) result }
+    ensures { Wrote E.written E.faults E.rest notes.old notes.new
+        (name.now ++ (codes ": refusal " ++ (number.now ++ (codes " at " ++ (at.now ++ codes "\n"))))) result }
 {
     put_all(notes, &[name, b": refusal ", number, b" at ", at, b"\n"])
 }

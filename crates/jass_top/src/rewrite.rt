@@ -1,36 +1,32 @@
-ghost use Rattle.std.specs.Prelude.{ℕ, ◌≡◌, ◌≢◌, ◌⊎◌, Ok, Err, IfOk, IfErr, OnOk, OnErr};
-ghost use Rattle.jass_base.specs.Ciff.{CollectionData};
+ghost use Rattle.std.specs.Prelude.{ℕ, ◌≡◌, ◌≤◌, Some, OnOk, OnErr};
 ghost use Rattle.jass_base.specs.CiffText.{canonical_ciff};
 ghost use Rattle.jass_base.specs.CiffViews.{collection_data};
-ghost use Rattle.jass_base.specs.Outside.{Rose, Sets, IsMissing, OnContent, Puts, HasCause, content_told, others_told};
-ghost use Rattle.jass_top.specs.Outcomes.{IsRefused, LeavesPrefix, Respells};
+ghost use Rattle.jass_base.specs.Outside.{Rose, Sets, Puts, HasCause, content_there, others_told};
+ghost use Rattle.jass_top.specs.Causes.{Runs};
+ghost use Rattle.jass_top.specs.RewriteMeaning.{rewrite_meaning};
+ghost use Rattle.jass_top.specs.Standing.{LeavesFront};
+ghost use Rattle.jass_top.specs.Worlds.{Outer, with_files};
 
 use crate::input::read_file;
 use crate::stop::Stop;
-use ciff_read::laws::files_are_read;
 use ciff_write::write_collection;
 use jass_base::{Cabinet, Collection, FileSink, WriteFault};
 use std::alloc::Global;
 
 /// Writes the collection of a CIFF file in the canonical spelling into another file.
-pub fn run_rewrite<C: Cabinet>(
+pub fn run_rewrite<'a, C: Cabinet>(
     alloc: Global,
-    from: &str,
-    to: &str,
+    from: &'a str,
+    to: &'a str,
     files: &mut C,
-) -> Result<(), Stop>
-    ensures done { OnOk result (Respells (C.told files.old) from.now (Sets (C.told files.old) (C.told files.new) to.now)) }
-    ensures refused { IfErr result (λ stop. (number at : ℕ) → stop ≡ Stop.Refused number at → OnContent (C.told files.old) from.now (λ content. IsRefused content number at)) }
-    ensures read_fault { IfErr result (λ stop. stop ≡ Stop.ReadFault → Rose (C.read_faults files.old) (C.read_faults files.new) ⊎ IsMissing (C.told files.old) from.now) }
-    ensures write_fault { IfErr result (λ stop. stop ≡ Stop.WriteFault → Rose (C.write_faults files.old) (C.write_faults files.new)) }
-    ensures part { IfErr result (λ stop. stop ≡ Stop.WriteFault → Respells (C.told files.old) from.now (LeavesPrefix (C.told files.old) (C.told files.new) to.now)) }
-    ensures unwritten { IfErr result (λ stop. stop ≢ Stop.WriteFault → C.told files.new ≡ C.told files.old) }
+) -> Result<(), Stop<'a>>
+    ensures { (beside : Outer) → Runs (rewrite_meaning from.now to.now)
+        (with_files C.Cabinet files.old beside) (with_files C.Cabinet files.new beside) result }
 {
-    files_are_read();
     let collection = read_file(alloc, files, from)?;
     match write_file(&collection, files, to) {
         Ok(()) => Ok(()),
-        Err(_) => Err(Stop::WriteFault),
+        Err(_) => Err(Stop::WriteFault { name: to }),
     }
 }
 
@@ -40,8 +36,10 @@ fn write_file<C: Cabinet>(
     files: &mut C,
     name: &str,
 ) -> Result<(), WriteFault>
-    ensures ok { OnOk result (Sets (C.told files.old) (C.told files.new) name.now (canonical_ciff (collection_data collection.now))) }
-    ensures err { OnErr result (LeavesPrefix (C.told files.old) (C.told files.new) name.now (canonical_ciff (collection_data collection.now))) }
+    ensures ok { OnOk result (Sets (C.told files.old) (C.told files.new) name.now
+        (canonical_ciff (collection_data collection.now))) }
+    ensures err { OnErr result (LeavesFront (Some name.now) (C.told files.old) (C.told files.new)
+        (canonical_ciff (collection_data collection.now))) }
     ensures cause { OnErr result (Rose (C.write_faults files.old) (C.write_faults files.new)) }
 {
     match files.create(name) {
@@ -64,9 +62,12 @@ fn write_behind<'a, C: Cabinet>(
 ) -> Result<(), WriteFault>
     ensures same_reference { sink.new.files.ghost_name ≡ sink.old.files.ghost_name }
     ensures same_name { sink.new.name.now ≡ sink.old.name.now }
-    ensures put { Puts (content_told (C.told sink.old.files.now) sink.old.name.now) (content_told (C.told sink.new.files.now) sink.old.name.now) (canonical_ciff (collection_data collection.now)) result }
+    ensures put { Puts (content_there (C.told sink.old.files.now) sink.old.name.now)
+        (content_there (C.told sink.new.files.now) sink.old.name.now)
+        (canonical_ciff (collection_data collection.now)) result }
     ensures cause { HasCause (C.write_faults sink.old.files.now) (C.write_faults sink.new.files.now) result }
-    ensures others { others_told (C.told sink.new.files.now) sink.old.name.now ≡ others_told (C.told sink.old.files.now) sink.old.name.now }
+    ensures others { others_told (C.told sink.new.files.now) sink.old.name.now
+        ≡ others_told (C.told sink.old.files.now) sink.old.name.now }
 {
     write_collection(collection, sink)
 }

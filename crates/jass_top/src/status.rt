@@ -4,7 +4,7 @@ ghost use Rattle.jass_top.specs.Stops.{exit_number};
 /// How a run ended. The number is the program's exit status.
 #[derive(Clone, Copy, Debug, PartialEq, Eq)]
 pub enum Status {
-    /// 0: every input was accepted and read to its end, and all output was written.
+    /// 0: every input was accepted, and all output was written.
     Done,
     /// 1: memory was refused.
     NoMemory,

@@ -57,6 +57,25 @@ const LEVEL_AT_LAST: [u8; 68] = [
     0x64, 0x31, 0x18, 0x03,
 ];
 
+/// What `--help` prints.
+const HELP: &[u8] = b"\
+commands:\n\
+once CIFF K BUDGET TERM..  answer a query over a CIFF file\n\
+rewrite FROM TO            write a CIFF file in the canonical spelling\n\
+--help                     print this text\n\
+--version                  print the name and the version\n\
+\n\
+statuses:\n\
+0  done\n\
+1  no memory\n\
+2  the words are no command\n\
+3  an input is refused\n\
+4  an input could not be read, or is missing\n\
+5  an output could not be written\n\
+\n\
+documents: README.md, docs/\n\
+";
+
 /// What a run left.
 #[derive(Drop)]
 struct Left {
@@ -137,7 +156,7 @@ fn answers_are_printed(rt: HostRuntime) {
     let mut close = ONE_TERM;
     close[39] = 8;
     close[45] = 7;
-    let table: [(&[u8], &str, &[u8]); 17] = [
+    let table: [(&[u8], &str, &[u8]); 19] = [
         (
             &ONE_TERM,
             "once b.ciff 3 all a",
@@ -223,6 +242,8 @@ fn answers_are_printed(rt: HostRuntime) {
             "once b.ciff 4 all a",
             b"q postings 0 segments 0 of 0 cutoff 0 next 0 bound 0 unknown 1 final\n",
         ),
+        (&[], "--help", HELP),
+        (&[], "--version", b"jass 0.1.0\n"),
     ];
     for (ciff, words, out) in table {
         let Ok(left) = ran(rt.alloc(), ciff, words, &[], &[]) else {
@@ -243,7 +264,7 @@ fn other_ends_are_noted(rt: HostRuntime) {
     same_document[37] = 0;
     let mut bad_wire = ONE_TERM;
     bad_wire[26] = 0x13;
-    let table: [(&[u8], &str, &[u64], &[u64], u8, &[u8]); 15] = [
+    let table: [(&[u8], &str, &[u64], &[u64], u8, &[u8]); 18] = [
         (
             &[],
             "once b.ciff 3 all a",
@@ -289,6 +310,9 @@ fn other_ends_are_noted(rt: HostRuntime) {
         (&ONE_TERM, "", &[], &[], 2, b"word 1\n"),
         (&ONE_TERM, "once b.ciff 3 all", &[], &[], 2, b"word 5\n"),
         (&ONE_TERM, "rewrite b.ciff b.ciff", &[], &[], 2, b"word 3\n"),
+        (&ONE_TERM, "--help once", &[], &[], 2, b"word 2\n"),
+        (&ONE_TERM, "--version 2", &[], &[], 2, b"word 2\n"),
+        (&ONE_TERM, "--help", &[], &[0], 5, b"output: write fault\n"),
         (
             &ONE_TERM[..70],
             "rewrite b.ciff c.ciff",

@@ -21,8 +21,10 @@ pub enum ReadStop {
 
 /// Reads a file to its end, or its first 2^32 + 16 bytes.
 pub fn read_whole<C: Cabinet>(alloc: Global, files: &mut C, name: &str) -> Result<Row<u8>, ReadStop>
-    ensures content { IfOk result (λ row. OnContent (C.told files.old) name.now (λ content. row ≡ take 4294967312 content)) }
-    ensures fault { IsErrOf result ReadStop.ReadFault → Rose (C.read_faults files.old) (C.read_faults files.new) ⊎ IsMissing (C.told files.old) name.now }
+    ensures content { IfOk result (λ row.
+        OnContent (C.told files.old) name.now (λ content. row ≡ take 4294967312 content)) }
+    ensures fault { IsErrOf result ReadStop.ReadFault
+        → Rose (C.read_faults files.old) (C.read_faults files.new) ⊎ IsMissing (C.told files.old) name.now }
     ensures stays { C.told files.new ≡ C.told files.old }
     ensures later { C.read_faults files.old ≤ C.read_faults files.new }
     ensures others { C.write_faults files.old ≤ C.write_faults files.new }

@@ -1,11 +1,81 @@
--- The beginnings of commands, and the first word that is at fault.
-use Rattle.std.proofs.Common.{◌≡◌, ◌≢◌, ℕ, zero, suc, ◌<◌, ◌≤◌, List, [], ◌∷◌, length, take, drop, Some, refl, sym, ap, subst, arith, inl, inr, append-nil, take-append-drop}
+-- Words that begin a command, and the first word that is at fault: lemmas over any command, and then each command's own.
+use Rattle.std.proofs.Common.{◌≡◌, ◌≢◌, ℕ, ◌+◌, suc, ◌<◌, ◌≤◌, List, [], ◌∷◌, ◌++◌, length, take, drop, Some, refl, sym, ap, subst, ◌∙◌, arith, append-nil, take-append-drop, length-append}
 use Rattle.std.specs.Prelude.{slice_get, All}
+use Rattle.std.proofs.lemmas.List.{take-take, append_assoc}
 use Rattle.std.proofs.lemmas.List.Elements.{All-from_recursion}
+use Rattle.std.proofs.Math.Seq.{take-append_seam, take-append-add}
 use Rattle.jass_base.specs.declared.answer.Budget.{Budget}
 use Rattle.jass_base.specs.declared.answer.Budget.TheVariants as budgets
-use Rattle.jass_words.specs.Words.{CommandData, Once, Rewrite, IsFile, IsCount, IsBudget, IsTerm, AreTerms, IsCommand, IsNoCommand, IsBegun, IsBadWord}
-use Rattle.jass_words.proofs.Parts.{once_word, rewrite_word, named, file_second, count_third, budget_fourth, file_third, words_of_once, words_of_rewrite, no_empty_command}
+use Rattle.jass_words.specs.Words.{CommandData, Once, Rewrite, Help, Version, IsFile, IsCount, IsBudget, IsTerm, AreTerms, IsCommand, IsNoCommand, IsBegun, IsBadWord}
+use Rattle.jass_words.proofs.Parts.{once_word, rewrite_word, help_word, version_word, word_of, begins, as_once, as_rewrite, as_help, as_version, some_same}
+
+-- fewer words begin a command too
+begun_less : (words : List (List ℕ)) (n m : ℕ) → m ≤ n → IsBegun (take n words) → IsBegun (take m words)
+begun_less words n m less (rest, command, is) = (drop m (take n words) ++ rest, command, subst (λ (ws : List (List ℕ)). IsCommand ws command) same is)
+  where
+    same : take n words ++ rest ≡ take m words ++ (drop m (take n words) ++ rest)
+    same = ap (λ (ws : List (List ℕ)). ws ++ rest) (sym (take-append-drop m (take n words))) ∙ append_assoc (take m (take n words)) (drop m (take n words)) rest
+        ∙ ap (λ (ws : List (List ℕ)). ws ++ (drop m (take n words) ++ rest)) (take-take m n words less)
+
+pub begun_front : (front rest : List (List ℕ)) (m : ℕ) → m ≤ length front → IsBegun front → IsBegun (take m (front ++ rest))
+begun_front front rest m less begun = begun_less (front ++ rest) (length front) m less (subst IsBegun (sym (take-append_seam front rest)) begun)
+
+-- where the words up to a place begin none, they are none
+pub never : (words : List (List ℕ)) (n : ℕ) → ¬ IsBegun (take n words) → IsNoCommand words
+never words n unbegun command is = unbegun (drop n words, command, subst (λ (ws : List (List ℕ)). IsCommand ws command) (sym (take-append-drop n words)) is)
+
+-- words that begin a command, behind which none has the next word
+bad_behind : (front rest : List (List ℕ)) → IsBegun front → (rest ≡ [] → IsNoCommand front) → ((x : List ℕ) (more : List (List ℕ)) (command : CommandData) → slice_get rest 0 ≡ Some x → ¬ IsCommand (front ++ x ∷ more) command)
+    → IsBadWord (front ++ rest) (suc (length front))
+bad_behind front [] begun short next = record {
+  none = λ command is. short refl command (subst (λ (ws : List (List ℕ)). IsCommand ws command) (append-nil front) is);
+  before = λ n less. begun_front front [] n (omega (arith, less)) begun;
+  here = λ inside. absurd (omega (arith, inside, length-append front []));
+  there = omega (arith, length-append front []);
+}
+bad_behind front (x ∷ rest) begun short next = record {
+  none = never (front ++ x ∷ rest) (suc (length front)) unbegun;
+  before = λ n less. begun_front front (x ∷ rest) n (omega (arith, less)) begun;
+  here = λ inside. unbegun;
+  there = omega (arith, length-append front (x ∷ rest));
+}
+  where
+    one_more : take (suc (length front)) (front ++ x ∷ rest) ≡ front ++ x ∷ []
+    one_more = ap (λ (n : ℕ). take n (front ++ x ∷ rest)) (let sum : suc (length front) ≡ length front + 1 = omega arith in sum) ∙ take-append-add front (x ∷ rest) 1
+
+    unbegun : ¬ IsBegun (take (suc (length front)) (front ++ x ∷ rest))
+    unbegun (more, command, is) = next x more command refl (subst (λ (ws : List (List ℕ)). IsCommand ws command) (ap (λ (ws : List (List ℕ)). ws ++ more) one_more ∙ append_assoc front (x ∷ []) more) is)
+
+slice_behind : (front rest : List (List ℕ)) → slice_get (front ++ rest) (length front) ≡ slice_get rest 0
+slice_behind [] rest = refl
+slice_behind (w ∷ front) rest = slice_behind front rest
+
+-- each command that begins so has a next word with P, and the words have none there
+pub bad_word : (words front rest : List (List ℕ)) (P : List ℕ → Type 0) → words ≡ front ++ rest → IsBegun front
+    → ((more : List (List ℕ)) (command : CommandData) → IsCommand (front ++ more) command → (word : List ℕ) × (slice_get more 0 ≡ Some word) × P word)
+    → ((word : List ℕ) → slice_get words (length front) ≡ Some word → ¬ P word) → IsBadWord words (suc (length front))
+bad_word words front rest P is begun each none = subst (λ (ws : List (List ℕ)). IsBadWord ws (suc (length front))) (sym is) (bad_behind front rest begun short next)
+  where
+    short : rest ≡ [] → IsNoCommand front
+    short end command whole = (let (word, at, holds) = each [] command (subst (λ (ws : List (List ℕ)). IsCommand ws command) (sym (append-nil front)) whole) in cc)
+
+    next : (x : List ℕ) (more : List (List ℕ)) (command : CommandData) → slice_get rest 0 ≡ Some x → ¬ IsCommand (front ++ x ∷ more) command
+    next x more command at whole =
+        let (word, first, holds) = each (x ∷ more) command whole in
+        none x (ap (λ (ws : List (List ℕ)). slice_get ws (length front)) is ∙ slice_behind front rest ∙ at) (subst P (sym (some_same x word first)) holds)
+
+-- each command that begins so ends there, and the words don't
+pub too_many : (words front rest : List (List ℕ)) → words ≡ front ++ rest → IsBegun front → ((more : List (List ℕ)) (command : CommandData) → IsCommand (front ++ more) command → more ≡ [])
+    → length front < length words → IsBadWord words (suc (length front))
+too_many words front rest is begun last many = subst (λ (ws : List (List ℕ)). IsBadWord ws (suc (length front))) (sym is) (bad_behind front rest begun short next)
+  where
+    short : rest ≡ [] → IsNoCommand front
+    short end = (let size : length words ≡ length front = ap length (is ∙ ap (λ (ws : List (List ℕ)). front ++ ws) end ∙ append-nil front) in absurd (omega (arith, size, many)))
+
+    next : (x : List ℕ) (more : List (List ℕ)) (command : CommandData) → slice_get rest 0 ≡ Some x → ¬ IsCommand (front ++ x ∷ more) command
+    next x more command at whole = (let size : suc (length more) ≡ 0 = ap length (last (x ∷ more) command whole) in omega (arith, size))
+
+-- ---- words and numbers that begin each command
 
 abbrev a_word : List ℕ
 a_word = 97 ∷ []
@@ -30,9 +100,6 @@ begun_terms f c b k budget [] file count limit few each = (a_word ∷ [], Once f
 begun_terms f c b k budget (t ∷ ts) file count limit few each =
     ([], Once f k budget (t ∷ ts), record { count = c; limit = b; parts = ap (λ ws. once_word ∷ f ∷ c ∷ b ∷ ws) (append-nil (t ∷ ts)); file = file; counted = count; limited = limit; named = record { some = omega arith; few = few; each = each } })
 
-begun_limit : (f c b : List ℕ) (k : ℕ) (budget : Budget) → IsFile f → IsCount c k → IsBudget b budget → IsBegun (once_word ∷ f ∷ c ∷ b ∷ [])
-begun_limit f c b k budget file count limit = begun_terms f c b k budget [] file count limit (omega arith) (All-from_recursion IsTerm [] tt)
-
 pub begun_count : (f c : List ℕ) (k : ℕ) → IsFile f → IsCount c k → IsBegun (once_word ∷ f ∷ c ∷ [])
 begun_count f c k file count =
     (all_word ∷ a_word ∷ [], Once f k budgets.All (a_word ∷ []), record { count = c; limit = all_word; parts = refl; file = file; counted = count; limited = refl; named = one_term })
@@ -42,129 +109,79 @@ begun_file f file =
     (one_word ∷ all_word ∷ a_word ∷ [], Once f 1 budgets.All (a_word ∷ []), record { count = one_word; limit = all_word; parts = refl; file = file; counted = a_count; limited = refl; named = one_term })
 
 pub begun_once : IsBegun (once_word ∷ [])
-begun_once =
-    (a_word ∷ one_word ∷ all_word ∷ a_word ∷ [], Once a_word 1 budgets.All (a_word ∷ []), record { count = one_word; limit = all_word; parts = refl; file = a_file; counted = a_count; limited = refl; named = one_term })
+begun_once = begun_less (once_word ∷ a_word ∷ []) 2 1 (omega arith) (begun_file a_word a_file)
 
 pub begun_nothing : IsBegun []
-begun_nothing =
-    (once_word ∷ a_word ∷ one_word ∷ all_word ∷ a_word ∷ [], Once a_word 1 budgets.All (a_word ∷ []), record { count = one_word; limit = all_word; parts = refl; file = a_file; counted = a_count; limited = refl; named = one_term })
+begun_nothing = begun_less (once_word ∷ a_word ∷ []) 2 0 (omega arith) (begun_file a_word a_file)
 
-begun_rewrite : IsBegun (rewrite_word ∷ [])
-begun_rewrite = (a_word ∷ one_word ∷ [], Rewrite a_word one_word, record { parts = refl; read = a_file; written = one_file; differ = λ is. cc })
+-- any file has another beside it
+other_file : (f : List ℕ) → (t : List ℕ) × IsFile t × (f ≢ t)
+other_file [] = (a_word, a_file, λ is. cc)
+other_file (b ∷ []) = (97 ∷ 97 ∷ [], long_file, λ is. (let sizes : 1 ≡ 2 = ap length is in omega (arith, sizes)))
   where
-    one_file : IsFile one_word
-    one_file = record { some = omega arith; fits = omega arith; nonzero = All-from_recursion (λ (b : ℕ). b ≢ 0) one_word ((λ is. cc), tt) }
-
-long_file : IsFile (97 ∷ 97 ∷ [])
-long_file = record { some = omega arith; fits = omega arith; nonzero = All-from_recursion (λ (b : ℕ). b ≢ 0) (97 ∷ 97 ∷ []) ((λ is. cc), ((λ is. cc), tt)) }
-
-begun_from : (f : List ℕ) → IsFile f → IsBegun (rewrite_word ∷ f ∷ [])
-begun_from [] file = absurd (omega (arith, file.some))
-begun_from (b ∷ []) file = ((97 ∷ 97 ∷ []) ∷ [], Rewrite (b ∷ []) (97 ∷ 97 ∷ []), record { parts = refl; read = file; written = long_file; differ = λ is. (let sizes : 1 ≡ 2 = ap length is in omega (arith, sizes)) })
-begun_from (b ∷ c ∷ f) file =
-    (a_word ∷ [], Rewrite (b ∷ c ∷ f) a_word, record { parts = refl; read = file; written = a_file; differ = λ is. (let sizes : length (b ∷ c ∷ f) ≡ 1 = ap length is in omega (arith, sizes)) })
+    long_file : IsFile (97 ∷ 97 ∷ [])
+    long_file = record { some = omega arith; fits = omega arith; nonzero = All-from_recursion (λ (b : ℕ). b ≢ 0) (97 ∷ 97 ∷ []) ((λ is. cc), ((λ is. cc), tt)) }
+other_file (b ∷ c ∷ f) = (a_word, a_file, λ is. (let sizes : length (b ∷ c ∷ f) ≡ 1 = ap length is in omega (arith, sizes)))
 
 begun_to : (f t : List ℕ) → IsFile f → IsFile t → f ≢ t → IsBegun (rewrite_word ∷ f ∷ t ∷ [])
 begun_to f t file to differ = ([], Rewrite f t, record { parts = refl; read = file; written = to; differ = differ })
 
--- ---- the words up to a place are no command's
+begun_from : (f : List ℕ) → IsFile f → IsBegun (rewrite_word ∷ f ∷ [])
+begun_from f file = (let (t, to, differ) = other_file f in begun_less (rewrite_word ∷ f ∷ t ∷ []) 3 2 (omega arith) (begun_to f t file to differ))
 
--- where the words up to a place begin none, they are none
-pub never : (words : List (List ℕ)) (n : ℕ) → ¬ IsBegun (take n words) → IsNoCommand words
-never words n unbegun command is = unbegun (drop n words, command, subst (λ (ws : List (List ℕ)). IsCommand ws command) (sym (take-append-drop n words)) is)
+begun_rewrite : IsBegun (rewrite_word ∷ [])
+begun_rewrite = begun_less (rewrite_word ∷ a_word ∷ []) 2 1 (omega arith) (begun_from a_word a_file)
 
-pub no_words : IsBadWord [] 1
-no_words = record {
-  none = no_empty_command;
-  before = front;
-  here = λ within. absurd (omega (arith, within));
-  there = omega arith;
-}
+-- ---- each command's bad words
+
+-- the first word names no command, or there is none
+pub no_name : (words : List (List ℕ)) → ((command : CommandData) → slice_get words 0 ≢ Some (word_of command)) → IsBadWord words 1
+no_name words none = bad_word words [] words (λ (word : List ℕ). (command : CommandData) × (word ≡ word_of command)) refl begun_nothing
+    (λ more command is. (word_of command, begins more command is, (command, refl))) (λ word at (command, is). none command (at ∙ ap Some is))
+
+pub once_without_file : (words rest : List (List ℕ)) → words ≡ once_word ∷ rest → ((word : List ℕ) → slice_get words 1 ≡ Some word → ¬ IsFile word) → IsBadWord words 2
+once_without_file words rest is none = bad_word words (once_word ∷ []) rest IsFile is begun_once each none
   where
-    front : (n : ℕ) → n < 1 → IsBegun (take n [])
-    front zero less = begun_nothing
-    front (suc n) less = absurd (omega (arith, less))
+    each : (more : List (List ℕ)) (command : CommandData) → IsCommand (once_word ∷ more) command → (word : List ℕ) × (slice_get more 0 ≡ Some word) × IsFile word
+    each more command whole = (let (ciff, k, budget, terms, once) = as_once more command whole in (ciff, ap (λ (ws : List (List ℕ)). slice_get ws 1) once.parts, once.file))
 
-unnamed : (name : List ℕ) → name ≢ once_word → name ≢ rewrite_word → ¬ IsBegun (name ∷ [])
-unnamed name not_once not_rewrite (rest, command, is) = elim (named name rest command is) [ inl same ↦ not_once same | inr same ↦ not_rewrite same ]
-
-pub no_name : (name : List ℕ) (rest : List (List ℕ)) → name ≢ once_word → name ≢ rewrite_word → IsBadWord (name ∷ rest) 1
-no_name name rest not_once not_rewrite = record {
-  none = never (name ∷ rest) 1 (unnamed name not_once not_rewrite);
-  before = front;
-  here = λ within. unnamed name not_once not_rewrite;
-  there = omega arith;
-}
+pub once_without_count : (words : List (List ℕ)) (f : List ℕ) (rest : List (List ℕ)) → words ≡ once_word ∷ f ∷ rest → IsFile f → ((word : List ℕ) (k : ℕ) → slice_get words 2 ≡ Some word → ¬ IsCount word k) → IsBadWord words 3
+once_without_count words f rest is file none = bad_word words (once_word ∷ f ∷ []) rest (λ (word : List ℕ). (k : ℕ) × IsCount word k) is (begun_file f file) each (λ word at (k, count). none word k at count)
   where
-    front : (n : ℕ) → n < 1 → IsBegun (take n (name ∷ rest))
-    front zero less = begun_nothing
-    front (suc n) less = absurd (omega (arith, less))
+    each : (more : List (List ℕ)) (command : CommandData) → IsCommand (once_word ∷ f ∷ more) command → (word : List ℕ) × (slice_get more 0 ≡ Some word) × ((k : ℕ) × IsCount word k)
+    each more command whole = (let (ciff, k, budget, terms, once) = as_once (f ∷ more) command whole in (once.count, ap (λ (ws : List (List ℕ)). slice_get ws 2) once.parts, (k, once.counted)))
 
--- the beginnings of a list of words up to its first few
-before_1 : (a : List ℕ) (rest : List (List ℕ)) → IsBegun (a ∷ []) → (n : ℕ) → n < 2 → IsBegun (take n (a ∷ rest))
-before_1 a rest one zero less = begun_nothing
-before_1 a rest one (suc zero) less = one
-before_1 a rest one (suc (suc n)) less = absurd (omega (arith, less))
-
-before_2 : (a b : List ℕ) (rest : List (List ℕ)) → IsBegun (a ∷ []) → IsBegun (a ∷ b ∷ []) → (n : ℕ) → n < 3 → IsBegun (take n (a ∷ b ∷ rest))
-before_2 a b rest one two zero less = begun_nothing
-before_2 a b rest one two (suc zero) less = one
-before_2 a b rest one two (suc (suc zero)) less = two
-before_2 a b rest one two (suc (suc (suc n))) less = absurd (omega (arith, less))
-
-before_3 : (a b c : List ℕ) (rest : List (List ℕ)) → IsBegun (a ∷ []) → IsBegun (a ∷ b ∷ []) → IsBegun (a ∷ b ∷ c ∷ []) → (n : ℕ) → n < 4 → IsBegun (take n (a ∷ b ∷ c ∷ rest))
-before_3 a b c rest one two three zero less = begun_nothing
-before_3 a b c rest one two three (suc zero) less = one
-before_3 a b c rest one two three (suc (suc zero)) less = two
-before_3 a b c rest one two three (suc (suc (suc zero))) less = three
-before_3 a b c rest one two three (suc (suc (suc (suc n)))) less = absurd (omega (arith, less))
-
--- what the second word must be, of a command's name with too few words behind it
-missing_file : (name : List ℕ) (rest : List (List ℕ)) → IsBegun (name ∷ []) → ((command : CommandData) → ¬ IsCommand (name ∷ []) command)
-    → ((word : List ℕ) → slice_get (name ∷ rest) 1 ≡ Some word → ¬ IsFile word) → IsBadWord (name ∷ rest) 2
-missing_file name [] one short none = record { none = short; before = before_1 name [] one; here = λ within. absurd (omega (arith, within)); there = omega arith }
-missing_file name (x ∷ rest) one short none = record { none = never (name ∷ x ∷ rest) 2 unbegun; before = before_1 name (x ∷ rest) one; here = λ within. unbegun; there = omega arith }
+pub once_without_budget : (words : List (List ℕ)) (f c : List ℕ) (k : ℕ) (rest : List (List ℕ)) → words ≡ once_word ∷ f ∷ c ∷ rest → IsFile f → IsCount c k
+    → ((word : List ℕ) (budget : Budget) → slice_get words 3 ≡ Some word → ¬ IsBudget word budget) → IsBadWord words 4
+once_without_budget words f c k rest is file count none = bad_word words (once_word ∷ f ∷ c ∷ []) rest (λ (word : List ℕ). (budget : Budget) × IsBudget word budget) is (begun_count f c k file count) each (λ word at (budget, limit). none word budget at limit)
   where
-    unbegun : ¬ IsBegun (name ∷ x ∷ [])
-    unbegun (more, command, is) = none x refl (file_second name x more command is)
+    each : (more : List (List ℕ)) (command : CommandData) → IsCommand (once_word ∷ f ∷ c ∷ more) command → (word : List ℕ) × (slice_get more 0 ≡ Some word) × ((budget : Budget) × IsBudget word budget)
+    each more command whole = (let (ciff, l, budget, terms, once) = as_once (f ∷ c ∷ more) command whole in (once.limit, ap (λ (ws : List (List ℕ)). slice_get ws 3) once.parts, (budget, once.limited)))
 
-pub once_without_file : (rest : List (List ℕ)) → ((word : List ℕ) → slice_get (once_word ∷ rest) 1 ≡ Some word → ¬ IsFile word) → IsBadWord (once_word ∷ rest) 2
-once_without_file rest none = missing_file once_word rest begun_once (λ command is. omega (arith, words_of_once [] command is)) none
-
-pub rewrite_without_file : (rest : List (List ℕ)) → ((word : List ℕ) → slice_get (rewrite_word ∷ rest) 1 ≡ Some word → ¬ IsFile word) → IsBadWord (rewrite_word ∷ rest) 2
-rewrite_without_file rest none = missing_file rewrite_word rest begun_rewrite (λ command is. omega (arith, words_of_rewrite [] command is)) none
-
-pub once_without_count : (f : List ℕ) (rest : List (List ℕ)) → IsFile f → ((word : List ℕ) (k : ℕ) → slice_get (once_word ∷ f ∷ rest) 2 ≡ Some word → ¬ IsCount word k) → IsBadWord (once_word ∷ f ∷ rest) 3
-once_without_count f [] file none =
-    record { none = λ command is. omega (arith, words_of_once (f ∷ []) command is); before = before_2 once_word f [] begun_once (begun_file f file); here = λ within. absurd (omega (arith, within)); there = omega arith }
-once_without_count f (x ∷ rest) file none =
-    record { none = never (once_word ∷ f ∷ x ∷ rest) 3 unbegun; before = before_2 once_word f (x ∷ rest) begun_once (begun_file f file); here = λ within. unbegun; there = omega arith }
+pub rewrite_without_file : (words rest : List (List ℕ)) → words ≡ rewrite_word ∷ rest → ((word : List ℕ) → slice_get words 1 ≡ Some word → ¬ IsFile word) → IsBadWord words 2
+rewrite_without_file words rest is none = bad_word words (rewrite_word ∷ []) rest IsFile is begun_rewrite each none
   where
-    unbegun : ¬ IsBegun (once_word ∷ f ∷ x ∷ [])
-    unbegun (more, command, is) = (let (k, count) = count_third f x more command is in none x k refl count)
+    each : (more : List (List ℕ)) (command : CommandData) → IsCommand (rewrite_word ∷ more) command → (word : List ℕ) × (slice_get more 0 ≡ Some word) × IsFile word
+    each more command whole = (let (from, to, rewrite) = as_rewrite more command whole in (from, ap (λ (ws : List (List ℕ)). slice_get ws 1) rewrite.parts, rewrite.read))
 
-pub once_without_budget : (f c : List ℕ) (k : ℕ) (rest : List (List ℕ)) → IsFile f → IsCount c k → ((word : List ℕ) (budget : Budget) → slice_get (once_word ∷ f ∷ c ∷ rest) 3 ≡ Some word → ¬ IsBudget word budget)
-    → IsBadWord (once_word ∷ f ∷ c ∷ rest) 4
-once_without_budget f c k [] file count none =
-    record { none = λ command is. omega (arith, words_of_once (f ∷ c ∷ []) command is); before = before_3 once_word f c [] begun_once (begun_file f file) (begun_count f c k file count); here = λ within. absurd (omega (arith, within)); there = omega arith }
-once_without_budget f c k (x ∷ rest) file count none =
-    record { none = never (once_word ∷ f ∷ c ∷ x ∷ rest) 4 unbegun; before = before_3 once_word f c (x ∷ rest) begun_once (begun_file f file) (begun_count f c k file count); here = λ within. unbegun; there = omega arith }
+pub rewrite_without_second : (words : List (List ℕ)) (f : List ℕ) (rest : List (List ℕ)) → words ≡ rewrite_word ∷ f ∷ rest → IsFile f → ((word : List ℕ) → slice_get words 2 ≡ Some word → f ≢ word → ¬ IsFile word) → IsBadWord words 3
+rewrite_without_second words f rest is file none = bad_word words (rewrite_word ∷ f ∷ []) rest (λ (word : List ℕ). IsFile word × (f ≢ word)) is (begun_from f file) each (λ word at holds. none word at holds.1 holds.0)
   where
-    unbegun : ¬ IsBegun (once_word ∷ f ∷ c ∷ x ∷ [])
-    unbegun (more, command, is) = (let (budget, limit) = budget_fourth f c x more command is in none x budget refl limit)
+    each : (more : List (List ℕ)) (command : CommandData) → IsCommand (rewrite_word ∷ f ∷ more) command → (word : List ℕ) × (slice_get more 0 ≡ Some word) × (IsFile word × (f ≢ word))
+    each more command whole =
+        let (from, to, rewrite) = as_rewrite (f ∷ more) command whole in
+        let first : f ≡ from = some_same f from (ap (λ (ws : List (List ℕ)). slice_get ws 1) rewrite.parts) in
+        (to, ap (λ (ws : List (List ℕ)). slice_get ws 2) rewrite.parts, (rewrite.written, λ same. rewrite.differ (sym first ∙ same)))
 
-pub rewrite_without_second : (f : List ℕ) (rest : List (List ℕ)) → IsFile f → ((word : List ℕ) → slice_get (rewrite_word ∷ f ∷ rest) 2 ≡ Some word → f ≢ word → ¬ IsFile word) → IsBadWord (rewrite_word ∷ f ∷ rest) 3
-rewrite_without_second f [] file none =
-    record { none = λ command is. omega (arith, words_of_rewrite (f ∷ []) command is); before = before_2 rewrite_word f [] begun_rewrite (begun_from f file); here = λ within. absurd (omega (arith, within)); there = omega arith }
-rewrite_without_second f (x ∷ rest) file none =
-    record { none = never (rewrite_word ∷ f ∷ x ∷ rest) 3 unbegun; before = before_2 rewrite_word f (x ∷ rest) begun_rewrite (begun_from f file); here = λ within. unbegun; there = omega arith }
+pub rewrite_with_more : (words : List (List ℕ)) (f t : List ℕ) (rest : List (List ℕ)) → words ≡ rewrite_word ∷ f ∷ t ∷ rest → IsFile f → IsFile t → f ≢ t → 3 < length words → IsBadWord words 4
+rewrite_with_more words f t rest is file to differ many = too_many words (rewrite_word ∷ f ∷ t ∷ []) rest is (begun_to f t file to differ) last many
   where
-    unbegun : ¬ IsBegun (rewrite_word ∷ f ∷ x ∷ [])
-    unbegun (more, command, is) = (let (is_file, differ, last) = file_third f x more command is in none x refl differ is_file)
+    last : (more : List (List ℕ)) (command : CommandData) → IsCommand (rewrite_word ∷ f ∷ t ∷ more) command → more ≡ []
+    last more command whole = (let (from, into, rewrite) = as_rewrite (f ∷ t ∷ more) command whole in ap (drop 3) rewrite.parts)
 
-pub rewrite_with_more : (f t x : List ℕ) (rest : List (List ℕ)) → IsFile f → IsFile t → f ≢ t → IsBadWord (rewrite_word ∷ f ∷ t ∷ x ∷ rest) 4
-rewrite_with_more f t x rest file to differ =
-    record { none = never (rewrite_word ∷ f ∷ t ∷ x ∷ rest) 4 unbegun; before = before_3 rewrite_word f t (x ∷ rest) begun_rewrite (begun_from f file) (begun_to f t file to differ); here = λ within. unbegun; there = omega arith }
-  where
-    unbegun : ¬ IsBegun (rewrite_word ∷ f ∷ t ∷ x ∷ [])
-    unbegun (more, command, is) = (let (is_file, differ, last) = file_third f t (x ∷ more) command is in let size : length (x ∷ more) ≡ 0 = ap length last in omega (arith, size))
+-- a command of its name alone
+pub help_with_more : (words rest : List (List ℕ)) → words ≡ help_word ∷ rest → 1 < length words → IsBadWord words 2
+help_with_more words rest is many = too_many words (help_word ∷ []) rest is ([], Help, record { parts = refl }) (λ more command whole. ap (drop 1) (as_help more command whole).parts) many
+
+pub version_with_more : (words rest : List (List ℕ)) → words ≡ version_word ∷ rest → 1 < length words → IsBadWord words 2
+version_with_more words rest is many = too_many words (version_word ∷ []) rest is ([], Version, record { parts = refl }) (λ more command whole. ap (drop 1) (as_version more command whole).parts) many

@@ -1,3 +1,4 @@
 pub mod Parts
 pub mod Beginnings
+pub mod Short
 pub mod Terms

@@ -1,14 +1,47 @@
 -- The terms of `once`, and the first word that is none.
 use Rattle.std.proofs.Common.{◌≡◌, ◌≢◌, ℕ, zero, suc, ◌+◌, ◌<◌, ◌≤◌, min, List, [], ◌∷◌, ◌++◌, length, take, drop, Option, Some, None, String, Global, refl, sym, ap, subst, ◌∙◌, arith, length-append, length-take, length-drop, ◌-◌, take_all, ◌⊎◌, inl, inr}
-use Rattle.std.specs.Prelude.{slice_get, IfSome}
+use Rattle.std.specs.Prelude.{slice_get, Bool, true, false, IfSome, IsTrue}
 use Rattle.std.proofs.lemmas.List.{length-map}
 use Rattle.std.specs.List.{AllByRecursion, slice_index_or}
 use Rattle.std.specs.String.{string_bytes}
 use Rattle.std.proofs.lemmas.List.Elements.{All-from_recursion, recursion_from_All}
 use Rattle.jass_base.specs.declared.answer.Budget.{Budget}
-use Rattle.jass_words.specs.Words.{IsFile, IsCount, IsBudget, IsTerm, AreTerms, IsNoCommand, IsBegun, IsBadWord, IsRewrite, texts}
-use Rattle.jass_words.proofs.Parts.{once_word, rewrite_word, terms_last, opened1, opened2}
-use Rattle.jass_words.proofs.Beginnings.{begun_terms, begun_once, begun_file, begun_count, begun_nothing, never, rewrite_with_more, no_name, no_words}
+use Rattle.jass_words.specs.Words.{CommandData, Once, Rewrite, Help, Version, IsFile, IsCount, IsBudget, IsTerm, AreTerms, IsCommand, IsNoCommand, IsBegun, IsBadWord, IsRewrite, texts}
+use Rattle.jass_words.proofs.Parts.{once_word, rewrite_word, help_word, version_word, word_of, as_once}
+use Rattle.jass_words.proofs.Beginnings.{begun_terms, begun_once, begun_file, begun_count, begun_nothing, never, no_name}
+
+-- words that have a first one, a second one and so on
+pub opened1 : (words : List (List ℕ)) (a : List ℕ) → slice_get words 0 ≡ Some a → (rest : List (List ℕ)) × (words ≡ a ∷ rest)
+opened1 [] a is = cc
+opened1 (x ∷ rest) a is =
+    let same : x ≡ a = cc in
+    (rest, ap (λ (w : List ℕ). w ∷ rest) same)
+
+pub opened2 : (words : List (List ℕ)) (a b : List ℕ) → slice_get words 0 ≡ Some a → slice_get words 1 ≡ Some b → (rest : List (List ℕ)) × (words ≡ a ∷ b ∷ rest)
+opened2 [] a b is then_is = cc
+opened2 (x ∷ rest) a b is then_is =
+    let (more, more_is) = opened1 rest b then_is in
+    let same : x ≡ a = cc in
+    (more, ap (λ (w : List ℕ). w ∷ rest) same ∙ ap (λ (ws : List (List ℕ)). a ∷ ws) more_is)
+
+pub opened3 : (words : List (List ℕ)) (a b c : List ℕ) → slice_get words 0 ≡ Some a → slice_get words 1 ≡ Some b → slice_get words 2 ≡ Some c → (rest : List (List ℕ)) × (words ≡ a ∷ b ∷ c ∷ rest)
+opened3 [] a b c first second third = cc
+opened3 (x ∷ rest) a b c first second third =
+    let (more, is) = opened2 rest b c second third in
+    let same : x ≡ a = cc in
+    (more, ap (λ (w : List ℕ). w ∷ rest) same ∙ ap (λ (ws : List (List ℕ)). a ∷ ws) is)
+
+pub opened4 : (words : List (List ℕ)) (a b c d : List ℕ) → slice_get words 0 ≡ Some a → slice_get words 1 ≡ Some b → slice_get words 2 ≡ Some c → slice_get words 3 ≡ Some d → (rest : List (List ℕ)) × (words ≡ a ∷ b ∷ c ∷ d ∷ rest)
+opened4 [] a b c d first second third fourth = cc
+opened4 (x ∷ rest) a b c d first second third fourth =
+    let (more, is) = opened3 rest b c d second third fourth in
+    let same : x ≡ a = cc in
+    (more, ap (λ (w : List ℕ). w ∷ rest) same ∙ ap (λ (ws : List (List ℕ)). a ∷ ws) is)
+
+-- ---- the terms of `once`
+
+terms_last : (x y z : List ℕ) (rest : List (List ℕ)) (command : CommandData) → IsCommand (once_word ∷ x ∷ y ∷ z ∷ rest) command → AreTerms rest
+terms_last x y z rest command is = (let (ciff, k, budget, terms, once) = as_once (x ∷ y ∷ z ∷ rest) command is in subst AreTerms (sym (ap (drop 4) once.parts)) once.named)
 
 fewer : (terms : List (List ℕ)) (m j : ℕ) → j ≤ m → AllByRecursion IsTerm (take m terms) → AllByRecursion IsTerm (take j terms)
 fewer terms m zero within all = tt
@@ -101,31 +134,7 @@ long_word (w ∷ ws) zero word text within is long at short =
     omega (arith, long, subst (λ (x : String Global). length (string_bytes w) ≡ length (string_bytes w)) is refl, ap (λ (x : String Global). length (string_bytes x)) is, ap length same, short)
 long_word (w ∷ ws) (suc n) word text within is long at short = long_word ws n word text (omega (arith, within)) is long at short
 
--- ---- `rewrite` whole, or with a word more
-
-abbrev Three : List (List ℕ) → List ℕ → List ℕ → List ℕ → Type 0
-Three words a b c = (rest : List (List ℕ)) × (words ≡ a ∷ b ∷ c ∷ rest)
-
-pub opened3 : (words : List (List ℕ)) (a b c : List ℕ) → slice_get words 0 ≡ Some a → slice_get words 1 ≡ Some b → slice_get words 2 ≡ Some c → (rest : List (List ℕ)) × (words ≡ a ∷ b ∷ c ∷ rest)
-opened3 [] a b c first second third = cc
-opened3 (x ∷ rest) a b c first second third =
-    let (more, is) = opened2 rest b c second third in
-    let same : x ≡ a = cc in
-    (more, ap (λ (w : List ℕ). w ∷ rest) same ∙ ap (λ (ws : List (List ℕ)). a ∷ ws) is)
-
-pub opened4 : (words : List (List ℕ)) (a b c d : List ℕ) → slice_get words 0 ≡ Some a → slice_get words 1 ≡ Some b → slice_get words 2 ≡ Some c → slice_get words 3 ≡ Some d → (rest : List (List ℕ)) × (words ≡ a ∷ b ∷ c ∷ d ∷ rest)
-opened4 [] a b c d first second third fourth = cc
-opened4 (x ∷ rest) a b c d first second third fourth =
-    let (more, is) = opened3 rest b c d second third fourth in
-    let same : x ≡ a = cc in
-    (more, ap (λ (w : List ℕ). w ∷ rest) same ∙ ap (λ (ws : List (List ℕ)). a ∷ ws) is)
-
-pub rewrite_more : (words : List (List ℕ)) (f t : List ℕ) → slice_get words 0 ≡ Some rewrite_word → slice_get words 1 ≡ Some f → slice_get words 2 ≡ Some t → IsFile f → IsFile t → f ≢ t → 3 < length words → IsBadWord words 4
-rewrite_more words f t name first second file to differ many = at (opened3 words rewrite_word f t name first second)
-  where
-    at : (rest : List (List ℕ)) × (words ≡ rewrite_word ∷ f ∷ t ∷ rest) → IsBadWord words 4
-    at ([], is) = (let size : length words ≡ 3 = ap length is in absurd (omega (arith, size, many)))
-    at (x ∷ rest, is) = subst (λ (ws : List (List ℕ)). IsBadWord ws 4) (sym is) (rewrite_with_more f t x rest file to differ)
+-- ---- `rewrite`
 
 pub rewrite_whole : (words : List (List ℕ)) (f t : List ℕ) → slice_get words 0 ≡ Some rewrite_word → slice_get words 1 ≡ Some f → slice_get words 2 ≡ Some t → IsFile f → IsFile t → f ≢ t → length words ≤ 3 → IsRewrite words f t
 rewrite_whole words f t name first second file to differ few = at (opened3 words rewrite_word f t name first second)
@@ -135,9 +144,6 @@ rewrite_whole words f t name first second file to differ few = at (opened3 words
     at (x ∷ rest, is) = (let size : length words ≡ suc (suc (suc (suc (length rest)))) = ap length is in absurd (omega (arith, size, few)))
 
 -- ---- the words as texts
-
-pub some_same : (a b : List ℕ) → Some a ≡ Some b → a ≡ b
-some_same a b is = cc
 
 pub size_of_texts : (words : List (String Global)) → length (texts words) ≡ length words
 size_of_texts words = length-map words string_bytes
@@ -163,14 +169,27 @@ first_word (w ∷ ws) name is =
     let same : w ≡ name = cc in
     ap (λ (x : String Global). Some (string_bytes x)) same
 
-pub nameless : (words : List (String Global)) (name : List ℕ) → slice_get (texts words) 0 ≡ Some name → name ≢ once_word → name ≢ rewrite_word → IsBadWord (texts words) 1
-nameless words name is not_once not_rewrite =
-    let (rest, opened) = opened1 (texts words) name is in
-    subst (λ (ws : List (List ℕ)). IsBadWord ws 1) (sym opened) (no_name name rest not_once not_rewrite)
+-- true, since false contradicts
+pub must : (b : Bool) {A : Type 0} → (false ≡ b → ¬ A) → A → IsTrue b
+must true never holds = refl
+must false never holds = absurd (never refl holds)
 
-pub wordless : (words : List (String Global)) → slice_get words 0 ≡ None → IsBadWord (texts words) 1
-wordless [] is = no_words
-wordless (w ∷ ws) is = cc
+-- the first word isn't this name
+abbrev IsOther : List (List ℕ) → List ℕ → Type 0
+IsOther words name = slice_get words 0 ≡ Some name → IsTrue false
+
+-- the first word is no command's name
+pub nameless : (words : List (List ℕ)) → IsOther words once_word → IsOther words rewrite_word → IsOther words help_word → IsOther words version_word → IsBadWord words 1
+nameless words not_once not_rewrite not_help not_version = no_name words other
+  where
+    never_true : IsTrue false → ⊥
+    never_true is = cc
+
+    other : (command : CommandData) → slice_get words 0 ≢ Some (word_of command)
+    other (Once ciff k budget terms) at = never_true (not_once at)
+    other (Rewrite from to) at = never_true (not_rewrite at)
+    other Help at = never_true (not_help at)
+    other Version at = never_true (not_version at)
 
 -- why words behind the budget are no terms
 pub fault_of : (good size : ℕ) → (good ≡ 0) ⊎ ((good ≡ 0 → ⊥) × (good < size)) → (good < size) ⊎ (size ≡ 0)
@@ -197,3 +216,11 @@ behind_four words f k budget name first third_there third fourth_there fourth =
     let whole : take (length words - 4) (drop 4 words) ≡ drop 4 words = take_all (length words - 4) (drop 4 words) (omega (arith, length-drop 4 words)) in
     let same : texts (take (length words - 4) (drop 4 words)) ≡ rest = ap texts whole ∙ texts_behind words 4 rest (ap (drop 4) is) in
     record { count = count; limit = limit; counted = counted; limited = limited; parts = is ∙ ap (λ (ws : List (List ℕ)). once_word ∷ f ∷ count ∷ limit ∷ ws) (sym same) }
+
+-- a name alone
+pub alone : (words : List (List ℕ)) (name : List ℕ) → slice_get words 0 ≡ Some name → length words ≤ 1 → words ≡ name ∷ []
+alone [] name is few = cc
+alone (a ∷ []) name is few =
+    let same : a ≡ name = cc in
+    ap (λ (w : List ℕ). w ∷ []) same
+alone (a ∷ x ∷ rest) name is few = absurd (omega (arith, few))

@@ -14,6 +14,8 @@ texts words = map string_bytes words
 pub data CommandData : Type 0 where
   Once : List ℕ → ℕ → Budget → List (List ℕ) → CommandData
   Rewrite : List ℕ → List ℕ → CommandData
+  Help : CommandData
+  Version : CommandData
 
 -- a file's name: 1 to 4,096 bytes, none of them 0
 pub record IsFile (word : List ℕ) : Type 0 where
@@ -59,10 +61,20 @@ pub record IsRewrite (words : List (List ℕ)) (from to : List ℕ) : Type 0 whe
   pub written : IsFile to
   pub differ : from ≢ to
 
+-- `--help`
+pub record IsHelp (words : List (List ℕ)) : Type 0 where
+  pub parts : words ≡ codes "--help" ∷ []
+
+-- `--version`
+pub record IsVersion (words : List (List ℕ)) : Type 0 where
+  pub parts : words ≡ codes "--version" ∷ []
+
 -- the words are the command
 abbrev pub IsCommand : List (List ℕ) → CommandData → Type 0
 IsCommand words (Once ciff k budget terms) = IsOnce words ciff k budget terms
 IsCommand words (Rewrite from to) = IsRewrite words from to
+IsCommand words Help = IsHelp words
+IsCommand words Version = IsVersion words
 
 -- the words are no command
 abbrev pub IsNoCommand : List (List ℕ) → Type 0

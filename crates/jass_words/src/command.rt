@@ -17,4 +17,8 @@ pub enum Command<'a> {
         from: &'a str,
         to: &'a str,
     },
+    /// `--help`: prints the commands, the statuses and where the documents are.
+    Help,
+    /// `--version`: prints the program's name and version.
+    Version,
 }

@@ -1,4 +1,4 @@
-ghost use Rattle.std.specs.Prelude.{◌≡◌, Some, IfOk, IfErr, codes, slice_get};
+ghost use Rattle.std.specs.Prelude.{◌≡◌, ◌↔◌, Some, IsTrue, IfOk, IfErr, codes, slice_get};
 ghost use Rattle.jass_words.specs.Commands.{command_data};
 ghost use Rattle.jass_words.specs.Words.{texts, IsCommand, IsBadWord};
 
@@ -20,16 +20,29 @@ pub fn read_words<'a>(words: &'a [String]) -> Result<Command<'a>, WordFault>
     ensures command { IfOk result (λ command. IsCommand (texts words.now) (command_data command)) }
     ensures bad_word { IfErr result (λ fault. IsBadWord (texts words.now) fault.which) }
 {
-    let Some(name) = words.first() else {
-        return Err(WordFault { which: 1 });
-    };
-    if name.as_str() == "once" {
+    if is_named(words, "once") {
         return read_once(words);
     }
-    if name.as_str() == "rewrite" {
+    if is_named(words, "rewrite") {
         return read_rewrite(words);
     }
+    if is_named(words, "--help") {
+        return read_help(words);
+    }
+    if is_named(words, "--version") {
+        return read_version(words);
+    }
     Err(WordFault { which: 1 })
+}
+
+/// Whether the first word is a command's name.
+fn is_named(words: &[String], name: &str) -> bool
+    ensures { IsTrue result ↔ slice_get (texts words.now) 0 ≡ Some name.now }
+{
+    match words.first() {
+        Some(word) => word.as_str() == name,
+        None => false,
+    }
 }
 
 /// Reads the words of `once CIFF K BUDGET TERM..`.
@@ -81,4 +94,28 @@ fn read_rewrite<'a>(words: &'a [String]) -> Result<Command<'a>, WordFault>
         return Err(WordFault { which: 4 });
     }
     Ok(Command::Rewrite { from, to })
+}
+
+/// Reads the words of `--help`.
+fn read_help<'a>(words: &'a [String]) -> Result<Command<'a>, WordFault>
+    requires { slice_get (texts words.now) 0 ≡ Some (codes "--help") }
+    ensures command { IfOk result (λ command. IsCommand (texts words.now) (command_data command)) }
+    ensures bad_word { IfErr result (λ fault. IsBadWord (texts words.now) fault.which) }
+{
+    if words.len() > 1 {
+        return Err(WordFault { which: 2 });
+    }
+    Ok(Command::Help)
+}
+
+/// Reads the words of `--version`.
+fn read_version<'a>(words: &'a [String]) -> Result<Command<'a>, WordFault>
+    requires { slice_get (texts words.now) 0 ≡ Some (codes "--version") }
+    ensures command { IfOk result (λ command. IsCommand (texts words.now) (command_data command)) }
+    ensures bad_word { IfErr result (λ fault. IsBadWord (texts words.now) fault.which) }
+{
+    if words.len() > 1 {
+        return Err(WordFault { which: 2 });
+    }
+    Ok(Command::Version)
 }

@@ -17,7 +17,7 @@ fn bad_word(alloc: Global, line: &str) -> Result<u32, AllocError> {
 
 #[test]
 fn bad_words_are_counted(rt: HostRuntime) {
-    let table: [(&str, u32); 14] = [
+    let table: [(&str, u32); 18] = [
         ("once b 3 all a", 0),
         ("once b 100000 18446744073709551615 a b", 0),
         ("rewrite a b", 0),
@@ -32,6 +32,10 @@ fn bad_words_are_counted(rt: HostRuntime) {
         ("rewrite a", 3),
         ("rewrite a a", 3),
         ("rewrite a b c", 4),
+        ("--help", 0),
+        ("--help rewrite", 2),
+        ("--version", 0),
+        ("--version 2", 2),
     ];
     for (line, which) in table {
         let Ok(found) = bad_word(rt.alloc(), line) else {

@@ -22,13 +22,13 @@ returns-clause-entries c =
 
 pub returns-clause-numbered : goal.returns-clause-numbered
 returns-clause-numbered c =
-    let is = c.indexes_in_memory_are_indexes.ensures c.args.index.now (omega arith) in
+    let is = c.indexes_in_memory_are_indexes.ensures.index c.args.index.now (omega arith) in
     ended c.loop-number.entries c.loop-number.number c.as_slice-term-items.result.now c.args.index.now.terms c.loop-number-test.false c.loop-number.invariant
     ∙ numbers_same 0 c.args.index.now.terms ∙ sym (c.the_flat_list_is_flat.ensures.numbered (index_data c.args.index.now) is)
 
 pub returns-clause-flat : goal.returns-clause-flat
 returns-clause-flat c =
-    let is = c.indexes_in_memory_are_indexes.ensures c.args.index.now (omega arith) in
+    let is = c.indexes_in_memory_are_indexes.ensures.index c.args.index.now (omega arith) in
     let P : List (Entry ℕ) → Type 0 = λ (l : List (Entry ℕ)). IsFlat nat_cmp (length c.args.index.now.names) l in
     subst P (sym (ended c.loop-number.entries c.loop-number.number c.as_slice-term-items.result.now c.args.index.now.terms c.loop-number-test.false c.loop-number.invariant ∙ numbers_same 0 c.args.index.now.terms))
     (c.the_flat_list_is_flat.ensures.numbers (index_data c.args.index.now) is)

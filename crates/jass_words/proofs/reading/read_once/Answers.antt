@@ -1,35 +1,26 @@
-use Rattle.std.proofs.Common.{◌≡◌, ℕ, ◌+◌, ◌<◌, List, ◌∷◌, length, take, drop, ◌-◌, Some, sym, subst, ◌⊎◌, arith}
-use Rattle.std.specs.Prelude.{slice_get}
-use Rattle.jass_base.specs.declared.answer.Budget.{Budget}
-use Rattle.jass_words.specs.Words.{texts, IsFile, IsCount, IsBudget, IsBadWord}
-use Rattle.jass_words.proofs.Parts.{opened1, opened2, once_word}
+use Rattle.std.proofs.Common.{◌≡◌, ℕ, ◌+◌, ◌<◌, List, length, take, drop, ◌-◌, sym, subst, ◌⊎◌, arith}
+use Rattle.jass_words.specs.Words.{texts, IsCount, IsBadWord}
+use Rattle.jass_words.proofs.Parts.{once_word}
 use Rattle.jass_words.proofs.Beginnings.{once_without_file, once_without_count, once_without_budget}
-use Rattle.jass_words.proofs.Terms.{found, opened3, once_without_terms, all_terms, behind_four, fault_of, size_of_texts}
+use Rattle.jass_words.proofs.Terms.{found, opened1, opened2, opened3, once_without_terms, all_terms, behind_four, fault_of, size_of_texts}
 use Rattle.jass_words.proofs.reading.read_once.Goals as goal
 
 pub returns-in_default-clause-bad_word : goal.returns-in_default-clause-bad_word
 returns-in_default-clause-bad_word c =
     let (rest, is) = opened1 (texts c.args.words.now) once_word c.requires in
-    let none : (word : List ℕ) → slice_get (once_word ∷ rest) 1 ≡ Some word → ¬ IsFile word
-    = subst (λ (ws : List (List ℕ)). (word : List ℕ) → slice_get ws 1 ≡ Some word → ¬ IsFile word) is (c.file_at.ensures.none c.in_default.is) in
-    subst (λ (ws : List (List ℕ)). IsBadWord ws 2) (sym is) (once_without_file rest none)
+    once_without_file (texts c.args.words.now) rest is (c.file_at.ensures.none c.in_default.is)
 
 pub returns-in_default-count_at-clause-bad_word : goal.returns-in_default-count_at-clause-bad_word
 returns-in_default-count_at-clause-bad_word c =
     let (rest, is) = opened2 (texts c.args.words.now) once_word c.in-Some.ciff.now c.requires c.in-Some.ensures.some in
-    let none : (word : List ℕ) (k : ℕ) → slice_get (once_word ∷ c.in-Some.ciff.now ∷ rest) 2 ≡ Some word → ¬ IsCount word k
-    = subst (λ (ws : List (List ℕ)). (word : List ℕ) (k : ℕ) → slice_get ws 2 ≡ Some word → ¬ IsCount word k) is (c.count_at.ensures.none c.in_default-count_at.is) in
-    subst (λ (ws : List (List ℕ)). IsBadWord ws 3) (sym is) (once_without_count c.in-Some.ciff.now rest c.in-Some.ensures.file none)
+    once_without_count (texts c.args.words.now) c.in-Some.ciff.now rest is c.in-Some.ensures.file (c.count_at.ensures.none c.in_default-count_at.is)
 
 pub returns-in_default-budget_at-clause-bad_word : goal.returns-in_default-budget_at-clause-bad_word
 returns-in_default-budget_at-clause-bad_word c =
     let k : ℕ = c.in-Some-count_at.k in
-    let size = size_of_texts c.args.words.now in
-    let (count, third, counted) = found (texts c.args.words.now) 2 (λ w. IsCount w k) (omega (arith, size, c.in-Some-count_at.ensures.there)) c.in-Some-count_at.ensures.some in
+    let (count, third, counted) = found (texts c.args.words.now) 2 (λ w. IsCount w k) (omega (arith, size_of_texts c.args.words.now, c.in-Some-count_at.ensures.there)) c.in-Some-count_at.ensures.some in
     let (rest, is) = opened3 (texts c.args.words.now) once_word c.in-Some.ciff.now count c.requires c.in-Some.ensures.some third in
-    let none : (word : List ℕ) (budget : Budget) → slice_get (once_word ∷ c.in-Some.ciff.now ∷ count ∷ rest) 3 ≡ Some word → ¬ IsBudget word budget
-    = subst (λ (ws : List (List ℕ)). (word : List ℕ) (budget : Budget) → slice_get ws 3 ≡ Some word → ¬ IsBudget word budget) is (c.budget_at.ensures.none c.in_default-budget_at.is) in
-    subst (λ (ws : List (List ℕ)). IsBadWord ws 4) (sym is) (once_without_budget c.in-Some.ciff.now count k rest c.in-Some.ensures.file counted none)
+    once_without_budget (texts c.args.words.now) c.in-Some.ciff.now count k rest is c.in-Some.ensures.file counted (c.budget_at.ensures.none c.in_default-budget_at.is)
 
 pub returns-then-good-eq0-clause-bad_word : goal.returns-then-good-eq0-clause-bad_word
 returns-then-good-eq0-clause-bad_word c =

@@ -1,0 +1,21 @@
+-- What each command means, and what its words keep.
+use Rattle.std.specs.Prelude.{◌≤◌, length, ⊤}
+use Rattle.jass_words.specs.Words.{CommandData, Once, Rewrite, Help, Version}
+use Rattle.jass_top.specs.HelpMeaning.{help_meaning}
+use Rattle.jass_top.specs.Meanings.{Meaning}
+use Rattle.jass_top.specs.OnceMeaning.{once_meaning}
+use Rattle.jass_top.specs.RewriteMeaning.{rewrite_meaning}
+use Rattle.jass_top.specs.VersionMeaning.{version_meaning}
+
+abbrev pub meaning_of : CommandData → Meaning
+meaning_of (Once ciff k budget terms) = once_meaning ciff (record { k = k; budget = budget; words = terms })
+meaning_of (Rewrite from to) = rewrite_meaning from to
+meaning_of Help = help_meaning
+meaning_of Version = version_meaning
+
+-- what the words of a command keep of its numbers
+abbrev pub IsAllowed : CommandData → Type 0
+IsAllowed (Once ciff k budget terms) = (1 ≤ k) × (k ≤ 100000) × (length terms ≤ 255)
+IsAllowed (Rewrite from to) = ⊤
+IsAllowed Help = ⊤
+IsAllowed Version = ⊤

@@ -1,0 +1,23 @@
+-- What `--help` means: the commands, the statuses and the documents, on the output.
+use Rattle.std.specs.Prelude.{List, ℕ, ◌++◌, codes}
+use Rattle.jass_top.specs.Meanings.{Meaning}
+use Rattle.jass_top.specs.TextMeaning.{text_meaning}
+
+abbrev pub help_text : List ℕ
+help_text =
+    codes "commands:\n"
+    ++ (codes "once CIFF K BUDGET TERM..  answer a query over a CIFF file\n"
+    ++ (codes "rewrite FROM TO            write a CIFF file in the canonical spelling\n"
+    ++ (codes "--help                     print this text\n"
+    ++ (codes "--version                  print the name and the version\n\n"
+    ++ (codes "statuses:\n"
+    ++ (codes "0  done\n"
+    ++ (codes "1  no memory\n"
+    ++ (codes "2  the words are no command\n"
+    ++ (codes "3  an input is refused\n"
+    ++ (codes "4  an input could not be read, or is missing\n"
+    ++ (codes "5  an output could not be written\n\n"
+    ++ (codes "documents: README.md, docs/\n"))))))))))))
+
+abbrev pub help_meaning : Meaning
+help_meaning = text_meaning help_text

@@ -1,0 +1,47 @@
+-- Words that begin a command are short.
+use Rattle.std.proofs.Common.{◌≡◌, ℕ, ◌≤◌, ◌<◌, Bool, true, false, List, [], ◌∷◌, ◌++◌, length, Some, None, sym, ap, subst, arith, if◌then◌else◌}
+use Rattle.std.specs.Prelude.{◌&&◌, nat_le, nat_lt, ◌^◌}
+use Rattle.std.specs.Char.{is_ascii_digit}
+use Rattle.std.specs.List.{AllByRecursion, list_all}
+use Rattle.std.specs.Str.Parse.{digits_value}
+use Rattle.std.proofs.lemmas.Bool.{leb-true}
+use Rattle.std.proofs.lemmas.List.Elements.{recursion_from_All}
+use Rattle.jass_base.specs.Decimal.{is_decimal, decimal_of}
+use Rattle.jass_base.specs.declared.answer.Budget.{Budget}
+use Rattle.jass_base.specs.declared.answer.Budget.TheVariants as budgets
+use Rattle.jass_words.specs.Words.{CommandData, Once, Rewrite, Help, Version, IsBudget, IsTerm, IsCommand, IsBegun}
+
+-- the second of four facts
+second : (a b c d : Bool) → (a && b && c && d) ≡ true → b ≡ true
+second a true c d is = λ i. true
+second true false c d is = cc
+second false false c d is = cc
+
+short_decimal : (word : List ℕ) (k : ℕ) → decimal_of word ≡ Some k → length word ≤ 65535
+short_decimal word k is = at (is_decimal word) (λ i. is_decimal word) is
+  where
+    at : (b : Bool) → is_decimal word ≡ b → (if b then Some (digits_value 10 word) else None) ≡ Some k → length word ≤ 65535
+    at false same none = cc
+    at true same some =
+        let few : nat_le (length word) 20 ≡ true = second (nat_le 1 (length word)) (nat_le (length word) 20) (list_all is_ascii_digit word) (nat_lt (digits_value 10 word) (2 ^ 64)) same in
+        let fits : length word ≤ 20 = leb-true (length word) 20 few in
+        omega (arith, fits)
+
+short_budget : (word : List ℕ) (budget : Budget) → IsBudget word budget → length word ≤ 65535
+short_budget word (budgets.Postings n) is = short_decimal word n is
+short_budget word budgets.All is = (let size : length word ≡ 3 = ap length is in omega (arith, size))
+
+short_command : (words : List (List ℕ)) (command : CommandData) → IsCommand words command → AllByRecursion IsTerm words
+short_command words (Once ciff k budget terms) is =
+    subst (AllByRecursion IsTerm) (sym is.parts)
+    (omega arith, (omega (arith, is.file.fits), (short_decimal is.count k is.counted.decimal, (short_budget is.limit budget is.limited, recursion_from_All IsTerm terms is.named.each))))
+short_command words (Rewrite from to) is = subst (AllByRecursion IsTerm) (sym is.parts) (omega arith, (omega (arith, is.read.fits), (omega (arith, is.written.fits), tt)))
+short_command words Help is = subst (AllByRecursion IsTerm) (sym is.parts) (omega arith, tt)
+short_command words Version is = subst (AllByRecursion IsTerm) (sym is.parts) (omega arith, tt)
+
+front : (words rest : List (List ℕ)) → AllByRecursion IsTerm (words ++ rest) → AllByRecursion IsTerm words
+front [] rest all = tt
+front (w ∷ words) rest all = (all.0, front words rest all.1)
+
+pub short_words : (words : List (List ℕ)) → IsBegun words → AllByRecursion IsTerm words
+short_words words (rest, command, is) = front words rest (short_command (words ++ rest) command is)
