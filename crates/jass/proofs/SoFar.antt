@@ -22,12 +22,6 @@ grown (x ∷ rest) zero a is =
     ap (λ (w : List ℕ). w ∷ []) same
 grown (x ∷ rest) (suc n) a is = ap (λ (ws : List (List ℕ)). x ∷ ws) (grown rest n a is)
 
-whole : (rest : List (List ℕ)) (n : ℕ) → slice_get rest n ≡ None → take n rest ≡ rest
-whole [] zero is = refl
-whole [] (suc n) is = refl
-whole (x ∷ rest) zero is = cc
-whole (x ∷ rest) (suc n) is = ap (λ (ws : List (List ℕ)). x ∷ ws) (whole rest n is)
-
 behind_first : (arguments : List (List ℕ)) (n : ℕ) → slice_get arguments (suc n) ≡ slice_get (drop 1 arguments) n
 behind_first [] n = refl
 behind_first (x ∷ rest) n = refl
@@ -53,18 +47,6 @@ one_more (Some arguments) words word place is so_far here = at (slice_get argume
         longer ∙ (λ i. so_far i ++ own i ∷ []) ∙ sym (map-append word_of (take n (drop 1 arguments)) (a ∷ [])) ∙ ap (map word_of) (sym (grown (drop 1 arguments) n a item))
         ∙ ap (λ (m : ℕ). map word_of (take m (drop 1 arguments))) (sym sizes)
 
-pub all_words : (told : Option (List (List ℕ))) (words : List (String Global)) (place : ℕ) → place ≡ suc (length words) → SoFar told (texts words)
-    → GivesWord told place None → AreWords told (texts words)
-all_words None words place is so_far end = tt
-all_words (Some arguments) words place is so_far end =
-    let n : ℕ = length (texts words) in
-    let one : place ≡ suc n = is ∙ ap suc (sym (length-map words string_bytes)) in
-    so_far ∙ ap (map word_of) (whole (drop 1 arguments) n (sym (behind_first arguments n) ∙ ap (slice_get arguments) (sym one) ∙ none (slice_get arguments place) end))
-  where
-    none : (o : Option (List ℕ)) → None ≡ option_map word_of o → o ≡ None
-    none None is = refl
-    none (Some a) is = cc
-
 -- ---- the word of one argument
 
 pub as_it_stands : (bytes : List ℕ) → length bytes ≤ 65536 → IsUtf8 bytes → bytes ≡ word_of bytes
@@ -79,31 +61,3 @@ no_text bytes other = at (nat_le (length bytes) 65536) (is_utf8 bytes) refl
     at false text is = refl
     at true false is = refl
     at true true is = absurd (other (IsUtf8-from_is_utf8 bytes is))
-
-too_long : (bytes : List ℕ) (n : ℕ) → n ≡ 65536 → n < length bytes → long_word ≡ word_of bytes
-too_long bytes n is more =
-    let long : nat_le (length bytes) 65536 ≡ false = grind (arith, nat_tests) in
-    (λ i. if sym long i && is_utf8 bytes then bytes else long_word)
-
--- what was had of an argument is its word
-pub had : (told : Option (List (List ℕ))) (place n : ℕ) (buf : List ℕ) (word : String Global) → GivesArgument told place (Ok n) buf → string_bytes word ≡ word_of (take n buf)
-    → GivesWord told place (Some (string_bytes word))
-had None place n buf word here is = tt
-had (Some arguments) place n buf word here is = at (slice_get arguments place) here
-  where
-    at : (o : Option (List ℕ)) → IsSomeAnd o (λ a. a ≡ take n buf) → Some (string_bytes word) ≡ option_map word_of o
-    at None holds = absurd holds
-    at (Some a) holds = ap Some (is ∙ ap word_of (sym holds))
-
-pub had_long : (told : Option (List (List ℕ))) (place : ℕ) (buf : List ℕ) (word : String Global) → length buf ≡ 65536 → GivesArgument told place (Err TooLong) buf → string_bytes word ≡ long_word
-    → GivesWord told place (Some (string_bytes word))
-had_long None place buf word room here is = tt
-had_long (Some arguments) place buf word room here is = at (slice_get arguments place) here
-  where
-    at : (o : Option (List ℕ)) → IsSomeAnd o (λ a. length buf < length a) → Some (string_bytes word) ≡ option_map word_of o
-    at None holds = absurd holds
-    at (Some a) holds = ap Some (is ∙ too_long a (length buf) room holds)
-
-pub had_none : (told : Option (List (List ℕ))) (place : ℕ) (buf : List ℕ) → GivesArgument told place (Err NotPresent) buf → GivesWord told place None
-had_none None place buf here = tt
-had_none (Some arguments) place buf here = sym (ap (option_map word_of) here)

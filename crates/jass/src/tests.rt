@@ -1,9 +1,18 @@
 // The trusted edge, once each: the host's files as a cabinet, and streams as a feed and a sink.
+// The exit status of a command line that tells its arguments.
 
+ghost use Rattle.std.specs.Prelude.{◌≡◌, ◌<◌, Some, map};
+
+use crate::arguments::Arguments;
 use crate::host_cabinet::HostCabinet;
 use crate::host_feed::HostFeed;
 use crate::host_sink::HostSink;
-use jass_base::{Cabinet, Feed, Sink};
+use crate::program::exit_status;
+use jass_base::{Cabinet, Feed, MemCabinet, MemSink, Row, Sink, SliceFeed, Steps};
+use std::alloc::Global;
+use std::env::FillError;
+use std::marker::Brand;
+use std::sync::ledger::{Blank, Ledger};
 
 #[test]
 fn files_are_made_and_read(rt: HostRuntime) {
@@ -28,4 +37,70 @@ fn streams_are_read_and_written(rt: HostRuntime) {
     let mut sink = HostSink::new(Vec::new(rt.alloc()));
     assert!(&rt; sink.put(b"impact").is_ok());
     assert!(&rt; sink.inner().as_slice() == b"impact".as_slice());
+}
+
+/// A command line in memory.
+#[derive(Drop)]
+struct Line<'a> {
+    arguments: &'a [&'a [u8]],
+}
+
+impl<'a> Arguments for Line<'a> {
+    ghost told = { λ l. Some (map (λ argument. argument.now) l.arguments.now) };
+
+    fn argument(&self, place: usize, buf: &mut [u8]) -> Result<usize, FillError> {
+        let Some(argument) = self.arguments.get(place) else {
+            return Err(FillError::NotPresent);
+        };
+        let count = argument.len();
+        if count > buf.len() {
+            return Err(FillError::TooLong);
+        }
+        buf[..count].copy_from_slice(argument);
+        Ok(count)
+    }
+}
+
+/// The exit status of a command line over a cabinet without files.
+fn exit_by<L: Ledger>(alloc: Global, blank: Blank, arguments: &[&[u8]]) -> (u8, MemSink)
+    requires name { blank.name ≡ L.name }
+    requires parts { blank.parts ≡ L.parts }
+    requires some { 0 < blank.parts }
+{
+    let mut files = MemCabinet::new(alloc, Row::new(alloc), Row::new(alloc));
+    let mut input = SliceFeed::new(b"");
+    let mut out = MemSink::new(alloc, Row::new(alloc));
+    let mut notes = MemSink::new(alloc, Row::new(alloc));
+    let mut steps = Steps::<L>::new(blank);
+    let line = Line { arguments };
+    let status = exit_status(
+        alloc, &line, &mut files, &mut input, &mut out, &mut notes, &mut steps,
+    );
+    (status, notes)
+}
+
+fn exits(alloc: Global, arguments: &[&[u8]]) -> (u8, MemSink) {
+    exit_by::<Brand>(alloc, Blank::new(1), arguments)
+}
+
+#[test]
+fn exit_statuses_are_those_of_runs(rt: HostRuntime) {
+    let table: [(&[&[u8]], u8, &[u8]); 7] = [
+        (&[b"jass", b"--help"], 0, b""),
+        (&[b"jass"], 2, b"word 1\n"),
+        (&[], 2, b"word 1\n"),
+        (&[b"jass", b"\xff", b"a.ciff"], 2, b"word 1\n"),
+        (&[b"jass", b"rewrite", b"a.ciff", b"\xff"], 2, b"word 3\n"),
+        (&[b"jass", b"rewrite", b"", b"\xff"], 2, b"word 2\n"),
+        (
+            &[b"jass", b"rewrite", b"a.ciff", b"b.ciff"],
+            4,
+            b"a.ciff: read fault\n",
+        ),
+    ];
+    for (arguments, status, noted) in table {
+        let (ended, notes) = exits(rt.alloc(), arguments);
+        assert_eq!(&rt; ended, status);
+        assert!(&rt; notes.written() == noted);
+    }
 }
