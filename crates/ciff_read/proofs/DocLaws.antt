@@ -1,27 +1,29 @@
 -- The documents that are read are those of the messages, and those of the messages are read.
-use Rattle.std.proofs.Common.{◌≡◌, ◌≢◌, ℕ, zero, suc, ◌+◌, ◌-◌, ◌^◌, ◌<◌, ◌≤◌, Bool, true, false, not, cond, List, [], ◌∷◌, ◌++◌, length, get_or, set, map, replicate, All, Option, Some, None, Result, Ok, Err, refl, sym, ap, subst, ◌∙◌, append_assoc, arith, eqb-true, inl, inr, ◌⊎◌, get_or-set_same, get_or-set_other}
-use Rattle.std.specs.Prelude.{◌==◌, ◌&&◌, nat_eq, nat_lt, nat_le, is_some, slice_get, ⊤}
+use Rattle.std.proofs.Common.{◌≡◌, ◌≢◌, ℕ, zero, suc, ◌+◌, ◌-◌, ◌^◌, ◌<◌, ◌≤◌, Bool, true, false, not, cond, List, [], ◌∷◌, ◌++◌, length, get_or, map, replicate, Option, Some, None, Result, Ok, Err, refl, sym, ap, subst, ◌∙◌, append_assoc, arith, inl, inr, get_or-set_same, get_or-set_other}
+use Rattle.std.specs.Prelude.{◌==◌, ◌&&◌, nat_eq, nat_lt, nat_le, is_some, slice_get}
 use Rattle.std.specs.List.{AllZip, AllByRecursion, IsDistinct, list_all}
 use Rattle.std.specs.Str.{is_utf8}
 use Rattle.std.proofs.lemmas.Bool.{cases_eq}
 use Rattle.std.proofs.lemmas.Bool.Decides.{nat_tests}
-use Rattle.std.proofs.lemmas.List.{length-append, length-replicate, length-set, length-map}
+use Rattle.std.proofs.lemmas.List.{length-append, length-replicate, length-set}
 use Rattle.std.proofs.lemmas.List.Elements.{All-from_recursion, recursion_from_All}
-use Rattle.jass_base.specs.Ciff.{DocData, FitsDoc, IsDoc, IsDocAmong, AreDocs}
+use Rattle.jass_base.specs.Ciff.{DocData, IsDoc, IsDocAmong, AreDocs}
 use Rattle.jass_base.specs.Limits.{IsName}
-use Rattle.jass_base.specs.Wire.{WireField, Spells, IsSized, AreFields}
+use Rattle.jass_base.specs.Wire.{Spells, IsSized}
 use Rattle.ciff_read.specs.declared.refusal.CiffWhy.{CiffWhy}
 use Rattle.ciff_read.specs.declared.refusal.CiffWhy.TheVariants.{Range, DocRange, DocTwice, Text, NameText}
 use Rattle.ciff_read.specs.declared.refusal.CiffRefusal.{CiffRefusal}
-use Rattle.ciff_read.specs.Judging.{NumberedDoc, numbered_of, over31, is_name, judge_doc}
-use Rattle.ciff_read.specs.Reading.{Message, DocsRead, message_end, message_at, numbered_at, doc_at, docs_at}
+use Rattle.ciff_read.specs.Judging.{NumberedDoc, numbered_of, over31, is_name, is_among, numbers_of, judge_doc}
+use Rattle.ciff_read.specs.Places.{numbered_from}
+use Rattle.ciff_read.specs.Reading.{Message, DocsRead, message_end, message_at, numbered_at, doc_at, docs_at, inserted}
 use Rattle.ciff_read.specs.Refusals.{◌>>=◌, placed}
 use Rattle.ciff_read.specs.Table.{has_value, reaching, with_value, values_of}
 use Rattle.ciff_read.specs.Walking.{Walked, walk, nothing_inside}
 use Rattle.ciff_read.proofs.ListLaws.{spells-front}
-use Rattle.ciff_read.proofs.MessageLaws.{MessageFound, message_found, message_only}
+use Rattle.ciff_read.proofs.MessageLaws.{message_found, message_only}
 use Rattle.ciff_read.proofs.PartLaws.{is_text, no_fault}
-use Rattle.ciff_read.proofs.Tables.{values-with}
+use Rattle.ciff_read.proofs.Numbered.{among_all, insert_all}
+use Rattle.ciff_read.proofs.Tables.{values-with, reaches_past}
 use Rattle.ciff_read.proofs.WalkLaws.{fields_found, fields_only}
 use Rattle.ciff_read.proofs.WireLaws.{WireLaws, bound, done_is, unplaced}
 
@@ -85,11 +87,8 @@ module _ {R : Type 0} where
   reach_get (o ∷ table) k zero = refl
   reach_get (o ∷ table) k (suc m) = reach_get table k m
 
-  reach_long : (table : List (Option R)) (n : ℕ) → n < length (reaching table n)
-  reach_long table n = omega (arith, length-append table (replicate {A = Option R} (n + 1 - length table) None), length-replicate (n + 1 - length table) (let e : Option R = None in e))
-
   put_there : (table : List (Option R)) (n : ℕ) (r : R) → get_or (with_value table n r) n None ≡ Some r
-  put_there table n r = get_or-set_same (reaching table n) n (Some r) None (reach_long table n)
+  put_there table n r = get_or-set_same (reaching table n) n (Some r) None (reaches_past table n)
 
   put_other : (table : List (Option R)) (n m : ℕ) (r : R) → m ≢ n → get_or (with_value table n r) m None ≡ get_or table m None
   put_other table n m r other = get_or-set_other (reaching table n) n m (Some r) None other ∙ reach_get table (n + 1 - length table) m
@@ -218,12 +217,14 @@ docs_stand bodies xs final puts =
 -- ---- messages
 
 pub record DocsFound (n docs : ℕ) (table : List (Option DocData)) (at : ℕ) (s : List ℕ) (y : DocsRead) : Type 0 where
+  pub final : List (Option DocData)
+  pub final_is : y.records ≡ numbered_from 0 final
   pub front : List ℕ
   pub bodies : List (List ℕ)
   pub docs_put : List NumberedDoc
   pub parts : s ≡ front ++ y.rest
   pub messages : Spells IsSized front bodies
-  pub puts : Puts docs table bodies docs_put y.table
+  pub puts : Puts docs table bodies docs_put final
   pub count : length bodies ≡ n
   pub ends : y.at ≡ at + length front
   pub short : y.at ≤ 2 ^ 32
@@ -251,19 +252,20 @@ missing_still table n d (m ∷ ms) h k =
 
 pub record DocsThere (total : Result DocsRead CiffRefusal) (ds : List DocData) (place count : ℕ) (rest : List ℕ) : Type 0 where
   pub final : List (Option DocData)
-  pub read : total ≡ Ok (record { table = final; at = place; rest = rest })
+  pub read : total ≡ Ok (record { records = numbered_from 0 final; at = place; rest = rest })
   pub part : IsPart ds final
   pub count_is : length (values_of final) ≡ count
 
 module _ (laws : WireLaws) where
-  pub doc_found : (docs : ℕ) (table : List (Option DocData)) (at : ℕ) (m : Message) (x : NumberedDoc) → doc_at docs table at m ≡ Ok x → DocFound docs table m.body x
+  pub doc_found : (docs : ℕ) (table : List (Option DocData)) (at : ℕ) (m : Message) (x : NumberedDoc) → doc_at docs (numbers_of (numbered_from 0 table)) at m ≡ Ok x → DocFound docs table m.body x
   unfolding doc_at
   doc_found docs table at m x is =
-      let a = bound (numbered_at m.from m.body) (λ y. placed at (judge_doc docs table y)) x is in
+      let numbers = numbers_of (numbered_from 0 table) in
+      let a = bound (numbered_at m.from m.body) (λ y. placed at (judge_doc docs numbers y)) x is in
       let w = bound (walk nothing_inside m.from m.body) (λ walked. Ok (numbered_of walked.fields)) a.0 a.1 in
       let y = a.0 in
       let made = done_is (numbered_of w.0.fields) y w.2 in
-      let t = six_passed (over31 y.number) (nat_le docs y.number) (has_value table y.number) (not (is_utf8 y.doc.name)) (not (is_name y.doc.name)) (over31 y.doc.length) Range DocRange DocTwice Text NameText Range y x (unplaced at (judge_doc docs table y) x a.2) in
+      let t = six_passed (over31 y.number) (nat_le docs y.number) (is_among y.number numbers) (not (is_utf8 y.doc.name)) (not (is_name y.doc.name)) (over31 y.doc.length) Range DocRange DocTwice Text NameText Range y x (unplaced at (judge_doc docs numbers y) x a.2) in
       let t1 = t.1 in
       let t5 = t.5 in
       subst (DocFound docs table m.body) t.6 (record {
@@ -276,10 +278,10 @@ module _ (laws : WireLaws) where
           fits = record { text = is_text y.doc.name t.3; name = name_found y.doc.name (yes_of (is_name y.doc.name) t.4); length = grind (arith, nat_tests) };
         };
         below = grind (arith, nat_tests);
-        missing = t.2;
+        missing = sym (among_all table y.number) ∙ t.2;
       })
 
-  pub doc_read : (docs : ℕ) (table : List (Option DocData)) (at from : ℕ) (body rest : List ℕ) (n : ℕ) (d : DocData) → docs ≤ 2 ^ 26 → IsDoc body n d → n < docs → has_value table n ≡ false → doc_at docs table at (record { from = from; body = body; rest = rest }) ≡ Ok (record { number = n; doc = d })
+  pub doc_read : (docs : ℕ) (table : List (Option DocData)) (at from : ℕ) (body rest : List ℕ) (n : ℕ) (d : DocData) → docs ≤ 2 ^ 26 → IsDoc body n d → n < docs → has_value table n ≡ false → doc_at docs (numbers_of (numbered_from 0 table)) at (record { from = from; body = body; rest = rest }) ≡ Ok (record { number = n; doc = d })
   unfolding doc_at
   doc_read docs table at from body rest n d few is below missing =
       let x : NumberedDoc = record { number = n; doc = d } in
@@ -292,21 +294,25 @@ module _ (laws : WireLaws) where
       let text = no_fault d.name is.fits.text in
       let named : not (is_name d.name) ≡ false = ap not (name_there d.name is.fits.name) in
       let f : over31 d.length ≡ false = grind (arith, nat_tests) in
-      ap (λ (r : Result NumberedDoc CiffRefusal). r >>= λ y. placed at (judge_doc docs table y)) start ∙ rw (a, b, missing, text, named, f) refl
+      let new = among_all table n ∙ missing in
+      ap (λ (r : Result NumberedDoc CiffRefusal). r >>= λ y. placed at (judge_doc docs (numbers_of (numbered_from 0 table)) y)) start ∙ rw (a, b, new, text, named, f) refl
 
-  pub docs_found : (n docs : ℕ) (table : List (Option DocData)) (at : ℕ) (s : List ℕ) (y : DocsRead) → at ≤ 2 ^ 32 → docs_at n docs table at s ≡ Ok y → DocsFound n docs table at s y
+  pub docs_found : (n docs : ℕ) (table : List (Option DocData)) (at : ℕ) (s : List ℕ) (y : DocsRead) → at ≤ 2 ^ 32 → docs_at n docs (numbered_from 0 table) at s ≡ Ok y → DocsFound n docs table at s y
   unfolding docs_at
   docs_found zero docs table at s y short is =
-      subst (DocsFound zero docs table at s) (done_is (record { table = table; at = at; rest = s }) y is) (record { front = []; bodies = []; docs_put = []; parts = refl; messages = refl; puts = refl; count = refl; ends = omega arith; short = short })
+      subst (DocsFound zero docs table at s) (done_is (record { records = numbered_from 0 table; at = at; rest = s }) y is) (record { final = table; final_is = refl; front = []; bodies = []; docs_put = []; parts = refl; messages = refl; puts = refl; count = refl; ends = omega arith; short = short })
   docs_found (suc n) docs table at s y short is =
-      let a = bound (message_at at s) (λ m. doc_at docs table at m >>= λ x. docs_at n docs (with_value table x.number x.doc) (message_end m) m.rest) y is in
+      let records = numbered_from 0 table in
+      let a = bound (message_at at s) (λ m. doc_at docs (numbers_of records) at m >>= λ x. docs_at n docs (inserted x records) (message_end m) m.rest) y is in
       let m = a.0 in
-      let b = bound (doc_at docs table at m) (λ x. docs_at n docs (with_value table x.number x.doc) (message_end m) m.rest) y a.2 in
+      let b = bound (doc_at docs (numbers_of records) at m) (λ x. docs_at n docs (inserted x records) (message_end m) m.rest) y a.2 in
       let x = b.0 in
       let f = message_found laws at s m a.1 in
       let g = doc_found docs table at m x b.1 in
-      let h = docs_found n docs (with_value table x.number x.doc) (message_end m) m.rest y f.short b.2 in
+      let h = docs_found n docs (with_value table x.number x.doc) (message_end m) m.rest y f.short (ap (λ (rs : List NumberedDoc). docs_at n docs rs (message_end m) m.rest) (sym (insert_all table x g.missing)) ∙ b.2) in
       record {
+        final = h.final;
+        final_is = h.final_is;
         front = f.first ++ h.front;
         bodies = m.body ∷ h.bodies;
         docs_put = x ∷ h.docs_put;
@@ -319,14 +325,14 @@ module _ (laws : WireLaws) where
       }
 
   pub docs_read : (ds : List DocData) (table : List (Option DocData)) (at : ℕ) (front rest : List ℕ) (bodies : List (List ℕ)) (numbers : List ℕ) → length ds ≤ 2 ^ 26 → Spells IsSized front bodies → AllZip (IsDocAmong ds) bodies numbers → IsDistinct nat_eq numbers
-      → AllByRecursion (λ m. has_value table m ≡ false) numbers → IsPart ds table → at + length front ≤ 2 ^ 32 → DocsThere (docs_at (length bodies) (length ds) table at (front ++ rest)) ds (at + length front) (length (values_of table) + length bodies) rest
+      → AllByRecursion (λ m. has_value table m ≡ false) numbers → IsPart ds table → at + length front ≤ 2 ^ 32 → DocsThere (docs_at (length bodies) (length ds) (numbered_from 0 table) at (front ++ rest)) ds (at + length front) (length (values_of table) + length bodies) rest
   unfolding docs_at IsDistinct
   docs_read ds table at front rest [] [] few messages each differ missing part short =
       let size = ap (λ (t : List ℕ). length t) messages in
       let place : at ≡ at + length front = omega arith in
       record {
         final = table;
-        read = ap (λ (t : List ℕ). Ok (record { table = table; at = at; rest = t ++ rest })) messages ∙ ap (λ n. Ok (record { table = table; at = n; rest = rest })) place;
+        read = ap (λ (t : List ℕ). Ok (record { records = numbered_from 0 table; at = at; rest = t ++ rest })) messages ∙ ap (λ n. Ok (record { records = numbered_from 0 table; at = n; rest = rest })) place;
         part = part;
         count_is = omega arith;
       }
@@ -347,14 +353,17 @@ module _ (laws : WireLaws) where
       let below = got_within ds n d each.0.there in
       let doc = doc_read (length ds) table at (at + length sized.size) body (other ++ rest) n d few each.0.spelled below missing.0 in
       let later = docs_read ds (with_value table n d) (at + length first) other rest bodies numbers few messages.4 each.1 differ.1 (missing_still table n d numbers missing.1 differ.0) (part_put ds table n d part each.0.there) (omega (arith, length-append first other)) in
+      let records = numbered_from 0 table in
+      let x : NumberedDoc = record { number = n; doc = d } in
       let place : at + length first + length other ≡ at + length front = omega (arith, length-append first other) in
       record {
         final = later.final;
-        read = ap (λ (r : Result Message CiffRefusal). r >>= λ m. doc_at (length ds) table at m >>= λ x. docs_at (length bodies) (length ds) (with_value table x.number x.doc) (message_end m) m.rest) read
-            ∙ ap (λ (r : Result NumberedDoc CiffRefusal). r >>= λ x. docs_at (length bodies) (length ds) (with_value table x.number x.doc) (message_end m) m.rest) doc
-            ∙ ap (λ k. docs_at (length bodies) (length ds) (with_value table n d) k (other ++ rest)) ends
+        read = ap (λ (r : Result Message CiffRefusal). r >>= λ m. doc_at (length ds) (numbers_of records) at m >>= λ x. docs_at (length bodies) (length ds) (inserted x records) (message_end m) m.rest) read
+            ∙ ap (λ (r : Result NumberedDoc CiffRefusal). r >>= λ x. docs_at (length bodies) (length ds) (inserted x records) (message_end m) m.rest) doc
+            ∙ ap (λ (rs : List NumberedDoc). docs_at (length bodies) (length ds) rs (message_end m) (other ++ rest)) (insert_all table x missing.0)
+            ∙ ap (λ k. docs_at (length bodies) (length ds) (numbered_from 0 (with_value table n d)) k (other ++ rest)) ends
             ∙ later.read
-            ∙ ap (λ k. Ok (record { table = later.final; at = k; rest = rest })) place;
+            ∙ ap (λ k. Ok (record { records = numbered_from 0 later.final; at = k; rest = rest })) place;
         part = later.part;
         count_is = later.count_is ∙ omega (arith, values-with table n d missing.0);
       }

@@ -1,15 +1,14 @@
 -- A file that is read stands for the collection that is given, and each such file is read.
-use Rattle.std.proofs.Common.{◌≡◌, ℕ, ◌+◌, ◌^◌, ◌<◌, ◌≤◌, List, [], ◌∷◌, ◌++◌, length, map, Result, Ok, Err, refl, sym, ap, subst, ◌∙◌, append_assoc, arith}
+use Rattle.std.proofs.Common.{◌≡◌, ℕ, ◌+◌, ◌^◌, ◌≤◌, List, [], ◌∷◌, ◌++◌, length, Result, Ok, refl, sym, ap, subst, ◌∙◌, append_assoc, arith}
 use Rattle.std.specs.List.{AllZip}
 use Rattle.std.proofs.lemmas.List.{append-nil, length-append}
-use Rattle.jass_base.specs.Ciff.{CollectionData, ListData, DocData, IsCiff, IsHeader, IsList, AreDocs}
+use Rattle.jass_base.specs.Ciff.{CollectionData, IsCiff, IsHeader, IsList}
 use Rattle.jass_base.specs.Wire.{Spells, IsSized}
 use Rattle.ciff_read.specs.declared.refusal.CiffRefusal.{CiffRefusal}
 use Rattle.ciff_read.specs.Judging.{FileStart}
-use Rattle.ciff_read.specs.Reading.{Message, ListsRead, DocsRead, DocsInOrder, message_end, message_at, header_at, lists_at, docs_at, all_docs_at, docs_in_order, at_end, read_ciff}
+use Rattle.ciff_read.specs.Reading.{Message, ListsRead, DocsInOrder, message_end, message_at, header_at, lists_at, all_docs_at, at_end, read_ciff}
 use Rattle.ciff_read.specs.Refusals.{◌>>=◌}
-use Rattle.ciff_read.specs.Table.{values_of}
-use Rattle.ciff_read.proofs.DocLaws.{Puts, docs_found, docs_stand, docs_are_read, docs_all}
+use Rattle.ciff_read.proofs.AllDocs.{all_docs_found, all_docs_read}
 use Rattle.ciff_read.proofs.ListLaws.{lists_found, lists_read, distinct_found, new_there, all_unseen}
 use Rattle.ciff_read.proofs.MessageLaws.{message_found, message_only}
 use Rattle.ciff_read.proofs.PartLaws.{header_found, header_only}
@@ -48,33 +47,25 @@ module _ (laws : WireLaws) where
       let x = d.0 in
       let e = bound (all_docs_at start.docs x.at x.rest) (λ y. at_end y.at y.rest (record { header = start.header; lists = x.lists; docs = y.docs })) c d.2 in
       let y = e.0 in
-      let g = bound (docs_at start.docs start.docs [] x.at x.rest) (λ z. Ok (docs_in_order z)) y e.1 in
-      let z = g.0 in
-      let in_order = done_is (docs_in_order z) y g.2 in
       let last = ended y.at y.rest (record { header = start.header; lists = x.lists; docs = y.docs }) c e.2 in
-      let rest_none : z.rest ≡ [] = ap (λ (w : DocsInOrder). w.rest) in_order ∙ last.0 in
       let message = message_found laws 0 bytes m a.1 in
       let header = header_found laws 0 m start b.1 in
       let lists = lists_found laws start.lists start.docs 0 [] (message_end m) m.rest x header.fits.few_docs (omega arith) message.short d.1 in
-      let docs = docs_found laws start.docs start.docs [] x.at x.rest z lists.short g.1 in
-      let puts = subst (λ n. Puts n [] docs.bodies docs.docs_put z.table) (sym docs.count) docs.puts in
-      let stand = docs_stand docs.bodies docs.docs_put z.table puts in
-      let doc_count : start.docs ≡ length (values_of z.table) = sym docs.count ∙ sym stand.1 in
-      let back : x.rest ≡ docs.front = docs.parts ∙ ap (λ (u : List ℕ). docs.front ++ u) rest_none ∙ append-nil docs.front in
+      let docs = all_docs_found laws start.docs x.at x.rest y lists.short e.1 in
+      let doc_count : start.docs ≡ length y.docs = sym docs.count_is in
+      let back : x.rest ≡ docs.front = docs.parts ∙ ap (λ (u : List ℕ). docs.front ++ u) last.0 ∙ append-nil docs.front in
       let parts : m.rest ≡ lists.front ++ docs.front = lists.parts ∙ ap (λ (u : List ℕ). lists.front ++ u) back in
       let size = ap (λ (u : List ℕ). length u) message.parts in
       let rest_size = ap (λ (u : List ℕ). length u) parts in
       let more = subst (λ (u : List ℕ). Spells IsSized u (lists.bodies ++ docs.bodies)) (sym parts) (spells-append IsSized lists.front docs.front lists.bodies docs.bodies lists.messages docs.messages) in
-      let made : CollectionData = record { header = start.header; lists = x.lists; docs = values_of z.table } in
-      let same : made ≡ c = ap (λ (w : DocsInOrder). record { header = start.header; lists = x.lists; docs = w.docs }) in_order ∙ last.1 in
-      subst (IsCiff bytes) same (record {
+      subst (IsCiff bytes) last.1 (record {
         header_body = m.body;
         list_bodies = lists.bodies;
         doc_bodies = docs.bodies;
         messages = (message.first, m.rest, message.parts, message.sized, more);
-        header = subst (λ n. IsHeader m.body start.header n (length (values_of z.table))) (sym lists.count) (subst (λ n. IsHeader m.body start.header start.lists n) doc_count header);
+        header = subst (λ n. IsHeader m.body start.header n (length y.docs)) (sym lists.count) (subst (λ n. IsHeader m.body start.header start.lists n) doc_count header);
         lists = subst (λ n. AllZip (IsList n) lists.bodies x.lists) doc_count lists.are;
-        docs = stand.0;
+        docs = docs.are;
         terms_differ = distinct_found [] x.lists lists.new;
         few_postings = omega (arith, lists.few);
         short = omega (arith, size, rest_size, message.ends, lists.ends, docs.ends, docs.short, length-append message.first m.rest, length-append lists.front docs.front);
@@ -102,14 +93,10 @@ module _ (laws : WireLaws) where
       let lists : lists_at (length c.lists) (length c.docs) 0 [] (message_end m) rest ≡ Ok x =
       ap (λ n. lists_at (length c.lists) (length c.docs) 0 [] n rest) ends ∙ ap (lists_at (length c.lists) (length c.docs) 0 [] (length first)) halves.parts
       ∙ lists_read laws (length c.docs) 0 [] (length first) halves.front halves.back is.list_bodies c.lists few halves.first is.lists new (omega (arith, is.few_postings)) (omega arith) in
-      let docs = docs_are_read laws c.docs x.at halves.back [] is.doc_bodies few halves.second is.docs (omega arith) in
-      let place = x.at + length halves.back in
-      let same = docs_all laws c.docs docs.final docs.part docs.count_is in
-      let y : DocsInOrder = record { docs = c.docs; at = place; rest = [] } in
-      let in_order : all_docs_at (length c.docs) x.at halves.back ≡ Ok y =
-      ap (λ (r : Result DocsRead CiffRefusal). r >>= λ z. Ok (docs_in_order z)) (ap (docs_at (length c.docs) (length c.docs) [] x.at) (sym (append-nil halves.back)) ∙ docs.read)
-      ∙ ap (λ (ds : List DocData). Ok (record { docs = ds; at = place; rest = [] })) same in
+      let y : DocsInOrder = record { docs = c.docs; at = x.at + length halves.back; rest = [] } in
+      let docs : all_docs_at (length c.docs) x.at halves.back ≡ Ok y =
+      ap (all_docs_at (length c.docs) x.at) (sym (append-nil halves.back)) ∙ all_docs_read laws c.docs x.at halves.back [] is.doc_bodies few halves.second is.docs (omega arith) in
       ap (λ (r : Result Message CiffRefusal). r >>= λ m. header_at 0 m >>= λ start. lists_at start.lists start.docs 0 [] (message_end m) m.rest >>= λ x. all_docs_at start.docs x.at x.rest >>= λ y. at_end y.at y.rest (record { header = start.header; lists = x.lists; docs = y.docs })) read
       ∙ ap (λ (r : Result FileStart CiffRefusal). r >>= λ start. lists_at start.lists start.docs 0 [] (message_end m) m.rest >>= λ x. all_docs_at start.docs x.at x.rest >>= λ y. at_end y.at y.rest (record { header = start.header; lists = x.lists; docs = y.docs })) header
       ∙ ap (λ (r : Result ListsRead CiffRefusal). r >>= λ x. all_docs_at start.docs x.at x.rest >>= λ y. at_end y.at y.rest (record { header = start.header; lists = x.lists; docs = y.docs })) lists
-      ∙ ap (λ (r : Result DocsInOrder CiffRefusal). r >>= λ y. at_end y.at y.rest (record { header = start.header; lists = x.lists; docs = y.docs })) in_order
+      ∙ ap (λ (r : Result DocsInOrder CiffRefusal). r >>= λ y. at_end y.at y.rest (record { header = start.header; lists = x.lists; docs = y.docs })) docs

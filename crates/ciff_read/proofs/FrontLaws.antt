@@ -1,18 +1,17 @@
 -- What stands behind place 2^32 + 16 changes nothing of what is read.
-use Rattle.std.proofs.Common.{◌≡◌, ℕ, zero, suc, ◌+◌, ◌-◌, ◌^◌, ◌<◌, ◌≤◌, min, Bool, true, false, cond, List, [], ◌∷◌, ◌++◌, length, take, drop, Result, Ok, Err, refl, sym, ap, subst, ◌∙◌, Option, arith}
+use Rattle.std.proofs.Common.{◌≡◌, ℕ, zero, suc, ◌+◌, ◌-◌, ◌^◌, ◌<◌, ◌≤◌, Bool, true, false, cond, List, [], ◌∷◌, ◌++◌, length, map, take, drop, Result, Ok, Err, refl, sym, ap, subst, ◌∙◌, arith}
 use Rattle.std.specs.Prelude.{nat_lt}
 use Rattle.std.proofs.lemmas.Bool.{le-ltb, ltb-false, ltb-true}
 use Rattle.std.proofs.lemmas.List.{length-take, length-drop, take-take, drop-take, take_all}
-use Rattle.jass_base.specs.Ciff.{ListData, DocData, CollectionData}
+use Rattle.jass_base.specs.Ciff.{ListData, CollectionData}
 use Rattle.wire_fields.specs.declared.fault.WireWhy.{WireWhy}
 use Rattle.wire_fields.specs.Reading.{varint_at}
 use Rattle.ciff_read.proofs.VarintFront.{Alike, ReadAlike, varint_front}
 use Rattle.ciff_read.specs.declared.refusal.CiffWhy.{CiffWhy}
-use Rattle.ciff_read.specs.declared.refusal.CiffWhy.TheVariants.{Cut, Limit, Trailing}
+use Rattle.ciff_read.specs.declared.refusal.CiffWhy.TheVariants.{Cut, Limit}
 use Rattle.ciff_read.specs.declared.refusal.CiffRefusal.{CiffRefusal}
-use Rattle.ciff_read.specs.Reading.{Message, message_end, message_at, body_at, ListsRead, DocsRead, DocsInOrder, docs_in_order, all_docs_at, at_end, header_at, list_at, doc_at, lists_at, docs_at, read_ciff}
-use Rattle.ciff_read.specs.Judging.{FileStart, NumberedDoc}
-use Rattle.ciff_read.specs.Table.{with_value, values_of}
+use Rattle.ciff_read.specs.Reading.{Message, message_end, message_at, body_at, ListsRead, DocsRead, DocsInOrder, docs_in_order, all_docs_at, at_end, header_at, list_at, doc_at, lists_at, docs_at, inserted, read_ciff}
+use Rattle.ciff_read.specs.Judging.{FileStart, NumberedDoc, numbers_of}
 use Rattle.ciff_read.specs.Refusals.{◌>>=◌, why_of, placed, field_placed}
 
 alike_then : {A B C D : Type 0} (R : A → B → Type 0) (S : C → D → Type 0) (x : Result A CiffRefusal) (y : Result B CiffRefusal) (f : A → Result C CiffRefusal) (g : B → Result D CiffRefusal)
@@ -142,9 +141,9 @@ module _ (at : ℕ) (m n : Message) (from : n.from ≡ m.from) (body : n.body �
   unfolding list_at
   list_same docs before terms = sym (ap (list_at docs before terms at) (same_message m n from body))
 
-  doc_same : (docs : ℕ) (table : List (Option DocData)) → doc_at docs table at m ≡ doc_at docs table at n
+  doc_same : (docs : ℕ) (numbers : List ℕ) → doc_at docs numbers at m ≡ doc_at docs numbers at n
   unfolding doc_at
-  doc_same docs table = sym (ap (doc_at docs table at) (same_message m n from body))
+  doc_same docs numbers = sym (ap (doc_at docs numbers at) (same_message m n from body))
 
 -- the message at the front, where the rest is known
 message_there : (at : ℕ) (s t : List ℕ) → SameRest at s t → Alike (SameMessage (4294967312 - at) (length s) at) (message_at at s) (message_at at t)
@@ -186,29 +185,29 @@ lists_front (suc n) docs before terms at s t is =
         (subst (λ end. Alike SameLists (more (message_end m) m.rest a) (more end k.rest a)) (sym (ends at m k message.from message.body)) (after again m k message a)))
 
 pub record SameDocs (whole front : DocsRead) : Type 0 where
-  pub table : front.table ≡ whole.table
+  pub records : front.records ≡ whole.records
   pub at : front.at ≡ whole.at
   pub rest : SameRest whole.at whole.rest front.rest
 
-docs_front : (n docs : ℕ) (table : List (Option DocData)) (at : ℕ) (s t : List ℕ) → SameRest at s t → Alike SameDocs (docs_at n docs table at s) (docs_at n docs table at t)
+docs_front : (n docs : ℕ) (records : List NumberedDoc) (at : ℕ) (s t : List ℕ) → SameRest at s t → Alike SameDocs (docs_at n docs records at s) (docs_at n docs records at t)
 unfolding docs_at
-docs_front zero docs table at s t is = record { table = refl; at = refl; rest = is }
-docs_front (suc n) docs table at s t is =
+docs_front zero docs records at s t is = record { records = refl; at = refl; rest = is }
+docs_front (suc n) docs records at s t is =
     alike_then (SameMessage (4294967312 - at) (length s) at) SameDocs (message_at at s) (message_at at t)
-    (λ m. doc_at docs table at m >>= λ x. docs_at n docs (with_value table x.number x.doc) (message_end m) m.rest)
-    (λ m. doc_at docs table at m >>= λ x. docs_at n docs (with_value table x.number x.doc) (message_end m) m.rest)
+    (λ m. doc_at docs (numbers_of records) at m >>= λ x. docs_at n docs (inserted x records) (message_end m) m.rest)
+    (λ m. doc_at docs (numbers_of records) at m >>= λ x. docs_at n docs (inserted x records) (message_end m) m.rest)
     (message_there at s t is) (λ m k message. behind (docs_front n docs) m k message)
   where
     more : ℕ → List ℕ → NumberedDoc → Result DocsRead CiffRefusal
-    more end rest x = docs_at n docs (with_value table x.number x.doc) end rest
+    more end rest x = docs_at n docs (inserted x records) end rest
 
-    behind : ((table : List (Option DocData)) (at : ℕ) (s t : List ℕ) → SameRest at s t → Alike SameDocs (docs_at n docs table at s) (docs_at n docs table at t)) → (m k : Message) → SameMessage (4294967312 - at) (length s) at m k → Alike SameDocs (doc_at docs table at m >>= more (message_end m) m.rest) (doc_at docs table at k >>= more (message_end k) k.rest)
+    behind : ((records : List NumberedDoc) (at : ℕ) (s t : List ℕ) → SameRest at s t → Alike SameDocs (docs_at n docs records at s) (docs_at n docs records at t)) → (m k : Message) → SameMessage (4294967312 - at) (length s) at m k → Alike SameDocs (doc_at docs (numbers_of records) at m >>= more (message_end m) m.rest) (doc_at docs (numbers_of records) at k >>= more (message_end k) k.rest)
     behind again m k message =
-        alike_then (λ a b. a ≡ b) SameDocs (doc_at docs table at m) (doc_at docs table at k) (more (message_end m) m.rest) (more (message_end k) k.rest)
-        (alike_equal (doc_at docs table at m) (doc_at docs table at k) (doc_same at m k message.from message.body docs table))
+        alike_then (λ a b. a ≡ b) SameDocs (doc_at docs (numbers_of records) at m) (doc_at docs (numbers_of records) at k) (more (message_end m) m.rest) (more (message_end k) k.rest)
+        (alike_equal (doc_at docs (numbers_of records) at m) (doc_at docs (numbers_of records) at k) (doc_same at m k message.from message.body docs (numbers_of records)))
         (λ a b same. subst (λ (x : NumberedDoc). Alike SameDocs (more (message_end m) m.rest a) (more (message_end k) k.rest x)) same
         (subst (λ end. Alike SameDocs (more (message_end m) m.rest a) (more end k.rest a)) (sym (ends at m k message.from message.body))
-        (again (with_value table a.number a.doc) (message_end m) m.rest k.rest (rest_there at s t m k is message))))
+        (again (inserted a records) (message_end m) m.rest k.rest (rest_there at s t m k is message))))
 
 -- documents in order, and where they end
 record SameOrder (whole front : DocsInOrder) : Type 0 where
@@ -246,7 +245,7 @@ long_front bytes long =
         (λ y. at_end y.at y.rest (record { header = start.header; lists = lists; docs = y.docs })) (λ y. at_end y.at y.rest (record { header = start.header; lists = lists; docs = y.docs }))
         (alike_then SameDocs SameOrder (docs_at start.docs start.docs [] at s) (docs_at start.docs start.docs [] at t) (λ x. Ok (docs_in_order x)) (λ x. Ok (docs_in_order x))
         (docs_front start.docs start.docs [] at s t is)
-        (λ x y same. record { docs = ap values_of same.table; at = same.at; rest = same.rest }))
+        (λ x y same. record { docs = ap (map (λ (r : NumberedDoc). r.doc)) same.records; at = same.at; rest = same.rest }))
         (λ x y same.
         alike_equal (at_end x.at x.rest (record { header = start.header; lists = lists; docs = x.docs })) (at_end y.at y.rest (record { header = start.header; lists = lists; docs = y.docs }))
         (end_front x.at x.rest y.rest (record { header = start.header; lists = lists; docs = x.docs }) (record { header = start.header; lists = lists; docs = y.docs }) same.rest

@@ -1,3 +1,4 @@
+pub mod AllDocs
 pub mod Answering
 pub mod FieldValues
 pub mod DocLaws
@@ -6,6 +7,7 @@ pub mod Files
 pub mod ListLaws
 pub mod MessageLaws
 pub mod Messages
+pub mod Numbered
 pub mod PartLaws
 pub mod Parts
 pub mod PostingLaws

@@ -1,17 +1,16 @@
 -- Messages that are read part by part.
-use Rattle.std.proofs.Common.{◌≡◌, ℕ, ◌+◌, ◌-◌, ◌<◌, ◌≤◌, ◌==◌, true, false, List, [], ◌∷◌, ◌++◌, length, take, drop, Option, Some, None, Result, Ok, Err, refl, sym, ap, subst, ◌∙◌, arith}
+use Rattle.std.proofs.Common.{◌≡◌, ℕ, ◌-◌, ◌≤◌, List, [], ◌∷◌, ◌++◌, length, take, drop, Result, Ok, Err, sym, ap, subst, ◌∙◌, arith}
 use Rattle.std.specs.Prelude.{fold, slice_range}
 use Rattle.std.proofs.lemmas.List.{length-take, length-drop}
 use Rattle.std.proofs.lemmas.List.Sums.{fold-append}
 use Rattle.jass_base.specs.declared.posting.Posting.{Posting}
-use Rattle.jass_base.specs.Ciff.{ListData, DocData}
-use Rattle.jass_base.specs.Wire.{WireField, Text}
+use Rattle.jass_base.specs.Ciff.{ListData}
+use Rattle.jass_base.specs.Wire.{Text}
 use Rattle.wire_fields.specs.declared.field.Value.{Value}
 use Rattle.wire_fields.specs.declared.field.Value.TheVariants.{Bytes}
 use Rattle.wire_fields.specs.Places.{IsWithin, value_in}
 use Rattle.ciff_read.specs.declared.body.Body.{Body}
 use Rattle.ciff_read.specs.declared.entry.Entry.{Entry}
-use Rattle.ciff_read.specs.declared.refusal.CiffWhy.{CiffWhy}
 use Rattle.ciff_read.specs.declared.refusal.CiffRefusal.{CiffRefusal}
 use Rattle.ciff_read.specs.declared.refusal.CiffFault.{CiffFault}
 use Rattle.ciff_read.specs.Judging.{FileStart, ListStart, NumberedDoc, judge_header, judge_list, judge_doc, gather, postings_of}
@@ -38,14 +37,14 @@ module _ (bytes : List ℕ) (body : Body) (at : ℕ) where
   unfolding header_at
   header_judged start is = ap (λ (r : Result FileStart CiffRefusal). r >>= λ start. placed at (judge_header start)) (ap (start_at body.from) (sym same) ∙ is)
 
-  module _ (docs : ℕ) (table : List (Option DocData)) where
-    pub doc_walks_not : (answer : CiffFault) → Fails answer (numbered_at body.from (cut_body bytes body)) → Fails answer (doc_at docs table at (message_in bytes body))
+  module _ (docs : ℕ) (numbers : List ℕ) where
+    pub doc_walks_not : (answer : CiffFault) → Fails answer (numbered_at body.from (cut_body bytes body)) → Fails answer (doc_at docs numbers at (message_in bytes body))
     unfolding doc_at
-    doc_walks_not answer fails = fails_on answer (numbered_at body.from (slice_range bytes body.from body.end)) (λ x. placed at (judge_doc docs table x)) (fails_as answer _ _ (ap (numbered_at body.from) same) fails)
+    doc_walks_not answer fails = fails_on answer (numbered_at body.from (slice_range bytes body.from body.end)) (λ x. placed at (judge_doc docs numbers x)) (fails_as answer _ _ (ap (numbered_at body.from) same) fails)
 
-    pub doc_judged : (x : NumberedDoc) → numbered_at body.from (cut_body bytes body) ≡ Ok x → doc_at docs table at (message_in bytes body) ≡ placed at (judge_doc docs table x)
+    pub doc_judged : (x : NumberedDoc) → numbered_at body.from (cut_body bytes body) ≡ Ok x → doc_at docs numbers at (message_in bytes body) ≡ placed at (judge_doc docs numbers x)
     unfolding doc_at
-    doc_judged x is = ap (λ (r : Result NumberedDoc CiffRefusal). r >>= λ x. placed at (judge_doc docs table x)) (ap (numbered_at body.from) (sym same) ∙ is)
+    doc_judged x is = ap (λ (r : Result NumberedDoc CiffRefusal). r >>= λ x. placed at (judge_doc docs numbers x)) (ap (numbered_at body.from) (sym same) ∙ is)
 
   module _ (docs before : ℕ) (terms : List (List ℕ)) where
     -- what follows the start of a list

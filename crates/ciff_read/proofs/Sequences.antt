@@ -1,17 +1,14 @@
 -- Messages that are read one after the other.
-use Rattle.std.proofs.Common.{◌≡◌, ℕ, zero, suc, ◌+◌, ◌-◌, ◌<◌, ◌≤◌, List, [], ◌∷◌, ◌++◌, length, take, drop, Option, Result, Ok, Err, refl, sym, ap, subst, ◌∙◌, append_assoc, arith}
-use Rattle.std.specs.Prelude.{slice_range}
+use Rattle.std.proofs.Common.{◌≡◌, ℕ, suc, ◌+◌, ◌-◌, ◌≤◌, List, [], ◌∷◌, ◌++◌, length, drop, Result, Ok, Err, refl, sym, ap, ◌∙◌, append_assoc, arith}
 use Rattle.std.proofs.lemmas.List.{append-nil, length-take, length-drop}
-use Rattle.jass_base.specs.Ciff.{ListData, DocData}
+use Rattle.jass_base.specs.Ciff.{ListData}
 use Rattle.ciff_read.specs.declared.body.Body.{Body}
 use Rattle.ciff_read.specs.declared.refusal.CiffRefusal.{CiffRefusal}
 use Rattle.ciff_read.specs.declared.refusal.CiffFault.{CiffFault}
-use Rattle.ciff_read.specs.declared.refusal.CiffFault.TheVariants as faults
-use Rattle.ciff_read.specs.Judging.{NumberedDoc}
+use Rattle.ciff_read.specs.Judging.{NumberedDoc, numbers_of}
 use Rattle.ciff_read.specs.Places.{message_in}
-use Rattle.ciff_read.specs.Reading.{Message, ListsRead, DocsRead, message_end, message_at, list_at, doc_at, lists_at, docs_at}
+use Rattle.ciff_read.specs.Reading.{Message, ListsRead, DocsRead, message_end, message_at, list_at, doc_at, lists_at, docs_at, inserted}
 use Rattle.ciff_read.specs.Refusals.{◌>>=◌, Fails}
-use Rattle.ciff_read.specs.Table.{with_value}
 use Rattle.ciff_read.proofs.Answering.{fails_on, fails_as}
 
 pub end_there : (bytes : List ℕ) (body : Body) → body.end ≤ length bytes → message_end (message_in bytes body) ≡ body.end
@@ -63,18 +60,18 @@ module _ (total : Result ListsRead CiffRefusal) (left docs before : ℕ) (terms 
           ∙ ap (λ (r : Result ListData CiffRefusal). with_lists front (r >>= λ list. lists_at n docs (before + length list.postings) (terms ++ list.term ∷ []) (message_end m) m.rest >>= λ later. Ok (record { lists = list ∷ later.lists; at = later.at; rest = later.rest }))) is
           ∙ regroup front l (lists_at n docs (before + length l.postings) (terms ++ l.term ∷ []) (message_end m) m.rest)
 
-module _ (total : Result DocsRead CiffRefusal) (left docs : ℕ) (table : List (Option DocData)) (at : ℕ) (s : List ℕ) (so_far : total ≡ docs_at left docs table at s) where
-  pub docs_end : left ≡ 0 → total ≡ Ok (record { table = table; at = at; rest = s })
+module _ (total : Result DocsRead CiffRefusal) (left docs : ℕ) (records : List NumberedDoc) (at : ℕ) (s : List ℕ) (so_far : total ≡ docs_at left docs records at s) where
+  pub docs_end : left ≡ 0 → total ≡ Ok (record { records = records; at = at; rest = s })
   unfolding docs_at
-  docs_end none = so_far ∙ ap (λ n. docs_at n docs table at s) none
+  docs_end none = so_far ∙ ap (λ n. docs_at n docs records at s) none
 
   module _ (n : ℕ) (more : left ≡ suc n) where
     abbrev next_docs : Message → Result DocsRead CiffRefusal
-    next_docs m = doc_at docs table at m >>= λ x. docs_at n docs (with_value table x.number x.doc) (message_end m) m.rest
+    next_docs m = doc_at docs (numbers_of records) at m >>= λ x. docs_at n docs (inserted x records) (message_end m) m.rest
 
     docs_begun : total ≡ (message_at at s >>= next_docs)
     unfolding docs_at
-    docs_begun = so_far ∙ ap (λ k. docs_at k docs table at s) more
+    docs_begun = so_far ∙ ap (λ k. docs_at k docs records at s) more
 
     pub docs_message_not : (answer : CiffFault) → Fails answer (message_at at s) → Fails answer total
     docs_message_not answer fails = fails_as answer _ _ (sym docs_begun) (fails_on answer (message_at at s) next_docs fails)
@@ -83,8 +80,8 @@ module _ (total : Result DocsRead CiffRefusal) (left docs : ℕ) (table : List (
       docs_entered : total ≡ next_docs m
       docs_entered = docs_begun ∙ ap (λ (r : Result Message CiffRefusal). r >>= next_docs) there
 
-      pub docs_doc_not : (answer : CiffFault) → Fails answer (doc_at docs table at m) → Fails answer total
-      docs_doc_not answer fails = fails_as answer _ _ (sym docs_entered) (fails_on answer (doc_at docs table at m) (λ x. docs_at n docs (with_value table x.number x.doc) (message_end m) m.rest) fails)
+      pub docs_doc_not : (answer : CiffFault) → Fails answer (doc_at docs (numbers_of records) at m) → Fails answer total
+      docs_doc_not answer fails = fails_as answer _ _ (sym docs_entered) (fails_on answer (doc_at docs (numbers_of records) at m) (λ x. docs_at n docs (inserted x records) (message_end m) m.rest) fails)
 
-      pub docs_on : (x : NumberedDoc) → doc_at docs table at m ≡ Ok x → total ≡ docs_at n docs (with_value table x.number x.doc) (message_end m) m.rest
-      docs_on x is = docs_entered ∙ ap (λ (r : Result NumberedDoc CiffRefusal). r >>= λ x. docs_at n docs (with_value table x.number x.doc) (message_end m) m.rest) is
+      pub docs_on : (x : NumberedDoc) → doc_at docs (numbers_of records) at m ≡ Ok x → total ≡ docs_at n docs (inserted x records) (message_end m) m.rest
+      docs_on x is = docs_entered ∙ ap (λ (r : Result NumberedDoc CiffRefusal). r >>= λ x. docs_at n docs (inserted x records) (message_end m) m.rest) is

@@ -33,7 +33,7 @@ module _ {R : Type 0} where
   values-set (None ∷ table) (suc n) r inside missing = values-set table n r (omega arith) missing
   values-set (Some x ∷ table) (suc n) r inside missing = ap suc (values-set table n r (omega arith) missing)
 
-  missing_is : (o : Option R) → is_some o ≡ false → o ≡ None
+  pub missing_is : (o : Option R) → is_some o ≡ false → o ≡ None
   missing_is None h = refl
   missing_is (Some x) h = absurd cc
 
@@ -42,16 +42,23 @@ module _ {R : Type 0} where
   nothing_there (suc n) zero = refl
   nothing_there (suc n) (suc k) = nothing_there n k
 
-  still_missing : (table : List (Option R)) (more n : ℕ) → get_or table n None ≡ None → get_or (table ++ replicate more None) n None ≡ None
+  pub none_past : (table : List (Option R)) (n : ℕ) → length table ≤ n → has_value table n ≡ false
+  none_past [] n past = refl
+  none_past (o ∷ table) zero past = absurd (omega arith)
+  none_past (o ∷ table) (suc n) past = none_past table n (omega arith)
+
+  pub still_missing : (table : List (Option R)) (more n : ℕ) → get_or table n None ≡ None → get_or (table ++ replicate more None) n None ≡ None
   still_missing [] more n missing = nothing_there more n
   still_missing (o ∷ table) more zero missing = missing
   still_missing (o ∷ table) more (suc n) missing = still_missing table more n missing
 
+  pub reaches_past : (table : List (Option R)) (n : ℕ) → n < length (reaching table n)
+  reaches_past table n = omega (arith, length-append table (replicate {A = Option R} (n + 1 - length table) None), length-replicate (n + 1 - length table) (let e : Option R = None in e))
+
   pub values-with : (table : List (Option R)) (n : ℕ) (r : R) → has_value table n ≡ false → length (values_of (with_value table n r)) ≡ length (values_of table) + 1
   values-with table n r new =
-      let inside : n < length (reaching table n) = omega (arith, length-append table (replicate {A = Option R} (n + 1 - length table) None), length-replicate (n + 1 - length table) (let e : Option R = None in e)) in
       let missing : get_or (reaching table n) n None ≡ None = still_missing table (n + 1 - length table) n (missing_is (get_or table n None) new) in
-      let more : length (values_of (with_value table n r)) ≡ suc (length (values_of (reaching table n))) = values-set (reaching table n) n r inside missing in
+      let more : length (values_of (with_value table n r)) ≡ suc (length (values_of (reaching table n))) = values-set (reaching table n) n r (reaches_past table n) missing in
       more ∙ ap (λ (rs : List R). suc (length rs)) (values-reaching table n) ∙ omega arith
 
 module _ {R X : Type 0} (f : R → X) where

@@ -1,6 +1,6 @@
 -- The first refusal of the values of a message, in the order of the format.
-use Rattle.std.specs.Prelude.{ℕ, ◌+◌, ◌^◌, ◌==◌, Bool, ◌&&◌, ◌||◌, not, List, [], ◌∷◌, ◌++◌, length, fold, Result, Ok, Err, Option, nat_lt, nat_le, if◌then◌else◌}
-use Rattle.std.specs.List.{list_all}
+use Rattle.std.specs.Prelude.{ℕ, ◌+◌, ◌^◌, ◌==◌, Bool, ◌&&◌, ◌||◌, not, List, [], ◌∷◌, ◌++◌, length, fold, map, Result, Ok, Err, nat_lt, nat_le, if◌then◌else◌}
+use Rattle.std.specs.List.{list_all, list_any}
 use Rattle.std.specs.Str.{is_utf8}
 use Rattle.jass_base.specs.declared.posting.Posting.{Posting}
 use Rattle.jass_base.specs.Wire.{WireField, number_field, text_field}
@@ -11,7 +11,6 @@ use Rattle.ciff_read.specs.declared.refusal.CiffWhy.TheVariants.{Range, Text, Tf
 use Rattle.ciff_read.specs.declared.refusal.CiffRefusal.{CiffRefusal}
 use Rattle.ciff_read.specs.Refusals.{◌>>=◌, placed}
 use Rattle.ciff_read.specs.Seen.{is_seen}
-use Rattle.ciff_read.specs.Table.{has_value}
 use Rattle.ciff_read.specs.Walking.{PlacedEntry}
 
 -- a header, and the numbers of lists and documents that follow
@@ -92,12 +91,20 @@ postings_of docs before entries = fold (gather docs before) (Ok []) entries
 abbrev pub is_name : List ℕ → Bool
 is_name name = not (length name == 0) && nat_le (length name) 1048576 && list_all (λ b. nat_lt 32 b && not (b == 127)) name
 
--- the record of a document in a file of so many, beside those of the table
-abbrev pub judge_doc : ℕ → List (Option DocData) → NumberedDoc → Result NumberedDoc CiffWhy
-judge_doc docs table x =
+-- the numbers of records
+abbrev pub numbers_of : List NumberedDoc → List ℕ
+numbers_of records = map (λ (r : NumberedDoc). r.number) records
+
+-- whether a number is one of these
+abbrev pub is_among : ℕ → List ℕ → Bool
+is_among number numbers = list_any (λ n. n == number) numbers
+
+-- the record of a document in a file of so many, behind records of these numbers
+abbrev pub judge_doc : ℕ → List ℕ → NumberedDoc → Result NumberedDoc CiffWhy
+judge_doc docs numbers x =
     if over31 x.number then Err Range
     else (if nat_le docs x.number then Err DocRange
-    else (if has_value table x.number then Err DocTwice
+    else (if is_among x.number numbers then Err DocTwice
     else (if not (is_utf8 x.doc.name) then Err Text
     else (if not (is_name x.doc.name) then Err NameText
     else (if over31 x.doc.length then Err Range

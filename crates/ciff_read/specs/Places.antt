@@ -1,5 +1,5 @@
 -- What the functions of the crate give, at places of the bytes.
-use Rattle.std.specs.Prelude.{ℕ, ◌≡◌, ◌<◌, ◌≤◌, List, [], length, drop, fold, map, Result, Ok, Err, Option, Some, None, slice_range}
+use Rattle.std.specs.Prelude.{ℕ, ◌≡◌, ◌<◌, ◌≤◌, suc, List, [], ◌∷◌, length, drop, fold, map, Result, Ok, Err, Option, Some, None, slice_range}
 use Rattle.std.specs.Option.{option_map}
 use Rattle.jass_base.specs.declared.posting.Posting.{Posting}
 use Rattle.jass_base.specs.Ciff.{DocData}
@@ -13,14 +13,13 @@ use Rattle.ciff_read.specs.declared.file_head.HeadFields.{HeadFields}
 use Rattle.ciff_read.specs.declared.gathered.Gathered.{Gathered}
 use Rattle.ciff_read.specs.declared.list_fields.ListFields.{ListFields}
 use Rattle.ciff_read.specs.declared.refusal.CiffRefusal.{CiffRefusal}
-use Rattle.ciff_read.specs.Judging.{FileStart, ListStart, NumberedDoc, gather}
-use Rattle.ciff_read.specs.Table.{with_value}
+use Rattle.ciff_read.specs.Judging.{FileStart, ListStart, NumberedDoc, numbers_of, gather}
 use Rattle.ciff_read.specs.Walking.{PlacedEntry, entry_inside}
 use Rattle.wire_fields.specs.declared.field.Field.{Field}
 use Rattle.wire_fields.specs.Places.{field_in}
 use Rattle.ciff_read.specs.declared.body.Body.{Body}
 use Rattle.ciff_read.specs.declared.refusal.CiffFault.{CiffFault}
-use Rattle.ciff_read.specs.Reading.{Message, ListsRead, DocsInOrder, message_at, list_walk_at, doc_at}
+use Rattle.ciff_read.specs.Reading.{Message, ListsRead, DocsInOrder, message_at, list_walk_at, doc_at, inserted}
 use Rattle.ciff_read.specs.Refusals.{Fails}
 
 -- the message whose body lies between two places
@@ -91,10 +90,20 @@ GathersField bytes at field (Err fault) old now = Fails fault (entry_inside at f
 abbrev pub table_of : Documents → List (Option DocData)
 table_of documents = map (option_map doc_data) documents.records.items
 
--- a document was read and put into the table
+-- the values of a table with their numbers, of which the first is given
+abbrev pub numbered_from : ℕ → List (Option DocData) → List NumberedDoc
+numbered_from n [] = []
+numbered_from n (None ∷ table) = numbered_from (suc n) table
+numbered_from n (Some doc ∷ table) = record { number = n; doc = doc } ∷ numbered_from (suc n) table
+
+-- the records so far, by rising numbers
+abbrev pub records_of : Documents → List NumberedDoc
+records_of documents = numbered_from 0 (table_of documents)
+
+-- a document was read and put to its place
 abbrev pub PutsDoc : List ℕ → ℕ → Body → ℕ → Result Unit CiffFault → Documents → Documents → Type 0
-PutsDoc bytes at body docs (Ok x) old now = (doc : NumberedDoc) × (doc_at docs (table_of old) at (message_in bytes body) ≡ Ok doc) × (table_of now ≡ with_value (table_of old) doc.number doc.doc)
-PutsDoc bytes at body docs (Err fault) old now = Fails fault (doc_at docs (table_of old) at (message_in bytes body))
+PutsDoc bytes at body docs (Ok x) old now = (doc : NumberedDoc) × (doc_at docs (numbers_of (records_of old)) at (message_in bytes body) ≡ Ok doc) × (records_of now ≡ inserted doc (records_of old))
+PutsDoc bytes at body docs (Err fault) old now = Fails fault (doc_at docs (numbers_of (records_of old)) at (message_in bytes body))
 
 -- lists, and the place behind them
 abbrev pub lists_in : List ℕ → List PostingsList × ℕ → ListsRead

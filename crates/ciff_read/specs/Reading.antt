@@ -1,13 +1,12 @@
 -- Reading a CIFF file from the left, message by message, with the first refusal and its place.
-use Rattle.std.specs.Prelude.{ℕ, zero, suc, ◌+◌, ◌-◌, ◌^◌, List, [], ◌∷◌, ◌++◌, length, take, drop, Option, Result, Ok, Err, nat_lt, if◌then◌else◌}
+use Rattle.std.specs.Prelude.{ℕ, zero, suc, ◌+◌, ◌-◌, ◌^◌, List, [], ◌∷◌, ◌++◌, length, map, take, drop, Result, Ok, Err, nat_lt, if◌then◌else◌}
 use Rattle.jass_base.specs.Ciff.{ListData, DocData, CollectionData}
 use Rattle.wire_fields.specs.Reading.{varint_at}
 use Rattle.ciff_read.specs.declared.refusal.CiffWhy.{CiffWhy}
 use Rattle.ciff_read.specs.declared.refusal.CiffWhy.TheVariants.{Cut, Limit, Trailing}
 use Rattle.ciff_read.specs.declared.refusal.CiffRefusal.{CiffRefusal}
-use Rattle.ciff_read.specs.Judging.{FileStart, ListStart, NumberedDoc, start_of, list_start_of, numbered_of, judge_header, judge_list, judge_doc, postings_of}
+use Rattle.ciff_read.specs.Judging.{FileStart, ListStart, NumberedDoc, start_of, list_start_of, numbered_of, judge_header, judge_list, judge_doc, numbers_of, postings_of}
 use Rattle.ciff_read.specs.Refusals.{◌>>=◌, placed, field_placed}
-use Rattle.ciff_read.specs.Table.{with_value, values_of}
 use Rattle.ciff_read.specs.Walking.{PlacedEntry, walk, nothing_inside, entry_inside}
 
 -- a message: the place of its body, the body, and the bytes behind it
@@ -57,9 +56,9 @@ list_at docs before terms at m =
     postings_of docs before walked.entries >>= λ postings.
     Ok (record { term = start.term; df = start.df; cf = start.cf; postings = postings })
 
--- a document in a file of so many, beside those of a table
-unfoldable pub doc_at : ℕ → List (Option DocData) → ℕ → Message → Result NumberedDoc CiffRefusal
-doc_at docs table at m = numbered_at m.from m.body >>= λ x. placed at (judge_doc docs table x)
+-- a document in a file of so many, behind records of these numbers
+unfoldable pub doc_at : ℕ → List ℕ → ℕ → Message → Result NumberedDoc CiffRefusal
+doc_at docs numbers at m = numbered_at m.from m.body >>= λ x. placed at (judge_doc docs numbers x)
 
 -- lists, the place behind them, and the bytes there
 pub record ListsRead : Type 0 where
@@ -76,29 +75,35 @@ lists_at (suc n) docs before terms at s =
     lists_at n docs (before + length list.postings) (terms ++ list.term ∷ []) (message_end m) m.rest >>= λ later.
     Ok (record { lists = list ∷ later.lists; at = later.at; rest = later.rest })
 
--- documents by number, the place behind them, and the bytes there
+-- a record at its place among others, all by rising numbers
+abbrev pub inserted : NumberedDoc → List NumberedDoc → List NumberedDoc
+inserted x [] = x ∷ []
+inserted x (r ∷ records) = if nat_lt r.number x.number then r ∷ inserted x records else x ∷ r ∷ records
+
+-- records by rising numbers, the place behind them, and the bytes there
 pub record DocsRead : Type 0 where
-  pub table : List (Option DocData)
+  pub records : List NumberedDoc
   pub at : ℕ
   pub rest : List ℕ
 
--- the records of so many documents, beside those of the table
-unfoldable pub docs_at : ℕ → ℕ → List (Option DocData) → ℕ → List ℕ → Result DocsRead CiffRefusal
-docs_at zero docs table at s = Ok (record { table = table; at = at; rest = s })
-docs_at (suc n) docs table at s =
+-- so many documents' records, among those that came before
+unfoldable pub docs_at : ℕ → ℕ → List NumberedDoc → ℕ → List ℕ → Result DocsRead CiffRefusal
+docs_at zero docs records at s = Ok (record { records = records; at = at; rest = s })
+docs_at (suc n) docs records at s =
     message_at at s >>= λ m.
-    doc_at docs table at m >>= λ x.
-    docs_at n docs (with_value table x.number x.doc) (message_end m) m.rest
+    doc_at docs (numbers_of records) at m >>= λ x.
+    docs_at n docs (inserted x records) (message_end m) m.rest
 
--- so many documents by rising numbers, the place behind them, and the bytes there
+-- documents by rising numbers, the place behind them, and the bytes there
 pub record DocsInOrder : Type 0 where
   pub docs : List DocData
   pub at : ℕ
   pub rest : List ℕ
 
 abbrev pub docs_in_order : DocsRead → DocsInOrder
-docs_in_order x = record { docs = values_of x.table; at = x.at; rest = x.rest }
+docs_in_order x = record { docs = map (λ (r : NumberedDoc). r.doc) x.records; at = x.at; rest = x.rest }
 
+-- so many documents, each of another number
 abbrev pub all_docs_at : ℕ → ℕ → List ℕ → Result DocsInOrder CiffRefusal
 all_docs_at count at s = docs_at count count [] at s >>= λ x. Ok (docs_in_order x)
 

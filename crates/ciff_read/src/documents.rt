@@ -1,4 +1,6 @@
 ghost use Rattle.std.specs.Prelude.{◌≡◌, [], length, IfOk, OnOk};
+ghost use Rattle.ciff_read.specs.Judging.{numbers_of, is_among};
+ghost use Rattle.ciff_read.specs.Places.{records_of};
 ghost use Rattle.ciff_read.specs.Table.{has_value, with_value, values_of};
 
 use jass_base::{DocRecord, NoMemory, Row};
@@ -21,8 +23,10 @@ impl Documents {
     }
 
     /// Whether the document's record is there.
+    #[tactic(auto, using(crate::proofs::Numbered::among_records))]
     pub fn has(&self, doc: u32) -> bool
-        ensures { result ≡ has_value self.now.records.items doc }
+        ensures place { result ≡ has_value self.now.records.items doc }
+        ensures among { result ≡ is_among doc (numbers_of (records_of self.now)) }
     {
         let place = doc as usize;
         place < self.records.len() && self.records[place].is_some()

@@ -1,13 +1,16 @@
-use Rattle.std.proofs.Common.{◌∙◌, ◌≡◌, ◌+◌, ◌-◌, ap, sym, arith, suc, [], drop, length, map, option_map, List, Option, Result, Ok}
+use Rattle.std.proofs.Common.{◌∙◌, ◌≡◌, ◌+◌, ◌-◌, ap, sym, arith, suc, [], drop, length, map, List, Result, Ok}
 use Rattle.jass_base.specs.declared.doc_record.DocRecord.{DocRecord}
 use Rattle.jass_base.specs.Ciff.{DocData}
 use Rattle.jass_base.specs.CiffViews.{doc_data}
 use Rattle.ciff_read.specs.declared.refusal.CiffRefusal.{CiffRefusal}
-use Rattle.ciff_read.specs.Places.{message_in, table_of}
-use Rattle.ciff_read.specs.Reading.{DocsRead, docs_at, docs_in_order}
+use Rattle.ciff_read.specs.Judging.{NumberedDoc}
+use Rattle.ciff_read.specs.Places.{message_in, table_of, records_of}
+use Rattle.ciff_read.specs.Reading.{DocsRead, docs_at, inserted, docs_in_order}
 use Rattle.ciff_read.specs.Refusals.{◌>>=◌}
-use Rattle.ciff_read.specs.Table.{values_of, with_value}
 use Rattle.ciff_read.proofs.Answering.{fails_on}
+use Rattle.std.proofs.lemmas.List.{length-map}
+use Rattle.ciff_read.specs.Table.{values_of}
+use Rattle.ciff_read.proofs.Numbered.{docs_from, length_from}
 use Rattle.ciff_read.proofs.Sequences.{docs_end, docs_message_not, docs_doc_not, docs_on, end_there}
 use Rattle.ciff_read.proofs.Tables.{map-values}
 use Rattle.ciff_read.proofs.collection.read_documents.Goals as goal
@@ -16,14 +19,14 @@ pub returns-in-Err-clause-exact : goal.returns-in-Err-clause-exact
 returns-in-Err-clause-exact c =
     let total = docs_at c.args.count c.args.count [] c.args.from (drop c.args.from c.args.bytes.now) in
     let more : c.args.count - c.documents.counter ≡ suc (c.args.count - (c.documents.counter + 1)) = omega arith in
-    fails_on c.in-Err.fault total (λ x. Ok (docs_in_order x)) (docs_message_not total (c.args.count - c.documents.counter) c.args.count (table_of c.documents.documents) c.documents.at (drop c.documents.at c.args.bytes.now) c.documents.invariant.read (c.args.count - (c.documents.counter + 1)) more c.in-Err.fault c.in-Err.ensures)
+    fails_on c.in-Err.fault total (λ x. Ok (docs_in_order x)) (docs_message_not total (c.args.count - c.documents.counter) c.args.count (records_of c.documents.documents) c.documents.at (drop c.documents.at c.args.bytes.now) c.documents.invariant.read (c.args.count - (c.documents.counter + 1)) more c.in-Err.fault c.in-Err.ensures)
 
 pub returns-in-Err-read_document-clause-exact : goal.returns-in-Err-read_document-clause-exact
 returns-in-Err-read_document-clause-exact c =
     let total = docs_at c.args.count c.args.count [] c.args.from (drop c.args.from c.args.bytes.now) in
     let more : c.args.count - c.documents.counter ≡ suc (c.args.count - (c.documents.counter + 1)) = omega arith in
     fails_on c.in-Err-read_document.fault total (λ x. Ok (docs_in_order x))
-    (docs_doc_not total (c.args.count - c.documents.counter) c.args.count (table_of c.documents.documents) c.documents.at (drop c.documents.at c.args.bytes.now) c.documents.invariant.read (c.args.count - (c.documents.counter + 1)) more (message_in c.args.bytes.now c.in-Ok.body) c.in-Ok.ensures.0 c.in-Err-read_document.fault c.in-Err-read_document.ensures.exact)
+    (docs_doc_not total (c.args.count - c.documents.counter) c.args.count (records_of c.documents.documents) c.documents.at (drop c.documents.at c.args.bytes.now) c.documents.invariant.read (c.args.count - (c.documents.counter + 1)) more (message_in c.args.bytes.now c.in-Ok.body) c.in-Ok.ensures.0 c.in-Err-read_document.fault c.in-Err-read_document.ensures.exact)
 
 pub documents-preserved : goal.documents-preserved
 documents-preserved c =
@@ -34,9 +37,9 @@ documents-preserved c =
     let x = put.0 in
     let rest = drop c.in-Ok.body.end c.args.bytes.now in
     record {
-      read = docs_on total (c.args.count - c.documents.counter) c.args.count (table_of c.documents.documents) c.documents.at (drop c.documents.at c.args.bytes.now) c.documents.invariant.read left more (message_in c.args.bytes.now c.in-Ok.body) c.in-Ok.ensures.0 x put.1
-          ∙ ap (λ n. docs_at left c.args.count (with_value (table_of c.documents.documents) x.number x.doc) n rest) (end_there c.args.bytes.now c.in-Ok.body c.in-Ok.ensures.2)
-          ∙ ap (λ (t : List (Option DocData)). docs_at left c.args.count t c.in-Ok.body.end rest) (sym put.2);
+      read = docs_on total (c.args.count - c.documents.counter) c.args.count (records_of c.documents.documents) c.documents.at (drop c.documents.at c.args.bytes.now) c.documents.invariant.read left more (message_in c.args.bytes.now c.in-Ok.body) c.in-Ok.ensures.0 x put.1
+          ∙ ap (λ n. docs_at left c.args.count (inserted x (records_of c.documents.documents)) n rest) (end_there c.args.bytes.now c.in-Ok.body c.in-Ok.ensures.2)
+          ∙ ap (λ (rs : List NumberedDoc). docs_at left c.args.count rs c.in-Ok.body.end rest) (sym put.2);
       within = c.in-Ok.ensures.2;
       count = c.in-Ok-read_document.ensures.one ∙ omega (arith, c.documents.invariant.count);
     }
@@ -46,5 +49,10 @@ returns-in-Ok-into_row-clause-exact c =
     let total = docs_at c.args.count c.args.count [] c.args.from (drop c.args.from c.args.bytes.now) in
     let none : c.args.count - c.documents.counter ≡ 0 = omega arith in
     let table = c.documents.documents.records.items in
-    ap (λ (r : Result DocsRead CiffRefusal). r >>= λ x. Ok (docs_in_order x)) (docs_end total (c.args.count - c.documents.counter) c.args.count (table_of c.documents.documents) c.documents.at (drop c.documents.at c.args.bytes.now) c.documents.invariant.read none)
-    ∙ ap (λ (ds : List DocData). Ok (record { docs = ds; at = c.documents.at; rest = drop c.documents.at c.args.bytes.now })) (map-values doc_data table ∙ ap (λ (ds : List DocRecord). map doc_data ds) (sym c.in-Ok-into_row.ensures))
+    ap (λ (r : Result DocsRead CiffRefusal). r >>= λ x. Ok (docs_in_order x)) (docs_end total (c.args.count - c.documents.counter) c.args.count (records_of c.documents.documents) c.documents.at (drop c.documents.at c.args.bytes.now) c.documents.invariant.read none)
+    ∙ ap (λ (ds : List DocData). Ok (record { docs = ds; at = c.documents.at; rest = drop c.documents.at c.args.bytes.now })) (docs_from 0 (table_of c.documents.documents) ∙ map-values doc_data table ∙ ap (λ (ds : List DocRecord). map doc_data ds) (sym c.in-Ok-into_row.ensures))
+
+pub returns-in-Ok-into_row-clause-count : goal.returns-in-Ok-into_row-clause-count
+returns-in-Ok-into_row-clause-count c =
+    let table = c.documents.documents.records.items in
+    ap (λ (rs : List DocRecord). length rs) c.in-Ok-into_row.ensures ∙ sym (length_from (table_of c.documents.documents) ∙ ap (λ (ds : List DocData). length ds) (map-values doc_data table) ∙ length-map (values_of table) doc_data) ∙ c.documents.invariant.count ∙ omega arith

@@ -1,12 +1,11 @@
 use Rattle.std.proofs.Common.{◌≡◌, ◌-◌, ◌≤◌, [], length, drop}
-use Rattle.ciff_read.specs.Places.{table_of}
+use Rattle.ciff_read.specs.Places.{records_of}
 use Rattle.ciff_read.specs.Reading.{docs_at}
-use Rattle.ciff_read.specs.Table.{values_of}
 use Rattle.ciff_read.proofs.collection.read_documents.Given as goal
 
 abbrev pub invariant-documents : goal.invariant-documents
 invariant-documents l = record {
-  read : docs_at l.count l.count [] l.from (drop l.from l.bytes) ≡ docs_at (l.count - l.counter) l.count (table_of l.documents) l.at (drop l.at l.bytes);
+  read : docs_at l.count l.count [] l.from (drop l.from l.bytes) ≡ docs_at (l.count - l.counter) l.count (records_of l.documents) l.at (drop l.at l.bytes);
   within : l.at ≤ length l.bytes;
-  count : length (values_of l.documents.records.items) ≡ l.counter;
+  count : length (records_of l.documents) ≡ l.counter;
 }
