@@ -19,7 +19,7 @@ use Rattle.query_reader.specs.Refusals.{◌>>=◌, at_line, Fails, Gives, LineFa
 use Rattle.query_reader.specs.Queries.{QueryData, query_data, query_lines}
 use Rattle.query_reader.specs.Reading.{read_line, read_lines, read_query_file}
 
-judged-file : (bytes : List ℕ) (mode : Mode) (terms : List (List ℕ)) (long : Bool) → nat_lt (2 ^ 28) (length bytes) ≡ long
+pub judged-file : (bytes : List ℕ) (mode : Mode) (terms : List (List ℕ)) (long : Bool) → nat_lt (2 ^ 28) (length bytes) ≡ long
     → read_query_file bytes mode terms ≡ cond long (Err (record { line = 0; why = FileLong })) (read_lines mode terms (query_lines bytes))
 unfolding read_query_file
 judged-file bytes mode terms long is = ap (λ (b : Bool). cond b (let r : Result (List QueryData) QueryRefusal = Err (record { line = 0; why = FileLong }) in r) (read_lines mode terms (query_lines bytes))) is
@@ -54,12 +54,12 @@ pub at-start : (bytes : List ℕ) (mode : Mode) (terms : List (List ℕ)) (lines
 at-start bytes mode terms lines few same =
     no-front (read_lines mode terms (with_bytes lines)) ∙ ap (read_lines mode terms) same ∙ sym (short-file bytes mode terms few)
 
-one-line : (mode : Mode) (terms : List (List ℕ)) (line : LineData) (lines : List LineData)
+pub one-line : (mode : Mode) (terms : List (List ℕ)) (line : LineData) (lines : List LineData)
     → read_lines mode terms (line ∷ lines) ≡ (at_line line.number (read_line mode terms line.bytes) >>= λ query. read_lines mode terms lines >>= λ queries. Ok (query ∷ queries))
 unfolding read_lines
 one-line mode terms line lines = refl
 
-no-line : (mode : Mode) (terms : List (List ℕ)) → read_lines mode terms [] ≡ Ok []
+pub no-line : (mode : Mode) (terms : List (List ℕ)) → read_lines mode terms [] ≡ Ok []
 unfolding read_lines
 no-line mode terms = refl
 

@@ -4,6 +4,7 @@ pub mod Tallies
 pub mod Words
 pub mod Limits
 pub mod Runs
+pub mod QueryLaws
 pub mod FileReading
 pub mod LineReading
 pub mod Tallying

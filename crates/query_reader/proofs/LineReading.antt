@@ -17,10 +17,10 @@ use Rattle.query_reader.specs.Refusals.{◌>>=◌}
 use Rattle.query_reader.specs.Queries.{QueryData, id_of, text_of}
 use Rattle.query_reader.specs.Reading.{unless, line_fault, read_line, read_mentions}
 
-abbrev checks : Bool → Bool → Bool → Option QueryWhy
+abbrev pub checks : Bool → Bool → Bool → Option QueryWhy
 checks long utf8 id = cond long (Some LineLong) (cond (not utf8) (Some Text) (cond (not id) (Some NoId) None))
 
-checked : (line : List ℕ) (long utf8 id : Bool) → nat_lt 1048576 (length line) ≡ long → is_utf8 line ≡ utf8 → has_items (id_of line) ≡ id → line_fault line ≡ checks long utf8 id
+pub checked : (line : List ℕ) (long utf8 id : Bool) → nat_lt 1048576 (length line) ≡ long → is_utf8 line ≡ utf8 → has_items (id_of line) ≡ id → line_fault line ≡ checks long utf8 id
 unfolding line_fault
 checked line long utf8 id a b c = ap (λ (x : Bool). checks x (is_utf8 line) (has_items (id_of line))) a ∙ ap (λ (x : Bool). checks long x (has_items (id_of line))) b ∙ ap (checks long utf8) c
 
@@ -28,7 +28,7 @@ judged : (mode : Mode) (terms : List (List ℕ)) (line : List ℕ) → read_line
 unfolding read_line
 judged mode terms line = refl
 
-after-fault : (mode : Mode) (terms : List (List ℕ)) (line : List ℕ) (o : Option QueryWhy) → line_fault line ≡ o → read_line mode terms line ≡ (unless o (mentions_of mode (text_of line)) >>= λ mentions. read_mentions terms (id_of line) mentions)
+pub after-fault : (mode : Mode) (terms : List (List ℕ)) (line : List ℕ) (o : Option QueryWhy) → line_fault line ≡ o → read_line mode terms line ≡ (unless o (mentions_of mode (text_of line)) >>= λ mentions. read_mentions terms (id_of line) mentions)
 after-fault mode terms line o is = judged mode terms line ∙ ap (λ f. unless f (mentions_of mode (text_of line)) >>= λ mentions. read_mentions terms (id_of line) mentions) is
 
 is-long : (n : ℕ) → 1048576 < n → nat_lt 1048576 n ≡ true
@@ -38,7 +38,7 @@ is-long n more = here (nat_lt 1048576 n) refl
     here true e = refl
     here false e = absurd (omega (arith, more, ltb-false 1048576 n e))
 
-is-short : (n : ℕ) → n ≤ 1048576 → nat_lt 1048576 n ≡ false
+pub is-short : (n : ℕ) → n ≤ 1048576 → nat_lt 1048576 n ≡ false
 is-short n few = here (nat_lt 1048576 n) refl
   where
     here : (b : Bool) → nat_lt 1048576 n ≡ b → b ≡ false

@@ -21,7 +21,7 @@ use Rattle.query_reader.proofs.Counting.{then-counted, none-counted}
 abbrev pub tally_of : List (List ℕ) → List Mention → TallyData
 tally_of terms mentions = record { named = named_of terms mentions; unknown = unknown_of terms mentions }
 
-abbrev with_one : List Mention → Mention → List Mention
+abbrev pub with_one : List Mention → Mention → List Mention
 with_one before m = before ++ m ∷ []
 
 unknown-one : (terms : List (List ℕ)) (before : List Mention) (m : Mention) (number : Option ℕ) → term_number terms m ≡ number → unknown_of terms (with_one before m) ≡ unknown_of terms before + cond (is_none number) 1 0
@@ -51,11 +51,11 @@ one-more terms before m none = at (term_number terms m) refl
         ap (λ ns. unless (broken_limit ns) (let t : TallyData = record { named = ns; unknown = unknown_of terms before } in t)) (sym named)
         ∙ ap (λ n. unless (broken_limit (named_of terms (with_one before m))) (let t : TallyData = record { named = named_of terms (with_one before m); unknown = n } in t)) count
 
-broken-first : (terms : List (List ℕ)) (before : List Mention) (m : Mention) (ms : List Mention) → first_broken terms before (m ∷ ms) ≡ first_of (broken_limit (named_of terms (with_one before m))) (first_broken terms (with_one before m) ms)
+pub broken-first : (terms : List (List ℕ)) (before : List Mention) (m : Mention) (ms : List Mention) → first_broken terms before (m ∷ ms) ≡ first_of (broken_limit (named_of terms (with_one before m))) (first_broken terms (with_one before m) ms)
 unfolding first_broken
 broken-first terms before m ms = refl
 
-broken-none : (terms : List (List ℕ)) (before : List Mention) → first_broken terms before [] ≡ None
+pub broken-none : (terms : List (List ℕ)) (before : List Mention) → first_broken terms before [] ≡ None
 unfolding first_broken
 broken-none terms before = refl
 

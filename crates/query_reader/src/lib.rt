@@ -7,6 +7,7 @@
 pub mod examples;
 mod file;
 mod folded;
+pub mod laws;
 mod line;
 mod mode;
 mod naming;
