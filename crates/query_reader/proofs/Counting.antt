@@ -1,8 +1,7 @@
 -- Mentions counted in one after the other.
-use Rattle.std.proofs.Common.{◌≡◌, ℕ, ◌+◌, ◌<◌, ◌≤◌, Bool, true, false, cond, List, [], ◌∷◌, ◌++◌, length, map, refl, ap, sym, subst, ◌∙◌, arith}
+use Rattle.std.proofs.Common.{◌≡◌, ℕ, ◌+◌, ◌≤◌, List, [], ◌∷◌, map, refl, ap, sym, subst, ◌∙◌, arith}
 use Rattle.std.specs.Prelude.{Option, Some, None, Result, Ok, Err}
 use Rattle.std.specs.Result.{IsErrAnd}
-use Rattle.jass_base.specs.declared.named.Named.{Named}
 use Rattle.query_reader.specs.declared.refusal.QueryWhy.{QueryWhy}
 use Rattle.query_reader.specs.declared.refusal.LineFault.{LineFault}
 use Rattle.query_reader.specs.declared.refusal.LineFault.TheVariants.{Refused, NoMemory}

@@ -1,21 +1,18 @@
 -- The queries of a file, line by line.
-use Rattle.std.proofs.Common.{◌≡◌, ℕ, ◌+◌, ◌<◌, ◌≤◌, ◌^◌, Bool, true, false, cond, List, [], ◌∷◌, ◌++◌, length, map, refl, ap, sym, subst, ◌∙◌, arith, append_assoc}
+use Rattle.std.proofs.Common.{◌≡◌, ℕ, ◌<◌, ◌≤◌, ◌^◌, Bool, true, false, cond, List, [], ◌∷◌, ◌++◌, length, map, refl, ap, sym, subst, ◌∙◌, arith, append_assoc}
 use Rattle.std.proofs.lemmas.Bool.{ltb-true, ltb-false}
 use Rattle.std.proofs.lemmas.List.{append-nil, map-append}
-use Rattle.std.specs.Prelude.{Option, Some, None, Result, Ok, Err, nat_lt, filter, All}
+use Rattle.std.specs.Prelude.{Result, Ok, Err, nat_lt, filter}
 use Rattle.std.specs.List.{AllByRecursion}
-use Rattle.jass_base.specs.declared.named.Named.{Named}
 use Rattle.jass_base.specs.declared.query.Query.{Query}
 use Rattle.text_lines.specs.Lines.{LineData}
 use Rattle.query_reader.specs.declared.mode.Mode.{Mode}
-use Rattle.query_reader.specs.declared.refusal.QueryWhy.{QueryWhy}
 use Rattle.query_reader.specs.declared.refusal.QueryWhy.TheVariants.{FileLong}
 use Rattle.query_reader.specs.declared.refusal.QueryRefusal.{QueryRefusal}
-use Rattle.query_reader.specs.declared.refusal.QueryFault.{QueryFault}
 use Rattle.query_reader.specs.declared.refusal.LineFault.{LineFault}
 use Rattle.query_reader.specs.declared.refusal.LineFault.TheVariants.{Refused, NoMemory}
 use Rattle.query_reader.specs.Texts.{has_items}
-use Rattle.query_reader.specs.Refusals.{◌>>=◌, at_line, Fails, Gives, LineFails, LineGives, fault_at}
+use Rattle.query_reader.specs.Refusals.{◌>>=◌, at_line, Fails, LineFails, fault_at}
 use Rattle.query_reader.specs.Queries.{QueryData, query_data, query_lines}
 use Rattle.query_reader.specs.Reading.{read_line, read_lines, read_query_file}
 

@@ -1,6 +1,5 @@
 pub mod Facts
 pub mod Named
-pub mod Tallies
 pub mod Words
 pub mod Limits
 pub mod Runs

@@ -1,20 +1,19 @@
 -- The checks of a line in their order.
-use Rattle.std.proofs.Common.{◌≡◌, ℕ, zero, suc, ◌+◌, ◌<◌, ◌≤◌, Bool, true, false, not, cond, List, [], ◌∷◌, length, take, drop, get_or, refl, ap, sym, subst, ◌∙◌, arith}
-use Rattle.std.proofs.lemmas.Bool.{true≢false, ltb-true, ltb-false}
+use Rattle.std.proofs.Common.{◌≡◌, ℕ, zero, suc, ◌<◌, ◌≤◌, Bool, true, false, not, cond, List, [], ◌∷◌, length, take, drop, get_or, refl, ap, sym, ◌∙◌, arith}
+use Rattle.std.proofs.lemmas.Bool.{ltb-true, ltb-false}
 use Rattle.std.proofs.lemmas.List.Sums.{position_or_len_is}
 use Rattle.std.proofs.lemmas.Str.{IsUtf8-from_is_utf8, is_utf8-from_IsUtf8}
-use Rattle.std.specs.Prelude.{Option, Some, None, Result, Ok, Err, nat_lt, slice_index}
-use Rattle.std.specs.List.{position_or_len, before_first}
+use Rattle.std.specs.Prelude.{Option, Some, None, Err, nat_lt}
+use Rattle.std.specs.List.{position_or_len}
 use Rattle.std.specs.Option.{unwrap_or}
 use Rattle.std.specs.Str.{is_utf8, IsUtf8}
 use Rattle.memchr.specs.Find.{IsFirstByte, is_byte2}
 use Rattle.query_reader.specs.declared.mode.Mode.{Mode}
 use Rattle.query_reader.specs.declared.refusal.QueryWhy.{QueryWhy}
 use Rattle.query_reader.specs.declared.refusal.QueryWhy.TheVariants.{Text, NoId, LineLong}
-use Rattle.query_reader.specs.Mentions.{Mention}
 use Rattle.query_reader.specs.Texts.{has_items, is_blank, mentions_of}
 use Rattle.query_reader.specs.Refusals.{◌>>=◌}
-use Rattle.query_reader.specs.Queries.{QueryData, id_of, text_of}
+use Rattle.query_reader.specs.Queries.{id_of, text_of}
 use Rattle.query_reader.specs.Reading.{unless, line_fault, read_line, read_mentions}
 
 abbrev pub checks : Bool → Bool → Bool → Option QueryWhy

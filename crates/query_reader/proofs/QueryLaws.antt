@@ -1,7 +1,6 @@
 -- Reading gives the queries that mentions, lines and files stand for, and no others.
-use Rattle.std.proofs.Common.{◌≡◌, ◌≢◌, ℕ, zero, suc, ◌+◌, ◌<◌, ◌≤◌, ◌^◌, Bool, true, false, eqb, cond, List, [], ◌∷◌, ◌++◌, length, refl, ap, sym, subst, ◌∙◌, arith, append_assoc}
+use Rattle.std.proofs.Common.{◌≡◌, ◌≢◌, ℕ, suc, ◌+◌, ◌≤◌, ◌^◌, Bool, true, false, eqb, cond, List, [], ◌∷◌, ◌++◌, length, refl, ap, sym, subst, ◌∙◌, arith, append_assoc}
 use Rattle.std.proofs.lemmas.Bool.{true≢false, ltb-true, ltb-false}
-use Rattle.std.proofs.lemmas.Bool.Decides.{nat_tests}
 use Rattle.std.proofs.lemmas.List.{append-nil}
 use Rattle.std.proofs.lemmas.List.Elements.{All-from_recursion, recursion_from_All}
 use Rattle.std.proofs.lemmas.Str.{IsUtf8-from_is_utf8, is_utf8-from_IsUtf8}
@@ -17,7 +16,7 @@ use Rattle.query_reader.specs.Mentions.{Mention, term_number, named_of, unknown_
 use Rattle.query_reader.specs.Texts.{has_items, mentions_of}
 use Rattle.query_reader.specs.Refusals.{◌>>=◌, at_line}
 use Rattle.query_reader.specs.Queries.{QueryData, IsQuery, IsQueryLine, IsQueryFile, AreQueryLines, id_of, text_of, query_lines}
-use Rattle.query_reader.specs.Reading.{broken_limit, first_of, first_broken, unless, read_mentions, line_fault, read_line, read_lines, read_query_file}
+use Rattle.query_reader.specs.Reading.{broken_limit, first_of, first_broken, unless, read_mentions, read_line, read_lines, read_query_file}
 use Rattle.query_reader.specs.Tally.{tallied}
 use Rattle.query_reader.proofs.Named.{named-known, named-unknown}
 use Rattle.query_reader.proofs.Limits.{over, limit-none, within-limits}
@@ -98,7 +97,7 @@ few-times : (ns : List Named) → list_any over ns ≡ false → AllByRecursion 
 few-times [] none = tt
 few-times (n ∷ ns) none = let h = neither (over n) (list_any over ns) none in (ltb-false 255 n.times h.0, few-times ns h.1)
 
-few-over : (ns : List Named) → AllByRecursion (λ (n : Named). n.times ≤ 255) ns → list_any over ns ≡ false
+pub few-over : (ns : List Named) → AllByRecursion (λ (n : Named). n.times ≤ 255) ns → list_any over ns ≡ false
 few-over [] few = refl
 few-over (n ∷ ns) few = both (over n) (list_any over ns) (at (over n) refl) (few-over ns few.1)
   where

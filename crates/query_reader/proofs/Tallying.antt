@@ -1,10 +1,9 @@
 -- Mentions counted in one after the other name what all of them name.
-use Rattle.std.proofs.Common.{◌≡◌, ℕ, ◌+◌, ◌<◌, ◌≤◌, Bool, true, false, cond, List, [], ◌∷◌, ◌++◌, length, map, refl, ap, sym, subst, ◌∙◌, arith, append_assoc}
+use Rattle.std.proofs.Common.{◌≡◌, ℕ, ◌+◌, cond, List, [], ◌∷◌, ◌++◌, refl, ap, sym, subst, ◌∙◌, arith, append_assoc}
 use Rattle.std.proofs.lemmas.List.{append-nil}
 use Rattle.std.proofs.lemmas.List.Sums.{sum_by-append}
-use Rattle.std.specs.Prelude.{Option, Some, None, Result, Ok, Err, is_none, All, AllPairs}
+use Rattle.std.specs.Prelude.{Option, Some, None, Result, Ok, Err, is_none}
 use Rattle.std.specs.Result.{IsErrAnd}
-use Rattle.std.specs.List.{AllByRecursion}
 use Rattle.jass_base.specs.declared.named.Named.{Named}
 use Rattle.query_reader.specs.declared.refusal.QueryWhy.{QueryWhy}
 use Rattle.query_reader.specs.declared.refusal.LineFault.{LineFault}
@@ -13,7 +12,7 @@ use Rattle.query_reader.specs.Mentions.{Mention, term_number, named_of, unknown_
 use Rattle.query_reader.specs.Refusals.{◌>>=◌, LineFails, LineGives}
 use Rattle.query_reader.specs.Queries.{QueryData}
 use Rattle.query_reader.specs.Reading.{broken_limit, first_of, first_broken, unless, read_mentions}
-use Rattle.query_reader.specs.Tally.{TallyData, tallied, counted_in, all_counted_in}
+use Rattle.query_reader.specs.Tally.{TallyData, counted_in, all_counted_in}
 use Rattle.query_reader.proofs.Named.{named-known, named-unknown}
 use Rattle.query_reader.proofs.Counting.{then-counted, none-counted}
 

@@ -1,12 +1,10 @@
 -- The runs of letters and digits in a text, each with its factor.
-use Rattle.std.proofs.Common.{◌≡◌, ℕ, zero, suc, ◌+◌, ◌-◌, ◌<◌, ◌≤◌, Bool, true, false, not, cond, List, [], ◌∷◌, ◌++◌, length, take, drop, get_or, refl, ap, sym, subst, ◌∙◌, arith, length-append}
-use Rattle.std.proofs.lemmas.Bool.{true≢false, eqb-true}
-use Rattle.std.proofs.lemmas.List.{append-nil, length-drop, take_all, drop_all}
-use Rattle.std.specs.Prelude.{Option, Some, None, ◌==◌, slice_index}
+use Rattle.std.proofs.Common.{◌≡◌, ℕ, suc, ◌+◌, ◌-◌, ◌≤◌, Bool, true, false, not, cond, List, [], ◌∷◌, ◌++◌, length, take, drop, refl, ap, sym, subst, ◌∙◌, arith, length-append}
+use Rattle.std.proofs.lemmas.List.{length-drop, take_all, drop_all}
+use Rattle.std.specs.Prelude.{Some, None, ◌==◌}
 use Rattle.std.specs.List.{AllByRecursion, position_or_len}
-use Rattle.query_reader.specs.Mentions.{Mention}
-use Rattle.query_reader.specs.Texts.{Part, has_items, is_word, is_no_word, onto_first_part, parts_of, folded_parts, folded_mentions, folded_term, with_factor, factor_behind, factor_of}
-use Rattle.query_reader.specs.Slices.{BeginsWithout, IsWordRun, HasWordRun, TakesFactor}
+use Rattle.query_reader.specs.Texts.{Part, is_word, onto_first_part, parts_of, folded_parts, folded_mentions, folded_term, with_factor, factor_of}
+use Rattle.query_reader.specs.Slices.{BeginsWithout, IsWordRun}
 
 abbrev part : List ℕ → Bool → Part
 part run caret = record { run = run; caret = caret }

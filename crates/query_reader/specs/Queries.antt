@@ -1,5 +1,5 @@
 -- What a query is, and which queries a file holds. This project's.
-use Rattle.std.specs.Prelude.{ℕ, ◌≡◌, ◌≢◌, ◌≤◌, ◌^◌, ⊤, List, [], ◌∷◌, length, map, filter, All}
+use Rattle.std.specs.Prelude.{ℕ, ◌≡◌, ◌≢◌, ◌≤◌, ◌^◌, ⊤, List, [], ◌∷◌, length, filter, All}
 use Rattle.std.specs.List.{before_first, position_or_len}
 use Rattle.std.specs.Prelude.{drop}
 use Rattle.std.specs.Str.{IsUtf8}

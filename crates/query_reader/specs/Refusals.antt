@@ -1,5 +1,5 @@
 -- Why a text is no query and a file no query file.
-use Rattle.std.specs.Prelude.{ℕ, ◌≡◌, ⊤, Result, Ok, Err, List, map}
+use Rattle.std.specs.Prelude.{ℕ, ◌≡◌, ⊤, Result, Ok, Err}
 use Rattle.query_reader.specs.declared.refusal.QueryWhy.{QueryWhy}
 use Rattle.query_reader.specs.declared.refusal.QueryWhy.TheVariants.{Text, NoId, Terms, Times, LineLong, FileLong}
 use Rattle.query_reader.specs.declared.refusal.QueryRefusal.{QueryRefusal}

@@ -1,5 +1,5 @@
 -- One mention more. This project's.
-use Rattle.std.specs.Prelude.{ℕ, ◌+◌, ◌≡◌, ◌==◌, ⊤, List, [], ◌∷◌, Option, Some, None, Result, Ok, Err, if◌then◌else◌}
+use Rattle.std.specs.Prelude.{ℕ, ◌+◌, ◌≡◌, ◌==◌, List, [], ◌∷◌, Option, Some, None, Result, Ok, Err, if◌then◌else◌}
 use Rattle.jass_base.specs.declared.named.Named.{Named}
 use Rattle.query_reader.specs.declared.refusal.QueryWhy.{QueryWhy}
 use Rattle.query_reader.specs.declared.refusal.LineFault.{LineFault}

@@ -51,7 +51,7 @@ impl Tally {
 }
 
 /// Names a term by a factor more. A term that wasn't named yet goes behind the others.
-fn count_known(named: &mut Vec<Named>, number: u32, factor: u8) -> Result<(), LineFault>
+pub fn count_known(named: &mut Vec<Named>, number: u32, factor: u8) -> Result<(), LineFault>
     requires { broken_limit named.old.items ≡ None }
     ensures { TalliesIn named.old.items number factor named.new.items result }
 {

@@ -1,5 +1,5 @@
 -- Each turn reads one line.
-use Rattle.std.proofs.Common.{◌∙◌, ◌≡◌, ◌<◌, ◌∷◌, ap, sym, subst, map, length, rules, arith}
+use Rattle.std.proofs.Common.{◌∙◌, ◌<◌, ap, sym, subst, map, length, rules}
 use Rattle.std.specs.Prelude.{All}
 use Rattle.std.specs.List.{AllByRecursion}
 use Rattle.jass_base.specs.declared.named.Named.{Named}

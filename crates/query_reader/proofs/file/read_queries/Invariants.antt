@@ -1,5 +1,5 @@
 -- The queries so far, and what is left of the file.
-use Rattle.std.proofs.Common.{ℕ, ◌≡◌, ◌<◌, length, map, All}
+use Rattle.std.proofs.Common.{◌≡◌, ◌<◌, length, map, All}
 use Rattle.std.specs.List.{AllByRecursion}
 use Rattle.jass_base.specs.declared.named.Named.{Named}
 use Rattle.jass_base.specs.declared.query.Query.{Query}

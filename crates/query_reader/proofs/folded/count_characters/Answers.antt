@@ -1,6 +1,6 @@
 -- Each turn counts in the mention of one run.
-use Rattle.std.proofs.Common.{◌∙◌, ◌∷◌, ◌++◌, ap, sym, subst, arith}
-use Rattle.std.specs.Prelude.{position, bytes_eq, string_bytes}
+use Rattle.std.proofs.Common.{◌∙◌, ap, sym, subst, arith}
+use Rattle.std.specs.Prelude.{position, bytes_eq}
 use Rattle.query_reader.specs.Mentions.{Mention}
 use Rattle.query_reader.specs.Texts.{folded_term, folded_mentions}
 use Rattle.query_reader.specs.Tally.{all_counted_in}

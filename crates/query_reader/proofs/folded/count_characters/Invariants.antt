@@ -1,5 +1,5 @@
 -- What is left of the text is still to be counted in.
-use Rattle.std.proofs.Common.{ℕ, ◌≡◌, ◌+◌, ◌≤◌, length}
+use Rattle.std.proofs.Common.{◌≡◌, ◌+◌, ◌≤◌, length}
 use Rattle.query_reader.specs.Texts.{folded_mentions}
 use Rattle.query_reader.specs.Tally.{all_counted_in}
 use Rattle.query_reader.proofs.folded.count_characters.Given as goal

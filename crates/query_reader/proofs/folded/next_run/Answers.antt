@@ -1,4 +1,4 @@
-use Rattle.std.proofs.Common.{◌∙◌, ◌≡◌, length, sym, rules}
+use Rattle.std.proofs.Common.{◌∙◌, sym, rules}
 use Rattle.query_reader.proofs.WordRuns.{none-left}
 use Rattle.query_reader.proofs.folded.next_run.Goals as goal
 

@@ -1,5 +1,5 @@
 -- The checks of a line in their order.
-use Rattle.std.proofs.Common.{◌∙◌, ap, sym, subst, take, drop, rules, arith}
+use Rattle.std.proofs.Common.{◌∙◌, ap, sym, subst, take, drop, rules}
 use Rattle.query_reader.specs.Queries.{query_data}
 use Rattle.query_reader.specs.Refusals.{LineGives}
 use Rattle.query_reader.proofs.LineReading.{long-line, bad-text, id-end, no-id, good-line}

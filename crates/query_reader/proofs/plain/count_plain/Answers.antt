@@ -1,6 +1,5 @@
 -- Each turn counts in the mention of one run.
 use Rattle.std.proofs.Common.{◌∙◌, ◌∷◌, ap, sym, subst, arith}
-use Rattle.std.specs.Prelude.{position, bytes_eq}
 use Rattle.query_reader.specs.Texts.{plain_mentions}
 use Rattle.query_reader.specs.Tally.{all_counted_in}
 use Rattle.query_reader.specs.Refusals.{LineFails}

@@ -1,4 +1,4 @@
-use Rattle.std.proofs.Common.{◌∙◌, sym, ap, arith, rules}
+use Rattle.std.proofs.Common.{◌∙◌, sym, ap}
 use Rattle.query_reader.specs.Slices.{mention_data}
 use Rattle.std.specs.Option.{option_map}
 use Rattle.query_reader.proofs.Carets.{weighted-run, whole-run}

@@ -1,5 +1,5 @@
 -- What stands behind the last `^` is a factor or none.
-use Rattle.std.proofs.Common.{◌∙◌, sym, ap, arith, rules}
+use Rattle.std.proofs.Common.{◌∙◌, sym, ap, rules}
 use Rattle.std.specs.Option.{option_map}
 use Rattle.query_reader.specs.Slices.{mention_data}
 use Rattle.query_reader.proofs.Carets.{unweighted-whole, unweighted-front, unweighted-behind, weighted-behind}

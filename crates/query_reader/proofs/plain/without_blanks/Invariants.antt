@@ -1,5 +1,5 @@
 -- The runs stay the same as blanks are dropped.
-use Rattle.std.proofs.Common.{ℕ, ◌≡◌, ◌≤◌, length}
+use Rattle.std.proofs.Common.{◌≡◌, ◌≤◌, length}
 use Rattle.query_reader.specs.Slices.{blank_runs}
 use Rattle.query_reader.proofs.plain.without_blanks.Given as goal
 

@@ -1,5 +1,5 @@
 -- The tally of all mentions is the query's.
-use Rattle.std.proofs.Common.{◌∙◌, ◌≡◌, ◌<◌, ◌≤◌, ap, sym, subst, length, arith}
+use Rattle.std.proofs.Common.{◌≡◌, ◌<◌, ◌≤◌, ap, sym, subst, length, arith}
 use Rattle.std.specs.Prelude.{All, AllPairs}
 use Rattle.jass_base.specs.declared.named.Named.{Named}
 use Rattle.query_reader.specs.Mentions.{term_number}
