@@ -1,15 +1,16 @@
 -- What the terms that mentions name have in common.
-use Rattle.std.proofs.Common.{◌≡◌, ℕ, ◌+◌, ◌≤◌, Bool, true, false, not, eqb, cond, List, [], ◌∷◌, length, get_or, refl, ap, sym, ◌∙◌, arith}
+use Rattle.std.proofs.Common.{◌≡◌, ℕ, ◌+◌, ◌<◌, ◌≤◌, Bool, true, false, not, eqb, cond, List, [], ◌∷◌, length, get_or, refl, ap, sym, ◌∙◌, arith}
 use Rattle.std.proofs.lemmas.Bool.{eqb-false, eq-eqb}
 use Rattle.std.proofs.lemmas.List.{length-map}
 use Rattle.std.proofs.lemmas.List.Elements.{All-cons, All-nil, All-map, All-filter}
 use Rattle.std.proofs.lemmas.List.Kept.{AllPairs-cons}
 use Rattle.std.proofs.lemmas.List.Sums.{sum_by-cons, length-filter, count_by-le-length}
-use Rattle.std.specs.Prelude.{Option, Some, None, filter, sum_by, ◌==◌, All, AllPairs}
-use Rattle.std.specs.List.{filter_map, cons_option, AllByRecursion}
+use Rattle.std.specs.Prelude.{Option, Some, None, filter, sum_by, ◌==◌, All, AllPairs, bytes_eq}
+use Rattle.std.specs.List.{filter_map, cons_option, AllByRecursion, position_or_len}
 use Rattle.std.specs.Option.{option_map_or}
 use Rattle.jass_base.specs.declared.named.Named.{Named}
-use Rattle.query_reader.specs.Mentions.{Mention, first_mentions, words_as_mentions}
+use Rattle.query_reader.specs.Mentions.{Mention, first_mentions, words_as_mentions, term_number, named_of}
+use Rattle.query_reader.proofs.Limits.{place_of-some}
 use Rattle.query_reader.proofs.Named.{names, times, rows, named, has, Apart, Apart-first, neither}
 
 -- numbers that differ are those of terms that differ
@@ -101,3 +102,15 @@ words-once (w ∷ ws) = (omega arith, words-once ws)
 pub words-factors : (words : List (List ℕ)) → sum_by (λ (m : Mention). m.factor) (words_as_mentions words) ≡ length words
 words-factors [] = refl
 words-factors (w ∷ ws) = omega (arith, words-factors ws, sum_by-cons (λ (m : Mention). m.factor) (record { term = w; factor = 1 }) (words_as_mentions ws))
+
+-- each named term is one of the index
+known-below : (terms : List (List ℕ)) (ms : List Mention) → AllByRecursion (λ j. j < length terms) (filter_map (term_number terms) ms)
+known-below terms [] = tt
+known-below terms (m ∷ ms) = here (term_number terms m) refl (known-below terms ms)
+  where
+    here : (o : Option ℕ) → term_number terms m ≡ o → AllByRecursion (λ j. j < length terms) (filter_map (term_number terms) ms) → AllByRecursion (λ j. j < length terms) (cons_option o (filter_map (term_number terms) ms))
+    here None e rest = rest
+    here (Some k) e rest = ((let there = place_of-some (position_or_len (λ t. bytes_eq t m.term) terms) (length terms) k (term_number terms m) refl e in omega (arith, there.0, there.1)), rest)
+
+pub named-below : (terms : List (List ℕ)) (ms : List Mention) → All (λ (n : Named). n.term < length terms) (named_of terms ms)
+named-below terms ms = All-map (λ (n : Named). n.term < length terms) (λ j. record { term = j; times = times (term_number terms) ms j }) (first_mentions (filter_map (term_number terms) ms)) (all-first (λ j. j < length terms) (filter_map (term_number terms) ms) (known-below terms ms))

@@ -1,4 +1,13 @@
-pub mod Tallies
-pub mod Named
 pub mod Facts
+pub mod Named
 pub mod Words
+pub mod Limits
+pub mod Runs
+pub mod QueryLaws
+pub mod FileReading
+pub mod LineReading
+pub mod Tallying
+pub mod Factors
+pub mod WordRuns
+pub mod Counting
+pub mod Carets

@@ -1,3 +1,8 @@
 pub mod Mentions
+pub mod Texts
+pub mod Refusals
+pub mod Queries
+pub mod Reading
+pub mod Slices
 pub mod Tally
 pub mod Examples

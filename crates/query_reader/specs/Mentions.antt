@@ -14,8 +14,8 @@ abbrev pub words_as_mentions : List (List ℕ) → List Mention
 words_as_mentions words = map (λ word. record { term = word; factor = 1 }) words
 
 -- the number of the mention's term among the terms of the index, where it is known
-abbrev pub number_of : List (List ℕ) → Mention → Option ℕ
-number_of terms m = position (λ t. bytes_eq t m.term) terms
+abbrev pub term_number : List (List ℕ) → Mention → Option ℕ
+term_number terms m = position (λ t. bytes_eq t m.term) terms
 
 -- numbers without repetitions, in the order of first mention
 abbrev pub first_mentions : List ℕ → List ℕ
@@ -24,7 +24,7 @@ first_mentions (x ∷ xs) = x ∷ filter (λ y. not (y == x)) (first_mentions xs
 
 -- whether a mention names the term of a number
 abbrev pub names_number : List (List ℕ) → ℕ → Mention → Bool
-names_number terms number m = option_map_or (λ n. n == number) (number_of terms m) false
+names_number terms number m = option_map_or (λ n. n == number) (term_number terms m) false
 
 -- how often the mentions name the term of a number: the sum of their factors
 abbrev pub times_named : List (List ℕ) → List Mention → ℕ → ℕ
@@ -34,8 +34,8 @@ times_named terms mentions number = sum_by (λ m. m.factor) (filter (names_numbe
 abbrev pub named_of : List (List ℕ) → List Mention → List Named
 named_of terms mentions =
     map (λ number. record { term = number; times = times_named terms mentions number })
-    (first_mentions (filter_map (number_of terms) mentions))
+    (first_mentions (filter_map (term_number terms) mentions))
 
 -- the number of mentions of terms that the index hasn't, whatever their factors
 abbrev pub unknown_of : List (List ℕ) → List Mention → ℕ
-unknown_of terms mentions = count_by (λ m. is_none (number_of terms m)) mentions
+unknown_of terms mentions = count_by (λ m. is_none (term_number terms m)) mentions
