@@ -2,3 +2,4 @@ pub mod Adding
 pub mod Counting
 pub mod Standing
 pub mod Untouched
+pub mod Raising

@@ -1,11 +1,12 @@
 //! Laws of the definitions that the contracts of this crate cite. Each function does nothing: its
 //! contract is the law, and a caller learns it by the call.
 
-ghost use Rattle.std.specs.Prelude.{◌≡◌, ◌≢◌, ℕ, List, map};
+ghost use Rattle.std.specs.Prelude.{◌≡◌, ◌≢◌, ◌==◌, ℕ, ◌+◌, ◌*◌, ◌++◌, ◌<◌, ◌≤◌, All, AllPairs, Contains, List, count_by, length, map, slice_index};
 ghost use Rattle.std.specs.List.{AllByRecursion};
 ghost use Rattle.frame_pool.specs.Pool.{PoolView};
 ghost use Rattle.frame_pool.specs.ChainView.{LeavesOthers};
-ghost use Rattle.accumulator_pages.specs.Pages.{Stands, own_chain, own_view};
+ghost use Rattle.accumulator_pages.specs.Adding.{added, raised};
+ghost use Rattle.accumulator_pages.specs.Pages.{Stands, docs_of, own_chain, own_view, pages_places, pages_scores};
 ghost use Rattle.accumulator_pages.specs.declared.pages.Pages.{Pages};
 
 /// Pages that stand in a pool still do so, and see what they saw, after a call on another chain.
@@ -24,4 +25,31 @@ pub fn calls_on_other_chains_leave_all_pages()
     ensures views { (sessions : List Pages) (old new : PoolView) (chain : ℕ) → LeavesOthers old new chain
         → AllByRecursion (λ pages. own_chain pages ≢ chain) sessions
         → map (λ pages. own_view pages new) sessions ≡ map (λ pages. own_view pages old) sessions }
+{}
+
+/// Pages have a score and a heap place for each of their documents.
+pub fn pages_hold_each_document()
+    ensures scores { (pages : Pages) (pool : PoolView) → length (pages_scores pages pool) ≡ docs_of pages }
+    ensures places { (pages : Pages) (pool : PoolView) → length (pages_places pages pool) ≡ docs_of pages }
+{}
+
+/// Each score rises by the weight as often as its document is named.
+pub fn weights_are_summed()
+    ensures each { (weight doc : ℕ) (docs scores : List ℕ) → doc < length scores
+        → slice_index (added weight docs scores) doc ≡ slice_index scores doc + weight * count_by (λ other. other == doc) docs }
+    ensures count { (weight : ℕ) (docs scores : List ℕ) → length (added weight docs scores) ≡ length scores }
+    ensures parts { (weight : ℕ) (front back scores : List ℕ)
+        → added weight (front ++ back) scores ≡ added weight back (added weight front scores) }
+{}
+
+/// The documents that reach a floor by an addition are those that were below it before and aren't after, each once.
+pub fn who_reaches_a_floor_is_raised()
+    ensures all { (weight floor doc : ℕ) (docs scores : List ℕ) → doc < length scores
+        → slice_index scores doc < floor → floor ≤ slice_index (added weight docs scores) doc
+        → Contains (raised weight floor docs scores) doc }
+    ensures only { (weight floor doc : ℕ) (docs scores : List ℕ) → All (λ other. other < length scores) docs
+        → Contains (raised weight floor docs scores) doc
+        → (doc < length scores) × (slice_index scores doc < floor) × (floor ≤ slice_index (added weight docs scores) doc) }
+    ensures once { (weight floor : ℕ) (docs scores : List ℕ) → All (λ other. other < length scores) docs
+        → AllPairs (λ one other. one ≢ other) (raised weight floor docs scores) }
 {}

@@ -1,1 +1,111 @@
-// Pages in a pool.
+// Pages in a pool, by a collection of four documents in two pages.
+ghost use Rattle.std.specs.Prelude.{◌≡◌, ◌≢◌, ◌+◌, ◌/◌, ◌<◌, ◌≤◌, ◌^◌, [], All, None, length, map, slice_index, slice_index_or};
+ghost use Rattle.std.specs.List.{AllByRecursion};
+ghost use Rattle.frame_pool.specs.ChainView.{LeavesOthers, LeavesPool};
+ghost use Rattle.accumulator_pages.specs.Adding.{added};
+ghost use Rattle.accumulator_pages.specs.Pages.{ArePagesOf, HasRoom, HasRoomFor, Stands, docs_of, own_chain, own_view, pages_scores};
+
+use crate::laws::calls_on_other_chains_leave_all_pages;
+use crate::pages::Pages;
+use crate::reached::Reached;
+use frame_pool::FramePool;
+use jass_base::NoMemory;
+use std::alloc::Global;
+use std::process::Abort;
+
+// Adds to one session's scores while others stand in the same pool: they still do, with the scores that they had.
+fn add_beside(
+    others: &[Pages],
+    own: &mut Pages,
+    pool: &mut FramePool,
+    docs: &[u32],
+    w: u32,
+    floor: u32,
+    reached: &mut Reached,
+)
+    requires stands { Stands own.old pool.old }
+    requires others { AllByRecursion (λ pages. Stands pages pool.old) others.now }
+    requires apart { AllByRecursion (λ pages. own_chain pages ≢ own_chain own.old) others.now }
+    requires inside { All (λ doc. doc < docs_of own.old) docs.now }
+    requires weight { 1 ≤ w }
+    requires fits { All (λ score. score < 2 ^ 32) (added w docs.now (pages_scores own.old pool.old)) }
+    requires frames { HasRoomFor (own_view own.old pool.old) (docs_of own.old) (length docs.now) }
+    requires room { length reached.old.docs + length docs.now ≤ reached.old.room }
+    ensures stands { Stands own.new pool.new }
+    ensures others { AllByRecursion (λ pages. Stands pages pool.new) others.now }
+    ensures views { map (λ pages. own_view pages pool.new) others.now ≡ map (λ pages. own_view pages pool.old) others.now }
+    ensures leaves { LeavesPool pool.old pool.new (own_chain own.old) }
+{
+    calls_on_other_chains_leave_all_pages();
+    own.add_all(pool, docs, w, floor, reached);
+}
+
+// Pages for 300 documents, with a promise of two frames.
+fn opened(rt: &impl Abort, alloc: Global, pool: &mut FramePool) -> Pages
+    ensures stands { Stands result pool.new }
+    ensures docs { docs_of result ≡ 300 }
+    ensures view { own_view result pool.new ≡ record { promise = 2; frames = [] } }
+    ensures unused { slice_index_or pool.old.chains (own_chain result) None ≡ None }
+    ensures others { LeavesOthers pool.old pool.new (own_chain result) }
+{
+    let Ok(chain) = pool.promise(2) else {
+        panic!(rt; "refused")
+    };
+    match Pages::new(alloc, 300, pool, chain) {
+        Ok(pages) => pages,
+        Err((chain, NoMemory)) => {
+            pool.give_back(chain);
+            panic!(rt; "no memory")
+        }
+    }
+}
+
+// Adds to a score that is known to be small.
+fn add_small(rt: &impl Abort, pages: &mut Pages, pool: &mut FramePool, doc: u32, w: u32) -> u32
+    requires stands { Stands pages.old pool.old }
+    requires inside { doc < docs_of pages.old }
+    requires weight { 1 ≤ w }
+    requires small { w < 1000 }
+    requires frame { HasRoom (own_view pages.old pool.old) (doc / 256) }
+    ensures stands { Stands pages.new pool.new }
+    ensures touched { 0 < slice_index (pages_scores pages.new pool.new) doc }
+    ensures same { ArePagesOf pages.old pages.new }
+    ensures frames { length (own_view pages.new pool.new).frames ≤ length (own_view pages.old pool.old).frames + 1 }
+    ensures leaves { LeavesPool pool.old pool.new (own_chain pages.old) }
+{
+    assert!(rt; pages.get(pool, doc) < 1000);
+    pages.add(pool, doc, w)
+}
+
+#[test]
+fn frames_are_taken_page_by_page(rt: HostRuntime) {
+    let Ok(mut pool) = FramePool::new(rt.alloc(), 2, 1) else {
+        panic!(rt; "no memory")
+    };
+    let mut x = opened(&rt, rt.alloc(), &mut pool);
+    assert_eq!(rt; x.frames(), 0);
+    assert_eq!(rt; x.least_untouched(&pool), Some(0));
+
+    assert_eq!(rt; add_small(&rt, &mut x, &mut pool, 0, 2), 2);
+    assert_eq!(rt; x.frames(), 1);
+    assert_eq!(rt; x.least_untouched(&pool), Some(1));
+    x.set_heap_place(&mut pool, 0, 7);
+    assert_eq!(rt; x.heap_place(&pool, 0), 7);
+
+    assert_eq!(rt; add_small(&rt, &mut x, &mut pool, 299, 1), 1);
+    assert_eq!(rt; x.frames(), 2);
+    assert_eq!(rt; x.touched(), 2);
+    assert_eq!(rt; x.get(&pool, 0), 2);
+    assert_eq!(rt; x.get(&pool, 299), 1);
+    assert_eq!(rt; x.get(&pool, 298), 0);
+    pool.give_back(x.into_chain());
+    assert_eq!(rt; pool.spare(), 2);
+
+    // The same frames again: all that they hold is 0.
+    let mut y = opened(&rt, rt.alloc(), &mut pool);
+    assert_eq!(rt; add_small(&rt, &mut y, &mut pool, 0, 3), 3);
+    assert_eq!(rt; y.heap_place(&pool, 0), 0);
+    assert_eq!(rt; add_small(&rt, &mut y, &mut pool, 298, 1), 1);
+    assert_eq!(rt; y.get(&pool, 299), 0);
+    pool.give_back(y.into_chain());
+}
