@@ -16,7 +16,7 @@ returns-in_err-count g c =
     let rest = folded_mentions c.factor_behind-factor.result.1.now in
     let split = c.in-Some.ensures.same ∙ c.factor_behind-factor.ensures.mention run c.in-Some.ensures.word in
     let bytes = c.as_bytes.ensures.value ∙ c.as_str.ensures.value ∙ c.in-Ok.ensures in
-    let found = c.find.ensures ∙ ap (λ term. position (λ t. bytes_eq t term) terms) bytes in
+    let found = c.find.ensures.number ∙ ap (λ term. position (λ t. bytes_eq t term) terms) bytes in
     let fails = one-refused terms c.loop-run.tally m rest c.find.result c.in_err-count.field-0.0 found c.in_err-count.ensures in
     handed-on _ _ c.in_err-count.field-0.0 c.from_residual.result c.from_residual.ensures.1
     (subst (LineFails c.in_err-count.field-0.0) (ap (all_counted_in terms c.loop-run.tally) (sym split) ∙ c.loop-run.invariant.counted) fails)
@@ -29,7 +29,7 @@ loop-run-preserved g c =
     let rest = folded_mentions c.factor_behind-factor.result.1.now in
     let split = c.in-Some.ensures.same ∙ c.factor_behind-factor.ensures.mention run c.in-Some.ensures.word in
     let bytes = c.as_bytes.ensures.value ∙ c.as_str.ensures.value ∙ c.in-Ok.ensures in
-    let found = c.find.ensures ∙ ap (λ term. position (λ t. bytes_eq t term) terms) bytes in
+    let found = c.find.ensures.number ∙ ap (λ term. position (λ t. bytes_eq t term) terms) bytes in
     record {
       counted = sym (one-counted terms c.loop-run.tally c.count.new.self m rest c.find.result found c.in_ok-count.ensures)
           ∙ ap (all_counted_in terms c.loop-run.tally) (sym split) ∙ c.loop-run.invariant.counted;

@@ -14,7 +14,7 @@ count_known-requires g c =
 pub unreachable-requires : goal.unreachable-requires
 unreachable-requires g c =
     let terms = g.X.Lexicon.terms c.args.index.now in
-    let found = ap (λ bytes. position (λ t. bytes_eq t bytes) terms) (sym c.as_str.ensures.value ∙ sym c.as_bytes.ensures.value) ∙ sym c.find.ensures in
+    let found = ap (λ bytes. position (λ t. bytes_eq t bytes) terms) (sym c.as_str.ensures.value ∙ sym c.as_bytes.ensures.value) ∙ sym c.find.ensures.number in
     let refused = subst (λ f. TalliesIn c.loop-word.named.items c.in-Some.number 1 c.count_known.new.named.items (Err f)) c.in-Err-Refused.field-0-is c.in-Err-Refused.ensures in
     never-refused terms c.args.words.now c.loop-word.word-index c.word-item.result c.loop-word.named.items c.in-Some.number c.in-Err-Refused.field-0-0 c.loop-word-test.true c.word-item.is c.requires (found ∙ c.in-Some.is) c.loop-word.invariant.named refused.1
 

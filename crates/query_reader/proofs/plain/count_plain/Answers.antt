@@ -13,7 +13,7 @@ returns-in_err-count g c =
     let m = mention_data c.mention_in-mention.result in
     let rest = plain_mentions c.in-Some.behind.now in
     let split = first-mention c.loop-run.rest.now c.in-Some.run'.now c.in-Some.behind.now c.in-Some.ensures.0 ∙ ap (λ x. x ∷ rest) (sym c.mention_in-mention.ensures) in
-    let fails = one-refused terms c.loop-run.tally m rest c.find.result c.in_err-count.field-0.0 c.find.ensures c.in_err-count.ensures in
+    let fails = one-refused terms c.loop-run.tally m rest c.find.result c.in_err-count.field-0.0 c.find.ensures.number c.in_err-count.ensures in
     handed-on _ _ c.in_err-count.field-0.0 c.from_residual.result c.from_residual.ensures.1
     (subst (LineFails c.in_err-count.field-0.0) (ap (all_counted_in terms c.loop-run.tally) (sym split) ∙ c.loop-run.invariant.counted) fails)
 
@@ -24,7 +24,7 @@ loop-run-preserved g c =
     let rest = plain_mentions c.in-Some.behind.now in
     let split = first-mention c.loop-run.rest.now c.in-Some.run'.now c.in-Some.behind.now c.in-Some.ensures.0 ∙ ap (λ x. x ∷ rest) (sym c.mention_in-mention.ensures) in
     record {
-      counted = sym (one-counted terms c.loop-run.tally c.count.new.self m rest c.find.result c.find.ensures c.in_ok-count.ensures)
+      counted = sym (one-counted terms c.loop-run.tally c.count.new.self m rest c.find.result c.find.ensures.number c.in_ok-count.ensures)
           ∙ ap (all_counted_in terms c.loop-run.tally) (sym split) ∙ c.loop-run.invariant.counted;
       room = omega (arith, few-more c.loop-run.tally c.count.new.self c.find.result c.mention_in-mention.result.factor c.in_ok-count.ensures, c.in-Some.ensures.1, c.loop-run.invariant.room);
     }

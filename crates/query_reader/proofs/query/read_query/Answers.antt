@@ -40,7 +40,7 @@ returns-clause-query g c =
     let mentions = mentions_of c.args.mode c.args.text.now in
     let tally : TallyData = record { named = c.tally.inside.named.items; unknown = c.tally.inside.unknown } in
     let counted = from-start terms mentions c.new-tally.result c.count_mentions.new.tally tally c.in_ok-count_mentions.ensures c.new-tally.ensures c.tally.view_is in
-    query-made terms c.args.id.now mentions tally c.in-Ok.id c.from_vec.result counted c.in-Ok.ensures c.from_vec.ensures
+    query-made terms c.args.id.now mentions tally c.in-Ok.id c.from_vec.result counted c.in-Ok.ensures.bytes c.from_vec.ensures
 
 pub returns-clause-known : goal.returns-clause-known
 returns-clause-known g c =
