@@ -78,7 +78,9 @@ tallied-there (m ∷ ns) number factor zero times n inside found read sum = here
     here false f = absurd (omega (arith, f))
 tallied-there (m ∷ ns) number factor (suc place) times n inside found read sum = here (eqb m.term number) found (λ f. tallied-there ns number factor place times n (omega (arith, inside)) f read sum)
   where
-    here : (b : Bool) → cond (not b) (1 + position_or_len (λ (x : Named). eqb x.term number) ns) 0 ≡ suc place → (position_or_len (λ (x : Named). eqb x.term number) ns ≡ place → set ns place (record { term = n.term; times = times }) ≡ tallied ns number factor) → m ∷ set ns place (record { term = n.term; times = times }) ≡ cond b (record { term = m.term; times = m.times + factor } ∷ ns) (m ∷ tallied ns number factor)
+    here : (b : Bool) → cond (not b) (1 + position_or_len (λ (x : Named). eqb x.term number) ns) 0 ≡ suc place
+        → (position_or_len (λ (x : Named). eqb x.term number) ns ≡ place → set ns place (record { term = n.term; times = times }) ≡ tallied ns number factor)
+        → m ∷ set ns place (record { term = n.term; times = times }) ≡ cond b (record { term = m.term; times = m.times + factor } ∷ ns) (m ∷ tallied ns number factor)
     here true f rest = absurd (omega (arith, f))
     here false f rest = ap (λ xs. m ∷ xs) (rest (omega (arith, f)))
 
@@ -87,7 +89,9 @@ pub tallied-behind : (ns : List Named) (number factor : ℕ) → length ns ≤ p
 tallied-behind [] number factor found = refl
 tallied-behind (m ∷ ns) number factor found = here (eqb m.term number) found (tallied-behind ns number factor)
   where
-    here : (b : Bool) → suc (length ns) ≤ cond (not b) (1 + position_or_len (λ (x : Named). eqb x.term number) ns) 0 → (length ns ≤ position_or_len (λ (x : Named). eqb x.term number) ns → ns ++ record { term = number; times = factor } ∷ [] ≡ tallied ns number factor) → m ∷ (ns ++ record { term = number; times = factor } ∷ []) ≡ cond b (record { term = m.term; times = m.times + factor } ∷ ns) (m ∷ tallied ns number factor)
+    here : (b : Bool) → suc (length ns) ≤ cond (not b) (1 + position_or_len (λ (x : Named). eqb x.term number) ns) 0
+        → (length ns ≤ position_or_len (λ (x : Named). eqb x.term number) ns → ns ++ record { term = number; times = factor } ∷ [] ≡ tallied ns number factor)
+        → m ∷ (ns ++ record { term = number; times = factor } ∷ []) ≡ cond b (record { term = m.term; times = m.times + factor } ∷ ns) (m ∷ tallied ns number factor)
     here true f rest = absurd (omega (arith, f))
     here false f rest = ap (λ xs. m ∷ xs) (rest (omega (arith, f)))
 

@@ -76,7 +76,9 @@ pub fn limits()
 pub fn broken_limits()
     ensures most { read_mentions cat_and_dog (codes "q") (mention (codes "cat") 200 ∷ mention (codes "cat") 55 ∷ [])
         ≡ Ok (record { id = codes "q"; terms = named 0 255 ∷ []; unknown = 0 }) }
-    ensures above { read_mentions cat_and_dog (codes "q") (mention (codes "cat") 255 ∷ mention (codes "dog") 1 ∷ mention (codes "cat") 1 ∷ []) ≡ Err Times }
+    ensures above { read_mentions cat_and_dog (codes "q")
+        (mention (codes "cat") 255 ∷ mention (codes "dog") 1 ∷ mention (codes "cat") 1 ∷ [])
+        ≡ Err Times }
     ensures others { read_mentions cat_and_dog (codes "q") (mention (codes "zzz") 255 ∷ mention (codes "zzz") 255 ∷ [])
         ≡ Ok (record { id = codes "q"; terms = []; unknown = 2 }) }
 {}

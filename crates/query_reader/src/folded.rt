@@ -23,7 +23,8 @@ pub fn count_folded<X: Lexicon>(
     index: &X,
 ) -> Result<(), LineFault>
     requires { tally.old.unknown + length text.now < 2 ^ 32 }
-    ensures { CountsIn (all_counted_in (X.terms index.now) tally.old (folded_mentions (chars text.now))) tally.new result }
+    ensures { CountsIn
+        (all_counted_in (X.terms index.now) tally.old (folded_mentions (chars text.now))) tally.new result }
 {
     let Ok(characters) = text.chars().collect::<Vec<char>>(alloc) else {
         return Err(LineFault::NoMemory);

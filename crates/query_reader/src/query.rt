@@ -24,7 +24,8 @@ pub fn read_terms<X: Lexicon>(
     index: &X,
 ) -> Result<Query, QueryFault>
     requires { length text.now ≤ 1048576 }
-    ensures query { Gives query_data result (at_line 1 (read_mentions (X.terms index.now) id.now (mentions_of mode text.now))) }
+    ensures query { Gives query_data result
+        (at_line 1 (read_mentions (X.terms index.now) id.now (mentions_of mode text.now))) }
     ensures known { IfOk result (λ query. All (λ (n : Named). n.term < length (X.terms index.now)) query.terms) }
 {
     match read_query(alloc, id, text, mode, index) {

@@ -30,4 +30,5 @@ pub returns-in-Ok : goal.returns-in-Ok
 returns-in-Ok c =
     let ns = c.args.named.now.items in
     let found = position_from_yields_List (λ (n : Named). eqb n.term c.args.number) _ _ c.position.result c.position.ensures.ran (YieldsList-from_slice ns cc) (λ x b q k. search (rules, tests)) in
-    named-first ns c.push.new.self.items c.args.number c.args.factor (place_of-none _ (length ns) c.position.result found c.in-None.is) (λ full. omega (arith, full, ap length c.as_slice.ensures.value, c.if-as_slice-eq-MOST_TERMS.false)) (omega (arith, c.ranges.factor.fits)) c.requires c.in-Ok.ensures.items
+    named-first ns c.push.new.self.items c.args.number c.args.factor (place_of-none _ (length ns) c.position.result found c.in-None.is)
+    (λ full. omega (arith, full, ap length c.as_slice.ensures.value, c.if-as_slice-eq-MOST_TERMS.false)) (omega (arith, c.ranges.factor.fits)) c.requires c.in-Ok.ensures.items
