@@ -1,0 +1,4 @@
+pub mod Lists
+pub mod Ranking
+pub mod Rows
+pub mod Settled
