@@ -1,6 +1,6 @@
 -- Hits in order, and the first of some scores.
 use Rattle.std.proofs.Common.{◌≡◌, ◌≢◌, ℕ, zero, suc, ◌+◌, ◌-◌, ◌/◌, ◌<◌, ◌≤◌, ◌==◌, List, [], ◌∷◌, length, take, get_or, Bool, true, false, refl, sym, ap, subst, ◌∙◌, arith, inl, inr, ◌⊎◌, eq-eqb, true≢false}
-use Rattle.std.specs.Prelude.{IsPermutation, reverse, slice_get, nat_lt, min, Option, Some, None, IfSome, is_some, option_map, if◌then◌else◌}
+use Rattle.std.specs.Prelude.{IsPermutation, reverse, slice_get, nat_lt, min, IsTrue, Option, Some, None, IfSome, is_some, option_map, if◌then◌else◌}
 use Rattle.std.specs.List.{AllByRecursion}
 use Rattle.std.specs.Ordering.{is_gt}
 use Rattle.std.proofs.lemmas.Bool.{cases_eq, cases_lt}
@@ -15,7 +15,7 @@ use Rattle.ranking_model.proofs.Sorting.{Ascends, all_sorted, one_order, sorted_
 use Rattle.ranking_model.proofs.Orders.{rank_total, rank_same}
 use Rattle.ranking_model.proofs.Weighing.{Pairs}
 use Rattle.topk_heap.specs.Standing.{AreInOrder, IsHeap}
-use Rattle.topk_heap.proofs.Lists.{all_imp, all_take, all_index, pairs_sorted, pairs_take}
+use Rattle.topk_heap.proofs.Lists.{all_at, all_by_index, all_in, in_reverse, all_imp, all_take, all_index, pairs_sorted, pairs_take}
 use Rattle.topk_heap.proofs.Rows.{take_front}
 
 abbrev pub Apart : Hit → Hit → Type 0
@@ -133,3 +133,27 @@ looked_up {B = B} now xs i (Some x) there is = sym (slice_get_read xs (length xs
 
 pub next_is : (scores : List ℕ) (k : ℕ) (row front : List Hit) (o : Option Hit) → AreInOrder row → front ≡ row → o ≡ slice_get front k → IsPermutation (first_ranked scores (k + 1)) (reverse row) → o ≡ runner_up scores k
 next_is scores k row front o order same is moved = is ∙ ap (λ (xs : List Hit). slice_get xs k) (same ∙ is_first scores (k + 1) row order moved)
+
+-- a hit behind the last of hits in order is behind all of them
+pub behind_all : (x : Hit) (xs : List Hit) (k : ℕ) (d last : Hit) → AreInOrder xs → length xs ≤ k + 1 → k < length xs → last ≡ get_or xs k d → is_gt (rank_cmp x last) ≡ true → AllByRecursion (λ y. is_gt (rank_cmp x y) ≡ true) (reverse xs)
+behind_all x xs k d last order few inside is behind_last =
+    all_in (λ y. is_gt (rank_cmp x y) ≡ true) (reverse xs) (λ y there. all_at (λ y. is_gt (rank_cmp x y) ≡ true) xs y (all_by_index (λ y. is_gt (rank_cmp x y) ≡ true) d xs (λ i here. by i here (cases_eq i k))) (in_reverse y xs there))
+  where
+    further : (a b c : Hit) → is_gt (rank_cmp a b) ≡ true → is_gt (rank_cmp b c) ≡ true → is_gt (rank_cmp a c) ≡ true
+    further a b c one two = grind (arith, nat_tests)
+
+    by : (i : ℕ) → i < length xs → (i ≡ k) ⊎ (i ≡ k → ⊥) → is_gt (rank_cmp x (get_or xs i d)) ≡ true
+    by i here (inl e) = subst (λ j. is_gt (rank_cmp x (get_or xs j d)) ≡ true) (sym e) (subst (λ (h : Hit). is_gt (rank_cmp x h) ≡ true) is behind_last)
+    by i here (inr apart) = further x last (get_or xs i d) behind_last (subst (λ (h : Hit). is_gt (rank_cmp h (get_or xs i d)) ≡ true) (sym is) (order_index xs order i k d (omega arith) inside))
+
+pub by_score : (doc score : ℕ) (last : Hit) → score < last.score → is_gt (rank_cmp (record { doc = doc; score = score }) last) ≡ true
+by_score doc score last low = grind (arith, nat_tests)
+
+pub by_doc : (doc score : ℕ) (last : Hit) → last.score ≡ score → last.doc < doc → is_gt (rank_cmp (record { doc = doc; score = score }) last) ≡ true
+by_doc doc score last same high = grind (arith, nat_tests)
+
+pub ltb_says : (a b : ℕ) → IsTrue (nat_lt a b) → a < b
+ltb_says a b said = by (cases_lt a b) where
+  by : (a < b) ⊎ (b ≤ a) → a < b
+  by (inl low) = low
+  by (inr high) = absurd (true≢false (let f : nat_lt a b ≡ false = grind (arith, nat_tests) in sym said ∙ f))

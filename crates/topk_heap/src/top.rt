@@ -1,8 +1,10 @@
-ghost use Rattle.std.specs.Prelude.{◌≡◌, ◌≢◌, ℕ, List, ◌+◌, ◌<◌, ◌≤◌, ◌++◌, [], All, AllPairs, IfOk, length, slice_get, slice_index, take};
+ghost use Rattle.std.specs.Prelude.{true, replicate, IsTrue, reverse, ◌≡◌, ◌≢◌, ℕ, List, ◌+◌, ◌<◌, ◌≤◌, ◌++◌, [], All, AllPairs, IfOk, length, slice_get, slice_index, take};
+ghost use Rattle.std.specs.List.{AllByRecursion};
+ghost use Rattle.std.specs.Ordering.{is_gt};
 ghost use Rattle.accumulator_pages.specs.Pages.{Stands, docs_of, pages_places, pages_scores};
-ghost use Rattle.ranking_model.specs.Scores.{first_ranked, runner_up};
+ghost use Rattle.ranking_model.specs.Scores.{rank_cmp, first_ranked, runner_up};
 ghost use Rattle.topk_heap.specs.Places.{KeepsScores};
-ghost use Rattle.topk_heap.specs.Standing.{HaveFirst, IsPlaced, IsTouched, TopStands, with_heap};
+ghost use Rattle.topk_heap.specs.Standing.{AreInOrder, StandsBelow, HaveFirst, IsPlaced, IsTouched, TopStands, with_heap};
 
 use crate::hits::Hits;
 use crate::settling::{clear_places, gather, rescore, set_places};
@@ -39,6 +41,7 @@ impl Top {
         requires room { room ≤ 4294967296 }
         ensures k { IfOk result (λ top. top.k ≡ k) }
         ensures empty { IfOk result (λ top. top.hits ≡ []) }
+        ensures stands { IfOk result (λ top. (docs : ℕ) → TopStands top (replicate docs 0) (replicate docs 0)) }
         ensures room { IfOk result (λ top. room ≤ top.room) }
     {
         let hits = Hits::new(alloc, k as usize + 1 + room.max(1))?;
@@ -64,6 +67,38 @@ impl Top {
         clear_places(pages, pool, &self.hits.as_slice()[..standing]);
         self.hits.keep_first(self.k as usize + 1);
         set_places(pages, pool, self.hits.as_slice());
+    }
+
+    /// Takes in what one document has gained.
+    pub fn raise(&mut self, pages: &mut Pages, pool: &mut FramePool, doc: u32)
+        requires pages { Stands pages.old pool.old }
+        requires below { StandsBelow self.old (pages_scores pages.old pool.old) (pages_places pages.old pool.old) doc }
+        ensures stands { TopStands self.new (pages_scores pages.new pool.new) (pages_places pages.new pool.new) }
+        ensures keeps { KeepsScores pages.old pages.new pool.old pool.new }
+        ensures k { self.new.k ≡ self.old.k }
+        ensures room { self.new.room ≡ self.old.room }
+    {
+        let score = pages.get(pool, doc);
+        if !self.is_full_before(doc, score) {
+            self.settle(pages, pool, &[doc]);
+        }
+    }
+
+    // Whether the heap is full, and all its documents rank before this one.
+    fn is_full_before(&self, doc: u32, score: u32) -> bool
+        ensures full { IsTrue result → length self.now.hits ≡ self.now.k + 1 }
+        ensures before { IsTrue result → AllByRecursion (λ other. is_gt (rank_cmp (record { doc = doc; score = score }) other) ≡ true)
+            self.now.hits }
+        ensures order { AreInOrder (reverse self.now.hits) }
+        ensures room { 1 ≤ self.now.room }
+    {
+        let hits = self.hits.as_slice();
+        let last = self.k as usize;
+        if hits.len() <= last {
+            return false;
+        }
+        let last = hits[last];
+        last.score > score || (last.score == score && last.doc < doc)
     }
 
     /// The first k documents.
