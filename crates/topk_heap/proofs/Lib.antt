@@ -1,0 +1,6 @@
+pub mod Ahead
+pub mod Lists
+pub mod Ranking
+pub mod Rows
+pub mod Settled
+pub mod Raised

@@ -1,0 +1,155 @@
+-- Being in a list, and what holds of its items and of pairs of them.
+use Rattle.std.proofs.Common.{◌≡◌, ◌≢◌, ℕ, zero, suc, ◌<◌, List, [], ◌∷◌, ◌++◌, length, map, take, get_or, Bool, true, false, refl, sym, ap, subst, arith, inl, inr, ◌⊎◌}
+use Rattle.std.specs.Prelude.{Contains, reverse}
+use Rattle.std.specs.List.{AllByRecursion}
+use Rattle.std.specs.declared.cmp.Ordering.{Ordering}
+use Rattle.std.specs.Ordering.{is_gt}
+use Rattle.std.proofs.lemmas.Bool.{cases_eq}
+use Rattle.std.proofs.lemmas.Grind.{reverse_onto}
+use Rattle.jass_base.specs.declared.answer.Hit.{Hit}
+use Rattle.ranking_model.specs.Order.{placed, sorted}
+use Rattle.ranking_model.proofs.Sorting.{all_placed}
+use Rattle.ranking_model.proofs.Weighing.{Pairs}
+
+-- ---- being in a list
+
+abbrev pub In : {A : Type 0} → A → List A → Type 0
+In x [] = ⊥
+In x (y ∷ ys) = (x ≡ y) ⊎ In x ys
+
+pub in_from_contains : {A : Type 0} (xs : List A) (x : A) → Contains xs x → In x xs
+in_from_contains [] x h = absurd (let k = h.1 in omega arith)
+in_from_contains {A} (y ∷ ys) x h = at h.0 h.1 h.2 (λ k. in_from_contains ys x k) where
+  at : (k : ℕ) → k < suc (length ys) → get_or (y ∷ ys) k x ≡ x → (Contains ys x → In x ys) → In x (y ∷ ys)
+  at zero inside is later = inl (sym is)
+  at (suc k) inside is later = inr (later (k, omega arith, is))
+
+pub contains_from_in : {A : Type 0} (xs : List A) (x : A) → In x xs → Contains xs x
+contains_from_in [] x h = absurd h
+contains_from_in (y ∷ ys) x (inl e) = (0, omega arith, sym e)
+contains_from_in {A} (y ∷ ys) x (inr there) = behind (contains_from_in ys x there) where
+  behind : Contains ys x → Contains (y ∷ ys) x
+  behind h = (suc h.0, (let k = h.1 in omega arith), h.2)
+
+pub in_append : {A : Type 0} (x : A) (xs ys : List A) → In x (xs ++ ys) → In x xs ⊎ In x ys
+in_append x [] ys h = inr h
+in_append x (y ∷ xs) ys (inl e) = inl (inl e)
+in_append {A} x (y ∷ xs) ys (inr there) = by (in_append x xs ys there) where
+  by : In x xs ⊎ In x ys → In x (y ∷ xs) ⊎ In x ys
+  by (inl k) = inl (inr k)
+  by (inr k) = inr k
+
+pub in_left : {A : Type 0} (x : A) (xs ys : List A) → In x xs → In x (xs ++ ys)
+in_left x [] ys h = absurd h
+in_left x (y ∷ xs) ys (inl e) = inl e
+in_left x (y ∷ xs) ys (inr there) = inr (in_left x xs ys there)
+
+pub in_right : {A : Type 0} (x : A) (xs ys : List A) → In x ys → In x (xs ++ ys)
+in_right x [] ys h = h
+in_right x (y ∷ xs) ys h = inr (in_right x xs ys h)
+
+pub in_map : {A B : Type 0} (f : A → B) (x : A) (xs : List A) → In x xs → In (f x) (map f xs)
+in_map f x [] h = absurd h
+in_map f x (y ∷ xs) (inl e) = inl (ap f e)
+in_map f x (y ∷ xs) (inr there) = inr (in_map f x xs there)
+
+-- ---- what holds of all items
+
+pub all_imp : {A : Type 0} (P Q : A → Type 0) → ((x : A) → P x → Q x) → (xs : List A) → AllByRecursion P xs → AllByRecursion Q xs
+all_imp P Q imp [] h = tt
+all_imp P Q imp (x ∷ xs) h = (imp x h.0, all_imp P Q imp xs h.1)
+
+pub all_at : {A : Type 0} (P : A → Type 0) (xs : List A) (x : A) → AllByRecursion P xs → In x xs → P x
+all_at P [] x h there = absurd there
+all_at P (y ∷ ys) x h (inl e) = subst P (sym e) h.0
+all_at P (y ∷ ys) x h (inr there) = all_at P ys x h.1 there
+
+pub all_in : {A : Type 0} (P : A → Type 0) (xs : List A) → ((x : A) → In x xs → P x) → AllByRecursion P xs
+all_in P [] h = tt
+all_in P (x ∷ xs) h = (h x (inl refl), all_in P xs (λ y there. h y (inr there)))
+
+pub all_append : {A : Type 0} (P : A → Type 0) (xs ys : List A) → AllByRecursion P xs → AllByRecursion P ys → AllByRecursion P (xs ++ ys)
+all_append P [] ys h k = k
+all_append P (x ∷ xs) ys h k = (h.0, all_append P xs ys h.1 k)
+
+pub all_map : {A B : Type 0} (P : B → Type 0) (f : A → B) (xs : List A) → AllByRecursion (λ x. P (f x)) xs → AllByRecursion P (map f xs)
+all_map P f [] h = tt
+all_map P f (x ∷ xs) h = (h.0, all_map P f xs h.1)
+
+pub all_take : {A : Type 0} (P : A → Type 0) (n : ℕ) (xs : List A) → AllByRecursion P xs → AllByRecursion P (take n xs)
+all_take P zero xs h = tt
+all_take P (suc n) [] h = tt
+all_take P (suc n) (x ∷ xs) h = (h.0, all_take P n xs h.1)
+
+pub all_by_index : {A : Type 0} (P : A → Type 0) (d : A) (xs : List A) → ((i : ℕ) → i < length xs → P (get_or xs i d)) → AllByRecursion P xs
+all_by_index P d [] h = tt
+all_by_index P d (x ∷ xs) h = (h 0 (omega arith), all_by_index P d xs (λ i inside. h (suc i) (omega arith)))
+
+pub all_index : {A : Type 0} (P : A → Type 0) (xs : List A) → AllByRecursion P xs → (i : ℕ) (d : A) → i < length xs → P (get_or xs i d)
+all_index P [] h i d inside = absurd (omega arith)
+all_index P (x ∷ xs) h zero d inside = h.0
+all_index P (x ∷ xs) h (suc i) d inside = all_index P xs h.1 i d (omega arith)
+
+-- ---- what holds of all pairs
+
+pub pairs_index : {A : Type 0} (R : A → A → Type 0) (xs : List A) → Pairs R xs → (i j : ℕ) (d : A) → i < j → j < length xs → R (get_or xs i d) (get_or xs j d)
+pairs_index R [] h i j d before inside = absurd (omega arith)
+pairs_index R (x ∷ xs) h i zero d before inside = absurd (omega arith)
+pairs_index R (x ∷ xs) h zero (suc j) d before inside = all_index (λ y. R x y) xs h.0 j d (omega arith)
+pairs_index R (x ∷ xs) h (suc i) (suc j) d before inside = pairs_index R xs h.1 i j d (omega arith) (omega arith)
+
+pub pairs_append : {A : Type 0} (R : A → A → Type 0) (xs ys : List A) → Pairs R xs → Pairs R ys → AllByRecursion (λ x. AllByRecursion (λ y. R x y) ys) xs → Pairs R (xs ++ ys)
+pairs_append R [] ys h k across = k
+pairs_append R (x ∷ xs) ys h k across = (all_append (λ y. R x y) xs ys h.0 across.0, pairs_append R xs ys h.1 k across.1)
+
+pub pairs_take : {A : Type 0} (R : A → A → Type 0) (n : ℕ) (xs : List A) → Pairs R xs → Pairs R (take n xs)
+pairs_take R zero xs h = tt
+pairs_take R (suc n) [] h = tt
+pairs_take R (suc n) (x ∷ xs) h = (all_take (λ y. R x y) n xs h.0, pairs_take R n xs h.1)
+
+pairs_placed : {A : Type 0} (cmp : A → A → Ordering) (R : A → A → Type 0) (back : (x y : A) → R x y → R y x) (x : A) (ys : List A) → AllByRecursion (λ y. R x y) ys → Pairs R ys → Pairs R (placed cmp x ys)
+pairs_placed cmp R back x [] h k = (tt, tt)
+pairs_placed {A} cmp R back x (y ∷ ys) h k = step (is_gt (cmp x y)) refl (pairs_placed cmp R back x ys h.1 k.1) where
+  step : (b : Bool) → is_gt (cmp x y) ≡ b → Pairs R (placed cmp x ys) → Pairs R (placed cmp x (y ∷ ys))
+  step true e rest = rw e (all_placed cmp (λ z. R y z) x ys (back x y h.0) k.0, rest)
+  step false e rest = rw e (h, k)
+
+pub pairs_sorted : {A : Type 0} (cmp : A → A → Ordering) (R : A → A → Type 0) → ((x y : A) → R x y → R y x) → (xs : List A) → Pairs R xs → Pairs R (sorted cmp xs)
+pairs_sorted cmp R back [] h = tt
+pairs_sorted {A} cmp R back (x ∷ xs) h = pairs_placed cmp R back x (sorted cmp xs) (all_sorted_here (λ y. R x y) xs h.0) (pairs_sorted cmp R back xs h.1) where
+  all_sorted_here : (P : A → Type 0) (ys : List A) → AllByRecursion P ys → AllByRecursion P (sorted cmp ys)
+  all_sorted_here P [] k = tt
+  all_sorted_here P (y ∷ ys) k = all_placed cmp P y (sorted cmp ys) k.0 (all_sorted_here P ys k.1)
+
+-- ---- in the other order
+
+pub in_reverse : {A : Type 0} (x : A) (xs : List A) → In x (reverse xs) → In x xs
+in_reverse x [] h = h
+in_reverse {A} x (y ∷ ys) h = by (λ k. in_reverse x ys k) (in_append x (reverse ys) (y ∷ []) (subst (λ (zs : List A). In x zs) (reverse_onto ys y []) h)) where
+  by : (In x (reverse ys) → In x ys) → In x (reverse ys) ⊎ In x (y ∷ []) → In x (y ∷ ys)
+  by later (inl k) = inr (later k)
+  by later (inr (inl e)) = inl e
+  by later (inr (inr k)) = absurd k
+
+pub in_reversed : {A : Type 0} (x : A) (xs : List A) → In x xs → In x (reverse xs)
+in_reversed x [] h = h
+in_reversed {A} x (y ∷ ys) (inl e) = subst (λ (zs : List A). In x zs) (sym (reverse_onto ys y [])) (in_right x (reverse ys) (y ∷ []) (inl e))
+in_reversed {A} x (y ∷ ys) (inr there) = subst (λ (zs : List A). In x zs) (sym (reverse_onto ys y [])) (in_left x (reverse ys) (y ∷ []) (in_reversed x ys there))
+
+pub all_reversed : {A : Type 0} (P : A → Type 0) (xs : List A) → AllByRecursion P (reverse xs) → AllByRecursion P xs
+all_reversed P xs h = all_in P xs (λ x there. all_at P (reverse xs) x h (in_reversed x xs there))
+
+-- ---- documents
+
+pub record Has (hits : List Hit) (doc : ℕ) : Type 0 where
+  pub hit : Hit
+  pub there : In hit hits
+  pub is : hit.doc ≡ doc
+
+pub doc_cases : (doc : ℕ) (hits : List Hit) → Has hits doc ⊎ AllByRecursion (λ (hit : Hit). hit.doc ≢ doc) hits
+doc_cases doc [] = inr tt
+doc_cases doc (hit ∷ hits) = by (cases_eq hit.doc doc) (doc_cases doc hits) where
+  by : (hit.doc ≡ doc) ⊎ (hit.doc ≡ doc → ⊥) → Has hits doc ⊎ AllByRecursion (λ (h : Hit). h.doc ≢ doc) hits → Has (hit ∷ hits) doc ⊎ AllByRecursion (λ (h : Hit). h.doc ≢ doc) (hit ∷ hits)
+  by (inl e) rest = inl (record { hit = hit; there = inl refl; is = e })
+  by (inr apart) (inl has) = inl (record { hit = has.hit; there = inr has.there; is = has.is })
+  by (inr apart) (inr none) = inr (apart, none)

@@ -1,0 +1,159 @@
+-- Hits in order, and the first of some scores.
+use Rattle.std.proofs.Common.{◌≡◌, ◌≢◌, ℕ, zero, suc, ◌+◌, ◌-◌, ◌/◌, ◌<◌, ◌≤◌, ◌==◌, List, [], ◌∷◌, length, take, get_or, Bool, true, false, refl, sym, ap, subst, ◌∙◌, arith, inl, inr, ◌⊎◌, eq-eqb, true≢false}
+use Rattle.std.specs.Prelude.{IsPermutation, reverse, slice_get, nat_lt, min, IsTrue, Option, Some, None, IfSome, is_some, option_map, if◌then◌else◌}
+use Rattle.std.specs.List.{AllByRecursion}
+use Rattle.std.specs.Ordering.{is_gt}
+use Rattle.std.proofs.lemmas.Bool.{cases_eq, cases_lt}
+use Rattle.std.proofs.lemmas.Bool.Decides.{nat_tests}
+use Rattle.std.proofs.lemmas.List.{get_or-reverse, length-reverse, take_min}
+use Rattle.std.proofs.lemmas.Option.{slice_get_past, slice_get_read}
+use Rattle.std.proofs.lemmas.List.Sorted.{IsPermutation-reverse, IsPermutation-sym, IsPermutation-trans}
+use Rattle.jass_base.specs.declared.answer.Hit.{Hit}
+use Rattle.ranking_model.specs.Order.{sorted}
+use Rattle.ranking_model.specs.Scores.{rank_cmp, hits_from, first_ranked, runner_up}
+use Rattle.ranking_model.proofs.Sorting.{Ascends, all_sorted, one_order, sorted_ascending, sorted_ascends}
+use Rattle.ranking_model.proofs.Orders.{rank_total, rank_same}
+use Rattle.ranking_model.proofs.Weighing.{Pairs}
+use Rattle.topk_heap.specs.Standing.{AreInOrder, IsHeap}
+use Rattle.topk_heap.proofs.Lists.{all_at, all_by_index, all_in, in_reverse, all_imp, all_take, all_index, pairs_sorted, pairs_take}
+use Rattle.topk_heap.proofs.Rows.{take_front}
+
+abbrev pub Apart : Hit → Hit → Type 0
+Apart a b = a.doc ≢ b.doc
+
+-- a hit of the scores: its document has this score
+abbrev pub Own : List ℕ → Hit → Type 0
+Own scores hit = (hit.doc < length scores) × (1 ≤ hit.score) × (hit.score ≡ get_or scores hit.doc 0)
+
+-- ---- order
+
+behind : (x y : Hit) → is_gt (rank_cmp x y) ≡ false → x.doc ≢ y.doc → is_gt (rank_cmp y x) ≡ true
+behind x y above apart = grind (arith, nat_tests)
+
+before : (x y : Hit) → is_gt (rank_cmp y x) ≡ true → is_gt (rank_cmp x y) ≡ false
+before x y below = grind (arith, nat_tests)
+
+pub in_order : (xs : List Hit) → Ascends rank_cmp xs → Pairs Apart xs → AreInOrder xs
+in_order [] up apart = tt
+in_order (x ∷ xs) up apart = (each xs up.0 apart.0, in_order xs up.1 apart.1) where
+  each : (ys : List Hit) → AllByRecursion (λ y. is_gt (rank_cmp x y) ≡ false) ys → AllByRecursion (λ y. Apart x y) ys → AllByRecursion (λ y. (is_gt (rank_cmp y x) ≡ true) × (y.doc ≢ x.doc)) ys
+  each [] up apart = tt
+  each (y ∷ ys) up apart = ((behind x y up.0 apart.0, λ e. apart.0 (sym e)), each ys up.1 apart.1)
+
+pub order_ascends : (xs : List Hit) → AreInOrder xs → Ascends rank_cmp xs
+order_ascends [] order = tt
+order_ascends (x ∷ xs) order = (all_imp (λ (y : Hit). (is_gt (rank_cmp y x) ≡ true) × (y.doc ≢ x.doc)) (λ y. is_gt (rank_cmp x y) ≡ false) (λ y h. before x y h.0) xs order.0, order_ascends xs order.1)
+
+pub order_apart : (xs : List Hit) → AreInOrder xs → Pairs Apart xs
+order_apart [] order = tt
+order_apart (x ∷ xs) order = (all_imp (λ (y : Hit). (is_gt (rank_cmp y x) ≡ true) × (y.doc ≢ x.doc)) (λ y. Apart x y) (λ y h e. h.1 (sym e)) xs order.0, order_apart xs order.1)
+
+order_index : (xs : List Hit) → AreInOrder xs → (i j : ℕ) (d : Hit) → i < j → j < length xs → is_gt (rank_cmp (get_or xs j d) (get_or xs i d)) ≡ true
+order_index [] order i j d up inside = absurd (omega arith)
+order_index (x ∷ xs) order i zero d up inside = absurd (omega arith)
+order_index (x ∷ xs) order zero (suc j) d up inside = (all_index (λ (y : Hit). (is_gt (rank_cmp y x) ≡ true) × (y.doc ≢ x.doc)) xs order.0 j d (omega arith)).0
+order_index (x ∷ xs) order (suc i) (suc j) d up inside = order_index xs order.1 i j d (omega arith) (omega arith)
+
+-- the last in front is a heap
+pub heap_of : (xs : List Hit) → AreInOrder xs → IsHeap (reverse xs)
+heap_of xs order i some inside =
+    let zero_hit : Hit = record { doc = 0; score = 0 } in
+    let n : ℕ = length xs in
+    let size : length (reverse xs) ≡ n = length-reverse xs in
+    let up : (i - 1) / 2 < i = omega arith in
+    subst (λ (h : Hit). is_gt (rank_cmp h (get_or (reverse xs) i zero_hit)) ≡ true) (sym (get_or-reverse xs ((i - 1) / 2) zero_hit (omega (arith, size, up, inside))))
+    (subst (λ (h : Hit). is_gt (rank_cmp (get_or xs (n - 1 - (i - 1) / 2) zero_hit) h) ≡ true) (sym (get_or-reverse xs i zero_hit (omega (arith, size, inside))))
+    (order_index xs order (n - 1 - i) (n - 1 - (i - 1) / 2) zero_hit (omega (arith, size, up, inside)) (omega (arith, size, up, inside))))
+
+-- ---- the first of some scores
+
+ascends_take : (n : ℕ) (xs : List Hit) → Ascends rank_cmp xs → Ascends rank_cmp (take n xs)
+ascends_take zero xs h = tt
+ascends_take (suc n) [] h = tt
+ascends_take (suc n) (x ∷ xs) h = (all_take (λ y. is_gt (rank_cmp x y) ≡ false) n xs h.0, ascends_take n xs h.1)
+
+pub hits_each : (P : Hit → Type 0) (from : ℕ) (scores : List ℕ) → ((i : ℕ) → i < length scores → 1 ≤ get_or scores i 0 → P (record { doc = from + i; score = get_or scores i 0 })) → AllByRecursion P (hits_from from scores)
+hits_each P from [] each = tt
+hits_each P from (score ∷ scores) each = by (cases_eq score 0) (hits_each P (from + 1) scores (λ i inside some. let e : from + suc i ≡ from + 1 + i = omega arith in subst (λ d. P (record { doc = d; score = get_or scores i 0 })) e (each (suc i) (omega arith) some))) where
+  first : 1 ≤ score → P (record { doc = from; score = score })
+  first some = let e : from + 0 ≡ from = omega arith in subst (λ d. P (record { doc = d; score = score })) e (each 0 (omega arith) some)
+
+  by : (score ≡ 0) ⊎ (score ≡ 0 → ⊥) → AllByRecursion P (hits_from (from + 1) scores) → AllByRecursion P (hits_from from (score ∷ scores))
+  by (inl e) rest = let t : (score == 0) ≡ true = eq-eqb score 0 e in rw t rest
+  by (inr apart) rest = let f : (score == 0) ≡ false = grind (arith, nat_tests) in rw f (first (omega arith), rest)
+
+hits_apart : (from : ℕ) (scores : List ℕ) → Pairs Apart (hits_from from scores)
+hits_apart from [] = tt
+hits_apart from (score ∷ scores) = step (score == 0) (hits_apart (from + 1) scores) where
+  step : (b : Bool) → Pairs Apart (hits_from (from + 1) scores) → Pairs Apart (if b then hits_from (from + 1) scores else record { doc = from; score = score } ∷ hits_from (from + 1) scores)
+  step true rest = rest
+  step false rest = (hits_each (λ (h : Hit). from ≢ h.doc) (from + 1) scores (λ i inside some e. absurd (omega arith)), rest)
+
+pub first_own : (scores : List ℕ) (m : ℕ) → AllByRecursion (Own scores) (first_ranked scores m)
+first_own scores m =
+    all_take (Own scores) m (sorted rank_cmp (hits_from 0 scores)) (all_sorted rank_cmp (Own scores) (hits_from 0 scores)
+    (hits_each (Own scores) 0 scores (λ i inside some. let e : i ≡ 0 + i = omega arith in subst (λ d. Own scores (record { doc = d; score = get_or scores i 0 })) e (inside, some, refl))))
+
+pub all_in_order : (scores : List ℕ) → AreInOrder (sorted rank_cmp (hits_from 0 scores))
+all_in_order scores =
+    in_order (sorted rank_cmp (hits_from 0 scores)) (sorted_ascends rank_cmp rank_total (hits_from 0 scores))
+    (pairs_sorted rank_cmp Apart (λ x y apart e. apart (sym e)) (hits_from 0 scores) (hits_apart 0 scores))
+
+pub first_in_order : (scores : List ℕ) (m : ℕ) → AreInOrder (first_ranked scores m)
+first_in_order scores m =
+    in_order (first_ranked scores m) (ascends_take m (sorted rank_cmp (hits_from 0 scores)) (sorted_ascends rank_cmp rank_total (hits_from 0 scores)))
+    (pairs_take Apart m (sorted rank_cmp (hits_from 0 scores)) (pairs_sorted rank_cmp Apart (λ x y apart e. apart (sym e)) (hits_from 0 scores) (hits_apart 0 scores)))
+
+-- hits in order whose heap is the first of some scores are these
+pub is_first : (scores : List ℕ) (m : ℕ) (row : List Hit) → AreInOrder row → IsPermutation (first_ranked scores m) (reverse row) → row ≡ first_ranked scores m
+is_first scores m row order moved =
+    sym (one_order rank_cmp rank_total rank_same (first_ranked scores m) row
+    (IsPermutation-trans (first_ranked scores m) (reverse row) row moved (IsPermutation-sym row (reverse row) (IsPermutation-reverse row)))
+    (sorted_ascending rank_cmp rank_total (first_ranked scores m) (order_ascends (first_ranked scores m) (first_in_order scores m)))
+    (sorted_ascending rank_cmp rank_total row (order_ascends row order)))
+
+pub front_is_first : (scores : List ℕ) (k : ℕ) (row : List Hit) → AreInOrder row → IsPermutation (first_ranked scores (k + 1)) (reverse row) → take k row ≡ first_ranked scores k
+front_is_first scores k row order moved =
+    ap (λ (xs : List Hit). take k xs) (is_first scores (k + 1) row order moved) ∙ take_front k (k + 1) (sorted rank_cmp (hits_from 0 scores)) (omega arith)
+
+pub ranked_is : (scores : List ℕ) (k n : ℕ) (row front : List Hit) → AreInOrder row → front ≡ row → n ≡ min (length front) k → IsPermutation (first_ranked scores (k + 1)) (reverse row) → take n front ≡ first_ranked scores k
+ranked_is scores k n row front order same is moved =
+    ap (λ (xs : List Hit). take n xs) same ∙ ap (λ i. take i row) (let size = ap (λ (xs : List Hit). length xs) same in omega arith)
+    ∙ take_min k row ∙ front_is_first scores k row order moved
+
+pub looked_up : {B : Type 0} (now : B → Hit) (xs : List Hit) (i : ℕ) (r : Option B) → is_some r ≡ nat_lt i (length xs) → IfSome r (λ x. now x ≡ get_or xs i (now x)) → option_map now r ≡ slice_get xs i
+looked_up {B = B} now xs i None there is = sym (slice_get_past xs i (by (cases_lt i (length xs)))) where
+  by : (i < length xs) ⊎ (length xs ≤ i) → length xs ≤ i
+  by (inr past) = past
+  by (inl inside) = absurd (true≢false (sym (let t : nat_lt i (length xs) ≡ true = grind (arith, nat_tests) in there ∙ t)))
+looked_up {B = B} now xs i (Some x) there is = sym (slice_get_read xs (length xs) i (now x) refl (by (cases_lt i (length xs))) is) where
+  by : (i < length xs) ⊎ (length xs ≤ i) → i < length xs
+  by (inl inside) = inside
+  by (inr past) = absurd (true≢false (let f : nat_lt i (length xs) ≡ false = grind (arith, nat_tests) in there ∙ f))
+
+pub next_is : (scores : List ℕ) (k : ℕ) (row front : List Hit) (o : Option Hit) → AreInOrder row → front ≡ row → o ≡ slice_get front k → IsPermutation (first_ranked scores (k + 1)) (reverse row) → o ≡ runner_up scores k
+next_is scores k row front o order same is moved = is ∙ ap (λ (xs : List Hit). slice_get xs k) (same ∙ is_first scores (k + 1) row order moved)
+
+-- a hit behind the last of hits in order is behind all of them
+pub behind_all : (x : Hit) (xs : List Hit) (k : ℕ) (d last : Hit) → AreInOrder xs → length xs ≤ k + 1 → k < length xs → last ≡ get_or xs k d → is_gt (rank_cmp x last) ≡ true → AllByRecursion (λ y. is_gt (rank_cmp x y) ≡ true) (reverse xs)
+behind_all x xs k d last order few inside is behind_last =
+    all_in (λ y. is_gt (rank_cmp x y) ≡ true) (reverse xs) (λ y there. all_at (λ y. is_gt (rank_cmp x y) ≡ true) xs y (all_by_index (λ y. is_gt (rank_cmp x y) ≡ true) d xs (λ i here. by i here (cases_eq i k))) (in_reverse y xs there))
+  where
+    further : (a b c : Hit) → is_gt (rank_cmp a b) ≡ true → is_gt (rank_cmp b c) ≡ true → is_gt (rank_cmp a c) ≡ true
+    further a b c one two = grind (arith, nat_tests)
+
+    by : (i : ℕ) → i < length xs → (i ≡ k) ⊎ (i ≡ k → ⊥) → is_gt (rank_cmp x (get_or xs i d)) ≡ true
+    by i here (inl e) = subst (λ j. is_gt (rank_cmp x (get_or xs j d)) ≡ true) (sym e) (subst (λ (h : Hit). is_gt (rank_cmp x h) ≡ true) is behind_last)
+    by i here (inr apart) = further x last (get_or xs i d) behind_last (subst (λ (h : Hit). is_gt (rank_cmp h (get_or xs i d)) ≡ true) (sym is) (order_index xs order i k d (omega arith) inside))
+
+pub by_score : (doc score : ℕ) (last : Hit) → score < last.score → is_gt (rank_cmp (record { doc = doc; score = score }) last) ≡ true
+by_score doc score last low = grind (arith, nat_tests)
+
+pub by_doc : (doc score : ℕ) (last : Hit) → last.score ≡ score → last.doc < doc → is_gt (rank_cmp (record { doc = doc; score = score }) last) ≡ true
+by_doc doc score last same high = grind (arith, nat_tests)
+
+pub ltb_says : (a b : ℕ) → IsTrue (nat_lt a b) → a < b
+ltb_says a b said = by (cases_lt a b) where
+  by : (a < b) ⊎ (b ≤ a) → a < b
+  by (inl low) = low
+  by (inr high) = absurd (true≢false (let f : nat_lt a b ≡ false = grind (arith, nat_tests) in sym said ∙ f))

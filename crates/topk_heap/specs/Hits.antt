@@ -1,0 +1,20 @@
+-- Hits in a room of fixed size.
+use Rattle.std.specs.Prelude.{ℕ, List, length, take, slice_index_or, slice_set}
+use Rattle.jass_base.specs.declared.answer.Hit.{Hit}
+
+-- the hits, and how many there is room for
+pub record HitsView : Type 0 where
+  pub hits : List Hit
+  pub room : ℕ
+
+-- a row whose first `count` items are hits
+abbrev pub hits_view : List Hit → ℕ → HitsView
+hits_view row count = record { hits = take count row; room = length row }
+
+-- the hit at a place; document 0 with score 0 past the end
+abbrev pub hit_at : List Hit → ℕ → Hit
+hit_at hits place = slice_index_or hits place (record { doc = 0; score = 0 })
+
+-- the hits with another score for the one at a place
+abbrev pub with_score : List Hit → ℕ → ℕ → List Hit
+with_score hits place score = slice_set hits place (record { doc = (hit_at hits place).doc; score = score })

@@ -1,0 +1,118 @@
+ghost use Rattle.std.specs.Prelude.{true, replicate, IsTrue, reverse, ◌≡◌, ◌≢◌, ℕ, List, ◌+◌, ◌<◌, ◌≤◌, ◌++◌, [], All, AllPairs, IfOk, length, slice_get, slice_index, take};
+ghost use Rattle.std.specs.List.{AllByRecursion};
+ghost use Rattle.std.specs.Ordering.{is_gt};
+ghost use Rattle.accumulator_pages.specs.Pages.{Stands, docs_of, pages_places, pages_scores};
+ghost use Rattle.ranking_model.specs.Scores.{rank_cmp, first_ranked, runner_up};
+ghost use Rattle.topk_heap.specs.Places.{KeepsScores};
+ghost use Rattle.topk_heap.specs.Standing.{AreInOrder, StandsBelow, HaveFirst, IsPlaced, IsTouched, TopStands, with_heap};
+
+use crate::hits::Hits;
+use crate::settling::{clear_places, gather, rescore, set_places};
+use accumulator_pages::Pages;
+use frame_pool::FramePool;
+use jass_base::{Hit, NoMemory};
+use std::alloc::Global;
+use std::marker::Model;
+
+/// The first k + 1 documents of a session by falling score, then rising number, each with its score. The heap is these from
+/// the last to the first; a document's heap place in the pages is its place there plus 1.
+#[derive(Drop)]
+pub struct Top {
+    k: u32,
+    hits: Hits,
+}
+
+impl Model for Top {
+    ghost use Rattle.topk_heap.specs.Standing.{IsTop, TopView, top_view};
+
+    ghost Value = { TopView };
+
+    ghost view = { λ t. top_view t.k t.hits };
+
+    ghost invariant = { λ t. IsTop t.k t.hits };
+}
+
+impl Top {
+    /// An empty heap for the first k documents and the one after them, 1 to 100,000, with room for so many raised documents at
+    /// a time, and at least for one. No other call takes memory.
+    pub fn new(alloc: Global, k: u32, room: usize) -> Result<Top, NoMemory>
+        requires some { 1 ≤ k }
+        requires few { k ≤ 100000 }
+        requires room { room ≤ 4294967296 }
+        ensures k { IfOk result (λ top. top.k ≡ k) }
+        ensures empty { IfOk result (λ top. top.hits ≡ []) }
+        ensures stands { IfOk result (λ top. (docs : ℕ) → TopStands top (replicate docs 0) (replicate docs 0)) }
+        ensures room { IfOk result (λ top. room ≤ top.room) }
+    {
+        let hits = Hits::new(alloc, k as usize + 1 + room.max(1))?;
+        Ok(Top { k, hits })
+    }
+
+    /// Takes in what some documents have gained. The first k + 1 documents are in the heap already, or among those raised.
+    pub fn settle(&mut self, pages: &mut Pages, pool: &mut FramePool, raised: &[u32])
+        requires pages { Stands pages.old pool.old }
+        requires placed { IsPlaced self.old (pages_scores pages.old pool.old) (pages_places pages.old pool.old) }
+        requires touched { All (IsTouched (pages_scores pages.old pool.old)) raised.now }
+        requires once { AllPairs (λ a b. a ≢ b) raised.now }
+        requires first { HaveFirst (pages_scores pages.old pool.old) (self.old.k + 1) (with_heap self.old raised.now) }
+        requires room { length raised.now ≤ self.old.room }
+        ensures stands { TopStands self.new (pages_scores pages.new pool.new) (pages_places pages.new pool.new) }
+        ensures keeps { KeepsScores pages.old pages.new pool.old pool.new }
+        ensures k { self.new.k ≡ self.old.k }
+        ensures room { self.new.room ≡ self.old.room }
+    {
+        let standing = self.hits.len();
+        rescore(&mut self.hits, pages, pool);
+        gather(&mut self.hits, pages, pool, raised);
+        clear_places(pages, pool, &self.hits.as_slice()[..standing]);
+        self.hits.keep_first(self.k as usize + 1);
+        set_places(pages, pool, self.hits.as_slice());
+    }
+
+    /// Takes in what one document has gained.
+    pub fn raise(&mut self, pages: &mut Pages, pool: &mut FramePool, doc: u32)
+        requires pages { Stands pages.old pool.old }
+        requires below { StandsBelow self.old (pages_scores pages.old pool.old) (pages_places pages.old pool.old) doc }
+        ensures stands { TopStands self.new (pages_scores pages.new pool.new) (pages_places pages.new pool.new) }
+        ensures keeps { KeepsScores pages.old pages.new pool.old pool.new }
+        ensures k { self.new.k ≡ self.old.k }
+        ensures room { self.new.room ≡ self.old.room }
+    {
+        let score = pages.get(pool, doc);
+        if !self.is_full_before(doc, score) {
+            self.settle(pages, pool, &[doc]);
+        }
+    }
+
+    // Whether the heap is full, and all its documents rank before this one.
+    fn is_full_before(&self, doc: u32, score: u32) -> bool
+        ensures full { IsTrue result → length self.now.hits ≡ self.now.k + 1 }
+        ensures before { IsTrue result → AllByRecursion (λ other. is_gt (rank_cmp (record { doc = doc; score = score }) other) ≡ true)
+            self.now.hits }
+        ensures order { AreInOrder (reverse self.now.hits) }
+        ensures room { 1 ≤ self.now.room }
+    {
+        let hits = self.hits.as_slice();
+        let last = self.k as usize;
+        if hits.len() <= last {
+            return false;
+        }
+        let last = hits[last];
+        last.score > score || (last.score == score && last.doc < doc)
+    }
+
+    /// The first k documents.
+    pub fn ranked(&self) -> &[Hit]
+        ensures { (scores places : List ℕ) → TopStands self.now scores places → result.now ≡ first_ranked scores self.now.k }
+    {
+        let hits = self.hits.as_slice();
+        &hits[..hits.len().min(self.k as usize)]
+    }
+
+    /// The document after the first k, and `None` exactly where at most k documents have a score.
+    pub fn runner_up(&self) -> Option<Hit>
+        ensures { (scores places : List ℕ) → TopStands self.now scores places → result ≡ runner_up scores self.now.k }
+    {
+        self.hits.as_slice().get(self.k as usize).copied()
+    }
+}
