@@ -1,5 +1,5 @@
 -- The documents that are read are those of the messages, and those of the messages are read.
-use Rattle.std.proofs.Common.{◌≡◌, ◌≢◌, ℕ, zero, suc, ◌+◌, ◌-◌, ◌^◌, ◌<◌, ◌≤◌, Bool, true, false, not, cond, List, [], ◌∷◌, ◌++◌, length, get_or, map, replicate, Option, Some, None, Result, Ok, Err, refl, sym, ap, subst, ◌∙◌, append_assoc, arith, inl, inr, get_or-set_same, get_or-set_other}
+use Rattle.std.proofs.Common.{◌≡◌, ◌≢◌, ℕ, zero, suc, ◌+◌, ◌-◌, ◌^◌, ◌<◌, ◌≤◌, Bool, true, false, not, cond, List, [], ◌∷◌, ◌++◌, length, get_or, map, replicate, Option, Some, None, Result, Ok, Err, refl, sym, ap, subst, ◌∙◌, append_assoc, arith, inl, inr}
 use Rattle.std.specs.Prelude.{◌==◌, ◌&&◌, nat_eq, nat_lt, nat_le, is_some, slice_get}
 use Rattle.std.specs.List.{AllZip, AllByRecursion, IsDistinct, list_all}
 use Rattle.std.specs.Str.{is_utf8}
@@ -23,7 +23,7 @@ use Rattle.ciff_read.proofs.ListLaws.{spells-front}
 use Rattle.ciff_read.proofs.MessageLaws.{message_found, message_only}
 use Rattle.ciff_read.proofs.PartLaws.{is_text, no_fault}
 use Rattle.ciff_read.proofs.Numbered.{among_all, insert_all}
-use Rattle.ciff_read.proofs.Tables.{values-with, reaches_past}
+use Rattle.ciff_read.proofs.Tables.{values-with, put_there, put_other}
 use Rattle.ciff_read.proofs.WalkLaws.{fields_found, fields_only}
 use Rattle.ciff_read.proofs.WireLaws.{WireLaws, bound, done_is, unplaced}
 
@@ -77,22 +77,6 @@ name_there s is =
 -- ---- tables
 
 module _ {R : Type 0} where
-  nothing_far : (n m : ℕ) → get_or (replicate {A = Option R} n None) m None ≡ None
-  nothing_far zero m = refl
-  nothing_far (suc n) zero = refl
-  nothing_far (suc n) (suc m) = nothing_far n m
-
-  reach_get : (table : List (Option R)) (k m : ℕ) → get_or (table ++ replicate k None) m None ≡ get_or table m None
-  reach_get [] k m = nothing_far k m
-  reach_get (o ∷ table) k zero = refl
-  reach_get (o ∷ table) k (suc m) = reach_get table k m
-
-  put_there : (table : List (Option R)) (n : ℕ) (r : R) → get_or (with_value table n r) n None ≡ Some r
-  put_there table n r = get_or-set_same (reaching table n) n (Some r) None (reaches_past table n)
-
-  put_other : (table : List (Option R)) (n m : ℕ) (r : R) → m ≢ n → get_or (with_value table n r) m None ≡ get_or table m None
-  put_other table n m r other = get_or-set_other (reaching table n) n m (Some r) None other ∙ reach_get table (n + 1 - length table) m
-
   put_within : (table : List (Option R)) (n docs : ℕ) (r : R) → length table ≤ docs → n < docs → length (with_value table n r) ≤ docs
   put_within table n docs r fits inside = omega (arith, length-set (reaching table n) n (Some r), length-append table (replicate {A = Option R} (n + 1 - length table) None), length-replicate (n + 1 - length table) (let e : Option R = None in e))
 

@@ -5,6 +5,7 @@ pub mod DocLaws
 pub mod FileLaws
 pub mod Files
 pub mod ListLaws
+pub mod Marks
 pub mod MessageLaws
 pub mod Messages
 pub mod Numbered

@@ -1,10 +1,20 @@
 -- How many values a table has, and what lies in one that reaches a number.
-use Rattle.std.proofs.Common.{◌≡◌, ℕ, zero, suc, ◌+◌, ◌-◌, ◌<◌, ◌≤◌, false, List, [], ◌∷◌, ◌++◌, length, get_or, set, replicate, map, option_map, Option, Some, None, refl, sym, ap, ◌∙◌, arith}
-use Rattle.std.specs.Prelude.{is_some}
+use Rattle.std.proofs.Common.{◌≡◌, ℕ, zero, suc, ◌+◌, ◌-◌, ◌<◌, ◌≤◌, ◌≢◌, Bool, true, false, List, [], ◌∷◌, ◌++◌, length, get_or, set, replicate, map, option_map, Option, Some, None, refl, sym, ap, ◌∙◌, arith}
+use Rattle.std.proofs.Common.{inl, inr, get_or-set_same, get_or-set_other}
+use Rattle.std.specs.Prelude.{◌||◌, nat_eq, is_some}
+use Rattle.std.proofs.lemmas.Bool.{cases_eq}
+use Rattle.std.proofs.lemmas.Bool.Decides.{nat_tests}
+use Rattle.std.proofs.lemmas.List.Sums.{fold-append}
 use Rattle.std.proofs.lemmas.Grind.{replicate_next}
 use Rattle.std.proofs.lemmas.List.{append_assoc, length-map, map-append, append-nil, length-append, length-replicate}
 use Rattle.std.proofs.lemmas.List.Elements.{filter_map-append}
-use Rattle.ciff_read.specs.Table.{has_value, reaching, with_value, values_of}
+use Rattle.ciff_read.specs.Table.{has_value, reaching, with_value, values_of, table_with}
+
+-- a list after one more place was put behind it
+pub reaches_more : {X : Type 0} (e : X) (old now : List X) → now ≡ old ++ replicate (length now - length old) e → length old ≤ length now → now ++ e ∷ [] ≡ old ++ replicate (length (now ++ e ∷ []) - length old) e
+reaches_more {X} e old now is longer =
+    let more : length (now ++ e ∷ []) - length old ≡ (length now - length old) + 1 = omega (arith, length-append now (e ∷ [])) in
+    ap (λ (t : List X). t ++ e ∷ []) is ∙ append_assoc old (replicate (length now - length old) e) (e ∷ []) ∙ ap (λ (t : List X). old ++ t) (sym (replicate_next (length now - length old) e) ∙ ap (λ n. replicate n e) (sym more))
 
 module _ {R : Type 0} where
   pub values-some : (table : List (Option R)) (e : Option R) (r : R) → e ≡ Some r → values_of (table ++ e ∷ []) ≡ values_of table ++ r ∷ []
@@ -12,12 +22,6 @@ module _ {R : Type 0} where
 
   pub values-none : (table : List (Option R)) (e : Option R) → e ≡ None → values_of (table ++ e ∷ []) ≡ values_of table
   values-none table e is = filter_map-append (λ (o : Option R). o) table (e ∷ []) ∙ ap (λ (o : Option R). values_of table ++ values_of (o ∷ [])) is ∙ append-nil (values_of table)
-
-  -- the table after one more place was put behind it
-  pub reaches_more : (old now : List (Option R)) → now ≡ old ++ replicate (length now - length old) None → length old ≤ length now → now ++ None ∷ [] ≡ old ++ replicate (length (now ++ None ∷ []) - length old) None
-  reaches_more old now is longer =
-      let more : length (now ++ None ∷ []) - length old ≡ (length now - length old) + 1 = omega (arith, length-append now (let e : Option R = None in e ∷ [])) in
-      ap (λ (t : List (Option R)). t ++ None ∷ []) is ∙ append_assoc old (replicate (length now - length old) None) (None ∷ []) ∙ ap (λ (t : List (Option R)). old ++ t) (sym (replicate_next (length now - length old) None) ∙ ap (λ n. replicate n None) (sym more))
 
   values-none_all : (n : ℕ) → values_of (replicate {A = Option R} n None) ≡ []
   values-none_all zero = refl
@@ -47,13 +51,36 @@ module _ {R : Type 0} where
   none_past (o ∷ table) zero past = absurd (omega arith)
   none_past (o ∷ table) (suc n) past = none_past table n (omega arith)
 
+  reach_get : (table : List (Option R)) (k m : ℕ) → get_or (table ++ replicate k None) m None ≡ get_or table m None
+  reach_get [] k m = nothing_there k m
+  reach_get (o ∷ table) k zero = refl
+  reach_get (o ∷ table) k (suc m) = reach_get table k m
+
   pub still_missing : (table : List (Option R)) (more n : ℕ) → get_or table n None ≡ None → get_or (table ++ replicate more None) n None ≡ None
-  still_missing [] more n missing = nothing_there more n
-  still_missing (o ∷ table) more zero missing = missing
-  still_missing (o ∷ table) more (suc n) missing = still_missing table more n missing
+  still_missing table more n missing = reach_get table more n ∙ missing
 
   pub reaches_past : (table : List (Option R)) (n : ℕ) → n < length (reaching table n)
   reaches_past table n = omega (arith, length-append table (replicate {A = Option R} (n + 1 - length table) None), length-replicate (n + 1 - length table) (let e : Option R = None in e))
+
+  pub put_there : (table : List (Option R)) (n : ℕ) (r : R) → get_or (with_value table n r) n None ≡ Some r
+  put_there table n r = get_or-set_same (reaching table n) n (Some r) None (reaches_past table n)
+
+  pub put_other : (table : List (Option R)) (n m : ℕ) (r : R) → m ≢ n → get_or (with_value table n r) m None ≡ get_or table m None
+  put_other table n m r other = get_or-set_other (reaching table n) n m (Some r) None other ∙ reach_get table (n + 1 - length table) m
+
+  -- one value more changes what is there at its number alone
+  pub has-with : (table : List (Option R)) (m n : ℕ) (r : R) → has_value (with_value table m r) n ≡ (nat_eq n m || has_value table n)
+  has-with table m n r = elim (cases_eq n m) [
+    | inl same ↦
+        let is : nat_eq n m ≡ true = grind (arith, nat_tests) in
+        ap is_some (ap (λ k. get_or (with_value table m r) k None) same ∙ put_there table m r) ∙ ap (λ (t : Bool). t || has_value table n) (sym is)
+    | inr other ↦
+        let is : nat_eq n m ≡ false = grind (arith, nat_tests) in
+        ap is_some (put_other table m n r other) ∙ ap (λ (t : Bool). t || has_value table n) (sym is)
+  ]
+
+  pub table-more : (entries : List (ℕ × R)) (e : ℕ × R) → table_with (entries ++ e ∷ []) ≡ with_value (table_with entries) e.0 e.1
+  table-more entries e = fold-append (λ (table : List (Option R)) (e : ℕ × R). with_value table e.0 e.1) [] entries (e ∷ [])
 
   pub values-with : (table : List (Option R)) (n : ℕ) (r : R) → has_value table n ≡ false → length (values_of (with_value table n r)) ≡ length (values_of table) + 1
   values-with table n r new =

@@ -1,6 +1,7 @@
 pub mod Examples
 pub mod Judging
 pub mod Kept
+pub mod Marks
 pub mod Places
 pub mod Reading
 pub mod Refusals

@@ -14,6 +14,8 @@ use Rattle.ciff_read.specs.declared.gathered.Gathered.{Gathered}
 use Rattle.ciff_read.specs.declared.list_fields.ListFields.{ListFields}
 use Rattle.ciff_read.specs.declared.refusal.CiffRefusal.{CiffRefusal}
 use Rattle.ciff_read.specs.Judging.{FileStart, ListStart, NumberedDoc, numbers_of, gather}
+use Rattle.ciff_read.specs.Marks.{is_marked}
+use Rattle.ciff_read.specs.Table.{has_value, table_with}
 use Rattle.ciff_read.specs.Walking.{PlacedEntry, entry_inside}
 use Rattle.wire_fields.specs.declared.field.Field.{Field}
 use Rattle.wire_fields.specs.Places.{field_in}
@@ -86,9 +88,13 @@ abbrev pub GathersField : List ℕ → ℕ → Field → Result Unit CiffFault �
 GathersField bytes at field (Ok x) old now = GathersInside bytes at field old now
 GathersField bytes at field (Err fault) old now = Fails fault (entry_inside at field.next (field_in bytes field))
 
--- the documents of a table without their ranges
+-- the documents by number, without their ranges
 abbrev pub table_of : Documents → List (Option DocData)
-table_of documents = map (option_map doc_data) documents.records.items
+table_of documents = map (option_map doc_data) (table_with documents.records.items)
+
+-- the numbers of the records are marked, and no others
+abbrev pub AreMarked : Documents → Type 0
+AreMarked documents = (n : ℕ) → is_marked documents.numbers.words.items n ≡ has_value (table_with documents.records.items) n
 
 -- the values of a table with their numbers, of which the first is given
 abbrev pub numbered_from : ℕ → List (Option DocData) → List NumberedDoc
@@ -100,10 +106,14 @@ numbered_from n (Some doc ∷ table) = record { number = n; doc = doc } ∷ numb
 abbrev pub records_of : Documents → List NumberedDoc
 records_of documents = numbered_from 0 (table_of documents)
 
+-- the numbers of the records so far
+abbrev pub seen_in : Documents → List ℕ
+seen_in documents = numbers_of (records_of documents)
+
 -- a document was read and put to its place
 abbrev pub PutsDoc : List ℕ → ℕ → Body → ℕ → Result Unit CiffFault → Documents → Documents → Type 0
-PutsDoc bytes at body docs (Ok x) old now = (doc : NumberedDoc) × (doc_at docs (numbers_of (records_of old)) at (message_in bytes body) ≡ Ok doc) × (records_of now ≡ inserted doc (records_of old))
-PutsDoc bytes at body docs (Err fault) old now = Fails fault (doc_at docs (numbers_of (records_of old)) at (message_in bytes body))
+PutsDoc bytes at body docs (Ok x) old now = (doc : NumberedDoc) × (doc_at docs (seen_in old) at (message_in bytes body) ≡ Ok doc) × (records_of now ≡ inserted doc (records_of old))
+PutsDoc bytes at body docs (Err fault) old now = Fails fault (doc_at docs (seen_in old) at (message_in bytes body))
 
 -- lists, and the place behind them
 abbrev pub lists_in : List ℕ → List PostingsList × ℕ → ListsRead

@@ -1,5 +1,5 @@
 -- A table of values by number, in which some are missing.
-use Rattle.std.specs.Prelude.{ℕ, ◌+◌, ◌-◌, Bool, List, ◌++◌, length, Option, Some, None, replicate, slice_index_or, slice_set, is_some}
+use Rattle.std.specs.Prelude.{ℕ, ◌+◌, ◌-◌, Bool, List, [], ◌++◌, length, fold, Option, Some, None, replicate, slice_index_or, slice_set, is_some}
 use Rattle.std.specs.List.{filter_map}
 
 module _ {R : Type 0} where
@@ -18,3 +18,7 @@ module _ {R : Type 0} where
   -- the values by rising numbers
   abbrev pub values_of : List (Option R) → List R
   values_of table = filter_map (λ entry. entry) table
+
+  -- the table of values with their numbers
+  abbrev pub table_with : List (ℕ × R) → List (Option R)
+  table_with entries = fold (λ (table : List (Option R)) (e : ℕ × R). with_value table e.0 e.1) [] entries

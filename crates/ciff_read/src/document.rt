@@ -2,10 +2,9 @@ ghost use Rattle.std.specs.Prelude.{◌≡◌, ◌≢◌, ◌==◌, ◌&&◌, �
 ghost use Rattle.std.specs.List.{list_all};
 ghost use Rattle.jass_base.specs.Limits.{IsName};
 ghost use Rattle.ciff_read.specs.Judging as judging;
-ghost use Rattle.ciff_read.specs.Places.{numbered_in, records_of, PutsDoc};
+ghost use Rattle.ciff_read.specs.Places.{numbered_in, records_of, seen_in, AreMarked, PutsDoc};
 ghost use Rattle.ciff_read.specs.Reading.{numbered_at};
 ghost use Rattle.ciff_read.specs.Refusals.{Gives};
-ghost use Rattle.ciff_read.specs.Table.{has_value};
 
 use crate::body::Body;
 use crate::doc_fields::DocFields;
@@ -55,7 +54,9 @@ pub fn read_document(
     documents: &mut Documents,
 ) -> Result<(), CiffFault>
     requires within { body.end ≤ length bytes.now }
+    requires marked { AreMarked documents.old }
     ensures exact { PutsDoc bytes.now at body docs result documents.old documents.new }
+    ensures marked { OnOk result (AreMarked documents.new) }
     ensures one { OnOk result (length (records_of documents.new) ≡ length (records_of documents.old) + 1) }
 {
     let fields = match walk_document(&bytes[..body.end], body.from) {
@@ -85,9 +86,10 @@ fn judge_document<'a>(
     docs: u32,
     documents: &Documents,
 ) -> Result<(u32, &'a str), CiffWhy>
-    ensures exact { MatchResult result (λ judged. judging.judge_doc docs (judging.numbers_of (records_of documents.now)) (numbered_in fields.entry) ≡ Ok (numbered_in fields.entry)) (λ why. judging.judge_doc docs (judging.numbers_of (records_of documents.now)) (numbered_in fields.entry) ≡ Err why) }
+    requires { AreMarked documents.now }
+    ensures exact { MatchResult result (λ judged. judging.judge_doc docs (seen_in documents.now) (numbered_in fields.entry) ≡ Ok (numbered_in fields.entry)) (λ why. judging.judge_doc docs (seen_in documents.now) (numbered_in fields.entry) ≡ Err why) }
     ensures judged { IfOk result (λ judged. (judged.0 ≡ fields.entry.docid) × (judged.1.now ≡ fields.entry.name.now)) }
-    ensures new { IfOk result (λ judged. has_value documents.now.records.items judged.0 ≡ false) }
+    ensures new { IfOk result (λ judged. judging.is_among judged.0 (seen_in documents.now) ≡ false) }
     ensures name { IfOk result (λ judged. IsName judged.1.now) }
     ensures length { IfOk result (λ judged. fields.entry.length < 2 ^ 31) }
 {

@@ -1,66 +1,74 @@
-ghost use Rattle.std.specs.Prelude.{◌≡◌, [], length, IfOk, OnOk};
-ghost use Rattle.ciff_read.specs.Judging.{numbers_of, is_among};
-ghost use Rattle.ciff_read.specs.Places.{records_of};
-ghost use Rattle.ciff_read.specs.Table.{has_value, with_value, values_of};
+ghost use Rattle.std.specs.Prelude.{◌≡◌, ◌∷◌, [], ◌++◌, IfOk, OnOk};
+ghost use Rattle.ciff_read.specs.Judging.{is_among};
+ghost use Rattle.ciff_read.specs.Places.{seen_in, AreMarked};
+ghost use Rattle.ciff_read.specs.Table.{table_with, values_of};
 
+use crate::doc_set::DocSet;
+use crate::doc_table::DocTable;
 use jass_base::{DocRecord, NoMemory, Row};
 use std::alloc::Global;
 
-/// The records of documents so far, each at its number.
+/// The records of documents so far with their numbers, as they came. They lie in order only
+/// once all are there: a table for the greatest number of a short file would cost far more
+/// than the file.
 #[derive(Drop)]
 pub struct Documents {
-    pub records: Vec<Option<DocRecord>>,
+    pub numbers: DocSet,
+    pub records: Vec<(u32, DocRecord)>,
 }
 
 impl Documents {
     /// No records yet.
     pub fn new(alloc: Global) -> Documents
-        ensures { result.records.items ≡ [] }
+        ensures none { result.records.items ≡ [] }
+        ensures marked { AreMarked result }
     {
         Documents {
+            numbers: DocSet::new(alloc),
             records: Vec::new(alloc),
         }
     }
 
     /// Whether the document's record is there.
-    #[tactic(auto, using(crate::proofs::Numbered::among_records))]
     pub fn has(&self, doc: u32) -> bool
-        ensures place { result ≡ has_value self.now.records.items doc }
-        ensures among { result ≡ is_among doc (numbers_of (records_of self.now)) }
+        requires { AreMarked self.now }
+        ensures { result ≡ is_among doc (seen_in self.now) }
     {
-        let place = doc as usize;
-        place < self.records.len() && self.records[place].is_some()
+        self.numbers.contains(doc)
     }
 
-    /// Puts the document's record at its place.
+    /// Puts the document's record to those before.
     pub fn put(&mut self, doc: u32, entry: DocRecord) -> Result<(), NoMemory>
-        ensures { OnOk result (self.new.records.items ≡ with_value self.old.records.items doc entry) }
+        requires { AreMarked self.old }
+        ensures records { OnOk result (self.new.records.items ≡ self.old.records.items ++ (doc, entry) ∷ []) }
+        ensures marked { OnOk result (AreMarked self.new) }
     {
-        let place = doc as usize;
-        'reaching: while self.records.len() <= place {
-            match self.records.push(None) {
-                Ok(()) => {}
-                Err(_) => return Err(NoMemory),
-            }
+        match self.numbers.insert(doc) {
+            Ok(()) => {}
+            Err(refused) => return Err(refused),
         }
-        self.records[place] = Some(entry);
+        match self.records.push((doc, entry)) {
+            Ok(()) => {}
+            Err(_) => return Err(NoMemory),
+        }
         Ok(())
     }
 
     /// The records by rising numbers of their documents.
     pub fn into_row(self, alloc: Global) -> Result<Row<DocRecord>, NoMemory>
-        ensures { IfOk result (λ row. row ≡ values_of self.records.items) }
+        ensures { IfOk result (λ row. row ≡ values_of (table_with self.records.items)) }
     {
-        let Documents { records } = self;
-        let mut row = Row::new(alloc);
-        'records: for entry in records {
-            if let Some(record) = entry {
-                match row.push(record) {
-                    Ok(()) => {}
-                    Err((_, refused)) => return Err(refused),
-                }
+        let Documents {
+            numbers: _,
+            records,
+        } = self;
+        let mut table = DocTable::new(alloc);
+        'records: for (doc, record) in records {
+            match table.put(doc, record) {
+                Ok(()) => {}
+                Err(refused) => return Err(refused),
             }
         }
-        Ok(row)
+        table.into_row(alloc)
     }
 }

@@ -6,6 +6,8 @@
 mod body;
 mod collection;
 mod doc_fields;
+mod doc_set;
+mod doc_table;
 mod document;
 mod documents;
 mod entry;

@@ -9,7 +9,7 @@ use Rattle.ciff_read.specs.Reading.{DocsRead, docs_at, inserted, docs_in_order}
 use Rattle.ciff_read.specs.Refusals.{◌>>=◌}
 use Rattle.ciff_read.proofs.Answering.{fails_on}
 use Rattle.std.proofs.lemmas.List.{length-map}
-use Rattle.ciff_read.specs.Table.{values_of}
+use Rattle.ciff_read.specs.Table.{values_of, table_with}
 use Rattle.ciff_read.proofs.Numbered.{docs_from, length_from}
 use Rattle.ciff_read.proofs.Sequences.{docs_end, docs_message_not, docs_doc_not, docs_on, end_there}
 use Rattle.ciff_read.proofs.Tables.{map-values}
@@ -40,6 +40,7 @@ documents-preserved c =
       read = docs_on total (c.args.count - c.documents.counter) c.args.count (records_of c.documents.documents) c.documents.at (drop c.documents.at c.args.bytes.now) c.documents.invariant.read left more (message_in c.args.bytes.now c.in-Ok.body) c.in-Ok.ensures.0 x put.1
           ∙ ap (λ n. docs_at left c.args.count (inserted x (records_of c.documents.documents)) n rest) (end_there c.args.bytes.now c.in-Ok.body c.in-Ok.ensures.2)
           ∙ ap (λ (rs : List NumberedDoc). docs_at left c.args.count rs c.in-Ok.body.end rest) (sym put.2);
+      marked = c.in-Ok-read_document.ensures.marked;
       within = c.in-Ok.ensures.2;
       count = c.in-Ok-read_document.ensures.one ∙ omega (arith, c.documents.invariant.count);
     }
@@ -48,11 +49,11 @@ pub returns-in-Ok-into_row-clause-exact : goal.returns-in-Ok-into_row-clause-exa
 returns-in-Ok-into_row-clause-exact c =
     let total = docs_at c.args.count c.args.count [] c.args.from (drop c.args.from c.args.bytes.now) in
     let none : c.args.count - c.documents.counter ≡ 0 = omega arith in
-    let table = c.documents.documents.records.items in
+    let table = table_with c.documents.documents.records.items in
     ap (λ (r : Result DocsRead CiffRefusal). r >>= λ x. Ok (docs_in_order x)) (docs_end total (c.args.count - c.documents.counter) c.args.count (records_of c.documents.documents) c.documents.at (drop c.documents.at c.args.bytes.now) c.documents.invariant.read none)
     ∙ ap (λ (ds : List DocData). Ok (record { docs = ds; at = c.documents.at; rest = drop c.documents.at c.args.bytes.now })) (docs_from 0 (table_of c.documents.documents) ∙ map-values doc_data table ∙ ap (λ (ds : List DocRecord). map doc_data ds) (sym c.in-Ok-into_row.ensures))
 
 pub returns-in-Ok-into_row-clause-count : goal.returns-in-Ok-into_row-clause-count
 returns-in-Ok-into_row-clause-count c =
-    let table = c.documents.documents.records.items in
+    let table = table_with c.documents.documents.records.items in
     ap (λ (rs : List DocRecord). length rs) c.in-Ok-into_row.ensures ∙ sym (length_from (table_of c.documents.documents) ∙ ap (λ (ds : List DocData). length ds) (map-values doc_data table) ∙ length-map (values_of table) doc_data) ∙ c.documents.invariant.count ∙ omega arith

@@ -1,6 +1,6 @@
 use Rattle.std.proofs.Common.{◌≡◌}
-use Rattle.ciff_read.specs.Table.{values_of}
+use Rattle.ciff_read.specs.Table.{table_with}
 use Rattle.ciff_read.proofs.documents.Documents.into_row.Given as goal
 
 abbrev pub invariant-records : goal.invariant-records
-invariant-records l = l.row ≡ values_of l.yielded
+invariant-records l = l.table.records.items ≡ table_with l.yielded

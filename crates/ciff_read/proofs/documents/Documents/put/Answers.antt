@@ -1,11 +1,16 @@
-use Rattle.std.proofs.Common.{◌++◌, sym, List, subst, arith, None, Option, ◌≡◌, ◌-◌, length, replicate}
+use Rattle.std.proofs.Common.{ℕ, Bool, List, Option, ◌∙◌, ap, sym}
+use Rattle.std.specs.Prelude.{◌||◌, nat_eq}
 use Rattle.jass_base.specs.declared.doc_record.DocRecord.{DocRecord}
-use Rattle.ciff_read.proofs.Tables.{reaches_more}
+use Rattle.ciff_read.specs.Table.{has_value, table_with}
+use Rattle.ciff_read.proofs.Tables.{has-with, table-more}
 use Rattle.ciff_read.proofs.documents.Documents.put.Goals as goal
 
-pub reaching-preserved : goal.reaching-preserved
-reaching-preserved c = record {
-  same = subst (λ (t : List (Option DocRecord)). t ≡ c.args.self.now.records.items ++ replicate (length t - length c.args.self.now.records.items) None) (sym c.in-Ok.ensures.items) (reaches_more c.args.self.now.records.items c.reaching.self.records.items c.reaching.invariant.same c.reaching.invariant.longer);
-  longer = omega (arith, c.in-Ok.ensures.len, c.reaching.invariant.longer);
-  enough = omega (arith, c.in-Ok.ensures.len, c.reaching.invariant.enough, c.reaching-test.true);
-}
+pub returns-clause-marked : goal.returns-clause-marked
+returns-clause-marked c =
+    let old = c.args.self.now.records.items in
+    λ n. c.in-Ok.ensures n ∙ ap (λ (t : Bool). nat_eq n c.args.doc || t) (c.requires n)
+    ∙ sym (
+    ap (λ (es : List (ℕ × DocRecord)). has_value (table_with es) n) c.in-Ok-push.ensures.items
+    ∙ ap (λ (t : List (Option DocRecord)). has_value t n) (table-more old (c.args.doc, c.args.entry))
+    ∙ has-with (table_with old) c.args.doc n c.args.entry
+    )

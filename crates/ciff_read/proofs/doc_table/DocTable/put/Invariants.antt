@@ -1,6 +1,6 @@
 use Rattle.std.proofs.Common.{◌≡◌, ◌+◌, ◌-◌, ◌≤◌, ◌++◌, length}
 use Rattle.std.specs.Prelude.{None, replicate}
-use Rattle.ciff_read.proofs.documents.Documents.put.Given as goal
+use Rattle.ciff_read.proofs.doc_table.DocTable.put.Given as goal
 
 abbrev pub invariant-reaching : goal.invariant-reaching
 invariant-reaching l = record {
