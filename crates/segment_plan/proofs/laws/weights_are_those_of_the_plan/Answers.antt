@@ -1,0 +1,19 @@
+use Rattle.std.proofs.Common.{ℕ, suc, ◌≡◌, ◌+◌, ◌∙◌, ap, arith, drop, sum_by}
+use Rattle.std.specs.List.{range_with_len}
+use Rattle.ranking_model.specs.Plan.{cutoff_after}
+use Rattle.ranking_model.specs.Scores.{greatest_weight}
+use Rattle.segment_plan.proofs.Alike.{alike_drop, alike_length, alike_greatest, alike_weight, no_weight}
+use Rattle.segment_plan.proofs.laws.weights_are_those_of_the_plan.Goals as goal
+
+pub returns-clause-bound : goal.returns-clause-bound
+returns-clause-bound c = λ view plan n h. ap (λ m. sum_by (λ place. greatest_weight place (drop n plan.classes)) (range_with_len 0 m)) h.places
+    ∙ ap (λ (f : ℕ → ℕ). sum_by f (range_with_len 0 view.places)) (λ i place. alike_greatest place (drop n plan.classes) (drop n view.entries) (alike_drop n plan.classes view.entries h.classes) i)
+
+pub returns-clause-cutoff : goal.returns-clause-cutoff
+returns-clause-cutoff c = λ view plan n entry h is. let one : n + 1 ≡ suc n = omega arith in ap (λ m. cutoff_after m plan.classes) one ∙ alike_weight n plan.classes view.entries entry h.classes is
+
+pub returns-clause-next : goal.returns-clause-next
+returns-clause-next c = λ view plan n entry h is. alike_weight n plan.classes view.entries entry h.classes is
+
+pub returns-clause-end : goal.returns-clause-end
+returns-clause-end c = λ view plan n h behind. no_weight n plan.classes (let same = alike_length plan.classes view.entries h.classes in omega arith)
