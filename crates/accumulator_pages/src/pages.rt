@@ -101,7 +101,8 @@ impl Pages {
         ensures places { pages_places self.new pool.new ≡ pages_places self.old pool.old }
         ensures reached { reached.new.docs ≡ reached.old.docs ++ raised w floor docs.now (pages_scores self.old pool.old) }
         ensures room { reached.new.room ≡ reached.old.room }
-        ensures frames { length (own_view self.new pool.new).frames ≤ length (own_view self.old pool.old).frames + length docs.now }
+        ensures frames { length (own_view self.new pool.new).frames
+            ≤ length (own_view self.old pool.old).frames + length docs.now }
         ensures stands { Stands self.new pool.new }
         ensures same { ArePagesOf self.old self.new }
         ensures leaves { LeavesPool pool.old pool.new (own_chain self.old) }
@@ -206,7 +207,8 @@ impl Pages {
         ensures places { pages_places self.new pool.new ≡ pages_places self.old pool.old }
         ensures frames { length (own_view self.new pool.new).frames ≤ length (own_view self.old pool.old).frames + 1 }
         ensures fields { FieldsStand self.new (own_view self.new pool.new) }
-        ensures entries { (other : ℕ) → other ≢ page → slice_index self.new.table.items other ≡ slice_index self.old.table.items other }
+        ensures entries { (other : ℕ) → other ≢ page
+            → slice_index self.new.table.items other ≡ slice_index self.old.table.items other }
         ensures touched { self.new.touched ≡ self.old.touched }
         ensures same { ArePagesOf self.old self.new }
         ensures own { IsInUse pool.new (own_chain self.new) }
