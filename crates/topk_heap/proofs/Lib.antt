@@ -4,3 +4,4 @@ pub mod Ranking
 pub mod Rows
 pub mod Settled
 pub mod Raised
+pub mod Known

@@ -4,6 +4,7 @@
 //! in its pages tell which documents they are. No call but `new` takes memory.
 
 mod hits;
+pub mod laws;
 mod settling;
 mod top;
 
