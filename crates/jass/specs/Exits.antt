@@ -29,3 +29,10 @@ pub record HadNoRoom (before after : World) (exit : ℕ) : Type 0 where
 
 abbrev pub Exits : Option (List (List ℕ)) → World → World → ℕ → Type 0
 Exits arguments before after exit = Ran arguments before after exit ⊎ HadNoRoom before after exit
+
+-- an exit of some run, of which nothing else is told
+pub record EndsRun (exit : ℕ) : Type 0 where
+  pub arguments : Option (List (List ℕ))
+  pub before : World
+  pub after : World
+  pub exits : Exits arguments before after exit

@@ -4,7 +4,6 @@
 
 use jass_base::Steps;
 use std::marker::Brand;
-use std::process::ExitCode;
 use std::sync::ledger::{Blank, Ledger};
 
 mod arguments;
@@ -18,29 +17,32 @@ mod tests;
 mod words;
 
 ghost use Rattle.std.specs.Prelude.{◌≡◌, ◌<◌};
+ghost use Rattle.jass.specs.Exits.{EndsRun};
 
 use host_arguments::HostArguments;
 use host_cabinet::HostCabinet;
 use host_feed::HostFeed;
 use host_sink::HostSink;
-use program::exit_status;
+use program::{Exit, run_line};
 
-fn main(rt: HostRuntime) -> ExitCode {
-    ExitCode::from(counted::<Brand>(&rt, Blank::new(1)))
+fn main(rt: HostRuntime) -> Exit {
+    counted::<Brand>(&rt, Blank::new(1))
 }
 
-/// Runs the command line's command, whose steps are counted by a ledger.
-fn counted<L: Ledger>(rt: &HostRuntime, blank: Blank) -> u8
+/// Runs the command line's command, whose steps are counted by a ledger. The host tells neither its
+/// arguments nor what files and streams hold, so the end is that of some run.
+fn counted<L: Ledger>(rt: &HostRuntime, blank: Blank) -> Exit
     requires name { blank.name ≡ L.name }
     requires parts { blank.parts ≡ L.parts }
     requires some { 0 < blank.parts }
+    ensures { EndsRun result }
 {
     let mut files = HostCabinet::new(rt);
     let mut input = HostFeed::new(rt.reader());
     let mut out = HostSink::new(rt.stdout());
     let mut notes = HostSink::new(rt.stderr());
     let mut steps = Steps::<L>::new(blank);
-    exit_status(
+    run_line(
         rt.alloc(),
         &HostArguments::new(rt),
         &mut files,

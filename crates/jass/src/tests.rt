@@ -7,7 +7,7 @@ use crate::arguments::Arguments;
 use crate::host_cabinet::HostCabinet;
 use crate::host_feed::HostFeed;
 use crate::host_sink::HostSink;
-use crate::program::exit_status;
+use crate::program::run_line;
 use jass_base::{Cabinet, Feed, MemCabinet, MemSink, Row, Sink, SliceFeed, Steps};
 use std::alloc::Global;
 use std::env::FillError;
@@ -73,10 +73,10 @@ fn exit_by<L: Ledger>(alloc: Global, blank: Blank, arguments: &[&[u8]]) -> (u8, 
     let mut notes = MemSink::new(alloc, Row::new(alloc));
     let mut steps = Steps::<L>::new(blank);
     let line = Line { arguments };
-    let status = exit_status(
+    let status = run_line(
         alloc, &line, &mut files, &mut input, &mut out, &mut notes, &mut steps,
     );
-    (status, notes)
+    (status.number(), notes)
 }
 
 fn exits(alloc: Global, arguments: &[&[u8]]) -> (u8, MemSink) {
