@@ -14,7 +14,6 @@ use jass_base::{Hit, NoMemory};
 use std::alloc::Global;
 use std::process::Abort;
 
-
 // A session over three documents for the first one, with a promise of three frames.
 fn opened(rt: &impl Abort, alloc: Global, pool: &mut FramePool) -> (Pages, Top)
     ensures stands { Stands result.0 pool.new }

@@ -1,4 +1,4 @@
-use Rattle.std.proofs.Common.{ℕ, List, ◌∙◌, set, subst, sym, arith}
+use Rattle.std.proofs.Common.{ℕ, List, set, subst, sym, arith}
 use Rattle.accumulator_pages.specs.Pages.{pages_places, pages_scores}
 use Rattle.topk_heap.specs.Standing.{StandsBelow}
 use Rattle.topk_heap.proofs.Rows.{docs_scored}
