@@ -1,6 +1,6 @@
 -- Who is among the first by scores that have risen.
-use Rattle.std.proofs.Common.{◌≡◌, ◌≢◌, ℕ, zero, suc, ◌+◌, ◌-◌, ◌/◌, ◌<◌, ◌≤◌, ◌==◌, List, [], ◌∷◌, ◌++◌, length, map, take, get_or, set, sum_by, count_by, Bool, true, false, true≢false, cond, refl, sym, ap, subst, ◌∙◌, arith, inl, inr, ◌⊎◌, eq-eqb, if◌then◌else◌}
-use Rattle.std.specs.Prelude.{IsPermutation, Contains, nat_le, nat_lt}
+use Rattle.std.proofs.Common.{◌≡◌, ◌≢◌, ℕ, zero, suc, ◌+◌, ◌-◌, ◌/◌, ◌<◌, ◌≤◌, ◌==◌, List, [], ◌∷◌, length, map, get_or, set, sum_by, count_by, Bool, true, false, true≢false, cond, refl, sym, ap, subst, ◌∙◌, arith, inl, inr, ◌⊎◌, eq-eqb}
+use Rattle.std.specs.Prelude.{Contains, nat_le, nat_lt}
 use Rattle.std.specs.List.{AllByRecursion}
 use Rattle.std.specs.Ordering.{is_gt}
 use Rattle.std.proofs.lemmas.Bool.{cases_eq, cases_lt}
@@ -161,7 +161,7 @@ module _ (top : TopView) (old new places raised : List ℕ) (size : length old �
   each_before : AllByRecursion (λ y. (y ≡ hit_at top.hits 0) ⊎ (is_gt (rank_cmp (hit_at top.hits 0) y) ≡ true)) (first_ranked old (top.k + 1))
   each_before = all_by_index (λ y. (y ≡ hit_at top.hits 0) ⊎ (is_gt (rank_cmp (hit_at top.hits 0) y) ≡ true)) (record { doc = 0; score = 0 }) (first_ranked old (top.k + 1))
       (λ i inside. All-permutation (λ y. (y ≡ hit_at top.hits 0) ⊎ (is_gt (rank_cmp (hit_at top.hits 0) y) ≡ true)) top.hits (first_ranked old (top.k + 1)) (IsPermutation-sym (first_ranked old (top.k + 1)) top.hits stands.hits)
-          (λ k d here. all_index (λ y. (y ≡ hit_at top.hits 0) ⊎ (is_gt (rank_cmp (hit_at top.hits 0) y) ≡ true)) top.hits heap_each k d here) i (record { doc = 0; score = 0 }) inside)
+      (λ k d here. all_index (λ y. (y ≡ hit_at top.hits 0) ⊎ (is_gt (rank_cmp (hit_at top.hits 0) y) ≡ true)) top.hits heap_each k d here) i (record { doc = 0; score = 0 }) inside)
     where
       heap_each : AllByRecursion (λ y. (y ≡ hit_at top.hits 0) ⊎ (is_gt (rank_cmp (hit_at top.hits 0) y) ≡ true)) top.hits
       heap_each = all_by_index (λ y. (y ≡ hit_at top.hits 0) ⊎ (is_gt (rank_cmp (hit_at top.hits 0) y) ≡ true)) (record { doc = 0; score = 0 }) top.hits (λ i here. by i here (cases_eq i 0)) where
@@ -198,4 +198,4 @@ module _ (top : TopView) (old new places raised : List ℕ) (size : length old �
   pub passed : HaveFirst new (top.k + 1) (with_heap top raised)
   passed = all_in (λ (h : Hit). Contains (with_heap top raised) h.doc) (first_ranked new (top.k + 1))
       (λ h first. contains_from_in (with_heap top raised) h.doc
-          (there h first (cases_lt (get_or old h.doc 0) (score_to_pass (hit_at top.hits 0) h.doc)) (cases_lt (get_or new h.doc 0) (score_to_pass (hit_at top.hits 0) h.doc)) (cases_eq h.doc (hit_at top.hits 0).doc)))
+      (there h first (cases_lt (get_or old h.doc 0) (score_to_pass (hit_at top.hits 0) h.doc)) (cases_lt (get_or new h.doc 0) (score_to_pass (hit_at top.hits 0) h.doc)) (cases_eq h.doc (hit_at top.hits 0).doc)))

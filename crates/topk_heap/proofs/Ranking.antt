@@ -6,7 +6,7 @@ use Rattle.std.specs.Ordering.{is_gt}
 use Rattle.std.proofs.lemmas.Bool.{cases_eq, cases_lt}
 use Rattle.std.proofs.lemmas.Bool.Decides.{nat_tests}
 use Rattle.std.proofs.lemmas.List.{get_or-reverse, length-reverse, take_min}
-use Rattle.std.proofs.lemmas.Option.{slice_get_past, slice_get_read}
+use Rattle.std.proofs.lemmas.Option.{get_or_from_slice_get, slice_get_past, slice_get_read}
 use Rattle.std.proofs.lemmas.List.Sorted.{IsPermutation-reverse, IsPermutation-sym, IsPermutation-trans}
 use Rattle.jass_base.specs.declared.answer.Hit.{Hit}
 use Rattle.ranking_model.specs.Order.{sorted}
@@ -14,6 +14,7 @@ use Rattle.ranking_model.specs.Scores.{rank_cmp, hits_from, first_ranked, runner
 use Rattle.ranking_model.proofs.Sorting.{Ascends, all_sorted, one_order, sorted_ascending, sorted_ascends}
 use Rattle.ranking_model.proofs.Orders.{rank_total, rank_same}
 use Rattle.ranking_model.proofs.Weighing.{Pairs}
+use Rattle.topk_heap.specs.Hits.{hit_at}
 use Rattle.topk_heap.specs.Standing.{AreInOrder, IsHeap}
 use Rattle.topk_heap.proofs.Lists.{all_at, all_by_index, all_in, in_reverse, all_imp, all_take, all_index, pairs_sorted, pairs_take}
 use Rattle.topk_heap.proofs.Rows.{take_front}
@@ -157,3 +158,19 @@ ltb_says a b said = by (cases_lt a b) where
   by : (a < b) ⊎ (b ≤ a) → a < b
   by (inl low) = low
   by (inr high) = absurd (true≢false (let f : nat_lt a b ≡ false = grind (arith, nat_tests) in sym said ∙ f))
+
+pub last_is : (row front : List Hit) (k : ℕ) (o : Option Hit) → length row ≤ k + 1 → front ≡ row → o ≡ slice_get front k → IfSome o (λ hit. length (reverse row) ≡ k + 1) × IfSome o (λ hit. hit ≡ hit_at (reverse row) 0)
+last_is row front k None few same is = (tt, tt)
+last_is row front k (Some hit) few same is = by (cases_lt k (length row)) where
+  here : Some hit ≡ slice_get row k
+  here = is ∙ ap (λ (xs : List Hit). slice_get xs k) same
+
+  by : (k < length row) ⊎ (length row ≤ k) → (length (reverse row) ≡ k + 1) × (hit ≡ hit_at (reverse row) 0)
+  by (inr past) = absurd (none (here ∙ slice_get_past row k past)) where
+    none : Some hit ≡ None → ⊥
+    none e = cc
+  by (inl inside) =
+      let zero_hit : Hit = record { doc = 0; score = 0 } in
+      let size : length (reverse row) ≡ length row = length-reverse row in
+      let at : length row - 1 - 0 ≡ k = omega arith in
+      (omega arith, sym (get_or-reverse row 0 zero_hit (omega arith) ∙ ap (λ j. get_or row j zero_hit) at ∙ get_or_from_slice_get row k hit zero_hit (sym here)))

@@ -37,6 +37,6 @@ pub fn the_first_are_known()
     ensures passed { (top : TopView) (old new places raised : List ℕ) → length old ≡ length new
         → ((doc : ℕ) → slice_index old doc ≤ slice_index new doc) → TopStands top old places → length top.hits ≡ top.k + 1
         → ((doc : ℕ) → slice_index old doc < score_to_pass (hit_at top.hits 0) doc
-            → score_to_pass (hit_at top.hits 0) doc ≤ slice_index new doc → Contains raised doc)
+        → score_to_pass (hit_at top.hits 0) doc ≤ slice_index new doc → Contains raised doc)
         → HaveFirst new (top.k + 1) (with_heap top raised) }
 {}

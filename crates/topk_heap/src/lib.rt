@@ -6,6 +6,8 @@
 mod hits;
 pub mod laws;
 mod settling;
+#[cfg(test)]
+mod tests;
 mod top;
 
 pub use top::Top;

@@ -1,8 +1,9 @@
-ghost use Rattle.std.specs.Prelude.{true, replicate, IsTrue, reverse, ◌≡◌, ◌≢◌, ℕ, List, ◌+◌, ◌<◌, ◌≤◌, ◌++◌, [], All, AllPairs, IfOk, length, slice_get, slice_index, take};
+ghost use Rattle.std.specs.Prelude.{true, replicate, IsTrue, reverse, ◌≡◌, ◌≢◌, ℕ, List, ◌+◌, ◌<◌, ◌≤◌, ◌++◌, [], All, AllPairs, IfOk, IfSome, length, slice_get, slice_index, take};
 ghost use Rattle.std.specs.List.{AllByRecursion};
 ghost use Rattle.std.specs.Ordering.{is_gt};
 ghost use Rattle.accumulator_pages.specs.Pages.{Stands, docs_of, pages_places, pages_scores};
 ghost use Rattle.ranking_model.specs.Scores.{rank_cmp, first_ranked, runner_up};
+ghost use Rattle.topk_heap.specs.Hits.{hit_at};
 ghost use Rattle.topk_heap.specs.Places.{KeepsScores};
 ghost use Rattle.topk_heap.specs.Standing.{AreInOrder, StandsBelow, HaveFirst, IsPlaced, IsTouched, TopStands, with_heap};
 
@@ -87,8 +88,8 @@ impl Top {
     // Whether the heap is full, and all its documents rank before this one.
     fn is_full_before(&self, doc: u32, score: u32) -> bool
         ensures full { IsTrue result → length self.now.hits ≡ self.now.k + 1 }
-        ensures before { IsTrue result → AllByRecursion (λ other. is_gt (rank_cmp (record { doc = doc; score = score }) other) ≡ true)
-            self.now.hits }
+        ensures before { IsTrue result
+            → AllByRecursion (λ other. is_gt (rank_cmp (record { doc = doc; score = score }) other) ≡ true) self.now.hits }
         ensures order { AreInOrder (reverse self.now.hits) }
         ensures room { 1 ≤ self.now.room }
     {
@@ -109,9 +110,11 @@ impl Top {
         &hits[..hits.len().min(self.k as usize)]
     }
 
-    /// The document after the first k, and `None` exactly where at most k documents have a score.
+    /// The document after the first k, and `None` exactly where at most k documents have a score. It is the last of a full heap.
     pub fn runner_up(&self) -> Option<Hit>
-        ensures { (scores places : List ℕ) → TopStands self.now scores places → result ≡ runner_up scores self.now.k }
+        ensures next { (scores places : List ℕ) → TopStands self.now scores places → result ≡ runner_up scores self.now.k }
+        ensures full { IfSome result (λ hit. length self.now.hits ≡ self.now.k + 1) }
+        ensures last { IfSome result (λ hit. hit ≡ hit_at self.now.hits 0) }
     {
         self.hits.as_slice().get(self.k as usize).copied()
     }
