@@ -1,2 +1,4 @@
 pub mod Compose
 pub mod Lines
+pub mod Parts
+pub mod Reading
