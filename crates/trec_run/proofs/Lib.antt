@@ -2,3 +2,4 @@ pub mod Compose
 pub mod Lines
 pub mod Parts
 pub mod Reading
+pub mod Accepting

@@ -1,5 +1,5 @@
 -- A run as it is read: TREC's six columns, divided by blanks. What is refused, and in which order, is this project's.
-use Rattle.std.specs.Prelude.{ℕ, Bool, true, false, ◌||◌, ◌==◌, List, [], ◌∷◌, filter, codes, nat_eq, Option, Some, None, Result, Ok, Err, if◌then◌else◌}
+use Rattle.std.specs.Prelude.{ℕ, ◌≡◌, ⊤, Bool, true, false, ◌||◌, ◌==◌, List, [], ◌∷◌, filter, codes, nat_eq, Option, Some, None, Result, Ok, Err, if◌then◌else◌}
 use Rattle.std.specs.List.{slice_split}
 use Rattle.std.specs.Str.{is_utf8}
 use Rattle.std.specs.Cmp.Lexicographic.{pointwise}
@@ -66,3 +66,23 @@ run_of text = read_lines (numbered_from 1 (lines_of text))
 abbrev pub and_column : List ℕ → List (List ℕ) → List (List ℕ)
 and_column [] columns = columns
 and_column (b ∷ bytes) columns = (b ∷ bytes) ∷ columns
+
+-- a line of a run: UTF-8 of six columns, of which the second is Q0, and the fourth and the fifth are numbers
+pub record IsRunLine (line : List ℕ) (run : RunLine) : Type 0 where
+  pub text : is_utf8 line ≡ true
+  pub rank : List ℕ
+  pub score : List ℕ
+  pub columns : columns_of line ≡ run.id ∷ codes "Q0" ∷ run.name ∷ rank ∷ score ∷ run.tag ∷ []
+  pub ranked : decimal_of rank ≡ Some run.rank
+  pub scored : decimal_of score ≡ Some run.score
+
+-- each line of these, in their order
+abbrev pub AreRunLines : List (List ℕ) → List RunLine → Type 0
+AreRunLines [] [] = ⊤
+AreRunLines [] (run ∷ runs) = ⊥
+AreRunLines (line ∷ lines) [] = ⊥
+AreRunLines (line ∷ lines) (run ∷ runs) = IsRunLine line run × AreRunLines lines runs
+
+-- a run: the lines of a text that have bytes
+abbrev pub IsRun : List ℕ → List RunLine → Type 0
+IsRun text runs = AreRunLines (filter has_bytes (lines_of text)) runs

@@ -8,6 +8,7 @@ mod answer;
 mod buffer;
 mod columns;
 mod gather;
+pub mod laws;
 mod line;
 mod report;
 mod run;
