@@ -1,2 +1,5 @@
 pub mod Compose
 pub mod Lines
+pub mod Parts
+pub mod Reading
+pub mod Accepting

@@ -1,15 +1,24 @@
 #![tactic(auto)]
 
-//! The texts of an answer: TREC run lines of six columns, and the report line. Nothing here
-//! takes memory; the pieces of lines are gathered in a fixed buffer, since each put on a
-//! sink is a system call in the end.
+//! The texts of an answer: TREC run lines of six columns, and the report line. Writing them
+//! takes no memory; the pieces of lines are gathered in a fixed buffer, since each put on a
+//! sink is a system call in the end. A run is read by the same columns, or refused at a line.
 
 mod answer;
 mod buffer;
+mod columns;
 mod gather;
+pub mod laws;
 mod line;
 mod report;
+mod run;
+mod run_line;
 
 pub use answer::put_answer;
 pub use gather::put_all;
 pub use report::put_report;
+pub use run::read_run;
+pub use run_line::{RunFault, RunLine, RunWhy};
+
+#[cfg(test)]
+mod tests;

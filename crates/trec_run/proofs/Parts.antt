@@ -1,0 +1,47 @@
+-- The first part of a line, and the others.
+use Rattle.std.proofs.Common.{◌≡◌, ℕ, suc, ◌+◌, ◌<◌, true, false, ◌⊎◌, inl, inr, List, [], ◌∷◌, ◌++◌, length, get_or, take, drop, filter, refl, ap, sym, ◌∙◌, arith}
+use Rattle.std.specs.Prelude.{All, ◌==◌}
+use Rattle.std.proofs.lemmas.Bool.{cases_Bool, eqb-true}
+use Rattle.std.specs.List.{slice_split}
+use Rattle.std.proofs.Math.Seq.{drop-cons}
+use Rattle.std.proofs.lemmas.List.{take-append-drop, get_or-take, length-take}
+use Rattle.std.proofs.lemmas.Grind.{get_or_default_zero}
+use Rattle.std.proofs.lemmas.List.Splits.{slice_split_at, slice_split_none}
+use Rattle.trec_run.specs.Runs.{is_blank, has_bytes, columns_of, and_column}
+
+pub no_columns : columns_of [] ≡ []
+unfolding columns_of
+no_columns = refl
+
+kept : (part : List ℕ) (parts : List (List ℕ)) → filter has_bytes (part ∷ parts) ≡ and_column part (filter has_bytes parts)
+kept [] parts = refl
+kept (b ∷ bytes) parts = refl
+
+pub parted : (text : List ℕ) (end : ℕ) → end < length text → ((i : ℕ) → i < end → is_blank (get_or text i 0) ≡ false) → is_blank (get_or text end 0) ≡ true → columns_of text ≡ and_column (take end text) (columns_of (drop (end + 1) text))
+unfolding columns_of
+parted text end inside none blank = ap (λ t. filter has_bytes (slice_split is_blank t)) opened ∙ ap (filter has_bytes) (slice_split_at is_blank (take end text) (get_or text end 0) (drop (end + 1) text) front blank) ∙ kept (take end text) (slice_split is_blank (drop (end + 1) text))
+  where
+    one : suc end ≡ end + 1
+    one = omega arith
+
+    opened : text ≡ take end text ++ get_or text end 0 ∷ drop (end + 1) text
+    opened = sym (take-append-drop end text) ∙ ap (λ l. take end text ++ l) (drop-cons text end 0 inside ∙ ap (λ n. get_or text end 0 ∷ drop n text) one)
+
+    front : All (λ b. is_blank b ≡ false) (take end text)
+    front i d h =
+        let first : i < end = omega (arith, h, length-take end text) in
+        ap is_blank (get_or_default_zero (take end text) i d h ∙ get_or-take end text i 0 first) ∙ none i first
+
+pub unparted : (text : List ℕ) → ((i : ℕ) → i < length text → is_blank (get_or text i 0) ≡ false) → columns_of text ≡ and_column text (columns_of [])
+unfolding columns_of
+unparted text none = ap (filter has_bytes) (slice_split_none is_blank text (λ i d h. ap is_blank (get_or_default_zero text i d h) ∙ none i h)) ∙ kept text []
+
+pub blank_small : (b : ℕ) → is_blank b ≡ true → b < 128
+blank_small b h = by (cases_Bool (b == 32)) where
+  by : ((b == 32) ≡ true) ⊎ ((b == 32) ≡ false) → b < 128
+  by (inl t) = let e : b ≡ 32 = eqb-true b 32 t in omega arith
+  by (inr f) = let e : b ≡ 9 = eqb-true b 9 (rw f at h) in omega arith
+
+pub none_there : (text : List ℕ) → length text ≡ 0 → columns_of text ≡ []
+none_there [] h = no_columns
+none_there (b ∷ bytes) h = absurd (omega (arith, h))
