@@ -5,8 +5,8 @@ ghost use Rattle.jass_base.specs.Gaps.{Accepts, Judges};
 ghost use Rattle.codec_packed.specs.Reading.{read_packed};
 ghost use Rattle.codec_packed.specs.Steps.{ChecksBlock};
 
-use crate::laws::payloads_are_read;
 use crate::block::read_block;
+use crate::laws::payloads_are_read;
 use crate::tail::check_gaps;
 use jass_base::PayloadFault;
 use lane_kernels::{fits128, running128};
