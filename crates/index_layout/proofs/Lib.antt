@@ -1,0 +1,11 @@
+mod Judging
+mod Numbers
+mod NameLaws
+mod HeadLaws
+mod TermLaws
+mod Apart
+mod IndexFacts
+mod PayloadLaws
+mod Sums
+mod FileLaws
+mod SmallFile
