@@ -4,7 +4,8 @@ use Rattle.std.specs.List.{AllByRecursion}
 use Rattle.std.specs.Ordering.{is_gt}
 use Rattle.std.proofs.lemmas.Bool.{cases_eq}
 use Rattle.std.proofs.lemmas.Bool.Decides.{nat_tests}
-use Rattle.std.proofs.lemmas.List.Sums.{sum_by-cons, sum_by-take-le}
+use Rattle.std.proofs.lemmas.List.{length-take}
+use Rattle.std.proofs.lemmas.List.Sums.{count_by-le-length, sum_by-cons, sum_by-take-le}
 use Rattle.jass_base.specs.declared.answer.Hit.{Hit}
 use Rattle.ranking_model.specs.Order.{placed, sorted}
 use Rattle.ranking_model.specs.Scores.{rank_cmp, hits_from, first_ranked}
@@ -127,6 +128,14 @@ few_if_first scores m x there =
     let s = sum_by-sorted rank_cmp (ahead x) (hits_from 0 scores) in
     let few = few_ahead m (sorted rank_cmp (hits_from 0 scores)) x (sorted_ascends rank_cmp rank_total (hits_from 0 scores)) there in
     omega arith
+
+-- where there are fewer than m, each hit of the scores is among them
+pub first_of_few : (scores : List ℕ) (m : ℕ) (x : Hit) → Own scores x → length (first_ranked scores m) < m → In x (first_ranked scores m)
+first_of_few scores m x own few =
+    let s = sum_by-sorted rank_cmp (ahead x) (hits_from 0 scores) in
+    let most : sum_by (ahead x) (sorted rank_cmp (hits_from 0 scores)) ≤ length (sorted rank_cmp (hits_from 0 scores)) = count_by-le-length (λ y. is_gt (rank_cmp x y)) (sorted rank_cmp (hits_from 0 scores)) in
+    let size = length-take m (sorted rank_cmp (hits_from 0 scores)) in
+    first_if_few scores m x own (omega (arith, s, most, size, few))
 
 -- who is among the first, and had this score before others rose, was among them
 pub first_before : (old new : List ℕ) (m : ℕ) (x : Hit) → length old ≡ length new → Rises old new → In x (first_ranked new m) → get_or old x.doc 0 ≡ get_or new x.doc 0 → In x (first_ranked old m)

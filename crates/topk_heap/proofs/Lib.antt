@@ -1,6 +1,8 @@
 pub mod Ahead
+pub mod Batch
 pub mod Lists
 pub mod Ranking
+pub mod Selection
 pub mod Rows
 pub mod Settled
 pub mod Raised

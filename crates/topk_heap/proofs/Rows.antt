@@ -1,8 +1,6 @@
 -- Rows and heap places, one item on.
-use Rattle.std.proofs.Common.{◌≡◌, ℕ, zero, suc, Bool, true, false, cond, ◌==◌, ◌+◌, ◌-◌, ◌<◌, ◌≤◌, List, [], ◌∷◌, ◌++◌, append_assoc, map, length, get_or, set, take, drop, refl, sym, ap, ◌∙◌, subst, arith, drop-cons, inl, inr, ◌⊎◌}
-use Rattle.std.proofs.lemmas.List.{get_or_read, length-take, take_all}
-use Rattle.std.proofs.lemmas.Bool.{cases_lt}
-use Rattle.std.specs.Prelude.{min}
+use Rattle.std.proofs.Common.{◌≡◌, ℕ, zero, suc, Bool, true, false, cond, ◌==◌, ◌+◌, ◌-◌, ◌<◌, ◌≤◌, List, [], ◌∷◌, ◌++◌, append_assoc, map, length, get_or, set, take, drop, refl, sym, ap, ◌∙◌, subst, arith, drop-cons}
+use Rattle.std.proofs.lemmas.List.{get_or_read, length-take}
 use Rattle.jass_base.specs.declared.answer.Hit.{Hit}
 use Rattle.frame_pool.specs.Pool.{PoolView}
 use Rattle.frame_pool.specs.ChainView.{LeavesPool}
@@ -99,14 +97,6 @@ take_front zero n xs below = refl
 take_front (suc m) zero xs below = absurd (omega arith)
 take_front (suc m) (suc n) [] below = refl
 take_front {A = A} (suc m) (suc n) (x ∷ xs) below = ap (λ (ys : List A). x ∷ ys) (take_front m n xs (omega arith))
-
-pub shorter : (m count n : ℕ) (new sorted : List Hit) → n ≡ min count m → take count new ≡ sorted → take n new ≡ take m sorted
-shorter m count n new sorted is front = by (cases_lt m count) where
-  by : (m < count) ⊎ (count ≤ m) → take n new ≡ take m sorted
-  by (inl below) = ap (λ i. take i new) (omega arith) ∙ sym (take_front m count new (omega arith)) ∙ ap (λ (xs : List Hit). take m xs) front
-  by (inr above) =
-      ap (λ i. take i new) (omega arith) ∙ front
-      ∙ sym (take_all m sorted (let size = length-take count new in let same = ap (λ (xs : List Hit). length xs) front in omega arith))
 
 set_front : {A : Type 0} (n : ℕ) (xs : List A) (i : ℕ) (x : A) → take n (set xs i x) ≡ set (take n xs) i x
 set_front zero xs i x = refl

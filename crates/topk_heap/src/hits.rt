@@ -1,4 +1,4 @@
-ghost use Rattle.std.specs.Prelude.{◌≡◌, ◌<◌, ◌≤◌, ◌++◌, [], ◌∷◌, IfOk, length, take};
+ghost use Rattle.std.specs.Prelude.{◌≡◌, ◌<◌, ◌≤◌, ◌++◌, [], ◌∷◌, IfOk, length, min, take};
 ghost use Rattle.ranking_model.specs.Order.{sorted};
 ghost use Rattle.ranking_model.specs.Scores.{rank_cmp};
 ghost use Rattle.topk_heap.specs.Hits.{with_score};
@@ -13,6 +13,7 @@ use std::marker::Model;
 pub struct Hits {
     row: Vec<Hit>,
     count: usize,
+    aside: Vec<Hit>,
 }
 
 impl Model for Hits {
@@ -27,15 +28,19 @@ impl Model for Hits {
 }
 
 impl Hits {
-    /// Room for so many hits. No other call takes memory.
-    pub fn new(alloc: Global, room: usize) -> Result<Hits, NoMemory>
+    /// Room for so many hits, and aside for `few` more: up to these `keep_first` selects before it sorts. No other call takes
+    /// memory.
+    pub fn new(alloc: Global, room: usize, few: usize) -> Result<Hits, NoMemory>
         ensures hits { IfOk result (λ hits. hits.hits ≡ []) }
         ensures room { IfOk result (λ hits. hits.room ≡ room) }
     {
-        match vec![in alloc; Hit { doc: 0, score: 0 }; room] {
-            Ok(row) => Ok(Hits { row, count: 0 }),
-            Err(_) => Err(NoMemory),
-        }
+        let row = blank_row(alloc, room)?;
+        let aside = blank_row(alloc, few)?;
+        Ok(Hits {
+            row,
+            count: 0,
+            aside,
+        })
     }
 
     /// How many hits there are.
@@ -77,17 +82,45 @@ impl Hits {
         ensures hits { self.new.hits ≡ take count (sorted rank_cmp self.old.hits) }
         ensures room { self.new.room ≡ self.old.room }
     {
-        rank_front(&mut self.row, self.count);
+        rank_first(&mut self.row, self.count, count, &mut self.aside);
         self.count = self.count.min(count);
     }
 }
 
-fn rank_front(hits: &mut [Hit], count: usize)
-    requires { count ≤ length hits.old }
-    ensures front { take count hits.new ≡ sorted rank_cmp (take count hits.old) }
+fn blank_row(alloc: Global, len: usize) -> Result<Vec<Hit>, NoMemory>
+    ensures { IfOk result (λ row. length row.items ≡ len) }
+{
+    vec![in alloc; Hit { doc: 0, score: 0 }; len].map_err(|_| NoMemory)
+}
+
+// Puts the first of the hits in order in front of their row.
+fn rank_first(row: &mut [Hit], hits: usize, count: usize, aside: &mut [Hit])
+    requires { hits ≤ length row.old }
+    ensures front { take (min hits count) row.new ≡ take count (sorted rank_cmp (take hits row.old)) }
+    ensures len { length row.new ≡ length row.old }
+    ensures aside { length aside.new ≡ length aside.old }
+{
+    // Where few of the hits go, a selection saves little.
+    if count < hits / 4 * 3 && count <= aside.len() {
+        select_first(&mut row[..hits], &mut aside[..count]);
+        row[..count].copy_from_slice(&aside[..count]);
+    } else {
+        rank(&mut row[..hits]);
+    }
+}
+
+// Writes the first of the hits to `first`, in order. The hits themselves are lost: nothing tells what a selection leaves.
+fn select_first(hits: &mut [Hit], first: &mut [Hit])
+    requires { length first.old < length hits.old }
+    ensures first { first.new ≡ take (length first.old) (sorted rank_cmp hits.old) }
     ensures len { length hits.new ≡ length hits.old }
 {
-    rank(&mut hits[..count]);
+    let (front, _, _) = hits.select_nth_unstable_by_key(
+        first.len(),
+        |hit| (Reverse(hit.score), hit.doc),
+    );
+    rank(front);
+    first.copy_from_slice(front);
 }
 
 fn rank(hits: &mut [Hit])

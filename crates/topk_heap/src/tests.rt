@@ -1,35 +1,45 @@
 // Heaps over pages in a pool: documents that rise one by one, and sessions side by side.
-ghost use Rattle.std.specs.Prelude.{◌≡◌, ◌≢◌, ◌+◌, ◌/◌, ◌<◌, ◌≤◌, ◌^◌, [], None, length, slice_index, slice_index_or};
+ghost use Rattle.std.specs.Prelude.{◌≡◌, ◌≢◌, ◌+◌, ◌/◌, ◌<◌, ◌≤◌, ◌^◌, [], All, None, length, replicate, slice_index, slice_index_or};
 ghost use Rattle.frame_pool.specs.ChainView.{LeavesOthers, LeavesPool};
-ghost use Rattle.accumulator_pages.specs.Pages.{ArePagesOf, HasRoom, Stands, docs_of, own_chain, own_view, pages_places, pages_scores};
+ghost use Rattle.accumulator_pages.specs.Adding.{added};
+ghost use Rattle.accumulator_pages.specs.Pages.{ArePagesOf, HasRoom, HasRoomFor, Stands, docs_of, own_chain, own_view, pages_places, pages_scores};
 ghost use Rattle.topk_heap.specs.Standing.{TopStands};
 
 use crate::laws::{a_risen_document_can_be_raised, calls_on_other_chains_leave_a_heap};
 use crate::top::Top;
-use accumulator_pages::Pages;
 use accumulator_pages::laws::calls_on_other_chains_leave_pages;
+use accumulator_pages::{Pages, Reached};
 use frame_pool::FramePool;
 use frame_pool::laws::calls_on_one_chain;
 use jass_base::{Hit, NoMemory};
 use std::alloc::Global;
 use std::process::Abort;
 
-// A session over three documents for the first one, with a promise of three frames.
-fn opened(rt: &impl Abort, alloc: Global, pool: &mut FramePool) -> (Pages, Top)
+// A session over some documents for the first one, with a promise of three frames.
+fn opened(
+    rt: &impl Abort,
+    alloc: Global,
+    pool: &mut FramePool,
+    docs: u32,
+    room: usize,
+) -> (Pages, Top)
+    requires { room ≤ 4294967296 }
     ensures stands { Stands result.0 pool.new }
-    ensures docs { docs_of result.0 ≡ 3 }
+    ensures docs { docs_of result.0 ≡ docs }
+    ensures room { room ≤ result.1.room }
+    ensures scores { pages_scores result.0 pool.new ≡ replicate docs 0 }
     ensures view { own_view result.0 pool.new ≡ record { promise = 3; frames = [] } }
     ensures top { TopStands result.1 (pages_scores result.0 pool.new) (pages_places result.0 pool.new) }
     ensures unused { slice_index_or pool.old.chains (own_chain result.0) None ≡ None }
     ensures others { LeavesOthers pool.old pool.new (own_chain result.0) }
 {
-    let Ok(top) = Top::new(alloc, 1, 0) else {
+    let Ok(top) = Top::new(alloc, 1, room) else {
         panic!(rt; "no memory")
     };
     let Ok(chain) = pool.promise(3) else {
         panic!(rt; "refused")
     };
-    match Pages::new(alloc, 3, pool, chain) {
+    match Pages::new(alloc, docs, pool, chain) {
         Ok(pages) => (pages, top),
         Err((chain, NoMemory)) => {
             pool.give_back(chain);
@@ -115,7 +125,40 @@ fn opened_beside(
 {
     calls_on_other_chains_leave_pages();
     calls_on_other_chains_leave_a_heap();
-    opened(rt, alloc, pool)
+    opened(rt, alloc, pool, 3, 0)
+}
+
+// Adds a weight to the scores of some documents, where at most k documents have one.
+fn add_batch(
+    rt: &impl Abort,
+    pages: &mut Pages,
+    top: &mut Top,
+    pool: &mut FramePool,
+    docs: &[u32],
+    w: u32,
+    reached: &mut Reached,
+)
+    requires stands { Stands pages.old pool.old }
+    requires top { TopStands top.old (pages_scores pages.old pool.old) (pages_places pages.old pool.old) }
+    requires inside { All (λ doc. doc < docs_of pages.old) docs.now }
+    requires weight { 1 ≤ w }
+    requires fits { All (λ score. score < 2 ^ 32) (added w docs.now (pages_scores pages.old pool.old)) }
+    requires frames { HasRoomFor (own_view pages.old pool.old) (docs_of pages.old) (length docs.now) }
+    requires notes { length docs.now ≤ reached.old.room }
+    requires room { length docs.now ≤ top.old.room }
+    ensures stands { Stands pages.new pool.new }
+    ensures top { TopStands top.new (pages_scores pages.new pool.new) (pages_places pages.new pool.new) }
+    ensures scores { pages_scores pages.new pool.new ≡ added w docs.now (pages_scores pages.old pool.old) }
+    ensures same { ArePagesOf pages.old pages.new }
+    ensures promise { (own_view pages.new pool.new).promise ≡ (own_view pages.old pool.old).promise }
+    ensures notes { reached.new.room ≡ reached.old.room }
+    ensures room { top.new.room ≡ top.old.room }
+{
+    calls_on_one_chain();
+    assert!(rt; top.runner_up().is_none());
+    reached.clear();
+    pages.add_all(pool, docs, w, 1, reached);
+    top.settle(pages, pool, reached.as_slice());
 }
 
 #[test]
@@ -123,7 +166,7 @@ fn documents_rise_one_by_one(rt: HostRuntime) {
     let Ok(mut pool) = FramePool::new(rt.alloc(), 3, 1) else {
         panic!(rt; "no memory")
     };
-    let (mut pages, mut top) = opened(&rt, rt.alloc(), &mut pool);
+    let (mut pages, mut top) = opened(&rt, rt.alloc(), &mut pool, 3, 0);
     assert!(rt; top.ranked().is_empty() && top.runner_up() == None);
 
     add(&rt, &mut pages, &mut top, &mut pool, 1, 5);
@@ -145,7 +188,7 @@ fn two_sessions_take_turns(rt: HostRuntime) {
     let Ok(mut pool) = FramePool::new(rt.alloc(), 6, 2) else {
         panic!(rt; "no memory")
     };
-    let (mut x, mut x_top) = opened(&rt, rt.alloc(), &mut pool);
+    let (mut x, mut x_top) = opened(&rt, rt.alloc(), &mut pool, 3, 0);
     let (mut y, mut y_top) = opened_beside(&rt, rt.alloc(), &mut pool, &x, &x_top);
 
     // The documents tie in one session, in either order of arrival.
@@ -159,4 +202,33 @@ fn two_sessions_take_turns(rt: HostRuntime) {
     assert!(rt; y_top.runner_up() == None);
     pool.give_back(x.into_chain());
     pool.give_back(y.into_chain());
+}
+
+#[test]
+fn a_batch_is_settled(rt: HostRuntime) {
+    let Ok(mut pool) = FramePool::new(rt.alloc(), 3, 1) else {
+        panic!(rt; "no memory")
+    };
+    let Ok(mut reached) = Reached::new(rt.alloc(), 6) else {
+        panic!(rt; "no memory")
+    };
+    let (mut pages, mut top) = opened(&rt, rt.alloc(), &mut pool, 6, 6);
+    add_batch(&rt, &mut pages, &mut top, &mut pool, &[5], 3, &mut reached);
+    assert!(rt; reached.as_slice() == [5].as_slice());
+    assert!(rt; top.ranked() == [Hit { doc: 5, score: 3 }].as_slice());
+
+    // Document 5 is in the heap already, and the others tie.
+    add_batch(
+        &rt,
+        &mut pages,
+        &mut top,
+        &mut pool,
+        &[0, 1, 2, 3, 4, 5],
+        2,
+        &mut reached,
+    );
+    assert!(rt; reached.as_slice() == [0, 1, 2, 3, 4].as_slice());
+    assert!(rt; top.ranked() == [Hit { doc: 5, score: 5 }].as_slice());
+    assert!(rt; top.runner_up() == Some(Hit { doc: 0, score: 2 }));
+    pool.give_back(pages.into_chain());
 }

@@ -45,7 +45,7 @@ impl Top {
         ensures stands { IfOk result (λ top. (docs : ℕ) → TopStands top (replicate docs 0) (replicate docs 0)) }
         ensures room { IfOk result (λ top. room ≤ top.room) }
     {
-        let hits = Hits::new(alloc, k as usize + 1 + room.max(1))?;
+        let hits = Hits::new(alloc, k as usize + 1 + room.max(1), k as usize + 1)?;
         Ok(Top { k, hits })
     }
 

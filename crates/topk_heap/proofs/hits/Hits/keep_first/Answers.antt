@@ -3,23 +3,23 @@ use Rattle.std.proofs.lemmas.List.{with_items_is}
 use Rattle.jass_base.specs.declared.answer.Hit.{Hit}
 use Rattle.ranking_model.specs.Order.{sorted}
 use Rattle.ranking_model.specs.Scores.{rank_cmp}
-use Rattle.topk_heap.proofs.Rows.{shorter}
 use Rattle.topk_heap.proofs.hits.Hits.keep_first.Goals as goal
 
 pub invariant_of-self : goal.invariant_of-self
 invariant_of-self c =
-    let size : length c.rank_front.new.hits ≡ c.self.inside.row.len = c.rank_front.ensures.len ∙ ap (λ (xs : List Hit). length xs) c.deref_mut.ensures.value ∙ sym c.self.inside.row.ok.0 in
-    let kept = ap (λ (xs : List Hit). length xs) (with_items_is c.self.inside.row c.rank_front.new.hits size) in
+    let size : length c.rank_first.new.row ≡ c.self.inside.row.len = c.rank_first.ensures.len ∙ ap (λ (xs : List Hit). length xs) c.deref_mut.ensures.value ∙ sym c.self.inside.row.ok.0 in
+    let kept = ap (λ (xs : List Hit). length xs) (with_items_is c.self.inside.row c.rank_first.new.row size) in
     omega (arith, kept, size, c.self.inside.row.ok.0, c.self.invariant, c.min-self-inside.ensures)
 
 pub returns-clause-hits : goal.returns-clause-hits
 returns-clause-hits c =
-    let size : length c.rank_front.new.hits ≡ c.self.inside.row.len = c.rank_front.ensures.len ∙ ap (λ (xs : List Hit). length xs) c.deref_mut.ensures.value ∙ sym c.self.inside.row.ok.0 in
-    ap (λ (xs : List Hit). take c.min-self-inside.result xs) (with_items_is c.self.inside.row c.rank_front.new.hits size)
-    ∙ shorter c.args.count c.self.inside.count c.min-self-inside.result c.rank_front.new.hits (sorted rank_cmp c.args.self.now.hits) c.min-self-inside.ensures
-    (c.rank_front.ensures.front ∙ ap (λ (xs : List Hit). sorted rank_cmp (take c.self.inside.count xs)) c.deref_mut.ensures.value ∙ ap (λ v. sorted rank_cmp v.hits) c.self.view_is)
+    let size : length c.rank_first.new.row ≡ c.self.inside.row.len = c.rank_first.ensures.len ∙ ap (λ (xs : List Hit). length xs) c.deref_mut.ensures.value ∙ sym c.self.inside.row.ok.0 in
+    ap (λ (xs : List Hit). take c.min-self-inside.result xs) (with_items_is c.self.inside.row c.rank_first.new.row size)
+    ∙ ap (λ n. take n c.rank_first.new.row) c.min-self-inside.ensures ∙ c.rank_first.ensures.front
+    ∙ ap (λ (xs : List Hit). take c.args.count (sorted rank_cmp (take c.self.inside.count xs))) c.deref_mut.ensures.value
+    ∙ ap (λ v. take c.args.count (sorted rank_cmp v.hits)) c.self.view_is
 
 pub returns-clause-room : goal.returns-clause-room
 returns-clause-room c =
-    let size : length c.rank_front.new.hits ≡ c.self.inside.row.len = c.rank_front.ensures.len ∙ ap (λ (xs : List Hit). length xs) c.deref_mut.ensures.value ∙ sym c.self.inside.row.ok.0 in
-    ap (λ (xs : List Hit). length xs) (with_items_is c.self.inside.row c.rank_front.new.hits size) ∙ size ∙ c.self.inside.row.ok.0 ∙ ap (λ v. v.room) c.self.view_is
+    let size : length c.rank_first.new.row ≡ c.self.inside.row.len = c.rank_first.ensures.len ∙ ap (λ (xs : List Hit). length xs) c.deref_mut.ensures.value ∙ sym c.self.inside.row.ok.0 in
+    ap (λ (xs : List Hit). length xs) (with_items_is c.self.inside.row c.rank_first.new.row size) ∙ size ∙ c.self.inside.row.ok.0 ∙ ap (λ v. v.room) c.self.view_is
