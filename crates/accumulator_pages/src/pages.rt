@@ -99,7 +99,8 @@ impl Pages {
         requires room { length reached.old.docs + length docs.now ≤ reached.old.room }
         ensures scores { pages_scores self.new pool.new ≡ added w docs.now (pages_scores self.old pool.old) }
         ensures places { pages_places self.new pool.new ≡ pages_places self.old pool.old }
-        ensures reached { reached.new.docs ≡ reached.old.docs ++ raised w floor docs.now (pages_scores self.old pool.old) }
+        ensures reached { reached.new.docs
+            ≡ reached.old.docs ++ raised w floor docs.now (pages_scores self.old pool.old) }
         ensures room { reached.new.room ≡ reached.old.room }
         ensures frames { length (own_view self.new pool.new).frames
             ≤ length (own_view self.old pool.old).frames + length docs.now }

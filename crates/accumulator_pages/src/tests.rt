@@ -33,7 +33,8 @@ fn add_beside(
     requires room { length reached.old.docs + length docs.now ≤ reached.old.room }
     ensures stands { Stands own.new pool.new }
     ensures others { AllByRecursion (λ pages. Stands pages pool.new) others.now }
-    ensures views { map (λ pages. own_view pages pool.new) others.now ≡ map (λ pages. own_view pages pool.old) others.now }
+    ensures views { map (λ pages. own_view pages pool.new) others.now
+        ≡ map (λ pages. own_view pages pool.old) others.now }
     ensures leaves { LeavesPool pool.old pool.new (own_chain own.old) }
 {
     calls_on_other_chains_leave_all_pages();

@@ -30,7 +30,8 @@ impl DocSet {
 
     /// Puts the number into the set.
     pub fn insert(&mut self, doc: u32) -> Result<(), NoMemory>
-        ensures { OnOk result ((n : ℕ) → is_marked self.new.words.items n ≡ (n == doc || is_marked self.old.words.items n)) }
+        ensures { OnOk result ((n : ℕ) → is_marked self.new.words.items n
+            ≡ (n == doc || is_marked self.old.words.items n)) }
     {
         let place = (doc / 64) as usize;
         'reaching: while self.words.len() <= place {

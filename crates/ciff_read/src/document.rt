@@ -87,7 +87,9 @@ fn judge_document<'a>(
     documents: &Documents,
 ) -> Result<(u32, &'a str), CiffWhy>
     requires { AreMarked documents.now }
-    ensures exact { MatchResult result (λ judged. judging.judge_doc docs (seen_in documents.now) (numbered_in fields.entry) ≡ Ok (numbered_in fields.entry)) (λ why. judging.judge_doc docs (seen_in documents.now) (numbered_in fields.entry) ≡ Err why) }
+    ensures exact { MatchResult result (λ judged. judging.judge_doc docs (seen_in documents.now)
+        (numbered_in fields.entry) ≡ Ok (numbered_in fields.entry))
+        (λ why. judging.judge_doc docs (seen_in documents.now) (numbered_in fields.entry) ≡ Err why) }
     ensures judged { IfOk result (λ judged. (judged.0 ≡ fields.entry.docid) × (judged.1.now ≡ fields.entry.name.now)) }
     ensures new { IfOk result (λ judged. judging.is_among judged.0 (seen_in documents.now) ≡ false) }
     ensures name { IfOk result (λ judged. IsName judged.1.now) }

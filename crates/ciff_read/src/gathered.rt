@@ -49,7 +49,8 @@ impl Gathered {
 
     /// Puts the next posting in, or keeps the refusal of it at its place in the file.
     pub fn take(&mut self, at: usize, entry: Entry) -> Result<(), NoMemory>
-        ensures gathered { OnOk result (gathered_of self.new ≡ gather self.old.docs self.old.before (gathered_of self.old) (record { at = at; entry = entry })) }
+        ensures gathered { OnOk result (gathered_of self.new
+            ≡ gather self.old.docs self.old.before (gathered_of self.old) (record { at = at; entry = entry })) }
         ensures docs { self.new.docs ≡ self.old.docs }
         ensures before { self.new.before ≡ self.old.before }
     {

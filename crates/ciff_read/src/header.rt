@@ -56,7 +56,8 @@ pub fn read_header(
 
 /// The description, or why the header is refused.
 fn judge_header<'a>(fields: &HeadFields<'a>) -> Result<&'a str, CiffWhy>
-    ensures exact { MatchResult result (λ text. judging.judge_header (start_in fields.now) ≡ Ok (start_in fields.now)) (λ why. judging.judge_header (start_in fields.now) ≡ Err why) }
+    ensures exact { MatchResult result (λ text. judging.judge_header (start_in fields.now) ≡ Ok (start_in fields.now))
+        (λ why. judging.judge_header (start_in fields.now) ≡ Err why) }
     ensures text { IfOk result (λ text. text.now ≡ fields.now.description.now) }
     ensures fits { IfOk result (λ text. FitsHeader (start_in fields.now).header fields.now.lists fields.now.docs) }
 {

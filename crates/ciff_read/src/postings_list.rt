@@ -39,10 +39,12 @@ pub fn read_list<'a>(
     requires docs { docs ≤ 2 ^ 26 }
     requires before { before ≤ 2 ^ 29 }
     ensures new { IfOk result (λ list. is_seen list.term (map (λ t. t.now) terms.old.keys) ≡ false) }
-    ensures terms { IfOk result (λ list. map (λ t. t.now) terms.new.keys ≡ map (λ t. t.now) terms.old.keys ++ list.term ∷ []) }
+    ensures terms { IfOk result (λ list. map (λ t. t.now) terms.new.keys
+        ≡ map (λ t. t.now) terms.old.keys ++ list.term ∷ []) }
     ensures few { IfOk result (λ list. before + length list.postings ≤ 2 ^ 29) }
     ensures below { IfOk result (HasDocsBelow docs) }
-    ensures exact { Gives list_data result (list_at docs before (map (λ t. t.now) terms.old.keys) at (message_in bytes.now body)) }
+    ensures exact { Gives list_data result
+        (list_at docs before (map (λ t. t.now) terms.old.keys) at (message_in bytes.now body)) }
 {
     let mut gathered = Gathered::new(alloc, docs, before);
     let fields = match walk_list(&bytes[..body.end], body.from, &mut gathered) {
@@ -75,12 +77,14 @@ fn judge_list<'a>(
     terms: &mut IndexSet<&'a str>,
 ) -> Result<&'a str, CiffFault>
     ensures new { IfOk result (λ term. is_seen term.now (map (λ t. t.now) terms.old.keys) ≡ false) }
-    ensures terms { IfOk result (λ term. map (λ t. t.now) terms.new.keys ≡ map (λ t. t.now) terms.old.keys ++ term.now ∷ []) }
+    ensures terms { IfOk result (λ term. map (λ t. t.now) terms.new.keys
+        ≡ map (λ t. t.now) terms.old.keys ++ term.now ∷ []) }
     ensures text { IfOk result (λ term. (term.now ≡ fields.entry.term.now) × IsUtf8 term.now) }
     ensures fits { IfOk result (λ term. length term.now ≤ 65535) }
     ensures df { IfOk result (λ term. fields.entry.df < 2 ^ 63) }
     ensures cf { IfOk result (λ term. fields.entry.cf < 2 ^ 63) }
-    ensures exact { Gives (λ term. list_start_in fields.entry) result (placed at (judging.judge_list (map (λ t. t.now) terms.old.keys) (list_start_in fields.entry))) }
+    ensures exact { Gives (λ term. list_start_in fields.entry) result
+        (placed at (judging.judge_list (map (λ t. t.now) terms.old.keys) (list_start_in fields.entry))) }
 {
     let Some(term) = text_of(fields.term) else {
         return Err(refused(at, CiffWhy::Text));

@@ -27,7 +27,8 @@ fn put_collection<S: Sink>(
     buffer: &mut Buffer,
     collection: &Collection,
 ) -> Result<(), WriteFault>
-    ensures { Gathers S.written S.faults S.rest out.old out.new buffer.old buffer.new (canonical_ciff (collection_data collection.now)) result }
+    ensures { Gathers S.written S.faults S.rest out.old out.new buffer.old buffer.new
+        (canonical_ciff (collection_data collection.now)) result }
 {
     let lists = collection.lists.as_slice();
     let docs = collection.docs.as_slice();

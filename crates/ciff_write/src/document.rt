@@ -20,7 +20,8 @@ pub fn put_docs<S: Sink>(
     buffer: &mut Buffer,
     docs: &[DocRecord],
 ) -> Result<(), WriteFault>
-    ensures { Gathers S.written S.faults S.rest out.old out.new buffer.old buffer.new (docs_spelling 0 (map doc_data docs.now)) result }
+    ensures { Gathers S.written S.faults S.rest out.old out.new buffer.old buffer.new
+        (docs_spelling 0 (map doc_data docs.now)) result }
 {
     let mut number: u64 = 0;
     for doc in docs {
@@ -37,7 +38,8 @@ fn put_doc<S: Sink>(
     number: u64,
     doc: &DocRecord,
 ) -> Result<(), WriteFault>
-    ensures { Gathers S.written S.faults S.rest out.old out.new buffer.old buffer.new (sized (doc_body number (doc_data doc.now))) result }
+    ensures { Gathers S.written S.faults S.rest out.old out.new buffer.old buffer.new
+        (sized (doc_body number (doc_data doc.now))) result }
 {
     put_size(out, buffer, doc_len(number, doc))?;
     put_number(out, buffer, NUMBER, number)?;

@@ -73,7 +73,8 @@ pub fn put_number<S: Sink>(
     value: u64,
 ) -> Result<(), WriteFault>
     requires { field < 16 }
-    ensures { Gathers S.written S.faults S.rest out.old out.new buffer.old buffer.new (number_spelling field value) result }
+    ensures { Gathers S.written S.faults S.rest out.old out.new buffer.old buffer.new
+        (number_spelling field value) result }
 {
     make_room(out, buffer, NUMBER_ROOM)?;
     push_number(buffer, field, value);
@@ -88,7 +89,8 @@ fn put_text_head<S: Sink>(
     len: u64,
 ) -> Result<(), WriteFault>
     requires { field < 15 }
-    ensures { Gathers S.written S.faults S.rest out.old out.new buffer.old buffer.new ((field * 8 + 2) ∷ short_varint len) result }
+    ensures { Gathers S.written S.faults S.rest out.old out.new buffer.old buffer.new
+        ((field * 8 + 2) ∷ short_varint len) result }
 {
     make_room(out, buffer, NUMBER_ROOM)?;
     buffer.push_byte(field * 8 + 2);
@@ -104,7 +106,8 @@ pub fn put_text<S: Sink>(
     text: &str,
 ) -> Result<(), WriteFault>
     requires { field < 15 }
-    ensures { Gathers S.written S.faults S.rest out.old out.new buffer.old buffer.new (text_spelling field text.now) result }
+    ensures { Gathers S.written S.faults S.rest out.old out.new buffer.old buffer.new
+        (text_spelling field text.now) result }
 {
     if text.is_empty() {
         return Ok(());

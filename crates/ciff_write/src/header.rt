@@ -38,7 +38,8 @@ pub fn put_header<S: Sink>(
     lists: u64,
     docs: u64,
 ) -> Result<(), WriteFault>
-    ensures { Gathers S.written S.faults S.rest out.old out.new buffer.old buffer.new (sized (header_body (header_data header.now) lists docs)) result }
+    ensures { Gathers S.written S.faults S.rest out.old out.new buffer.old buffer.new
+        (sized (header_body (header_data header.now) lists docs)) result }
 {
     put_size(out, buffer, header_len(header, lists, docs))?;
     make_room(out, buffer, NUMBERS_ROOM)?;
@@ -70,7 +71,10 @@ fn average_len(average: &[u8; 8]) -> u8
 /// Puts the numbers of a header.
 fn push_numbers(buffer: &mut Buffer, header: &Header, lists: u64, docs: u64)
     requires { length buffer.old + 66 ≤ 65536 }
-    ensures bytes { buffer.new ≡ buffer.old ++ (number_spelling 1 header.now.version ++ number_spelling 2 lists ++ number_spelling 3 docs ++ number_spelling 4 header.now.total_lists ++ number_spelling 5 header.now.total_docs ++ number_spelling 6 header.now.total_terms) }
+    ensures bytes { buffer.new ≡ buffer.old
+        ++ (number_spelling 1 header.now.version ++ number_spelling 2 lists ++ number_spelling 3 docs
+        ++ number_spelling 4 header.now.total_lists ++ number_spelling 5 header.now.total_docs
+        ++ number_spelling 6 header.now.total_terms) }
     ensures few { length buffer.new ≤ length buffer.old + 66 }
 {
     push_number(buffer, VERSION, u64::from(header.version));

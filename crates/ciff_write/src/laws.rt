@@ -14,7 +14,8 @@ use wire_fields::laws::fields_are_read;
 /// beginning of the canonical file of no other one.
 pub fn canonical_files_stand()
     ensures stands { (c : CollectionData) → KeepsLimits c → IsCiff (canonical_ciff c) c }
-    ensures alone { (c e : CollectionData) (rest : List ℕ) → KeepsLimits c → KeepsLimits e → canonical_ciff e ≡ canonical_ciff c ++ rest → c ≡ e }
+    ensures alone { (c e : CollectionData) (rest : List ℕ) → KeepsLimits c → KeepsLimits e
+        → canonical_ciff e ≡ canonical_ciff c ++ rest → c ≡ e }
 {
     fields_are_read();
     files_are_read();

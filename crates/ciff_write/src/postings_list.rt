@@ -26,7 +26,8 @@ pub fn put_lists<S: Sink>(
     lists: &[PostingsList],
 ) -> Result<(), WriteFault>
     requires { All (λ (l : PostingsList). length l.postings ≤ 2 ^ 26) lists.now }
-    ensures { Gathers S.written S.faults S.rest out.old out.new buffer.old buffer.new (flat_map (λ (l : PostingsList). sized (list_body (list_data l))) lists.now) result }
+    ensures { Gathers S.written S.faults S.rest out.old out.new buffer.old buffer.new
+        (flat_map (λ (l : PostingsList). sized (list_body (list_data l))) lists.now) result }
 {
     for list in lists {
         put_list(out, buffer, list)?;
@@ -41,7 +42,8 @@ fn put_list<S: Sink>(
     list: &PostingsList,
 ) -> Result<(), WriteFault>
     requires { length list.now.postings ≤ 2 ^ 26 }
-    ensures { Gathers S.written S.faults S.rest out.old out.new buffer.old buffer.new (sized (list_body (list_data list.now))) result }
+    ensures { Gathers S.written S.faults S.rest out.old out.new buffer.old buffer.new
+        (sized (list_body (list_data list.now))) result }
 {
     put_size(out, buffer, list_len(list))?;
     put_text(out, buffer, TERM, list.term.as_str())?;
@@ -66,7 +68,8 @@ fn put_postings<S: Sink>(
     postings: &[Posting],
 ) -> Result<(), WriteFault>
     requires { IsStrictlyIncreasing (docs_of postings.now) }
-    ensures { Gathers S.written S.faults S.rest out.old out.new buffer.old buffer.new (postings_spelling 0 postings.now) result }
+    ensures { Gathers S.written S.faults S.rest out.old out.new buffer.old buffer.new
+        (postings_spelling 0 postings.now) result }
 {
     let mut last = 0;
     for posting in postings {
@@ -83,7 +86,8 @@ fn put_posting<S: Sink>(
     gap: u32,
     tf: u32,
 ) -> Result<(), WriteFault>
-    ensures { Gathers S.written S.faults S.rest out.old out.new buffer.old buffer.new (short_varint (4 * 8 + 2) ++ sized (number_spelling 1 gap ++ number_spelling 2 tf)) result }
+    ensures { Gathers S.written S.faults S.rest out.old out.new buffer.old buffer.new
+        (short_varint (4 * 8 + 2) ++ sized (number_spelling 1 gap ++ number_spelling 2 tf)) result }
 {
     make_room(out, buffer, POSTING_ROOM)?;
     push_posting(buffer, gap, tf);

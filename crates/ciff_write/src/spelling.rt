@@ -49,7 +49,8 @@ pub fn push_number(buffer: &mut Buffer, field: u8, value: u64)
 /// Puts the field of a posting, by its gap.
 pub fn push_posting(buffer: &mut Buffer, gap: u32, tf: u32)
     requires { length buffer.old + 24 ≤ 65536 }
-    ensures { buffer.new ≡ buffer.old ++ (short_varint (4 * 8 + 2) ++ sized (number_spelling 1 gap ++ number_spelling 2 tf)) }
+    ensures { buffer.new ≡ buffer.old ++ (short_varint (4 * 8 + 2)
+        ++ sized (number_spelling 1 gap ++ number_spelling 2 tf)) }
 {
     buffer.push_byte(POSTING);
     buffer.push_byte(posting_len(gap, tf));

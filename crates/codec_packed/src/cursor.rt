@@ -20,7 +20,8 @@ pub struct Cursor {
 impl Cursor {
     /// A cursor at the first of `count` documents below `d`.
     pub fn new(count: u32, d: u32) -> Cursor
-        ensures { (bytes docs : List ℕ) → AreDocs d docs → length docs ≡ count → bytes ≡ packed_of docs → Gives result bytes docs }
+        ensures { (bytes docs : List ℕ) → AreDocs d docs → length docs ≡ count → bytes ≡ packed_of docs
+            → Gives result bytes docs }
     {
         let _ = d;
         Cursor {

@@ -26,7 +26,8 @@ impl Cursor {
     /// A cursor over the payload of `count` documents, in an index of `d` documents.
     #[inline(always)]
     pub fn new(count: u32, d: u32) -> Cursor
-        ensures { (bytes docs : List ℕ) → AreDocs d docs → length docs ≡ count → bytes ≡ simple8_of docs → Gives result bytes docs }
+        ensures { (bytes docs : List ℕ) → AreDocs d docs → length docs ≡ count → bytes ≡ simple8_of docs
+            → Gives result bytes docs }
     {
         Cursor {
             at: 0,

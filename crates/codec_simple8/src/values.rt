@@ -18,8 +18,10 @@ pub(crate) fn put_gaps(
     requires to { selector < 16 }
     requires room { filled ≤ 68 }
     requires least { least ≤ 2 ^ 26 }
-    requires below { All (λ doc. doc < 2 ^ 26) (docs_from least (fields (width_of selector) (count_of selector) values)) }
-    ensures docs { take (filled + count_of selector) out.new ≡ take filled out.old ++ docs_from least (fields (width_of selector) (count_of selector) values) }
+    requires below { All (λ doc. doc < 2 ^ 26)
+        (docs_from least (fields (width_of selector) (count_of selector) values)) }
+    ensures docs { take (filled + count_of selector) out.new
+        ≡ take filled out.old ++ docs_from least (fields (width_of selector) (count_of selector) values) }
     ensures next { result ≡ least_behind least (fields (width_of selector) (count_of selector) values) }
 {
     // Each selector is compiled on its own, so that its count and its shifts are constants.

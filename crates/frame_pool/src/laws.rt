@@ -14,6 +14,8 @@ pub fn calls_on_one_chain()
 
 /// A call on one chain leaves all chains in use and refuses no promise that it didn't refuse.
 pub fn a_call_on_one_chain_refuses_nothing()
-    ensures in_use { (old new : PoolView) (chain other : ℕ) → LeavesPool old new chain → IsInUse new other ↔ IsInUse old other }
-    ensures refusal { (old new : PoolView) (chain n : ℕ) → LeavesPool old new chain → promise_refusal new n ≡ promise_refusal old n }
+    ensures in_use { (old new : PoolView) (chain other : ℕ) → LeavesPool old new chain
+        → IsInUse new other ↔ IsInUse old other }
+    ensures refusal { (old new : PoolView) (chain n : ℕ) → LeavesPool old new chain
+        → promise_refusal new n ≡ promise_refusal old n }
 {}

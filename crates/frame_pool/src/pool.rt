@@ -100,14 +100,18 @@ impl FramePool {
         ensures free { IsFree self.old result.number }
         ensures small { result.number < 1048576 }
         ensures frames { self.new.frames ≡ slice_set self.old.frames result.number (cleared page) }
-        ensures chains { self.new.chains ≡ slice_set self.old.chains chain.now (Some (with_first (chain_of self.old chain.now) result.number)) }
+        ensures chains { self.new.chains ≡ slice_set self.old.chains chain.now
+            (Some (with_first (chain_of self.old chain.now) result.number)) }
 
         // What the chain's owner and the others see.
         ensures has { HasPage (chain_view self.new chain.now) page result.number }
         ensures in_use { IsInUse self.new chain.now }
-        ensures view { chain_view self.new chain.now ≡ with_first_held (chain_view self.old chain.now) result.number (cleared page) }
-        ensures scores { (docs : ℕ) → view_scores docs (chain_view self.new chain.now) ≡ view_scores docs (chain_view self.old chain.now) }
-        ensures places { (docs : ℕ) → view_places docs (chain_view self.new chain.now) ≡ view_places docs (chain_view self.old chain.now) }
+        ensures view { chain_view self.new chain.now
+            ≡ with_first_held (chain_view self.old chain.now) result.number (cleared page) }
+        ensures scores { (docs : ℕ) → view_scores docs (chain_view self.new chain.now)
+            ≡ view_scores docs (chain_view self.old chain.now) }
+        ensures places { (docs : ℕ) → view_places docs (chain_view self.new chain.now)
+            ≡ view_places docs (chain_view self.old chain.now) }
         ensures leaves { LeavesPool self.old self.new chain.now }
         ensures sound { IsSound self.new }
     {
@@ -198,15 +202,18 @@ impl FramePool {
     /// Sets the score of the document in a slot of the frame.
     pub fn set_score(&mut self, frame: FrameId, slot: u8, score: u32)
         requires { IsTaken self.old frame.number }
-        ensures frames { self.new.frames ≡ slice_set self.old.frames frame.number (with_score (content_of self.old frame.number) slot score) }
+        ensures frames { self.new.frames ≡ slice_set self.old.frames frame.number
+            (with_score (content_of self.old frame.number) slot score) }
         ensures chains { self.new.chains ≡ self.old.chains }
 
         // What the owner of the frame's chain and the others see.
         ensures scores { (chain page docs : ℕ) → HasPage (chain_view self.old chain) page frame.number
             → view_scores docs (chain_view self.new chain) ≡ slice_set (view_scores docs (chain_view self.old chain)) (256 * page + slot) score }
-        ensures places { (chain docs : ℕ) → view_places docs (chain_view self.new chain) ≡ view_places docs (chain_view self.old chain) }
+        ensures places { (chain docs : ℕ)
+            → view_places docs (chain_view self.new chain) ≡ view_places docs (chain_view self.old chain) }
         ensures keeps { (chain : ℕ) → KeepsFrames (chain_view self.old chain) (chain_view self.new chain) }
-        ensures leaves { (chain page : ℕ) → HasPage (chain_view self.old chain) page frame.number → LeavesPool self.old self.new chain }
+        ensures leaves { (chain page : ℕ) → HasPage (chain_view self.old chain) page frame.number
+            → LeavesPool self.old self.new chain }
         ensures sound { IsSound self.new }
     {
         self.frames.set_score(frame.number, slot, score);
@@ -225,15 +232,18 @@ impl FramePool {
     /// Sets the heap place of the document in a slot of the frame.
     pub fn set_place(&mut self, frame: FrameId, slot: u8, place: u32)
         requires { IsTaken self.old frame.number }
-        ensures frames { self.new.frames ≡ slice_set self.old.frames frame.number (with_place (content_of self.old frame.number) slot place) }
+        ensures frames { self.new.frames ≡ slice_set self.old.frames frame.number
+            (with_place (content_of self.old frame.number) slot place) }
         ensures chains { self.new.chains ≡ self.old.chains }
 
         // What the owner of the frame's chain and the others see.
         ensures places { (chain page docs : ℕ) → HasPage (chain_view self.old chain) page frame.number
             → view_places docs (chain_view self.new chain) ≡ slice_set (view_places docs (chain_view self.old chain)) (256 * page + slot) place }
-        ensures scores { (chain docs : ℕ) → view_scores docs (chain_view self.new chain) ≡ view_scores docs (chain_view self.old chain) }
+        ensures scores { (chain docs : ℕ)
+            → view_scores docs (chain_view self.new chain) ≡ view_scores docs (chain_view self.old chain) }
         ensures keeps { (chain : ℕ) → KeepsFrames (chain_view self.old chain) (chain_view self.new chain) }
-        ensures leaves { (chain page : ℕ) → HasPage (chain_view self.old chain) page frame.number → LeavesPool self.old self.new chain }
+        ensures leaves { (chain page : ℕ) → HasPage (chain_view self.old chain) page frame.number
+            → LeavesPool self.old self.new chain }
         ensures sound { IsSound self.new }
     {
         self.frames.set_place(frame.number, slot, place);

@@ -31,9 +31,13 @@ pub(crate) fn terms_of(
     requires width { IsImpactWidth bits }
     requires some { All (λ (l : PostingsList). 1 ≤ length l.postings) (lists_behind lists.now) }
     requires below { All (HasDocsBelow (length weigher.now.docs.now)) (lists_behind lists.now) }
-    requires in_range { All (λ (l : PostingsList). All (IsInRange bits range) (list_weights weigher.now.rule weigher.now.docs.now l)) (lists_behind lists.now) }
-    ensures terms { IfOk result (λ terms. map (λ (t : TermSegments). t.term) terms ≡ map (λ (l : PostingsList). l.term) (lists_behind lists.now)) }
-    ensures entries { IfOk result (λ terms. flat_of_terms terms ≡ flat_map (λ (l : PostingsList). sorted (entry_cmp (slice_cmp nat_cmp)) (list_entries weigher.now.rule weigher.now.docs.now bits range l)) (lists_behind lists.now)) }
+    requires in_range { All (λ (l : PostingsList). All (IsInRange bits range)
+        (list_weights weigher.now.rule weigher.now.docs.now l)) (lists_behind lists.now) }
+    ensures terms { IfOk result (λ terms. map (λ (t : TermSegments). t.term) terms
+        ≡ map (λ (l : PostingsList). l.term) (lists_behind lists.now)) }
+    ensures entries { IfOk result (λ terms. flat_of_terms terms
+        ≡ flat_map (λ (l : PostingsList). sorted (entry_cmp (slice_cmp nat_cmp))
+        (list_entries weigher.now.rule weigher.now.docs.now bits range l)) (lists_behind lists.now)) }
     ensures docs { IfOk result (λ terms. All (HasTermBelow (length weigher.now.docs.now)) terms) }
 {
     let mut terms = Row::new(alloc);
@@ -62,7 +66,9 @@ fn term_of(
     requires below { HasDocsBelow (length weigher.now.docs.now) list.now }
     requires in_range { All (IsInRange bits range) (list_weights weigher.now.rule weigher.now.docs.now list.now) }
     ensures term { IfOk result (λ t. t.term ≡ list.now.term) }
-    ensures entries { IfOk result (λ t. term_entries t.term t.segments ≡ sorted (entry_cmp (slice_cmp nat_cmp)) (list_entries weigher.now.rule weigher.now.docs.now bits range list.now)) }
+    ensures entries { IfOk result (λ t. term_entries t.term t.segments
+        ≡ sorted (entry_cmp (slice_cmp nat_cmp))
+        (list_entries weigher.now.rule weigher.now.docs.now bits range list.now)) }
     ensures docs { IfOk result (λ t. HasTermBelow (length weigher.now.docs.now) t) }
 {
     impacts_of(weigher, bits, range, list, pairs)?;
@@ -82,7 +88,8 @@ fn impacts_of(
     requires width { IsImpactWidth bits }
     requires below { HasDocsBelow (length weigher.now.docs.now) list.now }
     requires in_range { All (IsInRange bits range) (list_weights weigher.now.rule weigher.now.docs.now list.now) }
-    ensures pairs { OnOk result (pairs.new.items ≡ list_pairs weigher.now.rule weigher.now.docs.now bits range list.now) }
+    ensures pairs { OnOk result (pairs.new.items
+        ≡ list_pairs weigher.now.rule weigher.now.docs.now bits range list.now) }
     ensures positive { OnOk result (All (λ (p : ℕ × ℕ). 1 ≤ p.1) pairs.new.items) }
 {
     pairs.clear();

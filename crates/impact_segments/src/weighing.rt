@@ -52,8 +52,10 @@ impl<'a> Weigher<'a> {
     /// A range in which these bits give each weight the impact that the range of all weights does.
     pub(crate) fn range_for(&self, bits: Bits, lists: &[PostingsList]) -> Range
         requires { All (HasDocsBelow (length self.now.docs.now)) lists.now }
-        ensures same { (w : ℕ) → impact_of bits result w ≡ impact_of bits (range_of (flat_map (list_weights self.now.rule self.now.docs.now) lists.now)) w }
-        ensures in_range { All (λ (l : PostingsList). All (IsInRange bits result) (list_weights self.now.rule self.now.docs.now l)) lists.now }
+        ensures same { (w : ℕ) → impact_of bits result w
+            ≡ impact_of bits (range_of (flat_map (list_weights self.now.rule self.now.docs.now) lists.now)) w }
+        ensures in_range { All (λ (l : PostingsList). All (IsInRange bits result)
+            (list_weights self.now.rule self.now.docs.now l)) lists.now }
     {
         match bits {
             Bits::Raw => Range::new(),

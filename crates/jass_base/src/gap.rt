@@ -46,7 +46,8 @@ fn spell_gap(gap: u32, spelling: &mut [u8; 5]) -> usize
 /// bit set, or where a shorter varint spells the same gap.
 #[inline(always)]
 pub fn read_gap(bytes: &[u8], at: usize) -> Result<(u32, usize), PayloadFault>
-    ensures value { IfOk result (λ read. gap_in (drop at bytes.now) ≡ Ok (record { gap = read.0; size = read.1 - at })) }
+    ensures value { IfOk result (λ read. gap_in (drop at bytes.now)
+        ≡ Ok (record { gap = read.0; size = read.1 - at })) }
     ensures limit { IfOk result (λ read. read.0 < 2 ^ 28) }
     ensures behind { IfOk result (λ read. at < read.1) }
     ensures within { IfOk result (λ read. read.1 ≤ length bytes.now) }
@@ -67,7 +68,8 @@ pub fn read_gap(bytes: &[u8], at: usize) -> Result<(u32, usize), PayloadFault>
 fn read_groups(bytes: &[u8], at: usize) -> Result<(u32, usize), PayloadFault>
     requires within { at < length bytes.now }
     requires more { 128 ≤ slice_index bytes.now at }
-    ensures value { IfOk result (λ read. gap_in (drop at bytes.now) ≡ Ok (record { gap = read.0; size = read.1 - at })) }
+    ensures value { IfOk result (λ read. gap_in (drop at bytes.now)
+        ≡ Ok (record { gap = read.0; size = read.1 - at })) }
     ensures limit { IfOk result (λ read. read.0 < 2 ^ 28) }
     ensures behind { IfOk result (λ read. at < read.1) }
     ensures within { IfOk result (λ read. read.1 ≤ length bytes.now) }

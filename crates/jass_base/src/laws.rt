@@ -14,7 +14,8 @@ pub fn shortest_varints_are_one()
 
 /// Rising documents and their gaps are each other's inverse, from any least document on.
 pub fn gaps_and_docs_are_inverse()
-    ensures docs { (least : ℕ) (docs : List ℕ) → IsStrictlyIncreasing docs → All (λ doc. least ≤ doc) docs → docs_from least (gaps_from least docs) ≡ docs }
+    ensures docs { (least : ℕ) (docs : List ℕ) → IsStrictlyIncreasing docs → All (λ doc. least ≤ doc) docs
+        → docs_from least (gaps_from least docs) ≡ docs }
     ensures gaps { (least : ℕ) (gaps : List ℕ) → gaps_from least (docs_from least gaps) ≡ gaps }
 {}
 
@@ -24,33 +25,46 @@ pub fn docs_of_gaps()
     ensures count { (least : ℕ) (gaps : List ℕ) → length (docs_from least gaps) ≡ length gaps }
     ensures rising { (least : ℕ) (gaps : List ℕ) → IsStrictlyIncreasing (docs_from least gaps) }
     ensures from_least { (least : ℕ) (gaps : List ℕ) → All (λ doc. least ≤ doc) (docs_from least gaps) }
-    ensures below { (d least : ℕ) (gaps : List ℕ) → least ≤ d → All (λ doc. doc < d) (docs_from least gaps) ↔ (least + sum gaps + length gaps ≤ d) }
-    ensures parts { (least : ℕ) (front back : List ℕ) → docs_from least (front ++ back) ≡ docs_from least front ++ docs_from (least + sum front + length front) back }
+    ensures below { (d least : ℕ) (gaps : List ℕ) → least ≤ d
+        → All (λ doc. doc < d) (docs_from least gaps) ↔ (least + sum gaps + length gaps ≤ d) }
+    ensures parts { (least : ℕ) (front back : List ℕ)
+        → docs_from least (front ++ back)
+        ≡ docs_from least front ++ docs_from (least + sum front + length front) back }
 {}
 
 /// The gaps of given documents, one for each, and in parts.
 pub fn gaps_of_docs()
     ensures count { (least : ℕ) (docs : List ℕ) → length (gaps_from least docs) ≡ length docs }
-    ensures below { (d least : ℕ) (docs : List ℕ) → All (λ doc. doc < d) docs → All (λ gap. gap < d) (gaps_from least docs) }
-    ensures parts { (least doc : ℕ) (front back : List ℕ) → gaps_from least (front ++ doc ∷ back) ≡ gaps_from least (front ++ doc ∷ []) ++ gaps_from (doc + 1) back }
+    ensures below { (d least : ℕ) (docs : List ℕ) → All (λ doc. doc < d) docs
+        → All (λ gap. gap < d) (gaps_from least docs) }
+    ensures parts { (least doc : ℕ) (front back : List ℕ)
+        → gaps_from least (front ++ doc ∷ back) ≡ gaps_from least (front ++ doc ∷ []) ++ gaps_from (doc + 1) back }
 {}
 
 /// A gap below 2^28 is read from the front of bytes exactly where its shortest varint
 /// stands there.
 pub fn gap_varints_are_read()
-    ensures found { (gap : ℕ) (rest : List ℕ) → gap < 2 ^ 28 → gap_in (short_varint gap ++ rest) ≡ Ok (record { gap = gap; size = length (short_varint gap) }) }
-    ensures only { (bytes : List ℕ) (read : GapSpelling) → All (λ byte. byte < 256) bytes → gap_in bytes ≡ Ok read → take read.size bytes ≡ short_varint read.gap }
+    ensures found { (gap : ℕ) (rest : List ℕ) → gap < 2 ^ 28
+        → gap_in (short_varint gap ++ rest) ≡ Ok (record { gap = gap; size = length (short_varint gap) }) }
+    ensures only { (bytes : List ℕ) (read : GapSpelling) → All (λ byte. byte < 256) bytes → gap_in bytes ≡ Ok read
+        → take read.size bytes ≡ short_varint read.gap }
     ensures limit { (bytes : List ℕ) (read : GapSpelling) → gap_in bytes ≡ Ok read → read.gap < 2 ^ 28 }
-    ensures size { (bytes : List ℕ) (read : GapSpelling) → gap_in bytes ≡ Ok read → (0 < read.size) × (read.size ≤ 4) × (read.size ≤ length bytes) }
+    ensures size { (bytes : List ℕ) (read : GapSpelling) → gap_in bytes ≡ Ok read
+        → (0 < read.size) × (read.size ≤ 4) × (read.size ≤ length bytes) }
 {}
 
 /// Documents from a least one on are read exactly from the shortest varints of their gaps.
 pub fn spelled_gaps_are_read()
     ensures found { (d least : ℕ) (docs : List ℕ) → IsStrictlyIncreasing docs → All (λ doc. least ≤ doc) docs → All (λ doc. doc < d) docs → d ≤ 2 ^ 28
         → read_gaps d least (length docs) (spelled_gaps (gaps_from least docs)) ≡ Ok docs }
-    ensures bytes { (d least count : ℕ) (docs bytes : List ℕ) → All (λ byte. byte < 256) bytes → read_gaps d least count bytes ≡ Ok docs → bytes ≡ spelled_gaps (gaps_from least docs) }
-    ensures count { (d least count : ℕ) (docs bytes : List ℕ) → read_gaps d least count bytes ≡ Ok docs → length docs ≡ count }
-    ensures rising { (d least count : ℕ) (docs bytes : List ℕ) → read_gaps d least count bytes ≡ Ok docs → IsStrictlyIncreasing docs }
-    ensures from_least { (d least count : ℕ) (docs bytes : List ℕ) → read_gaps d least count bytes ≡ Ok docs → All (λ doc. least ≤ doc) docs }
-    ensures below { (d least count : ℕ) (docs bytes : List ℕ) → read_gaps d least count bytes ≡ Ok docs → All (λ doc. doc < d) docs }
+    ensures bytes { (d least count : ℕ) (docs bytes : List ℕ) → All (λ byte. byte < 256) bytes
+        → read_gaps d least count bytes ≡ Ok docs → bytes ≡ spelled_gaps (gaps_from least docs) }
+    ensures count { (d least count : ℕ) (docs bytes : List ℕ) → read_gaps d least count bytes ≡ Ok docs
+        → length docs ≡ count }
+    ensures rising { (d least count : ℕ) (docs bytes : List ℕ) → read_gaps d least count bytes ≡ Ok docs
+        → IsStrictlyIncreasing docs }
+    ensures from_least { (d least count : ℕ) (docs bytes : List ℕ) → read_gaps d least count bytes ≡ Ok docs
+        → All (λ doc. least ≤ doc) docs }
+    ensures below { (d least count : ℕ) (docs bytes : List ℕ) → read_gaps d least count bytes ≡ Ok docs
+        → All (λ doc. doc < d) docs }
 {}

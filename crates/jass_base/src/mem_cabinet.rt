@@ -55,19 +55,25 @@ impl MemCabinet {
 
     /// Gives a name its content. This is no call that fails or is counted.
     pub fn store(&mut self, name: &str, bytes: &[u8]) -> Result<(), NoMemory>
-        ensures ok { OnOk result (Sets (⟦<MemCabinet as Cabinet>⟧.told self.old) (⟦<MemCabinet as Cabinet>⟧.told self.new) name.now bytes.now) }
+        ensures ok { OnOk result (Sets (⟦<MemCabinet as Cabinet>⟧.told self.old)
+            (⟦<MemCabinet as Cabinet>⟧.told self.new) name.now bytes.now) }
         ensures err { OnErr result (⟦<MemCabinet as Cabinet>⟧.told self.new ≡ ⟦<MemCabinet as Cabinet>⟧.told self.old) }
-        ensures read_faults { ⟦<MemCabinet as Cabinet>⟧.read_faults self.new ≡ ⟦<MemCabinet as Cabinet>⟧.read_faults self.old }
-        ensures write_faults { ⟦<MemCabinet as Cabinet>⟧.write_faults self.new ≡ ⟦<MemCabinet as Cabinet>⟧.write_faults self.old }
-        ensures script_of_reads { ⟦<MemCabinet as Scripted>⟧.reads self.new ≡ ⟦<MemCabinet as Scripted>⟧.reads self.old }
-        ensures script_of_writes { ⟦<MemCabinet as Scripted>⟧.writes self.new ≡ ⟦<MemCabinet as Scripted>⟧.writes self.old }
+        ensures read_faults { ⟦<MemCabinet as Cabinet>⟧.read_faults self.new
+            ≡ ⟦<MemCabinet as Cabinet>⟧.read_faults self.old }
+        ensures write_faults { ⟦<MemCabinet as Cabinet>⟧.write_faults self.new
+            ≡ ⟦<MemCabinet as Cabinet>⟧.write_faults self.old }
+        ensures script_of_reads { ⟦<MemCabinet as Scripted>⟧.reads self.new
+            ≡ ⟦<MemCabinet as Scripted>⟧.reads self.old }
+        ensures script_of_writes { ⟦<MemCabinet as Scripted>⟧.writes self.new
+            ≡ ⟦<MemCabinet as Scripted>⟧.writes self.old }
     {
         set(self.alloc, &mut self.files, name, bytes)
     }
 
     /// The content of a name; None exactly where it is missing.
     pub fn content(&self, name: &str) -> Option<&[u8]>
-        ensures { MatchOption result (IsMissing (⟦<MemCabinet as Cabinet>⟧.told self.now) name.now) (λ content. OnContent (⟦<MemCabinet as Cabinet>⟧.told self.now) name.now (λ bytes. bytes ≡ content.now)) }
+        ensures { MatchOption result (IsMissing (⟦<MemCabinet as Cabinet>⟧.told self.now) name.now)
+            (λ content. OnContent (⟦<MemCabinet as Cabinet>⟧.told self.now) name.now (λ bytes. bytes ≡ content.now)) }
     {
         content_of(&self.files, name)
     }
@@ -75,11 +81,15 @@ impl MemCabinet {
     /// Counts a call of `create` or `append`, and answers whether it is to fail.
     fn fails_to_write(&mut self) -> bool
         ensures told { ⟦<MemCabinet as Cabinet>⟧.told self.new ≡ ⟦<MemCabinet as Cabinet>⟧.told self.old }
-        ensures reads { ⟦<MemCabinet as Cabinet>⟧.read_faults self.new ≡ ⟦<MemCabinet as Cabinet>⟧.read_faults self.old }
-        ensures later { ⟦<MemCabinet as Cabinet>⟧.write_faults self.old ≤ ⟦<MemCabinet as Cabinet>⟧.write_faults self.new }
-        ensures failed { OnTrue result (Rose (⟦<MemCabinet as Cabinet>⟧.write_faults self.old) (⟦<MemCabinet as Cabinet>⟧.write_faults self.new)) }
+        ensures reads { ⟦<MemCabinet as Cabinet>⟧.read_faults self.new
+            ≡ ⟦<MemCabinet as Cabinet>⟧.read_faults self.old }
+        ensures later { ⟦<MemCabinet as Cabinet>⟧.write_faults self.old
+            ≤ ⟦<MemCabinet as Cabinet>⟧.write_faults self.new }
+        ensures failed { OnTrue result (Rose (⟦<MemCabinet as Cabinet>⟧.write_faults self.old)
+            (⟦<MemCabinet as Cabinet>⟧.write_faults self.new)) }
         ensures named { IsTrue result ↔ FailsNext (⟦<MemCabinet as Scripted>⟧.writes self.old) }
-        ensures next { ⟦<MemCabinet as Scripted>⟧.writes self.new ≡ called (⟦<MemCabinet as Scripted>⟧.writes self.old) }
+        ensures next { ⟦<MemCabinet as Scripted>⟧.writes self.new
+            ≡ called (⟦<MemCabinet as Scripted>⟧.writes self.old) }
         ensures stays { ⟦<MemCabinet as Scripted>⟧.reads self.new ≡ ⟦<MemCabinet as Scripted>⟧.reads self.old }
     {
         let write = self.writes;
@@ -109,7 +119,8 @@ fn extend_there(
     bytes: &[u8],
 ) -> Result<(), NoMemory>
     requires { IsSome (get_by_text files.old name.now) }
-    ensures ok { OnOk result (files_of files.new ≡ insert (files_of files.old) name.now (content_or_empty (files_of files.old) name.now ++ bytes.now)) }
+    ensures ok { OnOk result (files_of files.new
+        ≡ insert (files_of files.old) name.now (content_or_empty (files_of files.old) name.now ++ bytes.now)) }
     ensures err { OnErr result (files_of files.new ≡ files_of files.old) }
 {
     match files.get_mut(name).unwrap().extend_from_slice(bytes) {
@@ -125,7 +136,8 @@ fn put_behind(
     name: &str,
     bytes: &[u8],
 ) -> Result<(), NoMemory>
-    ensures ok { OnOk result (files_of files.new ≡ insert (files_of files.old) name.now (content_or_empty (files_of files.old) name.now ++ bytes.now)) }
+    ensures ok { OnOk result (files_of files.new
+        ≡ insert (files_of files.old) name.now (content_or_empty (files_of files.old) name.now ++ bytes.now)) }
     ensures err { OnErr result (files_of files.new ≡ files_of files.old) }
 {
     if files.contains_key(name) {
@@ -180,7 +192,8 @@ impl Cabinet for MemCabinet {
             (⟦<MemCabinet as Cabinet>⟧.read_faults self.old) (⟦<MemCabinet as Cabinet>⟧.read_faults self.new) result }
         ensures missing { IsMissing (⟦<MemCabinet as Cabinet>⟧.told self.old) name.now →
             ⟦<MemCabinet as Cabinet>⟧.read_faults self.new ≡ ⟦<MemCabinet as Cabinet>⟧.read_faults self.old }
-        ensures others { ⟦<MemCabinet as Cabinet>⟧.write_faults self.old ≤ ⟦<MemCabinet as Cabinet>⟧.write_faults self.new }
+        ensures others { ⟦<MemCabinet as Cabinet>⟧.write_faults self.old
+            ≤ ⟦<MemCabinet as Cabinet>⟧.write_faults self.new }
         ensures named { IsErr result ↔
             (IsMissing (⟦<MemCabinet as Cabinet>⟧.told self.old) name.now ⊎ FailsNext (⟦<MemCabinet as Scripted>⟧.reads self.old)) }
         ensures next { ⟦<MemCabinet as Scripted>⟧.reads self.new ≡ called (⟦<MemCabinet as Scripted>⟧.reads self.old) }
@@ -199,11 +212,15 @@ impl Cabinet for MemCabinet {
     }
 
     fn create(&mut self, name: &str) -> Result<(), Failed>
-        ensures content { Creates (⟦<MemCabinet as Cabinet>⟧.told self.old) (⟦<MemCabinet as Cabinet>⟧.told self.new) name.now result }
-        ensures cause { HasCause (⟦<MemCabinet as Cabinet>⟧.write_faults self.old) (⟦<MemCabinet as Cabinet>⟧.write_faults self.new) result }
-        ensures others { ⟦<MemCabinet as Cabinet>⟧.read_faults self.old ≤ ⟦<MemCabinet as Cabinet>⟧.read_faults self.new }
+        ensures content { Creates (⟦<MemCabinet as Cabinet>⟧.told self.old)
+            (⟦<MemCabinet as Cabinet>⟧.told self.new) name.now result }
+        ensures cause { HasCause (⟦<MemCabinet as Cabinet>⟧.write_faults self.old)
+            (⟦<MemCabinet as Cabinet>⟧.write_faults self.new) result }
+        ensures others { ⟦<MemCabinet as Cabinet>⟧.read_faults self.old
+            ≤ ⟦<MemCabinet as Cabinet>⟧.read_faults self.new }
         ensures named { FailsNext (⟦<MemCabinet as Scripted>⟧.writes self.old) → IsErr result }
-        ensures next { ⟦<MemCabinet as Scripted>⟧.writes self.new ≡ called (⟦<MemCabinet as Scripted>⟧.writes self.old) }
+        ensures next { ⟦<MemCabinet as Scripted>⟧.writes self.new
+            ≡ called (⟦<MemCabinet as Scripted>⟧.writes self.old) }
         ensures script_stays { ⟦<MemCabinet as Scripted>⟧.reads self.new ≡ ⟦<MemCabinet as Scripted>⟧.reads self.old }
     {
         if self.fails_to_write() {
@@ -219,11 +236,15 @@ impl Cabinet for MemCabinet {
     }
 
     fn append(&mut self, name: &str, bytes: &[u8]) -> Result<(), Failed>
-        ensures content { Appended (⟦<MemCabinet as Cabinet>⟧.told self.old) (⟦<MemCabinet as Cabinet>⟧.told self.new) name.now bytes.now result }
-        ensures cause { HasCause (⟦<MemCabinet as Cabinet>⟧.write_faults self.old) (⟦<MemCabinet as Cabinet>⟧.write_faults self.new) result }
-        ensures others { ⟦<MemCabinet as Cabinet>⟧.read_faults self.old ≤ ⟦<MemCabinet as Cabinet>⟧.read_faults self.new }
+        ensures content { Appended (⟦<MemCabinet as Cabinet>⟧.told self.old)
+            (⟦<MemCabinet as Cabinet>⟧.told self.new) name.now bytes.now result }
+        ensures cause { HasCause (⟦<MemCabinet as Cabinet>⟧.write_faults self.old)
+            (⟦<MemCabinet as Cabinet>⟧.write_faults self.new) result }
+        ensures others { ⟦<MemCabinet as Cabinet>⟧.read_faults self.old
+            ≤ ⟦<MemCabinet as Cabinet>⟧.read_faults self.new }
         ensures named { FailsNext (⟦<MemCabinet as Scripted>⟧.writes self.old) → IsErr result }
-        ensures next { ⟦<MemCabinet as Scripted>⟧.writes self.new ≡ called (⟦<MemCabinet as Scripted>⟧.writes self.old) }
+        ensures next { ⟦<MemCabinet as Scripted>⟧.writes self.new
+            ≡ called (⟦<MemCabinet as Scripted>⟧.writes self.old) }
         ensures script_stays { ⟦<MemCabinet as Scripted>⟧.reads self.new ≡ ⟦<MemCabinet as Scripted>⟧.reads self.old }
     {
         if self.fails_to_write() {

@@ -48,7 +48,8 @@ impl Feed for MemFeed {
 
     fn read(&mut self, buf: &mut [u8]) -> Result<usize, Failed>
         ensures bound { ReadsAtMost result buf.new }
-        ensures bytes { ReadConsumes (⟦<MemFeed as Feed>⟧.left self.old) (⟦<MemFeed as Feed>⟧.left self.new) result buf.new }
+        ensures bytes { ReadConsumes (⟦<MemFeed as Feed>⟧.left self.old)
+            (⟦<MemFeed as Feed>⟧.left self.new) result buf.new }
         ensures cause { HasCause (⟦<MemFeed as Feed>⟧.faults self.old) (⟦<MemFeed as Feed>⟧.faults self.new) result }
         ensures named { IsErr result ↔ FailsNext (⟦<MemFeed as Scripted>⟧.reads self.old) }
         ensures next { ⟦<MemFeed as Scripted>⟧.reads self.new ≡ called (⟦<MemFeed as Scripted>⟧.reads self.old) }

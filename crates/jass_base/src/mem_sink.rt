@@ -50,7 +50,8 @@ impl Sink for MemSink {
     ghost faults = { λ s. s.faults };
 
     fn put(&mut self, bytes: &[u8]) -> Result<(), Failed>
-        ensures bytes { Puts (⟦<MemSink as Sink>⟧.written self.old) (⟦<MemSink as Sink>⟧.written self.new) bytes.now result }
+        ensures bytes { Puts (⟦<MemSink as Sink>⟧.written self.old)
+            (⟦<MemSink as Sink>⟧.written self.new) bytes.now result }
         ensures cause { HasCause (⟦<MemSink as Sink>⟧.faults self.old) (⟦<MemSink as Sink>⟧.faults self.new) result }
         ensures stays { ⟦<MemSink as Sink>⟧.rest self.new ≡ ⟦<MemSink as Sink>⟧.rest self.old }
         ensures named { FailsNext (⟦<MemSink as Scripted>⟧.writes self.old) → IsErr result }

@@ -36,7 +36,8 @@ fn is_file(word: &str) -> bool
 pub fn count_at(words: &[String], place: usize) -> Option<u32>
     ensures some { IfSome result (λ k. IfSome (slice_get (texts words.now) place) (λ word. IsCount word k)) }
     ensures there { IfSome result (λ k. place < length words.now) }
-    ensures none { result ≡ None → (word : List ℕ) (k : ℕ) → slice_get (texts words.now) place ≡ Some word → ¬ IsCount word k }
+    ensures none { result ≡ None → (word : List ℕ) (k : ℕ) → slice_get (texts words.now) place ≡ Some word
+        → ¬ IsCount word k }
 {
     let Some(word) = words.get(place) else {
         return None;
@@ -51,7 +52,8 @@ pub fn count_at(words: &[String], place: usize) -> Option<u32>
 pub fn budget_at(words: &[String], place: usize) -> Option<Budget>
     ensures some { IfSome result (λ budget. IfSome (slice_get (texts words.now) place) (λ word. IsBudget word budget)) }
     ensures there { IfSome result (λ k. place < length words.now) }
-    ensures none { result ≡ None → (word : List ℕ) (budget : Budget) → slice_get (texts words.now) place ≡ Some word → ¬ IsBudget word budget }
+    ensures none { result ≡ None → (word : List ℕ) (budget : Budget) → slice_get (texts words.now) place ≡ Some word
+        → ¬ IsBudget word budget }
 {
     let Some(word) = words.get(place) else {
         return None;

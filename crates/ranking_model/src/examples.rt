@@ -26,9 +26,12 @@ pub fn the_small_indexes_are_flat()
 /// The plan of `cat dog` and of `dog cat`: segments by falling weight; of equal weight and number
 /// of postings, the one of the term that is named first.
 pub fn plans_of_two_terms()
-    ensures cat_dog { cat_dog.classes ≡ class 0 3 (0 ∷ []) ∷ class 1 3 (2 ∷ []) ∷ class 1 2 (1 ∷ []) ∷ class 0 1 (1 ∷ 3 ∷ []) ∷ [] }
-    ensures dog_cat { dog_cat.classes ≡ class 0 3 (2 ∷ []) ∷ class 1 3 (0 ∷ []) ∷ class 0 2 (1 ∷ []) ∷ class 1 1 (1 ∷ 3 ∷ []) ∷ [] }
-    ensures cat_twice { cat_twice_dog.classes ≡ class 0 6 (0 ∷ []) ∷ class 1 3 (2 ∷ []) ∷ class 1 2 (1 ∷ []) ∷ class 0 2 (1 ∷ 3 ∷ []) ∷ [] }
+    ensures cat_dog { cat_dog.classes ≡ class 0 3 (0 ∷ []) ∷ class 1 3 (2 ∷ []) ∷ class 1 2 (1 ∷ [])
+        ∷ class 0 1 (1 ∷ 3 ∷ []) ∷ [] }
+    ensures dog_cat { dog_cat.classes ≡ class 0 3 (2 ∷ []) ∷ class 1 3 (0 ∷ []) ∷ class 0 2 (1 ∷ [])
+        ∷ class 1 1 (1 ∷ 3 ∷ []) ∷ [] }
+    ensures cat_twice { cat_twice_dog.classes
+        ≡ class 0 6 (0 ∷ []) ∷ class 1 3 (2 ∷ []) ∷ class 1 2 (1 ∷ []) ∷ class 0 2 (1 ∷ 3 ∷ []) ∷ [] }
 {}
 
 /// `cat dog` with a budget for all postings.

@@ -24,7 +24,8 @@ enum CodecCursor {
 impl SegmentCursor {
     /// A cursor at the first of `count` documents below `d`.
     pub fn new(codec: Codec, count: u32, d: u32) -> SegmentCursor
-        ensures { (bytes docs : List ℕ) → AreDocs d docs → length docs ≡ count → bytes ≡ payload_of codec d docs → Gives result bytes docs }
+        ensures { (bytes docs : List ℕ) → AreDocs d docs → length docs ≡ count → bytes ≡ payload_of codec d docs
+            → Gives result bytes docs }
     {
         let codec = match codec {
             Codec::Varbyte => CodecCursor::Varbyte(varbyte::Cursor::new(count, d)),

@@ -104,7 +104,8 @@ impl Top {
 
     /// The first k documents.
     pub fn ranked(&self) -> &[Hit]
-        ensures { (scores places : List ℕ) → TopStands self.now scores places → result.now ≡ first_ranked scores self.now.k }
+        ensures { (scores places : List ℕ) → TopStands self.now scores places
+            → result.now ≡ first_ranked scores self.now.k }
     {
         let hits = self.hits.as_slice();
         &hits[..hits.len().min(self.k as usize)]
@@ -112,7 +113,8 @@ impl Top {
 
     /// The document after the first k, and `None` exactly where at most k documents have a score. It is the last of a full heap.
     pub fn runner_up(&self) -> Option<Hit>
-        ensures next { (scores places : List ℕ) → TopStands self.now scores places → result ≡ runner_up scores self.now.k }
+        ensures next { (scores places : List ℕ) → TopStands self.now scores places
+            → result ≡ runner_up scores self.now.k }
         ensures full { IfSome result (λ hit. length self.now.hits ≡ self.now.k + 1) }
         ensures last { IfSome result (λ hit. hit ≡ hit_at self.now.hits 0) }
     {

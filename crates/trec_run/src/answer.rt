@@ -24,7 +24,8 @@ pub fn put_answer<S: Sink, N: Names>(
     part: u32,
 ) -> Result<(), WriteFault>
     requires { All (λ (hit : Hit). hit.doc < length (N.names index.now)) hits.now }
-    ensures { Wrote S.written S.faults S.rest out.old out.new (run_lines (N.names index.now) id.now (tag_of tag.now part) 1 hits.now) result }
+    ensures { Wrote S.written S.faults S.rest out.old out.new
+        (run_lines (N.names index.now) id.now (tag_of tag.now part) 1 hits.now) result }
 {
     if part == 0 {
         put_lines(out, id, index, hits, tag, "", "")
@@ -45,7 +46,8 @@ fn put_lines<S: Sink, N: Names>(
     part: &str,
 ) -> Result<(), WriteFault>
     requires { All (λ (hit : Hit). hit.doc < length (N.names index.now)) hits.now }
-    ensures { Wrote S.written S.faults S.rest out.old out.new (run_lines (N.names index.now) id.now (tag.now ++ (point.now ++ part.now)) 1 hits.now) result }
+    ensures { Wrote S.written S.faults S.rest out.old out.new
+        (run_lines (N.names index.now) id.now (tag.now ++ (point.now ++ part.now)) 1 hits.now) result }
 {
     let mut buffer = Buffer::new();
     let mut rank: u64 = 1;
@@ -80,7 +82,8 @@ fn gather_hit<O: Sink>(
     point: &str,
     part: &str,
 ) -> Result<(), WriteFault>
-    ensures { Gathers O.written O.faults O.rest out.old out.new buffer.old buffer.new (run_line id.now name.now (tag.now ++ (point.now ++ part.now)) rank score) result }
+    ensures { Gathers O.written O.faults O.rest out.old out.new buffer.old buffer.new
+        (run_line id.now name.now (tag.now ++ (point.now ++ part.now)) rank score) result }
 {
     let mut rank_digits = Digits::new();
     let mut score_digits = Digits::new();

@@ -38,7 +38,8 @@ pub fn six_columns(line: &str) -> Option<Six<'_>>
 
 /// The first column and what follows it.
 fn next_column(text: &str) -> Option<(&str, &str)>
-    ensures { MatchOption result (columns_of text.now ≡ []) (λ next. columns_of text.now ≡ next.0.now ∷ columns_of next.1.now) }
+    ensures { MatchOption result (columns_of text.now ≡ [])
+        (λ next. columns_of text.now ≡ next.0.now ∷ columns_of next.1.now) }
 {
     let mut rest = text;
     while !rest.is_empty() {

@@ -49,7 +49,8 @@ pub fn gather_all<O: Sink>(
     buffer: &mut Buffer,
     pieces: &[&[u8]],
 ) -> Result<(), WriteFault>
-    ensures { Gathers O.written O.faults O.rest out.old out.new buffer.old buffer.new (flat_map (λ piece. piece.now) pieces.now) result }
+    ensures { Gathers O.written O.faults O.rest out.old out.new buffer.old buffer.new
+        (flat_map (λ piece. piece.now) pieces.now) result }
 {
     for piece in pieces {
         gather(out, buffer, piece)?;

@@ -18,7 +18,8 @@ pub fn gather_columns<'x, O: Sink>(
     point: &'x str,
     part: &'x str,
 ) -> Result<(), WriteFault>
-    ensures { Gathers O.written O.faults O.rest out.old out.new buffer.old buffer.new (columns id.now name.now rank.now score.now (tag.now ++ (point.now ++ part.now))) result }
+    ensures { Gathers O.written O.faults O.rest out.old out.new buffer.old buffer.new
+        (columns id.now name.now rank.now score.now (tag.now ++ (point.now ++ part.now))) result }
 {
     gather_all(
         out,

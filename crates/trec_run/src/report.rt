@@ -61,7 +61,13 @@ fn put_columns<'x, S: Sink>(
     unknown: &'x [u8],
     grade: &'x [u8],
 ) -> Result<(), WriteFault>
-    ensures { Wrote S.written S.faults S.rest out.old out.new (id.now ++ (codes " postings " ++ (postings.now ++ (codes " segments " ++ (segments.now ++ (codes " of " ++ (of.now ++ (codes " cutoff " ++ (cutoff.now ++ (codes " next " ++ (next.now ++ (codes " bound " ++ (bound.now ++ (codes " unknown " ++ (unknown.now ++ (codes " " ++ (grade.now ++ codes "\n"))))))))))))))))) result }
+    ensures { Wrote S.written S.faults S.rest out.old out.new
+        (id.now ++ (codes " postings " ++ (postings.now
+        ++ (codes " segments " ++ (segments.now
+        ++ (codes " of " ++ (of.now ++ (codes " cutoff "
+        ++ (cutoff.now ++ (codes " next "
+        ++ (next.now ++ (codes " bound " ++ (bound.now
+        ++ (codes " unknown " ++ (unknown.now ++ (codes " " ++ (grade.now ++ codes "\n"))))))))))))))))) result }
 {
     put_all(
         out,

@@ -47,7 +47,8 @@ fn read_line(alloc: Global, number: u64, line: &[u8]) -> Result<RunLine, RunFaul
 }
 
 fn utf8(bytes: &[u8]) -> Option<&str>
-    ensures { MatchOption result (is_utf8 bytes.now ≡ false) (λ text. (text.now ≡ bytes.now) × (is_utf8 bytes.now ≡ true)) }
+    ensures { MatchOption result (is_utf8 bytes.now ≡ false)
+        (λ text. (text.now ≡ bytes.now) × (is_utf8 bytes.now ≡ true)) }
 {
     match std::str::from_utf8(bytes) {
         Ok(text) => Some(text),
@@ -63,7 +64,9 @@ fn is_mark(column: &str) -> bool
 
 /// The line of six columns, where its numbers are numbers.
 fn run_line(alloc: Global, number: u64, six: Six<'_>) -> Result<RunLine, RunFault>
-    ensures { (result ≡ at_line number (with_numbers six.entry.id.now six.entry.name.now (decimal_of six.entry.rank.now) (decimal_of six.entry.score.now) six.entry.tag.now)) ⊎ (result ≡ Err RunFault.NoMemory) }
+    ensures { (result ≡ at_line number (with_numbers six.entry.id.now six.entry.name.now
+        (decimal_of six.entry.rank.now) (decimal_of six.entry.score.now) six.entry.tag.now))
+        ⊎ (result ≡ Err RunFault.NoMemory) }
 {
     let Some(rank) = read_decimal(six.rank.as_bytes()) else {
         return Err(refused(number, RunWhy::Number));

@@ -18,7 +18,8 @@ impl Cursor {
     /// A cursor in front of the payload of `count` documents, in an index of d documents.
     #[inline]
     pub fn new(count: u32, d: u32) -> Cursor
-        ensures { (bytes docs : List ℕ) → AreDocs d docs → length docs ≡ count → bytes ≡ bitmap_of d docs → Gives result bytes docs }
+        ensures { (bytes docs : List ℕ) → AreDocs d docs → length docs ≡ count → bytes ≡ bitmap_of d docs
+            → Gives result bytes docs }
     {
         bits_are_documents();
         Cursor { at: 0 }

@@ -12,15 +12,18 @@ use lane_kernels::laws::set_bits_rise;
 pub fn bits_are_documents()
     ensures size { (d : ℕ) (docs : List ℕ) → length (bitmap_of d docs) ≡ bitmap_size d }
     ensures found { (d : ℕ) (docs : List ℕ) → AreDocs d docs → set_bits 0 (bitmap_of d docs) ≡ docs }
-    ensures only { (d : ℕ) (bytes : List ℕ) → All (λ byte. byte < 256) bytes → length bytes ≡ bitmap_size d → bitmap_of d (set_bits 0 bytes) ≡ bytes }
+    ensures only { (d : ℕ) (bytes : List ℕ) → All (λ byte. byte < 256) bytes → length bytes ≡ bitmap_size d
+        → bitmap_of d (set_bits 0 bytes) ≡ bytes }
 {
     set_bits_rise();
 }
 
 /// Documents are read exactly from their payload.
 pub fn payloads_are_read()
-    ensures found { (d count : ℕ) (docs bytes : List ℕ) → AreDocs d docs → length docs ≡ count → bytes ≡ bitmap_of d docs → read_bitmap d count bytes ≡ Ok docs }
-    ensures only { (d count : ℕ) (docs bytes : List ℕ) → 1 ≤ count → d ≤ 2 ^ 26 → All (λ byte. byte < 256) bytes → read_bitmap d count bytes ≡ Ok docs → AreDocs d docs × (length docs ≡ count) × (bytes ≡ bitmap_of d docs) }
+    ensures found { (d count : ℕ) (docs bytes : List ℕ) → AreDocs d docs → length docs ≡ count
+        → bytes ≡ bitmap_of d docs → read_bitmap d count bytes ≡ Ok docs }
+    ensures only { (d count : ℕ) (docs bytes : List ℕ) → 1 ≤ count → d ≤ 2 ^ 26 → All (λ byte. byte < 256) bytes
+        → read_bitmap d count bytes ≡ Ok docs → AreDocs d docs × (length docs ≡ count) × (bytes ≡ bitmap_of d docs) }
 {
     bits_are_documents();
     set_bits_rise();

@@ -61,8 +61,11 @@ fn skip(bytes: &[u8], place: Place, count: u32, d: u32) -> Result<Place, Payload
     requires limit { d ≤ 2 ^ 26 }
     ensures within { IfOk result (λ behind. behind.at ≤ length bytes.now) }
     ensures low { IfOk result (λ behind. behind.least ≤ d) }
-    ensures reads { IfOk result (λ behind. (left : ℕ) → count ≤ left → Continues (read_gaps d place.least left (drop place.at bytes.now)) (read_gaps d behind.least (left - count) (drop behind.at bytes.now))) }
-    ensures fault { IfErr result (λ fault. (left : ℕ) → count ≤ left → read_gaps d place.least left (drop place.at bytes.now) ≡ Err fault) }
+    ensures reads { IfOk result (λ behind. (left : ℕ) → count ≤ left
+        → Continues (read_gaps d place.least left (drop place.at bytes.now))
+        (read_gaps d behind.least (left - count) (drop behind.at bytes.now))) }
+    ensures fault { IfErr result (λ fault. (left : ℕ) → count ≤ left
+        → read_gaps d place.least left (drop place.at bytes.now) ≡ Err fault) }
 {
     if count == 16 {
         if let Some(sixteen) = small_run(bytes, place.at) {
@@ -99,8 +102,11 @@ fn skip_each(bytes: &[u8], from: Place, count: u32, d: u32) -> Result<Place, Pay
     requires limit { d ≤ 2 ^ 26 }
     ensures within { IfOk result (λ behind. behind.at ≤ length bytes.now) }
     ensures low { IfOk result (λ behind. behind.least ≤ d) }
-    ensures reads { IfOk result (λ behind. (left : ℕ) → count ≤ left → Continues (read_gaps d from.least left (drop from.at bytes.now)) (read_gaps d behind.least (left - count) (drop behind.at bytes.now))) }
-    ensures fault { IfErr result (λ fault. (left : ℕ) → count ≤ left → read_gaps d from.least left (drop from.at bytes.now) ≡ Err fault) }
+    ensures reads { IfOk result (λ behind. (left : ℕ) → count ≤ left
+        → Continues (read_gaps d from.least left (drop from.at bytes.now))
+        (read_gaps d behind.least (left - count) (drop behind.at bytes.now))) }
+    ensures fault { IfErr result (λ fault. (left : ℕ) → count ≤ left
+        → read_gaps d from.least left (drop from.at bytes.now) ≡ Err fault) }
 {
     let mut at = from.at;
     let mut least = from.least;

@@ -21,7 +21,8 @@ impl Cursor {
     /// A cursor in front of the payload of `count` documents, in an index of d documents.
     #[inline]
     pub fn new(count: u32, d: u32) -> Cursor
-        ensures { (bytes docs : List ℕ) → AreDocs d docs → length docs ≡ count → bytes ≡ varbyte_of docs → Gives result bytes docs }
+        ensures { (bytes docs : List ℕ) → AreDocs d docs → length docs ≡ count → bytes ≡ varbyte_of docs
+            → Gives result bytes docs }
     {
         laws::gaps_and_docs_are_inverse();
         laws::gaps_of_docs();

@@ -8,8 +8,10 @@ use jass_base::laws::spelled_gaps_are_read;
 
 /// Documents are read exactly from their payload.
 pub fn payloads_are_read()
-    ensures found { (d count : ℕ) (docs bytes : List ℕ) → AreDocs d docs → length docs ≡ count → bytes ≡ varbyte_of docs → read_varbyte d count bytes ≡ Ok docs }
-    ensures only { (d count : ℕ) (docs bytes : List ℕ) → 1 ≤ count → d ≤ 2 ^ 26 → All (λ byte. byte < 256) bytes → read_varbyte d count bytes ≡ Ok docs → AreDocs d docs × (length docs ≡ count) × (bytes ≡ varbyte_of docs) }
+    ensures found { (d count : ℕ) (docs bytes : List ℕ) → AreDocs d docs → length docs ≡ count
+        → bytes ≡ varbyte_of docs → read_varbyte d count bytes ≡ Ok docs }
+    ensures only { (d count : ℕ) (docs bytes : List ℕ) → 1 ≤ count → d ≤ 2 ^ 26 → All (λ byte. byte < 256) bytes
+        → read_varbyte d count bytes ≡ Ok docs → AreDocs d docs × (length docs ≡ count) × (bytes ≡ varbyte_of docs) }
 {
     spelled_gaps_are_read();
 }

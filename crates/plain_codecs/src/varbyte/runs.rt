@@ -35,8 +35,10 @@ fn read_each(bytes: &[u8], from: usize, first: usize, end: usize, out: &mut [u32
     requires order { first ≤ end }
     requires block { end ≤ 128 }
     requires run { (gaps : List ℕ) × IsRun bytes.now from (end - first) gaps }
-    ensures gaps { (gaps : List ℕ) → IsRun bytes.now from (end - first) gaps → take end out.new ≡ take first out.old ++ take (end - first) gaps }
-    ensures behind { (gaps : List ℕ) → IsRun bytes.now from (end - first) gaps → IsRun bytes.now result 0 (drop (end - first) gaps) }
+    ensures gaps { (gaps : List ℕ) → IsRun bytes.now from (end - first) gaps
+        → take end out.new ≡ take first out.old ++ take (end - first) gaps }
+    ensures behind { (gaps : List ℕ) → IsRun bytes.now from (end - first) gaps
+        → IsRun bytes.now result 0 (drop (end - first) gaps) }
 {
     laws::gap_varints_are_read();
     let mut at = from;
@@ -55,7 +57,8 @@ fn copy_small(bytes: &[u8], at: usize, place: usize, out: &mut [u32; 128]) -> bo
     requires room { place + 16 ≤ 128 }
     ensures bytes { IsTrue result → at + 16 ≤ length bytes.now }
     ensures small { IsTrue result → All (λ byte. byte < 128) (take 16 (drop at bytes.now)) }
-    ensures copied { IsTrue result → out.new ≡ take place out.old ++ take 16 (drop at bytes.now) ++ drop (place + 16) out.old }
+    ensures copied { IsTrue result → out.new
+        ≡ take place out.old ++ take 16 (drop at bytes.now) ++ drop (place + 16) out.old }
     ensures stays { IsFalse result → out.new ≡ out.old }
 {
     let Some(sixteen) = small_run(bytes, at) else {
