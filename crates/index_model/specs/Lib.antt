@@ -1,5 +1,6 @@
 pub mod Examples
 pub mod Flat
+pub mod Grouping
 pub mod Index
 pub mod Querying
 pub mod Views

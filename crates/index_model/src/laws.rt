@@ -13,6 +13,7 @@ ghost use Rattle.ranking_model.specs.Plan.{postings_of, plan_cmp, classes_of, pl
 ghost use Rattle.ranking_model.specs.Postings.{AreTerms, weighted_postings};
 ghost use Rattle.index_model.specs.Index.{TermData, IndexData, IsIndex};
 ghost use Rattle.index_model.specs.Flat.{flat_of, numbered_flat};
+ghost use Rattle.index_model.specs.Grouping.{index_with};
 ghost use Rattle.index_model.specs.Querying.{query_classes};
 ghost use Rattle.index_model.specs.Views.{index_data};
 
@@ -52,4 +53,9 @@ pub fn indexes_in_memory_are_indexes()
     ensures index { (index : ImpactIndex) → index.greatest ≤ 65535 → IsIndex (index_data index) }
     ensures terms { (index : ImpactIndex) →
         terms_of (flat_of (index_data index)) ≡ map (λ (t : TermSegments). t.term) index.terms }
+{}
+
+/// An index is that of its names and its flat list, so that these determine it.
+pub fn an_index_is_that_of_its_flat_list()
+    ensures { (index : IndexData) → IsIndex index → index_with index.names (flat_of index) ≡ index }
 {}
