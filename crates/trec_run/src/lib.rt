@@ -1,6 +1,7 @@
 #![tactic(auto)]
 
-//! The texts of an answer: TREC run lines of six columns, and the report line. Writing them
+//! The texts of an answer: TREC run lines of six columns, the report line, and the totals line of
+//! an index. Writing them
 //! takes no memory; the pieces of lines are gathered in a fixed buffer, since each put on a
 //! sink is a system call in the end. A run is read by the same columns, or refused at a line.
 
@@ -13,12 +14,14 @@ mod line;
 mod report;
 mod run;
 mod run_line;
+mod totals;
 
 pub use answer::put_answer;
 pub use gather::put_all;
 pub use report::put_report;
 pub use run::read_run;
 pub use run_line::{RunFault, RunLine, RunWhy};
+pub use totals::put_totals;
 
 #[cfg(test)]
 mod tests;
