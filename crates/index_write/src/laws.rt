@@ -35,7 +35,8 @@ pub fn terms_have_documents()
     ensures few { (index : ImpactIndex) → index.greatest ≤ 65535
         → All (λ (t : TermSegments). length t.segments ≤ 2 ^ 26) index.terms }
     ensures docs { (index : ImpactIndex) → index.greatest ≤ 65535
-        → All (λ (t : TermSegments). All (λ (s : Segment). AreDocs (length index.names) s.docs) t.segments) index.terms }
+        → All (λ (t : TermSegments). All (λ (s : Segment). AreDocs (length index.names) s.docs) t.segments)
+        index.terms }
 {
     indexes_in_memory_are_indexes();
 }

@@ -16,3 +16,6 @@ pub use bytes::index_bytes;
 pub use fault::SaveFault;
 pub use file::write_index;
 pub use sums::totals;
+
+#[cfg(test)]
+mod tests;
