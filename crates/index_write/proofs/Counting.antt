@@ -1,0 +1,120 @@
+-- A document stands at most once in a term, so that a term has few postings.
+use Rattle.std.proofs.Common.{add-one, ◌≡◌, ℕ, suc, zero, ◌<◌, ◌≤◌, ◌^◌, true, false, nat_eq, List, [], ◌∷◌, ◌++◌, length, get_or, All, sym, subst, refl, arith, inl, inr, slice_index}
+use Rattle.std.specs.Prelude.{◌⊎◌, Contains, AllPairs, flat_map}
+use Rattle.std.specs.List.{AllByRecursion, IsDistinct, list_any}
+use Rattle.std.specs.List.Sorted.{IsStrictlyIncreasing}
+use Rattle.std.proofs.lemmas.Bool.{cases_lt}
+use Rattle.std.proofs.lemmas.Bool.Decides.{nat_tests}
+use Rattle.std.proofs.lemmas.List.Concat.{length-flat_map}
+use Rattle.std.proofs.lemmas.List.{get_or_default}
+use Rattle.std.proofs.lemmas.List.Elements.{All-head, All-tail, All-append, All-nil, Contains-append_cases}
+use Rattle.std.proofs.lemmas.Map.Keys.{IsDistinct-from_apart}
+use Rattle.std.proofs.lemmas.Map.Steps.{length-le_from_distinct_below}
+use Rattle.std.proofs.lemmas.Map.Views.{Contains-from_any}
+use Rattle.jass_base.specs.Gaps.{AreDocs}
+use Rattle.index_model.specs.Index.{SegmentData, TermData, IsSegment, IsTerm, SharesNoDocument}
+use Rattle.index_layout.specs.View.{term_postings}
+
+-- numbers that rise lie apart
+step_to : (docs : List ℕ) → IsStrictlyIncreasing docs → (j : ℕ) → suc j < length docs → slice_index docs j < slice_index docs (suc j)
+step_to docs rising j inside = subst (λ (n : ℕ). slice_index docs j < slice_index docs n) (add-one j) (rising j (omega (arith, inside)))
+
+far : (docs : List ℕ) → IsStrictlyIncreasing docs → (i j : ℕ) → i < j → j < length docs → slice_index docs i < slice_index docs j
+far docs rising i zero less inside = absurd (omega (arith, less))
+far docs rising i (suc j) less inside = either (λ l. far docs rising i j l (omega (arith, inside))) (cases_lt i j)
+  where
+    either : (i < j → slice_index docs i < slice_index docs j) → (i < j) ⊎ (j ≤ i) → slice_index docs i < slice_index docs (suc j)
+    either before (inl l) = omega (arith, before l, step_to docs rising j inside)
+    either before (inr l) = subst (λ (n : ℕ). slice_index docs n < slice_index docs (suc j)) {x = j} (omega (arith, l, less)) (step_to docs rising j inside)
+
+unequal : (x y : ℕ) → (x ≡ y → ⊥) → nat_eq x y ≡ false
+unequal x y ne = grind (arith, nat_tests, ne)
+
+rising_distinct : (docs : List ℕ) → IsStrictlyIncreasing docs → IsDistinct nat_eq docs
+rising_distinct docs rising = IsDistinct-from_apart nat_eq docs
+    (λ i j d less inside. unequal (get_or docs i d) (get_or docs j d) (λ same. absurd (omega (arith, same, far docs rising i j less inside, get_or_default docs i d 0 (omega (arith, less, inside)), get_or_default docs j d 0 inside))))
+
+all_join : (P : ℕ → Type 0) (xs ys : List ℕ) → AllByRecursion P xs → AllByRecursion P ys → AllByRecursion P (xs ++ ys)
+all_join P [] ys one two = two
+all_join P (x ∷ xs) ys one two = (one.0, all_join P xs ys one.1 two)
+
+-- no number of one list is in the other
+abbrev Apart : List ℕ → List ℕ → Type 0
+Apart xs ys = (x : ℕ) → Contains xs x → ¬ Contains ys x
+
+differ : (x : ℕ) (ys : List ℕ) → ¬ Contains ys x → AllByRecursion (λ y. nat_eq x y ≡ false) ys
+differ x [] none = tt
+differ x (y ∷ ys) none = (
+  unequal x y (λ same. none (0, omega arith, sym same)),
+  differ x ys (λ has. none (suc has.0, (let e = has.1 in omega (arith, e)), has.2)),
+)
+
+distinct_join : (xs ys : List ℕ) → IsDistinct nat_eq xs → IsDistinct nat_eq ys → Apart xs ys → IsDistinct nat_eq (xs ++ ys)
+unfolding IsDistinct
+distinct_join [] ys one two apart = two
+distinct_join (x ∷ xs) ys one two apart = (
+  all_join (λ y. nat_eq x y ≡ false) xs ys one.0 (differ x ys (apart x (0, omega arith, refl))),
+  distinct_join xs ys one.1 two (λ z has. apart z (suc has.0, (let e = has.1 in omega (arith, e)), has.2)),
+)
+
+abbrev docs_in : SegmentData → List ℕ
+docs_in s = s.docs
+
+both_apart : (docs one two : List ℕ) → Apart docs one → Apart docs two → Apart docs (one ++ two)
+both_apart docs one two first second = λ x has other. either x has (Contains-append_cases one two x other)
+  where
+    either : (x : ℕ) → Contains docs x → Contains one x ⊎ Contains two x → ⊥
+    either x has (inl other) = first x has other
+    either x has (inr other) = second x has other
+
+later_apart : (docs : List ℕ) (segments : List SegmentData) → All (λ (s : SegmentData). Apart docs s.docs) segments → Apart docs (flat_map docs_in segments)
+later_apart docs [] apart = λ x one two. absurd (let e = two.1 in omega (arith, e))
+later_apart docs (s ∷ segments) apart =
+    both_apart docs s.docs (flat_map docs_in segments) (All-head (λ (s : SegmentData). Apart docs s.docs) s segments apart)
+    (later_apart docs segments (All-tail (λ (s : SegmentData). Apart docs s.docs) s segments apart))
+
+pairs_head : (s : SegmentData) (segments : List SegmentData) → AllPairs SharesNoDocument (s ∷ segments) → All (SharesNoDocument s) segments
+pairs_head s segments are = λ i d inside. are 0 (suc i) d (omega arith) (omega (arith, inside))
+
+pairs_tail : (s : SegmentData) (segments : List SegmentData) → AllPairs SharesNoDocument (s ∷ segments) → AllPairs SharesNoDocument segments
+pairs_tail s segments are = λ i j d less inside. are (suc i) (suc j) d (omega (arith, less)) (omega (arith, inside))
+
+all_distinct : (d : ℕ) (segments : List SegmentData) → All (IsSegment d) segments → AllPairs SharesNoDocument segments → IsDistinct nat_eq (flat_map docs_in segments)
+unfolding IsDistinct
+all_distinct d [] are pairs = tt
+all_distinct d (s ∷ segments) are pairs =
+    distinct_join s.docs (flat_map docs_in segments) (rising_distinct s.docs (All-head (IsSegment d) s segments are).docs.rising)
+    (all_distinct d segments (All-tail (IsSegment d) s segments are) (pairs_tail s segments pairs)) (later_apart s.docs segments (pairs_head s segments pairs))
+
+abbrev Below : ℕ → ℕ → Type 0
+Below d doc = doc < d
+
+all_below : (d : ℕ) (segments : List SegmentData) → All (IsSegment d) segments → All (Below d) (flat_map docs_in segments)
+all_below d [] are = All-nil (Below d)
+all_below d (s ∷ segments) are = All-append (Below d) s.docs (flat_map docs_in segments) (All-head (IsSegment d) s segments are).docs.below (all_below d segments (All-tail (IsSegment d) s segments are))
+
+same_number : (x y : ℕ) → nat_eq x y ≡ true → x ≡ y
+same_number x y is = grind (arith, nat_tests, is)
+
+below_query : (d : ℕ) (docs : List ℕ) → All (Below d) docs → (q : ℕ) → list_any (nat_eq q) docs ≡ true → q < d
+below_query d docs below q found =
+    let has = Contains-from_any same_number q docs found in
+    subst (λ (n : ℕ). n < d) has.2 (below has.0 q has.1)
+
+-- a term has at most as many postings as the index has documents
+pub term_few : (d : ℕ) (t : TermData) → IsTerm d t → term_postings t ≤ d
+term_few d t is =
+    let docs = flat_map docs_in t.segments in
+    let few : length docs ≤ d = length-le_from_distinct_below docs d (all_distinct d t.segments is.segments is.once) (below_query d docs (all_below d t.segments is.segments)) in
+    omega (arith, few, length-flat_map docs_in t.segments)
+
+place_below : (docs : List ℕ) (k : ℕ) → IsStrictlyIncreasing docs → k < length docs → k ≤ slice_index docs k
+place_below docs zero rising inside = omega arith
+place_below docs (suc k) rising inside = omega (arith, place_below docs k rising (omega arith), step_to docs rising k inside)
+
+below_few : (docs : List ℕ) (n : ℕ) → IsStrictlyIncreasing docs → All (Below n) docs → length docs ≤ n
+below_few [] n rising below = omega arith
+below_few (x ∷ xs) n rising below = omega (arith, place_below (x ∷ xs) (length xs) rising (omega arith), below (length xs) 0 (omega arith))
+
+pub docs_few : (d : ℕ) (docs : List ℕ) → AreDocs d docs → length docs ≤ 2 ^ 26
+docs_few d docs are = let limit = are.limit in omega (arith, limit, below_few docs d are.rising are.below)

@@ -1,0 +1,6 @@
+mod Counting
+mod Bounds
+mod Texts
+mod Memory
+mod Files
+mod Joining

@@ -1,0 +1,107 @@
+-- The text of an index by its chosen heads and payloads.
+use Rattle.std.proofs.Common.{◌≡◌, ℕ, ◌+◌, List, [], ◌∷◌, ◌++◌, length, map, ap, sym, ◌∙◌, refl, arith}
+use Rattle.std.specs.Prelude.{flat_map, max}
+use Rattle.std.specs.List.{sum_by}
+use Rattle.std.proofs.lemmas.List.{length-append}
+use Rattle.std.proofs.lemmas.List.Sums.{sum_by-cons, sum_by-append}
+use Rattle.jass_base.specs.declared.segment.Segment.{Segment}
+use Rattle.jass_base.specs.declared.term_segments.TermSegments.{TermSegments}
+use Rattle.jass_base.specs.Terms as memory
+use Rattle.segment_codecs.specs.Codecs.{chosen_codec}
+use Rattle.index_model.specs.Index.{SegmentData, TermData, IndexData}
+use Rattle.index_model.specs.Views.{segment_data, term_data}
+use Rattle.index_layout.specs.Heads.{HeadData, TermHeads, heads_of, terms_heads, all_heads, greatest_of}
+use Rattle.index_layout.specs.Layout.{front_bytes, segments_payloads, terms_payloads}
+use Rattle.index_layout.specs.Totals.{greatest_in}
+use Rattle.index_layout.specs.View.{view_heads, view_payloads, file_bytes, chosen_codecs, chosen_view, index_text, term_postings}
+use Rattle.index_write.specs.Chosen.{chosen_head, chosen_heads, chosen_terms, table_of, chosen_payload, chosen_payloads, table_payloads}
+
+heads_chosen : (d : ℕ) (segments : List SegmentData) → heads_of d segments (map (λ (s : SegmentData). chosen_codec d s.docs) segments) ≡ chosen_heads d segments
+heads_chosen d [] = refl
+heads_chosen d (s ∷ segments) = ap (λ hs. chosen_head d s ∷ hs) (heads_chosen d segments)
+
+pub terms_chosen : (d : ℕ) (terms : List TermData) → terms_heads d terms (chosen_codecs d terms) ≡ chosen_terms d terms
+terms_chosen d [] = refl
+terms_chosen d (t ∷ terms) =
+    ap (λ (hs : List HeadData). (let first : TermHeads = record { term = t.term; heads = hs } in first) ∷ terms_heads d terms (chosen_codecs d terms)) (heads_chosen d t.segments)
+    ∙ ap (λ ts. (let first : TermHeads = record { term = t.term; heads = chosen_heads d t.segments } in first) ∷ ts) (terms_chosen d terms)
+
+payloads_chosen : (d : ℕ) (segments : List SegmentData) → segments_payloads d segments (map (λ (s : SegmentData). chosen_codec d s.docs) segments) ≡ chosen_payloads d segments
+payloads_chosen d [] = refl
+payloads_chosen d (s ∷ segments) = ap (λ xs. chosen_payload d s ++ xs) (payloads_chosen d segments)
+
+all_payloads_chosen : (d : ℕ) (terms : List TermData) → terms_payloads d terms (chosen_codecs d terms) ≡ table_payloads d terms
+all_payloads_chosen d [] = refl
+all_payloads_chosen d (t ∷ terms) =
+    ap (λ xs. xs ++ terms_payloads d terms (chosen_codecs d terms)) (payloads_chosen d t.segments) ∙ ap (λ xs. chosen_payloads d t.segments ++ xs) (all_payloads_chosen d terms)
+
+pub text_in_parts : (index : IndexData) → index_text index ≡ front_bytes index.names (chosen_terms (length index.names) index.terms) ++ table_payloads (length index.names) index.terms
+unfolding index_text file_bytes view_heads view_payloads
+text_in_parts index =
+    let d = length index.names in
+    ap (λ heads. front_bytes index.names heads ++ terms_payloads d index.terms (chosen_codecs d index.terms)) (terms_chosen d index.terms)
+    ∙ ap (λ xs. front_bytes index.names (chosen_terms d index.terms) ++ xs) (all_payloads_chosen d index.terms)
+
+pub view_heads_chosen : (index : IndexData) → view_heads (chosen_view index) ≡ chosen_terms (length index.names) index.terms
+unfolding view_heads
+view_heads_chosen index = terms_chosen (length index.names) index.terms
+
+pub table_is : (d : ℕ) (terms : List TermData) → all_heads (chosen_terms d terms) ≡ table_of d terms
+table_is d [] = refl
+table_is d (t ∷ terms) = ap (λ hs. chosen_heads d t.segments ++ hs) (table_is d terms)
+
+abbrev pub size_of : HeadData → ℕ
+size_of h = h.size
+
+abbrev pub count_of : HeadData → ℕ
+count_of h = h.count
+
+abbrev pub docs_of : SegmentData → ℕ
+docs_of s = length s.docs
+
+sized : (d : ℕ) (segments : List SegmentData) → sum_by size_of (chosen_heads d segments) ≡ length (chosen_payloads d segments)
+sized d [] = refl
+sized d (s ∷ segments) =
+    sum_by-cons size_of (chosen_head d s) (chosen_heads d segments) ∙ ap (λ n. length (chosen_payload d s) + n) (sized d segments)
+    ∙ sym (length-append (chosen_payload d s) (chosen_payloads d segments))
+
+pub all_sized : (d : ℕ) (terms : List TermData) → sum_by size_of (table_of d terms) ≡ length (table_payloads d terms)
+all_sized d [] = refl
+all_sized d (t ∷ terms) =
+    sum_by-append size_of (chosen_heads d t.segments) (table_of d terms)
+    ∙ ap (λ n. n + sum_by size_of (table_of d terms)) (sized d t.segments)
+    ∙ ap (λ n. length (chosen_payloads d t.segments) + n) (all_sized d terms)
+    ∙ sym (length-append (chosen_payloads d t.segments) (table_payloads d terms))
+
+counted : (d : ℕ) (segments : List SegmentData) → sum_by count_of (chosen_heads d segments) ≡ sum_by docs_of segments
+counted d [] = refl
+counted d (s ∷ segments) =
+    sum_by-cons count_of (chosen_head d s) (chosen_heads d segments) ∙ ap (λ n. length s.docs + n) (counted d segments) ∙ sym (sum_by-cons docs_of s segments)
+
+pub all_counted : (d : ℕ) (terms : List TermData) → sum_by count_of (table_of d terms) ≡ sum_by term_postings terms
+all_counted d [] = refl
+all_counted d (t ∷ terms) =
+    sum_by-append count_of (chosen_heads d t.segments) (table_of d terms)
+    ∙ ap (λ n. n + sum_by count_of (table_of d terms)) (counted d t.segments)
+    ∙ ap (λ n. term_postings t + n) (all_counted d terms)
+    ∙ sym (sum_by-cons term_postings t terms)
+
+max_joins : (a b c : ℕ) → max (max a b) c ≡ max a (max b c)
+max_joins a b c = omega arith
+
+greatest_heads : (d : ℕ) (segments : List SegmentData) (more : List HeadData) (rest : List SegmentData) → greatest_of more ≡ greatest_in rest → greatest_of (chosen_heads d segments ++ more) ≡ greatest_in (segments ++ rest)
+greatest_heads d [] more rest same = same
+greatest_heads d (s ∷ segments) more rest same = ap (max s.impact) (greatest_heads d segments more rest same)
+
+pub greatest_chosen : (d : ℕ) (terms : List TermData) → greatest_of (table_of d terms) ≡ greatest_in (flat_map (λ (t : TermData). t.segments) terms)
+greatest_chosen d [] = refl
+greatest_chosen d (t ∷ terms) = greatest_heads d t.segments (table_of d terms) (flat_map (λ (t : TermData). t.segments) terms) (greatest_chosen d terms)
+
+greatest_more : (segments : List Segment) (rest : List SegmentData) → greatest_in (map segment_data segments ++ rest) ≡ max (memory.greatest_of segments) (greatest_in rest)
+greatest_more [] rest = omega arith
+greatest_more (s ∷ segments) rest = ap (max s.impact) (greatest_more segments rest) ∙ sym (max_joins s.impact (memory.greatest_of segments) (greatest_in rest))
+
+pub greatest_kept : (terms : List TermSegments) → greatest_in (flat_map (λ (t : TermData). t.segments) (map term_data terms)) ≡ memory.greatest_impact terms
+greatest_kept [] = refl
+greatest_kept (t ∷ terms) =
+    greatest_more t.segments (flat_map (λ (t : TermData). t.segments) (map term_data terms)) ∙ ap (max (memory.greatest_of t.segments)) (greatest_kept terms)

@@ -1,0 +1,8 @@
+use Rattle.std.proofs.Common.{◌≡◌, length, take}
+use Rattle.std.specs.List.{sum_by}
+use Rattle.jass_base.specs.declared.segment.Segment.{Segment}
+use Rattle.jass_base.specs.declared.term_segments.TermSegments.{TermSegments}
+use Rattle.index_write.proofs.sums.terms_postings.Given as goal
+
+abbrev pub invariant-loop-term : goal.invariant-loop-term
+invariant-loop-term l = l.postings ≡ sum_by (λ (t : TermSegments). sum_by (λ (s : Segment). length s.docs) t.segments) (take l.term-index l.terms)

@@ -1,0 +1,27 @@
+-- Why a text is not written, and what stands then.
+use Rattle.std.specs.Prelude.{ℕ, ◌≡◌, ◌<◌, ◌^◌, ⊤, ◌⊎◌, List, length, take, Option}
+use Rattle.jass_base.specs.Outside.{Files, Sets}
+use Rattle.index_write.specs.declared.fault.SaveFault.{SaveFault}
+use Rattle.index_write.specs.declared.fault.SaveFault.TheVariants.{TooLarge, WriteFault, NoMemory}
+
+-- a fault of a text that is made in memory: it has more than 2^32 bytes, or memory was refused
+abbrev pub Unmade : List ℕ → SaveFault → Type 0
+Unmade text (TooLarge n) = (length text ≡ n) × (2 ^ 32 < n)
+Unmade text WriteFault = ⊥
+Unmade text NoMemory = ⊤
+
+-- a fault of a text that is written to a file
+abbrev pub Unwritten : List ℕ → SaveFault → Type 0
+Unwritten text (TooLarge n) = (length text ≡ n) × (2 ^ 32 < n)
+Unwritten text WriteFault = ⊤
+Unwritten text NoMemory = ⊤
+
+-- the contents are as before, or the name has a prefix of the text and every other name stays
+abbrev pub LeavesPrefix : Option Files → Option Files → List ℕ → List ℕ → Type 0
+LeavesPrefix old new name text = (new ≡ old) ⊎ ((n : ℕ) × Sets old new name (take n text))
+
+-- nothing was touched, unless it was writing that failed
+abbrev pub Untouched : {C : Type 0} → C → C → SaveFault → Type 0
+Untouched old new (TooLarge n) = new ≡ old
+Untouched old new WriteFault = ⊤
+Untouched old new NoMemory = new ≡ old

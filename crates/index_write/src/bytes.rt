@@ -1,0 +1,96 @@
+ghost use Rattle.std.specs.Prelude.{◌≡◌, ◌≤◌, ◌^◌, [], ◌++◌, length, map, IfOk, IfErr, OnOk};
+ghost use Rattle.index_model.specs.Views.{term_data, index_data};
+ghost use Rattle.index_layout.specs.Layout.{totals_bytes};
+ghost use Rattle.index_layout.specs.View.{index_text};
+ghost use Rattle.index_write.specs.Chosen.{head_data, chosen_terms, table_of};
+ghost use Rattle.index_write.specs.Saving.{Unmade};
+
+use crate::fault::SaveFault;
+use crate::front::{put_names, put_terms};
+use crate::head::{Head, index_heads};
+use crate::laws::{tables_have_their_sums, texts_have_their_parts};
+use crate::lengths::index_len;
+use crate::payloads::put_all_payloads;
+use crate::sums::totals;
+use jass_base::{ImpactIndex, NoMemory, Row};
+use std::alloc::Global;
+
+/// The most bytes of an index file.
+const MOST_BYTES: u64 = 4_294_967_296;
+
+/// The first eight bytes of an index file.
+const MAGIC: &[u8] = b"JASSIDX2";
+
+/// An empty row that has room for so many bytes, so that they are never moved.
+fn with_room(alloc: Global, len: u64) -> Result<Row<u8>, NoMemory>
+    ensures { IfOk result (λ row. row ≡ []) }
+{
+    match Vec::with_capacity(alloc, len as usize) {
+        Ok(bytes) => Ok(Row::from_vec(bytes)),
+        Err(_) => Err(NoMemory),
+    }
+}
+
+/// Appends the first 40 bytes: magic, length, documents, terms, postings, the greatest impact, zero.
+#[tactic(auto, unfolding(index_layout::specs::Layout::totals_bytes))]
+fn put_totals(index: &ImpactIndex, len: u64, out: &mut Row<u8>) -> Result<(), NoMemory>
+    requires { len ≡ length (index_text (index_data index.now)) }
+    ensures { OnOk result (out.new ≡ out.old ++ totals_bytes index.now.names
+        (chosen_terms (length index.now.names) (map term_data index.now.terms))) }
+{
+    texts_have_their_parts();
+    tables_have_their_sums();
+    let totals = totals(index);
+    out.extend(MAGIC)?;
+    out.extend(&len.to_le_bytes())?;
+    out.extend(&totals.docs.to_le_bytes())?;
+    out.extend(&totals.terms.to_le_bytes())?;
+    out.extend(&totals.postings.to_le_bytes())?;
+    out.extend(&u32::from(totals.greatest).to_le_bytes())?;
+    out.extend(&0u32.to_le_bytes())?;
+    Ok(())
+}
+
+/// The bytes of the file, by its heads and its length.
+#[tactic(auto, unfolding(index_layout::specs::Layout::front_bytes))]
+fn spelled(
+    alloc: Global,
+    index: &ImpactIndex,
+    heads: &[Head],
+    len: u64,
+) -> Result<Row<u8>, NoMemory>
+    requires greatest { index.now.greatest ≤ 65535 }
+    requires heads { map head_data heads.now ≡ table_of (length index.now.names) (map term_data index.now.terms) }
+    requires len { len ≡ length (index_text (index_data index.now)) }
+    ensures { IfOk result (λ row. row ≡ index_text (index_data index.now)) }
+{
+    texts_have_their_parts();
+    let mut out = with_room(alloc, len)?;
+    put_totals(index, len, &mut out)?;
+    put_names(index.names.as_slice(), &mut out)?;
+    put_terms(index, heads, &mut out)?;
+    put_all_payloads(index, heads, &mut out)?;
+    Ok(out)
+}
+
+/// The bytes of the file of an index, each segment in its shortest codec. TooLarge comes exactly
+/// where they are more than 2^32, unless memory is refused first.
+pub fn index_bytes(alloc: Global, index: &ImpactIndex) -> Result<Row<u8>, SaveFault>
+    ensures bytes { IfOk result (λ row. row ≡ index_text (index_data index.now)) }
+    ensures fits { OnOk result (length (index_text (index_data index.now)) ≤ 2 ^ 32) }
+    ensures fault { IfErr result (Unmade (index_text (index_data index.now))) }
+{
+    let _greatest = index.greatest;
+    let heads = match index_heads(alloc, index) {
+        Ok(heads) => heads,
+        Err(_) => return Err(SaveFault::NoMemory),
+    };
+    let len = index_len(index, heads.as_slice());
+    if len > MOST_BYTES {
+        return Err(SaveFault::TooLarge { length: len });
+    }
+    match spelled(alloc, index, heads.as_slice(), len) {
+        Ok(bytes) => Ok(bytes),
+        Err(_) => Err(SaveFault::NoMemory),
+    }
+}

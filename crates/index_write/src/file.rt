@@ -1,0 +1,51 @@
+ghost use Rattle.std.specs.Prelude.{◌≡◌, ◌≤◌, ◌^◌, length, IfErr, IsErrOf, OnOk, OnErr};
+ghost use Rattle.jass_base.specs.Outside.{HasCause, Rose, Sets};
+ghost use Rattle.index_model.specs.Views.{index_data};
+ghost use Rattle.index_layout.specs.View.{index_text};
+ghost use Rattle.index_write.specs.Saving.{LeavesPrefix, Untouched, Unwritten};
+
+use crate::bytes::index_bytes;
+use crate::fault::SaveFault;
+use jass_base::{Cabinet, Failed, ImpactIndex};
+use std::alloc::Global;
+
+/// Makes bytes the content of a file.
+fn put_file<C: Cabinet>(files: &mut C, name: &str, bytes: &[u8]) -> Result<(), Failed>
+    ensures ok { OnOk result (Sets (C.told files.old) (C.told files.new) name.now bytes.now) }
+    ensures err { OnErr result (LeavesPrefix (C.told files.old) (C.told files.new) name.now bytes.now) }
+    ensures cause { HasCause (C.write_faults files.old) (C.write_faults files.new) result }
+    ensures others { C.read_faults files.old ≤ C.read_faults files.new }
+{
+    files.create(name)?;
+    files.append(name, bytes)?;
+    Ok(())
+}
+
+/// Makes the file of a name the file of an index, each segment in its shortest codec. All memory is
+/// taken, and the length judged, before the file is touched. TooLarge comes exactly where the
+/// length is above 2^32, unless memory is refused first; a WriteFault only where the files counted
+/// one.
+pub fn write_index<C: Cabinet>(
+    alloc: Global,
+    index: &ImpactIndex,
+    files: &mut C,
+    name: &str,
+) -> Result<(), SaveFault>
+    ensures content { OnOk result (Sets (C.told files.old) (C.told files.new) name.now
+        (index_text (index_data index.now))) }
+    ensures fits { OnOk result (length (index_text (index_data index.now)) ≤ 2 ^ 32) }
+    ensures fault { IfErr result (Unwritten (index_text (index_data index.now))) }
+    ensures untouched { IfErr result (Untouched files.old files.new) }
+    ensures front { OnErr result (LeavesPrefix (C.told files.old) (C.told files.new) name.now
+        (index_text (index_data index.now))) }
+    ensures cause { IsErrOf result SaveFault.WriteFault
+        → Rose (C.write_faults files.old) (C.write_faults files.new) }
+    ensures later { C.write_faults files.old ≤ C.write_faults files.new }
+    ensures others { C.read_faults files.old ≤ C.read_faults files.new }
+{
+    let bytes = index_bytes(alloc, index)?;
+    match put_file(files, name, bytes.as_slice()) {
+        Ok(()) => Ok(()),
+        Err(_) => Err(SaveFault::WriteFault),
+    }
+}

@@ -1,0 +1,119 @@
+//! What stands before the payloads.
+
+ghost use Rattle.std.specs.Prelude.{◌≡◌, ◌≤◌, ◌<◌, ◌+◌, ◌^◌, [], ◌++◌, length, map, All, OnOk};
+ghost use Rattle.jass_base.specs.Limits.{IsName};
+ghost use Rattle.index_model.specs.Views.{term_data};
+ghost use Rattle.index_layout.specs.Bytes.{u32_bytes};
+ghost use Rattle.index_layout.specs.Layout.{name_bytes, names_bytes, head_bytes, heads_bytes, term_bytes, terms_bytes};
+ghost use Rattle.index_write.specs.Chosen.{head_data, chosen_terms, table_of};
+
+use crate::head::Head;
+use crate::laws::terms_have_documents;
+use crate::lengths::shared_len;
+use jass_base::{ImpactIndex, NoMemory, Row, TermSegments, Text};
+
+/// Appends a name behind its length.
+#[tactic(auto, unfolding(index_layout::specs::Layout::name_bytes))]
+fn put_name(name: &str, out: &mut Row<u8>) -> Result<(), NoMemory>
+    requires { length name.now ≤ 1048576 }
+    ensures { OnOk result (out.new ≡ out.old ++ name_bytes name.now) }
+{
+    out.extend(&(name.len() as u32).to_le_bytes())?;
+    out.extend(name.as_bytes())?;
+    Ok(())
+}
+
+/// Appends the names of the documents.
+pub fn put_names(names: &[Text], out: &mut Row<u8>) -> Result<(), NoMemory>
+    requires { All IsName names.now }
+    ensures { OnOk result (out.new ≡ out.old ++ names_bytes names.now) }
+{
+    for name in names {
+        put_name(name.as_str(), out)?;
+    }
+    Ok(())
+}
+
+/// Appends a head: impact, count, codec, size of the payload.
+#[tactic(auto, unfolding(index_layout::specs::Layout::head_bytes))]
+fn put_head(head: &Head, out: &mut Row<u8>) -> Result<(), NoMemory>
+    ensures { OnOk result (out.new ≡ out.old ++ head_bytes (head_data head.now)) }
+{
+    let impact = head.impact.to_le_bytes();
+    let count = head.count.to_le_bytes();
+    let size = head.size.to_le_bytes();
+    out.extend(&[
+        impact[0],
+        impact[1],
+        count[0],
+        count[1],
+        count[2],
+        count[3],
+        head.codec.number(),
+        size[0],
+        size[1],
+        size[2],
+        size[3],
+    ])?;
+    Ok(())
+}
+
+/// Appends the heads of a term.
+fn put_heads(heads: &[Head], out: &mut Row<u8>) -> Result<(), NoMemory>
+    ensures { OnOk result (out.new ≡ out.old ++ heads_bytes (map head_data heads.now)) }
+{
+    for head in heads {
+        put_head(head, out)?;
+    }
+    Ok(())
+}
+
+/// Appends a term: how many bytes it shares with the one before, how many it adds, and these.
+#[tactic(auto, unfolding(index_layout::specs::Layout::term_bytes))]
+fn put_term(before: &[u8], term: &[u8], out: &mut Row<u8>) -> Result<(), NoMemory>
+    requires { length term.now ≤ 65535 }
+    ensures { OnOk result (out.new ≡ out.old ++ term_bytes before.now term.now) }
+{
+    let shared = shared_len(before, term);
+    let rest = &term[shared..];
+    out.extend(&(shared as u16).to_le_bytes())?;
+    out.extend(&(rest.len() as u16).to_le_bytes())?;
+    out.extend(rest)?;
+    Ok(())
+}
+
+/// Appends a term with the heads of its segments.
+fn put_entry(
+    before: &[u8],
+    term: &TermSegments,
+    heads: &[Head],
+    out: &mut Row<u8>,
+) -> Result<(), NoMemory>
+    requires { length heads.now < 2 ^ 32 }
+    ensures { OnOk result (out.new ≡ out.old ++ (term_bytes before.now term.now.term
+        ++ (u32_bytes (length heads.now) ++ heads_bytes (map head_data heads.now)))) }
+{
+    put_term(before, term.term.as_str().as_bytes(), out)?;
+    out.extend(&(heads.len() as u32).to_le_bytes())?;
+    put_heads(heads, out)?;
+    Ok(())
+}
+
+/// Appends all terms, each with the next of the heads.
+pub fn put_terms(index: &ImpactIndex, heads: &[Head], out: &mut Row<u8>) -> Result<(), NoMemory>
+    requires greatest { index.now.greatest ≤ 65535 }
+    requires heads { map head_data heads.now ≡ table_of (length index.now.names) (map term_data index.now.terms) }
+    ensures { OnOk result (out.new ≡ out.old
+        ++ terms_bytes [] (chosen_terms (length index.now.names) (map term_data index.now.terms))) }
+{
+    terms_have_documents();
+    let mut before: &[u8] = b"";
+    let mut left = heads;
+    for term in index.terms.as_slice() {
+        let (here, rest) = left.split_at(term.segments.len());
+        put_entry(before, term, here, out)?;
+        before = term.term.as_str().as_bytes();
+        left = rest;
+    }
+    Ok(())
+}

@@ -1,0 +1,70 @@
+ghost use Rattle.std.specs.Prelude.{◌≡◌, ◌≤◌, ◌^◌, ◌++◌, length, map, All, OnOk, IfOk};
+ghost use Rattle.jass_base.specs.Gaps.{AreDocs};
+ghost use Rattle.jass_base.specs.declared.segment.Segment.{Segment};
+ghost use Rattle.index_model.specs.Views.{segment_data, term_data};
+ghost use Rattle.index_write.specs.Chosen.{head_data, chosen_head, chosen_heads, table_of};
+
+use crate::laws::{segments_are_small, terms_have_documents};
+use jass_base::{ImpactIndex, NoMemory, Row, Segment};
+use segment_codecs::{Codec, choose, length};
+use std::alloc::Global;
+
+/// What stands in the file before the payload of a segment. It is made once for each segment, so
+/// that its codec is chosen once.
+#[derive(Clone, Copy)]
+pub struct Head {
+    pub impact: u16,
+    /// How many documents.
+    pub count: u32,
+    pub codec: Codec,
+    /// The bytes of the payload.
+    pub size: u32,
+}
+
+impl Head {
+    /// The head of a segment in its shortest codec, in an index of `d` documents.
+    pub fn new(segment: &Segment, d: u32) -> Head
+        requires { AreDocs d segment.now.docs }
+        ensures { head_data result ≡ chosen_head d (segment_data segment.now) }
+    {
+        let docs = segment.docs.as_slice();
+        let codec = choose(docs, d);
+        segments_are_small();
+        Head {
+            impact: segment.impact,
+            count: docs.len() as u32,
+            codec,
+            size: length(codec, docs, d) as u32,
+        }
+    }
+}
+
+/// Appends the heads of segments.
+pub fn push_heads(segments: &[Segment], d: u32, heads: &mut Row<Head>) -> Result<(), NoMemory>
+    requires { All (λ (s : Segment). AreDocs d s.docs) segments.now }
+    ensures { OnOk result (map head_data heads.new
+        ≡ map head_data heads.old ++ chosen_heads d (map segment_data segments.now)) }
+{
+    for segment in segments {
+        match heads.push(Head::new(segment, d)) {
+            Ok(()) => {}
+            Err(_) => return Err(NoMemory),
+        }
+    }
+    Ok(())
+}
+
+/// The heads of all terms' segments.
+pub fn index_heads(alloc: Global, index: &ImpactIndex) -> Result<Row<Head>, NoMemory>
+    requires { index.now.greatest ≤ 65535 }
+    ensures { IfOk result (λ heads. map head_data heads
+        ≡ table_of (length index.now.names) (map term_data index.now.terms)) }
+{
+    terms_have_documents();
+    let d = index.names.len() as u32;
+    let mut heads = Row::new(alloc);
+    for term in index.terms.as_slice() {
+        push_heads(term.segments.as_slice(), d, &mut heads)?;
+    }
+    Ok(heads)
+}

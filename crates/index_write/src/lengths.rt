@@ -1,0 +1,92 @@
+//! How many bytes the parts of an index file have.
+
+ghost use Rattle.std.specs.Prelude.{◌≡◌, ◌≤◌, ◌<◌, ◌+◌, ◌*◌, ◌^◌, [], length, map};
+ghost use Rattle.std.specs.List.{sum_by};
+ghost use Rattle.index_model.specs.Views.{term_data, index_data};
+ghost use Rattle.index_layout.specs.Layout.{names_bytes, rest_behind, shared_with, terms_bytes};
+ghost use Rattle.index_layout.specs.View.{index_text};
+ghost use Rattle.index_write.specs.Chosen.{head_data, chosen_terms, table_of};
+ghost use Rattle.index_write.specs.declared.head.Head.{Head};
+
+use crate::head::Head;
+use crate::laws::{parts_are_small, tables_have_their_sums, texts_have_their_parts};
+use index_model::laws::indexes_in_memory_are_indexes;
+use jass_base::{ImpactIndex, TermSegments, Text};
+
+/// The bytes of names, each behind its length.
+fn names_len(names: &[Text]) -> u64
+    requires { length (names_bytes names.now) < 2 ^ 62 }
+    ensures len { result ≡ length (names_bytes names.now) }
+    ensures few { result < 2 ^ 62 }
+{
+    let mut len = 0;
+    for name in names {
+        len += 4 + name.as_str().len() as u64;
+    }
+    len
+}
+
+/// How many bytes a term has in common with the one before.
+pub fn shared_len(before: &[u8], term: &[u8]) -> usize
+    ensures shared { result ≡ shared_with before.now term.now }
+    ensures within { result ≤ length term.now }
+{
+    let mut shared = 0;
+    'bytes: while shared < before.len() && shared < term.len() && before[shared] == term[shared] {
+        shared += 1;
+    }
+    shared
+}
+
+/// The bytes of a term behind the one before it, with its heads.
+fn term_len(before: &[u8], term: &TermSegments) -> u64
+    requires { 8 + length (rest_behind before.now term.now.term) + 11 * length term.now.segments < 2 ^ 62 }
+    ensures { result ≡ 8 + length (rest_behind before.now term.now.term) + 11 * length term.now.segments }
+{
+    let bytes = term.term.as_str().as_bytes();
+    let rest = bytes.len() - shared_len(before, bytes);
+    8 + rest as u64 + 11 * term.segments.len() as u64
+}
+
+/// The bytes of all terms with their heads.
+fn terms_len(index: &ImpactIndex) -> u64
+    requires { length (terms_bytes [] (chosen_terms (length index.now.names) (map term_data index.now.terms)))
+        < 2 ^ 62 }
+    ensures len { result
+        ≡ length (terms_bytes [] (chosen_terms (length index.now.names) (map term_data index.now.terms))) }
+    ensures few { result < 2 ^ 62 }
+{
+    let mut len = 0;
+    let mut before: &[u8] = b"";
+    for term in index.terms.as_slice() {
+        len += term_len(before, term);
+        before = term.term.as_str().as_bytes();
+    }
+    len
+}
+
+/// The bytes of the payloads.
+fn payloads_len(heads: &[Head]) -> u64
+    requires { sum_by (λ (h : Head). h.size) heads.now < 2 ^ 62 }
+    ensures len { result ≡ sum_by (λ (h : Head). h.size) heads.now }
+    ensures few { result < 2 ^ 62 }
+{
+    let mut len = 0;
+    for head in heads {
+        len += u64::from(head.size);
+    }
+    len
+}
+
+/// The bytes of the file, by its names, its terms and its heads.
+pub fn index_len(index: &ImpactIndex, heads: &[Head]) -> u64
+    requires greatest { index.now.greatest ≤ 65535 }
+    requires heads { map head_data heads.now ≡ table_of (length index.now.names) (map term_data index.now.terms) }
+    ensures { result ≡ length (index_text (index_data index.now)) }
+{
+    indexes_in_memory_are_indexes();
+    parts_are_small();
+    texts_have_their_parts();
+    tables_have_their_sums();
+    40 + names_len(index.names.as_slice()) + terms_len(index) + payloads_len(heads)
+}
