@@ -1,0 +1,3 @@
+mod NextTerms
+mod Sequences
+mod TermRows
