@@ -1,3 +1,6 @@
 mod NextTerms
+mod Reading
 mod Sequences
+mod Standing
 mod TermRows
+mod Wholes

@@ -1,2 +1,5 @@
 pub mod Tables
 pub mod Payloads
+pub mod Opened
+pub mod Places
+pub mod Giving

@@ -3,7 +3,7 @@ use Rattle.std.specs.Prelude.{ℕ, ◌≡◌, ◌+◌, ◌≤◌, List, [], ◌�
 use Rattle.jass_base.specs.Gaps.{AreDocs}
 use Rattle.segment_codecs.specs.Codecs.{payload_of}
 use Rattle.index_model.specs.Index.{SegmentData, TermData}
-use Rattle.index_layout.specs.Heads.{TermHeads}
+use Rattle.index_layout.specs.Heads.{HeadData, TermHeads}
 use Rattle.index_layout.specs.Reading.{docs_in}
 use Rattle.index_file.specs.declared.segment.Segment.{Segment}
 use Rattle.index_file.specs.declared.term_row.TermRow.{TermRow}
@@ -20,6 +20,10 @@ pub record IsPayload (bytes : List ℕ) (d : ℕ) (s : Segment) : Type 0 where
   pub count : length (docs_in bytes d (row_head s) s.place) ≡ s.count
   pub spelled : slice_range bytes s.place (s.place + s.size)
       ≡ payload_of s.codec d (docs_in bytes d (row_head s) s.place)
+
+-- a head of a segment has a document or more, and at most d
+abbrev pub IsCounted : ℕ → HeadData → Type 0
+IsCounted d h = (1 ≤ h.count) × (h.count ≤ d)
 
 -- the term between two rows with its heads, and with its segments
 abbrev pub heads_between : List ℕ → List Segment → TermRow → TermRow → TermHeads

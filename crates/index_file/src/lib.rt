@@ -2,6 +2,10 @@
 
 //! A file of an index, checked once and then read in place.
 
+mod cursor;
+mod ends;
+mod figures;
+mod file;
 mod following;
 mod front;
 mod head;
@@ -9,8 +13,14 @@ mod heads;
 mod name;
 mod names;
 mod number;
+mod payloads;
 mod segment;
 mod span;
+mod tables;
 mod term;
 mod term_row;
 mod terms;
+
+pub use cursor::Cursor;
+pub use figures::{CodecUse, Head};
+pub use file::IndexFile;
