@@ -1,3 +1,4 @@
+mod Halves
 mod NextTerms
 mod Reading
 mod Sequences

@@ -9,7 +9,7 @@ ghost use Rattle.index_layout.specs.Refusals.{Answers};
 ghost use Rattle.index_layout.specs.Totals.{totals_of};
 ghost use Rattle.index_layout.specs.View.{FileView, IsFileView, file_bytes};
 ghost use Rattle.index_file.specs.Giving.{Gives};
-ghost use Rattle.index_file.specs.Places.{codec_use, segment_at, term_at};
+ghost use Rattle.index_file.specs.Places.{codec_use, segment_at, term_at, uses_of};
 
 use crate::cursor::Cursor;
 use crate::figures::{CodecUse, Head};
@@ -19,8 +19,8 @@ use crate::span::{Span, part};
 use crate::tables::read_tables;
 use crate::term_row::TermRow;
 use index_layout::OpenFault;
-use jass_base::{Row, Steps, Totals};
-use segment_codecs::SegmentCursor;
+use jass_base::{Names, Row, Steps, Totals};
+use segment_codecs::{Codec, SegmentCursor};
 use std::alloc::Global;
 use std::marker::Model;
 use std::sync::ledger::Ledger;
@@ -81,6 +81,19 @@ impl IndexFile {
             terms: self.terms(),
             postings: u64_at(bytes, 24),
             greatest: u32_at(bytes, 32) as u16,
+        }
+    }
+
+    /// How many segments are in each codec.
+    pub fn codecs(&self) -> CodecUse
+        ensures { result ≡ codec_use self.now.codecs }
+    {
+        let segments = self.segments.as_slice();
+        CodecUse {
+            varbyte: uses_of(segments, Codec::Varbyte),
+            packed: uses_of(segments, Codec::Packed),
+            bitmap: uses_of(segments, Codec::Bitmap),
+            simple8: uses_of(segments, Codec::Simple8),
         }
     }
 
@@ -218,5 +231,30 @@ impl IndexFile {
         let mut block = [0u32; 128];
         self.next_block(&mut cursor, &mut block, steps);
         block[0]
+    }
+}
+
+/// How many segments are in a codec.
+fn uses_of(segments: &[Segment], codec: Codec) -> u64
+    ensures { result ≡ uses_of codec (map (λ (s : Segment). s.codec) segments.now) }
+{
+    let mut count = 0;
+    'segments: for segment in segments {
+        if segment.codec == codec {
+            count += 1;
+        }
+    }
+    count
+}
+
+impl Names for IndexFile {
+    ghost names = { λ file. file.index.names };
+
+    fn docs(&self) -> u32 {
+        self.docs()
+    }
+
+    fn name(&self, doc: u32) -> &str {
+        self.name(doc)
     }
 }

@@ -14,6 +14,7 @@ mod name;
 mod names;
 mod number;
 mod payloads;
+mod searching;
 mod segment;
 mod span;
 mod tables;
