@@ -1,3 +1,4 @@
+mod Contents
 mod Halves
 mod NextTerms
 mod Reading

@@ -3,3 +3,4 @@ pub mod Payloads
 pub mod Opened
 pub mod Places
 pub mod Giving
+pub mod Opening

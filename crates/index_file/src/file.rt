@@ -144,11 +144,13 @@ impl IndexFile {
         part(self.text.as_slice(), span)
     }
 
-    /// How many segments a term has.
+    /// How many segments a term has; 0 where there is no such term.
     pub fn segments(&self, t: u32) -> u32
-        requires { t < length self.now.index.terms }
         ensures { result ≡ length (segments_at self.now.index.terms t) }
     {
+        if t >= self.terms() {
+            return 0;
+        }
         let rows = self.rows.as_slice();
         rows[t as usize + 1].segment - rows[t as usize].segment
     }
