@@ -1,0 +1,6 @@
+mod NextTerms
+mod Sequences
+mod TermRows
+mod OnePayload
+mod MarkLists
+mod SegmentLists

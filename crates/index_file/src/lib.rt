@@ -1,0 +1,20 @@
+#![tactic(auto)]
+
+//! A file of an index, checked once and then read in place.
+
+mod ends;
+mod following;
+mod front;
+mod head;
+mod heads;
+mod marks;
+mod name;
+mod names;
+mod number;
+mod payload;
+mod segment;
+mod span;
+mod term;
+mod term_payloads;
+mod term_row;
+mod terms;
