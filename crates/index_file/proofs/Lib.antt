@@ -1,6 +1,7 @@
+mod MarkLists
 mod NextTerms
+mod OnePayload
+mod RowLists
+mod SegmentLists
 mod Sequences
 mod TermRows
-mod OnePayload
-mod MarkLists
-mod SegmentLists

@@ -1,5 +1,5 @@
 -- Marks of the documents of a term, and which of them were met before.
-use Rattle.std.proofs.Common.{◌≡◌, ◌≢◌, ◌≤◌, ◌<◌, ◌+◌, ◌-◌, ◌==◌, ◌||◌, ℕ, suc, zero, Bool, true, false, nat_eq, All, List, [], ◌∷◌, ◌++◌, length, take, drop, slice_index, slice_set, ap, sym, subst, ◌∙◌, refl, arith}
+use Rattle.std.proofs.Common.{◌≡◌, ◌≢◌, ◌≤◌, ◌<◌, ◌+◌, ◌==◌, ◌||◌, ℕ, suc, Bool, true, false, nat_eq, All, List, [], ◌∷◌, ◌++◌, length, take, drop, slice_index, slice_set, ap, sym, subst, ◌∙◌, refl, arith}
 use Rattle.std.specs.Prelude.{⊤, ◌⊎◌}
 use Rattle.std.specs.List.{list_any}
 use Rattle.std.specs.List.Sorted.{IsStrictlyIncreasing}
@@ -117,7 +117,7 @@ rises [] rising = tt
 rises (doc ∷ []) rising = (omega arith, tt)
 rises (doc ∷ next ∷ docs) rising =
     let later = rises (next ∷ docs) (λ j inside. (let e : suc j + 1 ≡ suc (j + 1) = omega arith in
-        subst (λ n. slice_index (doc ∷ next ∷ docs) (suc j) < slice_index (doc ∷ next ∷ docs) n) e (rising (suc j) (omega (arith, inside))))) in
+    subst (λ n. slice_index (doc ∷ next ∷ docs) (suc j) < slice_index (doc ∷ next ∷ docs) n) e (rising (suc j) (omega (arith, inside))))) in
     (omega arith, ((let less = rising 0 (omega arith) in omega (arith, less)), later.1))
 
 -- whether a document of some has the mark

@@ -1,11 +1,11 @@
 -- One payload that is read.
-use Rattle.std.proofs.Common.{◌≡◌, ℕ, ◌+◌, ◌≤◌, ◌<◌, ◌^◌, Bool, List, [], ◌∷◌, length, All, Result, Ok, Err, ap, sym, subst, ◌∙◌, refl, slice_index, arith, true, false, nat_lt, cond}
+use Rattle.std.proofs.Common.{◌≡◌, ℕ, ◌+◌, ◌≤◌, ◌<◌, ◌^◌, Bool, List, [], ◌∷◌, length, All, Result, Ok, Err, ap, sym, ◌∙◌, refl, slice_index, arith, true, false, nat_lt}
 use Rattle.std.specs.Prelude.{slice_range}
 use Rattle.std.proofs.lemmas.List.Elements.{All-take, All-drop, All-from_get_or}
 use Rattle.jass_base.specs.Gaps.{Judges, AreDocs}
 use Rattle.jass_base.specs.declared.payload_fault.PayloadFault.{PayloadFault}
 use Rattle.segment_codecs.specs.declared.codec.Codec.{Codec}
-use Rattle.segment_codecs.specs.Codecs.{payload_of, read_payload, payload_size}
+use Rattle.segment_codecs.specs.Codecs.{payload_of, read_payload}
 use Rattle.index_layout.specs.Heads.{HeadData}
 use Rattle.index_layout.specs.Refusals.{◌>>=◌, check, judged, refuse, Fails}
 use Rattle.index_layout.specs.declared.refusal.OpenFault.{OpenFault}

@@ -1,12 +1,10 @@
 -- The payloads of a term's segments, read one after the other into their rows.
-use Rattle.std.proofs.Common.{◌≡◌, ◌≤◌, ◌<◌, ◌+◌, ℕ, suc, map, take, drop, length, slice_index_or, slice_set, All, arith, List, [], ◌∷◌, ◌++◌, Result, Ok, Err, append_assoc, ap, sym, subst, ◌∙◌, refl}
+use Rattle.std.proofs.Common.{◌≡◌, ◌<◌, ◌+◌, ℕ, map, take, drop, length, slice_index_or, slice_set, All, arith, List, [], ◌∷◌, ◌++◌, Result, Ok, Err, append_assoc, ap, sym, subst, ◌∙◌, refl}
 use Rattle.std.specs.List.{flat_map}
-use Rattle.std.proofs.lemmas.List.{append-nil, get_or-map, length-map, map_push, length-set, take_more_set, drop-set-lt}
+use Rattle.std.proofs.lemmas.List.{append-nil, get_or-map, length-map, map_push, take_more_set, drop-set-lt}
 use Rattle.std.proofs.lemmas.Grind.{flat_map-append}
-use Rattle.std.proofs.lemmas.List.Elements.{All-push}
 use Rattle.std.proofs.Math.Seq.{drop-cons, map-set_same}
-use Rattle.std.proofs.Common.{add-one, ◌-◌}
-use Rattle.index_file.specs.Payloads.{IsPayload}
+use Rattle.std.proofs.Common.{add-one}
 use Rattle.index_model.specs.Index.{SegmentData}
 use Rattle.index_layout.specs.declared.refusal.OpenRefusal.{OpenRefusal}
 use Rattle.index_layout.specs.Heads.{HeadData}
@@ -46,7 +44,7 @@ unfolding row_segment
 row_segment_is bytes d s = refl
 
 module _ (bytes : List ℕ) (d : ℕ) (total : Result SegmentsRead OpenRefusal) (front rest : List Segment) (row s : Segment) (at next : ℕ) (is : total ≡ with_segments (map (row_segment bytes d) front) (read_segments bytes d (flat_map (docs_there bytes d) front) (map row_head (row ∷ rest)) at))
-  (head : row_head s ≡ row_head row) (place : s.place ≡ at) where
+    (head : row_head s ≡ row_head row) (place : s.place ≡ at) where
   docs_here : docs_in bytes d (row_head row) at ≡ docs_there bytes d s
   docs_here = sym (ap (λ (h : HeadData). docs_in bytes d h s.place) head ∙ ap (docs_in bytes d (row_head row)) place)
 
@@ -66,7 +64,7 @@ module _ (bytes : List ℕ) (d : ℕ) (total : Result SegmentsRead OpenRefusal) 
       let earlier = flat_map (docs_there bytes d) front in
       is
       ∙ ap (λ (e : Result ℕ OpenRefusal). with_segments (map (row_segment bytes d) front) (e >>= λ next. (read_segments bytes d (earlier ++ docs_in bytes d (row_head row) at) (map row_head rest) next >>= λ later.
-          Ok (record { segments = record { impact = row.impact; docs = docs_in bytes d (row_head row) at } ∷ later.segments; end = later.end })))) end
+      Ok (record { segments = record { impact = row.impact; docs = docs_in bytes d (row_head row) at } ∷ later.segments; end = later.end })))) end
       ∙ behind_segments (map (row_segment bytes d) front) (record { impact = row.impact; docs = docs_in bytes d (row_head row) at }) (read_segments bytes d (earlier ++ docs_in bytes d (row_head row) at) (map row_head rest) next)
       ∙ ap (λ docs. with_segments (map (row_segment bytes d) front ++ record { impact = row.impact; docs = docs_in bytes d (row_head row) at } ∷ []) (read_segments bytes d docs (map row_head rest) next)) (ap (λ docs. earlier ++ docs) docs_here ∙ sym all_docs)
       ∙ ap (λ told. with_segments (map (row_segment bytes d) front ++ told ∷ []) (read_segments bytes d (flat_map (docs_there bytes d) (front ++ s ∷ [])) (map row_head rest) next)) segment_here

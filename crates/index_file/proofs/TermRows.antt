@@ -1,8 +1,7 @@
 -- Rows of terms while the text and the segments grow.
-use Rattle.std.proofs.Common.{◌≡◌, ◌-◌, ◌≤◌, ℕ, suc, map, take, drop, length, All, arith, List, [], ◌∷◌, ◌++◌, Option, Some, Result, Ok, Err, append_assoc, ap, sym, subst, ◌∙◌, refl}
+use Rattle.std.proofs.Common.{◌≡◌, ◌-◌, ◌≤◌, ℕ, suc, map, take, drop, length, arith, List, [], ◌∷◌, ◌++◌, Option, Some, Result, Ok, Err, append_assoc, ap, sym, subst, ◌∙◌, refl}
 use Rattle.std.specs.Prelude.{slice_range}
-use Rattle.std.proofs.lemmas.List.{map_push, length-append, take_all, drop-append-le, take-append-le, length-drop}
-use Rattle.std.proofs.lemmas.List.Elements.{All-head, All-tail, All-weaker, All-push}
+use Rattle.std.proofs.lemmas.List.{append-nil, length-append, take_all, drop-append-le, take-append-le, length-drop}
 use Rattle.std.proofs.Math.Seq.{drop-append_seam}
 use Rattle.index_layout.specs.declared.refusal.OpenRefusal.{OpenRefusal}
 use Rattle.index_layout.specs.Heads.{TermHeads}
@@ -12,7 +11,9 @@ use Rattle.index_layout.specs.declared.refusal.OpenFault.TheVariants as faults
 use Rattle.index_layout.specs.Reading.{HeadsRead, TermsRead, term_end, term_in, heads_in, read_heads, read_terms}
 use Rattle.index_file.specs.declared.segment.Segment.{Segment}
 use Rattle.index_file.specs.declared.term_row.TermRow.{TermRow}
-use Rattle.index_file.specs.Tables.{row_head, part_of, IsSpan, term_of, IsTermRow}
+use Rattle.index_file.specs.declared.span.Span.{Span}
+use Rattle.index_file.specs.Payloads.{row_heads}
+use Rattle.index_file.specs.Tables.{row_head, part_of, IsSpan, RowsFrom, AreRows}
 
 -- behind terms that were read before
 abbrev pub with_terms : List TermHeads → Result TermsRead OpenRefusal → Result TermsRead OpenRefusal
@@ -38,6 +39,12 @@ terms_on bytes d total front k left before at place here is more end heads =
     Ok (record { terms = record { term = term_in bytes before at; heads = here.heads } ∷ later.terms; end = later.end })))) heads
     ∙ behind_terms front (record { term = term_in bytes before at; heads = here.heads }) (read_terms bytes d left (Some (term_in bytes before at)) here.end)
 
+-- no term more
+pub terms_end : (bytes : List ℕ) (d : ℕ) (total : Result TermsRead OpenRefusal) (front : List TermHeads) (k : ℕ) (before : Option (List ℕ)) (at : ℕ) → total ≡ with_terms front (read_terms bytes d k before at) → k ≡ 0 → total ≡ Ok (record { terms = front; end = at })
+terms_end bytes d total front k before at is none =
+    is ∙ ap (λ n. with_terms front (read_terms bytes d n before at)) none
+    ∙ ap (λ (terms : List TermHeads). (let r : Result TermsRead OpenRefusal = Ok (record { terms = terms; end = at }) in r)) (append-nil front)
+
 -- parts stay where more is appended
 slice_stays : {X : Type 0} (xs more : List X) (from to : ℕ) → from ≤ to → to ≤ length xs → slice_range (xs ++ more) from to ≡ slice_range xs from to
 slice_stays xs more from to order within =
@@ -50,48 +57,49 @@ slice_new xs more from to first last =
     let size : to - from ≡ length more = omega (arith, l, first, last) in
     ap (λ n. take n (drop from (xs ++ more))) size ∙ ap (λ n. take (length more) (drop n (xs ++ more))) first ∙ ap (take (length more)) (drop-append_seam xs more) ∙ take_all (length more) more (omega arith)
 
-row_stays : (text more : List ℕ) (segments extra : List Segment) (row : TermRow) → IsTermRow text segments row → term_of (text ++ more) (segments ++ extra) row ≡ term_of text segments row
-unfolding term_of part_of
-row_stays text more segments extra row is = rw (slice_stays text more row.span.from row.span.to is.0.0 is.0.1, slice_stays segments extra row.first row.end is.1 is.2) refl
-
-rows_stay : (text more : List ℕ) (segments extra : List Segment) (rows : List TermRow) → All (IsTermRow text segments) rows → map (term_of (text ++ more) (segments ++ extra)) rows ≡ map (term_of text segments) rows
-rows_stay text more segments extra [] are = refl
-rows_stay text more segments extra (row ∷ rows) are =
-    rw (row_stays text more segments extra row (All-head (IsTermRow text segments) row rows are), rows_stay text more segments extra rows (All-tail (IsTermRow text segments) row rows are)) refl
-
-row_new : (text term : List ℕ) (segments added : List Segment) (row : TermRow) → row.span.from ≡ length text → row.span.to ≡ length (text ++ term) → row.first ≡ length segments → row.end ≡ length (segments ++ added)
-    → term_of (text ++ term) (segments ++ added) row ≡ record { term = term; heads = map row_head added }
-unfolding term_of part_of
-row_new text term segments added row from to first end = rw (slice_new text term row.span.from row.span.to from to, slice_new segments added row.first row.end first end) refl
-
-pub record RowsThere (text : List ℕ) (segments : List Segment) (rows : List TermRow) (terms : List TermHeads) (row : TermRow) (term : List ℕ) : Type 0 where
-  pub terms_are : map (term_of text segments) rows ≡ terms
-  pub are : All (IsTermRow text segments) rows
-  pub span : IsSpan text row.span
-  pub part : part_of text row.span ≡ term
-
-pub rows_next : (text term newer : List ℕ) (segments added newest : List Segment) (rows : List TermRow) (row : TermRow) → newer ≡ text ++ term → newest ≡ segments ++ added → All (IsTermRow text segments) rows
-    → row.span.from ≡ length text → row.span.to ≡ length newer → row.first ≡ length segments → row.end ≡ length newest
-    → RowsThere newer newest (rows ++ row ∷ []) (map (term_of text segments) rows ++ record { term = term; heads = map row_head added } ∷ []) row term
+part_new : (text term : List ℕ) (span : Span) → span.from ≡ length text → span.to ≡ length (text ++ term) → part_of (text ++ term) span ≡ term
 unfolding part_of
-rows_next text term newer segments added newest rows row grown more are from to first end =
+part_new text term span from to = slice_new text term span.from span.to from to
+
+row_below : (text : List ℕ) (segments : List Segment) (a : TermRow) (rows : List TermRow) → RowsFrom text segments a rows → (a.text ≤ length text) × (a.segment ≤ length segments)
+row_below text segments a [] are = (omega (arith, are.0), omega (arith, are.1))
+row_below text segments a (b ∷ rows) are = let later = row_below text segments b rows are.2 in (omega (arith, are.0, later.0), omega (arith, are.1, later.1))
+
+module _ (text term : List ℕ) (segments added : List Segment) (row : TermRow) (at_text : row.text ≡ length (text ++ term)) (at_segment : row.segment ≡ length (segments ++ added)) where
+  heads_push : (a : TermRow) (rows : List TermRow) → RowsFrom text segments a rows
+      → row_heads (text ++ term) (segments ++ added) (a ∷ (rows ++ row ∷ [])) ≡ row_heads text segments (a ∷ rows) ++ record { term = term; heads = map row_head added } ∷ []
+  heads_push a [] are = rw (slice_new text term a.text row.text are.0 at_text, slice_new segments added a.segment row.segment are.1 at_segment) refl
+  heads_push a (b ∷ rows) are =
+      let later = row_below text segments b rows are.2 in
+      rw (slice_stays text term a.text b.text are.0 later.0, slice_stays segments added a.segment b.segment are.1 later.1, heads_push b rows are.2) refl
+
+  rows_push : (a : TermRow) (rows : List TermRow) → RowsFrom text segments a rows → RowsFrom (text ++ term) (segments ++ added) a (rows ++ row ∷ [])
+  rows_push a [] are = (let l = length-append text term in omega (arith, l, are.0, at_text), (let m = length-append segments added in omega (arith, m, are.1, at_segment)), (at_text, at_segment))
+  rows_push a (b ∷ rows) are = (are.0, are.1, rows_push b rows are.2)
+
+pub record RowsThere (text : List ℕ) (segments : List Segment) (rows : List TermRow) (terms : List TermHeads) (span : Span) (term : List ℕ) : Type 0 where
+  pub terms_are : row_heads text segments rows ≡ terms
+  pub are : AreRows text segments rows
+  pub span_is : IsSpan text span
+  pub part : part_of text span ≡ term
+
+pub rows_next : (text term newer : List ℕ) (segments added newest : List Segment) (rows : List TermRow) (row : TermRow) (span : Span) → newer ≡ text ++ term → newest ≡ segments ++ added → AreRows text segments rows
+    → row.text ≡ length newer → row.segment ≡ length newest → span.from ≡ length text → span.to ≡ length newer
+    → RowsThere newer newest (rows ++ row ∷ []) (row_heads text segments rows ++ record { term = term; heads = map row_head added } ∷ []) span term
+rows_next text term newer segments added newest [] row span grown more are at_text at_segment from to = absurd are
+rows_next text term newer segments added newest (a ∷ rows) row span grown more are at_text at_segment from to =
     let l = length-append text term in
-    let m = length-append segments added in
-    let to_is : row.span.to ≡ length (text ++ term) = to ∙ ap length grown in
-    let end_is : row.end ≡ length (segments ++ added) = end ∙ ap length more in
-    let span : IsSpan (text ++ term) row.span = (omega (arith, from, to_is, l), omega (arith, to_is)) in
-    let is : IsTermRow (text ++ term) (segments ++ added) row = (span, omega (arith, first, end_is, m), omega (arith, end_is)) in
-    let stay : All (IsTermRow (text ++ term) (segments ++ added)) rows = All-weaker (IsTermRow text segments) (IsTermRow (text ++ term) (segments ++ added)) (λ r is. let b = is.0.1 in let e = is.2 in ((is.0.0, omega (arith, b, l)), is.1, omega (arith, e, m))) rows are in
-    let there : RowsThere (text ++ term) (segments ++ added) (rows ++ row ∷ []) (map (term_of text segments) rows ++ record { term = term; heads = map row_head added } ∷ []) row term = record {
-      terms_are = map_push (term_of (text ++ term) (segments ++ added)) rows row
-          ∙ ap (λ front. front ++ term_of (text ++ term) (segments ++ added) row ∷ []) (rows_stay text term segments added rows are)
-          ∙ ap (λ t. map (term_of text segments) rows ++ t ∷ []) (row_new text term segments added row from to_is first end_is);
-      are = All-push (IsTermRow (text ++ term) (segments ++ added)) rows row stay is;
-      span = span;
-      part = slice_new text term row.span.from row.span.to from to_is;
+    let text_is : row.text ≡ length (text ++ term) = at_text ∙ ap length grown in
+    let segment_is : row.segment ≡ length (segments ++ added) = at_segment ∙ ap length more in
+    let to_is : span.to ≡ length (text ++ term) = to ∙ ap length grown in
+    let there : RowsThere (text ++ term) (segments ++ added) (a ∷ (rows ++ row ∷ [])) (row_heads text segments (a ∷ rows) ++ record { term = term; heads = map row_head added } ∷ []) span term = record {
+      terms_are = heads_push text term segments added row text_is segment_is a rows are.2;
+      are = (are.0, are.1, rows_push text term segments added row text_is segment_is a rows are.2);
+      span_is = (omega (arith, from, to_is, l), omega (arith, to_is));
+      part = part_new text term span from to_is;
     } in
-    subst (λ t. RowsThere t newest (rows ++ row ∷ []) (map (term_of text segments) rows ++ record { term = term; heads = map row_head added } ∷ []) row term) (sym grown)
-    (subst (λ s. RowsThere (text ++ term) s (rows ++ row ∷ []) (map (term_of text segments) rows ++ record { term = term; heads = map row_head added } ∷ []) row term) (sym more) there)
+    subst (λ t. RowsThere t newest (a ∷ (rows ++ row ∷ [])) (row_heads text segments (a ∷ rows) ++ record { term = term; heads = map row_head added } ∷ []) span term) (sym grown)
+    (subst (λ s. RowsThere (text ++ term) s (a ∷ (rows ++ row ∷ [])) (row_heads text segments (a ∷ rows) ++ record { term = term; heads = map row_head added } ∷ []) span term) (sym more) there)
 
 pub heads_not : (bytes : List ℕ) (d : ℕ) (total : Result TermsRead OpenRefusal) (front : List TermHeads) (k left : ℕ) (before : Option (List ℕ)) (at place n : ℕ) (fault : OpenFault) → total ≡ with_terms front (read_terms bytes d k before at)
     → k ≡ suc left → term_end bytes before at ≡ Ok place → n ≡ heads_in bytes at

@@ -1,9 +1,9 @@
 -- What the tables of an opened file say of its bytes.
-use Rattle.std.specs.Prelude.{ℕ, ◌+◌, ◌≤◌, List, length, Option, Some, None, map, slice_range}
+use Rattle.std.specs.Prelude.{ℕ, ◌≡◌, ◌+◌, ◌≤◌, List, [], ◌∷◌, length, Option, Some, None, slice_range}
 use Rattle.index_file.specs.declared.span.Span.{Span}
 use Rattle.index_file.specs.declared.term_row.TermRow.{TermRow}
 use Rattle.index_layout.specs.Bytes.{u32_in}
-use Rattle.index_layout.specs.Heads.{HeadData, TermHeads}
+use Rattle.index_layout.specs.Heads.{HeadData}
 use Rattle.index_file.specs.declared.segment.Segment.{Segment}
 
 -- the name whose length stands at a place lies in the bytes
@@ -26,10 +26,12 @@ abbrev pub before_in : List ℕ → Option Span → Option (List ℕ)
 before_in text None = None
 before_in text (Some s) = Some (part_of text s)
 
--- the term of a row with its heads
-unfoldable pub term_of : List ℕ → List Segment → TermRow → TermHeads
-term_of text segments row =
-    record { term = part_of text row.span; heads = map row_head (slice_range segments row.first row.end) }
+-- the rows from one on rise in both fields, up to the ends of the text and of the segments
+abbrev pub RowsFrom : List ℕ → List Segment → TermRow → List TermRow → Type 0
+RowsFrom text segments a [] = (a.text ≡ length text) × (a.segment ≡ length segments)
+RowsFrom text segments a (b ∷ rows) = (a.text ≤ b.text) × (a.segment ≤ b.segment) × RowsFrom text segments b rows
 
-abbrev pub IsTermRow : List ℕ → List Segment → TermRow → Type 0
-IsTermRow text segments row = IsSpan text row.span × (row.first ≤ row.end) × (row.end ≤ length segments)
+-- the rows of terms: the first is at the front, and the last at the end
+abbrev pub AreRows : List ℕ → List Segment → List TermRow → Type 0
+AreRows text segments [] = ⊥
+AreRows text segments (a ∷ rows) = (a.text ≡ 0) × (a.segment ≡ 0) × RowsFrom text segments a rows

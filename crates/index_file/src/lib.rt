@@ -12,6 +12,7 @@ mod name;
 mod names;
 mod number;
 mod payload;
+mod payloads;
 mod segment;
 mod span;
 mod term;

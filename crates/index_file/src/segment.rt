@@ -7,6 +7,6 @@ pub(crate) struct Segment {
     pub(crate) codec: Codec,
     pub(crate) count: u32,
     pub(crate) size: u32,
-    /// Where the payload begins; 0 until the payloads are read.
+    /// Where the payload begins in the file; 0 until the payloads are read.
     pub(crate) place: u32,
 }

@@ -25,7 +25,7 @@ pub(crate) fn read_term_payloads(
     requires marks { (docs ≤ length marks.old) × All (λ mark. mark < now) marks.old }
     ensures exact { Answers (λ end. record { segments = map (row_segment bytes.now docs) segments.new; end = end }) result
         (read_segments bytes.now docs [] (map row_head segments.old) from) }
-    ensures heads { IfOk result (λ _. map row_head segments.new ≡ map row_head segments.old) }
+    ensures heads { map row_head segments.new ≡ map row_head segments.old }
     ensures payloads { IfOk result (λ _. All (IsPayload bytes.now docs) segments.new) }
     ensures end { IfOk result (λ end. end ≤ length bytes.now) }
     ensures marks { IfOk result (λ _. (docs ≤ length marks.new) × All (λ mark. mark ≤ now) marks.new) }
@@ -51,7 +51,7 @@ fn read_only(
     requires one { length segments.old ≡ 1 }
     ensures exact { Answers (λ end. record { segments = map (row_segment bytes.now docs) segments.new; end = end }) result
         (read_segments bytes.now docs [] (map row_head segments.old) from) }
-    ensures heads { IfOk result (λ _. map row_head segments.new ≡ map row_head segments.old) }
+    ensures heads { map row_head segments.new ≡ map row_head segments.old }
     ensures payloads { IfOk result (λ _. All (IsPayload bytes.now docs) segments.new) }
     ensures end { IfOk result (λ end. end ≤ length bytes.now) }
 {
@@ -79,7 +79,7 @@ fn read_apart(
     requires marks { (docs ≤ length marks.old) × All (λ mark. mark < now) marks.old }
     ensures exact { Answers (λ end. record { segments = map (row_segment bytes.now docs) segments.new; end = end }) result
         (read_segments bytes.now docs [] (map row_head segments.old) from) }
-    ensures heads { IfOk result (λ _. map row_head segments.new ≡ map row_head segments.old) }
+    ensures heads { map row_head segments.new ≡ map row_head segments.old }
     ensures payloads { IfOk result (λ _. All (IsPayload bytes.now docs) segments.new) }
     ensures end { IfOk result (λ end. end ≤ length bytes.now) }
     ensures marks { IfOk result (λ _. (docs ≤ length marks.new) × All (λ mark. mark ≤ now) marks.new) }

@@ -1,9 +1,7 @@
-use crate::span::Span;
-
-/// A term: where it stands in the text of all terms, and which segments are its own.
+/// Where a term begins in the text of all terms, and which segment is its first. One more row stands
+/// behind the last term, so that each term ends where the next row begins.
 #[derive(Clone, Copy)]
 pub(crate) struct TermRow {
-    pub(crate) span: Span,
-    pub(crate) first: u32,
-    pub(crate) end: u32,
+    pub(crate) text: u32,
+    pub(crate) segment: u32,
 }

@@ -1,7 +1,8 @@
-ghost use Rattle.std.specs.Prelude.{◌≡◌, ◌≤◌, ◌^◌, length, map, All, None, IfOk};
+ghost use Rattle.std.specs.Prelude.{◌≡◌, ◌≤◌, ◌+◌, ◌^◌, length, None, IfOk};
 ghost use Rattle.index_layout.specs.Reading.{read_terms};
 ghost use Rattle.index_layout.specs.Refusals.{Answers};
-ghost use Rattle.index_file.specs.Tables.{IsTermRow, term_of};
+ghost use Rattle.index_file.specs.Payloads.{row_heads};
+ghost use Rattle.index_file.specs.Tables.{AreRows};
 
 use crate::heads::read_heads;
 use crate::segment::Segment;
@@ -13,7 +14,7 @@ use jass_base::Row;
 use std::alloc::Global;
 
 /// The text of so many terms, their rows and the heads of their segments, and the place behind the
-/// last. The text and the rows have fewer than 2^32 entries; a file with more wants memory.
+/// last. The text and the segments have fewer than 2^32 entries; a file with more wants memory.
 pub(crate) fn read_terms(
     alloc: Global,
     bytes: &[u8],
@@ -23,14 +24,22 @@ pub(crate) fn read_terms(
 ) -> Result<(Row<u8>, Row<TermRow>, Row<Segment>, usize), OpenFault>
     requires from { from ≤ length bytes.now }
     requires few { length bytes.now ≤ 2 ^ 32 }
-    ensures exact { Answers (λ x. record { terms = map (term_of x.0 x.2) x.1; end = x.3 }) result
+    ensures exact { Answers (λ x. record { terms = row_heads x.0 x.2 x.1; end = x.3 }) result
         (read_terms bytes.now docs count None from) }
-    ensures rows { IfOk result (λ x. All (IsTermRow x.0 x.2) x.1) }
+    ensures rows { IfOk result (λ x. AreRows x.0 x.2 x.1) }
+    ensures count { IfOk result (λ x. length x.1 ≡ count + 1) }
     ensures end { IfOk result (λ x. x.3 ≤ length bytes.now) }
 {
     let mut text = Row::new(alloc);
     let mut rows = Row::new(alloc);
     let mut segments = Row::new(alloc);
+    match rows.push(TermRow {
+        text: 0,
+        segment: 0,
+    }) {
+        Ok(()) => {}
+        Err(_) => return Err(OpenFault::NoMemory),
+    }
     let mut before: Option<Span> = None;
     let mut at = from;
     'terms: for _ in 0..count {
@@ -39,7 +48,6 @@ pub(crate) fn read_terms(
             Ok(read) => read,
             Err(fault) => return Err(fault),
         };
-        let first = segments.len();
         at = match read_heads(&mut segments, bytes, docs, heads, place) {
             Ok(end) => end,
             Err(fault) => return Err(fault),
@@ -47,19 +55,17 @@ pub(crate) fn read_terms(
         if text.len() > 0xffff_ffff || segments.len() > 0xffff_ffff {
             return Err(OpenFault::NoMemory);
         }
-        let span = Span {
-            from: start as u32,
-            to: text.len() as u32,
-        };
         match rows.push(TermRow {
-            span,
-            first: first as u32,
-            end: segments.len() as u32,
+            text: text.len() as u32,
+            segment: segments.len() as u32,
         }) {
             Ok(()) => {}
             Err(_) => return Err(OpenFault::NoMemory),
         }
-        before = Some(span);
+        before = Some(Span {
+            from: start as u32,
+            to: text.len() as u32,
+        });
     }
     Ok((text, rows, segments, at))
 }

@@ -1,4 +1,4 @@
-use Rattle.std.proofs.Common.{◌≡◌, ◌≤◌, ◌*◌, ◌^◌, take, drop, map}
+use Rattle.std.proofs.Common.{◌≡◌, ◌≤◌, ◌*◌, take, drop, map}
 use Rattle.std.specs.Prelude.{max}
 use Rattle.std.specs.List.{sum_by}
 use Rattle.index_layout.specs.Heads.{HeadData, greatest_of}

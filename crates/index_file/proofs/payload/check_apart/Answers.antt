@@ -1,4 +1,4 @@
-use Rattle.std.proofs.Common.{◌+◌, ℕ, Bool, List, [], ◌++◌, true, false, sym, subst, ap}
+use Rattle.std.proofs.Common.{◌+◌, ◌++◌, true, false, sym, subst}
 use Rattle.index_layout.specs.Reading.{docs_in, payload_end}
 use Rattle.index_layout.specs.Refusals.{Fails}
 use Rattle.index_file.specs.Marks.{AreMarks}

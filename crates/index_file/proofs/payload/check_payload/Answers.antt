@@ -1,4 +1,4 @@
-use Rattle.std.proofs.Common.{◌≡◌, ◌≤◌, ◌+◌, ℕ, [], length, sym, subst, arith}
+use Rattle.std.proofs.Common.{[], sym, subst, arith}
 use Rattle.index_layout.specs.Reading.{payload_end}
 use Rattle.index_layout.specs.Refusals.{Fails}
 use Rattle.index_file.specs.Tables.{row_head}
@@ -23,7 +23,7 @@ returns-in-Ok-clause-payload c =
     let fits = c.if-bytes-at.false in
     let from = c.requires.at in
     let read = payload_read c.args.bytes.now c.args.docs (row_head c.args.segment) c.args.at c.in-Ok.field-0 (omega (arith, fits, from)) c.in-Ok.ensures.judged
-        c.payloads_are_read.ensures.only (λ i. omega (arith, c.type_inv.bytes i)) c.requires.counted.0 c.requires.docs in
+    c.payloads_are_read.ensures.only (λ i. omega (arith, c.type_inv.bytes i)) c.requires.counted.0 c.requires.docs in
     record { within = omega (arith, fits, from); docs = read.0; count = read.1; spelled = read.2 }
 
 pub returns-in-Err-clause-exact : goal.returns-in-Err-clause-exact

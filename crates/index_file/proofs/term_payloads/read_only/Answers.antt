@@ -1,9 +1,7 @@
-use Rattle.std.proofs.Common.{◌+◌, ◌<◌, ◌≡◌, length, refl, arith}
+use Rattle.std.proofs.Common.{refl, arith}
 use Rattle.segment_codecs.specs.declared.codec.Codec.TheVariants.{Varbyte}
-use Rattle.index_file.specs.declared.segment.Segment.{Segment}
 use Rattle.index_file.proofs.SegmentLists.{row_counted, only_segment}
 use Rattle.index_file.proofs.term_payloads.read_only.Goals as goal
-
 
 pub check_payload-requires-clause-counted : goal.check_payload-requires-clause-counted
 check_payload-requires-clause-counted c =
