@@ -68,7 +68,10 @@ fn read_between(
     requires counted { All (IsCounted docs) (map row_head segments.old) }
     requires marks { (docs ≤ length marks.old) × All (λ mark. mark < now) marks.old }
     ensures exact { Answers
-        (λ end. record { segments = map (row_segment bytes.now docs) (slice_range segments.new first last); end = end }) result
+        (λ end. record {
+          segments = map (row_segment bytes.now docs) (slice_range segments.new first last);
+          end = end;
+        }) result
         (read_segments bytes.now docs [] (map row_head (slice_range segments.old first last)) from) }
     ensures front { take first segments.new ≡ take first segments.old }
     ensures heads { map row_head segments.new ≡ map row_head segments.old }

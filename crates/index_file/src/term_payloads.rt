@@ -23,7 +23,8 @@ pub(crate) fn read_term_payloads(
     requires from { from ≤ length bytes.now }
     requires counted { All (IsCounted docs) (map row_head segments.old) }
     requires marks { (docs ≤ length marks.old) × All (λ mark. mark < now) marks.old }
-    ensures exact { Answers (λ end. record { segments = map (row_segment bytes.now docs) segments.new; end = end }) result
+    ensures exact { Answers
+        (λ end. record { segments = map (row_segment bytes.now docs) segments.new; end = end }) result
         (read_segments bytes.now docs [] (map row_head segments.old) from) }
     ensures heads { map row_head segments.new ≡ map row_head segments.old }
     ensures payloads { IfOk result (λ _. All (IsPayload bytes.now docs) segments.new) }
@@ -49,7 +50,8 @@ fn read_only(
     requires from { from ≤ length bytes.now }
     requires counted { All (IsCounted docs) (map row_head segments.old) }
     requires one { length segments.old ≡ 1 }
-    ensures exact { Answers (λ end. record { segments = map (row_segment bytes.now docs) segments.new; end = end }) result
+    ensures exact { Answers
+        (λ end. record { segments = map (row_segment bytes.now docs) segments.new; end = end }) result
         (read_segments bytes.now docs [] (map row_head segments.old) from) }
     ensures heads { map row_head segments.new ≡ map row_head segments.old }
     ensures payloads { IfOk result (λ _. All (IsPayload bytes.now docs) segments.new) }
@@ -77,7 +79,8 @@ fn read_apart(
     requires from { from ≤ length bytes.now }
     requires counted { All (IsCounted docs) (map row_head segments.old) }
     requires marks { (docs ≤ length marks.old) × All (λ mark. mark < now) marks.old }
-    ensures exact { Answers (λ end. record { segments = map (row_segment bytes.now docs) segments.new; end = end }) result
+    ensures exact { Answers
+        (λ end. record { segments = map (row_segment bytes.now docs) segments.new; end = end }) result
         (read_segments bytes.now docs [] (map row_head segments.old) from) }
     ensures heads { map row_head segments.new ≡ map row_head segments.old }
     ensures payloads { IfOk result (λ _. All (IsPayload bytes.now docs) segments.new) }
