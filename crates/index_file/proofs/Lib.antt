@@ -1,7 +1,10 @@
 mod MarkLists
 mod NextTerms
 mod OnePayload
+mod Reading
 mod RowLists
 mod SegmentLists
 mod Sequences
+mod Standing
 mod TermRows
+mod Wholes

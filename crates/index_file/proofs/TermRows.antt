@@ -1,7 +1,8 @@
 -- Rows of terms while the text and the segments grow.
-use Rattle.std.proofs.Common.{◌≡◌, ◌-◌, ◌≤◌, ℕ, suc, map, take, drop, length, arith, List, [], ◌∷◌, ◌++◌, Option, Some, Result, Ok, Err, append_assoc, ap, sym, subst, ◌∙◌, refl}
+use Rattle.std.proofs.Common.{◌≡◌, ◌-◌, ◌≤◌, ℕ, suc, map, take, drop, length, All, arith, List, [], ◌∷◌, ◌++◌, Option, Some, Result, Ok, Err, append_assoc, ap, sym, subst, ◌∙◌, refl}
 use Rattle.std.specs.Prelude.{slice_range}
-use Rattle.std.proofs.lemmas.List.{append-nil, length-append, take_all, drop-append-le, take-append-le, length-drop}
+use Rattle.std.proofs.lemmas.List.{append-nil, map-append, length-append, take_all, drop-append-le, take-append-le, length-drop}
+use Rattle.std.proofs.lemmas.List.Elements.{All-append}
 use Rattle.std.proofs.Math.Seq.{drop-append_seam}
 use Rattle.index_layout.specs.declared.refusal.OpenRefusal.{OpenRefusal}
 use Rattle.index_layout.specs.Heads.{TermHeads}
@@ -12,7 +13,7 @@ use Rattle.index_layout.specs.Reading.{HeadsRead, TermsRead, term_end, term_in, 
 use Rattle.index_file.specs.declared.segment.Segment.{Segment}
 use Rattle.index_file.specs.declared.term_row.TermRow.{TermRow}
 use Rattle.index_file.specs.declared.span.Span.{Span}
-use Rattle.index_file.specs.Payloads.{row_heads}
+use Rattle.index_file.specs.Payloads.{IsCounted, row_heads}
 use Rattle.index_file.specs.Tables.{row_head, part_of, IsSpan, RowsFrom, AreRows}
 
 -- behind terms that were read before
@@ -61,7 +62,7 @@ part_new : (text term : List ℕ) (span : Span) → span.from ≡ length text �
 unfolding part_of
 part_new text term span from to = slice_new text term span.from span.to from to
 
-row_below : (text : List ℕ) (segments : List Segment) (a : TermRow) (rows : List TermRow) → RowsFrom text segments a rows → (a.text ≤ length text) × (a.segment ≤ length segments)
+pub row_below : (text : List ℕ) (segments : List Segment) (a : TermRow) (rows : List TermRow) → RowsFrom text segments a rows → (a.text ≤ length text) × (a.segment ≤ length segments)
 row_below text segments a [] are = (omega (arith, are.0), omega (arith, are.1))
 row_below text segments a (b ∷ rows) are = let later = row_below text segments b rows are.2 in (omega (arith, are.0, later.0), omega (arith, are.1, later.1))
 
@@ -112,3 +113,7 @@ heads_not bytes d total front k left before at place n (faults.Refused refusal) 
     Ok (record { terms = record { term = term_in bytes before at; heads = here.heads } ∷ later.terms; end = later.end })))) (ap (λ n. read_heads bytes d n 65536 place) (sym count) ∙ heads)
 heads_not bytes d total front k left before at place n faults.ReadFault is more end count heads = heads
 heads_not bytes d total front k left before at place n faults.NoMemory is more end count heads = tt
+
+pub counted_on : (bytes : List ℕ) (d : ℕ) (segments added newest : List Segment) → newest ≡ segments ++ added → All (IsCounted d) (map row_head segments) → All (IsCounted d) (map row_head added) → All (IsCounted d) (map row_head newest)
+counted_on bytes d segments added newest more here new =
+    subst (All (IsCounted d)) (sym (ap (map row_head) more ∙ map-append row_head segments added)) (All-append (IsCounted d) (map row_head segments) (map row_head added) here new)

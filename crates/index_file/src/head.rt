@@ -1,6 +1,7 @@
 ghost use Rattle.std.specs.Prelude.{◌≡◌, ◌≤◌, ◌+◌, ◌^◌, length, IfOk};
 ghost use Rattle.index_layout.specs.Reading.{head_end, head_in};
 ghost use Rattle.index_layout.specs.Refusals.{Answers};
+ghost use Rattle.index_file.specs.Payloads.{IsCounted};
 ghost use Rattle.index_file.specs.Tables.{row_head};
 
 use crate::number::{u16_at, u32_at};
@@ -20,6 +21,7 @@ pub(crate) fn read_head(
     requires few { length bytes.now ≤ 2 ^ 32 }
     ensures exact { Answers (λ _. at + 11) result (head_end bytes.now docs above at) }
     ensures head { IfOk result (λ segment. row_head segment ≡ head_in bytes.now at) }
+    ensures counted { IfOk result (λ segment. IsCounted docs (row_head segment)) }
     ensures within { IfOk result (λ _. at + 11 ≤ length bytes.now) }
 {
     if bytes.len() - at < 11 {

@@ -1,6 +1,7 @@
-ghost use Rattle.std.specs.Prelude.{◌≡◌, ◌≤◌, ◌^◌, ◌++◌, length, map, drop, IfOk, OnOk};
+ghost use Rattle.std.specs.Prelude.{◌≡◌, ◌≤◌, ◌^◌, ◌++◌, length, map, drop, All, IfOk, OnOk};
 ghost use Rattle.index_layout.specs.Reading.{read_heads};
 ghost use Rattle.index_layout.specs.Refusals.{Answers};
+ghost use Rattle.index_file.specs.Payloads.{IsCounted};
 ghost use Rattle.index_file.specs.Tables.{row_head};
 
 use crate::head::read_head;
@@ -22,6 +23,7 @@ pub(crate) fn read_heads(
         (λ end. record { heads = map row_head (drop (length segments.old) segments.new); end = end }) result
         (read_heads bytes.now docs count 65536 from) }
     ensures kept { OnOk result (segments.new ≡ segments.old ++ drop (length segments.old) segments.new) }
+    ensures counted { IfOk result (λ _. All (IsCounted docs) (map row_head (drop (length segments.old) segments.new))) }
     ensures end { IfOk result (λ end. end ≤ length bytes.now) }
 {
     let mut at = from;

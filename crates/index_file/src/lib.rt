@@ -2,7 +2,10 @@
 
 //! A file of an index, checked once and then read in place.
 
+mod cursor;
 mod ends;
+mod figures;
+mod file;
 mod following;
 mod front;
 mod head;
@@ -15,7 +18,12 @@ mod payload;
 mod payloads;
 mod segment;
 mod span;
+mod tables;
 mod term;
 mod term_payloads;
 mod term_row;
 mod terms;
+
+pub use cursor::Cursor;
+pub use figures::{CodecUse, Head};
+pub use file::IndexFile;

@@ -1,8 +1,8 @@
-ghost use Rattle.std.specs.Prelude.{◌≡◌, ◌≤◌, ◌+◌, ◌^◌, length, None, IfOk};
+ghost use Rattle.std.specs.Prelude.{◌≡◌, ◌<◌, ◌≤◌, ◌+◌, ◌^◌, length, map, All, None, IfOk};
 ghost use Rattle.index_layout.specs.Reading.{read_terms};
 ghost use Rattle.index_layout.specs.Refusals.{Answers};
-ghost use Rattle.index_file.specs.Payloads.{row_heads};
-ghost use Rattle.index_file.specs.Tables.{AreRows};
+ghost use Rattle.index_file.specs.Payloads.{IsCounted, row_heads};
+ghost use Rattle.index_file.specs.Tables.{AreRows, row_head};
 
 use crate::heads::read_heads;
 use crate::segment::Segment;
@@ -28,6 +28,8 @@ pub(crate) fn read_terms(
         (read_terms bytes.now docs count None from) }
     ensures rows { IfOk result (λ x. AreRows x.0 x.2 x.1) }
     ensures count { IfOk result (λ x. length x.1 ≡ count + 1) }
+    ensures counted { IfOk result (λ x. All (IsCounted docs) (map row_head x.2)) }
+    ensures few { IfOk result (λ x. length x.2 < 2 ^ 32) }
     ensures end { IfOk result (λ x. x.3 ≤ length bytes.now) }
 {
     let mut text = Row::new(alloc);

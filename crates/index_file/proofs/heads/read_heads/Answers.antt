@@ -1,7 +1,9 @@
-use Rattle.std.proofs.Common.{◌≡◌, ◌+◌, ◌-◌, suc, List, map, drop, length, ap, sym, ◌∙◌, arith}
+use Rattle.std.proofs.Common.{◌≡◌, ◌+◌, ◌-◌, suc, List, All, subst, map, drop, length, ap, sym, ◌∙◌, arith}
 use Rattle.index_layout.specs.Heads.{HeadData}
 use Rattle.index_layout.specs.Reading.{read_heads}
+use Rattle.index_file.specs.Payloads.{IsCounted}
 use Rattle.index_file.specs.Tables.{row_head}
+use Rattle.std.proofs.lemmas.List.Elements.{All-push}
 use Rattle.index_file.proofs.Sequences.{with_heads, heads_on, rows_on}
 use Rattle.index_file.proofs.heads.read_heads.Goals as goal
 
@@ -20,5 +22,6 @@ heads-preserved c =
           ∙ ap (λ (front : List HeadData). with_heads front (read_heads bytes d left s.impact (at + 11))) (sym rows.1)
           ∙ ap (λ n. with_heads (map row_head (drop (length before) c.push.new.self)) (read_heads bytes d left n (at + 11))) (sym c.from-above.ensures);
       kept = rows.0;
+      counted = subst (All (IsCounted d)) (sym rows.1) (All-push (IsCounted d) (map row_head (drop (length before) c.heads.segments)) (row_head s) c.heads.invariant.counted c.in-Ok.ensures.counted);
       at = c.in-Ok.ensures.within;
     }

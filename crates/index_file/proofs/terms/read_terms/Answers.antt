@@ -1,4 +1,4 @@
-use Rattle.std.proofs.Common.{◌≡◌, ◌+◌, ◌-◌, suc, List, ◌∷◌, [], None, Some, map, drop, length, ap, sym, subst, ◌∙◌, arith}
+use Rattle.std.proofs.Common.{◌≡◌, ◌+◌, ◌-◌, ◌++◌, suc, List, ◌∷◌, [], None, Some, map, drop, length, ap, sym, subst, ◌∙◌, arith}
 use Rattle.std.proofs.lemmas.List.{length-append}
 use Rattle.index_layout.specs.Heads.{TermHeads}
 use Rattle.index_layout.specs.Reading.{HeadsRead, term_in, read_heads, read_terms}
@@ -6,7 +6,7 @@ use Rattle.index_file.specs.declared.span.Span.{Span}
 use Rattle.index_file.specs.declared.term_row.TermRow.{TermRow}
 use Rattle.index_file.specs.Payloads.{row_heads}
 use Rattle.index_file.specs.Tables.{AreRows, before_in, row_head}
-use Rattle.index_file.proofs.TermRows.{with_terms, terms_on, terms_end, rows_next}
+use Rattle.index_file.proofs.TermRows.{with_terms, terms_on, terms_end, heads_not, counted_on, rows_next}
 use Rattle.index_file.proofs.terms.read_terms.Goals as goal
 
 pub terms-preserved : goal.terms-preserved
@@ -38,8 +38,20 @@ terms-preserved c =
       at = c.in-Ok-read_heads.ensures.end;
       before = next.span_is;
       rows = subst (AreRows newer newest) (sym put) next.are;
+      counted = counted_on bytes d segments added newest c.in-Ok-read_heads.ensures.kept c.terms.invariant.counted c.in-Ok-read_heads.ensures.counted;
+      few = omega (arith, c.len-else-len-gt4294967295.ensures, c.if-len-gt4294967295-2.false);
       count = ap length put ∙ length-append rows (row ∷ []) ∙ ap (λ n. n + 1) c.terms.invariant.count;
     }
 
 pub returns-clause-exact : goal.returns-clause-exact
 returns-clause-exact c = terms_end c.args.bytes.now c.args.docs (read_terms c.args.bytes.now c.args.docs c.args.count None c.args.from) (row_heads c.terms.text c.terms.segments c.terms.rows) (c.args.count - c.terms.counter) (before_in c.terms.text c.terms.before) c.terms.at c.terms.invariant.read (omega arith)
+
+pub returns-in-Err-read_heads-clause-exact : goal.returns-in-Err-read_heads-clause-exact
+returns-in-Err-read_heads-clause-exact c =
+    let bytes = c.args.bytes.now in
+    let d = c.args.docs in
+    let before = before_in c.terms.text c.terms.before in
+    let left = c.args.count - (c.terms.counter + 1) in
+    let more : c.args.count - c.terms.counter ≡ suc left = omega arith in
+    heads_not bytes d (read_terms bytes d c.args.count None c.args.from) (row_heads c.terms.text c.terms.segments c.terms.rows) (c.args.count - c.terms.counter) left before c.terms.at c.in-Ok-read_term.read.0 c.in-Ok-read_term.read.1 c.in-Err-read_heads.fault
+    c.terms.invariant.read more c.in-Ok-read_term.ensures.exact c.in-Ok-read_term.ensures.heads c.in-Err-read_heads.ensures.exact
