@@ -1,7 +1,11 @@
 mod Contents
 mod Halves
+mod MarkLists
 mod NextTerms
+mod OnePayload
 mod Reading
+mod RowLists
+mod SegmentLists
 mod Sequences
 mod Standing
 mod TermRows

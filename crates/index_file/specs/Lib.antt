@@ -1,5 +1,6 @@
 pub mod Tables
 pub mod Payloads
+pub mod Marks
 pub mod Opened
 pub mod Places
 pub mod Giving

@@ -68,6 +68,7 @@ fn place_segments(
     requires few { length bytes.now ≤ 2 ^ 32 }
     requires docs { docs ≤ 2 ^ 26 }
     requires rows { (text : List ℕ) × AreRows text heads rows.now }
+    requires terms { length rows.now ≤ 2 ^ 32 }
     requires counted { All (IsCounted docs) (map row_head heads) }
     ensures exact { (text : List ℕ) → Answers
         (λ x. record { terms = row_terms bytes.now docs text x.0 rows.now; end = x.1 }) result
