@@ -30,3 +30,6 @@ pub use cursor::Cursor;
 pub use figures::{CodecUse, Head};
 pub use file::IndexFile;
 pub use opening::open;
+
+#[cfg(test)]
+mod tests;
