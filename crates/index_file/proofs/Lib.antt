@@ -7,6 +7,7 @@ mod Reading
 mod RowLists
 mod SegmentLists
 mod Sequences
+mod Singles
 mod Standing
 mod TermRows
 mod Wholes

@@ -19,7 +19,8 @@ use crate::span::{Span, part};
 use crate::tables::read_tables;
 use crate::term_row::TermRow;
 use index_layout::OpenFault;
-use jass_base::{Names, Row, Steps, Totals};
+use jass_base::laws::gap_varints_are_read;
+use jass_base::{Names, Row, Steps, Totals, known_gap};
 use segment_codecs::{Codec, SegmentCursor};
 use std::alloc::Global;
 use std::marker::Model;
@@ -177,10 +178,10 @@ impl IndexFile {
         ensures impact { result.impact ≡ (segment_at self.now.index.terms t s).impact }
         ensures count { result.count ≡ length (segment_at self.now.index.terms t s).docs }
     {
-        let segment = self.segment(t, s);
+        let row = self.segment(t, s);
         Head {
-            impact: segment.impact,
-            count: segment.count,
+            impact: row.impact,
+            count: row.count,
         }
     }
 
@@ -223,6 +224,26 @@ impl IndexFile {
 
     /// The document of a segment that has one.
     pub fn first_doc<L: Ledger>(&self, t: u32, s: u32, steps: &mut Steps<L>) -> u32
+        requires t { t < length self.now.index.terms }
+        requires s { s < length (segments_at self.now.index.terms t) }
+        requires one { length (segment_at self.now.index.terms t s).docs ≡ 1 }
+        ensures doc { (segment_at self.now.index.terms t s).docs ≡ result ∷ [] }
+        ensures steps { steps.new ≡ steps.old + 1 }
+    {
+        self.is_checked();
+        gap_varints_are_read();
+        let found = self.segment(t, s);
+        match found.codec {
+            Codec::Varbyte => {
+                steps.add(1);
+                known_gap(self.bytes.as_slice(), found.place as usize).0
+            }
+            _ => self.first_of_block(t, s, steps),
+        }
+    }
+
+    /// The same in any codec.
+    fn first_of_block<L: Ledger>(&self, t: u32, s: u32, steps: &mut Steps<L>) -> u32
         requires t { t < length self.now.index.terms }
         requires s { s < length (segments_at self.now.index.terms t) }
         requires one { length (segment_at self.now.index.terms t s).docs ≡ 1 }
