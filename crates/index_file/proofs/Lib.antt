@@ -1,0 +1,13 @@
+mod Contents
+mod Halves
+mod MarkLists
+mod NextTerms
+mod OnePayload
+mod Reading
+mod RowLists
+mod SegmentLists
+mod Sequences
+mod Singles
+mod Standing
+mod TermRows
+mod Wholes

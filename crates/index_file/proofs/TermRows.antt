@@ -1,0 +1,119 @@
+-- Rows of terms while the text and the segments grow.
+use Rattle.std.proofs.Common.{◌≡◌, ◌-◌, ◌≤◌, ℕ, suc, map, take, drop, length, All, arith, List, [], ◌∷◌, ◌++◌, Option, Some, Result, Ok, Err, append_assoc, ap, sym, subst, ◌∙◌, refl}
+use Rattle.std.specs.Prelude.{slice_range}
+use Rattle.std.proofs.lemmas.List.{append-nil, map-append, length-append, take_all, drop-append-le, take-append-le, length-drop}
+use Rattle.std.proofs.lemmas.List.Elements.{All-append}
+use Rattle.std.proofs.Math.Seq.{drop-append_seam}
+use Rattle.index_layout.specs.declared.refusal.OpenRefusal.{OpenRefusal}
+use Rattle.index_layout.specs.Heads.{TermHeads}
+use Rattle.index_layout.specs.Refusals.{◌>>=◌, Fails}
+use Rattle.index_layout.specs.declared.refusal.OpenFault.{OpenFault}
+use Rattle.index_layout.specs.declared.refusal.OpenFault.TheVariants as faults
+use Rattle.index_layout.specs.Reading.{HeadsRead, TermsRead, term_end, term_in, heads_in, read_heads, read_terms}
+use Rattle.index_file.specs.declared.segment.Segment.{Segment}
+use Rattle.index_file.specs.declared.term_row.TermRow.{TermRow}
+use Rattle.index_file.specs.declared.span.Span.{Span}
+use Rattle.index_file.specs.Payloads.{IsCounted, row_heads}
+use Rattle.index_file.specs.Tables.{row_head, part_of, IsSpan, RowsFrom, AreRows}
+
+-- behind terms that were read before
+abbrev pub with_terms : List TermHeads → Result TermsRead OpenRefusal → Result TermsRead OpenRefusal
+with_terms front read = read >>= λ x. Ok (record { terms = front ++ x.terms; end = x.end })
+
+pub no_terms : (read : Result TermsRead OpenRefusal) → read ≡ with_terms [] read
+no_terms (Ok x) = refl
+no_terms (Err e) = refl
+
+behind_terms : (front : List TermHeads) (t : TermHeads) (read : Result TermsRead OpenRefusal) → with_terms front (read >>= λ later. Ok (record { terms = t ∷ later.terms; end = later.end })) ≡ with_terms (front ++ t ∷ []) read
+behind_terms front t (Ok x) = ap (λ (terms : List TermHeads). (let r : Result TermsRead OpenRefusal = Ok (record { terms = terms; end = x.end }) in r)) (sym (append_assoc front (t ∷ []) x.terms))
+behind_terms front t (Err e) = refl
+
+-- one term more
+pub terms_on : (bytes : List ℕ) (d : ℕ) (total : Result TermsRead OpenRefusal) (front : List TermHeads) (k left : ℕ) (before : Option (List ℕ)) (at place : ℕ) (here : HeadsRead) → total ≡ with_terms front (read_terms bytes d k before at) → k ≡ suc left → term_end bytes before at ≡ Ok place
+    → read_heads bytes d (heads_in bytes at) 65536 place ≡ Ok here
+    → total ≡ with_terms (front ++ record { term = term_in bytes before at; heads = here.heads } ∷ []) (read_terms bytes d left (Some (term_in bytes before at)) here.end)
+terms_on bytes d total front k left before at place here is more end heads =
+    is ∙ ap (λ n. with_terms front (read_terms bytes d n before at)) more
+    ∙ ap (λ (e : Result ℕ OpenRefusal). with_terms front (e >>= λ place. (read_heads bytes d (heads_in bytes at) 65536 place >>= λ here. (read_terms bytes d left (Some (term_in bytes before at)) here.end >>= λ later.
+    Ok (record { terms = record { term = term_in bytes before at; heads = here.heads } ∷ later.terms; end = later.end }))))) end
+    ∙ ap (λ (e : Result HeadsRead OpenRefusal). with_terms front (e >>= λ here. (read_terms bytes d left (Some (term_in bytes before at)) here.end >>= λ later.
+    Ok (record { terms = record { term = term_in bytes before at; heads = here.heads } ∷ later.terms; end = later.end })))) heads
+    ∙ behind_terms front (record { term = term_in bytes before at; heads = here.heads }) (read_terms bytes d left (Some (term_in bytes before at)) here.end)
+
+-- no term more
+pub terms_end : (bytes : List ℕ) (d : ℕ) (total : Result TermsRead OpenRefusal) (front : List TermHeads) (k : ℕ) (before : Option (List ℕ)) (at : ℕ) → total ≡ with_terms front (read_terms bytes d k before at) → k ≡ 0 → total ≡ Ok (record { terms = front; end = at })
+terms_end bytes d total front k before at is none =
+    is ∙ ap (λ n. with_terms front (read_terms bytes d n before at)) none
+    ∙ ap (λ (terms : List TermHeads). (let r : Result TermsRead OpenRefusal = Ok (record { terms = terms; end = at }) in r)) (append-nil front)
+
+-- parts stay where more is appended
+slice_stays : {X : Type 0} (xs more : List X) (from to : ℕ) → from ≤ to → to ≤ length xs → slice_range (xs ++ more) from to ≡ slice_range xs from to
+slice_stays xs more from to order within =
+    ap (take (to - from)) (drop-append-le from xs more (omega (arith, order, within)))
+    ∙ take-append-le (to - from) (drop from xs) more (let l = length-drop from xs in omega (arith, l, order, within))
+
+slice_new : {X : Type 0} (xs more : List X) (from to : ℕ) → from ≡ length xs → to ≡ length (xs ++ more) → slice_range (xs ++ more) from to ≡ more
+slice_new xs more from to first last =
+    let l = length-append xs more in
+    let size : to - from ≡ length more = omega (arith, l, first, last) in
+    ap (λ n. take n (drop from (xs ++ more))) size ∙ ap (λ n. take (length more) (drop n (xs ++ more))) first ∙ ap (take (length more)) (drop-append_seam xs more) ∙ take_all (length more) more (omega arith)
+
+part_new : (text term : List ℕ) (span : Span) → span.from ≡ length text → span.to ≡ length (text ++ term) → part_of (text ++ term) span ≡ term
+unfolding part_of
+part_new text term span from to = slice_new text term span.from span.to from to
+
+pub row_below : (text : List ℕ) (segments : List Segment) (a : TermRow) (rows : List TermRow) → RowsFrom text segments a rows → (a.text ≤ length text) × (a.segment ≤ length segments)
+row_below text segments a [] are = (omega (arith, are.0), omega (arith, are.1))
+row_below text segments a (b ∷ rows) are = let later = row_below text segments b rows are.2 in (omega (arith, are.0, later.0), omega (arith, are.1, later.1))
+
+module _ (text term : List ℕ) (segments added : List Segment) (row : TermRow) (at_text : row.text ≡ length (text ++ term)) (at_segment : row.segment ≡ length (segments ++ added)) where
+  heads_push : (a : TermRow) (rows : List TermRow) → RowsFrom text segments a rows
+      → row_heads (text ++ term) (segments ++ added) (a ∷ (rows ++ row ∷ [])) ≡ row_heads text segments (a ∷ rows) ++ record { term = term; heads = map row_head added } ∷ []
+  heads_push a [] are = rw (slice_new text term a.text row.text are.0 at_text, slice_new segments added a.segment row.segment are.1 at_segment) refl
+  heads_push a (b ∷ rows) are =
+      let later = row_below text segments b rows are.2 in
+      rw (slice_stays text term a.text b.text are.0 later.0, slice_stays segments added a.segment b.segment are.1 later.1, heads_push b rows are.2) refl
+
+  rows_push : (a : TermRow) (rows : List TermRow) → RowsFrom text segments a rows → RowsFrom (text ++ term) (segments ++ added) a (rows ++ row ∷ [])
+  rows_push a [] are = (let l = length-append text term in omega (arith, l, are.0, at_text), (let m = length-append segments added in omega (arith, m, are.1, at_segment)), (at_text, at_segment))
+  rows_push a (b ∷ rows) are = (are.0, are.1, rows_push b rows are.2)
+
+pub record RowsThere (text : List ℕ) (segments : List Segment) (rows : List TermRow) (terms : List TermHeads) (span : Span) (term : List ℕ) : Type 0 where
+  pub terms_are : row_heads text segments rows ≡ terms
+  pub are : AreRows text segments rows
+  pub span_is : IsSpan text span
+  pub part : part_of text span ≡ term
+
+pub rows_next : (text term newer : List ℕ) (segments added newest : List Segment) (rows : List TermRow) (row : TermRow) (span : Span) → newer ≡ text ++ term → newest ≡ segments ++ added → AreRows text segments rows
+    → row.text ≡ length newer → row.segment ≡ length newest → span.from ≡ length text → span.to ≡ length newer
+    → RowsThere newer newest (rows ++ row ∷ []) (row_heads text segments rows ++ record { term = term; heads = map row_head added } ∷ []) span term
+rows_next text term newer segments added newest [] row span grown more are at_text at_segment from to = absurd are
+rows_next text term newer segments added newest (a ∷ rows) row span grown more are at_text at_segment from to =
+    let l = length-append text term in
+    let text_is : row.text ≡ length (text ++ term) = at_text ∙ ap length grown in
+    let segment_is : row.segment ≡ length (segments ++ added) = at_segment ∙ ap length more in
+    let to_is : span.to ≡ length (text ++ term) = to ∙ ap length grown in
+    let there : RowsThere (text ++ term) (segments ++ added) (a ∷ (rows ++ row ∷ [])) (row_heads text segments (a ∷ rows) ++ record { term = term; heads = map row_head added } ∷ []) span term = record {
+      terms_are = heads_push text term segments added row text_is segment_is a rows are.2;
+      are = (are.0, are.1, rows_push text term segments added row text_is segment_is a rows are.2);
+      span_is = (omega (arith, from, to_is, l), omega (arith, to_is));
+      part = part_new text term span from to_is;
+    } in
+    subst (λ t. RowsThere t newest (a ∷ (rows ++ row ∷ [])) (row_heads text segments (a ∷ rows) ++ record { term = term; heads = map row_head added } ∷ []) span term) (sym grown)
+    (subst (λ s. RowsThere (text ++ term) s (a ∷ (rows ++ row ∷ [])) (row_heads text segments (a ∷ rows) ++ record { term = term; heads = map row_head added } ∷ []) span term) (sym more) there)
+
+pub heads_not : (bytes : List ℕ) (d : ℕ) (total : Result TermsRead OpenRefusal) (front : List TermHeads) (k left : ℕ) (before : Option (List ℕ)) (at place n : ℕ) (fault : OpenFault) → total ≡ with_terms front (read_terms bytes d k before at)
+    → k ≡ suc left → term_end bytes before at ≡ Ok place → n ≡ heads_in bytes at
+    → Fails fault (read_heads bytes d n 65536 place) → Fails fault total
+heads_not bytes d total front k left before at place n (faults.Refused refusal) is more end count heads =
+    is ∙ ap (λ n. with_terms front (read_terms bytes d n before at)) more
+    ∙ ap (λ (e : Result ℕ OpenRefusal). with_terms front (e >>= λ place. (read_heads bytes d (heads_in bytes at) 65536 place >>= λ here. (read_terms bytes d left (Some (term_in bytes before at)) here.end >>= λ later.
+    Ok (record { terms = record { term = term_in bytes before at; heads = here.heads } ∷ later.terms; end = later.end }))))) end
+    ∙ ap (λ (e : Result HeadsRead OpenRefusal). with_terms front (e >>= λ here. (read_terms bytes d left (Some (term_in bytes before at)) here.end >>= λ later.
+    Ok (record { terms = record { term = term_in bytes before at; heads = here.heads } ∷ later.terms; end = later.end })))) (ap (λ n. read_heads bytes d n 65536 place) (sym count) ∙ heads)
+heads_not bytes d total front k left before at place n faults.ReadFault is more end count heads = heads
+heads_not bytes d total front k left before at place n faults.NoMemory is more end count heads = tt
+
+pub counted_on : (bytes : List ℕ) (d : ℕ) (segments added newest : List Segment) → newest ≡ segments ++ added → All (IsCounted d) (map row_head segments) → All (IsCounted d) (map row_head added) → All (IsCounted d) (map row_head newest)
+counted_on bytes d segments added newest more here new =
+    subst (All (IsCounted d)) (sym (ap (map row_head) more ∙ map-append row_head segments added)) (All-append (IsCounted d) (map row_head segments) (map row_head added) here new)

@@ -1,0 +1,20 @@
+use Rattle.std.proofs.Common.{rules, arith, subst, sym, ap, ◌∙◌, ◌<◌, ◌≡◌, ◌+◌, ◌≤◌, ℕ, List, Some, length, slice_get, slice_index}
+use Rattle.index_layout.specs.View.{FileView}
+use Rattle.index_file.specs.Opened.{view_of}
+use Rattle.index_layout.specs.Reading.{name_in}
+use Rattle.index_file.proofs.Standing.{name_there, name_text}
+use Rattle.index_file.proofs.file.IndexFile.name.Goals as goal
+
+pub from_utf8_unchecked-requires : goal.from_utf8_unchecked-requires
+unfolding name_in
+from_utf8_unchecked-requires c =
+    let f = c.self.inside in
+    let below = subst (λ (v : FileView). c.args.doc < length v.index.names) (sym c.self.view_is) c.requires in
+    rw (c.u32_at-size.ensures, c.as_slice-bytes.ensures, c.as_slice.ensures) (name_text f.bytes f.places f.text f.rows f.segments (view_of f.bytes) c.self.invariant c.args.doc below)
+
+pub returns : goal.returns
+unfolding name_in
+returns c =
+    let f = c.self.inside in
+    let below = subst (λ (v : FileView). c.args.doc < length v.index.names) (sym c.self.view_is) c.requires in
+    rw (c.from_utf8_unchecked.ensures, c.u32_at-size.ensures, c.as_slice-bytes.ensures, c.as_slice.ensures, ← c.self.view_is) (name_there f.bytes f.places f.text f.rows f.segments (view_of f.bytes) c.self.invariant c.args.doc below)

@@ -1,0 +1,12 @@
+use Rattle.std.proofs.Common.{rules, arith, subst, sym, ap, ◌∙◌, ◌<◌, ◌≡◌, ◌+◌, ◌≤◌, ℕ, List, Some, length, slice_get, slice_index}
+use Rattle.index_layout.specs.View.{FileView}
+use Rattle.index_file.specs.Opened.{view_of}
+use Rattle.index_file.proofs.Standing.{greatest_small}
+use Rattle.index_file.proofs.file.IndexFile.totals.Goals as goal
+
+pub overflow_cast-result : goal.overflow_cast-result
+overflow_cast-result c =
+    let f = c.self.inside in
+    let small = greatest_small (view_of f.bytes) c.self.invariant.view in
+    let e = c.self.invariant.greatest in
+    rw (c.u32_at.ensures, c.as_slice-bytes.ensures) (omega (arith, e, small))

@@ -1,0 +1,34 @@
+-- Terms and segments by their numbers, and how many segments are in each codec.
+use Rattle.std.specs.Prelude.{ℕ, ◌==◌, List, [], length, map}
+use Rattle.std.specs.List.{filter, flat_map, slice_index_or}
+use Rattle.segment_codecs.specs.Codecs.{codec_number}
+use Rattle.segment_codecs.specs.declared.codec.Codec.{Codec}
+use Rattle.segment_codecs.specs.declared.codec.Codec.TheVariants.{Varbyte, Packed, Bitmap, Simple8}
+use Rattle.index_model.specs.Index.{SegmentData, TermData}
+use Rattle.index_model.specs.Querying.{segments_at}
+use Rattle.index_file.specs.declared.figures.CodecUse.{CodecUse}
+
+-- the bytes of the term with a number
+abbrev pub term_at : List TermData → ℕ → List ℕ
+term_at terms number = (slice_index_or terms number (record { term = []; segments = [] })).term
+
+-- the bytes of all terms
+abbrev pub texts_of : List TermData → List (List ℕ)
+texts_of terms = map (λ (t : TermData). t.term) terms
+
+-- a segment of the term with a number
+abbrev pub segment_at : List TermData → ℕ → ℕ → SegmentData
+segment_at terms number place = slice_index_or (segments_at terms number) place (record { impact = 0; docs = [] })
+
+-- how many of some codecs are this one
+abbrev pub uses_of : Codec → List Codec → ℕ
+uses_of codec codecs = length (filter (λ (c : Codec). codec_number c == codec_number codec) codecs)
+
+-- how many segments are in each codec, where the codecs stand term by term
+abbrev pub codec_use : List (List Codec) → CodecUse
+codec_use codecs = record {
+  varbyte = uses_of Varbyte (flat_map (λ (here : List Codec). here) codecs);
+  packed = uses_of Packed (flat_map (λ (here : List Codec). here) codecs);
+  bitmap = uses_of Bitmap (flat_map (λ (here : List Codec). here) codecs);
+  simple8 = uses_of Simple8 (flat_map (λ (here : List Codec). here) codecs);
+}

@@ -1,0 +1,283 @@
+ghost use Rattle.std.specs.Prelude.{ℕ, ◌≡◌, ◌+◌, ◌≤◌, ◌<◌, ◌↔◌, List, [], ◌∷◌, Some, length, map, take, drop, slice_get, slice_range, IfOk};
+ghost use Rattle.std.specs.Str.{IsUtf8};
+ghost use Rattle.jass_base.specs.Gaps.{AreDocs};
+ghost use Rattle.segment_codecs.specs.Codecs.{payload_of};
+ghost use Rattle.index_model.specs.Index.{TermData};
+ghost use Rattle.index_model.specs.Querying.{segments_at};
+ghost use Rattle.index_layout.specs.Reading.{read_index};
+ghost use Rattle.index_layout.specs.Refusals.{Answers};
+ghost use Rattle.index_layout.specs.Totals.{totals_of};
+ghost use Rattle.index_layout.specs.View.{FileView, IsFileView, file_bytes};
+ghost use Rattle.index_file.specs.Giving.{Gives};
+ghost use Rattle.index_file.specs.Places.{codec_use, segment_at, term_at, uses_of};
+
+use crate::cursor::Cursor;
+use crate::figures::{CodecUse, Head};
+use crate::number::{u32_at, u64_at};
+use crate::segment::Segment;
+use crate::span::{Span, part};
+use crate::tables::read_tables;
+use crate::term_row::TermRow;
+use index_layout::OpenFault;
+use jass_base::laws::gap_varints_are_read;
+use jass_base::{Names, Row, Steps, Totals, known_gap};
+use segment_codecs::{Codec, SegmentCursor};
+use std::alloc::Global;
+use std::marker::Model;
+use std::sync::ledger::Ledger;
+
+/// A checked index file. Contracts see it as its view.
+#[derive(Drop)]
+pub struct IndexFile {
+    bytes: Row<u8>,
+    places: Row<u32>,
+    text: Row<u8>,
+    rows: Row<TermRow>,
+    segments: Row<Segment>,
+}
+
+impl Model for IndexFile {
+    ghost use Rattle.index_file.specs.Opened.{Stands, view_of};
+    ghost use Rattle.index_layout.specs.View.{FileView};
+
+    ghost Value = { FileView };
+
+    ghost view = { λ f. view_of f.bytes };
+
+    ghost invariant = { λ f. Stands f.bytes f.places f.text f.rows f.segments (view_of f.bytes) };
+}
+
+impl IndexFile {
+    /// The file of the bytes, or the first refusal.
+    pub fn from_bytes(alloc: Global, bytes: Row<u8>) -> Result<IndexFile, OpenFault>
+        ensures exact { Answers (λ file. file) result (read_index bytes) }
+        ensures accepted { IfOk result (λ file. (bytes ≡ file_bytes file) × IsFileView file) }
+    {
+        match read_tables(alloc, bytes.as_slice()) {
+            Ok((places, text, rows, segments)) => Ok(IndexFile {
+                bytes,
+                places,
+                text,
+                rows,
+                segments,
+            }),
+            Err(fault) => Err(fault),
+        }
+    }
+
+    /// What was checked when the file was opened: a caller learns it by the call.
+    pub fn is_checked(&self)
+        ensures { IsFileView self.now }
+    {
+        let _ = &self.bytes;
+    }
+
+    /// The numbers of documents, terms and postings, and the greatest impact.
+    pub fn totals(&self) -> Totals
+        ensures { result ≡ totals_of self.now.index }
+    {
+        let bytes = self.bytes.as_slice();
+        Totals {
+            docs: self.docs(),
+            terms: self.terms(),
+            postings: u64_at(bytes, 24),
+            greatest: u32_at(bytes, 32) as u16,
+        }
+    }
+
+    /// How many segments are in each codec.
+    pub fn codecs(&self) -> CodecUse
+        ensures { result ≡ codec_use self.now.codecs }
+    {
+        let segments = self.segments.as_slice();
+        CodecUse {
+            varbyte: uses_of(segments, Codec::Varbyte),
+            packed: uses_of(segments, Codec::Packed),
+            bitmap: uses_of(segments, Codec::Bitmap),
+            simple8: uses_of(segments, Codec::Simple8),
+        }
+    }
+
+    /// The number of documents.
+    pub fn docs(&self) -> u32
+        ensures { result ≡ length self.now.index.names }
+    {
+        self.places.len() as u32
+    }
+
+    /// The number of terms.
+    pub fn terms(&self) -> u32
+        ensures { result ≡ length self.now.index.terms }
+    {
+        (self.rows.len() - 1) as u32
+    }
+
+    /// The name of a document.
+    pub fn name(&self, doc: u32) -> &str
+        requires { doc < length self.now.index.names }
+        ensures { slice_get self.now.index.names doc ≡ Some result.now }
+    {
+        let bytes = self.bytes.as_slice();
+        let at = self.places.as_slice()[doc as usize] as usize;
+        let size = u32_at(bytes, at) as usize;
+        unsafe { std::str::from_utf8_unchecked(&bytes[at + 4..at + 4 + size]) }
+    }
+
+    /// A term by its number.
+    pub fn term(&self, t: u32) -> &str
+        requires { t < length self.now.index.terms }
+        ensures { result.now ≡ term_at self.now.index.terms t }
+    {
+        unsafe { std::str::from_utf8_unchecked(self.term_bytes(t)) }
+    }
+
+    /// The bytes of a term.
+    fn term_bytes(&self, t: u32) -> &[u8]
+        requires { t < length self.now.index.terms }
+        ensures term { result.now ≡ term_at self.now.index.terms t }
+        ensures text { IsUtf8 result.now }
+    {
+        let rows = self.rows.as_slice();
+        let span = Span {
+            from: rows[t as usize].text,
+            to: rows[t as usize + 1].text,
+        };
+        part(self.text.as_slice(), span)
+    }
+
+    /// How many segments a term has; 0 where there is no such term.
+    pub fn segments(&self, t: u32) -> u32
+        ensures { result ≡ length (segments_at self.now.index.terms t) }
+    {
+        if t >= self.terms() {
+            return 0;
+        }
+        let rows = self.rows.as_slice();
+        rows[t as usize + 1].segment - rows[t as usize].segment
+    }
+
+    /// The row of a segment of a term.
+    fn segment(&self, t: u32, s: u32) -> Segment
+        requires t { t < length self.now.index.terms }
+        requires s { s < length (segments_at self.now.index.terms t) }
+        ensures impact { result.impact ≡ (segment_at self.now.index.terms t s).impact }
+        ensures count { result.count ≡ length (segment_at self.now.index.terms t s).docs }
+        ensures within { result.place + result.size ≤ length (file_bytes self.now) }
+        ensures docs { AreDocs (length self.now.index.names) (segment_at self.now.index.terms t s).docs }
+        ensures payload { slice_range (file_bytes self.now) result.place (result.place + result.size)
+            ≡ payload_of result.codec (length self.now.index.names) (segment_at self.now.index.terms t s).docs }
+    {
+        let first = self.rows.as_slice()[t as usize].segment;
+        self.segments.as_slice()[first as usize + s as usize]
+    }
+
+    /// The head of a segment of a term.
+    pub fn head(&self, t: u32, s: u32) -> Head
+        requires t { t < length self.now.index.terms }
+        requires s { s < length (segments_at self.now.index.terms t) }
+        ensures impact { result.impact ≡ (segment_at self.now.index.terms t s).impact }
+        ensures count { result.count ≡ length (segment_at self.now.index.terms t s).docs }
+    {
+        let row = self.segment(t, s);
+        Head {
+            impact: row.impact,
+            count: row.count,
+        }
+    }
+
+    /// A cursor at the first document of a segment.
+    pub fn cursor(&self, t: u32, s: u32) -> Cursor
+        requires t { t < length self.now.index.terms }
+        requires s { s < length (segments_at self.now.index.terms t) }
+        ensures { Gives self.now result (segment_at self.now.index.terms t s).docs }
+    {
+        let segment = self.segment(t, s);
+        Cursor {
+            segment: SegmentCursor::new(segment.codec, segment.count, self.docs()),
+            from: segment.place,
+            size: segment.size,
+        }
+    }
+
+    /// Writes the next documents to the front of `out`, and returns how many: 1 to 128, or 0 at the
+    /// end. What stands behind them in `out` is left open.
+    pub fn next_block<L: Ledger>(
+        &self,
+        cursor: &mut Cursor,
+        out: &mut [u32; 128],
+        steps: &mut Steps<L>,
+    ) -> usize
+        requires stands { (docs : List ℕ) × Gives self.now cursor.old docs }
+        ensures most { result ≤ 128 }
+        ensures block { (docs : List ℕ) → Gives self.now cursor.old docs → take result out.new ≡ take result docs }
+        ensures rest { (docs : List ℕ) → Gives self.now cursor.old docs → Gives self.now cursor.new (drop result docs) }
+        ensures end { (docs : List ℕ) → Gives self.now cursor.old docs → (result ≡ 0 ↔ docs ≡ []) }
+        ensures steps { steps.new ≡ steps.old + result }
+    {
+        let bytes = self.bytes.as_slice();
+        let from = cursor.from as usize;
+        let payload = &bytes[from..from + cursor.size as usize];
+        let given = cursor.segment.next_block(payload, out);
+        steps.add(given as u64);
+        given
+    }
+
+    /// The document of a segment that has one.
+    pub fn first_doc<L: Ledger>(&self, t: u32, s: u32, steps: &mut Steps<L>) -> u32
+        requires t { t < length self.now.index.terms }
+        requires s { s < length (segments_at self.now.index.terms t) }
+        requires one { length (segment_at self.now.index.terms t s).docs ≡ 1 }
+        ensures doc { (segment_at self.now.index.terms t s).docs ≡ result ∷ [] }
+        ensures steps { steps.new ≡ steps.old + 1 }
+    {
+        self.is_checked();
+        gap_varints_are_read();
+        let found = self.segment(t, s);
+        match found.codec {
+            Codec::Varbyte => {
+                steps.add(1);
+                known_gap(self.bytes.as_slice(), found.place as usize).0
+            }
+            _ => self.first_of_block(t, s, steps),
+        }
+    }
+
+    /// The same in any codec.
+    fn first_of_block<L: Ledger>(&self, t: u32, s: u32, steps: &mut Steps<L>) -> u32
+        requires t { t < length self.now.index.terms }
+        requires s { s < length (segments_at self.now.index.terms t) }
+        requires one { length (segment_at self.now.index.terms t s).docs ≡ 1 }
+        ensures doc { (segment_at self.now.index.terms t s).docs ≡ result ∷ [] }
+        ensures steps { steps.new ≡ steps.old + 1 }
+    {
+        let mut cursor = self.cursor(t, s);
+        let mut block = [0u32; 128];
+        self.next_block(&mut cursor, &mut block, steps);
+        block[0]
+    }
+}
+
+/// How many segments are in a codec.
+fn uses_of(segments: &[Segment], codec: Codec) -> u64
+    ensures { result ≡ uses_of codec (map (λ (s : Segment). s.codec) segments.now) }
+{
+    let mut count = 0;
+    'segments: for segment in segments {
+        if segment.codec == codec {
+            count += 1;
+        }
+    }
+    count
+}
+
+impl Names for IndexFile {
+    ghost names = { λ file. file.index.names };
+
+    fn docs(&self) -> u32 {
+        self.docs()
+    }
+
+    fn name(&self, doc: u32) -> &str {
+        self.name(doc)
+    }
+}

@@ -1,0 +1,55 @@
+ghost use Rattle.std.specs.Prelude.{◌≡◌, ◌≤◌, ◌<◌, All, false, length};
+ghost use Rattle.index_layout.specs.Reading.{docs_in};
+ghost use Rattle.index_file.specs.Marks.{marked, meets_marked};
+ghost use Rattle.index_file.specs.Payloads.{IsPayload};
+ghost use Rattle.index_file.specs.Tables.{row_head};
+
+use crate::segment::Segment;
+use segment_codecs::SegmentCursor;
+
+/// Marks the documents of a payload in turn, up to the first that has the mark already, and tells
+/// whether there is one.
+pub(crate) fn mark_payload(
+    marks: &mut [u32],
+    now: u32,
+    bytes: &[u8],
+    docs: u32,
+    segment: Segment,
+) -> bool
+    requires payload { IsPayload bytes.now docs segment }
+    requires marks { docs ≤ length marks.old }
+    ensures met { result ≡ meets_marked now (docs_in bytes.now docs (row_head segment) segment.place) marks.old }
+    ensures marks { result ≡ false
+        → marks.new ≡ marked now (docs_in bytes.now docs (row_head segment) segment.place) marks.old }
+{
+    let from = segment.place as usize;
+    let payload = &bytes[from..from + segment.size as usize];
+    let mut cursor = SegmentCursor::new(segment.codec, segment.count, docs);
+    let mut block = [0u32; 128];
+    let mut left = segment.count as usize;
+    'parts: while left > 0 {
+        let given = cursor.next_block(payload, &mut block);
+        if mark_docs(marks, now, &block[..given]) {
+            return true;
+        }
+        left -= given;
+    }
+    false
+}
+
+/// The same for documents in a row.
+fn mark_docs(marks: &mut [u32], now: u32, docs: &[u32]) -> bool
+    requires { All (λ doc. doc < length marks.old) docs.now }
+    ensures met { result ≡ meets_marked now docs.now marks.old }
+    ensures marks { result ≡ false → marks.new ≡ marked now docs.now marks.old }
+    ensures count { length marks.new ≡ length marks.old }
+{
+    'docs: for doc in docs {
+        let at = *doc as usize;
+        if marks[at] == now {
+            return true;
+        }
+        marks[at] = now;
+    }
+    false
+}

@@ -1,0 +1,73 @@
+ghost use Rattle.std.specs.Prelude.{◌≡◌, ◌<◌, ◌≤◌, ◌+◌, ◌^◌, length, map, All, None, IfOk};
+ghost use Rattle.index_layout.specs.Reading.{read_terms};
+ghost use Rattle.index_layout.specs.Refusals.{Answers};
+ghost use Rattle.index_file.specs.Payloads.{IsCounted, row_heads};
+ghost use Rattle.index_file.specs.Tables.{AreRows, row_head};
+
+use crate::heads::read_heads;
+use crate::segment::Segment;
+use crate::span::Span;
+use crate::term::read_term;
+use crate::term_row::TermRow;
+use index_layout::OpenFault;
+use jass_base::Row;
+use std::alloc::Global;
+
+/// The text of so many terms, their rows and the heads of their segments, and the place behind the
+/// last. The text and the segments have fewer than 2^32 entries; a file with more wants memory.
+pub(crate) fn read_terms(
+    alloc: Global,
+    bytes: &[u8],
+    docs: u32,
+    count: u32,
+    from: usize,
+) -> Result<(Row<u8>, Row<TermRow>, Row<Segment>, usize), OpenFault>
+    requires from { from ≤ length bytes.now }
+    requires few { length bytes.now ≤ 2 ^ 32 }
+    ensures exact { Answers (λ x. record { terms = row_heads x.0 x.2 x.1; end = x.3 }) result
+        (read_terms bytes.now docs count None from) }
+    ensures rows { IfOk result (λ x. AreRows x.0 x.2 x.1) }
+    ensures count { IfOk result (λ x. length x.1 ≡ count + 1) }
+    ensures counted { IfOk result (λ x. All (IsCounted docs) (map row_head x.2)) }
+    ensures few { IfOk result (λ x. length x.2 < 2 ^ 32) }
+    ensures end { IfOk result (λ x. x.3 ≤ length bytes.now) }
+{
+    let mut text = Row::new(alloc);
+    let mut rows = Row::new(alloc);
+    let mut segments = Row::new(alloc);
+    match rows.push(TermRow {
+        text: 0,
+        segment: 0,
+    }) {
+        Ok(()) => {}
+        Err(_) => return Err(OpenFault::NoMemory),
+    }
+    let mut before: Option<Span> = None;
+    let mut at = from;
+    'terms: for _ in 0..count {
+        let start = text.len();
+        let (place, heads) = match read_term(&mut text, before, bytes, at) {
+            Ok(read) => read,
+            Err(fault) => return Err(fault),
+        };
+        at = match read_heads(&mut segments, bytes, docs, heads, place) {
+            Ok(end) => end,
+            Err(fault) => return Err(fault),
+        };
+        if text.len() > 0xffff_ffff || segments.len() > 0xffff_ffff {
+            return Err(OpenFault::NoMemory);
+        }
+        match rows.push(TermRow {
+            text: text.len() as u32,
+            segment: segments.len() as u32,
+        }) {
+            Ok(()) => {}
+            Err(_) => return Err(OpenFault::NoMemory),
+        }
+        before = Some(Span {
+            from: start as u32,
+            to: text.len() as u32,
+        });
+    }
+    Ok((text, rows, segments, at))
+}
