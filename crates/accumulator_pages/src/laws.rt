@@ -5,7 +5,8 @@ ghost use Rattle.std.specs.Prelude.{◌≡◌, ◌≢◌, ◌==◌, ℕ, ◌+◌
 ghost use Rattle.std.specs.List.{AllByRecursion};
 ghost use Rattle.frame_pool.specs.Pool.{PoolView};
 ghost use Rattle.frame_pool.specs.ChainView.{LeavesOthers};
-ghost use Rattle.accumulator_pages.specs.Adding.{added, raised};
+ghost use Rattle.jass_base.specs.declared.answer.Hit.{Hit};
+ghost use Rattle.accumulator_pages.specs.Adding.{added, raised, score_to_pass};
 ghost use Rattle.accumulator_pages.specs.Pages.{Stands, docs_of, own_chain, own_view, pages_places, pages_scores};
 ghost use Rattle.accumulator_pages.specs.declared.pages.Pages.{Pages};
 
@@ -42,14 +43,16 @@ pub fn weights_are_summed()
         → added weight (front ++ back) scores ≡ added weight back (added weight front scores) }
 {}
 
-/// The documents that reach a floor by an addition are those that were below it before and aren't after, each once.
-pub fn who_reaches_a_floor_is_raised()
-    ensures all { (weight floor doc : ℕ) (docs scores : List ℕ) → doc < length scores
-        → slice_index scores doc < floor → floor ≤ slice_index (added weight docs scores) doc
-        → Contains (raised weight floor docs scores) doc }
-    ensures only { (weight floor doc : ℕ) (docs scores : List ℕ) → All (λ other. other < length scores) docs
-        → Contains (raised weight floor docs scores) doc
-        → (doc < length scores) × (slice_index scores doc < floor) × (floor ≤ slice_index (added weight docs scores) doc) }
-    ensures once { (weight floor : ℕ) (docs scores : List ℕ) → All (λ other. other < length scores) docs
-        → AllPairs (λ one other. one ≢ other) (raised weight floor docs scores) }
+/// The documents that pass a hit by an addition are those whose score was too low for that before and isn't after, each once.
+pub fn who_passes_a_hit_is_raised()
+    ensures all { (weight doc : ℕ) (last : Hit) (docs scores : List ℕ) → doc < length scores
+        → slice_index scores doc < score_to_pass last doc
+        → score_to_pass last doc ≤ slice_index (added weight docs scores) doc
+        → Contains (raised weight last docs scores) doc }
+    ensures only { (weight doc : ℕ) (last : Hit) (docs scores : List ℕ)
+        → All (λ other. other < length scores) docs → Contains (raised weight last docs scores) doc
+        → (doc < length scores) × (slice_index scores doc < score_to_pass last doc)
+        × (score_to_pass last doc ≤ slice_index (added weight docs scores) doc) }
+    ensures once { (weight : ℕ) (last : Hit) (docs scores : List ℕ) → All (λ other. other < length scores) docs
+        → AllPairs (λ one other. one ≢ other) (raised weight last docs scores) }
 {}

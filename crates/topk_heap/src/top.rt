@@ -4,6 +4,7 @@ ghost use Rattle.std.specs.Ordering.{is_gt};
 ghost use Rattle.accumulator_pages.specs.Pages.{Stands, docs_of, pages_places, pages_scores};
 ghost use Rattle.ranking_model.specs.Scores.{rank_cmp, first_ranked, runner_up};
 ghost use Rattle.topk_heap.specs.Hits.{hit_at};
+ghost use Rattle.topk_heap.specs.Noting.{hit_to_pass};
 ghost use Rattle.topk_heap.specs.Places.{KeepsScores};
 ghost use Rattle.topk_heap.specs.Standing.{AreInOrder, StandsBelow, HaveFirst, IsPlaced, IsTouched, TopStands, with_heap};
 
@@ -119,5 +120,14 @@ impl Top {
         ensures last { IfSome result (λ hit. hit ≡ hit_at self.now.hits 0) }
     {
         self.hits.as_slice().get(self.k as usize).copied()
+    }
+
+    /// The hit that a document has to pass to come into the heap: the last of a full one, and else document 0 with score 0,
+    /// which any score passes.
+    pub fn to_pass(&self) -> Hit
+        ensures { result ≡ hit_to_pass self.now }
+    {
+        let last = self.hits.as_slice().get(self.k as usize).copied();
+        last.unwrap_or(Hit { doc: 0, score: 0 })
     }
 }
