@@ -17,11 +17,11 @@ const PAGE_DOCS: u32 = 256;
 /// The entry of a page that has no frame.
 const NO_FRAME: u32 = u32::MAX;
 
-/// The scores and heap places of a session's documents: a chain of a pool, and the frame of each page in it. A page takes a
-/// frame when the first of its documents gets a score; until then its scores and heap places are 0.
+/// The scores and heap places of a session's documents: a chain of a pool, and the frame of each page in it. A page
+/// takes a frame when the first of its documents gets a score; until then its scores and heap places are 0.
 ///
-/// Each call that takes a pool wants the pool of `new`, with this chain as the last call on these pages left it. Other chains
-/// may have changed.
+/// Each call that takes a pool wants the pool of `new`, with this chain as the last call on these pages left it.
+/// Other chains may have changed.
 pub struct Pages {
     chain: Chain,
     table: Vec<u32>,
@@ -31,7 +31,8 @@ pub struct Pages {
 }
 
 impl Pages {
-    /// The pages of so many documents in a chain without frames: all scores and heap places are 0. No other call takes memory.
+    /// The pages of so many documents in a chain without frames: all scores and heap places are 0. No other call
+    /// takes memory.
     pub fn new(
         alloc: Global,
         docs: u32,
@@ -82,8 +83,8 @@ impl Pages {
         score
     }
 
-    /// Adds a weight to the score of each of some documents in turn, and notes those that pass the hit `last` by it. Any score
-    /// passes document 0 with score 0.
+    /// Adds a weight to the score of each of some documents in turn, and notes those that pass the hit `last` by it.
+    /// Any score passes document 0 with score 0.
     pub fn add_all(
         &mut self,
         pool: &mut FramePool,

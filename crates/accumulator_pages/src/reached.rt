@@ -58,15 +58,16 @@ impl Reached {
         self.count = 0;
     }
 
-    /// Notes a document whose score has risen by a weight to `score`, where it passed a hit by that. Any score passes document
-    /// 0 with score 0.
+    /// Notes a document whose score has risen by a weight to `score`, where it passed a hit by that. Any score passes
+    /// document 0 with score 0.
     pub fn note(&mut self, doc: u32, score: u32, w: u32, last: Hit)
         requires room { length self.old.docs < self.old.room }
         requires rose { w ≤ score }
         ensures docs { self.new.docs ≡ self.old.docs ++ crossed doc (score - w) score last }
         ensures room { self.new.room ≡ self.old.room }
     {
-        // Below the floor the difference wraps to a number above any weight, and at a floor that wraps to 0 it is the score.
+        // Below the floor the difference wraps to a number above any weight, and at a floor that wraps to 0 it is the
+        // score.
         let floor = last.score.wrapping_add(u32::from(doc >= last.doc));
         if score.wrapping_sub(floor) < w {
             self.docs[self.count] = doc;

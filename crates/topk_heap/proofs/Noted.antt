@@ -1,6 +1,6 @@
 -- Documents that are noted while scores rise over a heap.
 use Rattle.std.proofs.Common.{◌≡◌, ◌≢◌, ℕ, ◌+◌, ◌<◌, ◌≤◌, List, [], ◌++◌, length, get_or, refl, sym, ap, subst, ◌∙◌, arith, inl, inr, ◌⊎◌}
-use Rattle.std.specs.Prelude.{All, AllPairs, Contains, Option, Some, None, reverse, slice_get, unwrap_or}
+use Rattle.std.specs.Prelude.{All, Contains, Option, Some, None, reverse, slice_get, unwrap_or}
 use Rattle.std.specs.List.{AllByRecursion}
 use Rattle.std.proofs.lemmas.Bool.{cases_lt}
 use Rattle.std.proofs.lemmas.List.{length-reverse}
@@ -10,12 +10,11 @@ use Rattle.jass_base.specs.declared.answer.Hit.{Hit}
 use Rattle.accumulator_pages.specs.Adding.{added, raised, score_to_pass}
 use Rattle.accumulator_pages.proofs.Adding.{added-above, length-added}
 use Rattle.accumulator_pages.proofs.Raising.{raised-all, raised-only, raised-once}
-use Rattle.ranking_model.proofs.Weighing.{Pairs, pairs_by_recursion}
-use Rattle.topk_heap.specs.Hits.{hit_at}
+use Rattle.ranking_model.proofs.Weighing.{pairs_by_recursion}
 use Rattle.topk_heap.specs.Noting.{AreNoted, HasPassed, hit_to_pass}
 use Rattle.topk_heap.specs.Standing.{IsTouched, TopStands, TopView}
 use Rattle.topk_heap.proofs.Known.{hit_of_full, hit_of_others}
-use Rattle.topk_heap.proofs.Lists.{all_append, all_at, all_imp, all_in, all_index, contains_from_in, in_from_contains, pairs_append, pairs_index}
+use Rattle.topk_heap.proofs.Lists.{all_append, all_imp, all_in, all_index, contains_from_in, pairs_append, pairs_index}
 use Rattle.topk_heap.proofs.Ranking.{last_is}
 
 pub none_noted : (top : TopView) (scores places : List ℕ) → TopStands top scores places → AreNoted top scores places []

@@ -1,5 +1,3 @@
-use Rattle.std.proofs.Common.{◌∙◌, ◌++◌, ℕ, List, ap, subst, sym}
-use Rattle.accumulator_pages.specs.Adding.{raised}
 use Rattle.accumulator_pages.specs.Pages.{pages_scores}
 use Rattle.topk_heap.proofs.Noted.{batch_noted}
 use Rattle.topk_heap.proofs.Rows.{docs_scored}

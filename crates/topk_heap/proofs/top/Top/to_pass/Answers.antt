@@ -1,6 +1,4 @@
-use Rattle.std.proofs.Common.{◌≡◌, ◌∙◌, ap, subst}
-use Rattle.std.specs.Prelude.{Option, unwrap_or}
-use Rattle.jass_base.specs.declared.answer.Hit.{Hit}
+use Rattle.std.proofs.Common.{◌≡◌, ◌∙◌, subst}
 use Rattle.topk_heap.specs.Noting.{hit_to_pass}
 use Rattle.topk_heap.specs.Standing.{TopView}
 use Rattle.topk_heap.proofs.Noted.{to_pass_is}
