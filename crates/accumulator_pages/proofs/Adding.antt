@@ -1,7 +1,8 @@
 -- Weights added to scores.
 use Rattle.std.proofs.Common.{◌≡◌, ℕ, suc, zero, Bool, true, false, cond, nat_lt, nat_le, ◌&&◌, ◌++◌, append_assoc, ◌+◌, ◌-◌, ◌*◌, ◌/◌, ◌%◌, ◌^◌, ◌<◌, ◌≤◌, List, [], ◌∷◌, length, get_or, set, drop, All, refl, sym, ap, ◌∙◌, subst, arith, length-set, get_or-set_same, drop-cons}
 use Rattle.std.proofs.lemmas.List.Elements.{All-get_or}
-use Rattle.accumulator_pages.specs.Adding.{added, crossed, raised}
+use Rattle.jass_base.specs.declared.answer.Hit.{Hit}
+use Rattle.accumulator_pages.specs.Adding.{added, crossed, raised, score_to_pass}
 
 pub place : (d : ℕ) → 256 * (d / 256) + d % 256 ≡ d
 place d = omega arith
@@ -53,24 +54,24 @@ fits w docs scores all i d n inside is len below small left =
     subst (λ x. get_or scores x 0 + w < 2 ^ 32) (sym is) (omega (arith, most, reached))
 
 -- the documents that are left to note, one document on
-pub next_noted : (w floor : ℕ) (docs scores new here there all : List ℕ) (i d score : ℕ) → i < length docs → d ≡ get_or docs i 0 → score ≡ get_or scores d 0 + w → new ≡ set scores d score
-    → there ≡ here ++ crossed d (score - w) score floor → here ++ raised w floor (drop i docs) scores ≡ all → there ++ raised w floor (drop (i + 1) docs) new ≡ all
-next_noted w floor docs scores new here there all i d score inside is rose step there_is left =
+pub next_noted : (w : ℕ) (last : Hit) (docs scores new here there all : List ℕ) (i d score : ℕ) → i < length docs → d ≡ get_or docs i 0 → score ≡ get_or scores d 0 + w → new ≡ set scores d score
+    → there ≡ here ++ crossed d (score - w) score last → here ++ raised w last (drop i docs) scores ≡ all → there ++ raised w last (drop (i + 1) docs) new ≡ all
+next_noted w last docs scores new here there all i d score inside is rose step there_is left =
     let one : i + 1 ≡ suc i = omega arith in
     let before : score - w ≡ get_or scores d 0 = omega arith in
-    let opened : raised w floor (drop i docs) scores ≡ crossed d (score - w) score floor ++ raised w floor (drop (i + 1) docs) new =
-    ap (λ ds. raised w floor ds scores) (drop-cons docs i 0 inside)
-    ∙ ap (λ x. crossed x (get_or scores x 0) (get_or scores x 0 + w) floor ++ raised w floor (drop (suc i) docs) (set scores x (get_or scores x 0 + w))) (sym is)
-    ∙ ap (λ b. crossed d b (get_or scores d 0 + w) floor ++ raised w floor (drop (suc i) docs) (set scores d (get_or scores d 0 + w))) (sym before)
-    ∙ ap (λ v. crossed d (score - w) v floor ++ raised w floor (drop (suc i) docs) (set scores d v)) (sym rose)
-    ∙ ap (λ n. crossed d (score - w) score floor ++ raised w floor (drop (suc i) docs) n) (sym step)
-    ∙ ap (λ j. crossed d (score - w) score floor ++ raised w floor (drop j docs) new) (sym one) in
-    ap (λ xs. xs ++ raised w floor (drop (i + 1) docs) new) there_is
-    ∙ append_assoc here (crossed d (score - w) score floor) (raised w floor (drop (i + 1) docs) new)
+    let opened : raised w last (drop i docs) scores ≡ crossed d (score - w) score last ++ raised w last (drop (i + 1) docs) new =
+    ap (λ ds. raised w last ds scores) (drop-cons docs i 0 inside)
+    ∙ ap (λ x. crossed x (get_or scores x 0) (get_or scores x 0 + w) last ++ raised w last (drop (suc i) docs) (set scores x (get_or scores x 0 + w))) (sym is)
+    ∙ ap (λ b. crossed d b (get_or scores d 0 + w) last ++ raised w last (drop (suc i) docs) (set scores d (get_or scores d 0 + w))) (sym before)
+    ∙ ap (λ v. crossed d (score - w) v last ++ raised w last (drop (suc i) docs) (set scores d v)) (sym rose)
+    ∙ ap (λ n. crossed d (score - w) score last ++ raised w last (drop (suc i) docs) n) (sym step)
+    ∙ ap (λ j. crossed d (score - w) score last ++ raised w last (drop j docs) new) (sym one) in
+    ap (λ xs. xs ++ raised w last (drop (i + 1) docs) new) there_is
+    ∙ append_assoc here (crossed d (score - w) score last) (raised w last (drop (i + 1) docs) new)
     ∙ ap (λ ys. here ++ ys) (sym opened) ∙ left
 
-pub few_crossed : (d before after floor : ℕ) → length (crossed d before after floor) ≤ 1
-few_crossed d before after floor = by_test (nat_lt before floor && nat_le floor after) d
+pub few_crossed : (d before after : ℕ) (last : Hit) → length (crossed d before after last) ≤ 1
+few_crossed d before after last = by_test (nat_lt before (score_to_pass last d) && nat_le (score_to_pass last d) after) d
   where
     by_test : (b : Bool) (d : ℕ) → length (cond b (d ∷ []) []) ≤ 1
     by_test true d = omega arith

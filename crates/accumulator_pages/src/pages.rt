@@ -7,7 +7,7 @@ ghost use Rattle.accumulator_pages.specs.Pages.{ArePagesOf, FieldsStand, HasRoom
 use crate::reached::Reached;
 use frame_pool::laws::calls_on_one_chain;
 use frame_pool::{Chain, FrameId, FramePool};
-use jass_base::NoMemory;
+use jass_base::{Hit, NoMemory};
 use lane_kernels::first_zero;
 use std::alloc::Global;
 
@@ -17,11 +17,11 @@ const PAGE_DOCS: u32 = 256;
 /// The entry of a page that has no frame.
 const NO_FRAME: u32 = u32::MAX;
 
-/// The scores and heap places of a session's documents: a chain of a pool, and the frame of each page in it. A page takes a
-/// frame when the first of its documents gets a score; until then its scores and heap places are 0.
+/// The scores and heap places of a session's documents: a chain of a pool, and the frame of each page in it. A page
+/// takes a frame when the first of its documents gets a score; until then its scores and heap places are 0.
 ///
-/// Each call that takes a pool wants the pool of `new`, with this chain as the last call on these pages left it. Other chains
-/// may have changed.
+/// Each call that takes a pool wants the pool of `new`, with this chain as the last call on these pages left it.
+/// Other chains may have changed.
 pub struct Pages {
     chain: Chain,
     table: Vec<u32>,
@@ -31,7 +31,8 @@ pub struct Pages {
 }
 
 impl Pages {
-    /// The pages of so many documents in a chain without frames: all scores and heap places are 0. No other call takes memory.
+    /// The pages of so many documents in a chain without frames: all scores and heap places are 0. No other call
+    /// takes memory.
     pub fn new(
         alloc: Global,
         docs: u32,
@@ -82,13 +83,14 @@ impl Pages {
         score
     }
 
-    /// Adds a weight to the score of each of some documents in turn, and notes those that reach the floor by it.
+    /// Adds a weight to the score of each of some documents in turn, and notes those that pass the hit `last` by it.
+    /// Any score passes document 0 with score 0.
     pub fn add_all(
         &mut self,
         pool: &mut FramePool,
         docs: &[u32],
         w: u32,
-        floor: u32,
+        last: Hit,
         reached: &mut Reached,
     )
         requires stands { Stands self.old pool.old }
@@ -100,7 +102,7 @@ impl Pages {
         ensures scores { pages_scores self.new pool.new ≡ added w docs.now (pages_scores self.old pool.old) }
         ensures places { pages_places self.new pool.new ≡ pages_places self.old pool.old }
         ensures reached { reached.new.docs
-            ≡ reached.old.docs ++ raised w floor docs.now (pages_scores self.old pool.old) }
+            ≡ reached.old.docs ++ raised w last docs.now (pages_scores self.old pool.old) }
         ensures room { reached.new.room ≡ reached.old.room }
         ensures frames { length (own_view self.new pool.new).frames
             ≤ length (own_view self.old pool.old).frames + length docs.now }
@@ -111,7 +113,7 @@ impl Pages {
         calls_on_one_chain();
         for doc in docs {
             let score = self.add(pool, *doc, w);
-            reached.note(*doc, score, w, floor);
+            reached.note(*doc, score, w, last);
         }
     }
 

@@ -1,11 +1,11 @@
 ghost use Rattle.std.specs.Prelude.{◌≡◌, ◌+◌, ◌-◌, ◌<◌, ◌≤◌, ◌^◌, ◌++◌, [], length, IfOk};
 ghost use Rattle.accumulator_pages.specs.Adding.{crossed};
 
-use jass_base::NoMemory;
+use jass_base::{Hit, NoMemory};
 use std::alloc::Global;
 use std::marker::Model;
 
-/// Documents whose scores reached a floor, in a room of fixed size.
+/// Documents that passed a hit, in a room of fixed size.
 #[derive(Drop)]
 pub struct Reached {
     docs: Vec<u32>,
@@ -35,11 +35,19 @@ impl Reached {
         }
     }
 
-    /// The documents noted since the last `clear`, in the order in which they reached the floor.
+    /// The documents noted since the last `clear`, in the order in which they passed the hit.
     pub fn as_slice(&self) -> &[u32]
-        ensures { result.now ≡ self.now.docs }
+        ensures docs { result.now ≡ self.now.docs }
+        ensures within { length result.now ≤ self.now.room }
     {
         &self.docs[..self.count]
+    }
+
+    /// How many documents more there is room for.
+    pub fn spare(&self) -> usize
+        ensures { length self.now.docs + result ≡ self.now.room }
+    {
+        self.docs.len() - self.count
     }
 
     /// Forgets all documents.
@@ -50,14 +58,17 @@ impl Reached {
         self.count = 0;
     }
 
-    /// Notes a document whose score has risen by a weight to `score`, where it reached the floor by that.
-    pub fn note(&mut self, doc: u32, score: u32, w: u32, floor: u32)
+    /// Notes a document whose score has risen by a weight to `score`, where it passed a hit by that. Any score passes
+    /// document 0 with score 0.
+    pub fn note(&mut self, doc: u32, score: u32, w: u32, last: Hit)
         requires room { length self.old.docs < self.old.room }
         requires rose { w ≤ score }
-        ensures docs { self.new.docs ≡ self.old.docs ++ crossed doc (score - w) score floor }
+        ensures docs { self.new.docs ≡ self.old.docs ++ crossed doc (score - w) score last }
         ensures room { self.new.room ≡ self.old.room }
     {
-        // Below the floor the difference wraps to a number above any weight.
+        // Below the floor the difference wraps to a number above any weight, and at a floor that wraps to 0 it is the
+        // score.
+        let floor = last.score.wrapping_add(u32::from(doc >= last.doc));
         if score.wrapping_sub(floor) < w {
             self.docs[self.count] = doc;
             self.count += 1;

@@ -9,7 +9,7 @@ use crate::laws::{calls_on_other_chains_leave_all_pages, calls_on_other_chains_l
 use crate::pages::Pages;
 use crate::reached::Reached;
 use frame_pool::FramePool;
-use jass_base::NoMemory;
+use jass_base::{Hit, NoMemory};
 use std::alloc::Global;
 use std::process::Abort;
 
@@ -20,7 +20,7 @@ fn add_beside(
     pool: &mut FramePool,
     docs: &[u32],
     w: u32,
-    floor: u32,
+    last: Hit,
     reached: &mut Reached,
 )
     requires stands { Stands own.old pool.old }
@@ -38,7 +38,7 @@ fn add_beside(
     ensures leaves { LeavesPool pool.old pool.new (own_chain own.old) }
 {
     calls_on_other_chains_leave_all_pages();
-    own.add_all(pool, docs, w, floor, reached);
+    own.add_all(pool, docs, w, last, reached);
 }
 
 // Pages for 300 documents, with a promise of two frames.

@@ -5,7 +5,7 @@ use Rattle.std.specs.List.{AllByRecursion}
 use Rattle.std.specs.Ordering.{is_gt}
 use Rattle.std.proofs.lemmas.Bool.{cases_eq, cases_lt}
 use Rattle.std.proofs.lemmas.Bool.Decides.{nat_tests}
-use Rattle.std.proofs.lemmas.List.{set-get_or}
+use Rattle.std.proofs.lemmas.List.{length-take, set-get_or}
 use Rattle.std.proofs.lemmas.List.Sorted.{All-permutation, Contains-permutation, IsPermutation-sym, length_permutation}
 use Rattle.std.proofs.lemmas.List.Sums.{sum_by-cons}
 use Rattle.frame_pool.specs.Pool.{PoolView}
@@ -14,10 +14,13 @@ use Rattle.accumulator_pages.specs.declared.pages.Pages.{Pages}
 use Rattle.accumulator_pages.specs.Pages.{own_chain, pages_places, pages_scores}
 use Rattle.accumulator_pages.proofs.Standing.{view_stays}
 use Rattle.jass_base.specs.declared.answer.Hit.{Hit}
+use Rattle.ranking_model.specs.Order.{sorted}
 use Rattle.ranking_model.specs.Scores.{rank_cmp, hits_from, first_ranked}
 use Rattle.topk_heap.specs.Hits.{hit_at}
-use Rattle.topk_heap.specs.Standing.{HaveFirst, IsHeap, StandsBelow, TopStands, TopView, score_to_pass, with_heap}
-use Rattle.topk_heap.proofs.Ahead.{Rises, ahead, few_if_first, first_if_few, pushed_out}
+use Rattle.accumulator_pages.specs.Adding.{score_to_pass}
+use Rattle.topk_heap.specs.Noting.{HasPassed, hit_to_pass}
+use Rattle.topk_heap.specs.Standing.{HaveFirst, IsHeap, StandsBelow, TopStands, TopView, with_heap}
+use Rattle.topk_heap.proofs.Ahead.{Rises, ahead, few_if_first, first_if_few, first_of_few, pushed_out}
 use Rattle.topk_heap.proofs.Lists.{In, all_at, all_by_index, all_imp, all_in, all_index, contains_from_in, in_from_contains, in_right}
 use Rattle.topk_heap.proofs.Raised.{heap_has}
 use Rattle.topk_heap.proofs.Ranking.{Own, first_own}
@@ -146,7 +149,7 @@ pass_high w doc score high = by (cases_lt doc w.doc) where
       (grind (arith, nat_tests), omega arith)
 
 module _ (top : TopView) (old new places raised : List ℕ) (size : length old ≡ length new) (up : Rises old new) (stands : TopStands top old places) (full : length top.hits ≡ top.k + 1)
-    (known : (doc : ℕ) → get_or old doc 0 < score_to_pass (hit_at top.hits 0) doc → score_to_pass (hit_at top.hits 0) doc ≤ get_or new doc 0 → Contains raised doc) where
+    (known : (doc : ℕ) → HasPassed (hit_at top.hits 0) old new doc → Contains raised doc) where
   long : length (first_ranked old (top.k + 1)) ≡ top.k + 1
   long = sym (length_permutation (first_ranked old (top.k + 1)) top.hits stands.hits) ∙ full
 
@@ -189,13 +192,58 @@ module _ (top : TopView) (old new places raised : List ℕ) (size : length old �
   there h first (inr high) now e =
       let own = all_at (Own new) (first_ranked new (top.k + 1)) h (first_own new (top.k + 1)) first in
       heap_has top old places raised (record { doc = h.doc; score = get_or old h.doc 0 }) stands (was_first h.doc (let a = own.0 in let s = size in omega arith) high)
-  there h first (inl low) (inr passed) e = in_right h.doc (map (λ (g : Hit). g.doc) top.hits) raised (in_from_contains raised h.doc (known h.doc low passed))
+  there h first (inl low) (inr passed) e =
+      let own = all_at (Own new) (first_ranked new (top.k + 1)) h (first_own new (top.k + 1)) first in
+      in_right h.doc (map (λ (g : Hit). g.doc) top.hits) raised (in_from_contains raised h.doc (known h.doc (record { inside = own.0; below = low; passed = passed })))
   there h first (inl low) (inl lower) (inl e) = subst (λ d. In d (with_heap top raised)) (sym e) (heap_has top old places raised (hit_at top.hits 0) stands last_there)
   there h first (inl low) (inl lower) (inr apart) =
       let own = all_at (Own new) (first_ranked new (top.k + 1)) h (first_own new (top.k + 1)) first in
       absurd (pushed_out old new (top.k + 1) h size up long (all_before h (pass_low (hit_at top.hits 0) h.doc h.score (let s = own.2 in omega arith) apart)) first)
 
-  pub passed : HaveFirst new (top.k + 1) (with_heap top raised)
-  passed = all_in (λ (h : Hit). Contains (with_heap top raised) h.doc) (first_ranked new (top.k + 1))
+  pub passed_last : HaveFirst new (top.k + 1) (with_heap top raised)
+  passed_last = all_in (λ (h : Hit). Contains (with_heap top raised) h.doc) (first_ranked new (top.k + 1))
       (λ h first. contains_from_in (with_heap top raised) h.doc
       (there h first (cases_lt (get_or old h.doc 0) (score_to_pass (hit_at top.hits 0) h.doc)) (cases_lt (get_or new h.doc 0) (score_to_pass (hit_at top.hits 0) h.doc)) (cases_eq h.doc (hit_at top.hits 0).doc)))
+
+-- ---- past the last of a heap that is full or not
+
+pub hit_of_full : (top : TopView) → top.k < length top.hits → hit_to_pass top ≡ hit_at top.hits 0
+hit_of_full top full =
+    let t : nat_lt top.k (length top.hits) ≡ true = grind (arith, nat_tests) in
+    ap (λ (b : Bool). cond b (hit_at top.hits 0) (record { doc = 0; score = 0 })) t
+
+pub hit_of_others : (top : TopView) → length top.hits ≤ top.k → hit_to_pass top ≡ record { doc = 0; score = 0 }
+hit_of_others top few =
+    let f : nat_lt top.k (length top.hits) ≡ false = grind (arith, nat_tests) in
+    ap (λ (b : Bool). cond b (hit_at top.hits 0) (record { doc = 0; score = 0 })) f
+
+any_passes : (doc : ℕ) → score_to_pass (record { doc = 0; score = 0 }) doc ≡ 1
+any_passes doc = let f : nat_lt doc 0 ≡ false = grind (arith, nat_tests) in ap (λ (b : Bool). cond {A = ℕ} b 0 (0 + 1)) f
+
+module _ (top : TopView) (old new places raised : List ℕ) (size : length old ≡ length new) (up : Rises old new) (stands : TopStands top old places)
+    (known : (doc : ℕ) → HasPassed (hit_to_pass top) old new doc → Contains raised doc) where
+  long_is : length (first_ranked old (top.k + 1)) ≡ length top.hits
+  long_is = sym (length_permutation (first_ranked old (top.k + 1)) top.hits stands.hits)
+
+  outside : length top.hits ≤ top.k → (h : Hit) → In h (first_ranked new (top.k + 1)) → (get_or old h.doc 0 < 1) ⊎ (1 ≤ get_or old h.doc 0) → In h.doc (with_heap top raised)
+  outside few h first (inl low) =
+      let own = all_at (Own new) (first_ranked new (top.k + 1)) h (first_own new (top.k + 1)) first in
+      let one : score_to_pass (hit_to_pass top) h.doc ≡ 1 = ap (λ (w : Hit). score_to_pass w h.doc) (hit_of_others top few) ∙ any_passes h.doc in
+      in_right h.doc (map (λ (g : Hit). g.doc) top.hits) raised
+      (in_from_contains raised h.doc (known h.doc (record { inside = own.0; below = omega (arith, low, one); passed = (let a = own.1 in let b = own.2 in omega arith) })))
+  outside few h first (inr some) =
+      let own = all_at (Own new) (first_ranked new (top.k + 1)) h (first_own new (top.k + 1)) first in
+      heap_has top old places raised (record { doc = h.doc; score = get_or old h.doc 0 }) stands
+      (first_of_few old (top.k + 1) (record { doc = h.doc; score = get_or old h.doc 0 }) ((let a = own.0 in let s = size in omega arith), some, refl) (let l = long_is in omega arith))
+
+  by_size : (top.k < length top.hits) ⊎ (length top.hits ≤ top.k) → HaveFirst new (top.k + 1) (with_heap top raised)
+  by_size (inl full) =
+      let most = length-take (top.k + 1) (sorted rank_cmp (hits_from 0 old)) in
+      passed_last top old new places raised size up stands (let l = long_is in omega (arith, l, most, full))
+      (λ doc passed. known doc (subst (λ (w : Hit). HasPassed w old new doc) (sym (hit_of_full top full)) passed))
+  by_size (inr few) =
+      all_in (λ (h : Hit). Contains (with_heap top raised) h.doc) (first_ranked new (top.k + 1))
+      (λ h first. contains_from_in (with_heap top raised) h.doc (outside few h first (cases_lt (get_or old h.doc 0) 1)))
+
+  pub passed : HaveFirst new (top.k + 1) (with_heap top raised)
+  passed = by_size (cases_lt top.k (length top.hits))

@@ -1,5 +1,4 @@
 pub mod Ahead
-pub mod Batch
 pub mod Lists
 pub mod Ranking
 pub mod Selection
@@ -7,3 +6,4 @@ pub mod Rows
 pub mod Settled
 pub mod Raised
 pub mod Known
+pub mod Noted

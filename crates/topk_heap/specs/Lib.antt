@@ -1,3 +1,4 @@
 pub mod Hits
 pub mod Places
 pub mod Standing
+pub mod Noting

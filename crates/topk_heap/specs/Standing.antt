@@ -1,5 +1,5 @@
 -- The first documents of some scores in a heap, the last of them in front. Heaps: J. W. J. Williams, Algorithm 232 (CACM 1964).
-use Rattle.std.specs.Prelude.{◌≡◌, ◌≢◌, ℕ, ◌+◌, ◌-◌, ◌/◌, ◌<◌, ◌≤◌, true, List, [], ◌∷◌, ◌++◌, ⊤, length, map, reverse, slice_index, slice_set, IsPermutation, Contains, nat_lt, if◌then◌else◌}
+use Rattle.std.specs.Prelude.{◌≡◌, ◌≢◌, ℕ, ◌+◌, ◌-◌, ◌/◌, ◌<◌, ◌≤◌, true, List, [], ◌∷◌, ◌++◌, ⊤, length, map, reverse, slice_index, slice_set, IsPermutation, Contains}
 use Rattle.std.specs.List.{AllByRecursion}
 use Rattle.std.specs.Ordering.{is_gt}
 use Rattle.jass_base.specs.declared.answer.Hit.{Hit}
@@ -63,10 +63,6 @@ with_heap top docs = map (λ (hit : Hit). hit.doc) top.hits ++ docs
 -- the first m documents of some scores are among these
 abbrev pub HaveFirst : List ℕ → ℕ → List ℕ → Type 0
 HaveFirst scores m docs = AllByRecursion (λ hit. Contains docs hit.doc) (first_ranked scores m)
-
--- the least score that ranks a document before a hit of another one
-abbrev pub score_to_pass : Hit → ℕ → ℕ
-score_to_pass hit doc = if nat_lt doc hit.doc then hit.score else hit.score + 1
 
 -- the heap would stand if the document's score were some lower number
 pub record StandsBelow (top : TopView) (scores places : List ℕ) (doc : ℕ) : Type 0 where

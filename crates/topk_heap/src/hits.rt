@@ -28,8 +28,8 @@ impl Model for Hits {
 }
 
 impl Hits {
-    /// Room for so many hits, and aside for `few` more: up to these `keep_first` selects before it sorts. No other call takes
-    /// memory.
+    /// Room for so many hits, and aside for `few` more: up to these `keep_first` selects before it sorts. No other
+    /// call takes memory.
     pub fn new(alloc: Global, room: usize, few: usize) -> Result<Hits, NoMemory>
         ensures hits { IfOk result (λ hits. hits.hits ≡ []) }
         ensures room { IfOk result (λ hits. hits.room ≡ room) }
@@ -109,7 +109,8 @@ fn rank_first(row: &mut [Hit], hits: usize, count: usize, aside: &mut [Hit])
     }
 }
 
-// Writes the first of the hits to `first`, in order. The hits themselves are lost: nothing tells what a selection leaves.
+// Writes the first of the hits to `first`, in order. The hits themselves are lost: nothing tells what a selection
+// leaves.
 fn select_first(hits: &mut [Hit], first: &mut [Hit])
     requires { length first.old < length hits.old }
     ensures first { first.new ≡ take (length first.old) (sorted rank_cmp hits.old) }

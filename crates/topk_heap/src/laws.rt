@@ -1,25 +1,26 @@
-//! Laws of the definitions that the contracts of this crate cite. Each function does nothing: its contract is the law, and a
-//! caller learns it by the call.
+//! Laws of the definitions that the contracts of this crate cite. Each function does nothing: its contract is the
+//! law, and a caller learns it by the call.
 
-ghost use Rattle.std.specs.Prelude.{◌≡◌, ◌≢◌, ℕ, ◌+◌, ◌<◌, ◌≤◌, ◌⊎◌, nat_le, List, length, count_by, Contains, slice_index, slice_set};
+ghost use Rattle.std.specs.Prelude.{◌≡◌, ◌≢◌, ℕ, ◌+◌, ◌<◌, ◌≤◌, ◌⊎◌, ◌++◌, [], nat_le, List, length, count_by, All, Contains, slice_index, slice_set};
 ghost use Rattle.frame_pool.specs.Pool.{PoolView};
 ghost use Rattle.frame_pool.specs.ChainView.{LeavesOthers};
 ghost use Rattle.accumulator_pages.specs.declared.pages.Pages.{Pages};
 ghost use Rattle.accumulator_pages.specs.Pages.{own_chain, pages_places, pages_scores};
-ghost use Rattle.topk_heap.specs.Hits.{hit_at};
-ghost use Rattle.topk_heap.specs.Standing.{HaveFirst, IsPlaced, StandsBelow, TopStands, TopView, score_to_pass, with_heap};
+ghost use Rattle.accumulator_pages.specs.Adding.{added, raised};
+ghost use Rattle.topk_heap.specs.Noting.{AreNoted, HasPassed, hit_to_pass};
+ghost use Rattle.topk_heap.specs.Standing.{HaveFirst, IsPlaced, IsTouched, StandsBelow, TopStands, TopView, with_heap};
 
 /// A heap that stands in some pages still does so after a call on another chain.
 pub fn calls_on_other_chains_leave_a_heap()
-    ensures { (top : TopView) (pages : Pages) (old new : PoolView) (chain : ℕ) → LeavesOthers old new chain → own_chain pages ≢ chain
-        → TopStands top (pages_scores pages old) (pages_places pages old)
+    ensures { (top : TopView) (pages : Pages) (old new : PoolView) (chain : ℕ) → LeavesOthers old new chain
+        → own_chain pages ≢ chain → TopStands top (pages_scores pages old) (pages_places pages old)
         → TopStands top (pages_scores pages new) (pages_places pages new) }
 {}
 
 /// Where one score has risen since the heap stood, its document can be raised.
 pub fn a_risen_document_can_be_raised()
-    ensures { (top : TopView) (scores places : List ℕ) (doc score : ℕ) → TopStands top scores places → doc < length scores
-        → slice_index scores doc < score → StandsBelow top (slice_set scores doc score) places doc }
+    ensures { (top : TopView) (scores places : List ℕ) (doc score : ℕ) → TopStands top scores places
+        → doc < length scores → slice_index scores doc < score → StandsBelow top (slice_set scores doc score) places doc }
 {}
 
 /// After scores have risen, the documents of a heap that stood have scores, and its heap places are theirs.
@@ -28,15 +29,31 @@ pub fn a_heap_keeps_its_places()
         → ((doc : ℕ) → slice_index old doc ≤ slice_index new doc) → TopStands top old places → IsPlaced top new places }
 {}
 
-/// Who is among the first by scores that have risen: where all documents down to a floor are known, and m reach it; and where
-/// the heap was full, whoever was in it or has passed the last of it.
+/// Who is among the first by scores that have risen: where all documents down to a floor are known, and m reach it;
+/// and whoever was in the heap or has passed its last hit.
 pub fn the_first_are_known()
     ensures down_to { (scores docs : List ℕ) (m floor : ℕ)
-        → ((doc : ℕ) → doc < length scores → 1 ≤ slice_index scores doc → floor ≤ slice_index scores doc → Contains docs doc)
+        → ((doc : ℕ) → doc < length scores → 1 ≤ slice_index scores doc → floor ≤ slice_index scores doc
+        → Contains docs doc)
         → (floor ≤ 1) ⊎ (m ≤ count_by (nat_le floor) scores) → HaveFirst scores m docs }
     ensures passed { (top : TopView) (old new places raised : List ℕ) → length old ≡ length new
-        → ((doc : ℕ) → slice_index old doc ≤ slice_index new doc) → TopStands top old places → length top.hits ≡ top.k + 1
-        → ((doc : ℕ) → slice_index old doc < score_to_pass (hit_at top.hits 0) doc
-        → score_to_pass (hit_at top.hits 0) doc ≤ slice_index new doc → Contains raised doc)
+        → ((doc : ℕ) → slice_index old doc ≤ slice_index new doc) → TopStands top old places
+        → ((doc : ℕ) → HasPassed (hit_to_pass top) old new doc → Contains raised doc)
         → HaveFirst new (top.k + 1) (with_heap top raised) }
+{}
+
+/// Nobody has to be noted where a heap stands, and after that whom each addition raises over its last hit. Then those
+/// noted are what settling asks for.
+pub fn those_raised_are_noted()
+    ensures none { (top : TopView) (scores places : List ℕ) → TopStands top scores places
+        → AreNoted top scores places [] }
+    ensures more { (top : TopView) (weight : ℕ) (docs scores places noted : List ℕ) → AreNoted top scores places noted
+        → All (λ doc. doc < length scores) docs
+        → AreNoted top (added weight docs scores) places (noted ++ raised weight (hit_to_pass top) docs scores) }
+    ensures placed { (top : TopView) (scores places noted : List ℕ) → AreNoted top scores places noted
+        → IsPlaced top scores places }
+    ensures touched { (top : TopView) (scores places noted : List ℕ) → AreNoted top scores places noted
+        → All (IsTouched scores) noted }
+    ensures first { (top : TopView) (scores places noted : List ℕ) → AreNoted top scores places noted
+        → HaveFirst scores (top.k + 1) (with_heap top noted) }
 {}

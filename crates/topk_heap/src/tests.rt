@@ -5,7 +5,9 @@ ghost use Rattle.accumulator_pages.specs.Adding.{added};
 ghost use Rattle.accumulator_pages.specs.Pages.{ArePagesOf, HasRoom, HasRoomFor, Stands, docs_of, own_chain, own_view, pages_places, pages_scores};
 ghost use Rattle.topk_heap.specs.Standing.{TopStands};
 
-use crate::laws::{a_risen_document_can_be_raised, calls_on_other_chains_leave_a_heap};
+use crate::laws::{
+    a_risen_document_can_be_raised, calls_on_other_chains_leave_a_heap, those_raised_are_noted,
+};
 use crate::top::Top;
 use accumulator_pages::laws::calls_on_other_chains_leave_pages;
 use accumulator_pages::{Pages, Reached};
@@ -128,7 +130,7 @@ fn opened_beside(
     opened(rt, alloc, pool, 3, 0)
 }
 
-// Adds a weight to the scores of some documents, where at most k documents have one.
+// Adds a weight to the scores of some documents, and settles those that have passed the last of the heap.
 fn add_batch(
     rt: &impl Abort,
     pages: &mut Pages,
@@ -145,7 +147,7 @@ fn add_batch(
     requires fits { All (λ score. score < 2 ^ 32) (added w docs.now (pages_scores pages.old pool.old)) }
     requires frames { HasRoomFor (own_view pages.old pool.old) (docs_of pages.old) (length docs.now) }
     requires notes { length docs.now ≤ reached.old.room }
-    requires room { length docs.now ≤ top.old.room }
+    requires room { reached.old.room ≤ top.old.room }
     ensures stands { Stands pages.new pool.new }
     ensures top { TopStands top.new (pages_scores pages.new pool.new) (pages_places pages.new pool.new) }
     ensures scores { pages_scores pages.new pool.new ≡ added w docs.now (pages_scores pages.old pool.old) }
@@ -155,9 +157,9 @@ fn add_batch(
     ensures room { top.new.room ≡ top.old.room }
 {
     calls_on_one_chain();
-    assert!(rt; top.runner_up().is_none());
+    those_raised_are_noted();
     reached.clear();
-    pages.add_all(pool, docs, w, 1, reached);
+    pages.add_all(pool, docs, w, top.to_pass(), reached);
     top.settle(pages, pool, reached.as_slice());
 }
 
@@ -217,7 +219,7 @@ fn a_batch_is_settled(rt: HostRuntime) {
     assert!(rt; reached.as_slice() == [5].as_slice());
     assert!(rt; top.ranked() == [Hit { doc: 5, score: 3 }].as_slice());
 
-    // Document 5 is in the heap already, and the others tie.
+    // Document 5 is in the heap already, and the others tie. The last of the full heap is then document 0 with score 2.
     add_batch(
         &rt,
         &mut pages,

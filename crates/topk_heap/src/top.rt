@@ -4,6 +4,7 @@ ghost use Rattle.std.specs.Ordering.{is_gt};
 ghost use Rattle.accumulator_pages.specs.Pages.{Stands, docs_of, pages_places, pages_scores};
 ghost use Rattle.ranking_model.specs.Scores.{rank_cmp, first_ranked, runner_up};
 ghost use Rattle.topk_heap.specs.Hits.{hit_at};
+ghost use Rattle.topk_heap.specs.Noting.{hit_to_pass};
 ghost use Rattle.topk_heap.specs.Places.{KeepsScores};
 ghost use Rattle.topk_heap.specs.Standing.{AreInOrder, StandsBelow, HaveFirst, IsPlaced, IsTouched, TopStands, with_heap};
 
@@ -15,8 +16,8 @@ use jass_base::{Hit, NoMemory};
 use std::alloc::Global;
 use std::marker::Model;
 
-/// The first k + 1 documents of a session by falling score, then rising number, each with its score. The heap is these from
-/// the last to the first; a document's heap place in the pages is its place there plus 1.
+/// The first k + 1 documents of a session by falling score, then rising number, each with its score. The heap is
+/// these from the last to the first; a document's heap place in the pages is its place there plus 1.
 #[derive(Drop)]
 pub struct Top {
     k: u32,
@@ -34,8 +35,8 @@ impl Model for Top {
 }
 
 impl Top {
-    /// An empty heap for the first k documents and the one after them, 1 to 100,000, with room for so many raised documents at
-    /// a time, and at least for one. No other call takes memory.
+    /// An empty heap for the first k documents and the one after them, 1 to 100,000, with room for so many raised
+    /// documents at a time, and at least for one. No other call takes memory.
     pub fn new(alloc: Global, k: u32, room: usize) -> Result<Top, NoMemory>
         requires some { 1 ≤ k }
         requires few { k ≤ 100000 }
@@ -49,7 +50,8 @@ impl Top {
         Ok(Top { k, hits })
     }
 
-    /// Takes in what some documents have gained. The first k + 1 documents are in the heap already, or among those raised.
+    /// Takes in what some documents have gained. The first k + 1 documents are in the heap already, or among those
+    /// raised.
     pub fn settle(&mut self, pages: &mut Pages, pool: &mut FramePool, raised: &[u32])
         requires pages { Stands pages.old pool.old }
         requires placed { IsPlaced self.old (pages_scores pages.old pool.old) (pages_places pages.old pool.old) }
@@ -89,7 +91,8 @@ impl Top {
     fn is_full_before(&self, doc: u32, score: u32) -> bool
         ensures full { IsTrue result → length self.now.hits ≡ self.now.k + 1 }
         ensures before { IsTrue result
-            → AllByRecursion (λ other. is_gt (rank_cmp (record { doc = doc; score = score }) other) ≡ true) self.now.hits }
+            → AllByRecursion (λ other. is_gt (rank_cmp (record { doc = doc; score = score }) other) ≡ true)
+            self.now.hits }
         ensures order { AreInOrder (reverse self.now.hits) }
         ensures room { 1 ≤ self.now.room }
     {
@@ -111,7 +114,8 @@ impl Top {
         &hits[..hits.len().min(self.k as usize)]
     }
 
-    /// The document after the first k, and `None` exactly where at most k documents have a score. It is the last of a full heap.
+    /// The document after the first k, and `None` exactly where at most k documents have a score. It is the last of a
+    /// full heap.
     pub fn runner_up(&self) -> Option<Hit>
         ensures next { (scores places : List ℕ) → TopStands self.now scores places
             → result ≡ runner_up scores self.now.k }
@@ -119,5 +123,14 @@ impl Top {
         ensures last { IfSome result (λ hit. hit ≡ hit_at self.now.hits 0) }
     {
         self.hits.as_slice().get(self.k as usize).copied()
+    }
+
+    /// The hit that a document has to pass to come into the heap: the last of a full one, and else document 0 with
+    /// score 0, which any score passes.
+    pub fn to_pass(&self) -> Hit
+        ensures { result ≡ hit_to_pass self.now }
+    {
+        let last = self.hits.as_slice().get(self.k as usize).copied();
+        last.unwrap_or(Hit { doc: 0, score: 0 })
     }
 }

@@ -1,4 +1,4 @@
-use Rattle.std.proofs.Common.{◌≡◌, ◌≢◌, ℕ, Option, None, IsSome, get_or, subst, ap}
+use Rattle.std.proofs.Common.{◌≡◌, ◌≢◌, ℕ, Option, None, IsSome, get_or, subst}
 use Rattle.frame_pool.specs.Pool.{ChainEntry, PoolView}
 use Rattle.accumulator_pages.specs.declared.pages.Pages.{Pages}
 use Rattle.accumulator_pages.specs.Pages.{Stands, own_chain}

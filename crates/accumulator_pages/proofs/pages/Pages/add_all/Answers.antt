@@ -34,15 +34,15 @@ loop-doc-preserved c =
       same = record { chain = c.add-score.ensures.same.chain ∙ c.loop-doc.invariant.same.chain; docs = c.add-score.ensures.same.docs ∙ c.loop-doc.invariant.same.docs };
       left = next c.args.w c.args.docs.now (pages_scores c.loop-doc.self c.loop-doc.pool) (pages_scores c.add-score.new.self c.add-score.new.pool) _ c.loop-doc.doc-index _
           inside refl (c.add-score.ensures.scores ∙ ap (λ (v : ℕ). set (pages_scores c.loop-doc.self c.loop-doc.pool) d v) c.add-score.ensures.score) c.loop-doc.invariant.left;
-      noted = next_noted c.args.w c.args.floor c.args.docs.now (pages_scores c.loop-doc.self c.loop-doc.pool) (pages_scores c.add-score.new.self c.add-score.new.pool)
+      noted = next_noted c.args.w c.args.last c.args.docs.now (pages_scores c.loop-doc.self c.loop-doc.pool) (pages_scores c.add-score.new.self c.add-score.new.pool)
           c.loop-doc.reached.docs c.note.new.self.docs _ c.loop-doc.doc-index _ c.add-score.result
           inside refl c.add-score.ensures.score c.add-score.ensures.scores c.note.ensures.docs c.loop-doc.invariant.noted;
       few = omega (
         arith,
         c.loop-doc.invariant.few,
         ap (λ (xs : List ℕ). length xs) c.note.ensures.docs,
-        length-append c.loop-doc.reached.docs (crossed d (c.add-score.result - c.args.w) c.add-score.result c.args.floor),
-        few_crossed d (c.add-score.result - c.args.w) c.add-score.result c.args.floor,
+        length-append c.loop-doc.reached.docs (crossed d (c.add-score.result - c.args.w) c.add-score.result c.args.last),
+        few_crossed d (c.add-score.result - c.args.w) c.add-score.result c.args.last,
       );
       room = c.note.ensures.room ∙ c.loop-doc.invariant.room;
       places = c.add-score.ensures.places ∙ c.loop-doc.invariant.places;

@@ -9,7 +9,7 @@ invariant-loop-doc l = record {
   stands : Stands l.self l.pool;
   same : ArePagesOf l.fn.self l.self;
   left : added l.w (drop l.doc-index l.docs) (pages_scores l.self l.pool) ≡ added l.w l.docs (pages_scores l.fn.self l.fn.pool);
-  noted : l.reached.docs ++ raised l.w l.floor (drop l.doc-index l.docs) (pages_scores l.self l.pool) ≡ l.fn.reached.docs ++ raised l.w l.floor l.docs (pages_scores l.fn.self l.fn.pool);
+  noted : l.reached.docs ++ raised l.w l.last (drop l.doc-index l.docs) (pages_scores l.self l.pool) ≡ l.fn.reached.docs ++ raised l.w l.last l.docs (pages_scores l.fn.self l.fn.pool);
   few : length l.reached.docs ≤ length l.fn.reached.docs + l.doc-index;
   room : l.reached.room ≡ l.fn.reached.room;
   places : pages_places l.self l.pool ≡ pages_places l.fn.self l.fn.pool;

@@ -1,5 +1,5 @@
 use Rattle.accumulator_pages.proofs.Raising.{raised-all, raised-only, raised-once}
-use Rattle.accumulator_pages.proofs.laws.who_reaches_a_floor_is_raised.Goals as goal
+use Rattle.accumulator_pages.proofs.laws.who_passes_a_hit_is_raised.Goals as goal
 
 pub returns : goal.returns
 returns c = record { all = raised-all; only = raised-only; once = raised-once }

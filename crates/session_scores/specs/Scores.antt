@@ -1,0 +1,52 @@
+-- The scores of a session and its first k + 1 documents, in a pool.
+use Rattle.std.specs.Prelude.{◌≡◌, ℕ, ◌≤◌, List, true}
+use Rattle.frame_pool.specs.Pool.{PoolView}
+use Rattle.frame_pool.specs.ChainView.{ChainView}
+use Rattle.accumulator_pages.specs.Pages as accumulator
+use Rattle.topk_heap.specs.Noting.{AreNoted, hit_to_pass}
+use Rattle.topk_heap.specs.Standing.{TopStands}
+use Rattle.session_scores.specs.declared.scores.Scores.{Scores}
+
+-- ---- what is seen of the scores
+
+-- the chain that they stand in
+abbrev pub own_chain : Scores → ℕ
+own_chain s = accumulator.own_chain s.pages
+
+-- how many documents they are of
+abbrev pub docs_of : Scores → ℕ
+docs_of s = accumulator.docs_of s.pages
+
+-- how many documents are asked for
+abbrev pub k_of : Scores → ℕ
+k_of s = s.top.k
+
+-- what they see of their pool
+abbrev pub own_view : Scores → PoolView → ChainView
+own_view s pool = accumulator.own_view s.pages pool
+
+-- the score of each document
+abbrev pub scores_of : Scores → PoolView → List ℕ
+scores_of s pool = accumulator.pages_scores s.pages pool
+
+-- the scores of one chain, of as many documents, with as many asked for
+pub record AreScoresOf (old new : Scores) : Type 0 where
+  pub chain : own_chain new ≡ own_chain old
+  pub docs : docs_of new ≡ docs_of old
+  pub k : k_of new ≡ k_of old
+
+-- ---- standing
+
+-- the heap has the first k + 1 documents by the scores that they have now
+abbrev pub IsSettled : Scores → PoolView → Type 0
+IsSettled s pool = TopStands s.top (scores_of s pool) (accumulator.pages_places s.pages pool)
+
+-- the heap stood at earlier scores, and whoever has passed its last hit since is noted; there is room for a block of notes, and
+-- for all notes in the heap
+pub record ScoresStand (s : Scores) (pool : PoolView) : Type 0 where
+  pub pages : accumulator.Stands s.pages pool
+  pub noted : AreNoted s.top (scores_of s pool) (accumulator.pages_places s.pages pool) s.reached.docs
+  pub last : s.last ≡ hit_to_pass s.top
+  pub settled : s.settled ≡ true → IsSettled s pool
+  pub block : 128 ≤ s.reached.room
+  pub room : s.reached.room ≤ s.top.room
