@@ -1,6 +1,7 @@
 mod MarkLists
 mod NextTerms
 mod OnePayload
+mod OneVarint
 mod Reading
 mod RowLists
 mod SegmentLists
