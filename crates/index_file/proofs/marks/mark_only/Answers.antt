@@ -1,6 +1,5 @@
-use Rattle.std.proofs.Common.{◌≡◌, ◌-◌, ◌<◌, length, sym, arith}
+use Rattle.std.proofs.Common.{◌-◌, length, sym, arith}
 use Rattle.jass_base.specs.Wire.{short_varint}
-use Rattle.jass_base.specs.Gaps.{gap_in}
 use Rattle.index_layout.specs.Reading.{docs_in}
 use Rattle.index_file.specs.Tables.{row_head}
 use Rattle.index_file.proofs.OneVarint.{one_gap, gap_is, gap_there, only_met, only_marked}
