@@ -35,11 +35,16 @@ pub(crate) fn read_tables(
         Ok(read) => read,
         Err(fault) => return Err(fault),
     };
-    let (text, rows, heads, behind_terms) =
-        match read_terms(alloc, bytes, docs, count, behind_names) {
-            Ok(read) => read,
-            Err(fault) => return Err(fault),
-        };
+    let (text, rows, heads, behind_terms) = match read_terms(
+        alloc,
+        bytes,
+        docs,
+        count,
+        behind_names,
+    ) {
+        Ok(read) => read,
+        Err(fault) => return Err(fault),
+    };
     let (segments, end) = match place_segments(alloc, bytes, docs, &rows, heads, behind_terms) {
         Ok(read) => read,
         Err(fault) => return Err(fault),
@@ -73,7 +78,14 @@ fn place_segments(
     ensures end { IfOk result (λ x. x.1 ≤ length bytes.now) }
 {
     let mut segments = heads.into_vec();
-    match read_payloads(alloc, bytes, docs, rows.as_slice(), segments.as_mut_slice(), from) {
+    match read_payloads(
+        alloc,
+        bytes,
+        docs,
+        rows.as_slice(),
+        segments.as_mut_slice(),
+        from,
+    ) {
         Ok(end) => Ok((Row::from_vec(segments), end)),
         Err(fault) => Err(fault),
     }

@@ -1,4 +1,4 @@
-use Rattle.std.proofs.Common.{rules, arith, ◌≡◌, ap, sym, subst, ◌∙◌, map, None, List, ℕ, Ok, Result}
+use Rattle.std.proofs.Common.{arith, ap, sym, ◌∙◌, map, None, Ok, Result}
 use Rattle.index_layout.specs.declared.refusal.OpenRefusal.{OpenRefusal}
 use Rattle.index_layout.specs.Reading.{Front, NamesRead, TermsRead, name_in, read_index, read_names, read_terms, read_payloads, after_front, after_names, after_terms, after_payloads}
 use Rattle.index_layout.specs.View.{FileView}
@@ -6,7 +6,7 @@ use Rattle.index_layout.specs.Refusals.{judged}
 use Rattle.index_layout.specs.Reading.{end_checks}
 use Rattle.index_file.specs.Payloads.{row_heads}
 use Rattle.index_file.specs.Tables.{row_head}
-use Rattle.index_file.proofs.Reading.{fails_on, fails_as, front_not, front_there, names_there, terms_there, payloads_there, ends_told, view_with, stands_there, up_to_ends, bytes_fit}
+use Rattle.index_file.proofs.Reading.{fails_on, fails_as, front_not, front_there, names_there, terms_there, ends_told, view_with, stands_there, up_to_ends, bytes_fit}
 use Rattle.index_file.proofs.Standing.{same_view}
 use Rattle.index_file.proofs.Wholes.{heads_are, rows_stay}
 use Rattle.index_file.proofs.tables.read_tables.Goals as goal
@@ -54,7 +54,7 @@ returns-in-Err-check_ends-clause-exact c =
     let are = rows_stay text heads segments same rows c.in-Ok-read_terms.ensures.rows in
     let whole = heads_are text segments rows are ∙ ap (map row_head) (sym c.as_slice.ensures) in
     let before = up_to_ends bytes docs c.in-Ok.front.1 places text rows heads segments c.in-Ok-read_names.read.1 c.in-Ok-read_terms.read.3 end same
-        c.in-Ok.ensures.exact c.in-Ok-read_names.ensures.exact c.in-Ok-read_terms.ensures.exact (c.in-Ok-place_segments.ensures.exact text) in
+    c.in-Ok.ensures.exact c.in-Ok-read_names.ensures.exact c.in-Ok-read_terms.ensures.exact (c.in-Ok-place_segments.ensures.exact text) in
     fails_as c.in-Err-check_ends.fault (read_index bytes) (judged (end_checks bytes (row_heads text segments rows) end) v) before (c.in-Err-check_ends.ensures (row_heads text segments rows) v whole)
 
 pub returns-in-Ok-check_ends-clause-exact : goal.returns-in-Ok-check_ends-clause-exact
@@ -72,7 +72,7 @@ returns-in-Ok-check_ends-clause-exact c =
     let are = rows_stay text heads segments same rows c.in-Ok-read_terms.ensures.rows in
     let whole = heads_are text segments rows are ∙ ap (map row_head) (sym c.as_slice.ensures) in
     let before = up_to_ends bytes docs c.in-Ok.front.1 places text rows heads segments c.in-Ok-read_names.read.1 c.in-Ok-read_terms.read.3 end same
-        c.in-Ok.ensures.exact c.in-Ok-read_names.ensures.exact c.in-Ok-read_terms.ensures.exact (c.in-Ok-place_segments.ensures.exact text) in
+    c.in-Ok.ensures.exact c.in-Ok-read_names.ensures.exact c.in-Ok-read_terms.ensures.exact (c.in-Ok-place_segments.ensures.exact text) in
     let read = before ∙ c.in-Ok-check_ends.ensures (row_heads text segments rows) v whole in
     read ∙ ap (λ (v : FileView). (let r : Result FileView OpenRefusal = Ok v in r)) (sym (same_view bytes v read))
 
@@ -91,7 +91,7 @@ returns-in-Ok-check_ends-clause-stands c =
     let are = rows_stay text heads segments same rows c.in-Ok-read_terms.ensures.rows in
     let whole = heads_are text segments rows are ∙ ap (map row_head) (sym c.as_slice.ensures) in
     let before = up_to_ends bytes docs c.in-Ok.front.1 places text rows heads segments c.in-Ok-read_names.read.1 c.in-Ok-read_terms.read.3 end same
-        c.in-Ok.ensures.exact c.in-Ok-read_names.ensures.exact c.in-Ok-read_terms.ensures.exact (c.in-Ok-place_segments.ensures.exact text) in
+    c.in-Ok.ensures.exact c.in-Ok-read_names.ensures.exact c.in-Ok-read_terms.ensures.exact (c.in-Ok-place_segments.ensures.exact text) in
     let passed = c.in-Ok-check_ends.ensures (row_heads text segments rows) v whole in
     let read = before ∙ passed in
     let totals = ends_told bytes (row_heads text segments rows) end v passed in
