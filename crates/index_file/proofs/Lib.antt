@@ -1,3 +1,5 @@
+mod Contents
+mod Halves
 mod MarkLists
 mod NextTerms
 mod OnePayload
@@ -6,6 +8,7 @@ mod Reading
 mod RowLists
 mod SegmentLists
 mod Sequences
+mod Singles
 mod Standing
 mod TermRows
 mod Wholes

@@ -4,3 +4,4 @@ pub mod Marks
 pub mod Opened
 pub mod Places
 pub mod Giving
+pub mod Opening

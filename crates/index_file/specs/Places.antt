@@ -1,5 +1,5 @@
 -- Terms and segments by their numbers, and how many segments are in each codec.
-use Rattle.std.specs.Prelude.{ℕ, ◌==◌, List, [], length}
+use Rattle.std.specs.Prelude.{ℕ, ◌==◌, List, [], length, map}
 use Rattle.std.specs.List.{filter, flat_map, slice_index_or}
 use Rattle.segment_codecs.specs.Codecs.{codec_number}
 use Rattle.segment_codecs.specs.declared.codec.Codec.{Codec}
@@ -11,6 +11,10 @@ use Rattle.index_file.specs.declared.figures.CodecUse.{CodecUse}
 -- the bytes of the term with a number
 abbrev pub term_at : List TermData → ℕ → List ℕ
 term_at terms number = (slice_index_or terms number (record { term = []; segments = [] })).term
+
+-- the bytes of all terms
+abbrev pub texts_of : List TermData → List (List ℕ)
+texts_of terms = map (λ (t : TermData). t.term) terms
 
 -- a segment of the term with a number
 abbrev pub segment_at : List TermData → ℕ → ℕ → SegmentData

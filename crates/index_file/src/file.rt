@@ -9,7 +9,7 @@ ghost use Rattle.index_layout.specs.Refusals.{Answers};
 ghost use Rattle.index_layout.specs.Totals.{totals_of};
 ghost use Rattle.index_layout.specs.View.{FileView, IsFileView, file_bytes};
 ghost use Rattle.index_file.specs.Giving.{Gives};
-ghost use Rattle.index_file.specs.Places.{codec_use, segment_at, term_at};
+ghost use Rattle.index_file.specs.Places.{codec_use, segment_at, term_at, uses_of};
 
 use crate::cursor::Cursor;
 use crate::figures::{CodecUse, Head};
@@ -19,8 +19,9 @@ use crate::span::{Span, part};
 use crate::tables::read_tables;
 use crate::term_row::TermRow;
 use index_layout::OpenFault;
-use jass_base::{Row, Steps, Totals};
-use segment_codecs::SegmentCursor;
+use jass_base::laws::gap_varints_are_read;
+use jass_base::{Names, Row, Steps, Totals, known_gap};
+use segment_codecs::{Codec, SegmentCursor};
 use std::alloc::Global;
 use std::marker::Model;
 use std::sync::ledger::Ledger;
@@ -84,6 +85,19 @@ impl IndexFile {
         }
     }
 
+    /// How many segments are in each codec.
+    pub fn codecs(&self) -> CodecUse
+        ensures { result ≡ codec_use self.now.codecs }
+    {
+        let segments = self.segments.as_slice();
+        CodecUse {
+            varbyte: uses_of(segments, Codec::Varbyte),
+            packed: uses_of(segments, Codec::Packed),
+            bitmap: uses_of(segments, Codec::Bitmap),
+            simple8: uses_of(segments, Codec::Simple8),
+        }
+    }
+
     /// The number of documents.
     pub fn docs(&self) -> u32
         ensures { result ≡ length self.now.index.names }
@@ -131,11 +145,13 @@ impl IndexFile {
         part(self.text.as_slice(), span)
     }
 
-    /// How many segments a term has.
+    /// How many segments a term has; 0 where there is no such term.
     pub fn segments(&self, t: u32) -> u32
-        requires { t < length self.now.index.terms }
         ensures { result ≡ length (segments_at self.now.index.terms t) }
     {
+        if t >= self.terms() {
+            return 0;
+        }
         let rows = self.rows.as_slice();
         rows[t as usize + 1].segment - rows[t as usize].segment
     }
@@ -162,10 +178,10 @@ impl IndexFile {
         ensures impact { result.impact ≡ (segment_at self.now.index.terms t s).impact }
         ensures count { result.count ≡ length (segment_at self.now.index.terms t s).docs }
     {
-        let segment = self.segment(t, s);
+        let row = self.segment(t, s);
         Head {
-            impact: segment.impact,
-            count: segment.count,
+            impact: row.impact,
+            count: row.count,
         }
     }
 
@@ -214,9 +230,54 @@ impl IndexFile {
         ensures doc { (segment_at self.now.index.terms t s).docs ≡ result ∷ [] }
         ensures steps { steps.new ≡ steps.old + 1 }
     {
+        self.is_checked();
+        gap_varints_are_read();
+        let found = self.segment(t, s);
+        match found.codec {
+            Codec::Varbyte => {
+                steps.add(1);
+                known_gap(self.bytes.as_slice(), found.place as usize).0
+            }
+            _ => self.first_of_block(t, s, steps),
+        }
+    }
+
+    /// The same in any codec.
+    fn first_of_block<L: Ledger>(&self, t: u32, s: u32, steps: &mut Steps<L>) -> u32
+        requires t { t < length self.now.index.terms }
+        requires s { s < length (segments_at self.now.index.terms t) }
+        requires one { length (segment_at self.now.index.terms t s).docs ≡ 1 }
+        ensures doc { (segment_at self.now.index.terms t s).docs ≡ result ∷ [] }
+        ensures steps { steps.new ≡ steps.old + 1 }
+    {
         let mut cursor = self.cursor(t, s);
         let mut block = [0u32; 128];
         self.next_block(&mut cursor, &mut block, steps);
         block[0]
+    }
+}
+
+/// How many segments are in a codec.
+fn uses_of(segments: &[Segment], codec: Codec) -> u64
+    ensures { result ≡ uses_of codec (map (λ (s : Segment). s.codec) segments.now) }
+{
+    let mut count = 0;
+    'segments: for segment in segments {
+        if segment.codec == codec {
+            count += 1;
+        }
+    }
+    count
+}
+
+impl Names for IndexFile {
+    ghost names = { λ file. file.index.names };
+
+    fn docs(&self) -> u32 {
+        self.docs()
+    }
+
+    fn name(&self, doc: u32) -> &str {
+        self.name(doc)
     }
 }

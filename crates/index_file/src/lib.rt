@@ -14,8 +14,10 @@ mod marks;
 mod name;
 mod names;
 mod number;
+mod opening;
 mod payload;
 mod payloads;
+mod searching;
 mod segment;
 mod span;
 mod tables;
@@ -27,3 +29,7 @@ mod terms;
 pub use cursor::Cursor;
 pub use figures::{CodecUse, Head};
 pub use file::IndexFile;
+pub use opening::open;
+
+#[cfg(test)]
+mod tests;

@@ -1,0 +1,47 @@
+-- A file whose front is read: a longer one is refused whatever it holds.
+use Rattle.std.proofs.Common.{◌≡◌, ◌<◌, ◌^◌, ℕ, List, length, take, true, nat_lt, Option, Some, None, Result, Ok, Err, ap, sym, ◌∙◌, refl, arith, inl, inr}
+use Rattle.std.specs.Prelude.{IsSomeAnd}
+use Rattle.std.specs.FinMap.{get}
+use Rattle.std.proofs.lemmas.Bool.{cases_lt}
+use Rattle.std.proofs.lemmas.List.{take_all, length-take-le}
+use Rattle.jass_base.specs.Outside.{Files, OnContent}
+use Rattle.index_layout.specs.declared.refusal.OpenFault.{OpenFault}
+use Rattle.index_layout.specs.declared.refusal.OpenFault.TheVariants as faults
+use Rattle.index_layout.specs.declared.refusal.OpenRefusal.{OpenRefusal}
+use Rattle.index_layout.specs.declared.refusal.OpenWhy.TheVariants.{Limit}
+use Rattle.index_layout.specs.Reading.{front_checks, read_front, read_index}
+use Rattle.index_layout.specs.Refusals.{Answers}
+use Rattle.index_layout.specs.View.{FileView}
+use Rattle.index_file.specs.Opening.{Opens}
+
+abbrev too_long : Result FileView OpenRefusal
+too_long = Err (record { at = 2 ^ 32; why = Limit })
+
+long_refused : (bytes : List ℕ) → 2 ^ 32 < length bytes → read_index bytes ≡ too_long
+unfolding read_index read_front front_checks
+long_refused bytes long = let over : nat_lt (2 ^ 32) (length bytes) ≡ true = grind (arith) in rw over refl
+
+-- the front of so many bytes is read as the whole
+pub front_tells : (content : List ℕ) → read_index (take 4294967297 content) ≡ read_index content
+front_tells content = elim (cases_lt (2 ^ 32) (length content)) [
+  | inl l ↦ (let e = length-take-le 4294967297 content (omega (arith, l)) in long_refused (take 4294967297 content) (omega (arith, e)) ∙ sym (long_refused content l))
+  | inr g ↦ ap read_index (take_all 4294967297 content (omega (arith, g)))
+]
+
+on_content : (files : Option Files) (name : List ℕ) (P Q : List ℕ → Type 0) → ((content : List ℕ) → P content → Q content) → OnContent files name P → OnContent files name Q
+on_content None name P Q then there = tt
+on_content (Some files) name P Q then there = at (get files name) there
+  where
+    at : (o : Option (List ℕ)) → IsSomeAnd o P → IsSomeAnd o Q
+    at None there = there
+    at (Some content) there = then content there
+
+pub opens_front : (files : Option Files) (name row : List ℕ) (result : Result FileView OpenFault) → OnContent files name (λ content. row ≡ take 4294967297 content) → Answers (λ file. file) result (read_index row) → Opens files name result
+opens_front files name row (Ok file) there read =
+    on_content files name (λ content. row ≡ take 4294967297 content) (λ content. read_index content ≡ Ok file)
+    (λ content is. sym (front_tells content) ∙ ap read_index (sym is) ∙ read) there
+opens_front files name row (Err (faults.Refused refusal)) there read =
+    on_content files name (λ content. row ≡ take 4294967297 content) (λ content. read_index content ≡ Err refusal)
+    (λ content is. sym (front_tells content) ∙ ap read_index (sym is) ∙ read) there
+opens_front files name row (Err faults.ReadFault) there read = tt
+opens_front files name row (Err faults.NoMemory) there read = tt

@@ -1,0 +1,62 @@
+-- A content that is read piece by piece.
+use Rattle.std.proofs.Common.{◌≡◌, ℕ, min, ◌+◌, ◌<◌, ◌≤◌, List, [], ◌++◌, length, take, drop, Option, Some, None, refl, sym, ap, subst, ◌∙◌, length-take, length-drop, length-append, take_all, arith}
+use Rattle.std.proofs.lemmas.List.{take-take}
+use Rattle.std.specs.Prelude.{IsSomeAnd, IfSome}
+use Rattle.std.specs.FinMap.{get}
+use Rattle.std.proofs.Math.Seq.{take-add}
+use Rattle.jass_base.specs.Outside.{Files, OnContent, ForContent, AreBytesAt}
+use Rattle.whole_files.specs.Fronts.{IsFrontOf}
+
+-- what holds of the front and what holds of the content of a name that is there
+pub there : (files : Option Files) (name : List ℕ) (P Q R : List ℕ → Type 0) → ((content : List ℕ) → P content → Q content → R content) → ForContent files name P → OnContent files name Q → OnContent files name R
+there None name P Q R both p q = tt
+there (Some files) name P Q R both p q = at (get files name) p q
+  where
+    at : (o : Option (List ℕ)) → IfSome o P → IsSomeAnd o Q → IsSomeAnd o R
+    at None p q = q
+    at (Some content) p q = both content p q
+
+pub kept : (files : Option Files) (name : List ℕ) (P : List ℕ → Type 0) → OnContent files name P → ForContent files name P
+kept None name P p = tt
+kept (Some files) name P p = at (get files name) p
+  where
+    at : (o : Option (List ℕ)) → IsSomeAnd o P → IfSome o P
+    at None p = tt
+    at (Some content) p = p
+
+-- nothing is the front of any content
+pub front_empty : (files : Option Files) (name row : List ℕ) → row ≡ [] → ForContent files name (IsFrontOf row)
+front_empty None name row is = tt
+front_empty (Some files) name row is = at (get files name)
+  where
+    empty_front : (content : List ℕ) → IsFrontOf row content
+    empty_front content = rw is (record { front = refl; within = omega arith })
+
+    at : (o : Option (List ℕ)) → IfSome o (IsFrontOf row)
+    at None = tt
+    at (Some content) = empty_front content
+
+least : (m n : ℕ) → m ≤ n → min m n ≡ m
+least m n h = omega arith
+
+-- one piece more
+pub front_more : (row piece grown content : List ℕ) (at count : ℕ) → at ≡ length row → grown ≡ row ++ take count piece → IsFrontOf row content → AreBytesAt content at count piece → IsFrontOf grown content
+front_more row piece grown content at count behind is front read =
+    let bytes : AreBytesAt content (length row) count piece = subst (λ n. AreBytesAt content n count piece) behind read in
+    let size : length grown ≡ length row + count
+    = ap length is ∙ length-append row (take count piece) ∙ ap (λ n. length row + n) (ap length bytes.bytes ∙ length-take count (drop (length row) content) ∙ least count (length (drop (length row) content)) bytes.within) in
+    record {
+      front = is ∙ ap (λ (xs : List ℕ). xs ++ take count piece) front.front ∙ ap (λ (xs : List ℕ). take (length row) content ++ xs) bytes.bytes ∙ sym (take-add (length row) count content) ∙ ap (λ n. take n content) (sym size);
+      within = omega (arith, size, bytes.within, length-drop (length row) content, front.within);
+    }
+
+-- nothing is left behind the front
+pub front_whole : (row piece content : List ℕ) (at count most : ℕ) → at ≡ length row → count ≡ 0 → 0 < length piece → length row < most → IsFrontOf row content → AreBytesAt content at count piece → row ≡ take most content
+front_whole row piece content at count most behind none room few front bytes =
+    let all : length content ≤ length row = omega (arith, bytes.end none room) in
+    front.front ∙ take_all (length row) content all ∙ sym (take_all most content (omega arith))
+
+-- a front that is longer than what is read
+pub front_cut : (row cut content : List ℕ) (most : ℕ) → cut ≡ take most row → most ≤ length row → IsFrontOf row content → cut ≡ take most content
+front_cut row cut content most is many front =
+    is ∙ ap (take most) front.front ∙ take-take most (length row) content many

@@ -1,0 +1,7 @@
+#![tactic(auto)]
+
+//! The front of a file, read from a cabinet into memory.
+
+mod front;
+
+pub use front::{ReadStop, read_front};
