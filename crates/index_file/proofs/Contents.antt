@@ -1,5 +1,5 @@
 -- A file whose front is read: a longer one is refused whatever it holds.
-use Rattle.std.proofs.Common.{◌≡◌, ◌<◌, ◌≤◌, ◌^◌, ℕ, List, length, take, true, nat_lt, Option, Some, None, Result, Ok, Err, ap, sym, subst, ◌∙◌, refl, arith, inl, inr}
+use Rattle.std.proofs.Common.{◌≡◌, ◌<◌, ◌^◌, ℕ, List, length, take, true, nat_lt, Option, Some, None, Result, Ok, Err, ap, sym, ◌∙◌, refl, arith, inl, inr}
 use Rattle.std.specs.Prelude.{IsSomeAnd}
 use Rattle.std.specs.FinMap.{get}
 use Rattle.std.proofs.lemmas.Bool.{cases_lt}

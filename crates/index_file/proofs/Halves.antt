@@ -1,7 +1,6 @@
 -- Finding a term among terms that rise by their bytes.
-use Rattle.std.proofs.Common.{Ordering, Less, Equal, Greater, ◌≡◌, ◌<◌, ◌≤◌, ◌+◌, ℕ, suc, zero, Bool, true, false, not, List, [], ◌∷◌, length, Option, Some, None, nat_lt, cond, arith, inl, inr, get_or, ap, sym, subst, ◌∙◌, refl, slice_index_or, map}
+use Rattle.std.proofs.Common.{Ordering, Less, Equal, Greater, ◌≡◌, ◌<◌, ◌≤◌, ◌+◌, ℕ, Bool, true, false, not, List, [], ◌∷◌, length, Some, None, arith, inl, inr, get_or, ap, sym, subst, ◌∙◌, refl, slice_index_or}
 use Rattle.std.specs.Prelude.{AllPairs}
-use Rattle.std.specs.Bool.{Decides}
 use Rattle.std.specs.Ordering.{is_lt, is_eq, nat_cmp, ordering_reverse}
 use Rattle.std.specs.Cmp.Lexicographic.{slice_cmp}
 use Rattle.std.specs.List.{position, prefix_len}

@@ -3,6 +3,7 @@ mod Halves
 mod MarkLists
 mod NextTerms
 mod OnePayload
+mod OneVarint
 mod Reading
 mod RowLists
 mod SegmentLists

@@ -1,16 +1,15 @@
 -- What is read of a file, part by part.
-use Rattle.std.proofs.Common.{◌≡◌, ◌≤◌, ◌<◌, ◌==◌, ℕ, Bool, true, false, not, List, [], ◌∷◌, length, map, All, None, Result, Ok, Err, nat_lt, ap, sym, subst, ◌∙◌, refl, arith, get_or}
+use Rattle.std.proofs.Common.{◌≡◌, ◌≤◌, ◌<◌, ◌==◌, ℕ, Bool, true, false, not, List, [], ◌∷◌, length, map, All, None, Result, Ok, Err, ap, sym, subst, ◌∙◌, refl, arith, get_or}
 use Rattle.std.proofs.lemmas.Bool.Decides.{nat_tests}
 use Rattle.std.proofs.lemmas.List.{length-map}
 use Rattle.std.proofs.lemmas.List.Elements.{All-from_get_or}
-use Rattle.index_model.specs.Index.{TermData}
 use Rattle.index_layout.specs.Bytes.{u32_in, u64_in}
 use Rattle.index_layout.specs.declared.refusal.OpenRefusal.{OpenRefusal}
 use Rattle.index_layout.specs.declared.refusal.OpenFault.{OpenFault}
 use Rattle.index_layout.specs.declared.refusal.OpenFault.TheVariants as faults
 use Rattle.index_layout.specs.Heads.{TermHeads, head_postings, greatest_impact}
 use Rattle.index_layout.specs.Reading.{Front, NamesRead, TermsRead, IndexRead, read_front, read_names, read_terms, read_payloads, name_in, end_checks, head_codecs, after_front, after_names, after_terms, after_payloads, read_index}
-use Rattle.index_layout.specs.Refusals.{◌>>=◌, Fails, Check, check, judged}
+use Rattle.index_layout.specs.Refusals.{◌>>=◌, Fails, Check, judged}
 use Rattle.index_layout.specs.View.{FileView, IsFileView, file_bytes}
 use Rattle.index_file.specs.declared.segment.Segment.{Segment}
 use Rattle.index_file.specs.declared.term_row.TermRow.{TermRow}
@@ -18,7 +17,7 @@ use Rattle.index_file.specs.Opened.{view_of, Stands}
 use Rattle.index_file.specs.Payloads.{IsPayload, row_heads, row_terms}
 use Rattle.index_file.specs.Tables.{IsNamePlace, AreRows, row_head}
 use Rattle.index_file.proofs.Standing.{same_view}
-use Rattle.index_file.proofs.Wholes.{codecs_are, heads_stay, rows_stay, postings_are, greatest_are, terms_count}
+use Rattle.index_file.proofs.Wholes.{codecs_are, heads_stay, postings_are, greatest_are, terms_count}
 
 -- a step that fails makes the whole fail
 pub fails_on : {A B : Type 0} (fault : OpenFault) (read : Result A OpenRefusal) (f : A → Result B OpenRefusal) → Fails fault read → Fails fault (read >>= f)

@@ -1,8 +1,8 @@
 -- What an opened file's tables tell of its view.
-use Rattle.std.proofs.Common.{◌≡◌, ◌<◌, ◌≤◌, ◌+◌, ◌-◌, ◌^◌, ℕ, zero, suc, List, [], ◌∷◌, ◌++◌, length, map, take, drop, Some, All, Result, Ok, ap, sym, subst, ◌∙◌, refl, slice_get, slice_index, slice_index_or, get_or, arith, true}
-use Rattle.std.specs.Prelude.{slice_range, max}
+use Rattle.std.proofs.Common.{◌≡◌, ◌<◌, ◌≤◌, ◌+◌, ◌-◌, ℕ, zero, suc, List, [], ◌∷◌, ◌++◌, length, map, drop, Some, All, Ok, ap, sym, subst, ◌∙◌, refl, slice_get, slice_index, slice_index_or, arith}
+use Rattle.std.specs.Prelude.{slice_range}
 use Rattle.std.specs.List.{flat_map}
-use Rattle.std.specs.Str.{IsUtf8, is_utf8}
+use Rattle.std.specs.Str.{IsUtf8}
 use Rattle.std.proofs.lemmas.List.{length-map, get_or-map, get_or-drop, get_or-take, length-drop, length-take-le}
 use Rattle.std.proofs.lemmas.Option.{slice_get-get_or}
 use Rattle.std.proofs.lemmas.Str.{IsUtf8-from_is_utf8}
@@ -12,8 +12,7 @@ use Rattle.segment_codecs.specs.Codecs.{payload_of}
 use Rattle.segment_codecs.specs.declared.codec.Codec.TheVariants.{Varbyte}
 use Rattle.index_model.specs.Index.{SegmentData, TermData, IsSegment, IsTerm}
 use Rattle.index_model.specs.Querying.{segments_at}
-use Rattle.index_layout.specs.declared.refusal.OpenRefusal.{OpenRefusal}
-use Rattle.index_layout.specs.Reading.{name_in, docs_in, read_index}
+use Rattle.index_layout.specs.Reading.{name_in, read_index}
 use Rattle.index_layout.specs.Totals.{greatest_in, index_greatest}
 use Rattle.index_layout.specs.View.{FileView, IsFileView, file_bytes}
 use Rattle.index_file.specs.declared.segment.Segment.{Segment}
@@ -21,7 +20,7 @@ use Rattle.index_file.specs.declared.term_row.TermRow.{TermRow}
 use Rattle.index_file.specs.Opened.{view_of, view_or_empty, Stands}
 use Rattle.index_file.specs.Payloads.{IsPayload, row_segment, row_terms, term_between}
 use Rattle.index_file.specs.Places.{term_at, segment_at}
-use Rattle.index_file.specs.Tables.{RowsFrom, AreRows, row_head}
+use Rattle.index_file.specs.Tables.{RowsFrom}
 use Rattle.index_file.proofs.TermRows.{row_below}
 
 -- the bytes that are read have the view that was read

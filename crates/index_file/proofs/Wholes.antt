@@ -1,22 +1,20 @@
 -- Tables as wholes: all heads, all codecs, and the totals.
-use Rattle.std.proofs.Common.{◌≡◌, ◌≤◌, ◌+◌, ◌-◌, ℕ, List, [], ◌∷◌, ◌++◌, length, map, take, drop, All, append_assoc, ap, sym, subst, ◌∙◌, refl, arith}
+use Rattle.std.proofs.Common.{◌≡◌, ◌≤◌, ◌+◌, ◌-◌, ℕ, List, [], ◌∷◌, ◌++◌, length, map, take, drop, All, ap, sym, ◌∙◌, refl, arith}
 use Rattle.std.specs.Prelude.{slice_range, max}
 use Rattle.std.specs.List.{flat_map, sum_by}
-use Rattle.std.proofs.lemmas.List.{append-nil, length-map, map-append, take-map, drop-map, take-append-drop, drop-drop, drop_all}
+use Rattle.std.proofs.lemmas.List.{length-map, map-append, take-map, drop-map, take-append-drop, drop-drop, drop_all}
 use Rattle.std.proofs.lemmas.List.Elements.{All-head, All-tail, All-take, All-drop}
 use Rattle.std.proofs.lemmas.List.Sums.{sum_by-cons, sum_by-append}
-use Rattle.segment_codecs.specs.declared.codec.Codec.{Codec}
 use Rattle.index_model.specs.Index.{SegmentData, TermData}
 use Rattle.index_layout.specs.Heads.{HeadData, TermHeads, all_heads, head_postings, greatest_of, greatest_impact}
-use Rattle.index_layout.specs.Reading.{docs_in, head_codecs}
+use Rattle.index_layout.specs.Reading.{head_codecs}
 use Rattle.index_layout.specs.Totals.{greatest_in}
 use Rattle.index_layout.specs.View.{term_postings}
 use Rattle.index_file.specs.declared.segment.Segment.{Segment}
 use Rattle.index_file.specs.declared.term_row.TermRow.{TermRow}
 use Rattle.index_file.specs.Opened.{all_codecs}
-use Rattle.index_file.specs.Payloads.{IsPayload, heads_between, row_segment, row_heads, row_terms}
+use Rattle.index_file.specs.Payloads.{IsPayload, row_segment, row_heads, row_terms}
 use Rattle.index_file.specs.Tables.{RowsFrom, AreRows, row_head}
-use Rattle.index_file.proofs.TermRows.{row_below}
 
 -- parts of a list that follow one another
 parts_join : {X : Type 0} (xs : List X) (from to : ℕ) → from ≤ to → slice_range xs from to ++ drop to xs ≡ drop from xs

@@ -1,4 +1,4 @@
-use Rattle.std.proofs.Common.{rules, arith, ◌≡◌, ap, sym, subst, ◌∙◌, map, None, List, ℕ, Ok, Result}
+use Rattle.std.proofs.Common.{arith, ap, sym, ◌∙◌, map, None, Ok, Result}
 use Rattle.index_layout.specs.declared.refusal.OpenRefusal.{OpenRefusal}
 use Rattle.index_layout.specs.Reading.{Front, NamesRead, TermsRead, name_in, read_index, read_names, read_terms, read_payloads, after_front, after_names, after_terms, after_payloads}
 use Rattle.index_layout.specs.View.{FileView}
@@ -6,7 +6,7 @@ use Rattle.index_layout.specs.Refusals.{judged}
 use Rattle.index_layout.specs.Reading.{end_checks}
 use Rattle.index_file.specs.Payloads.{row_heads}
 use Rattle.index_file.specs.Tables.{row_head}
-use Rattle.index_file.proofs.Reading.{fails_on, fails_as, front_not, front_there, names_there, terms_there, payloads_there, ends_told, view_with, stands_there, up_to_ends, bytes_fit}
+use Rattle.index_file.proofs.Reading.{fails_on, fails_as, front_not, front_there, names_there, terms_there, ends_told, view_with, stands_there, up_to_ends, bytes_fit}
 use Rattle.index_file.proofs.Standing.{same_view}
 use Rattle.index_file.proofs.Wholes.{heads_are, rows_stay}
 use Rattle.index_file.proofs.tables.read_tables.Goals as goal

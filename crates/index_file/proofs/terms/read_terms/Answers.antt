@@ -1,4 +1,4 @@
-use Rattle.std.proofs.Common.{◌≡◌, ◌+◌, ◌-◌, ◌++◌, suc, List, ◌∷◌, [], None, Some, map, drop, length, ap, sym, subst, ◌∙◌, arith}
+use Rattle.std.proofs.Common.{◌≡◌, ◌+◌, ◌-◌, suc, List, ◌∷◌, [], None, Some, map, drop, length, ap, sym, subst, ◌∙◌, arith}
 use Rattle.std.proofs.lemmas.List.{length-append}
 use Rattle.index_layout.specs.Heads.{TermHeads}
 use Rattle.index_layout.specs.Reading.{HeadsRead, term_in, read_heads, read_terms}

@@ -1,4 +1,4 @@
-use Rattle.std.proofs.Common.{rules, arith, subst, sym, ap, ◌∙◌, ◌<◌, ◌≡◌, ◌+◌, ◌≤◌, ℕ, List, Some, length, slice_get, slice_index}
+use Rattle.std.proofs.Common.{subst, sym, ◌<◌, length}
 use Rattle.index_layout.specs.View.{FileView}
 use Rattle.index_file.specs.Opened.{view_of}
 use Rattle.index_layout.specs.Reading.{name_in}

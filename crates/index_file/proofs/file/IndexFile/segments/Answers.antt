@@ -1,4 +1,4 @@
-use Rattle.std.proofs.Common.{rules, arith, subst, sym, ap, ◌∙◌, ◌<◌, ◌≡◌, length}
+use Rattle.std.proofs.Common.{arith, subst, sym, ◌<◌, length}
 use Rattle.index_layout.specs.View.{FileView}
 use Rattle.index_file.specs.Opened.{view_of}
 use Rattle.index_file.proofs.Standing.{there, segments_count}

@@ -1,5 +1,4 @@
-use Rattle.std.proofs.Common.{rules, arith, subst, sym, ap, ◌∙◌, ◌<◌, ◌≡◌, ◌+◌, ◌≤◌, ℕ, List, Some, length, slice_get, slice_index}
-use Rattle.index_layout.specs.View.{FileView}
+use Rattle.std.proofs.Common.{arith}
 use Rattle.index_file.specs.Opened.{view_of}
 use Rattle.index_file.proofs.Standing.{greatest_small}
 use Rattle.index_file.proofs.file.IndexFile.totals.Goals as goal
