@@ -147,6 +147,7 @@ impl Scores {
         }
     }
 
+    // Takes in those noted.
     fn settle_noted(&mut self, pool: &mut FramePool)
         requires stand { ScoresStand self.old pool.old }
         ensures settled { IsSettled self.new pool.new }
@@ -221,8 +222,8 @@ impl Scores {
     }
 }
 
-// Room for the first k + 1 documents, and for twice as many notes and two blocks between two settlings: so a settling
-// costs each note before it little, and the last of the first is soon known.
+// Room for the first k + 1 documents, and for as many notes and a block between two settlings: each is paid for by the
+// notes before it, and the last of the first documents, which few pass, is soon known.
 fn rooms(alloc: Global, k: u32) -> Result<(Top, Reached), NoMemory>
     requires some { 1 ≤ k }
     requires few { k ≤ 100000 }
@@ -233,7 +234,7 @@ fn rooms(alloc: Global, k: u32) -> Result<(Top, Reached), NoMemory>
     ensures block { IfOk result (λ rooms. 128 ≤ rooms.1.room) }
     ensures room { IfOk result (λ rooms. rooms.1.room ≤ rooms.0.room) }
 {
-    let room = 2 * (k as usize + 1 + BLOCK_DOCS);
+    let room = k as usize + 1 + BLOCK_DOCS;
     let top = Top::new(alloc, k, room)?;
     let reached = Reached::new(alloc, room)?;
     Ok((top, reached))
