@@ -3,11 +3,11 @@ mod Halves
 mod MarkLists
 mod NextTerms
 mod OnePayload
+mod OneVarint
 mod Reading
 mod RowLists
 mod SegmentLists
 mod Sequences
-mod Singles
 mod Standing
 mod TermRows
 mod Wholes

@@ -11,7 +11,7 @@ use index_layout::OpenFault;
 use std::alloc::Global;
 
 /// Checks the payloads of all segments, notes where each begins, and gives the place behind the
-/// last.
+/// last. Meanwhile it takes four bytes for each document.
 pub(crate) fn read_payloads(
     alloc: Global,
     bytes: &[u8],
