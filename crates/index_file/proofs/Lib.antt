@@ -8,7 +8,6 @@ mod Reading
 mod RowLists
 mod SegmentLists
 mod Sequences
-mod Singles
 mod Standing
 mod TermRows
 mod Wholes

@@ -24,7 +24,7 @@ pub record OneGap (bytes : List ℕ) (d place : ℕ) (docs : List ℕ) : Type 0 
   pub below : doc < d
   pub read : gap_in (drop place bytes) ≡ Ok (record { gap = doc; size = length (short_varint doc) })
 
-one_there : (found : Found) (bytes : List ℕ) (d place size : ℕ) (docs : List ℕ) → AreDocs d docs → length docs ≡ 1 → slice_range bytes place (place + size) ≡ payload_of Varbyte d docs → OneGap bytes d place docs
+pub one_there : (found : Found) (bytes : List ℕ) (d place size : ℕ) (docs : List ℕ) → AreDocs d docs → length docs ≡ 1 → slice_range bytes place (place + size) ≡ payload_of Varbyte d docs → OneGap bytes d place docs
 one_there found bytes d place size [] are one spelled = absurd (omega (arith, one))
 one_there found bytes d place size (doc ∷ []) are one spelled =
     let below : doc < d = are.below 0 0 (omega arith) in

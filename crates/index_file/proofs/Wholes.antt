@@ -12,7 +12,7 @@ use Rattle.index_layout.specs.Totals.{greatest_in}
 use Rattle.index_layout.specs.View.{term_postings}
 use Rattle.index_file.specs.declared.segment.Segment.{Segment}
 use Rattle.index_file.specs.declared.term_row.TermRow.{TermRow}
-use Rattle.index_file.specs.Opened.{all_codecs}
+use Rattle.index_file.specs.Places.{all_codecs}
 use Rattle.index_file.specs.Payloads.{IsPayload, row_segment, row_heads, row_terms}
 use Rattle.index_file.specs.Tables.{RowsFrom, AreRows, row_head}
 

@@ -1,7 +1,5 @@
 -- An opened file: its bytes, and what its tables tell of them.
 use Rattle.std.specs.Prelude.{ℕ, ◌≡◌, ◌+◌, ◌≤◌, List, [], length, map, All, Result, Ok, Err}
-use Rattle.std.specs.List.{flat_map}
-use Rattle.segment_codecs.specs.declared.codec.Codec.{Codec}
 use Rattle.index_layout.specs.Bytes.{u32_in, u64_in}
 use Rattle.index_layout.specs.declared.refusal.OpenRefusal.{OpenRefusal}
 use Rattle.index_layout.specs.Reading.{name_in, read_index}
@@ -10,6 +8,7 @@ use Rattle.index_layout.specs.View.{FileView, IsFileView, file_bytes, index_post
 use Rattle.index_file.specs.declared.segment.Segment.{Segment}
 use Rattle.index_file.specs.declared.term_row.TermRow.{TermRow}
 use Rattle.index_file.specs.Payloads.{IsPayload, row_terms}
+use Rattle.index_file.specs.Places.{all_codecs}
 use Rattle.index_file.specs.Tables.{IsNamePlace, AreRows}
 
 abbrev pub view_or_empty : Result FileView OpenRefusal → FileView
@@ -20,12 +19,9 @@ view_or_empty (Err refusal) = record { index = record { names = []; terms = [] }
 unfoldable pub view_of : List ℕ → FileView
 view_of bytes = view_or_empty (read_index bytes)
 
--- the codecs of all segments, term by term
-abbrev pub all_codecs : List (List Codec) → List Codec
-all_codecs codecs = flat_map (λ (here : List Codec). here) codecs
-
 -- the tables tell where the parts of the view stand in the bytes
-pub record Stands (bytes places text : List ℕ) (rows : List TermRow) (segments : List Segment) (v : FileView) : Type 0 where
+pub record Stands (bytes places text : List ℕ) (rows : List TermRow)
+    (segments : List Segment) (v : FileView) : Type 0 where
   pub spelled : bytes ≡ file_bytes v
   pub view : IsFileView v
   pub names : v.index.names ≡ map (name_in bytes) places

@@ -20,15 +20,19 @@ texts_of terms = map (λ (t : TermData). t.term) terms
 abbrev pub segment_at : List TermData → ℕ → ℕ → SegmentData
 segment_at terms number place = slice_index_or (segments_at terms number) place (record { impact = 0; docs = [] })
 
+-- the codecs of all segments, where they stand term by term
+abbrev pub all_codecs : List (List Codec) → List Codec
+all_codecs codecs = flat_map (λ (here : List Codec). here) codecs
+
 -- how many of some codecs are this one
 abbrev pub uses_of : Codec → List Codec → ℕ
 uses_of codec codecs = length (filter (λ (c : Codec). codec_number c == codec_number codec) codecs)
 
--- how many segments are in each codec, where the codecs stand term by term
+-- how many segments are in each codec
 abbrev pub codec_use : List (List Codec) → CodecUse
 codec_use codecs = record {
-  varbyte = uses_of Varbyte (flat_map (λ (here : List Codec). here) codecs);
-  packed = uses_of Packed (flat_map (λ (here : List Codec). here) codecs);
-  bitmap = uses_of Bitmap (flat_map (λ (here : List Codec). here) codecs);
-  simple8 = uses_of Simple8 (flat_map (λ (here : List Codec). here) codecs);
+  varbyte = uses_of Varbyte (all_codecs codecs);
+  packed = uses_of Packed (all_codecs codecs);
+  bitmap = uses_of Bitmap (all_codecs codecs);
+  simple8 = uses_of Simple8 (all_codecs codecs);
 }

@@ -230,7 +230,6 @@ impl IndexFile {
         ensures doc { (segment_at self.now.index.terms t s).docs ≡ result ∷ [] }
         ensures steps { steps.new ≡ steps.old + 1 }
     {
-        self.is_checked();
         gap_varints_are_read();
         let found = self.segment(t, s);
         match found.codec {

@@ -3,7 +3,7 @@ use Rattle.jass_base.specs.Gaps.{gap_in}
 use Rattle.segment_codecs.specs.Codecs.{payload_of}
 use Rattle.index_layout.specs.View.{file_bytes}
 use Rattle.index_file.specs.Places.{segment_at}
-use Rattle.index_file.proofs.Singles.{single, is_ok, same_doc}
+use Rattle.index_file.proofs.OneVarint.{one_there, gap_is, gap_there}
 use Rattle.index_file.proofs.file.IndexFile.first_doc.Goals as goal
 
 pub known_gap-requires : goal.known_gap-requires
@@ -14,10 +14,10 @@ known_gap-requires g c =
     let place = c.segment-found.result.place in
     let bytes = file_bytes v in
     let spelled = c.segment-found.ensures.payload ∙ ap (λ codec. payload_of codec d docs) c.in-Varbyte.is in
-    let single = single c.gap_varints_are_read.ensures.found bytes place c.segment-found.result.size d docs c.requires.one c.segment-found.ensures.docs c.is_checked.ensures.index.few_names spelled in
+    let one = one_there c.gap_varints_are_read.ensures.found bytes d place c.segment-found.result.size docs c.segment-found.ensures.docs c.requires.one spelled in
     let whole : c.as_slice.result.now ≡ bytes = c.as_slice.ensures ∙ c.self.invariant.spelled ∙ ap file_bytes c.self.view_is in
-    let there = ap (λ (bytes : List ℕ). gap_in (drop place bytes)) whole ∙ single.there in
-    is_ok (gap_in (drop place c.as_slice.result.now)) _ there
+    let there = ap (λ (bytes : List ℕ). gap_in (drop place bytes)) whole ∙ one.read in
+    gap_there (gap_in (drop place c.as_slice.result.now)) _ there
 
 pub returns-in-Varbyte-clause-doc : goal.returns-in-Varbyte-clause-doc
 returns-in-Varbyte-clause-doc g c =
@@ -27,7 +27,7 @@ returns-in-Varbyte-clause-doc g c =
     let place = c.segment-found.result.place in
     let bytes = file_bytes v in
     let spelled = c.segment-found.ensures.payload ∙ ap (λ codec. payload_of codec d docs) c.in-Varbyte.is in
-    let single = single c.gap_varints_are_read.ensures.found bytes place c.segment-found.result.size d docs c.requires.one c.segment-found.ensures.docs c.is_checked.ensures.index.few_names spelled in
+    let one = one_there c.gap_varints_are_read.ensures.found bytes d place c.segment-found.result.size docs c.segment-found.ensures.docs c.requires.one spelled in
     let whole : c.as_slice.result.now ≡ bytes = c.as_slice.ensures ∙ c.self.invariant.spelled ∙ ap file_bytes c.self.view_is in
-    let there = ap (λ (bytes : List ℕ). gap_in (drop place bytes)) whole ∙ single.there in
-    single.only ∙ ap (λ n. n ∷ []) (same_doc (gap_in (drop place c.as_slice.result.now)) single.doc c.known_gap.result.0 _ _ there c.known_gap.ensures.value)
+    let there = ap (λ (bytes : List ℕ). gap_in (drop place bytes)) whole ∙ one.read in
+    one.only ∙ ap (λ n. n ∷ []) (gap_is c.as_slice.result.now place one.doc c.known_gap.result.0 _ _ there c.known_gap.ensures.value)
