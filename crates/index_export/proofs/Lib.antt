@@ -1,0 +1,4 @@
+pub mod Again
+pub mod OneTerm
+pub mod Steps
+pub mod Whole

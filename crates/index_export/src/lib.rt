@@ -1,0 +1,12 @@
+#![tactic(auto)]
+
+//! The collection that an index is exported as: its impacts stand as term frequencies, and of the
+//! documents nothing is known but their names.
+
+mod documents;
+mod exporting;
+mod gathering;
+pub mod laws;
+mod lists;
+
+pub use exporting::export_collection;
