@@ -1,0 +1,3 @@
+mod OffsetLaws
+mod OldTerms
+mod OldFiles
