@@ -1,3 +1,4 @@
 mod OffsetLaws
 mod OldTerms
 mod OldFiles
+mod Sequences
