@@ -2,9 +2,14 @@
 
 //! An index file of version 1, which is only read to be written in the later version.
 
+mod docs;
 mod front;
 mod head;
 pub mod laws;
+mod marks;
 mod names;
 mod number;
 mod offsets;
+mod old_term;
+mod segment;
+mod term;
