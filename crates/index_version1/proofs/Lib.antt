@@ -5,3 +5,5 @@ mod Sequences
 mod TermSteps
 mod Marking
 mod SegmentSteps
+mod Filling
+mod Summing

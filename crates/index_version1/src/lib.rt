@@ -11,5 +11,7 @@ mod names;
 mod number;
 mod offsets;
 mod old_term;
+mod payload;
 mod segment;
+mod sums;
 mod term;
