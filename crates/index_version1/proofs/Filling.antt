@@ -1,10 +1,10 @@
 -- Segments that were read are those of a term.
-use Rattle.std.proofs.Common.{◌≡◌, ℕ, ◌<◌, ◌≤◌, ◌^◌, List, [], ◌∷◌, length, map, get_or, All, Ok, ap, sym, subst, ◌∙◌, refl, arith}
+use Rattle.std.proofs.Common.{◌≡◌, ℕ, ◌≤◌, ◌^◌, List, [], length, map, get_or, Ok, sym, subst, ◌∙◌, arith}
 use Rattle.std.specs.Prelude.{AllPairs}
 use Rattle.std.proofs.lemmas.List.{length-map, get_or-map}
 use Rattle.jass_base.specs.declared.segment.Segment.{Segment}
 use Rattle.jass_base.specs.Segments as memory
-use Rattle.index_model.specs.Index.{SegmentData, IsSegment, FallsTo, SharesNoDocument}
+use Rattle.index_model.specs.Index.{FallsTo, SharesNoDocument}
 use Rattle.index_model.specs.Views.{segment_data}
 use Rattle.index_layout.specs.Heads.{HeadData}
 use Rattle.index_layout.specs.Reading.{SegmentsRead, read_segments}

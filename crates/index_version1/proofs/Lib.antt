@@ -7,3 +7,6 @@ mod Marking
 mod SegmentSteps
 mod Filling
 mod Summing
+mod PayloadSteps
+mod Parting
+mod Indexes

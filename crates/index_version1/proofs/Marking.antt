@@ -1,5 +1,5 @@
 -- Documents that are marked one after the other, and documents that are read.
-use Rattle.std.proofs.Common.{suc, add-one, ◌≡◌, ℕ, ◌+◌, ◌-◌, ◌<◌, ◌≤◌, ◌≢◌, ◌==◌, ◌||◌, Bool, true, false, nat_eq, nat_lt, List, [], ◌∷◌, ◌++◌, length, take, drop, get_or, All, Result, Ok, Err, ap, sym, subst, ◌∙◌, refl, arith, append_assoc, set, slice_index, get_or-set_other, get_or-set_same, length-set}
+use Rattle.std.proofs.Common.{add-one, ◌≡◌, ℕ, ◌+◌, ◌<◌, ◌≤◌, ◌≢◌, ◌==◌, ◌||◌, Bool, true, false, nat_eq, nat_lt, List, [], ◌∷◌, ◌++◌, length, take, drop, get_or, All, Result, Ok, Err, ap, sym, subst, ◌∙◌, refl, arith, append_assoc, set, slice_index, get_or-set_other, get_or-set_same, length-set}
 use Rattle.std.specs.List.{list_any}
 use Rattle.std.proofs.Math.Seq.{take-suc}
 use Rattle.std.proofs.lemmas.List.{take_all, take-append-drop}

@@ -1,6 +1,6 @@
 -- The sums over the heads of terms.
 use Rattle.std.proofs.Common.{suc, add-one, ◌≡◌, ℕ, ◌+◌, ◌<◌, ◌≤◌, ◌==◌, false, List, [], ◌∷◌, ◌++◌, length, map, take, drop, get_or, ap, sym, ◌∙◌, refl, arith}
-use Rattle.std.specs.Prelude.{flat_map, max}
+use Rattle.std.specs.Prelude.{max}
 use Rattle.std.specs.List.{sum_by}
 use Rattle.std.proofs.Math.Seq.{take-suc, drop-cons}
 use Rattle.std.proofs.lemmas.Bool.Decides.{nat_tests}

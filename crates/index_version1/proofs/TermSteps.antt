@@ -1,5 +1,5 @@
 -- Terms that are read one after the other.
-use Rattle.std.proofs.Common.{◌≡◌, ◌≤◌, ◌+◌, ◌==◌, ◌&&◌, not, nat_lt, Bool, true, false, get_or, arith, zero, ℕ, suc, map, length, List, [], ◌∷◌, ◌++◌, Option, Some, None, Result, Ok, Err, append_assoc, ap, sym, subst, ◌∙◌, refl}
+use Rattle.std.proofs.Common.{◌≡◌, ◌≤◌, ◌+◌, nat_lt, Bool, true, false, get_or, arith, zero, ℕ, suc, map, length, List, [], ◌∷◌, ◌++◌, Option, Some, Result, Ok, Err, append_assoc, ap, sym, subst, ◌∙◌, refl}
 use Rattle.std.specs.Prelude.{slice_range}
 use Rattle.std.proofs.lemmas.List.{map_push}
 use Rattle.std.specs.Str.{IsUtf8, is_utf8}
@@ -86,7 +86,7 @@ term_empty bytes before at size e is fault one two text rise none =
     let yes : is_utf8 (slice_range bytes (at + 2) (segments1_place bytes at)) ≡ true = subst (λ n. is_utf8 (slice_range bytes (at + 2) n) ≡ true) place (is_utf8-from_IsUtf8 (slice_range bytes (at + 2) (at + 2 + size)) text) in
     let above : rises_behind before (slice_range bytes (at + 2) (segments1_place bytes at)) ≡ true = subst (λ n. rises_behind before (slice_range bytes (at + 2) n) ≡ true) place rise in
     let zero_is : u32_in bytes (segments1_place bytes at) ≡ 0 = ap (u32_in bytes) (sym place) ∙ none in
-    subst (λ e. Fails e (judged (term1_checks bytes before at) (segments1_place bytes at + 4))) (sym fault ) (rw (x, y, yes, above, zero_is) (ap (λ n. (let r : Result ℕ OpenRefusal = refuse n Heads in r)) (sym place)))
+    subst (λ e. Fails e (judged (term1_checks bytes before at) (segments1_place bytes at + 4))) (sym fault) (rw (x, y, yes, above, zero_is) (ap (λ n. (let r : Result ℕ OpenRefusal = refuse n Heads in r)) (sym place)))
 
 -- a term is put behind others
 pub old_turn : (bytes : List ℕ) (d : ℕ) (total : Result TermsRead OpenRefusal) (terms new : List OldTerm) (t : OldTerm) (k left at place end : ℕ) → new ≡ terms ++ t ∷ [] → total ≡ with_terms (map term_heads terms) (read_terms1 bytes d k (before_of terms) at) → k ≡ suc left

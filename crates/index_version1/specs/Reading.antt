@@ -3,6 +3,7 @@
 use Rattle.std.specs.Prelude.{ℕ, zero, suc, ◌+◌, ◌*◌, ◌^◌, ◌==◌, ◌||◌, ◌&&◌, not, Bool, List, [], ◌∷◌, length, Option, Some, None, Result, Ok, nat_eq, nat_lt, nat_le, slice_range}
 use Rattle.std.specs.List.{starts_with}
 use Rattle.std.specs.Str.{is_utf8}
+use Rattle.index_model.specs.Index.{IndexData}
 use Rattle.index_layout.specs.declared.refusal.OpenWhy.TheVariants.{Magic, Length, Names, TermOrder, Heads, Totals, Limit}
 use Rattle.index_layout.specs.declared.refusal.OpenRefusal.{OpenRefusal}
 use Rattle.index_layout.specs.Bytes.{u16_in, u32_in, u64_in}
@@ -124,3 +125,15 @@ after_front1 bytes front = read_names1 bytes front.docs >>= after_names1 bytes f
 -- the view that bytes stand for, or the first refusal
 unfoldable pub read_file1 : List ℕ → Result FileView OpenRefusal
 read_file1 bytes = read_front1 bytes >>= after_front1 bytes
+
+-- the index of a view
+abbrev pub index_in : FileView → Result IndexData OpenRefusal
+index_in v = Ok v.index
+
+-- the index behind its names and heads
+abbrev pub index_after : List ℕ → Front → List (List ℕ) → TermsRead → Result IndexData OpenRefusal
+index_after bytes front names x = after_terms bytes front names x >>= index_in
+
+-- the index that bytes stand for, or the first refusal
+unfoldable pub read_index1 : List ℕ → Result IndexData OpenRefusal
+read_index1 bytes = read_file1 bytes >>= index_in

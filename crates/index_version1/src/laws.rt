@@ -2,9 +2,10 @@
 //! a caller learns it by the call.
 
 ghost use Rattle.std.specs.Prelude.{ℕ, ◌≡◌, ◌<◌, ◌^◌, List, All, Ok};
+ghost use Rattle.index_model.specs.Index.{IndexData};
 ghost use Rattle.index_layout.specs.View.{FileView};
-ghost use Rattle.index_version1.specs.Files.{IsFile1View, file1_bytes};
-ghost use Rattle.index_version1.specs.Reading.{read_file1};
+ghost use Rattle.index_version1.specs.Files.{IsFile1View, IsIndexFile1, file1_bytes};
+ghost use Rattle.index_version1.specs.Reading.{read_file1, read_index1};
 
 use segment_codecs::laws::{codecs_have_their_numbers, payloads_are_read};
 
@@ -16,4 +17,13 @@ pub fn old_files_are_read()
 {
     payloads_are_read();
     codecs_have_their_numbers();
+}
+
+/// Bytes are read as an index exactly where they are its file, so that they have one index.
+pub fn indexes_are_read()
+    ensures found { (index : IndexData) (bytes : List ℕ) → IsIndexFile1 bytes index → read_index1 bytes ≡ Ok index }
+    ensures only { (index : IndexData) (bytes : List ℕ) → All (λ byte. byte < 256) bytes
+        → read_index1 bytes ≡ Ok index → IsIndexFile1 bytes index }
+{
+    old_files_are_read();
 }

@@ -11,7 +11,11 @@ mod names;
 mod number;
 mod offsets;
 mod old_term;
+mod parts;
 mod payload;
+mod reading;
 mod segment;
 mod sums;
 mod term;
+
+pub use reading::read_version1;

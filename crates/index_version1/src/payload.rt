@@ -44,3 +44,67 @@ fn fill_term(
     };
     Ok((TermSegments { term, segments }, end))
 }
+
+/// The terms with their segments, whose payloads stand from a place on, and the place behind the
+/// last. No document is marked before.
+fn fill_terms(
+    alloc: Global,
+    bytes: &[u8],
+    d: u32,
+    terms: Row<OldTerm>,
+    from: usize,
+    seen: &mut [u32],
+) -> Result<(Row<TermSegments>, usize), OpenFault>
+    requires few_terms { length terms ≤ 2 ^ 24 }
+    requires rise { TermsRise d None (map term_heads terms) }
+    requires limit { d ≤ 2 ^ 26 }
+    requires from { from ≤ length bytes.now }
+    requires short { length bytes.now ≤ 2 ^ 32 }
+    requires seen { length seen.old ≡ d }
+    requires none { All (λ n. n ≤ 0) seen.old }
+    ensures exact { Answers (λ x. record { terms = map term_data x.0; end = x.1 }) result
+        (read_payloads bytes.now d (map term_heads terms) from) }
+    ensures end { IfOk result (λ x. x.1 ≤ length bytes.now) }
+{
+    let mut filled = Row::new(alloc);
+    let mut mark = 0;
+    let mut at = from;
+    for term in terms.into_vec() {
+        mark += 1;
+        let (term, end) = match fill_term(alloc, bytes, d, term, at, seen, mark) {
+            Ok(read) => read,
+            Err(fault) => return Err(fault),
+        };
+        match filled.push(term) {
+            Ok(()) => {}
+            Err(_) => return Err(OpenFault::NoMemory),
+        }
+        at = end;
+    }
+    Ok((filled, at))
+}
+
+/// The terms with their segments, whose payloads stand from a place on, and the place behind the
+/// last.
+pub fn read_payloads(
+    alloc: Global,
+    bytes: &[u8],
+    d: u32,
+    terms: Row<OldTerm>,
+    from: usize,
+) -> Result<(Row<TermSegments>, usize), OpenFault>
+    requires few_terms { length terms ≤ 2 ^ 24 }
+    requires rise { TermsRise d None (map term_heads terms) }
+    requires limit { d ≤ 2 ^ 26 }
+    requires from { from ≤ length bytes.now }
+    requires short { length bytes.now ≤ 2 ^ 32 }
+    ensures exact { Answers (λ x. record { terms = map term_data x.0; end = x.1 }) result
+        (read_payloads bytes.now d (map term_heads terms) from) }
+    ensures end { IfOk result (λ x. x.1 ≤ length bytes.now) }
+{
+    let mut seen = match vec![in alloc; 0u32; d as usize] {
+        Ok(seen) => seen,
+        Err(_) => return Err(OpenFault::NoMemory),
+    };
+    fill_terms(alloc, bytes, d, terms, from, seen.as_mut_slice())
+}

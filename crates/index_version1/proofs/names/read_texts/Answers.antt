@@ -1,6 +1,6 @@
-use Rattle.std.proofs.Common.{◌≡◌, ◌≤◌, ◌+◌, ◌-◌, ◌++◌, ◌∷◌, [], suc, length, ap, sym, arith, ◌∙◌, false}
+use Rattle.std.proofs.Common.{◌≡◌, ◌≤◌, ◌+◌, ◌-◌, ◌++◌, suc, length, ap, sym, arith, ◌∙◌}
 use Rattle.index_layout.specs.Reading.{NamesRead, is_name_text}
-use Rattle.index_version1.specs.Reading.{offset_in, name1_in, names_from}
+use Rattle.index_version1.specs.Reading.{offset_in, names_from}
 use Rattle.index_version1.proofs.Sequences.{rise_to, texts_on, texts_not, names_on, name_good, name_fails, texts_open, refused_at}
 use Rattle.index_version1.proofs.names.read_texts.Goals as goal
 

@@ -1,7 +1,7 @@
-use Rattle.std.proofs.Common.{◌≡◌, ◌+◌, ◌-◌, ◌++◌}
+use Rattle.std.proofs.Common.{◌≡◌, ◌-◌, ◌++◌}
 use Rattle.index_layout.specs.Reading.{NamesRead}
 use Rattle.index_layout.specs.Refusals.{judged}
-use Rattle.index_version1.specs.Reading.{offset_in, text_checks, names_from}
+use Rattle.index_version1.specs.Reading.{text_checks, names_from}
 use Rattle.index_version1.proofs.names.read_texts.Given as goal
 
 abbrev pub invariant-names : goal.invariant-names

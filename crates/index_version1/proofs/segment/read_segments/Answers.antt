@@ -1,10 +1,8 @@
-use Rattle.std.proofs.Common.{arith, ℕ, [], ◌++◌, ap, sym, subst, ◌∙◌, ◌+◌, length, map, drop, get_or, refl}
+use Rattle.std.proofs.Common.{[], subst, ◌+◌, map, drop, get_or}
 use Rattle.std.proofs.lemmas.List.{get_or_default}
 use Rattle.segment_codecs.specs.declared.codec.Codec.TheVariants.{Varbyte}
 use Rattle.index_model.specs.Views.{segment_data}
-use Rattle.index_layout.specs.Heads.{HeadData}
-use Rattle.index_layout.proofs.HeadLaws.{HeadsFall}
-use Rattle.index_layout.specs.Reading.{read_segments, docs_in}
+use Rattle.index_layout.specs.Reading.{read_segments}
 use Rattle.index_version1.specs.declared.head.Head.{Head}
 use Rattle.index_version1.specs.Tables.{Marks, head_data}
 use Rattle.index_version1.proofs.SegmentSteps.{all_docs, heads_next, segments_on, docs_on, fall_on}
