@@ -25,13 +25,13 @@ use Rattle.index_layout.proofs.IndexFacts.{TermsStand, index_found, index_only}
 use Rattle.index_layout.proofs.PayloadLaws.{PayloadsAre, terms_rise, payloads_found, payloads_only}
 use Rattle.index_layout.proofs.Sums.{all_codecs_back, all_counted, all_sized, greatest_small, heads_length}
 
-abbrev Found : Type 0
+abbrev pub Found : Type 0
 Found = (codec : Codec) (d count : ℕ) (docs bytes : List ℕ) → AreDocs d docs → length docs ≡ count → bytes ≡ payload_of codec d docs → read_payload codec d count bytes ≡ Ok docs
 
-abbrev Only : Type 0
+abbrev pub Only : Type 0
 Only = (codec : Codec) (d count : ℕ) (docs bytes : List ℕ) → 1 ≤ count → d ≤ 2 ^ 26 → All (λ byte. byte < 256) bytes → read_payload codec d count bytes ≡ Ok docs → AreDocs d docs × (length docs ≡ count) × (bytes ≡ payload_of codec d docs)
 
-abbrev Numbered : Type 0
+abbrev pub Numbered : Type 0
 Numbered = (codec : Codec) (number : ℕ) → codec_of number ≡ Some codec → codec_number codec ≡ number
 
 step : {A B : Type 0} (r : Result A OpenRefusal) (f : A → Result B OpenRefusal) (x : A) → r ≡ Ok x → (r >>= f) ≡ f x

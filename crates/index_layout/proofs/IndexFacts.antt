@@ -28,7 +28,7 @@ fall_found d above (s ∷ segments) are pairs below = (
   fall_found d s.impact segments (All-tail (IsSegment d) s segments are) (pairs_tail FallsTo s segments pairs) (pairs_head FallsTo s segments pairs),
 )
 
-fall_only : (d above : ℕ) (segments : List SegmentData) → SegmentsFall d above segments → All (IsSegment d) segments × AllPairs FallsTo segments × All (IsBelow above) segments
+pub fall_only : (d above : ℕ) (segments : List SegmentData) → SegmentsFall d above segments → All (IsSegment d) segments × AllPairs FallsTo segments × All (IsBelow above) segments
 fall_only d above [] are = (All-nil (IsSegment d), pairs_nil FallsTo, All-nil (IsBelow above))
 fall_only d above (s ∷ segments) are =
     let later = fall_only d s.impact segments are.2 in

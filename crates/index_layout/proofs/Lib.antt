@@ -1,11 +1,11 @@
-mod Judging
-mod Numbers
-mod NameLaws
-mod HeadLaws
-mod TermLaws
-mod Apart
-mod IndexFacts
-mod PayloadLaws
-mod Sums
-mod FileLaws
-mod SmallFile
+pub mod Judging
+pub mod Numbers
+pub mod NameLaws
+pub mod HeadLaws
+pub mod TermLaws
+pub mod Apart
+pub mod IndexFacts
+pub mod PayloadLaws
+pub mod Sums
+pub mod FileLaws
+pub mod SmallFile

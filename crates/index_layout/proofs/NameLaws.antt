@@ -24,13 +24,13 @@ seen b is = let t = both_of (nat_lt 32 b) (not (b == 127)) is in (grind (arith, 
 unseen : (b : ℕ) → (32 < b) × (b ≢ 127) → (nat_lt 32 b && not (b == 127)) ≡ true
 unseen b is = let more = is.0 in let other = is.1 in grind (arith, nat_tests, more, other)
 
-visible : (name : List ℕ) → list_all (λ b. nat_lt 32 b && not (b == 127)) name ≡ true → All (λ b. (32 < b) × (b ≢ 127)) name
+pub visible : (name : List ℕ) → list_all (λ b. nat_lt 32 b && not (b == 127)) name ≡ true → All (λ b. (32 < b) × (b ≢ 127)) name
 visible [] is = All-nil (λ b. (32 < b) × (b ≢ 127))
 visible (b ∷ name) is =
     let t = both_of (nat_lt 32 b && not (b == 127)) (list_all (λ b. nat_lt 32 b && not (b == 127)) name) is in
     All-cons (λ b. (32 < b) × (b ≢ 127)) b name (seen b t.0) (visible name t.1)
 
-shown : (name : List ℕ) → All (λ b. (32 < b) × (b ≢ 127)) name → list_all (λ b. nat_lt 32 b && not (b == 127)) name ≡ true
+pub shown : (name : List ℕ) → All (λ b. (32 < b) × (b ≢ 127)) name → list_all (λ b. nat_lt 32 b && not (b == 127)) name ≡ true
 shown [] are = refl
 shown (b ∷ name) are = rw (unseen b (All-head (λ b. (32 < b) × (b ≢ 127)) b name are)) (shown name (All-tail (λ b. (32 < b) × (b ≢ 127)) b name are))
 

@@ -135,10 +135,10 @@ placed : (at : ℕ) (r : Result (List ℕ) PayloadFault) (docs : List ℕ) → p
 placed at (Ok x) docs is = ap Ok (same_ok x docs is)
 placed at (Err fault) docs is = absurd cc
 
-abbrev head_codec_list : List HeadData → List Codec
+abbrev pub head_codec_list : List HeadData → List Codec
 head_codec_list heads = map (λ (h : HeadData). h.codec) heads
 
-record SegmentsAre (bytes : List ℕ) (d above : ℕ) (earlier : List ℕ) (heads : List HeadData) (at : ℕ) (x : SegmentsRead) : Type 0 where
+pub record SegmentsAre (bytes : List ℕ) (d above : ℕ) (earlier : List ℕ) (heads : List HeadData) (at : ℕ) (x : SegmentsRead) : Type 0 where
   pub fall : SegmentsFall d above x.segments
   pub alone : Alone earlier x.segments
   pub same : heads_of d x.segments (head_codec_list heads) ≡ heads
@@ -181,7 +181,7 @@ module _ (only : (codec : Codec) (d count : ℕ) (docs bytes : List ℕ) → 1 �
         within = subst (λ n. n ≤ length bytes) f.1 end;
       }
 
-  segments_only : (bytes : List ℕ) (d above : ℕ) (earlier : List ℕ) (heads : List HeadData) (at : ℕ) (x : SegmentsRead) → Fit bytes → d ≤ 2 ^ 26 → above ≤ 65536 → HeadsFall d above heads → at ≤ length bytes → read_segments bytes d earlier heads at ≡ Ok x
+  pub segments_only : (bytes : List ℕ) (d above : ℕ) (earlier : List ℕ) (heads : List HeadData) (at : ℕ) (x : SegmentsRead) → Fit bytes → d ≤ 2 ^ 26 → above ≤ 65536 → HeadsFall d above heads → at ≤ length bytes → read_segments bytes d earlier heads at ≡ Ok x
       → SegmentsAre bytes d above earlier heads at x
   segments_only bytes d above earlier [] at x fits limit below fall from read = subst (SegmentsAre bytes d above earlier [] at) (same_ok (record { segments = []; end = at }) x read) (record { fall = tt; alone = tt; same = refl; count = refl; stand = refl; within = from })
   segments_only bytes d above earlier (h ∷ heads) at x fits limit below fall from read =

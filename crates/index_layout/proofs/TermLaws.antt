@@ -127,7 +127,7 @@ term_only bytes before at next fits read =
       within = omega (arith, is_end, end);
     }
 
-heads_size : (heads : List HeadData) → length (heads_bytes heads) ≡ 11 * length heads
+pub heads_size : (heads : List HeadData) → length (heads_bytes heads) ≡ 11 * length heads
 heads_size [] = refl
 heads_size (h ∷ heads) = let e = length-append (head_bytes h) (heads_bytes heads) in let f = heads_size heads in let g = head_size h in omega (arith, e, f, g)
 

@@ -1,0 +1,96 @@
+-- Parts that are read one after the other.
+use Rattle.std.proofs.Common.{◌≡◌, ◌≤◌, ◌<◌, ◌+◌, ◌==◌, not, nat_lt, ℕ, Bool, zero, suc, length, true, false, List, [], ◌∷◌, ◌++◌, Result, Ok, Err, append_assoc, ap, sym, subst, ◌∙◌, refl, arith}
+use Rattle.index_layout.specs.declared.refusal.OpenRefusal.{OpenRefusal}
+use Rattle.index_layout.specs.declared.refusal.OpenWhy.TheVariants.{Names}
+use Rattle.index_layout.specs.Refusals.{◌>>=◌, Fails, check, judged, refuse}
+use Rattle.index_layout.specs.Reading.{HeadsRead, NamesRead, head_end, head_in, read_heads, is_name_text}
+use Rattle.index_layout.specs.Bytes.{u16_in}
+use Rattle.index_layout.specs.Heads.{HeadData}
+use Rattle.index_layout.specs.declared.refusal.OpenFault.{OpenFault}
+use Rattle.index_layout.specs.declared.refusal.OpenFault.TheVariants.{Refused, ReadFault, NoMemory}
+use Rattle.index_layout.proofs.Judging.{judged_ok, passed}
+use Rattle.index_layout.proofs.HeadLaws.{head_impact}
+use Rattle.std.specs.Str.{IsUtf8, is_utf8}
+use Rattle.std.proofs.lemmas.Str.{IsUtf8-from_is_utf8}
+use Rattle.index_version1.specs.declared.head.Head.{Head}
+use Rattle.index_version1.specs.Reading.{offset_place, names_place, offset_in, bounds_no_name, offset_checks, read_offsets, read_texts, name1_in, text_checks, names_from}
+use Rattle.index_version1.specs.Tables.{head_data}
+
+-- behind heads that were read before
+abbrev pub with_heads : List HeadData → Result HeadsRead OpenRefusal → Result HeadsRead OpenRefusal
+with_heads front read = read >>= λ x. Ok (record { heads = front ++ x.heads; end = x.end })
+
+behind_heads : (front : List HeadData) (h : HeadData) (read : Result HeadsRead OpenRefusal) → with_heads front (read >>= λ later. Ok (record { heads = h ∷ later.heads; end = later.end })) ≡ with_heads (front ++ h ∷ []) read
+behind_heads front h (Ok x) = ap (λ (heads : List HeadData). (let r : Result HeadsRead OpenRefusal = Ok (record { heads = heads; end = x.end }) in r)) (sym (append_assoc front (h ∷ []) x.heads))
+behind_heads front h (Err e) = refl
+
+-- one head more
+pub heads_on : (bytes : List ℕ) (d : ℕ) (total : Result HeadsRead OpenRefusal) (front : List HeadData) (k left above at next : ℕ) (s : Head) → total ≡ with_heads front (read_heads bytes d k above at) → k ≡ suc left
+    → head_end bytes d above at ≡ Ok next → head_data s ≡ head_in bytes at
+    → total ≡ with_heads (front ++ head_data s ∷ []) (read_heads bytes d left s.impact next)
+heads_on bytes d total front k left above at next s is more end head =
+    let impact : u16_in bytes at ≡ s.impact = sym (head_impact bytes at) ∙ ap (λ (h : HeadData). h.impact) (sym head) in
+    is ∙ ap (λ n. with_heads front (read_heads bytes d n above at)) more
+    ∙ ap (λ (e : Result ℕ OpenRefusal). with_heads front (e >>= λ next. (read_heads bytes d left (u16_in bytes at) next >>= λ later. Ok (record { heads = head_in bytes at ∷ later.heads; end = later.end })))) end
+    ∙ behind_heads front (head_in bytes at) (read_heads bytes d left (u16_in bytes at) next)
+    ∙ ap (λ h. with_heads (front ++ h ∷ []) (read_heads bytes d left (u16_in bytes at) next)) (sym head)
+    ∙ ap (λ n. with_heads (front ++ head_data s ∷ []) (read_heads bytes d left n next)) impact
+
+-- one offset more, or a bad one
+pub offsets_on : (bytes : List ℕ) (place k left i : ℕ) → k ≡ suc left → bounds_no_name (offset_in bytes i) (offset_in bytes (i + 1)) ≡ false → judged (offset_checks bytes k i) place ≡ judged (offset_checks bytes left (i + 1)) place
+offsets_on bytes place k left i more good = rw (more, good) refl
+
+pub offsets_not : (bytes : List ℕ) (place k left i : ℕ) → k ≡ suc left → bounds_no_name (offset_in bytes i) (offset_in bytes (i + 1)) ≡ true → judged (offset_checks bytes k i) place ≡ refuse (offset_place (i + 1)) Names
+offsets_not bytes place k left i more bad = rw (more, bad) refl
+
+-- all offsets are good
+pub offsets_all : (bytes : List ℕ) (d place k i : ℕ) → names_place d ≤ length bytes → offset_in bytes 0 ≡ 0 → place ≡ names_place d → k ≡ 0 → judged (offset_checks bytes d 0) place ≡ judged (offset_checks bytes k i) place → read_offsets bytes d ≡ Ok place
+unfolding read_offsets
+offsets_all bytes d place k i inside first same none all =
+    let a : nat_lt (length bytes) (names_place d) ≡ false = grind (arith, inside) in
+    let b : not (offset_in bytes 0 == 0) ≡ false = rw first refl in
+    rw (a, b) (ap (judged (offset_checks bytes d 0)) (sym same) ∙ all ∙ ap (λ n. judged (offset_checks bytes n i) place) none)
+
+-- offsets that rise one by one
+pub rise_to : (bytes : List ℕ) (i k j : ℕ) → i + k ≡ j → ((n : ℕ) → n < j → offset_in bytes n < offset_in bytes (n + 1)) → offset_in bytes i ≤ offset_in bytes j
+rise_to bytes i zero j same rising = (let e : i ≡ j = omega (arith, same) in subst (λ n. offset_in bytes i ≤ offset_in bytes n) e (omega arith))
+rise_to bytes i (suc k) j same rising = omega (arith, rising i (omega (arith, same)), rise_to bytes (i + 1) k j (omega (arith, same)) rising)
+
+-- one name more, or a bad one
+pub texts_on : (bytes : List ℕ) (place k left i : ℕ) (x : NamesRead) → k ≡ suc left → is_name_text (name1_in bytes place i) ≡ true → judged (text_checks bytes place k i) x ≡ judged (text_checks bytes place left (i + 1)) x
+texts_on bytes place k left i x more good = rw (more, good) refl
+
+pub texts_not : (bytes : List ℕ) (place k left i : ℕ) (x : NamesRead) → k ≡ suc left → is_name_text (name1_in bytes place i) ≡ false → judged (text_checks bytes place k i) x ≡ refuse (place + offset_in bytes i) Names
+texts_not bytes place k left i x more bad = rw (more, bad) refl
+
+pub names_on : (bytes : List ℕ) (place k left i : ℕ) (front : List (List ℕ)) (name : List ℕ) → k ≡ suc left → name ≡ name1_in bytes place i → (front ++ name ∷ []) ++ names_from bytes place left (i + 1) ≡ front ++ names_from bytes place k i
+names_on bytes place k left i front name more is = append_assoc front (name ∷ []) (names_from bytes place left (i + 1)) ∙ ap (λ n. front ++ n ∷ names_from bytes place left (i + 1)) is ∙ ap (λ n. front ++ names_from bytes place n i) (sym more)
+
+-- a name that was read, or refused
+pub name_good : (bytes name : List ℕ) (at : ℕ) → judged (check (not (is_name_text bytes)) at Names ∷ []) bytes ≡ Ok name → (is_name_text bytes ≡ true) × (bytes ≡ name)
+name_good bytes name at read = let x = judged_ok (check (not (is_name_text bytes)) at Names ∷ []) bytes name read in (passed (is_name_text bytes) x.0.0, x.1)
+
+pub name_fails : (e : OpenFault) (bytes : List ℕ) (at : ℕ) (total : Result NamesRead OpenRefusal) → Fails e (judged (check (not (is_name_text bytes)) at Names ∷ []) bytes) → (is_name_text bytes ≡ false → total ≡ refuse at Names) → Fails e total
+name_fails (Refused refusal) bytes at total read bad = by_text (is_name_text bytes) refl read
+  where
+    by_text : (b : Bool) → b ≡ is_name_text bytes → judged (check (not (is_name_text bytes)) at Names ∷ []) bytes ≡ Err refusal → total ≡ Err refusal
+    by_text true is read = let e = ap (λ b. judged (check (not b) at Names ∷ []) bytes) is ∙ read in absurd cc
+    by_text false is read = let e = ap (λ b. judged (check (not b) at Names ∷ []) bytes) is ∙ read in let f = bad (sym is) in cc
+name_fails ReadFault bytes at total read bad = read
+name_fails NoMemory bytes at total read bad = tt
+
+pub not_text : (e : OpenFault) (bytes : List ℕ) (at : ℕ) → e ≡ Refused (record { at = at; why = Names }) → (IsUtf8 bytes → ⊥) → Fails e (judged (check (not (is_name_text bytes)) at Names ∷ []) bytes)
+not_text e bytes at is none =
+    let no = no_text bytes (is_utf8 bytes) refl none in
+    subst (λ e. Fails e (judged (check (not (is_name_text bytes)) at Names ∷ []) bytes)) (sym is) (rw no refl)
+  where
+    no_text : (bytes : List ℕ) (test : Bool) → is_utf8 bytes ≡ test → (IsUtf8 bytes → ⊥) → is_utf8 bytes ≡ false
+    no_text bytes true is none = absurd (none (IsUtf8-from_is_utf8 bytes is))
+    no_text bytes false is none = is
+
+pub texts_open : (bytes : List ℕ) (d place : ℕ) → place + offset_in bytes d ≤ length bytes → read_texts bytes d place ≡ judged (text_checks bytes place d 0) (record { names = names_from bytes place d 0; end = place + offset_in bytes d })
+unfolding read_texts
+texts_open bytes d place within = let a : nat_lt (length bytes) (place + offset_in bytes d) ≡ false = grind (arith, within) in rw a refl
+
+pub refused_at : (place m n : ℕ) → n ≡ m → (let r : Result NamesRead OpenRefusal = refuse (place + n) Names in r) ≡ refuse (place + m) Names
+refused_at place m n same = ap (λ n. (let r : Result NamesRead OpenRefusal = refuse (place + n) Names in r)) same

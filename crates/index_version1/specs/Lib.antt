@@ -1,0 +1,6 @@
+pub mod Layout
+pub mod Reading
+pub mod Files
+pub mod Tables
+pub mod Acceptance
+pub mod Parts

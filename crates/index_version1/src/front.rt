@@ -1,0 +1,39 @@
+ghost use Rattle.std.specs.Prelude.{◌≡◌, ◌≤◌, ◌^◌, length, IfOk};
+ghost use Rattle.index_layout.specs.Refusals.{Answers};
+ghost use Rattle.index_version1.specs.Reading.{read_front1};
+
+use crate::number::{u32_at, u64_at};
+use index_layout::{OpenFault, OpenWhy, refused};
+
+/// The numbers of documents and terms, from the first 40 bytes.
+#[tactic(auto, unfolding(crate::specs::Reading::read_front1, crate::specs::Reading::front1_checks))]
+pub fn read_front1(bytes: &[u8]) -> Result<(u32, u32), OpenFault>
+    ensures exact { Answers (λ x. record { docs = x.0; terms = x.1 }) result (read_front1 bytes.now) }
+    ensures long { IfOk result (λ _. (40 ≤ length bytes.now) × (length bytes.now ≤ 2 ^ 32)) }
+    ensures few { IfOk result (λ x. (x.0 ≤ 2 ^ 26) × (x.1 ≤ 2 ^ 24)) }
+{
+    if bytes.len() > 0x1_0000_0000 {
+        return Err(refused(0x1_0000_0000, OpenWhy::Limit));
+    }
+    if !bytes.starts_with(b"JASSIDX1") {
+        return Err(refused(0, OpenWhy::Magic));
+    }
+    if bytes.len() < 40 || u64_at(bytes, 8) != bytes.len() as u64 {
+        return Err(refused(8, OpenWhy::Length));
+    }
+    let docs = u32_at(bytes, 16);
+    if docs > 67_108_864 {
+        return Err(refused(16, OpenWhy::Limit));
+    }
+    let terms = u32_at(bytes, 20);
+    if terms > 16_777_216 {
+        return Err(refused(20, OpenWhy::Limit));
+    }
+    if u64_at(bytes, 24) > 536_870_912 {
+        return Err(refused(24, OpenWhy::Limit));
+    }
+    if u32_at(bytes, 36) != 0 {
+        return Err(refused(36, OpenWhy::Totals));
+    }
+    Ok((docs, terms))
+}

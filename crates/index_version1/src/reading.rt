@@ -1,0 +1,38 @@
+ghost use Rattle.std.specs.Prelude.{IfOk};
+ghost use Rattle.index_model.specs.Index.{IndexData};
+ghost use Rattle.index_model.specs.Views.{index_data};
+ghost use Rattle.index_layout.specs.Refusals.{Answers};
+ghost use Rattle.index_version1.specs.Acceptance.{GivesIndex};
+ghost use Rattle.index_version1.specs.Files.{IsIndexFile1};
+ghost use Rattle.index_version1.specs.Reading.{read_index1};
+
+use crate::laws::{indexes_are_read, old_files_are_read};
+use crate::parts::{Parts, read_parts};
+use index_layout::OpenFault;
+use jass_base::ImpactIndex;
+use std::alloc::Global;
+
+/// The index of a file of version 1, in memory: exactly where the bytes are such a file, unless
+/// memory is refused. Else it is the first refusal. A ReadFault never comes.
+pub fn read_version1(alloc: Global, bytes: &[u8]) -> Result<ImpactIndex, OpenFault>
+    ensures exact { Answers index_data result (read_index1 bytes.now) }
+    ensures found { IfOk result (λ index. IsIndexFile1 bytes.now (index_data index)) }
+    ensures only { (index : IndexData) → IsIndexFile1 bytes.now index → GivesIndex index result }
+{
+    old_files_are_read();
+    indexes_are_read();
+    let parts = match read_parts(alloc, bytes) {
+        Ok(parts) => parts,
+        Err(fault) => return Err(fault),
+    };
+    let Parts {
+        names,
+        terms,
+        greatest,
+    } = parts;
+    Ok(ImpactIndex {
+        names,
+        terms,
+        greatest,
+    })
+}
