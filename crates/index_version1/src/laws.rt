@@ -1,7 +1,7 @@
 //! What the reading of version 1 promises. Each function does nothing: its contract is the law, and
 //! a caller learns it by the call.
 
-ghost use Rattle.std.specs.Prelude.{ℕ, ◌≡◌, ◌<◌, ◌^◌, List, All, Ok};
+ghost use Rattle.std.specs.Prelude.{ℕ, ◌≡◌, ◌<◌, ◌^◌, List, All, Ok, take};
 ghost use Rattle.index_model.specs.Index.{IndexData};
 ghost use Rattle.index_layout.specs.View.{FileView};
 ghost use Rattle.index_version1.specs.Files.{IsFile1View, IsIndexFile1, file1_bytes};
@@ -27,3 +27,8 @@ pub fn indexes_are_read()
 {
     old_files_are_read();
 }
+
+/// The first 2^32 + 1 bytes decide: a longer file is refused whatever else stands in it.
+pub fn the_front_is_enough()
+    ensures { (bytes : List ℕ) → read_index1 (take 4294967297 bytes) ≡ read_index1 bytes }
+{}

@@ -38,7 +38,8 @@ both_ways Untold x had unaccepted = absurd unaccepted
 -- where an input isn't accepted, no part of an output stands
 kept : (m : Meaning) (before after : Outer) → Stands m before after → IsUnaccepted (m.judge before.told) → Keeps before after
 kept m before after (inl keeps) unaccepted = keeps
-kept m before after (inr part) unaccepted = both_ways (m.judge before.told) part.1.inputs part.1.accepted unaccepted
+kept m before after (inr (inl counts)) unaccepted = both_ways (m.judge before.told) counts.had.inputs counts.had.accepted unaccepted
+kept m before after (inr (inr part)) unaccepted = both_ways (m.judge before.told) part.1.inputs part.1.accepted unaccepted
 
 -- inputs that weren't had stop the command before it leaves anything
 pub unread : (m : Meaning) (before after : Outer) (stop : Stop) → Keeps before after → Unread m.reads (m.judge before.told) before.read_faults after.read_faults stop → Stopped m before after stop

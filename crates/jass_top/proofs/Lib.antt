@@ -1,8 +1,10 @@
+pub mod Allowing
 pub mod Answering
 pub mod Endings
-pub mod Fronts
 pub mod Judged
+pub mod JudgedFiles
 pub mod MadeFiles
+pub mod Making
 pub mod OneOutput
 pub mod Outputs
 pub mod Positions

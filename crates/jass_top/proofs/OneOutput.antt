@@ -22,7 +22,7 @@ use Rattle.ranking_model.specs.Order.{sorted}
 use Rattle.ranking_model.specs.Flat.{entry_cmp}
 use Rattle.ranking_model.specs.Finality.{IsGrade}
 use Rattle.ranking_model.specs.Report.{IsReport, report_of}
-use Rattle.jass_words.specs.Words.{CommandData, Once, Rewrite, Help, Version}
+use Rattle.jass_words.specs.Words.{CommandData, Once, Rewrite, Import, Check, Export, Migrate, Help, Version}
 use Rattle.jass_top.specs.Answers.{FlatIndex, OnceQuery, flat_index, once_text, query_prefix, query_plan, IsOnceReport}
 use Rattle.jass_top.specs.Commands.{meaning_of}
 use Rattle.jass_top.specs.Meanings.{Output}
@@ -45,5 +45,9 @@ module _ (one_grade : (scores : List ℕ) (k bound : ℕ) (first second : Grade)
   pub one_output : (command : CommandData) (inputs : (meaning_of command).Inputs) (one other : Output) → (meaning_of command).IsOutput inputs one → (meaning_of command).IsOutput inputs other → one ≡ other
   one_output (Once ciff k budget terms) inputs one other is theirs = same_answer (record { k = k; budget = budget; words = terms }) inputs one other is theirs
   one_output (Rewrite from to) inputs one other is theirs = is ∙ sym theirs
+  one_output (Import ciff index rule bits) inputs one other is theirs = is ∙ sym theirs
+  one_output (Check index) inputs one other is theirs = is ∙ sym theirs
+  one_output (Export index ciff) inputs one other is theirs = is ∙ sym theirs
+  one_output (Migrate from to) inputs one other is theirs = is ∙ sym theirs
   one_output Help inputs one other is theirs = is ∙ sym theirs
   one_output Version inputs one other is theirs = is ∙ sym theirs

@@ -1,8 +1,13 @@
 -- What each command means, and what its words keep.
 use Rattle.std.specs.Prelude.{◌≤◌, length, ⊤}
-use Rattle.jass_words.specs.Words.{CommandData, Once, Rewrite, Help, Version}
+use Rattle.weights.specs.Quantizing.{IsImpactWidth}
+use Rattle.jass_top.specs.CheckMeaning.{check_meaning}
+use Rattle.jass_words.specs.Words.{CommandData, Once, Rewrite, Import, Check, Export, Migrate, Help, Version}
+use Rattle.jass_top.specs.ExportMeaning.{export_meaning}
 use Rattle.jass_top.specs.HelpMeaning.{help_meaning}
+use Rattle.jass_top.specs.ImportMeaning.{import_meaning}
 use Rattle.jass_top.specs.Meanings.{Meaning}
+use Rattle.jass_top.specs.MigrateMeaning.{migrate_meaning}
 use Rattle.jass_top.specs.OnceMeaning.{once_meaning}
 use Rattle.jass_top.specs.RewriteMeaning.{rewrite_meaning}
 use Rattle.jass_top.specs.VersionMeaning.{version_meaning}
@@ -10,6 +15,10 @@ use Rattle.jass_top.specs.VersionMeaning.{version_meaning}
 abbrev pub meaning_of : CommandData → Meaning
 meaning_of (Once ciff k budget terms) = once_meaning ciff (record { k = k; budget = budget; words = terms })
 meaning_of (Rewrite from to) = rewrite_meaning from to
+meaning_of (Import ciff index rule bits) = import_meaning ciff index rule bits
+meaning_of (Check index) = check_meaning index
+meaning_of (Export index ciff) = export_meaning index ciff
+meaning_of (Migrate from to) = migrate_meaning from to
 meaning_of Help = help_meaning
 meaning_of Version = version_meaning
 
@@ -17,5 +26,9 @@ meaning_of Version = version_meaning
 abbrev pub IsAllowed : CommandData → Type 0
 IsAllowed (Once ciff k budget terms) = (1 ≤ k) × (k ≤ 100000) × (length terms ≤ 255)
 IsAllowed (Rewrite from to) = ⊤
+IsAllowed (Import ciff index rule bits) = IsImpactWidth bits
+IsAllowed (Check index) = ⊤
+IsAllowed (Export index ciff) = ⊤
+IsAllowed (Migrate from to) = ⊤
 IsAllowed Help = ⊤
 IsAllowed Version = ⊤

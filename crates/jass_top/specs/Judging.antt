@@ -34,6 +34,13 @@ abbrev pub judged_content : List ℕ → Option (List ℕ) → Judged Collection
 judged_content name None = Missing name
 judged_content name (Some content) = judged_ciff name (read_ciff content)
 
+-- what is judged behind inputs that stand for a value
+abbrev pub behind : {A B : Type 0} → Judged A → (A → Judged B) → Judged B
+behind (Accepted x) next = next x
+behind (Missing name) next = Missing name
+behind (Refuses name number at) next = Refuses name number at
+behind Untold next = Untold
+
 -- a CIFF file, by its content's collection or first refusal
 unfoldable pub judge_ciff : List ℕ → Option Files → Judged CollectionData
 judge_ciff name None = Untold

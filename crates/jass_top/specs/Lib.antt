@@ -1,11 +1,16 @@
 pub mod Answers
 pub mod Causes
+pub mod CheckMeaning
 pub mod Commands
 pub mod Endings
-pub mod Fronts
+pub mod ExportMeaning
 pub mod HelpMeaning
+pub mod ImportMeaning
+pub mod IndexJudging
 pub mod Judging
+pub mod MakingMeaning
 pub mod Meanings
+pub mod MigrateMeaning
 pub mod OnceMeaning
 pub mod OnceViews
 pub mod RewriteMeaning

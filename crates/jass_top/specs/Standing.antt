@@ -49,6 +49,12 @@ Does m before after = Had m before.told (Leaves m.file before after)
 abbrev pub DoesPart : Meaning → Outer → Outer → Type 0
 DoesPart m before after = Had m before.told (LeavesPart m.file before after)
 
+-- nothing was left but steps, at most those of an output of the inputs
+pub record Counts (m : Meaning) (before after : Outer) : Type 0 where
+  pub told : after.told ≡ before.told
+  pub written : after.written ≡ before.written
+  pub had : Had m before.told (λ output. after.steps ≤ before.steps + output.steps)
+
 -- what stands of a command that stopped before it wrote all, and not for a failed write: a part only where it streams
 abbrev pub Stands : Meaning → Outer → Outer → Type 0
-Stands m before after = Keeps before after ⊎ (IsTrue m.streams × DoesPart m before after)
+Stands m before after = Keeps before after ⊎ Counts m before after ⊎ (IsTrue m.streams × DoesPart m before after)

@@ -4,7 +4,11 @@ ghost use Rattle.jass_top.specs.Causes.{Runs};
 ghost use Rattle.jass_top.specs.Commands.{meaning_of, IsAllowed};
 ghost use Rattle.jass_top.specs.Worlds.{outer};
 
+use crate::check::run_check;
+use crate::export::run_export;
 use crate::help::run_help;
+use crate::import::run_import;
+use crate::migrate::run_migrate;
 use crate::once::run_once;
 use crate::question::Question;
 use crate::rewrite::run_rewrite;
@@ -43,6 +47,15 @@ pub fn run_command<'a, C: Cabinet, O: Sink, L: Ledger>(
             steps,
         ),
         Command::Rewrite { from, to } => run_rewrite(alloc, from, to, files),
+        Command::Import {
+            ciff,
+            index,
+            rule,
+            bits,
+        } => run_import(alloc, ciff, index, rule, bits, files, out),
+        Command::Check { index } => run_check(alloc, index, files, out),
+        Command::Export { index, ciff } => run_export(alloc, index, ciff, files, steps),
+        Command::Migrate { from, to } => run_migrate(alloc, from, to, files, out),
         Command::Help => run_help(out),
         Command::Version => run_version(out),
     }

@@ -5,11 +5,15 @@ ghost use Rattle.jass_top.specs.Causes.{Unread};
 ghost use Rattle.jass_top.specs.Judging.{Accepted, Shows, judge_ciff};
 
 use crate::stop::Stop;
-use crate::whole_file::{ReadStop, read_whole};
 use ciff_read::laws::the_front_is_enough;
 use ciff_read::{CiffFault, read_collection};
 use jass_base::{Cabinet, Collection};
 use std::alloc::Global;
+use whole_files::{ReadStop, read_front};
+
+/// How many bytes of a file are read at the most: what is behind them changes no answer, since a
+/// message begins at 2^32 at the latest and its length has at most ten bytes.
+const MOST_BYTES: usize = 4_294_967_312;
 
 /// Reads the collection of a CIFF file.
 pub fn read_file<'a, C: Cabinet>(
@@ -27,7 +31,7 @@ pub fn read_file<'a, C: Cabinet>(
     ensures others { C.write_faults files.old ≤ C.write_faults files.new }
 {
     the_front_is_enough();
-    let bytes = match read_whole(alloc, files, name) {
+    let bytes = match read_front(alloc, files, name, MOST_BYTES) {
         Ok(bytes) => bytes,
         Err(ReadStop::ReadFault) => return Err(Stop::ReadFault { name }),
         Err(ReadStop::NoMemory) => return Err(Stop::NoMemory),

@@ -1,13 +1,14 @@
 -- Words that begin a command, and the first word that is at fault: lemmas over any command, and then each command's own.
 use Rattle.std.proofs.Common.{◌≡◌, ◌≢◌, ℕ, ◌+◌, suc, ◌<◌, ◌≤◌, List, [], ◌∷◌, ◌++◌, length, take, drop, Some, refl, sym, ap, subst, ◌∙◌, arith, append-nil, take-append-drop, length-append}
 use Rattle.std.specs.Prelude.{slice_get, All}
-use Rattle.std.proofs.lemmas.List.{take-take, append_assoc}
+use Rattle.std.proofs.lemmas.List.{take-take, append_assoc, take_all, length-take}
 use Rattle.std.proofs.lemmas.List.Elements.{All-from_recursion}
 use Rattle.std.proofs.Math.Seq.{take-append_seam, take-append-add}
 use Rattle.jass_base.specs.declared.answer.Budget.{Budget}
 use Rattle.jass_base.specs.declared.answer.Budget.TheVariants as budgets
-use Rattle.jass_words.specs.Words.{CommandData, Once, Rewrite, Help, Version, IsFile, IsCount, IsBudget, IsTerm, AreTerms, IsCommand, IsNoCommand, IsBegun, IsBadWord}
-use Rattle.jass_words.proofs.Parts.{once_word, rewrite_word, help_word, version_word, word_of, begins, as_once, as_rewrite, as_help, as_version, some_same}
+use Rattle.jass_words.specs.Words.{CommandData, Once, Rewrite, Import, Check, Export, Migrate, Help, Version, HasFiles, TakesFiles, TakesTwoFiles, IsFile, IsCount, IsBudget, IsTerm, AreTerms, IsCommand, IsNoCommand, IsBegun, IsBadWord}
+use Rattle.jass_words.proofs.Parts.{once_word, rewrite_word, import_word, check_word, export_word, migrate_word, help_word, version_word, word_of, begins, as_once, as_rewrite, as_import, as_check, as_export, as_migrate, as_help, as_version, some_same}
+use Rattle.jass_words.specs.Options.{OptionData, AreOptions, HaveKeysOnce, rule_of, bits_of}
 
 -- fewer words begin a command too
 begun_less : (words : List (List ℕ)) (n m : ℕ) → m ≤ n → IsBegun (take n words) → IsBegun (take m words)
@@ -123,14 +124,61 @@ other_file (b ∷ []) = (97 ∷ 97 ∷ [], long_file, λ is. (let sizes : 1 ≡ 
     long_file = record { some = omega arith; fits = omega arith; nonzero = All-from_recursion (λ (b : ℕ). b ≢ 0) (97 ∷ 97 ∷ []) ((λ is. cc), ((λ is. cc), tt)) }
 other_file (b ∷ c ∷ f) = (a_word, a_file, λ is. (let sizes : length (b ∷ c ∷ f) ≡ 1 = ap length is in omega (arith, sizes)))
 
-begun_to : (f t : List ℕ) → IsFile f → IsFile t → f ≢ t → IsBegun (rewrite_word ∷ f ∷ t ∷ [])
-begun_to f t file to differ = ([], Rewrite f t, record { parts = refl; read = file; written = to; differ = differ })
+-- ---- names behind which files stand
 
-begun_from : (f : List ℕ) → IsFile f → IsBegun (rewrite_word ∷ f ∷ [])
-begun_from f file = (let (t, to, differ) = other_file f in begun_less (rewrite_word ∷ f ∷ t ∷ []) 3 2 (omega arith) (begun_to f t file to differ))
+pub begun_options : (f t : List ℕ) (more : List (List ℕ)) (options : List OptionData) → IsFile f → IsFile t → f ≢ t → AreOptions more options → HaveKeysOnce options → IsBegun (import_word ∷ f ∷ t ∷ more)
+begun_options f t more options read written differ spelled once = (
+  [],
+  Import f t (rule_of options) (bits_of options),
+  record {
+    more = more;
+    options = options;
+    files = record { parts = append-nil (import_word ∷ f ∷ t ∷ more); read = read; written = written; differ = differ };
+    spelled = spelled;
+    once = once;
+    weighs = refl;
+    narrows = refl;
+  },
+)
 
-begun_rewrite : IsBegun (rewrite_word ∷ [])
-begun_rewrite = begun_less (rewrite_word ∷ a_word ∷ []) 2 1 (omega arith) (begun_from a_word a_file)
+begun_from : (name f : List ℕ) → TakesFiles name → IsFile f → IsBegun (name ∷ f ∷ [])
+begun_from name f takes file = (let (t, to, differ) = other_file f in begun_less (name ∷ f ∷ t ∷ []) 3 2 (omega arith) (takes.begun f t file to differ))
+
+begun_name : (name : List ℕ) → TakesFiles name → IsBegun (name ∷ [])
+begun_name name takes = begun_less (name ∷ a_word ∷ []) 2 1 (omega arith) (begun_from name a_word takes a_file)
+
+pub rewrite_takes : TakesTwoFiles rewrite_word
+rewrite_takes = record {
+  takes = record {
+    each = λ rest command is. (let (from, to, whole) = as_rewrite rest command is in (from, to, [], whole));
+    begun = λ from to read written differ. ([], Rewrite from to, record { parts = refl; read = read; written = written; differ = differ });
+  };
+  ends = λ from to more command is. (let (f, t, whole) = as_rewrite (from ∷ to ∷ more) command is in ap (drop 3) whole.parts);
+}
+
+pub export_takes : TakesTwoFiles export_word
+export_takes = record {
+  takes = record {
+    each = λ rest command is. (let (from, to, whole) = as_export rest command is in (from, to, [], whole));
+    begun = λ from to read written differ. ([], Export from to, record { parts = refl; read = read; written = written; differ = differ });
+  };
+  ends = λ from to more command is. (let (f, t, whole) = as_export (from ∷ to ∷ more) command is in ap (drop 3) whole.parts);
+}
+
+pub migrate_takes : TakesTwoFiles migrate_word
+migrate_takes = record {
+  takes = record {
+    each = λ rest command is. (let (from, to, whole) = as_migrate rest command is in (from, to, [], whole));
+    begun = λ from to read written differ. ([], Migrate from to, record { parts = refl; read = read; written = written; differ = differ });
+  };
+  ends = λ from to more command is. (let (f, t, whole) = as_migrate (from ∷ to ∷ more) command is in ap (drop 3) whole.parts);
+}
+
+pub import_takes : TakesFiles import_word
+import_takes = record {
+  each = λ rest command is. (let (ciff, index, rule, bits, whole) = as_import rest command is in (ciff, index, whole.more, whole.files));
+  begun = λ from to read written differ. begun_options from to [] [] read written differ tt tt;
+}
 
 -- ---- each command's bad words
 
@@ -158,26 +206,76 @@ once_without_budget words f c k rest is file count none = bad_word words (once_w
     each : (more : List (List ℕ)) (command : CommandData) → IsCommand (once_word ∷ f ∷ c ∷ more) command → (word : List ℕ) × (slice_get more 0 ≡ Some word) × ((budget : Budget) × IsBudget word budget)
     each more command whole = (let (ciff, l, budget, terms, once) = as_once (f ∷ c ∷ more) command whole in (once.limit, ap (λ (ws : List (List ℕ)). slice_get ws 3) once.parts, (budget, once.limited)))
 
-pub rewrite_without_file : (words rest : List (List ℕ)) → words ≡ rewrite_word ∷ rest → ((word : List ℕ) → slice_get words 1 ≡ Some word → ¬ IsFile word) → IsBadWord words 2
-rewrite_without_file words rest is none = bad_word words (rewrite_word ∷ []) rest IsFile is begun_rewrite each none
+pub without_file : (name : List ℕ) (words rest : List (List ℕ)) → TakesFiles name → words ≡ name ∷ rest → ((word : List ℕ) → slice_get words 1 ≡ Some word → ¬ IsFile word) → IsBadWord words 2
+without_file name words rest takes is none = bad_word words (name ∷ []) rest IsFile is (begun_name name takes) each none
   where
-    each : (more : List (List ℕ)) (command : CommandData) → IsCommand (rewrite_word ∷ more) command → (word : List ℕ) × (slice_get more 0 ≡ Some word) × IsFile word
-    each more command whole = (let (from, to, rewrite) = as_rewrite more command whole in (from, ap (λ (ws : List (List ℕ)). slice_get ws 1) rewrite.parts, rewrite.read))
+    each : (more : List (List ℕ)) (command : CommandData) → IsCommand (name ∷ more) command → (word : List ℕ) × (slice_get more 0 ≡ Some word) × IsFile word
+    each more command whole = (let (from, to, behind, files) = takes.each more command whole in (from, ap (λ (ws : List (List ℕ)). slice_get ws 1) files.parts, files.read))
 
-pub rewrite_without_second : (words : List (List ℕ)) (f : List ℕ) (rest : List (List ℕ)) → words ≡ rewrite_word ∷ f ∷ rest → IsFile f → ((word : List ℕ) → slice_get words 2 ≡ Some word → f ≢ word → ¬ IsFile word) → IsBadWord words 3
-rewrite_without_second words f rest is file none = bad_word words (rewrite_word ∷ f ∷ []) rest (λ (word : List ℕ). IsFile word × (f ≢ word)) is (begun_from f file) each (λ word at holds. none word at holds.1 holds.0)
+pub without_second : (name : List ℕ) (words : List (List ℕ)) (f : List ℕ) (rest : List (List ℕ)) → TakesFiles name → words ≡ name ∷ f ∷ rest → IsFile f
+    → ((word : List ℕ) → slice_get words 2 ≡ Some word → f ≢ word → ¬ IsFile word) → IsBadWord words 3
+without_second name words f rest takes is file none = bad_word words (name ∷ f ∷ []) rest (λ (word : List ℕ). IsFile word × (f ≢ word)) is (begun_from name f takes file) each (λ word at holds. none word at holds.1 holds.0)
   where
-    each : (more : List (List ℕ)) (command : CommandData) → IsCommand (rewrite_word ∷ f ∷ more) command → (word : List ℕ) × (slice_get more 0 ≡ Some word) × (IsFile word × (f ≢ word))
+    each : (more : List (List ℕ)) (command : CommandData) → IsCommand (name ∷ f ∷ more) command → (word : List ℕ) × (slice_get more 0 ≡ Some word) × (IsFile word × (f ≢ word))
     each more command whole =
-        let (from, to, rewrite) = as_rewrite (f ∷ more) command whole in
-        let first : f ≡ from = some_same f from (ap (λ (ws : List (List ℕ)). slice_get ws 1) rewrite.parts) in
-        (to, ap (λ (ws : List (List ℕ)). slice_get ws 2) rewrite.parts, (rewrite.written, λ same. rewrite.differ (sym first ∙ same)))
+        let (from, to, behind, files) = takes.each (f ∷ more) command whole in
+        let first : f ≡ from = some_same f from (ap (λ (ws : List (List ℕ)). slice_get ws 1) files.parts) in
+        (to, ap (λ (ws : List (List ℕ)). slice_get ws 2) files.parts, (files.written, λ same. files.differ (sym first ∙ same)))
 
-pub rewrite_with_more : (words : List (List ℕ)) (f t : List ℕ) (rest : List (List ℕ)) → words ≡ rewrite_word ∷ f ∷ t ∷ rest → IsFile f → IsFile t → f ≢ t → 3 < length words → IsBadWord words 4
-rewrite_with_more words f t rest is file to differ many = too_many words (rewrite_word ∷ f ∷ t ∷ []) rest is (begun_to f t file to differ) last many
+pub with_more : (name : List ℕ) (words : List (List ℕ)) (f t : List ℕ) (more : List (List ℕ)) → TakesTwoFiles name → HasFiles name words f t more → 3 < length words → IsBadWord words 4
+with_more name words f t more takes files many =
+    too_many words (name ∷ f ∷ t ∷ []) more files.parts (takes.takes.begun f t files.read files.written files.differ) (λ rest command whole. takes.ends f t rest command whole) many
+
+-- a command that ends behind its one file
+check_begun : (f : List ℕ) → IsFile f → IsBegun (check_word ∷ f ∷ [])
+check_begun f file = ([], Check f, record { parts = refl; file = file })
+
+pub check_without_file : (words rest : List (List ℕ)) → words ≡ check_word ∷ rest → ((word : List ℕ) → slice_get words 1 ≡ Some word → ¬ IsFile word) → IsBadWord words 2
+check_without_file words rest is none = bad_word words (check_word ∷ []) rest IsFile is (begun_less (check_word ∷ a_word ∷ []) 2 1 (omega arith) (check_begun a_word a_file)) each none
   where
-    last : (more : List (List ℕ)) (command : CommandData) → IsCommand (rewrite_word ∷ f ∷ t ∷ more) command → more ≡ []
-    last more command whole = (let (from, into, rewrite) = as_rewrite (f ∷ t ∷ more) command whole in ap (drop 3) rewrite.parts)
+    each : (more : List (List ℕ)) (command : CommandData) → IsCommand (check_word ∷ more) command → (word : List ℕ) × (slice_get more 0 ≡ Some word) × IsFile word
+    each more command whole = (let (index, check) = as_check more command whole in (index, ap (λ (ws : List (List ℕ)). slice_get ws 1) check.parts, check.file))
+
+pub check_with_more : (words : List (List ℕ)) (f : List ℕ) (rest : List (List ℕ)) → words ≡ check_word ∷ f ∷ rest → IsFile f → 2 < length words → IsBadWord words 3
+check_with_more words f rest is file many =
+    too_many words (check_word ∷ f ∷ []) rest is (check_begun f file) (λ more command whole. (let (index, check) = as_check (f ∷ more) command whole in ap (drop 2) check.parts)) many
+
+-- options of `import`, the next word of which is none or stands twice
+pub import_with_bad : (words : List (List ℕ)) (f t : List ℕ) (more : List (List ℕ)) (place : ℕ) (options : List OptionData) → HasFiles import_word words f t more → place < length more
+    → AreOptions (take place more) options → HaveKeysOnce options
+    → ((options : List OptionData) (rest : List (List ℕ)) → AreOptions (take (place + 1) more ++ rest) options → ¬ HaveKeysOnce options) → IsBadWord words (4 + place)
+import_with_bad words f t more place options files within spelled once none =
+    subst (λ (ws : List (List ℕ)). IsBadWord ws (4 + place)) (sym files.parts ∙ refl) (record {
+      none = never (import_word ∷ f ∷ t ∷ more) (4 + place) unbegun;
+      before = λ n less. front n less;
+      here = λ inside. unbegun;
+      there = omega (arith, within);
+    })
+  where
+    whole : List (List ℕ)
+    whole = import_word ∷ f ∷ t ∷ take place more
+
+    after : 4 + place ≡ suc (suc (suc (place + 1)))
+    after = omega arith
+
+    unbegun : ¬ IsBegun (take (4 + place) (import_word ∷ f ∷ t ∷ more))
+    unbegun begun =
+        let (rest, command, is) = subst (λ n. IsBegun (take n (import_word ∷ f ∷ t ∷ more))) after begun in
+        let (ciff, index, rule, bits, found) = as_import (f ∷ t ∷ (take (place + 1) more ++ rest)) command is in
+        let same : take (place + 1) more ++ rest ≡ found.more = ap (drop 3) found.files.parts in
+        none found.options rest (subst (λ (ws : List (List ℕ)). AreOptions ws found.options) (sym same) found.spelled) found.once
+
+    begun : IsBegun whole
+    begun = begun_options f t (take place more) options files.read files.written files.differ spelled once
+
+    front : (n : ℕ) → n < 4 + place → IsBegun (take n (import_word ∷ f ∷ t ∷ more))
+    front n less = subst IsBegun (ap (take n) refl ∙ same n less) (begun_less whole (length whole) n (size n less) (subst IsBegun (sym (take_all (length whole) whole (omega arith))) begun))
+      where
+        size : (n : ℕ) → n < 4 + place → n ≤ length whole
+        size n less = (let e = length-take place more in omega (arith, e, less, within))
+
+        same : (n : ℕ) → n < 4 + place → take n whole ≡ take n (import_word ∷ f ∷ t ∷ more)
+        same n less = ap (take n) (λ i. whole) ∙ take-take n (suc (suc (suc place))) (import_word ∷ f ∷ t ∷ more) (omega (arith, less))
 
 -- a command of its name alone
 pub help_with_more : (words rest : List (List ℕ)) → words ≡ help_word ∷ rest → 1 < length words → IsBadWord words 2

@@ -1,10 +1,15 @@
 -- The name that a command's words begin with, and the one command that has it.
-use Rattle.std.proofs.Common.{◌≡◌, ℕ, List, [], ◌∷◌, Some, None, sym, ap, subst, ◌∙◌}
+use Rattle.std.proofs.Common.{refl, ◌≡◌, ℕ, List, [], ◌∷◌, Some, None, sym, ap, subst, ◌∙◌}
 use Rattle.std.specs.Prelude.{slice_get}
 use Rattle.jass_base.specs.declared.answer.Budget.{Budget}
 use Rattle.jass_base.specs.declared.answer.Budget.TheVariants as budgets
+use Rattle.std.specs.Cmp.Lexicographic.{other_text}
 use Rattle.jass_base.specs.Decimal.{decimal_of}
-use Rattle.jass_words.specs.Words.{CommandData, Once, Rewrite, Help, Version, IsOnce, IsRewrite, IsHelp, IsVersion, IsBudget, IsCommand}
+use Rattle.weights.specs.declared.weighting.Rule.{Rule}
+use Rattle.weights.specs.declared.quantizing.Bits.{Bits}
+use Rattle.jass_words.specs.Options.{AreOptions, rule_of, bits_of}
+use Rattle.jass_words.proofs.Keys.{options_one}
+use Rattle.jass_words.specs.Words.{CommandData, Once, Rewrite, Import, Check, Export, Migrate, Help, Version, HasFiles, IsOnce, IsRewrite, IsImport, IsCheck, IsExport, IsMigrate, IsHelp, IsVersion, IsBudget, IsCommand}
 
 abbrev all_word : List ℕ
 all_word = 97 ∷ 108 ∷ 108 ∷ []
@@ -14,6 +19,18 @@ once_word = 111 ∷ 110 ∷ 99 ∷ 101 ∷ []
 
 abbrev pub rewrite_word : List ℕ
 rewrite_word = 114 ∷ 101 ∷ 119 ∷ 114 ∷ 105 ∷ 116 ∷ 101 ∷ []
+
+abbrev pub import_word : List ℕ
+import_word = 105 ∷ 109 ∷ 112 ∷ 111 ∷ 114 ∷ 116 ∷ []
+
+abbrev pub check_word : List ℕ
+check_word = 99 ∷ 104 ∷ 101 ∷ 99 ∷ 107 ∷ []
+
+abbrev pub export_word : List ℕ
+export_word = 101 ∷ 120 ∷ 112 ∷ 111 ∷ 114 ∷ 116 ∷ []
+
+abbrev pub migrate_word : List ℕ
+migrate_word = 109 ∷ 105 ∷ 103 ∷ 114 ∷ 97 ∷ 116 ∷ 101 ∷ []
 
 abbrev pub help_word : List ℕ
 help_word = 45 ∷ 45 ∷ 104 ∷ 101 ∷ 108 ∷ 112 ∷ []
@@ -25,6 +42,10 @@ version_word = 45 ∷ 45 ∷ 118 ∷ 101 ∷ 114 ∷ 115 ∷ 105 ∷ 111 ∷ 110
 abbrev pub word_of : CommandData → List ℕ
 word_of (Once ciff k budget terms) = once_word
 word_of (Rewrite from to) = rewrite_word
+word_of (Import ciff index rule bits) = import_word
+word_of (Check index) = check_word
+word_of (Export index ciff) = export_word
+word_of (Migrate from to) = migrate_word
 word_of Help = help_word
 word_of Version = version_word
 
@@ -32,37 +53,63 @@ word_of Version = version_word
 pub begins : (words : List (List ℕ)) (command : CommandData) → IsCommand words command → slice_get words 0 ≡ Some (word_of command)
 begins words (Once ciff k budget terms) is = ap (λ (ws : List (List ℕ)). slice_get ws 0) is.parts
 begins words (Rewrite from to) is = ap (λ (ws : List (List ℕ)). slice_get ws 0) is.parts
+begins words (Import ciff index rule bits) is = ap (λ (ws : List (List ℕ)). slice_get ws 0) is.files.parts
+begins words (Check index) is = ap (λ (ws : List (List ℕ)). slice_get ws 0) is.parts
+begins words (Export index ciff) is = ap (λ (ws : List (List ℕ)). slice_get ws 0) is.parts
+begins words (Migrate from to) is = ap (λ (ws : List (List ℕ)). slice_get ws 0) is.parts
 begins words Help is = ap (λ (ws : List (List ℕ)). slice_get ws 0) is.parts
 begins words Version is = ap (λ (ws : List (List ℕ)). slice_get ws 0) is.parts
+
+pub some_same : {A : Type 0} (a b : A) → Some a ≡ Some b → a ≡ b
+some_same a b is = cc
 
 -- ---- words behind a name are those of its command
 
 pub as_once : (rest : List (List ℕ)) (command : CommandData) → IsCommand (once_word ∷ rest) command → (ciff : List ℕ) × (k : ℕ) × (budget : Budget) × (terms : List (List ℕ)) × IsOnce (once_word ∷ rest) ciff k budget terms
 as_once rest (Once ciff k budget terms) is = (ciff, k, budget, terms, is)
-as_once rest other is = (let same : Some once_word ≡ Some (word_of other) = begins (once_word ∷ rest) other is in cc)
+as_once rest other is = absurd (other_text once_word (word_of other) refl (some_same once_word (word_of other) (begins (once_word ∷ rest) other is)))
 
 pub as_rewrite : (rest : List (List ℕ)) (command : CommandData) → IsCommand (rewrite_word ∷ rest) command → (from : List ℕ) × (to : List ℕ) × IsRewrite (rewrite_word ∷ rest) from to
 as_rewrite rest (Rewrite from to) is = (from, to, is)
-as_rewrite rest other is = (let same : Some rewrite_word ≡ Some (word_of other) = begins (rewrite_word ∷ rest) other is in cc)
+as_rewrite rest other is = absurd (other_text rewrite_word (word_of other) refl (some_same rewrite_word (word_of other) (begins (rewrite_word ∷ rest) other is)))
+
+pub as_export : (rest : List (List ℕ)) (command : CommandData) → IsCommand (export_word ∷ rest) command → (from : List ℕ) × (to : List ℕ) × IsExport (export_word ∷ rest) from to
+as_export rest (Export from to) is = (from, to, is)
+as_export rest other is = absurd (other_text export_word (word_of other) refl (some_same export_word (word_of other) (begins (export_word ∷ rest) other is)))
+
+pub as_migrate : (rest : List (List ℕ)) (command : CommandData) → IsCommand (migrate_word ∷ rest) command → (from : List ℕ) × (to : List ℕ) × IsMigrate (migrate_word ∷ rest) from to
+as_migrate rest (Migrate from to) is = (from, to, is)
+as_migrate rest other is = absurd (other_text migrate_word (word_of other) refl (some_same migrate_word (word_of other) (begins (migrate_word ∷ rest) other is)))
+
+pub as_import : (rest : List (List ℕ)) (command : CommandData) → IsCommand (import_word ∷ rest) command → (ciff : List ℕ) × (index : List ℕ) × (rule : Rule) × (bits : Bits) × IsImport (import_word ∷ rest) ciff index rule bits
+as_import rest (Import ciff index rule bits) is = (ciff, index, rule, bits, is)
+as_import rest other is = absurd (other_text import_word (word_of other) refl (some_same import_word (word_of other) (begins (import_word ∷ rest) other is)))
+
+pub as_check : (rest : List (List ℕ)) (command : CommandData) → IsCommand (check_word ∷ rest) command → (index : List ℕ) × IsCheck (check_word ∷ rest) index
+as_check rest (Check index) is = (index, is)
+as_check rest other is = absurd (other_text check_word (word_of other) refl (some_same check_word (word_of other) (begins (check_word ∷ rest) other is)))
 
 pub as_help : (rest : List (List ℕ)) (command : CommandData) → IsCommand (help_word ∷ rest) command → IsHelp (help_word ∷ rest)
 as_help rest Help is = is
-as_help rest other is = (let same : Some help_word ≡ Some (word_of other) = begins (help_word ∷ rest) other is in cc)
+as_help rest other is = absurd (other_text help_word (word_of other) refl (some_same help_word (word_of other) (begins (help_word ∷ rest) other is)))
 
 pub as_version : (rest : List (List ℕ)) (command : CommandData) → IsCommand (version_word ∷ rest) command → IsVersion (version_word ∷ rest)
 as_version rest Version is = is
-as_version rest other is = (let same : Some version_word ≡ Some (word_of other) = begins (version_word ∷ rest) other is in cc)
+as_version rest other is = absurd (other_text version_word (word_of other) refl (some_same version_word (word_of other) (begins (version_word ∷ rest) other is)))
 
 -- ---- words are one command at most
-
-pub some_same : {A : Type 0} (a b : A) → Some a ≡ Some b → a ≡ b
-some_same a b is = cc
 
 same_budget : (word : List ℕ) (budget other : Budget) → IsBudget word budget → IsBudget word other → budget ≡ other
 same_budget word (budgets.Postings m) (budgets.Postings n) is theirs = (let same : m ≡ n = cc in ap budgets.Postings same)
 same_budget word budgets.All budgets.All is theirs = λ i. budgets.All
 same_budget word (budgets.Postings m) budgets.All is theirs = (let none : decimal_of all_word ≡ Some m = subst (λ w. decimal_of w ≡ Some m) theirs is in cc)
 same_budget word budgets.All (budgets.Postings n) is theirs = (let none : decimal_of all_word ≡ Some n = subst (λ w. decimal_of w ≡ Some n) is theirs in cc)
+
+same_files : (name : List ℕ) (words : List (List ℕ)) (from to from' to' : List ℕ) (more more' : List (List ℕ)) → HasFiles name words from to more → HasFiles name words from' to' more'
+    → (from ≡ from') × (to ≡ to') × (more ≡ more')
+same_files name words from to from' to' more more' is theirs =
+    let both : name ∷ from ∷ to ∷ more ≡ name ∷ from' ∷ to' ∷ more' = sym is.parts ∙ theirs.parts in
+    (cc, cc, cc)
 
 pub one_command : (words : List (List ℕ)) (command other : CommandData) → IsCommand words command → IsCommand words other → command ≡ other
 one_command words (Once f k b ts) (Once g l c us) is theirs =
@@ -75,11 +122,19 @@ one_command words (Once f k b ts) (Once g l c us) is theirs =
     let k_is : k ≡ l = some_same k l (sym is.counted.decimal ∙ there) in
     let b_is : b ≡ c = same_budget is.limit b c is.limited (subst (λ w. IsBudget w c) (sym limit) theirs.limited) in
     (λ i. Once (file i) (k_is i) (b_is i) (terms i))
-one_command words (Rewrite from to) (Rewrite from' to') is theirs =
-    let both : rewrite_word ∷ from ∷ to ∷ [] ≡ rewrite_word ∷ from' ∷ to' ∷ [] = sym is.parts ∙ theirs.parts in
-    let from_is : from ≡ from' = cc in
-    let to_is : to ≡ to' = cc in
-    (λ i. Rewrite (from_is i) (to_is i))
+one_command words (Rewrite from to) (Rewrite from' to') is theirs = (let same = same_files rewrite_word words from to from' to' [] [] is theirs in (λ i. Rewrite (same.0 i) (same.1 i)))
+one_command words (Export from to) (Export from' to') is theirs = (let same = same_files export_word words from to from' to' [] [] is theirs in (λ i. Export (same.0 i) (same.1 i)))
+one_command words (Migrate from to) (Migrate from' to') is theirs = (let same = same_files migrate_word words from to from' to' [] [] is theirs in (λ i. Migrate (same.0 i) (same.1 i)))
+one_command words (Import ciff index rule bits) (Import ciff' index' rule' bits') is theirs =
+    let same = same_files import_word words ciff index ciff' index' is.more theirs.more is.files theirs.files in
+    let options : is.options ≡ theirs.options = options_one theirs.more is.options theirs.options (subst (λ (ws : List (List ℕ)). AreOptions ws is.options) same.2 is.spelled) theirs.spelled in
+    let rules : rule ≡ rule' = is.weighs ∙ ap rule_of options ∙ sym theirs.weighs in
+    let widths : bits ≡ bits' = is.narrows ∙ ap bits_of options ∙ sym theirs.narrows in
+    (λ i. Import (same.0 i) (same.1 i) (rules i) (widths i))
+one_command words (Check index) (Check index') is theirs =
+    let both : check_word ∷ index ∷ [] ≡ check_word ∷ index' ∷ [] = sym is.parts ∙ theirs.parts in
+    let file : index ≡ index' = cc in
+    (λ i. Check (file i))
 one_command words Help Help is theirs = λ i. Help
 one_command words Version Version is theirs = λ i. Version
-one_command words command other is theirs = (let same : Some (word_of command) ≡ Some (word_of other) = sym (begins words command is) ∙ begins words other theirs in cc)
+one_command words command other is theirs = absurd (other_text (word_of command) (word_of other) refl (some_same (word_of command) (word_of other) (sym (begins words command is) ∙ begins words other theirs)))

@@ -1,6 +1,6 @@
 -- Words that begin a command are short.
-use Rattle.std.proofs.Common.{◌≡◌, ℕ, ◌≤◌, ◌<◌, Bool, true, false, List, [], ◌∷◌, ◌++◌, length, Some, None, sym, ap, subst, arith, if◌then◌else◌}
-use Rattle.std.specs.Prelude.{◌&&◌, nat_le, nat_lt, ◌^◌}
+use Rattle.std.proofs.Common.{◌≡◌, ℕ, ◌≤◌, ◌<◌, Bool, true, false, List, [], ◌∷◌, ◌++◌, length, Some, None, sym, ap, subst, ◌+◌, ◌∙◌, arith, length-append, if◌then◌else◌}
+use Rattle.std.specs.Prelude.{codes, ◌&&◌, nat_le, nat_lt, ◌^◌}
 use Rattle.std.specs.Char.{is_ascii_digit}
 use Rattle.std.specs.List.{AllByRecursion, list_all}
 use Rattle.std.specs.Str.Parse.{digits_value}
@@ -9,7 +9,12 @@ use Rattle.std.proofs.lemmas.List.Elements.{recursion_from_All}
 use Rattle.jass_base.specs.Decimal.{is_decimal, decimal_of}
 use Rattle.jass_base.specs.declared.answer.Budget.{Budget}
 use Rattle.jass_base.specs.declared.answer.Budget.TheVariants as budgets
-use Rattle.jass_words.specs.Words.{CommandData, Once, Rewrite, Help, Version, IsBudget, IsTerm, IsCommand, IsBegun}
+use Rattle.weights.specs.declared.weighting.Rule.{Rule}
+use Rattle.weights.specs.declared.weighting.Rule.TheVariants.{Tf, Bm25}
+use Rattle.weights.specs.declared.quantizing.Bits.{Bits}
+use Rattle.weights.specs.declared.quantizing.Bits.TheVariants.{Raw, Of}
+use Rattle.jass_words.specs.Options.{OptionData, Weights, Width, IsRule, IsBits, IsOption, AreOptions}
+use Rattle.jass_words.specs.Words.{CommandData, Once, Rewrite, Import, Check, Export, Migrate, Help, Version, IsBudget, IsTerm, IsCommand, IsBegun}
 
 -- the second of four facts
 second : (a b c d : Bool) → (a && b && c && d) ≡ true → b ≡ true
@@ -17,25 +22,55 @@ second a true c d is = λ i. true
 second true false c d is = cc
 second false false c d is = cc
 
-short_decimal : (word : List ℕ) (k : ℕ) → decimal_of word ≡ Some k → length word ≤ 65535
-short_decimal word k is = at (is_decimal word) (λ i. is_decimal word) is
+few_digits : (word : List ℕ) (k : ℕ) → decimal_of word ≡ Some k → length word ≤ 65500
+few_digits word k is = at (is_decimal word) (λ i. is_decimal word) is
   where
-    at : (b : Bool) → is_decimal word ≡ b → (if b then Some (digits_value 10 word) else None) ≡ Some k → length word ≤ 65535
+    at : (b : Bool) → is_decimal word ≡ b → (if b then Some (digits_value 10 word) else None) ≡ Some k → length word ≤ 65500
     at false same none = cc
     at true same some =
         let few : nat_le (length word) 20 ≡ true = second (nat_le 1 (length word)) (nat_le (length word) 20) (list_all is_ascii_digit word) (nat_lt (digits_value 10 word) (2 ^ 64)) same in
         let fits : length word ≤ 20 = leb-true (length word) 20 few in
         omega (arith, fits)
 
+short_decimal : (word : List ℕ) (k : ℕ) → decimal_of word ≡ Some k → length word ≤ 65535
+short_decimal word k is = omega (arith, few_digits word k is)
+
 short_budget : (word : List ℕ) (budget : Budget) → IsBudget word budget → length word ≤ 65535
 short_budget word (budgets.Postings n) is = short_decimal word n is
 short_budget word budgets.All is = (let size : length word ≡ 3 = ap length is in omega (arith, size))
+
+short_rule : (value : List ℕ) (rule : Rule) → IsRule value rule → length value ≤ 20
+short_rule value Tf is = (let size : length value ≡ 2 = ap length is in omega (arith, size))
+short_rule value Bm25 is = (let size : length value ≡ 4 = ap length is in omega (arith, size))
+
+short_bits : (value : List ℕ) (bits : Bits) → IsBits value bits → length value ≤ 65500
+short_bits value Raw is = (let size : length value ≡ 3 = ap length is in omega (arith, size))
+short_bits value (Of bits) is = few_digits value bits is.0
+
+short_option : (word : List ℕ) (option : OptionData) → IsOption word option → length word ≤ 65535
+short_option word (Weights rule) is =
+    let size : length word ≡ 8 + length is.0 = ap length is.1 ∙ length-append (codes "weights=") is.0 in
+    omega (arith, size, short_rule is.0 rule is.2)
+short_option word (Width bits) is =
+    let size : length word ≡ 5 + length is.0 = ap length is.1 ∙ length-append (codes "bits=") is.0 in
+    omega (arith, size, short_bits is.0 bits is.2)
+
+short_options : (words : List (List ℕ)) (options : List OptionData) → AreOptions words options → AllByRecursion IsTerm words
+short_options [] options are = tt
+short_options (w ∷ words) [] are = absurd are
+short_options (w ∷ words) (o ∷ options) are = (short_option w o are.0, short_options words options are.1)
 
 short_command : (words : List (List ℕ)) (command : CommandData) → IsCommand words command → AllByRecursion IsTerm words
 short_command words (Once ciff k budget terms) is =
     subst (AllByRecursion IsTerm) (sym is.parts)
     (omega arith, (omega (arith, is.file.fits), (short_decimal is.count k is.counted.decimal, (short_budget is.limit budget is.limited, recursion_from_All IsTerm terms is.named.each))))
 short_command words (Rewrite from to) is = subst (AllByRecursion IsTerm) (sym is.parts) (omega arith, (omega (arith, is.read.fits), (omega (arith, is.written.fits), tt)))
+short_command words (Export from to) is = subst (AllByRecursion IsTerm) (sym is.parts) (omega arith, (omega (arith, is.read.fits), (omega (arith, is.written.fits), tt)))
+short_command words (Migrate from to) is = subst (AllByRecursion IsTerm) (sym is.parts) (omega arith, (omega (arith, is.read.fits), (omega (arith, is.written.fits), tt)))
+short_command words (Check index) is = subst (AllByRecursion IsTerm) (sym is.parts) (omega arith, (omega (arith, is.file.fits), tt))
+short_command words (Import ciff index rule bits) is =
+    subst (AllByRecursion IsTerm) (sym is.files.parts)
+    (omega arith, (omega (arith, is.files.read.fits), (omega (arith, is.files.written.fits), short_options is.more is.options is.spelled)))
 short_command words Help is = subst (AllByRecursion IsTerm) (sym is.parts) (omega arith, tt)
 short_command words Version is = subst (AllByRecursion IsTerm) (sym is.parts) (omega arith, tt)
 

@@ -6,8 +6,8 @@ use Rattle.std.specs.List.{AllByRecursion, slice_index_or}
 use Rattle.std.specs.String.{string_bytes}
 use Rattle.std.proofs.lemmas.List.Elements.{All-from_recursion, recursion_from_All}
 use Rattle.jass_base.specs.declared.answer.Budget.{Budget}
-use Rattle.jass_words.specs.Words.{CommandData, Once, Rewrite, Help, Version, IsFile, IsCount, IsBudget, IsTerm, AreTerms, IsCommand, IsNoCommand, IsBegun, IsBadWord, IsRewrite, texts}
-use Rattle.jass_words.proofs.Parts.{once_word, rewrite_word, help_word, version_word, word_of, as_once}
+use Rattle.jass_words.specs.Words.{CommandData, Once, Rewrite, Import, Check, Export, Migrate, Help, Version, HasFiles, IsCheck, IsFile, IsCount, IsBudget, IsTerm, AreTerms, IsCommand, IsNoCommand, IsBegun, IsBadWord, texts}
+use Rattle.jass_words.proofs.Parts.{once_word, rewrite_word, import_word, check_word, export_word, migrate_word, help_word, version_word, word_of, as_once}
 use Rattle.jass_words.proofs.Beginnings.{begun_terms, begun_once, begun_file, begun_count, begun_nothing, never, no_name}
 
 -- words that have a first one, a second one and so on
@@ -134,14 +134,24 @@ long_word (w ∷ ws) zero word text within is long at short =
     omega (arith, long, subst (λ (x : String Global). length (string_bytes w) ≡ length (string_bytes w)) is refl, ap (λ (x : String Global). length (string_bytes x)) is, ap length same, short)
 long_word (w ∷ ws) (suc n) word text within is long at short = long_word ws n word text (omega (arith, within)) is long at short
 
--- ---- `rewrite`
+-- ---- files
 
-pub rewrite_whole : (words : List (List ℕ)) (f t : List ℕ) → slice_get words 0 ≡ Some rewrite_word → slice_get words 1 ≡ Some f → slice_get words 2 ≡ Some t → IsFile f → IsFile t → f ≢ t → length words ≤ 3 → IsRewrite words f t
-rewrite_whole words f t name first second file to differ few = at (opened3 words rewrite_word f t name first second)
+pub files_there : (name : List ℕ) (words : List (List ℕ)) (f t : List ℕ) → slice_get words 0 ≡ Some name → slice_get words 1 ≡ Some f → slice_get words 2 ≡ Some t → IsFile f → IsFile t → f ≢ t → (more : List (List ℕ)) × HasFiles name words f t more
+files_there name words f t named first second file to differ =
+    let (rest, is) = opened3 words name f t named first second in
+    (rest, record { parts = is; read = file; written = to; differ = differ })
+
+pub files_end : (name : List ℕ) (words : List (List ℕ)) (f t : List ℕ) (more : List (List ℕ)) → HasFiles name words f t more → length words ≤ 3 → HasFiles name words f t []
+files_end name words f t [] files few = files
+files_end name words f t (x ∷ rest) files few = (let size : length words ≡ suc (suc (suc (suc (length rest)))) = ap length files.parts in absurd (omega (arith, size, few)))
+
+-- one file alone
+pub check_whole : (words : List (List ℕ)) (f : List ℕ) → slice_get words 0 ≡ Some check_word → slice_get words 1 ≡ Some f → IsFile f → length words ≤ 2 → IsCheck words f
+check_whole words f named first file few = at (opened2 words check_word f named first)
   where
-    at : (rest : List (List ℕ)) × (words ≡ rewrite_word ∷ f ∷ t ∷ rest) → IsRewrite words f t
-    at ([], is) = record { parts = is; read = file; written = to; differ = differ }
-    at (x ∷ rest, is) = (let size : length words ≡ suc (suc (suc (suc (length rest)))) = ap length is in absurd (omega (arith, size, few)))
+    at : (rest : List (List ℕ)) × (words ≡ check_word ∷ f ∷ rest) → IsCheck words f
+    at ([], is) = record { parts = is; file = file }
+    at (x ∷ rest, is) = (let size : length words ≡ suc (suc (suc (length rest))) = ap length is in absurd (omega (arith, size, few)))
 
 -- ---- the words as texts
 
@@ -179,8 +189,9 @@ abbrev IsOther : List (List ℕ) → List ℕ → Type 0
 IsOther words name = slice_get words 0 ≡ Some name → IsTrue false
 
 -- the first word is no command's name
-pub nameless : (words : List (List ℕ)) → IsOther words once_word → IsOther words rewrite_word → IsOther words help_word → IsOther words version_word → IsBadWord words 1
-nameless words not_once not_rewrite not_help not_version = no_name words other
+pub nameless : (words : List (List ℕ)) → IsOther words once_word → IsOther words rewrite_word → IsOther words import_word → IsOther words check_word → IsOther words export_word → IsOther words migrate_word
+    → IsOther words help_word → IsOther words version_word → IsBadWord words 1
+nameless words not_once not_rewrite not_import not_check not_export not_migrate not_help not_version = no_name words other
   where
     never_true : IsTrue false → ⊥
     never_true is = cc
@@ -188,6 +199,10 @@ nameless words not_once not_rewrite not_help not_version = no_name words other
     other : (command : CommandData) → slice_get words 0 ≢ Some (word_of command)
     other (Once ciff k budget terms) at = never_true (not_once at)
     other (Rewrite from to) at = never_true (not_rewrite at)
+    other (Import ciff index rule bits) at = never_true (not_import at)
+    other (Check index) at = never_true (not_check at)
+    other (Export index ciff) at = never_true (not_export at)
+    other (Migrate from to) at = never_true (not_migrate at)
     other Help at = never_true (not_help at)
     other Version at = never_true (not_version at)
 
@@ -224,3 +239,22 @@ alone (a ∷ []) name is few =
     let same : a ≡ name = cc in
     ap (λ (w : List ℕ). w ∷ []) same
 alone (a ∷ x ∷ rest) name is few = absurd (omega (arith, few))
+
+-- ---- the words behind two files
+
+-- the words up to one
+pub taken : (words : List (String Global)) (n : ℕ) (word : String Global) → n < length words → word ≡ slice_index_or words n word → take (n + 1) (texts words) ≡ take n (texts words) ++ string_bytes word ∷ []
+taken words n word within is = ap (λ (k : ℕ). take k (texts words)) after ∙ longer words n within is
+  where
+    after : n + 1 ≡ suc n
+    after = omega arith
+
+    longer : (ws : List (String Global)) (i : ℕ) → i < length ws → word ≡ slice_index_or ws i word → take (suc i) (texts ws) ≡ take i (texts ws) ++ string_bytes word ∷ []
+    longer [] i within is = absurd (omega (arith, within))
+    longer (w ∷ ws) zero within is = ap (λ (x : String Global). string_bytes x ∷ []) (sym is)
+    longer (w ∷ ws) (suc i) within is = ap (λ (xs : List (List ℕ)). string_bytes w ∷ xs) (longer ws i (omega (arith, within)) is)
+
+pub behind_three : (words : List (String Global)) (name f t : List ℕ) (more : List (List ℕ)) → HasFiles name (texts words) f t more → texts (take (length words - 3) (drop 3 words)) ≡ more
+behind_three words name f t more files =
+    let whole : take (length words - 3) (drop 3 words) ≡ drop 3 words = take_all (length words - 3) (drop 3 words) (omega (arith, length-drop 3 words)) in
+    ap texts whole ∙ texts_behind words 3 more (ap (drop 3) files.parts)

@@ -5,6 +5,9 @@ use Rattle.std.specs.declared.alloc.Global.{Global}
 use Rattle.jass_base.specs.Decimal.{decimal_of}
 use Rattle.jass_base.specs.declared.answer.Budget.{Budget}
 use Rattle.jass_base.specs.declared.answer.Budget.TheVariants as budgets
+use Rattle.weights.specs.declared.weighting.Rule.{Rule}
+use Rattle.weights.specs.declared.quantizing.Bits.{Bits}
+use Rattle.jass_words.specs.Options.{OptionData, AreOptions, HaveKeysOnce, rule_of, bits_of}
 
 -- the words as texts
 abbrev pub texts : List (String Global) → List (List ℕ)
@@ -14,6 +17,10 @@ texts words = map string_bytes words
 pub data CommandData : Type 0 where
   Once : List ℕ → ℕ → Budget → List (List ℕ) → CommandData
   Rewrite : List ℕ → List ℕ → CommandData
+  Import : List ℕ → List ℕ → Rule → Bits → CommandData
+  Check : List ℕ → CommandData
+  Export : List ℕ → List ℕ → CommandData
+  Migrate : List ℕ → List ℕ → CommandData
   Help : CommandData
   Version : CommandData
 
@@ -54,12 +61,39 @@ pub record IsOnce (words : List (List ℕ)) (ciff : List ℕ) (k : ℕ) (budget 
   pub limited : IsBudget limit budget
   pub named : AreTerms terms
 
--- `rewrite FROM TO`, of two files that differ as texts
-pub record IsRewrite (words : List (List ℕ)) (from to : List ℕ) : Type 0 where
-  pub parts : words ≡ codes "rewrite" ∷ from ∷ to ∷ []
+-- `NAME FROM TO ..`: two files that differ as texts, and the words behind them
+pub record HasFiles (name : List ℕ) (words : List (List ℕ)) (from to : List ℕ) (more : List (List ℕ)) : Type 0 where
+  pub parts : words ≡ name ∷ from ∷ to ∷ more
   pub read : IsFile from
   pub written : IsFile to
   pub differ : from ≢ to
+
+-- `rewrite FROM TO`
+abbrev pub IsRewrite : List (List ℕ) → List ℕ → List ℕ → Type 0
+IsRewrite words from to = HasFiles (codes "rewrite") words from to []
+
+-- `import CIFF INDEX [weights=RULE] [bits=BITS]`; without an option the rule is tf, and weights stay raw
+pub record IsImport (words : List (List ℕ)) (ciff index : List ℕ) (rule : Rule) (bits : Bits) : Type 0 where
+  pub more : List (List ℕ)
+  pub options : List OptionData
+  pub files : HasFiles (codes "import") words ciff index more
+  pub spelled : AreOptions more options
+  pub once : HaveKeysOnce options
+  pub weighs : rule ≡ rule_of options
+  pub narrows : bits ≡ bits_of options
+
+-- `check INDEX`
+pub record IsCheck (words : List (List ℕ)) (index : List ℕ) : Type 0 where
+  pub parts : words ≡ codes "check" ∷ index ∷ []
+  pub file : IsFile index
+
+-- `export INDEX CIFF`
+abbrev pub IsExport : List (List ℕ) → List ℕ → List ℕ → Type 0
+IsExport words index ciff = HasFiles (codes "export") words index ciff []
+
+-- `migrate OLD NEW`
+abbrev pub IsMigrate : List (List ℕ) → List ℕ → List ℕ → Type 0
+IsMigrate words from to = HasFiles (codes "migrate") words from to []
 
 -- `--help`
 pub record IsHelp (words : List (List ℕ)) : Type 0 where
@@ -73,6 +107,10 @@ pub record IsVersion (words : List (List ℕ)) : Type 0 where
 abbrev pub IsCommand : List (List ℕ) → CommandData → Type 0
 IsCommand words (Once ciff k budget terms) = IsOnce words ciff k budget terms
 IsCommand words (Rewrite from to) = IsRewrite words from to
+IsCommand words (Import ciff index rule bits) = IsImport words ciff index rule bits
+IsCommand words (Check index) = IsCheck words index
+IsCommand words (Export index ciff) = IsExport words index ciff
+IsCommand words (Migrate from to) = IsMigrate words from to
 IsCommand words Help = IsHelp words
 IsCommand words Version = IsVersion words
 
@@ -91,3 +129,17 @@ pub record IsBadWord (words : List (List ℕ)) (which : ℕ) : Type 0 where
   pub before : (n : ℕ) → n < which → IsBegun (take n words)
   pub here : which ≤ length words → ¬ IsBegun (take which words)
   pub there : which ≤ length words + 1
+
+-- ---- what the readers of files ask of a name
+
+-- each command of this name begins with two files, and two files behind the name begin one
+pub record TakesFiles (name : List ℕ) : Type 0 where
+  pub each : (rest : List (List ℕ)) (command : CommandData) → IsCommand (name ∷ rest) command
+      → (from to : List ℕ) × (more : List (List ℕ)) × HasFiles name (name ∷ rest) from to more
+  pub begun : (from to : List ℕ) → IsFile from → IsFile to → from ≢ to → IsBegun (name ∷ from ∷ to ∷ [])
+
+-- and ends there
+pub record TakesTwoFiles (name : List ℕ) : Type 0 where
+  pub takes : TakesFiles name
+  pub ends : (from to : List ℕ) (more : List (List ℕ)) (command : CommandData)
+      → IsCommand (name ∷ from ∷ to ∷ more) command → more ≡ []

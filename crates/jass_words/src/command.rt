@@ -1,4 +1,5 @@
 use jass_base::Budget;
+use weights::{Bits, Rule};
 
 /// A command, with what its words say.
 #[derive(Clone, Copy)]
@@ -14,6 +15,29 @@ pub enum Command<'a> {
     },
     /// `rewrite FROM TO`: writes a CIFF file anew in the canonical spelling.
     Rewrite {
+        from: &'a str,
+        to: &'a str,
+    },
+    /// `import CIFF INDEX [weights=RULE] [bits=BITS]`: makes an index file of a CIFF file.
+    Import {
+        ciff: &'a str,
+        index: &'a str,
+        /// `tf` where no option says otherwise.
+        rule: Rule,
+        /// `raw` where no option says otherwise.
+        bits: Bits,
+    },
+    /// `check INDEX`: prints the totals of an index file, each byte of which is checked.
+    Check {
+        index: &'a str,
+    },
+    /// `export INDEX CIFF`: writes a CIFF file with the impacts of an index as term frequencies.
+    Export {
+        index: &'a str,
+        ciff: &'a str,
+    },
+    /// `migrate OLD NEW`: writes an index file of version 1 in version 2.
+    Migrate {
         from: &'a str,
         to: &'a str,
     },

@@ -3,7 +3,9 @@
 //! The words of the command line as a command, or the first word that is at fault.
 
 mod command;
+mod files;
 pub mod laws;
+mod options;
 mod reading;
 mod slots;
 #[cfg(test)]

@@ -1,9 +1,13 @@
-ghost use Rattle.std.specs.Prelude.{◌≡◌, ◌↔◌, Some, IsTrue, IfOk, IfErr, codes, slice_get};
+ghost use Rattle.std.specs.Prelude.{ℕ, ◌≡◌, ◌↔◌, ◌<◌, ◌≤◌, ◌+◌, ◌++◌, List, Some, IsTrue, IfOk, IfErr, codes, length, slice_get, take};
 ghost use Rattle.jass_words.specs.Commands.{command_data};
+ghost use Rattle.jass_words.specs.Options.{OptionData, AreOptions, HaveKeysOnce, bits_of, rule_of};
 ghost use Rattle.jass_words.specs.Words.{texts, IsCommand, IsBadWord};
 
 use crate::command::Command;
+use crate::files::{read_files, read_two_files};
+use crate::options::ImportOptions;
 use crate::slots::{budget_at, count_at, file_at, terms_in};
+use weights::{Bits, Rule};
 
 /// The most terms of one query.
 const MOST_TERMS: usize = 255;
@@ -25,6 +29,18 @@ pub fn read_words<'a>(words: &'a [String]) -> Result<Command<'a>, WordFault>
     }
     if is_named(words, "rewrite") {
         return read_rewrite(words);
+    }
+    if is_named(words, "import") {
+        return read_import(words);
+    }
+    if is_named(words, "check") {
+        return read_check(words);
+    }
+    if is_named(words, "export") {
+        return read_export(words);
+    }
+    if is_named(words, "migrate") {
+        return read_migrate(words);
     }
     if is_named(words, "--help") {
         return read_help(words);
@@ -75,25 +91,105 @@ fn read_once<'a>(words: &'a [String]) -> Result<Command<'a>, WordFault>
     })
 }
 
-/// Reads the words of `rewrite FROM TO`, whose files differ.
+/// Reads the words of `rewrite FROM TO`.
 fn read_rewrite<'a>(words: &'a [String]) -> Result<Command<'a>, WordFault>
     requires { slice_get (texts words.now) 0 ≡ Some (codes "rewrite") }
     ensures command { IfOk result (λ command. IsCommand (texts words.now) (command_data command)) }
     ensures bad_word { IfErr result (λ fault. IsBadWord (texts words.now) fault.which) }
 {
-    let Some(from) = file_at(words, 1) else {
+    match read_two_files(words) {
+        Ok((from, to)) => Ok(Command::Rewrite { from, to }),
+        Err(fault) => Err(fault),
+    }
+}
+
+/// Reads the words of `import CIFF INDEX [weights=RULE] [bits=BITS]`.
+fn read_import<'a>(words: &'a [String]) -> Result<Command<'a>, WordFault>
+    requires { slice_get (texts words.now) 0 ≡ Some (codes "import") }
+    ensures command { IfOk result (λ command. IsCommand (texts words.now) (command_data command)) }
+    ensures bad_word { IfErr result (λ fault. IsBadWord (texts words.now) fault.which) }
+{
+    let (ciff, index) = match read_files(words) {
+        Ok(files) => files,
+        Err(fault) => return Err(fault),
+    };
+    match read_import_options(&words[3..]) {
+        Ok((rule, bits)) => Ok(Command::Import {
+            ciff,
+            index,
+            rule,
+            bits,
+        }),
+        Err(place) => Err(WordFault {
+            which: 4 + place as u32,
+        }),
+    }
+}
+
+/// The rule and the bits that options give; else the place of the first word that is no option, or
+/// whose key has stood before.
+fn read_import_options(words: &[String]) -> Result<(Rule, Bits), usize>
+    ensures options { IfOk result (λ x. (options : List OptionData) × AreOptions (texts words.now) options
+        × HaveKeysOnce options × (x.0 ≡ rule_of options) × (x.1 ≡ bits_of options)) }
+    ensures small { IfErr result (λ place. (place ≤ 2) × (place < length words.now)) }
+    ensures before { IfErr result (λ place. (options : List OptionData)
+        × AreOptions (take place (texts words.now)) options × HaveKeysOnce options) }
+    ensures here { IfErr result (λ place. (options : List OptionData) (more : List (List ℕ))
+        → AreOptions (take (place + 1) (texts words.now) ++ more) options → ¬ HaveKeysOnce options) }
+{
+    let mut read = ImportOptions {
+        rule: None,
+        bits: None,
+    };
+    for (place, word) in words.iter().enumerate() {
+        match read.with(word.as_str()) {
+            Some(next) => read = next,
+            None => return Err(place),
+        }
+    }
+    Ok((
+        read.rule.unwrap_or(Rule::Tf),
+        read.bits.unwrap_or(Bits::Raw),
+    ))
+}
+
+/// Reads the words of `check INDEX`.
+fn read_check<'a>(words: &'a [String]) -> Result<Command<'a>, WordFault>
+    requires { slice_get (texts words.now) 0 ≡ Some (codes "check") }
+    ensures command { IfOk result (λ command. IsCommand (texts words.now) (command_data command)) }
+    ensures bad_word { IfErr result (λ fault. IsBadWord (texts words.now) fault.which) }
+{
+    let Some(index) = file_at(words, 1) else {
         return Err(WordFault { which: 2 });
     };
-    let Some(to) = file_at(words, 2) else {
-        return Err(WordFault { which: 3 });
-    };
-    if from == to {
+    if words.len() > 2 {
         return Err(WordFault { which: 3 });
     }
-    if words.len() > 3 {
-        return Err(WordFault { which: 4 });
+    Ok(Command::Check { index })
+}
+
+/// Reads the words of `export INDEX CIFF`.
+fn read_export<'a>(words: &'a [String]) -> Result<Command<'a>, WordFault>
+    requires { slice_get (texts words.now) 0 ≡ Some (codes "export") }
+    ensures command { IfOk result (λ command. IsCommand (texts words.now) (command_data command)) }
+    ensures bad_word { IfErr result (λ fault. IsBadWord (texts words.now) fault.which) }
+{
+    match read_two_files(words) {
+        Ok((index, ciff)) => Ok(Command::Export { index, ciff }),
+        Err(fault) => Err(fault),
     }
-    Ok(Command::Rewrite { from, to })
+}
+
+/// Reads the words of `migrate OLD NEW`.
+fn read_migrate<'a>(words: &'a [String]) -> Result<Command<'a>, WordFault>
+    requires { slice_get (texts words.now) 0 ≡ Some (codes "migrate") }
+    ensures command { IfOk result (λ command. IsCommand (texts words.now) (command_data command)) }
+    ensures bad_word { IfErr result (λ fault. IsBadWord (texts words.now) fault.which) }
+{
+    match read_two_files(words) {
+        Ok((from, to)) => Ok(Command::Migrate { from, to }),
+        Err(fault) => Err(fault),
+    }
 }
 
 /// Reads the words of `--help`.

@@ -17,7 +17,7 @@ fn bad_word(alloc: Global, line: &str) -> Result<u32, AllocError> {
 
 #[test]
 fn bad_words_are_counted(rt: HostRuntime) {
-    let table: [(&str, u32); 18] = [
+    let table: [(&str, u32); 34] = [
         ("once b 3 all a", 0),
         ("once b 100000 18446744073709551615 a b", 0),
         ("rewrite a b", 0),
@@ -32,6 +32,22 @@ fn bad_words_are_counted(rt: HostRuntime) {
         ("rewrite a", 3),
         ("rewrite a a", 3),
         ("rewrite a b c", 4),
+        ("import a b", 0),
+        ("import a b bits=16 weights=bm25", 0),
+        ("import a b weights=tf bits=raw", 0),
+        ("import a", 3),
+        ("import a a", 3),
+        ("import a b bits=0", 4),
+        ("import a b bits=17", 4),
+        ("import a b weights=bm26", 4),
+        ("import a b bits=8 bits=8", 5),
+        ("import a b bits=8 weights=tf c", 6),
+        ("check", 2),
+        ("check a", 0),
+        ("check a b", 3),
+        ("export a b", 0),
+        ("migrate a", 3),
+        ("migrate a b c", 4),
         ("--help", 0),
         ("--help rewrite", 2),
         ("--version", 0),

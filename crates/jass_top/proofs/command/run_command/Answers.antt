@@ -23,3 +23,27 @@ returns-in-Version g c =
     let before = outer g.C.Cabinet g.O.Sink c.args.files.now c.args.out.now c.args.steps.now in
     let after = outer g.C.Cabinet g.O.Sink c.args.files.now c.run_version.new.out c.args.steps.now in
     subst (λ (command : Command). Runs (meaning_of (command_data command)) before after c.run_version.result) (sym c.in-Version.is) (c.run_version.ensures before)
+
+pub returns-in-Import : goal.returns-in-Import
+returns-in-Import g c =
+    let before = outer g.C.Cabinet g.O.Sink c.args.files.now c.args.out.now c.args.steps.now in
+    let after = outer g.C.Cabinet g.O.Sink c.run_import.new.files c.run_import.new.out c.args.steps.now in
+    subst (λ (command : Command). Runs (meaning_of (command_data command)) before after c.run_import.result) (sym c.in-Import.is) (c.run_import.ensures c.args.steps.now)
+
+pub returns-in-Check : goal.returns-in-Check
+returns-in-Check g c =
+    let before = outer g.C.Cabinet g.O.Sink c.args.files.now c.args.out.now c.args.steps.now in
+    let after = outer g.C.Cabinet g.O.Sink c.run_check.new.files c.run_check.new.out c.args.steps.now in
+    subst (λ (command : Command). Runs (meaning_of (command_data command)) before after c.run_check.result) (sym c.in-Check.is) (c.run_check.ensures c.args.steps.now)
+
+pub returns-in-Export : goal.returns-in-Export
+returns-in-Export g c =
+    let before = outer g.C.Cabinet g.O.Sink c.args.files.now c.args.out.now c.args.steps.now in
+    let after = outer g.C.Cabinet g.O.Sink c.run_export.new.files c.args.out.now c.run_export.new.steps in
+    subst (λ (command : Command). Runs (meaning_of (command_data command)) before after c.run_export.result) (sym c.in-Export.is) (c.run_export.ensures before)
+
+pub returns-in-Migrate : goal.returns-in-Migrate
+returns-in-Migrate g c =
+    let before = outer g.C.Cabinet g.O.Sink c.args.files.now c.args.out.now c.args.steps.now in
+    let after = outer g.C.Cabinet g.O.Sink c.run_migrate.new.files c.run_migrate.new.out c.args.steps.now in
+    subst (λ (command : Command). Runs (meaning_of (command_data command)) before after c.run_migrate.result) (sym c.in-Migrate.is) (c.run_migrate.ensures c.args.steps.now)

@@ -9,7 +9,7 @@ use Rattle.jass_top.proofs.input.read_file.Goals as goal
 
 pub returns-in-Err-ReadFault-clause-unread : goal.returns-in-Err-ReadFault-clause-unread
 returns-in-Err-ReadFault-clause-unread g c =
-    (inl refl, unread_file (g.C.Cabinet.told c.args.files.now) c.args.name.now (g.C.Cabinet.read_faults c.args.files.now) (g.C.Cabinet.read_faults c.read_whole.new.files) (c.in-Err-ReadFault.ensures.fault (ap Err c.in-Err-ReadFault.field-0-is)))
+    (inl refl, unread_file (g.C.Cabinet.told c.args.files.now) c.args.name.now (g.C.Cabinet.read_faults c.args.files.now) (g.C.Cabinet.read_faults c.read_front.new.files) (c.in-Err-ReadFault.ensures.fault (ap Err c.in-Err-ReadFault.field-0-is)))
 
 pub returns-in-Ok-read_collection-clause-accepted : goal.returns-in-Ok-read_collection-clause-accepted
 returns-in-Ok-read_collection-clause-accepted g c =

@@ -7,9 +7,13 @@ use Rattle.jass_top.specs.Commands.{meaning_of}
 use Rattle.jass_top.specs.Endings.{Ends}
 use Rattle.jass_top.specs.Stops.{stop_text}
 use Rattle.jass_top.specs.Worlds.{world}
+use Rattle.jass_top.proofs.Allowing.{allowed}
 use Rattle.jass_top.proofs.Endings.{ends_done, ends_stopped}
 use Rattle.jass_top.proofs.Outputs.{noted}
 use Rattle.jass_top.proofs.program.run.Goals as goal
+
+pub run_command-requires : goal.run_command-requires
+run_command-requires g c = allowed (texts c.args.words.now) (command_data c.in-Ok.command) c.in-Ok.ensures.command
 
 pub returns-in-Ok-run_command-clause-ends : goal.returns-in-Ok-run_command-clause-ends
 returns-in-Ok-run_command-clause-ends g c = λ command said.

@@ -1,0 +1,62 @@
+-- What an index file is judged to be, from what opening it gave, and what is judged behind other inputs.
+use Rattle.std.proofs.Common.{◌≡◌, ◌≤◌, ◌<◌, ◌^◌, ℕ, List, length, take, Option, Some, None, Result, Ok, Err, Bool, true, false, nat_le, refl, sym, ap, subst, ◌∙◌, ◌⊎◌, inl, inr, arith}
+use Rattle.std.specs.Prelude.{IsSomeAnd}
+use Rattle.std.specs.FinMap.{get}
+use Rattle.std.proofs.lemmas.Bool.Decides.{nat_tests}
+use Rattle.std.proofs.lemmas.List.{take_all}
+use Rattle.jass_base.specs.Outside.{Files, OnContent, IsMissing, Rose, Sets}
+use Rattle.index_model.specs.Index.{IndexData}
+use Rattle.index_layout.specs.declared.refusal.OpenRefusal.{OpenRefusal}
+use Rattle.index_layout.specs.Reading.{read_index}
+use Rattle.index_layout.specs.View.{FileView, index_text}
+use Rattle.jass_top.specs.IndexJudging.{judged_file, judged_index, judged_old, judge_index, judge_old, fitting}
+use Rattle.index_version1.specs.Reading.{read_index1}
+use Rattle.jass_top.specs.Standing.{LeavesFront}
+use Rattle.jass_top.specs.Judging.{Accepted, Missing, Refuses, Shows}
+
+pub shown_file : (told : Option Files) (name : List ℕ) (result : Result FileView OpenRefusal) → OnContent told name (λ content. read_index content ≡ result) → Shows (judge_index name told) (judged_file name result)
+unfolding judge_index
+shown_file None name result there = inl refl
+shown_file (Some files) name result there = at (get files name) there
+  where
+    at : (o : Option (List ℕ)) → IsSomeAnd o (λ content. read_index content ≡ result) → Shows (judged_index name o) (judged_file name result)
+    at None there = absurd there
+    at (Some content) there = inr (ap (judged_file name) there)
+
+pub unread_index : (told : Option Files) (name : List ℕ) (before after : ℕ) → Rose before after ⊎ IsMissing told name → Rose before after ⊎ (judge_index name told ≡ Missing name)
+unfolding judge_index
+unread_index told name before after (inl rose) = inl rose
+unread_index None name before after (inr is) = absurd is
+unread_index (Some files) name before after (inr is) = inr (ap (judged_index name) is)
+
+pub shown_old : (told : Option Files) (name row : List ℕ) (result : Result IndexData OpenRefusal) → ((bytes : List ℕ) → read_index1 (take 4294967297 bytes) ≡ read_index1 bytes)
+    → OnContent told name (λ content. row ≡ take 4294967297 content) → read_index1 row ≡ result → Shows (judge_old name told) (judged_file name result)
+unfolding judge_old
+shown_old None name row result front there is = inl refl
+shown_old (Some files) name row result front there is = at (get files name) there
+  where
+    at : (o : Option (List ℕ)) → IsSomeAnd o (λ content. row ≡ take 4294967297 content) → Shows (judged_old name o) (judged_file name result)
+    at None there = absurd there
+    at (Some content) there = inr (ap (judged_file name) (sym (front content) ∙ ap read_index1 (sym there) ∙ is))
+
+pub unread_old : (told : Option Files) (name : List ℕ) (before after : ℕ) → Rose before after ⊎ IsMissing told name → Rose before after ⊎ (judge_old name told ≡ Missing name)
+unfolding judge_old
+unread_old told name before after (inl rose) = inl rose
+unread_old None name before after (inr is) = absurd is
+unread_old (Some files) name before after (inr is) = inr (ap (judged_old name) is)
+
+-- ---- an index that becomes a file
+
+pub fits : (name : List ℕ) (index : IndexData) → length (index_text index) ≤ 2 ^ 32 → fitting name index ≡ Accepted index
+unfolding fitting
+fits name index few = (let is : nat_le (length (index_text index)) (2 ^ 32) ≡ true = grind (arith, nat_tests, few) in rw is refl)
+
+pub too_large : (name : List ℕ) (index : IndexData) (n : ℕ) → length (index_text index) ≡ n → 2 ^ 32 < n → fitting name index ≡ Refuses name 49 n
+unfolding fitting
+too_large name index n size large =
+    let is : nat_le n (2 ^ 32) ≡ false = grind (arith, nat_tests, large) in
+    rw (size, is) refl
+
+-- a whole content is a front of itself
+pub whole_front : (old new : Option Files) (name text : List ℕ) → Sets old new name text → LeavesFront (Some name) old new text
+whole_front old new name text is = inr (length text, subst (λ (content : List ℕ). Sets old new name content) (sym (take_all (length text) text (omega arith))) is)

@@ -1,0 +1,36 @@
+use Rattle.std.proofs.Common.{[], refl, subst, inl, arith}
+use Rattle.std.specs.Io.KnownBytes.{Appends}
+use Rattle.jass_base.specs.declared.answer.Totals.{Totals}
+use Rattle.jass_base.specs.Writing.{AppendsPrefix}
+use Rattle.index_layout.specs.Totals.{totals_of}
+use Rattle.trec_run.specs.Totals.{totals_line}
+use Rattle.jass_top.proofs.check.run_check.Goals as goal
+
+pub returns-in-Ok : goal.returns-in-Ok
+returns-in-Ok g c = λ steps. record {
+  inputs = c.in_ok-file.file;
+  output = record { content = []; text = totals_line (totals_of c.in_ok-file.file.index); steps = 0 };
+  accepted = c.in_ok-file.ensures.accepted;
+  exact = refl;
+  left = record {
+    content = c.in_ok-file.ensures.stays;
+    text = subst (λ (t : Totals). Appends (g.O.Sink.written c.args.out.now) (g.O.Sink.written c.put_totals.new.out) (totals_line t)) c.totals.ensures c.in-Ok.ensures.bytes;
+    steps = omega arith;
+  };
+}
+
+pub returns : goal.returns
+returns g c = λ steps. (
+  inl (refl, refl, c.in-Err.ensures.cause.failed),
+  record {
+    inputs = c.in_ok-file.file;
+    output = record { content = []; text = totals_line (totals_of c.in_ok-file.file.index); steps = 0 };
+    accepted = c.in_ok-file.ensures.accepted;
+    exact = refl;
+    left = record {
+      content = c.in_ok-file.ensures.stays;
+      text = subst (λ (t : Totals). AppendsPrefix (g.O.Sink.written c.args.out.now) (g.O.Sink.written c.put_totals.new.out) (totals_line t)) c.totals.ensures c.in-Err.ensures.bytes;
+      steps = omega arith;
+    };
+  },
+)

@@ -1,0 +1,21 @@
+use Rattle.std.proofs.Common.{Err, refl, ap, sym, subst, inl}
+use Rattle.index_layout.specs.declared.refusal.OpenFault.{OpenFault}
+use Rattle.index_file.specs.Opening.{Opens}
+use Rattle.jass_top.specs.IndexJudging.{judge_index}
+use Rattle.jass_top.specs.Judging.{Refuses, Shows}
+use Rattle.jass_top.proofs.JudgedFiles.{shown_file, unread_index}
+use Rattle.jass_top.proofs.index_input.open_index.Goals as goal
+
+pub returns-in-Ok-clause-accepted : goal.returns-in-Ok-clause-accepted
+returns-in-Ok-clause-accepted g c = shown_file (g.C.Cabinet.told c.args.files.now) c.args.name.now _ c.in-Ok.ensures.exact
+
+pub returns-in-Err-ReadFault-clause-unread : goal.returns-in-Err-ReadFault-clause-unread
+returns-in-Err-ReadFault-clause-unread g c =
+    (inl refl, unread_index (g.C.Cabinet.told c.args.files.now) c.args.name.now (g.C.Cabinet.read_faults c.args.files.now) (g.C.Cabinet.read_faults c.open.new.files) (c.in-Err-ReadFault.ensures.fault (ap Err c.in-Err-ReadFault.field-0-is)))
+
+pub returns-in-Err-Refused-clause-unread : goal.returns-in-Err-Refused-clause-unread
+returns-in-Err-Refused-clause-unread g c = (
+  inl refl,
+  subst (λ n. Shows (judge_index c.args.name.now (g.C.Cabinet.told c.args.files.now)) (Refuses c.args.name.now n c.in-Err-Refused.refusal.at)) (sym c.number.ensures)
+      (shown_file (g.C.Cabinet.told c.args.files.now) c.args.name.now (Err c.in-Err-Refused.refusal) (subst (λ (f : OpenFault). Opens (g.C.Cabinet.told c.args.files.now) c.args.name.now (Err f)) c.in-Err-Refused.field-0-is c.in-Err-Refused.ensures.exact)),
+)

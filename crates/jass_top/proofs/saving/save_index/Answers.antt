@@ -1,0 +1,72 @@
+use Rattle.std.proofs.Common.{Some, Err, refl, ap, subst, inl, inr, arith}
+use Rattle.std.specs.Io.KnownBytes.{Appends}
+use Rattle.jass_base.specs.declared.answer.Totals.{Totals}
+use Rattle.jass_base.specs.Writing.{Appends-none, AppendsPrefix}
+use Rattle.index_model.specs.Views.{index_data}
+use Rattle.index_layout.specs.View.{index_text}
+use Rattle.index_write.specs.declared.fault.SaveFault.{SaveFault}
+use Rattle.index_write.specs.Saving.{Unwritten, Untouched}
+use Rattle.trec_run.specs.Totals.{totals_line}
+use Rattle.jass_top.specs.MakingMeaning.{made_output}
+use Rattle.jass_top.proofs.JudgedFiles.{fits, too_large, whole_front}
+use Rattle.jass_top.proofs.saving.save_index.Goals as goal
+
+pub returns-in-Err-TooLarge : goal.returns-in-Err-TooLarge
+returns-in-Err-TooLarge g c = λ steps.
+    let made = index_data c.args.index.now in
+    let fault = subst (λ (f : SaveFault). Unwritten (index_text made) f) c.in-Err-TooLarge.field-0-is c.in-Err-TooLarge.ensures.fault in
+    let kept = subst (λ (f : SaveFault). Untouched c.args.files.now c.write_index.new.files f) c.in-Err-TooLarge.field-0-is c.in-Err-TooLarge.ensures.untouched in (
+      inl refl,
+      inr (too_large c.args.input.now made c.in-Err-TooLarge.length fault.0 fault.1),
+      record { told = ap g.C.Cabinet.told kept; written = refl; steps = refl },
+    )
+
+pub returns-in-Err-WriteFault : goal.returns-in-Err-WriteFault
+returns-in-Err-WriteFault g c = λ steps.
+    let made = index_data c.args.index.now in
+    let few = subst (λ (f : SaveFault). Unwritten (index_text made) f) c.in-Err-WriteFault.field-0-is c.in-Err-WriteFault.ensures.fault in (
+      inr (refl, c.in-Err-WriteFault.ensures.cause (ap Err c.in-Err-WriteFault.field-0-is)),
+      record {
+        inputs = made;
+        output = made_output made;
+        accepted = inr (fits c.args.input.now made few);
+        exact = refl;
+        left = record {
+          content = c.in-Err-WriteFault.ensures.front;
+          text = (0, Appends-none (g.O.Sink.written c.args.out.now));
+          steps = omega arith;
+        };
+      },
+    )
+
+pub returns-in-Ok-put_totals : goal.returns-in-Ok-put_totals
+returns-in-Ok-put_totals g c = λ steps.
+    let made = index_data c.args.index.now in
+    record {
+      inputs = made;
+      output = made_output made;
+      accepted = inr (fits c.args.input.now made c.in-Ok.ensures.fits);
+      exact = refl;
+      left = record {
+        content = c.in-Ok.ensures.content;
+        text = subst (λ (t : Totals). Appends (g.O.Sink.written c.args.out.now) (g.O.Sink.written c.put_totals.new.out) (totals_line t)) c.totals.ensures c.in-Ok-put_totals.ensures.bytes;
+        steps = omega arith;
+      };
+    }
+
+pub returns-in-Err : goal.returns-in-Err
+returns-in-Err g c = λ steps.
+    let made = index_data c.args.index.now in (
+      inl (refl, refl, c.in-Err.ensures.cause.failed),
+      record {
+        inputs = made;
+        output = made_output made;
+        accepted = inr (fits c.args.input.now made c.in-Ok.ensures.fits);
+        exact = refl;
+        left = record {
+          content = whole_front (g.C.Cabinet.told c.args.files.now) (g.C.Cabinet.told c.write_index.new.files) c.args.file.now (index_text made) c.in-Ok.ensures.content;
+          text = subst (λ (t : Totals). AppendsPrefix (g.O.Sink.written c.args.out.now) (g.O.Sink.written c.put_totals.new.out) (totals_line t)) c.totals.ensures c.in-Err.ensures.bytes;
+          steps = omega arith;
+        };
+      },
+    )

@@ -1,0 +1,35 @@
+ghost use Rattle.std.specs.Prelude.{ℕ};
+ghost use Rattle.jass_top.specs.Causes.{Runs};
+ghost use Rattle.jass_top.specs.ExportMeaning.{export_meaning};
+ghost use Rattle.jass_top.specs.Worlds.{Outer, with_files};
+
+use crate::collection_file::write_file;
+use crate::index_input::open_index;
+use crate::stop::Stop;
+use index_export::export_collection;
+use jass_base::{Cabinet, Steps};
+use std::alloc::Global;
+use std::sync::ledger::Ledger;
+
+/// Writes the collection of an index as a CIFF file, with the impacts as term frequencies.
+pub fn run_export<'a, C: Cabinet, L: Ledger>(
+    alloc: Global,
+    index: &'a str,
+    ciff: &'a str,
+    files: &mut C,
+    steps: &mut Steps<L>,
+) -> Result<(), Stop<'a>>
+    ensures { (beside : Outer) → Runs (export_meaning index.now ciff.now)
+        (with_files C.Cabinet files.old (record beside { steps = steps.old }))
+        (with_files C.Cabinet files.new (record beside { steps = steps.new })) result }
+{
+    let file = open_index(alloc, files, index)?;
+    let collection = match export_collection(alloc, &file, steps) {
+        Ok(collection) => collection,
+        Err(_) => return Err(Stop::NoMemory),
+    };
+    match write_file(&collection, files, ciff) {
+        Ok(()) => Ok(()),
+        Err(_) => Err(Stop::WriteFault { name: ciff }),
+    }
+}

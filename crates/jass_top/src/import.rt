@@ -1,0 +1,76 @@
+ghost use Rattle.std.specs.Prelude.{ℕ, ◌≡◌, ◌≤◌, [], ◌∷◌, IfOk, IfErr};
+ghost use Rattle.index_model.specs.Views.{index_data};
+ghost use Rattle.jass_base.specs.Ciff.{CollectionData};
+ghost use Rattle.weights.specs.Quantizing.{IsImpactWidth};
+ghost use Rattle.jass_top.specs.Causes.{Runs, Unread};
+ghost use Rattle.jass_top.specs.ImportMeaning.{collection_index, import_meaning};
+ghost use Rattle.jass_top.specs.Judging.{Accepted, Shows, judge_ciff};
+ghost use Rattle.jass_top.specs.Worlds.{outer};
+
+use crate::input::read_file;
+use crate::saving::save_index;
+use crate::stop::Stop;
+use impact_segments::build;
+use index_model::laws::{an_index_is_that_of_its_flat_list, indexes_in_memory_are_indexes};
+use jass_base::{Cabinet, ImpactIndex, Sink};
+use std::alloc::Global;
+use weights::{Bits, Rule};
+
+/// Makes an index file of a CIFF file, and prints its totals.
+pub fn run_import<'a, C: Cabinet, O: Sink>(
+    alloc: Global,
+    ciff: &'a str,
+    index: &'a str,
+    rule: Rule,
+    bits: Bits,
+    files: &mut C,
+    out: &mut O,
+) -> Result<(), Stop<'a>>
+    requires { IsImpactWidth bits }
+    ensures { (steps : ℕ) → Runs (import_meaning ciff.now index.now rule bits)
+        (outer C.Cabinet O.Sink files.old out.old steps)
+        (outer C.Cabinet O.Sink files.new out.new steps) result }
+{
+    let made = make_index(alloc, ciff, rule, bits, files)?;
+    save_index(alloc, &made, ciff, index, files, out)
+}
+
+/// Makes the index of a CIFF file in memory.
+fn make_index<'a, C: Cabinet>(
+    alloc: Global,
+    ciff: &'a str,
+    rule: Rule,
+    bits: Bits,
+    files: &mut C,
+) -> Result<ImpactIndex, Stop<'a>>
+    requires { IsImpactWidth bits }
+    ensures made { IfOk result (λ index. (c : CollectionData)
+        × Shows (judge_ciff ciff.now (C.told files.old)) (Accepted c)
+        × (index_data index ≡ collection_index rule bits c)) }
+    ensures unread { IfErr result (λ stop. Unread (ciff.now ∷ []) (judge_ciff ciff.now (C.told files.old))
+        (C.read_faults files.old) (C.read_faults files.new) stop) }
+    ensures stays { C.told files.new ≡ C.told files.old }
+    ensures later { C.read_faults files.old ≤ C.read_faults files.new }
+    ensures others { C.write_faults files.old ≤ C.write_faults files.new }
+{
+    indexes_in_memory_are_indexes();
+    an_index_is_that_of_its_flat_list();
+    let collection = match read_file(alloc, files, ciff) {
+        Ok(collection) => collection,
+        Err(stop) => return Err(stop),
+    };
+    match build(alloc, &collection, rule, bits) {
+        Ok(index) => {
+            impacts_are_small(&index);
+            Ok(index)
+        }
+        Err(_) => Err(Stop::NoMemory),
+    }
+}
+
+/// Impacts have 16 bits.
+fn impacts_are_small(index: &ImpactIndex)
+    ensures { index.now.greatest ≤ 65535 }
+{
+    let _greatest = index.greatest;
+}

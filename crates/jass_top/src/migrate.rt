@@ -1,0 +1,67 @@
+ghost use Rattle.std.specs.Prelude.{ℕ, ◌≡◌, ◌≤◌, [], ◌∷◌, IfOk, IfErr};
+ghost use Rattle.index_model.specs.Views.{index_data};
+ghost use Rattle.jass_top.specs.Causes.{Runs, Unread};
+ghost use Rattle.jass_top.specs.IndexJudging.{judge_old};
+ghost use Rattle.jass_top.specs.Judging.{Accepted, Shows};
+ghost use Rattle.jass_top.specs.MigrateMeaning.{migrate_meaning};
+ghost use Rattle.jass_top.specs.Worlds.{outer};
+
+use crate::saving::save_index;
+use crate::stop::Stop;
+use index_layout::OpenFault;
+use index_version1::laws::the_front_is_enough;
+use index_version1::read_version1;
+use jass_base::{Cabinet, ImpactIndex, Sink};
+use std::alloc::Global;
+use whole_files::{ReadStop, read_front};
+
+/// How many bytes of a file are read at the most: one more than an index file may have, since a
+/// longer file is refused whatever else stands in it.
+const MOST_BYTES: usize = 4_294_967_297;
+
+/// Writes the index of a file of version 1 as an index file, and prints its totals.
+pub fn run_migrate<'a, C: Cabinet, O: Sink>(
+    alloc: Global,
+    from: &'a str,
+    to: &'a str,
+    files: &mut C,
+    out: &mut O,
+) -> Result<(), Stop<'a>>
+    ensures { (steps : ℕ) → Runs (migrate_meaning from.now to.now)
+        (outer C.Cabinet O.Sink files.old out.old steps)
+        (outer C.Cabinet O.Sink files.new out.new steps) result }
+{
+    let index = read_old(alloc, files, from)?;
+    save_index(alloc, &index, from, to, files, out)
+}
+
+/// Reads an index file of version 1.
+fn read_old<'a, C: Cabinet>(
+    alloc: Global,
+    files: &mut C,
+    name: &'a str,
+) -> Result<ImpactIndex, Stop<'a>>
+    ensures accepted { IfOk result (λ index.
+        Shows (judge_old name.now (C.told files.old)) (Accepted (index_data index))) }
+    ensures unread { IfErr result (λ stop. Unread (name.now ∷ []) (judge_old name.now (C.told files.old))
+        (C.read_faults files.old) (C.read_faults files.new) stop) }
+    ensures stays { C.told files.new ≡ C.told files.old }
+    ensures later { C.read_faults files.old ≤ C.read_faults files.new }
+    ensures others { C.write_faults files.old ≤ C.write_faults files.new }
+{
+    the_front_is_enough();
+    let bytes = match read_front(alloc, files, name, MOST_BYTES) {
+        Ok(bytes) => bytes,
+        Err(ReadStop::ReadFault) => return Err(Stop::ReadFault { name }),
+        Err(ReadStop::NoMemory) => return Err(Stop::NoMemory),
+    };
+    match read_version1(alloc, bytes.as_slice()) {
+        Ok(index) => Ok(index),
+        Err(OpenFault::Refused(refusal)) => Err(Stop::Refused {
+            name,
+            number: refusal.why.number(),
+            at: refusal.at,
+        }),
+        Err(_) => Err(Stop::NoMemory),
+    }
+}

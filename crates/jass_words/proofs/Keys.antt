@@ -1,0 +1,211 @@
+-- Words that are options.
+use Rattle.std.proofs.Common.{◌≡◌, ◌≢◌, ℕ, suc, zero, ◌+◌, ◌<◌, ◌≤◌, List, [], ◌∷◌, ◌++◌, length, take, drop, Some, None, refl, sym, ap, subst, ◌∙◌, arith}
+use Rattle.std.specs.Prelude.{codes, slice_index, Option}
+use Rattle.std.specs.List.{AllByRecursion}
+use Rattle.std.specs.Option.{unwrap_or}
+use Rattle.jass_base.specs.Decimal.{decimal_of}
+use Rattle.weights.specs.declared.weighting.Rule.{Rule}
+use Rattle.weights.specs.declared.weighting.Rule.TheVariants.{Tf, Bm25}
+use Rattle.weights.specs.declared.quantizing.Bits.{Bits}
+use Rattle.weights.specs.declared.quantizing.Bits.TheVariants.{Raw, Of}
+use Rattle.jass_words.specs.Options.{OptionData, Weights, Width, key_of, IsRule, IsBits, IsValue, IsOption, AreOptions, HaveKeysOnce, rule_of, bits_of, seen_rule, seen_bits, Seen}
+
+one_rule : (value : List ℕ) (a b : Rule) → IsRule value a → IsRule value b → a ≡ b
+one_rule value Tf Tf is theirs = refl
+one_rule value Bm25 Bm25 is theirs = refl
+one_rule value Tf Bm25 is theirs = (let both : codes "tf" ≡ codes "bm25" = sym is ∙ theirs in cc)
+one_rule value Bm25 Tf is theirs = (let both : codes "tf" ≡ codes "bm25" = sym theirs ∙ is in cc)
+
+one_width : (value : List ℕ) (a b : Bits) → IsBits value a → IsBits value b → a ≡ b
+one_width value Raw Raw is theirs = refl
+one_width value (Of m) (Of n) is theirs = (let same : m ≡ n = cc in ap Of same)
+one_width value Raw (Of n) is theirs = (let none : decimal_of (codes "raw") ≡ Some n = subst (λ w. decimal_of w ≡ Some n) is theirs.0 in cc)
+one_width value (Of m) Raw is theirs = (let none : decimal_of (codes "raw") ≡ Some m = subst (λ w. decimal_of w ≡ Some m) theirs is.0 in cc)
+
+same_rest : (key v w : List ℕ) → key ++ v ≡ key ++ w → v ≡ w
+same_rest [] v w is = is
+same_rest (k ∷ key) v w is = same_rest key v w (ap (drop 1) is)
+
+other_keys : (v w : List ℕ) → codes "weights=" ++ v ≢ codes "bits=" ++ w
+other_keys v w is = (let first : 119 ≡ 98 = ap (λ (xs : List ℕ). slice_index xs 0) is in omega (arith, first))
+
+pub option_one : (word : List ℕ) (a b : OptionData) → IsOption word a → IsOption word b → a ≡ b
+option_one word (Weights r) (Weights s) is theirs =
+    let same : is.0 ≡ theirs.0 = same_rest (codes "weights=") is.0 theirs.0 (sym is.1 ∙ theirs.1) in
+    ap Weights (one_rule theirs.0 r s (subst (λ v. IsRule v r) same is.2) theirs.2)
+option_one word (Width r) (Width s) is theirs =
+    let same : is.0 ≡ theirs.0 = same_rest (codes "bits=") is.0 theirs.0 (sym is.1 ∙ theirs.1) in
+    ap Width (one_width theirs.0 r s (subst (λ v. IsBits v r) same is.2) theirs.2)
+option_one word (Weights r) (Width s) is theirs = absurd (other_keys is.0 theirs.0 (sym is.1 ∙ theirs.1))
+option_one word (Width r) (Weights s) is theirs = absurd (other_keys theirs.0 is.0 (sym theirs.1 ∙ is.1))
+
+pub options_one : (words : List (List ℕ)) (a b : List OptionData) → AreOptions words a → AreOptions words b → a ≡ b
+options_one [] [] [] are theirs = refl
+options_one (w ∷ words) (o ∷ a) (p ∷ b) are theirs =
+    let first : o ≡ p = option_one w o p are.0 theirs.0 in
+    let rest : a ≡ b = options_one words a b are.1 theirs.1 in
+    (λ i. first i ∷ rest i)
+options_one [] [] (p ∷ b) are theirs = absurd theirs
+options_one [] (o ∷ a) b are theirs = absurd are
+options_one (w ∷ words) [] b are theirs = absurd are
+options_one (w ∷ words) (o ∷ a) [] are theirs = absurd theirs
+
+-- ---- options read so far
+
+pub rule_or : (options : List OptionData) → unwrap_or (seen_rule options) Tf ≡ rule_of options
+rule_or [] = refl
+rule_or (Weights rule ∷ options) = refl
+rule_or (Width bits ∷ options) = rule_or options
+
+pub bits_or : (options : List OptionData) → unwrap_or (seen_bits options) Raw ≡ bits_of options
+bits_or [] = refl
+bits_or (Weights rule ∷ options) = bits_or options
+bits_or (Width bits ∷ options) = refl
+
+few_keys : (options : List OptionData) → HaveKeysOnce options → length options ≤ 2
+few_keys [] once = omega arith
+few_keys (a ∷ []) once = omega arith
+few_keys (a ∷ b ∷ []) once = omega arith
+few_keys (Weights a ∷ Weights b ∷ c ∷ options) once = absurd (once.0.0 refl)
+few_keys (Width a ∷ Width b ∷ c ∷ options) once = absurd (once.0.0 refl)
+few_keys (Weights a ∷ Width b ∷ Weights c ∷ options) once = absurd (once.0.1.0 refl)
+few_keys (Weights a ∷ Width b ∷ Width c ∷ options) once = absurd (once.1.0.0 refl)
+few_keys (Width a ∷ Weights b ∷ Weights c ∷ options) once = absurd (once.1.0.0 refl)
+few_keys (Width a ∷ Weights b ∷ Width c ∷ options) once = absurd (once.0.1.0 refl)
+
+as_many : (words : List (List ℕ)) (options : List OptionData) → AreOptions words options → length words ≡ length options
+as_many [] [] are = refl
+as_many (w ∷ words) (o ∷ options) are = omega (arith, as_many words options are.1)
+as_many [] (o ∷ options) are = absurd are
+as_many (w ∷ words) [] are = absurd are
+
+pub few_seen : (words : List (List ℕ)) (rule : Option Rule) (bits : Option Bits) → Seen words rule bits → length words ≤ 2
+few_seen words rule bits seen = omega (arith, as_many words seen.options seen.spelled, few_keys seen.options seen.once)
+
+spelled_more : (words : List (List ℕ)) (options : List OptionData) (word : List ℕ) (option : OptionData) → AreOptions words options → IsOption word option → AreOptions (words ++ word ∷ []) (options ++ option ∷ [])
+spelled_more [] [] word option are is = (is, tt)
+spelled_more (w ∷ words) (o ∷ options) word option are is = (are.0, spelled_more words options word option are.1 is)
+spelled_more [] (o ∷ options) word option are is = absurd are
+spelled_more (w ∷ words) [] word option are is = absurd are
+
+apart_more : (key : List ℕ) (options : List OptionData) (option : OptionData) → AllByRecursion (λ later. key_of later ≢ key) options → key_of option ≢ key → AllByRecursion (λ later. key_of later ≢ key) (options ++ option ∷ [])
+apart_more key [] option are is = (is, tt)
+apart_more key (o ∷ options) option are is = (are.0, apart_more key options option are.1 is)
+
+once_more : (options : List OptionData) (option : OptionData) → HaveKeysOnce options → AllByRecursion (λ earlier. key_of option ≢ key_of earlier) options → HaveKeysOnce (options ++ option ∷ [])
+once_more [] option once apart = (tt, tt)
+once_more (o ∷ options) option once apart = (apart_more (key_of o) options option once.0 apart.0, once_more options option once.1 apart.1)
+
+new_rule : (rule : Rule) (options : List OptionData) → seen_rule options ≡ None → AllByRecursion (λ earlier. key_of (Weights rule) ≢ key_of earlier) options
+new_rule rule [] none = tt
+new_rule rule (Weights other ∷ options) none = cc
+new_rule rule (Width bits ∷ options) none = ((λ same. other_keys [] [] (same)), new_rule rule options none)
+
+new_width : (bits : Bits) (options : List OptionData) → seen_bits options ≡ None → AllByRecursion (λ earlier. key_of (Width bits) ≢ key_of earlier) options
+new_width bits [] none = tt
+new_width bits (Width other ∷ options) none = cc
+new_width bits (Weights rule ∷ options) none = ((λ same. other_keys [] [] (sym same)), new_width bits options none)
+
+rule_then : (options : List OptionData) (rule : Rule) → seen_rule options ≡ None → seen_rule (options ++ Weights rule ∷ []) ≡ Some rule
+rule_then [] rule none = refl
+rule_then (Weights other ∷ options) rule none = cc
+rule_then (Width bits ∷ options) rule none = rule_then options rule none
+
+rule_stays : (options : List OptionData) (bits : Bits) → seen_rule (options ++ Width bits ∷ []) ≡ seen_rule options
+rule_stays [] bits = refl
+rule_stays (Weights other ∷ options) bits = refl
+rule_stays (Width other ∷ options) bits = rule_stays options bits
+
+width_then : (options : List OptionData) (bits : Bits) → seen_bits options ≡ None → seen_bits (options ++ Width bits ∷ []) ≡ Some bits
+width_then [] bits none = refl
+width_then (Width other ∷ options) bits none = cc
+width_then (Weights rule ∷ options) bits none = width_then options bits none
+
+width_stays : (options : List OptionData) (rule : Rule) → seen_bits (options ++ Weights rule ∷ []) ≡ seen_bits options
+width_stays [] rule = refl
+width_stays (Width other ∷ options) rule = refl
+width_stays (Weights other ∷ options) rule = width_stays options rule
+
+-- one option more
+pub rule_seen : (words : List (List ℕ)) (word : List ℕ) (rule : Option Rule) (bits : Option Bits) (value : Rule) → Seen words rule bits → IsOption word (Weights value) → rule ≡ None → Seen (words ++ word ∷ []) (Some value) bits
+rule_seen words word rule bits value seen is none =
+    let unseen : seen_rule seen.options ≡ None = sym seen.rules ∙ none in
+    record {
+      options = seen.options ++ Weights value ∷ [];
+      spelled = spelled_more words seen.options word (Weights value) seen.spelled is;
+      once = once_more seen.options (Weights value) seen.once (new_rule value seen.options unseen);
+      rules = sym (rule_then seen.options value unseen);
+      widths = seen.widths ∙ sym (width_stays seen.options value);
+    }
+
+pub width_seen : (words : List (List ℕ)) (word : List ℕ) (rule : Option Rule) (bits : Option Bits) (value : Bits) → Seen words rule bits → IsOption word (Width value) → bits ≡ None → Seen (words ++ word ∷ []) rule (Some value)
+width_seen words word rule bits value seen is none =
+    let unseen : seen_bits seen.options ≡ None = sym seen.widths ∙ none in
+    record {
+      options = seen.options ++ Width value ∷ [];
+      spelled = spelled_more words seen.options word (Width value) seen.spelled is;
+      once = once_more seen.options (Width value) seen.once (new_width value seen.options unseen);
+      rules = seen.rules ∙ sym (rule_stays seen.options value);
+      widths = sym (width_then seen.options value unseen);
+    }
+
+-- ---- words that are no options behind those that were read
+
+-- options that spell words, a word and words
+pub record Parted (words : List (List ℕ)) (word : List ℕ) (options : List OptionData) : Type 0 where
+  pub front : List OptionData
+  pub here : OptionData
+  pub back : List OptionData
+  pub parts : options ≡ front ++ here ∷ back
+  pub before : AreOptions words front
+  pub is : IsOption word here
+
+parted : (words : List (List ℕ)) (word : List ℕ) (rest : List (List ℕ)) (options : List OptionData) → AreOptions (words ++ word ∷ rest) options → Parted words word options
+parted [] word rest [] are = absurd are
+parted [] word rest (o ∷ options) are = record { front = []; here = o; back = options; parts = refl; before = tt; is = are.0 }
+parted (w ∷ words) word rest [] are = absurd are
+parted (w ∷ words) word rest (o ∷ options) are =
+    let more = parted words word rest options are.1 in
+    record { front = o ∷ more.front; here = more.here; back = more.back; parts = ap (λ os. o ∷ os) more.parts; before = (are.0, more.before); is = more.is }
+
+among : (rule : Rule) (options back : List OptionData) (other : Rule) → ¬ AllByRecursion (λ later. key_of later ≢ key_of (Weights other)) (options ++ Weights rule ∷ back)
+among rule [] back other all = all.0 refl
+among rule (o ∷ options) back other all = among rule options back other all.1
+
+twice_rule : (rule value : Rule) (options back : List OptionData) → seen_rule options ≡ Some value → ¬ HaveKeysOnce (options ++ Weights rule ∷ back)
+twice_rule rule value [] back seen once = cc
+twice_rule rule value (Weights other ∷ options) back seen once = among rule options back other once.0
+twice_rule rule value (Width bits ∷ options) back seen once = twice_rule rule value options back seen once.1
+
+among_widths : (bits : Bits) (options back : List OptionData) (other : Bits) → ¬ AllByRecursion (λ later. key_of later ≢ key_of (Width other)) (options ++ Width bits ∷ back)
+among_widths bits [] back other all = all.0 refl
+among_widths bits (o ∷ options) back other all = among_widths bits options back other all.1
+
+twice_width : (bits value : Bits) (options back : List OptionData) → seen_bits options ≡ Some value → ¬ HaveKeysOnce (options ++ Width bits ∷ back)
+twice_width bits value [] back seen once = cc
+twice_width bits value (Width other ∷ options) back seen once = among_widths bits options back other once.0
+twice_width bits value (Weights rule ∷ options) back seen once = twice_width bits value options back seen once.1
+
+-- the word is no option
+pub no_option : (words : List (List ℕ)) (word : List ℕ) (rest : List (List ℕ)) (options : List OptionData) → ((option : OptionData) → ¬ IsOption word option) → AreOptions (words ++ word ∷ rest) options → ¬ HaveKeysOnce options
+no_option words word rest options none are once = (let p = parted words word rest options are in none p.here p.is)
+
+again : (words : List (List ℕ)) (word : List ℕ) (rest : List (List ℕ)) (options seen : List OptionData) (here : OptionData) → AreOptions words seen → IsOption word here → AreOptions (words ++ word ∷ rest) options → (back : List OptionData) × (options ≡ seen ++ here ∷ back)
+again words word rest options seen here before is are =
+    let p = parted words word rest options are in
+    let front : p.front ≡ seen = options_one words p.front seen p.before before in
+    let one : p.here ≡ here = option_one word p.here here p.is is in
+    (p.back, p.parts ∙ ap (λ os. os ++ p.here ∷ p.back) front ∙ ap (λ o. seen ++ o ∷ p.back) one)
+
+-- a key stands twice
+pub rule_again : (words : List (List ℕ)) (word : List ℕ) (rest : List (List ℕ)) (options : List OptionData) (rule : Option Rule) (bits : Option Bits) (value known : Rule) → Seen words rule bits → IsOption word (Weights value) → rule ≡ Some known
+    → AreOptions (words ++ word ∷ rest) options → ¬ HaveKeysOnce options
+rule_again words word rest options rule bits value known seen is some are once =
+    let (back, parts) = again words word rest options seen.options (Weights value) seen.spelled is are in
+    twice_rule value known seen.options back (sym seen.rules ∙ some) (subst HaveKeysOnce parts once)
+
+pub width_again : (words : List (List ℕ)) (word : List ℕ) (rest : List (List ℕ)) (options : List OptionData) (rule : Option Rule) (bits : Option Bits) (value known : Bits) → Seen words rule bits → IsOption word (Width value) → bits ≡ Some known
+    → AreOptions (words ++ word ∷ rest) options → ¬ HaveKeysOnce options
+width_again words word rest options rule bits value known seen is some are once =
+    let (back, parts) = again words word rest options seen.options (Width value) seen.spelled is are in
+    twice_width value known seen.options back (sym seen.widths ∙ some) (subst HaveKeysOnce parts once)
