@@ -1,6 +1,6 @@
 -- An export, made an index again.
 use Rattle.std.proofs.Common.{◌≡◌, ℕ, ◌≤◌, List, [], ◌∷◌, ◌++◌, length, map, min, refl, sym, ap, ap₂, ◌∙◌, subst, arith}
-use Rattle.std.specs.Prelude.{IsPermutation, IsSorted}
+use Rattle.std.specs.Prelude.{IsPermutation}
 use Rattle.std.specs.List.{AllByRecursion, flat_map}
 use Rattle.std.specs.Ordering.{nat_cmp}
 use Rattle.std.specs.Cmp.Lexicographic.{slice_cmp}
@@ -10,7 +10,7 @@ use Rattle.std.proofs.lemmas.List.{map-append}
 use Rattle.std.proofs.lemmas.List.Elements.{recursion_from_All}
 use Rattle.std.proofs.lemmas.List.Sorted.{IsPermutation-refl, IsPermutation-sym, IsPermutation-map, IsPermutation-append}
 use Rattle.std.proofs.lemmas.Simd.{map-map}
-use Rattle.jass_base.specs.Ciff.{ListData, DocData, CollectionData}
+use Rattle.jass_base.specs.Ciff.{ListData, DocData}
 use Rattle.jass_base.specs.declared.posting.Posting.{Posting}
 use Rattle.weights.specs.declared.quantizing.Bits.TheVariants.{Raw}
 use Rattle.weights.specs.declared.weighting.Rule.TheVariants.{Tf}
@@ -19,7 +19,7 @@ use Rattle.ranking_model.specs.Flat.{entry_cmp, IsFlat}
 use Rattle.ranking_model.specs.Order.{sorted}
 use Rattle.ranking_model.proofs.Orders.{entry_total, entry_same}
 use Rattle.ranking_model.proofs.Sorting.{all_sorted, sort_is_sorted, sorted_is_permutation}
-use Rattle.index_model.specs.Flat.{segment_entries, term_entries, flat_of_terms, flat_of}
+use Rattle.index_model.specs.Flat.{term_entries, flat_of_terms, flat_of}
 use Rattle.index_model.specs.Index.{SegmentData, TermData, IndexData, IsTerm, IsIndex}
 use Rattle.impact_segments.specs.Collections.{index_of}
 use Rattle.index_export.specs.Exports.{doc_cmp, segment_postings, term_list, exported_list, export_of}

@@ -1,22 +1,22 @@
 -- The postings of a term, by rising document.
-use Rattle.std.proofs.Common.{◌≡◌, ◌≢◌, ℕ, suc, ◌+◌, ◌*◌, ◌<◌, ◌≤◌, ◌^◌, List, [], ◌∷◌, ◌++◌, length, map, false, refl, sym, ap, ap₂, ◌∙◌, subst, arith}
+use Rattle.std.proofs.Common.{◌≡◌, ◌≢◌, ℕ, ◌+◌, ◌*◌, ◌<◌, ◌≤◌, List, [], ◌∷◌, length, false, refl, sym, ap₂, ◌∙◌, subst, arith}
 use Rattle.std.specs.Prelude.{All, Contains}
 use Rattle.std.specs.List.{AllByRecursion, flat_map, sum_by}
 use Rattle.std.specs.List.Sorted.{IsStrictlyIncreasing}
 use Rattle.std.specs.Cmp.{IsTotalOrder}
-use Rattle.std.specs.Ordering.{is_gt, nat_cmp}
+use Rattle.std.specs.Ordering.{is_gt}
 use Rattle.std.proofs.lemmas.Bool.Decides.{nat_tests}
 use Rattle.std.proofs.lemmas.Cmp.{on_total, nat_cmp_total}
 use Rattle.std.proofs.lemmas.List.{length-map, length-append}
 use Rattle.std.proofs.lemmas.List.Elements.{recursion_from_All, All-from_recursion, All-contains_itself}
-use Rattle.std.proofs.lemmas.List.Sums.{sum_by-cons, sum_by-append}
+use Rattle.std.proofs.lemmas.List.Sums.{sum_by-cons}
 use Rattle.jass_base.specs.declared.posting.Posting.{Posting}
 use Rattle.jass_base.specs.Postings.{docs_of, HasTfInRange}
 use Rattle.ranking_model.specs.Order.{sorted}
 use Rattle.ranking_model.proofs.Sorting.{Ascends, sorted_ascends, all_sorted, sum_by-sorted}
-use Rattle.index_model.specs.Index.{SegmentData, TermData, IsSegment, IsTerm, SharesNoDocument}
-use Rattle.index_model.proofs.FlatOrder.{Kept, term_kept}
-use Rattle.index_model.proofs.Lists.{Pairs, pairs_by_places, all_weaker, all_append, all_map, all_flat, pairs_append, pairs_map, pairs_weaker, pairs_both, pairs_sorted, rising_from_pairs}
+use Rattle.index_model.specs.Index.{SegmentData, TermData, IsTerm, SharesNoDocument}
+use Rattle.index_model.proofs.FlatOrder.{term_kept}
+use Rattle.index_model.proofs.Lists.{Pairs, all_weaker, all_append, all_map, all_flat, pairs_append, pairs_map, pairs_weaker, pairs_both, pairs_sorted, rising_from_pairs}
 use Rattle.index_layout.specs.View.{term_postings}
 use Rattle.index_export.specs.Exports.{doc_cmp, segment_postings, term_list, impact_sum}
 

@@ -1,9 +1,9 @@
 -- The collection that an index is exported as.
-use Rattle.std.specs.Prelude.{ℕ, List, [], length, map, sum, replicate}
+use Rattle.std.specs.Prelude.{ℕ, List, [], length, map, replicate}
 use Rattle.std.specs.List.{flat_map, sum_by}
 use Rattle.std.specs.declared.cmp.Ordering.{Ordering}
 use Rattle.std.specs.Ordering.{nat_cmp}
-use Rattle.jass_base.specs.Ciff.{HeaderData, ListData, DocData, CollectionData}
+use Rattle.jass_base.specs.Ciff.{ListData, CollectionData}
 use Rattle.jass_base.specs.declared.posting.Posting.{Posting}
 use Rattle.ranking_model.specs.Order.{sorted}
 use Rattle.index_model.specs.Index.{SegmentData, TermData, IndexData}

@@ -4,9 +4,13 @@
 //! documents nothing is known but their names.
 
 mod documents;
+pub mod examples;
 mod exporting;
 mod gathering;
 pub mod laws;
 mod lists;
 
 pub use exporting::export_collection;
+
+#[cfg(test)]
+mod tests;

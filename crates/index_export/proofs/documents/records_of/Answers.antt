@@ -1,5 +1,5 @@
 -- One name more.
-use Rattle.std.proofs.Common.{◌≡◌, ℕ, List, ap, ◌∙◌, refl}
+use Rattle.std.proofs.Common.{ℕ, List, ap}
 use Rattle.jass_base.specs.CiffViews.{doc_data}
 use Rattle.jass_base.specs.Ciff.{DocData}
 use Rattle.index_export.specs.Gathering.{name_records}

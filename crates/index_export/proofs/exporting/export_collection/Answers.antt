@@ -1,9 +1,9 @@
 -- The parts of the collection are those of the export.
-use Rattle.std.proofs.Common.{◌≡◌, ◌<◌, ◌^◌, ℕ, List, [], length, map, sym, ap, ◌∙◌, subst, arith}
+use Rattle.std.proofs.Common.{◌≡◌, ◌<◌, ◌^◌, ℕ, List, [], length, sym, ap, ◌∙◌, subst, arith}
 use Rattle.std.specs.Prelude.{All, replicate}
 use Rattle.std.specs.List.{sum_by}
 use Rattle.jass_base.specs.Ciff.{HeaderData, DocData}
-use Rattle.jass_base.specs.CiffViews.{list_data, doc_data, header_data, collection_data}
+use Rattle.jass_base.specs.CiffViews.{list_data, doc_data, header_data}
 use Rattle.jass_base.specs.Lists.{HasDocsBelow}
 use Rattle.jass_base.specs.declared.postings_list.PostingsList.{PostingsList}
 use Rattle.index_model.specs.Index.{TermData, IndexData}

@@ -1,6 +1,5 @@
 use Rattle.std.proofs.Common.{◌≡◌, ◌++◌, ◌+◌, drop}
-use Rattle.std.specs.List.{flat_map, sum_by}
-use Rattle.index_model.specs.Index.{SegmentData}
+use Rattle.std.specs.List.{flat_map}
 use Rattle.index_model.specs.Querying.{segments_at}
 use Rattle.index_export.specs.Exports.{segment_postings}
 use Rattle.index_export.specs.Gathering.{docs_count}

@@ -1,5 +1,4 @@
-use Rattle.std.proofs.Common.{◌≡◌, ℕ, List, ap₂, ◌∙◌}
-use Rattle.ranking_model.specs.declared.entry.Entry.{Entry}
+use Rattle.std.proofs.Common.{ap₂, ◌∙◌}
 use Rattle.index_model.specs.Grouping.{index_with}
 use Rattle.index_export.proofs.Again.{export_is_flat, names_are}
 use Rattle.index_export.proofs.laws.an_export_keeps_the_index.Goals as goal
