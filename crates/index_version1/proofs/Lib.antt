@@ -10,3 +10,4 @@ mod Summing
 mod PayloadSteps
 mod Parting
 mod Indexes
+mod NeverOld

@@ -1,8 +1,8 @@
-ghost use Rattle.std.specs.Prelude.{IfOk};
+ghost use Rattle.std.specs.Prelude.{IfOk, IfErr};
 ghost use Rattle.index_model.specs.Index.{IndexData};
 ghost use Rattle.index_model.specs.Views.{index_data};
 ghost use Rattle.index_layout.specs.Refusals.{Answers};
-ghost use Rattle.index_version1.specs.Acceptance.{GivesIndex};
+ghost use Rattle.index_version1.specs.Acceptance.{GivesIndex, IsOfVersion1};
 ghost use Rattle.index_version1.specs.Files.{IsIndexFile1};
 ghost use Rattle.index_version1.specs.Reading.{read_index1};
 
@@ -17,6 +17,7 @@ use std::alloc::Global;
 pub fn read_version1(alloc: Global, bytes: &[u8]) -> Result<ImpactIndex, OpenFault>
     ensures exact { Answers index_data result (read_index1 bytes.now) }
     ensures found { IfOk result (λ index. IsIndexFile1 bytes.now (index_data index)) }
+    ensures fault { IfErr result IsOfVersion1 }
     ensures only { (index : IndexData) → IsIndexFile1 bytes.now index → GivesIndex index result }
 {
     old_files_are_read();
