@@ -13,7 +13,8 @@ use jass_base::ImpactIndex;
 use std::alloc::Global;
 
 /// The index of a file of version 1, in memory: exactly where the bytes are such a file, unless
-/// memory is refused. Else it is the first refusal. A ReadFault never comes.
+/// memory is refused. Else it is the first refusal. Neither a ReadFault nor the refusal of an older
+/// version comes.
 pub fn read_version1(alloc: Global, bytes: &[u8]) -> Result<ImpactIndex, OpenFault>
     ensures exact { Answers index_data result (read_index1 bytes.now) }
     ensures found { IfOk result (λ index. IsIndexFile1 bytes.now (index_data index)) }
