@@ -10,4 +10,5 @@ mod Summing
 mod PayloadSteps
 mod Parting
 mod Indexes
-pub mod LongFiles
+mod LongFiles
+mod NeverOld

@@ -44,7 +44,8 @@ pub fn read_docs(
     requires few { head.count ≤ d }
     requires limit { d ≤ 2 ^ 26 }
     ensures docs { IfOk result (AreDocs d) }
-    ensures exact { Answers (λ docs. docs) result (payload_placed at (read_payload head.codec d head.count payload.now)) }
+    ensures exact { Answers (λ docs. docs) result
+        (payload_placed at (read_payload head.codec d head.count payload.now)) }
 {
     match check(head.codec, payload, head.count, d) {
         Ok(()) => {}

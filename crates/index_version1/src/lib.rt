@@ -19,3 +19,6 @@ mod sums;
 mod term;
 
 pub use reading::read_version1;
+
+#[cfg(test)]
+mod tests;

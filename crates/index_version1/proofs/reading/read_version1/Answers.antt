@@ -3,6 +3,7 @@ use Rattle.std.proofs.lemmas.List.Elements.{All-from_get_or}
 use Rattle.index_model.specs.Index.{IndexData}
 use Rattle.index_model.specs.Views.{term_data}
 use Rattle.index_layout.proofs.Judging.{same_ok}
+use Rattle.index_version1.proofs.NeverOld.{never_old}
 use Rattle.index_version1.proofs.Indexes.{fails_found, in_memory}
 use Rattle.index_version1.proofs.reading.read_version1.Goals as goal
 
@@ -35,3 +36,6 @@ pub returns-clause-only : goal.returns-clause-only
 returns-clause-only c = λ index is.
     let mine : IndexData = record { names = c.in-Ok.parts.names; terms = map term_data c.in-Ok.parts.terms } in
     same_ok mine index (sym c.in-Ok.ensures.exact ∙ c.indexes_are_read.ensures.found index c.args.bytes.now is)
+
+pub returns-in-Err-clause-fault : goal.returns-in-Err-clause-fault
+returns-in-Err-clause-fault c = never_old c.args.bytes.now c.in-Err.fault c.in-Err.ensures.exact
