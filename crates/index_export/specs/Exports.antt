@@ -1,4 +1,4 @@
--- The collection that an index is exported as.
+-- The collection that an index is exported as (CIFF; Lin et al., 2020). That impacts stand as tf is this project's.
 use Rattle.std.specs.Prelude.{ℕ, List, [], length, map, replicate}
 use Rattle.std.specs.List.{flat_map, sum_by}
 use Rattle.std.specs.declared.cmp.Ordering.{Ordering}

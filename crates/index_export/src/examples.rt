@@ -7,7 +7,6 @@ ghost use Rattle.index_export.specs.Examples.{crossing, posting, small_export};
 ghost use Rattle.index_export.specs.Exports.{export_of, exported_list};
 
 /// The index of three documents and one term, as a CIFF file of 56 bytes.
-#[tactic(auto, unfolding(crate::specs::Exports::export_of, jass_base::specs::CiffText::canonical_ciff, jass_base::specs::Wire::short_varint))]
 pub fn a_small_index_is_exported()
     ensures { canonical_ciff (export_of one_term) ≡ small_export }
 {}
