@@ -1,5 +1,5 @@
 -- What an index file is judged to be, from what opening it gave, and what is judged behind other inputs.
-use Rattle.std.proofs.Common.{◌≡◌, ◌≤◌, ◌<◌, ◌^◌, ℕ, List, length, take, Option, Some, None, Result, Ok, Err, Bool, true, false, nat_le, refl, sym, ap, subst, ◌∙◌, ◌⊎◌, inl, inr, arith}
+use Rattle.std.proofs.Common.{◌≡◌, ◌≢◌, ◌≤◌, ◌<◌, ◌^◌, ℕ, List, length, take, Option, Some, None, Result, Ok, Err, Bool, true, false, nat_le, refl, sym, ap, subst, ◌∙◌, ◌⊎◌, inl, inr, arith}
 use Rattle.std.specs.Prelude.{IsSomeAnd}
 use Rattle.std.specs.FinMap.{get}
 use Rattle.std.proofs.lemmas.Bool.Decides.{nat_tests}
@@ -12,7 +12,7 @@ use Rattle.index_layout.specs.View.{FileView, index_text}
 use Rattle.jass_top.specs.IndexJudging.{judged_file, judged_index, judged_old, judge_index, judge_old, fitting}
 use Rattle.index_version1.specs.Reading.{read_index1}
 use Rattle.jass_top.specs.Standing.{LeavesFront}
-use Rattle.jass_top.specs.Judging.{Accepted, Missing, Refuses, Shows}
+use Rattle.jass_top.specs.Judging.{Accepted, Missing, Refuses, Untold, Shows}
 
 pub shown_file : (told : Option Files) (name : List ℕ) (result : Result FileView OpenRefusal) → OnContent told name (λ content. read_index content ≡ result) → Shows (judge_index name told) (judged_file name result)
 unfolding judge_index
@@ -60,3 +60,65 @@ too_large name index n size large =
 -- a whole content is a front of itself
 pub whole_front : (old new : Option Files) (name text : List ℕ) → Sets old new name text → LeavesFront (Some name) old new text
 whole_front old new name text is = inr (length text, subst (λ (content : List ℕ). Sets old new name content) (sym (take_all (length text) text (omega arith))) is)
+
+-- ---- what is accepted stands for its content
+
+pub index_found : (name : List ℕ) (files : Files) (v : FileView) → judge_index name (Some files) ≡ Accepted v → (content : List ℕ) × (get files name ≡ Some content) × (read_index content ≡ Ok v)
+unfolding judge_index
+index_found name files v is = at (get files name) refl is
+  where
+    read : (content : List ℕ) (result : Result FileView OpenRefusal) → read_index content ≡ result → judged_file name result ≡ Accepted v → read_index content ≡ Ok v
+    read content (Ok w) gives is =
+        let same : w ≡ v = cc in
+        gives ∙ ap Ok same
+    read content (Err e) gives is = cc
+
+    at : (o : Option (List ℕ)) → get files name ≡ o → judged_index name o ≡ Accepted v → (content : List ℕ) × (get files name ≡ Some content) × (read_index content ≡ Ok v)
+    at None there is = cc
+    at (Some content) there is = (content, there, read content (read_index content) refl is)
+
+pub old_found : (name : List ℕ) (files : Files) (index : IndexData) → judge_old name (Some files) ≡ Accepted index → (content : List ℕ) × (get files name ≡ Some content) × (read_index1 content ≡ Ok index)
+unfolding judge_old
+old_found name files index is = at (get files name) refl is
+  where
+    read : (content : List ℕ) (result : Result IndexData OpenRefusal) → read_index1 content ≡ result → judged_file name result ≡ Accepted index → read_index1 content ≡ Ok index
+    read content (Ok w) gives is =
+        let same : w ≡ index = cc in
+        gives ∙ ap Ok same
+    read content (Err e) gives is = cc
+
+    at : (o : Option (List ℕ)) → get files name ≡ o → judged_old name o ≡ Accepted index → (content : List ℕ) × (get files name ≡ Some content) × (read_index1 content ≡ Ok index)
+    at None there is = cc
+    at (Some content) there is = (content, there, read content (read_index1 content) refl is)
+
+pub index_only : (name : List ℕ) (files : Files) (content : List ℕ) (v : FileView) → get files name ≡ Some content → read_index content ≡ Ok v → judge_index name (Some files) ≡ Accepted v
+unfolding judge_index
+index_only name files content v there is = ap (judged_index name) there ∙ ap (judged_file name) is
+
+pub old_only : (name : List ℕ) (files : Files) (content : List ℕ) (index : IndexData) → get files name ≡ Some content → read_index1 content ≡ Ok index → judge_old name (Some files) ≡ Accepted index
+unfolding judge_old
+old_only name files content index there is = ap (judged_old name) there ∙ ap (judged_file name) is
+
+pub index_told : (name : List ℕ) (files : Files) → judge_index name (Some files) ≢ Untold
+unfolding judge_index
+index_told name files is = at (get files name) is
+  where
+    read : (result : Result FileView OpenRefusal) → judged_file name result ≢ Untold
+    read (Ok c) is = cc
+    read (Err e) is = cc
+
+    at : (o : Option (List ℕ)) → judged_index name o ≢ Untold
+    at None is = cc
+    at (Some content) is = read (read_index content) is
+
+pub old_told : (name : List ℕ) (files : Files) → judge_old name (Some files) ≢ Untold
+unfolding judge_old
+old_told name files is = at (get files name) is
+  where
+    read : (result : Result IndexData OpenRefusal) → judged_file name result ≢ Untold
+    read (Ok c) is = cc
+    read (Err e) is = cc
+
+    at : (o : Option (List ℕ)) → judged_old name o ≢ Untold
+    at None is = cc
+    at (Some content) is = read (read_index1 content) is

@@ -11,6 +11,10 @@ const TEXT: &str = "\
 commands:\n\
 once CIFF K BUDGET TERM..  answer a query over a CIFF file\n\
 rewrite FROM TO            write a CIFF file in the canonical spelling\n\
+import CIFF INDEX [weights=tf|bm25] [bits=raw|1..16]  make an index file of a CIFF file\n\
+check INDEX                check an index file, and print its totals\n\
+export INDEX CIFF          write a CIFF file with the impacts as frequencies\n\
+migrate OLD NEW            write an index file of version 1 in version 2\n\
 --help                     print this text\n\
 --version                  print the name and the version\n\
 \n\
