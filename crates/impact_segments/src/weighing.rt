@@ -54,7 +54,8 @@ impl<'a> Weigher<'a> {
         requires below { posting.doc < length self.now.docs.now }
         requires tf { HasTfInRange posting }
         ensures value { (count : ℕ) → rare ≡ idf (length self.now.docs.now) count
-            → result ≡ weight_in self.now.rule (lengths_in self.now.docs.now) (total_length self.now.docs.now) count posting }
+            → result ≡ weight_in self.now.rule (lengths_in self.now.docs.now) (total_length self.now.docs.now)
+            count posting }
         ensures positive { 1 ≤ result }
         ensures limit { result < 2 ^ 31 }
     {

@@ -45,8 +45,8 @@ pub fn weight_of(rule: Rule, docs: u32, total: u64, n: u32, tf: u32, length: u32
     }
 }
 
-/// BM25's weight of a posting whose term is so rare (`idf`) and stands `tf` times in a document that slows its growth so far
-/// (`length_norm`). It is at least 1.
+/// BM25's weight of a posting whose term is so rare (`idf`) and stands `tf` times in a document that slows its
+/// growth so far (`length_norm`). It is at least 1.
 #[tactic(auto, using(crate::proofs::Limits::saturated_le))]
 pub fn saturated(rare: u32, tf: u32, norm: u64) -> u64
     requires rare_limit { rare < 27 * 1024 }
@@ -82,8 +82,8 @@ fn rarity(docs: u32, n: u32) -> u64
     1024 * (u64::from(docs) + 1) / u64::from(n)
 }
 
-/// How far a document's length slows the growth of a term's weight, in thousandths: 900 at the average length. It is cut off
-/// at 2^63, from which on each weight is 1.
+/// How far a document's length slows the growth of a term's weight, in thousandths: 900 at the average length. It is
+/// cut off at 2^63, from which on each weight is 1.
 pub fn length_norm(docs: u32, total: u64, length: u32) -> u64
     requires some_total { 1 ≤ total }
     ensures value { result ≡ min (length_norm docs total length) (2 ^ 63) }
