@@ -1,20 +1,25 @@
 -- A list's postings are few enough, and their weights are in the range of all.
-use Rattle.std.proofs.Common.{◌≡◌, ℕ, suc, ◌+◌, ◌<◌, ◌≤◌, ◌^◌, List, [], ◌∷◌, length, get_or, sym, subst, arith, fold}
+use Rattle.std.proofs.Common.{◌≡◌, ℕ, suc, ◌+◌, ◌<◌, ◌≤◌, ◌^◌, max, min, List, [], ◌∷◌, length, map, drop, get_or, sym, ap, ap₂, ◌∙◌, subst, arith, fold}
 use Rattle.std.specs.Prelude.{All, Contains, slice_index}
 use Rattle.std.specs.List.{AllByRecursion, flat_map}
 use Rattle.std.proofs.lemmas.List.Elements.{recursion_from_All, All-from_recursion}
-use Rattle.std.proofs.lemmas.List.{length-map, get_or-map}
+use Rattle.std.proofs.lemmas.List.{length-map, get_or-map, drop_more}
+use Rattle.std.proofs.lemmas.Simd.{map-map}
 use Rattle.jass_base.specs.declared.doc_record.DocRecord.{DocRecord}
 use Rattle.jass_base.specs.declared.posting.Posting.{Posting}
 use Rattle.jass_base.specs.declared.postings_list.PostingsList.{PostingsList}
 use Rattle.jass_base.specs.Lists.{HasDocsBelow}
 use Rattle.jass_base.specs.Postings.{docs_of}
 use Rattle.weights.specs.declared.weighting.Rule.{Rule}
+use Rattle.weights.specs.declared.weighting.Rule.TheVariants.{Bm25}
+use Rattle.weights.specs.Weighting.{idf, length_norm, saturated, weight_of}
+use Rattle.weights.proofs.Bounds.{saturated_cut}
 use Rattle.weights.specs.declared.quantizing.Bits.{Bits}
 use Rattle.weights.specs.declared.quantizing.Bits.TheVariants.{Of}
 use Rattle.weights.specs.declared.quantizing.Range.{Range}
 use Rattle.weights.specs.Quantizing.{widened, range_of, empty_range, Holds, IsInRange}
-use Rattle.impact_segments.specs.Weighed.{lengths_in, list_weights}
+use Rattle.impact_segments.specs.Weighed.{lengths_in, total_length, norms_of, list_weights}
+use Rattle.impact_segments.proofs.OneTerm.{all_map_at}
 use Rattle.index_model.proofs.Lists.{Pairs, all_weaker, all_unmap, all_contained, all_parts, rising_pairs}
 
 -- numbers that rise and lie from low on below high
@@ -38,8 +43,35 @@ pub its_doc : (docs : ℕ) (list : PostingsList) (p : Posting) → HasDocsBelow 
 its_doc docs list p below own = all_contained (λ (p : Posting). p.doc < docs) list.postings p
     (all_unmap (λ (doc : ℕ). doc < docs) (λ (p : Posting). p.doc) list.postings (recursion_from_All (λ (doc : ℕ). doc < docs) (docs_of list.postings) below)) own
 
-pub its_length : (docs : List DocRecord) (doc : ℕ) (d : DocRecord) → doc < length docs → (get_or docs doc d).length ≡ slice_index (lengths_in docs) doc
-its_length docs doc d low = sym (get_or-map (λ (d : DocRecord). d.length) docs doc d 0 low)
+-- the document of a posting of a list
+pub item_below : (docs : ℕ) (list : PostingsList) (items : List Posting) (i : ℕ) (d : Posting) → items ≡ list.postings → i < length items → HasDocsBelow docs list → (get_or items i d).doc < docs
+item_below docs list items i d are low below =
+    let P : List Posting → Type 0 = λ (l : List Posting). All (λ (doc : ℕ). doc < docs) (docs_of l) in
+    all_map_at (λ (doc : ℕ). doc < docs) (λ (p : Posting). p.doc) items i d low (subst P (sym are) below)
+
+-- one posting more in the range
+pub widened_more : (weigh : Posting → ℕ) (r after all : Range) (items : List Posting) (i : ℕ) (d : Posting) (w : ℕ) → i < length items → w ≡ weigh (get_or items i d) → after ≡ widened r w
+    → fold widened r (map weigh (drop i items)) ≡ all → fold widened after (map weigh (drop (i + 1) items)) ≡ all
+widened_more weigh r after all items i d w low is then so_far =
+    ap (λ (q : Range). fold widened q (map weigh (drop (i + 1) items))) (then ∙ ap (λ (v : ℕ). widened r v) is)
+    ∙ ap (λ (l : List Posting). fold widened r (map weigh l)) (sym (drop_more items i d low)) ∙ so_far
+
+-- the norm of a document, at its place among all
+pub norm_at : (docs : List DocRecord) (norms : List ℕ) (doc norm : ℕ) → norms ≡ norms_of docs → doc < length docs → norm ≡ get_or norms doc norm
+    → norm ≡ min (length_norm (length docs) (total_length docs) (slice_index (lengths_in docs) doc)) (2 ^ 63)
+norm_at docs norms doc norm are low at =
+    let f : ℕ → ℕ = λ (n : ℕ). min (length_norm (length docs) (total_length docs) n) (2 ^ 63) in
+    at ∙ ap (λ (l : List ℕ). get_or l doc norm) (are ∙ sym (map-map f (λ (d : DocRecord). d.length) docs)) ∙ get_or-map f (lengths_in docs) doc 0 norm (rw length-map low)
+
+-- the weight by a term's rarity and a document's norm
+pub weight_is : (docs : List DocRecord) (count tf doc rare norm w : ℕ) → w ≡ max 1 (saturated rare tf norm) → rare ≡ idf (length docs) count → rare < 27648 → tf < 2 ^ 31
+    → norm ≡ min (length_norm (length docs) (total_length docs) (slice_index (lengths_in docs) doc)) (2 ^ 63)
+    → w ≡ weight_of Bm25 (length (lengths_in docs)) (total_length docs) count tf (slice_index (lengths_in docs) doc)
+weight_is docs count tf doc rare norm w is rare_is low few norm_is =
+    let P : ℕ → Type 0 = λ (r : ℕ). r < 27648 in
+    is ∙ ap₂ (λ (r n : ℕ). max 1 (saturated r tf n)) rare_is norm_is
+    ∙ saturated_cut (idf (length docs) count) tf (length_norm (length docs) (total_length docs) (slice_index (lengths_in docs) doc)) (subst P rare_is low) few
+    ∙ ap (λ (n : ℕ). weight_of Bm25 n (total_length docs) count tf (slice_index (lengths_in docs) doc)) (sym (length-map docs (λ (d : DocRecord). d.length)))
 
 -- ---- the range
 

@@ -1,5 +1,5 @@
 -- The postings of one term as pairs of a document and its impact.
-use Rattle.std.specs.Prelude.{ℕ, ◌≡◌, ◌≢◌, ◌<◌, ◌≤◌, List, map}
+use Rattle.std.specs.Prelude.{ℕ, ◌+◌, ◌-◌, ◌*◌, ◌^◌, ◌≡◌, ◌≢◌, ◌<◌, ◌≤◌, List, map}
 use Rattle.std.specs.List.{flat_map}
 use Rattle.std.specs.declared.cmp.Ordering.{Ordering}
 use Rattle.std.specs.Ordering.{nat_cmp, ordering_then}
@@ -16,6 +16,10 @@ use Rattle.impact_segments.specs.Weighed.{posting_weight}
 -- falling impacts, then rising documents
 abbrev pub pair_cmp : ℕ × ℕ → ℕ × ℕ → Ordering
 pair_cmp a b = ordering_then (nat_cmp b.1 a.1) (nat_cmp a.0 b.0)
+
+-- a pair of 32 and 16 bits as one number in the same order
+abbrev pub pair_key : ℕ × ℕ → ℕ
+pair_key p = (65535 - p.1) * 2 ^ 32 + p.0
 
 -- the pairs that segments hold
 abbrev pub pairs_of : List Segment → List (ℕ × ℕ)

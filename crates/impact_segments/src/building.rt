@@ -28,7 +28,7 @@ pub fn build(
         flat_of (index_data index) ≡ index_of (collection_data collection.now) rule bits) }
     ensures names { IfOk result (λ index. index.names ≡ map (λ (d : DocRecord). d.name) collection.now.docs) }
 {
-    let weigher = Weigher::new(rule, collection.docs.as_slice());
+    let weigher = Weigher::new(alloc, rule, collection.docs.as_slice())?;
     let range = weigher.range_for(bits, collection.lists.as_slice());
     let lists = lists_by_term(alloc, collection.lists.as_slice())?;
     let terms = terms_of(alloc, &weigher, bits, range, &lists)?;

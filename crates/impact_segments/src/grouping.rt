@@ -1,13 +1,13 @@
-ghost use Rattle.std.specs.Prelude.{◌≡◌, ◌≢◌, ℕ, ◌<◌, ◌≤◌, length, take, All, AllPairs, IfOk, slice_index_or};
+ghost use Rattle.std.specs.Prelude.{◌≡◌, ◌≢◌, ℕ, [], ◌^◌, ◌<◌, ◌≤◌, length, take, All, AllPairs, IfOk, slice_index_or};
 ghost use Rattle.std.specs.List.Sorted.{IsStrictlyIncreasing};
 ghost use Rattle.ranking_model.specs.Order.{sorted};
 ghost use Rattle.jass_base.specs.declared.segment.Segment.{Segment};
 ghost use Rattle.jass_base.specs.Segments.{FallsTo, SharesNoDocument};
-ghost use Rattle.impact_segments.specs.Pairs.{pair_cmp, pairs_of, pair_docs, Follows};
+ghost use Rattle.impact_segments.specs.Pairs.{pair_cmp, pair_key, pairs_of, pair_docs, Follows};
 
 use jass_base::{NoMemory, Row, Segment};
 use std::alloc::Global;
-use std::cmp::Reverse;
+use std::cmp::Ordering;
 
 /// The segments of one term from its documents with their impacts, each at least 1: a segment
 /// for each impact, by falling impact, with the documents that have it, in rising order (Lin
@@ -44,7 +44,25 @@ pub(crate) fn group_in_place(
 fn arrange(pairs: &mut Vec<(u32, u16)>)
     ensures { pairs.new.items ≡ sorted pair_cmp pairs.old.items }
 {
-    pairs.sort_unstable_by_key(|pair| (Reverse(pair.1), pair.0));
+    pairs.sort_unstable_by(|a, b| compare(*a, *b));
+}
+
+/// How two pairs stand. Each is made one number, so that nothing branches.
+#[inline(always)]
+fn compare(a: (u32, u16), b: (u32, u16)) -> Ordering
+    ensures { result ≡ pair_cmp a b }
+{
+    key(a).cmp(&key(b))
+}
+
+/// A number for each pair, which rises as the impact falls, and then as the document rises.
+#[inline(always)]
+fn key(pair: (u32, u16)) -> u64
+    ensures key { result ≡ pair_key pair }
+    ensures doc { pair.0 < 2 ^ 32 }
+    ensures impact { pair.1 < 2 ^ 16 }
+{
+    u64::from(65_535 - pair.1) * 4_294_967_296 + u64::from(pair.0)
 }
 
 /// One segment for each run of equal impacts.
@@ -55,7 +73,7 @@ fn cut(alloc: Global, pairs: &[(u32, u16)]) -> Result<Row<Segment>, NoMemory>
     ensures falling { IfOk result (λ segments. AllPairs FallsTo segments) }
     ensures once { IfOk result (λ segments. AllPairs SharesNoDocument segments) }
 {
-    let mut segments = Row::new(alloc);
+    let mut segments = with_room(alloc, run_count(pairs))?;
     let mut rest = pairs;
     'runs: while let Some(first) = rest.first() {
         let (run, later) = rest.split_at(run_length(rest, first.1));
@@ -66,6 +84,29 @@ fn cut(alloc: Global, pairs: &[(u32, u16)]) -> Result<Row<Segment>, NoMemory>
         }
     }
     Ok(segments)
+}
+
+/// An empty row that has room for so many segments, so that they are never moved.
+fn with_room(alloc: Global, count: usize) -> Result<Row<Segment>, NoMemory>
+    ensures { IfOk result (λ row. row ≡ []) }
+{
+    match Vec::with_capacity(alloc, count) {
+        Ok(segments) => Ok(Row::from_vec(segments)),
+        Err(_) => Err(NoMemory),
+    }
+}
+
+/// The number of runs of equal impacts.
+fn run_count(pairs: &[(u32, u16)]) -> usize {
+    let mut count = 0;
+    let mut last = 0;
+    for pair in pairs {
+        if pair.1 != last {
+            count += 1;
+            last = pair.1;
+        }
+    }
+    count
 }
 
 /// The number of pairs in front that have the impact.

@@ -77,7 +77,7 @@ fn term_of(
     Ok(TermSegments { term, segments })
 }
 
-/// Leaves the documents of a list with their impacts.
+/// Leaves the documents of a list that has postings, with their impacts.
 fn impacts_of(
     weigher: &Weigher,
     bits: Bits,
@@ -86,6 +86,7 @@ fn impacts_of(
     pairs: &mut Vec<(u32, u16)>,
 ) -> Result<(), NoMemory>
     requires width { IsImpactWidth bits }
+    requires some { 1 ≤ length list.now.postings }
     requires below { HasDocsBelow (length weigher.now.docs.now) list.now }
     requires in_range { All (IsInRange bits range) (list_weights weigher.now.rule weigher.now.docs.now list.now) }
     ensures pairs { OnOk result (pairs.new.items
@@ -93,8 +94,9 @@ fn impacts_of(
     ensures positive { OnOk result (All (λ (p : ℕ × ℕ). 1 ≤ p.1) pairs.new.items) }
 {
     pairs.clear();
+    let rare = weigher.rarity(list);
     for posting in list.postings.as_slice() {
-        let impact = impact_of(bits, range, weigher.weigh(list, *posting));
+        let impact = impact_of(bits, range, weigher.weigh(rare, *posting));
         match pairs.push((posting.doc, impact)) {
             Ok(()) => {}
             Err(_) => return Err(NoMemory),

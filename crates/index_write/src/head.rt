@@ -6,7 +6,7 @@ ghost use Rattle.index_write.specs.Chosen.{head_data, chosen_head, chosen_heads,
 
 use crate::laws::{segments_are_small, terms_have_documents};
 use jass_base::{ImpactIndex, NoMemory, Row, Segment};
-use segment_codecs::{Codec, choose, length};
+use segment_codecs::{Codec, shortest};
 use std::alloc::Global;
 
 /// What stands in the file before the payload of a segment. It is made once for each segment, so
@@ -28,13 +28,13 @@ impl Head {
         ensures { head_data result ≡ chosen_head d (segment_data segment.now) }
     {
         let docs = segment.docs.as_slice();
-        let codec = choose(docs, d);
+        let choice = shortest(docs, d);
         segments_are_small();
         Head {
             impact: segment.impact,
             count: docs.len() as u32,
-            codec,
-            size: length(codec, docs, d) as u32,
+            codec: choice.codec,
+            size: choice.size as u32,
         }
     }
 }

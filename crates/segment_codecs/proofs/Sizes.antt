@@ -1,12 +1,18 @@
 -- How many bytes a payload has.
-use Rattle.std.proofs.Common.{◌≡◌, ℕ, zero, suc, ◌+◌, ◌*◌, ◌/◌, ◌^◌, ◌<◌, ◌≤◌, List, [], ◌∷◌, ◌++◌, length, take, drop, sym, ap, ◌∙◌, length-append, refl, arith}
-use Rattle.std.specs.Prelude.{All}
+use Rattle.std.proofs.Common.{◌≡◌, ℕ, zero, suc, ◌*◌, ◌/◌, ◌<◌, ◌≤◌, List, [], ◌∷◌, length, take, drop, length-append, true, refl, arith}
+use Rattle.std.specs.Prelude.{nat_le}
+use Rattle.std.proofs.lemmas.Bool.{le-leb}
+use Rattle.std.proofs.Math.Nat.{div-eq_of_lt}
 use Rattle.std.specs.List.{AllByRecursion}
-use Rattle.jass_base.specs.Gaps.{gaps_of, spelled_gaps}
+use Rattle.jass_base.specs.Gaps.{AreDocs, gaps_of, spelled_gaps}
+use Rattle.jass_base.proofs.Gaps.{length-gaps_from}
 use Rattle.jass_base.specs.Wire.{short_varint}
-use Rattle.codec_packed.specs.Packing.{packed_block, packed_gaps, packed_of}
+use Rattle.codec_packed.specs.Packing.{packed_block, packed_gaps}
 use Rattle.codec_simple8.specs.Simple8.{selector_of, spelled_words}
 use Rattle.codec_simple8.proofs.WordParts.{next_length}
+use Rattle.segment_codecs.specs.Codecs.{payload_size, shorter}
+use Rattle.segment_codecs.specs.declared.codec.Codec.{Codec}
+use Rattle.segment_codecs.specs.declared.codec.Codec.TheVariants.{Varbyte, Packed, Simple8}
 
 -- a shortest varint of a gap has one to four bytes
 abbrev pub FewBytes : ℕ → Type 0
@@ -26,3 +32,20 @@ packed_some (suc blocks) gaps some few = omega (arith, length-append (packed_blo
 
 pub words_some : (gaps : List ℕ) → 1 ≤ length gaps → 1 ≤ length (spelled_words gaps)
 words_some gaps some = let next = next_length gaps 0 (selector_of gaps) (omega (arith, some)) refl in omega (arith, next)
+
+-- one word at least
+pub simple8_some : (d : ℕ) (docs : List ℕ) → AreDocs d docs → 8 ≤ payload_size d docs Simple8
+simple8_some d docs are =
+    let some : 1 ≤ length (gaps_of docs) = omega (arith, length-gaps_from 0 docs, are.some) in
+    let next = next_length (gaps_of docs) 0 (selector_of (gaps_of docs)) (omega (arith, some)) refl in
+    omega (arith, next)
+
+-- without a full block all gaps are varints
+pub packed_same : (d : ℕ) (docs : List ℕ) → length docs < 128 → payload_size d docs Packed ≡ payload_size d docs Varbyte
+packed_same d docs few = let none : length docs / 128 ≡ 0 = div-eq_of_lt few in rw none refl
+
+-- so Simple8 isn't chosen where another payload has a word's bytes or fewer
+pub words_no_shorter : (d : ℕ) (docs : List ℕ) (codec : Codec) → AreDocs d docs → payload_size d docs codec ≤ 8 → shorter d docs codec Simple8 ≡ codec
+words_no_shorter d docs codec are low =
+    let no_less : nat_le (payload_size d docs codec) (payload_size d docs Simple8) ≡ true = le-leb (payload_size d docs codec) (payload_size d docs Simple8) (omega (arith, low, simple8_some d docs are)) in
+    rw no_less refl

@@ -46,6 +46,10 @@ payload_size d docs codec = length (payload_of codec d docs)
 abbrev pub shorter : ℕ → List ℕ → Codec → Codec → Codec
 shorter d docs first second = if nat_le (payload_size d docs first) (payload_size d docs second) then first else second
 
+-- the same of the codecs but Simple8
+abbrev pub without_words : ℕ → List ℕ → Codec
+without_words d docs = shorter d docs (shorter d docs Varbyte Packed) Bitmap
+
 -- the codec with the shortest payload, the one with the lowest number of equal ones
 abbrev pub chosen_codec : ℕ → List ℕ → Codec
-chosen_codec d docs = shorter d docs (shorter d docs (shorter d docs Varbyte Packed) Bitmap) Simple8
+chosen_codec d docs = shorter d docs (without_words d docs) Simple8

@@ -11,7 +11,7 @@ mod payloads;
 #[cfg(test)]
 mod tests;
 
-pub use choosing::choose;
+pub use choosing::{Choice, choose, shortest};
 pub use codec::Codec;
 pub use cursor::SegmentCursor;
 pub use payloads::{check, encode, length};

@@ -1,8 +1,10 @@
 -- How large the parts of a weight and an impact can be.
-use Rattle.std.proofs.Common.{◌≡◌, ℕ, ◌+◌, ◌*◌, ◌/◌, ◌%◌, ◌^◌, ◌<◌, ◌≤◌, arith, pow_mono}
-use Rattle.std.proofs.Math.Nat.{div-le_self, div-le_of_le-mul, mul-le-mul_right}
+use Rattle.std.proofs.Common.{◌≡◌, ℕ, ◌+◌, ◌*◌, ◌/◌, ◌%◌, ◌^◌, ◌<◌, ◌≤◌, max, min, sym, ap, ◌∙◌, arith, pow_mono, ⊎_elim}
+use Rattle.std.proofs.Math.Nat.{div-le_self, div-le_of_le-mul, div-eq_of_lt, mul_assoc, mul-le-mul_right}
+use Rattle.std.proofs.lemmas.Bool.{cases_lt}
 use Rattle.std.proofs.lemmas.Nat.{le-div, one_shl}
 use Rattle.weights.specs.Logarithm.{lg}
+use Rattle.weights.specs.Weighting.{saturated}
 use Rattle.weights.proofs.Exponents.{lg-at_least, lg-below}
 
 -- how many documents there are for one posting of a term, times 1,024
@@ -26,3 +28,17 @@ place-le above steps width within =
 -- the steps of b bits
 pub steps_of : (b : ℕ) → 1 ≤ b → b ≤ 16 → (1 * 2 ^ b % 2 ^ 64 ≡ 2 ^ b) × (2 ≤ 2 ^ b) × (2 ^ b ≤ 2 ^ 16)
 steps_of b some limit = (one_shl b 64 (omega arith), pow_mono {i = 1} some, pow_mono limit)
+
+-- a norm above the cut leaves no weight above 1
+pub saturated_cut : (rare tf norm : ℕ) → rare < 27648 → tf < 2 ^ 31
+    → max 1 (saturated rare tf (min norm (2 ^ 63))) ≡ max 1 (saturated rare tf norm)
+saturated_cut rare tf norm low few =
+    ⊎_elim
+    (λ below. let same : min norm (2 ^ 63) ≡ norm = omega arith in ap (λ n. max 1 (saturated rare tf n)) same)
+    (λ above.
+    let most : rare * (1900 * tf) ≤ 27648 * (1900 * tf) = mul-le-mul_right (1900 * tf) (omega arith) in
+    let gain : rare * 1900 * tf < 2 ^ 63 = omega (arith, most, mul_assoc rare 1900 tf) in
+    let cut : saturated rare tf (min norm (2 ^ 63)) ≡ 0 = div-eq_of_lt (omega (arith, gain)) in
+    let none : saturated rare tf norm ≡ 0 = div-eq_of_lt (omega (arith, gain)) in
+    ap (λ n. max 1 n) (cut ∙ sym none))
+    (cases_lt norm (2 ^ 63))

@@ -7,7 +7,7 @@ use Rattle.weights.specs.declared.weighting.Rule.TheVariants.{Tf, Bm25}
 use Rattle.weights.specs.declared.quantizing.Bits.{Bits}
 use Rattle.weights.specs.declared.quantizing.Bits.TheVariants.{Raw, Of}
 use Rattle.weights.specs.declared.quantizing.Range.{Range}
-use Rattle.weights.specs.Weighting.{idf, length_norm, weight_of}
+use Rattle.weights.specs.Weighting.{idf, length_norm, saturated, weight_of}
 use Rattle.weights.specs.Quantizing.{IsImpactWidth, Holds, IsInRange, impact_of}
 use Rattle.weights.proofs.Bounds.{lg_of_rarity, place-le}
 
@@ -16,15 +16,15 @@ weight_of-positive Tf docs total n tf length some = some
 weight_of-positive Bm25 docs total n tf length some = omega arith
 
 -- a quotient with the term frequency below the line too
-saturated : (rare tf norm : ℕ) → rare * 1900 * tf / (1000 * tf + norm) ≤ 2 * rare
-saturated rare tf norm = div-le_of_le-mul (1000 * tf + norm) (omega arith)
+pub saturated_le : (rare tf norm : ℕ) → saturated rare tf norm ≤ 2 * rare
+saturated_le rare tf norm = div-le_of_le-mul (1000 * tf + norm) (omega arith)
 
 pub weight_of-lt : (rule : Rule) (docs total n tf length : ℕ) → 1 ≤ n → n ≤ docs → docs ≤ 2 ^ 26 → tf < 2 ^ 31
     → weight_of rule docs total n tf length < 2 ^ 31
 weight_of-lt Tf docs total n tf length some within limit few = few
 weight_of-lt Bm25 docs total n tf length some within limit few =
     let rare = lg_of_rarity docs n some within limit in
-    omega (arith, rare.1, saturated (idf docs n) tf (length_norm docs total length))
+    omega (arith, rare.1, saturated_le (idf docs n) tf (length_norm docs total length))
 
 -- one end of a range or the other
 either : (b : Bool) (p : ℕ) (P : ℕ → Type 0) → (b ≡ true → P 1) → (b ≡ false → P p) → P (cond b 1 p)

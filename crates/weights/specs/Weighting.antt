@@ -13,9 +13,13 @@ idf docs n = lg (1024 * (docs + 1) / n) - 10240
 abbrev pub length_norm : ℕ → ℕ → ℕ → ℕ
 length_norm docs total length = (540 * total + 360 * length * docs) / total
 
--- BM25 itself, with both parts of the quotient times 1000: idf * (k1 + 1) * tf / (tf + K)
+-- BM25 of a term's idf and a document's K, with both parts of the quotient times 1000: idf * (k1 + 1) * tf / (tf + K)
+abbrev pub saturated : ℕ → ℕ → ℕ → ℕ
+saturated rare tf norm = rare * 1900 * tf / (1000 * tf + norm)
+
+-- BM25 itself
 abbrev pub bm25 : ℕ → ℕ → ℕ → ℕ → ℕ → ℕ
-bm25 docs total n tf length = idf docs n * 1900 * tf / (1000 * tf + length_norm docs total length)
+bm25 docs total n tf length = saturated (idf docs n) tf (length_norm docs total length)
 
 -- the weight of a posting, which BM25 raises to 1 at least
 abbrev pub weight_of : Rule → ℕ → ℕ → ℕ → ℕ → ℕ → ℕ

@@ -9,4 +9,4 @@ mod weighting;
 
 pub use logarithm::lg;
 pub use quantizing::{Bits, Range, impact_of};
-pub use weighting::{Rule, weight_of};
+pub use weighting::{Rule, idf, length_norm, saturated, weight_of};

@@ -1,6 +1,6 @@
 // How weights become impacts.
 
-ghost use Rattle.std.specs.Prelude.{◌≡◌, ◌*◌, ◌/◌, ◌≤◌};
+ghost use Rattle.std.specs.Prelude.{◌≡◌, ◌*◌, ◌/◌, ◌^◌, ◌≤◌};
 ghost use Rattle.weights.specs.Quantizing.{empty_range, widened, IsImpactWidth, IsInRange, impact_of};
 
 /// How a weight becomes an impact.
@@ -63,11 +63,13 @@ pub fn impact_of(bits: Bits, range: Range, w: u64) -> u16
 }
 
 // How many of the steps that divide a width lie within what is above its least end, rounded down.
-fn steps_to(above: u64, width: u64, steps: u64) -> u128
-    requires { 1 ≤ width }
+fn steps_to(above: u64, width: u64, steps: u64) -> u64
+    requires some { 1 ≤ width }
+    requires above_limit { above ≤ 2 ^ 40 }
+    requires steps_limit { steps ≤ 2 ^ 16 }
     ensures { result ≡ above * steps / width }
 {
-    u128::from(above) * u128::from(steps) / u128::from(width)
+    above * steps / width
 }
 
 #[cfg(test)]

@@ -26,13 +26,13 @@ terms_of-requires-clause-some c = listed_some c.args.collection.now.lists (lists
 pub terms_of-requires-clause-below : goal.terms_of-requires-clause-below
 terms_of-requires-clause-below c =
     let P : List DocRecord → Type 0 = λ (l : List DocRecord). All (HasDocsBelow (length l)) c.args.collection.now.lists in
-    listed_all (HasDocsBelow (length c.new-weigher.result.docs.now)) c.args.collection.now.lists (lists_behind c.deref.result.now)
+    listed_all (HasDocsBelow (length c.in_ok-weigher.weigher.docs.now)) c.args.collection.now.lists (lists_behind c.deref.result.now)
     (listed_is c.args.collection.now.lists c.as_slice-3.result.now c.in_ok-lists.lists.items c.deref.result.now c.as_slice-3.ensures c.deref.ensures.value c.in_ok-lists.ensures)
-    (subst P (sym (c.new-weigher.ensures.docs ∙ c.as_slice.ensures)) c.args.collection.now.docs_below)
+    (subst P (sym (c.in_ok-weigher.ensures.docs ∙ c.as_slice.ensures)) c.args.collection.now.docs_below)
 
 pub terms_of-requires-clause-in_range : goal.terms_of-requires-clause-in_range
 terms_of-requires-clause-in_range c =
-    let P : PostingsList → Type 0 = λ (l : PostingsList). All (IsInRange c.args.bits c.range_for-range.result) (list_weights c.new-weigher.result.rule c.new-weigher.result.docs.now l) in
+    let P : PostingsList → Type 0 = λ (l : PostingsList). All (IsInRange c.args.bits c.range_for-range.result) (list_weights c.in_ok-weigher.weigher.rule c.in_ok-weigher.weigher.docs.now l) in
     let Q : List PostingsList → Type 0 = λ (l : List PostingsList). All P l in
     listed_all P c.args.collection.now.lists (lists_behind c.deref.result.now)
     (listed_is c.args.collection.now.lists c.as_slice-3.result.now c.in_ok-lists.lists.items c.deref.result.now c.as_slice-3.ensures c.deref.ensures.value c.in_ok-lists.ensures)
@@ -42,7 +42,7 @@ pub invariant_of-result : goal.invariant_of-result
 invariant_of-result c =
     let names : c.in_ok-names.names ≡ map (λ (d : DocRecord). d.name) c.args.collection.now.docs = c.in_ok-names.ensures ∙ ap (map (λ (d : DocRecord). d.name)) c.as_slice-4.ensures in
     let size : length c.in_ok-names.names ≡ length c.args.collection.now.docs = ap length names ∙ length-map c.args.collection.now.docs (λ (d : DocRecord). d.name) in
-    let docs : length c.new-weigher.result.docs.now ≡ length c.in_ok-names.names = ap length (c.new-weigher.ensures.docs ∙ c.as_slice.ensures) ∙ sym size in
+    let docs : length c.in_ok-weigher.weigher.docs.now ≡ length c.in_ok-names.names = ap length (c.in_ok-weigher.ensures.docs ∙ c.as_slice.ensures) ∙ sym size in
     let listed = listed_is c.args.collection.now.lists c.as_slice-3.result.now c.in_ok-lists.lists.items c.deref.result.now c.as_slice-3.ensures c.deref.ensures.value c.in_ok-lists.ensures in
     let few : length (lists_behind c.deref.result.now) ≤ length c.args.collection.now.lists = listed_shorter c.args.collection.now.lists (lists_behind c.deref.result.now) listed in
     let many : length c.in_ok-terms.terms ≡ length (lists_behind c.deref.result.now) = as_many c.in_ok-terms.terms (lists_behind c.deref.result.now) c.in_ok-terms.ensures.terms in
@@ -59,7 +59,7 @@ invariant_of-result c =
 
 pub returns-clause-flat : goal.returns-clause-flat
 returns-clause-flat c =
-    built_flat c.args.collection.now c.args.rule c.new-weigher.result.rule c.args.bits c.new-weigher.result.docs.now c.as_slice-2.result.now c.range_for-range.result (lists_behind c.deref.result.now) c.in_ok-terms.terms
-    c.new-weigher.ensures.rule (c.new-weigher.ensures.docs ∙ c.as_slice.ensures) c.as_slice-2.ensures c.range_for-range.ensures.same
+    built_flat c.args.collection.now c.args.rule c.in_ok-weigher.weigher.rule c.args.bits c.in_ok-weigher.weigher.docs.now c.as_slice-2.result.now c.range_for-range.result (lists_behind c.deref.result.now) c.in_ok-terms.terms
+    c.in_ok-weigher.ensures.rule (c.in_ok-weigher.ensures.docs ∙ c.as_slice.ensures) c.as_slice-2.ensures c.range_for-range.ensures.same
     (listed_is c.args.collection.now.lists c.as_slice-3.result.now c.in_ok-lists.lists.items c.deref.result.now c.as_slice-3.ensures c.deref.ensures.value c.in_ok-lists.ensures)
     c.in_ok-terms.ensures.entries

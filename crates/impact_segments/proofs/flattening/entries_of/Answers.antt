@@ -6,7 +6,6 @@ use Rattle.jass_base.specs.declared.term_segments.TermSegments.{TermSegments}
 use Rattle.ranking_model.specs.declared.entry.Entry.{Entry}
 use Rattle.ranking_model.specs.Flat.{IsFlat}
 use Rattle.impact_segments.specs.Held.{numbered_from}
-use Rattle.index_model.specs.Flat.{numbered_flat}
 use Rattle.index_model.specs.Views.{index_data}
 use Rattle.impact_segments.proofs.Data.{numbers_same}
 use Rattle.impact_segments.proofs.flattening.entries_of.Goals as goal

@@ -1,11 +1,11 @@
-use Rattle.std.proofs.Common.{◌≡◌, ℕ, ◌+◌, ◌*◌, ◌/◌, ◌^◌, ◌<◌, ◌≤◌, List, [], ◌∷◌, ◌++◌, length, sym, subst, append-nil, ap, ◌∙◌, arith}
-use Rattle.std.specs.Prelude.{All, Ok}
+use Rattle.std.proofs.Common.{◌≡◌, ℕ, ◌*◌, ◌/◌, ◌^◌, ◌<◌, ◌≤◌, List, [], ◌∷◌, ◌++◌, length, arith}
+use Rattle.std.specs.Prelude.{All}
 use Rattle.std.specs.List.{AllByRecursion}
 use Rattle.std.proofs.lemmas.List.Elements.{recursion_from_All}
-use Rattle.jass_base.specs.Gaps.{AreDocs, gaps_of, gaps_from}
+use Rattle.jass_base.specs.Gaps.{AreDocs, gaps_of}
 use Rattle.jass_base.specs.Wire.{short_varint}
 use Rattle.plain_codecs.specs.Bitmap.{bitmap_of, bitmap_size}
-use Rattle.segment_codecs.specs.Codecs.{payload_size, chosen_codec}
+use Rattle.segment_codecs.specs.Codecs.{payload_size}
 use Rattle.segment_codecs.specs.declared.codec.Codec.{Codec}
 use Rattle.segment_codecs.specs.declared.codec.Codec.TheVariants.{Varbyte, Packed, Bitmap, Simple8}
 use Rattle.segment_codecs.proofs.Sizes.{FewBytes, gaps_some, gaps_few, packed_some, words_some}
