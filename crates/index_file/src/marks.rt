@@ -47,6 +47,7 @@ fn mark_only(marks: &mut [u32], now: u32, bytes: &[u8], docs: u32, segment: Segm
 }
 
 /// The same for any payload, by its blocks.
+#[inline(never)]
 fn mark_blocks(marks: &mut [u32], now: u32, bytes: &[u8], docs: u32, segment: Segment) -> bool
     requires payload { IsPayload bytes.now docs segment }
     requires marks { docs ≤ length marks.old }
@@ -70,6 +71,7 @@ fn mark_blocks(marks: &mut [u32], now: u32, bytes: &[u8], docs: u32, segment: Se
 }
 
 /// The same for documents in a row.
+#[inline(never)]
 fn mark_docs(marks: &mut [u32], now: u32, docs: &[u32]) -> bool
     requires { All (λ doc. doc < length marks.old) docs.now }
     ensures met { result ≡ meets_marked now docs.now marks.old }

@@ -12,6 +12,7 @@ use std::alloc::Global;
 
 /// Checks the payloads of all segments, notes where each begins, and gives the place behind the
 /// last. Meanwhile it takes four bytes for each document.
+#[inline(never)]
 pub(crate) fn read_payloads(
     alloc: Global,
     bytes: &[u8],
