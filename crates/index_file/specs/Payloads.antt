@@ -13,6 +13,10 @@ use Rattle.index_file.specs.Tables.{row_head}
 unfoldable pub row_segment : List ℕ → ℕ → Segment → SegmentData
 row_segment bytes d s = record { impact = s.impact; docs = docs_in bytes d (row_head s) s.place }
 
+-- a row with its payload at a place
+abbrev pub placed : Segment → ℕ → Segment
+placed s at = record { impact = s.impact; codec = s.codec; count = s.count; size = s.size; place = at }
+
 -- the payload of a row lies in the bytes, and spells its documents
 pub record IsPayload (bytes : List ℕ) (d : ℕ) (s : Segment) : Type 0 where
   pub within : s.place + s.size ≤ length bytes

@@ -10,6 +10,7 @@ use index_layout::OpenFault;
 use jass_base::Row;
 
 /// Appends the heads of a term, so many from a place on, and gives the place behind them.
+#[inline(never)]
 pub(crate) fn read_heads(
     segments: &mut Row<Segment>,
     bytes: &[u8],

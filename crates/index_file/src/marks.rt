@@ -10,13 +10,14 @@ use jass_base::laws::gap_varints_are_read;
 use segment_codecs::{Codec, SegmentCursor};
 
 /// Marks the documents of a payload in turn, up to the first that has the mark already, and tells
-/// whether there is one.
+/// whether there is one. What is left in the block is of no use.
 pub(crate) fn mark_payload(
     marks: &mut [u32],
     now: u32,
     bytes: &[u8],
     docs: u32,
     segment: Segment,
+    block: &mut [u32; 128],
 ) -> bool
     requires payload { IsPayload bytes.now docs segment }
     requires marks { docs ≤ length marks.old }
@@ -26,7 +27,7 @@ pub(crate) fn mark_payload(
 {
     match segment.codec {
         Codec::Varbyte if segment.count == 1 => mark_only(marks, now, bytes, docs, segment),
-        _ => mark_blocks(marks, now, bytes, docs, segment),
+        _ => mark_blocks(marks, now, bytes, docs, segment, block),
     }
 }
 
@@ -47,7 +48,15 @@ fn mark_only(marks: &mut [u32], now: u32, bytes: &[u8], docs: u32, segment: Segm
 }
 
 /// The same for any payload, by its blocks.
-fn mark_blocks(marks: &mut [u32], now: u32, bytes: &[u8], docs: u32, segment: Segment) -> bool
+#[inline(never)]
+fn mark_blocks(
+    marks: &mut [u32],
+    now: u32,
+    bytes: &[u8],
+    docs: u32,
+    segment: Segment,
+    block: &mut [u32; 128],
+) -> bool
     requires payload { IsPayload bytes.now docs segment }
     requires marks { docs ≤ length marks.old }
     ensures met { result ≡ meets_marked now (docs_in bytes.now docs (row_head segment) segment.place) marks.old }
@@ -57,10 +66,9 @@ fn mark_blocks(marks: &mut [u32], now: u32, bytes: &[u8], docs: u32, segment: Se
     let from = segment.place as usize;
     let payload = &bytes[from..from + segment.size as usize];
     let mut cursor = SegmentCursor::new(segment.codec, segment.count, docs);
-    let mut block = [0u32; 128];
     let mut left = segment.count as usize;
     'parts: while left > 0 {
-        let given = cursor.next_block(payload, &mut block);
+        let given = cursor.next_block(payload, block);
         if mark_docs(marks, now, &block[..given]) {
             return true;
         }
@@ -70,6 +78,7 @@ fn mark_blocks(marks: &mut [u32], now: u32, bytes: &[u8], docs: u32, segment: Se
 }
 
 /// The same for documents in a row.
+#[inline(never)]
 fn mark_docs(marks: &mut [u32], now: u32, docs: &[u32]) -> bool
     requires { All (λ doc. doc < length marks.old) docs.now }
     ensures met { result ≡ meets_marked now docs.now marks.old }

@@ -9,6 +9,7 @@ use jass_base::Row;
 use std::alloc::Global;
 
 /// The places of so many names behind the first 40 bytes, and the place behind the last.
+#[inline(never)]
 pub(crate) fn read_names(
     alloc: Global,
     bytes: &[u8],

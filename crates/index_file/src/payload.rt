@@ -1,8 +1,8 @@
-ghost use Rattle.std.specs.Prelude.{ℕ, ◌≡◌, ◌≤◌, ◌+◌, ◌^◌, ◌++◌, List, [], length, IfOk};
+ghost use Rattle.std.specs.Prelude.{ℕ, ◌≡◌, ◌≤◌, ◌<◌, ◌+◌, ◌^◌, ◌++◌, List, [], length, IfOk};
 ghost use Rattle.index_layout.specs.Reading.{docs_in, payload_end};
 ghost use Rattle.index_layout.specs.Refusals.{Answers};
 ghost use Rattle.index_file.specs.Marks.{AreMarks};
-ghost use Rattle.index_file.specs.Payloads.{IsPayload};
+ghost use Rattle.index_file.specs.Payloads.{IsPayload, placed};
 ghost use Rattle.index_file.specs.Tables.{row_head};
 
 use crate::marks::mark_payload;
@@ -11,21 +11,20 @@ use index_layout::{OpenFault, OpenWhy, refused};
 use segment_codecs::check;
 use segment_codecs::laws::{payloads_are_read, payloads_have_few_bytes};
 
-/// The segment with its payload at a place, where that is one.
+/// Checks that the payload of a segment is at a place.
 pub(crate) fn check_payload(
     bytes: &[u8],
     docs: u32,
     segment: Segment,
     at: usize,
-) -> Result<Segment, OpenFault>
+) -> Result<(), OpenFault>
     requires at { at ≤ length bytes.now }
     requires few { length bytes.now ≤ 2 ^ 32 }
     requires docs { docs ≤ 2 ^ 26 }
     requires counted { (1 ≤ segment.count) × (segment.count ≤ docs) }
-    ensures exact { Answers (λ s. s.place + s.size) result (payload_end bytes.now docs [] (row_head segment) at) }
-    ensures head { IfOk result (λ s. row_head s ≡ row_head segment) }
-    ensures place { IfOk result (λ s. s.place ≡ at) }
-    ensures payload { IfOk result (IsPayload bytes.now docs) }
+    ensures exact { Answers (λ _. at + segment.size) result (payload_end bytes.now docs [] (row_head segment) at) }
+    ensures place { IfOk result (λ _. at < 2 ^ 32) }
+    ensures payload { IfOk result (λ _. IsPayload bytes.now docs (placed segment at)) }
 {
     payloads_are_read();
     payloads_have_few_bytes();
@@ -34,13 +33,7 @@ pub(crate) fn check_payload(
         return Err(refused(at, OpenWhy::Length));
     }
     match check(segment.codec, &bytes[at..at + size], segment.count, docs) {
-        Ok(()) => Ok(Segment {
-            impact: segment.impact,
-            codec: segment.codec,
-            count: segment.count,
-            size: segment.size,
-            place: at as u32,
-        }),
+        Ok(()) => Ok(()),
         Err(fault) => Err(refused(at, OpenWhy::Payload(fault))),
     }
 }
@@ -54,27 +47,43 @@ pub(crate) fn check_apart(
     at: usize,
     marks: &mut [u32],
     now: u32,
-) -> Result<Segment, OpenFault>
+    block: &mut [u32; 128],
+) -> Result<(), OpenFault>
     requires at { at ≤ length bytes.now }
     requires few { length bytes.now ≤ 2 ^ 32 }
     requires docs { docs ≤ 2 ^ 26 }
     requires counted { (1 ≤ segment.count) × (segment.count ≤ docs) }
     requires marks { docs ≤ length marks.old }
     ensures exact { (earlier : List ℕ) → AreMarks now earlier marks.old
-        → Answers (λ s. s.place + s.size) result (payload_end bytes.now docs earlier (row_head segment) at) }
-    ensures marks { IfOk result (λ s. (earlier : List ℕ) → AreMarks now earlier marks.old
-        → AreMarks now (earlier ++ docs_in bytes.now docs (row_head s) s.place) marks.new) }
+        → Answers (λ _. at + segment.size) result (payload_end bytes.now docs earlier (row_head segment) at) }
+    ensures marks { IfOk result (λ _. (earlier : List ℕ) → AreMarks now earlier marks.old
+        → AreMarks now (earlier ++ docs_in bytes.now docs (row_head segment) at) marks.new) }
     ensures count { IfOk result (λ _. length marks.new ≡ length marks.old) }
-    ensures head { IfOk result (λ s. row_head s ≡ row_head segment) }
-    ensures place { IfOk result (λ s. s.place ≡ at) }
-    ensures payload { IfOk result (IsPayload bytes.now docs) }
+    ensures place { IfOk result (λ _. at < 2 ^ 32) }
+    ensures payload { IfOk result (λ _. IsPayload bytes.now docs (placed segment at)) }
 {
-    let read = match check_payload(bytes, docs, segment, at) {
-        Ok(read) => read,
+    match check_payload(bytes, docs, segment, at) {
+        Ok(()) => {}
         Err(fault) => return Err(fault),
-    };
-    if mark_payload(marks, now, bytes, docs, read) {
+    }
+    let read = placed(segment, at);
+    if mark_payload(marks, now, bytes, docs, read, block) {
         return Err(refused(at, OpenWhy::DocTwice));
     }
-    Ok(read)
+    Ok(())
+}
+
+/// The segment with its payload at a place.
+#[inline(always)]
+pub(crate) fn placed(segment: Segment, at: usize) -> Segment
+    requires { at < 2 ^ 32 }
+    ensures { result ≡ placed segment at }
+{
+    Segment {
+        impact: segment.impact,
+        codec: segment.codec,
+        count: segment.count,
+        size: segment.size,
+        place: at as u32,
+    }
 }

@@ -12,6 +12,7 @@ use std::alloc::Global;
 
 /// Checks the payloads of all segments, notes where each begins, and gives the place behind the
 /// last. Meanwhile it takes four bytes for each document.
+#[inline(never)]
 pub(crate) fn read_payloads(
     alloc: Global,
     bytes: &[u8],
@@ -38,11 +39,22 @@ pub(crate) fn read_payloads(
         Err(_) => return Err(OpenFault::NoMemory),
     };
     let marks = table.as_mut_slice();
+    let mut block = [0u32; 128];
     let mut at = from;
     'terms: for i in 0..rows.len() - 1 {
         let first = rows[i].segment;
         let last = rows[i + 1].segment;
-        at = match read_between(bytes, docs, segments, first, last, marks, i as u32 + 1, at) {
+        at = match read_between(
+            bytes,
+            docs,
+            segments,
+            first,
+            last,
+            marks,
+            i as u32 + 1,
+            at,
+            &mut block,
+        ) {
             Ok(end) => end,
             Err(fault) => return Err(fault),
         };
@@ -60,6 +72,7 @@ fn read_between(
     marks: &mut [u32],
     now: u32,
     from: usize,
+    block: &mut [u32; 128],
 ) -> Result<usize, OpenFault>
     requires few { length bytes.now ≤ 2 ^ 32 }
     requires docs { docs ≤ 2 ^ 26 }
@@ -80,5 +93,5 @@ fn read_between(
     ensures marks { IfOk result (λ _. (docs ≤ length marks.new) × All (λ mark. mark ≤ now) marks.new) }
 {
     let part = &mut segments[first as usize..last as usize];
-    read_term_payloads(bytes, docs, part, marks, now, from)
+    read_term_payloads(bytes, docs, part, marks, now, from, block)
 }

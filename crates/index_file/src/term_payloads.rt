@@ -4,7 +4,7 @@ ghost use Rattle.index_layout.specs.Refusals.{Answers};
 ghost use Rattle.index_file.specs.Payloads.{IsCounted, IsPayload, row_segment};
 ghost use Rattle.index_file.specs.Tables.{row_head};
 
-use crate::payload::{check_apart, check_payload};
+use crate::payload::{check_apart, check_payload, placed};
 use crate::segment::Segment;
 use index_layout::OpenFault;
 
@@ -17,6 +17,7 @@ pub(crate) fn read_term_payloads(
     marks: &mut [u32],
     now: u32,
     from: usize,
+    block: &mut [u32; 128],
 ) -> Result<usize, OpenFault>
     requires few { length bytes.now ≤ 2 ^ 32 }
     requires docs { docs ≤ 2 ^ 26 }
@@ -35,7 +36,7 @@ pub(crate) fn read_term_payloads(
         // A segment alone shares no document with an earlier one.
         return read_only(bytes, docs, segments, from);
     }
-    read_apart(bytes, docs, segments, marks, now, from)
+    read_apart(bytes, docs, segments, marks, now, from, block)
 }
 
 /// The same for a term of one segment.
@@ -57,12 +58,13 @@ fn read_only(
     ensures payloads { IfOk result (λ _. All (IsPayload bytes.now docs) segments.new) }
     ensures end { IfOk result (λ end. end ≤ length bytes.now) }
 {
-    let read = match check_payload(bytes, docs, segments[0], from) {
-        Ok(read) => read,
+    let segment = segments[0];
+    match check_payload(bytes, docs, segment, from) {
+        Ok(()) => {}
         Err(fault) => return Err(fault),
-    };
-    segments[0] = read;
-    Ok(from + read.size as usize)
+    }
+    segments[0] = placed(segment, from);
+    Ok(from + segment.size as usize)
 }
 
 /// The same for any number of segments, whose documents are marked as they are met.
@@ -73,6 +75,7 @@ fn read_apart(
     marks: &mut [u32],
     now: u32,
     from: usize,
+    block: &mut [u32; 128],
 ) -> Result<usize, OpenFault>
     requires few { length bytes.now ≤ 2 ^ 32 }
     requires docs { docs ≤ 2 ^ 26 }
@@ -89,12 +92,13 @@ fn read_apart(
 {
     let mut at = from;
     'segments: for i in 0..segments.len() {
-        let read = match check_apart(bytes, docs, segments[i], at, marks, now) {
-            Ok(read) => read,
+        let segment = segments[i];
+        match check_apart(bytes, docs, segment, at, marks, now, block) {
+            Ok(()) => {}
             Err(fault) => return Err(fault),
-        };
-        segments[i] = read;
-        at += read.size as usize;
+        }
+        segments[i] = placed(segment, at);
+        at += segment.size as usize;
     }
     Ok(at)
 }

@@ -15,6 +15,7 @@ use std::alloc::Global;
 
 /// The text of so many terms, their rows and the heads of their segments, and the place behind the
 /// last. The text and the segments have fewer than 2^32 entries; a file with more wants memory.
+#[inline(never)]
 pub(crate) fn read_terms(
     alloc: Global,
     bytes: &[u8],

@@ -1,11 +1,11 @@
-use Rattle.std.proofs.Common.{◌<◌, ◌+◌, [], ◌∷◌, ◌++◌, All, length, map, take, drop, slice_index_or, slice_set, ap, sym, subst, ◌∙◌, arith}
+use Rattle.std.proofs.Common.{◌≡◌, ◌<◌, ◌+◌, [], ◌++◌, All, length, map, take, drop, slice_index_or, slice_set, ap, sym, subst, ◌∙◌, arith}
 use Rattle.std.specs.List.{flat_map}
 use Rattle.std.proofs.lemmas.List.Elements.{All-push}
 use Rattle.segment_codecs.specs.declared.codec.Codec.TheVariants.{Varbyte}
 use Rattle.index_layout.specs.Reading.{read_segments}
 use Rattle.index_file.specs.declared.segment.Segment.{Segment}
 use Rattle.index_file.specs.Marks.{AreMarks}
-use Rattle.index_file.specs.Payloads.{IsPayload, row_segment}
+use Rattle.index_file.specs.Payloads.{IsPayload, placed, row_segment}
 use Rattle.index_file.specs.Tables.{row_head}
 use Rattle.index_file.proofs.SegmentLists.{docs_there, with_segments, segments_on, marks_on, row_counted, row_read, rows_left}
 use Rattle.index_file.proofs.term_payloads.read_apart.Goals as goal
@@ -23,9 +23,12 @@ segments-preserved c =
     let rows = c.segments.segments in
     let i = c.segments.i in
     let at = c.segments.at in
-    let s = c.in-Ok.read in
+    let s = c.placed.result in
     let blank : Segment = record { impact = 0; codec = Varbyte; count = 0; size = 0; place = 0 } in
     let row = slice_index_or rows i blank in
+    let here : s ≡ placed row at = c.placed.ensures in
+    let head : row_head s ≡ row_head row = ap row_head here in
+    let place : s.place ≡ at = ap (λ (x : Segment). x.place) here in
     let front = take i rows in
     let rest = drop (i + 1) rows in
     let new = slice_set rows i s in
@@ -35,18 +38,18 @@ segments-preserved c =
     let inside : i < length rows = omega (arith, test, many) in
     let total = read_segments bytes d [] (map row_head c.args.segments.now) c.args.from in
     let earlier = flat_map (docs_there bytes d) front in
-    let after = row_read bytes d rows i s blank inside c.in-Ok.ensures.head in
+    let after = row_read bytes d rows i s blank inside head in
     let is = stands.read ∙ ap (λ left. with_segments (map (row_segment bytes d) front) (read_segments bytes d earlier (map row_head left) at)) (rows_left rows i blank inside) in
-    let on = segments_on bytes d total front rest row s at (s.place + s.size) is c.in-Ok.ensures.head c.in-Ok.ensures.place (c.in-Ok.ensures.exact earlier stands.marks) in
-    let marked = marks_on bytes d total front rest row s at (s.place + s.size) is c.in-Ok.ensures.head c.in-Ok.ensures.place c.args.now c.check_apart.new.marks (c.in-Ok.ensures.marks earlier stands.marks) in
+    let on = segments_on bytes d total front rest row s at (at + row.size) is head place (c.in-Ok.ensures.exact earlier stands.marks) in
+    let met = subst (λ (x : Segment). AreMarks c.args.now (earlier ++ docs_there bytes d x) c.check_apart.new.marks) (sym here) (c.in-Ok.ensures.marks earlier stands.marks) in
+    let marked = marks_on bytes d total front rest row s at (at + row.size) is head place c.args.now c.check_apart.new.marks met in
     record {
       read = on
-          ∙ ap (λ n. with_segments (map (row_segment bytes d) (front ++ s ∷ [])) (read_segments bytes d (flat_map (docs_there bytes d) (front ++ s ∷ [])) (map row_head rest) (n + s.size))) c.in-Ok.ensures.place
-          ∙ ap (λ done. with_segments (map (row_segment bytes d) done) (read_segments bytes d (flat_map (docs_there bytes d) done) (map row_head rest) (at + s.size))) (sym after.front)
-          ∙ ap (λ left. with_segments (map (row_segment bytes d) (take (i + 1) new)) (read_segments bytes d (flat_map (docs_there bytes d) (take (i + 1) new)) (map row_head left) (at + s.size))) (sym after.rest);
+          ∙ ap (λ done. with_segments (map (row_segment bytes d) done) (read_segments bytes d (flat_map (docs_there bytes d) done) (map row_head rest) (at + row.size))) (sym after.front)
+          ∙ ap (λ left. with_segments (map (row_segment bytes d) (take (i + 1) new)) (read_segments bytes d (flat_map (docs_there bytes d) (take (i + 1) new)) (map row_head left) (at + row.size))) (sym after.rest);
       heads = after.heads ∙ stands.heads;
-      payloads = subst (All (IsPayload bytes d)) (sym after.front) (All-push (IsPayload bytes d) front s stands.payloads c.in-Ok.ensures.payload);
+      payloads = subst (All (IsPayload bytes d)) (sym after.front) (All-push (IsPayload bytes d) front s stands.payloads (subst (IsPayload bytes d) (sym here) c.in-Ok.ensures.payload));
       marks = subst (λ done. AreMarks c.args.now (flat_map (docs_there bytes d) done) c.check_apart.new.marks) (sym after.front) marked;
       count = (let l = c.in-Ok.ensures.count in let m = stands.count in omega (arith, l, m));
-      at = (let within = c.in-Ok.ensures.payload.within in let place = c.in-Ok.ensures.place in omega (arith, within, place));
+      at = c.in-Ok.ensures.payload.within;
     }

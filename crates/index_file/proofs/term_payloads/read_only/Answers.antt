@@ -1,5 +1,9 @@
-use Rattle.std.proofs.Common.{refl, arith}
+use Rattle.std.proofs.Common.{◌≡◌, ◌+◌, [], Ok, map, slice_index_or, slice_set, refl, sym, subst, arith}
 use Rattle.segment_codecs.specs.declared.codec.Codec.TheVariants.{Varbyte}
+use Rattle.index_layout.specs.Reading.{read_segments}
+use Rattle.index_file.specs.declared.segment.Segment.{Segment}
+use Rattle.index_file.specs.Payloads.{placed, row_segment}
+use Rattle.index_file.specs.Tables.{row_head}
 use Rattle.index_file.proofs.SegmentLists.{row_counted, only_segment}
 use Rattle.index_file.proofs.term_payloads.read_only.Goals as goal
 
@@ -10,4 +14,12 @@ check_payload-requires-clause-counted c =
 
 pub returns-clause-exact : goal.returns-clause-exact
 returns-clause-exact c =
-    only_segment c.args.bytes.now c.args.docs c.args.segments.now c.in-Ok.read (record { impact = 0; codec = Varbyte; count = 0; size = 0; place = 0 }) c.args.from c.requires.one c.in-Ok.ensures.head c.in-Ok.ensures.place c.in-Ok.ensures.exact
+    let bytes = c.args.bytes.now in
+    let d = c.args.docs in
+    let rows = c.args.segments.now in
+    let at = c.args.from in
+    let blank : Segment = record { impact = 0; codec = Varbyte; count = 0; size = 0; place = 0 } in
+    let row = slice_index_or rows 0 blank in
+    let read : read_segments bytes d [] (map row_head rows) at ≡ Ok (record { segments = map (row_segment bytes d) (slice_set rows 0 (placed row at)); end = at + row.size })
+    = only_segment bytes d rows (placed row at) blank at c.requires.one refl refl c.in-Ok.ensures.exact in
+    subst (λ (s : Segment). read_segments bytes d [] (map row_head rows) at ≡ Ok (record { segments = map (row_segment bytes d) (slice_set rows 0 s); end = at + row.size })) (sym c.placed.ensures) read
