@@ -1,2 +1,4 @@
 pub mod Segments
 pub mod Totals
+pub mod Standing
+pub mod Gathering

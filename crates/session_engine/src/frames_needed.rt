@@ -30,9 +30,6 @@ fn counted(index: &IndexFile, term: u32, count: u32, limit: u32) -> u32
 {
     let mut sum = count;
     for segment in 0..index.segments(term) {
-        if sum == limit {
-            break;
-        }
         sum = sum.saturating_add(index.head(term, segment).count).min(limit);
     }
     sum

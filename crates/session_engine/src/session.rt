@@ -124,7 +124,8 @@ impl Session {
         self.granted = granted_with(self.granted, budget);
         let before = self.report.postings;
         let to = self.scored + self.plan.within(self.scored, self.granted - before);
-        let terms = self.query.terms.as_slice();
+        let query = &self.query;
+        let terms = query.terms.as_slice();
         let more = score_entries(&mut self.scores, index, pool, terms, &self.plan, self.scored, to, steps);
         self.scores.settle(pool);
         self.scored = to;
