@@ -1,17 +1,19 @@
 -- The plan of a query over an index file, and what it needs of a pool of frames.
-use Rattle.std.specs.Prelude.{ℕ, suc, ◌≡◌, ◌<◌, ◌≤◌, min, All, List, [], ◌∷◌, ◌++◌, length, sum_by, false}
+use Rattle.std.specs.Prelude.{ℕ, suc, ◌≡◌, ◌<◌, ◌≤◌, min, All, List, [], ◌∷◌, ◌++◌, length, slice_get, sum_by, Some, false}
 use Rattle.std.specs.List.{slice_index_or}
 use Rattle.jass_base.specs.declared.named.Named.{Named}
 use Rattle.ranking_model.specs.declared.class.Class.{Class}
 use Rattle.ranking_model.specs.declared.plan.QueryPlan.{QueryPlan}
 use Rattle.ranking_model.specs.Plan.{plan_of, size_of_first}
-use Rattle.index_model.specs.Index.{SegmentData, TermData, IndexData}
+use Rattle.ranking_model.specs.Postings.{AreTerms}
+use Rattle.index_model.specs.Index.{SegmentData, TermData, IndexData, IsIndex}
 use Rattle.index_model.specs.Flat.{numbered_flat}
 use Rattle.index_model.specs.Querying.{segments_at}
 use Rattle.index_layout.specs.View.{FileView}
 use Rattle.index_file.specs.Places.{segment_at}
 use Rattle.segment_plan.specs.declared.entry.PlanEntry.{PlanEntry}
 use Rattle.segment_plan.specs.declared.entry.PlanHead.{PlanHead}
+use Rattle.segment_plan.specs.Entries.{plan_with}
 use Rattle.accumulator_pages.specs.Adding.{page_count}
 use Rattle.frame_pool.specs.Pool.{PoolView, all_in_use}
 
@@ -71,6 +73,13 @@ pub record NamesSegment (index : IndexData) (terms : List Named) (entry : PlanEn
   pub count : entry.count ≡ length (docs_named index terms entry)
   pub some : 1 ≤ entry.count
   pub weight : 1 ≤ entry.weight
+
+-- the plan of a query with known terms over the file has this entry at a place
+pub record HasEntry (file : FileView) (terms : List Named) (n : ℕ) (entry : PlanEntry) : Type 0 where
+  pub index : IsIndex file.index
+  pub named : AreTerms terms
+  pub known : AreKnown file terms
+  pub at : slice_get (plan_with terms (query_heads file.index terms)).entries n ≡ Some entry
 
 -- the number of postings of the term with a number
 abbrev pub postings_at : List TermData → ℕ → ℕ

@@ -7,13 +7,13 @@ ghost use Rattle.session_scores.specs.Scores.{AreScoresOf, own_chain};
 ghost use Rattle.session_engine.specs.Plans.{need_of, session_plan};
 ghost use Rattle.session_engine.specs.Standing.{IsPlanned, ScoredTo};
 
-use crate::laws::{a_session_plan_is_small, a_session_plan_names_its_segments};
+use crate::laws::{a_session_plan_is_small, a_session_plan_names_its_segments, one_entry_more_is_scored};
 use crate::scoring::{WeighedSegment, score_segment};
 use frame_pool::FramePool;
 use frame_pool::laws::calls_on_one_chain;
 use index_file::IndexFile;
 use jass_base::{Named, Steps};
-use ranking_model::prefix_laws::{a_prefix_is_resumed, one_class_more_is_added, scores_stay_small};
+use ranking_model::prefix_laws::scores_stay_small;
 use segment_plan::Plan;
 use session_scores::Scores;
 use std::sync::ledger::Ledger;
@@ -44,9 +44,8 @@ pub fn score_entries<L: Ledger>(
     index.is_checked();
     a_session_plan_names_its_segments();
     a_session_plan_is_small();
-    one_class_more_is_added();
+    one_entry_more_is_scored();
     scores_stay_small();
-    a_prefix_is_resumed();
     calls_on_one_chain();
     let mut block = [0u32; 128];
     let mut postings: u64 = 0;

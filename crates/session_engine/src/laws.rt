@@ -1,22 +1,24 @@
 //! Laws of sessions, and of the plans that they follow. Each function does nothing of its own: its contract is the law,
 //! and a caller learns it by the call.
 
-ghost use Rattle.std.specs.Prelude.{◌≡◌, ◌≢◌, ℕ, ◌≤◌, List, All, length, map};
+ghost use Rattle.std.specs.Prelude.{◌≡◌, ◌≢◌, ℕ, ◌+◌, ◌≤◌, List, All, length, map, replicate};
 ghost use Rattle.std.specs.List.{AllByRecursion};
 ghost use Rattle.jass_base.specs.declared.named.Named.{Named};
 ghost use Rattle.ranking_model.specs.Limits.{IsSmall};
-ghost use Rattle.ranking_model.specs.Plan.{prefix_within};
+ghost use Rattle.ranking_model.specs.Plan.{prefix_within, size_of_first};
 ghost use Rattle.ranking_model.specs.Postings.{AreTerms, weighted_postings};
 ghost use Rattle.ranking_model.specs.Promises.{IsPromised};
 ghost use Rattle.ranking_model.specs.Report.{IsReport};
+ghost use Rattle.ranking_model.specs.Scores.{added, scores_after};
 ghost use Rattle.index_model.specs.Flat.{numbered_flat};
 ghost use Rattle.index_model.specs.Index.{IsIndex};
 ghost use Rattle.index_layout.specs.View.{FileView, IsFileView};
+ghost use Rattle.segment_plan.specs.declared.entry.PlanEntry.{PlanEntry};
 ghost use Rattle.segment_plan.specs.Entries.{AreHeads, plan_with};
 ghost use Rattle.segment_plan.specs.Shape.{HasShape};
 ghost use Rattle.frame_pool.specs.ChainView.{LeavesOthers, chain_view};
 ghost use Rattle.frame_pool.specs.Pool.{IsInUse, PoolView};
-ghost use Rattle.session_engine.specs.Plans.{AreKnown, NamesSegment, class_named, need_of, plan_postings, postings_of_terms, query_heads, session_plan};
+ghost use Rattle.session_engine.specs.Plans.{AreKnown, HasEntry, NamesSegment, class_named, docs_named, need_of, plan_postings, postings_of_terms, query_heads, session_plan};
 ghost use Rattle.session_engine.specs.Standing.{SessionStands, answer_over, chain_of, granted_of, k_of, plan_over, prefix_of, report_of, terms_of};
 ghost use Rattle.session_engine.specs.declared.session.Session.{Session};
 
@@ -24,7 +26,9 @@ use final_certificate::laws::a_prefix_has_one_report;
 use index_model::laws::{a_query_weighs_its_segments, the_flat_list_is_flat, the_plan_has_the_named_segments};
 use ranking_model::laws::{
     a_plan_has_the_classes_of_its_postings, plans_are_small, reports_keep_their_promises, the_classes_have_all_postings,
+    the_prefix_is_the_longest,
 };
+use ranking_model::prefix_laws::{a_prefix_is_resumed, one_class_more_is_added};
 use session_scores::laws::calls_on_other_chains_leave_scores;
 
 /// The classes of a query's plan are the segments that the entries of its arranged heads name.
@@ -47,6 +51,38 @@ pub fn a_session_plan_names_its_segments()
 {
     a_plan_has_the_classes_of_its_postings();
     the_plan_has_the_named_segments();
+}
+
+/// An entry of the arranged heads names a segment of the index, whose postings are the next class of the plan.
+pub fn one_entry_more_is_scored()
+    ensures names { (file : FileView) (terms : List Named) (n : ℕ) (entry : PlanEntry) →
+        HasEntry file terms n entry → NamesSegment file.index terms entry }
+    ensures scores { (file : FileView) (terms : List Named) (n : ℕ) (entry : PlanEntry) →
+        HasEntry file terms n entry →
+        scores_after (n + 1) (session_plan file terms)
+            ≡ added entry.weight (docs_named file.index terms entry) (scores_after n (session_plan file terms)) }
+    ensures size { (file : FileView) (terms : List Named) (n : ℕ) (entry : PlanEntry) → HasEntry file terms n entry →
+        size_of_first (n + 1) (session_plan file terms).classes
+            ≡ size_of_first n (session_plan file terms).classes + entry.count }
+    ensures most { (file : FileView) (terms : List Named) (n : ℕ) →
+        size_of_first n (session_plan file terms).classes ≤ plan_postings (session_plan file terms) }
+{
+    a_session_plan_names_its_segments();
+    one_class_more_is_added();
+    a_prefix_is_resumed();
+}
+
+/// Without a grant nothing is scored.
+#[tactic(auto, unfolding(crate::specs::Plans::session_plan))]
+pub fn nothing_is_scored_at_first()
+    ensures prefix { (file : FileView) (terms : List Named) →
+        IsIndex file.index → AreTerms terms → AreKnown file terms →
+        prefix_within 0 (session_plan file terms).classes ≡ 0 }
+    ensures scores { (file : FileView) (terms : List Named) →
+        scores_after 0 (session_plan file terms) ≡ replicate (length file.index.names) 0 }
+{
+    a_session_plan_names_its_segments();
+    the_prefix_is_the_longest();
 }
 
 /// The numbers of a query's plan fit their types.

@@ -10,6 +10,7 @@ use frame_pool::FramePool;
 use frame_pool::laws::calls_on_one_chain;
 use index_file::IndexFile;
 use jass_base::Steps;
+use ranking_model::prefix_laws::{one_class_more_is_added, scores_stay_small};
 use session_scores::Scores;
 use std::sync::ledger::Ledger;
 
@@ -87,8 +88,10 @@ fn score_blocks<L: Ledger>(
     ensures steps { steps.new ≡ steps.old + segment.count }
 {
     calls_on_one_chain();
+    one_class_more_is_added();
+    scores_stay_small();
     let mut cursor = index.cursor(segment.term, segment.segment);
-    'blocks: loop {
+    'pieces: loop {
         let given = index.next_block(&mut cursor, block, steps);
         if given == 0 {
             return;

@@ -8,7 +8,7 @@ ghost use Rattle.session_engine.specs.Standing.{IsPlanned, IsSessionOf, SessionS
 
 use crate::entries::score_entries;
 use crate::heads::query_heads;
-use crate::laws::{a_session_plan_is_small, a_session_plan_names_its_segments};
+use crate::laws::{a_session_plan_names_its_segments, nothing_is_scored_at_first};
 use crate::frames_needed::need;
 use crate::reporting::report_at;
 use crate::stop::OpenStop;
@@ -67,6 +67,9 @@ impl Session {
             → IfErr result (λ stop. stop ≡ OpenStop.NoMemory) }
         ensures refused { OnErr result (pool.new ≡ pool.old) }
     {
+        a_session_plan_names_its_segments();
+        nothing_is_scored_at_first();
+        index.is_checked();
         let need = need(index, &query);
         let free = pool.spare();
         if need > free {

@@ -1,22 +1,21 @@
-use Rattle.std.proofs.Common.{rules, ◌≡◌, ◌+◌, ◌≤◌, min, ℕ, ◌-◌, ◌*◌, ◌<◌, length, ◌/◌, ◌%◌, Bool, true, false, nat_eq, nat_lt, List, [], ◌∷◌, ◌++◌, slice_index_or, slice_set, bit_and, bit_or, Fits, w8, w32, w64, Bor, MutBor}
+use Rattle.std.proofs.Common.{◌≡◌, ◌∙◌, ◌+◌, arith, ap, ap₂, sym, min, length}
 use Rattle.accumulator_pages.specs.Adding.{page_count}
-use Rattle.index_layout.specs.View.{term_postings}
-use Rattle.index_model.specs.Querying.{segments_at}
-use Rattle.session_engine.specs.Plans.{AreKnown, need_of, postings_at}
+use Rattle.jass_base.specs.declared.named.Named.{Named}
+use Rattle.session_engine.specs.Plans.{postings_at, postings_of_terms}
+use Rattle.session_engine.proofs.Gathering.{counted_all, no_term, sum_step}
 use Rattle.session_engine.proofs.frames_needed.need.Goals as goal
 
--- src/frames_needed.rt:20:5
-pub loop-named-init : goal.loop-named-init
-loop-named-init c = ?
-
--- src/frames_needed.rt:21:9
-pub counted-count-requires : goal.counted-count-requires
-counted-count-requires c = ?
-
--- src/frames_needed.rt:20:5
 pub loop-named-preserved : goal.loop-named-preserved
-loop-named-preserved c = ?
+loop-named-preserved c =
+    let terms = c.args.index.now.index.terms in
+    (omega (arith, c.counted-count.ensures),
+    sum_step (λ (n : Named). postings_at terms n.term) c.as_slice-named-items.result.now c.loop-named.named-index c.div_ceil-pages.result c.loop-named.count c.counted-count.result
+    (postings_of_terms terms c.as_slice-named-items.result.now) no_term c.loop-named-test.true c.counted-count.ensures c.loop-named.invariant.1)
 
--- src/frames_needed.rt:13:1
 pub returns : goal.returns
-returns c = ?
+returns c =
+    let terms = c.args.index.now.index.terms in
+    counted_all (λ (n : Named). postings_at terms n.term) c.as_slice-named-items.result.now c.loop-named.named-index c.loop-named.count c.div_ceil-pages.result (postings_of_terms terms c.as_slice-named-items.result.now)
+    c.loop-named-test.false c.loop-named.invariant.0 c.loop-named.invariant.1
+    ∙ ap₂ min (c.div_ceil-pages.ensures ∙ ap page_count c.docs.ensures)
+    (ap (postings_of_terms terms) c.as_slice-named-items.ensures ∙ sym (c.a_session_plan_has_its_postings.ensures c.args.index.now c.args.query.now.terms))

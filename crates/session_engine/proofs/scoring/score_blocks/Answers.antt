@@ -1,64 +1,45 @@
-use Rattle.std.proofs.Common.{rules, ℕ, ◌≡◌, ◌+◌, ◌<◌, ◌≤◌, ◌^◌, All, length, ◌-◌, ◌*◌, ◌/◌, ◌%◌, Bool, true, false, nat_eq, nat_lt, List, [], ◌∷◌, ◌++◌, slice_index_or, slice_set, bit_and, bit_or, Fits, w8, w32, w64, Bor, MutBor}
-use Rattle.accumulator_pages.specs.Pages.{HasRoomFor}
-use Rattle.frame_pool.specs.ChainView.{LeavesPool}
-use Rattle.index_file.specs.Places.{segment_at}
-use Rattle.index_model.specs.Querying.{segments_at}
-use Rattle.ranking_model.specs.Scores.{added}
-use Rattle.session_scores.specs.Scores.{AreScoresOf, ScoresStand, docs_of, own_chain, own_view, scores_of}
+use Rattle.std.proofs.Common.{◌∙◌, ◌+◌, arith, take, length, length-take}
+use Rattle.session_engine.proofs.Blocks.{begun, fits, given_at_most, inside, more, room, smaller}
 use Rattle.session_engine.proofs.scoring.score_blocks.Goals as goal
 
--- src/scoring.rt:91:5
-pub blocks-2-init : goal.blocks-2-init
-blocks-2-init g c = ?
+pub pieces-init : goal.pieces-init
+pieces-init g c =
+    begun c.args.index.now c.cursor-cursor.result c.args.segment.weight _ c.args.scores.now c.args.pool.now c.args.steps.now c.cursor-cursor.ensures c.requires.stand (c.calls_on_one_chain.ensures.none c.args.pool.now _)
 
--- src/scoring.rt:92:13
-pub next_block-given-requires : goal.next_block-given-requires
-next_block-given-requires g c = ?
-
--- src/scoring.rt:94:13
-pub returns-then-given-eq0-clause-scores : goal.returns-then-given-eq0-clause-scores
-returns-then-given-eq0-clause-scores g c = ?
-
--- src/scoring.rt:94:13
-pub returns-then-given-eq0-clause-frames : goal.returns-then-given-eq0-clause-frames
-returns-then-given-eq0-clause-frames g c = ?
-
--- src/scoring.rt:94:13
-pub returns-then-given-eq0-clause-stand : goal.returns-then-given-eq0-clause-stand
-returns-then-given-eq0-clause-stand g c = ?
-
--- src/scoring.rt:94:13
-pub returns-then-given-eq0-clause-same : goal.returns-then-given-eq0-clause-same
-returns-then-given-eq0-clause-same g c = ?
-
--- src/scoring.rt:94:13
-pub returns-then-given-eq0-clause-leaves : goal.returns-then-given-eq0-clause-leaves
-returns-then-given-eq0-clause-leaves g c = ?
-
--- src/scoring.rt:94:13
-pub returns-then-given-eq0-clause-steps : goal.returns-then-given-eq0-clause-steps
-returns-then-given-eq0-clause-steps g c = ?
-
--- src/scoring.rt:96:9
-pub add_all-requires-clause-stand : goal.add_all-requires-clause-stand
-add_all-requires-clause-stand g c = ?
-
--- src/scoring.rt:96:9
 pub add_all-requires-clause-inside : goal.add_all-requires-clause-inside
-add_all-requires-clause-inside g c = ?
+add_all-requires-clause-inside g c =
+    let part = c.pieces.invariant in
+    let given = c.next_block-given.result in
+    inside part given (take given c.next_block-given.new.out) (c.next_block-given.ensures.block part.rest part.gives) c.requires.inside
 
--- src/scoring.rt:96:9
 pub add_all-requires-clause-fits : goal.add_all-requires-clause-fits
-add_all-requires-clause-fits g c = ?
+add_all-requires-clause-fits g c =
+    let part = c.pieces.invariant in
+    let given = c.next_block-given.result in
+    fits part given (take given c.next_block-given.new.out) (c.next_block-given.ensures.block part.rest part.gives) c.requires.fits
+    c.one_class_more_is_added.ensures.parts c.scores_stay_small.ensures.part
 
--- src/scoring.rt:96:9
 pub add_all-requires-clause-frames : goal.add_all-requires-clause-frames
-add_all-requires-clause-frames g c = ?
+add_all-requires-clause-frames g c =
+    let part = c.pieces.invariant in
+    let given = c.next_block-given.result in
+    room part given c.args.segment.count (take given c.next_block-given.new.out) (c.next_block-given.ensures.block part.rest part.gives) c.requires.count c.requires.room
 
--- src/scoring.rt:91:5
-pub blocks-2-smaller : goal.blocks-2-smaller
-blocks-2-smaller g c = ?
+pub pieces-smaller : goal.pieces-smaller
+pieces-smaller g c =
+    let part = c.pieces.invariant in
+    let given = c.next_block-given.result in
+    let block = c.next_block-given.new.out in
+    let most = given_at_most given block part.rest (let long = c.next_block-given.array_long in let most = c.next_block-given.ensures.most in omega arith) (c.next_block-given.ensures.block part.rest part.gives) in
+    smaller part c.next_block-given.new.steps given most c.if-given-eq0.false c.next_block-given.ensures.steps
 
--- src/scoring.rt:91:5
-pub blocks-2-preserved : goal.blocks-2-preserved
-blocks-2-preserved g c = ?
+pub pieces-preserved : goal.pieces-preserved
+pieces-preserved g c =
+    let part = c.pieces.invariant in
+    let given = c.next_block-given.result in
+    let block = c.next_block-given.new.out in
+    more part c.next_block-given.new.cursor c.add_all.new.self c.add_all.new.pool c.next_block-given.new.steps given (take given block)
+    (c.next_block-given.ensures.rest part.rest part.gives) (c.next_block-given.ensures.block part.rest part.gives)
+    (let long = c.next_block-given.array_long in let most = c.next_block-given.ensures.most in let size = length-take given block in omega arith)
+    c.add_all.ensures.stand c.add_all.ensures.scores c.add_all.ensures.frames c.add_all.ensures.same c.add_all.ensures.leaves c.next_block-given.ensures.steps
+    c.one_class_more_is_added.ensures.parts c.calls_on_one_chain.ensures.two
