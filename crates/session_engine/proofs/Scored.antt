@@ -1,5 +1,5 @@
 -- Entries that are scored one by one.
-use Rattle.std.proofs.Common.{◌≡◌, ℕ, ◌+◌, ◌<◌, ◌≤◌, ◌^◌, min, List, length, refl, sym, ap, ◌∙◌, subst, arith}
+use Rattle.std.proofs.Common.{◌≡◌, ℕ, ◌+◌, ◌-◌, drop, ◌<◌, ◌≤◌, ◌^◌, min, List, length, refl, sym, ap, ◌∙◌, subst, arith}
 use Rattle.std.specs.Prelude.{All}
 use Rattle.frame_pool.specs.Pool.{PoolView}
 use Rattle.frame_pool.specs.ChainView.{LeavesPool, chain_view}
@@ -8,7 +8,8 @@ use Rattle.accumulator_pages.specs.Pages.{HasRoomFor}
 use Rattle.index_layout.specs.View.{FileView}
 use Rattle.jass_base.specs.declared.named.Named.{Named}
 use Rattle.ranking_model.specs.declared.plan.QueryPlan.{QueryPlan}
-use Rattle.ranking_model.specs.Plan.{size_of_first}
+use Rattle.ranking_model.specs.declared.class.Class.{Class}
+use Rattle.ranking_model.specs.Plan.{prefix_within, size_of_first}
 use Rattle.ranking_model.specs.Scores.{added, scores_after}
 use Rattle.session_scores.specs.declared.scores.Scores.{Scores}
 use Rattle.session_scores.specs.Scores.{AreScoresOf, ScoresStand, docs_of, own_chain, own_view, scores_of}
@@ -66,3 +67,21 @@ module _ {from i need : ℕ} {plan : QueryPlan} {first : Scores} {old : PoolView
         counted = let before = progress.counted in omega arith;
         paid = let before = progress.paid in omega arith;
       }
+
+-- settling leaves what is scored
+pub after_settle : {n need : ℕ} {plan : QueryPlan} {s later : Scores} {pool after : PoolView} → ScoredTo n plan need s pool → ScoresStand later after → scores_of later after ≡ scores_of s pool
+    → length (own_view later after).frames ≡ length (own_view s pool).frames → AreScoresOf s later → LeavesPool pool after (own_chain s) → ScoredTo n plan need later after
+after_settle {after = after} was stand scores frames same leaves = record {
+  stand = stand;
+  docs = same.docs ∙ was.docs;
+  sums = scores ∙ was.sums;
+  frames = let low = was.frames in omega arith;
+  promise = ap (λ c. (chain_view after c).promise) same.chain ∙ leaves.promise ∙ was.promise;
+}
+
+-- the prefix that more grants pay for
+pub prefix_grown : (n granted more postings further : ℕ) (classes : List Class) → n ≡ prefix_within granted classes → granted ≤ more → postings ≡ size_of_first n classes → further ≡ prefix_within (more - postings) (drop n classes)
+    → ((before budget n : ℕ) (classes : List Class) → n ≡ prefix_within before classes → before ≤ budget → prefix_within budget classes ≡ n + prefix_within (budget - size_of_first n classes) (drop n classes))
+    → n + further ≡ prefix_within more classes
+prefix_grown n granted more postings further classes is low paid found resumed =
+    ap (λ k. n + k) (found ∙ ap (λ p. prefix_within (more - p) (drop n classes)) paid) ∙ sym (resumed granted more n classes is low)

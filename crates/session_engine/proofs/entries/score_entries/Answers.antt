@@ -1,8 +1,8 @@
-use Rattle.std.proofs.Common.{◌≡◌, ◌+◌, ◌∙◌, length, Some, subst, arith, refl}
+use Rattle.std.proofs.Common.{◌≡◌, ◌+◌, ◌∙◌, length, Some, subst, sym, arith, refl}
 use Rattle.std.specs.Prelude.{slice_get}
 use Rattle.segment_plan.specs.Entries.{PlanView}
 use Rattle.session_engine.specs.Plans.{HasEntry, docs_named, need_of, plan_postings, session_plan}
-use Rattle.session_engine.proofs.Scored.{fits_count, fits_next, next, room_next, started}
+use Rattle.session_engine.proofs.Scored.{Progress, fits_count, fits_next, next, room_next, started}
 use Rattle.session_engine.proofs.entries.score_entries.Goals as goal
 
 pub loop-i-init : goal.loop-i-init
@@ -83,7 +83,7 @@ overflow_add-postings g c =
     } in
     let small = fits_count c.loop-i.invariant c.entry-entry.result.count (plan_postings (session_plan c.args.index.now c.args.terms.now)) (c.one_entry_more_is_scored.ensures.size c.args.index.now c.args.terms.now c.loop-i.i c.entry-entry.result has)
         (c.one_entry_more_is_scored.ensures.most c.args.index.now c.args.terms.now (c.loop-i.i + 1)) (c.a_session_plan_is_small.ensures c.args.index.now c.args.terms.now c.is_checked.ensures c.requires.terms c.requires.planned.times).postings in
-    ?
+    omega (arith, small, c.from-postings.ensures)
 
 pub loop-i-preserved : goal.loop-i-preserved
 loop-i-preserved g c =
@@ -94,4 +94,5 @@ loop-i-preserved g c =
     let more = next c.loop-i.invariant c.entry-entry.result.count c.entry-entry.result.weight (docs_named c.args.index.now.index c.args.terms.now c.entry-entry.result) c.score_segment.new.scores c.score_segment.new.pool c.score_segment.new.steps
         (c.one_entry_more_is_scored.ensures.scores c.args.index.now c.args.terms.now c.loop-i.i c.entry-entry.result has) (c.one_entry_more_is_scored.ensures.size c.args.index.now c.args.terms.now c.loop-i.i c.entry-entry.result has)
         c.score_segment.ensures.scores c.score_segment.ensures.frames c.score_segment.ensures.stand c.score_segment.ensures.same c.score_segment.ensures.leaves c.score_segment.ensures.steps c.calls_on_one_chain.ensures.two in
-    ?
+    subst (λ n. Progress c.args.from (c.loop-i.i + 1) (need_of c.args.index.now c.args.terms.now) (session_plan c.args.index.now c.args.terms.now) c.args.scores.now c.args.pool.now c.score_segment.new.scores c.score_segment.new.pool
+        c.args.steps.now c.score_segment.new.steps (c.loop-i.postings + n)) (sym c.from-postings.ensures) more
