@@ -1,5 +1,5 @@
 -- A segment that is scored block by block.
-use Rattle.std.proofs.Common.{◌≡◌, ℕ, zero, suc, ◌+◌, ◌-◌, ◌<◌, ◌≤◌, ◌^◌, min, List, [], ◌∷◌, ◌++◌, length, take, drop, refl, sym, ap, ◌∙◌, subst, arith, append_assoc, append-nil, length-append, length-take, take-append-drop}
+use Rattle.std.proofs.Common.{◌≡◌, ℕ, zero, suc, ◌+◌, ◌-◌, ◌<◌, ◌≤◌, ◌^◌, List, [], ◌++◌, length, take, drop, refl, sym, ap, ◌∙◌, subst, arith, append_assoc, append-nil, length-append, length-take, take-append-drop}
 use Rattle.std.specs.Prelude.{All}
 use Rattle.std.specs.List.{AllByRecursion}
 use Rattle.std.proofs.lemmas.List.Elements.{All-from_recursion, recursion_from_All}
@@ -36,8 +36,16 @@ pub record IsPart (file : FileView) (cursor : Cursor) (weight : ℕ) (docs : Lis
 pub begun : (file : FileView) (cursor : Cursor) (weight : ℕ) (docs : List ℕ) (first : Scores) (old : PoolView) (steps : ℕ) → Gives file cursor docs → ScoresStand first old → LeavesPool old old (own_chain first)
     → IsPart file cursor weight docs first old first old steps steps
 begun file cursor weight docs first old steps gives stand leaves = record {
-  rest = docs; done = []; gives = gives; parts = refl; stand = stand; sums = refl; frames = omega arith;
-  same = record { chain = refl; docs = refl; k = refl; }; leaves = leaves; counted = omega arith;
+  rest = docs;
+  done = [];
+  gives = gives;
+  parts = refl;
+  stand = stand;
+  sums = refl;
+  frames = omega arith;
+  same = record { chain = refl; docs = refl; k = refl };
+  leaves = leaves;
+  counted = omega arith;
 }
 
 -- as many are given as the block has
@@ -59,10 +67,14 @@ module _ {file : FileView} {cursor : Cursor} {weight : ℕ} {docs : List ℕ} {f
   more later next pool after given block gives is many stand sums frames same leaves counted parts both =
       let length_of = length-append part.done block in
       record {
-        rest = drop given part.rest; done = part.done ++ block; gives = gives; parts = parted given block is; stand = stand;
+        rest = drop given part.rest;
+        done = part.done ++ block;
+        gives = gives;
+        parts = parted given block is;
+        stand = stand;
         sums = sums ∙ ap (added weight block) part.sums ∙ sym (parts weight part.done block (scores_of first old));
         frames = let low = part.frames in omega arith;
-        same = record { chain = same.chain ∙ part.same.chain; docs = same.docs ∙ part.same.docs; k = same.k ∙ part.same.k; };
+        same = record { chain = same.chain ∙ part.same.chain; docs = same.docs ∙ part.same.docs; k = same.k ∙ part.same.k };
         leaves = both old new pool (own_chain first) part.leaves (subst (LeavesPool new pool) part.same.chain leaves);
         counted = let was = part.counted in omega arith;
       }
@@ -105,9 +117,9 @@ module _ {file : FileView} {cursor : Cursor} {weight : ℕ} {docs : List ℕ} {f
       let all = ap (λ (l : List ℕ). length l) part.parts in
       let low : 1 ≤ given = positive given some in
       omega (arith, most, counted, was, split, all, low) where
-    positive : (n : ℕ) → (n ≡ 0 → ⊥) → 1 ≤ n
-    positive zero some = absurd (some refl)
-    positive (suc n) some = omega arith
+        positive : (n : ℕ) → (n ≡ 0 → ⊥) → 1 ≤ n
+        positive zero some = absurd (some refl)
+        positive (suc n) some = omega arith
 
 -- the documents of a segment are the index's
 pub segment_inside : (index : IndexData) (t s : ℕ) → IsIndex index → t < length index.terms → s < length (segments_at index.terms t) → AreDocs (length index.names) (segment_at index.terms t s).docs

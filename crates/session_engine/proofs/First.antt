@@ -1,6 +1,6 @@
 -- A session at the beginning.
-use Rattle.std.proofs.Common.{◌≡◌, ℕ, zero, suc, ◌+◌, ◌<◌, ◌≤◌, List, [], ◌∷◌, map, length, take, replicate, set, Option, Some, None, refl, sym, ap, ◌∙◌, subst, arith, set-set}
-use Rattle.std.specs.Prelude.{All, Result, Ok, Err, IfOk, sum_by, slice_index_or, slice_set}
+use Rattle.std.proofs.Common.{◌≡◌, ℕ, zero, suc, ◌≤◌, List, [], ◌∷◌, map, length, take, replicate, Option, Some, None, refl, sym, ap, ◌∙◌, subst, arith, set-set}
+use Rattle.std.specs.Prelude.{All, Result, Ok, Err, IfOk, slice_set}
 use Rattle.std.specs.List.{AllByRecursion, range_with_len}
 use Rattle.std.proofs.lemmas.List.{set-get_or}
 use Rattle.std.proofs.lemmas.List.Elements.{recursion_from_All}
@@ -14,7 +14,7 @@ use Rattle.index_model.specs.Index.{IndexData}
 use Rattle.ranking_model.specs.declared.class.Class.{Class}
 use Rattle.ranking_model.specs.declared.plan.QueryPlan.{QueryPlan}
 use Rattle.ranking_model.specs.Plan.{size_of_first}
-use Rattle.ranking_model.specs.Scores.{gain_of, scores_after}
+use Rattle.ranking_model.specs.Scores.{scores_after}
 use Rattle.segment_plan.specs.declared.entry.PlanEntry.{PlanEntry}
 use Rattle.segment_plan.specs.declared.entry.PlanHead.{PlanHead}
 use Rattle.segment_plan.specs.Entries.{PlanView, plan_with}

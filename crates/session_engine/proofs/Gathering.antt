@@ -1,5 +1,5 @@
 -- The steps of the loops over terms and over their segments.
-use Rattle.std.proofs.Common.{◌≡◌, ℕ, suc, ◌+◌, ◌<◌, ◌≤◌, min, List, [], ◌∷◌, ◌++◌, length, get_or, drop, refl, sym, ap, ◌∙◌, subst, arith, append_assoc, append-nil}
+use Rattle.std.proofs.Common.{◌≡◌, ℕ, suc, ◌+◌, ◌<◌, ◌≤◌, min, List, [], ◌∷◌, ◌++◌, length, get_or, drop, sym, ap, ◌∙◌, arith, append_assoc, append-nil}
 use Rattle.std.specs.Prelude.{sum_by}
 use Rattle.std.proofs.lemmas.List.Sums.{sum_by-cons}
 use Rattle.std.proofs.lemmas.List.{drop_all}
@@ -8,7 +8,7 @@ use Rattle.jass_base.specs.declared.named.Named.{Named}
 use Rattle.index_model.specs.Index.{SegmentData, TermData}
 use Rattle.index_model.specs.Querying.{segments_at}
 use Rattle.segment_plan.specs.declared.entry.PlanHead.{PlanHead}
-use Rattle.session_engine.specs.Plans.{heads_at, heads_from, postings_at, postings_of_terms}
+use Rattle.session_engine.specs.Plans.{heads_at, heads_from}
 
 abbrev pub no_segment : SegmentData
 no_segment = record { impact = 0; docs = [] }

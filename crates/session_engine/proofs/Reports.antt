@@ -1,5 +1,5 @@
 -- A report by its fields.
-use Rattle.std.proofs.Common.{◌≡◌, ℕ, List, length, ap, ◌∙◌}
+use Rattle.std.proofs.Common.{◌≡◌, ℕ, List, length, ◌∙◌}
 use Rattle.std.specs.Prelude.{Option}
 use Rattle.jass_base.specs.declared.answer.Grade.{Grade}
 use Rattle.jass_base.specs.declared.answer.Hit.{Hit}

@@ -5,15 +5,12 @@ use Rattle.frame_pool.specs.Pool.{PoolView}
 use Rattle.frame_pool.specs.ChainView.{LeavesPool, chain_view}
 use Rattle.accumulator_pages.specs.Adding.{page_count}
 use Rattle.accumulator_pages.specs.Pages.{HasRoomFor}
-use Rattle.index_layout.specs.View.{FileView}
-use Rattle.jass_base.specs.declared.named.Named.{Named}
 use Rattle.ranking_model.specs.declared.plan.QueryPlan.{QueryPlan}
 use Rattle.ranking_model.specs.declared.class.Class.{Class}
 use Rattle.ranking_model.specs.Plan.{prefix_within, size_of_first}
 use Rattle.ranking_model.specs.Scores.{added, scores_after}
 use Rattle.session_scores.specs.declared.scores.Scores.{Scores}
 use Rattle.session_scores.specs.Scores.{AreScoresOf, ScoresStand, docs_of, own_chain, own_view, scores_of}
-use Rattle.session_engine.specs.Plans.{need_of, plan_postings, session_plan}
 use Rattle.session_engine.specs.Standing.{ScoredTo}
 
 -- the classes of a plan from one on up to another are scored, and their postings are counted
@@ -26,7 +23,11 @@ pub record Progress (from i need : ℕ) (plan : QueryPlan) (first : Scores) (old
 
 pub started : (from need : ℕ) (plan : QueryPlan) (first : Scores) (old : PoolView) (steps : ℕ) → ScoredTo from plan need first old → LeavesPool old old (own_chain first) → Progress from from need plan first old first old steps steps 0
 started from need plan first old steps scored leaves = record {
-  scored = scored; same = record { chain = refl; docs = refl; k = refl; }; leaves = leaves; counted = omega arith; paid = omega arith;
+  scored = scored;
+  same = record { chain = refl; docs = refl; k = refl };
+  leaves = leaves;
+  counted = omega arith;
+  paid = omega arith;
 }
 
 module _ {from i need : ℕ} {plan : QueryPlan} {first : Scores} {old : PoolView} {now : Scores} {new : PoolView} {before steps postings : ℕ}
@@ -62,7 +63,7 @@ module _ {from i need : ℕ} {plan : QueryPlan} {first : Scores} {old : PoolView
           frames = let low = was.frames in omega arith;
           promise = ap (λ n. (chain_view pool n).promise) same.chain ∙ leaves.promise ∙ was.promise;
         };
-        same = record { chain = same.chain ∙ progress.same.chain; docs = same.docs ∙ progress.same.docs; k = same.k ∙ progress.same.k; };
+        same = record { chain = same.chain ∙ progress.same.chain; docs = same.docs ∙ progress.same.docs; k = same.k ∙ progress.same.k };
         leaves = both old new pool (own_chain first) progress.leaves (subst (LeavesPool new pool) progress.same.chain leaves);
         counted = let before = progress.counted in omega arith;
         paid = let before = progress.paid in omega arith;

@@ -1,12 +1,11 @@
 -- The heads of a query's segments, arranged, name the classes of its plan.
 use Rattle.std.proofs.Common.{◌≡◌, ℕ, zero, suc, ◌+◌, ◌*◌, ◌<◌, ◌≤◌, List, [], ◌∷◌, ◌++◌, map, length, get_or, Bool, true, false, refl, sym, ap, ap₂, ◌∙◌, subst, arith, cond, inl}
-use Rattle.std.specs.Prelude.{All, AllPairs}
+use Rattle.std.specs.Prelude.{All}
 use Rattle.std.specs.List.{AllByRecursion}
 use Rattle.std.specs.declared.cmp.Ordering.{Ordering}
 use Rattle.std.specs.Ordering.{is_gt, nat_cmp, ordering_then}
 use Rattle.std.proofs.lemmas.List.{map-append}
 use Rattle.std.proofs.lemmas.List.Elements.{All-from_recursion, recursion_from_All}
-use Rattle.std.proofs.lemmas.Simd.{map-map}
 use Rattle.jass_base.specs.declared.named.Named.{Named}
 use Rattle.ranking_model.specs.declared.class.Class.{Class}
 use Rattle.ranking_model.specs.Order.{placed, sorted}
@@ -20,7 +19,7 @@ use Rattle.segment_plan.specs.declared.entry.PlanEntry.{PlanEntry}
 use Rattle.segment_plan.specs.declared.entry.PlanHead.{PlanHead}
 use Rattle.segment_plan.specs.Entries.{AreHeads, Fall, entry_of, entry_cmp, plan_with}
 use Rattle.segment_plan.specs.Shape.{shape, entry_shape}
-use Rattle.session_engine.specs.Plans.{NamesSegment, class_named, docs_named, heads_at, heads_from, query_heads, term_of}
+use Rattle.session_engine.specs.Plans.{NamesSegment, class_named, docs_named, heads_at, heads_from, query_heads}
 
 -- ---- a sort through a map that keeps the order of some items
 
@@ -113,9 +112,10 @@ module _ (index : IndexData) (all : List Named) where
       → place < length all → named.term < length index.terms → 1 ≤ named.times → seg + length segments ≡ length (segments_at index.terms named.term) → AllByRecursion (IsSegment d) segments
       → AllByRecursion Names (map entry (heads_at place seg segments))
   names_at d place seg named [] is rest inside known some there h = tt
-  names_at d place seg named (s ∷ ss) is rest inside known some there h =
-      (names_is d place seg named s is (first_of (segments_at index.terms named.term) seg s ss no_segment rest) inside known some (omega (arith, there)) h.0,
-      names_at d place (suc seg) named ss is (rest_of (segments_at index.terms named.term) seg s ss rest) inside known some (omega (arith, there)) h.1)
+  names_at d place seg named (s ∷ ss) is rest inside known some there h = (
+    names_is d place seg named s is (first_of (segments_at index.terms named.term) seg s ss no_segment rest) inside known some (omega (arith, there)) h.0,
+    names_at d place (suc seg) named ss is (rest_of (segments_at index.terms named.term) seg s ss rest) inside known some (omega (arith, there)) h.1,
+  )
 
   classes_are_from : (place : ℕ) (query : List Named) → Suffix all place query → map named_by (map entry (heads_from place query index.terms)) ≡ classes_from place query index.terms
   classes_are_from place [] rest = refl

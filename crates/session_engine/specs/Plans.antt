@@ -1,5 +1,6 @@
 -- The plan of a query over an index file, and what it needs of a pool of frames.
-use Rattle.std.specs.Prelude.{ℕ, suc, ◌≡◌, ◌<◌, ◌≤◌, min, All, List, [], ◌∷◌, ◌++◌, length, slice_get, sum_by, Some, false}
+use Rattle.std.specs.Prelude.{ℕ, suc, ◌≡◌, ◌<◌, ◌≤◌, min, false, All, List, [], ◌∷◌, ◌++◌, length, slice_get, sum_by}
+use Rattle.std.specs.Prelude.{Some}
 use Rattle.std.specs.List.{slice_index_or}
 use Rattle.jass_base.specs.declared.named.Named.{Named}
 use Rattle.ranking_model.specs.declared.class.Class.{Class}
@@ -43,12 +44,14 @@ HasFreeNumber pool = all_in_use pool ≡ false
 abbrev pub heads_at : ℕ → ℕ → List SegmentData → List PlanHead
 heads_at place segment [] = []
 heads_at place segment (s ∷ segments) =
-    record { place = place; segment = segment; impact = s.impact; count = length s.docs } ∷ heads_at place (suc segment) segments
+    record { place = place; segment = segment; impact = s.impact; count = length s.docs }
+    ∷ heads_at place (suc segment) segments
 
 -- the heads of named terms, of which the first has this place in the query
 abbrev pub heads_from : ℕ → List Named → List TermData → List PlanHead
 heads_from place [] terms = []
-heads_from place (named ∷ query) terms = heads_at place 0 (segments_at terms named.term) ++ heads_from (suc place) query terms
+heads_from place (named ∷ query) terms =
+    heads_at place 0 (segments_at terms named.term) ++ heads_from (suc place) query terms
 
 abbrev pub query_heads : IndexData → List Named → List PlanHead
 query_heads index query = heads_from 0 query index.terms
@@ -63,7 +66,8 @@ docs_named index terms entry = (segment_at index.terms (term_of terms entry.plac
 
 -- the class of that segment
 abbrev pub class_named : IndexData → List Named → PlanEntry → Class
-class_named index terms entry = record { place = entry.place; weight = entry.weight; docs = docs_named index terms entry }
+class_named index terms entry =
+    record { place = entry.place; weight = entry.weight; docs = docs_named index terms entry }
 
 -- an entry of a plan names a segment of a term of the query, which has as many documents as it says, and a weight
 pub record NamesSegment (index : IndexData) (terms : List Named) (entry : PlanEntry) : Type 0 where

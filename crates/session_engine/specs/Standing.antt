@@ -74,8 +74,8 @@ pub record IsPlanned (file : FileView) (terms : List Named) (plan : PlanView) : 
   pub times : All (λ (n : Named). n.times ≤ 255) terms
   pub arranged : plan ≡ plan_with terms (query_heads file.index terms)
 
--- the session has scored the longest prefix of its plan that its grants pay for, and its first documents and its report are
--- those of this prefix; its chain has the promise that the query needs
+-- the session has scored the longest prefix of its plan that its grants pay for, and its first documents and its report
+-- are those of this prefix; its chain has the promise that the query needs
 pub record SessionStands (s : Session) (file : FileView) (pool : PoolView) : Type 0 where
   pub planned : IsPlanned file (terms_of s) s.plan
   pub prefix : prefix_of s ≡ prefix_within (granted_of s) (plan_over file s).classes

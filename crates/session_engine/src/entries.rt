@@ -7,7 +7,9 @@ ghost use Rattle.session_scores.specs.Scores.{AreScoresOf, own_chain};
 ghost use Rattle.session_engine.specs.Plans.{need_of, session_plan};
 ghost use Rattle.session_engine.specs.Standing.{IsPlanned, ScoredTo};
 
-use crate::laws::{a_session_plan_is_small, a_session_plan_names_its_segments, one_entry_more_is_scored};
+use crate::laws::{
+    a_session_plan_is_small, a_session_plan_names_its_segments, one_entry_more_is_scored,
+};
 use crate::scoring::{WeighedSegment, score_segment};
 use frame_pool::FramePool;
 use frame_pool::laws::calls_on_one_chain;
@@ -31,10 +33,12 @@ pub fn score_entries<L: Ledger>(
 ) -> u64
     requires terms { AreTerms terms.now }
     requires planned { IsPlanned index.now terms.now plan.now }
-    requires scored { ScoredTo from (session_plan index.now terms.now) (need_of index.now terms.now) scores.old pool.old }
+    requires scored { ScoredTo from (session_plan index.now terms.now) (need_of index.now terms.now)
+        scores.old pool.old }
     requires order { from ≤ to }
     requires within { to ≤ length plan.now.entries }
-    ensures scored { ScoredTo to (session_plan index.now terms.now) (need_of index.now terms.now) scores.new pool.new }
+    ensures scored { ScoredTo to (session_plan index.now terms.now) (need_of index.now terms.now)
+        scores.new pool.new }
     ensures postings { size_of_first from (session_plan index.now terms.now).classes + result
         ≡ size_of_first to (session_plan index.now terms.now).classes }
     ensures steps { steps.new ≡ steps.old + result }

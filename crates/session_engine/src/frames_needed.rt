@@ -30,7 +30,9 @@ fn counted(index: &IndexFile, term: u32, count: u32, limit: u32) -> u32
 {
     let mut sum = count;
     for segment in 0..index.segments(term) {
-        sum = sum.saturating_add(index.head(term, segment).count).min(limit);
+        sum = sum
+            .saturating_add(index.head(term, segment).count)
+            .min(limit);
     }
     sum
 }

@@ -9,7 +9,11 @@ use segment_plan::PlanHead;
 use std::alloc::Global;
 
 /// The heads of the segments of some terms, term by term.
-pub fn query_heads(alloc: Global, index: &IndexFile, terms: &[Named]) -> Result<Vec<PlanHead>, NoMemory>
+pub fn query_heads(
+    alloc: Global,
+    index: &IndexFile,
+    terms: &[Named],
+) -> Result<Vec<PlanHead>, NoMemory>
     requires few { length terms.now ≤ 256 }
     requires known { AreKnown index.now terms.now }
     ensures heads { IfOk result (λ heads. heads.items ≡ query_heads index.now.index terms.now) }
@@ -25,7 +29,12 @@ pub fn query_heads(alloc: Global, index: &IndexFile, terms: &[Named]) -> Result<
 }
 
 /// Puts the heads of a term's segments behind the others. The term has this place in the query.
-fn gather_heads(index: &IndexFile, named: Named, place: u32, heads: &mut Vec<PlanHead>) -> Result<(), NoMemory>
+fn gather_heads(
+    index: &IndexFile,
+    named: Named,
+    place: u32,
+    heads: &mut Vec<PlanHead>,
+) -> Result<(), NoMemory>
     requires { named.term < length index.now.index.terms }
     ensures heads { OnOk result
         (heads.new.items ≡ heads.old.items ++ heads_at place 0 (segments_at index.now.index.terms named.term)) }

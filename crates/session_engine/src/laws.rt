@@ -18,15 +18,19 @@ ghost use Rattle.segment_plan.specs.Entries.{AreHeads, plan_with};
 ghost use Rattle.segment_plan.specs.Shape.{HasShape};
 ghost use Rattle.frame_pool.specs.ChainView.{LeavesOthers, chain_view};
 ghost use Rattle.frame_pool.specs.Pool.{IsInUse, PoolView};
-ghost use Rattle.session_engine.specs.Plans.{AreKnown, HasEntry, NamesSegment, class_named, docs_named, need_of, plan_postings, postings_of_terms, query_heads, session_plan};
-ghost use Rattle.session_engine.specs.Standing.{SessionStands, answer_over, chain_of, granted_of, k_of, plan_over, prefix_of, report_of, terms_of};
+ghost use Rattle.session_engine.specs.Plans.{AreKnown, HasEntry, NamesSegment, class_named, docs_named};
+ghost use Rattle.session_engine.specs.Plans.{need_of, plan_postings, postings_of_terms, query_heads, session_plan};
+ghost use Rattle.session_engine.specs.Standing.{SessionStands, answer_over, chain_of, granted_of, k_of};
+ghost use Rattle.session_engine.specs.Standing.{plan_over, prefix_of, report_of, terms_of};
 ghost use Rattle.session_engine.specs.declared.session.Session.{Session};
 
 use final_certificate::laws::a_prefix_has_one_report;
-use index_model::laws::{a_query_weighs_its_segments, the_flat_list_is_flat, the_plan_has_the_named_segments};
+use index_model::laws::{
+    a_query_weighs_its_segments, the_flat_list_is_flat, the_plan_has_the_named_segments,
+};
 use ranking_model::laws::{
-    a_plan_has_the_classes_of_its_postings, plans_are_small, reports_keep_their_promises, the_classes_have_all_postings,
-    the_prefix_is_the_longest,
+    a_plan_has_the_classes_of_its_postings, plans_are_small, reports_keep_their_promises,
+    the_classes_have_all_postings, the_prefix_is_the_longest,
 };
 use ranking_model::prefix_laws::{a_prefix_is_resumed, one_class_more_is_added};
 use session_scores::laws::calls_on_other_chains_leave_scores;
@@ -41,7 +45,7 @@ pub fn a_session_plan_names_its_segments()
     ensures classes { (file : FileView) (terms : List Named) →
         IsIndex file.index → AreTerms terms → AreKnown file terms →
         (session_plan file terms).classes
-            ≡ map (class_named file.index terms) (plan_with terms (query_heads file.index terms)).entries }
+        ≡ map (class_named file.index terms) (plan_with terms (query_heads file.index terms)).entries }
     ensures names { (file : FileView) (terms : List Named) →
         IsIndex file.index → AreTerms terms → AreKnown file terms →
         All (NamesSegment file.index terms) (plan_with terms (query_heads file.index terms)).entries }
@@ -60,10 +64,10 @@ pub fn one_entry_more_is_scored()
     ensures scores { (file : FileView) (terms : List Named) (n : ℕ) (entry : PlanEntry) →
         HasEntry file terms n entry →
         scores_after (n + 1) (session_plan file terms)
-            ≡ added entry.weight (docs_named file.index terms entry) (scores_after n (session_plan file terms)) }
+        ≡ added entry.weight (docs_named file.index terms entry) (scores_after n (session_plan file terms)) }
     ensures size { (file : FileView) (terms : List Named) (n : ℕ) (entry : PlanEntry) → HasEntry file terms n entry →
         size_of_first (n + 1) (session_plan file terms).classes
-            ≡ size_of_first n (session_plan file terms).classes + entry.count }
+        ≡ size_of_first n (session_plan file terms).classes + entry.count }
     ensures most { (file : FileView) (terms : List Named) (n : ℕ) →
         size_of_first n (session_plan file terms).classes ≤ plan_postings (session_plan file terms) }
 {
@@ -153,7 +157,7 @@ pub fn reports_of_sessions_keep_their_promises()
         IsReport (prefix_of s) (plan_over file s) (k_of s) (report_of s) }
     ensures promised { (s : Session) (file : FileView) (pool : PoolView) → IsFileView file → SessionStands s file pool →
         IsPromised (weighted_postings (numbered_flat file.index) (terms_of s)) (prefix_of s) (plan_over file s) (k_of s)
-            (report_of s) }
+        (report_of s) }
 {
     the_flat_list_is_flat();
     a_prefix_has_one_report();

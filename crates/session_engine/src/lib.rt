@@ -5,9 +5,9 @@
 //! in frames of a pool that is shared with other sessions.
 
 mod entries;
+mod frames_needed;
 mod heads;
 pub mod laws;
-mod frames_needed;
 mod reporting;
 mod scoring;
 mod session;

@@ -11,11 +11,20 @@ use final_certificate::grade;
 use frame_pool::FramePool;
 use jass_base::Report;
 use segment_plan::Plan;
-use segment_plan::laws::{a_class_for_each_entry, prefixes_are_those_of_the_plan, weights_are_those_of_the_plan};
+use segment_plan::laws::{
+    a_class_for_each_entry, prefixes_are_those_of_the_plan, weights_are_those_of_the_plan,
+};
 use session_scores::Scores;
 
 /// The report of the first k documents after the first `count` entries of a plan, which have so many postings.
-pub fn report_at(scores: &Scores, pool: &FramePool, plan: &Plan, k: u32, count: u32, postings: u64) -> Report
+pub fn report_at(
+    scores: &Scores,
+    pool: &FramePool,
+    plan: &Plan,
+    k: u32,
+    count: u32,
+    postings: u64,
+) -> Report
     requires stand { ScoresStand scores.now pool.now }
     requires settled { IsSettled scores.now pool.now }
     requires asked { k_of scores.now ≡ k }
@@ -35,7 +44,13 @@ pub fn report_at(scores: &Scores, pool: &FramePool, plan: &Plan, k: u32, count: 
         cutoff: cutoff(plan, count),
         next: next(plan, count),
         bound,
-        grade: grade(scores.hits(), scores.runner_up(), scores.least_untouched(pool), k, bound),
+        grade: grade(
+            scores.hits(),
+            scores.runner_up(),
+            scores.least_untouched(pool),
+            k,
+            bound,
+        ),
     }
 }
 

@@ -4,12 +4,13 @@ ghost use Rattle.index_layout.specs.View.{FileView};
 ghost use Rattle.frame_pool.specs.Pool.{PoolView, IsInUse, Promises, spare_of};
 ghost use Rattle.frame_pool.specs.ChainView.{LeavesOthers, LeavesPool, chain_view};
 ghost use Rattle.session_engine.specs.Plans.{AreKnown, HasFreeNumber, need_of};
-ghost use Rattle.session_engine.specs.Standing.{IsPlanned, IsSessionOf, SessionStands, answer_over, chain_of, granted_of, k_of, query_of, report_of};
+ghost use Rattle.session_engine.specs.Standing.{IsPlanned, IsSessionOf, SessionStands, answer_over};
+ghost use Rattle.session_engine.specs.Standing.{chain_of, granted_of, k_of, query_of, report_of};
 
 use crate::entries::score_entries;
+use crate::frames_needed::need;
 use crate::heads::query_heads;
 use crate::laws::{a_session_plan_names_its_segments, nothing_is_scored_at_first};
-use crate::frames_needed::need;
 use crate::reporting::report_at;
 use crate::stop::OpenStop;
 use frame_pool::FramePool;
@@ -27,8 +28,8 @@ use std::sync::ledger::Ledger;
 
 /// A query that is answered in parts, over one index file and one pool. It ends only by `close`.
 ///
-/// Each call that takes an index or a pool wants those of `open`, the pool with this session's chain as the last call on
-/// this session left it. Other chains may have changed.
+/// Each call that takes an index or a pool wants those of `open`, the pool with this session's chain as the last call
+/// on this session left it. Other chains may have changed.
 pub struct Session {
     scores: Scores,
     plan: Plan,
@@ -58,7 +59,8 @@ impl Session {
         ensures granted { IfOk result (λ s. granted_of s ≡ 0) }
         ensures query { IfOk result (λ s. query_of s ≡ query) }
         ensures k { IfOk result (λ s. k_of s ≡ k) }
-        ensures promised { IfOk result (λ s. Promises pool.old pool.new (chain_of s) (need_of index.now query.terms)) }
+        ensures promised { IfOk result
+            (λ s. Promises pool.old pool.new (chain_of s) (need_of index.now query.terms)) }
         ensures others { IfOk result (λ s. LeavesOthers pool.old pool.new (chain_of s)) }
         ensures spare { IfOk result (λ _. spare_of pool.new + need_of index.now query.terms ≡ spare_of pool.old) }
         ensures full { spare_of pool.old < need_of index.now query.terms
@@ -129,7 +131,16 @@ impl Session {
         let to = self.scored + self.plan.within(self.scored, self.granted - before);
         let query = &self.query;
         let terms = query.terms.as_slice();
-        let more = score_entries(&mut self.scores, index, pool, terms, &self.plan, self.scored, to, steps);
+        let more = score_entries(
+            &mut self.scores,
+            index,
+            pool,
+            terms,
+            &self.plan,
+            self.scored,
+            to,
+            steps,
+        );
         self.scores.settle(pool);
         self.scored = to;
         self.report = report_at(&self.scores, pool, &self.plan, self.k, to, before + more);

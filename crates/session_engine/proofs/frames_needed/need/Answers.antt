@@ -1,4 +1,4 @@
-use Rattle.std.proofs.Common.{◌≡◌, ◌∙◌, ◌+◌, arith, ap, ap₂, sym, min, length}
+use Rattle.std.proofs.Common.{◌∙◌, arith, ap, ap₂, sym, min}
 use Rattle.accumulator_pages.specs.Adding.{page_count}
 use Rattle.jass_base.specs.declared.named.Named.{Named}
 use Rattle.session_engine.specs.Plans.{postings_at, postings_of_terms}
@@ -7,10 +7,11 @@ use Rattle.session_engine.proofs.frames_needed.need.Goals as goal
 
 pub loop-named-preserved : goal.loop-named-preserved
 loop-named-preserved c =
-    let terms = c.args.index.now.index.terms in
-    (omega (arith, c.counted-count.ensures),
-    sum_step (λ (n : Named). postings_at terms n.term) c.as_slice-named-items.result.now c.loop-named.named-index c.div_ceil-pages.result c.loop-named.count c.counted-count.result
-    (postings_of_terms terms c.as_slice-named-items.result.now) no_term c.loop-named-test.true c.counted-count.ensures c.loop-named.invariant.1)
+    let terms = c.args.index.now.index.terms in (
+      omega (arith, c.counted-count.ensures),
+      sum_step (λ (n : Named). postings_at terms n.term) c.as_slice-named-items.result.now c.loop-named.named-index c.div_ceil-pages.result c.loop-named.count c.counted-count.result
+          (postings_of_terms terms c.as_slice-named-items.result.now) no_term c.loop-named-test.true c.counted-count.ensures c.loop-named.invariant.1,
+    )
 
 pub returns : goal.returns
 returns c =

@@ -1,5 +1,4 @@
-use Rattle.std.proofs.Common.{◌≡◌, ◌+◌, ◌∙◌, ◌++◌, arith, sym, ap, append-nil, drop}
-use Rattle.std.proofs.lemmas.List.{drop_all}
+use Rattle.std.proofs.Common.{◌+◌, ◌∙◌, ◌++◌, arith, ap, drop}
 use Rattle.index_model.specs.Querying.{segments_at}
 use Rattle.session_engine.specs.Plans.{heads_at}
 use Rattle.session_engine.proofs.Gathering.{heads_all, heads_step}

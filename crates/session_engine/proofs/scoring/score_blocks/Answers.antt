@@ -1,4 +1,4 @@
-use Rattle.std.proofs.Common.{◌∙◌, ◌+◌, arith, take, length, length-take}
+use Rattle.std.proofs.Common.{arith, take, length-take}
 use Rattle.session_engine.proofs.Blocks.{begun, fits, given_at_most, inside, more, room, smaller}
 use Rattle.session_engine.proofs.scoring.score_blocks.Goals as goal
 

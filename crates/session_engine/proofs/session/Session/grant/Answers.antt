@@ -22,7 +22,7 @@ overflow_add-before g c =
     let low : s.granted ≤ c.granted_with-self.result = omega (arith, c.fits-self, c.granted_with-self.ensures) in
     let grown : s.scored + c.within.result ≡ prefix_within c.granted_with-self.result plan.classes
     = prefix_grown s.scored s.granted c.granted_with-self.result s.report.postings c.within.result plan.classes stands.prefix low paid
-        (c.within.ensures.many ∙ sym (c.prefixes_are_those_of_the_plan.ensures.resumed s.plan plan s.scored (c.granted_with-self.result - s.report.postings) shape)) c.a_prefix_is_resumed.ensures.prefix in
+    (c.within.ensures.many ∙ sym (c.prefixes_are_those_of_the_plan.ensures.resumed s.plan plan s.scored (c.granted_with-self.result - s.report.postings) shape)) c.a_prefix_is_resumed.ensures.prefix in
     let terms = c.as_slice-terms.ensures in
     let more : size_of_first s.scored plan.classes + c.score_entries-more.result ≡ size_of_first (s.scored + c.within.result) plan.classes
     = subst (λ (ts : List Named). size_of_first s.scored (session_plan file ts).classes + c.score_entries-more.result ≡ size_of_first (s.scored + c.within.result) (session_plan file ts).classes) terms c.score_entries-more.ensures.postings in
@@ -42,12 +42,12 @@ returns-clause-stands g c =
     let low : s.granted ≤ c.granted_with-self.result = omega (arith, c.fits-self, c.granted_with-self.ensures) in
     let grown : s.scored + c.within.result ≡ prefix_within c.granted_with-self.result plan.classes
     = prefix_grown s.scored s.granted c.granted_with-self.result s.report.postings c.within.result plan.classes stands.prefix low paid
-        (c.within.ensures.many ∙ sym (c.prefixes_are_those_of_the_plan.ensures.resumed s.plan plan s.scored (c.granted_with-self.result - s.report.postings) shape)) c.a_prefix_is_resumed.ensures.prefix in
+    (c.within.ensures.many ∙ sym (c.prefixes_are_those_of_the_plan.ensures.resumed s.plan plan s.scored (c.granted_with-self.result - s.report.postings) shape)) c.a_prefix_is_resumed.ensures.prefix in
     let terms = c.as_slice-terms.ensures in
     let more : size_of_first s.scored plan.classes + c.score_entries-more.result ≡ size_of_first (s.scored + c.within.result) plan.classes
     = subst (λ (ts : List Named). size_of_first s.scored (session_plan file ts).classes + c.score_entries-more.result ≡ size_of_first (s.scored + c.within.result) (session_plan file ts).classes) terms c.score_entries-more.ensures.postings in
     let scored = after_settle (subst (λ (ts : List Named). ScoredTo (s.scored + c.within.result) (session_plan file ts) (need_of file ts) c.score_entries-more.new.scores c.score_entries-more.new.pool) terms c.score_entries-more.ensures.scored)
-        c.settle.ensures.stand c.settle.ensures.scores c.settle.ensures.frames c.settle.ensures.same c.settle.ensures.leaves in
+    c.settle.ensures.stand c.settle.ensures.scores c.settle.ensures.frames c.settle.ensures.same c.settle.ensures.leaves in
     let report = c.report_at-self.ensures plan shape scored.sums in
     record {
       planned = stands.planned;
@@ -70,12 +70,12 @@ returns-clause-steps g c =
     let low : s.granted ≤ c.granted_with-self.result = omega (arith, c.fits-self, c.granted_with-self.ensures) in
     let grown : s.scored + c.within.result ≡ prefix_within c.granted_with-self.result plan.classes
     = prefix_grown s.scored s.granted c.granted_with-self.result s.report.postings c.within.result plan.classes stands.prefix low paid
-        (c.within.ensures.many ∙ sym (c.prefixes_are_those_of_the_plan.ensures.resumed s.plan plan s.scored (c.granted_with-self.result - s.report.postings) shape)) c.a_prefix_is_resumed.ensures.prefix in
+    (c.within.ensures.many ∙ sym (c.prefixes_are_those_of_the_plan.ensures.resumed s.plan plan s.scored (c.granted_with-self.result - s.report.postings) shape)) c.a_prefix_is_resumed.ensures.prefix in
     let terms = c.as_slice-terms.ensures in
     let more : size_of_first s.scored plan.classes + c.score_entries-more.result ≡ size_of_first (s.scored + c.within.result) plan.classes
     = subst (λ (ts : List Named). size_of_first s.scored (session_plan file ts).classes + c.score_entries-more.result ≡ size_of_first (s.scored + c.within.result) (session_plan file ts).classes) terms c.score_entries-more.ensures.postings in
     let scored = after_settle (subst (λ (ts : List Named). ScoredTo (s.scored + c.within.result) (session_plan file ts) (need_of file ts) c.score_entries-more.new.scores c.score_entries-more.new.pool) terms c.score_entries-more.ensures.scored)
-        c.settle.ensures.stand c.settle.ensures.scores c.settle.ensures.frames c.settle.ensures.same c.settle.ensures.leaves in
+    c.settle.ensures.stand c.settle.ensures.scores c.settle.ensures.frames c.settle.ensures.same c.settle.ensures.leaves in
     let report = c.report_at-self.ensures plan shape scored.sums in
     let postings = ap (λ (r : Report). r.postings) report in
     omega (arith, paid, more, postings, c.score_entries-more.ensures.steps)

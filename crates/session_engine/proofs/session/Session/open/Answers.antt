@@ -1,7 +1,6 @@
-use Rattle.std.proofs.Common.{◌∙◌, ◌≤◌, ap, sym, subst, length, arith, refl, replicate}
+use Rattle.std.proofs.Common.{◌∙◌, ◌≤◌, ap, sym, subst, length, arith, replicate}
 use Rattle.frame_pool.specs.ChainView.{chain_view}
-use Rattle.jass_base.specs.declared.named.Named.{Named}
-use Rattle.ranking_model.specs.Plan.{prefix_within, size_of_first}
+use Rattle.ranking_model.specs.Plan.{size_of_first}
 use Rattle.ranking_model.specs.Postings.{AreTerms}
 use Rattle.segment_plan.specs.Shape.{HasShape}
 use Rattle.segment_plan.specs.Entries.{PlanView}
