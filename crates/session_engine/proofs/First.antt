@@ -1,0 +1,62 @@
+-- A session at the beginning.
+use Rattle.std.proofs.Common.{◌≡◌, ℕ, zero, suc, ◌≤◌, List, [], ◌∷◌, map, length, take, replicate, Option, Some, None, refl, sym, ap, ◌∙◌, subst, arith, set-set}
+use Rattle.std.specs.Prelude.{All, Result, Ok, Err, IfOk, slice_set}
+use Rattle.std.specs.List.{AllByRecursion, range_with_len}
+use Rattle.std.proofs.lemmas.List.{set-get_or}
+use Rattle.std.proofs.lemmas.List.Elements.{recursion_from_All}
+use Rattle.std.proofs.lemmas.List.FromFn.{length-range_with_len}
+use Rattle.std.proofs.lemmas.List.Sums.{sum_by-cons}
+use Rattle.jass_base.specs.declared.faults.NoMemory.{NoMemory}
+use Rattle.jass_base.specs.declared.named.Named.{Named}
+use Rattle.frame_pool.specs.Pool.{ChainEntry, PoolView, Promises}
+use Rattle.index_layout.specs.View.{FileView}
+use Rattle.index_model.specs.Index.{IndexData}
+use Rattle.ranking_model.specs.declared.class.Class.{Class}
+use Rattle.ranking_model.specs.declared.plan.QueryPlan.{QueryPlan}
+use Rattle.ranking_model.specs.Plan.{size_of_first}
+use Rattle.ranking_model.specs.Scores.{scores_after}
+use Rattle.segment_plan.specs.declared.entry.PlanEntry.{PlanEntry}
+use Rattle.segment_plan.specs.declared.entry.PlanHead.{PlanHead}
+use Rattle.segment_plan.specs.Entries.{PlanView, plan_with}
+use Rattle.session_engine.specs.Plans.{AreKnown, NamesSegment, class_named, query_heads}
+use Rattle.session_engine.specs.Standing.{IsPlanned}
+
+abbrev size : Class → ℕ
+size class = length class.docs
+
+-- a class isn't paid for by nothing
+none_paid : (classes : List Class) (n : ℕ) → AllByRecursion (λ (c : Class). 1 ≤ length c.docs) classes → n ≤ length classes → size_of_first n classes ≤ 0 → n ≡ 0
+none_paid classes zero some within paid = refl
+none_paid [] (suc n) some within paid = absurd (omega (arith, within))
+none_paid (c ∷ cs) (suc n) some within paid = let first = sum_by-cons size c (take n cs) in let one = some.0 in absurd (omega (arith, first, one, paid))
+
+named_some : (index : IndexData) (terms : List Named) (entries : List PlanEntry) → AllByRecursion (NamesSegment index terms) entries → AllByRecursion (λ (c : Class). 1 ≤ length c.docs) (map (class_named index terms) entries)
+named_some index terms [] h = tt
+named_some index terms (e ∷ es) h = ((let count = h.0.count in let some = h.0.some in omega arith), named_some index terms es h.1)
+
+pub none_at_first : (index : IndexData) (terms : List Named) (entries : List PlanEntry) (classes : List Class) (n : ℕ) → All (NamesSegment index terms) entries → classes ≡ map (class_named index terms) entries
+    → n ≤ length classes → size_of_first n classes ≤ 0 → n ≡ 0
+none_at_first index terms entries classes n names is within paid =
+    none_paid classes n (subst (AllByRecursion (λ (c : Class). 1 ≤ length c.docs)) (sym is) (named_some index terms entries (recursion_from_All (NamesSegment index terms) entries names))) within paid
+
+all_zero : (xs : List ℕ) → map {B = ℕ} (λ (x : ℕ). 0) xs ≡ replicate (length xs) 0
+all_zero [] = refl
+all_zero (x ∷ xs) = ap (λ (l : List ℕ). 0 ∷ l) (all_zero xs)
+
+pub zero_at_first : (plan : QueryPlan) → scores_after 0 plan ≡ replicate plan.docs 0
+zero_at_first plan = all_zero (range_with_len 0 plan.docs) ∙ ap (λ n. replicate n 0) (length-range_with_len 0 plan.docs)
+
+-- a chain that is promised and given back leaves the pool as it was
+pub given_back : (old promised new : PoolView) (chain other n : ℕ) → Promises old promised chain n → other ≡ chain → new.frames ≡ promised.frames → new.chains ≡ slice_set promised.chains other None → new ≡ old
+given_back old promised new chain other n is same frames chains =
+    let one : new.frames ≡ old.frames = frames ∙ is.frames in
+    let two : new.chains ≡ old.chains
+    = chains ∙ (λ i. slice_set (is.chains i) (same i) None) ∙ set-set old.chains chain (Some (record { promise = n; frames = [] })) None
+    ∙ ap (λ (entry : Option ChainEntry). slice_set old.chains chain entry) (sym is.was_unused) ∙ set-get_or old.chains chain None in
+    (λ i. record { frames = one i; chains = two i })
+
+-- the plan of the heads that were gathered
+pub planned : (file : FileView) (terms : List Named) (heads : List PlanHead) (r : Result PlanView NoMemory) → AreKnown file terms → All (λ (n : Named). n.times ≤ 255) terms → heads ≡ query_heads file.index terms
+    → IfOk r (λ plan. plan ≡ plan_with terms heads) → IfOk r (λ plan. IsPlanned file terms plan)
+planned file terms heads (Ok plan) known times is made = record { known = known; times = times; arranged = made ∙ ap (plan_with terms) is }
+planned file terms heads (Err e) known times is made = tt

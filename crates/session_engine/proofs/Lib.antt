@@ -1,0 +1,9 @@
+pub mod Segments
+pub mod Totals
+pub mod Standing
+pub mod Gathering
+pub mod EntryLists
+pub mod Blocks
+pub mod Reports
+pub mod First
+pub mod Scored

@@ -1,0 +1,19 @@
+-- A report by its fields.
+use Rattle.std.proofs.Common.{◌≡◌, ℕ, List, length, ◌∙◌}
+use Rattle.std.specs.Prelude.{Option}
+use Rattle.jass_base.specs.declared.answer.Grade.{Grade}
+use Rattle.jass_base.specs.declared.answer.Hit.{Hit}
+use Rattle.jass_base.specs.declared.answer.Report.{Report}
+use Rattle.ranking_model.specs.declared.plan.QueryPlan.{QueryPlan}
+use Rattle.ranking_model.specs.Plan.{cutoff_after, next_after, size_of_first}
+use Rattle.ranking_model.specs.Scores.{bound_after, first_ranked, least_untouched, runner_up, scores_after}
+use Rattle.final_certificate.specs.Rule.{grade_by, report_by}
+
+pub reported : (n : ℕ) (plan : QueryPlan) (k postings of cutoff next bound : ℕ) (grade : Grade) (hits : List Hit) (up : Option Hit) (untouched : Option ℕ)
+    → postings ≡ size_of_first n plan.classes → of ≡ length plan.classes → cutoff ≡ cutoff_after n plan.classes → next ≡ next_after n plan.classes → bound ≡ bound_after n plan
+    → grade ≡ grade_by k bound (record { hits = hits; runner_up = up; least_untouched = untouched })
+    → hits ≡ first_ranked (scores_after n plan) k → up ≡ runner_up (scores_after n plan) k → untouched ≡ least_untouched (scores_after n plan)
+    → (let r : Report = record { postings = postings; segments = n; of = of; cutoff = cutoff; next = next; bound = bound; grade = grade } in r) ≡ report_by n plan k
+reported n plan k postings of cutoff next bound grade hits up untouched p o c x b g h u l =
+    let graded = g ∙ (λ i. grade_by k (b i) (record { hits = h i; runner_up = u i; least_untouched = l i })) in
+    (λ i. record { postings = p i; segments = n; of = o i; cutoff = c i; next = x i; bound = b i; grade = graded i })

@@ -1,0 +1,240 @@
+-- The heads of a query's segments, arranged, name the classes of its plan.
+use Rattle.std.proofs.Common.{◌≡◌, ℕ, zero, suc, ◌+◌, ◌*◌, ◌<◌, ◌≤◌, List, [], ◌∷◌, ◌++◌, map, length, get_or, Bool, true, false, refl, sym, ap, ap₂, ◌∙◌, subst, arith, cond, inl}
+use Rattle.std.specs.Prelude.{All}
+use Rattle.std.specs.List.{AllByRecursion}
+use Rattle.std.specs.declared.cmp.Ordering.{Ordering}
+use Rattle.std.specs.Ordering.{is_gt, nat_cmp, ordering_then}
+use Rattle.std.proofs.lemmas.List.{map-append}
+use Rattle.std.proofs.lemmas.List.Elements.{All-from_recursion, recursion_from_All}
+use Rattle.jass_base.specs.declared.named.Named.{Named}
+use Rattle.ranking_model.specs.declared.class.Class.{Class}
+use Rattle.ranking_model.specs.Order.{placed, sorted}
+use Rattle.ranking_model.specs.Plan.{plan_cmp}
+use Rattle.ranking_model.specs.Postings.{AreTerms}
+use Rattle.index_model.specs.Index.{SegmentData, TermData, IndexData, IsSegment, IsTerm, IsIndex, FallsTo}
+use Rattle.index_model.specs.Querying.{segments_at, classes_at, classes_from, query_classes}
+use Rattle.index_model.proofs.FlatOrder.{term_kept}
+use Rattle.index_model.proofs.Lists.{Pairs, pairs_by_places, pairs_append, all_weaker, all_append}
+use Rattle.segment_plan.specs.declared.entry.PlanEntry.{PlanEntry}
+use Rattle.segment_plan.specs.declared.entry.PlanHead.{PlanHead}
+use Rattle.segment_plan.specs.Entries.{AreHeads, Fall, entry_of, entry_cmp, plan_with}
+use Rattle.segment_plan.specs.Shape.{shape, entry_shape}
+use Rattle.session_engine.specs.Plans.{NamesSegment, class_named, docs_named, heads_at, heads_from, query_heads}
+
+-- ---- a sort through a map that keeps the order of some items
+
+module _ {A B : Type 0} (f : A → B) (P : A → Type 0) (cmp : A → A → Ordering) (mapped : B → B → Ordering) (same : (x y : A) → P x → P y → mapped (f x) (f y) ≡ cmp x y) where
+  all_placed : (x : A) (ys : List A) → P x → AllByRecursion P ys → AllByRecursion P (placed cmp x ys)
+  all_placed x [] p h = (p, tt)
+  all_placed x (y ∷ ys) p h = step (is_gt (cmp x y)) refl (all_placed x ys p h.1) where
+    step : (b : Bool) → is_gt (cmp x y) ≡ b → AllByRecursion P (placed cmp x ys) → AllByRecursion P (placed cmp x (y ∷ ys))
+    step true e rest = rw e (h.0, rest)
+    step false e rest = rw e (p, (h.0, h.1))
+
+  pub all_sorted : (xs : List A) → AllByRecursion P xs → AllByRecursion P (sorted cmp xs)
+  all_sorted [] h = tt
+  all_sorted (x ∷ xs) h = all_placed x (sorted cmp xs) h.0 (all_sorted xs h.1)
+
+  placed_map : (x : A) (ys : List A) → P x → AllByRecursion P ys → placed mapped (f x) (map f ys) ≡ map f (placed cmp x ys)
+  placed_map x [] p h = refl
+  placed_map x (y ∷ ys) p h = rw (same x y p h.0) (step (is_gt (cmp x y)) (placed_map x ys p h.1)) where
+    step : (b : Bool) → placed mapped (f x) (map f ys) ≡ map f (placed cmp x ys) → cond b (f y ∷ placed mapped (f x) (map f ys)) (f x ∷ f y ∷ map f ys) ≡ map f (cond b (y ∷ placed cmp x ys) (x ∷ y ∷ ys))
+    step true rest = ap (λ l. f y ∷ l) rest
+    step false rest = refl
+
+  pub sorted_map : (xs : List A) → AllByRecursion P xs → sorted mapped (map f xs) ≡ map f (sorted cmp xs)
+  sorted_map [] h = refl
+  sorted_map (x ∷ xs) h = ap (placed mapped (f x)) (sorted_map xs h.1) ∙ placed_map x (sorted cmp xs) h.0 (all_sorted xs h.1)
+
+-- ---- the entries of a term's segments
+
+abbrev Suffix : {A : Type 0} → List A → ℕ → List A → Type 0
+Suffix {A} all at xs = (i : ℕ) (d : A) → get_or all (at + i) d ≡ get_or xs i d
+
+first_of : {A : Type 0} (all : List A) (at : ℕ) (x : A) (xs : List A) (d : A) → Suffix all at (x ∷ xs) → get_or all at d ≡ x
+first_of all at x xs d rest = let e : at + 0 ≡ at = omega arith in ap (λ n. get_or all n d) (sym e) ∙ rest 0 d
+
+rest_of : {A : Type 0} (all : List A) (at : ℕ) (x : A) (xs : List A) → Suffix all at (x ∷ xs) → Suffix all (suc at) xs
+rest_of all at x xs rest i d = let e : suc at + i ≡ at + suc i = omega arith in ap (λ n. get_or all n d) e ∙ rest (suc i) d
+
+abbrev no_term : Named
+no_term = record { term = 0; times = 0 }
+
+abbrev no_segment : SegmentData
+no_segment = record { impact = 0; docs = [] }
+
+abbrev head_of : ℕ → ℕ → SegmentData → PlanHead
+head_of place segment s = record { place = place; segment = segment; impact = s.impact; count = length s.docs }
+
+module _ (index : IndexData) (all : List Named) where
+  abbrev Names : PlanEntry → Type 0
+  Names e = NamesSegment index all e
+
+  abbrev named_by : PlanEntry → Class
+  named_by e = class_named index all e
+
+  abbrev entry : PlanHead → PlanEntry
+  entry h = entry_of all h
+
+  docs_are : (place seg : ℕ) (named : Named) (s : SegmentData) → get_or all place no_term ≡ named → get_or (segments_at index.terms named.term) seg no_segment ≡ s
+      → docs_named index all (entry (head_of place seg s)) ≡ s.docs
+  docs_are place seg named s is at = ap (λ (n : Named). (get_or (segments_at index.terms n.term) seg no_segment).docs) is ∙ ap (λ (s : SegmentData). s.docs) at
+
+  class_is : (place seg : ℕ) (named : Named) (s : SegmentData) → get_or all place no_term ≡ named → get_or (segments_at index.terms named.term) seg no_segment ≡ s
+      → named_by (entry (head_of place seg s)) ≡ record { place = place; weight = s.impact * named.times; docs = s.docs }
+  class_is place seg named s is at =
+      let docs = docs_are place seg named s is at in
+      let weight : s.impact * (get_or all place no_term).times ≡ s.impact * named.times = ap (λ (n : Named). s.impact * n.times) is in
+      (λ i. record { place = place; weight = weight i; docs = docs i })
+
+  names_is : (d place seg : ℕ) (named : Named) (s : SegmentData) → get_or all place no_term ≡ named → get_or (segments_at index.terms named.term) seg no_segment ≡ s
+      → place < length all → named.term < length index.terms → 1 ≤ named.times → seg < length (segments_at index.terms named.term) → IsSegment d s
+      → Names (entry (head_of place seg s))
+  names_is d place seg named s is at inside known some there segment = record {
+    place = inside;
+    term = subst (λ (n : Named). n.term < length index.terms) (sym is) known;
+    segment = subst (λ (n : Named). seg < length (segments_at index.terms n.term)) (sym is) there;
+    count = ap length (sym (docs_are place seg named s is at));
+    some = segment.docs.some;
+    weight = subst (λ (n : Named). 1 ≤ s.impact * n.times) (sym is) (product s.impact named.times segment.impact.0 some);
+  } where
+    product : (a b : ℕ) → 1 ≤ a → 1 ≤ b → 1 ≤ a * b
+    product a b p q = grind (arith, p, q)
+
+  classes_are_at : (place seg : ℕ) (named : Named) (segments : List SegmentData) → get_or all place no_term ≡ named → Suffix (segments_at index.terms named.term) seg segments
+      → map named_by (map entry (heads_at place seg segments)) ≡ classes_at place named segments
+  classes_are_at place seg named [] is rest = refl
+  classes_are_at place seg named (s ∷ ss) is rest =
+      ap₂ (λ (c : Class) (cs : List Class). c ∷ cs) (class_is place seg named s is (first_of (segments_at index.terms named.term) seg s ss no_segment rest))
+      (classes_are_at place (suc seg) named ss is (rest_of (segments_at index.terms named.term) seg s ss rest))
+
+  names_at : (d place seg : ℕ) (named : Named) (segments : List SegmentData) → get_or all place no_term ≡ named → Suffix (segments_at index.terms named.term) seg segments
+      → place < length all → named.term < length index.terms → 1 ≤ named.times → seg + length segments ≡ length (segments_at index.terms named.term) → AllByRecursion (IsSegment d) segments
+      → AllByRecursion Names (map entry (heads_at place seg segments))
+  names_at d place seg named [] is rest inside known some there h = tt
+  names_at d place seg named (s ∷ ss) is rest inside known some there h = (
+    names_is d place seg named s is (first_of (segments_at index.terms named.term) seg s ss no_segment rest) inside known some (omega (arith, there)) h.0,
+    names_at d place (suc seg) named ss is (rest_of (segments_at index.terms named.term) seg s ss rest) inside known some (omega (arith, there)) h.1,
+  )
+
+  classes_are_from : (place : ℕ) (query : List Named) → Suffix all place query → map named_by (map entry (heads_from place query index.terms)) ≡ classes_from place query index.terms
+  classes_are_from place [] rest = refl
+  classes_are_from place (named ∷ query) rest =
+      let here : List PlanHead = heads_at place 0 (segments_at index.terms named.term) in
+      let later : List PlanHead = heads_from (suc place) query index.terms in
+      ap (map named_by) (map-append entry here later)
+      ∙ map-append named_by (map entry here) (map entry later)
+      ∙ ap₂ (λ (x y : List Class). x ++ y) (classes_are_at place 0 named (segments_at index.terms named.term) (first_of all place named query no_term rest) (λ i d. let none : 0 + i ≡ i = omega arith in ap (λ n. get_or (segments_at index.terms named.term) n d) none))
+      (classes_are_from (suc place) query (rest_of all place named query rest))
+
+  segments_of : (d : ℕ) (terms : List TermData) (n : ℕ) → AllByRecursion (IsTerm d) terms → AllByRecursion (IsSegment d) (segments_at terms n)
+  segments_of d [] n h = tt
+  segments_of d (t ∷ ts) zero h = recursion_from_All (IsSegment d) t.segments h.0.segments
+  segments_of d (t ∷ ts) (suc n) h = segments_of d ts n h.1
+
+  names_from : (d place : ℕ) (query : List Named) → Suffix all place query → place + length query ≡ length all → AllByRecursion (λ (n : Named). n.term < length index.terms) query
+      → AllByRecursion (λ (n : Named). 1 ≤ n.times) query → AllByRecursion (IsTerm d) index.terms → AllByRecursion Names (map entry (heads_from place query index.terms))
+  names_from d place [] rest many known some h = tt
+  names_from d place (named ∷ query) rest many known some h =
+      let here : List PlanHead = heads_at place 0 (segments_at index.terms named.term) in
+      let later : List PlanHead = heads_from (suc place) query index.terms in
+      subst (λ (es : List PlanEntry). AllByRecursion Names es) (sym (map-append entry here later))
+      (all_append Names (map entry here) (map entry later)
+      (names_at d place 0 named (segments_at index.terms named.term) (first_of all place named query no_term rest) (λ i d. let none : 0 + i ≡ i = omega arith in ap (λ n. get_or (segments_at index.terms named.term) n d) none) (omega (arith, many)) known.0 some.0 (omega arith) (segments_of d index.terms named.term h))
+      (names_from d (suc place) query (rest_of all place named query rest) (omega (arith, many)) known.1 some.1 h))
+
+  -- ---- the arranged entries
+
+  cmp_agrees : (x y : PlanEntry) → Names x → Names y → plan_cmp (named_by x) (named_by y) ≡ entry_cmp x y
+  cmp_agrees x y p q =
+      let one = p.count in
+      let other = q.count in
+      (λ i. ordering_then (ordering_then (nat_cmp y.weight x.weight) (nat_cmp (sym one i) (sym other i))) (nat_cmp x.place y.place))
+
+  shapes : (es : List PlanEntry) → AllByRecursion Names es → map shape (map named_by es) ≡ map entry_shape es
+  shapes [] h = refl
+  shapes (e ∷ es) h =
+      let count = h.0.count in
+      ap₂ (λ x xs. x ∷ xs) (λ i. record { place = e.place; weight = e.weight; size = sym count i }) (shapes es h.1)
+
+pub entries_named : (index : IndexData) (terms : List Named) → IsIndex index → AreTerms terms → All (λ (n : Named). n.term < length index.terms) terms
+    → AllByRecursion (NamesSegment index terms) (map (entry_of terms) (query_heads index terms))
+entries_named index terms is are known = names_from index terms (length index.names) 0 terms (λ i d. ap (λ n. get_or terms n d) (omega arith)) (omega arith)
+    (recursion_from_All (λ (n : Named). n.term < length index.terms) terms known) (recursion_from_All (λ (n : Named). 1 ≤ n.times) terms are.named)
+    (recursion_from_All (IsTerm (length index.names)) index.terms is.terms)
+
+pub arranged_named : (index : IndexData) (terms : List Named) → IsIndex index → AreTerms terms → All (λ (n : Named). n.term < length index.terms) terms
+    → AllByRecursion (NamesSegment index terms) (plan_with terms (query_heads index terms)).entries
+arranged_named index terms is are known = all_sorted (class_named index terms) (NamesSegment index terms) entry_cmp plan_cmp (cmp_agrees index terms)
+    (map (entry_of terms) (query_heads index terms)) (entries_named index terms is are known)
+
+pub arranged_classes : (index : IndexData) (terms : List Named) → IsIndex index → AreTerms terms → All (λ (n : Named). n.term < length index.terms) terms
+    → sorted plan_cmp (query_classes index terms) ≡ map (class_named index terms) (plan_with terms (query_heads index terms)).entries
+arranged_classes index terms is are known =
+    ap (sorted plan_cmp) (sym (classes_are_from index terms 0 terms (λ i d. ap (λ n. get_or terms n d) (omega arith))))
+    ∙ sorted_map (class_named index terms) (NamesSegment index terms) entry_cmp plan_cmp (cmp_agrees index terms)
+    (map (entry_of terms) (query_heads index terms)) (entries_named index terms is are known)
+
+pub arranged_shapes : (index : IndexData) (terms : List Named) → IsIndex index → AreTerms terms → All (λ (n : Named). n.term < length index.terms) terms
+    → map shape (map (class_named index terms) (plan_with terms (query_heads index terms)).entries) ≡ map entry_shape (plan_with terms (query_heads index terms)).entries
+arranged_shapes index terms is are known = shapes index terms (plan_with terms (query_heads index terms)).entries (arranged_named index terms is are known)
+
+-- ---- the heads are those of segments of the query's terms, each once
+
+module _ (places : ℕ) where
+  abbrev IsHead : ℕ → PlanHead → Type 0
+  IsHead from h = (from ≤ h.place) × (h.place < places) × (1 ≤ h.impact) × (1 ≤ h.count)
+
+  heads_are_at : (d place seg : ℕ) (segments : List SegmentData) → place < places → AllByRecursion (IsSegment d) segments
+      → AllByRecursion (λ (h : PlanHead). (h.place ≡ place) × IsHead place h) (heads_at place seg segments)
+  heads_are_at d place seg [] inside h = tt
+  heads_are_at d place seg (s ∷ ss) inside h = ((refl, (omega arith, inside, h.0.impact.0, h.0.docs.some)), heads_are_at d place (suc seg) ss inside h.1)
+
+  heads_are_from : (d place : ℕ) (query : List Named) (terms : List TermData) → place + length query ≡ places → AllByRecursion (IsTerm d) terms
+      → AllByRecursion (IsHead place) (heads_from place query terms)
+  heads_are_from d place [] terms many h = tt
+  heads_are_from d place (named ∷ query) terms many h =
+      all_append (IsHead place) (heads_at place 0 (segments_at terms named.term)) (heads_from (suc place) query terms)
+      (all_weaker (λ (h : PlanHead). (h.place ≡ place) × IsHead place h) (IsHead place) (λ x p. p.1) (heads_at place 0 (segments_at terms named.term))
+      (heads_are_at d place 0 (segments_at terms named.term) (omega (arith, many)) (segments_of (record { names = []; terms = terms }) [] d terms named.term h)))
+      (all_weaker (IsHead (suc place)) (IsHead place) (λ x p. (omega (arith, p.0), p.1, p.2, p.3)) (heads_from (suc place) query terms) (heads_are_from d (suc place) query terms (omega (arith, many)) h))
+
+abbrev Falls : PlanHead → PlanHead → Type 0
+Falls a b = a.place ≡ b.place → Fall a b
+
+later_fall : (place low seg : ℕ) (s : SegmentData) (segments : List SegmentData) → low < seg → AllByRecursion (λ (t : SegmentData). FallsTo s t) segments
+    → AllByRecursion (λ (b : PlanHead). Falls (head_of place low s) b) (heads_at place seg segments)
+later_fall place low seg s [] far h = tt
+later_fall place low seg s (t ∷ ts) far h = ((λ _. inl (far, h.0)), later_fall place low (suc seg) s ts (omega (arith, far)) h.1)
+
+fall_at : (place seg : ℕ) (segments : List SegmentData) → Pairs FallsTo segments → Pairs Falls (heads_at place seg segments)
+fall_at place seg [] h = tt
+fall_at place seg (s ∷ ss) h = (later_fall place seg (suc seg) s ss (omega arith) h.0, fall_at place (suc seg) ss h.1)
+
+falling_at : (d : ℕ) (terms : List TermData) (n : ℕ) → AllByRecursion (IsTerm d) terms → Pairs FallsTo (segments_at terms n)
+falling_at d [] n h = tt
+falling_at d (t ∷ ts) zero h = (term_kept d t h.0).falling
+falling_at d (t ∷ ts) (suc n) h = falling_at d ts n h.1
+
+fall_from : (places d place : ℕ) (query : List Named) (terms : List TermData) → place + length query ≡ places → AllByRecursion (IsTerm d) terms → Pairs Falls (heads_from place query terms)
+fall_from places d place [] terms many h = tt
+fall_from places d place (named ∷ query) terms many h =
+    let here : List PlanHead = heads_at place 0 (segments_at terms named.term) in
+    let later : List PlanHead = heads_from (suc place) query terms in
+    pairs_append Falls here later (fall_at place 0 (segments_at terms named.term) (falling_at d terms named.term h)) (fall_from places d (suc place) query terms (omega (arith, many)) h)
+    (all_weaker (λ (a : PlanHead). (a.place ≡ place) × IsHead places place a) (λ (a : PlanHead). AllByRecursion (λ b. Falls a b) later)
+    (λ a p. all_weaker (IsHead places (suc place)) (λ (b : PlanHead). Falls a b) (λ b q same. absurd (omega (arith, p.0, q.0, same))) later
+    (heads_are_from places d (suc place) query terms (omega (arith, many)) h)) here
+    (heads_are_at places d place 0 (segments_at terms named.term) (omega (arith, many)) (segments_of (record { names = []; terms = terms }) [] d terms named.term h)))
+
+pub heads_are : (index : IndexData) (terms : List Named) → IsIndex index → AreHeads terms (query_heads index terms)
+heads_are index terms is =
+    let d = length index.names in
+    let each = recursion_from_All (IsTerm d) index.terms is.terms in
+    let heads : AllByRecursion (IsHead (length terms) 0) (query_heads index terms) = heads_are_from (length terms) d 0 terms index.terms (omega arith) each in
+    record {
+      places = All-from_recursion (λ (h : PlanHead). h.place < length terms) (query_heads index terms) (all_weaker (IsHead (length terms) 0) (λ (h : PlanHead). h.place < length terms) (λ h p. p.1) (query_heads index terms) heads);
+      impacts = All-from_recursion (λ (h : PlanHead). 1 ≤ h.impact) (query_heads index terms) (all_weaker (IsHead (length terms) 0) (λ (h : PlanHead). 1 ≤ h.impact) (λ h p. p.2) (query_heads index terms) heads);
+      counts = All-from_recursion (λ (h : PlanHead). 1 ≤ h.count) (query_heads index terms) (all_weaker (IsHead (length terms) 0) (λ (h : PlanHead). 1 ≤ h.count) (λ h p. p.3) (query_heads index terms) heads);
+      fall = pairs_by_places Falls (query_heads index terms) (fall_from (length terms) d 0 terms index.terms (omega arith) each);
+    }

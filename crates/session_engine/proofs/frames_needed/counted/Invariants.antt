@@ -1,0 +1,10 @@
+use Rattle.std.proofs.Common.{◌≡◌, ◌≤◌, ◌+◌, min, drop}
+use Rattle.std.specs.Prelude.{sum_by}
+use Rattle.index_model.specs.Querying.{segments_at}
+use Rattle.session_engine.specs.Plans.{postings_at}
+use Rattle.session_engine.proofs.Gathering.{size}
+use Rattle.session_engine.proofs.frames_needed.counted.Given as goal
+
+abbrev pub invariant-loop-segment : goal.invariant-loop-segment
+invariant-loop-segment l = (l.sum ≤ l.limit)
+    × (min l.limit (l.sum + sum_by size (drop l.segment (segments_at l.index.index.terms l.term))) ≡ min l.limit (l.count + postings_at l.index.index.terms l.term))

@@ -1,0 +1,13 @@
+use Rattle.std.proofs.Common.{length, sym, subst}
+use Rattle.jass_base.specs.declared.answer.Report.{Report}
+use Rattle.index_model.specs.Flat.{numbered_flat}
+use Rattle.ranking_model.specs.Report.{IsReport}
+use Rattle.session_engine.specs.Plans.{session_plan}
+use Rattle.session_engine.specs.Standing.{plan_over}
+use Rattle.session_engine.proofs.laws.reports_of_sessions_keep_their_promises.Goals as goal
+
+pub returns-clause-promised : goal.returns-clause-promised
+unfolding session_plan
+returns-clause-promised c s file pool is stands =
+    c.reports_keep_their_promises.ensures (length file.index.names) s.scored s.k (numbered_flat file.index) s.query.terms s.report (c.the_flat_list_is_flat.ensures.numbers file.index is.index)
+    (subst (λ (r : Report). IsReport s.scored (plan_over file s) s.k r) (sym stands.report) (c.a_prefix_has_one_report.ensures.report s.scored s.k (plan_over file s)))

@@ -1,0 +1,94 @@
+-- The plan of a query over an index file, and what it needs of a pool of frames.
+use Rattle.std.specs.Prelude.{ℕ, suc, ◌≡◌, ◌<◌, ◌≤◌, min, false, All, List, [], ◌∷◌, ◌++◌, length, slice_get, sum_by}
+use Rattle.std.specs.Prelude.{Some}
+use Rattle.std.specs.List.{slice_index_or}
+use Rattle.jass_base.specs.declared.named.Named.{Named}
+use Rattle.ranking_model.specs.declared.class.Class.{Class}
+use Rattle.ranking_model.specs.declared.plan.QueryPlan.{QueryPlan}
+use Rattle.ranking_model.specs.Plan.{plan_of, size_of_first}
+use Rattle.ranking_model.specs.Postings.{AreTerms}
+use Rattle.index_model.specs.Index.{SegmentData, TermData, IndexData, IsIndex}
+use Rattle.index_model.specs.Flat.{numbered_flat}
+use Rattle.index_model.specs.Querying.{segments_at}
+use Rattle.index_layout.specs.View.{FileView}
+use Rattle.index_file.specs.Places.{segment_at}
+use Rattle.segment_plan.specs.declared.entry.PlanEntry.{PlanEntry}
+use Rattle.segment_plan.specs.declared.entry.PlanHead.{PlanHead}
+use Rattle.segment_plan.specs.Entries.{plan_with}
+use Rattle.accumulator_pages.specs.Adding.{page_count}
+use Rattle.frame_pool.specs.Pool.{PoolView, all_in_use}
+
+-- the terms are numbers of the index's terms
+abbrev pub AreKnown : FileView → List Named → Type 0
+AreKnown file terms = All (λ (n : Named). n.term < length file.index.terms) terms
+
+-- the plan of a query with these terms over the index of a file
+unfoldable pub session_plan : FileView → List Named → QueryPlan
+session_plan file terms = plan_of (length file.index.names) (numbered_flat file.index) terms
+
+-- the number of postings of all classes of a plan
+abbrev pub plan_postings : QueryPlan → ℕ
+plan_postings plan = size_of_first (length plan.classes) plan.classes
+
+-- how many frames a query can use at the most: one for each page of 256 documents, and one for each posting of its plan
+abbrev pub need_of : FileView → List Named → ℕ
+need_of file terms = min (page_count (length file.index.names)) (plan_postings (session_plan file terms))
+
+-- a number for one chain more is free
+abbrev pub HasFreeNumber : PoolView → Type 0
+HasFreeNumber pool = all_in_use pool ≡ false
+
+-- ---- the segments of a query's terms
+
+-- the heads of a named term's segments from a segment on
+abbrev pub heads_at : ℕ → ℕ → List SegmentData → List PlanHead
+heads_at place segment [] = []
+heads_at place segment (s ∷ segments) =
+    record { place = place; segment = segment; impact = s.impact; count = length s.docs }
+    ∷ heads_at place (suc segment) segments
+
+-- the heads of named terms, of which the first has this place in the query
+abbrev pub heads_from : ℕ → List Named → List TermData → List PlanHead
+heads_from place [] terms = []
+heads_from place (named ∷ query) terms =
+    heads_at place 0 (segments_at terms named.term) ++ heads_from (suc place) query terms
+
+abbrev pub query_heads : IndexData → List Named → List PlanHead
+query_heads index query = heads_from 0 query index.terms
+
+-- the number of the term at a place of a query
+abbrev pub term_of : List Named → ℕ → ℕ
+term_of terms place = (slice_index_or terms place (record { term = 0; times = 0 })).term
+
+-- the documents of the segment that an entry of a plan names
+abbrev pub docs_named : IndexData → List Named → PlanEntry → List ℕ
+docs_named index terms entry = (segment_at index.terms (term_of terms entry.place) entry.segment).docs
+
+-- the class of that segment
+abbrev pub class_named : IndexData → List Named → PlanEntry → Class
+class_named index terms entry =
+    record { place = entry.place; weight = entry.weight; docs = docs_named index terms entry }
+
+-- an entry of a plan names a segment of a term of the query, which has as many documents as it says, and a weight
+pub record NamesSegment (index : IndexData) (terms : List Named) (entry : PlanEntry) : Type 0 where
+  pub place : entry.place < length terms
+  pub term : term_of terms entry.place < length index.terms
+  pub segment : entry.segment < length (segments_at index.terms (term_of terms entry.place))
+  pub count : entry.count ≡ length (docs_named index terms entry)
+  pub some : 1 ≤ entry.count
+  pub weight : 1 ≤ entry.weight
+
+-- the plan of a query with known terms over the file has this entry at a place
+pub record HasEntry (file : FileView) (terms : List Named) (n : ℕ) (entry : PlanEntry) : Type 0 where
+  pub index : IsIndex file.index
+  pub named : AreTerms terms
+  pub known : AreKnown file terms
+  pub at : slice_get (plan_with terms (query_heads file.index terms)).entries n ≡ Some entry
+
+-- the number of postings of the term with a number
+abbrev pub postings_at : List TermData → ℕ → ℕ
+postings_at terms number = sum_by (λ (s : SegmentData). length s.docs) (segments_at terms number)
+
+-- the number of postings of some terms
+abbrev pub postings_of_terms : List TermData → List Named → ℕ
+postings_of_terms terms query = sum_by (λ (n : Named). postings_at terms n.term) query

@@ -1,0 +1,68 @@
+ghost use Rattle.std.specs.Prelude.{ℕ, ◌≡◌, ◌+◌, ◌≤◌, length};
+ghost use Rattle.frame_pool.specs.ChainView.{LeavesPool};
+ghost use Rattle.index_layout.specs.View.{FileView};
+ghost use Rattle.ranking_model.specs.Plan.{size_of_first};
+ghost use Rattle.ranking_model.specs.Postings.{AreTerms};
+ghost use Rattle.session_scores.specs.Scores.{AreScoresOf, own_chain};
+ghost use Rattle.session_engine.specs.Plans.{need_of, session_plan};
+ghost use Rattle.session_engine.specs.Standing.{IsPlanned, ScoredTo};
+
+use crate::laws::{
+    a_session_plan_is_small, a_session_plan_names_its_segments, one_entry_more_is_scored,
+};
+use crate::scoring::{WeighedSegment, score_segment};
+use frame_pool::FramePool;
+use frame_pool::laws::calls_on_one_chain;
+use index_file::IndexFile;
+use jass_base::{Named, Steps};
+use ranking_model::prefix_laws::scores_stay_small;
+use segment_plan::Plan;
+use session_scores::Scores;
+use std::sync::ledger::Ledger;
+
+/// Scores the entries of a plan from one on up to another, in their order, and answers how many postings they have.
+pub fn score_entries<L: Ledger>(
+    scores: &mut Scores,
+    index: &IndexFile,
+    pool: &mut FramePool,
+    terms: &[Named],
+    plan: &Plan,
+    from: u32,
+    to: u32,
+    steps: &mut Steps<L>,
+) -> u64
+    requires terms { AreTerms terms.now }
+    requires planned { IsPlanned index.now terms.now plan.now }
+    requires scored { ScoredTo from (session_plan index.now terms.now) (need_of index.now terms.now)
+        scores.old pool.old }
+    requires order { from ≤ to }
+    requires within { to ≤ length plan.now.entries }
+    ensures scored { ScoredTo to (session_plan index.now terms.now) (need_of index.now terms.now)
+        scores.new pool.new }
+    ensures postings { size_of_first from (session_plan index.now terms.now).classes + result
+        ≡ size_of_first to (session_plan index.now terms.now).classes }
+    ensures steps { steps.new ≡ steps.old + result }
+    ensures same { AreScoresOf scores.old scores.new }
+    ensures leaves { LeavesPool pool.old pool.new (own_chain scores.old) }
+{
+    index.is_checked();
+    a_session_plan_names_its_segments();
+    a_session_plan_is_small();
+    one_entry_more_is_scored();
+    scores_stay_small();
+    calls_on_one_chain();
+    let mut block = [0u32; 128];
+    let mut postings: u64 = 0;
+    for i in from..to {
+        let entry = plan.entry(i);
+        let segment = WeighedSegment {
+            term: terms[entry.place as usize].term,
+            segment: entry.segment,
+            weight: entry.weight,
+            count: entry.count,
+        };
+        score_segment(scores, index, pool, segment, &mut block, steps);
+        postings += u64::from(entry.count);
+    }
+    postings
+}

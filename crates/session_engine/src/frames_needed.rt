@@ -1,0 +1,38 @@
+ghost use Rattle.std.specs.Prelude.{◌≡◌, ◌+◌, ◌≤◌, min};
+ghost use Rattle.accumulator_pages.specs.Adding.{page_count};
+ghost use Rattle.index_layout.specs.View.{term_postings};
+ghost use Rattle.index_model.specs.Querying.{segments_at};
+ghost use Rattle.session_engine.specs.Plans.{AreKnown, need_of, postings_at};
+
+use crate::laws::a_session_plan_has_its_postings;
+use index_file::IndexFile;
+use jass_base::Query;
+
+/// The most frames that a session of the query can use: one for each page of 256 documents of the index, and one for
+/// each posting of the query's plan. The query's terms are the index's.
+pub fn need(index: &IndexFile, query: &Query) -> u32
+    requires { AreKnown index.now query.now.terms }
+    ensures { result ≡ need_of index.now query.now.terms }
+{
+    a_session_plan_has_its_postings();
+    let pages = index.docs().div_ceil(256);
+    let mut count = 0;
+    for named in query.terms.as_slice() {
+        count = counted(index, named.term, count, pages);
+    }
+    count
+}
+
+/// A count with the postings of a term, up to a limit.
+fn counted(index: &IndexFile, term: u32, count: u32, limit: u32) -> u32
+    requires { count ≤ limit }
+    ensures { result ≡ min limit (count + postings_at index.now.index.terms term) }
+{
+    let mut sum = count;
+    for segment in 0..index.segments(term) {
+        sum = sum
+            .saturating_add(index.head(term, segment).count)
+            .min(limit);
+    }
+    sum
+}

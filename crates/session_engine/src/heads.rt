@@ -1,0 +1,57 @@
+ghost use Rattle.std.specs.Prelude.{◌≡◌, ◌<◌, ◌≤◌, ◌++◌, All, length, IfOk, OnOk};
+ghost use Rattle.jass_base.specs.declared.named.Named.{Named};
+ghost use Rattle.index_model.specs.Querying.{segments_at};
+ghost use Rattle.session_engine.specs.Plans.{AreKnown, heads_at, heads_from, query_heads};
+
+use index_file::IndexFile;
+use jass_base::{Named, NoMemory};
+use segment_plan::PlanHead;
+use std::alloc::Global;
+
+/// The heads of the segments of some terms, term by term.
+pub fn query_heads(
+    alloc: Global,
+    index: &IndexFile,
+    terms: &[Named],
+) -> Result<Vec<PlanHead>, NoMemory>
+    requires few { length terms.now ≤ 256 }
+    requires known { AreKnown index.now terms.now }
+    ensures heads { IfOk result (λ heads. heads.items ≡ query_heads index.now.index terms.now) }
+    ensures times { IfOk result (λ _. All (λ (n : Named). n.times ≤ 255) terms.now) }
+{
+    let mut heads = Vec::new(alloc);
+    let mut place = 0;
+    for named in terms {
+        gather_heads(index, *named, place, &mut heads)?;
+        place += 1;
+    }
+    Ok(heads)
+}
+
+/// Puts the heads of a term's segments behind the others. The term has this place in the query.
+fn gather_heads(
+    index: &IndexFile,
+    named: Named,
+    place: u32,
+    heads: &mut Vec<PlanHead>,
+) -> Result<(), NoMemory>
+    requires { named.term < length index.now.index.terms }
+    ensures heads { OnOk result
+        (heads.new.items ≡ heads.old.items ++ heads_at place 0 (segments_at index.now.index.terms named.term)) }
+    ensures times { named.times ≤ 255 }
+{
+    for segment in 0..index.segments(named.term) {
+        let head = index.head(named.term, segment);
+        let head = PlanHead {
+            place,
+            segment,
+            impact: head.impact,
+            count: head.count,
+        };
+        match heads.push(head) {
+            Ok(()) => {}
+            Err(_) => return Err(NoMemory),
+        }
+    }
+    Ok(())
+}

@@ -1,0 +1,101 @@
+ghost use Rattle.std.specs.Prelude.{ℕ, ◌≡◌, ◌+◌, ◌<◌, ◌≤◌, ◌^◌, All, length};
+ghost use Rattle.accumulator_pages.specs.Pages.{HasRoomFor};
+ghost use Rattle.frame_pool.specs.ChainView.{LeavesPool};
+ghost use Rattle.index_file.specs.Places.{segment_at};
+ghost use Rattle.index_model.specs.Querying.{segments_at};
+ghost use Rattle.ranking_model.specs.Scores.{added};
+ghost use Rattle.session_scores.specs.Scores.{AreScoresOf, ScoresStand, docs_of, own_chain, own_view, scores_of};
+
+use frame_pool::FramePool;
+use frame_pool::laws::calls_on_one_chain;
+use index_file::IndexFile;
+use jass_base::Steps;
+use ranking_model::prefix_laws::{one_class_more_is_added, scores_stay_small};
+use session_scores::Scores;
+use std::sync::ledger::Ledger;
+
+/// A segment of a term, and the weight that it adds to the score of each of its documents.
+#[derive(Clone, Copy)]
+pub struct WeighedSegment {
+    pub term: u32,
+    pub segment: u32,
+    pub weight: u32,
+    pub count: u32,
+}
+
+/// Adds the weight of a whole segment to the scores of its documents. `block` is room for documents.
+pub fn score_segment<L: Ledger>(
+    scores: &mut Scores,
+    index: &IndexFile,
+    pool: &mut FramePool,
+    segment: WeighedSegment,
+    block: &mut [u32; 128],
+    steps: &mut Steps<L>,
+)
+    requires term { segment.term < length index.now.index.terms }
+    requires segment { segment.segment < length (segments_at index.now.index.terms segment.term) }
+    requires count { segment.count ≡ length (segment_at index.now.index.terms segment.term segment.segment).docs }
+    requires weight { 1 ≤ segment.weight }
+    requires stand { ScoresStand scores.old pool.old }
+    requires docs { docs_of scores.old ≡ length index.now.index.names }
+    requires fits { All (λ score. score < 2 ^ 32) (added segment.weight
+        (segment_at index.now.index.terms segment.term segment.segment).docs (scores_of scores.old pool.old)) }
+    requires room { HasRoomFor (own_view scores.old pool.old) (docs_of scores.old) segment.count }
+    ensures scores { scores_of scores.new pool.new ≡ added segment.weight
+        (segment_at index.now.index.terms segment.term segment.segment).docs (scores_of scores.old pool.old) }
+    ensures frames { length (own_view scores.new pool.new).frames
+        ≤ length (own_view scores.old pool.old).frames + segment.count }
+    ensures stand { ScoresStand scores.new pool.new }
+    ensures same { AreScoresOf scores.old scores.new }
+    ensures leaves { LeavesPool pool.old pool.new (own_chain scores.old) }
+    ensures steps { steps.new ≡ steps.old + segment.count }
+{
+    index.is_checked();
+    if segment.count == 1 {
+        let doc = index.first_doc(segment.term, segment.segment, steps);
+        scores.add(pool, doc, segment.weight);
+    } else {
+        score_blocks(scores, index, pool, segment, block, steps);
+    }
+}
+
+/// The same, block by block.
+fn score_blocks<L: Ledger>(
+    scores: &mut Scores,
+    index: &IndexFile,
+    pool: &mut FramePool,
+    segment: WeighedSegment,
+    block: &mut [u32; 128],
+    steps: &mut Steps<L>,
+)
+    requires term { segment.term < length index.now.index.terms }
+    requires segment { segment.segment < length (segments_at index.now.index.terms segment.term) }
+    requires count { segment.count ≡ length (segment_at index.now.index.terms segment.term segment.segment).docs }
+    requires weight { 1 ≤ segment.weight }
+    requires stand { ScoresStand scores.old pool.old }
+    requires inside { All (λ doc. doc < docs_of scores.old)
+        (segment_at index.now.index.terms segment.term segment.segment).docs }
+    requires fits { All (λ score. score < 2 ^ 32) (added segment.weight
+        (segment_at index.now.index.terms segment.term segment.segment).docs (scores_of scores.old pool.old)) }
+    requires room { HasRoomFor (own_view scores.old pool.old) (docs_of scores.old) segment.count }
+    ensures scores { scores_of scores.new pool.new ≡ added segment.weight
+        (segment_at index.now.index.terms segment.term segment.segment).docs (scores_of scores.old pool.old) }
+    ensures frames { length (own_view scores.new pool.new).frames
+        ≤ length (own_view scores.old pool.old).frames + segment.count }
+    ensures stand { ScoresStand scores.new pool.new }
+    ensures same { AreScoresOf scores.old scores.new }
+    ensures leaves { LeavesPool pool.old pool.new (own_chain scores.old) }
+    ensures steps { steps.new ≡ steps.old + segment.count }
+{
+    calls_on_one_chain();
+    one_class_more_is_added();
+    scores_stay_small();
+    let mut cursor = index.cursor(segment.term, segment.segment);
+    'pieces: loop {
+        let given = index.next_block(&mut cursor, block, steps);
+        if given == 0 {
+            return;
+        }
+        scores.add_all(pool, &block[..given], segment.weight);
+    }
+}

@@ -1,0 +1,209 @@
+ghost use Rattle.std.specs.Prelude.{ℕ, ◌≡◌, ◌+◌, ◌<◌, ◌≤◌, length, slice_set, None, IfOk, IfErr, OnErr, Err};
+ghost use Rattle.ranking_model.specs.Plan.{granted_with};
+ghost use Rattle.index_layout.specs.View.{FileView};
+ghost use Rattle.frame_pool.specs.Pool.{PoolView, IsInUse, Promises, spare_of};
+ghost use Rattle.frame_pool.specs.ChainView.{LeavesOthers, LeavesPool, chain_view};
+ghost use Rattle.session_engine.specs.Plans.{AreKnown, HasFreeNumber, need_of};
+ghost use Rattle.session_engine.specs.Standing.{IsPlanned, IsSessionOf, SessionStands, answer_over};
+ghost use Rattle.session_engine.specs.Standing.{chain_of, granted_of, k_of, query_of, report_of};
+
+use crate::entries::score_entries;
+use crate::frames_needed::need;
+use crate::heads::query_heads;
+use crate::laws::{a_session_plan_names_its_segments, nothing_is_scored_at_first};
+use crate::reporting::report_at;
+use crate::stop::OpenStop;
+use frame_pool::FramePool;
+use frame_pool::laws::calls_on_one_chain;
+use index_file::IndexFile;
+use jass_base::{Budget, Hit, NoMemory, Query, Report, Steps};
+use ranking_model::granted_with;
+use ranking_model::laws::the_prefix_is_the_longest;
+use ranking_model::prefix_laws::a_prefix_is_resumed;
+use segment_plan::Plan;
+use segment_plan::laws::prefixes_are_those_of_the_plan;
+use session_scores::Scores;
+use std::alloc::Global;
+use std::sync::ledger::Ledger;
+
+/// A query that is answered in parts, over one index file and one pool. It ends only by `close`.
+///
+/// Each call that takes an index or a pool wants those of `open`, the pool with this session's chain as the last call
+/// on this session left it. Other chains may have changed.
+pub struct Session {
+    scores: Scores,
+    plan: Plan,
+    query: Query,
+    k: u32,
+    granted: u64,
+    scored: u32,
+    report: Report,
+}
+
+impl Session {
+    /// A session to which nothing is granted. k is 1 to 100,000. No other call takes memory.
+    ///
+    /// `PoolFull` comes exactly where the query needs more frames than are spare, and else only `NoMemory`.
+    pub fn open(
+        alloc: Global,
+        index: &IndexFile,
+        pool: &mut FramePool,
+        query: Query,
+        k: u32,
+    ) -> Result<Session, OpenStop>
+        requires known { AreKnown index.now query.terms }
+        requires some { 1 ≤ k }
+        requires few { k ≤ 100000 }
+        requires chain { HasFreeNumber pool.old }
+        ensures stands { IfOk result (λ s. SessionStands s index.now pool.new) }
+        ensures granted { IfOk result (λ s. granted_of s ≡ 0) }
+        ensures query { IfOk result (λ s. query_of s ≡ query) }
+        ensures k { IfOk result (λ s. k_of s ≡ k) }
+        ensures promised { IfOk result
+            (λ s. Promises pool.old pool.new (chain_of s) (need_of index.now query.terms)) }
+        ensures others { IfOk result (λ s. LeavesOthers pool.old pool.new (chain_of s)) }
+        ensures spare { IfOk result (λ _. spare_of pool.new + need_of index.now query.terms ≡ spare_of pool.old) }
+        ensures full { spare_of pool.old < need_of index.now query.terms
+            → result ≡ Err (OpenStop.PoolFull (need_of index.now query.terms) (spare_of pool.old)) }
+        ensures memory { need_of index.now query.terms ≤ spare_of pool.old
+            → IfErr result (λ stop. stop ≡ OpenStop.NoMemory) }
+        ensures refused { OnErr result (pool.new ≡ pool.old) }
+    {
+        a_session_plan_names_its_segments();
+        nothing_is_scored_at_first();
+        index.is_checked();
+        let need = need(index, &query);
+        let free = pool.spare();
+        if need > free {
+            return Err(OpenStop::PoolFull { need, free });
+        }
+        let Ok(plan) = plan_of(alloc, index, &query) else {
+            return Err(OpenStop::NoMemory);
+        };
+        let Ok(chain) = pool.promise(need) else {
+            return Err(OpenStop::NoMemory);
+        };
+        match Scores::new(alloc, index.docs(), k, pool, chain) {
+            Ok(scores) => {
+                let report = report_at(&scores, pool, &plan, k, 0, 0);
+                Ok(Session {
+                    scores,
+                    plan,
+                    query,
+                    k,
+                    granted: 0,
+                    scored: 0,
+                    report,
+                })
+            }
+            Err((chain, NoMemory)) => {
+                pool.give_back(chain);
+                Err(OpenStop::NoMemory)
+            }
+        }
+    }
+
+    /// Adds the budget to what was granted, scores the segments that it pays for now, and counts their postings as
+    /// steps. The report is of all grants so far.
+    pub fn grant<L: Ledger>(
+        &mut self,
+        index: &IndexFile,
+        pool: &mut FramePool,
+        budget: Budget,
+        steps: &mut Steps<L>,
+    ) -> Report
+        requires stands { SessionStands self.old index.now pool.old }
+        ensures stands { SessionStands self.new index.now pool.new }
+        ensures granted { granted_of self.new ≡ granted_with (granted_of self.old) budget }
+        ensures same { IsSessionOf self.old self.new }
+        ensures report { result ≡ report_of self.new }
+        ensures steps { steps.new + (report_of self.old).postings ≡ steps.old + result.postings }
+        ensures leaves { LeavesPool pool.old pool.new (chain_of self.old) }
+    {
+        the_prefix_is_the_longest();
+        a_prefix_is_resumed();
+        prefixes_are_those_of_the_plan();
+        a_session_plan_names_its_segments();
+        calls_on_one_chain();
+        index.is_checked();
+        self.granted = granted_with(self.granted, budget);
+        let before = self.report.postings;
+        let to = self.scored + self.plan.within(self.scored, self.granted - before);
+        let query = &self.query;
+        let terms = query.terms.as_slice();
+        let more = score_entries(
+            &mut self.scores,
+            index,
+            pool,
+            terms,
+            &self.plan,
+            self.scored,
+            to,
+            steps,
+        );
+        self.scores.settle(pool);
+        self.scored = to;
+        self.report = report_at(&self.scores, pool, &self.plan, self.k, to, before + more);
+        self.report
+    }
+
+    /// The first k documents of what is scored, by falling score, then rising number.
+    pub fn answer(&self) -> &[Hit]
+        ensures { (file : FileView) (pool : PoolView) → SessionStands self.now file pool
+            → result.now ≡ answer_over file self.now }
+    {
+        self.scores.hits()
+    }
+
+    /// The report of the last grant, and of none before the first.
+    pub fn report(&self) -> Report
+        ensures { result ≡ report_of self.now }
+    {
+        self.report
+    }
+
+    pub fn query(&self) -> &Query
+        ensures { result.now ≡ query_of self.now }
+    {
+        &self.query
+    }
+
+    /// How many frames the session's chain has.
+    pub fn frames(&self) -> u32
+        ensures { (file : FileView) (pool : PoolView) → SessionStands self.now file pool
+            → result ≡ length (chain_view pool (chain_of self.now)).frames }
+    {
+        self.scores.frames()
+    }
+
+    /// Frees the session's frames, and ends its promise.
+    pub fn close(self, pool: &mut FramePool)
+        requires { IsInUse pool.old (chain_of self) }
+        ensures frames { pool.new.frames ≡ pool.old.frames }
+        ensures chains { pool.new.chains ≡ slice_set pool.old.chains (chain_of self) None }
+        ensures others { LeavesOthers pool.old pool.new (chain_of self) }
+        ensures spare { spare_of pool.new ≡ spare_of pool.old + (chain_view pool.old (chain_of self)).promise }
+    {
+        let Session {
+            scores,
+            plan: _,
+            query: _,
+            k: _,
+            granted: _,
+            scored: _,
+            report: _,
+        } = self;
+        pool.give_back(scores.into_chain());
+    }
+}
+
+/// The plan of a query.
+fn plan_of(alloc: Global, index: &IndexFile, query: &Query) -> Result<Plan, NoMemory>
+    requires { AreKnown index.now query.now.terms }
+    ensures { IfOk result (λ plan. IsPlanned index.now query.now.terms plan) }
+{
+    a_session_plan_names_its_segments();
+    index.is_checked();
+    let heads = query_heads(alloc, index, query.terms.as_slice())?;
+    Plan::new(alloc, query, heads.as_slice())
+}
