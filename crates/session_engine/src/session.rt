@@ -143,8 +143,9 @@ impl Session {
         );
         self.scores.settle(pool);
         self.scored = to;
-        self.report = report_at(&self.scores, pool, &self.plan, self.k, to, before + more);
-        self.report
+        let report = report_at(&self.scores, pool, &self.plan, self.k, to, before + more);
+        self.report = report;
+        report
     }
 
     /// The first k documents of what is scored, by falling score, then rising number.

@@ -48,7 +48,7 @@ returns-clause-stands g c =
     = subst (λ (ts : List Named). size_of_first s.scored (session_plan file ts).classes + c.score_entries-more.result ≡ size_of_first (s.scored + c.within.result) (session_plan file ts).classes) terms c.score_entries-more.ensures.postings in
     let scored = after_settle (subst (λ (ts : List Named). ScoredTo (s.scored + c.within.result) (session_plan file ts) (need_of file ts) c.score_entries-more.new.scores c.score_entries-more.new.pool) terms c.score_entries-more.ensures.scored)
     c.settle.ensures.stand c.settle.ensures.scores c.settle.ensures.frames c.settle.ensures.same c.settle.ensures.leaves in
-    let report = c.report_at-self.ensures plan shape scored.sums in
+    let report = c.report_at-report.ensures plan shape scored.sums in
     record {
       planned = stands.planned;
       prefix = grown;
@@ -76,6 +76,6 @@ returns-clause-steps g c =
     = subst (λ (ts : List Named). size_of_first s.scored (session_plan file ts).classes + c.score_entries-more.result ≡ size_of_first (s.scored + c.within.result) (session_plan file ts).classes) terms c.score_entries-more.ensures.postings in
     let scored = after_settle (subst (λ (ts : List Named). ScoredTo (s.scored + c.within.result) (session_plan file ts) (need_of file ts) c.score_entries-more.new.scores c.score_entries-more.new.pool) terms c.score_entries-more.ensures.scored)
     c.settle.ensures.stand c.settle.ensures.scores c.settle.ensures.frames c.settle.ensures.same c.settle.ensures.leaves in
-    let report = c.report_at-self.ensures plan shape scored.sums in
+    let report = c.report_at-report.ensures plan shape scored.sums in
     let postings = ap (λ (r : Report). r.postings) report in
     omega (arith, paid, more, postings, c.score_entries-more.ensures.steps)
