@@ -62,7 +62,7 @@ const NONE: Bad = Bad {
 
 /// What a run left.
 #[derive(Drop)]
-struct Left {
+struct Outcome {
     status: u8,
     out: Vec<u8>,
     notes: Vec<u8>,
@@ -70,7 +70,7 @@ struct Left {
     content: Option<Vec<u8>>,
 }
 
-impl Left {
+impl Outcome {
     fn holds(&self, text: &[u8]) -> bool {
         match &self.content {
             Some(content) => content.as_slice() == text,
@@ -87,42 +87,37 @@ impl Left {
 }
 
 /// Runs words over a cabinet with one file, `a`.
-fn left_by<L: Ledger>(
+fn outcome_by<L: Ledger>(
     alloc: Global,
     blank: Blank,
     content: &[u8],
-    words: &str,
-    bad: Bad,
-) -> Result<Left, AllocError>
+    words: &[String],
+    bad_reads: u64,
+    bad_writes: u64,
+    bad_puts: u64,
+) -> Result<Outcome, AllocError>
     requires name { blank.name ≡ L.name }
     requires parts { blank.parts ≡ L.parts }
     requires some { 0 < blank.parts }
 {
-    let words = parted(alloc, words)?;
-    let bad_reads = listed(alloc, &[bad.reads])?;
-    let bad_writes = listed(alloc, &[bad.writes])?;
+    let bad_reads = listed(alloc, &[bad_reads])?;
+    let bad_writes = listed(alloc, &[bad_writes])?;
     let mut files = MemCabinet::new(alloc, bad_reads, bad_writes);
     if files.store("a", content).is_err() {
         return Err(AllocError);
     }
     let mut input = SliceFeed::new(b"");
-    let mut out = MemSink::new(alloc, listed(alloc, &[bad.puts])?);
+    let mut out = MemSink::new(alloc, listed(alloc, &[bad_puts])?);
     let mut notes = MemSink::new(alloc, Row::new(alloc));
     let mut steps = Steps::<L>::new(blank);
     let status = run(
-        alloc,
-        words.as_slice(),
-        &mut files,
-        &mut input,
-        &mut out,
-        &mut notes,
-        &mut steps,
+        alloc, words, &mut files, &mut input, &mut out, &mut notes, &mut steps,
     );
     let content = match files.content("b") {
         Some(bytes) => Some(Vec::from_slice(alloc, bytes)?),
         None => None,
     };
-    Ok(Left {
+    Ok(Outcome {
         status: status.number(),
         out: Vec::from_slice(alloc, out.written())?,
         notes: Vec::from_slice(alloc, notes.written())?,
@@ -131,8 +126,17 @@ fn left_by<L: Ledger>(
 }
 
 /// The same with a fresh ledger.
-fn ran(alloc: Global, content: &[u8], words: &str, bad: Bad) -> Result<Left, AllocError> {
-    left_by::<Brand>(alloc, Blank::new(1), content, words, bad)
+fn outcome_of(alloc: Global, content: &[u8], words: &str, bad: Bad) -> Result<Outcome, AllocError> {
+    let words = parted(alloc, words)?;
+    outcome_by::<Brand>(
+        alloc,
+        Blank::new(1),
+        content,
+        words.as_slice(),
+        bad.reads,
+        bad.writes,
+        bad.puts,
+    )
 }
 
 #[test]
@@ -256,7 +260,7 @@ fn index_files_are_made_and_checked(rt: HostRuntime) {
         ),
     ];
     for (content, words, status, out, notes, made) in table {
-        let Ok(left) = ran(rt.alloc(), content, words, NONE) else {
+        let Ok(left) = outcome_of(rt.alloc(), content, words, NONE) else {
             assert!(&rt; false, "no memory");
             return;
         };
@@ -355,7 +359,7 @@ fn failed_calls_are_noted(rt: HostRuntime) {
         ),
     ];
     for (content, words, bad, status, notes, whole) in table {
-        let Ok(left) = ran(rt.alloc(), content, words, bad) else {
+        let Ok(left) = outcome_of(rt.alloc(), content, words, bad) else {
             assert!(&rt; false, "no memory");
             return;
         };
