@@ -74,6 +74,7 @@ module _ {A : Type 0} (input file : List ℕ) (judge : Option Files → Judged A
 
   counts : Counts (saving_meaning input file index) mid after → Counts (making_meaning input file judge made) before after
   counts is = record {
+    counting = is.counting;
     told = is.told ∙ read.told;
     written = is.written ∙ read.written;
     had = record {

@@ -13,6 +13,7 @@ check_meaning index = record {
   judge = judge_index index;
   file = None;
   prints = true;
+  counts = false;
   streams = false;
   IsOutput = λ view output. output ≡ record { content = []; text = totals_line (totals_of view.index); steps = 0 };
 }

@@ -1,5 +1,5 @@
 -- What `export` means: the collection of an index, with impacts as term frequencies, as a CIFF file.
-use Rattle.std.specs.Prelude.{◌≡◌, List, ℕ, [], ◌∷◌, Some, false}
+use Rattle.std.specs.Prelude.{◌≡◌, List, ℕ, [], ◌∷◌, Some, false, true}
 use Rattle.jass_base.specs.CiffText.{canonical_ciff}
 use Rattle.index_layout.specs.View.{FileView, index_postings}
 use Rattle.index_export.specs.Exports.{export_of}
@@ -13,6 +13,7 @@ export_meaning index ciff = record {
   judge = judge_index index;
   file = Some ciff;
   prints = false;
+  counts = true;
   streams = false;
   IsOutput = λ view output. output ≡ record {
     content = canonical_ciff (export_of view.index);

@@ -25,6 +25,7 @@ making_meaning input file judge made = record {
   judge = judge_made input judge made;
   file = Some file;
   prints = true;
+  counts = false;
   streams = false;
   IsOutput = λ index output. output ≡ made_output index;
 }
@@ -37,6 +38,7 @@ saving_meaning input file index = record {
   judge = λ told. fitting input index;
   file = Some file;
   prints = true;
+  counts = false;
   streams = false;
   IsOutput = λ made output. output ≡ made_output made;
 }

@@ -19,6 +19,7 @@ once_meaning ciff query = record {
   judge = judge_ciff ciff;
   file = None;
   prints = true;
+  counts = false;
   streams = false;
   IsOutput = IsOnceOutput query;
 }

@@ -12,6 +12,7 @@ rewrite_meaning from to = record {
   judge = judge_ciff from;
   file = Some to;
   prints = false;
+  counts = false;
   streams = false;
   IsOutput = λ collection output. output ≡ record { content = canonical_ciff collection; text = []; steps = 0 };
 }

@@ -49,8 +49,9 @@ Does m before after = Had m before.told (Leaves m.file before after)
 abbrev pub DoesPart : Meaning → Outer → Outer → Type 0
 DoesPart m before after = Had m before.told (LeavesPart m.file before after)
 
--- nothing was left but steps, at most those of an output of the inputs
+-- of a command that counts before it takes its last memory nothing was left but steps, at most those of an output of the inputs
 pub record Counts (m : Meaning) (before after : Outer) : Type 0 where
+  pub counting : IsTrue m.counts
   pub told : after.told ≡ before.told
   pub written : after.written ≡ before.written
   pub had : Had m before.told (λ output. after.steps ≤ before.steps + output.steps)

@@ -10,6 +10,7 @@ text_meaning text = record {
   judge = λ told. Accepted tt;
   file = None;
   prints = true;
+  counts = false;
   streams = false;
   IsOutput = λ none output. output ≡ record { content = []; text = text; steps = 0 };
 }
