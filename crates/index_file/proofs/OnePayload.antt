@@ -65,6 +65,11 @@ module _ {T : Type 0} (bytes : List ℕ) (d : ℕ) (h : HeadData) (at : ℕ) (x 
       → AreDocs d (docs_in bytes d h at) × (length (docs_in bytes d h at) ≡ h.count) × (slice_range bytes at (at + h.size) ≡ payload_of h.codec d (docs_in bytes d h at))
   payload_read only byte some limit = only h.codec d h.count (docs_in bytes d h at) (slice_range bytes at (at + h.size)) some limit (part_bytes bytes at (at + h.size) byte) docs_there
 
+-- the documents that were read are those of the payload
+pub docs_read : (bytes : List ℕ) (d : ℕ) (h : HeadData) (at : ℕ) (docs : List ℕ) → read_payload h.codec d h.count (slice_range bytes at (at + h.size)) ≡ Ok docs → docs ≡ docs_in bytes d h at
+unfolding docs_in read_segment
+docs_read bytes d h at docs is = sym (ap docs_or_none is)
+
 -- a payload behind earlier documents, seen from the same one behind none
 abbrev payload_steps : (long : Bool) (read : Result (List ℕ) PayloadFault) (at next : ℕ) (earlier : List ℕ) → Result ℕ OpenRefusal
 payload_steps long read at next earlier = judged (check long at Length ∷ []) read >>= payload_placed at >>= λ docs. judged (check (shares_one earlier docs) at DocTwice ∷ []) next

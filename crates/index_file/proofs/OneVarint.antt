@@ -1,18 +1,12 @@
 -- A payload of one varint.
-use Rattle.std.proofs.Common.{◌≡◌, ◌<◌, ◌+◌, ◌-◌, ◌^◌, ℕ, List, [], ◌∷◌, ◌++◌, length, drop, slice_index, slice_set, Bool, true, false, ◌==◌, ◌||◌, Result, Ok, ap, sym, subst, ◌∙◌, refl, arith}
+use Rattle.std.proofs.Common.{◌≡◌, ◌<◌, ◌+◌, ◌-◌, ◌^◌, ℕ, List, [], ◌∷◌, ◌++◌, length, drop, Result, Ok, ap, sym, subst, ◌∙◌, refl, arith}
 use Rattle.std.specs.Prelude.{slice_range, IsOk}
 use Rattle.std.proofs.lemmas.List.{append-nil, take-append-drop}
 use Rattle.jass_base.specs.Gaps.{AreDocs, GapSpelling, gap_in}
 use Rattle.jass_base.specs.Wire.{short_varint}
 use Rattle.jass_base.specs.declared.payload_fault.PayloadFault.{PayloadFault}
 use Rattle.segment_codecs.specs.Codecs.{payload_of}
-use Rattle.segment_codecs.specs.declared.codec.Codec.{Codec}
 use Rattle.segment_codecs.specs.declared.codec.Codec.TheVariants.{Varbyte}
-use Rattle.index_layout.specs.Reading.{docs_in}
-use Rattle.index_file.specs.declared.segment.Segment.{Segment}
-use Rattle.index_file.specs.Marks.{marked, meets_marked}
-use Rattle.index_file.specs.Payloads.{IsPayload}
-use Rattle.index_file.specs.Tables.{row_head}
 
 abbrev pub Found : Type 0
 Found = (gap : ℕ) (rest : List ℕ) → gap < 2 ^ 28 → gap_in (short_varint gap ++ rest) ≡ Ok (record { gap = gap; size = length (short_varint gap) })
@@ -40,11 +34,6 @@ one_there found bytes d place size (doc ∷ []) are one spelled =
     }
 one_there found bytes d place size (doc ∷ next ∷ docs) are one spelled = absurd (omega (arith, one))
 
-pub one_gap : (found : Found) (bytes : List ℕ) (d : ℕ) (s : Segment) → IsPayload bytes d s → s.count ≡ 1 → s.codec ≡ Varbyte → OneGap bytes d s.place (docs_in bytes d (row_head s) s.place)
-one_gap found bytes d s is one varbyte =
-    let docs = docs_in bytes d (row_head s) s.place in
-    one_there found bytes d s.place s.size docs is.docs (is.count ∙ one) (is.spelled ∙ ap (λ (codec : Codec). payload_of codec d docs) varbyte)
-
 pub gap_is : (bytes : List ℕ) (place one two size other : ℕ) → gap_in (drop place bytes) ≡ Ok (record { gap = one; size = size }) → gap_in (drop place bytes) ≡ Ok (record { gap = two; size = other }) → one ≡ two
 gap_is bytes place one two size other first second = same (record { gap = one; size = size }) (record { gap = two; size = other }) (sym first ∙ second)
   where
@@ -53,14 +42,3 @@ gap_is bytes place one two size other first second = same (record { gap = one; s
 
 pub gap_there : (read : Result GapSpelling PayloadFault) (x : GapSpelling) → read ≡ Ok x → IsOk read
 gap_there read x is = subst IsOk (sym is) refl
-
--- the mark of the only document
-pub only_met : (now doc gap : ℕ) (docs marks : List ℕ) → docs ≡ doc ∷ [] → gap ≡ doc → meets_marked now docs marks ≡ (slice_index marks gap == now)
-only_met now doc gap docs marks only same = ap (λ docs. meets_marked now docs marks) only ∙ or_false (slice_index marks doc == now) ∙ ap (λ n. slice_index marks n == now) (sym same)
-  where
-    or_false : (b : Bool) → (b || false) ≡ b
-    or_false true = refl
-    or_false false = refl
-
-pub only_marked : (now doc gap : ℕ) (docs marks : List ℕ) → docs ≡ doc ∷ [] → gap ≡ doc → marked now docs marks ≡ slice_set marks gap now
-only_marked now doc gap docs marks only same = ap (λ docs. marked now docs marks) only ∙ ap (λ n. slice_set marks n now) (sym same)

@@ -5,51 +5,12 @@ ghost use Rattle.index_file.specs.Payloads.{IsPayload};
 ghost use Rattle.index_file.specs.Tables.{row_head};
 
 use crate::segment::Segment;
-use jass_base::known_gap;
-use jass_base::laws::gap_varints_are_read;
-use segment_codecs::{Codec, SegmentCursor};
+use segment_codecs::SegmentCursor;
 
 /// Marks the documents of a payload in turn, up to the first that has the mark already, and tells
 /// whether there is one. What is left in the block is of no use.
-pub(crate) fn mark_payload(
-    marks: &mut [u32],
-    now: u32,
-    bytes: &[u8],
-    docs: u32,
-    segment: Segment,
-    block: &mut [u32; 128],
-) -> bool
-    requires payload { IsPayload bytes.now docs segment }
-    requires marks { docs ≤ length marks.old }
-    ensures met { result ≡ meets_marked now (docs_in bytes.now docs (row_head segment) segment.place) marks.old }
-    ensures marks { result ≡ false
-        → marks.new ≡ marked now (docs_in bytes.now docs (row_head segment) segment.place) marks.old }
-{
-    match segment.codec {
-        Codec::Varbyte if segment.count == 1 => mark_only(marks, now, bytes, docs, segment),
-        _ => mark_blocks(marks, now, bytes, docs, segment, block),
-    }
-}
-
-/// The same for a payload of one varint, as most are.
-fn mark_only(marks: &mut [u32], now: u32, bytes: &[u8], docs: u32, segment: Segment) -> bool
-    requires payload { IsPayload bytes.now docs segment }
-    requires marks { docs ≤ length marks.old }
-    requires one { segment.count ≡ 1 }
-    requires codec { segment.codec ≡ Codec.Varbyte }
-    ensures met { result ≡ meets_marked now (docs_in bytes.now docs (row_head segment) segment.place) marks.old }
-    ensures marks { marks.new ≡ marked now (docs_in bytes.now docs (row_head segment) segment.place) marks.old }
-{
-    gap_varints_are_read();
-    let (doc, _) = known_gap(bytes, segment.place as usize);
-    let met = marks[doc as usize] == now;
-    marks[doc as usize] = now;
-    met
-}
-
-/// The same for any payload, by its blocks.
 #[inline(never)]
-fn mark_blocks(
+pub(crate) fn mark_payload(
     marks: &mut [u32],
     now: u32,
     bytes: &[u8],
@@ -78,8 +39,8 @@ fn mark_blocks(
 }
 
 /// The same for documents in a row.
-#[inline(never)]
-fn mark_docs(marks: &mut [u32], now: u32, docs: &[u32]) -> bool
+#[inline(always)]
+pub(crate) fn mark_docs(marks: &mut [u32], now: u32, docs: &[u32]) -> bool
     requires { All (λ doc. doc < length marks.old) docs.now }
     ensures met { result ≡ meets_marked now docs.now marks.old }
     ensures marks { result ≡ false → marks.new ≡ marked now docs.now marks.old }

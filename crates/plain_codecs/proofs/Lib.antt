@@ -4,6 +4,7 @@ pub mod Bitmaps
 pub mod Bytes
 pub mod Docs
 pub mod Encoding
+pub mod Handing
 pub mod Members
 pub mod Reading
 pub mod Runs

@@ -17,11 +17,11 @@ pub record ReadsOn (bytes : List ℕ) (at left sum count next : ℕ) : Type 0 wh
 abbrev pub before : List ℕ → Result (List ℕ) PayloadFault → Result (List ℕ) PayloadFault
 before front read = read >>= λ docs. Ok (front ++ docs)
 
-before_none : (read : Result (List ℕ) PayloadFault) → read ≡ before [] read
+pub before_none : (read : Result (List ℕ) PayloadFault) → read ≡ before [] read
 before_none (Ok docs) = refl
 before_none (Err fault) = refl
 
-before_before : (first second : List ℕ) (read : Result (List ℕ) PayloadFault) → before first (before second read) ≡ before (first ++ second) read
+pub before_before : (first second : List ℕ) (read : Result (List ℕ) PayloadFault) → before first (before second read) ≡ before (first ++ second) read
 before_before first second (Ok docs) = ap (λ (xs : List ℕ). Ok xs) (sym (append_assoc first second docs))
 before_before first second (Err fault) = refl
 

@@ -7,11 +7,13 @@ ghost use Rattle.plain_codecs.specs.Varbyte.{varbyte_of};
 
 mod checking;
 mod cursor;
+mod handing;
 pub mod laws;
 mod runs;
 
 pub use checking::check;
 pub use cursor::Cursor;
+pub use handing::check_into;
 use jass_base::{NoMemory, Row, put_gap};
 
 /// How many bytes the payload of the documents has, in an index of d documents.

@@ -6,6 +6,7 @@
 mod choosing;
 mod codec;
 mod cursor;
+mod handing;
 pub mod laws;
 mod payloads;
 #[cfg(test)]
@@ -14,4 +15,5 @@ mod tests;
 pub use choosing::{Choice, choose, shortest};
 pub use codec::Codec;
 pub use cursor::SegmentCursor;
+pub use handing::check_into;
 pub use payloads::{check, encode, length};

@@ -3,7 +3,7 @@ use Rattle.std.proofs.lemmas.List.{length-drop}
 use Rattle.std.proofs.lemmas.List.Elements.{All-drop}
 use Rattle.index_file.specs.Marks.{marked, meets_marked}
 use Rattle.index_file.proofs.MarkLists.{block_met, block_passed, block_marked}
-use Rattle.index_file.proofs.marks.mark_blocks.Goals as goal
+use Rattle.index_file.proofs.marks.mark_payload.Goals as goal
 
 pub returns-then-mark_docs-clause-met : goal.returns-then-mark_docs-clause-met
 returns-then-mark_docs-clause-met c =

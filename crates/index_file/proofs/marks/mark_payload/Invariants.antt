@@ -4,7 +4,7 @@ use Rattle.segment_codecs.specs.Giving.{Gives}
 use Rattle.index_layout.specs.Reading.{docs_in}
 use Rattle.index_file.specs.Tables.{row_head}
 use Rattle.index_file.proofs.MarkLists.{Left}
-use Rattle.index_file.proofs.marks.mark_blocks.Given as goal
+use Rattle.index_file.proofs.marks.mark_payload.Given as goal
 
 abbrev pub invariant-parts : goal.invariant-parts
 invariant-parts l = Left (Gives l.cursor (slice_range l.bytes l.fn.segment.place (l.fn.segment.place + l.fn.segment.size))) l.now l.fn.docs l.left (docs_in l.bytes l.fn.docs (row_head l.fn.segment) l.fn.segment.place) l.fn.marks l.marks

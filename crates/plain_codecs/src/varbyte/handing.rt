@@ -1,0 +1,52 @@
+ghost use Rattle.std.specs.Prelude.{◌≡◌, ◌≤◌, ◌^◌, length, take, IfOk, Ok};
+ghost use Rattle.jass_base.specs.Gaps.{Accepts, Judges};
+ghost use Rattle.plain_codecs.specs.Varbyte.{varbyte_of, read_varbyte};
+
+use crate::varbyte::laws::payloads_are_read;
+use jass_base::{PayloadFault, read_gap};
+
+/// The answer of `check`, and where it is Ok, the documents at the front of `out`. What stands behind
+/// them there, or all of it where there is a fault, is left open.
+pub fn check_into(bytes: &[u8], count: u32, d: u32, out: &mut [u32]) -> Result<(), PayloadFault>
+    requires some { 1 ≤ count }
+    requires few { count ≤ d }
+    requires limit { d ≤ 2 ^ 26 }
+    requires room { count ≤ length out.old }
+    ensures accepted { Accepts varbyte_of d count bytes.now result }
+    ensures judged { Judges (read_varbyte d count bytes.now) result }
+    ensures docs { IfOk result (λ _. read_varbyte d count bytes.now ≡ Ok (take count out.new)) }
+    ensures length { length out.new ≡ length out.old }
+{
+    payloads_are_read();
+    hand_out(bytes, count, d, out)
+}
+
+// The same, by what is read.
+#[inline(always)]
+fn hand_out(bytes: &[u8], count: u32, d: u32, out: &mut [u32]) -> Result<(), PayloadFault>
+    requires limit { d ≤ 2 ^ 26 }
+    requires room { count ≤ length out.old }
+    ensures judged { Judges (read_varbyte d count bytes.now) result }
+    ensures docs { IfOk result (λ _. read_varbyte d count bytes.now ≡ Ok (take count out.new)) }
+    ensures length { length out.new ≡ length out.old }
+{
+    let mut at = 0;
+    let mut least = 0;
+    'docs: for i in 0..count as usize {
+        let (gap, next) = match read_gap(bytes, at) {
+            Ok(read) => read,
+            Err(fault) => return Err(fault),
+        };
+        let doc = least + gap;
+        if doc >= d {
+            return Err(PayloadFault::DocRange);
+        }
+        out[i] = doc;
+        at = next;
+        least = doc + 1;
+    }
+    if at < bytes.len() {
+        return Err(PayloadFault::Longer);
+    }
+    Ok(())
+}
