@@ -1,14 +1,19 @@
 -- Words that begin a command, and the first word that is at fault: lemmas over any command, and then each command's own.
-use Rattle.std.proofs.Common.{◌≡◌, ◌≢◌, ℕ, ◌+◌, suc, ◌<◌, ◌≤◌, List, [], ◌∷◌, ◌++◌, length, take, drop, Some, refl, sym, ap, subst, ◌∙◌, arith, append-nil, take-append-drop, length-append}
-use Rattle.std.specs.Prelude.{slice_get, All}
-use Rattle.std.proofs.lemmas.List.{take-take, append_assoc, take_all, length-take}
+use Rattle.std.proofs.Common.{◌≡◌, ◌≢◌, ℕ, ◌+◌, zero, suc, ◌<◌, ◌≤◌, List, [], ◌∷◌, ◌++◌, length, take, drop, Some, refl, sym, ap, subst, ◌∙◌, arith, append-nil, take-append-drop, length-append}
+use Rattle.std.specs.Prelude.{slice_get, All, codes}
+use Rattle.std.specs.Option.{unwrap_or}
+use Rattle.query_reader.specs.declared.mode.Mode.TheVariants.{Plain}
+use Rattle.jass_words.specs.Spelled.{Spell, HaveOnce, given}
+use Rattle.jass_words.specs.Searching.{SearchData, IsSearchOption, search_key, hits_in, limits_in, tag_in, mode_in}
+use Rattle.std.proofs.lemmas.List.{take-take, append_assoc}
 use Rattle.std.proofs.lemmas.List.Elements.{All-from_recursion}
 use Rattle.std.proofs.Math.Seq.{take-append_seam, take-append-add}
 use Rattle.jass_base.specs.declared.answer.Budget.{Budget}
 use Rattle.jass_base.specs.declared.answer.Budget.TheVariants as budgets
-use Rattle.jass_words.specs.Words.{CommandData, Once, Rewrite, Import, Check, Export, Migrate, Help, Version, HasFiles, TakesFiles, TakesTwoFiles, IsFile, IsCount, IsBudget, IsTerm, AreTerms, IsCommand, IsNoCommand, IsBegun, IsBadWord}
-use Rattle.jass_words.proofs.Parts.{once_word, rewrite_word, import_word, check_word, export_word, migrate_word, help_word, version_word, word_of, begins, as_once, as_rewrite, as_import, as_check, as_export, as_migrate, as_help, as_version, some_same}
-use Rattle.jass_words.specs.Options.{OptionData, AreOptions, HaveKeysOnce, rule_of, bits_of}
+use Rattle.jass_words.specs.Numbers.{IsCount, IsBudget}
+use Rattle.jass_words.specs.Words.{CommandData, Once, Rewrite, Import, Check, Export, Migrate, Search, Help, Version, HasFiles, TakesFiles, TakesTwoFiles, IsFile, IsTerm, AreTerms, IsCommand, IsNoCommand, IsBegun, IsBadWord}
+use Rattle.jass_words.proofs.Parts.{once_word, rewrite_word, import_word, check_word, export_word, migrate_word, search_word, help_word, version_word, word_of, begins, as_once, as_rewrite, as_import, as_check, as_export, as_migrate, as_search, as_help, as_version, some_same}
+use Rattle.jass_words.specs.Options.{IsOption, key_of, OptionData, AreOptions, HaveKeysOnce, rule_of, bits_of}
 
 -- fewer words begin a command too
 begun_less : (words : List (List ℕ)) (n m : ℕ) → m ≤ n → IsBegun (take n words) → IsBegun (take m words)
@@ -141,6 +146,43 @@ begun_options f t more options read written differ spelled once = (
   },
 )
 
+-- any two files have another beside them
+other_beside : (f g : List ℕ) → (t : List ℕ) × IsFile t × (f ≢ t) × (g ≢ t)
+other_beside f g = (let (t, file, first, second) = of_length (length f) (length g) in (t, file, (λ is. first (ap length is)), (λ is. second (ap length is))))
+  where
+    two : IsFile (97 ∷ 97 ∷ [])
+    two = record { some = omega arith; fits = omega arith; nonzero = All-from_recursion (λ (b : ℕ). b ≢ 0) (97 ∷ 97 ∷ []) ((λ is. cc), ((λ is. cc), tt)) }
+
+    three : IsFile (97 ∷ 97 ∷ 97 ∷ [])
+    three = record { some = omega arith; fits = omega arith; nonzero = All-from_recursion (λ (b : ℕ). b ≢ 0) (97 ∷ 97 ∷ 97 ∷ []) ((λ is. cc), ((λ is. cc), ((λ is. cc), tt))) }
+
+    of_length : (m n : ℕ) → (t : List ℕ) × IsFile t × (m ≢ length t) × (n ≢ length t)
+    of_length (suc zero) (suc (suc zero)) = (97 ∷ 97 ∷ 97 ∷ [], three, (λ is. omega (arith, is)), (λ is. omega (arith, is)))
+    of_length (suc (suc zero)) (suc zero) = (97 ∷ 97 ∷ 97 ∷ [], three, (λ is. omega (arith, is)), (λ is. omega (arith, is)))
+    of_length (suc zero) n = (97 ∷ 97 ∷ [], two, (λ is. omega (arith, is)), (λ is. omega (arith, is)))
+    of_length m (suc zero) = (97 ∷ 97 ∷ [], two, (λ is. omega (arith, is)), (λ is. omega (arith, is)))
+    of_length m n = (a_word, a_file, (λ is. omega (arith, is)), (λ is. omega (arith, is)))
+
+pub begun_search : (f t r : List ℕ) (more : List (List ℕ)) (options : List SearchData) → IsFile f → IsFile t → IsFile r → f ≢ t → f ≢ r → t ≢ r → Spell IsSearchOption more options → HaveOnce search_key options → IsBegun (search_word ∷ f ∷ t ∷ r ∷ more)
+begun_search f t r more options read asked written differ apart beside spelled once = (
+  [],
+  Search f t r (unwrap_or (given hits_in options) 1000) (unwrap_or (given limits_in options) (budgets.All ∷ [])) (unwrap_or (given tag_in options) (codes "jass")) (unwrap_or (given mode_in options) Plain),
+  record {
+    more = more;
+    options = options;
+    files = record { parts = append-nil (search_word ∷ f ∷ t ∷ r ∷ more); read = read; written = asked; differ = differ };
+    output = written;
+    apart = apart;
+    beside = beside;
+    spelled = spelled;
+    once = once;
+    hits = refl;
+    granted = refl;
+    tagged = refl;
+    reads = refl;
+  },
+)
+
 begun_from : (name f : List ℕ) → TakesFiles name → IsFile f → IsBegun (name ∷ f ∷ [])
 begun_from name f takes file = (let (t, to, differ) = other_file f in begun_less (name ∷ f ∷ t ∷ []) 3 2 (omega arith) (takes.begun f t file to differ))
 
@@ -178,6 +220,14 @@ pub import_takes : TakesFiles import_word
 import_takes = record {
   each = λ rest command is. (let (ciff, index, rule, bits, whole) = as_import rest command is in (ciff, index, whole.more, whole.files));
   begun = λ from to read written differ. begun_options from to [] [] read written differ tt tt;
+}
+
+pub search_takes : TakesFiles search_word
+search_takes = record {
+  each = λ rest command is. (let (index, queries, run, k, limits, tag, mode, whole) = as_search rest command is in (index, queries, run ∷ whole.more, whole.files));
+  begun = λ from to read written differ.
+      (let (run, file, apart, beside) = other_beside from to in
+      begun_less (search_word ∷ from ∷ to ∷ run ∷ []) 4 3 (omega arith) (begun_search from to run [] [] read written file differ apart beside tt tt));
 }
 
 -- ---- each command's bad words
@@ -240,42 +290,72 @@ pub check_with_more : (words : List (List ℕ)) (f : List ℕ) (rest : List (Lis
 check_with_more words f rest is file many =
     too_many words (check_word ∷ f ∷ []) rest is (check_begun f file) (λ more command whole. (let (index, check) = as_check (f ∷ more) command whole in ap (drop 2) check.parts)) many
 
--- options of `import`, the next word of which is none or stands twice
+-- options behind a command's files, the next word of which is none or stands twice
+bad_option : {T : Type 0} (Is : List ℕ → T → Type 0) (key_of : T → List ℕ) (words front more : List (List ℕ)) (place : ℕ) → words ≡ front ++ more → place < length more → IsBegun (front ++ take place more)
+    → ((rest : List (List ℕ)) (command : CommandData) → IsCommand (front ++ rest) command → (options : List T) × Spell Is rest options × HaveOnce key_of options)
+    → ((options : List T) (rest : List (List ℕ)) → Spell Is (take (place + 1) more ++ rest) options → ¬ HaveOnce key_of options) → IsBadWord words (suc (length front + place))
+bad_option {T} Is key_of words front more place parts within begun each none = subst (λ (ws : List (List ℕ)). IsBadWord ws (suc (length front + place))) (sym parts) (record {
+  none = never (front ++ more) (suc (length front + place)) unbegun;
+  before = λ n less. before n less;
+  here = λ inside. unbegun;
+  there = omega (arith, within, length-append front more);
+})
+  where
+    cut : (n : ℕ) → take (length front + n) (front ++ more) ≡ front ++ take n more
+    cut n = take-append-add front more n
+
+    after : suc (length front + place) ≡ length front + (place + 1)
+    after = omega arith
+
+    unbegun : ¬ IsBegun (take (suc (length front + place)) (front ++ more))
+    unbegun begun =
+        let (rest, command, is) = subst IsBegun (ap (λ n. take n (front ++ more)) after ∙ cut (place + 1)) begun in
+        let (options, spelled, once) = each (take (place + 1) more ++ rest) command (subst (λ (ws : List (List ℕ)). IsCommand ws command) (append_assoc front (take (place + 1) more) rest) is) in
+        none options rest spelled once
+
+    before : (n : ℕ) → n < suc (length front + place) → IsBegun (take n (front ++ more))
+    before n less = begun_less (front ++ more) (length front + place) n (omega (arith, less)) (subst IsBegun (sym (cut place)) begun)
+
 pub import_with_bad : (words : List (List ℕ)) (f t : List ℕ) (more : List (List ℕ)) (place : ℕ) (options : List OptionData) → HasFiles import_word words f t more → place < length more
     → AreOptions (take place more) options → HaveKeysOnce options
     → ((options : List OptionData) (rest : List (List ℕ)) → AreOptions (take (place + 1) more ++ rest) options → ¬ HaveKeysOnce options) → IsBadWord words (4 + place)
-import_with_bad words f t more place options files within spelled once none =
-    subst (λ (ws : List (List ℕ)). IsBadWord ws (4 + place)) (sym files.parts ∙ refl) (record {
-      none = never (import_word ∷ f ∷ t ∷ more) (4 + place) unbegun;
-      before = λ n less. front n less;
-      here = λ inside. unbegun;
-      there = omega (arith, within);
-    })
+import_with_bad words f t more place options files within spelled once none = subst (IsBadWord words) after
+    (bad_option IsOption key_of words (import_word ∷ f ∷ t ∷ []) more place files.parts within (begun_options f t (take place more) options files.read files.written files.differ spelled once) each none)
   where
-    whole : List (List ℕ)
-    whole = import_word ∷ f ∷ t ∷ take place more
-
-    after : 4 + place ≡ suc (suc (suc (place + 1)))
+    after : suc (3 + place) ≡ 4 + place
     after = omega arith
 
-    unbegun : ¬ IsBegun (take (4 + place) (import_word ∷ f ∷ t ∷ more))
-    unbegun begun =
-        let (rest, command, is) = subst (λ n. IsBegun (take n (import_word ∷ f ∷ t ∷ more))) after begun in
-        let (ciff, index, rule, bits, found) = as_import (f ∷ t ∷ (take (place + 1) more ++ rest)) command is in
-        let same : take (place + 1) more ++ rest ≡ found.more = ap (drop 3) found.files.parts in
-        none found.options rest (subst (λ (ws : List (List ℕ)). AreOptions ws found.options) (sym same) found.spelled) found.once
+    each : (rest : List (List ℕ)) (command : CommandData) → IsCommand (import_word ∷ f ∷ t ∷ rest) command → (options : List OptionData) × Spell IsOption rest options × HaveOnce key_of options
+    each rest command is =
+        let (ciff, index, rule, bits, found) = as_import (f ∷ t ∷ rest) command is in
+        (found.options, subst (λ (ws : List (List ℕ)). Spell IsOption ws found.options) (sym (ap (drop 3) found.files.parts)) found.spelled, found.once)
 
-    begun : IsBegun whole
-    begun = begun_options f t (take place more) options files.read files.written files.differ spelled once
+-- the run file of `search`
+pub search_without_run : (words : List (List ℕ)) (f t : List ℕ) (rest : List (List ℕ)) → HasFiles search_word words f t rest
+    → ((word : List ℕ) → slice_get words 3 ≡ Some word → f ≢ word → t ≢ word → ¬ IsFile word) → IsBadWord words 4
+search_without_run words f t rest files none = bad_word words (search_word ∷ f ∷ t ∷ []) rest (λ (word : List ℕ). IsFile word × (f ≢ word) × (t ≢ word)) files.parts (search_takes.begun f t files.read files.written files.differ) each
+    (λ word at holds. none word at holds.1 holds.2 holds.0)
+  where
+    each : (more : List (List ℕ)) (command : CommandData) → IsCommand (search_word ∷ f ∷ t ∷ more) command → (word : List ℕ) × (slice_get more 0 ≡ Some word) × (IsFile word × (f ≢ word) × (t ≢ word))
+    each more command whole =
+        let (index, queries, run, k, limits, tag, mode, found) = as_search (f ∷ t ∷ more) command whole in
+        let first : f ≡ index = some_same f index (ap (λ (ws : List (List ℕ)). slice_get ws 1) found.files.parts) in
+        let second : t ≡ queries = some_same t queries (ap (λ (ws : List (List ℕ)). slice_get ws 2) found.files.parts) in
+        (run, ap (λ (ws : List (List ℕ)). slice_get ws 3) found.files.parts, (found.output, (λ same. found.apart (sym first ∙ same)), (λ same. found.beside (sym second ∙ same))))
 
-    front : (n : ℕ) → n < 4 + place → IsBegun (take n (import_word ∷ f ∷ t ∷ more))
-    front n less = subst IsBegun (ap (take n) refl ∙ same n less) (begun_less whole (length whole) n (size n less) (subst IsBegun (sym (take_all (length whole) whole (omega arith))) begun))
-      where
-        size : (n : ℕ) → n < 4 + place → n ≤ length whole
-        size n less = (let e = length-take place more in omega (arith, e, less, within))
+pub search_with_bad : (words : List (List ℕ)) (f t r : List ℕ) (more : List (List ℕ)) (place : ℕ) (options : List SearchData) → HasFiles search_word words f t (r ∷ more) → IsFile r → f ≢ r → t ≢ r → place < length more
+    → Spell IsSearchOption (take place more) options → HaveOnce search_key options
+    → ((options : List SearchData) (rest : List (List ℕ)) → Spell IsSearchOption (take (place + 1) more ++ rest) options → ¬ HaveOnce search_key options) → IsBadWord words (5 + place)
+search_with_bad words f t r more place options files output apart beside within spelled once none = subst (IsBadWord words) after
+    (bad_option IsSearchOption search_key words (search_word ∷ f ∷ t ∷ r ∷ []) more place files.parts within (begun_search f t r (take place more) options files.read files.written output files.differ apart beside spelled once) each none)
+  where
+    after : suc (4 + place) ≡ 5 + place
+    after = omega arith
 
-        same : (n : ℕ) → n < 4 + place → take n whole ≡ take n (import_word ∷ f ∷ t ∷ more)
-        same n less = ap (take n) (λ i. whole) ∙ take-take n (suc (suc (suc place))) (import_word ∷ f ∷ t ∷ more) (omega (arith, less))
+    each : (rest : List (List ℕ)) (command : CommandData) → IsCommand (search_word ∷ f ∷ t ∷ r ∷ rest) command → (options : List SearchData) × Spell IsSearchOption rest options × HaveOnce search_key options
+    each rest command is =
+        let (index, queries, run, k, limits, tag, mode, found) = as_search (f ∷ t ∷ r ∷ rest) command is in
+        (found.options, subst (λ (ws : List (List ℕ)). Spell IsSearchOption ws found.options) (sym (ap (drop 4) found.files.parts)) found.spelled, found.once)
 
 -- a command of its name alone
 pub help_with_more : (words rest : List (List ℕ)) → words ≡ help_word ∷ rest → 1 < length words → IsBadWord words 2

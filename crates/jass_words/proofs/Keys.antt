@@ -1,5 +1,5 @@
--- Words that are options.
-use Rattle.std.proofs.Common.{◌≡◌, ◌≢◌, ℕ, suc, zero, ◌+◌, ◌<◌, ◌≤◌, List, [], ◌∷◌, ◌++◌, length, take, drop, Some, None, refl, sym, ap, subst, ◌∙◌, arith}
+-- Words that are options of `import`.
+use Rattle.std.proofs.Common.{◌≡◌, ◌≢◌, ℕ, ◌≤◌, List, [], ◌∷◌, ◌++◌, length, drop, Some, None, refl, sym, ap, subst, ◌∙◌, arith}
 use Rattle.std.specs.Prelude.{codes, slice_index, Option}
 use Rattle.std.specs.List.{AllByRecursion}
 use Rattle.std.specs.Option.{unwrap_or}
@@ -8,7 +8,8 @@ use Rattle.weights.specs.declared.weighting.Rule.{Rule}
 use Rattle.weights.specs.declared.weighting.Rule.TheVariants.{Tf, Bm25}
 use Rattle.weights.specs.declared.quantizing.Bits.{Bits}
 use Rattle.weights.specs.declared.quantizing.Bits.TheVariants.{Raw, Of}
-use Rattle.jass_words.specs.Options.{OptionData, Weights, Width, key_of, IsRule, IsBits, IsValue, IsOption, AreOptions, HaveKeysOnce, rule_of, bits_of, seen_rule, seen_bits, Seen}
+use Rattle.jass_words.proofs.Spelling.{as_many, spelled_more, once_more, again}
+use Rattle.jass_words.specs.Options.{OptionData, Weights, Width, key_of, IsRule, IsBits, IsOption, AreOptions, HaveKeysOnce, rule_of, bits_of, seen_rule, seen_bits, Seen}
 
 one_rule : (value : List ℕ) (a b : Rule) → IsRule value a → IsRule value b → a ≡ b
 one_rule value Tf Tf is theirs = refl
@@ -39,17 +40,6 @@ option_one word (Width r) (Width s) is theirs =
 option_one word (Weights r) (Width s) is theirs = absurd (other_keys is.0 theirs.0 (sym is.1 ∙ theirs.1))
 option_one word (Width r) (Weights s) is theirs = absurd (other_keys theirs.0 is.0 (sym theirs.1 ∙ is.1))
 
-pub options_one : (words : List (List ℕ)) (a b : List OptionData) → AreOptions words a → AreOptions words b → a ≡ b
-options_one [] [] [] are theirs = refl
-options_one (w ∷ words) (o ∷ a) (p ∷ b) are theirs =
-    let first : o ≡ p = option_one w o p are.0 theirs.0 in
-    let rest : a ≡ b = options_one words a b are.1 theirs.1 in
-    (λ i. first i ∷ rest i)
-options_one [] [] (p ∷ b) are theirs = absurd theirs
-options_one [] (o ∷ a) b are theirs = absurd are
-options_one (w ∷ words) [] b are theirs = absurd are
-options_one (w ∷ words) (o ∷ a) [] are theirs = absurd theirs
-
 -- ---- options read so far
 
 pub rule_or : (options : List OptionData) → unwrap_or (seen_rule options) Tf ≡ rule_of options
@@ -73,28 +63,8 @@ few_keys (Weights a ∷ Width b ∷ Width c ∷ options) once = absurd (once.1.0
 few_keys (Width a ∷ Weights b ∷ Weights c ∷ options) once = absurd (once.1.0.0 refl)
 few_keys (Width a ∷ Weights b ∷ Width c ∷ options) once = absurd (once.0.1.0 refl)
 
-as_many : (words : List (List ℕ)) (options : List OptionData) → AreOptions words options → length words ≡ length options
-as_many [] [] are = refl
-as_many (w ∷ words) (o ∷ options) are = omega (arith, as_many words options are.1)
-as_many [] (o ∷ options) are = absurd are
-as_many (w ∷ words) [] are = absurd are
-
 pub few_seen : (words : List (List ℕ)) (rule : Option Rule) (bits : Option Bits) → Seen words rule bits → length words ≤ 2
-few_seen words rule bits seen = omega (arith, as_many words seen.options seen.spelled, few_keys seen.options seen.once)
-
-spelled_more : (words : List (List ℕ)) (options : List OptionData) (word : List ℕ) (option : OptionData) → AreOptions words options → IsOption word option → AreOptions (words ++ word ∷ []) (options ++ option ∷ [])
-spelled_more [] [] word option are is = (is, tt)
-spelled_more (w ∷ words) (o ∷ options) word option are is = (are.0, spelled_more words options word option are.1 is)
-spelled_more [] (o ∷ options) word option are is = absurd are
-spelled_more (w ∷ words) [] word option are is = absurd are
-
-apart_more : (key : List ℕ) (options : List OptionData) (option : OptionData) → AllByRecursion (λ later. key_of later ≢ key) options → key_of option ≢ key → AllByRecursion (λ later. key_of later ≢ key) (options ++ option ∷ [])
-apart_more key [] option are is = (is, tt)
-apart_more key (o ∷ options) option are is = (are.0, apart_more key options option are.1 is)
-
-once_more : (options : List OptionData) (option : OptionData) → HaveKeysOnce options → AllByRecursion (λ earlier. key_of option ≢ key_of earlier) options → HaveKeysOnce (options ++ option ∷ [])
-once_more [] option once apart = (tt, tt)
-once_more (o ∷ options) option once apart = (apart_more (key_of o) options option once.0 apart.0, once_more options option once.1 apart.1)
+few_seen words rule bits seen = omega (arith, as_many IsOption words seen.options seen.spelled, few_keys seen.options seen.once)
 
 new_rule : (rule : Rule) (options : List OptionData) → seen_rule options ≡ None → AllByRecursion (λ earlier. key_of (Weights rule) ≢ key_of earlier) options
 new_rule rule [] none = tt
@@ -132,8 +102,8 @@ rule_seen words word rule bits value seen is none =
     let unseen : seen_rule seen.options ≡ None = sym seen.rules ∙ none in
     record {
       options = seen.options ++ Weights value ∷ [];
-      spelled = spelled_more words seen.options word (Weights value) seen.spelled is;
-      once = once_more seen.options (Weights value) seen.once (new_rule value seen.options unseen);
+      spelled = spelled_more IsOption words seen.options word (Weights value) seen.spelled is;
+      once = once_more key_of seen.options (Weights value) seen.once (new_rule value seen.options unseen);
       rules = sym (rule_then seen.options value unseen);
       widths = seen.widths ∙ sym (width_stays seen.options value);
     }
@@ -143,30 +113,13 @@ width_seen words word rule bits value seen is none =
     let unseen : seen_bits seen.options ≡ None = sym seen.widths ∙ none in
     record {
       options = seen.options ++ Width value ∷ [];
-      spelled = spelled_more words seen.options word (Width value) seen.spelled is;
-      once = once_more seen.options (Width value) seen.once (new_width value seen.options unseen);
+      spelled = spelled_more IsOption words seen.options word (Width value) seen.spelled is;
+      once = once_more key_of seen.options (Width value) seen.once (new_width value seen.options unseen);
       rules = seen.rules ∙ sym (rule_stays seen.options value);
       widths = sym (width_then seen.options value unseen);
     }
 
--- ---- words that are no options behind those that were read
-
--- options that spell words, a word and words
-pub record Parted (words : List (List ℕ)) (word : List ℕ) (options : List OptionData) : Type 0 where
-  pub front : List OptionData
-  pub here : OptionData
-  pub back : List OptionData
-  pub parts : options ≡ front ++ here ∷ back
-  pub before : AreOptions words front
-  pub is : IsOption word here
-
-parted : (words : List (List ℕ)) (word : List ℕ) (rest : List (List ℕ)) (options : List OptionData) → AreOptions (words ++ word ∷ rest) options → Parted words word options
-parted [] word rest [] are = absurd are
-parted [] word rest (o ∷ options) are = record { front = []; here = o; back = options; parts = refl; before = tt; is = are.0 }
-parted (w ∷ words) word rest [] are = absurd are
-parted (w ∷ words) word rest (o ∷ options) are =
-    let more = parted words word rest options are.1 in
-    record { front = o ∷ more.front; here = more.here; back = more.back; parts = ap (λ os. o ∷ os) more.parts; before = (are.0, more.before); is = more.is }
+-- ---- a key that stood before
 
 among : (rule : Rule) (options back : List OptionData) (other : Rule) → ¬ AllByRecursion (λ later. key_of later ≢ key_of (Weights other)) (options ++ Weights rule ∷ back)
 among rule [] back other all = all.0 refl
@@ -186,26 +139,15 @@ twice_width bits value [] back seen once = cc
 twice_width bits value (Width other ∷ options) back seen once = among_widths bits options back other once.0
 twice_width bits value (Weights rule ∷ options) back seen once = twice_width bits value options back seen once.1
 
--- the word is no option
-pub no_option : (words : List (List ℕ)) (word : List ℕ) (rest : List (List ℕ)) (options : List OptionData) → ((option : OptionData) → ¬ IsOption word option) → AreOptions (words ++ word ∷ rest) options → ¬ HaveKeysOnce options
-no_option words word rest options none are once = (let p = parted words word rest options are in none p.here p.is)
-
-again : (words : List (List ℕ)) (word : List ℕ) (rest : List (List ℕ)) (options seen : List OptionData) (here : OptionData) → AreOptions words seen → IsOption word here → AreOptions (words ++ word ∷ rest) options → (back : List OptionData) × (options ≡ seen ++ here ∷ back)
-again words word rest options seen here before is are =
-    let p = parted words word rest options are in
-    let front : p.front ≡ seen = options_one words p.front seen p.before before in
-    let one : p.here ≡ here = option_one word p.here here p.is is in
-    (p.back, p.parts ∙ ap (λ os. os ++ p.here ∷ p.back) front ∙ ap (λ o. seen ++ o ∷ p.back) one)
-
 -- a key stands twice
 pub rule_again : (words : List (List ℕ)) (word : List ℕ) (rest : List (List ℕ)) (options : List OptionData) (rule : Option Rule) (bits : Option Bits) (value known : Rule) → Seen words rule bits → IsOption word (Weights value) → rule ≡ Some known
     → AreOptions (words ++ word ∷ rest) options → ¬ HaveKeysOnce options
 rule_again words word rest options rule bits value known seen is some are once =
-    let (back, parts) = again words word rest options seen.options (Weights value) seen.spelled is are in
+    let (back, parts) = again IsOption option_one words word rest options seen.options (Weights value) seen.spelled is are in
     twice_rule value known seen.options back (sym seen.rules ∙ some) (subst HaveKeysOnce parts once)
 
 pub width_again : (words : List (List ℕ)) (word : List ℕ) (rest : List (List ℕ)) (options : List OptionData) (rule : Option Rule) (bits : Option Bits) (value known : Bits) → Seen words rule bits → IsOption word (Width value) → bits ≡ Some known
     → AreOptions (words ++ word ∷ rest) options → ¬ HaveKeysOnce options
 width_again words word rest options rule bits value known seen is some are once =
-    let (back, parts) = again words word rest options seen.options (Width value) seen.spelled is are in
+    let (back, parts) = again IsOption option_one words word rest options seen.options (Width value) seen.spelled is are in
     twice_width value known seen.options back (sym seen.widths ∙ some) (subst HaveKeysOnce parts once)

@@ -1,5 +1,9 @@
+pub mod Spelling
+pub mod Commas
 pub mod Keys
+pub mod SearchKeys
 pub mod Parts
 pub mod Beginnings
+pub mod Limits
 pub mod Short
 pub mod Terms

@@ -1,18 +1,23 @@
 -- The name that a command's words begin with, and the one command that has it.
-use Rattle.std.proofs.Common.{refl, ◌≡◌, ℕ, List, [], ◌∷◌, Some, None, sym, ap, subst, ◌∙◌}
-use Rattle.std.specs.Prelude.{slice_get}
+use Rattle.std.proofs.Common.{refl, ◌≡◌, ℕ, List, [], ◌∷◌, drop, Some, sym, ap, subst, ◌∙◌}
+use Rattle.std.specs.Prelude.{slice_get, codes}
 use Rattle.jass_base.specs.declared.answer.Budget.{Budget}
 use Rattle.jass_base.specs.declared.answer.Budget.TheVariants as budgets
 use Rattle.std.specs.Cmp.Lexicographic.{other_text}
 use Rattle.jass_base.specs.Decimal.{decimal_of}
 use Rattle.weights.specs.declared.weighting.Rule.{Rule}
 use Rattle.weights.specs.declared.quantizing.Bits.{Bits}
-use Rattle.jass_words.specs.Options.{AreOptions, rule_of, bits_of}
-use Rattle.jass_words.proofs.Keys.{options_one}
-use Rattle.jass_words.specs.Words.{CommandData, Once, Rewrite, Import, Check, Export, Migrate, Help, Version, HasFiles, IsOnce, IsRewrite, IsImport, IsCheck, IsExport, IsMigrate, IsHelp, IsVersion, IsBudget, IsCommand}
-
-abbrev all_word : List ℕ
-all_word = 97 ∷ 108 ∷ 108 ∷ []
+use Rattle.jass_words.specs.Options.{IsOption, AreOptions, rule_of, bits_of}
+use Rattle.jass_words.proofs.Keys.{option_one}
+use Rattle.jass_words.proofs.SearchKeys.{same_budget, one_option}
+use Rattle.jass_words.proofs.Spelling.{spell_one}
+use Rattle.jass_words.specs.Numbers.{IsBudget}
+use Rattle.jass_words.specs.Spelled.{Spell, given}
+use Rattle.jass_words.specs.Searching.{SearchData, IsSearchOption, hits_in, limits_in, tag_in, mode_in}
+use Rattle.query_reader.specs.declared.mode.Mode.{Mode}
+use Rattle.query_reader.specs.declared.mode.Mode.TheVariants.{Plain}
+use Rattle.std.specs.Option.{unwrap_or}
+use Rattle.jass_words.specs.Words.{CommandData, Once, Rewrite, Import, Check, Export, Migrate, Search, Help, Version, HasFiles, IsOnce, IsRewrite, IsImport, IsCheck, IsExport, IsMigrate, IsSearch, IsHelp, IsVersion, IsCommand}
 
 abbrev pub once_word : List ℕ
 once_word = 111 ∷ 110 ∷ 99 ∷ 101 ∷ []
@@ -32,6 +37,9 @@ export_word = 101 ∷ 120 ∷ 112 ∷ 111 ∷ 114 ∷ 116 ∷ []
 abbrev pub migrate_word : List ℕ
 migrate_word = 109 ∷ 105 ∷ 103 ∷ 114 ∷ 97 ∷ 116 ∷ 101 ∷ []
 
+abbrev pub search_word : List ℕ
+search_word = 115 ∷ 101 ∷ 97 ∷ 114 ∷ 99 ∷ 104 ∷ []
+
 abbrev pub help_word : List ℕ
 help_word = 45 ∷ 45 ∷ 104 ∷ 101 ∷ 108 ∷ 112 ∷ []
 
@@ -46,6 +54,7 @@ word_of (Import ciff index rule bits) = import_word
 word_of (Check index) = check_word
 word_of (Export index ciff) = export_word
 word_of (Migrate from to) = migrate_word
+word_of (Search index queries run k limits tag mode) = search_word
 word_of Help = help_word
 word_of Version = version_word
 
@@ -57,6 +66,7 @@ begins words (Import ciff index rule bits) is = ap (λ (ws : List (List ℕ)). s
 begins words (Check index) is = ap (λ (ws : List (List ℕ)). slice_get ws 0) is.parts
 begins words (Export index ciff) is = ap (λ (ws : List (List ℕ)). slice_get ws 0) is.parts
 begins words (Migrate from to) is = ap (λ (ws : List (List ℕ)). slice_get ws 0) is.parts
+begins words (Search index queries run k limits tag mode) is = ap (λ (ws : List (List ℕ)). slice_get ws 0) is.files.parts
 begins words Help is = ap (λ (ws : List (List ℕ)). slice_get ws 0) is.parts
 begins words Version is = ap (λ (ws : List (List ℕ)). slice_get ws 0) is.parts
 
@@ -85,6 +95,11 @@ pub as_import : (rest : List (List ℕ)) (command : CommandData) → IsCommand (
 as_import rest (Import ciff index rule bits) is = (ciff, index, rule, bits, is)
 as_import rest other is = absurd (other_text import_word (word_of other) refl (some_same import_word (word_of other) (begins (import_word ∷ rest) other is)))
 
+pub as_search : (rest : List (List ℕ)) (command : CommandData) → IsCommand (search_word ∷ rest) command
+    → (index queries run : List ℕ) × (k : ℕ) × (limits : List Budget) × (tag : List ℕ) × (mode : Mode) × IsSearch (search_word ∷ rest) index queries run k limits tag mode
+as_search rest (Search index queries run k limits tag mode) is = (index, queries, run, k, limits, tag, mode, is)
+as_search rest other is = absurd (other_text search_word (word_of other) refl (some_same search_word (word_of other) (begins (search_word ∷ rest) other is)))
+
 pub as_check : (rest : List (List ℕ)) (command : CommandData) → IsCommand (check_word ∷ rest) command → (index : List ℕ) × IsCheck (check_word ∷ rest) index
 as_check rest (Check index) is = (index, is)
 as_check rest other is = absurd (other_text check_word (word_of other) refl (some_same check_word (word_of other) (begins (check_word ∷ rest) other is)))
@@ -98,12 +113,6 @@ as_version rest Version is = is
 as_version rest other is = absurd (other_text version_word (word_of other) refl (some_same version_word (word_of other) (begins (version_word ∷ rest) other is)))
 
 -- ---- words are one command at most
-
-same_budget : (word : List ℕ) (budget other : Budget) → IsBudget word budget → IsBudget word other → budget ≡ other
-same_budget word (budgets.Postings m) (budgets.Postings n) is theirs = (let same : m ≡ n = cc in ap budgets.Postings same)
-same_budget word budgets.All budgets.All is theirs = λ i. budgets.All
-same_budget word (budgets.Postings m) budgets.All is theirs = (let none : decimal_of all_word ≡ Some m = subst (λ w. decimal_of w ≡ Some m) theirs is in cc)
-same_budget word budgets.All (budgets.Postings n) is theirs = (let none : decimal_of all_word ≡ Some n = subst (λ w. decimal_of w ≡ Some n) is theirs in cc)
 
 same_files : (name : List ℕ) (words : List (List ℕ)) (from to from' to' : List ℕ) (more more' : List (List ℕ)) → HasFiles name words from to more → HasFiles name words from' to' more'
     → (from ≡ from') × (to ≡ to') × (more ≡ more')
@@ -127,10 +136,19 @@ one_command words (Export from to) (Export from' to') is theirs = (let same = sa
 one_command words (Migrate from to) (Migrate from' to') is theirs = (let same = same_files migrate_word words from to from' to' [] [] is theirs in (λ i. Migrate (same.0 i) (same.1 i)))
 one_command words (Import ciff index rule bits) (Import ciff' index' rule' bits') is theirs =
     let same = same_files import_word words ciff index ciff' index' is.more theirs.more is.files theirs.files in
-    let options : is.options ≡ theirs.options = options_one theirs.more is.options theirs.options (subst (λ (ws : List (List ℕ)). AreOptions ws is.options) same.2 is.spelled) theirs.spelled in
+    let options : is.options ≡ theirs.options = spell_one IsOption option_one theirs.more is.options theirs.options (subst (λ (ws : List (List ℕ)). AreOptions ws is.options) same.2 is.spelled) theirs.spelled in
     let rules : rule ≡ rule' = is.weighs ∙ ap rule_of options ∙ sym theirs.weighs in
     let widths : bits ≡ bits' = is.narrows ∙ ap bits_of options ∙ sym theirs.narrows in
     (λ i. Import (same.0 i) (same.1 i) (rules i) (widths i))
+one_command words (Search index queries run k limits tag mode) (Search index' queries' run' k' limits' tag' mode') is theirs =
+    let same = same_files search_word words index queries index' queries' (run ∷ is.more) (run' ∷ theirs.more) is.files theirs.files in
+    let runs : run ≡ run' = some_same run run' (ap (λ (ws : List (List ℕ)). slice_get ws 0) same.2) in
+    let options : is.options ≡ theirs.options = spell_one IsSearchOption one_option theirs.more is.options theirs.options (subst (λ (ws : List (List ℕ)). Spell IsSearchOption ws is.options) (ap (drop 1) same.2) is.spelled) theirs.spelled in
+    let hits : k ≡ k' = is.hits ∙ ap (λ (os : List SearchData). unwrap_or (given hits_in os) 1000) options ∙ sym theirs.hits in
+    let grants : limits ≡ limits' = is.granted ∙ ap (λ (os : List SearchData). unwrap_or (given limits_in os) (budgets.All ∷ [])) options ∙ sym theirs.granted in
+    let tags : tag ≡ tag' = is.tagged ∙ ap (λ (os : List SearchData). unwrap_or (given tag_in os) (codes "jass")) options ∙ sym theirs.tagged in
+    let modes : mode ≡ mode' = is.reads ∙ ap (λ (os : List SearchData). unwrap_or (given mode_in os) Plain) options ∙ sym theirs.reads in
+    (λ i. Search (same.0 i) (same.1 i) (runs i) (hits i) (grants i) (tags i) (modes i))
 one_command words (Check index) (Check index') is theirs =
     let both : check_word ∷ index ∷ [] ≡ check_word ∷ index' ∷ [] = sym is.parts ∙ theirs.parts in
     let file : index ≡ index' = cc in

@@ -1,13 +1,14 @@
 -- The terms of `once`, and the first word that is none.
-use Rattle.std.proofs.Common.{◌≡◌, ◌≢◌, ℕ, zero, suc, ◌+◌, ◌<◌, ◌≤◌, min, List, [], ◌∷◌, ◌++◌, length, take, drop, Option, Some, None, String, Global, refl, sym, ap, subst, ◌∙◌, arith, length-append, length-take, length-drop, ◌-◌, take_all, ◌⊎◌, inl, inr}
+use Rattle.std.proofs.Common.{◌≡◌, ◌≢◌, ℕ, zero, suc, ◌+◌, ◌<◌, ◌≤◌, min, List, [], ◌∷◌, ◌++◌, length, take, drop, Option, Some, String, Global, refl, sym, ap, subst, ◌∙◌, arith, length-append, length-take, length-drop, ◌-◌, take_all, ◌⊎◌, inl, inr}
 use Rattle.std.specs.Prelude.{slice_get, Bool, true, false, IfSome, IsTrue}
 use Rattle.std.proofs.lemmas.List.{length-map}
 use Rattle.std.specs.List.{AllByRecursion, slice_index_or}
 use Rattle.std.specs.String.{string_bytes}
 use Rattle.std.proofs.lemmas.List.Elements.{All-from_recursion, recursion_from_All}
 use Rattle.jass_base.specs.declared.answer.Budget.{Budget}
-use Rattle.jass_words.specs.Words.{CommandData, Once, Rewrite, Import, Check, Export, Migrate, Help, Version, HasFiles, IsCheck, IsFile, IsCount, IsBudget, IsTerm, AreTerms, IsCommand, IsNoCommand, IsBegun, IsBadWord, texts}
-use Rattle.jass_words.proofs.Parts.{once_word, rewrite_word, import_word, check_word, export_word, migrate_word, help_word, version_word, word_of, as_once}
+use Rattle.jass_words.specs.Numbers.{IsCount, IsBudget}
+use Rattle.jass_words.specs.Words.{CommandData, Once, Rewrite, Import, Check, Export, Migrate, Search, Help, Version, HasFiles, IsCheck, IsFile, IsTerm, AreTerms, IsCommand, IsNoCommand, IsBegun, IsBadWord, texts}
+use Rattle.jass_words.proofs.Parts.{once_word, rewrite_word, import_word, check_word, export_word, migrate_word, search_word, help_word, version_word, word_of, as_once}
 use Rattle.jass_words.proofs.Beginnings.{begun_terms, begun_once, begun_file, begun_count, begun_nothing, never, no_name}
 
 -- words that have a first one, a second one and so on
@@ -167,6 +168,11 @@ texts_behind words n rest is = behind words n ∙ is
     behind (w ∷ ws) zero = refl
     behind (w ∷ ws) (suc i) = behind ws i
 
+pub behind : (words : List (String Global)) (n : ℕ) (more : List (List ℕ)) → drop n (texts words) ≡ more → texts (take (length words - n) (drop n words)) ≡ more
+behind words n more is =
+    let whole : take (length words - n) (drop n words) ≡ drop n words = take_all (length words - n) (drop n words) (omega (arith, length-drop n words)) in
+    ap texts whole ∙ texts_behind words n more is
+
 -- a word that is there, of which something holds
 pub found : (words : List (List ℕ)) (place : ℕ) (P : List ℕ → Type 0) → place < length words → IfSome (slice_get words place) P → (word : List ℕ) × (slice_get words place ≡ Some word) × P word
 found words place P within holds =
@@ -190,8 +196,8 @@ IsOther words name = slice_get words 0 ≡ Some name → IsTrue false
 
 -- the first word is no command's name
 pub nameless : (words : List (List ℕ)) → IsOther words once_word → IsOther words rewrite_word → IsOther words import_word → IsOther words check_word → IsOther words export_word → IsOther words migrate_word
-    → IsOther words help_word → IsOther words version_word → IsBadWord words 1
-nameless words not_once not_rewrite not_import not_check not_export not_migrate not_help not_version = no_name words other
+    → IsOther words search_word → IsOther words help_word → IsOther words version_word → IsBadWord words 1
+nameless words not_once not_rewrite not_import not_check not_export not_migrate not_search not_help not_version = no_name words other
   where
     never_true : IsTrue false → ⊥
     never_true is = cc
@@ -203,6 +209,7 @@ nameless words not_once not_rewrite not_import not_check not_export not_migrate 
     other (Check index) at = never_true (not_check at)
     other (Export index ciff) at = never_true (not_export at)
     other (Migrate from to) at = never_true (not_migrate at)
+    other (Search index queries run k limits tag mode) at = never_true (not_search at)
     other Help at = never_true (not_help at)
     other Version at = never_true (not_version at)
 
@@ -228,8 +235,7 @@ behind_four words f k budget name first third_there third fourth_there fourth =
     let (count, third_is, counted) = found (texts words) 2 (λ w. IsCount w k) (omega (arith, size, third_there)) third in
     let (limit, fourth_is, limited) = found (texts words) 3 (λ w. IsBudget w budget) (omega (arith, size, fourth_there)) fourth in
     let (rest, is) = opened4 (texts words) once_word f count limit name first third_is fourth_is in
-    let whole : take (length words - 4) (drop 4 words) ≡ drop 4 words = take_all (length words - 4) (drop 4 words) (omega (arith, length-drop 4 words)) in
-    let same : texts (take (length words - 4) (drop 4 words)) ≡ rest = ap texts whole ∙ texts_behind words 4 rest (ap (drop 4) is) in
+    let same : texts (take (length words - 4) (drop 4 words)) ≡ rest = behind words 4 rest (ap (drop 4) is) in
     record { count = count; limit = limit; counted = counted; limited = limited; parts = is ∙ ap (λ (ws : List (List ℕ)). once_word ∷ f ∷ count ∷ limit ∷ ws) (sym same) }
 
 -- a name alone
@@ -254,7 +260,9 @@ taken words n word within is = ap (λ (k : ℕ). take k (texts words)) after ∙
     longer (w ∷ ws) zero within is = ap (λ (x : String Global). string_bytes x ∷ []) (sym is)
     longer (w ∷ ws) (suc i) within is = ap (λ (xs : List (List ℕ)). string_bytes w ∷ xs) (longer ws i (omega (arith, within)) is)
 
-pub behind_three : (words : List (String Global)) (name f t : List ℕ) (more : List (List ℕ)) → HasFiles name (texts words) f t more → texts (take (length words - 3) (drop 3 words)) ≡ more
-behind_three words name f t more files =
-    let whole : take (length words - 3) (drop 3 words) ≡ drop 3 words = take_all (length words - 3) (drop 3 words) (omega (arith, length-drop 3 words)) in
-    ap texts whole ∙ texts_behind words 3 more (ap (drop 3) files.parts)
+-- ---- the words behind three files
+
+pub with_run : (name : List ℕ) (words : List (List ℕ)) (f t r : List ℕ) (more : List (List ℕ)) → HasFiles name words f t more → slice_get words 3 ≡ Some r → (rest : List (List ℕ)) × HasFiles name words f t (r ∷ rest)
+with_run name words f t r more files third =
+    let (rest, is) = opened1 more r (sym (ap (λ (ws : List (List ℕ)). slice_get ws 3) files.parts) ∙ third) in
+    (rest, subst (λ (ws : List (List ℕ)). HasFiles name words f t ws) is files)

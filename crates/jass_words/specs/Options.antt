@@ -1,11 +1,11 @@
--- Options: words `KEY=VALUE` behind a command's files, in any order, each key at most once. This project's grammar.
-use Rattle.std.specs.Prelude.{ℕ, ◌≡◌, ◌≢◌, ◌≤◌, List, [], ◌∷◌, ◌++◌, codes, Option, Some, None, ⊤}
-use Rattle.std.specs.List.{AllByRecursion}
+-- The options of `import`. This project's grammar.
+use Rattle.std.specs.Prelude.{ℕ, ◌≡◌, ◌≤◌, List, [], ◌∷◌, ◌++◌, codes, Option, Some, None}
 use Rattle.jass_base.specs.Decimal.{decimal_of}
 use Rattle.weights.specs.declared.weighting.Rule.{Rule}
 use Rattle.weights.specs.declared.weighting.Rule.TheVariants.{Tf, Bm25}
 use Rattle.weights.specs.declared.quantizing.Bits.{Bits}
 use Rattle.weights.specs.declared.quantizing.Bits.TheVariants.{Raw, Of}
+use Rattle.jass_words.specs.Spelled.{Spell, HaveOnce}
 
 -- what an option's word says
 pub data OptionData : Type 0 where
@@ -37,15 +37,11 @@ IsOption word option = (value : List ℕ) × (word ≡ key_of option ++ value) �
 
 -- each word spells its option
 abbrev pub AreOptions : List (List ℕ) → List OptionData → Type 0
-AreOptions [] [] = ⊤
-AreOptions [] (option ∷ options) = ⊥
-AreOptions (word ∷ words) [] = ⊥
-AreOptions (word ∷ words) (option ∷ options) = IsOption word option × AreOptions words options
+AreOptions words options = Spell IsOption words options
 
 -- no key stands twice
 abbrev pub HaveKeysOnce : List OptionData → Type 0
-HaveKeysOnce [] = ⊤
-HaveKeysOnce (option ∷ options) = AllByRecursion (λ later. key_of later ≢ key_of option) options × HaveKeysOnce options
+HaveKeysOnce options = HaveOnce key_of options
 
 -- the rule that options give, tf where none does
 abbrev pub rule_of : List OptionData → Rule

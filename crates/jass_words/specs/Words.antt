@@ -1,13 +1,18 @@
 -- The words of the command line: what a command is, and the first word that is none of a command's. This project's grammar.
-use Rattle.std.specs.Prelude.{ℕ, ◌≡◌, ◌≢◌, ◌<◌, ◌≤◌, ◌+◌, List, [], ◌∷◌, ◌++◌, length, take, map, codes, Some, All, String}
+use Rattle.std.specs.Prelude.{ℕ, ◌≡◌, ◌≢◌, ◌<◌, ◌≤◌, ◌+◌, List, [], ◌∷◌, ◌++◌, length, take, map, codes, All, String}
 use Rattle.std.specs.String.{string_bytes}
 use Rattle.std.specs.declared.alloc.Global.{Global}
-use Rattle.jass_base.specs.Decimal.{decimal_of}
+use Rattle.std.specs.Option.{unwrap_or}
 use Rattle.jass_base.specs.declared.answer.Budget.{Budget}
 use Rattle.jass_base.specs.declared.answer.Budget.TheVariants as budgets
 use Rattle.weights.specs.declared.weighting.Rule.{Rule}
 use Rattle.weights.specs.declared.quantizing.Bits.{Bits}
+use Rattle.query_reader.specs.declared.mode.Mode.{Mode}
+use Rattle.query_reader.specs.declared.mode.Mode.TheVariants.{Plain}
+use Rattle.jass_words.specs.Numbers.{IsCount, IsBudget}
 use Rattle.jass_words.specs.Options.{OptionData, AreOptions, HaveKeysOnce, rule_of, bits_of}
+use Rattle.jass_words.specs.Searching.{SearchData, IsSearchOption, search_key, hits_in, limits_in, tag_in, mode_in}
+use Rattle.jass_words.specs.Spelled.{Spell, HaveOnce, given}
 
 -- the words as texts
 abbrev pub texts : List (String Global) → List (List ℕ)
@@ -21,6 +26,7 @@ pub data CommandData : Type 0 where
   Check : List ℕ → CommandData
   Export : List ℕ → List ℕ → CommandData
   Migrate : List ℕ → List ℕ → CommandData
+  Search : List ℕ → List ℕ → List ℕ → ℕ → List Budget → List ℕ → Mode → CommandData
   Help : CommandData
   Version : CommandData
 
@@ -29,17 +35,6 @@ pub record IsFile (word : List ℕ) : Type 0 where
   pub some : 1 ≤ length word
   pub fits : length word ≤ 4096
   pub nonzero : All (λ b. b ≢ 0) word
-
--- a number of hits
-pub record IsCount (word : List ℕ) (k : ℕ) : Type 0 where
-  pub decimal : decimal_of word ≡ Some k
-  pub some : 1 ≤ k
-  pub limit : k ≤ 100000
-
--- a number of postings, or all
-abbrev pub IsBudget : List ℕ → Budget → Type 0
-IsBudget word (budgets.Postings n) = decimal_of word ≡ Some n
-IsBudget word budgets.All = word ≡ codes "all"
 
 -- a term, as it stands
 abbrev pub IsTerm : List ℕ → Type 0
@@ -95,6 +90,23 @@ IsExport words index ciff = HasFiles (codes "export") words index ciff []
 abbrev pub IsMigrate : List (List ℕ) → List ℕ → List ℕ → Type 0
 IsMigrate words from to = HasFiles (codes "migrate") words from to []
 
+-- `search INDEX QUERIES RUN [k=K] [budget=BUDGET,..] [tag=TAG] [mode=MODE]`, of three files that differ; without an
+-- option 1,000 hits are asked for, all postings may be scored, the tag is `jass`, and queries are read plain
+pub record IsSearch (words : List (List ℕ)) (index queries run : List ℕ) (k : ℕ) (limits : List Budget)
+    (tag : List ℕ) (mode : Mode) : Type 0 where
+  pub more : List (List ℕ)
+  pub options : List SearchData
+  pub files : HasFiles (codes "search") words index queries (run ∷ more)
+  pub output : IsFile run
+  pub apart : index ≢ run
+  pub beside : queries ≢ run
+  pub spelled : Spell IsSearchOption more options
+  pub once : HaveOnce search_key options
+  pub hits : k ≡ unwrap_or (given hits_in options) 1000
+  pub granted : limits ≡ unwrap_or (given limits_in options) (budgets.All ∷ [])
+  pub tagged : tag ≡ unwrap_or (given tag_in options) (codes "jass")
+  pub reads : mode ≡ unwrap_or (given mode_in options) Plain
+
 -- `--help`
 pub record IsHelp (words : List (List ℕ)) : Type 0 where
   pub parts : words ≡ codes "--help" ∷ []
@@ -111,6 +123,7 @@ IsCommand words (Import ciff index rule bits) = IsImport words ciff index rule b
 IsCommand words (Check index) = IsCheck words index
 IsCommand words (Export index ciff) = IsExport words index ciff
 IsCommand words (Migrate from to) = IsMigrate words from to
+IsCommand words (Search index queries run k limits tag mode) = IsSearch words index queries run k limits tag mode
 IsCommand words Help = IsHelp words
 IsCommand words Version = IsVersion words
 

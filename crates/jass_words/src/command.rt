@@ -1,4 +1,6 @@
+use crate::budgets::Budgets;
 use jass_base::Budget;
+use query_reader::Mode;
 use weights::{Bits, Rule};
 
 /// A command, with what its words say.
@@ -40,6 +42,21 @@ pub enum Command<'a> {
     Migrate {
         from: &'a str,
         to: &'a str,
+    },
+    /// `search INDEX QUERIES RUN [k=K] [budget=BUDGET,..] [tag=TAG] [mode=MODE]`: answers the
+    /// queries of a file over an index file, once for each budget, and writes a run file.
+    Search {
+        index: &'a str,
+        queries: &'a str,
+        run: &'a str,
+        /// 1 to 100,000 hits; 1,000 where no option says otherwise.
+        k: u32,
+        /// 1 to 16; `all` alone where no option says otherwise.
+        budgets: Budgets,
+        /// 1 to 64 visible ASCII characters; `jass` where no option says otherwise.
+        tag: &'a str,
+        /// `plain` where no option says otherwise.
+        mode: Mode,
     },
     /// `--help`: prints the commands, the statuses and where the documents are.
     Help,

@@ -2,7 +2,10 @@
 
 ghost use Rattle.std.specs.Prelude.{ℕ, ◌≡◌, ◌≤◌, List, length};
 ghost use Rattle.std.specs.List.{AllByRecursion};
-ghost use Rattle.jass_words.specs.Words.{CommandData, IsCommand, IsBegun};
+ghost use Rattle.jass_base.specs.declared.answer.Budget.{Budget};
+ghost use Rattle.query_reader.specs.declared.mode.Mode.{Mode};
+ghost use Rattle.jass_words.specs.Searching.{IsWithinLimits};
+ghost use Rattle.jass_words.specs.Words.{CommandData, Search, IsCommand, IsBegun};
 
 /// Words are one command at most.
 pub fn words_are_one_command()
@@ -14,4 +17,12 @@ pub fn words_are_one_command()
 /// one is bad before it.
 pub fn a_command_has_short_words()
     ensures { (words : List (List ℕ)) → IsBegun words → AllByRecursion (λ word. length word ≤ 65535) words }
+{}
+
+/// A search asks for 1 to 100,000 hits under 1 to 16 budgets with a tag, whether options say so or
+/// not.
+pub fn a_search_is_within_limits()
+    ensures { (words : List (List ℕ)) (index queries run : List ℕ) (k : ℕ) (limits : List Budget)
+        (tag : List ℕ) (mode : Mode) → IsCommand words (Search index queries run k limits tag mode)
+        → IsWithinLimits k limits tag }
 {}

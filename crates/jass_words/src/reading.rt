@@ -6,6 +6,7 @@ ghost use Rattle.jass_words.specs.Words.{texts, IsCommand, IsBadWord};
 use crate::command::Command;
 use crate::files::{read_files, read_two_files};
 use crate::options::ImportOptions;
+use crate::search::read_search;
 use crate::slots::{budget_at, count_at, file_at, terms_in};
 use weights::{Bits, Rule};
 
@@ -41,6 +42,9 @@ pub fn read_words<'a>(words: &'a [String]) -> Result<Command<'a>, WordFault>
     }
     if is_named(words, "migrate") {
         return read_migrate(words);
+    }
+    if is_named(words, "search") {
+        return read_search(words);
     }
     if is_named(words, "--help") {
         return read_help(words);

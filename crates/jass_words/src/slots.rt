@@ -1,7 +1,8 @@
 ghost use Rattle.std.specs.Prelude.{ℕ, ◌≡◌, ◌<◌, ◌≤◌, ◌↔◌, List, Some, None, IsTrue, IfSome, length, take, slice_get};
 ghost use Rattle.std.specs.List.{AllByRecursion};
 ghost use Rattle.jass_base.specs.declared.answer.Budget.{Budget};
-ghost use Rattle.jass_words.specs.Words.{texts, IsFile, IsCount, IsBudget, IsTerm};
+ghost use Rattle.jass_words.specs.Numbers.{IsCount, IsBudget};
+ghost use Rattle.jass_words.specs.Words.{texts, IsFile, IsTerm};
 
 use jass_base::{Budget, read_decimal};
 
@@ -42,6 +43,14 @@ pub fn count_at(words: &[String], place: usize) -> Option<u32>
     let Some(word) = words.get(place) else {
         return None;
     };
+    read_count(word.as_str())
+}
+
+/// The number of hits that a word spells.
+pub fn read_count(word: &str) -> Option<u32>
+    ensures some { IfSome result (λ k. IsCount word.now k) }
+    ensures none { result ≡ None → (k : ℕ) → ¬ IsCount word.now k }
+{
     match read_decimal(word.as_bytes()) {
         Some(k) if k >= 1 && k <= MOST_HITS => Some(k as u32),
         _ => None,
@@ -61,7 +70,8 @@ pub fn budget_at(words: &[String], place: usize) -> Option<Budget>
     read_budget(word.as_str())
 }
 
-fn read_budget(word: &str) -> Option<Budget>
+/// The number of postings, or `all`, that a word spells.
+pub fn read_budget(word: &str) -> Option<Budget>
     ensures some { IfSome result (λ budget. IsBudget word.now budget) }
     ensures none { result ≡ None → (budget : Budget) → ¬ IsBudget word.now budget }
 {

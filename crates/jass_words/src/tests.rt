@@ -17,12 +17,11 @@ fn bad_word(alloc: Global, line: &str) -> Result<u32, AllocError> {
 
 #[test]
 fn bad_words_are_counted(rt: HostRuntime) {
-    let table: [(&str, u32); 34] = [
+    let table: [(&str, u32); 47] = [
         ("once b 3 all a", 0),
         ("once b 100000 18446744073709551615 a b", 0),
         ("rewrite a b", 0),
         ("", 1),
-        ("search i q", 1),
         ("once", 2),
         ("once b 0 all a", 3),
         ("once b 100001 all a", 3),
@@ -48,6 +47,26 @@ fn bad_words_are_counted(rt: HostRuntime) {
         ("export a b", 0),
         ("migrate a", 3),
         ("migrate a b c", 4),
+        ("search i q", 4),
+        ("search i q i", 4),
+        ("search i q q", 4),
+        ("search i q r", 0),
+        ("search i q r k=100000 tag=a=b mode=folded budget=all,0", 0),
+        ("search i q r budget=2,all k=2", 0),
+        ("search i q r k=0", 5),
+        ("search i q r budget=2,,3", 5),
+        (
+            "search i q r budget=1,2,3,4,5,6,7,8,9,10,11,12,13,14,15,16",
+            0,
+        ),
+        (
+            "search i q r budget=1,2,3,4,5,6,7,8,9,10,11,12,13,14,15,16,17",
+            5,
+        ),
+        ("search i q r tag=", 5),
+        ("search i q r mode=Folded", 5),
+        ("search i q r k=1 k=1", 6),
+        ("search i q r k=1 mode=plain k", 7),
         ("--help", 0),
         ("--help rewrite", 2),
         ("--version", 0),

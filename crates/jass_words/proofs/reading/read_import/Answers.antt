@@ -3,7 +3,7 @@ use Rattle.jass_words.specs.Options.{AreOptions}
 use Rattle.jass_words.specs.Words.{texts}
 use Rattle.jass_words.proofs.Parts.{import_word}
 use Rattle.jass_words.proofs.Beginnings.{import_takes, import_with_bad}
-use Rattle.jass_words.proofs.Terms.{behind_three, size_of_texts}
+use Rattle.jass_words.proofs.Terms.{behind, size_of_texts}
 use Rattle.jass_words.proofs.reading.read_import.Goals as goal
 
 pub returns-in-Err-clause-bad_word : goal.returns-in-Err-clause-bad_word
@@ -14,7 +14,7 @@ returns-in-Err-read_import_options-clause-bad_word c =
     let words = c.args.words.now in
     let place = c.in-Err-read_import_options.place in
     let (more, files) = c.in-Ok.ensures.files import_word c.requires in
-    let same = behind_three words import_word _ _ more files in
+    let same = behind words 3 more (ap (drop 3) files.parts) in
     let (options, spelled, once) = c.in-Err-read_import_options.ensures.before in
     let within : place < length more = (let size = ap length same in let texts_size = size_of_texts (take (length words - 3) (drop 3 words)) in omega (arith, c.in-Err-read_import_options.ensures.small.1, size, texts_size)) in
     import_with_bad (texts words) _ _ more place options files within (subst (λ (ws : List (List ℕ)). AreOptions (take place ws) options) same spelled) once

@@ -1,5 +1,6 @@
 use Rattle.std.proofs.Common.{◌≡◌, ℕ, ◌+◌, ◌<◌, List, length, take, drop, ◌-◌, sym, subst, ◌⊎◌, arith}
-use Rattle.jass_words.specs.Words.{texts, IsCount, IsBadWord}
+use Rattle.jass_words.specs.Words.{texts, IsBadWord}
+use Rattle.jass_words.specs.Numbers.{IsCount}
 use Rattle.jass_words.proofs.Parts.{once_word}
 use Rattle.jass_words.proofs.Beginnings.{once_without_file, once_without_count, once_without_budget}
 use Rattle.jass_words.proofs.Terms.{found, opened1, opened2, opened3, once_without_terms, all_terms, behind_four, fault_of, size_of_texts}

@@ -1,0 +1,7 @@
+use Rattle.std.proofs.Common.{take}
+use Rattle.jass_words.specs.Commands.{AreRead}
+use Rattle.jass_words.specs.Words.{texts}
+use Rattle.jass_words.proofs.search.read_search_options.Given as goal
+
+abbrev pub invariant-loop-place : goal.invariant-loop-place
+invariant-loop-place l = AreRead (take l.place (texts l.words)) l.read

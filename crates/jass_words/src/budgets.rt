@@ -1,0 +1,84 @@
+ghost use Rattle.std.specs.Prelude.{◌≡◌, ◌≤◌, ◌++◌, ◌∷◌, [], IfSome, None, length};
+ghost use Rattle.jass_base.specs.declared.answer.Budget.TheVariants.{All};
+
+use jass_base::Budget;
+use std::marker::Model;
+
+/// The most budgets of one search.
+const MOST_BUDGETS: usize = 16;
+
+/// At most 16 budgets, in order. Contracts see their list.
+#[derive(Clone, Copy)]
+pub struct Budgets {
+    items: [Budget; MOST_BUDGETS],
+    count: usize,
+}
+
+impl Model for Budgets {
+    ghost use Rattle.std.specs.Prelude.{◌≡◌, ◌≤◌, ◌++◌, ◌-◌, List, length, take, drop, replicate};
+    ghost use Rattle.std.proofs.Common.{arith, sym, ap, ◌∙◌, take-append-drop, length-take-le};
+    ghost use Rattle.jass_base.specs.declared.answer.Budget.{Budget};
+    ghost use Rattle.jass_base.specs.declared.answer.Budget.TheVariants.{All};
+
+    ghost Value = { List Budget };
+
+    ghost view = { λ b. take b.count b.items };
+
+    // Budgets that are no part of the list are `all`, so that the list gives the fields back.
+    ghost invariant = { λ b. (b.count ≤ 16) × (length b.items ≡ 16)
+        × (drop b.count b.items ≡ replicate (16 - b.count) All) };
+
+    ghost inverse = { λ v. record { items = v ++ replicate (16 - length v) All; count = length v } };
+
+    ghost inverse_ok = { λ b h. (let size = length-take-le b.count b.items (omega (arith, h.0, h.1)) in (λ i. record {
+      items = (ap (λ n. take b.count b.items ++ replicate (16 - n) All) size
+          ∙ ap (λ rest. take b.count b.items ++ rest) (sym h.2) ∙ take-append-drop b.count b.items) i;
+      count = size i;
+    })) };
+}
+
+impl Budgets {
+    /// No budget.
+    pub fn none() -> Budgets
+        ensures { result ≡ [] }
+    {
+        Budgets {
+            items: [Budget::All; MOST_BUDGETS],
+            count: 0,
+        }
+    }
+
+    /// The budget of all postings alone.
+    pub fn all() -> Budgets
+        ensures { result ≡ All ∷ [] }
+    {
+        Budgets {
+            items: [Budget::All; MOST_BUDGETS],
+            count: 1,
+        }
+    }
+
+    /// These budgets and one more; `None` where there are 16.
+    pub fn with(self, budget: Budget) -> Option<Budgets>
+        ensures some { IfSome result (λ more. more ≡ self ++ budget ∷ []) }
+        ensures few { IfSome result (λ more. length more ≤ 16) }
+        ensures none { result ≡ None → 16 ≤ length self }
+    {
+        if self.count == MOST_BUDGETS {
+            return None;
+        }
+        let mut items = self.items;
+        items[self.count] = budget;
+        Some(Budgets {
+            items,
+            count: self.count + 1,
+        })
+    }
+
+    pub fn as_slice(&self) -> &[Budget]
+        ensures items { result.now ≡ self.now }
+        ensures few { length result.now ≤ 16 }
+    {
+        &self.items[..self.count]
+    }
+}
