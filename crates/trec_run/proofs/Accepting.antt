@@ -1,5 +1,5 @@
 -- What is read is what the text stands for.
-use Rattle.std.proofs.Common.{◌≡◌, ℕ, Bool, true, false, List, [], ◌∷◌, length, filter, ◌+◌, refl, ap, sym, subst, ◌⊎◌, inl, inr, ◌∙◌, Ok, Err, Some, None, Option, Result}
+use Rattle.std.proofs.Common.{◌≡◌, ℕ, true, false, List, [], ◌∷◌, filter, ◌+◌, refl, ap, sym, subst, ◌⊎◌, inl, inr, ◌∙◌, Ok, Err, Some, None, Option, Result}
 use Rattle.std.specs.Prelude.{nat_eq, codes}
 use Rattle.std.specs.Str.{is_utf8}
 use Rattle.std.specs.Cmp.Lexicographic.{pointwise, same_text}

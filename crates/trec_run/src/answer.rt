@@ -27,17 +27,39 @@ pub fn put_answer<S: Sink, N: Names>(
     ensures { Wrote S.written S.faults S.rest out.old out.new
         (run_lines (N.names index.now) id.now (tag_of tag.now part) 1 hits.now) result }
 {
+    let mut buffer = Buffer::new();
+    gather_answer(out, &mut buffer, id, index, hits, tag, part)?;
+    flush(out, &mut buffer)?;
+    Ok(())
+}
+
+/// Gathers the run lines of an answer, as `put_answer` puts them. After a WriteFault a prefix of what was gathered
+/// before and the lines was put.
+pub fn gather_answer<S: Sink, N: Names>(
+    out: &mut S,
+    buffer: &mut Buffer,
+    id: &str,
+    index: &N,
+    hits: &[Hit],
+    tag: &str,
+    part: u32,
+) -> Result<(), WriteFault>
+    requires { All (λ (hit : Hit). hit.doc < length (N.names index.now)) hits.now }
+    ensures { Gathers S.written S.faults S.rest out.old out.new buffer.old buffer.new
+        (run_lines (N.names index.now) id.now (tag_of tag.now part) 1 hits.now) result }
+{
     if part == 0 {
-        put_lines(out, id, index, hits, tag, "", "")
+        gather_lines(out, buffer, id, index, hits, tag, "", "")
     } else {
         let mut digits = Digits::new();
-        put_lines(out, id, index, hits, tag, ".", digits.format(part))
+        gather_lines(out, buffer, id, index, hits, tag, ".", digits.format(part))
     }
 }
 
-/// Puts the run lines whose tags are followed by a point and a part, or by nothing.
-fn put_lines<S: Sink, N: Names>(
+/// Gathers the run lines whose tags are followed by a point and a part, or by nothing.
+fn gather_lines<S: Sink, N: Names>(
     out: &mut S,
+    buffer: &mut Buffer,
     id: &str,
     index: &N,
     hits: &[Hit],
@@ -46,27 +68,15 @@ fn put_lines<S: Sink, N: Names>(
     part: &str,
 ) -> Result<(), WriteFault>
     requires { All (λ (hit : Hit). hit.doc < length (N.names index.now)) hits.now }
-    ensures { Wrote S.written S.faults S.rest out.old out.new
+    ensures { Gathers S.written S.faults S.rest out.old out.new buffer.old buffer.new
         (run_lines (N.names index.now) id.now (tag.now ++ (point.now ++ part.now)) 1 hits.now) result }
 {
-    let mut buffer = Buffer::new();
     let mut rank: u64 = 1;
     for hit in hits {
         let name = index.name(hit.doc);
-        gather_hit(
-            out,
-            &mut buffer,
-            id,
-            name,
-            rank,
-            hit.score,
-            tag,
-            point,
-            part,
-        )?;
+        gather_hit(out, buffer, id, name, rank, hit.score, tag, point, part)?;
         rank += 1;
     }
-    flush(out, &mut buffer)?;
     Ok(())
 }
 

@@ -5,7 +5,7 @@ use std::marker::Model;
 /// The room for gathered bytes.
 pub const ROOM: usize = 4096;
 
-/// Bytes on their way to a sink. Contracts see it as their list.
+/// Bytes on their way to a sink, for one text or many: `flush` puts the last of them. Contracts see it as their list.
 #[derive(Drop)]
 pub struct Buffer {
     bytes: [u8; ROOM],
@@ -32,26 +32,26 @@ impl Buffer {
         }
     }
 
-    pub fn room(&self) -> usize
+    pub(crate) fn room(&self) -> usize
         ensures { result + length self.now ≡ 4096 }
     {
         ROOM - self.len
     }
 
-    pub fn as_slice(&self) -> &[u8]
+    pub(crate) fn as_slice(&self) -> &[u8]
         ensures { result.now ≡ self.now }
     {
         &self.bytes[..self.len]
     }
 
-    pub fn clear(&mut self)
+    pub(crate) fn clear(&mut self)
         ensures { self.new ≡ [] }
     {
         self.len = 0;
     }
 
     /// Puts bytes for which there is room behind the others.
-    pub fn push(&mut self, bytes: &[u8])
+    pub(crate) fn push(&mut self, bytes: &[u8])
         requires { length self.old + length bytes.now ≤ 4096 }
         ensures { self.new ≡ self.old ++ bytes.now }
     {

@@ -15,7 +15,7 @@ fn put<O: Sink>(out: &mut O, bytes: &[u8]) -> Result<(), WriteFault>
     }
 }
 
-/// Puts what was gathered on the sink.
+/// Puts what was gathered on the sink. After a WriteFault a prefix of it was put.
 pub fn flush<O: Sink>(out: &mut O, buffer: &mut Buffer) -> Result<(), WriteFault>
     ensures text { Wrote O.written O.faults O.rest out.old out.new buffer.old result }
     ensures empty { IfOk result (λ _. buffer.new ≡ []) }

@@ -16,9 +16,10 @@ mod run;
 mod run_line;
 mod totals;
 
-pub use answer::put_answer;
-pub use gather::put_all;
-pub use report::put_report;
+pub use answer::{gather_answer, put_answer};
+pub use buffer::Buffer;
+pub use gather::{flush, put_all};
+pub use report::{gather_report, put_report};
 pub use run::read_run;
 pub use run_line::{RunFault, RunLine, RunWhy};
 pub use totals::put_totals;

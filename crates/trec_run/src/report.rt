@@ -1,9 +1,11 @@
 ghost use Rattle.std.specs.Prelude.{◌≡◌, ◌++◌, codes};
 ghost use Rattle.jass_base.specs.Outside.{Wrote};
 ghost use Rattle.ranking_model.specs.Report.{report_line, grade_word};
+ghost use Rattle.trec_run.specs.Gathering.{Gathers};
 
-use crate::gather::put_all;
-use itoa::Buffer;
+use crate::buffer::Buffer;
+use crate::gather::{flush, gather_all};
+use itoa::Buffer as Digits;
 use jass_base::{Grade, Report, Sink, WriteFault};
 
 /// Puts the report line of an answer on the sink, with the query's id in front and the
@@ -16,15 +18,34 @@ pub fn put_report<S: Sink>(
 ) -> Result<(), WriteFault>
     ensures { Wrote S.written S.faults S.rest out.old out.new (report_line id.now report unknown) result }
 {
-    let mut postings = Buffer::new();
-    let mut segments = Buffer::new();
-    let mut of = Buffer::new();
-    let mut cutoff = Buffer::new();
-    let mut next = Buffer::new();
-    let mut bound = Buffer::new();
-    let mut mentions = Buffer::new();
-    put_columns(
+    let mut buffer = Buffer::new();
+    gather_report(out, &mut buffer, id, unknown, report)?;
+    flush(out, &mut buffer)?;
+    Ok(())
+}
+
+/// Gathers the report line of an answer, as `put_report` puts it. After a WriteFault a prefix of what was gathered
+/// before and the line was put.
+pub fn gather_report<S: Sink>(
+    out: &mut S,
+    buffer: &mut Buffer,
+    id: &str,
+    unknown: u32,
+    report: Report,
+) -> Result<(), WriteFault>
+    ensures { Gathers S.written S.faults S.rest out.old out.new buffer.old buffer.new
+        (report_line id.now report unknown) result }
+{
+    let mut postings = Digits::new();
+    let mut segments = Digits::new();
+    let mut of = Digits::new();
+    let mut cutoff = Digits::new();
+    let mut next = Digits::new();
+    let mut bound = Digits::new();
+    let mut mentions = Digits::new();
+    gather_columns(
         out,
+        buffer,
         id.as_bytes(),
         postings.format(report.postings).as_bytes(),
         segments.format(report.segments).as_bytes(),
@@ -48,9 +69,10 @@ fn word_of(grade: Grade) -> &'static str
     }
 }
 
-/// Puts the columns of a report line, which have one lifetime so that they lie in one array.
-fn put_columns<'x, S: Sink>(
+/// Gathers the columns of a report line, which have one lifetime so that they lie in one array.
+fn gather_columns<'x, S: Sink>(
     out: &mut S,
+    buffer: &mut Buffer,
     id: &'x [u8],
     postings: &'x [u8],
     segments: &'x [u8],
@@ -61,7 +83,7 @@ fn put_columns<'x, S: Sink>(
     unknown: &'x [u8],
     grade: &'x [u8],
 ) -> Result<(), WriteFault>
-    ensures { Wrote S.written S.faults S.rest out.old out.new
+    ensures { Gathers S.written S.faults S.rest out.old out.new buffer.old buffer.new
         (id.now ++ (codes " postings " ++ (postings.now
         ++ (codes " segments " ++ (segments.now
         ++ (codes " of " ++ (of.now ++ (codes " cutoff "
@@ -69,8 +91,9 @@ fn put_columns<'x, S: Sink>(
         ++ (next.now ++ (codes " bound " ++ (bound.now
         ++ (codes " unknown " ++ (unknown.now ++ (codes " " ++ (grade.now ++ codes "\n"))))))))))))))))) result }
 {
-    put_all(
+    gather_all(
         out,
+        buffer,
         &[
             id,
             b" postings ",

@@ -1,9 +1,9 @@
-use Rattle.std.proofs.Common.{ℕ, List, [], ◌+◌, ◌++◌, take, drop, get_or, suc, refl, ap, take_all, arith}
+use Rattle.std.proofs.Common.{ℕ, List, ◌+◌, ◌++◌, take, drop, get_or, suc, arith}
 use Rattle.jass_base.specs.declared.answer.Hit.{Hit}
 use Rattle.ranking_model.specs.Report.{run_line, run_lines}
-use Rattle.trec_run.proofs.Compose.{gather_failed, gather_more, last_failed, failed_wrote, wrote_same}
+use Rattle.trec_run.proofs.Compose.{gather_failed, gather_more}
 use Rattle.trec_run.proofs.Lines.{lines_more, lines_parted}
-use Rattle.trec_run.proofs.answer.put_lines.Goals as goal
+use Rattle.trec_run.proofs.answer.gather_lines.Goals as goal
 
 pub returns-in_err-gather_hit : goal.returns-in_err-gather_hit
 returns-in_err-gather_hit g c =
@@ -16,11 +16,10 @@ returns-in_err-gather_hit g c =
     let line : List ℕ = run_line c.args.id.now c.name-name.result.now tag c.loop-hit.rank (get_or hits i d).score in
     let others : List ℕ = run_lines names c.args.id.now tag (c.loop-hit.rank + 1) (drop (suc i) hits) in
     let whole : List ℕ = run_lines names c.args.id.now tag 1 hits in
-    failed_wrote g.S.Sink.written g.S.Sink.faults g.S.Sink.rest c.args.out.now c.gather_hit.new.out [] c.gather_hit.new.buffer whole c.from_residual.result refl c.from_residual.ensures.0
-    (gather_failed g.S.Sink.written g.S.Sink.faults g.S.Sink.rest c.args.out.now c.loop-hit.out c.gather_hit.new.out [] c.loop-hit.buffer c.gather_hit.new.buffer first line others whole
+    gather_failed g.S.Sink.written g.S.Sink.faults g.S.Sink.rest c.args.out.now c.loop-hit.out c.gather_hit.new.out c.args.buffer.now c.loop-hit.buffer c.gather_hit.new.buffer first line others whole
     c.from_residual.result tt c.in_err-gather_hit.field-0.0 c.from_residual.ensures.0
     (lines_parted names c.args.id.now tag hits i c.loop-hit.rank d c.name-name.result.now c.loop-hit-test.true c.loop-hit.invariant.ranked c.name-name.ensures)
-    c.loop-hit.invariant.text c.in_err-gather_hit.ensures)
+    c.loop-hit.invariant.text c.in_err-gather_hit.ensures
 
 pub loop-hit-preserved : goal.loop-hit-preserved
 loop-hit-preserved g c =
@@ -33,20 +32,7 @@ loop-hit-preserved g c =
     let line : List ℕ = run_line c.args.id.now c.name-name.result.now tag c.loop-hit.rank (get_or hits i d).score in
     record {
       ranked = omega arith;
-      text = gather_more g.S.Sink.written g.S.Sink.faults g.S.Sink.rest c.args.out.now c.loop-hit.out c.gather_hit.new.out [] c.loop-hit.buffer c.gather_hit.new.buffer first line (run_lines names c.args.id.now tag 1 (take (i + 1) hits))
+      text = gather_more g.S.Sink.written g.S.Sink.faults g.S.Sink.rest c.args.out.now c.loop-hit.out c.gather_hit.new.out c.args.buffer.now c.loop-hit.buffer c.gather_hit.new.buffer first line (run_lines names c.args.id.now tag 1 (take (i + 1) hits))
           (lines_more names c.args.id.now tag hits i c.loop-hit.rank d c.name-name.result.now c.loop-hit-test.true c.loop-hit.invariant.ranked c.name-name.ensures)
           c.loop-hit.invariant.text c.in_ok-gather_hit.ensures;
     }
-
-pub returns-in_err-flush : goal.returns-in_err-flush
-returns-in_err-flush g c =
-    let i : ℕ = c.loop-hit.hit-index in
-    let hits : List Hit = c.args.hits.now in
-    let tag : List ℕ = c.args.tag.now ++ (c.args.point.now ++ c.args.part.now) in
-    let names : List (List ℕ) = g.N.Names.names c.args.index.now in
-    let first : List ℕ = run_lines names c.args.id.now tag 1 (take i hits) in
-    let whole : List ℕ = run_lines names c.args.id.now tag 1 hits in
-    wrote_same g.S.Sink.written g.S.Sink.faults g.S.Sink.rest c.args.out.now c.flush.new.out first whole c.from_residual-in_err-flush.result
-    (ap (run_lines names c.args.id.now tag 1) (take_all i hits c.loop-hit-test.false))
-    (last_failed g.S.Sink.written g.S.Sink.faults g.S.Sink.rest c.args.out.now c.loop-hit.out c.flush.new.out [] c.loop-hit.buffer first
-    c.from_residual-in_err-flush.result tt c.in_err-flush.field-0.0 refl c.from_residual-in_err-flush.ensures.0 c.loop-hit.invariant.text c.in_err-flush.ensures.text)
