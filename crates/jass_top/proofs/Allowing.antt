@@ -4,7 +4,10 @@ use Rattle.weights.specs.declared.quantizing.Bits.{Bits}
 use Rattle.weights.specs.declared.quantizing.Bits.TheVariants.{Raw, Of}
 use Rattle.weights.specs.Quantizing.{IsImpactWidth}
 use Rattle.jass_words.specs.Options.{OptionData, Weights, Width, IsBits, AreOptions, bits_of}
-use Rattle.jass_words.specs.Words.{CommandData, Once, Rewrite, Import, Check, Export, Migrate, Help, Version, IsCommand}
+use Rattle.jass_base.specs.declared.answer.Budget.{Budget}
+use Rattle.query_reader.specs.declared.mode.Mode.{Mode}
+use Rattle.jass_words.specs.Searching.{IsWithinLimits}
+use Rattle.jass_words.specs.Words.{CommandData, Once, Rewrite, Import, Check, Export, Migrate, Search, Help, Version, IsCommand}
 use Rattle.jass_top.specs.Commands.{IsAllowed}
 
 a_width : (value : List ℕ) (bits : Bits) → IsBits value bits → IsImpactWidth bits
@@ -18,12 +21,20 @@ given_width (word ∷ words) [] are = absurd are
 given_width (word ∷ words) (Weights rule ∷ options) are = given_width words options are.1
 given_width (word ∷ words) (Width bits ∷ options) are = a_width are.0.0 bits are.0.2
 
-pub allowed : (words : List (List ℕ)) (command : CommandData) → IsCommand words command → IsAllowed command
-allowed words (Once ciff k budget terms) is = (is.counted.some, is.counted.limit, is.named.few)
-allowed words (Rewrite from to) is = tt
-allowed words (Import ciff index rule bits) is = subst IsImpactWidth (sym is.narrows) (given_width is.more is.options is.spelled)
-allowed words (Check index) is = tt
-allowed words (Export index ciff) is = tt
-allowed words (Migrate from to) is = tt
-allowed words Help is = tt
-allowed words Version is = tt
+-- the law of searches
+abbrev pub AreWithinLimits : Type 0
+AreWithinLimits = (words : List (List ℕ)) (index queries run : List ℕ) (k : ℕ) (limits : List Budget) (tag : List ℕ) (mode : Mode)
+    → IsCommand words (Search index queries run k limits tag mode) → IsWithinLimits k limits tag
+
+pub allowed : AreWithinLimits → (words : List (List ℕ)) (command : CommandData) → IsCommand words command → IsAllowed command
+allowed law words (Once ciff k budget terms) is = (is.counted.some, is.counted.limit, is.named.few)
+allowed law words (Rewrite from to) is = tt
+allowed law words (Import ciff index rule bits) is = subst IsImpactWidth (sym is.narrows) (given_width is.more is.options is.spelled)
+allowed law words (Check index) is = tt
+allowed law words (Export index ciff) is = tt
+allowed law words (Migrate from to) is = tt
+allowed law words (Search index queries run k limits tag mode) is =
+    let within = law words index queries run k limits tag mode is in
+    (within.some_hits, within.most_hits, within.most_budgets)
+allowed law words Help is = tt
+allowed law words Version is = tt

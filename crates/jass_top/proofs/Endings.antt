@@ -1,5 +1,6 @@
 -- How a run of any command ends, from how the command ran.
 use Rattle.std.proofs.Common.{◌≡◌, ℕ, List, inl, inr, refl}
+use Rattle.jass_top.specs.declared.stop.Place.{Place}
 use Rattle.jass_top.specs.declared.stop.Stop.{Stop}
 use Rattle.jass_top.specs.declared.stop.Stop.TheVariants as stops
 use Rattle.jass_top.specs.declared.status.Status.TheVariants as status
@@ -12,15 +13,15 @@ use Rattle.jass_top.specs.Stops.{status_of, stop_text}
 use Rattle.jass_top.specs.Worlds.{Outer, World}
 
 -- a judgement is one alone
-refused_alone : {A : Type 0} (judged : Judged A) (x : A) (name : List ℕ) (number at : ℕ) → Shows judged (Accepted x) → judged ≡ Refuses name number at → {B : Type 0} → B
+refused_alone : {A : Type 0} (judged : Judged A) (x : A) (name : List ℕ) (number : ℕ) (at : Place) → Shows judged (Accepted x) → judged ≡ Refuses name number at → {B : Type 0} → B
 refused_alone judged x name number at (inl is) bad = cc
 refused_alone judged x name number at (inr is) bad = cc
 
-refused_accepted : {A : Type 0} (judged : Judged A) (x : A) (name : List ℕ) (number at : ℕ) → Shows judged (Refuses name number at) → judged ≡ Accepted x → {B : Type 0} → B
+refused_accepted : {A : Type 0} (judged : Judged A) (x : A) (name : List ℕ) (number : ℕ) (at : Place) → Shows judged (Refuses name number at) → judged ≡ Accepted x → {B : Type 0} → B
 refused_accepted judged x name number at (inl is) bad = cc
 refused_accepted judged x name number at (inr is) bad = cc
 
-missing_refused : {A : Type 0} (judged : Judged A) (missed name : List ℕ) (number at : ℕ) → judged ≡ Missing missed → judged ≡ Refuses name number at → {B : Type 0} → B
+missing_refused : {A : Type 0} (judged : Judged A) (missed name : List ℕ) (number : ℕ) (at : Place) → judged ≡ Missing missed → judged ≡ Refuses name number at → {B : Type 0} → B
 missing_refused judged missed name number at is bad = cc
 
 missing_accepted : {A : Type 0} (judged : Judged A) (missed : List ℕ) (x : A) → judged ≡ Missing missed → judged ≡ Accepted x → {B : Type 0} → B

@@ -7,6 +7,8 @@ use Rattle.jass_base.specs.Outside.{Files, OnContent, IsMissing, Rose}
 use Rattle.ciff_read.specs.declared.refusal.CiffRefusal.{CiffRefusal}
 use Rattle.ciff_read.specs.Reading.{read_ciff}
 use Rattle.ciff_read.specs.Refusals.{number_of}
+use Rattle.jass_top.specs.declared.stop.Place.{Place}
+use Rattle.jass_top.specs.declared.stop.Place.TheVariants.{Byte}
 use Rattle.jass_top.specs.Judging.{Accepted, Missing, Refuses, Untold, IsRefused, Shows, judged_ciff, judged_content, judge_ciff}
 
 pub shown : (told : Option Files) (name row : List ℕ) (result : Result CollectionData CiffRefusal) → ((bytes : List ℕ) → read_ciff (take 4294967312 bytes) ≡ read_ciff bytes)
@@ -78,7 +80,7 @@ missed name other files is = at (get files name) is
         (same, refl)
     at (Some content) is = read (read_ciff content) is
 
-pub refused : (name other : List ℕ) (files : Files) (number place : ℕ) → judge_ciff name (Some files) ≡ Refuses other number place
+pub refused : (name other : List ℕ) (files : Files) (number : ℕ) (place : Place) → judge_ciff name (Some files) ≡ Refuses other number place
     → (other ≡ name) × (content : List ℕ) × (get files name ≡ Some content) × IsRefused content number place
 unfolding judge_ciff
 refused name other files number place is = at (get files name) is
@@ -88,7 +90,7 @@ refused name other files number place is = at (get files name) is
     read content (Err e) gives is =
         let same : other ≡ name = cc in
         let numbered : number ≡ number_of e.why = cc in
-        let placed : place ≡ e.at = cc in
+        let placed : place ≡ Byte e.at = cc in
         (same, record { refusal = e; first = gives; numbered = numbered; placed = placed })
 
     at : (o : Option (List ℕ)) → judged_content name o ≡ Refuses other number place → (other ≡ name) × (content : List ℕ) × (o ≡ Some content) × IsRefused content number place

@@ -12,6 +12,7 @@ use Rattle.index_layout.specs.View.{FileView, index_text}
 use Rattle.jass_top.specs.IndexJudging.{judged_file, judged_index, judged_old, judge_index, judge_old, fitting}
 use Rattle.index_version1.specs.Reading.{read_index1}
 use Rattle.jass_top.specs.Standing.{LeavesFront}
+use Rattle.jass_top.specs.declared.stop.Place.TheVariants.{Byte}
 use Rattle.jass_top.specs.Judging.{Accepted, Missing, Refuses, Untold, Shows}
 
 pub shown_file : (told : Option Files) (name : List ℕ) (result : Result FileView OpenRefusal) → OnContent told name (λ content. read_index content ≡ result) → Shows (judge_index name told) (judged_file name result)
@@ -51,7 +52,7 @@ pub fits : (name : List ℕ) (index : IndexData) → length (index_text index) �
 unfolding fitting
 fits name index few = (let is : nat_le (length (index_text index)) (2 ^ 32) ≡ true = grind (arith, nat_tests, few) in rw is refl)
 
-pub too_large : (name : List ℕ) (index : IndexData) (n : ℕ) → length (index_text index) ≡ n → 2 ^ 32 < n → fitting name index ≡ Refuses name 49 n
+pub too_large : (name : List ℕ) (index : IndexData) (n : ℕ) → length (index_text index) ≡ n → 2 ^ 32 < n → fitting name index ≡ Refuses name 49 (Byte n)
 unfolding fitting
 too_large name index n size large =
     let is : nat_le n (2 ^ 32) ≡ false = grind (arith, nat_tests, large) in

@@ -1,7 +1,7 @@
 -- A command has one output for its inputs.
-use Rattle.std.proofs.Common.{◌≡◌, ℕ, List, [], sym, ap, subst, ◌∙◌}
+use Rattle.std.proofs.Common.{◌≡◌, ℕ, List, [], ◌∷◌, refl, sym, ap, ◌∙◌}
 use Rattle.std.specs.Prelude.{map}
-use Rattle.std.specs.List.{flat_map}
+use Rattle.std.specs.List.{AllZip}
 use Rattle.std.specs.Ordering.{nat_cmp}
 use Rattle.std.specs.Cmp.Lexicographic.{slice_cmp}
 use Rattle.std.proofs.lemmas.Simd.{map-map}
@@ -22,11 +22,15 @@ use Rattle.ranking_model.specs.Order.{sorted}
 use Rattle.ranking_model.specs.Flat.{entry_cmp}
 use Rattle.ranking_model.specs.Finality.{IsGrade}
 use Rattle.ranking_model.specs.Report.{IsReport, report_of}
-use Rattle.jass_words.specs.Words.{CommandData, Once, Rewrite, Import, Check, Export, Migrate, Help, Version}
-use Rattle.jass_top.specs.Answers.{FlatIndex, OnceQuery, flat_index, once_text, query_prefix, query_plan, IsOnceReport}
+use Rattle.ranking_model.specs.Search.{QueryData, prefixes_granted, report_lines}
+use Rattle.index_model.specs.Index.{IndexData}
+use Rattle.jass_words.specs.Words.{CommandData, Once, Rewrite, Import, Check, Export, Migrate, Search, Help, Version}
+use Rattle.jass_top.specs.Answers.{OnceQuery, once_plan, once_prefix, once_steps, once_text}
 use Rattle.jass_top.specs.Commands.{meaning_of}
 use Rattle.jass_top.specs.Meanings.{Output}
 use Rattle.jass_top.specs.OnceMeaning.{IsOnceOutput}
+use Rattle.jass_top.specs.SearchMeaning.{AreSearchReports, IsSearchOutput, IsSearchReport, SearchInputs, plan_over_index}
+use Rattle.jass_top.specs.SearchMeaning as asked
 
 -- ---- reports are one
 
@@ -36,11 +40,40 @@ module _ (one_grade : (scores : List ℕ) (k bound : ℕ) (first second : Grade)
       let grade : one.grade ≡ other.grade = one_grade _ k _ one.grade other.grade is.graded theirs.graded in
       is.numbers ∙ ap (report_of n plan) grade ∙ sym theirs.numbers
 
-  same_answer : (query : OnceQuery) (c : CollectionData) (one other : Output) → IsOnceOutput query c one → IsOnceOutput query c other → one ≡ other
-  same_answer query c one other is theirs =
-      let index = flat_index c in
-      let report : is.report ≡ theirs.report = same_report (query_prefix index query) (query_plan index query) query.k is.report theirs.report is.answer.exact theirs.answer.exact in
-      is.whole ∙ ap (λ (r : Report). (let o : Output = record { content = []; text = once_text index query r; steps = 0 } in o)) report ∙ sym theirs.whole
+  same_answer : (query : OnceQuery) (index : IndexData) (one other : Output) → IsOnceOutput query index one → IsOnceOutput query index other → one ≡ other
+  same_answer query index one other is theirs =
+      let report : is.report ≡ theirs.report = same_report (once_prefix index query) (once_plan index query) query.k is.report theirs.report is.answer.exact theirs.answer.exact in
+      is.whole ∙ ap (λ (r : Report). (let o : Output = record { content = []; text = once_text index query r; steps = once_steps index query } in o)) report ∙ sym theirs.whole
+
+  same_reports_at : (index : IndexData) (query : QueryData) (k : ℕ) (prefixes : List ℕ) (one other : List Report) → AllZip (IsSearchReport index query k) prefixes one → AllZip (IsSearchReport index query k) prefixes other → one ≡ other
+  same_reports_at index query k [] [] [] is theirs = refl
+  same_reports_at index query k [] [] (t ∷ ts) is theirs = absurd theirs
+  same_reports_at index query k [] (r ∷ rs) other is theirs = absurd is
+  same_reports_at index query k (n ∷ prefixes) [] other is theirs = absurd is
+  same_reports_at index query k (n ∷ prefixes) (r ∷ rs) [] is theirs = absurd theirs
+  same_reports_at index query k (n ∷ prefixes) (r ∷ rs) (t ∷ ts) is theirs =
+      let first : r ≡ t = same_report n (plan_over_index index query) k r t is.0.exact theirs.0.exact in
+      let rest : rs ≡ ts = same_reports_at index query k prefixes rs ts is.1 theirs.1 in
+      λ i. first i ∷ rest i
+
+  same_reports : (index : IndexData) (search : asked.Search) (queries : List QueryData) (one other : List (List Report)) → AllZip (AreSearchReports index search) queries one → AllZip (AreSearchReports index search) queries other → one ≡ other
+  same_reports index search [] [] [] is theirs = refl
+  same_reports index search [] [] (t ∷ ts) is theirs = absurd theirs
+  same_reports index search [] (r ∷ rs) other is theirs = absurd is
+  same_reports index search (query ∷ queries) [] other is theirs = absurd is
+  same_reports index search (query ∷ queries) (r ∷ rs) [] is theirs = absurd theirs
+  same_reports index search (query ∷ queries) (r ∷ rs) (t ∷ ts) is theirs =
+      let first : r ≡ t = same_reports_at index query search.k (prefixes_granted search.budgets (plan_over_index index query)) r t is.0 theirs.0 in
+      let rest : rs ≡ ts = same_reports index search queries rs ts is.1 theirs.1 in
+      λ i. first i ∷ rest i
+
+  same_search : (search : asked.Search) (inputs : SearchInputs) (one other : Output) → IsSearchOutput search inputs one → IsSearchOutput search inputs other → one ≡ other
+  same_search search inputs one other is theirs =
+      let reports = same_reports inputs.file.index search inputs.queries is.reports.reports theirs.reports.reports is.reports.each theirs.reports.each in
+      let content : one.content ≡ other.content = is.run ∙ sym theirs.run in
+      let text : one.text ≡ other.text = is.reports.is ∙ ap (report_lines inputs.queries) reports ∙ sym theirs.reports.is in
+      let steps : one.steps ≡ other.steps = is.steps ∙ sym theirs.steps in
+      λ i. record { content = content i; text = text i; steps = steps i }
 
   pub one_output : (command : CommandData) (inputs : (meaning_of command).Inputs) (one other : Output) → (meaning_of command).IsOutput inputs one → (meaning_of command).IsOutput inputs other → one ≡ other
   one_output (Once ciff k budget terms) inputs one other is theirs = same_answer (record { k = k; budget = budget; words = terms }) inputs one other is theirs
@@ -49,5 +82,6 @@ module _ (one_grade : (scores : List ℕ) (k bound : ℕ) (first second : Grade)
   one_output (Check index) inputs one other is theirs = is ∙ sym theirs
   one_output (Export index ciff) inputs one other is theirs = is ∙ sym theirs
   one_output (Migrate from to) inputs one other is theirs = is ∙ sym theirs
+  one_output (Search index queries run k limits tag mode) inputs one other is theirs = same_search (record { k = k; budgets = limits; tag = tag }) inputs one other is theirs
   one_output Help inputs one other is theirs = is ∙ sym theirs
   one_output Version inputs one other is theirs = is ∙ sym theirs

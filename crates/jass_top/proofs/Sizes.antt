@@ -1,5 +1,5 @@
--- An index has as many postings as its collection.
-use Rattle.std.proofs.Common.{◌≡◌, ℕ, suc, ◌+◌, Bool, true, false, List, [], ◌∷◌, length, map, if◌then◌else◌, refl, ap, ◌∙◌, arith}
+-- An index has as many postings as its collection, and as its flat list.
+use Rattle.std.proofs.Common.{◌≡◌, ℕ, suc, ◌+◌, Bool, true, false, List, [], ◌∷◌, length, map, if◌then◌else◌, refl, sym, ap, ◌∙◌, arith}
 use Rattle.std.specs.Prelude.{sum_by}
 use Rattle.std.specs.List.{flat_map}
 use Rattle.std.specs.declared.cmp.Ordering.{Ordering}
@@ -19,6 +19,9 @@ use Rattle.ranking_model.specs.declared.entry.Entry.{Entry}
 use Rattle.ranking_model.specs.Order.{placed, sorted}
 use Rattle.ranking_model.specs.Flat.{entry_cmp}
 use Rattle.ciff_read.specs.Counts.{posting_count}
+use Rattle.index_model.specs.Index.{SegmentData, TermData, IndexData}
+use Rattle.index_model.specs.Flat.{flat_of, flat_of_terms, segment_entries, term_entries}
+use Rattle.index_layout.specs.View.{index_postings, term_postings}
 use Rattle.impact_segments.specs.Collections.{lengths_of, total_of, weight_in, weights_of, entries_in, index_of}
 
 module _ {A : Type 0} (cmp : A → A → Ordering) where
@@ -49,3 +52,22 @@ index_size collection rule bits =
     length-sorted (entry_cmp (slice_cmp nat_cmp)) (flat_map (λ (l : ListData). entries l.term l.postings) c.lists)
     ∙ joined_lists entries collection.lists
     (λ term postings. length-map postings (λ (p : Posting). record { term = term; doc = p.doc; impact = impact_of bits (range_of (weights_of c rule)) (weight_in rule lengths (total_of lengths) (length postings) p) }))
+
+-- an index has as many postings as its flat list
+segments_size : (term : List ℕ) (segments : List SegmentData) → length (term_entries term segments) ≡ sum_by (λ (s : SegmentData). length s.docs) segments
+segments_size term [] = refl
+segments_size term (s ∷ segments) =
+    let front = length-append (segment_entries term s) (term_entries term segments) in
+    let docs = length-map s.docs (λ (doc : ℕ). (let e : Entry (List ℕ) = record { term = term; doc = doc; impact = s.impact } in e)) in
+    let whole = sum_by-cons (λ (s : SegmentData). length s.docs) s segments in
+    omega (arith, front, docs, whole, segments_size term segments)
+
+terms_size : (terms : List TermData) → length (flat_of_terms terms) ≡ sum_by term_postings terms
+terms_size [] = refl
+terms_size (t ∷ terms) =
+    let front = length-append (term_entries t.term t.segments) (flat_of_terms terms) in
+    let whole = sum_by-cons term_postings t terms in
+    omega (arith, front, whole, segments_size t.term t.segments, terms_size terms)
+
+pub flat_size : (index : IndexData) → index_postings index ≡ length (flat_of index)
+flat_size index = sym (terms_size index.terms)

@@ -4,6 +4,7 @@ use Rattle.std.specs.Io.KnownBytes.{Appends}
 use Rattle.jass_base.specs.Outside.{Rose}
 use Rattle.jass_base.specs.Writing.{AppendsPrefix}
 use Rattle.jass_words.specs.Words.{CommandData, IsBadWord, IsCommand}
+use Rattle.jass_top.specs.declared.stop.Place.{Place}
 use Rattle.jass_top.specs.declared.status.Status.{Status}
 use Rattle.jass_top.specs.declared.status.Status.TheVariants as status
 use Rattle.jass_top.specs.Judging.{Accepted, Refuses, Shows, IsUnaccepted}
@@ -29,7 +30,7 @@ pub record EndsDone (m : Meaning) (before after : World) : Type 0 where
 pub record EndsRefused (m : Meaning) (before after : World) : Type 0 where
   pub name : List ℕ
   pub number : ℕ
-  pub at : ℕ
+  pub at : Place
   pub input : IsOneOf m.reads name
   pub first : Shows (m.judge before.outer.told) (Refuses name number at)
   pub noted : Noted before after (refusal_text name number at)
@@ -66,7 +67,7 @@ pub record Ends (m : Meaning) (before after : World) (result : Status) : Type 0 
   pub limit : result ≢ status.InputLimit
   pub unaccepted : IsUnaccepted (m.judge before.outer.told) → Keeps before.outer after.outer
   pub feed : after.left ≡ before.left
-  pub refuses : (name : List ℕ) (number at : ℕ) → m.judge before.outer.told ≡ Refuses name number at
+  pub refuses : (name : List ℕ) (number : ℕ) (at : Place) → m.judge before.outer.told ≡ Refuses name number at
       → result ≢ status.Refused → (result ≡ status.NoMemory)
       ⊎ ((result ≡ status.ReadFault) × Rose before.outer.read_faults after.outer.read_faults)
   pub complete : (inputs : m.Inputs) → m.judge before.outer.told ≡ Accepted inputs

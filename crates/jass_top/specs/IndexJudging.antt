@@ -8,11 +8,12 @@ use Rattle.index_layout.specs.Reading.{read_index}
 use Rattle.index_layout.specs.Refusals.{number_of}
 use Rattle.index_layout.specs.View.{FileView, index_text}
 use Rattle.index_version1.specs.Reading.{read_index1}
+use Rattle.jass_top.specs.declared.stop.Place.TheVariants.{Byte}
 use Rattle.jass_top.specs.Judging.{Judged, Accepted, Missing, Refuses, Untold}
 
 abbrev pub judged_file : {A : Type 0} → List ℕ → Result A OpenRefusal → Judged A
 judged_file name (Ok v) = Accepted v
-judged_file name (Err refusal) = Refuses name (number_of refusal.why) refusal.at
+judged_file name (Err refusal) = Refuses name (number_of refusal.why) (Byte refusal.at)
 
 abbrev pub judged_index : List ℕ → Option (List ℕ) → Judged FileView
 judged_index name None = Missing name
@@ -35,4 +36,5 @@ judge_old name (Some files) = judged_old name (get files name)
 -- an index that is to become a file, of the input of this name: 49 at the file's length where that is above 2^32 bytes
 unfoldable pub fitting : List ℕ → IndexData → Judged IndexData
 fitting name index =
-    if nat_le (length (index_text index)) (2 ^ 32) then Accepted index else Refuses name 49 (length (index_text index))
+    if nat_le (length (index_text index)) (2 ^ 32) then Accepted index
+    else Refuses name 49 (Byte (length (index_text index)))

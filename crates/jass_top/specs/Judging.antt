@@ -6,13 +6,15 @@ use Rattle.jass_base.specs.Outside.{Files}
 use Rattle.ciff_read.specs.declared.refusal.CiffRefusal.{CiffRefusal}
 use Rattle.ciff_read.specs.Reading.{read_ciff}
 use Rattle.ciff_read.specs.Refusals.{number_of}
+use Rattle.jass_top.specs.declared.stop.Place.{Place}
+use Rattle.jass_top.specs.declared.stop.Place.TheVariants.{Byte}
 
 -- the inputs stand for a value, or the first that doesn't is missing, or refused by a number at a place; untold where a
 -- content that decides isn't told
 pub data Judged (A : Type 0) : Type 0 where
   Accepted : A → Judged A
   Missing : List ℕ → Judged A
-  Refuses : List ℕ → ℕ → ℕ → Judged A
+  Refuses : List ℕ → ℕ → Place → Judged A
   Untold : Judged A
 
 -- the judgement is this one, where it is told
@@ -28,7 +30,7 @@ IsUnaccepted Untold = ⊥
 
 abbrev pub judged_ciff : List ℕ → Result CollectionData CiffRefusal → Judged CollectionData
 judged_ciff name (Ok c) = Accepted c
-judged_ciff name (Err refusal) = Refuses name (number_of refusal.why) refusal.at
+judged_ciff name (Err refusal) = Refuses name (number_of refusal.why) (Byte refusal.at)
 
 abbrev pub judged_content : List ℕ → Option (List ℕ) → Judged CollectionData
 judged_content name None = Missing name
@@ -47,8 +49,8 @@ judge_ciff name None = Untold
 judge_ciff name (Some files) = judged_content name (get files name)
 
 -- the first refusal of a content has this number and place
-pub record IsRefused (content : List ℕ) (number at : ℕ) : Type 0 where
+pub record IsRefused (content : List ℕ) (number : ℕ) (at : Place) : Type 0 where
   pub refusal : CiffRefusal
   pub first : read_ciff content ≡ Err refusal
   pub numbered : number ≡ number_of refusal.why
-  pub placed : at ≡ refusal.at
+  pub placed : at ≡ Byte refusal.at

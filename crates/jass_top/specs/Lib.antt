@@ -12,11 +12,14 @@ pub mod MakingMeaning
 pub mod Meanings
 pub mod MigrateMeaning
 pub mod OnceMeaning
-pub mod OnceViews
+pub mod OnceTexts
 pub mod RewriteMeaning
+pub mod RunFiles
+pub mod SearchMeaning
+pub mod SearchTexts
+pub mod Sides
 pub mod Standing
 pub mod Stops
 pub mod TextMeaning
 pub mod VersionMeaning
-pub mod Views
 pub mod Worlds

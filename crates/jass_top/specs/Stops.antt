@@ -1,5 +1,7 @@
 -- How a command that stopped ends the run.
 use Rattle.std.specs.Prelude.{ℕ, List, ◌++◌, decimal, codes}
+use Rattle.jass_top.specs.declared.stop.Place.{Place}
+use Rattle.jass_top.specs.declared.stop.Place.TheVariants.{Byte, Line}
 use Rattle.jass_top.specs.declared.stop.Stop.{Stop}
 use Rattle.jass_top.specs.declared.stop.Stop.TheVariants.{NoMemory, Refused, ReadFault, WriteFault}
 use Rattle.jass_top.specs.declared.status.Status.{Status}
@@ -29,9 +31,13 @@ memory_text = codes "no memory\n"
 abbrev pub word_text : ℕ → List ℕ
 word_text which = codes "word " ++ (decimal which ++ codes "\n")
 
-abbrev pub refusal_text : List ℕ → ℕ → ℕ → List ℕ
-refusal_text name number at =
-    name ++ (codes ": refusal " ++ (decimal number ++ (codes " at " ++ (decimal at ++ codes "\n"))))
+-- a byte, or a line
+abbrev pub place_text : Place → List ℕ
+place_text (Byte byte) = codes " at " ++ (decimal byte ++ codes "\n")
+place_text (Line line) = codes " at line " ++ (decimal line ++ codes "\n")
+
+abbrev pub refusal_text : List ℕ → ℕ → Place → List ℕ
+refusal_text name number at = name ++ (codes ": refusal " ++ (decimal number ++ place_text at))
 
 abbrev pub read_fault_text : List ℕ → List ℕ
 read_fault_text name = name ++ codes ": read fault\n"

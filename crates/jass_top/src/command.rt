@@ -12,6 +12,7 @@ use crate::migrate::run_migrate;
 use crate::once::run_once;
 use crate::question::Question;
 use crate::rewrite::run_rewrite;
+use crate::search::run_search;
 use crate::stop::Stop;
 use crate::version::run_version;
 use jass_base::{Cabinet, Sink, Steps};
@@ -56,6 +57,27 @@ pub fn run_command<'a, C: Cabinet, O: Sink, L: Ledger>(
         Command::Check { index } => run_check(alloc, index, files, out),
         Command::Export { index, ciff } => run_export(alloc, index, ciff, files, steps),
         Command::Migrate { from, to } => run_migrate(alloc, from, to, files, out),
+        Command::Search {
+            index,
+            queries,
+            run,
+            k,
+            budgets,
+            tag,
+            mode,
+        } => run_search(
+            alloc,
+            index,
+            queries,
+            run,
+            k,
+            budgets.as_slice(),
+            tag,
+            mode,
+            files,
+            out,
+            steps,
+        ),
         Command::Help => run_help(out),
         Command::Version => run_version(out),
     }

@@ -15,6 +15,7 @@ import CIFF INDEX [weights=tf|bm25] [bits=raw|1..16]  make an index file of a CI
 check INDEX                check an index file, and print its totals\n\
 export INDEX CIFF          write a CIFF file with the impacts as frequencies\n\
 migrate OLD NEW            write an index file of version 1 in version 2\n\
+search INDEX QUERIES RUN [k=K] [budget=B,..] [tag=TAG] [mode=plain|folded]  answer the queries of a file\n\
 --help                     print this text\n\
 --version                  print the name and the version\n\
 \n\

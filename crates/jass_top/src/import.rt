@@ -1,4 +1,5 @@
-ghost use Rattle.std.specs.Prelude.{ℕ, ◌≡◌, ◌≤◌, [], ◌∷◌, IfOk, IfErr};
+ghost use Rattle.std.specs.Prelude.{ℕ, ◌≡◌, ◌≤◌, ◌^◌, [], ◌∷◌, IfOk, IfErr};
+ghost use Rattle.index_layout.specs.View.{index_postings};
 ghost use Rattle.index_model.specs.Views.{index_data};
 ghost use Rattle.jass_base.specs.Ciff.{CollectionData};
 ghost use Rattle.weights.specs.Quantizing.{IsImpactWidth};
@@ -36,7 +37,7 @@ pub fn run_import<'a, C: Cabinet, O: Sink>(
 }
 
 /// Makes the index of a CIFF file in memory.
-fn make_index<'a, C: Cabinet>(
+pub fn make_index<'a, C: Cabinet>(
     alloc: Global,
     ciff: &'a str,
     rule: Rule,
@@ -47,6 +48,7 @@ fn make_index<'a, C: Cabinet>(
     ensures made { IfOk result (λ index. (c : CollectionData)
         × Shows (judge_ciff ciff.now (C.told files.old)) (Accepted c)
         × (index_data index ≡ collection_index rule bits c)) }
+    ensures few { IfOk result (λ index. index_postings (index_data index) ≤ 2 ^ 29) }
     ensures unread { IfErr result (λ stop. Unread (ciff.now ∷ []) (judge_ciff ciff.now (C.told files.old))
         (C.read_faults files.old) (C.read_faults files.new) stop) }
     ensures stays { C.told files.new ≡ C.told files.old }
@@ -69,7 +71,7 @@ fn make_index<'a, C: Cabinet>(
 }
 
 /// Impacts have 16 bits.
-fn impacts_are_small(index: &ImpactIndex)
+pub fn impacts_are_small(index: &ImpactIndex)
     ensures { index.now.greatest ≤ 65535 }
 {
     let _greatest = index.greatest;

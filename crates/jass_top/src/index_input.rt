@@ -4,7 +4,7 @@ ghost use Rattle.jass_top.specs.Causes.{Unread};
 ghost use Rattle.jass_top.specs.IndexJudging.{judge_index};
 ghost use Rattle.jass_top.specs.Judging.{Accepted, Shows};
 
-use crate::stop::Stop;
+use crate::stop::{Place, Stop};
 use index_file::{IndexFile, open};
 use index_layout::OpenFault;
 use jass_base::Cabinet;
@@ -30,7 +30,7 @@ pub fn open_index<'a, C: Cabinet>(
         Err(OpenFault::Refused(refusal)) => Err(Stop::Refused {
             name,
             number: refusal.why.number(),
-            at: refusal.at,
+            at: Place::Byte(refusal.at),
         }),
         Err(OpenFault::ReadFault) => Err(Stop::ReadFault { name }),
         Err(OpenFault::NoMemory) => Err(Stop::NoMemory),

@@ -4,7 +4,7 @@ ghost use Rattle.ciff_read.specs.Counts.{posting_count};
 ghost use Rattle.jass_top.specs.Causes.{Unread};
 ghost use Rattle.jass_top.specs.Judging.{Accepted, Shows, judge_ciff};
 
-use crate::stop::Stop;
+use crate::stop::{Place, Stop};
 use ciff_read::laws::the_front_is_enough;
 use ciff_read::{CiffFault, read_collection};
 use jass_base::{Cabinet, Collection};
@@ -41,7 +41,7 @@ pub fn read_file<'a, C: Cabinet>(
         Err(CiffFault::Refused(refusal)) => Err(Stop::Refused {
             name,
             number: refusal.why.number(),
-            at: refusal.at,
+            at: Place::Byte(refusal.at),
         }),
         Err(_) => Err(Stop::NoMemory),
     }

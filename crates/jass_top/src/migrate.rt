@@ -7,7 +7,7 @@ ghost use Rattle.jass_top.specs.MigrateMeaning.{migrate_meaning};
 ghost use Rattle.jass_top.specs.Worlds.{outer};
 
 use crate::saving::save_index;
-use crate::stop::Stop;
+use crate::stop::{Place, Stop};
 use index_layout::OpenFault;
 use index_version1::laws::the_front_is_enough;
 use index_version1::read_version1;
@@ -60,7 +60,7 @@ fn read_old<'a, C: Cabinet>(
         Err(OpenFault::Refused(refusal)) => Err(Stop::Refused {
             name,
             number: refusal.why.number(),
-            at: refusal.at,
+            at: Place::Byte(refusal.at),
         }),
         Err(_) => Err(Stop::NoMemory),
     }

@@ -1,8 +1,8 @@
 ghost use Rattle.std.specs.Prelude.{◌++◌, codes};
 ghost use Rattle.jass_base.specs.Outside.{Wrote};
-ghost use Rattle.jass_top.specs.Stops.{stop_text, word_text};
+ghost use Rattle.jass_top.specs.Stops.{place_text, stop_text, word_text};
 
-use crate::stop::Stop;
+use crate::stop::{Place, Stop};
 use itoa::Buffer;
 use jass_base::{Sink, WriteFault};
 use trec_run::put_all;
@@ -23,10 +23,8 @@ pub fn put_stop<E: Sink>(notes: &mut E, stop: Stop<'_>) -> Result<(), WriteFault
     match stop {
         Stop::NoMemory => put_all(notes, &[b"no memory\n"]),
         Stop::Refused { name, number, at } => {
-            let mut number_digits = Buffer::new();
-            let mut place_digits = Buffer::new();
-            let number = number_digits.format(number).as_bytes();
-            let at = place_digits.format(at).as_bytes();
+            let mut digits = Buffer::new();
+            let number = digits.format(number).as_bytes();
             put_refusal(notes, name.as_bytes(), number, at)
         }
         Stop::ReadFault { name } => put_fault(notes, name.as_bytes(), b": read fault\n"),
@@ -34,17 +32,41 @@ pub fn put_stop<E: Sink>(notes: &mut E, stop: Stop<'_>) -> Result<(), WriteFault
     }
 }
 
-/// Puts the line of a refusal, whose pieces have one lifetime so that they lie in one array.
-fn put_refusal<'x, E: Sink>(
+/// Puts the line of a refusal at a place.
+fn put_refusal<E: Sink>(
+    notes: &mut E,
+    name: &[u8],
+    number: &[u8],
+    at: Place,
+) -> Result<(), WriteFault>
+    ensures { Wrote E.written E.faults E.rest notes.old notes.new
+        (name.now ++ (codes ": refusal " ++ (number.now ++ place_text at))) result }
+{
+    let mut digits = Buffer::new();
+    match at {
+        Place::Byte(byte) => {
+            let place = digits.format(byte).as_bytes();
+            put_pieces(notes, name, number, b" at ", place)
+        }
+        Place::Line(line) => {
+            let place = digits.format(line).as_bytes();
+            put_pieces(notes, name, number, b" at line ", place)
+        }
+    }
+}
+
+/// Puts the pieces of that line, which have one lifetime so that they lie in one array.
+fn put_pieces<'x, E: Sink>(
     notes: &mut E,
     name: &'x [u8],
     number: &'x [u8],
     at: &'x [u8],
+    place: &'x [u8],
 ) -> Result<(), WriteFault>
     ensures { Wrote E.written E.faults E.rest notes.old notes.new
-        (name.now ++ (codes ": refusal " ++ (number.now ++ (codes " at " ++ (at.now ++ codes "\n"))))) result }
+        (name.now ++ (codes ": refusal " ++ (number.now ++ (at.now ++ (place.now ++ codes "\n"))))) result }
 {
-    put_all(notes, &[name, b": refusal ", number, b" at ", at, b"\n"])
+    put_all(notes, &[name, b": refusal ", number, at, place, b"\n"])
 }
 
 /// Puts a name and what is said of it.

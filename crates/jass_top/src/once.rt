@@ -1,29 +1,32 @@
-ghost use Rattle.std.specs.Prelude.{ℕ, ◌≡◌, ◌≤◌, ◌^◌, length, IfOk};
-ghost use Rattle.index_model.specs.Flat.{flat_of};
+ghost use Rattle.std.specs.Prelude.{ℕ, ◌≡◌, ◌+◌, ◌<◌, ◌≤◌, ◌^◌, ◌++◌, length, All, codes};
+ghost use Rattle.index_layout.specs.View.{IsFileView, index_postings, index_text};
 ghost use Rattle.index_model.specs.Views.{index_data};
+ghost use Rattle.jass_base.specs.declared.answer.Hit.{Hit};
 ghost use Rattle.jass_base.specs.Outside.{Wrote};
-ghost use Rattle.jass_top.specs.Answers.{known_terms, unknown_terms, once_text};
-ghost use Rattle.jass_top.specs.OnceViews.{view_of, query_of, IsAnswer};
+ghost use Rattle.ranking_model.specs.Plan.{granted_with};
+ghost use Rattle.ranking_model.specs.Report.{report_line, run_lines};
+ghost use Rattle.frame_pool.specs.ChainView.{LeavesPool};
+ghost use Rattle.session_engine.specs.Standing.{IsSessionOf, SessionStands, chain_of, granted_of, report_of};
 ghost use Rattle.jass_top.specs.Causes.{Runs};
-ghost use Rattle.jass_top.specs.OnceMeaning.{once_meaning};
-ghost use Rattle.jass_top.specs.Worlds.{outer};
+ghost use Rattle.jass_top.specs.OnceMeaning.{asking_meaning, once_meaning};
+ghost use Rattle.jass_top.specs.OnceTexts.{once_of, session_text};
+ghost use Rattle.jass_top.specs.Worlds.{Outer, outer, with_output};
 
-use crate::index_view::IndexView;
-use crate::input::read_file;
-use crate::question::{Answer, Question};
+use crate::import::make_index;
+use crate::memory_file::file_in_memory;
+use crate::question::Question;
 use crate::stop::{OUTPUT, Stop};
-use final_certificate::grade;
-use impact_segments::{build, entries_of};
-use index_model::laws::indexes_in_memory_are_indexes;
-use jass_base::{Cabinet, ImpactIndex, NoMemory, Query, Sink, Steps, WriteFault};
+use frame_pool::FramePool;
+use index_file::IndexFile;
+use jass_base::{Budget, Cabinet, Hit, ImpactIndex, Report, Sink, Steps, WriteFault};
 use query_reader::name_terms;
-use ranking_model::laws::{
-    a_plan_has_the_classes_of_its_postings, reports_keep_their_promises,
-    the_ranking_has_documents_of_the_scores,
+use ranking_model::laws::{the_prefix_is_the_longest, the_ranking_has_documents_of_the_scores};
+use session_engine::Session;
+use session_engine::laws::{
+    a_session_plan_names_its_segments, a_standing_session_has_its_chain,
+    reports_of_sessions_keep_their_promises,
 };
-use ranking_model::{
-    bound_after, granted_sum, plan_of, prefix_within, report_of, scores_after, standing_of,
-};
+use session_engine::OpenStop;
 use std::alloc::Global;
 use std::sync::ledger::Ledger;
 use trec_run::{put_answer, put_report};
@@ -41,95 +44,114 @@ pub fn run_once<'a, C: Cabinet, O: Sink, L: Ledger>(
     question: Question<'_>,
     files: &mut C,
     out: &mut O,
-    _steps: &mut Steps<L>,
+    steps: &mut Steps<L>,
 ) -> Result<(), Stop<'a>>
-    ensures { Runs (once_meaning ciff.now (query_of question.entry))
-        (outer C.Cabinet O.Sink files.old out.old _steps.old)
-        (outer C.Cabinet O.Sink files.new out.new _steps.new) result }
+    ensures { Runs (once_meaning ciff.now (once_of question.entry))
+        (outer C.Cabinet O.Sink files.old out.old steps.old)
+        (outer C.Cabinet O.Sink files.new out.new steps.new) result }
 {
-    let collection = read_file(alloc, files, ciff)?;
-    let index = match build(alloc, &collection, Rule::Tf, Bits::Raw) {
-        Ok(index) => index,
-        Err(_) => return Err(Stop::NoMemory),
+    let made = make_index(alloc, ciff, Rule::Tf, Bits::Raw, files)?;
+    ask_made(alloc, &made, ciff, question, out, steps)
+}
+
+/// Asks an index that was made of an input.
+fn ask_made<'a, O: Sink, L: Ledger>(
+    alloc: Global,
+    index: &ImpactIndex,
+    input: &'a str,
+    question: Question<'_>,
+    out: &mut O,
+    steps: &mut Steps<L>,
+) -> Result<(), Stop<'a>>
+    requires { index_postings (index_data index.now) ≤ 2 ^ 29 }
+    ensures { (beside : Outer) → Runs (asking_meaning input.now (index_data index.now) (once_of question.entry))
+        (with_output O.Sink out.old (record beside { steps = steps.old }))
+        (with_output O.Sink out.new (record beside { steps = steps.new })) result }
+{
+    let file = match file_in_memory(alloc, index, input) {
+        Ok(file) => file,
+        Err(stop) => return Err(stop),
     };
-    let answer = match answer_words(alloc, &index, question) {
-        Ok(answer) => answer,
-        Err(_) => return Err(Stop::NoMemory),
+    ask_file(alloc, &file, input, question, out, steps)
+}
+
+/// Asks an opened index file, whose text fits a file of that name.
+fn ask_file<'a, O: Sink, L: Ledger>(
+    alloc: Global,
+    index: &IndexFile,
+    input: &'a str,
+    question: Question<'_>,
+    out: &mut O,
+    steps: &mut Steps<L>,
+) -> Result<(), Stop<'a>>
+    requires view { IsFileView index.now }
+    requires fits { length (index_text index.now.index) ≤ 2 ^ 32 }
+    ensures { (beside : Outer) → Runs (asking_meaning input.now index.now.index (once_of question.entry))
+        (with_output O.Sink out.old (record beside { steps = steps.old }))
+        (with_output O.Sink out.new (record beside { steps = steps.new })) result }
+{
+    a_standing_session_has_its_chain();
+    reports_of_sessions_keep_their_promises();
+    the_prefix_is_the_longest();
+    let Ok(query) = name_terms(alloc, ID, question.terms, index) else {
+        return Err(Stop::NoMemory);
     };
-    match put(out, &index, question, &answer) {
+    let Ok(mut pool) = FramePool::new(alloc, index.docs().div_ceil(256), 1) else {
+        return Err(Stop::NoMemory);
+    };
+    let mut session = match Session::open(alloc, index, &mut pool, query, question.k) {
+        Ok(session) => session,
+        Err(OpenStop::NoMemory) => return Err(Stop::NoMemory),
+        Err(OpenStop::PoolFull { .. }) => unreachable!("the pool has a frame for each page"),
+    };
+    let answered = answer_session(&mut session, index, &mut pool, question.budget, out, steps);
+    session.close(&mut pool);
+    match answered {
         Ok(()) => Ok(()),
         Err(_) => Err(Stop::WriteFault { name: OUTPUT }),
     }
 }
 
-/// Answers a query of words over an index.
-fn answer_words(
-    alloc: Global,
-    index: &ImpactIndex,
-    question: Question<'_>,
-) -> Result<Answer, NoMemory>
-    requires { length (flat_of (index_data index.now)) ≤ 2 ^ 29 }
-    ensures { IfOk result (λ answer. IsAnswer (view_of index.now) (query_of question.entry) answer) }
-{
-    indexes_in_memory_are_indexes();
-    let view = IndexView { index };
-    let query = match name_terms(alloc, ID, question.terms, &view) {
-        Ok(query) => query,
-        Err(_) => return Err(NoMemory),
-    };
-    answer_query(alloc, index, question, &query)
-}
-
-/// Answers a query over an index.
-fn answer_query(
-    alloc: Global,
-    index: &ImpactIndex,
-    question: Question<'_>,
-    query: &Query,
-) -> Result<Answer, NoMemory>
-    requires few { length (flat_of (index_data index.now)) ≤ 2 ^ 29 }
-    requires terms { query.now.terms ≡ known_terms (view_of index.now) (query_of question) }
-    requires unknown { query.now.unknown ≡ unknown_terms (view_of index.now) (query_of question) }
-    ensures { IfOk result (λ answer. IsAnswer (view_of index.now) (query_of question.entry) answer) }
-{
-    reports_keep_their_promises();
-    let entries = entries_of(alloc, index)?;
-    let docs = index.names.len() as u32;
-    let plan = plan_of(alloc, docs, entries.as_slice(), query.terms.as_slice())?;
-    let count = prefix_within(granted_sum(&[question.budget]), plan.classes.as_slice());
-    let scores = scores_after(alloc, count, &plan)?;
-    let standing = standing_of(alloc, scores.as_slice(), question.k as usize)?;
-    let grade = grade(
-        standing.hits.as_slice(),
-        standing.runner_up,
-        standing.least_untouched,
-        question.k,
-        bound_after(count, &plan),
-    );
-    Ok(Answer {
-        report: report_of(count, &plan, grade),
-        unknown: query.unknown,
-        hits: standing.hits,
-    })
-}
-
-/// Puts the report line and the run lines on the output.
-fn put<O: Sink>(
+/// Grants a budget, and puts the report line and the run lines on the output.
+fn answer_session<O: Sink, L: Ledger>(
+    session: &mut Session,
+    index: &IndexFile,
+    pool: &mut FramePool,
+    budget: Budget,
     out: &mut O,
-    index: &ImpactIndex,
-    question: Question<'_>,
-    answer: &Answer,
+    steps: &mut Steps<L>,
 ) -> Result<(), WriteFault>
-    requires { IsAnswer (view_of index.now) (query_of question) answer.now }
-    ensures { Wrote O.written O.faults O.rest out.old out.new
-        (once_text (view_of index.now) (query_of question.entry) answer.now.report) result }
+    requires { SessionStands session.old index.now pool.old }
+    ensures stands { SessionStands session.new index.now pool.new }
+    ensures granted { granted_of session.new ≡ granted_with (granted_of session.old) budget }
+    ensures same { IsSessionOf session.old session.new }
+    ensures leaves { LeavesPool pool.old pool.new (chain_of session.old) }
+    ensures steps { steps.new + (report_of session.old).postings ≡ steps.old + (report_of session.new).postings }
+    ensures text { Wrote O.written O.faults O.rest out.old out.new (session_text index.now session.new) result }
 {
+    a_session_plan_names_its_segments();
     the_ranking_has_documents_of_the_scores();
-    a_plan_has_the_classes_of_its_postings();
-    match put_report(out, ID, answer.unknown, answer.report) {
+    let report = session.grant(index, pool, budget, steps);
+    let query = session.query();
+    put_lines(out, query.id.as_str(), query.unknown, report, index, session.answer())
+}
+
+/// Puts a report line and the run lines of an answer on the output.
+fn put_lines<O: Sink>(
+    out: &mut O,
+    id: &str,
+    unknown: u32,
+    report: Report,
+    index: &IndexFile,
+    hits: &[Hit],
+) -> Result<(), WriteFault>
+    requires { All (λ (hit : Hit). hit.doc < length index.now.index.names) hits.now }
+    ensures { Wrote O.written O.faults O.rest out.old out.new (report_line id.now report unknown
+        ++ run_lines index.now.index.names id.now (codes "jass") 1 hits.now) result }
+{
+    match put_report(out, id, unknown, report) {
         Ok(()) => {}
         Err(fault) => return Err(fault),
     }
-    let view = IndexView { index };
-    put_answer(out, ID, &view, answer.hits.as_slice(), TAG, 0)
+    put_answer(out, id, index, hits, TAG, 0)
 }

@@ -10,7 +10,7 @@ use crate::note::{put_stop, put_word};
 use crate::status::Status;
 use crate::stop::Stop;
 use jass_base::{Cabinet, Feed, Sink, Steps};
-use jass_words::laws::words_are_one_command;
+use jass_words::laws::{a_search_is_within_limits, words_are_one_command};
 use jass_words::read_words;
 use std::alloc::Global;
 use std::sync::ledger::Ledger;
@@ -35,6 +35,7 @@ pub fn run<C: Cabinet, I: Feed, O: Sink, E: Sink, L: Ledger>(
         (world C.Cabinet I.Feed O.Sink E.Sink files.new input.new out.new notes.new steps.new) result }
 {
     words_are_one_command();
+    a_search_is_within_limits();
     let command = match read_words(words) {
         Ok(command) => command,
         Err(fault) => {

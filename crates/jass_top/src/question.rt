@@ -1,6 +1,6 @@
 ghost use Rattle.std.specs.Prelude.{ℕ, ◌≤◌, length};
 
-use jass_base::{Budget, Hit, Report, Row};
+use jass_base::Budget;
 
 /// What is asked: hits, budget and words.
 #[derive(Clone, Copy)]
@@ -12,13 +12,4 @@ pub struct Question<'a> {
     pub terms: &'a [String],
     pub ghost hits: { (1 ≤ k) × (k ≤ 100000) },
     pub ghost few_terms: { length terms.now ≤ 255 },
-}
-
-/// What a query of words is answered with.
-#[derive(Drop)]
-pub struct Answer {
-    pub report: Report,
-    /// Mentions of terms that no list has.
-    pub unknown: u32,
-    pub hits: Row<Hit>,
 }

@@ -4,14 +4,14 @@ ghost use Rattle.jass_top.specs.Causes.{Runs};
 ghost use Rattle.jass_top.specs.MakingMeaning.{saving_meaning};
 ghost use Rattle.jass_top.specs.Worlds.{outer};
 
-use crate::stop::{OUTPUT, Stop};
+use crate::stop::{OUTPUT, Place, Stop};
 use index_write::{SaveFault, totals, write_index};
 use jass_base::{Cabinet, ImpactIndex, Sink};
 use std::alloc::Global;
 use trec_run::put_totals;
 
 /// The refusal of an index that would have more than 2^32 bytes as a file.
-const TOO_LARGE: u32 = 49;
+pub const TOO_LARGE: u32 = 49;
 
 /// Makes a file of an index that was made of an input, and prints its totals.
 pub fn save_index<'a, C: Cabinet, O: Sink>(
@@ -32,7 +32,7 @@ pub fn save_index<'a, C: Cabinet, O: Sink>(
             return Err(Stop::Refused {
                 name: input,
                 number: TOO_LARGE,
-                at: length,
+                at: Place::Byte(length),
             });
         }
         Err(SaveFault::WriteFault) => return Err(Stop::WriteFault { name: file }),

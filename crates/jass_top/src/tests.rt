@@ -67,6 +67,7 @@ import CIFF INDEX [weights=tf|bm25] [bits=raw|1..16]  make an index file of a CI
 check INDEX                check an index file, and print its totals\n\
 export INDEX CIFF          write a CIFF file with the impacts as frequencies\n\
 migrate OLD NEW            write an index file of version 1 in version 2\n\
+search INDEX QUERIES RUN [k=K] [budget=B,..] [tag=TAG] [mode=plain|folded]  answer the queries of a file\n\
 --help                     print this text\n\
 --version                  print the name and the version\n\
 \n\
@@ -311,7 +312,7 @@ fn other_ends_are_noted(rt: HostRuntime) {
             b"b.ciff: refusal 12 at 26\n",
         ),
         (&ONE_TERM, "once b.ciff 0 all a", &[], &[], 2, b"word 3\n"),
-        (&ONE_TERM, "search i q", &[], &[], 2, b"word 1\n"),
+        (&ONE_TERM, "search i q", &[], &[], 2, b"word 4\n"),
         (&ONE_TERM, "", &[], &[], 2, b"word 1\n"),
         (&ONE_TERM, "once b.ciff 3 all", &[], &[], 2, b"word 5\n"),
         (&ONE_TERM, "rewrite b.ciff b.ciff", &[], &[], 2, b"word 3\n"),

@@ -2,6 +2,7 @@ use Rattle.std.proofs.Common.{Err, refl, ap, sym, subst, inl}
 use Rattle.index_layout.specs.declared.refusal.OpenFault.{OpenFault}
 use Rattle.index_file.specs.Opening.{Opens}
 use Rattle.jass_top.specs.IndexJudging.{judge_index}
+use Rattle.jass_top.specs.declared.stop.Place.TheVariants.{Byte}
 use Rattle.jass_top.specs.Judging.{Refuses, Shows}
 use Rattle.jass_top.proofs.JudgedFiles.{shown_file, unread_index}
 use Rattle.jass_top.proofs.index_input.open_index.Goals as goal
@@ -16,6 +17,6 @@ returns-in-Err-ReadFault-clause-unread g c =
 pub returns-in-Err-Refused-clause-unread : goal.returns-in-Err-Refused-clause-unread
 returns-in-Err-Refused-clause-unread g c = (
   inl refl,
-  subst (λ n. Shows (judge_index c.args.name.now (g.C.Cabinet.told c.args.files.now)) (Refuses c.args.name.now n c.in-Err-Refused.refusal.at)) (sym c.number.ensures)
+  subst (λ n. Shows (judge_index c.args.name.now (g.C.Cabinet.told c.args.files.now)) (Refuses c.args.name.now n (Byte c.in-Err-Refused.refusal.at))) (sym c.number.ensures)
       (shown_file (g.C.Cabinet.told c.args.files.now) c.args.name.now (Err c.in-Err-Refused.refusal) (subst (λ (f : OpenFault). Opens (g.C.Cabinet.told c.args.files.now) c.args.name.now (Err f)) c.in-Err-Refused.field-0-is c.in-Err-Refused.ensures.exact)),
 )

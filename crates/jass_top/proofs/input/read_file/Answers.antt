@@ -3,6 +3,7 @@ use Rattle.jass_base.specs.Ciff.{CollectionData}
 use Rattle.ciff_read.specs.declared.refusal.CiffFault.{CiffFault}
 use Rattle.ciff_read.specs.Reading.{read_ciff}
 use Rattle.ciff_read.specs.Refusals.{Fails}
+use Rattle.jass_top.specs.declared.stop.Place.TheVariants.{Byte}
 use Rattle.jass_top.specs.Judging.{Refuses, Shows, judge_ciff}
 use Rattle.jass_top.proofs.Judged.{shown, unread_file}
 use Rattle.jass_top.proofs.input.read_file.Goals as goal
@@ -20,6 +21,6 @@ returns-in-Err-Refused-clause-unread g c =
     let read : read_ciff c.as_slice.result.now ≡ Err c.in-Err-Refused.refusal
     = subst (λ (f : CiffFault). Fails {Y = CollectionData} f (read_ciff c.as_slice.result.now)) c.in-Err-Refused.field-0-is c.in-Err-Refused.ensures.exact in (
       inl refl,
-      subst (λ n. Shows (judge_ciff c.args.name.now (g.C.Cabinet.told c.args.files.now)) (Refuses c.args.name.now n c.in-Err-Refused.refusal.at)) (sym c.number.ensures)
+      subst (λ n. Shows (judge_ciff c.args.name.now (g.C.Cabinet.told c.args.files.now)) (Refuses c.args.name.now n (Byte c.in-Err-Refused.refusal.at))) (sym c.number.ensures)
           (shown (g.C.Cabinet.told c.args.files.now) c.args.name.now c.in-Ok.bytes (Err c.in-Err-Refused.refusal) c.the_front_is_enough.ensures c.in-Ok.ensures.content (ap read_ciff (sym c.as_slice.ensures) ∙ read)),
     )

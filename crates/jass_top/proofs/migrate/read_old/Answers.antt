@@ -5,6 +5,7 @@ use Rattle.index_layout.specs.declared.refusal.OpenFault.{OpenFault}
 use Rattle.index_layout.specs.Refusals.{Fails}
 use Rattle.index_version1.specs.Reading.{read_index1}
 use Rattle.jass_top.specs.IndexJudging.{judge_old}
+use Rattle.jass_top.specs.declared.stop.Place.TheVariants.{Byte}
 use Rattle.jass_top.specs.Judging.{Refuses, Shows}
 use Rattle.jass_top.proofs.JudgedFiles.{shown_old, unread_old}
 use Rattle.jass_top.proofs.migrate.read_old.Goals as goal
@@ -22,6 +23,6 @@ returns-in-Err-Refused-clause-unread g c =
     let read : read_index1 c.as_slice.result.now ≡ Err c.in-Err-Refused.refusal
     = subst (λ (f : OpenFault). Fails {Y = IndexData} f (read_index1 c.as_slice.result.now)) c.in-Err-Refused.field-0-is c.in-Err-Refused.ensures.exact in (
       inl refl,
-      subst (λ n. Shows (judge_old c.args.name.now (g.C.Cabinet.told c.args.files.now)) (Refuses c.args.name.now n c.in-Err-Refused.refusal.at)) (sym c.number.ensures)
+      subst (λ n. Shows (judge_old c.args.name.now (g.C.Cabinet.told c.args.files.now)) (Refuses c.args.name.now n (Byte c.in-Err-Refused.refusal.at))) (sym c.number.ensures)
           (shown_old (g.C.Cabinet.told c.args.files.now) c.args.name.now c.in-Ok.bytes (Err c.in-Err-Refused.refusal) c.the_front_is_enough.ensures c.in-Ok.ensures.content (ap read_index1 (sym c.as_slice.ensures) ∙ read)),
     )

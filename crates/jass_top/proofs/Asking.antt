@@ -1,0 +1,78 @@
+-- What a session that was opened for a query of words answers after its one grant.
+use Rattle.std.proofs.Common.{◌≡◌, ℕ, ◌≤◌, ◌^◌, List, [], ◌∷◌, ◌++◌, Option, inr, refl, sym, ap, subst, ◌∙◌, arith}
+use Rattle.std.specs.Prelude.{codes, length}
+use Rattle.jass_base.specs.Outside.{Files}
+use Rattle.ranking_model.specs.declared.plan.QueryPlan.{QueryPlan}
+use Rattle.ranking_model.specs.Plan.{granted_with, plan_of, prefix_within, size_of_first}
+use Rattle.ranking_model.specs.Postings.{weighted_postings}
+use Rattle.ranking_model.specs.Promises.{IsPromised}
+use Rattle.ranking_model.specs.Report.{IsReport, report_line, run_lines}
+use Rattle.ranking_model.specs.Scores.{top_k}
+use Rattle.ranking_model.specs.Search.{QueryData, query_data}
+use Rattle.index_model.specs.Flat.{numbered_flat}
+use Rattle.index_layout.specs.View.{FileView, index_text}
+use Rattle.frame_pool.specs.Pool.{PoolView}
+use Rattle.session_engine.specs.Plans.{session_plan}
+use Rattle.session_engine.specs.Standing.{IsSessionOf, SessionStands, answer_over, granted_of, k_of, plan_over, prefix_of, query_of, report_of, terms_of}
+use Rattle.session_engine.specs.declared.session.Session.{Session}
+use Rattle.jass_top.specs.Answers.{OnceQuery, once_plan, once_prefix, once_query, once_steps, once_text}
+use Rattle.jass_top.specs.Meanings.{Output}
+use Rattle.jass_top.specs.OnceMeaning.{asking_meaning}
+use Rattle.jass_top.specs.OnceTexts.{session_text}
+use Rattle.jass_top.specs.SearchMeaning.{IsSearchReport}
+use Rattle.jass_top.specs.Standing.{Had}
+use Rattle.jass_top.proofs.JudgedFiles.{fits}
+use Rattle.jass_top.proofs.Turns.{granted_more}
+
+module _ (file : FileView) (query : OnceQuery) (opened s : Session) (pool : PoolView) (stands : SessionStands s file pool) (is : IsSessionOf opened s)
+    (asks : query_data (query_of opened) ≡ once_query file.index query) (k_is : k_of opened ≡ query.k) (grants : granted_of s ≡ granted_with (granted_of opened) query.budget) (none : granted_of opened ≡ 0) where
+  same : query_data (query_of s) ≡ once_query file.index query
+  same = ap query_data is.query ∙ asks
+
+  asked : k_of s ≡ query.k
+  asked = is.k ∙ k_is
+
+  granted : granted_of s ≡ granted_with 0 query.budget
+  granted = grants ∙ ap (λ sum. granted_with sum query.budget) none
+
+  at : prefix_of s ≡ once_prefix file.index query
+  unfolding session_plan
+  at = stands.prefix
+      ∙ (λ i. prefix_within ((granted ∙ granted_more (query.budget ∷ []) 0 query.budget (omega arith)) i) (plan_of (length file.index.names) (numbered_flat file.index) (same i).terms).classes)
+
+  text_is : session_text file s ≡ once_text file.index query (report_of s)
+  unfolding session_plan
+  text_is = λ i. report_line (same i).id (report_of s) (same i).unknown
+      ++ run_lines file.index.names (same i).id (codes "jass") 1 (top_k (at i) (plan_of (length file.index.names) (numbered_flat file.index) (same i).terms) (asked i))
+
+  steps_are : (report_of s).postings ≡ once_steps file.index query
+  unfolding session_plan
+  steps_are = ap (λ r. r.postings) stands.report
+      ∙ (λ i. size_of_first (at i) (plan_of (length file.index.names) (numbered_flat file.index) (same i).terms).classes)
+
+  report_is : IsReport (prefix_of s) (plan_over file s) (k_of s) (report_of s)
+      → IsPromised (weighted_postings (numbered_flat file.index) (terms_of s)) (prefix_of s) (plan_over file s) (k_of s) (report_of s)
+      → IsSearchReport file.index (once_query file.index query) query.k (once_prefix file.index query) (report_of s)
+  unfolding session_plan
+  report_is exact promised =
+      subst (λ n. IsSearchReport file.index (once_query file.index query) query.k n (report_of s)) at
+      (subst (λ k. IsSearchReport file.index (once_query file.index query) k (prefix_of s) (report_of s)) asked
+      (subst (λ q. IsSearchReport file.index q (k_of s) (prefix_of s) (report_of s)) same (record { exact = exact; promised = promised })))
+
+  -- the output, and that the session answers with it
+  abbrev pub answered : Output
+  answered = record { content = []; text = session_text file s; steps = (report_of s).postings }
+
+  pub had : (input : List ℕ) (told : Option Files) (P : Output → Type 0) → length (index_text file.index) ≤ 2 ^ 32 → IsReport (prefix_of s) (plan_over file s) (k_of s) (report_of s)
+      → IsPromised (weighted_postings (numbered_flat file.index) (terms_of s)) (prefix_of s) (plan_over file s) (k_of s) (report_of s) → P answered → Had (asking_meaning input file.index query) told P
+  had input told P few exact promised left = record {
+    inputs = file.index;
+    output = answered;
+    accepted = inr (fits input file.index few);
+    exact = record {
+      report = report_of s;
+      answer = report_is exact promised;
+      whole = λ i. record { content = []; text = text_is i; steps = steps_are i };
+    };
+    left = left;
+  }

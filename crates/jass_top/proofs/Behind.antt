@@ -1,0 +1,38 @@
+-- Inputs that are judged one behind the other.
+use Rattle.std.proofs.Common.{◌≡◌, ◌≤◌, ℕ, List, [], ◌∷◌, ap, ◌∙◌, inl, inr}
+use Rattle.jass_base.specs.Writing.{Rose-earlier}
+use Rattle.jass_top.specs.declared.stop.Stop.{Stop}
+use Rattle.jass_top.specs.declared.stop.Stop.TheVariants as stops
+use Rattle.jass_top.specs.Causes.{IsOneOf, Unread}
+use Rattle.jass_top.specs.Judging.{Judged, Accepted, Missing, Refuses, Untold, Shows, behind}
+
+pub shown_then : {A B : Type 0} (judged : Judged A) (x : A) (next : A → Judged B) (other : Judged B) → Shows judged (Accepted x) → Shows (next x) other → Shows (behind judged next) other
+shown_then judged x next other (inl untold) shows = inl (ap (λ j. behind j next) untold)
+shown_then judged x next other (inr accepted) (inl untold) = inl (ap (λ j. behind j next) accepted ∙ untold)
+shown_then judged x next other (inr accepted) (inr is) = inr (ap (λ j. behind j next) accepted ∙ is)
+
+first_of_more : (first name : List ℕ) (more : List (List ℕ)) → IsOneOf (first ∷ []) name → IsOneOf (first ∷ more) name
+first_of_more first name more (inl is) = inl is
+first_of_more first name more (inr none) = absurd none
+
+-- the first input wasn't had
+pub unread_first : {A B : Type 0} (first : List ℕ) (more : List (List ℕ)) (judged : Judged A) (next : A → Judged B) (before after : ℕ) (stop : Stop) → Unread (first ∷ []) judged before after stop
+    → Unread (first ∷ more) (behind judged next) before after stop
+unread_first first more judged next before after stops.NoMemory why = tt
+unread_first first more judged next before after (stops.Refused name number at) (one, inl untold) = (first_of_more first name.now more one, inl (ap (λ j. behind j next) untold))
+unread_first first more judged next before after (stops.Refused name number at) (one, inr is) = (first_of_more first name.now more one, inr (ap (λ j. behind j next) is))
+unread_first first more judged next before after (stops.ReadFault name) (one, inl rose) = (first_of_more first name.now more one, inl rose)
+unread_first first more judged next before after (stops.ReadFault name) (one, inr is) = (first_of_more first name.now more one, inr (ap (λ j. behind j next) is))
+unread_first first more judged next before after (stops.WriteFault name) why = why
+
+-- the first was had, and the others weren't; where the first is untold, so are they
+pub unread_then : {A B : Type 0} (first : List ℕ) (more : List (List ℕ)) (judged : Judged A) (x : A) (next : A → Judged B) (before mid after : ℕ) (stop : Stop) → Shows judged (Accepted x)
+    → (judged ≡ Untold → next x ≡ Untold) → before ≤ mid → Unread more (next x) mid after stop → Unread (first ∷ more) (behind judged next) before after stop
+unread_then first more judged x next before mid after stops.NoMemory shows untold later why = tt
+unread_then first more judged x next before mid after (stops.Refused name number at) shows untold later (one, refused) = (inr one, shown_then judged x next (Refuses name.now number at) shows refused)
+unread_then first more judged x next before mid after (stops.ReadFault name) shows untold later (one, inl rose) = (inr one, inl (Rose-earlier before mid after later rose))
+unread_then first more judged x next before mid after (stops.ReadFault name) (inl none) untold later (one, inr is) =
+    let other : next x ≡ Untold = untold none in
+    cc
+unread_then first more judged x next before mid after (stops.ReadFault name) (inr had) untold later (one, inr is) = (inr one, inr (ap (λ j. behind j next) had ∙ is))
+unread_then first more judged x next before mid after (stops.WriteFault name) shows untold later why = why

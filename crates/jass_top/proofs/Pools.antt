@@ -1,0 +1,22 @@
+-- A pool after a session was opened, used and closed.
+use Rattle.std.proofs.Common.{◌≡◌, ℕ, ◌+◌, ◌≤◌, List, [], ◌∷◌, length, Option, Some, None, suc, zero, false, true, slice_set, refl, sym, subst, arith}
+use Rattle.std.specs.Prelude.{IsSome, is_some, slice_index_or}
+use Rattle.std.specs.List.{list_all}
+use Rattle.accumulator_pages.specs.Adding.{page_count}
+use Rattle.frame_pool.specs.Pool.{ChainEntry, IsInUse, PoolView, spare_of}
+use Rattle.frame_pool.specs.ChainView.{LeavesPool, chain_view}
+use Rattle.index_layout.specs.View.{FileView}
+use Rattle.jass_top.specs.SearchTexts.{IsReady}
+
+free_again : (xs : List (Option ChainEntry)) (i : ℕ) → IsSome (slice_index_or xs i None) → list_all is_some (slice_set xs i None) ≡ false
+free_again [] i used = cc
+free_again (x ∷ xs) zero used = refl
+free_again (None ∷ xs) (suc i) used = refl
+free_again (Some x ∷ xs) (suc i) used = free_again xs i used
+
+pub closed : (file : FileView) (need : ℕ) (old opened used new : PoolView) (chain first : ℕ) → IsReady file old → spare_of opened + need ≡ spare_of old → LeavesPool opened used first
+    → new.chains ≡ slice_set used.chains chain None → spare_of new ≡ spare_of used + (chain_view used chain).promise → IsInUse used chain → (chain_view used chain).promise ≡ need → IsReady file new
+closed file need old opened used new chain first ready opens leaves chains spare in_use promise = record {
+  number = subst (λ chains. list_all is_some chains ≡ false) (sym chains) (free_again used.chains chain in_use);
+  frames = omega (arith, ready.frames, opens, leaves.spare, spare, promise);
+}

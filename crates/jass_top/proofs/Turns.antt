@@ -1,0 +1,127 @@
+-- The texts and the steps of a query from one budget on.
+use Rattle.std.proofs.Common.{◌≡◌, ℕ, ◌+◌, ◌-◌, ◌<◌, ◌≤◌, List, [], ◌∷◌, ◌++◌, length, take, drop, min, map, flat_map, refl, sym, ap, subst, ◌∙◌, take-append-drop, take_all, get_or, suc, zero, Bool, true, false, ◌==◌, if◌then◌else◌, arith}
+use Rattle.std.specs.List.{sum_by}
+use Rattle.std.proofs.lemmas.List.{take_more}
+use Rattle.std.proofs.lemmas.List.Sums.{sum_by-append}
+use Rattle.jass_base.specs.declared.answer.Budget.{Budget}
+use Rattle.ranking_model.specs.declared.class.Class.{Class}
+use Rattle.ranking_model.specs.declared.plan.QueryPlan.{QueryPlan}
+use Rattle.ranking_model.specs.Plan.{amount_of, granted_sum, granted_with, prefix_within, size_of_first}
+use Rattle.ranking_model.specs.Report.{report_line, run_lines, tag_of}
+use Rattle.ranking_model.specs.Scores.{top_k}
+use Rattle.ranking_model.specs.Search.{QueryData, prefix_granted, prefixes_granted, query_data, run_parts}
+use Rattle.final_certificate.specs.Rule.{report_by}
+use Rattle.index_layout.specs.View.{FileView}
+use Rattle.frame_pool.specs.Pool.{PoolView}
+use Rattle.session_engine.specs.Plans.{session_plan}
+use Rattle.session_engine.specs.Standing.{SessionStands, answer_over, granted_of, k_of, plan_over, prefix_of, query_of, report_of, terms_of}
+use Rattle.session_engine.specs.declared.session.Session.{Session}
+use Rattle.jass_top.specs.SearchTexts.{answer_text, first_part_of, parts_reports, parts_run, plan_for, prefixes_for, query_steps, report_text}
+
+-- the law of prefixes, one for each budget
+abbrev pub ComeFrom : Type 0
+ComeFrom = (budgets : List Budget) (plan : QueryPlan) (j : ℕ) → j < length budgets → drop j (prefixes_granted budgets plan) ≡ prefix_granted (j + 1) budgets plan ∷ drop (j + 1) (prefixes_granted budgets plan)
+
+module _ (from : ComeFrom) (file : FileView) (k : ℕ) (budgets : List Budget) (s t : Session) (i : ℕ) (inside : i < length budgets)
+    (same : query_of t ≡ query_of s) (asked : k_of t ≡ k) (at : prefix_of t ≡ prefix_granted (i + 1) budgets (session_plan file (terms_of s))) where
+  answer_is : (tag : List ℕ) (part : ℕ) → answer_text file t tag part ≡ run_lines file.index.names (query_of s).id (tag_of tag part) 1 (top_k (prefix_granted (i + 1) budgets (session_plan file (terms_of s))) (session_plan file (terms_of s)) k)
+  answer_is tag part = λ x. run_lines file.index.names (same x).id (tag_of tag part) 1 (top_k (at x) (session_plan file (same x).terms) (asked x))
+
+  pub run_turn : (tag : List ℕ) (part : ℕ) → parts_run file k tag (query_data (query_of s)) part (drop i (prefixes_for file budgets (query_data (query_of s))))
+      ≡ answer_text file t tag part ++ parts_run file k tag (query_data (query_of s)) (part + 1) (drop (i + 1) (prefixes_for file budgets (query_data (query_of s))))
+  unfolding parts_run
+  run_turn tag part =
+      ap (λ ns. run_parts file.index.names (query_of s).id tag part (map (λ n. top_k n (session_plan file (terms_of s)) k) ns)) (from budgets (session_plan file (terms_of s)) i inside)
+      ∙ ap (λ (text : List ℕ). text ++ run_parts file.index.names (query_of s).id tag (part + 1) (map (λ n. top_k n (session_plan file (terms_of s)) k) (drop (i + 1) (prefixes_granted budgets (session_plan file (terms_of s)))))) (sym (answer_is tag part))
+
+  pub report_turn : report_of t ≡ report_by (prefix_of t) (plan_over file t) (k_of t) → parts_reports file k (query_data (query_of s)) (drop i (prefixes_for file budgets (query_data (query_of s))))
+      ≡ report_text t ++ parts_reports file k (query_data (query_of s)) (drop (i + 1) (prefixes_for file budgets (query_data (query_of s))))
+  unfolding parts_reports
+  report_turn reported =
+      let line : ℕ → List ℕ = λ n. report_line (query_of s).id (report_by n (session_plan file (terms_of s)) k) (query_of s).unknown in
+      let is : report_text t ≡ line (prefix_granted (i + 1) budgets (session_plan file (terms_of s)))
+      = ap (λ r. report_line (query_of t).id r (query_of t).unknown) reported
+      ∙ (λ x. report_line (same x).id (report_by (at x) (session_plan file (same x).terms) (asked x)) (same x).unknown) in
+      ap (flat_map line) (from budgets (session_plan file (terms_of s)) i inside)
+      ∙ ap (λ (text : List ℕ). text ++ flat_map line (drop (i + 1) (prefixes_granted budgets (session_plan file (terms_of s))))) (sym is)
+
+-- ---- steps
+
+abbrev pub Resumes : Type 0
+Resumes = (before budget n : ℕ) (classes : List Class) → n ≡ prefix_within before classes → before ≤ budget → prefix_within budget classes ≡ n + prefix_within (budget - size_of_first n classes) (drop n classes)
+
+abbrev pub Sizes : Type 0
+Sizes = (n more : ℕ) (classes : List Class) → size_of_first (n + more) classes ≡ size_of_first n classes + size_of_first more (drop n classes)
+
+pub part_granted : (budgets : List Budget) (j : ℕ) → granted_sum (take j budgets) ≤ granted_sum budgets
+part_granted budgets j =
+    let whole : sum_by amount_of budgets ≡ sum_by amount_of (take j budgets) + sum_by amount_of (drop j budgets) = ap (sum_by amount_of) (sym (take-append-drop j budgets)) ∙ sum_by-append amount_of (take j budgets) (drop j budgets) in
+    omega (arith, whole)
+
+pub part_scored : Resumes → Sizes → (before budget : ℕ) (classes : List Class) → before ≤ budget → size_of_first (prefix_within before classes) classes ≤ size_of_first (prefix_within budget classes) classes
+part_scored resumes sizes before budget classes less =
+    let n : ℕ = prefix_within before classes in
+    let more : ℕ = prefix_within (budget - size_of_first n classes) (drop n classes) in
+    let is : size_of_first (prefix_within budget classes) classes ≡ size_of_first n classes + size_of_first more (drop n classes) = ap (λ m. size_of_first m classes) (resumes before budget n classes refl less) ∙ sizes n more classes in
+    omega (arith, is)
+
+-- ---- one budget more
+
+sum_more : (budgets : List Budget) (i : ℕ) (d : Budget) → i < length budgets → sum_by amount_of (take (i + 1) budgets) ≡ sum_by amount_of (take i budgets) + amount_of (get_or budgets i d)
+sum_more budgets i d inside = ap (sum_by amount_of) (take_more budgets i d inside) ∙ sum_by-append amount_of (take i budgets) (get_or budgets i d ∷ []) ∙ ap (λ n. sum_by amount_of (take i budgets) + n) (omega arith)
+
+pub granted_more : (budgets : List Budget) (i : ℕ) (d : Budget) → i < length budgets → granted_with (granted_sum (take i budgets)) (get_or budgets i d) ≡ granted_sum (take (i + 1) budgets)
+granted_more budgets i d inside = omega (arith, sum_more budgets i d inside)
+
+pub prefix_is : (file : FileView) (s t : Session) (pool : PoolView) (budgets : List Budget) (j : ℕ) → SessionStands t file pool → query_of t ≡ query_of s → granted_of t ≡ granted_sum (take j budgets)
+    → prefix_of t ≡ prefix_granted j budgets (session_plan file (terms_of s))
+prefix_is file s t pool budgets j stands same granted = stands.prefix ∙ (λ x. prefix_within (granted x) (session_plan file (same x).terms).classes)
+
+pub scored_part : Resumes → Sizes → (file : FileView) (s t : Session) (pool : PoolView) (budgets : List Budget) (j : ℕ) → SessionStands t file pool → query_of t ≡ query_of s → granted_of t ≡ granted_sum (take j budgets)
+    → (report_of t).postings ≤ query_steps file budgets (query_data (query_of s))
+scored_part resumes sizes file s t pool budgets j stands same granted =
+    let classes : List Class = (session_plan file (terms_of s)).classes in
+    let is : (report_of t).postings ≡ size_of_first (prefix_within (granted_sum (take j budgets)) classes) classes
+    = ap (λ r. r.postings) stands.report ∙ (λ x. size_of_first (prefix_is file s t pool budgets j stands same granted x) (session_plan file (same x).terms).classes) in
+    omega (arith, is, part_scored resumes sizes (granted_sum (take j budgets)) (granted_sum budgets) classes (part_granted budgets j))
+
+pub scored_all : (file : FileView) (s t : Session) (pool : PoolView) (budgets : List Budget) (j : ℕ) → SessionStands t file pool → query_of t ≡ query_of s → granted_of t ≡ granted_sum (take j budgets) → length budgets ≤ j
+    → (report_of t).postings ≡ query_steps file budgets (query_data (query_of s))
+scored_all file s t pool budgets j stands same granted outside =
+    let classes : List Class = (session_plan file (terms_of s)).classes in
+    ap (λ r. r.postings) stands.report ∙ (λ x. size_of_first (prefix_is file s t pool budgets j stands same granted x) (session_plan file (same x).terms).classes)
+    ∙ ap (λ bs. size_of_first (prefix_within (granted_sum bs) classes) classes) (take_all j budgets outside)
+
+pub scored_none : ((budget : ℕ) (classes : List Class) → size_of_first (prefix_within budget classes) classes ≤ budget) → (file : FileView) (s : Session) (pool : PoolView) → SessionStands s file pool → granted_of s ≡ 0 → (report_of s).postings ≡ 0
+scored_none fits file s pool stands none =
+    let classes : List Class = (session_plan file (terms_of s)).classes in
+    let is : (report_of s).postings ≡ size_of_first (prefix_within (granted_of s) classes) classes = ap (λ r. r.postings) stands.report ∙ ap (λ n. size_of_first n classes) stands.prefix in
+    omega (arith, is, fits (granted_of s) classes, none)
+
+-- ---- the first part, and the end
+
+pub first_small : (budgets : List Budget) → first_part_of budgets ≤ 1
+first_small budgets = at (length budgets == 1)
+  where
+    at : (b : Bool) → (if b then 0 else 1) ≤ 1
+    at true = omega arith
+    at false = omega arith
+
+drop_end : {A : Type 0} (xs : List A) (i : ℕ) → length xs ≤ i → drop i xs ≡ []
+drop_end [] zero few = refl
+drop_end [] (suc i) few = refl
+drop_end (x ∷ xs) zero few = absurd (omega (arith, few))
+drop_end (x ∷ xs) (suc i) few = drop_end xs i (omega (arith, few))
+
+abbrev pub ForEach : Type 0
+ForEach = (budgets : List Budget) (plan : QueryPlan) → length (prefixes_granted budgets plan) ≡ length budgets
+
+pub run_end : ForEach → (file : FileView) (k : ℕ) (tag : List ℕ) (budgets : List Budget) (query : QueryData) (part i : ℕ) → length budgets ≤ i → parts_run file k tag query part (drop i (prefixes_for file budgets query)) ≡ []
+unfolding parts_run
+run_end many file k tag budgets query part i outside =
+    ap (λ ns. run_parts file.index.names query.id tag part (map (λ n. top_k n (plan_for file query) k) ns)) (drop_end (prefixes_for file budgets query) i (omega (arith, many budgets (plan_for file query), outside)))
+
+pub report_end : ForEach → (file : FileView) (k : ℕ) (budgets : List Budget) (query : QueryData) (i : ℕ) → length budgets ≤ i → parts_reports file k query (drop i (prefixes_for file budgets query)) ≡ []
+unfolding parts_reports
+report_end many file k budgets query i outside =
+    ap (flat_map (λ n. report_line query.id (report_by n (plan_for file query) k) query.unknown)) (drop_end (prefixes_for file budgets query) i (omega (arith, many budgets (plan_for file query), outside)))

@@ -1,0 +1,40 @@
+use Rattle.std.proofs.Common.{◌≡◌, refl, ap, ◌∙◌, inl, arith}
+use Rattle.ranking_model.specs.Search.{query_data}
+use Rattle.session_engine.specs.Standing.{query_of, report_of}
+use Rattle.jass_top.specs.Answers.{once_query}
+use Rattle.jass_top.specs.OnceTexts.{once_of}
+use Rattle.jass_top.specs.Standing.{Leaves, LeavesPart}
+use Rattle.jass_top.specs.Worlds.{with_output}
+use Rattle.jass_top.proofs.Asking.{had}
+use Rattle.jass_top.proofs.Turns.{scored_none}
+use Rattle.jass_top.proofs.once.ask_file.Goals as goal
+
+pub returns-in-Ok-answered : goal.returns-in-Ok-answered
+returns-in-Ok-answered g c = λ beside.
+    let file = c.args.index.now in
+    let did = c.answer_session-answered.ensures in
+    let s = c.answer_session-answered.new.session in
+    let pool = c.answer_session-answered.new.pool in
+    let opened = c.in-Ok-open in
+    let asks : query_data (query_of opened.session) ≡ once_query file.index (once_of c.args.question)
+    = ap query_data opened.ensures.query ∙ (λ i. record { id = c.in-Ok.ensures.id i; terms = c.in-Ok.ensures.terms i; unknown = c.in-Ok.ensures.unknown i }) in
+    let none : (report_of opened.session).postings ≡ 0 = scored_none c.the_prefix_is_the_longest.ensures.fits file opened.session c.open.new.pool opened.ensures.stands opened.ensures.granted in
+    had file (once_of c.args.question) opened.session s pool did.stands did.same asks opened.ensures.k did.granted opened.ensures.granted c.args.input.now beside.told _ c.requires.fits
+    (c.reports_of_sessions_keep_their_promises.ensures.report s file pool did.stands) (c.reports_of_sessions_keep_their_promises.ensures.promised s file pool c.requires.view did.stands)
+    (record { content = refl; text = c.in-Ok-answered.ensures.text.bytes; steps = omega (arith, did.steps, none) })
+
+pub returns : goal.returns
+returns g c = λ beside.
+    let file = c.args.index.now in
+    let did = c.answer_session-answered.ensures in
+    let s = c.answer_session-answered.new.session in
+    let pool = c.answer_session-answered.new.pool in
+    let opened = c.in-Ok-open in
+    let asks : query_data (query_of opened.session) ≡ once_query file.index (once_of c.args.question)
+    = ap query_data opened.ensures.query ∙ (λ i. record { id = c.in-Ok.ensures.id i; terms = c.in-Ok.ensures.terms i; unknown = c.in-Ok.ensures.unknown i }) in
+    let none : (report_of opened.session).postings ≡ 0 = scored_none c.the_prefix_is_the_longest.ensures.fits file opened.session c.open.new.pool opened.ensures.stands opened.ensures.granted in (
+      inl (refl, refl, c.in-Err.ensures.text.cause.failed),
+      had file (once_of c.args.question) opened.session s pool did.stands did.same asks opened.ensures.k did.granted opened.ensures.granted c.args.input.now beside.told _ c.requires.fits
+      (c.reports_of_sessions_keep_their_promises.ensures.report s file pool did.stands) (c.reports_of_sessions_keep_their_promises.ensures.promised s file pool c.requires.view did.stands)
+      (record { content = refl; text = c.in-Err.ensures.text.bytes; steps = omega (arith, did.steps, none) }),
+    )

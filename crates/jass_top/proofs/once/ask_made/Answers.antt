@@ -1,0 +1,20 @@
+use Rattle.std.proofs.Common.{subst}
+use Rattle.index_model.specs.Index.{IndexData}
+use Rattle.index_model.specs.Views.{index_data}
+use Rattle.jass_top.specs.Causes.{Runs}
+use Rattle.jass_top.specs.OnceMeaning.{asking_meaning}
+use Rattle.jass_top.specs.OnceTexts.{once_of}
+use Rattle.jass_top.specs.Worlds.{Outer, with_output}
+use Rattle.jass_top.proofs.Stopping.{stopped}
+use Rattle.jass_top.proofs.once.ask_made.Goals as goal
+
+pub returns-in-Err : goal.returns-in-Err
+returns-in-Err g c = λ beside.
+    stopped (asking_meaning c.args.input.now (index_data c.args.index.now) (once_of c.args.question)) (with_output g.O.Sink c.args.out.now (record beside { steps = c.args.steps.now })) c.in-Err.stop
+    (c.in-Err.ensures.unmade beside.read_faults beside.read_faults)
+
+pub returns : goal.returns
+returns g c = λ beside.
+    subst (λ (made : IndexData). Runs (asking_meaning c.args.input.now made (once_of c.args.question)) (with_output g.O.Sink c.args.out.now (record beside { steps = c.args.steps.now }))
+        (with_output g.O.Sink c.ask_file.new.out (record beside { steps = c.ask_file.new.steps })) c.ask_file.result)
+    c.in-Ok.ensures.index (c.ask_file.ensures beside)

@@ -1,0 +1,13 @@
+use Rattle.std.proofs.Common.{ℕ, List, sym, subst}
+use Rattle.jass_top.specs.declared.search_stop.SearchOutput.TheVariants.{Run}
+use Rattle.jass_top.specs.declared.search_stop.SearchStop.TheVariants.{Unwritten}
+use Rattle.jass_top.specs.RunFiles.{WroteFile}
+use Rattle.jass_top.specs.SearchTexts.{asked_of, queries_run}
+use Rattle.jass_top.proofs.RunFiles.{wrote_file}
+use Rattle.jass_top.proofs.search_file.write_search.Goals as goal
+
+pub returns-clause-run : goal.returns-clause-run
+returns-clause-run g c =
+    let text : List ℕ = queries_run c.args.index.now c.args.k c.args.budgets.now c.args.tag.now (asked_of c.args.queries) in
+    subst (λ files. WroteFile g.C.Cabinet.told g.C.Cabinet.write_faults (Unwritten Run) c.args.files.now files c.args.name.now text c.search_behind-searched.result) (sym (c.files-1.given.1 (sym c.search_behind-searched.ensures.same_reference)))
+    (wrote_file c.args.files.now c.create.new.self c.search_behind-searched.new.sink.files.now c.args.name.now text c.search_behind-searched.result c.in-Ok-create.ensures.content c.in-Ok-create.ensures.cause.later c.search_behind-searched.ensures.run)

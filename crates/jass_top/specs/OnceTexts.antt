@@ -1,0 +1,19 @@
+-- What a session leaves that answers a query of words, as a function of the view of an index file.
+use Rattle.std.specs.Prelude.{ℕ, List, ◌++◌, codes}
+use Rattle.ranking_model.specs.Report.{run_lines}
+use Rattle.index_layout.specs.View.{FileView}
+use Rattle.session_engine.specs.Standing.{answer_over, query_of}
+use Rattle.session_engine.specs.declared.session.Session.{Session}
+use Rattle.jass_words.specs.Words.{texts}
+use Rattle.jass_top.specs.declared.question.Question.{Question}
+use Rattle.jass_top.specs.Answers.{OnceQuery}
+use Rattle.jass_top.specs.SearchTexts.{report_text}
+
+-- a question as plain data
+abbrev pub once_of : Question → OnceQuery
+once_of question = record { k = question.k; budget = question.budget; words = texts question.terms.now }
+
+-- the report line, and the run lines of the answer
+abbrev pub session_text : FileView → Session → List ℕ
+session_text file s =
+    report_text s ++ run_lines file.index.names (query_of s).id (codes "jass") 1 (answer_over file s)

@@ -1,0 +1,91 @@
+-- What a search leaves query by query, as functions of the view of an index file: the grades are those of the rule.
+use Rattle.std.specs.Prelude.{ℕ, ◌≡◌, ◌+◌, ◌≤◌, ◌==◌, List, map, flat_map, sum_by, length, Result, MatchResult, if◌then◌else◌}
+use Rattle.jass_base.specs.declared.answer.Budget.{Budget}
+use Rattle.jass_base.specs.declared.query.Query.{Query}
+use Rattle.ranking_model.specs.declared.plan.QueryPlan.{QueryPlan}
+use Rattle.ranking_model.specs.Plan.{granted_sum, prefix_within, size_of_first}
+use Rattle.ranking_model.specs.Report.{report_line, run_lines, tag_of}
+use Rattle.ranking_model.specs.Scores.{top_k}
+use Rattle.ranking_model.specs.Search.{QueryData, prefixes_granted, query_data, run_parts}
+use Rattle.final_certificate.specs.Rule.{report_by}
+use Rattle.index_layout.specs.View.{FileView}
+use Rattle.accumulator_pages.specs.Adding.{page_count}
+use Rattle.frame_pool.specs.Pool.{PoolView, spare_of}
+use Rattle.session_engine.specs.Plans.{HasFreeNumber, session_plan}
+use Rattle.session_engine.specs.Standing.{answer_over, query_of, report_of}
+use Rattle.session_engine.specs.declared.session.Session.{Session}
+use Rattle.jass_top.specs.Meanings.{Output}
+use Rattle.jass_top.specs.SearchMeaning.{Search}
+
+-- the plan of a query, and its prefixes, one for each budget
+abbrev pub plan_for : FileView → QueryData → QueryPlan
+plan_for file query = session_plan file query.terms
+
+abbrev pub prefixes_for : FileView → List Budget → QueryData → List ℕ
+prefixes_for file budgets query = prefixes_granted budgets (plan_for file query)
+
+-- the run lines of a query's answers at some prefixes, as parts from a number on
+unfoldable pub parts_run : FileView → ℕ → List ℕ → QueryData → ℕ → List ℕ → List ℕ
+parts_run file k tag query part prefixes =
+    run_parts file.index.names query.id tag part (map (λ n. top_k n (plan_for file query) k) prefixes)
+
+-- the report lines of a query at some prefixes
+unfoldable pub parts_reports : FileView → ℕ → QueryData → List ℕ → List ℕ
+parts_reports file k query prefixes =
+    flat_map (λ n. report_line query.id (report_by n (plan_for file query) k) query.unknown) prefixes
+
+-- the part of the first budget: 0 where it is the only one, else 1
+abbrev pub first_part_of : List Budget → ℕ
+first_part_of budgets = if length budgets == 1 then 0 else 1
+
+-- what one query leaves
+abbrev pub query_run : FileView → ℕ → List Budget → List ℕ → QueryData → List ℕ
+query_run file k budgets tag query =
+    parts_run file k tag query (first_part_of budgets) (prefixes_for file budgets query)
+
+abbrev pub query_reports : FileView → ℕ → List Budget → QueryData → List ℕ
+query_reports file k budgets query = parts_reports file k query (prefixes_for file budgets query)
+
+-- the postings that are scored for it in the end
+abbrev pub query_steps : FileView → List Budget → QueryData → ℕ
+query_steps file budgets query =
+    let classes = (plan_for file query).classes in size_of_first (prefix_within (granted_sum budgets) classes) classes
+
+-- what all queries leave
+abbrev pub queries_run : FileView → ℕ → List Budget → List ℕ → List QueryData → List ℕ
+queries_run file k budgets tag queries = flat_map (query_run file k budgets tag) queries
+
+abbrev pub queries_reports : FileView → ℕ → List Budget → List QueryData → List ℕ
+queries_reports file k budgets queries = flat_map (query_reports file k budgets) queries
+
+abbrev pub queries_steps : FileView → List Budget → List QueryData → ℕ
+queries_steps file budgets queries = sum_by (query_steps file budgets) queries
+
+abbrev pub search_output : FileView → Search → List QueryData → Output
+search_output file search queries = record {
+  content = queries_run file search.k search.budgets search.tag queries;
+  text = queries_reports file search.k search.budgets queries;
+  steps = queries_steps file search.budgets queries;
+}
+
+-- so many steps were counted; after a failure at most so many
+abbrev pub Stepped : {T E : Type 0} → ℕ → ℕ → ℕ → Result T E → Type 0
+Stepped old new count result = MatchResult result (λ _. new ≡ old + count) (λ _. new ≤ old + count)
+
+-- the queries as plain data
+abbrev pub asked_of : List Query → List QueryData
+asked_of queries = map query_data queries
+
+-- ---- one session
+
+-- the run lines of its answer as a part, and its report line
+abbrev pub answer_text : FileView → Session → List ℕ → ℕ → List ℕ
+answer_text file s tag part = run_lines file.index.names (query_of s).id (tag_of tag part) 1 (answer_over file s)
+
+abbrev pub report_text : Session → List ℕ
+report_text s = report_line (query_of s).id (report_of s) (query_of s).unknown
+
+-- a pool can hold a session more over the file, whatever its query
+pub record IsReady (file : FileView) (pool : PoolView) : Type 0 where
+  pub number : HasFreeNumber pool
+  pub frames : page_count (length file.index.names) ≤ spare_of pool

@@ -1,0 +1,52 @@
+ghost use Rattle.std.specs.Prelude.{ℕ, ◌≡◌, ◌≤◌, ◌^◌, [], ◌∷◌, length, IfOk, IfErr, OnOk};
+ghost use Rattle.index_layout.specs.View.{IsFileView, index_postings, index_text};
+ghost use Rattle.index_model.specs.Views.{index_data};
+ghost use Rattle.jass_top.specs.Causes.{Unread};
+ghost use Rattle.jass_top.specs.IndexJudging.{fitting};
+
+use crate::import::impacts_are_small;
+use crate::saving::TOO_LARGE;
+use crate::stop::{Place, Stop};
+use index_file::IndexFile;
+use index_layout::OpenFault;
+use index_layout::laws::{files_are_read, texts_are_files};
+use index_model::laws::indexes_in_memory_are_indexes;
+use index_write::{SaveFault, index_bytes};
+use jass_base::ImpactIndex;
+use std::alloc::Global;
+
+/// The index file, in memory, of an index that was made of an input.
+pub fn file_in_memory<'a>(
+    alloc: Global,
+    index: &ImpactIndex,
+    input: &'a str,
+) -> Result<IndexFile, Stop<'a>>
+    requires { index_postings (index_data index.now) ≤ 2 ^ 29 }
+    ensures index { IfOk result (λ file. file.index ≡ index_data index.now) }
+    ensures view { IfOk result (λ file. IsFileView file) }
+    ensures fits { OnOk result (length (index_text (index_data index.now)) ≤ 2 ^ 32) }
+    ensures unmade { (before after : ℕ) → IfErr result
+        (λ stop. Unread (input.now ∷ []) (fitting input.now (index_data index.now)) before after stop) }
+{
+    impacts_are_small(index);
+    indexes_in_memory_are_indexes();
+    texts_are_files();
+    files_are_read();
+    let bytes = match index_bytes(alloc, index) {
+        Ok(bytes) => bytes,
+        Err(SaveFault::TooLarge { length }) => {
+            return Err(Stop::Refused {
+                name: input,
+                number: TOO_LARGE,
+                at: Place::Byte(length),
+            });
+        }
+        Err(_) => return Err(Stop::NoMemory),
+    };
+    match IndexFile::from_bytes(alloc, bytes) {
+        Ok(file) => Ok(file),
+        Err(OpenFault::Refused(_)) => unreachable!("the bytes are those of an index"),
+        Err(OpenFault::ReadFault) => unreachable!("nothing is read"),
+        Err(OpenFault::NoMemory) => Err(Stop::NoMemory),
+    }
+}

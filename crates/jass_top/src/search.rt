@@ -1,0 +1,89 @@
+ghost use Rattle.std.specs.Prelude.{ℕ, ◌≡◌, ◌≤◌, [], ◌∷◌, length, IfOk, IfErr};
+ghost use Rattle.std.specs.List.{AllByRecursion};
+ghost use Rattle.jass_base.specs.declared.query.Query.{Query};
+ghost use Rattle.index_layout.specs.View.{IsFileView};
+ghost use Rattle.session_engine.specs.Plans.{AreKnown};
+ghost use Rattle.jass_top.specs.Causes.{Runs, Unread};
+ghost use Rattle.jass_top.specs.Judging.{Accepted, Shows};
+ghost use Rattle.jass_top.specs.SearchMeaning.{judge_search, search_meaning};
+ghost use Rattle.jass_top.specs.SearchTexts.{asked_of};
+ghost use Rattle.jass_top.specs.Worlds.{outer};
+
+use crate::index_input::open_index;
+use crate::laws::a_search_leaves_its_output;
+use crate::queries_input::open_queries;
+use crate::search_file::write_search;
+use crate::search_stop::{SearchOutput, SearchStop};
+use crate::stop::{OUTPUT, Stop};
+use index_file::IndexFile;
+use jass_base::{Budget, Cabinet, Query, Row, Sink, Steps};
+use query_reader::Mode;
+use std::alloc::Global;
+use std::sync::ledger::Ledger;
+
+/// Answers the queries of a file over an index file: run lines in a file, report lines on the output.
+pub fn run_search<'a, C: Cabinet, O: Sink, L: Ledger>(
+    alloc: Global,
+    index: &'a str,
+    queries: &'a str,
+    run: &'a str,
+    k: u32,
+    budgets: &[Budget],
+    tag: &str,
+    mode: Mode,
+    files: &mut C,
+    out: &mut O,
+    steps: &mut Steps<L>,
+) -> Result<(), Stop<'a>>
+    requires some { 1 ≤ k }
+    requires few_hits { k ≤ 100000 }
+    requires few_budgets { length budgets.now ≤ 16 }
+    ensures { Runs (search_meaning index.now queries.now run.now
+        (record { k = k; budgets = budgets.now; tag = tag.now }) mode)
+        (outer C.Cabinet O.Sink files.old out.old steps.old)
+        (outer C.Cabinet O.Sink files.new out.new steps.new) result }
+{
+    a_search_leaves_its_output();
+    let (file, asked) = open_search(alloc, index, queries, mode, files)?;
+    match write_search(
+        alloc, asked, k, budgets, tag, &file, steps, files, run, out,
+    ) {
+        Ok(()) => Ok(()),
+        Err(SearchStop::NoMemory) => Err(Stop::NoMemory),
+        Err(SearchStop::Unwritten(SearchOutput::Run)) => Err(Stop::WriteFault { name: run }),
+        Err(SearchStop::Unwritten(SearchOutput::Reports)) => {
+            Err(Stop::WriteFault { name: OUTPUT })
+        }
+    }
+}
+
+/// Opens the index file, and reads the queries over it.
+fn open_search<'a, C: Cabinet>(
+    alloc: Global,
+    index: &'a str,
+    queries: &'a str,
+    mode: Mode,
+    files: &mut C,
+) -> Result<(IndexFile, Row<Query>), Stop<'a>>
+    ensures accepted { IfOk result (λ found.
+        Shows (judge_search index.now queries.now mode (C.told files.old))
+        (Accepted (record { file = found.0; queries = asked_of found.1 }))) }
+    ensures view { IfOk result (λ found. IsFileView found.0) }
+    ensures known { IfOk result (λ found.
+        AllByRecursion (λ (query : Query). AreKnown found.0 query.terms) found.1) }
+    ensures unread { IfErr result (λ stop. Unread (index.now ∷ queries.now ∷ [])
+        (judge_search index.now queries.now mode (C.told files.old))
+        (C.read_faults files.old) (C.read_faults files.new) stop) }
+    ensures stays { C.told files.new ≡ C.told files.old }
+    ensures later { C.read_faults files.old ≤ C.read_faults files.new }
+    ensures others { C.write_faults files.old ≤ C.write_faults files.new }
+{
+    let file = match open_index(alloc, files, index) {
+        Ok(file) => file,
+        Err(stop) => return Err(stop),
+    };
+    match open_queries(alloc, files, queries, mode, &file) {
+        Ok(asked) => Ok((file, asked)),
+        Err(stop) => Err(stop),
+    }
+}

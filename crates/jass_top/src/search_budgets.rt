@@ -1,0 +1,151 @@
+ghost use Rattle.std.specs.Prelude.{◌≡◌, ◌+◌, ◌≤◌, ◌<◌, length, All};
+ghost use Rattle.jass_base.specs.declared.answer.Hit.{Hit};
+ghost use Rattle.ranking_model.specs.Plan.{granted_with};
+ghost use Rattle.ranking_model.specs.Report.{report_line, run_lines, tag_of};
+ghost use Rattle.ranking_model.specs.Search.{query_data};
+ghost use Rattle.frame_pool.specs.ChainView.{LeavesPool};
+ghost use Rattle.session_engine.specs.Standing.{IsSessionOf, SessionStands};
+ghost use Rattle.session_engine.specs.Standing.{chain_of, granted_of, k_of, query_of, report_of};
+ghost use Rattle.jass_top.specs.declared.search_stop.SearchOutput.{SearchOutput};
+ghost use Rattle.jass_top.specs.SearchTexts.{Stepped, answer_text, first_part_of, report_text};
+ghost use Rattle.jass_top.specs.SearchTexts.{query_reports, query_run, query_steps};
+ghost use Rattle.jass_top.specs.Sides.{Side};
+
+use crate::search_stop::SearchOutput;
+use frame_pool::FramePool;
+use frame_pool::laws::calls_on_one_chain;
+use index_file::IndexFile;
+use jass_base::{Budget, Hit, Report, Sink, Steps};
+use ranking_model::laws::{the_prefix_is_the_longest, the_ranking_has_documents_of_the_scores};
+use ranking_model::prefix_laws::{
+    a_prefix_is_resumed, each_budget_has_its_prefix, one_budget_more_is_granted,
+};
+use session_engine::Session;
+use session_engine::laws::{a_session_plan_names_its_segments, a_standing_session_has_its_chain};
+use std::sync::ledger::Ledger;
+use trec_run::{Buffer, gather_answer, gather_report};
+
+/// Gathers the run lines and the report lines of one session, budget by budget.
+pub fn gather_budgets<R: Sink, O: Sink, L: Ledger>(
+    session: &mut Session,
+    budgets: &[Budget],
+    tag: &str,
+    index: &IndexFile,
+    pool: &mut FramePool,
+    steps: &mut Steps<L>,
+    run: &mut R,
+    run_buffer: &mut Buffer,
+    out: &mut O,
+    out_buffer: &mut Buffer,
+) -> Result<(), SearchOutput>
+    requires few { length budgets.now ≤ 16 }
+    requires stands { SessionStands session.old index.now pool.old }
+    requires none { granted_of session.old ≡ 0 }
+    ensures stands { SessionStands session.new index.now pool.new }
+    ensures same { IsSessionOf session.old session.new }
+    ensures leaves { LeavesPool pool.old pool.new (chain_of session.old) }
+    ensures steps { Stepped steps.old steps.new
+        (query_steps index.now budgets.now (query_data (query_of session.old))) result }
+    ensures run { Side R.written R.faults R.rest SearchOutput.Run run.old run.new run_buffer.old run_buffer.new
+        (query_run index.now (k_of session.old) budgets.now tag.now (query_data (query_of session.old))) result }
+    ensures out { Side O.written O.faults O.rest SearchOutput.Reports out.old out.new out_buffer.old out_buffer.new
+        (query_reports index.now (k_of session.old) budgets.now (query_data (query_of session.old))) result }
+{
+    the_prefix_is_the_longest();
+    a_prefix_is_resumed();
+    each_budget_has_its_prefix();
+    one_budget_more_is_granted();
+    calls_on_one_chain();
+    let mut part = first_part(budgets);
+    for budget in budgets {
+        match gather_budget(
+            session, *budget, part, tag, index, pool, steps, run, run_buffer, out, out_buffer,
+        ) {
+            Ok(()) => {}
+            Err(which) => return Err(which),
+        }
+        part += 1;
+    }
+    Ok(())
+}
+
+/// The part of the run at the first budget.
+fn first_part(budgets: &[Budget]) -> u32
+    ensures { result ≡ first_part_of budgets.now }
+{
+    if budgets.len() == 1 { 0 } else { 1 }
+}
+
+/// Gathers the run lines and the report line of one grant.
+fn gather_budget<R: Sink, O: Sink, L: Ledger>(
+    session: &mut Session,
+    budget: Budget,
+    part: u32,
+    tag: &str,
+    index: &IndexFile,
+    pool: &mut FramePool,
+    steps: &mut Steps<L>,
+    run: &mut R,
+    run_buffer: &mut Buffer,
+    out: &mut O,
+    out_buffer: &mut Buffer,
+) -> Result<(), SearchOutput>
+    requires stands { SessionStands session.old index.now pool.old }
+    ensures stands { SessionStands session.new index.now pool.new }
+    ensures granted { granted_of session.new ≡ granted_with (granted_of session.old) budget }
+    ensures same { IsSessionOf session.old session.new }
+    ensures leaves { LeavesPool pool.old pool.new (chain_of session.old) }
+    ensures steps { steps.new + (report_of session.old).postings ≡ steps.old + (report_of session.new).postings }
+    ensures run { Side R.written R.faults R.rest SearchOutput.Run run.old run.new run_buffer.old run_buffer.new
+        (answer_text index.now session.new tag.now part) result }
+    ensures out { Side O.written O.faults O.rest SearchOutput.Reports out.old out.new out_buffer.old out_buffer.new
+        (report_text session.new) result }
+{
+    a_session_plan_names_its_segments();
+    the_ranking_has_documents_of_the_scores();
+    let report = session.grant(index, pool, budget, steps);
+    let query = session.query();
+    gather_turn(
+        query.id.as_str(),
+        query.unknown,
+        report,
+        session.answer(),
+        part,
+        tag,
+        index,
+        run,
+        run_buffer,
+        out,
+        out_buffer,
+    )
+}
+
+/// Gathers an answer, and then its report.
+fn gather_turn<R: Sink, O: Sink>(
+    id: &str,
+    unknown: u32,
+    report: Report,
+    hits: &[Hit],
+    part: u32,
+    tag: &str,
+    index: &IndexFile,
+    run: &mut R,
+    run_buffer: &mut Buffer,
+    out: &mut O,
+    out_buffer: &mut Buffer,
+) -> Result<(), SearchOutput>
+    requires { All (λ (hit : Hit). hit.doc < length index.now.index.names) hits.now }
+    ensures run { Side R.written R.faults R.rest SearchOutput.Run run.old run.new run_buffer.old run_buffer.new
+        (run_lines index.now.index.names id.now (tag_of tag.now part) 1 hits.now) result }
+    ensures out { Side O.written O.faults O.rest SearchOutput.Reports out.old out.new out_buffer.old out_buffer.new
+        (report_line id.now report unknown) result }
+{
+    match gather_answer(run, run_buffer, id, index, hits, tag, part) {
+        Ok(()) => {}
+        Err(_) => return Err(SearchOutput::Run),
+    }
+    match gather_report(out, out_buffer, id, unknown, report) {
+        Ok(()) => Ok(()),
+        Err(_) => Err(SearchOutput::Reports),
+    }
+}

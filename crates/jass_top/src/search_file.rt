@@ -1,0 +1,90 @@
+ghost use Rattle.std.specs.Prelude.{◌≡◌, ◌≤◌, length};
+ghost use Rattle.std.specs.List.{AllByRecursion};
+ghost use Rattle.jass_base.specs.declared.query.Query.{Query};
+ghost use Rattle.session_engine.specs.Plans.{AreKnown};
+ghost use Rattle.jass_top.specs.declared.search_stop.SearchOutput.{SearchOutput};
+ghost use Rattle.jass_top.specs.declared.search_stop.SearchStop.{SearchStop};
+ghost use Rattle.jass_top.specs.RunFiles.{WroteBehind, WroteFile};
+ghost use Rattle.jass_top.specs.SearchTexts.{IsReady, Stepped, asked_of};
+ghost use Rattle.jass_top.specs.SearchTexts.{queries_reports, queries_run, queries_steps};
+ghost use Rattle.jass_top.specs.Sides.{WroteSide};
+
+use crate::search_queries::search_all;
+use crate::search_stop::{SearchOutput, SearchStop};
+use frame_pool::FramePool;
+use index_file::IndexFile;
+use jass_base::{Budget, Cabinet, FileSink, Query, Row, Sink, Steps};
+use std::alloc::Global;
+use std::sync::ledger::Ledger;
+
+/// Makes a file the run of queries, and puts their reports on the output.
+pub fn write_search<C: Cabinet, O: Sink, L: Ledger>(
+    alloc: Global,
+    queries: Row<Query>,
+    k: u32,
+    budgets: &[Budget],
+    tag: &str,
+    index: &IndexFile,
+    steps: &mut Steps<L>,
+    files: &mut C,
+    name: &str,
+    out: &mut O,
+) -> Result<(), SearchStop>
+    requires some { 1 ≤ k }
+    requires few_hits { k ≤ 100000 }
+    requires few_budgets { length budgets.now ≤ 16 }
+    requires known { AllByRecursion (λ (query : Query). AreKnown index.now query.terms) queries }
+    ensures steps { Stepped steps.old steps.new (queries_steps index.now budgets.now (asked_of queries)) result }
+    ensures run { WroteFile C.told C.write_faults (SearchStop.Unwritten SearchOutput.Run) files.old files.new name.now
+        (queries_run index.now k budgets.now tag.now (asked_of queries)) result }
+    ensures out { WroteSide O.written O.faults O.rest (SearchStop.Unwritten SearchOutput.Reports) out.old out.new
+        (queries_reports index.now k budgets.now (asked_of queries)) result }
+{
+    index.is_checked();
+    let mut pool = match FramePool::new(alloc, index.docs().div_ceil(256), 1) {
+        Ok(pool) => pool,
+        Err(_) => return Err(SearchStop::NoMemory),
+    };
+    match files.create(name) {
+        Ok(()) => {}
+        Err(_) => return Err(SearchStop::Unwritten(SearchOutput::Run)),
+    }
+    let mut sink = FileSink { files, name };
+    let searched = search_behind(
+        alloc, queries, k, budgets, tag, index, &mut pool, steps, &mut sink, out,
+    );
+    let FileSink { files: _, name: _ } = sink;
+    searched
+}
+
+/// Puts the run behind the content of a file.
+fn search_behind<'a, C: Cabinet, O: Sink, L: Ledger>(
+    alloc: Global,
+    queries: Row<Query>,
+    k: u32,
+    budgets: &[Budget],
+    tag: &str,
+    index: &IndexFile,
+    pool: &mut FramePool,
+    steps: &mut Steps<L>,
+    sink: &mut FileSink<'a, C>,
+    out: &mut O,
+) -> Result<(), SearchStop>
+    requires some { 1 ≤ k }
+    requires few_hits { k ≤ 100000 }
+    requires few_budgets { length budgets.now ≤ 16 }
+    requires known { AllByRecursion (λ (query : Query). AreKnown index.now query.terms) queries }
+    requires ready { IsReady index.now pool.old }
+    ensures steps { Stepped steps.old steps.new (queries_steps index.now budgets.now (asked_of queries)) result }
+    ensures same_reference { sink.new.files.ghost_name ≡ sink.old.files.ghost_name }
+    ensures same_name { sink.new.name.now ≡ sink.old.name.now }
+    ensures run { WroteBehind C.told C.write_faults (SearchStop.Unwritten SearchOutput.Run)
+        sink.old.files.now sink.new.files.now sink.old.name.now
+        (queries_run index.now k budgets.now tag.now (asked_of queries)) result }
+    ensures out { WroteSide O.written O.faults O.rest (SearchStop.Unwritten SearchOutput.Reports) out.old out.new
+        (queries_reports index.now k budgets.now (asked_of queries)) result }
+{
+    search_all(
+        alloc, queries, k, budgets, tag, index, pool, steps, sink, out,
+    )
+}

@@ -1,0 +1,167 @@
+ghost use Rattle.std.specs.Prelude.{◌≡◌, ◌≤◌, length};
+ghost use Rattle.std.specs.List.{AllByRecursion};
+ghost use Rattle.jass_base.specs.declared.query.Query.{Query};
+ghost use Rattle.ranking_model.specs.Search.{query_data};
+ghost use Rattle.session_engine.specs.Plans.{AreKnown};
+ghost use Rattle.jass_top.specs.declared.search_stop.SearchOutput.{SearchOutput};
+ghost use Rattle.jass_top.specs.declared.search_stop.SearchStop.{SearchStop};
+ghost use Rattle.jass_top.specs.SearchTexts.{IsReady, Stepped, asked_of, query_reports, query_run, query_steps};
+ghost use Rattle.jass_top.specs.SearchTexts.{queries_reports, queries_run, queries_steps};
+ghost use Rattle.jass_top.specs.Sides.{Side, WroteSide};
+
+use crate::search_budgets::gather_budgets;
+use crate::search_stop::{SearchOutput, SearchStop};
+use frame_pool::FramePool;
+use index_file::IndexFile;
+use jass_base::{Budget, Query, Row, Sink, Steps};
+use session_engine::laws::a_standing_session_has_its_chain;
+use session_engine::{OpenStop, Session};
+use std::alloc::Global;
+use std::sync::ledger::Ledger;
+use trec_run::{Buffer, flush};
+
+/// Answers queries one after another, each budget by budget: run lines on one output, report lines on the other.
+pub fn search_all<R: Sink, O: Sink, L: Ledger>(
+    alloc: Global,
+    queries: Row<Query>,
+    k: u32,
+    budgets: &[Budget],
+    tag: &str,
+    index: &IndexFile,
+    pool: &mut FramePool,
+    steps: &mut Steps<L>,
+    run: &mut R,
+    out: &mut O,
+) -> Result<(), SearchStop>
+    requires some { 1 ≤ k }
+    requires few_hits { k ≤ 100000 }
+    requires few_budgets { length budgets.now ≤ 16 }
+    requires known { AllByRecursion (λ (query : Query). AreKnown index.now query.terms) queries }
+    requires ready { IsReady index.now pool.old }
+    ensures steps { Stepped steps.old steps.new (queries_steps index.now budgets.now (asked_of queries)) result }
+    ensures run { WroteSide R.written R.faults R.rest (SearchStop.Unwritten SearchOutput.Run) run.old run.new
+        (queries_run index.now k budgets.now tag.now (asked_of queries)) result }
+    ensures out { WroteSide O.written O.faults O.rest (SearchStop.Unwritten SearchOutput.Reports) out.old out.new
+        (queries_reports index.now k budgets.now (asked_of queries)) result }
+{
+    let mut run_buffer = Buffer::new();
+    let mut out_buffer = Buffer::new();
+    match gather_queries(
+        alloc,
+        queries,
+        k,
+        budgets,
+        tag,
+        index,
+        pool,
+        steps,
+        run,
+        &mut run_buffer,
+        out,
+        &mut out_buffer,
+    ) {
+        Ok(()) => {}
+        Err(stop) => return Err(stop),
+    }
+    match flush(run, &mut run_buffer) {
+        Ok(()) => {}
+        Err(_) => return Err(SearchStop::Unwritten(SearchOutput::Run)),
+    }
+    match flush(out, &mut out_buffer) {
+        Ok(()) => Ok(()),
+        Err(_) => Err(SearchStop::Unwritten(SearchOutput::Reports)),
+    }
+}
+
+/// Gathers the lines of all queries.
+fn gather_queries<R: Sink, O: Sink, L: Ledger>(
+    alloc: Global,
+    queries: Row<Query>,
+    k: u32,
+    budgets: &[Budget],
+    tag: &str,
+    index: &IndexFile,
+    pool: &mut FramePool,
+    steps: &mut Steps<L>,
+    run: &mut R,
+    run_buffer: &mut Buffer,
+    out: &mut O,
+    out_buffer: &mut Buffer,
+) -> Result<(), SearchStop>
+    requires some { 1 ≤ k }
+    requires few_hits { k ≤ 100000 }
+    requires few_budgets { length budgets.now ≤ 16 }
+    requires known { AllByRecursion (λ (query : Query). AreKnown index.now query.terms) queries }
+    requires ready { IsReady index.now pool.old }
+    ensures steps { Stepped steps.old steps.new (queries_steps index.now budgets.now (asked_of queries)) result }
+    ensures run { Side R.written R.faults R.rest (SearchStop.Unwritten SearchOutput.Run)
+        run.old run.new run_buffer.old run_buffer.new
+        (queries_run index.now k budgets.now tag.now (asked_of queries)) result }
+    ensures out { Side O.written O.faults O.rest (SearchStop.Unwritten SearchOutput.Reports)
+        out.old out.new out_buffer.old out_buffer.new
+        (queries_reports index.now k budgets.now (asked_of queries)) result }
+{
+    for query in queries.into_vec() {
+        match gather_query(
+            alloc, query, k, budgets, tag, index, pool, steps, run, run_buffer, out, out_buffer,
+        ) {
+            Ok(()) => {}
+            Err(stop) => return Err(stop),
+        }
+    }
+    Ok(())
+}
+
+/// Gathers the lines of a query, whose session is closed on each exit.
+fn gather_query<R: Sink, O: Sink, L: Ledger>(
+    alloc: Global,
+    query: Query,
+    k: u32,
+    budgets: &[Budget],
+    tag: &str,
+    index: &IndexFile,
+    pool: &mut FramePool,
+    steps: &mut Steps<L>,
+    run: &mut R,
+    run_buffer: &mut Buffer,
+    out: &mut O,
+    out_buffer: &mut Buffer,
+) -> Result<(), SearchStop>
+    requires some { 1 ≤ k }
+    requires few_hits { k ≤ 100000 }
+    requires few_budgets { length budgets.now ≤ 16 }
+    requires known { AreKnown index.now query.terms }
+    requires ready { IsReady index.now pool.old }
+    ensures ready { IsReady index.now pool.new }
+    ensures steps { Stepped steps.old steps.new (query_steps index.now budgets.now (query_data query)) result }
+    ensures run { Side R.written R.faults R.rest (SearchStop.Unwritten SearchOutput.Run)
+        run.old run.new run_buffer.old run_buffer.new
+        (query_run index.now k budgets.now tag.now (query_data query)) result }
+    ensures out { Side O.written O.faults O.rest (SearchStop.Unwritten SearchOutput.Reports)
+        out.old out.new out_buffer.old out_buffer.new
+        (query_reports index.now k budgets.now (query_data query)) result }
+{
+    a_standing_session_has_its_chain();
+    let mut session = match Session::open(alloc, index, pool, query, k) {
+        Ok(session) => session,
+        Err(OpenStop::NoMemory) => return Err(SearchStop::NoMemory),
+        Err(OpenStop::PoolFull { .. }) => unreachable!("the pool has a frame for each page"),
+    };
+    let gathered = gather_budgets(
+        &mut session,
+        budgets,
+        tag,
+        index,
+        pool,
+        steps,
+        run,
+        run_buffer,
+        out,
+        out_buffer,
+    );
+    session.close(pool);
+    match gathered {
+        Ok(()) => Ok(()),
+        Err(which) => Err(SearchStop::Unwritten(which)),
+    }
+}
