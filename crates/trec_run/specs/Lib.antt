@@ -1,3 +1,4 @@
+pub mod Columns
 pub mod Gathering
 pub mod Lines
 pub mod Runs

@@ -7,7 +7,7 @@ ghost use Rattle.trec_run.specs.Gathering.{Gathers};
 
 use crate::buffer::Buffer;
 use crate::gather::flush;
-use crate::line::gather_columns;
+use crate::line::{Columns, gather_columns};
 use itoa::Buffer as Digits;
 use jass_base::{Hit, Names, Sink, WriteFault};
 
@@ -97,7 +97,14 @@ fn gather_hit<O: Sink>(
 {
     let mut rank_digits = Digits::new();
     let mut score_digits = Digits::new();
-    let rank = rank_digits.format(rank);
-    let score = score_digits.format(score);
-    gather_columns(out, buffer, id, name, rank, score, tag, point, part)
+    let line = Columns {
+        id: id.as_bytes(),
+        name: name.as_bytes(),
+        rank: rank_digits.format(rank).as_bytes(),
+        score: score_digits.format(score).as_bytes(),
+        tag: tag.as_bytes(),
+        point: point.as_bytes(),
+        part: part.as_bytes(),
+    };
+    gather_columns(out, buffer, &line)
 }
