@@ -3,7 +3,7 @@ ghost use Rattle.std.specs.Prelude.{◌≡◌, ◌+◌, ◌≤◌, [], ◌++◌,
 use std::marker::Model;
 
 /// The room for gathered bytes.
-pub const ROOM: usize = 32768;
+pub const ROOM: usize = 65536;
 
 /// Bytes on their way to a sink, for one text or many: `flush` puts the last of them. Contracts see it as their list.
 #[derive(Drop)]
@@ -19,7 +19,7 @@ impl Model for Buffer {
 
     ghost view = { λ b. take b.len b.bytes };
 
-    ghost invariant = { λ b. b.len ≤ 32768 };
+    ghost invariant = { λ b. b.len ≤ 65536 };
 }
 
 impl Buffer {
@@ -33,7 +33,7 @@ impl Buffer {
     }
 
     pub(crate) fn room(&self) -> usize
-        ensures { result + length self.now ≡ 32768 }
+        ensures { result + length self.now ≡ 65536 }
     {
         ROOM - self.len
     }
@@ -52,7 +52,7 @@ impl Buffer {
 
     /// Puts bytes for which there is room behind the others.
     pub(crate) fn push(&mut self, bytes: &[u8])
-        requires { length self.old + length bytes.now ≤ 32768 }
+        requires { length self.old + length bytes.now ≤ 65536 }
         ensures { self.new ≡ self.old ++ bytes.now }
     {
         let end = self.len + bytes.len();

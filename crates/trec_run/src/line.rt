@@ -58,7 +58,7 @@ fn are_short(line: &Columns<'_>) -> bool
 /// Puts a run line for which there is room behind what was gathered.
 fn push_line(buffer: &mut Buffer, line: &Columns<'_>)
     requires short { HasRoom line.now }
-    requires room { length buffer.old + 2048 ≤ 32768 }
+    requires room { length buffer.old + 2048 ≤ 65536 }
     ensures { buffer.new ≡ buffer.old ++ line_of line.now }
 {
     buffer.push(line.id);
