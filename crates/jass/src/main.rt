@@ -11,6 +11,7 @@ mod host_arguments;
 mod host_cabinet;
 mod host_feed;
 mod host_sink;
+mod opened;
 mod program;
 #[cfg(test)]
 mod tests;
