@@ -117,6 +117,7 @@ impl Session {
         ensures granted { granted_of self.new ≡ granted_with (granted_of self.old) budget }
         ensures same { IsSessionOf self.old self.new }
         ensures report { result ≡ report_of self.new }
+        ensures more { (report_of self.old).postings ≤ result.postings }
         ensures steps { steps.new + (report_of self.old).postings ≡ steps.old + result.postings }
         ensures leaves { LeavesPool pool.old pool.new (chain_of self.old) }
     {

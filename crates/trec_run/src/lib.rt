@@ -18,7 +18,7 @@ mod totals;
 
 pub use answer::{gather_answer, put_answer};
 pub use buffer::Buffer;
-pub use gather::{flush, put_all};
+pub use gather::{flush, gather_all, put_all};
 pub use report::{gather_report, put_report};
 pub use run::read_run;
 pub use run_line::{RunFault, RunLine, RunWhy};

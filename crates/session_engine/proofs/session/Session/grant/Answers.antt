@@ -79,3 +79,6 @@ returns-clause-steps g c =
     let report = c.report_at-report.ensures plan shape scored.sums in
     let postings = ap (λ (r : Report). r.postings) report in
     omega (arith, paid, more, postings, c.score_entries-more.ensures.steps)
+
+pub returns-clause-more : goal.returns-clause-more
+returns-clause-more g c = omega (arith, returns-clause-steps g c, c.score_entries-more.ensures.steps)

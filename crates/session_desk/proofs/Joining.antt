@@ -1,0 +1,144 @@
+-- A session joins the others of a desk.
+use Rattle.std.proofs.Common.{◌≡◌, ◌≢◌, ℕ, suc, ◌+◌, ◌-◌, ◌<◌, ◌≤◌, Bool, true, false, cond, List, [], ◌∷◌, ◌++◌, length, map, Option, Some, None, Result, Ok, Err, refl, sym, ap, subst, ◌∙◌, arith}
+use Rattle.std.proofs.lemmas.Bool.{leb-true, leb-false, ltb-true, ltb-false, true≢false}
+use Rattle.std.proofs.lemmas.List.{map-append}
+use Rattle.std.proofs.lemmas.List.Sums.{count_by-le-length, sum_by-cons}
+use Rattle.std.specs.Prelude.{count_by, is_some, nat_le, nat_lt}
+use Rattle.std.specs.List.{AllByRecursion, find, list_all}
+use Rattle.index_layout.specs.View.{FileView}
+use Rattle.frame_pool.specs.Pool.{ChainEntry, PoolView, spare_of}
+use Rattle.index_file.specs.Places.{texts_of}
+use Rattle.query_reader.specs.declared.mode.Mode.TheVariants.{Plain}
+use Rattle.query_reader.specs.declared.refusal.QueryFault.{QueryFault}
+use Rattle.query_reader.specs.declared.refusal.QueryFault.TheVariants as faults
+use Rattle.query_reader.specs.declared.refusal.QueryRefusal.{QueryRefusal}
+use Rattle.query_reader.specs.declared.refusal.QueryWhy.{QueryWhy}
+use Rattle.query_reader.specs.Mentions.{Mention, named_of, unknown_of}
+use Rattle.query_reader.specs.Queries as reader
+use Rattle.query_reader.specs.Reading.{first_broken, read_mentions, unless}
+use Rattle.query_reader.specs.Refusals.{Fails, at_line}
+use Rattle.query_reader.specs.Slices.{blank_runs}
+use Rattle.query_reader.specs.Texts.{mentions_of, plain_mention, plain_mentions}
+use Rattle.session_engine.specs.Plans.{HasFreeNumber, need_of}
+use Rattle.session_engine.specs.declared.session.Session.{Session}
+use Rattle.session_desk.specs.declared.refusal.DeskRefusal.{DeskRefusal}
+use Rattle.session_desk.specs.declared.refusal.DeskRefusal.TheVariants.{DeskFull, NameInUse, PoolFull}
+use Rattle.session_desk.specs.State.{DeskState, Entry, is_named, session_named, spare_frames}
+use Rattle.session_desk.specs.Opening.{Opens, refuses}
+use Rattle.session_desk.specs.Replies.{fitting, opened_line, opened_reply, opening, query_refusal, room_refusal, unless_refused, with_opened}
+use Rattle.session_desk.specs.Standing.{Differ, FindsName, SessionsStand, entries_of, entry_of}
+use Rattle.session_desk.proofs.Placing.{HasOtherName}
+use Rattle.session_desk.proofs.Seating.{names_before}
+use Rattle.session_desk.proofs.Showing.{found_there}
+
+-- ---- a number is free
+
+all_counted : (entries : List (Option ChainEntry)) → list_all is_some entries ≡ true → length entries ≤ count_by is_some entries
+all_counted [] all = omega arith
+all_counted (None ∷ entries) all = absurd (true≢false (sym all))
+all_counted (Some e ∷ entries) all = omega (arith, sum_by-cons (λ (o : Option ChainEntry). cond (is_some o) 1 0) (Some e) entries, all_counted entries all)
+
+pub number_free : (file : FileView) (pool : PoolView) (sessions : List Session) → SessionsStand file pool sessions → length sessions < 64 → HasFreeNumber pool
+number_free file pool sessions stand few = here (list_all is_some pool.chains) refl
+  where
+    here : (b : Bool) → list_all is_some pool.chains ≡ b → b ≡ false
+    here true all = absurd (omega (arith, all_counted pool.chains all, stand.numbers, stand.in_use, few))
+    here false all = refl
+
+-- ---- there are frames
+
+pub spare_seen : (file : FileView) (pool : PoolView) (sessions : List Session) → SessionsStand file pool sessions
+    → spare_frames file (record { sessions = entries_of sessions; frames = length pool.frames }) ≡ spare_of pool
+spare_seen file pool sessions stand = omega (arith, stand.spare)
+
+abbrev pub entry_for : reader.QueryData → ℕ → Entry
+entry_for query k = record { query = record { id = query.id; terms = query.terms; unknown = query.unknown }; k = k; granted = 0 }
+
+fits_then : (file : FileView) (state : DeskState) (k : ℕ) (query : reader.QueryData) → need_of file query.terms ≤ spare_frames file state → fitting file state k (Ok query) ≡ Ok (entry_for query k)
+fits_then file state k query room =
+    ap (λ (b : Bool). cond b (let r : Result Entry DeskRefusal = Err (PoolFull (need_of file query.terms) (spare_frames file state)) in r) (Ok (entry_for query k))) (here (nat_lt (spare_frames file state) (need_of file query.terms)) refl)
+  where
+    here : (b : Bool) → nat_lt (spare_frames file state) (need_of file query.terms) ≡ b → b ≡ false
+    here true less = absurd (omega (arith, room, ltb-true (spare_frames file state) (need_of file query.terms) less))
+    here false less = refl
+
+pub opened_so : (file : FileView) (state : DeskState) (k before after : ℕ) (query : reader.QueryData) → spare_frames file state ≡ before → after + need_of file query.terms ≡ before
+    → opened_reply file (fitting file state k (Ok query)) ≡ opened_line query.id (before - after) query.unknown
+opened_so file state k before after query spare paid =
+    ap (opened_reply file) (fits_then file state k query (omega (arith, spare, paid)))
+    ∙ ap (λ (n : ℕ). opened_line query.id n query.unknown) (let is : need_of file query.terms ≡ before - after = omega (arith, paid) in is)
+
+pub joined_shows : (file : FileView) (sessions : List Session) (s : Session) (k frames count before after : ℕ) (query : reader.QueryData)
+    → (let state : DeskState = record { sessions = entries_of sessions; frames = count } in spare_frames file state ≡ before) → after + need_of file query.terms ≡ before
+    → entry_of s ≡ entry_for query k → frames ≡ count
+    → (let new : DeskState = record { sessions = entries_of (sessions ++ s ∷ []); frames = frames } in new)
+    ≡ with_opened (record { sessions = entries_of sessions; frames = count }) (fitting file (record { sessions = entries_of sessions; frames = count }) k (Ok query))
+joined_shows file sessions s k frames count before after query spare paid is same =
+    (λ i. record { sessions = (map-append entry_of sessions (s ∷ []) ∙ ap (λ e. entries_of sessions ++ e ∷ []) is) i; frames = same i })
+    ∙ ap (with_opened (record { sessions = entries_of sessions; frames = count })) (sym (fits_then file (record { sessions = entries_of sessions; frames = count }) k query (omega (arith, spare, paid))))
+
+-- ---- what is judged before
+
+pub taken_there : (sessions : List Session) (name : List ℕ) (place : Option ℕ) → FindsName sessions name place → is_some place ≡ true → Differ sessions → is_some (find (is_named name) (entries_of sessions)) ≡ true
+taken_there sessions name (Some place) at some differ =
+    ap is_some (ap (λ ss. find (is_named name) (entries_of ss)) at.parts ∙ found_there name at.front at.session at.back (names_before at.front at.session at.back name at.named (subst Differ at.parts differ)) at.named)
+taken_there sessions name None at some differ = absurd (true≢false (sym some))
+
+pub free_there : (sessions : List Session) (name : List ℕ) (place : Option ℕ) → FindsName sessions name place → is_some place ≡ false → AllByRecursion (HasOtherName name) sessions
+free_there sessions name (Some place) at none = absurd (true≢false none)
+free_there sessions name None others none = others
+
+abbrev judges : Bool → Bool → Option DeskRefusal
+judges taken full = cond taken (Some NameInUse) (cond full (Some DeskFull) None)
+
+pub name_taken : (state : DeskState) (name : List ℕ) → is_some (session_named name state) ≡ true → room_refusal name state ≡ Some NameInUse
+name_taken state name taken = ap (λ (b : Bool). judges b (nat_le 64 (length state.sessions))) taken
+
+pub desk_full : (state : DeskState) (name : List ℕ) → session_named name state ≡ None → 64 ≤ length state.sessions → room_refusal name state ≡ Some DeskFull
+desk_full state name free many = ap (λ (b : Bool). judges b (nat_le 64 (length state.sessions))) (ap is_some free) ∙ ap (judges false) (here (nat_le 64 (length state.sessions)) refl)
+  where
+    here : (b : Bool) → nat_le 64 (length state.sessions) ≡ b → b ≡ true
+    here true e = refl
+    here false e = absurd (omega (arith, many, leb-false 64 (length state.sessions) e))
+
+pub room_there : (state : DeskState) (name : List ℕ) → session_named name state ≡ None → length state.sessions < 64 → room_refusal name state ≡ None
+room_there state name free few = ap (λ (b : Bool). judges b (nat_le 64 (length state.sessions))) (ap is_some free) ∙ ap (judges false) (here (nat_le 64 (length state.sessions)) refl)
+  where
+    here : (b : Bool) → nat_le 64 (length state.sessions) ≡ b → b ≡ false
+    here true e = absurd (omega (arith, few, leb-true 64 (length state.sessions) e))
+    here false e = refl
+
+pub refused_first : (file : FileView) (state : DeskState) (name : List ℕ) (k : ℕ) (words : List (List ℕ)) (refusal : DeskRefusal) → room_refusal name state ≡ Some refusal → opening file state name k words ≡ Err refusal
+unfolding opening
+refused_first file state name k words refusal is = ap (λ o. unless_refused o (fitting file state k (read_mentions (texts_of file.index.terms) name (map plain_mention words)))) is
+
+pub then_fits : (file : FileView) (state : DeskState) (name : List ℕ) (k : ℕ) (words : List (List ℕ)) → room_refusal name state ≡ None
+    → opening file state name k words ≡ fitting file state k (read_mentions (texts_of file.index.terms) name (map plain_mention words))
+unfolding opening
+then_fits file state name k words is = ap (λ o. unless_refused o (fitting file state k (read_mentions (texts_of file.index.terms) name (map plain_mention words)))) is
+
+-- ---- mentions
+
+pub plain_so : (text : List ℕ) → mentions_of Plain text ≡ map plain_mention (blank_runs text)
+unfolding mentions_of plain_mentions
+plain_so text = refl
+
+pub read_so : (read : Result reader.QueryData QueryWhy) (query : reader.QueryData) → at_line 1 read ≡ Ok query → read ≡ Ok query
+read_so (Ok x) query is = cc
+read_so (Err why) query is = cc
+
+pub read_name : (terms : List (List ℕ)) (name : List ℕ) (mentions : List Mention) (query : reader.QueryData) → read_mentions terms name mentions ≡ Ok query → query.id ≡ name
+unfolding read_mentions
+read_name terms name mentions query is = here (first_broken terms [] mentions) is
+  where
+    here : (o : Option QueryWhy) → unless o (let q : reader.QueryData = record { id = name; terms = named_of terms mentions; unknown = unknown_of terms mentions } in q) ≡ Ok query → query.id ≡ name
+    here (Some why) e = cc
+    here None e = let same : (let q : reader.QueryData = record { id = name; terms = named_of terms mentions; unknown = unknown_of terms mentions } in q) ≡ query = cc in sym (ap (λ (q : reader.QueryData). q.id) same)
+
+pub refused_so : (file : FileView) (name : List ℕ) (state : DeskState) (k : ℕ) (read : Result reader.QueryData QueryWhy) (found : Result Entry DeskRefusal) (fault : QueryFault)
+    → found ≡ fitting file state k read → Fails fault (at_line 1 read) → Opens file found name state state (Err (refuses fault))
+refused_so file name state k (Ok query) found (faults.Refused refusal) is fails = cc
+refused_so file name state k (Err why) found (faults.Refused refusal) is fails = 
+    let whole : (let r : QueryRefusal = record { line = 1; why = why } in r) ≡ refusal = cc in
+    (is ∙ ap (λ (r : QueryRefusal). Err (query_refusal r.why)) whole, refl)
+refused_so file name state k read found faults.NoMemory is fails = refl

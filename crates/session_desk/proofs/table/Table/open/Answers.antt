@@ -1,0 +1,49 @@
+-- A name and room are judged, and then mentions.
+use Rattle.std.proofs.Common.{◌∙◌, ℕ, List, Ok, Err, Result, ap, refl, subst, sym}
+use Rattle.std.specs.List.{AllByRecursion}
+use Rattle.index_file.specs.Places.{texts_of}
+use Rattle.query_reader.specs.Queries.{query_data}
+use Rattle.query_reader.specs.Reading.{read_mentions}
+use Rattle.query_reader.specs.Slices.{blank_runs}
+use Rattle.query_reader.specs.Texts.{mentions_of, plain_mention}
+use Rattle.query_reader.specs.declared.mode.Mode.TheVariants.{Plain}
+use Rattle.session_desk.specs.declared.refusal.DeskRefusal.{DeskRefusal}
+use Rattle.session_desk.specs.declared.opening.OpenFault.{OpenFault}
+use Rattle.session_desk.specs.Opening.{Opens}
+use Rattle.session_desk.specs.Replies.{fitting, opening}
+use Rattle.session_desk.specs.State.{Entry}
+use Rattle.session_desk.specs.Standing.{state_of}
+use Rattle.session_desk.proofs.Joining.{plain_so, read_name, read_so, refused_first, refused_so, then_fits}
+use Rattle.session_desk.proofs.Placing.{HasOtherName}
+use Rattle.session_desk.proofs.table.Table.open.Goals as goal
+
+pub returns-in-Some-clause-opens : goal.returns-in-Some-clause-opens
+returns-in-Some-clause-opens c =
+    (refused_first c.args.index.now (state_of c.args.self.now) c.args.name.now c.args.k (blank_runs c.args.mentions.now) c.in-Some.refusal (sym c.in-Some.ensures.refusal), refl)
+
+pub add-requires-clause-others : goal.add-requires-clause-others
+add-requires-clause-others c =
+    let named = read_name (texts_of c.args.index.now.index.terms) c.args.name.now (mentions_of Plain c.args.mentions.now) (query_data c.in-Ok.query) (read_so _ _ c.in-Ok.ensures.query) in
+    subst (λ (name : List ℕ). AllByRecursion (HasOtherName name) c.args.self.now.sessions.items) (sym named) c.in-None.ensures.free
+
+pub returns-in-Ok-clause-opens : goal.returns-in-Ok-clause-opens
+returns-in-Ok-clause-opens c =
+    let file = c.args.index.now in
+    let state = state_of c.args.self.now in
+    let name = c.args.name.now in
+    let read = read_so _ _ c.in-Ok.ensures.query in
+    let named = read_name (texts_of file.index.terms) name (mentions_of Plain c.args.mentions.now) (query_data c.in-Ok.query) read in
+    let found = then_fits file state name c.args.k (blank_runs c.args.mentions.now) (sym c.in-None.ensures.refusal)
+    ∙ ap (fitting file state c.args.k) (ap (read_mentions (texts_of file.index.terms) name) (sym (plain_so c.args.mentions.now)) ∙ read) in
+    subst (λ (r : Result Entry DeskRefusal). Opens file r name state (state_of c.add.new.self) c.add.result) (sym found)
+    (subst (λ (n : List ℕ). Opens file (fitting file state c.args.k (Ok (query_data c.in-Ok.query))) n state (state_of c.add.new.self) c.add.result) named c.add.ensures.opens)
+
+pub returns-in-Err-clause-opens : goal.returns-in-Err-clause-opens
+returns-in-Err-clause-opens c =
+    let file = c.args.index.now in
+    let state = state_of c.args.self.now in
+    let name = c.args.name.now in
+    let found = then_fits file state name c.args.k (blank_runs c.args.mentions.now) (sym c.in-None.ensures.refusal)
+    ∙ ap (λ ms. fitting file state c.args.k (read_mentions (texts_of file.index.terms) name ms)) (sym (plain_so c.args.mentions.now)) in
+    subst (λ (fault : OpenFault). Opens file (opening file state name c.args.k (blank_runs c.args.mentions.now)) name state state (Err fault)) (sym c.open_fault.ensures)
+    (refused_so file name state c.args.k (read_mentions (texts_of file.index.terms) name (mentions_of Plain c.args.mentions.now)) _ c.in-Err.fault found c.in-Err.ensures.query)

@@ -1,0 +1,9 @@
+-- No session before this place has the name.
+use Rattle.std.proofs.Common.{◌≢◌, take}
+use Rattle.std.specs.List.{AllByRecursion}
+use Rattle.session_engine.specs.declared.session.Session.{Session}
+use Rattle.session_desk.specs.Standing.{name_of}
+use Rattle.session_desk.proofs.table.Table.place_of.Given as goal
+
+abbrev pub invariant-loop-place : goal.invariant-loop-place
+invariant-loop-place l = AllByRecursion (λ (s : Session). name_of s ≢ l.name) (take l.place l.self.sessions.items)

@@ -1,0 +1,9 @@
+pub mod State
+pub mod Lines
+pub mod Replies
+pub mod Turns
+pub mod Alone
+pub mod Commands
+pub mod Standing
+pub mod Opening
+pub mod Endings

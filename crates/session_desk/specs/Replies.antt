@@ -1,0 +1,198 @@
+-- What a desk replies to a line, and what the line leaves. This project's.
+use Rattle.std.specs.Prelude.{ℕ, ◌-◌, Bool, List, [], ◌∷◌, ◌++◌, length, map, decimal, codes, nat_lt, nat_le, Option, Some, None, Result, Ok, Err, is_none, is_some, if◌then◌else◌}
+use Rattle.std.specs.Option.{option_map_or}
+use Rattle.std.specs.Result.{result_err}
+use Rattle.jass_base.specs.declared.answer.Budget.{Budget}
+use Rattle.jass_base.specs.declared.answer.Hit.{Hit}
+use Rattle.jass_base.specs.declared.answer.Report.{Report}
+use Rattle.ranking_model.specs.declared.plan.QueryPlan.{QueryPlan}
+use Rattle.ranking_model.specs.Plan.{prefix_within}
+use Rattle.ranking_model.specs.Report.{report_line, run_lines}
+use Rattle.ranking_model.specs.Scores.{top_k}
+use Rattle.index_layout.specs.View.{FileView}
+use Rattle.index_file.specs.Places.{texts_of}
+use Rattle.final_certificate.specs.Rule.{report_by}
+use Rattle.query_reader.specs.declared.refusal.QueryWhy.{QueryWhy}
+use Rattle.query_reader.specs.declared.refusal.QueryWhy.TheVariants.{Terms}
+use Rattle.query_reader.specs.Queries as reader
+use Rattle.query_reader.specs.Reading.{read_mentions}
+use Rattle.query_reader.specs.Texts.{plain_mention}
+use Rattle.session_engine.specs.Plans.{need_of, session_plan}
+use Rattle.session_desk.specs.declared.refusal.DeskRefusal.{DeskRefusal}
+use Rattle.session_desk.specs.declared.refusal.DeskRefusal.TheVariants.{BadLine, UnknownSession, NameInUse, DeskFull, TooManyTerms, NamedTooOften, PoolFull}
+use Rattle.session_desk.specs.State.{DeskState, Entry, granted_more, new_state, session_named, spare_frames, with_named, without_named}
+use Rattle.session_desk.specs.Lines.{DeskCommand, Open, Grant, Top, Why, Close, End, read_desk_line}
+
+-- ---- the texts
+
+-- `refused NUMBER WHY`
+unfoldable pub refusal_line : DeskRefusal → List ℕ
+refusal_line BadLine = codes "refused 70 bad line\n"
+refusal_line UnknownSession = codes "refused 71 unknown session\n"
+refusal_line NameInUse = codes "refused 72 name in use\n"
+refusal_line DeskFull = codes "refused 73 desk full\n"
+refusal_line TooManyTerms = codes "refused 52 too many terms\n"
+refusal_line NamedTooOften = codes "refused 53 named too often\n"
+refusal_line (PoolFull need free) = codes "refused 74 pool " ++ (decimal need ++ (codes " " ++ (decimal free ++ codes "\n")))
+
+-- the plan of a session, and the prefix of it that its grants pay for
+abbrev pub plan_of_session : FileView → Entry → QueryPlan
+plan_of_session file entry = session_plan file entry.query.terms
+
+abbrev pub scored_prefix : FileView → Entry → ℕ
+scored_prefix file entry = prefix_within entry.granted (plan_of_session file entry).classes
+
+-- the report and the answer at this prefix
+unfoldable pub session_report : FileView → Entry → Report
+session_report file entry = report_by (scored_prefix file entry) (plan_of_session file entry) entry.k
+
+unfoldable pub session_answer : FileView → Entry → List Hit
+session_answer file entry = top_k (scored_prefix file entry) (plan_of_session file entry) entry.k
+
+-- `opened NAME need N unknown U`
+unfoldable pub opened_line : List ℕ → ℕ → ℕ → List ℕ
+opened_line name need unknown =
+    codes "opened " ++ (name ++ (codes " need " ++ (decimal need ++ (codes " unknown " ++ (decimal unknown ++ codes "\n")))))
+
+abbrev pub opened_text : FileView → Entry → List ℕ
+opened_text file entry = opened_line entry.query.id (need_of file entry.query.terms) entry.query.unknown
+
+-- the report line, with the session's name in front
+abbrev pub report_text : FileView → Entry → List ℕ
+report_text file entry = report_line entry.query.id (session_report file entry) entry.query.unknown
+
+-- `hits H`, and as many run lines
+unfoldable pub answer_lines : List (List ℕ) → List ℕ → List Hit → List ℕ
+answer_lines names name hits = codes "hits " ++ (decimal (length hits) ++ (codes "\n" ++ run_lines names name (codes "jass") 1 hits))
+
+abbrev pub answer_text : FileView → Entry → List ℕ
+answer_text file entry = answer_lines file.index.names entry.query.id (session_answer file entry)
+
+-- `closed NAME`
+unfoldable pub closed_text : List ℕ → List ℕ
+closed_text name = codes "closed " ++ (name ++ codes "\n")
+
+unfoldable pub end_text : List ℕ
+end_text = codes "bye\n"
+
+-- ---- opening
+
+-- the refusal of mentions, which break one of two limits
+abbrev pub query_refusal : QueryWhy → DeskRefusal
+query_refusal Terms = TooManyTerms
+query_refusal why = NamedTooOften
+
+-- a session without grants, where its query has the frames that it needs
+abbrev pub fitting : FileView → DeskState → ℕ → Result reader.QueryData QueryWhy → Result Entry DeskRefusal
+fitting file state k (Err why) = Err (query_refusal why)
+fitting file state k (Ok query) =
+    if nat_lt (spare_frames file state) (need_of file query.terms)
+    then Err (PoolFull (need_of file query.terms) (spare_frames file state))
+    else Ok (record { query = record { id = query.id; terms = query.terms; unknown = query.unknown }; k = k; granted = 0 })
+
+-- why no session of a name is opened, whatever else is asked: this is judged before an `open` takes memory
+abbrev pub room_refusal : List ℕ → DeskState → Option DeskRefusal
+room_refusal name state =
+    if is_some (session_named name state) then Some NameInUse
+    else (if nat_le 64 (length state.sessions) then Some DeskFull
+    else None)
+
+abbrev pub has_room : List ℕ → DeskState → Bool
+has_room name state = is_none (room_refusal name state)
+
+abbrev pub unless_refused : Option DeskRefusal → Result Entry DeskRefusal → Result Entry DeskRefusal
+unless_refused (Some refusal) found = Err refusal
+unless_refused None found = found
+
+-- the session that is opened, or the first refusal
+unfoldable pub opening : FileView → DeskState → List ℕ → ℕ → List (List ℕ) → Result Entry DeskRefusal
+opening file state name k words =
+    unless_refused (room_refusal name state)
+    (fitting file state k (read_mentions (texts_of file.index.terms) name (map plain_mention words)))
+
+abbrev pub opened_reply : FileView → Result Entry DeskRefusal → List ℕ
+opened_reply file (Ok entry) = opened_text file entry
+opened_reply file (Err refusal) = refusal_line refusal
+
+abbrev pub with_opened : DeskState → Result Entry DeskRefusal → DeskState
+with_opened state (Ok entry) = record state { sessions = state.sessions ++ entry ∷ [] }
+with_opened state (Err refusal) = state
+
+-- ---- one command
+
+-- the reply of a session, where there is one
+abbrev pub reply_of : (Entry → List ℕ) → Option Entry → List ℕ
+reply_of text (Some entry) = text entry
+reply_of text None = refusal_line UnknownSession
+
+abbrev pub command_reply : FileView → DeskState → DeskCommand → List ℕ
+command_reply file state (Open name k words) = opened_reply file (opening file state name k words)
+command_reply file state (Grant name budget) = reply_of (λ entry. report_text file (granted_more budget entry)) (session_named name state)
+command_reply file state (Top name) = reply_of (answer_text file) (session_named name state)
+command_reply file state (Why name) = reply_of (report_text file) (session_named name state)
+command_reply file state (Close name) = reply_of (λ entry. closed_text name) (session_named name state)
+command_reply file state End = end_text
+
+-- the state after it
+abbrev pub command_after : FileView → DeskState → DeskCommand → DeskState
+command_after file state (Open name k words) = with_opened state (opening file state name k words)
+command_after file state (Grant name budget) = record state { sessions = with_named name (granted_more budget) state.sessions }
+command_after file state (Top name) = state
+command_after file state (Why name) = state
+command_after file state (Close name) = record state { sessions = without_named name state.sessions }
+command_after file state End = state
+
+-- the postings that a grant scores newly
+abbrev pub newly_scored : FileView → Budget → Entry → ℕ
+newly_scored file budget entry = (session_report file (granted_more budget entry)).postings - (session_report file entry).postings
+
+abbrev pub command_steps : FileView → DeskState → DeskCommand → ℕ
+command_steps file state (Grant name budget) = option_map_or (newly_scored file budget) (session_named name state) 0
+command_steps file state other = 0
+
+-- the first refusal of a command, where it is refused
+abbrev pub unknown_refusal : Option Entry → Option DeskRefusal
+unknown_refusal (Some entry) = None
+unknown_refusal None = Some UnknownSession
+
+abbrev pub command_refusal : FileView → DeskState → DeskCommand → Option DeskRefusal
+command_refusal file state (Open name k words) = result_err (opening file state name k words)
+command_refusal file state (Grant name budget) = unknown_refusal (session_named name state)
+command_refusal file state (Top name) = unknown_refusal (session_named name state)
+command_refusal file state (Why name) = unknown_refusal (session_named name state)
+command_refusal file state (Close name) = unknown_refusal (session_named name state)
+command_refusal file state End = None
+
+-- ---- one line
+
+abbrev pub reply_to : FileView → DeskState → Option DeskCommand → List ℕ
+reply_to file state None = refusal_line BadLine
+reply_to file state (Some command) = command_reply file state command
+
+abbrev pub after_of : FileView → DeskState → Option DeskCommand → DeskState
+after_of file state None = state
+after_of file state (Some command) = command_after file state command
+
+abbrev pub steps_of : FileView → DeskState → Option DeskCommand → ℕ
+steps_of file state None = 0
+steps_of file state (Some command) = command_steps file state command
+
+abbrev pub refusal_of : FileView → DeskState → Option DeskCommand → Option DeskRefusal
+refusal_of file state None = Some BadLine
+refusal_of file state (Some command) = command_refusal file state command
+
+-- the reply to a line
+unfoldable pub desk_reply : FileView → DeskState → List ℕ → List ℕ
+desk_reply file state line = reply_to file state (read_desk_line line)
+
+-- the state after a line
+unfoldable pub desk_after : FileView → DeskState → List ℕ → DeskState
+desk_after file state line = after_of file state (read_desk_line line)
+
+-- the postings that a line scores newly
+unfoldable pub desk_steps : FileView → DeskState → List ℕ → ℕ
+desk_steps file state line = steps_of file state (read_desk_line line)
+
+-- why a line is refused, where it is
+unfoldable pub desk_refusal : FileView → DeskState → List ℕ → Option DeskRefusal
+desk_refusal file state line = refusal_of file state (read_desk_line line)

@@ -1,0 +1,26 @@
+-- What a desk replies to many lines, up to and with the first line `end`. This project's.
+use Rattle.std.specs.Prelude.{ℕ, ◌+◌, List, [], ◌∷◌, if◌then◌else◌}
+use Rattle.std.specs.List.{concat}
+use Rattle.index_layout.specs.View.{FileView}
+use Rattle.session_desk.specs.State.{DeskState, new_state}
+use Rattle.session_desk.specs.Lines.{is_end}
+use Rattle.session_desk.specs.Replies.{desk_after, desk_reply, desk_steps}
+
+-- the replies, one for each line that is answered
+unfoldable pub replies_from : FileView → DeskState → List (List ℕ) → List (List ℕ)
+replies_from file state [] = []
+replies_from file state (line ∷ lines) =
+    desk_reply file state line ∷ (if is_end line then [] else replies_from file (desk_after file state line) lines)
+
+-- the postings that these lines score
+unfoldable pub steps_from : FileView → DeskState → List (List ℕ) → ℕ
+steps_from file state [] = 0
+steps_from file state (line ∷ lines) =
+    desk_steps file state line + (if is_end line then 0 else steps_from file (desk_after file state line) lines)
+
+-- the replies of a desk at which nothing is open, as one text, and the postings that it scores for them
+unfoldable pub desk_replies : FileView → ℕ → List (List ℕ) → List ℕ
+desk_replies file frames lines = concat (replies_from file (new_state frames) lines)
+
+unfoldable pub desk_postings : FileView → ℕ → List (List ℕ) → ℕ
+desk_postings file frames lines = steps_from file (new_state frames) lines

@@ -1,0 +1,190 @@
+ghost use Rattle.std.specs.Prelude.{◌≡◌, ◌≤◌, ◌+◌, ◌↔◌, IfOk, IsTrue, Ok, Some, length, option_map};
+ghost use Rattle.index_layout.specs.View.{FileView};
+ghost use Rattle.query_reader.specs.Slices.{blank_runs};
+ghost use Rattle.session_desk.specs.Commands.{FitsLine, command_data};
+ghost use Rattle.session_desk.specs.Endings.{left_where, may_take_memory, text_where};
+ghost use Rattle.session_desk.specs.Lines.{Close, Grant, Open, Top, Why, is_end_command};
+ghost use Rattle.session_desk.specs.Replies.{after_of, command_after, command_reply, command_steps, end_text, reply_to, steps_of};
+ghost use Rattle.session_desk.specs.Standing.{TableStands, state_of};
+ghost use Rattle.trec_run.specs.Gathering.{Gathers};
+
+use crate::command::Command;
+use crate::opening::OpenFault;
+use crate::refusal::DeskRefusal;
+use crate::table::Table;
+use crate::texts::{gather_closed, gather_end, gather_hits, gather_opened, gather_refusal};
+use crate::went::Went;
+use index_file::IndexFile;
+use jass_base::{Budget, Sink, Steps, WriteFault};
+use ranking_model::laws::the_ranking_has_documents_of_the_scores;
+use session_engine::laws::a_session_plan_names_its_segments;
+use std::alloc::Global;
+use std::sync::ledger::Ledger;
+use trec_run::{Buffer, gather_report};
+
+/// Gathers the reply to a command, or to a bad line where there is none. A command has its effect also where a put fails.
+pub fn answer<S: Sink, L: Ledger>(
+    table: &mut Table,
+    alloc: Global,
+    index: &IndexFile,
+    command: Option<Command<'_>>,
+    out: &mut S,
+    buffer: &mut Buffer,
+    steps: &mut Steps<L>,
+) -> Result<Went, WriteFault>
+    requires stands { TableStands index.now table.old }
+    requires fits { FitsLine command }
+    ensures stands { TableStands index.now table.new }
+    ensures reply { Gathers S.written S.faults S.rest out.old out.new buffer.old buffer.new
+        (text_where result (reply_to index.now (state_of table.old) (option_map command_data command.entry))) result }
+    ensures after { state_of table.new ≡ left_where result (state_of table.old)
+        (after_of index.now (state_of table.old) (option_map command_data command.entry)) }
+    ensures steps { steps.new ≡ steps.old + steps_of index.now (state_of table.old) (option_map command_data command.entry) }
+    ensures end { IfOk result (λ went. went ≡ Went.End ↔ IsTrue (is_end_command (option_map command_data command.entry))) }
+    ensures memory { IfOk result (λ went. went ≡ Went.NoMemory →
+        IsTrue (may_take_memory (state_of table.old) (option_map command_data command.entry))) }
+    ensures untouched { result ≡ Ok Went.NoMemory → (out.new ≡ out.old) × (buffer.new ≡ buffer.old) }
+{
+    let gathered = match command {
+        None => gather_refusal(out, buffer, DeskRefusal::BadLine),
+        Some(Command::Open { name, k, mentions }) => {
+            return open(table, alloc, index, name, k, mentions, out, buffer);
+        }
+        Some(Command::End) => return end(out, buffer),
+        Some(Command::Grant { name, budget }) => grant(table, index, name, budget, out, buffer, steps),
+        Some(Command::Top { name }) => top(table, index, name, out, buffer),
+        Some(Command::Why { name }) => why(table, name, out, buffer),
+        Some(Command::Close { name }) => close(table, index, name, out, buffer),
+    };
+    match gathered {
+        Ok(()) => Ok(Went::On),
+        Err(fault) => Err(fault),
+    }
+}
+
+/// Gathers the reply to `open`, unless memory is refused.
+fn open<S: Sink>(
+    table: &mut Table,
+    alloc: Global,
+    index: &IndexFile,
+    name: &str,
+    k: u32,
+    mentions: &str,
+    out: &mut S,
+    buffer: &mut Buffer,
+) -> Result<Went, WriteFault>
+    requires stands { TableStands index.now table.old }
+    requires fits { (1 ≤ k) × (k ≤ 100000) × (length mentions.now ≤ 1048576) }
+    ensures stands { TableStands index.now table.new }
+    ensures reply { Gathers S.written S.faults S.rest out.old out.new buffer.old buffer.new
+        (text_where result
+        (command_reply index.now (state_of table.old) (Open name.now k (blank_runs mentions.now)))) result }
+    ensures after { state_of table.new ≡ left_where result (state_of table.old)
+        (command_after index.now (state_of table.old) (Open name.now k (blank_runs mentions.now))) }
+    ensures on { IfOk result (λ went. went ≡ Went.End → ⊥) }
+    ensures memory { IfOk result (λ went. went ≡ Went.NoMemory →
+        IsTrue (may_take_memory (state_of table.old) (Some (Open name.now k (blank_runs mentions.now))))) }
+    ensures untouched { result ≡ Ok Went.NoMemory → (out.new ≡ out.old) × (buffer.new ≡ buffer.old) }
+{
+    let gathered = match table.open(alloc, index, name, k, mentions) {
+        Ok(opened) => gather_opened(out, buffer, name, opened.need, opened.unknown),
+        Err(OpenFault::Refused(refusal)) => gather_refusal(out, buffer, refusal),
+        Err(OpenFault::NoMemory) => return Ok(Went::NoMemory),
+    };
+    match gathered {
+        Ok(()) => Ok(Went::On),
+        Err(fault) => Err(fault),
+    }
+}
+
+/// Gathers the reply to `end`.
+fn end<S: Sink>(out: &mut S, buffer: &mut Buffer) -> Result<Went, WriteFault>
+    ensures reply { Gathers S.written S.faults S.rest out.old out.new buffer.old buffer.new end_text result }
+    ensures end { IfOk result (λ went. went ≡ Went.End) }
+{
+    match gather_end(out, buffer) {
+        Ok(()) => Ok(Went::End),
+        Err(fault) => Err(fault),
+    }
+}
+
+/// Gathers the reply to `grant`.
+fn grant<S: Sink, L: Ledger>(
+    table: &mut Table,
+    index: &IndexFile,
+    name: &str,
+    budget: Budget,
+    out: &mut S,
+    buffer: &mut Buffer,
+    steps: &mut Steps<L>,
+) -> Result<(), WriteFault>
+    requires stands { TableStands index.now table.old }
+    ensures stands { TableStands index.now table.new }
+    ensures reply { Gathers S.written S.faults S.rest out.old out.new buffer.old buffer.new
+        (command_reply index.now (state_of table.old) (Grant name.now budget)) result }
+    ensures after { state_of table.new ≡ command_after index.now (state_of table.old) (Grant name.now budget) }
+    ensures steps { steps.new ≡ steps.old + command_steps index.now (state_of table.old) (Grant name.now budget) }
+{
+    match table.grant(index, name, budget, steps) {
+        Some(told) => gather_report(out, buffer, name, told.unknown, told.report),
+        None => gather_refusal(out, buffer, DeskRefusal::UnknownSession),
+    }
+}
+
+/// Gathers the reply to `top`.
+fn top<S: Sink>(
+    table: &Table,
+    index: &IndexFile,
+    name: &str,
+    out: &mut S,
+    buffer: &mut Buffer,
+) -> Result<(), WriteFault>
+    requires stands { TableStands index.now table.now }
+    ensures { Gathers S.written S.faults S.rest out.old out.new buffer.old buffer.new
+        (command_reply index.now (state_of table.now) (Top name.now)) result }
+{
+    a_session_plan_names_its_segments();
+    the_ranking_has_documents_of_the_scores();
+    match table.session(name) {
+        Some(session) => gather_hits(out, buffer, name, index, session.answer()),
+        None => gather_refusal(out, buffer, DeskRefusal::UnknownSession),
+    }
+}
+
+/// Gathers the reply to `why`.
+fn why<S: Sink>(
+    table: &Table,
+    name: &str,
+    out: &mut S,
+    buffer: &mut Buffer,
+) -> Result<(), WriteFault>
+    ensures { (file : FileView) → TableStands file table.now →
+        Gathers S.written S.faults S.rest out.old out.new buffer.old buffer.new
+        (command_reply file (state_of table.now) (Why name.now)) result }
+{
+    match table.told(name) {
+        Some(told) => gather_report(out, buffer, name, told.unknown, told.report),
+        None => gather_refusal(out, buffer, DeskRefusal::UnknownSession),
+    }
+}
+
+/// Gathers the reply to `close`.
+fn close<S: Sink>(
+    table: &mut Table,
+    index: &IndexFile,
+    name: &str,
+    out: &mut S,
+    buffer: &mut Buffer,
+) -> Result<(), WriteFault>
+    requires stands { TableStands index.now table.old }
+    ensures stands { TableStands index.now table.new }
+    ensures reply { Gathers S.written S.faults S.rest out.old out.new buffer.old buffer.new
+        (command_reply index.now (state_of table.old) (Close name.now)) result }
+    ensures after { state_of table.new ≡ command_after index.now (state_of table.old) (Close name.now) }
+{
+    if table.close(index, name) {
+        gather_closed(out, buffer, name)
+    } else {
+        gather_refusal(out, buffer, DeskRefusal::UnknownSession)
+    }
+}

@@ -1,0 +1,131 @@
+ghost use Rattle.std.specs.Prelude.{◌≡◌, ◌≢◌, ◌≤◌, ◌<◌, Ok, IfNone, IsErrOf, IsTrue, length};
+ghost use Rattle.std.specs.List.{AllByRecursion};
+ghost use Rattle.query_reader.specs.Queries.{query_data};
+ghost use Rattle.query_reader.specs.Slices.{blank_runs};
+ghost use Rattle.session_engine.specs.Plans.{AreKnown};
+ghost use Rattle.session_engine.specs.declared.session.Session.{Session};
+ghost use Rattle.session_desk.specs.Opening.{Opens, refuses};
+ghost use Rattle.session_desk.specs.Replies.{fitting, has_room, opening, room_refusal};
+ghost use Rattle.session_desk.specs.Standing.{Differ, TableStands, name_of, state_of};
+
+use crate::refusal::DeskRefusal;
+use crate::table::{MOST_SESSIONS, Table};
+use index_file::IndexFile;
+use jass_base::Query;
+use query_reader::{Mode, QueryFault, QueryWhy, read_terms};
+use session_engine::laws::{
+    a_standing_session_has_its_chain, calls_on_other_chains_leave_sessions,
+};
+use session_engine::{OpenStop, Session};
+use std::alloc::Global;
+
+/// What is told of a session that was opened.
+#[derive(Clone, Copy)]
+pub struct Opened {
+    /// The most frames that it can use.
+    pub need: u32,
+    /// The number of mentions of terms that the index hasn't.
+    pub unknown: u32,
+}
+
+/// Why no session was opened.
+#[derive(Clone, Copy)]
+pub enum OpenFault {
+    Refused(DeskRefusal),
+    NoMemory,
+}
+
+impl Table {
+    /// Opens a session of this name for k documents. The text has the mentions of its query.
+    pub fn open(
+        &mut self,
+        alloc: Global,
+        index: &IndexFile,
+        name: &str,
+        k: u32,
+        mentions: &str,
+    ) -> Result<Opened, OpenFault>
+        requires stands { TableStands index.now self.old }
+        requires some { 1 ≤ k }
+        requires few { k ≤ 100000 }
+        requires fits { length mentions.now ≤ 1048576 }
+        ensures stands { TableStands index.now self.new }
+        ensures opens { Opens index.now (opening index.now (state_of self.old) name.now k (blank_runs mentions.now))
+            name.now (state_of self.old) (state_of self.new) result }
+        ensures memory { IsErrOf result OpenFault.NoMemory → IsTrue (has_room name.now (state_of self.old)) }
+    {
+        match self.room_refusal(name) {
+            Some(refusal) => return Err(OpenFault::Refused(refusal)),
+            None => {}
+        }
+        match read_terms(alloc, name, mentions, Mode::Plain, index) {
+            Ok(query) => self.add(alloc, index, query, k),
+            Err(fault) => Err(open_fault(fault)),
+        }
+    }
+
+    /// Why no session of this name is opened, whatever its query.
+    fn room_refusal(&self, name: &str) -> Option<DeskRefusal>
+        requires { Differ self.now.sessions.items }
+        ensures refusal { result ≡ room_refusal name.now (state_of self.now) }
+        ensures free { IfNone result
+            (AllByRecursion (λ (s : Session). name_of s ≢ name.now) self.now.sessions.items) }
+        ensures few { IfNone result (length self.now.sessions.items < 64) }
+    {
+        if self.place_of(name).is_some() {
+            return Some(DeskRefusal::NameInUse);
+        }
+        if self.sessions.len() >= MOST_SESSIONS {
+            return Some(DeskRefusal::DeskFull);
+        }
+        None
+    }
+
+    /// Puts a session of a query behind the others, none of which has its name.
+    fn add(
+        &mut self,
+        alloc: Global,
+        index: &IndexFile,
+        query: Query,
+        k: u32,
+    ) -> Result<Opened, OpenFault>
+        requires stands { TableStands index.now self.old }
+        requires others { AllByRecursion (λ (s : Session). name_of s ≢ query.id) self.old.sessions.items }
+        requires room { length self.old.sessions.items < 64 }
+        requires known { AreKnown index.now query.terms }
+        requires some { 1 ≤ k }
+        requires few { k ≤ 100000 }
+        ensures stands { TableStands index.now self.new }
+        ensures opens { Opens index.now (fitting index.now (state_of self.old) k (Ok (query_data query)))
+            query.id (state_of self.old) (state_of self.new) result }
+    {
+        calls_on_other_chains_leave_sessions();
+        a_standing_session_has_its_chain();
+        let before = self.pool.spare();
+        let unknown = query.unknown;
+        match Session::open(alloc, index, &mut self.pool, query, k) {
+            Ok(session) => {
+                self.sessions.push_reserved(session);
+                let need = before - self.pool.spare();
+                Ok(Opened { need, unknown })
+            }
+            Err(OpenStop::PoolFull { need, free }) => {
+                Err(OpenFault::Refused(DeskRefusal::PoolFull { need, free }))
+            }
+            Err(OpenStop::NoMemory) => Err(OpenFault::NoMemory),
+        }
+    }
+}
+
+/// What a fault of mentions is at a desk.
+fn open_fault(fault: QueryFault) -> OpenFault
+    ensures { result ≡ refuses fault }
+{
+    match fault {
+        QueryFault::NoMemory => OpenFault::NoMemory,
+        QueryFault::Refused(refusal) => match refusal.why {
+            QueryWhy::Terms => OpenFault::Refused(DeskRefusal::TooManyTerms),
+            _ => OpenFault::Refused(DeskRefusal::NamedTooOften),
+        },
+    }
+}
