@@ -1,10 +1,10 @@
 -- Pieces that are gathered and flushed, one after another.
-use Rattle.std.proofs.Common.{◌≡◌, ℕ, List, [], ◌∷◌, ◌++◌, length, take, drop, flat_map, Option, Result, Ok, Err, sym, ap, subst, ◌∙◌, append-nil, append_assoc, arith, ◌+◌, ◌<◌, suc, get_or, take-append-drop, drop-cons}
+use Rattle.std.proofs.Common.{◌≡◌, ℕ, List, [], ◌∷◌, ◌++◌, length, take, drop, flat_map, Option, Result, Ok, Err, refl, sym, ap, subst, ◌∙◌, append-nil, append_assoc, arith, ◌+◌, ◌<◌, suc, get_or, take-append-drop, drop-cons}
 use Rattle.std.proofs.lemmas.List.{take_more}
 use Rattle.std.specs.Prelude.{IsErr}
 use Rattle.std.proofs.lemmas.Grind.{flat_map-append}
 use Rattle.jass_base.specs.Outside.{Rest, Wrote}
-use Rattle.jass_base.specs.Writing.{AppendsPrefix, AppendsPrefix-then, AppendsPrefix-longer, Appends-then, Rose-earlier}
+use Rattle.jass_base.specs.Writing.{Appends-none, AppendsPrefix, AppendsPrefix-then, AppendsPrefix-longer, Appends-then, Rose-earlier}
 use Rattle.trec_run.specs.Gathering.{Gathers}
 
 AppendsPrefix-same : (old new : Option (List ℕ)) (text other : List ℕ) → text ≡ other → AppendsPrefix old new text → AppendsPrefix old new other
@@ -27,6 +27,10 @@ module _ {S : Type 0} (written : S → Option (List ℕ)) (faults : S → ℕ) (
   pub put_whole : {T U V E : Type 0} (old mid new : S) (before after piece : List ℕ) (t : T) (u : U) (v : V) → after ≡ [] → Wrote {E = E} written faults rest old mid before (Ok u) → Wrote {E = E} written faults rest mid new piece (Ok v) → Gathers {E = E} written faults rest old new before after piece (Ok t)
   put_whole old mid new before after piece t u v none flushed wrote =
       record { bytes = (before ++ piece, Appends-then (written old) (written mid) (written new) before piece flushed.bytes wrote.bytes, ap (λ (xs : List ℕ). (before ++ piece) ++ xs) none ∙ append-nil (before ++ piece)); cause = record { later = omega (arith, flushed.cause.later, wrote.cause.later); failed = tt }; rest_stays = wrote.rest_stays ∙ flushed.rest_stays }
+
+  -- nothing
+  pub nothing_gathered : {E : Type 0} (old : S) (before : List ℕ) → Gathers {T = Unit {0}} {E = E} written faults rest old old before before [] (Ok tt)
+  nothing_gathered old before = record { bytes = ([], Appends-none (written old), sym (append-nil before)); cause = record { later = omega arith; failed = tt }; rest_stays = refl }
 
   -- one piece more
   pub gather_more : {E : Type 0} (old mid new : S) (before between after first piece whole : List ℕ) → whole ≡ first ++ piece → Gathers {T = Unit {0}} {E = E} written faults rest old mid before between first (Ok tt) → Gathers {T = Unit {0}} {E = E} written faults rest mid new between after piece (Ok tt) → Gathers {T = Unit {0}} {E = E} written faults rest old new before after whole (Ok tt)

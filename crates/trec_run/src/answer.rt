@@ -56,7 +56,8 @@ pub fn gather_answer<S: Sink, N: Names>(
     }
 }
 
-/// Gathers the run lines whose tags are followed by a point and a part, or by nothing.
+/// Gathers the run lines whose tags are followed by a point and a part, or by nothing. Each name is looked up a line
+/// ahead, since it is seldom in a cache.
 fn gather_lines<S: Sink, N: Names>(
     out: &mut S,
     buffer: &mut Buffer,
@@ -71,13 +72,27 @@ fn gather_lines<S: Sink, N: Names>(
     ensures { Gathers S.written S.faults S.rest out.old out.new buffer.old buffer.new
         (run_lines (N.names index.now) id.now (tag.now ++ (point.now ++ part.now)) 1 hits.now) result }
 {
+    let (first, others) = match hits.split_first() {
+        Some(parts) => parts,
+        None => return Ok(()),
+    };
+    let mut score = first.score;
+    let mut name = index.name(first.doc);
     let mut rank: u64 = 1;
-    for hit in hits {
-        let name = index.name(hit.doc);
-        gather_hit(out, buffer, id, name, rank, hit.score, tag, point, part)?;
+    for next in others {
+        let ahead = index.name(next.doc);
+        match gather_hit(out, buffer, id, name, rank, score, tag, point, part) {
+            Ok(()) => {}
+            Err(fault) => return Err(fault),
+        }
+        score = next.score;
+        name = ahead;
         rank += 1;
     }
-    Ok(())
+    match gather_hit(out, buffer, id, name, rank, score, tag, point, part) {
+        Ok(()) => Ok(()),
+        Err(fault) => Err(fault),
+    }
 }
 
 /// Gathers the run line of a hit.
