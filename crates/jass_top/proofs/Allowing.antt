@@ -7,7 +7,7 @@ use Rattle.jass_words.specs.Options.{OptionData, Weights, Width, IsBits, AreOpti
 use Rattle.jass_base.specs.declared.answer.Budget.{Budget}
 use Rattle.query_reader.specs.declared.mode.Mode.{Mode}
 use Rattle.jass_words.specs.Searching.{IsWithinLimits}
-use Rattle.jass_words.specs.Words.{CommandData, Once, Rewrite, Import, Check, Export, Migrate, Search, Help, Version, IsCommand}
+use Rattle.jass_words.specs.Words.{CommandData, Once, Rewrite, Import, Check, Export, Migrate, Search, Trial, Help, Version, IsTrialSize, IsCommand}
 use Rattle.jass_top.specs.Commands.{IsAllowed}
 
 a_width : (value : List ℕ) (bits : Bits) → IsBits value bits → IsImpactWidth bits
@@ -26,15 +26,20 @@ abbrev pub AreWithinLimits : Type 0
 AreWithinLimits = (words : List (List ℕ)) (index queries run : List ℕ) (k : ℕ) (limits : List Budget) (tag : List ℕ) (mode : Mode)
     → IsCommand words (Search index queries run k limits tag mode) → IsWithinLimits k limits tag
 
-pub allowed : AreWithinLimits → (words : List (List ℕ)) (command : CommandData) → IsCommand words command → IsAllowed command
-allowed law words (Once ciff k budget terms) is = (is.counted.some, is.counted.limit, is.named.few)
-allowed law words (Rewrite from to) is = tt
-allowed law words (Import ciff index rule bits) is = subst IsImpactWidth (sym is.narrows) (given_width is.more is.options is.spelled)
-allowed law words (Check index) is = tt
-allowed law words (Export index ciff) is = tt
-allowed law words (Migrate from to) is = tt
-allowed law words (Search index queries run k limits tag mode) is =
+-- the law of trials
+abbrev pub AreTrialSizes : Type 0
+AreTrialSizes = (words : List (List ℕ)) (seed docs terms queries : ℕ) → IsCommand words (Trial seed docs terms queries) → IsTrialSize seed docs terms queries
+
+pub allowed : AreWithinLimits → AreTrialSizes → (words : List (List ℕ)) (command : CommandData) → IsCommand words command → IsAllowed command
+allowed law trials words (Once ciff k budget terms) is = (is.counted.some, is.counted.limit, is.named.few)
+allowed law trials words (Rewrite from to) is = tt
+allowed law trials words (Import ciff index rule bits) is = subst IsImpactWidth (sym is.narrows) (given_width is.more is.options is.spelled)
+allowed law trials words (Check index) is = tt
+allowed law trials words (Export index ciff) is = tt
+allowed law trials words (Migrate from to) is = tt
+allowed law trials words (Search index queries run k limits tag mode) is =
     let within = law words index queries run k limits tag mode is in
     (within.some_hits, within.most_hits, within.most_budgets)
-allowed law words Help is = tt
-allowed law words Version is = tt
+allowed law trials words (Trial seed docs terms queries) is = trials words seed docs terms queries is
+allowed law trials words Help is = tt
+allowed law trials words Version is = tt

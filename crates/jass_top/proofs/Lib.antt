@@ -16,5 +16,7 @@ pub mod Searched
 pub mod Sides
 pub mod Sizes
 pub mod Stopping
+pub mod Tried
+pub mod Trying
 pub mod Turns
 pub mod Wholes

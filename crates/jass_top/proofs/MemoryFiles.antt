@@ -6,19 +6,17 @@ use Rattle.index_layout.specs.declared.refusal.OpenFault.TheVariants as faults
 use Rattle.index_layout.specs.Reading.{read_index}
 use Rattle.index_layout.specs.Refusals.{Fails}
 use Rattle.index_layout.specs.View.{FileView, IsFileView, chosen_view, file_bytes, index_postings, index_text}
+use Rattle.jass_top.specs.IndexJudging.{IsTextOf}
 
 module _ (texts : (index : IndexData) → IsIndex index → index_postings index ≤ 2 ^ 29 → length (index_text index) ≤ 2 ^ 32 → IsFileView (chosen_view index))
     (found : (v : FileView) → IsFileView v → read_index (file_bytes v) ≡ Ok v)
-    (index : IndexData) (is : IsIndex index) (few : index_postings index ≤ 2 ^ 29) (fits : length (index_text index) ≤ 2 ^ 32)
-    (bytes : List ℕ) (same : bytes ≡ index_text index) where
+    (bytes : List ℕ) (index : IndexData) (text : IsTextOf bytes index) where
   read_text : read_index bytes ≡ Ok (chosen_view index)
   unfolding index_text
-  read_text = ap read_index same ∙ found (chosen_view index) (texts index is few fits)
+  read_text = ap read_index text.spelled ∙ found (chosen_view index) (texts index text.is text.postings text.fits)
 
-  pub index_is : (file : FileView) → read_index bytes ≡ Ok file → file.index ≡ index
-  index_is file reads =
-      let view : file ≡ chosen_view index = (let both : Ok file ≡ Ok (chosen_view index) = sym reads ∙ read_text in cc) in
-      ap (λ (v : FileView). v.index) view
+  pub view_is : (file : FileView) → read_index bytes ≡ Ok file → file ≡ chosen_view index
+  view_is file reads = (let both : Ok file ≡ Ok (chosen_view index) = sym reads ∙ read_text in cc)
 
   pub never_fails : (fault : OpenFault) → Fails fault (read_index bytes) → fault ≡ faults.NoMemory
   never_fails (faults.Refused refusal) fails = (let both : Err refusal ≡ Ok (chosen_view index) = sym fails ∙ read_text in cc)

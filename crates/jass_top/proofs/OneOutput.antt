@@ -1,6 +1,6 @@
 -- A command has one output for its inputs.
 use Rattle.std.proofs.Common.{◌≡◌, ℕ, List, [], ◌∷◌, refl, sym, ap, ◌∙◌}
-use Rattle.std.specs.Prelude.{map}
+use Rattle.std.specs.Prelude.{map, sum_by}
 use Rattle.std.specs.List.{AllZip}
 use Rattle.std.specs.Ordering.{nat_cmp}
 use Rattle.std.specs.Cmp.Lexicographic.{slice_cmp}
@@ -24,13 +24,15 @@ use Rattle.ranking_model.specs.Finality.{IsGrade}
 use Rattle.ranking_model.specs.Report.{IsReport, report_of}
 use Rattle.ranking_model.specs.Search.{QueryData, prefixes_granted, report_lines}
 use Rattle.index_model.specs.Index.{IndexData}
-use Rattle.jass_words.specs.Words.{CommandData, Once, Rewrite, Import, Check, Export, Migrate, Search, Help, Version}
+use Rattle.jass_words.specs.Words.{CommandData, Once, Rewrite, Import, Check, Export, Migrate, Search, Trial, Help, Version}
 use Rattle.jass_top.specs.Answers.{OnceQuery, once_plan, once_prefix, once_steps, once_text}
 use Rattle.jass_top.specs.Commands.{meaning_of}
 use Rattle.jass_top.specs.Meanings.{Output}
 use Rattle.jass_top.specs.OnceMeaning.{IsOnceOutput}
-use Rattle.jass_top.specs.SearchMeaning.{AreSearchReports, IsSearchOutput, IsSearchReport, SearchInputs, plan_over_index}
+use Rattle.jass_top.specs.SearchMeaning.{AreSearchReports, IsSearchOutput, IsSearchReport, SearchInputs, plan_over_index, scored_postings}
 use Rattle.jass_top.specs.SearchMeaning as asked
+use Rattle.trial_data.specs.Trials.{trial_queries}
+use Rattle.jass_top.specs.TrialMeaning.{AreTrialReports, IsTrialOutput, queries_over, trial_budgets, trial_prefix, trial_summary}
 
 -- ---- reports are one
 
@@ -75,6 +77,24 @@ module _ (one_grade : (scores : List ℕ) (k bound : ℕ) (first second : Grade)
       let steps : one.steps ≡ other.steps = is.steps ∙ sym theirs.steps in
       λ i. record { content = content i; text = text i; steps = steps i }
 
+  same_reports_after : (index : IndexData) (grants : ℕ) (queries : List QueryData) (one other : List Report) → AreTrialReports index grants queries one → AreTrialReports index grants queries other → one ≡ other
+  same_reports_after index grants [] [] [] is theirs = refl
+  same_reports_after index grants [] [] (t ∷ ts) is theirs = absurd theirs
+  same_reports_after index grants [] (r ∷ rs) other is theirs = absurd is
+  same_reports_after index grants (query ∷ queries) [] other is theirs = absurd is
+  same_reports_after index grants (query ∷ queries) (r ∷ rs) [] is theirs = absurd theirs
+  same_reports_after index grants (query ∷ queries) (r ∷ rs) (t ∷ ts) is theirs =
+      let first : r ≡ t = same_report (trial_prefix index grants query) (plan_over_index index query) 10 r t is.0.exact theirs.0.exact in
+      let rest : rs ≡ ts = same_reports_after index grants queries rs ts is.1 theirs.1 in
+      λ i. first i ∷ rest i
+
+  same_trial : (queries : List QueryData) (index : IndexData) (one other : Output) → IsTrialOutput queries index one → IsTrialOutput queries index other → one ≡ other
+  same_trial queries index one other is theirs =
+      let first = same_reports_after index 1 queries is.first theirs.first is.first_are theirs.first_are in
+      let second = same_reports_after index 2 queries is.second theirs.second is.second_are theirs.second_are in
+      let last = same_reports_after index 3 queries is.last theirs.last is.last_are theirs.last_are in
+      is.whole ∙ (λ i. record { content = []; text = trial_summary index queries (first i) (second i) (last i); steps = sum_by (scored_postings index trial_budgets) queries }) ∙ sym theirs.whole
+
   pub one_output : (command : CommandData) (inputs : (meaning_of command).Inputs) (one other : Output) → (meaning_of command).IsOutput inputs one → (meaning_of command).IsOutput inputs other → one ≡ other
   one_output (Once ciff k budget terms) inputs one other is theirs = same_answer (record { k = k; budget = budget; words = terms }) inputs one other is theirs
   one_output (Rewrite from to) inputs one other is theirs = is ∙ sym theirs
@@ -83,5 +103,6 @@ module _ (one_grade : (scores : List ℕ) (k bound : ℕ) (first second : Grade)
   one_output (Export index ciff) inputs one other is theirs = is ∙ sym theirs
   one_output (Migrate from to) inputs one other is theirs = is ∙ sym theirs
   one_output (Search index queries run k limits tag mode) inputs one other is theirs = same_search (record { k = k; budgets = limits; tag = tag }) inputs one other is theirs
+  one_output (Trial seed docs terms queries) inputs one other is theirs = same_trial (queries_over inputs (trial_queries seed docs terms queries)) inputs one other is theirs
   one_output Help inputs one other is theirs = is ∙ sym theirs
   one_output Version inputs one other is theirs = is ∙ sym theirs

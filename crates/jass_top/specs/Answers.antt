@@ -19,13 +19,16 @@ pub record OnceQuery : Type 0 where
   pub budget : Budget
   pub words : List (List ℕ)
 
--- the query over an index, in which each word counts once
-abbrev pub once_query : IndexData → OnceQuery → QueryData
-once_query index query = record {
+-- a query of words over an index, in which each word counts once
+abbrev pub words_query : IndexData → List (List ℕ) → QueryData
+words_query index words = record {
   id = codes "q";
-  terms = named_of (texts_of index.terms) (words_as_mentions query.words);
-  unknown = unknown_of (texts_of index.terms) (words_as_mentions query.words);
+  terms = named_of (texts_of index.terms) (words_as_mentions words);
+  unknown = unknown_of (texts_of index.terms) (words_as_mentions words);
 }
+
+abbrev pub once_query : IndexData → OnceQuery → QueryData
+once_query index query = words_query index query.words
 
 -- its plan, and the longest prefix of the plan that fits the budget
 abbrev pub once_plan : IndexData → OnceQuery → QueryPlan

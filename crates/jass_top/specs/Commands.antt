@@ -2,7 +2,7 @@
 use Rattle.std.specs.Prelude.{◌≤◌, length, ⊤}
 use Rattle.weights.specs.Quantizing.{IsImpactWidth}
 use Rattle.jass_top.specs.CheckMeaning.{check_meaning}
-use Rattle.jass_words.specs.Words.{CommandData, Once, Rewrite, Import, Check, Export, Migrate, Search, Help, Version}
+use Rattle.jass_words.specs.Words.{CommandData, IsTrialSize, Once, Rewrite, Import, Check, Export, Migrate, Search, Trial, Help, Version}
 use Rattle.jass_top.specs.ExportMeaning.{export_meaning}
 use Rattle.jass_top.specs.HelpMeaning.{help_meaning}
 use Rattle.jass_top.specs.ImportMeaning.{import_meaning}
@@ -11,6 +11,7 @@ use Rattle.jass_top.specs.MigrateMeaning.{migrate_meaning}
 use Rattle.jass_top.specs.OnceMeaning.{once_meaning}
 use Rattle.jass_top.specs.RewriteMeaning.{rewrite_meaning}
 use Rattle.jass_top.specs.SearchMeaning.{search_meaning}
+use Rattle.jass_top.specs.TrialMeaning.{trial_meaning}
 use Rattle.jass_top.specs.VersionMeaning.{version_meaning}
 
 abbrev pub meaning_of : CommandData → Meaning
@@ -22,6 +23,7 @@ meaning_of (Export index ciff) = export_meaning index ciff
 meaning_of (Migrate from to) = migrate_meaning from to
 meaning_of (Search index queries run k limits tag mode) =
     search_meaning index queries run (record { k = k; budgets = limits; tag = tag }) mode
+meaning_of (Trial seed docs terms queries) = trial_meaning seed docs terms queries
 meaning_of Help = help_meaning
 meaning_of Version = version_meaning
 
@@ -34,5 +36,6 @@ IsAllowed (Check index) = ⊤
 IsAllowed (Export index ciff) = ⊤
 IsAllowed (Migrate from to) = ⊤
 IsAllowed (Search index queries run k limits tag mode) = (1 ≤ k) × (k ≤ 100000) × (length limits ≤ 16)
+IsAllowed (Trial seed docs terms queries) = IsTrialSize seed docs terms queries
 IsAllowed Help = ⊤
 IsAllowed Version = ⊤

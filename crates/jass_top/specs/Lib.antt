@@ -21,5 +21,7 @@ pub mod Sides
 pub mod Standing
 pub mod Stops
 pub mod TextMeaning
+pub mod TrialMeaning
+pub mod TrialSums
 pub mod VersionMeaning
 pub mod Worlds

@@ -14,6 +14,7 @@ use crate::question::Question;
 use crate::rewrite::run_rewrite;
 use crate::search::run_search;
 use crate::stop::Stop;
+use crate::trial::run_trial;
 use crate::version::run_version;
 use jass_base::{Cabinet, Sink, Steps};
 use jass_words::Command;
@@ -78,6 +79,12 @@ pub fn run_command<'a, C: Cabinet, O: Sink, L: Ledger>(
             out,
             steps,
         ),
+        Command::Trial {
+            seed,
+            docs,
+            terms,
+            queries,
+        } => run_trial(alloc, seed, docs, terms, queries, out, steps),
         Command::Help => run_help(out),
         Command::Version => run_version(out),
     }

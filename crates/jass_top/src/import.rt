@@ -1,7 +1,9 @@
 ghost use Rattle.std.specs.Prelude.{ℕ, ◌≡◌, ◌≤◌, ◌^◌, [], ◌∷◌, IfOk, IfErr};
 ghost use Rattle.index_layout.specs.View.{index_postings};
 ghost use Rattle.index_model.specs.Views.{index_data};
+ghost use Rattle.ciff_read.specs.Counts.{posting_count};
 ghost use Rattle.jass_base.specs.Ciff.{CollectionData};
+ghost use Rattle.jass_base.specs.CiffViews.{collection_data};
 ghost use Rattle.weights.specs.Quantizing.{IsImpactWidth};
 ghost use Rattle.jass_top.specs.Causes.{Runs, Unread};
 ghost use Rattle.jass_top.specs.ImportMeaning.{collection_index, import_meaning};
@@ -13,7 +15,7 @@ use crate::saving::save_index;
 use crate::stop::Stop;
 use impact_segments::build;
 use index_model::laws::{an_index_is_that_of_its_flat_list, indexes_in_memory_are_indexes};
-use jass_base::{Cabinet, ImpactIndex, Sink};
+use jass_base::{Cabinet, Collection, ImpactIndex, NoMemory, Sink};
 use std::alloc::Global;
 use weights::{Bits, Rule};
 
@@ -55,18 +57,36 @@ pub fn make_index<'a, C: Cabinet>(
     ensures later { C.read_faults files.old ≤ C.read_faults files.new }
     ensures others { C.write_faults files.old ≤ C.write_faults files.new }
 {
-    indexes_in_memory_are_indexes();
-    an_index_is_that_of_its_flat_list();
     let collection = match read_file(alloc, files, ciff) {
         Ok(collection) => collection,
         Err(stop) => return Err(stop),
     };
-    match build(alloc, &collection, rule, bits) {
+    match index_collection(alloc, &collection, rule, bits) {
+        Ok(index) => Ok(index),
+        Err(_) => Err(Stop::NoMemory),
+    }
+}
+
+/// Makes the index of a collection in memory.
+pub fn index_collection(
+    alloc: Global,
+    collection: &Collection,
+    rule: Rule,
+    bits: Bits,
+) -> Result<ImpactIndex, NoMemory>
+    requires { IsImpactWidth bits }
+    ensures made { IfOk result (λ index.
+        index_data index ≡ collection_index rule bits (collection_data collection.now)) }
+    ensures size { IfOk result (λ index. index_postings (index_data index) ≡ posting_count collection.now.lists) }
+{
+    indexes_in_memory_are_indexes();
+    an_index_is_that_of_its_flat_list();
+    match build(alloc, collection, rule, bits) {
         Ok(index) => {
             impacts_are_small(&index);
             Ok(index)
         }
-        Err(_) => Err(Stop::NoMemory),
+        Err(refused) => Err(refused),
     }
 }
 

@@ -4,7 +4,7 @@ ghost use Rattle.std.specs.Prelude.{ℕ, ◌≡◌, ◌≢◌, ◌<◌, List, Al
 ghost use Rattle.std.specs.FinMap.{get};
 ghost use Rattle.jass_base.specs.Ciff.{CollectionData, IsCiff};
 ghost use Rattle.jass_base.specs.Outside.{Files};
-ghost use Rattle.index_layout.specs.View.{FileView, IsFileView, file_bytes};
+ghost use Rattle.index_layout.specs.View.{FileView, IsFileView, chosen_view, file_bytes};
 ghost use Rattle.index_model.specs.Index.{IndexData};
 ghost use Rattle.index_version1.specs.Files.{IsIndexFile1};
 ghost use Rattle.query_reader.specs.declared.mode.Mode.{Mode};
@@ -18,6 +18,8 @@ ghost use Rattle.jass_top.specs.Judging.{Accepted, Missing, Refuses, Untold, IsR
 ghost use Rattle.jass_top.specs.Meanings.{Meaning, Output};
 ghost use Rattle.jass_top.specs.SearchMeaning.{IsSearchOutput, Search, judge_queries, plain_query};
 ghost use Rattle.jass_top.specs.SearchTexts.{search_output};
+ghost use Rattle.jass_top.specs.TrialMeaning.{IsTrialOutput};
+ghost use Rattle.jass_top.specs.TrialSums.{trial_output};
 
 use ciff_read::laws::files_are_read;
 use final_certificate::laws::a_prefix_has_one_report;
@@ -91,6 +93,17 @@ pub fn a_search_leaves_its_output()
 {
     the_flat_list_is_flat();
     each_budget_has_its_prefix();
+    a_prefix_has_one_report();
+    reports_keep_their_promises();
+}
+
+/// What a trial leaves query by query is its summary, with a report for each query and grant, which
+/// keeps what it promises.
+pub fn a_trial_leaves_its_summary()
+    ensures { (file : FileView) (queries : List QueryData) → IsFileView file → file ≡ chosen_view file.index
+        → IsTrialOutput queries file.index (trial_output file queries) }
+{
+    the_flat_list_is_flat();
     a_prefix_has_one_report();
     reports_keep_their_promises();
 }

@@ -29,6 +29,10 @@ mod search_queries;
 mod search_stop;
 mod status;
 mod stop;
+mod trial;
+mod trial_lines;
+mod trial_queries;
+mod trial_sums;
 mod version;
 
 pub use program::run;

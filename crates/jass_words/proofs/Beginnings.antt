@@ -16,7 +16,7 @@ use Rattle.jass_words.proofs.Parts.{once_word, rewrite_word, import_word, check_
 use Rattle.jass_words.specs.Options.{IsOption, key_of, OptionData, AreOptions, HaveKeysOnce, rule_of, bits_of}
 
 -- fewer words begin a command too
-begun_less : (words : List (List ℕ)) (n m : ℕ) → m ≤ n → IsBegun (take n words) → IsBegun (take m words)
+pub begun_less : (words : List (List ℕ)) (n m : ℕ) → m ≤ n → IsBegun (take n words) → IsBegun (take m words)
 begun_less words n m less (rest, command, is) = (drop m (take n words) ++ rest, command, subst (λ (ws : List (List ℕ)). IsCommand ws command) same is)
   where
     same : take n words ++ rest ≡ take m words ++ (drop m (take n words) ++ rest)
@@ -86,7 +86,7 @@ too_many words front rest is begun last many = subst (λ (ws : List (List ℕ)).
 abbrev a_word : List ℕ
 a_word = 97 ∷ []
 
-abbrev one_word : List ℕ
+abbrev pub one_word : List ℕ
 one_word = 49 ∷ []
 
 abbrev all_word : List ℕ

@@ -6,4 +6,5 @@ pub mod Parts
 pub mod Beginnings
 pub mod Limits
 pub mod Short
+pub mod Sizes
 pub mod Terms

@@ -11,13 +11,13 @@ use Rattle.jass_words.specs.Options.{IsOption, AreOptions, rule_of, bits_of}
 use Rattle.jass_words.proofs.Keys.{option_one}
 use Rattle.jass_words.proofs.SearchKeys.{same_budget, one_option}
 use Rattle.jass_words.proofs.Spelling.{spell_one}
-use Rattle.jass_words.specs.Numbers.{IsBudget}
+use Rattle.jass_words.specs.Numbers.{IsNumber, IsBudget}
 use Rattle.jass_words.specs.Spelled.{Spell, given}
 use Rattle.jass_words.specs.Searching.{SearchData, IsSearchOption, hits_in, limits_in, tag_in, mode_in}
 use Rattle.query_reader.specs.declared.mode.Mode.{Mode}
 use Rattle.query_reader.specs.declared.mode.Mode.TheVariants.{Plain}
 use Rattle.std.specs.Option.{unwrap_or}
-use Rattle.jass_words.specs.Words.{CommandData, Once, Rewrite, Import, Check, Export, Migrate, Search, Help, Version, HasFiles, IsOnce, IsRewrite, IsImport, IsCheck, IsExport, IsMigrate, IsSearch, IsHelp, IsVersion, IsCommand}
+use Rattle.jass_words.specs.Words.{CommandData, Once, Rewrite, Import, Check, Export, Migrate, Search, Trial, Help, Version, HasFiles, IsOnce, IsRewrite, IsImport, IsCheck, IsExport, IsMigrate, IsSearch, IsTrial, IsHelp, IsVersion, IsCommand}
 
 abbrev pub once_word : List ℕ
 once_word = 111 ∷ 110 ∷ 99 ∷ 101 ∷ []
@@ -40,6 +40,9 @@ migrate_word = 109 ∷ 105 ∷ 103 ∷ 114 ∷ 97 ∷ 116 ∷ 101 ∷ []
 abbrev pub search_word : List ℕ
 search_word = 115 ∷ 101 ∷ 97 ∷ 114 ∷ 99 ∷ 104 ∷ []
 
+abbrev pub trial_word : List ℕ
+trial_word = 116 ∷ 114 ∷ 105 ∷ 97 ∷ 108 ∷ []
+
 abbrev pub help_word : List ℕ
 help_word = 45 ∷ 45 ∷ 104 ∷ 101 ∷ 108 ∷ 112 ∷ []
 
@@ -55,6 +58,7 @@ word_of (Check index) = check_word
 word_of (Export index ciff) = export_word
 word_of (Migrate from to) = migrate_word
 word_of (Search index queries run k limits tag mode) = search_word
+word_of (Trial seed docs terms queries) = trial_word
 word_of Help = help_word
 word_of Version = version_word
 
@@ -67,6 +71,7 @@ begins words (Check index) is = ap (λ (ws : List (List ℕ)). slice_get ws 0) i
 begins words (Export index ciff) is = ap (λ (ws : List (List ℕ)). slice_get ws 0) is.parts
 begins words (Migrate from to) is = ap (λ (ws : List (List ℕ)). slice_get ws 0) is.parts
 begins words (Search index queries run k limits tag mode) is = ap (λ (ws : List (List ℕ)). slice_get ws 0) is.files.parts
+begins words (Trial seed docs terms queries) is = ap (λ (ws : List (List ℕ)). slice_get ws 0) is.parts
 begins words Help is = ap (λ (ws : List (List ℕ)). slice_get ws 0) is.parts
 begins words Version is = ap (λ (ws : List (List ℕ)). slice_get ws 0) is.parts
 
@@ -100,6 +105,10 @@ pub as_search : (rest : List (List ℕ)) (command : CommandData) → IsCommand (
 as_search rest (Search index queries run k limits tag mode) is = (index, queries, run, k, limits, tag, mode, is)
 as_search rest other is = absurd (other_text search_word (word_of other) refl (some_same search_word (word_of other) (begins (search_word ∷ rest) other is)))
 
+pub as_trial : (rest : List (List ℕ)) (command : CommandData) → IsCommand (trial_word ∷ rest) command → (seed docs terms queries : ℕ) × IsTrial (trial_word ∷ rest) seed docs terms queries
+as_trial rest (Trial seed docs terms queries) is = (seed, docs, terms, queries, is)
+as_trial rest other is = absurd (other_text trial_word (word_of other) refl (some_same trial_word (word_of other) (begins (trial_word ∷ rest) other is)))
+
 pub as_check : (rest : List (List ℕ)) (command : CommandData) → IsCommand (check_word ∷ rest) command → (index : List ℕ) × IsCheck (check_word ∷ rest) index
 as_check rest (Check index) is = (index, is)
 as_check rest other is = absurd (other_text check_word (word_of other) refl (some_same check_word (word_of other) (begins (check_word ∷ rest) other is)))
@@ -119,6 +128,9 @@ same_files : (name : List ℕ) (words : List (List ℕ)) (from to from' to' : Li
 same_files name words from to from' to' more more' is theirs =
     let both : name ∷ from ∷ to ∷ more ≡ name ∷ from' ∷ to' ∷ more' = sym is.parts ∙ theirs.parts in
     (cc, cc, cc)
+
+one_number : (word other : List ℕ) (least most n m : ℕ) → word ≡ other → IsNumber word least most n → IsNumber other least most m → n ≡ m
+one_number word other least most n m same is theirs = some_same n m (sym is.decimal ∙ ap decimal_of same ∙ theirs.decimal)
 
 pub one_command : (words : List (List ℕ)) (command other : CommandData) → IsCommand words command → IsCommand words other → command ≡ other
 one_command words (Once f k b ts) (Once g l c us) is theirs =
@@ -153,6 +165,13 @@ one_command words (Check index) (Check index') is theirs =
     let both : check_word ∷ index ∷ [] ≡ check_word ∷ index' ∷ [] = sym is.parts ∙ theirs.parts in
     let file : index ≡ index' = cc in
     (λ i. Check (file i))
+one_command words (Trial seed docs terms queries) (Trial seed' docs' terms' queries') is theirs =
+    let both : trial_word ∷ is.first ∷ is.second ∷ is.third ∷ is.fourth ∷ [] ≡ trial_word ∷ theirs.first ∷ theirs.second ∷ theirs.third ∷ theirs.fourth ∷ [] = sym is.parts ∙ theirs.parts in
+    let first = one_number is.first theirs.first 0 2147483647 seed seed' (cc) is.seeded theirs.seeded in
+    let second = one_number is.second theirs.second 1 1048576 docs docs' (cc) is.sized theirs.sized in
+    let third = one_number is.third theirs.third 1 1048576 terms terms' (cc) is.named theirs.named in
+    let fourth = one_number is.fourth theirs.fourth 0 10000 queries queries' (cc) is.asked theirs.asked in
+    (λ i. Trial (first i) (second i) (third i) (fourth i))
 one_command words Help Help is theirs = λ i. Help
 one_command words Version Version is theirs = λ i. Version
 one_command words command other is theirs = absurd (other_text (word_of command) (word_of other) refl (some_same (word_of command) (word_of other) (sym (begins words command is) ∙ begins words other theirs)))

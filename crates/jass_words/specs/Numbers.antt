@@ -4,11 +4,15 @@ use Rattle.jass_base.specs.Decimal.{decimal_of}
 use Rattle.jass_base.specs.declared.answer.Budget.{Budget}
 use Rattle.jass_base.specs.declared.answer.Budget.TheVariants as budgets
 
+-- a number from a least to a greatest one
+pub record IsNumber (word : List ℕ) (least most n : ℕ) : Type 0 where
+  pub decimal : decimal_of word ≡ Some n
+  pub some : least ≤ n
+  pub limit : n ≤ most
+
 -- a number of hits
-pub record IsCount (word : List ℕ) (k : ℕ) : Type 0 where
-  pub decimal : decimal_of word ≡ Some k
-  pub some : 1 ≤ k
-  pub limit : k ≤ 100000
+abbrev pub IsCount : List ℕ → ℕ → Type 0
+IsCount word k = IsNumber word 1 100000 k
 
 -- a number of postings, or all
 abbrev pub IsBudget : List ℕ → Budget → Type 0

@@ -1,5 +1,5 @@
 -- The words of the command line: what a command is, and the first word that is none of a command's. This project's grammar.
-use Rattle.std.specs.Prelude.{ℕ, ◌≡◌, ◌≢◌, ◌<◌, ◌≤◌, ◌+◌, List, [], ◌∷◌, ◌++◌, length, take, map, codes, All, String}
+use Rattle.std.specs.Prelude.{ℕ, ◌≡◌, ◌≢◌, ◌<◌, ◌≤◌, ◌+◌, List, [], ◌∷◌, ◌^◌, ◌++◌, length, take, map, codes, All, String}
 use Rattle.std.specs.String.{string_bytes}
 use Rattle.std.specs.declared.alloc.Global.{Global}
 use Rattle.std.specs.Option.{unwrap_or}
@@ -9,7 +9,7 @@ use Rattle.weights.specs.declared.weighting.Rule.{Rule}
 use Rattle.weights.specs.declared.quantizing.Bits.{Bits}
 use Rattle.query_reader.specs.declared.mode.Mode.{Mode}
 use Rattle.query_reader.specs.declared.mode.Mode.TheVariants.{Plain}
-use Rattle.jass_words.specs.Numbers.{IsCount, IsBudget}
+use Rattle.jass_words.specs.Numbers.{IsNumber, IsCount, IsBudget}
 use Rattle.jass_words.specs.Options.{OptionData, AreOptions, HaveKeysOnce, rule_of, bits_of}
 use Rattle.jass_words.specs.Searching.{SearchData, IsSearchOption, search_key, hits_in, limits_in, tag_in, mode_in}
 use Rattle.jass_words.specs.Spelled.{Spell, HaveOnce, given}
@@ -27,6 +27,7 @@ pub data CommandData : Type 0 where
   Export : List ℕ → List ℕ → CommandData
   Migrate : List ℕ → List ℕ → CommandData
   Search : List ℕ → List ℕ → List ℕ → ℕ → List Budget → List ℕ → Mode → CommandData
+  Trial : ℕ → ℕ → ℕ → ℕ → CommandData
   Help : CommandData
   Version : CommandData
 
@@ -107,6 +108,18 @@ pub record IsSearch (words : List (List ℕ)) (index queries run : List ℕ) (k 
   pub tagged : tag ≡ unwrap_or (given tag_in options) (codes "jass")
   pub reads : mode ≡ unwrap_or (given mode_in options) Plain
 
+-- `trial SEED DOCS TERMS QUERIES`
+pub record IsTrial (words : List (List ℕ)) (seed docs terms queries : ℕ) : Type 0 where
+  pub first : List ℕ
+  pub second : List ℕ
+  pub third : List ℕ
+  pub fourth : List ℕ
+  pub parts : words ≡ codes "trial" ∷ first ∷ second ∷ third ∷ fourth ∷ []
+  pub seeded : IsNumber first 0 2147483647 seed
+  pub sized : IsNumber second 1 1048576 docs
+  pub named : IsNumber third 1 1048576 terms
+  pub asked : IsNumber fourth 0 10000 queries
+
 -- `--help`
 pub record IsHelp (words : List (List ℕ)) : Type 0 where
   pub parts : words ≡ codes "--help" ∷ []
@@ -124,6 +137,7 @@ IsCommand words (Check index) = IsCheck words index
 IsCommand words (Export index ciff) = IsExport words index ciff
 IsCommand words (Migrate from to) = IsMigrate words from to
 IsCommand words (Search index queries run k limits tag mode) = IsSearch words index queries run k limits tag mode
+IsCommand words (Trial seed docs terms queries) = IsTrial words seed docs terms queries
 IsCommand words Help = IsHelp words
 IsCommand words Version = IsVersion words
 
@@ -142,6 +156,13 @@ pub record IsBadWord (words : List (List ℕ)) (which : ℕ) : Type 0 where
   pub before : (n : ℕ) → n < which → IsBegun (take n words)
   pub here : which ≤ length words → ¬ IsBegun (take which words)
   pub there : which ≤ length words + 1
+
+-- what the numbers of a trial keep
+pub record IsTrialSize (seed docs terms queries : ℕ) : Type 0 where
+  pub seeded : seed < 2 ^ 31
+  pub sized : (1 ≤ docs) × (docs ≤ 1048576)
+  pub named : (1 ≤ terms) × (terms ≤ 1048576)
+  pub asked : queries ≤ 10000
 
 -- ---- what the readers of files ask of a name
 

@@ -58,6 +58,18 @@ pub enum Command<'a> {
         /// `plain` where no option says otherwise.
         mode: Mode,
     },
+    /// `trial SEED DOCS TERMS QUERIES`: makes a collection and its index in memory, searches it,
+    /// and prints a summary.
+    Trial {
+        /// Below 2^31.
+        seed: u32,
+        /// 1 to 1,048,576.
+        docs: u32,
+        /// 1 to 1,048,576.
+        terms: u32,
+        /// At most 10,000.
+        queries: u32,
+    },
     /// `--help`: prints the commands, the statuses and where the documents are.
     Help,
     /// `--version`: prints the program's name and version.

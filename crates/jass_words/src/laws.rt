@@ -5,7 +5,7 @@ ghost use Rattle.std.specs.List.{AllByRecursion};
 ghost use Rattle.jass_base.specs.declared.answer.Budget.{Budget};
 ghost use Rattle.query_reader.specs.declared.mode.Mode.{Mode};
 ghost use Rattle.jass_words.specs.Searching.{IsWithinLimits};
-ghost use Rattle.jass_words.specs.Words.{CommandData, Search, IsCommand, IsBegun};
+ghost use Rattle.jass_words.specs.Words.{CommandData, Search, Trial, IsCommand, IsBegun, IsTrialSize};
 
 /// Words are one command at most.
 pub fn words_are_one_command()
@@ -17,6 +17,12 @@ pub fn words_are_one_command()
 /// one is bad before it.
 pub fn a_command_has_short_words()
     ensures { (words : List (List ℕ)) → IsBegun words → AllByRecursion (λ word. length word ≤ 65535) words }
+{}
+
+/// The numbers of a trial are within their limits.
+pub fn a_trial_is_within_limits()
+    ensures { (words : List (List ℕ)) (seed docs terms queries : ℕ)
+        → IsCommand words (Trial seed docs terms queries) → IsTrialSize seed docs terms queries }
 {}
 
 /// A search asks for 1 to 100,000 hits under 1 to 16 budgets with a tag, whether options say so or

@@ -13,6 +13,7 @@ mod search_options;
 mod slots;
 #[cfg(test)]
 mod tests;
+mod trial;
 
 pub use budgets::Budgets;
 pub use command::Command;

@@ -1,7 +1,7 @@
 ghost use Rattle.std.specs.Prelude.{ℕ, ◌≡◌, ◌<◌, ◌≤◌, ◌↔◌, List, Some, None, IsTrue, IfSome, length, take, slice_get};
 ghost use Rattle.std.specs.List.{AllByRecursion};
 ghost use Rattle.jass_base.specs.declared.answer.Budget.{Budget};
-ghost use Rattle.jass_words.specs.Numbers.{IsCount, IsBudget};
+ghost use Rattle.jass_words.specs.Numbers.{IsNumber, IsCount, IsBudget};
 ghost use Rattle.jass_words.specs.Words.{texts, IsFile, IsTerm};
 
 use jass_base::{Budget, read_decimal};
@@ -12,7 +12,7 @@ const LONGEST_FILE: usize = 4_096;
 const LONGEST_TERM: usize = 65_535;
 
 /// The greatest number of hits that can be asked for.
-const MOST_HITS: u64 = 100_000;
+const MOST_HITS: u32 = 100_000;
 
 /// The word at a place, where it can name a file: 1 to 4,096 bytes, none of them zero.
 pub fn file_at(words: &[String], place: usize) -> Option<&str>
@@ -40,10 +40,20 @@ pub fn count_at(words: &[String], place: usize) -> Option<u32>
     ensures none { result ≡ None → (word : List ℕ) (k : ℕ) → slice_get (texts words.now) place ≡ Some word
         → ¬ IsCount word k }
 {
+    number_at(words, place, 1, MOST_HITS)
+}
+
+/// The number from a least to a greatest one in the word at a place.
+pub fn number_at(words: &[String], place: usize, least: u32, most: u32) -> Option<u32>
+    ensures some { IfSome result (λ n. IfSome (slice_get (texts words.now) place) (λ word. IsNumber word least most n)) }
+    ensures there { IfSome result (λ n. place < length words.now) }
+    ensures none { result ≡ None → (word : List ℕ) (n : ℕ) → slice_get (texts words.now) place ≡ Some word
+        → ¬ IsNumber word least most n }
+{
     let Some(word) = words.get(place) else {
         return None;
     };
-    read_count(word.as_str())
+    read_number(word.as_str(), least, most)
 }
 
 /// The number of hits that a word spells.
@@ -51,8 +61,16 @@ pub fn read_count(word: &str) -> Option<u32>
     ensures some { IfSome result (λ k. IsCount word.now k) }
     ensures none { result ≡ None → (k : ℕ) → ¬ IsCount word.now k }
 {
+    read_number(word, 1, MOST_HITS)
+}
+
+/// The number from a least to a greatest one that a word spells.
+fn read_number(word: &str, least: u32, most: u32) -> Option<u32>
+    ensures some { IfSome result (λ n. IsNumber word.now least most n) }
+    ensures none { result ≡ None → (n : ℕ) → ¬ IsNumber word.now least most n }
+{
     match read_decimal(word.as_bytes()) {
-        Some(k) if k >= 1 && k <= MOST_HITS => Some(k as u32),
+        Some(n) if n >= u64::from(least) && n <= u64::from(most) => Some(n as u32),
         _ => None,
     }
 }

@@ -17,7 +17,7 @@ fn bad_word(alloc: Global, line: &str) -> Result<u32, AllocError> {
 
 #[test]
 fn bad_words_are_counted(rt: HostRuntime) {
-    let table: [(&str, u32); 47] = [
+    let table: [(&str, u32); 55] = [
         ("once b 3 all a", 0),
         ("once b 100000 18446744073709551615 a b", 0),
         ("rewrite a b", 0),
@@ -67,6 +67,14 @@ fn bad_words_are_counted(rt: HostRuntime) {
         ("search i q r mode=Folded", 5),
         ("search i q r k=1 k=1", 6),
         ("search i q r k=1 mode=plain k", 7),
+        ("trial 1 4 1 1", 0),
+        ("trial 2147483647 1048576 1048576 10000", 0),
+        ("trial 2147483648 4 1 1", 2),
+        ("trial 1 0 1 1", 3),
+        ("trial 1 4 1048577 1", 4),
+        ("trial 1 4 1 10001", 5),
+        ("trial 1 4 1", 5),
+        ("trial 1 4 1 1 1", 6),
         ("--help", 0),
         ("--help rewrite", 2),
         ("--version", 0),

@@ -47,3 +47,9 @@ returns-in-Migrate g c =
     let before = outer g.C.Cabinet g.O.Sink c.args.files.now c.args.out.now c.args.steps.now in
     let after = outer g.C.Cabinet g.O.Sink c.run_migrate.new.files c.run_migrate.new.out c.args.steps.now in
     subst (λ (command : Command). Runs (meaning_of (command_data command)) before after c.run_migrate.result) (sym c.in-Migrate.is) (c.run_migrate.ensures c.args.steps.now)
+
+pub returns-in-Trial : goal.returns-in-Trial
+returns-in-Trial g c =
+    let before = outer g.C.Cabinet g.O.Sink c.args.files.now c.args.out.now c.args.steps.now in
+    let after = outer g.C.Cabinet g.O.Sink c.args.files.now c.run_trial.new.out c.run_trial.new.steps in
+    subst (λ (command : Command). Runs (meaning_of (command_data command)) before after c.run_trial.result) (sym c.in-Trial.is) (c.run_trial.ensures before)

@@ -13,7 +13,7 @@ use Rattle.jass_top.proofs.Outputs.{noted}
 use Rattle.jass_top.proofs.program.run.Goals as goal
 
 pub run_command-requires : goal.run_command-requires
-run_command-requires g c = allowed c.a_search_is_within_limits.ensures (texts c.args.words.now) (command_data c.in-Ok.command) c.in-Ok.ensures.command
+run_command-requires g c = allowed c.a_search_is_within_limits.ensures c.a_trial_is_within_limits.ensures (texts c.args.words.now) (command_data c.in-Ok.command) c.in-Ok.ensures.command
 
 pub returns-in-Ok-run_command-clause-ends : goal.returns-in-Ok-run_command-clause-ends
 returns-in-Ok-run_command-clause-ends g c = λ command said.

@@ -1,0 +1,23 @@
+use Rattle.std.proofs.Common.{◌≡◌, ℕ, sym, ap, subst, ◌∙◌}
+use Rattle.index_model.specs.Index.{IndexData}
+use Rattle.index_layout.specs.View.{FileView}
+use Rattle.trial_data.specs.Trials.{queries_from, trial_queries, trial_state}
+use Rattle.jass_top.specs.Causes.{Runs}
+use Rattle.jass_top.specs.Meanings.{Meaning}
+use Rattle.jass_top.specs.TrialMeaning.{trial_index, trial_meaning, tried_meaning}
+use Rattle.jass_top.specs.Worlds.{with_output}
+use Rattle.jass_top.proofs.Stopping.{stopped}
+use Rattle.jass_top.proofs.trial.run_trial.Goals as goal
+
+pub returns-in-Err : goal.returns-in-Err
+returns-in-Err g c = λ beside.
+    stopped (trial_meaning c.args.seed c.args.docs c.args.terms c.args.queries) (with_output g.O.Sink c.args.out.now (record beside { steps = c.args.steps.now })) c.in-Err.stop
+    (c.in-Err.ensures.unmade beside.read_faults beside.read_faults)
+
+pub returns : goal.returns
+unfolding trial_queries
+returns g c = λ beside.
+    let index : (c.in-Ok.made.0).index ≡ trial_index c.args.seed c.args.docs c.args.terms = ap (λ (v : FileView). v.index) c.in-Ok.ensures.file in
+    let asked = ap (queries_from c.args.terms c.args.queries) c.in-Ok.ensures.draws in
+    subst (λ (m : Meaning). Runs m (with_output g.O.Sink c.args.out.now (record beside { steps = c.args.steps.now })) (with_output g.O.Sink c.try_file.new.out (record beside { steps = c.try_file.new.steps })) c.try_file.result)
+    (λ i. tried_meaning (index i) (asked i)) (c.try_file.ensures beside)

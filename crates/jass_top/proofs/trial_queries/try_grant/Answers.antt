@@ -1,0 +1,13 @@
+use Rattle.std.proofs.Common.{◌≤◌, length, ap, ◌∙◌, arith}
+use Rattle.session_engine.specs.Standing.{k_of, plan_over, prefix_of}
+use Rattle.jass_top.proofs.Trying.{top_few}
+use Rattle.jass_top.proofs.trial_queries.try_grant.Goals as goal
+
+pub with-requires-clause-few : goal.with-requires-clause-few
+with-requires-clause-few g c =
+    let file = c.args.index.now in
+    let s = c.grant-report.new.self in
+    let is = ap length (c.answer.ensures file c.grant-report.new.pool c.grant-report.ensures.stands) in
+    let few = top_few (prefix_of s) (plan_over file s) (k_of s) in
+    let ten = c.grant-report.ensures.same.k ∙ c.requires.hits in
+    omega (arith, is, few, ten)

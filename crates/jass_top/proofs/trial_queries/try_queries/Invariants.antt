@@ -1,0 +1,14 @@
+use Rattle.std.proofs.Common.{◌≡◌, ◌+◌, ◌-◌}
+use Rattle.trial_data.specs.Trials.{queries_from}
+use Rattle.jass_top.specs.SearchTexts.{IsReady, queries_steps}
+use Rattle.jass_top.specs.TrialMeaning.{queries_over, trial_budgets}
+use Rattle.jass_top.specs.TrialSums.{AreSmallSums, no_sums, with_queries}
+use Rattle.jass_top.proofs.trial_queries.try_queries.Given as goal
+
+abbrev pub invariant-queries : goal.invariant-queries
+invariant-queries g l = record {
+  ready : IsReady l.index l.pool;
+  small : AreSmallSums l.counter l.sums;
+  summed : with_queries l.index (queries_over l.index.index (queries_from l.terms (l.queries - l.counter) l.draws)) l.sums ≡ with_queries l.index (queries_over l.index.index (queries_from l.terms l.queries l.fn.draws)) no_sums;
+  steps : l.steps + queries_steps l.index trial_budgets (queries_over l.index.index (queries_from l.terms (l.queries - l.counter) l.draws)) ≡ l.fn.steps + queries_steps l.index trial_budgets (queries_over l.index.index (queries_from l.terms l.queries l.fn.draws));
+}

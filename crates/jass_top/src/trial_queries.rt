@@ -1,0 +1,159 @@
+ghost use Rattle.std.specs.Prelude.{ℕ, ◌≡◌, ◌+◌, ◌<◌, ◌≤◌, length, IfOk};
+ghost use Rattle.frame_pool.specs.ChainView.{LeavesPool};
+ghost use Rattle.ranking_model.specs.Plan.{granted_with};
+ghost use Rattle.ranking_model.specs.Search.{query_data};
+ghost use Rattle.session_engine.specs.Standing.{IsSessionOf, SessionStands, answer_over};
+ghost use Rattle.session_engine.specs.Standing.{chain_of, granted_of, k_of, query_of, report_of};
+ghost use Rattle.trial_data.specs.Trials.{queries_from};
+ghost use Rattle.jass_words.specs.Words.{texts};
+ghost use Rattle.jass_top.specs.Answers.{words_query};
+ghost use Rattle.jass_top.specs.SearchTexts.{IsReady, Stepped, queries_steps, query_steps};
+ghost use Rattle.jass_top.specs.TrialMeaning.{queries_over, trial_budgets};
+ghost use Rattle.jass_top.specs.TrialSums.{AreSmallSums, IsSmallSum, no_sums, with_answer, with_queries, with_query};
+
+use crate::trial_sums::{BudgetSum, TrialSums};
+use frame_pool::FramePool;
+use frame_pool::laws::calls_on_one_chain;
+use index_file::IndexFile;
+use jass_base::{Budget, NoMemory, Steps};
+use query_reader::name_terms;
+use ranking_model::laws::the_prefix_is_the_longest;
+use session_engine::laws::{
+    a_session_plan_is_small, a_standing_session_has_its_chain, one_entry_more_is_scored,
+};
+use session_engine::{OpenStop, Session};
+use std::alloc::Global;
+use std::sync::ledger::Ledger;
+use trial_data::{Draws, draw_query};
+
+/// The id of each query, and how many hits are asked for.
+const ID: &str = "q";
+
+const HITS: u32 = 10;
+
+/// Draws so many queries of so many terms, answers each in a session of its own, and sums up what
+/// was answered after each grant.
+pub fn try_queries<L: Ledger>(
+    alloc: Global,
+    index: &IndexFile,
+    draws: &mut Draws,
+    terms: u32,
+    queries: u32,
+    steps: &mut Steps<L>,
+) -> Result<TrialSums, NoMemory>
+    requires terms { 0 < terms }
+    requires queries { queries ≤ 10000 }
+    ensures sums { IfOk result (λ sums. sums ≡ with_queries index.now
+        (queries_over index.now.index (queries_from terms queries draws.old)) no_sums) }
+    ensures steps { Stepped steps.old steps.new (queries_steps index.now trial_budgets
+        (queries_over index.now.index (queries_from terms queries draws.old))) result }
+{
+    index.is_checked();
+    let Ok(mut pool) = FramePool::new(alloc, index.docs().div_ceil(256), 1) else {
+        return Err(NoMemory);
+    };
+    let mut sums = TrialSums::new();
+    'queries: for _ in 0..queries {
+        let words = match draw_query(alloc, draws, terms) {
+            Ok(words) => words,
+            Err(refused) => return Err(refused),
+        };
+        match try_query(alloc, words.as_slice(), index, &mut pool, sums, steps) {
+            Ok(more) => sums = more,
+            Err(refused) => return Err(refused),
+        }
+    }
+    Ok(sums)
+}
+
+/// Answers a query of words in a session, which is closed on each exit.
+fn try_query<L: Ledger>(
+    alloc: Global,
+    words: &[String],
+    index: &IndexFile,
+    pool: &mut FramePool,
+    sums: TrialSums,
+    steps: &mut Steps<L>,
+) -> Result<TrialSums, NoMemory>
+    requires few { length words.now ≤ 255 }
+    requires ready { IsReady index.now pool.old }
+    requires small { AreSmallSums 10000 sums }
+    ensures ready { IsReady index.now pool.new }
+    ensures sums { IfOk result (λ more. more
+        ≡ with_query index.now (words_query index.now.index (texts words.now)) sums) }
+    ensures small { (n : ℕ) → AreSmallSums n sums → IfOk result (AreSmallSums (n + 1)) }
+    ensures steps { Stepped steps.old steps.new
+        (query_steps index.now trial_budgets (words_query index.now.index (texts words.now))) result }
+{
+    a_standing_session_has_its_chain();
+    let Ok(query) = name_terms(alloc, ID, words, index) else {
+        return Err(NoMemory);
+    };
+    let mut session = match Session::open(alloc, index, pool, query, HITS) {
+        Ok(session) => session,
+        Err(OpenStop::NoMemory) => return Err(NoMemory),
+        Err(OpenStop::PoolFull { .. }) => unreachable!("the pool has a frame for each page"),
+    };
+    let more = try_grants(&mut session, index, pool, sums, steps);
+    session.close(pool);
+    Ok(more)
+}
+
+/// Grants a session its three budgets, and adds what it answers after each.
+fn try_grants<L: Ledger>(
+    session: &mut Session,
+    index: &IndexFile,
+    pool: &mut FramePool,
+    sums: TrialSums,
+    steps: &mut Steps<L>,
+) -> TrialSums
+    requires stands { SessionStands session.old index.now pool.old }
+    requires none { granted_of session.old ≡ 0 }
+    requires hits { k_of session.old ≡ 10 }
+    requires small { AreSmallSums 10000 sums }
+    ensures stands { SessionStands session.new index.now pool.new }
+    ensures same { IsSessionOf session.old session.new }
+    ensures leaves { LeavesPool pool.old pool.new (chain_of session.old) }
+    ensures sums { result ≡ with_query index.now (query_data (query_of session.old)) sums }
+    ensures small { (n : ℕ) → AreSmallSums n sums → AreSmallSums (n + 1) result }
+    ensures steps { steps.new ≡ steps.old
+        + query_steps index.now trial_budgets (query_data (query_of session.old)) }
+{
+    the_prefix_is_the_longest();
+    calls_on_one_chain();
+    let first = try_grant(session, index, pool, Budget::Postings(1_000), sums.first, steps);
+    let second = try_grant(session, index, pool, Budget::Postings(9_000), sums.second, steps);
+    let last = try_grant(session, index, pool, Budget::All, sums.last, steps);
+    TrialSums {
+        first,
+        second,
+        last,
+    }
+}
+
+/// Grants a session a budget, and adds what it then answers.
+fn try_grant<L: Ledger>(
+    session: &mut Session,
+    index: &IndexFile,
+    pool: &mut FramePool,
+    budget: Budget,
+    sum: BudgetSum,
+    steps: &mut Steps<L>,
+) -> BudgetSum
+    requires stands { SessionStands session.old index.now pool.old }
+    requires hits { k_of session.old ≡ 10 }
+    requires small { IsSmallSum 10000 sum }
+    ensures stands { SessionStands session.new index.now pool.new }
+    ensures granted { granted_of session.new ≡ granted_with (granted_of session.old) budget }
+    ensures same { IsSessionOf session.old session.new }
+    ensures leaves { LeavesPool pool.old pool.new (chain_of session.old) }
+    ensures steps { steps.new + (report_of session.old).postings ≡ steps.old + (report_of session.new).postings }
+    ensures sum { result ≡ with_answer sum (report_of session.new) (answer_over index.now session.new) }
+    ensures small { (n : ℕ) → IsSmallSum n sum → IsSmallSum (n + 1) result }
+{
+    a_session_plan_is_small();
+    one_entry_more_is_scored();
+    index.is_checked();
+    let report = session.grant(index, pool, budget, steps);
+    sum.with(report, session.answer())
+}

@@ -1,0 +1,4 @@
+pub mod Drawing
+pub mod Lengths
+pub mod Listing
+pub mod Naming

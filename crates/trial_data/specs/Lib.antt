@@ -1,0 +1,4 @@
+pub mod Examples
+pub mod Gathering
+pub mod Generator
+pub mod Trials
