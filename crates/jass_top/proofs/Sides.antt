@@ -111,6 +111,28 @@ module _ {S E : Type 0} {written : S → Option (List ℕ)} {faults : S → ℕ}
         rest_stays = done.rest_stays;
       }
 
+-- a gathered text that is sent at once
+module _ {S : Type 0} {written : S → Option (List ℕ)} {faults : S → ℕ} {rest : S → Rest} where
+  pub sent : {T U V E F : Type 0} {old mid new : S} {before between after text : List ℕ} {u : U} {v : V} {t : T} → Gathers {E = E} written faults rest old mid before between text (Ok u) → Wrote {E = F} written faults rest mid new between (Ok v) → after ≡ []
+      → Gathers {E = E} written faults rest old new before after text (Ok t)
+  sent {old = old} {mid} {new} {between = between} {text} done last none = record {
+    bytes = (
+      done.bytes.0 ++ between,
+      Appends-then (written old) (written mid) (written new) done.bytes.0 between done.bytes.1 last.bytes,
+      ap (λ (xs : List ℕ). (done.bytes.0 ++ between) ++ xs) none ∙ append-nil (done.bytes.0 ++ between) ∙ done.bytes.2,
+    );
+    cause = record { later = omega (arith, done.cause.later, last.cause.later); failed = tt };
+    rest_stays = last.rest_stays ∙ done.rest_stays;
+  }
+
+  pub unsent : {T U V E F : Type 0} {old mid new : S} {before between after text : List ℕ} {u : U} {f : F} {e : E} → Gathers {E = E} written faults rest old mid before between text (Ok u) → Wrote {T = V} written faults rest mid new between (Err f)
+      → Gathers {T = T} written faults rest old new before after text (Err e)
+  unsent {old = old} {mid} {new} {before} {between} {text = text} done last = record {
+    bytes = prefix_same (written old) (written new) (done.bytes.0 ++ between) (before ++ text) done.bytes.2 (AppendsPrefix-then (written old) (written mid) (written new) done.bytes.0 between done.bytes.1 last.bytes);
+    cause = record { later = omega (arith, done.cause.later, last.cause.later); failed = Rose-earlier (faults old) (faults mid) (faults new) done.cause.later last.cause.failed };
+    rest_stays = last.rest_stays ∙ done.rest_stays;
+  }
+
 -- a text was gathered as far as what is left of it
 abbrev pub SideUpTo : {S E : Type 0} → (S → Option (List ℕ)) → (S → ℕ) → (S → Rest) → E → S → S → List ℕ → List ℕ → List ℕ → List ℕ → Type 0
 SideUpTo written faults rest mine old now before after whole left = (first : List ℕ) × Side {T = Unit {0}} written faults rest mine old now before after first (Ok tt) × (whole ≡ first ++ left)

@@ -45,9 +45,7 @@ pub fn run_search<'a, C: Cabinet, O: Sink, L: Ledger>(
 {
     a_search_leaves_its_output();
     let (file, asked) = open_search(alloc, index, queries, mode, files)?;
-    match write_search(
-        alloc, asked, k, budgets, tag, &file, steps, files, run, out,
-    ) {
+    match write_search(alloc, asked, k, budgets, tag, &file, steps, files, run, out) {
         Ok(()) => Ok(()),
         Err(SearchStop::NoMemory) => Err(Stop::NoMemory),
         Err(SearchStop::Unwritten(SearchOutput::Run)) => Err(Stop::WriteFault { name: run }),

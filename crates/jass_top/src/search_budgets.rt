@@ -4,6 +4,7 @@ ghost use Rattle.ranking_model.specs.Plan.{granted_with};
 ghost use Rattle.ranking_model.specs.Report.{report_line, run_lines, tag_of};
 ghost use Rattle.ranking_model.specs.Search.{query_data};
 ghost use Rattle.frame_pool.specs.ChainView.{LeavesPool};
+ghost use Rattle.trec_run.specs.Gathering.{Gathers};
 ghost use Rattle.session_engine.specs.Standing.{IsSessionOf, SessionStands};
 ghost use Rattle.session_engine.specs.Standing.{chain_of, granted_of, k_of, query_of, report_of};
 ghost use Rattle.jass_top.specs.declared.search_stop.SearchOutput.{SearchOutput};
@@ -15,7 +16,7 @@ use crate::search_stop::SearchOutput;
 use frame_pool::FramePool;
 use frame_pool::laws::calls_on_one_chain;
 use index_file::IndexFile;
-use jass_base::{Budget, Hit, Report, Sink, Steps};
+use jass_base::{Budget, Hit, Report, Sink, Steps, WriteFault};
 use ranking_model::laws::{the_prefix_is_the_longest, the_ranking_has_documents_of_the_scores};
 use ranking_model::prefix_laws::{
     a_prefix_is_resumed, each_budget_has_its_prefix, one_budget_more_is_granted,
@@ -23,7 +24,10 @@ use ranking_model::prefix_laws::{
 use session_engine::Session;
 use session_engine::laws::{a_session_plan_names_its_segments, a_standing_session_has_its_chain};
 use std::sync::ledger::Ledger;
-use trec_run::{Buffer, gather_answer, gather_report};
+use trec_run::{Buffer, flush, gather_answer, gather_report};
+
+/// The most bytes of a report line without its id.
+const REPORT_BYTES: usize = 160;
 
 /// Gathers the run lines and the report lines of one session, budget by budget.
 pub fn gather_budgets<R: Sink, O: Sink, L: Ledger>(
@@ -140,12 +144,42 @@ fn gather_turn<R: Sink, O: Sink>(
     ensures out { Side O.written O.faults O.rest SearchOutput.Reports out.old out.new out_buffer.old out_buffer.new
         (report_line id.now report unknown) result }
 {
-    match gather_answer(run, run_buffer, id, index, hits, tag, part) {
+    let room = out_buffer.room();
+    match gather_hits(id, hits, part, tag, index, run, run_buffer, room) {
         Ok(()) => {}
         Err(_) => return Err(SearchOutput::Run),
     }
     match gather_report(out, out_buffer, id, unknown, report) {
         Ok(()) => Ok(()),
         Err(_) => Err(SearchOutput::Reports),
+    }
+}
+
+/// Gathers an answer. Where a report may find too little room and so send those before it, the run
+/// goes first, so that no report is out before the run lines of its query.
+fn gather_hits<R: Sink>(
+    id: &str,
+    hits: &[Hit],
+    part: u32,
+    tag: &str,
+    index: &IndexFile,
+    run: &mut R,
+    run_buffer: &mut Buffer,
+    room: usize,
+) -> Result<(), WriteFault>
+    requires { All (λ (hit : Hit). hit.doc < length index.now.index.names) hits.now }
+    ensures { Gathers R.written R.faults R.rest run.old run.new run_buffer.old run_buffer.new
+        (run_lines index.now.index.names id.now (tag_of tag.now part) 1 hits.now) result }
+{
+    match gather_answer(run, run_buffer, id, index, hits, tag, part) {
+        Ok(()) => {}
+        Err(fault) => return Err(fault),
+    }
+    if room >= id.len() + REPORT_BYTES {
+        return Ok(());
+    }
+    match flush(run, run_buffer) {
+        Ok(()) => Ok(()),
+        Err(fault) => Err(fault),
     }
 }

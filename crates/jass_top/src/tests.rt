@@ -5,6 +5,8 @@ ghost use Rattle.std.specs.Prelude.{◌≡◌, ◌<◌};
 
 mod indexing;
 mod rewriting;
+mod search_ends;
+mod searching;
 
 use crate::run;
 use jass_base::{MemCabinet, MemSink, Row, SliceFeed, Steps};
@@ -270,7 +272,7 @@ fn other_ends_are_noted(rt: HostRuntime) {
     same_document[37] = 0;
     let mut bad_wire = ONE_TERM;
     bad_wire[26] = 0x13;
-    let table: [(&[u8], &str, &[u64], &[u64], u8, &[u8]); 18] = [
+    let table: [(&[u8], &str, &[u64], &[u64], u8, &[u8]); 19] = [
         (
             &[],
             "once b.ciff 3 all a",
@@ -313,6 +315,7 @@ fn other_ends_are_noted(rt: HostRuntime) {
         ),
         (&ONE_TERM, "once b.ciff 0 all a", &[], &[], 2, b"word 3\n"),
         (&ONE_TERM, "search i q", &[], &[], 2, b"word 4\n"),
+        (&ONE_TERM, "search i q i", &[], &[], 2, b"word 4\n"),
         (&ONE_TERM, "", &[], &[], 2, b"word 1\n"),
         (&ONE_TERM, "once b.ciff 3 all", &[], &[], 2, b"word 5\n"),
         (&ONE_TERM, "rewrite b.ciff b.ciff", &[], &[], 2, b"word 3\n"),

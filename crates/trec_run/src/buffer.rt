@@ -32,7 +32,8 @@ impl Buffer {
         }
     }
 
-    pub(crate) fn room(&self) -> usize
+    /// How many bytes there is room for.
+    pub fn room(&self) -> usize
         ensures { result + length self.now ≡ 65536 }
     {
         ROOM - self.len

@@ -16,9 +16,11 @@ use Rattle.jass_top.proofs.JudgedQueries.{plain_queries, shown_queries, unread_q
 use Rattle.jass_top.proofs.queries_input.open_queries.Goals as goal
 
 pub returns-in-Err-ReadFault-clause-unread : goal.returns-in-Err-ReadFault-clause-unread
-returns-in-Err-ReadFault-clause-unread g c =
-    (inl refl, unread_queries (g.C.Cabinet.told c.args.files.now) c.args.name.now c.args.mode (texts_of c.args.index.now.index.terms) (g.C.Cabinet.read_faults c.args.files.now) (g.C.Cabinet.read_faults c.read_front.new.files)
-    (c.in-Err-ReadFault.ensures.fault (ap Err c.in-Err-ReadFault.field-0-is)))
+returns-in-Err-ReadFault-clause-unread g c = (
+  inl refl,
+  unread_queries (g.C.Cabinet.told c.args.files.now) c.args.name.now c.args.mode (texts_of c.args.index.now.index.terms) (g.C.Cabinet.read_faults c.args.files.now) (g.C.Cabinet.read_faults c.read_front.new.files)
+      (c.in-Err-ReadFault.ensures.fault (ap Err c.in-Err-ReadFault.field-0-is)),
+)
 
 pub returns-in-Ok-read_queries-clause-accepted : goal.returns-in-Ok-read_queries-clause-accepted
 returns-in-Ok-read_queries-clause-accepted g c =

@@ -28,15 +28,21 @@ returns-in-Ok g c =
 
 pub returns-in-Err-NoMemory : goal.returns-in-Err-NoMemory
 returns-in-Err-NoMemory g c =
-    inr (inr (refl, part_left c.a_search_leaves_its_output.ensures c.args.index.now c.args.queries.now c.args.run.now (record { k = c.args.k; budgets = c.args.budgets.now; tag = c.args.tag.now }) c.args.mode
-    c.in_ok-file.file (asked_of c.in_ok-file.asked) (g.C.Cabinet.told c.open_search.new.files)
-    (outer g.C.Cabinet g.O.Sink c.args.files.now c.args.out.now c.args.steps.now) (outer g.C.Cabinet g.O.Sink c.write_search.new.files c.write_search.new.out c.write_search.new.steps)
-    c.in_ok-file.ensures.view c.in_ok-file.ensures.stays c.in_ok-file.ensures.accepted c.in-Err-NoMemory.ensures.run.content c.in-Err-NoMemory.ensures.out.bytes c.in-Err-NoMemory.ensures.steps))
+    inr (inr (
+      refl,
+      part_left c.a_search_leaves_its_output.ensures c.args.index.now c.args.queries.now c.args.run.now (record { k = c.args.k; budgets = c.args.budgets.now; tag = c.args.tag.now }) c.args.mode
+          c.in_ok-file.file (asked_of c.in_ok-file.asked) (g.C.Cabinet.told c.open_search.new.files)
+          (outer g.C.Cabinet g.O.Sink c.args.files.now c.args.out.now c.args.steps.now) (outer g.C.Cabinet g.O.Sink c.write_search.new.files c.write_search.new.out c.write_search.new.steps)
+          c.in_ok-file.ensures.view c.in_ok-file.ensures.stays c.in_ok-file.ensures.accepted c.in-Err-NoMemory.ensures.run.content c.in-Err-NoMemory.ensures.out.bytes c.in-Err-NoMemory.ensures.steps,
+    ))
 
 pub returns-in-Err-Unwritten-Run : goal.returns-in-Err-Unwritten-Run
 returns-in-Err-Unwritten-Run g c = (
-  inr (refl, Rose-earlier (g.C.Cabinet.write_faults c.args.files.now) (g.C.Cabinet.write_faults c.open_search.new.files) (g.C.Cabinet.write_faults c.write_search.new.files) c.in_ok-file.ensures.others
-      (c.in-Err-Unwritten-Run.ensures.run.failed (c.in-Err-Unwritten-Run.field-0-is ∙ ap Unwritten c.in-Err-Unwritten-Run.field-0-0-is))),
+  inr (
+    refl,
+    Rose-earlier (g.C.Cabinet.write_faults c.args.files.now) (g.C.Cabinet.write_faults c.open_search.new.files) (g.C.Cabinet.write_faults c.write_search.new.files) c.in_ok-file.ensures.others
+        (c.in-Err-Unwritten-Run.ensures.run.failed (c.in-Err-Unwritten-Run.field-0-is ∙ ap Unwritten c.in-Err-Unwritten-Run.field-0-0-is)),
+  ),
   part_left c.a_search_leaves_its_output.ensures c.args.index.now c.args.queries.now c.args.run.now (record { k = c.args.k; budgets = c.args.budgets.now; tag = c.args.tag.now }) c.args.mode
       c.in_ok-file.file (asked_of c.in_ok-file.asked) (g.C.Cabinet.told c.open_search.new.files)
       (outer g.C.Cabinet g.O.Sink c.args.files.now c.args.out.now c.args.steps.now) (outer g.C.Cabinet g.O.Sink c.write_search.new.files c.write_search.new.out c.write_search.new.steps)
@@ -51,4 +57,3 @@ returns g c = (
       (outer g.C.Cabinet g.O.Sink c.args.files.now c.args.out.now c.args.steps.now) (outer g.C.Cabinet g.O.Sink c.write_search.new.files c.write_search.new.out c.write_search.new.steps)
       c.in_ok-file.ensures.view c.in_ok-file.ensures.stays c.in_ok-file.ensures.accepted c.in-Err-Unwritten-Reports.ensures.run.content c.in-Err-Unwritten-Reports.ensures.out.bytes c.in-Err-Unwritten-Reports.ensures.steps,
 )
-
