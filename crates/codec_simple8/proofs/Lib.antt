@@ -1,5 +1,7 @@
 pub mod Digits
 pub mod GapLists
+pub mod HandedWords
+pub mod Judged
 pub mod Selectors
 pub mod Tables
 pub mod Words

@@ -82,11 +82,11 @@ pub record Walk (whole : Read) (d : ℕ) (bytes : List ℕ) (at left least : ℕ
   pub low : least ≤ d
   pub whole_is : whole ≡ (read_words n d least left (drop at bytes) >>= with_front front)
 
-same_front : (r : Read) → r ≡ (r >>= with_front [])
+pub same_front : (r : Read) → r ≡ (r >>= with_front [])
 same_front (Ok gaps) = refl
 same_front (Err fault) = refl
 
-pub walk_start : (d count : ℕ) (bytes : List ℕ) → Walk (read_words count d 0 count bytes) d bytes 0 count 0
+unfoldable pub walk_start : (d count : ℕ) (bytes : List ℕ) → Walk (read_words count d 0 count bytes) d bytes 0 count 0
 walk_start d count bytes = record { n = count; front = []; enough = omega arith; within = omega arith; low = omega arith; whole_is = same_front (read_words count d 0 count bytes) }
 
 pub walk_fault : (whole : Read) (d : ℕ) (bytes : List ℕ) (at left least : ℕ) (fault : PayloadFault) → Walk whole d bytes at left least → 0 < left → read_word d least left (drop at bytes) ≡ Err fault → whole ≡ Err fault
@@ -94,11 +94,11 @@ walk_fault whole d bytes at left least fault w some is =
     let n : w.n ≡ suc (w.n - 1) = omega (arith, w.enough, some) in
     w.whole_is ∙ ap (λ r. r >>= with_front w.front) (read_one w.n (w.n - 1) d least left (drop at bytes) n some ∙ ap (λ r. r >>= behind_first (w.n - 1) d least left (drop at bytes)) is)
 
-join_front : (front own : List ℕ) (r : Read) → (r >>= with_front own >>= with_front front) ≡ (r >>= with_front (front ++ own))
+pub join_front : (front own : List ℕ) (r : Read) → (r >>= with_front own >>= with_front front) ≡ (r >>= with_front (front ++ own))
 join_front front own (Ok gaps) = ap (λ (xs : List ℕ). Ok xs) (sym (append_assoc front own gaps))
 join_front front own (Err fault) = refl
 
-pub walk_one : (whole : Read) (d : ℕ) (bytes : List ℕ) (at left least : ℕ) (own : List ℕ) → Walk whole d bytes at left least → 0 < left → 8 ≤ length (drop at bytes) → 0 < length own → least_behind least own ≤ d
+unfoldable pub walk_one : (whole : Read) (d : ℕ) (bytes : List ℕ) (at left least : ℕ) (own : List ℕ) → Walk whole d bytes at left least → 0 < left → 8 ≤ length (drop at bytes) → 0 < length own → least_behind least own ≤ d
     → read_word d least left (drop at bytes) ≡ Ok own → Walk whole d bytes (at + 8) (left - length own) (least_behind least own)
 walk_one whole d bytes at left least own w some long many low is =
     let n : w.n ≡ suc (w.n - 1) = omega (arith, w.enough, some) in
@@ -129,6 +129,15 @@ unfolding gaps_in
 word_behind least word sum_is is =
     let total : sum (gaps_in word) ≡ sum_is = sym is in
     omega (arith, total, length-gaps_in word)
+
+-- where a word has no more gaps than are left
+pub few_gaps : (left : ℕ) (bytes : List ℕ) (word gaps : ℕ) → word ≡ word_in bytes → gaps ≡ count_of (word % 16) → gaps ≤ left → count_of (word_in bytes % 16) ≤ left
+few_gaps left bytes word gaps is many few = subst (λ word. count_of (word % 16) ≤ left) is (omega (arith, many, few))
+
+-- the least document behind a word
+pub least_after : (least : ℕ) (bytes : List ℕ) (word total gaps : ℕ) → word ≡ word_in bytes → total ≡ sum (fields (width_of (word % 16)) (count_of (word % 16)) (word / 16)) → gaps ≡ count_of (word % 16)
+    → least + (total + gaps) ≡ least_behind least (gaps_in (word_in bytes))
+least_after least bytes word total gaps is sum_is many = ap (λ n. least + (total + n)) many ∙ word_behind least word total sum_is ∙ ap (λ word. least_behind least (gaps_in word)) is
 
 -- ---- what was read
 

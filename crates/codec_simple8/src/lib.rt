@@ -6,6 +6,7 @@
 mod checking;
 mod cursor;
 mod encoding;
+mod handing;
 pub mod laws;
 mod spelling;
 mod sums;
@@ -17,3 +18,4 @@ mod word;
 pub use checking::check;
 pub use cursor::Cursor;
 pub use encoding::{encode, length};
+pub use handing::check_into;

@@ -1,5 +1,5 @@
 // The documents of a word.
-ghost use Rattle.std.specs.Prelude.{◌≡◌, ◌+◌, ◌<◌, ◌≤◌, ◌^◌, ◌++◌, All, take};
+ghost use Rattle.std.specs.Prelude.{◌≡◌, ◌+◌, ◌<◌, ◌≤◌, ◌^◌, ◌++◌, All, length, take};
 ghost use Rattle.jass_base.specs.Gaps.{docs_from};
 ghost use Rattle.codec_simple8.specs.Simple8.{count_of, fields, least_behind, width_of};
 
@@ -11,21 +11,23 @@ pub(crate) fn put_gaps(
     values: u64,
     selector: usize,
     least: u32,
-    out: &mut [u32; 128],
+    out: &mut [u32],
     filled: usize,
 ) -> u32
-    requires from { 2 ≤ selector }
     requires to { selector < 16 }
-    requires room { filled ≤ 68 }
+    requires room { filled + count_of selector ≤ length out.old }
     requires least { least ≤ 2 ^ 26 }
     requires below { All (λ doc. doc < 2 ^ 26)
         (docs_from least (fields (width_of selector) (count_of selector) values)) }
     ensures docs { take (filled + count_of selector) out.new
         ≡ take filled out.old ++ docs_from least (fields (width_of selector) (count_of selector) values) }
     ensures next { result ≡ least_behind least (fields (width_of selector) (count_of selector) values) }
+    ensures length { length out.new ≡ length out.old }
 {
     // Each selector is compiled on its own, so that its count and its shifts are constants.
     match selector {
+        0 => put_values(values, 240, 0, least, out, filled),
+        1 => put_values(values, 120, 0, least, out, filled),
         2 => put_values(values, 60, 1, least, out, filled),
         3 => put_values(values, 30, 2, least, out, filled),
         4 => put_values(values, 20, 3, least, out, filled),
@@ -50,15 +52,16 @@ fn put_values(
     count: usize,
     width: u32,
     least: u32,
-    out: &mut [u32; 128],
+    out: &mut [u32],
     filled: usize,
 ) -> u32
     requires width { width < 64 }
-    requires room { filled + count ≤ 128 }
+    requires room { filled + count ≤ length out.old }
     requires least { least ≤ 2 ^ 26 }
     requires below { All (λ doc. doc < 2 ^ 26) (docs_from least (fields width count values)) }
     ensures docs { take (filled + count) out.new ≡ take filled out.old ++ docs_from least (fields width count values) }
     ensures next { result ≡ least_behind least (fields width count values) }
+    ensures length { length out.new ≡ length out.old }
 {
     let mask = (1u64 << width) - 1;
     let mut rest = values;

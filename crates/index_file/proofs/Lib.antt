@@ -1,11 +1,14 @@
 mod Contents
 mod Halves
+mod Leading
 mod MarkLists
 mod NextTerms
 mod OnePayload
 mod OneVarint
+mod PlainTexts
 mod Reading
 mod RowLists
+mod Sampling
 mod SegmentLists
 mod Sequences
 mod Standing

@@ -70,14 +70,14 @@ ends_told bytes terms end v is =
 abbrev pub view_with : List ℕ → ℕ → List ℕ → List ℕ → List TermRow → List Segment → FileView
 view_with bytes d places text rows segments = record {
   index = record { names = map (name_in bytes) places; terms = row_terms bytes d text segments rows };
-  codecs = head_codecs (row_heads text segments rows);
+  codecs = head_codecs (row_heads bytes text segments rows);
 }
 
 module _ (bytes : List ℕ) (d : ℕ) (places text : List ℕ) (rows : List TermRow) (segments : List Segment) where
   pub stands_there : length places ≡ d → read_index bytes ≡ Ok (view_with bytes d places text rows segments)
       → bytes ≡ file_bytes (view_with bytes d places text rows segments) → IsFileView (view_with bytes d places text rows segments)
       → All (IsNamePlace bytes) places → AreRows text segments rows → All (IsPayload bytes d) segments → 40 ≤ length bytes
-      → u64_in bytes 24 ≡ head_postings (row_heads text segments rows) → u32_in bytes 32 ≡ greatest_impact (row_heads text segments rows)
+      → u64_in bytes 24 ≡ head_postings (row_heads bytes text segments rows) → u32_in bytes 32 ≡ greatest_impact (row_heads bytes text segments rows)
       → Stands bytes places text rows segments (view_of bytes)
   stands_there count read spelled view within are payloads front postings greatest =
       let v = view_with bytes d places text rows segments in
@@ -90,7 +90,7 @@ module _ (bytes : List ℕ) (d : ℕ) (places text : List ℕ) (rows : List Term
         terms = ap (λ n. row_terms bytes n text segments rows) all;
         count = terms_count bytes d text segments rows are;
         placed = are;
-        codecs = codecs_are text segments rows are;
+        codecs = codecs_are bytes text segments rows are;
         payloads = subst (λ n. All (IsPayload bytes n) segments) all payloads;
         front = front;
         postings = postings ∙ postings_are bytes d text segments rows payloads;
@@ -102,20 +102,20 @@ pub bytes_fit : (bytes : List ℕ) → ((i : ℕ) → get_or bytes i 0 < 256) �
 bytes_fit bytes fits = All-from_get_or (λ byte. byte < 256) bytes 0 (λ i inside. fits i)
 
 -- what stands before the last checks
-module _ (bytes : List ℕ) (docs terms : ℕ) (places text : List ℕ) (rows : List TermRow) (heads segments : List Segment) (behind_names behind_terms end : ℕ) (same : map row_head segments ≡ map row_head heads) where
+module _ (bytes : List ℕ) (docs terms : ℕ) (places text : List ℕ) (rows : List TermRow) (heads segments : List Segment) (behind_names behind_terms end : ℕ) (same : map (row_head bytes) segments ≡ map (row_head bytes) heads) where
   abbrev pub front_is : Front
   front_is = record { docs = docs; terms = terms }
 
   pub up_to_ends : read_front bytes ≡ Ok front_is
       → read_names bytes docs 40 ≡ Ok (record { names = map (name_in bytes) places; end = behind_names })
-      → read_terms bytes docs terms None behind_names ≡ Ok (record { terms = row_heads text heads rows; end = behind_terms })
-      → read_payloads bytes docs (row_heads text heads rows) behind_terms ≡ Ok (record { terms = row_terms bytes docs text segments rows; end = end })
-      → read_index bytes ≡ judged (end_checks bytes (row_heads text segments rows) end) (view_with bytes docs places text rows segments)
+      → read_terms bytes docs terms None behind_names ≡ Ok (record { terms = row_heads bytes text heads rows; end = behind_terms })
+      → read_payloads bytes docs (row_heads bytes text heads rows) behind_terms ≡ Ok (record { terms = row_terms bytes docs text segments rows; end = end })
+      → read_index bytes ≡ judged (end_checks bytes (row_heads bytes text segments rows) end) (view_with bytes docs places text rows segments)
   up_to_ends front names here payloads =
       let x : NamesRead = record { names = map (name_in bytes) places; end = behind_names } in
-      let y : TermsRead = record { terms = row_heads text segments rows; end = behind_terms } in
+      let y : TermsRead = record { terms = row_heads bytes text segments rows; end = behind_terms } in
       let z : IndexRead = record { terms = row_terms bytes docs text segments rows; end = end } in
-      let stay = heads_stay text heads segments same rows in
+      let stay = heads_stay bytes text heads segments same rows in
       front_there bytes front_is front ∙ names_there bytes front_is x names
       ∙ terms_there bytes front_is x y (here ∙ ap (λ terms. (let r : Result TermsRead OpenRefusal = Ok (record { terms = terms; end = behind_terms }) in r)) (sym stay))
       ∙ payloads_there bytes front_is x.names y z (ap (λ terms. read_payloads bytes docs terms behind_terms) stay ∙ payloads)

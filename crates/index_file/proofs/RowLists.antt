@@ -67,30 +67,30 @@ some_row text segments [] are = absurd are
 some_row text segments (a ∷ rows) are = omega arith
 
 -- parts of segments with the same heads
-part_heads : (segments : List Segment) (from to : ℕ) → map row_head (slice_range segments from to) ≡ slice_range (map row_head segments) from to
-part_heads segments from to = sym (ap (take (to - from)) (drop-map row_head from segments) ∙ take-map row_head (to - from) (drop from segments))
+part_heads : (bytes : List ℕ) (segments : List Segment) (from to : ℕ) → map (row_head bytes) (slice_range segments from to) ≡ slice_range (map (row_head bytes) segments) from to
+part_heads bytes segments from to = sym (ap (take (to - from)) (drop-map (row_head bytes) from segments) ∙ take-map (row_head bytes) (to - from) (drop from segments))
 
-same_heads : (one two : List Segment) (from to : ℕ) → map row_head one ≡ map row_head two → map row_head (slice_range one from to) ≡ map row_head (slice_range two from to)
-same_heads one two from to same = part_heads one from to ∙ ap (λ (heads : List HeadData). slice_range heads from to) same ∙ sym (part_heads two from to)
+same_heads : (bytes : List ℕ) (one two : List Segment) (from to : ℕ) → map (row_head bytes) one ≡ map (row_head bytes) two → map (row_head bytes) (slice_range one from to) ≡ map (row_head bytes) (slice_range two from to)
+same_heads bytes one two from to same = part_heads bytes one from to ∙ ap (λ (heads : List HeadData). slice_range heads from to) same ∙ sym (part_heads bytes two from to)
 
-heads_stay : (text : List ℕ) (one two : List Segment) (rows : List TermRow) → map row_head one ≡ map row_head two → row_heads text one rows ≡ row_heads text two rows
-heads_stay text one two [] same = refl
-heads_stay text one two (a ∷ []) same = refl
-heads_stay text one two (a ∷ b ∷ rows) same = rw (same_heads one two a.segment b.segment same, heads_stay text one two (b ∷ rows) same) refl
+heads_stay : (bytes : List ℕ) (text : List ℕ) (one two : List Segment) (rows : List TermRow) → map (row_head bytes) one ≡ map (row_head bytes) two → row_heads bytes text one rows ≡ row_heads bytes text two rows
+heads_stay bytes text one two [] same = refl
+heads_stay bytes text one two (a ∷ []) same = refl
+heads_stay bytes text one two (a ∷ b ∷ rows) same = rw (same_heads bytes one two a.segment b.segment same, heads_stay bytes text one two (b ∷ rows) same) refl
 
-pub part_counted : (d : ℕ) (segments : List Segment) (from to : ℕ) → All (IsCounted d) (map row_head segments) → All (IsCounted d) (map row_head (slice_range segments from to))
-part_counted d segments from to counted =
-    subst (All (IsCounted d)) (sym (part_heads segments from to))
-    (All-take (IsCounted d) (to - from) (drop from (map row_head segments)) (All-drop (IsCounted d) from (map row_head segments) counted))
+pub part_counted : (bytes : List ℕ) (d : ℕ) (segments : List Segment) (from to : ℕ) → All (IsCounted d) (map (row_head bytes) segments) → All (IsCounted d) (map (row_head bytes) (slice_range segments from to))
+part_counted bytes d segments from to counted =
+    subst (All (IsCounted d)) (sym (part_heads bytes segments from to))
+    (All-take (IsCounted d) (to - from) (drop from (map (row_head bytes) segments)) (All-drop (IsCounted d) from (map (row_head bytes) segments) counted))
 
 -- the heads when a part was changed, but no head of it
-pub mid_heads : (from many : ℕ) (segments part : List Segment) → map row_head part ≡ map row_head (take many (drop from segments)) → map row_head (take from segments ++ (part ++ drop many (drop from segments))) ≡ map row_head segments
-mid_heads from many segments part same =
+pub mid_heads : (bytes : List ℕ) (from many : ℕ) (segments part : List Segment) → map (row_head bytes) part ≡ map (row_head bytes) (take many (drop from segments)) → map (row_head bytes) (take from segments ++ (part ++ drop many (drop from segments))) ≡ map (row_head bytes) segments
+mid_heads bytes from many segments part same =
     let rest = drop from segments in
-    map-append row_head (take from segments) (part ++ drop many rest)
-    ∙ ap (λ heads. map row_head (take from segments) ++ heads) (map-append row_head part (drop many rest) ∙ ap (λ heads. heads ++ map row_head (drop many rest)) same ∙ sym (map-append row_head (take many rest) (drop many rest)) ∙ ap (map row_head) (take-append-drop many rest))
-    ∙ sym (map-append row_head (take from segments) rest)
-    ∙ ap (map row_head) (take-append-drop from segments)
+    map-append (row_head bytes) (take from segments) (part ++ drop many rest)
+    ∙ ap (λ heads. map (row_head bytes) (take from segments) ++ heads) (map-append (row_head bytes) part (drop many rest) ∙ ap (λ heads. heads ++ map (row_head bytes) (drop many rest)) same ∙ sym (map-append (row_head bytes) (take many rest) (drop many rest)) ∙ ap (map (row_head bytes)) (take-append-drop many rest))
+    ∙ sym (map-append (row_head bytes) (take from segments) rest)
+    ∙ ap (map (row_head bytes)) (take-append-drop from segments)
 
 -- parts before a place where nothing was changed
 part_stays : (one two : List Segment) (place from to : ℕ) → take place one ≡ take place two → from ≤ place → to ≤ place → slice_range one from to ≡ slice_range two from to
@@ -122,21 +122,21 @@ behind_index front t (Ok x) = ap (λ (terms : List TermData). (let r : Result In
 behind_index front t (Err e) = refl
 
 index_on : (bytes : List ℕ) (d : ℕ) (text : List ℕ) (segments : List Segment) (total : Result IndexRead OpenRefusal) (front : List TermData) (x y : TermRow) (rows : List TermRow) (at : ℕ) (here : SegmentsRead)
-    → total ≡ with_index front (read_payloads bytes d (row_heads text segments (x ∷ y ∷ rows)) at) → read_segments bytes d [] (map row_head (slice_range segments x.segment y.segment)) at ≡ Ok here
-    → total ≡ with_index (front ++ record { term = slice_range text x.text y.text; segments = here.segments } ∷ []) (read_payloads bytes d (row_heads text segments (y ∷ rows)) here.end)
+    → total ≡ with_index front (read_payloads bytes d (row_heads bytes text segments (x ∷ y ∷ rows)) at) → read_segments bytes d [] (map (row_head bytes) (slice_range segments x.segment y.segment)) at ≡ Ok here
+    → total ≡ with_index (front ++ record { term = slice_range text x.text y.text; segments = here.segments } ∷ []) (read_payloads bytes d (row_heads bytes text segments (y ∷ rows)) here.end)
 index_on bytes d text segments total front x y rows at here is read =
     is
-    ∙ ap (λ (r : Result SegmentsRead OpenRefusal). with_index front (r >>= λ here. (read_payloads bytes d (row_heads text segments (y ∷ rows)) here.end >>= λ later.
+    ∙ ap (λ (r : Result SegmentsRead OpenRefusal). with_index front (r >>= λ here. (read_payloads bytes d (row_heads bytes text segments (y ∷ rows)) here.end >>= λ later.
     Ok (record { terms = record { term = slice_range text x.text y.text; segments = here.segments } ∷ later.terms; end = later.end })))) read
-    ∙ behind_index front (record { term = slice_range text x.text y.text; segments = here.segments }) (read_payloads bytes d (row_heads text segments (y ∷ rows)) here.end)
+    ∙ behind_index front (record { term = slice_range text x.text y.text; segments = here.segments }) (read_payloads bytes d (row_heads bytes text segments (y ∷ rows)) here.end)
 
 -- one term more
-module _ (bytes : List ℕ) (d : ℕ) (rows : List TermRow) (i : ℕ) (old new : List Segment) (inside : i + 1 < length rows) (heads : map row_head new ≡ map row_head old) (front : take (row_of rows i).segment new ≡ take (row_of rows i).segment old)
+module _ (bytes : List ℕ) (d : ℕ) (rows : List TermRow) (i : ℕ) (old new : List Segment) (inside : i + 1 < length rows) (heads : map (row_head bytes) new ≡ map (row_head bytes) old) (front : take (row_of rows i).segment new ≡ take (row_of rows i).segment old)
     (below : All (EndsBy (row_of rows i).segment) (take (i + 1) rows)) where
   pub index_next : (text : List ℕ) (total : Result IndexRead OpenRefusal) (at end : ℕ)
-      → total ≡ with_index (row_terms bytes d text old (take (i + 1) rows)) (read_payloads bytes d (row_heads text old (drop i rows)) at)
-      → read_segments bytes d [] (map row_head (slice_range old (row_of rows i).segment (row_of rows (i + 1)).segment)) at ≡ Ok (record { segments = map (row_segment bytes d) (slice_range new (row_of rows i).segment (row_of rows (i + 1)).segment); end = end })
-      → total ≡ with_index (row_terms bytes d text new (take (i + 1 + 1) rows)) (read_payloads bytes d (row_heads text new (drop (i + 1) rows)) end)
+      → total ≡ with_index (row_terms bytes d text old (take (i + 1) rows)) (read_payloads bytes d (row_heads bytes text old (drop i rows)) at)
+      → read_segments bytes d [] (map (row_head bytes) (slice_range old (row_of rows i).segment (row_of rows (i + 1)).segment)) at ≡ Ok (record { segments = map (row_segment bytes d) (slice_range new (row_of rows i).segment (row_of rows (i + 1)).segment); end = end })
+      → total ≡ with_index (row_terms bytes d text new (take (i + 1 + 1) rows)) (read_payloads bytes d (row_heads bytes text new (drop (i + 1) rows)) end)
   index_next text total at end is read =
       let x = row_of rows i in
       let y = row_of rows (i + 1) in
@@ -146,13 +146,13 @@ module _ (bytes : List ℕ) (d : ℕ) (rows : List TermRow) (i : ℕ) (old new :
       let done : take (i + 1) rows ≡ take i rows ++ x ∷ [] = take_more rows i none (omega (arith, inside)) in
       let more : take (i + 1 + 1) rows ≡ take i rows ++ x ∷ y ∷ [] = take_more rows (i + 1) none inside ∙ ap (λ some. some ++ y ∷ []) done ∙ append_assoc (take i rows) (x ∷ []) (y ∷ []) in
       let read_on = index_on bytes d text old total (row_terms bytes d text old (take (i + 1) rows)) x y rest at (record { segments = map (row_segment bytes d) (slice_range new x.segment y.segment); end = end })
-      (is ∙ ap (λ some. with_index (row_terms bytes d text old (take (i + 1) rows)) (read_payloads bytes d (row_heads text old some) at)) left) read in
+      (is ∙ ap (λ some. with_index (row_terms bytes d text old (take (i + 1) rows)) (read_payloads bytes d (row_heads bytes text old some) at)) left) read in
       let terms : row_terms bytes d text old (take (i + 1) rows) ++ term_between bytes d text new x y ∷ [] ≡ row_terms bytes d text new (take (i + 1 + 1) rows) =
       ap (λ some. some ++ term_between bytes d text new x y ∷ []) (terms_stay bytes d text old new x.segment (take (i + 1) rows) (sym front) below ∙ ap (row_terms bytes d text new) done)
       ∙ sym (ap (row_terms bytes d text new) more ∙ terms_push bytes d text new (take i rows) x y) in
       read_on
-      ∙ ap (λ some. with_index some (read_payloads bytes d (row_heads text old (y ∷ rest)) end)) terms
-      ∙ ap (λ some. with_index (row_terms bytes d text new (take (i + 1 + 1) rows)) (read_payloads bytes d some end)) (heads_stay text old new (y ∷ rest) (sym heads) ∙ ap (row_heads text new) (sym (rows_left rows (i + 1) inside)))
+      ∙ ap (λ some. with_index some (read_payloads bytes d (row_heads bytes text old (y ∷ rest)) end)) terms
+      ∙ ap (λ some. with_index (row_terms bytes d text new (take (i + 1 + 1) rows)) (read_payloads bytes d some end)) (heads_stay bytes text old new (y ∷ rest) (sym heads) ∙ ap (row_heads bytes text new) (sym (rows_left rows (i + 1) inside)))
 
   pub below_next : (row_of rows i).segment ≤ (row_of rows (i + 1)).segment → All (EndsBy (row_of rows (i + 1)).segment) (take (i + 1 + 1) rows)
   below_next rise =
@@ -170,10 +170,10 @@ before_next P segments from to order front part =
 
 -- no term more
 pub index_end : (bytes : List ℕ) (d : ℕ) (text : List ℕ) (segments : List Segment) (rows : List TermRow) (i at : ℕ) (total : Result IndexRead OpenRefusal) → i + 1 ≡ length rows
-    → total ≡ with_index (row_terms bytes d text segments (take (i + 1) rows)) (read_payloads bytes d (row_heads text segments (drop i rows)) at) → total ≡ Ok (record { terms = row_terms bytes d text segments rows; end = at })
+    → total ≡ with_index (row_terms bytes d text segments (take (i + 1) rows)) (read_payloads bytes d (row_heads bytes text segments (drop i rows)) at) → total ≡ Ok (record { terms = row_terms bytes d text segments rows; end = at })
 index_end bytes d text segments rows i at total last is =
     let left : drop i rows ≡ row_of rows i ∷ [] = rows_left rows i (omega (arith, last)) ∙ ap (λ some. row_of rows i ∷ some) (drop_of_length-le rows (omega (arith, last))) in
     let all : take (i + 1) rows ≡ rows = take_all (i + 1) rows (omega (arith, last)) in
     is
-    ∙ ap (λ some. with_index (row_terms bytes d text segments (take (i + 1) rows)) (read_payloads bytes d (row_heads text segments some) at)) left
+    ∙ ap (λ some. with_index (row_terms bytes d text segments (take (i + 1) rows)) (read_payloads bytes d (row_heads bytes text segments some) at)) left
     ∙ ap (λ terms. (let r : Result IndexRead OpenRefusal = Ok (record { terms = terms; end = at }) in r)) (append-nil (row_terms bytes d text segments (take (i + 1) rows)) ∙ ap (row_terms bytes d text segments) all)

@@ -47,21 +47,22 @@ head_impact bytes at = refl
 
 -- one head more
 pub heads_on : (bytes : List ℕ) (d : ℕ) (total : Result HeadsRead OpenRefusal) (front : List HeadData) (k left above at next : ℕ) (s : Segment) → total ≡ with_heads front (read_heads bytes d k above at) → k ≡ suc left
-    → head_end bytes d above at ≡ Ok next → row_head s ≡ head_in bytes at
-    → total ≡ with_heads (front ++ row_head s ∷ []) (read_heads bytes d left s.impact next)
+    → head_end bytes d above at ≡ Ok next → row_head bytes s ≡ head_in bytes at
+    → total ≡ with_heads (front ++ row_head bytes s ∷ []) (read_heads bytes d left (row_head bytes s).impact next)
 heads_on bytes d total front k left above at next s is more end head =
-    let impact : u16_in bytes at ≡ s.impact = sym (head_impact bytes at) ∙ ap (λ (h : HeadData). h.impact) (sym head) in
+    let impact : u16_in bytes at ≡ (row_head bytes s).impact = sym (head_impact bytes at) ∙ ap (λ (h : HeadData). h.impact) (sym head) in
     is ∙ ap (λ n. with_heads front (read_heads bytes d n above at)) more
     ∙ ap (λ (e : Result ℕ OpenRefusal). with_heads front (e >>= λ next. (read_heads bytes d left (u16_in bytes at) next >>= λ later. Ok (record { heads = head_in bytes at ∷ later.heads; end = later.end })))) end
     ∙ behind_heads front (head_in bytes at) (read_heads bytes d left (u16_in bytes at) next)
     ∙ ap (λ h. with_heads (front ++ h ∷ []) (read_heads bytes d left (u16_in bytes at) next)) (sym head)
-    ∙ ap (λ n. with_heads (front ++ row_head s ∷ []) (read_heads bytes d left n next)) impact
+    ∙ ap (λ n. with_heads (front ++ row_head bytes s ∷ []) (read_heads bytes d left n next)) impact
 
 -- rows behind those of before
-pub rows_on : (before now new : List Segment) (s : Segment) → now ≡ before ++ drop (length before) now → new ≡ now ++ s ∷ [] → (new ≡ before ++ drop (length before) new) × (map row_head (drop (length before) new) ≡ map row_head (drop (length before) now) ++ row_head s ∷ [])
-rows_on before now new s kept put =
+pub rows_on : (bytes : List ℕ) (before now new : List Segment) (s : Segment) → now ≡ before ++ drop (length before) now → new ≡ now ++ s ∷ [] → (new ≡ before ++ drop (length before) new) × (map (row_head bytes) (drop (length before) new) ≡ map (row_head bytes) (drop (length before) now) ++ row_head bytes s ∷ []) × (drop (length before) new ≡ drop (length before) now ++ s ∷ [])
+rows_on bytes before now new s kept put =
     let within : length before ≤ length now = (let e = ap length kept in let f = length-append before (drop (length before) now) in omega (arith, e, f)) in
     let rest : drop (length before) new ≡ drop (length before) now ++ s ∷ [] = ap (drop (length before)) put ∙ drop-append-le (length before) now (s ∷ []) within in (
       put ∙ ap (λ xs. xs ++ s ∷ []) kept ∙ append_assoc before (drop (length before) now) (s ∷ []) ∙ ap (λ xs. before ++ xs) (sym rest),
-      ap (map row_head) rest ∙ map_push row_head (drop (length before) now) s,
+      ap (map (row_head bytes)) rest ∙ map_push (row_head bytes) (drop (length before) now) s,
+      rest,
     )

@@ -9,7 +9,6 @@ use Rattle.std.proofs.lemmas.Str.{IsUtf8-from_is_utf8}
 use Rattle.jass_base.specs.Gaps.{AreDocs}
 use Rattle.jass_base.specs.Limits.{IsText}
 use Rattle.segment_codecs.specs.Codecs.{payload_of}
-use Rattle.segment_codecs.specs.declared.codec.Codec.TheVariants.{Varbyte}
 use Rattle.index_model.specs.Index.{SegmentData, TermData, IsSegment, IsTerm}
 use Rattle.index_model.specs.Querying.{segments_at}
 use Rattle.index_layout.specs.Reading.{name_in, read_index}
@@ -20,7 +19,9 @@ use Rattle.index_file.specs.declared.term_row.TermRow.{TermRow}
 use Rattle.index_file.specs.Opened.{view_of, view_or_empty, Stands}
 use Rattle.index_file.specs.Payloads.{IsPayload, row_segment, row_terms, term_between}
 use Rattle.index_file.specs.Places.{term_at, segment_at}
-use Rattle.index_file.specs.Tables.{RowsFrom}
+use Rattle.index_layout.specs.Heads.{HeadData}
+use Rattle.index_file.specs.Tables.{RowsFrom, AreRows, row_head, told}
+use Rattle.index_file.specs.declared.segment_head.SegmentHead.{SegmentHead}
 use Rattle.index_file.proofs.TermRows.{row_below}
 
 -- the bytes that are read have the view that was read
@@ -32,7 +33,7 @@ abbrev pub row_of : List TermRow → ℕ → TermRow
 row_of rows t = slice_index_or rows t (record { text = 0; segment = 0 })
 
 abbrev pub segment_of : List Segment → ℕ → Segment
-segment_of segments i = slice_index_or segments i (record { impact = 0; codec = Varbyte; count = 0; size = 0; place = 0 })
+segment_of segments i = slice_index_or segments i (record { head = 0; place = 0 })
 
 abbrev term_of : List TermData → ℕ → TermData
 term_of terms t = slice_index_or terms t (record { term = []; segments = [] })
@@ -51,14 +52,18 @@ in_order text segments a (b ∷ rows) zero are inside =
     record { text_rises = are.0; text_within = below.0; segment_rises = are.1; segment_within = below.1 }
 in_order text segments a (b ∷ rows) (suc t) are inside = in_order text segments b rows t are.2 (omega (arith, inside))
 
+next_row : (a : TermRow) (rows : List TermRow) (t : ℕ) → row_of rows t ≡ row_of (a ∷ rows) (t + 1)
+next_row a rows t = (let e : suc t ≡ t + 1 = omega arith in ap (row_of (a ∷ rows)) e)
+
+pub rows_in_order : (text : List ℕ) (segments : List Segment) (rows : List TermRow) (t : ℕ) → AreRows text segments rows → t + 1 < length rows → InOrder text segments (row_of rows t) (row_of rows (t + 1))
+rows_in_order text segments [] t are inside = absurd are
+rows_in_order text segments (a ∷ rows) t are inside = subst (λ y. InOrder text segments (row_of (a ∷ rows) t) y) (next_row a rows t) (in_order text segments a rows t are.2 (omega (arith, inside)))
+
 term_there : (bytes : List ℕ) (d : ℕ) (text : List ℕ) (segments : List Segment) (a : TermRow) (rows : List TermRow) (t : ℕ) → t < length rows
     → term_of (row_terms bytes d text segments (a ∷ rows)) t ≡ term_between bytes d text segments (row_of (a ∷ rows) t) (row_of rows t)
 term_there bytes d text segments a [] t inside = absurd (omega (arith, inside))
 term_there bytes d text segments a (b ∷ rows) zero inside = refl
 term_there bytes d text segments a (b ∷ rows) (suc t) inside = term_there bytes d text segments b rows t (omega (arith, inside))
-
-next_row : (a : TermRow) (rows : List TermRow) (t : ℕ) → row_of rows t ≡ row_of (a ∷ rows) (t + 1)
-next_row a rows t = (let e : suc t ≡ t + 1 = omega arith in ap (row_of (a ∷ rows)) e)
 
 -- what is known of the term with a number
 pub record TermThere (bytes text : List ℕ) (rows : List TermRow) (segments : List Segment) (v : FileView) (t : ℕ) : Type 0 where
@@ -102,7 +107,7 @@ segment_there bytes text rows segments v t s h below =
     let size = part_size segments from to h.order.segment_rises h.order.segment_within in
     let count = segments_count bytes text rows segments v t h in
     let short : s < to - from = omega (arith, below, count) in
-    let none : Segment = record { impact = 0; codec = Varbyte; count = 0; size = 0; place = 0 } in
+    let none : Segment = record { head = 0; place = 0 } in
     record {
       inside = (let within = h.order.segment_within in omega (arith, short, within));
       is = ap (λ (here : List SegmentData). slice_index_or here s (record { impact = 0; docs = [] })) h.its_segments
@@ -111,27 +116,31 @@ segment_there bytes text rows segments v t s h below =
     }
 
 -- what the row tells of the segment
-pub record RowTells (bytes : List ℕ) (v : FileView) (r : Segment) (x : SegmentData) : Type 0 where
-  pub impact : r.impact ≡ x.impact
-  pub count : r.count ≡ length x.docs
-  pub within : r.place + r.size ≤ length (file_bytes v)
+pub record RowTells (v : FileView) (h : HeadData) (place : ℕ) (x : SegmentData) : Type 0 where
+  pub impact : h.impact ≡ x.impact
+  pub count : h.count ≡ length x.docs
+  pub within : place + h.size ≤ length (file_bytes v)
   pub docs : AreDocs (length v.index.names) x.docs
-  pub spelled : slice_range (file_bytes v) r.place (r.place + r.size) ≡ payload_of r.codec (length v.index.names) x.docs
+  pub spelled : slice_range (file_bytes v) place (place + h.size) ≡ payload_of h.codec (length v.index.names) x.docs
 
-row_told : (bytes : List ℕ) (v : FileView) (r : Segment) → bytes ≡ file_bytes v → IsPayload bytes (length v.index.names) r → RowTells bytes v r (row_segment bytes (length v.index.names) r)
+row_told : (bytes : List ℕ) (v : FileView) (r : Segment) → bytes ≡ file_bytes v → IsPayload bytes (length v.index.names) r → RowTells v (row_head bytes r) r.place (row_segment bytes (length v.index.names) r)
 unfolding row_segment
 row_told bytes v r spelled is = record {
   impact = refl;
-  count = sym is.count;
-  within = subst (λ (bytes : List ℕ). r.place + r.size ≤ length bytes) spelled is.within;
-  docs = is.docs;
-  spelled = ap (λ (bytes : List ℕ). slice_range bytes r.place (r.place + r.size)) (sym spelled) ∙ is.spelled;
+  count = sym is.payload.count;
+  within = (let size = ap length spelled in let fits = is.payload.within in omega (arith, size, fits));
+  docs = is.payload.docs;
+  spelled = ap (λ (all : List ℕ). slice_range all r.place (r.place + (row_head bytes r).size)) (sym spelled) ∙ is.payload.spelled;
 }
 
-pub row_tells : (bytes places text : List ℕ) (rows : List TermRow) (segments : List Segment) (v : FileView) → Stands bytes places text rows segments v → (t s i : ℕ) → SegmentThere bytes segments v t s i → RowTells bytes v (segment_of segments i) (segment_at v.index.terms t s)
+pub row_tells : (bytes places text : List ℕ) (rows : List TermRow) (segments : List Segment) (v : FileView) → Stands bytes places text rows segments v → (t s i : ℕ) → SegmentThere bytes segments v t s i → RowTells v (row_head bytes (segment_of segments i)) (segment_of segments i).place (segment_at v.index.terms t s)
 row_tells bytes places text rows segments v stands t s i h =
-    subst (RowTells bytes v (segment_of segments i)) (sym h.is)
-    (row_told bytes v (segment_of segments i) stands.spelled (stands.payloads i (record { impact = 0; codec = Varbyte; count = 0; size = 0; place = 0 }) h.inside))
+    subst (RowTells v (row_head bytes (segment_of segments i)) (segment_of segments i).place) (sym h.is)
+    (row_told bytes v (segment_of segments i) stands.spelled (stands.payloads i (record { head = 0; place = 0 }) h.inside))
+
+-- the same of the head that was read
+pub head_tells : (v : FileView) (h : SegmentHead) (g : HeadData) (place : ℕ) (x : SegmentData) → told h ≡ g → RowTells v g place x → RowTells v (told h) place x
+head_tells v h g place x is tells = subst (λ g. RowTells v g place x) (sym is) tells
 
 -- terms are text
 pub term_text : (v : FileView) → IsFileView v → (t : ℕ) → t < length v.index.terms → IsUtf8 (term_at v.index.terms t)

@@ -1,11 +1,14 @@
 -- Rows of terms while the text and the segments grow.
-use Rattle.std.proofs.Common.{◌≡◌, ◌-◌, ◌≤◌, ℕ, suc, map, take, drop, length, All, arith, List, [], ◌∷◌, ◌++◌, Option, Some, Result, Ok, Err, append_assoc, ap, sym, subst, ◌∙◌, refl}
-use Rattle.std.specs.Prelude.{slice_range}
+use Rattle.std.proofs.Common.{◌≡◌, ◌+◌, ◌-◌, ◌≤◌, ℕ, suc, map, take, drop, length, All, arith, List, [], ◌∷◌, ◌++◌, Option, Some, Result, Ok, Err, append_assoc, ap, sym, subst, ◌∙◌, refl}
+use Rattle.std.specs.Prelude.{slice_range, max}
 use Rattle.std.proofs.lemmas.List.{append-nil, map-append, length-append, take_all, drop-append-le, take-append-le, length-drop}
 use Rattle.std.proofs.lemmas.List.Elements.{All-append}
 use Rattle.std.proofs.Math.Seq.{drop-append_seam}
 use Rattle.index_layout.specs.declared.refusal.OpenRefusal.{OpenRefusal}
-use Rattle.index_layout.specs.Heads.{TermHeads}
+use Rattle.index_layout.specs.Heads.{HeadData, TermHeads, greatest_of}
+use Rattle.std.proofs.lemmas.List.Sums.{sum_by-cons, sum_by-append}
+use Rattle.index_file.specs.declared.sums.Sums.{Sums}
+use Rattle.index_file.specs.Sums.{AreSums}
 use Rattle.index_layout.specs.Refusals.{◌>>=◌, Fails}
 use Rattle.index_layout.specs.declared.refusal.OpenFault.{OpenFault}
 use Rattle.index_layout.specs.declared.refusal.OpenFault.TheVariants as faults
@@ -66,9 +69,9 @@ pub row_below : (text : List ℕ) (segments : List Segment) (a : TermRow) (rows 
 row_below text segments a [] are = (omega (arith, are.0), omega (arith, are.1))
 row_below text segments a (b ∷ rows) are = let later = row_below text segments b rows are.2 in (omega (arith, are.0, later.0), omega (arith, are.1, later.1))
 
-module _ (text term : List ℕ) (segments added : List Segment) (row : TermRow) (at_text : row.text ≡ length (text ++ term)) (at_segment : row.segment ≡ length (segments ++ added)) where
+module _ (bytes text term : List ℕ) (segments added : List Segment) (row : TermRow) (at_text : row.text ≡ length (text ++ term)) (at_segment : row.segment ≡ length (segments ++ added)) where
   heads_push : (a : TermRow) (rows : List TermRow) → RowsFrom text segments a rows
-      → row_heads (text ++ term) (segments ++ added) (a ∷ (rows ++ row ∷ [])) ≡ row_heads text segments (a ∷ rows) ++ record { term = term; heads = map row_head added } ∷ []
+      → row_heads bytes (text ++ term) (segments ++ added) (a ∷ (rows ++ row ∷ [])) ≡ row_heads bytes text segments (a ∷ rows) ++ record { term = term; heads = map (row_head bytes) added } ∷ []
   heads_push a [] are = rw (slice_new text term a.text row.text are.0 at_text, slice_new segments added a.segment row.segment are.1 at_segment) refl
   heads_push a (b ∷ rows) are =
       let later = row_below text segments b rows are.2 in
@@ -78,29 +81,29 @@ module _ (text term : List ℕ) (segments added : List Segment) (row : TermRow) 
   rows_push a [] are = (let l = length-append text term in omega (arith, l, are.0, at_text), (let m = length-append segments added in omega (arith, m, are.1, at_segment)), (at_text, at_segment))
   rows_push a (b ∷ rows) are = (are.0, are.1, rows_push b rows are.2)
 
-pub record RowsThere (text : List ℕ) (segments : List Segment) (rows : List TermRow) (terms : List TermHeads) (span : Span) (term : List ℕ) : Type 0 where
-  pub terms_are : row_heads text segments rows ≡ terms
+pub record RowsThere (bytes text : List ℕ) (segments : List Segment) (rows : List TermRow) (terms : List TermHeads) (span : Span) (term : List ℕ) : Type 0 where
+  pub terms_are : row_heads bytes text segments rows ≡ terms
   pub are : AreRows text segments rows
   pub span_is : IsSpan text span
   pub part : part_of text span ≡ term
 
-pub rows_next : (text term newer : List ℕ) (segments added newest : List Segment) (rows : List TermRow) (row : TermRow) (span : Span) → newer ≡ text ++ term → newest ≡ segments ++ added → AreRows text segments rows
+pub rows_next : (bytes : List ℕ) (text term newer : List ℕ) (segments added newest : List Segment) (rows : List TermRow) (row : TermRow) (span : Span) → newer ≡ text ++ term → newest ≡ segments ++ added → AreRows text segments rows
     → row.text ≡ length newer → row.segment ≡ length newest → span.from ≡ length text → span.to ≡ length newer
-    → RowsThere newer newest (rows ++ row ∷ []) (row_heads text segments rows ++ record { term = term; heads = map row_head added } ∷ []) span term
-rows_next text term newer segments added newest [] row span grown more are at_text at_segment from to = absurd are
-rows_next text term newer segments added newest (a ∷ rows) row span grown more are at_text at_segment from to =
+    → RowsThere bytes newer newest (rows ++ row ∷ []) (row_heads bytes text segments rows ++ record { term = term; heads = map (row_head bytes) added } ∷ []) span term
+rows_next bytes text term newer segments added newest [] row span grown more are at_text at_segment from to = absurd are
+rows_next bytes text term newer segments added newest (a ∷ rows) row span grown more are at_text at_segment from to =
     let l = length-append text term in
     let text_is : row.text ≡ length (text ++ term) = at_text ∙ ap length grown in
     let segment_is : row.segment ≡ length (segments ++ added) = at_segment ∙ ap length more in
     let to_is : span.to ≡ length (text ++ term) = to ∙ ap length grown in
-    let there : RowsThere (text ++ term) (segments ++ added) (a ∷ (rows ++ row ∷ [])) (row_heads text segments (a ∷ rows) ++ record { term = term; heads = map row_head added } ∷ []) span term = record {
-      terms_are = heads_push text term segments added row text_is segment_is a rows are.2;
-      are = (are.0, are.1, rows_push text term segments added row text_is segment_is a rows are.2);
+    let there : RowsThere bytes (text ++ term) (segments ++ added) (a ∷ (rows ++ row ∷ [])) (row_heads bytes text segments (a ∷ rows) ++ record { term = term; heads = map (row_head bytes) added } ∷ []) span term = record {
+      terms_are = heads_push bytes text term segments added row text_is segment_is a rows are.2;
+      are = (are.0, are.1, rows_push bytes text term segments added row text_is segment_is a rows are.2);
       span_is = (omega (arith, from, to_is, l), omega (arith, to_is));
       part = part_new text term span from to_is;
     } in
-    subst (λ t. RowsThere t newest (a ∷ (rows ++ row ∷ [])) (row_heads text segments (a ∷ rows) ++ record { term = term; heads = map row_head added } ∷ []) span term) (sym grown)
-    (subst (λ s. RowsThere (text ++ term) s (a ∷ (rows ++ row ∷ [])) (row_heads text segments (a ∷ rows) ++ record { term = term; heads = map row_head added } ∷ []) span term) (sym more) there)
+    subst (λ t. RowsThere bytes t newest (a ∷ (rows ++ row ∷ [])) (row_heads bytes text segments (a ∷ rows) ++ record { term = term; heads = map (row_head bytes) added } ∷ []) span term) (sym grown)
+    (subst (λ s. RowsThere bytes (text ++ term) s (a ∷ (rows ++ row ∷ [])) (row_heads bytes text segments (a ∷ rows) ++ record { term = term; heads = map (row_head bytes) added } ∷ []) span term) (sym more) there)
 
 pub heads_not : (bytes : List ℕ) (d : ℕ) (total : Result TermsRead OpenRefusal) (front : List TermHeads) (k left : ℕ) (before : Option (List ℕ)) (at place n : ℕ) (fault : OpenFault) → total ≡ with_terms front (read_terms bytes d k before at)
     → k ≡ suc left → term_end bytes before at ≡ Ok place → n ≡ heads_in bytes at
@@ -114,6 +117,17 @@ heads_not bytes d total front k left before at place n (faults.Refused refusal) 
 heads_not bytes d total front k left before at place n faults.ReadFault is more end count heads = heads
 heads_not bytes d total front k left before at place n faults.NoMemory is more end count heads = tt
 
-pub counted_on : (bytes : List ℕ) (d : ℕ) (segments added newest : List Segment) → newest ≡ segments ++ added → All (IsCounted d) (map row_head segments) → All (IsCounted d) (map row_head added) → All (IsCounted d) (map row_head newest)
+pub counted_on : (bytes : List ℕ) (d : ℕ) (segments added newest : List Segment) → newest ≡ segments ++ added → All (IsCounted d) (map (row_head bytes) segments) → All (IsCounted d) (map (row_head bytes) added) → All (IsCounted d) (map (row_head bytes) newest)
 counted_on bytes d segments added newest more here new =
-    subst (All (IsCounted d)) (sym (ap (map row_head) more ∙ map-append row_head segments added)) (All-append (IsCounted d) (map row_head segments) (map row_head added) here new)
+    subst (All (IsCounted d)) (sym (ap (map (row_head bytes)) more ∙ map-append (row_head bytes) segments added)) (All-append (IsCounted d) (map (row_head bytes) segments) (map (row_head bytes) added) here new)
+
+-- the sums of more heads
+greatest_push : (heads : List HeadData) (h : HeadData) → greatest_of (heads ++ h ∷ []) ≡ max (greatest_of heads) h.impact
+greatest_push [] h = omega arith
+greatest_push (g ∷ heads) h = (let later = greatest_push heads h in omega (arith, later))
+
+pub sums_push : (sums new : Sums) (heads : List HeadData) (h : HeadData) → AreSums sums heads → new.postings ≡ sums.postings + h.count → new.greatest ≡ max sums.greatest h.impact → AreSums new (heads ++ h ∷ [])
+sums_push sums new heads h are postings greatest = record {
+  postings = (let whole = sum_by-append (λ (h : HeadData). h.count) heads (h ∷ []) in let one = sum_by-cons (λ (h : HeadData). h.count) h [] in let front = are.postings in omega (arith, whole, one, front, postings));
+  greatest = greatest ∙ ap (λ n. max n h.impact) are.greatest ∙ sym (greatest_push heads h);
+}

@@ -9,7 +9,8 @@ use Rattle.index_file.specs.declared.segment.Segment.{Segment}
 use Rattle.index_file.specs.declared.term_row.TermRow.{TermRow}
 use Rattle.index_file.specs.Payloads.{IsPayload, row_terms}
 use Rattle.index_file.specs.Places.{all_codecs}
-use Rattle.index_file.specs.Tables.{IsNamePlace, AreRows}
+use Rattle.index_file.specs.Samples.{AreSamples}
+use Rattle.index_file.specs.Tables.{IsNamePlace, AreRows, row_head}
 
 abbrev pub view_or_empty : Result FileView OpenRefusal → FileView
 view_or_empty (Ok v) = v
@@ -29,8 +30,14 @@ pub record Stands (bytes places text : List ℕ) (rows : List TermRow)
   pub terms : v.index.terms ≡ row_terms bytes (length v.index.names) text segments rows
   pub count : length rows ≡ length v.index.terms + 1
   pub placed : AreRows text segments rows
-  pub codecs : all_codecs v.codecs ≡ map (λ (s : Segment). s.codec) segments
+  pub codecs : all_codecs v.codecs ≡ map (λ (s : Segment). (row_head bytes s).codec) segments
   pub payloads : All (IsPayload bytes (length v.index.names)) segments
   pub front : 40 ≤ length bytes
   pub postings : u64_in bytes 24 ≡ index_postings v.index
   pub greatest : u32_in bytes 32 ≡ index_greatest v.index
+
+-- the tables, and the sampled terms
+pub record IsOpened (bytes places text : List ℕ) (rows : List TermRow)
+    (segments : List Segment) (samples : List ℕ) (v : FileView) : Type 0 where
+  pub stands : Stands bytes places text rows segments v
+  pub sampled : AreSamples text rows samples

@@ -4,15 +4,25 @@ use Rattle.index_file.specs.declared.span.Span.{Span}
 use Rattle.index_file.specs.declared.term_row.TermRow.{TermRow}
 use Rattle.index_layout.specs.Bytes.{u32_in}
 use Rattle.index_layout.specs.Heads.{HeadData}
+use Rattle.index_layout.specs.Reading.{head_in}
 use Rattle.index_file.specs.declared.segment.Segment.{Segment}
+use Rattle.index_file.specs.declared.segment_head.SegmentHead.{SegmentHead}
 
 -- the name whose length stands at a place lies in the bytes
 abbrev pub IsNamePlace : List ℕ → ℕ → Type 0
 IsNamePlace bytes at = at + 4 + u32_in bytes at ≤ length bytes
 
--- the head of a row
-abbrev pub row_head : Segment → HeadData
-row_head s = record { impact = s.impact; count = s.count; codec = s.codec; size = s.size }
+-- the head of a row, which stands in the bytes
+abbrev pub row_head : List ℕ → Segment → HeadData
+row_head bytes s = head_in bytes s.head
+
+-- the head of a row lies in the bytes
+abbrev pub HasHead : List ℕ → Segment → Type 0
+HasHead bytes s = s.head + 11 ≤ length bytes
+
+-- a head that was read
+abbrev pub told : SegmentHead → HeadData
+told h = record { impact = h.impact; count = h.count; codec = h.codec; size = h.size }
 
 -- a part of the text of all terms
 unfoldable pub part_of : List ℕ → Span → List ℕ

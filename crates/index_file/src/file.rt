@@ -1,5 +1,7 @@
-ghost use Rattle.std.specs.Prelude.{ℕ, ◌≡◌, ◌+◌, ◌≤◌, ◌<◌, ◌↔◌, List, [], ◌∷◌, Some, length, map, take, drop, slice_get, slice_range, IfOk};
+ghost use Rattle.std.specs.Prelude.{ℕ, ◌≡◌, ◌+◌, ◌≤◌, ◌<◌, ◌↔◌, List, [], ◌∷◌, Some, length, map, take, drop, slice_get, slice_range, All, IfOk};
 ghost use Rattle.std.specs.Str.{IsUtf8};
+ghost use Rattle.std.specs.Ordering.{nat_cmp};
+ghost use Rattle.std.specs.Cmp.Lexicographic.{slice_cmp};
 ghost use Rattle.jass_base.specs.Gaps.{AreDocs};
 ghost use Rattle.segment_codecs.specs.Codecs.{payload_of};
 ghost use Rattle.index_model.specs.Index.{TermData};
@@ -10,11 +12,15 @@ ghost use Rattle.index_layout.specs.Totals.{totals_of};
 ghost use Rattle.index_layout.specs.View.{FileView, IsFileView, file_bytes};
 ghost use Rattle.index_file.specs.Giving.{Gives};
 ghost use Rattle.index_file.specs.Places.{codec_use, segment_at, term_at, uses_of};
+ghost use Rattle.index_file.specs.Samples.{first_eight};
+ghost use Rattle.index_file.specs.Tables.{HasHead, row_head};
 
 use crate::cursor::Cursor;
 use crate::figures::{CodecUse, Head};
 use crate::number::{u32_at, u64_at};
+use crate::samples::sample_terms;
 use crate::segment::Segment;
+use crate::segment_head::{PlacedHead, head_of};
 use crate::span::{Span, part};
 use crate::tables::read_tables;
 use crate::term_row::TermRow;
@@ -23,6 +29,7 @@ use jass_base::laws::gap_varints_are_read;
 use jass_base::{Names, Row, Steps, Totals, known_gap};
 use segment_codecs::{Codec, SegmentCursor};
 use std::alloc::Global;
+use std::cmp::Ordering;
 use std::marker::Model;
 use std::sync::ledger::Ledger;
 
@@ -34,17 +41,18 @@ pub struct IndexFile {
     text: Row<u8>,
     rows: Row<TermRow>,
     segments: Row<Segment>,
+    samples: Row<u64>,
 }
 
 impl Model for IndexFile {
-    ghost use Rattle.index_file.specs.Opened.{Stands, view_of};
+    ghost use Rattle.index_file.specs.Opened.{IsOpened, view_of};
     ghost use Rattle.index_layout.specs.View.{FileView};
 
     ghost Value = { FileView };
 
     ghost view = { λ f. view_of f.bytes };
 
-    ghost invariant = { λ f. Stands f.bytes f.places f.text f.rows f.segments (view_of f.bytes) };
+    ghost invariant = { λ f. IsOpened f.bytes f.places f.text f.rows f.segments f.samples (view_of f.bytes) };
 }
 
 impl IndexFile {
@@ -53,16 +61,22 @@ impl IndexFile {
         ensures exact { Answers (λ file. file) result (read_index bytes) }
         ensures accepted { IfOk result (λ file. (bytes ≡ file_bytes file) × IsFileView file) }
     {
-        match read_tables(alloc, bytes.as_slice()) {
-            Ok((places, text, rows, segments)) => Ok(IndexFile {
-                bytes,
-                places,
-                text,
-                rows,
-                segments,
-            }),
-            Err(fault) => Err(fault),
-        }
+        let (places, text, rows, segments) = match read_tables(alloc, bytes.as_slice()) {
+            Ok(tables) => tables,
+            Err(fault) => return Err(fault),
+        };
+        let samples = match sample_terms(alloc, text.as_slice(), rows.as_slice()) {
+            Ok(samples) => samples,
+            Err(_) => return Err(OpenFault::NoMemory),
+        };
+        Ok(IndexFile {
+            bytes,
+            places,
+            text,
+            rows,
+            segments,
+            samples,
+        })
     }
 
     /// What was checked when the file was opened: a caller learns it by the call.
@@ -89,12 +103,13 @@ impl IndexFile {
     pub fn codecs(&self) -> CodecUse
         ensures { result ≡ codec_use self.now.codecs }
     {
+        let bytes = self.bytes.as_slice();
         let segments = self.segments.as_slice();
         CodecUse {
-            varbyte: uses_of(segments, Codec::Varbyte),
-            packed: uses_of(segments, Codec::Packed),
-            bitmap: uses_of(segments, Codec::Bitmap),
-            simple8: uses_of(segments, Codec::Simple8),
+            varbyte: uses_of(bytes, segments, Codec::Varbyte),
+            packed: uses_of(bytes, segments, Codec::Packed),
+            bitmap: uses_of(bytes, segments, Codec::Bitmap),
+            simple8: uses_of(bytes, segments, Codec::Simple8),
         }
     }
 
@@ -145,6 +160,25 @@ impl IndexFile {
         part(self.text.as_slice(), span)
     }
 
+    /// How a term stands to a text, whose first eight bytes are given as a number.
+    pub(crate) fn order(&self, t: u32, text: &[u8], first: u64) -> Ordering
+        requires t { t < length self.now.index.terms }
+        requires first { first ≡ first_eight text.now }
+        requires bytes { All (λ byte. byte < 256) text.now }
+        ensures { result ≡ slice_cmp nat_cmp (term_at self.now.index.terms t) text.now }
+    {
+        if t % 64 == 0 {
+            let sample = self.samples.as_slice()[t as usize / 64];
+            if sample < first {
+                return Ordering::Less;
+            }
+            if sample > first {
+                return Ordering::Greater;
+            }
+        }
+        self.term_bytes(t).cmp(text)
+    }
+
     /// How many segments a term has; 0 where there is no such term.
     pub fn segments(&self, t: u32) -> u32
         ensures { result ≡ length (segments_at self.now.index.terms t) }
@@ -156,19 +190,23 @@ impl IndexFile {
         rows[t as usize + 1].segment - rows[t as usize].segment
     }
 
-    /// The row of a segment of a term.
-    fn segment(&self, t: u32, s: u32) -> Segment
+    /// The head of a segment of a term, and the place of its payload.
+    fn segment(&self, t: u32, s: u32) -> PlacedHead
         requires t { t < length self.now.index.terms }
         requires s { s < length (segments_at self.now.index.terms t) }
-        ensures impact { result.impact ≡ (segment_at self.now.index.terms t s).impact }
-        ensures count { result.count ≡ length (segment_at self.now.index.terms t s).docs }
-        ensures within { result.place + result.size ≤ length (file_bytes self.now) }
+        ensures impact { result.head.impact ≡ (segment_at self.now.index.terms t s).impact }
+        ensures count { result.head.count ≡ length (segment_at self.now.index.terms t s).docs }
+        ensures within { result.place + result.head.size ≤ length (file_bytes self.now) }
         ensures docs { AreDocs (length self.now.index.names) (segment_at self.now.index.terms t s).docs }
-        ensures payload { slice_range (file_bytes self.now) result.place (result.place + result.size)
-            ≡ payload_of result.codec (length self.now.index.names) (segment_at self.now.index.terms t s).docs }
+        ensures payload { slice_range (file_bytes self.now) result.place (result.place + result.head.size)
+            ≡ payload_of result.head.codec (length self.now.index.names) (segment_at self.now.index.terms t s).docs }
     {
         let first = self.rows.as_slice()[t as usize].segment;
-        self.segments.as_slice()[first as usize + s as usize]
+        let segment = self.segments.as_slice()[first as usize + s as usize];
+        PlacedHead {
+            head: head_of(self.bytes.as_slice(), segment),
+            place: segment.place,
+        }
     }
 
     /// The head of a segment of a term.
@@ -178,10 +216,10 @@ impl IndexFile {
         ensures impact { result.impact ≡ (segment_at self.now.index.terms t s).impact }
         ensures count { result.count ≡ length (segment_at self.now.index.terms t s).docs }
     {
-        let row = self.segment(t, s);
+        let head = self.segment(t, s).head;
         Head {
-            impact: row.impact,
-            count: row.count,
+            impact: head.impact,
+            count: head.count,
         }
     }
 
@@ -193,9 +231,9 @@ impl IndexFile {
     {
         let segment = self.segment(t, s);
         Cursor {
-            segment: SegmentCursor::new(segment.codec, segment.count, self.docs()),
+            segment: SegmentCursor::new(segment.head.codec, segment.head.count, self.docs()),
             from: segment.place,
-            size: segment.size,
+            size: segment.head.size,
         }
     }
 
@@ -232,7 +270,7 @@ impl IndexFile {
     {
         gap_varints_are_read();
         let found = self.segment(t, s);
-        match found.codec {
+        match found.head.codec {
             Codec::Varbyte => {
                 steps.add(1);
                 known_gap(self.bytes.as_slice(), found.place as usize).0
@@ -257,12 +295,13 @@ impl IndexFile {
 }
 
 /// How many segments are in a codec.
-fn uses_of(segments: &[Segment], codec: Codec) -> u64
-    ensures { result ≡ uses_of codec (map (λ (s : Segment). s.codec) segments.now) }
+fn uses_of(bytes: &[u8], segments: &[Segment], codec: Codec) -> u64
+    requires { All (HasHead bytes.now) segments.now }
+    ensures { result ≡ uses_of codec (map (λ (s : Segment). (row_head bytes.now s).codec) segments.now) }
 {
     let mut count = 0;
     'segments: for segment in segments {
-        if segment.codec == codec {
+        if head_of(bytes, *segment).codec == codec {
             count += 1;
         }
     }

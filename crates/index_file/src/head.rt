@@ -2,26 +2,25 @@ ghost use Rattle.std.specs.Prelude.{◌≡◌, ◌≤◌, ◌+◌, ◌^◌, leng
 ghost use Rattle.index_layout.specs.Reading.{head_end, head_in};
 ghost use Rattle.index_layout.specs.Refusals.{Answers};
 ghost use Rattle.index_file.specs.Payloads.{IsCounted};
-ghost use Rattle.index_file.specs.Tables.{row_head};
 
 use crate::number::{u16_at, u32_at};
-use crate::segment::Segment;
 use index_layout::{OpenFault, OpenWhy, refused};
 use segment_codecs::Codec;
 
-/// The head at a place, of 11 bytes, whose impact is below a number.
+/// The impact and the count of the head at a place, of 11 bytes; the impact is below a number.
 #[tactic(auto, unfolding(index_layout::specs::Reading::head_end, index_layout::specs::Reading::head_checks, index_layout::specs::Reading::head_in))]
 pub(crate) fn read_head(
     bytes: &[u8],
     docs: u32,
     above: u32,
     at: usize,
-) -> Result<Segment, OpenFault>
+) -> Result<(u16, u32), OpenFault>
     requires at { at ≤ length bytes.now }
     requires few { length bytes.now ≤ 2 ^ 32 }
     ensures exact { Answers (λ _. at + 11) result (head_end bytes.now docs above at) }
-    ensures head { IfOk result (λ segment. row_head segment ≡ head_in bytes.now at) }
-    ensures counted { IfOk result (λ segment. IsCounted docs (row_head segment)) }
+    ensures impact { IfOk result (λ read. read.0 ≡ (head_in bytes.now at).impact) }
+    ensures count { IfOk result (λ read. read.1 ≡ (head_in bytes.now at).count) }
+    ensures counted { IfOk result (λ _. IsCounted docs (head_in bytes.now at)) }
     ensures within { IfOk result (λ _. at + 11 ≤ length bytes.now) }
 {
     if bytes.len() - at < 11 {
@@ -35,15 +34,8 @@ pub(crate) fn read_head(
     if count == 0 || count > docs {
         return Err(refused(at, OpenWhy::Heads));
     }
-    let Some(codec) = Codec::from_number(bytes[at + 6]) else {
+    if Codec::from_number(bytes[at + 6]).is_none() {
         return Err(refused(at, OpenWhy::Heads));
-    };
-    let size = u32_at(bytes, at + 7);
-    Ok(Segment {
-        impact,
-        codec,
-        count,
-        size,
-        place: 0,
-    })
+    }
+    Ok((impact, count))
 }

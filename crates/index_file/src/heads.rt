@@ -1,18 +1,23 @@
-ghost use Rattle.std.specs.Prelude.{◌≡◌, ◌≤◌, ◌^◌, ◌++◌, length, map, drop, All, IfOk, OnOk};
+ghost use Rattle.std.specs.Prelude.{◌≡◌, ◌<◌, ◌≤◌, ◌*◌, ◌^◌, ◌++◌, List, length, map, drop, All, IfOk, OnOk};
 ghost use Rattle.index_layout.specs.Reading.{read_heads};
 ghost use Rattle.index_layout.specs.Refusals.{Answers};
+ghost use Rattle.index_layout.specs.Heads.{HeadData};
 ghost use Rattle.index_file.specs.Payloads.{IsCounted};
-ghost use Rattle.index_file.specs.Tables.{row_head};
+ghost use Rattle.index_file.specs.Sums.{AreSums};
+ghost use Rattle.index_file.specs.Tables.{HasHead, row_head};
 
 use crate::head::read_head;
 use crate::segment::Segment;
+use crate::sums::Sums;
 use index_layout::OpenFault;
 use jass_base::Row;
 
-/// Appends the heads of a term, so many from a place on, and gives the place behind them.
+/// Appends the heads of a term, so many from a place on, adds them to the sums, and gives the place
+/// behind them.
 #[inline(never)]
 pub(crate) fn read_heads(
     segments: &mut Row<Segment>,
+    sums: &mut Sums,
     bytes: &[u8],
     docs: u32,
     count: u32,
@@ -20,25 +25,39 @@ pub(crate) fn read_heads(
 ) -> Result<usize, OpenFault>
     requires from { from ≤ length bytes.now }
     requires few { length bytes.now ≤ 2 ^ 32 }
+    requires docs { docs ≤ 2 ^ 26 }
+    requires segments { length segments.old < 2 ^ 32 }
+    requires small { sums.old.postings ≤ 2 ^ 26 * length segments.old }
     ensures exact { Answers
-        (λ end. record { heads = map row_head (drop (length segments.old) segments.new); end = end }) result
+        (λ end. record { heads = map (row_head bytes.now) (drop (length segments.old) segments.new); end = end }) result
         (read_heads bytes.now docs count 65536 from) }
     ensures kept { OnOk result (segments.new ≡ segments.old ++ drop (length segments.old) segments.new) }
-    ensures counted { IfOk result (λ _. All (IsCounted docs) (map row_head (drop (length segments.old) segments.new))) }
+    ensures counted { IfOk result (λ _. All (IsCounted docs) (map (row_head bytes.now) (drop (length segments.old) segments.new))) }
+    ensures there { IfOk result (λ _. All (HasHead bytes.now) (drop (length segments.old) segments.new)) }
+    ensures sums { OnOk result ((heads : List HeadData) → AreSums sums.old heads
+        → AreSums sums.new (heads ++ map (row_head bytes.now) (drop (length segments.old) segments.new))) }
+    ensures small { OnOk result (sums.new.postings ≤ 2 ^ 26 * length segments.new) }
     ensures end { IfOk result (λ end. end ≤ length bytes.now) }
 {
     let mut at = from;
     let mut above = 65_536;
     'heads: for _ in 0..count {
-        let segment = match read_head(bytes, docs, above, at) {
-            Ok(segment) => segment,
+        let (impact, postings) = match read_head(bytes, docs, above, at) {
+            Ok(read) => read,
             Err(fault) => return Err(fault),
         };
-        match segments.push(segment) {
+        match segments.push(Segment {
+            head: at as u32,
+            place: 0,
+        }) {
             Ok(()) => {}
             Err(_) => return Err(OpenFault::NoMemory),
         }
-        above = u32::from(segment.impact);
+        *sums = Sums {
+            postings: sums.postings + u64::from(postings),
+            greatest: sums.greatest.max(impact),
+        };
+        above = u32::from(impact);
         at += 11;
     }
     Ok(at)

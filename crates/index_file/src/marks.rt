@@ -1,35 +1,35 @@
 ghost use Rattle.std.specs.Prelude.{◌≡◌, ◌≤◌, ◌<◌, All, false, length};
 ghost use Rattle.index_layout.specs.Reading.{docs_in};
 ghost use Rattle.index_file.specs.Marks.{marked, meets_marked};
-ghost use Rattle.index_file.specs.Payloads.{IsPayload};
-ghost use Rattle.index_file.specs.Tables.{row_head};
+ghost use Rattle.index_file.specs.Payloads.{IsPayloadAt};
+ghost use Rattle.index_file.specs.Tables.{told};
 
-use crate::segment::Segment;
+use crate::segment_head::SegmentHead;
 use segment_codecs::SegmentCursor;
 
 /// Marks the documents of a payload in turn, up to the first that has the mark already, and tells
-/// whether there is one. What is left in the block is of no use.
+/// whether there is one.
 #[inline(never)]
 pub(crate) fn mark_payload(
     marks: &mut [u32],
     now: u32,
     bytes: &[u8],
     docs: u32,
-    segment: Segment,
-    block: &mut [u32; 128],
+    head: SegmentHead,
+    from: usize,
 ) -> bool
-    requires payload { IsPayload bytes.now docs segment }
+    requires payload { IsPayloadAt bytes.now docs (told head) from }
     requires marks { docs ≤ length marks.old }
-    ensures met { result ≡ meets_marked now (docs_in bytes.now docs (row_head segment) segment.place) marks.old }
+    ensures met { result ≡ meets_marked now (docs_in bytes.now docs (told head) from) marks.old }
     ensures marks { result ≡ false
-        → marks.new ≡ marked now (docs_in bytes.now docs (row_head segment) segment.place) marks.old }
+        → marks.new ≡ marked now (docs_in bytes.now docs (told head) from) marks.old }
 {
-    let from = segment.place as usize;
-    let payload = &bytes[from..from + segment.size as usize];
-    let mut cursor = SegmentCursor::new(segment.codec, segment.count, docs);
-    let mut left = segment.count as usize;
+    let payload = &bytes[from..from + head.size as usize];
+    let mut cursor = SegmentCursor::new(head.codec, head.count, docs);
+    let mut block = [0u32; 128];
+    let mut left = head.count as usize;
     'parts: while left > 0 {
-        let given = cursor.next_block(payload, block);
+        let given = cursor.next_block(payload, &mut block);
         if mark_docs(marks, now, &block[..given]) {
             return true;
         }

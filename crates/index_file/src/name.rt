@@ -6,6 +6,7 @@ ghost use Rattle.index_layout.specs.Reading.{is_name_text, name_end};
 ghost use Rattle.index_layout.specs.Refusals.{Answers};
 
 use crate::number::u32_at;
+use crate::plain::is_plain;
 use index_layout::{OpenFault, OpenWhy, refused};
 
 /// The place behind the name whose length stands at a place.
@@ -36,7 +37,7 @@ pub(crate) fn name_end(bytes: &[u8], at: usize) -> Result<usize, OpenFault>
 fn is_name_text(bytes: &[u8]) -> bool
     ensures { result ≡ is_name_text bytes.now }
 {
-    is_text(bytes) && is_visible(bytes)
+    is_plain(bytes) || (is_text(bytes) && is_visible(bytes))
 }
 
 /// Whether bytes are UTF-8.

@@ -2,40 +2,41 @@ ghost use Rattle.std.specs.Prelude.{ℕ, ◌≡◌, ◌≤◌, ◌<◌, ◌+◌,
 ghost use Rattle.index_layout.specs.Reading.{docs_in, payload_end};
 ghost use Rattle.index_layout.specs.Refusals.{Answers};
 ghost use Rattle.index_file.specs.Marks.{AreMarks};
-ghost use Rattle.index_file.specs.Payloads.{IsPayload, placed};
-ghost use Rattle.index_file.specs.Tables.{row_head};
+ghost use Rattle.index_file.specs.Payloads.{IsPayloadAt, placed};
+ghost use Rattle.index_file.specs.Tables.{told};
 
 use crate::marks::{mark_docs, mark_payload};
 use crate::segment::Segment;
+use crate::segment_head::SegmentHead;
 use index_layout::{OpenFault, OpenWhy, refused};
 use segment_codecs::laws::{payloads_are_read, payloads_have_few_bytes};
 use segment_codecs::{Codec, check, check_into};
 
 // How many documents a block has room for.
-const BLOCK: u32 = 128;
+const BLOCK: u32 = 4096;
 
 /// Checks that the payload of a segment is at a place.
 pub(crate) fn check_payload(
     bytes: &[u8],
     docs: u32,
-    segment: Segment,
+    head: SegmentHead,
     at: usize,
 ) -> Result<(), OpenFault>
     requires at { at ≤ length bytes.now }
     requires few { length bytes.now ≤ 2 ^ 32 }
     requires docs { docs ≤ 2 ^ 26 }
-    requires counted { (1 ≤ segment.count) × (segment.count ≤ docs) }
-    ensures exact { Answers (λ _. at + segment.size) result (payload_end bytes.now docs [] (row_head segment) at) }
+    requires counted { (1 ≤ head.count) × (head.count ≤ docs) }
+    ensures exact { Answers (λ _. at + head.size) result (payload_end bytes.now docs [] (told head) at) }
     ensures place { IfOk result (λ _. at < 2 ^ 32) }
-    ensures payload { IfOk result (λ _. IsPayload bytes.now docs (placed segment at)) }
+    ensures payload { IfOk result (λ _. IsPayloadAt bytes.now docs (told head) at) }
 {
     payloads_are_read();
     payloads_have_few_bytes();
-    let size = segment.size as usize;
+    let size = head.size as usize;
     if bytes.len() - at < size {
         return Err(refused(at, OpenWhy::Length));
     }
-    match check(segment.codec, &bytes[at..at + size], segment.count, docs) {
+    match check(head.codec, &bytes[at..at + size], head.count, docs) {
         Ok(()) => Ok(()),
         Err(fault) => Err(refused(at, OpenWhy::Payload(fault))),
     }
@@ -46,33 +47,27 @@ pub(crate) fn check_payload(
 fn check_into_block(
     bytes: &[u8],
     docs: u32,
-    segment: Segment,
+    head: SegmentHead,
     at: usize,
-    block: &mut [u32; 128],
+    block: &mut [u32; 4096],
 ) -> Result<(), OpenFault>
     requires at { at ≤ length bytes.now }
     requires few { length bytes.now ≤ 2 ^ 32 }
     requires docs { docs ≤ 2 ^ 26 }
-    requires counted { (1 ≤ segment.count) × (segment.count ≤ docs) }
-    requires room { segment.count ≤ 128 }
-    ensures exact { Answers (λ _. at + segment.size) result (payload_end bytes.now docs [] (row_head segment) at) }
+    requires counted { (1 ≤ head.count) × (head.count ≤ docs) }
+    requires room { head.count ≤ 4096 }
+    ensures exact { Answers (λ _. at + head.size) result (payload_end bytes.now docs [] (told head) at) }
     ensures place { IfOk result (λ _. at < 2 ^ 32) }
-    ensures payload { IfOk result (λ _. IsPayload bytes.now docs (placed segment at)) }
-    ensures docs { IfOk result (λ _. take segment.count block.new ≡ docs_in bytes.now docs (row_head segment) at) }
+    ensures payload { IfOk result (λ _. IsPayloadAt bytes.now docs (told head) at) }
+    ensures docs { IfOk result (λ _. take head.count block.new ≡ docs_in bytes.now docs (told head) at) }
 {
     payloads_are_read();
     payloads_have_few_bytes();
-    let size = segment.size as usize;
+    let size = head.size as usize;
     if bytes.len() - at < size {
         return Err(refused(at, OpenWhy::Length));
     }
-    match check_into(
-        segment.codec,
-        &bytes[at..at + size],
-        segment.count,
-        docs,
-        block,
-    ) {
+    match check_into(head.codec, &bytes[at..at + size], head.count, docs, block) {
         Ok(()) => Ok(()),
         Err(fault) => Err(refused(at, OpenWhy::Payload(fault))),
     }
@@ -83,30 +78,30 @@ fn check_into_block(
 pub(crate) fn check_apart(
     bytes: &[u8],
     docs: u32,
-    segment: Segment,
+    head: SegmentHead,
     at: usize,
     marks: &mut [u32],
     now: u32,
-    block: &mut [u32; 128],
+    block: &mut [u32; 4096],
 ) -> Result<(), OpenFault>
     requires at { at ≤ length bytes.now }
     requires few { length bytes.now ≤ 2 ^ 32 }
     requires docs { docs ≤ 2 ^ 26 }
-    requires counted { (1 ≤ segment.count) × (segment.count ≤ docs) }
+    requires counted { (1 ≤ head.count) × (head.count ≤ docs) }
     requires marks { docs ≤ length marks.old }
     ensures exact { (earlier : List ℕ) → AreMarks now earlier marks.old
-        → Answers (λ _. at + segment.size) result (payload_end bytes.now docs earlier (row_head segment) at) }
+        → Answers (λ _. at + head.size) result (payload_end bytes.now docs earlier (told head) at) }
     ensures marks { IfOk result (λ _. (earlier : List ℕ) → AreMarks now earlier marks.old
-        → AreMarks now (earlier ++ docs_in bytes.now docs (row_head segment) at) marks.new) }
+        → AreMarks now (earlier ++ docs_in bytes.now docs (told head) at) marks.new) }
     ensures count { IfOk result (λ _. length marks.new ≡ length marks.old) }
     ensures place { IfOk result (λ _. at < 2 ^ 32) }
-    ensures payload { IfOk result (λ _. IsPayload bytes.now docs (placed segment at)) }
+    ensures payload { IfOk result (λ _. IsPayloadAt bytes.now docs (told head) at) }
 {
-    match segment.codec {
-        Codec::Varbyte if segment.count <= BLOCK => {
-            check_few(bytes, docs, segment, at, marks, now, block)
+    match head.codec {
+        Codec::Varbyte | Codec::Simple8 if head.count <= BLOCK => {
+            check_few(bytes, docs, head, at, marks, now, block)
         }
-        _ => check_many(bytes, docs, segment, at, marks, now, block),
+        _ => check_many(bytes, docs, head, at, marks, now),
     }
 }
 
@@ -115,31 +110,31 @@ pub(crate) fn check_apart(
 fn check_few(
     bytes: &[u8],
     docs: u32,
-    segment: Segment,
+    head: SegmentHead,
     at: usize,
     marks: &mut [u32],
     now: u32,
-    block: &mut [u32; 128],
+    block: &mut [u32; 4096],
 ) -> Result<(), OpenFault>
     requires at { at ≤ length bytes.now }
     requires few { length bytes.now ≤ 2 ^ 32 }
     requires docs { docs ≤ 2 ^ 26 }
-    requires counted { (1 ≤ segment.count) × (segment.count ≤ docs) }
+    requires counted { (1 ≤ head.count) × (head.count ≤ docs) }
     requires marks { docs ≤ length marks.old }
-    requires room { segment.count ≤ 128 }
+    requires room { head.count ≤ 4096 }
     ensures exact { (earlier : List ℕ) → AreMarks now earlier marks.old
-        → Answers (λ _. at + segment.size) result (payload_end bytes.now docs earlier (row_head segment) at) }
+        → Answers (λ _. at + head.size) result (payload_end bytes.now docs earlier (told head) at) }
     ensures marks { IfOk result (λ _. (earlier : List ℕ) → AreMarks now earlier marks.old
-        → AreMarks now (earlier ++ docs_in bytes.now docs (row_head segment) at) marks.new) }
+        → AreMarks now (earlier ++ docs_in bytes.now docs (told head) at) marks.new) }
     ensures count { IfOk result (λ _. length marks.new ≡ length marks.old) }
     ensures place { IfOk result (λ _. at < 2 ^ 32) }
-    ensures payload { IfOk result (λ _. IsPayload bytes.now docs (placed segment at)) }
+    ensures payload { IfOk result (λ _. IsPayloadAt bytes.now docs (told head) at) }
 {
-    match check_into_block(bytes, docs, segment, at, block) {
+    match check_into_block(bytes, docs, head, at, block) {
         Ok(()) => {}
         Err(fault) => return Err(fault),
     }
-    if mark_docs(marks, now, &block[..segment.count as usize]) {
+    if mark_docs(marks, now, &block[..head.count as usize]) {
         return Err(refused(at, OpenWhy::DocTwice));
     }
     Ok(())
@@ -149,31 +144,29 @@ fn check_few(
 fn check_many(
     bytes: &[u8],
     docs: u32,
-    segment: Segment,
+    head: SegmentHead,
     at: usize,
     marks: &mut [u32],
     now: u32,
-    block: &mut [u32; 128],
 ) -> Result<(), OpenFault>
     requires at { at ≤ length bytes.now }
     requires few { length bytes.now ≤ 2 ^ 32 }
     requires docs { docs ≤ 2 ^ 26 }
-    requires counted { (1 ≤ segment.count) × (segment.count ≤ docs) }
+    requires counted { (1 ≤ head.count) × (head.count ≤ docs) }
     requires marks { docs ≤ length marks.old }
     ensures exact { (earlier : List ℕ) → AreMarks now earlier marks.old
-        → Answers (λ _. at + segment.size) result (payload_end bytes.now docs earlier (row_head segment) at) }
+        → Answers (λ _. at + head.size) result (payload_end bytes.now docs earlier (told head) at) }
     ensures marks { IfOk result (λ _. (earlier : List ℕ) → AreMarks now earlier marks.old
-        → AreMarks now (earlier ++ docs_in bytes.now docs (row_head segment) at) marks.new) }
+        → AreMarks now (earlier ++ docs_in bytes.now docs (told head) at) marks.new) }
     ensures count { IfOk result (λ _. length marks.new ≡ length marks.old) }
     ensures place { IfOk result (λ _. at < 2 ^ 32) }
-    ensures payload { IfOk result (λ _. IsPayload bytes.now docs (placed segment at)) }
+    ensures payload { IfOk result (λ _. IsPayloadAt bytes.now docs (told head) at) }
 {
-    match check_payload(bytes, docs, segment, at) {
+    match check_payload(bytes, docs, head, at) {
         Ok(()) => {}
         Err(fault) => return Err(fault),
     }
-    let read = placed(segment, at);
-    if mark_payload(marks, now, bytes, docs, read, block) {
+    if mark_payload(marks, now, bytes, docs, head, at) {
         return Err(refused(at, OpenWhy::DocTwice));
     }
     Ok(())
@@ -186,10 +179,7 @@ pub(crate) fn placed(segment: Segment, at: usize) -> Segment
     ensures { result ≡ placed segment at }
 {
     Segment {
-        impact: segment.impact,
-        codec: segment.codec,
-        count: segment.count,
-        size: segment.size,
+        head: segment.head,
         place: at as u32,
     }
 }

@@ -2,7 +2,7 @@ ghost use Rattle.std.specs.Prelude.{ℕ, ◌≡◌, ◌<◌, ◌≤◌, ◌^◌,
 ghost use Rattle.index_layout.specs.Reading.{read_payloads, read_segments};
 ghost use Rattle.index_layout.specs.Refusals.{Answers};
 ghost use Rattle.index_file.specs.Payloads.{IsCounted, IsPayload, row_heads, row_segment, row_terms};
-ghost use Rattle.index_file.specs.Tables.{AreRows, row_head};
+ghost use Rattle.index_file.specs.Tables.{AreRows, HasHead, row_head};
 
 use crate::segment::Segment;
 use crate::term_payloads::read_term_payloads;
@@ -26,11 +26,13 @@ pub(crate) fn read_payloads(
     requires docs { docs ≤ 2 ^ 26 }
     requires rows { (text : List ℕ) × AreRows text segments.old rows.now }
     requires terms { length rows.now ≤ 2 ^ 32 }
-    requires counted { All (IsCounted docs) (map row_head segments.old) }
+    requires counted { All (IsCounted docs) (map (row_head bytes.now) segments.old) }
+    requires there { All (HasHead bytes.now) segments.old }
     ensures exact { (text : List ℕ) → Answers
         (λ end. record { terms = row_terms bytes.now docs text segments.new rows.now; end = end }) result
-        (read_payloads bytes.now docs (row_heads text segments.old rows.now) from) }
-    ensures heads { map row_head segments.new ≡ map row_head segments.old }
+        (read_payloads bytes.now docs (row_heads bytes.now text segments.old rows.now) from) }
+    ensures heads { map (row_head bytes.now) segments.new ≡ map (row_head bytes.now) segments.old }
+    ensures there { IfOk result (λ _. All (HasHead bytes.now) segments.new) }
     ensures payloads { IfOk result (λ _. All (IsPayload bytes.now docs) segments.new) }
     ensures end { IfOk result (λ end. end ≤ length bytes.now) }
 {
@@ -39,7 +41,7 @@ pub(crate) fn read_payloads(
         Err(_) => return Err(OpenFault::NoMemory),
     };
     let marks = table.as_mut_slice();
-    let mut block = [0u32; 128];
+    let mut block = [0u32; 4096];
     let mut at = from;
     'terms: for i in 0..rows.len() - 1 {
         let first = rows[i].segment;
@@ -72,22 +74,24 @@ fn read_between(
     marks: &mut [u32],
     now: u32,
     from: usize,
-    block: &mut [u32; 128],
+    block: &mut [u32; 4096],
 ) -> Result<usize, OpenFault>
     requires few { length bytes.now ≤ 2 ^ 32 }
     requires docs { docs ≤ 2 ^ 26 }
     requires from { from ≤ length bytes.now }
     requires order { (first ≤ last) × (last ≤ length segments.old) }
-    requires counted { All (IsCounted docs) (map row_head segments.old) }
+    requires counted { All (IsCounted docs) (map (row_head bytes.now) segments.old) }
+    requires there { All (HasHead bytes.now) segments.old }
     requires marks { (docs ≤ length marks.old) × All (λ mark. mark < now) marks.old }
     ensures exact { Answers
         (λ end. record {
           segments = map (row_segment bytes.now docs) (slice_range segments.new first last);
           end = end;
         }) result
-        (read_segments bytes.now docs [] (map row_head (slice_range segments.old first last)) from) }
+        (read_segments bytes.now docs [] (map (row_head bytes.now) (slice_range segments.old first last)) from) }
     ensures front { take first segments.new ≡ take first segments.old }
-    ensures heads { map row_head segments.new ≡ map row_head segments.old }
+    ensures heads { map (row_head bytes.now) segments.new ≡ map (row_head bytes.now) segments.old }
+    ensures there { IfOk result (λ _. All (HasHead bytes.now) segments.new) }
     ensures payloads { IfOk result (λ _. All (IsPayload bytes.now docs) (slice_range segments.new first last)) }
     ensures end { IfOk result (λ end. end ≤ length bytes.now) }
     ensures marks { IfOk result (λ _. (docs ≤ length marks.new) × All (λ mark. mark ≤ now) marks.new) }

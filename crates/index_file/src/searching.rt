@@ -4,6 +4,7 @@ ghost use Rattle.jass_base.specs.Terms.{BytesRise};
 ghost use Rattle.index_file.specs.Places.{texts_of};
 
 use crate::file::IndexFile;
+use crate::samples::first_eight;
 use jass_base::Lexicon;
 use std::cmp::Ordering;
 
@@ -12,11 +13,12 @@ impl Lexicon for IndexFile {
 
     fn find(&self, term: &[u8]) -> Option<u32> {
         self.is_checked();
+        let first = first_eight(term);
         let mut from = 0;
         let mut to = self.terms();
         'halves: while from < to {
-            let middle = from + (to - from) / 2;
-            match self.term(middle).as_bytes().cmp(term) {
+            let middle = middle_of(from, to);
+            match self.order(middle, term, first) {
                 Ordering::Less => from = middle + 1,
                 Ordering::Equal => return Some(middle),
                 Ordering::Greater => to = middle,
@@ -24,4 +26,15 @@ impl Lexicon for IndexFile {
         }
         None
     }
+}
+
+/// A number near the middle, that of a sampled term where there is one on the left of it.
+fn middle_of(from: u32, to: u32) -> u32
+    requires { from < to }
+    ensures from { from ≤ result }
+    ensures to { result < to }
+{
+    let middle = from + (to - from) / 2;
+    let sampled = middle / 64 * 64;
+    if sampled >= from { sampled } else { middle }
 }

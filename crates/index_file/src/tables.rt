@@ -1,7 +1,7 @@
 ghost use Rattle.std.specs.Prelude.{ℕ, ◌≡◌, ◌≤◌, ◌^◌, List, length, map, All, IfOk};
 ghost use Rattle.index_file.specs.Opened.{Stands, view_of};
 ghost use Rattle.index_file.specs.Payloads.{IsCounted, IsPayload, row_heads, row_terms};
-ghost use Rattle.index_file.specs.Tables.{AreRows, row_head};
+ghost use Rattle.index_file.specs.Tables.{AreRows, HasHead, row_head};
 ghost use Rattle.index_layout.specs.Reading.{read_index, read_payloads};
 ghost use Rattle.index_layout.specs.Refusals.{Answers};
 
@@ -35,7 +35,7 @@ pub(crate) fn read_tables(
         Ok(read) => read,
         Err(fault) => return Err(fault),
     };
-    let (text, rows, heads, behind_terms) = match read_terms(
+    let (text, rows, heads, sums, behind_terms) = match read_terms(
         alloc,
         bytes,
         docs,
@@ -49,7 +49,7 @@ pub(crate) fn read_tables(
         Ok(read) => read,
         Err(fault) => return Err(fault),
     };
-    match check_ends(bytes, segments.as_slice(), end) {
+    match check_ends(bytes, sums, end) {
         Ok(()) => Ok((places, text, rows, segments)),
         Err(fault) => Err(fault),
     }
@@ -69,11 +69,12 @@ fn place_segments(
     requires docs { docs ≤ 2 ^ 26 }
     requires rows { (text : List ℕ) × AreRows text heads rows.now }
     requires terms { length rows.now ≤ 2 ^ 32 }
-    requires counted { All (IsCounted docs) (map row_head heads) }
+    requires counted { All (IsCounted docs) (map (row_head bytes.now) heads) }
+    requires there { All (HasHead bytes.now) heads }
     ensures exact { (text : List ℕ) → Answers
         (λ x. record { terms = row_terms bytes.now docs text x.0 rows.now; end = x.1 }) result
-        (read_payloads bytes.now docs (row_heads text heads rows.now) from) }
-    ensures heads { IfOk result (λ x. map row_head x.0 ≡ map row_head heads) }
+        (read_payloads bytes.now docs (row_heads bytes.now text heads rows.now) from) }
+    ensures heads { IfOk result (λ x. map (row_head bytes.now) x.0 ≡ map (row_head bytes.now) heads) }
     ensures payloads { IfOk result (λ x. All (IsPayload bytes.now docs) x.0) }
     ensures end { IfOk result (λ x. x.1 ≤ length bytes.now) }
 {

@@ -8,6 +8,7 @@ ghost use Rattle.index_file.specs.Tables.{IsSpan, before_in, part_of};
 use crate::following::follows;
 use crate::name::is_text;
 use crate::number::{u16_at, u32_at};
+use crate::plain::is_plain;
 use crate::span::Span;
 use index_layout::{OpenFault, OpenWhy, refused};
 use jass_base::{NoMemory, Row};
@@ -71,7 +72,7 @@ fn append_term(
 fn is_term_text(bytes: &[u8]) -> bool
     ensures { result ≡ (nat_le (length bytes.now) 65535 && is_utf8 bytes.now) }
 {
-    bytes.len() <= 65_535 && is_text(bytes)
+    bytes.len() <= 65_535 && (is_plain(bytes) || is_text(bytes))
 }
 
 /// Appends the term at a place behind the one before, and gives the place of its heads and their

@@ -2,10 +2,11 @@ ghost use Rattle.std.specs.Prelude.{◌≡◌, ◌≤◌, ◌<◌, ◌^◌, All,
 ghost use Rattle.index_layout.specs.Reading.{read_segments};
 ghost use Rattle.index_layout.specs.Refusals.{Answers};
 ghost use Rattle.index_file.specs.Payloads.{IsCounted, IsPayload, row_segment};
-ghost use Rattle.index_file.specs.Tables.{row_head};
+ghost use Rattle.index_file.specs.Tables.{HasHead, row_head};
 
 use crate::payload::{check_apart, check_payload, placed};
 use crate::segment::Segment;
+use crate::segment_head::head_of;
 use index_layout::OpenFault;
 
 /// Checks the payloads of one term's segments from a place on, notes in each row where its own
@@ -17,17 +18,19 @@ pub(crate) fn read_term_payloads(
     marks: &mut [u32],
     now: u32,
     from: usize,
-    block: &mut [u32; 128],
+    block: &mut [u32; 4096],
 ) -> Result<usize, OpenFault>
     requires few { length bytes.now ≤ 2 ^ 32 }
     requires docs { docs ≤ 2 ^ 26 }
     requires from { from ≤ length bytes.now }
-    requires counted { All (IsCounted docs) (map row_head segments.old) }
+    requires counted { All (IsCounted docs) (map (row_head bytes.now) segments.old) }
+    requires there { All (HasHead bytes.now) segments.old }
     requires marks { (docs ≤ length marks.old) × All (λ mark. mark < now) marks.old }
     ensures exact { Answers
         (λ end. record { segments = map (row_segment bytes.now docs) segments.new; end = end }) result
-        (read_segments bytes.now docs [] (map row_head segments.old) from) }
-    ensures heads { map row_head segments.new ≡ map row_head segments.old }
+        (read_segments bytes.now docs [] (map (row_head bytes.now) segments.old) from) }
+    ensures heads { map (row_head bytes.now) segments.new ≡ map (row_head bytes.now) segments.old }
+    ensures there { IfOk result (λ _. All (HasHead bytes.now) segments.new) }
     ensures payloads { IfOk result (λ _. All (IsPayload bytes.now docs) segments.new) }
     ensures end { IfOk result (λ end. end ≤ length bytes.now) }
     ensures marks { IfOk result (λ _. (docs ≤ length marks.new) × All (λ mark. mark ≤ now) marks.new) }
@@ -49,22 +52,25 @@ fn read_only(
     requires few { length bytes.now ≤ 2 ^ 32 }
     requires docs { docs ≤ 2 ^ 26 }
     requires from { from ≤ length bytes.now }
-    requires counted { All (IsCounted docs) (map row_head segments.old) }
+    requires counted { All (IsCounted docs) (map (row_head bytes.now) segments.old) }
+    requires there { All (HasHead bytes.now) segments.old }
     requires one { length segments.old ≡ 1 }
     ensures exact { Answers
         (λ end. record { segments = map (row_segment bytes.now docs) segments.new; end = end }) result
-        (read_segments bytes.now docs [] (map row_head segments.old) from) }
-    ensures heads { map row_head segments.new ≡ map row_head segments.old }
+        (read_segments bytes.now docs [] (map (row_head bytes.now) segments.old) from) }
+    ensures heads { map (row_head bytes.now) segments.new ≡ map (row_head bytes.now) segments.old }
+    ensures there { IfOk result (λ _. All (HasHead bytes.now) segments.new) }
     ensures payloads { IfOk result (λ _. All (IsPayload bytes.now docs) segments.new) }
     ensures end { IfOk result (λ end. end ≤ length bytes.now) }
 {
     let segment = segments[0];
-    match check_payload(bytes, docs, segment, from) {
+    let head = head_of(bytes, segment);
+    match check_payload(bytes, docs, head, from) {
         Ok(()) => {}
         Err(fault) => return Err(fault),
     }
     segments[0] = placed(segment, from);
-    Ok(from + segment.size as usize)
+    Ok(from + head.size as usize)
 }
 
 /// The same for any number of segments, whose documents are marked as they are met.
@@ -75,17 +81,19 @@ fn read_apart(
     marks: &mut [u32],
     now: u32,
     from: usize,
-    block: &mut [u32; 128],
+    block: &mut [u32; 4096],
 ) -> Result<usize, OpenFault>
     requires few { length bytes.now ≤ 2 ^ 32 }
     requires docs { docs ≤ 2 ^ 26 }
     requires from { from ≤ length bytes.now }
-    requires counted { All (IsCounted docs) (map row_head segments.old) }
+    requires counted { All (IsCounted docs) (map (row_head bytes.now) segments.old) }
+    requires there { All (HasHead bytes.now) segments.old }
     requires marks { (docs ≤ length marks.old) × All (λ mark. mark < now) marks.old }
     ensures exact { Answers
         (λ end. record { segments = map (row_segment bytes.now docs) segments.new; end = end }) result
-        (read_segments bytes.now docs [] (map row_head segments.old) from) }
-    ensures heads { map row_head segments.new ≡ map row_head segments.old }
+        (read_segments bytes.now docs [] (map (row_head bytes.now) segments.old) from) }
+    ensures heads { map (row_head bytes.now) segments.new ≡ map (row_head bytes.now) segments.old }
+    ensures there { IfOk result (λ _. All (HasHead bytes.now) segments.new) }
     ensures payloads { IfOk result (λ _. All (IsPayload bytes.now docs) segments.new) }
     ensures end { IfOk result (λ end. end ≤ length bytes.now) }
     ensures marks { IfOk result (λ _. (docs ≤ length marks.new) × All (λ mark. mark ≤ now) marks.new) }
@@ -93,12 +101,13 @@ fn read_apart(
     let mut at = from;
     'segments: for i in 0..segments.len() {
         let segment = segments[i];
-        match check_apart(bytes, docs, segment, at, marks, now, block) {
+        let head = head_of(bytes, segment);
+        match check_apart(bytes, docs, head, at, marks, now, block) {
             Ok(()) => {}
             Err(fault) => return Err(fault),
         }
         segments[i] = placed(segment, at);
-        at += segment.size as usize;
+        at += head.size as usize;
     }
     Ok(at)
 }

@@ -2,19 +2,21 @@ ghost use Rattle.std.specs.Prelude.{◌≡◌, ◌<◌, ◌≤◌, ◌+◌, ◌^
 ghost use Rattle.index_layout.specs.Reading.{read_terms};
 ghost use Rattle.index_layout.specs.Refusals.{Answers};
 ghost use Rattle.index_file.specs.Payloads.{IsCounted, row_heads};
-ghost use Rattle.index_file.specs.Tables.{AreRows, row_head};
+ghost use Rattle.index_file.specs.Sums.{AreSums};
+ghost use Rattle.index_file.specs.Tables.{AreRows, HasHead, row_head};
 
 use crate::heads::read_heads;
 use crate::segment::Segment;
 use crate::span::Span;
+use crate::sums::Sums;
 use crate::term::read_term;
 use crate::term_row::TermRow;
 use index_layout::OpenFault;
 use jass_base::Row;
 use std::alloc::Global;
 
-/// The text of so many terms, their rows and the heads of their segments, and the place behind the
-/// last. The text and the segments have fewer than 2^32 entries; a file with more wants memory.
+/// The text of so many terms, their rows, the heads of their segments with the sums of these, and the
+/// place behind the last. The text and the segments have fewer than 2^32 entries; a file with more wants memory.
 #[inline(never)]
 pub(crate) fn read_terms(
     alloc: Global,
@@ -22,16 +24,19 @@ pub(crate) fn read_terms(
     docs: u32,
     count: u32,
     from: usize,
-) -> Result<(Row<u8>, Row<TermRow>, Row<Segment>, usize), OpenFault>
+) -> Result<(Row<u8>, Row<TermRow>, Row<Segment>, Sums, usize), OpenFault>
     requires from { from ≤ length bytes.now }
     requires few { length bytes.now ≤ 2 ^ 32 }
-    ensures exact { Answers (λ x. record { terms = row_heads x.0 x.2 x.1; end = x.3 }) result
+    requires docs { docs ≤ 2 ^ 26 }
+    ensures exact { Answers (λ x. record { terms = row_heads bytes.now x.0 x.2 x.1; end = x.4 }) result
         (read_terms bytes.now docs count None from) }
     ensures rows { IfOk result (λ x. AreRows x.0 x.2 x.1) }
     ensures count { IfOk result (λ x. length x.1 ≡ count + 1) }
-    ensures counted { IfOk result (λ x. All (IsCounted docs) (map row_head x.2)) }
+    ensures counted { IfOk result (λ x. All (IsCounted docs) (map (row_head bytes.now) x.2)) }
+    ensures there { IfOk result (λ x. All (HasHead bytes.now) x.2) }
+    ensures sums { IfOk result (λ x. AreSums x.3 (map (row_head bytes.now) x.2)) }
     ensures few { IfOk result (λ x. length x.2 < 2 ^ 32) }
-    ensures end { IfOk result (λ x. x.3 ≤ length bytes.now) }
+    ensures end { IfOk result (λ x. x.4 ≤ length bytes.now) }
 {
     let mut text = Row::new(alloc);
     let mut rows = Row::new(alloc);
@@ -43,6 +48,10 @@ pub(crate) fn read_terms(
         Ok(()) => {}
         Err(_) => return Err(OpenFault::NoMemory),
     }
+    let mut sums = Sums {
+        postings: 0,
+        greatest: 0,
+    };
     let mut before: Option<Span> = None;
     let mut at = from;
     'terms: for _ in 0..count {
@@ -51,7 +60,7 @@ pub(crate) fn read_terms(
             Ok(read) => read,
             Err(fault) => return Err(fault),
         };
-        at = match read_heads(&mut segments, bytes, docs, heads, place) {
+        at = match read_heads(&mut segments, &mut sums, bytes, docs, heads, place) {
             Ok(end) => end,
             Err(fault) => return Err(fault),
         };
@@ -70,5 +79,5 @@ pub(crate) fn read_terms(
             to: text.len() as u32,
         });
     }
-    Ok((text, rows, segments, at))
+    Ok((text, rows, segments, sums, at))
 }

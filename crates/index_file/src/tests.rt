@@ -5,7 +5,7 @@ ghost use Rattle.std.specs.Prelude.{◌≡◌, ◌<◌, ◌≤◌};
 
 use crate::{CodecUse, IndexFile, open};
 use index_layout::{OpenFault, OpenWhy};
-use jass_base::{Lexicon, MemCabinet, Names, Row, Steps, Totals};
+use jass_base::{Lexicon, MemCabinet, Names, NoMemory, Row, Steps, Totals};
 use std::alloc::Global;
 use std::marker::Brand;
 use std::sync::ledger::{Blank, Ledger};
@@ -115,6 +115,34 @@ fn changed_files_are_refused(rt: HostRuntime) {
         assert!(&rt; answer(opened(alloc, &changed(place, byte))) == (number, at));
     }
     assert!(&rt; answer(opened(alloc, &FILE[..102])) == (41, 8));
+}
+
+/// The file of one document, whose name has 1 MiB and so many bytes more, and of no term.
+fn named(alloc: Global, more: u8) -> Result<Row<u8>, NoMemory> {
+    let size = 1_048_576 + u32::from(more);
+    let mut front = [0u8; 44];
+    front[..8].copy_from_slice(b"JASSIDX2");
+    front[8..12].copy_from_slice(&(44 + size).to_le_bytes());
+    front[16] = 1;
+    front[40..].copy_from_slice(&size.to_le_bytes());
+    let mut row = Row::new(alloc);
+    row.extend(&front)?;
+    for _ in 0..256 {
+        row.extend(&[b'n'; 4096])?;
+    }
+    row.extend(&[b'n'; 256][..more as usize])?;
+    Ok(row)
+}
+
+#[test]
+fn a_name_has_a_mebibyte_at_the_most(rt: HostRuntime) {
+    let alloc = rt.alloc();
+    for (more, number, at) in [(0, 0, 1), (1, 42, 40)] {
+        let Ok(bytes) = named(alloc, more) else {
+            panic!(&rt; "no memory");
+        };
+        assert!(&rt; answer(IndexFile::from_bytes(alloc, bytes)) == (number, at));
+    }
 }
 
 /// The answer for bytes that are kept in a cabinet.

@@ -11,7 +11,8 @@ use jass_base::PayloadFault;
 use plain_codecs::varbyte;
 
 /// The answer of `check`, and where it is Ok, the documents at the front of `out`. What stands behind
-/// them there, or all of it where there is a fault, is left open. Varbyte is read once for both.
+/// them there, or all of it where there is a fault, is left open. Varbyte and
+/// Simple-8b are read once for both.
 pub fn check_into(
     codec: Codec,
     bytes: &[u8],
@@ -30,6 +31,7 @@ pub fn check_into(
 {
     match codec {
         Codec::Varbyte => varbyte::check_into(bytes, count, d, out),
+        Codec::Simple8 => codec_simple8::check_into(bytes, count, d, out),
         _ => check_and_read(codec, bytes, count, d, out),
     }
 }

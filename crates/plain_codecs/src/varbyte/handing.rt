@@ -21,8 +21,8 @@ pub fn check_into(bytes: &[u8], count: u32, d: u32, out: &mut [u32]) -> Result<(
     hand_out(bytes, count, d, out)
 }
 
-// The same, by what is read.
-#[inline(always)]
+// The same, by what is read. It is a call, so that its loop has registers of its own.
+#[inline(never)]
 fn hand_out(bytes: &[u8], count: u32, d: u32, out: &mut [u32]) -> Result<(), PayloadFault>
     requires limit { d ≤ 2 ^ 26 }
     requires room { count ≤ length out.old }

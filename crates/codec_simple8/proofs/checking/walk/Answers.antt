@@ -1,8 +1,7 @@
-use Rattle.std.proofs.Common.{◌≡◌, ℕ, ◌+◌, ◌/◌, ◌%◌, ◌<◌, ◌≤◌, List, drop, length, length-drop, refl, sym, ap, subst, ◌∙◌, arith}
-use Rattle.std.specs.Prelude.{sum}
+use Rattle.std.proofs.Common.{◌≡◌, ◌%◌, ◌<◌, ◌≤◌, drop, length, length-drop, refl, sym, ap, subst, ◌∙◌, arith}
 use Rattle.jass_base.specs.declared.payload_fault.PayloadFault.TheVariants.{Cut, Shape, DocRange}
-use Rattle.codec_simple8.specs.Simple8.{count_of, width_of, fields, gaps_in, word_in, least_behind, read_words}
-use Rattle.codec_simple8.proofs.Reading.{walk_start, walk_fault, walk_one, walk_longer, walk_end, word_cut, word_shape, word_range, word_ok, word_behind}
+use Rattle.codec_simple8.specs.Simple8.{count_of, gaps_in, word_in, least_behind, read_words}
+use Rattle.codec_simple8.proofs.Reading.{walk_start, walk_fault, walk_one, walk_longer, walk_end, word_cut, word_shape, word_range, word_ok, few_gaps, least_after}
 use Rattle.codec_simple8.proofs.Tables.{count_some, count_most}
 use Rattle.codec_simple8.proofs.WordLists.{length-gaps_in}
 use Rattle.codec_simple8.proofs.checking.walk.Goals as goal
@@ -29,20 +28,11 @@ returns-then-gaps-left c =
     (word_shape c.args.d c.loop-left.least c.loop-left.left (drop c.loop-left.at c.args.bytes.now) long many) in
     rw is refl
 
--- where a word has no more gaps than are left
-few_gaps : (left : ℕ) (bytes : List ℕ) (word gaps : ℕ) → word ≡ word_in bytes → gaps ≡ count_of (word % 16) → gaps ≤ left → count_of (word_in bytes % 16) ≤ left
-few_gaps left bytes word gaps is many few = subst (λ word. count_of (word % 16) ≤ left) is (omega (arith, many, few))
-
--- the least document behind a word
-behind : (least left : ℕ) (bytes : List ℕ) (word total gaps : ℕ) → word ≡ word_in bytes → total ≡ sum (fields (width_of (word % 16)) (count_of (word % 16)) (word / 16)) → gaps ≡ count_of (word % 16)
-    → least + (total + gaps) ≡ least_behind least (gaps_in (word_in bytes))
-behind least left bytes word total gaps is sum_is many = ap (λ n. least + (total + n)) many ∙ word_behind least word total sum_is ∙ ap (λ word. least_behind least (gaps_in word)) is
-
 pub returns-then-least-from : goal.returns-then-least-from
 returns-then-least-from c =
     let long : 8 ≤ length (drop c.loop-left.at c.args.bytes.now) = omega (arith, c.if-bytes-at-lt8.false, length-drop c.loop-left.at c.args.bytes.now) in
     let few = few_gaps c.loop-left.left (drop c.loop-left.at c.args.bytes.now) c.word_at-word.result c.count_at-gaps.result c.word_at-word.ensures c.count_at-gaps.ensures c.if-gaps-left.false in
-    let least = behind c.loop-left.least c.loop-left.left (drop c.loop-left.at c.args.bytes.now) c.word_at-word.result c.sum_gaps.result c.from.result c.word_at-word.ensures c.sum_gaps.ensures.sum (c.from.ensures ∙ c.count_at-gaps.ensures) in
+    let least = least_after c.loop-left.least (drop c.loop-left.at c.args.bytes.now) c.word_at-word.result c.sum_gaps.result c.from.result c.word_at-word.ensures c.sum_gaps.ensures.sum (c.from.ensures ∙ c.count_at-gaps.ensures) in
     let is = walk_fault (read_words c.args.count c.args.d 0 c.args.count c.args.bytes.now) c.args.d c.args.bytes.now c.loop-left.at c.loop-left.left c.loop-left.least DocRange c.loop-left.invariant (omega (arith, c.loop-left-test.true))
     (word_range c.args.d c.loop-left.least c.loop-left.left (drop c.loop-left.at c.args.bytes.now) long few c.loop-left.invariant.low (omega (arith, c.if-least-from.true, c.from-in-loop-left.ensures, least))) in
     rw is refl
@@ -54,7 +44,7 @@ pub loop-left-preserved : goal.loop-left-preserved
 loop-left-preserved c =
     let long : 8 ≤ length (drop c.loop-left.at c.args.bytes.now) = omega (arith, c.if-bytes-at-lt8.false, length-drop c.loop-left.at c.args.bytes.now) in
     let few = few_gaps c.loop-left.left (drop c.loop-left.at c.args.bytes.now) c.word_at-word.result c.count_at-gaps.result c.word_at-word.ensures c.count_at-gaps.ensures c.if-gaps-left.false in
-    let least = behind c.loop-left.least c.loop-left.left (drop c.loop-left.at c.args.bytes.now) c.word_at-word.result c.sum_gaps.result c.from.result c.word_at-word.ensures c.sum_gaps.ensures.sum (c.from.ensures ∙ c.count_at-gaps.ensures) in
+    let least = least_after c.loop-left.least (drop c.loop-left.at c.args.bytes.now) c.word_at-word.result c.sum_gaps.result c.from.result c.word_at-word.ensures c.sum_gaps.ensures.sum (c.from.ensures ∙ c.count_at-gaps.ensures) in
     let low : least_behind c.loop-left.least (gaps_in (word_in (drop c.loop-left.at c.args.bytes.now))) ≤ c.args.d = omega (arith, c.if-least-from.false, c.from-in-loop-left.ensures, least) in
     let own = length-gaps_in (word_in (drop c.loop-left.at c.args.bytes.now)) in
     let many : 0 < length (gaps_in (word_in (drop c.loop-left.at c.args.bytes.now))) = omega (arith, own, count_some (word_in (drop c.loop-left.at c.args.bytes.now) % 16) (omega arith)) in

@@ -1,14 +1,20 @@
-use Rattle.std.proofs.Common.{◌≡◌, ◌-◌, ◌≤◌, ◌++◌, length, map, drop, All}
+use Rattle.std.proofs.Common.{◌≡◌, ◌+◌, ◌-◌, ◌*◌, ◌^◌, ◌≤◌, ◌++◌, List, length, map, drop, All}
 use Rattle.index_layout.specs.Reading.{read_heads}
+use Rattle.index_layout.specs.Heads.{HeadData}
 use Rattle.index_file.specs.Payloads.{IsCounted}
-use Rattle.index_file.specs.Tables.{row_head}
+use Rattle.index_file.specs.Sums.{AreSums}
+use Rattle.index_file.specs.Tables.{HasHead, row_head}
 use Rattle.index_file.proofs.Sequences.{with_heads}
 use Rattle.index_file.proofs.heads.read_heads.Given as goal
 
 abbrev pub invariant-heads : goal.invariant-heads
 invariant-heads l = record {
-  read : read_heads l.bytes l.docs l.count 65536 l.from ≡ with_heads (map row_head (drop (length l.fn.segments) l.segments)) (read_heads l.bytes l.docs (l.count - l.counter) l.above l.at);
+  read : read_heads l.bytes l.docs l.count 65536 l.from ≡ with_heads (map (row_head l.bytes) (drop (length l.fn.segments) l.segments)) (read_heads l.bytes l.docs (l.count - l.counter) l.above l.at);
   kept : l.segments ≡ l.fn.segments ++ drop (length l.fn.segments) l.segments;
-  counted : All (IsCounted l.docs) (map row_head (drop (length l.fn.segments) l.segments));
+  counted : All (IsCounted l.docs) (map (row_head l.bytes) (drop (length l.fn.segments) l.segments));
+  there : All (HasHead l.bytes) (drop (length l.fn.segments) l.segments);
+  sums : (heads : List HeadData) → AreSums l.fn.sums heads → AreSums l.sums (heads ++ map (row_head l.bytes) (drop (length l.fn.segments) l.segments));
+  small : l.sums.postings ≤ 2 ^ 26 * length l.segments;
+  many : length l.segments ≡ length l.fn.segments + l.counter;
   at : l.at ≤ length l.bytes;
 }

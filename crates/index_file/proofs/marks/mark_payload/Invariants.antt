@@ -2,12 +2,12 @@ use Rattle.std.proofs.Common.{◌+◌}
 use Rattle.std.specs.Prelude.{slice_range}
 use Rattle.segment_codecs.specs.Giving.{Gives}
 use Rattle.index_layout.specs.Reading.{docs_in}
-use Rattle.index_file.specs.Tables.{row_head}
+use Rattle.index_file.specs.Tables.{told}
 use Rattle.index_file.proofs.MarkLists.{Left}
 use Rattle.index_file.proofs.marks.mark_payload.Given as goal
 
 abbrev pub invariant-parts : goal.invariant-parts
-invariant-parts l = Left (Gives l.cursor (slice_range l.bytes l.fn.segment.place (l.fn.segment.place + l.fn.segment.size))) l.now l.fn.docs l.left (docs_in l.bytes l.fn.docs (row_head l.fn.segment) l.fn.segment.place) l.fn.marks l.marks
+invariant-parts l = Left (Gives l.cursor (slice_range l.bytes l.from (l.from + l.fn.head.size))) l.now l.fn.docs l.left (docs_in l.bytes l.fn.docs (told l.fn.head) l.from) l.fn.marks l.marks
 
 abbrev pub decreases-parts : goal.decreases-parts
 decreases-parts l = l.left

@@ -1,7 +1,7 @@
 use Rattle.std.proofs.Common.{[], sym, subst, arith}
 use Rattle.index_layout.specs.Reading.{payload_end}
 use Rattle.index_layout.specs.Refusals.{Fails}
-use Rattle.index_file.specs.Tables.{row_head}
+use Rattle.index_file.specs.Tables.{told}
 use Rattle.index_file.proofs.OnePayload.{payload_cut, payload_not, payload_alone, payload_read}
 use Rattle.index_file.proofs.payload.check_payload.Goals as goal
 
@@ -9,20 +9,20 @@ pub returns-then-bytes-at-clause-exact : goal.returns-then-bytes-at-clause-exact
 returns-then-bytes-at-clause-exact c =
     let long = c.if-bytes-at.true in
     let from = c.requires.at in
-    subst (λ fault. Fails fault (payload_end c.args.bytes.now c.args.docs [] (row_head c.args.segment) c.args.at)) (sym c.refused.ensures)
-    (payload_cut c.args.bytes.now c.args.docs [] (row_head c.args.segment) c.args.at (omega (arith, long, from)))
+    subst (λ fault. Fails fault (payload_end c.args.bytes.now c.args.docs [] (told c.args.head) c.args.at)) (sym c.refused.ensures)
+    (payload_cut c.args.bytes.now c.args.docs [] (told c.args.head) c.args.at (omega (arith, long, from)))
 
 pub returns-in-Ok-clause-exact : goal.returns-in-Ok-clause-exact
 returns-in-Ok-clause-exact c =
     let fits = c.if-bytes-at.false in
     let from = c.requires.at in
-    payload_alone c.args.bytes.now c.args.docs (row_head c.args.segment) c.args.at c.in-Ok.field-0 (omega (arith, fits, from)) c.in-Ok.ensures.judged
+    payload_alone c.args.bytes.now c.args.docs (told c.args.head) c.args.at c.in-Ok.field-0 (omega (arith, fits, from)) c.in-Ok.ensures.judged
 
 pub returns-in-Ok-clause-payload : goal.returns-in-Ok-clause-payload
 returns-in-Ok-clause-payload c =
     let fits = c.if-bytes-at.false in
     let from = c.requires.at in
-    let read = payload_read c.args.bytes.now c.args.docs (row_head c.args.segment) c.args.at c.in-Ok.field-0 (omega (arith, fits, from)) c.in-Ok.ensures.judged
+    let read = payload_read c.args.bytes.now c.args.docs (told c.args.head) c.args.at c.in-Ok.field-0 (omega (arith, fits, from)) c.in-Ok.ensures.judged
     c.payloads_are_read.ensures.only (λ i. omega (arith, c.type_inv.bytes i)) c.requires.counted.0 c.requires.docs in
     record { within = omega (arith, fits, from); docs = read.0; count = read.1; spelled = read.2 }
 
@@ -30,5 +30,5 @@ pub returns-in-Err-clause-exact : goal.returns-in-Err-clause-exact
 returns-in-Err-clause-exact c =
     let fits = c.if-bytes-at.false in
     let from = c.requires.at in
-    subst (λ fault. Fails fault (payload_end c.args.bytes.now c.args.docs [] (row_head c.args.segment) c.args.at)) (sym c.refused-in-Err.ensures)
-    (payload_not (Unit {0}) c.args.bytes.now c.args.docs [] (row_head c.args.segment) c.args.at c.in-Err.fault (omega (arith, fits, from)) c.in-Err.ensures.judged)
+    subst (λ fault. Fails fault (payload_end c.args.bytes.now c.args.docs [] (told c.args.head) c.args.at)) (sym c.refused-in-Err.ensures)
+    (payload_not (Unit {0}) c.args.bytes.now c.args.docs [] (told c.args.head) c.args.at c.in-Err.fault (omega (arith, fits, from)) c.in-Err.ensures.judged)

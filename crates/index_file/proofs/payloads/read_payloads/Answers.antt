@@ -28,8 +28,9 @@ terms-preserved c =
     let heads = c.in-Ok-read_between.ensures.heads in
     let front = c.in-Ok-read_between.ensures.front in
     record {
-      read = λ text. index_next bytes d rows i old new inside heads front stands.below text (read_payloads bytes d (row_heads text c.args.segments.now rows) c.args.from) c.terms.at c.in-Ok-read_between.end (stands.read text) c.in-Ok-read_between.ensures.exact;
+      read = λ text. index_next bytes d rows i old new inside heads front stands.below text (read_payloads bytes d (row_heads bytes text c.args.segments.now rows) c.args.from) c.terms.at c.in-Ok-read_between.end (stands.read text) c.in-Ok-read_between.ensures.exact;
       heads = heads ∙ stands.heads;
+      there = c.in-Ok-read_between.ensures.there;
       below = below_next bytes d rows i old new inside heads front stands.below order.rise;
       payloads = before_next (IsPayload bytes d) new (row_of rows i).segment (row_of rows (i + 1)).segment order.rise (subst (All (IsPayload bytes d)) (sym front) stands.payloads) c.in-Ok-read_between.ensures.payloads;
       marks = c.in-Ok-read_between.ensures.marks.1;
@@ -43,7 +44,7 @@ returns-clause-exact c = λ text.
     let some = some_row c.requires.rows.0 c.args.segments.now rows c.requires.rows.1 in
     let test = c.terms-test.false in
     let end = c.terms.auto.i-end in
-    index_end c.args.bytes.now c.args.docs text c.terms.segments rows c.terms.i c.terms.at (read_payloads c.args.bytes.now c.args.docs (row_heads text c.args.segments.now rows) c.args.from) (omega (arith, some, test, end)) (c.terms.invariant.read text)
+    index_end c.args.bytes.now c.args.docs text c.terms.segments rows c.terms.i c.terms.at (read_payloads c.args.bytes.now c.args.docs (row_heads c.args.bytes.now text c.args.segments.now rows) c.args.from) (omega (arith, some, test, end)) (c.terms.invariant.read text)
 
 pub returns-clause-payloads : goal.returns-clause-payloads
 returns-clause-payloads c =

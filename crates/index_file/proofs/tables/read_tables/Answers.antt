@@ -1,11 +1,11 @@
-use Rattle.std.proofs.Common.{arith, ap, sym, ◌∙◌, map, None, Ok, Result}
+use Rattle.std.proofs.Common.{arith, ap, subst, sym, ◌∙◌, map, None, Ok, Result}
 use Rattle.index_layout.specs.declared.refusal.OpenRefusal.{OpenRefusal}
 use Rattle.index_layout.specs.Reading.{Front, NamesRead, TermsRead, name_in, read_index, read_names, read_terms, read_payloads, after_front, after_names, after_terms, after_payloads}
 use Rattle.index_layout.specs.View.{FileView}
 use Rattle.index_layout.specs.Refusals.{judged}
 use Rattle.index_layout.specs.Reading.{end_checks}
 use Rattle.index_file.specs.Payloads.{row_heads}
-use Rattle.index_file.specs.Tables.{row_head}
+use Rattle.index_file.specs.Sums.{AreSums}
 use Rattle.index_file.proofs.Reading.{fails_on, fails_as, front_not, front_there, names_there, terms_there, ends_told, view_with, stands_there, up_to_ends, bytes_fit}
 use Rattle.index_file.proofs.Standing.{same_view}
 use Rattle.index_file.proofs.Wholes.{heads_are, rows_stay}
@@ -35,7 +35,7 @@ returns-in-Err-place_segments-clause-exact c =
     let front : Front = record { docs = c.in-Ok.front.0; terms = c.in-Ok.front.1 } in
     let x : NamesRead = record { names = map (name_in bytes) c.in-Ok-read_names.read.0; end = c.in-Ok-read_names.read.1 } in
     let text = c.in-Ok-read_terms.read.0 in
-    let y : TermsRead = record { terms = row_heads text c.in-Ok-read_terms.read.2 c.in-Ok-read_terms.read.1; end = c.in-Ok-read_terms.read.3 } in
+    let y : TermsRead = record { terms = row_heads bytes text c.in-Ok-read_terms.read.2 c.in-Ok-read_terms.read.1; end = c.in-Ok-read_terms.read.4 } in
     fails_as c.in-Err-place_segments.fault (read_index bytes) (after_terms bytes front x.names y) (front_there bytes front c.in-Ok.ensures.exact ∙ names_there bytes front x c.in-Ok-read_names.ensures.exact ∙ terms_there bytes front x y c.in-Ok-read_terms.ensures.exact)
     (fails_on c.in-Err-place_segments.fault (read_payloads bytes front.docs y.terms y.end) (after_payloads bytes x.names y.terms) (c.in-Err-place_segments.ensures.exact text))
 
@@ -51,11 +51,11 @@ returns-in-Err-check_ends-clause-exact c =
     let end = c.in-Ok-place_segments.read.1 in
     let same = c.in-Ok-place_segments.ensures.heads in
     let v = view_with bytes docs places text rows segments in
-    let are = rows_stay text heads segments same rows c.in-Ok-read_terms.ensures.rows in
-    let whole = heads_are text segments rows are ∙ ap (map row_head) (sym c.as_slice.ensures) in
-    let before = up_to_ends bytes docs c.in-Ok.front.1 places text rows heads segments c.in-Ok-read_names.read.1 c.in-Ok-read_terms.read.3 end same
+    let are = rows_stay bytes text heads segments same rows c.in-Ok-read_terms.ensures.rows in
+    let whole = subst (AreSums c.in-Ok-read_terms.read.3) (sym (heads_are bytes text segments rows are ∙ same)) c.in-Ok-read_terms.ensures.sums in
+    let before = up_to_ends bytes docs c.in-Ok.front.1 places text rows heads segments c.in-Ok-read_names.read.1 c.in-Ok-read_terms.read.4 end same
     c.in-Ok.ensures.exact c.in-Ok-read_names.ensures.exact c.in-Ok-read_terms.ensures.exact (c.in-Ok-place_segments.ensures.exact text) in
-    fails_as c.in-Err-check_ends.fault (read_index bytes) (judged (end_checks bytes (row_heads text segments rows) end) v) before (c.in-Err-check_ends.ensures (row_heads text segments rows) v whole)
+    fails_as c.in-Err-check_ends.fault (read_index bytes) (judged (end_checks bytes (row_heads bytes text segments rows) end) v) before (c.in-Err-check_ends.ensures (row_heads bytes text segments rows) v whole)
 
 pub returns-in-Ok-check_ends-clause-exact : goal.returns-in-Ok-check_ends-clause-exact
 returns-in-Ok-check_ends-clause-exact c =
@@ -69,11 +69,11 @@ returns-in-Ok-check_ends-clause-exact c =
     let end = c.in-Ok-place_segments.read.1 in
     let same = c.in-Ok-place_segments.ensures.heads in
     let v = view_with bytes docs places text rows segments in
-    let are = rows_stay text heads segments same rows c.in-Ok-read_terms.ensures.rows in
-    let whole = heads_are text segments rows are ∙ ap (map row_head) (sym c.as_slice.ensures) in
-    let before = up_to_ends bytes docs c.in-Ok.front.1 places text rows heads segments c.in-Ok-read_names.read.1 c.in-Ok-read_terms.read.3 end same
+    let are = rows_stay bytes text heads segments same rows c.in-Ok-read_terms.ensures.rows in
+    let whole = subst (AreSums c.in-Ok-read_terms.read.3) (sym (heads_are bytes text segments rows are ∙ same)) c.in-Ok-read_terms.ensures.sums in
+    let before = up_to_ends bytes docs c.in-Ok.front.1 places text rows heads segments c.in-Ok-read_names.read.1 c.in-Ok-read_terms.read.4 end same
     c.in-Ok.ensures.exact c.in-Ok-read_names.ensures.exact c.in-Ok-read_terms.ensures.exact (c.in-Ok-place_segments.ensures.exact text) in
-    let read = before ∙ c.in-Ok-check_ends.ensures (row_heads text segments rows) v whole in
+    let read = before ∙ c.in-Ok-check_ends.ensures (row_heads bytes text segments rows) v whole in
     read ∙ ap (λ (v : FileView). (let r : Result FileView OpenRefusal = Ok v in r)) (sym (same_view bytes v read))
 
 pub returns-in-Ok-check_ends-clause-stands : goal.returns-in-Ok-check_ends-clause-stands
@@ -88,12 +88,12 @@ returns-in-Ok-check_ends-clause-stands c =
     let end = c.in-Ok-place_segments.read.1 in
     let same = c.in-Ok-place_segments.ensures.heads in
     let v = view_with bytes docs places text rows segments in
-    let are = rows_stay text heads segments same rows c.in-Ok-read_terms.ensures.rows in
-    let whole = heads_are text segments rows are ∙ ap (map row_head) (sym c.as_slice.ensures) in
-    let before = up_to_ends bytes docs c.in-Ok.front.1 places text rows heads segments c.in-Ok-read_names.read.1 c.in-Ok-read_terms.read.3 end same
+    let are = rows_stay bytes text heads segments same rows c.in-Ok-read_terms.ensures.rows in
+    let whole = subst (AreSums c.in-Ok-read_terms.read.3) (sym (heads_are bytes text segments rows are ∙ same)) c.in-Ok-read_terms.ensures.sums in
+    let before = up_to_ends bytes docs c.in-Ok.front.1 places text rows heads segments c.in-Ok-read_names.read.1 c.in-Ok-read_terms.read.4 end same
     c.in-Ok.ensures.exact c.in-Ok-read_names.ensures.exact c.in-Ok-read_terms.ensures.exact (c.in-Ok-place_segments.ensures.exact text) in
-    let passed = c.in-Ok-check_ends.ensures (row_heads text segments rows) v whole in
+    let passed = c.in-Ok-check_ends.ensures (row_heads bytes text segments rows) v whole in
     let read = before ∙ passed in
-    let totals = ends_told bytes (row_heads text segments rows) end v passed in
+    let totals = ends_told bytes (row_heads bytes text segments rows) end v passed in
     let law = c.files_are_read.ensures.only v bytes (bytes_fit bytes (λ i. omega (arith, c.type_inv.bytes i))) read in
     stands_there bytes docs places text rows segments c.in-Ok-read_names.ensures.count read law.0 law.1 c.in-Ok-read_names.ensures.within are c.in-Ok-place_segments.ensures.payloads c.in-Ok.ensures.long.0 totals.0 totals.1

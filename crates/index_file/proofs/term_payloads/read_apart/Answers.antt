@@ -1,12 +1,12 @@
-use Rattle.std.proofs.Common.{◌≡◌, ◌<◌, ◌+◌, [], ◌++◌, All, length, map, take, drop, slice_index_or, slice_set, ap, sym, subst, ◌∙◌, arith}
+use Rattle.std.proofs.Common.{◌≡◌, ◌<◌, ◌+◌, [], ◌++◌, Ok, All, length, map, take, drop, slice_index_or, slice_set, ap, sym, subst, ◌∙◌, arith}
 use Rattle.std.specs.List.{flat_map}
-use Rattle.std.proofs.lemmas.List.Elements.{All-push}
-use Rattle.segment_codecs.specs.declared.codec.Codec.TheVariants.{Varbyte}
-use Rattle.index_layout.specs.Reading.{read_segments}
+use Rattle.std.proofs.lemmas.List.Elements.{All-push, All-set}
+use Rattle.index_layout.specs.Reading.{docs_in, payload_end, read_segments}
+use Rattle.index_layout.specs.Heads.{HeadData}
 use Rattle.index_file.specs.declared.segment.Segment.{Segment}
 use Rattle.index_file.specs.Marks.{AreMarks}
-use Rattle.index_file.specs.Payloads.{IsPayload, placed, row_segment}
-use Rattle.index_file.specs.Tables.{row_head}
+use Rattle.index_file.specs.Payloads.{IsCounted, IsPayload, IsPayloadAt, placed, row_segment}
+use Rattle.index_file.specs.Tables.{HasHead, row_head, told}
 use Rattle.index_file.proofs.SegmentLists.{docs_there, with_segments, segments_on, marks_on, row_counted, row_read, rows_left}
 use Rattle.index_file.proofs.term_payloads.read_apart.Goals as goal
 
@@ -14,7 +14,7 @@ pub check_apart-requires-clause-counted : goal.check_apart-requires-clause-count
 check_apart-requires-clause-counted c =
     let i = c.segments-test.true in
     let n = c.segments.auto.segments in
-    row_counted c.args.docs c.segments.segments c.args.segments.now c.segments.i (record { impact = 0; codec = Varbyte; count = 0; size = 0; place = 0 }) c.requires.counted c.segments.invariant.heads (omega (arith, i, n))
+    subst (IsCounted c.args.docs) (sym c.head_of-head.ensures) (row_counted c.args.bytes.now c.args.docs c.segments.segments c.args.segments.now c.segments.i (record { head = 0; place = 0 }) c.requires.counted c.segments.invariant.heads (omega (arith, i, n)))
 
 pub segments-preserved : goal.segments-preserved
 segments-preserved c =
@@ -24,10 +24,13 @@ segments-preserved c =
     let i = c.segments.i in
     let at = c.segments.at in
     let s = c.placed.result in
-    let blank : Segment = record { impact = 0; codec = Varbyte; count = 0; size = 0; place = 0 } in
+    let blank : Segment = record { head = 0; place = 0 } in
     let row = slice_index_or rows i blank in
     let here : s ≡ placed row at = c.placed.ensures in
-    let head : row_head s ≡ row_head row = ap row_head here in
+    let read : HeadData = told c.head_of-head.result in
+    let is_read : read ≡ row_head bytes row = c.head_of-head.ensures in
+    let next = at + c.head_of-head.result.size in
+    let head : row_head bytes s ≡ row_head bytes row = ap (row_head bytes) here in
     let place : s.place ≡ at = ap (λ (x : Segment). x.place) here in
     let front = take i rows in
     let rest = drop (i + 1) rows in
@@ -36,19 +39,20 @@ segments-preserved c =
     let test = c.segments-test.true in
     let many = c.segments.auto.segments in
     let inside : i < length rows = omega (arith, test, many) in
-    let total = read_segments bytes d [] (map row_head c.args.segments.now) c.args.from in
+    let total = read_segments bytes d [] (map (row_head bytes) c.args.segments.now) c.args.from in
     let earlier = flat_map (docs_there bytes d) front in
     let after = row_read bytes d rows i s blank inside head in
-    let is = stands.read ∙ ap (λ left. with_segments (map (row_segment bytes d) front) (read_segments bytes d earlier (map row_head left) at)) (rows_left rows i blank inside) in
-    let on = segments_on bytes d total front rest row s at (at + row.size) is head place (c.in-Ok.ensures.exact earlier stands.marks) in
-    let met = subst (λ (x : Segment). AreMarks c.args.now (earlier ++ docs_there bytes d x) c.check_apart.new.marks) (sym here) (c.in-Ok.ensures.marks earlier stands.marks) in
-    let marked = marks_on bytes d total front rest row s at (at + row.size) is head place c.args.now c.check_apart.new.marks met in
+    let is = stands.read ∙ ap (λ left. with_segments (map (row_segment bytes d) front) (read_segments bytes d earlier (map (row_head bytes) left) at)) (rows_left rows i blank inside) in
+    let on = segments_on bytes d total front rest row s at next is head place (subst (λ h. payload_end bytes d earlier h at ≡ Ok next) is_read (c.in-Ok.ensures.exact earlier stands.marks)) in
+    let met = subst (λ (x : Segment). AreMarks c.args.now (earlier ++ docs_there bytes d x) c.check_apart.new.marks) (sym here) (subst (λ h. AreMarks c.args.now (earlier ++ docs_in bytes d h at) c.check_apart.new.marks) is_read (c.in-Ok.ensures.marks earlier stands.marks)) in
+    let marked = marks_on bytes d total front rest row s at next is head place c.args.now c.check_apart.new.marks met in
     record {
       read = on
-          ∙ ap (λ done. with_segments (map (row_segment bytes d) done) (read_segments bytes d (flat_map (docs_there bytes d) done) (map row_head rest) (at + row.size))) (sym after.front)
-          ∙ ap (λ left. with_segments (map (row_segment bytes d) (take (i + 1) new)) (read_segments bytes d (flat_map (docs_there bytes d) (take (i + 1) new)) (map row_head left) (at + row.size))) (sym after.rest);
+          ∙ ap (λ done. with_segments (map (row_segment bytes d) done) (read_segments bytes d (flat_map (docs_there bytes d) done) (map (row_head bytes) rest) next)) (sym after.front)
+          ∙ ap (λ left. with_segments (map (row_segment bytes d) (take (i + 1) new)) (read_segments bytes d (flat_map (docs_there bytes d) (take (i + 1) new)) (map (row_head bytes) left) next)) (sym after.rest);
       heads = after.heads ∙ stands.heads;
-      payloads = subst (All (IsPayload bytes d)) (sym after.front) (All-push (IsPayload bytes d) front s stands.payloads (subst (IsPayload bytes d) (sym here) c.in-Ok.ensures.payload));
+      payloads = subst (All (IsPayload bytes d)) (sym after.front) (All-push (IsPayload bytes d) front s stands.payloads (subst (IsPayload bytes d) (sym here) (record { there = stands.there i blank inside; payload = subst (λ h. IsPayloadAt bytes d h at) is_read c.in-Ok.ensures.payload })));
+      there = All-set (HasHead bytes) rows i s (subst (HasHead bytes) (sym here) (stands.there i blank inside)) stands.there;
       marks = subst (λ done. AreMarks c.args.now (flat_map (docs_there bytes d) done) c.check_apart.new.marks) (sym after.front) marked;
       count = (let l = c.in-Ok.ensures.count in let m = stands.count in omega (arith, l, m));
       at = c.in-Ok.ensures.payload.within;

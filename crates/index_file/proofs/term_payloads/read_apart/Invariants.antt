@@ -3,15 +3,16 @@ use Rattle.std.specs.List.{flat_map}
 use Rattle.index_layout.specs.Reading.{read_segments}
 use Rattle.index_file.specs.Marks.{AreMarks}
 use Rattle.index_file.specs.Payloads.{IsPayload, row_segment}
-use Rattle.index_file.specs.Tables.{row_head}
+use Rattle.index_file.specs.Tables.{HasHead, row_head}
 use Rattle.index_file.proofs.SegmentLists.{docs_there, with_segments}
 use Rattle.index_file.proofs.term_payloads.read_apart.Given as goal
 
 abbrev pub invariant-segments : goal.invariant-segments
 invariant-segments l = record {
-  read : read_segments l.bytes l.docs [] (map row_head l.fn.segments) l.from
-      ≡ with_segments (map (row_segment l.bytes l.docs) (take l.i l.segments)) (read_segments l.bytes l.docs (flat_map (docs_there l.bytes l.docs) (take l.i l.segments)) (map row_head (drop l.i l.segments)) l.at);
-  heads : map row_head l.segments ≡ map row_head l.fn.segments;
+  read : read_segments l.bytes l.docs [] (map (row_head l.bytes) l.fn.segments) l.from
+      ≡ with_segments (map (row_segment l.bytes l.docs) (take l.i l.segments)) (read_segments l.bytes l.docs (flat_map (docs_there l.bytes l.docs) (take l.i l.segments)) (map (row_head l.bytes) (drop l.i l.segments)) l.at);
+  heads : map (row_head l.bytes) l.segments ≡ map (row_head l.bytes) l.fn.segments;
+  there : All (HasHead l.bytes) l.segments;
   payloads : All (IsPayload l.bytes l.docs) (take l.i l.segments);
   marks : AreMarks l.now (flat_map (docs_there l.bytes l.docs) (take l.i l.segments)) l.marks;
   count : l.docs ≤ length l.marks;

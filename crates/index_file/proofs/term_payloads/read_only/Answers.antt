@@ -1,8 +1,8 @@
 use Rattle.std.proofs.Common.{◌≡◌, ◌+◌, [], Ok, map, slice_index_or, slice_set, refl, sym, subst, arith}
-use Rattle.segment_codecs.specs.declared.codec.Codec.TheVariants.{Varbyte}
-use Rattle.index_layout.specs.Reading.{read_segments}
+use Rattle.index_layout.specs.Reading.{payload_end, read_segments}
+use Rattle.index_layout.specs.Heads.{HeadData}
 use Rattle.index_file.specs.declared.segment.Segment.{Segment}
-use Rattle.index_file.specs.Payloads.{placed, row_segment}
+use Rattle.index_file.specs.Payloads.{IsCounted, placed, row_segment}
 use Rattle.index_file.specs.Tables.{row_head}
 use Rattle.index_file.proofs.SegmentLists.{row_counted, only_segment}
 use Rattle.index_file.proofs.term_payloads.read_only.Goals as goal
@@ -10,7 +10,7 @@ use Rattle.index_file.proofs.term_payloads.read_only.Goals as goal
 pub check_payload-requires-clause-counted : goal.check_payload-requires-clause-counted
 check_payload-requires-clause-counted c =
     let one = c.requires.one in
-    row_counted c.args.docs c.args.segments.now c.args.segments.now 0 (record { impact = 0; codec = Varbyte; count = 0; size = 0; place = 0 }) c.requires.counted refl (omega (arith, one))
+    subst (IsCounted c.args.docs) (sym c.head_of-head.ensures) (row_counted c.args.bytes.now c.args.docs c.args.segments.now c.args.segments.now 0 (record { head = 0; place = 0 }) c.requires.counted refl (omega (arith, one)))
 
 pub returns-clause-exact : goal.returns-clause-exact
 returns-clause-exact c =
@@ -18,8 +18,9 @@ returns-clause-exact c =
     let d = c.args.docs in
     let rows = c.args.segments.now in
     let at = c.args.from in
-    let blank : Segment = record { impact = 0; codec = Varbyte; count = 0; size = 0; place = 0 } in
+    let blank : Segment = record { head = 0; place = 0 } in
     let row = slice_index_or rows 0 blank in
-    let read : read_segments bytes d [] (map row_head rows) at ≡ Ok (record { segments = map (row_segment bytes d) (slice_set rows 0 (placed row at)); end = at + row.size })
-    = only_segment bytes d rows (placed row at) blank at c.requires.one refl refl c.in-Ok.ensures.exact in
-    subst (λ (s : Segment). read_segments bytes d [] (map row_head rows) at ≡ Ok (record { segments = map (row_segment bytes d) (slice_set rows 0 s); end = at + row.size })) (sym c.placed.ensures) read
+    let read : read_segments bytes d [] (map (row_head bytes) rows) at ≡ Ok (record { segments = map (row_segment bytes d) (slice_set rows 0 (placed row at)); end = at + (row_head bytes row).size })
+    = only_segment bytes d rows (placed row at) blank at c.requires.one refl refl (subst (λ h. payload_end bytes d [] h at ≡ Ok (at + h.size)) c.head_of-head.ensures c.in-Ok.ensures.exact) in
+    let sized = subst (λ (h : HeadData). read_segments bytes d [] (map (row_head bytes) rows) at ≡ Ok (record { segments = map (row_segment bytes d) (slice_set rows 0 (placed row at)); end = at + h.size })) (sym c.head_of-head.ensures) read in
+    subst (λ (s : Segment). read_segments bytes d [] (map (row_head bytes) rows) at ≡ Ok (record { segments = map (row_segment bytes d) (slice_set rows 0 s); end = at + c.head_of-head.result.size })) (sym c.placed.ensures) sized

@@ -1,11 +1,13 @@
-use Rattle.std.proofs.Common.{◌≡◌, ◌+◌, ◌-◌, suc, List, ◌∷◌, [], None, Some, map, drop, length, ap, sym, subst, ◌∙◌, arith}
-use Rattle.std.proofs.lemmas.List.{length-append}
+use Rattle.std.proofs.Common.{◌≡◌, ◌+◌, ◌-◌, suc, List, ◌∷◌, [], None, Some, map, drop, length, All, ap, sym, subst, ◌∙◌, arith}
+use Rattle.std.proofs.lemmas.List.{length-append, map-append}
+use Rattle.std.proofs.lemmas.List.Elements.{All-append}
 use Rattle.index_layout.specs.Heads.{TermHeads}
 use Rattle.index_layout.specs.Reading.{HeadsRead, term_in, read_heads, read_terms}
 use Rattle.index_file.specs.declared.span.Span.{Span}
 use Rattle.index_file.specs.declared.term_row.TermRow.{TermRow}
 use Rattle.index_file.specs.Payloads.{row_heads}
-use Rattle.index_file.specs.Tables.{AreRows, before_in, row_head}
+use Rattle.index_file.specs.Sums.{AreSums}
+use Rattle.index_file.specs.Tables.{AreRows, HasHead, before_in, row_head}
 use Rattle.index_file.proofs.TermRows.{with_terms, terms_on, terms_end, heads_not, counted_on, rows_next}
 use Rattle.index_file.proofs.terms.read_terms.Goals as goal
 
@@ -25,26 +27,29 @@ terms-preserved c =
     let put = c.in-Ok-push.ensures.ok in
     let row : TermRow = record { text = c.len-in-terms.result; segment = c.len-in-terms-2.result } in
     let span : Span = record { from = c.len-start.result; to = c.len-in-terms-3.result } in
-    let here : HeadsRead = record { heads = map row_head added; end = c.in-Ok-read_heads.end } in
+    let here : HeadsRead = record { heads = map (row_head bytes) added; end = c.in-Ok-read_heads.end } in
     let left = c.args.count - (c.terms.counter + 1) in
     let more : c.args.count - c.terms.counter ≡ suc left = omega arith in
     let heads : read_heads bytes d _ 65536 c.in-Ok-read_term.read.0 ≡ _ = ap (λ n. read_heads bytes d n 65536 c.in-Ok-read_term.read.0) (sym c.in-Ok-read_term.ensures.heads) ∙ c.in-Ok-read_heads.ensures.exact in
-    let next = rows_next text term newer segments added newest rows row span c.in-Ok-read_term.ensures.term c.in-Ok-read_heads.ensures.kept c.terms.invariant.rows c.len-in-terms.ensures c.len-in-terms-2.ensures c.len-start.ensures c.len-in-terms-3.ensures in
-    let front = row_heads newer newest c.push-in-terms.new.self in
+    let next = rows_next bytes text term newer segments added newest rows row span c.in-Ok-read_term.ensures.term c.in-Ok-read_heads.ensures.kept c.terms.invariant.rows c.len-in-terms.ensures c.len-in-terms-2.ensures c.len-start.ensures c.len-in-terms-3.ensures in
+    let front = row_heads bytes newer newest c.push-in-terms.new.self in
     record {
-      read = terms_on bytes d (read_terms bytes d c.args.count None c.args.from) (row_heads text segments rows) (c.args.count - c.terms.counter) left before at c.in-Ok-read_term.read.0 here c.terms.invariant.read more c.in-Ok-read_term.ensures.exact heads
-          ∙ ap (λ (front : List TermHeads). with_terms front (read_terms bytes d left (Some term) here.end)) (sym next.terms_are ∙ ap (row_heads newer newest) (sym put))
+      read = terms_on bytes d (read_terms bytes d c.args.count None c.args.from) (row_heads bytes text segments rows) (c.args.count - c.terms.counter) left before at c.in-Ok-read_term.read.0 here c.terms.invariant.read more c.in-Ok-read_term.ensures.exact heads
+          ∙ ap (λ (front : List TermHeads). with_terms front (read_terms bytes d left (Some term) here.end)) (sym next.terms_are ∙ ap (row_heads bytes newer newest) (sym put))
           ∙ ap (λ t. with_terms front (read_terms bytes d left (Some t) here.end)) (sym next.part);
       at = c.in-Ok-read_heads.ensures.end;
       before = next.span_is;
       rows = subst (AreRows newer newest) (sym put) next.are;
       counted = counted_on bytes d segments added newest c.in-Ok-read_heads.ensures.kept c.terms.invariant.counted c.in-Ok-read_heads.ensures.counted;
+      there = subst (All (HasHead bytes)) (sym c.in-Ok-read_heads.ensures.kept) (All-append (HasHead bytes) segments added c.terms.invariant.there c.in-Ok-read_heads.ensures.there);
+      sums = subst (λ all. AreSums c.read_heads.new.sums all) (sym (ap (map (row_head bytes)) c.in-Ok-read_heads.ensures.kept ∙ map-append (row_head bytes) segments added)) (c.in-Ok-read_heads.ensures.sums (map (row_head bytes) segments) c.terms.invariant.sums);
+      small = c.in-Ok-read_heads.ensures.small;
       few = omega (arith, c.len-else-len-gt4294967295.ensures, c.if-len-gt4294967295-2.false);
       count = ap length put ∙ length-append rows (row ∷ []) ∙ ap (λ n. n + 1) c.terms.invariant.count;
     }
 
 pub returns-clause-exact : goal.returns-clause-exact
-returns-clause-exact c = terms_end c.args.bytes.now c.args.docs (read_terms c.args.bytes.now c.args.docs c.args.count None c.args.from) (row_heads c.terms.text c.terms.segments c.terms.rows) (c.args.count - c.terms.counter) (before_in c.terms.text c.terms.before) c.terms.at c.terms.invariant.read (omega arith)
+returns-clause-exact c = terms_end c.args.bytes.now c.args.docs (read_terms c.args.bytes.now c.args.docs c.args.count None c.args.from) (row_heads c.args.bytes.now c.terms.text c.terms.segments c.terms.rows) (c.args.count - c.terms.counter) (before_in c.terms.text c.terms.before) c.terms.at c.terms.invariant.read (omega arith)
 
 pub returns-in-Err-read_heads-clause-exact : goal.returns-in-Err-read_heads-clause-exact
 returns-in-Err-read_heads-clause-exact c =
@@ -53,5 +58,5 @@ returns-in-Err-read_heads-clause-exact c =
     let before = before_in c.terms.text c.terms.before in
     let left = c.args.count - (c.terms.counter + 1) in
     let more : c.args.count - c.terms.counter ≡ suc left = omega arith in
-    heads_not bytes d (read_terms bytes d c.args.count None c.args.from) (row_heads c.terms.text c.terms.segments c.terms.rows) (c.args.count - c.terms.counter) left before c.terms.at c.in-Ok-read_term.read.0 c.in-Ok-read_term.read.1 c.in-Err-read_heads.fault
+    heads_not bytes d (read_terms bytes d c.args.count None c.args.from) (row_heads bytes c.terms.text c.terms.segments c.terms.rows) (c.args.count - c.terms.counter) left before c.terms.at c.in-Ok-read_term.read.0 c.in-Ok-read_term.read.1 c.in-Err-read_heads.fault
     c.terms.invariant.read more c.in-Ok-read_term.ensures.exact c.in-Ok-read_term.ensures.heads c.in-Err-read_heads.ensures.exact

@@ -51,6 +51,9 @@ pub returns-then-selector-lt2-clause-more : goal.returns-then-selector-lt2-claus
 returns-then-selector-lt2-clause-more c =
     c.put_zeros.ensures.more (omega (arith, c.count_at-count.ensures, count_some (c.word_at-word.result % 16) (omega arith))) (omega (arith, c.requires.room))
 
+pub put_gaps-self-requires-clause-room : goal.put_gaps-self-requires-clause-room
+put_gaps-self-requires-clause-room c = omega (arith, count_others (c.word_at-word.result % 16) c.if-selector-lt2.false (omega arith), c.requires.room, c.told-out)
+
 pub put_gaps-self-requires-clause-least : goal.put_gaps-self-requires-clause-least
 put_gaps-self-requires-clause-least c = given_least c.args.self.now c.args.bytes.now c.requires.stands.0 c.requires.zeros c.requires.some c.requires.stands.1
 

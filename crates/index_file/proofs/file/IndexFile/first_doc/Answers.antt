@@ -14,8 +14,8 @@ known_gap-requires g c =
     let place = c.segment-found.result.place in
     let bytes = file_bytes v in
     let spelled = c.segment-found.ensures.payload ∙ ap (λ codec. payload_of codec d docs) c.in-Varbyte.is in
-    let one = one_there c.gap_varints_are_read.ensures.found bytes d place c.segment-found.result.size docs c.segment-found.ensures.docs c.requires.one spelled in
-    let whole : c.as_slice.result.now ≡ bytes = c.as_slice.ensures ∙ c.self.invariant.spelled ∙ ap file_bytes c.self.view_is in
+    let one = one_there c.gap_varints_are_read.ensures.found bytes d place c.segment-found.result.head.size docs c.segment-found.ensures.docs c.requires.one spelled in
+    let whole : c.as_slice.result.now ≡ bytes = c.as_slice.ensures ∙ c.self.invariant.stands.spelled ∙ ap file_bytes c.self.view_is in
     let there = ap (λ (bytes : List ℕ). gap_in (drop place bytes)) whole ∙ one.read in
     gap_there (gap_in (drop place c.as_slice.result.now)) _ there
 
@@ -27,7 +27,7 @@ returns-in-Varbyte-clause-doc g c =
     let place = c.segment-found.result.place in
     let bytes = file_bytes v in
     let spelled = c.segment-found.ensures.payload ∙ ap (λ codec. payload_of codec d docs) c.in-Varbyte.is in
-    let one = one_there c.gap_varints_are_read.ensures.found bytes d place c.segment-found.result.size docs c.segment-found.ensures.docs c.requires.one spelled in
-    let whole : c.as_slice.result.now ≡ bytes = c.as_slice.ensures ∙ c.self.invariant.spelled ∙ ap file_bytes c.self.view_is in
+    let one = one_there c.gap_varints_are_read.ensures.found bytes d place c.segment-found.result.head.size docs c.segment-found.ensures.docs c.requires.one spelled in
+    let whole : c.as_slice.result.now ≡ bytes = c.as_slice.ensures ∙ c.self.invariant.stands.spelled ∙ ap file_bytes c.self.view_is in
     let there = ap (λ (bytes : List ℕ). gap_in (drop place bytes)) whole ∙ one.read in
     one.only ∙ ap (λ n. n ∷ []) (gap_is c.as_slice.result.now place one.doc c.known_gap.result.0 _ _ there c.known_gap.ensures.value)

@@ -1,8 +1,10 @@
-use Rattle.std.proofs.Common.{subst, sym, ◌<◌, length}
+use Rattle.std.proofs.Common.{◌≡◌, ◌+◌, subst, sym, ◌<◌, length}
 use Rattle.index_layout.specs.View.{FileView}
-use Rattle.index_file.specs.Opened.{view_of}
 use Rattle.index_model.specs.Querying.{segments_at}
-use Rattle.index_file.proofs.Standing.{there, segment_there, row_tells}
+use Rattle.index_file.specs.Opened.{view_of}
+use Rattle.index_file.specs.Places.{segment_at}
+use Rattle.index_file.specs.Tables.{told, row_head}
+use Rattle.index_file.proofs.Standing.{head_tells, there, segment_of, segment_there, row_of, row_tells}
 use Rattle.index_file.proofs.file.IndexFile.segment.Goals as goal
 
 pub bounds-as_slice-first : goal.bounds-as_slice-first
@@ -11,10 +13,20 @@ bounds-as_slice-first c =
     let v = view_of f.bytes in
     let below = subst (λ (v : FileView). c.args.t < length v.index.terms) (sym c.self.view_is) c.requires.t in
     let inside = subst (λ (v : FileView). c.args.s < length (segments_at v.index.terms c.args.t)) (sym c.self.view_is) c.requires.s in
-    let h = there f.bytes f.places f.text f.rows f.segments v c.self.invariant c.args.t below in
+    let h = there f.bytes f.places f.text f.rows f.segments v c.self.invariant.stands c.args.t below in
     let place = segment_there f.bytes f.text f.rows f.segments v c.args.t c.args.s h inside in
-    let tells = row_tells f.bytes f.places f.text f.rows f.segments v c.self.invariant c.args.t c.args.s _ place in
+    let tells = row_tells f.bytes f.places f.text f.rows f.segments v c.self.invariant.stands c.args.t c.args.s _ place in
     rw (c.as_slice.ensures, c.as_slice-2.ensures) place.inside
+
+pub head_of-requires : goal.head_of-requires
+head_of-requires c =
+    let f = c.self.inside in
+    let v = view_of f.bytes in
+    let below = subst (λ (v : FileView). c.args.t < length v.index.terms) (sym c.self.view_is) c.requires.t in
+    let inside = subst (λ (v : FileView). c.args.s < length (segments_at v.index.terms c.args.t)) (sym c.self.view_is) c.requires.s in
+    let h = there f.bytes f.places f.text f.rows f.segments v c.self.invariant.stands c.args.t below in
+    let at = segment_there f.bytes f.text f.rows f.segments v c.args.t c.args.s h inside in
+    rw (c.as_slice.ensures, c.as_slice-2.ensures, c.as_slice-3.ensures) (c.self.invariant.stands.payloads _ (record { head = 0; place = 0 }) at.inside).there
 
 pub returns-clause-impact : goal.returns-clause-impact
 returns-clause-impact c =
@@ -22,10 +34,13 @@ returns-clause-impact c =
     let v = view_of f.bytes in
     let below = subst (λ (v : FileView). c.args.t < length v.index.terms) (sym c.self.view_is) c.requires.t in
     let inside = subst (λ (v : FileView). c.args.s < length (segments_at v.index.terms c.args.t)) (sym c.self.view_is) c.requires.s in
-    let h = there f.bytes f.places f.text f.rows f.segments v c.self.invariant c.args.t below in
-    let place = segment_there f.bytes f.text f.rows f.segments v c.args.t c.args.s h inside in
-    let tells = row_tells f.bytes f.places f.text f.rows f.segments v c.self.invariant c.args.t c.args.s _ place in
-    rw (c.as_slice.ensures, c.as_slice-2.ensures, ← c.self.view_is) tells.impact
+    let h = there f.bytes f.places f.text f.rows f.segments v c.self.invariant.stands c.args.t below in
+    let at = segment_there f.bytes f.text f.rows f.segments v c.args.t c.args.s h inside in
+    let row = segment_of f.segments ((row_of f.rows c.args.t).segment + c.args.s) in
+    let read : told c.head_of.result ≡ row_head f.bytes row = rw (sym c.as_slice.ensures, sym c.as_slice-2.ensures, sym c.as_slice-3.ensures) c.head_of.ensures in
+    let tells = head_tells v c.head_of.result (row_head f.bytes row) row.place (segment_at v.index.terms c.args.t c.args.s) read
+    (row_tells f.bytes f.places f.text f.rows f.segments v c.self.invariant.stands c.args.t c.args.s ((row_of f.rows c.args.t).segment + c.args.s) at) in
+    rw (← c.self.view_is) tells.impact
 
 pub returns-clause-count : goal.returns-clause-count
 returns-clause-count c =
@@ -33,10 +48,13 @@ returns-clause-count c =
     let v = view_of f.bytes in
     let below = subst (λ (v : FileView). c.args.t < length v.index.terms) (sym c.self.view_is) c.requires.t in
     let inside = subst (λ (v : FileView). c.args.s < length (segments_at v.index.terms c.args.t)) (sym c.self.view_is) c.requires.s in
-    let h = there f.bytes f.places f.text f.rows f.segments v c.self.invariant c.args.t below in
-    let place = segment_there f.bytes f.text f.rows f.segments v c.args.t c.args.s h inside in
-    let tells = row_tells f.bytes f.places f.text f.rows f.segments v c.self.invariant c.args.t c.args.s _ place in
-    rw (c.as_slice.ensures, c.as_slice-2.ensures, ← c.self.view_is) tells.count
+    let h = there f.bytes f.places f.text f.rows f.segments v c.self.invariant.stands c.args.t below in
+    let at = segment_there f.bytes f.text f.rows f.segments v c.args.t c.args.s h inside in
+    let row = segment_of f.segments ((row_of f.rows c.args.t).segment + c.args.s) in
+    let read : told c.head_of.result ≡ row_head f.bytes row = rw (sym c.as_slice.ensures, sym c.as_slice-2.ensures, sym c.as_slice-3.ensures) c.head_of.ensures in
+    let tells = head_tells v c.head_of.result (row_head f.bytes row) row.place (segment_at v.index.terms c.args.t c.args.s) read
+    (row_tells f.bytes f.places f.text f.rows f.segments v c.self.invariant.stands c.args.t c.args.s ((row_of f.rows c.args.t).segment + c.args.s) at) in
+    rw (← c.self.view_is) tells.count
 
 pub returns-clause-within : goal.returns-clause-within
 returns-clause-within c =
@@ -44,9 +62,12 @@ returns-clause-within c =
     let v = view_of f.bytes in
     let below = subst (λ (v : FileView). c.args.t < length v.index.terms) (sym c.self.view_is) c.requires.t in
     let inside = subst (λ (v : FileView). c.args.s < length (segments_at v.index.terms c.args.t)) (sym c.self.view_is) c.requires.s in
-    let h = there f.bytes f.places f.text f.rows f.segments v c.self.invariant c.args.t below in
-    let place = segment_there f.bytes f.text f.rows f.segments v c.args.t c.args.s h inside in
-    let tells = row_tells f.bytes f.places f.text f.rows f.segments v c.self.invariant c.args.t c.args.s _ place in
+    let h = there f.bytes f.places f.text f.rows f.segments v c.self.invariant.stands c.args.t below in
+    let at = segment_there f.bytes f.text f.rows f.segments v c.args.t c.args.s h inside in
+    let row = segment_of f.segments ((row_of f.rows c.args.t).segment + c.args.s) in
+    let read : told c.head_of.result ≡ row_head f.bytes row = rw (sym c.as_slice.ensures, sym c.as_slice-2.ensures, sym c.as_slice-3.ensures) c.head_of.ensures in
+    let tells = head_tells v c.head_of.result (row_head f.bytes row) row.place (segment_at v.index.terms c.args.t c.args.s) read
+    (row_tells f.bytes f.places f.text f.rows f.segments v c.self.invariant.stands c.args.t c.args.s ((row_of f.rows c.args.t).segment + c.args.s) at) in
     rw (c.as_slice.ensures, c.as_slice-2.ensures, ← c.self.view_is) tells.within
 
 pub returns-clause-docs : goal.returns-clause-docs
@@ -55,9 +76,12 @@ returns-clause-docs c =
     let v = view_of f.bytes in
     let below = subst (λ (v : FileView). c.args.t < length v.index.terms) (sym c.self.view_is) c.requires.t in
     let inside = subst (λ (v : FileView). c.args.s < length (segments_at v.index.terms c.args.t)) (sym c.self.view_is) c.requires.s in
-    let h = there f.bytes f.places f.text f.rows f.segments v c.self.invariant c.args.t below in
-    let place = segment_there f.bytes f.text f.rows f.segments v c.args.t c.args.s h inside in
-    let tells = row_tells f.bytes f.places f.text f.rows f.segments v c.self.invariant c.args.t c.args.s _ place in
+    let h = there f.bytes f.places f.text f.rows f.segments v c.self.invariant.stands c.args.t below in
+    let at = segment_there f.bytes f.text f.rows f.segments v c.args.t c.args.s h inside in
+    let row = segment_of f.segments ((row_of f.rows c.args.t).segment + c.args.s) in
+    let read : told c.head_of.result ≡ row_head f.bytes row = rw (sym c.as_slice.ensures, sym c.as_slice-2.ensures, sym c.as_slice-3.ensures) c.head_of.ensures in
+    let tells = head_tells v c.head_of.result (row_head f.bytes row) row.place (segment_at v.index.terms c.args.t c.args.s) read
+    (row_tells f.bytes f.places f.text f.rows f.segments v c.self.invariant.stands c.args.t c.args.s ((row_of f.rows c.args.t).segment + c.args.s) at) in
     rw (← c.self.view_is) tells.docs
 
 pub returns-clause-payload : goal.returns-clause-payload
@@ -66,7 +90,10 @@ returns-clause-payload c =
     let v = view_of f.bytes in
     let below = subst (λ (v : FileView). c.args.t < length v.index.terms) (sym c.self.view_is) c.requires.t in
     let inside = subst (λ (v : FileView). c.args.s < length (segments_at v.index.terms c.args.t)) (sym c.self.view_is) c.requires.s in
-    let h = there f.bytes f.places f.text f.rows f.segments v c.self.invariant c.args.t below in
-    let place = segment_there f.bytes f.text f.rows f.segments v c.args.t c.args.s h inside in
-    let tells = row_tells f.bytes f.places f.text f.rows f.segments v c.self.invariant c.args.t c.args.s _ place in
+    let h = there f.bytes f.places f.text f.rows f.segments v c.self.invariant.stands c.args.t below in
+    let at = segment_there f.bytes f.text f.rows f.segments v c.args.t c.args.s h inside in
+    let row = segment_of f.segments ((row_of f.rows c.args.t).segment + c.args.s) in
+    let read : told c.head_of.result ≡ row_head f.bytes row = rw (sym c.as_slice.ensures, sym c.as_slice-2.ensures, sym c.as_slice-3.ensures) c.head_of.ensures in
+    let tells = head_tells v c.head_of.result (row_head f.bytes row) row.place (segment_at v.index.terms c.args.t c.args.s) read
+    (row_tells f.bytes f.places f.text f.rows f.segments v c.self.invariant.stands c.args.t c.args.s ((row_of f.rows c.args.t).segment + c.args.s) at) in
     rw (c.as_slice.ensures, c.as_slice-2.ensures, ← c.self.view_is) tells.spelled

@@ -9,7 +9,7 @@ overflow_sub-result c =
     let f = c.self.inside in
     let inside : c.args.t < length c.args.self.now.index.terms = omega (arith, c.if-t-terms.false, c.terms.ensures) in
     let below = subst (λ (v : FileView). c.args.t < length v.index.terms) (sym c.self.view_is) inside in
-    let h = there f.bytes f.places f.text f.rows f.segments (view_of f.bytes) c.self.invariant c.args.t below in
+    let h = there f.bytes f.places f.text f.rows f.segments (view_of f.bytes) c.self.invariant.stands c.args.t below in
     rw c.as_slice-rows.ensures h.order.segment_rises
 
 pub returns : goal.returns
@@ -17,5 +17,5 @@ returns c =
     let f = c.self.inside in
     let inside : c.args.t < length c.args.self.now.index.terms = omega (arith, c.if-t-terms.false, c.terms.ensures) in
     let below = subst (λ (v : FileView). c.args.t < length v.index.terms) (sym c.self.view_is) inside in
-    let h = there f.bytes f.places f.text f.rows f.segments (view_of f.bytes) c.self.invariant c.args.t below in
+    let h = there f.bytes f.places f.text f.rows f.segments (view_of f.bytes) c.self.invariant.stands c.args.t below in
     rw (c.as_slice-rows.ensures, ← c.self.view_is) (segments_count f.bytes f.text f.rows f.segments (view_of f.bytes) c.args.t h)

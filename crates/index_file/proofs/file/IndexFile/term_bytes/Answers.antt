@@ -9,7 +9,7 @@ pub part-requires : goal.part-requires
 part-requires c =
     let f = c.self.inside in
     let below = subst (λ (v : FileView). c.args.t < length v.index.terms) (sym c.self.view_is) c.requires in
-    let h = there f.bytes f.places f.text f.rows f.segments (view_of f.bytes) c.self.invariant c.args.t below in
+    let h = there f.bytes f.places f.text f.rows f.segments (view_of f.bytes) c.self.invariant.stands c.args.t below in
     rw (c.as_slice-rows.ensures, c.as_slice.ensures) (h.order.text_rises, h.order.text_within)
 
 pub returns-clause-term : goal.returns-clause-term
@@ -17,7 +17,7 @@ unfolding part_of
 returns-clause-term c =
     let f = c.self.inside in
     let below = subst (λ (v : FileView). c.args.t < length v.index.terms) (sym c.self.view_is) c.requires in
-    let h = there f.bytes f.places f.text f.rows f.segments (view_of f.bytes) c.self.invariant c.args.t below in
+    let h = there f.bytes f.places f.text f.rows f.segments (view_of f.bytes) c.self.invariant.stands c.args.t below in
     rw (c.part.ensures, c.as_slice-rows.ensures, c.as_slice.ensures, ← c.self.view_is) (sym h.term)
 
 pub returns-clause-text : goal.returns-clause-text
@@ -25,5 +25,5 @@ unfolding part_of
 returns-clause-text c =
     let f = c.self.inside in
     let below = subst (λ (v : FileView). c.args.t < length v.index.terms) (sym c.self.view_is) c.requires in
-    let h = there f.bytes f.places f.text f.rows f.segments (view_of f.bytes) c.self.invariant c.args.t below in
-    rw (c.part.ensures, c.as_slice-rows.ensures, c.as_slice.ensures, sym h.term) (term_text (view_of f.bytes) c.self.invariant.view c.args.t below)
+    let h = there f.bytes f.places f.text f.rows f.segments (view_of f.bytes) c.self.invariant.stands c.args.t below in
+    rw (c.part.ensures, c.as_slice-rows.ensures, c.as_slice.ensures, sym h.term) (term_text (view_of f.bytes) c.self.invariant.stands.view c.args.t below)

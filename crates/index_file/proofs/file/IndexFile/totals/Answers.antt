@@ -6,6 +6,6 @@ use Rattle.index_file.proofs.file.IndexFile.totals.Goals as goal
 pub overflow_cast-result : goal.overflow_cast-result
 overflow_cast-result c =
     let f = c.self.inside in
-    let small = greatest_small (view_of f.bytes) c.self.invariant.view in
-    let e = c.self.invariant.greatest in
+    let small = greatest_small (view_of f.bytes) c.self.invariant.stands.view in
+    let e = c.self.invariant.stands.greatest in
     rw (c.u32_at.ensures, c.as_slice-bytes.ensures) (omega (arith, e, small))

@@ -1,0 +1,10 @@
+use Rattle.std.proofs.Common.{◌-◌, length, arith}
+use Rattle.index_file.proofs.PlainTexts.{plain_over}
+use Rattle.index_file.proofs.plain.is_plain.Goals as goal
+
+pub returns-then-are_parts_plain : goal.returns-then-are_parts_plain
+returns-then-are_parts_plain c = λ yes.
+    let long = c.if-bytes-lt8.false in
+    let size = length c.args.bytes.now in
+    plain_over c.args.bytes.now (size - 7) (size - 8) 8 (omega arith) (omega (arith, long))
+    (c.are_parts_plain.ensures c.if-are_parts_plain.true) (c.is_part_plain.ensures yes)

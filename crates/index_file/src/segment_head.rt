@@ -1,0 +1,53 @@
+ghost use Rattle.std.specs.Prelude.{◌≡◌, ◌<◌, length, slice_index};
+ghost use Rattle.std.specs.Option.{unwrap_or};
+ghost use Rattle.segment_codecs.specs.Codecs.{codec_of};
+ghost use Rattle.index_file.specs.Tables.{HasHead, row_head, told};
+
+use crate::number::{u16_at, u32_at};
+use crate::segment::Segment;
+use segment_codecs::Codec;
+
+/// The head of a segment: its impact, how many documents, and the codec and size of its payload in
+/// bytes.
+#[derive(Clone, Copy)]
+pub(crate) struct SegmentHead {
+    pub(crate) impact: u16,
+    pub(crate) codec: Codec,
+    pub(crate) count: u32,
+    pub(crate) size: u32,
+}
+
+/// A head, and where the payload of its segment begins in the file.
+#[derive(Clone, Copy)]
+pub(crate) struct PlacedHead {
+    pub(crate) head: SegmentHead,
+    pub(crate) place: u32,
+}
+
+/// The head of a segment, read from the bytes. An unknown codec is none of a checked file.
+#[tactic(auto, unfolding(index_layout::specs::Reading::head_in))]
+#[inline(always)]
+pub(crate) fn head_of(bytes: &[u8], segment: Segment) -> SegmentHead
+    requires { HasHead bytes.now segment }
+    ensures { told result ≡ row_head bytes.now segment }
+{
+    let at = segment.head as usize;
+    SegmentHead {
+        impact: u16_at(bytes, at),
+        codec: codec_at(bytes, at + 6),
+        count: u32_at(bytes, at + 2),
+        size: u32_at(bytes, at + 7),
+    }
+}
+
+/// The codec whose number stands at a place.
+#[inline(always)]
+fn codec_at(bytes: &[u8], at: usize) -> Codec
+    requires { at < length bytes.now }
+    ensures { result ≡ unwrap_or (codec_of (slice_index bytes.now at)) Codec.Varbyte }
+{
+    match Codec::from_number(bytes[at]) {
+        Some(codec) => codec,
+        None => Codec::Varbyte,
+    }
+}
