@@ -138,7 +138,7 @@ read_name terms name mentions query is = here (first_broken terms [] mentions) i
 pub refused_so : (file : FileView) (name : List ℕ) (state : DeskState) (k : ℕ) (read : Result reader.QueryData QueryWhy) (found : Result Entry DeskRefusal) (fault : QueryFault)
     → found ≡ fitting file state k read → Fails fault (at_line 1 read) → Opens file found name state state (Err (refuses fault))
 refused_so file name state k (Ok query) found (faults.Refused refusal) is fails = cc
-refused_so file name state k (Err why) found (faults.Refused refusal) is fails = 
+refused_so file name state k (Err why) found (faults.Refused refusal) is fails =
     let whole : (let r : QueryRefusal = record { line = 1; why = why } in r) ≡ refusal = cc in
     (is ∙ ap (λ (r : QueryRefusal). Err (query_refusal r.why)) whole, refl)
 refused_so file name state k read found faults.NoMemory is fails = refl

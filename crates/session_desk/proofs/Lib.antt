@@ -6,3 +6,7 @@ pub mod Showing
 pub mod Granting
 pub mod Joining
 pub mod Replying
+pub mod Isolation
+pub mod Opened
+pub mod Refusing
+pub mod Grants

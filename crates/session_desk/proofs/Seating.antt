@@ -68,7 +68,8 @@ differ_changed (u ∷ front) s t back named chain differ =
     let here = all_back (AreApart u) front (s ∷ back) differ.0 in (
       all_append (AreApart u) front (t ∷ back) (all_front (AreApart u) front (s ∷ back) differ.0)
           (record { names = (λ e. here.0.names (sym named ∙ e)); chains = (λ e. here.0.chains (sym chain ∙ e)) }, here.1),
-      differ_changed front s t back named chain differ.1)
+      differ_changed front s t back named chain differ.1,
+    )
 
 differ_gone : (front : List Session) (s : Session) (back : List Session) → Differ (front ++ s ∷ back) → Differ (front ++ back)
 differ_gone [] s back differ = differ.1
@@ -135,14 +136,14 @@ still_stand stay file old new front s t back stand leaves same stands =
       numbers = sym (length-map new.chains is_some) ∙ ap length leaves.in_use ∙ length-map old.chains is_some ∙ stand.numbers;
       in_use = uses_seen new.chains ∙ ap truths leaves.in_use ∙ sym (uses_seen old.chains) ∙ stand.in_use ∙ sym (same_length front s t back);
       spare = omega (
-          arith,
-          stand.spare,
-          leaves.spare,
-          leaves.frames,
-          needs_parted file front s back,
-          needs_parted file front t back,
-          ap (λ (q : Query). need_of file q.terms) same.query,
-        );
+        arith,
+        stand.spare,
+        leaves.spare,
+        leaves.frames,
+        needs_parted file front s back,
+        needs_parted file front t back,
+        ap (λ (q : Query). need_of file q.terms) same.query,
+      );
     }
 
 -- the chain of a session is in use, once
@@ -170,14 +171,14 @@ others_stand stay file old new front s back stand in_use promise frames chains o
       few = omega (arith, stand.few, length-append front back, length-append front (s ∷ back));
       numbers = ap length chains ∙ length-set old.chains (chain_of s) None ∙ stand.numbers;
       in_use = omega (
-          arith,
-          ap (count_by is_some) chains,
-          sum_by-set one_where_used old.chains (chain_of s) None None some,
-          used_once old.chains (chain_of s) in_use,
-          stand.in_use,
-          length-append front back,
-          length-append front (s ∷ back),
-        );
+        arith,
+        ap (count_by is_some) chains,
+        sum_by-set one_where_used old.chains (chain_of s) None None some,
+        used_once old.chains (chain_of s) in_use,
+        stand.in_use,
+        length-append front back,
+        length-append front (s ∷ back),
+      );
       spare = omega (arith, spare, promise, stand.spare, ap length frames, needs_parted file front s back, needs_joined file front back);
     }
 
@@ -190,7 +191,8 @@ apart_from old s (t ∷ sessions) unused names used = (
     names = names.0;
     chains = (λ e. true≢false (sym used.0 ∙ ap (λ n. is_some (slice_index_or old.chains n None)) e ∙ ap is_some unused));
   },
-  apart_from old s sessions unused names.1 used.1)
+  apart_from old s sessions unused names.1 used.1,
+)
 
 -- ---- a session joins
 
@@ -206,13 +208,13 @@ all_stand stay file old new sessions s stand few names used stands promises othe
       few = omega (arith, few, length-append sessions (s ∷ []));
       numbers = ap length promises.chains ∙ length-set old.chains (chain_of s) _ ∙ stand.numbers;
       in_use = omega (
-          arith,
-          ap (count_by is_some) promises.chains,
-          sum_by-set one_where_used old.chains (chain_of s) (Some (record { promise = need_of file (terms_of s); frames = [] })) None promises.exists,
-          ap one_where_used promises.was_unused,
-          stand.in_use,
-          length-append sessions (s ∷ []),
-        );
+        arith,
+        ap (count_by is_some) promises.chains,
+        sum_by-set one_where_used old.chains (chain_of s) (Some (record { promise = need_of file (terms_of s); frames = [] })) None promises.exists,
+        ap one_where_used promises.was_unused,
+        stand.in_use,
+        length-append sessions (s ∷ []),
+      );
       spare = omega (arith, spare, stand.spare, ap length promises.frames, needs_joined file sessions (s ∷ []), sum_by-cons (λ (e : Entry). need_of file e.query.terms) (entry_of s) []);
     }
 

@@ -51,7 +51,9 @@ pub fn answer<S: Sink, L: Ledger>(
             return open(table, alloc, index, name, k, mentions, out, buffer);
         }
         Some(Command::End) => return end(out, buffer),
-        Some(Command::Grant { name, budget }) => grant(table, index, name, budget, out, buffer, steps),
+        Some(Command::Grant { name, budget }) => grant(
+            table, index, name, budget, out, buffer, steps,
+        ),
         Some(Command::Top { name }) => top(table, index, name, out, buffer),
         Some(Command::Why { name }) => why(table, name, out, buffer),
         Some(Command::Close { name }) => close(table, index, name, out, buffer),

@@ -10,13 +10,22 @@ pub enum Command<'a> {
         mentions: &'a str,
     },
     /// A budget more for the session of this name.
-    Grant { name: &'a str, budget: Budget },
+    Grant {
+        name: &'a str,
+        budget: Budget,
+    },
     /// The answer of the session.
-    Top { name: &'a str },
+    Top {
+        name: &'a str,
+    },
     /// The report of the session.
-    Why { name: &'a str },
+    Why {
+        name: &'a str,
+    },
     /// The end of the session.
-    Close { name: &'a str },
+    Close {
+        name: &'a str,
+    },
     /// The end of all lines.
     End,
 }

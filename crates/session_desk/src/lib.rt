@@ -7,6 +7,7 @@
 mod answering;
 mod command;
 mod desk;
+pub mod laws;
 mod opening;
 mod reading;
 mod refusal;
@@ -18,3 +19,6 @@ mod words;
 
 pub use desk::Desk;
 pub use went::Went;
+
+#[cfg(test)]
+mod tests;

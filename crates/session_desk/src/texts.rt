@@ -45,11 +45,7 @@ fn gather_pool_full<S: Sink>(
     let mut free_digits = Digits::new();
     let need = need_digits.format(need).as_bytes();
     let free = free_digits.format(free).as_bytes();
-    gather_all(
-        out,
-        buffer,
-        &[b"refused 74 pool ", need, b" ", free, b"\n"],
-    )
+    gather_all(out, buffer, &[b"refused 74 pool ", need, b" ", free, b"\n"])
 }
 
 /// Gathers the reply to a line that opened a session.
@@ -90,7 +86,15 @@ fn gather_opened_columns<'x, S: Sink>(
     gather_all(
         out,
         buffer,
-        &[b"opened ", name, b" need ", need, b" unknown ", unknown, b"\n"],
+        &[
+            b"opened ",
+            name,
+            b" need ",
+            need,
+            b" unknown ",
+            unknown,
+            b"\n",
+        ],
     )
 }
 

@@ -1,0 +1,12 @@
+-- The index of a file is flat, so a report of its prefix keeps its promises.
+use Rattle.std.proofs.Common.{length}
+use Rattle.index_model.specs.Flat.{numbered_flat}
+use Rattle.session_engine.specs.Plans.{session_plan}
+use Rattle.session_desk.specs.Replies.{plan_of_session, scored_prefix, session_report}
+use Rattle.session_desk.proofs.laws.reports_of_desks_keep_their_promises.Goals as goal
+
+pub returns-clause-promised : goal.returns-clause-promised
+unfolding session_plan session_report
+returns-clause-promised c file entry is =
+    c.reports_keep_their_promises.ensures (length file.index.names) (scored_prefix file entry) entry.k (numbered_flat file.index) entry.query.terms (session_report file entry) (c.the_flat_list_is_flat.ensures.numbers file.index is.index)
+    (c.a_prefix_has_one_report.ensures.report (scored_prefix file entry) entry.k (plan_of_session file entry))
