@@ -14,10 +14,9 @@ use Rattle.index_file.specs.Places.{codec_use}
 use Rattle.session_engine.specs.Plans.{session_plan}
 use Rattle.jass_top.specs.declared.trial_sums.BudgetSum.{BudgetSum}
 use Rattle.jass_top.specs.declared.trial_sums.TrialSums.{TrialSums}
-use Rattle.jass_top.specs.Meanings.{Output}
 use Rattle.jass_top.specs.SearchMeaning.{IsSearchReport, plan_over_index}
-use Rattle.jass_top.specs.TrialMeaning.{AreTrialReports, IsTrialOutput, budget_line, hit_scores, index_line, is_final, sum_line, trial_prefix, trial_scores, trial_summary, use_line}
-use Rattle.jass_top.specs.TrialSums.{budget_text, hits_after, no_sums, report_after, trial_output, trial_text, with_queries, with_query}
+use Rattle.jass_top.specs.TrialMeaning.{AreTrialReports, IsTrialOutput, budget_line, hit_scores, index_line, is_final, sum_line, trial_prefix, trial_scores, use_line}
+use Rattle.jass_top.specs.TrialSums.{budget_text, hits_after, no_sums, report_after, trial_output, with_queries, with_query}
 use Rattle.jass_top.proofs.Searched.{GiveReports, KeepPromises}
 
 -- ---- the sums

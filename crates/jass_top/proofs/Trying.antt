@@ -1,11 +1,10 @@
 -- The sessions of a trial, and how it ends.
-use Rattle.std.proofs.Common.{◌≡◌, ◌≤◌, ◌<◌, ◌^◌, ◌+◌, ◌-◌, ◌*◌, ℕ, suc, true, false, List, [], ◌∷◌, ◌++◌, length, take, min, get_or, Option, None, refl, sym, ap, ap₂, subst, ◌∙◌, inl, inr, arith}
+use Rattle.std.proofs.Common.{◌≡◌, ◌≤◌, ◌<◌, ◌^◌, ◌+◌, ◌-◌, ℕ, suc, true, false, List, ◌∷◌, length, take, get_or, Option, refl, sym, ap, ◌∙◌, inr, arith}
 use Rattle.std.specs.Prelude.{codes, nat_le}
 use Rattle.std.proofs.lemmas.Bool.Decides.{nat_tests}
 use Rattle.std.proofs.lemmas.List.{length-take}
 use Rattle.std.proofs.lemmas.List.Sums.{sum_by-cons}
 use Rattle.jass_base.specs.Outside.{Files}
-use Rattle.jass_base.specs.declared.answer.Budget.{Budget}
 use Rattle.jass_base.specs.declared.answer.Budget.TheVariants.{All}
 use Rattle.ranking_model.specs.declared.plan.QueryPlan.{QueryPlan}
 use Rattle.ranking_model.specs.Order.{sorted}
@@ -23,7 +22,6 @@ use Rattle.trial_data.specs.Trials.{queries_from, query_words, query_state}
 use Rattle.jass_top.specs.declared.stop.Place.TheVariants.{Byte}
 use Rattle.jass_top.specs.declared.trial_sums.TrialSums.{TrialSums}
 use Rattle.jass_top.specs.Answers.{words_query}
-use Rattle.jass_top.specs.IndexJudging.{fitting}
 use Rattle.jass_top.specs.Judging.{Judged, Accepted, Refuses, behind}
 use Rattle.jass_top.specs.Meanings.{Output}
 use Rattle.jass_top.specs.SearchTexts.{queries_steps, query_steps}

@@ -127,10 +127,10 @@ pub record IsTrialOutput (queries : List QueryData) (index : IndexData) (output 
   pub second_are : AreTrialReports index 2 queries second
   pub last_are : AreTrialReports index 3 queries last
   pub whole : output ≡ record {
-        content = [];
-        text = trial_summary index queries first second last;
-        steps = sum_by (scored_postings index trial_budgets) queries;
-      }
+    content = [];
+    text = trial_summary index queries first second last;
+    steps = sum_by (scored_postings index trial_budgets) queries;
+  }
 
 -- the queries of words over an index
 abbrev pub queries_over : IndexData → List (List (List ℕ)) → List QueryData

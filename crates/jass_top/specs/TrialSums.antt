@@ -1,5 +1,5 @@
 -- What the answers of a trial sum up to, as functions of the view of an index file: the grades are those of the rule.
-use Rattle.std.specs.Prelude.{ℕ, ◌+◌, ◌*◌, ◌^◌, ◌≤◌, List, [], ◌∷◌, ◌++◌, length, map, sum_by, codes, if◌then◌else◌}
+use Rattle.std.specs.Prelude.{ℕ, ◌+◌, ◌*◌, ◌^◌, ◌≤◌, List, [], ◌∷◌, ◌++◌, codes, if◌then◌else◌}
 use Rattle.jass_base.specs.declared.answer.Hit.{Hit}
 use Rattle.jass_base.specs.declared.answer.Report.{Report}
 use Rattle.ranking_model.specs.Scores.{top_k}

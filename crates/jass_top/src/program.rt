@@ -10,7 +10,9 @@ use crate::note::{put_stop, put_word};
 use crate::status::Status;
 use crate::stop::Stop;
 use jass_base::{Cabinet, Feed, Sink, Steps};
-use jass_words::laws::{a_search_is_within_limits, a_trial_is_within_limits, words_are_one_command};
+use jass_words::laws::{
+    a_search_is_within_limits, a_trial_is_within_limits, words_are_one_command,
+};
 use jass_words::read_words;
 use std::alloc::Global;
 use std::sync::ledger::Ledger;

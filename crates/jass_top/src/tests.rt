@@ -7,6 +7,7 @@ mod indexing;
 mod rewriting;
 mod search_ends;
 mod searching;
+mod trials;
 
 use crate::run;
 use jass_base::{MemCabinet, MemSink, Row, SliceFeed, Steps};
@@ -70,6 +71,7 @@ check INDEX                check an index file, and print its totals\n\
 export INDEX CIFF          write a CIFF file with the impacts as frequencies\n\
 migrate OLD NEW            write an index file of version 1 in version 2\n\
 search INDEX QUERIES RUN [k=K] [budget=B,..] [tag=TAG] [mode=plain|folded]  answer the queries of a file\n\
+trial SEED DOCS TERMS QUERIES  answer queries over a collection made from a seed, and print a summary\n\
 --help                     print this text\n\
 --version                  print the name and the version\n\
 \n\

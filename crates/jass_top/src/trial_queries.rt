@@ -121,8 +121,22 @@ fn try_grants<L: Ledger>(
 {
     the_prefix_is_the_longest();
     calls_on_one_chain();
-    let first = try_grant(session, index, pool, Budget::Postings(1_000), sums.first, steps);
-    let second = try_grant(session, index, pool, Budget::Postings(9_000), sums.second, steps);
+    let first = try_grant(
+        session,
+        index,
+        pool,
+        Budget::Postings(1_000),
+        sums.first,
+        steps,
+    );
+    let second = try_grant(
+        session,
+        index,
+        pool,
+        Budget::Postings(9_000),
+        sums.second,
+        steps,
+    );
     let last = try_grant(session, index, pool, Budget::All, sums.last, steps);
     TrialSums {
         first,

@@ -1,7 +1,6 @@
-use Rattle.std.proofs.Common.{◌≡◌, ℕ, sym, ap, subst, ◌∙◌}
-use Rattle.index_model.specs.Index.{IndexData}
+use Rattle.std.proofs.Common.{◌≡◌, ap, subst}
 use Rattle.index_layout.specs.View.{FileView}
-use Rattle.trial_data.specs.Trials.{queries_from, trial_queries, trial_state}
+use Rattle.trial_data.specs.Trials.{queries_from, trial_queries}
 use Rattle.jass_top.specs.Causes.{Runs}
 use Rattle.jass_top.specs.Meanings.{Meaning}
 use Rattle.jass_top.specs.TrialMeaning.{trial_index, trial_meaning, tried_meaning}

@@ -1,8 +1,7 @@
-use Rattle.std.proofs.Common.{◌≡◌, ◌≤◌, ◌^◌, ◌∙◌, length, [], ◌∷◌, refl, sym, ap, subst, inl, inr, arith}
+use Rattle.std.proofs.Common.{◌≡◌, [], ◌∷◌, refl, ap, subst, inl, inr, arith}
 use Rattle.std.specs.Prelude.{codes}
 use Rattle.index_model.specs.Index.{IndexData}
 use Rattle.index_model.specs.Views.{index_data}
-use Rattle.index_layout.specs.View.{index_text, index_postings}
 use Rattle.jass_base.specs.declared.answer.Totals.{Totals}
 use Rattle.jass_top.specs.IndexJudging.{fitting}
 use Rattle.jass_top.specs.Judging.{Accepted, Refuses}

@@ -1,4 +1,4 @@
-use Rattle.std.proofs.Common.{subst, sym}
+use Rattle.std.proofs.Common.{subst}
 use Rattle.index_file.specs.Places.{codec_use}
 use Rattle.index_file.specs.declared.figures.CodecUse.{CodecUse}
 use Rattle.jass_base.specs.Outside.{Wrote}

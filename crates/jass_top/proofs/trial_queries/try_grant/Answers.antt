@@ -1,4 +1,4 @@
-use Rattle.std.proofs.Common.{◌≤◌, length, ap, ◌∙◌, arith}
+use Rattle.std.proofs.Common.{length, ap, ◌∙◌, arith}
 use Rattle.session_engine.specs.Standing.{k_of, plan_over, prefix_of}
 use Rattle.jass_top.proofs.Trying.{top_few}
 use Rattle.jass_top.proofs.trial_queries.try_grant.Goals as goal

@@ -1,7 +1,4 @@
-use Rattle.std.proofs.Common.{◌≡◌, ℕ, take, get_or, refl, ◌∙◌, arith}
-use Rattle.ranking_model.specs.Plan.{granted_sum}
-use Rattle.session_engine.specs.Standing.{granted_of, k_of, query_of}
-use Rattle.jass_top.specs.TrialMeaning.{trial_budgets}
+use Rattle.std.proofs.Common.{◌∙◌, arith}
 use Rattle.jass_top.specs.TrialSums.{with_answer}
 use Rattle.jass_top.proofs.Trying.{next_granted, report_is, hits_are}
 use Rattle.jass_top.proofs.trial_queries.try_grants.Goals as goal
