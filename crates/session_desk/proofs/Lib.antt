@@ -10,3 +10,4 @@ pub mod Isolation
 pub mod Opened
 pub mod Refusing
 pub mod Grants
+pub mod Counting

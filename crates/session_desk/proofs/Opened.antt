@@ -53,6 +53,9 @@ opened_for file state name k words entry is =
     let fits = fitted file state k (read_mentions (texts_of file.index.terms) name (map plain_mention words)) entry passed.1 in
     record { query = fits.0; read = fits.1; is = fits.2; free = unnamed name state passed.0 }
 
+pub named_for : (file : FileView) (state : DeskState) (name : List ℕ) (k : ℕ) (words : List (List ℕ)) (entry : Entry) → OpenedFor file state name k words entry → entry.query.id ≡ name
+named_for file state name k words entry opened = ap (λ (e : Entry). e.query.id) opened.is ∙ read_name (texts_of file.index.terms) name (map plain_mention words) opened.query opened.read
+
 found_last : (name : List ℕ) (entries : List Entry) (entry : Entry) → find (is_named name) entries ≡ None → is_named name entry ≡ true → find (is_named name) (entries ++ entry ∷ []) ≡ Some entry
 found_last name [] entry none named = ap (λ (b : Bool). cond b (Some entry) None) named
 found_last name (e ∷ entries) entry none named = here (is_named name e) refl (λ h. found_last name entries entry h named)
@@ -69,7 +72,7 @@ pub found_opened : (file : FileView) (state : DeskState) (line name : List ℕ) 
 unfolding desk_after
 found_opened file state line name k words entry read is =
     let opened = opened_for file state name k words entry is in
-    let named : entry.query.id ≡ name = ap (λ (e : Entry). e.query.id) opened.is ∙ read_name (texts_of file.index.terms) name (map plain_mention words) opened.query opened.read in
+    let named = named_for file state name k words entry opened in
     ap (λ (o : Option DeskCommand). session_named name (after_of file state o)) read ∙ ap (λ r. session_named name (with_opened state r)) is
     ∙ found_last name state.sessions entry opened.free ((bytes_eq-Decides entry.query.id name).1 named)
 

@@ -1,9 +1,9 @@
 -- What a desk replies to many lines, up to and with the first line `end`. This project's.
-use Rattle.std.specs.Prelude.{ℕ, ◌+◌, List, [], ◌∷◌, if◌then◌else◌}
+use Rattle.std.specs.Prelude.{ℕ, ◌+◌, List, [], ◌∷◌, ◌++◌, filter, Option, Some, None, if◌then◌else◌}
 use Rattle.std.specs.List.{concat}
 use Rattle.index_layout.specs.View.{FileView}
-use Rattle.session_desk.specs.State.{DeskState, new_state}
-use Rattle.session_desk.specs.Lines.{is_end}
+use Rattle.session_desk.specs.State.{DeskState, Entry, is_named, new_state}
+use Rattle.session_desk.specs.Lines.{DeskCommand, Close, is_end, read_desk_line}
 use Rattle.session_desk.specs.Replies.{desk_after, desk_reply, desk_steps}
 
 -- the replies, one for each line that is answered
@@ -11,6 +11,19 @@ unfoldable pub replies_from : FileView → DeskState → List (List ℕ) → Lis
 replies_from file state [] = []
 replies_from file state (line ∷ lines) =
     desk_reply file state line ∷ (if is_end line then [] else replies_from file (desk_after file state line) lines)
+
+-- the sessions that a line closes
+abbrev pub ended_by : DeskState → Option DeskCommand → List Entry
+ended_by state (Some (Close name)) = filter (is_named name) state.sessions
+ended_by state (Some other) = []
+ended_by state None = []
+
+-- all sessions that are open or will be opened, each as it is in the end: those that lines close, and then the others
+unfoldable pub sessions_from : FileView → DeskState → List (List ℕ) → List Entry
+sessions_from file state [] = state.sessions
+sessions_from file state (line ∷ lines) =
+    ended_by state (read_desk_line line)
+    ++ (if is_end line then (desk_after file state line).sessions else sessions_from file (desk_after file state line) lines)
 
 -- the postings that these lines score
 unfoldable pub steps_from : FileView → DeskState → List (List ℕ) → ℕ

@@ -1,8 +1,8 @@
 //! Laws of desks, over the definitions alone. Each function does nothing of its own: its contract is the law, and a
 //! caller learns it by the call.
 
-ghost use Rattle.std.specs.Prelude.{ℕ, ◌≡◌, ◌≤◌, ◌+◌, ◌^◌, ◌-◌, false, List, [], ◌∷◌, ◌++◌, length, map, codes, decimal, Some, Ok};
-ghost use Rattle.std.specs.List.{AllByRecursion};
+ghost use Rattle.std.specs.Prelude.{ℕ, ◌≡◌, ◌≤◌, ◌+◌, ◌^◌, ◌-◌, true, false, List, [], ◌∷◌, ◌++◌, length, map, codes, decimal, sum_by, Some, Ok};
+ghost use Rattle.std.specs.List.{AllByRecursion, concat};
 ghost use Rattle.jass_base.specs.declared.answer.Budget.{Budget};
 ghost use Rattle.jass_base.specs.declared.answer.Budget.TheVariants.{All};
 ghost use Rattle.ranking_model.specs.Plan.{granted_sum, prefix_within};
@@ -17,16 +17,35 @@ ghost use Rattle.index_layout.specs.View.{FileView, IsFileView};
 ghost use Rattle.query_reader.specs.Texts.{plain_mention};
 ghost use Rattle.session_desk.specs.declared.refusal.DeskRefusal.{DeskRefusal};
 ghost use Rattle.session_desk.specs.Alone.{after_lines, alone, budgets_in, does_close, own_lines, own_replies};
-ghost use Rattle.session_desk.specs.Lines.{Grant, Open, Top, Why, read_desk_line};
+ghost use Rattle.session_desk.specs.Lines.{Grant, Open, Top, Why, is_end, read_desk_line};
 ghost use Rattle.session_desk.specs.Replies.{desk_after, desk_refusal, desk_reply, desk_steps, newly_scored};
 ghost use Rattle.session_desk.specs.Replies.{opening, plan_of_session, refusal_line, scored_prefix, session_report};
-ghost use Rattle.session_desk.specs.State.{DeskState, Entry, granted_more, session_named};
-ghost use Rattle.session_desk.specs.Turns.{replies_from};
+ghost use Rattle.session_desk.specs.State.{DeskState, Entry, granted_more, new_state, session_named};
+ghost use Rattle.session_desk.specs.Turns.{desk_postings, replies_from, sessions_from, steps_from};
 
 use final_certificate::laws::a_prefix_has_one_report;
 use index_model::laws::the_flat_list_is_flat;
 use ranking_model::laws::{reports_keep_their_promises, the_prefix_is_the_longest};
 use ranking_model::prefix_laws::a_prefix_is_resumed;
+
+/// Lines are answered in turn, up to and with the first line `end`.
+#[tactic(auto, unfolding(crate::specs::Turns::replies_from, crate::specs::Turns::steps_from))]
+pub fn lines_are_answered_in_turn()
+    ensures none { (file : FileView) (state : DeskState) →
+        (concat (replies_from file state []) ≡ []) × (steps_from file state [] ≡ 0) }
+    ensures on { (file : FileView) (state : DeskState) (line : List ℕ) (lines : List (List ℕ)) →
+        is_end line ≡ false →
+        concat (replies_from file state (line ∷ lines))
+        ≡ desk_reply file state line ++ concat (replies_from file (desk_after file state line) lines) }
+    ensures end { (file : FileView) (state : DeskState) (line : List ℕ) (lines : List (List ℕ)) →
+        is_end line ≡ true → concat (replies_from file state (line ∷ lines)) ≡ desk_reply file state line }
+    ensures on_steps { (file : FileView) (state : DeskState) (line : List ℕ) (lines : List (List ℕ)) →
+        is_end line ≡ false →
+        steps_from file state (line ∷ lines)
+        ≡ desk_steps file state line + steps_from file (desk_after file state line) lines }
+    ensures end_steps { (file : FileView) (state : DeskState) (line : List ℕ) (lines : List (List ℕ)) →
+        is_end line ≡ true → steps_from file state (line ∷ lines) ≡ desk_steps file state line }
+{}
 
 /// A refused line has one line as its reply, and leaves the sessions and counts no steps.
 pub fn refused_lines_leave_the_state()
@@ -124,6 +143,16 @@ pub fn reports_of_desks_keep_their_promises()
     a_prefix_has_one_report();
     the_flat_list_is_flat();
     reports_keep_their_promises();
+}
+
+/// The steps of a desk are the postings that were scored in the end for the sessions that were ever open.
+pub fn the_steps_are_those_of_the_sessions()
+    ensures { (file : FileView) (frames : ℕ) (lines : List (List ℕ)) →
+        desk_postings file frames lines
+        ≡ sum_by (λ (e : Entry). (session_report file e).postings) (sessions_from file (new_state frames) lines) }
+{
+    the_prefix_is_the_longest();
+    a_prefix_is_resumed();
 }
 
 /// The postings that are scored for a session are at most the sum of its grants. A grant scores what it adds to them,

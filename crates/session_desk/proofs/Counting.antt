@@ -1,0 +1,234 @@
+-- Each line scores what the sessions gain by it.
+use Rattle.std.proofs.Common.{◌≡◌, ℕ, ◌+◌, ◌-◌, ◌≤◌, ◌^◌, Bool, true, false, not, cond, List, [], ◌∷◌, ◌++◌, length, filter, Option, Some, None, Result, Ok, Err, refl, sym, ap, subst, ◌∙◌, arith}
+use Rattle.std.proofs.lemmas.Bool.{true≢false}
+use Rattle.std.proofs.lemmas.List.Sums.{sum_by-append, sum_by-cons}
+use Rattle.std.proofs.lemmas.Slice.Eq.{bytes_eq-Decides}
+use Rattle.std.specs.Prelude.{⊤, bytes_eq, sum_by}
+use Rattle.std.specs.List.{AllByRecursion, find}
+use Rattle.std.specs.Option.{option_map_or}
+use Rattle.jass_base.specs.declared.answer.Budget.{Budget}
+use Rattle.ranking_model.specs.Plan.{granted_with}
+use Rattle.index_layout.specs.View.{FileView}
+use Rattle.session_desk.specs.declared.refusal.DeskRefusal.{DeskRefusal}
+use Rattle.session_desk.specs.Lines.{DeskCommand, Open, Grant, Top, Why, Close, End, is_end, read_desk_line}
+use Rattle.session_desk.specs.Replies.{after_of, desk_after, desk_steps, newly_scored, opening, session_report, steps_of, with_opened}
+use Rattle.session_desk.specs.State.{DeskState, Entry, granted_more, is_named, new_state, session_named, with_named, without_named}
+use Rattle.session_desk.specs.Turns.{desk_postings, ended_by, sessions_from, steps_from}
+use Rattle.session_desk.proofs.Opened.{named_for, opened_for}
+
+-- ---- sessions whose names differ, and whose grants stop where they do
+
+abbrev pub Unnamed : List ℕ → Entry → Type 0
+Unnamed name e = is_named name e ≡ false
+
+abbrev pub Orderly : List Entry → Type 0
+Orderly [] = ⊤
+Orderly (e ∷ entries) = (e.granted ≤ 2 ^ 64 - 1) × AllByRecursion (Unnamed e.query.id) entries × Orderly entries
+
+none_of : (name : List ℕ) (entries : List Entry) → find (is_named name) entries ≡ None → AllByRecursion (Unnamed name) entries
+none_of name [] none = tt
+none_of name (e ∷ entries) none = here (is_named name e) refl (none_of name entries)
+  where
+    here : (b : Bool) → is_named name e ≡ b → (find (is_named name) entries ≡ None → AllByRecursion (Unnamed name) entries) → (is_named name e ≡ false) × AllByRecursion (Unnamed name) entries
+    here true is later =
+        let some : (let o : Option Entry = Some e in o) ≡ None = ap (λ (b : Bool). cond b (Some e) (find (is_named name) entries)) (sym is) ∙ none in
+        cc
+    here false is later = (is, later (ap (λ (b : Bool). cond b (Some e) (find (is_named name) entries)) (sym is) ∙ none))
+
+unnamed_more : (name other : List ℕ) (budget : Budget) (entries : List Entry) → AllByRecursion (Unnamed name) entries → AllByRecursion (Unnamed name) (with_named other (granted_more budget) entries)
+unnamed_more name other budget [] all = tt
+unnamed_more name other budget (e ∷ entries) all = (here (is_named other e), unnamed_more name other budget entries all.1)
+  where
+    here : (b : Bool) → is_named name (cond b (granted_more budget e) e) ≡ false
+    here true = all.0
+    here false = all.0
+
+unnamed_less : (name other : List ℕ) (entries : List Entry) → AllByRecursion (Unnamed name) entries → AllByRecursion (Unnamed name) (without_named other entries)
+unnamed_less name other [] all = tt
+unnamed_less name other (e ∷ entries) all = here (is_named other e) (unnamed_less name other entries all.1)
+  where
+    here : (b : Bool) → AllByRecursion (Unnamed name) (without_named other entries) → AllByRecursion (Unnamed name) (cond (not b) (e ∷ without_named other entries) (without_named other entries))
+    here true rest = rest
+    here false rest = (all.0, rest)
+
+unnamed_join : (name : List ℕ) (entries : List Entry) (entry : Entry) → AllByRecursion (Unnamed name) entries → is_named name entry ≡ false → AllByRecursion (Unnamed name) (entries ++ entry ∷ [])
+unnamed_join name [] entry all other = (other, tt)
+unnamed_join name (e ∷ entries) entry all other = (all.0, unnamed_join name entries entry all.1 other)
+
+turned : (first second : Entry) → is_named second.query.id first ≡ false → is_named first.query.id second ≡ false
+turned first second other = here (is_named first.query.id second) refl
+  where
+    here : (b : Bool) → is_named first.query.id second ≡ b → b ≡ false
+    here false is = refl
+    here true is =
+        absurd (true≢false (sym ((bytes_eq-Decides first.query.id second.query.id).1 (sym ((bytes_eq-Decides second.query.id first.query.id).0 is))) ∙ other))
+
+orderly_more : (name : List ℕ) (budget : Budget) (entries : List Entry) → Orderly entries → Orderly (with_named name (granted_more budget) entries)
+orderly_more name budget [] orderly = tt
+orderly_more name budget (e ∷ entries) orderly = here (is_named name e) (unnamed_more e.query.id name budget entries orderly.1) (orderly_more name budget entries orderly.2)
+  where
+    here : (b : Bool) → AllByRecursion (Unnamed e.query.id) (with_named name (granted_more budget) entries) → Orderly (with_named name (granted_more budget) entries)
+        → Orderly (cond b (granted_more budget e) e ∷ with_named name (granted_more budget) entries)
+    here true others more = (omega arith, others, more)
+    here false others more = (orderly.0, others, more)
+
+orderly_less : (name : List ℕ) (entries : List Entry) → Orderly entries → Orderly (without_named name entries)
+orderly_less name [] orderly = tt
+orderly_less name (e ∷ entries) orderly = here (is_named name e) (unnamed_less e.query.id name entries orderly.1) (orderly_less name entries orderly.2)
+  where
+    here : (b : Bool) → AllByRecursion (Unnamed e.query.id) (without_named name entries) → Orderly (without_named name entries) → Orderly (cond (not b) (e ∷ without_named name entries) (without_named name entries))
+    here true others less = less
+    here false others less = (orderly.0, others, less)
+
+orderly_join : (entries : List Entry) (entry : Entry) → Orderly entries → entry.granted ≤ 2 ^ 64 - 1 → AllByRecursion (Unnamed entry.query.id) entries → Orderly (entries ++ entry ∷ [])
+orderly_join [] entry orderly most none = (most, tt, tt)
+orderly_join (e ∷ entries) entry orderly most none =
+    (orderly.0, unnamed_join e.query.id entries entry orderly.1 (turned e entry none.0), orderly_join entries entry orderly.2 most none.1)
+
+-- ---- sums over sessions
+
+with_unnamed : (name : List ℕ) (change : Entry → Entry) (entries : List Entry) → AllByRecursion (Unnamed name) entries → with_named name change entries ≡ entries
+with_unnamed name change [] all = refl
+with_unnamed name change (e ∷ entries) all = ap (λ (b : Bool). cond b (change e) e ∷ with_named name change entries) all.0 ∙ ap (λ es. e ∷ es) (with_unnamed name change entries all.1)
+
+module _ (p : Entry → ℕ) where
+  sum_more : (rises : (e : Entry) (budget : Budget) → e.granted ≤ 2 ^ 64 - 1 → p e ≤ p (granted_more budget e)) (name : List ℕ) (budget : Budget) (entries : List Entry) → Orderly entries
+      → sum_by p (with_named name (granted_more budget) entries) ≡ sum_by p entries + option_map_or (λ (e : Entry). p (granted_more budget e) - p e) (find (is_named name) entries) 0
+  sum_more rises name budget [] orderly = omega arith
+  sum_more rises name budget (e ∷ entries) orderly = here (is_named name e) refl (sum_more rises name budget entries orderly.2)
+    where
+      here : (b : Bool) → is_named name e ≡ b
+          → sum_by p (with_named name (granted_more budget) entries) ≡ sum_by p entries + option_map_or (λ (x : Entry). p (granted_more budget x) - p x) (find (is_named name) entries) 0
+          → sum_by p (with_named name (granted_more budget) (e ∷ entries)) ≡ sum_by p (e ∷ entries) + option_map_or (λ (x : Entry). p (granted_more budget x) - p x) (find (is_named name) (e ∷ entries)) 0
+      here true is later =
+          let named : e.query.id ≡ name = (bytes_eq-Decides e.query.id name).0 is in
+          let others : with_named name (granted_more budget) entries ≡ entries = with_unnamed name (granted_more budget) entries (subst (λ n. AllByRecursion (Unnamed n) entries) named orderly.1) in
+          let first : with_named name (granted_more budget) (e ∷ entries) ≡ granted_more budget e ∷ entries
+          = ap (λ (b : Bool). cond b (granted_more budget e) e ∷ with_named name (granted_more budget) entries) is ∙ ap (λ es. granted_more budget e ∷ es) others in
+          let found : find (is_named name) (e ∷ entries) ≡ Some e = ap (λ (b : Bool). cond b (Some e) (find (is_named name) entries)) is in
+          omega (
+            arith,
+            ap (sum_by p) first,
+            sum_by-cons p (granted_more budget e) entries,
+            sum_by-cons p e entries,
+            ap (λ (o : Option Entry). option_map_or (λ (x : Entry). p (granted_more budget x) - p x) o 0) found,
+            rises e budget orderly.0,
+          )
+      here false is later =
+          let first : with_named name (granted_more budget) (e ∷ entries) ≡ e ∷ with_named name (granted_more budget) entries
+          = ap (λ (b : Bool). cond b (granted_more budget e) e ∷ with_named name (granted_more budget) entries) is in
+          let found : find (is_named name) (e ∷ entries) ≡ find (is_named name) entries = ap (λ (b : Bool). cond b (Some e) (find (is_named name) entries)) is in
+          omega (
+            arith,
+            later,
+            ap (sum_by p) first,
+            sum_by-cons p e (with_named name (granted_more budget) entries),
+            sum_by-cons p e entries,
+            ap (λ (o : Option Entry). option_map_or (λ (x : Entry). p (granted_more budget x) - p x) o 0) found,
+          )
+
+  sum_less : (name : List ℕ) (entries : List Entry) → sum_by p (filter (is_named name) entries) + sum_by p (without_named name entries) ≡ sum_by p entries
+  sum_less name [] = omega arith
+  sum_less name (e ∷ entries) = here (is_named name e) (sum_less name entries)
+    where
+      here : (b : Bool) → sum_by p (filter (is_named name) entries) + sum_by p (without_named name entries) ≡ sum_by p entries
+          → sum_by p (cond b (e ∷ filter (is_named name) entries) (filter (is_named name) entries)) + sum_by p (cond (not b) (e ∷ without_named name entries) (without_named name entries)) ≡ sum_by p (e ∷ entries)
+      here true later = omega (arith, later, sum_by-cons p e (filter (is_named name) entries), sum_by-cons p e entries)
+      here false later = omega (arith, later, sum_by-cons p e (without_named name entries), sum_by-cons p e entries)
+
+-- ---- a line, and lines
+
+abbrev all_scored : FileView → List Entry → ℕ
+all_scored file entries = sum_by (λ (e : Entry). (session_report file e).postings) entries
+
+abbrev pub Rises : FileView → Type 0
+Rises file = (e : Entry) (budget : Budget) → e.granted ≤ 2 ^ 64 - 1 → (session_report file e).postings ≤ (session_report file (granted_more budget e)).postings
+
+abbrev pub IsPaid : FileView → Type 0
+IsPaid file = (e : Entry) → (session_report file e).postings ≤ e.granted
+
+command_counts : (file : FileView) → Rises file → IsPaid file → (state : DeskState) (command : Option DeskCommand) → Orderly state.sessions
+    → steps_of file state command + all_scored file state.sessions ≡ all_scored file (ended_by state command) + all_scored file (after_of file state command).sessions
+command_counts file rises paid state None orderly = omega arith
+command_counts file rises paid state (Some (Open name k words)) orderly = here (opening file state name k words) refl
+  where
+    here : (r : Result Entry DeskRefusal) → opening file state name k words ≡ r → 0 + all_scored file state.sessions ≡ all_scored file [] + all_scored file (with_opened state r).sessions
+    here (Ok entry) is =
+        let p = λ (e : Entry). (session_report file e).postings in
+        let none : entry.granted ≡ 0 = ap (λ (e : Entry). e.granted) (opened_for file state name k words entry is).is in
+        omega (arith, sum_by-append p state.sessions (entry ∷ []), sum_by-cons p entry [], paid entry, none)
+    here (Err refusal) is = omega arith
+command_counts file rises paid state (Some (Grant name budget)) orderly = omega (arith, sum_more (λ (e : Entry). (session_report file e).postings) rises name budget state.sessions orderly)
+command_counts file rises paid state (Some (Top name)) orderly = omega arith
+command_counts file rises paid state (Some (Why name)) orderly = omega arith
+command_counts file rises paid state (Some (Close name)) orderly = omega (arith, sum_less (λ (e : Entry). (session_report file e).postings) name state.sessions)
+command_counts file rises paid state (Some End) orderly = omega arith
+
+command_orderly : (file : FileView) (state : DeskState) (command : Option DeskCommand) → Orderly state.sessions → Orderly (after_of file state command).sessions
+command_orderly file state None orderly = orderly
+command_orderly file state (Some (Open name k words)) orderly = here (opening file state name k words) refl
+  where
+    here : (r : Result Entry DeskRefusal) → opening file state name k words ≡ r → Orderly (with_opened state r).sessions
+    here (Ok entry) is =
+        let opened = opened_for file state name k words entry is in
+        let named : entry.query.id ≡ name = named_for file state name k words entry opened in
+        orderly_join state.sessions entry orderly (omega (arith, ap (λ (e : Entry). e.granted) opened.is)) (subst (λ n. AllByRecursion (Unnamed n) state.sessions) (sym named) (none_of name state.sessions opened.free))
+    here (Err refusal) is = orderly
+command_orderly file state (Some (Grant name budget)) orderly = orderly_more name budget state.sessions orderly
+command_orderly file state (Some (Top name)) orderly = orderly
+command_orderly file state (Some (Why name)) orderly = orderly
+command_orderly file state (Some (Close name)) orderly = orderly_less name state.sessions orderly
+command_orderly file state (Some End) orderly = orderly
+
+line_counts : (file : FileView) → Rises file → IsPaid file → (state : DeskState) (line : List ℕ) → Orderly state.sessions
+    → desk_steps file state line + all_scored file state.sessions ≡ all_scored file (ended_by state (read_desk_line line)) + all_scored file (desk_after file state line).sessions
+unfolding desk_steps desk_after
+line_counts file rises paid state line orderly = command_counts file rises paid state (read_desk_line line) orderly
+
+line_orderly : (file : FileView) (state : DeskState) (line : List ℕ) → Orderly state.sessions → Orderly (desk_after file state line).sessions
+unfolding desk_after
+line_orderly file state line orderly = command_orderly file state (read_desk_line line) orderly
+
+steps_cons : (file : FileView) (state : DeskState) (line : List ℕ) (lines : List (List ℕ)) → steps_from file state (line ∷ lines) ≡ desk_steps file state line + cond (is_end line) 0 (steps_from file (desk_after file state line) lines)
+unfolding steps_from
+steps_cons file state line lines = refl
+
+sessions_cons : (file : FileView) (state : DeskState) (line : List ℕ) (lines : List (List ℕ))
+    → sessions_from file state (line ∷ lines) ≡ ended_by state (read_desk_line line) ++ cond (is_end line) (desk_after file state line).sessions (sessions_from file (desk_after file state line) lines)
+unfolding sessions_from
+sessions_cons file state line lines = refl
+
+none_counted : (file : FileView) (state : DeskState) → steps_from file state [] + all_scored file state.sessions ≡ all_scored file (sessions_from file state [])
+unfolding steps_from sessions_from
+none_counted file state = omega arith
+
+lines_count : (file : FileView) → Rises file → IsPaid file → (state : DeskState) (lines : List (List ℕ)) → Orderly state.sessions → steps_from file state lines + all_scored file state.sessions ≡ all_scored file (sessions_from file state lines)
+lines_count file rises paid state [] orderly = none_counted file state
+lines_count file rises paid state (line ∷ lines) orderly = here (is_end line) refl (lines_count file rises paid (desk_after file state line) lines (line_orderly file state line orderly))
+  where
+    here : (b : Bool) → is_end line ≡ b → steps_from file (desk_after file state line) lines + all_scored file (desk_after file state line).sessions ≡ all_scored file (sessions_from file (desk_after file state line) lines)
+        → steps_from file state (line ∷ lines) + all_scored file state.sessions ≡ all_scored file (sessions_from file state (line ∷ lines))
+    here b is later = joins b
+        (steps_cons file state line lines ∙ ap (λ (e : Bool). desk_steps file state line + cond e 0 (steps_from file (desk_after file state line) lines)) is)
+        (ap (all_scored file) (sessions_cons file state line lines ∙ ap (λ (e : Bool). ended_by state (read_desk_line line) ++ cond e (desk_after file state line).sessions (sessions_from file (desk_after file state line) lines)) is))
+        later
+      where
+        joins : (b : Bool) → steps_from file state (line ∷ lines) ≡ desk_steps file state line + cond b 0 (steps_from file (desk_after file state line) lines)
+            → all_scored file (sessions_from file state (line ∷ lines)) ≡ all_scored file (ended_by state (read_desk_line line) ++ cond b (desk_after file state line).sessions (sessions_from file (desk_after file state line) lines))
+            → steps_from file (desk_after file state line) lines + all_scored file (desk_after file state line).sessions ≡ all_scored file (sessions_from file (desk_after file state line) lines)
+            → steps_from file state (line ∷ lines) + all_scored file state.sessions ≡ all_scored file (sessions_from file state (line ∷ lines))
+        joins true first second later =
+            omega (arith, first, second, line_counts file rises paid state line orderly, sum_by-append (λ (e : Entry). (session_report file e).postings) (ended_by state (read_desk_line line)) (desk_after file state line).sessions)
+        joins false first second later =
+            omega (
+              arith,
+              first,
+              second,
+              later,
+              line_counts file rises paid state line orderly,
+              sum_by-append (λ (e : Entry). (session_report file e).postings) (ended_by state (read_desk_line line)) (sessions_from file (desk_after file state line) lines),
+            )
+
+pub all_counted : (file : FileView) → Rises file → IsPaid file → (frames : ℕ) (lines : List (List ℕ)) → desk_postings file frames lines ≡ all_scored file (sessions_from file (new_state frames) lines)
+unfolding desk_postings
+all_counted file rises paid frames lines = omega (arith, lines_count file rises paid (new_state frames) lines tt)
