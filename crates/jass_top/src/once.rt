@@ -21,12 +21,11 @@ use index_file::IndexFile;
 use jass_base::{Budget, Cabinet, Hit, ImpactIndex, Report, Sink, Steps, WriteFault};
 use query_reader::name_terms;
 use ranking_model::laws::{the_prefix_is_the_longest, the_ranking_has_documents_of_the_scores};
-use session_engine::Session;
 use session_engine::laws::{
     a_session_plan_names_its_segments, a_standing_session_has_its_chain,
     reports_of_sessions_keep_their_promises,
 };
-use session_engine::OpenStop;
+use session_engine::{OpenStop, Session};
 use std::alloc::Global;
 use std::sync::ledger::Ledger;
 use trec_run::{put_answer, put_report};
@@ -133,7 +132,14 @@ fn answer_session<O: Sink, L: Ledger>(
     the_ranking_has_documents_of_the_scores();
     let report = session.grant(index, pool, budget, steps);
     let query = session.query();
-    put_lines(out, query.id.as_str(), query.unknown, report, index, session.answer())
+    put_lines(
+        out,
+        query.id.as_str(),
+        query.unknown,
+        report,
+        index,
+        session.answer(),
+    )
 }
 
 /// Puts a report line and the run lines of an answer on the output.

@@ -1,18 +1,17 @@
 -- Each line scores what the sessions gain by it.
-use Rattle.std.proofs.Common.{◌≡◌, ℕ, ◌+◌, ◌-◌, ◌≤◌, ◌^◌, Bool, true, false, not, cond, List, [], ◌∷◌, ◌++◌, length, filter, Option, Some, None, Result, Ok, Err, refl, sym, ap, subst, ◌∙◌, arith}
+use Rattle.std.proofs.Common.{◌≡◌, ℕ, ◌+◌, ◌-◌, ◌≤◌, ◌^◌, Bool, true, false, not, cond, List, [], ◌∷◌, ◌++◌, filter, Option, Some, None, Result, Ok, Err, refl, sym, ap, subst, ◌∙◌, arith}
 use Rattle.std.proofs.lemmas.Bool.{true≢false}
 use Rattle.std.proofs.lemmas.List.Sums.{sum_by-append, sum_by-cons}
 use Rattle.std.proofs.lemmas.Slice.Eq.{bytes_eq-Decides}
-use Rattle.std.specs.Prelude.{⊤, bytes_eq, sum_by}
+use Rattle.std.specs.Prelude.{⊤, sum_by}
 use Rattle.std.specs.List.{AllByRecursion, find}
 use Rattle.std.specs.Option.{option_map_or}
 use Rattle.jass_base.specs.declared.answer.Budget.{Budget}
-use Rattle.ranking_model.specs.Plan.{granted_with}
 use Rattle.index_layout.specs.View.{FileView}
 use Rattle.session_desk.specs.declared.refusal.DeskRefusal.{DeskRefusal}
 use Rattle.session_desk.specs.Lines.{DeskCommand, Open, Grant, Top, Why, Close, End, is_end, read_desk_line}
-use Rattle.session_desk.specs.Replies.{after_of, desk_after, desk_steps, newly_scored, opening, session_report, steps_of, with_opened}
-use Rattle.session_desk.specs.State.{DeskState, Entry, granted_more, is_named, new_state, session_named, with_named, without_named}
+use Rattle.session_desk.specs.Replies.{after_of, desk_after, desk_steps, opening, session_report, steps_of, with_opened}
+use Rattle.session_desk.specs.State.{DeskState, Entry, granted_more, is_named, new_state, with_named, without_named}
 use Rattle.session_desk.specs.Turns.{desk_postings, ended_by, sessions_from, steps_from}
 use Rattle.session_desk.proofs.Opened.{named_for, opened_for}
 

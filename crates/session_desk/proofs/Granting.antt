@@ -1,10 +1,9 @@
 -- A session at a place of a desk, and what it shows after a grant.
-use Rattle.std.proofs.Common.{◌≡◌, ℕ, suc, ◌+◌, ◌-◌, ◌≤◌, List, [], ◌∷◌, ◌++◌, length, get_or, take, drop, Option, Some, None, refl, sym, ap, subst, ◌∙◌, arith}
+use Rattle.std.proofs.Common.{◌≡◌, ℕ, ◌+◌, ◌-◌, ◌≤◌, List, [], ◌∷◌, ◌++◌, length, get_or, Some, None, refl, sym, ap, subst, ◌∙◌, arith}
 use Rattle.index_model.proofs.Lists.{all_back}
 use Rattle.std.specs.List.{AllByRecursion, find, remove, slice_set}
 use Rattle.jass_base.specs.declared.answer.Budget.{Budget}
 use Rattle.jass_base.specs.declared.answer.Report.{Report}
-use Rattle.jass_base.specs.declared.query.Query.{Query}
 use Rattle.index_layout.specs.View.{FileView}
 use Rattle.ranking_model.specs.Plan.{granted_with}
 use Rattle.ranking_model.specs.Scores.{top_k}
@@ -13,7 +12,7 @@ use Rattle.final_certificate.specs.Rule.{report_by}
 use Rattle.frame_pool.specs.ChainView.{LeavesOthers, LeavesPool, chain_view}
 use Rattle.frame_pool.specs.Pool.{IsInUse, PoolView, spare_of}
 use Rattle.session_engine.specs.Plans.{need_of}
-use Rattle.session_engine.specs.Standing.{IsSessionOf, SessionStands, answer_over, chain_of, granted_of, k_of, plan_over, query_of, report_of, terms_of}
+use Rattle.session_engine.specs.Standing.{IsSessionOf, SessionStands, answer_over, chain_of, granted_of, k_of, plan_over, report_of, terms_of}
 use Rattle.session_engine.specs.declared.session.Session.{Session}
 use Rattle.session_desk.specs.declared.told.Told.{Told}
 use Rattle.session_desk.specs.Replies.{session_answer, session_report}

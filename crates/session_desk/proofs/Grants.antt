@@ -1,11 +1,10 @@
 -- The sum of a session's grants, and what it pays for.
-use Rattle.std.proofs.Common.{◌≡◌, ℕ, ◌+◌, ◌-◌, ◌≤◌, ◌^◌, min, Bool, true, false, cond, List, [], ◌∷◌, ◌++◌, length, drop, Option, Some, None, refl, sym, ap, subst, ◌∙◌, append-nil, append_assoc, arith}
+use Rattle.std.proofs.Common.{◌≡◌, ℕ, ◌+◌, ◌-◌, ◌≤◌, ◌^◌, Bool, true, false, cond, List, [], ◌∷◌, ◌++◌, length, drop, Option, Some, None, refl, sym, ap, ◌∙◌, append-nil, append_assoc, arith}
 use Rattle.std.proofs.lemmas.Bool.{true≢false}
 use Rattle.std.proofs.lemmas.List.Sums.{sum_by-append, sum_by-cons}
-use Rattle.std.specs.Prelude.{codes, decimal, sum_by}
+use Rattle.std.specs.Prelude.{codes, decimal}
 use Rattle.std.specs.List.{AllByRecursion}
 use Rattle.jass_base.specs.declared.answer.Budget.{Budget}
-use Rattle.jass_base.specs.declared.answer.Budget.TheVariants.{All}
 use Rattle.jass_base.specs.declared.answer.Report.{Report}
 use Rattle.ranking_model.specs.declared.class.Class.{Class}
 use Rattle.ranking_model.specs.declared.plan.QueryPlan.{QueryPlan}
@@ -15,11 +14,11 @@ use Rattle.ranking_model.specs.Scores.{top_k}
 use Rattle.ranking_model.specs.Search.{query_run}
 use Rattle.final_certificate.specs.Rule.{report_by}
 use Rattle.index_layout.specs.View.{FileView}
-use Rattle.session_desk.specs.Alone.{after_lines, budget_in, budgets_in, command_closes, command_names, does_close, does_name}
+use Rattle.session_desk.specs.Alone.{after_lines, budget_in, budgets_in, command_names, does_close, does_name}
 use Rattle.session_desk.specs.Lines.{DeskCommand, Open, Grant, Top, Why, Close, End, read_desk_line}
 use Rattle.session_desk.specs.Replies.{answer_lines, answer_text, command_reply, desk_after, desk_reply, plan_of_session, reply_of, reply_to, report_text, scored_prefix, session_answer, session_report}
-use Rattle.session_desk.specs.State.{DeskState, Entry, granted_more, is_named, session_named}
-use Rattle.session_desk.proofs.Isolation.{after_command, has_name, other_line, own_line, still_named}
+use Rattle.session_desk.specs.State.{DeskState, Entry, granted_more, session_named}
+use Rattle.session_desk.proofs.Isolation.{after_command, other_line, own_line}
 
 -- ---- sums
 

@@ -1,5 +1,5 @@
 -- A reply reads the session that its line names, and no other line changes it.
-use Rattle.std.proofs.Common.{◌≡◌, ◌≢◌, ℕ, Bool, true, false, not, cond, List, [], ◌∷◌, ◌++◌, map, filter, Option, Some, None, Result, Ok, Err, refl, sym, ap, subst, ◌∙◌}
+use Rattle.std.proofs.Common.{◌≡◌, ℕ, Bool, true, false, not, cond, List, [], ◌∷◌, ◌++◌, Option, Some, None, Result, Ok, Err, refl, sym, ap, ◌∙◌}
 use Rattle.std.proofs.lemmas.Bool.{true≢false}
 use Rattle.std.proofs.lemmas.Slice.Eq.{bytes_eq-Decides}
 use Rattle.std.specs.Prelude.{bytes_eq, is_some}
@@ -10,7 +10,7 @@ use Rattle.session_desk.specs.declared.refusal.DeskRefusal.{DeskRefusal}
 use Rattle.session_desk.specs.declared.refusal.DeskRefusal.TheVariants.{NameInUse}
 use Rattle.session_desk.specs.Alone.{alone, command_closes, command_names, does_close, does_name, own_lines, own_replies}
 use Rattle.session_desk.specs.Lines.{DeskCommand, Open, Grant, Top, Why, Close, End, is_end, read_desk_line}
-use Rattle.session_desk.specs.Replies.{after_of, command_after, command_reply, desk_after, desk_reply, fitting, opened_reply, opening, reply_of, reply_to, with_opened}
+use Rattle.session_desk.specs.Replies.{after_of, desk_after, desk_reply, opened_reply, opening, reply_of, reply_to, with_opened}
 use Rattle.session_desk.specs.State.{DeskState, Entry, granted_more, is_named, session_named, with_named, without_named}
 use Rattle.session_desk.specs.Turns.{replies_from}
 use Rattle.session_desk.proofs.Joining.{name_taken, refused_first}

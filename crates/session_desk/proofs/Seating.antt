@@ -1,5 +1,5 @@
 -- The sessions of a desk as one of them changes, goes, or joins the others.
-use Rattle.std.proofs.Common.{◌≡◌, ◌≢◌, ℕ, zero, suc, ◌+◌, ◌<◌, ◌≤◌, Bool, true, false, cond, List, [], ◌∷◌, ◌++◌, length, map, get_or, Option, Some, None, refl, sym, ap, subst, ◌∙◌, append-nil, arith}
+use Rattle.std.proofs.Common.{◌≡◌, ◌≢◌, ℕ, zero, suc, ◌+◌, ◌<◌, Bool, cond, List, [], ◌∷◌, ◌++◌, length, map, get_or, Option, Some, None, refl, sym, ap, subst, ◌∙◌, arith}
 use Rattle.std.proofs.lemmas.Bool.{true≢false}
 use Rattle.std.proofs.lemmas.List.{length-append, length-map, length-set, map-append}
 use Rattle.std.proofs.lemmas.List.Sums.{sum_by-append, sum_by-cons, sum_by-set}
@@ -11,7 +11,7 @@ use Rattle.index_layout.specs.View.{FileView}
 use Rattle.frame_pool.specs.ChainView.{LeavesOthers, LeavesPool, chain_view}
 use Rattle.frame_pool.specs.Pool.{ChainEntry, IsInUse, PoolView, Promises, spare_of}
 use Rattle.session_engine.specs.Plans.{need_of}
-use Rattle.session_engine.specs.Standing.{IsSessionOf, SessionStands, chain_of, query_of, terms_of}
+use Rattle.session_engine.specs.Standing.{IsSessionOf, SessionStands, chain_of, terms_of}
 use Rattle.session_engine.specs.declared.session.Session.{Session}
 use Rattle.session_desk.specs.State.{Entry, needs}
 use Rattle.session_desk.specs.Standing.{AreApart, Differ, SessionsStand, entries_of, entry_of, name_of}

@@ -1,5 +1,5 @@
 -- What is told to one session of a desk, and what it would be told if no other session were there. This project's.
-use Rattle.std.specs.Prelude.{ℕ, Bool, true, false, List, [], ◌∷◌, ◌++◌, bytes_eq, Option, Some, None, if◌then◌else◌}
+use Rattle.std.specs.Prelude.{ℕ, Bool, false, List, [], ◌∷◌, ◌++◌, bytes_eq, Option, Some, None, if◌then◌else◌}
 use Rattle.std.specs.Option.{option_map_or}
 use Rattle.jass_base.specs.declared.answer.Budget.{Budget}
 use Rattle.index_layout.specs.View.{FileView}

@@ -20,7 +20,7 @@ use Rattle.query_reader.specs.Texts.{plain_mention}
 use Rattle.session_engine.specs.Plans.{need_of, session_plan}
 use Rattle.session_desk.specs.declared.refusal.DeskRefusal.{DeskRefusal}
 use Rattle.session_desk.specs.declared.refusal.DeskRefusal.TheVariants.{BadLine, UnknownSession, NameInUse, DeskFull, TooManyTerms, NamedTooOften, PoolFull}
-use Rattle.session_desk.specs.State.{DeskState, Entry, granted_more, new_state, session_named, spare_frames, with_named, without_named}
+use Rattle.session_desk.specs.State.{DeskState, Entry, granted_more, session_named, spare_frames, with_named, without_named}
 use Rattle.session_desk.specs.Lines.{DeskCommand, Open, Grant, Top, Why, Close, End, read_desk_line}
 
 -- ---- the texts

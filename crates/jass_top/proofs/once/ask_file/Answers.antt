@@ -35,6 +35,6 @@ returns g c = λ beside.
     let none : (report_of opened.session).postings ≡ 0 = scored_none c.the_prefix_is_the_longest.ensures.fits file opened.session c.open.new.pool opened.ensures.stands opened.ensures.granted in (
       inl (refl, refl, c.in-Err.ensures.text.cause.failed),
       had file (once_of c.args.question) opened.session s pool did.stands did.same asks opened.ensures.k did.granted opened.ensures.granted c.args.input.now beside.told _ c.requires.fits
-      (c.reports_of_sessions_keep_their_promises.ensures.report s file pool did.stands) (c.reports_of_sessions_keep_their_promises.ensures.promised s file pool c.requires.view did.stands)
-      (record { content = refl; text = c.in-Err.ensures.text.bytes; steps = omega (arith, did.steps, none) }),
+          (c.reports_of_sessions_keep_their_promises.ensures.report s file pool did.stands) (c.reports_of_sessions_keep_their_promises.ensures.promised s file pool c.requires.view did.stands)
+          (record { content = refl; text = c.in-Err.ensures.text.bytes; steps = omega (arith, did.steps, none) }),
     )

@@ -1,5 +1,5 @@
 -- The answer of the session of the name.
-use Rattle.std.proofs.Common.{◌∙◌, ℕ, List, ap, subst}
+use Rattle.std.proofs.Common.{◌∙◌, ℕ, List, subst}
 use Rattle.jass_base.specs.declared.faults.WriteFault.{WriteFault}
 use Rattle.trec_run.specs.Gathering.{Gathers}
 use Rattle.session_desk.specs.Standing.{entry_of, state_of}

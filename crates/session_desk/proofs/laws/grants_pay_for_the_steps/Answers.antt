@@ -1,5 +1,5 @@
 -- The prefix that is paid for grows with the grants.
-use Rattle.std.proofs.Common.{◌≤◌, ◌∙◌, arith}
+use Rattle.std.proofs.Common.{arith}
 use Rattle.ranking_model.specs.Plan.{granted_with}
 use Rattle.session_desk.specs.Replies.{plan_of_session}
 use Rattle.session_desk.specs.State.{granted_more}

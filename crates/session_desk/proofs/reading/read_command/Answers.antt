@@ -1,6 +1,5 @@
 -- A line is text, and then its words decide.
-use Rattle.std.proofs.Common.{◌∙◌, sym, ap, subst, rules}
-use Rattle.std.specs.Prelude.{Option}
+use Rattle.std.proofs.Common.{◌∙◌, sym, ap, rules}
 use Rattle.query_reader.specs.Slices.{blank_runs}
 use Rattle.session_desk.specs.Lines.{command_in}
 use Rattle.session_desk.proofs.Wording.{bad_text, good_text}

@@ -1,5 +1,5 @@
 -- A line, and the run lines behind it.
-use Rattle.std.proofs.Common.{ℕ, List, ◌++◌, codes, decimal, length, refl}
+use Rattle.std.proofs.Common.{ℕ, List, ◌++◌, codes, decimal, length}
 use Rattle.ranking_model.specs.Report.{run_lines}
 use Rattle.session_desk.specs.Replies.{answer_lines}
 use Rattle.session_desk.proofs.Gathering.{first_failed, parted, then_second}

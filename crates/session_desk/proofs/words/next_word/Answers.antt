@@ -1,5 +1,5 @@
 -- The word ends at the first blank behind it.
-use Rattle.std.proofs.Common.{◌∙◌, ◌∷◌, ◌<◌, drop, length, sym, ap, subst, arith, rules}
+use Rattle.std.proofs.Common.{◌∙◌, ◌∷◌, drop, length, sym, ap, subst, arith, rules}
 use Rattle.memchr.specs.Find.{IsFirstByte, is_byte2}
 use Rattle.query_reader.specs.Slices.{blank_runs}
 use Rattle.session_desk.proofs.Wording.{word_there}

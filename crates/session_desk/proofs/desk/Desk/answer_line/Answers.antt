@@ -1,5 +1,5 @@
 -- The line is read, and its command answered.
-use Rattle.std.proofs.Common.{◌≡◌, ◌+◌, ◌↔◌, ◌∙◌, IfOk, IsTrue, List, Option, Result, ap, subst, sym}
+use Rattle.std.proofs.Common.{◌≡◌, ◌+◌, ◌↔◌, IfOk, IsTrue, Option, subst}
 use Rattle.jass_base.specs.declared.faults.WriteFault.{WriteFault}
 use Rattle.trec_run.specs.Gathering.{Gathers}
 use Rattle.session_desk.specs.declared.went.Went.{Went}

@@ -1,5 +1,5 @@
 -- The session at the place of its name is granted more.
-use Rattle.std.proofs.Common.{ℕ, ◌≡◌, ◌+◌, ◌∙◌, List, Option, Some, None, ap, refl, sym, arith, rules}
+use Rattle.std.proofs.Common.{◌≡◌, ◌+◌, ◌∙◌, Option, Some, ap, refl, sym, arith}
 use Rattle.jass_base.specs.declared.answer.Report.{Report}
 use Rattle.jass_base.specs.declared.query.Query.{Query}
 use Rattle.std.specs.Option.{option_map, option_map_or}

@@ -5,7 +5,7 @@ use Rattle.index_file.specs.Places.{texts_of}
 use Rattle.query_reader.specs.Queries.{query_data}
 use Rattle.query_reader.specs.Reading.{read_mentions}
 use Rattle.query_reader.specs.Slices.{blank_runs}
-use Rattle.query_reader.specs.Texts.{mentions_of, plain_mention}
+use Rattle.query_reader.specs.Texts.{mentions_of}
 use Rattle.query_reader.specs.declared.mode.Mode.TheVariants.{Plain}
 use Rattle.session_desk.specs.declared.refusal.DeskRefusal.{DeskRefusal}
 use Rattle.session_desk.specs.declared.opening.OpenFault.{OpenFault}

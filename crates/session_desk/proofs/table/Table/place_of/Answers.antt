@@ -1,5 +1,5 @@
 -- Each turn looks at one name.
-use Rattle.std.proofs.Common.{◌∙◌, rules}
+use Rattle.std.proofs.Common.{rules}
 use Rattle.session_desk.proofs.Placing.{named_here, none_so_far}
 use Rattle.session_desk.proofs.table.Table.place_of.Goals as goal
 
