@@ -25,7 +25,11 @@ fn files_are_made_and_read(rt: HostRuntime) {
     assert_eq!(&rt; count, 4);
     assert!(&rt; piece == *b"ment\0\0\0\0");
     assert!(&rt; std::fs::remove_file(&rt, name).is_ok());
-    assert!(&rt; files.read_at("jass_no_such_file.tmp", 0, &mut piece).is_err());
+    assert!(&rt;
+        files
+            .read_at("jass_no_such_file.tmp", 0, &mut piece)
+            .is_err()
+    );
 }
 
 #[test]
