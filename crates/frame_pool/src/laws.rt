@@ -8,8 +8,8 @@ ghost use Rattle.frame_pool.specs.ChainView.{LeavesPool};
 /// What calls on one chain leave of a pool they leave together, so any number of them.
 pub fn calls_on_one_chain()
     ensures none { (pool : PoolView) (chain : ℕ) → LeavesPool pool pool chain }
-    ensures two { (first second third : PoolView) (chain : ℕ) → LeavesPool first second chain → LeavesPool second third chain
-        → LeavesPool first third chain }
+    ensures two { (first second third : PoolView) (chain : ℕ) → LeavesPool first second chain
+        → LeavesPool second third chain → LeavesPool first third chain }
 {}
 
 /// A call on one chain leaves all chains in use and refuses no promise that it didn't refuse.

@@ -42,7 +42,8 @@ impl Lease {
         }
     }
 
-    /// Links the chain's frames in front of the free list that begins at `free`, and answers where that list begins then.
+    /// Links the chain's frames in front of the free list that begins at `free`, and answers where that list begins
+    /// then.
     pub(crate) fn release(self, frames: &mut FrameStore, free: u32) -> u32
         requires { 0 < self.taken → self.last < length frames.old }
         ensures frames { frames.new ≡ relinked frames.old self free }

@@ -1,7 +1,8 @@
 #![tactic(auto)]
 
-//! The frames in which many sessions keep their scores: one pool holds them all, and each session takes those of its chain.
-//! A frame holds the scores and the heap places of one page, which is 256 documents, and is cleared when it is taken.
+//! The frames in which many sessions keep their scores: one pool holds them all, and each session takes those of its
+//! chain. A frame holds the scores and the heap places of one page, which is 256 documents, and is cleared when it is
+//! taken.
 
 mod chain;
 mod frame;

@@ -13,11 +13,11 @@ use jass_base::NoMemory;
 use std::alloc::Global;
 use std::marker::Model;
 
-/// The frames that hold the scores of all sessions. A session is promised some of them as its chain, takes them one by one, and
-/// gives them back together.
+/// The frames that hold the scores of all sessions. A session is promised some of them as its chain, takes them one by
+/// one, and gives them back together.
 ///
-/// The free frames are linked in one list, and the frames of each chain in a list of its own, newest first. A pool never moves or
-/// clears a frame but when it is taken.
+/// The free frames are linked in one list, and the frames of each chain in a list of its own, newest first. A pool
+/// never moves or clears a frame but when it is taken.
 #[derive(Drop)]
 pub struct FramePool {
     frames: FrameStore,
@@ -39,7 +39,8 @@ impl Model for FramePool {
 }
 
 impl FramePool {
-    /// A pool of so many frames, for at most so many chains at a time. It takes 2,060 bytes a frame, and no other call takes memory.
+    /// A pool of so many frames, for at most so many chains at a time. It takes 2,060 bytes a frame, and no other call
+    /// takes memory.
     pub fn new(alloc: Global, frames: u32, chains: u32) -> Result<FramePool, NoMemory>
         requires frames { frames ≤ 1048576 }
         requires chains { chains ≤ 1024 }
@@ -66,8 +67,8 @@ impl FramePool {
         self.frames.len() as u32 - self.promised
     }
 
-    /// Promises `n` frames to a new chain, which has none yet. `Chains` comes where all chain numbers are in use, and else `Short`
-    /// where fewer than `n` frames are spare; then the pool is as it was.
+    /// Promises `n` frames to a new chain, which has none yet. `Chains` comes where all chain numbers are in use, and
+    /// else `Short` where fewer than `n` frames are spare; then the pool is as it was.
     pub fn promise(&mut self, n: u32) -> Result<Chain, PoolRefusal>
         ensures refusal { result_err result ≡ promise_refusal self.old n }
         ensures promised { IfOk result (λ chain. Promises self.old self.new chain n) }
@@ -92,7 +93,8 @@ impl FramePool {
         Ok(Chain { number: at as u32 })
     }
 
-    /// Takes a free frame for a page, which is then the chain's first. All its scores and heap places are 0, whatever it held.
+    /// Takes a free frame for a page, which is then the chain's first. All its scores and heap places are 0, whatever
+    /// it held.
     pub fn take(&mut self, chain: &Chain, page: u32) -> FrameId
         requires own { IsInUse self.old chain.now }
         requires room { length (chain_view self.old chain.now).frames < (chain_view self.old chain.now).promise }
@@ -182,7 +184,8 @@ impl FramePool {
     pub fn score(&self, frame: FrameId, slot: u8) -> u32
         requires { IsTaken self.now frame.number }
         ensures score { result ≡ slice_index (content_of self.now frame.number).scores slot }
-        ensures document { (chain page docs : ℕ) → HasPage (chain_view self.now chain) page frame.number → 256 * page + slot < docs
+        ensures document { (chain page docs : ℕ) → HasPage (chain_view self.now chain) page frame.number
+            → 256 * page + slot < docs
             → result ≡ slice_index (view_scores docs (chain_view self.now chain)) (256 * page + slot) }
     {
         self.frames.scores(frame.number)[slot as usize]
@@ -193,8 +196,10 @@ impl FramePool {
         requires { IsTaken self.now frame.number }
         ensures scores { result.now ≡ (content_of self.now frame.number).scores }
         ensures slots { length result.now ≡ 256 }
-        ensures documents { (chain page docs slot : ℕ) → HasPage (chain_view self.now chain) page frame.number → slot < 256
-            → 256 * page + slot < docs → slice_index result.now slot ≡ slice_index (view_scores docs (chain_view self.now chain)) (256 * page + slot) }
+        ensures documents { (chain page docs slot : ℕ) → HasPage (chain_view self.now chain) page frame.number
+            → slot < 256 → 256 * page + slot < docs
+            → slice_index result.now slot
+            ≡ slice_index (view_scores docs (chain_view self.now chain)) (256 * page + slot) }
     {
         self.frames.scores(frame.number)
     }
@@ -208,7 +213,8 @@ impl FramePool {
 
         // What the owner of the frame's chain and the others see.
         ensures scores { (chain page docs : ℕ) → HasPage (chain_view self.old chain) page frame.number
-            → view_scores docs (chain_view self.new chain) ≡ slice_set (view_scores docs (chain_view self.old chain)) (256 * page + slot) score }
+            → view_scores docs (chain_view self.new chain)
+            ≡ slice_set (view_scores docs (chain_view self.old chain)) (256 * page + slot) score }
         ensures places { (chain docs : ℕ)
             → view_places docs (chain_view self.new chain) ≡ view_places docs (chain_view self.old chain) }
         ensures keeps { (chain : ℕ) → KeepsFrames (chain_view self.old chain) (chain_view self.new chain) }
@@ -223,7 +229,8 @@ impl FramePool {
     pub fn place(&self, frame: FrameId, slot: u8) -> u32
         requires { IsTaken self.now frame.number }
         ensures place { result ≡ slice_index (content_of self.now frame.number).places slot }
-        ensures document { (chain page docs : ℕ) → HasPage (chain_view self.now chain) page frame.number → 256 * page + slot < docs
+        ensures document { (chain page docs : ℕ) → HasPage (chain_view self.now chain) page frame.number
+            → 256 * page + slot < docs
             → result ≡ slice_index (view_places docs (chain_view self.now chain)) (256 * page + slot) }
     {
         self.frames.place(frame.number, slot)
@@ -238,7 +245,8 @@ impl FramePool {
 
         // What the owner of the frame's chain and the others see.
         ensures places { (chain page docs : ℕ) → HasPage (chain_view self.old chain) page frame.number
-            → view_places docs (chain_view self.new chain) ≡ slice_set (view_places docs (chain_view self.old chain)) (256 * page + slot) place }
+            → view_places docs (chain_view self.new chain)
+            ≡ slice_set (view_places docs (chain_view self.old chain)) (256 * page + slot) place }
         ensures scores { (chain docs : ℕ)
             → view_scores docs (chain_view self.new chain) ≡ view_scores docs (chain_view self.old chain) }
         ensures keeps { (chain : ℕ) → KeepsFrames (chain_view self.old chain) (chain_view self.new chain) }

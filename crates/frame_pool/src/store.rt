@@ -10,8 +10,8 @@ use std::marker::Model;
 /// The documents of a page, each of which has a slot.
 const SLOTS: usize = 256;
 
-/// The page of a frame, the link to the next frame of the list that the frame is in, and whether a heap place was set since
-/// the frame was taken.
+/// The page of a frame, the link to the next frame of the list that the frame is in, and whether a heap place was set
+/// since the frame was taken.
 #[derive(Clone, Copy)]
 pub(crate) struct Head {
     pub(crate) page: u32,

@@ -32,7 +32,8 @@ pub(crate) fn read_heads(
         (λ end. record { heads = map (row_head bytes.now) (drop (length segments.old) segments.new); end = end }) result
         (read_heads bytes.now docs count 65536 from) }
     ensures kept { OnOk result (segments.new ≡ segments.old ++ drop (length segments.old) segments.new) }
-    ensures counted { IfOk result (λ _. All (IsCounted docs) (map (row_head bytes.now) (drop (length segments.old) segments.new))) }
+    ensures counted { IfOk result (λ _. All (IsCounted docs)
+        (map (row_head bytes.now) (drop (length segments.old) segments.new))) }
     ensures there { IfOk result (λ _. All (HasHead bytes.now) (drop (length segments.old) segments.new)) }
     ensures sums { OnOk result ((heads : List HeadData) → AreSums sums.old heads
         → AreSums sums.new (heads ++ map (row_head bytes.now) (drop (length segments.old) segments.new))) }

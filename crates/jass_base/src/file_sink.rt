@@ -20,7 +20,10 @@ impl<'a, C: Cabinet> Sink for FileSink<'a, C> {
 
     ghost faults = { λ s. C.write_faults s.files.now };
 
-    ghost rest = { λ s. record { place = s.files.ghost_name ∷ s.name.now; files = others_told (C.told s.files.now) s.name.now } };
+    ghost rest = { λ s. record {
+      place = s.files.ghost_name ∷ s.name.now;
+      files = others_told (C.told s.files.now) s.name.now;
+    } };
 
     fn put(&mut self, bytes: &[u8]) -> Result<(), Failed> {
         self.files.append(self.name, bytes)

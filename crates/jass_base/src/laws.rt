@@ -55,7 +55,8 @@ pub fn gap_varints_are_read()
 
 /// Documents from a least one on are read exactly from the shortest varints of their gaps.
 pub fn spelled_gaps_are_read()
-    ensures found { (d least : ℕ) (docs : List ℕ) → IsStrictlyIncreasing docs → All (λ doc. least ≤ doc) docs → All (λ doc. doc < d) docs → d ≤ 2 ^ 28
+    ensures found { (d least : ℕ) (docs : List ℕ) → IsStrictlyIncreasing docs → All (λ doc. least ≤ doc) docs
+        → All (λ doc. doc < d) docs → d ≤ 2 ^ 28
         → read_gaps d least (length docs) (spelled_gaps (gaps_from least docs)) ≡ Ok docs }
     ensures bytes { (d least count : ℕ) (docs bytes : List ℕ) → All (λ byte. byte < 256) bytes
         → read_gaps d least count bytes ≡ Ok docs → bytes ≡ spelled_gaps (gaps_from least docs) }

@@ -194,8 +194,8 @@ impl Cabinet for MemCabinet {
             ⟦<MemCabinet as Cabinet>⟧.read_faults self.new ≡ ⟦<MemCabinet as Cabinet>⟧.read_faults self.old }
         ensures others { ⟦<MemCabinet as Cabinet>⟧.write_faults self.old
             ≤ ⟦<MemCabinet as Cabinet>⟧.write_faults self.new }
-        ensures named { IsErr result ↔
-            (IsMissing (⟦<MemCabinet as Cabinet>⟧.told self.old) name.now ⊎ FailsNext (⟦<MemCabinet as Scripted>⟧.reads self.old)) }
+        ensures named { IsErr result ↔ (IsMissing (⟦<MemCabinet as Cabinet>⟧.told self.old) name.now
+            ⊎ FailsNext (⟦<MemCabinet as Scripted>⟧.reads self.old)) }
         ensures next { ⟦<MemCabinet as Scripted>⟧.reads self.new ≡ called (⟦<MemCabinet as Scripted>⟧.reads self.old) }
         ensures script_stays { ⟦<MemCabinet as Scripted>⟧.writes self.new ≡ ⟦<MemCabinet as Scripted>⟧.writes self.old }
     {

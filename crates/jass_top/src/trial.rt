@@ -101,7 +101,8 @@ fn make_trial<'a>(
     ensures file { IfOk result (λ made. made.0 ≡ chosen_view (trial_index seed docs terms)) }
     ensures view { IfOk result (λ made. IsFileView made.0) }
     ensures draws { IfOk result (λ made. made.1 ≡ trial_state seed docs terms) }
-    ensures accepted { OnOk result (judge_trial (trial_index seed docs terms) ≡ Accepted (trial_index seed docs terms)) }
+    ensures accepted { OnOk result
+        (judge_trial (trial_index seed docs terms) ≡ Accepted (trial_index seed docs terms)) }
     ensures unmade { (before after : ℕ) → IfErr result
         (λ stop. Unread (codes "trial" ∷ []) (judge_trial (trial_index seed docs terms)) before after stop) }
 {
@@ -126,7 +127,8 @@ fn trial_bytes<'a>(
     requires terms { terms ≤ 1048576 }
     ensures text { IfOk result (λ made. IsTextOf made.0 (trial_index seed docs terms)) }
     ensures draws { IfOk result (λ made. made.1 ≡ trial_state seed docs terms) }
-    ensures accepted { OnOk result (judge_trial (trial_index seed docs terms) ≡ Accepted (trial_index seed docs terms)) }
+    ensures accepted { OnOk result
+        (judge_trial (trial_index seed docs terms) ≡ Accepted (trial_index seed docs terms)) }
     ensures unmade { (before after : ℕ) → IfErr result
         (λ stop. Unread (codes "trial" ∷ []) (judge_trial (trial_index seed docs terms)) before after stop) }
 {

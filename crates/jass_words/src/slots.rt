@@ -45,7 +45,8 @@ pub fn count_at(words: &[String], place: usize) -> Option<u32>
 
 /// The number from a least to a greatest one in the word at a place.
 pub fn number_at(words: &[String], place: usize, least: u32, most: u32) -> Option<u32>
-    ensures some { IfSome result (λ n. IfSome (slice_get (texts words.now) place) (λ word. IsNumber word least most n)) }
+    ensures some { IfSome result (λ n. IfSome (slice_get (texts words.now) place)
+        (λ word. IsNumber word least most n)) }
     ensures there { IfSome result (λ n. place < length words.now) }
     ensures none { result ≡ None → (word : List ℕ) (n : ℕ) → slice_get (texts words.now) place ≡ Some word
         → ¬ IsNumber word least most n }

@@ -37,7 +37,8 @@ pub fn lines_of_answers()
 /// postings and then of all: the run, and the report lines.
 #[tactic(auto, unfolding(crate::specs::Plan::plan_of))]
 pub fn a_search_of_two_queries()
-    ensures run { search_run pet_names (numbered pets) two_queries 2 (Budget.Postings 2 ∷ Budget.All ∷ []) (codes "jass")
+    ensures run { search_run pet_names (numbered pets) two_queries 2 (Budget.Postings 2 ∷ Budget.All ∷ [])
+        (codes "jass")
         ≡ codes "301 Q0 d0 1 3 jass.1\n301 Q0 d2 2 3 jass.1\n301 Q0 d0 1 3 jass.2\n301 Q0 d1 2 3 jass.2\n" }
     ensures reports { IsSearchReports pet_names (numbered pets) two_queries 2 (Budget.Postings 2 ∷ Budget.All ∷ [])
         (codes "301 postings 2 segments 2 of 4 cutoff 3 next 2 bound 3 unknown 0 open\n301 postings 5 segments 4 of 4 cutoff 1 next 0 bound 0 unknown 0 final\n302 postings 0 segments 0 of 0 cutoff 0 next 0 bound 0 unknown 1 final\n302 postings 0 segments 0 of 0 cutoff 0 next 0 bound 0 unknown 1 final\n") }

@@ -25,7 +25,8 @@ impl Model for Plan {
 
     ghost view = { λ plan. record { places = plan.places; entries = plan.entries.items } };
 
-    ghost invariant = { λ plan. HasTables (record { places = plan.places; entries = plan.entries.items }) plan.sums.items plan.bounds.items };
+    ghost invariant = { λ plan.
+        HasTables (record { places = plan.places; entries = plan.entries.items }) plan.sums.items plan.bounds.items };
 }
 
 impl Plan {

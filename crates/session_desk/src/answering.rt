@@ -22,7 +22,8 @@ use std::alloc::Global;
 use std::sync::ledger::Ledger;
 use trec_run::{Buffer, gather_report};
 
-/// Gathers the reply to a command, or to a bad line where there is none. A command has its effect also where a put fails.
+/// Gathers the reply to a command, or to a bad line where there is none. A command has its effect also where a put
+/// fails.
 pub fn answer<S: Sink, L: Ledger>(
     table: &mut Table,
     alloc: Global,
@@ -39,8 +40,10 @@ pub fn answer<S: Sink, L: Ledger>(
         (text_where result (reply_to index.now (state_of table.old) (option_map command_data command.entry))) result }
     ensures after { state_of table.new ≡ left_where result (state_of table.old)
         (after_of index.now (state_of table.old) (option_map command_data command.entry)) }
-    ensures steps { steps.new ≡ steps.old + steps_of index.now (state_of table.old) (option_map command_data command.entry) }
-    ensures end { IfOk result (λ went. went ≡ Went.End ↔ IsTrue (is_end_command (option_map command_data command.entry))) }
+    ensures steps { steps.new
+        ≡ steps.old + steps_of index.now (state_of table.old) (option_map command_data command.entry) }
+    ensures end { IfOk result (λ went.
+        went ≡ Went.End ↔ IsTrue (is_end_command (option_map command_data command.entry))) }
     ensures memory { IfOk result (λ went. went ≡ Went.NoMemory →
         IsTrue (may_take_memory (state_of table.old) (option_map command_data command.entry))) }
     ensures untouched { result ≡ Ok Went.NoMemory → (out.new ≡ out.old) × (buffer.new ≡ buffer.old) }

@@ -38,8 +38,8 @@ impl Model for Desk {
 }
 
 impl Desk {
-    /// A desk without sessions, and with 1 to 1,048,576 frames of 2,060 bytes each. Where memory is refused it hands the
-    /// index back.
+    /// A desk without sessions, and with 1 to 1,048,576 frames of 2,060 bytes each. Where memory is refused it hands
+    /// the index back.
     pub fn new(alloc: Global, index: IndexFile, frames: u32) -> Result<Desk, (IndexFile, NoMemory)>
         requires some { 1 ≤ frames }
         requires few { frames ≤ 1048576 }

@@ -20,7 +20,8 @@ pub fn calls_on_other_chains_leave_a_heap()
 /// Where one score has risen since the heap stood, its document can be raised.
 pub fn a_risen_document_can_be_raised()
     ensures { (top : TopView) (scores places : List ℕ) (doc score : ℕ) → TopStands top scores places
-        → doc < length scores → slice_index scores doc < score → StandsBelow top (slice_set scores doc score) places doc }
+        → doc < length scores → slice_index scores doc < score
+        → StandsBelow top (slice_set scores doc score) places doc }
 {}
 
 /// After scores have risen, the documents of a heap that stood have scores, and its heap places are theirs.

@@ -15,7 +15,8 @@ pub struct Six<'a> {
 /// The columns of a line that has six of them.
 pub fn six_columns(line: &str) -> Option<Six<'_>>
     ensures { MatchOption result (length (columns_of line.now) ≢ 6)
-        (λ six. columns_of line.now ≡ six.id.now ∷ six.mark.now ∷ six.name.now ∷ six.rank.now ∷ six.score.now ∷ six.tag.now ∷ []) }
+        (λ six. columns_of line.now
+        ≡ six.id.now ∷ six.mark.now ∷ six.name.now ∷ six.rank.now ∷ six.score.now ∷ six.tag.now ∷ []) }
 {
     let (id, line) = next_column(line)?;
     let (mark, line) = next_column(line)?;

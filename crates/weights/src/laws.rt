@@ -1,4 +1,5 @@
-// Laws of the definitions. Each function does nothing; its clauses hold of all numbers, for proofs about whole collections.
+// Laws of the definitions. Each function does nothing; its clauses hold of all numbers, for proofs about whole
+// collections.
 
 ghost use Rattle.std.specs.Prelude.{◌≡◌, ℕ, ◌+◌, ◌-◌, ◌*◌, ◌/◌, ◌^◌, ◌<◌, ◌≤◌, List, [], ◌∷◌, ◌++◌, length, fold, All, Contains, IsPermutation};
 ghost use Rattle.weights.specs.declared.weighting.Rule.{Rule};

@@ -1,5 +1,5 @@
-// Weights and impacts: what a posting adds to the score of its document, by term frequency or by BM25 in whole numbers, and
-// how the weights of a collection become impacts of a few bits.
+// Weights and impacts: what a posting adds to the score of its document, by term frequency or by BM25 in whole numbers,
+// and how the weights of a collection become impacts of a few bits.
 #![tactic(auto)]
 
 pub mod laws;

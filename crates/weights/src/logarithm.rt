@@ -3,8 +3,8 @@
 ghost use Rattle.std.specs.Prelude.{◌≡◌, ℕ, ◌+◌, ◌-◌, ◌*◌, ◌/◌, ◌^◌, ◌<◌, ◌≤◌};
 ghost use Rattle.weights.specs.Logarithm.{lg};
 
-/// 1,024 times the binary logarithm of `x`: exact at the powers of two, and rounded down on the straight line between two of
-/// them. It is 0 at 1 and 65,535 at the greatest `u64`.
+/// 1,024 times the binary logarithm of `x`: exact at the powers of two, and rounded down on the straight line between
+/// two of them. It is 0 at 1 and 65,535 at the greatest `u64`.
 pub fn lg(x: u64) -> u32
     requires { 1 ≤ x }
     ensures value { result ≡ lg x }

@@ -43,8 +43,8 @@ impl Range {
 
 /// The impact of the weight `w` in a collection whose weights have this range.
 ///
-/// With `Bits::Of(b)` the least weight gets 1 and the greatest 2^b - 1, and those between them their place on the straight
-/// line, rounded down. Where both ends are the same each weight gets 1.
+/// With `Bits::Of(b)` the least weight gets 1 and the greatest 2^b - 1, and those between them their place on the
+/// straight line, rounded down. Where both ends are the same each weight gets 1.
 pub fn impact_of(bits: Bits, range: Range, w: u64) -> u16
     requires width { IsImpactWidth bits }
     requires in_range { IsInRange bits range w }

@@ -24,10 +24,11 @@ pub enum Rule {
     Bm25,
 }
 
-/// The weight of a posting: its term has `n` postings in a collection of `docs` documents with `total` terms in all, and
-/// stands `tf` times in a document of `length` terms.
+/// The weight of a posting: its term has `n` postings in a collection of `docs` documents with `total` terms in all,
+/// and stands `tf` times in a document of `length` terms.
 ///
-/// Under BM25 no weight is below 1. A collection of empty documents has a `total` of 1, so that there is an average length.
+/// Under BM25 no weight is below 1. A collection of empty documents has a `total` of 1, so that there is an average
+/// length.
 pub fn weight_of(rule: Rule, docs: u32, total: u64, n: u32, tf: u32, length: u32) -> u64
     requires some_postings { 1 ≤ n }
     requires within_docs { n ≤ docs }
