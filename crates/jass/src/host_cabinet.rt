@@ -20,7 +20,10 @@ pub struct HostCabinet<'a> {
 }
 
 impl<'a> HostCabinet<'a> {
-    pub fn new(rt: &'a HostRuntime) -> HostCabinet<'a> {
+    pub fn new(rt: &'a HostRuntime) -> HostCabinet<'a>
+        ensures read { ⟦<HostCabinet<'a> as Cabinet>⟧.read_faults result ≡ 0 }
+        ensures written { ⟦<HostCabinet<'a> as Cabinet>⟧.write_faults result ≡ 0 }
+    {
         HostCabinet {
             rt,
             reading: None,

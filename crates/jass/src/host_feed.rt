@@ -1,4 +1,4 @@
-ghost use Rattle.std.specs.Prelude.{None};
+ghost use Rattle.std.specs.Prelude.{◌≡◌, None};
 
 use jass_base::{Failed, Feed};
 use std::io::Read;
@@ -12,7 +12,9 @@ pub struct HostFeed<R: Read + Drop> {
 }
 
 impl<R: Read + Drop> HostFeed<R> {
-    pub fn new(inner: R) -> HostFeed<R> {
+    pub fn new(inner: R) -> HostFeed<R>
+        ensures quiet { ⟦<HostFeed<R> as Feed>⟧.faults result ≡ 0 }
+    {
         HostFeed { inner, faults: 0 }
     }
 }

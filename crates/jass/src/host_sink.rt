@@ -1,4 +1,4 @@
-ghost use Rattle.std.specs.Prelude.{None};
+ghost use Rattle.std.specs.Prelude.{◌≡◌, None};
 
 use jass_base::{Failed, Sink};
 use std::io::Write;
@@ -12,7 +12,9 @@ pub struct HostSink<W: Write + Drop> {
 }
 
 impl<W: Write + Drop> HostSink<W> {
-    pub fn new(inner: W) -> HostSink<W> {
+    pub fn new(inner: W) -> HostSink<W>
+        ensures quiet { ⟦<HostSink<W> as Sink>⟧.faults result ≡ 0 }
+    {
         HostSink { inner, faults: 0 }
     }
 

@@ -83,8 +83,9 @@ fn import_option(word: &str) -> Option<ImportOption>
 }
 
 /// What stands behind a key in a word.
-fn value_behind<'a>(word: &'a [u8], key: &[u8]) -> Option<&'a [u8]>
-    ensures { MatchOption result ((value : List ℕ) → word.now ≢ key.now ++ value) (λ value. word.now ≡ key.now ++ value.now) }
+pub fn value_behind<'a>(word: &'a [u8], key: &[u8]) -> Option<&'a [u8]>
+    ensures { MatchOption result ((value : List ℕ) → word.now ≢ key.now ++ value)
+        (λ value. word.now ≡ key.now ++ value.now) }
 {
     word.strip_prefix(key)
 }
