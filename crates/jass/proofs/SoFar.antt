@@ -1,15 +1,14 @@
 -- The words of the first arguments.
-use Rattle.std.proofs.Common.{◌≡◌, ℕ, zero, suc, ◌+◌, ◌<◌, ◌≤◌, List, [], ◌∷◌, ◌++◌, length, take, drop, map, Bool, true, false, Option, Some, None, Ok, Err, String, Global, refl, sym, ap, subst, ◌∙◌, arith, length-append}
+use Rattle.std.proofs.Common.{◌≡◌, ℕ, zero, suc, ◌+◌, ◌≤◌, List, [], ◌∷◌, ◌++◌, length, take, drop, map, Bool, true, false, Option, Some, None, String, Global, refl, sym, ap, ◌∙◌, arith, length-append}
 use Rattle.std.proofs.lemmas.Bool.Decides.{nat_tests}
 use Rattle.std.specs.Option.{option_map}
-use Rattle.std.specs.Prelude.{slice_get, nat_le, ⊤, IsSomeAnd, ◌&&◌, if◌then◌else◌}
+use Rattle.std.specs.Prelude.{slice_get, nat_le, ⊤, ◌&&◌, if◌then◌else◌}
 use Rattle.std.specs.Str.{is_utf8, IsUtf8}
 use Rattle.std.specs.String.{string_bytes}
 use Rattle.std.proofs.lemmas.List.{map-append, length-map}
 use Rattle.std.proofs.lemmas.Str.{IsUtf8-from_is_utf8, is_utf8-from_IsUtf8}
-use Rattle.std.specs.declared.env.FillError.TheVariants.{NotPresent, TooLong}
 use Rattle.jass_words.specs.Words.{texts}
-use Rattle.jass.specs.CommandLine.{GivesArgument, GivesWord, word_of, long_word, AreWords}
+use Rattle.jass.specs.CommandLine.{GivesWord, word_of, long_word}
 
 abbrev pub SoFar : Option (List (List ℕ)) → List (List ℕ) → Type 0
 SoFar None words = ⊤

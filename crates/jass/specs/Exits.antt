@@ -4,10 +4,11 @@ use Rattle.jass_words.specs.Words.{CommandData, IsCommand}
 use Rattle.jass_top.specs.declared.status.Status.{Status}
 use Rattle.jass_top.specs.declared.status.Status.TheVariants as status
 use Rattle.jass_top.specs.Commands.{meaning_of}
-use Rattle.jass_top.specs.Endings.{Ends, AreSome, EndsAtWords, Noted}
+use Rattle.jass_top.specs.Endings.{AreSome, EndsAtWords, Noted}
+use Rattle.jass_top.specs.Running.{EndsAs}
 use Rattle.jass_top.specs.Standing.{Keeps}
 use Rattle.jass_top.specs.Stops.{exit_number, memory_text}
-use Rattle.jass_top.specs.Worlds.{Outer, World}
+use Rattle.jass_top.specs.Worlds.{World}
 use Rattle.jass.specs.CommandLine.{AreWords}
 
 -- the words of the arguments were run, and the exit status is the number of the status that this ended with
@@ -18,7 +19,7 @@ pub record Ran (arguments : Option (List (List ℕ))) (before after : World) (ex
   pub number : exit ≡ exit_number ended
   pub command : ended ≢ status.Words → AreSome words
   pub bad : ended ≡ status.Words → EndsAtWords words before after
-  pub ends : (command : CommandData) → IsCommand words command → Ends (meaning_of command) before after ended
+  pub ends : (command : CommandData) → IsCommand words command → EndsAs (meaning_of command) before after ended
 
 -- there was no memory for the words: nothing was left, and that is noted
 pub record HadNoRoom (before after : World) (exit : ℕ) : Type 0 where

@@ -7,7 +7,7 @@ use Rattle.jass_words.specs.Options.{OptionData, Weights, Width, IsBits, AreOpti
 use Rattle.jass_base.specs.declared.answer.Budget.{Budget}
 use Rattle.query_reader.specs.declared.mode.Mode.{Mode}
 use Rattle.jass_words.specs.Searching.{IsWithinLimits}
-use Rattle.jass_words.specs.Words.{CommandData, Once, Rewrite, Import, Check, Export, Migrate, Search, Trial, Help, Version, IsTrialSize, IsCommand}
+use Rattle.jass_words.specs.Words.{CommandData, Once, Rewrite, Import, Check, Export, Migrate, Search, Serve, Trial, Help, Version, IsTrialSize, IsCommand}
 use Rattle.jass_top.specs.Commands.{IsAllowed}
 
 a_width : (value : List ℕ) (bits : Bits) → IsBits value bits → IsImpactWidth bits
@@ -40,6 +40,7 @@ allowed law trials words (Migrate from to) is = tt
 allowed law trials words (Search index queries run k limits tag mode) is =
     let within = law words index queries run k limits tag mode is in
     (within.some_hits, within.most_hits, within.most_budgets)
+allowed law trials words (Serve index frames) is = (is.shared.counted.some, is.shared.counted.limit)
 allowed law trials words (Trial seed docs terms queries) is = trials words seed docs terms queries is
 allowed law trials words Help is = tt
 allowed law trials words Version is = tt

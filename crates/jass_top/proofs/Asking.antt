@@ -1,21 +1,20 @@
 -- What a session that was opened for a query of words answers after its one grant.
-use Rattle.std.proofs.Common.{◌≡◌, ℕ, ◌≤◌, ◌^◌, List, [], ◌∷◌, ◌++◌, Option, inr, refl, sym, ap, subst, ◌∙◌, arith}
+use Rattle.std.proofs.Common.{◌≡◌, ℕ, ◌≤◌, ◌^◌, List, [], ◌∷◌, ◌++◌, Option, inr, ap, subst, ◌∙◌, arith}
 use Rattle.std.specs.Prelude.{codes, length}
 use Rattle.jass_base.specs.Outside.{Files}
-use Rattle.ranking_model.specs.declared.plan.QueryPlan.{QueryPlan}
 use Rattle.ranking_model.specs.Plan.{granted_with, plan_of, prefix_within, size_of_first}
 use Rattle.ranking_model.specs.Postings.{weighted_postings}
 use Rattle.ranking_model.specs.Promises.{IsPromised}
 use Rattle.ranking_model.specs.Report.{IsReport, report_line, run_lines}
 use Rattle.ranking_model.specs.Scores.{top_k}
-use Rattle.ranking_model.specs.Search.{QueryData, query_data}
+use Rattle.ranking_model.specs.Search.{query_data}
 use Rattle.index_model.specs.Flat.{numbered_flat}
 use Rattle.index_layout.specs.View.{FileView, index_text}
 use Rattle.frame_pool.specs.Pool.{PoolView}
 use Rattle.session_engine.specs.Plans.{session_plan}
-use Rattle.session_engine.specs.Standing.{IsSessionOf, SessionStands, answer_over, granted_of, k_of, plan_over, prefix_of, query_of, report_of, terms_of}
+use Rattle.session_engine.specs.Standing.{IsSessionOf, SessionStands, granted_of, k_of, plan_over, prefix_of, query_of, report_of, terms_of}
 use Rattle.session_engine.specs.declared.session.Session.{Session}
-use Rattle.jass_top.specs.Answers.{OnceQuery, once_plan, once_prefix, once_query, once_steps, once_text}
+use Rattle.jass_top.specs.Answers.{OnceQuery, once_prefix, once_query, once_steps, once_text}
 use Rattle.jass_top.specs.Meanings.{Output}
 use Rattle.jass_top.specs.OnceMeaning.{asking_meaning}
 use Rattle.jass_top.specs.OnceTexts.{session_text}

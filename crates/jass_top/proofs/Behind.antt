@@ -4,7 +4,7 @@ use Rattle.jass_base.specs.Writing.{Rose-earlier}
 use Rattle.jass_top.specs.declared.stop.Stop.{Stop}
 use Rattle.jass_top.specs.declared.stop.Stop.TheVariants as stops
 use Rattle.jass_top.specs.Causes.{IsOneOf, Unread}
-use Rattle.jass_top.specs.Judging.{Judged, Accepted, Missing, Refuses, Untold, Shows, behind}
+use Rattle.jass_top.specs.Judging.{Judged, Accepted, Refuses, Untold, Shows, behind}
 
 pub shown_then : {A B : Type 0} (judged : Judged A) (x : A) (next : A → Judged B) (other : Judged B) → Shows judged (Accepted x) → Shows (next x) other → Shows (behind judged next) other
 shown_then judged x next other (inl untold) shows = inl (ap (λ j. behind j next) untold)
@@ -24,6 +24,7 @@ unread_first first more judged next before after (stops.Refused name number at) 
 unread_first first more judged next before after (stops.ReadFault name) (one, inl rose) = (first_of_more first name.now more one, inl rose)
 unread_first first more judged next before after (stops.ReadFault name) (one, inr is) = (first_of_more first name.now more one, inr (ap (λ j. behind j next) is))
 unread_first first more judged next before after (stops.WriteFault name) why = why
+unread_first first more judged next before after stops.InputLimit why = why
 
 -- the first was had, and the others weren't; where the first is untold, so are they
 pub unread_then : {A B : Type 0} (first : List ℕ) (more : List (List ℕ)) (judged : Judged A) (x : A) (next : A → Judged B) (before mid after : ℕ) (stop : Stop) → Shows judged (Accepted x)
@@ -36,3 +37,4 @@ unread_then first more judged x next before mid after (stops.ReadFault name) (in
     cc
 unread_then first more judged x next before mid after (stops.ReadFault name) (inr had) untold later (one, inr is) = (inr one, inr (ap (λ j. behind j next) had ∙ is))
 unread_then first more judged x next before mid after (stops.WriteFault name) shows untold later why = why
+unread_then first more judged x next before mid after stops.InputLimit shows untold later why = why

@@ -13,22 +13,22 @@ use Rattle.jass_top.specs.Stops.{status_of, stop_text}
 use Rattle.jass_top.specs.Worlds.{Outer, World}
 
 -- a judgement is one alone
-refused_alone : {A : Type 0} (judged : Judged A) (x : A) (name : List ℕ) (number : ℕ) (at : Place) → Shows judged (Accepted x) → judged ≡ Refuses name number at → {B : Type 0} → B
+pub refused_alone : {A : Type 0} (judged : Judged A) (x : A) (name : List ℕ) (number : ℕ) (at : Place) → Shows judged (Accepted x) → judged ≡ Refuses name number at → {B : Type 0} → B
 refused_alone judged x name number at (inl is) bad = cc
 refused_alone judged x name number at (inr is) bad = cc
 
-refused_accepted : {A : Type 0} (judged : Judged A) (x : A) (name : List ℕ) (number : ℕ) (at : Place) → Shows judged (Refuses name number at) → judged ≡ Accepted x → {B : Type 0} → B
+pub refused_accepted : {A : Type 0} (judged : Judged A) (x : A) (name : List ℕ) (number : ℕ) (at : Place) → Shows judged (Refuses name number at) → judged ≡ Accepted x → {B : Type 0} → B
 refused_accepted judged x name number at (inl is) bad = cc
 refused_accepted judged x name number at (inr is) bad = cc
 
-missing_refused : {A : Type 0} (judged : Judged A) (missed name : List ℕ) (number : ℕ) (at : Place) → judged ≡ Missing missed → judged ≡ Refuses name number at → {B : Type 0} → B
+pub missing_refused : {A : Type 0} (judged : Judged A) (missed name : List ℕ) (number : ℕ) (at : Place) → judged ≡ Missing missed → judged ≡ Refuses name number at → {B : Type 0} → B
 missing_refused judged missed name number at is bad = cc
 
-missing_accepted : {A : Type 0} (judged : Judged A) (missed : List ℕ) (x : A) → judged ≡ Missing missed → judged ≡ Accepted x → {B : Type 0} → B
+pub missing_accepted : {A : Type 0} (judged : Judged A) (missed : List ℕ) (x : A) → judged ≡ Missing missed → judged ≡ Accepted x → {B : Type 0} → B
 missing_accepted judged missed x is bad = cc
 
 -- what is accepted isn't unaccepted
-both_ways : {A : Type 0} (judged : Judged A) (x : A) → Shows judged (Accepted x) → IsUnaccepted judged → {B : Type 0} → B
+pub both_ways : {A : Type 0} (judged : Judged A) (x : A) → Shows judged (Accepted x) → IsUnaccepted judged → {B : Type 0} → B
 both_ways (Accepted y) x had unaccepted = absurd unaccepted
 both_ways (Missing name) x (inl is) unaccepted = cc
 both_ways (Missing name) x (inr is) unaccepted = cc
@@ -48,6 +48,7 @@ unread m before after stops.NoMemory keeps why = inl keeps
 unread m before after (stops.Refused name number at) keeps why = (why.0, why.1, keeps)
 unread m before after (stops.ReadFault name) keeps why = (why.0, why.1, inl keeps)
 unread m before after (stops.WriteFault name) keeps why = absurd why
+unread m before after stops.InputLimit keeps why = absurd why
 
 pub ends_done : (m : Meaning) (before after : World) → Does m before.outer after.outer → after.left ≡ before.left → after.noted ≡ before.noted → after.note_faults ≡ before.note_faults → Ends m before after status.Done
 ends_done m before after does feed quiet note_faults = record {
@@ -112,3 +113,4 @@ ends_stopped m before after (stops.WriteFault name) why feed noted = record {
   refuses = λ bad number at is other. refused_alone (m.judge before.outer.told) why.1.inputs bad number at why.1.accepted is;
   complete = λ inputs is read write other. absurd (write name.now why.0);
 }
+ends_stopped m before after stops.InputLimit why feed noted = absurd why

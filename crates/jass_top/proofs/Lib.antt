@@ -1,6 +1,7 @@
 pub mod Allowing
 pub mod Asking
 pub mod Behind
+pub mod Ended
 pub mod Endings
 pub mod Judged
 pub mod JudgedFiles
@@ -13,10 +14,14 @@ pub mod Outputs
 pub mod Pools
 pub mod RunFiles
 pub mod Searched
+pub mod ServedLast
+pub mod ServedLines
+pub mod Serving
 pub mod Sides
 pub mod Sizes
 pub mod Stopping
 pub mod Tried
 pub mod Trying
 pub mod Turns
+pub mod Unserved
 pub mod Wholes

@@ -1,5 +1,5 @@
 -- A file that is made empty and then written.
-use Rattle.std.proofs.Common.{◌≡◌, ℕ, List, [], ◌++◌, take, Option, Some, None, Bool, true, false, Result, Ok, Err, inl, inr, cond, unwrap_or, refl, sym, ap, ◌∙◌, append-nil, ◌⊎◌}
+use Rattle.std.proofs.Common.{◌≡◌, ℕ, List, [], ◌++◌, take, Option, Some, None, Bool, true, false, inl, inr, cond, refl, sym, ap, ◌∙◌, ◌⊎◌}
 use Rattle.std.specs.Ordering.{nat_cmp, is_eq, eq_by_cmp}
 use Rattle.std.specs.Cmp.Lexicographic.{slice_cmp}
 use Rattle.std.specs.Io.KnownBytes.{Appends}

@@ -1,5 +1,5 @@
 -- How a command runs that makes an index of its input, from how it runs on the index that was made.
-use Rattle.std.proofs.Common.{◌≡◌, ◌≢◌, ◌≤◌, ◌+◌, ◌^◌, ℕ, List, length, Bool, true, false, nat_le, Some, Option, Result, Ok, Err, refl, sym, ap, subst, ◌∙◌, ◌⊎◌, inl, inr, if◌then◌else◌}
+use Rattle.std.proofs.Common.{◌≡◌, ◌≢◌, ◌≤◌, ◌+◌, ◌^◌, ℕ, List, length, Bool, true, false, nat_le, Option, Result, Ok, Err, subst, ◌∙◌, inl, inr, if◌then◌else◌}
 use Rattle.jass_base.specs.Outside.{Files, Rose}
 use Rattle.jass_base.specs.Writing.{Rose-earlier}
 use Rattle.index_model.specs.Index.{IndexData}
@@ -9,10 +9,10 @@ use Rattle.jass_top.specs.declared.stop.Stop.TheVariants as stops
 use Rattle.jass_top.specs.Causes.{Runs, WriteFailed}
 use Rattle.jass_top.specs.IndexJudging.{fitting}
 use Rattle.jass_top.specs.declared.stop.Place.TheVariants.{Byte}
-use Rattle.jass_top.specs.Judging.{Judged, Accepted, Missing, Refuses, Untold, Shows, behind}
+use Rattle.jass_top.specs.Judging.{Judged, Accepted, Missing, Refuses, Shows}
 use Rattle.jass_top.specs.MakingMeaning.{on_made, on_index, judge_made}
 use Rattle.jass_top.specs.Meanings.{Output}
-use Rattle.jass_top.specs.Standing.{Keeps, Does, DoesPart, Stands, Counts, Leaves, LeavesPart, LeavesFile, LeavesFront}
+use Rattle.jass_top.specs.Standing.{Keeps, Does, DoesPart, Stands, Counts, LeavesFile, LeavesFront}
 use Rattle.jass_top.specs.Worlds.{Outer}
 use Rattle.jass_top.proofs.Behind.{shown_then}
 use Rattle.std.specs.Io.KnownBytes.{Appends}
@@ -99,3 +99,4 @@ module _ {A : Type 0} (input : List ℕ) (file : Option (List ℕ)) (IsOutput : 
   made_runs (Err (stops.ReadFault name)) (one, inl rose, is) = (one, inl (Rose-earlier before.read_faults mid.read_faults after.read_faults read.read_faults rose), stands is)
   made_runs (Err (stops.ReadFault name)) (one, inr missing, is) = absurd (never_missing input index name.now missing)
   made_runs (Err (stops.WriteFault name)) is = (failed name.now is.0, part is.1)
+  made_runs (Err stops.InputLimit) is = absurd is

@@ -1,33 +1,18 @@
 -- A command has one output for its inputs.
 use Rattle.std.proofs.Common.{◌≡◌, ℕ, List, [], ◌∷◌, refl, sym, ap, ◌∙◌}
-use Rattle.std.specs.Prelude.{map, sum_by}
+use Rattle.std.specs.Prelude.{sum_by}
 use Rattle.std.specs.List.{AllZip}
-use Rattle.std.specs.Ordering.{nat_cmp}
-use Rattle.std.specs.Cmp.Lexicographic.{slice_cmp}
-use Rattle.std.proofs.lemmas.Simd.{map-map}
-use Rattle.std.proofs.lemmas.List.Folds.{flat_map-map}
 use Rattle.jass_base.specs.declared.answer.Grade.{Grade}
 use Rattle.jass_base.specs.declared.answer.Report.{Report}
-use Rattle.jass_base.specs.declared.collection.Collection.{Collection}
-use Rattle.jass_base.specs.declared.posting.Posting.{Posting}
-use Rattle.jass_base.specs.Ciff.{ListData, DocData, CollectionData}
-use Rattle.jass_base.specs.CiffViews.{list_data, doc_data, collection_data}
-use Rattle.weights.specs.declared.weighting.Rule.TheVariants.{Tf}
-use Rattle.weights.specs.declared.quantizing.Bits.TheVariants.{Raw}
-use Rattle.weights.specs.declared.quantizing.Range.{Range}
-use Rattle.weights.specs.Quantizing.{range_of, impact_of}
-use Rattle.ranking_model.specs.declared.entry.Entry.{Entry}
 use Rattle.ranking_model.specs.declared.plan.QueryPlan.{QueryPlan}
-use Rattle.ranking_model.specs.Order.{sorted}
-use Rattle.ranking_model.specs.Flat.{entry_cmp}
 use Rattle.ranking_model.specs.Finality.{IsGrade}
 use Rattle.ranking_model.specs.Report.{IsReport, report_of}
 use Rattle.ranking_model.specs.Search.{QueryData, prefixes_granted, report_lines}
 use Rattle.index_model.specs.Index.{IndexData}
-use Rattle.jass_words.specs.Words.{CommandData, Once, Rewrite, Import, Check, Export, Migrate, Search, Trial, Help, Version}
+use Rattle.jass_words.specs.Words.{CommandData, Once, Rewrite, Import, Check, Export, Migrate, Search, Serve, Trial, Help, Version}
 use Rattle.jass_top.specs.Answers.{OnceQuery, once_plan, once_prefix, once_steps, once_text}
 use Rattle.jass_top.specs.Commands.{meaning_of}
-use Rattle.jass_top.specs.Meanings.{Output}
+use Rattle.jass_top.specs.Meanings.{HasOneOutput, Output}
 use Rattle.jass_top.specs.OnceMeaning.{IsOnceOutput}
 use Rattle.jass_top.specs.SearchMeaning.{AreSearchReports, IsSearchOutput, IsSearchReport, SearchInputs, plan_over_index, scored_postings}
 use Rattle.jass_top.specs.SearchMeaning as asked
@@ -95,14 +80,15 @@ module _ (one_grade : (scores : List ℕ) (k bound : ℕ) (first second : Grade)
       let last = same_reports_after index 3 queries is.last theirs.last is.last_are theirs.last_are in
       is.whole ∙ (λ i. record { content = []; text = trial_summary index queries (first i) (second i) (last i); steps = sum_by (scored_postings index trial_budgets) queries }) ∙ sym theirs.whole
 
-  pub one_output : (command : CommandData) (inputs : (meaning_of command).Inputs) (one other : Output) → (meaning_of command).IsOutput inputs one → (meaning_of command).IsOutput inputs other → one ≡ other
-  one_output (Once ciff k budget terms) inputs one other is theirs = same_answer (record { k = k; budget = budget; words = terms }) inputs one other is theirs
-  one_output (Rewrite from to) inputs one other is theirs = is ∙ sym theirs
-  one_output (Import ciff index rule bits) inputs one other is theirs = is ∙ sym theirs
-  one_output (Check index) inputs one other is theirs = is ∙ sym theirs
-  one_output (Export index ciff) inputs one other is theirs = is ∙ sym theirs
-  one_output (Migrate from to) inputs one other is theirs = is ∙ sym theirs
-  one_output (Search index queries run k limits tag mode) inputs one other is theirs = same_search (record { k = k; budgets = limits; tag = tag }) inputs one other is theirs
-  one_output (Trial seed docs terms queries) inputs one other is theirs = same_trial (queries_over inputs (trial_queries seed docs terms queries)) inputs one other is theirs
-  one_output Help inputs one other is theirs = is ∙ sym theirs
-  one_output Version inputs one other is theirs = is ∙ sym theirs
+  pub one_output : (command : CommandData) → HasOneOutput (meaning_of command)
+  one_output (Once ciff k budget terms) = λ inputs one other is theirs. same_answer (record { k = k; budget = budget; words = terms }) inputs one other is theirs
+  one_output (Rewrite from to) = λ inputs one other is theirs. is ∙ sym theirs
+  one_output (Import ciff index rule bits) = λ inputs one other is theirs. is ∙ sym theirs
+  one_output (Check index) = λ inputs one other is theirs. is ∙ sym theirs
+  one_output (Export index ciff) = λ inputs one other is theirs. is ∙ sym theirs
+  one_output (Migrate from to) = λ inputs one other is theirs. is ∙ sym theirs
+  one_output (Search index queries run k limits tag mode) = λ inputs one other is theirs. same_search (record { k = k; budgets = limits; tag = tag }) inputs one other is theirs
+  one_output (Serve index frames) = tt
+  one_output (Trial seed docs terms queries) = λ inputs one other is theirs. same_trial (queries_over inputs (trial_queries seed docs terms queries)) inputs one other is theirs
+  one_output Help = λ inputs one other is theirs. is ∙ sym theirs
+  one_output Version = λ inputs one other is theirs. is ∙ sym theirs

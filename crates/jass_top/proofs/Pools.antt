@@ -1,8 +1,7 @@
 -- A pool after a session was opened, used and closed.
-use Rattle.std.proofs.Common.{◌≡◌, ℕ, ◌+◌, ◌≤◌, List, [], ◌∷◌, length, Option, Some, None, suc, zero, false, true, slice_set, refl, sym, subst, arith}
+use Rattle.std.proofs.Common.{◌≡◌, ℕ, ◌+◌, List, [], ◌∷◌, Option, Some, None, suc, zero, false, slice_set, refl, sym, subst, arith}
 use Rattle.std.specs.Prelude.{IsSome, is_some, slice_index_or}
 use Rattle.std.specs.List.{list_all}
-use Rattle.accumulator_pages.specs.Adding.{page_count}
 use Rattle.frame_pool.specs.Pool.{ChainEntry, IsInUse, PoolView, spare_of}
 use Rattle.frame_pool.specs.ChainView.{LeavesPool, chain_view}
 use Rattle.index_layout.specs.View.{FileView}

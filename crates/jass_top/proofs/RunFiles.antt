@@ -1,5 +1,5 @@
 -- A file that was created and then written through a sink.
-use Rattle.std.proofs.Common.{◌≡◌, ◌≤◌, ℕ, List, [], Option, Result, Ok, Err, arith}
+use Rattle.std.proofs.Common.{◌≤◌, ℕ, List, [], Option, Result, Ok, Err, arith}
 use Rattle.jass_base.specs.Outside.{Files, Sets}
 use Rattle.jass_base.specs.Writing.{Rose-earlier}
 use Rattle.jass_top.specs.RunFiles.{WroteFile, WroteBehind}

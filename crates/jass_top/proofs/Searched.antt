@@ -5,7 +5,6 @@ use Rattle.std.specs.Ordering.{nat_cmp}
 use Rattle.std.proofs.lemmas.List.{length-map}
 use Rattle.std.proofs.lemmas.List.Folds.{flat_map-map}
 use Rattle.jass_base.specs.declared.answer.Budget.{Budget}
-use Rattle.jass_base.specs.declared.answer.Hit.{Hit}
 use Rattle.jass_base.specs.declared.answer.Report.{Report}
 use Rattle.jass_base.specs.declared.named.Named.{Named}
 use Rattle.jass_base.specs.Outside.{Files}

@@ -1,7 +1,7 @@
 -- One of two outputs whose calls share a result.
-use Rattle.std.proofs.Common.{◌≡◌, ℕ, ◌+◌, ◌-◌, ◌<◌, List, [], ◌∷◌, ◌++◌, length, Option, Result, Ok, Err, refl, sym, ap, subst, ◌∙◌, append-nil, append_assoc, arith}
+use Rattle.std.proofs.Common.{◌≡◌, ℕ, List, [], ◌++◌, Option, Result, Ok, Err, refl, sym, ap, subst, ◌∙◌, append-nil, append_assoc, arith}
 use Rattle.std.specs.Io.KnownBytes.{Appends}
-use Rattle.jass_base.specs.Outside.{Rest, Rose, Wrote}
+use Rattle.jass_base.specs.Outside.{Rest, Wrote}
 use Rattle.jass_base.specs.Writing.{AppendsPrefix, AppendsPrefix-then, AppendsPrefix-longer, AppendsPrefix-whole, Appends-none, Appends-then, Rose-earlier}
 use Rattle.trec_run.specs.Gathering.{Gathers}
 use Rattle.jass_top.specs.Sides.{Side, WroteSide}

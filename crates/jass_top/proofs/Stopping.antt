@@ -15,3 +15,4 @@ stopped m x stops.NoMemory unread = inl (same x)
 stopped m x (stops.Refused name number at) unread = (unread.0, unread.1, same x)
 stopped m x (stops.ReadFault name) unread = (unread.0, unread.1, inl (same x))
 stopped m x (stops.WriteFault name) unread = absurd unread
+stopped m x stops.InputLimit unread = absurd unread

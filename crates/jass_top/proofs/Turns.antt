@@ -1,5 +1,5 @@
 -- The texts and the steps of a query from one budget on.
-use Rattle.std.proofs.Common.{◌≡◌, ℕ, ◌+◌, ◌-◌, ◌<◌, ◌≤◌, List, [], ◌∷◌, ◌++◌, length, take, drop, min, map, flat_map, refl, sym, ap, subst, ◌∙◌, take-append-drop, take_all, get_or, suc, zero, Bool, true, false, ◌==◌, if◌then◌else◌, arith}
+use Rattle.std.proofs.Common.{◌≡◌, ℕ, ◌+◌, ◌-◌, ◌<◌, ◌≤◌, List, [], ◌∷◌, ◌++◌, length, take, drop, map, flat_map, refl, sym, ap, ◌∙◌, take-append-drop, take_all, get_or, suc, zero, Bool, true, false, ◌==◌, if◌then◌else◌, arith}
 use Rattle.std.specs.List.{sum_by}
 use Rattle.std.proofs.lemmas.List.{take_more}
 use Rattle.std.proofs.lemmas.List.Sums.{sum_by-append}
@@ -14,7 +14,7 @@ use Rattle.final_certificate.specs.Rule.{report_by}
 use Rattle.index_layout.specs.View.{FileView}
 use Rattle.frame_pool.specs.Pool.{PoolView}
 use Rattle.session_engine.specs.Plans.{session_plan}
-use Rattle.session_engine.specs.Standing.{SessionStands, answer_over, granted_of, k_of, plan_over, prefix_of, query_of, report_of, terms_of}
+use Rattle.session_engine.specs.Standing.{SessionStands, granted_of, k_of, plan_over, prefix_of, query_of, report_of, terms_of}
 use Rattle.session_engine.specs.declared.session.Session.{Session}
 use Rattle.jass_top.specs.SearchTexts.{answer_text, first_part_of, parts_reports, parts_run, plan_for, prefixes_for, query_steps, report_text}
 

@@ -2,7 +2,7 @@
 use Rattle.std.specs.Prelude.{◌≡◌, ℕ, List, [], ◌∷◌, Some, Result, Ok, Err, ◌⊎◌, ⊤, IsTrue, codes}
 use Rattle.jass_base.specs.Outside.{Rose}
 use Rattle.jass_top.specs.declared.stop.Stop.{Stop}
-use Rattle.jass_top.specs.declared.stop.Stop.TheVariants.{NoMemory, Refused, ReadFault, WriteFault}
+use Rattle.jass_top.specs.declared.stop.Stop.TheVariants.{NoMemory, Refused, ReadFault, WriteFault, InputLimit}
 use Rattle.jass_top.specs.Judging.{Judged, Missing, Refuses, Shows}
 use Rattle.jass_top.specs.Meanings.{Meaning}
 use Rattle.jass_top.specs.Standing.{Keeps, Does, DoesPart, Stands}
@@ -30,6 +30,7 @@ Unread reads judged before after (Refused name number at) =
     IsOneOf reads name.now × Shows judged (Refuses name.now number at)
 Unread reads judged before after (ReadFault name) = IsOneOf reads name.now × ReadFailed judged before after name.now
 Unread reads judged before after (WriteFault name) = ⊥
+Unread reads judged before after InputLimit = ⊥
 
 -- why a command stopped, and what then stands
 abbrev pub Stopped : Meaning → Outer → Outer → Stop → Type 0
@@ -40,6 +41,7 @@ Stopped m before after (ReadFault name) =
     IsOneOf m.reads name.now × ReadFailed (m.judge before.told) before.read_faults after.read_faults name.now
     × Stands m before after
 Stopped m before after (WriteFault name) = WriteFailed m before after name.now × DoesPart m before after
+Stopped m before after InputLimit = ⊥
 
 -- how a command ran
 abbrev pub Runs : Meaning → Outer → Outer → Result (Unit {0}) Stop → Type 0

@@ -13,6 +13,7 @@ help_text =
     ++ (codes "export INDEX CIFF          write a CIFF file with the impacts as frequencies\n"
     ++ (codes "migrate OLD NEW            write an index file of version 1 in version 2\n"
     ++ (codes "search INDEX QUERIES RUN [k=K] [budget=B,..] [tag=TAG] [mode=plain|folded]  answer the queries of a file\n"
+    ++ (codes "serve INDEX frames=N       answer the lines of the input at a desk over an index file\n"
     ++ (codes "trial SEED DOCS TERMS QUERIES  answer queries over a collection made from a seed, and print a summary\n"
     ++ (codes "--help                     print this text\n"
     ++ (codes "--version                  print the name and the version\n\n"
@@ -22,8 +23,9 @@ help_text =
     ++ (codes "2  the words are no command\n"
     ++ (codes "3  an input is refused\n"
     ++ (codes "4  an input could not be read, or is missing\n"
-    ++ (codes "5  an output could not be written\n\n"
-    ++ codes "documents: README.md, docs/\n")))))))))))))))))
+    ++ (codes "5  an output could not be written\n"
+    ++ (codes "6  the input is longer than is taken\n\n"
+    ++ codes "documents: README.md, docs/\n")))))))))))))))))))
 
 abbrev pub help_meaning : Meaning
 help_meaning = text_meaning help_text

@@ -15,8 +15,12 @@ pub mod OnceMeaning
 pub mod OnceTexts
 pub mod RewriteMeaning
 pub mod RunFiles
+pub mod Running
 pub mod SearchMeaning
 pub mod SearchTexts
+pub mod ServeEndings
+pub mod ServeMeaning
+pub mod Serving
 pub mod Sides
 pub mod Standing
 pub mod Stops

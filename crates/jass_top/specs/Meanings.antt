@@ -1,5 +1,5 @@
 -- What a command means.
-use Rattle.std.specs.Prelude.{ℕ, Bool, List, Option}
+use Rattle.std.specs.Prelude.{◌≡◌, ℕ, Bool, List, Option, ⊤}
 use Rattle.jass_base.specs.Outside.{Files}
 use Rattle.jass_top.specs.Judging.{Judged}
 
@@ -21,3 +21,18 @@ pub record Meaning : Type 1 where
   pub counts : Bool
   pub streams : Bool
   pub IsOutput : Inputs → Output → Type 0
+
+-- a command works on files and the output; or at a desk over an index file with some frames, which takes the feed
+pub data Means : Type 1 where
+  OnFiles : Meaning → Means
+  AtDesk : List ℕ → ℕ → Means
+
+abbrev pub IsOnFiles : Means → Type 0
+IsOnFiles (OnFiles m) = ⊤
+IsOnFiles (AtDesk index frames) = ⊥
+
+-- the output is one for the inputs; at a desk the replies are a function of the lines
+abbrev pub HasOneOutput : Means → Type 0
+HasOneOutput (OnFiles m) =
+    (inputs : m.Inputs) (one other : Output) → m.IsOutput inputs one → m.IsOutput inputs other → one ≡ other
+HasOneOutput (AtDesk index frames) = ⊤

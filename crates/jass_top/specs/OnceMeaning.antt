@@ -1,5 +1,5 @@
 -- What `once` means: an answer to a query of words over a CIFF file, on the output.
-use Rattle.std.specs.Prelude.{◌≡◌, List, ℕ, [], ◌∷◌, None}
+use Rattle.std.specs.Prelude.{◌≡◌, List, ℕ, [], None}
 use Rattle.jass_base.specs.declared.answer.Report.{Report}
 use Rattle.weights.specs.declared.weighting.Rule.TheVariants.{Tf}
 use Rattle.weights.specs.declared.quantizing.Bits.TheVariants.{Raw}

@@ -1,8 +1,9 @@
 ghost use Rattle.std.specs.Prelude.{ℕ, ◌≡◌};
 ghost use Rattle.jass_words.specs.Commands.{command_data};
-ghost use Rattle.jass_top.specs.Causes.{Runs};
 ghost use Rattle.jass_top.specs.Commands.{meaning_of, IsAllowed};
-ghost use Rattle.jass_top.specs.Worlds.{outer};
+ghost use Rattle.jass_top.specs.Meanings.{IsOnFiles};
+ghost use Rattle.jass_top.specs.Running.{RunsAs};
+ghost use Rattle.jass_top.specs.Worlds.{fed};
 
 use crate::check::run_check;
 use crate::export::run_export;
@@ -13,26 +14,29 @@ use crate::once::run_once;
 use crate::question::Question;
 use crate::rewrite::run_rewrite;
 use crate::search::run_search;
+use crate::serve::run_serve;
 use crate::stop::Stop;
 use crate::trial::run_trial;
 use crate::version::run_version;
-use jass_base::{Cabinet, Sink, Steps};
+use jass_base::{Cabinet, Feed, Sink, Steps};
 use jass_words::Command;
 use std::alloc::Global;
 use std::sync::ledger::Ledger;
 
-/// Runs a command.
-pub fn run_command<'a, C: Cabinet, O: Sink, L: Ledger>(
+/// Runs a command. Only `serve` takes from the input.
+pub fn run_command<'a, C: Cabinet, I: Feed, O: Sink, L: Ledger>(
     alloc: Global,
     command: Command<'a>,
     files: &mut C,
+    input: &mut I,
     out: &mut O,
     steps: &mut Steps<L>,
 ) -> Result<(), Stop<'a>>
     requires { IsAllowed (command_data command) }
-    ensures { Runs (meaning_of (command_data command.entry))
-        (outer C.Cabinet O.Sink files.old out.old steps.old)
-        (outer C.Cabinet O.Sink files.new out.new steps.new) result }
+    ensures runs { RunsAs (meaning_of (command_data command.entry))
+        (fed C.Cabinet I.Feed O.Sink files.old input.old out.old steps.old)
+        (fed C.Cabinet I.Feed O.Sink files.new input.new out.new steps.new) result }
+    ensures feed { IsOnFiles (meaning_of (command_data command.entry)) → I.left input.new ≡ I.left input.old }
 {
     match command {
         Command::Once {
@@ -85,6 +89,9 @@ pub fn run_command<'a, C: Cabinet, O: Sink, L: Ledger>(
             terms,
             queries,
         } => run_trial(alloc, seed, docs, terms, queries, out, steps),
+        Command::Serve { index, frames } => run_serve(
+            alloc, index, frames, files, input, out, steps,
+        ),
         Command::Help => run_help(out),
         Command::Version => run_version(out),
     }

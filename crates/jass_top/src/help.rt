@@ -16,6 +16,7 @@ check INDEX                check an index file, and print its totals\n\
 export INDEX CIFF          write a CIFF file with the impacts as frequencies\n\
 migrate OLD NEW            write an index file of version 1 in version 2\n\
 search INDEX QUERIES RUN [k=K] [budget=B,..] [tag=TAG] [mode=plain|folded]  answer the queries of a file\n\
+serve INDEX frames=N       answer the lines of the input at a desk over an index file\n\
 trial SEED DOCS TERMS QUERIES  answer queries over a collection made from a seed, and print a summary\n\
 --help                     print this text\n\
 --version                  print the name and the version\n\
@@ -27,6 +28,7 @@ statuses:\n\
 3  an input is refused\n\
 4  an input could not be read, or is missing\n\
 5  an output could not be written\n\
+6  the input is longer than is taken\n\
 \n\
 documents: README.md, docs/\n\
 ";

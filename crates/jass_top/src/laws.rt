@@ -15,7 +15,7 @@ ghost use Rattle.jass_words.specs.Words.{CommandData};
 ghost use Rattle.jass_top.specs.declared.stop.Place.{Place};
 ghost use Rattle.jass_top.specs.Commands.{meaning_of};
 ghost use Rattle.jass_top.specs.Judging.{Accepted, Missing, Refuses, Untold, IsRefused, judge_ciff};
-ghost use Rattle.jass_top.specs.Meanings.{Meaning, Output};
+ghost use Rattle.jass_top.specs.Meanings.{HasOneOutput};
 ghost use Rattle.jass_top.specs.SearchMeaning.{IsSearchOutput, Search, judge_queries, plain_query};
 ghost use Rattle.jass_top.specs.SearchTexts.{search_output};
 ghost use Rattle.jass_top.specs.TrialMeaning.{IsTrialOutput};
@@ -110,8 +110,7 @@ pub fn a_trial_leaves_its_summary()
 
 /// A command has one output at most for its inputs.
 pub fn a_command_has_one_output()
-    ensures { (command : CommandData) (inputs : (meaning_of command).Inputs) (one other : Output)
-        → (meaning_of command).IsOutput inputs one → (meaning_of command).IsOutput inputs other → one ≡ other }
+    ensures { (command : CommandData) → HasOneOutput (meaning_of command) }
 {
     the_grade_is_one();
 }

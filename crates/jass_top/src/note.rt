@@ -29,6 +29,7 @@ pub fn put_stop<E: Sink>(notes: &mut E, stop: Stop<'_>) -> Result<(), WriteFault
         }
         Stop::ReadFault { name } => put_fault(notes, name.as_bytes(), b": read fault\n"),
         Stop::WriteFault { name } => put_fault(notes, name.as_bytes(), b": write fault\n"),
+        Stop::InputLimit => put_all(notes, &[b"input limit\n"]),
     }
 }
 

@@ -1,7 +1,8 @@
 ghost use Rattle.std.specs.Prelude.{ℕ, ◌≡◌, ◌≢◌};
 ghost use Rattle.jass_words.specs.Words.{CommandData, texts, IsCommand};
 ghost use Rattle.jass_top.specs.Commands.{meaning_of};
-ghost use Rattle.jass_top.specs.Endings.{Ends, AreSome, EndsAtWords};
+ghost use Rattle.jass_top.specs.Endings.{AreSome, EndsAtWords};
+ghost use Rattle.jass_top.specs.Running.{EndsAs};
 ghost use Rattle.jass_top.specs.Stops.{status_of};
 ghost use Rattle.jass_top.specs.Worlds.{world};
 
@@ -32,7 +33,7 @@ pub fn run<C: Cabinet, I: Feed, O: Sink, E: Sink, L: Ledger>(
     ensures words { result ≡ Status.Words → EndsAtWords (texts words.now)
         (world C.Cabinet I.Feed O.Sink E.Sink files.old input.old out.old notes.old steps.old)
         (world C.Cabinet I.Feed O.Sink E.Sink files.new input.new out.new notes.new steps.new) }
-    ensures ends { (command : CommandData) → IsCommand (texts words.now) command → Ends (meaning_of command)
+    ensures ends { (command : CommandData) → IsCommand (texts words.now) command → EndsAs (meaning_of command)
         (world C.Cabinet I.Feed O.Sink E.Sink files.old input.old out.old notes.old steps.old)
         (world C.Cabinet I.Feed O.Sink E.Sink files.new input.new out.new notes.new steps.new) result }
 {
@@ -46,7 +47,7 @@ pub fn run<C: Cabinet, I: Feed, O: Sink, E: Sink, L: Ledger>(
             return Status::Words;
         }
     };
-    match run_command(alloc, command, files, out, steps) {
+    match run_command(alloc, command, files, input, out, steps) {
         Ok(()) => Status::Done,
         Err(stop) => {
             let _ = put_stop(notes, stop);
@@ -64,5 +65,6 @@ fn status_of(stop: Stop<'_>) -> Status
         Stop::Refused { .. } => Status::Refused,
         Stop::ReadFault { .. } => Status::ReadFault,
         Stop::WriteFault { .. } => Status::WriteFault,
+        Stop::InputLimit => Status::InputLimit,
     }
 }

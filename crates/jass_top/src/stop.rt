@@ -23,7 +23,12 @@ pub enum Stop<'a> {
     WriteFault {
         name: &'a str,
     },
+    /// As many bytes of the input were taken as may be, and no line was `end`.
+    InputLimit,
 }
+
+/// What the input is called in a note.
+pub const INPUT: &str = "input";
 
 /// What the output is called in a note.
 pub const OUTPUT: &str = "output";

@@ -83,7 +83,7 @@ too_many words front rest is begun last many = subst (λ (ws : List (List ℕ)).
 
 -- ---- words and numbers that begin each command
 
-abbrev a_word : List ℕ
+abbrev pub a_word : List ℕ
 a_word = 97 ∷ []
 
 abbrev pub one_word : List ℕ
@@ -92,7 +92,7 @@ one_word = 49 ∷ []
 abbrev all_word : List ℕ
 all_word = 97 ∷ 108 ∷ 108 ∷ []
 
-a_file : IsFile a_word
+pub a_file : IsFile a_word
 a_file = record { some = omega arith; fits = omega arith; nonzero = All-from_recursion (λ (b : ℕ). b ≢ 0) a_word ((λ is. cc), tt) }
 
 a_count : IsCount one_word 1

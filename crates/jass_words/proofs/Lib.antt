@@ -5,6 +5,7 @@ pub mod SearchKeys
 pub mod Parts
 pub mod Beginnings
 pub mod Limits
+pub mod Serving
 pub mod Short
 pub mod Sizes
 pub mod Terms

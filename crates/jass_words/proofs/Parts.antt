@@ -17,7 +17,7 @@ use Rattle.jass_words.specs.Searching.{SearchData, IsSearchOption, hits_in, limi
 use Rattle.query_reader.specs.declared.mode.Mode.{Mode}
 use Rattle.query_reader.specs.declared.mode.Mode.TheVariants.{Plain}
 use Rattle.std.specs.Option.{unwrap_or}
-use Rattle.jass_words.specs.Words.{CommandData, Once, Rewrite, Import, Check, Export, Migrate, Search, Trial, Help, Version, HasFiles, IsOnce, IsRewrite, IsImport, IsCheck, IsExport, IsMigrate, IsSearch, IsTrial, IsHelp, IsVersion, IsCommand}
+use Rattle.jass_words.specs.Words.{CommandData, Once, Rewrite, Import, Check, Export, Migrate, Search, Serve, Trial, Help, Version, HasFiles, IsOnce, IsRewrite, IsImport, IsCheck, IsExport, IsMigrate, IsSearch, IsServe, IsFrames, IsTrial, IsHelp, IsVersion, IsCommand}
 
 abbrev pub once_word : List ℕ
 once_word = 111 ∷ 110 ∷ 99 ∷ 101 ∷ []
@@ -40,6 +40,12 @@ migrate_word = 109 ∷ 105 ∷ 103 ∷ 114 ∷ 97 ∷ 116 ∷ 101 ∷ []
 abbrev pub search_word : List ℕ
 search_word = 115 ∷ 101 ∷ 97 ∷ 114 ∷ 99 ∷ 104 ∷ []
 
+abbrev pub serve_word : List ℕ
+serve_word = 115 ∷ 101 ∷ 114 ∷ 118 ∷ 101 ∷ []
+
+abbrev pub frames_key : List ℕ
+frames_key = 102 ∷ 114 ∷ 97 ∷ 109 ∷ 101 ∷ 115 ∷ 61 ∷ []
+
 abbrev pub trial_word : List ℕ
 trial_word = 116 ∷ 114 ∷ 105 ∷ 97 ∷ 108 ∷ []
 
@@ -58,6 +64,7 @@ word_of (Check index) = check_word
 word_of (Export index ciff) = export_word
 word_of (Migrate from to) = migrate_word
 word_of (Search index queries run k limits tag mode) = search_word
+word_of (Serve index frames) = serve_word
 word_of (Trial seed docs terms queries) = trial_word
 word_of Help = help_word
 word_of Version = version_word
@@ -71,6 +78,7 @@ begins words (Check index) is = ap (λ (ws : List (List ℕ)). slice_get ws 0) i
 begins words (Export index ciff) is = ap (λ (ws : List (List ℕ)). slice_get ws 0) is.parts
 begins words (Migrate from to) is = ap (λ (ws : List (List ℕ)). slice_get ws 0) is.parts
 begins words (Search index queries run k limits tag mode) is = ap (λ (ws : List (List ℕ)). slice_get ws 0) is.files.parts
+begins words (Serve index frames) is = ap (λ (ws : List (List ℕ)). slice_get ws 0) is.parts
 begins words (Trial seed docs terms queries) is = ap (λ (ws : List (List ℕ)). slice_get ws 0) is.parts
 begins words Help is = ap (λ (ws : List (List ℕ)). slice_get ws 0) is.parts
 begins words Version is = ap (λ (ws : List (List ℕ)). slice_get ws 0) is.parts
@@ -109,6 +117,10 @@ pub as_trial : (rest : List (List ℕ)) (command : CommandData) → IsCommand (t
 as_trial rest (Trial seed docs terms queries) is = (seed, docs, terms, queries, is)
 as_trial rest other is = absurd (other_text trial_word (word_of other) refl (some_same trial_word (word_of other) (begins (trial_word ∷ rest) other is)))
 
+pub as_serve : (rest : List (List ℕ)) (command : CommandData) → IsCommand (serve_word ∷ rest) command → (index : List ℕ) × (frames : ℕ) × IsServe (serve_word ∷ rest) index frames
+as_serve rest (Serve index frames) is = (index, frames, is)
+as_serve rest other is = absurd (other_text serve_word (word_of other) refl (some_same serve_word (word_of other) (begins (serve_word ∷ rest) other is)))
+
 pub as_check : (rest : List (List ℕ)) (command : CommandData) → IsCommand (check_word ∷ rest) command → (index : List ℕ) × IsCheck (check_word ∷ rest) index
 as_check rest (Check index) is = (index, is)
 as_check rest other is = absurd (other_text check_word (word_of other) refl (some_same check_word (word_of other) (begins (check_word ∷ rest) other is)))
@@ -131,6 +143,10 @@ same_files name words from to from' to' more more' is theirs =
 
 one_number : (word other : List ℕ) (least most n m : ℕ) → word ≡ other → IsNumber word least most n → IsNumber other least most m → n ≡ m
 one_number word other least most n m same is theirs = some_same n m (sym is.decimal ∙ ap decimal_of same ∙ theirs.decimal)
+
+-- a word spells one number of frames
+one_frames : (word other : List ℕ) (n m : ℕ) → word ≡ other → IsFrames word n → IsFrames other m → n ≡ m
+one_frames word other n m same is theirs = one_number is.count theirs.count 1 1048576 n m (ap (drop 7) (sym is.parts ∙ same ∙ theirs.parts)) is.counted theirs.counted
 
 pub one_command : (words : List (List ℕ)) (command other : CommandData) → IsCommand words command → IsCommand words other → command ≡ other
 one_command words (Once f k b ts) (Once g l c us) is theirs =
@@ -165,6 +181,12 @@ one_command words (Check index) (Check index') is theirs =
     let both : check_word ∷ index ∷ [] ≡ check_word ∷ index' ∷ [] = sym is.parts ∙ theirs.parts in
     let file : index ≡ index' = cc in
     (λ i. Check (file i))
+one_command words (Serve index frames) (Serve index' frames') is theirs =
+    let both : serve_word ∷ index ∷ is.last ∷ [] ≡ serve_word ∷ index' ∷ theirs.last ∷ [] = sym is.parts ∙ theirs.parts in
+    let file : index ≡ index' = cc in
+    let last : is.last ≡ theirs.last = cc in
+    let shared = one_frames is.last theirs.last frames frames' last is.shared theirs.shared in
+    (λ i. Serve (file i) (shared i))
 one_command words (Trial seed docs terms queries) (Trial seed' docs' terms' queries') is theirs =
     let both : trial_word ∷ is.first ∷ is.second ∷ is.third ∷ is.fourth ∷ [] ≡ trial_word ∷ theirs.first ∷ theirs.second ∷ theirs.third ∷ theirs.fourth ∷ [] = sym is.parts ∙ theirs.parts in
     let first = one_number is.first theirs.first 0 2147483647 seed seed' (cc) is.seeded theirs.seeded in

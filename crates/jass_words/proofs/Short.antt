@@ -15,7 +15,7 @@ use Rattle.weights.specs.declared.weighting.Rule.TheVariants.{Tf, Bm25}
 use Rattle.weights.specs.declared.quantizing.Bits.{Bits}
 use Rattle.weights.specs.declared.quantizing.Bits.TheVariants.{Raw, Of}
 use Rattle.jass_words.specs.Options.{OptionData, Weights, Width, IsRule, IsBits, IsOption, AreOptions}
-use Rattle.jass_words.specs.Words.{CommandData, Once, Rewrite, Import, Check, Export, Migrate, Search, Trial, Help, Version, IsTerm, IsCommand, IsBegun}
+use Rattle.jass_words.specs.Words.{CommandData, Once, Rewrite, Import, Check, Export, Migrate, Search, Serve, Trial, Help, Version, IsTerm, IsCommand, IsBegun}
 use Rattle.jass_words.specs.Numbers.{IsBudget}
 use Rattle.jass_words.specs.Spelled.{Spell}
 use Rattle.jass_words.specs.Searching.{SearchData, Hits, Limits, Tag, Reading, AreBudgets, IsMode, IsSearchOption}
@@ -125,6 +125,9 @@ short_command words (Import ciff index rule bits) is =
 short_command words (Search index queries run k limits tag mode) is =
     subst (AllByRecursion IsTerm) (sym is.files.parts)
     (omega arith, (omega (arith, is.files.read.fits), (omega (arith, is.files.written.fits), (omega (arith, is.output.fits), short_search is.more is.options is.spelled))))
+short_command words (Serve index frames) is =
+    let size = ap length is.shared.parts in
+    subst (AllByRecursion IsTerm) (sym is.parts) (omega arith, (omega (arith, is.file.fits), (omega (arith, size, few_digits is.shared.count frames is.shared.counted.decimal), tt)))
 short_command words (Trial seed docs terms queries) is =
     subst (AllByRecursion IsTerm) (sym is.parts)
     (omega arith, (short_decimal is.first seed is.seeded.decimal, (short_decimal is.second docs is.sized.decimal, (short_decimal is.third terms is.named.decimal, (short_decimal is.fourth queries is.asked.decimal, tt)))))

@@ -1,11 +1,11 @@
 -- The four numbers of `trial`, and the first word that is none of them.
-use Rattle.std.proofs.Common.{◌≡◌, ℕ, ◌+◌, ◌<◌, ◌≤◌, List, [], ◌∷◌, ◌++◌, length, drop, String, Global, Some, refl, sym, ap, subst, ◌∙◌, arith}
+use Rattle.std.proofs.Common.{◌≡◌, ℕ, ◌<◌, ◌≤◌, List, [], ◌∷◌, length, drop, String, Global, Some, refl, ap, arith}
 use Rattle.std.specs.Prelude.{slice_get, IfSome}
 use Rattle.jass_words.specs.Numbers.{IsNumber}
 use Rattle.jass_words.specs.Words.{CommandData, Trial, IsTrial, IsTrialSize, IsCommand, IsBegun, IsBadWord, texts}
 use Rattle.jass_words.proofs.Parts.{trial_word, as_trial}
 use Rattle.jass_words.proofs.Beginnings.{one_word, begun_less, bad_word, too_many}
-use Rattle.jass_words.proofs.Terms.{found, opened2, opened3, opened4, opened5, size_of_texts}
+use Rattle.jass_words.proofs.Terms.{found, size_of_texts}
 
 abbrev IsSeed : List ℕ → ℕ → Type 0
 IsSeed word n = IsNumber word 0 2147483647 n

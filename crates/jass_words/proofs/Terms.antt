@@ -7,8 +7,8 @@ use Rattle.std.specs.String.{string_bytes}
 use Rattle.std.proofs.lemmas.List.Elements.{All-from_recursion, recursion_from_All}
 use Rattle.jass_base.specs.declared.answer.Budget.{Budget}
 use Rattle.jass_words.specs.Numbers.{IsCount, IsBudget}
-use Rattle.jass_words.specs.Words.{CommandData, Once, Rewrite, Import, Check, Export, Migrate, Search, Trial, Help, Version, HasFiles, IsCheck, IsFile, IsTerm, AreTerms, IsCommand, IsNoCommand, IsBegun, IsBadWord, texts}
-use Rattle.jass_words.proofs.Parts.{once_word, rewrite_word, import_word, check_word, export_word, migrate_word, search_word, trial_word, help_word, version_word, word_of, as_once}
+use Rattle.jass_words.specs.Words.{CommandData, Once, Rewrite, Import, Check, Export, Migrate, Search, Serve, Trial, Help, Version, HasFiles, IsCheck, IsFile, IsTerm, AreTerms, IsCommand, IsNoCommand, IsBegun, IsBadWord, texts}
+use Rattle.jass_words.proofs.Parts.{once_word, rewrite_word, import_word, check_word, export_word, migrate_word, search_word, serve_word, trial_word, help_word, version_word, word_of, as_once}
 use Rattle.jass_words.proofs.Beginnings.{begun_terms, begun_once, begun_file, begun_count, begun_nothing, never, no_name}
 
 -- words that have a first one, a second one and so on
@@ -204,8 +204,8 @@ IsOther words name = slice_get words 0 ≡ Some name → IsTrue false
 
 -- the first word is no command's name
 pub nameless : (words : List (List ℕ)) → IsOther words once_word → IsOther words rewrite_word → IsOther words import_word → IsOther words check_word → IsOther words export_word → IsOther words migrate_word
-    → IsOther words search_word → IsOther words trial_word → IsOther words help_word → IsOther words version_word → IsBadWord words 1
-nameless words not_once not_rewrite not_import not_check not_export not_migrate not_search not_trial not_help not_version = no_name words other
+    → IsOther words search_word → IsOther words serve_word → IsOther words trial_word → IsOther words help_word → IsOther words version_word → IsBadWord words 1
+nameless words not_once not_rewrite not_import not_check not_export not_migrate not_search not_serve not_trial not_help not_version = no_name words other
   where
     never_true : IsTrue false → ⊥
     never_true is = cc
@@ -218,6 +218,7 @@ nameless words not_once not_rewrite not_import not_check not_export not_migrate 
     other (Export index ciff) at = never_true (not_export at)
     other (Migrate from to) at = never_true (not_migrate at)
     other (Search index queries run k limits tag mode) at = never_true (not_search at)
+    other (Serve index frames) at = never_true (not_serve at)
     other (Trial seed docs terms queries) at = never_true (not_trial at)
     other Help at = never_true (not_help at)
     other Version at = never_true (not_version at)

@@ -10,7 +10,7 @@ use Rattle.jass_words.specs.declared.search_options.SearchOption.TheVariants as 
 use Rattle.jass_words.specs.declared.search_options.SearchOptions.{SearchOptions}
 use Rattle.jass_words.specs.Searching.{SearchData, Hits, Limits, Tag, Reading, SearchSeen}
 use Rattle.jass_words.specs.Options.{OptionData, Weights, Width}
-use Rattle.jass_words.specs.Words.{CommandData, Once, Rewrite, Import, Check, Export, Migrate, Search, Trial, Help, Version, texts}
+use Rattle.jass_words.specs.Words.{CommandData, Once, Rewrite, Import, Check, Export, Migrate, Search, Serve, Trial, Help, Version, texts}
 
 abbrev pub command_data : Command → CommandData
 command_data (commands.Once ciff k budget terms) = Once ciff.now k budget (texts terms.now)
@@ -21,6 +21,7 @@ command_data (commands.Export index ciff) = Export index.now ciff.now
 command_data (commands.Migrate from to) = Migrate from.now to.now
 command_data (commands.Search index queries run k limits tag mode) =
     Search index.now queries.now run.now k limits tag.now mode
+command_data (commands.Serve index frames) = Serve index.now frames
 command_data (commands.Trial seed docs terms queries) = Trial seed docs terms queries
 command_data commands.Help = Help
 command_data commands.Version = Version

@@ -27,6 +27,7 @@ pub data CommandData : Type 0 where
   Export : List ℕ → List ℕ → CommandData
   Migrate : List ℕ → List ℕ → CommandData
   Search : List ℕ → List ℕ → List ℕ → ℕ → List Budget → List ℕ → Mode → CommandData
+  Serve : List ℕ → ℕ → CommandData
   Trial : ℕ → ℕ → ℕ → ℕ → CommandData
   Help : CommandData
   Version : CommandData
@@ -108,6 +109,19 @@ pub record IsSearch (words : List (List ℕ)) (index queries run : List ℕ) (k 
   pub tagged : tag ≡ unwrap_or (given tag_in options) (codes "jass")
   pub reads : mode ≡ unwrap_or (given mode_in options) Plain
 
+-- the word `frames=N`, of 1 to 1,048,576 frames
+pub record IsFrames (word : List ℕ) (frames : ℕ) : Type 0 where
+  pub count : List ℕ
+  pub parts : word ≡ codes "frames=" ++ count
+  pub counted : IsNumber count 1 1048576 frames
+
+-- `serve INDEX frames=N`
+pub record IsServe (words : List (List ℕ)) (index : List ℕ) (frames : ℕ) : Type 0 where
+  pub last : List ℕ
+  pub parts : words ≡ codes "serve" ∷ index ∷ last ∷ []
+  pub file : IsFile index
+  pub shared : IsFrames last frames
+
 -- `trial SEED DOCS TERMS QUERIES`
 pub record IsTrial (words : List (List ℕ)) (seed docs terms queries : ℕ) : Type 0 where
   pub first : List ℕ
@@ -137,6 +151,7 @@ IsCommand words (Check index) = IsCheck words index
 IsCommand words (Export index ciff) = IsExport words index ciff
 IsCommand words (Migrate from to) = IsMigrate words from to
 IsCommand words (Search index queries run k limits tag mode) = IsSearch words index queries run k limits tag mode
+IsCommand words (Serve index frames) = IsServe words index frames
 IsCommand words (Trial seed docs terms queries) = IsTrial words seed docs terms queries
 IsCommand words Help = IsHelp words
 IsCommand words Version = IsVersion words

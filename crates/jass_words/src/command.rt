@@ -58,6 +58,13 @@ pub enum Command<'a> {
         /// `plain` where no option says otherwise.
         mode: Mode,
     },
+    /// `serve INDEX frames=FRAMES`: answers the lines of the input at a desk of sessions over an
+    /// index file.
+    Serve {
+        index: &'a str,
+        /// 1 to 1,048,576.
+        frames: u32,
+    },
     /// `trial SEED DOCS TERMS QUERIES`: makes a collection and its index in memory, searches it,
     /// and prints a summary.
     Trial {

@@ -10,6 +10,7 @@ mod options;
 mod reading;
 mod search;
 mod search_options;
+mod serve;
 mod slots;
 #[cfg(test)]
 mod tests;

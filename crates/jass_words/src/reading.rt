@@ -7,6 +7,7 @@ use crate::command::Command;
 use crate::files::{read_files, read_two_files};
 use crate::options::ImportOptions;
 use crate::search::read_search;
+use crate::serve::read_serve;
 use crate::slots::{budget_at, count_at, file_at, terms_in};
 use crate::trial::read_trial;
 use weights::{Bits, Rule};
@@ -46,6 +47,9 @@ pub fn read_words<'a>(words: &'a [String]) -> Result<Command<'a>, WordFault>
     }
     if is_named(words, "search") {
         return read_search(words);
+    }
+    if is_named(words, "serve") {
+        return read_serve(words);
     }
     if is_named(words, "trial") {
         return read_trial(words);

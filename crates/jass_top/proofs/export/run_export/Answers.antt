@@ -1,4 +1,4 @@
-use Rattle.std.proofs.Common.{[], Some, refl, subst, ap, ◌∙◌, inr, arith}
+use Rattle.std.proofs.Common.{[], Some, refl, subst, inr, arith}
 use Rattle.jass_base.specs.Ciff.{CollectionData}
 use Rattle.jass_base.specs.CiffText.{canonical_ciff}
 use Rattle.jass_base.specs.CiffViews.{collection_data}

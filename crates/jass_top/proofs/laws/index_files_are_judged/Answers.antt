@@ -1,4 +1,3 @@
-use Rattle.std.proofs.Common.{List, ℕ, Some, ◌≡◌}
 use Rattle.index_layout.specs.View.{file_bytes}
 use Rattle.jass_top.proofs.JudgedFiles.{index_found, old_found, index_only, old_only, index_told, old_told}
 use Rattle.jass_top.proofs.laws.index_files_are_judged.Goals as goal

@@ -1,4 +1,4 @@
-use Rattle.std.proofs.Common.{Some, Err, refl, ap, subst, inl, inr, arith}
+use Rattle.std.proofs.Common.{Err, refl, ap, subst, inl, inr, arith}
 use Rattle.std.specs.Io.KnownBytes.{Appends}
 use Rattle.jass_base.specs.declared.answer.Totals.{Totals}
 use Rattle.jass_base.specs.Writing.{Appends-none, AppendsPrefix}

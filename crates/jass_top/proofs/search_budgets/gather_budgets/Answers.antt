@@ -1,14 +1,13 @@
-use Rattle.std.proofs.Common.{◌≡◌, ℕ, ◌+◌, length, take, List, get_or, refl, sym, ap, subst, ◌∙◌, arith}
+use Rattle.std.proofs.Common.{◌≡◌, ℕ, ◌+◌, take, List, get_or, refl, sym, ap, subst, ◌∙◌, arith}
 use Rattle.jass_base.specs.declared.answer.Budget.{Budget}
 use Rattle.jass_base.specs.declared.answer.Budget.TheVariants.{Postings}
-use Rattle.jass_base.specs.declared.query.Query.{Query}
 use Rattle.frame_pool.specs.ChainView.{LeavesPool}
 use Rattle.ranking_model.specs.Plan.{granted_sum, granted_with}
 use Rattle.ranking_model.specs.Search.{query_data}
 use Rattle.session_engine.specs.Standing.{chain_of, granted_of, k_of, query_of}
 use Rattle.jass_top.specs.SearchTexts.{parts_run, prefixes_for}
 use Rattle.jass_top.proofs.Sides.{up_to_none, up_to_more, up_to_failed, up_to_all}
-use Rattle.jass_top.proofs.Turns.{first_small, granted_more, prefix_is, report_end, report_turn, run_end, run_turn, scored_all, scored_none, scored_part}
+use Rattle.jass_top.proofs.Turns.{first_small, granted_more, prefix_is, report_end, report_turn, run_end, run_turn, scored_none, scored_part}
 use Rattle.jass_top.proofs.search_budgets.gather_budgets.Goals as goal
 
 pub loop-budget-init : goal.loop-budget-init

@@ -1,4 +1,4 @@
-use Rattle.std.proofs.Common.{◌≡◌, ◌+◌, length}
+use Rattle.std.proofs.Common.{◌≡◌, ◌+◌}
 use Rattle.std.specs.List.{AllByRecursion}
 use Rattle.jass_base.specs.declared.query.Query.{Query}
 use Rattle.session_engine.specs.Plans.{AreKnown}

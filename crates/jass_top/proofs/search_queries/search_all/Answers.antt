@@ -1,4 +1,4 @@
-use Rattle.jass_top.proofs.Sides.{wrote_ok, wrote_err, wrote_unflushed, wrote_stopped, side_ok}
+use Rattle.jass_top.proofs.Sides.{wrote_ok, wrote_err, wrote_unflushed, wrote_stopped}
 use Rattle.jass_top.proofs.search_queries.search_all.Goals as goal
 
 pub returns-in-Err-flush-clause-run : goal.returns-in-Err-flush-clause-run

@@ -1,0 +1,14 @@
+use Rattle.std.proofs.Common.{◌≡◌, ◌≤◌, []}
+use Rattle.jass_top.proofs.ServedLines.{Serving}
+use Rattle.jass_top.proofs.serve_lines.serve_lines.Given as goal
+
+abbrev pub invariant-pieces : goal.invariant-pieces
+invariant-pieces g l = record {
+  file : l.desk.file ≡ l.fn.desk.file;
+  empty : l.buffer ≡ [];
+  later : g.I.Feed.faults l.fn.input ≤ g.I.Feed.faults l.input;
+  serving : Serving g.O.Sink.written g.O.Sink.faults g.O.Sink.rest l.fn.out l.out l.fn.desk.file l.fn.desk.state.frames (g.I.Feed.left l.fn.input) (g.I.Feed.left l.input) l.fn.steps l.steps l.lines l.desk.state;
+}
+
+abbrev pub decreases-pieces : goal.decreases-pieces
+decreases-pieces g l = l.lines.left

@@ -1,0 +1,158 @@
+-- What `serve` means: the lines of the input are answered at a desk over an index file, up to and with the first line
+-- `end`; 2^30 bytes of the input are taken at the most.
+use Rattle.std.specs.Prelude.{ℕ, ◌≡◌, ◌<◌, ◌≤◌, ◌+◌, ◌^◌, Bool, true, false, ◌||◌, List, [], ◌∷◌, ◌++◌, length, take, Option, Some, None, Result, Ok, Err, ◌⊎◌, ⊤, codes}
+use Rattle.std.specs.Io.KnownBytes.{Appends, Consumes}
+use Rattle.jass_base.specs.Outside.{Files, Rose}
+use Rattle.jass_base.specs.Writing.{AppendsPrefix}
+use Rattle.index_layout.specs.View.{FileView}
+use Rattle.text_lines.specs.Lines.{lines_of}
+use Rattle.feed_lines.specs.Lines.{ended_lines}
+use Rattle.session_desk.specs.Lines.{is_end}
+use Rattle.session_desk.specs.Turns.{desk_postings, desk_replies}
+use Rattle.jass_top.specs.Causes.{Unread}
+use Rattle.jass_top.specs.IndexJudging.{judge_index}
+use Rattle.jass_top.specs.Judging.{Accepted, Shows}
+use Rattle.jass_top.specs.Standing.{Keeps}
+use Rattle.jass_top.specs.Worlds.{Fed}
+use Rattle.jass_top.specs.declared.stop.Stop.{Stop}
+use Rattle.jass_top.specs.declared.stop.Stop.TheVariants as why
+use Rattle.jass_top.specs.declared.serve_stop.ServeStop.{ServeStop}
+use Rattle.jass_top.specs.declared.serve_stop.ServeStop.TheVariants as stops
+
+-- one of the lines is `end`
+abbrev pub has_end : List (List ℕ) → Bool
+has_end [] = false
+has_end (line ∷ lines) = is_end line || has_end lines
+
+-- the lines that end by LF within the bytes that are taken at the most
+abbrev pub lines_taken : List ℕ → List (List ℕ)
+lines_taken input = ended_lines (take (2 ^ 30) input)
+
+-- these may be the bytes of the input: they are those that the feed had, where it tells them
+abbrev pub IsInput : Option (List ℕ) → List ℕ → Type 0
+IsInput None input = ⊤
+IsInput (Some bytes) input = input ≡ bytes
+
+-- the input is answered to its end, or to a line `end`
+abbrev pub IsAnswered : List ℕ → Type 0
+IsAnswered input = (length input < 2 ^ 30) ⊎ (has_end (lines_taken input) ≡ true)
+
+-- what a desk has written and counted for lines: their replies, and the postings that were scored for them
+pub record Replies (file : FileView) (frames : ℕ) (lines : List (List ℕ)) (before after : Option (List ℕ)) (steps later : ℕ) : Type 0 where
+  pub text : Appends before after (desk_replies file frames lines)
+  pub scored : later ≡ steps + desk_postings file frames lines
+
+-- all lines were answered
+pub record ServesAll (file : FileView) (frames : ℕ) (left before after : Option (List ℕ)) (steps later : ℕ) : Type 0 where
+  pub input : List ℕ
+  pub had : IsInput left input
+  pub answered : IsAnswered input
+  pub replies : Replies file frames (lines_of input) before after steps later
+
+-- the first of the lines were answered
+pub record ServesFirst (file : FileView) (frames : ℕ) (left before after : Option (List ℕ)) (steps later : ℕ) : Type 0 where
+  pub input : List ℕ
+  pub had : IsInput left input
+  pub first : List (List ℕ)
+  pub others : List (List ℕ)
+  pub lines : lines_of input ≡ first ++ others
+  pub replies : Replies file frames first before after steps later
+
+-- the lines were answered that end by LF in the bytes that were taken
+pub record ServesTaken (file : FileView) (frames : ℕ) (left rest before after : Option (List ℕ)) (steps later : ℕ) : Type 0 where
+  pub taken : List ℕ
+  pub consumed : Consumes left rest taken
+  pub replies : Replies file frames (ended_lines taken) before after steps later
+
+-- a prefix of the replies was written
+pub record ServesPart (file : FileView) (frames : ℕ) (left before after : Option (List ℕ)) (steps later : ℕ) : Type 0 where
+  pub input : List ℕ
+  pub had : IsInput left input
+  pub text : AppendsPrefix before after (desk_replies file frames (lines_of input))
+  pub scored : later ≤ steps + desk_postings file frames (lines_of input)
+
+-- the input is longer than is taken and no line `end` was met: the lines were answered that end within what is taken
+pub record ServesFront (file : FileView) (frames : ℕ) (left before after : Option (List ℕ)) (steps later : ℕ) : Type 0 where
+  pub input : List ℕ
+  pub had : IsInput left input
+  pub long : 2 ^ 30 ≤ length input
+  pub endless : has_end (lines_taken input) ≡ false
+  pub replies : Replies file frames (lines_taken input) before after steps later
+
+-- how the lines of an input were served
+abbrev pub Serves : {T : Type 0} → FileView → ℕ → Option (List ℕ) → Option (List ℕ) → Option (List ℕ) → Option (List ℕ) → ℕ → ℕ
+    → Result T ServeStop → Type 0
+Serves file frames left rest before after steps later (Ok x) = ServesAll file frames left before after steps later
+Serves file frames left rest before after steps later (Err stops.NoMemory) =
+    ServesFirst file frames left before after steps later
+Serves file frames left rest before after steps later (Err stops.ReadFault) =
+    ServesTaken file frames left rest before after steps later
+Serves file frames left rest before after steps later (Err stops.WriteFault) =
+    ServesPart file frames left before after steps later
+Serves file frames left rest before after steps later (Err stops.Limit) =
+    ServesFront file frames left before after steps later
+
+-- bytes were taken off the front of the input
+abbrev pub TakesFront : Option (List ℕ) → Option (List ℕ) → Type 0
+TakesFront left rest = (taken : List ℕ) × Consumes left rest taken
+
+-- ---- over an index file
+
+-- an index file was opened, and P holds of it
+pub record Over (index : List ℕ) (told : Option Files) (P : FileView → Type 0) : Type 0 where
+  pub file : FileView
+  pub accepted : Shows (judge_index index told) (Accepted file)
+  pub serves : P file
+
+-- these lines were served between two worlds
+abbrev pub AllServed : List ℕ → ℕ → Fed → Fed → Type 0
+AllServed index frames before after = Over index before.outer.told (λ file.
+    ServesAll file frames before.left before.outer.written after.outer.written before.outer.steps after.outer.steps)
+
+abbrev pub FirstServed : List ℕ → ℕ → Fed → Fed → Type 0
+FirstServed index frames before after = Over index before.outer.told (λ file.
+    ServesFirst file frames before.left before.outer.written after.outer.written before.outer.steps after.outer.steps)
+
+abbrev pub TakenServed : List ℕ → ℕ → Fed → Fed → Type 0
+TakenServed index frames before after = Over index before.outer.told (λ file.
+    ServesTaken file frames before.left after.left before.outer.written after.outer.written before.outer.steps after.outer.steps)
+
+abbrev pub PartServed : List ℕ → ℕ → Fed → Fed → Type 0
+PartServed index frames before after = Over index before.outer.told (λ file.
+    ServesPart file frames before.left before.outer.written after.outer.written before.outer.steps after.outer.steps)
+
+abbrev pub FrontServed : List ℕ → ℕ → Fed → Fed → Type 0
+FrontServed index frames before after = Over index before.outer.told (λ file.
+    ServesFront file frames before.left before.outer.written after.outer.written before.outer.steps after.outer.steps)
+
+-- nothing was served, and nothing was taken
+pub record NoneServed (before after : Fed) : Type 0 where
+  pub kept : Keeps before.outer after.outer
+  pub input : after.left ≡ before.left
+
+-- the index wasn't had
+pub record Unserved (index : List ℕ) (before after : Fed) (stop : Stop) : Type 0 where
+  pub unread : Unread (index ∷ []) (judge_index index before.outer.told) before.outer.read_faults after.outer.read_faults stop
+  pub none : NoneServed before after
+
+-- serving stopped at a line
+abbrev pub ServedUntil : List ℕ → ℕ → Fed → Fed → Stop → Type 0
+ServedUntil index frames before after why.NoMemory = FirstServed index frames before after
+ServedUntil index frames before after (why.Refused name number at) = ⊥
+ServedUntil index frames before after (why.ReadFault name) =
+    (name.now ≡ codes "input") × Rose before.feed_faults after.feed_faults × TakenServed index frames before after
+ServedUntil index frames before after (why.WriteFault name) =
+    (name.now ≡ codes "output") × Rose before.outer.out_faults after.outer.out_faults
+    × PartServed index frames before after
+ServedUntil index frames before after why.InputLimit = FrontServed index frames before after
+
+abbrev pub ServedAs : List ℕ → ℕ → Fed → Fed → Result (Unit {0}) Stop → Type 0
+ServedAs index frames before after (Ok x) = AllServed index frames before after
+ServedAs index frames before after (Err stop) =
+    Unserved index before after stop ⊎ ServedUntil index frames before after stop
+
+-- how `serve` runs: files stay, and the feed loses bytes at its front alone
+pub record RunsServing (index : List ℕ) (frames : ℕ) (before after : Fed) (result : Result (Unit {0}) Stop) : Type 0 where
+  pub files : after.outer.told ≡ before.outer.told
+  pub taken : TakesFront before.left after.left
+  pub served : ServedAs index frames before after result

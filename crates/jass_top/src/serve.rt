@@ -1,0 +1,55 @@
+ghost use Rattle.std.specs.Prelude.{ℕ, ◌≤◌};
+ghost use Rattle.jass_top.specs.ServeMeaning.{RunsServing};
+ghost use Rattle.jass_top.specs.Worlds.{fed};
+
+use crate::index_input::open_index;
+use crate::serve_lines::serve_lines;
+use crate::serve_stop::ServeStop;
+use crate::stop::{INPUT, OUTPUT, Stop};
+use feed_lines::FeedLines;
+use jass_base::{Cabinet, Feed, Sink, Steps};
+use session_desk::Desk;
+use std::alloc::Global;
+use std::sync::ledger::Ledger;
+
+/// How many bytes of the input are taken at the most: 2^30.
+const MOST_TAKEN: u64 = 1_073_741_824;
+
+/// Answers the lines of the input at a desk over an index file.
+pub fn run_serve<'a, C: Cabinet, I: Feed, O: Sink, L: Ledger>(
+    alloc: Global,
+    index: &'a str,
+    frames: u32,
+    files: &mut C,
+    input: &mut I,
+    out: &mut O,
+    steps: &mut Steps<L>,
+) -> Result<(), Stop<'a>>
+    requires some { 1 ≤ frames }
+    requires few { frames ≤ 1048576 }
+    ensures { RunsServing index.now frames
+        (fed C.Cabinet I.Feed O.Sink files.old input.old out.old steps.old)
+        (fed C.Cabinet I.Feed O.Sink files.new input.new out.new steps.new) result }
+{
+    let file = match open_index(alloc, files, index) {
+        Ok(file) => file,
+        Err(stop) => return Err(stop),
+    };
+    let mut lines = match FeedLines::new(alloc, MOST_TAKEN) {
+        Ok(lines) => lines,
+        Err(_) => return Err(Stop::NoMemory),
+    };
+    let mut desk = match Desk::new(alloc, file, frames) {
+        Ok(desk) => desk,
+        Err(_) => return Err(Stop::NoMemory),
+    };
+    let served = serve_lines(&mut desk, &mut lines, input, out, steps);
+    desk.close();
+    match served {
+        Ok(()) => Ok(()),
+        Err(ServeStop::NoMemory) => Err(Stop::NoMemory),
+        Err(ServeStop::ReadFault) => Err(Stop::ReadFault { name: INPUT }),
+        Err(ServeStop::WriteFault) => Err(Stop::WriteFault { name: OUTPUT }),
+        Err(ServeStop::Limit) => Err(Stop::InputLimit),
+    }
+}
