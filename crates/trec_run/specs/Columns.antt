@@ -1,18 +1,14 @@
--- The columns of a run line in memory.
+-- The columns that the run lines of an answer share.
 use Rattle.std.specs.Prelude.{ℕ, ◌≤◌, List, ◌++◌, length}
-use Rattle.trec_run.specs.Lines.{columns}
-use Rattle.trec_run.specs.declared.line.Columns.{Columns}
+use Rattle.trec_run.specs.declared.line.Shared.{Shared}
 
--- their line
-abbrev pub line_of : Columns → List ℕ
-line_of line = columns line.id.now line.name.now line.rank.now line.score.now (line.tag.now ++ (line.point.now ++ line.part.now))
+-- the tag with what is behind it
+abbrev pub whole_tag : Shared → List ℕ
+whole_tag shared = shared.tag.now ++ (shared.point.now ++ shared.part.now)
 
 -- each has few bytes
-pub record HasRoom (line : Columns) : Type 0 where
-  pub id : length line.id.now ≤ 256
-  pub name : length line.name.now ≤ 256
-  pub rank : length line.rank.now ≤ 256
-  pub score : length line.score.now ≤ 256
-  pub tag : length line.tag.now ≤ 256
-  pub point : length line.point.now ≤ 256
-  pub part : length line.part.now ≤ 256
+pub record AreShort (shared : Shared) : Type 0 where
+  pub id : length shared.id.now ≤ 128
+  pub tag : length shared.tag.now ≤ 128
+  pub point : length shared.point.now ≤ 128
+  pub part : length shared.part.now ≤ 128

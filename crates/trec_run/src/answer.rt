@@ -2,12 +2,14 @@ ghost use Rattle.std.specs.Prelude.{ℕ, ◌≡◌, ◌+◌, ◌<◌, ◌++◌, 
 ghost use Rattle.std.specs.List.{slice_index_or};
 ghost use Rattle.jass_base.specs.Outside.{Wrote};
 ghost use Rattle.jass_base.specs.declared.answer.Hit.{Hit};
-ghost use Rattle.ranking_model.specs.Report.{run_line, run_lines, tag_of};
+ghost use Rattle.ranking_model.specs.Report.{run_lines, tag_of};
+ghost use Rattle.trec_run.specs.Columns.{whole_tag};
 ghost use Rattle.trec_run.specs.Gathering.{Gathers};
 
+use crate::block::{BLOCK, gather_block};
 use crate::buffer::Buffer;
 use crate::gather::flush;
-use crate::line::{Columns, gather_columns};
+use crate::line::Shared;
 use itoa::Buffer as Digits;
 use jass_base::{Hit, Names, Sink, WriteFault};
 
@@ -56,8 +58,7 @@ pub fn gather_answer<S: Sink, N: Names>(
     }
 }
 
-/// Gathers the run lines whose tags are followed by a point and a part, or by nothing. Each name is looked up a line
-/// ahead, since it is seldom in a cache.
+/// Gathers the run lines whose tags are followed by a point and a part, or by nothing.
 fn gather_lines<S: Sink, N: Names>(
     out: &mut S,
     buffer: &mut Buffer,
@@ -72,54 +73,34 @@ fn gather_lines<S: Sink, N: Names>(
     ensures { Gathers S.written S.faults S.rest out.old out.new buffer.old buffer.new
         (run_lines (N.names index.now) id.now (tag.now ++ (point.now ++ part.now)) 1 hits.now) result }
 {
-    let (first, others) = match hits.split_first() {
-        Some(parts) => parts,
-        None => return Ok(()),
-    };
-    let mut score = first.score;
-    let mut name = index.name(first.doc);
-    let mut rank: u64 = 1;
-    for next in others {
-        let ahead = index.name(next.doc);
-        match gather_hit(out, buffer, id, name, rank, score, tag, point, part) {
-            Ok(()) => {}
-            Err(fault) => return Err(fault),
-        }
-        score = next.score;
-        name = ahead;
-        rank += 1;
-    }
-    match gather_hit(out, buffer, id, name, rank, score, tag, point, part) {
-        Ok(()) => Ok(()),
-        Err(fault) => Err(fault),
-    }
-}
-
-/// Gathers the run line of a hit.
-fn gather_hit<O: Sink>(
-    out: &mut O,
-    buffer: &mut Buffer,
-    id: &str,
-    name: &str,
-    rank: u64,
-    score: u32,
-    tag: &str,
-    point: &str,
-    part: &str,
-) -> Result<(), WriteFault>
-    ensures { Gathers O.written O.faults O.rest out.old out.new buffer.old buffer.new
-        (run_line id.now name.now (tag.now ++ (point.now ++ part.now)) rank score) result }
-{
-    let mut rank_digits = Digits::new();
-    let mut score_digits = Digits::new();
-    let line = Columns {
+    let shared = Shared {
         id: id.as_bytes(),
-        name: name.as_bytes(),
-        rank: rank_digits.format(rank).as_bytes(),
-        score: score_digits.format(score).as_bytes(),
         tag: tag.as_bytes(),
         point: point.as_bytes(),
         part: part.as_bytes(),
     };
-    gather_columns(out, buffer, &line)
+    gather_blocks(out, buffer, &shared, index, hits)
+}
+
+/// Gathers the run lines of the hits, block by block.
+fn gather_blocks<S: Sink, N: Names>(
+    out: &mut S,
+    buffer: &mut Buffer,
+    shared: &Shared<'_>,
+    index: &N,
+    hits: &[Hit],
+) -> Result<(), WriteFault>
+    requires { All (λ (hit : Hit). hit.doc < length (N.names index.now)) hits.now }
+    ensures { Gathers S.written S.faults S.rest out.old out.new buffer.old buffer.new
+        (run_lines (N.names index.now) shared.now.id.now (whole_tag shared.now) 1 hits.now) result }
+{
+    let mut rank: u64 = 1;
+    let mut rest = hits;
+    while !rest.is_empty() {
+        let (block, behind) = rest.split_at(rest.len().min(BLOCK));
+        gather_block(out, buffer, shared, index, block, rank)?;
+        rank += block.len() as u64;
+        rest = behind;
+    }
+    Ok(())
 }

@@ -6,6 +6,7 @@
 //! sink is a system call in the end. A run is read by the same columns, or refused at a line.
 
 mod answer;
+mod block;
 mod buffer;
 mod columns;
 mod gather;

@@ -1,94 +1,96 @@
 ghost use Rattle.std.specs.Prelude.{◌≡◌, ◌+◌, ◌≤◌, ◌++◌, length, IsTrue};
+ghost use Rattle.ranking_model.specs.Report.{run_line};
 ghost use Rattle.trec_run.specs.Gathering.{Gathers};
-ghost use Rattle.trec_run.specs.Columns.{HasRoom, line_of};
+ghost use Rattle.trec_run.specs.Columns.{AreShort, whole_tag};
 
 use crate::buffer::Buffer;
-use crate::gather::{flush, gather_all};
+use crate::gather::gather_all;
+use itoa::Buffer as Digits;
 use jass_base::{Sink, WriteFault};
 
-/// The most bytes of each column of a line that is pushed as a whole.
-const SHORT: usize = 256;
+/// The most bytes of a name, and of each shared column, in a line that is pushed as a whole.
+pub const SHORT: usize = 128;
 
 /// The room that such a line needs at the most.
-const SHORT_LINE: usize = 2048;
+pub const SHORT_LINE: usize = 1024;
 
-/// The columns of a run line; the tag has a point and a part behind it, or two texts without bytes.
-#[derive(Drop)]
-pub struct Columns<'a> {
+/// The columns that the run lines of an answer share; the tag has a point and a part behind it, or two texts without
+/// bytes.
+#[derive(Clone, Copy)]
+pub struct Shared<'a> {
     pub id: &'a [u8],
-    pub name: &'a [u8],
-    pub rank: &'a [u8],
-    pub score: &'a [u8],
     pub tag: &'a [u8],
     pub point: &'a [u8],
     pub part: &'a [u8],
 }
 
-/// Gathers a run line.
-pub fn gather_columns<O: Sink>(
-    out: &mut O,
-    buffer: &mut Buffer,
-    line: &Columns<'_>,
-) -> Result<(), WriteFault>
-    ensures { Gathers O.written O.faults O.rest out.old out.new buffer.old buffer.new (line_of line.now) result }
-{
-    if !are_short(line) {
-        return gather_long(out, buffer, line);
+impl<'a> Shared<'a> {
+    /// Whether each of the columns has few bytes.
+    pub fn are_short(&self) -> bool
+        ensures { IsTrue result → AreShort self.now }
+    {
+        self.id.len() <= SHORT
+            && self.tag.len() <= SHORT
+            && self.point.len() <= SHORT
+            && self.part.len() <= SHORT
     }
-    if buffer.room() < SHORT_LINE {
-        flush(out, buffer)?;
-    }
-    push_line(buffer, line);
-    Ok(())
-}
-
-/// Whether each column has few bytes.
-fn are_short(line: &Columns<'_>) -> bool
-    ensures { IsTrue result → HasRoom line.now }
-{
-    line.id.len() <= SHORT
-        && line.name.len() <= SHORT
-        && line.rank.len() <= SHORT
-        && line.score.len() <= SHORT
-        && line.tag.len() <= SHORT
-        && line.point.len() <= SHORT
-        && line.part.len() <= SHORT
 }
 
 /// Puts a run line for which there is room behind what was gathered.
-fn push_line(buffer: &mut Buffer, line: &Columns<'_>)
-    requires short { HasRoom line.now }
-    requires room { length buffer.old + 2048 ≤ 65536 }
-    ensures { buffer.new ≡ buffer.old ++ line_of line.now }
+pub fn push_line(buffer: &mut Buffer, shared: &Shared<'_>, name: &[u8], rank: u64, score: u32)
+    requires shared { AreShort shared.now }
+    requires name { length name.now ≤ 128 }
+    requires room { length buffer.old + 1024 ≤ 65536 }
+    ensures line { buffer.new
+        ≡ buffer.old ++ run_line shared.now.id.now name.now (whole_tag shared.now) rank score }
+    ensures few { length buffer.new ≤ length buffer.old + 1024 }
 {
-    buffer.push(line.id);
+    let mut rank_digits = Digits::new();
+    let mut score_digits = Digits::new();
+    buffer.push(shared.id);
     buffer.push(b" Q0 ");
-    buffer.push(line.name);
+    buffer.push(name);
     buffer.push(b" ");
-    buffer.push(line.rank);
+    buffer.push(rank_digits.format(rank).as_bytes());
     buffer.push(b" ");
-    buffer.push(line.score);
+    buffer.push(score_digits.format(score).as_bytes());
     buffer.push(b" ");
-    buffer.push(line.tag);
-    buffer.push(line.point);
-    buffer.push(line.part);
+    buffer.push(shared.tag);
+    buffer.push(shared.point);
+    buffer.push(shared.part);
     buffer.push(b"\n");
 }
 
 /// Gathers a run line piece by piece.
-fn gather_long<O: Sink>(
+pub fn gather_line<O: Sink>(
     out: &mut O,
     buffer: &mut Buffer,
-    line: &Columns<'_>,
+    shared: &Shared<'_>,
+    name: &[u8],
+    rank: u64,
+    score: u32,
 ) -> Result<(), WriteFault>
-    ensures { Gathers O.written O.faults O.rest out.old out.new buffer.old buffer.new (line_of line.now) result }
+    ensures { Gathers O.written O.faults O.rest out.old out.new buffer.old buffer.new
+        (run_line shared.now.id.now name.now (whole_tag shared.now) rank score) result }
 {
+    let mut rank_digits = Digits::new();
+    let mut score_digits = Digits::new();
     gather_all(
         out,
         buffer,
         &[
-            line.id, b" Q0 ", line.name, b" ", line.rank, b" ", line.score, b" ", line.tag,
-            line.point, line.part, b"\n",
+            shared.id,
+            b" Q0 ",
+            name,
+            b" ",
+            rank_digits.format(rank).as_bytes(),
+            b" ",
+            score_digits.format(score).as_bytes(),
+            b" ",
+            shared.tag,
+            shared.point,
+            shared.part,
+            b"\n",
         ],
     )
 }

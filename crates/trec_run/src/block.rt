@@ -1,0 +1,107 @@
+//! The run lines of a few hits.
+
+ghost use Rattle.std.specs.Prelude.{◌≡◌, ◌+◌, ◌*◌, ◌<◌, ◌≤◌, ◌^◌, ◌++◌, [], length, All};
+ghost use Rattle.std.specs.List.{slice_index_or};
+ghost use Rattle.jass_base.specs.declared.answer.Hit.{Hit};
+ghost use Rattle.ranking_model.specs.Report.{run_lines};
+ghost use Rattle.trec_run.specs.Columns.{AreShort, whole_tag};
+ghost use Rattle.trec_run.specs.Gathering.{Gathers};
+
+use crate::buffer::Buffer;
+use crate::gather::flush;
+use crate::line::{SHORT, SHORT_LINE, Shared, gather_line, push_line};
+use jass_base::{Hit, Names, Sink, WriteFault};
+
+/// The most hits of a block.
+pub const BLOCK: usize = 16;
+
+/// Gathers the run lines of a block of hits, the first of which has this rank.
+pub fn gather_block<S: Sink, N: Names>(
+    out: &mut S,
+    buffer: &mut Buffer,
+    shared: &Shared<'_>,
+    index: &N,
+    hits: &[Hit],
+    first: u64,
+) -> Result<(), WriteFault>
+    requires docs { All (λ (hit : Hit). hit.doc < length (N.names index.now)) hits.now }
+    requires few { length hits.now ≤ 16 }
+    requires ranks { first + length hits.now < 2 ^ 64 }
+    ensures { Gathers S.written S.faults S.rest out.old out.new buffer.old buffer.new
+        (run_lines (N.names index.now) shared.now.id.now (whole_tag shared.now) first hits.now) result }
+{
+    // Names are seldom in a cache. This looks all of them up before a line is written, and so waits for many at once.
+    if longest_name(index, hits) > SHORT || !shared.are_short() {
+        return gather_each(out, buffer, shared, index, hits, first);
+    }
+    if buffer.room() < BLOCK * SHORT_LINE {
+        flush(out, buffer)?;
+    }
+    push_each(buffer, shared, index, hits, first);
+    Ok(())
+}
+
+/// The bytes of the longest name of some hits.
+fn longest_name<N: Names>(index: &N, hits: &[Hit]) -> usize
+    requires { All (λ (hit : Hit). hit.doc < length (N.names index.now)) hits.now }
+    ensures { All (λ (hit : Hit). length (slice_index_or (N.names index.now) hit.doc []) ≤ result) hits.now }
+{
+    let mut longest = 0;
+    for hit in hits {
+        longest = longest.max(index.name(hit.doc).len());
+    }
+    longest
+}
+
+/// Puts run lines for which there is room behind what was gathered.
+fn push_each<N: Names>(
+    buffer: &mut Buffer,
+    shared: &Shared<'_>,
+    index: &N,
+    hits: &[Hit],
+    first: u64,
+)
+    requires docs { All (λ (hit : Hit). hit.doc < length (N.names index.now)) hits.now }
+    requires shared { AreShort shared.now }
+    requires names { All (λ (hit : Hit). length (slice_index_or (N.names index.now) hit.doc []) ≤ 128) hits.now }
+    requires few { length hits.now ≤ 16 }
+    requires ranks { first + length hits.now < 2 ^ 64 }
+    requires room { length buffer.old + 16 * 1024 ≤ 65536 }
+    ensures { buffer.new ≡ buffer.old
+        ++ run_lines (N.names index.now) shared.now.id.now (whole_tag shared.now) first hits.now }
+{
+    let mut rank = first;
+    for hit in hits {
+        push_line(
+            buffer,
+            shared,
+            index.name(hit.doc).as_bytes(),
+            rank,
+            hit.score,
+        );
+        rank += 1;
+    }
+}
+
+/// Gathers run lines piece by piece.
+fn gather_each<S: Sink, N: Names>(
+    out: &mut S,
+    buffer: &mut Buffer,
+    shared: &Shared<'_>,
+    index: &N,
+    hits: &[Hit],
+    first: u64,
+) -> Result<(), WriteFault>
+    requires docs { All (λ (hit : Hit). hit.doc < length (N.names index.now)) hits.now }
+    requires ranks { first + length hits.now < 2 ^ 64 }
+    ensures { Gathers S.written S.faults S.rest out.old out.new buffer.old buffer.new
+        (run_lines (N.names index.now) shared.now.id.now (whole_tag shared.now) first hits.now) result }
+{
+    let mut rank = first;
+    for hit in hits {
+        let name = index.name(hit.doc).as_bytes();
+        gather_line(out, buffer, shared, name, rank, hit.score)?;
+        rank += 1;
+    }
+    Ok(())
+}
