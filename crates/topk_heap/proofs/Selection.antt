@@ -4,7 +4,6 @@ use Rattle.std.specs.Prelude.{IsPermutation}
 use Rattle.std.specs.List.{AllByRecursion}
 use Rattle.std.specs.List.Sorted.{IsSplitAround}
 use Rattle.std.specs.Ordering.{is_gt, is_lt}
-use Rattle.std.specs.declared.cmp.Reverse.{Reverse}
 use Rattle.std.proofs.lemmas.Bool.Decides.{nat_tests}
 use Rattle.jass_base.specs.declared.answer.Hit.{Hit}
 use Rattle.ranking_model.specs.Order.{sorted}
@@ -12,10 +11,6 @@ use Rattle.ranking_model.specs.Scores.{rank_cmp}
 use Rattle.ranking_model.proofs.Candidates.{first_part}
 use Rattle.ranking_model.proofs.Orders.{rank_total, rank_same}
 use Rattle.topk_heap.proofs.Lists.{all_by_index, all_imp}
-
--- what hits are selected and sorted by
-abbrev pub key : Hit → Reverse ℕ × ℕ
-key hit = (record { 0 = hit.score }, hit.doc)
 
 not_after : (x y : Hit) → is_lt (rank_cmp y x) ≡ false → is_gt (rank_cmp x y) ≡ false
 not_after x y above = grind (arith, nat_tests)

@@ -1,5 +1,5 @@
 -- Hits in a room of fixed size.
-use Rattle.std.specs.Prelude.{ℕ, List, length, take, slice_index_or, slice_set}
+use Rattle.std.specs.Prelude.{ℕ, ◌+◌, ◌-◌, ◌*◌, List, length, take, slice_index_or, slice_set}
 use Rattle.jass_base.specs.declared.answer.Hit.{Hit}
 
 -- the hits, and how many there is room for
@@ -18,3 +18,7 @@ hit_at hits place = slice_index_or hits place (record { doc = 0; score = 0 })
 -- the hits with another score for the one at a place
 abbrev pub with_score : List Hit → ℕ → ℕ → List Hit
 with_score hits place score = slice_set hits place (record { doc = (hit_at hits place).doc; score = score })
+
+-- what hits are sorted by
+abbrev pub rank_key : Hit → ℕ
+rank_key hit = (4294967295 - hit.score) * 4294967296 + hit.doc

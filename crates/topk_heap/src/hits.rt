@@ -1,11 +1,11 @@
 ghost use Rattle.std.specs.Prelude.{◌≡◌, ◌<◌, ◌≤◌, ◌++◌, [], ◌∷◌, IfOk, length, min, take};
 ghost use Rattle.ranking_model.specs.Order.{sorted};
 ghost use Rattle.ranking_model.specs.Scores.{rank_cmp};
-ghost use Rattle.topk_heap.specs.Hits.{with_score};
+ghost use Rattle.topk_heap.specs.Hits.{rank_key, with_score};
 
 use jass_base::{Hit, NoMemory};
 use std::alloc::Global;
-use std::cmp::Reverse;
+use std::cmp::Ordering;
 use std::marker::Model;
 
 /// Hits in a room of fixed size.
@@ -116,10 +116,7 @@ fn select_first(hits: &mut [Hit], first: &mut [Hit])
     ensures first { first.new ≡ take (length first.old) (sorted rank_cmp hits.old) }
     ensures len { length hits.new ≡ length hits.old }
 {
-    let (front, _, _) = hits.select_nth_unstable_by_key(
-        first.len(),
-        |hit| (Reverse(hit.score), hit.doc),
-    );
+    let (front, _, _) = hits.select_nth_unstable_by(first.len(), rank_order);
     rank(front);
     first.copy_from_slice(front);
 }
@@ -127,5 +124,20 @@ fn select_first(hits: &mut [Hit], first: &mut [Hit])
 fn rank(hits: &mut [Hit])
     ensures { hits.new ≡ sorted rank_cmp hits.old }
 {
-    hits.sort_unstable_by_key(|hit| (Reverse(hit.score), hit.doc));
+    hits.sort_unstable_by(rank_order);
+}
+
+// The order of hits. It compares one number of each, which takes no branch.
+fn rank_order(a: &Hit, b: &Hit) -> Ordering
+    ensures { result ≡ rank_cmp a.now b.now }
+{
+    rank_key(a).cmp(&rank_key(b))
+}
+
+// The number that falls in front of another exactly where the hit does.
+fn rank_key(hit: &Hit) -> u64
+    ensures key { result ≡ rank_key hit.now }
+    ensures fits { (hit.now.doc < 4294967296) × (hit.now.score < 4294967296) }
+{
+    u64::from(u32::MAX - hit.score) * (1 << 32) + u64::from(hit.doc)
 }
