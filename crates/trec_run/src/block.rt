@@ -9,7 +9,7 @@ ghost use Rattle.trec_run.specs.Gathering.{Gathers};
 
 use crate::buffer::Buffer;
 use crate::gather::flush;
-use crate::line::{SHORT, SHORT_LINE, Shared, gather_line, push_line};
+use crate::line::{SHORT, SHORT_LINE, Shared, gather_line, push_line, tag_ending};
 use jass_base::{Hit, Names, Sink, WriteFault};
 
 /// The most hits of a block.
@@ -70,15 +70,11 @@ fn push_each<N: Names>(
     ensures { buffer.new ≡ buffer.old
         ++ run_lines (N.names index.now) shared.now.id.now (whole_tag shared.now) first hits.now }
 {
+    let mut ending = tag_ending(shared);
     let mut rank = first;
     for hit in hits {
-        push_line(
-            buffer,
-            shared,
-            index.name(hit.doc).as_bytes(),
-            rank,
-            hit.score,
-        );
+        let name = index.name(hit.doc).as_bytes();
+        push_line(buffer, shared.id, name, rank, hit.score, &mut ending);
         rank += 1;
     }
 }

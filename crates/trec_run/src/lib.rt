@@ -9,6 +9,7 @@ mod answer;
 mod block;
 mod buffer;
 mod columns;
+mod ending;
 mod gather;
 pub mod laws;
 mod line;

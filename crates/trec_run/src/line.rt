@@ -1,9 +1,10 @@
-ghost use Rattle.std.specs.Prelude.{◌≡◌, ◌+◌, ◌≤◌, ◌++◌, length, IsTrue};
+ghost use Rattle.std.specs.Prelude.{◌≡◌, ◌+◌, ◌≤◌, ◌++◌, codes, decimal, length, IsTrue};
 ghost use Rattle.ranking_model.specs.Report.{run_line};
 ghost use Rattle.trec_run.specs.Gathering.{Gathers};
-ghost use Rattle.trec_run.specs.Columns.{AreShort, whole_tag};
+ghost use Rattle.trec_run.specs.Columns.{AreShort, ending_of, whole_tag};
 
 use crate::buffer::Buffer;
+use crate::ending::Ending;
 use crate::gather::gather_all;
 use itoa::Buffer as Digits;
 use jass_base::{Sink, WriteFault};
@@ -36,29 +37,49 @@ impl<'a> Shared<'a> {
     }
 }
 
-/// Puts a run line for which there is room behind what was gathered.
-pub fn push_line(buffer: &mut Buffer, shared: &Shared<'_>, name: &[u8], rank: u64, score: u32)
-    requires shared { AreShort shared.now }
-    requires name { length name.now ≤ 128 }
-    requires room { length buffer.old + 1024 ≤ 65536 }
-    ensures line { buffer.new
-        ≡ buffer.old ++ run_line shared.now.id.now name.now (whole_tag shared.now) rank score }
-    ensures few { length buffer.new ≤ length buffer.old + 1024 }
+/// The end of each of the lines, behind the score.
+pub fn tag_ending(shared: &Shared<'_>) -> Ending
+    requires { AreShort shared.now }
+    ensures text { result ≡ ending_of shared.now }
+    ensures few { length result ≤ 400 }
 {
-    let mut rank_digits = Digits::new();
-    let mut score_digits = Digits::new();
-    buffer.push(shared.id);
+    let mut ending = Ending::new();
+    ending.prepend(b"\n");
+    ending.prepend(shared.part);
+    ending.prepend(shared.point);
+    ending.prepend(shared.tag);
+    ending.prepend(b" ");
+    ending
+}
+
+/// Puts a run line for which there is room behind what was gathered. The ending is that of all lines before and after.
+pub fn push_line(
+    buffer: &mut Buffer,
+    id: &[u8],
+    name: &[u8],
+    rank: u64,
+    score: u32,
+    ending: &mut Ending,
+)
+    requires id { length id.now ≤ 128 }
+    requires name { length name.now ≤ 128 }
+    requires ending { length ending.old ≤ 400 }
+    requires room { length buffer.old + 1024 ≤ 65536 }
+    ensures line { buffer.new ≡ buffer.old ++ (id.now ++ (codes " Q0 " ++ (name.now ++ (codes " "
+        ++ (decimal rank ++ (codes " " ++ (decimal score ++ ending.old))))))) }
+    ensures few { length buffer.new ≤ length buffer.old + 1024 }
+    ensures ending { ending.new ≡ ending.old }
+{
+    let kept = ending.len();
+    ending.prepend_number(u64::from(score));
+    ending.prepend(b" ");
+    ending.prepend_number(rank);
+    ending.prepend(b" ");
+    buffer.push(id);
     buffer.push(b" Q0 ");
     buffer.push(name);
-    buffer.push(b" ");
-    buffer.push(rank_digits.format(rank).as_bytes());
-    buffer.push(b" ");
-    buffer.push(score_digits.format(score).as_bytes());
-    buffer.push(b" ");
-    buffer.push(shared.tag);
-    buffer.push(shared.point);
-    buffer.push(shared.part);
-    buffer.push(b"\n");
+    buffer.push(ending.as_slice());
+    ending.keep_last(kept);
 }
 
 /// Gathers a run line piece by piece.
