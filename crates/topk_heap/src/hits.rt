@@ -127,14 +127,14 @@ fn rank(hits: &mut [Hit])
     hits.sort_unstable_by(rank_order);
 }
 
-// The order of hits. It compares one number of each, which takes no branch.
+// The order of hits. One number of each is compared, since two comparisons would branch.
 fn rank_order(a: &Hit, b: &Hit) -> Ordering
     ensures { result ≡ rank_cmp a.now b.now }
 {
     rank_key(a).cmp(&rank_key(b))
 }
 
-// The number that falls in front of another exactly where the hit does.
+// The number of a hit is less than that of another exactly where the hit is ahead.
 fn rank_key(hit: &Hit) -> u64
     ensures key { result ≡ rank_key hit.now }
     ensures fits { (hit.now.doc < 4294967296) × (hit.now.score < 4294967296) }

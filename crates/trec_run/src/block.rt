@@ -30,7 +30,7 @@ pub fn gather_block<S: Sink, N: Names>(
     ensures { Gathers S.written S.faults S.rest out.old out.new buffer.old buffer.new
         (run_lines (N.names index.now) shared.now.id.now (whole_tag shared.now) first hits.now) result }
 {
-    // Names are seldom in a cache. This looks all of them up before a line is written, and so waits for many at once.
+    // Names are seldom in a cache. All are looked up before a line is written, since the loads then overlap.
     if longest_name(index, hits) > SHORT || !shared.are_short() {
         return gather_each(out, buffer, shared, index, hits, first);
     }

@@ -6,8 +6,7 @@ use std::marker::Model;
 /// The most bytes of an ending.
 const ROOM: usize = 512;
 
-/// A text that grows at its front: the end of a line, whose last bytes are those of the line before. Contracts see it
-/// as its list.
+/// The end of a line, which grows at its front: its last bytes stay for the next line. Contracts see it as its list.
 #[derive(Drop)]
 pub struct Ending {
     bytes: [u8; ROOM],

@@ -52,7 +52,8 @@ pub fn tag_ending(shared: &Shared<'_>) -> Ending
     ending
 }
 
-/// Puts a run line for which there is room behind what was gathered. The ending is that of all lines before and after.
+/// Puts a run line for which there is room behind what was gathered. The ending is what stands behind the score, and
+/// is left as it was.
 pub fn push_line(
     buffer: &mut Buffer,
     id: &[u8],
