@@ -1,6 +1,7 @@
 -- One payload that is read.
-use Rattle.std.proofs.Common.{◌≡◌, ℕ, ◌+◌, ◌≤◌, ◌<◌, ◌^◌, Bool, List, [], ◌∷◌, length, All, Result, Ok, Err, ap, sym, ◌∙◌, refl, slice_index, arith, true, false, nat_lt}
+use Rattle.std.proofs.Common.{◌≡◌, ℕ, ◌+◌, ◌-◌, ◌≤◌, ◌<◌, ◌^◌, Bool, List, [], ◌∷◌, length, take, drop, subst, All, Result, Ok, Err, ap, sym, ◌∙◌, refl, slice_index, arith, true, false, nat_lt}
 use Rattle.std.specs.Prelude.{slice_range}
+use Rattle.std.proofs.lemmas.List.{take-take}
 use Rattle.std.proofs.lemmas.List.Elements.{All-take, All-drop, All-from_get_or}
 use Rattle.jass_base.specs.Gaps.{Judges, AreDocs}
 use Rattle.jass_base.specs.declared.payload_fault.PayloadFault.{PayloadFault}
@@ -40,6 +41,17 @@ unfolding payload_end read_segment
 payload_not T bytes d earlier h at fault fits is =
     let inside : nat_lt (length bytes) (at + h.size) ≡ false = grind (arith) in
     rw (inside, judged_not T (read_payload h.codec d h.count (slice_range bytes at (at + h.size))) fault is) refl
+
+-- the front of what follows a place
+pub front_is : (bytes : List ℕ) (at size : ℕ) → at + size ≤ length bytes → take size (take (length bytes - at) (drop at bytes)) ≡ slice_range bytes at (at + size)
+front_is bytes at size fits =
+    let few : size ≤ length bytes - at = omega (arith, fits) in
+    let same : at + size - at ≡ size = omega arith in
+    take-take size (length bytes - at) (drop at bytes) few ∙ ap (λ n. take n (drop at bytes)) (sym same)
+
+pub front_judged : {T : Type 0} (bytes : List ℕ) (d : ℕ) (h : HeadData) (at : ℕ) (result : Result T PayloadFault) → at + h.size ≤ length bytes
+    → Judges (read_payload h.codec d h.count (take h.size (take (length bytes - at) (drop at bytes)))) result → Judges (read_payload h.codec d h.count (slice_range bytes at (at + h.size))) result
+front_judged bytes d h at result fits is = subst (λ (part : List ℕ). Judges (read_payload h.codec d h.count part) result) (front_is bytes at h.size fits) is
 
 part_bytes : (bytes : List ℕ) (from to : ℕ) → ((i : ℕ) → slice_index bytes i < 256) → All (λ byte. byte < 256) (slice_range bytes from to)
 part_bytes bytes from to fits = All-take (λ byte. byte < 256) _ _ (All-drop (λ byte. byte < 256) _ _ (All-from_get_or (λ byte. byte < 256) bytes 0 (λ i inside. fits i)))

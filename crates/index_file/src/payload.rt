@@ -10,7 +10,7 @@ use crate::segment::Segment;
 use crate::segment_head::SegmentHead;
 use index_layout::{OpenFault, OpenWhy, refused};
 use segment_codecs::laws::{payloads_are_read, payloads_have_few_bytes};
-use segment_codecs::{Codec, check, check_into};
+use segment_codecs::{Codec, check, check_front_into};
 
 // How many documents a block has room for.
 const BLOCK: u32 = 4096;
@@ -67,7 +67,7 @@ fn check_into_block(
     if bytes.len() - at < size {
         return Err(refused(at, OpenWhy::Length));
     }
-    match check_into(head.codec, &bytes[at..at + size], head.count, docs, block) {
+    match check_front_into(head.codec, &bytes[at..], size, head.count, docs, block) {
         Ok(()) => Ok(()),
         Err(fault) => Err(refused(at, OpenWhy::Payload(fault))),
     }

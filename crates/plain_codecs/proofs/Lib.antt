@@ -8,4 +8,5 @@ pub mod Handing
 pub mod Members
 pub mod Reading
 pub mod Runs
+pub mod ShortGaps
 pub mod VarbyteCursors

@@ -48,7 +48,7 @@ one_over d least n gap size bytes is high =
     let test : nat_lt (least + gap) d ≡ false = grind (arith, nat_tests) in
     rw is (rw test refl)
 
-one_small : (b : ℕ) (bytes : List ℕ) → b < 128 → gap_in (b ∷ bytes) ≡ Ok (record { gap = b; size = 1 })
+pub one_small : (b : ℕ) (bytes : List ℕ) → b < 128 → gap_in (b ∷ bytes) ≡ Ok (record { gap = b; size = 1 })
 unfolding gap_in
 one_small b bytes small =
     let test : nat_lt b 128 ≡ true = grind (arith, nat_tests) in

@@ -10,10 +10,11 @@ mod cursor;
 mod handing;
 pub mod laws;
 mod runs;
+mod short;
 
 pub use checking::check;
 pub use cursor::Cursor;
-pub use handing::check_into;
+pub use handing::{check_front_into, check_into};
 use jass_base::{NoMemory, Row, put_gap};
 
 /// How many bytes the payload of the documents has, in an index of d documents.

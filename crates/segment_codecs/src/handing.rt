@@ -36,6 +36,32 @@ pub fn check_into(
     }
 }
 
+/// The same for the payload that is the first `size` bytes. What follows them isn't part of it: varbyte
+/// is read faster where something does.
+pub fn check_front_into(
+    codec: Codec,
+    bytes: &[u8],
+    size: usize,
+    count: u32,
+    d: u32,
+    out: &mut [u32],
+) -> Result<(), PayloadFault>
+    requires some { 1 ≤ count }
+    requires few { count ≤ d }
+    requires limit { d ≤ 2 ^ 26 }
+    requires size { size ≤ length bytes.now }
+    requires room { count ≤ length out.old }
+    ensures accepted { Accepts (payload_of codec d) d count (take size bytes.now) result }
+    ensures judged { Judges (read_payload codec d count (take size bytes.now)) result }
+    ensures docs { IfOk result (λ _. read_payload codec d count (take size bytes.now) ≡ Ok (take count out.new)) }
+    ensures length { length out.new ≡ length out.old }
+{
+    match codec {
+        Codec::Varbyte => varbyte::check_front_into(bytes, size, count, d, out),
+        _ => check_into(codec, &bytes[..size], count, d, out),
+    }
+}
+
 // The same for any codec, which is read once for the check and once for the documents.
 fn check_and_read(
     codec: Codec,

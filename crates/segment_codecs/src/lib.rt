@@ -15,5 +15,5 @@ mod tests;
 pub use choosing::{Choice, choose, shortest};
 pub use codec::Codec;
 pub use cursor::SegmentCursor;
-pub use handing::check_into;
+pub use handing::{check_front_into, check_into};
 pub use payloads::{check, encode, length};

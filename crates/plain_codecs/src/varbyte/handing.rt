@@ -1,8 +1,9 @@
-ghost use Rattle.std.specs.Prelude.{◌≡◌, ◌≤◌, ◌^◌, length, take, IfOk, Ok};
+ghost use Rattle.std.specs.Prelude.{◌≡◌, ◌≤◌, ◌^◌, length, take, IfOk, IsTrue, Ok};
 ghost use Rattle.jass_base.specs.Gaps.{Accepts, Judges};
 ghost use Rattle.plain_codecs.specs.Varbyte.{varbyte_of, read_varbyte};
 
 use crate::varbyte::laws::payloads_are_read;
+use crate::varbyte::short::short_gap;
 use jass_base::{PayloadFault, read_gap};
 
 /// The answer of `check`, and where it is Ok, the documents at the front of `out`. What stands behind
@@ -49,4 +50,58 @@ fn hand_out(bytes: &[u8], count: u32, d: u32, out: &mut [u32]) -> Result<(), Pay
         return Err(PayloadFault::Longer);
     }
     Ok(())
+}
+
+/// The same for the payload that is the first `size` bytes. What follows them isn't part of it, but
+/// lets three bytes be looked at together at each gap.
+pub fn check_front_into(
+    bytes: &[u8],
+    size: usize,
+    count: u32,
+    d: u32,
+    out: &mut [u32],
+) -> Result<(), PayloadFault>
+    requires some { 1 ≤ count }
+    requires few { count ≤ d }
+    requires limit { d ≤ 2 ^ 26 }
+    requires size { size ≤ length bytes.now }
+    requires room { count ≤ length out.old }
+    ensures accepted { Accepts varbyte_of d count (take size bytes.now) result }
+    ensures judged { Judges (read_varbyte d count (take size bytes.now)) result }
+    ensures docs { IfOk result (λ _. read_varbyte d count (take size bytes.now) ≡ Ok (take count out.new)) }
+    ensures length { length out.new ≡ length out.old }
+{
+    payloads_are_read();
+    if hand_out_short(bytes, size, count, d, out) {
+        return Ok(());
+    }
+    hand_out(&bytes[..size], count, d, out)
+}
+
+// Hands out a payload whose gaps have up to three bytes each, and which isn't at the end of the
+// bytes, and tells whether it was one.
+#[inline(never)]
+fn hand_out_short(bytes: &[u8], size: usize, count: u32, d: u32, out: &mut [u32]) -> bool
+    requires limit { d ≤ 2 ^ 26 }
+    requires size { size ≤ length bytes.now }
+    requires room { count ≤ length out.old }
+    ensures docs { IsTrue result → read_varbyte d count (take size bytes.now) ≡ Ok (take count out.new) }
+    ensures length { length out.new ≡ length out.old }
+{
+    if bytes.len() - size < 3 {
+        return false;
+    }
+    let mut at = 0;
+    let mut least = 0;
+    'docs: for i in 0..count as usize {
+        let read = short_gap(bytes, at);
+        let doc = least + read.gap;
+        at += read.size;
+        if !read.is_gap || doc >= d || at > size {
+            return false;
+        }
+        out[i] = doc;
+        least = doc + 1;
+    }
+    at == size
 }
