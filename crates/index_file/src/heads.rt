@@ -42,6 +42,8 @@ pub(crate) fn read_heads(
 {
     let mut at = from;
     let mut above = 65_536;
+    // behind the reference each head would wait for the sums of the one before
+    let mut total = *sums;
     'heads: for _ in 0..count {
         let (impact, postings) = match read_head(bytes, docs, above, at) {
             Ok(read) => read,
@@ -54,12 +56,13 @@ pub(crate) fn read_heads(
             Ok(()) => {}
             Err(_) => return Err(OpenFault::NoMemory),
         }
-        *sums = Sums {
-            postings: sums.postings + u64::from(postings),
-            greatest: sums.greatest.max(impact),
+        total = Sums {
+            postings: total.postings + u64::from(postings),
+            greatest: total.greatest.max(impact),
         };
         above = u32::from(impact);
         at += 11;
     }
+    *sums = total;
     Ok(at)
 }

@@ -78,9 +78,9 @@ pub fn check_front_into(
     hand_out(&bytes[..size], count, d, out)
 }
 
-// Hands out a payload whose gaps have up to three bytes each, and which isn't at the end of the
-// bytes, and tells whether it was one.
-#[inline(never)]
+// Hands out a payload whose gaps have up to three bytes each, where the bytes hold so many for each
+// gap, and tells whether it was one. Where it ends, and which kind of fault it has, is left to the end.
+#[inline(always)]
 fn hand_out_short(bytes: &[u8], size: usize, count: u32, d: u32, out: &mut [u32]) -> bool
     requires limit { d ≤ 2 ^ 26 }
     requires size { size ≤ length bytes.now }
@@ -88,7 +88,7 @@ fn hand_out_short(bytes: &[u8], size: usize, count: u32, d: u32, out: &mut [u32]
     ensures docs { IsTrue result → read_varbyte d count (take size bytes.now) ≡ Ok (take count out.new) }
     ensures length { length out.new ≡ length out.old }
 {
-    if bytes.len() - size < 3 {
+    if bytes.len() < 3 * count as usize {
         return false;
     }
     let mut at = 0;
@@ -96,12 +96,12 @@ fn hand_out_short(bytes: &[u8], size: usize, count: u32, d: u32, out: &mut [u32]
     'docs: for i in 0..count as usize {
         let read = short_gap(bytes, at);
         let doc = least + read.gap;
-        at += read.size;
-        if !read.is_gap || doc >= d || at > size {
+        if !(read.is_gap & (doc < d)) {
             return false;
         }
         out[i] = doc;
         least = doc + 1;
+        at += read.size;
     }
     at == size
 }

@@ -31,6 +31,6 @@ pub(crate) fn short_gap(bytes: &[u8], at: usize) -> ShortGap
     ShortGap {
         gap: first % 128 + middle * 128 + high * 16_384,
         size: (1 + two + three) as usize,
-        is_gap: high < 128 && third >= three && second >= two,
+        is_gap: (high < 128) & (third >= three) & (second >= two),
     }
 }

@@ -25,7 +25,7 @@ heads-preserved c =
     let front = map (row_head bytes) (drop (length before) c.heads.segments) in
     let more_rows = ap length c.in-Ok-push.ensures.ok ∙ length-append c.heads.segments (s ∷ []) in
     let postings = c.from.ensures ∙ c.in-Ok.ensures.count in
-    let sums : Sums = record { postings = c.heads.sums.postings + c.from.result; greatest = c.max.result } in
+    let sums : Sums = record { postings = c.heads.total.postings + c.from.result; greatest = c.max.result } in
     record {
       read = heads_on bytes d (read_heads bytes d c.args.count 65536 c.args.from) (map (row_head bytes) (drop (length before) c.heads.segments)) (c.args.count - c.heads.counter) left c.heads.above at (at + 11) s c.heads.invariant.read more c.in-Ok.ensures.exact refl
           ∙ ap (λ (front : List HeadData). with_heads front (read_heads bytes d left (row_head bytes s).impact (at + 11))) (sym rows.1)
@@ -34,7 +34,7 @@ heads-preserved c =
       counted = subst (All (IsCounted d)) (sym rows.1) (All-push (IsCounted d) (map (row_head bytes) (drop (length before) c.heads.segments)) (row_head bytes s) c.heads.invariant.counted c.in-Ok.ensures.counted);
       there = subst (All (HasHead bytes)) (sym rows.2) (All-push (HasHead bytes) (drop (length before) c.heads.segments) s c.heads.invariant.there c.in-Ok.ensures.within);
       sums = λ heads are. subst (AreSums sums) (append_assoc heads front (row_head bytes s ∷ []) ∙ ap (λ xs. heads ++ xs) (sym rows.1))
-          (sums_push c.heads.sums sums (heads ++ front) (row_head bytes s) (c.heads.invariant.sums heads are) (ap (λ n. c.heads.sums.postings + n) postings) (c.max.ensures ∙ ap (max c.heads.sums.greatest) c.in-Ok.ensures.impact));
+          (sums_push c.heads.total sums (heads ++ front) (row_head bytes s) (c.heads.invariant.sums heads are) (ap (λ n. c.heads.total.postings + n) postings) (c.max.ensures ∙ ap (max c.heads.total.greatest) c.in-Ok.ensures.impact));
       small = (let few = c.in-Ok.ensures.counted.1 in omega (arith, few, postings, more_rows, c.heads.invariant.small, c.requires.docs));
       many = omega (arith, more_rows, c.heads.invariant.many);
       at = c.in-Ok.ensures.within;

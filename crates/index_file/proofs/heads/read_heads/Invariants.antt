@@ -13,8 +13,8 @@ invariant-heads l = record {
   kept : l.segments ≡ l.fn.segments ++ drop (length l.fn.segments) l.segments;
   counted : All (IsCounted l.docs) (map (row_head l.bytes) (drop (length l.fn.segments) l.segments));
   there : All (HasHead l.bytes) (drop (length l.fn.segments) l.segments);
-  sums : (heads : List HeadData) → AreSums l.fn.sums heads → AreSums l.sums (heads ++ map (row_head l.bytes) (drop (length l.fn.segments) l.segments));
-  small : l.sums.postings ≤ 2 ^ 26 * length l.segments;
+  sums : (heads : List HeadData) → AreSums l.fn.sums heads → AreSums l.total (heads ++ map (row_head l.bytes) (drop (length l.fn.segments) l.segments));
+  small : l.total.postings ≤ 2 ^ 26 * length l.segments;
   many : length l.segments ≡ length l.fn.segments + l.counter;
   at : l.at ≤ length l.bytes;
 }
