@@ -1,6 +1,7 @@
 -- Gaps of up to three bytes, read together.
 use Rattle.std.proofs.Common.{◌≡◌, ℕ, ◌+◌, ◌*◌, ◌/◌, ◌%◌, ◌<◌, ◌≤◌, ◌==◌, Bool, true, false, List, ◌∷◌, length, get_or, take, drop, sym, ap, ◌∙◌, refl, arith}
 use Rattle.std.specs.Prelude.{nat_lt}
+use Rattle.std.specs.Int.Bits.{bit_and, and_zero_l}
 use Rattle.std.proofs.lemmas.Bool.Decides.{nat_tests}
 use Rattle.std.proofs.lemmas.List.{drop_more, get_or-take, length-take}
 use Rattle.jass_base.specs.Gaps.{gap_in}
@@ -36,12 +37,12 @@ front_more bytes end at inside within =
 module _ (bytes : List ℕ) (at end first second third two three middle high : ℕ) (room : at + 3 ≤ length bytes)
     (first_is : first ≡ get_or bytes at 0) (second_is : second ≡ get_or bytes (at + 1) 0) (third_is : third ≡ get_or bytes (at + 2) 0)
     (first_fits : first < 256) (second_fits : second < 256)
-    (two_is : two ≡ first / 128) (three_is : three ≡ two * (second / 128)) (middle_is : middle ≡ two * (second % 128)) (high_is : high ≡ three * third)
+    (two_is : two ≡ first / 128) (three_is : three ≡ bit_and two (second / 128)) (middle_is : middle ≡ two * (second % 128)) (high_is : high ≡ three * third)
     (high_small : high < 128) (third_some : three ≤ third) (second_some : two ≤ second) (inside : at + (1 + two + three) ≤ end) where
   one_read : first < 128 → gap_in (drop at (take end bytes)) ≡ spelled (first % 128 + middle * 128 + high * 16384) (1 + two + three)
   one_read small =
       let no_two : two ≡ 0 = omega (arith, two_is, small) in
-      let no_three : three ≡ 0 = omega (arith, three_is ∙ ap (λ n. n * (second / 128)) no_two) in
+      let no_three : three ≡ 0 = three_is ∙ ap (λ n. bit_and n (second / 128)) no_two ∙ and_zero_l (second / 128) in
       let no_middle : middle ≡ 0 = omega (arith, middle_is ∙ ap (λ n. n * (second % 128)) no_two) in
       let no_high : high ≡ 0 = omega (arith, high_is ∙ ap (λ n. n * third) no_three) in
       let value : first ≡ first % 128 + middle * 128 + high * 16384 = omega (arith, small, no_middle, no_high) in
@@ -55,7 +56,8 @@ module _ (bytes : List ℕ) (at end first second third two three middle high : �
   two_read : 128 ≤ first → second < 128 → gap_in (drop at (take end bytes)) ≡ spelled (first % 128 + middle * 128 + high * 16384) (1 + two + three)
   two_read more small =
       let one_two : two ≡ 1 = omega (arith, two_is, more, first_fits) in
-      let no_three : three ≡ 0 = omega (arith, three_is ∙ ap (λ n. n * (second / 128)) one_two, small) in
+      let no_top : second / 128 ≡ 0 = omega (arith, small) in
+      let no_three : three ≡ 0 = three_is ∙ ap (λ n. bit_and n (second / 128)) one_two ∙ ap (bit_and 1) no_top in
       let is_middle : middle ≡ second = omega (arith, middle_is ∙ ap (λ n. n * (second % 128)) one_two, small) in
       let no_high : high ≡ 0 = omega (arith, high_is ∙ ap (λ n. n * third) no_three) in
       let value : first % 128 + 128 * second ≡ first % 128 + middle * 128 + high * 16384 = omega (arith, is_middle, no_high) in
@@ -71,7 +73,8 @@ module _ (bytes : List ℕ) (at end first second third two three middle high : �
   three_read : 128 ≤ first → 128 ≤ second → gap_in (drop at (take end bytes)) ≡ spelled (first % 128 + middle * 128 + high * 16384) (1 + two + three)
   three_read more most =
       let one_two : two ≡ 1 = omega (arith, two_is, more, first_fits) in
-      let one_three : three ≡ 1 = omega (arith, three_is ∙ ap (λ n. n * (second / 128)) one_two, most, second_fits) in
+      let one_top : second / 128 ≡ 1 = omega (arith, most, second_fits) in
+      let one_three : three ≡ 1 = three_is ∙ ap (λ n. bit_and n (second / 128)) one_two ∙ ap (bit_and 1) one_top in
       let is_middle : middle ≡ second % 128 = omega (arith, middle_is ∙ ap (λ n. n * (second % 128)) one_two) in
       let is_high : high ≡ third = omega (arith, high_is ∙ ap (λ n. n * third) one_three) in
       let value : first % 128 + 128 * (second % 128 + 128 * third) ≡ first % 128 + middle * 128 + high * 16384 = omega (arith, is_middle, is_high) in

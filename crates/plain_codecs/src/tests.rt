@@ -47,6 +47,22 @@ fn faults_are_told(rt: HostRuntime) {
     assert!(&rt; bitmap::check(&[], 1, 4) == Err(PayloadFault::Cut));
 }
 
+#[test]
+fn a_payload_in_front_is_read(rt: HostRuntime) {
+    let bytes = [0x05, 0x81, 0x02, 0xff, 0xff, 0x01, 0x80, 0x00, 0x00];
+    let mut docs = [0u32; 4];
+    assert!(&rt; varbyte::check_front_into(&bytes, 6, 3, 1 << 26, &mut docs) == Ok(()));
+    assert!(&rt; docs == [5, 263, 33_031, 0]);
+    let longer = Err(PayloadFault::Longer);
+    assert!(&rt; varbyte::check_front_into(&bytes, 6, 2, 1 << 26, &mut docs) == longer);
+    let cut = Err(PayloadFault::Cut);
+    assert!(&rt; varbyte::check_front_into(&bytes, 5, 3, 1 << 26, &mut docs) == cut);
+    let far = Err(PayloadFault::DocRange);
+    assert!(&rt; varbyte::check_front_into(&bytes, 6, 3, 33_031, &mut docs) == far);
+    let shape = Err(PayloadFault::Shape);
+    assert!(&rt; varbyte::check_front_into(&bytes[6..], 2, 1, 1 << 26, &mut docs) == shape);
+}
+
 // The documents 0 to 127.
 fn counted() -> [u32; 128] {
     let mut docs = [0; 128];

@@ -25,7 +25,7 @@ pub(crate) fn short_gap(bytes: &[u8], at: usize) -> ShortGap
     let third = u32::from(bytes[at + 2]);
     // 1 where there is a second byte, and where there is a third
     let two = first / 128;
-    let three = two * (second / 128);
+    let three = two & (second / 128);
     let middle = two * (second % 128);
     let high = three * third;
     ShortGap {

@@ -1,4 +1,4 @@
-use Rattle.std.proofs.Common.{◌+◌, ◌/◌, ◌%◌, ◌*◌, ◌&&◌, ℕ, refl, arith}
+use Rattle.std.proofs.Common.{◌+◌, ◌/◌, ◌%◌, ◌*◌, ◌&&◌, ℕ, bit_and, refl, arith}
 use Rattle.std.specs.Prelude.{nat_le, nat_lt}
 use Rattle.std.proofs.lemmas.Bool.{and_parts, leb-true, ltb-true}
 use Rattle.plain_codecs.proofs.ShortGaps.{short_read}
@@ -12,7 +12,7 @@ returns-clause-gap c = λ is end inside.
     let second : ℕ = c.from-second.result in
     let third : ℕ = c.from-third.result in
     let two : ℕ = first / 128 in
-    let three : ℕ = two * (second / 128) in
+    let three : ℕ = bit_and two (second / 128) in
     let high : ℕ = three * third in
     let all = and_parts (nat_lt high 128 && nat_le three third) (nat_le two second) is in
     let front = and_parts (nat_lt high 128) (nat_le three third) all.0 in
