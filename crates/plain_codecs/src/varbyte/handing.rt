@@ -79,7 +79,7 @@ pub fn check_front_into(
 }
 
 // Hands out a payload whose gaps have up to three bytes each, where the bytes hold so many for each
-// gap, and tells whether it was one. Where it ends, and which kind of fault it has, is left to the end.
+// gap, and tells whether it was one. Where it tells no, `hand_out` finds out what there is.
 #[inline(always)]
 fn hand_out_short(bytes: &[u8], size: usize, count: u32, d: u32, out: &mut [u32]) -> bool
     requires limit { d ≤ 2 ^ 26 }
