@@ -11,22 +11,12 @@ exhaustive answer, and the mean of the postings scored. Needs the package python
 import re
 import sys
 
+from common import Bad, lines_of, run_script
+
 REPORT = re.compile(
     r"([^ ]+) postings ([0-9]+) segments ([0-9]+) of ([0-9]+) cutoff [0-9]+ next [0-9]+ bound [0-9]+ "
     r"unknown [0-9]+ (final|set|open)")
 RUN = re.compile(r"([^ ]+) Q0 ([^ ]+) ([1-9][0-9]*) ([0-9]+) ([^ ]+)\.([1-9][0-9]*)")
-
-
-class Bad(Exception):
-    """Input that is refused, with the reason."""
-
-
-def lines_of(path):
-    with open(path, encoding="utf-8", newline="\n") as text:
-        whole = text.read()
-    if whole and not whole.endswith("\n"):
-        raise Bad(f"{path}: the last line has no end")
-    return whole.split("\n")[:-1]
 
 
 def read_budgets(word):
@@ -117,21 +107,16 @@ def draw(labels, series, postings, path):
     figure.savefig(path, dpi=100, format="png")
 
 
-def main(words):
+def budgets(words):
     if len(words) != 4:
-        print("usage: budgets.py BUDGETS REPORTS RUN PNG", file=sys.stderr)
-        return 2
-    try:
-        labels = read_budgets(words[0])
-        reports = read_reports(words[1], labels)
-        answers = read_run(words[2], reports, len(labels))
-        # A query without any answer has no overlap and is left out of that mean.
-        found = [query for query in reports if answers[query, len(labels) - 1]]
-        if not found:
-            raise Bad(f"{words[2]}: no query has an exhaustive answer")
-    except (Bad, OSError, UnicodeDecodeError) as fault:
-        print(f"budgets.py: {fault}", file=sys.stderr)
-        return 2
+        return False
+    labels = read_budgets(words[0])
+    reports = read_reports(words[1], labels)
+    answers = read_run(words[2], reports, len(labels))
+    # A query without any answer has no overlap and is left out of that mean.
+    found = [query for query in reports if answers[query, len(labels) - 1]]
+    if not found:
+        raise Bad(f"{words[2]}: no query has an exhaustive answer")
 
     def share(place, grades):
         return sum(of[place][1] in grades for of in reports.values()) / len(reports)
@@ -146,13 +131,9 @@ def main(words):
     print("budget final set-or-final overlap postings")
     for place in places:
         print(f"{labels[place]} {final[place]:.2f} {kept[place]:.2f} {means[place]:.3f} {postings[place]:.1f}")
-    try:
-        draw(labels, [("final", final), ("final or set", kept), ("overlap", means)], postings, words[3])
-    except (ImportError, OSError) as fault:
-        print(f"budgets.py: {fault}", file=sys.stderr)
-        return 2
-    return 0
+    draw(labels, [("final", final), ("final or set", kept), ("overlap", means)], postings, words[3])
+    return True
 
 
 if __name__ == "__main__":
-    sys.exit(main(sys.argv[1:]))
+    sys.exit(run_script("budgets.py", "budgets.py BUDGETS REPORTS RUN PNG", budgets, sys.argv[1:]))

@@ -9,98 +9,61 @@ and tags, lower-cased and split at every character that is neither a letter nor 
 packages python3-protobuf and protobuf-compiler.
 """
 import collections
-import importlib
-import os
 import re
 import subprocess
 import sys
-import tempfile
+
+from common import Bad, messages, number_word, run_script, write_header, write_list, write_records
 
 FIELDS = ("Package", "Section", "Description", "Tag")
 WORD = re.compile(r"[^\W_]+")
 
 
-def messages():
-    """The Python module of ciff.proto."""
-    here = os.path.dirname(os.path.abspath(__file__))
-    with tempfile.TemporaryDirectory() as made:
-        subprocess.run(["protoc", "-I", here, "--python_out", made, "ciff.proto"], check=True)
-        sys.path.insert(0, made)
-        return importlib.import_module("ciff_pb2")
-
-
-def packages():
-    """The text of each package by its name; of two of one name the first counts."""
+def packages(fields=FIELDS):
+    """The text of each package in these fields, by its name; of two of one name the first counts."""
     told = subprocess.run(["apt-cache", "dumpavail"], check=True, stdout=subprocess.PIPE)
     texts = {}
     for paragraph in told.stdout.decode("utf-8", "replace").split("\n\n"):
         values = dict(re.findall(r"^([A-Za-z0-9-]+):(.*(?:\n[ \t].*)*)", paragraph, re.M))
         if "Package" in values:
-            text = " ".join(values.get(field, "") for field in FIELDS)
+            text = " ".join(values.get(field, "") for field in fields)
             texts.setdefault(values["Package"].strip(), text)
     return texts
 
 
-def varint(number):
-    out = bytearray()
-    while number > 127:
-        out.append(number & 127 | 128)
-        number >>= 7
-    out.append(number)
-    return bytes(out)
-
-
-def main(words):
-    if not 1 <= len(words) <= 2 or not all(word.isdecimal() and int(word) for word in words[1:]):
-        print("usage: make_ciff.py CIFF [PACKAGES]", file=sys.stderr)
-        return 2
-    limit = int(words[1]) if len(words) == 2 else 5000
-    try:
-        ciff = messages()
-        texts = packages()
-    except (ImportError, OSError, subprocess.CalledProcessError) as fault:
-        print(f"make_ciff.py: {fault}", file=sys.stderr)
-        return 1
+def chosen(texts, limit):
+    """The names in order, at most so many of them, at even distances."""
     names = sorted(texts)
-    if len(names) > limit:
-        names = [names[place * len(names) // limit] for place in range(limit)]
-    if not names:
-        print("make_ciff.py: apt-cache tells no package", file=sys.stderr)
-        return 1
+    if len(names) <= limit:
+        return names
+    return [names[place * len(names) // limit] for place in range(limit)]
+
+
+def make(words):
+    if not 1 <= len(words) <= 2:
+        return False
+    limit = number_word(words[1], 1, 1 << 26, "PACKAGES") if len(words) == 2 else 5000
+    ciff = messages()
+    texts = packages()
+    if not texts:
+        raise Bad("apt-cache tells no package")
 
     lists = collections.defaultdict(list)
-    lengths = []
-    for doc, name in enumerate(names):
+    records = []
+    for doc, name in enumerate(chosen(texts, limit)):
         counts = collections.Counter(WORD.findall(texts[name].lower()))
-        lengths.append(sum(counts.values()))
+        records.append((name, sum(counts.values())))
         for term, tf in counts.items():
             lists[term].append((doc, tf))
 
-    made = [ciff.Header(
-        version=1, num_postings_lists=len(lists), num_docs=len(names),
-        total_postings_lists=len(lists), total_docs=len(names),
-        total_terms_in_collection=sum(lengths), average_doclength=sum(lengths) / len(lengths),
-        description="package descriptions")]
-    for term in sorted(lists):
-        entry = ciff.PostingsList(term=term, df=len(lists[term]), cf=sum(tf for _, tf in lists[term]))
-        before = 0
-        for doc, tf in lists[term]:
-            entry.postings.add(docid=doc - before, tf=tf)
-            before = doc
-        made.append(entry)
-    for doc, name in enumerate(names):
-        made.append(ciff.DocRecord(docid=doc, collection_docid=name, doclength=lengths[doc]))
-    try:
-        with open(words[0], "wb") as out:
-            for message in made:
-                body = message.SerializeToString()
-                out.write(varint(len(body)) + body)
-    except OSError as fault:
-        print(f"make_ciff.py: {fault}", file=sys.stderr)
-        return 1
-    print("documents", len(names), "terms", len(lists), "postings", sum(map(len, lists.values())))
-    return 0
+    with open(words[0], "wb") as out:
+        write_header(out, ciff, "package descriptions", len(lists), records)
+        for term in sorted(lists):
+            write_list(out, ciff, term, lists[term])
+        write_records(out, ciff, records)
+    print("documents", len(records), "terms", len(lists), "postings", sum(map(len, lists.values())))
+    return True
 
 
 if __name__ == "__main__":
-    sys.exit(main(sys.argv[1:]))
+    sys.exit(run_script("make_ciff.py", "make_ciff.py CIFF [PACKAGES]", make, sys.argv[1:]))

@@ -1,0 +1,123 @@
+/* Makes one call of a program fail, for refusals.py, which loads it in front of the C library.
+
+   REFUSE has a kind and a number. `alloc N`: call N of malloc, calloc or realloc has no memory. `io N`: call N of
+   read, write, open or fsync fails with EIO. `short N`: call N of read or write that would move several bytes moves
+   one. At the end the number of calls of that kind is put on descriptor 9. */
+#define _GNU_SOURCE
+#include <dlfcn.h>
+#include <errno.h>
+#include <fcntl.h>
+#include <stdarg.h>
+#include <stdio.h>
+#include <stdlib.h>
+#include <string.h>
+#include <unistd.h>
+
+static char kind;
+static long at, calls;
+
+extern void *__libc_malloc(size_t);
+extern void *__libc_calloc(size_t, size_t);
+extern void *__libc_realloc(void *, size_t);
+
+__attribute__((constructor)) static void begin(void)
+{
+    const char *text = getenv("REFUSE");
+    if (text) {
+        const char *number = strchr(text, ' ');
+        at = number ? atol(number) : 0;
+        calls = 0;
+        kind = text[0];
+    }
+}
+
+/* Whether this call of the kind is the one. */
+static int refused(char which)
+{
+    return kind == which && ++calls == at;
+}
+
+static ssize_t (*next_write(void))(int, const void *, size_t)
+{
+    return (ssize_t (*)(int, const void *, size_t))dlsym(RTLD_NEXT, "write");
+}
+
+__attribute__((destructor)) static void end(void)
+{
+    char text[32];
+    long seen = calls;
+    kind = 0;
+    int length = snprintf(text, sizeof text, "%ld\n", seen);
+    if (next_write()(9, text, length) < 0)
+        return;
+}
+
+void *malloc(size_t size)
+{
+    if (refused('a')) {
+        errno = ENOMEM;
+        return NULL;
+    }
+    return __libc_malloc(size);
+}
+
+void *calloc(size_t count, size_t size)
+{
+    if (refused('a')) {
+        errno = ENOMEM;
+        return NULL;
+    }
+    return __libc_calloc(count, size);
+}
+
+void *realloc(void *block, size_t size)
+{
+    if (refused('a')) {
+        errno = ENOMEM;
+        return NULL;
+    }
+    return __libc_realloc(block, size);
+}
+
+ssize_t read(int fd, void *bytes, size_t size)
+{
+    ssize_t (*next)(int, void *, size_t) = (ssize_t (*)(int, void *, size_t))dlsym(RTLD_NEXT, "read");
+    if (refused('i')) {
+        errno = EIO;
+        return -1;
+    }
+    return next(fd, bytes, size > 1 && refused('s') ? 1 : size);
+}
+
+ssize_t write(int fd, const void *bytes, size_t size)
+{
+    if (refused('i')) {
+        errno = EIO;
+        return -1;
+    }
+    return next_write()(fd, bytes, size > 1 && refused('s') ? 1 : size);
+}
+
+int open(const char *path, int flags, ...)
+{
+    int (*next)(const char *, int, ...) = (int (*)(const char *, int, ...))dlsym(RTLD_NEXT, "open");
+    va_list rest;
+    va_start(rest, flags);
+    int mode = va_arg(rest, int);
+    va_end(rest);
+    if (refused('i')) {
+        errno = EIO;
+        return -1;
+    }
+    return next(path, flags, mode);
+}
+
+int fsync(int fd)
+{
+    int (*next)(int) = (int (*)(int))dlsym(RTLD_NEXT, "fsync");
+    if (refused('i')) {
+        errno = EIO;
+        return -1;
+    }
+    return next(fd);
+}
