@@ -1,8 +1,8 @@
 /* Makes one call of a program fail, for refusals.py, which loads it in front of the C library.
 
-   REFUSE has a kind and a number. `alloc N`: call N of malloc, calloc or realloc has no memory. `io N`: call N of
-   read, write, open or fsync fails with EIO. `short N`: call N of read or write that would move several bytes moves
-   one. At the end the number of calls of that kind is put on descriptor 9. */
+   REFUSE has a kind and a number. `alloc N`: call N of malloc or realloc has no memory. `io N`: call N of read, pread,
+   write or open fails with EIO. `short N`: call N of read, pread or write that would move several bytes moves one. At
+   the end the number of calls of that kind is put on descriptor 9. */
 #define _GNU_SOURCE
 #include <dlfcn.h>
 #include <errno.h>
@@ -17,7 +17,6 @@ static char kind;
 static long at, calls;
 
 extern void *__libc_malloc(size_t);
-extern void *__libc_calloc(size_t, size_t);
 extern void *__libc_realloc(void *, size_t);
 
 __attribute__((constructor)) static void begin(void)
@@ -59,15 +58,6 @@ void *malloc(size_t size)
         return NULL;
     }
     return __libc_malloc(size);
-}
-
-void *calloc(size_t count, size_t size)
-{
-    if (refused('a')) {
-        errno = ENOMEM;
-        return NULL;
-    }
-    return __libc_calloc(count, size);
 }
 
 void *realloc(void *block, size_t size)
@@ -112,12 +102,18 @@ int open(const char *path, int flags, ...)
     return next(path, flags, mode);
 }
 
-int fsync(int fd)
+ssize_t pread(int fd, void *bytes, size_t size, off_t offset)
 {
-    int (*next)(int) = (int (*)(int))dlsym(RTLD_NEXT, "fsync");
+    ssize_t (*next)(int, void *, size_t, off_t) =
+        (ssize_t (*)(int, void *, size_t, off_t))dlsym(RTLD_NEXT, "pread");
     if (refused('i')) {
         errno = EIO;
         return -1;
     }
-    return next(fd);
+    return next(fd, bytes, size > 1 && refused('s') ? 1 : size, offset);
+}
+
+ssize_t __write(int fd, const void *bytes, size_t size)
+{
+    return write(fd, bytes, size);
 }
