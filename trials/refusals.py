@@ -82,9 +82,8 @@ def fault_of(kind, words, target, entry, whole, got):
     if status != 0 and status not in KINDS[kind]:
         return f"ended with {status}"
     if status == 0:
-        # A note that could not be written changes no status; there is none here.
         return None if (output, notes, files) == whole else "another outcome with status 0"
-    if notes.count(b"\n") != 1 and kind != "io":
+    if notes.count(b"\n") != 1:
         return f"its notes are {notes!r}"
     if not whole[0].startswith(output):
         return "its output is no prefix"
