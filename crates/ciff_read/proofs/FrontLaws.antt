@@ -133,15 +133,15 @@ module _ (at : ℕ) (m n : Message) (from : n.from ≡ m.from) (body : n.body �
   ends : message_end n ≡ message_end m
   ends i = from i + length (body i)
 
-  header_same : header_at at m ≡ header_at at n
+  pub header_same : header_at at m ≡ header_at at n
   unfolding header_at
   header_same = sym (ap (header_at at) (same_message m n from body))
 
-  list_same : (docs before : ℕ) (terms : List (List ℕ)) → list_at docs before terms at m ≡ list_at docs before terms at n
+  pub list_same : (docs before : ℕ) (terms : List (List ℕ)) → list_at docs before terms at m ≡ list_at docs before terms at n
   unfolding list_at
   list_same docs before terms = sym (ap (list_at docs before terms at) (same_message m n from body))
 
-  doc_same : (docs : ℕ) (numbers : List ℕ) → doc_at docs numbers at m ≡ doc_at docs numbers at n
+  pub doc_same : (docs : ℕ) (numbers : List ℕ) → doc_at docs numbers at m ≡ doc_at docs numbers at n
   unfolding doc_at
   doc_same docs numbers = sym (ap (doc_at docs numbers at) (same_message m n from body))
 

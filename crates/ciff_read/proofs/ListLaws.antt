@@ -1,10 +1,10 @@
 -- The lists that are read are those of the messages, and those of the messages are read.
-use Rattle.std.proofs.Common.{◌≡◌, ℕ, zero, suc, ◌+◌, ◌^◌, ◌<◌, ◌≤◌, Bool, true, false, List, [], ◌∷◌, ◌++◌, length, map, Result, Ok, Err, refl, sym, ap, subst, ◌∙◌, append_assoc, arith}
+use Rattle.std.proofs.Common.{◌≡◌, ℕ, zero, suc, ◌+◌, ◌^◌, ◌≤◌, Bool, true, false, List, [], ◌∷◌, ◌++◌, length, map, Result, Ok, refl, sym, ap, subst, ◌∙◌, append_assoc, arith}
 use Rattle.std.specs.Prelude.{◌||◌, ⊤}
-use Rattle.std.specs.List.{AllZip, AllByRecursion, IsDistinct, list_any}
+use Rattle.std.specs.List.{AllZip, AllByRecursion, IsDistinct}
 use Rattle.std.specs.Str.{bytes_eq}
 use Rattle.std.proofs.lemmas.Cmp.{nat_list_eq_equiv}
-use Rattle.std.proofs.lemmas.List.{append-nil, length-append}
+use Rattle.std.proofs.lemmas.List.{length-append}
 use Rattle.std.proofs.lemmas.List.Folds.{list_any-append}
 use Rattle.std.proofs.lemmas.List.Sums.{sum_by-cons}
 use Rattle.jass_base.specs.Ciff.{ListData, IsList, postings_count}
@@ -13,8 +13,8 @@ use Rattle.ciff_read.specs.declared.refusal.CiffRefusal.{CiffRefusal}
 use Rattle.ciff_read.specs.Reading.{Message, ListsRead, message_end, message_at, list_at, lists_at}
 use Rattle.ciff_read.specs.Refusals.{◌>>=◌}
 use Rattle.ciff_read.specs.Seen.{is_seen}
-use Rattle.ciff_read.proofs.MessageLaws.{MessageFound, message_found, message_only}
-use Rattle.ciff_read.proofs.PartLaws.{ListFound, list_found, list_read}
+use Rattle.ciff_read.proofs.MessageLaws.{message_found, message_only}
+use Rattle.ciff_read.proofs.PartLaws.{list_found, list_read}
 use Rattle.ciff_read.proofs.WireLaws.{WireLaws, bound, done_is}
 
 -- ---- terms that differ

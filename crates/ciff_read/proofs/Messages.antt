@@ -1,19 +1,15 @@
 -- A message that is read from its length.
-use Rattle.std.proofs.Common.{◌≡◌, ℕ, ◌+◌, ◌-◌, ◌^◌, ◌<◌, ◌≤◌, true, false, List, length, take, drop, Result, Ok, Err, refl, sym, ap, subst, ◌∙◌, arith}
+use Rattle.std.proofs.Common.{◌≡◌, ℕ, ◌+◌, ◌-◌, ◌^◌, ◌<◌, ◌≤◌, true, false, List, length, take, drop, Ok, Err, refl, sym, ap, subst, ◌∙◌, arith}
 use Rattle.std.specs.Prelude.{nat_lt, slice_range}
 use Rattle.std.proofs.lemmas.Bool.Decides.{nat_tests}
 use Rattle.std.proofs.lemmas.List.{length-drop, drop-drop, drop-take}
-use Rattle.wire_fields.specs.declared.fault.WireWhy.{WireWhy}
 use Rattle.wire_fields.specs.declared.fault.WireFault.{WireFault}
-use Rattle.wire_fields.specs.Places.{ReadsVarint}
 use Rattle.wire_fields.specs.Reading.{varint_at}
-use Rattle.ciff_read.specs.declared.refusal.CiffWhy.{CiffWhy}
 use Rattle.ciff_read.specs.declared.refusal.CiffWhy.TheVariants.{Cut, Limit}
-use Rattle.ciff_read.specs.declared.refusal.CiffRefusal.{CiffRefusal}
 use Rattle.ciff_read.specs.declared.refusal.CiffFault.{CiffFault}
 use Rattle.ciff_read.specs.declared.refusal.CiffFault.TheVariants as faults
-use Rattle.ciff_read.specs.Reading.{Message, message_at, body_at}
-use Rattle.ciff_read.specs.Refusals.{◌>>=◌, why_of, placed, field_placed, Fails}
+use Rattle.ciff_read.specs.Reading.{message_at, body_at}
+use Rattle.ciff_read.specs.Refusals.{why_of, placed, Fails}
 
 -- the bytes from a place on, up to a later place
 pub body_there : (bytes : List ℕ) (from end : ℕ) → from ≤ end → drop from (take end bytes) ≡ slice_range bytes from end

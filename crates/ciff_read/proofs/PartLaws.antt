@@ -1,26 +1,25 @@
 -- What is read as a header or a list is one, and each is read.
-use Rattle.std.proofs.Common.{◌≡◌, ℕ, ◌+◌, ◌-◌, ◌^◌, ◌<◌, ◌≤◌, Bool, true, false, not, cond, List, [], ◌∷◌, ◌++◌, length, All, Result, Ok, Err, refl, sym, ap, subst, ◌∙◌, arith}
-use Rattle.std.specs.Prelude.{nat_lt, nat_le, ◌||◌, fold}
+use Rattle.std.proofs.Common.{◌≡◌, ℕ, ◌+◌, ◌^◌, ◌<◌, ◌≤◌, Bool, true, false, not, cond, List, [], length, Result, Ok, Err, refl, sym, ap, subst, ◌∙◌, arith}
+use Rattle.std.specs.Prelude.{nat_lt, ◌||◌}
 use Rattle.std.specs.Str.{IsUtf8, is_utf8}
-use Rattle.std.specs.List.{AllZip, AllByRecursion}
 use Rattle.std.proofs.lemmas.Bool.Decides.{nat_tests}
 use Rattle.std.proofs.lemmas.Str.{IsUtf8-from_is_utf8, is_utf8-from_IsUtf8}
 use Rattle.std.proofs.lemmas.List.Elements.{All-nil}
 use Rattle.jass_base.specs.declared.posting.Posting.{Posting}
-use Rattle.jass_base.specs.Ciff.{HeaderData, ListData, FitsHeader, IsHeader, FitsList, IsList, ArePostings, header_of}
-use Rattle.jass_base.specs.Postings.{docs_of, HasTfInRange}
-use Rattle.jass_base.specs.Wire.{WireField, AreFields, number_field, text_field, texts_field}
+use Rattle.jass_base.specs.Ciff.{HeaderData, ListData, IsHeader, IsList, ArePostings}
+use Rattle.jass_base.specs.Postings.{HasTfInRange}
+use Rattle.jass_base.specs.Wire.{texts_field}
 use Rattle.ciff_read.specs.declared.refusal.CiffWhy.{CiffWhy}
 use Rattle.ciff_read.specs.declared.refusal.CiffWhy.TheVariants.{Range, Text, TermTwice, Limit}
 use Rattle.ciff_read.specs.declared.refusal.CiffRefusal.{CiffRefusal}
-use Rattle.ciff_read.specs.Judging.{FileStart, ListStart, start_of, list_start_of, over31, over63, judge_header, judge_list, postings_of, gather}
+use Rattle.ciff_read.specs.Judging.{FileStart, ListStart, start_of, list_start_of, over31, over63, judge_header, judge_list, postings_of}
 use Rattle.ciff_read.specs.Kept.{AreKept}
 use Rattle.ciff_read.specs.Reading.{Message, ListWalk, start_at, list_walk_at, header_at, list_at}
 use Rattle.ciff_read.specs.Refusals.{◌>>=◌, placed}
 use Rattle.ciff_read.specs.Seen.{is_seen}
-use Rattle.ciff_read.specs.Walking.{Walked, PlacedEntry, walk, nothing_inside, entry_inside}
+use Rattle.ciff_read.specs.Walking.{Walked, walk, nothing_inside, entry_inside}
 use Rattle.ciff_read.proofs.PostingLaws.{gather_found, gather_only, have_fields, rise_there}
-use Rattle.ciff_read.proofs.WalkLaws.{IsEntryOf, fields_found, entries_found, fields_only, list_only}
+use Rattle.ciff_read.proofs.WalkLaws.{fields_found, entries_found, fields_only, list_only}
 use Rattle.ciff_read.proofs.WireLaws.{WireLaws, bound, done_is, unplaced}
 
 three_passed : {A : Type 0} (a b c : Bool) (u v w : CiffWhy) (x y : A) → (let r : Result A CiffWhy = cond a (Err u) (cond b (Err v) (cond c (Err w) (Ok x))) in r) ≡ Ok y → (a ≡ false) × (b ≡ false) × (c ≡ false) × (x ≡ y)

@@ -56,7 +56,7 @@ module _ (bytes : List ℕ) (body : Body) (at : ℕ) where
     list_walks_not answer fails = fails_on answer (list_walk_at body.from (slice_range bytes body.from body.end)) (λ walked. placed at (judge_list terms walked.start) >>= λ start. list_rest walked start) (fails_as answer _ _ (ap (list_walk_at body.from) same) fails)
 
     module _ (walked : ListWalk) (is : list_walk_at body.from (cut_body bytes body) ≡ Ok walked) where
-      list_judged : list_at docs before terms at (message_in bytes body) ≡ (placed at (judge_list terms walked.start) >>= λ start. list_rest walked start)
+      pub list_judged : list_at docs before terms at (message_in bytes body) ≡ (placed at (judge_list terms walked.start) >>= λ start. list_rest walked start)
       unfolding list_at
       list_judged = ap (λ (r : Result ListWalk CiffRefusal). r >>= λ walked. placed at (judge_list terms walked.start) >>= λ start. list_rest walked start) (ap (list_walk_at body.from) (sym same) ∙ is)
 

@@ -1,14 +1,13 @@
 -- The postings that are gathered are those of the bodies, and those of the bodies are gathered.
-use Rattle.std.proofs.Common.{◌≡◌, ℕ, zero, suc, ◌+◌, ◌-◌, ◌^◌, ◌<◌, ◌≤◌, Bool, true, false, cond, List, [], ◌∷◌, ◌++◌, length, get_or, map, All, Result, Ok, Err, refl, sym, ap, subst, ◌∙◌, append_assoc, arith}
-use Rattle.std.specs.Prelude.{fold, ◌==◌, ◌||◌, ◌&&◌, nat_lt, nat_le, ⊤}
+use Rattle.std.proofs.Common.{◌≡◌, ℕ, suc, ◌+◌, ◌^◌, ◌<◌, ◌≤◌, Bool, true, false, List, [], ◌∷◌, ◌++◌, length, get_or, All, Result, Ok, Err, refl, sym, ap, subst, ◌∙◌, append_assoc, arith}
+use Rattle.std.specs.Prelude.{fold, ◌==◌, ◌&&◌, nat_lt, nat_le, ⊤}
 use Rattle.std.specs.List.{AllZip, AllByRecursion}
 use Rattle.std.specs.List.Sorted.{IsStrictlyIncreasing}
 use Rattle.std.proofs.lemmas.Bool.Decides.{nat_tests}
 use Rattle.std.proofs.lemmas.List.{append-nil, length-append, length-map}
 use Rattle.jass_base.specs.declared.posting.Posting.{Posting}
-use Rattle.jass_base.specs.Ciff.{IsPosting, ArePostings}
+use Rattle.jass_base.specs.Ciff.{ArePostings}
 use Rattle.jass_base.specs.Postings.{docs_of, HasTfInRange}
-use Rattle.jass_base.specs.Wire.{WireField, AreFields, number_field}
 use Rattle.ciff_read.specs.declared.entry.Entry.{Entry}
 use Rattle.ciff_read.specs.declared.refusal.CiffWhy.{CiffWhy}
 use Rattle.ciff_read.specs.declared.refusal.CiffRefusal.{CiffRefusal}
@@ -20,7 +19,7 @@ use Rattle.ciff_read.proofs.Postings.{Follows, judge_follows, judge_is, kept-sno
 use Rattle.ciff_read.proofs.WalkLaws.{IsEntryOf, HasFields, fields_same}
 use Rattle.ciff_read.proofs.WireLaws.{WireLaws, done_is}
 
-refused_stays : (docs before : ℕ) (refusal : CiffRefusal) (entries : List PlacedEntry) → fold (gather docs before) (Err refusal) entries ≡ Err refusal
+pub refused_stays : (docs before : ℕ) (refusal : CiffRefusal) (entries : List PlacedEntry) → fold (gather docs before) (Err refusal) entries ≡ Err refusal
 refused_stays docs before refusal [] = refl
 refused_stays docs before refusal (x ∷ xs) = refused_stays docs before refusal xs
 

@@ -58,7 +58,7 @@ pub All-one : {X : Type 0} (P : X → Type 0) (x : X) → P x → All P (x ∷ [
 All-one P x h zero d lt = h
 All-one P x h (suc k) d lt = absurd (omega arith)
 
-rising-snoc : (xs : List ℕ) (last x : ℕ) → IsStrictlyIncreasing xs → All (λ y. y ≤ last) xs → (0 < length xs → last < x) → IsStrictlyIncreasing (xs ++ x ∷ [])
+pub rising-snoc : (xs : List ℕ) (last x : ℕ) → IsStrictlyIncreasing xs → All (λ y. y ≤ last) xs → (0 < length xs → last < x) → IsStrictlyIncreasing (xs ++ x ∷ [])
 rising-snoc xs last x rising up above k lt =
     elim (cases_lt (k + 1) (length xs)) [
       | inl inside ↦ rw (get_or_append_left xs (x ∷ []) 0 k (omega arith), get_or_append_left xs (x ∷ []) 0 (k + 1) inside) (rising k inside)

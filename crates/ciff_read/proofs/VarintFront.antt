@@ -1,8 +1,8 @@
 -- A varint is read from the first ten bytes.
-use Rattle.std.proofs.Common.{◌≡◌, ℕ, zero, suc, ◌+◌, ◌-◌, ◌*◌, ◌%◌, ◌<◌, ◌≤◌, Bool, true, false, cond, List, [], ◌∷◌, length, take, Result, Ok, Err, refl, sym, ap, subst, ◌∙◌, arith}
+use Rattle.std.proofs.Common.{◌≡◌, ℕ, zero, suc, ◌+◌, ◌-◌, ◌*◌, ◌%◌, ◌≤◌, Bool, true, false, cond, List, [], ◌∷◌, length, take, Result, Ok, Err, refl, ap, ◌∙◌, arith}
 use Rattle.std.specs.Prelude.{nat_lt}
 use Rattle.wire_fields.specs.declared.fault.WireWhy.{WireWhy}
-use Rattle.wire_fields.specs.declared.fault.WireWhy.TheVariants.{Cut, LongVarint}
+use Rattle.wire_fields.specs.declared.fault.WireWhy.TheVariants.{LongVarint}
 use Rattle.wire_fields.specs.Reading.{◌>>=◌, varint_at, varint_within}
 
 -- two readings that end alike: with values that R ties, or with the same refusal

@@ -1,10 +1,10 @@
 -- What is walked is the fields of the body, and the fields of a body are walked.
-use Rattle.std.proofs.Common.{◌≡◌, ℕ, zero, suc, ◌+◌, ◌-◌, ◌<◌, ◌≤◌, Bool, true, false, cond, List, [], ◌∷◌, ◌++◌, length, Result, Ok, Err, refl, sym, ap, subst, ◌∙◌, arith}
-use Rattle.std.specs.Prelude.{◌==◌, ⊤}
-use Rattle.std.specs.List.{AllZip, AllByRecursion, flat_map}
+use Rattle.std.proofs.Common.{◌≡◌, ℕ, zero, suc, ◌+◌, ◌-◌, ◌<◌, ◌≤◌, Bool, true, false, cond, List, [], ◌∷◌, ◌++◌, length, Result, Ok, refl, sym, ap, subst, ◌∙◌, arith}
+use Rattle.std.specs.Prelude.{◌==◌}
+use Rattle.std.specs.List.{AllZip, AllByRecursion}
 use Rattle.std.proofs.lemmas.List.{length-append}
 use Rattle.std.proofs.lemmas.List.Concat.{flat_map-cons}
-use Rattle.jass_base.specs.Wire.{WireField, WireValue, Number, Eight, Text, Four, Spells, IsField, AreFields, texts_in, texts_field}
+use Rattle.jass_base.specs.Wire.{WireField, WireValue, Number, Eight, Text, Four, IsField, AreFields, texts_in, texts_field}
 use Rattle.wire_fields.specs.Reading.{field_at}
 use Rattle.ciff_read.specs.declared.entry.Entry.{Entry}
 use Rattle.ciff_read.specs.declared.refusal.CiffRefusal.{CiffRefusal}

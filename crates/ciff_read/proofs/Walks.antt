@@ -1,5 +1,5 @@
 -- Walking a body field by field, as the loops do.
-use Rattle.std.proofs.Common.{◌≡◌, ℕ, zero, suc, ◌+◌, ◌-◌, ◌<◌, ◌≤◌, List, [], ◌∷◌, ◌++◌, length, get_or, drop, Result, Ok, Err, refl, sym, ap, subst, ◌∙◌, arith, append_assoc, drop-cons}
+use Rattle.std.proofs.Common.{◌≡◌, ℕ, zero, suc, ◌+◌, ◌-◌, ◌<◌, ◌≤◌, List, [], ◌∷◌, ◌++◌, length, drop, Result, Ok, Err, refl, sym, ap, subst, ◌∙◌, arith, append_assoc}
 use Rattle.std.proofs.lemmas.List.{append-nil, drop_all, length-drop}
 use Rattle.jass_base.specs.Wire.{WireField}
 use Rattle.wire_fields.specs.declared.fault.WireWhy.{WireWhy}
@@ -9,7 +9,7 @@ use Rattle.wire_fields.specs.declared.fault.WireFault.{WireFault}
 use Rattle.wire_fields.specs.Places.{ReadsField}
 use Rattle.ciff_read.specs.declared.refusal.CiffFault.{CiffFault}
 use Rattle.ciff_read.specs.declared.refusal.CiffFault.TheVariants as faults
-use Rattle.ciff_read.specs.Refusals.{◌>>=◌, why_of, field_placed, Fails}
+use Rattle.ciff_read.specs.Refusals.{◌>>=◌, why_of, Fails}
 use Rattle.ciff_read.specs.Walking.{PlacedEntry, Walked, in_front, walk, walk_within}
 
 -- what was walked before, and what is walked later

@@ -1,5 +1,5 @@
 -- What is known of reading varints and fields.
-use Rattle.std.proofs.Common.{◌≡◌, ℕ, ◌+◌, ◌<◌, ◌≤◌, List, [], ◌∷◌, ◌++◌, length, Result, Ok, Err, refl, ap, arith}
+use Rattle.std.proofs.Common.{◌≡◌, ℕ, ◌<◌, List, [], ◌∷◌, ◌++◌, length, Result, Ok, Err, refl, ap, arith}
 use Rattle.std.proofs.lemmas.List.{length-append}
 use Rattle.jass_base.specs.Wire.{WireField, AreGroups, IsVarint, IsField}
 use Rattle.wire_fields.specs.declared.fault.WireWhy.{WireWhy}

@@ -3,7 +3,7 @@ use Rattle.std.specs.Prelude.{ℕ, ◌≡◌, ⊤, Result, Ok, Err}
 use Rattle.wire_fields.specs.declared.fault.WireWhy.{WireWhy}
 use Rattle.wire_fields.specs.declared.fault.WireWhy.TheVariants as wire
 use Rattle.ciff_read.specs.declared.refusal.CiffWhy.{CiffWhy}
-use Rattle.ciff_read.specs.declared.refusal.CiffWhy.TheVariants.{Cut, Varint, Wire, Range, Text, Gap, DocRange, Tf, TermTwice, DocTwice, NameText, Trailing, Limit}
+use Rattle.ciff_read.specs.declared.refusal.CiffWhy.TheVariants.{Cut, Varint, Wire, Range, Text, Gap, DocRange, Tf, TermTwice, DocTwice, NameText, Trailing, Limit, Changed}
 use Rattle.ciff_read.specs.declared.refusal.CiffRefusal.{CiffRefusal}
 use Rattle.ciff_read.specs.declared.refusal.CiffFault.{CiffFault}
 use Rattle.ciff_read.specs.declared.refusal.CiffFault.TheVariants as faults
@@ -29,6 +29,18 @@ number_of DocTwice = 19
 number_of NameText = 20
 number_of Trailing = 21
 number_of Limit = 22
+number_of (Changed kept found) = 23
+
+-- a refusal of what was read once
+abbrev pub SaysNoChange : CiffWhy → Type 0
+SaysNoChange (Changed kept found) = ⊥
+SaysNoChange why = ⊤
+
+-- a fault that no reading before takes part in
+abbrev pub IsPlain : CiffFault → Type 0
+IsPlain (faults.Refused refusal) = SaysNoChange refusal.why
+IsPlain faults.ReadFault = ⊤
+IsPlain faults.NoMemory = ⊤
 
 -- what a fault in the fields is as a refusal
 abbrev pub why_of : WireWhy → CiffWhy

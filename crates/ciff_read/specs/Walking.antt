@@ -1,5 +1,5 @@
 -- Walking the fields of a body from the left, with the first fault and its place.
-use Rattle.std.specs.Prelude.{ℕ, zero, suc, ◌+◌, ◌-◌, ◌==◌, List, [], ◌∷◌, ◌++◌, length, Result, Ok, Err, if◌then◌else◌}
+use Rattle.std.specs.Prelude.{ℕ, zero, suc, ◌+◌, ◌-◌, ◌==◌, List, [], ◌∷◌, ◌++◌, length, Result, Ok, if◌then◌else◌}
 use Rattle.jass_base.specs.Wire.{WireField, WireValue, Number, Eight, Text, Four, number_field}
 use Rattle.wire_fields.specs.Reading.{field_at}
 use Rattle.ciff_read.specs.declared.entry.Entry.{Entry}

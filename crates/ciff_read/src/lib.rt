@@ -4,6 +4,7 @@
 //! collection, or answers the first refusal with its place.
 
 mod body;
+mod ciff_walk;
 mod collection;
 mod doc_fields;
 mod doc_set;
@@ -15,15 +16,27 @@ pub mod examples;
 mod file_head;
 mod gathered;
 mod header;
+mod kept_lists;
 pub mod laws;
 mod list_fields;
 mod message;
+mod moved_fault;
+mod piece;
 mod postings_list;
+mod reached_doc;
+mod reached_header;
+mod reached_list;
+mod reaching;
 mod refusal;
 mod terms;
 mod text;
+mod walked_doc;
+mod walked_list;
+mod window;
 
+pub use ciff_walk::CiffWalk;
 pub use collection::read_collection;
+pub use piece::Piece;
 pub use refusal::{CiffFault, CiffRefusal, CiffWhy};
 
 #[cfg(test)]

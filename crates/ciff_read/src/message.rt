@@ -5,7 +5,7 @@ use crate::refusal::{CiffFault, CiffWhy, refused, refused_field};
 use wire_fields::read_varint;
 
 /// The place behind the last byte that a file may have.
-const FILE_LIMIT: u64 = 4_294_967_296;
+pub const FILE_LIMIT: u64 = 4_294_967_296;
 
 /// Reads the length of the message at a place.
 pub fn read_length(bytes: &[u8], at: usize) -> Result<Body, CiffFault>

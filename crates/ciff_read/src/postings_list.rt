@@ -1,12 +1,11 @@
-ghost use Rattle.std.specs.Prelude.{◌≡◌, ◌+◌, ◌<◌, ◌≤◌, ◌^◌, false, length, map, [], ◌∷◌, ◌++◌, IfOk};
-ghost use Rattle.std.specs.Str.{IsUtf8};
+ghost use Rattle.std.specs.Prelude.{ℕ, ◌≡◌, ◌+◌, ◌≤◌, ◌^◌, false, List, length, map, [], ◌∷◌, ◌++◌, IfOk, IfErr};
 ghost use Rattle.jass_base.specs.CiffViews.{list_data};
 ghost use Rattle.jass_base.specs.Lists.{HasDocsBelow};
 ghost use Rattle.wire_fields.specs.Places.{IsWithin};
-ghost use Rattle.ciff_read.specs.Judging as judging;
-ghost use Rattle.ciff_read.specs.Places.{message_in, list_start_in, ReadsList, GathersField};
+ghost use Rattle.ciff_read.specs.Finishing.{finished};
+ghost use Rattle.ciff_read.specs.Places.{message_in, ReadsList, GathersField};
 ghost use Rattle.ciff_read.specs.Reading.{list_at};
-ghost use Rattle.ciff_read.specs.Refusals.{Gives, placed};
+ghost use Rattle.ciff_read.specs.Refusals.{Gives, Fails};
 ghost use Rattle.ciff_read.specs.Seen.{is_seen};
 
 use crate::body::Body;
@@ -16,8 +15,9 @@ use crate::list_fields::ListFields;
 use crate::refusal::{CiffFault, CiffWhy, refused, refused_field};
 use crate::terms::add_term;
 use crate::text::text_of;
+use crate::walked_list::WalkedList;
 use indexmap::IndexSet;
-use jass_base::{PostingsList, Text};
+use jass_base::PostingsList;
 use std::alloc::Global;
 use wire_fields::{Field, Value, next_field};
 
@@ -46,61 +46,58 @@ pub fn read_list<'a>(
     ensures exact { Gives list_data result
         (list_at docs before (map (λ t. t.now) terms.old.keys) at (message_in bytes.now body)) }
 {
+    let walked = match walk_one(alloc, bytes, at, body, docs, before) {
+        Ok(walked) => walked,
+        Err(fault) => return Err(fault),
+    };
+    let is_new = match add_term(terms, walked.term) {
+        Ok(is_new) => is_new,
+        Err(_) => return Err(CiffFault::NoMemory),
+    };
+    match walked.finish(alloc, at, is_new) {
+        Ok(list) => Ok(list),
+        Err(fault) => Err(fault),
+    }
+}
+
+/// Walks the list of the message at `at`, and judges its term by itself. Whether other lists
+/// have the term is left to the caller.
+pub fn walk_one<'a>(
+    alloc: Global,
+    bytes: &'a [u8],
+    at: usize,
+    body: Body,
+    docs: u32,
+    before: u64,
+) -> Result<WalkedList<'a>, CiffFault>
+    requires within { body.end ≤ length bytes.now }
+    requires docs { docs ≤ 2 ^ 26 }
+    requires before { before ≤ 2 ^ 29 }
+    ensures walked { IfOk result (λ list. (terms : List (List ℕ))
+        → list_at docs before terms at (message_in bytes.now body) ≡ finished (is_seen list.term.now terms) at list) }
+    ensures refused { IfErr result (λ fault. (terms : List (List ℕ))
+        → Fails fault (list_at docs before terms at (message_in bytes.now body))) }
+    ensures fits { IfOk result (λ list. length list.term.now ≤ 65535) }
+    ensures docs { IfOk result (λ list. list.gathered.docs ≡ docs) }
+    ensures before { IfOk result (λ list. list.gathered.before ≡ before) }
+{
     let mut gathered = Gathered::new(alloc, docs, before);
     let fields = match walk_list(&bytes[..body.end], body.from, &mut gathered) {
         Ok(fields) => fields,
         Err(fault) => return Err(fault),
     };
-    let term = match judge_list(at, fields, terms) {
-        Ok(term) => term,
-        Err(fault) => return Err(fault),
-    };
-    if let Some(refusal) = gathered.refusal {
-        return Err(CiffFault::Refused(refusal));
-    }
-    let Ok(term) = Text::from_str(alloc, term) else {
-        return Err(CiffFault::NoMemory);
-    };
-    let Gathered { postings, .. } = gathered;
-    Ok(PostingsList {
-        term,
-        df: fields.df,
-        cf: fields.cf,
-        postings,
-    })
-}
-
-/// Judges the fields beside the postings, and adds the term to those of the lists before.
-fn judge_list<'a>(
-    at: usize,
-    fields: ListFields<'a>,
-    terms: &mut IndexSet<&'a str>,
-) -> Result<&'a str, CiffFault>
-    ensures new { IfOk result (λ term. is_seen term.now (map (λ t. t.now) terms.old.keys) ≡ false) }
-    ensures terms { IfOk result (λ term. map (λ t. t.now) terms.new.keys
-        ≡ map (λ t. t.now) terms.old.keys ++ term.now ∷ []) }
-    ensures text { IfOk result (λ term. (term.now ≡ fields.entry.term.now) × IsUtf8 term.now) }
-    ensures fits { IfOk result (λ term. length term.now ≤ 65535) }
-    ensures df { IfOk result (λ term. fields.entry.df < 2 ^ 63) }
-    ensures cf { IfOk result (λ term. fields.entry.cf < 2 ^ 63) }
-    ensures exact { Gives (λ term. list_start_in fields.entry) result
-        (placed at (judging.judge_list (map (λ t. t.now) terms.old.keys) (list_start_in fields.entry))) }
-{
     let Some(term) = text_of(fields.term) else {
         return Err(refused(at, CiffWhy::Text));
     };
     if term.len() > LONGEST_TERM {
         return Err(refused(at, CiffWhy::Limit));
     }
-    match add_term(terms, term) {
-        Ok(true) => {}
-        Ok(false) => return Err(refused(at, CiffWhy::TermTwice)),
-        Err(_) => return Err(CiffFault::NoMemory),
-    }
-    if fields.df >= 1 << 63 || fields.cf >= 1 << 63 {
-        return Err(refused(at, CiffWhy::Range));
-    }
-    Ok(term)
+    Ok(WalkedList {
+        term,
+        df: fields.df,
+        cf: fields.cf,
+        gathered,
+    })
 }
 
 /// Walks the fields from a place to the end of `bytes`, and gathers the postings.

@@ -32,6 +32,9 @@ pub enum CiffWhy {
     Trailing,
     /// 22: a limit is passed.
     Limit,
+    /// 23: what is read again isn't what was read before: of two numbers that should agree the
+    /// one that was kept, and the one that was found. Never from `read_collection`.
+    Changed { kept: u64, found: u64 },
 }
 
 impl CiffWhy {
@@ -53,6 +56,7 @@ impl CiffWhy {
             CiffWhy::NameText => 20,
             CiffWhy::Trailing => 21,
             CiffWhy::Limit => 22,
+            CiffWhy::Changed { .. } => 23,
         }
     }
 }

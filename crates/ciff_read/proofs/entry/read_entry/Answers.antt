@@ -1,4 +1,4 @@
-use Rattle.std.proofs.Common.{◌≡◌, refl, ap, ◌∙◌, [], Result, Ok, arith, List, ℕ}
+use Rattle.std.proofs.Common.{refl, ap, ◌∙◌, [], Result, Ok}
 use Rattle.ciff_read.specs.declared.entry.Entry.{Entry}
 use Rattle.ciff_read.specs.declared.refusal.CiffRefusal.{CiffRefusal}
 use Rattle.ciff_read.specs.Refusals.{◌>>=◌}

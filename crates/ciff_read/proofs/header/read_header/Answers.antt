@@ -1,6 +1,4 @@
-use Rattle.std.proofs.Common.{◌≡◌, ap, sym, ◌∙◌, Ok, Err, List, ℕ, Result}
-use Rattle.ciff_read.specs.declared.refusal.CiffWhy.{CiffWhy}
-use Rattle.ciff_read.specs.Judging.{FileStart, judge_header}
+use Rattle.std.proofs.Common.{ap, sym, ◌∙◌, Ok, List, ℕ}
 use Rattle.ciff_read.specs.Places.{message_in, start_in}
 use Rattle.ciff_read.specs.Reading.{header_at}
 use Rattle.ciff_read.specs.Refusals.{placed}

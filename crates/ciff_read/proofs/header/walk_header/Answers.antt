@@ -1,7 +1,6 @@
-use Rattle.std.proofs.Common.{◌≡◌, refl, ap, ◌∙◌, [], List, ℕ, Result, Ok}
+use Rattle.std.proofs.Common.{refl, ap, ◌∙◌, [], Result, Ok}
 use Rattle.ciff_read.specs.declared.refusal.CiffRefusal.{CiffRefusal}
 use Rattle.ciff_read.specs.Judging.{FileStart, start_of}
-use Rattle.ciff_read.specs.Places.{start_in}
 use Rattle.ciff_read.specs.Refusals.{◌>>=◌}
 use Rattle.ciff_read.specs.Walking.{Walked, nothing_inside}
 use Rattle.wire_fields.specs.Places.{field_in}

@@ -1,14 +1,12 @@
-use Rattle.std.proofs.Common.{◌≡◌, refl, ap, ◌∙◌, [], List, ℕ, Result, Ok, subst}
+use Rattle.std.proofs.Common.{◌≡◌, refl, ap, ◌∙◌, Result, Ok}
 use Rattle.std.specs.Prelude.{fold}
-use Rattle.jass_base.specs.declared.posting.Posting.{Posting}
 use Rattle.ciff_read.specs.declared.refusal.CiffRefusal.{CiffRefusal}
 use Rattle.ciff_read.specs.Judging.{ListStart, list_start_of, gather}
-use Rattle.ciff_read.specs.Places.{list_start_in, gathered_of}
-use Rattle.ciff_read.specs.Reading.{ListWalk}
+use Rattle.ciff_read.specs.Places.{gathered_of}
 use Rattle.ciff_read.specs.Refusals.{◌>>=◌}
 use Rattle.ciff_read.specs.Walking.{Walked, entry_inside}
 use Rattle.wire_fields.specs.Places.{field_in}
-use Rattle.ciff_read.proofs.FieldValues.{IsListStart, list_start_is, number_more, text_more}
+use Rattle.ciff_read.proofs.FieldValues.{list_start_is, number_more, text_more}
 use Rattle.ciff_read.proofs.Parts.{gathers_more}
 use Rattle.ciff_read.proofs.Walks.{walks_start, walks_on, walks_end, walks_refused, walks_inside}
 use Rattle.ciff_read.proofs.postings_list.walk_list.Goals as goal

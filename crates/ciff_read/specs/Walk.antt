@@ -1,0 +1,201 @@
+-- A walk over a file as plain data, and the content that it stands for.
+use Rattle.std.specs.Prelude.{ℕ, ◌==◌, ◌||◌, ◌≡◌, ◌≢◌, ◌<◌, ◌≤◌, ◌^◌, ⊤, List, [], length, drop, All, Contains, MatchResult, Option, Some, None, Result, Ok, Err, IsSome}
+use Rattle.std.specs.List.Sorted.{IsStrictlyIncreasing}
+use Rattle.jass_base.specs.Ciff.{HeaderData, ListData}
+use Rattle.jass_base.specs.CiffViews.{list_data, doc_data}
+use Rattle.jass_base.specs.Outside.{Files, ForContent}
+use Rattle.ciff_read.specs.declared.refusal.CiffFault.{CiffFault}
+use Rattle.ciff_read.specs.declared.refusal.CiffFault.TheVariants as faults
+use Rattle.ciff_read.specs.declared.refusal.CiffRefusal.{CiffRefusal}
+use Rattle.ciff_read.specs.declared.refusal.CiffWhy.{CiffWhy}
+use Rattle.ciff_read.specs.declared.refusal.CiffWhy.TheVariants as whys
+use Rattle.ciff_read.specs.Judging.{is_among}
+use Rattle.ciff_read.specs.Marks.{is_marked}
+use Rattle.ciff_read.specs.Pieces.{KeptList, Progress, header_of_file, IsReached, list_of_file, postings_kept, terms_kept, places_kept, EndPiece, doc_of_file}
+use Rattle.jass_base.specs.declared.postings_list.PostingsList.{PostingsList}
+use Rattle.jass_base.specs.declared.doc_record.DocRecord.{DocRecord}
+use Rattle.ciff_read.specs.Reached.{GivesReading, MarksOf}
+use Rattle.ciff_read.specs.Reaching.{FailsReading}
+use Rattle.ciff_read.specs.Reading.{Message, message_at, list_at, at_end}
+use Rattle.ciff_read.specs.Window.{AreFrom}
+
+-- what a walk is: the file's name; what it keeps of the file up to a place; the numbers of the documents that it has given, as marked
+-- bits, and how many these are; the error that it has answered; and the bytes of the file that it holds, from a place on
+pub record WalkView : Type 0 where
+  pub name : List ℕ
+  pub header : Option HeaderData
+  pub lists : ℕ
+  pub docs : ℕ
+  pub at : ℕ
+  pub kept : List KeptList
+  pub marks : List ℕ
+  pub given : ℕ
+  pub answered : Option CiffFault
+  pub start : ℕ
+  pub bytes : List ℕ
+
+-- the ranges that hold whether or not the content is told
+pub record KeepsRanges (w : WalkView) : Type 0 where
+  pub few_lists : w.lists ≤ 2 ^ 24
+  pub few_docs : w.docs ≤ 2 ^ 26
+  pub few_postings : postings_kept w.kept ≤ 2 ^ 29
+  pub lists_given : length w.kept ≤ w.lists
+  pub docs_given : w.given ≤ w.docs
+  pub near : w.at ≤ 2 ^ 32
+  pub rising : IsStrictlyIncreasing (places_kept w.kept)
+  pub before : All (λ (k : KeptList). k.at < w.at) w.kept
+
+-- the same of the parts of a walk
+pub record IsInRange (lists docs at given postings : ℕ) (kept : List KeptList) : Type 0 where
+  pub few_lists : lists ≤ 2 ^ 24
+  pub few_docs : docs ≤ 2 ^ 26
+  pub counted : postings ≡ postings_kept kept
+  pub few_postings : postings ≤ 2 ^ 29
+  pub lists_given : length kept ≤ lists
+  pub docs_given : given ≤ docs
+  pub near : at ≤ 2 ^ 32
+  pub rising : IsStrictlyIncreasing (places_kept kept)
+  pub before : All (λ (k : KeptList). k.at < at) kept
+
+-- a walk over the file of a name that has given nothing yet
+pub record Begins (name : List ℕ) (w : WalkView) : Type 0 where
+  pub name_is : w.name ≡ name
+  pub header : IsSome w.header
+  pub kept : w.kept ≡ []
+  pub given : w.given ≡ 0
+  pub answered : w.answered ≡ None
+
+-- the walk keeps what was given
+pub record Keeps (w : WalkView) (p : Progress) : Type 0 where
+  pub header : w.header ≡ p.header
+  pub lists : w.lists ≡ p.lists
+  pub docs : w.docs ≡ p.docs
+  pub at : w.at ≡ p.at
+  pub kept : w.kept ≡ p.kept
+  pub given : w.given ≡ length p.numbers
+  pub marks : (n : ℕ) → is_marked w.marks n ≡ is_among n p.numbers
+
+-- no check fails before the walk's place, what it keeps is what the messages there hold, and what it holds is of the content
+pub record Stands (content : List ℕ) (w : WalkView) : Type 0 where
+  pub progress : Progress
+  pub reached : IsReached content progress
+  pub keeps : Keeps w progress
+  pub shows : AreFrom content w.start w.bytes
+
+-- the same of a walk that has answered no error
+abbrev pub StandsFor : List ℕ → WalkView → Type 0
+StandsFor content w = w.answered ≡ None → Stands content w
+
+-- the condition of a call: the walk stands for the content under its name, where it is told
+abbrev pub StandsTold : Option Files → WalkView → Type 0
+StandsTold files w = ForContent files w.name (λ content. StandsFor content w)
+
+-- a walk that was opened has given nothing, and stands for the content that was read; a refusal is that of the header
+abbrev pub Opens : List ℕ → Result WalkView CiffFault → Type 0
+Opens content (Ok w) = StandsFor content w
+Opens content (Err fault) = FailsReading fault (header_of_file content)
+
+-- the list that stands at a place of the content
+pub record IsListAt (content : List ℕ) (docs at : ℕ) (list : ListData) : Type 0 where
+  pub message : Message
+  pub there : message_at at (drop at content) ≡ Ok message
+  pub judged : list_at docs 0 [] at message ≡ Ok list
+
+-- a list that was given stands at the place, and has so many postings
+abbrev pub HasKept : List KeptList → ℕ → ℕ → Type 0
+HasKept kept at count = (k : KeptList) × Contains kept k × (k.at ≡ at) × (k.count ≡ count)
+
+abbrev pub IsGiven : List KeptList → ℕ → Type 0
+IsGiven kept at = (k : KeptList) × Contains kept k × (k.at ≡ at)
+
+-- a fault of the world, and no refusal
+abbrev pub IsOutside : CiffFault → Type 0
+IsOutside (faults.Refused refusal) = ⊥
+IsOutside faults.ReadFault = ⊤
+IsOutside faults.NoMemory = ⊤
+
+-- of a content that is told a list that was given is found again, where the walk has answered no error
+abbrev pub FindsAgain : Option Files → WalkView → ℕ → Result PostingsList CiffFault → Type 0
+FindsAgain files old at result =
+    ForContent files old.name (λ content. old.answered ≡ None → MatchResult result (λ list. IsListAt content old.docs at (list_data list)) IsOutside)
+
+-- a refusal for another number of postings than the kept one says both numbers, and stands at the list's place
+abbrev pub SaysChange : List KeptList → ℕ → CiffRefusal → CiffWhy → Type 0
+SaysChange kept at refusal (whys.Changed k f) = (refusal.at ≡ at) × HasKept kept at k × (k ≢ f)
+SaysChange kept at refusal why = ⊤
+
+abbrev pub ChangesOnly : List KeptList → ℕ → CiffFault → Type 0
+ChangesOnly kept at (faults.Refused refusal) = SaysChange kept at refusal refusal.why
+ChangesOnly kept at fault = ⊤
+
+-- what reading a list again leaves: all but what is held of the file, and the error that is answered
+pub record LeavesWalk (old new : WalkView) : Type 0 where
+  pub name : new.name ≡ old.name
+  pub header : new.header ≡ old.header
+  pub lists : new.lists ≡ old.lists
+  pub docs : new.docs ≡ old.docs
+  pub at : new.at ≡ old.at
+  pub kept : new.kept ≡ old.kept
+  pub marks : new.marks ≡ old.marks
+  pub given : new.given ≡ old.given
+
+-- an error, once it is answered, is answered at each later call, and the walk stays
+abbrev pub SameError : {T : Type 0} → WalkView → WalkView → Result T CiffFault → Type 0
+SameError old now result = (fault : CiffFault) → old.answered ≡ Some fault → (result ≡ Err fault) × (now ≡ old)
+
+-- an error that is answered is kept
+abbrev pub KeepsError : {T : Type 0} → WalkView → Result T CiffFault → Type 0
+KeepsError now (Ok x) = ⊤
+KeepsError now (Err fault) = now.answered ≡ Some fault
+
+-- what the giving of a message leaves
+pub record LeavesOthers (old new : WalkView) : Type 0 where
+  pub name : new.name ≡ old.name
+  pub header : new.header ≡ old.header
+  pub lists : new.lists ≡ old.lists
+  pub docs : new.docs ≡ old.docs
+  pub marks : new.marks ≡ old.marks
+  pub given : new.given ≡ old.given
+  pub answered : new.answered ≡ old.answered
+
+-- a list as it is kept
+abbrev pub kept_of : ℕ → PostingsList → KeptList
+kept_of at list = record { term = list.term; at = at; count = length list.postings }
+
+-- the list that was given is the one at the walk's place, and the walk stands behind it
+abbrev pub ListGiven : Option Files → WalkView → WalkView → Result PostingsList CiffFault → Type 0
+ListGiven files old new result =
+    ForContent files old.name (λ content. AreFrom content old.start old.bytes → GivesReading (λ (list : PostingsList). record { list = list_data list; end = new.at }) result (list_of_file content old.docs (postings_kept old.kept) (terms_kept old.kept) old.at))
+
+-- what is held of a content stays so
+abbrev pub StaysHeld : Option Files → WalkView → WalkView → Type 0
+StaysHeld files old new = ForContent files old.name (λ content. AreFrom content old.start old.bytes → AreFrom content new.start new.bytes)
+
+-- what the giving of a document leaves, and what the end of a file leaves
+pub record LeavesLists (old new : WalkView) : Type 0 where
+  pub name : new.name ≡ old.name
+  pub header : new.header ≡ old.header
+  pub lists : new.lists ≡ old.lists
+  pub docs : new.docs ≡ old.docs
+  pub kept : new.kept ≡ old.kept
+  pub answered : new.answered ≡ old.answered
+
+pub record LeavesPlace (old new : WalkView) : Type 0 where
+  pub at : new.at ≡ old.at
+  pub marks : new.marks ≡ old.marks
+  pub given : new.given ≡ old.given
+
+-- one number more is marked
+abbrev pub OneMore : List ℕ → List ℕ → ℕ → Type 0
+OneMore old new number = (n : ℕ) → is_marked new n ≡ (n == number || is_marked old n)
+
+-- the document that was given is the one at the walk's place, and the walk stands behind it
+abbrev pub DocGiven : Option Files → WalkView → WalkView → Result (ℕ × DocRecord) CiffFault → Type 0
+DocGiven files old new result =
+    ForContent files old.name (λ content. AreFrom content old.start old.bytes → (numbers : List ℕ) → MarksOf old.marks numbers
+    → GivesReading (λ (x : ℕ × DocRecord). record { doc = record { number = x.0; doc = doc_data x.1 }; end = new.at }) result (doc_of_file content old.docs numbers old.at))
+
+-- nothing is left behind the walk's place
+abbrev pub EndGiven : Option Files → WalkView → Result Unit CiffFault → Type 0
+EndGiven files old result =
+    ForContent files old.name (λ content. AreFrom content old.start old.bytes → GivesReading (λ u. EndPiece) result (at_end old.at (drop old.at content) EndPiece))

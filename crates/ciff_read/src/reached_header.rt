@@ -1,0 +1,38 @@
+ghost use Rattle.std.specs.Prelude.{ℕ, ◌≡◌, ◌≤◌, ◌^◌, ◌⊎◌, IfOk, IsErrOf};
+ghost use Rattle.jass_base.specs.Outside.{Rose, IsMissing};
+ghost use Rattle.ciff_read.specs.Reached.{HeaderTold};
+ghost use Rattle.ciff_read.specs.Window.{StaysShown};
+
+use crate::file_head::FileHead;
+use crate::header::read_header;
+use crate::reaching::reach_message;
+use crate::refusal::CiffFault;
+use crate::window::Window;
+use jass_base::Cabinet;
+use std::alloc::Global;
+
+/// Reads the header of a file, and gives the place behind it.
+pub fn reach_header<C: Cabinet>(
+    alloc: Global,
+    window: &mut Window,
+    files: &mut C,
+    name: &str,
+) -> Result<(FileHead, u64), CiffFault>
+    ensures near { IfOk result (λ x. x.1 ≤ 2 ^ 32) }
+    ensures shown { StaysShown (C.told files.old) name.now window.old window.new }
+    ensures exact { HeaderTold (C.told files.old) name.now window.old result }
+    ensures fault { IsErrOf result CiffFault.ReadFault
+        → Rose (C.read_faults files.old) (C.read_faults files.new) ⊎ IsMissing (C.told files.old) name.now }
+    ensures stays { C.told files.new ≡ C.told files.old }
+    ensures later { C.read_faults files.old ≤ C.read_faults files.new }
+    ensures others { C.write_faults files.old ≤ C.write_faults files.new }
+{
+    let body = match reach_message(window, files, name, 0) {
+        Ok(body) => body,
+        Err(fault) => return Err(fault),
+    };
+    match read_header(alloc, window.bytes.as_slice(), 0, body) {
+        Ok(head) => Ok((head, body.end as u64)),
+        Err(fault) => Err(fault),
+    }
+}

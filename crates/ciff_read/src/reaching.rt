@@ -1,0 +1,91 @@
+ghost use Rattle.std.specs.Prelude.{ℕ, ◌≡◌, ◌<◌, ◌≤◌, ◌+◌, ◌^◌, ◌⊎◌, length, IfOk, IfErr, IsErrOf};
+ghost use Rattle.jass_base.specs.Outside.{Rose, IsMissing};
+ghost use Rattle.ciff_read.specs.Refusals.{IsPlain};
+ghost use Rattle.ciff_read.specs.Reaching.{SizeTold, MessageTold};
+ghost use Rattle.ciff_read.specs.Window.{StaysShown};
+
+use crate::body::Body;
+use crate::message::FILE_LIMIT;
+use crate::refusal::{CiffFault, CiffWhy, refused, refused_field};
+use crate::window::{ReachStop, Window};
+use jass_base::Cabinet;
+use wire_fields::{WireFault, read_varint};
+
+/// The most bytes that the length of a message has.
+const LONGEST_LENGTH: usize = 10;
+
+/// Reads the length of the message at a place of a file: the length, and the place behind it.
+fn reach_size<C: Cabinet>(
+    window: &mut Window,
+    files: &mut C,
+    name: &str,
+    at: u64,
+) -> Result<(u64, u64), CiffFault>
+    requires { at ≤ 2 ^ 32 }
+    ensures place { IfOk result (λ x. at < x.1) }
+    ensures plain { IfErr result IsPlain }
+    ensures shown { StaysShown (C.told files.old) name.now window.old window.new }
+    ensures exact { SizeTold (C.told files.old) name.now at window.old result }
+    ensures fault { IsErrOf result CiffFault.ReadFault
+        → Rose (C.read_faults files.old) (C.read_faults files.new) ⊎ IsMissing (C.told files.old) name.now }
+    ensures stays { C.told files.new ≡ C.told files.old }
+    ensures later { C.read_faults files.old ≤ C.read_faults files.new }
+    ensures others { C.write_faults files.old ≤ C.write_faults files.new }
+{
+    match window.reach(files, name, at, LONGEST_LENGTH) {
+        Ok(()) => {}
+        Err(ReachStop::ReadFault) => return Err(CiffFault::ReadFault),
+        Err(ReachStop::NoMemory) => return Err(CiffFault::NoMemory),
+    }
+    match read_varint(window.bytes.as_slice(), (at - window.start) as usize) {
+        Ok((size, from)) => Ok((size, window.start + from as u64)),
+        Err(fault) => Err(refused_field(WireFault {
+            at: at as usize,
+            why: fault.why,
+        })),
+    }
+}
+
+/// Reads the message at a place of a file into the window, and gives its body there.
+pub fn reach_message<C: Cabinet>(
+    window: &mut Window,
+    files: &mut C,
+    name: &str,
+    at: u64,
+) -> Result<Body, CiffFault>
+    requires { at ≤ 2 ^ 32 }
+    ensures within { IfOk result (λ body. body.end ≤ length window.new.bytes.items) }
+    ensures front { IfOk result (λ body. window.new.start ≤ at) }
+    ensures behind { IfOk result (λ body. at < window.new.start + body.end) }
+    ensures near { IfOk result (λ body. window.new.start + body.end ≤ 2 ^ 32) }
+    ensures plain { IfErr result IsPlain }
+    ensures shown { StaysShown (C.told files.old) name.now window.old window.new }
+    ensures exact { MessageTold (C.told files.old) name.now at window.old window.new result }
+    ensures fault { IsErrOf result CiffFault.ReadFault
+        → Rose (C.read_faults files.old) (C.read_faults files.new) ⊎ IsMissing (C.told files.old) name.now }
+    ensures stays { C.told files.new ≡ C.told files.old }
+    ensures later { C.read_faults files.old ≤ C.read_faults files.new }
+    ensures others { C.write_faults files.old ≤ C.write_faults files.new }
+{
+    let (size, from) = match reach_size(window, files, name, at) {
+        Ok(read) => read,
+        Err(fault) => return Err(fault),
+    };
+    if from > FILE_LIMIT || size > FILE_LIMIT - from {
+        return Err(refused(at as usize, CiffWhy::Limit));
+    }
+    let count = (from - at + size) as usize;
+    match window.reach(files, name, at, count) {
+        Ok(()) => {}
+        Err(ReachStop::ReadFault) => return Err(CiffFault::ReadFault),
+        Err(ReachStop::NoMemory) => return Err(CiffFault::NoMemory),
+    }
+    let front = (at - window.start) as usize;
+    if window.bytes.len() - front < count {
+        return Err(refused(at as usize, CiffWhy::Cut));
+    }
+    Ok(Body {
+        from: front + (from - at) as usize,
+        end: front + count,
+    })
+}

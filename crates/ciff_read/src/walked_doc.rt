@@ -1,0 +1,67 @@
+ghost use Rattle.std.specs.Prelude.{◌≡◌, ◌≢◌, ◌<◌, ◌&&◌, ◌==◌, IsTrue, All, true, not, nat_lt, OnOk};
+ghost use Rattle.std.specs.List.{list_all};
+ghost use Rattle.jass_base.specs.Limits.{IsName};
+ghost use Rattle.ciff_read.specs.Judging as judging;
+ghost use Rattle.ciff_read.specs.Recording.{recorded, numbered_as};
+ghost use Rattle.ciff_read.specs.Refusals.{Gives};
+
+use crate::doc_fields::DocFields;
+use crate::refusal::{CiffFault, CiffWhy, refused};
+use crate::text::text_of;
+use jass_base::{DocRecord, Text};
+use std::alloc::Global;
+
+/// The limit of a name's bytes.
+const LONGEST_NAME: usize = 1_048_576;
+
+/// A document's record whose fields were walked, and whose number is one of the file's. What
+/// is left to judge is whether the number is new, then the name and the length.
+#[derive(Clone, Copy)]
+pub struct WalkedDoc<'a> {
+    pub number: u32,
+    pub fields: DocFields<'a>,
+}
+
+impl<'a> WalkedDoc<'a> {
+    /// The record of the message at `at`, where nothing is left to refuse.
+    pub fn finish(self, alloc: Global, at: usize, is_new: bool) -> Result<DocRecord, CiffFault>
+        ensures exact { Gives (numbered_as self.entry) result (recorded (not is_new) at self.entry) }
+        ensures new { OnOk result (is_new ≡ true) }
+    {
+        if !is_new {
+            return Err(refused(at, CiffWhy::DocTwice));
+        }
+        let Some(name) = text_of(self.fields.name) else {
+            return Err(refused(at, CiffWhy::Text));
+        };
+        if !is_name(name) {
+            return Err(refused(at, CiffWhy::NameText));
+        }
+        if self.fields.length >= 1 << 31 {
+            return Err(refused(at, CiffWhy::Range));
+        }
+        let Ok(name) = Text::from_str(alloc, name) else {
+            return Err(CiffFault::NoMemory);
+        };
+        Ok(DocRecord {
+            name,
+            length: self.fields.length as u32,
+        })
+    }
+}
+
+/// Whether a text may be the name of a document.
+fn is_name(name: &str) -> bool
+    ensures test { result ≡ judging.is_name name.now }
+    ensures name { IsTrue result → IsName name.now }
+{
+    !name.is_empty() && name.len() <= LONGEST_NAME && is_visible(name.as_bytes())
+}
+
+/// Whether no byte is a blank or a control character.
+fn is_visible(bytes: &[u8]) -> bool
+    ensures test { result ≡ list_all (λ b. nat_lt 32 b && not (b == 127)) bytes.now }
+    ensures visible { IsTrue result → All (λ b. (32 < b) × (b ≢ 127)) bytes.now }
+{
+    bytes.iter().all(|byte| *byte > 32 && *byte != 127)
+}
