@@ -4,3 +4,10 @@ pub mod OneIndex
 pub mod OneTerm
 pub mod Orders
 pub mod Weights
+pub mod OneList
+pub mod ByTerm
+pub mod Grouped
+pub mod ListTerms
+pub mod ListRange
+mod GroupLaws
+mod RangeLaws

@@ -100,7 +100,7 @@ segments_below d segments pairs is below =
     (all_weaker (λ (s : Segment). AllByRecursion (λ (p : ℕ × ℕ). p.0 < d) (map (λ (doc : ℕ). (doc, s.impact)) s.docs)) (HasDocumentsBelow d)
     (λ s h. All-from_recursion (λ (doc : ℕ). doc < d) s.docs (all_unmap (λ (p : ℕ × ℕ). p.0 < d) (λ (doc : ℕ). (doc, s.impact)) s.docs h)) segments each)
 
-abbrev under : List ℕ → ℕ × ℕ → Entry (List ℕ)
+abbrev pub under : List ℕ → ℕ × ℕ → Entry (List ℕ)
 under t p = record { term = t; doc = p.0; impact = p.1 }
 
 under_pairs : (t : List ℕ) (segments : List Segment) → term_entries t segments ≡ map (under t) (pairs_of segments)
@@ -109,7 +109,7 @@ under_pairs t (s ∷ ss) =
     ap₂ (λ (x y : List (Entry (List ℕ))). x ++ y) (sym (map-map (under t) (λ (doc : ℕ). (doc, s.impact)) s.docs)) (under_pairs t ss)
     ∙ sym (map-append (under t) (map (λ (doc : ℕ). (doc, s.impact)) s.docs) (pairs_of ss))
 
-same_order : (t : List ℕ) (p q : ℕ × ℕ) → entry_cmp (slice_cmp nat_cmp) (under t p) (under t q) ≡ pair_cmp p q
+pub same_order : (t : List ℕ) (p q : ℕ × ℕ) → entry_cmp (slice_cmp nat_cmp) (under t p) (under t q) ≡ pair_cmp p q
 same_order t p q = let e = tied_itself nat_list_cmp_total t in rw e refl
 
 pub term_is : (rule : Rule) (docs : List DocRecord) (bits : Bits) (range : Range) (list : PostingsList) (t : List ℕ) (segments : List Segment) (pairs : List (ℕ × ℕ)) → t ≡ list.term → pairs ≡ list_pairs rule docs bits range list

@@ -2,6 +2,7 @@
 use Rattle.std.proofs.Common.{◌≡◌, ℕ, suc, ◌+◌, ◌<◌, ◌≤◌, ◌^◌, max, min, List, [], ◌∷◌, length, map, drop, get_or, sym, ap, ap₂, ◌∙◌, subst, arith, fold}
 use Rattle.std.specs.Prelude.{All, Contains, slice_index}
 use Rattle.std.specs.List.{AllByRecursion, flat_map}
+use Rattle.std.specs.List.Sorted.{IsStrictlyIncreasing}
 use Rattle.std.proofs.lemmas.List.Elements.{recursion_from_All, All-from_recursion}
 use Rattle.std.proofs.lemmas.List.{length-map, get_or-map, drop_more}
 use Rattle.std.proofs.lemmas.Simd.{map-map}
@@ -14,6 +15,7 @@ use Rattle.weights.specs.declared.weighting.Rule.{Rule}
 use Rattle.weights.specs.declared.weighting.Rule.TheVariants.{Bm25}
 use Rattle.weights.specs.Weighting.{idf, length_norm, saturated, weight_of}
 use Rattle.weights.proofs.Bounds.{saturated_cut}
+use Rattle.impact_segments.proofs.RangeLaws.{greatest-ge_start, least-le_start}
 use Rattle.weights.specs.declared.quantizing.Bits.{Bits}
 use Rattle.weights.specs.declared.quantizing.Bits.TheVariants.{Of}
 use Rattle.weights.specs.declared.quantizing.Range.{Range}
@@ -33,11 +35,14 @@ from_zero : (xs : List ℕ) → AllByRecursion (λ (x : ℕ). 0 ≤ x) xs
 from_zero [] = tt
 from_zero (x ∷ xs) = (omega arith, from_zero xs)
 
-pub few_postings : (docs : ℕ) (list : PostingsList) → HasDocsBelow docs list → length list.postings ≤ docs
-few_postings docs list below =
-    let all : 0 + length (docs_of list.postings) ≤ docs = few 0 docs (docs_of list.postings) (omega arith) (rising_pairs (docs_of list.postings) list.rising) (from_zero (docs_of list.postings)) (recursion_from_All (λ (doc : ℕ). doc < docs) (docs_of list.postings) below) in
-    let same : length (docs_of list.postings) ≡ length list.postings = length-map list.postings (λ (p : Posting). p.doc) in
+pub few_rising : (docs : ℕ) (ps : List Posting) → IsStrictlyIncreasing (docs_of ps) → All (λ (doc : ℕ). doc < docs) (docs_of ps) → length ps ≤ docs
+few_rising docs ps rising below =
+    let all : 0 + length (docs_of ps) ≤ docs = few 0 docs (docs_of ps) (omega arith) (rising_pairs (docs_of ps) rising) (from_zero (docs_of ps)) (recursion_from_All (λ (doc : ℕ). doc < docs) (docs_of ps) below) in
+    let same : length (docs_of ps) ≡ length ps = length-map ps (λ (p : Posting). p.doc) in
     omega (arith, all, same)
+
+pub few_postings : (docs : ℕ) (list : PostingsList) → HasDocsBelow docs list → length list.postings ≤ docs
+few_postings docs list below = few_rising docs list.postings list.rising below
 
 pub its_doc : (docs : ℕ) (list : PostingsList) (p : Posting) → HasDocsBelow docs list → Contains list.postings p → p.doc < docs
 its_doc docs list p below own = all_contained (λ (p : Posting). p.doc < docs) list.postings p
@@ -73,19 +78,21 @@ weight_is docs count tf doc rare norm w is rare_is low few norm_is =
     ∙ saturated_cut (idf (length docs) count) tf (length_norm (length docs) (total_length docs) (slice_index (lengths_in docs) doc)) (subst P rare_is low) few
     ∙ ap (λ (n : ℕ). weight_of Bm25 n (total_length docs) count tf (slice_index (lengths_in docs) doc)) (sym (length-map docs (λ (d : DocRecord). d.length)))
 
+-- the weight by a term's rarity, where the documents' lengths are known
+pub weight_by : (lengths : List ℕ) (total count tf doc rare size norm w : ℕ) → w ≡ max 1 (saturated rare tf norm) → rare ≡ idf (length lengths) count → rare < 27648 → tf < 2 ^ 31
+    → norm ≡ min (length_norm (length lengths) total size) (2 ^ 63) → size ≡ slice_index lengths doc
+    → w ≡ weight_of Bm25 (length lengths) total count tf (slice_index lengths doc)
+weight_by lengths total count tf doc rare size norm w is rare_is low few norm_is size_is =
+    let P : ℕ → Type 0 = λ (r : ℕ). r < 27648 in
+    is ∙ ap₂ (λ (r n : ℕ). max 1 (saturated r tf n)) rare_is norm_is
+    ∙ saturated_cut (idf (length lengths) count) tf (length_norm (length lengths) total size) (subst P rare_is low) few
+    ∙ ap (λ (n : ℕ). weight_of Bm25 (length lengths) total count tf n) size_is
+
 -- ---- the range
 
-least_later : (r : Range) (ws : List ℕ) → (fold widened r ws).least ≤ r.least
-least_later r [] = omega arith
-least_later r (w ∷ ws) = omega (arith, least_later (widened r w) ws)
-
-greatest_later : (r : Range) (ws : List ℕ) → r.greatest ≤ (fold widened r ws).greatest
-greatest_later r [] = omega arith
-greatest_later r (w ∷ ws) = omega (arith, greatest_later (widened r w) ws)
-
-held : (r : Range) (ws : List ℕ) → AllByRecursion (λ (w : ℕ). ((fold widened r ws).least ≤ w) × (w ≤ (fold widened r ws).greatest)) ws
+pub held : (r : Range) (ws : List ℕ) → AllByRecursion (λ (w : ℕ). ((fold widened r ws).least ≤ w) × (w ≤ (fold widened r ws).greatest)) ws
 held r [] = tt
-held r (w ∷ ws) = ((omega (arith, least_later (widened r w) ws), omega (arith, greatest_later (widened r w) ws)), held (widened r w) ws)
+held r (w ∷ ws) = ((omega (arith, least-le_start (widened r w) ws), omega (arith, greatest-ge_start (widened r w) ws)), held (widened r w) ws)
 
 pub all_in_range : (rule : Rule) (docs : List DocRecord) (lists : List PostingsList) (range : Range) (bits : Bits) (b : ℕ) → bits ≡ Of b → range ≡ range_of (flat_map (list_weights rule docs) lists) → range.greatest < 2 ^ 31
     → All (λ (l : PostingsList). All (IsInRange bits range) (list_weights rule docs l)) lists

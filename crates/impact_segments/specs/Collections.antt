@@ -12,6 +12,8 @@ use Rattle.weights.specs.declared.quantizing.Bits.{Bits}
 use Rattle.weights.specs.declared.quantizing.Range.{Range}
 use Rattle.weights.specs.Weighting.{weight_of}
 use Rattle.weights.specs.Quantizing.{range_of, impact_of}
+use Rattle.index_model.specs.Grouping.{index_with}
+use Rattle.index_model.specs.Index.{IndexData}
 use Rattle.ranking_model.specs.declared.entry.Entry.{Entry}
 use Rattle.ranking_model.specs.Order.{sorted}
 use Rattle.ranking_model.specs.Flat.{entry_cmp}
@@ -45,3 +47,7 @@ entries_in rule lengths total bits range term postings =
 abbrev pub index_of : CollectionData → Rule → Bits → List (Entry (List ℕ))
 index_of c rule bits = sorted (entry_cmp (slice_cmp nat_cmp))
     (flat_map (λ (l : ListData). entries_in rule (lengths_of c.docs) (total_of (lengths_of c.docs)) bits (range_of (weights_of c rule)) l.term l.postings) c.lists)
+
+-- the index of a collection: its documents' names, and the flat list of its weighed postings
+abbrev pub collection_index : Rule → Bits → CollectionData → IndexData
+collection_index rule bits c = index_with (map (λ (d : DocData). d.name) c.docs) (index_of c rule bits)

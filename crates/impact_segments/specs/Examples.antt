@@ -3,6 +3,8 @@ use Rattle.std.specs.Prelude.{ℕ, List, [], ◌∷◌, codes, replicate}
 use Rattle.jass_base.specs.declared.posting.Posting.{Posting}
 use Rattle.jass_base.specs.Ciff.{HeaderData, ListData, DocData, CollectionData}
 use Rattle.ranking_model.specs.declared.entry.Entry.{Entry}
+use Rattle.index_model.specs.Index.{TermData}
+use Rattle.index_model.specs.Examples as model
 
 abbrev pub posting : ℕ → ℕ → Posting
 posting doc tf = record { doc = doc; tf = tf }
@@ -34,3 +36,11 @@ two_terms = record {
   lists = list (codes "dog") (posting 1 2 ∷ posting 2 3 ∷ []) ∷ list (codes "elk") [] ∷ list (codes "cat") (posting 0 3 ∷ posting 1 1 ∷ posting 3 1 ∷ []) ∷ [];
   docs = doc (codes "d0") 3 ∷ doc (codes "d1") 3 ∷ doc (codes "d2") 3 ∷ doc (codes "d3") 1 ∷ [];
 }
+
+-- those of them with postings, by rising terms
+abbrev pub lists_by_term : List ListData
+lists_by_term = list (codes "cat") (posting 0 3 ∷ posting 1 1 ∷ posting 3 1 ∷ []) ∷ list (codes "dog") (posting 1 2 ∷ posting 2 3 ∷ []) ∷ []
+
+-- the terms of their index
+abbrev pub terms_in_index : List TermData
+terms_in_index = model.two_terms.terms

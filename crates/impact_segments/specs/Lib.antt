@@ -4,3 +4,5 @@ pub mod Held
 pub mod Listed
 pub mod Pairs
 pub mod Weighed
+pub mod OneList
+pub mod ListTerms

@@ -1,9 +1,12 @@
-//! The flat list of small collections (`specs/Examples.antt`), by computation.
+//! The flat list of small collections (`specs/Examples.antt`), and the terms of lists by themselves,
+//! by computation.
 
-ghost use Rattle.std.specs.Prelude.{◌≡◌, [], ◌∷◌, codes};
+ghost use Rattle.std.specs.Prelude.{◌≡◌, [], ◌∷◌, codes, map};
 ghost use Rattle.ranking_model.specs.Examples.{pets, falling};
-ghost use Rattle.impact_segments.specs.Collections.{index_of};
-ghost use Rattle.impact_segments.specs.Examples.{entry, one_term, two_terms};
+ghost use Rattle.weights.specs.Quantizing.{empty_range};
+ghost use Rattle.impact_segments.specs.Collections.{index_of, lengths_of, total_of};
+ghost use Rattle.impact_segments.specs.Examples.{entry, lists_by_term, one_term, terms_in_index, two_terms};
+ghost use Rattle.impact_segments.specs.ListTerms.{list_term};
 
 use weights::{Bits, Rule};
 
@@ -20,4 +23,11 @@ pub fn impacts_are_term_frequencies()
 pub fn impacts_of_eight_bits()
     ensures { index_of one_term Rule.Bm25 (Bits.Of 8)
         ≡ entry (codes "a") 0 255 ∷ entry (codes "a") 1 220 ∷ entry (codes "a") 2 1 ∷ [] }
+{}
+
+/// Each list of `cat` and `dog` by itself becomes a term of their index.
+#[tactic(auto, unfolding(crate::specs::ListTerms::list_segments))]
+pub fn lists_become_terms()
+    ensures { map (list_term Rule.Tf (lengths_of two_terms.docs) (total_of (lengths_of two_terms.docs)) Bits.Raw
+        empty_range) lists_by_term ≡ terms_in_index }
 {}

@@ -7,13 +7,18 @@ mod building;
 pub mod examples;
 mod flattening;
 mod grouping;
+pub mod laws;
 mod listing;
+mod one_list;
 mod terms;
 mod weighing;
 
 pub use building::build;
 pub use flattening::entries_of;
 pub use grouping::group;
+pub use one_list::{
+    SegmentsFault, length_norms, segments_by_norms, segments_of, widen_by_norms, widen_list,
+};
 
 #[cfg(test)]
 mod tests;

@@ -2,13 +2,19 @@
 
 ghost use Rattle.std.specs.Prelude.{◌≡◌, ℕ, ◌<◌, ◌≤◌, ◌^◌, [], ◌∷◌, length, All, AllPairs, IfOk};
 ghost use Rattle.std.specs.List.Sorted.{IsStrictlyIncreasing};
+ghost use Rattle.jass_base.specs.Lists.{HasDocsBelow};
 ghost use Rattle.jass_base.specs.Postings.{docs_of, HasTfInRange};
 ghost use Rattle.jass_base.specs.declared.postings_list.PostingsList.{PostingsList};
 
-use crate::{build, entries_of, group};
-use jass_base::{Collection, DocRecord, Header, NoMemory, Posting, PostingsList, Row, Text};
+use crate::{
+    SegmentsFault, build, entries_of, group, length_norms, segments_by_norms, segments_of,
+    widen_by_norms, widen_list,
+};
+use jass_base::{
+    Collection, DocRecord, Header, NoMemory, Posting, PostingsList, Row, Segment, Text,
+};
 use std::alloc::Global;
-use weights::{Bits, Rule};
+use weights::{Bits, Range, Rule};
 
 #[test]
 fn three_documents(rt: HostRuntime) {
@@ -20,6 +26,124 @@ fn three_documents(rt: HostRuntime) {
 fn pairs_by_impact(rt: HostRuntime) {
     let segments = group(rt.alloc(), &[(3, 5), (4, 9), (7, 5)]);
     assert!(&rt; segments.is_ok_and(|segments| segments.len() == 2));
+}
+
+#[test]
+fn a_range_grows_by_one_list(rt: HostRuntime) {
+    let wanted = Range {
+        least: 401,
+        greatest: 572,
+    };
+    assert!(&rt; range_of_three(rt.alloc()).is_ok_and(|range| range == wanted));
+    assert!(&rt; range_by_norms(rt.alloc()).is_ok_and(|range| range == wanted));
+}
+
+#[test]
+fn segments_by_the_norms_of_documents(rt: HostRuntime) {
+    let segments = impacts_by_norms(rt.alloc());
+    assert!(&rt; segments.is_ok_and(|segments| are_impacts(segments.as_slice())));
+}
+
+#[test]
+fn segments_of_one_list(rt: HostRuntime) {
+    let alloc = rt.alloc();
+    let range = Range {
+        least: 1,
+        greatest: 9,
+    };
+    assert!(&rt; three_segments(alloc, range, 9).is_ok_and(|segments| segments.len() == 3));
+    let heavier = three_segments(alloc, range, 10);
+    assert!(&rt;
+        heavier.is_err_and(|fault| fault == SegmentsFault::Outside { kept: 9, found: 10 })
+    );
+    let narrow = Range {
+        least: 2,
+        greatest: 9,
+    };
+    let lighter = three_segments(alloc, narrow, 9);
+    assert!(&rt; lighter.is_err_and(|fault| fault == SegmentsFault::Outside { kept: 2, found: 1 }));
+}
+
+// The range of the BM25 weights of the list of three documents.
+fn range_of_three(alloc: Global) -> Result<Range, NoMemory> {
+    let list = three(alloc, 9)?;
+    let mut range = Range::new();
+    widen_list(&mut range, Rule::Bm25, 15, &list, &[9, 5, 1]);
+    Ok(range)
+}
+
+// The same range, by the norms of the documents.
+fn range_by_norms(alloc: Global) -> Result<Range, NoMemory> {
+    let list = three(alloc, 9)?;
+    let norms = length_norms(alloc, 15, &[9, 5, 1])?;
+    let mut range = Range::new();
+    widen_by_norms(
+        &mut range,
+        Rule::Bm25,
+        15,
+        &list,
+        &[9, 5, 1],
+        norms.as_slice(),
+    );
+    Ok(range)
+}
+
+// The segments of the list by BM25, by the norms of the documents.
+fn impacts_by_norms(alloc: Global) -> Result<Row<Segment>, SegmentsFault> {
+    match (three(alloc, 9), length_norms(alloc, 15, &[9, 5, 1])) {
+        (Ok(list), Ok(norms)) => {
+            let range = Range {
+                least: 401,
+                greatest: 572,
+            };
+            let norms = norms.as_slice();
+            segments_by_norms(
+                alloc,
+                Rule::Bm25,
+                Bits::Of(8),
+                range,
+                15,
+                &list,
+                &[9, 5, 1],
+                norms,
+            )
+        }
+        _ => Err(SegmentsFault::NoMemory),
+    }
+}
+
+fn are_impacts(segments: &[Segment]) -> bool {
+    match segments {
+        [first, second, third] => {
+            first.impact == 255 && second.impact == 220 && third.impact == 1
+        }
+        _ => false,
+    }
+}
+
+// The segments of the list by term frequency, in a range.
+fn three_segments(alloc: Global, range: Range, tf: u32) -> Result<Row<Segment>, SegmentsFault>
+    requires tf { (1 ≤ tf) × (tf < 2 ^ 31) }
+    requires low { range.greatest ≤ 2 ^ 40 }
+{
+    match three(alloc, tf) {
+        Ok(list) => segments_of(alloc, Rule::Tf, Bits::Of(8), range, 15, &list, &[9, 5, 1]),
+        Err(_) => Err(SegmentsFault::NoMemory),
+    }
+}
+
+// The list of a term in three documents, with its frequency in the first.
+fn three(alloc: Global, tf: u32) -> Result<PostingsList, NoMemory>
+    requires { (1 ≤ tf) × (tf < 2 ^ 31) }
+    ensures some { IfOk result (λ list. 1 ≤ length list.postings) }
+    ensures below { IfOk result (HasDocsBelow 3) }
+{
+    let postings = [
+        Posting { doc: 0, tf },
+        Posting { doc: 1, tf: 5 },
+        Posting { doc: 2, tf: 1 },
+    ];
+    list(alloc, "a", &postings)
 }
 
 fn flat(alloc: Global) -> Result<Row<(u32, u32, u16)>, NoMemory> {

@@ -1,0 +1,84 @@
+-- The terms of lists make the index of their collection.
+use Rattle.std.proofs.Common.{◌≡◌, ℕ, ◌≤◌, List, [], map, length, Bool, true, sym, ap, ◌∙◌, arith}
+use Rattle.std.specs.Prelude.{AllPairs, IsPermutation, nat_lt}
+use Rattle.std.specs.List.{AllByRecursion, flat_map}
+use Rattle.std.specs.Ordering.{nat_cmp}
+use Rattle.std.specs.Cmp.Lexicographic.{slice_cmp}
+use Rattle.std.proofs.lemmas.Bool.Decides.{nat_tests}
+use Rattle.std.proofs.lemmas.List.{length-map}
+use Rattle.std.proofs.lemmas.List.Elements.{recursion_from_All, All-from_recursion}
+use Rattle.std.proofs.lemmas.List.Sorted.{All-permutation, IsPermutation-sym}
+use Rattle.std.proofs.lemmas.Simd.{map-map}
+use Rattle.jass_base.specs.Ciff.{CollectionData, ListData}
+use Rattle.jass_base.specs.Terms.{BytesRise}
+use Rattle.jass_base.specs.declared.posting.Posting.{Posting}
+use Rattle.weights.specs.declared.weighting.Rule.{Rule}
+use Rattle.weights.specs.declared.quantizing.Bits.{Bits}
+use Rattle.weights.specs.declared.quantizing.Range.{Range}
+use Rattle.weights.specs.Quantizing.{impact_of, range_of}
+use Rattle.ranking_model.specs.declared.entry.Entry.{Entry}
+use Rattle.ranking_model.specs.Order.{sorted}
+use Rattle.ranking_model.specs.Flat.{entry_cmp}
+use Rattle.index_model.specs.Grouping.{index_with, with_entries}
+use Rattle.index_model.specs.Index.{IndexData, TermData}
+use Rattle.index_model.proofs.Lists.{all_weaker, map_sorted, pairs_by_recursion}
+use Rattle.impact_segments.specs.Collections.{entries_in, index_of, lengths_of, total_of, weight_in, weights_of}
+use Rattle.impact_segments.specs.ListTerms.{AreByTerm, list_segments, list_term, lists_in_use, segments_in}
+use Rattle.impact_segments.specs.OneList.{pairs_in}
+use Rattle.impact_segments.specs.Pairs.{pair_cmp}
+use Rattle.impact_segments.proofs.ByTerm.{by_term, filter_passes, none_of, own_term}
+use Rattle.impact_segments.proofs.Grouped.{grouped, terms_there}
+use Rattle.impact_segments.proofs.OneTerm.{length_sorted, same_order, under}
+
+-- what holds of each list with postings
+pub all_in_use : (P : ListData → Type 0) → ((l : ListData) → 1 ≤ length l.postings → P l) → (lists all : List ListData) → IsPermutation lists (lists_in_use all) → AllByRecursion P lists
+all_in_use P each lists all moved =
+    let q : ListData → Bool = λ (l : ListData). nat_lt 0 (length l.postings) in
+    let used : AllByRecursion P (lists_in_use all) = all_weaker (λ (l : ListData). q l ≡ true) P (λ l h. each l (grind (arith, nat_tests))) (lists_in_use all) (filter_passes q all) in
+    recursion_from_All P lists (All-permutation P (lists_in_use all) lists (IsPermutation-sym lists (lists_in_use all) moved) (All-from_recursion P (lists_in_use all) used))
+
+module _ (rule : Rule) (lengths : List ℕ) (total : ℕ) (bits : Bits) (range : Range) where
+  abbrev entries : ListData → List (Entry (List ℕ))
+  entries l = entries_in rule lengths total bits range l.term l.postings
+
+  abbrev pairs : ListData → List (ℕ × ℕ)
+  pairs l = sorted pair_cmp (pairs_in rule lengths total bits range l.postings)
+
+  in_order : (l : ListData) → sorted (entry_cmp (slice_cmp nat_cmp)) (entries l) ≡ map (under l.term) (pairs l)
+  in_order l =
+      ap (sorted (entry_cmp (slice_cmp nat_cmp))) (sym (map-map (under l.term) (λ (p : Posting). (p.doc, impact_of bits range (weight_in rule lengths total (length l.postings) p))) l.postings))
+      ∙ sym (map_sorted (under l.term) pair_cmp (entry_cmp (slice_cmp nat_cmp)) (same_order l.term) (pairs_in rule lengths total bits range l.postings))
+
+  some_pairs : (l : ListData) → 1 ≤ length l.postings → 1 ≤ length (pairs l)
+  some_pairs l some =
+      let size : length (pairs l) ≡ length l.postings = length_sorted pair_cmp (pairs_in rule lengths total bits range l.postings) ∙ length-map l.postings _ in
+      omega (arith, some, size)
+
+  terms_by_lists : (lists all : List ListData) → IsPermutation lists (lists_in_use all) → AllPairs (λ (a b : ListData). BytesRise a.term b.term) lists
+      → with_entries (sorted (entry_cmp (slice_cmp nat_cmp)) (flat_map entries all)) [] ≡ map (grouped pairs) lists
+  terms_by_lists lists all moved rise =
+      let rising = pairs_by_recursion (λ (a b : ListData). BytesRise a.term b.term) lists rise in
+      let q : ListData → Bool = λ (l : ListData). nat_lt 0 (length l.postings) in
+      ap (λ (es : List (Entry (List ℕ))). with_entries es [])
+      (sym (by_term (λ (l : ListData). l.term) entries (λ l. own_term rule lengths total bits range l.term l.postings) q (λ l h. none_of _ l.postings h) all lists moved rising)
+      ∙ (λ i. flat_map (λ (l : ListData). in_order l i) lists))
+      ∙ terms_there pairs lists (all_in_use (λ (l : ListData). 1 ≤ length (pairs l)) some_pairs lists all moved) rising
+
+-- ranges that give the same impacts give the same terms
+same_terms : (rule : Rule) (lengths : List ℕ) (total : ℕ) (bits : Bits) (range other : Range) (lists : List ListData) → ((w : ℕ) → impact_of bits range w ≡ impact_of bits other w)
+    → map (list_term rule lengths total bits range) lists ≡ map (grouped (pairs rule lengths total bits other)) lists
+unfolding list_segments
+same_terms rule lengths total bits range other lists same =
+    λ i. map (λ (l : ListData).
+    (let t : TermData = record { term = l.term; segments = segments_in (sorted pair_cmp (map (λ (p : Posting). (p.doc, same (weight_in rule lengths total (length l.postings) p) i)) l.postings)) } in t)) lists
+
+pub index_by_term : (c : CollectionData) (rule : Rule) (bits : Bits) (range : Range) (names : List (List ℕ)) (lists : List ListData) → AreByTerm c lists
+    → ((w : ℕ) → impact_of bits range w ≡ impact_of bits (range_of (weights_of c rule)) w)
+    → index_with names (index_of c rule bits) ≡ record { names = names; terms = map (list_term rule (lengths_of c.docs) (total_of (lengths_of c.docs)) bits range) lists }
+unfolding index_with
+index_by_term c rule bits range names lists are same =
+    let lengths : List ℕ = lengths_of c.docs in
+    let total : ℕ = total_of lengths in
+    ap (λ (terms : List TermData). (let i : IndexData = record { names = names; terms = terms } in i))
+    (terms_by_lists rule lengths total bits (range_of (weights_of c rule)) lists c.lists are.same are.rising
+    ∙ sym (same_terms rule lengths total bits range (range_of (weights_of c rule)) lists same))
