@@ -1,9 +1,10 @@
 -- A file that is made empty and then written.
-use Rattle.std.proofs.Common.{◌≡◌, ℕ, List, [], ◌++◌, take, Option, Some, None, Bool, true, false, Result, Ok, Err, inl, inr, cond, refl, sym, ap, subst, ◌∙◌, ◌⊎◌, OnErr}
+use Rattle.std.proofs.Common.{◌≡◌, ℕ, ◌+◌, List, [], ◌++◌, length, take, Option, Some, None, Bool, true, false, Result, Ok, Err, inl, inr, cond, refl, sym, ap, subst, ◌∙◌, ◌⊎◌, OnErr}
 use Rattle.std.specs.Option.{unwrap_or}
 use Rattle.std.specs.Ordering.{nat_cmp, is_eq, eq_by_cmp}
 use Rattle.std.specs.Cmp.Lexicographic.{slice_cmp}
 use Rattle.std.specs.FinMap.{get, insert, get-insert, same_map, slice_cmp-IsAntisymmetric, nat_cmp-IsAntisymmetric}
+use Rattle.std.proofs.Math.Seq.{take-append-add, take-append_seam}
 use Rattle.std.proofs.lemmas.Cmp.{nat_list_cmp_total, tied_itself}
 use Rattle.jass_base.specs.Outside.{Files, Sets, Extends, content_or_empty}
 use Rattle.index_write.specs.Saving.{LeavesPrefix}
@@ -42,3 +43,18 @@ prefix_then old mid new name bytes made (inr (n, put)) = inr (n, sets_then old m
 pub on_err : {T E : Type 0} (r : Result T E) (P : Type 0) → P → OnErr r P
 on_err (Ok x) P holds = tt
 on_err (Err e) P holds = holds
+
+pub sets_more : (old mid new : Option Files) (name text part : List ℕ) → Sets old mid name text → Extends mid new name part → Sets old new name (text ++ part)
+sets_more None mid new name text part made put = subst (λ (m : Option Files). Extends m new name part) made put
+sets_more (Some old) None new name text part made put = absurd made
+sets_more (Some old) (Some mid) None name text part made put = absurd put
+sets_more (Some old) (Some mid) (Some new) name text part made put =
+    put ∙ ap (λ (m : Files). insert m name (content_or_empty m name ++ part)) made
+    ∙ ap (λ o. insert (insert old name text) name (unwrap_or o [] ++ part)) (own old name text)
+    ∙ set_twice old name text (text ++ part)
+
+pub prefix_more : (old mid new : Option Files) (name text part : List ℕ) → Sets old mid name text → (new ≡ mid) ⊎ ((n : ℕ) × Extends mid new name (take n part)) → LeavesPrefix old new name (text ++ part)
+prefix_more old mid new name text part made (inl same) =
+    inr (length text, subst (λ (t : List ℕ). Sets old new name t) (sym (take-append_seam text part)) (subst (λ (m : Option Files). Sets old m name text) (sym same) made))
+prefix_more old mid new name text part made (inr (n, put)) =
+    inr (length text + n, subst (λ (t : List ℕ). Sets old new name t) (sym (take-append-add text part n)) (sets_more old mid new name text (take n part) made put))

@@ -4,3 +4,6 @@ mod Texts
 mod Memory
 mod Files
 mod Joining
+mod Entries
+mod Changes
+mod Streamed

@@ -15,7 +15,7 @@ use Rattle.index_layout.specs.Heads.{HeadData, TermHeads}
 use Rattle.index_layout.specs.Layout.{rest_behind, shared_with, term_bytes, heads_bytes, terms_bytes}
 use Rattle.index_layout.specs.View.{term_postings}
 use Rattle.index_write.specs.Chosen.{head_data, chosen_head, chosen_heads, chosen_terms, chosen_payloads, table_of, table_payloads}
-use Rattle.index_write.specs.declared.head.Head.{Head}
+use Rattle.index_write.specs.declared.head.PayloadHead.{PayloadHead}
 use Rattle.index_write.proofs.Bounds.{one_size, term_segments_few}
 
 all_unmap : {X Y : Type 0} (P : Y → Type 0) (f : X → Y) (xs : List X) → All P (map f xs) → All (λ x. P (f x)) xs
@@ -63,17 +63,17 @@ pub table_next : (d : ℕ) (t : TermSegments) (from rest : List TermSegments) �
 table_next d t from rest is = ap (λ ts. table_of d (map term_data ts)) is
 
 -- the heads of a term, and those of the terms behind it
-pub heads_here : (n : ℕ) (left : List Head) (xs ys : List HeadData) → map head_data left ≡ xs ++ ys → length xs ≡ n → map head_data (take n left) ≡ xs
+pub heads_here : (n : ℕ) (left : List PayloadHead) (xs ys : List HeadData) → map head_data left ≡ xs ++ ys → length xs ≡ n → map head_data (take n left) ≡ xs
 heads_here n left xs ys is count = sym (take-map head_data n left) ∙ ap (take n) is ∙ ap (λ n. take n (xs ++ ys)) (sym count) ∙ take-append_seam xs ys
 
-pub heads_behind : (n : ℕ) (left : List Head) (xs ys : List HeadData) → map head_data left ≡ xs ++ ys → length xs ≡ n → map head_data (drop n left) ≡ ys
+pub heads_behind : (n : ℕ) (left : List PayloadHead) (xs ys : List HeadData) → map head_data left ≡ xs ++ ys → length xs ≡ n → map head_data (drop n left) ≡ ys
 heads_behind n left xs ys is count = sym (drop-map head_data n left) ∙ ap (drop n) is ∙ ap (λ n. drop n (xs ++ ys)) (sym count) ∙ drop-append_seam xs ys
 
-pub heads_reach : (n : ℕ) (left : List Head) (xs ys : List HeadData) → map head_data left ≡ xs ++ ys → length xs ≡ n → n ≤ length left
+pub heads_reach : (n : ℕ) (left : List PayloadHead) (xs ys : List HeadData) → map head_data left ≡ xs ++ ys → length xs ≡ n → n ≤ length left
 heads_reach n left xs ys is count = omega (arith, count, ap length is, length-map left head_data, length-append xs ys)
 
 -- an entry with its heads
-pub entry_is : (term : List ℕ) (here : List Head) (mine : List HeadData) → map head_data here ≡ mine → term ++ (u32_bytes (length here) ++ heads_bytes (map head_data here)) ≡ term ++ (u32_bytes (length mine) ++ heads_bytes mine)
+pub entry_is : (term : List ℕ) (here : List PayloadHead) (mine : List HeadData) → map head_data here ≡ mine → term ++ (u32_bytes (length here) ++ heads_bytes (map head_data here)) ≡ term ++ (u32_bytes (length mine) ++ heads_bytes mine)
 entry_is term here mine is = ap (λ n. term ++ (u32_bytes n ++ heads_bytes (map head_data here))) (sym (length-map here head_data)) ∙ ap (λ hs. term ++ (u32_bytes (length hs) ++ heads_bytes hs)) is
 
 -- one part more of a text
@@ -85,12 +85,12 @@ pub holds_here : {X : Type 0} (P : X → Type 0) (items xs : List X) (i : ℕ) (
 holds_here P items xs i x same inside is all = subst P (ap (λ ys. get_or ys i x) (sym same) ∙ sym is) (all i x (omega (arith, inside, ap length same)))
 
 -- sums over the table
-pub sizes_map : (heads : List Head) → sum_by (λ (h : Head). h.size) heads ≡ sum_by (λ (h : HeadData). h.size) (map head_data heads)
+pub sizes_map : (heads : List PayloadHead) → sum_by (λ (h : PayloadHead). h.bytes) heads ≡ sum_by (λ (h : HeadData). h.size) (map head_data heads)
 sizes_map [] = refl
-sizes_map (h ∷ heads) = sum_by-cons (λ (h : Head). h.size) h heads ∙ ap (λ n. h.size + n) (sizes_map heads) ∙ sym (sum_by-cons (λ (h : HeadData). h.size) (head_data h) (map head_data heads))
+sizes_map (h ∷ heads) = sum_by-cons (λ (h : PayloadHead). h.bytes) h heads ∙ ap (λ n. h.bytes + n) (sizes_map heads) ∙ sym (sum_by-cons (λ (h : HeadData). h.size) (head_data h) (map head_data heads))
 
 -- the head at a place is that of the segment there
-pub head_at : (d : ℕ) (heads : List Head) (segments : List Segment) (i : ℕ) (h : Head) (s : Segment) → map head_data heads ≡ chosen_heads d (map segment_data segments) → i < length segments → s ≡ get_or segments i s
+pub head_at : (d : ℕ) (heads : List PayloadHead) (segments : List Segment) (i : ℕ) (h : PayloadHead) (s : Segment) → map head_data heads ≡ chosen_heads d (map segment_data segments) → i < length segments → s ≡ get_or segments i s
     → head_data (get_or heads i h) ≡ chosen_head d (segment_data s)
 head_at d heads segments i h s same inside is =
     let count = ap length same in

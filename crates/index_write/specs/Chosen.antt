@@ -3,11 +3,11 @@ use Rattle.std.specs.Prelude.{ℕ, List, map, flat_map}
 use Rattle.segment_codecs.specs.Codecs.{chosen_codec, payload_of}
 use Rattle.index_model.specs.Index.{SegmentData, TermData}
 use Rattle.index_layout.specs.Heads.{HeadData, TermHeads, head_of}
-use Rattle.index_write.specs.declared.head.Head.{Head}
+use Rattle.index_write.specs.declared.head.PayloadHead.{PayloadHead}
 
 -- a head of the table as plain data
-abbrev pub head_data : Head → HeadData
-head_data h = record { impact = h.impact; count = h.count; codec = h.codec; size = h.size }
+abbrev pub head_data : PayloadHead → HeadData
+head_data h = record { impact = h.impact; count = h.count; codec = h.codec; size = h.bytes }
 
 -- the head of a segment in its shortest codec, in an index of d documents
 abbrev pub chosen_head : ℕ → SegmentData → HeadData
@@ -20,9 +20,13 @@ chosen_heads d segments = map (chosen_head d) segments
 abbrev pub table_of : ℕ → List TermData → List HeadData
 table_of d terms = flat_map (λ (t : TermData). chosen_heads d t.segments) terms
 
+-- a term with these heads
+abbrev pub chosen_entry : ℕ → TermData → TermHeads
+chosen_entry d t = record { term = t.term; heads = chosen_heads d t.segments }
+
 -- the terms with these heads
 abbrev pub chosen_terms : ℕ → List TermData → List TermHeads
-chosen_terms d terms = map (λ (t : TermData). record { term = t.term; heads = chosen_heads d t.segments }) terms
+chosen_terms d terms = map (chosen_entry d) terms
 
 -- the payload of a segment in its shortest codec
 abbrev pub chosen_payload : ℕ → SegmentData → List ℕ

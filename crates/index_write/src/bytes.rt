@@ -1,18 +1,20 @@
 ghost use Rattle.std.specs.Prelude.{◌≡◌, ◌≤◌, ◌^◌, [], ◌++◌, length, map, IfOk, IfErr, OnOk};
 ghost use Rattle.index_model.specs.Views.{term_data, index_data};
-ghost use Rattle.index_layout.specs.Layout.{totals_bytes};
+ghost use Rattle.index_layout.specs.Layout.{file_length, front_bytes, totals_bytes};
 ghost use Rattle.index_layout.specs.View.{index_text};
 ghost use Rattle.index_write.specs.Chosen.{head_data, chosen_terms, table_of};
 ghost use Rattle.index_write.specs.Saving.{Unmade};
+ghost use Rattle.index_write.specs.Streaming.{AreEntries, AreNames, Unspelled, entry_data, first_bytes};
 
 use crate::fault::SaveFault;
-use crate::front::{put_names, put_terms};
-use crate::head::{Head, index_heads};
-use crate::laws::{tables_have_their_sums, texts_have_their_parts};
-use crate::lengths::index_len;
+use crate::front::{put_entries, put_names, put_terms};
+use crate::head::{PayloadHead, index_heads};
+use crate::laws::{entries_are_small, tables_have_their_sums, texts_have_their_parts};
+use crate::lengths::{file_len, index_len};
 use crate::payloads::put_all_payloads;
-use crate::sums::totals;
-use jass_base::{ImpactIndex, NoMemory, Row};
+use crate::sums::{heads_totals, totals};
+use crate::term_heads::TermHeads;
+use jass_base::{ImpactIndex, NoMemory, Row, Text, Totals};
 use std::alloc::Global;
 
 /// The most bytes of an index file.
@@ -32,15 +34,9 @@ fn with_room(alloc: Global, len: u64) -> Result<Row<u8>, NoMemory>
 }
 
 /// Appends the first 40 bytes: magic, length, documents, terms, postings, the greatest impact, zero.
-#[tactic(auto, unfolding(index_layout::specs::Layout::totals_bytes))]
-fn put_totals(index: &ImpactIndex, len: u64, out: &mut Row<u8>) -> Result<(), NoMemory>
-    requires { len ≡ length (index_text (index_data index.now)) }
-    ensures { OnOk result (out.new ≡ out.old ++ totals_bytes index.now.names
-        (chosen_terms (length index.now.names) (map term_data index.now.terms))) }
+fn put_numbers(totals: &Totals, len: u64, out: &mut Row<u8>) -> Result<(), NoMemory>
+    ensures { OnOk result (out.new ≡ out.old ++ first_bytes len totals.now) }
 {
-    texts_have_their_parts();
-    tables_have_their_sums();
-    let totals = totals(index);
     out.extend(MAGIC)?;
     out.extend(&len.to_le_bytes())?;
     out.extend(&totals.docs.to_le_bytes())?;
@@ -51,12 +47,40 @@ fn put_totals(index: &ImpactIndex, len: u64, out: &mut Row<u8>) -> Result<(), No
     Ok(())
 }
 
+/// Appends the first 40 bytes of an index.
+fn put_totals(index: &ImpactIndex, len: u64, out: &mut Row<u8>) -> Result<(), NoMemory>
+    requires { len ≡ length (index_text (index_data index.now)) }
+    ensures { OnOk result (out.new ≡ out.old ++ totals_bytes index.now.names
+        (chosen_terms (length index.now.names) (map term_data index.now.terms))) }
+{
+    texts_have_their_parts();
+    tables_have_their_sums();
+    put_numbers(&totals(index), len, out)?;
+    Ok(())
+}
+
+/// Appends the first 40 bytes of names, terms and heads.
+fn put_entries_totals(
+    names: &[Text],
+    entries: &[TermHeads],
+    len: u64,
+    out: &mut Row<u8>,
+) -> Result<(), NoMemory>
+    requires names { AreNames names.now }
+    requires entries { AreEntries (map entry_data entries.now) }
+    requires len { len ≡ file_length names.now (map entry_data entries.now) }
+    ensures { OnOk result (out.new ≡ out.old ++ totals_bytes names.now (map entry_data entries.now)) }
+{
+    put_numbers(&heads_totals(names.len() as u32, entries), len, out)?;
+    Ok(())
+}
+
 /// The bytes of the file, by its heads and its length.
 #[tactic(auto, unfolding(index_layout::specs::Layout::front_bytes))]
 fn spelled(
     alloc: Global,
     index: &ImpactIndex,
-    heads: &[Head],
+    heads: &[PayloadHead],
     len: u64,
 ) -> Result<Row<u8>, NoMemory>
     requires greatest { index.now.greatest ≤ 65535 }
@@ -92,5 +116,46 @@ pub fn index_bytes(alloc: Global, index: &ImpactIndex) -> Result<Row<u8>, SaveFa
     match spelled(alloc, index, heads.as_slice(), len) {
         Ok(bytes) => Ok(bytes),
         Err(_) => Err(SaveFault::NoMemory),
+    }
+}
+
+/// What stands before the payloads in a file of so many bytes.
+#[tactic(auto, unfolding(index_layout::specs::Layout::front_bytes))]
+fn spelled_front(
+    alloc: Global,
+    names: &[Text],
+    entries: &[TermHeads],
+    len: u64,
+) -> Result<Row<u8>, NoMemory>
+    requires names { AreNames names.now }
+    requires entries { AreEntries (map entry_data entries.now) }
+    requires len { len ≡ file_length names.now (map entry_data entries.now) }
+    ensures { IfOk result (λ row. row ≡ front_bytes names.now (map entry_data entries.now)) }
+{
+    entries_are_small();
+    let mut out = Row::new(alloc);
+    put_entries_totals(names, entries, len, &mut out)?;
+    put_names(names, &mut out)?;
+    put_entries(entries, &mut out)?;
+    Ok(out)
+}
+
+/// What stands before the payloads in the file of names, terms and heads. TooLarge comes exactly
+/// where the file would have more than 2^32 bytes.
+pub fn front_of(alloc: Global, names: &[Text], entries: &[TermHeads]) -> Result<Row<u8>, SaveFault>
+    requires names { AreNames names.now }
+    requires entries { AreEntries (map entry_data entries.now) }
+    ensures bytes { IfOk result (λ row. row ≡ front_bytes names.now (map entry_data entries.now)) }
+    ensures fits { OnOk result (file_length names.now (map entry_data entries.now) ≤ 2 ^ 32) }
+    ensures fault { IfErr result (Unspelled (file_length names.now (map entry_data entries.now))) }
+{
+    let len = file_len(names, entries);
+    if len <= MOST_BYTES {
+        match spelled_front(alloc, names, entries, len) {
+            Ok(bytes) => Ok(bytes),
+            Err(_) => Err(SaveFault::NoMemory),
+        }
+    } else {
+        Err(SaveFault::TooLarge { length: len })
     }
 }

@@ -7,3 +7,13 @@ pub enum SaveFault {
     WriteFault,
     NoMemory,
 }
+
+/// Why the payloads of a term were not appended.
+#[derive(Clone, Copy, Debug, PartialEq, Eq)]
+pub enum TermFault {
+    /// The segments don't have the heads that were kept: the first number that differs.
+    Changed { kept: u64, found: u64 },
+    /// The file could not be written.
+    WriteFault,
+    NoMemory,
+}

@@ -6,11 +6,14 @@ ghost use Rattle.index_model.specs.Views.{term_data};
 ghost use Rattle.index_layout.specs.Bytes.{u32_bytes};
 ghost use Rattle.index_layout.specs.Layout.{name_bytes, names_bytes, head_bytes, heads_bytes, term_bytes, terms_bytes};
 ghost use Rattle.index_write.specs.Chosen.{head_data, chosen_terms, table_of};
+ghost use Rattle.index_write.specs.Streaming.{entry_data};
+ghost use Rattle.index_write.specs.declared.term_heads.TermHeads.{TermHeads};
 
-use crate::head::Head;
+use crate::head::PayloadHead;
 use crate::laws::terms_have_documents;
 use crate::lengths::shared_len;
-use jass_base::{ImpactIndex, NoMemory, Row, TermSegments, Text};
+use crate::term_heads::TermHeads;
+use jass_base::{ImpactIndex, NoMemory, Row, Text};
 
 /// Appends a name behind its length.
 #[tactic(auto, unfolding(index_layout::specs::Layout::name_bytes))]
@@ -36,12 +39,12 @@ pub fn put_names(names: &[Text], out: &mut Row<u8>) -> Result<(), NoMemory>
 
 /// Appends a head: impact, count, codec, size of the payload.
 #[tactic(auto, unfolding(index_layout::specs::Layout::head_bytes))]
-fn put_head(head: &Head, out: &mut Row<u8>) -> Result<(), NoMemory>
+fn put_head(head: &PayloadHead, out: &mut Row<u8>) -> Result<(), NoMemory>
     ensures { OnOk result (out.new ≡ out.old ++ head_bytes (head_data head.now)) }
 {
     let impact = head.impact.to_le_bytes();
     let count = head.count.to_le_bytes();
-    let size = head.size.to_le_bytes();
+    let size = head.bytes.to_le_bytes();
     out.extend(&[
         impact[0],
         impact[1],
@@ -59,7 +62,7 @@ fn put_head(head: &Head, out: &mut Row<u8>) -> Result<(), NoMemory>
 }
 
 /// Appends the heads of a term.
-fn put_heads(heads: &[Head], out: &mut Row<u8>) -> Result<(), NoMemory>
+fn put_heads(heads: &[PayloadHead], out: &mut Row<u8>) -> Result<(), NoMemory>
     ensures { OnOk result (out.new ≡ out.old ++ heads_bytes (map head_data heads.now)) }
 {
     for head in heads {
@@ -85,22 +88,27 @@ fn put_term(before: &[u8], term: &[u8], out: &mut Row<u8>) -> Result<(), NoMemor
 /// Appends a term with the heads of its segments.
 fn put_entry(
     before: &[u8],
-    term: &TermSegments,
-    heads: &[Head],
+    term: &[u8],
+    heads: &[PayloadHead],
     out: &mut Row<u8>,
 ) -> Result<(), NoMemory>
-    requires { length heads.now < 2 ^ 32 }
-    ensures { OnOk result (out.new ≡ out.old ++ (term_bytes before.now term.now.term
+    requires term { length term.now ≤ 65535 }
+    requires heads { length heads.now < 2 ^ 32 }
+    ensures { OnOk result (out.new ≡ out.old ++ (term_bytes before.now term.now
         ++ (u32_bytes (length heads.now) ++ heads_bytes (map head_data heads.now)))) }
 {
-    put_term(before, term.term.as_str().as_bytes(), out)?;
+    put_term(before, term, out)?;
     out.extend(&(heads.len() as u32).to_le_bytes())?;
     put_heads(heads, out)?;
     Ok(())
 }
 
 /// Appends all terms, each with the next of the heads.
-pub fn put_terms(index: &ImpactIndex, heads: &[Head], out: &mut Row<u8>) -> Result<(), NoMemory>
+pub fn put_terms(
+    index: &ImpactIndex,
+    heads: &[PayloadHead],
+    out: &mut Row<u8>,
+) -> Result<(), NoMemory>
     requires greatest { index.now.greatest ≤ 65535 }
     requires heads { map head_data heads.now ≡ table_of (length index.now.names) (map term_data index.now.terms) }
     ensures { OnOk result (out.new ≡ out.old
@@ -110,10 +118,26 @@ pub fn put_terms(index: &ImpactIndex, heads: &[Head], out: &mut Row<u8>) -> Resu
     let mut before: &[u8] = b"";
     let mut left = heads;
     for term in index.terms.as_slice() {
+        let bytes = term.term.as_str().as_bytes();
         let (here, rest) = left.split_at(term.segments.len());
-        put_entry(before, term, here, out)?;
-        before = term.term.as_str().as_bytes();
+        put_entry(before, bytes, here, out)?;
+        before = bytes;
         left = rest;
+    }
+    Ok(())
+}
+
+/// Appends terms with their heads.
+pub fn put_entries(entries: &[TermHeads], out: &mut Row<u8>) -> Result<(), NoMemory>
+    requires fit { All (λ (t : TermHeads). length t.term ≤ 65535) entries.now }
+    requires few { All (λ (t : TermHeads). length t.heads < 2 ^ 32) entries.now }
+    ensures { OnOk result (out.new ≡ out.old ++ terms_bytes [] (map entry_data entries.now)) }
+{
+    let mut before: &[u8] = b"";
+    for entry in entries {
+        let bytes = entry.term.as_str().as_bytes();
+        put_entry(before, bytes, entry.heads.as_slice(), out)?;
+        before = bytes;
     }
     Ok(())
 }

@@ -9,44 +9,48 @@ use jass_base::{ImpactIndex, NoMemory, Row, Segment};
 use segment_codecs::{Codec, shortest};
 use std::alloc::Global;
 
-/// What stands in the file before the payload of a segment. It is made once for each segment, so
-/// that its codec is chosen once.
-#[derive(Clone, Copy)]
-pub struct Head {
+/// What stands in an index file before the payload of a segment. It is made once for each segment,
+/// so that its codec is chosen once.
+#[derive(Clone, Copy, Debug, PartialEq, Eq)]
+pub struct PayloadHead {
     pub impact: u16,
     /// How many documents.
     pub count: u32,
     pub codec: Codec,
-    /// The bytes of the payload.
-    pub size: u32,
+    /// How many bytes the payload has.
+    pub bytes: u32,
 }
 
-impl Head {
+impl PayloadHead {
     /// The head of a segment in its shortest codec, in an index of `d` documents.
-    pub fn new(segment: &Segment, d: u32) -> Head
+    pub fn new(segment: &Segment, d: u32) -> PayloadHead
         requires { AreDocs d segment.now.docs }
         ensures { head_data result ≡ chosen_head d (segment_data segment.now) }
     {
         let docs = segment.docs.as_slice();
         let choice = shortest(docs, d);
         segments_are_small();
-        Head {
+        PayloadHead {
             impact: segment.impact,
             count: docs.len() as u32,
             codec: choice.codec,
-            size: choice.size as u32,
+            bytes: choice.size as u32,
         }
     }
 }
 
 /// Appends the heads of segments.
-pub fn push_heads(segments: &[Segment], d: u32, heads: &mut Row<Head>) -> Result<(), NoMemory>
+pub fn push_heads(
+    segments: &[Segment],
+    d: u32,
+    heads: &mut Row<PayloadHead>,
+) -> Result<(), NoMemory>
     requires { All (λ (s : Segment). AreDocs d s.docs) segments.now }
     ensures { OnOk result (map head_data heads.new
         ≡ map head_data heads.old ++ chosen_heads d (map segment_data segments.now)) }
 {
     for segment in segments {
-        match heads.push(Head::new(segment, d)) {
+        match heads.push(PayloadHead::new(segment, d)) {
             Ok(()) => {}
             Err(_) => return Err(NoMemory),
         }
@@ -54,8 +58,22 @@ pub fn push_heads(segments: &[Segment], d: u32, heads: &mut Row<Head>) -> Result
     Ok(())
 }
 
+/// The heads of segments, each in its shortest codec, in an index of `d` documents.
+pub fn payload_heads(
+    alloc: Global,
+    segments: &[Segment],
+    d: u32,
+) -> Result<Row<PayloadHead>, NoMemory>
+    requires { All (λ (s : Segment). AreDocs d s.docs) segments.now }
+    ensures { IfOk result (λ heads. map head_data heads ≡ chosen_heads d (map segment_data segments.now)) }
+{
+    let mut heads = Row::new(alloc);
+    push_heads(segments, d, &mut heads)?;
+    Ok(heads)
+}
+
 /// The heads of all terms' segments.
-pub fn index_heads(alloc: Global, index: &ImpactIndex) -> Result<Row<Head>, NoMemory>
+pub fn index_heads(alloc: Global, index: &ImpactIndex) -> Result<Row<PayloadHead>, NoMemory>
     requires { index.now.greatest ≤ 65535 }
     ensures { IfOk result (λ heads. map head_data heads
         ≡ table_of (length index.now.names) (map term_data index.now.terms)) }

@@ -3,15 +3,20 @@
 ghost use Rattle.std.specs.Prelude.{◌≡◌, ◌≤◌, ◌<◌, ◌+◌, ◌*◌, ◌^◌, [], length, map};
 ghost use Rattle.std.specs.List.{sum_by};
 ghost use Rattle.index_model.specs.Views.{term_data, index_data};
-ghost use Rattle.index_layout.specs.Layout.{names_bytes, rest_behind, shared_with, terms_bytes};
+ghost use Rattle.index_layout.specs.Heads.{HeadData, all_heads, payloads_size};
+ghost use Rattle.index_layout.specs.Layout.{file_length, names_bytes, rest_behind, shared_with, terms_bytes};
 ghost use Rattle.index_layout.specs.View.{index_text};
 ghost use Rattle.index_write.specs.Chosen.{head_data, chosen_terms, table_of};
-ghost use Rattle.index_write.specs.declared.head.Head.{Head};
+ghost use Rattle.index_write.specs.Streaming.{AreEntries, AreNames, entry_data};
+ghost use Rattle.index_write.specs.declared.head.PayloadHead.{PayloadHead};
 
-use crate::head::Head;
-use crate::laws::{parts_are_small, tables_have_their_sums, texts_have_their_parts};
+use crate::head::PayloadHead;
+use crate::laws::{
+    entries_are_small, parts_are_small, tables_have_their_sums, texts_have_their_parts,
+};
+use crate::term_heads::TermHeads;
 use index_model::laws::indexes_in_memory_are_indexes;
-use jass_base::{ImpactIndex, TermSegments, Text};
+use jass_base::{ImpactIndex, Text};
 
 /// The bytes of names, each behind its length.
 fn names_len(names: &[Text]) -> u64
@@ -38,14 +43,13 @@ pub fn shared_len(before: &[u8], term: &[u8]) -> usize
     shared
 }
 
-/// The bytes of a term behind the one before it, with its heads.
-fn term_len(before: &[u8], term: &TermSegments) -> u64
-    requires { 8 + length (rest_behind before.now term.now.term) + 11 * length term.now.segments < 2 ^ 62 }
-    ensures { result ≡ 8 + length (rest_behind before.now term.now.term) + 11 * length term.now.segments }
+/// The bytes of a term behind the one before it, with so many heads.
+fn term_len(before: &[u8], term: &[u8], heads: usize) -> u64
+    requires { 8 + length (rest_behind before.now term.now) + 11 * heads < 2 ^ 62 }
+    ensures { result ≡ 8 + length (rest_behind before.now term.now) + 11 * heads }
 {
-    let bytes = term.term.as_str().as_bytes();
-    let rest = bytes.len() - shared_len(before, bytes);
-    8 + rest as u64 + 11 * term.segments.len() as u64
+    let rest = term.len() - shared_len(before, term);
+    8 + rest as u64 + 11 * heads as u64
 }
 
 /// The bytes of all terms with their heads.
@@ -59,27 +63,28 @@ fn terms_len(index: &ImpactIndex) -> u64
     let mut len = 0;
     let mut before: &[u8] = b"";
     for term in index.terms.as_slice() {
-        len += term_len(before, term);
-        before = term.term.as_str().as_bytes();
+        let bytes = term.term.as_str().as_bytes();
+        len += term_len(before, bytes, term.segments.len());
+        before = bytes;
     }
     len
 }
 
 /// The bytes of the payloads.
-fn payloads_len(heads: &[Head]) -> u64
-    requires { sum_by (λ (h : Head). h.size) heads.now < 2 ^ 62 }
-    ensures len { result ≡ sum_by (λ (h : Head). h.size) heads.now }
+fn payloads_len(heads: &[PayloadHead]) -> u64
+    requires { sum_by (λ (h : PayloadHead). h.bytes) heads.now < 2 ^ 62 }
+    ensures len { result ≡ sum_by (λ (h : PayloadHead). h.bytes) heads.now }
     ensures few { result < 2 ^ 62 }
 {
     let mut len = 0;
     for head in heads {
-        len += u64::from(head.size);
+        len += u64::from(head.bytes);
     }
     len
 }
 
 /// The bytes of the file, by its names, its terms and its heads.
-pub fn index_len(index: &ImpactIndex, heads: &[Head]) -> u64
+pub fn index_len(index: &ImpactIndex, heads: &[PayloadHead]) -> u64
     requires greatest { index.now.greatest ≤ 65535 }
     requires heads { map head_data heads.now ≡ table_of (length index.now.names) (map term_data index.now.terms) }
     ensures { result ≡ length (index_text (index_data index.now)) }
@@ -89,4 +94,55 @@ pub fn index_len(index: &ImpactIndex, heads: &[Head]) -> u64
     texts_have_their_parts();
     tables_have_their_sums();
     40 + names_len(index.names.as_slice()) + terms_len(index) + payloads_len(heads)
+}
+
+/// The bytes of terms with their heads.
+fn entries_len(entries: &[TermHeads]) -> u64
+    requires { length (terms_bytes [] (map entry_data entries.now)) < 2 ^ 62 }
+    ensures { result ≡ length (terms_bytes [] (map entry_data entries.now)) }
+{
+    let mut len = 0;
+    let mut before: &[u8] = b"";
+    for entry in entries {
+        let bytes = entry.term.as_str().as_bytes();
+        len += term_len(before, bytes, entry.heads.len());
+        before = bytes;
+    }
+    len
+}
+
+/// The bytes of the payloads of terms with their heads.
+fn entries_payloads_len(entries: &[TermHeads]) -> u64
+    requires { length (all_heads (map entry_data entries.now)) ≤ 2 ^ 29 }
+    ensures len { result ≡ payloads_size (map entry_data entries.now) }
+    ensures few { result ≤ 2 ^ 32 * length (all_heads (map entry_data entries.now)) }
+{
+    let mut len = 0;
+    for entry in entries {
+        len += few_payloads_len(entry.heads.as_slice());
+    }
+    len
+}
+
+/// The bytes of the payloads of few heads.
+fn few_payloads_len(heads: &[PayloadHead]) -> u64
+    requires { length heads.now ≤ 2 ^ 29 }
+    ensures len { result ≡ sum_by (λ (h : HeadData). h.size) (map head_data heads.now) }
+    ensures few { result ≤ 2 ^ 32 * length heads.now }
+{
+    let mut len = 0;
+    for head in heads {
+        len += u64::from(head.bytes);
+    }
+    len
+}
+
+/// The bytes of the file with these names, terms and heads.
+pub fn file_len(names: &[Text], entries: &[TermHeads]) -> u64
+    requires names { AreNames names.now }
+    requires entries { AreEntries (map entry_data entries.now) }
+    ensures { result ≡ file_length names.now (map entry_data entries.now) }
+{
+    entries_are_small();
+    40 + names_len(names) + entries_len(entries) + entries_payloads_len(entries)
 }

@@ -3,19 +3,25 @@
 //! The bytes of an index file, and how they are written: each segment in its shortest codec.
 
 mod bytes;
+mod change;
 mod fault;
 mod file;
 mod front;
 mod head;
-mod laws;
+pub mod laws;
 mod lengths;
 mod payloads;
 mod sums;
+mod term_heads;
+mod writer;
 
 pub use bytes::index_bytes;
-pub use fault::SaveFault;
+pub use fault::{SaveFault, TermFault};
 pub use file::write_index;
+pub use head::{PayloadHead, payload_heads};
 pub use sums::totals;
+pub use term_heads::TermHeads;
+pub use writer::IndexWriter;
 
 #[cfg(test)]
 mod tests;

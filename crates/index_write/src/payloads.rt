@@ -6,13 +6,18 @@ ghost use Rattle.jass_base.specs.declared.segment.Segment.{Segment};
 ghost use Rattle.index_model.specs.Views.{segment_data, term_data};
 ghost use Rattle.index_write.specs.Chosen.{head_data, chosen_head, chosen_heads, chosen_payload, chosen_payloads, table_of, table_payloads};
 
-use crate::head::Head;
+use crate::head::PayloadHead;
 use crate::laws::terms_have_documents;
 use jass_base::{ImpactIndex, NoMemory, Row, Segment};
 use segment_codecs::encode;
 
 /// Appends the payload of a segment in the codec of its head.
-fn put_payload(segment: &Segment, head: &Head, d: u32, out: &mut Row<u8>) -> Result<(), NoMemory>
+fn put_payload(
+    segment: &Segment,
+    head: &PayloadHead,
+    d: u32,
+    out: &mut Row<u8>,
+) -> Result<(), NoMemory>
     requires docs { AreDocs d segment.now.docs }
     requires head { head_data head.now ≡ chosen_head d (segment_data segment.now) }
     ensures { OnOk result (out.new ≡ out.old ++ chosen_payload d (segment_data segment.now)) }
@@ -22,9 +27,9 @@ fn put_payload(segment: &Segment, head: &Head, d: u32, out: &mut Row<u8>) -> Res
 }
 
 /// Appends the payloads of a term's segments.
-fn put_payloads(
+pub fn put_payloads(
     segments: &[Segment],
-    heads: &[Head],
+    heads: &[PayloadHead],
     d: u32,
     out: &mut Row<u8>,
 ) -> Result<(), NoMemory>
@@ -41,7 +46,7 @@ fn put_payloads(
 /// Appends the payloads of all terms, each with the next of the heads.
 pub fn put_all_payloads(
     index: &ImpactIndex,
-    heads: &[Head],
+    heads: &[PayloadHead],
     out: &mut Row<u8>,
 ) -> Result<(), NoMemory>
     requires greatest { index.now.greatest ≤ 65535 }

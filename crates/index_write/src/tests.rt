@@ -1,14 +1,21 @@
 // The bytes of small indexes, and files that can't be written.
 
-ghost use Rattle.std.specs.Prelude.{◌≡◌, ℕ, ◌<◌, ◌≤◌, ◌^◌, [], ◌∷◌, length, max, All, AllPairs, IfOk};
+ghost use Rattle.std.specs.Prelude.{◌≡◌, ℕ, ◌<◌, ◌≤◌, ◌^◌, [], ◌∷◌, length, map, max, All, AllPairs, IfOk};
+ghost use Rattle.jass_base.specs.Gaps.{AreDocs};
 ghost use Rattle.jass_base.specs.Limits.{IsName, IsText};
+ghost use Rattle.jass_base.specs.declared.segment.Segment.{Segment};
+ghost use Rattle.index_write.specs.Streaming.{AreEntries, AreNames, entry_data};
 ghost use Rattle.jass_base.specs.Segments.{FallsTo, SharesNoDocument, HasDocumentsBelow};
 ghost use Rattle.jass_base.specs.Terms.{RisesTo, HasTermBelow, greatest_of, greatest_impact};
 
-use crate::{SaveFault, index_bytes, totals, write_index};
+use crate::{
+    IndexWriter, PayloadHead, SaveFault, TermFault, TermHeads, index_bytes, payload_heads, totals,
+    write_index,
+};
 use jass_base::{
     Cabinet, ImpactIndex, MemCabinet, NoMemory, Row, Segment, TermSegments, Text, Totals,
 };
+use segment_codecs::Codec;
 use std::alloc::Global;
 
 // Three documents with the term `a` at the impacts 9, 5 and 1.
@@ -64,6 +71,38 @@ fn files_are_written_or_left(rt: HostRuntime) {
     }
 }
 
+#[test]
+fn heads_are_made(rt: HostRuntime) {
+    let wanted = [head(9), head(5), head(1)];
+    assert!(&rt; small_heads(rt.alloc()).is_ok_and(|heads| heads.as_slice() == wanted.as_slice()));
+}
+
+#[test]
+fn files_are_written_term_by_term(rt: HostRuntime) {
+    let alloc = rt.alloc();
+    let totals = Totals {
+        docs: 3,
+        terms: 1,
+        postings: 3,
+        greatest: 9,
+    };
+    let table: [(&[u64], Result<Totals, TermFault>, &[u8]); 4] = [
+        (&[], Ok(totals), &SMALL),
+        (&[0], Err(TermFault::WriteFault), b"old"),
+        (&[1], Err(TermFault::WriteFault), b""),
+        (&[2], Err(TermFault::WriteFault), &SMALL[..100]),
+    ];
+    for (bad, answer, content) in table {
+        assert!(&rt; streams(alloc, bad, answer, content).is_ok_and(|same| same));
+    }
+}
+
+#[test]
+fn other_segments_are_refused(rt: HostRuntime) {
+    let wanted = Err(TermFault::Changed { kept: 3, found: 1 });
+    assert!(&rt; refuses_one_segment(rt.alloc(), wanted).is_ok_and(|same| same));
+}
+
 // Whether the bytes of an index, from a place on, are these.
 fn is_spelled(alloc: Global, index: &ImpactIndex, from: usize, wanted: &[u8]) -> bool {
     match index_bytes(alloc, index) {
@@ -90,6 +129,104 @@ fn leaves(
     files.store("i", b"old")?;
     let written = write_index(alloc, &index, &mut files, "i");
     Ok(written == answer && files.content("i") == Some(content))
+}
+
+// The same for a file that is written term by term, with the totals at its end.
+fn streams(
+    alloc: Global,
+    bad: &[u64],
+    answer: Result<Totals, TermFault>,
+    content: &[u8],
+) -> Result<bool, NoMemory> {
+    let mut bad_writes = Row::new(alloc);
+    bad_writes.extend(bad)?;
+    let mut files = MemCabinet::new(alloc, Row::new(alloc), bad_writes);
+    files.store("i", b"old")?;
+    let segments = falling(alloc)?;
+    let written = streamed(alloc, segments.as_slice(), &mut files);
+    Ok(written == answer && files.content("i") == Some(content))
+}
+
+// Whether one segment on three heads is answered so, and the file left with its front.
+fn refuses_one_segment(alloc: Global, answer: Result<Totals, TermFault>) -> Result<bool, NoMemory> {
+    let mut files = MemCabinet::new(alloc, Row::new(alloc), Row::new(alloc));
+    let segments = one(alloc)?;
+    let written = streamed(alloc, segments.as_slice(), &mut files);
+    Ok(written == answer && files.content("i") == Some(&SMALL[..100]))
+}
+
+// Writes the file of the three names and the term `a` with the heads at 9, 5 and 1.
+fn streamed(
+    alloc: Global,
+    segments: &[Segment],
+    files: &mut MemCabinet,
+) -> Result<Totals, TermFault>
+    requires docs { All (λ (s : Segment). AreDocs 3 s.docs) segments.now }
+    requires once { AllPairs SharesNoDocument segments.now }
+{
+    let writer = match begun(alloc, files) {
+        Ok(writer) => writer,
+        Err(SaveFault::WriteFault) => return Err(TermFault::WriteFault),
+        Err(_) => return Err(TermFault::NoMemory),
+    };
+    let writer = writer.term(segments, files)?;
+    Ok(writer.finish())
+}
+
+// Writes what stands before the payloads.
+fn begun(alloc: Global, files: &mut MemCabinet) -> Result<IndexWriter, SaveFault>
+    ensures docs { IfOk result (λ writer. writer.docs ≡ 3) }
+    ensures left { IfOk result (λ writer. writer.left ≡ 1) }
+{
+    match kept(alloc) {
+        Ok((names, terms)) => IndexWriter::new(alloc, names, terms, files, "i"),
+        Err(_) => Err(SaveFault::NoMemory),
+    }
+}
+
+// The three names, and the term `a` with its heads.
+fn kept(alloc: Global) -> Result<(Row<Text>, Row<TermHeads>), NoMemory>
+    ensures names { IfOk result (λ x. AreNames x.0) }
+    ensures docs { IfOk result (λ x. length x.0 ≡ 3) }
+    ensures terms { IfOk result (λ x. AreEntries (map entry_data x.1)) }
+    ensures count { IfOk result (λ x. length x.1 ≡ 1) }
+{
+    let names = names(alloc)?;
+    let terms = kept_terms(alloc)?;
+    Ok((names, terms))
+}
+
+fn kept_terms(alloc: Global) -> Result<Row<TermHeads>, NoMemory>
+    ensures terms { IfOk result (λ terms. AreEntries (map entry_data terms)) }
+    ensures count { IfOk result (λ terms. length terms ≡ 1) }
+{
+    let term = Text::from_str(alloc, "a")?;
+    let mut heads = Row::new(alloc);
+    heads.extend(&[head(9), head(5), head(1)])?;
+    let mut terms = Row::new(alloc);
+    terms
+        .push(TermHeads { term, heads })
+        .map_err(|refused| refused.1)?;
+    Ok(terms)
+}
+
+fn small_heads(alloc: Global) -> Result<Row<PayloadHead>, NoMemory> {
+    let segments = falling(alloc)?;
+    payload_heads(alloc, segments.as_slice(), 3)
+}
+
+// The head of a segment of one document below 128.
+fn head(impact: u16) -> PayloadHead
+    ensures impact { result.impact ≡ impact }
+    ensures count { result.count ≡ 1 }
+    ensures bytes { result.bytes ≡ 1 }
+{
+    PayloadHead {
+        impact,
+        count: 1,
+        codec: Codec::Varbyte,
+        bytes: 1,
+    }
 }
 
 fn no_documents(alloc: Global) -> ImpactIndex {
@@ -183,15 +320,25 @@ fn segment(alloc: Global, impact: u16, doc: u32) -> Result<Segment, NoMemory>
     requires { 1 ≤ impact }
     ensures impact { IfOk result (λ segment. segment.impact ≡ impact) }
     ensures docs { IfOk result (λ segment. segment.docs ≡ doc ∷ []) }
+    ensures are { doc < 3 → IfOk result (λ (segment : Segment). AreDocs 3 segment.docs) }
+{
+    let docs = one_doc(alloc, doc)?;
+    Ok(Segment { impact, docs })
+}
+
+fn one_doc(alloc: Global, doc: u32) -> Result<Row<u32>, NoMemory>
+    ensures { IfOk result (λ docs. docs ≡ doc ∷ []) }
 {
     let mut docs = Row::new(alloc);
     docs.push(doc).map_err(|refused| refused.1)?;
-    Ok(Segment { impact, docs })
+    Ok(docs)
 }
 
 fn one(alloc: Global) -> Result<Row<Segment>, NoMemory>
     ensures count { IfOk result (λ segments. length segments ≡ 1) }
     ensures below { IfOk result (All (HasDocumentsBelow 3)) }
+    ensures docs { IfOk result (All (λ (s : Segment). AreDocs 3 s.docs)) }
+    ensures once { IfOk result (AllPairs SharesNoDocument) }
     ensures greatest { IfOk result (λ segments. greatest_of segments ≡ 1) }
 {
     let first = segment(alloc, 1, 0)?;
@@ -205,6 +352,7 @@ fn falling(alloc: Global) -> Result<Row<Segment>, NoMemory>
     ensures falling { IfOk result (AllPairs FallsTo) }
     ensures once { IfOk result (AllPairs SharesNoDocument) }
     ensures below { IfOk result (All (HasDocumentsBelow 3)) }
+    ensures docs { IfOk result (All (λ (s : Segment). AreDocs 3 s.docs)) }
     ensures greatest { IfOk result (λ segments. greatest_of segments ≡ 9) }
 {
     let first = segment(alloc, 9, 0)?;

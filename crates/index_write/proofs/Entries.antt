@@ -1,0 +1,127 @@
+-- Terms with their heads, from one on.
+use Rattle.std.proofs.Common.{◌≡◌, ℕ, ◌+◌, ◌-◌, ◌*◌, ◌<◌, ◌≤◌, ◌^◌, List, [], ◌∷◌, ◌++◌, length, map, drop, get_or, All, ap, sym, subst, ◌∙◌, refl, arith, slice_index_or}
+use Rattle.std.specs.Prelude.{max, Option, Some, None, Bool, true, false, ◌==◌, cond, if◌then◌else◌}
+use Rattle.std.specs.List.{sum_by}
+use Rattle.std.proofs.lemmas.List.{length-append, length-drop, length-map, get_or-map}
+use Rattle.std.proofs.lemmas.List.Elements.{All-head, All-tail, All-cons}
+use Rattle.std.proofs.lemmas.List.Sums.{sum_by-cons, sum_by-append}
+use Rattle.index_layout.specs.Bytes.{u32_bytes}
+use Rattle.index_layout.specs.Heads.{HeadData, all_heads, head_postings, payloads_size, greatest_of, greatest_impact}
+use Rattle.index_layout.specs.Heads.{TermHeads as EntryData}
+use Rattle.index_layout.specs.Layout.{names_bytes, head_bytes, heads_bytes, rest_behind, shared_with, term_bytes, terms_bytes}
+use Rattle.index_write.specs.Chosen.{head_data}
+use Rattle.index_write.specs.Streaming.{AreEntries, AreNames, IsEntry, IsHead, entry_data, heads_left, no_entry}
+use Rattle.index_write.specs.declared.head.PayloadHead.{PayloadHead}
+use Rattle.index_write.specs.declared.term_heads.TermHeads.{TermHeads}
+use Rattle.index_write.proofs.Bounds.{one_size, names_small}
+
+abbrev pub size_of : HeadData → ℕ
+size_of h = h.size
+
+abbrev pub count_of : HeadData → ℕ
+count_of h = h.count
+
+-- the bytes of the terms from one on
+pub entries_next : (before : List ℕ) (t : TermHeads) (from rest : List TermHeads) → from ≡ t ∷ rest
+    → terms_bytes before (map entry_data from)
+    ≡ (term_bytes before t.term ++ (u32_bytes (length (map head_data t.heads)) ++ heads_bytes (map head_data t.heads))) ++ terms_bytes t.term (map entry_data rest)
+entries_next before t from rest is = ap (λ ts. terms_bytes before (map entry_data ts)) is
+
+pub entries_next_size : (before : List ℕ) (t : TermHeads) (from rest : List TermHeads) → from ≡ t ∷ rest
+    → length (terms_bytes before (map entry_data from)) ≡ 8 + length (rest_behind before t.term) + 11 * length t.heads + length (terms_bytes t.term (map entry_data rest))
+entries_next_size before t from rest is =
+    ap length (entries_next before t from rest is) ∙ one_size before (entry_data t) (terms_bytes t.term (map entry_data rest)) (length t.heads) (length-map t.heads head_data)
+
+-- the sums over terms from one on
+pub sizes_next : (t : TermHeads) (from rest : List TermHeads) → from ≡ t ∷ rest
+    → payloads_size (map entry_data from) ≡ sum_by size_of (map head_data t.heads) + payloads_size (map entry_data rest)
+sizes_next t from rest is = ap (λ ts. payloads_size (map entry_data ts)) is ∙ sum_by-append size_of (map head_data t.heads) (all_heads (map entry_data rest))
+
+pub postings_next : (t : TermHeads) (from rest : List TermHeads) → from ≡ t ∷ rest
+    → head_postings (map entry_data from) ≡ sum_by count_of (map head_data t.heads) + head_postings (map entry_data rest)
+postings_next t from rest is = ap (λ ts. head_postings (map entry_data ts)) is ∙ sum_by-append count_of (map head_data t.heads) (all_heads (map entry_data rest))
+
+pub count_next : (t : TermHeads) (from rest : List TermHeads) → from ≡ t ∷ rest
+    → length (all_heads (map entry_data from)) ≡ length t.heads + length (all_heads (map entry_data rest))
+count_next t from rest is =
+    ap (λ ts. length (all_heads (map entry_data ts))) is ∙ length-append (map head_data t.heads) (all_heads (map entry_data rest))
+    ∙ ap (λ n. n + length (all_heads (map entry_data rest))) (length-map t.heads head_data)
+
+max_joins : (a b c : ℕ) → max (max a b) c ≡ max a (max b c)
+max_joins a b c = omega arith
+
+greatest_joins : (heads more : List HeadData) → greatest_of (heads ++ more) ≡ max (greatest_of heads) (greatest_of more)
+greatest_joins [] more = omega arith
+greatest_joins (h ∷ heads) more = ap (max h.impact) (greatest_joins heads more) ∙ sym (max_joins h.impact (greatest_of heads) (greatest_of more))
+
+pub greatest_next : (t : TermHeads) (from rest : List TermHeads) → from ≡ t ∷ rest
+    → greatest_impact (map entry_data from) ≡ max (greatest_of (map head_data t.heads)) (greatest_impact (map entry_data rest))
+greatest_next t from rest is = ap (λ ts. greatest_impact (map entry_data ts)) is ∙ greatest_joins (map head_data t.heads) (all_heads (map entry_data rest))
+
+pub greatest_head_next : (h : PayloadHead) (from rest : List PayloadHead) → from ≡ h ∷ rest
+    → greatest_of (map head_data from) ≡ max h.impact (greatest_of (map head_data rest))
+greatest_head_next h from rest is = ap (λ hs. greatest_of (map head_data hs)) is
+
+-- each head counts a document
+counted : (heads : List HeadData) → All IsHead heads → length heads ≤ sum_by count_of heads
+counted [] are = omega arith
+counted (h ∷ heads) are =
+    let one = (All-head IsHead h heads are).count in
+    omega (arith, one, sum_by-cons count_of h heads, counted heads (All-tail IsHead h heads are))
+
+pub heads_few : (entries : List EntryData) → All IsEntry entries → length (all_heads entries) ≤ head_postings entries
+heads_few [] are = omega arith
+heads_few (t ∷ entries) are =
+    omega (
+      arith,
+      counted t.heads (All-head IsEntry t entries are).heads,
+      length-append t.heads (all_heads entries),
+      sum_by-append count_of t.heads (all_heads entries),
+      heads_few entries (All-tail IsEntry t entries are),
+    )
+
+pub entries_small : (before : List ℕ) (entries : List EntryData) → All IsEntry entries → length (terms_bytes before entries) ≤ 65543 * length entries + 11 * length (all_heads entries)
+entries_small before [] are = omega arith
+entries_small before (t ∷ entries) are =
+    let fits = (All-head IsEntry t entries are).fits in
+    omega (
+      arith,
+      fits,
+      one_size before t (terms_bytes t.term entries) (length t.heads) refl,
+      length-drop (shared_with before t.term) t.term,
+      length-append t.heads (all_heads entries),
+      entries_small t.term entries (All-tail IsEntry t entries are),
+    )
+
+-- a term has at most as many heads as all of them
+all_unmap : {X Y : Type 0} (P : Y → Type 0) (f : X → Y) (xs : List X) → All P (map f xs) → All (λ x. P (f x)) xs
+all_unmap P f xs are = λ i d inside. subst P (get_or-map f xs i d (f d) inside) (are i (f d) (omega (arith, inside, length-map xs f)))
+
+abbrev Few : ℕ → EntryData → Type 0
+Few n t = length t.heads ≤ n
+
+each_few : (entries : List EntryData) (n : ℕ) → length (all_heads entries) ≤ n → All (Few n) entries
+each_few [] n few = λ i d inside. absurd (omega (arith, inside))
+each_few (t ∷ entries) n few = All-cons (Few n) t entries (omega (arith, few, length-append t.heads (all_heads entries))) (each_few entries n (omega (arith, few, length-append t.heads (all_heads entries))))
+
+pub heads_each : (entries : List TermHeads) → AreEntries (map entry_data entries) → All (λ (t : TermHeads). length t.heads < 2 ^ 32) entries
+heads_each entries are =
+    let plain = map entry_data entries in
+    let total = are.postings in
+    let few = each_few plain (2 ^ 29) (omega (arith, total, heads_few plain are.each)) in
+    λ i t inside. (let e = all_unmap (Few (2 ^ 29)) entry_data entries few i t inside in omega (arith, e, length-map (get_or entries i t).heads head_data))
+
+pub terms_each : (entries : List TermHeads) → AreEntries (map entry_data entries) → All (λ (t : TermHeads). length t.term ≤ 65535) entries
+terms_each entries are = λ i t inside. (all_unmap IsEntry entry_data entries are.each i t inside).fits
+
+-- the heads of the first of so many terms at the end
+pub heads_there : (entries : List TermHeads) (left : ℕ) (t : TermHeads) → 1 ≤ left → left ≤ length entries → t ≡ slice_index_or entries (length entries - left) t
+    → map head_data t.heads ≡ heads_left (map entry_data entries) left
+unfolding heads_left
+heads_there entries left t some within is =
+    let place = length entries - left in
+    let inside : place < length entries = omega (arith, some, within) in
+    let plain = map entry_data entries in
+    let there : get_or plain (length plain - left) no_entry ≡ entry_data t =
+    ap (λ n. get_or plain (n - left) no_entry) (length-map entries entry_data) ∙ get_or-map entry_data entries place t no_entry inside ∙ ap entry_data (sym is) in
+    sym (ap (λ (t : EntryData). t.heads) there)

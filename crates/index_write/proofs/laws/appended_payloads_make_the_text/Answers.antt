@@ -1,0 +1,15 @@
+use Rattle.index_write.proofs.Files.{prefix_more, sets_more}
+use Rattle.index_write.proofs.Streamed.{payloads_more, totals_chosen}
+use Rattle.index_write.proofs.laws.appended_payloads_make_the_text.Goals as goal
+
+pub returns-clause-more : goal.returns-clause-more
+returns-clause-more c = payloads_more
+
+pub returns-clause-file : goal.returns-clause-file
+returns-clause-file c = sets_more
+
+pub returns-clause-prefix : goal.returns-clause-prefix
+returns-clause-prefix c = prefix_more
+
+pub returns-clause-totals : goal.returns-clause-totals
+returns-clause-totals c = totals_chosen

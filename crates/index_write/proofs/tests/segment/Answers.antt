@@ -1,0 +1,15 @@
+use Rattle.std.proofs.Common.{◌≡◌, ℕ, ◌<◌, ◌+◌, List, [], ◌∷◌, length, sym, subst, arith}
+use Rattle.std.proofs.lemmas.List.Elements.{All-cons, All-nil}
+use Rattle.jass_base.specs.Gaps.{AreDocs}
+use Rattle.index_write.proofs.tests.segment.Goals as goal
+
+one : (doc : ℕ) → doc < 3 → AreDocs 3 (doc ∷ [])
+one doc below = record {
+  some = omega arith;
+  rising = λ i inside. absurd (omega (arith, inside));
+  below = All-cons (λ (doc : ℕ). doc < 3) doc [] below (All-nil (λ (doc : ℕ). doc < 3));
+  limit = omega arith;
+}
+
+pub returns-clause-are : goal.returns-clause-are
+returns-clause-are c = λ below. subst (AreDocs 3) (sym c.in_ok-docs.ensures) (one c.args.doc below)
