@@ -33,7 +33,7 @@ AreTrialSizes = (words : List (List ℕ)) (seed docs terms queries : ℕ) → Is
 pub allowed : AreWithinLimits → AreTrialSizes → (words : List (List ℕ)) (command : CommandData) → IsCommand words command → IsAllowed command
 allowed law trials words (Once ciff k budget terms) is = (is.counted.some, is.counted.limit, is.named.few)
 allowed law trials words (Rewrite from to) is = tt
-allowed law trials words (Import ciff index rule bits) is = subst IsImpactWidth (sym is.narrows) (given_width is.more is.options is.spelled)
+allowed law trials words (Import ciff index rule bits) is = (subst IsImpactWidth (sym is.narrows) (given_width is.more is.options is.spelled), is.files.differ)
 allowed law trials words (Check index) is = tt
 allowed law trials words (Export index ciff) is = tt
 allowed law trials words (Migrate from to) is = tt

@@ -25,3 +25,4 @@ pub mod Trying
 pub mod Turns
 pub mod Unserved
 pub mod Wholes
+pub mod Imported

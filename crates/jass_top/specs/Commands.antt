@@ -1,5 +1,5 @@
 -- What each command means, and what its words keep.
-use Rattle.std.specs.Prelude.{◌≤◌, length, ⊤}
+use Rattle.std.specs.Prelude.{◌≢◌, ◌≤◌, length, ⊤}
 use Rattle.weights.specs.Quantizing.{IsImpactWidth}
 use Rattle.jass_top.specs.CheckMeaning.{check_meaning}
 use Rattle.jass_words.specs.Words.{CommandData, IsTrialSize, Once, Rewrite, Import, Check, Export, Migrate, Search, Serve, Trial, Help, Version}
@@ -28,11 +28,11 @@ meaning_of (Trial seed docs terms queries) = OnFiles (trial_meaning seed docs te
 meaning_of Help = OnFiles help_meaning
 meaning_of Version = OnFiles version_meaning
 
--- what the words of a command keep of its numbers
+-- what the words of a command keep of its numbers and files
 abbrev pub IsAllowed : CommandData → Type 0
 IsAllowed (Once ciff k budget terms) = (1 ≤ k) × (k ≤ 100000) × (length terms ≤ 255)
 IsAllowed (Rewrite from to) = ⊤
-IsAllowed (Import ciff index rule bits) = IsImpactWidth bits
+IsAllowed (Import ciff index rule bits) = IsImpactWidth bits × (ciff ≢ index)
 IsAllowed (Check index) = ⊤
 IsAllowed (Export index ciff) = ⊤
 IsAllowed (Migrate from to) = ⊤

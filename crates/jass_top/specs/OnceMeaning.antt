@@ -5,7 +5,7 @@ use Rattle.weights.specs.declared.weighting.Rule.TheVariants.{Tf}
 use Rattle.weights.specs.declared.quantizing.Bits.TheVariants.{Raw}
 use Rattle.index_model.specs.Index.{IndexData}
 use Rattle.jass_top.specs.Answers.{OnceQuery, once_prefix, once_query, once_steps, once_text}
-use Rattle.jass_top.specs.ImportMeaning.{collection_index}
+use Rattle.impact_segments.specs.Collections.{collection_index}
 use Rattle.jass_top.specs.Judging.{judge_ciff}
 use Rattle.jass_top.specs.MakingMeaning.{on_index, on_made}
 use Rattle.jass_top.specs.Meanings.{Output, Meaning}

@@ -19,7 +19,7 @@ use Rattle.index_file.specs.Places.{codec_use}
 use Rattle.trial_data.specs.Trials.{trial_collection, trial_queries}
 use Rattle.jass_top.specs.declared.stop.Place.TheVariants.{Byte}
 use Rattle.jass_top.specs.Answers.{words_query}
-use Rattle.jass_top.specs.ImportMeaning.{collection_index}
+use Rattle.impact_segments.specs.Collections.{collection_index}
 use Rattle.jass_top.specs.IndexJudging.{fitting}
 use Rattle.jass_top.specs.Judging.{Judged, Accepted, Refuses, behind}
 use Rattle.jass_top.specs.Meanings.{Output, Meaning}

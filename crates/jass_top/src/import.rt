@@ -1,4 +1,4 @@
-ghost use Rattle.std.specs.Prelude.{ℕ, ◌≡◌, ◌≤◌, ◌^◌, [], ◌∷◌, IfOk, IfErr};
+ghost use Rattle.std.specs.Prelude.{ℕ, ◌≡◌, ◌≢◌, ◌≤◌, ◌^◌, [], ◌∷◌, IfOk, IfErr};
 ghost use Rattle.index_layout.specs.View.{index_postings};
 ghost use Rattle.index_model.specs.Views.{index_data};
 ghost use Rattle.ciff_read.specs.Counts.{posting_count};
@@ -6,20 +6,23 @@ ghost use Rattle.jass_base.specs.Ciff.{CollectionData};
 ghost use Rattle.jass_base.specs.CiffViews.{collection_data};
 ghost use Rattle.weights.specs.Quantizing.{IsImpactWidth};
 ghost use Rattle.jass_top.specs.Causes.{Runs, Unread};
-ghost use Rattle.jass_top.specs.ImportMeaning.{collection_index, import_meaning};
+ghost use Rattle.impact_segments.specs.Collections.{collection_index};
+ghost use Rattle.jass_top.specs.ImportMeaning.{import_meaning};
 ghost use Rattle.jass_top.specs.Judging.{Accepted, Shows, judge_ciff};
 ghost use Rattle.jass_top.specs.Worlds.{outer};
 
 use crate::input::read_file;
-use crate::saving::save_index;
-use crate::stop::Stop;
+use crate::saving::TOO_LARGE;
+use crate::stop::{OUTPUT, Place, Stop};
 use impact_segments::build;
+use index_import::{ImportFault, import_file};
 use index_model::laws::{an_index_is_that_of_its_flat_list, indexes_in_memory_are_indexes};
 use jass_base::{Cabinet, Collection, ImpactIndex, NoMemory, Sink};
 use std::alloc::Global;
+use trec_run::put_totals;
 use weights::{Bits, Rule};
 
-/// Makes an index file of a CIFF file, and prints its totals.
+/// Makes an index file of a CIFF file, and prints its totals. One list at a time is in memory.
 pub fn run_import<'a, C: Cabinet, O: Sink>(
     alloc: Global,
     ciff: &'a str,
@@ -29,13 +32,36 @@ pub fn run_import<'a, C: Cabinet, O: Sink>(
     files: &mut C,
     out: &mut O,
 ) -> Result<(), Stop<'a>>
-    requires { IsImpactWidth bits }
+    requires width { IsImpactWidth bits }
+    requires apart { ciff.now ≢ index.now }
     ensures { (steps : ℕ) → Runs (import_meaning ciff.now index.now rule bits)
         (outer C.Cabinet O.Sink files.old out.old steps)
         (outer C.Cabinet O.Sink files.new out.new steps) result }
 {
-    let made = make_index(alloc, ciff, rule, bits, files)?;
-    save_index(alloc, &made, ciff, index, files, out)
+    let totals = match import_file(alloc, files, ciff, index, rule, bits) {
+        Ok(totals) => totals,
+        Err(ImportFault::Refused(refusal)) => {
+            return Err(Stop::Refused {
+                name: ciff,
+                number: refusal.why.number(),
+                at: Place::Byte(refusal.at),
+            });
+        }
+        Err(ImportFault::ReadFault) => return Err(Stop::ReadFault { name: ciff }),
+        Err(ImportFault::TooLarge { length }) => {
+            return Err(Stop::Refused {
+                name: ciff,
+                number: TOO_LARGE,
+                at: Place::Byte(length),
+            });
+        }
+        Err(ImportFault::WriteFault) => return Err(Stop::WriteFault { name: index }),
+        Err(ImportFault::NoMemory) => return Err(Stop::NoMemory),
+    };
+    match put_totals(out, totals) {
+        Ok(()) => Ok(()),
+        Err(_) => Err(Stop::WriteFault { name: OUTPUT }),
+    }
 }
 
 /// Makes the index of a CIFF file in memory.

@@ -276,7 +276,7 @@ fn failed_calls_are_noted(rt: HostRuntime) {
     let read = |reads| Bad { reads, ..NONE };
     let write = |writes| Bad { writes, ..NONE };
     let put = Bad { puts: 0, ..NONE };
-    let table: [(&[u8], &str, Bad, u8, &[u8], &[u8]); 10] = [
+    let table: [(&[u8], &str, Bad, u8, &[u8], &[u8]); 13] = [
         (
             &ONE_TERM,
             "import a b",
@@ -296,6 +296,22 @@ fn failed_calls_are_noted(rt: HostRuntime) {
         (
             &ONE_TERM,
             "import a b",
+            read(2),
+            4,
+            b"a: read fault\n",
+            NOTHING,
+        ),
+        (
+            &ONE_TERM,
+            "import a b",
+            read(3),
+            4,
+            b"a: read fault\n",
+            NOTHING,
+        ),
+        (
+            &ONE_TERM,
+            "import a b",
             write(0),
             5,
             b"b: write fault\n",
@@ -305,6 +321,14 @@ fn failed_calls_are_noted(rt: HostRuntime) {
             &ONE_TERM,
             "import a b",
             write(1),
+            5,
+            b"b: write fault\n",
+            &ONE_TERM_INDEX,
+        ),
+        (
+            &ONE_TERM,
+            "import a b",
+            write(2),
             5,
             b"b: write fault\n",
             &ONE_TERM_INDEX,

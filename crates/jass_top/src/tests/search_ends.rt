@@ -115,11 +115,12 @@ fn queries_reach_their_limits(rt: HostRuntime) {
     }
 }
 
-/// The index is made by two write calls, 0 and 1.
+/// The index is made by four write calls: what stands before the payloads by 0 and 1, and the
+/// payloads of each term by one.
 #[test]
 fn failed_calls_of_a_search_are_noted(rt: HostRuntime) {
     let table: [(u64, u64, &[u8]); 2] = [
-        (3, NEVER, b"run: write fault\n"),
+        (5, NEVER, b"run: write fault\n"),
         (NEVER, 0, b"output: write fault\n"),
     ];
     for (bad_write, bad_put, notes) in table {
@@ -149,7 +150,7 @@ fn a_run_goes_before_its_reports(rt: HostRuntime) {
         return;
     };
     let words = "search index queries run";
-    let Ok(left) = searched(rt.alloc(), &ONE_TERM, queries.as_slice(), words, 3, NEVER) else {
+    let Ok(left) = searched(rt.alloc(), &ONE_TERM, queries.as_slice(), words, 4, NEVER) else {
         assert!(&rt; false, "no memory");
         return;
     };

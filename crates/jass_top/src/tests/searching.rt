@@ -29,7 +29,7 @@ pub(super) const CAT_DOG_RUN: &[u8] = b"\
 301 Q0 d1 2 3 jass.2\n";
 
 /// No call, since there are fewer.
-pub(super) const NEVER: u64 = 99;
+pub(super) const NEVER: u64 = 1_000_000;
 
 /// What a search left.
 #[derive(Drop)]

@@ -1,16 +1,103 @@
-use Rattle.std.proofs.Common.{◌≡◌, Some, refl}
-use Rattle.index_model.specs.Views.{index_data}
-use Rattle.jass_top.specs.ImportMeaning.{collection_index}
-use Rattle.jass_top.specs.Judging.{judge_ciff}
+use Rattle.std.proofs.Common.{◌≡◌, Err, Some, refl, ap, sym, subst, inl, inr, arith}
+use Rattle.std.specs.Io.KnownBytes.{Appends}
+use Rattle.jass_base.specs.declared.answer.Totals.{Totals}
+use Rattle.jass_base.specs.Writing.{Appends-none, AppendsPrefix}
+use Rattle.index_layout.specs.View.{index_text}
+use Rattle.index_import.specs.Importing.{Imports}
+use Rattle.index_import.specs.declared.fault.ImportFault.{ImportFault}
+use Rattle.trec_run.specs.Totals.{totals_line}
+use Rattle.jass_top.specs.declared.stop.Place.TheVariants.{Byte}
+use Rattle.jass_top.specs.Judging.{Refuses, Shows}
 use Rattle.jass_top.specs.MakingMeaning.{made_output}
 use Rattle.jass_top.specs.Worlds.{outer}
-use Rattle.jass_top.proofs.Making.{made_runs}
+use Rattle.jass_top.proofs.Imported.{accepted, judge_import, larger, refused, stands, unread}
+use Rattle.jass_top.proofs.JudgedFiles.{whole_front}
 use Rattle.jass_top.proofs.import.run_import.Goals as goal
 
-pub returns : goal.returns
-returns g c = λ steps.
-    let (collection, shows, same) = c.in_ok-made.ensures.made in
-    made_runs c.args.ciff.now (Some c.args.index.now) (λ index output. output ≡ made_output index) (judge_ciff c.args.ciff.now) (collection_index c.args.rule c.args.bits) collection (index_data c.in_ok-made.made) same
-    (outer g.C.Cabinet g.O.Sink c.args.files.now c.args.out.now steps) (outer g.C.Cabinet g.O.Sink c.make_index.new.files c.args.out.now steps) (outer g.C.Cabinet g.O.Sink c.save_index.new.files c.save_index.new.out steps)
-    (record { told = c.in_ok-made.ensures.stays; written = refl; steps = refl; out_faults = refl; read_faults = c.in_ok-made.ensures.later; write_faults = c.in_ok-made.ensures.others })
-    shows c.save_index.result (c.save_index.ensures steps)
+pub returns-in-Err-Refused : goal.returns-in-Err-Refused
+returns-in-Err-Refused g c = λ steps.
+    let told = g.C.Cabinet.told c.args.files.now in
+    let is = subst (λ (f : ImportFault). Imports told (g.C.Cabinet.told c.import_file.new.files) c.args.ciff.now c.args.index.now c.args.rule c.args.bits (Err f)) c.in-Err-Refused.field-0-is c.in-Err-Refused.ensures.imported in (
+      inl refl,
+      subst (λ n. Shows (judge_import c.args.ciff.now c.args.rule c.args.bits told) (Refuses c.args.ciff.now n (Byte c.in-Err-Refused.refusal.at))) (sym c.number.ensures)
+          (refused c.args.ciff.now c.args.rule c.args.bits told c.in-Err-Refused.refusal is.0),
+      record { told = is.1; written = refl; steps = refl },
+    )
+
+pub returns-in-Err-ReadFault : goal.returns-in-Err-ReadFault
+returns-in-Err-ReadFault g c = λ steps.
+    let told = g.C.Cabinet.told c.args.files.now in
+    let now = g.C.Cabinet.told c.import_file.new.files in
+    let is = subst (λ (f : ImportFault). Imports told now c.args.ciff.now c.args.index.now c.args.rule c.args.bits (Err f)) c.in-Err-ReadFault.field-0-is c.in-Err-ReadFault.ensures.imported in (
+      inl refl,
+      unread c.args.ciff.now c.args.rule c.args.bits told (g.C.Cabinet.read_faults c.args.files.now) (g.C.Cabinet.read_faults c.import_file.new.files) (c.in-Err-ReadFault.ensures.read_fault (ap Err c.in-Err-ReadFault.field-0-is)),
+      stands c.args.ciff.now c.args.rule c.args.bits c.args.index.now
+          (outer g.C.Cabinet g.O.Sink c.args.files.now c.args.out.now steps) (outer g.C.Cabinet g.O.Sink c.import_file.new.files c.args.out.now steps) refl refl is,
+    )
+
+pub returns-in-Err-TooLarge : goal.returns-in-Err-TooLarge
+returns-in-Err-TooLarge g c = λ steps.
+    let told = g.C.Cabinet.told c.args.files.now in
+    let is = subst (λ (f : ImportFault). Imports told (g.C.Cabinet.told c.import_file.new.files) c.args.ciff.now c.args.index.now c.args.rule c.args.bits (Err f)) c.in-Err-TooLarge.field-0-is c.in-Err-TooLarge.ensures.imported in (
+      inl refl,
+      larger c.args.ciff.now c.args.rule c.args.bits told is.0 c.in-Err-TooLarge.length is.1 is.2 is.3,
+      record { told = is.4; written = refl; steps = refl },
+    )
+
+pub returns-in-Err-WriteFault : goal.returns-in-Err-WriteFault
+returns-in-Err-WriteFault g c = λ steps.
+    let told = g.C.Cabinet.told c.args.files.now in
+    let is = subst (λ (f : ImportFault). Imports told (g.C.Cabinet.told c.import_file.new.files) c.args.ciff.now c.args.index.now c.args.rule c.args.bits (Err f)) c.in-Err-WriteFault.field-0-is c.in-Err-WriteFault.ensures.imported in (
+      inr (refl, c.in-Err-WriteFault.ensures.write_fault (ap Err c.in-Err-WriteFault.field-0-is)),
+      record {
+        inputs = is.0;
+        output = made_output is.0;
+        accepted = accepted c.args.ciff.now c.args.rule c.args.bits told is.0 is.1 is.2;
+        exact = refl;
+        left = record {
+          content = is.3;
+          text = (0, Appends-none (g.O.Sink.written c.args.out.now));
+          steps = omega arith;
+        };
+      },
+    )
+
+pub returns-in-Err-NoMemory : goal.returns-in-Err-NoMemory
+returns-in-Err-NoMemory g c = λ steps.
+    let told = g.C.Cabinet.told c.args.files.now in
+    let now = g.C.Cabinet.told c.import_file.new.files in
+    let is = subst (λ (f : ImportFault). Imports told now c.args.ciff.now c.args.index.now c.args.rule c.args.bits (Err f)) c.in-Err-NoMemory.field-0-is c.in-Err-NoMemory.ensures.imported in
+    stands c.args.ciff.now c.args.rule c.args.bits c.args.index.now
+    (outer g.C.Cabinet g.O.Sink c.args.files.now c.args.out.now steps) (outer g.C.Cabinet g.O.Sink c.import_file.new.files c.args.out.now steps) refl refl is
+
+pub returns-in-Ok-put_totals : goal.returns-in-Ok-put_totals
+returns-in-Ok-put_totals g c = λ steps.
+    let is = c.in-Ok.ensures.imported in
+    record {
+      inputs = is.0;
+      output = made_output is.0;
+      accepted = accepted c.args.ciff.now c.args.rule c.args.bits (g.C.Cabinet.told c.args.files.now) is.0 is.1 is.3;
+      exact = refl;
+      left = record {
+        content = is.2;
+        text = subst (λ (t : Totals). Appends (g.O.Sink.written c.args.out.now) (g.O.Sink.written c.put_totals.new.out) (totals_line t)) is.4 c.in-Ok-put_totals.ensures.bytes;
+        steps = omega arith;
+      };
+    }
+
+pub returns-in-Err : goal.returns-in-Err
+returns-in-Err g c = λ steps.
+    let is = c.in-Ok.ensures.imported in (
+      inl (refl, refl, c.in-Err.ensures.cause.failed),
+      record {
+        inputs = is.0;
+        output = made_output is.0;
+        accepted = accepted c.args.ciff.now c.args.rule c.args.bits (g.C.Cabinet.told c.args.files.now) is.0 is.1 is.3;
+        exact = refl;
+        left = record {
+          content = whole_front (g.C.Cabinet.told c.args.files.now) (g.C.Cabinet.told c.import_file.new.files) c.args.index.now (index_text is.0) is.2;
+          text = subst (λ (t : Totals). AppendsPrefix (g.O.Sink.written c.args.out.now) (g.O.Sink.written c.put_totals.new.out) (totals_line t)) is.4 c.in-Err.ensures.bytes;
+          steps = omega arith;
+        };
+      },
+    )

@@ -1,7 +1,7 @@
 use Rattle.std.proofs.Common.{◌∙◌, ap}
 use Rattle.weights.specs.declared.weighting.Rule.TheVariants.{Bm25}
 use Rattle.weights.specs.declared.quantizing.Bits.TheVariants.{Of}
-use Rattle.jass_top.specs.ImportMeaning.{collection_index}
+use Rattle.impact_segments.specs.Collections.{collection_index}
 use Rattle.jass_top.specs.TrialMeaning.{trial_index}
 use Rattle.jass_top.proofs.trial.index_trial.Goals as goal
 

@@ -1,0 +1,14 @@
+-- A walk that is asked for one list after another.
+use Rattle.std.proofs.Common.{◌≡◌, ℕ, List, Option, subst}
+use Rattle.jass_base.specs.Outside.{Files, ForContent}
+use Rattle.ciff_read.specs.Walk.{LeavesWalk, WalkView}
+use Rattle.index_import.specs.Surveying.{IsReady}
+
+-- the walk is ready where the same was told, by its name then
+pub ready_then : (files now : Option Files) (name own : List ℕ) (w : WalkView) → now ≡ files → own ≡ name → IsReady now own w → IsReady files name w
+ready_then files now name own w same called is = subst (λ (n : List ℕ). IsReady files n w) called (subst (λ (f : Option Files). IsReady f own w) same is)
+
+-- what holds of the content of a walk's file held of it before
+pub told_then : (files now : Option Files) (old w : WalkView) (P : ℕ → List ℕ → Type 0) → now ≡ files → LeavesWalk old w → ForContent now w.name (P w.docs) → ForContent files old.name (P old.docs)
+told_then files now old w P same leaves is =
+    subst (λ (d : ℕ). ForContent files old.name (P d)) leaves.docs (subst (λ (n : List ℕ). ForContent files n (P w.docs)) leaves.name (subst (λ (f : Option Files). ForContent f w.name (P w.docs)) same is))

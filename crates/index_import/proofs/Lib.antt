@@ -1,0 +1,11 @@
+mod Again
+mod Beside
+mod Finished
+mod Headed
+mod Imported
+mod Outlining
+mod Ready
+mod Surveying
+mod Turns
+mod Widening
+mod Written

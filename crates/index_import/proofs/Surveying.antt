@@ -1,0 +1,274 @@
+-- What the first pass over a file keeps, piece by piece.
+use Rattle.std.proofs.Common.{◌≡◌, ◌≢◌, ℕ, ◌+◌, ◌-◌, ◌≤◌, Bool, true, false, cond, List, [], ◌∷◌, ◌++◌, map, length, filter, Option, Some, None, Result, Ok, Err, refl, sym, ap, subst, ◌∙◌, arith}
+use Rattle.std.specs.Prelude.{◌||◌, ◌==◌, AllPairs, IsSome}
+use Rattle.std.specs.List.{AllByRecursion, AllZip}
+use Rattle.std.specs.Str.{bytes_eq}
+use Rattle.std.proofs.lemmas.Bool.Decides.{nat_tests, not_from_Decides}
+use Rattle.std.proofs.lemmas.List.{length-append, map-append}
+use Rattle.std.proofs.lemmas.List.Elements.{All-from_recursion, filter-append}
+use Rattle.std.proofs.lemmas.List.Quantifiers.{all_pairs_push}
+use Rattle.std.proofs.lemmas.Slice.Eq.{bytes_eq-Decides}
+use Rattle.jass_base.specs.CiffViews.{header_data, list_data}
+use Rattle.jass_base.specs.Ciff.{HeaderData, ListData}
+use Rattle.jass_base.specs.Outside.{Files, ForContent}
+use Rattle.jass_base.specs.declared.doc_record.DocRecord.{DocRecord}
+use Rattle.jass_base.specs.declared.header.Header.{Header}
+use Rattle.jass_base.specs.declared.postings_list.PostingsList.{PostingsList}
+use Rattle.ciff_read.specs.Assembling.{Assembles, IsKeptList, Parts, collection_of, only_header, with_piece}
+use Rattle.ciff_read.specs.Given.{Advances, Gives, GivesTold, piece_data}
+use Rattle.ciff_read.specs.Judging.{NumberedDoc, is_among, numbers_of}
+use Rattle.ciff_read.specs.Marks.{is_marked}
+use Rattle.ciff_read.specs.Pieces.{DocPiece, EndPiece, IsReached, KeptList, ListPiece, PieceData, Progress, StartPiece, Step, header_of_file, next_of, terms_kept}
+use Rattle.ciff_read.specs.Reaching.{FailsReading}
+use Rattle.ciff_read.specs.Reading.{read_ciff}
+use Rattle.ciff_read.specs.Seen.{is_seen}
+use Rattle.ciff_read.specs.Walk.{Begins, Keeps, KeepsRanges, StandsFor, StandsTold, WalkView, kept_of}
+use Rattle.ciff_read.specs.Window.{AreFrom}
+use Rattle.ciff_read.specs.declared.piece.Piece.{Piece}
+use Rattle.ciff_read.specs.declared.piece.Piece.TheVariants as pieces
+use Rattle.ciff_read.specs.declared.refusal.CiffFault.{CiffFault}
+use Rattle.ciff_read.specs.declared.refusal.CiffFault.TheVariants as faults
+use Rattle.ciff_read.specs.declared.refusal.CiffRefusal.{CiffRefusal}
+use Rattle.ciff_read.proofs.Told.{for_both}
+use Rattle.index_import.specs.Surveying.{IsSurvey, has_some, kept_entry, numbered}
+use Rattle.index_import.specs.declared.list_entry.ListEntry.{ListEntry}
+
+-- ---- what is kept, whether or not the content is told
+
+-- what was kept of the pieces that a walk has given
+pub record Holds (name : List ℕ) (w : WalkView) (docs : List (ℕ × DocRecord)) (lists : List ListEntry) : Type 0 where
+  pub name_is : w.name ≡ name
+  pub unanswered : w.answered ≡ None
+  pub ranges : KeepsRanges w
+  pub lists_are : map kept_entry lists ≡ filter has_some w.kept
+  pub differ : AllPairs (λ (a b : List ℕ). a ≢ b) (terms_kept w.kept)
+  pub given : length docs ≡ w.given
+
+pub nothing_held : (name : List ℕ) (w : WalkView) (docs : List (ℕ × DocRecord)) (lists : List ListEntry) → Begins name w → KeepsRanges w → docs ≡ [] → lists ≡ [] → Holds name w docs lists
+nothing_held name w docs lists begins ranges no_docs no_lists = record {
+  name_is = begins.name_is;
+  unanswered = begins.answered;
+  ranges = ranges;
+  lists_are = ap (map kept_entry) no_lists ∙ sym (ap (filter has_some) begins.kept);
+  differ = subst (λ (kept : List KeptList). AllPairs (λ (a b : List ℕ). a ≢ b) (terms_kept kept)) (sym begins.kept) (λ i j d less inside. absurd (omega (arith, inside)));
+  given = ap length no_docs ∙ sym begins.given;
+}
+
+-- a list without postings is passed over, another one is kept
+pub none_more : (kept : List KeptList) (k : KeptList) → k.count ≡ 0 → filter has_some (kept ++ k ∷ []) ≡ filter has_some kept
+none_more [] k none = rw none refl
+none_more (x ∷ kept) k none = go (has_some x) (none_more kept k none)
+  where
+    go : (test : Bool) → filter has_some (kept ++ k ∷ []) ≡ filter has_some kept → cond test (x ∷ filter has_some (kept ++ k ∷ [])) (filter has_some (kept ++ k ∷ [])) ≡ cond test (x ∷ filter has_some kept) (filter has_some kept)
+    go true again = ap (λ (l : List KeptList). x ∷ l) again
+    go false again = again
+
+pub one_more : (kept : List KeptList) (k : KeptList) → 1 ≤ k.count → filter has_some (kept ++ k ∷ []) ≡ filter has_some kept ++ k ∷ []
+one_more kept k some =
+    let passes : has_some k ≡ true = grind (arith, nat_tests) in
+    filter-append has_some kept (k ∷ []) ∙ ap (λ (l : List KeptList). filter has_some kept ++ l) (one passes)
+  where
+    one : has_some k ≡ true → filter has_some (k ∷ []) ≡ k ∷ []
+    one passes = rw passes refl
+
+-- the terms of lists go on to differ with one that is new
+unseen : (term : List ℕ) (terms : List (List ℕ)) → is_seen term terms ≡ false → AllByRecursion (λ (t : List ℕ). t ≢ term) terms
+unseen term [] new = tt
+unseen term (t ∷ terms) new = go (bytes_eq term t) refl (λ none. unseen term terms none) new
+  where
+    go : (test : Bool) → bytes_eq term t ≡ test → (is_seen term terms ≡ false → AllByRecursion (λ (u : List ℕ). u ≢ term) terms) → (test || is_seen term terms) ≡ false → (t ≢ term) × AllByRecursion (λ (u : List ℕ). u ≢ term) terms
+    go true is again new = absurd cc
+    go false is again new = ((λ same. not_from_Decides (bytes_eq term t) (bytes_eq-Decides term t) is (sym same)), again new)
+
+pub terms_more : (kept : List KeptList) (k : KeptList) → AllPairs (λ (a b : List ℕ). a ≢ b) (terms_kept kept) → is_seen k.term (terms_kept kept) ≡ false → AllPairs (λ (a b : List ℕ). a ≢ b) (terms_kept (kept ++ k ∷ []))
+terms_more kept k differ new =
+    subst (λ (terms : List (List ℕ)). AllPairs (λ (a b : List ℕ). a ≢ b) terms) (sym (map-append (λ (x : KeptList). x.term) kept (k ∷ [])))
+    (all_pairs_push (λ (a b : List ℕ). a ≢ b) (terms_kept kept) k.term differ (λ i d low. All-from_recursion (λ (t : List ℕ). t ≢ k.term) (terms_kept kept) (unseen k.term (terms_kept kept) new) i d low))
+
+-- what is kept behind a piece
+module _ (name : List ℕ) (old new : WalkView) (docs : List (ℕ × DocRecord)) (lists : List ListEntry) (before : Holds name old docs lists) (named : new.name ≡ old.name) (unanswered : new.answered ≡ None) (ranges : KeepsRanges new) where
+  pub same_held : new.kept ≡ old.kept → new.given ≡ old.given → Holds name new docs lists
+  same_held kept given = record {
+    name_is = named ∙ before.name_is;
+    unanswered = unanswered;
+    ranges = ranges;
+    lists_are = before.lists_are ∙ sym (ap (filter has_some) kept);
+    differ = subst (λ (ks : List KeptList). AllPairs (λ (a b : List ℕ). a ≢ b) (terms_kept ks)) (sym kept) before.differ;
+    given = before.given ∙ sym given;
+  }
+
+  pub empty_held : (k : KeptList) → new.kept ≡ old.kept ++ k ∷ [] → new.given ≡ old.given → is_seen k.term (terms_kept old.kept) ≡ false → k.count ≡ 0 → Holds name new docs lists
+  empty_held k kept given new_term none = record {
+    name_is = named ∙ before.name_is;
+    unanswered = unanswered;
+    ranges = ranges;
+    lists_are = before.lists_are ∙ sym (none_more old.kept k none) ∙ sym (ap (filter has_some) kept);
+    differ = subst (λ (ks : List KeptList). AllPairs (λ (a b : List ℕ). a ≢ b) (terms_kept ks)) (sym kept) (terms_more old.kept k before.differ new_term);
+    given = before.given ∙ sym given;
+  }
+
+  pub list_held : (k : KeptList) (entry : ListEntry) (longer : List ListEntry) → new.kept ≡ old.kept ++ k ∷ [] → new.given ≡ old.given → is_seen k.term (terms_kept old.kept) ≡ false → 1 ≤ k.count → kept_entry entry ≡ k → longer ≡ lists ++ entry ∷ [] → Holds name new docs longer
+  list_held k entry longer kept given new_term some is more = record {
+    name_is = named ∙ before.name_is;
+    unanswered = unanswered;
+    ranges = ranges;
+    lists_are = ap (map kept_entry) more ∙ map-append kept_entry lists (entry ∷ []) ∙ ap (λ (ks : List KeptList). ks ++ kept_entry entry ∷ []) before.lists_are
+        ∙ ap (λ (x : KeptList). filter has_some old.kept ++ x ∷ []) is ∙ sym (one_more old.kept k some) ∙ sym (ap (filter has_some) kept);
+    differ = subst (λ (ks : List KeptList). AllPairs (λ (a b : List ℕ). a ≢ b) (terms_kept ks)) (sym kept) (terms_more old.kept k before.differ new_term);
+    given = before.given ∙ sym given;
+  }
+
+  pub doc_held : (x : ℕ × DocRecord) (longer : List (ℕ × DocRecord)) → new.kept ≡ old.kept → new.given ≡ old.given + 1 → longer ≡ docs ++ x ∷ [] → Holds name new longer lists
+  doc_held x longer kept given more = record {
+    name_is = named ∙ before.name_is;
+    unanswered = unanswered;
+    ranges = ranges;
+    lists_are = before.lists_are ∙ sym (ap (filter has_some) kept);
+    differ = subst (λ (ks : List KeptList). AllPairs (λ (a b : List ℕ). a ≢ b) (terms_kept ks)) (sym kept) before.differ;
+    given = ap length more ∙ length-append docs (x ∷ []) ∙ ap (λ n. n + 1) before.given ∙ sym given;
+  }
+
+pub entry_is : (e : ListEntry) (at : ℕ) (list : PostingsList) → e.term ≡ list.term → e.place.at ≡ at → e.place.count ≡ length list.postings → kept_entry e ≡ kept_of at list
+entry_is e at list term place count = cc
+
+-- ---- how many pieces are left but for the last
+
+abbrev pub headers_left : Option HeaderData → ℕ
+headers_left (Some header) = 1
+headers_left None = 0
+
+abbrev pub pieces_left : WalkView → ℕ
+pieces_left w = headers_left w.header + (w.lists - length w.kept) + (w.docs - w.given)
+
+-- ---- what is known of the content, where that is told
+
+-- what was kept are the parts of the content up to the walk's place
+pub record Follows (content : List ℕ) (w : WalkView) (docs : List (ℕ × DocRecord)) : Type 0 where
+  pub progress : Progress
+  pub parts : Parts
+  pub keeps : Keeps w progress
+  pub assembles : Assembles content progress parts
+  pub records : parts.records ≡ map numbered docs
+  pub once : AllPairs (λ (a b : ℕ × DocRecord). a.0 ≢ b.0) docs
+
+-- that the pieces of a file make up the collection that is read of it
+pub record PieceLaws : Type 0 where
+  pub bad_header : (content : List ℕ) (e : CiffRefusal) → header_of_file content ≡ Err e → read_ciff content ≡ Err e
+  pub start : (content : List ℕ) (p : Progress) (h : HeaderData) → IsReached content p → p.header ≡ Some h → Assembles content p (only_header h)
+  pub piece : (content : List ℕ) (p : Progress) (parts : Parts) (s : Step) → Assembles content p parts → next_of content p ≡ Ok s → Assembles content s.later (with_piece parts s.piece)
+  pub end : (content : List ℕ) (p : Progress) (parts : Parts) (s : Step) → Assembles content p parts → next_of content p ≡ Ok s → s.piece ≡ EndPiece → read_ciff content ≡ Ok (collection_of parts)
+  pub refused : (content : List ℕ) (p : Progress) (parts : Parts) (e : CiffRefusal) → Assembles content p parts → next_of content p ≡ Err e → read_ciff content ≡ Err e
+
+-- a number that isn't marked is that of no record
+unnumbered : (number : ℕ) (docs : List (ℕ × DocRecord)) → is_among number (numbers_of (map numbered docs)) ≡ false → AllByRecursion (λ (x : ℕ × DocRecord). x.0 ≢ number) docs
+unnumbered number [] new = tt
+unnumbered number (x ∷ docs) new = go (x.0 == number) refl (λ none. unnumbered number docs none) new
+  where
+    go : (test : Bool) → (x.0 == number) ≡ test → (is_among number (numbers_of (map numbered docs)) ≡ false → AllByRecursion (λ (y : ℕ × DocRecord). y.0 ≢ number) docs)
+        → (test || is_among number (numbers_of (map numbered docs))) ≡ false → (x.0 ≢ number) × AllByRecursion (λ (y : ℕ × DocRecord). y.0 ≢ number) docs
+    go true is again new = absurd cc
+    go false is again new = ((λ same. grind (arith, nat_tests)), again new)
+
+module _ (laws : PieceLaws) (content : List ℕ) where
+  -- a walk that has given nothing
+  pub nothing_follows : (w : WalkView) (docs : List (ℕ × DocRecord)) → IsSome w.header → w.answered ≡ None → docs ≡ [] → StandsFor content w → Follows content w docs
+  nothing_follows w docs some unanswered none stands = subst (Follows content w) (sym none) (go w.header refl some)
+    where
+      go : (header : Option HeaderData) → w.header ≡ header → IsSome header → Follows content w []
+      go None is none = absurd cc
+      go (Some h) is some =
+          let here = stands unanswered in
+          record {
+            progress = here.progress;
+            parts = only_header h;
+            keeps = here.keeps;
+            assembles = laws.start content here.progress h here.reached (sym here.keeps.header ∙ is);
+            records = refl;
+            once = λ i j d less inside. absurd (omega (arith, inside));
+          }
+
+  module _ (old new : WalkView) (docs : List (ℕ × DocRecord)) (before : Follows content old docs) where
+    -- one piece more
+    onward : (piece : PieceData) (later : List (ℕ × DocRecord)) → Advances content before.progress piece new → (with_piece before.parts piece).records ≡ map numbered later → AllPairs (λ (a b : ℕ × DocRecord). a.0 ≢ b.0) later → Follows content new later
+    onward piece later next records once = record {
+      progress = next.step.later;
+      parts = with_piece before.parts piece;
+      keeps = next.keeps;
+      assembles = subst (λ (x : PieceData). Assembles content next.step.later (with_piece before.parts x)) (sym next.piece_is) (laws.piece content before.progress before.parts next.step before.assembles next.next);
+      records = records;
+      once = once;
+    }
+
+    pub start_follows : (header : HeaderData) (lists count : ℕ) → Advances content before.progress (StartPiece header lists count) new → Follows content new docs
+    start_follows header lists count next = onward (StartPiece header lists count) docs next before.records before.once
+
+    pub list_follows : (at : ℕ) (list : ListData) → Advances content before.progress (ListPiece at list) new → Follows content new docs
+    list_follows at list next = onward (ListPiece at list) docs next before.records before.once
+
+    pub doc_follows : (number : ℕ) (item : DocRecord) → is_marked old.marks number ≡ false → Advances content before.progress (DocPiece (numbered (number, item))) new → Follows content new (docs ++ (number, item) ∷ [])
+    doc_follows number item unmarked next =
+        let known : before.progress.numbers ≡ numbers_of (map numbered docs) = before.assembles.numbers ∙ ap numbers_of before.records in
+        let new_number : is_among number (numbers_of (map numbered docs)) ≡ false = ap (is_among number) (sym known) ∙ sym (before.keeps.marks number) ∙ unmarked in
+        onward (DocPiece (numbered (number, item))) (docs ++ (number, item) ∷ []) next
+        (ap (λ (rs : List NumberedDoc). rs ++ numbered (number, item) ∷ []) before.records ∙ sym (map-append numbered docs ((number, item) ∷ [])))
+        (all_pairs_push (λ (a b : ℕ × DocRecord). a.0 ≢ b.0) docs (number, item) before.once (λ i d low. All-from_recursion (λ (x : ℕ × DocRecord). x.0 ≢ number) docs (unnumbered number docs new_number) i d low))
+
+    -- the last piece
+    pub end_follows : new.kept ≡ old.kept → new.docs ≡ old.docs → Advances content before.progress EndPiece new → IsSurvey content new docs
+    end_follows kept count next = record {
+      parts = before.parts;
+      read = laws.end content before.progress before.parts next.step before.assembles next.next (sym next.piece_is);
+      records = before.records;
+      once = before.once;
+      lists = subst (λ (n : ℕ). AllZip (IsKeptList content n) new.kept before.parts.lists) (sym (count ∙ before.keeps.docs))
+          (subst (λ (ks : List KeptList). AllZip (IsKeptList content before.progress.docs) ks before.parts.lists) (sym (kept ∙ before.keeps.kept)) before.assembles.lists);
+    }
+
+    -- no piece, but a fault
+    pub fault_follows : (fault : CiffFault) → FailsReading fault (next_of content before.progress) → FailsReading fault (read_ciff content)
+    fault_follows (faults.Refused refusal) is = laws.refused content before.progress before.parts refusal before.assembles is
+    fault_follows faults.ReadFault is = tt
+    fault_follows faults.NoMemory is = tt
+
+  pub header_fault : (fault : CiffFault) → FailsReading fault (header_of_file content) → FailsReading fault (read_ciff content)
+  header_fault (faults.Refused refusal) is = laws.bad_header content refusal is
+  header_fault faults.ReadFault is = tt
+  header_fault faults.NoMemory is = tt
+
+-- what a call gives of the content under the name that the walk began with
+pub gives_there : (told now : Option Files) (name : List ℕ) (old new : WalkView) (result : Result Piece CiffFault) → now ≡ told → old.name ≡ name → old.answered ≡ None → StandsTold told old → GivesTold now old new result
+    → ForContent told name (λ content. (p : Progress) → Keeps old p → Gives content p result new)
+gives_there told now name old new result same named unanswered stands gives =
+    subst (λ (n : List ℕ). ForContent told n (λ content. (p : Progress) → Keeps old p → Gives content p result new)) named
+    (for_both told old.name (λ content. StandsFor content old)
+    (λ content. old.answered ≡ None → AreFrom content old.start old.bytes → (p : Progress) → Keeps old p → Gives content p result new)
+    (λ content. (p : Progress) → Keeps old p → Gives content p result new)
+    (λ content here given. given unanswered (here unanswered).shows) stands (subst (λ (files : Option Files). GivesTold files old new result) same gives))
+
+-- what follows of what a call gives, where the content is told
+module _ (laws : PieceLaws) (told : Option Files) (name : List ℕ) (old new : WalkView) (docs : List (ℕ × DocRecord)) (before : ForContent told name (λ content. Follows content old docs)) where
+  module _ (piece : Piece) (given : ForContent told name (λ content. (p : Progress) → Keeps old p → Advances content p (piece_data piece) new)) where
+    next_told : (known : Piece) → piece ≡ known → (R : List ℕ → Type 0) → ((content : List ℕ) (follows : Follows content old docs) → Advances content follows.progress (piece_data known) new → R content) → ForContent told name R
+    next_told known is R step =
+        for_both told name (λ content. Follows content old docs) (λ content. (p : Progress) → Keeps old p → Advances content p (piece_data piece) new) R
+        (λ content follows next. step content follows (subst (λ (x : Piece). Advances content follows.progress (piece_data x) new) is (next follows.progress follows.keeps))) before given
+
+    pub start_told : (header : Header) (lists count : ℕ) → piece ≡ pieces.Start header lists count → ForContent told name (λ content. Follows content new docs)
+    start_told header lists count is =
+        next_told (pieces.Start header lists count) is (λ content. Follows content new docs) (λ content follows next. start_follows laws content old new docs follows (header_data header) lists count next)
+
+    pub list_told : (at : ℕ) (list : PostingsList) → piece ≡ pieces.List at list → ForContent told name (λ content. Follows content new docs)
+    list_told at list is = next_told (pieces.List at list) is (λ content. Follows content new docs) (λ content follows next. list_follows laws content old new docs follows at (list_data list) next)
+
+    pub doc_told : (number : ℕ) (item : DocRecord) (longer : List (ℕ × DocRecord)) → piece ≡ pieces.Doc number item → is_marked old.marks number ≡ false → longer ≡ docs ++ (number, item) ∷ [] → ForContent told name (λ content. Follows content new longer)
+    doc_told number item longer is unmarked more =
+        next_told (pieces.Doc number item) is (λ content. Follows content new longer)
+        (λ content follows next. subst (λ (ds : List (ℕ × DocRecord)). Follows content new ds) (sym more) (doc_follows laws content old new docs follows number item unmarked next))
+
+    pub end_told : piece ≡ pieces.End → new.kept ≡ old.kept → new.docs ≡ old.docs → ForContent told name (λ content. IsSurvey content new docs)
+    end_told is kept count = next_told pieces.End is (λ content. IsSurvey content new docs) (λ content follows next. end_follows laws content old new docs follows kept count next)
+
+  pub fault_told : (fault : CiffFault) → ForContent told name (λ content. (p : Progress) → Keeps old p → FailsReading fault (next_of content p)) → ForContent told name (λ content. FailsReading fault (read_ciff content))
+  fault_told fault given =
+      for_both told name (λ content. Follows content old docs) (λ content. (p : Progress) → Keeps old p → FailsReading fault (next_of content p)) (λ content. FailsReading fault (read_ciff content))
+      (λ content follows next. fault_follows laws content old new docs follows fault (next follows.progress follows.keeps)) before given

@@ -1,0 +1,76 @@
+use Rattle.std.proofs.Common.{ℕ, ◌≡◌, List, [], ◌∷◌, ◌++◌, map, Option, refl, sym, ap, subst, ◌∙◌, arith}
+use Rattle.std.specs.Prelude.{All}
+use Rattle.std.specs.Vec.Iter.{into_iter_items}
+use Rattle.std.proofs.lemmas.List.{map-append}
+use Rattle.jass_base.specs.Outside.{Files, ForContent}
+use Rattle.ciff_read.specs.Pieces.{KeptList}
+use Rattle.ciff_read.specs.Walk.{HasKept}
+use Rattle.jass_base.specs.declared.segment.Segment.{Segment}
+use Rattle.index_model.specs.Views.{segment_data}
+use Rattle.index_write.specs.Chosen.{chosen_heads, head_data}
+use Rattle.index_write.specs.declared.term_heads.TermHeads.{TermHeads}
+use Rattle.index_import.specs.Heading.{AreHeads}
+use Rattle.index_import.specs.Rereading.{AreSegments, segments_there}
+use Rattle.index_import.specs.Surveying.{IsReady}
+use Rattle.index_import.specs.declared.list_entry.ListEntry.{ListEntry}
+use Rattle.index_import.specs.declared.list_entry.Place.{Place}
+use Rattle.index_import.proofs.Headed.{HaveEntries, all_entries, entries_more, heads_more, no_entries, no_heads}
+use Rattle.index_import.proofs.Ready.{leaves_same, leaves_then}
+use Rattle.index_import.proofs.Turns.{middle, parted, whole}
+use Rattle.index_import.proofs.heads.read_heads.Goals as goal
+
+pub read_segments-requires-clause-given : goal.read_segments-requires-clause-given
+read_segments-requires-clause-given g c =
+    let is : c.args.lists.items ≡ c.lists.yielded ++ c.in-Some.entry ∷ into_iter_items c.next.new.self
+    = parted c.into_iter-entry-iterator.result c.lists.entry-iterator c.next.new.self c.args.lists.items c.lists.yielded c.in-Some.entry c.into_iter-entry-iterator.ensures.into_iter_gives.0 c.lists.yielded_by c.in-Some.ensures.steps in
+    let kept : HasKept c.args.walk.now.kept c.in-Some.entry.place.at c.in-Some.entry.place.count
+    = middle (λ (e : ListEntry). HasKept c.args.walk.now.kept e.place.at e.place.count) c.lists.yielded (into_iter_items c.next.new.self) c.in-Some.entry (subst (All (λ (e : ListEntry). HasKept c.args.walk.now.kept e.place.at e.place.count)) is c.requires.given) in
+    subst (λ (kept : List KeptList). HasKept kept c.in-Some.entry.place.at c.in-Some.entry.place.count) (sym c.lists.invariant.leaves.kept) kept
+
+pub lists-init : goal.lists-init
+lists-init g c = record {
+  same = refl;
+  later = omega arith;
+  others = omega arith;
+  ready = c.requires.ready;
+  leaves = leaves_same c.args.walk.now;
+  heads = no_heads (g.C.Cabinet.told c.args.files.now) c.args.walk.now.name c.args.walk.now.docs c.args.weighing c.args.bits c.args.range c.new-terms.result c.new-terms.ensures;
+  entries = no_entries c.new-terms.result c.new-terms.ensures;
+  places = c.new-places.ensures.items;
+}
+
+pub lists-preserved : goal.lists-preserved
+lists-preserved g c =
+    let told : Option Files = g.C.Cabinet.told c.args.files.now in
+    let name : List ℕ = c.args.walk.now.name in
+    let d : ℕ = c.args.walk.now.docs in
+    let entry : ListEntry = c.in-Some.entry in
+    let own : TermHeads = record { term = entry.term; heads = c.in-Ok-payload_heads.heads } in
+    let segments : List Segment = c.in-Ok.segments in
+    let docs : c.lists.walk.docs ≡ d = c.lists.invariant.leaves.docs in
+    let made : map head_data c.in-Ok-payload_heads.heads ≡ chosen_heads d (map segment_data segments)
+    = c.in-Ok-payload_heads.ensures ∙ ap (λ (n : ℕ). chosen_heads n (map segment_data c.as_slice.result.now)) c.requires.docs ∙ ap (λ (ss : List Segment). chosen_heads d (map segment_data ss)) c.as_slice.ensures in
+    let of : AreSegments d entry.place.count segments = subst (λ (n : ℕ). AreSegments n entry.place.count segments) docs c.in-Ok.ensures.segments in
+    let read : ForContent told name (λ content. map segment_data segments ≡ segments_there content d c.args.weighing c.args.bits c.args.range entry.place.at)
+    = subst (λ (files : Option Files). ForContent files name (λ content. map segment_data segments ≡ segments_there content d c.args.weighing c.args.bits c.args.range entry.place.at)) c.lists.invariant.same
+    (subst (λ (n : List ℕ). ForContent (g.C.Cabinet.told c.lists.files) n (λ content. map segment_data segments ≡ segments_there content d c.args.weighing c.args.bits c.args.range entry.place.at)) c.lists.invariant.leaves.name
+    (subst (λ (k : ℕ). ForContent (g.C.Cabinet.told c.lists.files) c.lists.walk.name (λ content. map segment_data segments ≡ segments_there content k c.args.weighing c.args.bits c.args.range entry.place.at)) docs c.in-Ok.ensures.told)) in
+    let ready = subst (λ (files : Option Files). IsReady files name c.read_segments.new.walk) c.lists.invariant.same (subst (λ (n : List ℕ). IsReady (g.C.Cabinet.told c.lists.files) n c.read_segments.new.walk) c.lists.invariant.leaves.name c.in-Ok.ensures.ready) in
+    record {
+      same = c.in-Ok.ensures.stays ∙ c.lists.invariant.same;
+      later = omega (arith, c.lists.invariant.later, c.in-Ok.ensures.later);
+      others = omega (arith, c.lists.invariant.others, c.in-Ok.ensures.others);
+      ready = ready;
+      leaves = leaves_then c.args.walk.now c.lists.walk c.read_segments.new.walk c.lists.invariant.leaves c.in-Ok.ensures.leaves;
+      heads = subst (λ (hs : List TermHeads). AreHeads told name d c.args.weighing c.args.bits c.args.range (c.lists.yielded ++ entry ∷ []) hs) (sym c.in-Ok-push.ensures.ok)
+          (heads_more told name d c.args.weighing c.args.bits c.args.range c.lists.yielded c.lists.terms entry own (map segment_data segments) refl made read c.lists.invariant.heads);
+      entries = subst (λ (hs : List TermHeads). HaveEntries (c.lists.yielded ++ entry ∷ []) hs) (sym c.in-Ok-push.ensures.ok)
+          (entries_more d c.lists.yielded c.lists.terms entry own segments refl made of.some (c.made_heads_are_entries.ensures.heads d segments of.docs_are) (c.made_heads_are_entries.ensures.falling d segments of.falling) of.postings c.lists.invariant.entries);
+      places = c.in-Ok-push-2.ensures.items ∙ ap (λ (ps : List Place). ps ++ entry.place ∷ []) c.lists.invariant.places ∙ sym (map-append (λ (e : ListEntry). e.place) c.lists.yielded (entry ∷ []));
+    }
+
+pub returns-clause-entries : goal.returns-clause-entries
+returns-clause-entries g c =
+    let all : c.lists.yielded ≡ c.args.lists.items
+    = whole c.into_iter-entry-iterator.result c.lists.entry-iterator c.next.new.self c.args.lists.items c.lists.yielded c.into_iter-entry-iterator.ensures.into_iter_gives.0 (omega (arith, c.into_iter-entry-iterator.ensures.into_iter_gives.1, c.args.lists.ok.0)) c.lists.yielded_by c.in-None.ensures.steps in
+    all_entries c.args.lists.items c.lists.terms c.requires.rising c.requires.few c.requires.postings (subst (λ (ls : List ListEntry). HaveEntries ls c.lists.terms) all c.lists.invariant.entries)

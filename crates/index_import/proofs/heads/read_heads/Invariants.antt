@@ -1,0 +1,18 @@
+use Rattle.std.proofs.Common.{◌≡◌, ◌≤◌}
+use Rattle.ciff_read.specs.Walk.{LeavesWalk}
+use Rattle.index_import.specs.Heading.{AreHeads, places_of}
+use Rattle.index_import.specs.Surveying.{IsReady}
+use Rattle.index_import.proofs.Headed.{HaveEntries}
+use Rattle.index_import.proofs.heads.read_heads.Given as goal
+
+abbrev pub invariant-lists : goal.invariant-lists
+invariant-lists g l = record {
+  same : g.C.Cabinet.told l.files ≡ g.C.Cabinet.told l.fn.files;
+  later : g.C.Cabinet.read_faults l.fn.files ≤ g.C.Cabinet.read_faults l.files;
+  others : g.C.Cabinet.write_faults l.fn.files ≤ g.C.Cabinet.write_faults l.files;
+  ready : IsReady (g.C.Cabinet.told l.fn.files) l.fn.walk.name l.walk;
+  leaves : LeavesWalk l.fn.walk l.walk;
+  heads : AreHeads (g.C.Cabinet.told l.fn.files) l.fn.walk.name l.fn.walk.docs l.weighing l.bits l.range l.yielded l.terms;
+  entries : HaveEntries l.yielded l.terms;
+  places : l.places.items ≡ places_of l.yielded;
+}

@@ -1,0 +1,45 @@
+-- The lists that are read again are those of the collection.
+use Rattle.std.proofs.Common.{◌≡◌, List, Option, sym, subst, ◌∙◌}
+use Rattle.std.specs.Prelude.{All}
+use Rattle.std.proofs.lemmas.List.Elements.{All-map}
+use Rattle.jass_base.specs.Outside.{Files, ForContent}
+use Rattle.ciff_read.specs.Pieces.{KeptList}
+use Rattle.ciff_read.specs.Walk.{HasKept}
+use Rattle.index_import.specs.Ranging.{range_there}
+use Rattle.index_import.specs.Surveying.{AreGiven}
+use Rattle.index_import.specs.declared.list_entry.ListEntry.{ListEntry}
+use Rattle.index_import.specs.declared.list_entry.Place.{Place}
+use Rattle.index_import.proofs.Imported.{never_refused, writes_made}
+use Rattle.index_import.proofs.import.import_lists.Goals as goal
+
+pub read_heads-requires-clause-given : goal.read_heads-requires-clause-given
+read_heads-requires-clause-given g c =
+    subst (λ (kept : List KeptList). AreGiven kept c.args.lists.items) (sym c.read_range.ensures.leaves.kept) c.requires.outlined.given
+
+pub write_index-requires-clause-given : goal.write_index-requires-clause-given
+write_index-requires-clause-given g c =
+    let kept : c.read_heads.new.walk.kept ≡ c.args.walk.now.kept = c.read_heads.ensures.leaves.kept ∙ c.read_range.ensures.leaves.kept in
+    let Given : Place → Type 0 = λ (p : Place). HasKept c.read_heads.new.walk.kept p.at p.count in
+    subst (All Given) (sym (c.in-Ok-read_heads.ensures.places))
+    (All-map Given (λ (e : ListEntry). e.place) c.args.lists.items (subst (λ (kept : List KeptList). AreGiven kept c.args.lists.items) (sym kept) c.requires.outlined.given))
+
+pub returns-in-Err-read_heads-clause-imported : goal.returns-in-Err-read_heads-clause-imported
+returns-in-Err-read_heads-clause-imported g c =
+    let told : Option Files = g.C.Cabinet.told c.args.files.now in
+    let found : ForContent told c.args.walk.now.name (λ content. c.in-Ok.range ≡ range_there content c.args.walk.now.docs c.args.weighing c.args.bits c.args.lists.items)
+    = subst (λ (ls : List ListEntry). ForContent told c.args.walk.now.name (λ content. c.in-Ok.range ≡ range_there content c.args.walk.now.docs c.args.weighing c.args.bits ls)) c.deref.ensures.value (c.in-Ok.ensures.told) in
+    never_refused told c.args.walk.now c.args.weighing c.args.bits c.in-Ok.range c.args.lists.items c.requires.ready.there found c.widened_lists_have_the_range.ensures.inside
+    (g.C.Cabinet.told c.read_range.new.files) (g.C.Cabinet.told c.read_heads.new.files) c.read_range.new.walk c.args.index.now c.in-Err-read_heads.fault c.from_ciff-in-Err-read_heads.result
+    c.from_ciff-in-Err-read_heads.ensures c.read_range.ensures.stays c.read_range.ensures.leaves c.read_heads.ensures.stays (c.in-Err-read_heads.ensures.told)
+
+pub returns-clause-imported : goal.returns-clause-imported
+returns-clause-imported g c =
+    let told : Option Files = g.C.Cabinet.told c.args.files.now in
+    let found : ForContent told c.args.walk.now.name (λ content. c.in-Ok.range ≡ range_there content c.args.walk.now.docs c.args.weighing c.args.bits c.args.lists.items)
+    = subst (λ (ls : List ListEntry). ForContent told c.args.walk.now.name (λ content. c.in-Ok.range ≡ range_there content c.args.walk.now.docs c.args.weighing c.args.bits ls)) c.deref.ensures.value (c.in-Ok.ensures.told) in
+    let law = c.widened_lists_have_the_range.ensures in
+    writes_made told c.args.walk.now c.args.weighing c.args.bits c.in-Ok.range c.args.lists.items c.requires.ready.there found
+    c.lists_by_term_make_the_index.ensures law.raw law.range law.inside
+    (g.C.Cabinet.told c.read_range.new.files) (g.C.Cabinet.told c.read_heads.new.files) (g.C.Cabinet.told c.write_index.new.files) c.read_range.new.walk c.read_heads.new.walk c.args.names c.args.index.now
+    c.in-Ok-read_heads.heads.places.items c.in-Ok-read_heads.heads.terms c.write_index.result c.requires.outlined.rising c.requires.told c.read_range.ensures.stays c.read_range.ensures.leaves
+    (c.in-Ok-read_heads.ensures.heads) (c.in-Ok-read_heads.ensures.places) c.read_heads.ensures.stays c.read_heads.ensures.leaves c.write_index.ensures.written

@@ -1,0 +1,15 @@
+use Rattle.std.proofs.Common.{◌≡◌, ◌≤◌, take}
+use Rattle.ciff_read.specs.Walk.{LeavesWalk}
+use Rattle.index_import.specs.Surveying.{IsReady}
+use Rattle.index_import.proofs.Widening.{Widens}
+use Rattle.index_import.proofs.ranging.widen_lists.Given as goal
+
+abbrev pub invariant-loop-entry : goal.invariant-loop-entry
+invariant-loop-entry g l = record {
+  ready : IsReady (g.C.Cabinet.told l.fn.files) l.fn.walk.name l.walk;
+  leaves : LeavesWalk l.fn.walk l.walk;
+  range : Widens (g.C.Cabinet.told l.fn.files) l.fn.walk.name l.fn.walk.docs l.weighing (take l.entry-index l.lists) l.range;
+  stays : g.C.Cabinet.told l.files ≡ g.C.Cabinet.told l.fn.files;
+  later : g.C.Cabinet.read_faults l.fn.files ≤ g.C.Cabinet.read_faults l.files;
+  others : g.C.Cabinet.write_faults l.fn.files ≤ g.C.Cabinet.write_faults l.files;
+}

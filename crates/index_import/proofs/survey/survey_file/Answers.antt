@@ -1,0 +1,127 @@
+-- Each piece keeps what was kept so far.
+use Rattle.std.proofs.Common.{◌≤◌, ℕ, List, Option, Ok, Err, sym, subst, ◌∙◌, arith}
+use Rattle.std.proofs.lemmas.Bool.Decides.{nat_tests}
+use Rattle.jass_base.specs.Outside.{Files, ForContent}
+use Rattle.ciff_read.specs.Given.{PieceRanges}
+use Rattle.ciff_read.specs.Walk.{StandsFor, StandsTold, kept_of}
+use Rattle.ciff_read.specs.declared.piece.Piece.{Piece}
+use Rattle.ciff_read.proofs.Told.{for_one}
+use Rattle.index_import.proofs.Surveying.{Follows, PieceLaws, doc_held, doc_told, empty_held, end_told, entry_is, fault_told, gives_there, list_held, list_told, nothing_follows, nothing_held, same_held, start_told}
+use Rattle.index_import.proofs.survey.survey_file.Goals as goal
+
+pub pieces-init : goal.pieces-init
+pieces-init g c =
+    let told : Option Files = g.C.Cabinet.told c.args.files.now in
+    let law = c.pieces_make_the_collection.ensures in
+    let laws : PieceLaws = record { bad_header = law.bad_header; start = law.start; piece = law.piece; end = law.end; refused = law.refused } in
+    let begins = c.in_ok-walk.ensures.begins in
+    record {
+      same = c.in_ok-walk.ensures.stays;
+      later = c.in_ok-walk.ensures.later;
+      others = c.in_ok-walk.ensures.others;
+      there = c.in_ok-walk.ensures.missing;
+      stands = subst (λ (n : List ℕ). ForContent told n (λ (content : List ℕ). StandsFor content c.in_ok-walk.walk)) (sym begins.name_is) c.in_ok-walk.ensures.opens;
+      holds = nothing_held c.args.name.now c.in_ok-walk.walk c.new-docs.result.items c.new-lists.result.items begins c.in_ok-walk.ensures.ranges c.new-docs.ensures.items c.new-lists.ensures.items;
+      follows = for_one told c.args.name.now (λ content. StandsFor content c.in_ok-walk.walk) (λ content. Follows content c.in_ok-walk.walk c.new-docs.result.items)
+          (λ content stands. nothing_follows laws content c.in_ok-walk.walk c.new-docs.result.items begins.header begins.answered c.new-docs.ensures.items stands) c.in_ok-walk.ensures.opens;
+    }
+
+pub returns-in-Err-clause-told : goal.returns-in-Err-clause-told
+returns-in-Err-clause-told g c =
+    let told : Option Files = g.C.Cabinet.told c.args.files.now in
+    let law = c.pieces_make_the_collection.ensures in
+    let laws : PieceLaws = record { bad_header = law.bad_header; start = law.start; piece = law.piece; end = law.end; refused = law.refused } in
+    let before = c.pieces.invariant in
+    let given = gives_there told (g.C.Cabinet.told c.pieces.files) c.args.name.now c.pieces.walk c.next_piece.new.self (Err c.in-Err.fault) before.same before.holds.name_is before.holds.unanswered before.stands c.in-Err.ensures.told in
+    fault_told laws told c.args.name.now c.pieces.walk c.next_piece.new.self c.pieces.docs.items before.follows c.in-Err.fault given
+
+pub pieces-preserved-in-Start : goal.pieces-preserved-in-Start
+pieces-preserved-in-Start g c =
+    let told : Option Files = g.C.Cabinet.told c.args.files.now in
+    let law = c.pieces_make_the_collection.ensures in
+    let laws : PieceLaws = record { bad_header = law.bad_header; start = law.start; piece = law.piece; end = law.end; refused = law.refused } in
+    let before = c.pieces.invariant in
+    let next = c.in-Ok.ensures in
+    let given = gives_there told (g.C.Cabinet.told c.pieces.files) c.args.name.now c.pieces.walk c.next_piece.new.self (Ok c.in-Ok.piece) before.same before.holds.name_is before.holds.unanswered before.stands next.told in
+    let ranges = subst (λ (x : Piece). PieceRanges c.pieces.walk c.next_piece.new.self x) c.in-Start.is next.ranges in
+    record {
+      same = next.stays ∙ before.same;
+      later = omega (arith, next.later, before.later);
+      others = omega (arith, next.others, before.others);
+      there = before.there;
+      stands = subst (λ (files : Option Files). StandsTold files c.next_piece.new.self) before.same next.stands;
+      holds = same_held c.args.name.now c.pieces.walk c.next_piece.new.self c.pieces.docs.items c.pieces.lists.items before.holds next.name next.ok next.within ranges.4 ranges.5;
+      follows = start_told laws told c.args.name.now c.pieces.walk c.next_piece.new.self c.pieces.docs.items before.follows c.in-Ok.piece given c.in-Start._header c.in-Start.lists c.in-Start.docs c.in-Start.is;
+    }
+
+pub pieces-preserved-in-Ok-push : goal.pieces-preserved-in-Ok-push
+pieces-preserved-in-Ok-push g c =
+    let told : Option Files = g.C.Cabinet.told c.args.files.now in
+    let law = c.pieces_make_the_collection.ensures in
+    let laws : PieceLaws = record { bad_header = law.bad_header; start = law.start; piece = law.piece; end = law.end; refused = law.refused } in
+    let before = c.pieces.invariant in
+    let next = c.in-Ok.ensures in
+    let given = gives_there told (g.C.Cabinet.told c.pieces.files) c.args.name.now c.pieces.walk c.next_piece.new.self (Ok c.in-Ok.piece) before.same before.holds.name_is before.holds.unanswered before.stands next.told in
+    let ranges = subst (λ (x : Piece). PieceRanges c.pieces.walk c.next_piece.new.self x) c.in-List.is next.ranges in
+    record {
+      same = next.stays ∙ before.same;
+      later = omega (arith, next.later, before.later);
+      others = omega (arith, next.others, before.others);
+      there = before.there;
+      stands = subst (λ (files : Option Files). StandsTold files c.next_piece.new.self) before.same next.stands;
+      holds = list_held c.args.name.now c.pieces.walk c.next_piece.new.self c.pieces.docs.items c.pieces.lists.items before.holds next.name next.ok next.within
+          (kept_of c.in-List.at c.in-List.list) c.new.result c.push.new.self.items ranges.4 ranges.1 ranges.3 (subst (λ (n : ℕ). 1 ≤ n) c.new.ensures.count c.new.result.place.some)
+          (entry_is c.new.result c.in-List.at c.in-List.list c.new.ensures.term c.new.ensures.at c.new.ensures.count) c.in-Ok-push.ensures.items;
+      follows = list_told laws told c.args.name.now c.pieces.walk c.next_piece.new.self c.pieces.docs.items before.follows c.in-Ok.piece given c.in-List.at c.in-List.list c.in-List.is;
+    }
+
+pub pieces-preserved-else-not-is_empty : goal.pieces-preserved-else-not-is_empty
+pieces-preserved-else-not-is_empty g c =
+    let told : Option Files = g.C.Cabinet.told c.args.files.now in
+    let law = c.pieces_make_the_collection.ensures in
+    let laws : PieceLaws = record { bad_header = law.bad_header; start = law.start; piece = law.piece; end = law.end; refused = law.refused } in
+    let before = c.pieces.invariant in
+    let next = c.in-Ok.ensures in
+    let given = gives_there told (g.C.Cabinet.told c.pieces.files) c.args.name.now c.pieces.walk c.next_piece.new.self (Ok c.in-Ok.piece) before.same before.holds.name_is before.holds.unanswered before.stands next.told in
+    let ranges = subst (λ (x : Piece). PieceRanges c.pieces.walk c.next_piece.new.self x) c.in-List.is next.ranges in
+    record {
+      same = next.stays ∙ before.same;
+      later = omega (arith, next.later, before.later);
+      others = omega (arith, next.others, before.others);
+      there = before.there;
+      stands = subst (λ (files : Option Files). StandsTold files c.next_piece.new.self) before.same next.stands;
+      holds = empty_held c.args.name.now c.pieces.walk c.next_piece.new.self c.pieces.docs.items c.pieces.lists.items before.holds next.name next.ok next.within
+          (kept_of c.in-List.at c.in-List.list) ranges.4 ranges.1 ranges.3 (grind (arith, nat_tests));
+      follows = list_told laws told c.args.name.now c.pieces.walk c.next_piece.new.self c.pieces.docs.items before.follows c.in-Ok.piece given c.in-List.at c.in-List.list c.in-List.is;
+    }
+
+pub pieces-preserved : goal.pieces-preserved
+pieces-preserved g c =
+    let told : Option Files = g.C.Cabinet.told c.args.files.now in
+    let law = c.pieces_make_the_collection.ensures in
+    let laws : PieceLaws = record { bad_header = law.bad_header; start = law.start; piece = law.piece; end = law.end; refused = law.refused } in
+    let before = c.pieces.invariant in
+    let next = c.in-Ok.ensures in
+    let given = gives_there told (g.C.Cabinet.told c.pieces.files) c.args.name.now c.pieces.walk c.next_piece.new.self (Ok c.in-Ok.piece) before.same before.holds.name_is before.holds.unanswered before.stands next.told in
+    let ranges = subst (λ (x : Piece). PieceRanges c.pieces.walk c.next_piece.new.self x) c.in-Doc.is next.ranges in
+    record {
+      same = next.stays ∙ before.same;
+      later = omega (arith, next.later, before.later);
+      others = omega (arith, next.others, before.others);
+      there = before.there;
+      stands = subst (λ (files : Option Files). StandsTold files c.next_piece.new.self) before.same next.stands;
+      holds = doc_held c.args.name.now c.pieces.walk c.next_piece.new.self c.pieces.docs.items c.pieces.lists.items before.holds next.name next.ok next.within
+          (c.in-Doc.number, c.in-Doc.item) c.push-in-Doc.new.self.items ranges.1 ranges.5 c.in-Ok-push-2.ensures.items;
+      follows = doc_told laws told c.args.name.now c.pieces.walk c.next_piece.new.self c.pieces.docs.items before.follows c.in-Ok.piece given c.in-Doc.number c.in-Doc.item c.push-in-Doc.new.self.items c.in-Doc.is ranges.3 c.in-Ok-push-2.ensures.items;
+    }
+
+pub returns-in-End-clause-told : goal.returns-in-End-clause-told
+returns-in-End-clause-told g c =
+    let told : Option Files = g.C.Cabinet.told c.args.files.now in
+    let law = c.pieces_make_the_collection.ensures in
+    let laws : PieceLaws = record { bad_header = law.bad_header; start = law.start; piece = law.piece; end = law.end; refused = law.refused } in
+    let before = c.pieces.invariant in
+    let next = c.in-Ok.ensures in
+    let given = gives_there told (g.C.Cabinet.told c.pieces.files) c.args.name.now c.pieces.walk c.next_piece.new.self (Ok c.in-Ok.piece) before.same before.holds.name_is before.holds.unanswered before.stands next.told in
+    let ranges = subst (λ (x : Piece). PieceRanges c.pieces.walk c.next_piece.new.self x) c.in-End.is next.ranges in
+    end_told laws told c.args.name.now c.pieces.walk c.next_piece.new.self c.pieces.docs.items before.follows c.in-Ok.piece given c.in-End.is ranges.0 next.totals.1

@@ -1,0 +1,19 @@
+use Rattle.std.proofs.Common.{◌≡◌, ◌≤◌, List, ℕ}
+use Rattle.jass_base.specs.Outside.{ForContent, IsMissing}
+use Rattle.ciff_read.specs.Walk.{StandsTold}
+use Rattle.index_import.proofs.Surveying.{Follows, Holds, pieces_left}
+use Rattle.index_import.proofs.survey.survey_file.Given as goal
+
+abbrev pub invariant-pieces : goal.invariant-pieces
+invariant-pieces g l = record {
+  same : g.C.Cabinet.told l.files ≡ g.C.Cabinet.told l.fn.files;
+  later : g.C.Cabinet.read_faults l.fn.files ≤ g.C.Cabinet.read_faults l.files;
+  others : g.C.Cabinet.write_faults l.fn.files ≤ g.C.Cabinet.write_faults l.files;
+  there : ¬ IsMissing (g.C.Cabinet.told l.fn.files) l.name;
+  stands : StandsTold (g.C.Cabinet.told l.fn.files) l.walk;
+  holds : Holds l.name l.walk l.docs.items l.lists.items;
+  follows : ForContent (g.C.Cabinet.told l.fn.files) l.name (λ (content : List ℕ). Follows content l.walk l.docs.items);
+}
+
+abbrev pub decreases-pieces : goal.decreases-pieces
+decreases-pieces g l = pieces_left l.walk

@@ -1,0 +1,181 @@
+use Rattle.std.proofs.Common.{ℕ, ◌≡◌, ◌<◌, ◌-◌, List, [], ◌∷◌, ◌++◌, length, map, take, get_or, suc, Option, None, Err, refl, sym, ap, ap₂, subst, ◌∙◌, ◌⊎◌, arith, append-nil, append_assoc}
+use Rattle.std.specs.Prelude.{All, AllPairs}
+use Rattle.std.specs.Vec.Iter.{into_iter_items}
+use Rattle.std.proofs.lemmas.List.{length-append, length-map}
+use Rattle.jass_base.specs.Outside.{Extends, Files, ForContent, Sets, content_there}
+use Rattle.jass_base.specs.Segments.{SharesNoDocument}
+use Rattle.jass_base.specs.declared.segment.Segment.{Segment}
+use Rattle.ciff_read.specs.declared.refusal.CiffFault.{CiffFault}
+use Rattle.ciff_read.specs.declared.refusal.CiffFault.TheVariants as reading
+use Rattle.ciff_read.specs.Pieces.{KeptList}
+use Rattle.ciff_read.specs.Walk.{HasKept}
+use Rattle.index_model.specs.Index.{SegmentData, TermData}
+use Rattle.index_model.specs.Views.{segment_data}
+use Rattle.index_layout.specs.Layout.{front_bytes}
+use Rattle.index_write.specs.Chosen.{chosen_heads, chosen_payloads, table_payloads}
+use Rattle.index_layout.specs.Heads.{TermHeads as EntryData}
+use Rattle.index_write.specs.Streaming.{WriterView, change_of, entries_totals, entry_data, next_heads}
+use Rattle.index_write.specs.declared.fault.TermFault.{TermFault}
+use Rattle.index_write.specs.Streaming.{Unappended}
+use Rattle.index_import.specs.Importing.{Writes}
+use Rattle.index_import.specs.Rereading.{FailsInside, IsInside}
+use Rattle.index_import.specs.Surveying.{IsReady}
+use Rattle.index_import.specs.declared.fault.ImportFault.{ImportFault}
+use Rattle.index_import.specs.declared.list_entry.Place.{Place}
+use Rattle.index_import.proofs.Beside.{beside}
+use Rattle.index_import.proofs.Finished.{as_many, fits, found_here, left_is, never_changed, next_is, not_appended, not_begun, not_read, only_untold, same_payloads, totals_are, turn_low, whole_text, writer_is}
+use Rattle.index_import.proofs.Ready.{leaves_same, leaves_then, ready_beside}
+use Rattle.index_import.proofs.Turns.{middle, parted, whole}
+use Rattle.index_import.proofs.Written.{extends_sets, payloads_more, sets_wanted}
+use Rattle.index_import.proofs.writing.write_index.Goals as goal
+
+abbrev no_term : TermData
+no_term = record { term = []; segments = [] }
+
+pub returns-in-Err-clause-written : goal.returns-in-Err-clause-written
+returns-in-Err-clause-written g c = λ made has.
+    subst (λ (f : ImportFault). Writes (g.C.Cabinet.told c.args.files.now) (g.C.Cabinet.told c.new.new.files) c.args.walk.now.name c.args.index.now (record { names = c.args.names; terms = made }) (Err f)) (sym c.not_begun.ensures)
+    (not_begun (g.C.Cabinet.told c.args.files.now) c.args.walk.now.name c.args.index.now c.args.walk.now.docs c.args.names (map entry_data c.args.heads.terms) made c.requires.as_many has.heads_are c.appended_payloads_make_the_text.ensures.text c.appended_payloads_make_the_text.ensures.length
+    g.C.Cabinet.told c.args.files.now c.new.new.files c.in-Err.fault refl c.in-Err.ensures.fault c.in-Err.ensures.untouched c.in-Err.ensures.front)
+
+pub places-init : goal.places-init
+places-init g c =
+    let front : List ℕ = front_bytes c.args.names (map entry_data c.args.heads.terms) in
+    record {
+      later = c.in-Ok.ensures.others;
+      others = c.in-Ok.ensures.later;
+      ready = ready_beside (g.C.Cabinet.told c.args.files.now) (g.C.Cabinet.told c.new.new.files) c.args.walk.now.name c.args.index.now front c.args.walk.now c.requires.apart c.in-Ok.ensures.content c.requires.ready;
+      leaves = leaves_same c.args.walk.now;
+      writer = writer_is c.in-Ok.writer c.args.index.now c.args.walk.now.docs (map entry_data c.args.heads.terms) (length c.args.heads.terms - 0) c.in-Ok.ensures.name (c.in-Ok.ensures.docs ∙ c.requires.as_many) c.in-Ok.ensures.entries (c.in-Ok.ensures.left ∙ omega arith);
+      fits = c.in-Ok.ensures.fits;
+      written = λ made has. subst (λ (bytes : List ℕ). Sets (g.C.Cabinet.told c.args.files.now) (g.C.Cabinet.told c.new.new.files) c.args.index.now bytes) (sym (append-nil front)) c.in-Ok.ensures.content;
+    }
+
+pub read_segments-requires-clause-given : goal.read_segments-requires-clause-given
+read_segments-requires-clause-given g c =
+    let is : c.args.heads.places.items ≡ c.places.yielded ++ c.in-Some.place ∷ into_iter_items c.next.new.self
+    = parted c.into_iter-place-iterator.result c.places.place-iterator c.next.new.self c.args.heads.places.items c.places.yielded c.in-Some.place c.into_iter-place-iterator.ensures.into_iter_gives.0 c.places.yielded_by c.in-Some.ensures.steps in
+    let kept : HasKept c.args.walk.now.kept c.in-Some.place.at c.in-Some.place.count
+    = middle (λ (p : Place). HasKept c.args.walk.now.kept p.at p.count) c.places.yielded (into_iter_items c.next.new.self) c.in-Some.place (subst (All (λ (p : Place). HasKept c.args.walk.now.kept p.at p.count)) is c.requires.given) in
+    subst (λ (kept : List KeptList). HasKept kept c.in-Some.place.at c.in-Some.place.count) (sym c.places.invariant.leaves.kept) kept
+
+pub returns-in-Err-read_segments-clause-written : goal.returns-in-Err-read_segments-clause-written
+returns-in-Err-read_segments-clause-written g c = λ made has.
+    let old : Option Files = g.C.Cabinet.told c.args.files.now in
+    let now : Option Files = g.C.Cabinet.told c.places.files in
+    let name : List ℕ = c.args.walk.now.name in
+    let d : ℕ = c.args.walk.now.docs in
+    let place : Place = c.in-Some.place in
+    let set = c.places.invariant.written made has in
+    let is : c.args.heads.places.items ≡ c.places.yielded ++ place ∷ into_iter_items c.next.new.self
+    = parted c.into_iter-place-iterator.result c.places.place-iterator c.next.new.self c.args.heads.places.items c.places.yielded place c.into_iter-place-iterator.ensures.into_iter_gives.0 c.places.yielded_by c.in-Some.ensures.steps in
+    let same : content_there now name ≡ content_there old name = beside old now c.args.index.now (front_bytes c.args.names (map entry_data c.args.heads.terms) ++ table_payloads d (take (length c.places.yielded) made)) name c.requires.apart set in
+    let told : ForContent now name (λ content. FailsInside content d c.args.weighing c.args.bits c.args.range place.at c.in-Err-read_segments.fault)
+    = subst (λ (n : List ℕ). ForContent now n (λ content. FailsInside content d c.args.weighing c.args.bits c.args.range place.at c.in-Err-read_segments.fault)) c.places.invariant.leaves.name
+    (subst (λ (k : ℕ). ForContent now c.places.walk.name (λ content. FailsInside content k c.args.weighing c.args.bits c.args.range place.at c.in-Err-read_segments.fault)) c.places.invariant.leaves.docs c.in-Err-read_segments.ensures.told) in
+    subst (λ (f : ImportFault). Writes old (g.C.Cabinet.told c.read_segments.new.files) name c.args.index.now (record { names = c.args.names; terms = made }) (Err f)) (sym c.from_ciff.ensures)
+    (not_read old name c.args.index.now d c.args.names (map entry_data c.args.heads.terms) made c.requires.as_many has.heads_are c.appended_payloads_make_the_text.ensures.text c.appended_payloads_make_the_text.ensures.length
+    now (g.C.Cabinet.told c.read_segments.new.files) (length c.places.yielded) c.in-Err-read_segments.fault c.in-Err-read_segments.ensures.stays c.places.invariant.fits set
+    (λ refusal refused. only_untold old now name (λ content. FailsInside content d c.args.weighing c.args.bits c.args.range place.at (reading.Refused refusal)) (λ content. All (λ (p : Place). IsInside content d c.args.weighing c.args.bits c.args.range p.at) c.args.heads.places.items)
+    same c.requires.ready.there (subst (λ (f : CiffFault). ForContent now name (λ content. FailsInside content d c.args.weighing c.args.bits c.args.range place.at f)) refused told) has.inside
+    (λ content outside inside. outside (middle (λ (p : Place). IsInside content d c.args.weighing c.args.bits c.args.range p.at) c.places.yielded (into_iter_items c.next.new.self) place (subst (All (λ (p : Place). IsInside content d c.args.weighing c.args.bits c.args.range p.at)) is inside)))))
+
+pub term-requires-clause-once : goal.term-requires-clause-once
+term-requires-clause-once g c = subst (λ (ss : List Segment). AllPairs SharesNoDocument ss) (sym c.as_slice.ensures) c.in-Ok-read_segments.ensures.segments.once
+
+pub returns-in-Err-term-clause-written : goal.returns-in-Err-term-clause-written
+returns-in-Err-term-clause-written g c = λ made has.
+    let old : Option Files = g.C.Cabinet.told c.args.files.now in
+    let now : Option Files = g.C.Cabinet.told c.places.files in
+    let read : Option Files = g.C.Cabinet.told c.read_segments.new.files in
+    let name : List ℕ = c.args.walk.now.name in
+    let d : ℕ = c.args.walk.now.docs in
+    let place : Place = c.in-Some.place in
+    let i : ℕ = length c.places.yielded in
+    let entries = map entry_data c.args.heads.terms in
+    let writer : WriterView = c.places.writer in
+    let set = c.places.invariant.written made has in
+    let is : c.args.heads.places.items ≡ c.places.yielded ++ place ∷ into_iter_items c.next.new.self
+    = parted c.into_iter-place-iterator.result c.places.place-iterator c.next.new.self c.args.heads.places.items c.places.yielded place c.into_iter-place-iterator.ensures.into_iter_gives.0 c.places.yielded_by c.in-Some.ensures.steps in
+    let same : content_there now name ≡ content_there old name = beside old now c.args.index.now (front_bytes c.args.names entries ++ table_payloads d (take i made)) name c.requires.apart set in
+    let segments : List SegmentData = map segment_data c.as_slice.result.now in
+    let here : (old ≡ None) ⊎ (segments ≡ (get_or made i no_term).segments)
+    = found_here old now name d c.args.weighing c.args.bits c.args.range c.args.heads.places.items c.places.yielded (into_iter_items c.next.new.self) place made c.places.walk.name c.places.walk.docs c.in-Ok-read_segments.segments c.as_slice.result.now
+    c.as_slice.ensures c.places.invariant.leaves.name c.places.invariant.leaves.docs same c.requires.ready.there is c.in-Ok-read_segments.ensures.told has.told in
+    let low : i < length entries = turn_low c.args.heads.places.items c.places.yielded (into_iter_items c.next.new.self) place c.args.heads.terms is c.requires.places in
+    let docs : writer.docs ≡ d = ap (λ (w : WriterView). w.docs) c.places.invariant.writer in
+    let next : next_heads writer ≡ chosen_heads d (get_or made i no_term).segments
+    = next_is writer d i entries made no_term (ap (λ (w : WriterView). w.entries) c.places.invariant.writer) (ap (λ (w : WriterView). w.left) c.places.invariant.writer ∙ left_is c.args.heads.terms i) low has.heads_are in
+    subst (λ (f : ImportFault). Writes old (g.C.Cabinet.told c.term.new.files) name c.args.index.now (record { names = c.args.names; terms = made }) (Err f)) (sym c.not_appended.ensures)
+    (not_appended old name c.args.index.now d c.args.names entries made c.requires.as_many has.heads_are c.appended_payloads_make_the_text.ensures.text c.appended_payloads_make_the_text.ensures.length
+    g.C.Cabinet.told c.read_segments.new.files c.term.new.files i place.at (chosen_payloads writer.docs segments) (chosen_payloads d (get_or made i no_term).segments) c.in-Err-term.fault c.places.invariant.fits
+    (subst (λ (m : Option Files). Sets old m c.args.index.now (front_bytes c.args.names entries ++ table_payloads d (take i made))) (sym c.in-Ok-read_segments.ensures.stays) set)
+    c.in-Err-term.ensures.untouched (payloads_more d i made no_term (omega (arith, low, as_many d c.args.names entries made c.requires.as_many has.heads_are))) c.appended_payloads_make_the_text.ensures.prefix
+    (subst (λ (n : List ℕ). (g.C.Cabinet.told c.term.new.files ≡ read) ⊎ ((k : ℕ) × Extends read (g.C.Cabinet.told c.term.new.files) n (take k (chosen_payloads writer.docs segments)))) (ap (λ (w : WriterView). w.name) c.places.invariant.writer) c.in-Err-term.ensures.content)
+    (same_payloads old writer.docs d segments (get_or made i no_term).segments docs here)
+    (λ kept found changed. never_changed old writer.docs d segments (get_or made i no_term).segments (next_heads writer) docs next here c.changes_are_found.ensures.same kept found
+    (subst (λ (f : TermFault). Unappended (change_of (next_heads writer) (chosen_heads writer.docs segments)) f) changed c.in-Err-term.ensures.fault)))
+
+pub places-preserved : goal.places-preserved
+places-preserved g c =
+    let old : Option Files = g.C.Cabinet.told c.args.files.now in
+    let now : Option Files = g.C.Cabinet.told c.places.files in
+    let read : Option Files = g.C.Cabinet.told c.read_segments.new.files in
+    let after : Option Files = g.C.Cabinet.told c.term.new.files in
+    let name : List ℕ = c.args.walk.now.name in
+    let d : ℕ = c.args.walk.now.docs in
+    let place : Place = c.in-Some.place in
+    let i : ℕ = length c.places.yielded in
+    let entries = map entry_data c.args.heads.terms in
+    let writer : WriterView = c.places.writer in
+    let is : c.args.heads.places.items ≡ c.places.yielded ++ place ∷ into_iter_items c.next.new.self
+    = parted c.into_iter-place-iterator.result c.places.place-iterator c.next.new.self c.args.heads.places.items c.places.yielded place c.into_iter-place-iterator.ensures.into_iter_gives.0 c.places.yielded_by c.in-Some.ensures.steps in
+    let segments : List SegmentData = map segment_data c.as_slice.result.now in
+    let low : i < length entries = turn_low c.args.heads.places.items c.places.yielded (into_iter_items c.next.new.self) place c.args.heads.terms is c.requires.places in
+    let docs : writer.docs ≡ d = ap (λ (w : WriterView). w.docs) c.places.invariant.writer in
+    let one : length (c.places.yielded ++ place ∷ []) ≡ suc i = omega (arith, length-append c.places.yielded (place ∷ [])) in
+    let put : Extends read after c.args.index.now (chosen_payloads writer.docs segments)
+    = subst (λ (n : List ℕ). Extends read after n (chosen_payloads writer.docs segments)) (ap (λ (w : WriterView). w.name) c.places.invariant.writer) c.in-Ok-term.ensures.content in
+    let written = extends_sets read after c.args.index.now (chosen_payloads writer.docs segments) put in
+    let ready = subst (λ (n : List ℕ). IsReady now n c.read_segments.new.walk) c.places.invariant.leaves.name c.in-Ok-read_segments.ensures.ready in
+    let ready_read = subst (λ (m : Option Files). IsReady m name c.read_segments.new.walk) (sym c.in-Ok-read_segments.ensures.stays) ready in
+    record {
+      later = omega (arith, c.places.invariant.later, c.in-Ok-read_segments.ensures.later, c.in-Ok-term.ensures.others);
+      others = omega (arith, c.places.invariant.others, c.in-Ok-read_segments.ensures.others, c.in-Ok-term.ensures.later);
+      ready = ready_beside read after name c.args.index.now written.0 c.read_segments.new.walk c.requires.apart written.1 ready_read;
+      leaves = leaves_then c.args.walk.now c.places.walk c.read_segments.new.walk c.places.invariant.leaves c.in-Ok-read_segments.ensures.leaves;
+      writer = writer_is c.in-Ok-term.writer c.args.index.now d entries (length c.args.heads.terms - length (c.places.yielded ++ place ∷ []))
+          (ap (λ (w : WriterView). w.name) c.in-Ok-term.ensures.writer ∙ ap (λ (w : WriterView). w.name) c.places.invariant.writer)
+          (ap (λ (w : WriterView). w.docs) c.in-Ok-term.ensures.writer ∙ docs)
+          (ap (λ (w : WriterView). w.entries) c.in-Ok-term.ensures.writer ∙ ap (λ (w : WriterView). w.entries) c.places.invariant.writer)
+          (ap (λ (w : WriterView). w.left) c.in-Ok-term.ensures.writer ∙ omega (arith, ap (λ (w : WriterView). w.left) c.places.invariant.writer, one));
+      fits = c.places.invariant.fits;
+      written = λ made has.
+          let set = c.places.invariant.written made has in
+          let same : content_there now name ≡ content_there old name = beside old now c.args.index.now (front_bytes c.args.names entries ++ table_payloads d (take i made)) name c.requires.apart set in
+          let here : (old ≡ None) ⊎ (segments ≡ (get_or made i no_term).segments)
+          = found_here old now name d c.args.weighing c.args.bits c.args.range c.args.heads.places.items c.places.yielded (into_iter_items c.next.new.self) place made c.places.walk.name c.places.walk.docs c.in-Ok-read_segments.segments c.as_slice.result.now
+          c.as_slice.ensures c.places.invariant.leaves.name c.places.invariant.leaves.docs same c.requires.ready.there is c.in-Ok-read_segments.ensures.told has.told in
+          let more = sets_wanted c.appended_payloads_make_the_text.ensures.file old read after c.args.index.now (front_bytes c.args.names entries ++ table_payloads d (take i made)) (chosen_payloads writer.docs segments) (chosen_payloads d (get_or made i no_term).segments)
+          (subst (λ (m : Option Files). Sets old m c.args.index.now (front_bytes c.args.names entries ++ table_payloads d (take i made))) (sym c.in-Ok-read_segments.ensures.stays) set) put
+          (same_payloads old writer.docs d segments (get_or made i no_term).segments docs here) in
+          let joined : (front_bytes c.args.names entries ++ table_payloads d (take i made)) ++ chosen_payloads d (get_or made i no_term).segments ≡ front_bytes c.args.names entries ++ table_payloads d (take (length (c.places.yielded ++ place ∷ [])) made)
+          = append_assoc (front_bytes c.args.names entries) (table_payloads d (take i made)) (chosen_payloads d (get_or made i no_term).segments)
+          ∙ ap (λ (bytes : List ℕ). front_bytes c.args.names entries ++ bytes) (sym (payloads_more d i made no_term (omega (arith, low, as_many d c.args.names entries made c.requires.as_many has.heads_are))))
+          ∙ ap (λ (n : ℕ). front_bytes c.args.names entries ++ table_payloads d (take n made)) (sym one) in
+          subst (λ (bytes : List ℕ). Sets old after c.args.index.now bytes) joined more;
+    }
+
+pub returns-clause-written : goal.returns-clause-written
+returns-clause-written g c = λ made has.
+    let old : Option Files = g.C.Cabinet.told c.args.files.now in
+    let d : ℕ = c.args.walk.now.docs in
+    let entries = map entry_data c.args.heads.terms in
+    let all : c.places.yielded ≡ c.args.heads.places.items
+    = whole c.into_iter-place-iterator.result c.places.place-iterator c.next.new.self c.args.heads.places.items c.places.yielded c.into_iter-place-iterator.ensures.into_iter_gives.0 (omega (arith, c.into_iter-place-iterator.ensures.into_iter_gives.1, c.args.heads.places.ok.0)) c.places.yielded_by c.in-None.ensures.steps in
+    let count : length c.places.yielded ≡ length entries = ap length all ∙ c.requires.places ∙ sym (length-map c.args.heads.terms entry_data) in (
+      whole_text d c.args.names entries made c.requires.as_many has.heads_are old (g.C.Cabinet.told c.places.files) c.args.index.now (length c.places.yielded) count c.appended_payloads_make_the_text.ensures.text (c.places.invariant.written made has),
+      fits d c.args.names entries made c.requires.as_many has.heads_are c.appended_payloads_make_the_text.ensures.length c.places.invariant.fits,
+      c.finish.ensures ∙ ap₂ (λ (n : ℕ) (es : List EntryData). entries_totals n es) (ap (λ (w : WriterView). w.docs) c.places.invariant.writer) (ap (λ (w : WriterView). w.entries) c.places.invariant.writer)
+          ∙ totals_are d c.args.names entries made c.requires.as_many has.heads_are c.appended_payloads_make_the_text.ensures.totals,
+    )

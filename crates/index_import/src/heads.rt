@@ -1,0 +1,86 @@
+ghost use Rattle.std.specs.Prelude.{ℕ, ◌≡◌, ◌<◌, ◌≤◌, ◌^◌, length, map, AllPairs, IfErr, IfOk, IsErrOf, OnOk};
+ghost use Rattle.std.specs.List.{sum_by};
+ghost use Rattle.jass_base.specs.Outside.{Rose, ForContent};
+ghost use Rattle.jass_base.specs.Terms.{BytesRise};
+ghost use Rattle.weights.specs.Quantizing.{IsImpactWidth};
+ghost use Rattle.ciff_read.specs.Walk.{LeavesWalk};
+ghost use Rattle.impact_segments.specs.OneList.{EndsLow};
+ghost use Rattle.index_write.specs.Streaming.{AreEntries, entry_data};
+ghost use Rattle.index_import.specs.Heading.{AreHeads, FailsAllInside, places_of};
+ghost use Rattle.index_import.specs.Surveying.{AreGiven, IsReady};
+ghost use Rattle.index_import.specs.declared.list_entry.ListEntry.{ListEntry};
+
+use crate::list_entry::{ListEntry, Place};
+use crate::reading::read_segments;
+use crate::weighing::Weighing;
+use ciff_read::{CiffFault, CiffWalk};
+use index_write::laws::made_heads_are_entries;
+use index_write::{TermHeads, payload_heads};
+use jass_base::{Cabinet, Row};
+use std::alloc::Global;
+use weights::{Bits, Range};
+
+/// The terms of lists with the heads of their segments, and the places of the lists.
+#[derive(Drop)]
+pub(crate) struct Heads {
+    pub terms: Row<TermHeads>,
+    pub places: Vec<Place>,
+}
+
+/// Reads lists again, which rise by their terms, for the heads of their segments.
+pub(crate) fn read_heads<C: Cabinet>(
+    alloc: Global,
+    walk: &mut CiffWalk,
+    files: &mut C,
+    weighing: Weighing<'_>,
+    bits: Bits,
+    range: Range,
+    lists: Vec<ListEntry>,
+) -> Result<Heads, CiffFault>
+    requires ready { IsReady (C.told files.old) walk.old.name walk.old }
+    requires given { AreGiven walk.old.kept lists.items }
+    requires rising { AllPairs (λ (a b : ListEntry). BytesRise a.term b.term) lists.items }
+    requires few { length lists.items ≤ 2 ^ 24 }
+    requires postings { sum_by (λ (e : ListEntry). e.place.count) lists.items ≤ 2 ^ 29 }
+    requires docs { length weighing.lengths.now ≡ walk.old.docs }
+    requires width { IsImpactWidth bits }
+    requires low { EndsLow bits range }
+    ensures ready { OnOk result (IsReady (C.told files.old) walk.old.name walk.new) }
+    ensures leaves { LeavesWalk walk.old walk.new }
+    ensures heads { IfOk result (λ heads. AreHeads (C.told files.old) walk.old.name walk.old.docs
+        weighing.entry bits range lists.items heads.terms) }
+    ensures as_many { IfOk result (λ heads. length heads.terms ≡ length lists.items) }
+    ensures entries { IfOk result (λ heads. AreEntries (map entry_data heads.terms)) }
+    ensures places { IfOk result (λ heads. heads.places.items ≡ places_of lists.items) }
+    ensures told { ForContent (C.told files.old) walk.old.name (λ content.
+        IfErr result (FailsAllInside content walk.old.docs weighing.entry bits range lists.items)) }
+    ensures fault { IsErrOf result CiffFault.ReadFault → Rose (C.read_faults files.old) (C.read_faults files.new) }
+    ensures stays { C.told files.new ≡ C.told files.old }
+    ensures later { C.read_faults files.old ≤ C.read_faults files.new }
+    ensures others { C.write_faults files.old ≤ C.write_faults files.new }
+{
+    made_heads_are_entries();
+    let docs = weighing.lengths.len() as u32;
+    let mut terms = Row::new(alloc);
+    let mut places = Vec::new(alloc);
+    'lists: for entry in lists {
+        let ListEntry { term, place } = entry;
+        let segments = match read_segments(alloc, walk, files, weighing, bits, range, place) {
+            Ok(segments) => segments,
+            Err(fault) => return Err(fault),
+        };
+        let heads = match payload_heads(alloc, segments.as_slice(), docs) {
+            Ok(heads) => heads,
+            Err(_) => return Err(CiffFault::NoMemory),
+        };
+        match terms.push(TermHeads { term, heads }) {
+            Ok(()) => {}
+            Err(_) => return Err(CiffFault::NoMemory),
+        }
+        match places.push(place) {
+            Ok(()) => {}
+            Err(_) => return Err(CiffFault::NoMemory),
+        }
+    }
+    Ok(Heads { terms, places })
+}

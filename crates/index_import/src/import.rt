@@ -1,0 +1,113 @@
+ghost use Rattle.std.specs.Prelude.{ℕ, ◌≡◌, ◌≢◌, ◌≤◌, ◌⊎◌, IsErrOf};
+ghost use Rattle.jass_base.specs.Outside.{ForContent, IsMissing, Rose};
+ghost use Rattle.weights.specs.Quantizing.{IsImpactWidth};
+ghost use Rattle.index_import.specs.Importing.{Imports};
+ghost use Rattle.index_import.specs.Outlining.{IsOutline, IsOutlined};
+ghost use Rattle.index_import.specs.Surveying.{IsReady};
+
+use crate::fault::ImportFault;
+use crate::heads::read_heads;
+use crate::list_entry::ListEntry;
+use crate::outline::Outline;
+use crate::ranging::read_range;
+use crate::survey::survey_file;
+use crate::weighing::Weighing;
+use crate::writing::write_index;
+use ciff_read::CiffWalk;
+use impact_segments::laws::{lists_by_term_make_the_index, widened_lists_have_the_range};
+use impact_segments::length_norms;
+use jass_base::{Cabinet, Row, Text, Totals};
+use std::alloc::Global;
+use weights::{Bits, Rule};
+
+/// Makes an index file of a CIFF file, and gives the totals of the index. The CIFF file is read to
+/// its end before the index is touched. Refused comes with the first refusal of the file, and
+/// TooLarge where the index would have more than 2^32 bytes; both leave the index as it is, but for
+/// a file that changes while it is read. After another fault the index is as it was, or begins as
+/// it should.
+pub fn import_file<C: Cabinet>(
+    alloc: Global,
+    files: &mut C,
+    ciff: &str,
+    index: &str,
+    rule: Rule,
+    bits: Bits,
+) -> Result<Totals, ImportFault>
+    requires width { IsImpactWidth bits }
+    requires apart { ciff.now ≢ index.now }
+    ensures imported { Imports (C.told files.old) (C.told files.new) ciff.now index.now rule bits result }
+    ensures read_fault { IsErrOf result ImportFault.ReadFault
+        → Rose (C.read_faults files.old) (C.read_faults files.new) ⊎ IsMissing (C.told files.old) ciff.now }
+    ensures write_fault { IsErrOf result ImportFault.WriteFault
+        → Rose (C.write_faults files.old) (C.write_faults files.new) }
+    ensures later { C.read_faults files.old ≤ C.read_faults files.new }
+    ensures others { C.write_faults files.old ≤ C.write_faults files.new }
+{
+    let survey = match survey_file(alloc, files, ciff) {
+        Ok(survey) => survey,
+        Err(fault) => return Err(ImportFault::from_ciff(fault)),
+    };
+    let outline = match Outline::new(alloc, survey) {
+        Ok(outline) => outline,
+        Err(_) => return Err(ImportFault::NoMemory),
+    };
+    let Outline {
+        mut walk,
+        names,
+        lengths,
+        total,
+        lists,
+    } = outline;
+    let norms = match length_norms(alloc, total, &lengths) {
+        Ok(norms) => norms,
+        Err(_) => return Err(ImportFault::NoMemory),
+    };
+    let weighing = Weighing {
+        rule,
+        total,
+        lengths: &lengths,
+        norms: &norms,
+    };
+    import_lists(alloc, &mut walk, files, weighing, bits, names, lists, index)
+}
+
+/// Makes an index file of a file that was judged; its lists are read again, by rising terms.
+fn import_lists<C: Cabinet>(
+    alloc: Global,
+    walk: &mut CiffWalk,
+    files: &mut C,
+    weighing: Weighing<'_>,
+    bits: Bits,
+    names: Row<Text>,
+    lists: Vec<ListEntry>,
+    index: &str,
+) -> Result<Totals, ImportFault>
+    requires ready { IsReady (C.told files.old) walk.old.name walk.old }
+    requires outlined { IsOutlined walk.old names weighing.lengths.now weighing.total lists.items }
+    requires told { ForContent (C.told files.old) walk.old.name (λ content.
+        IsOutline content walk.old.docs names weighing.lengths.now lists.items) }
+    requires width { IsImpactWidth bits }
+    requires apart { walk.old.name ≢ index.now }
+    ensures imported { Imports (C.told files.old) (C.told files.new) walk.old.name index.now
+        weighing.entry.rule bits result }
+    ensures read_fault { IsErrOf result ImportFault.ReadFault
+        → Rose (C.read_faults files.old) (C.read_faults files.new) }
+    ensures write_fault { IsErrOf result ImportFault.WriteFault
+        → Rose (C.write_faults files.old) (C.write_faults files.new) }
+    ensures later { C.read_faults files.old ≤ C.read_faults files.new }
+    ensures others { C.write_faults files.old ≤ C.write_faults files.new }
+{
+    lists_by_term_make_the_index();
+    widened_lists_have_the_range();
+    let range = match read_range(walk, files, weighing, bits, &lists) {
+        Ok(range) => range,
+        Err(fault) => return Err(ImportFault::from_ciff(fault)),
+    };
+    let heads = match read_heads(alloc, walk, files, weighing, bits, range, lists) {
+        Ok(heads) => heads,
+        Err(fault) => return Err(ImportFault::from_ciff(fault)),
+    };
+    write_index(
+        alloc, walk, files, weighing, bits, range, names, heads, index,
+    )
+}

@@ -1,0 +1,39 @@
+ghost use Rattle.std.specs.Prelude.{ℕ, ◌≡◌, ◌≤◌, ◌^◌, length};
+ghost use Rattle.jass_base.specs.Limits.{IsText};
+
+use jass_base::{PostingsList, Text};
+
+/// Where a list stands in a file, and how many postings it has.
+#[derive(Clone, Copy, Debug)]
+pub(crate) struct Place {
+    pub at: u64,
+    pub count: u32,
+    pub ghost some: { 1 ≤ count },
+}
+
+/// What is kept of a list that has postings, so that it can be read again.
+#[derive(Debug, Drop)]
+pub(crate) struct ListEntry {
+    pub term: Text,
+    pub place: Place,
+    pub ghost term_fits: { length term ≤ 65535 },
+    pub ghost term_is_text: { IsText term },
+}
+
+impl ListEntry {
+    /// Keeps a list that has postings, and lets these go.
+    pub fn new(at: u64, list: PostingsList) -> ListEntry
+        requires some { 1 ≤ length list.postings }
+        requires few { length list.postings ≤ 2 ^ 29 }
+        ensures term { result.term ≡ list.term }
+        ensures at { result.place.at ≡ at }
+        ensures count { result.place.count ≡ length list.postings }
+    {
+        let count = list.postings.len() as u32;
+        let PostingsList { term, .. } = list;
+        ListEntry {
+            term,
+            place: Place { at, count },
+        }
+    }
+}

@@ -1,0 +1,81 @@
+ghost use Rattle.std.specs.Prelude.{ℕ, ◌≡◌, ◌<◌, ◌≤◌, ◌^◌, length, MatchResult, All, IfOk, IsErrOf, OnOk};
+ghost use Rattle.jass_base.specs.Outside.{Rose, ForContent};
+ghost use Rattle.ciff_read.specs.Walk.{IsOutside, LeavesWalk};
+ghost use Rattle.impact_segments.specs.OneList.{EndsLow};
+ghost use Rattle.index_import.specs.Ranging.{range_there, widened_there};
+ghost use Rattle.index_import.specs.Surveying.{AreGiven, IsReady};
+
+use crate::list_entry::ListEntry;
+use crate::reading::read_again;
+use crate::weighing::Weighing;
+use ciff_read::{CiffFault, CiffWalk};
+use impact_segments::laws::widened_lists_have_the_range;
+use impact_segments::widen_by_norms;
+use jass_base::Cabinet;
+use weights::{Bits, Range};
+
+/// Reads lists again for the range of their weights, where impacts are places in it.
+pub(crate) fn read_range<C: Cabinet>(
+    walk: &mut CiffWalk,
+    files: &mut C,
+    weighing: Weighing<'_>,
+    bits: Bits,
+    lists: &[ListEntry],
+) -> Result<Range, CiffFault>
+    requires ready { IsReady (C.told files.old) walk.old.name walk.old }
+    requires given { AreGiven walk.old.kept lists.now }
+    requires docs { length weighing.lengths.now ≡ walk.old.docs }
+    ensures ready { OnOk result (IsReady (C.told files.old) walk.old.name walk.new) }
+    ensures leaves { LeavesWalk walk.old walk.new }
+    ensures low { IfOk result (EndsLow bits) }
+    ensures told { ForContent (C.told files.old) walk.old.name (λ content.
+        MatchResult result (λ range. range ≡ range_there content walk.old.docs weighing.entry bits lists.now) IsOutside) }
+    ensures fault { IsErrOf result CiffFault.ReadFault → Rose (C.read_faults files.old) (C.read_faults files.new) }
+    ensures stays { C.told files.new ≡ C.told files.old }
+    ensures later { C.read_faults files.old ≤ C.read_faults files.new }
+    ensures others { C.write_faults files.old ≤ C.write_faults files.new }
+{
+    match bits {
+        Bits::Raw => Ok(Range::new()),
+        Bits::Of(_) => widen_lists(walk, files, weighing, lists),
+    }
+}
+
+/// The range of the weights of lists that are read again.
+fn widen_lists<C: Cabinet>(
+    walk: &mut CiffWalk,
+    files: &mut C,
+    weighing: Weighing<'_>,
+    lists: &[ListEntry],
+) -> Result<Range, CiffFault>
+    requires ready { IsReady (C.told files.old) walk.old.name walk.old }
+    requires given { AreGiven walk.old.kept lists.now }
+    requires docs { length weighing.lengths.now ≡ walk.old.docs }
+    ensures ready { OnOk result (IsReady (C.told files.old) walk.old.name walk.new) }
+    ensures leaves { LeavesWalk walk.old walk.new }
+    ensures low { IfOk result (λ range. range.greatest ≤ 2 ^ 40) }
+    ensures told { ForContent (C.told files.old) walk.old.name (λ content.
+        MatchResult result (λ range. range ≡ widened_there content walk.old.docs weighing.entry lists.now) IsOutside) }
+    ensures fault { IsErrOf result CiffFault.ReadFault → Rose (C.read_faults files.old) (C.read_faults files.new) }
+    ensures stays { C.told files.new ≡ C.told files.old }
+    ensures later { C.read_faults files.old ≤ C.read_faults files.new }
+    ensures others { C.write_faults files.old ≤ C.write_faults files.new }
+{
+    widened_lists_have_the_range();
+    let mut range = Range::new();
+    for entry in lists {
+        let list = match read_again(walk, files, entry.place) {
+            Ok(list) => list,
+            Err(fault) => return Err(fault),
+        };
+        widen_by_norms(
+            &mut range,
+            weighing.rule,
+            weighing.total,
+            &list,
+            weighing.lengths,
+            weighing.norms,
+        );
+    }
+    Ok(range)
+}

@@ -1,0 +1,67 @@
+ghost use Rattle.std.specs.Prelude.{◌≡◌, ◌≤◌, ◌⊎◌, IfOk, IsErrOf, MatchResult};
+ghost use Rattle.jass_base.specs.Outside.{IsMissing, Rose};
+ghost use Rattle.ciff_read.specs.Walk.{IsOutside};
+ghost use Rattle.index_import.specs.Surveying.{AreKept, IsReady, SurveyTold};
+
+use crate::list_entry::ListEntry;
+use ciff_read::laws::pieces_make_the_collection;
+use ciff_read::{CiffFault, CiffWalk, Piece};
+use jass_base::{Cabinet, DocRecord};
+use std::alloc::Global;
+
+/// What the first pass over a file keeps.
+#[derive(Drop)]
+pub(crate) struct Survey {
+    pub walk: CiffWalk,
+    /// The documents' records with their numbers, in the order of the file.
+    pub docs: Vec<(u32, DocRecord)>,
+    /// The lists that have postings, in the order of the file.
+    pub lists: Vec<ListEntry>,
+}
+
+/// Reads a file to its end, and judges it.
+pub(crate) fn survey_file<C: Cabinet>(
+    alloc: Global,
+    files: &mut C,
+    name: &str,
+) -> Result<Survey, CiffFault>
+    ensures ready { IfOk result (λ s. IsReady (C.told files.old) name.now s.walk) }
+    ensures kept { IfOk result (λ s. AreKept s.walk s.docs.items s.lists.items) }
+    ensures told { SurveyTold (C.told files.old) name.now result }
+    ensures missing { IsMissing (C.told files.old) name.now → MatchResult result (λ _. ⊥) IsOutside }
+    ensures fault { IsErrOf result CiffFault.ReadFault
+        → Rose (C.read_faults files.old) (C.read_faults files.new) ⊎ IsMissing (C.told files.old) name.now }
+    ensures stays { C.told files.new ≡ C.told files.old }
+    ensures later { C.read_faults files.old ≤ C.read_faults files.new }
+    ensures others { C.write_faults files.old ≤ C.write_faults files.new }
+{
+    pieces_make_the_collection();
+    let mut walk = CiffWalk::open(alloc, files, name)?;
+    let mut docs = Vec::new(alloc);
+    let mut lists = Vec::new(alloc);
+    'pieces: loop {
+        let piece = match walk.next_piece(files) {
+            Ok(piece) => piece,
+            Err(fault) => return Err(fault),
+        };
+        match piece {
+            Piece::Start {
+                header: _header,
+                ..
+            } => {}
+            Piece::List { at, list } => {
+                if !list.postings.is_empty() {
+                    match lists.push(ListEntry::new(at, list)) {
+                        Ok(()) => {}
+                        Err(_) => return Err(CiffFault::NoMemory),
+                    }
+                }
+            }
+            Piece::Doc { number, item } => match docs.push((number, item)) {
+                Ok(()) => {}
+                Err(_) => return Err(CiffFault::NoMemory),
+            },
+            Piece::End => return Ok(Survey { walk, docs, lists }),
+        }
+    }
+}

@@ -1,0 +1,101 @@
+ghost use Rattle.std.specs.Prelude.{ℕ, ◌≡◌, ◌≢◌, ◌≤◌, ◌^◌, List, length, map, All, IsErrOf};
+ghost use Rattle.jass_base.specs.Outside.{Rose};
+ghost use Rattle.weights.specs.Quantizing.{IsImpactWidth};
+ghost use Rattle.ciff_read.specs.Walk.{HasKept};
+ghost use Rattle.impact_segments.specs.OneList.{EndsLow};
+ghost use Rattle.index_model.specs.Index.{TermData};
+ghost use Rattle.index_write.specs.Streaming.{AreEntries, AreNames, entry_data};
+ghost use Rattle.index_import.specs.Faults.{unappended, unbegun};
+ghost use Rattle.index_import.specs.Importing.{HasTerms, Writes};
+ghost use Rattle.index_import.specs.Surveying.{IsReady};
+ghost use Rattle.index_import.specs.declared.list_entry.Place.{Place};
+
+use crate::fault::ImportFault;
+use crate::heads::Heads;
+use crate::reading::read_segments;
+use crate::weighing::Weighing;
+use ciff_read::{CiffFault, CiffRefusal, CiffWalk, CiffWhy};
+use index_write::laws::{appended_payloads_make_the_text, changes_are_found};
+use index_write::{IndexWriter, SaveFault, TermFault};
+use jass_base::{Cabinet, Row, Text, Totals};
+use std::alloc::Global;
+use weights::{Bits, Range};
+
+/// Writes the index of the documents of these names, and of the lists that have these heads, each
+/// of which is read once more.
+pub(crate) fn write_index<C: Cabinet>(
+    alloc: Global,
+    walk: &mut CiffWalk,
+    files: &mut C,
+    weighing: Weighing<'_>,
+    bits: Bits,
+    range: Range,
+    names: Row<Text>,
+    heads: Heads,
+    index: &str,
+) -> Result<Totals, ImportFault>
+    requires ready { IsReady (C.told files.old) walk.old.name walk.old }
+    requires given { All (λ (p : Place). HasKept walk.old.kept p.at p.count) heads.places.items }
+    requires docs { length weighing.lengths.now ≡ walk.old.docs }
+    requires width { IsImpactWidth bits }
+    requires low { EndsLow bits range }
+    requires names { AreNames names }
+    requires as_many { length names ≡ walk.old.docs }
+    requires entries { AreEntries (map entry_data heads.terms) }
+    requires places { length heads.places.items ≡ length heads.terms }
+    requires apart { walk.old.name ≢ index.now }
+    ensures written { (made : List TermData)
+        → HasTerms (C.told files.old) walk.old.name walk.old.docs weighing.entry bits range heads.places.items heads.terms made
+        → Writes (C.told files.old) (C.told files.new) walk.old.name index.now (record { names = names; terms = made })
+        result }
+    ensures read_fault { IsErrOf result ImportFault.ReadFault
+        → Rose (C.read_faults files.old) (C.read_faults files.new) }
+    ensures write_fault { IsErrOf result ImportFault.WriteFault
+        → Rose (C.write_faults files.old) (C.write_faults files.new) }
+    ensures later { C.read_faults files.old ≤ C.read_faults files.new }
+    ensures others { C.write_faults files.old ≤ C.write_faults files.new }
+{
+    appended_payloads_make_the_text();
+    changes_are_found();
+    let Heads { terms, places } = heads;
+    let mut writer = match IndexWriter::new(alloc, names, terms, files, index) {
+        Ok(writer) => writer,
+        Err(fault) => return Err(not_begun(fault)),
+    };
+    'places: for place in places {
+        let segments = match read_segments(alloc, walk, files, weighing, bits, range, place) {
+            Ok(segments) => segments,
+            Err(fault) => return Err(ImportFault::from_ciff(fault)),
+        };
+        writer = match writer.term(segments.as_slice(), files) {
+            Ok(writer) => writer,
+            Err(fault) => return Err(not_appended(fault, place.at)),
+        };
+    }
+    Ok(writer.finish())
+}
+
+/// Why the index was not begun.
+fn not_begun(fault: SaveFault) -> ImportFault
+    ensures { result ≡ unbegun fault }
+{
+    match fault {
+        SaveFault::TooLarge { length } => ImportFault::TooLarge { length },
+        SaveFault::WriteFault => ImportFault::WriteFault,
+        SaveFault::NoMemory => ImportFault::NoMemory,
+    }
+}
+
+/// Why the payloads of the list at a place were not appended.
+fn not_appended(fault: TermFault, at: u64) -> ImportFault
+    ensures { result ≡ unappended at fault }
+{
+    match fault {
+        TermFault::Changed { kept, found } => ImportFault::Refused(CiffRefusal {
+            at,
+            why: CiffWhy::Changed { kept, found },
+        }),
+        TermFault::WriteFault => ImportFault::WriteFault,
+        TermFault::NoMemory => ImportFault::NoMemory,
+    }
+}

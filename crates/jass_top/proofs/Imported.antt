@@ -1,0 +1,78 @@
+-- What an import is judged to be, and what stands after it.
+use Rattle.std.proofs.Common.{rules, [], ◌≡◌, ◌≤◌, ◌<◌, ◌^◌, ◌⊎◌, ℕ, List, length, take, Option, Some, None, Result, Ok, Err, refl, sym, ap, subst, ◌∙◌, inl, inr, arith}
+use Rattle.std.specs.Prelude.{IsSomeAnd}
+use Rattle.std.specs.FinMap.{get}
+use Rattle.std.specs.Io.KnownBytes.{Appends}
+use Rattle.jass_base.specs.Ciff.{CollectionData}
+use Rattle.jass_base.specs.Outside.{Files, OnContent, IsMissing, Rose, Sets}
+use Rattle.jass_base.specs.Writing.{Appends-none}
+use Rattle.ciff_read.specs.declared.refusal.CiffRefusal.{CiffRefusal}
+use Rattle.ciff_read.specs.Reading.{read_ciff}
+use Rattle.ciff_read.specs.Refusals.{number_of}
+use Rattle.weights.specs.declared.weighting.Rule.{Rule}
+use Rattle.weights.specs.declared.quantizing.Bits.{Bits}
+use Rattle.index_model.specs.Index.{IndexData}
+use Rattle.index_layout.specs.View.{index_text}
+use Rattle.impact_segments.specs.Collections.{collection_index}
+use Rattle.index_import.specs.Importing.{Begins, IsMade}
+use Rattle.jass_top.specs.declared.stop.Place.TheVariants.{Byte}
+use Rattle.jass_top.specs.IndexJudging.{fitting}
+use Rattle.jass_top.specs.Judging.{Judged, Accepted, Missing, Refuses, Untold, Shows, behind, judge_ciff, judged_ciff, judged_content}
+use Rattle.jass_top.specs.ImportMeaning.{import_meaning}
+use Rattle.jass_top.specs.MakingMeaning.{judge_made, made_output}
+use Rattle.jass_top.specs.Standing.{Stands}
+use Rattle.jass_top.specs.Worlds.{Outer}
+use Rattle.jass_top.proofs.JudgedFiles.{fits, too_large}
+
+module _ (ciff : List ℕ) (rule : Rule) (bits : Bits) where
+  abbrev pub judge_import : Option Files → Judged IndexData
+  judge_import told = judge_made ciff (judge_ciff ciff) (collection_index rule bits) told
+
+  judged : (told : Option Files) (P : List ℕ → Type 0) (other : Judged IndexData) → OnContent told ciff P
+      → ((content : List ℕ) → P content → behind (judged_ciff ciff (read_ciff content)) (λ c. fitting ciff (collection_index rule bits c)) ≡ other) → Shows (judge_import told) other
+  unfolding judge_ciff
+  judged None P other is then = inl refl
+  judged (Some files) P other is then = at (get files ciff) is
+    where
+      at : (o : Option (List ℕ)) → IsSomeAnd o P → Shows (behind (judged_content ciff o) (λ c. fitting ciff (collection_index rule bits c))) other
+      at None is = absurd is
+      at (Some content) is = inr (then content is)
+
+  pub accepted : (told : Option Files) (made : IndexData) → IsMade told ciff rule bits made → length (index_text made) ≤ 2 ^ 32 → Shows (judge_import told) (Accepted made)
+  accepted told made is few = judged told (λ content. (c : CollectionData) × (read_ciff content ≡ Ok c) × (made ≡ collection_index rule bits c)) (Accepted made) is (λ content (c, read, same).
+      ap (λ r. behind (judged_ciff ciff r) (λ c. fitting ciff (collection_index rule bits c))) read ∙ ap (fitting ciff) (sym same) ∙ fits ciff made few)
+
+  pub larger : (told : Option Files) (made : IndexData) (n : ℕ) → IsMade told ciff rule bits made → n ≡ length (index_text made) → 2 ^ 32 < n → Shows (judge_import told) (Refuses ciff 49 (Byte n))
+  larger told made n is size large = judged told (λ content. (c : CollectionData) × (read_ciff content ≡ Ok c) × (made ≡ collection_index rule bits c)) (Refuses ciff 49 (Byte n)) is (λ content (c, read, same).
+      ap (λ r. behind (judged_ciff ciff r) (λ c. fitting ciff (collection_index rule bits c))) read ∙ ap (fitting ciff) (sym same) ∙ too_large ciff made n (sym size) large)
+
+  pub refused : (told : Option Files) (e : CiffRefusal) → OnContent told ciff (λ content. read_ciff content ≡ Err e) → Shows (judge_import told) (Refuses ciff (number_of e.why) (Byte e.at))
+  refused told e is = judged told (λ content. read_ciff content ≡ Err e) (Refuses ciff (number_of e.why) (Byte e.at)) is (λ content read.
+      ap (λ r. behind (judged_ciff ciff r) (λ c. fitting ciff (collection_index rule bits c))) read)
+
+  pub unread : (told : Option Files) (before after : ℕ) → Rose before after ⊎ IsMissing told ciff → Rose before after ⊎ (judge_import told ≡ Missing ciff)
+  unfolding judge_ciff
+  unread told before after (inl rose) = inl rose
+  unread None before after (inr is) = absurd is
+  unread (Some files) before after (inr is) = inr (ap (λ o. behind (judged_content ciff o) (λ c. fitting ciff (collection_index rule bits c))) is)
+
+module _ (ciff : List ℕ) (rule : Rule) (bits : Bits) (index : List ℕ) (before after : Outer) where
+  -- an import that stopped left nothing, or a part of the index
+  pub stands : after.written ≡ before.written → after.steps ≡ before.steps → (after.told ≡ before.told) ⊎ ((made : IndexData) × IsMade before.told ciff rule bits made × Begins before.told after.told index made)
+      → Stands (import_meaning ciff index rule bits) before after
+  stands written steps (inl same) = inl (record { told = same; written = written; steps = steps })
+  stands written steps (inr (made, is, inl same)) = inl (record { told = same; written = written; steps = steps })
+  stands written steps (inr (made, is, inr (few, part))) = inr (inr (
+    search rules,
+    record {
+      inputs = made;
+      output = made_output made;
+      accepted = accepted ciff rule bits before.told made is few;
+      exact = refl;
+      left = record {
+        content = inr part;
+        text = (0, subst (λ (w : Option (List ℕ)). Appends before.written w []) (sym written) (Appends-none before.written));
+        steps = omega (arith, steps);
+      };
+    },
+  ))
