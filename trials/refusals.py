@@ -7,7 +7,7 @@ For each command on a small input, and each kind of call (refuse.c): the first c
 so on until a run has no such call. Of each run it is asked that it ends by itself, with a status that the kind allows;
 with 0 that the output and the files are those of a run without refusal; else that one note stands on standard error,
 that the output is a prefix of that run's, and that a file which is written is as at entry or a prefix; at 1 that files
-are as at entry, but for that of `search`; and that no other file changed. Needs a C compiler.
+are as at entry, but for those of `search` and `import`; and that no other file changed. Needs a C compiler.
 """
 import os
 import shutil
@@ -87,7 +87,7 @@ def fault_of(kind, words, target, entry, whole, got):
         return f"its notes are {notes!r}"
     if not whole[0].startswith(output):
         return "its output is no prefix"
-    if status in (1, 4) and not words.startswith(("search", "serve")) and (output or files != entry):
+    if status in (1, 4) and not words.startswith(("search", "serve", "import")) and (output or files != entry):
         return f"ended with {status} and left something"
     for name in files.keys() | entry.keys():
         before, after = entry.get(name), files.get(name)
