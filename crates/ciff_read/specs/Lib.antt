@@ -20,3 +20,4 @@ pub mod Walk
 pub mod Walking
 pub mod Window
 pub mod Counts
+pub mod Usual

@@ -1,4 +1,4 @@
-ghost use Rattle.std.specs.Prelude.{ℕ, ◌≡◌, ◌≤◌, length, drop, Ok, IfSome};
+ghost use Rattle.std.specs.Prelude.{◌≤◌, length, drop};
 ghost use Rattle.ciff_read.specs.Refusals.{Gives};
 ghost use Rattle.ciff_read.specs.Walking.{entry_at};
 
@@ -19,9 +19,6 @@ pub fn read_entry(bytes: &[u8], from: usize) -> Result<Entry, CiffFault>
     requires { from ≤ length bytes.now }
     ensures { Gives (λ entry. entry) result (entry_at from (drop from bytes.now)) }
 {
-    if let Some(entry) = short_entry(&bytes[from..]) {
-        return Ok(entry);
-    }
     let mut entry = Entry { docid: 0, tf: 0 };
     let mut at = from;
     'fields: loop {
@@ -35,29 +32,4 @@ pub fn read_entry(bytes: &[u8], from: usize) -> Result<Entry, CiffFault>
             Err(fault) => return Err(refused_field(fault)),
         }
     }
-}
-
-/// The posting of a body in its usual spelling, with a gap of one or two bytes and a tf of
-/// one. Nearly all postings are spelled so.
-#[inline(always)]
-fn short_entry(body: &[u8]) -> Option<Entry>
-    ensures { IfSome result (λ entry. (from : ℕ) → entry_at from body.now ≡ Ok entry) }
-{
-    if body.len() == 4 && body[0] == 8 && body[1] < 128 && body[2] == 16 && body[3] < 128 {
-        let docid = u64::from(body[1]);
-        let tf = u64::from(body[3]);
-        return Some(Entry { docid, tf });
-    }
-    if body.len() == 5
-        && body[0] == 8
-        && body[1] >= 128
-        && body[2] < 128
-        && body[3] == 16
-        && body[4] < 128
-    {
-        let docid = u64::from(body[1] - 128) + 128 * u64::from(body[2]);
-        let tf = u64::from(body[4]);
-        return Some(Entry { docid, tf });
-    }
-    None
 }

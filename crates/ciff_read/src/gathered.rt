@@ -26,28 +26,37 @@ pub struct Gathered {
 }
 
 impl Gathered {
-    ghost use Rattle.std.specs.Prelude.{OnOk, None, []};
+    ghost use Rattle.std.specs.Prelude.{IfOk, OnOk, None, []};
     ghost use Rattle.ciff_read.specs.Judging.{gather};
     ghost use Rattle.ciff_read.specs.Places.{gathered_of};
 
-    /// No postings yet.
-    pub fn new(alloc: Global, docs: u32, before: u64) -> Gathered
+    /// No postings yet, and room for so many.
+    pub fn with_room(
+        alloc: Global,
+        docs: u32,
+        before: u64,
+        room: usize,
+    ) -> Result<Gathered, NoMemory>
         requires docs { docs ≤ 2 ^ 26 }
         requires before { before ≤ 2 ^ 29 }
-        ensures empty { gathered_of result ≡ Ok [] }
-        ensures docs { result.docs ≡ docs }
-        ensures before { result.before ≡ before }
+        ensures empty { IfOk result (λ gathered. gathered_of gathered ≡ Ok []) }
+        ensures docs { IfOk result (λ gathered. gathered.docs ≡ docs) }
+        ensures before { IfOk result (λ gathered. gathered.before ≡ before) }
     {
-        Gathered {
-            postings: Row::new(alloc),
-            last: 0,
-            docs,
-            before,
-            refusal: None,
+        match Vec::with_capacity(alloc, room) {
+            Ok(postings) => Ok(Gathered {
+                postings: Row::from_vec(postings),
+                last: 0,
+                docs,
+                before,
+                refusal: None,
+            }),
+            Err(_) => Err(NoMemory),
         }
     }
 
     /// Puts the next posting in, or keeps the refusal of it at its place in the file.
+    #[inline(always)]
     pub fn take(&mut self, at: usize, entry: Entry) -> Result<(), NoMemory>
         ensures gathered { OnOk result (gathered_of self.new
             ≡ gather self.old.docs self.old.before (gathered_of self.old) (record { at = at; entry = entry })) }
@@ -74,6 +83,7 @@ impl Gathered {
     }
 
     /// The next posting, or why it is refused.
+    #[inline(always)]
     fn judge(&self, entry: Entry) -> Result<Posting, CiffWhy>
         ensures { result ≡ judge self.now.docs self.now.before self.now.postings entry }
     {
@@ -90,9 +100,7 @@ impl Gathered {
         if doc >= u64::from(self.docs) {
             return Err(CiffWhy::DocRange);
         }
-        if self.before >= MOST_POSTINGS
-            || self.postings.len() as u64 >= MOST_POSTINGS - self.before
-        {
+        if self.before + self.postings.len() as u64 >= MOST_POSTINGS {
             return Err(CiffWhy::Limit);
         }
         Ok(Posting {

@@ -36,6 +36,10 @@ impl KeptLists {
     pub fn has(&self, term: &str) -> bool
         ensures { result ≡ is_seen term.now (terms_kept (kept_in self.now)) }
     {
+        // A list that is read again asks for none, and then the term isn't hashed.
+        if self.lists.is_empty() {
+            return false;
+        }
         self.lists.contains_key(term)
     }
 

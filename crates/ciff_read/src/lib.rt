@@ -30,6 +30,7 @@ mod reaching;
 mod refusal;
 mod terms;
 mod text;
+mod usual;
 mod walked_doc;
 mod walked_list;
 mod window;

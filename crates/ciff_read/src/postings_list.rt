@@ -15,6 +15,7 @@ use crate::list_fields::ListFields;
 use crate::refusal::{CiffFault, CiffWhy, refused, refused_field};
 use crate::terms::add_term;
 use crate::text::text_of;
+use crate::usual::usual_posting;
 use crate::walked_list::WalkedList;
 use indexmap::IndexSet;
 use jass_base::PostingsList;
@@ -23,6 +24,9 @@ use wire_fields::{Field, Value, next_field};
 
 /// The limit of a term's bytes.
 const LONGEST_TERM: usize = 65_535;
+
+/// The fewest bytes of a posting that has a gap.
+const USUAL_BYTES: usize = 6;
 
 /// Reads the postings list of the message at `at`, in a file of so many documents with so
 /// many postings in the lists before, and adds its term to theirs.
@@ -81,7 +85,11 @@ pub fn walk_one<'a>(
     ensures docs { IfOk result (λ list. list.gathered.docs ≡ docs) }
     ensures before { IfOk result (λ list. list.gathered.before ≡ before) }
 {
-    let mut gathered = Gathered::new(alloc, docs, before);
+    let room = (body.end - body.from) / USUAL_BYTES;
+    let mut gathered = match Gathered::with_room(alloc, docs, before, room.min(docs as usize)) {
+        Ok(gathered) => gathered,
+        Err(_) => return Err(CiffFault::NoMemory),
+    };
     let fields = match walk_list(&bytes[..body.end], body.from, &mut gathered) {
         Ok(fields) => fields,
         Err(fault) => return Err(fault),
@@ -118,6 +126,14 @@ fn walk_list<'a>(
     };
     let mut at = from;
     'fields: loop {
+        if let Some((entry, next)) = usual_posting(bytes, at) {
+            match gathered.take(at, entry) {
+                Ok(()) => {}
+                Err(_) => return Err(CiffFault::NoMemory),
+            }
+            at = next;
+            continue;
+        }
         match next_field(bytes, at) {
             Ok(Some(field)) => {
                 fields.term = field.bytes_or(1, bytes, fields.term);

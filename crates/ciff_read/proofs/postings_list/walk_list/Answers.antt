@@ -1,13 +1,15 @@
-use Rattle.std.proofs.Common.{◌≡◌, refl, ap, ◌∙◌, Result, Ok}
+use Rattle.std.proofs.Common.{◌≡◌, [], ◌∷◌, refl, ap, ◌∙◌, Result, Ok}
 use Rattle.std.specs.Prelude.{fold}
+use Rattle.jass_base.specs.Wire.{WireField, Text}
 use Rattle.ciff_read.specs.declared.refusal.CiffRefusal.{CiffRefusal}
 use Rattle.ciff_read.specs.Judging.{ListStart, list_start_of, gather}
 use Rattle.ciff_read.specs.Places.{gathered_of}
 use Rattle.ciff_read.specs.Refusals.{◌>>=◌}
-use Rattle.ciff_read.specs.Walking.{Walked, entry_inside}
+use Rattle.ciff_read.specs.Walking.{PlacedEntry, Walked, entry_inside}
 use Rattle.wire_fields.specs.Places.{field_in}
 use Rattle.ciff_read.proofs.FieldValues.{list_start_is, number_more, text_more}
 use Rattle.ciff_read.proofs.Parts.{gathers_more}
+use Rattle.ciff_read.proofs.ShortEntries.{entry_there}
 use Rattle.ciff_read.proofs.Walks.{walks_start, walks_on, walks_end, walks_refused, walks_inside}
 use Rattle.ciff_read.proofs.postings_list.walk_list.Goals as goal
 
@@ -23,7 +25,7 @@ fields-preserved c =
     let bytes = c.args.bytes.now in
     let f = field_in bytes c.in-Ok-Some.field in
     let reads = rw c.in-Ok-Some.field-0-is at c.in-Ok-Some.ensures in
-    let g = c.in-Ok.ensures.read in
+    let g = c.in-Ok-gather.ensures.read in
     let start = c.args.gathered.now in
     let old = c.fields.gathered in
     let v = c.fields.invariant in
@@ -37,6 +39,26 @@ fields-preserved c =
               number_more 3 done.fields f c.fields.fields.cf c.number_or-in-Ok-Some.result was.0.2 (c.number_or-in-Ok-Some.ensures bytes),
             ),
             gathers_more start.docs start.before (gathered_of start) (gathered_of old) (gathered_of c.gather.new.gathered) done.entries g.entries was.1 gathered,
+          ));
+      docs = c.in-Ok-gather.ensures.docs ∙ v.docs;
+      before = c.in-Ok-gather.ensures.before ∙ v.before;
+    }
+
+pub fields-preserved-in-Some : goal.fields-preserved-in-Some
+fields-preserved-in-Some c =
+    let start = c.args.gathered.now in
+    let old = c.fields.gathered in
+    let v = c.fields.invariant in
+    let l = c.fields.fields in
+    let p = c.in-Some.ensures in
+    let f : WireField = record { number = 4; value = Text p.body } in
+    let x : PlacedEntry = record { at = c.fields.at; entry = c.in-Some.entry } in
+    let gathered : gathered_of c.take.new.self ≡ gather start.docs start.before (gathered_of old) x = c.in-Ok.ensures.gathered ∙ ap (λ d. gather d old.before (gathered_of old) x) v.docs ∙ ap (λ b. gather start.docs b (gathered_of old) x) v.before in
+    record {
+      walks = walks_on entry_inside c.args.bytes.now c.args.from c.fields.at c.in-Some.next _ v.walks f (x ∷ []) _ p.before p.within p.read (entry_there c.args.bytes.now c.fields.at c.in-Some.entry c.in-Some.next p)
+          (λ done was. (
+            (text_more 1 done.fields f l.term.now l.term.now was.0.0 refl, number_more 2 done.fields f l.df l.df was.0.1 refl, number_more 3 done.fields f l.cf l.cf was.0.2 refl),
+            gathers_more start.docs start.before (gathered_of start) (gathered_of old) (gathered_of c.take.new.self) done.entries (x ∷ []) was.1 gathered,
           ));
       docs = c.in-Ok.ensures.docs ∙ v.docs;
       before = c.in-Ok.ensures.before ∙ v.before;
@@ -53,8 +75,8 @@ returns-in-Ok-None-clause-read c =
       gathered = w.so_far.1;
     }
 
-pub returns-in-Err-clause-read : goal.returns-in-Err-clause-read
-returns-in-Err-clause-read c = walks_refused entry_inside c.args.bytes.now c.args.from c.fields.at _ c.fields.invariant.walks (λ walked. Ok (record { start = list_start_of walked.fields; entries = walked.entries })) c.in-Err.fault c.refused_field.result c.in-Err.ensures c.refused_field.ensures
+pub returns-in-Err-next_field-clause-read : goal.returns-in-Err-next_field-clause-read
+returns-in-Err-next_field-clause-read c = walks_refused entry_inside c.args.bytes.now c.args.from c.fields.at _ c.fields.invariant.walks (λ walked. Ok (record { start = list_start_of walked.fields; entries = walked.entries })) c.in-Err-next_field.fault c.refused_field.result c.in-Err-next_field.ensures c.refused_field.ensures
 
 pub returns-in-Err-gather-clause-read : goal.returns-in-Err-gather-clause-read
 returns-in-Err-gather-clause-read c =
