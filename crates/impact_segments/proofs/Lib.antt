@@ -5,6 +5,7 @@ pub mod OneTerm
 pub mod Orders
 pub mod Weights
 pub mod OneList
+pub mod ByImpact
 pub mod ByTerm
 pub mod Grouped
 pub mod ListTerms

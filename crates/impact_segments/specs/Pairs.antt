@@ -1,6 +1,8 @@
 -- The postings of one term as pairs of a document and its impact.
-use Rattle.std.specs.Prelude.{ℕ, ◌+◌, ◌-◌, ◌*◌, ◌^◌, ◌≡◌, ◌≢◌, ◌<◌, ◌≤◌, List, map}
+use Rattle.std.specs.Prelude.{ℕ, ◌+◌, ◌-◌, ◌*◌, ◌^◌, ◌==◌, ◌≡◌, ◌≢◌, ◌<◌, ◌≤◌, List, ◌++◌, filter, length, map, slice_index_or}
 use Rattle.std.specs.List.{flat_map}
+use Rattle.std.specs.declared.alloc.Global.{Global}
+use Rattle.std.specs.declared.vec.Vec.{Vec}
 use Rattle.std.specs.declared.cmp.Ordering.{Ordering}
 use Rattle.std.specs.Ordering.{nat_cmp, ordering_then}
 use Rattle.jass_base.specs.declared.doc_record.DocRecord.{DocRecord}
@@ -32,6 +34,14 @@ pair_docs pairs = map (λ (p : ℕ × ℕ). p.0) pairs
 -- b may stand behind a when segments are cut: its impact is no greater, its document another one, and a later one where the impacts are equal
 abbrev pub Follows : ℕ × ℕ → ℕ × ℕ → Type 0
 Follows a b = (b.1 ≤ a.1) × (a.0 ≢ b.0) × (a.1 ≡ b.1 → a.0 < b.0)
+
+-- the pairs of one impact
+abbrev pub of_impact : ℕ → List (ℕ × ℕ) → List (ℕ × ℕ)
+of_impact impact pairs = filter (λ (p : ℕ × ℕ). p.1 == impact) pairs
+
+-- row i holds the documents of the pairs of impact i, up to those that are left
+abbrev pub AreRows : List (Vec ℕ Global) → List (ℕ × ℕ) → List (ℕ × ℕ) → Type 0
+AreRows rows rest pairs = (i : ℕ) (d : Vec ℕ Global) → i < length rows → (slice_index_or rows i d).items ++ pair_docs (of_impact i rest) ≡ pair_docs (of_impact i pairs)
 
 -- a list's documents with the impacts of its postings, from the range
 abbrev pub list_pairs : Rule → List DocRecord → Bits → Range → PostingsList → List (ℕ × ℕ)

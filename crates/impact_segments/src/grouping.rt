@@ -5,6 +5,7 @@ ghost use Rattle.jass_base.specs.declared.segment.Segment.{Segment};
 ghost use Rattle.jass_base.specs.Segments.{FallsTo, SharesNoDocument};
 ghost use Rattle.impact_segments.specs.Pairs.{pair_cmp, pair_key, pairs_of, pair_docs, Follows};
 
+use crate::rows::{group_by_rows, row_count};
 use jass_base::{NoMemory, Row, Segment};
 use std::alloc::Global;
 use std::cmp::Ordering;
@@ -36,8 +37,13 @@ pub(crate) fn group_in_place(
     ensures falling { IfOk result (λ segments. AllPairs FallsTo segments) }
     ensures once { IfOk result (λ segments. AllPairs SharesNoDocument segments) }
 {
-    arrange(pairs);
-    cut(alloc, pairs.as_slice())
+    match row_count(pairs.as_slice()) {
+        Some(count) => group_by_rows(alloc, pairs.as_slice(), count),
+        None => {
+            arrange(pairs);
+            cut(alloc, pairs.as_slice())
+        }
+    }
 }
 
 /// By falling impact, then rising document.
@@ -87,7 +93,7 @@ fn cut(alloc: Global, pairs: &[(u32, u16)]) -> Result<Row<Segment>, NoMemory>
 }
 
 /// An empty row that has room for so many segments, so that they are never moved.
-fn with_room(alloc: Global, count: usize) -> Result<Row<Segment>, NoMemory>
+pub(crate) fn with_room(alloc: Global, count: usize) -> Result<Row<Segment>, NoMemory>
     ensures { IfOk result (λ row. row ≡ []) }
 {
     match Vec::with_capacity(alloc, count) {

@@ -10,6 +10,7 @@ mod grouping;
 pub mod laws;
 mod listing;
 mod one_list;
+mod rows;
 mod terms;
 mod weighing;
 

@@ -114,7 +114,10 @@ pub fn length_norms(alloc: Global, total: u64, lengths: &[u32]) -> Result<Vec<u6
     ensures { IfOk result (λ norms. norms.items ≡ norms_in lengths.now total) }
 {
     let count = lengths.len() as u32;
-    let mut norms = Vec::new(alloc);
+    let mut norms = match Vec::with_capacity(alloc, lengths.len()) {
+        Ok(norms) => norms,
+        Err(_) => return Err(NoMemory),
+    };
     for length in lengths {
         match norms.push(length_norm(count, total, *length)) {
             Ok(()) => {}
@@ -279,7 +282,10 @@ fn impacts_of(
     ensures fault { IfErr result (Unmade (outside bits range (weights_in rule lengths.now total list.now.postings))) }
 {
     let weigher = ListRule::new(rule, total, list, lengths, norms);
-    let mut pairs = Vec::new(alloc);
+    let mut pairs = match Vec::with_capacity(alloc, list.postings.len()) {
+        Ok(pairs) => pairs,
+        Err(_) => return Err(SegmentsFault::NoMemory),
+    };
     for posting in list.postings.as_slice() {
         let weight = weigher.weigh(*posting);
         judge(bits, range, weight)?;

@@ -5,6 +5,7 @@ ghost use Rattle.std.specs.List.Sorted.{IsStrictlyIncreasing};
 ghost use Rattle.jass_base.specs.Lists.{HasDocsBelow};
 ghost use Rattle.jass_base.specs.Postings.{docs_of, HasTfInRange};
 ghost use Rattle.jass_base.specs.declared.postings_list.PostingsList.{PostingsList};
+ghost use Rattle.impact_segments.specs.Pairs.{pair_docs};
 
 use crate::{
     SegmentsFault, build, entries_of, group, length_norms, segments_by_norms, segments_of,
@@ -26,6 +27,8 @@ fn three_documents(rt: HostRuntime) {
 fn pairs_by_impact(rt: HostRuntime) {
     let segments = group(rt.alloc(), &[(3, 5), (4, 9), (7, 5)]);
     assert!(&rt; segments.is_ok_and(|segments| segments.len() == 2));
+    let many = many_by_impact(rt.alloc());
+    assert!(&rt; many.is_ok_and(|segments| are_stripes(segments.as_slice())));
 }
 
 #[test]
@@ -62,6 +65,43 @@ fn segments_of_one_list(rt: HostRuntime) {
     };
     let lighter = three_segments(alloc, narrow, 9);
     assert!(&rt; lighter.is_err_and(|fault| fault == SegmentsFault::Outside { kept: 2, found: 1 }));
+}
+
+// The segments of enough documents to go without a sort.
+fn many_by_impact(alloc: Global) -> Result<Row<Segment>, NoMemory> {
+    let pairs = striped(alloc)?;
+    group(alloc, pairs.as_slice())
+}
+
+// The documents from 0 to 63 with the impacts 1, 2 and 3 in turn.
+fn striped(alloc: Global) -> Result<Vec<(u32, u16)>, NoMemory>
+    ensures rising { IfOk result (λ pairs. IsStrictlyIncreasing (pair_docs pairs.items)) }
+    ensures positive { IfOk result (λ pairs. All (λ (p : ℕ × ℕ). 1 ≤ p.1) pairs.items) }
+{
+    let mut pairs = Vec::new(alloc);
+    for doc in 0..64u32 {
+        match pairs.push((doc, (doc % 3) as u16 + 1)) {
+            Ok(()) => {}
+            Err(_) => return Err(NoMemory),
+        }
+    }
+    Ok(pairs)
+}
+
+fn are_stripes(segments: &[Segment]) -> bool {
+    match segments {
+        [third, second, first] => {
+            is_stripe(third, 3, 2, 62) && is_stripe(second, 2, 1, 61) && is_stripe(first, 1, 0, 63)
+        }
+        _ => false,
+    }
+}
+
+fn is_stripe(segment: &Segment, impact: u16, from: u32, to: u32) -> bool {
+    match segment.docs.as_slice() {
+        [first, .., last] => segment.impact == impact && *first == from && *last == to,
+        _ => false,
+    }
 }
 
 // The range of the BM25 weights of the list of three documents.

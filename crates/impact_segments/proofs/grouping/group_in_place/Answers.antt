@@ -8,9 +8,9 @@ use Rattle.impact_segments.proofs.grouping.group_in_place.Goals as goal
 pub cut-requires-clause-order : goal.cut-requires-clause-order
 cut-requires-clause-order c =
     let P : List (ℕ × ℕ) → Type 0 = λ (l : List (ℕ × ℕ)). AllPairs Follows l in
-    subst P (sym (c.as_slice.ensures.value ∙ c.arrange.ensures)) (sorted_follows c.args.pairs.now.items c.requires.rising)
+    subst P (sym (c.as_slice-in-None.ensures.value ∙ c.arrange.ensures)) (sorted_follows c.args.pairs.now.items c.requires.rising)
 
 pub cut-requires-clause-positive : goal.cut-requires-clause-positive
 cut-requires-clause-positive c =
     let P : List (ℕ × ℕ) → Type 0 = λ (l : List (ℕ × ℕ)). All (λ (p : ℕ × ℕ). 1 ≤ p.1) l in
-    subst P (sym (c.as_slice.ensures.value ∙ c.arrange.ensures)) (sorted_positive c.args.pairs.now.items c.requires.positive)
+    subst P (sym (c.as_slice-in-None.ensures.value ∙ c.arrange.ensures)) (sorted_positive c.args.pairs.now.items c.requires.positive)
