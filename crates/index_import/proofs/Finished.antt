@@ -1,8 +1,10 @@
 -- An index file that is begun, and one that is whole.
-use Rattle.std.proofs.Common.{◌≡◌, ◌≤◌, ◌<◌, ◌-◌, ◌^◌, ◌⊎◌, ℕ, ◌∷◌, get_or, List, ◌++◌, length, map, take, drop, suc, [], Option, Some, None, Err, refl, sym, ap, ap₂, subst, ◌∙◌, inl, inr, arith, append_assoc}
+use Rattle.std.proofs.Common.{◌≡◌, ◌≤◌, ◌<◌, ◌-◌, ◌^◌, ◌⊎◌, ℕ, ◌∷◌, get_or, List, ◌++◌, length, map, take, drop, suc, [], Option, Some, None, Result, Ok, Err, refl, sym, ap, ap₂, subst, ◌∙◌, inl, inr, arith, append_assoc}
 use Rattle.std.proofs.Math.Seq.{get_or-append_seam}
 use Rattle.std.proofs.lemmas.List.{get_or-map, length-append, length-map, take_all}
-use Rattle.jass_base.specs.Outside.{Files, Extends, ForContent, IsMissing, Sets, content_there}
+use Rattle.std.specs.Prelude.{IfErr, IfOk}
+use Rattle.jass_base.specs.Outside.{Appended, Files, Extends, ForContent, IsMissing, Sets, content_there}
+use Rattle.jass_base.specs.declared.answer.Totals.{Totals}
 use Rattle.ciff_read.specs.declared.refusal.CiffFault.{CiffFault}
 use Rattle.ciff_read.specs.declared.refusal.CiffFault.TheVariants as reading
 use Rattle.ciff_read.specs.declared.refusal.CiffRefusal.{CiffRefusal}
@@ -26,6 +28,8 @@ use Rattle.weights.specs.declared.quantizing.Bits.{Bits}
 use Rattle.weights.specs.declared.quantizing.Range.{Range}
 use Rattle.ciff_read.proofs.Told.{for_both}
 use Rattle.index_import.specs.Rereading.{segments_there}
+use Rattle.index_import.specs.declared.fault.ImportFault.{ImportFault}
+use Rattle.index_import.specs.declared.fault.ImportFault.TheVariants.{WriteFault}
 use Rattle.index_import.specs.declared.list_entry.Place.{Place}
 use Rattle.index_import.specs.declared.weighing.Weighing.{Weighing}
 use Rattle.index_import.proofs.Beside.{for_same}
@@ -39,6 +43,15 @@ index_with_terms names made = record { names = names; terms = made }
 abbrev pub TextIs : Type 0
 TextIs = (index : IndexData) → index_text index ≡ front_bytes index.names (chosen_terms (length index.names) index.terms) ++ table_payloads (length index.names) index.terms
 
+abbrev pub FileIs : Type 0
+FileIs = (old mid new : Option Files) (name text part : List ℕ) → Sets old mid name text → Extends mid new name part → Sets old new name (text ++ part)
+
+abbrev pub PrefixIs : Type 0
+PrefixIs = (old mid new : Option Files) (name text part : List ℕ) → Sets old mid name text → (new ≡ mid) ⊎ ((n : ℕ) × Extends mid new name (take n part)) → LeavesPrefix old new name (text ++ part)
+
+abbrev pub TotalsIs : Type 0
+TotalsIs = (index : IndexData) → entries_totals (length index.names) (chosen_terms (length index.names) index.terms) ≡ totals_of index
+
 abbrev pub LengthIs : Type 0
 LengthIs = (index : IndexData) → length (index_text index) ≡ file_length index.names (chosen_terms (length index.names) index.terms)
 
@@ -46,13 +59,16 @@ module _ (d : ℕ) (names : List (List ℕ)) (entries : List EntryData) (made : 
   pub text_is : TextIs → index_text (index_with_terms names made) ≡ front_bytes names entries ++ table_payloads d made
   text_is law = law (index_with_terms names made) ∙ ap₂ (λ (n : ℕ) (es : List EntryData). front_bytes names es ++ table_payloads n made) many (ap (λ (n : ℕ). chosen_terms n made) many ∙ sym are)
 
+  kept_is : TextIs → (bytes : List ℕ) → bytes ≡ table_payloads d made → front_bytes names entries ++ bytes ≡ index_text (index_with_terms names made)
+  kept_is law bytes is = ap (λ (all : List ℕ). front_bytes names entries ++ all) is ∙ sym (text_is law)
+
   pub length_is : LengthIs → length (index_text (index_with_terms names made)) ≡ file_length names entries
   length_is law = law (index_with_terms names made) ∙ ap (file_length names) (ap (λ (n : ℕ). chosen_terms n made) many ∙ sym are)
 
   pub fits : LengthIs → file_length names entries ≤ 2 ^ 32 → length (index_text (index_with_terms names made)) ≤ 2 ^ 32
   fits law few = omega (arith, length_is law, few)
 
-  pub totals_are : ((index : IndexData) → entries_totals (length index.names) (chosen_terms (length index.names) index.terms) ≡ totals_of index) → entries_totals d entries ≡ totals_of (index_with_terms names made)
+  pub totals_are : TotalsIs → entries_totals d entries ≡ totals_of (index_with_terms names made)
   totals_are law = ap₂ (λ (n : ℕ) (es : List EntryData). entries_totals n es) (sym many) (are ∙ ap (λ (n : ℕ). chosen_terms n made) (sym many)) ∙ law (index_with_terms names made)
 
   -- what was written up to a term is a front of the text
@@ -71,6 +87,17 @@ module _ (d : ℕ) (names : List (List ℕ)) (entries : List EntryData) (made : 
   pub whole_text : (old new : Option Files) (index : List ℕ) (n : ℕ) → n ≡ length entries → TextIs → Sets old new index (front_bytes names entries ++ table_payloads d (take n made)) → Sets old new index (index_text (index_with_terms names made))
   whole_text old new index n all law set =
       subst (λ (bytes : List ℕ). Sets old new index bytes) (ap (λ (ts : List TermData). front_bytes names entries ++ table_payloads d ts) (take_all n made (omega (arith, all, as_many))) ∙ sym (text_is law)) set
+
+  -- a file that was begun, and the payloads that were kept
+  pub kept_text : FileIs → TextIs → (old mid new : Option Files) (index bytes : List ℕ) → bytes ≡ table_payloads d made → Sets old mid index (front_bytes names entries) → Extends mid new index bytes
+      → Sets old new index (index_text (index_with_terms names made))
+  kept_text file text old mid new index bytes is set put =
+      subst (λ (all : List ℕ). Sets old new index all) (kept_is text bytes is) (file old mid new index (front_bytes names entries) bytes set put)
+
+  pub kept_prefix : PrefixIs → TextIs → (old mid new : Option Files) (index bytes : List ℕ) → bytes ≡ table_payloads d made → Sets old mid index (front_bytes names entries)
+      → (new ≡ mid) ⊎ ((n : ℕ) × Extends mid new index (take n bytes)) → LeavesPrefix old new index (index_text (index_with_terms names made))
+  kept_prefix prefix text old mid new index bytes is set put =
+      subst (λ (all : List ℕ). LeavesPrefix old new index all) (kept_is text bytes is) (prefix old mid new index (front_bytes names entries) bytes set put)
 
 -- ---- what stands after each fault
 
@@ -113,6 +140,16 @@ module _ (old : Option Files) (name index : List ℕ) (d : ℕ) (names : List (L
       (fits d names entries made many are lengths few, prefix_of_text d names entries made many are old (told after) index (suc i) text (subst (λ (bytes : List ℕ). LeavesPrefix old (told after) index bytes) joined left))
   not_appended told before after i at part wanted terms.NoMemory few set same more prefix put here changed =
       subst (λ (m : Option Files). Begins old m index made_index) (sym (ap told same)) (begins d names entries made many are old (told before) index i text lengths few set)
+
+  -- all payloads were appended at once
+  pub kept_written : (mid new : Option Files) (bytes : List ℕ) (result : Result Totals ImportFault) → file_length names entries ≤ 2 ^ 32 → bytes ≡ table_payloads d made
+      → FileIs → PrefixIs → TotalsIs → Sets old mid index (front_bytes names entries) → Appended mid new index bytes result
+      → IfOk result (λ totals. totals ≡ entries_totals d entries) → IfErr result (λ fault. fault ≡ WriteFault) → Writes old new name index made_index result
+  kept_written mid new bytes (Ok totals) few is file prefix sums set put counted only =
+      (kept_text d names entries made many are file text old mid new index bytes is set put, fits d names entries made many are lengths few, counted ∙ totals_are d names entries made many are sums)
+  kept_written mid new bytes (Err fault) few is file prefix sums set put counted only =
+      subst (λ (f : ImportFault). Writes old new name index made_index (Err f)) (sym only)
+      (fits d names entries made many are lengths few, kept_prefix d names entries made many are prefix text old mid new index bytes is set put)
 
 -- the heads of the next term
 pub next_is : (writer : WriterView) (d i : ℕ) (entries : List EntryData) (made : List TermData) (x : TermData) → writer.entries ≡ entries → writer.left ≡ length entries - i → i < length entries → entries ≡ chosen_terms d made

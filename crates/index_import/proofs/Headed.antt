@@ -1,5 +1,5 @@
 -- The heads of lists that are read again, list by list.
-use Rattle.std.proofs.Common.{rules, append-nil, ◌≡◌, ℕ, ◌+◌, ◌≤◌, ◌^◌, List, [], ◌∷◌, ◌++◌, length, map, Option, refl, sym, ap, ap₂, subst, ◌∙◌, arith}
+use Rattle.std.proofs.Common.{rules, append-nil, ◌≡◌, ℕ, ◌+◌, ◌≤◌, ◌^◌, List, [], ◌∷◌, ◌++◌, length, map, Option, Some, None, refl, sym, ap, ap₂, subst, ◌∙◌, arith}
 use Rattle.std.specs.Prelude.{All, AllPairs}
 use Rattle.std.specs.List.{AllByRecursion, sum_by}
 use Rattle.std.proofs.lemmas.Grind.{flat_map-append}
@@ -18,31 +18,43 @@ use Rattle.index_model.specs.Views.{segment_data}
 use Rattle.index_model.proofs.Lists.{Pairs, pairs_by_places, pairs_by_recursion, pairs_map}
 use Rattle.index_layout.specs.Heads.{HeadData, all_heads, head_postings}
 use Rattle.index_layout.specs.Heads.{TermHeads as EntryData}
-use Rattle.index_write.specs.Chosen.{chosen_entry, chosen_head, chosen_heads, head_data}
+use Rattle.index_write.specs.Chosen.{chosen_entry, chosen_head, chosen_heads, chosen_payloads, head_data, table_payloads}
 use Rattle.index_write.specs.Streaming.{AreEntries, FallsTo, IsEntry, IsHead, RisesTo, entry_data}
 use Rattle.index_write.specs.declared.term_heads.TermHeads.{TermHeads}
-use Rattle.index_import.specs.Heading.{AreHeads, term_there}
+use Rattle.index_import.specs.Heading.{AreHeads, AreKept, KeepsMore, term_there}
 use Rattle.index_import.specs.Rereading.{segments_there}
 use Rattle.index_import.specs.declared.list_entry.ListEntry.{ListEntry}
 use Rattle.index_import.specs.declared.weighing.Weighing.{Weighing}
 
+-- the payloads of one term more
+kept_more : (docs : ℕ) (terms : List TermData) (t : TermData) (before after : Option (List ℕ)) → AreKept before docs terms → KeepsMore before (chosen_payloads docs t.segments) after → AreKept after docs (terms ++ t ∷ [])
+kept_more docs terms t before None are keeps = tt
+kept_more docs terms t None (Some after) are keeps = absurd keeps
+kept_more docs terms t (Some before) (Some after) are keeps =
+    keeps ∙ ap (λ (bytes : List ℕ). bytes ++ chosen_payloads docs t.segments) are
+    ∙ ap (λ (bytes : List ℕ). table_payloads docs terms ++ bytes) (sym (append-nil (chosen_payloads docs t.segments)))
+    ∙ sym (flat_map-append (λ (t : TermData). chosen_payloads docs t.segments) terms (t ∷ []))
+
 module _ (files : Option Files) (name : List ℕ) (docs : ℕ) (w : Weighing) (bits : Bits) (range : Range) where
-  pub no_heads : (heads : List TermHeads) → heads ≡ [] → AreHeads files name docs w bits range [] heads
-  no_heads heads none = record {
+  pub no_heads : (heads : List TermHeads) (kept : List ℕ) → heads ≡ [] → kept ≡ [] → AreHeads files name docs w bits range [] heads (Some kept)
+  no_heads heads kept none nothing = record {
     terms = [];
     heads_are = ap (map entry_data) none;
+    payloads_are = nothing;
     told = for_all files name (λ content. (let nothing : List TermData = [] in nothing ≡ [])) (λ content. refl);
   }
 
-  pub heads_more : (lists : List ListEntry) (heads : List TermHeads) (e : ListEntry) (t : TermHeads) (segments : List SegmentData) → t.term ≡ e.term → map head_data t.heads ≡ chosen_heads docs segments
+  pub heads_more : (lists : List ListEntry) (heads : List TermHeads) (before after : Option (List ℕ)) (e : ListEntry) (t : TermHeads) (segments : List SegmentData) → t.term ≡ e.term → map head_data t.heads ≡ chosen_heads docs segments
       → ForContent files name (λ content. segments ≡ segments_there content docs w bits range e.place.at)
-      → AreHeads files name docs w bits range lists heads → AreHeads files name docs w bits range (lists ++ e ∷ []) (heads ++ t ∷ [])
-  heads_more lists heads e t segments term made told so_far =
+      → KeepsMore before (chosen_payloads docs segments) after
+      → AreHeads files name docs w bits range lists heads before → AreHeads files name docs w bits range (lists ++ e ∷ []) (heads ++ t ∷ []) after
+  heads_more lists heads before after e t segments term made told keeps so_far =
       let one : TermData = record { term = e.term; segments = segments } in
       let same : entry_data t ≡ chosen_entry docs one = ap₂ (λ (x : List ℕ) (hs : List HeadData). (let entry : EntryData = record { term = x; heads = hs } in entry)) term made in
       record {
         terms = so_far.terms ++ one ∷ [];
         heads_are = map-append entry_data heads (t ∷ []) ∙ ap₂ (λ (xs : List EntryData) (x : EntryData). xs ++ x ∷ []) so_far.heads_are same ∙ sym (map-append (chosen_entry docs) so_far.terms (one ∷ []));
+        payloads_are = kept_more docs so_far.terms one before after so_far.payloads_are keeps;
         told = for_both files name (λ content. so_far.terms ≡ map (term_there content docs w bits range) lists) (λ content. segments ≡ segments_there content docs w bits range e.place.at)
             (λ content. so_far.terms ++ one ∷ [] ≡ map (term_there content docs w bits range) (lists ++ e ∷ []))
             (λ content before is. ap₂ (λ (ts : List TermData) (ss : List SegmentData). (let last : TermData = record { term = e.term; segments = ss } in ts ++ last ∷ [])) before is ∙ sym (map-append (term_there content docs w bits range) lists (e ∷ [])))

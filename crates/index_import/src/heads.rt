@@ -1,12 +1,16 @@
-ghost use Rattle.std.specs.Prelude.{ℕ, ◌≡◌, ◌<◌, ◌≤◌, ◌^◌, length, map, AllPairs, IfErr, IfOk, IsErrOf, OnOk};
+ghost use Rattle.std.specs.Prelude.{ℕ, ◌≡◌, ◌<◌, ◌≤◌, ◌^◌, length, map, All, AllPairs, IfErr, IfOk, IsErrOf, OnOk};
 ghost use Rattle.std.specs.List.{sum_by};
+ghost use Rattle.jass_base.specs.Gaps.{AreDocs};
 ghost use Rattle.jass_base.specs.Outside.{Rose, ForContent};
 ghost use Rattle.jass_base.specs.Terms.{BytesRise};
+ghost use Rattle.jass_base.specs.declared.segment.Segment.{Segment};
 ghost use Rattle.weights.specs.Quantizing.{IsImpactWidth};
 ghost use Rattle.ciff_read.specs.Walk.{LeavesWalk};
 ghost use Rattle.impact_segments.specs.OneList.{EndsLow};
+ghost use Rattle.index_model.specs.Views.{segment_data};
+ghost use Rattle.index_write.specs.Chosen.{chosen_heads, chosen_payloads, head_data};
 ghost use Rattle.index_write.specs.Streaming.{AreEntries, entry_data};
-ghost use Rattle.index_import.specs.Heading.{AreHeads, FailsAllInside, places_of};
+ghost use Rattle.index_import.specs.Heading.{AreHeads, FailsAllInside, KeepsMore, places_of};
 ghost use Rattle.index_import.specs.Surveying.{AreGiven, IsReady};
 ghost use Rattle.index_import.specs.declared.list_entry.ListEntry.{ListEntry};
 
@@ -15,16 +19,22 @@ use crate::reading::read_segments;
 use crate::weighing::Weighing;
 use ciff_read::{CiffFault, CiffWalk};
 use index_write::laws::made_heads_are_entries;
-use index_write::{TermHeads, payload_heads};
-use jass_base::{Cabinet, Row};
+use index_write::{PayloadHead, TermHeads, payload_heads, put_payloads};
+use jass_base::{Cabinet, Row, Segment};
 use std::alloc::Global;
 use weights::{Bits, Range};
+
+/// How many bytes of payloads are kept at the most, but for those of one term.
+const MOST_KEPT: usize = 67_108_864;
 
 /// The terms of lists with the heads of their segments, and the places of the lists.
 #[derive(Drop)]
 pub(crate) struct Heads {
     pub terms: Row<TermHeads>,
     pub places: Vec<Place>,
+    /// The payloads of all segments, where they are few enough to be kept, so that the lists needn't
+    /// be read once more.
+    pub payloads: Option<Row<u8>>,
 }
 
 /// Reads lists again, which rise by their terms, for the heads of their segments.
@@ -48,7 +58,7 @@ pub(crate) fn read_heads<C: Cabinet>(
     ensures ready { OnOk result (IsReady (C.told files.old) walk.old.name walk.new) }
     ensures leaves { LeavesWalk walk.old walk.new }
     ensures heads { IfOk result (λ heads. AreHeads (C.told files.old) walk.old.name walk.old.docs
-        weighing.entry bits range lists.items heads.terms) }
+        weighing.entry bits range lists.items heads.terms heads.payloads) }
     ensures as_many { IfOk result (λ heads. length heads.terms ≡ length lists.items) }
     ensures entries { IfOk result (λ heads. AreEntries (map entry_data heads.terms)) }
     ensures places { IfOk result (λ heads. heads.places.items ≡ places_of lists.items) }
@@ -63,6 +73,7 @@ pub(crate) fn read_heads<C: Cabinet>(
     let docs = weighing.lengths.len() as u32;
     let mut terms = Row::new(alloc);
     let mut places = Vec::new(alloc);
+    let mut payloads = Some(Row::new(alloc));
     'lists: for entry in lists {
         let ListEntry { term, place } = entry;
         let segments = match read_segments(alloc, walk, files, weighing, bits, range, place) {
@@ -73,6 +84,7 @@ pub(crate) fn read_heads<C: Cabinet>(
             Ok(heads) => heads,
             Err(_) => return Err(CiffFault::NoMemory),
         };
+        payloads = keep_payloads(payloads, segments.as_slice(), heads.as_slice(), docs);
         match terms.push(TermHeads { term, heads }) {
             Ok(()) => {}
             Err(_) => return Err(CiffFault::NoMemory),
@@ -82,5 +94,31 @@ pub(crate) fn read_heads<C: Cabinet>(
             Err(_) => return Err(CiffFault::NoMemory),
         }
     }
-    Ok(Heads { terms, places })
+    Ok(Heads {
+        terms,
+        places,
+        payloads,
+    })
+}
+
+/// Keeps the payloads of one term more, where those before were kept and are few. Where memory is
+/// refused for them, none are kept.
+fn keep_payloads(
+    kept: Option<Row<u8>>,
+    segments: &[Segment],
+    heads: &[PayloadHead],
+    docs: u32,
+) -> Option<Row<u8>>
+    requires docs { All (λ (s : Segment). AreDocs docs s.docs) segments.now }
+    requires heads { map head_data heads.now ≡ chosen_heads docs (map segment_data segments.now) }
+    ensures { KeepsMore kept (chosen_payloads docs (map segment_data segments.now)) result }
+{
+    let mut payloads = kept?;
+    if payloads.len() > MOST_KEPT {
+        return None;
+    }
+    match put_payloads(segments, heads, docs, &mut payloads) {
+        Ok(()) => Some(payloads),
+        Err(_) => None,
+    }
 }

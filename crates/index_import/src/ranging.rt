@@ -29,7 +29,8 @@ pub(crate) fn read_range<C: Cabinet>(
     ensures leaves { LeavesWalk walk.old walk.new }
     ensures low { IfOk result (EndsLow bits) }
     ensures told { ForContent (C.told files.old) walk.old.name (λ content.
-        MatchResult result (λ range. range ≡ range_there content walk.old.docs weighing.entry bits lists.now) IsOutside) }
+        MatchResult result
+        (λ range. range ≡ range_there content walk.old.docs weighing.entry bits lists.now) IsOutside) }
     ensures fault { IsErrOf result CiffFault.ReadFault → Rose (C.read_faults files.old) (C.read_faults files.new) }
     ensures stays { C.told files.new ≡ C.told files.old }
     ensures later { C.read_faults files.old ≤ C.read_faults files.new }

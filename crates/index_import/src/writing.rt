@@ -1,10 +1,10 @@
-ghost use Rattle.std.specs.Prelude.{ℕ, ◌≡◌, ◌≢◌, ◌≤◌, ◌^◌, List, length, map, All, IsErrOf};
-ghost use Rattle.jass_base.specs.Outside.{Rose};
+ghost use Rattle.std.specs.Prelude.{ℕ, ◌≡◌, ◌≢◌, ◌≤◌, ◌^◌, List, length, map, All, IfErr, IfOk, IsErrOf};
+ghost use Rattle.jass_base.specs.Outside.{Appended, Rose};
 ghost use Rattle.weights.specs.Quantizing.{IsImpactWidth};
 ghost use Rattle.ciff_read.specs.Walk.{HasKept};
 ghost use Rattle.impact_segments.specs.OneList.{EndsLow};
 ghost use Rattle.index_model.specs.Index.{TermData};
-ghost use Rattle.index_write.specs.Streaming.{AreEntries, AreNames, entry_data};
+ghost use Rattle.index_write.specs.Streaming.{AreEntries, AreNames, entries_totals, entry_data};
 ghost use Rattle.index_import.specs.Faults.{unappended, unbegun};
 ghost use Rattle.index_import.specs.Importing.{HasTerms, Writes};
 ghost use Rattle.index_import.specs.Surveying.{IsReady};
@@ -21,8 +21,8 @@ use jass_base::{Cabinet, Row, Text, Totals};
 use std::alloc::Global;
 use weights::{Bits, Range};
 
-/// Writes the index of the documents of these names, and of the lists that have these heads, each
-/// of which is read once more.
+/// Writes the index of the documents of these names, and of the lists that have these heads. Each of
+/// them is read once more, unless the payloads were kept.
 pub(crate) fn write_index<C: Cabinet>(
     alloc: Global,
     walk: &mut CiffWalk,
@@ -45,9 +45,10 @@ pub(crate) fn write_index<C: Cabinet>(
     requires places { length heads.places.items ≡ length heads.terms }
     requires apart { walk.old.name ≢ index.now }
     ensures written { (made : List TermData)
-        → HasTerms (C.told files.old) walk.old.name walk.old.docs weighing.entry bits range heads.places.items heads.terms made
-        → Writes (C.told files.old) (C.told files.new) walk.old.name index.now (record { names = names; terms = made })
-        result }
+        → HasTerms (C.told files.old) walk.old.name walk.old.docs weighing.entry bits range
+        heads.places.items heads.terms heads.payloads made
+        → Writes (C.told files.old) (C.told files.new) walk.old.name index.now
+        (record { names = names; terms = made }) result }
     ensures read_fault { IsErrOf result ImportFault.ReadFault
         → Rose (C.read_faults files.old) (C.read_faults files.new) }
     ensures write_fault { IsErrOf result ImportFault.WriteFault
@@ -57,11 +58,18 @@ pub(crate) fn write_index<C: Cabinet>(
 {
     appended_payloads_make_the_text();
     changes_are_found();
-    let Heads { terms, places } = heads;
+    let Heads {
+        terms,
+        places,
+        payloads,
+    } = heads;
     let mut writer = match IndexWriter::new(alloc, names, terms, files, index) {
         Ok(writer) => writer,
         Err(fault) => return Err(not_begun(fault)),
     };
+    if let Some(payloads) = payloads {
+        return put_kept(writer, payloads.as_slice(), files);
+    }
     'places: for place in places {
         let segments = match read_segments(alloc, walk, files, weighing, bits, range, place) {
             Ok(segments) => segments,
@@ -73,6 +81,25 @@ pub(crate) fn write_index<C: Cabinet>(
         };
     }
     Ok(writer.finish())
+}
+
+/// Appends all payloads at once.
+fn put_kept<C: Cabinet>(
+    writer: IndexWriter,
+    payloads: &[u8],
+    files: &mut C,
+) -> Result<Totals, ImportFault>
+    ensures totals { IfOk result (λ totals. totals ≡ entries_totals writer.docs writer.entries) }
+    ensures content { Appended (C.told files.old) (C.told files.new) writer.name payloads.now result }
+    ensures fault { IfErr result (λ fault. fault ≡ ImportFault.WriteFault) }
+    ensures cause { IfErr result (λ _. Rose (C.write_faults files.old) (C.write_faults files.new)) }
+    ensures later { C.write_faults files.old ≤ C.write_faults files.new }
+    ensures others { C.read_faults files.old ≤ C.read_faults files.new }
+{
+    match writer.put_all(payloads, files) {
+        Ok(totals) => Ok(totals),
+        Err(_) => Err(ImportFault::WriteFault),
+    }
 }
 
 /// Why the index was not begun.

@@ -1,4 +1,4 @@
-ghost use Rattle.std.specs.Prelude.{◌≡◌, ◌≤◌, ◌^◌, ◌++◌, length, map, All, OnOk, IfOk};
+ghost use Rattle.std.specs.Prelude.{◌≡◌, ◌≤◌, ◌^◌, [], ◌++◌, length, map, All, OnOk, IfOk};
 ghost use Rattle.jass_base.specs.Gaps.{AreDocs};
 ghost use Rattle.jass_base.specs.declared.segment.Segment.{Segment};
 ghost use Rattle.index_model.specs.Views.{segment_data, term_data};
@@ -67,9 +67,19 @@ pub fn payload_heads(
     requires { All (λ (s : Segment). AreDocs d s.docs) segments.now }
     ensures { IfOk result (λ heads. map head_data heads ≡ chosen_heads d (map segment_data segments.now)) }
 {
-    let mut heads = Row::new(alloc);
+    let mut heads = with_room(alloc, segments.len())?;
     push_heads(segments, d, &mut heads)?;
     Ok(heads)
+}
+
+/// An empty row that has room for so many heads.
+fn with_room(alloc: Global, count: usize) -> Result<Row<PayloadHead>, NoMemory>
+    ensures { IfOk result (λ heads. heads ≡ []) }
+{
+    match Vec::with_capacity(alloc, count) {
+        Ok(heads) => Ok(Row::from_vec(heads)),
+        Err(_) => Err(NoMemory),
+    }
 }
 
 /// The heads of all terms' segments.

@@ -19,6 +19,7 @@ pub use bytes::index_bytes;
 pub use fault::{SaveFault, TermFault};
 pub use file::write_index;
 pub use head::{PayloadHead, payload_heads};
+pub use payloads::put_payloads;
 pub use sums::totals;
 pub use term_heads::TermHeads;
 pub use writer::IndexWriter;

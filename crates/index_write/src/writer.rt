@@ -1,6 +1,6 @@
 //! An index file that is written term by term.
 
-ghost use Rattle.std.specs.Prelude.{◌≡◌, ◌≤◌, ◌^◌, None, length, map, All, AllPairs, IfErr, IfOk, IsErrOf, OnErr, OnOk};
+ghost use Rattle.std.specs.Prelude.{◌≡◌, ◌≤◌, ◌^◌, None, length, map, All, AllPairs, IfErr, IfOk, IsErr, IsErrOf, OnErr, OnOk};
 ghost use Rattle.jass_base.specs.Gaps.{AreDocs};
 ghost use Rattle.jass_base.specs.Outside.{Appended, Rose, Sets};
 ghost use Rattle.jass_base.specs.Segments.{SharesNoDocument};
@@ -20,7 +20,7 @@ use crate::laws::changes_are_found;
 use crate::payloads::put_payloads;
 use crate::sums::heads_totals;
 use crate::term_heads::TermHeads;
-use jass_base::{Cabinet, Row, Segment, Text, Totals};
+use jass_base::{Cabinet, Failed, Row, Segment, Text, Totals};
 use std::alloc::Global;
 use std::marker::Model;
 
@@ -134,6 +134,20 @@ impl IndexWriter {
             left: left - 1,
             payloads,
         })
+    }
+
+    /// Appends the payloads of all terms at once, in place of `term` for each, and gives the totals of
+    /// the file. That the bytes are these payloads is left to the caller. An Err comes only where the
+    /// files counted a write fault.
+    pub fn put_all<C: Cabinet>(self, payloads: &[u8], files: &mut C) -> Result<Totals, Failed>
+        ensures totals { IfOk result (λ totals. totals ≡ entries_totals self.docs self.entries) }
+        ensures content { Appended (C.told files.old) (C.told files.new) self.name payloads.now result }
+        ensures cause { IsErr result → Rose (C.write_faults files.old) (C.write_faults files.new) }
+        ensures later { C.write_faults files.old ≤ C.write_faults files.new }
+        ensures others { C.read_faults files.old ≤ C.read_faults files.new }
+    {
+        files.append(self.name.as_str(), payloads)?;
+        Ok(heads_totals(self.docs, self.entries.as_slice()))
     }
 
     /// The totals of the file, all of whose terms were written.

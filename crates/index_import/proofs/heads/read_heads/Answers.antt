@@ -7,9 +7,9 @@ use Rattle.ciff_read.specs.Pieces.{KeptList}
 use Rattle.ciff_read.specs.Walk.{HasKept}
 use Rattle.jass_base.specs.declared.segment.Segment.{Segment}
 use Rattle.index_model.specs.Views.{segment_data}
-use Rattle.index_write.specs.Chosen.{chosen_heads, head_data}
+use Rattle.index_write.specs.Chosen.{chosen_heads, chosen_payloads, head_data}
 use Rattle.index_write.specs.declared.term_heads.TermHeads.{TermHeads}
-use Rattle.index_import.specs.Heading.{AreHeads}
+use Rattle.index_import.specs.Heading.{AreHeads, KeepsMore}
 use Rattle.index_import.specs.Rereading.{AreSegments, segments_there}
 use Rattle.index_import.specs.Surveying.{IsReady}
 use Rattle.index_import.specs.declared.list_entry.ListEntry.{ListEntry}
@@ -34,7 +34,7 @@ lists-init g c = record {
   others = omega arith;
   ready = c.requires.ready;
   leaves = leaves_same c.args.walk.now;
-  heads = no_heads (g.C.Cabinet.told c.args.files.now) c.args.walk.now.name c.args.walk.now.docs c.args.weighing c.args.bits c.args.range c.new-terms.result c.new-terms.ensures;
+  heads = no_heads (g.C.Cabinet.told c.args.files.now) c.args.walk.now.name c.args.walk.now.docs c.args.weighing c.args.bits c.args.range c.new-terms.result c.new.result c.new-terms.ensures c.new.ensures;
   entries = no_entries c.new-terms.result c.new-terms.ensures;
   places = c.new-places.ensures.items;
 }
@@ -55,6 +55,9 @@ lists-preserved g c =
     = subst (λ (files : Option Files). ForContent files name (λ content. map segment_data segments ≡ segments_there content d c.args.weighing c.args.bits c.args.range entry.place.at)) c.lists.invariant.same
     (subst (λ (n : List ℕ). ForContent (g.C.Cabinet.told c.lists.files) n (λ content. map segment_data segments ≡ segments_there content d c.args.weighing c.args.bits c.args.range entry.place.at)) c.lists.invariant.leaves.name
     (subst (λ (k : ℕ). ForContent (g.C.Cabinet.told c.lists.files) c.lists.walk.name (λ content. map segment_data segments ≡ segments_there content k c.args.weighing c.args.bits c.args.range entry.place.at)) docs c.in-Ok.ensures.told)) in
+    let keeps : KeepsMore c.lists.payloads (chosen_payloads d (map segment_data segments)) c.keep_payloads-payloads.result
+    = subst (λ (ss : List Segment). KeepsMore c.lists.payloads (chosen_payloads d (map segment_data ss)) c.keep_payloads-payloads.result) c.as_slice-in-lists.ensures
+    (subst (λ (n : ℕ). KeepsMore c.lists.payloads (chosen_payloads n (map segment_data c.as_slice-in-lists.result.now)) c.keep_payloads-payloads.result) c.requires.docs c.keep_payloads-payloads.ensures) in
     let ready = subst (λ (files : Option Files). IsReady files name c.read_segments.new.walk) c.lists.invariant.same (subst (λ (n : List ℕ). IsReady (g.C.Cabinet.told c.lists.files) n c.read_segments.new.walk) c.lists.invariant.leaves.name c.in-Ok.ensures.ready) in
     record {
       same = c.in-Ok.ensures.stays ∙ c.lists.invariant.same;
@@ -62,8 +65,8 @@ lists-preserved g c =
       others = omega (arith, c.lists.invariant.others, c.in-Ok.ensures.others);
       ready = ready;
       leaves = leaves_then c.args.walk.now c.lists.walk c.read_segments.new.walk c.lists.invariant.leaves c.in-Ok.ensures.leaves;
-      heads = subst (λ (hs : List TermHeads). AreHeads told name d c.args.weighing c.args.bits c.args.range (c.lists.yielded ++ entry ∷ []) hs) (sym c.in-Ok-push.ensures.ok)
-          (heads_more told name d c.args.weighing c.args.bits c.args.range c.lists.yielded c.lists.terms entry own (map segment_data segments) refl made read c.lists.invariant.heads);
+      heads = subst (λ (hs : List TermHeads). AreHeads told name d c.args.weighing c.args.bits c.args.range (c.lists.yielded ++ entry ∷ []) hs c.keep_payloads-payloads.result) (sym c.in-Ok-push.ensures.ok)
+          (heads_more told name d c.args.weighing c.args.bits c.args.range c.lists.yielded c.lists.terms c.lists.payloads c.keep_payloads-payloads.result entry own (map segment_data segments) refl made read keeps c.lists.invariant.heads);
       entries = subst (λ (hs : List TermHeads). HaveEntries (c.lists.yielded ++ entry ∷ []) hs) (sym c.in-Ok-push.ensures.ok)
           (entries_more d c.lists.yielded c.lists.terms entry own segments refl made of.some (c.made_heads_are_entries.ensures.heads d segments of.docs_are) (c.made_heads_are_entries.ensures.falling d segments of.falling) of.postings c.lists.invariant.entries);
       places = c.in-Ok-push-2.ensures.items ∙ ap (λ (ps : List Place). ps ++ entry.place ∷ []) c.lists.invariant.places ∙ sym (map-append (λ (e : ListEntry). e.place) c.lists.yielded (entry ∷ []));

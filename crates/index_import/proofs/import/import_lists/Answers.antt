@@ -41,5 +41,5 @@ returns-clause-imported g c =
     writes_made told c.args.walk.now c.args.weighing c.args.bits c.in-Ok.range c.args.lists.items c.requires.ready.there found
     c.lists_by_term_make_the_index.ensures law.raw law.range law.inside
     (g.C.Cabinet.told c.read_range.new.files) (g.C.Cabinet.told c.read_heads.new.files) (g.C.Cabinet.told c.write_index.new.files) c.read_range.new.walk c.read_heads.new.walk c.args.names c.args.index.now
-    c.in-Ok-read_heads.heads.places.items c.in-Ok-read_heads.heads.terms c.write_index.result c.requires.outlined.rising c.requires.told c.read_range.ensures.stays c.read_range.ensures.leaves
+    c.in-Ok-read_heads.heads.places.items c.in-Ok-read_heads.heads.terms c.in-Ok-read_heads.heads.payloads c.write_index.result c.requires.outlined.rising c.requires.told c.read_range.ensures.stays c.read_range.ensures.leaves
     (c.in-Ok-read_heads.ensures.heads) (c.in-Ok-read_heads.ensures.places) c.read_heads.ensures.stays c.read_heads.ensures.leaves c.write_index.ensures.written
