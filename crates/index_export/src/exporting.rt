@@ -20,6 +20,7 @@ pub fn export_collection<L: Ledger>(
     ensures collection { IfOk result (λ c. collection_data c ≡ export_of index.now.index) }
     ensures steps { OnOk result (steps.new ≡ steps.old + index_postings index.now.index) }
     ensures counted { OnErr result (steps.new ≤ steps.old + index_postings index.now.index) }
+    ensures later { OnErr result (steps.old ≤ steps.new) }
 {
     index.is_checked();
     let lists = lists_of(alloc, index, steps)?;

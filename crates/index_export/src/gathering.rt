@@ -23,6 +23,7 @@ pub(crate) fn postings_of<L: Ledger>(
     ensures postings { IfOk result (λ postings. postings.items ≡ term_list (term_with index.now.index.terms t)) }
     ensures steps { OnOk result (steps.new ≡ steps.old + term_postings (term_with index.now.index.terms t)) }
     ensures counted { OnErr result (steps.new ≤ steps.old + term_postings (term_with index.now.index.terms t)) }
+    ensures later { OnErr result (steps.old ≤ steps.new) }
 {
     let mut postings = Vec::new(alloc);
     gather(index, t, &mut postings, block, steps)?;
@@ -53,6 +54,7 @@ fn gather<L: Ledger>(
         ≡ postings.old.items ++ flat_map segment_postings (segments_at index.now.index.terms t)) }
     ensures steps { OnOk result (steps.new ≡ steps.old + term_postings (term_with index.now.index.terms t)) }
     ensures counted { OnErr result (steps.new ≤ steps.old + term_postings (term_with index.now.index.terms t)) }
+    ensures later { OnErr result (steps.old ≤ steps.new) }
 {
     for s in 0..index.segments(t) {
         add_segment(index, t, s, postings, block, steps)?;
@@ -75,6 +77,7 @@ fn add_segment<L: Ledger>(
         ≡ postings.old.items ++ segment_postings (segment_at index.now.index.terms t s)) }
     ensures steps { OnOk result (steps.new ≡ steps.old + length (segment_at index.now.index.terms t s).docs) }
     ensures counted { OnErr result (steps.new ≤ steps.old + length (segment_at index.now.index.terms t s).docs) }
+    ensures later { OnErr result (steps.old ≤ steps.new) }
 {
     let head = index.head(t, s);
     if head.count == 1 {
@@ -100,6 +103,7 @@ fn add_blocks<L: Ledger>(
         ≡ postings.old.items ++ doc_postings impact (segment_at index.now.index.terms t s).docs) }
     ensures steps { OnOk result (steps.new ≡ steps.old + length (segment_at index.now.index.terms t s).docs) }
     ensures counted { OnErr result (steps.new ≤ steps.old + length (segment_at index.now.index.terms t s).docs) }
+    ensures later { OnErr result (steps.old ≤ steps.new) }
 {
     let mut cursor = index.cursor(t, s);
     'blocks: loop {

@@ -21,6 +21,7 @@ pub(crate) fn lists_of<L: Ledger>(
     ensures below { IfOk result (λ lists. All (HasDocsBelow (length index.now.index.names)) lists) }
     ensures steps { OnOk result (steps.new ≡ steps.old + index_postings index.now.index) }
     ensures counted { OnErr result (steps.new ≤ steps.old + index_postings index.now.index) }
+    ensures later { OnErr result (steps.old ≤ steps.new) }
 {
     let mut block = [0u32; 128];
     let mut lists = Row::new(alloc);
@@ -47,6 +48,7 @@ fn list_of<L: Ledger>(
     ensures below { IfOk result (HasDocsBelow (length index.now.index.names)) }
     ensures steps { OnOk result (steps.new ≡ steps.old + term_postings (term_with index.now.index.terms t)) }
     ensures counted { OnErr result (steps.new ≤ steps.old + term_postings (term_with index.now.index.terms t)) }
+    ensures later { OnErr result (steps.old ≤ steps.new) }
 {
     index.is_checked();
     let postings = postings_of(alloc, index, t, block, steps)?;

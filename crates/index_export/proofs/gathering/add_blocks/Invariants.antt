@@ -1,4 +1,4 @@
-use Rattle.std.proofs.Common.{◌≡◌, ◌++◌, ◌+◌, ◌-◌, ℕ, List, length}
+use Rattle.std.proofs.Common.{◌≡◌, ◌++◌, ◌+◌, ◌-◌, ◌≤◌, ℕ, List, length}
 use Rattle.index_file.specs.Giving.{Gives}
 use Rattle.index_file.specs.Places.{segment_at}
 use Rattle.index_export.specs.Gathering.{doc_postings}
@@ -8,6 +8,7 @@ abbrev pub invariant-blocks-2 : goal.invariant-blocks-2
 invariant-blocks-2 g l = (rest : List ℕ) × Gives l.index l.cursor rest
     × (l.postings.items ++ doc_postings l.impact rest ≡ l.fn.postings.items ++ doc_postings l.impact (segment_at l.index.index.terms l.t l.s).docs)
     × (l.steps + length rest ≡ l.fn.steps + length (segment_at l.index.index.terms l.t l.s).docs)
+    × (l.fn.steps ≤ l.steps)
 
 abbrev pub decreases-blocks-2 : goal.decreases-blocks-2
 decreases-blocks-2 g l = l.fn.steps + length (segment_at l.index.index.terms l.t l.s).docs - l.steps

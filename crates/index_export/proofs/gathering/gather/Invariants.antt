@@ -1,4 +1,4 @@
-use Rattle.std.proofs.Common.{◌≡◌, ◌++◌, ◌+◌, drop}
+use Rattle.std.proofs.Common.{◌≡◌, ◌++◌, ◌+◌, ◌≤◌, drop}
 use Rattle.std.specs.List.{flat_map}
 use Rattle.index_model.specs.Querying.{segments_at}
 use Rattle.index_export.specs.Exports.{segment_postings}
@@ -9,4 +9,5 @@ abbrev pub invariant-loop-s : goal.invariant-loop-s
 invariant-loop-s g l = record {
   postings : l.postings.items ++ flat_map segment_postings (drop l.s (segments_at l.index.index.terms l.t)) ≡ l.fn.postings.items ++ flat_map segment_postings (segments_at l.index.index.terms l.t);
   steps : l.steps + docs_count (drop l.s (segments_at l.index.index.terms l.t)) ≡ l.fn.steps + docs_count (segments_at l.index.index.terms l.t);
+  later : l.fn.steps ≤ l.steps;
 }

@@ -1,4 +1,4 @@
-use Rattle.std.proofs.Common.{◌≡◌, ◌++◌, ◌+◌, drop, map, length}
+use Rattle.std.proofs.Common.{◌≡◌, ◌++◌, ◌+◌, ◌≤◌, drop, map, length}
 use Rattle.std.specs.Prelude.{All}
 use Rattle.std.specs.List.{sum_by}
 use Rattle.jass_base.specs.CiffViews.{list_data}
@@ -12,4 +12,5 @@ invariant-loop-t g l = record {
   lists : map list_data l.lists ++ map exported_list (drop l.t l.index.index.terms) ≡ map exported_list l.index.index.terms;
   below : All (HasDocsBelow (length l.index.index.names)) l.lists;
   steps : l.steps + sum_by term_postings (drop l.t l.index.index.terms) ≡ l.fn.steps + sum_by term_postings l.index.index.terms;
+  later : l.fn.steps ≤ l.steps;
 }
