@@ -36,7 +36,27 @@ fn changed_bytes_are_refused(rt: HostRuntime) {
         (32, 8, 32, OpenWhy::Totals),
     ];
     for (place, byte, at, why) in table {
-        assert!(&rt; is_refused(alloc, place, byte, at, why));
+        assert!(&rt; is_refused(alloc, place, byte, 105, at, why));
+    }
+    for count in 0..105 {
+        let (at, why) = match count {
+            0..8 => (0, OpenWhy::Magic),
+            _ => (8, OpenWhy::Length),
+        };
+        assert!(&rt; is_refused(alloc, 8, 105, count, at, why));
+    }
+    for count in 8..105 {
+        let at = match count {
+            8..40 => 8,
+            40..56 => 40,
+            56..62 => 56,
+            62..69 => 62,
+            69..80 => 69,
+            80..91 => 80,
+            91..102 => 91,
+            _ => count,
+        };
+        assert!(&rt; is_refused(alloc, 8, count as u8, count, at, OpenWhy::Length));
     }
 }
 
@@ -51,14 +71,21 @@ fn is_small(index: &ImpactIndex) -> bool {
         && index.greatest == 9
 }
 
-// Whether the file with this byte at a place is so refused.
-fn is_refused(alloc: Global, place: usize, byte: u8, at: usize, why: OpenWhy) -> bool {
+// Whether so many bytes of the file with this byte at a place are so refused.
+fn is_refused(
+    alloc: Global,
+    place: usize,
+    byte: u8,
+    count: usize,
+    at: usize,
+    why: OpenWhy,
+) -> bool {
     let mut bytes = SMALL;
-    if place >= bytes.len() {
+    if place >= bytes.len() || count > bytes.len() {
         return false;
     }
     bytes[place] = byte;
-    match read_version1(alloc, &bytes) {
+    match read_version1(alloc, &bytes[..count]) {
         Ok(_) => false,
         Err(fault) => fault == refused(at, why),
     }

@@ -89,6 +89,51 @@ statuses:\n\
 documents: README.md, docs/\n\
 ";
 
+/// Which calls fail: reads and writes of files, and puts on the output and on the notes.
+#[derive(Clone, Copy)]
+struct Bad {
+    reads: u64,
+    writes: u64,
+    puts: u64,
+    notes: u64,
+}
+
+/// No call, since there are fewer.
+const NEVER: u64 = 1_000_000;
+
+const NONE: Bad = Bad {
+    reads: NEVER,
+    writes: NEVER,
+    puts: NEVER,
+    notes: NEVER,
+};
+
+/// What kind of call fails.
+#[derive(Clone, Copy)]
+enum Call {
+    Read,
+    Write,
+    Put,
+}
+
+/// The call of this kind and number alone.
+fn only(call: Call, number: u64) -> Bad {
+    match call {
+        Call::Read => Bad {
+            reads: number,
+            ..NONE
+        },
+        Call::Write => Bad {
+            writes: number,
+            ..NONE
+        },
+        Call::Put => Bad {
+            puts: number,
+            ..NONE
+        },
+    }
+}
+
 /// What a run left.
 #[derive(Drop)]
 struct Left {
@@ -97,7 +142,7 @@ struct Left {
     notes: Vec<u8>,
 }
 
-/// Runs words over a cabinet with one file, whose reads and the output's puts fail where named.
+/// Runs words over a cabinet with one file, whose reads and the puts on the output and the notes fail where named.
 fn left_by<L: Ledger>(
     alloc: Global,
     blank: Blank,
@@ -105,6 +150,7 @@ fn left_by<L: Ledger>(
     words: &[String],
     bad_reads: &[u64],
     bad_puts: &[u64],
+    bad_notes: &[u64],
 ) -> Result<Left, AllocError>
     requires name { blank.name ≡ L.name }
     requires parts { blank.parts ≡ L.parts }
@@ -116,7 +162,7 @@ fn left_by<L: Ledger>(
     }
     let mut input = SliceFeed::new(b"");
     let mut out = MemSink::new(alloc, listed(alloc, bad_puts)?);
-    let mut notes = MemSink::new(alloc, Row::new(alloc));
+    let mut notes = MemSink::new(alloc, listed(alloc, bad_notes)?);
     let mut steps = Steps::<L>::new(blank);
     let status = run(
         alloc, words, &mut files, &mut input, &mut out, &mut notes, &mut steps,
@@ -135,6 +181,7 @@ fn ran(
     words: &str,
     bad_reads: &[u64],
     bad_puts: &[u64],
+    bad_notes: &[u64],
 ) -> Result<Left, AllocError> {
     let words = parted(alloc, words)?;
     left_by::<Brand>(
@@ -144,6 +191,7 @@ fn ran(
         words.as_slice(),
         bad_reads,
         bad_puts,
+        bad_notes,
     )
 }
 
@@ -259,7 +307,7 @@ fn answers_are_printed(rt: HostRuntime) {
         (&[], "--version", b"jass 0.1.0\n"),
     ];
     for (ciff, words, out) in table {
-        let Ok(left) = ran(rt.alloc(), ciff, words, &[], &[]) else {
+        let Ok(left) = ran(rt.alloc(), ciff, words, &[], &[], &[]) else {
             assert!(&rt; false, "no memory");
             return;
         };
@@ -369,12 +417,17 @@ fn other_ends_are_noted(rt: HostRuntime) {
         ),
     ];
     for (ciff, words, bad_reads, bad_puts, status, notes) in table {
-        let Ok(left) = ran(rt.alloc(), ciff, words, bad_reads, bad_puts) else {
+        let (Ok(left), Ok(muted)) = (
+            ran(rt.alloc(), ciff, words, bad_reads, bad_puts, &[]),
+            ran(rt.alloc(), ciff, words, bad_reads, bad_puts, &[0]),
+        ) else {
             assert!(&rt; false, "no memory");
             return;
         };
         assert_eq!(&rt; left.status, status, "{words}");
         assert!(&rt; left.notes.as_slice() == notes, "{words}");
         assert!(&rt; left.out.is_empty(), "{words}");
+        assert_eq!(&rt; muted.status, status, "{words}");
+        assert!(&rt; muted.notes.is_empty() && muted.out.is_empty(), "{words}");
     }
 }

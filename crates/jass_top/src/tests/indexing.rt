@@ -2,7 +2,7 @@
 
 ghost use Rattle.std.specs.Prelude.{◌≡◌, ◌<◌};
 
-use super::{ONE_TERM, listed, parted};
+use super::{Bad, Call, NONE, ONE_TERM, SLOPPY, listed, only, parted};
 use crate::run;
 use jass_base::{MemCabinet, MemSink, Row, SliceFeed, Steps};
 use std::alloc::{AllocError, Global};
@@ -43,22 +43,8 @@ const TOTALS: &[u8] = b"documents 3 terms 1 postings 3 greatest 9\n";
 
 const NOTHING: &[u8] = b"";
 
-/// Which calls fail: reads and writes of files, and puts on the output.
-#[derive(Clone, Copy)]
-struct Bad {
-    reads: u64,
-    writes: u64,
-    puts: u64,
-}
-
-/// No call, since there are fewer.
-const NEVER: u64 = 99;
-
-const NONE: Bad = Bad {
-    reads: NEVER,
-    writes: NEVER,
-    puts: NEVER,
-};
+/// What the file `b` holds before a run.
+const OLD: &[u8] = b"old";
 
 /// What a run left.
 #[derive(Drop)]
@@ -66,56 +52,52 @@ struct Outcome {
     status: u8,
     out: Vec<u8>,
     notes: Vec<u8>,
-    /// The content of the file `b`, where it is there.
-    content: Option<Vec<u8>>,
+    /// The content of the file `b`.
+    content: Vec<u8>,
 }
 
 impl Outcome {
     fn holds(&self, text: &[u8]) -> bool {
-        match &self.content {
-            Some(content) => content.as_slice() == text,
-            None => text.is_empty(),
-        }
+        self.content.as_slice() == text
     }
 
-    fn holds_prefix_of(&self, text: &[u8]) -> bool {
-        match &self.content {
-            Some(content) => text.starts_with(content.as_slice()),
-            None => true,
-        }
+    /// Whether nothing was noted, and all else is as in another run.
+    fn is_muted(&self, other: &Outcome) -> bool {
+        self.notes.is_empty()
+            && self.status == other.status
+            && self.out.as_slice() == other.out.as_slice()
+            && self.holds(other.content.as_slice())
     }
 }
 
-/// Runs words over a cabinet with one file, `a`.
+/// Runs words over a cabinet with the files `a` and `b`.
 fn outcome_by<L: Ledger>(
     alloc: Global,
     blank: Blank,
     content: &[u8],
     words: &[String],
-    bad_reads: u64,
-    bad_writes: u64,
-    bad_puts: u64,
+    bad: Bad,
 ) -> Result<Outcome, AllocError>
     requires name { blank.name ≡ L.name }
     requires parts { blank.parts ≡ L.parts }
     requires some { 0 < blank.parts }
 {
-    let bad_reads = listed(alloc, &[bad_reads])?;
-    let bad_writes = listed(alloc, &[bad_writes])?;
+    let bad_reads = listed(alloc, &[bad.reads])?;
+    let bad_writes = listed(alloc, &[bad.writes])?;
     let mut files = MemCabinet::new(alloc, bad_reads, bad_writes);
-    if files.store("a", content).is_err() {
+    if files.store("a", content).is_err() || files.store("b", OLD).is_err() {
         return Err(AllocError);
     }
     let mut input = SliceFeed::new(b"");
-    let mut out = MemSink::new(alloc, listed(alloc, &[bad_puts])?);
-    let mut notes = MemSink::new(alloc, Row::new(alloc));
+    let mut out = MemSink::new(alloc, listed(alloc, &[bad.puts])?);
+    let mut notes = MemSink::new(alloc, listed(alloc, &[bad.notes])?);
     let mut steps = Steps::<L>::new(blank);
     let status = run(
         alloc, words, &mut files, &mut input, &mut out, &mut notes, &mut steps,
     );
     let content = match files.content("b") {
-        Some(bytes) => Some(Vec::from_slice(alloc, bytes)?),
-        None => None,
+        Some(bytes) => Vec::from_slice(alloc, bytes)?,
+        None => Vec::new(alloc),
     };
     Ok(Outcome {
         status: status.number(),
@@ -128,15 +110,7 @@ fn outcome_by<L: Ledger>(
 /// The same with a fresh ledger.
 fn outcome_of(alloc: Global, content: &[u8], words: &str, bad: Bad) -> Result<Outcome, AllocError> {
     let words = parted(alloc, words)?;
-    outcome_by::<Brand>(
-        alloc,
-        Blank::new(1),
-        content,
-        words.as_slice(),
-        bad.reads,
-        bad.writes,
-        bad.puts,
-    )
+    outcome_by::<Brand>(alloc, Blank::new(1), content, words.as_slice(), bad)
 }
 
 #[test]
@@ -167,16 +141,16 @@ fn index_files_are_made_and_checked(rt: HostRuntime) {
             3,
             NOTHING,
             b"a: refusal 10 at 62\n",
-            NOTHING,
+            OLD,
         ),
-        (&ONE_TERM_INDEX, "check a", 0, TOTALS, NOTHING, NOTHING),
+        (&ONE_TERM_INDEX, "check a", 0, TOTALS, NOTHING, OLD),
         (
             &ONE_TERM_INDEX[..102],
             "check a",
             3,
             NOTHING,
             b"a: refusal 41 at 8\n",
-            NOTHING,
+            OLD,
         ),
         (
             &past_the_last,
@@ -184,7 +158,7 @@ fn index_files_are_made_and_checked(rt: HostRuntime) {
             3,
             NOTHING,
             b"a: refusal 33 at 102\n",
-            NOTHING,
+            OLD,
         ),
         (
             &twice,
@@ -192,7 +166,7 @@ fn index_files_are_made_and_checked(rt: HostRuntime) {
             3,
             NOTHING,
             b"a: refusal 46 at 102\n",
-            NOTHING,
+            OLD,
         ),
         (
             &other_magic,
@@ -200,7 +174,7 @@ fn index_files_are_made_and_checked(rt: HostRuntime) {
             3,
             NOTHING,
             b"a: refusal 40 at 0\n",
-            NOTHING,
+            OLD,
         ),
         (
             &ONE_TERM_OLD,
@@ -208,7 +182,7 @@ fn index_files_are_made_and_checked(rt: HostRuntime) {
             3,
             NOTHING,
             b"a: refusal 39 at 0\n",
-            NOTHING,
+            OLD,
         ),
         (
             &ONE_TERM_INDEX,
@@ -216,7 +190,7 @@ fn index_files_are_made_and_checked(rt: HostRuntime) {
             4,
             NOTHING,
             b"x.idx: read fault\n",
-            NOTHING,
+            OLD,
         ),
         (
             &ONE_TERM_INDEX,
@@ -240,7 +214,7 @@ fn index_files_are_made_and_checked(rt: HostRuntime) {
             3,
             NOTHING,
             b"a: refusal 46 at 102\n",
-            NOTHING,
+            OLD,
         ),
         (
             &ONE_TERM_OLD,
@@ -256,11 +230,14 @@ fn index_files_are_made_and_checked(rt: HostRuntime) {
             3,
             NOTHING,
             b"a: refusal 40 at 0\n",
-            NOTHING,
+            OLD,
         ),
     ];
     for (content, words, status, out, notes, made) in table {
-        let Ok(left) = outcome_of(rt.alloc(), content, words, NONE) else {
+        let (Ok(left), Ok(muted)) = (
+            outcome_of(rt.alloc(), content, words, NONE),
+            outcome_of(rt.alloc(), content, words, only_notes(NONE)),
+        ) else {
             assert!(&rt; false, "no memory");
             return;
         };
@@ -268,128 +245,87 @@ fn index_files_are_made_and_checked(rt: HostRuntime) {
         assert!(&rt; left.out.as_slice() == out, "{words}");
         assert!(&rt; left.notes.as_slice() == notes, "{words}");
         assert!(&rt; left.holds(made), "{words}");
+        assert!(&rt; muted.is_muted(&left), "{words}");
     }
+}
+
+/// The same calls, and the first put on the notes.
+fn only_notes(bad: Bad) -> Bad {
+    Bad { notes: 0, ..bad }
+}
+
+/// A content of the file `a`, words, the kind of the call that fails, the status, the note, and the text of which `b`
+/// may hold a front.
+type Case<'a> = (&'a [u8], &'a str, Call, u8, &'a [u8], Option<&'a [u8]>);
+
+/// Whether each run in which one call fails ends as told, from the first call on until a run is done.
+fn each_ends(alloc: Global, case: Case<'_>) -> Result<bool, AllocError> {
+    let (content, words, call, status, notes, text) = case;
+    for number in 0..40 {
+        let bad = only(call, number);
+        let left = outcome_of(alloc, content, words, bad)?;
+        if left.status == 0 {
+            return Ok(number > 0 && left.notes.is_empty());
+        }
+        let muted = outcome_of(alloc, content, words, only_notes(bad))?;
+        if left.status != status
+            || !left.out.is_empty()
+            || left.notes.as_slice() != notes
+            || !has_front(&left, call, number, text)
+            || !muted.is_muted(&left)
+        {
+            return Ok(false);
+        }
+    }
+    Ok(false)
+}
+
+/// Whether `b` is as before the run, or holds a front of its text. It is as before where the first write of a file
+/// fails, or one of the first four reads, which come before the last pass of an import.
+fn has_front(left: &Outcome, call: Call, number: u64, text: Option<&[u8]>) -> bool {
+    let is_begun = match call {
+        Call::Read => number > 3,
+        Call::Write => number > 0,
+        Call::Put => true,
+    };
+    left.holds(OLD)
+        || is_begun && text.is_some_and(|text| text.starts_with(left.content.as_slice()))
 }
 
 #[test]
 fn failed_calls_are_noted(rt: HostRuntime) {
-    let read = |reads| Bad { reads, ..NONE };
-    let write = |writes| Bad { writes, ..NONE };
-    let put = Bad { puts: 0, ..NONE };
-    let table: [(&[u8], &str, Bad, u8, &[u8], &[u8]); 13] = [
-        (
-            &ONE_TERM,
-            "import a b",
-            read(0),
-            4,
-            b"a: read fault\n",
-            NOTHING,
-        ),
-        (
-            &ONE_TERM,
-            "import a b",
-            read(1),
-            4,
-            b"a: read fault\n",
-            NOTHING,
-        ),
-        (
-            &ONE_TERM,
-            "import a b",
-            read(2),
-            4,
-            b"a: read fault\n",
-            NOTHING,
-        ),
-        (
-            &ONE_TERM,
-            "import a b",
-            read(3),
-            4,
-            b"a: read fault\n",
-            NOTHING,
-        ),
-        (
-            &ONE_TERM,
-            "import a b",
-            write(0),
-            5,
-            b"b: write fault\n",
-            NOTHING,
-        ),
-        (
-            &ONE_TERM,
-            "import a b",
-            write(1),
-            5,
-            b"b: write fault\n",
-            &ONE_TERM_INDEX,
-        ),
-        (
-            &ONE_TERM,
-            "import a b",
-            write(2),
-            5,
-            b"b: write fault\n",
-            &ONE_TERM_INDEX,
-        ),
-        (
-            &ONE_TERM,
-            "import a b",
-            put,
-            5,
-            b"output: write fault\n",
-            &ONE_TERM_INDEX,
-        ),
-        (
-            &ONE_TERM_INDEX,
-            "check a",
-            put,
-            5,
-            b"output: write fault\n",
-            NOTHING,
-        ),
+    let read = b"a: read fault\n";
+    let write = b"b: write fault\n";
+    let put = b"output: write fault\n";
+    let made = Some(ONE_TERM_INDEX.as_slice());
+    let exported = Some(ONE_TERM_EXPORT.as_slice());
+    let rewritten = Some(ONE_TERM.as_slice());
+    let table: [Case; 12] = [
+        (&SLOPPY, "rewrite a b", Call::Read, 4, read, None),
+        (&SLOPPY, "rewrite a b", Call::Write, 5, write, rewritten),
+        (&ONE_TERM, "import a b", Call::Read, 4, read, made),
+        (&ONE_TERM, "import a b", Call::Write, 5, write, made),
+        (&ONE_TERM, "import a b", Call::Put, 5, put, made),
+        (&ONE_TERM_INDEX, "check a", Call::Read, 4, read, None),
+        (&ONE_TERM_INDEX, "check a", Call::Put, 5, put, None),
+        (&ONE_TERM_INDEX, "export a b", Call::Read, 4, read, None),
         (
             &ONE_TERM_INDEX,
             "export a b",
-            read(0),
-            4,
-            b"a: read fault\n",
-            NOTHING,
-        ),
-        (
-            &ONE_TERM_INDEX,
-            "export a b",
-            read(1),
-            4,
-            b"a: read fault\n",
-            NOTHING,
-        ),
-        (
-            &ONE_TERM_INDEX,
-            "export a b",
-            write(0),
+            Call::Write,
             5,
-            b"b: write fault\n",
-            NOTHING,
+            write,
+            exported,
         ),
-        (
-            &ONE_TERM_INDEX,
-            "export a b",
-            write(1),
-            5,
-            b"b: write fault\n",
-            &ONE_TERM_EXPORT,
-        ),
+        (&ONE_TERM_OLD, "migrate a b", Call::Read, 4, read, None),
+        (&ONE_TERM_OLD, "migrate a b", Call::Write, 5, write, made),
+        (&ONE_TERM_OLD, "migrate a b", Call::Put, 5, put, made),
     ];
-    for (content, words, bad, status, notes, whole) in table {
-        let Ok(left) = outcome_of(rt.alloc(), content, words, bad) else {
-            assert!(&rt; false, "no memory");
-            return;
-        };
-        assert_eq!(&rt; left.status, status, "{words}");
-        assert!(&rt; left.out.is_empty(), "{words}");
-        assert!(&rt; left.notes.as_slice() == notes, "{words}");
-        assert!(&rt; left.holds_prefix_of(whole), "{words}");
+    for case in table {
+        let words = case.1;
+        assert!(&rt;
+            each_ends(rt.alloc(), case).is_ok_and(|ends| ends),
+            "{words}"
+        );
     }
 }

@@ -1,8 +1,8 @@
-// `rewrite` on small files and a large one, and with writes that fail.
+// `rewrite` on small files and a large one.
 
 ghost use Rattle.std.specs.Prelude.{◌≡◌, ◌<◌};
 
-use super::{ONE_TERM, SLOPPY, TWO_TERMS, listed, parted};
+use super::{ONE_TERM, SLOPPY, TWO_TERMS, parted};
 use crate::run;
 use jass_base::{MemCabinet, MemSink, Row, SliceFeed, Steps};
 use std::alloc::{AllocError, Global};
@@ -25,28 +25,15 @@ impl Rewritten {
             None => false,
         }
     }
-
-    fn holds_prefix_of(&self, text: &[u8]) -> bool {
-        match &self.content {
-            Some(content) => text.starts_with(content.as_slice()),
-            None => true,
-        }
-    }
 }
 
-/// Rewrites a file into another, whose write call of this number fails.
-fn rewrite_by<L: Ledger>(
-    alloc: Global,
-    blank: Blank,
-    ciff: &[u8],
-    bad_write: u64,
-) -> Result<Rewritten, AllocError>
+/// Rewrites a file into another.
+fn rewrite_by<L: Ledger>(alloc: Global, blank: Blank, ciff: &[u8]) -> Result<Rewritten, AllocError>
     requires name { blank.name ≡ L.name }
     requires parts { blank.parts ≡ L.parts }
     requires some { 0 < blank.parts }
 {
-    let bad_writes = listed(alloc, &[bad_write])?;
-    let mut files = MemCabinet::new(alloc, Row::new(alloc), bad_writes);
+    let mut files = MemCabinet::new(alloc, Row::new(alloc), Row::new(alloc));
     if files.store("b.ciff", ciff).is_err() {
         return Err(AllocError);
     }
@@ -76,8 +63,8 @@ fn rewrite_by<L: Ledger>(
 }
 
 /// The same with a fresh ledger.
-fn rewrite_file(alloc: Global, ciff: &[u8], bad_write: u64) -> Result<Rewritten, AllocError> {
-    rewrite_by::<Brand>(alloc, Blank::new(1), ciff, bad_write)
+fn rewrite_file(alloc: Global, ciff: &[u8]) -> Result<Rewritten, AllocError> {
+    rewrite_by::<Brand>(alloc, Blank::new(1), ciff)
 }
 
 /// A canonical file of 88 KB: 120 documents and 120 terms, which have 119 postings each.
@@ -136,7 +123,7 @@ fn a_large_file_gives_itself(rt: HostRuntime) {
         assert!(&rt; false, "no memory");
         return;
     };
-    let Ok(left) = rewrite_file(rt.alloc(), large.as_slice(), 9) else {
+    let Ok(left) = rewrite_file(rt.alloc(), large.as_slice()) else {
         assert!(&rt; false, "no memory");
         return;
     };
@@ -153,7 +140,7 @@ fn files_are_rewritten(rt: HostRuntime) {
         (&[0], &[0]),
     ];
     for (ciff, canonical) in table {
-        let Ok(left) = rewrite_file(rt.alloc(), ciff, 9) else {
+        let Ok(left) = rewrite_file(rt.alloc(), ciff) else {
             assert!(&rt; false, "no memory");
             return;
         };
@@ -161,21 +148,4 @@ fn files_are_rewritten(rt: HostRuntime) {
         assert!(&rt; left.notes.is_empty());
         assert!(&rt; left.holds(canonical));
     }
-}
-
-#[test]
-fn failed_writes_leave_a_prefix(rt: HostRuntime) {
-    for bad_write in 0..9u64 {
-        let Ok(left) = rewrite_file(rt.alloc(), &SLOPPY, bad_write) else {
-            assert!(&rt; false, "no memory");
-            return;
-        };
-        if left.status == 0 {
-            return;
-        }
-        assert_eq!(&rt; left.status, 5);
-        assert!(&rt; left.notes.as_slice() == b"c.ciff: write fault\n".as_slice());
-        assert!(&rt; left.holds_prefix_of(&ONE_TERM));
-    }
-    assert!(&rt; false, "no run was done");
 }

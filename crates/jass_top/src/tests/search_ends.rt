@@ -1,9 +1,9 @@
 // How a search ends at its limits, and where a call fails.
 
 use super::searching::{
-    CAT_DOG, CAT_DOG_REPORTS, CAT_DOG_RUN, CAT_DOG_WORDS, NEVER, NOTHING, searched,
+    CAT_DOG, CAT_DOG_REPORTS, CAT_DOG_RUN, CAT_DOG_WORDS, Left, NOTHING, OLD, searched,
 };
-use super::{ONE_TERM, TWO_TERMS};
+use super::{Bad, Call, NONE, ONE_TERM, TWO_TERMS, only};
 use std::alloc::{AllocError, Global};
 
 /// The front of a collection of one document and 257 terms, each with one posting: its header.
@@ -61,28 +61,16 @@ fn heaviest_query(alloc: Global, behind: &[u8]) -> Result<Vec<u8>, AllocError> {
 
 #[test]
 fn queries_reach_their_limits(rt: HostRuntime) {
-    let table: [(&[u8], u8, &[u8], &[u8], Option<&[u8]>); 3] = [
+    let table: [(&[u8], u8, &[u8], &[u8], &[u8]); 3] = [
         (
             b"",
             0,
             b"q postings 256 segments 256 of 256 cutoff 16711425 next 0 bound 0 unknown 0 final\n",
             NOTHING,
-            Some(b"q Q0 d0 1 4278124800 jass\n"),
+            b"q Q0 d0 1 4278124800 jass\n",
         ),
-        (
-            b" u00",
-            3,
-            NOTHING,
-            b"queries: refusal 52 at line 1\n",
-            None,
-        ),
-        (
-            b" t00",
-            3,
-            NOTHING,
-            b"queries: refusal 53 at line 1\n",
-            None,
-        ),
+        (b" u00", 3, NOTHING, b"queries: refusal 52 at line 1\n", OLD),
+        (b" t00", 3, NOTHING, b"queries: refusal 53 at line 1\n", OLD),
     ];
     for (behind, status, out, notes, run) in table {
         let Ok(ciff) = many_terms(rt.alloc()) else {
@@ -94,51 +82,80 @@ fn queries_reach_their_limits(rt: HostRuntime) {
             return;
         };
         let words = "search index queries run";
-        let Ok(left) = searched(
-            rt.alloc(),
-            ciff.as_slice(),
-            queries.as_slice(),
-            words,
-            NEVER,
-            NEVER,
-        ) else {
+        let Ok(left) = searched(rt.alloc(), ciff.as_slice(), queries.as_slice(), words, NONE) else {
             assert!(&rt; false, "no memory");
             return;
         };
         assert_eq!(&rt; left.status, status);
         assert!(&rt; left.out.as_slice() == out);
         assert!(&rt; left.notes.as_slice() == notes);
-        match run {
-            Some(run) => assert!(&rt; left.run_is(run)),
-            None => assert!(&rt; left.run.is_none()),
-        }
+        assert!(&rt; left.run_is(run));
     }
 }
 
-/// The index is made by four write calls: what stands before the payloads by 0 and 1, and the
-/// payloads of each term by one.
+/// Whether each search in which one call fails ends as told, from the first call on until a search is done. Its note
+/// is the first of two where the first call fails.
+fn each_search_ends(
+    alloc: Global,
+    call: Call,
+    status: u8,
+    first: &[u8],
+    second: &[u8],
+) -> Result<bool, AllocError> {
+    for number in 0..40 {
+        let bad = only(call, number);
+        let left = searched(alloc, &TWO_TERMS, CAT_DOG, CAT_DOG_WORDS, bad)?;
+        if left.status == 0 {
+            return Ok(number > 0 && left.notes.is_empty());
+        }
+        let muted = Bad { notes: 0, ..bad };
+        let muted = searched(alloc, &TWO_TERMS, CAT_DOG, CAT_DOG_WORDS, muted)?;
+        let notes = left.notes.as_slice();
+        if left.status != status
+            || !(notes == first || number > 0 && notes == second)
+            || !has_fronts(&left, call, number)
+            || !muted.is_muted(&left)
+        {
+            return Ok(false);
+        }
+    }
+    Ok(false)
+}
+
+/// Whether the run and the reports are as before the search where a read fails, and else fronts of their texts. The run
+/// is as before where the first write of a file fails, and it is not where another does.
+fn has_fronts(left: &Left, call: Call, number: u64) -> bool {
+    if matches!(call, Call::Read) {
+        return left.run_is(OLD) && left.out.is_empty();
+    }
+    let is_run = if matches!(call, Call::Write) && number == 0 {
+        left.run_is(OLD)
+    } else {
+        left.run_begins(CAT_DOG_RUN)
+    };
+    is_run && CAT_DOG_REPORTS.starts_with(left.out.as_slice())
+}
+
 #[test]
 fn failed_calls_of_a_search_are_noted(rt: HostRuntime) {
-    let table: [(u64, u64, &[u8]); 2] = [
-        (5, NEVER, b"run: write fault\n"),
-        (NEVER, 0, b"output: write fault\n"),
+    let table: [(Call, u8, &[u8], &[u8]); 3] = [
+        (
+            Call::Read,
+            4,
+            b"index: read fault\n",
+            b"queries: read fault\n",
+        ),
+        (Call::Write, 5, b"run: write fault\n", b"run: write fault\n"),
+        (
+            Call::Put,
+            5,
+            b"output: write fault\n",
+            b"output: write fault\n",
+        ),
     ];
-    for (bad_write, bad_put, notes) in table {
-        let Ok(left) = searched(
-            rt.alloc(),
-            &TWO_TERMS,
-            CAT_DOG,
-            CAT_DOG_WORDS,
-            bad_write,
-            bad_put,
-        ) else {
-            assert!(&rt; false, "no memory");
-            return;
-        };
-        assert_eq!(&rt; left.status, 5);
-        assert!(&rt; CAT_DOG_REPORTS.starts_with(left.out.as_slice()));
-        assert!(&rt; left.notes.as_slice() == notes);
-        assert!(&rt; left.run_begins(CAT_DOG_RUN));
+    for (call, status, first, second) in table {
+        let ended = each_search_ends(rt.alloc(), call, status, first, second);
+        assert!(&rt; ended.is_ok_and(|ended| ended));
     }
 }
 
@@ -150,7 +167,8 @@ fn a_run_goes_before_its_reports(rt: HostRuntime) {
         return;
     };
     let words = "search index queries run";
-    let Ok(left) = searched(rt.alloc(), &ONE_TERM, queries.as_slice(), words, 4, NEVER) else {
+    let bad = only(Call::Write, 1);
+    let Ok(left) = searched(rt.alloc(), &ONE_TERM, queries.as_slice(), words, bad) else {
         assert!(&rt; false, "no memory");
         return;
     };

@@ -2,7 +2,7 @@
 
 ghost use Rattle.std.specs.Prelude.{◌≡◌, ◌<◌};
 
-use super::{LATER_FIRST, LEVEL_AT_LAST, ONE_TERM, TWO_TERMS, listed, parted};
+use super::{Bad, LATER_FIRST, LEVEL_AT_LAST, NONE, ONE_TERM, TWO_TERMS, listed, parted};
 use crate::run;
 use jass_base::{MemCabinet, MemSink, Row, SliceFeed, Steps};
 use std::alloc::{AllocError, Global};
@@ -28,8 +28,8 @@ pub(super) const CAT_DOG_RUN: &[u8] = b"\
 301 Q0 d0 1 3 jass.2\n\
 301 Q0 d1 2 3 jass.2\n";
 
-/// No call, since there are fewer.
-pub(super) const NEVER: u64 = 1_000_000;
+/// What the file `run` holds before a search.
+pub(super) const OLD: &[u8] = b"old";
 
 /// What a search left.
 #[derive(Drop)]
@@ -37,27 +37,29 @@ pub(super) struct Left {
     pub(super) status: u8,
     pub(super) out: Vec<u8>,
     pub(super) notes: Vec<u8>,
-    /// The content of the file `run`, where it is there.
-    pub(super) run: Option<Vec<u8>>,
+    /// The content of the file `run`.
+    pub(super) run: Vec<u8>,
 }
 
 impl Left {
     pub(super) fn run_is(&self, text: &[u8]) -> bool {
-        match &self.run {
-            Some(run) => run.as_slice() == text,
-            None => false,
-        }
+        self.run.as_slice() == text
     }
 
     pub(super) fn run_begins(&self, text: &[u8]) -> bool {
-        match &self.run {
-            Some(run) => text.starts_with(run.as_slice()),
-            None => false,
-        }
+        text.starts_with(self.run.as_slice())
+    }
+
+    /// Whether nothing was noted, and all else is as after another search.
+    pub(super) fn is_muted(&self, other: &Left) -> bool {
+        self.notes.is_empty()
+            && self.status == other.status
+            && self.out.as_slice() == other.out.as_slice()
+            && self.run_is(other.run.as_slice())
     }
 }
 
-/// Makes the index file of a collection, and runs the words of a search over it and queries.
+/// Makes the index file of a collection, and runs the words of a search over it and queries, in which calls fail.
 fn searched_by<L: Ledger>(
     alloc: Global,
     blank: Blank,
@@ -65,37 +67,48 @@ fn searched_by<L: Ledger>(
     queries: &[u8],
     making: &[String],
     words: &[String],
-    bad_write: u64,
-    bad_put: u64,
+    bad: Bad,
 ) -> Result<Left, AllocError>
     requires name { blank.name ≡ L.name }
     requires parts { blank.parts ≡ L.parts }
     requires some { 0 < blank.parts }
 {
-    let mut files = MemCabinet::new(alloc, Row::new(alloc), listed(alloc, &[bad_write])?);
-    if files.store("ciff", ciff).is_err() || files.store("queries", queries).is_err() {
+    let mut first = MemCabinet::new(alloc, Row::new(alloc), Row::new(alloc));
+    if first.store("ciff", ciff).is_err() {
         return Err(AllocError);
     }
     let mut input = SliceFeed::new(b"");
     let mut totals = MemSink::new(alloc, Row::new(alloc));
-    let mut out = MemSink::new(alloc, listed(alloc, &[bad_put])?);
-    let mut notes = MemSink::new(alloc, Row::new(alloc));
+    let mut out = MemSink::new(alloc, listed(alloc, &[bad.puts])?);
+    let mut notes = MemSink::new(alloc, listed(alloc, &[bad.notes])?);
     let mut steps = Steps::<L>::new(blank);
     let _ = run(
         alloc,
         making,
-        &mut files,
+        &mut first,
         &mut input,
         &mut totals,
         &mut notes,
         &mut steps,
     );
+    let Some(index) = first.content("index") else {
+        return Err(AllocError);
+    };
+    let bad_reads = listed(alloc, &[bad.reads])?;
+    let bad_writes = listed(alloc, &[bad.writes])?;
+    let mut files = MemCabinet::new(alloc, bad_reads, bad_writes);
+    if files.store("index", index).is_err()
+        || files.store("queries", queries).is_err()
+        || files.store("run", OLD).is_err()
+    {
+        return Err(AllocError);
+    }
     let status = run(
         alloc, words, &mut files, &mut input, &mut out, &mut notes, &mut steps,
     );
     let run = match files.content("run") {
-        Some(bytes) => Some(Vec::from_slice(alloc, bytes)?),
-        None => None,
+        Some(bytes) => Vec::from_slice(alloc, bytes)?,
+        None => Vec::new(alloc),
     };
     Ok(Left {
         status: status.number(),
@@ -111,8 +124,7 @@ pub(super) fn searched(
     ciff: &[u8],
     queries: &[u8],
     words: &str,
-    bad_write: u64,
-    bad_put: u64,
+    bad: Bad,
 ) -> Result<Left, AllocError> {
     let making = parted(alloc, "import ciff index")?;
     let words = parted(alloc, words)?;
@@ -123,8 +135,7 @@ pub(super) fn searched(
         queries,
         making.as_slice(),
         words.as_slice(),
-        bad_write,
-        bad_put,
+        bad,
     )
 }
 
@@ -251,7 +262,7 @@ fn queries_are_answered(rt: HostRuntime) {
         ),
     ];
     for (ciff, queries, words, out, run) in table {
-        let Ok(left) = searched(rt.alloc(), ciff, queries, words, NEVER, NEVER) else {
+        let Ok(left) = searched(rt.alloc(), ciff, queries, words, NONE) else {
             assert!(&rt; false, "no memory");
             return;
         };

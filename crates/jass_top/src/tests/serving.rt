@@ -2,16 +2,13 @@
 
 ghost use Rattle.std.specs.Prelude.{◌≡◌, ◌<◌};
 
-use super::{ONE_TERM, TWO_TERMS, listed, parted};
+use super::{NEVER, ONE_TERM, TWO_TERMS, listed, parted};
 use crate::run;
 use itoa::Buffer;
 use jass_base::{Failed, Feed, MemCabinet, MemFeed, MemSink, Row, Steps};
 use std::alloc::{AllocError, Global};
 use std::marker::Brand;
 use std::sync::ledger::{Blank, Ledger};
-
-/// No call, since there are fewer.
-const NEVER: u64 = 1_000_000;
 
 /// A feed of so many bytes `x`, which it doesn't hold.
 #[derive(Drop)]
@@ -73,7 +70,8 @@ struct Left {
     notes: Vec<u8>,
 }
 
-/// Makes the index file of a collection, and runs words over it and an input. The output's puts fail where named.
+/// Makes the index file of a collection, and runs words over it and an input. Puts on the output
+/// and on the notes fail where named.
 fn served_by<I: Feed, L: Ledger>(
     alloc: Global,
     blank: Blank,
@@ -82,6 +80,7 @@ fn served_by<I: Feed, L: Ledger>(
     words: &[String],
     input: &mut I,
     bad_put: u64,
+    bad_note: u64,
 ) -> Result<Left, AllocError>
     requires name { blank.name ≡ L.name }
     requires parts { blank.parts ≡ L.parts }
@@ -93,7 +92,7 @@ fn served_by<I: Feed, L: Ledger>(
     }
     let mut totals = MemSink::new(alloc, Row::new(alloc));
     let mut out = MemSink::new(alloc, listed(alloc, &[bad_put])?);
-    let mut notes = MemSink::new(alloc, Row::new(alloc));
+    let mut notes = MemSink::new(alloc, listed(alloc, &[bad_note])?);
     let mut steps = Steps::<L>::new(blank);
     let _ = run(
         alloc,
@@ -121,6 +120,7 @@ fn served_from<I: Feed>(
     words: &str,
     input: &mut I,
     bad_put: u64,
+    bad_note: u64,
 ) -> Result<Left, AllocError> {
     let making = parted(alloc, "import ciff index")?;
     let words = parted(alloc, words)?;
@@ -132,6 +132,7 @@ fn served_from<I: Feed>(
         words.as_slice(),
         input,
         bad_put,
+        bad_note,
     )
 }
 
@@ -143,10 +144,11 @@ fn served(
     lines: &[u8],
     bad_read: u64,
     bad_put: u64,
+    bad_note: u64,
 ) -> Result<Left, AllocError> {
     let bytes = Row::from_vec(Vec::from_slice(alloc, lines)?);
     let mut input = MemFeed::new(bytes, listed(alloc, &[bad_read])?);
-    served_from(alloc, ciff, words, &mut input, bad_put)
+    served_from(alloc, ciff, words, &mut input, bad_put, bad_note)
 }
 
 #[test]
@@ -179,6 +181,7 @@ fn lines_are_answered(rt: HostRuntime) {
             ciff,
             "serve index frames=2",
             lines,
+            NEVER,
             NEVER,
             NEVER,
         ) else {
@@ -229,13 +232,18 @@ fn serving_may_stop(rt: HostRuntime) {
         ("serve index frames=0", NEVER, NEVER, 2, b"", b"word 3\n"),
     ];
     for (words, bad_read, bad_put, status, out, notes) in table {
-        let Ok(left) = served(
-            rt.alloc(),
-            &ONE_TERM,
-            words,
-            b"top z\ntop z",
-            bad_read,
-            bad_put,
+        let lines = b"top z\ntop z";
+        let (Ok(left), Ok(muted)) = (
+            served(
+                rt.alloc(),
+                &ONE_TERM,
+                words,
+                lines,
+                bad_read,
+                bad_put,
+                NEVER,
+            ),
+            served(rt.alloc(), &ONE_TERM, words, lines, bad_read, bad_put, 0),
         ) else {
             assert!(&rt; false, "no memory");
             return;
@@ -243,6 +251,11 @@ fn serving_may_stop(rt: HostRuntime) {
         assert_eq!(&rt; left.status, status, "{words}");
         assert!(&rt; left.out.as_slice() == out, "{words}");
         assert!(&rt; left.notes.as_slice() == notes, "{words}");
+        assert_eq!(&rt; muted.status, status, "{words}");
+        assert!(&rt;
+            muted.out.as_slice() == out && muted.notes.is_empty(),
+            "{words}"
+        );
     }
 }
 
@@ -256,7 +269,7 @@ fn inputs_may_be_long(rt: HostRuntime) {
     for (size, status, out, notes) in table {
         let mut input = Repeated { left: size };
         let words = "serve index frames=2";
-        let Ok(left) = served_from(rt.alloc(), &ONE_TERM, words, &mut input, NEVER) else {
+        let Ok(left) = served_from(rt.alloc(), &ONE_TERM, words, &mut input, NEVER, NEVER) else {
             assert!(&rt; false, "no memory");
             return;
         };

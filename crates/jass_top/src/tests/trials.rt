@@ -38,7 +38,7 @@ fn trials_print_a_summary(rt: HostRuntime) {
         ("trial 2147483648 4 1 1", &[], 2, b"", b"word 2\n"),
     ];
     for (words, bad_puts, status, out, notes) in table {
-        let Ok(left) = ran(rt.alloc(), &[], words, &[], bad_puts) else {
+        let Ok(left) = ran(rt.alloc(), &[], words, &[], bad_puts, &[]) else {
             assert!(&rt; false, "no memory");
             return;
         };
