@@ -26,6 +26,13 @@ impl Draws {
         Draws { state: seed }
     }
 
+    /// The same numbers again.
+    pub(crate) fn again(&self) -> Draws
+        ensures { result ≡ self.now }
+    {
+        Draws { state: self.state }
+    }
+
     /// The next number, below 2^23.
     #[tactic(auto, unfolding(crate::specs::Generator::next_state, crate::specs::Generator::drawn))]
     pub fn next(&mut self) -> u32

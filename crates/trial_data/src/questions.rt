@@ -1,4 +1,4 @@
-ghost use Rattle.std.specs.Prelude.{◌≡◌, ◌<◌, ◌%◌, map, IfOk, OnOk};
+ghost use Rattle.std.specs.Prelude.{◌≡◌, ◌<◌, ◌%◌, map, IfOk, OnErr, OnOk};
 ghost use Rattle.std.specs.String.{string_bytes};
 ghost use Rattle.trial_data.specs.Generator.{drawn, next_state};
 ghost use Rattle.trial_data.specs.Trials.{query_state, query_words, term_name};
@@ -9,17 +9,22 @@ use jass_base::NoMemory;
 use std::alloc::Global;
 
 /// The words of the next query: three of so many terms, of which there is at least one. Where memory
-/// is refused, some of them may have been drawn.
+/// is refused, none of them was drawn.
 pub fn draw_query(alloc: Global, draws: &mut Draws, terms: u32) -> Result<Vec<String>, NoMemory>
     requires { 0 < terms }
     ensures words { IfOk result (λ words. map string_bytes words.items ≡ query_words terms draws.old) }
     ensures state { OnOk result (draws.new ≡ query_state draws.old) }
+    ensures kept { OnErr result (draws.new ≡ draws.old) }
 {
-    let first = draw_word(alloc, draws, terms)?;
-    let second = draw_word(alloc, draws, terms)?;
-    let third = draw_word(alloc, draws, terms)?;
+    let mut later = draws.again();
+    let first = draw_word(alloc, &mut later, terms)?;
+    let second = draw_word(alloc, &mut later, terms)?;
+    let third = draw_word(alloc, &mut later, terms)?;
     match Vec::from_array(alloc, [first, second, third]) {
-        Ok(words) => Ok(words),
+        Ok(words) => {
+            *draws = later;
+            Ok(words)
+        }
         Err(_) => Err(NoMemory),
     }
 }
