@@ -3,7 +3,7 @@ use Rattle.std.proofs.Common.{◌≡◌, ◌≤◌, ℕ, List, [], ◌∷◌, ap
 use Rattle.jass_base.specs.Writing.{Rose-earlier}
 use Rattle.jass_top.specs.declared.stop.Stop.{Stop}
 use Rattle.jass_top.specs.declared.stop.Stop.TheVariants as stops
-use Rattle.jass_top.specs.Causes.{IsOneOf, Unread}
+use Rattle.jass_top.specs.Causes.{IsOneOf, Unheld, Unread}
 use Rattle.jass_top.specs.Judging.{Judged, Accepted, Refuses, Untold, Shows, behind}
 
 pub shown_then : {A B : Type 0} (judged : Judged A) (x : A) (next : A → Judged B) (other : Judged B) → Shows judged (Accepted x) → Shows (next x) other → Shows (behind judged next) other
@@ -38,3 +38,12 @@ unread_then first more judged x next before mid after (stops.ReadFault name) (in
 unread_then first more judged x next before mid after (stops.ReadFault name) (inr had) untold later (one, inr is) = (inr one, inr (ap (λ j. behind j next) had ∙ is))
 unread_then first more judged x next before mid after (stops.WriteFault name) shows untold later why = why
 unread_then first more judged x next before mid after stops.InputLimit shows untold later why = why
+
+-- the index wasn't held
+pub unheld_first : {A B : Type 0} (reads : List (List ℕ)) (judged : Judged A) (next : A → Judged B) (stop : Stop) → Unheld reads judged stop → Unheld reads (behind judged next) stop
+unheld_first reads judged next stops.NoMemory why = tt
+unheld_first reads judged next (stops.Refused name number at) (one, inl untold) = (one, inl (ap (λ j. behind j next) untold))
+unheld_first reads judged next (stops.Refused name number at) (one, inr is) = (one, inr (ap (λ j. behind j next) is))
+unheld_first reads judged next (stops.ReadFault name) why = why
+unheld_first reads judged next (stops.WriteFault name) why = why
+unheld_first reads judged next stops.InputLimit why = why

@@ -7,7 +7,7 @@ use Rattle.jass_top.specs.declared.status.Status.TheVariants as status
 use Rattle.jass_top.specs.Judging.{Judged, Accepted, Missing, Refuses, Untold, Shows, IsUnaccepted}
 use Rattle.jass_top.specs.Meanings.{Meaning}
 use Rattle.jass_top.specs.Standing.{Keeps, Does, Stands}
-use Rattle.jass_top.specs.Causes.{Stopped, Unread}
+use Rattle.jass_top.specs.Causes.{Stopped}
 use Rattle.jass_top.specs.Endings.{Noted, Ends}
 use Rattle.jass_top.specs.Stops.{status_of, stop_text}
 use Rattle.jass_top.specs.Worlds.{Outer, World}
@@ -41,14 +41,6 @@ kept : (m : Meaning) (before after : Outer) → Stands m before after → IsUnac
 kept m before after (inl keeps) unaccepted = keeps
 kept m before after (inr (inl counts)) unaccepted = both_ways (m.judge before.told) counts.had.inputs counts.had.accepted unaccepted
 kept m before after (inr (inr part)) unaccepted = both_ways (m.judge before.told) part.1.inputs part.1.accepted unaccepted
-
--- inputs that weren't had stop the command before it leaves anything
-pub unread : (m : Meaning) (before after : Outer) (stop : Stop) → Keeps before after → Unread m.reads (m.judge before.told) before.read_faults after.read_faults stop → Stopped m before after stop
-unread m before after stops.NoMemory keeps why = inl keeps
-unread m before after (stops.Refused name number at) keeps why = (why.0, why.1, keeps)
-unread m before after (stops.ReadFault name) keeps why = (why.0, why.1, inl keeps)
-unread m before after (stops.WriteFault name) keeps why = absurd why
-unread m before after stops.InputLimit keeps why = absurd why
 
 pub ends_done : (m : Meaning) (before after : World) → Does m before.outer after.outer → after.left ≡ before.left → after.noted ≡ before.noted → after.note_faults ≡ before.note_faults → Ends m before after status.Done
 ends_done m before after does feed quiet note_faults = record {

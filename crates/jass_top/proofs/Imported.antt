@@ -73,6 +73,7 @@ module _ (ciff : List ℕ) (rule : Rule) (bits : Bits) (index : List ℕ) (befor
         content = inr part;
         text = (0, subst (λ (w : Option (List ℕ)). Appends before.written w []) (sym written) (Appends-none before.written));
         steps = omega (arith, steps);
+        never_less = omega (arith, steps);
       };
     },
   ))

@@ -66,6 +66,7 @@ module _ {A : Type 0} (input : List ℕ) (file : Option (List ℕ)) (IsOutput : 
       content = subst (λ told. LeavesFront file told after.told is.output.content) read.told is.left.content;
       text = subst (λ written. AppendsPrefix written after.written is.output.text) read.written is.left.text;
       steps = subst (λ steps. after.steps ≤ steps + is.output.steps) read.steps is.left.steps;
+      never_less = subst (λ steps. steps ≤ after.steps) read.steps is.left.never_less;
     };
   }
 
@@ -74,6 +75,7 @@ module _ {A : Type 0} (input : List ℕ) (file : Option (List ℕ)) (IsOutput : 
     counting = is.counting;
     told = is.told ∙ read.told;
     written = is.written ∙ read.written;
+    never_less = subst (λ steps. steps ≤ after.steps) read.steps is.never_less;
     had = record {
       inputs = is.had.inputs;
       output = is.had.output;

@@ -115,7 +115,7 @@ LeaveOutputs = (file : FileView) (search : Search) (queries : List QueryData) �
 
 pub part_left : LeaveOutputs → (index queries run : List ℕ) (search : Search) (mode : Mode) (file : FileView) (asked : List QueryData) (told : Option Files) (before after : Outer) → IsFileView file → told ≡ before.told
     → Shows (judge_search index queries mode before.told) (Accepted (record { file = file; queries = asked })) → LeavesFront (Some run) told after.told (search_output file search asked).content
-    → AppendsPrefix before.written after.written (search_output file search asked).text → after.steps ≤ before.steps + (search_output file search asked).steps → DoesPart (search_meaning index queries run search mode) before after
+    → AppendsPrefix before.written after.written (search_output file search asked).text → (before.steps ≤ after.steps) × (after.steps ≤ before.steps + (search_output file search asked).steps) → DoesPart (search_meaning index queries run search mode) before after
 part_left law index queries run search mode file asked told before after view same accepted content text steps = record {
   inputs = record { file = file; queries = asked };
   output = search_output file search asked;
@@ -124,6 +124,7 @@ part_left law index queries run search mode file asked told before after view sa
   left = record {
     content = subst (λ old. LeavesFront (Some run) old after.told (search_output file search asked).content) same content;
     text = text;
-    steps = steps;
+    steps = steps.1;
+    never_less = steps.0;
   };
 }

@@ -227,6 +227,7 @@ module _ {S : Type 0} {written : S → Option (List ℕ)} {faults : S → ℕ} {
           had = had before left s.taken s.consumed;
           text = subst (λ (t : List ℕ). AppendsPrefix (written old) (written out) t) (sym front.replies) (AppendsPrefix-longer (written old) (written out) (s.said ++ a.text) front.others side.bytes);
           scored = omega (arith, s.counted, a.counted, front.steps);
+          never_less = omega (arith, s.counted, a.counted);
         };
         taken = (s.taken, s.consumed);
         never_less = side.later;
@@ -292,6 +293,7 @@ module _ {S : Type 0} {written : S → Option (List ℕ)} {faults : S → ℕ} {
           serves = record {
             input = s.taken ++ rest_of left;
             had = had before left s.taken s.consumed;
+            consumed = subst (λ (t : List ℕ). Consumes before left t) (sym front) s.consumed;
             long = omega (arith, size, length-append s.taken (rest_of left));
             endless = ap has_end lines ∙ s.stands.endless;
             replies = record {
@@ -340,6 +342,7 @@ module _ {S : Type 0} {written : S → Option (List ℕ)} {faults : S → ℕ} {
           had = subst (λ (t : List ℕ). IsInput before t) (sym (append-nil s.taken)) (had_all before left s.taken s.consumed end);
           text = subst (λ (t : List ℕ). AppendsPrefix (written old) (written out) t) (sym front.replies) (AppendsPrefix-longer (written old) (written out) (s.said ++ a.text) front.others side.bytes);
           scored = omega (arith, s.counted, a.counted, front.steps);
+          never_less = omega (arith, s.counted, a.counted);
         };
         taken = (s.taken, s.consumed);
         never_less = side.later;

@@ -1,8 +1,8 @@
--- How a command stops that could not have its inputs, before it left anything.
+-- How a command stops that could not hold an index file in memory, before it left anything.
 use Rattle.std.proofs.Common.{refl, inl}
 use Rattle.jass_top.specs.declared.stop.Stop.{Stop}
 use Rattle.jass_top.specs.declared.stop.Stop.TheVariants as stops
-use Rattle.jass_top.specs.Causes.{Stopped, Unread}
+use Rattle.jass_top.specs.Causes.{Stopped, Unheld}
 use Rattle.jass_top.specs.Meanings.{Meaning}
 use Rattle.jass_top.specs.Standing.{Keeps}
 use Rattle.jass_top.specs.Worlds.{Outer}
@@ -10,9 +10,9 @@ use Rattle.jass_top.specs.Worlds.{Outer}
 same : (x : Outer) → Keeps x x
 same x = record { told = refl; written = refl; steps = refl }
 
-pub stopped : (m : Meaning) (x : Outer) (stop : Stop) → Unread m.reads (m.judge x.told) x.read_faults x.read_faults stop → Stopped m x x stop
-stopped m x stops.NoMemory unread = inl (same x)
-stopped m x (stops.Refused name number at) unread = (unread.0, unread.1, same x)
-stopped m x (stops.ReadFault name) unread = (unread.0, unread.1, inl (same x))
-stopped m x (stops.WriteFault name) unread = absurd unread
-stopped m x stops.InputLimit unread = absurd unread
+pub stopped : (m : Meaning) (x : Outer) (stop : Stop) → Unheld m.reads (m.judge x.told) stop → Stopped m x x stop
+stopped m x stops.NoMemory unheld = inl (same x)
+stopped m x (stops.Refused name number at) unheld = (unheld.0, unheld.1, same x)
+stopped m x (stops.ReadFault name) unheld = absurd unheld
+stopped m x (stops.WriteFault name) unheld = absurd unheld
+stopped m x stops.InputLimit unheld = absurd unheld

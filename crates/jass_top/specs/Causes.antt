@@ -32,13 +32,22 @@ Unread reads judged before after (ReadFault name) = IsOneOf reads name.now × Re
 Unread reads judged before after (WriteFault name) = ⊥
 Unread reads judged before after InputLimit = ⊥
 
+-- why an index isn't held in memory as the index file of an input of these names: nothing is read
+abbrev pub Unheld : {A : Type 0} → List (List ℕ) → Judged A → Stop → Type 0
+Unheld reads judged NoMemory = ⊤
+Unheld reads judged (Refused name number at) =
+    IsOneOf reads name.now × Shows judged (Refuses name.now number at)
+Unheld reads judged (ReadFault name) = ⊥
+Unheld reads judged (WriteFault name) = ⊥
+Unheld reads judged InputLimit = ⊥
+
 -- why a command stopped, and what then stands
 abbrev pub Stopped : Meaning → Outer → Outer → Stop → Type 0
 Stopped m before after NoMemory = Stands m before after
 Stopped m before after (Refused name number at) =
     IsOneOf m.reads name.now × Shows (m.judge before.told) (Refuses name.now number at) × Keeps before after
 Stopped m before after (ReadFault name) =
-    IsOneOf m.reads name.now × ReadFailed (m.judge before.told) before.read_faults after.read_faults name.now
+    IsOneOf m.files name.now × ReadFailed (m.judge before.told) before.read_faults after.read_faults name.now
     × Stands m before after
 Stopped m before after (WriteFault name) = WriteFailed m before after name.now × DoesPart m before after
 Stopped m before after InputLimit = ⊥

@@ -9,6 +9,7 @@ use Rattle.jass_top.specs.Meanings.{Meaning}
 abbrev pub check_meaning : List ℕ → Meaning
 check_meaning index = record {
   reads = index ∷ [];
+  files = index ∷ [];
   Inputs = FileView;
   judge = judge_index index;
   file = None;

@@ -36,10 +36,10 @@ pub record EndsRefused (m : Meaning) (before after : World) : Type 0 where
   pub noted : Noted before after (refusal_text name number at)
   pub kept : Keeps before.outer after.outer
 
--- an input couldn't be read, or is missing
+-- an input that is a file couldn't be read, or is missing
 pub record EndsUnread (m : Meaning) (before after : World) : Type 0 where
   pub name : List ℕ
-  pub input : IsOneOf m.reads name
+  pub input : IsOneOf m.files name
   pub cause : ReadFailed (m.judge before.outer.told) before.outer.read_faults after.outer.read_faults name
   pub noted : Noted before after (read_fault_text name)
   pub stands : Stands m before.outer after.outer

@@ -9,6 +9,7 @@ use Rattle.jass_top.specs.Meanings.{Meaning}
 abbrev pub export_meaning : List ℕ → List ℕ → Meaning
 export_meaning index ciff = record {
   reads = index ∷ [];
+  files = index ∷ [];
   Inputs = FileView;
   judge = judge_index index;
   file = Some ciff;

@@ -22,6 +22,7 @@ abbrev pub on_made : {A : Type 0} → List ℕ → (Option Files → Judged A) �
     → (IndexData → Output → Type 0) → Meaning
 on_made input judge made file IsOutput = record {
   reads = input ∷ [];
+  files = input ∷ [];
   Inputs = IndexData;
   judge = judge_made input judge made;
   file = file;

@@ -9,11 +9,12 @@ pub record Output : Type 0 where
   pub text : List ℕ
   pub steps : ℕ
 
--- what a command means: the names of its inputs, in the order of the words; what they stand for, and how they are judged;
--- the file that it writes; whether it prints; whether it counts steps before it takes its last memory; whether it writes while it
+-- what a command means: the names of its inputs, in the order of the words, and of those that are files; what they stand
+-- for, and how they are judged; the file that it writes; whether it prints; whether it counts steps before it takes its last memory; whether it writes while it
 -- still reads or takes memory; and its outputs
 pub record Meaning : Type 1 where
   pub reads : List (List ℕ)
+  pub files : List (List ℕ)
   pub Inputs : Type 0
   pub judge : Option Files → Judged Inputs
   pub file : Option (List ℕ)

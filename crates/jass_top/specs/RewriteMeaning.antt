@@ -8,6 +8,7 @@ use Rattle.jass_top.specs.Meanings.{Meaning}
 abbrev pub rewrite_meaning : List ℕ → List ℕ → Meaning
 rewrite_meaning from to = record {
   reads = from ∷ [];
+  files = from ∷ [];
   Inputs = CollectionData;
   judge = judge_ciff from;
   file = Some to;

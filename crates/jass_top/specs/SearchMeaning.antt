@@ -97,6 +97,7 @@ pub record IsSearchOutput (search : Search) (inputs : SearchInputs) (output : Ou
 abbrev pub search_meaning : List ℕ → List ℕ → List ℕ → Search → Mode → Meaning
 search_meaning index queries run search mode = record {
   reads = index ∷ queries ∷ [];
+  files = index ∷ queries ∷ [];
   Inputs = SearchInputs;
   judge = judge_search index queries mode;
   file = Some run;

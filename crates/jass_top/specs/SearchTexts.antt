@@ -68,9 +68,9 @@ search_output file search queries = record {
   steps = queries_steps file search.budgets queries;
 }
 
--- so many steps were counted; after a failure at most so many
+-- so many steps were counted; after a failure at most so many, and the count never fell
 abbrev pub Stepped : {T E : Type 0} → ℕ → ℕ → ℕ → Result T E → Type 0
-Stepped old new count result = MatchResult result (λ _. new ≡ old + count) (λ _. new ≤ old + count)
+Stepped old new count result = MatchResult result (λ _. new ≡ old + count) (λ _. (old ≤ new) × (new ≤ old + count))
 
 -- the queries as plain data
 abbrev pub asked_of : List Query → List QueryData

@@ -70,11 +70,14 @@ pub record ServesPart (file : FileView) (frames : ℕ) (left before after : Opti
   pub had : IsInput left input
   pub text : AppendsPrefix before after (desk_replies file frames (lines_of input))
   pub scored : later ≤ steps + desk_postings file frames (lines_of input)
+  pub never_less : steps ≤ later
 
--- the input is longer than is taken and no line `end` was met: the lines were answered that end within what is taken
-pub record ServesFront (file : FileView) (frames : ℕ) (left before after : Option (List ℕ)) (steps later : ℕ) : Type 0 where
+-- the input has 2^30 bytes or more, and no line of the first of them is `end`: these were taken, and the lines were answered
+-- that end within them
+pub record ServesFront (file : FileView) (frames : ℕ) (left rest before after : Option (List ℕ)) (steps later : ℕ) : Type 0 where
   pub input : List ℕ
   pub had : IsInput left input
+  pub consumed : Consumes left rest (take (2 ^ 30) input)
   pub long : 2 ^ 30 ≤ length input
   pub endless : has_end (lines_taken input) ≡ false
   pub replies : Replies file frames (lines_taken input) before after steps later
@@ -90,7 +93,7 @@ Serves file frames left rest before after steps later (Err stops.ReadFault) =
 Serves file frames left rest before after steps later (Err stops.WriteFault) =
     ServesPart file frames left before after steps later
 Serves file frames left rest before after steps later (Err stops.Limit) =
-    ServesFront file frames left before after steps later
+    ServesFront file frames left rest before after steps later
 
 -- bytes were taken off the front of the input
 abbrev pub TakesFront : Option (List ℕ) → Option (List ℕ) → Type 0
@@ -123,7 +126,7 @@ PartServed index frames before after = Over index before.outer.told (λ file.
 
 abbrev pub FrontServed : List ℕ → ℕ → Fed → Fed → Type 0
 FrontServed index frames before after = Over index before.outer.told (λ file.
-    ServesFront file frames before.left before.outer.written after.outer.written before.outer.steps after.outer.steps)
+    ServesFront file frames before.left after.left before.outer.written after.outer.written before.outer.steps after.outer.steps)
 
 -- nothing was served, and nothing was taken
 pub record NoneServed (before after : Fed) : Type 0 where

@@ -28,6 +28,7 @@ pub record LeavesPart (file : Option (List ℕ)) (before after : Outer) (output 
   pub content : LeavesFront file before.told after.told output.content
   pub text : AppendsPrefix before.written after.written output.text
   pub steps : after.steps ≤ before.steps + output.steps
+  pub never_less : before.steps ≤ after.steps
 
 -- nothing was left
 pub record Keeps (before after : Outer) : Type 0 where
@@ -54,6 +55,7 @@ pub record Counts (m : Meaning) (before after : Outer) : Type 0 where
   pub counting : IsTrue m.counts
   pub told : after.told ≡ before.told
   pub written : after.written ≡ before.written
+  pub never_less : before.steps ≤ after.steps
   pub had : Had m before.told (λ output. after.steps ≤ before.steps + output.steps)
 
 -- what stands of a command that stopped before it wrote all, and not for a failed write: a part only where it streams

@@ -6,6 +6,7 @@ use Rattle.jass_top.specs.Meanings.{Meaning}
 abbrev pub text_meaning : List ℕ → Meaning
 text_meaning text = record {
   reads = [];
+  files = [];
   Inputs = ⊤;
   judge = λ told. Accepted tt;
   file = None;

@@ -136,10 +136,11 @@ pub record IsTrialOutput (queries : List QueryData) (index : IndexData) (output 
 abbrev pub queries_over : IndexData → List (List (List ℕ)) → List QueryData
 queries_over index asked = map (words_query index) asked
 
--- the index stands for an input of the name `trial`
+-- the index stands for an input of the name `trial`, which is no file
 abbrev pub tried_meaning : IndexData → List (List (List ℕ)) → Meaning
 tried_meaning index asked = record {
   reads = codes "trial" ∷ [];
+  files = [];
   Inputs = IndexData;
   judge = λ told. judge_trial index;
   file = None;

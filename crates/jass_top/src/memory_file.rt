@@ -1,8 +1,8 @@
-ghost use Rattle.std.specs.Prelude.{ℕ, ◌≡◌, ◌≤◌, ◌^◌, [], ◌∷◌, length, IfOk, IfErr, OnOk};
+ghost use Rattle.std.specs.Prelude.{◌≡◌, ◌≤◌, ◌^◌, [], ◌∷◌, length, IfOk, IfErr, OnOk};
 ghost use Rattle.index_layout.specs.View.{IsFileView, chosen_view, index_postings, index_text};
 ghost use Rattle.index_model.specs.Index.{IndexData};
 ghost use Rattle.index_model.specs.Views.{index_data};
-ghost use Rattle.jass_top.specs.Causes.{Unread};
+ghost use Rattle.jass_top.specs.Causes.{Unheld};
 ghost use Rattle.jass_top.specs.IndexJudging.{IsTextOf, fitting};
 
 use crate::import::impacts_are_small;
@@ -26,8 +26,7 @@ pub fn file_in_memory<'a>(
     ensures index { IfOk result (λ file. file.index ≡ index_data index.now) }
     ensures view { IfOk result (λ file. IsFileView file) }
     ensures fits { OnOk result (length (index_text (index_data index.now)) ≤ 2 ^ 32) }
-    ensures unmade { (before after : ℕ) → IfErr result
-        (λ stop. Unread (input.now ∷ []) (fitting input.now (index_data index.now)) before after stop) }
+    ensures unmade { IfErr result (λ stop. Unheld (input.now ∷ []) (fitting input.now (index_data index.now)) stop) }
 {
     impacts_are_small(index);
     indexes_in_memory_are_indexes();
@@ -49,8 +48,7 @@ pub fn text_in_memory<'a>(
 ) -> Result<Row<u8>, Stop<'a>>
     ensures bytes { IfOk result (λ row. row ≡ index_text (index_data index.now)) }
     ensures fits { OnOk result (length (index_text (index_data index.now)) ≤ 2 ^ 32) }
-    ensures unmade { (before after : ℕ) → IfErr result
-        (λ stop. Unread (input.now ∷ []) (fitting input.now (index_data index.now)) before after stop) }
+    ensures unmade { IfErr result (λ stop. Unheld (input.now ∷ []) (fitting input.now (index_data index.now)) stop) }
 {
     match index_bytes(alloc, index) {
         Ok(bytes) => Ok(bytes),

@@ -1,9 +1,9 @@
-ghost use Rattle.std.specs.Prelude.{ℕ, ◌≡◌, ◌≤◌, [], ◌∷◌, codes, IfOk, IfErr, OnOk};
+ghost use Rattle.std.specs.Prelude.{◌≡◌, ◌≤◌, [], ◌∷◌, codes, IfOk, IfErr, OnOk};
 ghost use Rattle.index_layout.specs.View.{IsFileView, chosen_view};
 ghost use Rattle.index_model.specs.Views.{index_data};
 ghost use Rattle.trial_data.specs.Trials.{queries_from, trial_state};
 ghost use Rattle.jass_words.specs.Words.{IsTrialSize};
-ghost use Rattle.jass_top.specs.Causes.{Runs, Unread};
+ghost use Rattle.jass_top.specs.Causes.{Runs, Unheld};
 ghost use Rattle.jass_top.specs.IndexJudging.{IsTextOf};
 ghost use Rattle.jass_top.specs.Judging.{Accepted};
 ghost use Rattle.jass_top.specs.TrialMeaning.{judge_trial, trial_index, trial_meaning, tried_meaning};
@@ -103,8 +103,8 @@ fn make_trial<'a>(
     ensures draws { IfOk result (λ made. made.1 ≡ trial_state seed docs terms) }
     ensures accepted { OnOk result
         (judge_trial (trial_index seed docs terms) ≡ Accepted (trial_index seed docs terms)) }
-    ensures unmade { (before after : ℕ) → IfErr result
-        (λ stop. Unread (codes "trial" ∷ []) (judge_trial (trial_index seed docs terms)) before after stop) }
+    ensures unmade { IfErr result
+        (λ stop. Unheld (codes "trial" ∷ []) (judge_trial (trial_index seed docs terms)) stop) }
 {
     let (bytes, draws) = match trial_bytes(alloc, seed, docs, terms) {
         Ok(made) => made,
@@ -129,8 +129,8 @@ fn trial_bytes<'a>(
     ensures draws { IfOk result (λ made. made.1 ≡ trial_state seed docs terms) }
     ensures accepted { OnOk result
         (judge_trial (trial_index seed docs terms) ≡ Accepted (trial_index seed docs terms)) }
-    ensures unmade { (before after : ℕ) → IfErr result
-        (λ stop. Unread (codes "trial" ∷ []) (judge_trial (trial_index seed docs terms)) before after stop) }
+    ensures unmade { IfErr result
+        (λ stop. Unheld (codes "trial" ∷ []) (judge_trial (trial_index seed docs terms)) stop) }
 {
     indexes_in_memory_are_indexes();
     let (index, draws) = match index_trial(alloc, seed, docs, terms) {

@@ -31,6 +31,7 @@ returns g c = λ steps. (
       content = c.in_ok-file.ensures.stays;
       text = subst (λ (t : Totals). AppendsPrefix (g.O.Sink.written c.args.out.now) (g.O.Sink.written c.put_totals.new.out) (totals_line t)) c.totals.ensures c.in-Err.ensures.bytes;
       steps = omega arith;
+      never_less = omega arith;
     };
   },
 )

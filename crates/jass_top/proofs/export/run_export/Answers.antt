@@ -24,6 +24,7 @@ returns g c = λ beside.
               (subst (λ old. LeavesFront (Some c.args.ciff.now) old after (canonical_ciff (collection_data c.in-Ok.collection))) c.in_ok-file.ensures.stays c.in-Err-write_file.ensures.err);
           text = (0, Appends-none beside.written);
           steps = omega (arith, c.in-Ok.ensures.steps);
+          never_less = omega (arith, c.in-Ok.ensures.steps);
         };
       },
     )

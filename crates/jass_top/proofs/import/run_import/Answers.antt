@@ -58,6 +58,7 @@ returns-in-Err-WriteFault g c = λ steps.
           content = is.3;
           text = (0, Appends-none (g.O.Sink.written c.args.out.now));
           steps = omega arith;
+          never_less = omega arith;
         };
       },
     )
@@ -98,6 +99,7 @@ returns-in-Err g c = λ steps.
           content = whole_front (g.C.Cabinet.told c.args.files.now) (g.C.Cabinet.told c.import_file.new.files) c.args.index.now (index_text is.0) is.2;
           text = subst (λ (t : Totals). AppendsPrefix (g.O.Sink.written c.args.out.now) (g.O.Sink.written c.put_totals.new.out) (totals_line t)) is.4 c.in-Err.ensures.bytes;
           steps = omega arith;
+          never_less = omega arith;
         };
       },
     )

@@ -34,5 +34,5 @@ returns g c = λ beside.
       inl (refl, refl, c.in-Err.ensures.text.cause.failed),
       had file (once_of c.args.question) opened.session s pool did.stands did.same asks opened.ensures.k did.granted opened.ensures.granted c.args.input.now beside.told _ c.requires.fits
           (c.reports_of_sessions_keep_their_promises.ensures.report s file pool did.stands) (c.reports_of_sessions_keep_their_promises.ensures.promised s file pool c.requires.view did.stands)
-          (record { content = refl; text = c.in-Err.ensures.text.bytes; steps = omega (arith, did.steps, none) }),
+          (record { content = refl; text = c.in-Err.ensures.text.bytes; steps = omega (arith, did.steps, none); never_less = omega (arith, did.steps, none) }),
     )

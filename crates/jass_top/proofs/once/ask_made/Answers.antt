@@ -11,7 +11,7 @@ use Rattle.jass_top.proofs.once.ask_made.Goals as goal
 pub returns-in-Err : goal.returns-in-Err
 returns-in-Err g c = λ beside.
     stopped (asking_meaning c.args.input.now (index_data c.args.index.now) (once_of c.args.question)) (with_output g.O.Sink c.args.out.now (record beside { steps = c.args.steps.now })) c.in-Err.stop
-    (c.in-Err.ensures.unmade beside.read_faults beside.read_faults)
+    c.in-Err.ensures.unmade
 
 pub returns : goal.returns
 returns g c = λ beside.

@@ -18,6 +18,7 @@ returns g c = λ beside.
           content = subst (λ told. LeavesFront (Some c.args.to.now) told (g.C.Cabinet.told c.write_file.new.files) text) c.in_ok-collection.ensures.stays c.in-Err.ensures.err;
           text = (0, Appends-none beside.written);
           steps = omega arith;
+          never_less = omega arith;
         };
       },
     )

@@ -35,6 +35,7 @@ returns-in-Err-WriteFault g c = λ steps.
           content = c.in-Err-WriteFault.ensures.front;
           text = (0, Appends-none (g.O.Sink.written c.args.out.now));
           steps = omega arith;
+          never_less = omega arith;
         };
       },
     )
@@ -67,6 +68,7 @@ returns-in-Err g c = λ steps.
           content = whole_front (g.C.Cabinet.told c.args.files.now) (g.C.Cabinet.told c.write_index.new.files) c.args.file.now (index_text made) c.in-Ok.ensures.content;
           text = subst (λ (t : Totals). AppendsPrefix (g.O.Sink.written c.args.out.now) (g.O.Sink.written c.put_totals.new.out) (totals_line t)) c.totals.ensures c.in-Err.ensures.bytes;
           steps = omega arith;
+          never_less = omega arith;
         };
       },
     )

@@ -31,12 +31,8 @@ returns-in-Err-clause-steps g c =
     let budgets : List Budget = c.args.budgets.now in
     let same : query_of c.gather_budget.new.session ≡ query_of c.args.session.now = c.in-Err.ensures.same.query ∙ c.loop-budget.invariant.same.query in
     let granted : granted_of c.gather_budget.new.session ≡ granted_sum (take (i + 1) budgets) = c.in-Err.ensures.granted ∙ ap (λ n. granted_with n (get_or budgets i (Postings 0))) c.loop-budget.invariant.granted ∙ granted_more budgets i (Postings 0) c.loop-budget-test.true in
-    omega (
-      arith,
-      c.in-Err.ensures.steps,
-      c.loop-budget.invariant.steps,
-      scored_part c.a_prefix_is_resumed.ensures.prefix c.a_prefix_is_resumed.ensures.size c.args.index.now c.args.session.now c.gather_budget.new.session c.gather_budget.new.pool budgets (i + 1) c.in-Err.ensures.stands same granted,
-    )
+    let part = scored_part c.a_prefix_is_resumed.ensures.prefix c.a_prefix_is_resumed.ensures.size c.args.index.now c.args.session.now c.gather_budget.new.session c.gather_budget.new.pool budgets (i + 1) c.in-Err.ensures.stands same granted in
+    (omega (arith, c.in-Err.ensures.steps, c.loop-budget.invariant.steps), omega (arith, c.in-Err.ensures.steps, c.loop-budget.invariant.steps, part))
 
 pub returns-in-Err-clause-run : goal.returns-in-Err-clause-run
 returns-in-Err-clause-run g c =

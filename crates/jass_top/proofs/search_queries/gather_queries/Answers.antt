@@ -17,6 +17,7 @@ loop-query-init g c =
       known = subst (AllByRecursion (λ (query : Query). AreKnown file query.terms)) all c.requires.known;
       ready = c.requires.ready;
       steps = ap (λ (xs : List Query). c.args.steps.now + queries_steps file budgets (asked_of xs)) (sym all);
+      later = omega arith;
       run = up_to_none _ _ _ _ (ap (λ (xs : List Query). queries_run file c.args.k budgets c.args.tag.now (asked_of xs)) all);
       out = up_to_none _ _ _ _ (ap (λ (xs : List Query). queries_reports file c.args.k budgets (asked_of xs)) all);
     }
@@ -32,6 +33,7 @@ loop-query-preserved g c =
       known = (subst (AllByRecursion (λ (query : Query). AreKnown file query.terms)) next c.loop-query.invariant.known).1;
       ready = c.in-Ok.ensures.ready;
       steps = omega (arith, counted, c.in-Ok.ensures.steps, c.loop-query.invariant.steps);
+      later = omega (arith, c.in-Ok.ensures.steps, c.loop-query.invariant.later);
       run = up_to_more _ _ _ (ap (λ (xs : List Query). queries_run file c.args.k budgets c.args.tag.now (asked_of xs)) next) c.loop-query.invariant.run c.in-Ok.ensures.run;
       out = up_to_more _ _ _ (ap (λ (xs : List Query). queries_reports file c.args.k budgets (asked_of xs)) next) c.loop-query.invariant.out c.in-Ok.ensures.out;
     }
@@ -48,7 +50,8 @@ returns-in-Err-clause-steps g c =
     let next : c.loop-query.query-iterator.rest.items ≡ c.in-Some.query ∷ c.next.new.self.rest.items = c.in-Some.ensures.steps.0 in
     let counted : queries_steps file budgets (asked_of c.loop-query.query-iterator.rest.items) ≡ query_steps file budgets (query_data c.in-Some.query) + queries_steps file budgets (asked_of c.next.new.self.rest.items)
     = ap (λ (xs : List Query). queries_steps file budgets (asked_of xs)) next ∙ sum_by-cons (query_steps file budgets) (query_data c.in-Some.query) (asked_of c.next.new.self.rest.items) in
-    omega (arith, counted, c.in-Err.ensures.steps, c.loop-query.invariant.steps)
+    let added = c.in-Err.ensures.steps in
+    (omega (arith, added.0, c.loop-query.invariant.later), omega (arith, counted, added.1, c.loop-query.invariant.steps))
 
 pub returns-in-Err-clause-run : goal.returns-in-Err-clause-run
 returns-in-Err-clause-run g c =

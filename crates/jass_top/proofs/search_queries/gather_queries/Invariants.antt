@@ -1,4 +1,4 @@
-use Rattle.std.proofs.Common.{◌≡◌, ◌+◌}
+use Rattle.std.proofs.Common.{◌≡◌, ◌+◌, ◌≤◌}
 use Rattle.std.specs.List.{AllByRecursion}
 use Rattle.jass_base.specs.declared.query.Query.{Query}
 use Rattle.session_engine.specs.Plans.{AreKnown}
@@ -13,6 +13,7 @@ invariant-loop-query g l = record {
   known : AllByRecursion (λ (query : Query). AreKnown l.index query.terms) l.query-iterator.rest.items;
   ready : IsReady l.index l.pool;
   steps : l.steps + queries_steps l.index l.budgets (asked_of l.query-iterator.rest.items) ≡ l.fn.steps + queries_steps l.index l.budgets (asked_of l.fn.queries);
+  later : l.fn.steps ≤ l.steps;
   run : SideUpTo g.R.Sink.written g.R.Sink.faults g.R.Sink.rest (Unwritten Run) l.fn.run l.run l.fn.run_buffer l.run_buffer (queries_run l.index l.k l.budgets l.tag (asked_of l.fn.queries)) (queries_run l.index l.k l.budgets l.tag (asked_of l.query-iterator.rest.items));
   out : SideUpTo g.O.Sink.written g.O.Sink.faults g.O.Sink.rest (Unwritten Reports) l.fn.out l.out l.fn.out_buffer l.out_buffer (queries_reports l.index l.k l.budgets (asked_of l.fn.queries)) (queries_reports l.index l.k l.budgets (asked_of l.query-iterator.rest.items));
 }

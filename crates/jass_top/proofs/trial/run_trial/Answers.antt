@@ -11,7 +11,7 @@ use Rattle.jass_top.proofs.trial.run_trial.Goals as goal
 pub returns-in-Err : goal.returns-in-Err
 returns-in-Err g c = λ beside.
     stopped (trial_meaning c.args.seed c.args.docs c.args.terms c.args.queries) (with_output g.O.Sink c.args.out.now (record beside { steps = c.args.steps.now })) c.in-Err.stop
-    (c.in-Err.ensures.unmade beside.read_faults beside.read_faults)
+    c.in-Err.ensures.unmade
 
 pub returns : goal.returns
 unfolding trial_queries

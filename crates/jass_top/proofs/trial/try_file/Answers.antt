@@ -16,7 +16,8 @@ returns-in-Err g c = λ beside.
       counting = refl;
       told = refl;
       written = refl;
-      had = tried file asked beside.told _ c.requires.accepted (c.a_trial_leaves_its_summary.ensures file (queries_over file.index asked) c.requires.view c.requires.chosen) c.in-Err.ensures.steps;
+      never_less = c.in-Err.ensures.steps.0;
+      had = tried file asked beside.told _ c.requires.accepted (c.a_trial_leaves_its_summary.ensures file (queries_over file.index asked) c.requires.view c.requires.chosen) c.in-Err.ensures.steps.1;
     }))
 
 pub returns-in-Ok-put_summary : goal.returns-in-Ok-put_summary
@@ -39,5 +40,6 @@ returns-in-Err-put_summary g c = λ beside.
         content = refl;
         text = subst (λ (sums : TrialSums). AppendsPrefix (g.O.Sink.written c.args.out.now) (g.O.Sink.written c.put_summary.new.out) (trial_text file sums)) c.in-Ok.ensures.sums c.in-Err-put_summary.ensures.bytes;
         steps = omega arith;
+        never_less = omega arith;
       }),
     )

@@ -9,8 +9,11 @@ returns-in-Err-try_query-clause-steps g c =
     let drawn = ap texts c.as_slice.ensures.value ∙ c.in-Ok-draw_query.ensures.words in
     let counted = steps_are c.args.index.now c.args.terms c.args.queries c.queries.counter c.queries.draws c.draw_query.new.draws c.queries.sums c.queries.sums words c.queries-test.true drawn c.in-Ok-draw_query.ensures.state in
     let before = c.queries.invariant.steps in
+    let later = c.queries.invariant.later in
     let added = c.in-Err-try_query.ensures.steps in
-    omega arith
+    let rose = added.0 in
+    let most = added.1 in
+    (omega arith, omega arith)
 
 pub queries-preserved : goal.queries-preserved
 queries-preserved g c =
@@ -20,10 +23,12 @@ queries-preserved g c =
     let moved = c.in-Ok-draw_query.ensures.state in
     let counted = steps_are c.args.index.now c.args.terms c.args.queries c.queries.counter c.queries.draws c.draw_query.new.draws c.queries.sums more words c.queries-test.true drawn moved in
     let before = c.queries.invariant.steps in
+    let later = c.queries.invariant.later in
     let added = c.in-Ok-try_query.ensures.steps in
     record {
       ready = c.in-Ok-try_query.ensures.ready;
       small = c.in-Ok-try_query.ensures.small c.queries.counter c.queries.invariant.small;
       summed = sums_more c.args.index.now c.args.terms c.args.queries c.queries.counter c.queries.draws c.draw_query.new.draws c.queries.sums more words c.queries-test.true drawn moved _ c.in-Ok-try_query.ensures.sums c.queries.invariant.summed;
       steps = omega arith;
+      later = omega arith;
     }

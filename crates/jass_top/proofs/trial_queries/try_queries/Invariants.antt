@@ -1,4 +1,4 @@
-use Rattle.std.proofs.Common.{◌≡◌, ◌+◌, ◌-◌}
+use Rattle.std.proofs.Common.{◌≡◌, ◌+◌, ◌-◌, ◌≤◌}
 use Rattle.trial_data.specs.Trials.{queries_from}
 use Rattle.jass_top.specs.SearchTexts.{IsReady, queries_steps}
 use Rattle.jass_top.specs.TrialMeaning.{queries_over, trial_budgets}
@@ -11,4 +11,5 @@ invariant-queries g l = record {
   small : AreSmallSums l.counter l.sums;
   summed : with_queries l.index (queries_over l.index.index (queries_from l.terms (l.queries - l.counter) l.draws)) l.sums ≡ with_queries l.index (queries_over l.index.index (queries_from l.terms l.queries l.fn.draws)) no_sums;
   steps : l.steps + queries_steps l.index trial_budgets (queries_over l.index.index (queries_from l.terms (l.queries - l.counter) l.draws)) ≡ l.fn.steps + queries_steps l.index trial_budgets (queries_over l.index.index (queries_from l.terms l.queries l.fn.draws));
+  later : l.fn.steps ≤ l.steps;
 }
