@@ -42,4 +42,5 @@ pub mod Starting
 pub mod Plain
 pub mod Advancing
 pub mod Rising
+pub mod Runs
 pub mod Again

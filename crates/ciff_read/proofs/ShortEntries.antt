@@ -1,6 +1,7 @@
 -- Postings in their usual spelling.
-use Rattle.std.proofs.Common.{◌≡◌, ℕ, ◌+◌, ◌-◌, ◌*◌, ◌%◌, ◌<◌, ◌≤◌, true, false, List, [], ◌∷◌, length, get_or, take, drop, Result, Ok, refl, sym, ap, subst, ◌∙◌, arith}
+use Rattle.std.proofs.Common.{◌≡◌, ℕ, ◌+◌, ◌-◌, ◌*◌, ◌/◌, ◌%◌, ◌^◌, ◌<◌, ◌≤◌, true, false, List, [], ◌∷◌, length, get_or, take, drop, Result, Ok, refl, sym, ap, subst, ◌∙◌, arith, ◌⊎◌, inl, inr}
 use Rattle.std.specs.Prelude.{nat_lt}
+use Rattle.std.proofs.lemmas.Bool.{cases_lt}
 use Rattle.std.proofs.lemmas.Bool.Decides.{nat_tests}
 use Rattle.std.proofs.lemmas.List.{take_all, length-drop, drop-drop}
 use Rattle.jass_base.specs.Wire.{WireField, Text}
@@ -35,6 +36,15 @@ of_five at g h t high small low =
     let c : nat_lt t 128 ≡ true = grind (arith, nat_tests) in
     rw (a, b, c) refl
 
+of_six : (at g h i t : ℕ) → 128 ≤ g → 128 ≤ h → i < 128 → t < 128 → entry_at at (8 ∷ g ∷ h ∷ i ∷ 16 ∷ t ∷ []) ≡ read_as (g % 128 + 128 * (h % 128 + 128 * i)) t
+unfolding varint_at field_at walk_within
+of_six at g h i t high top small low =
+    let a : nat_lt g 128 ≡ false = grind (arith, nat_tests) in
+    let b : nat_lt h 128 ≡ false = grind (arith, nat_tests) in
+    let c : nat_lt i 128 ≡ true = grind (arith, nat_tests) in
+    let d : nat_lt t 128 ≡ true = grind (arith, nat_tests) in
+    rw (a, b, c, d) refl
+
 -- ---- the field
 
 abbrev found : List ℕ → List ℕ → Result (WireField × List ℕ) WireWhy
@@ -50,6 +60,12 @@ field_of_five : (c d e f g : ℕ) (rest : List ℕ) → field_at (34 ∷ 5 ∷ c
 unfolding varint_at field_at
 field_of_five c d e f g rest =
     let enough : nat_lt (length (c ∷ d ∷ e ∷ f ∷ g ∷ rest)) 5 ≡ false = grind (arith, nat_tests) in
+    rw enough refl
+
+field_of_six : (c d e f g h : ℕ) (rest : List ℕ) → field_at (34 ∷ 6 ∷ c ∷ d ∷ e ∷ f ∷ g ∷ h ∷ rest) ≡ found (c ∷ d ∷ e ∷ f ∷ g ∷ h ∷ []) rest
+unfolding varint_at field_at
+field_of_six c d e f g h rest =
+    let enough : nat_lt (length (c ∷ d ∷ e ∷ f ∷ g ∷ h ∷ rest)) 6 ≡ false = grind (arith, nat_tests) in
     rw enough refl
 
 -- the field at the front takes so many bytes, and is this posting
@@ -87,6 +103,94 @@ wide (a ∷ b ∷ c ∷ g ∷ h ∷ e ∷ t ∷ rest) docid tf size tag long fir
   spells = λ from. of_five from g h t high small low ∙ ap (λ n. read_as n t) (sym is) ∙ ap (read_as docid) (sym tf_is);
   within = omega (arith, size);
 }
+
+pub wider : (s : List ℕ) (docid tf : ℕ) → 8 ≤ length s → get_or s 0 0 ≡ 34 → get_or s 1 0 ≡ 6 → get_or s 2 0 ≡ 8 → 128 ≤ get_or s 3 0 → 128 ≤ get_or s 4 0 → get_or s 5 0 < 128 → get_or s 6 0 ≡ 16 → get_or s 7 0 < 128
+    → docid ≡ get_or s 3 0 % 128 + 128 * (get_or s 4 0 % 128 + 128 * get_or s 5 0) → tf ≡ get_or s 7 0 → Begins s docid tf 8
+wider [] docid tf size _ _ _ _ _ _ _ _ _ _ = absurd (omega (arith, size))
+wider (a ∷ []) docid tf size _ _ _ _ _ _ _ _ _ _ = absurd (omega (arith, size))
+wider (a ∷ b ∷ []) docid tf size _ _ _ _ _ _ _ _ _ _ = absurd (omega (arith, size))
+wider (a ∷ b ∷ c ∷ []) docid tf size _ _ _ _ _ _ _ _ _ _ = absurd (omega (arith, size))
+wider (a ∷ b ∷ c ∷ g ∷ []) docid tf size _ _ _ _ _ _ _ _ _ _ = absurd (omega (arith, size))
+wider (a ∷ b ∷ c ∷ g ∷ h ∷ []) docid tf size _ _ _ _ _ _ _ _ _ _ = absurd (omega (arith, size))
+wider (a ∷ b ∷ c ∷ g ∷ h ∷ i ∷ []) docid tf size _ _ _ _ _ _ _ _ _ _ = absurd (omega (arith, size))
+wider (a ∷ b ∷ c ∷ g ∷ h ∷ i ∷ e ∷ []) docid tf size _ _ _ _ _ _ _ _ _ _ = absurd (omega (arith, size))
+wider (a ∷ b ∷ c ∷ g ∷ h ∷ i ∷ e ∷ t ∷ rest) docid tf size tag long first high top small second low is tf_is = record {
+  body = 8 ∷ g ∷ h ∷ i ∷ 16 ∷ t ∷ [];
+  read = ap (λ n. field_at (n ∷ b ∷ c ∷ g ∷ h ∷ i ∷ e ∷ t ∷ rest)) tag ∙ ap (λ n. field_at (34 ∷ n ∷ c ∷ g ∷ h ∷ i ∷ e ∷ t ∷ rest)) long ∙ ap (λ n. field_at (34 ∷ 6 ∷ n ∷ g ∷ h ∷ i ∷ e ∷ t ∷ rest)) first ∙ ap (λ n. field_at (34 ∷ 6 ∷ 8 ∷ g ∷ h ∷ i ∷ n ∷ t ∷ rest)) second ∙ field_of_six 8 g h i 16 t rest;
+  spells = λ from. of_six from g h i t high top small low ∙ ap (λ n. read_as n t) (sym is) ∙ ap (read_as docid) (sym tf_is);
+  within = omega (arith, size);
+}
+
+-- a gap whose first bytes are x, y and z, in a body of so many bytes
+abbrev pub OneByte : ℕ → ℕ → ℕ → Type 0
+OneByte x size docid = (x < 128) × (size ≡ 4) × (docid ≡ x)
+
+abbrev pub TwoBytes : ℕ → ℕ → ℕ → ℕ → Type 0
+TwoBytes x y size docid = (128 ≤ x) × (y < 128) × (size ≡ 5) × (docid ≡ x % 128 + 128 * y)
+
+abbrev pub ThreeBytes : ℕ → ℕ → ℕ → ℕ → ℕ → Type 0
+ThreeBytes x y z size docid = (128 ≤ x) × (128 ≤ y) × (size ≡ 6) × (docid ≡ x % 128 + 128 * (y % 128) + 16384 * (z % 128))
+
+pub gap_is : (x y z a b size docid : ℕ) → x < 256 → y < 256 → a ≡ x / 128 → b ≡ y / 128 → size ≡ 4 + a + a * b → docid ≡ x % 128 + a * (128 * (y % 128)) + a * b * (16384 * (z % 128))
+    → OneByte x size docid ⊎ (TwoBytes x y size docid ⊎ ThreeBytes x y z size docid)
+gap_is x y z a b size docid byte next a_is b_is size_is docid_is =
+    elim (cases_lt x 128) [
+      | inl low ↦
+          let none : a ≡ 0 = omega (arith, a_is) in
+          let size_one = subst (λ n. size ≡ 4 + n + n * b) none size_is in
+          let docid_one = subst (λ n. docid ≡ x % 128 + n * (128 * (y % 128)) + n * b * (16384 * (z % 128))) none docid_is in
+          inl (low, omega (arith, size_one), omega (arith, docid_one))
+      | inr high ↦
+          let some : a ≡ 1 = omega (arith, a_is) in
+          let size_more = subst (λ n. size ≡ 4 + n + n * b) some size_is in
+          let docid_more = subst (λ n. docid ≡ x % 128 + n * (128 * (y % 128)) + n * b * (16384 * (z % 128))) some docid_is in
+          inr (elim (cases_lt y 128) [
+            | inl low ↦
+                let none : b ≡ 0 = omega (arith, b_is) in
+                let docid_two = subst (λ n. docid ≡ x % 128 + 1 * (128 * (y % 128)) + 1 * n * (16384 * (z % 128))) none docid_more in
+                inl (high, low, omega (arith, size_more), omega (arith, docid_two))
+            | inr top ↦
+                let third : b ≡ 1 = omega (arith, b_is) in
+                let docid_three = subst (λ n. docid ≡ x % 128 + 1 * (128 * (y % 128)) + 1 * n * (16384 * (z % 128))) third docid_more in
+                inr (high, top, omega (arith, size_more), omega (arith, docid_three))
+          ])
+    ]
+
+module _ (s : List ℕ) (docid tf size : ℕ) (gap : OneByte (get_or s 3 0) size docid ⊎ (TwoBytes (get_or s 3 0) (get_or s 4 0) size docid ⊎ ThreeBytes (get_or s 3 0) (get_or s 4 0) (get_or s 5 0) size docid)) where
+  pub usual : size + 2 ≤ length s → get_or s 0 0 ≡ 34 → get_or s 1 0 ≡ size → get_or s 2 0 ≡ 8 → get_or s (size - 1) 0 < 128 → get_or s size 0 ≡ 16 → get_or s (size + 1) 0 < 128 → tf ≡ get_or s (size + 1) 0 → Begins s docid tf (size + 2)
+  usual inside tag long first last second low tf_is =
+      elim gap [
+        | inl one ↦
+            let n = one.1 in
+            subst (λ n. Begins s docid tf (n + 2)) (sym n) (narrow s docid tf (omega (arith, inside, n)) tag (long ∙ n) first one.0 (subst (λ n. get_or s n 0 ≡ 16) n second) (subst (λ n. get_or s (n + 1) 0 < 128) n low) one.2 (subst (λ n. tf ≡ get_or s (n + 1) 0) n tf_is))
+        | inr more ↦ elim more [
+          | inl two ↦
+              let n = two.2 in
+              subst (λ n. Begins s docid tf (n + 2)) (sym n) (wide s docid tf (omega (arith, inside, n)) tag (long ∙ n) first two.0 two.1 (subst (λ n. get_or s n 0 ≡ 16) n second) (subst (λ n. get_or s (n + 1) 0 < 128) n low) two.3 (subst (λ n. tf ≡ get_or s (n + 1) 0) n tf_is))
+          | inr three ↦
+              let n = three.2 in
+              let small : get_or s 5 0 < 128 = subst (λ n. get_or s (n - 1) 0 < 128) n last in
+              let docid_is : docid ≡ get_or s 3 0 % 128 + 128 * (get_or s 4 0 % 128 + 128 * get_or s 5 0) = omega (arith, three.3, small) in
+              subst (λ n. Begins s docid tf (n + 2)) (sym n) (wider s docid tf (omega (arith, inside, n)) tag (long ∙ n) first three.0 three.1 small (subst (λ n. get_or s n 0 ≡ 16) n second) (subst (λ n. get_or s (n + 1) 0 < 128) n low) docid_is (subst (λ n. tf ≡ get_or s (n + 1) 0) n tf_is))
+        ]
+      ]
+
+  pub usual_gap : 0 < get_or s (size - 1) 0 → get_or s (size - 1) 0 < 128 → (0 < docid) × (docid < 2 ^ 21)
+  usual_gap last low =
+      elim gap [
+        | inl one ↦
+            let some : 0 < get_or s 3 0 = subst (λ n. 0 < get_or s (n - 1) 0) one.1 last in
+            (omega (arith, some, one.2), omega (arith, one.0, one.2))
+        | inr more ↦ elim more [
+          | inl two ↦
+              let some : 0 < get_or s 4 0 = subst (λ n. 0 < get_or s (n - 1) 0) two.2 last in
+              (omega (arith, some, two.3), omega (arith, two.1, two.3))
+          | inr three ↦
+              let some : 0 < get_or s 5 0 = subst (λ n. 0 < get_or s (n - 1) 0) three.2 last in
+              let small : get_or s 5 0 < 128 = subst (λ n. get_or s (n - 1) 0 < 128) three.2 low in
+              (omega (arith, some, small, three.3), omega (arith, three.3))
+        ]
+      ]
 
 -- the posting at a place
 pub posting_at : (bytes : List ℕ) (at docid tf size next : ℕ) → at ≤ length bytes → 0 < size → at + size ≡ next → Begins (take (length bytes - at) (drop at bytes)) docid tf size → IsPosting bytes at (record { docid = docid; tf = tf }) next

@@ -16,6 +16,7 @@ use Rattle.ciff_read.specs.declared.refusal.CiffRefusal.{CiffRefusal}
 use Rattle.ciff_read.specs.Judging.{FileStart, ListStart, NumberedDoc, numbers_of, gather}
 use Rattle.ciff_read.specs.Marks.{is_marked}
 use Rattle.ciff_read.specs.Table.{has_value, table_with}
+use Rattle.ciff_read.specs.Usual.{IsRun}
 use Rattle.ciff_read.specs.Walking.{PlacedEntry, entry_inside}
 use Rattle.wire_fields.specs.declared.field.Field.{Field}
 use Rattle.wire_fields.specs.Places.{field_in}
@@ -77,6 +78,14 @@ pub record GathersList (bytes : List ℕ) (from : ℕ) (fields : ListFields) (ol
 abbrev pub ReadsList : List ℕ → ℕ → Result ListFields CiffFault → Gathered → Gathered → Type 0
 ReadsList bytes from (Ok fields) old now = GathersList bytes from fields old now
 ReadsList bytes from (Err fault) old now = Fails fault (list_walk_at from (drop from bytes))
+
+-- postings that stand from a place to another were gathered one by one
+pub record GathersRun (bytes : List ℕ) (at next : ℕ) (old now : Gathered) : Type 0 where
+  pub entries : List PlacedEntry
+  pub run : IsRun bytes at entries next
+  pub forward : at ≤ next
+  pub within : next ≤ length bytes
+  pub gathered : gathered_of now ≡ fold (gather old.docs old.before) (gathered_of old) entries
 
 -- the posting of a field was read and gathered, where it is one
 pub record GathersInside (bytes : List ℕ) (at : ℕ) (field : Field) (old now : Gathered) : Type 0 where

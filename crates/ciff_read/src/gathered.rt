@@ -4,6 +4,7 @@ ghost use Rattle.ciff_read.specs.Judging.{judge};
 
 use crate::entry::Entry;
 use crate::refusal::{CiffRefusal, CiffWhy};
+use crate::usual::usual_posting;
 use jass_base::{NoMemory, Posting, Row};
 use std::alloc::Global;
 
@@ -26,9 +27,9 @@ pub struct Gathered {
 }
 
 impl Gathered {
-    ghost use Rattle.std.specs.Prelude.{IfOk, OnOk, None, []};
+    ghost use Rattle.std.specs.Prelude.{length, IfOk, OnOk, None, []};
     ghost use Rattle.ciff_read.specs.Judging.{gather};
-    ghost use Rattle.ciff_read.specs.Places.{gathered_of};
+    ghost use Rattle.ciff_read.specs.Places.{gathered_of, GathersRun};
 
     /// No postings yet, and room for so many.
     pub fn with_room(
@@ -79,6 +80,41 @@ impl Gathered {
                 self.refusal = Some(CiffRefusal { at: at as u64, why });
                 Ok(())
             }
+        }
+    }
+
+    /// Takes the postings in their usual spelling that stand one behind the other from a place
+    /// on, up to the first that is refused, and gives the place behind them.
+    pub fn take_run(&mut self, bytes: &[u8], from: usize) -> Result<usize, NoMemory>
+        requires { from ≤ length bytes.now }
+        ensures run { IfOk result (λ next. GathersRun bytes.now from next self.old self.new) }
+        ensures docs { self.new.docs ≡ self.old.docs }
+        ensures before { self.new.before ≡ self.old.before }
+    {
+        if self.refusal.is_some() {
+            return Ok(from);
+        }
+        let docs = u64::from(self.docs);
+        let most = MOST_POSTINGS - self.before;
+        let mut at = from;
+        'run: loop {
+            let Some((entry, next)) = usual_posting(bytes, at) else {
+                return Ok(at);
+            };
+            let doc = u64::from(self.last) + entry.docid;
+            if doc >= docs || self.postings.len() as u64 >= most {
+                return Ok(at);
+            }
+            let posting = Posting {
+                doc: doc as u32,
+                tf: entry.tf as u32,
+            };
+            match self.postings.push(posting) {
+                Ok(()) => {}
+                Err((_, refused)) => return Err(refused),
+            }
+            self.last = posting.doc;
+            at = next;
         }
     }
 

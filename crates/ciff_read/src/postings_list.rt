@@ -15,7 +15,6 @@ use crate::list_fields::ListFields;
 use crate::refusal::{CiffFault, CiffWhy, refused, refused_field};
 use crate::terms::add_term;
 use crate::text::text_of;
-use crate::usual::usual_posting;
 use crate::walked_list::WalkedList;
 use indexmap::IndexSet;
 use jass_base::PostingsList;
@@ -126,13 +125,9 @@ fn walk_list<'a>(
     };
     let mut at = from;
     'fields: loop {
-        if let Some((entry, next)) = usual_posting(bytes, at) {
-            match gathered.take(at, entry) {
-                Ok(()) => {}
-                Err(_) => return Err(CiffFault::NoMemory),
-            }
-            at = next;
-            continue;
+        match gathered.take_run(bytes, at) {
+            Ok(next) => at = next,
+            Err(_) => return Err(CiffFault::NoMemory),
         }
         match next_field(bytes, at) {
             Ok(Some(field)) => {

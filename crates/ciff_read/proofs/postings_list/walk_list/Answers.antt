@@ -1,15 +1,14 @@
-use Rattle.std.proofs.Common.{◌≡◌, [], ◌∷◌, refl, ap, ◌∙◌, Result, Ok}
+use Rattle.std.proofs.Common.{◌≡◌, refl, ap, ◌∙◌, Result, Ok}
 use Rattle.std.specs.Prelude.{fold}
-use Rattle.jass_base.specs.Wire.{WireField, Text}
 use Rattle.ciff_read.specs.declared.refusal.CiffRefusal.{CiffRefusal}
 use Rattle.ciff_read.specs.Judging.{ListStart, list_start_of, gather}
 use Rattle.ciff_read.specs.Places.{gathered_of}
 use Rattle.ciff_read.specs.Refusals.{◌>>=◌}
-use Rattle.ciff_read.specs.Walking.{PlacedEntry, Walked, entry_inside}
+use Rattle.ciff_read.specs.Walking.{Walked, entry_inside}
 use Rattle.wire_fields.specs.Places.{field_in}
 use Rattle.ciff_read.proofs.FieldValues.{list_start_is, number_more, text_more}
 use Rattle.ciff_read.proofs.Parts.{gathers_more}
-use Rattle.ciff_read.proofs.ShortEntries.{entry_there}
+use Rattle.ciff_read.proofs.Runs.{walks_behind}
 use Rattle.ciff_read.proofs.Walks.{walks_start, walks_on, walks_end, walks_refused, walks_inside}
 use Rattle.ciff_read.proofs.postings_list.walk_list.Goals as goal
 
@@ -27,11 +26,14 @@ fields-preserved c =
     let reads = rw c.in-Ok-Some.field-0-is at c.in-Ok-Some.ensures in
     let g = c.in-Ok-gather.ensures.read in
     let start = c.args.gathered.now in
-    let old = c.fields.gathered in
+    let old = c.take_run.new.self in
     let v = c.fields.invariant in
-    let gathered : gathered_of c.gather.new.gathered ≡ fold (gather start.docs start.before) (gathered_of old) g.entries = g.gathered ∙ ap (λ d. fold (gather d old.before) (gathered_of old) g.entries) v.docs ∙ ap (λ b. fold (gather start.docs b) (gathered_of old) g.entries) v.before in
+    let docs = c.in-Ok.ensures.docs ∙ v.docs in
+    let before = c.in-Ok.ensures.before ∙ v.before in
+    let walks = walks_behind bytes c.args.from c.fields.at c.in-Ok.next start c.fields.gathered old c.fields.fields c.in-Ok.ensures.run v.docs v.before v.walks in
+    let gathered : gathered_of c.gather.new.gathered ≡ fold (gather start.docs start.before) (gathered_of old) g.entries = g.gathered ∙ ap (λ d. fold (gather d old.before) (gathered_of old) g.entries) docs ∙ ap (λ b. fold (gather start.docs b) (gathered_of old) g.entries) before in
     record {
-      walks = walks_on entry_inside bytes c.args.from c.fields.at c.in-Ok-Some.field.next _ v.walks f g.entries _ reads.1 reads.2 reads.0 g.read
+      walks = walks_on entry_inside bytes c.args.from c.in-Ok.next c.in-Ok-Some.field.next _ walks f g.entries _ reads.1 reads.2 reads.0 g.read
           (λ done was. (
             (
               text_more 1 done.fields f c.fields.fields.term.now c.bytes_or-fields.result.now was.0.0 c.bytes_or-fields.ensures,
@@ -40,35 +42,16 @@ fields-preserved c =
             ),
             gathers_more start.docs start.before (gathered_of start) (gathered_of old) (gathered_of c.gather.new.gathered) done.entries g.entries was.1 gathered,
           ));
-      docs = c.in-Ok-gather.ensures.docs ∙ v.docs;
-      before = c.in-Ok-gather.ensures.before ∙ v.before;
-    }
-
-pub fields-preserved-in-Some : goal.fields-preserved-in-Some
-fields-preserved-in-Some c =
-    let start = c.args.gathered.now in
-    let old = c.fields.gathered in
-    let v = c.fields.invariant in
-    let l = c.fields.fields in
-    let p = c.in-Some.ensures in
-    let f : WireField = record { number = 4; value = Text p.body } in
-    let x : PlacedEntry = record { at = c.fields.at; entry = c.in-Some.entry } in
-    let gathered : gathered_of c.take.new.self ≡ gather start.docs start.before (gathered_of old) x = c.in-Ok.ensures.gathered ∙ ap (λ d. gather d old.before (gathered_of old) x) v.docs ∙ ap (λ b. gather start.docs b (gathered_of old) x) v.before in
-    record {
-      walks = walks_on entry_inside c.args.bytes.now c.args.from c.fields.at c.in-Some.next _ v.walks f (x ∷ []) _ p.before p.within p.read (entry_there c.args.bytes.now c.fields.at c.in-Some.entry c.in-Some.next p)
-          (λ done was. (
-            (text_more 1 done.fields f l.term.now l.term.now was.0.0 refl, number_more 2 done.fields f l.df l.df was.0.1 refl, number_more 3 done.fields f l.cf l.cf was.0.2 refl),
-            gathers_more start.docs start.before (gathered_of start) (gathered_of old) (gathered_of c.take.new.self) done.entries (x ∷ []) was.1 gathered,
-          ));
-      docs = c.in-Ok.ensures.docs ∙ v.docs;
-      before = c.in-Ok.ensures.before ∙ v.before;
+      docs = c.in-Ok-gather.ensures.docs ∙ docs;
+      before = c.in-Ok-gather.ensures.before ∙ before;
     }
 
 pub returns-in-Ok-None-clause-read : goal.returns-in-Ok-None-clause-read
 returns-in-Ok-None-clause-read c =
-    let w = c.fields.invariant.walks in
+    let v = c.fields.invariant in
+    let w = walks_behind c.args.bytes.now c.args.from c.fields.at c.in-Ok.next c.args.gathered.now c.fields.gathered c.take_run.new.self c.fields.fields c.in-Ok.ensures.run v.docs v.before v.walks in
     let end = rw c.in-Ok-None.field-0-is at c.in-Ok-None.ensures in
-    let read = walks_end entry_inside c.args.bytes.now c.args.from c.fields.at _ w end in
+    let read = walks_end entry_inside c.args.bytes.now c.args.from c.in-Ok.next _ w end in
     record {
       entries = w.done.entries;
       read = ap (λ (r : Result Walked CiffRefusal). r >>= λ walked. Ok (record { start = list_start_of walked.fields; entries = walked.entries })) read ∙ ap (λ (x : ListStart). Ok (record { start = x; entries = w.done.entries })) (list_start_is c.fields.fields w.done w.so_far.0);
@@ -76,9 +59,14 @@ returns-in-Ok-None-clause-read c =
     }
 
 pub returns-in-Err-next_field-clause-read : goal.returns-in-Err-next_field-clause-read
-returns-in-Err-next_field-clause-read c = walks_refused entry_inside c.args.bytes.now c.args.from c.fields.at _ c.fields.invariant.walks (λ walked. Ok (record { start = list_start_of walked.fields; entries = walked.entries })) c.in-Err-next_field.fault c.refused_field.result c.in-Err-next_field.ensures c.refused_field.ensures
+returns-in-Err-next_field-clause-read c =
+    let v = c.fields.invariant in
+    let w = walks_behind c.args.bytes.now c.args.from c.fields.at c.in-Ok.next c.args.gathered.now c.fields.gathered c.take_run.new.self c.fields.fields c.in-Ok.ensures.run v.docs v.before v.walks in
+    walks_refused entry_inside c.args.bytes.now c.args.from c.in-Ok.next _ w (λ walked. Ok (record { start = list_start_of walked.fields; entries = walked.entries })) c.in-Err-next_field.fault c.refused_field.result c.in-Err-next_field.ensures c.refused_field.ensures
 
 pub returns-in-Err-gather-clause-read : goal.returns-in-Err-gather-clause-read
 returns-in-Err-gather-clause-read c =
+    let v = c.fields.invariant in
+    let w = walks_behind c.args.bytes.now c.args.from c.fields.at c.in-Ok.next c.args.gathered.now c.fields.gathered c.take_run.new.self c.fields.fields c.in-Ok.ensures.run v.docs v.before v.walks in
     let reads = rw c.in-Ok-Some.field-0-is at c.in-Ok-Some.ensures in
-    walks_inside entry_inside c.args.bytes.now c.args.from c.fields.at c.in-Ok-Some.field.next _ c.fields.invariant.walks (λ walked. Ok (record { start = list_start_of walked.fields; entries = walked.entries })) (field_in c.args.bytes.now c.in-Ok-Some.field) c.in-Err-gather.fault reads.1 reads.2 reads.0 c.in-Err-gather.ensures.read
+    walks_inside entry_inside c.args.bytes.now c.args.from c.in-Ok.next c.in-Ok-Some.field.next _ w (λ walked. Ok (record { start = list_start_of walked.fields; entries = walked.entries })) (field_in c.args.bytes.now c.in-Ok-Some.field) c.in-Err-gather.fault reads.1 reads.2 reads.0 c.in-Err-gather.ensures.read

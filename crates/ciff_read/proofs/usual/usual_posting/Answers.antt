@@ -1,22 +1,53 @@
-use Rattle.std.proofs.Common.{◌≡◌, ◌+◌, ◌-◌, ◌*◌, ◌%◌, length, get_or, take, drop, arith}
-use Rattle.ciff_read.proofs.ShortEntries.{narrow, wide, posting_at}
+use Rattle.std.proofs.Common.{◌≡◌, ◌+◌, ◌-◌, ◌*◌, ◌/◌, ◌%◌, ◌<◌, ◌≤◌, ◌⊎◌, length, get_or, take, drop, refl, sym, ap, ◌∙◌, arith}
+use Rattle.std.proofs.lemmas.List.{get_or-drop}
+use Rattle.ciff_read.proofs.ShortEntries.{OneByte, TwoBytes, ThreeBytes, gap_is, usual, usual_gap, posting_at}
 use Rattle.ciff_read.proofs.usual.usual_posting.Goals as goal
 
-pub returns-then-field-lt128-2 : goal.returns-then-field-lt128-2
-returns-then-field-lt128-2 c =
+-- what the bytes of the gap stand for
+gap_there : (c : goal.After-from-tf) → let s = take (length c.args.bytes.now - c.args.at) (drop c.args.at c.args.bytes.now) in
+    let docid = c.from-3.result + c.from-4.result * (128 * c.from-5.result) + c.from-6.result * (16384 * c.from-7.result) in
+    OneByte (get_or s 3 0) c.from-size.result docid ⊎ (TwoBytes (get_or s 3 0) (get_or s 4 0) c.from-size.result docid ⊎ ThreeBytes (get_or s 3 0) (get_or s 4 0) (get_or s 5 0) c.from-size.result docid)
+gap_there c =
     let bytes = c.args.bytes.now in
     let at = c.args.at in
     let s = take (length bytes - at) (drop at bytes) in
-    posting_at bytes at c.from-docid.result c.from-tf.result 6 (at + 6) c.requires (omega arith) (omega arith)
-    (narrow s c.from-docid.result c.from-tf.result (omega (arith, c.if-field-lt6.false)) c.if-field-ne34.false c.if-field-eq4.true c.if-field-ne8.false c.if-field-lt128.true c.if-field-eq16.true c.if-field-lt128-2.true c.from-docid.ensures c.from-tf.ensures)
+    let x = get_or s 3 0 in
+    let y = get_or s 4 0 in
+    let z = get_or s 5 0 in
+    let size = c.from-size.result in
+    let docid = c.from-3.result + c.from-4.result * (128 * c.from-5.result) + c.from-6.result * (16384 * c.from-7.result) in
+    let x_byte : x < 256 = omega (arith, c.type_inv.bytes (at + 3), get_or-drop at bytes 3 0) in
+    let y_byte : y < 256 = omega (arith, c.type_inv.bytes (at + 4), get_or-drop at bytes 4 0) in
+    let size_is : size ≡ 4 + x / 128 + x / 128 * (y / 128) = c.if-size-from.false ∙ ap (λ n. 4 + n + c.from-2.result) c.from.ensures ∙ ap (λ n. 4 + x / 128 + n) c.from-2.ensures in
+    let docid_is : docid ≡ x % 128 + x / 128 * (128 * (y % 128)) + x / 128 * (y / 128) * (16384 * (z % 128)) = rw (c.from-3.ensures, c.from-4.ensures, c.from-5.ensures, c.from-6.ensures, c.from-7.ensures) refl in
+    gap_is x y z (x / 128) (y / 128) size docid x_byte y_byte refl refl size_is docid_is
 
-pub returns-then-field-lt128-4 : goal.returns-then-field-lt128-4
-returns-then-field-lt128-4 c =
+pub returns-clause-posting : goal.returns-clause-posting
+returns-clause-posting c =
     let bytes = c.args.bytes.now in
     let at = c.args.at in
     let s = take (length bytes - at) (drop at bytes) in
-    let tf = c.from-tf-then-field-lt128-4.result in
-    let docid = c.from.result + 128 * c.from-then-field-lt128-4.result in
-    let docid_is : docid ≡ get_or s 3 0 % 128 + 128 * get_or s 4 0 = omega (arith, c.from.ensures, c.from-then-field-lt128-4.ensures) in
-    posting_at bytes at docid tf 7 (at + 7) c.requires (omega arith) (omega arith)
-    (wide s docid tf (omega (arith, c.if-field-ge7.true)) c.if-field-ne34.false c.if-field-eq5.true c.if-field-ne8.false c.if-field-ge128.true c.if-field-lt128-3.true c.if-field-eq16-2.true c.if-field-lt128-4.true docid_is c.from-tf-then-field-lt128-4.ensures)
+    let size = c.from-size.result in
+    let docid = c.from-3.result + c.from-4.result * (128 * c.from-5.result) + c.from-6.result * (16384 * c.from-7.result) in
+    let inside : size + 2 ≤ length s = omega (arith, c.if-field-size.false) in
+    let low : get_or s (size - 1) 0 < 128 = omega (arith, c.if-last-ge128.false) in
+    let tf_low : get_or s (size + 1) 0 < 128 = omega (arith, c.if-tf-ge128.false) in
+    posting_at bytes at docid c.from-tf.result (size + 2) (at + size + 2) c.requires (omega arith) (omega arith)
+    (usual s docid c.from-tf.result size (gap_there c) inside c.if-field-ne34.false (sym c.from-size.ensures) c.if-field-ne8.false low c.if-field-size-ne16.false tf_low c.from-tf.ensures)
+
+pub returns-clause-usual : goal.returns-clause-usual
+returns-clause-usual c =
+    let bytes = c.args.bytes.now in
+    let at = c.args.at in
+    let s = take (length bytes - at) (drop at bytes) in
+    let size = c.from-size.result in
+    let docid = c.from-3.result + c.from-4.result * (128 * c.from-5.result) + c.from-6.result * (16384 * c.from-7.result) in
+    let some : 0 < get_or s (size - 1) 0 = omega (arith, c.if-last-eq0.false) in
+    let low : get_or s (size - 1) 0 < 128 = omega (arith, c.if-last-ge128.false) in
+    let gap = usual_gap s docid c.from-tf.result size (gap_there c) some low in
+    record {
+      some_gap = gap.0;
+      small_gap = gap.1;
+      some_tf = omega (arith, c.from-tf.ensures, c.if-tf-eq0.false);
+      small_tf = omega (arith, c.from-tf.ensures, c.if-tf-ge128.false);
+    }
