@@ -1,6 +1,7 @@
 -- Postings in their usual spelling, one behind the other.
-use Rattle.std.proofs.Common.{◌≡◌, ℕ, ◌+◌, ◌^◌, ◌<◌, List, [], ◌∷◌, ◌++◌, length, Option, Some, None, Result, Ok, refl, sym, ap, subst, ◌∙◌, arith}
+use Rattle.std.proofs.Common.{◌≡◌, ℕ, ◌+◌, ◌-◌, ◌^◌, ◌<◌, ◌≤◌, List, [], ◌∷◌, ◌++◌, length, drop, Option, Some, None, Result, Ok, refl, sym, ap, subst, ◌∙◌, arith}
 use Rattle.std.specs.Prelude.{fold}
+use Rattle.std.proofs.lemmas.List.{length-drop, drop-drop}
 use Rattle.jass_base.specs.declared.posting.Posting.{Posting}
 use Rattle.jass_base.specs.Wire.{WireField, Text}
 use Rattle.ciff_read.specs.declared.entry.Entry.{Entry}
@@ -50,32 +51,15 @@ module _ (docs before last : ℕ) (ps : List Posting) (entry : Entry) (p : Posti
       let judged = judged_ok docs before ps entry p kept.few_docs doc passes.tf (λ some. omega (arith, passes.doc, kept.last_is, passes.usual.some_gap)) passes.below follows.tf passes.room in
       ap (λ (r : Result Posting CiffWhy). placed at r >>= λ p. Ok (ps ++ p ∷ [])) judged
 
--- one posting more where none was refused
-pub gathers_one : (docs before : ℕ) (x : PlacedEntry) (refusal : Option CiffRefusal) (ps now : List Posting) (p : Posting) → refusal ≡ None → now ≡ ps ++ p ∷ [] → gather docs before (Ok ps) x ≡ Ok (ps ++ p ∷ [])
-    → gathered_in refusal now ≡ gather docs before (gathered_in refusal ps) x
-gathers_one docs before x None ps now p none is gathers = ap (λ (qs : List Posting). Ok qs) is ∙ sym gathers
-gathers_one docs before x (Some r) ps now p none is gathers = absurd cc
-
 -- ---- one posting more in a run
 
-pub run-snoc : (bytes : List ℕ) (from at next : ℕ) (entries : List PlacedEntry) (entry : Entry) → IsRun bytes from entries at → IsPosting bytes at entry next → IsRun bytes from (entries ++ record { at = at; entry = entry } ∷ []) next
+run-snoc : (bytes : List ℕ) (from at next : ℕ) (entries : List PlacedEntry) (entry : Entry) → IsRun bytes from entries at → IsPosting bytes at entry next → IsRun bytes from (entries ++ record { at = at; entry = entry } ∷ []) next
 run-snoc bytes from at next [] entry run p = (sym run, (next, subst (λ n. IsPosting bytes n entry next) (sym run) p, refl))
 run-snoc bytes from at next (x ∷ xs) entry run p = (run.0, (run.1.0, run.1.1, run-snoc bytes run.1.0 at next xs entry run.1.2 p))
 
-pub run_longer : (bytes : List ℕ) (from at next : ℕ) (old now later : Gathered) (entry : Entry) → GathersRun bytes from at old now → IsPosting bytes at entry next
-    → gathered_of later ≡ gather old.docs old.before (gathered_of now) (record { at = at; entry = entry }) → GathersRun bytes from next old later
-run_longer bytes from at next old now later entry was p is =
-    let x : PlacedEntry = record { at = at; entry = entry } in record {
-      entries = was.entries ++ x ∷ [];
-      run = run-snoc bytes from at next was.entries entry was.run p;
-      forward = omega (arith, was.forward, p.before);
-      within = p.within;
-      gathered = gathers_more old.docs old.before (gathered_of old) (gathered_of now) (gathered_of later) was.entries (x ∷ []) was.gathered is;
-    }
-
 -- ---- the walk behind a run
 
-pub walks_run : (bytes : List ℕ) (from at next docs before : ℕ) (start so_far : Result (List Posting) CiffRefusal) (l : ListFields) (entries : List PlacedEntry) → IsRun bytes at entries next
+walks_run : (bytes : List ℕ) (from at next docs before : ℕ) (start so_far : Result (List Posting) CiffRefusal) (l : ListFields) (entries : List PlacedEntry) → IsRun bytes at entries next
     → Walks entry_inside bytes from at (λ done. IsListStart l done × (so_far ≡ fold (gather docs before) start done.entries))
     → Walks entry_inside bytes from next (λ done. IsListStart l done × (fold (gather docs before) so_far entries ≡ fold (gather docs before) start done.entries))
 walks_run bytes from at next docs before start so_far l [] run w = subst (λ n. Walks entry_inside bytes from n (λ done. IsListStart l done × (so_far ≡ fold (gather docs before) start done.entries))) run w
@@ -99,3 +83,59 @@ walks_behind bytes from at next start old now l run docs before w =
     let gathered : gathered_of now ≡ fold (gather start.docs start.before) (gathered_of old) run.entries = run.gathered ∙ ap (λ d. fold (gather d old.before) (gathered_of old) run.entries) docs ∙ ap (λ b. fold (gather start.docs b) (gathered_of old) run.entries) before in
     subst (λ (r : Result (List Posting) CiffRefusal). Walks entry_inside bytes from next (λ done. IsListStart l done × (r ≡ fold (gather start.docs start.before) (gathered_of start) done.entries))) (sym gathered)
     (walks_run bytes from at next start.docs start.before (gathered_of start) (gathered_of old) l run.entries run.run w)
+
+-- ---- a run while its postings are in hand
+
+-- the rest of the bytes behind a run, and the postings with those of the run
+pub record InHand (bytes : List ℕ) (from docs before last : ℕ) (start : Result (List Posting) CiffRefusal) (rest : List ℕ) (ps : List Posting) : Type 0 where
+  pub at : ℕ
+  pub rest_is : rest ≡ drop at bytes
+  pub entries : List PlacedEntry
+  pub run : IsRun bytes from entries at
+  pub forward : from ≤ at
+  pub within : at ≤ length bytes
+  pub gathered : Ok ps ≡ fold (gather docs before) start entries
+  pub kept : AreKept docs before last ps
+
+pub first_in_hand : (bytes : List ℕ) (from docs before last : ℕ) (refusal : Option CiffRefusal) (rest : List ℕ) (ps : List Posting) → from ≤ length bytes → rest ≡ drop from bytes → refusal ≡ None → AreKept docs before last ps
+    → InHand bytes from docs before last (gathered_in refusal ps) rest ps
+first_in_hand bytes from docs before last None rest ps within is none kept = record { at = from; rest_is = is; entries = []; run = refl; forward = omega arith; within = within; gathered = refl; kept = kept }
+first_in_hand bytes from docs before last (Some r) rest ps within is none kept = absurd cc
+
+-- a posting at the front of the rest
+there : (bytes rest : List ℕ) (at size : ℕ) (entry : Entry) → at ≤ length bytes → rest ≡ drop at bytes → IsPosting rest 0 entry size → IsPosting bytes at entry (at + size)
+there bytes rest at size entry within is p = let q = subst (λ (s : List ℕ). IsPosting s 0 entry size) is p in record {
+  body = q.body;
+  read = q.read ∙ ap (λ (s : List ℕ). Ok (record { number = 4; value = Text q.body }, s)) (drop-drop size at bytes);
+  spells = q.spells;
+  before = omega (arith, q.before);
+  within = omega (arith, q.within, length-drop at bytes, within);
+}
+
+pub next_in_hand : (bytes : List ℕ) (from docs before last size : ℕ) (start : Result (List Posting) CiffRefusal) (rest later : List ℕ) (ps now : List Posting) (entry : Entry) (p : Posting) → InHand bytes from docs before last start rest ps
+    → Passes docs before last ps entry p → IsPosting rest 0 entry size → later ≡ drop size rest → now ≡ ps ++ p ∷ [] → InHand bytes from docs before p.doc start later now
+next_in_hand bytes from docs before last size start rest later ps now entry p h passes posting later_is now_is =
+    let x : PlacedEntry = record { at = h.at; entry = entry } in
+    let q = there bytes rest h.at size entry h.within h.rest_is posting in
+    let more = gathers_usual docs before last ps entry p h.kept passes h.at in
+    record {
+      at = h.at + size;
+      rest_is = later_is ∙ ap (λ (s : List ℕ). drop size s) h.rest_is ∙ drop-drop size h.at bytes;
+      entries = h.entries ++ x ∷ [];
+      run = run-snoc bytes from h.at (h.at + size) h.entries entry h.run q;
+      forward = omega (arith, h.forward);
+      within = q.within;
+      gathered = gathers_more docs before start (Ok ps) (Ok now) h.entries (x ∷ []) h.gathered (ap (λ (qs : List Posting). Ok qs) now_is ∙ sym more);
+      kept = subst (AreKept docs before p.doc) (sym now_is) (kept_usual docs before last ps entry p h.kept passes);
+    }
+
+pub run_in_hand : (bytes : List ℕ) (from last : ℕ) (old now : Gathered) (rest : List ℕ) (ps : List Posting) → InHand bytes from old.docs old.before last (gathered_of old) rest ps → gathered_of now ≡ Ok ps → GathersRun bytes from (length bytes - length rest) old now
+run_in_hand bytes from last old now rest ps h is =
+    let place : length bytes - length rest ≡ h.at = omega (arith, ap length h.rest_is, length-drop h.at bytes, h.within) in
+    record {
+      entries = h.entries;
+      run = subst (λ n. IsRun bytes from h.entries n) (sym place) h.run;
+      forward = omega (arith, place, h.forward);
+      within = omega arith;
+      gathered = is ∙ h.gathered;
+    }

@@ -4,9 +4,10 @@ ghost use Rattle.ciff_read.specs.Judging.{judge};
 
 use crate::entry::Entry;
 use crate::refusal::{CiffRefusal, CiffWhy};
-use crate::usual::usual_posting;
+use crate::usual::{POSTING_TAG, usual_posting};
 use jass_base::{NoMemory, Posting, Row};
 use std::alloc::Global;
+use std::mem::replace;
 
 /// The limit of postings in a file.
 const MOST_POSTINGS: u64 = 536_870_912;
@@ -84,38 +85,46 @@ impl Gathered {
     }
 
     /// Takes the postings in their usual spelling that stand one behind the other from a place
-    /// on, up to the first that is refused, and gives the place behind them.
-    pub fn take_run(&mut self, bytes: &[u8], from: usize) -> Result<usize, NoMemory>
+    /// on, up to the first that is refused or that there is no room for, and gives the place
+    /// behind them.
+    pub fn take_run(&mut self, alloc: Global, bytes: &[u8], from: usize) -> usize
         requires { from ≤ length bytes.now }
-        ensures run { IfOk result (λ next. GathersRun bytes.now from next self.old self.new) }
+        ensures run { GathersRun bytes.now from result self.old self.new }
         ensures docs { self.new.docs ≡ self.old.docs }
         ensures before { self.new.before ≡ self.old.before }
     {
         if self.refusal.is_some() {
-            return Ok(from);
+            return from;
         }
+        if from == bytes.len() || bytes[from] != POSTING_TAG {
+            return from;
+        }
+        // The loop has all that it changes in locals, which stay in registers.
+        let mut last = replace(&mut self.last, 0);
+        let mut postings = replace(&mut self.postings, Row::new(alloc)).into_vec();
         let docs = u64::from(self.docs);
-        let most = MOST_POSTINGS - self.before;
-        let mut at = from;
-        'run: loop {
-            let Some((entry, next)) = usual_posting(bytes, at) else {
-                return Ok(at);
+        let room = postings
+            .capacity()
+            .min((MOST_POSTINGS - self.before) as usize);
+        let mut rest = &bytes[from..];
+        'run: while postings.len() < room {
+            let Some((entry, size)) = usual_posting(rest, 0) else {
+                break;
             };
-            let doc = u64::from(self.last) + entry.docid;
-            if doc >= docs || self.postings.len() as u64 >= most {
-                return Ok(at);
+            let doc = u64::from(last) + entry.docid;
+            if doc >= docs {
+                break;
             }
-            let posting = Posting {
-                doc: doc as u32,
+            last = doc as u32;
+            postings.push_reserved(Posting {
+                doc: last,
                 tf: entry.tf as u32,
-            };
-            match self.postings.push(posting) {
-                Ok(()) => {}
-                Err((_, refused)) => return Err(refused),
-            }
-            self.last = posting.doc;
-            at = next;
+            });
+            rest = &rest[size..];
         }
+        self.last = last;
+        self.postings = Row::from_vec(postings);
+        bytes.len() - rest.len()
     }
 
     /// The next posting, or why it is refused.

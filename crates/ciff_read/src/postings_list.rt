@@ -89,7 +89,7 @@ pub fn walk_one<'a>(
         Ok(gathered) => gathered,
         Err(_) => return Err(CiffFault::NoMemory),
     };
-    let fields = match walk_list(&bytes[..body.end], body.from, &mut gathered) {
+    let fields = match walk_list(alloc, &bytes[..body.end], body.from, &mut gathered) {
         Ok(fields) => fields,
         Err(fault) => return Err(fault),
     };
@@ -109,6 +109,7 @@ pub fn walk_one<'a>(
 
 /// Walks the fields from a place to the end of `bytes`, and gathers the postings.
 fn walk_list<'a>(
+    alloc: Global,
     bytes: &'a [u8],
     from: usize,
     gathered: &mut Gathered,
@@ -125,10 +126,7 @@ fn walk_list<'a>(
     };
     let mut at = from;
     'fields: loop {
-        match gathered.take_run(bytes, at) {
-            Ok(next) => at = next,
-            Err(_) => return Err(CiffFault::NoMemory),
-        }
+        at = gathered.take_run(alloc, bytes, at);
         match next_field(bytes, at) {
             Ok(Some(field)) => {
                 fields.term = field.bytes_or(1, bytes, fields.term);

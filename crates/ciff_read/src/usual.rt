@@ -3,6 +3,9 @@ ghost use Rattle.ciff_read.specs.Usual.{IsPosting, IsUsual};
 
 use crate::entry::Entry;
 
+/// The first byte of a posting: the field number 4 with the wire type of bytes.
+pub const POSTING_TAG: u8 = 0x22;
+
 /// A posting of a list in its usual spelling, with a gap of one to three bytes and a tf of one,
 /// neither of them 0, and the place behind its field. Nearly all postings are spelled so.
 #[inline(always)]
@@ -12,7 +15,7 @@ pub fn usual_posting(bytes: &[u8], at: usize) -> Option<(Entry, usize)>
     ensures usual { IfSome result (λ x. IsUsual x.0) }
 {
     let field = &bytes[at..];
-    if field.len() < 6 || field[0] != 0x22 || field[2] != 0x08 {
+    if field.len() < 6 || field[0] != POSTING_TAG || field[2] != 0x08 {
         return None;
     }
     // The top bit of a byte says that one more follows. The bytes of a gap are counted and put

@@ -33,7 +33,7 @@ returns-clause-posting c =
     let low : get_or s (size - 1) 0 < 128 = omega (arith, c.if-last-ge128.false) in
     let tf_low : get_or s (size + 1) 0 < 128 = omega (arith, c.if-tf-ge128.false) in
     posting_at bytes at docid c.from-tf.result (size + 2) (at + size + 2) c.requires (omega arith) (omega arith)
-    (usual s docid c.from-tf.result size (gap_there c) inside c.if-field-ne34.false (sym c.from-size.ensures) c.if-field-ne8.false low c.if-field-size-ne16.false tf_low c.from-tf.ensures)
+    (usual s docid c.from-tf.result size (gap_there c) inside c.if-field-ne-POSTING_TAG.false (sym c.from-size.ensures) c.if-field-ne8.false low c.if-field-size-ne16.false tf_low c.from-tf.ensures)
 
 pub returns-clause-usual : goal.returns-clause-usual
 returns-clause-usual c =

@@ -1,15 +1,14 @@
-use Rattle.std.proofs.Common.{◌≡◌, ◌-◌, ◌<◌, ◌^◌, length, None}
-use Rattle.ciff_read.specs.Places.{GathersRun}
+use Rattle.std.proofs.Common.{◌≡◌, ◌-◌, ◌<◌, ◌≤◌, ◌^◌, length, vec_capacity}
+use Rattle.ciff_read.specs.Places.{gathered_of}
+use Rattle.ciff_read.proofs.Runs.{InHand}
 use Rattle.ciff_read.proofs.gathered.Gathered.take_run.Given as goal
 
 abbrev pub invariant-run : goal.invariant-run
 invariant-run l = record {
-  run : GathersRun l.bytes l.from l.at l.fn.self l.self;
-  docs : l.self.docs ≡ l.fn.self.docs;
-  before : l.self.before ≡ l.fn.self.before;
-  none : l.self.refusal ≡ None;
-  small : l.self.last < 2 ^ 32;
+  hand : InHand l.bytes l.from l.fn.self.docs l.fn.self.before l.last (gathered_of l.fn.self) l.rest l.postings.items;
+  room : l.room ≤ vec_capacity l.postings;
+  small : l.last < 2 ^ 32;
 }
 
 abbrev pub decreases-run : goal.decreases-run
-decreases-run l = length l.bytes - l.at
+decreases-run l = length l.rest
