@@ -1,6 +1,7 @@
 -- Fields whose tag is one byte.
-use Rattle.std.proofs.Common.{◌≡◌, ◌≢◌, ℕ, suc, ◌+◌, ◌*◌, ◌<◌, false, true, List, [], ◌∷◌, ◌++◌, length, map, drop, get_or, refl, sym, ap, ◌∙◌, append_assoc, drop-cons, add-one, length-append, arith}
-use Rattle.std.specs.Prelude.{◌==◌}
+use Rattle.std.proofs.Common.{◌≡◌, ◌≢◌, ℕ, suc, ◌+◌, ◌*◌, ◌<◌, ◌≤◌, false, true, List, [], ◌∷◌, ◌++◌, length, map, drop, get_or, refl, sym, ap, ◌∙◌, append_assoc, drop-cons, add-one, length-append, arith}
+use Rattle.std.specs.Prelude.{◌==◌, nat_le}
+use mir.Val.{bool_byte}
 use Rattle.std.proofs.lemmas.Bool.Decides.{nat_tests}
 use Rattle.jass_base.specs.Wire.{short_varint}
 use Rattle.std.specs.List.{list_all, flat_map}
@@ -12,7 +13,7 @@ use Rattle.jass_base.specs.declared.collection.Collection.{Collection}
 use Rattle.jass_base.specs.Ciff.{HeaderData, ListData, DocData}
 use Rattle.jass_base.specs.CiffViews.{header_data, list_data, doc_data, collection_data}
 use Rattle.jass_base.specs.CiffText.{sized, number_spelling, text_spelling, eight_spelling, postings_spelling, header_body, list_body, doc_body, docs_spelling, canonical_ciff}
-use Rattle.ciff_write.proofs.Varints.{small_varint}
+use Rattle.ciff_write.proofs.Varints.{small_varint, few_groups}
 
 pub number_some : (i n : ℕ) → n ≢ 0 → i < 16 → number_spelling i n ≡ (i * 8) ∷ short_varint n
 number_some i n some small =
@@ -109,3 +110,23 @@ file_spelled c n m lists docs l d size_l size_d =
     ∙ ap (λ (ds : List DocRecord). head ++ (flat_map (λ (l : PostingsList). sized (list_body (list_data l))) c.lists ++ docs_spelling 0 (map doc_data ds))) d
     ∙ ap (λ (s : List ℕ). head ++ (s ++ docs_spelling 0 (map doc_data c.docs))) (lists_of c.lists)
     ∙ sym (append_assoc head (flat_map (λ (l : ListData). sized (list_body l)) (map list_data c.lists)) (docs_spelling 0 (map doc_data c.docs)))
+
+-- a posting whose tf has one byte
+pub posting_spelled : (gap tf : ℕ) (groups : List ℕ) → gap ≢ 0 → tf ≢ 0 → tf < 128 → length groups ≤ 10 → short_varint gap ≡ groups →
+    short_varint 34 ++ sized (number_spelling 1 gap ++ number_spelling 2 tf) ≡ 34 ∷ (3 + length groups) ∷ 8 ∷ (groups ++ 16 ∷ tf ∷ [])
+posting_spelled gap tf groups some often small few is =
+    let first : number_spelling 1 gap ≡ 8 ∷ groups = number_some 1 gap some (omega arith) ∙ ap (λ (s : List ℕ). 8 ∷ s) is in
+    let second : number_spelling 2 tf ≡ 16 ∷ tf ∷ [] = number_some 2 tf often (omega arith) ∙ ap (λ (s : List ℕ). 16 ∷ s) (small_varint tf small) in
+    let body : number_spelling 1 gap ++ number_spelling 2 tf ≡ 8 ∷ (groups ++ 16 ∷ tf ∷ []) = ap (λ (s : List ℕ). s ++ number_spelling 2 tf) first ∙ ap (λ (s : List ℕ). 8 ∷ (groups ++ s)) second in
+    let size : length (8 ∷ (groups ++ 16 ∷ tf ∷ [])) ≡ 3 + length groups = omega (arith, length-append groups (16 ∷ tf ∷ [])) in
+    let head : short_varint (length (8 ∷ (groups ++ 16 ∷ tf ∷ []))) ≡ (3 + length groups) ∷ [] = ap short_varint size ∙ small_varint (3 + length groups) (omega (arith, few)) in
+    ap (λ (s : List ℕ). s ++ sized (number_spelling 1 gap ++ number_spelling 2 tf)) (small_varint 34 (omega arith))
+    ∙ ap (λ (s : List ℕ). 34 ∷ sized s) body
+    ∙ ap (λ (s : List ℕ). 34 ∷ (s ++ 8 ∷ (groups ++ 16 ∷ tf ∷ []))) head
+
+-- and how many bytes its body has
+pub posting_long : (gap tf a b : ℕ) → gap ≢ 0 → gap < 2097152 → tf ≢ 0 → tf < 128 → a ≡ bool_byte (nat_le 128 gap) → b ≡ bool_byte (nat_le 16384 gap) → 4 + a + b ≡ length (number_spelling 1 gap ++ number_spelling 2 tf)
+posting_long gap tf a b some short often small p q =
+    let first : length (number_spelling 1 gap) ≡ suc (length (short_varint gap)) = ap length (number_some 1 gap some (omega arith)) in
+    let second : length (number_spelling 2 tf) ≡ 2 = ap length (number_some 2 tf often (omega arith)) ∙ ap (λ (s : List ℕ). suc (length s)) (small_varint tf small) in
+    omega (arith, p, q, first, second, few_groups gap short, length-append (number_spelling 1 gap) (number_spelling 2 tf))

@@ -1,6 +1,7 @@
 -- A shortest varint that is spelled, or counted, group by group.
-use Rattle.std.proofs.Common.{◌≡◌, ℕ, zero, suc, ◌+◌, ◌*◌, ◌^◌, ◌%◌, ◌/◌, ◌<◌, ◌≤◌, true, false, List, [], ◌∷◌, ◌++◌, length, refl, sym, ap, ◌∙◌, append_assoc, length-append, arith}
-use Rattle.std.specs.Prelude.{nat_lt}
+use Rattle.std.proofs.Common.{◌≡◌, ℕ, zero, suc, ◌+◌, ◌*◌, ◌^◌, ◌%◌, ◌/◌, ◌<◌, ◌≤◌, Bool, true, false, List, [], ◌∷◌, ◌++◌, length, refl, sym, ap, ◌∙◌, append_assoc, length-append, arith}
+use Rattle.std.specs.Prelude.{nat_lt, nat_le}
+use mir.Val.{bool_byte}
 use Rattle.std.proofs.lemmas.Bool.Decides.{nat_tests}
 use Rattle.std.proofs.Math.Nat.{pow-suc}
 use Rattle.jass_base.specs.Wire.{short_varint_within, short_varint}
@@ -67,3 +68,29 @@ counted_few len value left (k, fits, size, is) = omega (arith, size)
 pub small_varint : (n : ℕ) → n < 128 → short_varint n ≡ n ∷ []
 unfolding short_varint
 small_varint n small = last_group 9 n small
+
+pub two_groups : (n : ℕ) → 128 ≤ n → n < 16384 → short_varint n ≡ (n % 128 + 128) ∷ n / 128 ∷ []
+unfolding short_varint
+two_groups n large small = more_groups 8 n large ∙ ap (λ (s : List ℕ). (n % 128 + 128) ∷ s) (last_group 8 (n / 128) (omega (arith, small)))
+
+pub three_groups : (n : ℕ) → 16384 ≤ n → n < 2097152 → short_varint n ≡ (n % 128 + 128) ∷ (n / 128 % 128 + 128) ∷ n / 16384 ∷ []
+unfolding short_varint
+three_groups n large small =
+    let rest : n / 128 / 128 ≡ n / 16384 = omega arith in
+    more_groups 8 n (omega (arith, large)) ∙ ap (λ (s : List ℕ). (n % 128 + 128) ∷ s) (more_groups 7 (n / 128) (omega (arith, large)) ∙ ap (λ (s : List ℕ). (n / 128 % 128 + 128) ∷ s) (last_group 7 (n / 128 / 128) (omega (arith, small)) ∙ ap (λ (x : ℕ). x ∷ []) rest))
+
+not_within : (bound n : ℕ) → nat_le bound n ≡ false → n < bound
+not_within bound n is = grind (arith, nat_tests)
+
+within : (bound n : ℕ) → nat_le bound n ≡ true → bound ≤ n
+within bound n is = grind (arith, nat_tests)
+
+-- one group more for each bound that a number below 2^21 reaches
+pub few_groups : (n : ℕ) → n < 2097152 → length (short_varint n) ≡ 1 + (bool_byte (nat_le 128 n) + bool_byte (nat_le 16384 n))
+few_groups n small = go (nat_le 128 n) (nat_le 16384 n) refl refl
+  where
+    go : (a b : Bool) → nat_le 128 n ≡ a → nat_le 16384 n ≡ b → length (short_varint n) ≡ 1 + (bool_byte a + bool_byte b)
+    go false false p q = ap length (small_varint n (not_within 128 n p))
+    go true false p q = ap length (two_groups n (within 128 n p) (not_within 16384 n q))
+    go true true p q = ap length (three_groups n (within 16384 n q) small)
+    go false true p q = absurd (omega (arith, not_within 128 n p, within 16384 n q))

@@ -51,6 +51,7 @@ impl Buffer {
     }
 
     /// Puts bytes for which there is room behind the others.
+    #[inline(always)]
     pub fn push(&mut self, bytes: &[u8])
         requires { length self.old + length bytes.now ≤ 65536 }
         ensures { self.new ≡ self.old ++ bytes.now }

@@ -30,6 +30,7 @@ pub fn flush<S: Sink>(out: &mut S, buffer: &mut Buffer) -> Result<(), WriteFault
 }
 
 /// Makes room for so many bytes: what was gathered goes to the sink where there is too little.
+#[inline(always)]
 pub fn make_room<S: Sink>(out: &mut S, buffer: &mut Buffer, count: usize) -> Result<(), WriteFault>
     requires { count ≤ 65536 }
     ensures text { Gathers S.written S.faults S.rest out.old out.new buffer.old buffer.new [] result }

@@ -80,6 +80,7 @@ fn put_postings<S: Sink>(
 }
 
 /// Puts the field of a posting, by its gap.
+#[inline(always)]
 fn put_posting<S: Sink>(
     out: &mut S,
     buffer: &mut Buffer,

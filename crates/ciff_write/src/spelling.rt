@@ -19,6 +19,12 @@ pub const POSTING_ROOM: usize = 24;
 /// The tag of a posting in its list: field 4, a message.
 const POSTING: u8 = 34;
 
+/// The tag of the gap in a posting: field 1, a number.
+const GAP: u8 = 8;
+
+/// The tag of the tf in a posting: field 2, a number.
+const TF: u8 = 16;
+
 /// Puts the shortest varint of a number.
 pub fn push_varint(buffer: &mut Buffer, value: u64)
     requires { length buffer.old + 10 ≤ 65536 }
@@ -46,8 +52,34 @@ pub fn push_number(buffer: &mut Buffer, field: u8, value: u64)
     }
 }
 
-/// Puts the field of a posting, by its gap.
+/// Puts the field of a posting, by its gap. Nearly all gaps have one to three bytes, and
+/// nearly all tf one.
+#[inline(always)]
 pub fn push_posting(buffer: &mut Buffer, gap: u32, tf: u32)
+    requires { length buffer.old + 24 ≤ 65536 }
+    ensures { buffer.new ≡ buffer.old ++ (short_varint (4 * 8 + 2)
+        ++ sized (number_spelling 1 gap ++ number_spelling 2 tf)) }
+{
+    if gap == 0 || gap >= 2_097_152 || tf == 0 || tf >= 128 {
+        push_any_posting(buffer, gap, tf);
+        return;
+    }
+    let tf = tf as u8;
+    if gap < 128 {
+        buffer.push(&[POSTING, 4, GAP, gap as u8, TF, tf]);
+        return;
+    }
+    let low = (gap % 128 + 128) as u8;
+    if gap < 16_384 {
+        buffer.push(&[POSTING, 5, GAP, low, (gap / 128) as u8, TF, tf]);
+        return;
+    }
+    let middle = (gap / 128 % 128 + 128) as u8;
+    buffer.push(&[POSTING, 6, GAP, low, middle, (gap / 16_384) as u8, TF, tf]);
+}
+
+/// Puts the field of a posting of any numbers.
+fn push_any_posting(buffer: &mut Buffer, gap: u32, tf: u32)
     requires { length buffer.old + 24 ≤ 65536 }
     ensures { buffer.new ≡ buffer.old ++ (short_varint (4 * 8 + 2)
         ++ sized (number_spelling 1 gap ++ number_spelling 2 tf)) }

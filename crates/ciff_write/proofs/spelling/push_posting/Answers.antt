@@ -1,16 +1,22 @@
-use Rattle.std.proofs.Common.{◌≡◌, List, ℕ, [], ◌∷◌, ◌++◌, ap, ◌∙◌, arith}
-use Rattle.jass_base.specs.CiffText.{number_spelling}
-use Rattle.ciff_write.proofs.Fields.{posting_put}
+use Rattle.std.proofs.Common.{ℕ, List, [], ◌∷◌, ◌++◌, ◌+◌, ◌%◌, ◌/◌, sym, ap, ◌∙◌, arith}
+use Rattle.ciff_write.proofs.Fields.{posting_spelled}
+use Rattle.ciff_write.proofs.Varints.{small_varint, two_groups, three_groups}
 use Rattle.ciff_write.proofs.spelling.push_posting.Goals as goal
+
+pub returns-then-gap-lt128 : goal.returns-then-gap-lt128
+returns-then-gap-lt128 c =
+    let gap : ℕ = c.args.gap in
+    let spelled = posting_spelled gap c.args.tf (gap ∷ []) c.if-gap-eq0.false c.if-tf-eq0.false c.if-tf-ge128.false (omega arith) (small_varint gap c.if-gap-lt128.true) in
+    c.push.ensures ∙ ap (λ (s : List ℕ). c.args.buffer.now ++ s) (sym spelled)
+
+pub returns-then-gap-lt16384 : goal.returns-then-gap-lt16384
+returns-then-gap-lt16384 c =
+    let gap : ℕ = c.args.gap in
+    let spelled = posting_spelled gap c.args.tf ((gap % 128 + 128) ∷ gap / 128 ∷ []) c.if-gap-eq0.false c.if-tf-eq0.false c.if-tf-ge128.false (omega arith) (two_groups gap c.if-gap-lt128.false c.if-gap-lt16384.true) in
+    c.push-then-gap-lt16384.ensures ∙ ap (λ (s : List ℕ). c.args.buffer.now ++ s) (sym spelled)
 
 pub returns : goal.returns
 returns c =
-    let a : List ℕ = number_spelling 1 c.args.gap in
-    let b : List ℕ = number_spelling 2 c.args.tf in
-    let size : ℕ = c.posting_len.result in
-    let with_size : c.push_byte-2.new.self ≡ (c.args.buffer.now ++ 34 ∷ []) ++ size ∷ [] = c.push_byte-2.ensures ∙ ap (λ (s : List ℕ). s ++ size ∷ []) c.push_byte.ensures in
-    let with_gap : c.push_number.new.buffer ≡ ((c.args.buffer.now ++ 34 ∷ []) ++ size ∷ []) ++ a
-    = c.push_number.ensures.bytes ∙ ap (λ (s : List ℕ). s ++ number_spelling 1 c.from.result) with_size ∙ ap (λ (n : ℕ). ((c.args.buffer.now ++ 34 ∷ []) ++ size ∷ []) ++ number_spelling 1 n) c.from.ensures in
-    let with_tf : c.push_number-2.new.buffer ≡ (((c.args.buffer.now ++ 34 ∷ []) ++ size ∷ []) ++ a) ++ b
-    = c.push_number-2.ensures.bytes ∙ ap (λ (s : List ℕ). s ++ number_spelling 2 c.from-2.result) with_gap ∙ ap (λ (n : ℕ). (((c.args.buffer.now ++ 34 ∷ []) ++ size ∷ []) ++ a) ++ number_spelling 2 n) c.from-2.ensures in
-    with_tf ∙ posting_put c.args.buffer.now a b size c.posting_len.ensures.len (omega (arith, c.posting_len.ensures.few))
+    let gap : ℕ = c.args.gap in
+    let spelled = posting_spelled gap c.args.tf ((gap % 128 + 128) ∷ (gap / 128 % 128 + 128) ∷ gap / 16384 ∷ []) c.if-gap-eq0.false c.if-tf-eq0.false c.if-tf-ge128.false (omega arith) (three_groups gap c.if-gap-lt16384.false c.if-gap-ge2097152.false) in
+    c.push-2.ensures ∙ ap (λ (s : List ℕ). c.args.buffer.now ++ s) (sym spelled)
