@@ -1,6 +1,9 @@
-// Files of one term and three documents that are read and written again, and a sink that
-// fails.
+// Files of one term and three documents that are read and written again, a sink that fails,
+// and postings at the ends of the ranges that are spelled in a way of their own.
 
+use crate::buffer::Buffer;
+use crate::lengths::posting_len;
+use crate::spelling::push_posting;
 use crate::write_collection;
 use ciff_read::read_collection;
 use jass_base::{MemSink, Row};
@@ -67,4 +70,32 @@ fn collections_are_written(rt: HostRuntime) {
         assert!(&rt; is_written(alloc, file, canonical));
     }
     assert!(&rt; fails(alloc, &FILE));
+}
+
+/// Whether the field of a posting is so spelled, and its body counted so.
+fn is_spelled(gap: u32, tf: u32, field: &[u8]) -> bool {
+    let mut buffer = Buffer::new();
+    push_posting(&mut buffer, gap, tf);
+    buffer.as_slice() == field && usize::from(posting_len(gap, tf)) + 2 == field.len()
+}
+
+#[test]
+fn postings_are_spelled(rt: HostRuntime) {
+    let table: [(u32, u32, &[u8]); 12] = [
+        (0, 0, b"\x22\x00"),
+        (0, 1, b"\x22\x02\x10\x01"),
+        (1, 0, b"\x22\x02\x08\x01"),
+        (1, 1, b"\x22\x04\x08\x01\x10\x01"),
+        (127, 127, b"\x22\x04\x08\x7f\x10\x7f"),
+        (127, 128, b"\x22\x05\x08\x7f\x10\x80\x01"),
+        (128, 127, b"\x22\x05\x08\x80\x01\x10\x7f"),
+        (16_383, 1, b"\x22\x05\x08\xff\x7f\x10\x01"),
+        (16_384, 127, b"\x22\x06\x08\x80\x80\x01\x10\x7f"),
+        (2_097_151, 1, b"\x22\x06\x08\xff\xff\x7f\x10\x01"),
+        (2_097_152, 1, b"\x22\x07\x08\x80\x80\x80\x01\x10\x01"),
+        (16_384, 128, b"\x22\x07\x08\x80\x80\x01\x10\x80\x01"),
+    ];
+    for (gap, tf, field) in table {
+        assert!(&rt; is_spelled(gap, tf, field));
+    }
 }
