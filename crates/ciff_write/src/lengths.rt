@@ -56,7 +56,7 @@ pub fn posting_len(gap: u32, tf: u32) -> u8
 }
 
 /// The bytes of a posting's body of any numbers.
-fn any_posting_len(gap: u32, tf: u32) -> u8
+pub fn any_posting_len(gap: u32, tf: u32) -> u8
     ensures len { result ≡ length (number_spelling 1 gap ++ number_spelling 2 tf) }
     ensures few { result ≤ 22 }
 {

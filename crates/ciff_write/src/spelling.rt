@@ -5,7 +5,7 @@ ghost use Rattle.jass_base.specs.Wire.{short_varint};
 ghost use Rattle.jass_base.specs.CiffText.{sized, number_spelling};
 
 use crate::buffer::Buffer;
-use crate::lengths::posting_len;
+use crate::lengths::any_posting_len;
 
 /// The most bytes of a varint.
 pub const VARINT_ROOM: usize = 10;
@@ -85,7 +85,7 @@ fn push_any_posting(buffer: &mut Buffer, gap: u32, tf: u32)
         ++ sized (number_spelling 1 gap ++ number_spelling 2 tf)) }
 {
     buffer.push_byte(POSTING);
-    buffer.push_byte(posting_len(gap, tf));
+    buffer.push_byte(any_posting_len(gap, tf));
     push_number(buffer, 1, u64::from(gap));
     push_number(buffer, 2, u64::from(tf));
 }
