@@ -2,3 +2,4 @@ pub mod Exponents
 pub mod Bounds
 pub mod Limits
 pub mod Ranges
+mod Rising

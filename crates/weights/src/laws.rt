@@ -6,7 +6,7 @@ ghost use Rattle.weights.specs.declared.weighting.Rule.{Rule};
 ghost use Rattle.weights.specs.declared.quantizing.Bits.{Bits};
 ghost use Rattle.weights.specs.declared.quantizing.Range.{Range};
 ghost use Rattle.weights.specs.Logarithm.{lg};
-ghost use Rattle.weights.specs.Weighting.{weight_of};
+ghost use Rattle.weights.specs.Weighting.{saturated, weight_of};
 ghost use Rattle.weights.specs.Quantizing.{empty_range, widened, range_of, IsImpactWidth, Holds, IsInRange, impact_of};
 
 /// The logarithm of a number between two powers of two, which lies between theirs.
@@ -22,6 +22,12 @@ pub fn weights_are_limited()
     ensures positive { (rule : Rule) (docs total n tf length : ℕ) → 1 ≤ tf → 1 ≤ weight_of rule docs total n tf length }
     ensures limit { (rule : Rule) (docs total n tf length : ℕ) → 1 ≤ n → n ≤ docs → docs ≤ 2 ^ 26 → tf < 2 ^ 31
         → weight_of rule docs total n tf length < 2 ^ 31 }
+{}
+
+/// BM25 rises with the term frequency, and falls where a document slows its growth further.
+pub fn bm25_follows_frequencies()
+    ensures rises { (rare tf more norm : ℕ) → 1 ≤ tf → tf ≤ more → saturated rare tf norm ≤ saturated rare more norm }
+    ensures falls { (rare tf norm more : ℕ) → 1 ≤ tf → norm ≤ more → saturated rare tf more ≤ saturated rare tf norm }
 {}
 
 /// Every impact is from 1 to 65,535, and one of b bits is below 2^b.
