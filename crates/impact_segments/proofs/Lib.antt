@@ -12,3 +12,4 @@ pub mod ListTerms
 pub mod ListRange
 mod GroupLaws
 mod RangeLaws
+mod Unwidened

@@ -6,3 +6,4 @@ pub mod Pairs
 pub mod Weighed
 pub mod OneList
 pub mod ListTerms
+pub mod Bounds

@@ -1,16 +1,19 @@
 //! Laws over the definitions, by which an index can be made a list at a time. Each function does
 //! nothing: its contract is the law, and a caller learns it by the call.
 
-ghost use Rattle.std.specs.Prelude.{◌≡◌, ℕ, ◌≤◌, ◌^◌, [], ◌∷◌, ◌++◌, List, None, All, IsPermutation, fold, length, map};
+ghost use Rattle.std.specs.Prelude.{◌≡◌, ℕ, ◌≤◌, ◌^◌, [], ◌∷◌, ◌++◌, List, None, false, All, IsPermutation, fold, length, map};
 ghost use Rattle.jass_base.specs.Ciff.{CollectionData, FitsList, ListData};
 ghost use Rattle.weights.specs.declared.weighting.Rule.{Rule};
 ghost use Rattle.weights.specs.declared.quantizing.Bits.{Bits};
 ghost use Rattle.weights.specs.declared.quantizing.Range.{Range};
 ghost use Rattle.weights.specs.Quantizing.{empty_range, impact_of, range_of, widened};
 ghost use Rattle.index_model.specs.Grouping.{index_with};
+ghost use Rattle.impact_segments.specs.Bounds.{can_widen, most_tf};
 ghost use Rattle.impact_segments.specs.Collections.{index_of, lengths_of, total_of, weights_in, weights_of};
 ghost use Rattle.impact_segments.specs.ListTerms.{AreByTerm, list_term, lists_in_use, widened_by};
-ghost use Rattle.impact_segments.specs.OneList.{EndsLow, outside};
+ghost use Rattle.impact_segments.specs.OneList.{EndsLow, norms_in, outside};
+
+use weights::laws::bm25_follows_frequencies;
 
 /// The terms of the lists that have postings, by rising bytes, are those of the collection's index,
 /// where the impacts are those in the range of all weights.
@@ -43,3 +46,14 @@ pub fn widened_lists_have_the_range()
         → length lengths ≤ 2 ^ 26 → All (FitsList (length lengths)) lists
         → EndsLow bits (widened_by rule lengths total empty_range lists) }
 {}
+
+/// A list that can't widen a range leaves it as it is, for all that its postings are.
+pub fn lists_inside_leave_the_range()
+    ensures { (rule : Rule) (lengths : List ℕ) (total : ℕ) (range : Range) (l : ListData)
+        → length lengths ≤ 2 ^ 26 → FitsList (length lengths) l → 1 ≤ length l.postings
+        → can_widen rule (length lengths) (length l.postings) (most_tf l.postings)
+        (range_of (norms_in lengths total)) range ≡ false
+        → fold widened range (weights_in rule lengths total l.postings) ≡ range }
+{
+    bm25_follows_frequencies();
+}

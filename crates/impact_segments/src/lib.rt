@@ -3,6 +3,7 @@
 //! The impact-ordered index of a collection: the weight of each posting as an impact, the
 //! postings of a term in segments of equal impact, and the flat list of such an index.
 
+mod bounds;
 mod building;
 pub mod examples;
 mod flattening;
@@ -14,6 +15,7 @@ mod rows;
 mod terms;
 mod weighing;
 
+pub use bounds::{can_widen, most_tf, norm_ends};
 pub use building::build;
 pub use flattening::entries_of;
 pub use grouping::group;

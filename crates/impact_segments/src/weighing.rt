@@ -115,7 +115,10 @@ fn norms_of(alloc: Global, docs: &[DocRecord]) -> Result<Vec<u64>, NoMemory>
 {
     let count = docs.len() as u32;
     let total = total_length(docs);
-    let mut norms = Vec::new(alloc);
+    let mut norms = match Vec::with_capacity(alloc, docs.len()) {
+        Ok(norms) => norms,
+        Err(_) => return Err(NoMemory),
+    };
     for doc in docs {
         match norms.push(length_norm(count, total, doc.length)) {
             Ok(()) => {}
