@@ -33,7 +33,7 @@ use Rattle.impact_segments.proofs.OneTerm.{all_map_at}
 use Rattle.impact_segments.proofs.Orders.{strictly}
 use Rattle.index_model.proofs.Lists.{pairs_by_places, pairs_by_recursion, pairs_map, pairs_unmap}
 use Rattle.index_import.specs.Outlining.{AreInOrder, IsOutline, IsOutlined, has_postings, list_there, lists_there, names_of}
-use Rattle.index_import.specs.Surveying.{AreGiven, AreKept, IsSurvey, has_some, kept_entry, numbered}
+use Rattle.index_import.specs.Surveying.{AreGiven, AreKept, HoldsMost, IsSurvey, has_some, kept_entry, numbered}
 use Rattle.index_import.specs.declared.list_entry.ListEntry.{ListEntry}
 use Rattle.index_import.proofs.Ready.{list_there_is}
 
@@ -213,7 +213,7 @@ module _ (law : (records ordered : List NumberedDoc) → IsPermutation ordered r
       (mapped (λ (a b : NumberedDoc). a.number < b.number) numbered ordered.ordered rising)
 
   pub outline_is : (content : List ℕ) (w : WalkView) (docs : List (ℕ × DocRecord)) (first lists : List ListEntry) (names : List (List ℕ)) (lengths : List ℕ)
-      → AreKept w docs first → AreInOrder docs names lengths → IsPermutation first lists → IsSurvey content w docs → IsOutline content w.docs names lengths lists
+      → AreKept w docs first → AreInOrder docs names lengths → IsPermutation first lists → IsSurvey content w docs first → IsOutline content w.docs names lengths lists
   outline_is content w docs first lists names lengths kept ordered order survey =
       let records : by_number survey.parts.records ≡ map numbered ordered.ordered = ap by_number survey.records ∙ in_order_again docs names lengths ordered survey.once in
       let each : All (λ (k : KeptList). IsKeptList content w.docs k (list_there content w.docs k.at)) w.kept
@@ -227,6 +227,7 @@ module _ (law : (records ordered : List NumberedDoc) → IsPermutation ordered r
         lengths_are = ordered.lengths_are ∙ sym (lengths_again ordered.ordered) ∙ sym (ap (λ (rs : List NumberedDoc). lengths_of (map (λ (r : NumberedDoc). r.doc) rs)) records);
         each = All-permutation (λ (e : ListEntry). IsKeptList content w.docs (kept_entry e) (list_there content w.docs e.place.at)) first lists order
             (of_entries w.kept first kept.lists_are (λ (k : KeptList). IsKeptList content w.docs k (list_there content w.docs k.at)) each);
+        most = All-permutation (HoldsMost content w.docs) first lists order survey.most;
         all = subst (IsPermutation (lists_there content w.docs lists)) there
             (IsPermutation-map (λ (e : ListEntry). list_there content w.docs e.place.at) lists first (IsPermutation-sym first lists order));
       }

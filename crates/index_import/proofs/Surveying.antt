@@ -1,15 +1,16 @@
 -- What the first pass over a file keeps, piece by piece.
 use Rattle.std.proofs.Common.{◌≡◌, ◌≢◌, ℕ, ◌+◌, ◌-◌, ◌≤◌, Bool, true, false, cond, List, [], ◌∷◌, ◌++◌, map, length, filter, Option, Some, None, Result, Ok, Err, refl, sym, ap, subst, ◌∙◌, arith}
-use Rattle.std.specs.Prelude.{◌||◌, ◌==◌, AllPairs, IsSome}
+use Rattle.std.specs.Prelude.{◌||◌, ◌==◌, All, AllPairs, IsSome}
 use Rattle.std.specs.List.{AllByRecursion, AllZip}
 use Rattle.std.specs.Str.{bytes_eq}
 use Rattle.std.proofs.lemmas.Bool.Decides.{nat_tests, not_from_Decides}
 use Rattle.std.proofs.lemmas.List.{length-append, map-append}
-use Rattle.std.proofs.lemmas.List.Elements.{All-from_recursion, filter-append}
+use Rattle.std.proofs.lemmas.List.Elements.{All-from_recursion, All-nil, All-push, filter-append}
 use Rattle.std.proofs.lemmas.List.Quantifiers.{all_pairs_push}
 use Rattle.std.proofs.lemmas.Slice.Eq.{bytes_eq-Decides}
 use Rattle.jass_base.specs.CiffViews.{header_data, list_data}
-use Rattle.jass_base.specs.Ciff.{HeaderData, ListData}
+use Rattle.jass_base.specs.Ciff.{FitsList, HeaderData, ListData}
+use Rattle.jass_base.specs.Lists.{HasDocsBelow}
 use Rattle.jass_base.specs.Outside.{Files, ForContent}
 use Rattle.jass_base.specs.declared.doc_record.DocRecord.{DocRecord}
 use Rattle.jass_base.specs.declared.header.Header.{Header}
@@ -22,16 +23,18 @@ use Rattle.ciff_read.specs.Pieces.{DocPiece, EndPiece, IsReached, KeptList, List
 use Rattle.ciff_read.specs.Reaching.{FailsReading}
 use Rattle.ciff_read.specs.Reading.{read_ciff}
 use Rattle.ciff_read.specs.Seen.{is_seen}
-use Rattle.ciff_read.specs.Walk.{Begins, Keeps, KeepsRanges, StandsFor, StandsTold, WalkView, kept_of}
+use Rattle.ciff_read.specs.Walk.{Begins, IsListAt, Keeps, KeepsRanges, StandsFor, StandsTold, WalkView, kept_of}
 use Rattle.ciff_read.specs.Window.{AreFrom}
 use Rattle.ciff_read.specs.declared.piece.Piece.{Piece}
 use Rattle.ciff_read.specs.declared.piece.Piece.TheVariants as pieces
 use Rattle.ciff_read.specs.declared.refusal.CiffFault.{CiffFault}
 use Rattle.ciff_read.specs.declared.refusal.CiffFault.TheVariants as faults
 use Rattle.ciff_read.specs.declared.refusal.CiffRefusal.{CiffRefusal}
-use Rattle.ciff_read.proofs.Told.{for_both}
-use Rattle.index_import.specs.Surveying.{IsSurvey, has_some, kept_entry, numbered}
+use Rattle.ciff_read.proofs.Told.{for_all, for_both}
+use Rattle.impact_segments.specs.Bounds.{most_tf}
+use Rattle.index_import.specs.Surveying.{HoldsMost, IsSurvey, has_some, kept_entry, numbered}
 use Rattle.index_import.specs.declared.list_entry.ListEntry.{ListEntry}
+use Rattle.index_import.proofs.Widening.{list_fits}
 
 -- ---- what is kept, whether or not the content is told
 
@@ -159,6 +162,15 @@ pub record PieceLaws : Type 0 where
   pub end : (content : List ℕ) (p : Progress) (parts : Parts) (s : Step) → Assembles content p parts → next_of content p ≡ Ok s → s.piece ≡ EndPiece → read_ciff content ≡ Ok (collection_of parts)
   pub refused : (content : List ℕ) (p : Progress) (parts : Parts) (e : CiffRefusal) → Assembles content p parts → next_of content p ≡ Err e → read_ciff content ≡ Err e
 
+-- the last of some lists is the last one kept
+last_kept : (R : KeptList → ListData → Type 0) (kept : List KeptList) (lists : List ListData) (k : KeptList) (l : ListData) → AllZip R (kept ++ k ∷ []) (lists ++ l ∷ []) → R k l
+last_kept R [] [] k l each = each.0
+last_kept R [] (x ∷ []) k l each = absurd each.1
+last_kept R [] (x ∷ y ∷ lists) k l each = absurd each.1
+last_kept R (x ∷ []) [] k l each = absurd each.1
+last_kept R (x ∷ y ∷ kept) [] k l each = absurd each.1
+last_kept R (x ∷ kept) (y ∷ lists) k l each = last_kept R kept lists k l each.1
+
 -- a number that isn't marked is that of no record
 unnumbered : (number : ℕ) (docs : List (ℕ × DocRecord)) → is_among number (numbers_of (map numbered docs)) ≡ false → AllByRecursion (λ (x : ℕ × DocRecord). x.0 ≢ number) docs
 unnumbered number [] new = tt
@@ -205,6 +217,17 @@ module _ (laws : PieceLaws) (content : List ℕ) where
     pub list_follows : (at : ℕ) (list : ListData) → Advances content before.progress (ListPiece at list) new → Follows content new docs
     list_follows at list next = onward (ListPiece at list) docs next before.records before.once
 
+    -- the list that was given is the one at its place
+    pub list_kept : (at : ℕ) (list : ListData) (k : KeptList) → Advances content before.progress (ListPiece at list) new → new.kept ≡ old.kept ++ k ∷ [] → IsKeptList content new.docs k list
+    list_kept at list k next kept =
+        let later : Progress = next.step.later in
+        let assembled : Assembles content later (with_piece before.parts (ListPiece at list))
+        = subst (λ (x : PieceData). Assembles content later (with_piece before.parts x)) (sym next.piece_is) (laws.piece content before.progress before.parts next.step before.assembles next.next) in
+        let all : List ListData = before.parts.lists ++ list ∷ [] in
+        let named : AllZip (IsKeptList content new.docs) later.kept all = subst (λ (n : ℕ). AllZip (IsKeptList content n) later.kept all) (sym next.keeps.docs) assembled.lists in
+        last_kept (IsKeptList content new.docs) old.kept before.parts.lists k list
+        (subst (λ (ks : List KeptList). AllZip (IsKeptList content new.docs) ks all) (sym next.keeps.kept ∙ kept) named)
+
     pub doc_follows : (number : ℕ) (item : DocRecord) → is_marked old.marks number ≡ false → Advances content before.progress (DocPiece (numbered (number, item))) new → Follows content new (docs ++ (number, item) ∷ [])
     doc_follows number item unmarked next =
         let known : before.progress.numbers ≡ numbers_of (map numbered docs) = before.assembles.numbers ∙ ap numbers_of before.records in
@@ -214,14 +237,15 @@ module _ (laws : PieceLaws) (content : List ℕ) where
         (all_pairs_push (λ (a b : ℕ × DocRecord). a.0 ≢ b.0) docs (number, item) before.once (λ i d low. All-from_recursion (λ (x : ℕ × DocRecord). x.0 ≢ number) docs (unnumbered number docs new_number) i d low))
 
     -- the last piece
-    pub end_follows : new.kept ≡ old.kept → new.docs ≡ old.docs → Advances content before.progress EndPiece new → IsSurvey content new docs
-    end_follows kept count next = record {
+    pub end_follows : (lists : List ListEntry) → new.kept ≡ old.kept → new.docs ≡ old.docs → Advances content before.progress EndPiece new → All (HoldsMost content old.docs) lists → IsSurvey content new docs lists
+    end_follows lists kept count next most = record {
       parts = before.parts;
       read = laws.end content before.progress before.parts next.step before.assembles next.next (sym next.piece_is);
       records = before.records;
       once = before.once;
       lists = subst (λ (n : ℕ). AllZip (IsKeptList content n) new.kept before.parts.lists) (sym (count ∙ before.keeps.docs))
           (subst (λ (ks : List KeptList). AllZip (IsKeptList content before.progress.docs) ks before.parts.lists) (sym (kept ∙ before.keeps.kept)) before.assembles.lists);
+      most = subst (λ (n : ℕ). All (HoldsMost content n) lists) (sym count) most;
     }
 
     -- no piece, but a fault
@@ -245,6 +269,13 @@ gives_there told now name old new result same named unanswered stands gives =
     (λ content. (p : Progress) → Keeps old p → Gives content p result new)
     (λ content here given. given unanswered (here unanswered).shows) stands (subst (λ (files : Option Files). GivesTold files old new result) same gives))
 
+-- nothing is kept of no list, and what was kept stays so where the documents are as many
+pub no_most : (told : Option Files) (name : List ℕ) (docs : ℕ) (lists : List ListEntry) → lists ≡ [] → ForContent told name (λ content. All (HoldsMost content docs) lists)
+no_most told name docs lists none = for_all told name (λ content. All (HoldsMost content docs) lists) (λ content. subst (All (HoldsMost content docs)) (sym none) (All-nil (HoldsMost content docs)))
+
+pub same_most : (told : Option Files) (name : List ℕ) (docs now : ℕ) (lists : List ListEntry) → now ≡ docs → ForContent told name (λ content. All (HoldsMost content docs) lists) → ForContent told name (λ content. All (HoldsMost content now) lists)
+same_most told name docs now lists same most = subst (λ (n : ℕ). ForContent told name (λ content. All (HoldsMost content n) lists)) (sym same) most
+
 -- what follows of what a call gives, where the content is told
 module _ (laws : PieceLaws) (told : Option Files) (name : List ℕ) (old new : WalkView) (docs : List (ℕ × DocRecord)) (before : ForContent told name (λ content. Follows content old docs)) where
   module _ (piece : Piece) (given : ForContent told name (λ content. (p : Progress) → Keeps old p → Advances content p (piece_data piece) new)) where
@@ -265,8 +296,27 @@ module _ (laws : PieceLaws) (told : Option Files) (name : List ℕ) (old new : W
         next_told (pieces.Doc number item) is (λ content. Follows content new longer)
         (λ content follows next. subst (λ (ds : List (ℕ × DocRecord)). Follows content new ds) (sym more) (doc_follows laws content old new docs follows number item unmarked next))
 
-    pub end_told : piece ≡ pieces.End → new.kept ≡ old.kept → new.docs ≡ old.docs → ForContent told name (λ content. IsSurvey content new docs)
-    end_told is kept count = next_told pieces.End is (λ content. IsSurvey content new docs) (λ content follows next. end_follows laws content old new docs follows kept count next)
+    pub most_told : (at : ℕ) (list : PostingsList) (entry : ListEntry) (lists longer : List ListEntry) → piece ≡ pieces.List at list → new.docs ≡ old.docs → new.kept ≡ old.kept ++ kept_of at list ∷ [] → HasDocsBelow old.docs list
+        → entry.place.at ≡ at → entry.place.count ≡ length list.postings → entry.place.most ≡ most_tf list.postings → longer ≡ lists ++ entry ∷ []
+        → ForContent told name (λ content. All (HoldsMost content old.docs) lists) → ForContent told name (λ content. All (HoldsMost content new.docs) longer)
+    most_told at list entry lists longer is count kept below placed counted most more so_far =
+        let fits : FitsList new.docs (list_data list) = list_fits new.docs list (subst (λ (n : ℕ). HasDocsBelow n list) (sym count) below) in
+        for_both told name (λ content. All (HoldsMost content old.docs) lists) (λ content. HoldsMost content new.docs entry) (λ content. All (HoldsMost content new.docs) longer)
+        (λ content all one. subst (All (HoldsMost content new.docs)) (sym more) (All-push (HoldsMost content new.docs) lists entry (subst (λ (n : ℕ). All (HoldsMost content n) lists) (sym count) all) one)) so_far
+        (next_told (pieces.List at list) is (λ content. HoldsMost content new.docs entry)
+        (λ content follows next. record {
+          list = list_data list;
+          there = subst (λ (n : ℕ). IsListAt content new.docs n (list_data list)) (sym placed) (list_kept laws content old new docs follows at (list_data list) (kept_of at list) next kept).there;
+          fits = fits;
+          count = counted;
+          most = most;
+        }))
+
+    pub end_told : (lists : List ListEntry) → piece ≡ pieces.End → new.kept ≡ old.kept → new.docs ≡ old.docs → ForContent told name (λ content. All (HoldsMost content old.docs) lists) → ForContent told name (λ content. IsSurvey content new docs lists)
+    end_told lists is kept count most =
+        for_both told name (λ content. All (HoldsMost content old.docs) lists) (λ content. All (HoldsMost content old.docs) lists → IsSurvey content new docs lists) (λ content. IsSurvey content new docs lists)
+        (λ content all then. then all) most
+        (next_told pieces.End is (λ content. All (HoldsMost content old.docs) lists → IsSurvey content new docs lists) (λ content follows next. end_follows laws content old new docs follows lists kept count next))
 
   pub fault_told : (fault : CiffFault) → ForContent told name (λ content. (p : Progress) → Keeps old p → FailsReading fault (next_of content p)) → ForContent told name (λ content. FailsReading fault (read_ciff content))
   fault_told fault given =

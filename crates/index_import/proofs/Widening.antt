@@ -1,9 +1,10 @@
 -- A range that is widened by lists that are read again.
-use Rattle.std.proofs.Common.{◌≡◌, ℕ, suc, ◌+◌, ◌<◌, List, [], ◌∷◌, ◌++◌, fold, get_or, length, map, take, Option, refl, sym, ap, ap₂, ◌∙◌, arith}
+use Rattle.std.proofs.Common.{◌≡◌, ℕ, suc, ◌+◌, ◌<◌, ◌≤◌, ◌^◌, Bool, false, List, [], ◌∷◌, ◌++◌, fold, get_or, length, map, min, take, Option, sym, ap, ap₂, subst, ◌∙◌, arith}
 use Rattle.std.specs.Prelude.{All}
+use Rattle.std.proofs.Math.Nat.{min-le_right}
 use Rattle.std.proofs.Math.Seq.{take-suc}
-use Rattle.std.proofs.lemmas.List.{map-append}
-use Rattle.std.proofs.lemmas.List.Elements.{All-nil, All-push}
+use Rattle.std.proofs.lemmas.List.{length-map, map-append}
+use Rattle.std.proofs.lemmas.List.Elements.{All-map, All-nil, All-push}
 use Rattle.std.proofs.lemmas.Str.{IsUtf8-from_is_utf8}
 use Rattle.jass_base.specs.Ciff.{FitsList, ListData}
 use Rattle.jass_base.specs.CiffViews.{list_data}
@@ -13,21 +14,27 @@ use Rattle.jass_base.specs.declared.postings_list.PostingsList.{PostingsList}
 use Rattle.ciff_read.proofs.Told.{for_all, for_both}
 use Rattle.weights.specs.declared.weighting.Rule.{Rule}
 use Rattle.weights.specs.declared.quantizing.Range.{Range}
-use Rattle.weights.specs.Quantizing.{empty_range, widened}
+use Rattle.weights.specs.Quantizing.{empty_range, range_of, widened}
+use Rattle.weights.specs.Weighting.{length_norm}
+use Rattle.impact_segments.specs.Bounds.{can_widen, most_tf}
 use Rattle.impact_segments.specs.Collections.{weights_in}
 use Rattle.impact_segments.specs.ListTerms.{widened_by}
-use Rattle.index_import.specs.Outlining.{list_there, lists_there}
+use Rattle.impact_segments.specs.OneList.{norms_in}
+use Rattle.index_import.specs.Outlining.{list_there}
+use Rattle.index_import.specs.Ranging.{widened_there}
+use Rattle.index_import.specs.Surveying.{HoldsMost}
 use Rattle.index_import.specs.declared.list_entry.ListEntry.{ListEntry}
 use Rattle.index_import.specs.declared.weighing.Weighing.{Weighing}
+use Rattle.index_import.proofs.Ready.{list_there_is}
 
--- the range of the weights of lists that fit, which are those that entries name where the content is told
+-- the range of the weights of the lists that were read, which fit; where the content is told it is that of all lists that entries name
 pub record Widens (files : Option Files) (name : List ℕ) (docs : ℕ) (w : Weighing) (lists : List ListEntry) (range : Range) : Type 0 where
   pub read : List ListData
   pub fit : All (FitsList (length w.lengths.now)) read
   pub range_is : range ≡ widened_by w.rule w.lengths.now w.total empty_range read
-  pub told : ForContent files name (λ content. read ≡ lists_there content docs lists)
+  pub told : ForContent files name (λ content. range ≡ widened_there content docs w lists)
 
-list_fits : (docs : ℕ) (l : PostingsList) → HasDocsBelow docs l → FitsList docs (list_data l)
+pub list_fits : (docs : ℕ) (l : PostingsList) → HasDocsBelow docs l → FitsList docs (list_data l)
 list_fits docs l below = record {
   text = IsUtf8-from_is_utf8 l.term l.term_is_text;
   short = l.term_fits;
@@ -43,31 +50,81 @@ widens_none files name docs w range is = record {
   read = [];
   fit = All-nil (FitsList (length w.lengths.now));
   range_is = is;
-  told = for_all files name (λ content. (let none : List ListData = [] in none) ≡ lists_there content docs []) (λ content. refl);
+  told = for_all files name (λ content. range ≡ widened_there content docs w []) (λ content. is);
 }
+
+abbrev StaysInside : Type 0
+StaysInside = (rule : Rule) (lengths : List ℕ) (total : ℕ) (range : Range) (l : ListData) → length lengths ≤ 2 ^ 26 → FitsList (length lengths) l → 1 ≤ length l.postings
+    → can_widen rule (length lengths) (length l.postings) (most_tf l.postings) (range_of (norms_in lengths total)) range ≡ false
+    → fold widened range (weights_in rule lengths total l.postings) ≡ range
 
 abbrev OneMore : Type 0
 OneMore = (rule : Rule) (lengths : List ℕ) (total : ℕ) (range : Range) (lists : List ListData) (l : ListData)
     → widened_by rule lengths total range (lists ++ l ∷ []) ≡ fold widened (widened_by rule lengths total range lists) (weights_in rule lengths total l.postings)
 
--- one list more
-pub widens_more : (files : Option Files) (name : List ℕ) (docs : ℕ) (w : Weighing) (lists : List ListEntry) (i : ℕ) (e : ListEntry) (list : PostingsList) (range now : Range) → OneMore
-    → i < length lists → e ≡ get_or lists i e → HasDocsBelow (length w.lengths.now) list
-    → ForContent files name (λ content. list_data list ≡ list_there content docs e.place.at)
-    → now ≡ fold widened range (weights_in w.rule w.lengths.now w.total list.postings)
-    → Widens files name docs w (take i lists) range → Widens files name docs w (take (i + 1) lists) now
-widens_more files name docs w lists i e list range now one_more low is below here then so_far =
-    let next : i + 1 ≡ suc i = omega arith in
-    let more : take (i + 1) lists ≡ take i lists ++ e ∷ [] = ap (λ (n : ℕ). take n lists) next ∙ take-suc lists i e low ∙ ap (λ (x : ListEntry). take i lists ++ x ∷ []) (sym is) in
-    let there : List ℕ → ListEntry → ListData = λ (content : List ℕ) (e : ListEntry). list_there content docs e.place.at in
-    record {
-      read = so_far.read ++ list_data list ∷ [];
-      fit = All-push (FitsList (length w.lengths.now)) so_far.read (list_data list) so_far.fit (list_fits (length w.lengths.now) list below);
-      range_is = then ∙ ap (λ (r : Range). fold widened r (weights_in w.rule w.lengths.now w.total list.postings)) so_far.range_is
-          ∙ sym (one_more w.rule w.lengths.now w.total empty_range so_far.read (list_data list));
-      told = for_both files name (λ content. so_far.read ≡ lists_there content docs (take i lists)) (λ content. list_data list ≡ list_there content docs e.place.at)
-          (λ content. so_far.read ++ list_data list ∷ [] ≡ lists_there content docs (take (i + 1) lists))
-          (λ content read one. ap₂ (λ (xs : List ListData) (x : ListData). xs ++ x ∷ []) read one
-          ∙ sym (map-append (there content) (take i lists) (e ∷ [])) ∙ ap (map (there content)) (sym more))
-          so_far.told here;
-    }
+-- the range of one list more
+module _ (one_more : OneMore) (docs : ℕ) (w : Weighing) (lists : List ListEntry) (i : ℕ) (e : ListEntry) (low : i < length lists) (is : e ≡ get_or lists i e) where
+  range_more : (content : List ℕ) → widened_there content docs w (take (i + 1) lists)
+      ≡ fold widened (widened_there content docs w (take i lists)) (weights_in w.rule w.lengths.now w.total (list_there content docs e.place.at).postings)
+  range_more content =
+      let next : i + 1 ≡ suc i = omega arith in
+      let more : take (i + 1) lists ≡ take i lists ++ e ∷ [] = ap (λ (n : ℕ). take n lists) next ∙ take-suc lists i e low ∙ ap (λ (x : ListEntry). take i lists ++ x ∷ []) (sym is) in
+      let there : ListEntry → ListData = λ (e : ListEntry). list_there content docs e.place.at in
+      ap (widened_there content docs w) more ∙ ap (widened_by w.rule w.lengths.now w.total empty_range) (map-append there (take i lists) (e ∷ []))
+      ∙ one_more w.rule w.lengths.now w.total empty_range (map there (take i lists)) (there e)
+
+  -- a list that was read
+  pub widens_more : (files : Option Files) (name : List ℕ) (list : PostingsList) (range now : Range) → HasDocsBelow (length w.lengths.now) list
+      → ForContent files name (λ content. list_data list ≡ list_there content docs e.place.at)
+      → now ≡ fold widened range (weights_in w.rule w.lengths.now w.total list.postings)
+      → Widens files name docs w (take i lists) range → Widens files name docs w (take (i + 1) lists) now
+  widens_more files name list range now below here then so_far =
+      let weights : ListData → List ℕ = λ (l : ListData). weights_in w.rule w.lengths.now w.total l.postings in
+      record {
+        read = so_far.read ++ list_data list ∷ [];
+        fit = All-push (FitsList (length w.lengths.now)) so_far.read (list_data list) so_far.fit (list_fits (length w.lengths.now) list below);
+        range_is = then ∙ ap (λ (r : Range). fold widened r (weights (list_data list))) so_far.range_is
+            ∙ sym (one_more w.rule w.lengths.now w.total empty_range so_far.read (list_data list));
+        told = for_both files name (λ content. range ≡ widened_there content docs w (take i lists)) (λ content. list_data list ≡ list_there content docs e.place.at)
+            (λ content. now ≡ widened_there content docs w (take (i + 1) lists))
+            (λ content was one. then ∙ ap₂ (λ (r : Range) (l : ListData). fold widened r (weights l)) was one ∙ sym (range_more content))
+            so_far.told here;
+      }
+
+  -- a list that can't widen the range
+  pub widens_same : StaysInside → (files : Option Files) (name : List ℕ) (norms : List ℕ) (ends range : Range) (can : Bool) → length w.lengths.now ≡ docs → ForContent files name (λ content. All (HoldsMost content docs) lists)
+      → norms ≡ w.norms.now → ends ≡ range_of norms → can ≡ can_widen w.rule (length norms) e.place.count e.place.most ends range → can ≡ false
+      → Widens files name docs w (take i lists) range → Widens files name docs w (take (i + 1) lists) range
+  widens_same stays files name norms ends range can as_many most norms_are ends_are judged cannot so_far = record {
+    read = so_far.read;
+    fit = so_far.fit;
+    range_is = so_far.range_is;
+    told = for_both files name (λ content. range ≡ widened_there content docs w (take i lists)) (λ content. All (HoldsMost content docs) lists) (λ content. range ≡ widened_there content docs w (take (i + 1) lists))
+        (λ content was all. sym (left_alone content (subst (HoldsMost content docs) (sym is) (all i e low))) ∙ ap (λ (r : Range). fold widened r (weights_there content)) was ∙ sym (range_more content))
+        so_far.told most;
+  }
+    where
+      weights_there : List ℕ → List ℕ
+      weights_there content = weights_in w.rule w.lengths.now w.total (list_there content docs e.place.at).postings
+
+      all_norms : norms ≡ norms_in w.lengths.now w.total
+      all_norms = norms_are ∙ w.norms_are
+
+      as_many_norms : length norms ≡ length w.lengths.now
+      as_many_norms = ap length all_norms ∙ length-map w.lengths.now (λ (n : ℕ). min (length_norm (length w.lengths.now) w.total n) (2 ^ 63))
+
+      left_alone : (content : List ℕ) → HoldsMost content docs e → fold widened range (weights_there content) ≡ range
+      left_alone content holds =
+          let there : holds.list ≡ list_there content docs e.place.at = list_there_is content docs e.place.at holds.list holds.there in
+          let outside : can_widen w.rule (length w.lengths.now) (length holds.list.postings) (most_tf holds.list.postings) (range_of (norms_in w.lengths.now w.total)) range ≡ false
+          = ap₂ (λ (n count : ℕ). can_widen w.rule n count (most_tf holds.list.postings) (range_of (norms_in w.lengths.now w.total)) range) (sym as_many_norms) (sym holds.count)
+          ∙ ap₂ (λ (most : ℕ) (r : Range). can_widen w.rule (length norms) e.place.count most r range) (sym holds.most) (sym (ends_are ∙ ap range_of all_norms))
+          ∙ sym judged ∙ cannot in
+          ap (λ (l : ListData). fold widened range (weights_in w.rule w.lengths.now w.total l.postings)) (sym there)
+          ∙ stays w.rule w.lengths.now w.total range holds.list w.few (subst (λ (n : ℕ). FitsList n holds.list) (sym as_many) holds.fits) (subst (λ (n : ℕ). 1 ≤ n) holds.count e.place.some) outside
+
+-- the norms of a collection are cut off
+pub norms_cut : (w : Weighing) (norms : List ℕ) → norms ≡ w.norms.now → All (λ n. n ≤ 2 ^ 63) norms
+norms_cut w norms is =
+    let norm : ℕ → ℕ = λ (n : ℕ). min (length_norm (length w.lengths.now) w.total n) (2 ^ 63) in
+    subst (All (λ n. n ≤ 2 ^ 63)) (sym (is ∙ w.norms_are)) (All-map (λ n. n ≤ 2 ^ 63) norm w.lengths.now (λ i d low. min-le_right _ _))

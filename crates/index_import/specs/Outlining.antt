@@ -13,7 +13,7 @@ use Rattle.ciff_read.specs.Walk.{WalkView}
 use Rattle.impact_segments.specs.Collections.{lengths_of, total_of}
 use Rattle.index_write.specs.Streaming.{AreNames}
 use Rattle.index_import.specs.declared.list_entry.ListEntry.{ListEntry}
-use Rattle.index_import.specs.Surveying.{AreGiven, kept_entry}
+use Rattle.index_import.specs.Surveying.{AreGiven, HoldsMost, kept_entry}
 
 -- documents by rising numbers: their names and their lengths
 pub record AreInOrder (docs : List (ℕ × DocRecord)) (names : List (List ℕ)) (lengths : List ℕ) : Type 0 where
@@ -66,3 +66,4 @@ pub record IsOutline (content : List ℕ) (docs : ℕ) (names : List (List ℕ))
   pub lengths_are : lengths ≡ lengths_of collection.docs
   pub each : All (λ (e : ListEntry). IsKeptList content docs (kept_entry e) (list_there content docs e.place.at)) lists
   pub all : IsPermutation (lists_there content docs lists) (filter has_postings collection.lists)
+  pub most : All (HoldsMost content docs) lists

@@ -1,6 +1,7 @@
 -- What the first pass over a file keeps of it.
 use Rattle.std.specs.Prelude.{ℕ, ◌≡◌, ◌≢◌, List, map, length, filter, Bool, Option, None, Result, Ok, Err, nat_lt, All, AllPairs}
 use Rattle.std.specs.List.{AllZip}
+use Rattle.jass_base.specs.Ciff.{FitsList, ListData}
 use Rattle.jass_base.specs.CiffViews.{doc_data}
 use Rattle.jass_base.specs.Outside.{Files, ForContent, IsMissing}
 use Rattle.jass_base.specs.declared.doc_record.DocRecord.{DocRecord}
@@ -10,7 +11,8 @@ use Rattle.ciff_read.specs.Judging.{NumberedDoc}
 use Rattle.ciff_read.specs.Pieces.{KeptList, terms_kept}
 use Rattle.ciff_read.specs.Reaching.{FailsReading}
 use Rattle.ciff_read.specs.Reading.{read_ciff}
-use Rattle.ciff_read.specs.Walk.{WalkView, HasKept, KeepsRanges, StandsTold}
+use Rattle.ciff_read.specs.Walk.{WalkView, HasKept, IsListAt, KeepsRanges, StandsTold}
+use Rattle.impact_segments.specs.Bounds.{most_tf}
 use Rattle.index_import.specs.declared.list_entry.ListEntry.{ListEntry}
 use Rattle.index_import.specs.declared.survey.Survey.{Survey}
 
@@ -45,16 +47,25 @@ pub record AreKept (w : WalkView) (docs : List (ℕ × DocRecord)) (lists : List
   pub differ : AllPairs (λ (a b : List ℕ). a ≢ b) (terms_kept w.kept)
   pub docs_are : length docs ≡ w.docs
 
+-- the list at an entry's place fits the documents, and it has so many postings and the greatest term frequency that the entry says
+pub record HoldsMost (content : List ℕ) (docs : ℕ) (e : ListEntry) : Type 0 where
+  pub list : ListData
+  pub there : IsListAt content docs e.place.at list
+  pub fits : FitsList docs list
+  pub count : e.place.count ≡ length list.postings
+  pub most : e.place.most ≡ most_tf list.postings
+
 -- what is kept is that of the collection that reading the content gives
-pub record IsSurvey (content : List ℕ) (w : WalkView) (docs : List (ℕ × DocRecord)) : Type 0 where
+pub record IsSurvey (content : List ℕ) (w : WalkView) (docs : List (ℕ × DocRecord)) (entries : List ListEntry) : Type 0 where
   pub parts : Parts
   pub read : read_ciff content ≡ Ok (collection_of parts)
   pub records : parts.records ≡ map numbered docs
   pub once : AllPairs (λ (a b : ℕ × DocRecord). a.0 ≢ b.0) docs
   pub lists : AllZip (IsKeptList content w.docs) w.kept parts.lists
+  pub most : All (HoldsMost content w.docs) entries
 
 abbrev pub Surveys : List ℕ → Result Survey CiffFault → Type 0
-Surveys content (Ok s) = IsSurvey content s.walk s.docs.items
+Surveys content (Ok s) = IsSurvey content s.walk s.docs.items s.lists.items
 Surveys content (Err fault) = FailsReading fault (read_ciff content)
 
 abbrev pub SurveyTold : Option Files → List ℕ → Result Survey CiffFault → Type 0

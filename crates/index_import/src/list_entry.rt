@@ -1,14 +1,20 @@
-ghost use Rattle.std.specs.Prelude.{ℕ, ◌≡◌, ◌≤◌, ◌^◌, length};
+ghost use Rattle.std.specs.Prelude.{ℕ, ◌≡◌, ◌<◌, ◌≤◌, ◌^◌, length};
 ghost use Rattle.jass_base.specs.Limits.{IsText};
+ghost use Rattle.impact_segments.specs.Bounds.{most_tf};
 
+use impact_segments::most_tf;
 use jass_base::{PostingsList, Text};
 
-/// Where a list stands in a file, and how many postings it has.
+/// Where a list stands in a file, how many postings it has, and how often its term stands in one
+/// document at the most.
 #[derive(Clone, Copy, Debug)]
 pub(crate) struct Place {
     pub at: u64,
     pub count: u32,
+    pub most: u32,
     pub ghost some: { 1 ≤ count },
+    pub ghost some_tf: { 1 ≤ most },
+    pub ghost tf_limit: { most < 2 ^ 31 },
 }
 
 /// What is kept of a list that has postings, so that it can be read again.
@@ -28,12 +34,14 @@ impl ListEntry {
         ensures term { result.term ≡ list.term }
         ensures at { result.place.at ≡ at }
         ensures count { result.place.count ≡ length list.postings }
+        ensures most { result.place.most ≡ most_tf list.postings }
     {
         let count = list.postings.len() as u32;
+        let most = most_tf(list.postings.as_slice());
         let PostingsList { term, .. } = list;
         ListEntry {
             term,
-            place: Place { at, count },
+            place: Place { at, count, most },
         }
     }
 }

@@ -29,7 +29,7 @@ impl Outline {
         requires { AreKept survey.walk survey.docs.items survey.lists.items }
         ensures walk { IfOk result (λ o. o.walk ≡ survey.walk) }
         ensures outlined { IfOk result (λ o. IsOutlined survey.walk o.names o.lengths.items o.total o.lists.items) }
-        ensures exact { (content : List ℕ) → IsSurvey content survey.walk survey.docs.items
+        ensures exact { (content : List ℕ) → IsSurvey content survey.walk survey.docs.items survey.lists.items
             → IfOk result (λ o. IsOutline content survey.walk.docs o.names o.lengths.items o.lists.items) }
     {
         records_have_one_order();

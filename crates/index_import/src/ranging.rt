@@ -3,18 +3,19 @@ ghost use Rattle.jass_base.specs.Outside.{Rose, ForContent};
 ghost use Rattle.ciff_read.specs.Walk.{IsOutside, LeavesWalk};
 ghost use Rattle.impact_segments.specs.OneList.{EndsLow};
 ghost use Rattle.index_import.specs.Ranging.{range_there, widened_there};
-ghost use Rattle.index_import.specs.Surveying.{AreGiven, IsReady};
+ghost use Rattle.index_import.specs.Surveying.{AreGiven, HoldsMost, IsReady};
 
-use crate::list_entry::ListEntry;
+use crate::list_entry::{ListEntry, Place};
 use crate::reading::read_again;
 use crate::weighing::Weighing;
 use ciff_read::{CiffFault, CiffWalk};
-use impact_segments::laws::widened_lists_have_the_range;
-use impact_segments::widen_by_norms;
+use impact_segments::laws::{lists_inside_leave_the_range, widened_lists_have_the_range};
+use impact_segments::{can_widen, norm_ends, widen_by_norms};
 use jass_base::Cabinet;
 use weights::{Bits, Range};
 
-/// Reads lists again for the range of their weights, where impacts are places in it.
+/// Reads lists again for the range of their weights, where impacts are places in it, and as far as
+/// they can widen it.
 pub(crate) fn read_range<C: Cabinet>(
     walk: &mut CiffWalk,
     files: &mut C,
@@ -25,6 +26,8 @@ pub(crate) fn read_range<C: Cabinet>(
     requires ready { IsReady (C.told files.old) walk.old.name walk.old }
     requires given { AreGiven walk.old.kept lists.now }
     requires docs { length weighing.lengths.now ≡ walk.old.docs }
+    requires told { ForContent (C.told files.old) walk.old.name (λ content.
+        All (HoldsMost content walk.old.docs) lists.now) }
     ensures ready { OnOk result (IsReady (C.told files.old) walk.old.name walk.new) }
     ensures leaves { LeavesWalk walk.old walk.new }
     ensures low { IfOk result (EndsLow bits) }
@@ -42,7 +45,8 @@ pub(crate) fn read_range<C: Cabinet>(
     }
 }
 
-/// The range of the weights of lists that are read again.
+/// The range of the weights of lists. Those that can't widen it, as far as was kept of them, are not
+/// read again.
 fn widen_lists<C: Cabinet>(
     walk: &mut CiffWalk,
     files: &mut C,
@@ -52,6 +56,8 @@ fn widen_lists<C: Cabinet>(
     requires ready { IsReady (C.told files.old) walk.old.name walk.old }
     requires given { AreGiven walk.old.kept lists.now }
     requires docs { length weighing.lengths.now ≡ walk.old.docs }
+    requires told { ForContent (C.told files.old) walk.old.name (λ content.
+        All (HoldsMost content walk.old.docs) lists.now) }
     ensures ready { OnOk result (IsReady (C.told files.old) walk.old.name walk.new) }
     ensures leaves { LeavesWalk walk.old walk.new }
     ensures low { IfOk result (λ range. range.greatest ≤ 2 ^ 40) }
@@ -63,20 +69,25 @@ fn widen_lists<C: Cabinet>(
     ensures others { C.write_faults files.old ≤ C.write_faults files.new }
 {
     widened_lists_have_the_range();
+    lists_inside_leave_the_range();
+    let Weighing {
+        rule,
+        total,
+        lengths,
+        norms,
+    } = weighing;
+    let ends = norm_ends(norms);
     let mut range = Range::new();
     for entry in lists {
+        let Place { count, most, .. } = entry.place;
+        if !can_widen(range, rule, count, most, norms, ends) {
+            continue;
+        }
         let list = match read_again(walk, files, entry.place) {
             Ok(list) => list,
             Err(fault) => return Err(fault),
         };
-        widen_by_norms(
-            &mut range,
-            weighing.rule,
-            weighing.total,
-            &list,
-            weighing.lengths,
-            weighing.norms,
-        );
+        widen_by_norms(&mut range, rule, total, &list, lengths, norms);
     }
     Ok(range)
 }

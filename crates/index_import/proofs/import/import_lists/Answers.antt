@@ -1,16 +1,25 @@
 -- The lists that are read again are those of the collection.
-use Rattle.std.proofs.Common.{◌≡◌, List, Option, sym, subst, ◌∙◌}
+use Rattle.std.proofs.Common.{◌≡◌, ℕ, List, Option, sym, subst, ◌∙◌}
 use Rattle.std.specs.Prelude.{All}
 use Rattle.std.proofs.lemmas.List.Elements.{All-map}
 use Rattle.jass_base.specs.Outside.{Files, ForContent}
 use Rattle.ciff_read.specs.Pieces.{KeptList}
 use Rattle.ciff_read.specs.Walk.{HasKept}
+use Rattle.ciff_read.proofs.Told.{for_one}
 use Rattle.index_import.specs.Ranging.{range_there}
-use Rattle.index_import.specs.Surveying.{AreGiven}
+use Rattle.index_import.specs.Outlining.{IsOutline}
+use Rattle.index_import.specs.Surveying.{AreGiven, HoldsMost}
 use Rattle.index_import.specs.declared.list_entry.ListEntry.{ListEntry}
 use Rattle.index_import.specs.declared.list_entry.Place.{Place}
 use Rattle.index_import.proofs.Imported.{never_refused, writes_made}
 use Rattle.index_import.proofs.import.import_lists.Goals as goal
+
+pub read_range-requires-clause-told : goal.read_range-requires-clause-told
+read_range-requires-clause-told g c =
+    let told : Option Files = g.C.Cabinet.told c.args.files.now in
+    let Most : List ListEntry → List ℕ → Type 0 = λ (ls : List ListEntry) (content : List ℕ). All (HoldsMost content c.args.walk.now.docs) ls in
+    subst (λ (ls : List ListEntry). ForContent told c.args.walk.now.name (Most ls)) (sym c.deref.ensures.value)
+    (for_one told c.args.walk.now.name (λ content. IsOutline content c.args.walk.now.docs c.args.names c.args.weighing.lengths.now c.args.lists.items) (Most c.args.lists.items) (λ content outline. outline.most) c.requires.told)
 
 pub read_heads-requires-clause-given : goal.read_heads-requires-clause-given
 read_heads-requires-clause-given g c =

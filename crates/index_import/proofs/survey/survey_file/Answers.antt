@@ -6,7 +6,7 @@ use Rattle.ciff_read.specs.Given.{PieceRanges}
 use Rattle.ciff_read.specs.Walk.{StandsFor, StandsTold, kept_of}
 use Rattle.ciff_read.specs.declared.piece.Piece.{Piece}
 use Rattle.ciff_read.proofs.Told.{for_one}
-use Rattle.index_import.proofs.Surveying.{Follows, PieceLaws, doc_held, doc_told, empty_held, end_told, entry_is, fault_told, gives_there, list_held, list_told, nothing_follows, nothing_held, same_held, start_told}
+use Rattle.index_import.proofs.Surveying.{Follows, PieceLaws, doc_held, doc_told, empty_held, end_told, entry_is, fault_told, gives_there, list_held, list_told, most_told, no_most, nothing_follows, nothing_held, same_held, same_most, start_told}
 use Rattle.index_import.proofs.survey.survey_file.Goals as goal
 
 pub pieces-init : goal.pieces-init
@@ -24,6 +24,7 @@ pieces-init g c =
       holds = nothing_held c.args.name.now c.in_ok-walk.walk c.new-docs.result.items c.new-lists.result.items begins c.in_ok-walk.ensures.ranges c.new-docs.ensures.items c.new-lists.ensures.items;
       follows = for_one told c.args.name.now (λ content. StandsFor content c.in_ok-walk.walk) (λ content. Follows content c.in_ok-walk.walk c.new-docs.result.items)
           (λ content stands. nothing_follows laws content c.in_ok-walk.walk c.new-docs.result.items begins.header begins.answered c.new-docs.ensures.items stands) c.in_ok-walk.ensures.opens;
+      most = no_most told c.args.name.now c.in_ok-walk.walk.docs c.new-lists.result.items c.new-lists.ensures.items;
     }
 
 pub returns-in-Err-clause-told : goal.returns-in-Err-clause-told
@@ -52,6 +53,7 @@ pieces-preserved-in-Start g c =
       stands = subst (λ (files : Option Files). StandsTold files c.next_piece.new.self) before.same next.stands;
       holds = same_held c.args.name.now c.pieces.walk c.next_piece.new.self c.pieces.docs.items c.pieces.lists.items before.holds next.name next.ok next.within ranges.4 ranges.5;
       follows = start_told laws told c.args.name.now c.pieces.walk c.next_piece.new.self c.pieces.docs.items before.follows c.in-Ok.piece given c.in-Start._header c.in-Start.lists c.in-Start.docs c.in-Start.is;
+      most = same_most told c.args.name.now c.pieces.walk.docs c.next_piece.new.self.docs c.pieces.lists.items next.totals.1 before.most;
     }
 
 pub pieces-preserved-in-Ok-push : goal.pieces-preserved-in-Ok-push
@@ -73,6 +75,8 @@ pieces-preserved-in-Ok-push g c =
           (kept_of c.in-List.at c.in-List.list) c.new.result c.push.new.self.items ranges.4 ranges.1 ranges.3 (subst (λ (n : ℕ). 1 ≤ n) c.new.ensures.count c.new.result.place.some)
           (entry_is c.new.result c.in-List.at c.in-List.list c.new.ensures.term c.new.ensures.at c.new.ensures.count) c.in-Ok-push.ensures.items;
       follows = list_told laws told c.args.name.now c.pieces.walk c.next_piece.new.self c.pieces.docs.items before.follows c.in-Ok.piece given c.in-List.at c.in-List.list c.in-List.is;
+      most = most_told laws told c.args.name.now c.pieces.walk c.next_piece.new.self c.pieces.docs.items before.follows c.in-Ok.piece given c.in-List.at c.in-List.list c.new.result c.pieces.lists.items c.push.new.self.items c.in-List.is
+          next.totals.1 ranges.4 ranges.5 c.new.ensures.at c.new.ensures.count c.new.ensures.most c.in-Ok-push.ensures.items before.most;
     }
 
 pub pieces-preserved-else-not-is_empty : goal.pieces-preserved-else-not-is_empty
@@ -93,6 +97,7 @@ pieces-preserved-else-not-is_empty g c =
       holds = empty_held c.args.name.now c.pieces.walk c.next_piece.new.self c.pieces.docs.items c.pieces.lists.items before.holds next.name next.ok next.within
           (kept_of c.in-List.at c.in-List.list) ranges.4 ranges.1 ranges.3 (grind (arith, nat_tests));
       follows = list_told laws told c.args.name.now c.pieces.walk c.next_piece.new.self c.pieces.docs.items before.follows c.in-Ok.piece given c.in-List.at c.in-List.list c.in-List.is;
+      most = same_most told c.args.name.now c.pieces.walk.docs c.next_piece.new.self.docs c.pieces.lists.items next.totals.1 before.most;
     }
 
 pub pieces-preserved : goal.pieces-preserved
@@ -113,6 +118,7 @@ pieces-preserved g c =
       holds = doc_held c.args.name.now c.pieces.walk c.next_piece.new.self c.pieces.docs.items c.pieces.lists.items before.holds next.name next.ok next.within
           (c.in-Doc.number, c.in-Doc.item) c.push-in-Doc.new.self.items ranges.1 ranges.5 c.in-Ok-push-2.ensures.items;
       follows = doc_told laws told c.args.name.now c.pieces.walk c.next_piece.new.self c.pieces.docs.items before.follows c.in-Ok.piece given c.in-Doc.number c.in-Doc.item c.push-in-Doc.new.self.items c.in-Doc.is ranges.3 c.in-Ok-push-2.ensures.items;
+      most = same_most told c.args.name.now c.pieces.walk.docs c.next_piece.new.self.docs c.pieces.lists.items next.totals.1 before.most;
     }
 
 pub returns-in-End-clause-told : goal.returns-in-End-clause-told
@@ -124,4 +130,4 @@ returns-in-End-clause-told g c =
     let next = c.in-Ok.ensures in
     let given = gives_there told (g.C.Cabinet.told c.pieces.files) c.args.name.now c.pieces.walk c.next_piece.new.self (Ok c.in-Ok.piece) before.same before.holds.name_is before.holds.unanswered before.stands next.told in
     let ranges = subst (λ (x : Piece). PieceRanges c.pieces.walk c.next_piece.new.self x) c.in-End.is next.ranges in
-    end_told laws told c.args.name.now c.pieces.walk c.next_piece.new.self c.pieces.docs.items before.follows c.in-Ok.piece given c.in-End.is ranges.0 next.totals.1
+    end_told laws told c.args.name.now c.pieces.walk c.next_piece.new.self c.pieces.docs.items before.follows c.in-Ok.piece given c.pieces.lists.items c.in-End.is ranges.0 next.totals.1 before.most
