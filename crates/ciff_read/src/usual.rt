@@ -6,7 +6,7 @@ use crate::entry::Entry;
 /// The first byte of a posting: the field number 4 with the wire type of bytes.
 pub const POSTING_TAG: u8 = 0x22;
 
-/// A posting of a list in its usual spelling, with a gap of one to three bytes and a tf of one,
+/// A posting of a list in its usual spelling, with a gap of one to three bytes and a tf of one byte,
 /// neither of them 0, and the place behind its field. Nearly all postings are spelled so.
 #[inline(always)]
 pub fn usual_posting(bytes: &[u8], at: usize) -> Option<(Entry, usize)>
