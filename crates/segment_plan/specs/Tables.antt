@@ -1,5 +1,5 @@
 -- The tables that a plan keeps beside its segments.
-use Rattle.std.specs.Prelude.{ℕ, ◌≡◌, ◌≤◌, ◌<◌, ◌+◌, ◌^◌, ◌*◌, List, length, take, slice_index}
+use Rattle.std.specs.Prelude.{ℕ, ◌≡◌, ◌≤◌, ◌<◌, ◌+◌, ◌-◌, ◌^◌, ◌*◌, List, length, take, slice_index}
 use Rattle.std.specs.List.{AllByRecursion}
 use Rattle.segment_plan.specs.declared.entry.PlanEntry.{PlanEntry}
 use Rattle.segment_plan.specs.Entries.{PlanView, postings_of, rest_bound}
@@ -18,6 +18,10 @@ pub record AreBoundsFrom (first : ℕ) (bounds : List ℕ) (plan : PlanView) : T
 pub record AreLight (places : ℕ) (entries : List PlanEntry) : Type 0 where
   pub here : AllByRecursion (λ entry. entry.place < places) entries
   pub weights : AllByRecursion (λ entry. entry.weight ≤ 65535 * 255) entries
+
+-- a number for the plan's order: less where the weight is greater, the postings are fewer, or the place is lower
+abbrev pub plan_key : PlanEntry → ℕ
+plan_key entry = (4294967295 - entry.weight) * 18446744073709551616 + entry.count * 4294967296 + entry.place
 
 pub record HasTables (plan : PlanView) (sums bounds : List ℕ) : Type 0 where
   pub few : length plan.entries < 2 ^ 32
