@@ -1,5 +1,5 @@
 -- A segment that is scored block by block.
-use Rattle.std.proofs.Common.{◌≡◌, ℕ, zero, suc, ◌+◌, ◌-◌, ◌<◌, ◌≤◌, ◌^◌, List, [], ◌++◌, length, take, drop, refl, sym, ap, ◌∙◌, subst, arith, append_assoc, append-nil, length-append, length-take, take-append-drop}
+use Rattle.std.proofs.Common.{◌≡◌, ℕ, ◌+◌, ◌<◌, ◌≤◌, ◌^◌, List, [], ◌∷◌, ◌++◌, length, take, drop, refl, sym, ap, ◌∙◌, subst, arith, append_assoc, append-nil, length-append, length-take, take-append-drop}
 use Rattle.std.specs.Prelude.{All}
 use Rattle.std.specs.List.{AllByRecursion}
 use Rattle.std.proofs.lemmas.List.Elements.{All-from_recursion, recursion_from_All}
@@ -31,6 +31,10 @@ pub record IsPart (file : FileView) (cursor : Cursor) (weight : ℕ) (docs : Lis
   pub same : AreScoresOf first now
   pub leaves : LeavesPool old new (own_chain first)
   pub counted : steps ≡ before + length done
+
+empty : (docs : List ℕ) → length docs ≡ 0 → docs ≡ []
+empty [] none = refl
+empty (doc ∷ docs) none = absurd (omega arith)
 
 -- none of them has its weight
 pub begun : (file : FileView) (cursor : Cursor) (weight : ℕ) (docs : List ℕ) (first : Scores) (old : PoolView) (steps : ℕ) → Gives file cursor docs → ScoresStand first old → LeavesPool old old (own_chain first)
@@ -105,21 +109,17 @@ module _ {file : FileView} {cursor : Cursor} {weight : ℕ} {docs : List ℕ} {f
       let low = part.frames in
       omega arith
 
-  -- all have their weight once nothing is left
-  pub finished : part.rest ≡ [] → part.done ≡ docs
-  finished none = sym (append-nil part.done) ∙ ap (λ (l : List ℕ). part.done ++ l) (sym none) ∙ part.parts
-
-  -- each block leaves less
-  pub smaller : (after given : ℕ) → given ≤ length part.rest → (given ≡ 0 → ⊥) → after ≡ steps + given → before + length docs - after < before + length docs - steps
-  smaller after given most some counted =
+  -- as many are left as have no step yet
+  pub as_many : (count left : ℕ) → count ≡ length docs → steps + left ≡ before + count → length part.rest ≡ left
+  as_many count left counts sums =
       let was = part.counted in
       let split = length-append part.done part.rest in
       let all = ap (λ (l : List ℕ). length l) part.parts in
-      let low : 1 ≤ given = positive given some in
-      omega (arith, most, counted, was, split, all, low) where
-        positive : (n : ℕ) → (n ≡ 0 → ⊥) → 1 ≤ n
-        positive zero some = absurd (some refl)
-        positive (suc n) some = omega arith
+      omega (arith, was, split, all, counts, sums)
+
+  -- all have their weight once none is left
+  pub finished : length part.rest ≡ 0 → part.done ≡ docs
+  finished none = sym (append-nil part.done) ∙ ap (λ (l : List ℕ). part.done ++ l) (sym (empty part.rest none)) ∙ part.parts
 
 -- the documents of a segment are the index's
 pub segment_inside : (index : IndexData) (t s : ℕ) → IsIndex index → t < length index.terms → s < length (segments_at index.terms t) → AreDocs (length index.names) (segment_at index.terms t s).docs

@@ -30,6 +30,10 @@ fn counted(index: &IndexFile, term: u32, count: u32, limit: u32) -> u32
 {
     let mut sum = count;
     for segment in 0..index.segments(term) {
+        // At the limit the other heads needn't be read.
+        if sum == limit {
+            return limit;
+        }
         sum = sum
             .saturating_add(index.head(term, segment).count)
             .min(limit);

@@ -91,11 +91,10 @@ fn score_blocks<L: Ledger>(
     one_class_more_is_added();
     scores_stay_small();
     let mut cursor = index.cursor(segment.term, segment.segment);
-    'pieces: loop {
+    let mut left = segment.count as usize;
+    'pieces: while left > 0 {
         let given = index.next_block(&mut cursor, block, steps);
-        if given == 0 {
-            return;
-        }
         scores.add_all(pool, &block[..given], segment.weight);
+        left -= given;
     }
 }

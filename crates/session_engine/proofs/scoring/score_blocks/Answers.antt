@@ -1,45 +1,61 @@
-use Rattle.std.proofs.Common.{arith, take, length-take}
-use Rattle.session_engine.proofs.Blocks.{begun, fits, given_at_most, inside, more, room, smaller}
+use Rattle.std.proofs.Common.{◌∙◌, ap, arith, refl, take, length-take}
+use Rattle.ranking_model.specs.Scores.{added}
+use Rattle.session_scores.specs.Scores.{scores_of}
+use Rattle.session_engine.proofs.Blocks.{as_many, begun, finished, fits, given_at_most, inside, more, room}
 use Rattle.session_engine.proofs.scoring.score_blocks.Goals as goal
 
 pub pieces-init : goal.pieces-init
-pieces-init g c =
-    begun c.args.index.now c.cursor-cursor.result c.args.segment.weight _ c.args.scores.now c.args.pool.now c.args.steps.now c.cursor-cursor.ensures c.requires.stand (c.calls_on_one_chain.ensures.none c.args.pool.now _)
+pieces-init g c = (
+  begun c.args.index.now c.cursor-cursor.result c.args.segment.weight _ c.args.scores.now c.args.pool.now c.args.steps.now c.cursor-cursor.ensures c.requires.stand (c.calls_on_one_chain.ensures.none c.args.pool.now _),
+  refl,
+)
 
 pub add_all-requires-clause-inside : goal.add_all-requires-clause-inside
 add_all-requires-clause-inside g c =
-    let part = c.pieces.invariant in
+    let part = c.pieces.invariant.0 in
     let given = c.next_block-given.result in
     inside part given (take given c.next_block-given.new.out) (c.next_block-given.ensures.block part.rest part.gives) c.requires.inside
 
 pub add_all-requires-clause-fits : goal.add_all-requires-clause-fits
 add_all-requires-clause-fits g c =
-    let part = c.pieces.invariant in
+    let part = c.pieces.invariant.0 in
     let given = c.next_block-given.result in
     fits part given (take given c.next_block-given.new.out) (c.next_block-given.ensures.block part.rest part.gives) c.requires.fits
     c.one_class_more_is_added.ensures.parts c.scores_stay_small.ensures.part
 
 pub add_all-requires-clause-frames : goal.add_all-requires-clause-frames
 add_all-requires-clause-frames g c =
-    let part = c.pieces.invariant in
+    let part = c.pieces.invariant.0 in
     let given = c.next_block-given.result in
     room part given c.args.segment.count (take given c.next_block-given.new.out) (c.next_block-given.ensures.block part.rest part.gives) c.requires.count c.requires.room
 
-pub pieces-smaller : goal.pieces-smaller
-pieces-smaller g c =
-    let part = c.pieces.invariant in
+pub overflow_sub-left : goal.overflow_sub-left
+overflow_sub-left g c =
+    let part = c.pieces.invariant.0 in
     let given = c.next_block-given.result in
     let block = c.next_block-given.new.out in
     let most = given_at_most given block part.rest (let long = c.next_block-given.array_long in let most = c.next_block-given.ensures.most in omega arith) (c.next_block-given.ensures.block part.rest part.gives) in
-    smaller part c.next_block-given.new.steps given most c.if-given-eq0.false c.next_block-given.ensures.steps
+    let many = as_many part c.args.segment.count c.pieces.left c.requires.count c.pieces.invariant.1 in
+    omega (arith, most, many)
 
 pub pieces-preserved : goal.pieces-preserved
 pieces-preserved g c =
-    let part = c.pieces.invariant in
+    let part = c.pieces.invariant.0 in
     let given = c.next_block-given.result in
     let block = c.next_block-given.new.out in
-    more part c.next_block-given.new.cursor c.add_all.new.self c.add_all.new.pool c.next_block-given.new.steps given (take given block)
-    (c.next_block-given.ensures.rest part.rest part.gives) (c.next_block-given.ensures.block part.rest part.gives)
-    (let long = c.next_block-given.array_long in let most = c.next_block-given.ensures.most in let size = length-take given block in omega arith)
-    c.add_all.ensures.stand c.add_all.ensures.scores c.add_all.ensures.frames c.add_all.ensures.same c.add_all.ensures.leaves c.next_block-given.ensures.steps
-    c.one_class_more_is_added.ensures.parts c.calls_on_one_chain.ensures.two
+    let most = given_at_most given block part.rest (let long = c.next_block-given.array_long in let most = c.next_block-given.ensures.most in omega arith) (c.next_block-given.ensures.block part.rest part.gives) in
+    let many = as_many part c.args.segment.count c.pieces.left c.requires.count c.pieces.invariant.1 in (
+      more part c.next_block-given.new.cursor c.add_all.new.self c.add_all.new.pool c.next_block-given.new.steps given (take given block)
+          (c.next_block-given.ensures.rest part.rest part.gives) (c.next_block-given.ensures.block part.rest part.gives)
+          (let long = c.next_block-given.array_long in let most = c.next_block-given.ensures.most in let size = length-take given block in omega arith)
+          c.add_all.ensures.stand c.add_all.ensures.scores c.add_all.ensures.frames c.add_all.ensures.same c.add_all.ensures.leaves c.next_block-given.ensures.steps
+          c.one_class_more_is_added.ensures.parts c.calls_on_one_chain.ensures.two,
+      omega (arith, most, many, c.pieces.invariant.1, c.next_block-given.ensures.steps),
+    )
+
+pub returns-clause-scores : goal.returns-clause-scores
+returns-clause-scores g c =
+    let part = c.pieces.invariant.0 in
+    let many = as_many part c.args.segment.count c.pieces.left c.requires.count c.pieces.invariant.1 in
+    let test = c.pieces-test.false in
+    part.sums ∙ ap (λ docs. added c.args.segment.weight docs (scores_of c.args.scores.now c.args.pool.now)) (finished part (omega (arith, many, test)))
