@@ -262,14 +262,15 @@ fn serving_may_stop(rt: HostRuntime) {
 #[test]
 fn inputs_may_be_long(rt: HostRuntime) {
     let most = 1_073_741_824u64;
-    let table: [(u64, u8, &[u8], &[u8]); 2] = [
-        (most - 1, 0, b"refused 70 bad line\n", b""),
-        (most, 6, b"", b"input limit\n"),
+    let table: [(u64, u64, u8, &[u8], &[u8]); 3] = [
+        (most - 1, NEVER, 0, b"refused 70 bad line\n", b""),
+        (most, NEVER, 6, b"", b"input limit\n"),
+        (most, 0, 6, b"", b""),
     ];
-    for (size, status, out, notes) in table {
+    for (size, bad_note, status, out, notes) in table {
         let mut input = Repeated { left: size };
         let words = "serve index frames=2";
-        let Ok(left) = served_from(rt.alloc(), &ONE_TERM, words, &mut input, NEVER, NEVER) else {
+        let Ok(left) = served_from(rt.alloc(), &ONE_TERM, words, &mut input, NEVER, bad_note) else {
             assert!(&rt; false, "no memory");
             return;
         };

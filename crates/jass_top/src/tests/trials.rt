@@ -1,5 +1,5 @@
-// Trials, with puts that fail. What the greater ones print was computed by a program of another
-// language, from the papers alone.
+// Trials, with puts that fail, on the output and on the notes. What the greater ones print was
+// computed by a program of another language, from the definitions alone.
 
 use super::ran;
 
@@ -38,12 +38,20 @@ fn trials_print_a_summary(rt: HostRuntime) {
         ("trial 2147483648 4 1 1", &[], 2, b"", b"word 2\n"),
     ];
     for (words, bad_puts, status, out, notes) in table {
-        let Ok(left) = ran(rt.alloc(), &[], words, &[], bad_puts, &[]) else {
+        let (Ok(left), Ok(muted)) = (
+            ran(rt.alloc(), &[], words, &[], bad_puts, &[]),
+            ran(rt.alloc(), &[], words, &[], bad_puts, &[0]),
+        ) else {
             assert!(&rt; false, "no memory");
             return;
         };
         assert_eq!(&rt; left.status, status, "{words}");
         assert!(&rt; left.out.as_slice() == out, "{words}");
         assert!(&rt; left.notes.as_slice() == notes, "{words}");
+        assert_eq!(&rt; muted.status, status, "{words}");
+        assert!(&rt;
+            muted.out.as_slice() == out && muted.notes.is_empty(),
+            "{words}"
+        );
     }
 }
