@@ -113,13 +113,14 @@ class CiffFile:
             return found
 
 
-def write_header(out, ciff, description, lists, records):
-    """Puts the header of so many lists and of these (name, length) records."""
-    lengths = sum(length for _, length in records)
+def write_header(out, ciff, description, lists, lengths, times=1):
+    """Puts the header of so many lists, and of documents of these lengths, so many times over."""
+    documents = len(lengths) * times
+    terms = sum(lengths) * times
     write_message(out, ciff.Header(
-        version=1, num_postings_lists=lists, num_docs=len(records),
-        total_postings_lists=lists, total_docs=len(records), total_terms_in_collection=lengths,
-        average_doclength=lengths / len(records) if records else 0.0, description=description))
+        version=1, num_postings_lists=lists, num_docs=documents,
+        total_postings_lists=lists, total_docs=documents, total_terms_in_collection=terms,
+        average_doclength=terms / documents if documents else 0.0, description=description))
 
 
 def write_list(out, ciff, term, postings):
@@ -132,7 +133,12 @@ def write_list(out, ciff, term, postings):
     write_message(out, entry)
 
 
+def lengths_of(records):
+    return [length for _, length in records]
+
+
 def write_records(out, ciff, records):
+    """Puts the records of documents, which are (name, length) by rising number."""
     for doc, (name, length) in enumerate(records):
         write_message(out, ciff.DocRecord(docid=doc, collection_docid=name, doclength=length))
 

@@ -13,7 +13,7 @@ protobuf-compiler.
 import sys
 from contextlib import ExitStack
 
-from common import Bad, CiffFile, messages, number_word, run_script, write_header, write_list, write_records
+from common import Bad, CiffFile, lengths_of, messages, number_word, run_script, write_header, write_list, write_records
 
 
 def parts_of(postings, starts):
@@ -53,7 +53,8 @@ def cut(words):
     with ExitStack() as stack:
         outs = [stack.enter_context(open(f"{words[2]}.{shard + 1}.ciff", "wb")) for shard in range(shards)]
         for shard, out in enumerate(outs):
-            write_header(out, ciff, description, counts[shard], records[starts[shard]:starts[shard + 1]])
+            write_header(out, ciff, description, counts[shard],
+                         lengths_of(records[starts[shard]:starts[shard + 1]]))
         for term, postings in file.lists():
             for shard, part in parts_of(postings, starts):
                 write_list(outs[shard], ciff, term, part)

@@ -13,7 +13,7 @@ import re
 import subprocess
 import sys
 
-from common import Bad, messages, number_word, run_script, write_header, write_list, write_records
+from common import Bad, lengths_of, messages, number_word, run_script, write_header, write_list, write_records
 
 FIELDS = ("Package", "Section", "Description", "Tag")
 WORD = re.compile(r"[^\W_]+")
@@ -57,7 +57,7 @@ def make(words):
             lists[term].append((doc, tf))
 
     with open(words[0], "wb") as out:
-        write_header(out, ciff, "package descriptions", len(lists), records)
+        write_header(out, ciff, "package descriptions", len(lists), lengths_of(records))
         for term in sorted(lists):
             write_list(out, ciff, term, lists[term])
         write_records(out, ciff, records)

@@ -13,7 +13,7 @@ collection, the names of one file and one list. Needs the packages python3-proto
 import collections
 import sys
 
-from common import Bad, CiffFile, messages, number_word, run_script, write_header, write_list, write_records
+from common import Bad, CiffFile, lengths_of, messages, number_word, run_script, write_header, write_list, write_records
 
 
 def lg(number):
@@ -79,7 +79,7 @@ def weigh(words):
         bare = [(name, 0) for name, _ in records]
         with open(path, "wb") as out:
             lists = sum(1 for _, postings in file.lists() if postings)
-            write_header(out, ciff, "", lists, bare)
+            write_header(out, ciff, "", lists, lengths_of(bare))
             for term, postings in file.lists():
                 impacts = [(doc, quantised(weight, least, greatest, bits))
                            for doc, weight in weights.of(records, term, postings)]
