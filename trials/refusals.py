@@ -7,7 +7,8 @@ For each command on a small input, and each kind of call (refuse.c): the first c
 so on until a run has no such call. Of each run it is asked that it ends by itself, with a status that the kind allows;
 with 0 that the output and the files are those of a run without refusal; else that one note stands on standard error,
 that the output is a prefix of that run's, and that a file which is written is as at entry or a prefix; at 1 that files
-are as at entry, but for those of `search` and `import`; and that no other file changed. Needs a C compiler.
+are as at entry, but for those of `search` and `import`; and that no other file changed. A run that ends with 1 is
+made once more with notes that can't be put, and has to end the same. Needs a C compiler.
 """
 import os
 import shutil
@@ -60,7 +61,7 @@ class Trial:
             with open(os.path.join(self.folder, name), "wb") as file:
                 file.write(content)
 
-    def run(self, words, given, refuse=None):
+    def run(self, words, given, refuse=None, notes=subprocess.PIPE):
         """The status, the output, the notes, the files behind it, and how many calls of the kind there were."""
         env = {"LD_PRELOAD": self.shim, "REFUSE": refuse} if refuse else {}
         reading, writing = os.pipe()
@@ -69,7 +70,7 @@ class Trial:
             command = ["/bin/sh", "-c", f'exec 9>&{writing}; exec env "$@"', "sh",
                        *(f"{key}={value}" for key, value in env.items()), *command]
         run = subprocess.run(command, cwd=self.folder, input=given, env={}, pass_fds=(writing,), timeout=60,
-                             stdout=subprocess.PIPE, stderr=subprocess.PIPE)
+                             stdout=subprocess.PIPE, stderr=notes)
         os.close(writing)
         with os.fdopen(reading, "rb") as pipe:
             told = pipe.read()
@@ -119,6 +120,11 @@ def try_command(trial, words, target, given, inputs):
                 if got[4] is None:
                     raise SystemExit(f"{words}: {kind} {number}: was killed, and ended with {got[0]}")
                 fault = fault_of(kind, words, target, entry, whole, got)
+                if not fault and kind == "alloc" and got[0]:
+                    trial.lay(entry)
+                    with open("/dev/full", "wb") as full:
+                        muted = trial.run(words, given, f"{kind} {number}", full)
+                    fault = None if (muted[:2], muted[3]) == (got[:2], got[3]) else "another end where no note can be put"
                 if fault:
                     faults += 1
                     print(f"{words}: {kind} {number}: {fault}")
