@@ -1,4 +1,4 @@
-use Rattle.std.proofs.Common.{◌≡◌, ℕ, ◌+◌, ◌-◌, ◌^◌, ◌<◌, ◌≤◌, length, ap, refl, arith}
+use Rattle.std.proofs.Common.{◌+◌, ◌<◌, ap, refl, arith}
 use Rattle.jass_base.specs.declared.posting.Posting.{Posting}
 use Rattle.ciff_read.specs.Places.{gathered_of}
 use Rattle.ciff_read.proofs.Runs.{Passes, next_in_hand}
