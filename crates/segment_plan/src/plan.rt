@@ -75,8 +75,8 @@ impl Plan {
         self.sums[self.entries.len()]
     }
 
-    /// The most that a document can still gain after the first `n` entries: the sum, over the
-    /// query's terms, of the greatest weight among the term's other entries.
+    /// No document can gain more than this after the first `n` entries: the sum, over the query's
+    /// terms, of the greatest weight among the term's other entries.
     pub fn rest_bound(&self, n: u32) -> u32
         requires { n ≤ length self.now.entries }
         ensures { result ≡ rest_bound n self.now }

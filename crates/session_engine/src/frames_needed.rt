@@ -8,8 +8,8 @@ use crate::laws::a_session_plan_has_its_postings;
 use index_file::IndexFile;
 use jass_base::Query;
 
-/// The most frames that a session of the query can use: one for each page of 256 documents of the index, and one for
-/// each posting of the query's plan. The query's terms are the index's.
+/// The most frames that a session of the query can use: as many as the index has pages of 256 documents, or as the
+/// query's plan has postings where these are fewer. The query's terms are the index's.
 pub fn need(index: &IndexFile, query: &Query) -> u32
     requires { AreKnown index.now query.now.terms }
     ensures { result ≡ need_of index.now query.now.terms }
