@@ -24,8 +24,8 @@ use jass_base::{Cabinet, Failed, Row, Segment, Text, Totals};
 use std::alloc::Global;
 use std::marker::Model;
 
-/// Writes an index file of which no more than one term is in memory: what stands before the payloads
-/// first, and then the payloads of each term in turn.
+/// Writes an index file: what stands before the payloads first, and then the payloads, term by term
+/// or all at once.
 #[derive(Drop)]
 pub struct IndexWriter {
     name: Text,

@@ -103,8 +103,7 @@ pub fn read_budget(word: &str) -> Option<Budget>
     }
 }
 
-/// The place of the first word that is no term, or of the last but one too many; how many
-/// words there are where each is a term.
+/// The place of the first word that is no term; how many words there are where each is a term.
 pub fn terms_in(words: &[String]) -> usize
     ensures within { result ≤ length words.now }
     ensures terms { AllByRecursion IsTerm (take result (texts words.now)) }

@@ -8,8 +8,8 @@ use crate::lists::{cf_sum, draw_lists};
 use jass_base::{Collection, Header, NoMemory, Text};
 use std::alloc::Global;
 
-/// The collection of a seed, which is below 2^31, with so many documents and terms, each of them 1
-/// to 1,048,576. A term that is drawn late has few postings, or none.
+/// The collection of a seed, with so many documents and terms, at most 1,048,576 of each. A term
+/// that is drawn late has few postings, or none.
 pub fn make(alloc: Global, seed: u32, docs: u32, terms: u32) -> Result<Collection, NoMemory>
     requires docs { docs ≤ 1048576 }
     requires terms { terms ≤ 1048576 }
