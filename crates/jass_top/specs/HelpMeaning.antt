@@ -24,7 +24,7 @@ help_text =
     ++ (codes "3  an input is refused\n"
     ++ (codes "4  an input could not be read, or is missing\n"
     ++ (codes "5  an output could not be written\n"
-    ++ (codes "6  the input is longer than is taken\n\n"
+    ++ (codes "6  2^30 bytes of the input were taken, and no line was end\n\n"
     ++ codes "documents: README.md, docs/\n")))))))))))))))))))
 
 abbrev pub help_meaning : Meaning

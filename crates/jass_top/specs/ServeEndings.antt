@@ -50,7 +50,7 @@ pub record ServeUnwritten (index : List ℕ) (frames : ℕ) (before after : Worl
   pub noted : Noted before after (write_fault_text (codes "output"))
   pub serves : PartServed index frames (fed_in before) (fed_in after)
 
--- the input is longer than is taken
+-- the input has 2^30 bytes or more, and none of the lines in the first 2^30 is the end
 pub record ServeLimited (index : List ℕ) (frames : ℕ) (before after : World) : Type 0 where
   pub noted : Noted before after limit_text
   pub serves : FrontServed index frames (fed_in before) (fed_in after)

@@ -28,7 +28,7 @@ statuses:\n\
 3  an input is refused\n\
 4  an input could not be read, or is missing\n\
 5  an output could not be written\n\
-6  the input is longer than is taken\n\
+6  2^30 bytes of the input were taken, and no line was end\n\
 \n\
 documents: README.md, docs/\n\
 ";

@@ -16,7 +16,7 @@ pub enum Status {
     ReadFault,
     /// 5: an output could not be written.
     WriteFault,
-    /// 6: the input was longer than is taken.
+    /// 6: 2^30 bytes of the input were taken, and no line of them was `end`.
     InputLimit,
 }
 
