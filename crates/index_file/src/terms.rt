@@ -15,8 +15,16 @@ use index_layout::OpenFault;
 use jass_base::Row;
 use std::alloc::Global;
 
+/// How many bytes of terms are held for each byte of a file. A term is spelled by what differs from
+/// the one before, so that a short file could have 4 GB of them.
+const TEXT_PER_BYTE: usize = 64;
+
+/// How many more are held of any file.
+const SPARE_TEXT: usize = 16_777_216;
+
 /// The text of so many terms, their rows, the heads of their segments with the sums of these, and the
-/// place behind the last. The text and the segments have fewer than 2^32 entries; a file with more wants memory.
+/// place behind the last. The text has at most `most_text` bytes, and there are fewer than 2^32
+/// segments; a file with more wants memory.
 #[inline(never)]
 pub(crate) fn read_terms(
     alloc: Global,
@@ -38,6 +46,7 @@ pub(crate) fn read_terms(
     ensures few { IfOk result (λ x. length x.2 < 2 ^ 32) }
     ensures end { IfOk result (λ x. x.4 ≤ length bytes.now) }
 {
+    let most_text = most_text(bytes.len());
     let mut text = Row::new(alloc);
     let mut rows = Row::new(alloc);
     let mut segments = Row::new(alloc);
@@ -64,7 +73,7 @@ pub(crate) fn read_terms(
             Ok(end) => end,
             Err(fault) => return Err(fault),
         };
-        if text.len() > 0xffff_ffff || segments.len() > 0xffff_ffff {
+        if text.len() > most_text || segments.len() > 0xffff_ffff {
             return Err(OpenFault::NoMemory);
         }
         match rows.push(TermRow {
@@ -80,4 +89,12 @@ pub(crate) fn read_terms(
         });
     }
     Ok((text, rows, segments, sums, at))
+}
+
+/// How many bytes of terms are held at the most of a file of this size: fewer than 2^32.
+fn most_text(size: usize) -> usize
+    requires { size ≤ 2 ^ 32 }
+    ensures { result < 2 ^ 32 }
+{
+    (TEXT_PER_BYTE * size + SPARE_TEXT).min(0xffff_ffff)
 }

@@ -44,7 +44,7 @@ terms-preserved c =
       there = subst (All (HasHead bytes)) (sym c.in-Ok-read_heads.ensures.kept) (All-append (HasHead bytes) segments added c.terms.invariant.there c.in-Ok-read_heads.ensures.there);
       sums = subst (λ all. AreSums c.read_heads.new.sums all) (sym (ap (map (row_head bytes)) c.in-Ok-read_heads.ensures.kept ∙ map-append (row_head bytes) segments added)) (c.in-Ok-read_heads.ensures.sums (map (row_head bytes) segments) c.terms.invariant.sums);
       small = c.in-Ok-read_heads.ensures.small;
-      few = omega (arith, c.len-else-len-gt4294967295.ensures, c.if-len-gt4294967295-2.false);
+      few = omega (arith, c.len-else-len-most_text.ensures, c.if-len-gt4294967295.false);
       count = ap length put ∙ length-append rows (row ∷ []) ∙ ap (λ n. n + 1) c.terms.invariant.count;
     }
 
