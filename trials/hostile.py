@@ -5,7 +5,8 @@ usage: hostile.py PROGRAM
 
 Each file is made in a folder of its own and handed to a command of PROGRAM. A line for each: the bytes of the file,
 the note, the greatest memory and the seconds. The status is 1 where a note isn't the one that is wanted, or where
-the memory is above 16 MB and four times the bytes of the files that are read.
+the memory is above 16 MB and four times the bytes of the files that are read (192 times where terms share nearly
+all of their bytes, since an opened index holds up to 64 bytes of terms for each byte of its file).
 """
 import os
 import struct
@@ -51,6 +52,20 @@ def line(word, count):
     yield b"\n"
 
 
+def alike_terms(count):
+    """An index file of so many terms of 65,535 bytes, which differ in the last three."""
+    front = b"a" * 65_532
+    parts = [NAME]
+    before = b""
+    for place in range(count):
+        rest = bytes(97 + place // 26 ** power % 26 for power in (2, 1, 0))
+        term = front + rest
+        shared = 65_532 + len(os.path.commonprefix([before, rest])) if before else 0
+        before = rest
+        parts.append(struct.pack("<HH", shared, 65_535 - shared) + term[shared:] + struct.pack("<IHIBI", 1, 1, 1, 0, 1))
+    return index(1, count, count, b"".join(parts))
+
+
 NAME = struct.pack("<I", 1) + b"d"
 HEADER = number(1, 1) + number(2, 1) + number(3, 1)
 SMALL = message(HEADER) + message(text(1, b"a") + text(4, number(2, 1))) + message(text(2, b"d"))
@@ -68,6 +83,7 @@ CASES = [
     ("all limits", "check it", index(MOST, 1 << 24, 1 << 29, NAME), "it: refusal 41 at 45"),
     ("2^32 - 1 heads", "check it", index(1, 1, 1, NAME + struct.pack("<HH", 0, 1) + b"a" + b"\xff" * 4),
      "it: refusal 41 at 54"),
+    ("terms that are alike", "check it", alike_terms(17_000), "no memory"),
     ("a word of 1 MB", "search small it new", line(b"a", (1 << 20) - 2), ""),
     ("the same, folded", "search small it new mode=folded", line(b"a", (1 << 20) - 2), ""),
     ("a line too long", "search small it new", line(b"a", (1 << 20) - 1), "it: refusal 54 at line 1"),
@@ -102,7 +118,8 @@ def main():
                 out.writelines([content] if isinstance(content, bytes) else content)
                 size = out.tell()
             note, memory, seconds = run([program, *words.split()], folder)
-        good = note == wanted and memory <= (1 << 24) + 4 * size
+        factor = 192 if wanted == "no memory" else 4
+        good = note == wanted and memory <= (1 << 24) + factor * size
         wrong += not good
         print(f"{what}: {size} bytes, {note or 'no note'}, {memory / 1e6:.1f} MB, {seconds:.2f} s"
               + ("" if good else f"; wanted: {wanted or 'no note'}"))
