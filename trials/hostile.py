@@ -83,7 +83,7 @@ CASES = [
     ("all limits", "check it", index(MOST, 1 << 24, 1 << 29, NAME), "it: refusal 41 at 45"),
     ("2^32 - 1 heads", "check it", index(1, 1, 1, NAME + struct.pack("<HH", 0, 1) + b"a" + b"\xff" * 4),
      "it: refusal 41 at 54"),
-    ("terms that are alike", "check it", alike_terms(17_000), "no memory"),
+    ("terms that are alike", "check it", alike_terms(700), "no memory"),
     ("a word of 1 MB", "search small it new", line(b"a", (1 << 20) - 2), ""),
     ("the same, folded", "search small it new mode=folded", line(b"a", (1 << 20) - 2), ""),
     ("a line too long", "search small it new", line(b"a", (1 << 20) - 1), "it: refusal 54 at line 1"),
