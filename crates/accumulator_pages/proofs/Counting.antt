@@ -21,19 +21,22 @@ byte_worth false = refl
 one_touched : (score : ℕ) → worth (is_touched score) + worth (eqb score 0) ≡ 1
 one_touched score = grind (arith, nat_tests)
 
--- a document that gets a score of at least 1 is one more where it had none
-pub touched-rise : (s : List ℕ) (d v before more touched : ℕ) → d < length s → 0 < v → before ≡ get_or s d 0 → more ≡ worth (eqb before 0) → touched ≡ touched_count s
-    → touched + more ≡ touched_count (set s d v)
-touched-rise s d v before more touched inside some read more_is is =
-    let new : worth (is_touched v) ≡ 1 = ap worth (lt-ltb 0 v some) in
-    let more_here : more ≡ worth (eqb (get_or s d 0) 0) = more_is ∙ ap (λ (b : ℕ). worth (eqb b 0)) read in
-    omega (arith, sum_by-set (λ x. worth (is_touched x)) s d v 0 inside, new, one_touched (get_or s d 0), more_here, is)
+-- a document whose score is the weight alone is one more
+pub touched-rise : (s : List ℕ) (d w score more touched : ℕ) → d < length s → 0 < w → score ≡ get_or s d 0 + w → more ≡ worth (eqb score w) → touched ≡ touched_count s
+    → touched + more ≡ touched_count (set s d score)
+touched-rise s d w score more touched inside some rose more_is is =
+    let new : worth (is_touched score) ≡ 1 = ap worth (lt-ltb 0 score (omega (arith, some, rose))) in
+    let alone : worth (eqb score w) ≡ worth (eqb (get_or s d 0) 0) = same_test score w (get_or s d 0) rose in
+    omega (arith, sum_by-set (λ x. worth (is_touched x)) s d score 0 inside, new, one_touched (get_or s d 0), alone, more_is, is)
+  where
+    same_test : (score w before : ℕ) → score ≡ before + w → worth (eqb score w) ≡ worth (eqb before 0)
+    same_test score w before rose = grind (arith, nat_tests)
 
 -- so the count doesn't pass the number of documents
-pub touched-fits : (s : List ℕ) (d v before more touched : ℕ) → d < length s → 0 < v → before ≡ get_or s d 0 → more ≡ worth (eqb before 0) → touched ≡ touched_count s
+pub touched-fits : (s : List ℕ) (d w score more touched : ℕ) → d < length s → 0 < w → score ≡ get_or s d 0 + w → more ≡ worth (eqb score w) → touched ≡ touched_count s
     → touched + more ≤ length s
-touched-fits s d v before more touched inside some read more_is is =
-    omega (arith, touched-rise s d v before more touched inside some read more_is is, count_by-le-length is_touched (set s d v), length-set s d v)
+touched-fits s d w score more touched inside some rose more_is is =
+    omega (arith, touched-rise s d w score more touched inside some rose more_is is, count_by-le-length is_touched (set s d score), length-set s d score)
 
 pub some_counted : (p : ℕ → Bool) (xs : List ℕ) (i : ℕ) → i < length xs → p (get_or xs i 0) ≡ true → 0 < count_by p xs
 some_counted p [] i inside is = absurd (omega arith)

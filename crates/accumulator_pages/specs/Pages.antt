@@ -67,11 +67,20 @@ pub record FieldsStand (pages : Pages) (view : ChainView) : Type 0 where
 abbrev pub HasTouched : List ℕ → ℕ → Type 0
 HasTouched scores page = (doc : ℕ) × (doc / 256 ≡ page) × (0 < slice_index scores doc)
 
--- each page with a frame has a touched document, and all touched documents are counted
+-- each page with a frame has a touched document
+abbrev pub AreUsed : List ℕ → List ℕ → Type 0
+AreUsed table scores = (page : ℕ) → page < length table → slice_index table page ≢ no_frame → HasTouched scores page
+
+-- the fields of pages tell what their chain holds, and each page with a frame has a touched document
+pub record FramesStand (pages : Pages) (view : ChainView) : Type 0 where
+  pub fields : FieldsStand pages view
+  pub used : AreUsed pages.table.items (view_scores pages.docs view)
+
+-- that, and all touched documents are counted
 pub record PagesStand (pages : Pages) (view : ChainView) : Type 0 where
   pub fields : FieldsStand pages view
   pub touched : pages.touched ≡ touched_count (view_scores pages.docs view)
-  pub used : (page : ℕ) → page < length pages.table.items → slice_index pages.table.items page ≢ no_frame → HasTouched (view_scores pages.docs view) page
+  pub used : AreUsed pages.table.items (view_scores pages.docs view)
 
 -- the pages stand in the pool: nothing is read of it but their own chain
 pub record Stands (pages : Pages) (pool : PoolView) : Type 0 where

@@ -2,7 +2,7 @@ ghost use Rattle.std.specs.Prelude.{◌≡◌, ◌≢◌, ℕ, ◌+◌, ◌*◌,
 ghost use Rattle.frame_pool.specs.Pool.{PoolView, IsInUse};
 ghost use Rattle.frame_pool.specs.ChainView.{HasPage, LeavesPool, chain_view};
 ghost use Rattle.accumulator_pages.specs.Adding.{added, raised, touched_count, touched_pages};
-ghost use Rattle.accumulator_pages.specs.Pages.{ArePagesOf, FieldsStand, HasRoom, HasRoomFor, Stands, docs_of, frame_of_entry, own_chain, own_view, pages_places, pages_scores};
+ghost use Rattle.accumulator_pages.specs.Pages.{ArePagesOf, FieldsStand, FramesStand, HasRoom, HasRoomFor, Stands, docs_of, frame_of_entry, no_frame, own_chain, own_view, pages_places, pages_scores};
 
 use crate::reached::Reached;
 use frame_pool::laws::calls_on_one_chain;
@@ -75,11 +75,8 @@ impl Pages {
         ensures same { ArePagesOf self.old self.new }
         ensures leaves { LeavesPool pool.old pool.new (own_chain self.old) }
     {
-        let frame = self.frame_of(pool, doc / PAGE_DOCS);
-        let before = self.score_in(pool, frame, doc);
-        let score = before + w;
-        pool.set_score(frame, (doc % PAGE_DOCS) as u8, score);
-        self.touched += u32::from(before == 0);
+        let score = self.raise(pool, doc, w);
+        self.touched += u32::from(score == w);
         score
     }
 
@@ -111,10 +108,14 @@ impl Pages {
         ensures leaves { LeavesPool pool.old pool.new (own_chain self.old) }
     {
         calls_on_one_chain();
+        // Counted aside: a count in memory would have each document wait for the one before it.
+        let mut touched = self.touched;
         for doc in docs {
-            let score = self.add(pool, *doc, w);
+            let score = self.raise(pool, *doc, w);
+            touched += u32::from(score == w);
             reached.note(*doc, score, w, last);
         }
+        self.touched = touched;
     }
 
     /// The score of a document.
@@ -199,6 +200,31 @@ impl Pages {
         chain
     }
 
+    // Adds a weight to the score of a document, and answers the new score. It doesn't count touched documents: those
+    // whose new score is the weight are touched now.
+    fn raise(&mut self, pool: &mut FramePool, doc: u32, w: u32) -> u32
+        requires own { IsInUse pool.old (own_chain self.old) }
+        requires stand { FramesStand self.old (own_view self.old pool.old) }
+        requires inside { doc < docs_of self.old }
+        requires weight { 1 ≤ w }
+        requires fits { slice_index (pages_scores self.old pool.old) doc + w < 2 ^ 32 }
+        requires frame { HasRoom (own_view self.old pool.old) (doc / 256) }
+        ensures score { result ≡ slice_index (pages_scores self.old pool.old) doc + w }
+        ensures scores { pages_scores self.new pool.new ≡ slice_set (pages_scores self.old pool.old) doc result }
+        ensures places { pages_places self.new pool.new ≡ pages_places self.old pool.old }
+        ensures frames { length (own_view self.new pool.new).frames ≤ length (own_view self.old pool.old).frames + 1 }
+        ensures own { IsInUse pool.new (own_chain self.new) }
+        ensures stand { FramesStand self.new (own_view self.new pool.new) }
+        ensures touched { self.new.touched ≡ self.old.touched }
+        ensures same { ArePagesOf self.old self.new }
+        ensures leaves { LeavesPool pool.old pool.new (own_chain self.old) }
+    {
+        let frame = self.frame_of(pool, doc / PAGE_DOCS);
+        let score = self.score_in(pool, frame, doc) + w;
+        pool.set_score(frame, (doc % PAGE_DOCS) as u8, score);
+        score
+    }
+
     // The frame of a page, which is taken where the page has none.
     fn frame_of(&mut self, pool: &mut FramePool, page: u32) -> FrameId
         requires own { IsInUse pool.old (own_chain self.old) }
@@ -217,9 +243,32 @@ impl Pages {
         ensures own { IsInUse pool.new (own_chain self.new) }
         ensures leaves { LeavesPool pool.old pool.new (own_chain self.old) }
     {
-        if let Some(frame) = self.known_frame(page) {
-            return frame;
+        match self.known_frame(page) {
+            Some(frame) => frame,
+            None => self.take_frame(pool, page),
         }
+    }
+
+    // Takes the frame of a page that has none. Not inlined: it is seldom needed where weights are added.
+    #[inline(never)]
+    fn take_frame(&mut self, pool: &mut FramePool, page: u32) -> FrameId
+        requires own { IsInUse pool.old (own_chain self.old) }
+        requires fields { FieldsStand self.old (own_view self.old pool.old) }
+        requires inside { page < length self.old.table.items }
+        requires vacant { slice_index self.old.table.items page ≡ no_frame }
+        requires room { HasRoom (own_view self.old pool.old) page }
+        ensures has { HasPage (own_view self.new pool.new) page result.number }
+        ensures scores { pages_scores self.new pool.new ≡ pages_scores self.old pool.old }
+        ensures places { pages_places self.new pool.new ≡ pages_places self.old pool.old }
+        ensures frames { length (own_view self.new pool.new).frames ≤ length (own_view self.old pool.old).frames + 1 }
+        ensures fields { FieldsStand self.new (own_view self.new pool.new) }
+        ensures entries { (other : ℕ) → other ≢ page
+            → slice_index self.new.table.items other ≡ slice_index self.old.table.items other }
+        ensures touched { self.new.touched ≡ self.old.touched }
+        ensures same { ArePagesOf self.old self.new }
+        ensures own { IsInUse pool.new (own_chain self.new) }
+        ensures leaves { LeavesPool pool.old pool.new (own_chain self.old) }
+    {
         let frame = pool.take(&self.chain, page);
         self.table[page as usize] = frame.number;
         self.frames += 1;

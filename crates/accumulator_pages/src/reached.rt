@@ -66,10 +66,14 @@ impl Reached {
         ensures docs { self.new.docs ≡ self.old.docs ++ crossed doc (score - w) score last }
         ensures room { self.new.room ≡ self.old.room }
     {
-        // Below the floor the difference wraps to a number above any weight, and at a floor that wraps to 0 it is the
-        // score.
-        let floor = last.score.wrapping_add(u32::from(doc >= last.doc));
-        if score.wrapping_sub(floor) < w {
+        // Below the hit's score this wraps to a number above any weight, and above it before the weight was added too
+        // it is more than the weight: hardly any document gets past this test.
+        let above = score.wrapping_sub(last.score);
+        if above > w {
+            return;
+        }
+        let passes = if doc < last.doc { above < w } else { above > 0 };
+        if passes {
             self.docs[self.count] = doc;
             self.count += 1;
         }
