@@ -3,3 +3,6 @@ pub mod Counting
 pub mod Standing
 pub mod Untouched
 pub mod Raising
+pub mod Bits
+pub mod Halves
+pub mod Keeping

@@ -1,14 +1,16 @@
-ghost use Rattle.std.specs.Prelude.{◌≡◌, ◌≢◌, ℕ, ◌+◌, ◌*◌, ◌/◌, ◌++◌, ◌<◌, ◌≤◌, ◌^◌, ◌==◌, [], All, IfOk, IfErr, IfSome, IsNone, option_map, length, replicate, position, slice_index, slice_set};
+ghost use Rattle.std.specs.Prelude.{◌≡◌, ◌≢◌, ℕ, ◌+◌, ◌-◌, ◌*◌, ◌/◌, ◌%◌, ◌++◌, ◌<◌, ◌≤◌, ◌^◌, ◌==◌, [], true, false, All, IfOk, IfErr, IfSome, IsNone, option_map, length, replicate, position, slice_index, slice_set};
+ghost use Rattle.std.specs.List.{flat_map};
 ghost use Rattle.frame_pool.specs.Pool.{PoolView, IsInUse};
 ghost use Rattle.frame_pool.specs.ChainView.{HasPage, LeavesPool, chain_view};
-ghost use Rattle.accumulator_pages.specs.Adding.{added, raised, touched_count, touched_pages};
+ghost use Rattle.lane_kernels.specs.Bitmap.{set_bits};
+ghost use Rattle.accumulator_pages.specs.Adding.{added, crossed, raised, touched_count, touched_pages};
 ghost use Rattle.accumulator_pages.specs.Pages.{ArePagesOf, FieldsStand, FramesStand, HasRoom, HasRoomFor, Stands, docs_of, frame_of_entry, no_frame, own_chain, own_view, pages_places, pages_scores};
 
 use crate::reached::Reached;
 use frame_pool::laws::calls_on_one_chain;
 use frame_pool::{Chain, FrameId, FramePool};
 use jass_base::{Hit, NoMemory};
-use lane_kernels::first_zero;
+use lane_kernels::{Added, add_where, bits_to_docs, first_zero};
 use std::alloc::Global;
 
 /// The documents of a page.
@@ -118,6 +120,52 @@ impl Pages {
         self.touched = touched;
     }
 
+    /// Adds a weight to the scores of the documents whose bits are set, and notes those that pass the hit `last` by
+    /// it. Bit i of the bytes, at most 16, is that of document 128 * row + i; bit 0 is the lowest bit of the first
+    /// byte. Any score passes document 0 with score 0.
+    pub fn add_bits(
+        &mut self,
+        pool: &mut FramePool,
+        row: u32,
+        bits: &[u8],
+        w: u32,
+        last: Hit,
+        reached: &mut Reached,
+    )
+        requires stands { Stands self.old pool.old }
+        requires row { row ≤ 2 ^ 19 }
+        requires bits { length bits.now ≤ 16 }
+        requires inside { All (λ doc. doc < docs_of self.old) (set_bits (128 * row) bits.now) }
+        requires weight { 1 ≤ w }
+        requires fits { All (λ score. score < 2 ^ 32)
+            (added w (set_bits (128 * row) bits.now) (pages_scores self.old pool.old)) }
+        requires frames { HasRoomFor (own_view self.old pool.old) (docs_of self.old)
+            (length (set_bits (128 * row) bits.now)) }
+        requires room { length reached.old.docs + length (set_bits (128 * row) bits.now) ≤ reached.old.room }
+        ensures scores { pages_scores self.new pool.new
+            ≡ added w (set_bits (128 * row) bits.now) (pages_scores self.old pool.old) }
+        ensures places { pages_places self.new pool.new ≡ pages_places self.old pool.old }
+        ensures reached { reached.new.docs ≡ reached.old.docs
+            ++ raised w last (set_bits (128 * row) bits.now) (pages_scores self.old pool.old) }
+        ensures room { reached.new.room ≡ reached.old.room }
+        ensures frames { length (own_view self.new pool.new).frames
+            ≤ length (own_view self.old pool.old).frames + length (set_bits (128 * row) bits.now) }
+        ensures stands { Stands self.new pool.new }
+        ensures same { ArePagesOf self.old self.new }
+        ensures leaves { LeavesPool pool.old pool.new (own_chain self.old) }
+    {
+        calls_on_one_chain();
+        // No frame is taken for a page of no document.
+        if !any_set(bits) {
+            return;
+        }
+        let added = self.raise_bits(pool, row, bits, w, last);
+        self.touched += added.zeros;
+        if added.near {
+            self.note_bits(pool, row, bits, w, last, reached);
+        }
+    }
+
     /// The score of a document.
     pub fn get(&self, pool: &FramePool, doc: u32) -> u32
         requires stands { Stands self.now pool.now }
@@ -225,6 +273,83 @@ impl Pages {
         score
     }
 
+    // Adds a weight to the scores of the documents whose bits are set, and tells how many of them had none, and
+    // whether one may have passed the hit. It doesn't count touched documents.
+    fn raise_bits(
+        &mut self,
+        pool: &mut FramePool,
+        row: u32,
+        bits: &[u8],
+        w: u32,
+        last: Hit,
+    ) -> Added
+        requires own { IsInUse pool.old (own_chain self.old) }
+        requires stand { FramesStand self.old (own_view self.old pool.old) }
+        requires bits { length bits.now ≤ 16 }
+        requires some { 1 ≤ length (set_bits (128 * row) bits.now) }
+        requires inside { All (λ doc. doc < docs_of self.old) (set_bits (128 * row) bits.now) }
+        requires weight { 1 ≤ w }
+        requires fits { All (λ score. score < 2 ^ 32)
+            (added w (set_bits (128 * row) bits.now) (pages_scores self.old pool.old)) }
+        requires frame { HasRoom (own_view self.old pool.old) (row / 2) }
+        ensures scores { pages_scores self.new pool.new
+            ≡ added w (set_bits (128 * row) bits.now) (pages_scores self.old pool.old) }
+        ensures places { pages_places self.new pool.new ≡ pages_places self.old pool.old }
+        ensures zeros { touched_count (pages_scores self.new pool.new)
+            ≡ touched_count (pages_scores self.old pool.old) + result.zeros }
+        ensures none_near { result.near ≡ false
+            → raised w last (set_bits (128 * row) bits.now) (pages_scores self.old pool.old) ≡ [] }
+        ensures frames { length (own_view self.new pool.new).frames ≤ length (own_view self.old pool.old).frames + 1 }
+        ensures own { IsInUse pool.new (own_chain self.new) }
+        ensures stand { FramesStand self.new (own_view self.new pool.new) }
+        ensures touched { self.new.touched ≡ self.old.touched }
+        ensures same { ArePagesOf self.old self.new }
+        ensures leaves { LeavesPool pool.old pool.new (own_chain self.old) }
+    {
+        let frame = self.frame_of(pool, row / 2);
+        let slots = pool.scores_mut(frame);
+        let first = 128 * (row % 2) as usize;
+        add_where(
+            &mut slots[first..first + 8 * bits.len()],
+            bits,
+            w,
+            last.score,
+        )
+    }
+
+    // Notes those of the documents whose bits are set that passed the hit by a weight, which their scores have by now.
+    #[inline(never)]
+    fn note_bits(
+        &self,
+        pool: &FramePool,
+        row: u32,
+        bits: &[u8],
+        w: u32,
+        last: Hit,
+        reached: &mut Reached,
+    )
+        requires stands { Stands self.now pool.now }
+        requires row { row ≤ 2 ^ 19 }
+        requires bits { length bits.now ≤ 16 }
+        requires some { 1 ≤ length (set_bits (128 * row) bits.now) }
+        requires inside { All (λ doc. doc < docs_of self.now) (set_bits (128 * row) bits.now) }
+        requires weight { 1 ≤ w }
+        requires rose { All (λ doc. w ≤ slice_index (pages_scores self.now pool.now) doc)
+            (set_bits (128 * row) bits.now) }
+        requires room { length reached.old.docs + length (set_bits (128 * row) bits.now) ≤ reached.old.room }
+        ensures docs { reached.new.docs ≡ reached.old.docs ++ flat_map (λ doc. crossed doc
+            (slice_index (pages_scores self.now pool.now) doc - w)
+            (slice_index (pages_scores self.now pool.now) doc) last) (set_bits (128 * row) bits.now) }
+        ensures room { reached.new.room ≡ reached.old.room }
+    {
+        let Some(frame) = self.known_frame(row / 2) else {
+            return;
+        };
+        let mut block = [0u32; 128];
+        let count = bits_to_docs(bits, 128 * row, &mut block);
+        note_slots(pool.scores_of(frame), &block[..count], w, last, reached);
+    }
+
     // The frame of a page, which is taken where the page has none.
     fn frame_of(&mut self, pool: &mut FramePool, page: u32) -> FrameId
         requires own { IsInUse pool.old (own_chain self.old) }
@@ -325,5 +450,32 @@ impl Pages {
         } else {
             Some(FrameId { number })
         }
+    }
+}
+
+// Whether a bit of the bytes is set.
+fn any_set(bits: &[u8]) -> bool
+    ensures none { result ≡ false → (base : ℕ) → set_bits base bits.now ≡ [] }
+    ensures some { result ≡ true → (base : ℕ) → 1 ≤ length (set_bits base bits.now) }
+{
+    for byte in bits {
+        if *byte != 0 {
+            return true;
+        }
+    }
+    false
+}
+
+// Notes those of some documents of a page that passed the hit by a weight, which their slots have by now.
+fn note_slots(slots: &[u32; 256], docs: &[u32], w: u32, last: Hit, reached: &mut Reached)
+    requires slots { length slots.now ≡ 256 }
+    requires rose { All (λ doc. w ≤ slice_index slots.now (doc % 256)) docs.now }
+    requires room { length reached.old.docs + length docs.now ≤ reached.old.room }
+    ensures docs { reached.new.docs ≡ reached.old.docs ++ flat_map (λ doc. crossed doc
+        (slice_index slots.now (doc % 256) - w) (slice_index slots.now (doc % 256)) last) docs.now }
+    ensures room { reached.new.room ≡ reached.old.room }
+{
+    for doc in docs {
+        reached.note(*doc, slots[(*doc % PAGE_DOCS) as usize], w, last);
     }
 }

@@ -1,6 +1,10 @@
-ghost use Rattle.std.specs.Prelude.{◌≡◌, ◌+◌, ◌-◌, ◌<◌, ◌≤◌, ◌^◌, ◌++◌, [], length, IfOk};
-ghost use Rattle.accumulator_pages.specs.Adding.{crossed};
+ghost use Rattle.std.specs.Prelude.{◌≡◌, ◌+◌, ◌-◌, ◌<◌, ◌≤◌, ◌^◌, ◌++◌, [], All, filter, length, nat_le, IfOk};
+ghost use Rattle.accumulator_pages.specs.Adding.{crossed, score_to_pass};
+ghost use Rattle.accumulator_pages.specs.Pages.{Stands, docs_of, pages_scores};
+ghost use Rattle.accumulator_pages.specs.Reached.{passes};
 
+use crate::pages::Pages;
+use frame_pool::FramePool;
 use jass_base::{Hit, NoMemory};
 use std::alloc::Global;
 use std::marker::Model;
@@ -77,5 +81,33 @@ impl Reached {
             self.docs[self.count] = doc;
             self.count += 1;
         }
+    }
+
+    /// Forgets those whose score doesn't pass a hit.
+    pub fn keep_passing(&mut self, pages: &Pages, pool: &FramePool, last: Hit)
+        requires stands { Stands pages.now pool.now }
+        requires inside { All (λ doc. doc < docs_of pages.now) self.old.docs }
+        ensures docs { self.new.docs ≡ filter (passes last (pages_scores pages.now pool.now)) self.old.docs }
+        ensures room { self.new.room ≡ self.old.room }
+    {
+        let mut kept = 0;
+        for index in 0..self.count {
+            let doc = self.docs[index];
+            if does_pass(doc, pages.get(pool, doc), last) {
+                self.docs[kept] = doc;
+                kept += 1;
+            }
+        }
+        self.count = kept;
+    }
+}
+
+fn does_pass(doc: u32, score: u32, last: Hit) -> bool
+    ensures { result ≡ nat_le (score_to_pass last doc) score }
+{
+    if doc < last.doc {
+        score >= last.score
+    } else {
+        score > last.score
     }
 }

@@ -3,9 +3,9 @@ use Rattle.std.proofs.Common.{◌≡◌, ◌≢◌, ℕ, suc, zero, ◌+◌, ◌
 use Rattle.std.specs.List.{range_with_len}
 use Rattle.std.proofs.lemmas.Bool.{ne_eqb, eq-eqb}
 use Rattle.std.proofs.lemmas.Bool.Decides.{eqb_tells}
-use Rattle.std.proofs.lemmas.List.FromFn.{get_or-map-range_with_len}
+use Rattle.std.proofs.lemmas.List.FromFn.{get_or-map-range_with_len, get_or-range_with_len, length-range_with_len, length-map-range_with_len}
 use Rattle.frame_pool.specs.Pool.{PoolView, ChainEntry, FrameContent, cleared, content_of, chain_of, HasFrame, with_first, promise_of, promised, spare_of}
-use Rattle.frame_pool.specs.ChainView.{ChainView, HeldFrame, chain_view, held_frame, frame_with_page, number_with_page, LacksPage, slot_value, view_values, KeepsChain, KeepsFrames, HasPage, LeavesOthers, LeavesPool, with_first_held}
+use Rattle.frame_pool.specs.ChainView.{ChainView, HeldFrame, chain_view, held_frame, frame_with_page, number_with_page, LacksPage, slot_value, view_values, KeepsChain, KeepsFrames, HasPage, LeavesOthers, LeavesPool, with_first_held, with_page}
 use Rattle.frame_pool.specs.Sound.{IsSound}
 use Rattle.std.proofs.lemmas.List.{length-map}
 use Rattle.frame_pool.proofs.Pages.{none_found, held_by, pages_before, of_page}
@@ -230,6 +230,40 @@ write-sets_own values old new f slot v x w sound is inside small c docs has =
     ∙ map-range-set (λ e. slot_value values (frame_with_page (chain_view old c) (e / 256)) (e % 256))
     (λ e. slot_value values (find (λ h. h.content.page == e / 256) (map (held_by (content_of new)) fs)) (e % 256)) 0 docs d d v (omega arith) here same
 
+-- all values of the frame's page, where it sets those
+write-sets_own_page : (values : FrameContent → List ℕ) (old new : PoolView) (f : ℕ) (slots : List ℕ) (x : FrameContent) → Writes old new f x → IsSound old
+    → ((s : ℕ) → s < 256 → get_or (values x) s 0 ≡ get_or slots s 0) → (c docs : ℕ) → HasFrame old c f
+    → view_values values docs (chain_view new c) ≡ with_page (content_of old f).page slots (view_values values docs (chain_view old c))
+write-sets_own_page values old new f slots x w sound is c docs has =
+    let fs : List ℕ = (chain_of old c).frames in
+    let page : ℕ = (content_of old f).page in
+    let before : ℕ → ℕ = λ d. slot_value values (frame_with_page (chain_view old c) (d / 256)) (d % 256) in
+    let were : List ℕ = map before (range_with_len 0 docs) in
+    let after : ℕ → ℕ = λ d. cond (eqb (d / 256) page) (get_or slots (d % 256) 0) (get_or were d 0) in
+    let new_page : (content_of new f).page ≡ page = written-page old new f x w f in
+    let each : (d : ℕ) → d < docs → slot_value values (find (λ h. h.content.page == d / 256) (map (held_by (content_of new)) fs)) (d % 256) ≡ after d =
+    λ d inside. elim (eqb_tells (d / 256) page)
+    as (λ _. slot_value values (find (λ h. h.content.page == d / 256) (map (held_by (content_of new)) fs)) (d % 256) ≡ after d) [
+      | inl here ↦
+          ap (λ (p : ℕ). slot_value values (find (λ h. h.content.page == p) (map (held_by (content_of new)) fs)) (d % 256)) (here.1 ∙ sym new_page)
+          ∙ found-at values (content_of new) (d % 256) fs has.0 f has.1 has.2
+          (λ j lt same. pages_before old c (sound.pages_differ c) f has.0 has.1 has.2 j lt (sym (written-page old new f x w (get_or fs j f)) ∙ same ∙ new_page))
+          ∙ ap (λ (c : FrameContent). get_or (values c) (d % 256) 0) (written-at old new f x w) ∙ is (d % 256) (omega arith)
+          ∙ sym (ap (λ b. cond b (get_or slots (d % 256) 0) (get_or were d 0)) here.0)
+      | inr other ↦
+          found-same values (content_of old) (content_of new) (d / 256) (d % 256) fs (written-page old new f x w)
+          (λ g at. elim (eqb_tells g f) as (λ _. get_or (values (content_of new g)) (d % 256) 0 ≡ get_or (values (content_of old g)) (d % 256) 0) [
+            | inl it ↦ absurd (other.1 (sym at ∙ ap (λ (y : ℕ). (content_of old y).page) it.1))
+            | inr apart ↦ ap (λ (c : FrameContent). get_or (values c) (d % 256) 0) (written-other old new f x w g apart.1)
+          ])
+          ∙ sym (get_or-map-range_with_len before 0 docs d d 0 inside (omega arith))
+          ∙ sym (ap (λ b. cond b (get_or slots (d % 256) 0) (get_or were d 0)) other.0)
+    ] in
+    ap (view_values values docs) (written-view old new f x w c)
+    ∙ map-same after (λ d. slot_value values (find (λ h. h.content.page == d / 256) (map (held_by (content_of new)) fs)) (d % 256)) (range_with_len 0 docs)
+    (λ d there. each d (omega (arith, there.1, there.2, length-range_with_len 0 docs, get_or-range_with_len 0 docs there.0 d (omega (arith, there.1, length-range_with_len 0 docs)))))
+    ∙ ap (λ (n : ℕ). map after (range_with_len 0 n)) (sym (length-map-range_with_len before 0 docs))
+
 -- each page keeps its frame
 pub write-keeps_numbers : (old new : PoolView) (f : ℕ) (x : FrameContent) → Writes old new f x → (c p : ℕ) → number_with_page (chain_view new c) p ≡ number_with_page (chain_view old c) p
 write-keeps_numbers old new f x w c p =
@@ -262,6 +296,14 @@ write-sets_value values old new f slot v x w sound is inside small c page docs h
     let own = of_page old c page f has in
     subst (λ (p : ℕ). view_values values docs (chain_view new c) ≡ set (view_values values docs (chain_view old c)) (256 * p + slot) v) own.1
     (write-sets_own values old new f slot v x w sound is inside small c docs own.0)
+
+pub write-sets_page : (values : FrameContent → List ℕ) (old new : PoolView) (f : ℕ) (slots : List ℕ) (x : FrameContent) → Writes old new f x → IsSound old
+    → ((s : ℕ) → s < 256 → get_or (values x) s 0 ≡ get_or slots s 0) → (c page docs : ℕ) → HasPage (chain_view old c) page f
+    → view_values values docs (chain_view new c) ≡ with_page page slots (view_values values docs (chain_view old c))
+write-sets_page values old new f slots x w sound is c page docs has =
+    let own = of_page old c page f has in
+    subst (λ (p : ℕ). view_values values docs (chain_view new c) ≡ with_page p slots (view_values values docs (chain_view old c))) own.1
+    (write-sets_own_page values old new f slots x w sound is c docs own.0)
 
 pub write-keeps_frames : (old new : PoolView) (f : ℕ) (x : FrameContent) → Writes old new f x → (c : ℕ) → KeepsFrames (chain_view old c) (chain_view new c)
 write-keeps_frames old new f x w c = record {

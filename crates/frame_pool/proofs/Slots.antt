@@ -1,14 +1,15 @@
--- A slot of a frame is set.
-use Rattle.std.proofs.Common.{◌≡◌, ℕ, ◌<◌, List, length, get_or, set, Option, sym, ap, ◌∙◌, subst, arith}
+-- A slot of a frame is set, and all its scores are lent.
+use Rattle.std.proofs.Common.{◌≡◌, ℕ, ◌<◌, List, length, get_or, set, Option, refl, sym, ap, ◌∙◌, subst, arith}
 use Rattle.std.proofs.lemmas.List.{map-set}
 use Rattle.frame_pool.specs.declared.lease.Lease.{Lease}
-use Rattle.frame_pool.specs.Frames.{Frame}
-use Rattle.frame_pool.specs.Pool.{PoolView, FrameContent}
+use Rattle.frame_pool.specs.Frames.{Frame, frame_at, rescored}
+use Rattle.frame_pool.specs.Pool.{PoolView, ChainEntry, FrameContent, content_of, with_frame_scores, with_scores}
 use Rattle.frame_pool.specs.ChainView.{IsTaken}
 use Rattle.frame_pool.specs.Links.{blank, frame_content, view_of}
 use Rattle.frame_pool.specs.Kept.{PoolKept}
-use Rattle.frame_pool.proofs.Views.{taken_range, content_seen, frame_count, content-kept, content-chains}
+use Rattle.frame_pool.proofs.Views.{taken_range, content_is, content_seen, frame_count, content-kept, content-chains}
 use Rattle.frame_pool.proofs.ChainViews.{Writes}
+use Rattle.frame_pool.proofs.Rows.{length-slots_of}
 
 pub writes : (frames frames' : List Frame) (leases : List (Option Lease)) (free sum : ℕ) (pool : PoolView) → PoolKept frames leases free sum → view_of frames leases ≡ pool
     → (i : ℕ) (new : Frame) → IsTaken pool i → frames' ≡ set frames i new → new.next ≡ (get_or frames i blank).next → new.page ≡ (get_or frames i blank).page
@@ -31,3 +32,26 @@ written-kept frames frames' leases free sum kept i new is next page scores place
       scores = scores ∙ (kept.sized i).scores;
       places = places ∙ (kept.sized i).places;
     }))
+
+-- ---- the frame has the scores that a list makes
+
+pub lent-kept : (frames : List Frame) (leases : List (Option Lease)) (free sum : ℕ) → PoolKept frames leases free sum → (i : ℕ) (slots : List ℕ)
+    → PoolKept (set frames i (rescored (frame_at frames i) slots)) leases free sum
+lent-kept frames leases free sum kept i slots =
+    content-kept frames leases free sum i (rescored (frame_at frames i) slots) kept refl refl (record { scores = length-slots_of slots; places = (kept.sized i).places })
+
+pub lent-view : (frames : List Frame) (leases : List (Option Lease)) (pool : PoolView) → view_of frames leases ≡ pool → (i : ℕ) (slots : List ℕ)
+    → view_of (set frames i (rescored (frame_at frames i) slots)) leases ≡ with_frame_scores pool i slots
+lent-view frames leases pool view i slots =
+    let new : Frame = rescored (frame_at frames i) slots in
+    let was : PoolView = view_of frames leases in
+    ap (λ (fs : List FrameContent). seen fs (view_of (set frames i new) leases).chains) (map-set frame_content frames i new)
+    ∙ ap (λ (cs : List (Option ChainEntry)). seen (set was.frames i (frame_content new)) cs) (content-chains frames leases i new refl)
+    ∙ ap (λ (x : FrameContent). seen (set was.frames i (with_scores x slots)) was.chains) (sym (content_is frames leases i))
+    ∙ ap (λ (p : PoolView). with_frame_scores p i slots) view
+  where
+    seen : List FrameContent → List (Option ChainEntry) → PoolView
+    seen frames chains = record { frames = frames; chains = chains }
+
+pub lent-writes : (pool : PoolView) (i : ℕ) (slots : List ℕ) → i < length pool.frames → Writes pool (with_frame_scores pool i slots) i (with_scores (content_of pool i) slots)
+lent-writes pool i slots exists = record { chains = refl; frames = refl; exists = exists; page = refl }

@@ -1,5 +1,5 @@
 -- What the owner of a chain sees of a pool.
-use Rattle.std.specs.Prelude.{◌≡◌, ◌≢◌, ◌↔◌, ℕ, ◌/◌, ◌%◌, ◌==◌, List, ◌∷◌, length, map, slice_index, Option, Some, None, option_map, find, is_some}
+use Rattle.std.specs.Prelude.{◌≡◌, ◌≢◌, ◌↔◌, ℕ, ◌/◌, ◌%◌, ◌==◌, if◌then◌else◌, List, ◌∷◌, length, map, slice_index, Option, Some, None, option_map, find, is_some}
 use Rattle.std.specs.List.{range_with_len}
 use Rattle.frame_pool.specs.Pool.{FrameContent, PoolView, content_of, chain_of, spare_of, IsInUse}
 
@@ -64,6 +64,11 @@ view_scores docs view = view_values (λ c. c.scores) docs view
 -- the heap place of each of so many documents; 0 where the chain has no frame with the document's page
 abbrev pub view_places : ℕ → ChainView → List ℕ
 view_places docs view = view_values (λ c. c.places) docs view
+
+-- the scores with those of one page in place of what they were
+abbrev pub with_page : ℕ → List ℕ → List ℕ → List ℕ
+with_page page slots scores =
+    map (λ d. if d / 256 == page then slice_index slots (d % 256) else slice_index scores d) (range_with_len 0 (length scores))
 
 -- ---- what calls leave
 

@@ -1,6 +1,7 @@
 -- Frames, and the three tables that keep them.
 use Rattle.std.specs.Prelude.{◌≡◌, ℕ, false, List, [], ◌∷◌, length, replicate, slice_index_or, slice_set}
 use Rattle.frame_pool.specs.declared.store.Head.{Head}
+use Rattle.frame_pool.specs.Pool.{slots_of}
 
 -- a frame: the scores and heap places of the 256 documents of a page, the page, and the link to the next frame
 pub record Frame : Type 0 where
@@ -28,9 +29,12 @@ blank = free_frame 0
 abbrev pub frame_at : List Frame → ℕ → Frame
 frame_at frames number = slice_index_or frames number blank
 
--- a frame with one score changed, with one heap place changed, and with another link
+-- a frame with one score changed, with other scores, with one heap place changed, and with another link
 abbrev pub scored : Frame → ℕ → ℕ → Frame
 scored frame slot score = record frame { scores = slice_set frame.scores slot score }
+
+abbrev pub rescored : Frame → List ℕ → Frame
+rescored frame slots = record frame { scores = slots_of slots }
 
 abbrev pub placed : Frame → ℕ → ℕ → Frame
 placed frame slot place = record frame { places = slice_set frame.places slot place }
@@ -40,21 +44,20 @@ linked frame next = record frame { next = next }
 
 -- the frame that a head and two rows stand for
 abbrev pub frame_of : Head → List ℕ → List ℕ → Frame
-frame_of head scores places = record { scores = scores; places = places; page = head.page; next = head.next }
+frame_of head scores places = record { scores = slots_of scores; places = places; page = head.page; next = head.next }
 
 -- the frames that three tables stand for
 abbrev pub frames_of : List Head → List (List ℕ) → List (List ℕ) → List Frame
 frames_of (head ∷ heads) (scores ∷ score_rows) (places ∷ place_rows) = frame_of head scores places ∷ frames_of heads score_rows place_rows
 frames_of heads score_rows place_rows = []
 
--- the rows of a frame: heap places that were never set are 0
-pub record IsRow (head : Head) (scores places : List ℕ) : Type 0 where
-  pub score_slots : length scores ≡ 256
+-- the heap places of a frame: those that were never set are 0
+pub record IsRow (head : Head) (places : List ℕ) : Type 0 where
   pub place_slots : length places ≡ 256
   pub unset : head.placed ≡ false → places ≡ replicate 256 0
 
 -- three tables with a row each for every frame
 abbrev pub AreRows : List Head → List (List ℕ) → List (List ℕ) → Type 0
 AreRows [] [] [] = Unit {0}
-AreRows (head ∷ heads) (scores ∷ score_rows) (places ∷ place_rows) = IsRow head scores places × AreRows heads score_rows place_rows
+AreRows (head ∷ heads) (scores ∷ score_rows) (places ∷ place_rows) = IsRow head places × AreRows heads score_rows place_rows
 AreRows heads score_rows place_rows = ⊥

@@ -4,3 +4,4 @@ pub mod Sound
 pub mod Links
 pub mod Kept
 pub mod Frames
+pub mod Lending

@@ -1,5 +1,5 @@
 -- What contracts see of a pool of frames.
-use Rattle.std.specs.Prelude.{◌≡◌, ℕ, ◌-◌, ◌<◌, ◌==◌, if◌then◌else◌, Bool, List, [], ◌∷◌, length, replicate, slice_get, slice_set, slice_index_or, sum_by, Contains, Option, Some, None, unwrap_or, IsSome, is_some, nat_lt}
+use Rattle.std.specs.Prelude.{◌≡◌, ℕ, ◌-◌, ◌<◌, ◌==◌, if◌then◌else◌, Bool, List, [], ◌∷◌, ◌++◌, length, replicate, take, slice_get, slice_set, slice_index_or, sum_by, Contains, Option, Some, None, unwrap_or, IsSome, is_some, nat_lt}
 use Rattle.std.specs.List.{list_all}
 use Rattle.frame_pool.specs.declared.refusal.PoolRefusal.{PoolRefusal}
 use Rattle.frame_pool.specs.declared.refusal.PoolRefusal.TheVariants.{Chains, Short}
@@ -95,6 +95,19 @@ with_first chain frame = record chain { frames = frame ∷ chain.frames }
 -- the frame with one score changed
 abbrev pub with_score : FrameContent → ℕ → ℕ → FrameContent
 with_score content slot score = record content { scores = slice_set content.scores slot score }
+
+-- the 256 slots of a page that a list makes: it is cut, or filled up with 0. Each row that a pool lends has 256 slots, and a list of
+-- 256 stays as it is: a contract knows what is left in a row only as a list.
+unfoldable pub slots_of : List ℕ → List ℕ
+slots_of list = take 256 (list ++ replicate 256 0)
+
+-- the frame with other scores
+abbrev pub with_scores : FrameContent → List ℕ → FrameContent
+with_scores content slots = record content { scores = slots_of slots }
+
+-- the pool with other scores in one of its frames
+abbrev pub with_frame_scores : PoolView → ℕ → List ℕ → PoolView
+with_frame_scores pool frame slots = record pool { frames = slice_set pool.frames frame (with_scores (content_of pool frame) slots) }
 
 -- the frame with one heap place changed
 abbrev pub with_place : FrameContent → ℕ → ℕ → FrameContent

@@ -1,8 +1,10 @@
-ghost use Rattle.std.specs.Prelude.{◌≡◌, ℕ, ◌+◌, ◌*◌, ◌<◌, ◌≤◌, [], length, slice_index, slice_get, slice_set, option_map, IfOk, OnErr};
+ghost use Rattle.std.specs.Prelude.{◌≡◌, ℕ, ◌+◌, ◌*◌, ◌<◌, ◌≤◌, List, [], length, slice_index, slice_get, slice_set, option_map, IfOk, OnErr};
 ghost use Rattle.std.specs.Result.{result_err};
-ghost use Rattle.frame_pool.specs.Pool.{content_of, chain_of, cleared, IsInUse, IsFree, IsUnused, Promises, spare_of, promise_refusal, with_first, with_score, with_place, number_after};
-ghost use Rattle.frame_pool.specs.ChainView.{HasPage, IsTaken, KeepsFrames, LacksPage, LeavesOthers, LeavesPool, chain_view, view_scores, view_places, with_first_held};
+ghost use Rattle.frame_pool.specs.Pool.{content_of, chain_of, cleared, IsInUse, IsFree, IsUnused, Promises, spare_of, promise_refusal, with_first, with_frame_scores, with_score, with_place, number_after};
+ghost use Rattle.frame_pool.specs.ChainView.{HasPage, IsTaken, KeepsFrames, LacksPage, LeavesOthers, LeavesPool, chain_view, view_scores, view_places, with_first_held, with_page};
 ghost use Rattle.frame_pool.specs.Sound.{IsSound};
+ghost use Rattle.std.specs.Borrow.{sem};
+ghost use Rattle.frame_pool.specs.Lending.{LendsScores};
 
 use crate::chain::Chain;
 use crate::frame::FrameId;
@@ -202,6 +204,36 @@ impl FramePool {
             ≡ slice_index (view_scores docs (chain_view self.now chain)) (256 * page + slot) }
     {
         self.frames.scores(frame.number)
+    }
+
+    /// Lends the scores of the 256 documents of the frame, by their slots, for changes.
+    pub fn scores_mut(&mut self, frame: FrameId) -> &mut [u32; 256]
+        requires { IsTaken self.old frame.number }
+        ensures* writes_back { sem 𝓛 (LendsScores self.entry frame.number result) }
+        ensures value { result.now ≡ (content_of self.old frame.number).scores }
+        ensures slots { length result.now ≡ 256 }
+        ensures documents { (chain page docs slot : ℕ) → HasPage (chain_view self.old chain) page frame.number
+            → slot < 256 → 256 * page + slot < docs
+            → slice_index result.now slot
+            ≡ slice_index (view_scores docs (chain_view self.old chain)) (256 * page + slot) }
+
+        // What the owner of the frame's chain and the others see once these slots are given back.
+        ensures scores { (slots : List ℕ) (chain page docs : ℕ)
+            → HasPage (chain_view self.old chain) page frame.number
+            → view_scores docs (chain_view (with_frame_scores self.old frame.number slots) chain)
+            ≡ with_page page slots (view_scores docs (chain_view self.old chain)) }
+        ensures places { (slots : List ℕ) (chain docs : ℕ)
+            → view_places docs (chain_view (with_frame_scores self.old frame.number slots) chain)
+            ≡ view_places docs (chain_view self.old chain) }
+        ensures keeps { (slots : List ℕ) (chain : ℕ)
+            → KeepsFrames (chain_view self.old chain)
+            (chain_view (with_frame_scores self.old frame.number slots) chain) }
+        ensures leaves { (slots : List ℕ) (chain page : ℕ)
+            → HasPage (chain_view self.old chain) page frame.number
+            → LeavesPool self.old (with_frame_scores self.old frame.number slots) chain }
+        ensures sound { (slots : List ℕ) → IsSound (with_frame_scores self.old frame.number slots) }
+    {
+        self.frames.scores_mut(frame.number)
     }
 
     /// Sets the score of the document in a slot of the frame.

@@ -1,6 +1,8 @@
 ghost use Rattle.std.specs.Prelude.{◌≡◌, ◌<◌, ◌≤◌, IfOk, false, length, map, replicate, slice_index, slice_set};
 ghost use Rattle.std.specs.List.{range_with_len};
 ghost use Rattle.frame_pool.specs.Frames.{cleared_frame, frame_at, free_frame, free_head, linked, placed, scored};
+ghost use Rattle.std.specs.Borrow.{sem};
+ghost use Rattle.frame_pool.specs.Lending.{LendsRow};
 
 use jass_base::NoMemory;
 use lane_kernels::fill_zero;
@@ -87,14 +89,26 @@ impl FrameStore {
         requires { frame < length self.now }
         ensures { result.now ≡ (frame_at self.now frame).scores }
     {
-        &self.scores[frame as usize]
+        let row = &self.scores[frame as usize];
+        a_row_is_whole(row);
+        row
+    }
+
+    pub(crate) fn scores_mut(&mut self, frame: u32) -> &mut [u32; SLOTS]
+        requires { frame < length self.old }
+        ensures* writes_back { sem 𝓛 (LendsRow self.entry frame result) }
+        ensures scores { result.now ≡ (frame_at self.old frame).scores }
+        ensures slots { length result.now ≡ 256 }
+    {
+        a_row_is_whole(&self.scores[frame as usize]);
+        &mut self.scores[frame as usize]
     }
 
     pub(crate) fn set_score(&mut self, frame: u32, slot: u8, score: u32)
         requires { frame < length self.old }
         ensures { self.new ≡ slice_set self.old frame (scored (frame_at self.old frame) slot score) }
     {
-        self.scores[frame as usize][slot as usize] = score;
+        self.scores_mut(frame)[slot as usize] = score;
     }
 
     pub(crate) fn place(&self, frame: u32, slot: u8) -> u32
@@ -118,7 +132,7 @@ impl FrameStore {
         ensures { self.new ≡ slice_set self.old frame (cleared_frame page next) }
     {
         let at = frame as usize;
-        fill_zero(&mut self.scores[at]);
+        clear_scores(&mut self.scores[at]);
         clear_places(&mut self.places[at], self.heads[at].placed);
         self.heads[at] = Head {
             page,
@@ -126,6 +140,17 @@ impl FrameStore {
             placed: false,
         };
     }
+}
+
+// A row has a slot for each document of a page. It does nothing: a caller learns it by the call.
+fn a_row_is_whole(row: &[u32; SLOTS])
+    ensures { length row.now ≡ 256 }
+{}
+
+fn clear_scores(scores: &mut [u32; SLOTS])
+    ensures { scores.new ≡ replicate 256 0 }
+{
+    fill_zero(scores);
 }
 
 // Sets all heap places of a frame to 0, which they are where none was set.

@@ -1,3 +1,4 @@
+mod CodecPlaces
 mod Contents
 mod Halves
 mod Leading

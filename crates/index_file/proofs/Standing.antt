@@ -84,7 +84,7 @@ there bytes places text (a ∷ rows) segments v s t inside =
       its_segments = ap (λ (x : TermData). x.segments) is;
     }
 
-part_size : {X : Type 0} (xs : List X) (from to : ℕ) → from ≤ to → to ≤ length xs → length (slice_range xs from to) ≡ to - from
+pub part_size : {X : Type 0} (xs : List X) (from to : ℕ) → from ≤ to → to ≤ length xs → length (slice_range xs from to) ≡ to - from
 part_size xs from to order within = length-take-le (to - from) (drop from xs) (let l = length-drop from xs in omega (arith, l, order, within))
 
 pub segments_count : (bytes text : List ℕ) (rows : List TermRow) (segments : List Segment) (v : FileView) (t : ℕ) → TermThere bytes text rows segments v t → (row_of rows (t + 1)).segment - (row_of rows t).segment ≡ length (segments_at v.index.terms t)

@@ -20,6 +20,10 @@ texts_of terms = map (λ (t : TermData). t.term) terms
 abbrev pub segment_at : List TermData → ℕ → ℕ → SegmentData
 segment_at terms number place = slice_index_or (segments_at terms number) place (record { impact = 0; docs = [] })
 
+-- the codec of a segment of the term with a number
+abbrev pub codec_at : List (List Codec) → ℕ → ℕ → Codec
+codec_at codecs number place = slice_index_or (slice_index_or codecs number []) place Varbyte
+
 -- the codecs of all segments, where they stand term by term
 abbrev pub all_codecs : List (List Codec) → List Codec
 all_codecs codecs = flat_map (λ (here : List Codec). here) codecs

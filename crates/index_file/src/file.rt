@@ -1,8 +1,10 @@
-ghost use Rattle.std.specs.Prelude.{ℕ, ◌≡◌, ◌+◌, ◌≤◌, ◌<◌, ◌↔◌, List, [], ◌∷◌, Some, length, map, take, drop, slice_get, slice_range, All, IfOk};
+ghost use Rattle.std.specs.Prelude.{ℕ, ◌≡◌, ◌+◌, ◌≤◌, ◌<◌, ◌↔◌, List, [], ◌∷◌, Some, length, map, take, drop, slice_get, slice_range, All, IfOk, IfSome, IsSome};
 ghost use Rattle.std.specs.Str.{IsUtf8};
 ghost use Rattle.std.specs.Ordering.{nat_cmp};
 ghost use Rattle.std.specs.Cmp.Lexicographic.{slice_cmp};
 ghost use Rattle.jass_base.specs.Gaps.{AreDocs};
+ghost use Rattle.lane_kernels.specs.Bitmap.{set_bits};
+ghost use Rattle.plain_codecs.specs.Bitmap.{bitmap_size};
 ghost use Rattle.segment_codecs.specs.Codecs.{payload_of};
 ghost use Rattle.index_model.specs.Index.{TermData};
 ghost use Rattle.index_model.specs.Querying.{segments_at};
@@ -11,7 +13,7 @@ ghost use Rattle.index_layout.specs.Refusals.{Answers};
 ghost use Rattle.index_layout.specs.Totals.{totals_of};
 ghost use Rattle.index_layout.specs.View.{FileView, IsFileView, file_bytes};
 ghost use Rattle.index_file.specs.Giving.{Gives};
-ghost use Rattle.index_file.specs.Places.{codec_use, segment_at, term_at, uses_of};
+ghost use Rattle.index_file.specs.Places.{codec_at, codec_use, segment_at, term_at, uses_of};
 ghost use Rattle.index_file.specs.Samples.{first_eight};
 ghost use Rattle.index_file.specs.Tables.{HasHead, row_head};
 
@@ -27,6 +29,7 @@ use crate::term_row::TermRow;
 use index_layout::OpenFault;
 use jass_base::laws::gap_varints_are_read;
 use jass_base::{Names, Row, Steps, Totals, known_gap};
+use segment_codecs::laws::bitmaps_are_their_documents;
 use segment_codecs::{Codec, SegmentCursor};
 use std::alloc::Global;
 use std::cmp::Ordering;
@@ -196,6 +199,7 @@ impl IndexFile {
         requires s { s < length (segments_at self.now.index.terms t) }
         ensures impact { result.head.impact ≡ (segment_at self.now.index.terms t s).impact }
         ensures count { result.head.count ≡ length (segment_at self.now.index.terms t s).docs }
+        ensures codec { result.head.codec ≡ codec_at self.now.codecs t s }
         ensures within { result.place + result.head.size ≤ length (file_bytes self.now) }
         ensures docs { AreDocs (length self.now.index.names) (segment_at self.now.index.terms t s).docs }
         ensures payload { slice_range (file_bytes self.now) result.place (result.place + result.head.size)
@@ -258,6 +262,26 @@ impl IndexFile {
         let given = cursor.segment.next_block(payload, out);
         steps.add(given as u64);
         given
+    }
+
+    /// The bitmap of a segment, and `None` where its documents are spelled in another codec. Bit i is set where
+    /// document i is in the segment; bit 0 is the lowest bit of the first byte.
+    pub fn bits(&self, t: u32, s: u32) -> Option<&[u8]>
+        requires t { t < length self.now.index.terms }
+        requires s { s < length (segments_at self.now.index.terms t) }
+        ensures codec { IsSome result ↔ codec_at self.now.codecs t s ≡ Codec.Bitmap }
+        ensures docs { IfSome result (λ bits. set_bits 0 bits.now ≡ (segment_at self.now.index.terms t s).docs) }
+        ensures size { IfSome result (λ bits. length bits.now ≡ bitmap_size (length self.now.index.names)) }
+    {
+        bitmaps_are_their_documents();
+        let found = self.segment(t, s);
+        match found.head.codec {
+            Codec::Bitmap => {
+                let from = found.place as usize;
+                Some(&self.bytes.as_slice()[from..from + found.head.size as usize])
+            }
+            _ => None,
+        }
     }
 
     /// The document of a segment that has one.

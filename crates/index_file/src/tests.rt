@@ -102,6 +102,19 @@ fn a_file_is_seen(rt: HostRuntime) {
 }
 
 #[test]
+fn bits_are_given_of_a_bitmap_alone(rt: HostRuntime) {
+    let mut bytes = changed(73, 2);
+    bytes[100] = 1;
+    let Ok(file) = opened(rt.alloc(), &bytes) else {
+        panic!(&rt; "refused");
+    };
+    assert!(&rt; file.codecs().bitmap == 1);
+    assert!(&rt; file.terms() == 1 && file.segments(0) == 3);
+    assert!(&rt; file.bits(0, 0) == Some([1u8].as_slice()));
+    assert!(&rt; file.bits(0, 1) == None && file.bits(0, 2) == None);
+}
+
+#[test]
 fn changed_files_are_refused(rt: HostRuntime) {
     let alloc = rt.alloc();
     let table: [(usize, u8, u32, u64); 5] = [

@@ -1,3 +1,5 @@
+pub mod AddedLanes
+pub mod AddedSlots
 pub mod Bits
 pub mod PackRows
 pub mod Packed

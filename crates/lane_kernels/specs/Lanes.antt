@@ -1,5 +1,5 @@
 -- What private functions say of the four lanes at once. No public contract cites it.
-use Rattle.std.specs.Prelude.{ℕ, ◌+◌, ◌*◌, ◌/◌, ◌%◌, List, [], ◌∷◌}
+use Rattle.std.specs.Prelude.{ℕ, ◌+◌, ◌*◌, ◌/◌, ◌%◌, ◌==◌, Bool, cond, not, List, [], ◌∷◌, slice_index}
 use Rattle.lane_kernels.specs.Block.{number_of_bits, lane_word, lane_number, packed_bit}
 
 -- word j of each lane
@@ -15,3 +15,11 @@ lane_numbers bytes width first =
 abbrev pub pending_lanes : List ℕ → ℕ → ℕ → List ℕ
 pending_lanes values width x =
     let lane = λ (l : ℕ). number_of_bits (λ v. packed_bit values width l (32 * (x / 32) + v)) (x % 32) in lane 0 ∷ lane 1 ∷ lane 2 ∷ lane 3 ∷ []
+
+-- whether lane k isn't 0
+abbrev pub is_marked : List ℕ → ℕ → Bool
+is_marked marks k = not (slice_index marks k == 0)
+
+-- what is added in lane k: w where it is marked
+abbrev pub weight_at : ℕ → List ℕ → ℕ → ℕ
+weight_at w marks k = cond (is_marked marks k) w 0

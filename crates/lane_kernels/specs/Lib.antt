@@ -1,3 +1,4 @@
+pub mod Adding
 pub mod Bitmap
 pub mod Block
 pub mod Gaps

@@ -1,7 +1,9 @@
 // The kernels of the posting decoders, each over a fixed number of lanes: blocks of packed
-// numbers, running sums of gaps, bitmaps, and searches for a zero. None takes memory or fails.
+// numbers, running sums of gaps, bitmaps and what is added where their bits are set, and searches
+// for a zero. None takes memory or fails.
 #![tactic(auto)]
 
+mod adding;
 mod bitmap;
 mod bytes;
 mod gaps;
@@ -14,6 +16,7 @@ mod unpack;
 mod width;
 mod zeros;
 
+pub use adding::{Added, add_where};
 pub use bitmap::bits_to_docs;
 pub use bytes::{small16, widen16};
 pub use gaps::{fits128, running128};

@@ -3,6 +3,8 @@
 
 ghost use Rattle.std.specs.Prelude.{ℕ, ◌≡◌, ◌≤◌, ◌<◌, ◌*◌, ◌^◌, List, length, All, Ok, Some};
 ghost use Rattle.jass_base.specs.Gaps.{AreDocs};
+ghost use Rattle.lane_kernels.specs.Bitmap.{set_bits};
+ghost use Rattle.plain_codecs.specs.Bitmap.{bitmap_size};
 ghost use Rattle.segment_codecs.specs.Codecs.{chosen_codec, codec_number, codec_of, payload_of, payload_size, read_payload};
 ghost use Rattle.segment_codecs.specs.declared.codec.Codec.{Codec};
 
@@ -22,6 +24,14 @@ pub fn payloads_are_read()
     codec_packed::laws::payloads_are_read();
     bitmap::laws::payloads_are_read();
     codec_simple8::laws::payloads_are_read();
+}
+
+/// The set bits of a bitmap are its documents, and it has a bit for each document of the index.
+pub fn bitmaps_are_their_documents()
+    ensures docs { (d : ℕ) (docs : List ℕ) → AreDocs d docs → set_bits 0 (payload_of Codec.Bitmap d docs) ≡ docs }
+    ensures size { (d : ℕ) (docs : List ℕ) → length (payload_of Codec.Bitmap d docs) ≡ bitmap_size d }
+{
+    bitmap::laws::bits_are_documents();
 }
 
 /// A codec has its number and no other one.

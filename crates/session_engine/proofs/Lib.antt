@@ -3,6 +3,8 @@ pub mod Totals
 pub mod Standing
 pub mod Gathering
 pub mod EntryLists
+pub mod PartlyScored
+pub mod BitRows
 pub mod Blocks
 pub mod Reports
 pub mod First

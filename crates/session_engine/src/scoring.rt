@@ -3,6 +3,7 @@ ghost use Rattle.accumulator_pages.specs.Pages.{HasRoomFor};
 ghost use Rattle.frame_pool.specs.ChainView.{LeavesPool};
 ghost use Rattle.index_file.specs.Places.{segment_at};
 ghost use Rattle.index_model.specs.Querying.{segments_at};
+ghost use Rattle.lane_kernels.specs.Bitmap.{set_bits};
 ghost use Rattle.ranking_model.specs.Scores.{added};
 ghost use Rattle.session_scores.specs.Scores.{AreScoresOf, ScoresStand, docs_of, own_chain, own_view, scores_of};
 
@@ -54,12 +55,42 @@ pub fn score_segment<L: Ledger>(
     if segment.count == 1 {
         let doc = index.first_doc(segment.term, segment.segment, steps);
         scores.add(pool, doc, segment.weight);
+    } else if let Some(bits) = index.bits(segment.term, segment.segment) {
+        score_bits(scores, pool, bits, segment.weight);
+        steps.add(u64::from(segment.count));
     } else {
         score_blocks(scores, index, pool, segment, block, steps);
     }
 }
 
-/// The same, block by block.
+/// Adds a weight to the scores of the documents whose bits are set, by rows of 128. Bit i is that of document i.
+fn score_bits(scores: &mut Scores, pool: &mut FramePool, bits: &[u8], weight: u32)
+    requires few { length bits.now ≤ 2 ^ 23 }
+    requires weight { 1 ≤ weight }
+    requires stand { ScoresStand scores.old pool.old }
+    requires inside { All (λ doc. doc < docs_of scores.old) (set_bits 0 bits.now) }
+    requires fits { All (λ score. score < 2 ^ 32) (added weight (set_bits 0 bits.now) (scores_of scores.old pool.old)) }
+    requires room { HasRoomFor (own_view scores.old pool.old) (docs_of scores.old) (length (set_bits 0 bits.now)) }
+    ensures scores { scores_of scores.new pool.new
+        ≡ added weight (set_bits 0 bits.now) (scores_of scores.old pool.old) }
+    ensures frames { length (own_view scores.new pool.new).frames
+        ≤ length (own_view scores.old pool.old).frames + length (set_bits 0 bits.now) }
+    ensures stand { ScoresStand scores.new pool.new }
+    ensures same { AreScoresOf scores.old scores.new }
+    ensures leaves { LeavesPool pool.old pool.new (own_chain scores.old) }
+{
+    calls_on_one_chain();
+    one_class_more_is_added();
+    scores_stay_small();
+    let mut row = 0;
+    'rows: while 16 * row < bits.len() {
+        let end = (16 * row + 16).min(bits.len());
+        scores.add_bits(pool, row as u32, &bits[16 * row..end], weight);
+        row += 1;
+    }
+}
+
+/// Adds the weight of a whole segment, block by block.
 fn score_blocks<L: Ledger>(
     scores: &mut Scores,
     index: &IndexFile,

@@ -25,9 +25,18 @@ const FILE: [u8; 103] = [
     0x01, 0x00, 0x00, 0x00, 0x00, 0x01, 0x02,
 ];
 
-fn opened(alloc: Global) -> Result<IndexFile, OpenFault> {
+/// Documents d0 to d2; `a`: (0,9), (2,9), in a bitmap.
+const DENSE: [u8; 79] = [
+    0x4a, 0x41, 0x53, 0x53, 0x49, 0x44, 0x58, 0x32, 0x4f, 0x00, 0x00, 0x00, 0x00, 0x00, 0x00, 0x00,
+    0x03, 0x00, 0x00, 0x00, 0x01, 0x00, 0x00, 0x00, 0x02, 0x00, 0x00, 0x00, 0x00, 0x00, 0x00, 0x00,
+    0x09, 0x00, 0x00, 0x00, 0x00, 0x00, 0x00, 0x00, 0x02, 0x00, 0x00, 0x00, 0x64, 0x30, 0x02, 0x00,
+    0x00, 0x00, 0x64, 0x31, 0x02, 0x00, 0x00, 0x00, 0x64, 0x32, 0x00, 0x00, 0x01, 0x00, 0x61, 0x01,
+    0x00, 0x00, 0x00, 0x09, 0x00, 0x02, 0x00, 0x00, 0x00, 0x02, 0x01, 0x00, 0x00, 0x00, 0x05,
+];
+
+fn opened(alloc: Global, bytes: &[u8]) -> Result<IndexFile, OpenFault> {
     let mut row = Row::new(alloc);
-    match row.extend(&FILE) {
+    match row.extend(bytes) {
         Ok(()) => IndexFile::from_bytes(alloc, row),
         Err(_) => Err(OpenFault::NoMemory),
     }
@@ -82,7 +91,7 @@ fn report(segments: u32, cutoff: u32, next: u32) -> Report {
 #[test]
 fn grants_of_one_posting_and_of_all(rt: HostRuntime) {
     a_standing_session_has_its_chain();
-    let Ok(file) = opened(rt.alloc()) else {
+    let Ok(file) = opened(rt.alloc(), &FILE) else {
         panic!(&rt; "refused")
     };
     assert!(&rt; file.terms() == 1);
@@ -107,9 +116,33 @@ fn grants_of_one_posting_and_of_all(rt: HostRuntime) {
 }
 
 #[test]
+fn a_bitmap_is_scored(rt: HostRuntime) {
+    a_standing_session_has_its_chain();
+    let Ok(file) = opened(rt.alloc(), &DENSE) else {
+        panic!(&rt; "refused")
+    };
+    assert!(&rt; file.terms() == 1 && file.codecs().bitmap == 1);
+    let Ok(mut pool) = FramePool::new(rt.alloc(), 1, 1) else {
+        panic!(&rt; "no memory")
+    };
+    let Ok(query) = asked(rt.alloc()) else {
+        panic!(&rt; "no memory")
+    };
+    let Ok(mut session) = Session::open(rt.alloc(), &file, &mut pool, query, 3) else {
+        panic!(&rt; "refused")
+    };
+    let [_, second, last] = granted::<Brand>(&mut session, &file, &mut pool, Blank::new(1));
+    assert!(&rt; second.postings == 2 && last.postings == 2);
+    assert!(&rt;
+        session.answer() == [Hit { doc: 0, score: 9 }, Hit { doc: 2, score: 9 }].as_slice()
+    );
+    session.close(&mut pool);
+}
+
+#[test]
 fn a_pool_without_spare_frames_is_full(rt: HostRuntime) {
     a_standing_session_has_its_chain();
-    let Ok(file) = opened(rt.alloc()) else {
+    let Ok(file) = opened(rt.alloc(), &FILE) else {
         panic!(&rt; "refused")
     };
     assert!(&rt; file.terms() == 1);

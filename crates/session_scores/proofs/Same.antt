@@ -1,13 +1,12 @@
 -- The two words for adding a weight, and what is noted by an addition.
-use Rattle.std.proofs.Common.{◌≡◌, ℕ, ◌+◌, ◌-◌, ◌^◌, ◌<◌, List, [], ◌∷◌, ◌++◌, length, get_or, set, refl, sym, ap, ◌∙◌, subst, arith, length-set, get_or-set_same}
-use Rattle.std.specs.Prelude.{All}
+use Rattle.std.proofs.Common.{◌≡◌, ℕ, ◌+◌, ◌-◌, ◌^◌, ◌<◌, ◌≤◌, List, [], ◌∷◌, ◌++◌, length, get_or, set, refl, sym, ap, ◌∙◌, subst, arith, length-set, get_or-set_same}
+use Rattle.std.specs.Prelude.{All, IfSome, Option, filter}
 use Rattle.std.proofs.lemmas.List.Elements.{All-cons, All-get_or, All-nil}
 use Rattle.jass_base.specs.declared.answer.Hit.{Hit}
-use Rattle.frame_pool.specs.ChainView.{ChainView}
 use Rattle.accumulator_pages.specs.Adding as pages
-use Rattle.accumulator_pages.specs.Pages.{HasRoomFor}
-use Rattle.ranking_model.specs.Scores.{added}
-use Rattle.topk_heap.specs.Noting.{AreNoted, hit_to_pass}
+use Rattle.accumulator_pages.specs.Reached.{passes}
+use Rattle.ranking_model.specs.Scores.{added, runner_up}
+use Rattle.topk_heap.specs.Noting.{AreNoted, just_behind}
 use Rattle.topk_heap.specs.Standing.{TopView}
 
 pub same_added : (w : ℕ) (docs s : List ℕ) → pages.added w docs s ≡ added w docs s
@@ -17,12 +16,39 @@ same_added w (doc ∷ docs) s = same_added w docs (set s doc (get_or s doc 0 + w
 pub added_now : (w : ℕ) (docs s s' new : List ℕ) → s' ≡ s → new ≡ pages.added w docs s' → new ≡ added w docs s
 added_now w docs s s' new same is = is ∙ same_added w docs s' ∙ ap (added w docs) same
 
-pub noted_after : (top : TopView) (w : ℕ) (docs s s' p p' n n' : List ℕ) (last : Hit) → AreNoted top (pages.added w docs s) p (n ++ pages.raised w (hit_to_pass top) docs s)
-    → last ≡ hit_to_pass top → s' ≡ pages.added w docs s → p' ≡ p → n' ≡ n ++ pages.raised w last docs s → AreNoted top s' p' n'
-noted_after top w docs s s' p p' n n' last are told is same notes =
-    subst (λ (x : List ℕ). AreNoted top x p' n') (sym is)
-    (subst (λ (x : List ℕ). AreNoted top (pages.added w docs s) x n') (sym same)
-    (subst (λ (x : List ℕ). AreNoted top (pages.added w docs s) p x) (sym (notes ∙ ap (λ (h : Hit). n ++ pages.raised w h docs s) told)) are))
+pub noted_after : (top : TopView) (last : Hit) (w : ℕ) (docs s s' p p' n n' : List ℕ) → AreNoted top last (pages.added w docs s) p (n ++ pages.raised w last docs s)
+    → s' ≡ pages.added w docs s → p' ≡ p → n' ≡ n ++ pages.raised w last docs s → AreNoted top last s' p' n'
+noted_after top last w docs s s' p p' n n' are is same notes =
+    subst (λ (x : List ℕ). AreNoted top last x p' n') (sym is)
+    (subst (λ (x : List ℕ). AreNoted top last (pages.added w docs s) x n') (sym same)
+    (subst (λ (x : List ℕ). AreNoted top last (pages.added w docs s) p x) (sym notes) are))
+
+-- ---- what a cut leaves
+
+pub cut_now : (top top' : TopView) (scores places noted kept : List ℕ) (last : Hit) (o : Option Hit)
+    → AreNoted top (just_behind (runner_up scores top.k)) scores places (filter (passes (just_behind (runner_up scores top.k)) scores) noted)
+    → top' ≡ top → o ≡ runner_up scores top.k → last ≡ just_behind o → kept ≡ filter (passes last scores) noted → AreNoted top' last scores places kept
+cut_now top top' scores places noted kept last o are same next behind keeps =
+    let told : last ≡ just_behind (runner_up scores top.k) = behind ∙ ap just_behind next in
+    subst (λ (t : TopView). AreNoted t last scores places kept) (sym same)
+    (subst (λ (n : List ℕ). AreNoted top last scores places n) (sym keeps)
+    (subst (λ (h : Hit). AreNoted top h scores places (filter (passes h scores) noted)) (sym told) are))
+
+pub few_now : (k : ℕ) (scores noted kept : List ℕ) (last : Hit) (o : Option Hit) → length (filter (passes (just_behind (runner_up scores k)) scores) noted) ≤ k + 1
+    → o ≡ runner_up scores k → last ≡ just_behind o → kept ≡ filter (passes last scores) noted → length kept ≤ k + 1
+few_now k scores noted kept last o few next behind keeps =
+    let told : last ≡ just_behind (runner_up scores k) = behind ∙ ap just_behind next in
+    subst (λ (n : List ℕ). length n ≤ k + 1) (sym keeps)
+    (subst (λ (h : Hit). length (filter (passes h scores) noted) ≤ k + 1) (sym told) few)
+
+pub next_inside : (scores : List ℕ) (k docs n : ℕ) (o : Option Hit) → IfSome (runner_up scores k) (λ (hit : Hit). hit.doc < length scores) → o ≡ runner_up scores k → length scores ≡ n → docs ≡ n
+    → IfSome o (λ (hit : Hit). hit.doc < docs)
+next_inside scores k docs n o inside next size same =
+    subst (λ (r : Option Hit). IfSome r (λ (hit : Hit). hit.doc < docs)) (sym next)
+    (subst (λ (m : ℕ). IfSome (runner_up scores k) (λ (hit : Hit). hit.doc < m)) (size ∙ sym same) inside)
+
+pub noted_inside : (top : TopView) (last : Hit) (scores places noted : List ℕ) (n : ℕ) → AreNoted top last scores places noted → length scores ≡ n → (i d : ℕ) → i < length noted → get_or noted i d < n
+noted_inside top last scores places noted n are size i d here = let inside = (are.only i d here).inside in omega (arith, inside, size)
 
 pub inside_now : (docs s : List ℕ) (n : ℕ) → length s ≡ n → All (λ doc. doc < n) docs → All (λ doc. doc < length s) docs
 inside_now docs s n size inside = subst (λ (m : ℕ). All (λ doc. doc < m) docs) (sym size) inside
@@ -30,9 +56,6 @@ inside_now docs s n size inside = subst (λ (m : ℕ). All (λ doc. doc < m) doc
 -- of one document
 pub one_inside : (doc n : ℕ) → doc < n → All (λ d. d < n) (doc ∷ [])
 one_inside doc n inside = All-cons (λ d. d < n) doc [] inside (All-nil (λ d. d < n))
-
-pub room_now : (docs docs' : ℕ) (view view' : ChainView) → docs' ≡ docs → length view'.frames ≡ length view.frames → view'.promise ≡ view.promise → HasRoomFor view docs 1 → HasRoomFor view' docs' 1
-room_now docs docs' view view' same frames promise room = omega (arith, same, frames, promise, room)
 
 pub one_fits : (w doc : ℕ) (s s' : List ℕ) (n : ℕ) → s' ≡ s → length s ≡ n → doc < n → All (λ score. score < 2 ^ 32) (added w (doc ∷ []) s) → get_or s' doc 0 + w < 4294967296
 one_fits w doc s s' n same size inside fits =

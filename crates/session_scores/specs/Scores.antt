@@ -1,9 +1,9 @@
 -- The scores of a session and its first k + 1 documents, in a pool.
-use Rattle.std.specs.Prelude.{◌≡◌, ℕ, ◌≤◌, List, true}
+use Rattle.std.specs.Prelude.{◌≡◌, ℕ, ◌+◌, ◌≤◌, List, true}
 use Rattle.frame_pool.specs.Pool.{PoolView}
 use Rattle.frame_pool.specs.ChainView.{ChainView}
 use Rattle.accumulator_pages.specs.Pages as accumulator
-use Rattle.topk_heap.specs.Noting.{AreNoted, hit_to_pass}
+use Rattle.topk_heap.specs.Noting.{AreNoted}
 use Rattle.topk_heap.specs.Standing.{TopStands}
 use Rattle.session_scores.specs.declared.scores.Scores.{Scores}
 
@@ -41,12 +41,15 @@ pub record AreScoresOf (old new : Scores) : Type 0 where
 abbrev pub IsSettled : Scores → PoolView → Type 0
 IsSettled s pool = TopStands s.top (scores_of s pool) (accumulator.pages_places s.pages pool)
 
--- the heap stood at earlier scores, and whoever has passed its last hit since is noted; there is room for a block of notes, and
--- for all notes in the heap
+-- whoever passes the hit `last` is in the heap or noted, and k + 1 documents do; notes are cut at a limit, and there is
+-- room for the k + 1 that a cut keeps and as many more with a block, and for all notes in the heap
 pub record ScoresStand (s : Scores) (pool : PoolView) : Type 0 where
   pub pages : accumulator.Stands s.pages pool
-  pub noted : AreNoted s.top (scores_of s pool) (accumulator.pages_places s.pages pool) s.reached.docs
-  pub last : s.last ≡ hit_to_pass s.top
+  pub noted : AreNoted s.top s.last (scores_of s pool) (accumulator.pages_places s.pages pool) s.reached.docs
   pub settled : s.settled ≡ true → IsSettled s pool
-  pub block : 128 ≤ s.reached.room
+  pub docs : s.docs ≡ docs_of s
+  pub step : s.step ≡ s.top.k + 1 + 128
+  pub few : s.top.k ≤ 100000
+  pub limit : s.limit ≤ s.reached.room
+  pub block : s.top.k + 1 + s.step ≤ s.reached.room
   pub room : s.reached.room ≤ s.top.room

@@ -1,8 +1,9 @@
-ghost use Rattle.std.specs.Prelude.{◌≡◌, ℕ, ◌+◌, ◌<◌, ◌≤◌, ◌^◌, [], ◌∷◌, All, IfOk, IfErr, length, replicate};
+ghost use Rattle.std.specs.Prelude.{◌≡◌, ℕ, ◌+◌, ◌*◌, ◌<◌, ◌≤◌, ◌^◌, [], ◌∷◌, All, IfOk, IfErr, length, replicate};
 ghost use Rattle.frame_pool.specs.Pool.{PoolView, IsInUse};
 ghost use Rattle.frame_pool.specs.ChainView.{LeavesPool, chain_view};
 ghost use Rattle.accumulator_pages.specs.Adding.{touched_count, touched_pages};
 ghost use Rattle.accumulator_pages.specs.Pages.{HasRoomFor};
+ghost use Rattle.lane_kernels.specs.Bitmap.{set_bits};
 ghost use Rattle.ranking_model.specs.Scores.{added, first_ranked, least_untouched, runner_up};
 ghost use Rattle.topk_heap.specs.Standing.{TopStands};
 ghost use Rattle.session_scores.specs.Scores.{AreScoresOf, IsSettled, ScoresStand, docs_of, k_of, own_chain, own_view, scores_of};
@@ -13,11 +14,12 @@ use frame_pool::laws::calls_on_one_chain;
 use frame_pool::{Chain, FramePool};
 use jass_base::{Hit, NoMemory};
 use std::alloc::Global;
-use topk_heap::Top;
-use topk_heap::laws::those_raised_are_noted;
+use topk_heap::laws::{the_runner_up_is_a_document, those_raised_are_noted};
+use topk_heap::{Top, just_behind};
 
 /// The scores of a session's documents and the first k + 1 of them. What is added changes the scores at once and the
-/// first documents at the next `settle`: until then those that passed the last of the first are noted.
+/// first documents at the next `settle`: until then those that passed the last of the first are noted. Where there are
+/// many notes, those that k + 1 documents rank before are forgotten.
 ///
 /// Each call that takes a pool wants the pool of `new`, with this chain as the last call on these scores left it.
 /// Other chains may have changed.
@@ -26,6 +28,9 @@ pub struct Scores {
     top: Top,
     reached: Reached,
     last: Hit,
+    docs: u32,
+    step: usize,
+    limit: usize,
     settled: bool,
 }
 
@@ -58,17 +63,21 @@ impl Scores {
             return Err((chain, NoMemory));
         };
         let pages = Pages::new(alloc, docs, pool, chain)?;
+        let step = k as usize + 1 + BLOCK_DOCS;
         Ok(Scores {
             pages,
             top,
             reached,
             last: Hit { doc: 0, score: 0 },
+            docs,
+            step,
+            limit: step,
             settled: true,
         })
     }
 
-    /// Adds a weight to the score of each of at most 128 documents in turn. Where there is no room for so many notes,
-    /// the first documents are settled before.
+    /// Adds a weight to the score of each of at most 128 documents in turn. Where there are many notes, they are cut
+    /// before.
     pub fn add_all(&mut self, pool: &mut FramePool, docs: &[u32], w: u32)
         requires stand { ScoresStand self.old pool.old }
         requires block { length docs.now ≤ 128 }
@@ -88,6 +97,34 @@ impl Scores {
         self.make_room(pool, docs.len());
         let last = self.last;
         self.pages.add_all(pool, docs, w, last, &mut self.reached);
+        self.settled = false;
+    }
+
+    /// Adds a weight to the scores of the documents whose bits are set: `add_all` of a block of them. Bit i of the
+    /// bytes, at most 16, is that of document 128 * row + i; bit 0 is the lowest bit of the first byte.
+    pub fn add_bits(&mut self, pool: &mut FramePool, row: u32, bits: &[u8], w: u32)
+        requires stand { ScoresStand self.old pool.old }
+        requires row { row ≤ 2 ^ 19 }
+        requires bits { length bits.now ≤ 16 }
+        requires inside { All (λ doc. doc < docs_of self.old) (set_bits (128 * row) bits.now) }
+        requires weight { 1 ≤ w }
+        requires fits { All (λ score. score < 2 ^ 32)
+            (added w (set_bits (128 * row) bits.now) (scores_of self.old pool.old)) }
+        requires frames { HasRoomFor (own_view self.old pool.old) (docs_of self.old)
+            (length (set_bits (128 * row) bits.now)) }
+        ensures scores { scores_of self.new pool.new
+            ≡ added w (set_bits (128 * row) bits.now) (scores_of self.old pool.old) }
+        ensures frames { length (own_view self.new pool.new).frames
+            ≤ length (own_view self.old pool.old).frames + length (set_bits (128 * row) bits.now) }
+        ensures stand { ScoresStand self.new pool.new }
+        ensures same { AreScoresOf self.old self.new }
+        ensures leaves { LeavesPool pool.old pool.new (own_chain self.old) }
+    {
+        calls_on_one_chain();
+        those_raised_are_noted();
+        self.make_room(pool, BLOCK_DOCS);
+        self.pages
+            .add_bits(pool, row, bits, w, self.last, &mut self.reached);
         self.settled = false;
     }
 
@@ -130,21 +167,38 @@ impl Scores {
         }
     }
 
-    // Settles where there is no room for so many notes.
-    fn make_room(&mut self, pool: &mut FramePool, docs: usize)
-        requires stand { ScoresStand self.old pool.old }
+    // Cuts the notes where so many more are too many.
+    fn make_room(&mut self, pool: &FramePool, docs: usize)
+        requires stand { ScoresStand self.old pool.now }
         requires block { docs ≤ 128 }
         ensures room { length self.new.reached.docs + docs ≤ self.new.reached.room }
-        ensures scores { scores_of self.new pool.new ≡ scores_of self.old pool.old }
-        ensures frames { length (own_view self.new pool.new).frames ≡ length (own_view self.old pool.old).frames }
-        ensures stand { ScoresStand self.new pool.new }
-        ensures same { AreScoresOf self.old self.new }
-        ensures leaves { LeavesPool pool.old pool.new (own_chain self.old) }
+        ensures stand { ScoresStand self.new pool.now }
+        ensures pages { self.new.pages ≡ self.old.pages }
+        ensures k { k_of self.new ≡ k_of self.old }
     {
-        calls_on_one_chain();
-        if self.reached.spare() < docs {
-            self.settle_noted(pool);
+        if self.reached.as_slice().len() + docs > self.limit {
+            self.cut(pool);
         }
+    }
+
+    // Forgets those noted that k + 1 documents rank before. Whoever comes to be at the last of these or ahead of it
+    // later is noted then.
+    fn cut(&mut self, pool: &FramePool)
+        requires stand { ScoresStand self.old pool.now }
+        ensures limit { length self.new.reached.docs + 128 ≤ self.new.limit }
+        ensures stand { ScoresStand self.new pool.now }
+        ensures pages { self.new.pages ≡ self.old.pages }
+        ensures k { k_of self.new ≡ k_of self.old }
+    {
+        those_raised_are_noted();
+        the_runner_up_is_a_document();
+        let next = self
+            .top
+            .runner_up_now(&self.pages, pool, self.reached.as_slice());
+        let last = just_behind(next, self.docs);
+        self.reached.keep_passing(&self.pages, pool, last);
+        self.last = last;
+        self.limit = self.reached.as_slice().len() + self.step;
     }
 
     // Takes in those noted.
@@ -159,10 +213,12 @@ impl Scores {
         ensures leaves { LeavesPool pool.old pool.new (own_chain self.old) }
     {
         those_raised_are_noted();
+        the_runner_up_is_a_document();
         self.top
             .settle(&mut self.pages, pool, self.reached.as_slice());
         self.reached.clear();
-        self.last = self.top.to_pass();
+        self.last = just_behind(self.top.runner_up(), self.docs);
+        self.limit = self.step;
         self.settled = true;
     }
 
@@ -216,14 +272,17 @@ impl Scores {
             top: _,
             reached: _,
             last: _,
+            docs: _,
+            step: _,
+            limit: _,
             settled: _,
         } = self;
         pages.into_chain()
     }
 }
 
-// Room for the first k + 1 documents, and for as many notes and a block between two settlings: each is paid for by the
-// notes before it, and the last of the first documents, which few pass, is soon known.
+// Room for the first k + 1 documents, and for as many notes that a cut keeps, as many more and a block: each cut is
+// paid for by the notes before it, and the last of the first documents, which few pass, is soon known.
 fn rooms(alloc: Global, k: u32) -> Result<(Top, Reached), NoMemory>
     requires some { 1 ≤ k }
     requires few { k ≤ 100000 }
@@ -231,10 +290,10 @@ fn rooms(alloc: Global, k: u32) -> Result<(Top, Reached), NoMemory>
     ensures empty { IfOk result (λ rooms. rooms.0.hits ≡ []) }
     ensures stands { IfOk result (λ rooms. (docs : ℕ) → TopStands rooms.0 (replicate docs 0) (replicate docs 0)) }
     ensures none { IfOk result (λ rooms. rooms.1.docs ≡ []) }
-    ensures block { IfOk result (λ rooms. 128 ≤ rooms.1.room) }
+    ensures notes { IfOk result (λ rooms. rooms.1.room ≡ 2 * (k + 1) + 128) }
     ensures room { IfOk result (λ rooms. rooms.1.room ≤ rooms.0.room) }
 {
-    let room = k as usize + 1 + BLOCK_DOCS;
+    let room = 2 * (k as usize + 1) + BLOCK_DOCS;
     let top = Top::new(alloc, k, room)?;
     let reached = Reached::new(alloc, room)?;
     Ok((top, reached))

@@ -1,118 +1,224 @@
 -- Documents that are noted while scores rise over a heap.
-use Rattle.std.proofs.Common.{◌≡◌, ◌≢◌, ℕ, ◌+◌, ◌<◌, ◌≤◌, List, [], ◌++◌, length, get_or, refl, sym, ap, subst, ◌∙◌, arith, inl, inr, ◌⊎◌}
-use Rattle.std.specs.Prelude.{All, Contains, Option, Some, None, reverse, slice_get, unwrap_or}
+use Rattle.std.proofs.Common.{◌≡◌, ◌≢◌, ℕ, suc, ◌+◌, ◌<◌, ◌≤◌, ◌==◌, Bool, true, false, cond, List, [], ◌∷◌, ◌++◌, length, map, get_or, refl, sym, ap, subst, ◌∙◌, arith, inl, inr, ◌⊎◌, eq-eqb}
+use Rattle.std.specs.Prelude.{All, Contains, filter, nat_le}
 use Rattle.std.specs.List.{AllByRecursion}
-use Rattle.std.proofs.lemmas.Bool.{cases_lt}
-use Rattle.std.proofs.lemmas.List.{length-reverse}
-use Rattle.std.proofs.lemmas.Option.{slice_get_cases}
-use Rattle.std.proofs.lemmas.List.Elements.{All-nil, Contains-append_left, Contains-append_right, recursion_from_All}
+use Rattle.std.proofs.lemmas.Bool.{cases_eq, cases_lt}
+use Rattle.std.proofs.lemmas.Bool.Decides.{nat_tests}
+use Rattle.std.proofs.lemmas.List.{length-map, length-take}
+use Rattle.std.proofs.lemmas.List.Elements.{All-nil, Contains-append_right, recursion_from_All}
+use Rattle.std.proofs.lemmas.List.Kept.{AllPairs-filter}
 use Rattle.jass_base.specs.declared.answer.Hit.{Hit}
 use Rattle.accumulator_pages.specs.Adding.{added, raised, score_to_pass}
+use Rattle.accumulator_pages.specs.Reached.{passes}
 use Rattle.accumulator_pages.proofs.Adding.{added-above, length-added}
 use Rattle.accumulator_pages.proofs.Raising.{raised-all, raised-only, raised-once}
-use Rattle.ranking_model.proofs.Weighing.{pairs_by_recursion}
-use Rattle.topk_heap.specs.Noting.{AreNoted, HasPassed, hit_to_pass}
-use Rattle.topk_heap.specs.Standing.{IsTouched, TopStands, TopView}
-use Rattle.topk_heap.proofs.Known.{hit_of_full, hit_of_others}
-use Rattle.topk_heap.proofs.Lists.{all_append, all_imp, all_in, all_index, contains_from_in, pairs_append, pairs_index}
-use Rattle.topk_heap.proofs.Ranking.{last_is}
+use Rattle.ranking_model.specs.Order.{sorted}
+use Rattle.ranking_model.specs.Scores.{rank_cmp, hits_from, first_ranked, runner_up}
+use Rattle.ranking_model.proofs.Weighing.{Pairs, pairs_by_recursion}
+use Rattle.topk_heap.specs.Noting.{AreNoted, LetsPass, Passes, just_behind}
+use Rattle.topk_heap.specs.Standing.{HaveFirst, IsTouched, TopStands, TopView, with_heap}
+use Rattle.topk_heap.proofs.Ahead.{more_ahead}
+use Rattle.topk_heap.proofs.Known.{lets_pass, pass_first, passed, some_to_pass}
+use Rattle.topk_heap.proofs.Lists.{In, all_append, all_at, all_imp, all_in, all_index, contains_from_in, in_append, in_from_contains, in_left, in_map, in_right, pairs_append, pairs_index}
+use Rattle.topk_heap.proofs.Raised.{heap_has, placed_after}
 
-pub none_noted : (top : TopView) (scores places : List ℕ) → TopStands top scores places → AreNoted top scores places []
+-- ---- lists
+
+kept_is : {A : Type 0} (p : A → Bool) (x : A) (xs : List A) → In x (filter p xs) → In x xs × (p x ≡ true)
+kept_is p x [] there = absurd there
+kept_is {A} p x (y ∷ ys) there = step (p y) refl (λ k. kept_is p x ys k) there where
+  step : (b : Bool) → p y ≡ b → (In x (filter p ys) → In x ys × (p x ≡ true)) → In x (cond b (y ∷ filter p ys) (filter p ys)) → In x (y ∷ ys) × (p x ≡ true)
+  step true e later (inl same) = (inl same, ap p same ∙ e)
+  step true e later (inr k) = (inr (later k).0, (later k).1)
+  step false e later k = (inr (later k).0, (later k).1)
+
+kept_there : {A : Type 0} (p : A → Bool) (x : A) (xs : List A) → p x ≡ true → In x xs → In x (filter p xs)
+kept_there p x [] yes_it there = absurd there
+kept_there {A} p x (y ∷ ys) yes_it there = step (p y) refl (λ k. kept_there p x ys yes_it k) there where
+  step : (b : Bool) → p y ≡ b → (In x ys → In x (filter p ys)) → In x (y ∷ ys) → In x (cond b (y ∷ filter p ys) (filter p ys))
+  step true e later (inl same) = inl same
+  step true e later (inr k) = inr (later k)
+  step false e later (inl same) = cc
+  step false e later (inr k) = later k
+
+abbrev without : ℕ → List ℕ → List ℕ
+without x [] = []
+without x (y ∷ ys) = cond (x == y) ys (y ∷ without x ys)
+
+without_is_less : (x : ℕ) (ys : List ℕ) → In x ys → length ys ≡ suc (length (without x ys))
+without_is_less x [] there = absurd there
+without_is_less x (y ∷ ys) there = by (cases_eq x y) there (λ k. without_is_less x ys k) where
+  by : (x ≡ y) ⊎ (x ≡ y → ⊥) → In x (y ∷ ys) → (In x ys → length ys ≡ suc (length (without x ys))) → length (y ∷ ys) ≡ suc (length (without x (y ∷ ys)))
+  by (inl e) k later = let t : (x == y) ≡ true = eq-eqb x y e in rw t refl
+  by (inr apart) (inl e) later = absurd (apart e)
+  by (inr apart) (inr k) later = let f : (x == y) ≡ false = grind (arith, nat_tests) in rw f (ap suc (later k))
+
+still_there : (x z : ℕ) (ys : List ℕ) → x ≢ z → In z ys → In z (without x ys)
+still_there x z [] apart there = absurd there
+still_there x z (y ∷ ys) apart there = by (cases_eq x y) there (λ k. still_there x z ys apart k) where
+  by : (x ≡ y) ⊎ (x ≡ y → ⊥) → In z (y ∷ ys) → (In z ys → In z (without x ys)) → In z (without x (y ∷ ys))
+  by (inl e) (inl same) later = absurd (apart (e ∙ sym same))
+  by (inl e) (inr k) later = let t : (x == y) ≡ true = eq-eqb x y e in rw t k
+  by (inr other) (inl same) later = let f : (x == y) ≡ false = grind (arith, nat_tests) in rw f (inl same)
+  by (inr other) (inr k) later = let f : (x == y) ≡ false = grind (arith, nat_tests) in rw f (inr (later k))
+
+no_more : (xs ys : List ℕ) → Pairs (λ a b. a ≢ b) xs → ((x : ℕ) → In x xs → In x ys) → length xs ≤ length ys
+no_more [] ys apart among = omega arith
+no_more (x ∷ xs) ys apart among =
+    let rest = no_more xs (without x ys) apart.1 (λ z there. still_there x z ys (all_at (λ y. x ≢ y) xs z apart.0 there) (among z (inr there))) in
+    let less = without_is_less x ys (among x (inl refl)) in
+    omega (arith, rest, less)
+
+-- ---- nobody is noted, and those noted are cut
+
+pub none_noted : (top : TopView) (scores places : List ℕ) → TopStands top scores places → AreNoted top (just_behind (runner_up scores top.k)) scores places []
 none_noted top scores places stands = record {
-  before = scores;
-  each = refl;
-  rose = λ doc. omega arith;
-  stood = stands;
-  all = λ doc passed. (let a = passed.below in let b = passed.passed in absurd (omega arith));
-  only = All-nil (HasPassed (hit_to_pass top) scores scores);
+  placed = placed_after top scores scores places refl (λ d. omega arith) stands;
+  all = λ doc passes. contains_from_in (with_heap top []) doc
+      (heap_has top scores places [] (record { doc = doc; score = get_or scores doc 0 }) stands (pass_first scores top.k doc passes));
+  only = All-nil (Passes (just_behind (runner_up scores top.k)) scores);
   once = λ i j d before inside. absurd (omega (arith, inside));
+  some = some_to_pass scores top.k;
+  enough = lets_pass scores top.k;
 }
 
-pub noted_touched : (top : TopView) (scores places noted : List ℕ) → AreNoted top scores places noted → All (IsTouched scores) noted
-noted_touched top scores places noted are i d here =
-    let passed = are.only i d here in
-    (passed.inside, (let a = passed.below in let b = passed.passed in omega arith))
+pub noted_first : (top : TopView) (last : Hit) (scores places noted : List ℕ) → AreNoted top last scores places noted → HaveFirst scores (top.k + 1) (with_heap top noted)
+noted_first top last scores places noted are = passed scores (with_heap top noted) (top.k + 1) last are.all are.enough
 
-module _ (top : TopView) (w : ℕ) (docs s places noted : List ℕ) (are : AreNoted top s places noted) (inside : All (λ doc. doc < length s) docs) where
+pub noted_touched : (top : TopView) (last : Hit) (scores places noted : List ℕ) → AreNoted top last scores places noted → All (IsTouched scores) noted
+noted_touched top last scores places noted are i d here =
+    let passes = are.only i d here in
+    (passes.inside, (let a = are.some (get_or noted i d) in let b = passes.passed in omega arith))
+
+module _ (top : TopView) (last : Hit) (scores places noted : List ℕ) (are : AreNoted top last scores places noted) where
+  abbrev next : Hit
+  next = just_behind (runner_up scores top.k)
+
+  test_says : (doc : ℕ) → passes next scores doc ≡ true → score_to_pass next doc ≤ get_or scores doc 0
+  test_says doc said = says (score_to_pass next doc) (get_or scores doc 0) said where
+    says : (a b : ℕ) → nat_le a b ≡ true → a ≤ b
+    says a b t = grind (arith, nat_tests)
+
+  test_of : (doc : ℕ) → score_to_pass next doc ≤ get_or scores doc 0 → passes next scores doc ≡ true
+  test_of doc high = says (score_to_pass next doc) (get_or scores doc 0) high where
+    says : (a b : ℕ) → a ≤ b → nat_le a b ≡ true
+    says a b low = grind (arith, nat_tests)
+
+  kept_passes : (doc : ℕ) → In doc (filter (passes next scores) noted) → Passes next scores doc
+  kept_passes doc there =
+      let is = kept_is (passes next scores) doc noted there in
+      record {
+        inside = (all_at (Passes last scores) noted doc (recursion_from_All (Passes last scores) noted are.only) is.0).inside;
+        passed = test_says doc is.1;
+      }
+
+  still_known : (doc : ℕ) → Passes next scores doc → In doc (map (λ (h : Hit). h.doc) top.hits) ⊎ In doc noted → In doc (with_heap top (filter (passes next scores) noted))
+  still_known doc is (inl k) = in_left doc (map (λ (h : Hit). h.doc) top.hits) (filter (passes next scores) noted) k
+  still_known doc is (inr k) =
+      in_right doc (map (λ (h : Hit). h.doc) top.hits) (filter (passes next scores) noted) (kept_there (passes next scores) doc noted (test_of doc is.passed) k)
+
+  pub cut_noted : AreNoted top next scores places (filter (passes next scores) noted)
+  cut_noted = record {
+    placed = are.placed;
+    all = λ doc is. contains_from_in (with_heap top (filter (passes next scores) noted)) doc
+        (still_known doc is (in_append doc (map (λ (h : Hit). h.doc) top.hits) noted
+        (in_from_contains (with_heap top noted) doc
+        (all_at (λ (h : Hit). Contains (with_heap top noted) h.doc) (first_ranked scores (top.k + 1)) (record { doc = doc; score = get_or scores doc 0 })
+        (noted_first top last scores places noted are) (pass_first scores top.k doc is)))));
+    only = λ i d here. all_index (Passes next scores) (filter (passes next scores) noted) (all_in (Passes next scores) (filter (passes next scores) noted) kept_passes) i d here;
+    once = AllPairs-filter (λ a b. a ≢ b) (passes next scores) noted are.once;
+    some = some_to_pass scores top.k;
+    enough = lets_pass scores top.k;
+  }
+
+  pub few_noted : length (filter (passes next scores) noted) ≤ top.k + 1
+  few_noted =
+      let most = no_more (filter (passes next scores) noted) (map (λ (h : Hit). h.doc) (first_ranked scores (top.k + 1)))
+      (pairs_by_recursion (λ a b. a ≢ b) (filter (passes next scores) noted) (AllPairs-filter (λ a b. a ≢ b) (passes next scores) noted are.once))
+      (λ doc there. in_map (λ (h : Hit). h.doc) (record { doc = doc; score = get_or scores doc 0 }) (first_ranked scores (top.k + 1)) (pass_first scores top.k doc (kept_passes doc there))) in
+      let same = length-map (first_ranked scores (top.k + 1)) (λ (h : Hit). h.doc) in
+      let size = length-take (top.k + 1) (sorted rank_cmp (hits_from 0 scores)) in
+      omega (arith, most, same, size)
+
+-- ---- scores rise
+
+module _ (top : TopView) (last : Hit) (w : ℕ) (docs s places noted : List ℕ) (are : AreNoted top last s places noted) (inside : All (λ doc. doc < length s) docs) where
   size : length (added w docs s) ≡ length s
   size = length-added w docs s
 
-  later : (doc : ℕ) → HasPassed (hit_to_pass top) are.before s doc → HasPassed (hit_to_pass top) are.before (added w docs s) doc
-  later doc passed = record {
-    inside = (let a = passed.inside in let b = size in omega arith);
-    below = passed.below;
-    passed = (let a = passed.passed in let b = added-above w docs s doc in omega arith);
+  later : (doc : ℕ) → Passes last s doc → Passes last (added w docs s) doc
+  later doc is = record {
+    inside = (let a = is.inside in let b = size in omega arith);
+    passed = (let a = is.passed in let b = added-above w docs s doc in omega arith);
   }
 
-  now : (doc : ℕ) → Contains (raised w (hit_to_pass top) docs s) doc → HasPassed (hit_to_pass top) are.before (added w docs s) doc
+  now : (doc : ℕ) → Contains (raised w last docs s) doc → Passes last (added w docs s) doc
   now doc has =
-      let is = raised-only w doc (hit_to_pass top) docs s inside has in
+      let is = raised-only w doc last docs s inside has in
       record {
         inside = (let a = is.0 in let b = size in omega arith);
-        below = (let a = is.1 in let b = are.rose doc in omega arith);
         passed = is.2;
       }
 
-  only_all : AllByRecursion (HasPassed (hit_to_pass top) are.before (added w docs s)) (noted ++ raised w (hit_to_pass top) docs s)
-  only_all = all_append (HasPassed (hit_to_pass top) are.before (added w docs s)) noted (raised w (hit_to_pass top) docs s)
-      (all_imp (HasPassed (hit_to_pass top) are.before s) (HasPassed (hit_to_pass top) are.before (added w docs s)) later noted (recursion_from_All (HasPassed (hit_to_pass top) are.before s) noted are.only))
-      (all_in (HasPassed (hit_to_pass top) are.before (added w docs s)) (raised w (hit_to_pass top) docs s) (λ doc there. now doc (contains_from_in (raised w (hit_to_pass top) docs s) doc there)))
+  only_all : AllByRecursion (Passes last (added w docs s)) (noted ++ raised w last docs s)
+  only_all = all_append (Passes last (added w docs s)) noted (raised w last docs s)
+      (all_imp (Passes last s) (Passes last (added w docs s)) later noted (recursion_from_All (Passes last s) noted are.only))
+      (all_in (Passes last (added w docs s)) (raised w last docs s) (λ doc there. now doc (contains_from_in (raised w last docs s) doc there)))
 
-  across : AllByRecursion (λ a. AllByRecursion (λ b. a ≢ b) (raised w (hit_to_pass top) docs s)) noted
-  across = all_imp (HasPassed (hit_to_pass top) are.before s) (λ a. AllByRecursion (λ b. a ≢ b) (raised w (hit_to_pass top) docs s))
-      (λ a passed. all_in (λ b. a ≢ b) (raised w (hit_to_pass top) docs s)
-      (λ b there same. let is = raised-only w b (hit_to_pass top) docs s inside (contains_from_in (raised w (hit_to_pass top) docs s) b there) in
-      let low : get_or s a 0 < score_to_pass (hit_to_pass top) a = subst (λ d. get_or s d 0 < score_to_pass (hit_to_pass top) d) (sym same) is.1 in
-      let high = passed.passed in absurd (omega arith)))
-      noted (recursion_from_All (HasPassed (hit_to_pass top) are.before s) noted are.only)
+  across : AllByRecursion (λ a. AllByRecursion (λ b. a ≢ b) (raised w last docs s)) noted
+  across = all_imp (Passes last s) (λ a. AllByRecursion (λ b. a ≢ b) (raised w last docs s))
+      (λ a is. all_in (λ b. a ≢ b) (raised w last docs s)
+      (λ b there same. let r = raised-only w b last docs s inside (contains_from_in (raised w last docs s) b there) in
+      let low : get_or s a 0 < score_to_pass last a = subst (λ d. get_or s d 0 < score_to_pass last d) (sym same) r.1 in
+      let high = is.passed in absurd (omega arith)))
+      noted (recursion_from_All (Passes last s) noted are.only)
 
-  all_noted : (doc : ℕ) → HasPassed (hit_to_pass top) are.before (added w docs s) doc → (get_or s doc 0 < score_to_pass (hit_to_pass top) doc) ⊎ (score_to_pass (hit_to_pass top) doc ≤ get_or s doc 0) → Contains (noted ++ raised w (hit_to_pass top) docs s) doc
-  all_noted doc passed (inl low) =
-      Contains-append_right noted (raised w (hit_to_pass top) docs s) doc (raised-all w doc (hit_to_pass top) docs s (let a = passed.inside in let b = size in omega arith) low passed.passed)
-  all_noted doc passed (inr high) =
-      Contains-append_left noted (raised w (hit_to_pass top) docs s) doc
-      (are.all doc (record { inside = (let a = passed.inside in let b = size in omega arith); below = passed.below; passed = high }))
+  with_more : (doc : ℕ) → Contains (with_heap top noted) doc → Contains (with_heap top (noted ++ raised w last docs s)) doc
+  with_more doc has = contains_from_in (with_heap top (noted ++ raised w last docs s)) doc (by (in_append doc (map (λ (h : Hit). h.doc) top.hits) noted (in_from_contains (with_heap top noted) doc has))) where
+    by : In doc (map (λ (h : Hit). h.doc) top.hits) ⊎ In doc noted → In doc (with_heap top (noted ++ raised w last docs s))
+    by (inl k) = in_left doc (map (λ (h : Hit). h.doc) top.hits) (noted ++ raised w last docs s) k
+    by (inr k) = in_right doc (map (λ (h : Hit). h.doc) top.hits) (noted ++ raised w last docs s) (in_left doc noted (raised w last docs s) k)
 
-  pub more_noted : AreNoted top (added w docs s) places (noted ++ raised w (hit_to_pass top) docs s)
+  all_noted : (doc : ℕ) → Passes last (added w docs s) doc → (get_or s doc 0 < score_to_pass last doc) ⊎ (score_to_pass last doc ≤ get_or s doc 0) → Contains (with_heap top (noted ++ raised w last docs s)) doc
+  all_noted doc is (inl low) =
+      Contains-append_right (map (λ (h : Hit). h.doc) top.hits) (noted ++ raised w last docs s) doc
+      (Contains-append_right noted (raised w last docs s) doc (raised-all w doc last docs s (let a = is.inside in let b = size in omega arith) low is.passed))
+  all_noted doc is (inr high) = with_more doc (are.all doc (record { inside = (let a = is.inside in let b = size in omega arith); passed = high }))
+
+  still_lets : LetsPass last s (top.k + 1) → LetsPass last (added w docs s) (top.k + 1)
+  still_lets (inl none) = inl none
+  still_lets (inr many) = inr (let more = more_ahead last 0 s (added w docs s) (sym size) (added-above w docs s) in omega (arith, more, many))
+
+  pub more_noted : AreNoted top last (added w docs s) places (noted ++ raised w last docs s)
   more_noted = record {
-    before = are.before;
-    each = are.each ∙ sym size;
-    rose = λ doc. (let a = are.rose doc in let b = added-above w docs s doc in omega arith);
-    stood = are.stood;
-    all = λ doc passed. all_noted doc passed (cases_lt (get_or s doc 0) (score_to_pass (hit_to_pass top) doc));
-    only = λ i d here. all_index (HasPassed (hit_to_pass top) are.before (added w docs s)) (noted ++ raised w (hit_to_pass top) docs s) only_all i d here;
-    once = pairs_index (λ a b. a ≢ b) (noted ++ raised w (hit_to_pass top) docs s)
-        (pairs_append (λ a b. a ≢ b) noted (raised w (hit_to_pass top) docs s)
-        (pairs_by_recursion (λ a b. a ≢ b) noted are.once) (pairs_by_recursion (λ a b. a ≢ b) (raised w (hit_to_pass top) docs s) (raised-once w (hit_to_pass top) docs s inside)) across);
+    placed = record {
+      touched = all_imp (λ (h : Hit). IsTouched s h.doc) (λ (h : Hit). IsTouched (added w docs s) h.doc)
+          (λ h is. ((let a = is.0 in let b = size in omega arith), (let a = is.1 in let b = added-above w docs s h.doc in omega arith))) top.hits are.placed.touched;
+      placed = are.placed.placed;
+    };
+    all = λ doc is. all_noted doc is (cases_lt (get_or s doc 0) (score_to_pass last doc));
+    only = λ i d here. all_index (Passes last (added w docs s)) (noted ++ raised w last docs s) only_all i d here;
+    once = pairs_index (λ a b. a ≢ b) (noted ++ raised w last docs s)
+        (pairs_append (λ a b. a ≢ b) noted (raised w last docs s)
+        (pairs_by_recursion (λ a b. a ≢ b) noted are.once) (pairs_by_recursion (λ a b. a ≢ b) (raised w last docs s) (raised-once w last docs s inside)) across);
+    some = are.some;
+    enough = still_lets are.enough;
   }
 
 -- the same of what calls leave
-pub noted_now : (top : TopView) (w : ℕ) (docs s new places places' noted noted' : List ℕ) (hit : Hit) → AreNoted top s places noted → All (λ doc. doc < length s) docs
-    → hit ≡ hit_to_pass top → new ≡ added w docs s → places' ≡ places → noted' ≡ noted ++ raised w hit docs s → AreNoted top new places' noted'
-noted_now top w docs s new places places' noted noted' hit are inside told is same notes =
-    subst (λ (n : List ℕ). AreNoted top n places' noted') (sym is)
-    (subst (λ (p : List ℕ). AreNoted top (added w docs s) p noted') (sym same)
-    (subst (λ (m : List ℕ). AreNoted top (added w docs s) places m) (sym (notes ∙ ap (λ (h : Hit). noted ++ raised w h docs s) told))
-    (more_noted top w docs s places noted are inside)))
+pub noted_now : (top : TopView) (last : Hit) (w : ℕ) (docs s new places places' noted noted' : List ℕ) → AreNoted top last s places noted → All (λ doc. doc < length s) docs
+    → new ≡ added w docs s → places' ≡ places → noted' ≡ noted ++ raised w last docs s → AreNoted top last new places' noted'
+noted_now top last w docs s new places places' noted noted' are inside is same notes =
+    subst (λ (n : List ℕ). AreNoted top last n places' noted') (sym is)
+    (subst (λ (p : List ℕ). AreNoted top last (added w docs s) p noted') (sym same)
+    (subst (λ (m : List ℕ). AreNoted top last (added w docs s) places m) (sym notes)
+    (more_noted top last w docs s places noted are inside)))
 
 -- the same where the heap stood
-pub batch_noted : (top : TopView) (w n : ℕ) (docs s new places places' noted noted' seen : List ℕ) (hit : Hit) → TopStands top s places → length s ≡ n → All (λ doc. doc < n) docs
-    → hit ≡ hit_to_pass top → new ≡ added w docs s → places' ≡ places → noted ≡ [] → noted' ≡ noted ++ raised w hit docs s → seen ≡ noted' → AreNoted top new places' seen
-batch_noted top w n docs s new places places' noted noted' seen hit stands size inside told is same cleared notes last =
-    subst (λ (m : List ℕ). AreNoted top new places' m) (sym last)
-    (noted_now top w docs s new places places' noted noted' hit (subst (λ (m : List ℕ). AreNoted top s places m) (sym cleared) (none_noted top s places stands))
-    (subst (λ (m : ℕ). All (λ doc. doc < m) docs) (sym size) inside) told is same notes)
-
--- ---- the hit that a row tells
-
-pub to_pass_is : (row front : List Hit) (k : ℕ) (o : Option Hit) → length row ≤ k + 1 → front ≡ row → o ≡ slice_get front k
-    → unwrap_or o (record { doc = 0; score = 0 }) ≡ hit_to_pass (record { k = k; hits = reverse row; room = 0 })
-to_pass_is row front k None few same is = sym (hit_of_others (record { k = k; hits = reverse row; room = 0 }) (let e = length-reverse row in let p = past (slice_get_cases row k) in omega arith)) where
-  past : (slice_get row k ≡ slice_get row k) × (((x : Hit) × (k < length row) × (slice_get row k ≡ Some x) × (get_or row k x ≡ x)) ⊎ ((length row ≤ k) × (slice_get row k ≡ None))) → length row ≤ k
-  past (one, inl there) = absurd (none there.0 (is ∙ ap (λ (xs : List Hit). slice_get xs k) same ∙ there.2)) where
-    none : (x : Hit) → None ≡ Some x → ⊥
-    none x e = cc
-  past (one, inr there) = there.0
-to_pass_is row front k (Some hit) few same is =
-    let told = last_is row front k (Some hit) few same is in
-    told.1 ∙ sym (hit_of_full (record { k = k; hits = reverse row; room = 0 }) (let e = told.0 in omega arith))
+pub batch_noted : (top : TopView) (last : Hit) (w n : ℕ) (docs s new places places' noted noted' seen : List ℕ) → TopStands top s places → length s ≡ n → All (λ doc. doc < n) docs
+    → last ≡ just_behind (runner_up s top.k) → new ≡ added w docs s → places' ≡ places → noted ≡ [] → noted' ≡ noted ++ raised w last docs s → seen ≡ noted' → AreNoted top last new places' seen
+batch_noted top last w n docs s new places places' noted noted' seen stands size inside told is same cleared notes seen_is =
+    subst (λ (m : List ℕ). AreNoted top last new places' m) (sym seen_is)
+    (noted_now top last w docs s new places places' noted noted'
+    (subst (λ (m : List ℕ). AreNoted top last s places m) (sym cleared) (subst (λ (h : Hit). AreNoted top h s places []) (sym told) (none_noted top s places stands)))
+    (subst (λ (m : ℕ). All (λ doc. doc < m) docs) (sym size) inside) is same notes)

@@ -49,7 +49,7 @@ pub order_apart : (xs : List Hit) → AreInOrder xs → Pairs Apart xs
 order_apart [] order = tt
 order_apart (x ∷ xs) order = (all_imp (λ (y : Hit). (is_gt (rank_cmp y x) ≡ true) × (y.doc ≢ x.doc)) (λ y. Apart x y) (λ y h e. h.1 (sym e)) xs order.0, order_apart xs order.1)
 
-order_index : (xs : List Hit) → AreInOrder xs → (i j : ℕ) (d : Hit) → i < j → j < length xs → is_gt (rank_cmp (get_or xs j d) (get_or xs i d)) ≡ true
+pub order_index : (xs : List Hit) → AreInOrder xs → (i j : ℕ) (d : Hit) → i < j → j < length xs → is_gt (rank_cmp (get_or xs j d) (get_or xs i d)) ≡ true
 order_index [] order i j d up inside = absurd (omega arith)
 order_index (x ∷ xs) order i zero d up inside = absurd (omega arith)
 order_index (x ∷ xs) order zero (suc j) d up inside = (all_index (λ (y : Hit). (is_gt (rank_cmp y x) ≡ true) × (y.doc ≢ x.doc)) xs order.0 j d (omega arith)).0

@@ -1,16 +1,23 @@
--- What a selection leaves in front of its place is the first of the hits.
-use Rattle.std.proofs.Common.{◌≡◌, ℕ, List, ◌∷◌, ◌++◌, length, take, false, arith}
-use Rattle.std.specs.Prelude.{IsPermutation}
+-- What a selection leaves in front of its place is the first of the hits, and at its place the next.
+use Rattle.std.proofs.Common.{◌≡◌, ℕ, zero, suc, ◌-◌, ◌/◌, ◌%◌, ◌<◌, ◌≤◌, List, [], ◌∷◌, ◌++◌, length, map, take, get_or, true, false, true≢false, refl, sym, ap, subst, ◌∙◌, inl, inr, ◌⊎◌, arith}
+use Rattle.std.specs.Prelude.{IsPermutation, None, Some, slice_get}
 use Rattle.std.specs.List.{AllByRecursion}
 use Rattle.std.specs.List.Sorted.{IsSplitAround}
-use Rattle.std.specs.Ordering.{is_gt, is_lt}
+use Rattle.std.specs.Ordering.{is_gt, is_lt, nat_cmp}
+use Rattle.std.proofs.lemmas.Bool.{cases_lt}
 use Rattle.std.proofs.lemmas.Bool.Decides.{nat_tests}
+use Rattle.std.proofs.lemmas.Grind.{get_or_default_zero}
+use Rattle.std.proofs.lemmas.List.{length-map, length-take, map-append}
+use Rattle.std.proofs.lemmas.Option.{slice_get_past}
+use Rattle.std.proofs.lemmas.List.Sorted.{All-permutation, IsPermutation-append, IsPermutation-cons, IsPermutation-map, IsPermutation-trans, length_permutation}
 use Rattle.jass_base.specs.declared.answer.Hit.{Hit}
 use Rattle.ranking_model.specs.Order.{sorted}
 use Rattle.ranking_model.specs.Scores.{rank_cmp}
 use Rattle.ranking_model.proofs.Candidates.{first_part}
 use Rattle.ranking_model.proofs.Orders.{rank_total, rank_same}
-use Rattle.topk_heap.proofs.Lists.{all_by_index, all_imp}
+use Rattle.ranking_model.proofs.Sorting.{Ascends, all_sorted, ascends_append, sort_is_sorted, sorted_ascending, sorted_ascends, sorted_is_permutation}
+use Rattle.topk_heap.specs.Hits.{HitsView, hit_of_key, keys_view}
+use Rattle.topk_heap.proofs.Lists.{all_at, all_by_index, all_imp, all_map, in_from_contains, in_right}
 
 not_after : (x y : Hit) → is_lt (rank_cmp y x) ≡ false → is_gt (rank_cmp x y) ≡ false
 not_after x y above = grind (arith, nat_tests)
@@ -28,3 +35,88 @@ selected_are_first all front x back m moved split size = first_part rank_cmp ran
   above = all_by_index (λ y. AllByRecursion (λ z. is_gt (rank_cmp y z) ≡ false) (x ∷ back)) x front (λ i inside. ahead _ (not_after _ x (split.0 i x inside))) where
     ahead : (y : Hit) → is_gt (rank_cmp y x) ≡ false → AllByRecursion (λ z. is_gt (rank_cmp y z) ≡ false) (x ∷ back)
     ahead y before = (before, all_imp (λ z. is_gt (rank_cmp x z) ≡ false) (λ z. is_gt (rank_cmp y z) ≡ false) (λ z after. through y x z before after) back behind)
+
+-- ---- one of them, by the numbers that they are sorted by
+
+seam : (xs : List Hit) (x : Hit) (ys : List Hit) (n : ℕ) → length xs ≡ n → slice_get (xs ++ x ∷ ys) n ≡ Some x
+seam [] x ys zero size = refl
+seam [] x ys (suc n) size = absurd (omega arith)
+seam (z ∷ xs) x ys zero size = absurd (omega arith)
+seam (z ∷ xs) x ys (suc n) size = seam xs x ys n (omega arith)
+
+selected_at : (all front : List Hit) (x : Hit) (back : List Hit) (n : ℕ) → IsPermutation all (front ++ x ∷ back) → AllByRecursion (λ y. is_gt (rank_cmp y x) ≡ false) front
+    → AllByRecursion (λ y. is_gt (rank_cmp x y) ≡ false) back → length front ≡ n → slice_get (sorted rank_cmp all) n ≡ Some x
+selected_at all front x back n moved ahead behind size =
+    ap (λ (xs : List Hit). slice_get xs n) (sym whole) ∙ seam (sorted rank_cmp front) x (sorted rank_cmp back) n (length_permutation front (sorted rank_cmp front) (sorted_is_permutation rank_cmp front) ∙ size)
+  where
+    items : IsPermutation all (sorted rank_cmp front ++ x ∷ sorted rank_cmp back)
+    items = IsPermutation-trans all (front ++ x ∷ back) (sorted rank_cmp front ++ x ∷ sorted rank_cmp back) moved
+        (IsPermutation-append front (sorted rank_cmp front) (x ∷ back) (x ∷ sorted rank_cmp back) (sorted_is_permutation rank_cmp front)
+        (IsPermutation-cons x back (sorted rank_cmp back) (sorted_is_permutation rank_cmp back)))
+
+    back_order : AllByRecursion (λ y. is_gt (rank_cmp x y) ≡ false) (sorted rank_cmp back)
+    back_order = all_sorted rank_cmp (λ y. is_gt (rank_cmp x y) ≡ false) back behind
+
+    order : Ascends rank_cmp (sorted rank_cmp front ++ x ∷ sorted rank_cmp back)
+    order = ascends_append rank_cmp (sorted rank_cmp front) (x ∷ sorted rank_cmp back) (sorted_ascends rank_cmp rank_total front) (back_order, sorted_ascends rank_cmp rank_total back)
+        (all_imp (λ y. is_gt (rank_cmp y x) ≡ false) (λ y. AllByRecursion (λ z. is_gt (rank_cmp y z) ≡ false) (x ∷ sorted rank_cmp back))
+        (λ y h. (h, all_imp (λ z. is_gt (rank_cmp x z) ≡ false) (λ z. is_gt (rank_cmp y z) ≡ false) (λ z k. through y x z h k) (sorted rank_cmp back) back_order))
+        (sorted rank_cmp front) (all_sorted rank_cmp (λ y. is_gt (rank_cmp y x) ≡ false) front ahead))
+
+    whole : sorted rank_cmp front ++ x ∷ sorted rank_cmp back ≡ sorted rank_cmp all
+    whole = sort_is_sorted rank_cmp rank_total rank_same all (sorted rank_cmp front ++ x ∷ sorted rank_cmp back) items (sorted_ascending rank_cmp rank_total (sorted rank_cmp front ++ x ∷ sorted rank_cmp back) order)
+
+key_order : (a b : ℕ) → b < 18446744073709551616 → a ≤ b → is_gt (rank_cmp (hit_of_key a) (hit_of_key b)) ≡ false
+key_order a b small low =
+    by_parts (a / 4294967296) (a % 4294967296) (b / 4294967296) (b % 4294967296)
+    (let x : b / 4294967296 < 4294967296 = omega arith in omega arith)
+    (by (cases_lt (a / 4294967296) (b / 4294967296)))
+  where
+    by : (a / 4294967296 < b / 4294967296) ⊎ (b / 4294967296 ≤ a / 4294967296) → (a / 4294967296 < b / 4294967296) ⊎ ((a / 4294967296 ≡ b / 4294967296) × (a % 4294967296 ≤ b % 4294967296))
+    by (inl under) = inl under
+    by (inr over) = let same : a / 4294967296 ≡ b / 4294967296 = omega arith in inr (same, omega arith)
+
+    by_parts : (p q r s : ℕ) → r ≤ 4294967295 → (p < r) ⊎ ((p ≡ r) × (q ≤ s)) → is_gt (rank_cmp (record { doc = q; score = 4294967295 - p }) (record { doc = s; score = 4294967295 - r })) ≡ false
+    by_parts p q r s most (inl under) = let lower : 4294967295 - r < 4294967295 - p = omega arith in above (record { doc = q; score = 4294967295 - p }) (record { doc = s; score = 4294967295 - r }) lower where
+      above : (x y : Hit) → y.score < x.score → is_gt (rank_cmp x y) ≡ false
+      above x y lower = grind (arith, nat_tests)
+    by_parts p q r s most (inr both) =
+        beside (record { doc = q; score = 4294967295 - p }) (record { doc = s; score = 4294967295 - r }) (ap (λ n. 4294967295 - n) both.0) both.1
+      where
+        beside : (x y : Hit) → x.score ≡ y.score → x.doc ≤ y.doc → is_gt (rank_cmp x y) ≡ false
+        beside x y same up = grind (arith, nat_tests)
+
+not_lower : (a b : ℕ) → is_lt (nat_cmp b a) ≡ false → a ≤ b
+not_lower a b h = by (cases_lt b a) where
+  by : (b < a) ⊎ (a ≤ b) → a ≤ b
+  by (inr high) = high
+  by (inl low) = absurd (true≢false (let t : is_lt (nat_cmp b a) ≡ true = grind (arith, nat_tests) in sym t ∙ h))
+
+pub selected_key : (keys front : List ℕ) (x : ℕ) (back : List ℕ) (n : ℕ) → IsPermutation keys (front ++ x ∷ back) → IsSplitAround nat_cmp front x back → length front ≡ n
+    → ((i : ℕ) → get_or keys i 0 < 18446744073709551616) → slice_get (sorted rank_cmp (map hit_of_key keys)) n ≡ Some (hit_of_key x)
+selected_key keys front x back n moved split size small =
+    selected_at (map hit_of_key keys) (map hit_of_key front) (hit_of_key x) (map hit_of_key back) n
+    (subst (λ (xs : List Hit). IsPermutation (map hit_of_key keys) xs) (map-append hit_of_key front (x ∷ back)) (IsPermutation-map hit_of_key keys (front ++ x ∷ back) moved))
+    (all_map (λ (y : Hit). is_gt (rank_cmp y (hit_of_key x)) ≡ false) hit_of_key front
+    (all_by_index (λ a. is_gt (rank_cmp (hit_of_key a) (hit_of_key x)) ≡ false) 0 front (λ i inside. key_order (get_or front i 0) x x_small (not_lower (get_or front i 0) x (split.0 i 0 inside)))))
+    (all_map (λ (y : Hit). is_gt (rank_cmp (hit_of_key x) y) ≡ false) hit_of_key back
+    (all_by_index (λ a. is_gt (rank_cmp (hit_of_key x) (hit_of_key a)) ≡ false) 0 back (λ i inside. key_order x (get_or back i 0) (back_small i inside) (not_lower x (get_or back i 0) (split.1 i 0 inside)))))
+    (length-map front hit_of_key ∙ size)
+  where
+    each : AllByRecursion (λ a. a < 18446744073709551616) (front ++ x ∷ back)
+    each = all_by_index (λ a. a < 18446744073709551616) 0 (front ++ x ∷ back)
+        (λ i inside. All-permutation (λ a. a < 18446744073709551616) keys (front ++ x ∷ back) moved (λ k d here. subst (λ (v : ℕ). v < 18446744073709551616) (sym (get_or_default_zero keys k d here)) (small k)) i 0 inside)
+
+    x_small : x < 18446744073709551616
+    x_small = all_at (λ a. a < 18446744073709551616) (front ++ x ∷ back) x each (in_right x front (x ∷ back) (inl refl))
+
+    back_small : (i : ℕ) → i < length back → get_or back i 0 < 18446744073709551616
+    back_small i inside = all_at (λ a. a < 18446744073709551616) (front ++ x ∷ back) (get_or back i 0) each (in_right (get_or back i 0) front (x ∷ back) (inr (in_from_contains back (get_or back i 0) (i, inside, get_or_default_zero back i (get_or back i 0) inside))))
+
+pub none_past : (row : List ℕ) (count n : ℕ) (view : HitsView) → keys_view row count ≡ view → count ≤ n → None ≡ slice_get (sorted rank_cmp view.hits) n
+none_past row count n view is past =
+    let size = length_permutation view.hits (sorted rank_cmp view.hits) (sorted_is_permutation rank_cmp view.hits) in
+    let mapped = ap (λ (v : HitsView). length v.hits) is in
+    let few = length-map (take count row) hit_of_key in
+    let most = length-take count row in
+    sym (slice_get_past (sorted rank_cmp view.hits) n (omega (arith, size, mapped, few, most, past)))

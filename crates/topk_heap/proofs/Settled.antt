@@ -1,6 +1,6 @@
 -- The documents of a heap and those raised beside it, settled.
 use Rattle.std.proofs.Common.{◌≡◌, ◌≢◌, ℕ, zero, suc, ◌+◌, ◌-◌, ◌<◌, ◌≤◌, ◌==◌, List, [], ◌∷◌, ◌++◌, length, map, take, get_or, set, Bool, true, false, refl, sym, ap, subst, ◌∙◌, arith, inl, inr, ◌⊎◌, eq-eqb, if◌then◌else◌, length-set, get_or-set_same}
-use Rattle.std.specs.Prelude.{All, AllPairs, IsPermutation, reverse, Contains}
+use Rattle.std.specs.Prelude.{All, AllPairs, IsPermutation, reverse, Contains, slice_get}
 use Rattle.std.specs.List.{AllByRecursion}
 use Rattle.std.proofs.lemmas.Bool.{cases_eq}
 use Rattle.std.proofs.lemmas.Bool.Decides.{nat_tests}
@@ -9,7 +9,7 @@ use Rattle.std.proofs.lemmas.List.Sorted.{IsPermutation-reverse}
 use Rattle.std.proofs.Math.Seq.{take-append_seam}
 use Rattle.jass_base.specs.declared.answer.Hit.{Hit}
 use Rattle.ranking_model.specs.Order.{sorted}
-use Rattle.ranking_model.specs.Scores.{rank_cmp, first_ranked, AreHitsOf}
+use Rattle.ranking_model.specs.Scores.{rank_cmp, first_ranked, runner_up, AreHitsOf}
 use Rattle.ranking_model.proofs.Weighing.{Pairs, pairs_by_recursion}
 use Rattle.ranking_model.proofs.Candidates.{first_of_candidates}
 use Rattle.topk_heap.specs.Hits.{HitsView}
@@ -189,9 +189,9 @@ pub record Ready (scores places raised : List ℕ) (row : List Hit) (m : ℕ) : 
   pub once : Pairs (λ a b. a ≢ b) raised
   pub have : HaveFirst scores m (map (λ (h : Hit). h.doc) (reverse row) ++ raised)
 
-pub ready : (k : ℕ) (hits : HitsView) (top : TopView) (scores places raised : List ℕ) → top_view k hits ≡ top → IsTop k hits → IsPlaced top scores places
+pub ready : (k : ℕ) (hits aside : HitsView) (top : TopView) (scores places raised : List ℕ) → top_view k hits ≡ top → IsTop k hits aside → IsPlaced top scores places
     → All (IsTouched scores) raised → AllPairs (λ a b. a ≢ b) raised → HaveFirst scores (top.k + 1) (with_heap top raised) → Ready scores places raised hits.hits (k + 1)
-ready k hits top scores places raised view order placed known once have =
+ready k hits aside top scores places raised view order placed known once have =
     let here : IsPlaced (top_view k hits) scores places = subst (λ (t : TopView). IsPlaced t scores places) (sym view) placed in
     record {
       touched = all_reversed (λ (h : Hit). IsTouched scores h.doc) hits.hits here.touched;
@@ -249,3 +249,26 @@ within doc n m same inside = omega arith
 
 pub some_still : (doc : ℕ) (old new : List ℕ) → new ≡ old → 1 ≤ get_or old doc 0 → 0 < get_or new doc 0
 some_still doc old new same some = omega (arith, some, ap (λ (s : List ℕ). get_or s doc 0) same)
+
+-- ---- candidates
+
+pub candidates_are : (scores : List ℕ) (row xs : List Hit) → AllByRecursion (λ (h : Hit). IsTouched scores h.doc) row → xs ≡ row → (i : ℕ) (d : Hit) → i < length xs → IsTouched scores (get_or xs i d).doc
+candidates_are scores row xs touched is i d inside =
+    all_index (λ (h : Hit). IsTouched scores h.doc) xs (subst (λ (ys : List Hit). AllByRecursion (λ (h : Hit). IsTouched scores h.doc) ys) (sym is) touched) i d inside
+
+pub next_of : (scores places raised : List ℕ) (row seen none again gathered : List Hit) (k : ℕ) → Ready scores places raised row (k + 1) → seen ≡ row → none ≡ [] → again ≡ none ++ map (rescored scores) seen
+    → gathered ≡ again ++ newcomers scores places raised → slice_get (sorted rank_cmp gathered) k ≡ runner_up scores k
+next_of scores places raised row seen none again gathered k ready one cleared two three =
+    sym (in_front k (sorted rank_cmp gathered) (k + 1) (omega arith))
+    ∙ ap (λ (xs : List Hit). slice_get (take (k + 1) (sorted rank_cmp xs)) k)
+    (three ∙ ap (λ (xs : List Hit). xs ++ newcomers scores places raised) (two ∙ ap (λ (xs : List Hit). xs ++ map (rescored scores) seen) cleared ∙ ap (λ (xs : List Hit). map (rescored scores) xs) one))
+    ∙ ap (λ (xs : List Hit). slice_get xs k) (settled scores places raised row (k + 1) ready.touched ready.apart ready.had ready.known ready.once ready.have)
+  where
+    in_front : (i : ℕ) (xs : List Hit) (n : ℕ) → i < n → slice_get (take n xs) i ≡ slice_get xs i
+    in_front i [] n below = none_there n i where
+      none_there : (n i : ℕ) → slice_get {X = Hit} (take n []) i ≡ slice_get {X = Hit} [] i
+      none_there zero i = refl
+      none_there (suc n) i = refl
+    in_front i (x ∷ xs) zero below = absurd (omega arith)
+    in_front zero (x ∷ xs) (suc n) below = refl
+    in_front (suc i) (x ∷ xs) (suc n) below = in_front i xs n (omega arith)

@@ -1,28 +1,32 @@
--- Which documents are noted while scores rise over a heap that stood.
-use Rattle.std.specs.Prelude.{◌≡◌, ◌≢◌, ℕ, ◌<◌, ◌≤◌, List, length, slice_index, nat_lt, if◌then◌else◌, All, AllPairs, Contains}
+-- Which documents are noted while scores rise over a heap.
+use Rattle.std.specs.Prelude.{◌≡◌, ◌≢◌, ℕ, ◌+◌, ◌<◌, ◌≤◌, ◌⊎◌, List, Option, Some, None, length, slice_index, count_by, All, AllPairs, Contains}
+use Rattle.std.specs.Ordering.{is_gt}
 use Rattle.jass_base.specs.declared.answer.Hit.{Hit}
+use Rattle.ranking_model.specs.Scores.{rank_cmp, hits_from}
 use Rattle.accumulator_pages.specs.Adding.{score_to_pass}
-use Rattle.topk_heap.specs.Hits.{hit_at}
-use Rattle.topk_heap.specs.Standing.{TopStands, TopView}
+use Rattle.topk_heap.specs.Standing.{IsPlaced, TopView, with_heap}
 
--- the hit that a document has to pass to come into the heap: the last of a full one, and else document 0 with score 0, which
--- any score passes
-abbrev pub hit_to_pass : TopView → Hit
-hit_to_pass top = if nat_lt top.k (length top.hits) then hit_at top.hits 0 else record { doc = 0; score = 0 }
+-- the hit that exactly those ranked at a hit or ahead of it pass; where there is none document 0 with score 0, which any
+-- score passes
+abbrev pub just_behind : Option Hit → Hit
+just_behind None = record { doc = 0; score = 0 }
+just_behind (Some hit) = record { doc = hit.doc + 1; score = hit.score }
 
--- a document's score was too low to pass the hit, and isn't any more
-pub record HasPassed (last : Hit) (before now : List ℕ) (doc : ℕ) : Type 0 where
-  pub inside : doc < length now
-  pub below : slice_index before doc < score_to_pass last doc
-  pub passed : score_to_pass last doc ≤ slice_index now doc
+-- the document's score passes the hit
+pub record Passes (last : Hit) (scores : List ℕ) (doc : ℕ) : Type 0 where
+  pub inside : doc < length scores
+  pub passed : score_to_pass last doc ≤ slice_index scores doc
 
--- the heap stood at some scores, none of which has fallen, and exactly the documents that have passed its last hit since are
--- noted, each once
-pub record AreNoted (top : TopView) (scores places noted : List ℕ) : Type 0 where
-  pub before : List ℕ
-  pub each : length before ≡ length scores
-  pub rose : (doc : ℕ) → slice_index before doc ≤ slice_index scores doc
-  pub stood : TopStands top before places
-  pub all : (doc : ℕ) → HasPassed (hit_to_pass top) before scores doc → Contains noted doc
-  pub only : All (HasPassed (hit_to_pass top) before scores) noted
+-- any score passes the hit, or at least m documents do
+abbrev pub LetsPass : Hit → List ℕ → ℕ → Type 0
+LetsPass last scores m = (last ≡ just_behind None) ⊎ (m ≤ count_by (λ hit. is_gt (rank_cmp last hit)) (hits_from 0 scores))
+
+-- the documents of the heap have scores; whoever passes the hit is one of them or noted; those noted pass it, each noted
+-- once; no document without a score passes it, and k + 1 documents do, or all that have one
+pub record AreNoted (top : TopView) (last : Hit) (scores places noted : List ℕ) : Type 0 where
+  pub placed : IsPlaced top scores places
+  pub all : (doc : ℕ) → Passes last scores doc → Contains (with_heap top noted) doc
+  pub only : All (Passes last scores) noted
   pub once : AllPairs (λ a b. a ≢ b) noted
+  pub some : (doc : ℕ) → 1 ≤ score_to_pass last doc
+  pub enough : LetsPass last scores (top.k + 1)

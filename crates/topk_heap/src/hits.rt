@@ -135,7 +135,7 @@ fn rank_order(a: &Hit, b: &Hit) -> Ordering
 }
 
 // The number of a hit is less than that of another exactly where the hit is ahead.
-fn rank_key(hit: &Hit) -> u64
+pub fn rank_key(hit: &Hit) -> u64
     ensures key { result ≡ rank_key hit.now }
     ensures fits { (hit.now.doc < 4294967296) × (hit.now.score < 4294967296) }
 {

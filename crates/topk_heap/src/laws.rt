@@ -1,13 +1,16 @@
 //! Laws of the definitions that the contracts of this crate cite. Each function does nothing: its contract is the
 //! law, and a caller learns it by the call.
 
-ghost use Rattle.std.specs.Prelude.{◌≡◌, ◌≢◌, ℕ, ◌+◌, ◌<◌, ◌≤◌, ◌⊎◌, ◌++◌, [], nat_le, List, length, count_by, All, Contains, slice_index, slice_set};
+ghost use Rattle.std.specs.Prelude.{◌≡◌, ◌≢◌, ℕ, ◌+◌, ◌<◌, ◌≤◌, ◌⊎◌, ◌++◌, [], nat_le, List, length, count_by, filter, All, Contains, IfSome, slice_index, slice_set};
 ghost use Rattle.frame_pool.specs.Pool.{PoolView};
 ghost use Rattle.frame_pool.specs.ChainView.{LeavesOthers};
 ghost use Rattle.accumulator_pages.specs.declared.pages.Pages.{Pages};
 ghost use Rattle.accumulator_pages.specs.Pages.{own_chain, pages_places, pages_scores};
 ghost use Rattle.accumulator_pages.specs.Adding.{added, raised};
-ghost use Rattle.topk_heap.specs.Noting.{AreNoted, HasPassed, hit_to_pass};
+ghost use Rattle.accumulator_pages.specs.Reached.{passes};
+ghost use Rattle.jass_base.specs.declared.answer.Hit.{Hit};
+ghost use Rattle.ranking_model.specs.Scores.{runner_up};
+ghost use Rattle.topk_heap.specs.Noting.{AreNoted, LetsPass, Passes, just_behind};
 ghost use Rattle.topk_heap.specs.Standing.{HaveFirst, IsPlaced, IsTouched, StandsBelow, TopStands, TopView, with_heap};
 
 /// A heap that stands in some pages still does so after a call on another chain.
@@ -30,31 +33,40 @@ pub fn a_heap_keeps_its_places()
         → ((doc : ℕ) → slice_index old doc ≤ slice_index new doc) → TopStands top old places → IsPlaced top new places }
 {}
 
-/// Who is among the first by scores that have risen: where all documents down to a floor are known, and m reach it;
-/// and whoever was in the heap or has passed its last hit.
+/// Who is among the first by some scores: where all documents down to a floor are known, and m reach it; and where all
+/// that pass a hit are known, and m pass it.
 pub fn the_first_are_known()
     ensures down_to { (scores docs : List ℕ) (m floor : ℕ)
         → ((doc : ℕ) → doc < length scores → 1 ≤ slice_index scores doc → floor ≤ slice_index scores doc
         → Contains docs doc)
         → (floor ≤ 1) ⊎ (m ≤ count_by (nat_le floor) scores) → HaveFirst scores m docs }
-    ensures passed { (top : TopView) (old new places raised : List ℕ) → length old ≡ length new
-        → ((doc : ℕ) → slice_index old doc ≤ slice_index new doc) → TopStands top old places
-        → ((doc : ℕ) → HasPassed (hit_to_pass top) old new doc → Contains raised doc)
-        → HaveFirst new (top.k + 1) (with_heap top raised) }
+    ensures passed { (scores docs : List ℕ) (m : ℕ) (last : Hit)
+        → ((doc : ℕ) → Passes last scores doc → Contains docs doc) → LetsPass last scores m
+        → HaveFirst scores m docs }
 {}
 
-/// Nobody has to be noted where a heap stands, and after that whom each addition raises over its last hit. Then those
-/// noted are what settling asks for.
+/// Nobody has to be noted where a heap stands, and after that whom each addition raises over the last hit. At any time
+/// those noted can be cut: whoever ranks behind the hit after the first k goes. Those noted are what settling asks for.
 pub fn those_raised_are_noted()
     ensures none { (top : TopView) (scores places : List ℕ) → TopStands top scores places
-        → AreNoted top scores places [] }
-    ensures more { (top : TopView) (weight : ℕ) (docs scores places noted : List ℕ) → AreNoted top scores places noted
-        → All (λ doc. doc < length scores) docs
-        → AreNoted top (added weight docs scores) places (noted ++ raised weight (hit_to_pass top) docs scores) }
-    ensures placed { (top : TopView) (scores places noted : List ℕ) → AreNoted top scores places noted
-        → IsPlaced top scores places }
-    ensures touched { (top : TopView) (scores places noted : List ℕ) → AreNoted top scores places noted
-        → All (IsTouched scores) noted }
-    ensures first { (top : TopView) (scores places noted : List ℕ) → AreNoted top scores places noted
-        → HaveFirst scores (top.k + 1) (with_heap top noted) }
+        → AreNoted top (just_behind (runner_up scores top.k)) scores places [] }
+    ensures more { (top : TopView) (last : Hit) (weight : ℕ) (docs scores places noted : List ℕ)
+        → AreNoted top last scores places noted → All (λ doc. doc < length scores) docs
+        → AreNoted top last (added weight docs scores) places (noted ++ raised weight last docs scores) }
+    ensures cut { (top : TopView) (last : Hit) (scores places noted : List ℕ) → AreNoted top last scores places noted
+        → AreNoted top (just_behind (runner_up scores top.k)) scores places
+        (filter (passes (just_behind (runner_up scores top.k)) scores) noted) }
+    ensures few { (top : TopView) (last : Hit) (scores places noted : List ℕ) → AreNoted top last scores places noted
+        → length (filter (passes (just_behind (runner_up scores top.k)) scores) noted) ≤ top.k + 1 }
+    ensures placed { (top : TopView) (last : Hit) (scores places noted : List ℕ)
+        → AreNoted top last scores places noted → IsPlaced top scores places }
+    ensures touched { (top : TopView) (last : Hit) (scores places noted : List ℕ)
+        → AreNoted top last scores places noted → All (IsTouched scores) noted }
+    ensures first { (top : TopView) (last : Hit) (scores places noted : List ℕ)
+        → AreNoted top last scores places noted → HaveFirst scores (top.k + 1) (with_heap top noted) }
+{}
+
+/// The hit after the first k is of one of the documents.
+pub fn the_runner_up_is_a_document()
+    ensures { (scores : List ℕ) (k : ℕ) → IfSome (runner_up scores k) (λ hit. hit.doc < length scores) }
 {}

@@ -1,10 +1,11 @@
 //! The steps of settling.
 
-ghost use Rattle.std.specs.Prelude.{◌≡◌, ◌+◌, ◌<◌, ◌≤◌, ◌++◌, All, length, map, slice_index};
+ghost use Rattle.std.specs.Prelude.{◌≡◌, ◌==◌, ◌+◌, ◌<◌, ◌≤◌, ◌++◌, All, length, map, slice_index};
 ghost use Rattle.accumulator_pages.specs.Pages.{Stands, docs_of, pages_places, pages_scores};
 ghost use Rattle.topk_heap.specs.Places.{KeepsScores, newcomers, rescored, with_places, without_places};
 ghost use Rattle.topk_heap.specs.Standing.{IsTouched};
 
+use crate::candidates::Candidates;
 use crate::hits::Hits;
 use accumulator_pages::Pages;
 use frame_pool::FramePool;
@@ -36,9 +37,55 @@ pub fn gather(hits: &mut Hits, pages: &Pages, pool: &FramePool, raised: &[u32])
     ensures room { hits.new.room ≡ hits.old.room }
 {
     for doc in raised {
-        if pages.heap_place(pool, *doc) == 0 {
+        if is_outside(pages, pool, *doc) {
             let score = pages.get(pool, *doc);
             hits.push(Hit { doc: *doc, score });
+        }
+    }
+}
+
+// Whether a document has no heap place.
+fn is_outside(pages: &Pages, pool: &FramePool, doc: u32) -> bool
+    requires stands { Stands pages.now pool.now }
+    requires inside { doc < docs_of pages.now }
+    requires touched { 0 < slice_index (pages_scores pages.now pool.now) doc }
+    ensures { result ≡ (slice_index (pages_places pages.now pool.now) doc == 0) }
+{
+    pages.heap_place(pool, doc) == 0
+}
+
+/// Puts hits behind the candidates, each with the score that its document has now.
+pub fn add_rescored(candidates: &mut Candidates, pages: &Pages, pool: &FramePool, hits: &[Hit])
+    requires stands { Stands pages.now pool.now }
+    requires inside { All (λ hit. hit.doc < docs_of pages.now) hits.now }
+    requires room { length candidates.old.hits + length hits.now ≤ candidates.old.room }
+    ensures hits { candidates.new.hits
+        ≡ candidates.old.hits ++ map (rescored (pages_scores pages.now pool.now)) hits.now }
+    ensures room { candidates.new.room ≡ candidates.old.room }
+{
+    for hit in hits {
+        let score = pages.get(pool, hit.doc);
+        candidates.push(Hit {
+            doc: hit.doc,
+            score,
+        });
+    }
+}
+
+/// Puts the raised documents that have no heap place behind the candidates.
+pub fn add_raised(candidates: &mut Candidates, pages: &Pages, pool: &FramePool, raised: &[u32])
+    requires stands { Stands pages.now pool.now }
+    requires inside { All (λ doc. doc < docs_of pages.now) raised.now }
+    requires touched { All (λ doc. 0 < slice_index (pages_scores pages.now pool.now) doc) raised.now }
+    requires room { length candidates.old.hits + length raised.now ≤ candidates.old.room }
+    ensures hits { candidates.new.hits ≡ candidates.old.hits
+        ++ newcomers (pages_scores pages.now pool.now) (pages_places pages.now pool.now) raised.now }
+    ensures room { candidates.new.room ≡ candidates.old.room }
+{
+    for doc in raised {
+        if is_outside(pages, pool, *doc) {
+            let score = pages.get(pool, *doc);
+            candidates.push(Hit { doc: *doc, score });
         }
     }
 }

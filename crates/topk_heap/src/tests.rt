@@ -6,9 +6,10 @@ ghost use Rattle.accumulator_pages.specs.Pages.{ArePagesOf, HasRoom, HasRoomFor,
 ghost use Rattle.topk_heap.specs.Standing.{TopStands};
 
 use crate::laws::{
-    a_risen_document_can_be_raised, calls_on_other_chains_leave_a_heap, those_raised_are_noted,
+    a_risen_document_can_be_raised, calls_on_other_chains_leave_a_heap,
+    the_runner_up_is_a_document, those_raised_are_noted,
 };
-use crate::top::Top;
+use crate::top::{Top, just_behind};
 use accumulator_pages::laws::calls_on_other_chains_leave_pages;
 use accumulator_pages::{Pages, Reached};
 use frame_pool::FramePool;
@@ -130,7 +131,7 @@ fn opened_beside(
     opened(rt, alloc, pool, 3, 0)
 }
 
-// Adds a weight to the scores of some documents, and settles those that have passed the last of the heap.
+// Adds a weight to the scores of some of six documents, and settles those that have passed the last of the heap.
 fn add_batch(
     rt: &impl Abort,
     pages: &mut Pages,
@@ -142,6 +143,7 @@ fn add_batch(
 )
     requires stands { Stands pages.old pool.old }
     requires top { TopStands top.old (pages_scores pages.old pool.old) (pages_places pages.old pool.old) }
+    requires count { docs_of pages.old ≡ 6 }
     requires inside { All (λ doc. doc < docs_of pages.old) docs.now }
     requires weight { 1 ≤ w }
     requires fits { All (λ score. score < 2 ^ 32) (added w docs.now (pages_scores pages.old pool.old)) }
@@ -158,8 +160,10 @@ fn add_batch(
 {
     calls_on_one_chain();
     those_raised_are_noted();
+    the_runner_up_is_a_document();
     reached.clear();
-    pages.add_all(pool, docs, w, top.to_pass(), reached);
+    let last = just_behind(top.runner_up(), 6);
+    pages.add_all(pool, docs, w, last, reached);
     top.settle(pages, pool, reached.as_slice());
 }
 

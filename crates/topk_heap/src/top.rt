@@ -4,12 +4,13 @@ ghost use Rattle.std.specs.Ordering.{is_gt};
 ghost use Rattle.accumulator_pages.specs.Pages.{Stands, docs_of, pages_places, pages_scores};
 ghost use Rattle.ranking_model.specs.Scores.{rank_cmp, first_ranked, runner_up};
 ghost use Rattle.topk_heap.specs.Hits.{hit_at};
-ghost use Rattle.topk_heap.specs.Noting.{hit_to_pass};
+ghost use Rattle.topk_heap.specs.Noting.{just_behind};
 ghost use Rattle.topk_heap.specs.Places.{KeepsScores};
 ghost use Rattle.topk_heap.specs.Standing.{AreInOrder, StandsBelow, HaveFirst, IsPlaced, IsTouched, TopStands, with_heap};
 
+use crate::candidates::Candidates;
 use crate::hits::Hits;
-use crate::settling::{clear_places, gather, rescore, set_places};
+use crate::settling::{add_raised, add_rescored, clear_places, gather, rescore, set_places};
 use accumulator_pages::Pages;
 use frame_pool::FramePool;
 use jass_base::{Hit, NoMemory};
@@ -22,6 +23,7 @@ use std::marker::Model;
 pub struct Top {
     k: u32,
     hits: Hits,
+    candidates: Candidates,
 }
 
 impl Model for Top {
@@ -31,7 +33,7 @@ impl Model for Top {
 
     ghost view = { λ t. top_view t.k t.hits };
 
-    ghost invariant = { λ t. IsTop t.k t.hits };
+    ghost invariant = { λ t. IsTop t.k t.hits t.candidates };
 }
 
 impl Top {
@@ -46,8 +48,14 @@ impl Top {
         ensures stands { IfOk result (λ top. (docs : ℕ) → TopStands top (replicate docs 0) (replicate docs 0)) }
         ensures room { IfOk result (λ top. room ≤ top.room) }
     {
-        let hits = Hits::new(alloc, k as usize + 1 + room.max(1), k as usize + 1)?;
-        Ok(Top { k, hits })
+        let first = k as usize + 1;
+        let hits = Hits::new(alloc, first + room.max(1), first)?;
+        let candidates = Candidates::new(alloc, first + room.max(1))?;
+        Ok(Top {
+            k,
+            hits,
+            candidates,
+        })
     }
 
     /// Takes in what some documents have gained. The first k + 1 documents are in the heap already, or among those
@@ -125,12 +133,36 @@ impl Top {
         self.hits.as_slice().get(self.k as usize).copied()
     }
 
-    /// The hit that a document has to pass to come into the heap: the last of a full one, and else document 0 with
-    /// score 0, which any score passes.
-    pub fn to_pass(&self) -> Hit
-        ensures { result ≡ hit_to_pass self.now }
+    /// The document after the first k by the scores that documents have now, as `settle` would tell it. What is seen
+    /// of the heap stays.
+    pub fn runner_up_now(&mut self, pages: &Pages, pool: &FramePool, raised: &[u32]) -> Option<Hit>
+        requires pages { Stands pages.now pool.now }
+        requires placed { IsPlaced self.old (pages_scores pages.now pool.now) (pages_places pages.now pool.now) }
+        requires touched { All (IsTouched (pages_scores pages.now pool.now)) raised.now }
+        requires once { AllPairs (λ a b. a ≢ b) raised.now }
+        requires first { HaveFirst (pages_scores pages.now pool.now) (self.old.k + 1) (with_heap self.old raised.now) }
+        requires room { length raised.now ≤ self.old.room }
+        ensures next { result ≡ runner_up (pages_scores pages.now pool.now) self.old.k }
+        ensures same { self.new ≡ self.old }
     {
-        let last = self.hits.as_slice().get(self.k as usize).copied();
-        last.unwrap_or(Hit { doc: 0, score: 0 })
+        self.candidates.clear();
+        add_rescored(&mut self.candidates, pages, pool, self.hits.as_slice());
+        add_raised(&mut self.candidates, pages, pool, raised);
+        self.candidates.select(self.k as usize)
+    }
+}
+
+/// The hit that a document has to pass to be at a hit or ahead of it, out of so many documents; where there is none
+/// document 0 with score 0, which any score passes.
+pub fn just_behind(hit: Option<Hit>, docs: u32) -> Hit
+    requires { IfSome hit (λ hit. hit.doc < docs) }
+    ensures { result ≡ just_behind hit }
+{
+    match hit {
+        Some(hit) => Hit {
+            doc: hit.doc + 1,
+            score: hit.score,
+        },
+        None => Hit { doc: 0, score: 0 },
     }
 }

@@ -1,7 +1,8 @@
-use Rattle.std.proofs.Common.{◌∙◌, ap, arith, refl, take, length-take}
+use Rattle.std.proofs.Common.{◌∙◌, ℕ, List, ap, arith, length, refl, drop, take, length-take}
 use Rattle.ranking_model.specs.Scores.{added}
 use Rattle.session_scores.specs.Scores.{scores_of}
-use Rattle.session_engine.proofs.Blocks.{as_many, begun, finished, fits, given_at_most, inside, more, room}
+use Rattle.session_engine.proofs.Blocks.{as_many, begun, finished, given_at_most, given_parted, more}
+use Rattle.session_engine.proofs.PartlyScored.{block_fits, block_inside, block_room}
 use Rattle.session_engine.proofs.scoring.score_blocks.Goals as goal
 
 pub pieces-init : goal.pieces-init
@@ -14,20 +15,20 @@ pub add_all-requires-clause-inside : goal.add_all-requires-clause-inside
 add_all-requires-clause-inside g c =
     let part = c.pieces.invariant.0 in
     let given = c.next_block-given.result in
-    inside part given (take given c.next_block-given.new.out) (c.next_block-given.ensures.block part.rest part.gives) c.requires.inside
+    block_inside part.scored (take given c.next_block-given.new.out) (drop given part.rest) (given_parted given (take given c.next_block-given.new.out) part.rest (c.next_block-given.ensures.block part.rest part.gives)) c.requires.inside
 
 pub add_all-requires-clause-fits : goal.add_all-requires-clause-fits
 add_all-requires-clause-fits g c =
     let part = c.pieces.invariant.0 in
     let given = c.next_block-given.result in
-    fits part given (take given c.next_block-given.new.out) (c.next_block-given.ensures.block part.rest part.gives) c.requires.fits
+    block_fits part.scored (take given c.next_block-given.new.out) (drop given part.rest) (given_parted given (take given c.next_block-given.new.out) part.rest (c.next_block-given.ensures.block part.rest part.gives)) c.requires.fits
     c.one_class_more_is_added.ensures.parts c.scores_stay_small.ensures.part
 
 pub add_all-requires-clause-frames : goal.add_all-requires-clause-frames
 add_all-requires-clause-frames g c =
     let part = c.pieces.invariant.0 in
     let given = c.next_block-given.result in
-    room part given c.args.segment.count (take given c.next_block-given.new.out) (c.next_block-given.ensures.block part.rest part.gives) c.requires.count c.requires.room
+    block_room part.scored (take given c.next_block-given.new.out) (drop given part.rest) (given_parted given (take given c.next_block-given.new.out) part.rest (c.next_block-given.ensures.block part.rest part.gives)) c.args.segment.count c.requires.count c.requires.room
 
 pub overflow_sub-left : goal.overflow_sub-left
 overflow_sub-left g c =
@@ -58,4 +59,12 @@ returns-clause-scores g c =
     let part = c.pieces.invariant.0 in
     let many = as_many part c.args.segment.count c.pieces.left c.requires.count c.pieces.invariant.1 in
     let test = c.pieces-test.false in
-    part.sums ∙ ap (λ docs. added c.args.segment.weight docs (scores_of c.args.scores.now c.args.pool.now)) (finished part (omega (arith, many, test)))
+    part.scored.sums ∙ ap (λ docs. added c.args.segment.weight docs (scores_of c.args.scores.now c.args.pool.now)) (finished part (omega (arith, many, test)))
+
+pub returns-clause-frames : goal.returns-clause-frames
+returns-clause-frames g c =
+    let part = c.pieces.invariant.0 in
+    let many = as_many part c.args.segment.count c.pieces.left c.requires.count c.pieces.invariant.1 in
+    let test = c.pieces-test.false in
+    let all = ap (λ (docs : List ℕ). length docs) (finished part (omega (arith, many, test))) in
+    omega (arith, all, part.scored.frames, c.requires.count)

@@ -1,13 +1,13 @@
-use Rattle.topk_heap.proofs.Known.{passed}
-use Rattle.topk_heap.proofs.Noted.{more_noted, none_noted, noted_touched}
-use Rattle.topk_heap.proofs.Raised.{placed_after}
+use Rattle.topk_heap.proofs.Noted.{cut_noted, few_noted, more_noted, none_noted, noted_first, noted_touched}
 use Rattle.topk_heap.proofs.laws.those_raised_are_noted.Goals as goal
 
 pub returns : goal.returns
 returns c = record {
   none = none_noted;
-  more = λ top weight docs scores places noted are inside. more_noted top weight docs scores places noted are inside;
-  placed = λ top scores places noted are. placed_after top are.before scores places are.each are.rose are.stood;
+  more = λ top last weight docs scores places noted are inside. more_noted top last weight docs scores places noted are inside;
+  cut = cut_noted;
+  few = few_noted;
+  placed = λ top last scores places noted are. are.placed;
   touched = noted_touched;
-  first = λ top scores places noted are. passed top are.before scores places noted are.each are.rose are.stood are.all;
+  first = noted_first;
 }

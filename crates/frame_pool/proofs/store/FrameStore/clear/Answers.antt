@@ -1,6 +1,5 @@
-use Rattle.std.proofs.Common.{◌≡◌, ℕ, List, [], length, replicate, sym, ap, ◌∙◌, arith}
+use Rattle.std.proofs.Common.{sym, ap, ◌∙◌, arith}
 use Rattle.frame_pool.specs.declared.store.Head.{Head}
-use Rattle.frame_pool.specs.Frames.{free_head}
 use Rattle.frame_pool.proofs.Rows.{inside_all, row_at, cleared_set}
 use Rattle.frame_pool.proofs.store.FrameStore.clear.Goals as goal
 
@@ -16,21 +15,15 @@ index-requires c = omega (arith, (inside_all _ _ _ _ c.args.frame c.self.invaria
 pub clear_places-requires : goal.clear_places-requires
 clear_places-requires c =
     λ unset. c.index_mut-2.ensures.value
-    ∙ (row_at _ _ _ c.args.frame c.index.result.now [] c.index_mut-2.result.now c.self.invariant (inside_all _ _ _ _ c.args.frame c.self.invariant c.self.view_is c.requires).0).unset (sym (ap (λ (h : Head). h.placed) c.index.ensures) ∙ unset)
+    ∙ (row_at _ _ _ c.args.frame c.index.result.now c.index_mut-2.result.now c.self.invariant (inside_all _ _ _ _ c.args.frame c.self.invariant c.self.view_is c.requires).0).unset (sym (ap (λ (h : Head). h.placed) c.index.ensures) ∙ unset)
 
 pub index_mut-requires-3 : goal.index_mut-requires-3
 index_mut-requires-3 c = omega (arith, (inside_all _ _ _ _ c.args.frame c.self.invariant c.self.view_is c.requires).0, c.self.inside.heads.ok.0)
 
 pub invariant_of-self : goal.invariant_of-self
 invariant_of-self c =
-    let size : length c.index_mut.result.now ≡ 256 =
-    ap (λ (xs : List ℕ). length xs) c.index_mut.ensures.value ∙ (row_at _ _ _ c.args.frame (free_head 0) c.index_mut.result.now [] c.self.invariant (inside_all _ _ _ _ c.args.frame c.self.invariant c.self.view_is c.requires).0).score_slots in
-    (cleared_set _ _ _ _ c.args.frame c.self.invariant c.self.view_is c.requires c.args.page c.args.next c.fill_zero.new.slots c.clear_places.new.places
-    (c.fill_zero.ensures ∙ ap (λ (n : ℕ). replicate n 0) size) c.clear_places.ensures).rows
+    (cleared_set _ _ _ _ c.args.frame c.self.invariant c.self.view_is c.requires c.args.page c.args.next c.clear_scores.new.scores c.clear_places.new.places c.clear_scores.ensures c.clear_places.ensures).rows
 
 pub returns : goal.returns
 returns c =
-    let size : length c.index_mut.result.now ≡ 256 =
-    ap (λ (xs : List ℕ). length xs) c.index_mut.ensures.value ∙ (row_at _ _ _ c.args.frame (free_head 0) c.index_mut.result.now [] c.self.invariant (inside_all _ _ _ _ c.args.frame c.self.invariant c.self.view_is c.requires).0).score_slots in
-    (cleared_set _ _ _ _ c.args.frame c.self.invariant c.self.view_is c.requires c.args.page c.args.next c.fill_zero.new.slots c.clear_places.new.places
-    (c.fill_zero.ensures ∙ ap (λ (n : ℕ). replicate n 0) size) c.clear_places.ensures).view
+    (cleared_set _ _ _ _ c.args.frame c.self.invariant c.self.view_is c.requires c.args.page c.args.next c.clear_scores.new.scores c.clear_places.new.places c.clear_scores.ensures c.clear_places.ensures).view

@@ -1,12 +1,12 @@
-use Rattle.std.proofs.Common.{arith}
-use Rattle.frame_pool.proofs.Rows.{inside_all, score_set}
+use Rattle.std.proofs.Common.{ℕ, List, set, ap, ◌∙◌, length-set}
+use Rattle.frame_pool.specs.Frames.{Frame, frame_at}
+use Rattle.frame_pool.proofs.Rows.{whole}
 use Rattle.frame_pool.proofs.store.FrameStore.set_score.Goals as goal
 
-pub index_mut-requires : goal.index_mut-requires
-index_mut-requires c = omega (arith, (inside_all _ _ _ _ c.args.frame c.self.invariant c.self.view_is c.requires).1, c.self.inside.scores.ok.0)
-
-pub invariant_of-self : goal.invariant_of-self
-invariant_of-self c = (score_set _ _ _ _ c.args.frame c.self.invariant c.self.view_is c.requires c.args.slot c.args.score c.index_mut.result.now c.index_mut.ensures.value).rows
-
 pub returns : goal.returns
-returns c = (score_set _ _ _ _ c.args.frame c.self.invariant c.self.view_is c.requires c.args.slot c.args.score c.index_mut.result.now c.index_mut.ensures.value).view
+returns c =
+    let was : Frame = frame_at c.args.self.now c.args.frame in
+    let row : List ℕ = c.scores_mut.result.now in
+    ap (λ (xs : List ℕ). set c.args.self.now c.args.frame (record was { scores = xs }))
+    (whole (set row c.args.slot c.args.score) (length-set row c.args.slot c.args.score ∙ c.scores_mut.ensures.slots)
+    ∙ ap (λ (xs : List ℕ). set xs c.args.slot c.args.score) c.scores_mut.ensures.scores)

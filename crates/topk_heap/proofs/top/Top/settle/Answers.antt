@@ -16,7 +16,7 @@ pub rescore-requires-clause-inside : goal.rescore-requires-clause-inside
 rescore-requires-clause-inside c i d inside =
     let scores : List ℕ = pages_scores c.args.pages.now c.args.pool.now in
     let places : List ℕ = pages_places c.args.pages.now c.args.pool.now in
-    let r = ready c.self.inside.k c.self.inside.hits c.args.self.now scores places c.args.raised.now c.self.view_is c.self.invariant c.requires.placed c.requires.touched c.requires.once c.requires.first in
+    let r = ready c.self.inside.k c.self.inside.hits c.self.inside.candidates c.args.self.now scores places c.args.raised.now c.self.view_is c.self.invariant c.requires.placed c.requires.touched c.requires.once c.requires.first in
     let is = (all_index (λ (h : Hit). IsTouched scores h.doc) c.self.inside.hits.hits r.touched i d inside).0 in
     within _ _ _ (docs_scored c.args.pages.now c.args.pool.now) is
 
@@ -29,7 +29,7 @@ pub clear_places-requires-clause-inside : goal.clear_places-requires-clause-insi
 clear_places-requires-clause-inside c i d inside =
     let scores : List ℕ = pages_scores c.args.pages.now c.args.pool.now in
     let places : List ℕ = pages_places c.args.pages.now c.args.pool.now in
-    let r = ready c.self.inside.k c.self.inside.hits c.args.self.now scores places c.args.raised.now c.self.view_is c.self.invariant c.requires.placed c.requires.touched c.requires.once c.requires.first in
+    let r = ready c.self.inside.k c.self.inside.hits c.self.inside.candidates c.args.self.now scores places c.args.raised.now c.self.view_is c.self.invariant c.requires.placed c.requires.touched c.requires.once c.requires.first in
     let front = standing_are scores c.self.inside.hits.hits c.rescore.new.hits.hits c.gather.new.hits.hits c.as_slice.result.now (newcomers scores places c.args.raised.now) c.len-standing.result
     c.rescore.ensures.hits c.gather.ensures.hits c.as_slice.ensures c.len-standing.ensures in
     let is = (row_touched scores c.self.inside.hits.hits _ r.touched front i d inside).0 in
@@ -39,7 +39,7 @@ pub clear_places-requires-clause-touched : goal.clear_places-requires-clause-tou
 clear_places-requires-clause-touched c i d inside =
     let scores : List ℕ = pages_scores c.args.pages.now c.args.pool.now in
     let places : List ℕ = pages_places c.args.pages.now c.args.pool.now in
-    let r = ready c.self.inside.k c.self.inside.hits c.args.self.now scores places c.args.raised.now c.self.view_is c.self.invariant c.requires.placed c.requires.touched c.requires.once c.requires.first in
+    let r = ready c.self.inside.k c.self.inside.hits c.self.inside.candidates c.args.self.now scores places c.args.raised.now c.self.view_is c.self.invariant c.requires.placed c.requires.touched c.requires.once c.requires.first in
     let front = standing_are scores c.self.inside.hits.hits c.rescore.new.hits.hits c.gather.new.hits.hits c.as_slice.result.now (newcomers scores places c.args.raised.now) c.len-standing.result
     c.rescore.ensures.hits c.gather.ensures.hits c.as_slice.ensures c.len-standing.ensures in
     (row_touched scores c.self.inside.hits.hits _ r.touched front i d inside).1
@@ -54,7 +54,7 @@ pub set_places-requires-clause-inside : goal.set_places-requires-clause-inside
 set_places-requires-clause-inside c i d inside =
     let scores : List ℕ = pages_scores c.args.pages.now c.args.pool.now in
     let places : List ℕ = pages_places c.args.pages.now c.args.pool.now in
-    let r = ready c.self.inside.k c.self.inside.hits c.args.self.now scores places c.args.raised.now c.self.view_is c.self.invariant c.requires.placed c.requires.touched c.requires.once c.requires.first in
+    let r = ready c.self.inside.k c.self.inside.hits c.self.inside.candidates c.args.self.now scores places c.args.raised.now c.self.view_is c.self.invariant c.requires.placed c.requires.touched c.requires.once c.requires.first in
     let new = new_are scores places c.args.raised.now c.self.inside.hits.hits c.rescore.new.hits.hits c.gather.new.hits.hits c.keep_first.new.self.hits (c.self.inside.k + 1) r
     c.rescore.ensures.hits c.gather.ensures.hits c.keep_first.ensures.hits in
     let is = (new_touched scores c.keep_first.new.self.hits c.as_slice-2.result.now (c.self.inside.k + 1) new c.as_slice-2.ensures i d inside).0 in
@@ -64,7 +64,7 @@ pub set_places-requires-clause-touched : goal.set_places-requires-clause-touched
 set_places-requires-clause-touched c i d inside =
     let scores : List ℕ = pages_scores c.args.pages.now c.args.pool.now in
     let places : List ℕ = pages_places c.args.pages.now c.args.pool.now in
-    let r = ready c.self.inside.k c.self.inside.hits c.args.self.now scores places c.args.raised.now c.self.view_is c.self.invariant c.requires.placed c.requires.touched c.requires.once c.requires.first in
+    let r = ready c.self.inside.k c.self.inside.hits c.self.inside.candidates c.args.self.now scores places c.args.raised.now c.self.view_is c.self.invariant c.requires.placed c.requires.touched c.requires.once c.requires.first in
     let new = new_are scores places c.args.raised.now c.self.inside.hits.hits c.rescore.new.hits.hits c.gather.new.hits.hits c.keep_first.new.self.hits (c.self.inside.k + 1) r
     c.rescore.ensures.hits c.gather.ensures.hits c.keep_first.ensures.hits in
     let is = new_touched scores c.keep_first.new.self.hits c.as_slice-2.result.now (c.self.inside.k + 1) new c.as_slice-2.ensures i d inside in
@@ -74,7 +74,7 @@ pub invariant_of-self : goal.invariant_of-self
 invariant_of-self c =
     let scores : List ℕ = pages_scores c.args.pages.now c.args.pool.now in
     let places : List ℕ = pages_places c.args.pages.now c.args.pool.now in
-    let r = ready c.self.inside.k c.self.inside.hits c.args.self.now scores places c.args.raised.now c.self.view_is c.self.invariant c.requires.placed c.requires.touched c.requires.once c.requires.first in
+    let r = ready c.self.inside.k c.self.inside.hits c.self.inside.candidates c.args.self.now scores places c.args.raised.now c.self.view_is c.self.invariant c.requires.placed c.requires.touched c.requires.once c.requires.first in
     let new = new_are scores places c.args.raised.now c.self.inside.hits.hits c.rescore.new.hits.hits c.gather.new.hits.hits c.keep_first.new.self.hits (c.self.inside.k + 1) r
     c.rescore.ensures.hits c.gather.ensures.hits c.keep_first.ensures.hits in
     record {
@@ -82,13 +82,14 @@ invariant_of-self c =
       few = omega (arith, ap (λ (xs : List Hit). length xs) c.keep_first.ensures.hits, length-take (c.self.inside.k + 1) (sorted rank_cmp c.gather.new.hits.hits));
       small = c.self.invariant.small;
       room = omega (arith, c.self.invariant.room, c.keep_first.ensures.room, c.gather.ensures.room, c.rescore.ensures.room);
+      beside = omega (arith, c.self.invariant.beside, c.keep_first.ensures.room, c.gather.ensures.room, c.rescore.ensures.room);
     }
 
 pub returns-clause-stands : goal.returns-clause-stands
 returns-clause-stands c =
     let scores : List ℕ = pages_scores c.args.pages.now c.args.pool.now in
     let places : List ℕ = pages_places c.args.pages.now c.args.pool.now in
-    let r = ready c.self.inside.k c.self.inside.hits c.args.self.now scores places c.args.raised.now c.self.view_is c.self.invariant c.requires.placed c.requires.touched c.requires.once c.requires.first in
+    let r = ready c.self.inside.k c.self.inside.hits c.self.inside.candidates c.args.self.now scores places c.args.raised.now c.self.view_is c.self.invariant c.requires.placed c.requires.touched c.requires.once c.requires.first in
     let new = new_are scores places c.args.raised.now c.self.inside.hits.hits c.rescore.new.hits.hits c.gather.new.hits.hits c.keep_first.new.self.hits (c.self.inside.k + 1) r
     c.rescore.ensures.hits c.gather.ensures.hits c.keep_first.ensures.hits in
     let front = standing_are scores c.self.inside.hits.hits c.rescore.new.hits.hits c.gather.new.hits.hits c.as_slice.result.now (newcomers scores places c.args.raised.now) c.len-standing.result

@@ -1,7 +1,6 @@
-use Rattle.std.proofs.Common.{◌∙◌}
 use Rattle.session_scores.specs.Scores.{scores_of}
 use Rattle.session_scores.proofs.Small.{fits_after, most_after}
-use Rattle.session_scores.proofs.tests.add.Goals as goal
+use Rattle.session_scores.proofs.tests.add_some.Goals as goal
 
 pub add_all-requires-clause-fits : goal.add_all-requires-clause-fits
 add_all-requires-clause-fits c =
@@ -9,4 +8,4 @@ add_all-requires-clause-fits c =
 
 pub returns-clause-most : goal.returns-clause-most
 returns-clause-most c =
-    most_after c.args.w c.args.most c.args.docs.now (scores_of c.args.scores.now c.args.pool.now) _ (c.settle.ensures.scores ∙ c.add_all.ensures.scores) c.requires.block c.requires.most
+    most_after c.args.w c.args.most c.args.docs.now (scores_of c.args.scores.now c.args.pool.now) _ c.add_all.ensures.scores c.requires.block c.requires.most
