@@ -5,5 +5,6 @@ pub mod Listed
 pub mod Pairs
 pub mod Weighed
 pub mod OneList
+pub mod ImpactTable
 pub mod ListTerms
 pub mod Bounds

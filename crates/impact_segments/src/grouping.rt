@@ -6,6 +6,7 @@ ghost use Rattle.jass_base.specs.Segments.{FallsTo, SharesNoDocument};
 ghost use Rattle.impact_segments.specs.Pairs.{pair_cmp, pair_key, pairs_of, pair_docs, Follows};
 
 use crate::rows::{group_by_rows, row_count};
+use crate::spares::Spares;
 use jass_base::{NoMemory, Row, Segment};
 use std::alloc::Global;
 use std::cmp::Ordering;
@@ -21,7 +22,7 @@ pub fn group(alloc: Global, postings: &[(u32, u16)]) -> Result<Row<Segment>, NoM
     ensures once { IfOk result (λ segments. AllPairs SharesNoDocument segments) }
 {
     match Vec::from_slice(alloc, postings) {
-        Ok(mut pairs) => group_in_place(alloc, &mut pairs),
+        Ok(mut pairs) => group_in_place(alloc, &mut pairs, &mut Spares::new(alloc, 0)),
         Err(_) => Err(NoMemory),
     }
 }
@@ -30,6 +31,7 @@ pub fn group(alloc: Global, postings: &[(u32, u16)]) -> Result<Row<Segment>, NoM
 pub(crate) fn group_in_place(
     alloc: Global,
     pairs: &mut Vec<(u32, u16)>,
+    spares: &mut Spares,
 ) -> Result<Row<Segment>, NoMemory>
     requires rising { IsStrictlyIncreasing (pair_docs pairs.old.items) }
     requires positive { All (λ (p : ℕ × ℕ). 1 ≤ p.1) pairs.old.items }
@@ -38,10 +40,10 @@ pub(crate) fn group_in_place(
     ensures once { IfOk result (λ segments. AllPairs SharesNoDocument segments) }
 {
     match row_count(pairs.as_slice()) {
-        Some(count) => group_by_rows(alloc, pairs.as_slice(), count),
+        Some(count) => group_by_rows(alloc, pairs.as_slice(), count, spares),
         None => {
             arrange(pairs);
-            cut(alloc, pairs.as_slice())
+            cut(pairs.as_slice(), spares)
         }
     }
 }
@@ -72,34 +74,24 @@ fn key(pair: (u32, u16)) -> u64
 }
 
 /// One segment for each run of equal impacts.
-fn cut(alloc: Global, pairs: &[(u32, u16)]) -> Result<Row<Segment>, NoMemory>
+fn cut(pairs: &[(u32, u16)], spares: &mut Spares) -> Result<Row<Segment>, NoMemory>
     requires order { AllPairs Follows pairs.now }
     requires positive { All (λ (p : ℕ × ℕ). 1 ≤ p.1) pairs.now }
     ensures pairs { IfOk result (λ segments. pairs_of segments ≡ pairs.now) }
     ensures falling { IfOk result (λ segments. AllPairs FallsTo segments) }
     ensures once { IfOk result (λ segments. AllPairs SharesNoDocument segments) }
 {
-    let mut segments = with_room(alloc, run_count(pairs))?;
+    let mut segments = spares.with_room(run_count(pairs))?;
     let mut rest = pairs;
     'runs: while let Some(first) = rest.first() {
         let (run, later) = rest.split_at(run_length(rest, first.1));
-        let segment = segment_of(alloc, first.1, run)?;
+        let segment = segment_of(first.1, run, spares)?;
         match segments.push(segment) {
             Ok(()) => rest = later,
             Err(_) => return Err(NoMemory),
         }
     }
     Ok(segments)
-}
-
-/// An empty row that has room for so many segments, so that they are never moved.
-pub(crate) fn with_room(alloc: Global, count: usize) -> Result<Row<Segment>, NoMemory>
-    ensures { IfOk result (λ row. row ≡ []) }
-{
-    match Vec::with_capacity(alloc, count) {
-        Ok(segments) => Ok(Row::from_vec(segments)),
-        Err(_) => Err(NoMemory),
-    }
 }
 
 /// The number of runs of equal impacts.
@@ -129,22 +121,26 @@ fn run_length(pairs: &[(u32, u16)], impact: u16) -> usize
     pairs.len()
 }
 
-fn segment_of(alloc: Global, impact: u16, run: &[(u32, u16)]) -> Result<Segment, NoMemory>
+fn segment_of(impact: u16, run: &[(u32, u16)], spares: &mut Spares) -> Result<Segment, NoMemory>
     requires positive { 1 ≤ impact }
     requires some { 1 ≤ length run.now }
     requires rising { IsStrictlyIncreasing (pair_docs run.now) }
     ensures impact { IfOk result (λ segment. segment.impact ≡ impact) }
     ensures docs { IfOk result (λ segment. segment.docs ≡ pair_docs run.now) }
 {
-    let docs = docs_of(alloc, run)?;
+    let docs = docs_of(run, spares)?;
     Ok(Segment { impact, docs })
 }
 
-fn docs_of(alloc: Global, run: &[(u32, u16)]) -> Result<Row<u32>, NoMemory>
+fn docs_of(run: &[(u32, u16)], spares: &mut Spares) -> Result<Row<u32>, NoMemory>
     ensures { IfOk result (λ docs. docs ≡ pair_docs run.now) }
 {
-    match run.iter().map(|pair| pair.0).collect(alloc) {
-        Ok(docs) => Ok(Row::from_vec(docs)),
-        Err(_) => Err(NoMemory),
+    let mut docs = spares.row(run.len())?;
+    for pair in run {
+        match docs.push(pair.0) {
+            Ok(()) => {}
+            Err(_) => return Err(NoMemory),
+        }
     }
+    Ok(Row::from_vec(docs))
 }

@@ -8,10 +8,13 @@ mod building;
 pub mod examples;
 mod flattening;
 mod grouping;
+mod impact_table;
 pub mod laws;
 mod listing;
 mod one_list;
 mod rows;
+mod scratch;
+mod spares;
 mod terms;
 mod weighing;
 
@@ -20,8 +23,10 @@ pub use building::build;
 pub use flattening::entries_of;
 pub use grouping::group;
 pub use one_list::{
-    SegmentsFault, length_norms, segments_by_norms, segments_of, widen_by_norms, widen_list,
+    SegmentsFault, length_norms, segments_by_norms, segments_by_scratch, segments_of,
+    widen_by_norms, widen_list,
 };
+pub use scratch::Scratch;
 
 #[cfg(test)]
 mod tests;

@@ -6,14 +6,16 @@ ghost use Rattle.jass_base.specs.Gaps.{AreDocs};
 ghost use Rattle.jass_base.specs.Postings.{HasTfInRange};
 ghost use Rattle.jass_base.specs.Segments.{FallsTo, SharesNoDocument};
 ghost use Rattle.jass_base.specs.declared.segment.Segment.{Segment};
-ghost use Rattle.weights.specs.Quantizing.{IsImpactWidth, IsInRange, widened};
+ghost use Rattle.weights.specs.Quantizing.{IsImpactWidth, IsInRange, impact_of, widened};
 ghost use Rattle.weights.specs.Weighting.{idf, length_norm};
 ghost use Rattle.index_model.specs.Views.{segment_data};
 ghost use Rattle.impact_segments.specs.Collections.{weight_in, weights_in};
+ghost use Rattle.impact_segments.specs.ImpactTable.{AreImpacts};
 ghost use Rattle.impact_segments.specs.ListTerms.{list_segments};
 ghost use Rattle.impact_segments.specs.OneList.{EndsLow, IsListOf, Unmade, nearer_end, norms_in, outside, pairs_in};
 
 use crate::grouping::group_in_place;
+use crate::scratch::Scratch;
 use jass_base::{NoMemory, Posting, PostingsList, Row, Segment};
 use std::alloc::Global;
 use weights::{Bits, Range, Rule, idf, impact_of, length_norm, saturated};
@@ -196,7 +198,18 @@ pub fn segments_of(
     ensures inside { OnOk result (outside bits range (weights_in rule lengths.now total list.now.postings) ≡ None) }
     ensures fault { IfErr result (Unmade (outside bits range (weights_in rule lengths.now total list.now.postings))) }
 {
-    make_segments(alloc, rule, bits, range, total, list, lengths, None)
+    let mut scratch = Scratch::new(alloc);
+    make_segments(
+        &mut scratch,
+        alloc,
+        rule,
+        bits,
+        range,
+        total,
+        list,
+        lengths,
+        None,
+    )
 }
 
 /// What `segments_of` makes, by the documents' norms.
@@ -225,10 +238,63 @@ pub fn segments_by_norms(
     ensures inside { OnOk result (outside bits range (weights_in rule lengths.now total list.now.postings) ≡ None) }
     ensures fault { IfErr result (Unmade (outside bits range (weights_in rule lengths.now total list.now.postings))) }
 {
-    make_segments(alloc, rule, bits, range, total, list, lengths, Some(norms))
+    let mut scratch = Scratch::new(alloc);
+    make_segments(
+        &mut scratch,
+        alloc,
+        rule,
+        bits,
+        range,
+        total,
+        list,
+        lengths,
+        Some(norms),
+    )
+}
+
+/// What `segments_by_norms` makes, with what a scratch keeps from list to list.
+pub fn segments_by_scratch(
+    scratch: &mut Scratch,
+    alloc: Global,
+    rule: Rule,
+    bits: Bits,
+    range: Range,
+    total: u64,
+    list: &PostingsList,
+    lengths: &[u32],
+    norms: &[u64],
+) -> Result<Row<Segment>, SegmentsFault>
+    requires list { IsListOf lengths.now total list.now }
+    requires width { IsImpactWidth bits }
+    requires low { EndsLow bits range }
+    requires norms { norms.now ≡ norms_in lengths.now total }
+    ensures exact { IfOk result (λ segments. map segment_data segments
+        ≡ list_segments rule lengths.now total bits range list.now.postings) }
+    ensures postings { IfOk result (λ segments. sum_by (λ (s : Segment). length s.docs) segments
+        ≡ length list.now.postings) }
+    ensures some { IfOk result (λ segments. 1 ≤ length segments) }
+    ensures falling { IfOk result (λ segments. AllPairs FallsTo segments) }
+    ensures once { IfOk result (λ segments. AllPairs SharesNoDocument segments) }
+    ensures docs { IfOk result (All (λ (s : Segment). AreDocs (length lengths.now) s.docs)) }
+    ensures inside { OnOk result (outside bits range (weights_in rule lengths.now total list.now.postings) ≡ None) }
+    ensures fault { IfErr result (Unmade (outside bits range (weights_in rule lengths.now total list.now.postings))) }
+{
+    scratch.make_table(bits, range);
+    make_segments(
+        scratch,
+        alloc,
+        rule,
+        bits,
+        range,
+        total,
+        list,
+        lengths,
+        Some(norms),
+    )
 }
 
 fn make_segments(
+    scratch: &mut Scratch,
     alloc: Global,
     rule: Rule,
     bits: Bits,
@@ -253,16 +319,25 @@ fn make_segments(
     ensures inside { OnOk result (outside bits range (weights_in rule lengths.now total list.now.postings) ≡ None) }
     ensures fault { IfErr result (Unmade (outside bits range (weights_in rule lengths.now total list.now.postings))) }
 {
-    let mut pairs = impacts_of(alloc, rule, bits, range, total, list, lengths, norms)?;
-    match group_in_place(alloc, &mut pairs) {
-        Ok(segments) => Ok(segments),
+    let none = match scratch.take_pairs(list.postings.len()) {
+        Ok(none) => none,
+        Err(_) => return Err(SegmentsFault::NoMemory),
+    };
+    let table = scratch.table.impacts(bits, range);
+    let mut pairs = impacts_of(none, table, rule, bits, range, total, list, lengths, norms)?;
+    match group_in_place(alloc, &mut pairs, &mut scratch.spares) {
+        Ok(segments) => {
+            scratch.keep_pairs(pairs);
+            Ok(segments)
+        }
         Err(_) => Err(SegmentsFault::NoMemory),
     }
 }
 
-/// The documents of a list with their impacts.
+/// The documents of a list with their impacts, in a vector that is empty before.
 fn impacts_of(
-    alloc: Global,
+    none: Vec<(u32, u16)>,
+    table: &[u16],
     rule: Rule,
     bits: Bits,
     range: Range,
@@ -275,6 +350,8 @@ fn impacts_of(
     requires width { IsImpactWidth bits }
     requires low { EndsLow bits range }
     requires norms { ForSome norms (λ n. n.now ≡ norms_in lengths.now total) }
+    requires none { none.items ≡ [] }
+    requires table { AreImpacts bits range table.now }
     ensures pairs { IfOk result (λ pairs. pairs.items
         ≡ pairs_in rule lengths.now total bits range list.now.postings) }
     ensures positive { IfOk result (λ pairs. All (λ (p : ℕ × ℕ). 1 ≤ p.1) pairs.items) }
@@ -282,19 +359,35 @@ fn impacts_of(
     ensures fault { IfErr result (Unmade (outside bits range (weights_in rule lengths.now total list.now.postings))) }
 {
     let weigher = ListRule::new(rule, total, list, lengths, norms);
-    let mut pairs = match Vec::with_capacity(alloc, list.postings.len()) {
-        Ok(pairs) => pairs,
-        Err(_) => return Err(SegmentsFault::NoMemory),
-    };
+    let mut pairs = none;
     for posting in list.postings.as_slice() {
         let weight = weigher.weigh(*posting);
-        judge(bits, range, weight)?;
-        match pairs.push((posting.doc, impact_of(bits, range, weight))) {
+        let impact = impact_in(table, bits, range, weight)?;
+        match pairs.push((posting.doc, impact)) {
             Ok(()) => {}
             Err(_) => return Err(SegmentsFault::NoMemory),
         }
     }
     Ok(pairs)
+}
+
+/// The impact of a weight, by the table where it holds it. A weight outside the range is refused.
+#[inline(always)]
+fn impact_in(table: &[u16], bits: Bits, range: Range, weight: u64) -> Result<u16, SegmentsFault>
+    requires width { IsImpactWidth bits }
+    requires low { EndsLow bits range }
+    requires table { AreImpacts bits range table.now }
+    requires some { 1 ≤ weight }
+    ensures value { IfOk result (λ impact. impact ≡ impact_of bits range weight) }
+    ensures positive { IfOk result (λ impact. 1 ≤ impact) }
+    ensures ok { OnOk result (outside bits range (weight ∷ []) ≡ None) }
+    ensures err { IfErr result (Unmade (outside bits range (weight ∷ []))) }
+{
+    if weight >= range.least && weight - range.least < table.len() as u64 {
+        return Ok(table[(weight - range.least) as usize]);
+    }
+    judge(bits, range, weight)?;
+    Ok(impact_of(bits, range, weight))
 }
 
 /// Refuses a weight outside the range that impacts of these bits are places in.

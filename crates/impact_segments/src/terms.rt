@@ -15,6 +15,7 @@ ghost use Rattle.impact_segments.specs.Listed.{lists_behind};
 ghost use Rattle.impact_segments.specs.Pairs.{list_pairs};
 
 use crate::grouping::group_in_place;
+use crate::spares::Spares;
 use crate::weighing::Weigher;
 use jass_base::{NoMemory, PostingsList, Row, TermSegments, Text};
 use std::alloc::Global;
@@ -73,7 +74,7 @@ fn term_of(
 {
     impacts_of(weigher, bits, range, list, pairs)?;
     let term = Text::from_str(alloc, list.term.as_str())?;
-    let segments = group_in_place(alloc, pairs)?;
+    let segments = group_in_place(alloc, pairs, &mut Spares::new(alloc, 0))?;
     Ok(TermSegments { term, segments })
 }
 

@@ -18,6 +18,7 @@ use crate::list_entry::{ListEntry, Place};
 use crate::reading::read_segments;
 use crate::weighing::Weighing;
 use ciff_read::{CiffFault, CiffWalk};
+use impact_segments::Scratch;
 use index_write::laws::made_heads_are_entries;
 use index_write::{PayloadHead, TermHeads, payload_heads, put_payloads};
 use jass_base::{Cabinet, Row, Segment};
@@ -74,9 +75,19 @@ pub(crate) fn read_heads<C: Cabinet>(
     let mut terms = Row::new(alloc);
     let mut places = Vec::new(alloc);
     let mut payloads = Some(Row::new(alloc));
+    let mut scratch = Scratch::new(alloc);
     'lists: for entry in lists {
         let ListEntry { term, place } = entry;
-        let segments = match read_segments(alloc, walk, files, weighing, bits, range, place) {
+        let segments = match read_segments(
+            &mut scratch,
+            alloc,
+            walk,
+            files,
+            weighing,
+            bits,
+            range,
+            place,
+        ) {
             Ok(segments) => segments,
             Err(fault) => return Err(fault),
         };
@@ -85,6 +96,7 @@ pub(crate) fn read_heads<C: Cabinet>(
             Err(_) => return Err(CiffFault::NoMemory),
         };
         payloads = keep_payloads(payloads, segments.as_slice(), heads.as_slice(), docs);
+        scratch.take_back(segments);
         match terms.push(TermHeads { term, heads }) {
             Ok(()) => {}
             Err(_) => return Err(CiffFault::NoMemory),

@@ -12,7 +12,7 @@ ghost use Rattle.index_import.specs.Surveying.{IsReady};
 use crate::list_entry::Place;
 use crate::weighing::Weighing;
 use ciff_read::{CiffFault, CiffRefusal, CiffWalk, CiffWhy};
-use impact_segments::{SegmentsFault, segments_by_norms};
+use impact_segments::{Scratch, SegmentsFault, segments_by_scratch};
 use jass_base::{Cabinet, PostingsList, Row, Segment};
 use std::alloc::Global;
 use weights::{Bits, Range};
@@ -45,6 +45,7 @@ pub(crate) fn read_again<C: Cabinet>(
 /// Reads a list again, and makes its segments. A weight outside the range is refused as a change of
 /// the file.
 pub(crate) fn read_segments<C: Cabinet>(
+    scratch: &mut Scratch,
     alloc: Global,
     walk: &mut CiffWalk,
     files: &mut C,
@@ -78,7 +79,9 @@ pub(crate) fn read_segments<C: Cabinet>(
         lengths,
         norms,
     } = weighing;
-    match segments_by_norms(alloc, rule, bits, range, total, &list, lengths, norms) {
+    match segments_by_scratch(
+        scratch, alloc, rule, bits, range, total, &list, lengths, norms,
+    ) {
         Ok(segments) => Ok(segments),
         Err(SegmentsFault::Outside { kept, found }) => Err(CiffFault::Refused(CiffRefusal {
             at: place.at,

@@ -15,6 +15,7 @@ use crate::heads::Heads;
 use crate::reading::read_segments;
 use crate::weighing::Weighing;
 use ciff_read::{CiffFault, CiffRefusal, CiffWalk, CiffWhy};
+use impact_segments::Scratch;
 use index_write::laws::{appended_payloads_make_the_text, changes_are_found};
 use index_write::{IndexWriter, SaveFault, TermFault};
 use jass_base::{Cabinet, Row, Text, Totals};
@@ -70,8 +71,18 @@ pub(crate) fn write_index<C: Cabinet>(
     if let Some(payloads) = payloads {
         return put_kept(writer, payloads.as_slice(), files);
     }
+    let mut scratch = Scratch::new(alloc);
     'places: for place in places {
-        let segments = match read_segments(alloc, walk, files, weighing, bits, range, place) {
+        let segments = match read_segments(
+            &mut scratch,
+            alloc,
+            walk,
+            files,
+            weighing,
+            bits,
+            range,
+            place,
+        ) {
             Ok(segments) => segments,
             Err(fault) => return Err(ImportFault::from_ciff(fault)),
         };
@@ -79,6 +90,7 @@ pub(crate) fn write_index<C: Cabinet>(
             Ok(writer) => writer,
             Err(fault) => return Err(not_appended(fault, place.at)),
         };
+        scratch.take_back(segments);
     }
     Ok(writer.finish())
 }

@@ -34,7 +34,7 @@ loop-posting-preserved c =
     c.new-weigher.ensures.rule c.new-weigher.ensures.lengths c.new-weigher.ensures.total c.new-weigher.ensures.rare (c.weigh-weight.ensures.value count) in
     record {
       pairs = pairs_more (λ (p : Posting). (p.doc, impact_of bits range (weigh p))) c.loop-posting.pairs.items c.push.new.self.items (pairs_in rule lengths total bits range c.args.list.now.postings) items i none
-          (p.doc, c.impact_of.result) c.loop-posting-test.true c.in-Ok-push.ensures.items (pair_is bits range p.doc c.impact_of.result w (weigh p) c.impact_of.ensures.value weighed) c.loop-posting.invariant.pairs;
-      positive = positive_more c.loop-posting.pairs.items c.push.new.self.items p.doc c.impact_of.result c.in-Ok-push.ensures.items c.impact_of.ensures.positive c.loop-posting.invariant.positive;
-      judged = judged_more weigh bits range items i none w (outside bits range (weights_in rule lengths total c.args.list.now.postings)) c.loop-posting-test.true weighed c.in_ok-judge.ensures.ok c.loop-posting.invariant.judged;
+          (p.doc, c.in_ok-impact.impact) c.loop-posting-test.true c.in-Ok.ensures.items (pair_is bits range p.doc c.in_ok-impact.impact w (weigh p) c.in_ok-impact.ensures.value weighed) c.loop-posting.invariant.pairs;
+      positive = positive_more c.loop-posting.pairs.items c.push.new.self.items p.doc c.in_ok-impact.impact c.in-Ok.ensures.items c.in_ok-impact.ensures.positive c.loop-posting.invariant.positive;
+      judged = judged_more weigh bits range items i none w (outside bits range (weights_in rule lengths total c.args.list.now.postings)) c.loop-posting-test.true weighed c.in_ok-impact.ensures.ok c.loop-posting.invariant.judged;
     }

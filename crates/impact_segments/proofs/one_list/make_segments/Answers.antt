@@ -14,23 +14,23 @@ group_in_place-requires-clause-rising c =
     let postings = c.args.list.now.postings in
     docs_rise_by (λ (p : Posting). impact_of c.args.bits c.args.range (weight_in c.args.rule c.args.lengths.now c.args.total (length postings) p)) c.args.list.now c.in_ok-pairs.pairs.items c.in_ok-pairs.ensures.pairs
 
-pub returns-in-Ok-clause-exact : goal.returns-in-Ok-clause-exact
-returns-in-Ok-clause-exact c =
-    segments_are c.args.rule c.args.lengths.now c.args.total c.args.bits c.args.range c.args.list.now.postings c.in-Ok.segments c.in_ok-pairs.pairs.items c.in_ok-pairs.ensures.pairs c.in-Ok.ensures.pairs c.in-Ok.ensures.falling
+pub returns-in-Ok-group_in_place-clause-exact : goal.returns-in-Ok-group_in_place-clause-exact
+returns-in-Ok-group_in_place-clause-exact c =
+    segments_are c.args.rule c.args.lengths.now c.args.total c.args.bits c.args.range c.args.list.now.postings c.in-Ok-group_in_place.segments c.in_ok-pairs.pairs.items c.in_ok-pairs.ensures.pairs c.in-Ok-group_in_place.ensures.pairs c.in-Ok-group_in_place.ensures.falling
 
-pub returns-in-Ok-clause-postings : goal.returns-in-Ok-clause-postings
-returns-in-Ok-clause-postings c =
-    as_many_documents c.in-Ok.segments c.in_ok-pairs.pairs.items c.in-Ok.ensures.pairs ∙ ap length c.in_ok-pairs.ensures.pairs ∙ length-map c.args.list.now.postings _
+pub returns-in-Ok-group_in_place-clause-postings : goal.returns-in-Ok-group_in_place-clause-postings
+returns-in-Ok-group_in_place-clause-postings c =
+    as_many_documents c.in-Ok-group_in_place.segments c.in_ok-pairs.pairs.items c.in-Ok-group_in_place.ensures.pairs ∙ ap length c.in_ok-pairs.ensures.pairs ∙ length-map c.args.list.now.postings _
 
-pub returns-in-Ok-clause-some : goal.returns-in-Ok-clause-some
-returns-in-Ok-clause-some c =
+pub returns-in-Ok-group_in_place-clause-some : goal.returns-in-Ok-group_in_place-clause-some
+returns-in-Ok-group_in_place-clause-some c =
     let some = c.requires.list.some in
     let size : length c.in_ok-pairs.pairs.items ≡ length c.args.list.now.postings = ap length c.in_ok-pairs.ensures.pairs ∙ length-map c.args.list.now.postings _ in
-    some_segments c.in-Ok.segments c.in_ok-pairs.pairs.items c.in-Ok.ensures.pairs (omega (arith, size, some))
+    some_segments c.in-Ok-group_in_place.segments c.in_ok-pairs.pairs.items c.in-Ok-group_in_place.ensures.pairs (omega (arith, size, some))
 
-pub returns-in-Ok-clause-docs : goal.returns-in-Ok-clause-docs
-returns-in-Ok-clause-docs c =
+pub returns-in-Ok-group_in_place-clause-docs : goal.returns-in-Ok-group_in_place-clause-docs
+returns-in-Ok-group_in_place-clause-docs c =
     let postings = c.args.list.now.postings in
     let d = length c.args.lengths.now in
-    are_docs d c.in-Ok.segments c.requires.list.few (segments_below d c.in-Ok.segments c.in_ok-pairs.pairs.items c.in-Ok.ensures.pairs
+    are_docs d c.in-Ok-group_in_place.segments c.requires.list.few (segments_below d c.in-Ok-group_in_place.segments c.in_ok-pairs.pairs.items c.in-Ok-group_in_place.ensures.pairs
     (docs_below_by (λ (p : Posting). impact_of c.args.bits c.args.range (weight_in c.args.rule c.args.lengths.now c.args.total (length postings) p)) c.args.list.now d c.in_ok-pairs.pairs.items c.in_ok-pairs.ensures.pairs c.requires.list.below))

@@ -1,0 +1,9 @@
+use Rattle.std.proofs.Common.{length}
+use Rattle.std.specs.Prelude.{⊤}
+use Rattle.impact_segments.proofs.spares.Spares.take_back.Given as goal
+
+abbrev pub invariant-segments : goal.invariant-segments
+invariant-segments l = ⊤
+
+abbrev pub decreases-segments : goal.decreases-segments
+decreases-segments l = length l.segments.items
