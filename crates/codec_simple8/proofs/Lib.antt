@@ -13,4 +13,5 @@ pub mod Moves
 pub mod Fields
 pub mod WordLists
 pub mod Reading
+pub mod Fours
 pub mod PayloadLaws

@@ -70,6 +70,11 @@ count_others s others within =
     let v : nat_le (count_of s) 60 ≡ true = rw u at t in
     grind (arith, nat_tests)
 
+-- all but the last have gaps of at most 30 bits
+pub narrow_others : (s : ℕ) → s < 15 → width_of s ≤ 30
+unfolding width_of
+narrow_others s within = let t = at_each (λ s. nat_le (width_of s) 30) 15 refl s within in grind (arith, nat_tests)
+
 -- only the words of the last one have one gap
 pub last_only : (s : ℕ) → s < 16 → count_of s ≤ 1 → s ≡ 15
 unfolding count_of

@@ -1,12 +1,16 @@
 -- Trying the selectors from the least one on, while the gaps are passed over once.
-use Rattle.std.proofs.Common.{◌≡◌, ℕ, zero, suc, ◌+◌, ◌^◌, ◌<◌, ◌≤◌, true, false, List, [], ◌∷◌, length, take, get_or, ◌⊎◌, ◌≢◌, inl, inr, refl, sym, ap, subst, ◌∙◌, arith}
-use Rattle.std.specs.Prelude.{nat_lt, nat_le}
+use Rattle.std.proofs.Common.{◌≡◌, ℕ, zero, suc, ◌+◌, ◌-◌, ◌^◌, ◌<◌, ◌≤◌, true, false, List, [], ◌∷◌, length, take, get_or, ◌⊎◌, ◌≢◌, inl, inr, refl, sym, ap, subst, ◌∙◌, arith}
+use Rattle.std.specs.Prelude.{nat_lt, nat_le, slice_index}
 use Rattle.std.proofs.lemmas.Bool.{cases_eq}
 use Rattle.std.proofs.lemmas.Bool.Decides.{nat_tests}
 use Rattle.std.proofs.lemmas.List.{get_or-take, length-take, take-take}
 use Rattle.std.proofs.lemmas.List.Folds.{list_all_more, list_all_at}
 use Rattle.std.proofs.Math.Nat.{pow-le-pow_right}
+use Rattle.std.specs.List.Sorted.{IsStrictlyIncreasing}
+use Rattle.jass_base.specs.Gaps.{gaps_of}
 use Rattle.codec_simple8.specs.Simple8.{count_of, width_of, takes, selector_of}
+use Rattle.codec_simple8.specs.Words.{Follows}
+use Rattle.codec_simple8.proofs.GapLists.{later_gap}
 use Rattle.codec_simple8.proofs.Digits.{Below, Below-head, Below-tail, Below-cons, Below-wider}
 use Rattle.codec_simple8.proofs.Selectors.{selector_is, last_takes}
 use Rattle.codec_simple8.proofs.Tables.{count_some, count_most, count_falls, width_rises}
@@ -82,3 +86,35 @@ tried_all gaps selector seen t all =
     subst (Below (2 ^ width_of selector)) (take-take (count_of selector) seen gaps all) (Below-take (2 ^ width_of selector) (count_of selector) (take seen gaps) t.narrow) in
     let taken : takes selector gaps ≡ true = rw (enough, narrow) refl in
     (sym (selector_is selector gaps taken t.small t.none), room)
+
+-- ---- the gap of a document
+
+rises : (docs : List ℕ) → IsStrictlyIncreasing docs → (at : ℕ) → 0 < at → at < length docs → slice_index docs (at - 1) + 1 ≤ slice_index docs at
+rises docs rising zero some within = absurd (omega arith)
+rises docs rising (suc k) some within =
+    let step : slice_index docs k < slice_index docs (k + 1) = rising k (omega (arith, within)) in
+    let here : k + 1 ≡ suc k = omega arith in
+    let there : suc k - 1 ≡ k = omega arith in
+    let step' : slice_index docs k < slice_index docs (suc k) = rw here at step in
+    rw there (omega (arith, step'))
+
+pub record Gap (docs : List ℕ) (at least : ℕ) : Type 0 where
+  pub low : least ≤ slice_index docs at
+  pub gap : slice_index docs at - least ≡ slice_index (gaps_of docs) at
+
+pub gap_above : (docs : List ℕ) (at least : ℕ) → IsStrictlyIncreasing docs → at < length docs → Follows docs at least → Gap docs at least
+gap_above [] at least rising within f = absurd (omega arith)
+gap_above (doc ∷ docs) zero least rising within f =
+    let none = f.first refl in
+    record { low = omega (arith, none); gap = omega (arith, none) }
+gap_above (doc ∷ docs) (suc k) least rising within f =
+    let is = f.later (omega arith) in
+    let step = rises (doc ∷ docs) rising (suc k) (omega arith) within in
+    record { low = omega (arith, is, step); gap = omega (arith, is, later_gap 0 (doc ∷ docs) (suc k) (omega arith) within) }
+
+-- behind a document
+pub follows : (docs : List ℕ) (at next : ℕ) → next ≡ at + 1 → Follows docs next (slice_index docs at + 1)
+follows docs at next is = record {
+  first = λ none. absurd (omega (arith, none, is));
+  later = λ some. ap (λ k. slice_index docs k + 1) (let e : at ≡ next - 1 = omega (arith, is) in e);
+}

@@ -3,7 +3,7 @@ ghost use Rattle.jass_base.specs.Gaps.{AreDocs};
 ghost use Rattle.codec_simple8.specs.Cursor.{Gives, Moved};
 ghost use Rattle.codec_simple8.specs.Simple8.{simple8_of};
 
-use crate::values::put_gaps;
+use crate::rows::put_fields;
 use crate::word::{count_at, word_at};
 
 // The most documents of a word whose gaps have bits.
@@ -96,7 +96,7 @@ impl Cursor {
             self.zeros = count as u32;
             return self.put_zeros(out, filled);
         }
-        self.least = put_gaps(word / 16, selector, self.least, out, filled);
+        self.least = put_fields(word / 16, selector, self.least, out, filled);
         filled + count
     }
 

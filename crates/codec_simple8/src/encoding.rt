@@ -1,6 +1,7 @@
 ghost use Rattle.std.specs.Prelude.{◌≡◌, ℕ, ◌+◌, ◌<◌, ◌≤◌, ◌^◌, ◌++◌, All, drop, length, slice_index, nat_lt, OnOk, OnErr};
 ghost use Rattle.jass_base.specs.Gaps.{AreDocs, gaps_of};
-ghost use Rattle.codec_simple8.specs.Simple8.{count_of, selector_of, simple8_of, width_of, word_of};
+ghost use Rattle.codec_simple8.specs.Simple8.{count_of, selector_of, simple8_of, word_of};
+ghost use Rattle.codec_simple8.specs.Words.{Follows};
 
 use crate::word::{count_at, width_at};
 use jass_base::{NoMemory, Row};
@@ -54,12 +55,18 @@ fn selector_at(docs: &[u32], at: usize) -> usize
 {
     let left = docs.len() - at;
     let mut selector = 0;
+    let mut count = count_at(0);
+    let mut width = width_at(0);
     let mut seen = 0;
-    while seen < count_at(selector) {
-        if count_at(selector) <= left && holds(selector, gap_at(docs, at + seen)) {
+    let mut least = least_at(docs, at);
+    while seen < count {
+        if count <= left && holds(width, docs[at + seen] - least) {
+            least = docs[at + seen] + 1;
             seen += 1;
         } else {
             selector += 1;
+            count = count_at(selector);
+            width = width_at(selector);
         }
     }
     selector
@@ -83,13 +90,23 @@ fn word_from(docs: &[u32], at: usize, selector: usize) -> u64
     (values << 4) | selector as u64
 }
 
-// Whether the width of a selector holds a gap.
+// Whether a width holds a gap.
 #[inline(always)]
-fn holds(selector: usize, gap: u32) -> bool
-    requires { selector < 16 }
-    ensures { result ≡ nat_lt gap (2 ^ width_of selector) }
+fn holds(width: u32, gap: u32) -> bool
+    requires { width ≤ 60 }
+    ensures { result ≡ nat_lt gap (2 ^ width) }
 {
-    u64::from(gap) >> width_at(selector) == 0
+    u64::from(gap) >> width == 0
+}
+
+// The least that the document at a place can be.
+#[inline(always)]
+fn least_at(docs: &[u32], at: usize) -> u32
+    requires docs { (d : ℕ) × AreDocs d docs.now }
+    requires within { at < length docs.now }
+    ensures { Follows docs.now at result }
+{
+    if at == 0 { 0 } else { docs[at - 1] + 1 }
 }
 
 #[inline(always)]

@@ -8,6 +8,7 @@ mod cursor;
 mod encoding;
 mod handing;
 pub mod laws;
+mod rows;
 mod spelling;
 mod sums;
 #[cfg(test)]

@@ -27,7 +27,9 @@ loop-i-preserved c =
     let takes_them = taken c.args.docs.now c.args.at c.args.selector c.requires.docs.0 c.requires.docs.1 c.requires.selectors c.requires.selector c.requires.few in
     let long = length-take-le (count_of c.args.selector) (drop c.args.at (gaps_of c.args.docs.now)) (takes_enough c.args.selector (drop c.args.at (gaps_of c.args.docs.now)) takes_them) in
     let short : width_of c.args.selector * length (take (count_of c.args.selector) (drop c.args.at (gaps_of c.args.docs.now))) ≤ 60 = rw long (bits_most c.args.selector c.requires.selectors) in
-    let put = value_put (width_of c.args.selector) c.loop-i.i (take (count_of c.args.selector) (drop c.args.at (gaps_of c.args.docs.now))) (takes_narrow c.args.selector (drop c.args.at (gaps_of c.args.docs.now)) takes_them) short (omega (arith, c.loop-i-test.true)) (omega (arith, long, c.loop-i.invariant.0)) in
+    let put = value_put (width_of c.args.selector) c.loop-i.i (take (count_of c.args.selector) (drop c.args.at (gaps_of c.args.docs.now)))
+    (takes_narrow c.args.selector (drop c.args.at (gaps_of c.args.docs.now)) takes_them) short (omega (arith, c.loop-i-test.true))
+    (omega (arith, long, c.loop-i.invariant.0)) in
     let value : c.from.result ≡ get_or (take (count_of c.args.selector) (drop c.args.at (gaps_of c.args.docs.now))) (c.loop-i.i - 1) 0 =
     c.from.ensures ∙ c.gap_at.ensures.gap ∙ sym (get_or-drop c.args.at (gaps_of c.args.docs.now) (c.loop-i.i - 1) 0) ∙ sym (get_or-take (count_of c.args.selector) (drop c.args.at (gaps_of c.args.docs.now)) (c.loop-i.i - 1) 0 (omega (arith, c.loop-i.invariant.0, c.loop-i-test.true))) in
     (omega (arith, c.loop-i.invariant.0), rw (c.width_at-width.ensures, value, c.loop-i.invariant.1) put)

@@ -51,15 +51,15 @@ pub returns-then-selector-lt2-clause-more : goal.returns-then-selector-lt2-claus
 returns-then-selector-lt2-clause-more c =
     c.put_zeros.ensures.more (omega (arith, c.count_at-count.ensures, count_some (c.word_at-word.result % 16) (omega arith))) (omega (arith, c.requires.room))
 
-pub put_gaps-self-requires-clause-room : goal.put_gaps-self-requires-clause-room
-put_gaps-self-requires-clause-room c = omega (arith, count_others (c.word_at-word.result % 16) c.if-selector-lt2.false (omega arith), c.requires.room, c.told-out)
+pub put_fields-self-requires-clause-room : goal.put_fields-self-requires-clause-room
+put_fields-self-requires-clause-room c = omega (arith, c.requires.room, c.told-out)
 
-pub put_gaps-self-requires-clause-least : goal.put_gaps-self-requires-clause-least
-put_gaps-self-requires-clause-least c = given_least c.args.self.now c.args.bytes.now c.requires.stands.0 c.requires.zeros c.requires.some c.requires.stands.1
+pub put_fields-self-requires-clause-least : goal.put_fields-self-requires-clause-least
+put_fields-self-requires-clause-least c = given_least c.args.self.now c.args.bytes.now c.requires.stands.0 c.requires.zeros c.requires.some c.requires.stands.1
 
-pub put_gaps-self-requires-clause-below : goal.put_gaps-self-requires-clause-below
+pub put_fields-self-requires-clause-below : goal.put_fields-self-requires-clause-below
 unfolding gaps_in
-put_gaps-self-requires-clause-below c =
+put_fields-self-requires-clause-below c =
     rw c.word_at-word.ensures (subst (All (λ doc. doc < 2 ^ 26)) (word_docs c.args.self.now c.args.bytes.now c.requires.stands.0 c.requires.zeros c.requires.some c.requires.stands.1)
     (All-take (λ doc. doc < 2 ^ 26) (count_of (next_word c.args.self.now c.args.bytes.now % 16)) c.requires.stands.0 c.requires.stands.1.below))
 
@@ -70,12 +70,12 @@ pub returns-clause-moved : goal.returns-clause-moved
 unfolding gaps_in
 returns-clause-moved c =
     let count : c.count_at-count.result ≡ count_of (next_word c.args.self.now c.args.bytes.now % 16) = c.count_at-count.ensures ∙ ap (λ word. count_of (word % 16)) c.word_at-word.ensures in
-    let least : c.put_gaps-self.result ≡ least_behind c.args.self.now.least (gaps_in (next_word c.args.self.now c.args.bytes.now)) = c.put_gaps-self.ensures.next ∙ ap (λ word. least_behind c.args.self.now.least (gaps_in word)) c.word_at-word.ensures in
+    let least : c.put_fields-self.result ≡ least_behind c.args.self.now.least (gaps_in (next_word c.args.self.now c.args.bytes.now)) = c.put_fields-self.ensures.next ∙ ap (λ word. least_behind c.args.self.now.least (gaps_in word)) c.word_at-word.ensures in
     let room : c.args.filled + count_of (next_word c.args.self.now c.args.bytes.now % 16) ≤ 128 =
     subst (λ word. c.args.filled + count_of (word % 16) ≤ 128) c.word_at-word.ensures (omega (arith, count_others (c.word_at-word.result % 16) c.if-selector-lt2.false (omega arith), c.requires.room)) in
-    let put : take (c.args.filled + count_of (next_word c.args.self.now c.args.bytes.now % 16)) c.put_gaps-self.new.out ≡ take c.args.filled c.args.out.now ++ docs_from c.args.self.now.least (gaps_in (next_word c.args.self.now c.args.bytes.now)) =
-    subst (λ word. take (c.args.filled + count_of (word % 16)) c.put_gaps-self.new.out ≡ take c.args.filled c.args.out.now ++ docs_from c.args.self.now.least (gaps_in word)) c.word_at-word.ensures c.put_gaps-self.ensures.docs in
-    rw (count, least) (moved_word c.args.self.now c.args.filled c.args.bytes.now c.args.out.now c.put_gaps-self.new.out c.requires.zeros c.requires.some room put)
+    let put : take (c.args.filled + count_of (next_word c.args.self.now c.args.bytes.now % 16)) c.put_fields-self.new.out ≡ take c.args.filled c.args.out.now ++ docs_from c.args.self.now.least (gaps_in (next_word c.args.self.now c.args.bytes.now)) =
+    subst (λ word. take (c.args.filled + count_of (word % 16)) c.put_fields-self.new.out ≡ take c.args.filled c.args.out.now ++ docs_from c.args.self.now.least (gaps_in word)) c.word_at-word.ensures c.put_fields-self.ensures.docs in
+    rw (count, least) (moved_word c.args.self.now c.args.filled c.args.bytes.now c.args.out.now c.put_fields-self.new.out c.requires.zeros c.requires.some room put)
 
 pub returns-clause-left : goal.returns-clause-left
 returns-clause-left c = omega (arith, c.count_at-count.ensures, count_some (c.word_at-word.result % 16) (omega arith), c.requires.some)
