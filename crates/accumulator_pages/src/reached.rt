@@ -47,13 +47,6 @@ impl Reached {
         &self.docs[..self.count]
     }
 
-    /// How many documents more there is room for.
-    pub fn spare(&self) -> usize
-        ensures { length self.now.docs + result ≡ self.now.room }
-    {
-        self.docs.len() - self.count
-    }
-
     /// Forgets all documents.
     pub fn clear(&mut self)
         ensures docs { self.new.docs ≡ [] }

@@ -101,7 +101,9 @@ module _ (rule : Rule) (docs : List DocRecord) (bits : Bits) (range : Range) whe
       → flat_map (λ (l : PostingsList). sorted (entry_cmp (slice_cmp nat_cmp)) (E l)) (sorted term_cmp (filter has_postings lists)) ≡ sorted (entry_cmp (slice_cmp nat_cmp)) (flat_map E lists)
   one_index lists differ =
       let some : List PostingsList = filter has_postings lists in
-      by_term (λ (l : PostingsList). l.term) E (λ l. own_term rule (lengths_in docs) (total_length docs) bits range l.term l.postings) has_postings (λ l h. none_of _ l.postings h) lists (sorted term_cmp some) (IsPermutation-sym some (sorted term_cmp some) (sorted_is_permutation term_cmp some)) (listed_rises lists differ)
+      by_term (λ (l : PostingsList). l.term) E (λ l. own_term rule (lengths_in docs) (total_length docs) bits range l.term l.postings) has_postings
+      (λ l h. none_of _ l.postings h) lists (sorted term_cmp some) (IsPermutation-sym some (sorted term_cmp some) (sorted_is_permutation term_cmp some))
+      (listed_rises lists differ)
 
 -- ranges that give the same impacts give the same entries
 pub same_entries : (rule : Rule) (docs : List DocRecord) (bits : Bits) (range other : Range) → ((w : ℕ) → impact_of bits range w ≡ impact_of bits other w) → (list : PostingsList) → list_entries rule docs bits range list ≡ list_entries rule docs bits other list

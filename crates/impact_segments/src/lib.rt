@@ -23,8 +23,7 @@ pub use building::build;
 pub use flattening::entries_of;
 pub use grouping::group;
 pub use one_list::{
-    SegmentsFault, length_norms, segments_by_norms, segments_by_scratch, segments_of,
-    widen_by_norms, widen_list,
+    SegmentsFault, length_norms, segments_by_scratch, segments_of, widen_by_norms, widen_list,
 };
 pub use scratch::Scratch;
 

@@ -212,47 +212,7 @@ pub fn segments_of(
     )
 }
 
-/// What `segments_of` makes, by the documents' norms.
-pub fn segments_by_norms(
-    alloc: Global,
-    rule: Rule,
-    bits: Bits,
-    range: Range,
-    total: u64,
-    list: &PostingsList,
-    lengths: &[u32],
-    norms: &[u64],
-) -> Result<Row<Segment>, SegmentsFault>
-    requires list { IsListOf lengths.now total list.now }
-    requires width { IsImpactWidth bits }
-    requires low { EndsLow bits range }
-    requires norms { norms.now ≡ norms_in lengths.now total }
-    ensures exact { IfOk result (λ segments. map segment_data segments
-        ≡ list_segments rule lengths.now total bits range list.now.postings) }
-    ensures postings { IfOk result (λ segments. sum_by (λ (s : Segment). length s.docs) segments
-        ≡ length list.now.postings) }
-    ensures some { IfOk result (λ segments. 1 ≤ length segments) }
-    ensures falling { IfOk result (λ segments. AllPairs FallsTo segments) }
-    ensures once { IfOk result (λ segments. AllPairs SharesNoDocument segments) }
-    ensures docs { IfOk result (All (λ (s : Segment). AreDocs (length lengths.now) s.docs)) }
-    ensures inside { OnOk result (outside bits range (weights_in rule lengths.now total list.now.postings) ≡ None) }
-    ensures fault { IfErr result (Unmade (outside bits range (weights_in rule lengths.now total list.now.postings))) }
-{
-    let mut scratch = Scratch::new(alloc);
-    make_segments(
-        &mut scratch,
-        alloc,
-        rule,
-        bits,
-        range,
-        total,
-        list,
-        lengths,
-        Some(norms),
-    )
-}
-
-/// What `segments_by_norms` makes, with what a scratch keeps from list to list.
+/// What `segments_of` makes, by the documents' norms and with what a scratch keeps from list to list.
 pub fn segments_by_scratch(
     scratch: &mut Scratch,
     alloc: Global,

@@ -8,8 +8,8 @@ ghost use Rattle.jass_base.specs.declared.postings_list.PostingsList.{PostingsLi
 ghost use Rattle.impact_segments.specs.Pairs.{pair_docs};
 
 use crate::{
-    Scratch, SegmentsFault, build, entries_of, group, length_norms, segments_by_norms,
-    segments_by_scratch, segments_of, widen_by_norms, widen_list,
+    Scratch, SegmentsFault, build, entries_of, group, length_norms, segments_by_scratch,
+    segments_of, widen_by_norms, widen_list,
 };
 use jass_base::{
     Collection, DocRecord, Header, NoMemory, Posting, PostingsList, Row, Segment, Text,
@@ -39,12 +39,6 @@ fn a_range_grows_by_one_list(rt: HostRuntime) {
     };
     assert!(&rt; range_of_three(rt.alloc()).is_ok_and(|range| range == wanted));
     assert!(&rt; range_by_norms(rt.alloc()).is_ok_and(|range| range == wanted));
-}
-
-#[test]
-fn segments_by_the_norms_of_documents(rt: HostRuntime) {
-    let segments = impacts_by_norms(rt.alloc());
-    assert!(&rt; segments.is_ok_and(|segments| are_impacts(segments.as_slice())));
 }
 
 #[test]
@@ -142,30 +136,6 @@ fn range_by_norms(alloc: Global) -> Result<Range, NoMemory> {
 }
 
 // The segments of the list by BM25, by the norms of the documents.
-fn impacts_by_norms(alloc: Global) -> Result<Row<Segment>, SegmentsFault> {
-    match (three(alloc, 9), length_norms(alloc, 15, &[9, 5, 1])) {
-        (Ok(list), Ok(norms)) => {
-            let range = Range {
-                least: 401,
-                greatest: 572,
-            };
-            let norms = norms.as_slice();
-            segments_by_norms(
-                alloc,
-                Rule::Bm25,
-                Bits::Of(8),
-                range,
-                15,
-                &list,
-                &[9, 5, 1],
-                norms,
-            )
-        }
-        _ => Err(SegmentsFault::NoMemory),
-    }
-}
-
-// The same segments, by what is kept of lists before.
 fn impacts_by_scratch(alloc: Global, scratch: &mut Scratch) -> Result<Row<Segment>, SegmentsFault> {
     match (three(alloc, 9), length_norms(alloc, 15, &[9, 5, 1])) {
         (Ok(list), Ok(norms)) => {
