@@ -148,7 +148,9 @@ puts_keep docs table (body ∷ bodies) (x ∷ xs) final n d puts is =
     let other : n ≢ x.number = λ same. absurd (let a = has_is table n d is in let b = ap (λ m. has_value table m) same in let c = puts.0.missing in cc) in
     puts_keep docs (with_value table x.number x.doc) bodies xs final n d puts.1 (put_other table x.number n x.doc other ∙ is)
 
-puts_differ : (docs : ℕ) (table : List (Option DocData)) (bodies : List (List ℕ)) (xs : List NumberedDoc) (final : List (Option DocData)) (n : ℕ) (d : DocData) → Puts docs table bodies xs final → get_or table n None ≡ Some d → AllByRecursion (λ m. nat_eq n m ≡ false) (map (λ (x : NumberedDoc). x.number) xs)
+puts_differ : (docs : ℕ) (table : List (Option DocData)) (bodies : List (List ℕ)) (xs : List NumberedDoc) (final : List (Option DocData)) (n : ℕ) (d : DocData)
+    → Puts docs table bodies xs final → get_or table n None ≡ Some d → AllByRecursion (λ m. nat_eq n m ≡ false)
+    (map (λ (x : NumberedDoc). x.number) xs)
 puts_differ docs table [] [] final n d puts is = tt
 puts_differ docs table [] (x ∷ xs) final n d puts is = absurd puts
 puts_differ docs table (body ∷ bodies) [] final n d puts is = absurd puts
@@ -265,7 +267,9 @@ module _ (laws : WireLaws) where
         missing = sym (among_all table y.number) ∙ t.2;
       })
 
-  pub doc_read : (docs : ℕ) (table : List (Option DocData)) (at from : ℕ) (body rest : List ℕ) (n : ℕ) (d : DocData) → docs ≤ 2 ^ 26 → IsDoc body n d → n < docs → has_value table n ≡ false → doc_at docs (numbers_of (numbered_from 0 table)) at (record { from = from; body = body; rest = rest }) ≡ Ok (record { number = n; doc = d })
+  pub doc_read : (docs : ℕ) (table : List (Option DocData)) (at from : ℕ) (body rest : List ℕ) (n : ℕ) (d : DocData) → docs ≤ 2 ^ 26 → IsDoc body n d → n < docs
+      → has_value table n ≡ false → doc_at docs (numbers_of (numbered_from 0 table)) at (record { from = from; body = body; rest = rest }) ≡ Ok
+      (record { number = n; doc = d })
   unfolding doc_at
   doc_read docs table at from body rest n d few is below missing =
       let x : NumberedDoc = record { number = n; doc = d } in
@@ -362,7 +366,9 @@ module _ (laws : WireLaws) where
       let all = full final (omega (arith, part.within, count)) in
       same_lists (values_of final) ds count (λ n d is. part.there n d (ap (λ (t : List (Option DocData)). get_or t n None) all ∙ get_full (values_of final) n ∙ is))
 
-  pub docs_are_read : (ds : List DocData) (at : ℕ) (front rest : List ℕ) (bodies : List (List ℕ)) → length ds ≤ 2 ^ 26 → Spells IsSized front bodies → AreDocs ds bodies → at + length front ≤ 2 ^ 32 → DocsThere (docs_at (length ds) (length ds) [] at (front ++ rest)) ds (at + length front) (length ds) rest
+  pub docs_are_read : (ds : List DocData) (at : ℕ) (front rest : List ℕ) (bodies : List (List ℕ)) → length ds ≤ 2 ^ 26 → Spells IsSized front bodies
+      → AreDocs ds bodies → at + length front ≤ 2 ^ 32 → DocsThere (docs_at (length ds) (length ds) [] at (front ++ rest)) ds (at + length front)
+      (length ds) rest
   docs_are_read ds at front rest bodies few messages are short =
       let start : IsPart ds [] = record { there = λ n d got. absurd cc; within = omega arith } in
       let r = docs_read ds [] at front rest bodies are.numbers few messages are.each are.differ (all_missing are.numbers) start short in

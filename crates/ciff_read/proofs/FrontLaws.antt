@@ -170,14 +170,20 @@ lists_front (suc n) docs before terms at s t is =
     more : ℕ → List ℕ → ListData → Result ListsRead CiffRefusal
     more end rest list = lists_at n docs (before + length list.postings) (terms ++ list.term ∷ []) end rest >>= λ later. Ok (record { lists = list ∷ later.lists; at = later.at; rest = later.rest })
 
-    after : ((before : ℕ) (terms : List (List ℕ)) (at : ℕ) (s t : List ℕ) → SameRest at s t → Alike SameLists (lists_at n docs before terms at s) (lists_at n docs before terms at t)) → (m k : Message) → SameMessage (4294967312 - at) (length s) at m k → (list : ListData) → Alike SameLists (more (message_end m) m.rest list) (more (message_end m) k.rest list)
+    after :
+        ((before : ℕ) (terms : List (List ℕ)) (at : ℕ) (s t : List ℕ) → SameRest at s t → Alike SameLists (lists_at n docs before terms at s) (lists_at n docs before terms at t))
+        → (m k : Message) → SameMessage (4294967312 - at) (length s) at m k → (list : ListData)
+        → Alike SameLists (more (message_end m) m.rest list) (more (message_end m) k.rest list)
     after again m k message list =
         alike_then SameLists SameLists (lists_at n docs (before + length list.postings) (terms ++ list.term ∷ []) (message_end m) m.rest) (lists_at n docs (before + length list.postings) (terms ++ list.term ∷ []) (message_end m) k.rest)
         (λ later. Ok (record { lists = list ∷ later.lists; at = later.at; rest = later.rest })) (λ later. Ok (record { lists = list ∷ later.lists; at = later.at; rest = later.rest }))
         (again (before + length list.postings) (terms ++ list.term ∷ []) (message_end m) m.rest k.rest (rest_there at s t m k is message))
         (λ x y same. record { lists = ap (λ (ls : List ListData). list ∷ ls) same.lists; at = same.at; rest = same.rest })
 
-    behind : ((before : ℕ) (terms : List (List ℕ)) (at : ℕ) (s t : List ℕ) → SameRest at s t → Alike SameLists (lists_at n docs before terms at s) (lists_at n docs before terms at t)) → (m k : Message) → SameMessage (4294967312 - at) (length s) at m k → Alike SameLists (list_at docs before terms at m >>= more (message_end m) m.rest) (list_at docs before terms at k >>= more (message_end k) k.rest)
+    behind :
+        ((before : ℕ) (terms : List (List ℕ)) (at : ℕ) (s t : List ℕ) → SameRest at s t → Alike SameLists (lists_at n docs before terms at s) (lists_at n docs before terms at t))
+        → (m k : Message) → SameMessage (4294967312 - at) (length s) at m k → Alike SameLists (list_at docs before terms at m >>= more (message_end m) m.rest)
+        (list_at docs before terms at k >>= more (message_end k) k.rest)
     behind again m k message =
         alike_then (λ a b. a ≡ b) SameLists (list_at docs before terms at m) (list_at docs before terms at k) (more (message_end m) m.rest) (more (message_end k) k.rest)
         (alike_equal (list_at docs before terms at m) (list_at docs before terms at k) (list_same at m k message.from message.body docs before terms))
@@ -201,7 +207,10 @@ docs_front (suc n) docs records at s t is =
     more : ℕ → List ℕ → NumberedDoc → Result DocsRead CiffRefusal
     more end rest x = docs_at n docs (inserted x records) end rest
 
-    behind : ((records : List NumberedDoc) (at : ℕ) (s t : List ℕ) → SameRest at s t → Alike SameDocs (docs_at n docs records at s) (docs_at n docs records at t)) → (m k : Message) → SameMessage (4294967312 - at) (length s) at m k → Alike SameDocs (doc_at docs (numbers_of records) at m >>= more (message_end m) m.rest) (doc_at docs (numbers_of records) at k >>= more (message_end k) k.rest)
+    behind :
+        ((records : List NumberedDoc) (at : ℕ) (s t : List ℕ) → SameRest at s t → Alike SameDocs (docs_at n docs records at s) (docs_at n docs records at t))
+        → (m k : Message) → SameMessage (4294967312 - at) (length s) at m k → Alike SameDocs
+        (doc_at docs (numbers_of records) at m >>= more (message_end m) m.rest) (doc_at docs (numbers_of records) at k >>= more (message_end k) k.rest)
     behind again m k message =
         alike_then (λ a b. a ≡ b) SameDocs (doc_at docs (numbers_of records) at m) (doc_at docs (numbers_of records) at k) (more (message_end m) m.rest) (more (message_end k) k.rest)
         (alike_equal (doc_at docs (numbers_of records) at m) (doc_at docs (numbers_of records) at k) (doc_same at m k message.from message.body docs (numbers_of records)))

@@ -112,7 +112,9 @@ module _ (laws : WireLaws) where
         new = (g.unseen, h.new);
       })
 
-  pub lists_read : (docs before : ℕ) (terms : List (List ℕ)) (at : ℕ) (front rest : List ℕ) (bodies : List (List ℕ)) (ls : List ListData) → docs ≤ 2 ^ 26 → Spells IsSized front bodies → AllZip (IsList docs) bodies ls → AreNew terms ls → before + postings_count ls ≤ 2 ^ 29 → at + length front ≤ 2 ^ 32
+  pub lists_read : (docs before : ℕ) (terms : List (List ℕ)) (at : ℕ) (front rest : List ℕ) (bodies : List (List ℕ)) (ls : List ListData) → docs ≤ 2 ^ 26
+      → Spells IsSized front bodies → AllZip (IsList docs) bodies ls → AreNew terms ls → before + postings_count ls ≤ 2 ^ 29
+      → at + length front ≤ 2 ^ 32
       → lists_at (length ls) docs before terms at (front ++ rest) ≡ Ok (record { lists = ls; at = at + length front; rest = rest })
   unfolding lists_at
   lists_read docs before terms at front rest [] [] few_docs messages are new few short =
@@ -135,7 +137,8 @@ module _ (laws : WireLaws) where
       let list = list_read laws docs before terms at (at + length sized.size) body (other ++ rest) l few_docs (record { is = are.0; unseen = new.0; few = omega (arith, few, count-cons l ls) }) in
       let inner = lists_read docs (before + length l.postings) (terms ++ l.term ∷ []) (at + length first) other rest bodies ls few_docs messages.4 are.1 new.1 (omega (arith, few, count-cons l ls)) (omega (arith, length-append first other)) in
       let place : at + length first + length other ≡ at + length front = omega (arith, length-append first other) in
-      ap (λ (r : Result Message CiffRefusal). r >>= λ m. list_at docs before terms at m >>= λ list. lists_at (length ls) docs (before + length list.postings) (terms ++ list.term ∷ []) (message_end m) m.rest >>= λ later. Ok (record { lists = list ∷ later.lists; at = later.at; rest = later.rest })) read
+      ap (λ (r : Result Message CiffRefusal). r >>= λ m. list_at docs before terms at m >>= λ list. lists_at (length ls) docs (before + length list.postings)
+      (terms ++ list.term ∷ []) (message_end m) m.rest >>= λ later. Ok (record { lists = list ∷ later.lists; at = later.at; rest = later.rest })) read
       ∙ ap (λ (r : Result ListData CiffRefusal). r >>= λ list. lists_at (length ls) docs (before + length list.postings) (terms ++ list.term ∷ []) (message_end m) m.rest >>= λ later. Ok (record { lists = list ∷ later.lists; at = later.at; rest = later.rest })) list
       ∙ ap (λ n. lists_at (length ls) docs (before + length l.postings) (terms ++ l.term ∷ []) n (other ++ rest) >>= λ later. Ok (record { lists = l ∷ later.lists; at = later.at; rest = later.rest })) ends
       ∙ ap (λ (r : Result ListsRead CiffRefusal). r >>= λ later. Ok (record { lists = l ∷ later.lists; at = later.at; rest = later.rest })) inner

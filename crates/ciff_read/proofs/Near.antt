@@ -120,7 +120,8 @@ module _ (n : ℕ) where
       pub list_near : (docs before : ℕ) (terms : List (List ℕ)) → Near (λ (l : ListData). ⊤) (list_at docs before terms at m)
       unfolding list_at
       list_near docs before terms =
-          then_near (λ (w : ListWalk). AreNear w.entries) (λ (l : ListData). ⊤) (list_walk_at m.from m.body) (λ walked. placed at (judge_list terms walked.start) >>= λ start. postings_of docs before walked.entries >>= λ postings. Ok (record { term = start.term; df = start.df; cf = start.cf; postings = postings }))
+          then_near (λ (w : ListWalk). AreNear w.entries) (λ (l : ListData). ⊤) (list_walk_at m.from m.body)
+          (λ walked. placed at (judge_list terms walked.start) >>= λ start. postings_of docs before walked.entries >>= λ postings. Ok (record { term = start.term; df = start.df; cf = start.cf; postings = postings }))
           (then_near IsNear (λ (w : ListWalk). AreNear w.entries) (walk entry_inside m.from m.body) (λ walked. Ok (record { start = list_start_of walked.fields; entries = walked.entries })) (walk_near entry_inside entry_near (length m.body) m.from m.body last) (λ w is. is))
           (λ w is. then_near (λ (start : ListStart). ⊤) (λ (l : ListData). ⊤) (placed at (judge_list terms w.start)) (λ start. postings_of docs before w.entries >>= λ postings. Ok (record { term = start.term; df = start.df; cf = start.cf; postings = postings }))
           (placed_near at (judge_list terms w.start) first)

@@ -54,7 +54,10 @@ module _ (laws : WireLaws) where
       let fields = w.0.fields in
       let x = a.0 in
       let made = done_is (start_of fields) x w.2 in
-      let t = three_passed (over31 x.header.version || over31 x.lists || over31 x.docs || over31 x.header.total_lists || over31 x.header.total_docs || over63 x.header.total_terms) (not (is_utf8 x.header.description)) (nat_lt (2 ^ 24) x.lists || nat_lt (2 ^ 26) x.docs) Range Text Limit x start (unplaced at (judge_header x) start a.2) in
+      let t = three_passed
+      (over31 x.header.version || over31 x.lists || over31 x.docs || over31 x.header.total_lists || over31 x.header.total_docs || over63 x.header.total_terms)
+      (not (is_utf8 x.header.description)) (nat_lt (2 ^ 24) x.lists || nat_lt (2 ^ 26) x.docs) Range Text Limit x start
+      (unplaced at (judge_header x) start a.2) in
       let ranges = t.0 in
       let limits = t.2 in
       subst (λ (y : FileStart). IsHeader m.body y.header y.lists y.docs) t.3 (record {
@@ -150,7 +153,9 @@ module _ (laws : WireLaws) where
       let same : list_start_of is.fields ≡ x = rw (is.term, is.df, is.cf) refl in
       let have = have_fields 0 (texts_field 4 is.fields) l.postings is.postings in
       let w = list_only laws is.fields (length body) from body is.spelled have (omega arith) in
-      let walked : list_walk_at from body ≡ Ok (record { start = x; entries = w.entries }) = ap (λ (r : Result Walked CiffRefusal). r >>= λ walked. Ok (record { start = list_start_of walked.fields; entries = walked.entries })) w.walked ∙ ap (λ (y : ListStart). Ok (record { start = y; entries = w.entries })) same in
+      let walked : list_walk_at from body ≡ Ok (record { start = x; entries = w.entries }) = ap
+      (λ (r : Result Walked CiffRefusal). r >>= λ walked. Ok (record { start = list_start_of walked.fields; entries = walked.entries })) w.walked
+      ∙ ap (λ (y : ListStart). Ok (record { start = y; entries = w.entries })) same in
       let f1 = f.short in
       let f2 = f.df in
       let f3 = f.cf in

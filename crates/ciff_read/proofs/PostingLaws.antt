@@ -74,7 +74,9 @@ rise_there docs last some (p ∷ ps) rising tf below above =
           (λ is more. rising 0 (omega arith)),
     )
 
-pub judged_ok : (docs before : ℕ) (old : List Posting) (e : Entry) (p : Posting) → docs ≤ 2 ^ 26 → p.doc ≡ last_from 0 old + e.docid → p.tf ≡ e.tf → (nat_lt 0 (length old) ≡ true → last_from 0 old < p.doc) → p.doc < docs → HasTfInRange p → before + length old < 2 ^ 29 → judge docs before old e ≡ Ok p
+pub judged_ok : (docs before : ℕ) (old : List Posting) (e : Entry) (p : Posting) → docs ≤ 2 ^ 26 → p.doc ≡ last_from 0 old + e.docid → p.tf ≡ e.tf
+    → (nat_lt 0 (length old) ≡ true → last_from 0 old < p.doc) → p.doc < docs → HasTfInRange p → before + length old < 2 ^ 29
+    → judge docs before old e ≡ Ok p
 judged_ok docs before old e p few doc tf above below range room =
     let low = range.0 in
     let high = range.1 in

@@ -52,7 +52,10 @@ module _ (total : Result ListsRead CiffRefusal) (left docs before : ℕ) (terms 
 
       pub lists_list_not : (answer : CiffFault) → Fails answer (list_at docs before terms at m) → Fails answer total
       lists_list_not answer fails =
-          fails_as answer _ _ (sym entered) (fails_on answer (next_lists m) (λ later. Ok (behind_lists front later)) (fails_on answer (list_at docs before terms at m) (λ list. lists_at n docs (before + length list.postings) (terms ++ list.term ∷ []) (message_end m) m.rest >>= λ later. Ok (record { lists = list ∷ later.lists; at = later.at; rest = later.rest })) fails))
+          fails_as answer _ _ (sym entered) (fails_on answer (next_lists m) (λ later. Ok (behind_lists front later)) (fails_on answer
+          (list_at docs before terms at m)
+          (λ list. lists_at n docs (before + length list.postings) (terms ++ list.term ∷ []) (message_end m) m.rest >>= λ later. Ok (record { lists = list ∷ later.lists; at = later.at; rest = later.rest }))
+          fails))
 
       pub lists_on : (l : ListData) → list_at docs before terms at m ≡ Ok l → total ≡ with_lists (front ++ l ∷ []) (lists_at n docs (before + length l.postings) (terms ++ l.term ∷ []) (message_end m) m.rest)
       lists_on l is =

@@ -116,7 +116,9 @@ wider (a ∷ b ∷ c ∷ g ∷ h ∷ i ∷ []) docid tf size _ _ _ _ _ _ _ _ _ _
 wider (a ∷ b ∷ c ∷ g ∷ h ∷ i ∷ e ∷ []) docid tf size _ _ _ _ _ _ _ _ _ _ = absurd (omega (arith, size))
 wider (a ∷ b ∷ c ∷ g ∷ h ∷ i ∷ e ∷ t ∷ rest) docid tf size tag long first high top small second low is tf_is = record {
   body = 8 ∷ g ∷ h ∷ i ∷ 16 ∷ t ∷ [];
-  read = ap (λ n. field_at (n ∷ b ∷ c ∷ g ∷ h ∷ i ∷ e ∷ t ∷ rest)) tag ∙ ap (λ n. field_at (34 ∷ n ∷ c ∷ g ∷ h ∷ i ∷ e ∷ t ∷ rest)) long ∙ ap (λ n. field_at (34 ∷ 6 ∷ n ∷ g ∷ h ∷ i ∷ e ∷ t ∷ rest)) first ∙ ap (λ n. field_at (34 ∷ 6 ∷ 8 ∷ g ∷ h ∷ i ∷ n ∷ t ∷ rest)) second ∙ field_of_six 8 g h i 16 t rest;
+  read = ap (λ n. field_at (n ∷ b ∷ c ∷ g ∷ h ∷ i ∷ e ∷ t ∷ rest)) tag ∙ ap (λ n. field_at (34 ∷ n ∷ c ∷ g ∷ h ∷ i ∷ e ∷ t ∷ rest)) long
+      ∙ ap (λ n. field_at (34 ∷ 6 ∷ n ∷ g ∷ h ∷ i ∷ e ∷ t ∷ rest)) first ∙ ap (λ n. field_at (34 ∷ 6 ∷ 8 ∷ g ∷ h ∷ i ∷ n ∷ t ∷ rest)) second
+      ∙ field_of_six 8 g h i 16 t rest;
   spells = λ from. of_six from g h i t high top small low ∙ ap (λ n. read_as n t) (sym is) ∙ ap (read_as docid) (sym tf_is);
   within = omega (arith, size);
 }

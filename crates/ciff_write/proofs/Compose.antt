@@ -22,7 +22,9 @@ module _ {S : Type 0} {written : S → Option (List ℕ)} {faults : S → ℕ} {
       }
 
   -- one text, and then another
-  pub gather_then : {T U E : Type 0} {old mid new : S} {before between after : List ℕ} (first second : List ℕ) {result : Result T E} {u : U} → Gathers {E = E} written faults rest old mid before between first (Ok u) → Gathers written faults rest mid new between after second result → Gathers written faults rest old new before after (first ++ second) result
+  pub gather_then : {T U E : Type 0} {old mid new : S} {before between after : List ℕ} (first second : List ℕ) {result : Result T E} {u : U}
+      → Gathers {E = E} written faults rest old mid before between first (Ok u) → Gathers written faults rest mid new between after second result
+      → Gathers written faults rest old new before after (first ++ second) result
   gather_then {old = old} {mid} {new} {before} {between} {after} first second {result = Ok x} done last =
       let spelled : (done.bytes.0 ++ last.bytes.0) ++ after ≡ before ++ (first ++ second)
       = append_assoc done.bytes.0 last.bytes.0 after ∙ ap (λ (xs : List ℕ). done.bytes.0 ++ xs) last.bytes.2 ∙ sym (append_assoc done.bytes.0 between second) ∙ ap (λ (xs : List ℕ). xs ++ second) done.bytes.2 ∙ append_assoc before first second in
@@ -59,7 +61,13 @@ module _ {S : Type 0} {written : S → Option (List ℕ)} {faults : S → ℕ} {
   -- what is gathered in an empty buffer, and leaves it empty, was put
   pub gather_all_out : {T E : Type 0} {old new : S} {before after : List ℕ} (text : List ℕ) {result : Result T E} → before ≡ [] → IfOk result (λ _. after ≡ []) → Gathers written faults rest old new before after text result → Wrote written faults rest old new text result
   gather_all_out {old = old} {new} {before} text {result = Ok x} before_none none done =
-      record { bytes = subst (λ (sent : List ℕ). Appends (written old) (written new) sent) (sym (append-nil done.bytes.0) ∙ ap (λ (xs : List ℕ). done.bytes.0 ++ xs) (sym none) ∙ done.bytes.2 ∙ ap (λ (xs : List ℕ). xs ++ text) before_none) done.bytes.1; cause = done.cause; rest_stays = done.rest_stays }
+      record {
+        bytes = subst (λ (sent : List ℕ). Appends (written old) (written new) sent)
+            (sym (append-nil done.bytes.0) ∙ ap (λ (xs : List ℕ). done.bytes.0 ++ xs) (sym none) ∙ done.bytes.2 ∙ ap (λ (xs : List ℕ). xs ++ text) before_none)
+            done.bytes.1;
+        cause = done.cause;
+        rest_stays = done.rest_stays;
+      }
   gather_all_out {old = old} {new} {before} text {result = Err e} before_none none done =
       record { bytes = AppendsPrefix-same (written old) (written new) (before ++ text) text (ap (λ (xs : List ℕ). xs ++ text) before_none) done.bytes; cause = done.cause; rest_stays = done.rest_stays }
 

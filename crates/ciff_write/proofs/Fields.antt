@@ -61,7 +61,9 @@ eight_long a b c d e f g h = four_long ((((a ++ b) ++ c) ++ d) ++ e) f g h ∙ a
 
 -- messages in their parts, as they are put
 pub header_spelled : (h : HeaderData) (lists docs n : ℕ) (description : List ℕ) → n ≡ length (header_body h lists docs) → description ≡ h.description →
-    short_varint n ++ (((number_spelling 1 h.version ++ number_spelling 2 lists ++ number_spelling 3 docs ++ number_spelling 4 h.total_lists ++ number_spelling 5 h.total_docs ++ number_spelling 6 h.total_terms) ++ eight_spelling 7 h.average) ++ text_spelling 8 description) ≡ sized (header_body h lists docs)
+    short_varint n ++
+    (((number_spelling 1 h.version ++ number_spelling 2 lists ++ number_spelling 3 docs ++ number_spelling 4 h.total_lists ++ number_spelling 5 h.total_docs ++ number_spelling 6 h.total_terms) ++ eight_spelling 7 h.average)
+    ++ text_spelling 8 description) ≡ sized (header_body h lists docs)
 header_spelled h lists docs n description size is =
     let front : List ℕ = (number_spelling 1 h.version ++ number_spelling 2 lists ++ number_spelling 3 docs ++ number_spelling 4 h.total_lists ++ number_spelling 5 h.total_docs ++ number_spelling 6 h.total_terms) ++ eight_spelling 7 h.average in
     ap (λ (k : ℕ). short_varint k ++ (front ++ text_spelling 8 description)) size ∙ ap (λ (text : List ℕ). short_varint (length (header_body h lists docs)) ++ (front ++ text_spelling 8 text)) is

@@ -28,7 +28,28 @@ pub header_stands : (h : HeaderData) (lists docs : ℕ) → FitsHeader h lists d
 header_stands h lists docs fits average description =
     let table : List WireField = header_table h lists docs in
     let entries : AllByRecursion IsEntry table
-    = (entry 1 (Number h.version) (omega arith) (omega arith) (omega (arith, fits.version)), (entry 2 (Number lists) (omega arith) (omega arith) (omega (arith, fits.few_lists)), (entry 3 (Number docs) (omega arith) (omega arith) (omega (arith, fits.few_docs)), (entry 4 (Number h.total_lists) (omega arith) (omega arith) (omega (arith, fits.total_lists)), (entry 5 (Number h.total_docs) (omega arith) (omega arith) (omega (arith, fits.total_docs)), (entry 6 (Number h.total_terms) (omega arith) (omega arith) (omega (arith, fits.total_terms)), (entry 7 (Eight h.average) (omega arith) (omega arith) average, (entry 8 (Text h.description) (omega arith) (omega arith) description, tt)))))))) in
+    = (
+      entry 1 (Number h.version) (omega arith) (omega arith) (omega (arith, fits.version)),
+      (
+        entry 2 (Number lists) (omega arith) (omega arith) (omega
+            (arith, fits.few_lists)),
+        (
+          entry 3 (Number docs) (omega arith) (omega arith) (omega (arith, fits.few_docs)),
+          (
+            entry 4 (Number h.total_lists)
+                (omega arith) (omega arith) (omega (arith, fits.total_lists)),
+            (
+              entry 5 (Number h.total_docs) (omega arith) (omega arith) (omega
+                  (arith, fits.total_docs)),
+              (
+                entry 6 (Number h.total_terms) (omega arith) (omega arith) (omega (arith, fits.total_terms)),
+                (entry 7 (Eight h.average) (omega arith) (omega arith) average, (entry 8 (Text h.description) (omega arith) (omega arith) description, tt)),
+              ),
+            ),
+          ),
+        ),
+      ),
+    ) in
     let flat : flat_map field_spelling table ≡ header_body h lists docs
     = eight_flat (number_spelling 1 h.version) (number_spelling 2 lists) (number_spelling 3 docs) (number_spelling 4 h.total_lists) (number_spelling 5 h.total_docs) (number_spelling 6 h.total_terms) (eight_spelling 7 h.average) (text_spelling 8 h.description) in
     let number : (i : ℕ) → number_field i (present table) ≡ number_field i table = λ i. kept number_in i 0 absent_number 0 table refl entries in

@@ -239,7 +239,9 @@ unscored_out : (scores : List ℕ) (k least : ℕ) → least_untouched scores �
 unscored_out scores k least is =
     let a = sum_by-append (λ (h : Hit). cond (h.doc == least) 1 0) (drop k (ranked (of_scores scores))) (filter is_unscored (of_scores scores)) in
     let b = sum_by-filter is_unscored (λ (h : Hit). cond (h.doc == least) 1 0) (of_scores scores) in
-    let c = sum_by-same (λ (h : Hit). cond (is_unscored h) (cond (h.doc == least) 1 0) 0) (λ (h : Hit). cond (h.doc == least) 1 0) (of_scores scores) (all_imp (λ (h : Hit). h.score ≡ score_at scores h.doc) (λ (h : Hit). ◌≡◌ {A = ℕ} (cond (is_unscored h) (cond (h.doc == least) 1 0) 0) (cond (h.doc == least) 1 0)) (λ h e. one_of h e) (of_scores scores) (trues scores)) in
+    let c = sum_by-same (λ (h : Hit). cond (is_unscored h) (cond (h.doc == least) 1 0) 0) (λ (h : Hit). cond (h.doc == least) 1 0) (of_scores scores)
+    (all_imp (λ (h : Hit). h.score ≡ score_at scores h.doc) (λ (h : Hit). ◌≡◌ {A = ℕ} (cond (is_unscored h) (cond (h.doc == least) 1 0) 0) (cond (h.doc == least) 1 0)) (λ h e. one_of h e) (of_scores scores) (trues scores))
+    in
     let d = at_least_once least 0 scores (omega arith) (let l = least_is.0 in omega arith) in
     omega arith
   where

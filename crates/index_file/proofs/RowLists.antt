@@ -88,7 +88,9 @@ pub mid_heads : (bytes : List ℕ) (from many : ℕ) (segments part : List Segme
 mid_heads bytes from many segments part same =
     let rest = drop from segments in
     map-append (row_head bytes) (take from segments) (part ++ drop many rest)
-    ∙ ap (λ heads. map (row_head bytes) (take from segments) ++ heads) (map-append (row_head bytes) part (drop many rest) ∙ ap (λ heads. heads ++ map (row_head bytes) (drop many rest)) same ∙ sym (map-append (row_head bytes) (take many rest) (drop many rest)) ∙ ap (map (row_head bytes)) (take-append-drop many rest))
+    ∙ ap (λ heads. map (row_head bytes) (take from segments) ++ heads) (map-append (row_head bytes) part (drop many rest)
+    ∙ ap (λ heads. heads ++ map (row_head bytes) (drop many rest)) same ∙ sym (map-append (row_head bytes) (take many rest) (drop many rest))
+    ∙ ap (map (row_head bytes)) (take-append-drop many rest))
     ∙ sym (map-append (row_head bytes) (take from segments) rest)
     ∙ ap (map (row_head bytes)) (take-append-drop from segments)
 

@@ -58,7 +58,10 @@ heads_on bytes d total front k left above at next s is more end head =
     ∙ ap (λ n. with_heads (front ++ row_head bytes s ∷ []) (read_heads bytes d left n next)) impact
 
 -- rows behind those of before
-pub rows_on : (bytes : List ℕ) (before now new : List Segment) (s : Segment) → now ≡ before ++ drop (length before) now → new ≡ now ++ s ∷ [] → (new ≡ before ++ drop (length before) new) × (map (row_head bytes) (drop (length before) new) ≡ map (row_head bytes) (drop (length before) now) ++ row_head bytes s ∷ []) × (drop (length before) new ≡ drop (length before) now ++ s ∷ [])
+pub rows_on : (bytes : List ℕ) (before now new : List Segment) (s : Segment) → now ≡ before ++ drop (length before) now → new ≡ now ++ s ∷ []
+    → (new ≡ before ++ drop (length before) new) ×
+    (map (row_head bytes) (drop (length before) new) ≡ map (row_head bytes) (drop (length before) now) ++ row_head bytes s ∷ [])
+    × (drop (length before) new ≡ drop (length before) now ++ s ∷ [])
 rows_on bytes before now new s kept put =
     let within : length before ≤ length now = (let e = ap length kept in let f = length-append before (drop (length before) now) in omega (arith, e, f)) in
     let rest : drop (length before) new ≡ drop (length before) now ++ s ∷ [] = ap (drop (length before)) put ∙ drop-append-le (length before) now (s ∷ []) within in (

@@ -133,7 +133,9 @@ row_told bytes v r spelled is = record {
   spelled = ap (λ (all : List ℕ). slice_range all r.place (r.place + (row_head bytes r).size)) (sym spelled) ∙ is.payload.spelled;
 }
 
-pub row_tells : (bytes places text : List ℕ) (rows : List TermRow) (segments : List Segment) (v : FileView) → Stands bytes places text rows segments v → (t s i : ℕ) → SegmentThere bytes segments v t s i → RowTells v (row_head bytes (segment_of segments i)) (segment_of segments i).place (segment_at v.index.terms t s)
+pub row_tells : (bytes places text : List ℕ) (rows : List TermRow) (segments : List Segment) (v : FileView) → Stands bytes places text rows segments v
+    → (t s i : ℕ) → SegmentThere bytes segments v t s i → RowTells v (row_head bytes (segment_of segments i)) (segment_of segments i).place
+    (segment_at v.index.terms t s)
 row_tells bytes places text rows segments v stands t s i h =
     subst (RowTells v (row_head bytes (segment_of segments i)) (segment_of segments i).place) (sym h.is)
     (row_told bytes v (segment_of segments i) stands.spelled (stands.payloads i (record { head = 0; place = 0 }) h.inside))

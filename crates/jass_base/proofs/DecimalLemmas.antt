@@ -20,7 +20,9 @@ too_large : (n : ℕ) → 2 ^ 64 ≤ n → nat_lt n (2 ^ 64) ≡ false
 too_large n large = grind (arith, nat_tests)
 
 -- one digit more, or the end of the number
-step : (d n : Bool) (v : ℕ) (bs : List ℕ) → nat_lt v (2 ^ 64) ≡ n → (v < 2 ^ 64 → value_after v bs ≡ (if list_all is_ascii_digit bs && nat_lt (digits_value_after 10 v bs) (2 ^ 64) then Some (digits_value_after 10 v bs) else None)) → (if d && n then value_after v bs else None) ≡ (if d && list_all is_ascii_digit bs && nat_lt (digits_value_after 10 v bs) (2 ^ 64) then Some (digits_value_after 10 v bs) else None)
+step : (d n : Bool) (v : ℕ) (bs : List ℕ) → nat_lt v (2 ^ 64) ≡ n →
+    (v < 2 ^ 64 → value_after v bs ≡ (if list_all is_ascii_digit bs && nat_lt (digits_value_after 10 v bs) (2 ^ 64) then Some (digits_value_after 10 v bs) else None)) →
+    (if d && n then value_after v bs else None) ≡ (if d && list_all is_ascii_digit bs && nat_lt (digits_value_after 10 v bs) (2 ^ 64) then Some (digits_value_after 10 v bs) else None)
 step false n v bs is rest = refl
 step true true v bs is rest = rest (ltb-true v (2 ^ 64) is)
 step true false v bs is rest =

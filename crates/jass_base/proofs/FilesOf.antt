@@ -89,7 +89,8 @@ insert_same m bs content had =
     kept false q is = refl
 
 -- a content that grows by bytes
-pub files_of-grown : (m n : BTreeMap (String Global) (Vec ℕ Global)) (bs bytes : List ℕ) (had v : Vec ℕ Global) → get_by_text m bs ≡ Some had → v.items ≡ had.items ++ bytes → UpdatesBy string_cmp (λ k. slice_cmp nat_cmp bs (string_bytes k)) m n (Some v) → files_of n ≡ insert (files_of m) bs (content_or_empty (files_of m) bs ++ bytes)
+pub files_of-grown : (m n : BTreeMap (String Global) (Vec ℕ Global)) (bs bytes : List ℕ) (had v : Vec ℕ Global) → get_by_text m bs ≡ Some had
+    → v.items ≡ had.items ++ bytes → UpdatesBy string_cmp (λ k. slice_cmp nat_cmp bs (string_bytes k)) m n (Some v) → files_of n ≡ insert (files_of m) bs (content_or_empty (files_of m) bs ++ bytes)
 files_of-grown m n bs bytes had v was is updates =
     files_of-set m n bs _ v (is ∙ ap (λ (xs : List ℕ). xs ++ bytes) (sym (content_there m bs had was))) updates
 

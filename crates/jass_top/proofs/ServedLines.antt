@@ -63,7 +63,10 @@ module _ {S : Type 0} {written : S → Option (List ℕ)} {faults : S → ℕ} {
   recast : {T : Type 0} {old new : S} {before after text : List ℕ} (went : T) → Side {E = WriteFault} written faults rest (record {}) old new before after text (Ok went) → Side {T = Unit {0}} {E = ServeStop} written faults rest stops.WriteFault old new before after text (Ok tt)
   recast went done = record { bytes = done.bytes; later = done.later; failed = tt; rest_stays = done.rest_stays }
 
-  recast_err : {T : Type 0} {old new : S} {before after text : List ℕ} (fault : WriteFault) → Side {T = T} {E = WriteFault} written faults rest (record {}) old new before after text (Err fault) → Side {T = Unit {0}} {E = ServeStop} written faults rest stops.WriteFault old new before after text (Err stops.WriteFault)
+  recast_err : {T : Type 0} {old new : S} {before after text : List ℕ} (fault : WriteFault)
+      → Side {T = T} {E = WriteFault} written faults rest (record {}) old new before after text (Err fault)
+      → Side {T = Unit {0}} {E = ServeStop} written faults rest stops.WriteFault old new before after text
+      (Err stops.WriteFault)
   recast_err fault done = record { bytes = done.bytes; later = done.later; failed = λ is. done.failed refl; rest_stays = done.rest_stays }
 
   exactly : {T E : Type 0} {mine : E} (old new : S) (text : List ℕ) (t : T) → Side written faults rest mine old new [] [] text (Ok t) → Appends (written old) (written new) text

@@ -283,7 +283,9 @@ module _ {S E : Type 0} {written : S → Option (List ℕ)} {faults : S → ℕ}
         rest_stays = last.rest_stays;
       }))
 
-  pub side_unflushed : {T U V F : Type 0} {old mid new : S} {before between text : List ℕ} {u : U} {f : F} (e : E) → Side written faults rest mine old mid before between text (Ok u) → Wrote {T = V} written faults rest mid new between (Err f) → Side {T = T} written faults rest mine old new before [] text (Err e)
+  pub side_unflushed : {T U V F : Type 0} {old mid new : S} {before between text : List ℕ} {u : U} {f : F} (e : E)
+      → Side written faults rest mine old mid before between text (Ok u) → Wrote {T = V} written faults rest mid new between (Err f)
+      → Side {T = T} written faults rest mine old new before [] text (Err e)
   side_unflushed {old = old} {mid} {new} {before} {between} {text} e done last =
       side_same (append-nil text) (side_then text [] done (record {
         bytes = (last.bytes.0, subst (λ (t : List ℕ). Appends (written mid) (written new) (take last.bytes.0 t)) (sym (append-nil between)) last.bytes.1);

@@ -43,7 +43,9 @@ module _ {S E : Type 0} {written : S → Option (List ℕ)} {faults : S → ℕ}
       }
 
   -- one text, and then another
-  pub side_then : {T U : Type 0} {old mid new : S} {before between after : List ℕ} (first second : List ℕ) {u : U} {result : Result T E} → Side written faults rest mine old mid before between first (Ok u) → Side written faults rest mine mid new between after second result → Side written faults rest mine old new before after (first ++ second) result
+  pub side_then : {T U : Type 0} {old mid new : S} {before between after : List ℕ} (first second : List ℕ) {u : U} {result : Result T E}
+      → Side written faults rest mine old mid before between first (Ok u) → Side written faults rest mine mid new between after second result
+      → Side written faults rest mine old new before after (first ++ second) result
   side_then {old = old} {mid} {new} {before} {between} {after} first second {result = Ok x} done last =
       record {
         bytes = (
@@ -70,7 +72,9 @@ module _ {S E : Type 0} {written : S → Option (List ℕ)} {faults : S → ℕ}
   side_same {old = old} {new} {before} {after} {result = result} is done = subst (λ (t : List ℕ). Side written faults rest mine old new before after t result) is done
 
   -- what is gathered in an empty buffer is flushed at the end
-  pub wrote_ok : {T U V F : Type 0} {old mid new : S} {before between text : List ℕ} {u : U} {v : V} {t : T} → before ≡ [] → Side written faults rest mine old mid before between text (Ok u) → Wrote {E = F} written faults rest mid new between (Ok v) → WroteSide written faults rest mine old new text (Ok t)
+  pub wrote_ok : {T U V F : Type 0} {old mid new : S} {before between text : List ℕ} {u : U} {v : V} {t : T} → before ≡ []
+      → Side written faults rest mine old mid before between text (Ok u) → Wrote {E = F} written faults rest mid new between (Ok v)
+      → WroteSide written faults rest mine old new text (Ok t)
   wrote_ok {old = old} {mid} {new} {between = between} {text} none done last =
       record {
         bytes = subst (λ (sent : List ℕ). Appends (written old) (written new) sent) (done.bytes.2 ∙ ap (λ (xs : List ℕ). xs ++ text) none) (Appends-then (written old) (written mid) (written new) done.bytes.0 between done.bytes.1 last.bytes);
@@ -79,7 +83,9 @@ module _ {S E : Type 0} {written : S → Option (List ℕ)} {faults : S → ℕ}
         rest_stays = last.rest_stays ∙ done.rest_stays;
       }
 
-  pub wrote_err : {T U V F : Type 0} {old mid new : S} {before between text : List ℕ} {u : U} {f : F} {e : E} → before ≡ [] → Side written faults rest mine old mid before between text (Ok u) → Wrote {T = V} written faults rest mid new between (Err f) → WroteSide {T = T} written faults rest mine old new text (Err e)
+  pub wrote_err : {T U V F : Type 0} {old mid new : S} {before between text : List ℕ} {u : U} {f : F} {e : E} → before ≡ []
+      → Side written faults rest mine old mid before between text (Ok u) → Wrote {T = V} written faults rest mid new between (Err f)
+      → WroteSide {T = T} written faults rest mine old new text (Err e)
   wrote_err {old = old} {mid} {new} {between = between} {text} none done last =
       record {
         bytes = prefix_same (written old) (written new) (done.bytes.0 ++ between) text (done.bytes.2 ∙ ap (λ (xs : List ℕ). xs ++ text) none) (AppendsPrefix-then (written old) (written mid) (written new) done.bytes.0 between done.bytes.1 last.bytes);

@@ -30,21 +30,27 @@ said-more words i word inside read =
     ∙ ap (λ w. said (take i words) ++ once (string_bytes w) ∷ []) (sym read)
 
 -- a word that is a known term
-pub named-more : (terms : List (List ℕ)) (words : List (String Global)) (i : ℕ) (word : String Global) (ns new : List Named) (k : ℕ) → i < length words → word ≡ get_or words i word → term_number terms (once (string_bytes word)) ≡ Some k → ns ≡ named_of terms (said (take i words)) → new ≡ tallied ns k 1 → new ≡ named_of terms (said (take (i + 1) words))
+pub named-more : (terms : List (List ℕ)) (words : List (String Global)) (i : ℕ) (word : String Global) (ns new : List Named) (k : ℕ) → i < length words
+    → word ≡ get_or words i word → term_number terms (once (string_bytes word)) ≡ Some k → ns ≡ named_of terms (said (take i words)) → new ≡ tallied ns k 1
+    → new ≡ named_of terms (said (take (i + 1) words))
 named-more terms words i word ns new k inside read known so_far put =
     put ∙ ap (λ xs. tallied xs k 1) so_far
     ∙ sym (named-known (term_number terms) (said (take i words)) (once (string_bytes word)) k known)
     ∙ ap (named_of terms) (sym (said-more words i word inside read))
 
 -- a word that is none
-pub named-same : (terms : List (List ℕ)) (words : List (String Global)) (i : ℕ) (word : String Global) (ns : List Named) → i < length words → word ≡ get_or words i word → term_number terms (once (string_bytes word)) ≡ None → ns ≡ named_of terms (said (take i words)) → ns ≡ named_of terms (said (take (i + 1) words))
+pub named-same : (terms : List (List ℕ)) (words : List (String Global)) (i : ℕ) (word : String Global) (ns : List Named) → i < length words
+    → word ≡ get_or words i word → term_number terms (once (string_bytes word)) ≡ None → ns ≡ named_of terms (said (take i words))
+    → ns ≡ named_of terms (said (take (i + 1) words))
 named-same terms words i word ns inside read none so_far =
     so_far
     ∙ sym (named-unknown (term_number terms) (said (take i words)) (once (string_bytes word)) none)
     ∙ ap (named_of terms) (sym (said-more words i word inside read))
 
 -- the unknown words are counted
-pub unknown-more : (terms : List (List ℕ)) (words : List (String Global)) (i : ℕ) (word : String Global) (number : Option ℕ) → i < length words → word ≡ get_or words i word → term_number terms (once (string_bytes word)) ≡ number → unknown_of terms (said (take (i + 1) words)) ≡ unknown_of terms (said (take i words)) + cond (is_none number) 1 0
+pub unknown-more : (terms : List (List ℕ)) (words : List (String Global)) (i : ℕ) (word : String Global) (number : Option ℕ) → i < length words
+    → word ≡ get_or words i word → term_number terms (once (string_bytes word)) ≡ number → unknown_of terms (said (take (i + 1) words)) ≡ unknown_of terms
+    (said (take i words)) + cond (is_none number) 1 0
 unknown-more terms words i word number inside read is =
     ap (unknown_of terms) (said-more words i word inside read)
     ∙ sum_by-append (λ m. cond (is_none (term_number terms m)) 1 0) (said (take i words)) (once (string_bytes word) ∷ [])

@@ -140,7 +140,9 @@ module _ (index : IndexData) (all : List Named) where
       let later : List PlanHead = heads_from (suc place) query index.terms in
       subst (λ (es : List PlanEntry). AllByRecursion Names es) (sym (map-append entry here later))
       (all_append Names (map entry here) (map entry later)
-      (names_at d place 0 named (segments_at index.terms named.term) (first_of all place named query no_term rest) (λ i d. let none : 0 + i ≡ i = omega arith in ap (λ n. get_or (segments_at index.terms named.term) n d) none) (omega (arith, many)) known.0 some.0 (omega arith) (segments_of d index.terms named.term h))
+      (names_at d place 0 named (segments_at index.terms named.term) (first_of all place named query no_term rest)
+      (λ i d. let none : 0 + i ≡ i = omega arith in ap (λ n. get_or (segments_at index.terms named.term) n d) none) (omega (arith, many)) known.0 some.0
+      (omega arith) (segments_of d index.terms named.term h))
       (names_from d (suc place) query (rest_of all place named query rest) (omega (arith, many)) known.1 some.1 h))
 
   -- ---- the arranged entries

@@ -18,22 +18,40 @@ module _ {S : Type 0} (written : S → Option (List ℕ)) (faults : S → ℕ) (
       record { bytes = AppendsPrefix-longer (written old) (written new) before piece wrote.bytes; cause = record { later = wrote.cause.later; failed = wrote.cause.failed }; rest_stays = wrote.rest_stays }
 
   -- the put of a long piece failed
-  pub put_failed : {T U V E : Type 0} (old mid new : S) (before after piece : List ℕ) (result : Result T E) (u : U) (e : E) → IsErr result → Wrote {E = E} written faults rest old mid before (Ok u) → Wrote {T = V} written faults rest mid new piece (Err e) → Gathers written faults rest old new before after piece result
+  pub put_failed : {T U V E : Type 0} (old mid new : S) (before after piece : List ℕ) (result : Result T E) (u : U) (e : E) → IsErr result
+      → Wrote {E = E} written faults rest old mid before (Ok u) → Wrote {T = V} written faults rest mid new piece (Err e)
+      → Gathers written faults rest old new before after piece result
   put_failed old mid new before after piece (Ok x) u e failed flushed wrote = cc
   put_failed old mid new before after piece (Err x) u e failed flushed wrote =
-      record { bytes = AppendsPrefix-then (written old) (written mid) (written new) before piece flushed.bytes wrote.bytes; cause = record { later = omega (arith, flushed.cause.later, wrote.cause.later); failed = Rose-earlier (faults old) (faults mid) (faults new) flushed.cause.later wrote.cause.failed }; rest_stays = wrote.rest_stays ∙ flushed.rest_stays }
+      record {
+        bytes = AppendsPrefix-then (written old) (written mid) (written new) before piece flushed.bytes wrote.bytes;
+        cause = record
+            { later = omega (arith, flushed.cause.later, wrote.cause.later); failed = Rose-earlier (faults old) (faults mid) (faults new) flushed.cause.later wrote.cause.failed };
+        rest_stays = wrote.rest_stays ∙ flushed.rest_stays;
+      }
 
   -- a long piece was put
-  pub put_whole : {T U V E : Type 0} (old mid new : S) (before after piece : List ℕ) (t : T) (u : U) (v : V) → after ≡ [] → Wrote {E = E} written faults rest old mid before (Ok u) → Wrote {E = E} written faults rest mid new piece (Ok v) → Gathers {E = E} written faults rest old new before after piece (Ok t)
+  pub put_whole : {T U V E : Type 0} (old mid new : S) (before after piece : List ℕ) (t : T) (u : U) (v : V) → after ≡ []
+      → Wrote {E = E} written faults rest old mid before (Ok u) → Wrote {E = E} written faults rest mid new piece (Ok v)
+      → Gathers {E = E} written faults rest old new before after piece (Ok t)
   put_whole old mid new before after piece t u v none flushed wrote =
-      record { bytes = (before ++ piece, Appends-then (written old) (written mid) (written new) before piece flushed.bytes wrote.bytes, ap (λ (xs : List ℕ). (before ++ piece) ++ xs) none ∙ append-nil (before ++ piece)); cause = record { later = omega (arith, flushed.cause.later, wrote.cause.later); failed = tt }; rest_stays = wrote.rest_stays ∙ flushed.rest_stays }
+      record {
+        bytes =
+            (before ++ piece, Appends-then (written old) (written mid) (written new) before piece flushed.bytes wrote.bytes, ap (λ (xs : List ℕ). (before ++ piece) ++ xs) none ∙ append-nil (before ++ piece));
+        cause = record { later = omega (arith, flushed.cause.later, wrote.cause.later); failed = tt };
+        rest_stays = wrote.rest_stays
+            ∙ flushed.rest_stays;
+      }
 
   -- nothing
   pub nothing_gathered : {E : Type 0} (old : S) (before : List ℕ) → Gathers {T = Unit {0}} {E = E} written faults rest old old before before [] (Ok tt)
   nothing_gathered old before = record { bytes = ([], Appends-none (written old), sym (append-nil before)); cause = record { later = omega arith; failed = tt }; rest_stays = refl }
 
   -- one piece more
-  pub gather_more : {E : Type 0} (old mid new : S) (before between after first piece whole : List ℕ) → whole ≡ first ++ piece → Gathers {T = Unit {0}} {E = E} written faults rest old mid before between first (Ok tt) → Gathers {T = Unit {0}} {E = E} written faults rest mid new between after piece (Ok tt) → Gathers {T = Unit {0}} {E = E} written faults rest old new before after whole (Ok tt)
+  pub gather_more : {E : Type 0} (old mid new : S) (before between after first piece whole : List ℕ) → whole ≡ first ++ piece
+      → Gathers {T = Unit {0}} {E = E} written faults rest old mid before between first (Ok tt)
+      → Gathers {T = Unit {0}} {E = E} written faults rest mid new between after piece (Ok tt)
+      → Gathers {T = Unit {0}} {E = E} written faults rest old new before after whole (Ok tt)
   gather_more old mid new before between after first piece whole is done last =
       let spelled : (done.bytes.0 ++ last.bytes.0) ++ after ≡ before ++ whole
       = append_assoc done.bytes.0 last.bytes.0 after ∙ ap (λ (xs : List ℕ). done.bytes.0 ++ xs) last.bytes.2 ∙ sym (append_assoc done.bytes.0 between piece) ∙ ap (λ (xs : List ℕ). xs ++ piece) done.bytes.2 ∙ append_assoc before first piece ∙ ap (λ (xs : List ℕ). before ++ xs) (sym is) in
@@ -44,7 +62,9 @@ module _ {S : Type 0} (written : S → Option (List ℕ)) (faults : S → ℕ) (
       }
 
   -- the last flush failed
-  pub last_failed : {T U V E : Type 0} (old mid new : S) (before between text : List ℕ) (result : Result T E) (u : U) (e : E) → before ≡ [] → IsErr result → Gathers {E = E} written faults rest old mid before between text (Ok u) → Wrote {T = V} written faults rest mid new between (Err e) → Wrote written faults rest old new text result
+  pub last_failed : {T U V E : Type 0} (old mid new : S) (before between text : List ℕ) (result : Result T E) (u : U) (e : E) → before ≡ [] → IsErr result
+      → Gathers {E = E} written faults rest old mid before between text (Ok u) → Wrote {T = V} written faults rest mid new between (Err e)
+      → Wrote written faults rest old new text result
   last_failed old mid new before between text (Ok x) u e none failed done wrote = cc
   last_failed old mid new before between text (Err x) u e none failed done wrote =
       record {
@@ -63,7 +83,9 @@ module _ {S : Type 0} (written : S → Option (List ℕ)) (faults : S → ℕ) (
   wrote_same {T} {E} old new text other result is wrote = subst (λ (t : List ℕ). Wrote written faults rest old new t result) is wrote
 
   -- a later piece failed
-  pub gather_failed : {T U V E : Type 0} (old mid new : S) (before between after first piece others whole : List ℕ) (result : Result T E) (u : U) (e : E) → IsErr result → whole ≡ first ++ (piece ++ others) → Gathers {E = E} written faults rest old mid before between first (Ok u) → Gathers {T = V} written faults rest mid new between after piece (Err e) → Gathers written faults rest old new before after whole result
+  pub gather_failed : {T U V E : Type 0} (old mid new : S) (before between after first piece others whole : List ℕ) (result : Result T E) (u : U) (e : E)
+      → IsErr result → whole ≡ first ++ (piece ++ others) → Gathers {E = E} written faults rest old mid before between first (Ok u)
+      → Gathers {T = V} written faults rest mid new between after piece (Err e) → Gathers written faults rest old new before after whole result
   gather_failed old mid new before between after first piece others whole (Ok x) u e failed is done last = cc
   gather_failed old mid new before between after first piece others whole (Err x) u e failed is done last =
       let spelled : (done.bytes.0 ++ (between ++ piece)) ++ others ≡ before ++ whole

@@ -19,14 +19,18 @@ pub returns-in-Err-clause-exact : goal.returns-in-Err-clause-exact
 returns-in-Err-clause-exact c =
     let total = docs_at c.args.count c.args.count [] c.args.from (drop c.args.from c.args.bytes.now) in
     let more : c.args.count - c.documents.counter ≡ suc (c.args.count - (c.documents.counter + 1)) = omega arith in
-    fails_on c.in-Err.fault total (λ x. Ok (docs_in_order x)) (docs_message_not total (c.args.count - c.documents.counter) c.args.count (records_of c.documents.documents) c.documents.at (drop c.documents.at c.args.bytes.now) c.documents.invariant.read (c.args.count - (c.documents.counter + 1)) more c.in-Err.fault c.in-Err.ensures)
+    fails_on c.in-Err.fault total (λ x. Ok (docs_in_order x)) (docs_message_not total (c.args.count - c.documents.counter) c.args.count
+    (records_of c.documents.documents) c.documents.at (drop c.documents.at c.args.bytes.now) c.documents.invariant.read
+    (c.args.count - (c.documents.counter + 1)) more c.in-Err.fault c.in-Err.ensures)
 
 pub returns-in-Err-read_document-clause-exact : goal.returns-in-Err-read_document-clause-exact
 returns-in-Err-read_document-clause-exact c =
     let total = docs_at c.args.count c.args.count [] c.args.from (drop c.args.from c.args.bytes.now) in
     let more : c.args.count - c.documents.counter ≡ suc (c.args.count - (c.documents.counter + 1)) = omega arith in
     fails_on c.in-Err-read_document.fault total (λ x. Ok (docs_in_order x))
-    (docs_doc_not total (c.args.count - c.documents.counter) c.args.count (records_of c.documents.documents) c.documents.at (drop c.documents.at c.args.bytes.now) c.documents.invariant.read (c.args.count - (c.documents.counter + 1)) more (message_in c.args.bytes.now c.in-Ok.body) c.in-Ok.ensures.0 c.in-Err-read_document.fault c.in-Err-read_document.ensures.exact)
+    (docs_doc_not total (c.args.count - c.documents.counter) c.args.count (records_of c.documents.documents) c.documents.at
+    (drop c.documents.at c.args.bytes.now) c.documents.invariant.read (c.args.count - (c.documents.counter + 1)) more
+    (message_in c.args.bytes.now c.in-Ok.body) c.in-Ok.ensures.0 c.in-Err-read_document.fault c.in-Err-read_document.ensures.exact)
 
 pub documents-preserved : goal.documents-preserved
 documents-preserved c =

@@ -55,7 +55,9 @@ returns-in-Err-read_list-clause-exact c =
     let total = lists_at c.args.count c.args.docs 0 [] c.args.from (drop c.args.from c.args.bytes.now) in
     let left = c.args.count - (c.lists.counter + 1) in
     let more : c.args.count - c.lists.counter ≡ suc left = omega arith in
-    lists_list_not total (c.args.count - c.lists.counter) c.args.docs c.lists.before (map (λ t. t.now) c.lists.terms.keys) c.lists.at (drop c.lists.at c.args.bytes.now) (map list_data c.lists.lists) c.lists.invariant.read left more (message_in c.args.bytes.now c.in-Ok.body) c.in-Ok.ensures.0 c.in-Err-read_list.fault c.in-Err-read_list.ensures.exact
+    lists_list_not total (c.args.count - c.lists.counter) c.args.docs c.lists.before (map (λ t. t.now) c.lists.terms.keys) c.lists.at
+    (drop c.lists.at c.args.bytes.now) (map list_data c.lists.lists) c.lists.invariant.read left more
+    (message_in c.args.bytes.now c.in-Ok.body) c.in-Ok.ensures.0 c.in-Err-read_list.fault c.in-Err-read_list.ensures.exact
 
 pub returns-clause-exact : goal.returns-clause-exact
 returns-clause-exact c =

@@ -17,7 +17,13 @@ fields-preserved c =
     let f = field_in bytes c.in-Ok-Some.field in
     let reads = rw c.in-Ok-Some.field-0-is at c.in-Ok-Some.ensures in
     walks_on nothing_inside bytes c.args.from c.fields.at c.in-Ok-Some.field.next (IsNumbered c.fields.fields) c.fields.invariant f [] _ reads.1 reads.2 reads.0 refl
-    (λ done was. (number_more 1 done.fields f c.fields.fields.docid c.number_or.result was.0 (c.number_or.ensures bytes), text_more 2 done.fields f c.fields.fields.name.now c.bytes_or-fields.result.now was.1 c.bytes_or-fields.ensures, number_more 3 done.fields f c.fields.fields.length c.number_or-in-Ok-Some.result was.2 (c.number_or-in-Ok-Some.ensures bytes)))
+    (λ done was. (
+      number_more 1 done.fields f c.fields.fields.docid c.number_or.result was.0
+          (c.number_or.ensures bytes),
+      text_more 2 done.fields f c.fields.fields.name.now c.bytes_or-fields.result.now was.1 c.bytes_or-fields.ensures,
+      number_more 3 done.fields f c.fields.fields.length c.number_or-in-Ok-Some.result was.2
+          (c.number_or-in-Ok-Some.ensures bytes),
+    ))
 
 pub returns-in-Ok-None : goal.returns-in-Ok-None
 returns-in-Ok-None c =

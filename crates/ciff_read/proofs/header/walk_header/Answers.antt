@@ -17,7 +17,24 @@ fields-preserved c =
     let f = field_in bytes c.in-Ok-Some.field in
     let reads = rw c.in-Ok-Some.field-0-is at c.in-Ok-Some.ensures in
     walks_on nothing_inside bytes c.args.from c.fields.at c.in-Ok-Some.field.next (IsHead c.fields.fields) c.fields.invariant f [] _ reads.1 reads.2 reads.0 refl
-    (λ done was. record { version = number_more 1 done.fields f c.fields.fields.version c.number_or.result was.version (c.number_or.ensures bytes); lists = number_more 2 done.fields f c.fields.fields.lists c.number_or-in-Ok-Some.result was.lists (c.number_or-in-Ok-Some.ensures bytes); docs = number_more 3 done.fields f c.fields.fields.docs c.number_or-in-Ok-Some-2.result was.docs (c.number_or-in-Ok-Some-2.ensures bytes); total_lists = number_more 4 done.fields f c.fields.fields.total_lists c.number_or-in-Ok-Some-3.result was.total_lists (c.number_or-in-Ok-Some-3.ensures bytes); total_docs = number_more 5 done.fields f c.fields.fields.total_docs c.number_or-in-Ok-Some-4.result was.total_docs (c.number_or-in-Ok-Some-4.ensures bytes); total_terms = number_more 6 done.fields f c.fields.fields.total_terms c.number_or-in-Ok-Some-5.result was.total_terms (c.number_or-in-Ok-Some-5.ensures bytes); average = eight_more 7 done.fields f c.fields.fields.average c.eight_or-fields.result was.average c.eight_or-fields.ensures; description = text_more 8 done.fields f c.fields.fields.description.now c.bytes_or-fields.result.now was.description c.bytes_or-fields.ensures })
+    (λ done was. record {
+      version = number_more 1 done.fields f c.fields.fields.version c.number_or.result was.version
+          (c.number_or.ensures bytes);
+      lists = number_more 2 done.fields f c.fields.fields.lists c.number_or-in-Ok-Some.result was.lists
+          (c.number_or-in-Ok-Some.ensures bytes);
+      docs = number_more 3 done.fields f c.fields.fields.docs c.number_or-in-Ok-Some-2.result was.docs
+          (c.number_or-in-Ok-Some-2.ensures bytes);
+      total_lists = number_more 4 done.fields f c.fields.fields.total_lists c.number_or-in-Ok-Some-3.result
+          was.total_lists (c.number_or-in-Ok-Some-3.ensures bytes);
+      total_docs = number_more 5 done.fields f c.fields.fields.total_docs
+          c.number_or-in-Ok-Some-4.result was.total_docs (c.number_or-in-Ok-Some-4.ensures bytes);
+      total_terms = number_more 6 done.fields f
+          c.fields.fields.total_terms c.number_or-in-Ok-Some-5.result was.total_terms (c.number_or-in-Ok-Some-5.ensures bytes);
+      average = eight_more 7 done.fields
+          f c.fields.fields.average c.eight_or-fields.result was.average c.eight_or-fields.ensures;
+      description = text_more 8 done.fields f
+          c.fields.fields.description.now c.bytes_or-fields.result.now was.description c.bytes_or-fields.ensures;
+    })
 
 pub returns-in-Ok-None : goal.returns-in-Ok-None
 returns-in-Ok-None c =

@@ -69,4 +69,6 @@ returns-in-Err-gather-clause-read c =
     let v = c.fields.invariant in
     let w = walks_behind c.args.bytes.now c.args.from c.fields.at c.take_run-at.result c.args.gathered.now c.fields.gathered c.take_run-at.new.self c.fields.fields c.take_run-at.ensures.run v.docs v.before v.walks in
     let reads = rw c.in-Ok-Some.field-0-is at c.in-Ok-Some.ensures in
-    walks_inside entry_inside c.args.bytes.now c.args.from c.take_run-at.result c.in-Ok-Some.field.next _ w (λ walked. Ok (record { start = list_start_of walked.fields; entries = walked.entries })) (field_in c.args.bytes.now c.in-Ok-Some.field) c.in-Err-gather.fault reads.1 reads.2 reads.0 c.in-Err-gather.ensures.read
+    walks_inside entry_inside c.args.bytes.now c.args.from c.take_run-at.result c.in-Ok-Some.field.next _ w
+    (λ walked. Ok (record { start = list_start_of walked.fields; entries = walked.entries }))
+    (field_in c.args.bytes.now c.in-Ok-Some.field) c.in-Err-gather.fault reads.1 reads.2 reads.0 c.in-Err-gather.ensures.read

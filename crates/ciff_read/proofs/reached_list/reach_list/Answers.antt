@@ -46,7 +46,9 @@ returns-in-Err-walk_one-clause-fault g c =
     let w = c.reach_message.new.window in
     let terms = terms_kept (kept_in c.args.kept.now) in
     λ says.
-    absurd (not_read_fault w.start c.in-Err-walk_one.fault c.fault_in_file.result (list_at c.args.docs c.args.before terms (c.args.at - w.start) (message_in c.as_slice-bytes.result.now c.in-Ok.body)) (c.in-Err-walk_one.ensures.refused terms) c.fault_in_file.ensures (err_is c.fault_in_file.result faults.ReadFault says))
+    absurd (not_read_fault w.start c.in-Err-walk_one.fault c.fault_in_file.result
+    (list_at c.args.docs c.args.before terms (c.args.at - w.start) (message_in c.as_slice-bytes.result.now c.in-Ok.body))
+    (c.in-Err-walk_one.ensures.refused terms) c.fault_in_file.ensures (err_is c.fault_in_file.result faults.ReadFault says))
 
 pub fault_in_file-requires-in-Err-finish : goal.fault_in_file-requires-in-Err-finish
 fault_in_file-requires-in-Err-finish g c =

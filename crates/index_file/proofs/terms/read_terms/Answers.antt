@@ -49,7 +49,9 @@ terms-preserved c =
     }
 
 pub returns-clause-exact : goal.returns-clause-exact
-returns-clause-exact c = terms_end c.args.bytes.now c.args.docs (read_terms c.args.bytes.now c.args.docs c.args.count None c.args.from) (row_heads c.args.bytes.now c.terms.text c.terms.segments c.terms.rows) (c.args.count - c.terms.counter) (before_in c.terms.text c.terms.before) c.terms.at c.terms.invariant.read (omega arith)
+returns-clause-exact c = terms_end c.args.bytes.now c.args.docs (read_terms c.args.bytes.now c.args.docs c.args.count None c.args.from)
+    (row_heads c.args.bytes.now c.terms.text c.terms.segments c.terms.rows) (c.args.count - c.terms.counter)
+    (before_in c.terms.text c.terms.before) c.terms.at c.terms.invariant.read (omega arith)
 
 pub returns-in-Err-read_heads-clause-exact : goal.returns-in-Err-read_heads-clause-exact
 returns-in-Err-read_heads-clause-exact c =

@@ -75,5 +75,7 @@ lists-preserved g c =
 pub returns-clause-entries : goal.returns-clause-entries
 returns-clause-entries g c =
     let all : c.lists.yielded ≡ c.args.lists.items
-    = whole c.into_iter-entry-iterator.result c.lists.entry-iterator c.next.new.self c.args.lists.items c.lists.yielded c.into_iter-entry-iterator.ensures.into_iter_gives.0 (omega (arith, c.into_iter-entry-iterator.ensures.into_iter_gives.1, c.args.lists.ok.0)) c.lists.yielded_by c.in-None.ensures.steps in
+    = whole c.into_iter-entry-iterator.result c.lists.entry-iterator c.next.new.self c.args.lists.items c.lists.yielded
+    c.into_iter-entry-iterator.ensures.into_iter_gives.0 (omega (arith, c.into_iter-entry-iterator.ensures.into_iter_gives.1, c.args.lists.ok.0))
+    c.lists.yielded_by c.in-None.ensures.steps in
     all_entries c.args.lists.items c.lists.terms c.requires.rising c.requires.few c.requires.postings (subst (λ (ls : List ListEntry). HaveEntries ls c.lists.terms) all c.lists.invariant.entries)

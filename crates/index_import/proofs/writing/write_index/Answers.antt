@@ -188,7 +188,9 @@ returns-clause-written g c = λ made has.
     let d : ℕ = c.args.walk.now.docs in
     let entries = map entry_data c.args.heads.terms in
     let all : c.places.yielded ≡ c.args.heads.places.items
-    = whole c.into_iter-place-iterator.result c.places.place-iterator c.next.new.self c.args.heads.places.items c.places.yielded c.into_iter-place-iterator.ensures.into_iter_gives.0 (omega (arith, c.into_iter-place-iterator.ensures.into_iter_gives.1, c.args.heads.places.ok.0)) c.places.yielded_by c.in-None.ensures.steps in
+    = whole c.into_iter-place-iterator.result c.places.place-iterator c.next.new.self c.args.heads.places.items c.places.yielded
+    c.into_iter-place-iterator.ensures.into_iter_gives.0 (omega (arith, c.into_iter-place-iterator.ensures.into_iter_gives.1, c.args.heads.places.ok.0))
+    c.places.yielded_by c.in-None.ensures.steps in
     let count : length c.places.yielded ≡ length entries = ap length all ∙ c.requires.places ∙ sym (length-map c.args.heads.terms entry_data) in (
       whole_text d c.args.names entries made c.requires.as_many has.heads_are old (g.C.Cabinet.told c.places.files) c.args.index.now (length c.places.yielded) count c.appended_payloads_make_the_text.ensures.text (c.places.invariant.written made has),
       fits d c.args.names entries made c.requires.as_many has.heads_are c.appended_payloads_make_the_text.ensures.length c.places.invariant.fits,

@@ -48,6 +48,8 @@ loop-term-preserved c =
       heads = behind;
       text = ap (λ bytes. c.put_entry.new.out ++ terms_bytes bytes (chosen_terms d (map term_data (drop (i + 1) terms)))) (c.as_bytes-bytes.ensures.value ∙ c.as_str.ensures.bytes)
           ∙ text_turn c.loop-term.out c.put_entry.new.out part (terms_bytes before (chosen_terms d (map term_data (drop i terms)))) (terms_bytes t.term (chosen_terms d (map term_data (drop (i + 1) terms)))) _
-          (c.in_ok-put_entry.ensures ∙ ap (λ xs. c.loop-term.out ++ xs) (ap (λ bytes. term_bytes before bytes ++ (u32_bytes (length c.split_at.result.0.now) ++ heads_bytes (map head_data c.split_at.result.0.now))) (c.as_bytes-bytes.ensures.value ∙ c.as_str.ensures.bytes) ∙ entry_is (term_bytes before t.term) c.split_at.result.0.now mine here))
+          (c.in_ok-put_entry.ensures ∙ ap (λ xs. c.loop-term.out ++ xs) (ap
+          (λ bytes. term_bytes before bytes ++ (u32_bytes (length c.split_at.result.0.now) ++ heads_bytes (map head_data c.split_at.result.0.now)))
+          (c.as_bytes-bytes.ensures.value ∙ c.as_str.ensures.bytes) ∙ entry_is (term_bytes before t.term) c.split_at.result.0.now mine here))
           (terms_next d before t (drop i terms) (drop (i + 1) terms) next) c.loop-term.invariant.text;
     }

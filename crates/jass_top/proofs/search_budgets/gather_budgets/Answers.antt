@@ -71,8 +71,12 @@ loop-budget-preserved g c =
       leaves = c.calls_on_one_chain.ensures.two c.args.pool.now c.loop-budget.pool c.gather_budget.new.pool (chain_of c.args.session.now) c.loop-budget.invariant.leaves
           (subst (LeavesPool c.loop-budget.pool c.gather_budget.new.pool) c.loop-budget.invariant.same.chain c.in-Ok.ensures.leaves);
       steps = omega (arith, c.in-Ok.ensures.steps, c.loop-budget.invariant.steps);
-      run = up_to_more _ _ _ (run_turn c.each_budget_has_its_prefix.ensures.from c.args.index.now (k_of c.args.session.now) budgets c.args.session.now c.gather_budget.new.session i c.loop-budget-test.true same asked at c.args.tag.now c.loop-budget.part) c.loop-budget.invariant.run c.in-Ok.ensures.run;
-      out = up_to_more _ _ _ (report_turn c.each_budget_has_its_prefix.ensures.from c.args.index.now (k_of c.args.session.now) budgets c.args.session.now c.gather_budget.new.session i c.loop-budget-test.true same asked at c.in-Ok.ensures.stands.report) c.loop-budget.invariant.out c.in-Ok.ensures.out;
+      run = up_to_more _ _ _ (run_turn c.each_budget_has_its_prefix.ensures.from c.args.index.now
+          (k_of c.args.session.now) budgets c.args.session.now c.gather_budget.new.session i c.loop-budget-test.true same asked at c.args.tag.now
+          c.loop-budget.part) c.loop-budget.invariant.run c.in-Ok.ensures.run;
+      out = up_to_more _ _ _ (report_turn c.each_budget_has_its_prefix.ensures.from c.args.index.now
+          (k_of c.args.session.now) budgets c.args.session.now c.gather_budget.new.session i c.loop-budget-test.true same asked at
+          c.in-Ok.ensures.stands.report) c.loop-budget.invariant.out c.in-Ok.ensures.out;
     }
 
 pub returns-clause-run : goal.returns-clause-run

@@ -9,7 +9,9 @@ lines-init g c = record { file = refl; answers = answers_none c.args.out.now c.a
 
 pub lines-preserved : goal.lines-preserved
 lines-preserved g c =
-    let answers = subst (λ (went : Went). Answers g.O.Sink.written g.O.Sink.faults g.O.Sink.rest c.args.out.now c.answer_first.new.out c.args.buffer.now c.answer_first.new.buffer c.args.steps.now c.answer_first.new.steps c.args.desk.now.file c.args.lines.now c.answer_first.new.lines c.args.desk.now.state c.answer_first.new.desk.state (Ok went))
+    let answers = subst (λ (went : Went). Answers g.O.Sink.written g.O.Sink.faults g.O.Sink.rest c.args.out.now c.answer_first.new.out c.args.buffer.now
+    c.answer_first.new.buffer c.args.steps.now c.answer_first.new.steps c.args.desk.now.file c.args.lines.now c.answer_first.new.lines c.args.desk.now.state
+    c.answer_first.new.desk.state (Ok went))
     c.in-Ok-On.field-0-is
     (answers_then c.args.out.now c.lines.out c.answer_first.new.out c.args.buffer.now c.lines.buffer c.answer_first.new.buffer c.args.steps.now c.lines.steps c.answer_first.new.steps c.args.desk.now.file c.lines.desk.file
     c.args.lines.now c.lines.lines c.answer_first.new.lines c.args.desk.now.state c.lines.desk.state c.answer_first.new.desk.state (Ok c.in-Ok-On.field-0) c.lines.invariant.file c.lines.invariant.answers c.in-Ok-On.ensures.answers) in
@@ -17,14 +19,18 @@ lines-preserved g c =
 
 pub returns-in-Ok-End-clause-answers : goal.returns-in-Ok-End-clause-answers
 returns-in-Ok-End-clause-answers g c =
-    subst (λ (went : Went). Answers g.O.Sink.written g.O.Sink.faults g.O.Sink.rest c.args.out.now c.answer_first.new.out c.args.buffer.now c.answer_first.new.buffer c.args.steps.now c.answer_first.new.steps c.args.desk.now.file c.args.lines.now c.answer_first.new.lines c.args.desk.now.state c.answer_first.new.desk.state (Ok went))
+    subst (λ (went : Went). Answers g.O.Sink.written g.O.Sink.faults g.O.Sink.rest c.args.out.now c.answer_first.new.out c.args.buffer.now
+    c.answer_first.new.buffer c.args.steps.now c.answer_first.new.steps c.args.desk.now.file c.args.lines.now c.answer_first.new.lines c.args.desk.now.state
+    c.answer_first.new.desk.state (Ok went))
     c.in-Ok-End.field-0-is
     (answers_then c.args.out.now c.lines.out c.answer_first.new.out c.args.buffer.now c.lines.buffer c.answer_first.new.buffer c.args.steps.now c.lines.steps c.answer_first.new.steps c.args.desk.now.file c.lines.desk.file
     c.args.lines.now c.lines.lines c.answer_first.new.lines c.args.desk.now.state c.lines.desk.state c.answer_first.new.desk.state (Ok c.in-Ok-End.field-0) c.lines.invariant.file c.lines.invariant.answers c.in-Ok-End.ensures.answers)
 
 pub returns-in-Ok-NoMemory-clause-answers : goal.returns-in-Ok-NoMemory-clause-answers
 returns-in-Ok-NoMemory-clause-answers g c =
-    subst (λ (went : Went). Answers g.O.Sink.written g.O.Sink.faults g.O.Sink.rest c.args.out.now c.answer_first.new.out c.args.buffer.now c.answer_first.new.buffer c.args.steps.now c.answer_first.new.steps c.args.desk.now.file c.args.lines.now c.answer_first.new.lines c.args.desk.now.state c.answer_first.new.desk.state (Ok went))
+    subst (λ (went : Went). Answers g.O.Sink.written g.O.Sink.faults g.O.Sink.rest c.args.out.now c.answer_first.new.out c.args.buffer.now
+    c.answer_first.new.buffer c.args.steps.now c.answer_first.new.steps c.args.desk.now.file c.args.lines.now c.answer_first.new.lines c.args.desk.now.state
+    c.answer_first.new.desk.state (Ok went))
     c.in-Ok-NoMemory.field-0-is
     (answers_then c.args.out.now c.lines.out c.answer_first.new.out c.args.buffer.now c.lines.buffer c.answer_first.new.buffer c.args.steps.now c.lines.steps c.answer_first.new.steps c.args.desk.now.file c.lines.desk.file
     c.args.lines.now c.lines.lines c.answer_first.new.lines c.args.desk.now.state c.lines.desk.state c.answer_first.new.desk.state (Ok c.in-Ok-NoMemory.field-0) c.lines.invariant.file c.lines.invariant.answers c.in-Ok-NoMemory.ensures.answers)

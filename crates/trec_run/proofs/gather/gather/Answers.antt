@@ -7,7 +7,8 @@ returns-in_err-flush g c =
 
 pub returns-in_err-put : goal.returns-in_err-put
 returns-in_err-put g c =
-    put_failed g.O.Sink.written g.O.Sink.faults g.O.Sink.rest c.args.out.now c.flush.new.out c.put.new.out c.args.buffer.now c.flush.new.buffer c.args.piece.now c.from_residual-in_err-put.result tt c.in_err-put.field-0.0 c.from_residual-in_err-put.ensures.0 c.in_ok-flush.ensures.text c.in_err-put.ensures
+    put_failed g.O.Sink.written g.O.Sink.faults g.O.Sink.rest c.args.out.now c.flush.new.out c.put.new.out c.args.buffer.now c.flush.new.buffer c.args.piece.now
+    c.from_residual-in_err-put.result tt c.in_err-put.field-0.0 c.from_residual-in_err-put.ensures.0 c.in_ok-flush.ensures.text c.in_err-put.ensures
 
 pub returns-in_ok-put : goal.returns-in_ok-put
 returns-in_ok-put g c =

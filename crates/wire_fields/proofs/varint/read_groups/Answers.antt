@@ -50,7 +50,9 @@ returns-then-byte-lt128 c =
     )
 
 pub loop-group-preserved : goal.loop-group-preserved
-loop-group-preserved c = one_more (rest_at c.args.bytes.now c.args.at) c.loop-group.group c.loop-group.value c.loop-group.scale c.from-in-loop-group.result c.loop-group.invariant c.loop-group-test.true c.if-group-rest.false c.from-in-loop-group.ensures c.if-byte-lt128.false (omega (arith, c.type_inv.rest c.loop-group.group))
+loop-group-preserved c = one_more (rest_at c.args.bytes.now c.args.at) c.loop-group.group c.loop-group.value c.loop-group.scale c.from-in-loop-group.result
+    c.loop-group.invariant c.loop-group-test.true c.if-group-rest.false c.from-in-loop-group.ensures c.if-byte-lt128.false
+    (omega (arith, c.type_inv.rest c.loop-group.group))
 
 pub returns-then-byte-gt1 : goal.returns-then-byte-gt1
 returns-then-byte-gt1 c =

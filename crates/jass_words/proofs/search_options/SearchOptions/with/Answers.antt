@@ -25,7 +25,8 @@ returns-in_default-clause-none c = λ none words rest options seen are once. non
 pub returns-then-is_some-clause-none : goal.returns-then-is_some-clause-none
 returns-then-is_some-clause-none c = λ none words rest options seen are once.
     let (known, is) = some_of c.args.self.now.hits (sym c.is_some.ensures ∙ c.if-is_some.true) in
-    hits_again words c.args.word.now c.args.self.now.hits c.args.self.now.limits (option_map (λ t. t.now) c.args.self.now.tag) c.args.self.now.mode c.in-Hits.k known seen (subst (λ (o : SearchOption). IsSearchOption c.args.word.now (search_data o)) c.in-Hits.is c.in-Some.ensures.some) is rest options are once
+    hits_again words c.args.word.now c.args.self.now.hits c.args.self.now.limits (option_map (λ t. t.now) c.args.self.now.tag) c.args.self.now.mode c.in-Hits.k
+    known seen (subst (λ (o : SearchOption). IsSearchOption c.args.word.now (search_data o)) c.in-Hits.is c.in-Some.ensures.some) is rest options are once
 
 pub returns-else-is_some-clause-some : goal.returns-else-is_some-clause-some
 returns-else-is_some-clause-some c = λ words seen.
@@ -35,7 +36,9 @@ returns-else-is_some-clause-some c = λ words seen.
 pub returns-then-is_some-2-clause-none : goal.returns-then-is_some-2-clause-none
 returns-then-is_some-2-clause-none c = λ none words rest options seen are once.
     let (known, is) = some_of c.args.self.now.limits (sym c.is_some-in-Limits.ensures ∙ c.if-is_some-2.true) in
-    limits_again words c.args.word.now c.args.self.now.hits c.args.self.now.limits (option_map (λ t. t.now) c.args.self.now.tag) c.args.self.now.mode c.in-Limits.limits known seen (subst (λ (o : SearchOption). IsSearchOption c.args.word.now (search_data o)) c.in-Limits.is c.in-Some.ensures.some) is rest options are once
+    limits_again words c.args.word.now c.args.self.now.hits c.args.self.now.limits (option_map (λ t. t.now) c.args.self.now.tag) c.args.self.now.mode
+    c.in-Limits.limits known seen (subst (λ (o : SearchOption). IsSearchOption c.args.word.now (search_data o)) c.in-Limits.is c.in-Some.ensures.some) is
+    rest options are once
 
 pub returns-else-is_some-2-clause-some : goal.returns-else-is_some-2-clause-some
 returns-else-is_some-2-clause-some c = λ words seen.
@@ -45,7 +48,9 @@ returns-else-is_some-2-clause-some c = λ words seen.
 pub returns-then-is_some-3-clause-none : goal.returns-then-is_some-3-clause-none
 returns-then-is_some-3-clause-none c = λ none words rest options seen are once.
     let (known, is) = some_of (option_map (λ t. t.now) c.args.self.now.tag) (same_some (λ t. t.now) c.args.self.now.tag ∙ sym c.is_some-in-Tag.ensures ∙ c.if-is_some-3.true) in
-    tag_again words c.args.word.now c.args.self.now.hits c.args.self.now.limits (option_map (λ t. t.now) c.args.self.now.tag) c.args.self.now.mode c.in-Tag.tag.now known seen (subst (λ (o : SearchOption). IsSearchOption c.args.word.now (search_data o)) c.in-Tag.is c.in-Some.ensures.some) is rest options are once
+    tag_again words c.args.word.now c.args.self.now.hits c.args.self.now.limits (option_map (λ t. t.now) c.args.self.now.tag) c.args.self.now.mode
+    c.in-Tag.tag.now known seen (subst (λ (o : SearchOption). IsSearchOption c.args.word.now (search_data o)) c.in-Tag.is c.in-Some.ensures.some) is rest
+    options are once
 
 pub returns-else-is_some-3-clause-some : goal.returns-else-is_some-3-clause-some
 returns-else-is_some-3-clause-some c = λ words seen.
@@ -55,7 +60,9 @@ returns-else-is_some-3-clause-some c = λ words seen.
 pub returns-then-is_some-4-clause-none : goal.returns-then-is_some-4-clause-none
 returns-then-is_some-4-clause-none c = λ none words rest options seen are once.
     let (known, is) = some_of c.args.self.now.mode (sym c.is_some-in-Reading.ensures ∙ c.if-is_some-4.true) in
-    mode_again words c.args.word.now c.args.self.now.hits c.args.self.now.limits (option_map (λ t. t.now) c.args.self.now.tag) c.args.self.now.mode c.in-Reading.mode known seen (subst (λ (o : SearchOption). IsSearchOption c.args.word.now (search_data o)) c.in-Reading.is c.in-Some.ensures.some) is rest options are once
+    mode_again words c.args.word.now c.args.self.now.hits c.args.self.now.limits (option_map (λ t. t.now) c.args.self.now.tag) c.args.self.now.mode
+    c.in-Reading.mode known seen (subst (λ (o : SearchOption). IsSearchOption c.args.word.now (search_data o)) c.in-Reading.is c.in-Some.ensures.some) is
+    rest options are once
 
 pub returns-else-is_some-4-clause-some : goal.returns-else-is_some-4-clause-some
 returns-else-is_some-4-clause-some c = λ words seen.

@@ -10,5 +10,7 @@ longest-requires-clause-rising c = shown_rise c.self.inside.entries.items c.self
 
 pub returns-clause-many : goal.returns-clause-many
 returns-clause-many c = shown_within c.self.inside.entries.items c.self.inside.sums.items (take (length c.deref.result.now - c.args.from) (drop c.args.from c.deref.result.now)) c.args.from
-    c.self.invariant.summed (take_rest c.deref.result.now c.args.from ∙ ap (drop c.args.from) c.deref.ensures.value) (subst (λ (v : PlanView). c.args.from ≤ length v.entries) (sym c.self.view_is) c.requires) c.longest.result c.args.left c.longest.ensures.there c.longest.ensures.fits c.longest.ensures.stops
+    c.self.invariant.summed (take_rest c.deref.result.now c.args.from ∙ ap (drop c.args.from) c.deref.ensures.value)
+    (subst (λ (v : PlanView). c.args.from ≤ length v.entries) (sym c.self.view_is) c.requires) c.longest.result c.args.left c.longest.ensures.there
+    c.longest.ensures.fits c.longest.ensures.stops
     ∙ ap (λ (v : PlanView). entries_within c.args.left (drop c.args.from v.entries)) c.self.view_is

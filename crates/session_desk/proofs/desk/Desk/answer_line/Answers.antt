@@ -15,7 +15,8 @@ pub returns-clause-reply : goal.returns-clause-reply
 unfolding desk_reply
 returns-clause-reply g c =
     subst (λ (v : DeskView). Gathers {T = Went} {E = WriteFault} g.S.Sink.written g.S.Sink.faults g.S.Sink.rest c.args.out.now c.answer.new.out c.args.buffer.now c.answer.new.buffer (text_where c.answer.result (desk_reply v.file v.state c.args.line.now)) c.answer.result) c.self.view_is
-    (subst (λ (o : Option DeskCommand). Gathers {T = Went} {E = WriteFault} g.S.Sink.written g.S.Sink.faults g.S.Sink.rest c.args.out.now c.answer.new.out c.args.buffer.now c.answer.new.buffer (text_where c.answer.result (reply_to c.self.inside.index (state_of c.self.inside.table) o)) c.answer.result)
+    (subst (λ (o : Option DeskCommand). Gathers {T = Went} {E = WriteFault} g.S.Sink.written g.S.Sink.faults g.S.Sink.rest c.args.out.now c.answer.new.out
+    c.args.buffer.now c.answer.new.buffer (text_where c.answer.result (reply_to c.self.inside.index (state_of c.self.inside.table) o)) c.answer.result)
     c.read_command-command.ensures.command c.answer.ensures.reply)
 
 pub returns-clause-after : goal.returns-clause-after

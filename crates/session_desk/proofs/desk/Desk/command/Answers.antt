@@ -19,7 +19,9 @@ returns-in-Err-flush g c =
     record {
       file = gathered.file;
       reply = subst (λ (text : List ℕ). Wrote {T = Went} {E = WriteFault} g.S.Sink.written g.S.Sink.faults g.S.Sink.rest c.args.out.now c.flush.new.out text (Err c.in-Err-flush.fault)) (whole_reply c.in-Ok.went reply other)
-          (last_failed g.S.Sink.written g.S.Sink.faults g.S.Sink.rest c.args.out.now c.answer_line.new.out c.flush.new.out c.new-buffer.result c.answer_line.new.buffer (text_where {E = WriteFault} (Ok c.in-Ok.went) reply) (Err c.in-Err-flush.fault) c.in-Ok.went c.in-Err-flush.fault c.new-buffer.ensures refl gathered.reply c.in-Err-flush.ensures.text);
+          (last_failed g.S.Sink.written g.S.Sink.faults g.S.Sink.rest c.args.out.now c.answer_line.new.out c.flush.new.out c.new-buffer.result
+          c.answer_line.new.buffer (text_where {E = WriteFault} (Ok c.in-Ok.went) reply)
+          (Err c.in-Err-flush.fault) c.in-Ok.went c.in-Err-flush.fault c.new-buffer.ensures refl gathered.reply c.in-Err-flush.ensures.text);
       after = subst (λ (state : DeskState). c.answer_line.new.self.state ≡ state) (whole_effect c.in-Ok.went c.args.self.now.state (desk_after c.args.self.now.file c.args.self.now.state c.args.line.now) other) gathered.after;
       steps = gathered.steps;
       end = tt;
