@@ -40,6 +40,8 @@ pub struct CiffWalk {
     /// The place of the next message.
     at: u64,
     kept: KeptLists,
+    /// Which of them is read again next, where that is in their order.
+    again: usize,
     /// The postings of the lists that were given.
     postings: u64,
     /// The numbers of the documents that were given, and how many these are.
@@ -112,6 +114,7 @@ impl CiffWalk {
             docs: head.docs,
             at,
             kept: KeptLists::new(alloc),
+            again: 0,
             postings: 0,
             numbers: DocSet::new(alloc),
             given: 0,
@@ -282,7 +285,9 @@ impl CiffWalk {
             Ok((list, _)) => list,
             Err(fault) => return Err(fault),
         };
-        let kept = u64::from(self.kept.count_at(at));
+        let (count, index) = self.kept.count_at(at, self.again);
+        self.again = index + 1;
+        let kept = u64::from(count);
         let found = list.postings.len() as u64;
         if kept != found {
             return Err(refused(at as usize, CiffWhy::Changed { kept, found }));

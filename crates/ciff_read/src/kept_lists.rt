@@ -1,4 +1,4 @@
-ghost use Rattle.std.specs.Prelude.{◌≡◌, ◌∷◌, [], ◌++◌, false, length, OnOk, OnErr};
+ghost use Rattle.std.specs.Prelude.{◌≡◌, ◌<◌, ◌∷◌, [], ◌++◌, false, length, IfSome, IsSome, OnOk, OnErr};
 ghost use Rattle.std.specs.List.Sorted.{IsStrictlyIncreasing};
 ghost use Rattle.ciff_read.specs.KeptLists.{kept_as, kept_in};
 ghost use Rattle.ciff_read.specs.Walk.{HasKept, IsGiven};
@@ -50,11 +50,42 @@ impl KeptLists {
         self.lists.len()
     }
 
-    /// The number of postings of a list that was given, by its place, where the places rise.
-    pub fn count_at(&self, at: u64) -> u32
+    /// The number of postings of a list that was given, by its place, where the places rise, and which of
+    /// the lists it is. Lists are mostly read again in their order: `guess` is looked at before the others.
+    pub fn count_at(&self, at: u64, guess: usize) -> (u32, usize)
         requires rising { IsStrictlyIncreasing (places_kept (kept_in self.now)) }
         requires given { IsGiven (kept_in self.now) at }
-        ensures { HasKept (kept_in self.now) at result }
+        ensures count { HasKept (kept_in self.now) at result.0 }
+        ensures within { result.1 < length (kept_in self.now) }
+    {
+        match self.guessed(at, guess) {
+            Some(count) => (count, guess),
+            None => self.found(at),
+        }
+    }
+
+    /// The number of postings of one of the lists, where it is the one at a place.
+    fn guessed(&self, at: u64, guess: usize) -> Option<u32>
+        ensures count { IfSome result (HasKept (kept_in self.now) at) }
+        ensures within { IsSome result → guess < length (kept_in self.now) }
+    {
+        if guess >= self.len() {
+            return None;
+        }
+        let list = self.lists[guess];
+        if list.at == at {
+            Some(list.count)
+        } else {
+            None
+        }
+    }
+
+    /// The number of postings of the list at a place, and which of the lists it is.
+    fn found(&self, at: u64) -> (u32, usize)
+        requires rising { IsStrictlyIncreasing (places_kept (kept_in self.now)) }
+        requires given { IsGiven (kept_in self.now) at }
+        ensures count { HasKept (kept_in self.now) at result.0 }
+        ensures within { result.1 < length (kept_in self.now) }
     {
         let mut low = 0;
         let mut high = self.lists.len() - 1;
@@ -66,7 +97,7 @@ impl KeptLists {
                 high = middle - 1;
             }
         }
-        self.lists[low].count
+        (self.lists[low].count, low)
     }
 
     /// Keeps one list more, whose term is new.

@@ -99,7 +99,9 @@ impl Window {
         self.bytes.truncate(len);
     }
 
-    /// Reads on until so many bytes are held, or the file ends.
+    /// Reads on until so many bytes are held, or the file ends. It isn't inlined, so that a call of `reach`
+    /// that finds all held takes no room for a piece.
+    #[inline(never)]
     fn fill<C: Cabinet>(&mut self, files: &mut C, name: &str, count: usize) -> Result<(), ReachStop>
         requires { self.old.start + count ≤ 2 ^ 63 }
         ensures start { self.new.start ≡ self.old.start }

@@ -29,7 +29,7 @@ returns-then-kept-found-clause-told g c =
     let x : ListInFile = record { list = list_data c.in-Ok.list; end = c.in-Ok.field-0-1 } in
     let none = subst (λ (kept : List KeptList). ForContent told c.as_str.result.now (λ content. Shows content window → list_of_file content docs 0 (terms_kept kept) at ≡ Ok x)) c.new-none.ensures c.in-Ok.ensures.exact in
     let named = subst (λ (name : List ℕ). ForContent told name (λ content. Shows content window → list_of_file content docs 0 [] at ≡ Ok x)) c.as_str.ensures.bytes none in
-    let kept = subst (λ (w : WalkView). HasKept w.kept at c.count_at.result) c.self.view_is c.count_at.ensures in
-    let other : c.count_at.result ≢ length x.list.postings = λ same. omega (arith, same, c.if-kept-found.true, c.from-kept.ensures, c.len-found.ensures) in
-    told_counts told c.args.self.now at c.requires.stands c.refused.result c.count_at.result x kept other
+    let kept = subst (λ (w : WalkView). HasKept w.kept at c.count_at-count.result.0) c.self.view_is c.count_at-count.ensures.count in
+    let other : c.count_at-count.result.0 ≢ length x.list.postings = λ same. omega (arith, same, c.if-kept-found.true, c.from-kept.ensures, c.len-found.ensures) in
+    told_counts told c.args.self.now at c.requires.stands c.refused.result c.count_at-count.result.0 x kept other
     (subst (λ (w : WalkView). ForContent told w.name (λ content. AreFrom content w.start w.bytes → list_of_file content w.docs 0 [] at ≡ Ok x)) c.self.view_is named)
