@@ -10,7 +10,7 @@ use Rattle.segment_codecs.specs.Codecs.{chosen_codec, payload_size}
 use Rattle.index_model.specs.Index.{SegmentData, TermData, IndexData, IsSegment, IsTerm, IsIndex}
 use Rattle.index_layout.specs.Bytes.{u32_bytes}
 use Rattle.index_layout.specs.Heads.{HeadData, TermHeads}
-use Rattle.index_layout.specs.Layout.{name_bytes, names_bytes, head_bytes, heads_bytes, rest_behind, shared_with, term_bytes, terms_bytes}
+use Rattle.index_layout.specs.Layout.{name_bytes, names_bytes, head_bytes, heads_bytes, rest_behind, shared_with, term_bytes, terms_bytes, totals_bytes, front_bytes}
 use Rattle.index_layout.specs.View.{term_postings, index_postings}
 use Rattle.index_write.specs.Chosen.{chosen_head, chosen_heads, chosen_terms, chosen_payload, chosen_payloads, table_payloads}
 use Rattle.index_write.proofs.Counting.{term_few}
@@ -87,3 +87,13 @@ pub all_payloads_small : Few → (d : ℕ) (terms : List TermData) → All (IsTe
 all_payloads_small few d [] are = omega arith
 all_payloads_small few d (t ∷ terms) are =
     omega (arith, payloads_small few d t.segments (All-head (IsTerm d) t terms are).segments, length-append (chosen_payloads d t.segments) (table_payloads d terms), sum_by-cons term_postings t terms, all_payloads_small few d terms (All-tail (IsTerm d) t terms are))
+
+totals_size : (names : List (List ℕ)) (entries : List TermHeads) → length (totals_bytes names entries) ≡ 40
+unfolding totals_bytes
+totals_size names entries = refl
+
+-- what stands before the payloads
+pub front_size : (names : List (List ℕ)) (entries : List TermHeads) → length (front_bytes names entries) ≡ 40 + length (names_bytes names) + length (terms_bytes [] entries)
+unfolding front_bytes
+front_size names entries =
+    omega (arith, totals_size names entries, length-append (totals_bytes names entries) (names_bytes names ++ terms_bytes [] entries), length-append (names_bytes names) (terms_bytes [] entries))

@@ -1,12 +1,12 @@
 -- Parts that are put one after the other.
-use Rattle.std.proofs.Common.{◌≡◌, ℕ, List, ◌++◌, length, ap, sym, refl, ◌∙◌, append_assoc}
+use Rattle.std.proofs.Common.{◌≡◌, ℕ, List, [], ◌++◌, length, ap, sym, refl, ◌∙◌, append_assoc}
 use Rattle.std.specs.List.{sum_by}
 use Rattle.std.proofs.lemmas.List.{length-map}
 use Rattle.jass_base.specs.declared.answer.Totals.{Totals}
 use Rattle.index_model.specs.Index.{IndexData}
 use Rattle.index_layout.specs.Bytes.{u32_bytes, u64_bytes}
 use Rattle.index_layout.specs.Heads.{HeadData, TermHeads, head_postings, greatest_of, greatest_impact}
-use Rattle.index_layout.specs.Layout.{magic, file_length, totals_bytes}
+use Rattle.index_layout.specs.Layout.{magic, file_length, front_bytes, names_bytes, terms_bytes, totals_bytes}
 use Rattle.index_layout.specs.Totals.{index_greatest, totals_of}
 use Rattle.index_layout.specs.View.{index_postings}
 use Rattle.index_write.specs.Chosen.{chosen_entry, chosen_terms}
@@ -42,3 +42,11 @@ unfolding totals_bytes
 entries_first names entries l t a is =
     same_first l (file_length names entries) t (length names) (length entries) (head_postings entries) (greatest_impact entries) a
     (ap (λ (t : Totals). t.docs) is) (ap (λ (t : Totals). t.terms) is) (ap (λ (t : Totals). t.postings) is) (ap (λ (t : Totals). t.greatest) is)
+
+-- what stands before the payloads, from its three parts
+pub front_joined : (names : List (List ℕ)) (entries : List TermHeads) (l : ℕ) (t : Totals) (a b c d : List ℕ) → l ≡ file_length names entries → t ≡ entries_totals (length names) entries
+    → a ≡ [] → b ≡ a ++ first_bytes l t → c ≡ b ++ names_bytes names → d ≡ c ++ terms_bytes [] entries → d ≡ front_bytes names entries
+unfolding front_bytes
+front_joined names entries l t a b c d len is none first named rest =
+    let totals : b ≡ totals_bytes names entries = first ∙ ap (λ xs. xs ++ first_bytes l t) none ∙ entries_first names entries l t len is in
+    rest ∙ ap (λ xs. xs ++ terms_bytes [] entries) (named ∙ ap (λ xs. xs ++ names_bytes names) totals) ∙ append_assoc (totals_bytes names entries) (names_bytes names) (terms_bytes [] entries)

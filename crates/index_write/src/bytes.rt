@@ -4,15 +4,15 @@ ghost use Rattle.index_layout.specs.Layout.{file_length, front_bytes, totals_byt
 ghost use Rattle.index_layout.specs.View.{index_text};
 ghost use Rattle.index_write.specs.Chosen.{head_data, chosen_terms, table_of};
 ghost use Rattle.index_write.specs.Saving.{Unmade};
-ghost use Rattle.index_write.specs.Streaming.{AreEntries, AreNames, Unspelled, entry_data, first_bytes};
+ghost use Rattle.index_write.specs.Streaming.{AreEntries, AreNames, Unspelled, entries_totals, entry_data, first_bytes};
 
 use crate::fault::SaveFault;
 use crate::front::{put_entries, put_names, put_terms};
 use crate::head::{PayloadHead, index_heads};
 use crate::laws::{entries_are_small, tables_have_their_sums, texts_have_their_parts};
-use crate::lengths::{file_len, index_len};
+use crate::lengths::{entries_payloads_len, front_len, index_len};
 use crate::payloads::put_all_payloads;
-use crate::sums::{heads_totals, totals};
+use crate::sums::totals;
 use crate::term_heads::TermHeads;
 use jass_base::{ImpactIndex, NoMemory, Row, Text, Totals};
 use std::alloc::Global;
@@ -56,22 +56,6 @@ fn put_totals(index: &ImpactIndex, len: u64, out: &mut Row<u8>) -> Result<(), No
     texts_have_their_parts();
     tables_have_their_sums();
     put_numbers(&totals(index), len, out)?;
-    Ok(())
-}
-
-/// Appends the first 40 bytes of names, terms and heads.
-fn put_entries_totals(
-    names: &[Text],
-    entries: &[TermHeads],
-    len: u64,
-    out: &mut Row<u8>,
-) -> Result<(), NoMemory>
-    requires names { AreNames names.now }
-    requires entries { AreEntries (map entry_data entries.now) }
-    requires len { len ≡ file_length names.now (map entry_data entries.now) }
-    ensures { OnOk result (out.new ≡ out.old ++ totals_bytes names.now (map entry_data entries.now)) }
-{
-    put_numbers(&heads_totals(names.len() as u32, entries), len, out)?;
     Ok(())
 }
 
@@ -119,39 +103,50 @@ pub fn index_bytes(alloc: Global, index: &ImpactIndex) -> Result<Row<u8>, SaveFa
     }
 }
 
-/// What stands before the payloads in a file of so many bytes.
-#[tactic(auto, unfolding(index_layout::specs::Layout::front_bytes))]
+/// What stands before the payloads, by the totals, by how many bytes this has and how many the file.
 fn spelled_front(
     alloc: Global,
     names: &[Text],
     entries: &[TermHeads],
+    totals: &Totals,
+    front: u64,
     len: u64,
 ) -> Result<Row<u8>, NoMemory>
     requires names { AreNames names.now }
     requires entries { AreEntries (map entry_data entries.now) }
+    requires totals { totals.now ≡ entries_totals (length names.now) (map entry_data entries.now) }
+    requires front { front ≡ length (front_bytes names.now (map entry_data entries.now)) }
     requires len { len ≡ file_length names.now (map entry_data entries.now) }
     ensures { IfOk result (λ row. row ≡ front_bytes names.now (map entry_data entries.now)) }
 {
     entries_are_small();
-    let mut out = Row::new(alloc);
-    put_entries_totals(names, entries, len, &mut out)?;
+    let mut out = with_room(alloc, front)?;
+    put_numbers(totals, len, &mut out)?;
     put_names(names, &mut out)?;
     put_entries(entries, &mut out)?;
     Ok(out)
 }
 
-/// What stands before the payloads in the file of names, terms and heads. TooLarge comes exactly
-/// where the file would have more than 2^32 bytes.
-pub fn front_of(alloc: Global, names: &[Text], entries: &[TermHeads]) -> Result<Row<u8>, SaveFault>
+/// What stands before the payloads in the file of names, terms and heads that have these totals.
+/// TooLarge comes exactly where the file would have more than 2^32 bytes.
+pub fn front_of(
+    alloc: Global,
+    names: &[Text],
+    entries: &[TermHeads],
+    totals: &Totals,
+) -> Result<Row<u8>, SaveFault>
     requires names { AreNames names.now }
     requires entries { AreEntries (map entry_data entries.now) }
+    requires totals { totals.now ≡ entries_totals (length names.now) (map entry_data entries.now) }
     ensures bytes { IfOk result (λ row. row ≡ front_bytes names.now (map entry_data entries.now)) }
     ensures fits { OnOk result (file_length names.now (map entry_data entries.now) ≤ 2 ^ 32) }
     ensures fault { IfErr result (Unspelled (file_length names.now (map entry_data entries.now))) }
 {
-    let len = file_len(names, entries);
+    entries_are_small();
+    let front = front_len(names, entries);
+    let len = front + entries_payloads_len(entries);
     if len <= MOST_BYTES {
-        match spelled_front(alloc, names, entries, len) {
+        match spelled_front(alloc, names, entries, totals, front, len) {
             Ok(bytes) => Ok(bytes),
             Err(_) => Err(SaveFault::NoMemory),
         }

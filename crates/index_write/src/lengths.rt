@@ -4,7 +4,7 @@ ghost use Rattle.std.specs.Prelude.{◌≡◌, ◌≤◌, ◌<◌, ◌+◌, ◌*
 ghost use Rattle.std.specs.List.{sum_by};
 ghost use Rattle.index_model.specs.Views.{term_data, index_data};
 ghost use Rattle.index_layout.specs.Heads.{HeadData, all_heads, payloads_size};
-ghost use Rattle.index_layout.specs.Layout.{file_length, names_bytes, rest_behind, shared_with, terms_bytes};
+ghost use Rattle.index_layout.specs.Layout.{file_length, front_bytes, names_bytes, rest_behind, shared_with, terms_bytes};
 ghost use Rattle.index_layout.specs.View.{index_text};
 ghost use Rattle.index_write.specs.Chosen.{head_data, chosen_terms, table_of};
 ghost use Rattle.index_write.specs.Streaming.{AreEntries, AreNames, entry_data};
@@ -111,8 +111,21 @@ fn entries_len(entries: &[TermHeads]) -> u64
     len
 }
 
+/// The bytes of what stands before the payloads of terms with their heads.
+pub fn front_len(names: &[Text], entries: &[TermHeads]) -> u64
+    requires names { AreNames names.now }
+    requires entries { AreEntries (map entry_data entries.now) }
+    ensures len { result ≡ length (front_bytes names.now (map entry_data entries.now)) }
+    ensures file { result + payloads_size (map entry_data entries.now)
+        ≡ file_length names.now (map entry_data entries.now) }
+    ensures few { result < 2 ^ 62 }
+{
+    entries_are_small();
+    40 + names_len(names) + entries_len(entries)
+}
+
 /// The bytes of the payloads of terms with their heads.
-fn entries_payloads_len(entries: &[TermHeads]) -> u64
+pub fn entries_payloads_len(entries: &[TermHeads]) -> u64
     requires { length (all_heads (map entry_data entries.now)) ≤ 2 ^ 29 }
     ensures len { result ≡ payloads_size (map entry_data entries.now) }
     ensures few { result ≤ 2 ^ 32 * length (all_heads (map entry_data entries.now)) }
@@ -135,14 +148,4 @@ fn few_payloads_len(heads: &[PayloadHead]) -> u64
         len += u64::from(head.bytes);
     }
     len
-}
-
-/// The bytes of the file with these names, terms and heads.
-pub fn file_len(names: &[Text], entries: &[TermHeads]) -> u64
-    requires names { AreNames names.now }
-    requires entries { AreEntries (map entry_data entries.now) }
-    ensures { result ≡ file_length names.now (map entry_data entries.now) }
-{
-    entries_are_small();
-    40 + names_len(names) + entries_len(entries) + entries_payloads_len(entries)
 }

@@ -29,11 +29,13 @@ use std::marker::Model;
 #[derive(Drop)]
 pub struct IndexWriter {
     name: Text,
-    docs: u32,
+    /// What the file counts, kept from the start so that the heads aren't gone over again.
+    totals: Totals,
     entries: Row<TermHeads>,
     left: usize,
     /// The payloads of one term, in room that each term uses again.
     payloads: Row<u8>,
+    ghost totals_are: { totals ≡ entries_totals totals.docs (map entry_data entries) },
 }
 
 impl Model for IndexWriter {
@@ -42,9 +44,9 @@ impl Model for IndexWriter {
 
     ghost Value = { WriterView };
 
-    ghost view = { λ w. writer_view w.name w.docs w.entries w.left };
+    ghost view = { λ w. writer_view w.name w.totals.docs w.entries w.left };
 
-    ghost invariant = { λ w. IsWriter (writer_view w.name w.docs w.entries w.left) };
+    ghost invariant = { λ w. IsWriter (writer_view w.name w.totals.docs w.entries w.left) };
 }
 
 impl IndexWriter {
@@ -77,7 +79,8 @@ impl IndexWriter {
         ensures later { C.write_faults files.old ≤ C.write_faults files.new }
         ensures others { C.read_faults files.old ≤ C.read_faults files.new }
     {
-        let front = front_of(alloc, names.as_slice(), terms.as_slice())?;
+        let totals = heads_totals(names.len() as u32, terms.as_slice());
+        let front = front_of(alloc, names.as_slice(), terms.as_slice(), &totals)?;
         let kept = match Text::from_str(alloc, name) {
             Ok(kept) => kept,
             Err(_) => return Err(SaveFault::NoMemory),
@@ -88,7 +91,7 @@ impl IndexWriter {
         }
         Ok(IndexWriter {
             name: kept,
-            docs: names.len() as u32,
+            totals,
             left: terms.len(),
             entries: terms,
             payloads: Row::new(alloc),
@@ -120,16 +123,23 @@ impl IndexWriter {
     {
         let IndexWriter {
             name,
-            docs,
+            totals,
             entries,
             left,
             mut payloads,
         } = self;
         let heads = heads_left(entries.as_slice(), left);
-        append_payloads(heads, segments, docs, &mut payloads, files, name.as_str())?;
+        append_payloads(
+            heads,
+            segments,
+            totals.docs,
+            &mut payloads,
+            files,
+            name.as_str(),
+        )?;
         Ok(IndexWriter {
             name,
-            docs,
+            totals,
             entries,
             left: left - 1,
             payloads,
@@ -147,7 +157,7 @@ impl IndexWriter {
         ensures others { C.read_faults files.old ≤ C.read_faults files.new }
     {
         files.append(self.name.as_str(), payloads)?;
-        Ok(heads_totals(self.docs, self.entries.as_slice()))
+        Ok(self.totals)
     }
 
     /// The totals of the file, all of whose terms were written.
@@ -155,7 +165,7 @@ impl IndexWriter {
         requires { self.left ≡ 0 }
         ensures { result ≡ entries_totals self.docs self.entries }
     {
-        heads_totals(self.docs, self.entries.as_slice())
+        self.totals
     }
 }
 
