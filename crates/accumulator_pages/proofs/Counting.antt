@@ -7,6 +7,7 @@ use Rattle.std.proofs.lemmas.Bool.Decides.{nat_tests}
 use Rattle.std.proofs.lemmas.List.{get_or-take, get_or-drop, length-take, length-drop}
 use Rattle.std.proofs.lemmas.List.Folds.{list_any-from_Any, list_any_none}
 use Rattle.std.proofs.lemmas.List.Sums.{sum_by-set, sum_by-cons, count_by-le-length}
+use Rattle.shared_lemmas.proofs.Places.{in_range}
 use mir.Val.{bool_byte}
 use Rattle.accumulator_pages.specs.Adding.{is_touched, touched_count, page_is_touched}
 use Rattle.accumulator_pages.specs.Pages.{HasTouched}
@@ -44,11 +45,6 @@ some_counted p (x ∷ xs) zero inside is = omega (arith, sum_by-cons (λ y. wort
 some_counted p (x ∷ xs) (suc i) inside is = omega (arith, sum_by-cons (λ y. worth (p y)) x xs, some_counted p xs i (omega arith) is)
 
 -- ---- pages
-
-pub in_range : (s : List ℕ) (d : ℕ) → 0 < get_or s d 0 → d < length s
-in_range [] d some = absurd (omega arith)
-in_range (x ∷ s) zero some = omega arith
-in_range (x ∷ s) (suc d) some = let h : d < length s = in_range s d some in omega arith
 
 pub touched_there : (scores : List ℕ) (page : ℕ) → HasTouched scores page → page_is_touched scores page ≡ true
 touched_there scores page has =

@@ -1,7 +1,7 @@
 -- Who passes a hit while a weight is added, and by how much scores rise.
-use Rattle.std.proofs.Common.{◌≡◌, ◌≢◌, ◌==◌, ℕ, suc, zero, Bool, true, false, cond, nat_lt, nat_le, ◌&&◌, ◌++◌, ◌+◌, ◌*◌, ◌<◌, ◌≤◌, List, [], ◌∷◌, length, get_or, set, count_by, All, AllPairs, Contains, refl, sym, ap, ◌∙◌, subst, inl, inr, ◌⊎◌, arith, length-set, get_or-set_same, get_or-set_other}
+use Rattle.std.proofs.Common.{◌≡◌, ◌≢◌, ◌==◌, ℕ, suc, zero, Bool, true, cond, nat_lt, nat_le, ◌&&◌, ◌++◌, ◌+◌, ◌*◌, ◌<◌, ◌≤◌, List, [], ◌∷◌, length, get_or, set, count_by, All, AllPairs, Contains, refl, sym, ap, ◌∙◌, subst, inl, inr, arith, length-set, get_or-set_same, get_or-set_other}
 use Rattle.std.specs.List.{AllByRecursion}
-use Rattle.std.proofs.lemmas.Bool.{cases_lt}
+use Rattle.std.proofs.lemmas.Bool.{cases_lt, cases_Bool}
 use Rattle.std.proofs.lemmas.Bool.Decides.{eqb_tells, nat_tests}
 use Rattle.std.proofs.lemmas.List.Elements.{Contains-append_left, Contains-append_right, Contains-append_cases, recursion_from_All, All-cons, All-nil}
 use Rattle.std.proofs.Math.Nat.{mul-add}
@@ -47,10 +47,6 @@ added-parts w (x ∷ front) back s = added-parts w front back (one_more w x s)
 
 -- ---- crossing
 
-either : (b : Bool) → (b ≡ true) ⊎ (b ≡ false)
-either true = inl refl
-either false = inr refl
-
 crosses : (before after floor : ℕ) → before < floor → floor ≤ after → (nat_lt before floor && nat_le floor after) ≡ true
 crosses before after floor below reached = grind (arith, nat_tests)
 
@@ -64,7 +60,7 @@ crossed_then before after floor test = (grind (arith, nat_tests), grind (arith, 
 
 crossed_only : (x d before after : ℕ) (last : Hit) → Contains (crossed x before after last) d → (d ≡ x) × (before < score_to_pass last x) × (score_to_pass last x ≤ after)
 crossed_only x d before after last has =
-    elim (either (nat_lt before (score_to_pass last x) && nat_le (score_to_pass last x) after)) as (λ _. (d ≡ x) × (before < score_to_pass last x) × (score_to_pass last x ≤ after)) [
+    elim (cases_Bool (nat_lt before (score_to_pass last x) && nat_le (score_to_pass last x) after)) as (λ _. (d ≡ x) × (before < score_to_pass last x) × (score_to_pass last x ≤ after)) [
       | inl yes_it ↦
           let one : Contains (x ∷ []) d = subst (λ (b : Bool). Contains (cond b (x ∷ []) []) d) yes_it has in
           let both = crossed_then before after (score_to_pass last x) yes_it in
@@ -131,7 +127,7 @@ once_by_recursion w n last [] s long within = λ i j d lt inside. absurd (omega 
 once_by_recursion w n last (x ∷ docs) s long within =
     let rest : List ℕ = raised w last docs (one_more w x s) in
     let pairs : AllPairs (λ a b. a ≢ b) rest = once_by_recursion w n last docs (one_more w x s) (size w x s ∙ long) within.1 in
-    elim (either (nat_lt (get_or s x 0) (score_to_pass last x) && nat_le (score_to_pass last x) (get_or s x 0 + w)))
+    elim (cases_Bool (nat_lt (get_or s x 0) (score_to_pass last x) && nat_le (score_to_pass last x) (get_or s x 0 + w)))
     as (λ _. AllPairs (λ a b. a ≢ b) (crossed x (get_or s x 0) (get_or s x 0 + w) last ++ rest)) [
       | inl now ↦
           let reached : score_to_pass last x ≤ get_or s x 0 + w = (crossed_then (get_or s x 0) (get_or s x 0 + w) (score_to_pass last x) now).1 in

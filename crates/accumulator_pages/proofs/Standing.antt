@@ -8,13 +8,14 @@ use Rattle.std.proofs.lemmas.Bool.Decides.{eqb_tells}
 use Rattle.std.proofs.lemmas.List.{length-replicate, get_or-replicate, get_or_read}
 use Rattle.std.proofs.lemmas.List.Folds.{sum_by-replicate}
 use Rattle.std.proofs.lemmas.List.FromFn.{length-map-range_with_len, get_or-map-range_with_len}
+use Rattle.shared_lemmas.proofs.Places.{in_range}
 use Rattle.frame_pool.specs.Pool.{PoolView, FrameContent}
 use Rattle.frame_pool.specs.ChainView.{ChainView, HasPage, HeldFrame, KeepsFrames, LeavesOthers, frame_with_page, number_with_page, slot_value, view_values, view_scores}
 use Rattle.accumulator_pages.specs.Adding.{page_count, touched_pages, page_is_touched}
 use Rattle.accumulator_pages.specs.declared.pages.Pages.{Pages}
 use Rattle.accumulator_pages.specs.Pages.{Stands, PagesStand, TableStands, HasTouched, HasRoom, HasRoomFor, frame_of_entry, no_frame, own_chain, own_view}
 use Rattle.accumulator_pages.proofs.Adding.{rises}
-use Rattle.accumulator_pages.proofs.Counting.{some_counted, pages_counted, in_range, touched_there, untouched_there}
+use Rattle.accumulator_pages.proofs.Counting.{some_counted, pages_counted, touched_there, untouched_there}
 
 -- ---- calls on other chains
 

@@ -3,7 +3,7 @@ use Rattle.std.proofs.Common.{◌≡◌, ◌≢◌, ℕ, zero, suc, ◌+◌, ◌
 use Rattle.std.specs.Prelude.{◌==◌, ◌&&◌, nat_eq, nat_lt, nat_le, is_some, slice_get}
 use Rattle.std.specs.List.{AllZip, AllByRecursion, IsDistinct, list_all}
 use Rattle.std.specs.Str.{is_utf8}
-use Rattle.std.proofs.lemmas.Bool.{cases_eq}
+use Rattle.std.proofs.lemmas.Bool.{cases_eq, and_parts, not-false}
 use Rattle.std.proofs.lemmas.Bool.Decides.{nat_tests}
 use Rattle.std.proofs.lemmas.List.{length-append, length-replicate, length-set}
 use Rattle.std.proofs.lemmas.List.Elements.{All-from_recursion, recursion_from_All}
@@ -29,18 +29,14 @@ use Rattle.ciff_read.proofs.WireLaws.{WireLaws, bound, done_is, unplaced}
 
 -- ---- names
 
-both_true : (a b : Bool) → (a && b) ≡ true → (a ≡ true) × (b ≡ true)
-both_true true b h = (refl, h)
-both_true false b h = absurd cc
-
 abbrev visible : ℕ → Bool
 visible b = nat_lt 32 b && not (b == 127)
 
 all_visible : (s : List ℕ) → list_all visible s ≡ true → AllByRecursion (λ b. (32 < b) × (b ≢ 127)) s
 all_visible [] h = tt
 all_visible (b ∷ s) h =
-    let t = both_true (visible b) (list_all visible s) h in
-    let u = both_true (nat_lt 32 b) (not (b == 127)) t.0 in
+    let t = and_parts (visible b) (list_all visible s) h in
+    let u = and_parts (nat_lt 32 b) (not (b == 127)) t.0 in
     let low = u.0 in
     let other = u.1 in
     ((grind (arith, nat_tests), (λ is. absurd (let e : (b == 127) ≡ true = grind (arith, nat_tests) in let f = ap not e in cc))), all_visible s t.1)
@@ -56,8 +52,8 @@ visible_all (b ∷ s) h =
 
 name_found : (s : List ℕ) → is_name s ≡ true → IsName s
 name_found s h =
-    let t = both_true (not (length s == 0) && nat_le (length s) 1048576) (list_all visible s) h in
-    let u = both_true (not (length s == 0)) (nat_le (length s) 1048576) t.0 in
+    let t = and_parts (not (length s == 0) && nat_le (length s) 1048576) (list_all visible s) h in
+    let u = and_parts (not (length s == 0)) (nat_le (length s) 1048576) t.0 in
     let a = u.0 in
     let b = u.1 in
     record { some = some (length s) a; fits = grind (arith, nat_tests); visible = All-from_recursion (λ b. (32 < b) × (b ≢ 127)) s (all_visible s t.1) }
@@ -123,10 +119,6 @@ six_passed false false false true e f u v w x y z p q is = absurd cc
 six_passed false false false false true f u v w x y z p q is = absurd cc
 six_passed false false false false false true u v w x y z p q is = absurd cc
 six_passed false false false false false false u v w x y z p q is = (refl, refl, refl, refl, refl, refl, cc)
-
-yes_of : (b : Bool) → not b ≡ false → b ≡ true
-yes_of true h = refl
-yes_of false h = absurd cc
 
 pub record DocFound (docs : ℕ) (table : List (Option DocData)) (body : List ℕ) (x : NumberedDoc) : Type 0 where
   pub is : IsDoc body x.number x.doc
@@ -261,7 +253,7 @@ module _ (laws : WireLaws) where
           numbered = ap (λ (z : NumberedDoc). z.number) (sym made);
           name = ap (λ (z : NumberedDoc). z.doc.name) (sym made);
           length = ap (λ (z : NumberedDoc). z.doc.length) (sym made);
-          fits = record { text = is_text y.doc.name t.3; name = name_found y.doc.name (yes_of (is_name y.doc.name) t.4); length = grind (arith, nat_tests) };
+          fits = record { text = is_text y.doc.name t.3; name = name_found y.doc.name (not-false (is_name y.doc.name) t.4); length = grind (arith, nat_tests) };
         };
         below = grind (arith, nat_tests);
         missing = sym (among_all table y.number) ∙ t.2;

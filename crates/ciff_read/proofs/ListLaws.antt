@@ -1,5 +1,5 @@
 -- The lists that are read are those of the messages, and those of the messages are read.
-use Rattle.std.proofs.Common.{◌≡◌, ℕ, zero, suc, ◌+◌, ◌^◌, ◌≤◌, Bool, true, false, List, [], ◌∷◌, ◌++◌, length, map, Result, Ok, refl, sym, ap, subst, ◌∙◌, append_assoc, arith}
+use Rattle.std.proofs.Common.{◌≡◌, ℕ, zero, suc, ◌+◌, ◌^◌, ◌≤◌, false, List, [], ◌∷◌, ◌++◌, length, map, Result, Ok, refl, sym, ap, subst, ◌∙◌, append_assoc, arith}
 use Rattle.std.specs.Prelude.{◌||◌, ⊤}
 use Rattle.std.specs.List.{AllZip, AllByRecursion, IsDistinct}
 use Rattle.std.specs.Str.{bytes_eq}
@@ -7,6 +7,7 @@ use Rattle.std.proofs.lemmas.Cmp.{nat_list_eq_equiv}
 use Rattle.std.proofs.lemmas.List.{length-append}
 use Rattle.std.proofs.lemmas.List.Folds.{list_any-append}
 use Rattle.std.proofs.lemmas.List.Sums.{sum_by-cons}
+use Rattle.std.proofs.lemmas.Bool.{or_parts, or_from}
 use Rattle.jass_base.specs.Ciff.{ListData, IsList, postings_count}
 use Rattle.jass_base.specs.Wire.{Spells, IsSized}
 use Rattle.ciff_read.specs.declared.refusal.CiffRefusal.{CiffRefusal}
@@ -24,21 +25,13 @@ abbrev pub AreNew : List (List ℕ) → List ListData → Type 0
 AreNew terms [] = ⊤
 AreNew terms (l ∷ ls) = (is_seen l.term terms ≡ false) × AreNew (terms ++ l.term ∷ []) ls
 
-neither : (a b : Bool) → (a || b) ≡ false → (a ≡ false) × (b ≡ false)
-neither true b h = absurd cc
-neither false b h = (refl, h)
-
-both_false : (a b : Bool) → a ≡ false → b ≡ false → (a || b) ≡ false
-both_false true b h k = absurd cc
-both_false false b h k = k
-
 seen-snoc : (u t : List ℕ) (terms : List (List ℕ)) → is_seen u (terms ++ t ∷ []) ≡ (is_seen u terms || (bytes_eq u t || false))
 seen-snoc u t terms = list_any-append (bytes_eq u) terms (t ∷ [])
 
 unseen_parts : (u t : List ℕ) (terms : List (List ℕ)) → is_seen u (terms ++ t ∷ []) ≡ false → (is_seen u terms ≡ false) × (bytes_eq u t ≡ false)
 unseen_parts u t terms h =
-    let a = neither (is_seen u terms) (bytes_eq u t || false) (sym (seen-snoc u t terms) ∙ h) in
-    let b = neither (bytes_eq u t) false a.1 in
+    let a = or_parts (is_seen u terms) (bytes_eq u t || false) (sym (seen-snoc u t terms) ∙ h) in
+    let b = or_parts (bytes_eq u t) false a.1 in
     (a.0, b.0)
 
 apart_from : (t : List ℕ) (terms : List (List ℕ)) (ls : List ListData) → ((u : List ℕ) → is_seen u terms ≡ false → bytes_eq t u ≡ false) → AreNew terms ls → AllByRecursion (λ u. bytes_eq t u ≡ false) (map (λ (l : ListData). l.term) ls)
@@ -53,7 +46,7 @@ distinct_found terms (l ∷ ls) new = (apart_from l.term (terms ++ l.term ∷ []
 unseen_on : (t : List ℕ) (terms : List (List ℕ)) (ls : List ListData) → AllByRecursion (λ (l : ListData). is_seen l.term terms ≡ false) ls → AllByRecursion (λ u. bytes_eq t u ≡ false) (map (λ (l : ListData). l.term) ls) → AllByRecursion (λ (l : ListData). is_seen l.term (terms ++ t ∷ []) ≡ false) ls
 unseen_on t terms [] h k = tt
 unseen_on t terms (l ∷ ls) h k =
-    (seen-snoc l.term t terms ∙ both_false (is_seen l.term terms) (bytes_eq l.term t || false) h.0 (both_false (bytes_eq l.term t) false (nat_list_eq_equiv.symm l.term t ∙ k.0) refl), unseen_on t terms ls h.1 k.1)
+    (seen-snoc l.term t terms ∙ or_from (is_seen l.term terms) (bytes_eq l.term t || false) h.0 (or_from (bytes_eq l.term t) false (nat_list_eq_equiv.symm l.term t ∙ k.0) refl), unseen_on t terms ls h.1 k.1)
 
 pub new_there : (terms : List (List ℕ)) (ls : List ListData) → AllByRecursion (λ (l : ListData). is_seen l.term terms ≡ false) ls → IsDistinct bytes_eq (map (λ (l : ListData). l.term) ls) → AreNew terms ls
 unfolding IsDistinct

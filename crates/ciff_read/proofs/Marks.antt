@@ -5,12 +5,8 @@ use Rattle.std.specs.Int.{bit_at, w64}
 use Rattle.std.proofs.lemmas.Bool.{cases_eq}
 use Rattle.std.proofs.lemmas.Bool.Decides.{nat_tests}
 use Rattle.std.proofs.lemmas.Nat.Bits.{bit_at_set_same, bit_at_set_other}
+use Rattle.shared_lemmas.proofs.Places.{zeros_there}
 use Rattle.ciff_read.specs.Marks.{is_marked}
-
-zeros_there : (n k : ℕ) → get_or (replicate {A = ℕ} n 0) k 0 ≡ 0
-zeros_there zero k = refl
-zeros_there (suc n) zero = refl
-zeros_there (suc n) (suc k) = zeros_there n k
 
 zeros_behind : (words : List ℕ) (more k : ℕ) → get_or (words ++ replicate more 0) k 0 ≡ get_or words k 0
 zeros_behind [] more k = zeros_there more k
@@ -48,8 +44,3 @@ marked_with words doc n inside =
           ] in
           ap (λ b. nat_eq b 1) bit ∙ ap (λ (t : Bool). t || is_marked words n) (sym is)
     ]
-
-pub any_default : (words : List ℕ) (k d : ℕ) → k < length words → get_or words k d ≡ get_or words k 0
-any_default [] k d inside = absurd (omega arith)
-any_default (w ∷ words) zero d inside = refl
-any_default (w ∷ words) (suc k) d inside = any_default words k d (omega arith)

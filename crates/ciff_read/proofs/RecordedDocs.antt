@@ -1,15 +1,11 @@
 -- A document's record that is judged in two steps.
-use Rattle.std.proofs.Common.{◌≡◌, ℕ, ◌^◌, ◌<◌, ◌≤◌, Bool, true, false, not, List, Err, refl, arith}
+use Rattle.std.proofs.Common.{◌≡◌, ℕ, ◌^◌, ◌<◌, ◌≤◌, true, false, List, Err, refl, arith}
 use Rattle.std.specs.Prelude.{nat_le}
 use Rattle.std.proofs.lemmas.Bool.Decides.{nat_tests}
 use Rattle.ciff_read.specs.declared.refusal.CiffWhy.TheVariants.{Range, DocRange}
 use Rattle.ciff_read.specs.Judging.{NumberedDoc, judge_doc, is_among}
 use Rattle.ciff_read.specs.Recording.{judge_rest}
 use Rattle.ciff_read.specs.Refusals.{placed}
-
-pub not_true : (b : Bool) → not b ≡ true → b ≡ false
-not_true true is = absurd cc
-not_true false is = refl
 
 module _ (at docs : ℕ) (numbers : List ℕ) (x : NumberedDoc) where
   pub number_over : 2 ^ 31 ≤ x.number → placed at (judge_doc docs numbers x) ≡ Err (record { at = at; why = Range })

@@ -5,7 +5,7 @@ use Rattle.std.specs.declared.alloc.Global.{Global}
 use Rattle.std.specs.List.Sorted.{IsStrictlyIncreasing}
 use Rattle.std.proofs.lemmas.Bool.{cases_lt}
 use Rattle.std.proofs.lemmas.Map.Keys.{below_from_sorted, sorted_from_strictly_increasing}
-use Rattle.std.proofs.lemmas.Option.{get_or_from_slice_get}
+use Rattle.std.proofs.lemmas.Option.{get_or_from_slice_get, same_Some}
 use Rattle.std.proofs.lemmas.List.{map-append, length-map, length-append, get_or-map}
 use Rattle.std.proofs.lemmas.List.Sums.{sum_by-append}
 use Rattle.std.proofs.lemmas.List.Elements.{All-append, All-map, Contains-append_right}
@@ -96,12 +96,9 @@ pub record KeptAt (kept : List KeptList) (i : ℕ) (place : ListPlace) : Type 0 
   pub at : list.at ≡ place.at
   pub count : list.count ≡ place.count
 
-some_is : {A : Type 0} (x y : A) → Some x ≡ Some y → x ≡ y
-some_is x y is = cc
-
 pub entry_kept : (entries : List (String Global × ListPlace)) (i : ℕ) (place : ListPlace) → slice_get (map (λ (e : String Global × ListPlace). e.1) entries) i ≡ Some place → KeptAt (map as_kept entries) i place
 entry_kept [] i place is = absurd cc
-entry_kept (e ∷ es) zero place is = let same = some_is e.1 place is in record { list = as_kept e; there = refl; at = ap (λ (p : ListPlace). p.at) same; count = ap (λ (p : ListPlace). p.count) same }
+entry_kept (e ∷ es) zero place is = let same = same_Some e.1 place is in record { list = as_kept e; there = refl; at = ap (λ (p : ListPlace). p.at) same; count = ap (λ (p : ListPlace). p.count) same }
 entry_kept (e ∷ es) (suc i) place is =
     let later = entry_kept es i place is in
     record { list = later.list; there = later.there; at = later.at; count = later.count }

@@ -1,15 +1,13 @@
 -- Bytes of a content from a place on.
-use Rattle.std.proofs.Common.{◌≡◌, ℕ, min, ◌+◌, ◌-◌, ◌≤◌, List, [], ◌++◌, length, take, drop, refl, sym, ap, ◌∙◌, length-take, length-drop, length-append, arith}
+use Rattle.std.proofs.Common.{◌≡◌, ℕ, ◌+◌, ◌-◌, ◌≤◌, List, [], ◌++◌, length, take, drop, refl, sym, ap, ◌∙◌, length-take, length-drop, length-append, arith}
 use Rattle.std.proofs.lemmas.List.{drop-drop, drop-take}
 use Rattle.std.proofs.Math.Seq.{take-add}
+use Rattle.std.proofs.Math.Nat.{min-eq_left}
 use Rattle.jass_base.specs.Outside.{AreBytesAt}
 use Rattle.ciff_read.specs.Window.{AreFrom}
 
 pub none_from : (content : List ℕ) (start : ℕ) → AreFrom content start []
 none_from content start = record { front = refl; within = omega arith }
-
-least : (m n : ℕ) → m ≤ n → min m n ≡ m
-least m n h = omega arith
 
 -- without the first so many
 pub later_from : (content bytes rest : List ℕ) (start at : ℕ) → AreFrom content start bytes → start ≤ at → at ≤ start + length bytes → rest ≡ drop (at - start) bytes → AreFrom content at rest
@@ -29,7 +27,7 @@ more_from content bytes piece grown start at count place is from read =
     let here : drop at content ≡ drop (length bytes) (drop start content) = ap (λ n. drop n content) place ∙ sym (drop-drop (length bytes) start content) in
     let got : take count piece ≡ take count (drop (length bytes) (drop start content)) = read.bytes ∙ ap (take count) here in
     let size : length grown ≡ length bytes + count
-    = ap length is ∙ length-append bytes (take count piece) ∙ ap (λ n. length bytes + n) (ap length read.bytes ∙ length-take count (drop at content) ∙ least count (length (drop at content)) read.within) in
+    = ap length is ∙ length-append bytes (take count piece) ∙ ap (λ n. length bytes + n) (ap length read.bytes ∙ length-take count (drop at content) ∙ min-eq_left read.within) in
     record {
       front = is ∙ ap (λ (xs : List ℕ). xs ++ take count piece) from.front ∙ ap (λ (xs : List ℕ). take (length bytes) (drop start content) ++ xs) got ∙ sym (take-add (length bytes) count (drop start content)) ∙ ap (λ n. take n (drop start content)) (sym size);
       within = omega (arith, size, read.within, ap length here, length-drop (length bytes) (drop start content), from.within);

@@ -2,8 +2,8 @@
 use Rattle.std.proofs.Common.{◌≡◌, ℕ, suc, ◌+◌, ◌*◌, ◌^◌, ◌<◌, ◌≤◌, Bool, true, false, cond, List, [], ◌∷◌, ◌++◌, length, take, drop, All, Result, Ok, Err, refl, sym, ap, ◌∙◌, ◌⊎◌, inl, inr, eqb-true, arith, subst}
 use Rattle.std.specs.Prelude.{nat_lt, ◌==◌}
 use Rattle.std.proofs.lemmas.Bool.{le-ltb, ltb-false}
-use Rattle.std.proofs.lemmas.Bool.Decides.{nat_tests}
 use Rattle.std.proofs.lemmas.List.{get_or-take, get_or-drop, length-drop, length-take, length-append, length-take-le, take-append-drop, take_at}
+use Rattle.shared_lemmas.proofs.Numbers.{number_itself}
 use Rattle.jass_base.specs.declared.payload_fault.PayloadFault.{PayloadFault}
 use Rattle.jass_base.specs.declared.payload_fault.PayloadFault.TheVariants.{Cut, Shape}
 use Rattle.lane_kernels.specs.Block.{block_bytes, block_values}
@@ -16,9 +16,6 @@ use Rattle.codec_packed.specs.Reading.{PackedBlock, block_at_width, block_in}
 abbrev pub read_as : List ℕ → ℕ → Result PackedBlock PayloadFault
 read_as gaps size = Ok (record { gaps = gaps; size = size })
 
-eqb-same : (n : ℕ) → (n == n) ≡ true
-eqb-same n = grind (arith, nat_tests)
-
 module _ (laws : BlockLaws) where
   pub block_again : (gaps rest : List ℕ) → length gaps ≡ 128 → All (λ gap. gap < 2 ^ 32) gaps → block_in (packed_block gaps ++ rest) ≡ read_as gaps (16 * least_width gaps + 1)
   unfolding block_in
@@ -29,7 +26,7 @@ module _ (laws : BlockLaws) where
       let long : nat_lt (length (block_bytes gaps width ++ rest)) (16 * width) ≡ false = le-ltb _ _ (omega (arith, length-append (block_bytes gaps width) rest, size)) in
       let values : block_values (take (16 * width) (block_bytes gaps width ++ rest)) width ≡ gaps
       = ap (λ (bytes : List ℕ). block_values bytes width) (take_at (block_bytes gaps width) rest (16 * width) size) ∙ laws.values gaps width many (laws.holds gaps small) in
-      let same : (width == width) ≡ true = eqb-same width in
+      let same : (width == width) ≡ true = number_itself width in
       rw (narrow, long, values, same) refl
 
 abbrev block_of : List ℕ → ℕ → PackedBlock

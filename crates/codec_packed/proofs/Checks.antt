@@ -1,8 +1,8 @@
 -- What a check says, gap by gap and block by block.
-use Rattle.std.proofs.Common.{◌≡◌, ℕ, suc, ◌+◌, ◌-◌, ◌<◌, ◌≤◌, Bool, true, false, cond, nat_lt, List, [], ◌∷◌, ◌++◌, length, drop, sum, Result, Ok, Err, ◌⊎◌, inl, inr, refl, sym, subst, ap, ◌∙◌, arith}
+use Rattle.std.proofs.Common.{◌≡◌, ℕ, suc, ◌+◌, ◌-◌, ◌<◌, ◌≤◌, Bool, true, false, cond, nat_lt, List, [], ◌∷◌, ◌++◌, length, drop, sum, Result, Ok, Err, inl, inr, refl, sym, subst, ap, ◌∙◌, arith}
 use Rattle.std.specs.Prelude.{◌==◌, ◌↔◌, IsTrue}
 use Rattle.std.specs.List.{list_all}
-use Rattle.std.proofs.lemmas.Bool.{cases_lt, lt-ltb, le-ltb}
+use Rattle.std.proofs.lemmas.Bool.{cases_lt, lt-ltb, le-ltb, cases_Bool}
 use Rattle.std.proofs.lemmas.Bool.Decides.{nat_tests}
 use Rattle.std.proofs.lemmas.List.{drop-drop}
 use Rattle.jass_base.specs.Gaps.{◌>>=◌, GapSpelling, Judges, docs_from, gap_in, read_gaps}
@@ -77,15 +77,11 @@ turns_end d next n turn place bytes whole past is = is ∙ ap (λ k. verdict (re
 
 -- ---- block by block
 module _ (d least : ℕ) (gaps : List ℕ) (full : length gaps ≡ 128) where
-  either : (b : Bool) → (b ≡ true) ⊎ (b ≡ false)
-  either true = inl refl
-  either false = inr refl
-
   pub range_ok : least + sum gaps + 127 < d → list_all (λ doc. nat_lt doc d) (docs_from least gaps) ≡ true
   range_ok fits = tests_from d least (docs_from least gaps) (gaps_fit d least gaps (omega (arith, fits, full)))
 
   pub range_fault : least ≤ d → d ≤ least + sum gaps + 127 → list_all (λ doc. nat_lt doc d) (docs_from least gaps) ≡ false
-  range_fault le far = elim (either (list_all (λ doc. nat_lt doc d) (docs_from least gaps))) [
+  range_fault le far = elim (cases_Bool (list_all (λ doc. nat_lt doc d) (docs_from least gaps))) [
     | inl all ↦ absurd (omega (arith, behind_le d least (docs_from least gaps) le (gaps_tested d least gaps all), behind_gaps least gaps, full, far))
     | inr some ↦ some
   ]

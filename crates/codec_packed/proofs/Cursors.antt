@@ -2,6 +2,7 @@
 use Rattle.std.proofs.Common.{◌≡◌, ℕ, suc, ◌+◌, ◌-◌, ◌*◌, ◌/◌, ◌^◌, ◌<◌, ◌≤◌, List, [], ◌∷◌, ◌++◌, length, get_or, take, drop, sum, set, All, Err, refl, sym, ap, ◌∙◌, arith, subst}
 use Rattle.std.specs.Prelude.{IsOk}
 use Rattle.std.proofs.lemmas.List.{length-take-le, length-drop, length-append, take_at, drop_at, drop_more, take_more, take_more_set, take_all, drop_all, get_or-drop, drop-drop}
+use Rattle.jass_base.proofs.Gaps.{length-gaps_from}
 use Rattle.jass_base.specs.Gaps.{GapSpelling, gaps_from, spelled_gaps, gap_in}
 use Rattle.jass_base.specs.declared.payload_fault.PayloadFault.{PayloadFault}
 use Rattle.jass_base.specs.Wire.{short_varint}
@@ -13,7 +14,7 @@ use Rattle.codec_packed.specs.Giving.{AreFrom, Gives}
 use Rattle.codec_packed.specs.Packing.{packed_block, packed_gaps}
 use Rattle.codec_packed.specs.Steps.{BlockLaws}
 use Rattle.codec_packed.proofs.Checks.{gap_as}
-use Rattle.codec_packed.proofs.Docs.{behind, behind_gaps, behind_le_some, docs_of_gaps, length-gaps_from, running_docs, take_gaps, drop_gaps, take_from, drop_from, small_gaps}
+use Rattle.codec_packed.proofs.Docs.{behind, behind_gaps, behind_le_some, docs_of_gaps, running_docs, take_gaps, drop_gaps, take_from, drop_from, small_gaps}
 use Rattle.codec_packed.proofs.BlockTurns.{behind_last, narrow}
 
 -- ---- a full block

@@ -1,10 +1,11 @@
 -- Documents and their gaps, in parts.
-use Rattle.std.proofs.Common.{◌≡◌, ℕ, zero, suc, ◌+◌, ◌-◌, ◌^◌, ◌<◌, ◌≤◌, Bool, true, false, List, [], ◌∷◌, ◌++◌, length, get_or, take, drop, sum, All, refl, sym, ap, arith, subst}
+use Rattle.std.proofs.Common.{◌≡◌, ℕ, zero, suc, ◌+◌, ◌-◌, ◌^◌, ◌<◌, ◌≤◌, true, List, [], ◌∷◌, ◌++◌, length, get_or, take, drop, sum, All, refl, sym, ap, arith, subst}
 use Rattle.std.specs.Prelude.{nat_lt, ◌&&◌}
 use Rattle.std.specs.List.{list_all}
 use Rattle.std.specs.List.Sorted.{IsStrictlyIncreasing}
 use Rattle.std.proofs.lemmas.Bool.Decides.{nat_tests}
 use Rattle.std.proofs.lemmas.List.Sums.{sum_by-cons}
+use Rattle.std.proofs.lemmas.Bool.{and_parts}
 use Rattle.jass_base.specs.Gaps.{AreDocs, gaps_from, docs_from}
 use Rattle.lane_kernels.specs.Gaps.{running}
 use Rattle.codec_packed.specs.Giving.{AreFrom}
@@ -63,20 +64,6 @@ docs_of_gaps d least (doc ∷ docs) are =
     let same : least + (doc - least) ≡ doc = omega (arith, are.0) in
     rw same (ap (λ (xs : List ℕ). doc ∷ xs) (docs_of_gaps d (doc + 1) docs are.2))
 
-pub gaps_of_docs : (least : ℕ) (gaps : List ℕ) → gaps_from least (docs_from least gaps) ≡ gaps
-gaps_of_docs least [] = refl
-gaps_of_docs least (gap ∷ gaps) =
-    let same : least + gap - least ≡ gap = omega arith in
-    rw same (ap (λ (xs : List ℕ). gap ∷ xs) (gaps_of_docs (least + gap + 1) gaps))
-
-pub length-gaps_from : (least : ℕ) (docs : List ℕ) → length (gaps_from least docs) ≡ length docs
-length-gaps_from least [] = refl
-length-gaps_from least (doc ∷ docs) = ap suc (length-gaps_from (doc + 1) docs)
-
-pub length-docs_from : (least : ℕ) (gaps : List ℕ) → length (docs_from least gaps) ≡ length gaps
-length-docs_from least [] = refl
-length-docs_from least (gap ∷ gaps) = ap suc (length-docs_from (least + gap + 1) gaps)
-
 pub running_docs : (least : ℕ) (gaps : List ℕ) → running least gaps ≡ docs_from least gaps
 running_docs least [] = refl
 running_docs least (gap ∷ gaps) = ap (λ (xs : List ℕ). (least + gap) ∷ xs) (running_docs (least + gap + 1) gaps)
@@ -133,10 +120,6 @@ tests_from d least [] are = refl
 tests_from d least (doc ∷ docs) are =
     let below : nat_lt doc d ≡ true = let l = are.1 in grind (arith, nat_tests) in
     rw below (tests_from d (doc + 1) docs are.2)
-
-and_parts : (a b : Bool) → (a && b) ≡ true → (a ≡ true) × (b ≡ true)
-and_parts true b is = (refl, is)
-and_parts false b is = absurd (let e : false ≡ true = is in cc)
 
 pub gaps_tested : (d least : ℕ) (gaps : List ℕ) → list_all (λ doc. nat_lt doc d) (docs_from least gaps) ≡ true → AreFrom d least (docs_from least gaps)
 gaps_tested d least [] all = tt

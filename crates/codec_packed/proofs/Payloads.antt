@@ -3,6 +3,7 @@ use Rattle.std.proofs.Common.{◌≡◌, ℕ, zero, suc, ◌+◌, ◌*◌, ◌/�
 use Rattle.std.specs.Prelude.{nat_lt}
 use Rattle.std.specs.List.{list_all}
 use Rattle.std.proofs.lemmas.List.{length-drop, length-append, length-take-le, take-append-drop, take_at, drop_at}
+use Rattle.jass_base.proofs.Gaps.{gaps_again, length-gaps_from, length-docs_from}
 use Rattle.jass_base.specs.Gaps.{◌>>=◌, AreDocs, gaps_from, docs_from}
 use Rattle.jass_base.specs.declared.payload_fault.PayloadFault.{PayloadFault}
 use Rattle.jass_base.specs.declared.payload_fault.PayloadFault.TheVariants.{DocRange}
@@ -11,7 +12,7 @@ use Rattle.codec_packed.specs.Giving.{AreFrom}
 use Rattle.codec_packed.specs.Packing.{packed_block, packed_gaps, packed_of}
 use Rattle.codec_packed.specs.Steps.{BlockLaws, TailLaws}
 use Rattle.codec_packed.specs.Reading.{PackedBlock, block_in, read_blocks, read_packed}
-use Rattle.codec_packed.proofs.Docs.{behind, from_docs, docs_from_all, docs_of_gaps, gaps_of_docs, length-gaps_from, length-docs_from, behind_gaps, take_gaps, drop_gaps, take_from, drop_from, append_from, append_gaps, small_gaps, tests_from, gaps_tested}
+use Rattle.codec_packed.proofs.Docs.{behind, from_docs, docs_from_all, docs_of_gaps, behind_gaps, take_gaps, drop_gaps, take_from, drop_from, append_from, append_gaps, small_gaps, tests_from, gaps_tested}
 use Rattle.codec_packed.proofs.Blocks.{block_again, StandsBlock, block_stands, all_rest}
 
 abbrev docs_read : List ℕ → Result (List ℕ) PayloadFault
@@ -86,7 +87,7 @@ module _ (d least blocks rest size : ℕ) (bytes gaps more : List ℕ) (stands :
 
   all_gaps : gaps_from least (docs_from least gaps ++ more) ≡ gaps ++ gaps_from (least + sum gaps + 128) more
   all_gaps = append_gaps least (docs_from least gaps) more
-      ∙ ap (λ (xs : List ℕ). xs ++ gaps_from (behind least (docs_from least gaps)) more) (gaps_of_docs least gaps)
+      ∙ ap (λ (xs : List ℕ). xs ++ gaps_from (behind least (docs_from least gaps)) more) (gaps_again least gaps)
       ∙ ap (λ n. gaps ++ gaps_from n more) next
 
   spelled_again : packed_gaps (suc blocks) (gaps ++ gaps_from (least + sum gaps + 128) more) ≡ packed_block gaps ++ packed_gaps blocks (gaps_from (least + sum gaps + 128) more)

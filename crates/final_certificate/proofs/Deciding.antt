@@ -3,7 +3,7 @@ use Rattle.std.proofs.Common.{◌≡◌, ℕ, zero, suc, ◌+◌, ◌<◌, ◌�
 use Rattle.std.specs.Prelude.{IsPermutation, slice_get, nat_lt}
 use Rattle.std.specs.Option.{is_none}
 use Rattle.std.specs.List.{AllByRecursion, position_or_len}
-use Rattle.std.proofs.lemmas.Bool.{cases_lt, ltb-true, ltb-false}
+use Rattle.std.proofs.lemmas.Bool.{cases_lt, ltb-true, ltb-false, and_parts, and_cases}
 use Rattle.std.proofs.lemmas.Bool.Decides.{nat_tests}
 use Rattle.std.proofs.lemmas.List.{length-take}
 use Rattle.std.proofs.lemmas.List.Quantifiers.{position-Some}
@@ -18,10 +18,11 @@ use Rattle.ranking_model.specs.declared.standing.Standing.{Standing}
 use Rattle.ranking_model.specs.Finality.{raised, first_documents, IsSettled, IsKept, IsGrade}
 use Rattle.jass_base.specs.declared.answer.Grade.TheVariants.{Final, Set, Open}
 use Rattle.std.proofs.lemmas.Bool.{cases_Bool}
+use Rattle.shared_lemmas.proofs.Lists.{all_weaker, all_both, all_take, all_drop, all_append, all_filter, filter_passes}
 use Rattle.ranking_model.proofs.Sorting.{Ascends, sorted_ascends}
 use Rattle.ranking_model.proofs.Orders.{rank_total}
 use Rattle.final_certificate.specs.Rule.{gained, is_safe, are_safe, ends_safe, unscored, do_documents_stay, grade_by}
-use Rattle.final_certificate.proofs.Lists.{all_imp, all_both, all_take, all_drop, all_append, all_filter, all_pass, sum_by-filter, sum_by-same, ascends_take, ascends_drop}
+use Rattle.final_certificate.proofs.Lists.{sum_by-filter, sum_by-same, ascends_take, ascends_drop}
 use Rattle.final_certificate.proofs.Lifting.{is_unscored, is_scored, documents_from, hits_documents, lift, gains_by, raised_documents, are_gains, gain_of_doc, gain_small, gains_by_doc, true_from, documents_below, count_doc, at_most_once, at_least_once}
 use Rattle.final_certificate.proofs.Edges.{Leads, leads_trans, both_gain, leads_itself, safe_leads, ranked, front, others, docs, StaysBefore, keeps_documents, keeps_order}
 use Rattle.final_certificate.proofs.Refuting.{count_own, one, one_small, IsTrueTo, true_ranked, kept_safe, few_enter, settled_safe}
@@ -54,10 +55,10 @@ ranked_ascends scores = sorted_ascends rank_cmp rank_total (filter is_scored (of
 reach : (bound : ℕ) (xs : List Hit) (other : Hit) (ys : List Hit) → Ascends rank_cmp xs → ends_safe bound xs (Some other) ≡ true → AllByRecursion (λ u. Leads other u) ys → StaysBefore bound xs ys
 reach bound [] other ys asc safe after = tt
 reach bound (a ∷ []) other ys asc safe after =
-    (all_imp (λ u. Leads other u) (λ u. Leads a (gained bound u)) (λ u l. leads_trans a (gained bound other) (gained bound u) (safe_leads bound a other safe) (both_gain bound other u l)) ys after, tt)
+    (all_weaker (λ u. Leads other u) (λ u. Leads a (gained bound u)) (λ u l. leads_trans a (gained bound other) (gained bound u) (safe_leads bound a other safe) (both_gain bound other u l)) ys after, tt)
 reach bound (a ∷ b ∷ xs) other ys asc safe after =
     let rest = reach bound (b ∷ xs) other ys asc.1 safe after in
-    (all_imp (λ u. Leads b (gained bound u)) (λ u. Leads a (gained bound u)) (λ u l. leads_trans a b (gained bound u) asc.0.0 l) ys rest.0, rest)
+    (all_weaker (λ u. Leads b (gained bound u)) (λ u. Leads a (gained bound u)) (λ u l. leads_trans a b (gained bound u) asc.0.0 l) ys rest.0, rest)
 
 nothing_behind : (bound : ℕ) (xs : List Hit) → StaysBefore bound xs []
 nothing_behind bound [] = tt
@@ -74,8 +75,8 @@ before_both bound (x ∷ xs) ys zs a b = (all_append (λ u. Leads x (gained boun
 -- the least document of score 0 leads those of score 0
 unscored_after : (scores : List ℕ) (least : ℕ) → least_untouched scores ≡ Some least → AllByRecursion (λ u. Leads (record { doc = least; score = 0 }) u) (filter is_unscored (of_scores scores))
 unscored_after scores least is =
-    all_imp (λ (u : Hit). (u.score ≡ score_at scores u.doc) × (is_unscored u ≡ true)) (λ u. Leads (record { doc = least; score = 0 }) u) (λ u h. after u (cases_lt u.doc least) h.0 h.1) (filter is_unscored (of_scores scores))
-    (all_both (λ (u : Hit). u.score ≡ score_at scores u.doc) (λ u. is_unscored u ≡ true) (filter is_unscored (of_scores scores)) (all_filter (λ (u : Hit). u.score ≡ score_at scores u.doc) is_unscored (of_scores scores) (trues scores)) (all_pass is_unscored (of_scores scores)))
+    all_weaker (λ (u : Hit). (u.score ≡ score_at scores u.doc) × (is_unscored u ≡ true)) (λ u. Leads (record { doc = least; score = 0 }) u) (λ u h. after u (cases_lt u.doc least) h.0 h.1) (filter is_unscored (of_scores scores))
+    (all_both (λ (u : Hit). u.score ≡ score_at scores u.doc) (λ u. is_unscored u ≡ true) (filter is_unscored (of_scores scores)) (all_filter (λ (u : Hit). u.score ≡ score_at scores u.doc) is_unscored (of_scores scores) (trues scores)) (filter_passes is_unscored (of_scores scores)))
   where
     least_is : (least < length scores) × ((get_or scores least 0 == 0) ≡ true) × ((k : ℕ) → k < least → (get_or scores k 0 == 0) ≡ false)
     least_is = position-Some (λ score. score == 0) scores least 0 is
@@ -91,7 +92,7 @@ no_zero scores is k inside = by (cases_Bool (nat_lt (position_or_len (λ score. 
   by (inr f) = fails_before_first (λ score. score == 0) scores k 0 (let p = ltb-false _ _ f in omega arith)
 
 all_scored : (scores : List ℕ) → least_untouched scores ≡ None → filter is_unscored (of_scores scores) ≡ []
-all_scored scores is = none (of_scores scores) (all_imp (λ (u : Hit). (u.score ≡ score_at scores u.doc) × (u.doc < length scores)) (λ u. is_unscored u ≡ false)
+all_scored scores is = none (of_scores scores) (all_weaker (λ (u : Hit). (u.score ≡ score_at scores u.doc) × (u.doc < length scores)) (λ u. is_unscored u ≡ false)
     (λ u h. ap (λ n. n == 0) h.0 ∙ no_zero scores is u.doc h.1) (of_scores scores)
     (all_both (λ (u : Hit). u.score ≡ score_at scores u.doc) (λ (u : Hit). u.doc < length scores) (of_scores scores) (trues scores) (documents_below 0 (length scores) scores (omega arith))))
   where
@@ -171,17 +172,12 @@ stays_few scores k bound None is less none =
     let e : others (of_scores scores) k ≡ [] = ap (λ (l : List Hit). l ++ filter is_unscored (of_scores scores)) (drop_of_length-le (ranked (of_scores scores)) past) ∙ all_scored scores is in
     (inr e, subst (λ l. StaysBefore bound (front (of_scores scores) k) l) (sym e) (nothing_behind bound (front (of_scores scores) k)))
 
-both_true : (p q : Bool) → (p && q) ≡ true → (p ≡ true) × (q ≡ true)
-both_true true true e = (refl, refl)
-both_true true false e = absurd (true≢false (sym e))
-both_true false q e = absurd (true≢false (sym e))
-
 stays : (scores : List ℕ) (k bound : ℕ) (least : Option ℕ) → least_untouched scores ≡ least → Rule scores k bound least ≡ true → Stays scores k bound
 stays scores k bound least is rule = by (cases_Bool (nat_lt (length (front (of_scores scores) k)) k)) where
   by : (nat_lt (length (front (of_scores scores) k)) k ≡ true) ⊎ (nat_lt (length (front (of_scores scores) k)) k ≡ false) → Stays scores k bound
   by (inl t) = stays_few scores k bound least is (ltb-true _ _ t) (sym (rule_few k bound (front (of_scores scores) k) (slice_get (drop k (ranked (of_scores scores))) 0) least t) ∙ rule)
   by (inr f) =
-      let safe = both_true (ends_safe bound (front (of_scores scores) k) (slice_get (drop k (ranked (of_scores scores))) 0)) (ends_safe bound (front (of_scores scores) k) (unscored least))
+      let safe = and_parts (ends_safe bound (front (of_scores scores) k) (slice_get (drop k (ranked (of_scores scores))) 0)) (ends_safe bound (front (of_scores scores) k) (unscored least))
       (sym (rule_full k bound (front (of_scores scores) k) (slice_get (drop k (ranked (of_scores scores))) 0) least f) ∙ rule) in
       let m = few scores k in
       let n = ltb-false _ _ f in
@@ -240,7 +236,7 @@ unscored_out scores k least is =
     let a = sum_by-append (λ (h : Hit). cond (h.doc == least) 1 0) (drop k (ranked (of_scores scores))) (filter is_unscored (of_scores scores)) in
     let b = sum_by-filter is_unscored (λ (h : Hit). cond (h.doc == least) 1 0) (of_scores scores) in
     let c = sum_by-same (λ (h : Hit). cond (is_unscored h) (cond (h.doc == least) 1 0) 0) (λ (h : Hit). cond (h.doc == least) 1 0) (of_scores scores)
-    (all_imp (λ (h : Hit). h.score ≡ score_at scores h.doc) (λ (h : Hit). ◌≡◌ {A = ℕ} (cond (is_unscored h) (cond (h.doc == least) 1 0) 0) (cond (h.doc == least) 1 0)) (λ h e. one_of h e) (of_scores scores) (trues scores))
+    (all_weaker (λ (h : Hit). h.score ≡ score_at scores h.doc) (λ (h : Hit). ◌≡◌ {A = ℕ} (cond (is_unscored h) (cond (h.doc == least) 1 0) 0) (cond (h.doc == least) 1 0)) (λ h e. one_of h e) (of_scores scores) (trues scores))
     in
     let d = at_least_once least 0 scores (omega arith) (let l = least_is.0 in omega arith) in
     omega arith
@@ -291,10 +287,6 @@ unscored_enters scores k bound None is some less there still_kept = absurd (true
 unscored_enters scores k bound (Some least) is some less there still_kept =
     few_enter (of_scores scores) (once scores) k bound least some less (unscored_out scores k least is) (from_kept scores k bound still_kept (one bound least) (one_small bound least))
 
-one_false : (p q : Bool) → (p && q) ≡ false → (p ≡ false) ⊎ (q ≡ false)
-one_false true q e = inr e
-one_false false q e = inl refl
-
 not_kept : (scores : List ℕ) (k bound : ℕ) (least : Option ℕ) → least_untouched scores ≡ least → 1 ≤ bound → Rule scores k bound least ≡ false → IsKept scores k bound → ⊥
 not_kept scores k bound least is some rule still_kept = by (cases_Bool (nat_lt (length (front (of_scores scores) k)) k)) where
   edge : (ends_safe bound (front (of_scores scores) k) (slice_get (drop k (ranked (of_scores scores))) 0) ≡ false) ⊎ (ends_safe bound (front (of_scores scores) k) (unscored least) ≡ false) → ⊥
@@ -303,7 +295,7 @@ not_kept scores k bound least is some rule still_kept = by (cases_Bool (nat_lt (
 
   by : (nat_lt (length (front (of_scores scores) k)) k ≡ true) ⊎ (nat_lt (length (front (of_scores scores) k)) k ≡ false) → ⊥
   by (inl t) = unscored_enters scores k bound least is some (ltb-true _ _ t) (sym (rule_few k bound (front (of_scores scores) k) (slice_get (drop k (ranked (of_scores scores))) 0) least t) ∙ rule) still_kept
-  by (inr f) = edge (one_false (ends_safe bound (front (of_scores scores) k) (slice_get (drop k (ranked (of_scores scores))) 0)) (ends_safe bound (front (of_scores scores) k) (unscored least))
+  by (inr f) = edge (and_cases (ends_safe bound (front (of_scores scores) k) (slice_get (drop k (ranked (of_scores scores))) 0)) (ends_safe bound (front (of_scores scores) k) (unscored least))
       (sym (rule_full k bound (front (of_scores scores) k) (slice_get (drop k (ranked (of_scores scores))) 0) least f) ∙ rule))
 
 settled_is_kept : (scores : List ℕ) (k bound : ℕ) → IsSettled scores k bound → IsKept scores k bound

@@ -12,13 +12,15 @@ use Rattle.std.proofs.lemmas.List.Sorted.{IsPermutation-map, length_permutation}
 use Rattle.std.proofs.lemmas.List.Sums.{sum_by-append, sum_by-take-drop}
 use Rattle.std.proofs.lemmas.List.Filters.{sum_by-filter_both}
 use Rattle.std.proofs.Math.Seq.{take-append_seam}
+use Rattle.shared_lemmas.proofs.Sums.{sum_map}
+use Rattle.shared_lemmas.proofs.Lists.{all_weaker, all_take, all_map, filter_passes}
 use Rattle.jass_base.specs.declared.answer.Hit.{Hit}
 use Rattle.ranking_model.specs.Order.{sorted}
 use Rattle.ranking_model.specs.Scores.{rank_cmp}
 use Rattle.ranking_model.proofs.Sorting.{Ascends, sum_by-sorted, all_sorted}
 use Rattle.ranking_model.proofs.Orders.{rank_total, rank_same}
 use Rattle.final_certificate.specs.Rule.{gained, is_safe, are_safe}
-use Rattle.final_certificate.proofs.Lists.{all_imp, all_take, all_map, all_pass, sum_by-map, sorted_itself, sorted_moves, sorted_parts}
+use Rattle.final_certificate.proofs.Lists.{sorted_itself, sorted_moves, sorted_parts}
 use Rattle.final_certificate.proofs.Lifting.{is_unscored, is_scored, lift}
 
 -- ---- two documents
@@ -80,7 +82,7 @@ parted all k f =
     omega arith
 
 front_scored : (all : List Hit) (k : ℕ) → AllByRecursion (λ h. is_scored h ≡ true) (front all k)
-front_scored all k = all_take (λ h. is_scored h ≡ true) k (ranked all) (all_sorted rank_cmp (λ h. is_scored h ≡ true) (filter is_scored all) (all_pass is_scored all))
+front_scored all k = all_take (λ h. is_scored h ≡ true) k (ranked all) (all_sorted rank_cmp (λ h. is_scored h ≡ true) (filter is_scored all) (filter_passes is_scored all))
 
 lift_scored : (gain : ℕ) (h : Hit) → is_scored h ≡ true → is_scored (gained gain h) ≡ true
 lift_scored gain h t = grind (arith, nat_tests)
@@ -89,9 +91,9 @@ map_leads : (gain : ℕ → ℕ) (bound : ℕ) → ((d : ℕ) → gain d ≤ bou
     → AllByRecursion (λ a. AllByRecursion (λ b. Leads a b) (map (lift gain) ys)) (map (lift gain) xs)
 map_leads gain bound small xs ys h =
     all_map (λ a. AllByRecursion (λ b. Leads a b) (map (lift gain) ys)) (lift gain) xs
-    (all_imp (λ a. AllByRecursion (λ b. Leads a (gained bound b)) ys) (λ a. AllByRecursion (λ b. Leads (lift gain a) b) (map (lift gain) ys))
+    (all_weaker (λ a. AllByRecursion (λ b. Leads a (gained bound b)) ys) (λ a. AllByRecursion (λ b. Leads (lift gain a) b) (map (lift gain) ys))
     (λ a k. all_map (λ b. Leads (lift gain a) b) (lift gain) ys
-    (all_imp (λ b. Leads a (gained bound b)) (λ b. Leads (lift gain a) (lift gain b))
+    (all_weaker (λ b. Leads a (gained bound b)) (λ b. Leads (lift gain a) (lift gain b))
     (λ b l. leads_trans (lift gain a) a (lift gain b) (gained_leads (gain a.doc) a) (leads_trans a (gained bound b) (lift gain b) l (more_leads (gain b.doc) bound b (small b.doc)))) ys k)) xs h)
 
 -- where the others stay behind, the first are the same documents in the order of their new scores
@@ -104,12 +106,12 @@ keeps all k gain bound small full above = ap (take k) parts ∙ cut full where
   parts : ranked (map (lift gain) all) ≡ sorted rank_cmp (map (lift gain) (front all k)) ++ sorted rank_cmp (filter is_scored (map (lift gain) (others all k)))
   parts = sorted_parts rank_cmp rank_total rank_same is_scored (map (lift gain) all) (map (lift gain) (front all k)) (map (lift gain) (others all k))
       (λ f.
-      let a = sum_by-map (lift gain) f all in
-      let b = sum_by-map (lift gain) f (front all k) in
-      let c = sum_by-map (lift gain) f (others all k) in
+      let a = sum_map f (lift gain) all in
+      let b = sum_map f (lift gain) (front all k) in
+      let c = sum_map f (lift gain) (others all k) in
       let d = parted all k (λ x. f (lift gain x)) in
       omega arith)
-      (all_map (λ h. is_scored h ≡ true) (lift gain) (front all k) (all_imp (λ h. is_scored h ≡ true) (λ h. is_scored (lift gain h) ≡ true) (λ h t. lift_scored (gain h.doc) h t) (front all k) (front_scored all k)))
+      (all_map (λ h. is_scored h ≡ true) (lift gain) (front all k) (all_weaker (λ h. is_scored h ≡ true) (λ h. is_scored (lift gain h) ≡ true) (λ h t. lift_scored (gain h.doc) h t) (front all k) (front_scored all k)))
       (map_leads gain bound small (front all k) (others all k) above)
 
   size : length (sorted rank_cmp (map (lift gain) (front all k))) ≡ length (front all k)
@@ -149,7 +151,7 @@ chain gain bound small (a ∷ b ∷ xs) h =
     let two = split (is_safe bound a b) (are_safe bound (b ∷ xs)) h in
     let rest = chain gain bound small (b ∷ xs) two.1 in
     let step : Leads (lift gain a) (lift gain b) = leads_trans (lift gain a) a (lift gain b) (gained_leads (gain a.doc) a) (leads_trans a (gained bound b) (lift gain b) (safe_leads bound a b two.0) (more_leads (gain b.doc) bound b (small b.doc))) in
-    ((step, all_imp (λ y. Leads (lift gain b) y) (λ y. Leads (lift gain a) y) (λ y l. leads_trans (lift gain a) (lift gain b) y step l) (map (lift gain) xs) rest.0), rest)
+    ((step, all_weaker (λ y. Leads (lift gain b) y) (λ y. Leads (lift gain a) y) (λ y l. leads_trans (lift gain a) (lift gain b) y step l) (map (lift gain) xs) rest.0), rest)
   where
     split : (p q : Bool) → (p && q) ≡ true → (p ≡ true) × (q ≡ true)
     split true true e = (refl, refl)

@@ -1,5 +1,5 @@
 -- Sums, orders and parts of lists of hits.
-use Rattle.std.proofs.Common.{◌≡◌, ℕ, zero, suc, ◌+◌, List, [], ◌∷◌, ◌++◌, map, take, drop, filter, sum_by, count_by, Bool, true, false, cond, refl, sym, ap, ◌∙◌, arith, inl, inr, ◌⊎◌, zero-add}
+use Rattle.std.proofs.Common.{◌≡◌, ℕ, zero, suc, ◌+◌, List, [], ◌∷◌, ◌++◌, take, drop, filter, sum_by, count_by, Bool, true, false, cond, refl, sym, ap, ◌∙◌, arith, zero-add}
 use Rattle.std.specs.Prelude.{IsPermutation, replicate}
 use Rattle.std.specs.List.{AllByRecursion}
 use Rattle.std.specs.declared.cmp.Ordering.{Ordering}
@@ -9,54 +9,8 @@ use Rattle.std.specs.Cmp.{IsTotalOrder}
 use Rattle.std.proofs.lemmas.List.Sorted.{IsPermutation-refl, IsPermutation-cons, IsPermutation-trans, IsPermutation-append_comm, IsPermutation-append_left}
 use Rattle.std.proofs.lemmas.List.Sums.{sum_by-cons, sum_by-append}
 use Rattle.ranking_model.specs.Order.{placed, sorted}
-use Rattle.std.proofs.lemmas.Bool.{cases_Bool}
+use Rattle.shared_lemmas.proofs.Lists.{all_weaker, all_take, all_drop, all_filter, filter_all}
 use Rattle.ranking_model.proofs.Sorting.{Ascends, level, same_ranks, sorted_ascends, sum_by-sorted, all_sorted, ascends_append}
-
--- ---- each item of a list
-
-pub all_imp : {A : Type 0} (P Q : A → Type 0) → ((x : A) → P x → Q x) → (xs : List A) → AllByRecursion P xs → AllByRecursion Q xs
-all_imp P Q imp [] h = tt
-all_imp P Q imp (x ∷ xs) h = (imp x h.0, all_imp P Q imp xs h.1)
-
-pub all_both : {A : Type 0} (P Q : A → Type 0) (xs : List A) → AllByRecursion P xs → AllByRecursion Q xs → AllByRecursion (λ x. P x × Q x) xs
-all_both P Q [] h k = tt
-all_both P Q (x ∷ xs) h k = ((h.0, k.0), all_both P Q xs h.1 k.1)
-
-pub all_take : {A : Type 0} (P : A → Type 0) (n : ℕ) (xs : List A) → AllByRecursion P xs → AllByRecursion P (take n xs)
-all_take P zero xs h = tt
-all_take P (suc n) [] h = tt
-all_take P (suc n) (x ∷ xs) h = (h.0, all_take P n xs h.1)
-
-pub all_drop : {A : Type 0} (P : A → Type 0) (n : ℕ) (xs : List A) → AllByRecursion P xs → AllByRecursion P (drop n xs)
-all_drop P zero xs h = h
-all_drop P (suc n) [] h = tt
-all_drop P (suc n) (x ∷ xs) h = all_drop P n xs h.1
-
-pub all_append : {A : Type 0} (P : A → Type 0) (xs ys : List A) → AllByRecursion P xs → AllByRecursion P ys → AllByRecursion P (xs ++ ys)
-all_append P [] ys h k = k
-all_append P (x ∷ xs) ys h k = (h.0, all_append P xs ys h.1 k)
-
-pub all_map : {A B : Type 0} (P : B → Type 0) (f : A → B) (xs : List A) → AllByRecursion (λ x. P (f x)) xs → AllByRecursion P (map f xs)
-all_map P f [] h = tt
-all_map P f (x ∷ xs) h = (h.0, all_map P f xs h.1)
-
-pub all_filter : {A : Type 0} (P : A → Type 0) (p : A → Bool) (xs : List A) → AllByRecursion P xs → AllByRecursion P (filter p xs)
-all_filter P p [] h = tt
-all_filter P p (x ∷ xs) h = by (cases_Bool (p x)) (all_filter P p xs h.1) where
-  by : (p x ≡ true) ⊎ (p x ≡ false) → AllByRecursion P (filter p xs) → AllByRecursion P (filter p (x ∷ xs))
-  by (inl t) rest = rw t (h.0, rest)
-  by (inr f) rest = rw f rest
-
-pub all_pass : {A : Type 0} (p : A → Bool) (xs : List A) → AllByRecursion (λ x. p x ≡ true) (filter p xs)
-all_pass p [] = tt
-all_pass p (x ∷ xs) = by (cases_Bool (p x)) (all_pass p xs) where
-  by : (p x ≡ true) ⊎ (p x ≡ false) → AllByRecursion (λ x. p x ≡ true) (filter p xs) → AllByRecursion (λ x. p x ≡ true) (filter p (x ∷ xs))
-  by (inl t) rest = rw t (t, rest)
-  by (inr f) rest = rw f rest
-
-pub filter_all : {A : Type 0} (p : A → Bool) (xs : List A) → AllByRecursion (λ x. p x ≡ true) xs → filter p xs ≡ xs
-filter_all p [] h = refl
-filter_all p (x ∷ xs) h = let t = h.0 in rw t (ap (λ l. x ∷ l) (filter_all p xs h.1))
 
 -- ---- sums
 
@@ -66,10 +20,6 @@ sum_by-filter {A} p f (x ∷ xs) = step (p x) refl (sum_by-filter p f xs) where
   step : (b : Bool) → p x ≡ b → sum_by f (filter p xs) ≡ sum_by (λ x. cond (p x) (f x) 0) xs → sum_by f (filter p (x ∷ xs)) ≡ sum_by (λ x. cond (p x) (f x) 0) (x ∷ xs)
   step true e rest = rw (sum_by-cons (λ x. cond (p x) (f x) 0) x xs, e) (sum_by-cons f x (filter p xs) ∙ ap (λ n. f x + n) rest)
   step false e rest = rw (sum_by-cons (λ x. cond (p x) (f x) 0) x xs, e) (rw zero-add rest)
-
-pub sum_by-map : {A B : Type 0} (g : A → B) (f : B → ℕ) (xs : List A) → sum_by f (map g xs) ≡ sum_by (λ x. f (g x)) xs
-sum_by-map g f [] = refl
-sum_by-map g f (x ∷ xs) = sum_by-cons f (g x) (map g xs) ∙ ap (λ n. f (g x) + n) (sum_by-map g f xs) ∙ sym (sum_by-cons (λ x. f (g x)) x xs)
 
 pub sum_by-same : {A : Type 0} (f g : A → ℕ) (xs : List A) → AllByRecursion (λ x. f x ≡ g x) xs → sum_by f xs ≡ sum_by g xs
 sum_by-same f g [] h = refl
@@ -119,7 +69,7 @@ module _ {A : Type 0} (cmp : A → A → Ordering) (o : IsTotalOrder cmp) (same 
     where
       pairs : AllByRecursion (λ a. AllByRecursion (λ b. is_gt (cmp a b) ≡ false) (sorted cmp (filter p back))) (sorted cmp front)
       pairs = all_sorted cmp (λ a. AllByRecursion (λ b. is_gt (cmp a b) ≡ false) (sorted cmp (filter p back))) front
-          (all_imp (λ a. AllByRecursion (λ b. is_gt (cmp a b) ≡ false) back) (λ a. AllByRecursion (λ b. is_gt (cmp a b) ≡ false) (sorted cmp (filter p back)))
+          (all_weaker (λ a. AllByRecursion (λ b. is_gt (cmp a b) ≡ false) back) (λ a. AllByRecursion (λ b. is_gt (cmp a b) ≡ false) (sorted cmp (filter p back)))
           (λ a h. all_sorted cmp (λ b. is_gt (cmp a b) ≡ false) (filter p back) (all_filter (λ b. is_gt (cmp a b) ≡ false) p back h)) front above)
 
       by_sums : (f : A → ℕ) → sum_by f (sorted cmp (filter p all)) ≡ sum_by f (sorted cmp front ++ sorted cmp (filter p back))

@@ -10,10 +10,12 @@ use borrow.Author.Tests.{eqb-true}
 use Rattle.jass_base.specs.declared.answer.Hit.{Hit}
 use Rattle.ranking_model.specs.Scores.{rank_cmp}
 use Rattle.std.proofs.lemmas.Bool.{cases_Bool}
+use Rattle.shared_lemmas.proofs.Sums.{sum_map}
+use Rattle.shared_lemmas.proofs.Lists.{all_weaker, all_both, all_take, all_drop, all_map, all_filter}
 use Rattle.ranking_model.proofs.Sorting.{Ascends, sorted_ascends, sum_by-sorted, all_sorted}
 use Rattle.ranking_model.proofs.Orders.{rank_total}
 use Rattle.final_certificate.specs.Rule.{gained, is_safe, are_safe}
-use Rattle.final_certificate.proofs.Lists.{all_imp, all_both, all_take, all_drop, all_map, all_filter, sum_by-filter, sum_by-map, sum_by-same, ascends_take, take_before_drop}
+use Rattle.final_certificate.proofs.Lists.{sum_by-filter, sum_by-same, ascends_take, take_before_drop}
 use Rattle.final_certificate.proofs.Lifting.{is_scored, lift, count_doc}
 use Rattle.final_certificate.proofs.Edges.{Leads, leads_safe, ranked, front, others, parted, docs, docs_lift}
 
@@ -68,7 +70,7 @@ entered : (all : List Hit) (bound z : ℕ) → 1 ≤ bound → count_doc z (rank
 entered all bound z some =
     sum_by-sorted rank_cmp (λ (h : Hit). cond (h.doc == z) 1 0) (filter is_scored (with_gain bound z all))
     ∙ sum_by-filter is_scored (λ (h : Hit). cond (h.doc == z) 1 0) (with_gain bound z all)
-    ∙ sum_by-map (lift (one bound z)) (λ (h : Hit). cond (is_scored h) (cond (h.doc == z) 1 0) 0) all
+    ∙ sum_map (λ (h : Hit). cond (is_scored h) (cond (h.doc == z) 1 0) 0) (lift (one bound z)) all
     ∙ sum_by-same (λ (h : Hit). cond (is_scored (lift (one bound z) h)) (cond (h.doc == z) 1 0) 0) (λ (h : Hit). cond (h.doc == z) 1 0) all (each all)
   where
     each : (xs : List Hit) → AllByRecursion (λ (h : Hit). ◌≡◌ {A = ℕ} (cond (is_scored (lift (one bound z) h)) (cond (h.doc == z) 1 0) 0) (cond (h.doc == z) 1 0)) xs
@@ -85,16 +87,16 @@ KeepsWith all k bound z = IsPermutation (docs (front all k)) (docs (front (with_
 
 true_lift : (score_of gain : ℕ → ℕ) (xs : List Hit) → IsTrueTo score_of xs → IsTrueTo (λ d. score_of d + gain d) (map (lift gain) xs)
 true_lift score_of gain xs h = all_map (λ (h : Hit). h.score ≡ score_of h.doc + gain h.doc) (lift gain) xs
-    (all_imp (λ (h : Hit). h.score ≡ score_of h.doc) (λ (h : Hit). h.score + gain h.doc ≡ score_of h.doc + gain h.doc) (λ h e. ap (λ n. n + gain h.doc) e) xs h)
+    (all_weaker (λ (h : Hit). h.score ≡ score_of h.doc) (λ (h : Hit). h.score + gain h.doc ≡ score_of h.doc + gain h.doc) (λ h e. ap (λ n. n + gain h.doc) e) xs h)
 
 pub true_ranked : (score_of : ℕ → ℕ) (xs : List Hit) → IsTrueTo score_of xs → IsTrueTo score_of (ranked xs)
 true_ranked score_of xs h = all_sorted rank_cmp (λ (h : Hit). h.score ≡ score_of h.doc) (filter is_scored xs) (all_filter (λ (h : Hit). h.score ≡ score_of h.doc) is_scored xs h)
 
 still : (all : List Hit) (k bound z doc : ℕ) → KeepsWith all k bound z → count_doc doc (front (with_gain bound z all) k) ≡ count_doc doc (front all k)
 still all k bound z doc kept =
-    sym (sum_by-map (λ (h : Hit). h.doc) (λ d. cond (d == doc) 1 0) (front (with_gain bound z all) k))
+    sym (sum_map (λ d. cond (d == doc) 1 0) (λ (h : Hit). h.doc) (front (with_gain bound z all) k))
     ∙ sum_by-IsPermutation (λ d. cond (d == doc) 1 0) (docs (front all k)) (docs (front (with_gain bound z all) k)) kept
-    ∙ sum_by-map (λ (h : Hit). h.doc) (λ d. cond (d == doc) 1 0) (front all k)
+    ∙ sum_map (λ d. cond (d == doc) 1 0) (λ (h : Hit). h.doc) (front all k)
 
 outside : (all : List Hit) (k z : ℕ) → ((d : ℕ) → count_doc d all ≤ 1) → 1 ≤ count_doc z (others all k) → count_doc z (front all k) ≡ 0
 outside all k z once there = let sum = parted all k (λ (h : Hit). cond (h.doc == z) 1 0) in let few = once z in omega arith

@@ -1,5 +1,5 @@
 -- Chains seen through a pool's view, after a change of it.
-use Rattle.std.proofs.Common.{◌≡◌, ◌≢◌, ℕ, suc, zero, ◌+◌, ◌-◌, ◌*◌, ◌/◌, ◌%◌, ◌<◌, ◌≤◌, ◌==◌, Bool, true, false, List, [], ◌∷◌, length, map, get_or, set, replicate, Option, Some, None, sum_by, cond, eqb, IsSome, is_some, find, unwrap_or, option_map, Contains, refl, sym, ap, ◌∙◌, subst, inl, inr, arith, length-set, get_or-set_same, get_or-set_other}
+use Rattle.std.proofs.Common.{◌≡◌, ◌≢◌, ℕ, suc, zero, ◌+◌, ◌-◌, ◌*◌, ◌/◌, ◌%◌, ◌<◌, ◌≤◌, ◌==◌, Bool, true, false, List, [], ◌∷◌, length, map, get_or, set, Option, Some, None, sum_by, cond, eqb, IsSome, is_some, find, unwrap_or, option_map, Contains, refl, sym, ap, ◌∙◌, subst, inl, inr, arith, length-set, get_or-set_same, get_or-set_other}
 use Rattle.std.specs.List.{range_with_len}
 use Rattle.std.proofs.lemmas.Bool.{ne_eqb, eq-eqb}
 use Rattle.std.proofs.lemmas.Bool.Decides.{eqb_tells}
@@ -58,11 +58,6 @@ took-view old new c f page chains inside frames exists alone =
     (λ g has. ap (λ (x : FrameContent). held_by (λ _. x) g)
     (ap (λ (xs : List FrameContent). get_or xs g (cleared 0)) frames
     ∙ get_or-set_other old.frames f g (cleared page) (cleared 0) (λ same. alone (subst (λ x. HasFrame old c x) same has)))))
-
-pub zero-at : (n i : ℕ) → get_or {A = ℕ} (replicate n 0) i 0 ≡ 0
-zero-at zero i = refl
-zero-at (suc n) zero = refl
-zero-at (suc n) (suc i) = zero-at n i
 
 took-slot : (values : FrameContent → List ℕ) (view : ChainView) (f : ℕ) (content : FrameContent) (p s : ℕ) → ((i : ℕ) → get_or (values content) i 0 ≡ 0) → LacksPage view content.page
     → slot_value values (frame_with_page (with_first_held view f content) p) s ≡ slot_value values (frame_with_page view p) s

@@ -3,10 +3,11 @@ use Rattle.std.proofs.Common.{◌≡◌, ◌≢◌, ℕ, suc, ◌+◌, ◌-◌, 
 use Rattle.std.specs.List.{AllByRecursion}
 use Rattle.std.proofs.lemmas.List.Sums.{sum_by-set}
 use Rattle.std.proofs.lemmas.Bool.{ne_eqb, eq-eqb}
+use Rattle.shared_lemmas.proofs.Lists.{all_weaker, all_append}
 use Rattle.frame_pool.specs.declared.lease.Lease.{Lease}
 use Rattle.frame_pool.specs.Links.{walk, grown}
 use Rattle.frame_pool.specs.Kept.{Ends, Distinct, Belong, LeaseKept, EachKept, Kept, taken_by, promised_to}
-use Rattle.frame_pool.proofs.Walks.{all_weaker, all-map, map-agree, walk-same, ends-same, not_in, belong-same, grown-ends, walk-spliced, distinct-append, all_append, at_end}
+use Rattle.frame_pool.proofs.Walks.{all-map, map-agree, walk-same, ends-same, not_in, belong-same, grown-ends, walk-spliced, distinct-append, at_end}
 use Rattle.frame_pool.proofs.Leases.{changed, changed-same, changed-other, in_range, each-other, lease_kept, some_free, free_at, each-set, all_taken_fit}
 
 -- ---- a frame is taken

@@ -4,10 +4,11 @@ use Rattle.std.specs.List.{AllByRecursion}
 use Rattle.std.proofs.lemmas.List.Sums.{sum_by-cons}
 use Rattle.std.proofs.lemmas.Bool.{ne_eqb, eq-eqb}
 use Rattle.std.proofs.lemmas.Bool.Decides.{eqb_tells}
+use Rattle.shared_lemmas.proofs.Lists.{all_weaker}
 use Rattle.frame_pool.specs.declared.lease.Lease.{Lease}
 use Rattle.frame_pool.specs.Links.{walk}
 use Rattle.frame_pool.specs.Kept.{Distinct, Belong, LeaseKept, EachKept, Kept, taken_by, promised_to}
-use Rattle.frame_pool.proofs.Walks.{all_weaker, map-agree, walk-same, ends-same, not_in, belong-same}
+use Rattle.frame_pool.proofs.Walks.{map-agree, walk-same, ends-same, not_in, belong-same}
 
 -- the owners with one changed
 abbrev pub changed : (ℕ → ℕ) → ℕ → ℕ → ℕ → ℕ

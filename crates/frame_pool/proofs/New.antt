@@ -4,12 +4,12 @@ use Rattle.std.specs.List.{AllByRecursion, range_with_len}
 use Rattle.std.proofs.lemmas.List.{length-map, length-replicate}
 use Rattle.std.proofs.lemmas.List.Folds.{sum_by-replicate}
 use Rattle.std.proofs.lemmas.List.FromFn.{length-map-range_with_len, get_or-map-range_with_len}
+use Rattle.shared_lemmas.proofs.Lists.{all_weaker}
 use Rattle.frame_pool.specs.declared.lease.Lease.{Lease}
 use Rattle.frame_pool.specs.Frames.{Frame}
 use Rattle.frame_pool.specs.Pool.{ChainEntry, IsUnused}
 use Rattle.frame_pool.specs.Links.{walk, blank, link_of, page_of, frame_content, chain_entry, view_of, free_frame}
 use Rattle.frame_pool.specs.Kept.{Distinct, EachKept, PoolKept, IsSized, taken_by, promised_to}
-use Rattle.frame_pool.proofs.Walks.{all_weaker}
 
 abbrev new_frames : ℕ → List Frame
 new_frames n = map free_frame (range_with_len 1 n)

@@ -6,10 +6,11 @@ use Rattle.frame_pool.specs.declared.lease.Lease.{Lease}
 use Rattle.frame_pool.specs.Frames.{Frame}
 use Rattle.frame_pool.specs.Pool.{PoolView, ChainEntry, IsInUse, HasFrame, chain_of, number_after}
 use Rattle.std.proofs.lemmas.List.{length-map}
+use Rattle.shared_lemmas.proofs.Lists.{all_weaker}
 use Rattle.frame_pool.specs.ChainView.{chain_view, held_frame}
 use Rattle.frame_pool.specs.Links.{walk, link_of, page_of, view_of}
 use Rattle.frame_pool.specs.Kept.{Ends, Distinct, LeaseKept, PoolKept}
-use Rattle.frame_pool.proofs.Walks.{all_weaker, length-walk}
+use Rattle.frame_pool.proofs.Walks.{length-walk}
 use Rattle.frame_pool.proofs.Leases.{lease_kept}
 use Rattle.frame_pool.proofs.Views.{chain_of_is, lease_of}
 

@@ -1,9 +1,9 @@
 -- When a promise is refused, by the leases.
-use Rattle.std.proofs.Common.{◌≡◌, ℕ, ◌-◌, ◌<◌, ◌≤◌, Bool, true, false, cond, List, [], ◌∷◌, length, map, get_or, Option, Some, None, is_some, is_none, position, nat_lt, refl, sym, ap, ◌∙◌, inl, inr, ◌⊎◌, ◌&&◌, arith}
+use Rattle.std.proofs.Common.{◌≡◌, ℕ, ◌-◌, ◌<◌, ◌≤◌, true, false, cond, List, [], ◌∷◌, length, map, get_or, Option, Some, None, is_some, is_none, position, nat_lt, refl, sym, ap, ◌∙◌, inl, inr, ◌&&◌, arith}
 use Rattle.std.specs.List.{list_all, position_or_len}
 use Rattle.std.proofs.lemmas.List.Sums.{fails_before_first, list_all-from_AllPass, AllPass-from_list_all}
 use Rattle.std.proofs.lemmas.List.Quantifiers.{position-Some}
-use Rattle.std.proofs.lemmas.Bool.{lt-ltb, le-ltb}
+use Rattle.std.proofs.lemmas.Bool.{lt-ltb, le-ltb, cases_Bool}
 use Rattle.std.proofs.lemmas.Bool.Decides.{nat_tests}
 use Rattle.frame_pool.specs.declared.lease.Lease.{Lease}
 use Rattle.frame_pool.specs.Frames.{Frame}
@@ -12,10 +12,6 @@ use Rattle.frame_pool.specs.Pool.{PoolView, promised, spare_of, all_in_use, prom
 use Rattle.frame_pool.specs.Links.{chain_entry, link_of, view_of}
 use Rattle.frame_pool.specs.Kept.{PoolKept}
 use Rattle.frame_pool.proofs.Views.{promised_view, frame_count}
-
-either : (b : Bool) → (b ≡ true) ⊎ (b ≡ false)
-either true = inl refl
-either false = inr refl
 
 entry_some : (next : ℕ → ℕ) (o : Option Lease) → is_some (chain_entry next o) ≡ is_some o
 entry_some next None = refl
@@ -31,7 +27,7 @@ all_in_use_is frames leases pool view = ap all_in_use (sym view) ∙ all-entries
 
 pub none_unused : (leases : List (Option Lease)) → position is_none leases ≡ None → list_all is_some leases ≡ true
 none_unused leases none =
-    elim (either (nat_lt (position_or_len is_none leases) (length leases))) as (λ _. list_all is_some leases ≡ true) [
+    elim (cases_Bool (nat_lt (position_or_len is_none leases) (length leases))) as (λ _. list_all is_some leases ≡ true) [
       | inl found ↦ absurd (some_none (position_or_len is_none leases) (sym (ap (λ b. cond b (Some (position_or_len is_none leases)) None) found) ∙ none))
       | inr past ↦ list_all-from_AllPass is_some leases (λ k d inside. some_there (get_or leases k d) (fails_before_first is_none leases k d (grind (arith, nat_tests))))
     ]
@@ -49,7 +45,7 @@ some_unused leases i found =
     let none : get_or leases i None ≡ None = none_there (get_or leases i None) at.1 in (
       at.0,
       none,
-      elim (either (list_all is_some leases)) as (λ _. list_all is_some leases ≡ false) [
+      elim (cases_Bool (list_all is_some leases)) as (λ _. list_all is_some leases ≡ false) [
         | inl all ↦ absurd (both (get_or leases i None) none (AllPass-from_list_all is_some leases all i None at.0))
         | inr some ↦ some
       ],

@@ -12,7 +12,8 @@ use Rattle.frame_pool.specs.Sound.{IsSound}
 use Rattle.frame_pool.specs.Links.{walk, blank, link_of, page_of, frame_content, chain_entry, view_of}
 use Rattle.frame_pool.specs.Kept.{Distinct, EachKept, Kept, PoolKept, taken_by, promised_to, IsSized}
 use Rattle.std.proofs.Math.Path.{fun_ext}
-use Rattle.frame_pool.proofs.Walks.{length-walk, walk-same, all_weaker, not_in}
+use Rattle.shared_lemmas.proofs.Lists.{all_weaker}
+use Rattle.frame_pool.proofs.Walks.{length-walk, walk-same, not_in}
 use Rattle.frame_pool.proofs.Pages.{of_page, by_page}
 use Rattle.frame_pool.proofs.Leases.{in_range, lease_kept, within_promise}
 

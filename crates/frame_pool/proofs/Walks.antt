@@ -2,20 +2,9 @@
 use Rattle.std.proofs.Common.{◌≡◌, ◌≢◌, ℕ, suc, zero, ◌+◌, ◌<◌, List, [], ◌∷◌, ◌++◌, length, map, refl, sym, ap, ◌∙◌, subst, Bool, cond, ◌==◌, if◌then◌else◌, arith}
 use Rattle.std.proofs.lemmas.Bool.{ne_eqb}
 use Rattle.std.specs.List.{AllByRecursion}
+use Rattle.shared_lemmas.proofs.Lists.{all_weaker, all_append, all_both}
 use Rattle.frame_pool.specs.Links.{walk}
 use Rattle.frame_pool.specs.Kept.{Ends, Distinct, Belong}
-
-pub all_weaker : (P Q : ℕ → Type 0) → ((x : ℕ) → P x → Q x) → (xs : List ℕ) → AllByRecursion P xs → AllByRecursion Q xs
-all_weaker P Q f [] h = tt
-all_weaker P Q f (x ∷ xs) h = (f x h.0, all_weaker P Q f xs h.1)
-
-pub all_append : (P : ℕ → Type 0) (xs ys : List ℕ) → AllByRecursion P xs → AllByRecursion P ys → AllByRecursion P (xs ++ ys)
-all_append P [] ys h k = k
-all_append P (x ∷ xs) ys h k = (h.0, all_append P xs ys h.1 k)
-
-pub all_both : (P Q : ℕ → Type 0) (xs : List ℕ) → AllByRecursion P xs → AllByRecursion Q xs → AllByRecursion (λ x. P x × Q x) xs
-all_both P Q [] h k = tt
-all_both P Q (x ∷ xs) h k = ((h.0, k.0), all_both P Q xs h.1 k.1)
 
 pub length-walk : (next : ℕ → ℕ) (k a : ℕ) → length (walk next k a) ≡ k
 length-walk next zero a = refl

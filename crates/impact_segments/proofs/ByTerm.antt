@@ -12,6 +12,9 @@ use Rattle.std.proofs.lemmas.Cmp.{nat_list_cmp_total}
 use Rattle.std.proofs.lemmas.List.Elements.{filter-append, recursion_from_All, All-from_recursion}
 use Rattle.std.proofs.lemmas.List.Sorted.{All-permutation, sum_by-IsPermutation}
 use Rattle.std.proofs.lemmas.List.Sums.{length-filter}
+use Rattle.shared_lemmas.proofs.Pairs.{Pairs}
+use Rattle.shared_lemmas.proofs.Lists.{all_filter, filter_passes, all_weaker, all_append}
+use Rattle.shared_lemmas.proofs.Texts.{not_itself}
 use Rattle.jass_base.specs.declared.posting.Posting.{Posting}
 use Rattle.weights.specs.declared.weighting.Rule.{Rule}
 use Rattle.weights.specs.declared.quantizing.Bits.{Bits}
@@ -22,8 +25,6 @@ use Rattle.ranking_model.specs.Order.{sorted}
 use Rattle.ranking_model.specs.Flat.{entry_cmp}
 use Rattle.ranking_model.proofs.Orders.{entry_total}
 use Rattle.ranking_model.proofs.Sorting.{Ascends, level, same_ranks, sorted_ascends, sorted_level, all_sorted, ascends_append}
-use Rattle.impact_segments.proofs.GroupLaws.{not_itself}
-use Rattle.index_model.proofs.Lists.{Pairs, all_append, all_weaker}
 use Rattle.impact_segments.specs.Collections.{entries_in, weight_in}
 use Rattle.impact_segments.proofs.Orders.{term_same}
 
@@ -38,25 +39,11 @@ flat_total = entry_total (slice_cmp nat_cmp) nat_list_cmp_total
 
 -- ---- what passes a test
 
-pub filter_all : {A : Type 0} (P : A → Type 0) (q : A → Bool) (xs : List A) → AllByRecursion P xs → AllByRecursion P (filter q xs)
-filter_all P q [] h = tt
-filter_all {A} P q (x ∷ xs) h = step (q x) refl (filter_all P q xs h.1) where
-  step : (b : Bool) → q x ≡ b → AllByRecursion P (filter q xs) → AllByRecursion P (filter q (x ∷ xs))
-  step true e rest = rw e (h.0, rest)
-  step false e rest = rw e rest
-
-pub filter_passes : {A : Type 0} (q : A → Bool) (xs : List A) → AllByRecursion (λ x. q x ≡ true) (filter q xs)
-filter_passes q [] = tt
-filter_passes {A} q (x ∷ xs) = step (q x) refl (filter_passes q xs) where
-  step : (b : Bool) → q x ≡ b → AllByRecursion (λ x. q x ≡ true) (filter q xs) → AllByRecursion (λ x. q x ≡ true) (filter q (x ∷ xs))
-  step true e rest = rw e (e, rest)
-  step false e rest = rw e rest
-
 filter_pairs : {A : Type 0} (R : A → A → Type 0) (q : A → Bool) (xs : List A) → Pairs R xs → Pairs R (filter q xs)
 filter_pairs R q [] h = tt
 filter_pairs {A} R q (x ∷ xs) h = step (q x) refl (filter_pairs R q xs h.1) where
   step : (b : Bool) → q x ≡ b → Pairs R (filter q xs) → Pairs R (filter q (x ∷ xs))
-  step true e rest = rw e (filter_all (λ y. R x y) q xs h.0, rest)
+  step true e rest = rw e (all_filter (λ y. R x y) q xs h.0, rest)
   step false e rest = rw e rest
 
 -- what fails gives nothing

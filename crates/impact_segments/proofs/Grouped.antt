@@ -4,6 +4,10 @@ use Rattle.std.specs.Prelude.{AllPairs}
 use Rattle.std.specs.List.{AllByRecursion, flat_map}
 use Rattle.std.proofs.lemmas.List.{length-append, length-map}
 use Rattle.std.proofs.lemmas.List.Sums.{sum_by-cons}
+use Rattle.shared_lemmas.proofs.Pairs.{Pairs, pairs_by_recursion}
+use Rattle.jass_base.proofs.ByteOrder.{bytes_apart}
+use Rattle.shared_lemmas.proofs.Numbers.{number_itself}
+use Rattle.shared_lemmas.proofs.Texts.{bytes_itself}
 use Rattle.jass_base.specs.Ciff.{ListData}
 use Rattle.jass_base.specs.Segments.{FallsTo}
 use Rattle.jass_base.specs.Terms.{BytesRise}
@@ -16,8 +20,7 @@ use Rattle.ranking_model.specs.Order.{sorted}
 use Rattle.index_model.specs.Index.{SegmentData, TermData}
 use Rattle.index_model.specs.Grouping.{with_entry, with_entries}
 use Rattle.index_model.specs.Views.{segment_data}
-use Rattle.impact_segments.proofs.GroupLaws.{IsOtherImpact, IsOtherTerm, apart, entries_behind, new_posting, same_bytes, same_number}
-use Rattle.index_model.proofs.Lists.{Pairs, pairs_by_recursion}
+use Rattle.impact_segments.proofs.GroupLaws.{IsOtherImpact, IsOtherTerm, entries_behind, new_posting}
 use Rattle.impact_segments.specs.ListTerms.{list_segments, segments_in}
 use Rattle.impact_segments.specs.OneList.{pairs_in}
 use Rattle.impact_segments.specs.Pairs.{pair_cmp, pairs_of}
@@ -29,7 +32,7 @@ run : (impact : ℕ) (docs : List ℕ) (rest : List (ℕ × ℕ)) → 1 ≤ leng
     → segments_in (map (λ (doc : ℕ). (doc, impact)) docs ++ rest) ≡ record { impact = impact; docs = docs } ∷ segments_in rest
 run impact [] rest some other = absurd (omega (arith, some))
 run impact (d ∷ []) rest some other = new_posting impact d (segments_in rest) other
-run impact (d ∷ e ∷ docs) rest some other = rw (run impact (e ∷ docs) rest (omega arith) other, same_number impact) refl
+run impact (d ∷ e ∷ docs) rest some other = rw (run impact (e ∷ docs) rest (omega arith) other, number_itself impact) refl
 
 pub segments_again : (segments : List Segment) → Pairs FallsTo segments → segments_in (pairs_of segments) ≡ map segment_data segments
 segments_again [] falling = refl
@@ -65,7 +68,7 @@ as_many_documents segments pairs is = parts segments ∙ ap length is ∙ length
 term_there : (t : List ℕ) (p : ℕ × ℕ) (ps : List (ℕ × ℕ)) (terms : List TermData) → IsOtherTerm t terms → with_entries (map (under t) (p ∷ ps)) terms ≡ record { term = t; segments = segments_in (p ∷ ps) } ∷ terms
 term_there t p [] [] other = refl
 term_there t p [] (u ∷ terms) other = rw other refl
-term_there t p (q ∷ ps) terms other = ap (with_entry (under t p)) (term_there t q ps terms other) ∙ rw (same_bytes t) refl
+term_there t p (q ∷ ps) terms other = ap (with_entry (under t p)) (term_there t q ps terms other) ∙ rw (bytes_itself t) refl
 
 module _ (P : ListData → List (ℕ × ℕ)) where
   abbrev pub grouped : ListData → TermData
@@ -81,7 +84,7 @@ module _ (P : ListData → List (ℕ × ℕ)) where
     where
       other : (ls : List ListData) → AllByRecursion (λ (k : ListData). BytesRise l.term k.term) ls → IsOtherTerm l.term (map grouped ls)
       other [] h = tt
-      other (k ∷ ks) h = apart l.term k.term h.0
+      other (k ∷ ks) h = bytes_apart l.term k.term h.0
 
       one : (ps : List (ℕ × ℕ)) → 1 ≤ length ps → with_entries (map (under l.term) ps) (map grouped ls) ≡ record { term = l.term; segments = segments_in ps } ∷ map grouped ls
       one [] some = absurd (omega (arith, some))

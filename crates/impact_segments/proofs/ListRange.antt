@@ -7,6 +7,7 @@ use Rattle.std.proofs.lemmas.Bool.Decides.{nat_tests}
 use Rattle.std.proofs.lemmas.List.Elements.{recursion_from_All, All-from_recursion}
 use Rattle.std.proofs.lemmas.List.Sorted.{All-permutation, IsPermutation-sym}
 use Rattle.std.proofs.lemmas.List.Sums.{fold-append}
+use Rattle.shared_lemmas.proofs.Lists.{all_weaker, all_map, all_flat, all_parts}
 use Rattle.jass_base.specs.Ciff.{CollectionData, FitsList, ListData}
 use Rattle.jass_base.specs.Postings.{HasTfInRange}
 use Rattle.jass_base.specs.declared.posting.Posting.{Posting}
@@ -17,7 +18,6 @@ use Rattle.weights.specs.declared.quantizing.Range.{Range}
 use Rattle.weights.specs.Quantizing.{empty_range, range_of, widened}
 use Rattle.weights.proofs.Limits.{weight_of-lt}
 use Rattle.impact_segments.proofs.RangeLaws.{greatest-from, greatest-ge_each, greatest-ge_start, least-from, least-le_each, least-le_start, same_range}
-use Rattle.index_model.proofs.Lists.{all_flat, all_map, all_parts, all_weaker}
 use Rattle.impact_segments.specs.Collections.{lengths_of, total_of, weight_in, weights_in, weights_of}
 use Rattle.impact_segments.specs.ListTerms.{lists_in_use, widened_by}
 use Rattle.impact_segments.specs.OneList.{EndsLow, first_outside, has_weight, outside}

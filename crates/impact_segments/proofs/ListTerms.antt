@@ -9,6 +9,8 @@ use Rattle.std.proofs.lemmas.List.{length-map}
 use Rattle.std.proofs.lemmas.List.Elements.{recursion_from_All, All-from_recursion}
 use Rattle.std.proofs.lemmas.List.Sorted.{All-permutation, IsPermutation-sym}
 use Rattle.std.proofs.lemmas.Simd.{map-map}
+use Rattle.shared_lemmas.proofs.Pairs.{pairs_by_recursion}
+use Rattle.shared_lemmas.proofs.Lists.{filter_passes, all_weaker}
 use Rattle.jass_base.specs.Ciff.{CollectionData, ListData}
 use Rattle.jass_base.specs.Terms.{BytesRise}
 use Rattle.jass_base.specs.declared.posting.Posting.{Posting}
@@ -21,12 +23,12 @@ use Rattle.ranking_model.specs.Order.{sorted}
 use Rattle.ranking_model.specs.Flat.{entry_cmp}
 use Rattle.index_model.specs.Grouping.{index_with, with_entries}
 use Rattle.index_model.specs.Index.{IndexData, TermData}
-use Rattle.index_model.proofs.Lists.{all_weaker, map_sorted, pairs_by_recursion}
+use Rattle.index_model.proofs.Lists.{map_sorted}
 use Rattle.impact_segments.specs.Collections.{entries_in, index_of, lengths_of, total_of, weight_in, weights_of}
 use Rattle.impact_segments.specs.ListTerms.{AreByTerm, list_segments, list_term, lists_in_use, segments_in}
 use Rattle.impact_segments.specs.OneList.{pairs_in}
 use Rattle.impact_segments.specs.Pairs.{pair_cmp}
-use Rattle.impact_segments.proofs.ByTerm.{by_term, filter_passes, none_of, own_term}
+use Rattle.impact_segments.proofs.ByTerm.{by_term, none_of, own_term}
 use Rattle.impact_segments.proofs.Grouped.{grouped, terms_there}
 use Rattle.impact_segments.proofs.OneTerm.{length_sorted, same_order, under}
 

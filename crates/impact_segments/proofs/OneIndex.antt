@@ -10,6 +10,8 @@ use Rattle.std.proofs.lemmas.List.{length-map}
 use Rattle.std.proofs.lemmas.List.Elements.{recursion_from_All, All-from_recursion}
 use Rattle.std.proofs.lemmas.List.Sorted.{IsPermutation-sym}
 use Rattle.std.proofs.lemmas.List.Kept.{AllPairs-filter}
+use Rattle.shared_lemmas.proofs.Pairs.{Pairs, pairs_by_recursion, pairs_by_places, pairs_weaker, pairs_both, pairs_map, pairs_unmap}
+use Rattle.shared_lemmas.proofs.Lists.{all_filter, filter_passes, all_weaker}
 use Rattle.jass_base.specs.declared.collection.Collection.{Collection}
 use Rattle.jass_base.specs.declared.doc_record.DocRecord.{DocRecord}
 use Rattle.jass_base.specs.declared.posting.Posting.{Posting}
@@ -34,8 +36,8 @@ use Rattle.impact_segments.specs.Collections.{index_of}
 use Rattle.impact_segments.specs.Weighed.{lengths_in, total_length, posting_weight, list_weights, list_entries}
 use Rattle.impact_segments.specs.Held.{flat_of_terms}
 use Rattle.impact_segments.specs.Listed.{has_postings, term_cmp}
-use Rattle.index_model.proofs.Lists.{Pairs, pairs_by_recursion, pairs_by_places, all_weaker, pairs_both, pairs_weaker, pairs_sorted, pairs_map, pairs_unmap}
-use Rattle.impact_segments.proofs.ByTerm.{by_term, filter_all, filter_passes, none_of, own_term}
+use Rattle.index_model.proofs.Lists.{pairs_sorted}
+use Rattle.impact_segments.proofs.ByTerm.{by_term, none_of, own_term}
 use Rattle.impact_segments.proofs.Orders.{term_total, strictly}
 use Rattle.impact_segments.proofs.OneTerm.{length_sorted}
 
@@ -54,7 +56,7 @@ filter_shorter {A} q (x ∷ xs) = step (q x) refl (filter_shorter q xs) where
 pub listed_all : (P : PostingsList → Type 0) (lists listed : List PostingsList) → listed ≡ sorted term_cmp (filter has_postings lists) → All P lists → All P listed
 listed_all P lists listed is h =
     let Q : List PostingsList → Type 0 = λ (l : List PostingsList). All P l in
-    subst Q (sym is) (All-from_recursion P (sorted term_cmp (filter has_postings lists)) (all_sorted term_cmp P (filter has_postings lists) (filter_all P has_postings lists (recursion_from_All P lists h))))
+    subst Q (sym is) (All-from_recursion P (sorted term_cmp (filter has_postings lists)) (all_sorted term_cmp P (filter has_postings lists) (all_filter P has_postings lists (recursion_from_All P lists h))))
 
 pub listed_some : (lists listed : List PostingsList) → listed ≡ sorted term_cmp (filter has_postings lists) → All (λ (l : PostingsList). 1 ≤ length l.postings) listed
 listed_some lists listed is =

@@ -6,6 +6,7 @@ use Rattle.std.specs.List.Sorted.{IsStrictlyIncreasing}
 use Rattle.std.proofs.lemmas.List.Elements.{recursion_from_All, All-push}
 use Rattle.std.proofs.lemmas.List.{drop_more}
 use Rattle.std.proofs.lemmas.Simd.{map-map}
+use Rattle.shared_lemmas.proofs.Lists.{all_unmap}
 use Rattle.jass_base.specs.Gaps.{AreDocs}
 use Rattle.jass_base.specs.Lists.{HasDocsBelow}
 use Rattle.jass_base.specs.Postings.{docs_of}
@@ -19,7 +20,6 @@ use Rattle.weights.specs.declared.quantizing.Range.{Range}
 use Rattle.weights.specs.declared.weighting.Rule.{Rule}
 use Rattle.weights.specs.Quantizing.{impact_of}
 use Rattle.weights.specs.Weighting.{idf}
-use Rattle.index_model.proofs.Lists.{all_unmap}
 use Rattle.impact_segments.specs.Collections.{weight_in}
 use Rattle.impact_segments.specs.OneList.{Unmade, first_outside, has_weight, nearer_end, outside}
 use Rattle.impact_segments.specs.Pairs.{pair_docs}

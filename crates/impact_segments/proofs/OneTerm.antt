@@ -11,6 +11,8 @@ use Rattle.std.proofs.lemmas.List.{length-map, map-append, get_or-map, drop_more
 use Rattle.std.proofs.lemmas.List.Concat.{flat_map-append}
 use Rattle.std.proofs.lemmas.List.Elements.{recursion_from_All, All-from_recursion, All-push}
 use Rattle.std.proofs.lemmas.Simd.{map-map}
+use Rattle.shared_lemmas.proofs.Pairs.{Pairs, pairs_by_recursion}
+use Rattle.shared_lemmas.proofs.Lists.{all_weaker, all_unmap, all_parts}
 use denote.Ref.{Bor}
 use Rattle.jass_base.specs.declared.doc_record.DocRecord.{DocRecord}
 use Rattle.jass_base.specs.declared.posting.Posting.{Posting}
@@ -33,7 +35,7 @@ use Rattle.impact_segments.specs.Weighed.{posting_weight, list_entries}
 use Rattle.impact_segments.specs.Held.{term_entries, flat_of_terms}
 use Rattle.impact_segments.specs.Listed.{lists_behind}
 use Rattle.impact_segments.specs.Pairs.{pair_cmp, pairs_of, pair_docs, list_pairs}
-use Rattle.index_model.proofs.Lists.{Pairs, pairs_by_recursion, all_unmap, all_parts, all_weaker, map_sorted}
+use Rattle.index_model.proofs.Lists.{map_sorted}
 
 pub all_map_at : {A B : Type 0} (P : B → Type 0) (f : A → B) (xs : List A) (i : ℕ) (d : A) → i < length xs → All P (map f xs) → P (f (get_or xs i d))
 all_map_at P f xs i d low h = let inside : i < length (map f xs) = rw length-map low in subst P (get_or-map f xs i d (f d) low) (h i (f d) inside)

@@ -5,6 +5,7 @@ use Rattle.std.specs.List.{AllByRecursion}
 use Rattle.std.proofs.Math.Nat.{le_trans}
 use Rattle.std.proofs.lemmas.Bool.Decides.{nat_tests}
 use Rattle.std.proofs.lemmas.List.Elements.{All-from_recursion, recursion_from_All}
+use Rattle.shared_lemmas.proofs.Lists.{all_map}
 use Rattle.jass_base.specs.Ciff.{FitsList, ListData}
 use Rattle.jass_base.specs.Postings.{HasTfInRange, docs_of}
 use Rattle.jass_base.specs.declared.posting.Posting.{Posting}
@@ -14,7 +15,6 @@ use Rattle.weights.specs.declared.quantizing.Range.{Range}
 use Rattle.weights.specs.Quantizing.{empty_range, range_of, widened}
 use Rattle.weights.specs.Weighting.{idf, length_norm, saturated}
 use Rattle.weights.proofs.Bounds.{lg_of_rarity}
-use Rattle.index_model.proofs.Lists.{all_map}
 use Rattle.impact_segments.specs.Bounds.{can_widen, heaviest, lightest, most_tf, weight_at}
 use Rattle.impact_segments.specs.Collections.{weight_in, weights_in}
 use Rattle.impact_segments.specs.OneList.{norms_in}

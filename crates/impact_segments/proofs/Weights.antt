@@ -6,6 +6,9 @@ use Rattle.std.specs.List.Sorted.{IsStrictlyIncreasing}
 use Rattle.std.proofs.lemmas.List.Elements.{recursion_from_All, All-from_recursion}
 use Rattle.std.proofs.lemmas.List.{length-map, get_or-map, drop_more}
 use Rattle.std.proofs.lemmas.Simd.{map-map}
+use Rattle.shared_lemmas.proofs.Members.{all_contained}
+use Rattle.shared_lemmas.proofs.Pairs.{Pairs, rising_pairs}
+use Rattle.shared_lemmas.proofs.Lists.{all_weaker, all_unmap, all_parts}
 use Rattle.jass_base.specs.declared.doc_record.DocRecord.{DocRecord}
 use Rattle.jass_base.specs.declared.posting.Posting.{Posting}
 use Rattle.jass_base.specs.declared.postings_list.PostingsList.{PostingsList}
@@ -22,7 +25,6 @@ use Rattle.weights.specs.declared.quantizing.Range.{Range}
 use Rattle.weights.specs.Quantizing.{widened, range_of, empty_range, Holds, IsInRange}
 use Rattle.impact_segments.specs.Weighed.{lengths_in, total_length, norms_of, list_weights}
 use Rattle.impact_segments.proofs.OneTerm.{all_map_at}
-use Rattle.index_model.proofs.Lists.{Pairs, all_weaker, all_unmap, all_contained, all_parts, rising_pairs}
 
 -- numbers that rise and lie from low on below high
 few : (low high : ℕ) (xs : List ℕ) → low ≤ high → Pairs (λ (x y : ℕ). x < y) xs → AllByRecursion (λ (x : ℕ). low ≤ x) xs → AllByRecursion (λ (x : ℕ). x < high) xs → low + length xs ≤ high

@@ -16,7 +16,10 @@ use Rattle.ranking_model.specs.Order.{sorted}
 use Rattle.ranking_model.proofs.Sorting.{Ascends, sorted_ascends, all_sorted, sum_by-sorted}
 use Rattle.index_model.specs.Index.{SegmentData, TermData, IsTerm, SharesNoDocument}
 use Rattle.index_model.proofs.FlatOrder.{term_kept}
-use Rattle.index_model.proofs.Lists.{Pairs, all_weaker, all_append, all_map, all_flat, pairs_append, pairs_map, pairs_weaker, pairs_both, pairs_sorted, rising_from_pairs}
+use Rattle.shared_lemmas.proofs.Pairs.{Pairs, pairs_map, rising_from_pairs}
+use Rattle.shared_lemmas.proofs.Lists.{all_weaker, all_append, all_map, all_flat}
+use Rattle.shared_lemmas.proofs.Pairs.{pairs_append, pairs_weaker, pairs_both}
+use Rattle.index_model.proofs.Lists.{pairs_sorted}
 use Rattle.index_layout.specs.View.{term_postings}
 use Rattle.index_export.specs.Exports.{doc_cmp, segment_postings, term_list, impact_sum}
 

@@ -17,7 +17,8 @@ use Rattle.jass_base.specs.declared.postings_list.PostingsList.{PostingsList}
 use Rattle.jass_base.specs.Lists.{DifferInTerm}
 use Rattle.jass_base.specs.Terms.{BytesRise}
 use Rattle.index_model.specs.Index.{TermData, IndexData, IsTerm, IsIndex, RisesTo}
-use Rattle.index_model.proofs.Lists.{Pairs, pairs_by_recursion, pairs_by_places, pairs_map, pairs_unmap, pairs_weaker}
+use Rattle.shared_lemmas.proofs.Pairs.{Pairs, pairs_by_recursion, pairs_by_places, pairs_map, pairs_unmap}
+use Rattle.shared_lemmas.proofs.Pairs.{pairs_weaker}
 use Rattle.index_layout.specs.View.{term_postings, index_postings}
 use Rattle.index_export.specs.Exports.{term_list, impact_sum, exported_list}
 use Rattle.index_export.specs.Gathering.{cf_sum, term_with}

@@ -15,7 +15,7 @@ use Rattle.weights.specs.declared.quantizing.Range.{Range}
 use Rattle.ciff_read.proofs.Told.{for_all, for_both}
 use Rattle.index_model.specs.Index.{SegmentData, TermData}
 use Rattle.index_model.specs.Views.{segment_data}
-use Rattle.index_model.proofs.Lists.{Pairs, pairs_by_places, pairs_by_recursion, pairs_map}
+use Rattle.shared_lemmas.proofs.Pairs.{Pairs, pairs_by_places, pairs_by_recursion, pairs_map}
 use Rattle.index_layout.specs.Heads.{HeadData, all_heads, head_postings}
 use Rattle.index_layout.specs.Heads.{TermHeads as EntryData}
 use Rattle.index_write.specs.Chosen.{chosen_entry, chosen_head, chosen_heads, chosen_payloads, head_data, table_payloads}

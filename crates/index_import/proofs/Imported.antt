@@ -22,7 +22,8 @@ use Rattle.ciff_read.specs.declared.refusal.CiffFault.TheVariants as reading
 use Rattle.ciff_read.proofs.Told.{for_both, for_one, for_pair}
 use Rattle.index_model.specs.Grouping.{index_with}
 use Rattle.index_model.specs.Index.{IndexData, SegmentData, TermData}
-use Rattle.index_model.proofs.Lists.{Pairs, all_unmap, all_weaker, pairs_by_places, pairs_by_recursion, pairs_map}
+use Rattle.shared_lemmas.proofs.Pairs.{Pairs, pairs_by_places, pairs_by_recursion, pairs_map}
+use Rattle.shared_lemmas.proofs.Lists.{all_unmap, all_weaker}
 use Rattle.index_write.specs.declared.term_heads.TermHeads.{TermHeads}
 use Rattle.impact_segments.specs.Collections.{collection_index, index_of, lengths_of, total_of, weights_in, weights_of}
 use Rattle.impact_segments.specs.ListTerms.{AreByTerm, list_term, lists_in_use, widened_by}

@@ -31,7 +31,7 @@ use Rattle.ciff_read.specs.Walk.{HasKept, WalkView}
 use Rattle.impact_segments.specs.Collections.{lengths_of, total_of}
 use Rattle.impact_segments.proofs.OneTerm.{all_map_at}
 use Rattle.impact_segments.proofs.Orders.{strictly}
-use Rattle.index_model.proofs.Lists.{pairs_by_places, pairs_by_recursion, pairs_map, pairs_unmap}
+use Rattle.shared_lemmas.proofs.Pairs.{pairs_by_places, pairs_by_recursion, pairs_map, pairs_unmap}
 use Rattle.index_import.specs.Outlining.{AreInOrder, IsOutline, IsOutlined, has_postings, list_there, lists_there, names_of}
 use Rattle.index_import.specs.Surveying.{AreGiven, AreKept, HoldsMost, IsSurvey, has_some, kept_entry, numbered}
 use Rattle.index_import.specs.declared.list_entry.ListEntry.{ListEntry}

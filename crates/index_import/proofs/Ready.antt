@@ -9,7 +9,7 @@ use Rattle.ciff_read.specs.Pieces.{KeptList}
 use Rattle.ciff_read.specs.Reading.{Message, list_at}
 use Rattle.ciff_read.specs.Refusals.{◌>>=◌}
 use Rattle.ciff_read.specs.Walk.{HasKept, IsListAt, KeepsRanges, LeavesWalk, StandsFor, StandsTold, WalkView}
-use Rattle.index_model.proofs.Lists.{Pairs, rising_pairs}
+use Rattle.shared_lemmas.proofs.Pairs.{Pairs, rising_pairs}
 use Rattle.index_import.proofs.Beside.{beside, for_same, there_beside}
 use Rattle.index_import.specs.Outlining.{list_there, or_nothing}
 use Rattle.index_import.specs.Surveying.{IsReady}

@@ -10,13 +10,14 @@ use Rattle.std.specs.Ordering.{is_gt, is_lt, nat_cmp, ordering_then}
 use Rattle.std.proofs.lemmas.Cmp.{nat_cmp_total, nat_list_cmp_total, tied_itself}
 use Rattle.std.proofs.lemmas.Bool.Decides.{nat_tests}
 use Rattle.std.proofs.lemmas.List.Elements.{recursion_from_All, All-from_recursion, All-contains_itself}
+use Rattle.shared_lemmas.proofs.Pairs.{Pairs, pairs_by_recursion, pairs_by_places, pairs_weaker, pairs_append, pairs_map, rising_pairs}
+use Rattle.shared_lemmas.proofs.Lists.{all_weaker, all_append, all_map, all_across, all_of}
 use Rattle.ranking_model.specs.declared.entry.Entry.{Entry}
 use Rattle.ranking_model.specs.Flat.{entry_cmp, IsFlat}
 use Rattle.ranking_model.proofs.Sorting.{Ascends, ascends_append, sorted_ascending}
 use Rattle.ranking_model.proofs.Orders.{entry_total}
 use Rattle.index_model.specs.Index.{SegmentData, TermData, IndexData, IsSegment, IsTerm, IsIndex, FallsTo, SharesNoDocument, RisesTo}
 use Rattle.index_model.specs.Flat.{doc_entries, segment_entries, term_entries, flat_of_terms, flat_of, numbered_from, numbered_flat}
-use Rattle.index_model.proofs.Lists.{Pairs, pairs_by_recursion, pairs_by_places, all_weaker, all_append, all_map, pairs_append, pairs_map, pairs_weaker, rising_pairs}
 use Rattle.index_model.proofs.Numbers.{own_entries}
 
 less_is : (m n : ℕ) → m < n → nat_cmp m n ≡ Less
@@ -24,10 +25,6 @@ less_is m n l = grind (arith, nat_tests)
 
 equal_is : (n : ℕ) → nat_cmp n n ≡ Equal
 equal_is n = grind (arith, nat_tests)
-
--- all of one list with all of another
-across : {A : Type 0} (P Q : A → Type 0) (R : A → A → Type 0) → ((x y : A) → P x → Q y → R x y) → (xs ys : List A) → AllByRecursion P xs → AllByRecursion Q ys → AllByRecursion (λ x. AllByRecursion (λ y. R x y) ys) xs
-across P Q R f xs ys h k = all_weaker P (λ x. AllByRecursion (λ y. R x y) ys) (λ x p. all_weaker Q (λ y. R x y) (λ y q. f x y p q) ys k) xs h
 
 -- what is kept of a term's segments
 pub record Kept (documents : ℕ) (segments : List SegmentData) : Type 0 where
@@ -92,7 +89,7 @@ module _ {T : Type 0} (cmp : T → T → Ordering) (total : IsTotalOrder cmp) wh
   term_ascends : (n : T) (segments : List SegmentData) → Pairs FallsTo segments → AllByRecursion (λ (s : SegmentData). Pairs (λ (x y : ℕ). x < y) s.docs) segments → Ascends (entry_cmp cmp) (term_entries n segments)
   term_ascends n [] h r = tt
   term_ascends n (s ∷ ss) h r = ascends_append (entry_cmp cmp) (segment_entries n s) (term_entries n ss) (docs_ascend n s.impact s.docs r.0) (term_ascends n ss h.1 r.1)
-      (across (λ (e : Entry T). (e.term ≡ n) × (e.impact ≡ s.impact)) (λ (e : Entry T). (e.term ≡ n) × (e.impact < s.impact)) NotAfter (λ x y p q. by_impact x y (p.0 ∙ sym q.0) (omega (arith, p.1, q.1)))
+      (all_across (λ (e : Entry T). (e.term ≡ n) × (e.impact ≡ s.impact)) (λ (e : Entry T). (e.term ≡ n) × (e.impact < s.impact)) NotAfter (λ x y p q. by_impact x y (p.0 ∙ sym q.0) (omega (arith, p.1, q.1)))
       (segment_entries n s) (term_entries n ss) (at_impact n s.impact s.docs) (below_impact n s.impact ss h.0))
 
   behind_key : (P : T → Type 0) (ks : List (T × List SegmentData)) → AllByRecursion (λ (k : T × List SegmentData). P k.0) ks → AllByRecursion (λ (e : Entry T). P e.term) (flat_keyed ks)
@@ -104,7 +101,7 @@ module _ {T : Type 0} (cmp : T → T → Ordering) (total : IsTotalOrder cmp) wh
   keyed_ascends : (d : ℕ) (ks : List (T × List SegmentData)) → Pairs KeysRise ks → AllByRecursion (λ (k : T × List SegmentData). Kept d k.1) ks → Ascends (entry_cmp cmp) (flat_keyed ks)
   keyed_ascends d [] h kept = tt
   keyed_ascends d (k ∷ ks) h kept = ascends_append (entry_cmp cmp) (term_entries k.0 k.1) (flat_keyed ks) (term_ascends k.0 k.1 kept.0.falling kept.0.rising) (keyed_ascends d ks h.1 kept.1)
-      (across (λ (e : Entry T). e.term ≡ k.0) (λ (e : Entry T). is_lt (cmp k.0 e.term) ≡ true) NotAfter (λ x y p q. by_term x y (subst (λ (t : T). is_lt (cmp t y.term) ≡ true) (sym p) q)) (term_entries k.0 k.1) (flat_keyed ks)
+      (all_across (λ (e : Entry T). e.term ≡ k.0) (λ (e : Entry T). is_lt (cmp k.0 e.term) ≡ true) NotAfter (λ x y p q. by_term x y (subst (λ (t : T). is_lt (cmp t y.term) ≡ true) (sym p) q)) (term_entries k.0 k.1) (flat_keyed ks)
       (own_entries k.0 k.1) (behind_key (λ (t : T). is_lt (cmp k.0 t) ≡ true) ks h.0))
 
   -- ---- a document once in a term
@@ -127,7 +124,7 @@ module _ {T : Type 0} (cmp : T → T → Ordering) (total : IsTotalOrder cmp) wh
       (pairs_map Once (λ (doc : ℕ). record { term = n; doc = doc; impact = s.impact }) s.docs
       (pairs_weaker (λ (x y : ℕ). x < y) (λ (x y : ℕ). n ≡ n → x ≢ y) (λ x y l _ e. omega (arith, l, e)) s.docs r.0))
       (term_once n ss h.1 r.1)
-      (across (λ (e : Entry T). Contains s.docs e.doc) (λ (e : Entry T). ¬ Contains s.docs e.doc) Once (λ x y p q _ e. q (subst (Contains s.docs) e p)) (segment_entries n s) (term_entries n ss) (among n s.impact s.docs) (none_among n s ss h.0))
+      (all_across (λ (e : Entry T). Contains s.docs e.doc) (λ (e : Entry T). ¬ Contains s.docs e.doc) Once (λ x y p q _ e. q (subst (Contains s.docs) e p)) (segment_entries n s) (term_entries n ss) (among n s.impact s.docs) (none_among n s ss h.0))
 
   not_less_itself : (r : Ordering) → r ≡ Equal → is_lt r ≡ true → ⊥
   not_less_itself Less e l = absurd cc
@@ -137,7 +134,7 @@ module _ {T : Type 0} (cmp : T → T → Ordering) (total : IsTotalOrder cmp) wh
   keyed_once : (d : ℕ) (ks : List (T × List SegmentData)) → Pairs KeysRise ks → AllByRecursion (λ (k : T × List SegmentData). Kept d k.1) ks → Pairs Once (flat_keyed ks)
   keyed_once d [] h kept = tt
   keyed_once d (k ∷ ks) h kept = pairs_append Once (term_entries k.0 k.1) (flat_keyed ks) (term_once k.0 k.1 kept.0.once kept.0.rising) (keyed_once d ks h.1 kept.1)
-      (across (λ (e : Entry T). e.term ≡ k.0) (λ (e : Entry T). is_lt (cmp k.0 e.term) ≡ true) Once (λ x y p q e. absurd (not_less_itself (cmp k.0 y.term) (own_key k.0 y.term (sym p ∙ e)) q)) (term_entries k.0 k.1) (flat_keyed ks)
+      (all_across (λ (e : Entry T). e.term ≡ k.0) (λ (e : Entry T). is_lt (cmp k.0 e.term) ≡ true) Once (λ x y p q e. absurd (not_less_itself (cmp k.0 y.term) (own_key k.0 y.term (sym p ∙ e)) q)) (term_entries k.0 k.1) (flat_keyed ks)
       (own_entries k.0 k.1) (behind_key (λ (t : T). is_lt (cmp k.0 t) ≡ true) ks h.0))
 
   -- ---- documents and impacts
@@ -157,10 +154,6 @@ module _ {T : Type 0} (cmp : T → T → Ordering) (total : IsTotalOrder cmp) wh
     each_key : (ks : List (T × List SegmentData)) → AllByRecursion (λ (k : T × List SegmentData). AllByRecursion (λ (s : SegmentData). AllByRecursion (λ (doc : ℕ). P doc s.impact) s.docs) k.1) ks → AllByRecursion Each (flat_keyed ks)
     each_key [] h = tt
     each_key (k ∷ ks) h = all_append Each (term_entries k.0 k.1) (flat_keyed ks) (each_segment k.0 k.1 h.0) (each_key ks h.1)
-
-  all_of : {A : Type 0} (P : A → Type 0) → ((x : A) → P x) → (xs : List A) → AllByRecursion P xs
-  all_of P f [] = tt
-  all_of P f (x ∷ xs) = (f x, all_of P f xs)
 
   keyed_flat : (d : ℕ) (ks : List (T × List SegmentData)) → Pairs KeysRise ks → AllByRecursion (λ (k : T × List SegmentData). Kept d k.1) ks → IsFlat cmp d (flat_keyed ks)
   keyed_flat d ks rise kept =

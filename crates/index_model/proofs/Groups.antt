@@ -1,38 +1,21 @@
 -- The entries of an index, put together again.
-use Rattle.std.proofs.Common.{◌≡◌, ◌≢◌, ℕ, suc, ◌<◌, ◌≤◌, ◌==◌, Bool, true, false, List, [], ◌∷◌, ◌++◌, length, refl, sym, ap, ◌∙◌, subst, arith, if◌then◌else◌, append-nil}
+use Rattle.std.proofs.Common.{◌≡◌, ℕ, suc, ◌<◌, ◌≤◌, false, List, [], ◌∷◌, ◌++◌, length, refl, ap, ◌∙◌, arith, if◌then◌else◌, append-nil}
 use Rattle.std.specs.Prelude.{⊤}
 use Rattle.std.specs.List.{AllByRecursion}
 use Rattle.std.specs.Str.{bytes_eq}
-use Rattle.std.specs.Cmp.Lexicographic.{slice_cmp, same_text, other_text}
-use Rattle.std.specs.declared.cmp.Ordering.{Ordering}
-use Rattle.std.specs.declared.cmp.Ordering.TheVariants.{Equal}
-use Rattle.std.specs.Ordering.{is_lt, nat_cmp}
-use Rattle.std.proofs.lemmas.Bool.Decides.{nat_tests}
-use Rattle.std.proofs.lemmas.Cmp.{nat_list_cmp_total, tied_itself}
 use Rattle.std.proofs.lemmas.List.Elements.{recursion_from_All}
+use Rattle.jass_base.proofs.ByteOrder.{bytes_apart}
+use Rattle.shared_lemmas.proofs.Numbers.{number_itself, numbers_apart}
+use Rattle.shared_lemmas.proofs.Texts.{bytes_itself}
+use Rattle.shared_lemmas.proofs.Pairs.{Pairs, pairs_by_recursion}
 use Rattle.ranking_model.specs.declared.entry.Entry.{Entry}
-use Rattle.jass_base.specs.Terms.{BytesRise}
 use Rattle.index_model.specs.Index.{SegmentData, TermData, IndexData, IsSegment, IsTerm, IsIndex, FallsTo, RisesTo}
 use Rattle.index_model.specs.Flat.{doc_entries, segment_entries, term_entries, flat_of_terms, flat_of}
 use Rattle.index_model.specs.Grouping.{with_posting, with_entry, with_entries, index_with}
-use Rattle.index_model.proofs.Lists.{Pairs, pairs_by_recursion}
 
 entries_behind : (xs ys : List (Entry (List ℕ))) (terms : List TermData) → with_entries (xs ++ ys) terms ≡ with_entries xs (with_entries ys terms)
 entries_behind [] ys terms = refl
 entries_behind (x ∷ xs) ys terms = ap (with_entry x) (entries_behind xs ys terms)
-
-same_bytes : (bytes : List ℕ) → bytes_eq bytes bytes ≡ true
-same_bytes bytes = by_answer (bytes_eq bytes bytes) refl
-  where
-    by_answer : (b : Bool) → b ≡ bytes_eq bytes bytes → bytes_eq bytes bytes ≡ true
-    by_answer true is = sym is
-    by_answer false is = absurd (other_text bytes bytes is refl)
-
-same_number : (n : ℕ) → (n == n) ≡ true
-same_number n = grind (arith, nat_tests)
-
-apart_numbers : (m n : ℕ) → n < m → (m == n) ≡ false
-apart_numbers m n less = grind (arith, nat_tests)
 
 -- the term isn't that of the first, and the impact isn't
 abbrev IsOtherTerm : List ℕ → List TermData → Type 0
@@ -45,16 +28,16 @@ IsOtherImpact impact (s ∷ segments) = s.impact < impact
 
 new_posting : (impact doc : ℕ) (segments : List SegmentData) → IsOtherImpact impact segments → with_posting impact doc segments ≡ record { impact = impact; docs = doc ∷ [] } ∷ segments
 new_posting impact doc [] other = refl
-new_posting impact doc (s ∷ segments) other = rw (apart_numbers impact s.impact other) refl
+new_posting impact doc (s ∷ segments) other = rw (numbers_apart impact s.impact other) refl
 
 -- a segment in front of others of its term
 segment_there : (term : List ℕ) (impact d : ℕ) (docs : List ℕ) (segments : List SegmentData) (terms : List TermData) → IsOtherImpact impact segments
     → with_entries (doc_entries term impact (d ∷ docs)) (record { term = term; segments = segments } ∷ terms) ≡ record { term = term; segments = record { impact = impact; docs = d ∷ docs } ∷ segments } ∷ terms
 segment_there term impact d [] segments terms other =
-    rw (same_bytes term) (ap (λ (ss : List SegmentData). (let t : List TermData = record { term = term; segments = ss } ∷ terms in t)) (new_posting impact d segments other))
+    rw (bytes_itself term) (ap (λ (ss : List SegmentData). (let t : List TermData = record { term = term; segments = ss } ∷ terms in t)) (new_posting impact d segments other))
 segment_there term impact d (e ∷ docs) segments terms other =
     ap (with_entry (record { term = term; doc = d; impact = impact })) (segment_there term impact e docs segments terms other)
-    ∙ rw (same_bytes term, same_number impact) refl
+    ∙ rw (bytes_itself term, number_itself impact) refl
 
 -- a segment in front of other terms
 segment_first : (term : List ℕ) (impact d : ℕ) (docs : List ℕ) (terms : List TermData) → IsOtherTerm term terms
@@ -63,7 +46,7 @@ segment_first term impact d [] [] other = refl
 segment_first term impact d [] (t ∷ terms) other = rw other refl
 segment_first term impact d (e ∷ docs) terms other =
     ap (with_entry (record { term = term; doc = d; impact = impact })) (segment_first term impact e docs terms other)
-    ∙ rw (same_bytes term, same_number impact) refl
+    ∙ rw (bytes_itself term, number_itself impact) refl
 
 abbrev HasSome : SegmentData → Type 0
 HasSome s = 0 < length s.docs
@@ -85,16 +68,6 @@ segments_there term s (next ∷ segments) terms other some falling =
     with_docs [] none = absurd (omega (arith, none))
     with_docs (d ∷ docs) some = segment_there term s.impact d docs (next ∷ segments) terms falling.0.0
 
-not_itself : (a : List ℕ) → is_lt (slice_cmp nat_cmp a a) ≢ true
-not_itself a is = (let e : is_lt Equal ≡ true = subst (λ (o : Ordering). is_lt o ≡ true) (tied_itself nat_list_cmp_total a) is in cc)
-
-apart : (a b : List ℕ) → BytesRise a b → bytes_eq a b ≡ false
-apart a b rises = by_answer (bytes_eq a b) refl
-  where
-    by_answer : (x : Bool) → x ≡ bytes_eq a b → bytes_eq a b ≡ false
-    by_answer false is = sym is
-    by_answer true is = absurd (not_itself b (subst (λ (c : List ℕ). is_lt (slice_cmp nat_cmp c b) ≡ true) (same_text a b is) rises))
-
 terms_there : (d : ℕ) (terms : List TermData) → AllByRecursion (IsTerm d) terms → Pairs RisesTo terms → with_entries (flat_of_terms terms) [] ≡ terms
 terms_there d [] are rising = refl
 terms_there d (t ∷ terms) are rising =
@@ -104,7 +77,7 @@ terms_there d (t ∷ terms) are rising =
   where
     first_apart : (rest : List TermData) → AllByRecursion (RisesTo t) rest → IsOtherTerm t.term rest
     first_apart [] rises = tt
-    first_apart (u ∷ rest) rises = apart t.term u.term rises.0
+    first_apart (u ∷ rest) rises = bytes_apart t.term u.term rises.0
 
     have : (segments : List SegmentData) → AllByRecursion (IsSegment d) segments → AllByRecursion HasSome segments
     have [] are = tt

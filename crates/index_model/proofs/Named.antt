@@ -7,6 +7,8 @@ use Rattle.std.proofs.lemmas.List.{map-append}
 use Rattle.std.proofs.lemmas.Grind.{flat_map-append}
 use Rattle.std.proofs.lemmas.List.Elements.{filter-append, recursion_from_All}
 use Rattle.std.proofs.lemmas.Simd.{map-map}
+use Rattle.shared_lemmas.proofs.Pairs.{Pairs, pairs_by_places, pairs_weaker, pairs_append, pairs_map}
+use Rattle.shared_lemmas.proofs.Lists.{all_weaker, all_append, filter_all}
 use Rattle.jass_base.specs.declared.named.Named.{Named}
 use Rattle.ranking_model.specs.declared.entry.Entry.{Entry}
 use Rattle.ranking_model.specs.declared.class.Class.{Class}
@@ -17,14 +19,9 @@ use Rattle.index_model.specs.Index.{SegmentData, TermData, IndexData, IsSegment,
 use Rattle.index_model.specs.Flat.{segment_entries, term_entries, numbered_from, numbered_flat}
 use Rattle.index_model.specs.Querying.{segments_at, classes_at, classes_from, query_classes}
 use Rattle.index_model.proofs.FlatOrder.{Kept, term_kept}
-use Rattle.index_model.proofs.Lists.{Pairs, pairs_by_places, pairs_append, pairs_map, pairs_weaker, all_weaker, all_append}
 use Rattle.index_model.proofs.Numbers.{own_entries}
 
 -- ---- the entries of a number
-
-filter_all : {A : Type 0} (p : A → Bool) (xs : List A) → AllByRecursion (λ x. p x ≡ true) xs → filter p xs ≡ xs
-filter_all p [] h = refl
-filter_all {A} p (x ∷ xs) h = rw h.0 (ap (λ (l : List A). x ∷ l) (filter_all p xs h.1))
 
 filter_none : {A : Type 0} (p : A → Bool) (xs : List A) → AllByRecursion (λ x. p x ≡ false) xs → filter p xs ≡ []
 filter_none p [] h = refl

@@ -1,5 +1,5 @@
 -- A term's number is its place: the flat list by number.
-use Rattle.std.proofs.Common.{◌≡◌, ◌≢◌, ℕ, suc, ◌+◌, ◌<◌, ◌≤◌, List, [], ◌∷◌, ◌++◌, map, filter, not, length, get_or, Bool, true, false, true≢false, refl, sym, ap, ap₂, ◌∙◌, subst, arith, append_assoc, length-append, add-one}
+use Rattle.std.proofs.Common.{◌≡◌, ◌≢◌, ℕ, suc, ◌+◌, ◌<◌, ◌≤◌, List, [], ◌∷◌, ◌++◌, map, filter, not, length, get_or, true, false, true≢false, refl, sym, ap, ap₂, ◌∙◌, subst, arith, append_assoc, length-append, add-one}
 use Rattle.std.specs.Prelude.{AllPairs, bytes_eq}
 use Rattle.std.specs.List.{AllByRecursion}
 use Rattle.std.specs.Ordering.{is_lt, nat_cmp}
@@ -9,18 +9,16 @@ use Rattle.std.proofs.lemmas.Slice.Eq.{bytes_eq-Decides}
 use Rattle.std.proofs.lemmas.List.{get_or_at, map-append, length_push}
 use Rattle.std.proofs.lemmas.List.Sums.{position_or_len_is}
 use Rattle.std.proofs.lemmas.Simd.{map-map}
+use Rattle.std.proofs.lemmas.Bool.{false_from_ne_true}
+use Rattle.shared_lemmas.proofs.Pairs.{Pairs, pairs_by_recursion, pairs_by_places, pairs_weaker, pairs_map}
+use Rattle.shared_lemmas.proofs.Lists.{all_append}
 use Rattle.ranking_model.specs.declared.entry.Entry.{Entry}
 use Rattle.ranking_model.specs.Flat.{terms_of, number_of, numbered}
 use Rattle.index_model.specs.Index.{SegmentData, TermData, RisesTo}
 use Rattle.index_model.specs.Flat.{doc_entries, segment_entries, term_entries, flat_of_terms, numbered_from}
-use Rattle.index_model.proofs.Lists.{Pairs, pairs_by_recursion, pairs_by_places, all_append, pairs_weaker, pairs_map}
 
 abbrev pub texts_of : List TermData → List (List ℕ)
 texts_of terms = map (λ (t : TermData). t.term) terms
-
-false_from : (b : Bool) → (b ≡ true → ⊥) → b ≡ false
-false_from true n = absurd (n refl)
-false_from false n = refl
 
 -- terms that rise differ
 rise_apart : (s t : List ℕ) → is_lt (slice_cmp nat_cmp s t) ≡ true → s ≢ t
@@ -39,7 +37,7 @@ apart terms rising = pairs_map (λ (s t : List ℕ). s ≢ t) (λ (t : TermData)
 kept : (t : List ℕ) (ts : List (List ℕ)) → AllByRecursion (λ (s : List ℕ). t ≢ s) ts → filter (λ term. not (bytes_eq term t)) ts ≡ ts
 kept t [] h = refl
 kept t (s ∷ ts) h =
-    let differ : bytes_eq s t ≡ false = false_from (bytes_eq s t) (λ e. h.0 (sym ((bytes_eq-Decides s t).0 e))) in
+    let differ : bytes_eq s t ≡ false = false_from_ne_true (bytes_eq s t) (λ e. h.0 (sym ((bytes_eq-Decides s t).0 e))) in
     rw differ (ap (λ (l : List (List ℕ)). s ∷ l) (kept t ts h.1))
 
 joined : (t : List ℕ) (e : Entry (List ℕ)) (es rest : List (Entry (List ℕ))) → AllByRecursion (λ (e : Entry (List ℕ)). e.term ≡ t) (e ∷ es) → AllByRecursion (λ (s : List ℕ). t ≢ s) (terms_of rest)
@@ -93,7 +91,7 @@ module _ (all : List (List ℕ)) (differ : AllPairs (λ (s t : List ℕ). s ≢ 
       let size : length all ≡ length front + suc (length back) = ap length e ∙ length-append front (t ∷ back) in
       let low : length front < length all = omega (arith, size) in
       let before : (k : ℕ) → k < length front → bytes_eq (get_or all k []) t ≡ false
-      = λ k b. false_from (bytes_eq (get_or all k []) t) (λ eq. differ k (length front) [] b low ((bytes_eq-Decides (get_or all k []) t).0 eq ∙ sym at)) in
+      = λ k b. false_from_ne_true (bytes_eq (get_or all k []) t) (λ eq. differ k (length front) [] b low ((bytes_eq-Decides (get_or all k []) t).0 eq ∙ sym at)) in
       let here : length front < length all → bytes_eq (get_or all (length front) []) t ≡ true = λ l. (bytes_eq-Decides (get_or all (length front) []) t).1 at in
       position_or_len_is (λ s. bytes_eq s t) all (length front) [] (omega arith) before here
 

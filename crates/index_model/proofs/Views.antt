@@ -4,6 +4,8 @@ use Rattle.std.specs.List.{AllByRecursion}
 use Rattle.std.proofs.lemmas.List.{length-map}
 use Rattle.std.proofs.lemmas.Simd.{map-map}
 use Rattle.std.proofs.lemmas.List.Elements.{recursion_from_All, All-from_recursion}
+use Rattle.shared_lemmas.proofs.Pairs.{pairs_by_recursion, pairs_by_places, pairs_map}
+use Rattle.shared_lemmas.proofs.Lists.{all_map}
 use Rattle.jass_base.specs.declared.segment.Segment.{Segment}
 use Rattle.jass_base.specs.declared.term_segments.TermSegments.{TermSegments}
 use Rattle.jass_base.specs.declared.impact_index.ImpactIndex.{ImpactIndex}
@@ -14,7 +16,6 @@ use Rattle.index_model.specs.Views.{segment_data, term_data, index_data}
 use Rattle.ranking_model.specs.Flat.{terms_of}
 use Rattle.index_model.specs.Flat.{flat_of}
 use Rattle.index_model.proofs.Numbers.{HasDocuments, terms_are_texts}
-use Rattle.index_model.proofs.Lists.{pairs_by_recursion, pairs_by_places, pairs_map, all_map}
 
 -- the segments of a term keep what they kept
 segments_are : (d top : ℕ) (segments : List Segment) → d ≤ 2 ^ 26 → top ≤ 65535 → terms.greatest_of segments ≤ top → AllByRecursion (held.HasDocumentsBelow d) segments → AllByRecursion (λ (s : Segment). IsSegment d (segment_data s)) segments

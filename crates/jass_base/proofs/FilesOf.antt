@@ -11,8 +11,7 @@ use Rattle.std.specs.FinMap.{empty, find, from_entries, get, insert, get-insert,
 use Rattle.std.specs.declared.alloc.Global.{Global}
 use Rattle.std.proofs.lemmas.Map.Text.{btree_map_updates_text, is_eq-slice_cmp}
 use Rattle.std.proofs.lemmas.Cmp.{nat_list_cmp_total, eq_by_cmp_equiv}
-use Rattle.std.specs.declared.cmp.Ordering.{Ordering}
-use Rattle.std.specs.declared.cmp.Ordering.TheVariants.{Less, Equal, Greater}
+use Rattle.shared_lemmas.proofs.Texts.{equal_texts}
 use Rattle.jass_base.specs.FilesOf.{files_of, named}
 use Rattle.jass_base.specs.Outside.{Files, content_or_empty}
 
@@ -55,15 +54,6 @@ files_of-set m n bs content v is updates =
 pub files_of-same : (m n : BTreeMap (String Global) (Vec ℕ Global)) → IsUnchanged m n → files_of n ≡ files_of m
 unfolding files_of
 files_of-same m n same = ap (λ es. from_entries (map named es)) same
-
--- texts that tie are equal
-equal_texts : (xs ys : List ℕ) → eq_by_cmp (slice_cmp nat_cmp) xs ys ≡ true → xs ≡ ys
-equal_texts xs ys is = slice_cmp-IsAntisymmetric nat_cmp-IsAntisymmetric xs ys (tied (slice_cmp nat_cmp xs ys) is)
-  where
-    tied : (o : Ordering) → is_eq o ≡ true → o ≡ Equal
-    tied Less is = cc
-    tied Equal is = refl
-    tied Greater is = cc
 
 -- the content of a name that is there
 pub content_there : (m : BTreeMap (String Global) (Vec ℕ Global)) (bs : List ℕ) (had : Vec ℕ Global) → get_by_text m bs ≡ Some had → content_or_empty (files_of m) bs ≡ had.items

@@ -1,10 +1,11 @@
 -- A gap that is read or written group by group.
-use Rattle.std.proofs.Common.{◌≡◌, ℕ, zero, suc, ◌+◌, ◌-◌, ◌*◌, ◌/◌, ◌%◌, ◌^◌, ◌<◌, ◌≤◌, ◌≢◌, ◌==◌, Bool, true, false, cond, List, [], ◌∷◌, ◌++◌, length, get_or, take, drop, Result, Ok, Err, refl, sym, ap, ◌∙◌, subst, inl, inr, arith, add-one, drop-cons, set, append_assoc}
+use Rattle.std.proofs.Common.{◌≡◌, ℕ, zero, suc, ◌+◌, ◌-◌, ◌*◌, ◌/◌, ◌%◌, ◌^◌, ◌<◌, ◌≤◌, ◌≢◌, ◌==◌, true, false, cond, List, [], ◌∷◌, ◌++◌, length, get_or, take, drop, Result, Ok, Err, refl, sym, ap, ◌∙◌, subst, inl, inr, arith, add-one, drop-cons, set, append_assoc}
 use Rattle.std.specs.Prelude.{nat_lt, IsOk}
-use Rattle.std.proofs.lemmas.Bool.{cases_lt}
+use Rattle.std.proofs.lemmas.Bool.{cases_lt, cond-false}
 use Rattle.std.proofs.lemmas.Bool.Decides.{nat_tests}
 use Rattle.std.proofs.lemmas.List.{drop_all, take_more_set, length-set, length-drop, get_or-drop}
 use Rattle.std.proofs.Math.Nat.{pow-suc, pow-le-pow_right}
+use Rattle.shared_lemmas.proofs.Numbers.{value_small}
 use Rattle.jass_base.specs.declared.payload_fault.PayloadFault.{PayloadFault}
 use Rattle.jass_base.specs.declared.payload_fault.PayloadFault.TheVariants.{Cut, Shape}
 use Rattle.jass_base.specs.Gaps.{GapSpelling, ◌>>=◌, gap_within, gap_in}
@@ -20,15 +21,11 @@ abbrev pub gap_groups : ℕ → List ℕ → Result GapSpelling PayloadFault
 gap_groups zero bytes = Err Shape
 gap_groups (suc k) bytes = gap_within k bytes
 
-chosen : {A : Type 0} (test : Bool) (x y : A) → test ≡ false → cond test x y ≡ y
-chosen true x y is = absurd cc
-chosen false x y is = refl
-
 behind_some : (gap scale size g s : ℕ) → 1 ≤ g → behind gap scale size (spelled g s) ≡ spelled (gap + scale * g) (s + size)
-behind_some gap scale size g s some = chosen (g == 0) (Err Shape) (spelled (gap + scale * g) (s + size)) (grind (arith, nat_tests))
+behind_some gap scale size g s some = cond-false (g == 0) (Err Shape) (spelled (gap + scale * g) (s + size)) (grind (arith, nat_tests))
 
 first_some : (b n s : ℕ) → 1 ≤ n → with_first b (record { gap = n; size = s }) ≡ spelled (b % 128 + 128 * n) (s + 1)
-first_some b n s some = chosen (n == 0) (Err Shape) (spelled (b % 128 + 128 * n) (s + 1)) (grind (arith, nat_tests))
+first_some b n s some = cond-false (n == 0) (Err Shape) (spelled (b % 128 + 128 * n) (s + 1)) (grind (arith, nat_tests))
 
 behind_more : (gap scale size b : ℕ) (read : Result GapSpelling PayloadFault) → behind gap scale size (read >>= with_first b) ≡ behind (gap + b % 128 * scale) (scale * 128) (size + 1) read
 behind_more gap scale size b (Err fault) = refl
@@ -71,9 +68,6 @@ one_group (b ∷ bytes) gap some high byte is =
     let large : nat_lt b 128 ≡ false = grind (arith, nat_tests) in
     let low : b % 128 ≡ gap = omega arith in
     record { scale_is = omega arith; below = omega arith; inside = omega arith; read = groups_more 3 b bytes large ∙ rw (← low) refl }
-
-pub value_small : (value b scale : ℕ) → value < scale → b < 128 → value + b * scale < scale * 128
-value_small value b scale below small = grind arith
 
 pub scale_small : (i scale : ℕ) → i < 4 → scale ≡ 128 ^ i → scale ≤ 128 ^ 3
 scale_small i scale few is = let below : i ≤ 3 = omega arith in rw is (pow-le-pow_right {n = 128} (omega arith) {i = i} {j = 3} below)

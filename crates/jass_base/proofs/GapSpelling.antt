@@ -3,6 +3,7 @@ use Rattle.std.proofs.Common.{◌≡◌, ℕ, zero, suc, ◌+◌, ◌*◌, ◌/�
 use Rattle.std.specs.Prelude.{nat_lt}
 use Rattle.std.proofs.lemmas.Bool.Decides.{nat_tests}
 use Rattle.std.proofs.Math.Nat.{pow-suc}
+use Rattle.shared_lemmas.proofs.Numbers.{power_some}
 use Rattle.jass_base.specs.declared.payload_fault.PayloadFault.{PayloadFault}
 use Rattle.jass_base.specs.declared.payload_fault.PayloadFault.TheVariants.{Shape}
 use Rattle.jass_base.specs.Gaps.{GapSpelling, ◌>>=◌, gap_within, gap_in}
@@ -60,10 +61,6 @@ pub record IsRead (k : ℕ) (bytes : List ℕ) (read : GapSpelling) : Type 0 whe
   pub some : 0 < read.size
   pub most : read.size ≤ k + 1
   pub inside : read.size ≤ length bytes
-
-power_some : (k : ℕ) → 1 ≤ 128 ^ k
-power_some zero = omega arith
-power_some (suc k) = omega (arith, pow-suc 128 k, power_some k)
 
 one_read : (k b : ℕ) (bytes : List ℕ) (read : GapSpelling) → b < 128 → spelled b 1 ≡ Ok read → IsRead k (b ∷ bytes) read
 one_read k b bytes read small is =

@@ -1,8 +1,9 @@
 -- Documents and their gaps.
-use Rattle.std.proofs.Common.{◌≡◌, ℕ, zero, suc, ◌+◌, ◌-◌, ◌<◌, ◌≤◌, List, [], ◌∷◌, ◌++◌, length, get_or, sum, All, refl, ap, ◌∙◌, arith, add-one}
+use Rattle.std.proofs.Common.{◌≡◌, ℕ, zero, suc, ◌+◌, ◌-◌, ◌<◌, ◌≤◌, List, [], ◌∷◌, ◌++◌, length, get_or, sum, All, refl, ap, ◌∙◌, arith}
 use Rattle.std.specs.Prelude.{⊤}
 use Rattle.std.specs.List.Sorted.{IsStrictlyIncreasing}
 use Rattle.std.proofs.lemmas.List.Sums.{sum_by-cons}
+use Rattle.shared_lemmas.proofs.Places.{read_behind}
 use Rattle.jass_base.specs.Gaps.{gaps_from, docs_from}
 
 -- documents that rise from a least one on
@@ -10,14 +11,11 @@ abbrev pub RiseFrom : ℕ → List ℕ → Type 0
 RiseFrom least [] = ⊤
 RiseFrom least (doc ∷ docs) = (least ≤ doc) × RiseFrom (doc + 1) docs
 
-later : (doc : ℕ) (docs : List ℕ) (k : ℕ) → get_or (doc ∷ docs) (suc k + 1) 0 ≡ get_or docs (k + 1) 0
-later doc docs k = rw (add-one, add-one) refl
-
 pub rise_from : (least : ℕ) (docs : List ℕ) → IsStrictlyIncreasing docs → (0 < length docs → least ≤ get_or docs 0 0) → RiseFrom least docs
 rise_from least [] rising first = tt
 rise_from least (doc ∷ docs) rising first = (
   first (omega arith),
-  rise_from (doc + 1) docs (λ k h. let up = rising (suc k) (omega arith) in rw (← later doc docs k) up) (λ some. let up = rising 0 (omega arith) in omega arith),
+  rise_from (doc + 1) docs (λ k h. let up = rising (suc k) (omega arith) in rw (← read_behind doc docs k) up) (λ some. let up = rising 0 (omega arith) in omega arith),
 )
 
 pub rise_from_all : (least : ℕ) (docs : List ℕ) → IsStrictlyIncreasing docs → All (λ doc. least ≤ doc) docs → RiseFrom least docs
@@ -27,7 +25,7 @@ pub rising : (least : ℕ) (docs : List ℕ) → RiseFrom least docs → IsStric
 rising least [] rise k h = absurd (omega arith)
 rising least (doc ∷ []) rise k h = absurd (omega arith)
 rising least (doc ∷ next ∷ docs) rise zero h = let up = rise.1.0 in omega arith
-rising least (doc ∷ next ∷ docs) rise (suc k) h = rw (later doc (next ∷ docs) k) (rising (doc + 1) (next ∷ docs) rise.1 k (omega arith))
+rising least (doc ∷ next ∷ docs) rise (suc k) h = rw (read_behind doc (next ∷ docs) k) (rising (doc + 1) (next ∷ docs) rise.1 k (omega arith))
 
 pub from_least : (least low : ℕ) (docs : List ℕ) → RiseFrom least docs → low ≤ least → All (λ doc. low ≤ doc) docs
 from_least least low [] rise lower k d h = absurd (omega arith)

@@ -1,4 +1,5 @@
 pub mod Accepting
+pub mod ByteOrder
 pub mod DecimalLemmas
 pub mod FilesOf
 pub mod GapGroups

@@ -9,11 +9,11 @@ use Rattle.jass_base.specs.Outside.{Files, content_or_empty, content_there, othe
 use Rattle.jass_base.proofs.FilesOf.{same_files}
 
 -- a name that was set has its content
-get_set : (files : Files) (name content : List ℕ) → get (insert files name content) name ≡ Some content
+pub get_set : (files : Files) (name content : List ℕ) → get (insert files name content) name ≡ Some content
 get_set files name content = get-insert nat_list_cmp_total files name content name ∙ ap (λ b. cond b (Some content) (get files name)) (ap is_eq (tied_itself nat_list_cmp_total name))
 
 -- a name that is set twice has its last content
-set_twice : (files : Files) (name first last : List ℕ) → insert (insert files name first) name last ≡ insert files name last
+pub set_twice : (files : Files) (name first last : List ℕ) → insert (insert files name first) name last ≡ insert files name last
 set_twice files name first last = same_files (insert (insert files name first) name last) (insert files name last) (λ q.
     get-insert nat_list_cmp_total (insert files name first) name last q
     ∙ again (eq_by_cmp (slice_cmp nat_cmp) q name) q refl

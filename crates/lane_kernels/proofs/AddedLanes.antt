@@ -5,9 +5,10 @@ use Rattle.std.specs.List.{range_with_len}
 use Rattle.std.proofs.lemmas.Bool.{cases_lt, le-leb, lt-leb, ne_eqb}
 use Rattle.std.proofs.lemmas.Nat.Bits.{and_pow, bit_at-lt}
 use Rattle.std.proofs.lemmas.Simd.{length-chunk, get_or-chunk, get_or-put_chunk_below, get_or-put_chunk_at, get_or-put_chunk_above}
+use Rattle.shared_lemmas.proofs.Places.{same_four}
 use Rattle.lane_kernels.specs.Adding.{is_near}
 use Rattle.lane_kernels.specs.Lanes.{is_marked, weight_at}
-use Rattle.lane_kernels.proofs.Running.{plus, by_lanes, same_lanes}
+use Rattle.lane_kernels.proofs.Running.{plus, by_lanes}
 use lib.Lanes.{zip2, sel_l, sum_l, top, chunk, put_chunk}
 
 -- ---- four lanes by their places
@@ -31,7 +32,7 @@ as_four = by_lanes (λ xs. xs ≡ four (λ k. get_or xs k 0)) (λ a b c d. refl)
 chunk_four : (i : ℕ) (xs : List ℕ) → i + 4 ≤ length xs → chunk i 4 xs ≡ four (λ k. get_or xs (i + k) 0)
 chunk_four i xs within =
     as_four (chunk i 4 xs) (length-chunk i 4 xs within)
-    ∙ same_lanes (get_or-chunk i 4 xs 0 0 (omega arith)) (get_or-chunk i 4 xs 1 0 (omega arith)) (get_or-chunk i 4 xs 2 0 (omega arith)) (get_or-chunk i 4 xs 3 0 (omega arith))
+    ∙ same_four (get_or-chunk i 4 xs 0 0 (omega arith)) (get_or-chunk i 4 xs 1 0 (omega arith)) (get_or-chunk i 4 xs 2 0 (omega arith)) (get_or-chunk i 4 xs 3 0 (omega arith))
 
 -- ---- the bits of a byte as marks
 mark_is : (x b p : ℕ) → b < 2 → 0 < p → x ≡ b * p → not (eqb x 0) ≡ eqb b 1
@@ -96,7 +97,7 @@ added_lanes_are : (w : ℕ) (slot : ℕ → ℕ) (marks old : List ℕ) → leng
 added_lanes_are w slot marks old long is fits =
     ap (added_lanes w marks) is
     ∙ by_lanes (λ ms. ((k : ℕ) → k < 4 → slot k + weight_at w ms k < 2 ^ 32) → added_lanes w ms (four slot) ≡ four (λ k. slot k + weight_at w ms k))
-    (λ a b c d h. same_lanes (added_lane (eqb a 0) (slot 0) w (h 0 (omega arith))) (added_lane (eqb b 0) (slot 1) w (h 1 (omega arith)))
+    (λ a b c d h. same_four (added_lane (eqb a 0) (slot 0) w (h 0 (omega arith))) (added_lane (eqb b 0) (slot 1) w (h 1 (omega arith)))
     (added_lane (eqb c 0) (slot 2) w (h 2 (omega arith))) (added_lane (eqb d 0) (slot 3) w (h 3 (omega arith)))) marks long fits
 
 -- the counts after one more where the lane is marked and the test's lane is set
@@ -178,7 +179,7 @@ module _ (w place : ℕ) (slots marks old : List ℕ) (many : length marks ≡ 4
         ≡ sum_l counts + marked_count marks (λ k. is_near w from (get_or now (place + k) 0))
     nears_counted from start counts long room =
         let next = λ (k : ℕ). get_or now (place + k) 0 in
-        let are : added_lanes w marks old ≡ four next = new_are ∙ sym (same_lanes (new_here 0 (omega arith)) (new_here 1 (omega arith)) (new_here 2 (omega arith)) (new_here 3 (omega arith))) in
+        let are : added_lanes w marks old ≡ four next = new_are ∙ sym (same_four (new_here 0 (omega arith)) (new_here 1 (omega arith)) (new_here 2 (omega arith)) (new_here 3 (omega arith))) in
         let tests = λ (k : ℕ). leb ((next k + (2 ^ 32 - from)) % 2 ^ 32) w in
         let lane : (k : ℕ) → k < 4 → (is_marked marks k && tests k) ≡ (is_marked marks k && is_near w from (next k)) =
         (λ k h. near_marked (is_marked marks k) (next k) (get_or slots (place + k) 0) w from (new_here k h) (omega (arith, new_here k h, fits k h)) start) in

@@ -2,16 +2,14 @@
 use Rattle.std.proofs.Common.{◌≡◌, ℕ, zero, suc, ◌+◌, ◌-◌, ◌*◌, ◌/◌, ◌%◌, ◌^◌, ◌<◌, ◌≤◌, List, length, get_or, sym, ap, ◌∙◌, refl, arith, inl, inr}
 use Rattle.std.specs.Int.{bit_at}
 use Rattle.std.proofs.lemmas.Bool.{cases_lt}
-use Rattle.std.proofs.lemmas.Nat.{pow_pos, shr-shr, shr_split}
+use Rattle.std.proofs.lemmas.Nat.{pow_pos, shr-shr}
 use Rattle.std.proofs.lemmas.Nat.Bits.{bit_at_cat_low, bit_at_cat_high, bit_at_lowest, bit_at-lt, bit_at-zero, same_from_bits_below}
 use Rattle.std.proofs.lemmas.List.FromFn.{get_or-map-range_with_len, length-map-range_with_len, fill_by_all}
 use Rattle.std.proofs.Math.Nat.{pow-suc}
+use Rattle.shared_lemmas.proofs.Bits.{bit_times}
 use Rattle.lane_kernels.specs.Block.{number_of_bits, list_of}
 
 -- ---- bits of what the operators give
-pub bit_at-mod : (n k v : ℕ) → v < k → bit_at (n % 2 ^ k) v ≡ bit_at n v
-bit_at-mod n k v h = sym (bit_at_cat_low (n / 2 ^ k) k (n % 2 ^ k) v h) ∙ ap (λ m. bit_at m v) (shr_split n k)
-
 pub bit_at-shr : (n k v : ℕ) → bit_at (n / 2 ^ k) v ≡ bit_at n (k + v)
 bit_at-shr n k v = ap (λ m. m % 2) (shr-shr n k v)
 
@@ -24,18 +22,11 @@ bit_at-shl n k v h =
     ap (λ m. bit_at m v) (let e : n * 2 ^ k ≡ n * 2 ^ k + 0 = omega arith in e) ∙ bit_at_cat_high n k 0 v (pow_pos k) h
 
 -- ---- a number from its bits
-bit_cases : (b p : ℕ) → b < 2 → b * p ≤ p
-bit_cases b p small =
-    elim (cases_lt b 1) [
-      | inl l ↦ omega (arith, ap (λ a. a * p) (let e : b ≡ 0 = omega arith in e))
-      | inr g ↦ omega (arith, ap (λ a. a * p) (let e : b ≡ 1 = omega arith in e))
-    ]
-
 pub number_below : (bit : ℕ → ℕ) (n : ℕ) → ((v : ℕ) → v < n → bit v < 2) → number_of_bits bit n < 2 ^ n
 unfolding number_of_bits
 number_below bit zero small = omega arith
 number_below bit (suc n) small =
-    omega (arith, number_below bit n (λ v h. small v (omega arith)), bit_cases (bit n) (2 ^ n) (small n (omega arith)), pow-suc 2 n)
+    omega (arith, number_below bit n (λ v h. small v (omega arith)), bit_times (bit n) (2 ^ n) (small n (omega arith)), pow-suc 2 n)
 
 pub bit_at_number : (bit : ℕ → ℕ) (n : ℕ) → ((v : ℕ) → v < n → bit v < 2) → (v : ℕ) → v < n → bit_at (number_of_bits bit n) v ≡ bit v
 unfolding number_of_bits

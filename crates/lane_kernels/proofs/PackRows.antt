@@ -6,10 +6,12 @@ use Rattle.std.proofs.lemmas.Bool.{cases_lt}
 use Rattle.std.proofs.lemmas.Nat.{or_lt, shl_below, shr_below, shr-shr, mod_below, pow_pos, div-mul-add, mod-mul-add, row_fits}
 use Rattle.std.proofs.lemmas.Nat.Bits.{bit_at_above, bit_at_or, bit_at-lt}
 use Rattle.std.proofs.lemmas.Simd.{get_or-chunk, length-chunk, get_or-put_chunk_below, get_or-put_chunk_at, get_or_narrower}
+use Rattle.shared_lemmas.proofs.Places.{same_four}
+use Rattle.shared_lemmas.proofs.Bits.{bit_at-mod}
 use Rattle.lane_kernels.specs.Block.{number_of_bits, packed_bit, block_byte}
 use Rattle.lane_kernels.specs.Lanes.{pending_lanes}
-use Rattle.lane_kernels.proofs.Bits.{bit_at-mod, bit_at-shr, bit_at-shl, bit_at-shl_below, bit_at_number, number_below, number_is, same_numbers}
-use Rattle.lane_kernels.proofs.Running.{by_lanes, same_lanes}
+use Rattle.lane_kernels.proofs.Bits.{bit_at-shr, bit_at-shl, bit_at-shl_below, bit_at_number, number_below, number_is, same_numbers}
+use Rattle.lane_kernels.proofs.Running.{by_lanes}
 use lib.Lanes.{zip2, chunk, put_chunk, digits_l, number_l, Each1}
 
 -- ---- one lane: a value joins the bits before it
@@ -118,7 +120,7 @@ module _ (values : List ℕ) (width row : ℕ) (long : length values ≡ 128) (s
   loaded_are =
       let read = λ (l : ℕ) (h : l < 4). (let e : get_or loaded l 0 ≡ get_or values (4 * row + l) 0 = ap (λ (xs : List ℕ). get_or xs l 0) is ∙ get_or-chunk (4 * row) 4 values l 0 h in e) in
       four_reads loaded (ap length is ∙ length-chunk (4 * row) 4 values (omega arith))
-      ∙ same_lanes (read 0 (omega arith)) (read 1 (omega arith)) (read 2 (omega arith)) (read 3 (omega arith))
+      ∙ same_four (read 0 (omega arith)) (read 1 (omega arith)) (read 2 (omega arith)) (read 3 (omega arith))
 
   value_below : (lane : ℕ) → lane < 4 → value_of lane < 2 ^ width
   unfolding value_of
@@ -153,18 +155,18 @@ module _ (values : List ℕ) (width row : ℕ) (long : length values ≡ 128) (s
     pub row_waits : first % 32 + width < 32 → zip2 bit_or pending (zip2 shl loaded (replicate 4 (first % 32))) ≡ pending_lanes values width (first + width)
     row_waits room =
         let lane = λ (l : ℕ) (h : l < 4). joined_waits (packed_bit values width l) (small l) first width (value_of l) (value_below l h) narrow (value_bits l) room in
-        opened ∙ same_lanes (lane 0 (omega arith)) (lane 1 (omega arith)) (lane 2 (omega arith)) (lane 3 (omega arith))
+        opened ∙ same_four (lane 0 (omega arith)) (lane 1 (omega arith)) (lane 2 (omega arith)) (lane 3 (omega arith))
 
     pub row_full : 32 ≤ first % 32 + width → zip2 bit_or pending (zip2 shl loaded (replicate 4 (first % 32))) ≡ full_word 0 ∷ full_word 1 ∷ full_word 2 ∷ full_word 3 ∷ []
     row_full full =
         let lane = λ (l : ℕ) (h : l < 4). joined_full (packed_bit values width l) (small l) first width (value_of l) (value_below l h) narrow (value_bits l) full in
-        opened ∙ same_lanes (lane 0 (omega arith)) (lane 1 (omega arith)) (lane 2 (omega arith)) (lane 3 (omega arith))
+        opened ∙ same_four (lane 0 (omega arith)) (lane 1 (omega arith)) (lane 2 (omega arith)) (lane 3 (omega arith))
 
   pub row_rest : 32 ≤ first % 32 + width → zip2 shr (zip2 shr loaded (replicate 4 1)) (replicate 4 (31 - first % 32)) ≡ pending_lanes values width (first + width)
   row_rest full =
       let lane = λ (l : ℕ) (h : l < 4). rest_waits (packed_bit values width l) (small l) first width (value_of l) (value_below l h) narrow (value_bits l) full in
       ap (λ (xs : List ℕ). zip2 shr (zip2 shr xs (replicate 4 1)) (replicate 4 (31 - first % 32))) loaded_are
-      ∙ same_lanes (lane 0 (omega arith)) (lane 1 (omega arith)) (lane 2 (omega arith)) (lane 3 (omega arith))
+      ∙ same_four (lane 0 (omega arith)) (lane 1 (omega arith)) (lane 2 (omega arith)) (lane 3 (omega arith))
 
   -- the words that are written
   pub bytes_more : (out words : List ℕ) → 16 * (first / 32) + 16 ≤ length out → words ≡ full_word 0 ∷ full_word 1 ∷ full_word 2 ∷ full_word 3 ∷ [] → 32 ≤ first % 32 + width

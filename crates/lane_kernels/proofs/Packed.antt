@@ -1,10 +1,10 @@
 -- A packed block and its values determine each other.
-use Rattle.std.proofs.Common.{◌≡◌, ℕ, zero, suc, ◌+◌, ◌*◌, ◌/◌, ◌%◌, ◌^◌, ◌<◌, List, [], ◌∷◌, length, get_or, All, sym, ap, ◌∙◌, arith, inl, inr}
+use Rattle.std.proofs.Common.{◌≡◌, ℕ, zero, suc, ◌+◌, ◌*◌, ◌/◌, ◌%◌, ◌^◌, ◌<◌, List, [], ◌∷◌, length, get_or, All, sym, ap, ◌∙◌, arith}
 use Rattle.std.specs.Int.{bit_at}
-use Rattle.std.proofs.lemmas.Bool.{cases_lt}
-use Rattle.std.proofs.lemmas.List.{get_or_default, get_or_past}
+use Rattle.std.proofs.lemmas.List.{get_or_default}
 use Rattle.std.proofs.lemmas.Nat.{div-add-mod', div-mul-add, mod-mul-add, div_below, mod_below, mul-add-lt}
 use Rattle.std.proofs.lemmas.Nat.Bits.{bit_at-lt}
+use Rattle.shared_lemmas.proofs.Places.{reads_below}
 use Rattle.lane_kernels.specs.Block.{list_of, word_at, lane_word, lane_bit, block_value, block_values, packed_bit, block_byte, block_bytes}
 use Rattle.lane_kernels.proofs.Bits.{bit_at_number, number_below, number_is, length-list_of, get_or-list_of, list_of_all}
 use Rattle.lane_kernels.proofs.PackRows.{get_or_of_four}
@@ -30,9 +30,6 @@ values_below bytes width = list_of_below (block_value bytes width) 128 (2 ^ widt
 
 pub bytes_below : (values : List ℕ) (width : ℕ) → All (λ b. b < 256) (block_bytes values width)
 bytes_below values width = list_of_below (block_byte values width) (16 * width) 256 (λ k _. byte_below values width k)
-
-reads_below : (bytes : List ℕ) → All (λ b. b < 256) bytes → (k : ℕ) → get_or bytes k 0 < 256
-reads_below bytes below k = elim (cases_lt k (length bytes)) [ inl l ↦ below k 0 l | inr g ↦ omega (arith, get_or_past bytes k 0 g) ]
 
 four_below : (a b c d : ℕ) → a < 256 → b < 256 → c < 256 → d < 256 → (k : ℕ) → get_or (a ∷ b ∷ c ∷ d ∷ []) k 0 < 256
 four_below a b c d p q r s zero = p

@@ -4,25 +4,12 @@ use Rattle.std.specs.List.{position, prefix_len}
 use Rattle.std.proofs.Math.Nat.{pow-suc}
 use Rattle.std.proofs.lemmas.Bool.{cases_lt, ltb-true, lt-ltb}
 use Rattle.std.proofs.lemmas.Bool.Decides.{nat_tests}
-use Rattle.std.proofs.lemmas.List.Sums.{prefix_len_is, prefix_len_passes}
+use Rattle.std.proofs.lemmas.List.Sums.{prefix_len_passes}
 use Rattle.std.proofs.lemmas.List.Quantifiers.{position-Some}
 use Rattle.std.proofs.lemmas.Simd.{length-chunk, trailing_mask_l, run_in_chunk_fails, run_in_chunk_stops, none_from_empty_mask}
+use Rattle.shared_lemmas.proofs.Places.{position_at}
 use lib.Count.{count_trailing_zeros}
 use lib.Lanes.{chunk, mask_l}
-
--- none before it passes, and it does
-pub position_at : {X : Type 0} (p : X → Bool) (xs : List X) (i : ℕ) (d : X) → i < length xs
-    → ((k : ℕ) → k < i → p (get_or xs k d) ≡ false) → p (get_or xs i d) ≡ true → position p xs ≡ Some i
-position_at p xs i d inside before here =
-    let n : prefix_len (λ x. not (p x)) xs ≡ i = prefix_len_is (λ x. not (p x)) xs i d (omega arith) (λ k h. ap not (before k h)) (λ _. ap not here) in
-    rw n (grind (arith, nat_tests))
-
--- none passes
-pub position_past : {X : Type 0} (p : X → Bool) (xs : List X) (d : X)
-    → ((k : ℕ) → k < length xs → p (get_or xs k d) ≡ false) → position p xs ≡ None
-position_past p xs d before =
-    let n : prefix_len (λ x. not (p x)) xs ≡ length xs = prefix_len_is (λ x. not (p x)) xs (length xs) d (omega arith) (λ k h. ap not (before k h)) (λ h. absurd (omega arith)) in
-    rw n (grind (arith, nat_tests))
 
 not_zero : (x : ℕ) → not (x == 0) ≡ true → x ≢ 0
 not_zero x e is = grind (arith, nat_tests)

@@ -4,6 +4,7 @@ use Rattle.std.proofs.lemmas.List.Sums.{sum_by-cons}
 use Rattle.lane_kernels.specs.Gaps.{running}
 use Rattle.std.proofs.lemmas.List.{take_all, length-take-le, drop-drop, drop_at}
 use Rattle.std.proofs.lemmas.Simd.{length-chunk, put_chunk_is, take_more_put_chunk}
+use Rattle.shared_lemmas.proofs.Places.{same_four}
 use Rattle.lane_kernels.proofs.Sums.{front_and_chunk, sum_with_chunk, sum_to_chunk_le}
 use lib.Lanes.{zip2, pick_l, chunk, put_chunk}
 
@@ -19,9 +20,6 @@ by_lanes P at (a ∷ b ∷ c ∷ []) e = absurd (omega arith)
 by_lanes P at (a ∷ b ∷ c ∷ d ∷ []) e = at a b c d
 by_lanes P at (a ∷ b ∷ c ∷ d ∷ x ∷ xs) e = absurd (omega arith)
 
-pub same_lanes : {a b c d a' b' c' d' : ℕ} → a ≡ a' → b ≡ b' → c ≡ c' → d ≡ d' → (let x : List ℕ = a ∷ b ∷ c ∷ d ∷ [] in x) ≡ a' ∷ b' ∷ c' ∷ d' ∷ []
-same_lanes e f g h = cc
-
 abbrev pub sums_of : List ℕ → List ℕ
 sums_of xs =
     let pairs = zip2 plus xs (pick_l 0 (xs ++ replicate 4 0) (4 ∷ 0 ∷ 1 ∷ 2 ∷ [])) in
@@ -29,19 +27,19 @@ sums_of xs =
 
 pub sums_of_is : (xs : List ℕ) → length xs ≡ 4 → sum xs + 3 < 2 ^ 32 → sums_of xs ≡ running 0 xs
 sums_of_is = by_lanes (λ xs. sum xs + 3 < 2 ^ 32 → sums_of xs ≡ running 0 xs)
-    (λ a b c d h. same_lanes (omega arith) (omega arith) (omega arith) (omega arith))
+    (λ a b c d h. same_four (omega arith) (omega arith) (omega arith) (omega arith))
 
 -- from a least number on
 pub raised : (m : ℕ) (xs : List ℕ) → length xs ≡ 4 → m + sum xs + 3 < 2 ^ 32 → zip2 plus (running 0 xs) (replicate 4 m) ≡ running m xs
 raised m = by_lanes (λ xs. m + sum xs + 3 < 2 ^ 32 → zip2 plus (running 0 xs) (replicate 4 m) ≡ running m xs)
-    (λ a b c d h. same_lanes (omega arith) (omega arith) (omega arith) (omega arith))
+    (λ a b c d h. same_four (omega arith) (omega arith) (omega arith) (omega arith))
 
 -- the least number after four
 pub raised_least : (m : ℕ) (xs : List ℕ) → length xs ≡ 4 → m + sum xs + 4 < 2 ^ 32
     → zip2 plus (replicate 4 m) (let ys : List ℕ = zip2 plus (running 0 xs) (replicate 4 1) in pick_l 0 (ys ++ ys) (3 ∷ 3 ∷ 3 ∷ 3 ∷ [])) ≡ replicate 4 (m + sum xs + 4)
 raised_least m = by_lanes (λ xs. m + sum xs + 4 < 2 ^ 32
     → zip2 plus (replicate 4 m) (let ys : List ℕ = zip2 plus (running 0 xs) (replicate 4 1) in pick_l 0 (ys ++ ys) (3 ∷ 3 ∷ 3 ∷ 3 ∷ [])) ≡ replicate 4 (m + sum xs + 4))
-    (λ a b c d h. same_lanes (omega arith) (omega arith) (omega arith) (omega arith))
+    (λ a b c d h. same_four (omega arith) (omega arith) (omega arith) (omega arith))
 
 pub running-append : (m : ℕ) (xs ys : List ℕ) → running m (xs ++ ys) ≡ running m xs ++ running (m + sum xs + length xs) ys
 running-append m [] ys = ap (λ n. running n ys) (omega arith)

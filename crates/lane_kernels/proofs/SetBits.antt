@@ -11,6 +11,7 @@ use Rattle.std.proofs.lemmas.Nat.{and_block, and_le_r, mod-pow-add, pow-add, shr
 use Rattle.std.proofs.lemmas.Nat.Bits.{bit_at_cat_low, bit_at_cat_high, bit_at-zero}
 use Rattle.lane_kernels.specs.Bitmap.{bit_of, numbers_of_bits, set_bits, word_bits}
 use Rattle.std.proofs.Math.Nat.{div-eq_of_lt, div-one, pow-suc}
+use Rattle.shared_lemmas.proofs.Members.{contains_behind}
 use lib.Bits.{and_self}
 use lib.Count.{count_trailing_zeros, under}
 use lib.Lanes.{number_l}
@@ -264,9 +265,6 @@ set_bits-append base xs ys =
 Contains_head : (x y : ℕ) (xs : List ℕ) → y ≡ x → Contains (y ∷ xs) x
 Contains_head x y xs e = (0, omega arith, e)
 
-Contains_tail : (x y : ℕ) (xs : List ℕ) → Contains xs x → Contains (y ∷ xs) x
-Contains_tail x y xs c = (suc c.0, omega (arith, c.1), c.2)
-
 in_range_has : (b : Bool) (first x : ℕ) (rest : List ℕ) → Contains (cond b (first ∷ rest) rest) x → ((b ≡ true) × (first ≡ x)) ⊎ Contains rest x
 in_range_has true first x rest (zero, h, e) = inl (refl, e)
 in_range_has true first x rest (suc k, h, e) = inr (k, omega arith, e)
@@ -298,7 +296,7 @@ in_range_all bit base from (suc n) x low high set =
     ])
   where
     later : (b : Bool) → Contains (in_range bit base (from + 1) n) (base + x) → Contains (cond b ((base + from) ∷ in_range bit base (from + 1) n) (in_range bit base (from + 1) n)) (base + x)
-    later true c = Contains_tail (base + x) (base + from) (in_range bit base (from + 1) n) c
+    later true c = contains_behind (base + x) (base + from) (in_range bit base (from + 1) n) c
     later false c = c
 
 pub set_bits_members : (base : ℕ) (bytes : List ℕ) (i : ℕ) → Contains (set_bits base bytes) (base + i) ↔ (bit_of bytes i ≡ 1)

@@ -5,10 +5,11 @@ use Rattle.std.proofs.lemmas.Bool.{cases_lt}
 use Rattle.std.proofs.lemmas.Nat.{and_mask, mod_below, pow_pos}
 use Rattle.std.proofs.lemmas.Nat.Bits.{bit_at_above, bit_at_or, ones_shr}
 use Rattle.std.proofs.lemmas.Simd.{get_or-put_chunk_below, get_or-put_chunk_at}
+use Rattle.shared_lemmas.proofs.Places.{same_four}
+use Rattle.shared_lemmas.proofs.Bits.{bit_at-mod}
 use Rattle.lane_kernels.specs.Block.{number_of_bits, lane_word, lane_number, block_value}
 use Rattle.lane_kernels.specs.Lanes.{lane_words, lane_numbers}
-use Rattle.lane_kernels.proofs.Bits.{bit_at-mod, bit_at-shr, bit_at-shl, bit_at-shl_below, number_is}
-use Rattle.lane_kernels.proofs.Running.{same_lanes}
+use Rattle.lane_kernels.proofs.Bits.{bit_at-shr, bit_at-shl, bit_at-shl_below, number_is}
 use lib.Lanes.{zip2, put_chunk}
 
 -- the words of a lane, and `width` bits of it from `first` on
@@ -78,7 +79,7 @@ module _ (bytes : List ℕ) (fits : (k : ℕ) → get_or bytes k 0 < 256) (width
   row_from_one inside =
       ap (λ m. zip2 bit_and (zip2 shr words (replicate 4 (first % 32))) (replicate 4 m)) (mask_is width narrow)
       ∙ ap (λ (ws : List ℕ). zip2 bit_and (zip2 shr ws (replicate 4 (first % 32))) (replicate 4 (2 ^ width - 1))) are
-      ∙ same_lanes (from_one (lane_word bytes 0) first width inside) (from_one (lane_word bytes 1) first width inside)
+      ∙ same_four (from_one (lane_word bytes 0) first width inside) (from_one (lane_word bytes 1) first width inside)
       (from_one (lane_word bytes 2) first width inside) (from_one (lane_word bytes 3) first width inside)
 
   pub row_from_two : (more : List ℕ) → more ≡ lane_words bytes (first / 32 + 1) → 32 < first % 32 + width
@@ -88,7 +89,7 @@ module _ (bytes : List ℕ) (fits : (k : ℕ) → get_or bytes k 0 < 256) (width
       ap (λ m. zip2 bit_and (zip2 bit_or (zip2 shr words (replicate 4 (first % 32))) (zip2 shl more (replicate 4 (32 - first % 32)))) (replicate 4 m)) (mask_is width narrow)
       ∙ ap (λ (ws : List ℕ). zip2 bit_and (zip2 bit_or (zip2 shr ws (replicate 4 (first % 32))) (zip2 shl more (replicate 4 (32 - first % 32)))) (replicate 4 (2 ^ width - 1))) are
       ∙ ap (λ (ws : List ℕ). zip2 bit_and (zip2 bit_or (zip2 shr (lane_words bytes (first / 32)) (replicate 4 (first % 32))) (zip2 shl ws (replicate 4 (32 - first % 32)))) (replicate 4 (2 ^ width - 1))) next
-      ∙ same_lanes (lane 0) (lane 1) (lane 2) (lane 3)
+      ∙ same_four (lane 0) (lane 1) (lane 2) (lane 3)
 
 -- ---- the rows of a block
 get_or-lane_numbers : (bytes : List ℕ) (width first j : ℕ) → j < 4 → get_or (lane_numbers bytes width first) j 0 ≡ lane_number bytes width j first

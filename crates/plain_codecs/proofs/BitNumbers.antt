@@ -1,23 +1,17 @@
 -- Numbers by their bits, and lists by their places.
-use Rattle.std.proofs.Common.{◌≡◌, ℕ, zero, suc, ◌+◌, ◌-◌, ◌*◌, ◌%◌, ◌^◌, ◌<◌, ◌≤◌, List, [], ◌∷◌, ◌++◌, length, get_or, sym, ap, ◌∙◌, refl, arith, inl, inr}
+use Rattle.std.proofs.Common.{◌≡◌, ℕ, zero, suc, ◌+◌, ◌-◌, ◌%◌, ◌^◌, ◌<◌, [], ◌∷◌, ◌++◌, sym, ap, ◌∙◌, refl, arith, inl, inr}
 use Rattle.std.specs.Int.{bit_at}
 use Rattle.std.proofs.lemmas.Bool.{cases_lt}
 use Rattle.std.proofs.lemmas.Nat.Bits.{bit_at_cat_low, bit_at_cat_high, bit_at_lowest, same_from_bits_below}
-use Rattle.std.proofs.lemmas.List.FromFn.{get_or-map-range_with_len, length-map-range_with_len, map-range_with_len_more, fill_by_all}
+use Rattle.std.proofs.lemmas.List.FromFn.{map-range_with_len_more}
 use Rattle.std.proofs.Math.Nat.{pow-suc}
+use Rattle.shared_lemmas.proofs.Bits.{bit_times}
 use Rattle.lane_kernels.specs.Block.{number_of_bits, list_of}
-
-bit_cases : (b p : ℕ) → b < 2 → b * p ≤ p
-bit_cases b p small =
-    elim (cases_lt b 1) [
-      | inl l ↦ omega (arith, ap (λ a. a * p) (let e : b ≡ 0 = omega arith in e))
-      | inr g ↦ omega (arith, ap (λ a. a * p) (let e : b ≡ 1 = omega arith in e))
-    ]
 
 pub number_below : (bit : ℕ → ℕ) (n : ℕ) → ((v : ℕ) → bit v < 2) → number_of_bits bit n < 2 ^ n
 unfolding number_of_bits
 number_below bit zero small = omega arith
-number_below bit (suc n) small = omega (arith, number_below bit n small, bit_cases (bit n) (2 ^ n) (small n), pow-suc 2 n)
+number_below bit (suc n) small = omega (arith, number_below bit n small, bit_times (bit n) (2 ^ n) (small n), pow-suc 2 n)
 
 pub bit_at_number : (bit : ℕ → ℕ) (n : ℕ) → ((v : ℕ) → bit v < 2) → (v : ℕ) → v < n → bit_at (number_of_bits bit n) v ≡ bit v
 unfolding number_of_bits
@@ -38,19 +32,6 @@ bit_at_number bit (suc n) small v h =
 pub number_is : (bit : ℕ → ℕ) (n x : ℕ) → x < 2 ^ n → ((v : ℕ) → bit v < 2) → ((v : ℕ) → v < n → bit_at x v ≡ bit v) → x ≡ number_of_bits bit n
 number_is bit n x below small same =
     same_from_bits_below n x (number_of_bits bit n) below (number_below bit n small) (λ v h. same v h ∙ sym (bit_at_number bit n small v h))
-
--- a list from a function
-pub length-list_of : (f : ℕ → ℕ) (n : ℕ) → length (list_of f n) ≡ n
-unfolding list_of
-length-list_of f n = length-map-range_with_len f 0 n
-
-pub get_or-list_of : (f : ℕ → ℕ) (n k : ℕ) → k < n → get_or (list_of f n) k 0 ≡ f k
-unfolding list_of
-get_or-list_of f n k h = get_or-map-range_with_len f 0 n k k 0 h (omega arith)
-
-pub list_of_all : (f : ℕ → ℕ) (xs : List ℕ) (n : ℕ) → length xs ≡ n → ((k : ℕ) → k < n → get_or xs k 0 ≡ f k) → xs ≡ list_of f n
-unfolding list_of
-list_of_all f xs n long at = fill_by_all f xs n 0 long at
 
 pub list_of_none : (f : ℕ → ℕ) → list_of f 0 ≡ []
 unfolding list_of

@@ -5,20 +5,24 @@ use Rattle.std.specs.Int.{bit_at}
 use lib.Count.{ones_step}
 use Rattle.std.specs.List.{list_all, range_with_len}
 use Rattle.std.specs.List.Sorted.{IsStrictlyIncreasing}
-use Rattle.std.proofs.lemmas.Bool.{cases_lt}
+use Rattle.std.proofs.lemmas.Bool.{cases_lt, false_from_ne_true}
 use Rattle.std.proofs.lemmas.Bool.Decides.{nat_tests}
 use Rattle.std.proofs.lemmas.List.{get_or_default, get_or_past, length-map, length-append, take_more}
 use Rattle.std.proofs.lemmas.List.Sums.{AllPass-from_list_all, list_all-from_AllPass}
 use Rattle.std.proofs.lemmas.Nat.{pow_pos, shr_split, mod_below}
-use Rattle.std.proofs.lemmas.Nat.Bits.{bit_at_cat_low, bit_at_above, bit_at-lt, bit_at-zero, same_from_bits_below}
+use Rattle.std.proofs.lemmas.Nat.Bits.{bit_at_above, bit_at-lt, bit_at-zero, same_from_bits_below}
 use Rattle.std.proofs.Math.Nat.{div-eq_of_lt}
+use Rattle.jass_base.proofs.Gaps.{rise_from}
+use Rattle.shared_lemmas.proofs.Places.{reads_below}
+use Rattle.shared_lemmas.proofs.Bits.{bit_at-mod}
+use Rattle.lane_kernels.proofs.Bits.{length-list_of, get_or-list_of, list_of_all}
 use Rattle.jass_base.specs.Gaps.{AreDocs}
 use Rattle.jass_base.specs.declared.payload_fault.PayloadFault.{PayloadFault}
 use Rattle.jass_base.specs.declared.payload_fault.PayloadFault.TheVariants.{Cut, Longer, Shape, DocRange}
 use Rattle.lane_kernels.specs.Bitmap.{bit_of, numbers_of_bits, set_bits}
 use Rattle.plain_codecs.specs.Bitmap.{bit_for, bitmap_byte, bitmap_of, bitmap_size, read_bitmap}
-use Rattle.plain_codecs.proofs.BitNumbers.{bit_at_number, number_is, length-list_of, get_or-list_of, list_of_all}
-use Rattle.plain_codecs.proofs.Members.{rise_from, same_rising, bit_small, bit_of_member, member_of_bit}
+use Rattle.plain_codecs.proofs.BitNumbers.{bit_at_number, number_is}
+use Rattle.plain_codecs.proofs.Members.{same_rising, bit_small, bit_of_member, member_of_bit}
 
 -- the laws of set bits
 abbrev pub Rising : Type 0
@@ -36,9 +40,6 @@ same_bits a b small_a small_b to from =
       ]
       | inr g ↦ let one : b ≡ 1 = to (omega arith) in omega arith
     ]
-
-pub read_below : (bytes : List ℕ) → All (λ byte. byte < 256) bytes → (k : ℕ) → get_or bytes k 0 < 256
-read_below bytes below k = elim (cases_lt k (length bytes)) [ inl l ↦ below k 0 l | inr g ↦ omega (arith, get_or_past bytes k 0 g) ]
 
 -- a bit past the end is not set
 bit_inside : (bytes : List ℕ) (x : ℕ) → bit_of bytes x ≡ 1 → x < 8 * length bytes
@@ -86,7 +87,7 @@ pub bitmap_only : Members → (d : ℕ) (bytes : List ℕ) → All (λ byte. byt
 bitmap_only members d bytes below size =
     let docs : List ℕ = set_bits 0 bytes in
     sym (list_of_all (bitmap_byte docs) bytes (bitmap_size d) size (λ k h.
-    number_is (λ v. bit_for docs (8 * k + v)) 8 (get_or bytes k 0) (read_below bytes below k) (λ v. bit_small docs (8 * k + v)) (λ v l.
+    number_is (λ v. bit_for docs (8 * k + v)) 8 (get_or bytes k 0) (reads_below bytes below k) (λ v. bit_small docs (8 * k + v)) (λ v l.
     let x : ℕ = 8 * k + v in
     let byte : x / 8 ≡ k = omega arith in
     let bit : x % 8 ≡ v = omega arith in
@@ -138,19 +139,12 @@ unused_clear members d bytes size clear =
           absurd (omega (arith, one, none, ap (λ n. bit_at (get_or bytes n 0) (x % 8)) byte))
     ])
 
-either : (b : Bool) → (b ≡ true → ⊥) → b ≡ false
-either true no_true = absurd (no_true refl)
-either false no_true = refl
-
-bit_at-mod : (n k v : ℕ) → v < k → bit_at (n % 2 ^ k) v ≡ bit_at n v
-bit_at-mod n k v h = sym (bit_at_cat_low (n / 2 ^ k) k (n % 2 ^ k) v h) ∙ ap (λ m. bit_at m v) (shr_split n k)
-
 mod_fits : (n k : ℕ) → n < 256 → n % 2 ^ k < 2 ^ 8
 mod_fits n k small = omega (arith, shr_split n k)
 
 pub unused_set : Members → (d : ℕ) (bytes : List ℕ) → 1 ≤ d → length bytes ≡ bitmap_size d → ((k : ℕ) → get_or bytes k 0 < 256) → d % 8 ≢ 0 → get_or bytes (length bytes - 1) 0 / 2 ^ (d % 8) ≢ 0 → Below d (set_bits 0 bytes) ≡ false
 unused_set members d bytes some size fits used set =
-    either (Below d (set_bits 0 bytes)) (λ all.
+    false_from_ne_true (Below d (set_bits 0 bytes)) (λ all.
     let last : ℕ = get_or bytes (length bytes - 1) 0 in
     let low : last % 2 ^ (d % 8) < 2 ^ (d % 8) = mod_below last (2 ^ (d % 8)) (pow_pos (d % 8)) in
     let same : last ≡ last % 2 ^ (d % 8) = same_from_bits_below 8 last (last % 2 ^ (d % 8)) (fits (length bytes - 1)) (mod_fits last (d % 8) (fits (length bytes - 1))) (λ v l.

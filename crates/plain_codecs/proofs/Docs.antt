@@ -1,5 +1,5 @@
 -- Gaps that are made into documents in place.
-use Rattle.std.proofs.Common.{◌≡◌, ℕ, suc, ◌+◌, ◌^◌, ◌<◌, ◌≤◌, List, [], ◌∷◌, ◌++◌, length, get_or, take, drop, set, sum, All, refl, sym, ap, ◌∙◌, arith}
+use Rattle.std.proofs.Common.{◌≡◌, ℕ, ◌+◌, ◌^◌, ◌<◌, ◌≤◌, List, [], ◌∷◌, ◌++◌, length, get_or, take, drop, set, sum, All, refl, sym, ap, ◌∙◌, arith}
 use Rattle.std.proofs.lemmas.List.{take_more, take_more_set, drop-set-lt, get_or-drop, length-set, length-take-le, get_or-take, take-take, drop-drop, take-append-drop}
 use Rattle.std.proofs.Math.Seq.{take-append_seam, drop-append_seam}
 use Rattle.std.proofs.lemmas.List.Sums.{sum_by_more, sum_by_more_le, sum_by-take-drop}
@@ -9,10 +9,6 @@ use Rattle.lane_kernels.specs.Gaps.{running}
 pub running_is : (least : ℕ) (gaps : List ℕ) → running least gaps ≡ docs_from least gaps
 running_is least [] = refl
 running_is least (gap ∷ gaps) = ap (λ (xs : List ℕ). (least + gap) ∷ xs) (running_is (least + gap + 1) gaps)
-
-pub length-docs : (least : ℕ) (gaps : List ℕ) → length (docs_from least gaps) ≡ length gaps
-length-docs least [] = refl
-length-docs least (gap ∷ gaps) = ap suc (length-docs (least + gap + 1) gaps)
 
 -- the places before one have documents, those from it on still gaps
 pub record MadeSoFar (least place next : ℕ) (old out : List ℕ) : Type 0 where

@@ -1,31 +1,15 @@
 -- Rising lists and their members, and the bits of members.
-use Rattle.std.proofs.Common.{◌≡◌, ◌≢◌, ◌==◌, ℕ, zero, suc, ◌+◌, ◌<◌, ◌≤◌, Bool, true, false, cond, List, [], ◌∷◌, ◌++◌, length, get_or, Contains, refl, sym, ap, ◌∙◌, subst, add-one, arith}
-use Rattle.std.specs.Prelude.{⊤, ◌||◌}
+use Rattle.std.proofs.Common.{◌≡◌, ◌≢◌, ◌==◌, ℕ, zero, suc, ◌+◌, ◌<◌, ◌≤◌, Bool, true, false, cond, List, [], ◌∷◌, ◌++◌, length, get_or, Contains, refl, sym, ap, ◌∙◌, subst, arith}
+use Rattle.std.specs.Prelude.{◌||◌}
 use Rattle.std.specs.List.{list_any}
-use Rattle.std.specs.List.Sorted.{IsStrictlyIncreasing}
 use Rattle.std.proofs.lemmas.Bool.Decides.{nat_tests}
 use Rattle.std.proofs.lemmas.List.Elements.{Contains-push}
+use Rattle.shared_lemmas.proofs.Members.{contains_behind}
+use Rattle.jass_base.proofs.Gaps.{RiseFrom}
 use Rattle.plain_codecs.specs.Bitmap.{bit_for}
-
-abbrev pub RiseFrom : ℕ → List ℕ → Type 0
-RiseFrom least [] = ⊤
-RiseFrom least (x ∷ xs) = (least ≤ x) × RiseFrom (x + 1) xs
-
-later : (x : ℕ) (xs : List ℕ) (k : ℕ) → get_or (x ∷ xs) (suc k + 1) 0 ≡ get_or xs (k + 1) 0
-later x xs k = rw (add-one, add-one) refl
-
-pub rise_from : (least : ℕ) (xs : List ℕ) → IsStrictlyIncreasing xs → (0 < length xs → least ≤ get_or xs 0 0) → RiseFrom least xs
-rise_from least [] rising first = tt
-rise_from least (x ∷ xs) rising first = (
-  first (omega arith),
-  rise_from (x + 1) xs (λ k h. let up = rising (suc k) (omega arith) in rw (← later x xs k) up) (λ some. let up = rising 0 (omega arith) in omega arith),
-)
 
 contains_first : (x : ℕ) (xs : List ℕ) → Contains (x ∷ xs) x
 contains_first x xs = (0, omega arith, refl)
-
-contains_more : (x z : ℕ) (xs : List ℕ) → Contains xs z → Contains (x ∷ xs) z
-contains_more x z xs in_xs = (suc in_xs.0, (let h = in_xs.1 in omega arith), in_xs.2)
 
 contains_rest : (x z : ℕ) (xs : List ℕ) → Contains (x ∷ xs) z → x ≢ z → Contains xs z
 contains_rest x z xs in_all other = go in_all.0 in_all.1 in_all.2
@@ -56,8 +40,8 @@ same_rising least (x ∷ xs) (y ∷ ys) rise_x rise_y to from =
     let same : x ≡ y = omega arith in
     let rise_rest : RiseFrom (x + 1) ys = subst (λ n. RiseFrom (n + 1) ys) (sym same) rise_y.1 in
     let rest = same_rising (x + 1) xs ys rise_x.1 rise_rest
-    (λ z in_xs. let high = at_least (x + 1) z xs rise_x.1 in_xs in contains_rest y z ys (to z (contains_more x z xs in_xs)) (λ e. omega (arith, e)))
-    (λ z in_ys. let high = at_least (x + 1) z ys rise_rest in_ys in contains_rest x z xs (from z (contains_more y z ys in_ys)) (λ e. omega (arith, e))) in
+    (λ z in_xs. let high = at_least (x + 1) z xs rise_x.1 in_xs in contains_rest y z ys (to z (contains_behind z x xs in_xs)) (λ e. omega (arith, e)))
+    (λ z in_ys. let high = at_least (x + 1) z ys rise_rest in_ys in contains_rest x z xs (from z (contains_behind z y ys in_ys)) (λ e. omega (arith, e))) in
     ap (λ n. n ∷ xs) same ∙ ap (λ (zs : List ℕ). y ∷ zs) rest
 
 -- ---- the bit of a member
@@ -84,7 +68,7 @@ has_member x (doc ∷ docs) in_docs = go (doc == x) refl (λ other. has_member x
 
 member_has : (x : ℕ) (docs : List ℕ) → Has x docs ≡ true → Contains docs x
 member_has x [] is = absurd cc
-member_has x (doc ∷ docs) is = go (doc == x) refl is (λ rest. contains_more doc x docs (member_has x docs rest))
+member_has x (doc ∷ docs) is = go (doc == x) refl is (λ rest. contains_behind x doc docs (member_has x docs rest))
   where
     go : (test : Bool) → (doc == x) ≡ test → (test || Has x docs) ≡ true → (Has x docs ≡ true → Contains (doc ∷ docs) x) → Contains (doc ∷ docs) x
     go true same is more =

@@ -5,6 +5,7 @@ use Rattle.std.proofs.lemmas.Bool.Decides.{nat_tests}
 use Rattle.std.proofs.lemmas.List.{drop-drop, length-drop, take_more_set, length-set, length-append, length-take-le, get_or-take, append-nil}
 use Rattle.std.proofs.lemmas.List.Elements.{All-drop}
 use Rattle.std.proofs.Math.Seq.{drop-append_seam, take-append_seam, take-add}
+use Rattle.jass_base.proofs.GapGroups.{one_group_written}
 use Rattle.jass_base.specs.declared.payload_fault.PayloadFault.{PayloadFault}
 use Rattle.jass_base.specs.Gaps.{GapSpelling, gap_in, spelled_gaps}
 use Rattle.jass_base.specs.Wire.{short_varint}
@@ -51,13 +52,6 @@ run_known found bytes at count [] run some = absurd (let e = run.enough in omega
 run_known found bytes at count (x ∷ xs) run some =
     subst IsOk (sym (ap gap_in run.spelled ∙ found x (spelled_gaps xs) (run.small 0 0 (omega arith)))) refl
 
--- gaps of one byte
-short_small : (gap : ℕ) → gap < 128 → short_varint gap ≡ gap ∷ []
-unfolding short_varint
-short_small gap small =
-    let test : nat_lt gap 128 ≡ true = grind (arith, nat_tests) in
-    rw test refl
-
 short_large : (gap : ℕ) (rest : List ℕ) → 128 ≤ gap → 128 ≤ get_or (short_varint gap ++ rest) 0 0
 unfolding short_varint
 short_large gap rest large =
@@ -68,14 +62,14 @@ abbrev AreSmall : ℕ → List ℕ → Type 0
 AreSmall n gaps = (take n gaps ≡ take n (spelled_gaps gaps)) × (drop n (spelled_gaps gaps) ≡ spelled_gaps (drop n gaps))
 
 small_first : (n gap : ℕ) (gaps : List ℕ) → gap < 128 → AreSmall n gaps → AreSmall (suc n) (gap ∷ gaps)
-small_first n gap gaps small rest = rw (short_small gap small) (ap (λ (xs : List ℕ). gap ∷ xs) rest.0, rest.1)
+small_first n gap gaps small rest = rw (one_group_written gap small) (ap (λ (xs : List ℕ). gap ∷ xs) rest.0, rest.1)
 
 are_small : (n : ℕ) (gaps : List ℕ) → n ≤ length gaps → n ≤ length (spelled_gaps gaps) → All (λ byte. byte < 128) (take n (spelled_gaps gaps)) → AreSmall n gaps
 are_small zero gaps few long small = (refl, refl)
 are_small (suc n) [] few long small = absurd (omega arith)
 are_small (suc n) (gap ∷ gaps) few long small =
     go (nat_lt gap 128) refl (λ low.
-    let is : spelled_gaps (gap ∷ gaps) ≡ gap ∷ spelled_gaps gaps = ap (λ (s : List ℕ). s ++ spelled_gaps gaps) (short_small gap low) in
+    let is : spelled_gaps (gap ∷ gaps) ≡ gap ∷ spelled_gaps gaps = ap (λ (s : List ℕ). s ++ spelled_gaps gaps) (one_group_written gap low) in
     let longer : suc n ≤ length (gap ∷ spelled_gaps gaps) = subst (λ (s : List ℕ). suc n ≤ length s) is long in
     let smaller : All (λ byte. byte < 128) (take (suc n) (gap ∷ spelled_gaps gaps)) = subst (λ (s : List ℕ). All (λ byte. byte < 128) (take (suc n) s)) is small in
     are_small n gaps (omega arith) (omega arith) (λ k d h. smaller (suc k) d (omega arith)))

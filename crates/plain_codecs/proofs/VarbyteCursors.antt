@@ -2,11 +2,12 @@
 use Rattle.std.proofs.Common.{◌≡◌, ℕ, ◌+◌, ◌-◌, ◌^◌, ◌<◌, ◌≤◌, min, List, [], ◌∷◌, length, take, drop, set, sum, sym, ap, ◌∙◌, arith}
 use Rattle.std.specs.Prelude.{IsOk}
 use Rattle.std.proofs.lemmas.List.{length-drop, take_all, take_more_set}
+use Rattle.jass_base.proofs.Gaps.{length-docs_from}
 use Rattle.jass_base.specs.Gaps.{docs_from, gap_in}
 use Rattle.plain_codecs.specs.declared.varbyte.cursor.Cursor.{Cursor}
 use Rattle.plain_codecs.specs.Runs.{IsRun}
 use Rattle.plain_codecs.specs.VarbyteCursor.{Gives}
-use Rattle.plain_codecs.proofs.Docs.{Parts, Split, split, small_gaps, sum_parts, length-docs}
+use Rattle.plain_codecs.proofs.Docs.{Parts, Split, split, small_gaps, sum_parts}
 use Rattle.plain_codecs.proofs.Runs.{GapFound, Stepped, spelled, run_read, run_known}
 
 module _ (cursor : Cursor) (bytes docs : List ℕ) (gives : Gives cursor bytes docs) (count : ℕ) (is : count ≡ min cursor.left 128) where
@@ -49,7 +50,7 @@ module _ (found : GapFound) (cursor : Cursor) (bytes docs : List ℕ) (gives : G
   last_known = run_known found bytes cursor.at 1 gives.gaps last_run (omega arith)
 
   pub one_doc : length docs ≡ 1
-  one_doc = ap (λ (xs : List ℕ). length xs) gives.docs_are ∙ length-docs cursor.least gives.gaps ∙ sym gives.left ∙ one
+  one_doc = ap (λ (xs : List ℕ). length xs) gives.docs_are ∙ length-docs_from cursor.least gives.gaps ∙ sym gives.left ∙ one
 
   module _ (gap next : ℕ) (is : gap_in (drop cursor.at bytes) ≡ spelled gap (next - cursor.at)) (on : cursor.at < next) (within : next ≤ length bytes) where
     stepped : Stepped bytes next 0 gap gives.gaps

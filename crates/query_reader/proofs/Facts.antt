@@ -1,6 +1,6 @@
 -- What the terms that mentions name have in common.
 use Rattle.std.proofs.Common.{◌≡◌, ℕ, ◌+◌, ◌<◌, ◌≤◌, Bool, true, false, not, eqb, cond, List, [], ◌∷◌, length, get_or, refl, ap, sym, ◌∙◌, arith}
-use Rattle.std.proofs.lemmas.Bool.{eqb-false, eq-eqb}
+use Rattle.std.proofs.lemmas.Bool.{eqb-false, eq-eqb, or_parts}
 use Rattle.std.proofs.lemmas.List.{length-map}
 use Rattle.std.proofs.lemmas.List.Elements.{All-cons, All-nil, All-map, All-filter}
 use Rattle.std.proofs.lemmas.List.Kept.{AllPairs-cons}
@@ -8,16 +8,17 @@ use Rattle.std.proofs.lemmas.List.Sums.{sum_by-cons, length-filter, count_by-le-
 use Rattle.std.specs.Prelude.{Option, Some, None, filter, sum_by, ◌==◌, All, AllPairs, bytes_eq}
 use Rattle.std.specs.List.{filter_map, cons_option, AllByRecursion, position_or_len}
 use Rattle.std.specs.Option.{option_map_or}
+use Rattle.shared_lemmas.proofs.Lists.{all_weaker}
 use Rattle.jass_base.specs.declared.named.Named.{Named}
 use Rattle.query_reader.specs.Mentions.{Mention, first_mentions, words_as_mentions, term_number, named_of}
 use Rattle.query_reader.proofs.Limits.{place_of-some}
-use Rattle.query_reader.proofs.Named.{names, times, rows, named, has, Apart, Apart-first, neither}
+use Rattle.query_reader.proofs.Named.{names, times, rows, named, has, Apart, Apart-first}
 
 -- numbers that differ are those of terms that differ
 others-differ : (f : ℕ → ℕ) (x : ℕ) (xs : List ℕ) → has x xs ≡ false → All (λ (n : Named). x ≡ n.term → ⊥) (rows f xs)
 others-differ f x [] apart = All-nil _
 others-differ f x (y ∷ ys) apart =
-    let h = neither (eqb y x) (has x ys) apart in
+    let h = or_parts (eqb y x) (has x ys) apart in
     All-cons (λ (n : Named). x ≡ n.term → ⊥) (record { term = y; times = f y }) (rows f ys) (λ same. eqb-false y x h.0 (sym same)) (others-differ f x ys h.1)
 
 rows-differ : (f : ℕ → ℕ) (xs : List ℕ) → Apart xs → AllPairs (λ (m n : Named). m.term ≡ n.term → ⊥) (rows f xs)
@@ -71,15 +72,11 @@ all-first : (P : ℕ → Type 0) (xs : List ℕ) → AllByRecursion P xs → All
 all-first P [] all = All-nil P
 all-first P (x ∷ xs) all = All-cons P x _ all.0 (All-filter _ P (first_mentions xs) (all-first P xs all.1))
 
-all-onward : (P Q : ℕ → Type 0) (xs : List ℕ) → ((x : ℕ) → P x → Q x) → AllByRecursion P xs → AllByRecursion Q xs
-all-onward P Q [] on all = tt
-all-onward P Q (x ∷ xs) on all = (on x all.0, all-onward P Q xs on all.1)
-
 -- each mentioned number is named at least once, where each factor is at least 1
 mentioned-named : (num : Mention → Option ℕ) (ms : List Mention) → AllByRecursion (λ m. 1 ≤ m.factor) ms → AllByRecursion (λ j. 1 ≤ times num ms j) (filter_map num ms)
 mentioned-named num [] some = tt
 mentioned-named num (m ∷ ms) some =
-    here (num m) refl (all-onward _ _ (filter_map num ms) (λ j h. omega (arith, h, times-cons num m ms j)) (mentioned-named num ms some.1))
+    here (num m) refl (all_weaker _ _ (λ j h. omega (arith, h, times-cons num m ms j)) (filter_map num ms) (mentioned-named num ms some.1))
   where
     here : (o : Option ℕ) → num m ≡ o → AllByRecursion (λ j. 1 ≤ times num (m ∷ ms) j) (filter_map num ms) → AllByRecursion (λ j. 1 ≤ times num (m ∷ ms) j) (cons_option o (filter_map num ms))
     here None is rest = rest

@@ -1,6 +1,6 @@
 -- The limits of what a query names, and how one mention more meets them.
 use Rattle.std.proofs.Common.{◌≡◌, ℕ, zero, suc, ◌+◌, ◌<◌, ◌≤◌, Bool, true, false, not, eqb, ltb, cond, List, [], ◌∷◌, ◌++◌, length, get_or, set, refl, ap, sym, subst, ◌∙◌, arith, length-append}
-use Rattle.std.proofs.lemmas.Bool.{true≢false, ltb-true, ltb-false}
+use Rattle.std.proofs.lemmas.Bool.{ltb-true, ltb-false, or_parts, or_from}
 use Rattle.std.proofs.lemmas.Bool.Decides.{nat_tests}
 use Rattle.std.proofs.lemmas.List.{length-set}
 use Rattle.std.specs.Prelude.{Option, Some, None, nat_lt, ◌||◌}
@@ -45,22 +45,14 @@ set-over [] place n inside is = absurd (omega (arith, inside))
 set-over (m ∷ ns) zero n inside is = rw is refl
 set-over (m ∷ ns) (suc place) n inside is = grind (arith, nat_tests, set-over ns place n (omega (arith, inside)) is)
 
-either : (a b : Bool) → (a || b) ≡ false → (a ≡ false) × (b ≡ false)
-either true b e = absurd (true≢false e)
-either false b e = (refl, e)
-
-both : (a b : Bool) → a ≡ false → b ≡ false → (a || b) ≡ false
-both true b e f = absurd (true≢false e)
-both false b e f = f
-
 set-within : (ns : List Named) (place : ℕ) (n : Named) → over n ≡ false → list_any over ns ≡ false → list_any over (set ns place n) ≡ false
 set-within [] place n is none = none
-set-within (m ∷ ns) zero n is none = both (over n) (list_any over ns) is (either (over m) (list_any over ns) none).1
-set-within (m ∷ ns) (suc place) n is none = let h = either (over m) (list_any over ns) none in both (over m) (list_any over (set ns place n)) h.0 (set-within ns place n is h.1)
+set-within (m ∷ ns) zero n is none = or_from (over n) (list_any over ns) is (or_parts (over m) (list_any over ns) none).1
+set-within (m ∷ ns) (suc place) n is none = let h = or_parts (over m) (list_any over ns) none in or_from (over m) (list_any over (set ns place n)) h.0 (set-within ns place n is h.1)
 
 behind-within : (ns : List Named) (n : Named) → over n ≡ false → list_any over ns ≡ false → list_any over (ns ++ n ∷ []) ≡ false
-behind-within [] n is none = both (over n) false is refl
-behind-within (m ∷ ns) n is none = let h = either (over m) (list_any over ns) none in both (over m) (list_any over (ns ++ n ∷ [])) h.0 (behind-within ns n is h.1)
+behind-within [] n is none = or_from (over n) false is refl
+behind-within (m ∷ ns) n is none = let h = or_parts (over m) (list_any over ns) none in or_from (over m) (list_any over (ns ++ n ∷ [])) h.0 (behind-within ns n is h.1)
 
 is-over : (n : ℕ) → 255 < n → nat_lt 255 n ≡ true
 is-over n more = grind (arith, nat_tests)

@@ -2,11 +2,12 @@
 use Rattle.std.proofs.Common.{◌≡◌, ℕ, zero, suc, ◌<◌, ◌≤◌, Bool, true, false, not, cond, List, [], ◌∷◌, length, take, drop, get_or, refl, ap, sym, ◌∙◌, arith}
 use Rattle.std.proofs.lemmas.Bool.{ltb-true, ltb-false}
 use Rattle.std.proofs.lemmas.List.Sums.{position_or_len_is}
-use Rattle.std.proofs.lemmas.Str.{IsUtf8-from_is_utf8, is_utf8-from_IsUtf8}
+use Rattle.std.proofs.lemmas.Str.{is_utf8-from_IsUtf8}
 use Rattle.std.specs.Prelude.{Option, Some, None, Err, nat_lt}
 use Rattle.std.specs.List.{position_or_len}
 use Rattle.std.specs.Option.{unwrap_or}
 use Rattle.std.specs.Str.{is_utf8, IsUtf8}
+use Rattle.shared_lemmas.proofs.Texts.{no_utf8}
 use Rattle.memchr.specs.Find.{IsFirstByte, is_byte2}
 use Rattle.query_reader.specs.declared.mode.Mode.{Mode}
 use Rattle.query_reader.specs.declared.refusal.QueryWhy.{QueryWhy}
@@ -44,18 +45,11 @@ is-short n few = here (nat_lt 1048576 n) refl
     here true e = absurd (omega (arith, few, ltb-true 1048576 n e))
     here false e = refl
 
-no-utf8 : (line : List ℕ) → ¬ IsUtf8 line → is_utf8 line ≡ false
-no-utf8 line never = here (is_utf8 line) refl
-  where
-    here : (b : Bool) → is_utf8 line ≡ b → b ≡ false
-    here true e = absurd (never (IsUtf8-from_is_utf8 line e))
-    here false e = refl
-
 pub long-line : (mode : Mode) (terms : List (List ℕ)) (line : List ℕ) → 1048576 < length line → read_line mode terms line ≡ Err LineLong
 long-line mode terms line more = after-fault mode terms line (Some LineLong) (checked line true (is_utf8 line) (has_items (id_of line)) (is-long (length line) more) refl refl)
 
 pub bad-text : (mode : Mode) (terms : List (List ℕ)) (line : List ℕ) → length line ≤ 1048576 → ¬ IsUtf8 line → read_line mode terms line ≡ Err Text
-bad-text mode terms line few never = after-fault mode terms line (Some Text) (checked line false false (has_items (id_of line)) (is-short (length line) few) (no-utf8 line never) refl)
+bad-text mode terms line few never = after-fault mode terms line (Some Text) (checked line false false (has_items (id_of line)) (is-short (length line) few) (no_utf8 line never) refl)
 
 -- where the id ends
 pub id-end : (line : List ℕ) (found : Option ℕ) → IsFirstByte (is_byte2 32 9) line found → position_or_len is_blank line ≡ unwrap_or found (length line)

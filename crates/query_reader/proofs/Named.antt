@@ -1,6 +1,6 @@
 -- What a query names, one mention after the other. The number of a mention's term is any function here.
 use Rattle.std.proofs.Common.{◌≡◌, ℕ, ◌+◌, Bool, true, false, not, eqb, cond, List, [], ◌∷◌, ◌++◌, map, refl, ap, sym, subst, ◌∙◌, arith}
-use Rattle.std.proofs.lemmas.Bool.{true≢false, eqb-true, eqb-false}
+use Rattle.std.proofs.lemmas.Bool.{eqb-true, eqb-false, or_parts}
 use Rattle.std.proofs.lemmas.Bool.Decides.{nat_tests}
 use Rattle.std.proofs.lemmas.List.{append-nil}
 use Rattle.std.proofs.lemmas.List.Elements.{filter-append, filter_map-append}
@@ -37,13 +37,9 @@ abbrev pub Apart : List ℕ → Type 0
 Apart [] = ⊤
 Apart (x ∷ xs) = (has x xs ≡ false) × Apart xs
 
-pub neither : (a b : Bool) → (a || b) ≡ false → (a ≡ false) × (b ≡ false)
-neither true b e = absurd (true≢false e)
-neither false b e = (refl, e)
-
 has-filter : (p : ℕ → Bool) (k : ℕ) (ys : List ℕ) → has k ys ≡ false → has k (filter p ys) ≡ false
 has-filter p k [] e = refl
-has-filter p k (y ∷ ys) e = let h = neither (eqb y k) (has k ys) e in kept (p y) h.0 (has-filter p k ys h.1)
+has-filter p k (y ∷ ys) e = let h = or_parts (eqb y k) (has k ys) e in kept (p y) h.0 (has-filter p k ys h.1)
   where
     kept : (b : Bool) → eqb y k ≡ false → has k (filter p ys) ≡ false → has k (cond b (y ∷ filter p ys) (filter p ys)) ≡ false
     kept true other rest = rw other rest
@@ -80,7 +76,7 @@ rows-same f g (x ∷ xs) same = ap (λ t. record { term = x; times = t } ∷ row
 rows-other : (f g : ℕ → ℕ) (k : ℕ) (xs : List ℕ) → ((j : ℕ) → (j ≡ k → ⊥) → f j ≡ g j) → has k xs ≡ false → rows f xs ≡ rows g xs
 rows-other f g k [] same apart = refl
 rows-other f g k (x ∷ xs) same apart =
-    let h = neither (eqb x k) (has k xs) apart in
+    let h = or_parts (eqb x k) (has k xs) apart in
     ap (λ t. record { term = x; times = t } ∷ rows f xs) (same x (eqb-false x k h.0)) ∙ ap (λ ns. record { term = x; times = g x } ∷ ns) (rows-other f g k xs same h.1)
 
 rows-added : (f g : ℕ → ℕ) (k factor : ℕ) (xs : List ℕ) → ((j : ℕ) → (j ≡ k → ⊥) → f j ≡ g j) → f k ≡ g k + factor → (has k xs ≡ false → g k ≡ 0) → Apart xs → rows f (added xs k) ≡ tallied (rows g xs) k factor
@@ -122,7 +118,7 @@ times-none num (m ∷ ms) k none = here (num m) none (times-none num ms k)
   where
     here : (o : Option ℕ) → has k (cons_option o (filter_map num ms)) ≡ false → (has k (filter_map num ms) ≡ false → times num ms k ≡ 0) → sum_by (λ x. x.factor) (cond (option_map_or (λ n. n == k) o false) (m ∷ filter (names num k) ms) (filter (names num k) ms)) ≡ 0
     here None h rest = rest h
-    here (Some n) h rest = let both = neither (eqb n k) (has k (filter_map num ms)) h in rw both.0 (rest both.1)
+    here (Some n) h rest = let both = or_parts (eqb n k) (has k (filter_map num ms)) h in rw both.0 (rest both.1)
 
 -- the known terms that mentions name
 abbrev pub named : (Mention → Option ℕ) → List Mention → List Named

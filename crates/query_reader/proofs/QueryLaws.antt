@@ -1,6 +1,6 @@
 -- Reading gives the queries that mentions, lines and files stand for, and no others.
 use Rattle.std.proofs.Common.{◌≡◌, ◌≢◌, ℕ, suc, ◌+◌, ◌≤◌, ◌^◌, Bool, true, false, eqb, cond, List, [], ◌∷◌, ◌++◌, length, refl, ap, sym, subst, ◌∙◌, arith, append_assoc}
-use Rattle.std.proofs.lemmas.Bool.{true≢false, ltb-true, ltb-false}
+use Rattle.std.proofs.lemmas.Bool.{true≢false, ltb-true, ltb-false, or_parts, or_from}
 use Rattle.std.proofs.lemmas.List.{append-nil}
 use Rattle.std.proofs.lemmas.List.Elements.{All-from_recursion, recursion_from_All}
 use Rattle.std.proofs.lemmas.Str.{IsUtf8-from_is_utf8, is_utf8-from_IsUtf8}
@@ -33,14 +33,6 @@ longer (n ∷ ns) k f = here (eqb n.term k) (longer ns k f)
     here true rest = omega arith
     here false rest = omega (arith, rest)
 
-neither : (a b : Bool) → (a || b) ≡ false → (a ≡ false) × (b ≡ false)
-neither true b e = absurd (true≢false e)
-neither false b e = (refl, e)
-
-both : (a b : Bool) → a ≡ false → b ≡ false → (a || b) ≡ false
-both true b e f = absurd (true≢false e)
-both false b e f = f
-
 less-often : (n f : ℕ) → nat_lt 255 (n + f) ≡ false → nat_lt 255 n ≡ false
 less-often n f e = here (nat_lt 255 n) refl
   where
@@ -53,8 +45,8 @@ as-often [] k f none = refl
 as-often (n ∷ ns) k f none = here (eqb n.term k) none (as-often ns k f)
   where
     here : (b : Bool) → list_any over (cond b (record n { times = n.times + f } ∷ ns) (n ∷ tallied ns k f)) ≡ false → (list_any over (tallied ns k f) ≡ false → list_any over ns ≡ false) → (over n || list_any over ns) ≡ false
-    here true e rest = let h = neither (nat_lt 255 (n.times + f)) (list_any over ns) e in both (over n) (list_any over ns) (less-often n.times f h.0) h.1
-    here false e rest = let h = neither (over n) (list_any over (tallied ns k f)) e in both (over n) (list_any over ns) h.0 (rest h.1)
+    here true e rest = let h = or_parts (nat_lt 255 (n.times + f)) (list_any over ns) e in or_from (over n) (list_any over ns) (less-often n.times f h.0) h.1
+    here false e rest = let h = or_parts (over n) (list_any over (tallied ns k f)) e in or_from (over n) (list_any over ns) h.0 (rest h.1)
 
 tallied-within : (ns : List Named) (k f : ℕ) → broken_limit (tallied ns k f) ≡ None → broken_limit ns ≡ None
 tallied-within ns k f none =
@@ -95,11 +87,11 @@ all-within terms before (m ∷ ms) none first =
 -- the limit on times
 few-times : (ns : List Named) → list_any over ns ≡ false → AllByRecursion (λ (n : Named). n.times ≤ 255) ns
 few-times [] none = tt
-few-times (n ∷ ns) none = let h = neither (over n) (list_any over ns) none in (ltb-false 255 n.times h.0, few-times ns h.1)
+few-times (n ∷ ns) none = let h = or_parts (over n) (list_any over ns) none in (ltb-false 255 n.times h.0, few-times ns h.1)
 
 pub few-over : (ns : List Named) → AllByRecursion (λ (n : Named). n.times ≤ 255) ns → list_any over ns ≡ false
 few-over [] few = refl
-few-over (n ∷ ns) few = both (over n) (list_any over ns) (at (over n) refl) (few-over ns few.1)
+few-over (n ∷ ns) few = or_from (over n) (list_any over ns) (at (over n) refl) (few-over ns few.1)
   where
     at : (b : Bool) → nat_lt 255 n.times ≡ b → b ≡ false
     at true e = absurd (omega (arith, few.0, ltb-true 255 n.times e))

@@ -13,28 +13,16 @@ use Rattle.std.proofs.lemmas.List.Sorted.{sum_by-IsPermutation, length_permutati
 use Rattle.std.proofs.lemmas.List.Sums.{sum_by-cons, sum_by-append, sum_by-take-le}
 use Rattle.std.proofs.Math.Seq.{take-append_seam}
 use Rattle.std.proofs.Math.ListN.{drop_of_length-le}
+use Rattle.shared_lemmas.proofs.Pairs.{Pairs, pairs_by_recursion}
+use Rattle.shared_lemmas.proofs.Members.{In, in_from_contains, all_at, all_in}
+use Rattle.shared_lemmas.proofs.Lists.{all_weaker, all_take, all_drop}
 use Rattle.jass_base.specs.declared.answer.Hit.{Hit}
 use Rattle.ranking_model.specs.Order.{placed, sorted}
 use Rattle.ranking_model.specs.Scores.{rank_cmp, hits_from, first_ranked, AreAhead, AreHitsOf, HaveAllFrom}
 use Rattle.ranking_model.proofs.Sorting.{Ascends, sorted_ascends, sorted_ascending, sorted_is_permutation, sort_is_sorted, all_sorted, ascends_append, sum_by-sorted}
 use Rattle.ranking_model.proofs.Orders.{rank_total, rank_same}
-use Rattle.ranking_model.proofs.Weighing.{Pairs, pairs_by_recursion}
 
 -- ---- lists of two parts
-
-all_imp : {A : Type 0} (P Q : A → Type 0) → ((x : A) → P x → Q x) → (xs : List A) → AllByRecursion P xs → AllByRecursion Q xs
-all_imp P Q imp [] h = tt
-all_imp P Q imp (x ∷ xs) h = (imp x h.0, all_imp P Q imp xs h.1)
-
-all_take : {A : Type 0} (P : A → Type 0) (n : ℕ) (xs : List A) → AllByRecursion P xs → AllByRecursion P (take n xs)
-all_take P zero xs h = tt
-all_take P (suc n) [] h = tt
-all_take P (suc n) (x ∷ xs) h = (h.0, all_take P n xs h.1)
-
-all_drop : {A : Type 0} (P : A → Type 0) (n : ℕ) (xs : List A) → AllByRecursion P xs → AllByRecursion P (drop n xs)
-all_drop P zero xs h = h
-all_drop P (suc n) [] h = tt
-all_drop P (suc n) (x ∷ xs) h = all_drop P n xs h.1
 
 ascends_take : {A : Type 0} (cmp : A → A → Ordering) (n : ℕ) (xs : List A) → Ascends cmp xs → Ascends cmp (take n xs)
 ascends_take cmp zero xs h = tt
@@ -57,7 +45,7 @@ module _ {A : Type 0} (cmp : A → A → Ordering) (o : IsTotalOrder cmp) (same 
     order : Ascends cmp (sorted cmp xs ++ sorted cmp ys)
     order = ascends_append cmp (sorted cmp xs) (sorted cmp ys) (sorted_ascends cmp o xs) (sorted_ascends cmp o ys)
         (all_sorted cmp (λ a. AllByRecursion (λ b. is_gt (cmp a b) ≡ false) (sorted cmp ys)) xs
-        (all_imp (λ a. AllByRecursion (λ b. is_gt (cmp a b) ≡ false) ys) (λ a. AllByRecursion (λ b. is_gt (cmp a b) ≡ false) (sorted cmp ys)) (λ a h. all_sorted cmp (λ b. is_gt (cmp a b) ≡ false) ys h) xs above))
+        (all_weaker (λ a. AllByRecursion (λ b. is_gt (cmp a b) ≡ false) ys) (λ a. AllByRecursion (λ b. is_gt (cmp a b) ≡ false) (sorted cmp ys)) (λ a h. all_sorted cmp (λ b. is_gt (cmp a b) ≡ false) ys h) xs above))
 
   pub first_part : (all xs ys : List A) (m : ℕ) → IsPermutation all (xs ++ ys) → AllByRecursion (λ a. AllByRecursion (λ b. is_gt (cmp a b) ≡ false) ys) xs
       → length xs ≤ m → (length xs < m → ys ≡ []) → sorted cmp xs ≡ take m (sorted cmp all)
@@ -76,26 +64,6 @@ module _ {A : Type 0} (cmp : A → A → Ordering) (o : IsTotalOrder cmp) (same 
   sorted_is_itself xs order = sym (sort_is_sorted cmp o same xs xs (IsPermutation-refl xs) order)
 
 -- ---- being in a list
-
-abbrev In : {A : Type 0} → A → List A → Type 0
-In x [] = ⊥
-In x (y ∷ ys) = (x ≡ y) ⊎ In x ys
-
-in_from_contains : {A : Type 0} (xs : List A) (x : A) → Contains xs x → In x xs
-in_from_contains [] x h = absurd (let k = h.1 in omega arith)
-in_from_contains {A} (y ∷ ys) x h = at h.0 h.1 h.2 (λ k. in_from_contains ys x k) where
-  at : (k : ℕ) → k < suc (length ys) → get_or (y ∷ ys) k x ≡ x → (Contains ys x → In x ys) → In x (y ∷ ys)
-  at zero inside is later = inl (sym is)
-  at (suc k) inside is later = inr (later (k, omega arith, is))
-
-all_at : {A : Type 0} (P : A → Type 0) (xs : List A) (x : A) → AllByRecursion P xs → In x xs → P x
-all_at P [] x h there = absurd there
-all_at P (y ∷ ys) x h (inl e) = subst P (sym e) h.0
-all_at P (y ∷ ys) x h (inr there) = all_at P ys x h.1 there
-
-all_in : {A : Type 0} (P : A → Type 0) (xs : List A) → ((x : A) → In x xs → P x) → AllByRecursion P xs
-all_in P [] h = tt
-all_in P (x ∷ xs) h = (h x (inl refl), all_in P xs (λ y there. h y (inr there)))
 
 in_placed : {A : Type 0} (cmp : A → A → Ordering) (z x : A) (ys : List A) → (z ≡ x) ⊎ In z ys → In z (placed cmp x ys)
 in_placed cmp z x [] h = h
@@ -284,7 +252,7 @@ module _ (scores : List ℕ) (m : ℕ) (candidates : List Hit) (are : AreHitsOf 
       omega arith
 
   parted : Parted (first_ranked scores m) candidates
-  parted = part (first_ranked scores m) candidates (apart_once (first_ranked scores m) first_once) (all_imp (λ hit. Contains candidates hit) (λ hit. In hit candidates) (λ hit h. in_from_contains candidates hit h) (first_ranked scores m) there)
+  parted = part (first_ranked scores m) candidates (apart_once (first_ranked scores m) first_once) (all_weaker (λ hit. Contains candidates hit) (λ hit. In hit candidates) (λ hit h. in_from_contains candidates hit h) (first_ranked scores m) there)
 
   behind : (h : Hit) → In h parted.others → In h (drop m (sorted rank_cmp (hits_from 0 scores)))
   behind h other = by (in_part h m (sorted rank_cmp (hits_from 0 scores)) (in_sorted rank_cmp h (hits_from 0 scores) here)) where
@@ -305,7 +273,7 @@ module _ (scores : List ℕ) (m : ℕ) (candidates : List Hit) (are : AreHitsOf 
         absurd (omega arith)
 
   above : AreAhead (first_ranked scores m) parted.others
-  above = all_imp (λ a. AllByRecursion (λ b. is_gt (rank_cmp a b) ≡ false) (drop m (sorted rank_cmp (hits_from 0 scores)))) (λ a. AllByRecursion (λ b. is_gt (rank_cmp a b) ≡ false) parted.others)
+  above = all_weaker (λ a. AllByRecursion (λ b. is_gt (rank_cmp a b) ≡ false) (drop m (sorted rank_cmp (hits_from 0 scores)))) (λ a. AllByRecursion (λ b. is_gt (rank_cmp a b) ≡ false) parted.others)
       (λ a h. all_in (λ b. is_gt (rank_cmp a b) ≡ false) parted.others (λ b other. all_at (λ b. is_gt (rank_cmp a b) ≡ false) (drop m (sorted rank_cmp (hits_from 0 scores))) b h (behind b other)))
       (first_ranked scores m) (take_before_drop rank_cmp m (sorted rank_cmp (hits_from 0 scores)) all_ascends)
 
@@ -374,7 +342,7 @@ first_down_to scores m floor candidates are has enough = first_of_candidates sco
       (λ i inside some. (some, λ high. let e : i ≡ 0 + i = omega arith in subst (λ d. Contains candidates (record { doc = d; score = get_or scores i 0 })) e (has i inside some high)))
 
   inside : AllByRecursion (λ h. In h (hits_from 0 scores)) candidates
-  inside = all_imp (λ (h : Hit). (h.doc < length scores) × (1 ≤ h.score) × (h.score ≡ get_or scores h.doc 0)) (λ h. In h (hits_from 0 scores))
+  inside = all_weaker (λ (h : Hit). (h.doc < length scores) × (1 ≤ h.score) × (h.score ≡ get_or scores h.doc 0)) (λ h. In h (hits_from 0 scores))
       (λ h own. in_hits 0 scores h h.doc (omega arith) own.0 own.1 own.2) candidates are.scored
 
   rest : Parted candidates (hits_from 0 scores)

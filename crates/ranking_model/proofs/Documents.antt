@@ -3,16 +3,12 @@ use Rattle.std.proofs.Common.{◌≡◌, ℕ, zero, suc, ◌+◌, ◌<◌, ◌�
 use Rattle.std.specs.Prelude.{All}
 use Rattle.std.specs.List.{AllByRecursion}
 use Rattle.std.proofs.lemmas.List.FromFn.{length-map-range_with_len}
+use Rattle.shared_lemmas.proofs.Lists.{all_take}
 use Rattle.jass_base.specs.declared.answer.Hit.{Hit}
 use Rattle.ranking_model.specs.Order.{sorted}
 use Rattle.ranking_model.specs.declared.plan.QueryPlan.{QueryPlan}
 use Rattle.ranking_model.specs.Scores.{gain_of, hits_from, rank_cmp, first_ranked, scores_after, top_k}
 use Rattle.ranking_model.proofs.Sorting.{all_sorted}
-
-all_take : {A : Type 0} (P : A → Type 0) (n : ℕ) (xs : List A) → AllByRecursion P xs → AllByRecursion P (take n xs)
-all_take P zero xs h = tt
-all_take P (suc n) [] h = tt
-all_take P (suc n) (x ∷ xs) h = (h.0, all_take P n xs h.1)
 
 hits_below : (limit doc : ℕ) (scores : List ℕ) → doc + length scores ≤ limit → AllByRecursion (λ (hit : Hit). hit.doc < limit) (hits_from doc scores)
 hits_below limit doc [] within = tt

@@ -1,6 +1,6 @@
 -- Terms by number keep the order that they have by their bytes.
-use Rattle.std.proofs.Common.{◌≡◌, ◌≢◌, ℕ, zero, suc, ◌<◌, ◌≤◌, List, [], ◌∷◌, map, filter, true, false, true≢false, not, refl, sym, ap, ◌∙◌, subst, arith, inl, inr, ◌⊎◌, bytes_eq}
-use Rattle.std.specs.Prelude.{⊤, AllPairs}
+use Rattle.std.proofs.Common.{◌≡◌, ◌≢◌, ℕ, ◌<◌, ◌≤◌, List, [], ◌∷◌, map, filter, true, false, true≢false, not, refl, sym, ap, ◌∙◌, subst, arith, inl, inr, ◌⊎◌, bytes_eq}
+use Rattle.std.specs.Prelude.{⊤}
 use Rattle.std.specs.List.{AllByRecursion, list_any}
 use Rattle.std.specs.declared.cmp.Ordering.{Ordering}
 use Rattle.std.specs.declared.cmp.Ordering.TheVariants.{Less, Equal, Greater}
@@ -15,9 +15,11 @@ use Rattle.std.proofs.lemmas.Map.Text.{is_eq-slice_cmp}
 use Rattle.ranking_model.specs.declared.entry.Entry.{Entry}
 use Rattle.ranking_model.specs.Flat.{entry_cmp, IsFlat, terms_of, number_of, numbered}
 use Rattle.std.proofs.lemmas.Bool.{cases_Bool}
+use Rattle.shared_lemmas.proofs.Lists.{all_map}
+use Rattle.shared_lemmas.proofs.Texts.{bytes_itself, bytes_same, bytes_flipped}
+use Rattle.shared_lemmas.proofs.Pairs.{Pairs, pairs_by_recursion, pairs_by_places}
 use Rattle.ranking_model.proofs.Orders.{entry_total}
 use Rattle.ranking_model.proofs.Sorting.{Ascends, ascends_sorted, sorted_ascending}
-use Rattle.ranking_model.proofs.Weighing.{Pairs, pairs_by_recursion}
 
 abbrev text_cmp : List ℕ → List ℕ → Ordering
 text_cmp = slice_cmp nat_cmp
@@ -36,22 +38,6 @@ same_text x y = slice_cmp-IsAntisymmetric nat_cmp-IsAntisymmetric x y
 eq_by : (x y : List ℕ) (r : Ordering) → text_cmp x y ≡ r → bytes_eq x y ≡ is_eq r
 eq_by x y r e = sym (is_eq-slice_cmp x y) ∙ ap is_eq e
 
-itself : (x : List ℕ) → bytes_eq x x ≡ true
-itself x = eq_by x x Equal (tied_itself nat_list_cmp_total x)
-
-equal : (x y : List ℕ) → bytes_eq x y ≡ true → x ≡ y
-equal x y e = by (text_cmp x y) refl where
-  by : (r : Ordering) → text_cmp x y ≡ r → x ≡ y
-  by Less k = absurd (true≢false (sym e ∙ eq_by x y Less k))
-  by Equal k = same_text x y k
-  by Greater k = absurd (true≢false (sym e ∙ eq_by x y Greater k))
-
-flipped : (x y : List ℕ) → bytes_eq x y ≡ false → bytes_eq y x ≡ false
-flipped x y p = by (cases_Bool (bytes_eq y x)) where
-  by : (bytes_eq y x ≡ true) ⊎ (bytes_eq y x ≡ false) → bytes_eq y x ≡ false
-  by (inl q) = absurd (true≢false (sym (subst (λ (z : List ℕ). bytes_eq z y ≡ true) (equal y x q) (itself y)) ∙ p))
-  by (inr q) = q
-
 -- each term is before those behind it
 abbrev Rises : List (List ℕ) → Type 0
 Rises [] = ⊤
@@ -65,7 +51,7 @@ before_all : (t x : List ℕ) (ts : List (List ℕ)) → AllByRecursion (λ u. t
 before_all t x [] h a = absurd (true≢false (sym a))
 before_all t x (u ∷ us) h a = by (cases_Bool (bytes_eq u x)) (before_all t x us h.1) where
   by : (bytes_eq u x ≡ true) ⊎ (bytes_eq u x ≡ false) → (Among us x → text_cmp t x ≡ Less) → text_cmp t x ≡ Less
-  by (inl e) rest = subst (λ (z : List ℕ). text_cmp t z ≡ Less) (equal u x e) h.0
+  by (inl e) rest = subst (λ (z : List ℕ). text_cmp t z ≡ Less) (bytes_same u x e) h.0
   by (inr e) rest = rest (rw e at a)
 
 -- a term before another has the lower number
@@ -77,12 +63,12 @@ number_rises x y (t ∷ ts) r a b e = by (cases_Bool (bytes_eq t x)) (cases_Bool
 
   by : (bytes_eq t x ≡ true) ⊎ (bytes_eq t x ≡ false) → (bytes_eq t y ≡ true) ⊎ (bytes_eq t y ≡ false) → (Among ts x → Among ts y → text_cmp x y ≡ Less → number_of ts x < number_of ts y)
       → number_of (t ∷ ts) x < number_of (t ∷ ts) y
-  by (inl p) (inl q) rest = absurd (true≢false (sym (itself x) ∙ eq_by x x Less (subst (λ (z : List ℕ). text_cmp x z ≡ Less) (sym (equal t y q) ∙ equal t x p) e)))
+  by (inl p) (inl q) rest = absurd (true≢false (sym (bytes_itself x) ∙ eq_by x x Less (subst (λ (z : List ℕ). text_cmp x z ≡ Less) (sym (bytes_same t y q) ∙ bytes_same t x p) e)))
   by (inl p) (inr q) rest = rw (p, q) (omega arith)
   by (inr p) (inl q) rest =
       let below : text_cmp t x ≡ Less = before_all t x ts r.0 (rw p at a) in
-      let above : text_cmp x t ≡ Less = subst (λ (z : List ℕ). text_cmp x z ≡ Less) (sym (equal t y q)) e in
-      absurd (true≢false (sym (itself x) ∙ eq_by x x Less (o.trans x t x above below)))
+      let above : text_cmp x t ≡ Less = subst (λ (z : List ℕ). text_cmp x z ≡ Less) (sym (bytes_same t y q)) e in
+      absurd (true≢false (sym (bytes_itself x) ∙ eq_by x x Less (o.trans x t x above below)))
   by (inr p) (inr q) rest = let less = rest (rw p at a) (rw q at b) e in rw (p, q) (omega arith)
 
 -- ---- the terms of a flat list
@@ -91,7 +77,7 @@ any_filter : (x t : List ℕ) (ts : List (List ℕ)) → Among ts x → bytes_eq
 any_filter x t [] a e = a
 any_filter x t (u ∷ us) a e = by (cases_Bool (bytes_eq u x)) (cases_Bool (bytes_eq u t)) (λ k. any_filter x t us k e) where
   by : (bytes_eq u x ≡ true) ⊎ (bytes_eq u x ≡ false) → (bytes_eq u t ≡ true) ⊎ (bytes_eq u t ≡ false) → (Among us x → Among (filter (λ term. not (bytes_eq term t)) us) x) → Among (filter (λ term. not (bytes_eq term t)) (u ∷ us)) x
-  by (inl p) (inl q) rest = absurd (true≢false (sym (subst (λ (z : List ℕ). bytes_eq z t ≡ true) (equal u x p) q) ∙ e))
+  by (inl p) (inl q) rest = absurd (true≢false (sym (subst (λ (z : List ℕ). bytes_eq z t ≡ true) (bytes_same u x p) q) ∙ e))
   by (inl p) (inr q) rest = rw q (rw p refl)
   by (inr p) (inl q) rest = rw q (rest (rw p at a))
   by (inr p) (inr q) rest = rw q (rw p (rest (rw p at a)))
@@ -125,7 +111,7 @@ terms_rise (e ∷ es) a = (before (terms_of es) (all_terms (λ t. is_gt (text_cm
   less t h k = by (text_cmp e.term t) refl where
     by : (r : Ordering) → text_cmp e.term t ≡ r → text_cmp e.term t ≡ Less
     by Less i = i
-    by Equal i = absurd (true≢false (sym (subst (λ (z : List ℕ). bytes_eq z e.term ≡ true) (same_text e.term t i) (itself e.term)) ∙ k))
+    by Equal i = absurd (true≢false (sym (subst (λ (z : List ℕ). bytes_eq z e.term ≡ true) (same_text e.term t i) (bytes_itself e.term)) ∙ k))
     by Greater i = absurd (true≢false (sym (ap is_gt i) ∙ h))
 
   before : (ts : List (List ℕ)) → AllByRecursion (λ t. is_gt (text_cmp e.term t) ≡ false) ts → AllByRecursion (λ u. text_cmp e.term u ≡ Less) (filter (λ term. not (bytes_eq term e.term)) ts)
@@ -156,14 +142,14 @@ all_among : (es : List (Entry (List ℕ))) → AllByRecursion (λ e. Among (term
 all_among [] = tt
 all_among (e ∷ es) = (here, rest es (all_among es)) where
   here : Among (terms_of (e ∷ es)) e.term
-  here = let same = itself e.term in rw same refl
+  here = let same = bytes_itself e.term in rw same refl
 
   rest : (fs : List (Entry (List ℕ))) → AllByRecursion (λ f. Among (terms_of es) f.term) fs → AllByRecursion (λ f. Among (terms_of (e ∷ es)) f.term) fs
   rest [] h = tt
   rest (f ∷ fs) h = (one (cases_Bool (bytes_eq e.term f.term)), rest fs h.1) where
     one : (bytes_eq e.term f.term ≡ true) ⊎ (bytes_eq e.term f.term ≡ false) → Among (terms_of (e ∷ es)) f.term
     one (inl p) = rw p refl
-    one (inr p) = rw p (any_filter f.term e.term (terms_of es) h.0 (flipped e.term f.term p))
+    one (inr p) = rw p (any_filter f.term e.term (terms_of es) h.0 (bytes_flipped e.term f.term p))
 
 -- ---- entries by number
 
@@ -204,23 +190,12 @@ module _ (ts : List (List ℕ)) (rise : Rises ts) where
     behind [] b k = tt
     behind (f ∷ fs) b k = ((λ same. k.0 (told_apart e f a.0 b.0 same)), behind fs b.1 k.1)
 
-all_map : {A B : Type 0} (f : A → B) (P : B → Type 0) (xs : List A) → AllByRecursion (λ x. P (f x)) xs → AllByRecursion P (map f xs)
-all_map f P [] h = tt
-all_map f P (x ∷ xs) h = (h.0, all_map f P xs h.1)
-
-pub pairs_from_recursion : {A : Type 0} (R : A → A → Type 0) (xs : List A) → Pairs R xs → AllPairs R xs
-pairs_from_recursion R [] h i j d low high = absurd (omega arith)
-pairs_from_recursion R (x ∷ xs) h zero zero d low high = absurd (omega arith)
-pairs_from_recursion R (x ∷ xs) h zero (suc j) d low high = All-from_recursion (R x) xs h.0 j d (omega arith)
-pairs_from_recursion R (x ∷ xs) h (suc i) zero d low high = absurd (omega arith)
-pairs_from_recursion R (x ∷ xs) h (suc i) (suc j) d low high = pairs_from_recursion R xs h.1 i j d (omega arith) (omega arith)
-
 pub numbered_is_flat : (docs : ℕ) (flat : List (Entry (List ℕ))) → IsFlat text_cmp docs flat → IsFlat nat_cmp docs (numbered flat)
 numbered_is_flat docs flat f = record {
   order = sorted_ascending (entry_cmp nat_cmp) (entry_total nat_cmp nat_cmp_total) (numbered flat) (numbered_ascends ts rise flat (all_among flat) ascends);
-  once = pairs_from_recursion _ (numbered flat) (numbered_once ts rise flat (all_among flat) (pairs_by_recursion _ flat f.once));
-  documents = All-from_recursion _ (numbered flat) (all_map (with_number ts rise) (λ e. e.doc < docs) flat (recursion_from_All _ flat f.documents));
-  impacts = All-from_recursion _ (numbered flat) (all_map (with_number ts rise) (λ e. (1 ≤ e.impact) × (e.impact ≤ 65535)) flat (recursion_from_All _ flat f.impacts));
+  once = pairs_by_places _ (numbered flat) (numbered_once ts rise flat (all_among flat) (pairs_by_recursion _ flat f.once));
+  documents = All-from_recursion _ (numbered flat) (all_map (λ (e : Entry ℕ). e.doc < docs) (with_number ts rise) flat (recursion_from_All _ flat f.documents));
+  impacts = All-from_recursion _ (numbered flat) (all_map (λ (e : Entry ℕ). (1 ≤ e.impact) × (e.impact ≤ 65535)) (with_number ts rise) flat (recursion_from_All _ flat f.impacts));
 }
   where
     ts : List (List ℕ)

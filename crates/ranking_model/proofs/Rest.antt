@@ -6,7 +6,7 @@ use Rattle.std.specs.Ordering.{nat_cmp}
 use Rattle.std.proofs.lemmas.Bool.{cases_lt, cases_eq}
 use Rattle.std.proofs.lemmas.Bool.Decides.{nat_tests}
 use Rattle.std.proofs.lemmas.List.{drop-take, take-take}
-use Rattle.std.proofs.lemmas.List.Sums.{sum_by-cons, sum_by-append, sum_by_push, sum_by-take-le, sum_by-take-drop}
+use Rattle.std.proofs.lemmas.List.Sums.{sum_by-cons, sum_by-append, sum_by_push, sum_by-take-le, sum_by-take-drop, sum_by-le-sum_by}
 use Rattle.ranking_model.specs.declared.entry.Entry.{Entry}
 use Rattle.jass_base.specs.declared.named.Named.{Named}
 use Rattle.ranking_model.specs.declared.posting.WeightedPosting.{WeightedPosting}
@@ -17,10 +17,10 @@ use Rattle.ranking_model.specs.Plan.{is_of, begun, classes_of, plan_of}
 use Rattle.ranking_model.specs.Scores.{gain_of, greatest_weight, bound_after, scores_after}
 use Rattle.ranking_model.specs.Finality.{raised, GainsUpTo}
 use Rattle.std.proofs.lemmas.Bool.{cases_Bool}
+use Rattle.shared_lemmas.proofs.Pairs.{Pairs, pairs_by_recursion}
+use Rattle.shared_lemmas.proofs.Lists.{all_drop}
 use Rattle.ranking_model.proofs.Totals.{sum_range_more}
 use Rattle.ranking_model.proofs.Grouping.{more, classes_sum, classes_all}
-use Rattle.ranking_model.proofs.Weighing.{Pairs, pairs_by_recursion}
-use Rattle.ranking_model.proofs.Small.{all_drop}
 
 -- ---- how often a document stands in a place
 
@@ -168,10 +168,6 @@ sum_plus f g (x ∷ xs) =
     let rest = sum_plus f g xs in
     omega arith
 
-sum_le : {A : Type 0} (f g : A → ℕ) (xs : List A) → ((x : A) → f x ≤ g x) → sum_by f xs ≤ sum_by g xs
-sum_le f g [] h = omega arith
-sum_le f g (x ∷ xs) h = let b = sum_by-cons f x xs in let c = sum_by-cons g x xs in let here = h x in let rest = sum_le f g xs h in omega arith
-
 single : (at x places : ℕ) → sum_by (λ place. cond (at == place) x 0) (range_with_len 0 places) ≡ cond (nat_lt at places) x 0
 single at x zero = let past : nat_lt at 0 ≡ false = grind (arith, nat_tests) in rw past refl
 single at x (suc n) = by (cases_lt at n) (cases_eq at n) (single at x n) where
@@ -225,7 +221,7 @@ rest_within : (doc docs n : ℕ) (terms : List Named) (flat : List (Entry ℕ)) 
 unfolding plan_of
 rest_within doc docs n terms flat f =
     rw (by_place doc (length terms) (drop n classes) (all_drop (λ c. c.place < length terms) n classes places))
-    (sum_le (λ place. sum_by (gain_at doc place) (drop n classes)) (λ place. greatest_weight place (drop n classes)) (range_with_len 0 (length terms)) (λ place. place_gain doc place (drop n classes) (few place)))
+    (sum_by-le-sum_by (λ place. sum_by (gain_at doc place) (drop n classes)) (λ place. greatest_weight place (drop n classes)) (range_with_len 0 (length terms)) (λ place. place_gain doc place (drop n classes) (few place)))
   where
     classes : List Class
     classes = classes_of (weighted_postings flat terms)

@@ -2,12 +2,13 @@
 use Rattle.std.proofs.Common.{◌≡◌, ◌≢◌, ℕ, List, [], ◌∷◌, ◌++◌, map, true, false, refl, sym, ap, ◌∙◌, arith, fold, append_assoc, append-nil, ◌&&◌, ◌==◌, flat_map}
 use Rattle.std.specs.List.{AllByRecursion}
 use Rattle.std.proofs.lemmas.Bool.Decides.{nat_tests}
+use Rattle.std.proofs.lemmas.List.Sums.{fold-append}
+use Rattle.shared_lemmas.proofs.Pairs.{Pairs}
 use Rattle.ranking_model.specs.declared.posting.WeightedPosting.{WeightedPosting}
 use Rattle.ranking_model.specs.declared.class.Class.{Class}
 use Rattle.ranking_model.specs.Plan.{is_of, begun, joined, postings_of, plan_cmp, classes_of}
 use Rattle.ranking_model.specs.Order.{sorted}
 use Rattle.ranking_model.proofs.Grouping.{more}
-use Rattle.ranking_model.proofs.Weighing.{Pairs}
 
 abbrev pub Differ : Class → Class → Type 0
 Differ a b = a.place ≡ b.place → a.weight ≢ b.weight
@@ -54,15 +55,11 @@ fold_class cs c h some = by c.docs refl where
       let whole : record c { docs = doc ∷ docs } ≡ c = ap (λ l. record c { docs = l }) (sym e) in
       ap (λ l. fold joined cs (map (posting c) l)) e ∙ ap (λ l. fold joined l (map (posting c) docs)) first ∙ rest ∙ ap (λ k. cs ++ k ∷ []) whole
 
-fold_append : {A B : Type 0} (f : B → A → B) (a : B) (xs ys : List A) → fold f a (xs ++ ys) ≡ fold f (fold f a xs) ys
-fold_append f a [] ys = refl
-fold_append f a (x ∷ xs) ys = fold_append f (f a x) xs ys
-
 fold_classes : (done cs : List Class) → AllByRecursion (λ c. c.docs ≢ []) cs → AllByRecursion (λ c. AllByRecursion (λ d. Differ d c) done) cs → Pairs Differ cs → fold joined done (flat_map postings_of cs) ≡ done ++ cs
 fold_classes done [] some apart p = sym (append-nil done)
 fold_classes done (c ∷ cs) some apart p =
     let first = fold_class done c apart.0 some.0 in
-    fold_append joined done (postings_of c) (flat_map postings_of cs) ∙ rw first (fold_classes (done ++ c ∷ []) cs some.1 (with_one done c cs apart.1 p.0) p.1 ∙ append_assoc done (c ∷ []) cs)
+    fold-append joined done (postings_of c) (flat_map postings_of cs) ∙ rw first (fold_classes (done ++ c ∷ []) cs some.1 (with_one done c cs apart.1 p.0) p.1 ∙ append_assoc done (c ∷ []) cs)
   where
     push : (done : List Class) (c x : Class) → AllByRecursion (λ d. Differ d x) done → Differ c x → AllByRecursion (λ d. Differ d x) (done ++ c ∷ [])
     push [] c x h k = (k, tt)

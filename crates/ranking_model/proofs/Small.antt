@@ -1,5 +1,5 @@
 -- The numbers of a query's plan on an index fit the types of a report.
-use Rattle.std.proofs.Common.{◌≡◌, ℕ, zero, suc, ◌+◌, ◌*◌, ◌^◌, ◌<◌, ◌≤◌, List, [], ◌∷◌, ◌++◌, length, drop, true, false, cond, refl, ◌∙◌, arith, inl, inr, ◌⊎◌, ◌==◌, sum_by, count_by, length-append}
+use Rattle.std.proofs.Common.{◌≡◌, ℕ, ◌+◌, ◌*◌, ◌^◌, ◌<◌, ◌≤◌, List, [], ◌∷◌, ◌++◌, length, drop, true, false, cond, refl, ◌∙◌, arith, inl, inr, ◌⊎◌, ◌==◌, sum_by, count_by, length-append}
 use Rattle.std.specs.Prelude.{All}
 use Rattle.std.specs.List.{AllByRecursion, range_with_len}
 use Rattle.std.specs.Ordering.{nat_cmp}
@@ -20,8 +20,10 @@ use Rattle.ranking_model.specs.Plan.{is_of, begun, classes_of, plan_of}
 use Rattle.ranking_model.specs.Scores.{adds, gain_of, greatest_weight, bound_after}
 use Rattle.ranking_model.specs.Limits.{IsSmall}
 use Rattle.ranking_model.proofs.Grouping.{more, classes_sum, classes_all, classes_length, length_sum}
-use Rattle.ranking_model.proofs.Weighing.{pairs_by_recursion, weighted_length, weighted_documents, all_add}
+use Rattle.ranking_model.proofs.Weighing.{weighted_length, weighted_documents, all_add}
 use Rattle.std.proofs.lemmas.Bool.{cases_Bool}
+use Rattle.shared_lemmas.proofs.Pairs.{pairs_by_recursion}
+use Rattle.shared_lemmas.proofs.Lists.{all_drop}
 
 -- ---- what a posting adds to its class
 
@@ -56,11 +58,6 @@ pub gains : (doc : ℕ) (ps : List WeightedPosting) → sum_by (gain_of doc) (cl
 gains doc ps = classes_sum (gain_of doc) (adds doc) (gain_first doc) (gain_next doc) ps
 
 -- ---- the bound
-
-pub all_drop : {A : Type 0} (P : A → Type 0) (n : ℕ) (xs : List A) → AllByRecursion P xs → AllByRecursion P (drop n xs)
-all_drop P zero xs h = h
-all_drop P (suc n) [] h = tt
-all_drop P (suc n) (x ∷ xs) h = all_drop P n xs h.1
 
 greatest_weight_le : (place m : ℕ) (cs : List Class) → AllByRecursion (λ c. c.weight ≤ m) cs → greatest_weight place cs ≤ m
 greatest_weight_le place m [] h = omega arith

@@ -1,12 +1,11 @@
 -- Sums over a prefix of a list, of a range and of the documents that a class has.
-use Rattle.std.proofs.Common.{◌≡◌, ℕ, suc, zero, ◌+◌, ◌-◌, ◌*◌, ◌^◌, ◌<◌, ◌≤◌, ◌≢◌, List, [], ◌∷◌, ◌++◌, length, get_or, set, take, drop, Bool, true, false, true≢false, cond, sym, ap, ◌∙◌, arith, inl, inr, ◌⊎◌, nat_le, ◌==◌, sum_by, count_by, eq-eqb, get_or-set_same, get_or-set_other}
+use Rattle.std.proofs.Common.{◌≡◌, ℕ, suc, zero, ◌+◌, ◌-◌, ◌*◌, ◌^◌, ◌<◌, ◌≤◌, ◌≢◌, List, [], length, get_or, set, take, drop, Bool, true, false, true≢false, cond, sym, ap, ◌∙◌, arith, inl, inr, ◌⊎◌, nat_le, ◌==◌, sum_by, count_by, eq-eqb, get_or-set_same, get_or-set_other}
 use Rattle.std.specs.List.{range_with_len}
 use Rattle.std.proofs.lemmas.List.{take-take, take_rest, ext_get_or}
 use Rattle.std.proofs.lemmas.List.Sums.{sum_by_push, sum_by-take-le, count_by_more_no, count_by_more_yes}
 use Rattle.std.proofs.lemmas.Bool.{cases_lt, le-leb}
 use Rattle.std.proofs.lemmas.Bool.Decides.{nat_tests}
 use Rattle.std.proofs.Math.Nat.{mul-le-mul_left}
-use native.Mathlib.Numerals.{unary_clauses}
 use borrow.Author.Tests.{eqb-true, eqb-false}
 use Rattle.ranking_model.specs.declared.class.Class.{Class}
 use Rattle.ranking_model.specs.Plan.{size_of_first, greatest_up_to, prefix_within}
@@ -14,14 +13,7 @@ use Rattle.ranking_model.specs.Scores.{greatest_weight, gain_of, scores_after}
 use Rattle.ranking_model.specs.declared.plan.QueryPlan.{QueryPlan}
 use Rattle.std.proofs.lemmas.List.FromFn.{length-map-range_with_len, get_or-map-range_with_len}
 use Rattle.std.proofs.lemmas.Bool.{cases_Bool}
-
-pub range_push : (a n : ℕ) → range_with_len a (n + 1) ≡ range_with_len a n ++ (a + n) ∷ []
-range_push a zero = simp unary_clauses
-range_push a (suc n) =
-    let rest = range_push (a + 1) n in
-    let far : a + 1 + n ≡ a + suc n = omega arith in
-    let one : suc n + 1 ≡ suc (n + 1) = omega arith in
-    rw one (ap (λ l. a ∷ l) (rest ∙ ap (λ m. range_with_len (a + 1) n ++ m ∷ []) far))
+use Rattle.shared_lemmas.proofs.Sums.{range_push}
 
 pub sum_range_more : (f : ℕ → ℕ) (n : ℕ) → sum_by f (range_with_len 0 (n + 1)) ≡ sum_by f (range_with_len 0 n) + f n
 sum_range_more f n = ap (sum_by f) (range_push 0 n) ∙ sum_by_push f (range_with_len 0 n) (0 + n) ∙ ap (λ m. sum_by f (range_with_len 0 n) + f m) (omega arith)

@@ -1,6 +1,6 @@
 -- The weighted postings of a flat list: their order, their number, their documents and their weights.
-use Rattle.std.proofs.Common.{◌≡◌, ◌≢◌, ℕ, suc, ◌+◌, ◌*◌, ◌<◌, ◌≤◌, List, [], ◌∷◌, ◌++◌, map, filter, length, get_or, true, false, refl, sym, ap, ◌∙◌, arith, inl, inr, ◌⊎◌, ◌==◌, sum_by, eqb-true, length-append}
-use Rattle.std.specs.Prelude.{⊤, AllPairs, IsSorted}
+use Rattle.std.proofs.Common.{◌≡◌, ◌≢◌, ℕ, suc, ◌+◌, ◌*◌, ◌<◌, ◌≤◌, List, [], ◌∷◌, ◌++◌, map, filter, length, true, false, refl, sym, ap, ◌∙◌, arith, inl, inr, ◌⊎◌, ◌==◌, sum_by, eqb-true, length-append}
+use Rattle.std.specs.Prelude.{IsSorted}
 use Rattle.std.specs.List.{AllByRecursion}
 use Rattle.std.specs.Ordering.{is_gt, nat_cmp}
 use Rattle.std.proofs.lemmas.Cmp.{nat_cmp_total}
@@ -15,6 +15,8 @@ use Rattle.ranking_model.specs.Flat.{entry_cmp, IsFlat}
 use Rattle.ranking_model.specs.Postings.{AreTerms, weighted_at, weighted_from, weighted_postings}
 use Rattle.ranking_model.specs.Scores.{adds}
 use Rattle.std.proofs.lemmas.Bool.{cases_Bool}
+use Rattle.shared_lemmas.proofs.Lists.{all_front, all_back}
+use Rattle.shared_lemmas.proofs.Pairs.{Pairs, pairs_by_recursion}
 use Rattle.ranking_model.proofs.Sorting.{Ascends, ascends_sorted, ascends_filter, ascends_append, sorted_ascending}
 use Rattle.ranking_model.proofs.Orders.{entry_total}
 use Rattle.ranking_model.proofs.Classes.{place_total}
@@ -79,19 +81,6 @@ weighted_ascends place (named ∷ terms) flat a =
 
 pub weighted_in_order : (docs : ℕ) (flat : List (Entry ℕ)) (terms : List Named) → IsFlat nat_cmp docs flat → IsSorted place_cmp (weighted_postings flat terms)
 weighted_in_order docs flat terms f = sorted_ascending place_cmp place_total (weighted_postings flat terms) (weighted_ascends 0 terms flat (ascends_sorted (entry_cmp nat_cmp) (entry_total nat_cmp nat_cmp_total) flat f.order))
-
--- ---- pairs, by recursion
-
-abbrev pub Pairs : {A : Type 0} → (A → A → Type 0) → List A → Type 0
-Pairs R [] = ⊤
-Pairs R (x ∷ xs) = AllByRecursion (λ y. R x y) xs × Pairs R xs
-
-pub pairs_by_recursion : {A : Type 0} (R : A → A → Type 0) (xs : List A) → AllPairs R xs → Pairs R xs
-pairs_by_recursion R [] h = tt
-pairs_by_recursion {A} R (x ∷ xs) h = (behind xs (λ j d k. h 0 (suc j) d (omega arith) (omega arith)), pairs_by_recursion R xs (λ i j d a b. h (suc i) (suc j) d (omega arith) (omega arith))) where
-  behind : (ys : List A) → ((j : ℕ) (d : A) → j < length ys → R x (get_or ys j d)) → AllByRecursion (λ y. R x y) ys
-  behind [] k = tt
-  behind (y ∷ ys) k = (k 0 y (omega arith), behind ys (λ j d a. k (suc j) d (omega arith)))
 
 -- ---- their number
 
@@ -180,16 +169,13 @@ term_adds doc place times term (e ∷ es) p h = by (cases_Bool (e.term == term))
       rw t (rw one (rw d (omega arith)))
   by (inr t) d rest = rw t (rest (rw t at h))
 
-all_parts : {A : Type 0} (P : A → Type 0) (xs ys : List A) → AllByRecursion P (xs ++ ys) → AllByRecursion P xs × AllByRecursion P ys
-all_parts P [] ys h = (tt, h)
-all_parts P (x ∷ xs) ys h = let rest = all_parts P xs ys h.1 in ((h.0, rest.0), rest.1)
-
 pub all_add : (doc docs place : ℕ) (terms : List Named) (flat : List (Entry ℕ)) → IsFlat nat_cmp docs flat → AllByRecursion (λ p. p.weight ≤ 16711425) (weighted_from place terms flat) → sum_by (adds doc) (weighted_from place terms flat) ≤ length terms * 16711425
 all_add doc docs place [] flat f h = omega arith
 all_add doc docs place (named ∷ terms) flat f h =
-    let light = all_parts (λ p. p.weight ≤ 16711425) (weighted_at place named flat) (weighted_from (suc place) terms flat) h in
-    let first = term_adds doc place named.times named.term flat (pairs_by_recursion _ flat f.once) light.0 in
-    let rest = all_add doc docs (suc place) terms flat f light.1 in
+    let light = all_front (λ p. p.weight ≤ 16711425) (weighted_at place named flat) (weighted_from (suc place) terms flat) h in
+    let others = all_back (λ p. p.weight ≤ 16711425) (weighted_at place named flat) (weighted_from (suc place) terms flat) h in
+    let first = term_adds doc place named.times named.term flat (pairs_by_recursion _ flat f.once) light in
+    let rest = all_add doc docs (suc place) terms flat f others in
     let split = sum_by-append (adds doc) (weighted_at place named flat) (weighted_from (suc place) terms flat) in
     let count : suc (length terms) * 16711425 ≡ 16711425 + length terms * 16711425 = omega arith in
     rw (split, count) (omega arith)

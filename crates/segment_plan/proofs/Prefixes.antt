@@ -1,22 +1,13 @@
 -- The longest prefix that fits, from the sums.
-use Rattle.std.proofs.Common.{◌≡◌, ℕ, suc, zero, ◌+◌, ◌<◌, ◌≤◌, List, length, get_or, take, drop, Bool, true, false, true≢false, sym, ap, ◌∙◌, arith, inl, inr, ◌⊎◌, nat_le}
+use Rattle.std.proofs.Common.{◌≡◌, ℕ, ◌+◌, ◌<◌, ◌≤◌, List, length, get_or, take, drop, false, sym, ap, ◌∙◌, arith, nat_le}
 use Rattle.std.proofs.lemmas.List.{take-take, drop-take, length-drop, get_or-drop}
 use Rattle.std.proofs.lemmas.List.Sums.{sum_by-take-le, sum_by-take-drop}
-use Rattle.std.proofs.lemmas.Bool.{cases_Bool, cases_lt, le-leb}
+use Rattle.std.proofs.lemmas.Bool.{le-leb}
 use Rattle.std.proofs.lemmas.Bool.Decides.{nat_tests}
-use Rattle.ranking_model.specs.Plan.{greatest_up_to}
+use Rattle.ranking_model.proofs.Totals.{greatest_is}
 use Rattle.segment_plan.specs.declared.entry.PlanEntry.{PlanEntry}
 use Rattle.segment_plan.specs.Entries.{postings_of, entries_within}
 use Rattle.segment_plan.specs.Tables.{AreSums}
-
-greatest_is : (m n : ℕ) (test : ℕ → Bool) → n ≤ m → (0 < n → test n ≡ true) → ((j : ℕ) → n < j → j ≤ m → test j ≡ false) → greatest_up_to m test ≡ n
-greatest_is zero n test h passes no_more = omega arith
-greatest_is (suc m) n test h passes no_more = by (cases_Bool (test (suc m))) (cases_lt n (suc m)) (λ k. greatest_is m n test k passes (λ j a b. no_more j a (omega arith))) where
-  by : (test (suc m) ≡ true) ⊎ (test (suc m) ≡ false) → (n < suc m) ⊎ (suc m ≤ n) → (n ≤ m → greatest_up_to m test ≡ n) → greatest_up_to (suc m) test ≡ n
-  by (inl t) (inl k) rest = absurd (true≢false (sym t ∙ no_more (suc m) k (omega arith)))
-  by (inl t) (inr k) rest = rw t (omega arith)
-  by (inr f) (inl k) rest = rw f (rest (omega arith))
-  by (inr f) (inr k) rest = let e : n ≡ suc m = omega arith in let t = rw e at passes in absurd (true≢false (sym (t (omega arith)) ∙ f))
 
 pub postings_mono : (entries : List PlanEntry) (i j : ℕ) → i ≤ j → postings_of (take i entries) ≤ postings_of (take j entries)
 postings_mono entries i j h = let e = take-take i j entries h in let less = sum_by-take-le (λ (entry : PlanEntry). entry.count) (take j entries) i in rw e at less

@@ -1,17 +1,9 @@
 -- Sums over the numbers below n.
-use Rattle.std.proofs.Common.{◌≡◌, ℕ, suc, zero, ◌+◌, ◌*◌, ◌<◌, ◌≤◌, ◌≢◌, [], ◌∷◌, ◌++◌, refl, sym, ap, ◌∙◌, arith, inl, inr, ◌⊎◌, sum_by}
+use Rattle.std.proofs.Common.{◌≡◌, ℕ, suc, zero, ◌+◌, ◌*◌, ◌<◌, ◌≤◌, ◌≢◌, [], refl, sym, ap, ◌∙◌, arith, inl, inr, ◌⊎◌, sum_by}
 use Rattle.std.specs.List.{range_with_len}
 use Rattle.std.proofs.lemmas.List.Sums.{sum_by_push}
 use Rattle.std.proofs.lemmas.Bool.{cases_eq}
-use native.Mathlib.Numerals.{unary_clauses}
-
-range_push : (a n : ℕ) → range_with_len a (n + 1) ≡ range_with_len a n ++ (a + n) ∷ []
-range_push a zero = simp unary_clauses
-range_push a (suc n) =
-    let rest = range_push (a + 1) n in
-    let far : a + 1 + n ≡ a + suc n = omega arith in
-    let one : suc n + 1 ≡ suc (n + 1) = omega arith in
-    rw one (ap (λ l. a ∷ l) (rest ∙ ap (λ m. range_with_len (a + 1) n ++ m ∷ []) far))
+use Rattle.shared_lemmas.proofs.Sums.{range_push}
 
 pub sum_more : (f : ℕ → ℕ) (n : ℕ) → sum_by f (range_with_len 0 (suc n)) ≡ sum_by f (range_with_len 0 n) + f n
 sum_more f n = let one : n + 1 ≡ suc n = omega arith in ap (λ m. sum_by f (range_with_len 0 m)) (sym one) ∙ (ap (sum_by f) (range_push 0 n) ∙ sum_by_push f (range_with_len 0 n) (0 + n) ∙ ap (λ m. sum_by f (range_with_len 0 n) + f m) (omega arith))

@@ -1,6 +1,6 @@
 -- A session at a place of a desk, and what it shows after a grant.
 use Rattle.std.proofs.Common.{◌≡◌, ℕ, ◌+◌, ◌-◌, ◌≤◌, List, [], ◌∷◌, ◌++◌, length, get_or, Some, None, refl, sym, ap, subst, ◌∙◌, arith}
-use Rattle.index_model.proofs.Lists.{all_back}
+use Rattle.shared_lemmas.proofs.Lists.{all_back}
 use Rattle.std.specs.List.{AllByRecursion, find, remove, slice_set}
 use Rattle.jass_base.specs.declared.answer.Budget.{Budget}
 use Rattle.jass_base.specs.declared.answer.Report.{Report}

@@ -5,7 +5,7 @@ use Rattle.std.proofs.lemmas.List.{length-take, take_more}
 use Rattle.std.proofs.lemmas.Slice.Eq.{bytes_eq-Decides}
 use Rattle.std.specs.Prelude.{bytes_eq}
 use Rattle.std.specs.List.{AllByRecursion}
-use Rattle.index_model.proofs.Lists.{all_append}
+use Rattle.shared_lemmas.proofs.Lists.{all_append}
 use Rattle.session_engine.specs.declared.session.Session.{Session}
 use Rattle.session_desk.specs.Standing.{IsAt, name_of}
 

@@ -5,7 +5,7 @@ use Rattle.std.proofs.lemmas.List.{length-append, length-map, length-set, map-ap
 use Rattle.std.proofs.lemmas.List.Sums.{sum_by-append, sum_by-cons, sum_by-set}
 use Rattle.std.specs.Prelude.{IsSome, count_by, is_some, sum_by}
 use Rattle.std.specs.List.{AllByRecursion, slice_set, slice_index_or}
-use Rattle.index_model.proofs.Lists.{all_append, all_back, all_front, all_weaker}
+use Rattle.shared_lemmas.proofs.Lists.{all_append, all_back, all_front, all_weaker}
 use Rattle.jass_base.specs.declared.query.Query.{Query}
 use Rattle.index_layout.specs.View.{FileView}
 use Rattle.frame_pool.specs.ChainView.{LeavesOthers, LeavesPool, chain_view}

@@ -7,7 +7,7 @@ use Rattle.frame_pool.specs.Pool.{PoolView}
 use Rattle.frame_pool.specs.ChainView.{LeavesPool, chain_view}
 use Rattle.accumulator_pages.specs.Adding.{page_count}
 use Rattle.accumulator_pages.specs.Pages.{HasRoomFor}
-use Rattle.index_model.proofs.Lists.{all_back, all_front}
+use Rattle.shared_lemmas.proofs.Lists.{all_back, all_front}
 use Rattle.ranking_model.specs.Scores.{added}
 use Rattle.session_scores.specs.declared.scores.Scores.{Scores}
 use Rattle.session_scores.specs.Scores.{AreScoresOf, ScoresStand, docs_of, own_chain, own_view, scores_of}

@@ -14,7 +14,9 @@ use Rattle.ranking_model.specs.Postings.{AreTerms}
 use Rattle.index_model.specs.Index.{SegmentData, TermData, IndexData, IsSegment, IsTerm, IsIndex, FallsTo}
 use Rattle.index_model.specs.Querying.{segments_at, classes_at, classes_from, query_classes}
 use Rattle.index_model.proofs.FlatOrder.{term_kept}
-use Rattle.index_model.proofs.Lists.{Pairs, pairs_by_places, pairs_append, all_weaker, all_append}
+use Rattle.shared_lemmas.proofs.Pairs.{Pairs, pairs_by_places}
+use Rattle.shared_lemmas.proofs.Pairs.{pairs_append}
+use Rattle.shared_lemmas.proofs.Lists.{all_weaker, all_append}
 use Rattle.segment_plan.specs.declared.entry.PlanEntry.{PlanEntry}
 use Rattle.segment_plan.specs.declared.entry.PlanHead.{PlanHead}
 use Rattle.segment_plan.specs.Entries.{AreHeads, Fall, entry_of, entry_cmp, plan_with}

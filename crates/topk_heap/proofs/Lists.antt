@@ -9,7 +9,7 @@ use Rattle.std.proofs.lemmas.Grind.{reverse_onto}
 use Rattle.jass_base.specs.declared.answer.Hit.{Hit}
 use Rattle.ranking_model.specs.Order.{placed, sorted}
 use Rattle.ranking_model.proofs.Sorting.{all_placed}
-use Rattle.ranking_model.proofs.Weighing.{Pairs}
+use Rattle.shared_lemmas.proofs.Pairs.{Pairs}
 
 -- ---- being in a list
 

@@ -14,7 +14,7 @@ use Rattle.accumulator_pages.proofs.Adding.{added-above, length-added}
 use Rattle.accumulator_pages.proofs.Raising.{raised-all, raised-only, raised-once}
 use Rattle.ranking_model.specs.Order.{sorted}
 use Rattle.ranking_model.specs.Scores.{rank_cmp, hits_from, first_ranked, runner_up}
-use Rattle.ranking_model.proofs.Weighing.{Pairs, pairs_by_recursion}
+use Rattle.shared_lemmas.proofs.Pairs.{Pairs, pairs_by_recursion}
 use Rattle.topk_heap.specs.Noting.{AreNoted, LetsPass, Passes, just_behind}
 use Rattle.topk_heap.specs.Standing.{HaveFirst, IsTouched, TopStands, TopView, with_heap}
 use Rattle.topk_heap.proofs.Ahead.{more_ahead}

@@ -13,7 +13,7 @@ use Rattle.ranking_model.specs.Order.{sorted}
 use Rattle.ranking_model.specs.Scores.{rank_cmp, hits_from, first_ranked, runner_up}
 use Rattle.ranking_model.proofs.Sorting.{Ascends, all_sorted, one_order, sorted_ascending, sorted_ascends}
 use Rattle.ranking_model.proofs.Orders.{rank_total, rank_same}
-use Rattle.ranking_model.proofs.Weighing.{Pairs}
+use Rattle.shared_lemmas.proofs.Pairs.{Pairs}
 use Rattle.topk_heap.specs.Hits.{hit_at}
 use Rattle.topk_heap.specs.Standing.{AreInOrder, IsHeap}
 use Rattle.topk_heap.proofs.Lists.{all_at, all_by_index, all_in, in_reverse, all_imp, all_take, all_index, pairs_sorted, pairs_take}

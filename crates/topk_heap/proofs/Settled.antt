@@ -10,7 +10,7 @@ use Rattle.std.proofs.Math.Seq.{take-append_seam}
 use Rattle.jass_base.specs.declared.answer.Hit.{Hit}
 use Rattle.ranking_model.specs.Order.{sorted}
 use Rattle.ranking_model.specs.Scores.{rank_cmp, first_ranked, runner_up, AreHitsOf}
-use Rattle.ranking_model.proofs.Weighing.{Pairs, pairs_by_recursion}
+use Rattle.shared_lemmas.proofs.Pairs.{Pairs, pairs_by_recursion}
 use Rattle.ranking_model.proofs.Candidates.{first_of_candidates}
 use Rattle.topk_heap.specs.Hits.{HitsView}
 use Rattle.topk_heap.specs.Places.{hit_of, newcomers, rescored, with_places, without_places}

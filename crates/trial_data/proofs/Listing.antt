@@ -8,6 +8,7 @@ use Rattle.std.proofs.lemmas.List.{length-map, get_or-map, get_or-replicate, len
 use Rattle.std.proofs.lemmas.List.FromFn.{length-range_with_len, get_or-map-range_with_len}
 use Rattle.std.proofs.lemmas.List.Sums.{sum_by-cons}
 use Rattle.std.proofs.lemmas.Simd.{map-map}
+use Rattle.shared_lemmas.proofs.Sums.{sum_map}
 use Rattle.jass_base.specs.declared.posting.Posting.{Posting}
 use Rattle.jass_base.specs.declared.doc_record.DocRecord.{DocRecord}
 use Rattle.jass_base.specs.declared.postings_list.PostingsList.{PostingsList}
@@ -156,10 +157,6 @@ cf_small docs (suc terms) term state few =
     let later = cf_small docs terms (term + 1) d.state few in
     let split = sum_by-cons (λ (l : ListData). l.cf) (list_with term d.postings) (lists_from docs terms (term + 1) d.state).lists in
     omega arith
-
-sum_map : {A B : Type 0} (f : B → ℕ) (g : A → B) (xs : List A) → sum_by f (map g xs) ≡ sum_by (λ x. f (g x)) xs
-sum_map f g [] = refl
-sum_map f g (x ∷ xs) = sum_by-cons f (g x) (map g xs) ∙ ap (λ n. f (g x) + n) (sum_map f g xs) ∙ sym (sum_by-cons (λ x. f (g x)) x xs)
 
 pub cf_is : (lists : List PostingsList) (ls : List ListData) → map list_data lists ≡ ls → cf_sum lists ≡ sum_by (λ (l : ListData). l.cf) ls
 cf_is lists ls is = sym (sum_map (λ (l : ListData). l.cf) list_data lists) ∙ ap (sum_by (λ (l : ListData). l.cf)) is

@@ -1,9 +1,10 @@
 -- A content that is read piece by piece.
-use Rattle.std.proofs.Common.{◌≡◌, ℕ, min, ◌+◌, ◌<◌, ◌≤◌, List, [], ◌++◌, length, take, drop, Option, Some, None, refl, sym, ap, subst, ◌∙◌, length-take, length-drop, length-append, take_all, arith}
+use Rattle.std.proofs.Common.{◌≡◌, ℕ, ◌+◌, ◌<◌, ◌≤◌, List, [], ◌++◌, length, take, drop, Option, Some, None, refl, sym, ap, subst, ◌∙◌, length-take, length-drop, length-append, take_all, arith}
 use Rattle.std.proofs.lemmas.List.{take-take}
 use Rattle.std.specs.Prelude.{IsSomeAnd, IfSome}
 use Rattle.std.specs.FinMap.{get}
 use Rattle.std.proofs.Math.Seq.{take-add}
+use Rattle.std.proofs.Math.Nat.{min-eq_left}
 use Rattle.jass_base.specs.Outside.{Files, OnContent, ForContent, AreBytesAt}
 use Rattle.whole_files.specs.Fronts.{IsFrontOf}
 
@@ -36,15 +37,12 @@ front_empty (Some files) name row is = at (get files name)
     at None = tt
     at (Some content) = empty_front content
 
-least : (m n : ℕ) → m ≤ n → min m n ≡ m
-least m n h = omega arith
-
 -- one piece more
 pub front_more : (row piece grown content : List ℕ) (at count : ℕ) → at ≡ length row → grown ≡ row ++ take count piece → IsFrontOf row content → AreBytesAt content at count piece → IsFrontOf grown content
 front_more row piece grown content at count behind is front read =
     let bytes : AreBytesAt content (length row) count piece = subst (λ n. AreBytesAt content n count piece) behind read in
     let size : length grown ≡ length row + count
-    = ap length is ∙ length-append row (take count piece) ∙ ap (λ n. length row + n) (ap length bytes.bytes ∙ length-take count (drop (length row) content) ∙ least count (length (drop (length row) content)) bytes.within) in
+    = ap length is ∙ length-append row (take count piece) ∙ ap (λ n. length row + n) (ap length bytes.bytes ∙ length-take count (drop (length row) content) ∙ min-eq_left bytes.within) in
     record {
       front = is ∙ ap (λ (xs : List ℕ). xs ++ take count piece) front.front ∙ ap (λ (xs : List ℕ). take (length row) content ++ xs) bytes.bytes ∙ sym (take-add (length row) count content) ∙ ap (λ n. take n content) (sym size);
       within = omega (arith, size, bytes.within, length-drop (length row) content, front.within);

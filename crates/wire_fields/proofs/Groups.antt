@@ -1,5 +1,5 @@
 -- Groups of 7 bits fit 64 bits.
-use Rattle.std.proofs.Common.{ℕ, ◌≡◌, ◌+◌, ◌*◌, ◌^◌, ◌<◌, ◌≤◌, arith}
+use Rattle.std.proofs.Common.{ℕ, ◌≡◌, ◌*◌, ◌^◌, ◌<◌, ◌≤◌, arith}
 use Rattle.std.proofs.Math.Nat.{pow-le-pow_right}
 
 -- the scale of a group below the tenth
@@ -9,7 +9,3 @@ scale_small n scale few is = let below : n ≤ 8 = omega arith in rw is (pow-le-
 -- a group at its scale
 pub group_small : (b scale : ℕ) → b < 128 → scale ≤ 128 ^ 8 → b * scale ≤ 127 * 128 ^ 8
 group_small b scale small few = grind arith
-
--- the number with one group more is below the next scale
-pub value_small : (value b scale : ℕ) → value < scale → b < 128 → value + b * scale < scale * 128
-value_small value b scale below small = grind arith

@@ -3,6 +3,7 @@ use Rattle.std.proofs.Common.{◌≡◌, ℕ, zero, suc, ◌+◌, ◌*◌, ◌^�
 use Rattle.std.specs.Prelude.{nat_lt}
 use Rattle.std.proofs.lemmas.Bool.Decides.{nat_tests}
 use Rattle.std.proofs.Math.Nat.{pow-suc}
+use Rattle.shared_lemmas.proofs.Numbers.{power_some}
 use Rattle.jass_base.specs.Wire.{AreGroups, IsVarint, groups_value}
 use Rattle.wire_fields.specs.declared.fault.WireWhy.{WireWhy}
 use Rattle.wire_fields.specs.declared.fault.WireWhy.TheVariants.{LongVarint}
@@ -68,10 +69,6 @@ stands (suc (suc k)) (b ∷ bytes) n rest is = go (nat_lt b 128) refl is (λ m a
         let e = same_read (b % 128 + 128 * x.0.0) n x.0.1 rest x.2 in
         let inner : varint_within (suc k) bytes ≡ Ok (x.0.0, rest) = x.1 ∙ ap (λ (r : List ℕ). Ok (x.0.0, r)) e.1 in
         more_stands k b bytes rest x.0.0 n high (more x.0.0 rest inner) (sym e.0)
-
-power_some : (k : ℕ) → 1 ≤ 128 ^ k
-power_some zero = omega arith
-power_some (suc k) = omega (arith, pow-suc 128 k, power_some k)
 
 -- a number that was read fits
 fits : (k : ℕ) (bytes : List ℕ) (n : ℕ) (rest : List ℕ) → varint_within (suc k) bytes ≡ Ok (n, rest) → n < 2 * 128 ^ k

@@ -4,7 +4,7 @@ use Rattle.std.specs.Prelude.{nat_lt}
 use Rattle.std.proofs.lemmas.Bool.Decides.{nat_tests}
 use Rattle.std.proofs.lemmas.List.{drop_all, take_all, length-drop, drop-drop}
 use Rattle.std.proofs.Math.Nat.{pow-suc}
-use Rattle.wire_fields.proofs.Groups.{value_small}
+use Rattle.shared_lemmas.proofs.Numbers.{value_small}
 use Rattle.wire_fields.specs.declared.fault.WireWhy.{WireWhy}
 use Rattle.wire_fields.specs.declared.fault.WireWhy.TheVariants.{Cut, LongVarint}
 use Rattle.wire_fields.specs.Reading.{◌>>=◌, varint_at, varint_within}

@@ -1,5 +1,6 @@
 use Rattle.std.proofs.Common.{◌∙◌, ap, sym, false, length, List, Option, ◌≡◌, ℕ, map}
 use Rattle.std.specs.Option.{option_map}
+use Rattle.std.proofs.lemmas.Bool.{not-true}
 use Rattle.jass_base.specs.CiffViews.{doc_data}
 use Rattle.jass_base.specs.declared.doc_record.DocRecord.{DocRecord}
 use Rattle.ciff_read.specs.Judging.{NumberedDoc, is_among}
@@ -10,7 +11,6 @@ use Rattle.ciff_read.specs.Table.{has_value, with_value, table_with}
 use Rattle.ciff_read.proofs.Answering.{fails_as}
 use Rattle.ciff_read.proofs.HeldParts.{not_not}
 use Rattle.ciff_read.proofs.Numbered.{length-inserted, among_all, insert_all}
-use Rattle.ciff_read.proofs.RecordedDocs.{not_true}
 use Rattle.ciff_read.proofs.Tables.{map-with, table-more}
 use Rattle.ciff_read.proofs.document.read_document.Goals as goal
 
@@ -30,7 +30,7 @@ returns-in-Ok-put-clause-exact c =
     let made = c.in-Ok-finish.record in
     let entries = c.args.documents.now.records.items in
     let old = table_with entries in
-    let unseen : is_among d.number seen ≡ false = sym c.has-is_new.ensures ∙ not_true c.has-is_new.result c.in-Ok-finish.ensures.new in
+    let unseen : is_among d.number seen ≡ false = sym c.has-is_new.ensures ∙ not-true c.has-is_new.result c.in-Ok-finish.ensures.new in
     let new : has_value (table_of c.args.documents.now) d.fields.docid ≡ false = sym (among_all (table_of c.args.documents.now) d.fields.docid) ∙ ap (λ n. is_among n seen) (sym c.in-Ok.ensures.number) ∙ unseen in (
       numbered_as d made,
       c.in-Ok.ensures.walked seen ∙ ap (λ b. recorded b c.args.at d) (sym (not_not c.has-is_new.result ∙ c.has-is_new.ensures)) ∙ c.in-Ok-finish.ensures.exact,

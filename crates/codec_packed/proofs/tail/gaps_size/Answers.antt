@@ -1,6 +1,6 @@
 use Rattle.std.proofs.Common.{◌^◌, arith}
+use Rattle.jass_base.proofs.Gaps.{length-gaps_from}
 use Rattle.jass_base.specs.Gaps.{gaps_from}
-use Rattle.codec_packed.proofs.Docs.{length-gaps_from}
 use Rattle.codec_packed.proofs.Turns.{turn, size_more, spelled_size, few_docs}
 use Rattle.codec_packed.proofs.tail.gaps_size.Goals as goal
 

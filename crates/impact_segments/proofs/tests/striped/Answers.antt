@@ -4,7 +4,8 @@ use Rattle.std.specs.Prelude.{All}
 use Rattle.std.specs.List.{AllByRecursion}
 use Rattle.std.specs.List.Sorted.{IsStrictlyIncreasing}
 use Rattle.std.proofs.lemmas.List.Elements.{recursion_from_All, All-push}
-use Rattle.index_model.proofs.Lists.{all_weaker, pairs_append, pairs_map, rising_from_pairs}
+use Rattle.shared_lemmas.proofs.Pairs.{pairs_append, pairs_map, rising_from_pairs}
+use Rattle.shared_lemmas.proofs.Lists.{all_weaker}
 use Rattle.impact_segments.specs.Pairs.{pair_docs}
 use Rattle.impact_segments.proofs.ByImpact.{rise}
 use Rattle.impact_segments.proofs.tests.striped.Goals as goal

@@ -1,9 +1,9 @@
 use Rattle.std.proofs.Common.{◌≤◌, length}
 use Rattle.std.specs.List.{AllByRecursion}
 use Rattle.std.proofs.lemmas.List.Elements.{recursion_from_All}
+use Rattle.shared_lemmas.proofs.Lists.{all_weaker}
 use Rattle.index_model.specs.Index.{SegmentData, IndexData, IsSegment, IsTerm, IsIndex}
 use Rattle.index_model.proofs.FlatOrder.{bytes_flat, numbers_flat}
-use Rattle.index_model.proofs.Lists.{all_weaker}
 use Rattle.index_model.proofs.Numbers.{HasDocuments, terms_are_texts, numbered_is}
 use Rattle.index_model.proofs.laws.the_flat_list_is_flat.Goals as goal
 

@@ -1,5 +1,6 @@
 use Rattle.std.proofs.Common.{◌≡◌, ◌+◌, ◌-◌, ◌*◌, ◌<◌, ◌≤◌, ℕ, get_or, length, arith}
-use Rattle.jass_base.proofs.GapGroups.{first_inside, one_byte, after_one, after_two, after_three, inside_at, known_at, last_small, value_small}
+use Rattle.shared_lemmas.proofs.Numbers.{value_small}
+use Rattle.jass_base.proofs.GapGroups.{first_inside, one_byte, after_one, after_two, after_three, inside_at, known_at, last_small}
 use Rattle.jass_base.proofs.gap.known_gap.Goals as goal
 
 pub bounds-bytes-at : goal.bounds-bytes-at

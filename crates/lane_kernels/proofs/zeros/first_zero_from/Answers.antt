@@ -1,5 +1,5 @@
 use Rattle.std.proofs.Common.{◌==◌, sym, eq-eqb, arith}
-use Rattle.lane_kernels.proofs.Places.{position_at, position_past}
+use Rattle.shared_lemmas.proofs.Places.{position_at, position_past}
 use Rattle.lane_kernels.proofs.zeros.first_zero_from.Goals as goal
 
 pub returns-then-slots-at-eq0 : goal.returns-then-slots-at-eq0

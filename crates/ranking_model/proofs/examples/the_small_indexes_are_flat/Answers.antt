@@ -4,12 +4,12 @@ use Rattle.std.specs.Ordering.{nat_cmp}
 use Rattle.std.specs.Cmp.Lexicographic.{slice_cmp}
 use Rattle.std.proofs.lemmas.Cmp.{nat_list_cmp_total}
 use Rattle.std.proofs.lemmas.List.Elements.{All-from_recursion}
+use Rattle.shared_lemmas.proofs.Pairs.{pairs_by_places}
 use Rattle.ranking_model.specs.declared.entry.Entry.{Entry}
 use Rattle.ranking_model.specs.Flat.{entry_cmp}
 use Rattle.ranking_model.proofs.Orders.{entry_total}
 use Rattle.ranking_model.proofs.Sorting.{sorted_ascending}
 use Rattle.ranking_model.specs.Examples.{pets, falling}
-use Rattle.ranking_model.proofs.Numbering.{pairs_from_recursion}
 use Rattle.ranking_model.proofs.examples.the_small_indexes_are_flat.Goals as goal
 
 abbrev Once : Entry (List ℕ) → Entry (List ℕ) → Type 0
@@ -22,7 +22,7 @@ pub returns-clause-pets : goal.returns-clause-pets
 returns-clause-pets c = record {
   order = sorted_ascending (entry_cmp (slice_cmp nat_cmp)) (entry_total (slice_cmp nat_cmp) nat_list_cmp_total) pets
       ((refl, (refl, (refl, (refl, tt)))), ((refl, (refl, (refl, tt))), ((refl, (refl, tt)), ((refl, tt), (tt, tt)))));
-  once = pairs_from_recursion Once pets (
+  once = pairs_by_places Once pets (
     (λ t d. absurd (omega arith), (λ t d. absurd (omega arith), (λ t d. absurd (omega arith), (λ t d. absurd (omega arith), tt)))),
     (
       (λ t d. absurd (omega arith), (λ t d. absurd (omega arith), (λ t d. absurd (let first : 99 ≡ 100 = ap (λ (l : List ℕ). get_or l 0 0) t in omega arith), tt))),
@@ -36,7 +36,7 @@ returns-clause-pets c = record {
 pub returns-clause-falling : goal.returns-clause-falling
 returns-clause-falling c = record {
   order = sorted_ascending (entry_cmp (slice_cmp nat_cmp)) (entry_total (slice_cmp nat_cmp) nat_list_cmp_total) falling ((refl, (refl, tt)), ((refl, tt), (tt, tt)));
-  once = pairs_from_recursion Once falling ((λ t d. absurd (omega arith), (λ t d. absurd (omega arith), tt)), ((λ t d. absurd (omega arith), tt), (tt, tt)));
+  once = pairs_by_places Once falling ((λ t d. absurd (omega arith), (λ t d. absurd (omega arith), tt)), ((λ t d. absurd (omega arith), tt), (tt, tt)));
   documents = All-from_recursion (λ (e : Entry (List ℕ)). e.doc < 3) falling (omega arith, (omega arith, (omega arith, tt)));
   impacts = All-from_recursion Fits falling ((omega arith, omega arith), ((omega arith, omega arith), ((omega arith, omega arith), tt)));
 }

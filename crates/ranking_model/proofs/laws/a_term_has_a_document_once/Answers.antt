@@ -1,6 +1,6 @@
+use Rattle.shared_lemmas.proofs.Pairs.{pairs_by_recursion}
 use Rattle.ranking_model.specs.Plan.{plan_of}
 use Rattle.ranking_model.proofs.Rest.{classes_once}
-use Rattle.ranking_model.proofs.Weighing.{pairs_by_recursion}
 use Rattle.ranking_model.proofs.laws.a_term_has_a_document_once.Goals as goal
 
 pub returns : goal.returns

@@ -1,4 +1,4 @@
-use Rattle.ranking_model.proofs.Weighing.{pairs_by_recursion}
+use Rattle.shared_lemmas.proofs.Pairs.{pairs_by_recursion}
 use Rattle.ranking_model.proofs.Segments.{Differ, segments_are}
 use Rattle.ranking_model.proofs.laws.segments_are_classes.Goals as goal
 

@@ -1,7 +1,8 @@
 use Rattle.std.proofs.Common.{ℕ, Bool, ◌++◌, ◌-◌, ◌*◌, ◌/◌, ◌%◌, ◌^◌, ◌<◌, set, sym, ap, List, subst, arith, ◌≡◌, ◌∙◌, length, replicate}
 use Rattle.std.specs.Prelude.{◌||◌, nat_eq, bit_or}
+use Rattle.std.proofs.lemmas.Grind.{get_or_default_zero}
 use Rattle.ciff_read.specs.Marks.{is_marked}
-use Rattle.ciff_read.proofs.Marks.{marked_behind, marked_with, any_default}
+use Rattle.ciff_read.proofs.Marks.{marked_behind, marked_with}
 use Rattle.ciff_read.proofs.Tables.{reaches_more}
 use Rattle.ciff_read.proofs.doc_set.DocSet.insert.Goals as goal
 
@@ -16,6 +17,6 @@ returns c =
     let place = c.args.doc / 64 in
     let longer = c.reaching.self.words.items in
     let inside : place < length longer = omega (arith, c.len.ensures, c.reaching-test.false) in
-    λ n. ap (λ w. is_marked (set longer place (bit_or w (1 * 2 ^ (c.args.doc % 64) % 2 ^ 64))) n) (c.index_mut.ensures.value ∙ any_default longer place c.index_mut.result.now inside)
+    λ n. ap (λ w. is_marked (set longer place (bit_or w (1 * 2 ^ (c.args.doc % 64) % 2 ^ 64))) n) (c.index_mut.ensures.value ∙ get_or_default_zero longer place c.index_mut.result.now inside)
     ∙ marked_with longer c.args.doc n inside
     ∙ ap (λ (t : Bool). nat_eq n c.args.doc || t) (ap (λ (ws : List ℕ). is_marked ws n) c.reaching.invariant.same ∙ marked_behind c.args.self.now.words.items (length longer - length c.args.self.now.words.items) n)

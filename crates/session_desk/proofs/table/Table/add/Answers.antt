@@ -2,7 +2,7 @@
 use Rattle.std.proofs.Common.{◌≡◌, ◌+◌, ◌∙◌, ap, length, refl, subst, sym, arith}
 use Rattle.std.specs.List.{AllByRecursion}
 use Rattle.jass_base.specs.declared.query.Query.{Query}
-use Rattle.index_model.proofs.Lists.{all_weaker}
+use Rattle.shared_lemmas.proofs.Lists.{all_weaker}
 use Rattle.frame_pool.specs.Pool.{IsInUse, Promises, spare_of}
 use Rattle.query_reader.specs.Queries.{query_data}
 use Rattle.ranking_model.specs.Search.{query_data as plain_data}

@@ -1,0 +1,9 @@
+pub mod Lists
+pub mod Members
+pub mod Pairs
+pub mod Places
+pub mod Rising
+pub mod Sums
+pub mod Numbers
+pub mod Bits
+pub mod Texts

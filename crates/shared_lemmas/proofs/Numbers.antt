@@ -1,0 +1,21 @@
+-- Numbers, their tests and their powers.
+use Rattle.std.proofs.Common.{◌≡◌, ◌==◌, ℕ, zero, suc, ◌+◌, ◌*◌, ◌^◌, ◌<◌, ◌≤◌, max, true, false, arith}
+use Rattle.std.proofs.lemmas.Bool.Decides.{nat_tests}
+use Rattle.std.proofs.Math.Nat.{pow-suc}
+
+pub number_itself : (n : ℕ) → (n == n) ≡ true
+number_itself n = grind (arith, nat_tests)
+
+pub numbers_apart : (m n : ℕ) → n < m → (m == n) ≡ false
+numbers_apart m n less = grind (arith, nat_tests)
+
+pub max_joins : (a b c : ℕ) → max (max a b) c ≡ max a (max b c)
+max_joins a b c = omega arith
+
+-- a digit in front of a number of groups of seven bits
+pub power_some : (k : ℕ) → 1 ≤ 128 ^ k
+power_some zero = omega arith
+power_some (suc k) = omega (arith, pow-suc 128 k, power_some k)
+
+pub value_small : (value b scale : ℕ) → value < scale → b < 128 → value + b * scale < scale * 128
+value_small value b scale below small = grind arith
