@@ -6,17 +6,17 @@ use Rattle.std.specs.Simd.Lanes.{number_l, digits_l}
 use Rattle.std.proofs.lemmas.Bool.Decides.{nat_tests}
 use Rattle.std.proofs.Math.Nat.{add-mul-div_left, add-mul-mod_self_left, mod-eq_of_lt, div-eq_of_lt, pow-succ', pow-suc, pow-zero, mul-suc, mod-add-div, mod-lt}
 use Rattle.std.proofs.lemmas.Nat.{div_below, mul-le, pow-add}
-use Rattle.codec_simple8.proofs.Tables.{both}
+use Rattle.std.proofs.lemmas.Bool.{and_parts}
 
 -- each number is below p
 abbrev pub Below : ℕ → List ℕ → Type 0
 Below p xs = list_all (λ x. nat_lt x p) xs ≡ true
 
 pub Below-head : (p x : ℕ) (xs : List ℕ) → Below p (x ∷ xs) → x < p
-Below-head p x xs all = let t = (both (nat_lt x p) (list_all (λ x. nat_lt x p) xs) all).0 in grind (arith, nat_tests)
+Below-head p x xs all = let t = (and_parts (nat_lt x p) (list_all (λ x. nat_lt x p) xs) all).0 in grind (arith, nat_tests)
 
 pub Below-tail : (p x : ℕ) (xs : List ℕ) → Below p (x ∷ xs) → Below p xs
-Below-tail p x xs all = (both (nat_lt x p) (list_all (λ x. nat_lt x p) xs) all).1
+Below-tail p x xs all = (and_parts (nat_lt x p) (list_all (λ x. nat_lt x p) xs) all).1
 
 pub Below-cons : (p x : ℕ) (xs : List ℕ) → x < p → Below p xs → Below p (x ∷ xs)
 Below-cons p x xs small all = let t : nat_lt x p ≡ true = grind (arith, nat_tests) in rw t all

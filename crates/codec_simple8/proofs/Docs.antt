@@ -6,13 +6,10 @@ use Rattle.std.proofs.lemmas.List.Folds.{list_all-append}
 use Rattle.std.specs.List.Sorted.{IsStrictlyIncreasing}
 use Rattle.std.proofs.lemmas.List.{take_at, drop_at, take-append-drop, length-take-le, length-replicate, replicate_more}
 use Rattle.std.proofs.lemmas.List.Sums.{sum_by-cons}
+use Rattle.jass_base.proofs.Gaps.{length-docs_from}
 use Rattle.jass_base.specs.Gaps.{gaps_from, docs_from}
 use Rattle.codec_simple8.specs.Simple8.{least_behind}
 use Rattle.codec_simple8.proofs.Digits.{Below, Below-head, Below-tail, Below-cons}
-
-pub length-docs : (least : ℕ) (gaps : List ℕ) → length (docs_from least gaps) ≡ length gaps
-length-docs least [] = refl
-length-docs least (gap ∷ gaps) = ap suc (length-docs (least + gap + 1) gaps)
 
 -- one gap more before the next document
 pub behind_one : (least gap : ℕ) (gaps : List ℕ) → least_behind (least + gap + 1) gaps ≡ least_behind least (gap ∷ gaps)
@@ -29,11 +26,11 @@ docs_split least n gaps = ap (docs_from least) (sym (take-append-drop n gaps)) �
 
 pub docs_first : (least n : ℕ) (gaps : List ℕ) → n ≤ length gaps → take n (docs_from least gaps) ≡ docs_from least (take n gaps)
 docs_first least n gaps within =
-    ap (take n) (docs_split least n gaps) ∙ take_at (docs_from least (take n gaps)) (docs_from (least_behind least (take n gaps)) (drop n gaps)) n (length-docs least (take n gaps) ∙ length-take-le n gaps within)
+    ap (take n) (docs_split least n gaps) ∙ take_at (docs_from least (take n gaps)) (docs_from (least_behind least (take n gaps)) (drop n gaps)) n (length-docs_from least (take n gaps) ∙ length-take-le n gaps within)
 
 pub docs_later : (least n : ℕ) (gaps : List ℕ) → n ≤ length gaps → drop n (docs_from least gaps) ≡ docs_from (least_behind least (take n gaps)) (drop n gaps)
 docs_later least n gaps within =
-    ap (drop n) (docs_split least n gaps) ∙ drop_at (docs_from least (take n gaps)) (docs_from (least_behind least (take n gaps)) (drop n gaps)) n (length-docs least (take n gaps) ∙ length-take-le n gaps within)
+    ap (drop n) (docs_split least n gaps) ∙ drop_at (docs_from least (take n gaps)) (docs_from (least_behind least (take n gaps)) (drop n gaps)) n (length-docs_from least (take n gaps) ∙ length-take-le n gaps within)
 
 -- gaps are no greater than the documents behind them
 pub docs_gaps : (p least : ℕ) (gaps : List ℕ) → Below p (docs_from least gaps) → Below p gaps
@@ -105,9 +102,3 @@ again least (doc ∷ docs) rises =
 
 pub docs_again : (docs : List ℕ) → IsStrictlyIncreasing docs → docs_from 0 (gaps_from 0 docs) ≡ docs
 docs_again docs rising = again 0 docs (rises_from 0 docs rising (λ h. omega arith))
-
-pub gaps_again : (least : ℕ) (gaps : List ℕ) → gaps_from least (docs_from least gaps) ≡ gaps
-gaps_again least [] = refl
-gaps_again least (gap ∷ gaps) =
-    let e : least + gap - least ≡ gap = omega arith in
-    rw e (ap (λ (gs : List ℕ). gap ∷ gs) (gaps_again (least + gap + 1) gaps))

@@ -6,15 +6,14 @@ use Rattle.std.proofs.lemmas.List.Sums.{sum_by-cons, sum_by-append}
 use Rattle.std.proofs.lemmas.Nat.{pow_pos, shr-shr, mul-le}
 use Rattle.std.proofs.lemmas.Simd.{take_more_put_chunk}
 use Rattle.std.proofs.Math.Nat.{mod-lt, pow-le-pow_right}
+use Rattle.shared_lemmas.proofs.Places.{same_four}
+use Rattle.jass_base.proofs.Gaps.{length-docs_from}
 use Rattle.jass_base.specs.Gaps.{docs_from}
 use Rattle.codec_simple8.specs.Simple8.{fields, least_behind}
 use Rattle.codec_simple8.proofs.Digits.{Below}
-use Rattle.codec_simple8.proofs.Docs.{behind_one, behind_below, docs_parts, length-docs}
+use Rattle.codec_simple8.proofs.Docs.{behind_one, behind_below, docs_parts}
 use Rattle.codec_simple8.proofs.Fields.{fields_one, length-fields, masked}
 use lib.Lanes.{zip2, put_chunk}
-
-pub same_four : {a b c d a' b' c' d' : ℕ} → a ≡ a' → b ≡ b' → c ≡ c' → d ≡ d' → (let x : List ℕ = a ∷ b ∷ c ∷ d ∷ [] in x) ≡ a' ∷ b' ∷ c' ∷ d' ∷ []
-same_four e f g h = cc
 
 pub same_two : {a b a' b' : ℕ} → a ≡ a' → b ≡ b' → (let x : List ℕ = a ∷ b ∷ [] in x) ≡ a' ∷ b' ∷ []
 same_two e f = cc
@@ -170,7 +169,7 @@ fours_all w m n k c count filled values least pair first old out none are place 
     let parts : docs_from least (fields w n values) ≡ docs_from least (fields w count values) ++ docs_from (least_behind least (fields w count values)) x.values =
     ap (λ n. docs_from least (fields w n values)) are ∙ ap (docs_from least) x.parts ∙ docs_parts least (fields w count values) x.values in
     let long : length (take filled old ++ docs_from least (fields w count values)) ≡ filled + count =
-    omega (arith, length-append (take filled old) (docs_from least (fields w count values)), length-take-le filled old within, length-docs least (fields w count values), length-fields w count values) in
+    omega (arith, length-append (take filled old) (docs_from least (fields w count values)), length-take-le filled old within, length-docs_from least (fields w count values), length-fields w count values) in
     sym (take-take (filled + count) k out (omega (arith, are, place)))
     ∙ ap (take (filled + count)) (front ∙ ap (λ (docs : List ℕ). take filled old ++ docs) parts
     ∙ sym (append_assoc (take filled old) (docs_from least (fields w count values)) (docs_from (least_behind least (fields w count values)) x.values)))

@@ -1,9 +1,10 @@
 -- Lists of documents and lists of their gaps.
 use Rattle.std.proofs.Common.{◌≡◌, ℕ, zero, suc, ◌+◌, ◌-◌, ◌^◌, ◌<◌, ◌≤◌, List, [], ◌∷◌, length, drop, refl, ap, ◌∙◌, arith}
 use Rattle.std.specs.Prelude.{All, slice_index}
-use Rattle.std.specs.List.Sorted.{IsStrictlyIncreasing}
 use Rattle.std.proofs.lemmas.List.{length-drop}
 use Rattle.std.proofs.lemmas.List.Elements.{All-head, All-tail, All-nil, All-cons}
+use Rattle.shared_lemmas.proofs.Rising.{place_below}
+use Rattle.jass_base.proofs.Gaps.{length-gaps_from}
 use Rattle.jass_base.specs.Gaps.{AreDocs, gaps_of, gaps_from}
 use Rattle.codec_simple8.proofs.Digits.{Below, Below-head, Below-tail, Below-cons}
 
@@ -17,10 +18,6 @@ later least (x ∷ y ∷ docs) (suc k) within = later (x + 1) (y ∷ docs) k (om
 pub later_gap : (least : ℕ) (docs : List ℕ) (at : ℕ) → 0 < at → at < length docs → slice_index (gaps_from least docs) at ≡ slice_index docs at - slice_index docs (at - 1) - 1
 later_gap least docs zero some within = absurd (omega arith)
 later_gap least docs (suc k) some within = let e : suc k - 1 ≡ k = omega arith in rw e (later least docs k within)
-
-pub length-gaps : (least : ℕ) (docs : List ℕ) → length (gaps_from least docs) ≡ length docs
-length-gaps least [] = refl
-length-gaps least (x ∷ docs) = ap suc (length-gaps (x + 1) docs)
 
 -- documents below a number have gaps below it
 pub gaps_below : (p least : ℕ) (docs : List ℕ) → Below p docs → Below p (gaps_from least docs)
@@ -41,22 +38,12 @@ Below-drop p (suc n) (x ∷ xs) all = Below-drop p n xs (Below-tail p x xs all)
 
 -- the gaps that are left are as many as the documents
 pub left_length : (docs : List ℕ) (at : ℕ) → length (drop at (gaps_of docs)) ≡ length docs - at
-left_length docs at = length-drop at (gaps_of docs) ∙ ap (λ n. n - at) (length-gaps 0 docs)
-
--- a document is at least its place
-places : (docs : List ℕ) → IsStrictlyIncreasing docs → (k : ℕ) → k < length docs → k ≤ slice_index docs k
-places docs rising zero within = omega arith
-places docs rising (suc k) within =
-    let before = places docs rising k (omega arith) in
-    let step : slice_index docs k < slice_index docs (k + 1) = rising k (omega arith) in
-    let here : k + 1 ≡ suc k = omega arith in
-    let step' : slice_index docs k < slice_index docs (suc k) = rw here at step in
-    omega (arith, before, step')
+left_length docs at = length-drop at (gaps_of docs) ∙ ap (λ n. n - at) (length-gaps_from 0 docs)
 
 -- and so there are no more than below their limit
 pub docs_few : (d : ℕ) (docs : List ℕ) → AreDocs d docs → length docs ≤ 2 ^ 26
 docs_few d docs are =
-    let last = places docs are.rising (length docs - 1) (omega (arith, are.some)) in
+    let last = place_below docs (length docs - 1) are.rising (omega (arith, are.some)) in
     let below = are.below (length docs - 1) 0 (omega (arith, are.some)) in
     omega (arith, last, below, are.limit, are.some)
 

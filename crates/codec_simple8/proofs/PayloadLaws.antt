@@ -7,13 +7,15 @@ use Rattle.std.proofs.lemmas.Bool.Decides.{nat_tests}
 use Rattle.std.proofs.lemmas.List.{length-take-le, length-drop, take-append-drop, nil_from_length}
 use Rattle.std.proofs.lemmas.List.Sums.{sum_by-take-le, sum_by-take-drop}
 use Rattle.std.proofs.lemmas.Slice.Eq.{bytes_eq-Decides}
+use Rattle.jass_base.proofs.GapSpelling.{bound}
+use Rattle.jass_base.proofs.Gaps.{length-docs_from, gaps_again, length-gaps_from}
 use Rattle.jass_base.specs.Gaps.{AreDocs, gaps_of, gaps_from, docs_from, ◌>>=◌}
 use Rattle.jass_base.specs.declared.payload_fault.PayloadFault.TheVariants.{Shape}
 use Rattle.codec_simple8.specs.Simple8.{count_of, gaps_in, word_in, least_behind, read_words, read_simple8, spelled_words, simple8_of}
 use Rattle.codec_simple8.proofs.Digits.{Below}
-use Rattle.codec_simple8.proofs.Docs.{behind_below, docs_again, gaps_again, length-docs}
-use Rattle.codec_simple8.proofs.GapLists.{below_from_All, All-from_below, docs_gaps_below, length-gaps, Below-drop}
-use Rattle.codec_simple8.proofs.Reading.{Read, read_one, read_end, nothing_more, behind_first, with_front, word_ok, bound, if_ok, ok_same, words_read}
+use Rattle.codec_simple8.proofs.Docs.{behind_below, docs_again}
+use Rattle.codec_simple8.proofs.GapLists.{below_from_All, All-from_below, docs_gaps_below, Below-drop}
+use Rattle.codec_simple8.proofs.Reading.{Read, read_one, read_end, nothing_more, behind_first, with_front, word_ok, if_ok, ok_same, words_read}
 use Rattle.codec_simple8.proofs.Tables.{count_some}
 use Rattle.codec_simple8.proofs.Words.{front_word, no_words}
 
@@ -51,7 +53,7 @@ payload_read d count docs bytes are long is =
     let again = docs_again docs are.rising in
     let below : Below d (docs_from 0 (gaps_of docs)) = subst (Below d) (sym again) (below_from_All d d docs (omega arith) are.below) in
     let low = behind_below d 0 (gaps_of docs) (omega arith) below in
-    let read = spelled_read count d 0 count (gaps_of docs) bytes is (length-gaps 0 docs ∙ long) (omega arith) (docs_gaps_below d docs are) low in
+    let read = spelled_read count d 0 count (gaps_of docs) bytes is (length-gaps_from 0 docs ∙ long) (omega arith) (docs_gaps_below d docs are) low in
     let same : bytes_eq bytes (spelled_words (gaps_of docs)) ≡ true = (bytes_eq-Decides bytes (spelled_words (gaps_of docs))).1 is in
     rw read (rw (same, again) refl)
 
@@ -64,7 +66,7 @@ docs_rise least (gap ∷ next ∷ gaps) zero within = omega arith
 docs_rise least (gap ∷ next ∷ gaps) (suc k) within = docs_rise (least + gap + 1) (next ∷ gaps) k (omega arith)
 
 docs_rising : (least : ℕ) (gaps : List ℕ) → IsStrictlyIncreasing (docs_from least gaps)
-docs_rising least gaps = λ k within. let e : k + 1 ≡ suc k = omega arith in rw e (docs_rise least gaps k (omega (arith, within, length-docs least gaps)))
+docs_rising least gaps = λ k within. let e : k + 1 ≡ suc k = omega arith in rw e (docs_rise least gaps k (omega (arith, within, length-docs_from least gaps)))
 
 pub read_payload : (d count : ℕ) (docs bytes : List ℕ) → 1 ≤ count → d ≤ 2 ^ 26 → read_simple8 d count bytes ≡ Ok docs → AreDocs d docs × (length docs ≡ count) × (bytes ≡ simple8_of docs)
 unfolding read_simple8
@@ -75,7 +77,7 @@ read_payload d count docs bytes some limit is =
     let t = if_ok (bytes_eq bytes (spelled_words x.0)) (Ok (docs_from 0 x.0)) Shape docs x.2 in
     let same = ok_same (docs_from 0 x.0) docs t.1 in
     let spelled : bytes ≡ spelled_words x.0 = (bytes_eq-Decides bytes (spelled_words x.0)).0 t.0 in
-    let long : length docs ≡ count = ap length (sym same) ∙ length-docs 0 x.0 ∙ r.count in
+    let long : length docs ≡ count = ap length (sym same) ∙ length-docs_from 0 x.0 ∙ r.count in
     let again : gaps_of docs ≡ x.0 = ap (gaps_from 0) (sym same) ∙ gaps_again 0 x.0 in (
       record {
         some = omega (arith, long, some);

@@ -4,6 +4,7 @@ use Rattle.std.specs.Prelude.{All, nat_eq, nat_lt, sum}
 use Rattle.std.specs.List.{list_all}
 use Rattle.std.proofs.lemmas.Bool.Decides.{nat_tests}
 use Rattle.std.proofs.lemmas.List.{length-drop, drop-drop}
+use Rattle.jass_base.proofs.GapSpelling.{bound}
 use Rattle.jass_base.specs.Gaps.{docs_from, ◌>>=◌}
 use Rattle.jass_base.specs.declared.payload_fault.PayloadFault.{PayloadFault}
 use Rattle.jass_base.specs.declared.payload_fault.PayloadFault.TheVariants.{Cut, Longer, Shape, DocRange}
@@ -140,10 +141,6 @@ pub least_after : (least : ℕ) (bytes : List ℕ) (word total gaps : ℕ) → w
 least_after least bytes word total gaps is sum_is many = ap (λ n. least + (total + n)) many ∙ word_behind least word total sum_is ∙ ap (λ word. least_behind least (gaps_in word)) is
 
 -- ---- what was read
-
-pub bound : {A B : Type 0} (r : Result A PayloadFault) (f : A → Result B PayloadFault) (y : B) → (r >>= f) ≡ Ok y → (x : A) × (r ≡ Ok x) × (f x ≡ Ok y)
-bound (Ok x) f y is = (x, refl, is)
-bound (Err why) f y is = absurd cc
 
 pub if_ok : (test : Bool) (r : Read) (why : PayloadFault) (y : List ℕ) → cond test r (Err why) ≡ Ok y → (test ≡ true) × (r ≡ Ok y)
 if_ok true r why y is = (refl, is)

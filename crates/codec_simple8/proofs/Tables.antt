@@ -1,22 +1,19 @@
 -- What holds of each of the 16 selectors.
 use Rattle.std.proofs.Common.{◌≡◌, ℕ, zero, suc, ◌+◌, ◌*◌, ◌<◌, ◌≤◌, Bool, true, false, refl, arith}
-use Rattle.std.specs.Prelude.{nat_eq, nat_lt, nat_le, ◌&&◌, ◌||◌}
+use Rattle.std.specs.Prelude.{nat_eq, nat_lt, nat_le, ◌||◌}
 use Rattle.std.specs.List.{list_all, range_with_len}
 use Rattle.std.proofs.lemmas.Bool.Decides.{nat_tests}
+use Rattle.std.proofs.lemmas.Bool.{and_parts}
 use Rattle.codec_simple8.specs.Simple8.{count_of, width_of}
-
-pub both : (a b : Bool) → (a && b) ≡ true → (a ≡ true) × (b ≡ true)
-both true b is = (refl, is)
-both false b is = absurd cc
 
 each_from : (p : ℕ → Bool) (n a : ℕ) → list_all p (range_with_len a n) ≡ true → (k : ℕ) → k < n → p (a + k) ≡ true
 each_from p zero a all k within = absurd (omega arith)
 each_from p (suc n) a all zero within =
     let here : a + 0 ≡ a = omega arith in
-    rw here (both (p a) (list_all p (range_with_len (a + 1) n)) all).0
+    rw here (and_parts (p a) (list_all p (range_with_len (a + 1) n)) all).0
 each_from p (suc n) a all (suc k) within =
     let there : a + suc k ≡ a + 1 + k = omega arith in
-    rw there (each_from p n (a + 1) (both (p a) (list_all p (range_with_len (a + 1) n)) all).1 k (omega arith))
+    rw there (each_from p n (a + 1) (and_parts (p a) (list_all p (range_with_len (a + 1) n)) all).1 k (omega arith))
 
 -- a test that each selector passes
 pub at_each : (p : ℕ → Bool) (n : ℕ) → list_all p (range_with_len 0 n) ≡ true → (s : ℕ) → s < n → p s ≡ true

@@ -1,120 +1,124 @@
--- Trying the selectors from the least one on, while the gaps are passed over once.
-use Rattle.std.proofs.Common.{◌≡◌, ℕ, zero, suc, ◌+◌, ◌-◌, ◌^◌, ◌<◌, ◌≤◌, true, false, List, [], ◌∷◌, length, take, get_or, ◌⊎◌, ◌≢◌, inl, inr, refl, sym, ap, subst, ◌∙◌, arith}
-use Rattle.std.specs.Prelude.{nat_lt, nat_le, slice_index}
-use Rattle.std.proofs.lemmas.Bool.{cases_eq}
+-- Passing over gaps while they fit into words together.
+use Rattle.std.proofs.Common.{◌≡◌, ℕ, zero, suc, ◌+◌, ◌^◌, ◌<◌, ◌≤◌, true, false, List, [], ◌∷◌, length, take, get_or, bit_or, ◌⊎◌, inl, inr, refl, sym, ap, subst, ◌∙◌, arith}
+use Rattle.std.specs.Prelude.{nat_lt, nat_le, ◌&&◌}
+use Rattle.std.specs.List.{list_all}
+use Rattle.std.proofs.lemmas.Bool.{cases_lt}
 use Rattle.std.proofs.lemmas.Bool.Decides.{nat_tests}
-use Rattle.std.proofs.lemmas.List.{get_or-take, length-take, take-take}
-use Rattle.std.proofs.lemmas.List.Folds.{list_all_more, list_all_at}
-use Rattle.std.proofs.Math.Nat.{pow-le-pow_right}
-use Rattle.std.specs.List.Sorted.{IsStrictlyIncreasing}
-use Rattle.jass_base.specs.Gaps.{gaps_of}
+use Rattle.std.proofs.lemmas.List.{take-take}
+use Rattle.std.proofs.lemmas.List.Folds.{list_all_more}
+use Rattle.std.proofs.lemmas.Nat.{or_lt, le_or_l, le_or_r}
 use Rattle.codec_simple8.specs.Simple8.{count_of, width_of, takes, selector_of}
-use Rattle.codec_simple8.specs.Words.{Follows}
-use Rattle.codec_simple8.proofs.GapLists.{later_gap}
-use Rattle.codec_simple8.proofs.Digits.{Below, Below-head, Below-tail, Below-cons, Below-wider}
-use Rattle.codec_simple8.proofs.Selectors.{selector_is, last_takes}
-use Rattle.codec_simple8.proofs.Tables.{count_some, count_most, count_falls, width_rises}
+use Rattle.codec_simple8.proofs.Digits.{Below, Below-head, Below-tail, Below-cons}
+use Rattle.codec_simple8.proofs.Selectors.{one_of, Either, selector_is}
+use Rattle.codec_simple8.proofs.Tables.{last_only, last_width}
+use Rattle.codec_simple8.proofs.Words.{takes_enough, takes_narrow}
 
--- lesser selectors don't take the gaps, and the first `seen` gaps are no wider than this one's width
-pub record Tried (gaps : List ℕ) (selector seen : ℕ) : Type 0 where
-  pub small : selector < 16
-  pub few : seen ≤ 240
-  pub narrow : Below (2 ^ width_of selector) (take seen gaps)
-  pub none : (r : ℕ) → r < selector → takes r gaps ≡ false
-  pub room : 0 < seen → count_of selector ≤ length gaps
-
-pub tried_none : (gaps : List ℕ) → Tried gaps 0 0
-tried_none gaps = record { small = omega arith; few = omega arith; narrow = refl; none = λ r h. absurd (omega arith); room = λ h. absurd (omega arith) }
-
--- one gap more
-pub tried_gap : (gaps : List ℕ) (selector seen : ℕ) → Tried gaps selector seen → seen < count_of selector → count_of selector ≤ length gaps
-    → nat_lt (get_or gaps seen 0) (2 ^ width_of selector) ≡ true → Tried gaps selector (seen + 1)
-tried_gap gaps selector seen t more room fits = record {
-  small = t.small;
-  few = omega (arith, count_most selector t.small);
-  narrow = list_all_more (λ gap. nat_lt gap (2 ^ width_of selector)) gaps seen 0 (omega arith) ∙ rw (t.narrow, fits) refl;
-  none = t.none;
-  room = λ h. room;
-}
-
--- one selector more
-pub tried_selector : (gaps : List ℕ) (selector seen : ℕ) → Tried gaps selector seen → 0 < length gaps → Below (2 ^ 26) gaps → takes selector gaps ≡ false → Tried gaps (selector + 1) seen
-tried_selector [] selector seen t some below fails = absurd (omega arith)
-tried_selector (gap ∷ gaps) selector seen t some below fails =
-    let less : selector < 15 = go (cases_eq selector 15) in
-    let two : 0 < 2 = omega arith in
-    record {
-      small = omega arith;
-      few = t.few;
-      narrow = Below-wider (2 ^ width_of selector) (2 ^ width_of (selector + 1)) (take seen (gap ∷ gaps)) (pow-le-pow_right two (width_rises selector less)) t.narrow;
-      none = λ r h. earlier r h (cases_eq r selector);
-      room = λ h. omega (arith, t.room h, count_falls selector less);
-    }
-  where
-    go : (selector ≡ 15) ⊎ (selector ≢ 15) → selector < 15
-    go (inl last) = let taken : takes selector (gap ∷ gaps) ≡ true = ap (λ s. takes s (gap ∷ gaps)) last ∙ last_takes gap gaps below in absurd cc
-    go (inr apart) = omega (arith, apart, t.small)
-
-    earlier : (r : ℕ) → r < selector + 1 → (r ≡ selector) ⊎ (r ≢ selector) → takes r (gap ∷ gaps) ≡ false
-    earlier r h (inl same) = ap (λ s. takes s (gap ∷ gaps)) same ∙ fails
-    earlier r h (inr apart) = t.none r (omega (arith, apart))
-
--- a selector fails where there are too few gaps, and at a gap that is too wide
+-- a selector fails where there are too few gaps
 pub fails_few : (gaps : List ℕ) (selector : ℕ) → length gaps < count_of selector → takes selector gaps ≡ false
 fails_few gaps selector few = let t : nat_le (count_of selector) (length gaps) ≡ false = grind (arith, nat_tests) in rw t refl
-
-pub fails_wide : (gaps : List ℕ) (selector seen : ℕ) → seen < count_of selector → count_of selector ≤ length gaps
-    → nat_lt (get_or gaps seen 0) (2 ^ width_of selector) ≡ false → takes selector gaps ≡ false
-fails_wide gaps selector seen more room wide =
-    let within : seen < length (take (count_of selector) gaps) = omega (arith, length-take (count_of selector) gaps) in
-    let here : nat_lt (get_or (take (count_of selector) gaps) seen 0) (2 ^ width_of selector) ≡ false = ap (λ gap. nat_lt gap (2 ^ width_of selector)) (get_or-take (count_of selector) gaps seen 0 more) ∙ wide in
-    let none = list_all_at (λ gap. nat_lt gap (2 ^ width_of selector)) (take (count_of selector) gaps) seen 0 within here in
-    let enough : nat_le (count_of selector) (length gaps) ≡ true = grind (arith, nat_tests) in
-    rw (enough, none) refl
 
 pub Below-take : (p n : ℕ) (xs : List ℕ) → Below p xs → Below p (take n xs)
 Below-take p zero xs all = refl
 Below-take p (suc n) [] all = refl
 Below-take p (suc n) (x ∷ xs) all = Below-cons p x (take n xs) (Below-head p x xs all) (Below-take p n xs (Below-tail p x xs all))
 
--- the end
-pub tried_all : (gaps : List ℕ) (selector seen : ℕ) → Tried gaps selector seen → count_of selector ≤ seen → (selector ≡ selector_of gaps) × (count_of selector ≤ length gaps)
-tried_all gaps selector seen t all =
-    let room = t.room (omega (arith, count_some selector t.small)) in
-    let enough : nat_le (count_of selector) (length gaps) ≡ true = grind (arith, nat_tests) in
-    let narrow : Below (2 ^ width_of selector) (take (count_of selector) gaps) =
-    subst (Below (2 ^ width_of selector)) (take-take (count_of selector) seen gaps all) (Below-take (2 ^ width_of selector) (count_of selector) (take seen gaps) t.narrow) in
-    let taken : takes selector gaps ≡ true = rw (enough, narrow) refl in
-    (sym (selector_is selector gaps taken t.small t.none), room)
+pub Below-fewer : (p m n : ℕ) (xs : List ℕ) → m ≤ n → Below p (take n xs) → Below p (take m xs)
+Below-fewer p m n xs fewer all = subst (Below p) (take-take m n xs fewer) (Below-take p m (take n xs) all)
 
--- ---- the gap of a document
+-- a width holds these bits exactly where it holds each of the first `seen` gaps
+abbrev pub Joined : List ℕ → ℕ → ℕ → Type 0
+Joined gaps seen bits = (w : ℕ) → list_all (λ gap. nat_lt gap (2 ^ w)) (take seen gaps) ≡ nat_lt bits (2 ^ w)
 
-rises : (docs : List ℕ) → IsStrictlyIncreasing docs → (at : ℕ) → 0 < at → at < length docs → slice_index docs (at - 1) + 1 ≤ slice_index docs at
-rises docs rising zero some within = absurd (omega arith)
-rises docs rising (suc k) some within =
-    let step : slice_index docs k < slice_index docs (k + 1) = rising k (omega (arith, within)) in
-    let here : k + 1 ≡ suc k = omega arith in
-    let there : suc k - 1 ≡ k = omega arith in
-    let step' : slice_index docs k < slice_index docs (suc k) = rw here at step in
-    rw there (omega (arith, step'))
+-- the gaps that were seen fit together into each word that has no more
+pub record Fitting (gaps : List ℕ) (seen bits : ℕ) : Type 0 where
+  pub joined : Joined gaps seen bits
+  pub fit : (s : ℕ) → s < 16 → count_of s ≤ seen → bits < 2 ^ width_of s
 
-pub record Gap (docs : List ℕ) (at least : ℕ) : Type 0 where
-  pub low : least ≤ slice_index docs at
-  pub gap : slice_index docs at - least ≡ slice_index (gaps_of docs) at
+no_gaps_more : (a b p : ℕ) (w : ℕ) → p ≡ 2 ^ w → nat_lt (bit_or a b) p ≡ (nat_lt a p && nat_lt b p)
+no_gaps_more a b p w is = go (cases_lt a p) (cases_lt b p)
+  where
+    go : (a < p) ⊎ (p ≤ a) → (b < p) ⊎ (p ≤ b) → nat_lt (bit_or a b) p ≡ (nat_lt a p && nat_lt b p)
+    go (inl less) (inl less') =
+        let both : bit_or a b < p = subst (λ q. bit_or a b < q) (sym is) (or_lt w a b (omega (arith, less, is)) (omega (arith, less', is))) in
+        let t : nat_lt (bit_or a b) p ≡ true = grind (arith, nat_tests) in
+        let u : nat_lt a p ≡ true = grind (arith, nat_tests) in
+        let v : nat_lt b p ≡ true = grind (arith, nat_tests) in
+        rw (t, u, v) refl
+    go (inr more) other =
+        let most = le_or_l a b in
+        let t : nat_lt (bit_or a b) p ≡ false = grind (arith, nat_tests) in
+        let u : nat_lt a p ≡ false = grind (arith, nat_tests) in
+        rw (t, u) refl
+    go (inl less) (inr more) =
+        let most = le_or_r a b in
+        let t : nat_lt (bit_or a b) p ≡ false = grind (arith, nat_tests) in
+        let u : nat_lt a p ≡ true = grind (arith, nat_tests) in
+        let v : nat_lt b p ≡ false = grind (arith, nat_tests) in
+        rw (t, u, v) refl
 
-pub gap_above : (docs : List ℕ) (at least : ℕ) → IsStrictlyIncreasing docs → at < length docs → Follows docs at least → Gap docs at least
-gap_above [] at least rising within f = absurd (omega arith)
-gap_above (doc ∷ docs) zero least rising within f =
-    let none = f.first refl in
-    record { low = omega (arith, none); gap = omega (arith, none) }
-gap_above (doc ∷ docs) (suc k) least rising within f =
-    let is = f.later (omega arith) in
-    let step = rises (doc ∷ docs) rising (suc k) (omega arith) within in
-    record { low = omega (arith, is, step); gap = omega (arith, is, later_gap 0 (doc ∷ docs) (suc k) (omega arith) within) }
+-- one gap more
+pub joined_more : (gaps : List ℕ) (seen bits gap : ℕ) → seen < length gaps → gap ≡ get_or gaps seen 0 → Joined gaps seen bits → Joined gaps (seen + 1) (bit_or bits gap)
+joined_more gaps seen bits gap within is joined = λ w.
+    list_all_more (λ gap. nat_lt gap (2 ^ w)) gaps seen 0 within
+    ∙ rw (joined w, sym is) (sym (no_gaps_more bits gap (2 ^ w) w refl))
 
--- behind a document
-pub follows : (docs : List ℕ) (at next : ℕ) → next ≡ at + 1 → Follows docs next (slice_index docs at + 1)
-follows docs at next is = record {
-  first = λ none. absurd (omega (arith, none, is));
-  later = λ some. ap (λ k. slice_index docs k + 1) (let e : at ≡ next - 1 = omega (arith, is) in e);
-}
+pub joined_first : (gaps : List ℕ) (gap : ℕ) → 0 < length gaps → gap ≡ get_or gaps 0 0 → Joined gaps 1 gap
+joined_first [] gap some is = absurd (omega arith)
+joined_first (x ∷ gaps) gap some is = λ w. go (2 ^ w) (cases_lt gap (2 ^ w))
+  where
+    go : (p : ℕ) → (gap < p) ⊎ (p ≤ gap) → list_all (λ gap. nat_lt gap p) (take 1 (x ∷ gaps)) ≡ nat_lt gap p
+    go p (inl less) =
+        let t : nat_lt x p ≡ true = grind (arith, nat_tests, is) in
+        let u : nat_lt gap p ≡ true = grind (arith, nat_tests) in
+        rw (t, u) refl
+    go p (inr more) =
+        let t : nat_lt x p ≡ false = grind (arith, nat_tests, is) in
+        let u : nat_lt gap p ≡ false = grind (arith, nat_tests) in
+        rw (t, u) refl
+
+-- a selector whose word has no more gaps than fit together takes the gaps
+pub fit_taken : (gaps : List ℕ) (seen bits s : ℕ) → Fitting gaps seen bits → seen ≤ length gaps → s < 16 → count_of s ≤ seen → takes s gaps ≡ true
+fit_taken gaps seen bits s fitting within small few =
+    let fits = fitting.fit s small few in
+    let t : nat_lt bits (2 ^ width_of s) ≡ true = grind (arith, nat_tests) in
+    let narrow : Below (2 ^ width_of s) (take (count_of s) gaps) = Below-fewer (2 ^ width_of s) (count_of s) seen gaps few (fitting.joined (width_of s) ∙ t) in
+    let enough : nat_le (count_of s) (length gaps) ≡ true = grind (arith, nat_tests) in
+    rw (enough, narrow) refl
+
+-- and one whose word has a gap more than fit together doesn't
+pub past_fails : (gaps : List ℕ) (seen bits s : ℕ) → Joined gaps seen bits → seen ≤ count_of s → 2 ^ width_of s ≤ bits → takes s gaps ≡ false
+past_fails gaps seen bits s joined more wide = go (one_of (takes s gaps))
+  where
+    go : Either (takes s gaps) → takes s gaps ≡ false
+    go (inr fails) = fails
+    go (inl taken) =
+        let narrow = Below-fewer (2 ^ width_of s) seen (count_of s) gaps more (takes_narrow s gaps taken) in
+        let t : nat_lt bits (2 ^ width_of s) ≡ true = sym (joined (width_of s)) ∙ narrow in
+        let u : nat_lt bits (2 ^ width_of s) ≡ false = grind (arith, nat_tests) in
+        absurd cc
+
+-- where passing over the gaps ends, a selector takes them exactly where its word has no more
+pub ends : (gaps : List ℕ) (seen bits : ℕ) → Fitting gaps seen bits → seen ≤ length gaps → ((s : ℕ) → s < 16 → seen < count_of s → takes s gaps ≡ false)
+    → (s : ℕ) → s < 16 → takes s gaps ≡ nat_le (count_of s) seen
+ends gaps seen bits fitting within fail s small = go (cases_lt seen (count_of s))
+  where
+    go : (seen < count_of s) ⊎ (count_of s ≤ seen) → takes s gaps ≡ nat_le (count_of s) seen
+    go (inl more) = let t : nat_le (count_of s) seen ≡ false = grind (arith, nat_tests) in fail s small more ∙ sym t
+    go (inr few) = let t : nat_le (count_of s) seen ≡ true = grind (arith, nat_tests) in fit_taken gaps seen bits s fitting within small few ∙ sym t
+
+-- the least selector whose word has no more gaps than fit
+pub least_is : (gaps : List ℕ) (seen selector : ℕ) → ((s : ℕ) → s < 16 → takes s gaps ≡ nat_le (count_of s) seen) → selector < 16 → count_of selector ≤ seen
+    → ((s : ℕ) → s < selector → seen < count_of s) → (selector ≡ selector_of gaps) × (count_of selector ≤ length gaps)
+least_is gaps seen selector exact small few least =
+    let t : nat_le (count_of selector) seen ≡ true = grind (arith, nat_tests) in
+    let taken : takes selector gaps ≡ true = exact selector small ∙ t in
+    (sym (selector_is selector gaps taken small (λ r h. lesser r h (least r h))), takes_enough selector gaps taken)
+  where
+    lesser : (r : ℕ) → r < selector → seen < count_of r → takes r gaps ≡ false
+    lesser r less more = let t : nat_le (count_of r) seen ≡ false = grind (arith, nat_tests) in exact r (omega (arith, less, small)) ∙ t
+
+-- a first gap fits into each word that has no other
+pub first_fits : (gap s : ℕ) → s < 16 → count_of s ≤ 1 → gap < 2 ^ 26 → gap < 2 ^ width_of s
+first_fits gap s small one below =
+    let width : 2 ^ width_of s ≡ 2 ^ 60 = ap (λ s. 2 ^ width_of s) (last_only s small one) ∙ ap (λ w. 2 ^ w) last_width in
+    omega (arith, width)

@@ -5,7 +5,7 @@ use Rattle.std.specs.Int.{w64, to_le_bytes}
 use Rattle.std.specs.List.{list_all}
 use Rattle.std.specs.Simd.Lanes.{number_l}
 use Rattle.std.specs.Str.{bytes_eq}
-use Rattle.std.proofs.lemmas.Bool.{cases_eq, cases_lt}
+use Rattle.std.proofs.lemmas.Bool.{cases_eq, cases_lt, and_parts}
 use Rattle.std.proofs.lemmas.Bool.Decides.{nat_tests}
 use Rattle.std.proofs.lemmas.List.{length-drop, length-take-le, length-take, take_at, drop_at, take-append-drop, get_or-take, get_or_past, take-take, take_all, take-append-le, nil_from_length}
 use Rattle.std.proofs.lemmas.List.Folds.{list_all-append}
@@ -14,13 +14,14 @@ use Rattle.std.proofs.lemmas.List.Elements.{All-drop}
 use Rattle.std.proofs.lemmas.Nat.{le_bytes_8, pow_pos}
 use Rattle.std.proofs.lemmas.Slice.Eq.{bytes_eq-Decides}
 use Rattle.std.proofs.Math.Nat.{mod-lt, mod-add-div, pow-le-pow_right}
+use Rattle.std.proofs.Math.Bool.{or-true}
 use Rattle.codec_simple8.specs.Simple8.{count_of, width_of, takes, selector_of, word_of, fields, gaps_in, word_in, spelled_words}
 use Rattle.codec_simple8.specs.Words.{words_gaps, bytes_gaps, AreWords, spells_them}
 use Rattle.codec_simple8.proofs.Digits.{Below, Below-wider, number_below, digits_below, number_digits, power_of_power}
 use Rattle.codec_simple8.proofs.Fields.{length-fields, nothing_above}
 use Rattle.codec_simple8.proofs.GapLists.{below_from_All}
 use Rattle.codec_simple8.proofs.Selectors.{Either, one_of, selector_is, selector_small, selector_takes, none_lesser}
-use Rattle.codec_simple8.proofs.Tables.{both, count_falls, count_some, width_rises}
+use Rattle.codec_simple8.proofs.Tables.{count_falls, count_some, width_rises}
 use Rattle.codec_simple8.proofs.Trying.{Below-take}
 use Rattle.codec_simple8.proofs.Words.{takes_enough, takes_narrow, word_low, word_high, word_fits, word_read, word_rest, one_word, no_words}
 
@@ -111,7 +112,7 @@ record Spells (word : ℕ) (gaps : List ℕ) : Type 0 where
 spells : (word : ℕ) (gaps : List ℕ) → spells_them word gaps ≡ true → Spells word gaps
 unfolding spells_them
 spells word gaps is =
-    let t = both (nat_lt (word / 16) (2 ^ (width_of (word % 16) * count_of (word % 16)))) (nat_eq (word % 16) 0 || not (takes (word % 16 - 1) gaps)) is in
+    let t = and_parts (nat_lt (word / 16) (2 ^ (width_of (word % 16) * count_of (word % 16)))) (nat_eq (word % 16) 0 || not (takes (word % 16 - 1) gaps)) is in
     let low = t.0 in
     record { used = grind (arith, nat_tests); least = go (nat_eq (word % 16) 0) refl (takes (word % 16 - 1) gaps) refl t.1 }
   where
@@ -119,10 +120,6 @@ spells word gaps is =
     go true zero_is t is all = inl (grind (arith, nat_tests))
     go false zero_is true is all = absurd cc
     go false zero_is false is all = inr is
-
-or_true : (b : Bool) → (b || true) ≡ true
-or_true true = refl
-or_true false = refl
 
 spells_again : (word : ℕ) (gaps : List ℕ) → Spells word gaps → spells_them word gaps ≡ true
 unfolding spells_them
@@ -137,7 +134,7 @@ spells_again word gaps sp = go sp.least
     go (inr fails) =
         let used = sp.used in
         let t : nat_lt (word / 16) (2 ^ (width_of (word % 16) * count_of (word % 16))) ≡ true = grind (arith, nat_tests) in
-        rw (t, fails) (or_true (nat_eq (word % 16) 0))
+        rw (t, fails) (or-true (nat_eq (word % 16) 0))
 
 values_used : (s : ℕ) (gaps : List ℕ) → s < 16 → takes s gaps ≡ true → word_of s gaps / 16 < 2 ^ (width_of s * count_of s)
 values_used s gaps small taken =

@@ -1,5 +1,5 @@
 -- A word in the making, and the words that are left.
-use Rattle.std.proofs.Common.{◌≡◌, ℕ, zero, suc, ◌+◌, ◌*◌, ◌-◌, ◌%◌, ◌^◌, ◌<◌, ◌≤◌, true, List, [], ◌∷◌, ◌++◌, length, take, drop, get_or, bit_or, sym, ap, subst, ◌∙◌, arith}
+use Rattle.std.proofs.Common.{◌≡◌, ℕ, zero, suc, ◌+◌, ◌*◌, ◌-◌, ◌%◌, ◌^◌, ◌<◌, ◌≤◌, true, List, [], ◌∷◌, ◌++◌, length, take, drop, get_or, bit_or, refl, sym, ap, subst, ◌∙◌, arith}
 use Rattle.std.specs.Int.{w64, to_le_bytes}
 use Rattle.std.specs.Simd.Lanes.{number_l}
 use Rattle.std.proofs.lemmas.List.{length-drop, length-append, drop-drop, drop_more}
@@ -63,6 +63,10 @@ pub next_length : (gaps : List ℕ) (at selector : ℕ) → at < length gaps →
     → length (spelled_words (drop at gaps)) ≡ 8 + length (spelled_words (drop (at + count_of selector) gaps))
 next_length gaps at selector within is =
     ap length (next_word gaps at selector within is) ∙ length-append (to_le_bytes w64 (word_of selector (drop at gaps))) (spelled_words (drop (at + count_of selector) gaps))
+
+-- a word more, while gaps are left
+pub one_more : (gaps : List ℕ) (at : ℕ) → at < length gaps → 8 ≤ length (spelled_words (drop at gaps))
+one_more gaps at within = omega (arith, next_length gaps at (selector_of (drop at gaps)) within refl)
 
 -- no more bytes than eight a gap
 bytes_within : (n : ℕ) (gaps : List ℕ) → length gaps ≤ n → length (spelled_words gaps) ≤ 8 * length gaps

@@ -8,19 +8,20 @@ use Rattle.std.proofs.lemmas.Bool.Decides.{nat_tests}
 use Rattle.std.proofs.lemmas.List.{length-take-le, length-drop, take_at, drop_at}
 use Rattle.std.proofs.lemmas.Nat.{from_le_bytes-to_le_bytes_8}
 use Rattle.std.proofs.Math.Nat.{pow-le-pow_right}
+use Rattle.std.proofs.lemmas.Bool.{and_parts}
 use Rattle.codec_simple8.specs.Simple8.{count_of, width_of, takes, selector_of, word_of, gaps_in, fields, words_within, spelled_words, word_in}
 use Rattle.codec_simple8.proofs.Digits.{Below, digits_number, number_below, first_digit, later_digits, power_of_power}
 use Rattle.codec_simple8.proofs.Selectors.{selector_small, selector_takes}
-use Rattle.codec_simple8.proofs.Tables.{both, bits_most, count_some}
+use Rattle.codec_simple8.proofs.Tables.{bits_most, count_some}
 
 -- ---- the word of a selector that takes the gaps
 
 pub takes_enough : (s : ℕ) (gaps : List ℕ) → takes s gaps ≡ true → count_of s ≤ length gaps
 takes_enough s gaps taken =
-    let t = (both (nat_le (count_of s) (length gaps)) (list_all (λ gap. nat_lt gap (2 ^ width_of s)) (take (count_of s) gaps)) taken).0 in grind (arith, nat_tests)
+    let t = (and_parts (nat_le (count_of s) (length gaps)) (list_all (λ gap. nat_lt gap (2 ^ width_of s)) (take (count_of s) gaps)) taken).0 in grind (arith, nat_tests)
 
 pub takes_narrow : (s : ℕ) (gaps : List ℕ) → takes s gaps ≡ true → Below (2 ^ width_of s) (take (count_of s) gaps)
-takes_narrow s gaps taken = (both (nat_le (count_of s) (length gaps)) (list_all (λ gap. nat_lt gap (2 ^ width_of s)) (take (count_of s) gaps)) taken).1
+takes_narrow s gaps taken = (and_parts (nat_le (count_of s) (length gaps)) (list_all (λ gap. nat_lt gap (2 ^ width_of s)) (take (count_of s) gaps)) taken).1
 
 pub word_low : (s : ℕ) (gaps : List ℕ) → s < 16 → word_of s gaps % 16 ≡ s
 unfolding word_of

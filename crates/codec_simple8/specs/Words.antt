@@ -1,5 +1,5 @@
 -- What private functions say of payloads that were read without a fault, word by word, and of documents.
-use Rattle.std.specs.Prelude.{ℕ, zero, suc, ◌≡◌, ◌+◌, ◌*◌, ◌-◌, ◌/◌, ◌%◌, ◌^◌, ◌<◌, ◌==◌, ◌&&◌, ◌||◌, Bool, not, List, [], ◌++◌, length, drop, All, nat_lt, slice_index}
+use Rattle.std.specs.Prelude.{ℕ, zero, suc, ◌≡◌, ◌*◌, ◌-◌, ◌/◌, ◌%◌, ◌^◌, ◌<◌, ◌==◌, ◌&&◌, ◌||◌, Bool, not, List, [], ◌++◌, length, drop, All, nat_lt}
 use Rattle.codec_simple8.specs.Simple8.{count_of, width_of, takes, gaps_in, word_in}
 
 -- the gaps of so many words at the front of bytes
@@ -20,8 +20,3 @@ pub record AreWords (bytes : List ℕ) (left : ℕ) : Type 0 where
 -- whether gaps that begin with a word's own are spelled with this word: it has no bit set that it doesn't use, and the selector before its own doesn't take them
 unfoldable pub spells_them : ℕ → List ℕ → Bool
 spells_them word gaps = nat_lt (word / 16) (2 ^ (width_of (word % 16) * count_of (word % 16))) && (word % 16 == 0 || not (takes (word % 16 - 1) gaps))
-
--- this is the least that the document at a place can be, if there is one
-pub record Follows (docs : List ℕ) (at least : ℕ) : Type 0 where
-  pub first : at ≡ 0 → least ≡ 0
-  pub later : 0 < at → least ≡ slice_index docs (at - 1) + 1

@@ -1,10 +1,13 @@
-ghost use Rattle.std.specs.Prelude.{◌≡◌, ℕ, ◌+◌, ◌<◌, ◌≤◌, ◌^◌, ◌++◌, All, drop, length, slice_index, nat_lt, OnOk, OnErr};
+ghost use Rattle.std.specs.Prelude.{◌≡◌, ℕ, ◌+◌, ◌<◌, ◌≤◌, ◌^◌, ◌++◌, All, drop, length, slice_index, nat_le, IfSome, IsNone, OnOk, OnErr};
 ghost use Rattle.jass_base.specs.Gaps.{AreDocs, gaps_of};
-ghost use Rattle.codec_simple8.specs.Simple8.{count_of, selector_of, simple8_of, word_of};
-ghost use Rattle.codec_simple8.specs.Words.{Follows};
+ghost use Rattle.codec_simple8.specs.Simple8.{count_of, selector_of, simple8_of, takes, word_of};
 
+use crate::limits::{limit_behind, selector_within};
 use crate::word::{count_at, width_at};
 use jass_base::{NoMemory, Row};
+
+// The most gaps of a word.
+const MOST: usize = 240;
 
 /// How many bytes the payload of the documents has, in an index of `d` documents: eight a word.
 pub fn length(docs: &[u32], d: u32) -> u64
@@ -18,6 +21,24 @@ pub fn length(docs: &[u32], d: u32) -> u64
         words += 1;
     }
     8 * words
+}
+
+/// `length`, where it is less than `limit`; None as soon as it is known not to be.
+pub fn length_below(docs: &[u32], d: u32, limit: u64) -> Option<u64>
+    requires { AreDocs d docs.now }
+    ensures some { IfSome result (λ bytes. (bytes ≡ length (simple8_of docs.now)) × (bytes < limit)) }
+    ensures none { IsNone result → limit ≤ length (simple8_of docs.now) }
+{
+    let mut bytes = 0u64;
+    let mut at = 0;
+    while at < docs.len() {
+        bytes += 8;
+        if bytes >= limit {
+            return None;
+        }
+        at += count_at(selector_at(docs, at));
+    }
+    Some(bytes)
 }
 
 /// Appends the payload of the documents, in an index of `d` documents, or nothing where memory is
@@ -44,8 +65,7 @@ pub fn encode(docs: &[u32], d: u32, out: &mut Row<u8>) -> Result<(), NoMemory>
     Ok(())
 }
 
-// The selector of the word with the gaps of the documents from a place on. A selector that doesn't
-// take them doesn't come into question again, so the gaps are passed over once.
+// The selector of the word with the gaps of the documents from a place on.
 fn selector_at(docs: &[u32], at: usize) -> usize
     requires docs { (d : ℕ) × AreDocs d docs.now }
     requires within { at < length docs.now }
@@ -53,23 +73,30 @@ fn selector_at(docs: &[u32], at: usize) -> usize
     ensures few { at + count_of result ≤ length docs.now }
     ensures selectors { result < 16 }
 {
-    let left = docs.len() - at;
-    let mut selector = 0;
-    let mut count = count_at(0);
-    let mut width = width_at(0);
-    let mut seen = 0;
-    let mut least = least_at(docs, at);
-    while seen < count {
-        if count <= left && holds(width, docs[at + seen] - least) {
-            least = docs[at + seen] + 1;
-            seen += 1;
-        } else {
-            selector += 1;
-            count = count_at(selector);
-            width = width_at(selector);
+    selector_within(fitting(docs, at))
+}
+
+// How many gaps from a place on fit into words: a selector takes them exactly where its word has no
+// more gaps than these. Each gap is seen once, whatever the selector.
+#[inline(always)]
+fn fitting(docs: &[u32], at: usize) -> usize
+    requires docs { (d : ℕ) × AreDocs d docs.now }
+    requires within { at < length docs.now }
+    ensures some { 1 ≤ result }
+    ensures most { result ≤ 240 }
+    ensures exact { (s : ℕ) → s < 16 → takes s (drop at (gaps_of docs.now)) ≡ nat_le (count_of s) result }
+{
+    let left = (docs.len() - at).min(MOST);
+    let mut bits = gap_at(docs, at);
+    let mut seen = 1;
+    while seen < left {
+        bits |= later_gap(docs, at + seen);
+        if bits >= limit_behind(seen) {
+            return seen;
         }
+        seen += 1;
     }
-    selector
+    seen
 }
 
 // The word of a selector that takes the gaps of the documents from a place on.
@@ -90,25 +117,6 @@ fn word_from(docs: &[u32], at: usize, selector: usize) -> u64
     (values << 4) | selector as u64
 }
 
-// Whether a width holds a gap.
-#[inline(always)]
-fn holds(width: u32, gap: u32) -> bool
-    requires { width ≤ 60 }
-    ensures { result ≡ nat_lt gap (2 ^ width) }
-{
-    u64::from(gap) >> width == 0
-}
-
-// The least that the document at a place can be.
-#[inline(always)]
-fn least_at(docs: &[u32], at: usize) -> u32
-    requires docs { (d : ℕ) × AreDocs d docs.now }
-    requires within { at < length docs.now }
-    ensures { Follows docs.now at result }
-{
-    if at == 0 { 0 } else { docs[at - 1] + 1 }
-}
-
 #[inline(always)]
 fn gap_at(docs: &[u32], at: usize) -> u32
     requires docs { (d : ℕ) × AreDocs d docs.now }
@@ -119,6 +127,18 @@ fn gap_at(docs: &[u32], at: usize) -> u32
     if at == 0 {
         docs[0]
     } else {
-        docs[at] - docs[at - 1] - 1
+        later_gap(docs, at)
     }
+}
+
+// The gap before a document that isn't the first.
+#[inline(always)]
+fn later_gap(docs: &[u32], at: usize) -> u32
+    requires docs { (d : ℕ) × AreDocs d docs.now }
+    requires later { 0 < at }
+    requires within { at < length docs.now }
+    ensures gap { result ≡ slice_index (gaps_of docs.now) at }
+    ensures small { result < 2 ^ 26 }
+{
+    docs[at] - docs[at - 1] - 1
 }

@@ -8,6 +8,7 @@ mod cursor;
 mod encoding;
 mod handing;
 pub mod laws;
+mod limits;
 mod rows;
 mod spelling;
 mod sums;
@@ -18,5 +19,5 @@ mod word;
 
 pub use checking::check;
 pub use cursor::Cursor;
-pub use encoding::{encode, length};
+pub use encoding::{encode, length, length_below};
 pub use handing::check_into;

@@ -4,7 +4,7 @@ ghost use Rattle.jass_base.specs.Gaps.{AreDocs};
 ghost use Rattle.codec_simple8.specs.Cursor.{Gives};
 ghost use Rattle.codec_simple8.specs.Simple8.{simple8_of};
 
-use crate::{Cursor, check, encode, length};
+use crate::{Cursor, check, encode, length, length_below};
 use jass_base::{NoMemory, PayloadFault, Row};
 use std::alloc::Global;
 
@@ -74,7 +74,10 @@ fn part(docs: &[u32], from: usize, to: usize) -> &[u32]
 }
 
 fn has_length(docs: &[u32], d: u32, bytes: u64) -> bool {
-    are_docs(docs, d) && length(docs, d) == bytes
+    are_docs(docs, d)
+        && length(docs, d) == bytes
+        && length_below(docs, d, u64::MAX) == Some(bytes)
+        && length_below(docs, d, bytes).is_none()
 }
 
 // Whether this is the payload of the documents, by each of the calls.

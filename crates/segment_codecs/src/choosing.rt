@@ -39,7 +39,13 @@ pub fn shortest(docs: &[u32], d: u32) -> Choice
     if best.size <= WORD {
         return best;
     }
-    best.or_shorter(Choice::new(Codec::Simple8, docs, d))
+    match codec_simple8::length_below(docs, d, best.size) {
+        Some(size) => Choice {
+            codec: Codec::Simple8,
+            size,
+        },
+        None => best,
+    }
 }
 
 // The shortest of the payloads that aren't of words.

@@ -1,9 +1,9 @@
 use Rattle.std.proofs.Common.{◌≡◌, ℕ, ◌+◌, ◌≤◌, List, [], ◌++◌, take, drop, length, sym, ap, ◌∙◌, append_assoc, append-nil, arith}
 use Rattle.std.specs.Int.{w64, to_le_bytes}
 use Rattle.std.proofs.lemmas.List.{drop_all, take-append-le, length-take}
+use Rattle.jass_base.proofs.Gaps.{length-gaps_from}
 use Rattle.jass_base.specs.Gaps.{gaps_of}
 use Rattle.codec_simple8.specs.Simple8.{count_of, word_of, spelled_words}
-use Rattle.codec_simple8.proofs.GapLists.{length-gaps}
 use Rattle.codec_simple8.proofs.Tables.{count_some}
 use Rattle.codec_simple8.proofs.Words.{no_words}
 use Rattle.codec_simple8.proofs.WordParts.{next_word}
@@ -14,7 +14,7 @@ loop-at-smaller c = omega (arith, c.count_at-at.ensures, count_some c.selector_a
 
 pub loop-at-preserved : goal.loop-at-preserved
 loop-at-preserved c =
-    let long = length-gaps 0 c.args.docs.now in
+    let long = length-gaps_from 0 c.args.docs.now in
     let next = next_word (gaps_of c.args.docs.now) c.loop-at.at c.selector_at-selector.result (omega (arith, long, c.loop-at-test.true)) c.selector_at-selector.ensures.selector in
     let put : c.extend.new.self ≡ c.loop-at.out ++ to_le_bytes w64 (word_of c.selector_at-selector.result (drop c.loop-at.at (gaps_of c.args.docs.now))) =
     c.in-Ok.ensures.ok ∙ ap (λ (bytes : List ℕ). c.loop-at.out ++ bytes) (c.to_le_bytes.ensures ∙ ap (to_le_bytes w64) c.word_from-word.ensures) in
@@ -33,6 +33,6 @@ loop-at-preserved c =
 
 pub returns-clause-ok : goal.returns-clause-ok
 returns-clause-ok c =
-    let long = length-gaps 0 c.args.docs.now in
+    let long = length-gaps_from 0 c.args.docs.now in
     let none : drop c.loop-at.at (gaps_of c.args.docs.now) ≡ [] = drop_all c.loop-at.at (gaps_of c.args.docs.now) (omega (arith, long, c.loop-at-test.false)) in
     sym (append-nil c.loop-at.out) ∙ ap (λ (rest : List ℕ). c.loop-at.out ++ rest) (sym (ap spelled_words none ∙ no_words)) ∙ c.loop-at.invariant.all

@@ -1,8 +1,9 @@
 use Rattle.std.proofs.Common.{◌≡◌, ℕ, List, [], drop, length, ap, ◌∙◌, arith}
 use Rattle.std.proofs.lemmas.List.{drop_all}
+use Rattle.jass_base.proofs.Gaps.{length-gaps_from}
 use Rattle.jass_base.specs.Gaps.{gaps_of}
 use Rattle.codec_simple8.specs.Simple8.{spelled_words}
-use Rattle.codec_simple8.proofs.GapLists.{length-gaps, docs_few}
+use Rattle.codec_simple8.proofs.GapLists.{docs_few}
 use Rattle.codec_simple8.proofs.Tables.{count_some}
 use Rattle.codec_simple8.proofs.Words.{no_words}
 use Rattle.codec_simple8.proofs.WordParts.{next_length, bytes_few}
@@ -10,14 +11,14 @@ use Rattle.codec_simple8.proofs.encoding.length.Goals as goal
 
 pub overflow_add-words : goal.overflow_add-words
 overflow_add-words c =
-    let long = length-gaps 0 c.args.docs.now in
+    let long = length-gaps_from 0 c.args.docs.now in
     let few = docs_few c.args.d c.args.docs.now c.requires in
     let most = bytes_few (gaps_of c.args.docs.now) in
     record { fits = omega (arith, long, few, most, c.loop-at.invariant.1) }
 
 pub overflow_mul-result : goal.overflow_mul-result
 overflow_mul-result c =
-    let long = length-gaps 0 c.args.docs.now in
+    let long = length-gaps_from 0 c.args.docs.now in
     let few = docs_few c.args.d c.args.docs.now c.requires in
     let most = bytes_few (gaps_of c.args.docs.now) in
     record { fits = omega (arith, long, few, most, c.loop-at.invariant.1) }
@@ -27,13 +28,13 @@ loop-at-smaller c = omega (arith, c.count_at-at.ensures, count_some c.selector_a
 
 pub loop-at-preserved : goal.loop-at-preserved
 loop-at-preserved c =
-    let long = length-gaps 0 c.args.docs.now in
+    let long = length-gaps_from 0 c.args.docs.now in
     let next = next_length (gaps_of c.args.docs.now) c.loop-at.at c.selector_at.result (omega (arith, long, c.loop-at-test.true)) c.selector_at.ensures.selector in
     (omega (arith, c.count_at-at.ensures, c.selector_at.ensures.few), rw c.count_at-at.ensures (omega (arith, next, c.loop-at.invariant.1)))
 
 pub returns : goal.returns
 returns c =
-    let long = length-gaps 0 c.args.docs.now in
+    let long = length-gaps_from 0 c.args.docs.now in
     let none : drop c.loop-at.at (gaps_of c.args.docs.now) ≡ [] = drop_all c.loop-at.at (gaps_of c.args.docs.now) (omega (arith, long, c.loop-at-test.false)) in
     let bytes = ap (λ (gaps : List ℕ). length (spelled_words gaps)) none ∙ ap length no_words in
     omega (arith, bytes, c.loop-at.invariant.1)
