@@ -58,10 +58,6 @@ pub greatest_next : (t : TermHeads) (from rest : List TermHeads) → from ≡ t 
     → greatest_impact (map entry_data from) ≡ max (greatest_of (map head_data t.heads)) (greatest_impact (map entry_data rest))
 greatest_next t from rest is = ap (λ ts. greatest_impact (map entry_data ts)) is ∙ greatest_joins (map head_data t.heads) (all_heads (map entry_data rest))
 
-pub greatest_head_next : (h : PayloadHead) (from rest : List PayloadHead) → from ≡ h ∷ rest
-    → greatest_of (map head_data from) ≡ max h.impact (greatest_of (map head_data rest))
-greatest_head_next h from rest is = ap (λ hs. greatest_of (map head_data hs)) is
-
 -- each head counts a document
 counted : (heads : List HeadData) → All IsHead heads → length heads ≤ sum_by count_of heads
 counted [] are = omega arith

@@ -1,5 +1,6 @@
-ghost use Rattle.std.specs.Prelude.{◌≡◌, ◌≤◌, ◌^◌, [], ◌++◌, length, map, IfOk, IfErr, OnOk};
+ghost use Rattle.std.specs.Prelude.{◌≡◌, ◌≤◌, ◌<◌, ◌^◌, [], ◌++◌, length, map, IfOk, IfErr, OnOk};
 ghost use Rattle.index_model.specs.Views.{term_data, index_data};
+ghost use Rattle.index_layout.specs.Heads.{payloads_size};
 ghost use Rattle.index_layout.specs.Layout.{file_length, front_bytes, totals_bytes};
 ghost use Rattle.index_layout.specs.View.{index_text};
 ghost use Rattle.index_write.specs.Chosen.{head_data, chosen_terms, table_of};
@@ -10,7 +11,7 @@ use crate::fault::SaveFault;
 use crate::front::{put_entries, put_names, put_terms};
 use crate::head::{PayloadHead, index_heads};
 use crate::laws::{entries_are_small, tables_have_their_sums, texts_have_their_parts};
-use crate::lengths::{entries_payloads_len, front_len, index_len};
+use crate::lengths::{front_len, index_len};
 use crate::payloads::put_all_payloads;
 use crate::sums::totals;
 use crate::term_heads::TermHeads;
@@ -127,24 +128,26 @@ fn spelled_front(
     Ok(out)
 }
 
-/// What stands before the payloads in the file of names, terms and heads that have these totals.
-/// TooLarge comes exactly where the file would have more than 2^32 bytes.
+/// What stands before the payloads in the file of names, terms and heads that have these totals and
+/// so many bytes of payloads. TooLarge comes exactly where the file would have more than 2^32 bytes.
 pub fn front_of(
     alloc: Global,
     names: &[Text],
     entries: &[TermHeads],
     totals: &Totals,
+    payloads: u64,
 ) -> Result<Row<u8>, SaveFault>
     requires names { AreNames names.now }
     requires entries { AreEntries (map entry_data entries.now) }
     requires totals { totals.now ≡ entries_totals (length names.now) (map entry_data entries.now) }
+    requires payloads { payloads ≡ payloads_size (map entry_data entries.now) }
+    requires few { payloads < 2 ^ 62 }
     ensures bytes { IfOk result (λ row. row ≡ front_bytes names.now (map entry_data entries.now)) }
     ensures fits { OnOk result (file_length names.now (map entry_data entries.now) ≤ 2 ^ 32) }
     ensures fault { IfErr result (Unspelled (file_length names.now (map entry_data entries.now))) }
 {
-    entries_are_small();
     let front = front_len(names, entries);
-    let len = front + entries_payloads_len(entries);
+    let len = front + payloads;
     if len <= MOST_BYTES {
         match spelled_front(alloc, names, entries, totals, front, len) {
             Ok(bytes) => Ok(bytes),

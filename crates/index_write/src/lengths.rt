@@ -3,7 +3,7 @@
 ghost use Rattle.std.specs.Prelude.{◌≡◌, ◌≤◌, ◌<◌, ◌+◌, ◌*◌, ◌^◌, [], length, map};
 ghost use Rattle.std.specs.List.{sum_by};
 ghost use Rattle.index_model.specs.Views.{term_data, index_data};
-ghost use Rattle.index_layout.specs.Heads.{HeadData, all_heads, payloads_size};
+ghost use Rattle.index_layout.specs.Heads.{payloads_size};
 ghost use Rattle.index_layout.specs.Layout.{file_length, front_bytes, names_bytes, rest_behind, shared_with, terms_bytes};
 ghost use Rattle.index_layout.specs.View.{index_text};
 ghost use Rattle.index_write.specs.Chosen.{head_data, chosen_terms, table_of};
@@ -122,30 +122,4 @@ pub fn front_len(names: &[Text], entries: &[TermHeads]) -> u64
 {
     entries_are_small();
     40 + names_len(names) + entries_len(entries)
-}
-
-/// The bytes of the payloads of terms with their heads.
-pub fn entries_payloads_len(entries: &[TermHeads]) -> u64
-    requires { length (all_heads (map entry_data entries.now)) ≤ 2 ^ 29 }
-    ensures len { result ≡ payloads_size (map entry_data entries.now) }
-    ensures few { result ≤ 2 ^ 32 * length (all_heads (map entry_data entries.now)) }
-{
-    let mut len = 0;
-    for entry in entries {
-        len += few_payloads_len(entry.heads.as_slice());
-    }
-    len
-}
-
-/// The bytes of the payloads of few heads.
-fn few_payloads_len(heads: &[PayloadHead]) -> u64
-    requires { length heads.now ≤ 2 ^ 29 }
-    ensures len { result ≡ sum_by (λ (h : HeadData). h.size) (map head_data heads.now) }
-    ensures few { result ≤ 2 ^ 32 * length heads.now }
-{
-    let mut len = 0;
-    for head in heads {
-        len += u64::from(head.bytes);
-    }
-    len
 }

@@ -1,13 +1,13 @@
-ghost use Rattle.std.specs.Prelude.{◌≡◌, ◌≤◌, ◌<◌, ◌^◌, length, map, max};
+ghost use Rattle.std.specs.Prelude.{◌≡◌, ◌≤◌, ◌<◌, ◌*◌, ◌^◌, length, map};
 ghost use Rattle.std.specs.List.{sum_by};
 ghost use Rattle.jass_base.specs.declared.segment.Segment.{Segment};
 ghost use Rattle.jass_base.specs.declared.term_segments.TermSegments.{TermSegments};
 ghost use Rattle.index_model.specs.Views.{index_data};
-ghost use Rattle.index_layout.specs.Heads.{HeadData, greatest_impact, greatest_of, head_postings};
+ghost use Rattle.index_layout.specs.Heads.{HeadData, all_heads, greatest_impact, greatest_of, head_postings, payloads_size};
 ghost use Rattle.index_layout.specs.Totals.{totals_of};
 ghost use Rattle.index_layout.specs.View.{index_postings};
 ghost use Rattle.index_write.specs.Chosen.{head_data};
-ghost use Rattle.index_write.specs.Streaming.{AreEntries, entries_totals, entry_data};
+ghost use Rattle.index_write.specs.Streaming.{entry_data};
 
 use crate::head::PayloadHead;
 use crate::laws::{parts_are_small, tables_have_their_sums};
@@ -65,61 +65,60 @@ pub fn totals(index: &ImpactIndex) -> Totals
     }
 }
 
-/// The postings that heads count.
-fn heads_postings(heads: &[PayloadHead]) -> u64
-    requires { sum_by (λ (h : HeadData). h.count) (map head_data heads.now) < 2 ^ 62 }
-    ensures { result ≡ sum_by (λ (h : HeadData). h.count) (map head_data heads.now) }
+/// What heads sum up to.
+#[derive(Clone, Copy)]
+pub struct HeadSums {
+    pub postings: u64,
+    /// The greatest impact, 0 where there is no head.
+    pub greatest: u16,
+    /// How many bytes the payloads have.
+    pub payloads: u64,
+}
+
+/// The sums of the heads of a term.
+fn term_sums(heads: &[PayloadHead]) -> HeadSums
+    requires { length heads.now ≤ 2 ^ 29 }
+    ensures postings { result.postings ≡ sum_by (λ (h : HeadData). h.count) (map head_data heads.now) }
+    ensures greatest { result.greatest ≡ greatest_of (map head_data heads.now) }
+    ensures payloads { result.payloads ≡ sum_by (λ (h : HeadData). h.size) (map head_data heads.now) }
+    ensures few_postings { result.postings ≤ 2 ^ 32 * length heads.now }
+    ensures few_bytes { result.payloads ≤ 2 ^ 32 * length heads.now }
 {
     let mut postings = 0;
+    let mut greatest: u16 = 0;
+    let mut payloads = 0;
     for head in heads {
         postings += u64::from(head.count);
+        greatest = greatest.max(head.impact);
+        payloads += u64::from(head.bytes);
     }
-    postings
+    HeadSums {
+        postings,
+        greatest,
+        payloads,
+    }
 }
 
-/// The postings that the heads of terms count.
-fn entries_postings(entries: &[TermHeads]) -> u64
-    requires { head_postings (map entry_data entries.now) < 2 ^ 62 }
-    ensures { result ≡ head_postings (map entry_data entries.now) }
+/// The sums of the heads of terms, in one pass over them.
+pub fn heads_sums(entries: &[TermHeads]) -> HeadSums
+    requires { length (all_heads (map entry_data entries.now)) ≤ 2 ^ 29 }
+    ensures postings { result.postings ≡ head_postings (map entry_data entries.now) }
+    ensures greatest { result.greatest ≡ greatest_impact (map entry_data entries.now) }
+    ensures payloads { result.payloads ≡ payloads_size (map entry_data entries.now) }
+    ensures few_bytes { result.payloads ≤ 2 ^ 32 * length (all_heads (map entry_data entries.now)) }
 {
     let mut postings = 0;
+    let mut greatest: u16 = 0;
+    let mut payloads = 0;
     for entry in entries {
-        postings += heads_postings(entry.heads.as_slice());
+        let here = term_sums(entry.heads.as_slice());
+        postings += here.postings;
+        greatest = greatest.max(here.greatest);
+        payloads += here.payloads;
     }
-    postings
-}
-
-/// The greatest impact of heads and a number.
-fn heads_greatest(heads: &[PayloadHead], least: u16) -> u16
-    ensures { result ≡ max least (greatest_of (map head_data heads.now)) }
-{
-    let mut greatest = least;
-    for head in heads {
-        greatest = greatest.max(head.impact);
-    }
-    greatest
-}
-
-/// The greatest impact of the heads of terms.
-fn entries_greatest(entries: &[TermHeads]) -> u16
-    ensures { result ≡ greatest_impact (map entry_data entries.now) }
-{
-    let mut greatest = 0;
-    for entry in entries {
-        greatest = heads_greatest(entry.heads.as_slice(), greatest);
-    }
-    greatest
-}
-
-/// The totals of so many documents and of terms with their heads.
-pub fn heads_totals(docs: u32, entries: &[TermHeads]) -> Totals
-    requires { AreEntries (map entry_data entries.now) }
-    ensures { result ≡ entries_totals docs (map entry_data entries.now) }
-{
-    Totals {
-        docs,
-        terms: entries.len() as u32,
-        postings: entries_postings(entries),
-        greatest: entries_greatest(entries),
+    HeadSums {
+        postings,
+        greatest,
+        payloads,
     }
 }

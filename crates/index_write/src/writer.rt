@@ -16,9 +16,9 @@ use crate::change::same_heads;
 use crate::fault::{SaveFault, TermFault};
 use crate::file::put_file;
 use crate::head::PayloadHead;
-use crate::laws::changes_are_found;
+use crate::laws::{changes_are_found, entries_are_small};
 use crate::payloads::put_payloads;
-use crate::sums::heads_totals;
+use crate::sums::heads_sums;
 use crate::term_heads::TermHeads;
 use jass_base::{Cabinet, Failed, Row, Segment, Text, Totals};
 use std::alloc::Global;
@@ -79,8 +79,21 @@ impl IndexWriter {
         ensures later { C.write_faults files.old ≤ C.write_faults files.new }
         ensures others { C.read_faults files.old ≤ C.read_faults files.new }
     {
-        let totals = heads_totals(names.len() as u32, terms.as_slice());
-        let front = front_of(alloc, names.as_slice(), terms.as_slice(), &totals)?;
+        entries_are_small();
+        let sums = heads_sums(terms.as_slice());
+        let totals = Totals {
+            docs: names.len() as u32,
+            terms: terms.len() as u32,
+            postings: sums.postings,
+            greatest: sums.greatest,
+        };
+        let front = front_of(
+            alloc,
+            names.as_slice(),
+            terms.as_slice(),
+            &totals,
+            sums.payloads,
+        )?;
         let kept = match Text::from_str(alloc, name) {
             Ok(kept) => kept,
             Err(_) => return Err(SaveFault::NoMemory),
