@@ -1,7 +1,7 @@
 -- Bytes of a content from a place on.
 use Rattle.std.proofs.Common.{◌≡◌, ℕ, ◌+◌, ◌-◌, ◌≤◌, List, [], ◌++◌, length, take, drop, refl, sym, ap, ◌∙◌, length-take, length-drop, length-append, arith}
-use Rattle.std.proofs.lemmas.List.{drop-drop, drop-take}
-use Rattle.std.proofs.Math.Seq.{take-add}
+use Rattle.std.proofs.lemmas.List.{append_assoc, drop-drop, drop-take, take_all, take-take, take-append-le}
+use Rattle.std.proofs.Math.Seq.{take-add, take-append-add, take-append_seam}
 use Rattle.std.proofs.Math.Nat.{min-eq_left}
 use Rattle.jass_base.specs.Outside.{AreBytesAt}
 use Rattle.ciff_read.specs.Window.{AreFrom}
@@ -32,3 +32,15 @@ more_from content bytes piece grown start at count place is from read =
       front = is ∙ ap (λ (xs : List ℕ). xs ++ take count piece) from.front ∙ ap (λ (xs : List ℕ). take (length bytes) (drop start content) ++ xs) got ∙ sym (take-add (length bytes) count (drop start content)) ∙ ap (λ n. take n (drop start content)) (sym size);
       within = omega (arith, size, read.within, ap length here, length-drop (length bytes) (drop start content), from.within);
     }
+
+-- a piece that was read into room behind the bytes, where what wasn't read is cut off
+pub read_behind : (bytes room now piece rest later : List ℕ) (held whole wide n : ℕ) → held ≡ length bytes → now ≡ take wide bytes ++ room → held ≤ wide → n ≤ length piece → held + n ≤ whole
+    → take (held + n) (take whole ((take held now ++ (piece ++ rest)) ++ later)) ≡ bytes ++ take n piece
+read_behind bytes room now piece rest later held whole wide n size is inside few within =
+    let all : now ≡ bytes ++ room = is ∙ ap (λ (xs : List ℕ). xs ++ room) (take_all wide bytes (omega (arith, size, inside))) in
+    let first : take held now ≡ bytes = ap (take held) all ∙ ap (λ n. take n (bytes ++ room)) size ∙ take-append_seam bytes room in
+    take-take (held + n) whole ((take held now ++ (piece ++ rest)) ++ later) within
+    ∙ ap (take (held + n)) (ap (λ (xs : List ℕ). (xs ++ (piece ++ rest)) ++ later) first ∙ append_assoc bytes (piece ++ rest) later ∙ ap (λ (xs : List ℕ). bytes ++ xs) (append_assoc piece rest later))
+    ∙ ap (λ m. take (m + n) (bytes ++ (piece ++ (rest ++ later)))) size
+    ∙ take-append-add bytes (piece ++ (rest ++ later)) n
+    ∙ ap (λ (xs : List ℕ). bytes ++ xs) (take-append-le n piece (rest ++ later) few)

@@ -100,7 +100,7 @@ impl Window {
     }
 
     /// Reads on until so many bytes are held, or the file ends. It isn't inlined, so that a call of `reach`
-    /// that finds all held takes no room for a piece.
+    /// that finds all held stays short.
     #[inline(never)]
     fn fill<C: Cabinet>(&mut self, files: &mut C, name: &str, count: usize) -> Result<(), ReachStop>
         requires { self.old.start + count ≤ 2 ^ 63 }
@@ -114,18 +114,20 @@ impl Window {
         ensures later { C.read_faults files.old ≤ C.read_faults files.new }
         ensures others { C.write_faults files.old ≤ C.write_faults files.new }
     {
-        let mut piece = [0u8; PIECE];
         'pieces: while self.bytes.len() < count {
-            let at = self.start + self.bytes.len() as u64;
-            let Ok(read) = files.read_at(name, at, &mut piece) else {
-                return Err(ReachStop::ReadFault);
-            };
-            if read == 0 {
-                return Ok(());
-            }
-            match self.bytes.extend_from_slice(&piece[..read]) {
+            let held = self.bytes.len();
+            let at = self.start + held as u64;
+            match self.bytes.resize(held + PIECE, 0) {
                 Ok(()) => {}
                 Err(_) => return Err(ReachStop::NoMemory),
+            }
+            let Ok(read) = files.read_at(name, at, &mut self.bytes[held..]) else {
+                self.bytes.truncate(held);
+                return Err(ReachStop::ReadFault);
+            };
+            self.bytes.truncate(held + read);
+            if read == 0 {
+                return Ok(());
             }
         }
         Ok(())

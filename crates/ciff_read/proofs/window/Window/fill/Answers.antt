@@ -1,8 +1,8 @@
-use Rattle.std.proofs.Common.{◌+◌, ℕ, List, Option, subst, ◌∙◌, inr, arith}
+use Rattle.std.proofs.Common.{◌≡◌, ◌+◌, ℕ, List, Option, subst, ◌∙◌, ◌++◌, take, inr, arith}
 use Rattle.jass_base.specs.Outside.{Files, OnContent, AreBytesAt}
 use Rattle.ciff_read.specs.Window.{AreFrom, Shows}
 use Rattle.ciff_read.proofs.Told.{for_both, on_for, on_there}
-use Rattle.ciff_read.proofs.Windows.{more_from}
+use Rattle.ciff_read.proofs.Windows.{more_from, read_behind}
 use Rattle.ciff_read.proofs.window.Window.fill.Goals as goal
 
 pub pieces-preserved : goal.pieces-preserved
@@ -10,17 +10,21 @@ pieces-preserved g c =
     let told : Option Files = g.C.Cabinet.told c.args.files.now in
     let bytes : List ℕ = c.pieces.self.bytes.items in
     let start : ℕ = c.pieces.self.start in
-    let at : ℕ = start + c.len-in-pieces.result in
-    let grown : List ℕ = c.extend_from_slice.new.self.items in
-    let read : OnContent told c.args.name.now (λ content. AreBytesAt content at c.in-Ok.read c.read_at.new.buf)
-    = subst (λ (files : Option Files). OnContent files c.args.name.now (λ content. AreBytesAt content at c.in-Ok.read c.read_at.new.buf)) c.pieces.invariant.same c.in-Ok.ensures.bytes in
+    let at : ℕ = start + c.len-held.result in
+    let piece : List ℕ = c.read_at.new.buf in
+    let grown : List ℕ = c.truncate-in-pieces.new.self.items in
+    let read : OnContent told c.args.name.now (λ content. AreBytesAt content at c.in-Ok-read_at.read piece)
+    = subst (λ (files : Option Files). OnContent files c.args.name.now (λ content. AreBytesAt content at c.in-Ok-read_at.read piece)) c.pieces.invariant.same c.in-Ok-read_at.ensures.bytes in
+    let is : grown ≡ bytes ++ take c.in-Ok-read_at.read piece
+    = c.truncate-in-pieces.ensures.items ∙ read_behind bytes _ c.deref_mut.result.now piece _ _ c.len-held.result c.resize.new.self.len (c.len-held.result + 65536) c.in-Ok-read_at.read
+    (omega (arith, c.len-held.ensures, c.pieces.self.bytes.ok.0)) (c.deref_mut.ensures.value ∙ c.in-Ok.ensures.items) (omega arith) (omega (arith, c.in-Ok-read_at.ensures.bound)) (omega (arith, c.in-Ok.ensures.len, c.in-Ok-read_at.ensures.bound)) in
     record {
-      same = c.in-Ok.ensures.stays ∙ c.pieces.invariant.same;
-      later = omega (arith, c.in-Ok.ensures.cause.later, c.pieces.invariant.later);
-      others = omega (arith, c.in-Ok.ensures.others, c.pieces.invariant.others);
+      same = c.in-Ok-read_at.ensures.stays ∙ c.pieces.invariant.same;
+      later = omega (arith, c.in-Ok-read_at.ensures.cause.later, c.pieces.invariant.later);
+      others = omega (arith, c.in-Ok-read_at.ensures.others, c.pieces.invariant.others);
       start = c.pieces.invariant.start;
-      there = inr (on_there told c.args.name.now (λ content. AreBytesAt content at c.in-Ok.read c.read_at.new.buf) read);
-      shown = for_both told c.args.name.now (λ content. Shows content c.args.self.now → AreFrom content start bytes) (λ content. AreBytesAt content at c.in-Ok.read c.read_at.new.buf) (λ content. Shows content c.args.self.now → AreFrom content start grown)
-          (λ content before here shows. more_from content bytes c.read_at.new.buf grown start at c.in-Ok.read (omega (arith, c.len-in-pieces.ensures, c.pieces.self.bytes.ok.0)) c.in-Ok-extend_from_slice.ensures.items (before shows) here)
-          c.pieces.invariant.shown (on_for told c.args.name.now (λ content. AreBytesAt content at c.in-Ok.read c.read_at.new.buf) read);
+      there = inr (on_there told c.args.name.now (λ content. AreBytesAt content at c.in-Ok-read_at.read piece) read);
+      shown = for_both told c.args.name.now (λ content. Shows content c.args.self.now → AreFrom content start bytes) (λ content. AreBytesAt content at c.in-Ok-read_at.read piece) (λ content. Shows content c.args.self.now → AreFrom content start grown)
+          (λ content before here shows. more_from content bytes piece grown start at c.in-Ok-read_at.read (omega (arith, c.len-held.ensures, c.pieces.self.bytes.ok.0)) is (before shows) here)
+          c.pieces.invariant.shown (on_for told c.args.name.now (λ content. AreBytesAt content at c.in-Ok-read_at.read piece) read);
     }
