@@ -1,16 +1,18 @@
 -- Terms in a table of lists.
-use Rattle.std.proofs.Common.{◌≡◌, ℕ, Bool, true, false, cond, List, [], ◌∷◌, ◌++◌, map, Some, refl, ap, ◌∙◌}
-use Rattle.std.specs.Prelude.{◌||◌, is_some, String, string_bytes, string_eq}
+use Rattle.std.proofs.Common.{◌≡◌, ℕ, zero, suc, ◌+◌, ◌<◌, Bool, true, false, cond, List, [], ◌∷◌, ◌++◌, length, get_or, map, Some, refl, sym, ap, ◌∙◌, arith}
+use Rattle.std.specs.Prelude.{◌||◌, is_some, slice_get, String, string_bytes, string_eq}
 use Rattle.std.specs.List.{list_any}
 use Rattle.std.specs.Map.{lookup}
 use Rattle.std.specs.Str.{bytes_eq}
 use Rattle.std.specs.declared.alloc.Global.{Global}
-use Rattle.std.proofs.lemmas.List.{map-append}
+use Rattle.std.proofs.lemmas.List.{append_assoc, map-append}
+use Rattle.std.proofs.lemmas.List.Folds.{list_any-append}
 use Rattle.indexmap.specs.IndexMap.{insert_entry}
 use Rattle.ciff_read.specs.declared.kept_lists.ListPlace.{ListPlace}
-use Rattle.ciff_read.specs.KeptLists.{kept_as}
+use Rattle.ciff_read.specs.KeptEntries.{kept_as, kept_from, places_in, terms_in}
 use Rattle.ciff_read.specs.Pieces.{KeptList, terms_kept}
 use Rattle.ciff_read.specs.Seen.{is_seen}
+use Rattle.ciff_read.proofs.RisingTerms.{terms_append}
 
 -- an entry whose key is none of those that are there goes last
 insert_new : {K V : Type 0} (eq : K → K → Bool) (entries : List (K × V)) (key : K) (value : V) → list_any (λ (e : K × V). eq key e.0) entries ≡ false → insert_entry eq entries key value ≡ entries ++ (key, value) ∷ []
@@ -39,8 +41,41 @@ any_is : (key : String Global) (entries : List (String Global × ListPlace)) →
 any_is key [] = refl
 any_is key (e ∷ es) = ap (λ b. string_eq key e.0 || b) (any_is key es)
 
+module _ (term : List ℕ) (xs ys : List (String Global × ListPlace)) where
+  either_seen : is_seen term (terms_in (xs ++ ys)) ≡ (is_seen term (terms_in xs) || is_seen term (terms_in ys))
+  either_seen = ap (list_any (bytes_eq term)) (terms_append xs ys) ∙ list_any-append (bytes_eq term) (terms_in xs) (terms_in ys)
+
+  pub seen_first : is_seen term (terms_in xs) ≡ true → is_seen term (terms_in (xs ++ ys)) ≡ true
+  seen_first is = either_seen ∙ ap (λ b. b || is_seen term (terms_in ys)) is
+
+  pub seen_later : is_seen term (terms_in xs) ≡ false → is_seen term (terms_in (xs ++ ys)) ≡ is_seen term (terms_in ys)
+  seen_later is = either_seen ∙ ap (λ b. b || is_seen term (terms_in ys)) is
+
+  unseen_later : is_seen term (terms_in (xs ++ ys)) ≡ false → is_seen term (terms_in ys) ≡ false
+  unseen_later is = go (is_seen term (terms_in xs)) (sym either_seen ∙ is)
+    where
+      go : (test : Bool) → (test || is_seen term (terms_in ys)) ≡ false → is_seen term (terms_in ys) ≡ false
+      go true none = absurd cc
+      go false none = none
+
 -- a list whose term is new is kept last
-pub kept_more : (key : String Global) (place : ListPlace) (entries : List (String Global × ListPlace)) → is_seen (string_bytes key) (terms_kept (map as_kept entries)) ≡ false
-    → map as_kept (insert_entry string_eq entries key place) ≡ map as_kept entries ++ kept_as (string_bytes key) place ∷ []
-kept_more key place entries new =
-    ap (map as_kept) (insert_new string_eq entries key place (any_is key entries ∙ new)) ∙ map-append as_kept entries ((key, place) ∷ [])
+pub kept_more : (key : String Global) (place : ListPlace) (xs ys : List (String Global × ListPlace)) → is_seen (string_bytes key) (terms_in (xs ++ ys)) ≡ false
+    → kept_from (xs ++ insert_entry string_eq ys key place) ≡ kept_from (xs ++ ys) ++ kept_as (string_bytes key) place ∷ []
+kept_more key place xs ys new =
+    ap (λ (l : List (String Global × ListPlace)). kept_from (xs ++ l)) (insert_new string_eq ys key place (any_is key ys ∙ unseen_later (string_bytes key) xs ys new))
+    ∙ ap kept_from (sym (append_assoc xs ys ((key, place) ∷ []))) ∙ map-append as_kept (xs ++ ys) ((key, place) ∷ [])
+
+pub none_there : {X : Type 0} (xs : List X) → length xs ≡ 0 → xs ≡ []
+none_there [] is = refl
+none_there (x ∷ xs) is = absurd (omega (arith, is))
+
+-- the places of the first lists, and of those behind them
+pub place_first : (xs ys : List (String Global × ListPlace)) (i : ℕ) (e : String Global × ListPlace) → i < length xs → e ≡ get_or xs i e → slice_get (places_in (xs ++ ys)) i ≡ Some e.1
+place_first [] ys i e inside is = absurd (omega (arith, inside))
+place_first (x ∷ xs) ys zero e inside is = ap (λ (o : String Global × ListPlace). Some o.1) (sym is)
+place_first (x ∷ xs) ys (suc i) e inside is = place_first xs ys i e (omega arith) is
+
+pub place_later : (xs ys : List (String Global × ListPlace)) (i j : ℕ) → i ≡ length xs + j → slice_get (places_in (xs ++ ys)) i ≡ slice_get (places_in ys) j
+place_later [] ys i j is = ap (slice_get (places_in ys)) (omega (arith, is))
+place_later (x ∷ xs) ys zero j is = absurd (omega (arith, is))
+place_later (x ∷ xs) ys (suc i) j is = place_later xs ys i j (omega arith)

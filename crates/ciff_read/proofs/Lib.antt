@@ -44,3 +44,4 @@ pub mod Advancing
 pub mod Rising
 pub mod Runs
 pub mod Again
+pub mod RisingTerms

@@ -4,6 +4,7 @@ pub mod Finishing
 pub mod Given
 pub mod Judging
 pub mod Kept
+pub mod KeptEntries
 pub mod KeptLists
 pub mod Marks
 pub mod Moving

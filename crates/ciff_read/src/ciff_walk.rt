@@ -20,9 +20,10 @@ use crate::reached_header::reach_header;
 use crate::reached_list::reach_list;
 use crate::refusal::{CiffFault, CiffWhy, refused};
 use crate::window::{ReachStop, Window};
-use jass_base::{Cabinet, DocRecord, Header, PostingsList, Text};
+use jass_base::{Cabinet, DocRecord, Header, Posting, PostingsList, Row, Text};
 use std::alloc::Global;
 use std::marker::Model;
+use std::mem::replace;
 
 /// A CIFF file that is read piece by piece: the header, then one list at a time, then one
 /// document's record at a time. It holds the bytes of one message, and keeps the term, the
@@ -49,6 +50,8 @@ pub struct CiffWalk {
     given: u32,
     /// The error that was answered, and is answered again.
     answered: Option<CiffFault>,
+    /// The memory of postings that were taken back.
+    spare: Vec<Posting>,
 }
 
 impl Model for CiffWalk {
@@ -119,6 +122,7 @@ impl CiffWalk {
             numbers: DocSet::new(alloc),
             given: 0,
             answered: None,
+            spare: Vec::new(alloc),
         })
     }
 
@@ -194,6 +198,14 @@ impl CiffWalk {
                 Err(fault)
             }
         }
+    }
+
+    /// Takes the postings of a list back, once they are of no more use, so that their memory is
+    /// that of a later list's.
+    pub fn take_back(&mut self, postings: Row<Posting>)
+        ensures { self.new ≡ self.old }
+    {
+        self.spare = postings.into_vec();
     }
 
     /// Reads the next piece of a walk that has answered no error.
@@ -272,8 +284,10 @@ impl CiffWalk {
         ensures others { C.write_faults files.old ≤ C.write_faults files.new }
     {
         let none = KeptLists::new(self.alloc);
+        let spare = replace(&mut self.spare, Vec::new(self.alloc));
         let list = match reach_list(
             self.alloc,
+            spare,
             &mut self.window,
             files,
             self.name.as_str(),
@@ -311,8 +325,10 @@ impl CiffWalk {
         ensures others { C.write_faults files.old ≤ C.write_faults files.new }
     {
         let at = self.at;
+        let spare = replace(&mut self.spare, Vec::new(self.alloc));
         let (list, end) = match reach_list(
             self.alloc,
+            spare,
             &mut self.window,
             files,
             self.name.as_str(),

@@ -32,9 +32,9 @@ impl Gathered {
     ghost use Rattle.ciff_read.specs.Judging.{gather};
     ghost use Rattle.ciff_read.specs.Places.{gathered_of, GathersRun};
 
-    /// No postings yet, and room for so many.
+    /// No postings yet, and room for so many, in the memory of a vector that is of no more use.
     pub fn with_room(
-        alloc: Global,
+        mut spare: Vec<Posting>,
         docs: u32,
         before: u64,
         room: usize,
@@ -45,9 +45,10 @@ impl Gathered {
         ensures docs { IfOk result (λ gathered. gathered.docs ≡ docs) }
         ensures before { IfOk result (λ gathered. gathered.before ≡ before) }
     {
-        match Vec::with_capacity(alloc, room) {
-            Ok(postings) => Ok(Gathered {
-                postings: Row::from_vec(postings),
+        spare.clear();
+        match spare.reserve(room) {
+            Ok(()) => Ok(Gathered {
+                postings: Row::from_vec(spare),
                 last: 0,
                 docs,
                 before,

@@ -1,10 +1,13 @@
-ghost use Rattle.std.specs.Prelude.{◌≡◌, ◌<◌, ◌∷◌, [], ◌++◌, false, length, IfSome, IsSome, OnOk, OnErr};
+ghost use Rattle.std.specs.Prelude.{◌≡◌, ◌<◌, ◌∷◌, [], ◌++◌, false, length, Some, IfSome, IsSome, OnOk, OnErr};
+ghost use Rattle.std.specs.Prelude.{slice_get};
 ghost use Rattle.std.specs.List.Sorted.{IsStrictlyIncreasing};
-ghost use Rattle.ciff_read.specs.KeptLists.{kept_as, kept_in};
+ghost use Rattle.ciff_read.specs.KeptEntries.{kept_as, places_in};
+ghost use Rattle.ciff_read.specs.KeptLists.{entries_in, kept_in};
 ghost use Rattle.ciff_read.specs.Walk.{HasKept, IsGiven};
 ghost use Rattle.ciff_read.specs.Pieces.{terms_kept, places_kept};
 ghost use Rattle.ciff_read.specs.Seen.{is_seen};
 
+use crate::rising_lists::RisingLists;
 use indexmap::IndexMap;
 use jass_base::NoMemory;
 use std::alloc::Global;
@@ -19,7 +22,10 @@ pub struct ListPlace {
 /// The lists of a file that were given, by their terms and in the order of the file.
 #[derive(Drop)]
 pub struct KeptLists {
-    pub lists: IndexMap<String, ListPlace>,
+    /// The first lists, as far as each has a greater term than the one before.
+    pub rising: RisingLists,
+    /// The lists behind them.
+    pub hashed: IndexMap<String, ListPlace>,
 }
 
 impl KeptLists {
@@ -28,7 +34,8 @@ impl KeptLists {
         ensures { kept_in result ≡ [] }
     {
         KeptLists {
-            lists: IndexMap::new(alloc),
+            rising: RisingLists::new(alloc),
+            hashed: IndexMap::new(alloc),
         }
     }
 
@@ -36,18 +43,21 @@ impl KeptLists {
     pub fn has(&self, term: &str) -> bool
         ensures { result ≡ is_seen term.now (terms_kept (kept_in self.now)) }
     {
-        // A list that is read again asks for none, and then the term isn't hashed.
-        if self.lists.is_empty() {
+        if self.rising.has(term) {
+            return true;
+        }
+        // Where all terms rise, none is hashed.
+        if self.hashed.is_empty() {
             return false;
         }
-        self.lists.contains_key(term)
+        self.hashed.contains_key(term)
     }
 
     /// How many lists were given.
     pub fn len(&self) -> usize
         ensures { result ≡ length (kept_in self.now) }
     {
-        self.lists.len()
+        self.rising.len() + self.hashed.len()
     }
 
     /// The number of postings of a list that was given, by its place, where the places rise, and which of
@@ -72,7 +82,7 @@ impl KeptLists {
         if guess >= self.len() {
             return None;
         }
-        let list = self.lists[guess];
+        let list = self.place(guess);
         if list.at == at {
             Some(list.count)
         } else {
@@ -88,16 +98,28 @@ impl KeptLists {
         ensures within { result.1 < length (kept_in self.now) }
     {
         let mut low = 0;
-        let mut high = self.lists.len() - 1;
+        let mut high = self.len() - 1;
         while low < high {
             let middle = high - (high - low) / 2;
-            if self.lists[middle].at <= at {
+            if self.place(middle).at <= at {
                 low = middle;
             } else {
                 high = middle - 1;
             }
         }
-        (self.lists[low].count, low)
+        (self.place(low).count, low)
+    }
+
+    /// The place of one of the lists.
+    fn place(&self, index: usize) -> ListPlace
+        requires { index < length (kept_in self.now) }
+        ensures { slice_get (places_in (entries_in self.now)) index ≡ Some result }
+    {
+        let first = self.rising.len();
+        if index < first {
+            return self.rising.lists[index].1;
+        }
+        self.hashed[index - first]
     }
 
     /// Keeps one list more, whose term is new.
@@ -109,9 +131,16 @@ impl KeptLists {
         let Ok(term) = String::from_str(alloc, term) else {
             return Err(NoMemory);
         };
-        match self.lists.insert(term, place) {
-            Ok(_) => {}
-            Err(_) => return Err(NoMemory),
+        if self.hashed.is_empty() && self.rising.are_before(term.as_str()) {
+            match self.rising.push(term, place) {
+                Ok(()) => {}
+                Err(_) => return Err(NoMemory),
+            }
+        } else {
+            match self.hashed.insert(term, place) {
+                Ok(_) => {}
+                Err(_) => return Err(NoMemory),
+            }
         }
         Ok(())
     }

@@ -28,6 +28,7 @@ mod reached_header;
 mod reached_list;
 mod reaching;
 mod refusal;
+mod rising_lists;
 mod terms;
 mod text;
 mod usual;

@@ -17,7 +17,7 @@ use crate::terms::add_term;
 use crate::text::text_of;
 use crate::walked_list::WalkedList;
 use indexmap::IndexSet;
-use jass_base::PostingsList;
+use jass_base::{Posting, PostingsList};
 use std::alloc::Global;
 use wire_fields::{Field, Value, next_field};
 
@@ -49,7 +49,8 @@ pub fn read_list<'a>(
     ensures exact { Gives list_data result
         (list_at docs before (map (λ t. t.now) terms.old.keys) at (message_in bytes.now body)) }
 {
-    let walked = match walk_one(alloc, bytes, at, body, docs, before) {
+    let spare = Vec::new(alloc);
+    let walked = match walk_one(alloc, spare, bytes, at, body, docs, before) {
         Ok(walked) => walked,
         Err(fault) => return Err(fault),
     };
@@ -64,9 +65,10 @@ pub fn read_list<'a>(
 }
 
 /// Walks the list of the message at `at`, and judges its term by itself. Whether other lists
-/// have the term is left to the caller.
+/// have the term is left to the caller. The postings get the memory of the spare vector.
 pub fn walk_one<'a>(
     alloc: Global,
+    spare: Vec<Posting>,
     bytes: &'a [u8],
     at: usize,
     body: Body,
@@ -85,7 +87,7 @@ pub fn walk_one<'a>(
     ensures before { IfOk result (λ list. list.gathered.before ≡ before) }
 {
     let room = (body.end - body.from) / USUAL_BYTES;
-    let mut gathered = match Gathered::with_room(alloc, docs, before, room.min(docs as usize)) {
+    let mut gathered = match Gathered::with_room(spare, docs, before, room.min(docs as usize)) {
         Ok(gathered) => gathered,
         Err(_) => return Err(CiffFault::NoMemory),
     };

@@ -15,13 +15,15 @@ use crate::postings_list::walk_one;
 use crate::reaching::reach_message;
 use crate::refusal::CiffFault;
 use crate::window::Window;
-use jass_base::{Cabinet, PostingsList};
+use jass_base::{Cabinet, Posting, PostingsList};
 use std::alloc::Global;
 
 /// Reads the list at a place of a file of so many documents, behind lists of so many postings
-/// and of the kept terms, and gives the place behind it.
+/// and of the kept terms, and gives the place behind it. The postings get the memory of the
+/// spare vector.
 pub fn reach_list<C: Cabinet>(
     alloc: Global,
+    spare: Vec<Posting>,
     window: &mut Window,
     files: &mut C,
     name: &str,
@@ -55,7 +57,7 @@ pub fn reach_list<C: Cabinet>(
     };
     let place = (at - window.start) as usize;
     let bytes = window.bytes.as_slice();
-    let walked = match walk_one(alloc, bytes, place, body, docs, before) {
+    let walked = match walk_one(alloc, spare, bytes, place, body, docs, before) {
         Ok(walked) => walked,
         Err(fault) => return Err(fault_in_file(fault, window.start)),
     };

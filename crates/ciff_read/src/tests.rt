@@ -4,8 +4,9 @@
 ghost use Rattle.std.specs.Prelude.{◌≡◌, ◌<◌, None, IsTrue, IfSome};
 ghost use Rattle.ciff_read.specs.Walk.{IsGiven};
 
+use crate::kept_lists::{KeptLists, ListPlace};
 use crate::{CiffFault, CiffWalk, CiffWhy, Piece, read_collection};
-use jass_base::{Cabinet, Failed, MemCabinet, Row};
+use jass_base::{Cabinet, Failed, MemCabinet, PostingsList, Row};
 use std::alloc::{AllocError, Global};
 
 const FILE: [u8; 71] = [
@@ -237,11 +238,20 @@ fn cabinets(alloc: Global, second: &[u8]) -> Option<Switched> {
     Some(files)
 }
 
+/// Takes the postings of a list back, and gives their number.
+fn count_back(walk: &mut CiffWalk, list: PostingsList) -> u64
+    ensures { walk.new ≡ walk.old }
+{
+    let count = list.postings.len() as u64;
+    walk.take_back(list.postings);
+    count
+}
+
 /// The next piece: what it is, and two of its numbers; of a refusal its number and place.
 fn piece(walk: &mut CiffWalk, files: &mut Switched) -> (u32, u64, u64) {
     match walk.next_piece(files) {
         Ok(Piece::Start { lists, docs, .. }) => (1, u64::from(lists), u64::from(docs)),
-        Ok(Piece::List { at, list }) => (2, at, list.postings.len() as u64),
+        Ok(Piece::List { at, list }) => (2, at, count_back(walk, list)),
         Ok(Piece::Doc { number, item }) => (3, u64::from(number), u64::from(item.length)),
         Ok(Piece::End) => (4, 0, 0),
         Err(CiffFault::Refused(refusal)) => (refusal.why.number(), refusal.at, 0),
@@ -303,7 +313,7 @@ fn again(walk: &mut CiffWalk, files: &mut Switched, at: u64) -> (u32, u64, u64, 
     ensures { walk.new.kept ≡ walk.old.kept }
 {
     match walk.list_again(files, at) {
-        Ok(list) => (2, at, list.postings.len() as u64, 0),
+        Ok(list) => (2, at, count_back(walk, list), 0),
         Err(CiffFault::Refused(refusal)) => match refusal.why {
             CiffWhy::Changed { kept, found } => (refusal.why.number(), refusal.at, kept, found),
             why => (why.number(), refusal.at, 0, 0),
@@ -368,4 +378,26 @@ fn read_faults_are_answered_again(rt: HostRuntime) {
     assert!(&rt; fault_after(alloc, 2) == (2, true));
     assert!(&rt; fault_after(alloc, 3) == (3, true));
     assert!(&rt; fault_after(alloc, 4) == (3, false));
+}
+
+/// Whether a list of the term wasn't given, and is kept now.
+fn is_new(alloc: Global, kept: &mut KeptLists, term: &str) -> bool {
+    if kept.has(term) {
+        return false;
+    }
+    let place = ListPlace { at: 0, count: 1 };
+    kept.add(alloc, term, place).is_ok()
+}
+
+#[test]
+fn each_term_is_new_once(rt: HostRuntime) {
+    let alloc = rt.alloc();
+    let mut kept = KeptLists::new(alloc);
+    for term in ["a", "ab", "c", "b", "d", "aa"] {
+        assert!(&rt; is_new(alloc, &mut kept, term));
+    }
+    for term in ["a", "ab", "c", "b", "d", "aa"] {
+        assert!(&rt; !is_new(alloc, &mut kept, term));
+    }
+    assert!(&rt; kept.len() == 6);
 }

@@ -1,9 +1,9 @@
-use Rattle.std.proofs.Common.{◌≡◌, ◌≢◌, List, [], ℕ, Option, Ok, length, subst, arith}
+use Rattle.std.proofs.Common.{◌≡◌, ◌≢◌, List, [], ℕ, Option, Ok, length, refl, sym, subst, arith}
 use Rattle.jass_base.specs.CiffViews.{list_data}
 use Rattle.jass_base.specs.Outside.{Files, ForContent}
 use Rattle.ciff_read.specs.Pieces.{KeptList, ListInFile, list_of_file, terms_kept}
 use Rattle.ciff_read.specs.Reaching.{FailsReading}
-use Rattle.ciff_read.specs.Walk.{WalkView, HasKept}
+use Rattle.ciff_read.specs.Walk.{WalkView, HasKept, ChangesOnly}
 use Rattle.ciff_read.specs.Window.{AreFrom, Shows}
 use Rattle.ciff_read.proofs.Again.{told_outside, told_counts}
 use Rattle.ciff_read.proofs.ciff_walk.CiffWalk.find_again.Goals as goal
@@ -33,3 +33,8 @@ returns-then-kept-found-clause-told g c =
     let other : c.count_at-count.result.0 ≢ length x.list.postings = λ same. omega (arith, same, c.if-kept-found.true, c.from-kept.ensures, c.len-found.ensures) in
     told_counts told c.args.self.now at c.requires.stands c.refused.result c.count_at-count.result.0 x kept other
     (subst (λ (w : WalkView). ForContent told w.name (λ content. AreFrom content w.start w.bytes → list_of_file content w.docs 0 [] at ≡ Ok x)) c.self.view_is named)
+
+pub returns-then-kept-found-clause-changed : goal.returns-then-kept-found-clause-changed
+returns-then-kept-found-clause-changed g c =
+    let kept = subst (λ (w : WalkView). HasKept w.kept c.args.at c.count_at-count.result.0) c.self.view_is c.count_at-count.ensures.count in
+    subst (ChangesOnly c.args.self.now.kept c.args.at) (sym c.refused.ensures) (refl, subst (HasKept c.args.self.now.kept c.args.at) (sym c.from-kept.ensures) kept, λ same. omega (arith, same, c.if-kept-found.true))

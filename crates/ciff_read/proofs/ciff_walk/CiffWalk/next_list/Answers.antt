@@ -1,5 +1,6 @@
 use Rattle.std.proofs.Common.{ap, subst, sym, arith, ◌+◌, length}
-use Rattle.ciff_read.specs.KeptLists.{kept_as, kept_in}
+use Rattle.ciff_read.specs.KeptEntries.{kept_as}
+use Rattle.ciff_read.specs.KeptLists.{kept_in}
 use Rattle.ciff_read.specs.Pieces.{KeptList}
 use Rattle.ciff_read.specs.Walk.{WalkView, IsInRange}
 use Rattle.ciff_read.proofs.Rising.{one_more_list}

@@ -1,0 +1,12 @@
+use Rattle.std.proofs.Common.{◌∙◌, ◌+◌, ◌-◌, ◌≡◌, ℕ, length, sym, ap, arith}
+use Rattle.std.specs.Ordering.{is_lt}
+use Rattle.ciff_read.specs.KeptEntries.{terms_in}
+use Rattle.ciff_read.proofs.RisingTerms.{all_before, terms_count}
+use Rattle.ciff_read.proofs.rising_lists.RisingLists.are_before.Goals as goal
+
+pub returns : goal.returns
+returns c is =
+    let items = c.args.self.now.lists.items in
+    let n : ℕ = c.len-len.result in
+    let size : length (terms_in items) ≡ (n - 1) + 1 = omega (arith, terms_count items, c.len-len.ensures.len, c.if-len-eq0.false) in
+    all_before (terms_in items) c.args.term.now c.args.self.now.rises (n - 1) size (sym (ap is_lt c.order.ensures) ∙ sym c.is_lt.ensures ∙ is)
