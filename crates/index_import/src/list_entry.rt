@@ -3,7 +3,7 @@ ghost use Rattle.jass_base.specs.Limits.{IsText};
 ghost use Rattle.impact_segments.specs.Bounds.{most_tf};
 
 use impact_segments::most_tf;
-use jass_base::{PostingsList, Text};
+use jass_base::{Posting, PostingsList, Row, Text};
 
 /// Where a list stands in a file, how many postings it has, and how often its term stands in one
 /// document at the most.
@@ -27,21 +27,22 @@ pub(crate) struct ListEntry {
 }
 
 impl ListEntry {
-    /// Keeps a list that has postings, and lets these go.
-    pub fn new(at: u64, list: PostingsList) -> ListEntry
+    /// Keeps a list that has postings, and gives these back.
+    pub fn new(at: u64, list: PostingsList) -> (ListEntry, Row<Posting>)
         requires some { 1 ≤ length list.postings }
         requires few { length list.postings ≤ 2 ^ 29 }
-        ensures term { result.term ≡ list.term }
-        ensures at { result.place.at ≡ at }
-        ensures count { result.place.count ≡ length list.postings }
-        ensures most { result.place.most ≡ most_tf list.postings }
+        ensures term { result.0.term ≡ list.term }
+        ensures at { result.0.place.at ≡ at }
+        ensures count { result.0.place.count ≡ length list.postings }
+        ensures most { result.0.place.most ≡ most_tf list.postings }
     {
         let count = list.postings.len() as u32;
         let most = most_tf(list.postings.as_slice());
-        let PostingsList { term, .. } = list;
-        ListEntry {
+        let PostingsList { term, postings, .. } = list;
+        let entry = ListEntry {
             term,
             place: Place { at, count, most },
-        }
+        };
+        (entry, postings)
     }
 }

@@ -88,6 +88,7 @@ fn widen_lists<C: Cabinet>(
             Err(fault) => return Err(fault),
         };
         widen_by_norms(&mut range, rule, total, &list, lengths, norms);
+        walk.take_back(list.postings);
     }
     Ok(range)
 }

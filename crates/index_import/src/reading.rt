@@ -79,9 +79,11 @@ pub(crate) fn read_segments<C: Cabinet>(
         lengths,
         norms,
     } = weighing;
-    match segments_by_scratch(
+    let made = segments_by_scratch(
         scratch, alloc, rule, bits, range, total, &list, lengths, norms,
-    ) {
+    );
+    walk.take_back(list.postings);
+    match made {
         Ok(segments) => Ok(segments),
         Err(SegmentsFault::Outside { kept, found }) => Err(CiffFault::Refused(CiffRefusal {
             at: place.at,

@@ -51,7 +51,9 @@ pub(crate) fn survey_file<C: Cabinet>(
             } => {}
             Piece::List { at, list } => {
                 if !list.postings.is_empty() {
-                    match lists.push(ListEntry::new(at, list)) {
+                    let (entry, postings) = ListEntry::new(at, list);
+                    walk.take_back(postings);
+                    match lists.push(entry) {
                         Ok(()) => {}
                         Err(_) => return Err(CiffFault::NoMemory),
                     }

@@ -3,10 +3,11 @@ use Rattle.std.proofs.Common.{◌≡◌, ℕ, ◌≤◌, ◌^◌, List, refl, sy
 use Rattle.jass_base.specs.CiffViews.{list_data}
 use Rattle.jass_base.specs.Lists.{HasDocsBelow}
 use Rattle.ciff_read.specs.Pieces.{KeptList}
-use Rattle.ciff_read.specs.Walk.{HasKept}
+use Rattle.ciff_read.specs.Walk.{HasKept, LeavesWalk}
 use Rattle.weights.specs.declared.quantizing.Bits.TheVariants.{Of}
 use Rattle.weights.specs.declared.quantizing.Range.{Range}
 use Rattle.index_import.specs.Outlining.{list_there}
+use Rattle.index_import.specs.Surveying.{IsReady}
 use Rattle.index_import.specs.declared.list_entry.ListEntry.{ListEntry}
 use Rattle.index_import.proofs.Again.{ready_then, told_then}
 use Rattle.index_import.proofs.Ready.{leaves_then}
@@ -25,10 +26,12 @@ read_again-requires-clause-given g c =
 pub loop-entry-preserved : goal.loop-entry-preserved
 loop-entry-preserved g c =
     let before = c.loop-entry.invariant in
+    let same = sym c.take_back.ensures in
     record {
-      ready = ready_then (g.C.Cabinet.told c.args.files.now) (g.C.Cabinet.told c.loop-entry.files) c.args.walk.now.name c.loop-entry.walk.name c.read_again.new.walk
-          before.stays before.leaves.name (c.in-Ok.ensures.ready);
-      leaves = leaves_then c.args.walk.now c.loop-entry.walk c.read_again.new.walk before.leaves c.read_again.ensures.leaves;
+      ready = subst (IsReady (g.C.Cabinet.told c.args.files.now) c.args.walk.now.name) same
+          (ready_then (g.C.Cabinet.told c.args.files.now) (g.C.Cabinet.told c.loop-entry.files) c.args.walk.now.name c.loop-entry.walk.name c.read_again.new.walk
+          before.stays before.leaves.name (c.in-Ok.ensures.ready));
+      leaves = subst (LeavesWalk c.args.walk.now) same (leaves_then c.args.walk.now c.loop-entry.walk c.read_again.new.walk before.leaves c.read_again.ensures.leaves);
       range = widens_more c.widened_lists_have_the_range.ensures.one_more c.args.walk.now.docs c.args.weighing c.args.lists.now c.loop-entry.entry-index c.entry-item.result c.loop-entry-test.true c.entry-item.is
           (g.C.Cabinet.told c.args.files.now) c.args.walk.now.name c.in-Ok.list c.loop-entry.range c.widen_by_norms.new.range
           (subst (λ (n : ℕ). HasDocsBelow n c.in-Ok.list) (before.leaves.docs ∙ sym c.requires.docs) (c.in-Ok.ensures.below))

@@ -1,12 +1,15 @@
 -- Each piece keeps what was kept so far.
 use Rattle.std.proofs.Common.{◌≤◌, ℕ, List, Option, Ok, Err, sym, subst, ◌∙◌, arith}
+use Rattle.std.specs.Prelude.{All}
 use Rattle.std.proofs.lemmas.Bool.Decides.{nat_tests}
 use Rattle.jass_base.specs.Outside.{Files, ForContent}
 use Rattle.ciff_read.specs.Given.{PieceRanges}
-use Rattle.ciff_read.specs.Walk.{StandsFor, StandsTold, kept_of}
+use Rattle.ciff_read.specs.Walk.{StandsFor, StandsTold, WalkView, kept_of}
 use Rattle.ciff_read.specs.declared.piece.Piece.{Piece}
 use Rattle.ciff_read.proofs.Told.{for_one}
-use Rattle.index_import.proofs.Surveying.{Follows, PieceLaws, doc_held, doc_told, empty_held, end_told, entry_is, fault_told, gives_there, list_held, list_told, most_told, no_most, nothing_follows, nothing_held, same_held, same_most, start_told}
+use Rattle.index_import.specs.Surveying.{HoldsMost}
+use Rattle.index_import.specs.declared.list_entry.ListEntry.{ListEntry}
+use Rattle.index_import.proofs.Surveying.{Follows, Holds, PieceLaws, doc_held, doc_told, empty_held, end_told, entry_is, fault_told, gives_there, list_held, list_told, most_told, no_most, nothing_follows, nothing_held, same_held, same_most, start_told}
 use Rattle.index_import.proofs.survey.survey_file.Goals as goal
 
 pub pieces-init : goal.pieces-init
@@ -63,6 +66,8 @@ pieces-preserved-in-Ok-push g c =
     let laws : PieceLaws = record { bad_header = law.bad_header; start = law.start; piece = law.piece; end = law.end; refused = law.refused } in
     let before = c.pieces.invariant in
     let next = c.in-Ok.ensures in
+    let entry : ListEntry = c.new-entry.result.0 in
+    let same = sym c.take_back.ensures in
     let given = gives_there told (g.C.Cabinet.told c.pieces.files) c.args.name.now c.pieces.walk c.next_piece.new.self (Ok c.in-Ok.piece) before.same before.holds.name_is before.holds.unanswered before.stands next.told in
     let ranges = subst (λ (x : Piece). PieceRanges c.pieces.walk c.next_piece.new.self x) c.in-List.is next.ranges in
     record {
@@ -70,13 +75,16 @@ pieces-preserved-in-Ok-push g c =
       later = omega (arith, next.later, before.later);
       others = omega (arith, next.others, before.others);
       there = before.there;
-      stands = subst (λ (files : Option Files). StandsTold files c.next_piece.new.self) before.same next.stands;
-      holds = list_held c.args.name.now c.pieces.walk c.next_piece.new.self c.pieces.docs.items c.pieces.lists.items before.holds next.name next.ok next.within
-          (kept_of c.in-List.at c.in-List.list) c.new.result c.push.new.self.items ranges.4 ranges.1 ranges.3 (subst (λ (n : ℕ). 1 ≤ n) c.new.ensures.count c.new.result.place.some)
-          (entry_is c.new.result c.in-List.at c.in-List.list c.new.ensures.term c.new.ensures.at c.new.ensures.count) c.in-Ok-push.ensures.items;
-      follows = list_told laws told c.args.name.now c.pieces.walk c.next_piece.new.self c.pieces.docs.items before.follows c.in-Ok.piece given c.in-List.at c.in-List.list c.in-List.is;
-      most = most_told laws told c.args.name.now c.pieces.walk c.next_piece.new.self c.pieces.docs.items before.follows c.in-Ok.piece given c.in-List.at c.in-List.list c.new.result c.pieces.lists.items c.push.new.self.items c.in-List.is
-          next.totals.1 ranges.4 ranges.5 c.new.ensures.at c.new.ensures.count c.new.ensures.most c.in-Ok-push.ensures.items before.most;
+      stands = subst (StandsTold told) same (subst (λ (files : Option Files). StandsTold files c.next_piece.new.self) before.same next.stands);
+      holds = subst (λ (w : WalkView). Holds c.args.name.now w c.pieces.docs.items c.push.new.self.items) same
+          (list_held c.args.name.now c.pieces.walk c.next_piece.new.self c.pieces.docs.items c.pieces.lists.items before.holds next.name next.ok next.within
+          (kept_of c.in-List.at c.in-List.list) entry c.push.new.self.items ranges.4 ranges.1 ranges.3 (subst (λ (n : ℕ). 1 ≤ n) c.new-entry.ensures.count entry.place.some)
+          (entry_is entry c.in-List.at c.in-List.list c.new-entry.ensures.term c.new-entry.ensures.at c.new-entry.ensures.count) c.in-Ok-push.ensures.items);
+      follows = subst (λ (w : WalkView). ForContent told c.args.name.now (λ (content : List ℕ). Follows content w c.pieces.docs.items)) same
+          (list_told laws told c.args.name.now c.pieces.walk c.next_piece.new.self c.pieces.docs.items before.follows c.in-Ok.piece given c.in-List.at c.in-List.list c.in-List.is);
+      most = subst (λ (w : WalkView). ForContent told c.args.name.now (λ (content : List ℕ). All (HoldsMost content w.docs) c.push.new.self.items)) same
+          (most_told laws told c.args.name.now c.pieces.walk c.next_piece.new.self c.pieces.docs.items before.follows c.in-Ok.piece given c.in-List.at c.in-List.list entry c.pieces.lists.items c.push.new.self.items c.in-List.is
+          next.totals.1 ranges.4 ranges.5 c.new-entry.ensures.at c.new-entry.ensures.count c.new-entry.ensures.most c.in-Ok-push.ensures.items before.most);
     }
 
 pub pieces-preserved-else-not-is_empty : goal.pieces-preserved-else-not-is_empty
