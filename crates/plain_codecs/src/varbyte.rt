@@ -1,6 +1,6 @@
 //! The gaps of the documents as shortest varints, one after the other.
 
-ghost use Rattle.std.specs.Prelude.{◌≡◌, ◌≤◌, ◌<◌, ◌^◌, ◌++◌, length, OnOk, OnErr};
+ghost use Rattle.std.specs.Prelude.{◌≡◌, ◌≤◌, ◌<◌, ◌^◌, ◌++◌, length, take, OnOk, OnErr};
 ghost use Rattle.jass_base.specs.Gaps.{AreDocs};
 ghost use Rattle.jass_base.specs.Wire.{short_varint};
 ghost use Rattle.plain_codecs.specs.Varbyte.{varbyte_of};
@@ -15,7 +15,7 @@ mod short;
 pub use checking::check;
 pub use cursor::Cursor;
 pub use handing::{check_front_into, check_into};
-use jass_base::{NoMemory, Row, put_gap};
+use jass_base::{NoMemory, Row};
 
 /// How many bytes the payload of the documents has, in an index of d documents.
 pub fn length(docs: &[u32], d: u32) -> u64
@@ -59,7 +59,7 @@ pub fn encode(docs: &[u32], d: u32, out: &mut Row<u8>) -> Result<(), NoMemory>
     let before = out.len();
     let mut least = 0;
     for doc in docs {
-        match put_gap(*doc - least, out) {
+        match put(*doc - least, out) {
             Ok(()) => {}
             Err(NoMemory) => {
                 out.truncate(before);
@@ -69,4 +69,31 @@ pub fn encode(docs: &[u32], d: u32, out: &mut Row<u8>) -> Result<(), NoMemory>
         least = *doc + 1;
     }
     Ok(())
+}
+
+// Appends the shortest varint of a gap, or nothing where memory is refused. Four bytes are appended, and those
+// too many cut off, so that nothing branches on a size that can't be foreseen.
+#[inline(always)]
+fn put(gap: u32, out: &mut Row<u8>) -> Result<(), NoMemory>
+    requires { gap < 2 ^ 28 }
+    ensures ok { OnOk result (out.new ≡ out.old ++ short_varint gap) }
+    ensures err { OnErr result (out.new ≡ out.old) }
+{
+    out.extend(&spelled(gap))?;
+    out.truncate(out.len() - (4 - gap_length(gap) as usize));
+    Ok(())
+}
+
+// Four bytes that begin with the shortest varint of a gap.
+#[inline(always)]
+fn spelled(gap: u32) -> [u8; 4]
+    requires { gap < 2 ^ 28 }
+    ensures { take (length (short_varint gap)) result ≡ short_varint gap }
+{
+    [
+        (gap % 128) as u8 + 128 * u8::from(gap >= 1 << 7),
+        (gap / 128 % 128) as u8 + 128 * u8::from(gap >= 1 << 14),
+        (gap / 16_384 % 128) as u8 + 128 * u8::from(gap >= 1 << 21),
+        (gap / 2_097_152) as u8,
+    ]
 }
