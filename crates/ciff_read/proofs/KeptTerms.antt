@@ -9,7 +9,7 @@ use Rattle.std.proofs.lemmas.List.{append_assoc, map-append}
 use Rattle.std.proofs.lemmas.List.Folds.{list_any-append}
 use Rattle.indexmap.specs.IndexMap.{insert_entry}
 use Rattle.ciff_read.specs.declared.kept_lists.ListPlace.{ListPlace}
-use Rattle.ciff_read.specs.KeptEntries.{kept_as, kept_from, places_in, terms_in}
+use Rattle.ciff_read.specs.KeptEntries.{hashed_in, kept_as, kept_from, places_in, terms_in}
 use Rattle.ciff_read.specs.Pieces.{KeptList, terms_kept}
 use Rattle.ciff_read.specs.Seen.{is_seen}
 use Rattle.ciff_read.proofs.RisingTerms.{terms_append}
@@ -24,24 +24,24 @@ insert_new {K} {V} eq (e ∷ es) key value new = go (eq key e.0) new (λ none. i
     go true none again = absurd cc
     go false none again = ap (λ (l : List (K × V)). e ∷ l) (again none)
 
-abbrev pub as_kept : String Global × ListPlace → KeptList
-as_kept e = kept_as (string_bytes e.0) e.1
+abbrev pub as_kept : List ℕ × ListPlace → KeptList
+as_kept e = kept_as e.0 e.1
 
 -- a term is found exactly where one of the lists has it
-pub found_is : (term : List ℕ) (entries : List (String Global × ListPlace)) → is_some (lookup (λ (k : String Global). bytes_eq term (string_bytes k)) entries) ≡ is_seen term (terms_kept (map as_kept entries))
+pub found_is : (term : List ℕ) (entries : List (String Global × ListPlace)) → is_some (lookup (λ (k : String Global). bytes_eq term (string_bytes k)) entries) ≡ is_seen term (terms_in (hashed_in entries))
 found_is term [] = refl
 found_is term (e ∷ es) = go (bytes_eq term (string_bytes e.0)) (found_is term es)
   where
-    go : (test : Bool) → is_some (lookup (λ (k : String Global). bytes_eq term (string_bytes k)) es) ≡ is_seen term (terms_kept (map as_kept es))
-        → is_some (cond test (Some e.1) (lookup (λ (k : String Global). bytes_eq term (string_bytes k)) es)) ≡ (test || is_seen term (terms_kept (map as_kept es)))
+    go : (test : Bool) → is_some (lookup (λ (k : String Global). bytes_eq term (string_bytes k)) es) ≡ is_seen term (terms_in (hashed_in es))
+        → is_some (cond test (Some e.1) (lookup (λ (k : String Global). bytes_eq term (string_bytes k)) es)) ≡ (test || is_seen term (terms_in (hashed_in es)))
     go true again = refl
     go false again = again
 
-any_is : (key : String Global) (entries : List (String Global × ListPlace)) → list_any (λ (e : String Global × ListPlace). string_eq key e.0) entries ≡ is_seen (string_bytes key) (terms_kept (map as_kept entries))
+any_is : (key : String Global) (entries : List (String Global × ListPlace)) → list_any (λ (e : String Global × ListPlace). string_eq key e.0) entries ≡ is_seen (string_bytes key) (terms_in (hashed_in entries))
 any_is key [] = refl
 any_is key (e ∷ es) = ap (λ b. string_eq key e.0 || b) (any_is key es)
 
-module _ (term : List ℕ) (xs ys : List (String Global × ListPlace)) where
+module _ (term : List ℕ) (xs ys : List (List ℕ × ListPlace)) where
   either_seen : is_seen term (terms_in (xs ++ ys)) ≡ (is_seen term (terms_in xs) || is_seen term (terms_in ys))
   either_seen = ap (list_any (bytes_eq term)) (terms_append xs ys) ∙ list_any-append (bytes_eq term) (terms_in xs) (terms_in ys)
 
@@ -59,23 +59,32 @@ module _ (term : List ℕ) (xs ys : List (String Global × ListPlace)) where
       go false none = none
 
 -- a list whose term is new is kept last
-pub kept_more : (key : String Global) (place : ListPlace) (xs ys : List (String Global × ListPlace)) → is_seen (string_bytes key) (terms_in (xs ++ ys)) ≡ false
-    → kept_from (xs ++ insert_entry string_eq ys key place) ≡ kept_from (xs ++ ys) ++ kept_as (string_bytes key) place ∷ []
+pub kept_last : (xs : List (List ℕ × ListPlace)) (term : List ℕ) (place : ListPlace) → kept_from (xs ++ (term, place) ∷ []) ≡ kept_from xs ++ kept_as term place ∷ []
+kept_last xs term place = map-append as_kept xs ((term, place) ∷ [])
+
+pub kept_more : (key : String Global) (place : ListPlace) (xs : List (List ℕ × ListPlace)) (ys : List (String Global × ListPlace)) → is_seen (string_bytes key) (terms_in (xs ++ hashed_in ys)) ≡ false
+    → kept_from (xs ++ hashed_in (insert_entry string_eq ys key place)) ≡ kept_from (xs ++ hashed_in ys) ++ kept_as (string_bytes key) place ∷ []
 kept_more key place xs ys new =
-    ap (λ (l : List (String Global × ListPlace)). kept_from (xs ++ l)) (insert_new string_eq ys key place (any_is key ys ∙ unseen_later (string_bytes key) xs ys new))
-    ∙ ap kept_from (sym (append_assoc xs ys ((key, place) ∷ []))) ∙ map-append as_kept (xs ++ ys) ((key, place) ∷ [])
+    let last : hashed_in (ys ++ (key, place) ∷ []) ≡ hashed_in ys ++ (string_bytes key, place) ∷ [] = map-append (λ (e : String Global × ListPlace). (string_bytes e.0, e.1)) ys ((key, place) ∷ []) in
+    ap (λ (l : List (String Global × ListPlace)). kept_from (xs ++ hashed_in l)) (insert_new string_eq ys key place (any_is key ys ∙ unseen_later (string_bytes key) xs (hashed_in ys) new))
+    ∙ ap (λ (l : List (List ℕ × ListPlace)). kept_from (xs ++ l)) last
+    ∙ ap kept_from (sym (append_assoc xs (hashed_in ys) ((string_bytes key, place) ∷ []))) ∙ kept_last (xs ++ hashed_in ys) (string_bytes key) place
 
 pub none_there : {X : Type 0} (xs : List X) → length xs ≡ 0 → xs ≡ []
 none_there [] is = refl
 none_there (x ∷ xs) is = absurd (omega (arith, is))
 
--- the places of the first lists, and of those behind them
-pub place_first : (xs ys : List (String Global × ListPlace)) (i : ℕ) (e : String Global × ListPlace) → i < length xs → e ≡ get_or xs i e → slice_get (places_in (xs ++ ys)) i ≡ Some e.1
-place_first [] ys i e inside is = absurd (omega (arith, inside))
-place_first (x ∷ xs) ys zero e inside is = ap (λ (o : String Global × ListPlace). Some o.1) (sym is)
-place_first (x ∷ xs) ys (suc i) e inside is = place_first xs ys i e (omega arith) is
+hashed_places : (ys : List (String Global × ListPlace)) → places_in (hashed_in ys) ≡ map (λ (e : String Global × ListPlace). e.1) ys
+hashed_places [] = refl
+hashed_places (y ∷ ys) = ap (λ (l : List ListPlace). y.1 ∷ l) (hashed_places ys)
 
-pub place_later : (xs ys : List (String Global × ListPlace)) (i j : ℕ) → i ≡ length xs + j → slice_get (places_in (xs ++ ys)) i ≡ slice_get (places_in ys) j
-place_later [] ys i j is = ap (slice_get (places_in ys)) (omega (arith, is))
+-- the places of the first lists, and of those behind them
+pub place_first : (xs ys : List (List ℕ × ListPlace)) (i : ℕ) → i < length xs → slice_get (places_in (xs ++ ys)) i ≡ slice_get (places_in xs) i
+place_first [] ys i inside = absurd (omega (arith, inside))
+place_first (x ∷ xs) ys zero inside = refl
+place_first (x ∷ xs) ys (suc i) inside = place_first xs ys i (omega arith)
+
+pub place_later : (xs : List (List ℕ × ListPlace)) (ys : List (String Global × ListPlace)) (i j : ℕ) → i ≡ length xs + j → slice_get (places_in (xs ++ hashed_in ys)) i ≡ slice_get (map (λ (e : String Global × ListPlace). e.1) ys) j
+place_later [] ys i j is = ap (slice_get (places_in (hashed_in ys))) (omega (arith, is)) ∙ ap (λ (l : List ListPlace). slice_get l j) (hashed_places ys)
 place_later (x ∷ xs) ys zero j is = absurd (omega (arith, is))
 place_later (x ∷ xs) ys (suc i) j is = place_later xs ys i j (omega arith)

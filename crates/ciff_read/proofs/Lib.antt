@@ -45,3 +45,4 @@ pub mod Rising
 pub mod Runs
 pub mod Again
 pub mod RisingTerms
+pub mod RisingEntries

@@ -1,7 +1,6 @@
 -- Places that rise, and the one that is looked for among them.
 use Rattle.std.proofs.Common.{◌≡◌, ◌∙◌, ℕ, zero, suc, ◌+◌, ◌-◌, ◌^◌, ◌<◌, ◌≤◌, List, [], ◌∷◌, ◌++◌, length, map, get_or, All, Some, refl, sym, ap, subst, arith, inl, inr}
-use Rattle.std.specs.Prelude.{slice_get, String}
-use Rattle.std.specs.declared.alloc.Global.{Global}
+use Rattle.std.specs.Prelude.{slice_get}
 use Rattle.std.specs.List.Sorted.{IsStrictlyIncreasing}
 use Rattle.std.proofs.lemmas.Bool.{cases_lt}
 use Rattle.std.proofs.lemmas.Map.Keys.{below_from_sorted, sorted_from_strictly_increasing}
@@ -96,7 +95,7 @@ pub record KeptAt (kept : List KeptList) (i : ℕ) (place : ListPlace) : Type 0 
   pub at : list.at ≡ place.at
   pub count : list.count ≡ place.count
 
-pub entry_kept : (entries : List (String Global × ListPlace)) (i : ℕ) (place : ListPlace) → slice_get (map (λ (e : String Global × ListPlace). e.1) entries) i ≡ Some place → KeptAt (map as_kept entries) i place
+pub entry_kept : (entries : List (List ℕ × ListPlace)) (i : ℕ) (place : ListPlace) → slice_get (map (λ (e : List ℕ × ListPlace). e.1) entries) i ≡ Some place → KeptAt (map as_kept entries) i place
 entry_kept [] i place is = absurd cc
 entry_kept (e ∷ es) zero place is = let same = same_Some e.1 place is in record { list = as_kept e; there = refl; at = ap (λ (p : ListPlace). p.at) same; count = ap (λ (p : ListPlace). p.count) same }
 entry_kept (e ∷ es) (suc i) place is =

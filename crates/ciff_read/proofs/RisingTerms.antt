@@ -1,10 +1,9 @@
 -- Terms that rise by their bytes, and one that is looked for among them.
 use Rattle.std.proofs.Common.{Less, Equal, Greater, ◌≡◌, ◌∙◌, ℕ, zero, suc, ◌+◌, ◌<◌, ◌≤◌, Bool, true, false, cond, List, [], ◌∷◌, ◌++◌, length, get_or, All, refl, sym, ap, subst, arith, inl, inr}
-use Rattle.std.specs.Prelude.{AllPairs, String, string_bytes}
+use Rattle.std.specs.Prelude.{AllPairs}
 use Rattle.std.specs.Ordering.{is_lt, is_eq, nat_cmp, ordering_reverse}
 use Rattle.std.specs.Cmp.Lexicographic.{slice_cmp}
 use Rattle.std.specs.Str.{bytes_eq}
-use Rattle.std.specs.declared.alloc.Global.{Global}
 use Rattle.std.proofs.lemmas.Bool.{cases_lt}
 use Rattle.std.proofs.lemmas.Cmp.{nat_list_cmp_total}
 use Rattle.std.proofs.lemmas.List.{length-append, get_or_default, get_or_append_left}
@@ -99,26 +98,14 @@ more_rise terms term rising before i j d less inside =
 
 -- ---- the terms of lists
 
-pub terms_count : (entries : List (String Global × ListPlace)) → length (terms_in entries) ≡ length entries
+pub terms_count : (entries : List (List ℕ × ListPlace)) → length (terms_in entries) ≡ length entries
 terms_count [] = refl
 terms_count (e ∷ es) = ap suc (terms_count es)
 
-pub terms_append : (xs ys : List (String Global × ListPlace)) → terms_in (xs ++ ys) ≡ terms_in xs ++ terms_in ys
+pub terms_append : (xs ys : List (List ℕ × ListPlace)) → terms_in (xs ++ ys) ≡ terms_in xs ++ terms_in ys
 terms_append [] ys = refl
-terms_append (x ∷ xs) ys = ap (λ (l : List (List ℕ)). string_bytes x.0 ∷ l) (terms_append xs ys)
+terms_append (x ∷ xs) ys = ap (λ (l : List (List ℕ)). x.0 ∷ l) (terms_append xs ys)
 
-pub term_at : (xs : List (String Global × ListPlace)) (i : ℕ) (d : String Global × ListPlace) → i < length xs → get_or (terms_in xs) i [] ≡ string_bytes (get_or xs i d).0
-term_at [] i d inside = absurd (omega (arith, inside))
-term_at (x ∷ xs) zero d inside = refl
-term_at (x ∷ xs) (suc i) d inside = term_at xs i d (omega arith)
-
--- what a push leaves, whether or not there was memory for it
-module _ (xs ys : List (String Global × ListPlace)) (term : String Global) (place : ListPlace) where
-  pub pushed_rise : (done : Bool) → ys ≡ cond done (xs ++ (term, place) ∷ []) xs → AllPairs BytesRise (terms_in xs) → All (λ t. BytesRise t (string_bytes term)) (terms_in xs) → AllPairs BytesRise (terms_in ys)
-  pushed_rise true is rising before =
-      subst (λ (l : List (List ℕ)). AllPairs BytesRise l) (sym (ap terms_in is ∙ terms_append xs ((term, place) ∷ []))) (more_rise (terms_in xs) (string_bytes term) rising before)
-  pushed_rise false is rising before = subst (λ (l : List (String Global × ListPlace)). AllPairs BytesRise (terms_in l)) (sym is) rising
-
-  pub pushed_few : (done : Bool) → ys ≡ cond done (xs ++ (term, place) ∷ []) xs → length ys ≤ length xs + 1
-  pushed_few true is = omega (arith, ap length is, length-append xs ((term, place) ∷ []))
-  pushed_few false is = omega (arith, ap length is)
+-- a list more, whose term all rise to
+pub entry_rises : (entries : List (List ℕ × ListPlace)) (term : List ℕ) (place : ListPlace) → AllPairs BytesRise (terms_in entries) → All (λ t. BytesRise t term) (terms_in entries) → AllPairs BytesRise (terms_in (entries ++ (term, place) ∷ []))
+entry_rises entries term place rising before = subst (λ (terms : List (List ℕ)). AllPairs BytesRise terms) (sym (terms_append entries ((term, place) ∷ []))) (more_rise (terms_in entries) term rising before)

@@ -8,11 +8,15 @@ use Rattle.ciff_read.specs.Pieces.{KeptList, terms_kept}
 abbrev pub kept_as : List ℕ → ListPlace → KeptList
 kept_as term place = record { term = term; at = place.at; count = place.count }
 
-abbrev pub kept_from : List (String Global × ListPlace) → List KeptList
-kept_from entries = map (λ (e : String Global × ListPlace). kept_as (string_bytes e.0) e.1) entries
+abbrev pub kept_from : List (List ℕ × ListPlace) → List KeptList
+kept_from entries = map (λ (e : List ℕ × ListPlace). kept_as e.0 e.1) entries
 
-abbrev pub terms_in : List (String Global × ListPlace) → List (List ℕ)
+abbrev pub terms_in : List (List ℕ × ListPlace) → List (List ℕ)
 terms_in entries = terms_kept (kept_from entries)
 
-abbrev pub places_in : List (String Global × ListPlace) → List ListPlace
-places_in entries = map (λ (e : String Global × ListPlace). e.1) entries
+abbrev pub places_in : List (List ℕ × ListPlace) → List ListPlace
+places_in entries = map (λ (e : List ℕ × ListPlace). e.1) entries
+
+-- the lists of a table by term
+abbrev pub hashed_in : List (String Global × ListPlace) → List (List ℕ × ListPlace)
+hashed_in entries = map (λ (e : String Global × ListPlace). (string_bytes e.0, e.1)) entries

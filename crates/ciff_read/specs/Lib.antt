@@ -15,6 +15,7 @@ pub mod Reaching
 pub mod Reading
 pub mod Recording
 pub mod Refusals
+pub mod RisingEntries
 pub mod Seen
 pub mod Table
 pub mod Walk

@@ -117,7 +117,7 @@ impl KeptLists {
     {
         let first = self.rising.len();
         if index < first {
-            return self.rising.lists[index].1;
+            return self.rising.place(index);
         }
         self.hashed[index - first]
     }
@@ -128,19 +128,15 @@ impl KeptLists {
         ensures ok { OnOk result (kept_in self.new ≡ kept_in self.old ++ kept_as term.now place ∷ []) }
         ensures err { OnErr result (kept_in self.new ≡ kept_in self.old) }
     {
+        if self.hashed.is_empty() && self.rising.are_before(term) {
+            return self.rising.push(term, place);
+        }
         let Ok(term) = String::from_str(alloc, term) else {
             return Err(NoMemory);
         };
-        if self.hashed.is_empty() && self.rising.are_before(term.as_str()) {
-            match self.rising.push(term, place) {
-                Ok(()) => {}
-                Err(_) => return Err(NoMemory),
-            }
-        } else {
-            match self.hashed.insert(term, place) {
-                Ok(_) => {}
-                Err(_) => return Err(NoMemory),
-            }
+        match self.hashed.insert(term, place) {
+            Ok(_) => {}
+            Err(_) => return Err(NoMemory),
         }
         Ok(())
     }

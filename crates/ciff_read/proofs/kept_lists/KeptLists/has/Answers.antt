@@ -2,23 +2,23 @@ use Rattle.std.proofs.Common.{◌∙◌, sym, ap, List}
 use Rattle.std.specs.Prelude.{String}
 use Rattle.std.specs.declared.alloc.Global.{Global}
 use Rattle.ciff_read.specs.declared.kept_lists.ListPlace.{ListPlace}
-use Rattle.ciff_read.specs.KeptEntries.{terms_in}
+use Rattle.ciff_read.specs.KeptEntries.{hashed_in, terms_in}
 use Rattle.ciff_read.specs.Seen.{is_seen}
 use Rattle.ciff_read.proofs.KeptTerms.{found_is, none_there, seen_first, seen_later}
 use Rattle.ciff_read.proofs.kept_lists.KeptLists.has.Goals as goal
 
 pub returns-then-has : goal.returns-then-has
-returns-then-has c = sym (seen_first c.args.term.now c.args.self.now.rising.lists.items c.args.self.now.hashed.entries (sym c.has.ensures ∙ c.if-has.true))
+returns-then-has c = sym (seen_first c.args.term.now c.args.self.now.rising (hashed_in c.args.self.now.hashed.entries) (sym c.has.ensures ∙ c.if-has.true))
 
 pub returns-then-is_empty : goal.returns-then-is_empty
 returns-then-is_empty c =
     let later = c.args.self.now.hashed.entries in
     sym (
-    seen_later c.args.term.now c.args.self.now.rising.lists.items later (sym c.has.ensures ∙ c.if-has.false)
-    ∙ ap (λ (entries : List (String Global × ListPlace)). is_seen c.args.term.now (terms_in entries)) (none_there later (c.is_empty.ensures.0 c.if-is_empty.true))
+    seen_later c.args.term.now c.args.self.now.rising (hashed_in later) (sym c.has.ensures ∙ c.if-has.false)
+    ∙ ap (λ (entries : List (String Global × ListPlace)). is_seen c.args.term.now (terms_in (hashed_in entries))) (none_there later (c.is_empty.ensures.0 c.if-is_empty.true))
     )
 
 pub returns : goal.returns
 returns c =
     let later = c.args.self.now.hashed.entries in
-    c.contains_key.ensures ∙ found_is c.args.term.now later ∙ sym (seen_later c.args.term.now c.args.self.now.rising.lists.items later (sym c.has.ensures ∙ c.if-has.false))
+    c.contains_key.ensures ∙ found_is c.args.term.now later ∙ sym (seen_later c.args.term.now c.args.self.now.rising (hashed_in later) (sym c.has.ensures ∙ c.if-has.false))

@@ -4,22 +4,22 @@ use Rattle.ciff_read.proofs.RisingTerms.{not_seen, upper, lower, found, missing}
 use Rattle.ciff_read.proofs.rising_lists.RisingLists.has.Goals as goal
 
 pub returns-then-are_before : goal.returns-then-are_before
-returns-then-are_before c = sym (not_seen (terms_in c.args.self.now.lists.items) c.args.term.now (c.are_before.ensures c.if-are_before.true))
+returns-then-are_before c = sym (not_seen (terms_in c.args.self.now) c.args.term.now (c.are_before.ensures c.if-are_before.true))
 
 pub halves-preserved-in-Less : goal.halves-preserved-in-Less
 halves-preserved-in-Less c =
     let middle : ℕ = c.halves.from + (c.halves.to - c.halves.from) / 2 in
-    upper (terms_in c.args.self.now.lists.items) c.args.term.now c.args.self.now.rises c.halves.from c.halves.to middle c.halves.invariant (omega arith) (omega (arith, c.halves-test.true)) (sym c.order.ensures ∙ c.in-Less.is)
+    upper (terms_in c.args.self.now) c.args.term.now c.len-to.ensures.rises c.halves.from c.halves.to middle c.halves.invariant (omega arith) (omega (arith, c.halves-test.true)) (sym c.order.ensures ∙ c.in-Less.is)
 
 pub halves-preserved : goal.halves-preserved
 halves-preserved c =
     let middle : ℕ = c.halves.from + (c.halves.to - c.halves.from) / 2 in
-    lower (terms_in c.args.self.now.lists.items) c.args.term.now c.args.self.now.rises c.halves.from c.halves.to middle c.halves.invariant (omega arith) (omega (arith, c.halves-test.true)) (sym c.order.ensures ∙ c.in-Greater.is)
+    lower (terms_in c.args.self.now) c.args.term.now c.len-to.ensures.rises c.halves.from c.halves.to middle c.halves.invariant (omega arith) (omega (arith, c.halves-test.true)) (sym c.order.ensures ∙ c.in-Greater.is)
 
 pub returns-in-Equal : goal.returns-in-Equal
 returns-in-Equal c =
     let middle : ℕ = c.halves.from + (c.halves.to - c.halves.from) / 2 in
-    sym (found (terms_in c.args.self.now.lists.items) c.args.term.now c.args.self.now.rises c.halves.from c.halves.to middle c.halves.invariant (omega arith) (omega (arith, c.halves-test.true)) (sym c.order.ensures ∙ c.in-Equal.is))
+    sym (found (terms_in c.args.self.now) c.args.term.now c.len-to.ensures.rises c.halves.from c.halves.to middle c.halves.invariant (omega arith) (omega (arith, c.halves-test.true)) (sym c.order.ensures ∙ c.in-Equal.is))
 
 pub returns : goal.returns
-returns c = sym (missing (terms_in c.args.self.now.lists.items) c.args.term.now c.args.self.now.rises c.halves.from c.halves.to c.halves.invariant (omega (arith, c.halves-test.false)))
+returns c = sym (missing (terms_in c.args.self.now) c.args.term.now c.len-to.ensures.rises c.halves.from c.halves.to c.halves.invariant (omega (arith, c.halves-test.false)))

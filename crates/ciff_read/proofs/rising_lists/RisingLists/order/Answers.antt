@@ -1,14 +1,16 @@
-use Rattle.std.proofs.Common.{ℕ, List, ap, sym, ◌∙◌}
-use Rattle.std.specs.Prelude.{String, string_bytes}
+use Rattle.std.proofs.Common.{List, [], ℕ, ap, get_or, sym, ◌∙◌}
+use Rattle.std.specs.Prelude.{slice_range}
 use Rattle.std.specs.Cmp.Lexicographic.{slice_cmp}
 use Rattle.std.specs.Ordering.{nat_cmp}
-use Rattle.std.specs.declared.alloc.Global.{Global}
-use Rattle.ciff_read.specs.declared.kept_lists.ListPlace.{ListPlace}
-use Rattle.ciff_read.proofs.RisingTerms.{term_at}
+use Rattle.ciff_read.specs.KeptEntries.{terms_in}
+use Rattle.ciff_read.proofs.RisingEntries.{term_of_list}
 use Rattle.ciff_read.proofs.rising_lists.RisingLists.order.Goals as goal
 
 pub returns : goal.returns
 returns c =
+    let f = c.self.inside in
+    let list = c.index-list.result.now in
     c.cmp.ensures
-    ∙ ap (λ (t : List ℕ). slice_cmp nat_cmp t c.args.term.now)
-    (c.as_str.ensures.value ∙ ap (λ (e : String Global × ListPlace). string_bytes e.0) c.index.ensures ∙ sym (term_at c.args.self.now.lists.items c.args.index c.index.result.now c.requires))
+    ∙ ap (λ (bytes : List ℕ). slice_cmp nat_cmp (slice_range bytes list.from list.to) c.as_bytes.result.now) c.deref.ensures.value
+    ∙ ap (λ (term : List ℕ). slice_cmp nat_cmp term c.as_bytes.result.now) (sym (term_of_list f.bytes.items f.lists.items c.args.self.now c.self.view_is c.args.index list c.requires c.index-list.ensures))
+    ∙ ap (slice_cmp nat_cmp (get_or (terms_in c.args.self.now) c.args.index [])) c.as_bytes.ensures.value
