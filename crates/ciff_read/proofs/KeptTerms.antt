@@ -1,5 +1,5 @@
 -- Terms in a table of lists.
-use Rattle.std.proofs.Common.{◌≡◌, ℕ, zero, suc, ◌+◌, ◌<◌, Bool, true, false, cond, List, [], ◌∷◌, ◌++◌, length, get_or, map, Some, refl, sym, ap, ◌∙◌, arith}
+use Rattle.std.proofs.Common.{◌≡◌, ℕ, zero, suc, ◌+◌, ◌<◌, Bool, true, false, cond, List, [], ◌∷◌, ◌++◌, length, map, Some, refl, sym, ap, ◌∙◌, arith}
 use Rattle.std.specs.Prelude.{◌||◌, is_some, slice_get, String, string_bytes, string_eq}
 use Rattle.std.specs.List.{list_any}
 use Rattle.std.specs.Map.{lookup}
@@ -10,7 +10,7 @@ use Rattle.std.proofs.lemmas.List.Folds.{list_any-append}
 use Rattle.indexmap.specs.IndexMap.{insert_entry}
 use Rattle.ciff_read.specs.declared.kept_lists.ListPlace.{ListPlace}
 use Rattle.ciff_read.specs.KeptEntries.{hashed_in, kept_as, kept_from, places_in, terms_in}
-use Rattle.ciff_read.specs.Pieces.{KeptList, terms_kept}
+use Rattle.ciff_read.specs.Pieces.{KeptList}
 use Rattle.ciff_read.specs.Seen.{is_seen}
 use Rattle.ciff_read.proofs.RisingTerms.{terms_append}
 
@@ -59,16 +59,13 @@ module _ (term : List ℕ) (xs ys : List (List ℕ × ListPlace)) where
       go false none = none
 
 -- a list whose term is new is kept last
-pub kept_last : (xs : List (List ℕ × ListPlace)) (term : List ℕ) (place : ListPlace) → kept_from (xs ++ (term, place) ∷ []) ≡ kept_from xs ++ kept_as term place ∷ []
-kept_last xs term place = map-append as_kept xs ((term, place) ∷ [])
-
 pub kept_more : (key : String Global) (place : ListPlace) (xs : List (List ℕ × ListPlace)) (ys : List (String Global × ListPlace)) → is_seen (string_bytes key) (terms_in (xs ++ hashed_in ys)) ≡ false
     → kept_from (xs ++ hashed_in (insert_entry string_eq ys key place)) ≡ kept_from (xs ++ hashed_in ys) ++ kept_as (string_bytes key) place ∷ []
 kept_more key place xs ys new =
     let last : hashed_in (ys ++ (key, place) ∷ []) ≡ hashed_in ys ++ (string_bytes key, place) ∷ [] = map-append (λ (e : String Global × ListPlace). (string_bytes e.0, e.1)) ys ((key, place) ∷ []) in
     ap (λ (l : List (String Global × ListPlace)). kept_from (xs ++ hashed_in l)) (insert_new string_eq ys key place (any_is key ys ∙ unseen_later (string_bytes key) xs (hashed_in ys) new))
     ∙ ap (λ (l : List (List ℕ × ListPlace)). kept_from (xs ++ l)) last
-    ∙ ap kept_from (sym (append_assoc xs (hashed_in ys) ((string_bytes key, place) ∷ []))) ∙ kept_last (xs ++ hashed_in ys) (string_bytes key) place
+    ∙ ap kept_from (sym (append_assoc xs (hashed_in ys) ((string_bytes key, place) ∷ []))) ∙ map-append as_kept (xs ++ hashed_in ys) ((string_bytes key, place) ∷ [])
 
 pub none_there : {X : Type 0} (xs : List X) → length xs ≡ 0 → xs ≡ []
 none_there [] is = refl

@@ -1,5 +1,5 @@
 -- Terms that rise by their bytes, and one that is looked for among them.
-use Rattle.std.proofs.Common.{Less, Equal, Greater, ◌≡◌, ◌∙◌, ℕ, zero, suc, ◌+◌, ◌<◌, ◌≤◌, Bool, true, false, cond, List, [], ◌∷◌, ◌++◌, length, get_or, All, refl, sym, ap, subst, arith, inl, inr}
+use Rattle.std.proofs.Common.{Less, Equal, Greater, ◌≡◌, ◌∙◌, ℕ, suc, ◌+◌, ◌<◌, ◌≤◌, true, false, List, [], ◌∷◌, ◌++◌, length, get_or, All, refl, sym, ap, subst, arith, inl, inr}
 use Rattle.std.specs.Prelude.{AllPairs}
 use Rattle.std.specs.Ordering.{is_lt, is_eq, nat_cmp, ordering_reverse}
 use Rattle.std.specs.Cmp.Lexicographic.{slice_cmp}

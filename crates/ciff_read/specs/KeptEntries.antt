@@ -1,4 +1,4 @@
--- Lists that were given, as they are held: their terms and their places.
+-- Lists that were given, by their terms and their places.
 use Rattle.std.specs.Prelude.{ℕ, List, map, String, string_bytes}
 use Rattle.std.specs.declared.alloc.Global.{Global}
 use Rattle.ciff_read.specs.declared.kept_lists.ListPlace.{ListPlace}
