@@ -7,12 +7,25 @@ ghost use Rattle.index_file.specs.Tables.{told};
 use crate::segment_head::SegmentHead;
 use segment_codecs::SegmentCursor;
 
+/// The mark of the next term, which no document has. Behind the greatest one all marks are taken off.
+pub(crate) fn next_mark(marks: &mut [u16], last: u16) -> u16
+    requires { All (λ mark. mark ≤ last) marks.old }
+    ensures below { All (λ mark. mark < result) marks.new }
+    ensures count { length marks.new ≡ length marks.old }
+{
+    if last < u16::MAX {
+        return last + 1;
+    }
+    marks.fill(0);
+    1
+}
+
 /// Marks the documents of a payload in turn, up to the first that has the mark already, and tells
 /// whether there is one.
 #[inline(never)]
 pub(crate) fn mark_payload(
-    marks: &mut [u32],
-    now: u32,
+    marks: &mut [u16],
+    now: u16,
     bytes: &[u8],
     docs: u32,
     head: SegmentHead,
@@ -40,7 +53,7 @@ pub(crate) fn mark_payload(
 
 /// The same for documents in a row.
 #[inline(always)]
-pub(crate) fn mark_docs(marks: &mut [u32], now: u32, docs: &[u32]) -> bool
+pub(crate) fn mark_docs(marks: &mut [u16], now: u16, docs: &[u32]) -> bool
     requires { All (λ doc. doc < length marks.old) docs.now }
     ensures met { result ≡ meets_marked now docs.now marks.old }
     ensures marks { result ≡ false → marks.new ≡ marked now docs.now marks.old }

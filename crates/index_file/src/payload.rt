@@ -80,8 +80,8 @@ pub(crate) fn check_apart(
     docs: u32,
     head: SegmentHead,
     at: usize,
-    marks: &mut [u32],
-    now: u32,
+    marks: &mut [u16],
+    now: u16,
     block: &mut [u32; 4096],
 ) -> Result<(), OpenFault>
     requires at { at ≤ length bytes.now }
@@ -112,8 +112,8 @@ fn check_few(
     docs: u32,
     head: SegmentHead,
     at: usize,
-    marks: &mut [u32],
-    now: u32,
+    marks: &mut [u16],
+    now: u16,
     block: &mut [u32; 4096],
 ) -> Result<(), OpenFault>
     requires at { at ≤ length bytes.now }
@@ -146,8 +146,8 @@ fn check_many(
     docs: u32,
     head: SegmentHead,
     at: usize,
-    marks: &mut [u32],
-    now: u32,
+    marks: &mut [u16],
+    now: u16,
 ) -> Result<(), OpenFault>
     requires at { at ≤ length bytes.now }
     requires few { length bytes.now ≤ 2 ^ 32 }

@@ -4,6 +4,7 @@ ghost use Rattle.index_layout.specs.Refusals.{Answers};
 ghost use Rattle.index_file.specs.Payloads.{IsCounted, IsPayload, row_heads, row_segment, row_terms};
 ghost use Rattle.index_file.specs.Tables.{AreRows, HasHead, row_head};
 
+use crate::marks::next_mark;
 use crate::segment::Segment;
 use crate::term_payloads::read_term_payloads;
 use crate::term_row::TermRow;
@@ -11,7 +12,7 @@ use index_layout::OpenFault;
 use std::alloc::Global;
 
 /// Checks the payloads of all segments, notes where each begins, and gives the place behind the
-/// last. Meanwhile it takes four bytes for each document.
+/// last. Meanwhile it takes two bytes for each document.
 #[inline(never)]
 pub(crate) fn read_payloads(
     alloc: Global,
@@ -36,26 +37,20 @@ pub(crate) fn read_payloads(
     ensures payloads { IfOk result (λ _. All (IsPayload bytes.now docs) segments.new) }
     ensures end { IfOk result (λ end. end ≤ length bytes.now) }
 {
-    let mut table = match vec![in alloc; 0u32; docs as usize] {
+    let mut table = match vec![in alloc; 0u16; docs as usize] {
         Ok(table) => table,
         Err(_) => return Err(OpenFault::NoMemory),
     };
     let marks = table.as_mut_slice();
     let mut block = [0u32; 4096];
+    let mut now = 0;
     let mut at = from;
     'terms: for i in 0..rows.len() - 1 {
         let first = rows[i].segment;
         let last = rows[i + 1].segment;
+        now = next_mark(marks, now);
         at = match read_between(
-            bytes,
-            docs,
-            segments,
-            first,
-            last,
-            marks,
-            i as u32 + 1,
-            at,
-            &mut block,
+            bytes, docs, segments, first, last, marks, now, at, &mut block,
         ) {
             Ok(end) => end,
             Err(fault) => return Err(fault),
@@ -71,8 +66,8 @@ fn read_between(
     segments: &mut [Segment],
     first: u32,
     last: u32,
-    marks: &mut [u32],
-    now: u32,
+    marks: &mut [u16],
+    now: u16,
     from: usize,
     block: &mut [u32; 4096],
 ) -> Result<usize, OpenFault>

@@ -15,8 +15,8 @@ pub(crate) fn read_term_payloads(
     bytes: &[u8],
     docs: u32,
     segments: &mut [Segment],
-    marks: &mut [u32],
-    now: u32,
+    marks: &mut [u16],
+    now: u16,
     from: usize,
     block: &mut [u32; 4096],
 ) -> Result<usize, OpenFault>
@@ -78,8 +78,8 @@ fn read_apart(
     bytes: &[u8],
     docs: u32,
     segments: &mut [Segment],
-    marks: &mut [u32],
-    now: u32,
+    marks: &mut [u16],
+    now: u16,
     from: usize,
     block: &mut [u32; 4096],
 ) -> Result<usize, OpenFault>

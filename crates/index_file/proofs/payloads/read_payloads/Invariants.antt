@@ -13,7 +13,7 @@ invariant-terms l = record {
   there : All (HasHead l.bytes) l.segments;
   below : All (EndsBy (row_of l.rows l.i).segment) (take (l.i + 1) l.rows);
   payloads : All (IsPayload l.bytes l.docs) (take (row_of l.rows l.i).segment l.segments);
-  marks : All (λ mark. mark ≤ l.i) l.marks;
+  marks : All (λ mark. mark ≤ l.now) l.marks;
   count : l.docs ≤ length l.marks;
   at : l.at ≤ length l.bytes;
 }
