@@ -1,4 +1,5 @@
 pub mod Compose
+pub mod Digits
 pub mod Lines
 pub mod Parts
 pub mod Reading

@@ -1,18 +1,26 @@
--- The columns that the run lines of an answer share.
-use Rattle.std.specs.Prelude.{ℕ, ◌≤◌, List, ◌++◌, codes, length}
+-- What the run lines of an answer share.
+use Rattle.std.specs.Prelude.{ℕ, ◌≡◌, ◌+◌, ◌≤◌, List, ◌++◌, codes, length}
+use Rattle.trec_run.specs.declared.frame.Frame.{Frame}
 use Rattle.trec_run.specs.declared.line.Shared.{Shared}
 
 -- the tag with what is behind it
 abbrev pub whole_tag : Shared → List ℕ
 whole_tag shared = shared.tag.now ++ (shared.point.now ++ shared.part.now)
 
--- what stands behind the score
-abbrev pub ending_of : Shared → List ℕ
-ending_of shared = codes " " ++ (shared.tag.now ++ (shared.point.now ++ (shared.part.now ++ codes "\n")))
+-- what stands before the name
+abbrev pub front_of : List ℕ → List ℕ
+front_of id = id ++ codes " Q0 "
 
--- each has few bytes
+-- what stands behind the score
+abbrev pub tail_of : List ℕ → List ℕ
+tail_of tag = codes " " ++ (tag ++ codes "\n")
+
+-- both have at most 64 bytes
 pub record AreShort (shared : Shared) : Type 0 where
-  pub id : length shared.id.now ≤ 128
-  pub tag : length shared.tag.now ≤ 128
-  pub point : length shared.point.now ≤ 128
-  pub part : length shared.part.now ≤ 128
+  pub front : length shared.id.now ≤ 60
+  pub tail : length shared.tag.now + length shared.point.now + length shared.part.now ≤ 62
+
+-- the frame of the lines with this id and this tag
+pub record IsFrame (frame : Frame) (id tag : List ℕ) : Type 0 where
+  pub front : frame.front ≡ front_of id
+  pub tail : frame.tail ≡ tail_of tag

@@ -1,15 +1,16 @@
 //! The run lines of a few hits.
 
-ghost use Rattle.std.specs.Prelude.{◌≡◌, ◌+◌, ◌*◌, ◌<◌, ◌≤◌, ◌^◌, ◌++◌, [], length, All};
+ghost use Rattle.std.specs.Prelude.{ℕ, ◌≡◌, ◌+◌, ◌*◌, ◌<◌, ◌≤◌, ◌^◌, ◌++◌, [], length, All, IfSome, List};
 ghost use Rattle.std.specs.List.{slice_index_or};
 ghost use Rattle.jass_base.specs.declared.answer.Hit.{Hit};
 ghost use Rattle.ranking_model.specs.Report.{run_lines};
-ghost use Rattle.trec_run.specs.Columns.{AreShort, whole_tag};
+ghost use Rattle.trec_run.specs.Columns.{IsFrame, whole_tag};
 ghost use Rattle.trec_run.specs.Gathering.{Gathers};
 
 use crate::buffer::Buffer;
+use crate::frame::Frame;
 use crate::gather::flush;
-use crate::line::{SHORT, SHORT_LINE, Shared, gather_line, push_line, tag_ending};
+use crate::line::{SHORT, SHORT_LINE, Shared, gather_line, push_line};
 use jass_base::{Hit, Names, Sink, WriteFault};
 
 /// The most hits of a block.
@@ -20,24 +21,29 @@ pub fn gather_block<S: Sink, N: Names>(
     out: &mut S,
     buffer: &mut Buffer,
     shared: &Shared<'_>,
+    frame: &Option<Frame>,
     index: &N,
     hits: &[Hit],
     first: u64,
 ) -> Result<(), WriteFault>
     requires docs { All (λ (hit : Hit). hit.doc < length (N.names index.now)) hits.now }
+    requires frame { IfSome frame.now (λ frame. IsFrame frame shared.now.id.now (whole_tag shared.now)) }
     requires few { length hits.now ≤ 16 }
     requires ranks { first + length hits.now < 2 ^ 64 }
     ensures { Gathers S.written S.faults S.rest out.old out.new buffer.old buffer.new
         (run_lines (N.names index.now) shared.now.id.now (whole_tag shared.now) first hits.now) result }
 {
+    let Some(frame) = frame else {
+        return gather_each(out, buffer, shared, index, hits, first);
+    };
     // Names are seldom in a cache. All are looked up before a line is written, since the loads then overlap.
-    if longest_name(index, hits) > SHORT || !shared.are_short() {
+    if longest_name(index, hits) > SHORT {
         return gather_each(out, buffer, shared, index, hits, first);
     }
     if buffer.room() < BLOCK * SHORT_LINE {
         flush(out, buffer)?;
     }
-    push_each(buffer, shared, index, hits, first);
+    push_each(buffer, frame, index, hits, first);
     Ok(())
 }
 
@@ -53,28 +59,20 @@ fn longest_name<N: Names>(index: &N, hits: &[Hit]) -> usize
     longest
 }
 
-/// Puts run lines for which there is room behind what was gathered.
-fn push_each<N: Names>(
-    buffer: &mut Buffer,
-    shared: &Shared<'_>,
-    index: &N,
-    hits: &[Hit],
-    first: u64,
-)
+/// Puts run lines with this frame, for which there is room behind what was gathered.
+fn push_each<N: Names>(buffer: &mut Buffer, frame: &Frame, index: &N, hits: &[Hit], first: u64)
     requires docs { All (λ (hit : Hit). hit.doc < length (N.names index.now)) hits.now }
-    requires shared { AreShort shared.now }
     requires names { All (λ (hit : Hit). length (slice_index_or (N.names index.now) hit.doc []) ≤ 128) hits.now }
     requires few { length hits.now ≤ 16 }
     requires ranks { first + length hits.now < 2 ^ 64 }
     requires room { length buffer.old + 16 * 1024 ≤ 65536 }
-    ensures { buffer.new ≡ buffer.old
-        ++ run_lines (N.names index.now) shared.now.id.now (whole_tag shared.now) first hits.now }
+    ensures { (id tag : List ℕ) → IsFrame frame.now id tag
+        → buffer.new ≡ buffer.old ++ run_lines (N.names index.now) id tag first hits.now }
 {
-    let mut ending = tag_ending(shared);
     let mut rank = first;
     for hit in hits {
         let name = index.name(hit.doc).as_bytes();
-        push_line(buffer, shared.id, name, rank, hit.score, &mut ending);
+        push_line(buffer, frame, name, rank, hit.score);
         rank += 1;
     }
 }

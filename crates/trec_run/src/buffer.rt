@@ -1,5 +1,8 @@
-ghost use Rattle.std.specs.Prelude.{◌≡◌, ◌+◌, ◌≤◌, [], ◌++◌, length};
+ghost use Rattle.std.specs.Prelude.{◌≡◌, ◌+◌, ◌≤◌, [], ◌++◌, length, decimal};
 
+use crate::digit_count::digit_count;
+use crate::short_text::{self, ShortText};
+use itoa::write_digits;
 use std::marker::Model;
 
 /// The room for gathered bytes.
@@ -58,6 +61,27 @@ impl Buffer {
     {
         let end = self.len + bytes.len();
         self.bytes[self.len..end].copy_from_slice(bytes);
+        self.len = end;
+    }
+
+    /// Puts a short text behind the others. Its whole row is copied, and has to find room.
+    pub(crate) fn push_short(&mut self, text: &ShortText)
+        requires { length self.old + 64 ≤ 65536 }
+        ensures text { self.new ≡ self.old ++ text.now }
+        ensures few { length self.new ≤ length self.old + 64 }
+    {
+        self.bytes[self.len..self.len + short_text::ROOM].copy_from_slice(text.row());
+        self.len += text.len();
+    }
+
+    /// Puts the digits of a number behind the others.
+    pub(crate) fn push_number(&mut self, number: u64)
+        requires { length self.old + 20 ≤ 65536 }
+        ensures text { self.new ≡ self.old ++ decimal number }
+        ensures few { length self.new ≤ length self.old + 20 }
+    {
+        let end = self.len + digit_count(number);
+        write_digits(number, &mut self.bytes, end);
         self.len = end;
     }
 }

@@ -9,13 +9,15 @@ mod answer;
 mod block;
 mod buffer;
 mod columns;
-mod ending;
+mod digit_count;
+mod frame;
 mod gather;
 pub mod laws;
 mod line;
 mod report;
 mod run;
 mod run_line;
+mod short_text;
 mod totals;
 
 pub use answer::{gather_answer, put_answer};

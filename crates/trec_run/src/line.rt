@@ -1,16 +1,22 @@
 ghost use Rattle.std.specs.Prelude.{◌≡◌, ◌+◌, ◌≤◌, ◌++◌, codes, decimal, length, IsTrue};
 ghost use Rattle.ranking_model.specs.Report.{run_line};
 ghost use Rattle.trec_run.specs.Gathering.{Gathers};
-ghost use Rattle.trec_run.specs.Columns.{AreShort, ending_of, whole_tag};
+ghost use Rattle.trec_run.specs.Columns.{AreShort, whole_tag};
 
 use crate::buffer::Buffer;
-use crate::ending::Ending;
+use crate::frame::Frame;
 use crate::gather::gather_all;
 use itoa::Buffer as Digits;
 use jass_base::{Sink, WriteFault};
 
-/// The most bytes of a name, and of each shared column, in a line that is pushed as a whole.
+/// The most bytes of a name in a line that is pushed as a whole.
 pub const SHORT: usize = 128;
+
+/// The most bytes of the id in such a line.
+const SHORT_ID: usize = 60;
+
+/// The most bytes of the tag, with its point and its part, in such a line.
+const SHORT_TAG: usize = 62;
 
 /// The room that such a line needs at the most.
 pub const SHORT_LINE: usize = 1024;
@@ -26,61 +32,30 @@ pub struct Shared<'a> {
 }
 
 impl<'a> Shared<'a> {
-    /// Whether each of the columns has few bytes.
+    /// Whether what stands before the name, and what stands behind the score, are short texts.
     pub fn are_short(&self) -> bool
         ensures { IsTrue result → AreShort self.now }
     {
-        self.id.len() <= SHORT
-            && self.tag.len() <= SHORT
-            && self.point.len() <= SHORT
-            && self.part.len() <= SHORT
+        let tag = self.tag.len().saturating_add(self.point.len());
+        self.id.len() <= SHORT_ID && tag.saturating_add(self.part.len()) <= SHORT_TAG
     }
 }
 
-/// The end of each of the lines, behind the score.
-pub fn tag_ending(shared: &Shared<'_>) -> Ending
-    requires { AreShort shared.now }
-    ensures text { result ≡ ending_of shared.now }
-    ensures few { length result ≤ 400 }
-{
-    let mut ending = Ending::new();
-    ending.prepend(b"\n");
-    ending.prepend(shared.part);
-    ending.prepend(shared.point);
-    ending.prepend(shared.tag);
-    ending.prepend(b" ");
-    ending
-}
-
-/// Puts a run line for which there is room behind what was gathered. The ending is what stands behind the score, and
-/// is left as it was.
-pub fn push_line(
-    buffer: &mut Buffer,
-    id: &[u8],
-    name: &[u8],
-    rank: u64,
-    score: u32,
-    ending: &mut Ending,
-)
-    requires id { length id.now ≤ 128 }
+/// Puts a run line for which there is room behind what was gathered.
+pub fn push_line(buffer: &mut Buffer, frame: &Frame, name: &[u8], rank: u64, score: u32)
     requires name { length name.now ≤ 128 }
-    requires ending { length ending.old ≤ 400 }
     requires room { length buffer.old + 1024 ≤ 65536 }
-    ensures line { buffer.new ≡ buffer.old ++ (id.now ++ (codes " Q0 " ++ (name.now ++ (codes " "
-        ++ (decimal rank ++ (codes " " ++ (decimal score ++ ending.old))))))) }
+    ensures line { buffer.new ≡ buffer.old ++ (frame.now.front ++ (name.now ++ (codes " "
+        ++ (decimal rank ++ (codes " " ++ (decimal score ++ frame.now.tail)))))) }
     ensures few { length buffer.new ≤ length buffer.old + 1024 }
-    ensures ending { ending.new ≡ ending.old }
 {
-    let kept = ending.len();
-    ending.prepend_number(u64::from(score));
-    ending.prepend(b" ");
-    ending.prepend_number(rank);
-    ending.prepend(b" ");
-    buffer.push(id);
-    buffer.push(b" Q0 ");
+    buffer.push_short(&frame.front);
     buffer.push(name);
-    buffer.push(ending.as_slice());
-    ending.keep_last(kept);
+    buffer.push(b" ");
+    buffer.push_number(rank);
+    buffer.push(b" ");
+    buffer.push_number(u64::from(score));
+    buffer.push_short(&frame.tail);
 }
 
 /// Gathers a run line piece by piece.

@@ -1,11 +1,14 @@
-use Rattle.std.proofs.Common.{◌<◌, ℕ, List, ◌+◌, ◌++◌, length, All, refl, subst, sym, arith}
+use Rattle.std.proofs.Common.{◌<◌, ℕ, List, [], ◌+◌, ◌++◌, length, All, refl, subst, sym, arith}
 use Rattle.std.proofs.lemmas.List.Elements.{All-drop}
 use Rattle.jass_base.specs.declared.answer.Hit.{Hit}
 use Rattle.ranking_model.specs.Report.{run_lines}
 use Rattle.trec_run.specs.Columns.{whole_tag}
-use Rattle.trec_run.proofs.Compose.{gather_failed, gather_more}
+use Rattle.trec_run.proofs.Compose.{gather_failed, gather_more, nothing_gathered}
 use Rattle.trec_run.proofs.Lines.{block_done, block_next}
 use Rattle.trec_run.proofs.answer.gather_blocks.Goals as goal
+
+pub loop-rest-init : goal.loop-rest-init
+loop-rest-init g c = record { docs = c.requires; ranked = refl; left = ([], nothing_gathered g.S.Sink.written g.S.Sink.faults g.S.Sink.rest c.args.out.now c.args.buffer.now, refl) }
 
 pub returns-in_err-gather_block : goal.returns-in_err-gather_block
 returns-in_err-gather_block g c =
