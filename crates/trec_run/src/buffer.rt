@@ -64,7 +64,9 @@ impl Buffer {
         self.len = end;
     }
 
-    /// Puts a short text behind the others. Its whole row is copied, and has to find room.
+    /// Puts a short text behind the others. Its whole row is copied, and has to find room. Inlined, so that a loop over
+    /// lines holds the row in registers.
+    #[inline(always)]
     pub(crate) fn push_short(&mut self, text: &ShortText)
         requires { length self.old + 64 ≤ 65536 }
         ensures text { self.new ≡ self.old ++ text.now }
