@@ -114,11 +114,14 @@ unmap {A} {B} R f (x ∷ xs) h = (each xs h.0, unmap R f xs h.1)
     each [] k = tt
     each (y ∷ ys) k = (k.0, each ys k.1)
 
+pub as_many : (lists : List ListEntry) (heads : List TermHeads) → HaveEntries lists heads → length heads ≡ length lists
+as_many lists heads have = sym (length-map heads (λ (t : TermHeads). t.term)) ∙ ap length have.terms ∙ length-map lists (λ (e : ListEntry). e.term)
+
 -- all entries
 pub all_entries : (lists : List ListEntry) (heads : List TermHeads) → AllPairs (λ (a b : ListEntry). BytesRise a.term b.term) lists → length lists ≤ 2 ^ 24 → sum_by (λ (e : ListEntry). e.place.count) lists ≤ 2 ^ 29
     → HaveEntries lists heads → AreEntries (map entry_data heads)
 all_entries lists heads rising few postings have =
-    let long : length heads ≡ length lists = sym (length-map heads (λ (t : TermHeads). t.term)) ∙ ap length have.terms ∙ length-map lists (λ (e : ListEntry). e.term) in
+    let long : length heads ≡ length lists = as_many lists heads have in
     let terms : Pairs BytesRise (map (λ (t : TermHeads). t.term) heads) = subst (λ (xs : List (List ℕ)). Pairs BytesRise xs) (sym have.terms) (pairs_map BytesRise (λ (e : ListEntry). e.term) lists (pairs_by_recursion (λ (a b : ListEntry). BytesRise a.term b.term) lists rising)) in
     record {
       few = omega (arith, length-map heads entry_data, long, few);

@@ -3,6 +3,7 @@ mod Beside
 mod Finished
 mod Headed
 mod Imported
+mod Made
 mod Outlining
 mod Ready
 mod Surveying

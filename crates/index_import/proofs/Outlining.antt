@@ -33,7 +33,7 @@ use Rattle.impact_segments.proofs.OneTerm.{all_map_at}
 use Rattle.impact_segments.proofs.Orders.{strictly}
 use Rattle.shared_lemmas.proofs.Pairs.{pairs_by_places, pairs_by_recursion, pairs_map, pairs_unmap}
 use Rattle.index_import.specs.Outlining.{AreInOrder, IsOutline, IsOutlined, has_postings, list_there, lists_there, names_of}
-use Rattle.index_import.specs.Surveying.{AreGiven, AreKept, HoldsMost, IsSurvey, has_some, kept_entry, numbered}
+use Rattle.index_import.specs.Surveying.{AreGiven, AreKept, HoldsMost, IsSurvey, KeepsAll, has_some, kept_entry, numbered}
 use Rattle.index_import.specs.declared.list_entry.ListEntry.{ListEntry}
 use Rattle.index_import.proofs.Ready.{list_there_is}
 
@@ -160,6 +160,7 @@ outlined w docs first lists names lengths total kept ordered order sorted is = r
   few_lists = omega (arith, length_permutation first lists order, few_entries w.kept first kept.lists_are, kept.ranges.lists_given, kept.ranges.few_lists);
   rising = rises lists sorted (unmapped (λ (a b : List ℕ). a ≢ b) term_of lists (moved bytes_eq bytes_eq-Decides (map term_of first) (map term_of lists) (IsPermutation-map term_of first lists order) (entries_differ w.kept first kept.lists_are kept.differ)));
   postings = omega (arith, sum_by-IsPermutation count_of first lists order, few_counted w.kept first kept.lists_are, kept.ranges.few_postings);
+  keep_all = All-permutation (KeepsAll w.docs) first lists order kept.keep_all;
 }
 
 -- ---- the outline of a content that is told

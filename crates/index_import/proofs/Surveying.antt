@@ -1,7 +1,8 @@
 -- What the first pass over a file keeps, piece by piece.
-use Rattle.std.proofs.Common.{◌≡◌, ◌≢◌, ℕ, ◌+◌, ◌-◌, ◌≤◌, Bool, true, false, cond, List, [], ◌∷◌, ◌++◌, map, length, filter, Option, Some, None, Result, Ok, Err, refl, sym, ap, subst, ◌∙◌, arith}
+use Rattle.std.proofs.Common.{◌≡◌, ◌≢◌, ℕ, ◌+◌, ◌-◌, ◌≤◌, ◌<◌, ◌⊎◌, inl, inr, Bool, true, false, cond, List, [], ◌∷◌, ◌++◌, map, length, filter, Option, Some, None, Result, Ok, Err, refl, sym, ap, subst, ◌∙◌, arith}
 use Rattle.std.specs.Prelude.{◌||◌, ◌==◌, All, AllPairs, IsSome}
 use Rattle.std.specs.List.{AllByRecursion, AllZip}
+use Rattle.std.specs.List.Sorted.{IsStrictlyIncreasing}
 use Rattle.std.specs.Str.{bytes_eq}
 use Rattle.std.proofs.lemmas.Bool.Decides.{nat_tests, not_from_Decides}
 use Rattle.std.proofs.lemmas.List.{length-append, map-append}
@@ -12,8 +13,10 @@ use Rattle.jass_base.specs.CiffViews.{header_data, list_data}
 use Rattle.jass_base.specs.Ciff.{FitsList, HeaderData, ListData}
 use Rattle.jass_base.specs.Lists.{HasDocsBelow}
 use Rattle.jass_base.specs.Outside.{Files, ForContent}
+use Rattle.jass_base.specs.Postings.{HasTfInRange, docs_of}
 use Rattle.jass_base.specs.declared.doc_record.DocRecord.{DocRecord}
 use Rattle.jass_base.specs.declared.header.Header.{Header}
+use Rattle.jass_base.specs.declared.posting.Posting.{Posting}
 use Rattle.jass_base.specs.declared.postings_list.PostingsList.{PostingsList}
 use Rattle.ciff_read.specs.Assembling.{Assembles, IsKeptList, Parts, collection_of, only_header, with_piece}
 use Rattle.ciff_read.specs.Given.{Advances, Gives, GivesTold, piece_data}
@@ -32,7 +35,7 @@ use Rattle.ciff_read.specs.declared.refusal.CiffFault.TheVariants as faults
 use Rattle.ciff_read.specs.declared.refusal.CiffRefusal.{CiffRefusal}
 use Rattle.ciff_read.proofs.Told.{for_all, for_both}
 use Rattle.impact_segments.specs.Bounds.{most_tf}
-use Rattle.index_import.specs.Surveying.{HoldsMost, IsSurvey, has_some, kept_entry, numbered}
+use Rattle.index_import.specs.Surveying.{AreKept, HoldsMost, IsSurvey, KeepsAll, entry_postings, has_some, kept_entry, numbered}
 use Rattle.index_import.specs.declared.list_entry.ListEntry.{ListEntry}
 use Rattle.index_import.proofs.Widening.{list_fits}
 
@@ -133,6 +136,46 @@ module _ (name : List ℕ) (old new : WalkView) (docs : List (ℕ × DocRecord))
 
 pub entry_is : (e : ListEntry) (at : ℕ) (list : PostingsList) → e.term ≡ list.term → e.place.at ≡ at → e.place.count ≡ length list.postings → kept_entry e ≡ kept_of at list
 entry_is e at list term place count = cc
+
+-- the postings that are kept of a list are its own
+module _ (e : ListEntry) (list : PostingsList) (count : e.place.count ≡ length list.postings) (kept : (entry_postings e ≡ []) ⊎ (entry_postings e ≡ list.postings)) where
+  pub kept_same : 1 ≤ length (entry_postings e) → entry_postings e ≡ list.postings
+  kept_same some = one kept
+    where
+      one : (entry_postings e ≡ []) ⊎ (entry_postings e ≡ list.postings) → entry_postings e ≡ list.postings
+      one (inl none) = absurd (omega (arith, some, ap length none))
+      one (inr same) = same
+
+  pub kept_fit : (docs : ℕ) → HasDocsBelow docs list → KeepsAll docs e
+  kept_fit docs below some =
+      let same : entry_postings e ≡ list.postings = kept_same some in
+      record {
+        counted = ap length same ∙ sym count;
+        rising = subst (λ (postings : List Posting). IsStrictlyIncreasing (docs_of postings)) (sym same) list.rising;
+        tf = subst (All HasTfInRange) (sym same) list.tf_in_range;
+        below = subst (λ (postings : List Posting). All (λ doc. doc < docs) (docs_of postings)) (sym same) below;
+      }
+
+-- keeping all, list by list
+pub keeps_none : (docs : ℕ) (lists : List ListEntry) → lists ≡ [] → All (KeepsAll docs) lists
+keeps_none docs lists none = subst (All (KeepsAll docs)) (sym none) (All-nil (KeepsAll docs))
+
+pub keeps_same : (docs now : ℕ) (lists : List ListEntry) → now ≡ docs → All (KeepsAll docs) lists → All (KeepsAll now) lists
+keeps_same docs now lists same all = subst (λ (n : ℕ). All (KeepsAll n) lists) (sym same) all
+
+pub keeps_more : (docs now : ℕ) (lists longer : List ListEntry) (e : ListEntry) → now ≡ docs → longer ≡ lists ++ e ∷ [] → KeepsAll docs e → All (KeepsAll docs) lists → All (KeepsAll now) longer
+keeps_more docs now lists longer e same more one all = keeps_same docs now longer same (subst (All (KeepsAll docs)) (sym more) (All-push (KeepsAll docs) lists e all one))
+
+-- what was kept at the end of a file
+pub all_kept : (name : List ℕ) (old new : WalkView) (docs : List (ℕ × DocRecord)) (lists : List ListEntry) → Holds name old docs lists → All (KeepsAll old.docs) lists → KeepsRanges new → new.kept ≡ old.kept → old.given ≡ old.docs → new.docs ≡ old.docs
+    → AreKept new docs lists
+all_kept name old new docs lists before keeps ranges kept given count = record {
+  ranges = ranges;
+  lists_are = before.lists_are ∙ sym (ap (filter has_some) kept);
+  differ = subst (λ (ks : List KeptList). AllPairs (λ (a b : List ℕ). a ≢ b) (terms_kept ks)) (sym kept) before.differ;
+  docs_are = before.given ∙ given ∙ sym count;
+  keep_all = keeps_same old.docs new.docs lists count keeps;
+}
 
 -- ---- how many pieces are left but for the last
 
@@ -297,9 +340,9 @@ module _ (laws : PieceLaws) (told : Option Files) (name : List ℕ) (old new : W
         (λ content follows next. subst (λ (ds : List (ℕ × DocRecord)). Follows content new ds) (sym more) (doc_follows laws content old new docs follows number item unmarked next))
 
     pub most_told : (at : ℕ) (list : PostingsList) (entry : ListEntry) (lists longer : List ListEntry) → piece ≡ pieces.List at list → new.docs ≡ old.docs → new.kept ≡ old.kept ++ kept_of at list ∷ [] → HasDocsBelow old.docs list
-        → entry.place.at ≡ at → entry.place.count ≡ length list.postings → entry.place.most ≡ most_tf list.postings → longer ≡ lists ++ entry ∷ []
+        → entry.place.at ≡ at → entry.place.count ≡ length list.postings → entry.place.most ≡ most_tf list.postings → (1 ≤ length (entry_postings entry) → entry_postings entry ≡ list.postings) → longer ≡ lists ++ entry ∷ []
         → ForContent told name (λ content. All (HoldsMost content old.docs) lists) → ForContent told name (λ content. All (HoldsMost content new.docs) longer)
-    most_told at list entry lists longer is count kept below placed counted most more so_far =
+    most_told at list entry lists longer is count kept below placed counted most same more so_far =
         let fits : FitsList new.docs (list_data list) = list_fits new.docs list (subst (λ (n : ℕ). HasDocsBelow n list) (sym count) below) in
         for_both told name (λ content. All (HoldsMost content old.docs) lists) (λ content. HoldsMost content new.docs entry) (λ content. All (HoldsMost content new.docs) longer)
         (λ content all one. subst (All (HoldsMost content new.docs)) (sym more) (All-push (HoldsMost content new.docs) lists entry (subst (λ (n : ℕ). All (HoldsMost content n) lists) (sym count) all) one)) so_far
@@ -310,6 +353,7 @@ module _ (laws : PieceLaws) (told : Option Files) (name : List ℕ) (old new : W
           fits = fits;
           count = counted;
           most = most;
+          kept = same;
         }))
 
     pub end_told : (lists : List ListEntry) → piece ≡ pieces.End → new.kept ≡ old.kept → new.docs ≡ old.docs → ForContent told name (λ content. All (HoldsMost content old.docs) lists) → ForContent told name (λ content. IsSurvey content new docs lists)

@@ -10,6 +10,7 @@ use Rattle.jass_base.specs.Ciff.{FitsList, ListData}
 use Rattle.jass_base.specs.CiffViews.{list_data}
 use Rattle.jass_base.specs.Lists.{HasDocsBelow}
 use Rattle.jass_base.specs.Outside.{Files, ForContent}
+use Rattle.jass_base.specs.declared.posting.Posting.{Posting}
 use Rattle.jass_base.specs.declared.postings_list.PostingsList.{PostingsList}
 use Rattle.ciff_read.proofs.Told.{for_all, for_both}
 use Rattle.weights.specs.declared.weighting.Rule.{Rule}
@@ -75,7 +76,7 @@ module _ (one_more : OneMore) (docs : ℕ) (w : Weighing) (lists : List ListEntr
 
   -- a list that was read
   pub widens_more : (files : Option Files) (name : List ℕ) (list : PostingsList) (range now : Range) → HasDocsBelow (length w.lengths.now) list
-      → ForContent files name (λ content. list_data list ≡ list_there content docs e.place.at)
+      → ForContent files name (λ content. list.postings ≡ (list_there content docs e.place.at).postings)
       → now ≡ fold widened range (weights_in w.rule w.lengths.now w.total list.postings)
       → Widens files name docs w (take i lists) range → Widens files name docs w (take (i + 1) lists) now
   widens_more files name list range now below here then so_far =
@@ -85,9 +86,9 @@ module _ (one_more : OneMore) (docs : ℕ) (w : Weighing) (lists : List ListEntr
         fit = All-push (FitsList (length w.lengths.now)) so_far.read (list_data list) so_far.fit (list_fits (length w.lengths.now) list below);
         range_is = then ∙ ap (λ (r : Range). fold widened r (weights (list_data list))) so_far.range_is
             ∙ sym (one_more w.rule w.lengths.now w.total empty_range so_far.read (list_data list));
-        told = for_both files name (λ content. range ≡ widened_there content docs w (take i lists)) (λ content. list_data list ≡ list_there content docs e.place.at)
+        told = for_both files name (λ content. range ≡ widened_there content docs w (take i lists)) (λ content. list.postings ≡ (list_there content docs e.place.at).postings)
             (λ content. now ≡ widened_there content docs w (take (i + 1) lists))
-            (λ content was one. then ∙ ap₂ (λ (r : Range) (l : ListData). fold widened r (weights l)) was one ∙ sym (range_more content))
+            (λ content was one. then ∙ ap₂ (λ (r : Range) (ps : List Posting). fold widened r (weights_in w.rule w.lengths.now w.total ps)) was one ∙ sym (range_more content))
             so_far.told here;
       }
 

@@ -1,4 +1,4 @@
--- The heads of lists that are read again, and the terms that they belong to.
+-- The heads of the lists of a file that was judged, and the terms that they belong to.
 use Rattle.std.specs.Prelude.{ℕ, ◌≡◌, ◌++◌, List, map, All, Option, Some, None, ⊤}
 use Rattle.jass_base.specs.Outside.{Files, ForContent}
 use Rattle.weights.specs.declared.quantizing.Bits.{Bits}

@@ -1,3 +1,4 @@
+pub mod KeptPostings
 pub mod Surveying
 pub mod Outlining
 pub mod Rereading

@@ -13,7 +13,7 @@ use Rattle.ciff_read.specs.Walk.{WalkView}
 use Rattle.impact_segments.specs.Collections.{lengths_of, total_of}
 use Rattle.index_write.specs.Streaming.{AreNames}
 use Rattle.index_import.specs.declared.list_entry.ListEntry.{ListEntry}
-use Rattle.index_import.specs.Surveying.{AreGiven, HoldsMost, kept_entry}
+use Rattle.index_import.specs.Surveying.{AreGiven, HoldsMost, KeepsAll, kept_entry}
 
 -- documents by rising numbers: their names and their lengths
 pub record AreInOrder (docs : List (ℕ × DocRecord)) (names : List (List ℕ)) (lengths : List ℕ) : Type 0 where
@@ -35,6 +35,7 @@ pub record IsOutlined (w : WalkView) (names : List (List ℕ)) (lengths : List �
   pub few_lists : length lists ≤ 2 ^ 24
   pub rising : AllPairs (λ (a b : ListEntry). BytesRise a.term b.term) lists
   pub postings : sum_by (λ (e : ListEntry). e.place.count) lists ≤ 2 ^ 29
+  pub keep_all : All (KeepsAll w.docs) lists
 
 abbrev pub nothing_there : ListData
 nothing_there = record { term = []; df = 0; cf = 0; postings = [] }

@@ -1,4 +1,4 @@
--- The range of the weights of lists that are read again.
+-- The range of the weights of the lists of a file that was judged.
 use Rattle.std.specs.Prelude.{ℕ, List}
 use Rattle.weights.specs.declared.quantizing.Bits.{Bits}
 use Rattle.weights.specs.declared.quantizing.Bits.TheVariants.{Raw, Of}

@@ -1,8 +1,9 @@
--- A list that is read again, and the segments that are made of it.
+-- A list that is read again, and the segments that are made of it, or of postings that were kept.
 use Rattle.std.specs.Prelude.{ℕ, ◌≡◌, ◌≤◌, ⊤, List, length, map, All, AllPairs, None, Result, Ok, Err}
 use Rattle.std.specs.List.{sum_by}
 use Rattle.jass_base.specs.Gaps.{AreDocs}
 use Rattle.jass_base.specs.Segments.{FallsTo, SharesNoDocument}
+use Rattle.jass_base.specs.declared.posting.Posting.{Posting}
 use Rattle.jass_base.specs.declared.segment.Segment.{Segment}
 use Rattle.weights.specs.declared.quantizing.Bits.{Bits}
 use Rattle.weights.specs.declared.quantizing.Range.{Range}
@@ -28,15 +29,28 @@ pub record AreSegments (docs count : ℕ) (segments : List Segment) : Type 0 whe
 abbrev pub segments_there : List ℕ → ℕ → Weighing → Bits → Range → ℕ → List SegmentData
 segments_there content docs w bits range at = list_segments w.rule w.lengths.now w.total bits range (list_there content docs at).postings
 
--- no weight of the list at a place lies outside the range
+-- no weight of some postings lies outside the range
+abbrev pub HasNoneOutside : Weighing → Bits → Range → List Posting → Type 0
+HasNoneOutside w bits range postings = outside bits range (weights_in w.rule w.lengths.now w.total postings) ≡ None
+
+-- postings are refused only for a weight outside the range
+abbrev pub FailsOf : Weighing → Bits → Range → List Posting → CiffFault → Type 0
+FailsOf w bits range postings (faults.Refused refusal) = ¬ HasNoneOutside w bits range postings
+FailsOf w bits range postings fault = ⊤
+
+-- the segments of some postings, or why there are none
+abbrev pub MakesOf : Weighing → Bits → Range → List Posting → Result (List Segment) CiffFault → Type 0
+MakesOf w bits range postings (Ok segments) = map segment_data segments ≡ list_segments w.rule w.lengths.now w.total bits range postings
+MakesOf w bits range postings (Err fault) = FailsOf w bits range postings fault
+
+-- the list at a place has no weight outside the range
 abbrev pub IsInside : List ℕ → ℕ → Weighing → Bits → Range → ℕ → Type 0
-IsInside content docs w bits range at = outside bits range (weights_in w.rule w.lengths.now w.total (list_there content docs at).postings) ≡ None
+IsInside content docs w bits range at = HasNoneOutside w bits range (list_there content docs at).postings
 
--- a list is refused only for a weight outside the range
+-- it is refused only for a weight outside the range
 abbrev pub FailsInside : List ℕ → ℕ → Weighing → Bits → Range → ℕ → CiffFault → Type 0
-FailsInside content docs w bits range at (faults.Refused refusal) = ¬ IsInside content docs w bits range at
-FailsInside content docs w bits range at fault = ⊤
+FailsInside content docs w bits range at fault = FailsOf w bits range (list_there content docs at).postings fault
 
+-- its segments, or why there are none
 abbrev pub MakesSegments : List ℕ → ℕ → Weighing → Bits → Range → ℕ → Result (List Segment) CiffFault → Type 0
-MakesSegments content docs w bits range at (Ok segments) = map segment_data segments ≡ segments_there content docs w bits range at
-MakesSegments content docs w bits range at (Err fault) = FailsInside content docs w bits range at fault
+MakesSegments content docs w bits range at result = MakesOf w bits range (list_there content docs at).postings result

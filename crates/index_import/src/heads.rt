@@ -11,11 +11,11 @@ ghost use Rattle.index_model.specs.Views.{segment_data};
 ghost use Rattle.index_write.specs.Chosen.{chosen_heads, chosen_payloads, head_data};
 ghost use Rattle.index_write.specs.Streaming.{AreEntries, entry_data};
 ghost use Rattle.index_import.specs.Heading.{AreHeads, FailsAllInside, KeepsMore, places_of};
-ghost use Rattle.index_import.specs.Surveying.{AreGiven, IsReady};
+ghost use Rattle.index_import.specs.Surveying.{AreGiven, HoldsMost, IsReady, KeepsAll};
 ghost use Rattle.index_import.specs.declared.list_entry.ListEntry.{ListEntry};
 
 use crate::list_entry::{ListEntry, Place};
-use crate::reading::read_segments;
+use crate::reading::entry_segments;
 use crate::weighing::Weighing;
 use ciff_read::{CiffFault, CiffWalk};
 use impact_segments::Scratch;
@@ -26,7 +26,7 @@ use std::alloc::Global;
 use weights::{Bits, Range};
 
 /// How many bytes of payloads are kept at the most, but for those of one term.
-const MOST_KEPT: usize = 67_108_864;
+const MOST_KEPT_BYTES: usize = 67_108_864;
 
 /// The terms of lists with the heads of their segments, and the places of the lists.
 #[derive(Drop)]
@@ -38,7 +38,8 @@ pub(crate) struct Heads {
     pub payloads: Option<Row<u8>>,
 }
 
-/// Reads lists again, which rise by their terms, for the heads of their segments.
+/// Makes the heads of the segments of lists, which rise by their terms. Those whose postings weren't
+/// kept are read again.
 pub(crate) fn read_heads<C: Cabinet>(
     alloc: Global,
     walk: &mut CiffWalk,
@@ -50,6 +51,9 @@ pub(crate) fn read_heads<C: Cabinet>(
 ) -> Result<Heads, CiffFault>
     requires ready { IsReady (C.told files.old) walk.old.name walk.old }
     requires given { AreGiven walk.old.kept lists.items }
+    requires keep_all { All (KeepsAll walk.old.docs) lists.items }
+    requires told { ForContent (C.told files.old) walk.old.name (λ content.
+        All (HoldsMost content walk.old.docs) lists.items) }
     requires rising { AllPairs (λ (a b : ListEntry). BytesRise a.term b.term) lists.items }
     requires few { length lists.items ≤ 2 ^ 24 }
     requires postings { sum_by (λ (e : ListEntry). e.place.count) lists.items ≤ 2 ^ 29 }
@@ -76,9 +80,10 @@ pub(crate) fn read_heads<C: Cabinet>(
     let mut places = Vec::new(alloc);
     let mut payloads = Some(Row::new(alloc));
     let mut scratch = Scratch::new(alloc);
+    let mut spare = Row::new(alloc);
     'lists: for entry in lists {
-        let ListEntry { term, place } = entry;
-        let segments = match read_segments(
+        let segments = match entry_segments(
+            &mut spare,
             &mut scratch,
             alloc,
             walk,
@@ -86,11 +91,12 @@ pub(crate) fn read_heads<C: Cabinet>(
             weighing,
             bits,
             range,
-            place,
+            &entry,
         ) {
             Ok(segments) => segments,
             Err(fault) => return Err(fault),
         };
+        let (term, place) = entry.into_parts();
         let heads = match payload_heads(alloc, segments.as_slice(), docs) {
             Ok(heads) => heads,
             Err(_) => return Err(CiffFault::NoMemory),
@@ -126,7 +132,7 @@ fn keep_payloads(
     ensures { KeepsMore kept (chosen_payloads docs (map segment_data segments.now)) result }
 {
     let mut payloads = kept?;
-    if payloads.len() > MOST_KEPT {
+    if payloads.len() > MOST_KEPT_BYTES {
         return None;
     }
     match put_payloads(segments, heads, docs, &mut payloads) {

@@ -71,7 +71,8 @@ pub fn import_file<C: Cabinet>(
     import_lists(alloc, &mut walk, files, weighing, bits, names, lists, index)
 }
 
-/// Makes an index file of a file that was judged; its lists are read again, by rising terms.
+/// Makes an index file of a file that was judged. Its lists go by rising terms; those whose postings
+/// weren't kept are read again.
 fn import_lists<C: Cabinet>(
     alloc: Global,
     walk: &mut CiffWalk,
@@ -99,7 +100,7 @@ fn import_lists<C: Cabinet>(
 {
     lists_by_term_make_the_index();
     widened_lists_have_the_range();
-    let range = match read_range(walk, files, weighing, bits, &lists) {
+    let range = match read_range(alloc, walk, files, weighing, bits, &lists) {
         Ok(range) => range,
         Err(fault) => return Err(ImportFault::from_ciff(fault)),
     };

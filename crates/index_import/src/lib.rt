@@ -1,13 +1,16 @@
 #![tactic(auto)]
 
-//! Makes an index file of a CIFF file in passes over the file, with one list in memory at a time.
-//! The first pass judges the file, and keeps the documents' names and lengths and the place of
-//! each list. The second finds the range of all weights, and passes over each list that can't widen
-//! it; the third finds the heads of all segments, and the last one writes.
+//! Makes an index file of a CIFF file in passes over the file, with one list and the postings that
+//! were kept in memory.
+//! The first pass judges the file, and keeps the documents' names and lengths, the place of each
+//! list, and the postings of lists while there is room. The second finds the range of all weights,
+//! and passes over each list that can't widen it; the third finds the heads of all segments, for
+//! which it reads again the lists whose postings weren't kept, and the last one writes.
 
 mod fault;
 mod heads;
 mod import;
+mod kept_postings;
 mod list_entry;
 mod outline;
 mod ranging;

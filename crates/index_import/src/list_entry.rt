@@ -1,9 +1,14 @@
-ghost use Rattle.std.specs.Prelude.{ℕ, ◌≡◌, ◌<◌, ◌≤◌, ◌^◌, length};
+ghost use Rattle.std.specs.Prelude.{ℕ, ◌≡◌, ◌<◌, ◌≤◌, ◌⊎◌, ◌^◌, [], length, All, IfOk};
+ghost use Rattle.std.specs.List.Sorted.{IsStrictlyIncreasing};
 ghost use Rattle.jass_base.specs.Limits.{IsText};
+ghost use Rattle.jass_base.specs.Postings.{HasTfInRange, docs_of};
 ghost use Rattle.impact_segments.specs.Bounds.{most_tf};
+ghost use Rattle.index_import.specs.KeptPostings.{postings_in};
 
+use crate::kept_postings::KeptPostings;
 use impact_segments::most_tf;
-use jass_base::{Posting, PostingsList, Row, Text};
+use jass_base::{NoMemory, Posting, PostingsList, Row, Text};
+use std::alloc::Global;
 
 /// Where a list stands in a file, how many postings it has, and how often its term stands in one
 /// document at the most.
@@ -17,32 +22,73 @@ pub(crate) struct Place {
     pub ghost tf_limit: { most < 2 ^ 31 },
 }
 
-/// What is kept of a list that has postings, so that it can be read again.
+/// What is kept of a list that has postings, so that it can be read again, or needn't be.
 #[derive(Debug, Drop)]
 pub(crate) struct ListEntry {
     pub term: Text,
     pub place: Place,
+    /// All its postings, or none.
+    pub kept: KeptPostings,
     pub ghost term_fits: { length term ≤ 65535 },
     pub ghost term_is_text: { IsText term },
 }
 
 impl ListEntry {
-    /// Keeps a list that has postings, and gives these back.
-    pub fn new(at: u64, list: PostingsList) -> (ListEntry, Row<Posting>)
+    /// Keeps a list that has postings, and gives these back. They are kept, too, where they are at
+    /// most four or there is room for so many.
+    pub fn new(alloc: Global, at: u64, list: PostingsList, room: usize) -> (ListEntry, Row<Posting>)
         requires some { 1 ≤ length list.postings }
         requires few { length list.postings ≤ 2 ^ 29 }
         ensures term { result.0.term ≡ list.term }
         ensures at { result.0.place.at ≡ at }
         ensures count { result.0.place.count ≡ length list.postings }
         ensures most { result.0.place.most ≡ most_tf list.postings }
+        ensures kept { (postings_in result.0.kept ≡ []) ⊎ (postings_in result.0.kept ≡ list.postings) }
     {
         let count = list.postings.len() as u32;
         let most = most_tf(list.postings.as_slice());
+        let kept = KeptPostings::new(alloc, list.postings.as_slice(), room);
         let PostingsList { term, postings, .. } = list;
         let entry = ListEntry {
             term,
             place: Place { at, count, most },
+            kept,
         };
         (entry, postings)
+    }
+
+    /// The list of the postings that were kept, in a row that is used again. Its term, df and cf are
+    /// left empty, since neither ranges nor segments depend on them.
+    pub fn unpacked_list(
+        &self,
+        alloc: Global,
+        spare: Row<Posting>,
+    ) -> Result<PostingsList, NoMemory>
+        requires rising { IsStrictlyIncreasing (docs_of (postings_in self.now.kept)) }
+        requires tf { All HasTfInRange (postings_in self.now.kept) }
+        ensures { IfOk result (λ list. list.postings ≡ postings_in self.now.kept) }
+    {
+        let postings = match self.kept.postings(spare.into_vec()) {
+            Ok(postings) => postings,
+            Err(_) => return Err(NoMemory),
+        };
+        match Text::from_str(alloc, "") {
+            Ok(term) => Ok(PostingsList {
+                term,
+                df: 0,
+                cf: 0,
+                postings: Row::from_vec(postings),
+            }),
+            Err(_) => Err(NoMemory),
+        }
+    }
+
+    /// The term and the place, which are needed longer than the postings.
+    pub fn into_parts(self) -> (Text, Place)
+        ensures term { result.0 ≡ self.term }
+        ensures place { result.1 ≡ self.place }
+    {
+        let ListEntry { term, place, .. } = self;
+        (term, place)
     }
 }

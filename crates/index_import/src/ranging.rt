@@ -3,20 +3,22 @@ ghost use Rattle.jass_base.specs.Outside.{Rose, ForContent};
 ghost use Rattle.ciff_read.specs.Walk.{IsOutside, LeavesWalk};
 ghost use Rattle.impact_segments.specs.OneList.{EndsLow};
 ghost use Rattle.index_import.specs.Ranging.{range_there, widened_there};
-ghost use Rattle.index_import.specs.Surveying.{AreGiven, HoldsMost, IsReady};
+ghost use Rattle.index_import.specs.Surveying.{AreGiven, HoldsMost, IsReady, KeepsAll};
 
 use crate::list_entry::{ListEntry, Place};
-use crate::reading::read_again;
+use crate::reading::entry_list;
 use crate::weighing::Weighing;
 use ciff_read::{CiffFault, CiffWalk};
 use impact_segments::laws::{lists_inside_leave_the_range, widened_lists_have_the_range};
 use impact_segments::{can_widen, norm_ends, widen_by_norms};
 use jass_base::Cabinet;
+use std::alloc::Global;
 use weights::{Bits, Range};
 
-/// Reads lists again for the range of their weights, where impacts are places in it, and as far as
+/// The range of the weights of lists, where impacts are places in it. They are looked at as far as
 /// they can widen it.
 pub(crate) fn read_range<C: Cabinet>(
+    alloc: Global,
     walk: &mut CiffWalk,
     files: &mut C,
     weighing: Weighing<'_>,
@@ -26,6 +28,7 @@ pub(crate) fn read_range<C: Cabinet>(
     requires ready { IsReady (C.told files.old) walk.old.name walk.old }
     requires given { AreGiven walk.old.kept lists.now }
     requires docs { length weighing.lengths.now ≡ walk.old.docs }
+    requires keep_all { All (KeepsAll walk.old.docs) lists.now }
     requires told { ForContent (C.told files.old) walk.old.name (λ content.
         All (HoldsMost content walk.old.docs) lists.now) }
     ensures ready { OnOk result (IsReady (C.told files.old) walk.old.name walk.new) }
@@ -41,13 +44,14 @@ pub(crate) fn read_range<C: Cabinet>(
 {
     match bits {
         Bits::Raw => Ok(Range::new()),
-        Bits::Of(_) => widen_lists(walk, files, weighing, lists),
+        Bits::Of(_) => widen_lists(alloc, walk, files, weighing, lists),
     }
 }
 
-/// The range of the weights of lists. Those that can't widen it, as far as was kept of them, are not
-/// read again.
+/// The range of the weights of lists. Those that can't widen it, as the number of their postings and
+/// their greatest tf show, are passed over.
 fn widen_lists<C: Cabinet>(
+    alloc: Global,
     walk: &mut CiffWalk,
     files: &mut C,
     weighing: Weighing<'_>,
@@ -56,6 +60,7 @@ fn widen_lists<C: Cabinet>(
     requires ready { IsReady (C.told files.old) walk.old.name walk.old }
     requires given { AreGiven walk.old.kept lists.now }
     requires docs { length weighing.lengths.now ≡ walk.old.docs }
+    requires keep_all { All (KeepsAll walk.old.docs) lists.now }
     requires told { ForContent (C.told files.old) walk.old.name (λ content.
         All (HoldsMost content walk.old.docs) lists.now) }
     ensures ready { OnOk result (IsReady (C.told files.old) walk.old.name walk.new) }
@@ -83,7 +88,7 @@ fn widen_lists<C: Cabinet>(
         if !can_widen(range, rule, count, most, norms, ends) {
             continue;
         }
-        let list = match read_again(walk, files, entry.place) {
+        let list = match entry_list(alloc, walk, files, entry) {
             Ok(list) => list,
             Err(fault) => return Err(fault),
         };

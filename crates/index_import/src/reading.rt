@@ -1,4 +1,4 @@
-ghost use Rattle.std.specs.Prelude.{ℕ, ◌≡◌, ◌≤◌, ◌^◌, length, MatchResult, IfOk, IsErrOf, OnOk};
+ghost use Rattle.std.specs.Prelude.{ℕ, ◌≡◌, ◌≢◌, ◌≤◌, ◌^◌, length, MatchResult, IfErr, IfOk, IsErrOf, OnOk};
 ghost use Rattle.jass_base.specs.CiffViews.{list_data};
 ghost use Rattle.jass_base.specs.Lists.{HasDocsBelow};
 ghost use Rattle.jass_base.specs.Outside.{Rose, ForContent};
@@ -6,15 +6,16 @@ ghost use Rattle.weights.specs.Quantizing.{IsImpactWidth};
 ghost use Rattle.ciff_read.specs.Walk.{HasKept, IsOutside, LeavesWalk};
 ghost use Rattle.impact_segments.specs.OneList.{EndsLow};
 ghost use Rattle.index_import.specs.Outlining.{list_there};
-ghost use Rattle.index_import.specs.Rereading.{AreSegments, MakesSegments};
-ghost use Rattle.index_import.specs.Surveying.{IsReady};
+ghost use Rattle.index_import.specs.Rereading.{AreSegments, MakesOf, MakesSegments};
+ghost use Rattle.index_import.specs.Surveying.{AreOfList, HoldsMost, IsReady, KeepsAll, entry_postings};
 
-use crate::list_entry::Place;
+use crate::list_entry::{ListEntry, Place};
 use crate::weighing::Weighing;
 use ciff_read::{CiffFault, CiffRefusal, CiffWalk, CiffWhy};
 use impact_segments::{Scratch, SegmentsFault, segments_by_scratch};
-use jass_base::{Cabinet, PostingsList, Row, Segment};
+use jass_base::{Cabinet, Posting, PostingsList, Row, Segment};
 use std::alloc::Global;
+use std::mem::replace;
 use weights::{Bits, Range};
 
 /// Reads a list again.
@@ -42,8 +43,126 @@ pub(crate) fn read_again<C: Cabinet>(
     }
 }
 
-/// Reads a list again, and makes its segments. A weight outside the range is refused as a change of
-/// the file.
+/// The list of an entry: of the postings that were kept, and then without term, df and cf, or else as
+/// it is read again.
+pub(crate) fn entry_list<C: Cabinet>(
+    alloc: Global,
+    walk: &mut CiffWalk,
+    files: &mut C,
+    entry: &ListEntry,
+) -> Result<PostingsList, CiffFault>
+    requires ready { IsReady (C.told files.old) walk.old.name walk.old }
+    requires given { HasKept walk.old.kept entry.now.place.at entry.now.place.count }
+    requires keeps { KeepsAll walk.old.docs entry.now }
+    requires told { ForContent (C.told files.old) walk.old.name (λ content.
+        HoldsMost content walk.old.docs entry.now) }
+    ensures ready { OnOk result (IsReady (C.told files.old) walk.old.name walk.new) }
+    ensures leaves { LeavesWalk walk.old walk.new }
+    ensures below { IfOk result (HasDocsBelow walk.old.docs) }
+    ensures count { IfOk result (λ list. length list.postings ≡ entry.now.place.count) }
+    ensures told { ForContent (C.told files.old) walk.old.name (λ content.
+        MatchResult result (λ list. list.postings ≡ (list_there content walk.old.docs entry.now.place.at).postings)
+        IsOutside) }
+    ensures fault { IsErrOf result CiffFault.ReadFault → Rose (C.read_faults files.old) (C.read_faults files.new) }
+    ensures stays { C.told files.new ≡ C.told files.old }
+    ensures later { C.read_faults files.old ≤ C.read_faults files.new }
+    ensures others { C.write_faults files.old ≤ C.write_faults files.new }
+{
+    if entry.kept.is_empty() {
+        return match read_again(walk, files, entry.place) {
+            Ok(list) => Ok(list),
+            Err(fault) => Err(fault),
+        };
+    }
+    match entry.unpacked_list(alloc, Row::new(alloc)) {
+        Ok(list) => Ok(list),
+        Err(_) => Err(CiffFault::NoMemory),
+    }
+}
+
+/// Makes the segments of a list: of the postings that were kept of it, or else of the list as it is
+/// read again.
+pub(crate) fn entry_segments<C: Cabinet>(
+    spare: &mut Row<Posting>,
+    scratch: &mut Scratch,
+    alloc: Global,
+    walk: &mut CiffWalk,
+    files: &mut C,
+    weighing: Weighing<'_>,
+    bits: Bits,
+    range: Range,
+    entry: &ListEntry,
+) -> Result<Row<Segment>, CiffFault>
+    requires ready { IsReady (C.told files.old) walk.old.name walk.old }
+    requires given { HasKept walk.old.kept entry.now.place.at entry.now.place.count }
+    requires keeps { KeepsAll walk.old.docs entry.now }
+    requires told { ForContent (C.told files.old) walk.old.name (λ content.
+        HoldsMost content walk.old.docs entry.now) }
+    requires docs { length weighing.lengths.now ≡ walk.old.docs }
+    requires width { IsImpactWidth bits }
+    requires low { EndsLow bits range }
+    ensures ready { OnOk result (IsReady (C.told files.old) walk.old.name walk.new) }
+    ensures leaves { LeavesWalk walk.old walk.new }
+    ensures segments { IfOk result (AreSegments walk.old.docs entry.now.place.count) }
+    ensures told { ForContent (C.told files.old) walk.old.name (λ content.
+        MakesSegments content walk.old.docs weighing.entry bits range entry.now.place.at result) }
+    ensures fault { IsErrOf result CiffFault.ReadFault → Rose (C.read_faults files.old) (C.read_faults files.new) }
+    ensures stays { C.told files.new ≡ C.told files.old }
+    ensures later { C.read_faults files.old ≤ C.read_faults files.new }
+    ensures others { C.write_faults files.old ≤ C.write_faults files.new }
+{
+    if entry.kept.is_empty() {
+        return match read_segments(
+            scratch,
+            alloc,
+            walk,
+            files,
+            weighing,
+            bits,
+            range,
+            entry.place,
+        ) {
+            Ok(segments) => Ok(segments),
+            Err(fault) => Err(fault),
+        };
+    }
+    match kept_segments(spare, scratch, alloc, weighing, bits, range, entry) {
+        Ok(segments) => Ok(segments),
+        Err(fault) => Err(fault),
+    }
+}
+
+/// Makes the segments of a list whose postings were kept.
+fn kept_segments(
+    spare: &mut Row<Posting>,
+    scratch: &mut Scratch,
+    alloc: Global,
+    weighing: Weighing<'_>,
+    bits: Bits,
+    range: Range,
+    entry: &ListEntry,
+) -> Result<Row<Segment>, CiffFault>
+    requires of_list { AreOfList (length weighing.lengths.now) entry.now.place.count (entry_postings entry.now) }
+    requires width { IsImpactWidth bits }
+    requires low { EndsLow bits range }
+    ensures segments { IfOk result (AreSegments (length weighing.entry.lengths.now) entry.now.place.count) }
+    ensures made { MakesOf weighing.entry bits range (entry_postings entry.now) result }
+    ensures fault { IfErr result (λ fault. fault ≢ CiffFault.ReadFault) }
+{
+    let list = match entry.unpacked_list(alloc, replace(spare, Row::new(alloc))) {
+        Ok(list) => list,
+        Err(_) => return Err(CiffFault::NoMemory),
+    };
+    let at = entry.place.at;
+    let made = make_segments(scratch, alloc, weighing, bits, range, &list, at);
+    *spare = list.postings;
+    match made {
+        Ok(segments) => Ok(segments),
+        Err(fault) => Err(fault),
+    }
+}
+
+/// Reads a list again, and makes its segments.
 pub(crate) fn read_segments<C: Cabinet>(
     scratch: &mut Scratch,
     alloc: Global,
@@ -73,20 +192,45 @@ pub(crate) fn read_segments<C: Cabinet>(
         Ok(list) => list,
         Err(fault) => return Err(fault),
     };
+    let made = make_segments(scratch, alloc, weighing, bits, range, &list, place.at);
+    walk.take_back(list.postings);
+    match made {
+        Ok(segments) => Ok(segments),
+        Err(fault) => Err(fault),
+    }
+}
+
+/// Makes the segments of a list that stands at a place. A weight outside the range is refused as a
+/// change of the file.
+fn make_segments(
+    scratch: &mut Scratch,
+    alloc: Global,
+    weighing: Weighing<'_>,
+    bits: Bits,
+    range: Range,
+    list: &PostingsList,
+    at: u64,
+) -> Result<Row<Segment>, CiffFault>
+    requires some { 1 ≤ length list.now.postings }
+    requires below { HasDocsBelow (length weighing.lengths.now) list.now }
+    requires width { IsImpactWidth bits }
+    requires low { EndsLow bits range }
+    ensures segments { IfOk result (AreSegments (length weighing.entry.lengths.now) (length list.now.postings)) }
+    ensures made { MakesOf weighing.entry bits range list.now.postings result }
+    ensures fault { IfErr result (λ fault. fault ≢ CiffFault.ReadFault) }
+{
     let Weighing {
         rule,
         total,
         lengths,
         norms,
     } = weighing;
-    let made = segments_by_scratch(
-        scratch, alloc, rule, bits, range, total, &list, lengths, norms,
-    );
-    walk.take_back(list.postings);
-    match made {
+    match segments_by_scratch(
+        scratch, alloc, rule, bits, range, total, list, lengths, norms,
+    ) {
         Ok(segments) => Ok(segments),
         Err(SegmentsFault::Outside { kept, found }) => Err(CiffFault::Refused(CiffRefusal {
-            at: place.at,
+            at,
             why: CiffWhy::Changed { kept, found },
         })),
         Err(SegmentsFault::NoMemory) => Err(CiffFault::NoMemory),

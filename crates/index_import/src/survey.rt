@@ -9,6 +9,9 @@ use ciff_read::{CiffFault, CiffWalk, Piece};
 use jass_base::{Cabinet, DocRecord};
 use std::alloc::Global;
 
+/// How many postings are kept at the most, but for those of short lists.
+const MOST_KEPT_POSTINGS: usize = 4_194_304;
+
 /// What the first pass over a file keeps.
 #[derive(Drop)]
 pub(crate) struct Survey {
@@ -39,6 +42,7 @@ pub(crate) fn survey_file<C: Cabinet>(
     let mut walk = CiffWalk::open(alloc, files, name)?;
     let mut docs = Vec::new(alloc);
     let mut lists = Vec::new(alloc);
+    let mut room = MOST_KEPT_POSTINGS;
     'pieces: loop {
         let piece = match walk.next_piece(files) {
             Ok(piece) => piece,
@@ -51,7 +55,8 @@ pub(crate) fn survey_file<C: Cabinet>(
             } => {}
             Piece::List { at, list } => {
                 if !list.postings.is_empty() {
-                    let (entry, postings) = ListEntry::new(at, list);
+                    let (entry, postings) = ListEntry::new(alloc, at, list, room);
+                    room = room.saturating_sub(postings.len());
                     walk.take_back(postings);
                     match lists.push(entry) {
                         Ok(()) => {}

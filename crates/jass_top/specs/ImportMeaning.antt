@@ -1,4 +1,4 @@
--- What `import` means: the index file of a CIFF file, and its totals on the output. It reads lists again while it writes.
+-- What `import` means: the index file of a CIFF file, and its totals on the output. It may read lists again while it writes.
 use Rattle.std.specs.Prelude.{List, ℕ, true}
 use Rattle.weights.specs.declared.weighting.Rule.{Rule}
 use Rattle.weights.specs.declared.quantizing.Bits.{Bits}

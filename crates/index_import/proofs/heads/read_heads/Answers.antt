@@ -5,27 +5,47 @@ use Rattle.std.proofs.lemmas.List.{map-append}
 use Rattle.jass_base.specs.Outside.{Files, ForContent}
 use Rattle.ciff_read.specs.Pieces.{KeptList}
 use Rattle.ciff_read.specs.Walk.{HasKept}
+use Rattle.ciff_read.proofs.Told.{for_one}
 use Rattle.jass_base.specs.declared.segment.Segment.{Segment}
 use Rattle.index_model.specs.Views.{segment_data}
 use Rattle.index_write.specs.Chosen.{chosen_heads, chosen_payloads, head_data}
 use Rattle.index_write.specs.declared.term_heads.TermHeads.{TermHeads}
 use Rattle.index_import.specs.Heading.{AreHeads, KeepsMore}
 use Rattle.index_import.specs.Rereading.{AreSegments, segments_there}
-use Rattle.index_import.specs.Surveying.{IsReady}
+use Rattle.index_import.specs.Surveying.{HoldsMost, IsReady, KeepsAll}
 use Rattle.index_import.specs.declared.list_entry.ListEntry.{ListEntry}
 use Rattle.index_import.specs.declared.list_entry.Place.{Place}
-use Rattle.index_import.proofs.Headed.{HaveEntries, all_entries, entries_more, heads_more, no_entries, no_heads}
+use Rattle.index_import.proofs.Again.{told_now}
+use Rattle.index_import.proofs.Headed.{HaveEntries, all_entries, as_many, entries_more, heads_more, no_entries, no_heads}
 use Rattle.index_import.proofs.Ready.{leaves_same, leaves_then}
 use Rattle.index_import.proofs.Turns.{middle, parted, whole}
 use Rattle.index_import.proofs.heads.read_heads.Goals as goal
 
-pub read_segments-requires-clause-given : goal.read_segments-requires-clause-given
-read_segments-requires-clause-given g c =
+pub entry_segments-requires-clause-given : goal.entry_segments-requires-clause-given
+entry_segments-requires-clause-given g c =
     let is : c.args.lists.items ≡ c.lists.yielded ++ c.in-Some.entry ∷ into_iter_items c.next.new.self
     = parted c.into_iter-entry-iterator.result c.lists.entry-iterator c.next.new.self c.args.lists.items c.lists.yielded c.in-Some.entry c.into_iter-entry-iterator.ensures.into_iter_gives.0 c.lists.yielded_by c.in-Some.ensures.steps in
     let kept : HasKept c.args.walk.now.kept c.in-Some.entry.place.at c.in-Some.entry.place.count
     = middle (λ (e : ListEntry). HasKept c.args.walk.now.kept e.place.at e.place.count) c.lists.yielded (into_iter_items c.next.new.self) c.in-Some.entry (subst (All (λ (e : ListEntry). HasKept c.args.walk.now.kept e.place.at e.place.count)) is c.requires.given) in
     subst (λ (kept : List KeptList). HasKept kept c.in-Some.entry.place.at c.in-Some.entry.place.count) (sym c.lists.invariant.leaves.kept) kept
+
+pub entry_segments-requires-clause-keeps : goal.entry_segments-requires-clause-keeps
+entry_segments-requires-clause-keeps g c =
+    let d : ℕ = c.args.walk.now.docs in
+    let is : c.args.lists.items ≡ c.lists.yielded ++ c.in-Some.entry ∷ into_iter_items c.next.new.self
+    = parted c.into_iter-entry-iterator.result c.lists.entry-iterator c.next.new.self c.args.lists.items c.lists.yielded c.in-Some.entry c.into_iter-entry-iterator.ensures.into_iter_gives.0 c.lists.yielded_by c.in-Some.ensures.steps in
+    subst (λ (n : ℕ). KeepsAll n c.in-Some.entry) (sym c.lists.invariant.leaves.docs)
+    (middle (KeepsAll d) c.lists.yielded (into_iter_items c.next.new.self) c.in-Some.entry (subst (All (KeepsAll d)) is c.requires.keep_all))
+
+pub entry_segments-requires-clause-told : goal.entry_segments-requires-clause-told
+entry_segments-requires-clause-told g c =
+    let told : Option Files = g.C.Cabinet.told c.args.files.now in
+    let d : ℕ = c.args.walk.now.docs in
+    let is : c.args.lists.items ≡ c.lists.yielded ++ c.in-Some.entry ∷ into_iter_items c.next.new.self
+    = parted c.into_iter-entry-iterator.result c.lists.entry-iterator c.next.new.self c.args.lists.items c.lists.yielded c.in-Some.entry c.into_iter-entry-iterator.ensures.into_iter_gives.0 c.lists.yielded_by c.in-Some.ensures.steps in
+    told_now told (g.C.Cabinet.told c.lists.files) c.args.walk.now c.lists.walk (λ (docs : ℕ) (content : List ℕ). HoldsMost content docs c.in-Some.entry) c.lists.invariant.same c.lists.invariant.leaves
+    (for_one told c.args.walk.now.name (λ content. All (HoldsMost content d) c.args.lists.items) (λ content. HoldsMost content d c.in-Some.entry)
+    (λ content all. middle (HoldsMost content d) c.lists.yielded (into_iter_items c.next.new.self) c.in-Some.entry (subst (All (HoldsMost content d)) is all)) c.requires.told)
 
 pub lists-init : goal.lists-init
 lists-init g c = record {
@@ -45,7 +65,7 @@ lists-preserved g c =
     let name : List ℕ = c.args.walk.now.name in
     let d : ℕ = c.args.walk.now.docs in
     let entry : ListEntry = c.in-Some.entry in
-    let own : TermHeads = record { term = entry.term; heads = c.in-Ok-payload_heads.heads } in
+    let own : TermHeads = record { term = c.into_parts-term.result.0; heads = c.in-Ok-payload_heads.heads } in
     let segments : List Segment = c.in-Ok.segments in
     let docs : c.lists.walk.docs ≡ d = c.lists.invariant.leaves.docs in
     let made : map head_data c.in-Ok-payload_heads.heads ≡ chosen_heads d (map segment_data segments)
@@ -58,19 +78,27 @@ lists-preserved g c =
     let keeps : KeepsMore c.lists.payloads (chosen_payloads d (map segment_data segments)) c.keep_payloads-payloads.result
     = subst (λ (ss : List Segment). KeepsMore c.lists.payloads (chosen_payloads d (map segment_data ss)) c.keep_payloads-payloads.result) c.as_slice-in-lists.ensures
     (subst (λ (n : ℕ). KeepsMore c.lists.payloads (chosen_payloads n (map segment_data c.as_slice-in-lists.result.now)) c.keep_payloads-payloads.result) c.requires.docs c.keep_payloads-payloads.ensures) in
-    let ready = subst (λ (files : Option Files). IsReady files name c.read_segments.new.walk) c.lists.invariant.same (subst (λ (n : List ℕ). IsReady (g.C.Cabinet.told c.lists.files) n c.read_segments.new.walk) c.lists.invariant.leaves.name c.in-Ok.ensures.ready) in
+    let ready = subst (λ (files : Option Files). IsReady files name c.entry_segments.new.walk) c.lists.invariant.same (subst (λ (n : List ℕ). IsReady (g.C.Cabinet.told c.lists.files) n c.entry_segments.new.walk) c.lists.invariant.leaves.name c.in-Ok.ensures.ready) in
     record {
       same = c.in-Ok.ensures.stays ∙ c.lists.invariant.same;
       later = omega (arith, c.lists.invariant.later, c.in-Ok.ensures.later);
       others = omega (arith, c.lists.invariant.others, c.in-Ok.ensures.others);
       ready = ready;
-      leaves = leaves_then c.args.walk.now c.lists.walk c.read_segments.new.walk c.lists.invariant.leaves c.in-Ok.ensures.leaves;
+      leaves = leaves_then c.args.walk.now c.lists.walk c.entry_segments.new.walk c.lists.invariant.leaves c.in-Ok.ensures.leaves;
       heads = subst (λ (hs : List TermHeads). AreHeads told name d c.args.weighing c.args.bits c.args.range (c.lists.yielded ++ entry ∷ []) hs c.keep_payloads-payloads.result) (sym c.in-Ok-push.ensures.ok)
-          (heads_more told name d c.args.weighing c.args.bits c.args.range c.lists.yielded c.lists.terms c.lists.payloads c.keep_payloads-payloads.result entry own (map segment_data segments) refl made read keeps c.lists.invariant.heads);
+          (heads_more told name d c.args.weighing c.args.bits c.args.range c.lists.yielded c.lists.terms c.lists.payloads c.keep_payloads-payloads.result entry own (map segment_data segments) c.into_parts-term.ensures.term made read keeps c.lists.invariant.heads);
       entries = subst (λ (hs : List TermHeads). HaveEntries (c.lists.yielded ++ entry ∷ []) hs) (sym c.in-Ok-push.ensures.ok)
-          (entries_more d c.lists.yielded c.lists.terms entry own segments refl made of.some (c.made_heads_are_entries.ensures.heads d segments of.docs_are) (c.made_heads_are_entries.ensures.falling d segments of.falling) of.postings c.lists.invariant.entries);
-      places = c.in-Ok-push-2.ensures.items ∙ ap (λ (ps : List Place). ps ++ entry.place ∷ []) c.lists.invariant.places ∙ sym (map-append (λ (e : ListEntry). e.place) c.lists.yielded (entry ∷ []));
+          (entries_more d c.lists.yielded c.lists.terms entry own segments c.into_parts-term.ensures.term made of.some (c.made_heads_are_entries.ensures.heads d segments of.docs_are) (c.made_heads_are_entries.ensures.falling d segments of.falling) of.postings c.lists.invariant.entries);
+      places = c.in-Ok-push-2.ensures.items ∙ ap (λ (p : Place). c.lists.places.items ++ p ∷ []) c.into_parts-term.ensures.place ∙ ap (λ (ps : List Place). ps ++ entry.place ∷ []) c.lists.invariant.places ∙ sym (map-append (λ (e : ListEntry). e.place) c.lists.yielded (entry ∷ []));
     }
+
+pub returns-clause-as_many : goal.returns-clause-as_many
+returns-clause-as_many g c =
+    let all : c.lists.yielded ≡ c.args.lists.items
+    = whole c.into_iter-entry-iterator.result c.lists.entry-iterator c.next.new.self c.args.lists.items c.lists.yielded
+    c.into_iter-entry-iterator.ensures.into_iter_gives.0 (omega (arith, c.into_iter-entry-iterator.ensures.into_iter_gives.1, c.args.lists.ok.0))
+    c.lists.yielded_by c.in-None.ensures.steps in
+    as_many c.args.lists.items c.lists.terms (subst (λ (ls : List ListEntry). HaveEntries ls c.lists.terms) all c.lists.invariant.entries)
 
 pub returns-clause-entries : goal.returns-clause-entries
 returns-clause-entries g c =

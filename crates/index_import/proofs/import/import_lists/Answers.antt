@@ -8,9 +8,10 @@ use Rattle.ciff_read.specs.Walk.{HasKept}
 use Rattle.ciff_read.proofs.Told.{for_one}
 use Rattle.index_import.specs.Ranging.{range_there}
 use Rattle.index_import.specs.Outlining.{IsOutline}
-use Rattle.index_import.specs.Surveying.{AreGiven, HoldsMost}
+use Rattle.index_import.specs.Surveying.{AreGiven, HoldsMost, KeepsAll}
 use Rattle.index_import.specs.declared.list_entry.ListEntry.{ListEntry}
 use Rattle.index_import.specs.declared.list_entry.Place.{Place}
+use Rattle.index_import.proofs.Again.{told_now}
 use Rattle.index_import.proofs.Imported.{never_refused, writes_made}
 use Rattle.index_import.proofs.import.import_lists.Goals as goal
 
@@ -24,6 +25,17 @@ read_range-requires-clause-told g c =
 pub read_heads-requires-clause-given : goal.read_heads-requires-clause-given
 read_heads-requires-clause-given g c =
     subst (λ (kept : List KeptList). AreGiven kept c.args.lists.items) (sym c.read_range.ensures.leaves.kept) c.requires.outlined.given
+
+pub read_heads-requires-clause-keep_all : goal.read_heads-requires-clause-keep_all
+read_heads-requires-clause-keep_all g c =
+    subst (λ (n : ℕ). All (KeepsAll n) c.args.lists.items) (sym c.read_range.ensures.leaves.docs) c.requires.outlined.keep_all
+
+pub read_heads-requires-clause-told : goal.read_heads-requires-clause-told
+read_heads-requires-clause-told g c =
+    let told : Option Files = g.C.Cabinet.told c.args.files.now in
+    let Most : ℕ → List ℕ → Type 0 = λ (docs : ℕ) (content : List ℕ). All (HoldsMost content docs) c.args.lists.items in
+    told_now told (g.C.Cabinet.told c.read_range.new.files) c.args.walk.now c.read_range.new.walk Most c.read_range.ensures.stays c.read_range.ensures.leaves
+    (for_one told c.args.walk.now.name (λ content. IsOutline content c.args.walk.now.docs c.args.names c.args.weighing.lengths.now c.args.lists.items) (Most c.args.walk.now.docs) (λ content outline. outline.most) c.requires.told)
 
 pub write_index-requires-clause-given : goal.write_index-requires-clause-given
 write_index-requires-clause-given g c =

@@ -1,15 +1,16 @@
 -- Each list that is read again widens the range, and each that isn't would leave it.
 use Rattle.std.proofs.Common.{◌≡◌, ℕ, ◌≤◌, ◌^◌, List, refl, sym, subst, ◌∙◌, arith}
-use Rattle.jass_base.specs.CiffViews.{list_data}
+use Rattle.std.specs.Prelude.{All}
 use Rattle.jass_base.specs.Lists.{HasDocsBelow}
 use Rattle.ciff_read.specs.Pieces.{KeptList}
 use Rattle.ciff_read.specs.Walk.{HasKept, LeavesWalk}
+use Rattle.ciff_read.proofs.Told.{for_one}
 use Rattle.weights.specs.declared.quantizing.Bits.TheVariants.{Of}
 use Rattle.weights.specs.declared.quantizing.Range.{Range}
 use Rattle.index_import.specs.Outlining.{list_there}
-use Rattle.index_import.specs.Surveying.{IsReady}
+use Rattle.index_import.specs.Surveying.{HoldsMost, IsReady, KeepsAll}
 use Rattle.index_import.specs.declared.list_entry.ListEntry.{ListEntry}
-use Rattle.index_import.proofs.Again.{ready_then, told_then}
+use Rattle.index_import.proofs.Again.{ready_then, told_now, told_then}
 use Rattle.index_import.proofs.Ready.{leaves_then}
 use Rattle.index_import.proofs.Widening.{norms_cut, widens_more, widens_same}
 use Rattle.index_import.proofs.ranging.widen_lists.Goals as goal
@@ -17,11 +18,24 @@ use Rattle.index_import.proofs.ranging.widen_lists.Goals as goal
 pub can_widen-requires-clause-cut : goal.can_widen-requires-clause-cut
 can_widen-requires-clause-cut g c = norms_cut c.args.weighing c.args.weighing.norms.now refl
 
-pub read_again-requires-clause-given : goal.read_again-requires-clause-given
-read_again-requires-clause-given g c =
+pub entry_list-requires-clause-given : goal.entry_list-requires-clause-given
+entry_list-requires-clause-given g c =
     let e : ListEntry = c.entry-item.result in
     subst (λ (kept : List KeptList). HasKept kept e.place.at e.place.count) (sym c.loop-entry.invariant.leaves.kept)
     (subst (λ (x : ListEntry). HasKept c.args.walk.now.kept x.place.at x.place.count) (sym c.entry-item.is) (c.requires.given c.loop-entry.entry-index e c.loop-entry-test.true))
+
+pub entry_list-requires-clause-keeps : goal.entry_list-requires-clause-keeps
+entry_list-requires-clause-keeps g c =
+    let e : ListEntry = c.entry-item.result in
+    subst (λ (n : ℕ). KeepsAll n e) (sym c.loop-entry.invariant.leaves.docs)
+    (subst (λ (x : ListEntry). KeepsAll c.args.walk.now.docs x) (sym c.entry-item.is) (c.requires.keep_all c.loop-entry.entry-index e c.loop-entry-test.true))
+
+pub entry_list-requires-clause-told : goal.entry_list-requires-clause-told
+entry_list-requires-clause-told g c =
+    let e : ListEntry = c.entry-item.result in
+    told_now (g.C.Cabinet.told c.args.files.now) (g.C.Cabinet.told c.loop-entry.files) c.args.walk.now c.loop-entry.walk (λ docs content. HoldsMost content docs e) c.loop-entry.invariant.stays c.loop-entry.invariant.leaves
+    (for_one (g.C.Cabinet.told c.args.files.now) c.args.walk.now.name (λ content. All (HoldsMost content c.args.walk.now.docs) c.args.lists.now) (λ content. HoldsMost content c.args.walk.now.docs e)
+    (λ content all. subst (HoldsMost content c.args.walk.now.docs) (sym c.entry-item.is) (all c.loop-entry.entry-index e c.loop-entry-test.true)) c.requires.told)
 
 pub loop-entry-preserved : goal.loop-entry-preserved
 loop-entry-preserved g c =
@@ -29,18 +43,18 @@ loop-entry-preserved g c =
     let same = sym c.take_back.ensures in
     record {
       ready = subst (IsReady (g.C.Cabinet.told c.args.files.now) c.args.walk.now.name) same
-          (ready_then (g.C.Cabinet.told c.args.files.now) (g.C.Cabinet.told c.loop-entry.files) c.args.walk.now.name c.loop-entry.walk.name c.read_again.new.walk
+          (ready_then (g.C.Cabinet.told c.args.files.now) (g.C.Cabinet.told c.loop-entry.files) c.args.walk.now.name c.loop-entry.walk.name c.entry_list.new.walk
           before.stays before.leaves.name (c.in-Ok.ensures.ready));
-      leaves = subst (LeavesWalk c.args.walk.now) same (leaves_then c.args.walk.now c.loop-entry.walk c.read_again.new.walk before.leaves c.read_again.ensures.leaves);
+      leaves = subst (LeavesWalk c.args.walk.now) same (leaves_then c.args.walk.now c.loop-entry.walk c.entry_list.new.walk before.leaves c.entry_list.ensures.leaves);
       range = widens_more c.widened_lists_have_the_range.ensures.one_more c.args.walk.now.docs c.args.weighing c.args.lists.now c.loop-entry.entry-index c.entry-item.result c.loop-entry-test.true c.entry-item.is
           (g.C.Cabinet.told c.args.files.now) c.args.walk.now.name c.in-Ok.list c.loop-entry.range c.widen_by_norms.new.range
           (subst (λ (n : ℕ). HasDocsBelow n c.in-Ok.list) (before.leaves.docs ∙ sym c.requires.docs) (c.in-Ok.ensures.below))
           (told_then (g.C.Cabinet.told c.args.files.now) (g.C.Cabinet.told c.loop-entry.files) c.args.walk.now c.loop-entry.walk
-          (λ docs content. list_data c.in-Ok.list ≡ list_there content docs c.entry-item.result.place.at) before.stays before.leaves (c.in-Ok.ensures.told))
+          (λ docs content. c.in-Ok.list.postings ≡ (list_there content docs c.entry-item.result.place.at).postings) before.stays before.leaves (c.in-Ok.ensures.told))
           c.widen_by_norms.ensures before.range;
-      stays = c.read_again.ensures.stays ∙ before.stays;
-      later = omega (arith, c.read_again.ensures.later, before.later);
-      others = omega (arith, c.read_again.ensures.others, before.others);
+      stays = c.entry_list.ensures.stays ∙ before.stays;
+      later = omega (arith, c.entry_list.ensures.later, before.later);
+      others = omega (arith, c.entry_list.ensures.others, before.others);
     }
 
 pub loop-entry-preserved-then-not-can_widen : goal.loop-entry-preserved-then-not-can_widen

@@ -2,7 +2,7 @@ use Rattle.std.proofs.Common.{◌≡◌, ◌≤◌, List, ℕ}
 use Rattle.std.specs.Prelude.{All}
 use Rattle.jass_base.specs.Outside.{ForContent, IsMissing}
 use Rattle.ciff_read.specs.Walk.{StandsTold}
-use Rattle.index_import.specs.Surveying.{HoldsMost}
+use Rattle.index_import.specs.Surveying.{HoldsMost, KeepsAll}
 use Rattle.index_import.proofs.Surveying.{Follows, Holds, pieces_left}
 use Rattle.index_import.proofs.survey.survey_file.Given as goal
 
@@ -14,6 +14,7 @@ invariant-pieces g l = record {
   there : ¬ IsMissing (g.C.Cabinet.told l.fn.files) l.name;
   stands : StandsTold (g.C.Cabinet.told l.fn.files) l.walk;
   holds : Holds l.name l.walk l.docs.items l.lists.items;
+  keeps : All (KeepsAll l.walk.docs) l.lists.items;
   follows : ForContent (g.C.Cabinet.told l.fn.files) l.name (λ (content : List ℕ). Follows content l.walk l.docs.items);
   most : ForContent (g.C.Cabinet.told l.fn.files) l.name (λ (content : List ℕ). All (HoldsMost content l.walk.docs) l.lists.items);
 }

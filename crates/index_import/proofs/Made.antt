@@ -1,0 +1,40 @@
+-- What is made of a list that is read again, or of postings that were kept.
+use Rattle.std.proofs.Common.{◌≡◌, ◌≤◌, ℕ, List, length, Option, Result, ap, subst, ◌∙◌}
+use Rattle.jass_base.specs.Ciff.{ListData}
+use Rattle.jass_base.specs.CiffViews.{list_data}
+use Rattle.jass_base.specs.Outside.{Files, ForContent}
+use Rattle.jass_base.specs.declared.posting.Posting.{Posting}
+use Rattle.jass_base.specs.declared.postings_list.PostingsList.{PostingsList}
+use Rattle.jass_base.specs.declared.segment.Segment.{Segment}
+use Rattle.weights.specs.declared.quantizing.Bits.{Bits}
+use Rattle.weights.specs.declared.quantizing.Range.{Range}
+use Rattle.ciff_read.specs.declared.refusal.CiffFault.{CiffFault}
+use Rattle.ciff_read.proofs.Told.{for_one}
+use Rattle.index_import.specs.Outlining.{list_there}
+use Rattle.index_import.specs.Rereading.{MakesOf, MakesSegments}
+use Rattle.index_import.specs.Surveying.{HoldsMost, entry_postings}
+use Rattle.index_import.specs.declared.list_entry.ListEntry.{ListEntry}
+use Rattle.index_import.specs.declared.weighing.Weighing.{Weighing}
+use Rattle.index_import.proofs.Ready.{list_there_is}
+
+module _ (files : Option Files) (name : List ℕ) (docs : ℕ) where
+  -- some postings are those of the list at a place
+  abbrev pub AreThere : ℕ → List Posting → Type 0
+  AreThere at postings = ForContent files name (λ content. postings ≡ (list_there content docs at).postings)
+
+  pub read_there : (at : ℕ) (list : PostingsList) → ForContent files name (λ content. list_data list ≡ list_there content docs at) → AreThere at list.postings
+  read_there at list is =
+      for_one files name (λ content. list_data list ≡ list_there content docs at) (λ content. list.postings ≡ (list_there content docs at).postings)
+      (λ content same. ap (λ (l : ListData). l.postings) same) is
+
+  pub all_there : (e : ListEntry) → 1 ≤ length (entry_postings e) → ForContent files name (λ content. HoldsMost content docs e) → AreThere e.place.at (entry_postings e)
+  all_there e some holds =
+      for_one files name (λ content. HoldsMost content docs e) (λ content. entry_postings e ≡ (list_there content docs e.place.at).postings)
+      (λ content held. held.kept some ∙ ap (λ (l : ListData). l.postings) (list_there_is content docs e.place.at held.list held.there)) holds
+
+  -- what is made of them is made of that list
+  pub made_there : (w : Weighing) (bits : Bits) (range : Range) (at : ℕ) (postings : List Posting) (result : Result (List Segment) CiffFault) → AreThere at postings
+      → MakesOf w bits range postings result → ForContent files name (λ content. MakesSegments content docs w bits range at result)
+  made_there w bits range at postings result there made =
+      for_one files name (λ content. postings ≡ (list_there content docs at).postings) (λ content. MakesSegments content docs w bits range at result)
+      (λ content same. subst (λ (ps : List Posting). MakesOf w bits range ps result) same made) there

@@ -1,0 +1,6 @@
+use Rattle.std.proofs.Common.{◌≡◌, ◌++◌, drop, map}
+use Rattle.index_import.specs.KeptPostings.{posting_in}
+use Rattle.index_import.proofs.kept_postings.few_words.Given as goal
+
+abbrev pub invariant-loop-posting : goal.invariant-loop-posting
+invariant-loop-posting l = map posting_in l.words.items ++ drop l.posting-index l.postings ≡ l.postings

@@ -1,0 +1,139 @@
+//! Postings in four bytes each, which are kept so that their list needn't be read again.
+
+ghost use Rattle.std.specs.Prelude.{◌≡◌, ◌≤◌, ◌⊎◌, [], length, map, IfOk, IfSome, false, true};
+ghost use Rattle.index_import.specs.KeptPostings.{posting_in, postings_in, words_in};
+
+use arrayvec::ArrayVec;
+use jass_base::{NoMemory, Posting};
+use std::alloc::Global;
+
+/// So many postings take no memory of their own.
+const FEW: usize = 4;
+
+/// A word has room for documents below it.
+const DOC_LIMIT: u32 = 1 << 21;
+
+/// A word has room for frequencies below it.
+const TF_LIMIT: u32 = 2_048;
+
+/// Postings in a word each: the document in the upper 21 bits, and how often the term stands in it
+/// in the lower 11.
+#[derive(Debug, Drop)]
+pub(crate) enum KeptPostings {
+    Few(ArrayVec<u32, FEW>),
+    Many(Vec<u32>),
+}
+
+impl KeptPostings {
+    /// No postings.
+    fn none() -> KeptPostings
+        ensures { postings_in result ≡ [] }
+    {
+        KeptPostings::Few(ArrayVec::new())
+    }
+
+    /// The postings of a list; none where they are more than four and than there is room for, where
+    /// one of them has no word, or where memory is refused.
+    pub fn new(alloc: Global, postings: &[Posting], room: usize) -> KeptPostings
+        ensures { (postings_in result ≡ []) ⊎ (postings_in result ≡ postings.now) }
+    {
+        if postings.len() <= FEW {
+            return match few_words(postings) {
+                Some(words) => KeptPostings::Few(words),
+                None => KeptPostings::none(),
+            };
+        }
+        if postings.len() > room {
+            return KeptPostings::none();
+        }
+        match many_words(alloc, postings) {
+            Some(words) => KeptPostings::Many(words),
+            None => KeptPostings::none(),
+        }
+    }
+
+    /// Whether these are no postings.
+    pub fn is_empty(&self) -> bool
+        ensures none { result ≡ true → postings_in self.now ≡ [] }
+        ensures some { result ≡ false → 1 ≤ length (postings_in self.now) }
+    {
+        self.words().is_empty()
+    }
+
+    /// The postings, in the memory of a vector that is of no more use.
+    pub fn postings(&self, mut spare: Vec<Posting>) -> Result<Vec<Posting>, NoMemory>
+        ensures { IfOk result (λ postings. postings.items ≡ postings_in self.now) }
+    {
+        let words = self.words();
+        spare.clear();
+        match spare.reserve(words.len()) {
+            Ok(()) => {}
+            Err(_) => return Err(NoMemory),
+        }
+        for word in words {
+            spare.push_reserved(posting_in(*word));
+        }
+        Ok(spare)
+    }
+
+    fn words(&self) -> &[u32]
+        ensures { result.now ≡ words_in self.now }
+    {
+        match self {
+            KeptPostings::Few(words) => words.as_slice(),
+            KeptPostings::Many(words) => words.as_slice(),
+        }
+    }
+}
+
+/// The words of postings that are few.
+fn few_words(postings: &[Posting]) -> Option<ArrayVec<u32, FEW>>
+    ensures { IfSome result (λ words. map posting_in words.items ≡ postings.now) }
+{
+    let mut words = ArrayVec::new();
+    for posting in postings {
+        let word = word_of(*posting)?;
+        match words.try_push(word) {
+            Ok(()) => {}
+            Err(_) => return None,
+        }
+    }
+    Some(words)
+}
+
+/// The words of postings, in memory of their own.
+fn many_words(alloc: Global, postings: &[Posting]) -> Option<Vec<u32>>
+    ensures { IfSome result (λ words. map posting_in words.items ≡ postings.now) }
+{
+    let mut words = match Vec::with_capacity(alloc, postings.len()) {
+        Ok(words) => words,
+        Err(_) => return None,
+    };
+    for posting in postings {
+        let word = word_of(*posting)?;
+        words.push_reserved(word);
+    }
+    Some(words)
+}
+
+/// The word of a posting, where it has one.
+#[inline(always)]
+fn word_of(posting: Posting) -> Option<u32>
+    ensures { IfSome result (λ word. posting_in word ≡ posting) }
+{
+    if posting.doc >= DOC_LIMIT || posting.tf >= TF_LIMIT {
+        return None;
+    }
+    Some(posting.doc * TF_LIMIT + posting.tf)
+}
+
+/// The posting of a word.
+#[inline(always)]
+fn posting_in(word: u32) -> Posting
+    ensures { result ≡ posting_in word }
+{
+    Posting {
+        doc: word / TF_LIMIT,
+        tf: word % TF_LIMIT,
+    }
+}
