@@ -40,7 +40,7 @@ from_start : (most : ℕ) (ps : List Posting) → most ≤ fold (λ (most : ℕ)
 from_start most [] = omega arith
 from_start most (p ∷ ps) = omega (arith, from_start (max most p.tf) ps)
 
-to_most : (most : ℕ) (ps : List Posting) → AllByRecursion (λ (p : Posting). p.tf ≤ fold (λ (most : ℕ) (p : Posting). max most p.tf) most ps) ps
+pub to_most : (most : ℕ) (ps : List Posting) → AllByRecursion (λ (p : Posting). p.tf ≤ fold (λ (most : ℕ) (p : Posting). max most p.tf) most ps) ps
 to_most most [] = tt
 to_most most (p ∷ ps) = (omega (arith, from_start (max most p.tf) ps), to_most (max most p.tf) ps)
 

@@ -2,6 +2,7 @@
 
 ghost use Rattle.std.specs.Prelude.{◌≡◌, ◌<◌, ◌≤◌, ◌*◌, ◌^◌, length, All};
 ghost use Rattle.jass_base.specs.Postings.{HasTfInRange};
+ghost use Rattle.jass_base.specs.declared.posting.Posting.{Posting};
 ghost use Rattle.weights.specs.Quantizing.{range_of};
 ghost use Rattle.impact_segments.specs.Bounds.{can_widen, most_tf, weight_at};
 
@@ -13,6 +14,7 @@ use weights::{Range, Rule, idf, saturated};
 pub fn most_tf(postings: &[Posting]) -> u32
     requires { All HasTfInRange postings.now }
     ensures value { result ≡ most_tf postings.now }
+    ensures each { All (λ (p : Posting). p.tf ≤ result) postings.now }
     ensures some { 1 ≤ result }
     ensures limit { result < 2 ^ 31 }
 {

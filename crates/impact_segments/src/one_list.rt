@@ -1,6 +1,6 @@
 //! The segments of one list at a time, for a collection that isn't held in memory.
 
-ghost use Rattle.std.specs.Prelude.{◌≡◌, ℕ, None, ◌<◌, ◌≤◌, ◌*◌, ◌^◌, [], ◌∷◌, length, map, fold, sum_by, All, AllPairs, IfErr, IfOk, OnOk, min, slice_index};
+ghost use Rattle.std.specs.Prelude.{◌≡◌, ℕ, None, ◌<◌, ◌≤◌, ◌*◌, ◌^◌, [], ◌∷◌, length, map, fold, sum_by, All, AllPairs, IfErr, IfOk, OnOk, min, slice_index, vec_capacity};
 ghost use Rattle.std.specs.Option.{ForSome};
 ghost use Rattle.jass_base.specs.Gaps.{AreDocs};
 ghost use Rattle.jass_base.specs.Postings.{HasTfInRange};
@@ -294,7 +294,7 @@ fn make_segments(
     }
 }
 
-/// The documents of a list with their impacts, in a vector that is empty before.
+/// The documents of a list with their impacts, in a vector that is empty before and has room for them.
 fn impacts_of(
     none: Vec<(u32, u16)>,
     table: &[u16],
@@ -311,6 +311,7 @@ fn impacts_of(
     requires low { EndsLow bits range }
     requires norms { ForSome norms (λ n. n.now ≡ norms_in lengths.now total) }
     requires none { none.items ≡ [] }
+    requires room { length list.now.postings ≤ vec_capacity none }
     requires table { AreImpacts bits range table.now }
     ensures pairs { IfOk result (λ pairs. pairs.items
         ≡ pairs_in rule lengths.now total bits range list.now.postings) }
@@ -323,10 +324,7 @@ fn impacts_of(
     for posting in list.postings.as_slice() {
         let weight = weigher.weigh(*posting);
         let impact = impact_in(table, bits, range, weight)?;
-        match pairs.push((posting.doc, impact)) {
-            Ok(()) => {}
-            Err(_) => return Err(SegmentsFault::NoMemory),
-        }
+        pairs.push_reserved((posting.doc, impact));
     }
     Ok(pairs)
 }

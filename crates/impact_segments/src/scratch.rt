@@ -1,6 +1,6 @@
 //! What is kept from one list of a collection to the next.
 
-ghost use Rattle.std.specs.Prelude.{◌≡◌, [], IfOk};
+ghost use Rattle.std.specs.Prelude.{◌≡◌, ◌≤◌, [], IfOk, vec_capacity};
 ghost use Rattle.weights.specs.Quantizing.{IsImpactWidth};
 ghost use Rattle.impact_segments.specs.OneList.{EndsLow};
 
@@ -56,7 +56,8 @@ impl Scratch {
 
     /// No pairs, with room for so many.
     pub(crate) fn take_pairs(&mut self, count: usize) -> Result<Vec<(u32, u16)>, NoMemory>
-        ensures { IfOk result (λ pairs. pairs.items ≡ []) }
+        ensures none { IfOk result (λ pairs. pairs.items ≡ []) }
+        ensures room { IfOk result (λ pairs. count ≤ vec_capacity pairs) }
     {
         let mut pairs = mem::replace(&mut self.pairs, Vec::new(self.alloc));
         pairs.clear();

@@ -9,4 +9,5 @@ mod Ready
 mod Surveying
 mod Turns
 mod Widening
+mod Words
 mod Written

@@ -1,7 +1,10 @@
 //! Postings in four bytes each, which are kept so that their list needn't be read again.
 
-ghost use Rattle.std.specs.Prelude.{◌≡◌, ◌≤◌, ◌⊎◌, [], length, map, IfOk, IfSome, false, true};
-ghost use Rattle.index_import.specs.KeptPostings.{posting_in, postings_in, words_in};
+ghost use Rattle.std.specs.Prelude.{◌≡◌, ◌≤◌, ◌⊎◌, [], length, map, All, IfOk, IfSome, IsTrue, false, true};
+ghost use Rattle.std.specs.List.Sorted.{IsStrictlyIncreasing};
+ghost use Rattle.jass_base.specs.Postings.{docs_of};
+ghost use Rattle.jass_base.specs.declared.posting.Posting.{Posting};
+ghost use Rattle.index_import.specs.KeptPostings.{HasWord, posting_in, postings_in, words_in};
 
 use arrayvec::ArrayVec;
 use jass_base::{NoMemory, Posting};
@@ -14,7 +17,7 @@ const FEW: usize = 4;
 const DOC_LIMIT: u32 = 1 << 21;
 
 /// A word has room for frequencies below it.
-const TF_LIMIT: u32 = 2_048;
+const TF_LIMIT: u32 = 1 << 11;
 
 /// Postings in a word each: the document in the upper 21 bits, and how often the term stands in it
 /// in the lower 11.
@@ -32,11 +35,17 @@ impl KeptPostings {
         KeptPostings::Few(ArrayVec::new())
     }
 
-    /// The postings of a list; none where they are more than four and than there is room for, where
-    /// one of them has no word, or where memory is refused.
-    pub fn new(alloc: Global, postings: &[Posting], room: usize) -> KeptPostings
+    /// The postings of a list whose term stands at most `most` times in a document; none where they
+    /// are more than four and than there is room for, where the last document or `most` is too great
+    /// for a word, or where memory is refused.
+    pub fn new(alloc: Global, postings: &[Posting], most: u32, room: usize) -> KeptPostings
+        requires rising { IsStrictlyIncreasing (docs_of postings.now) }
+        requires most { All (λ (p : Posting). p.tf ≤ most) postings.now }
         ensures { (postings_in result ≡ []) ⊎ (postings_in result ≡ postings.now) }
     {
+        if !have_words(postings, most) {
+            return KeptPostings::none();
+        }
         if postings.len() <= FEW {
             return match few_words(postings) {
                 Some(words) => KeptPostings::Few(words),
@@ -86,14 +95,27 @@ impl KeptPostings {
     }
 }
 
+/// Whether the last document, which is the greatest, and `most` are small enough for a word. Then there
+/// is one for each posting.
+fn have_words(postings: &[Posting], most: u32) -> bool
+    requires rising { IsStrictlyIncreasing (docs_of postings.now) }
+    requires most { All (λ (p : Posting). p.tf ≤ most) postings.now }
+    ensures { IsTrue result → All HasWord postings.now }
+{
+    match postings.last() {
+        Some(last) => last.doc < DOC_LIMIT && most < TF_LIMIT,
+        None => true,
+    }
+}
+
 /// The words of postings that are few.
 fn few_words(postings: &[Posting]) -> Option<ArrayVec<u32, FEW>>
+    requires { All HasWord postings.now }
     ensures { IfSome result (λ words. map posting_in words.items ≡ postings.now) }
 {
     let mut words = ArrayVec::new();
     for posting in postings {
-        let word = word_of(*posting)?;
-        match words.try_push(word) {
+        match words.try_push(word_of(*posting)) {
             Ok(()) => {}
             Err(_) => return None,
         }
@@ -103,6 +125,7 @@ fn few_words(postings: &[Posting]) -> Option<ArrayVec<u32, FEW>>
 
 /// The words of postings, in memory of their own.
 fn many_words(alloc: Global, postings: &[Posting]) -> Option<Vec<u32>>
+    requires { All HasWord postings.now }
     ensures { IfSome result (λ words. map posting_in words.items ≡ postings.now) }
 {
     let mut words = match Vec::with_capacity(alloc, postings.len()) {
@@ -110,21 +133,18 @@ fn many_words(alloc: Global, postings: &[Posting]) -> Option<Vec<u32>>
         Err(_) => return None,
     };
     for posting in postings {
-        let word = word_of(*posting)?;
-        words.push_reserved(word);
+        words.push_reserved(word_of(*posting));
     }
     Some(words)
 }
 
-/// The word of a posting, where it has one.
+/// The word of a posting that has one.
 #[inline(always)]
-fn word_of(posting: Posting) -> Option<u32>
-    ensures { IfSome result (λ word. posting_in word ≡ posting) }
+fn word_of(posting: Posting) -> u32
+    requires { HasWord posting }
+    ensures { posting_in result ≡ posting }
 {
-    if posting.doc >= DOC_LIMIT || posting.tf >= TF_LIMIT {
-        return None;
-    }
-    Some(posting.doc * TF_LIMIT + posting.tf)
+    posting.doc * TF_LIMIT + posting.tf
 }
 
 /// The posting of a word.

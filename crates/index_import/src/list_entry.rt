@@ -34,8 +34,8 @@ pub(crate) struct ListEntry {
 }
 
 impl ListEntry {
-    /// Keeps a list that has postings, and gives these back. They are kept, too, where they are at
-    /// most four or there is room for so many.
+    /// Keeps a list that has postings, and gives these back. They are kept, too, where there is a word
+    /// for each, and they are at most four or there is room for so many.
     pub fn new(alloc: Global, at: u64, list: PostingsList, room: usize) -> (ListEntry, Row<Posting>)
         requires some { 1 ≤ length list.postings }
         requires few { length list.postings ≤ 2 ^ 29 }
@@ -45,10 +45,11 @@ impl ListEntry {
         ensures most { result.0.place.most ≡ most_tf list.postings }
         ensures kept { (postings_in result.0.kept ≡ []) ⊎ (postings_in result.0.kept ≡ list.postings) }
     {
-        let count = list.postings.len() as u32;
-        let most = most_tf(list.postings.as_slice());
-        let kept = KeptPostings::new(alloc, list.postings.as_slice(), room);
         let PostingsList { term, postings, .. } = list;
+        let items = postings.as_slice();
+        let count = items.len() as u32;
+        let most = most_tf(items);
+        let kept = KeptPostings::new(alloc, items, most, room);
         let entry = ListEntry {
             term,
             place: Place { at, count, most },

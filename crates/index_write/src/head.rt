@@ -10,15 +10,15 @@ use segment_codecs::{Codec, shortest};
 use std::alloc::Global;
 
 /// What stands in an index file before the payload of a segment. It is made once for each segment,
-/// so that its codec is chosen once.
+/// so that its codec is chosen once. The fields stand by falling size, for the least memory.
 #[derive(Clone, Copy, Debug, PartialEq, Eq)]
 pub struct PayloadHead {
-    pub impact: u16,
     /// How many documents.
     pub count: u32,
-    pub codec: Codec,
     /// How many bytes the payload has.
     pub bytes: u32,
+    pub impact: u16,
+    pub codec: Codec,
 }
 
 impl PayloadHead {

@@ -33,8 +33,10 @@ loop-posting-preserved c =
     let weighed : w ≡ weigh p = weight_same rule c.new-weigher.result.rule lengths c.new-weigher.result.lengths.now total c.new-weigher.result.total count c.new-weigher.result.rare w p
     c.new-weigher.ensures.rule c.new-weigher.ensures.lengths c.new-weigher.ensures.total c.new-weigher.ensures.rare (c.weigh-weight.ensures.value count) in
     record {
-      pairs = pairs_more (λ (p : Posting). (p.doc, impact_of bits range (weigh p))) c.loop-posting.pairs.items c.push.new.self.items (pairs_in rule lengths total bits range c.args.list.now.postings) items i none
-          (p.doc, c.in_ok-impact.impact) c.loop-posting-test.true c.in-Ok.ensures.items (pair_is bits range p.doc c.in_ok-impact.impact w (weigh p) c.in_ok-impact.ensures.value weighed) c.loop-posting.invariant.pairs;
-      positive = positive_more c.loop-posting.pairs.items c.push.new.self.items p.doc c.in_ok-impact.impact c.in-Ok.ensures.items c.in_ok-impact.ensures.positive c.loop-posting.invariant.positive;
+      pairs = pairs_more (λ (p : Posting). (p.doc, impact_of bits range (weigh p))) c.loop-posting.pairs.items c.push_reserved.new.self.items (pairs_in rule lengths total bits range c.args.list.now.postings) items i none
+          (p.doc, c.in_ok-impact.impact) c.loop-posting-test.true c.push_reserved.ensures.items (pair_is bits range p.doc c.in_ok-impact.impact w (weigh p) c.in_ok-impact.ensures.value weighed) c.loop-posting.invariant.pairs;
+      positive = positive_more c.loop-posting.pairs.items c.push_reserved.new.self.items p.doc c.in_ok-impact.impact c.push_reserved.ensures.items c.in_ok-impact.ensures.positive c.loop-posting.invariant.positive;
       judged = judged_more weigh bits range items i none w (outside bits range (weights_in rule lengths total c.args.list.now.postings)) c.loop-posting-test.true weighed c.in_ok-impact.ensures.ok c.loop-posting.invariant.judged;
+      count = omega (arith, c.push_reserved.ensures.len, c.loop-posting.invariant.count);
+      room = omega (arith, c.push_reserved.ensures.capacity, c.loop-posting.invariant.room);
     }

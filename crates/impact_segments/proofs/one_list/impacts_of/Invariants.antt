@@ -1,4 +1,4 @@
-use Rattle.std.proofs.Common.{◌≡◌, ◌≤◌, ◌++◌, ℕ, drop, length, map}
+use Rattle.std.proofs.Common.{◌≡◌, ◌≤◌, ◌++◌, ℕ, drop, length, map, vec_capacity}
 use Rattle.std.specs.Prelude.{All}
 use Rattle.jass_base.specs.declared.posting.Posting.{Posting}
 use Rattle.weights.specs.Quantizing.{impact_of}
@@ -13,4 +13,6 @@ invariant-loop-posting l = record {
   positive : All (λ (p : ℕ × ℕ). 1 ≤ p.1) l.pairs.items;
   judged : outside l.bits l.range (map (weight_in l.fn.rule l.fn.lengths l.fn.total (length l.fn.list.postings)) (drop l.posting-index l.posting-items))
       ≡ outside l.bits l.range (weights_in l.fn.rule l.fn.lengths l.fn.total l.fn.list.postings);
+  count : length l.pairs.items ≡ l.posting-index;
+  room : length l.posting-items ≤ vec_capacity l.pairs;
 }

@@ -54,9 +54,9 @@ lists-init g c = record {
   others = omega arith;
   ready = c.requires.ready;
   leaves = leaves_same c.args.walk.now;
-  heads = no_heads (g.C.Cabinet.told c.args.files.now) c.args.walk.now.name c.args.walk.now.docs c.args.weighing c.args.bits c.args.range c.new-terms.result c.new.result c.new-terms.ensures c.new.ensures;
-  entries = no_entries c.new-terms.result c.new-terms.ensures;
-  places = c.new-places.ensures.items;
+  heads = no_heads (g.C.Cabinet.told c.args.files.now) c.args.walk.now.name c.args.walk.now.docs c.args.weighing c.args.bits c.args.range c.in-Ok.terms c.new.result c.in-Ok.ensures c.new.ensures;
+  entries = no_entries c.in-Ok.terms c.in-Ok.ensures;
+  places = c.in-Ok-with_capacity.ensures.items;
 }
 
 pub lists-preserved : goal.lists-preserved
@@ -66,25 +66,25 @@ lists-preserved g c =
     let d : ℕ = c.args.walk.now.docs in
     let entry : ListEntry = c.in-Some.entry in
     let own : TermHeads = record { term = c.into_parts-term.result.0; heads = c.in-Ok-payload_heads.heads } in
-    let segments : List Segment = c.in-Ok.segments in
+    let segments : List Segment = c.in-Ok-entry_segments.segments in
     let docs : c.lists.walk.docs ≡ d = c.lists.invariant.leaves.docs in
     let made : map head_data c.in-Ok-payload_heads.heads ≡ chosen_heads d (map segment_data segments)
     = c.in-Ok-payload_heads.ensures ∙ ap (λ (n : ℕ). chosen_heads n (map segment_data c.as_slice.result.now)) c.requires.docs ∙ ap (λ (ss : List Segment). chosen_heads d (map segment_data ss)) c.as_slice.ensures in
-    let of : AreSegments d entry.place.count segments = subst (λ (n : ℕ). AreSegments n entry.place.count segments) docs c.in-Ok.ensures.segments in
+    let of : AreSegments d entry.place.count segments = subst (λ (n : ℕ). AreSegments n entry.place.count segments) docs c.in-Ok-entry_segments.ensures.segments in
     let read : ForContent told name (λ content. map segment_data segments ≡ segments_there content d c.args.weighing c.args.bits c.args.range entry.place.at)
     = subst (λ (files : Option Files). ForContent files name (λ content. map segment_data segments ≡ segments_there content d c.args.weighing c.args.bits c.args.range entry.place.at)) c.lists.invariant.same
     (subst (λ (n : List ℕ). ForContent (g.C.Cabinet.told c.lists.files) n (λ content. map segment_data segments ≡ segments_there content d c.args.weighing c.args.bits c.args.range entry.place.at)) c.lists.invariant.leaves.name
-    (subst (λ (k : ℕ). ForContent (g.C.Cabinet.told c.lists.files) c.lists.walk.name (λ content. map segment_data segments ≡ segments_there content k c.args.weighing c.args.bits c.args.range entry.place.at)) docs c.in-Ok.ensures.told)) in
+    (subst (λ (k : ℕ). ForContent (g.C.Cabinet.told c.lists.files) c.lists.walk.name (λ content. map segment_data segments ≡ segments_there content k c.args.weighing c.args.bits c.args.range entry.place.at)) docs c.in-Ok-entry_segments.ensures.told)) in
     let keeps : KeepsMore c.lists.payloads (chosen_payloads d (map segment_data segments)) c.keep_payloads-payloads.result
     = subst (λ (ss : List Segment). KeepsMore c.lists.payloads (chosen_payloads d (map segment_data ss)) c.keep_payloads-payloads.result) c.as_slice-in-lists.ensures
     (subst (λ (n : ℕ). KeepsMore c.lists.payloads (chosen_payloads n (map segment_data c.as_slice-in-lists.result.now)) c.keep_payloads-payloads.result) c.requires.docs c.keep_payloads-payloads.ensures) in
-    let ready = subst (λ (files : Option Files). IsReady files name c.entry_segments.new.walk) c.lists.invariant.same (subst (λ (n : List ℕ). IsReady (g.C.Cabinet.told c.lists.files) n c.entry_segments.new.walk) c.lists.invariant.leaves.name c.in-Ok.ensures.ready) in
+    let ready = subst (λ (files : Option Files). IsReady files name c.entry_segments.new.walk) c.lists.invariant.same (subst (λ (n : List ℕ). IsReady (g.C.Cabinet.told c.lists.files) n c.entry_segments.new.walk) c.lists.invariant.leaves.name c.in-Ok-entry_segments.ensures.ready) in
     record {
-      same = c.in-Ok.ensures.stays ∙ c.lists.invariant.same;
-      later = omega (arith, c.lists.invariant.later, c.in-Ok.ensures.later);
-      others = omega (arith, c.lists.invariant.others, c.in-Ok.ensures.others);
+      same = c.in-Ok-entry_segments.ensures.stays ∙ c.lists.invariant.same;
+      later = omega (arith, c.lists.invariant.later, c.in-Ok-entry_segments.ensures.later);
+      others = omega (arith, c.lists.invariant.others, c.in-Ok-entry_segments.ensures.others);
       ready = ready;
-      leaves = leaves_then c.args.walk.now c.lists.walk c.entry_segments.new.walk c.lists.invariant.leaves c.in-Ok.ensures.leaves;
+      leaves = leaves_then c.args.walk.now c.lists.walk c.entry_segments.new.walk c.lists.invariant.leaves c.in-Ok-entry_segments.ensures.leaves;
       heads = subst (λ (hs : List TermHeads). AreHeads told name d c.args.weighing c.args.bits c.args.range (c.lists.yielded ++ entry ∷ []) hs c.keep_payloads-payloads.result) (sym c.in-Ok-push.ensures.ok)
           (heads_more told name d c.args.weighing c.args.bits c.args.range c.lists.yielded c.lists.terms c.lists.payloads c.keep_payloads-payloads.result entry own (map segment_data segments) c.into_parts-term.ensures.term made read keeps c.lists.invariant.heads);
       entries = subst (λ (hs : List TermHeads). HaveEntries (c.lists.yielded ++ entry ∷ []) hs) (sym c.in-Ok-push.ensures.ok)
