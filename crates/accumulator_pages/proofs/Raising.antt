@@ -41,10 +41,6 @@ added-each w d (x ∷ docs) s inside =
           omega (arith, rest, product, none, there w x d s other.1)
     ]
 
-pub added-parts : (w : ℕ) (front back s : List ℕ) → added w (front ++ back) s ≡ added w back (added w front s)
-added-parts w [] back s = refl
-added-parts w (x ∷ front) back s = added-parts w front back (one_more w x s)
-
 -- ---- crossing
 
 crosses : (before after floor : ℕ) → before < floor → floor ≤ after → (nat_lt before floor && nat_le floor after) ≡ true

@@ -3,7 +3,7 @@ use Rattle.std.proofs.Common.{◌≡◌, ◌≢◌, ℕ, suc, zero, true, not, c
 use Rattle.std.proofs.lemmas.List.{get_or_past}
 use Rattle.std.proofs.lemmas.Bool.{cases_lt}
 use Rattle.std.specs.Int.{div_ceil}
-use Rattle.std.specs.List.{AllByRecursion, range_with_len}
+use Rattle.std.specs.List.{range_with_len}
 use Rattle.std.proofs.lemmas.Bool.Decides.{eqb_tells}
 use Rattle.std.proofs.lemmas.List.{length-replicate, get_or-replicate, get_or_read}
 use Rattle.std.proofs.lemmas.List.Folds.{sum_by-replicate}
@@ -11,9 +11,10 @@ use Rattle.std.proofs.lemmas.List.FromFn.{length-map-range_with_len, get_or-map-
 use Rattle.shared_lemmas.proofs.Places.{in_range}
 use Rattle.frame_pool.specs.Pool.{PoolView, FrameContent}
 use Rattle.frame_pool.specs.ChainView.{ChainView, HasPage, HeldFrame, KeepsFrames, LeavesOthers, frame_with_page, number_with_page, slot_value, view_values, view_scores}
+use Rattle.frame_pool.proofs.Pages.{none_found}
 use Rattle.accumulator_pages.specs.Adding.{page_count, touched_pages, page_is_touched}
 use Rattle.accumulator_pages.specs.declared.pages.Pages.{Pages}
-use Rattle.accumulator_pages.specs.Pages.{Stands, PagesStand, TableStands, HasTouched, HasRoom, HasRoomFor, frame_of_entry, no_frame, own_chain, own_view}
+use Rattle.accumulator_pages.specs.Pages.{TableStands, HasTouched, HasRoom, HasRoomFor, frame_of_entry, no_frame, own_chain, own_view}
 use Rattle.accumulator_pages.proofs.Adding.{rises}
 use Rattle.accumulator_pages.proofs.Counting.{some_counted, pages_counted, touched_there, untouched_there}
 
@@ -22,29 +23,7 @@ use Rattle.accumulator_pages.proofs.Counting.{some_counted, pages_counted, touch
 pub view_stays : (pages : Pages) (old new : PoolView) (chain : ℕ) → LeavesOthers old new chain → own_chain pages ≢ chain → own_view pages new ≡ own_view pages old
 view_stays pages old new chain leaves ne = (leaves (own_chain pages) ne).view
 
-pub stays : (pages : Pages) (old new : PoolView) (chain : ℕ) → LeavesOthers old new chain → own_chain pages ≢ chain → Stands pages old → Stands pages new
-stays pages old new chain leaves ne stands = record {
-  in_use = (leaves (own_chain pages) ne).in_use.1 stands.in_use;
-  here = subst (PagesStand pages) (sym (view_stays pages old new chain leaves ne)) stands.here;
-}
-
-pub all_stay : (sessions : List Pages) (old new : PoolView) (chain : ℕ) → LeavesOthers old new chain → AllByRecursion (λ p. own_chain p ≢ chain) sessions → AllByRecursion (λ p. Stands p old) sessions
-    → AllByRecursion (λ p. Stands p new) sessions
-all_stay [] old new chain leaves apart stand = tt
-all_stay (p ∷ ps) old new chain leaves apart stand = (stays p old new chain leaves apart.0 stand.0, all_stay ps old new chain leaves apart.1 stand.1)
-
-pub views_stay : (sessions : List Pages) (old new : PoolView) (chain : ℕ) → LeavesOthers old new chain → AllByRecursion (λ p. own_chain p ≢ chain) sessions
-    → map (λ p. own_view p new) sessions ≡ map (λ p. own_view p old) sessions
-views_stay [] old new chain leaves apart = refl
-views_stay (p ∷ ps) old new chain leaves apart =
-    ap (λ (x : ChainView). x ∷ map (λ p. own_view p new) ps) (view_stays p old new chain leaves apart.0)
-    ∙ ap (λ (xs : List ChainView). own_view p old ∷ xs) (views_stay ps old new chain leaves apart.1)
-
 -- ---- pages without a frame
-
-none_found : (o : Option HeldFrame) → option_map (λ h. h.number) o ≡ None → o ≡ None
-none_found None h = refl
-none_found (Some x) h = cc
 
 pub length-values : (values : FrameContent → List ℕ) (docs : ℕ) (view : ChainView) → length (view_values values docs view) ≡ docs
 length-values values docs view = length-map-range_with_len (λ d. slot_value values (frame_with_page view (d / 256)) (d % 256)) 0 docs

@@ -248,8 +248,8 @@ impl Pages {
         chain
     }
 
-    // Adds a weight to the score of a document, and answers the new score. It doesn't count touched documents: those
-    // whose new score is the weight are touched now.
+    /// Adds a weight to the score of a document, and answers the new score. It doesn't count touched documents: those
+    /// whose new score is the weight are touched now.
     fn raise(&mut self, pool: &mut FramePool, doc: u32, w: u32) -> u32
         requires own { IsInUse pool.old (own_chain self.old) }
         requires stand { FramesStand self.old (own_view self.old pool.old) }
@@ -273,8 +273,8 @@ impl Pages {
         score
     }
 
-    // Adds a weight to the scores of the documents whose bits are set, and tells how many of them had none, and
-    // whether one may have passed the hit. It doesn't count touched documents.
+    /// Adds a weight to the scores of the documents whose bits are set, and tells how many of them had none, and
+    /// whether one may have passed the hit. It doesn't count touched documents.
     fn raise_bits(
         &mut self,
         pool: &mut FramePool,
@@ -317,7 +317,7 @@ impl Pages {
         )
     }
 
-    // Notes those of the documents whose bits are set that passed the hit by a weight, which their scores have by now.
+    /// Notes those of the documents whose bits are set that passed the hit by a weight, which their scores have by now.
     #[inline(never)]
     fn note_bits(
         &self,
@@ -350,7 +350,7 @@ impl Pages {
         note_slots(pool.scores_of(frame), &block[..count], w, last, reached);
     }
 
-    // The frame of a page, which is taken where the page has none.
+    /// The frame of a page, which is taken where the page has none.
     fn frame_of(&mut self, pool: &mut FramePool, page: u32) -> FrameId
         requires own { IsInUse pool.old (own_chain self.old) }
         requires fields { FieldsStand self.old (own_view self.old pool.old) }
@@ -374,7 +374,7 @@ impl Pages {
         }
     }
 
-    // Takes the frame of a page that has none. Not inlined: it is seldom needed where weights are added.
+    /// Takes the frame of a page that has none. Not inlined: it is seldom needed where weights are added.
     #[inline(never)]
     fn take_frame(&mut self, pool: &mut FramePool, page: u32) -> FrameId
         requires own { IsInUse pool.old (own_chain self.old) }
@@ -400,7 +400,7 @@ impl Pages {
         frame
     }
 
-    // The score of a document, in the frame of its page.
+    /// The score of a document, in the frame of its page.
     fn score_in(&self, pool: &FramePool, frame: FrameId, doc: u32) -> u32
         requires has { HasPage (own_view self.now pool.now) (doc / 256) frame.number }
         requires inside { doc < docs_of self.now }
@@ -409,7 +409,7 @@ impl Pages {
         pool.score(frame, (doc % PAGE_DOCS) as u8)
     }
 
-    // The frame of a document that has a score.
+    /// The frame of a document that has a score.
     fn touched_frame(&self, doc: u32) -> FrameId
         requires { doc / 256 < length self.now.table.items }
         ensures { (pool : PoolView) → Stands self.now pool → 0 < slice_index (pages_scores self.now pool) doc
@@ -420,7 +420,7 @@ impl Pages {
         }
     }
 
-    // The first slot of a page whose document has no score, where there is one.
+    /// The first slot of a page whose document has no score, where there is one.
     fn untouched_slot(&self, pool: &FramePool, page: u32) -> Option<u32>
         requires stands { Stands self.now pool.now }
         requires inside { page < length self.now.table.items }
@@ -439,7 +439,7 @@ impl Pages {
         Some(slot as u32)
     }
 
-    // The frame of a page, where it has one.
+    /// The frame of a page, where it has one.
     fn known_frame(&self, page: u32) -> Option<FrameId>
         requires { page < length self.now.table.items }
         ensures { option_map (λ frame. frame.number) result ≡ frame_of_entry (slice_index self.now.table.items page) }
@@ -453,7 +453,7 @@ impl Pages {
     }
 }
 
-// Whether a bit of the bytes is set.
+/// Whether a bit of the bytes is set.
 fn any_set(bits: &[u8]) -> bool
     ensures none { result ≡ false → (base : ℕ) → set_bits base bits.now ≡ [] }
     ensures some { result ≡ true → (base : ℕ) → 1 ≤ length (set_bits base bits.now) }
@@ -466,7 +466,7 @@ fn any_set(bits: &[u8]) -> bool
     false
 }
 
-// Notes those of some documents of a page that passed the hit by a weight, which their slots have by now.
+/// Notes those of some documents of a page that passed the hit by a weight, which their slots have by now.
 fn note_slots(slots: &[u32; 256], docs: &[u32], w: u32, last: Hit, reached: &mut Reached)
     requires slots { length slots.now ≡ 256 }
     requires rose { All (λ doc. w ≤ slice_index slots.now (doc % 256)) docs.now }

@@ -1,47 +1,16 @@
 // Pages in a pool, by a collection of four documents in two pages.
-ghost use Rattle.std.specs.Prelude.{◌≡◌, ◌≢◌, ◌+◌, ◌/◌, ◌<◌, ◌≤◌, ◌^◌, [], All, None, length, map, slice_index, slice_index_or};
-ghost use Rattle.std.specs.List.{AllByRecursion};
+ghost use Rattle.std.specs.Prelude.{◌≡◌, ◌≢◌, ◌+◌, ◌/◌, ◌<◌, ◌≤◌, ◌^◌, [], None, length, slice_index, slice_index_or};
 ghost use Rattle.frame_pool.specs.ChainView.{LeavesOthers, LeavesPool};
-ghost use Rattle.accumulator_pages.specs.Adding.{added};
-ghost use Rattle.accumulator_pages.specs.Pages.{ArePagesOf, HasRoom, HasRoomFor, Stands, docs_of, own_chain, own_view, pages_scores};
+ghost use Rattle.accumulator_pages.specs.Pages.{ArePagesOf, HasRoom, Stands, docs_of, own_chain, own_view, pages_scores};
 
-use crate::laws::{calls_on_other_chains_leave_all_pages, calls_on_other_chains_leave_pages};
+use crate::laws::calls_on_other_chains_leave_pages;
 use crate::pages::Pages;
-use crate::reached::Reached;
 use frame_pool::FramePool;
-use jass_base::{Hit, NoMemory};
+use jass_base::NoMemory;
 use std::alloc::Global;
 use std::process::Abort;
 
-// Adds to one session's scores while others stand in the same pool: they still do, with the scores that they had.
-fn add_beside(
-    others: &[Pages],
-    own: &mut Pages,
-    pool: &mut FramePool,
-    docs: &[u32],
-    w: u32,
-    last: Hit,
-    reached: &mut Reached,
-)
-    requires stands { Stands own.old pool.old }
-    requires others { AllByRecursion (λ pages. Stands pages pool.old) others.now }
-    requires apart { AllByRecursion (λ pages. own_chain pages ≢ own_chain own.old) others.now }
-    requires inside { All (λ doc. doc < docs_of own.old) docs.now }
-    requires weight { 1 ≤ w }
-    requires fits { All (λ score. score < 2 ^ 32) (added w docs.now (pages_scores own.old pool.old)) }
-    requires frames { HasRoomFor (own_view own.old pool.old) (docs_of own.old) (length docs.now) }
-    requires room { length reached.old.docs + length docs.now ≤ reached.old.room }
-    ensures stands { Stands own.new pool.new }
-    ensures others { AllByRecursion (λ pages. Stands pages pool.new) others.now }
-    ensures views { map (λ pages. own_view pages pool.new) others.now
-        ≡ map (λ pages. own_view pages pool.old) others.now }
-    ensures leaves { LeavesPool pool.old pool.new (own_chain own.old) }
-{
-    calls_on_other_chains_leave_all_pages();
-    own.add_all(pool, docs, w, last, reached);
-}
-
-// Pages for 300 documents, with a promise of two frames.
+/// Pages for 300 documents, with a promise of two frames.
 fn opened(rt: &impl Abort, alloc: Global, pool: &mut FramePool) -> Pages
     ensures stands { Stands result pool.new }
     ensures docs { docs_of result ≡ 300 }
@@ -61,7 +30,7 @@ fn opened(rt: &impl Abort, alloc: Global, pool: &mut FramePool) -> Pages
     }
 }
 
-// Adds to a score that is known to be small.
+/// Adds to a score that is known to be small.
 fn add_small(rt: &impl Abort, pages: &mut Pages, pool: &mut FramePool, doc: u32, w: u32) -> u32
     requires stands { Stands pages.old pool.old }
     requires inside { doc < docs_of pages.old }
@@ -78,7 +47,7 @@ fn add_small(rt: &impl Abort, pages: &mut Pages, pool: &mut FramePool, doc: u32,
     pages.add(pool, doc, w)
 }
 
-// Pages beside others, which still stand and see what they saw.
+/// Pages beside others, which still stand and see what they saw.
 fn opened_beside(rt: &impl Abort, alloc: Global, pool: &mut FramePool, other: &Pages) -> Pages
     requires { Stands other.now pool.old }
     ensures stands { Stands result pool.new }
@@ -92,7 +61,7 @@ fn opened_beside(rt: &impl Abort, alloc: Global, pool: &mut FramePool, other: &P
     opened(rt, alloc, pool)
 }
 
-// Adds to a score that is known to be small, beside other pages.
+/// Adds to a score that is known to be small, beside other pages.
 fn add_small_beside(
     rt: &impl Abort,
     other: &Pages,

@@ -4,7 +4,7 @@ use Rattle.std.specs.Prelude.{◌==◌, ◌||◌, nat_lt}
 use Rattle.std.proofs.lemmas.Bool.Decides.{nat_tests}
 use Rattle.std.proofs.lemmas.List.{length-append}
 use Rattle.std.proofs.lemmas.List.Folds.{list_any-append}
-use Rattle.std.proofs.lemmas.Bool.{cond-true, cond-false}
+use Rattle.std.proofs.lemmas.Bool.{cond-true, cond-false, lt-ltb, le-ltb}
 use Rattle.jass_base.specs.Ciff.{HeaderData}
 use Rattle.jass_base.specs.CiffViews.{header_data, list_data, doc_data}
 use Rattle.jass_base.specs.Outside.{Files, ForContent}
@@ -15,11 +15,11 @@ use Rattle.ciff_read.specs.declared.piece.Piece.{Piece}
 use Rattle.ciff_read.specs.declared.piece.Piece.TheVariants as pieces
 use Rattle.ciff_read.specs.declared.refusal.CiffFault.{CiffFault}
 use Rattle.ciff_read.specs.declared.refusal.CiffRefusal.{CiffRefusal}
-use Rattle.ciff_read.specs.Given.{Advances, Gives, GivesTold, piece_data}
+use Rattle.ciff_read.specs.Given.{Advances, GivesPiece, GivesTold, piece_data}
 use Rattle.ciff_read.specs.Judging.{is_among}
 use Rattle.ciff_read.specs.Marks.{is_marked}
 use Rattle.ciff_read.specs.Pieces.{KeptList, Progress, PieceData, StartPiece, ListPiece, DocPiece, EndPiece, Step, FileHeader, ListInFile, DocInFile, header_of_file, begun, with_list, with_doc, without_header, list_of_file, doc_of_file, list_next, doc_next, end_next, message_next, next_behind, next_of, postings_kept, terms_kept, after}
-use Rattle.ciff_read.specs.Reached.{GivesReading, MarksOf}
+use Rattle.ciff_read.specs.Private.Reached.{GivesReading, MarksOf}
 use Rattle.ciff_read.specs.Reaching.{FailsReading}
 use Rattle.ciff_read.specs.Reading.{at_end}
 use Rattle.ciff_read.specs.Refusals.{◌>>=◌}
@@ -27,12 +27,6 @@ use Rattle.ciff_read.specs.Walk.{WalkView, Keeps, Stands, StandsFor, StandsTold,
 use Rattle.ciff_read.specs.Window.{AreFrom}
 use Rattle.ciff_read.proofs.HeldParts.{reading_fails_on, reading_as}
 use Rattle.ciff_read.proofs.Told.{for_all, for_one, for_both, for_pair}
-
-below : (m n : ℕ) → m < n → nat_lt m n ≡ true
-below m n lt = grind (arith, nat_tests)
-
-not_below : (m n : ℕ) → n ≤ m → nat_lt m n ≡ false
-not_below m n le = grind (arith, nat_tests)
 
 equal_turned : (m n : ℕ) → (m == n) ≡ (n == m)
 equal_turned m n = grind (arith, nat_tests)
@@ -93,7 +87,7 @@ module _ (content : List ℕ) (p : Progress) (old : WalkView) (keeps : Keeps old
           ∙ ap (λ n. list_of_file content p.docs (postings_kept p.kept) (terms_kept p.kept) n) keeps.at
 
       to_list : next_of content p ≡ list_next content p
-      to_list = behind ∙ cond-true (nat_lt (length p.kept) p.lists) (list_next content p) past (below (length p.kept) p.lists (omega (arith, more, ap (λ (kept : List KeptList). length kept) keeps.kept, keeps.lists)))
+      to_list = behind ∙ cond-true (nat_lt (length p.kept) p.lists) (list_next content p) past (lt-ltb (length p.kept) p.lists (omega (arith, more, ap (λ (kept : List KeptList). length kept) keeps.kept, keeps.lists)))
 
       list_advances : (list : PostingsList) (now : WalkView) → list_read ≡ Ok (record { list = list_data list; end = now.at }) → now.kept ≡ old.kept ++ kept_of old.at list ∷ []
           → now.header ≡ old.header → now.lists ≡ old.lists → now.docs ≡ old.docs → now.given ≡ old.given → now.marks ≡ old.marks → Advances content p (ListPiece old.at (list_data list)) now
@@ -120,7 +114,7 @@ module _ (content : List ℕ) (p : Progress) (old : WalkView) (keeps : Keeps old
     -- where no list is left
     module _ (lists_given : old.lists ≤ length old.kept) where
       past_lists : next_of content p ≡ past
-      past_lists = behind ∙ cond-false (nat_lt (length p.kept) p.lists) (list_next content p) past (not_below (length p.kept) p.lists (omega (arith, lists_given, ap (λ (kept : List KeptList). length kept) keeps.kept, keeps.lists)))
+      past_lists = behind ∙ cond-false (nat_lt (length p.kept) p.lists) (list_next content p) past (le-ltb (length p.kept) p.lists (omega (arith, lists_given, ap (λ (kept : List KeptList). length kept) keeps.kept, keeps.lists)))
 
       -- where documents are left
       module _ (more : old.given < old.docs) where
@@ -134,7 +128,7 @@ module _ (content : List ℕ) (p : Progress) (old : WalkView) (keeps : Keeps old
         same_doc = ap (λ n. doc_of_file content n p.numbers old.at) keeps.docs ∙ ap (λ n. doc_of_file content p.docs p.numbers n) keeps.at
 
         to_doc : next_of content p ≡ doc_next content p
-        to_doc = past_lists ∙ cond-true (nat_lt (length p.numbers) p.docs) (doc_next content p) (end_next content p) (below (length p.numbers) p.docs (omega (arith, more, keeps.given, keeps.docs)))
+        to_doc = past_lists ∙ cond-true (nat_lt (length p.numbers) p.docs) (doc_next content p) (end_next content p) (lt-ltb (length p.numbers) p.docs (omega (arith, more, keeps.given, keeps.docs)))
 
         one_more : (words : List ℕ) (number : ℕ) → OneMore old.marks words number → (n : ℕ) → is_marked words n ≡ is_among n (p.numbers ++ number ∷ [])
         one_more words number is n =
@@ -165,7 +159,7 @@ module _ (content : List ℕ) (p : Progress) (old : WalkView) (keeps : Keeps old
       -- where nothing is left
       module _ (docs_given : old.docs ≤ old.given) where
         to_end : next_of content p ≡ end_next content p
-        to_end = past_lists ∙ cond-false (nat_lt (length p.numbers) p.docs) (doc_next content p) (end_next content p) (not_below (length p.numbers) p.docs (omega (arith, docs_given, keeps.given, keeps.docs)))
+        to_end = past_lists ∙ cond-false (nat_lt (length p.numbers) p.docs) (doc_next content p) (end_next content p) (le-ltb (length p.numbers) p.docs (omega (arith, docs_given, keeps.given, keeps.docs)))
 
         abbrev end_read : Result PieceData CiffRefusal
         end_read = at_end old.at (drop old.at content) EndPiece
@@ -205,7 +199,7 @@ module _ (content : List ℕ) (p : Progress) (old : WalkView) (keeps : Keeps old
 -- the same where the content is told
 module _ (told : Option Files) (old now : WalkView) where
   abbrev Given : Result Piece CiffFault → List ℕ → Type 0
-  Given result content = old.answered ≡ None → AreFrom content old.start old.bytes → (p : Progress) → Keeps old p → Gives content p result now
+  Given result content = old.answered ≡ None → AreFrom content old.start old.bytes → (p : Progress) → Keeps old p → GivesPiece content p result now
 
   abbrev Read : {X Y : Type 0} → (X → Y) → Result X CiffFault → (List ℕ → Result Y CiffRefusal) → List ℕ → Type 0
   Read view result read content = AreFrom content old.start old.bytes → GivesReading view result (read content)

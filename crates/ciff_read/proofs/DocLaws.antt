@@ -7,17 +7,18 @@ use Rattle.std.proofs.lemmas.Bool.{cases_eq, and_parts, not-false}
 use Rattle.std.proofs.lemmas.Bool.Decides.{nat_tests}
 use Rattle.std.proofs.lemmas.List.{length-append, length-replicate, length-set}
 use Rattle.std.proofs.lemmas.List.Elements.{All-from_recursion, recursion_from_All}
-use Rattle.jass_base.specs.Ciff.{DocData, IsDoc, IsDocAmong, AreDocs}
+use Rattle.jass_base.specs.Ciff.{DocData, IsDoc, IsDocAmong, AreRecords}
 use Rattle.jass_base.specs.Limits.{IsName}
 use Rattle.jass_base.specs.Wire.{Spells, IsSized}
+use Rattle.std.proofs.lemmas.Option.{slice_get_within}
 use Rattle.ciff_read.specs.declared.refusal.CiffWhy.{CiffWhy}
 use Rattle.ciff_read.specs.declared.refusal.CiffWhy.TheVariants.{Range, DocRange, DocTwice, Text, NameText}
 use Rattle.ciff_read.specs.declared.refusal.CiffRefusal.{CiffRefusal}
 use Rattle.ciff_read.specs.Judging.{NumberedDoc, numbered_of, over31, is_name, is_among, numbers_of, judge_doc}
-use Rattle.ciff_read.specs.Places.{numbered_from}
+use Rattle.ciff_read.specs.Private.Places.{numbered_from}
 use Rattle.ciff_read.specs.Reading.{Message, DocsRead, message_end, message_at, numbered_at, doc_at, docs_at, inserted}
 use Rattle.ciff_read.specs.Refusals.{◌>>=◌, placed}
-use Rattle.ciff_read.specs.Table.{has_value, reaching, with_value, values_of}
+use Rattle.ciff_read.specs.Private.Table.{has_value, reaching, with_value, values_of}
 use Rattle.ciff_read.specs.Walking.{Walked, walk, nothing_inside}
 use Rattle.ciff_read.proofs.ListLaws.{spells-front}
 use Rattle.ciff_read.proofs.MessageLaws.{message_found, message_only}
@@ -90,11 +91,6 @@ module _ {R : Type 0} where
   get_full [] n = refl
   get_full (r ∷ rs) zero = refl
   get_full (r ∷ rs) (suc n) = get_full rs n
-
-  pub got_within : (rs : List R) (n : ℕ) (r : R) → slice_get rs n ≡ Some r → n < length rs
-  got_within [] n r is = absurd cc
-  got_within (x ∷ rs) zero r is = omega arith
-  got_within (x ∷ rs) (suc n) r is = omega (arith, got_within rs n r is)
 
   same_lists : (vs rs : List R) → length vs ≡ length rs → ((n : ℕ) (r : R) → slice_get vs n ≡ Some r → slice_get rs n ≡ Some r) → vs ≡ rs
   same_lists [] [] same each = refl
@@ -176,7 +172,7 @@ puts_count docs table (body ∷ bodies) (x ∷ xs) final puts fits =
     (omega (arith, t.0, values-with table x.number x.doc puts.0.missing), t.1)
 
 -- the documents of a table into which so many records were put
-pub docs_stand : (bodies : List (List ℕ)) (xs : List NumberedDoc) (final : List (Option DocData)) → Puts (length bodies) [] bodies xs final → AreDocs (values_of final) bodies × (length (values_of final) ≡ length bodies)
+pub docs_stand : (bodies : List (List ℕ)) (xs : List NumberedDoc) (final : List (Option DocData)) → Puts (length bodies) [] bodies xs final → AreRecords (values_of final) bodies × (length (values_of final) ≡ length bodies)
 docs_stand bodies xs final puts =
     let docs = length bodies in
     let count = puts_count docs [] bodies xs final puts (omega arith) in
@@ -218,7 +214,7 @@ part_put ds table n d part is = record {
     | inl same ↦ let a : get_or (with_value table n d) m None ≡ Some d = ap (λ k. get_or (with_value table n d) k None) same ∙ put_there table n d in let same_doc : d ≡ e = cc in ap (slice_get ds) same ∙ is ∙ ap (λ (x : DocData). Some x) same_doc
     | inr other ↦ part.there m e (sym (put_other table n m d other) ∙ got)
   ];
-  within = put_within table n (length ds) d part.within (got_within ds n d is);
+  within = put_within table n (length ds) d part.within (slice_get_within ds n d is);
 }
 
 missing_still : (table : List (Option DocData)) (n : ℕ) (d : DocData) (ms : List ℕ) → AllByRecursion (λ m. has_value table m ≡ false) ms → AllByRecursion (λ m. nat_eq n m ≡ false) ms → AllByRecursion (λ m. has_value (with_value table n d) m ≡ false) ms
@@ -330,7 +326,7 @@ module _ (laws : WireLaws) where
       let read : message_at at (front ++ rest) ≡ Ok m = ap (message_at at) parts ∙ message_only laws at first body (other ++ rest) sized fits in
       let whole = ap (λ (t : List ℕ). length t) sized.parts in
       let ends : message_end m ≡ at + length first = omega (arith, length-append sized.size body) in
-      let below = got_within ds n d each.0.there in
+      let below = slice_get_within ds n d each.0.there in
       let doc = doc_read (length ds) table at (at + length sized.size) body (other ++ rest) n d few each.0.spelled below missing.0 in
       let later = docs_read ds (with_value table n d) (at + length first) other rest bodies numbers few messages.4 each.1 differ.1 (missing_still table n d numbers missing.1 differ.0) (part_put ds table n d part each.0.there) (omega (arith, length-append first other)) in
       let records = numbered_from 0 table in
@@ -359,7 +355,7 @@ module _ (laws : WireLaws) where
       same_lists (values_of final) ds count (λ n d is. part.there n d (ap (λ (t : List (Option DocData)). get_or t n None) all ∙ get_full (values_of final) n ∙ is))
 
   pub docs_are_read : (ds : List DocData) (at : ℕ) (front rest : List ℕ) (bodies : List (List ℕ)) → length ds ≤ 2 ^ 26 → Spells IsSized front bodies
-      → AreDocs ds bodies → at + length front ≤ 2 ^ 32 → DocsThere (docs_at (length ds) (length ds) [] at (front ++ rest)) ds (at + length front)
+      → AreRecords ds bodies → at + length front ≤ 2 ^ 32 → DocsThere (docs_at (length ds) (length ds) [] at (front ++ rest)) ds (at + length front)
       (length ds) rest
   docs_are_read ds at front rest bodies few messages are short =
       let start : IsPart ds [] = record { there = λ n d got. absurd cc; within = omega arith } in

@@ -5,7 +5,7 @@ use Rattle.std.specs.Str.{is_utf8}
 use Rattle.std.proofs.lemmas.Bool.Decides.{nat_tests}
 use Rattle.jass_base.specs.declared.posting.Posting.{Posting}
 use Rattle.jass_base.specs.Ciff.{ListData}
-use Rattle.ciff_read.specs.declared.entry.Entry.{Entry}
+use Rattle.ciff_read.specs.declared.posting_fields.PostingFields.{PostingFields}
 use Rattle.ciff_read.specs.declared.refusal.CiffWhy.{CiffWhy}
 use Rattle.ciff_read.specs.declared.refusal.CiffWhy.TheVariants.{Range, Text, Tf, Gap, DocRange, TermTwice, Limit}
 use Rattle.ciff_read.specs.declared.refusal.CiffRefusal.{CiffRefusal}
@@ -44,7 +44,7 @@ start_too false false true d x y is = absurd cc
 start_too false false false d x y is = is
 
 module _ (docs before : ℕ) where
-  judge_too : (ps : List Posting) (e : Entry) (p : Posting) → judge docs before ps e ≡ Ok p → judge docs 0 ps e ≡ Ok p
+  judge_too : (ps : List Posting) (e : PostingFields) (p : Posting) → judge docs before ps e ≡ Ok p → judge docs 0 ps e ≡ Ok p
   judge_too ps e p is =
       posting_too (over31 e.docid || over31 e.tf) (e.tf == 0) (e.docid == 0 && nat_lt 0 (length ps)) (nat_le docs (last_from 0 ps + e.docid)) (nat_le (2 ^ 29) (before + length ps)) (nat_le (2 ^ 29) (0 + length ps))
       (record { doc = last_from 0 ps + e.docid; tf = e.tf }) p (λ few. grind (arith, nat_tests)) is

@@ -3,12 +3,12 @@ use Rattle.std.proofs.Common.{◌≡◌, ℕ, List, [], ◌∷◌, ◌++◌, ref
 use Rattle.std.specs.Prelude.{replicate}
 use Rattle.std.proofs.lemmas.List.Sums.{fold-append}
 use Rattle.jass_base.specs.Wire.{WireField, number_after, text_after, eight_after, number_field, text_field, eight_field}
-use Rattle.ciff_read.specs.declared.entry.Entry.{Entry}
+use Rattle.ciff_read.specs.declared.posting_fields.PostingFields.{PostingFields}
 use Rattle.ciff_read.specs.declared.doc_fields.DocFields.{DocFields}
 use Rattle.ciff_read.specs.declared.file_head.HeadFields.{HeadFields}
 use Rattle.ciff_read.specs.declared.list_fields.ListFields.{ListFields}
 use Rattle.ciff_read.specs.Judging.{start_of, list_start_of, numbered_of}
-use Rattle.ciff_read.specs.Places.{start_in, list_start_in, numbered_in}
+use Rattle.ciff_read.specs.Private.Places.{start_in, list_start_in, numbered_in}
 use Rattle.ciff_read.specs.Walking.{Walked, entry_of}
 
 pub number_more : (i : ℕ) (fields : List WireField) (f : WireField) (before now : ℕ) → before ≡ number_field i fields → now ≡ number_after i before f → now ≡ number_field i (fields ++ f ∷ [])
@@ -21,10 +21,10 @@ pub eight_more : (i : ℕ) (fields : List WireField) (f : WireField) (before now
 eight_more i fields f before now was is = is ∙ ap (λ (n : List ℕ). eight_after i n f) was ∙ sym (fold-append (eight_after i) (replicate 8 0) fields (f ∷ []))
 
 -- the posting so far
-abbrev pub IsEntry : Entry → Walked → Type 0
+abbrev pub IsEntry : PostingFields → Walked → Type 0
 IsEntry entry done = (entry.docid ≡ number_field 1 done.fields) × (entry.tf ≡ number_field 2 done.fields)
 
-pub entry_is : (entry : Entry) (done : Walked) → IsEntry entry done → entry_of done.fields ≡ entry
+pub entry_is : (entry : PostingFields) (done : Walked) → IsEntry entry done → entry_of done.fields ≡ entry
 entry_is entry done is = rw (← is.0, ← is.1) refl
 
 -- the record so far

@@ -14,7 +14,7 @@ use Rattle.ciff_read.proofs.MessageLaws.{message_found, message_only}
 use Rattle.ciff_read.proofs.PartLaws.{header_found, header_only}
 use Rattle.ciff_read.proofs.WireLaws.{WireLaws, bound, done_is}
 
-spells-append : {X : Type 0} (IsOne : List ℕ → X → Type 0) (s t : List ℕ) (xs ys : List X) → Spells IsOne s xs → Spells IsOne t ys → Spells IsOne (s ++ t) (xs ++ ys)
+pub spells-append : {X : Type 0} (IsOne : List ℕ → X → Type 0) (s t : List ℕ) (xs ys : List X) → Spells IsOne s xs → Spells IsOne t ys → Spells IsOne (s ++ t) (xs ++ ys)
 spells-append IsOne s t [] ys h k = subst (λ (u : List ℕ). Spells IsOne (u ++ t) ys) (sym h) k
 spells-append IsOne s t (x ∷ xs) ys h k = (h.0, h.1 ++ t, ap (λ (u : List ℕ). u ++ t) h.2 ∙ append_assoc h.0 h.1 t, h.3, spells-append IsOne h.1 t xs ys h.4 k)
 

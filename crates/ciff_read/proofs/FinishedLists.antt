@@ -11,9 +11,9 @@ use Rattle.ciff_read.specs.declared.refusal.CiffWhy.{CiffWhy}
 use Rattle.ciff_read.specs.declared.refusal.CiffWhy.TheVariants.{Text, Limit, TermTwice, Range}
 use Rattle.ciff_read.specs.declared.refusal.CiffRefusal.{CiffRefusal}
 use Rattle.ciff_read.specs.declared.walked_list.WalkedList.{WalkedList}
-use Rattle.ciff_read.specs.Finishing.{finished}
+use Rattle.ciff_read.specs.Private.Finishing.{finished}
 use Rattle.ciff_read.specs.Judging.{ListStart, judge_list, over63, postings_of}
-use Rattle.ciff_read.specs.Places.{message_in, gathered_of}
+use Rattle.ciff_read.specs.Private.Places.{message_in, gathered_of}
 use Rattle.ciff_read.specs.Reading.{ListWalk, list_walk_at, list_at}
 use Rattle.ciff_read.specs.Refusals.{◌>>=◌, placed}
 use Rattle.ciff_read.specs.Seen.{is_seen}

@@ -11,9 +11,9 @@ use Rattle.ciff_read.specs.declared.window.Window.{Window}
 use Rattle.ciff_read.specs.Judging.{FileStart, NumberedDoc}
 use Rattle.ciff_read.specs.Moving.{refusal_moved, moved, fault_moved}
 use Rattle.ciff_read.specs.Pieces.{FileHeader, ListInFile, DocInFile, header_of_file, list_of_file, doc_of_file}
-use Rattle.ciff_read.specs.Places.{message_in}
+use Rattle.ciff_read.specs.Private.Places.{message_in}
 use Rattle.ciff_read.specs.Reaching.{FailsReading, HoldsMessage, message_shown}
-use Rattle.ciff_read.specs.Reading.{Message, message_end, message_at, header_at, list_at, doc_at}
+use Rattle.ciff_read.specs.Reading.{Message, message_end, header_at, list_at, doc_at}
 use Rattle.ciff_read.specs.Refusals.{◌>>=◌, placed, Fails}
 use Rattle.ciff_read.proofs.FrontLaws.{header_same}
 use Rattle.ciff_read.proofs.HeldFiles.{reading_fails}
@@ -33,9 +33,6 @@ shown_end content w from end order within = omega (arith, order, within, length-
 
 abbrev behind : Message → Result FileHeader CiffRefusal
 behind m = header_at 0 m >>= λ start. Ok (record { start = start; end = message_end m })
-
-pub header_unread : (content : List ℕ) (answer : CiffFault) → FailsReading answer (message_at 0 content) → FailsReading answer (header_of_file content)
-header_unread content answer fails = reading_fails_on answer (message_at 0 content) behind fails
 
 module _ (content : List ℕ) (w : Window) (body : Body) (bytes : List ℕ) (same : bytes ≡ w.bytes.items) (first : w.start ≤ 0) (holds : HoldsMessage content 0 w body.from body.end) where
   there : header_of_file content ≡ behind (message_shown content w body.from body.end)

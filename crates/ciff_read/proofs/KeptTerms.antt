@@ -67,10 +67,6 @@ kept_more key place xs ys new =
     ∙ ap (λ (l : List (List ℕ × ListPlace)). kept_from (xs ++ l)) last
     ∙ ap kept_from (sym (append_assoc xs (hashed_in ys) ((string_bytes key, place) ∷ []))) ∙ map-append as_kept (xs ++ hashed_in ys) ((string_bytes key, place) ∷ [])
 
-pub none_there : {X : Type 0} (xs : List X) → length xs ≡ 0 → xs ≡ []
-none_there [] is = refl
-none_there (x ∷ xs) is = absurd (omega (arith, is))
-
 hashed_places : (ys : List (String Global × ListPlace)) → places_in (hashed_in ys) ≡ map (λ (e : String Global × ListPlace). e.1) ys
 hashed_places [] = refl
 hashed_places (y ∷ ys) = ap (λ (l : List ListPlace). y.1 ∷ l) (hashed_places ys)

@@ -7,7 +7,7 @@ use Rattle.jass_base.specs.Ciff.{ListData}
 use Rattle.jass_base.specs.Wire.{WireField, WireValue, Number, Eight, Text, Four, IsValue}
 use Rattle.wire_fields.specs.declared.fault.WireWhy.{WireWhy}
 use Rattle.wire_fields.specs.Reading.{field_at}
-use Rattle.ciff_read.specs.declared.entry.Entry.{Entry}
+use Rattle.ciff_read.specs.declared.posting_fields.PostingFields.{PostingFields}
 use Rattle.ciff_read.specs.declared.refusal.CiffWhy.{CiffWhy}
 use Rattle.ciff_read.specs.declared.refusal.CiffRefusal.{CiffRefusal}
 use Rattle.ciff_read.specs.Judging.{FileStart, ListStart, NumberedDoc, start_of, list_start_of, numbered_of, judge_header, judge_list, judge_doc, judge, gather, postings_of}
@@ -103,7 +103,7 @@ module _ (base : ℕ) where
     entry_at_moved : (from : ℕ) (body : List ℕ) → entry_at (base + from) body ≡ moved_as (λ entry. entry) base (entry_at from body)
     entry_at_moved from body =
         ap (λ (r : Result Walked CiffRefusal). r >>= λ walked. Ok (entry_of walked.fields)) (walk_moved nothing_inside nothing_moves (length body) from body)
-        ∙ then_moved (walked_moved base) (λ (entry : Entry). entry) (walk nothing_inside from body) (λ walked. Ok (entry_of walked.fields)) (λ walked. Ok (entry_of walked.fields)) (λ w. refl)
+        ∙ then_moved (walked_moved base) (λ (entry : PostingFields). entry) (walk nothing_inside from body) (λ walked. Ok (entry_of walked.fields)) (λ walked. Ok (entry_of walked.fields)) (λ w. refl)
 
     entry_in_moved : (v : WireValue) (at next : ℕ) → ((body : List ℕ) → v ≡ Text body → length body ≤ next) → entry_in v (base + at) (base + next) ≡ moved_as (map (entry_moved base)) base (entry_in v at next)
     entry_in_moved (Number n) at next fits = refl
@@ -112,8 +112,8 @@ module _ (base : ℕ) where
         let inside = fits body refl in
         let place : base + next - length body ≡ base + (next - length body) = omega (arith, inside) in
         ap (λ n. entry_at n body >>= λ entry. Ok (record { at = base + at; entry = entry } ∷ [])) place
-        ∙ ap (λ (r : Result Entry CiffRefusal). r >>= λ entry. Ok (record { at = base + at; entry = entry } ∷ [])) (entry_at_moved (next - length body) body)
-        ∙ then_moved (λ (entry : Entry). entry) (map (entry_moved base)) (entry_at (next - length body) body) (λ entry. Ok (record { at = at; entry = entry } ∷ [])) (λ entry. Ok (record { at = base + at; entry = entry } ∷ [])) (λ entry. refl)
+        ∙ ap (λ (r : Result PostingFields CiffRefusal). r >>= λ entry. Ok (record { at = base + at; entry = entry } ∷ [])) (entry_at_moved (next - length body) body)
+        ∙ then_moved (λ (entry : PostingFields). entry) (map (entry_moved base)) (entry_at (next - length body) body) (λ entry. Ok (record { at = at; entry = entry } ∷ [])) (λ entry. Ok (record { at = base + at; entry = entry } ∷ [])) (λ entry. refl)
     entry_in_moved (Four bytes) at next fits = refl
 
     entry_moves : Moves entry_inside

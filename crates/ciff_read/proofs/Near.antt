@@ -8,7 +8,7 @@ use Rattle.jass_base.specs.Ciff.{ListData}
 use Rattle.jass_base.specs.Wire.{WireField, WireValue, Number, Eight, Text, Four}
 use Rattle.wire_fields.specs.declared.fault.WireWhy.{WireWhy}
 use Rattle.wire_fields.specs.Reading.{field_at}
-use Rattle.ciff_read.specs.declared.entry.Entry.{Entry}
+use Rattle.ciff_read.specs.declared.posting_fields.PostingFields.{PostingFields}
 use Rattle.ciff_read.specs.declared.refusal.CiffWhy.{CiffWhy}
 use Rattle.ciff_read.specs.declared.refusal.CiffRefusal.{CiffRefusal}
 use Rattle.ciff_read.specs.Judging.{FileStart, ListStart, NumberedDoc, start_of, list_start_of, numbered_of, judge_header, judge_list, judge_doc, judge, gather, postings_of}
@@ -73,14 +73,14 @@ module _ (n : ℕ) where
     nothing_near : Inside nothing_inside
     nothing_near at next f fits a b = tt
 
-    entry_at_near : (from : ℕ) (body : List ℕ) → from + length body ≤ n → Near (λ (entry : Entry). ⊤) (entry_at from body)
-    entry_at_near from body within = then_near IsNear (λ (entry : Entry). ⊤) (walk nothing_inside from body) (λ walked. Ok (entry_of walked.fields)) (walk_near nothing_inside nothing_near (length body) from body within) (λ w is. tt)
+    entry_at_near : (from : ℕ) (body : List ℕ) → from + length body ≤ n → Near (λ (entry : PostingFields). ⊤) (entry_at from body)
+    entry_at_near from body within = then_near IsNear (λ (entry : PostingFields). ⊤) (walk nothing_inside from body) (λ walked. Ok (entry_of walked.fields)) (walk_near nothing_inside nothing_near (length body) from body within) (λ w is. tt)
 
     entry_in_near : (v : WireValue) (at next : ℕ) → ((body : List ℕ) → v ≡ Text body → length body ≤ next) → at ≤ n → next ≤ n → Near AreNear (entry_in v at next)
     entry_in_near (Number m) at next fits a b = tt
     entry_in_near (Eight bytes) at next fits a b = tt
     entry_in_near (Text body) at next fits a b =
-        then_near (λ (entry : Entry). ⊤) AreNear (entry_at (next - length body) body) (λ entry. Ok (record { at = at; entry = entry } ∷ [])) (entry_at_near (next - length body) body (omega (arith, b, fits body refl))) (λ entry is. (a, tt))
+        then_near (λ (entry : PostingFields). ⊤) AreNear (entry_at (next - length body) body) (λ entry. Ok (record { at = at; entry = entry } ∷ [])) (entry_at_near (next - length body) body (omega (arith, b, fits body refl))) (λ entry is. (a, tt))
     entry_in_near (Four bytes) at next fits a b = tt
 
     entry_near : Inside entry_inside

@@ -7,9 +7,9 @@ use Rattle.jass_base.specs.Ciff.{DocData}
 use Rattle.jass_base.specs.CiffViews.{doc_data}
 use Rattle.jass_base.specs.declared.doc_record.DocRecord.{DocRecord}
 use Rattle.ciff_read.specs.Judging.{NumberedDoc, numbers_of, is_among}
-use Rattle.ciff_read.specs.Places.{numbered_from}
+use Rattle.ciff_read.specs.Private.Places.{numbered_from}
 use Rattle.ciff_read.specs.Reading.{inserted}
-use Rattle.ciff_read.specs.Table.{has_value, reaching, with_value, values_of}
+use Rattle.ciff_read.specs.Private.Table.{has_value, reaching, with_value, values_of}
 use Rattle.ciff_read.proofs.Tables.{missing_is, still_missing, reaches_past, map-has}
 
 -- ---- which numbers are there

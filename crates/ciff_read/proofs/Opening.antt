@@ -8,7 +8,7 @@ use Rattle.ciff_read.specs.declared.refusal.CiffRefusal.{CiffRefusal}
 use Rattle.ciff_read.specs.declared.window.Window.{Window}
 use Rattle.ciff_read.specs.Marks.{is_marked}
 use Rattle.ciff_read.specs.Pieces.{KeptList, FileHeader, header_of_file, begun, after}
-use Rattle.ciff_read.specs.Reached.{file_header}
+use Rattle.ciff_read.specs.Private.Reached.{file_header}
 use Rattle.ciff_read.specs.Refusals.{◌>>=◌}
 use Rattle.ciff_read.specs.Walk.{WalkView, Stands}
 use Rattle.ciff_read.specs.Window.{Shows}

@@ -13,7 +13,7 @@ use Rattle.ciff_read.specs.declared.refusal.CiffWhy.{CiffWhy}
 use Rattle.ciff_read.specs.declared.refusal.CiffWhy.TheVariants.{Range, Text, TermTwice, Limit}
 use Rattle.ciff_read.specs.declared.refusal.CiffRefusal.{CiffRefusal}
 use Rattle.ciff_read.specs.Judging.{FileStart, ListStart, start_of, list_start_of, over31, over63, judge_header, judge_list, postings_of}
-use Rattle.ciff_read.specs.Kept.{AreKept}
+use Rattle.ciff_read.specs.Private.Kept.{AreKept}
 use Rattle.ciff_read.specs.Reading.{Message, ListWalk, start_at, list_walk_at, header_at, list_at}
 use Rattle.ciff_read.specs.Refusals.{◌>>=◌, placed}
 use Rattle.ciff_read.specs.Seen.{is_seen}

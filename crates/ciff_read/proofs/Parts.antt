@@ -10,11 +10,11 @@ use Rattle.wire_fields.specs.declared.field.Value.{Value}
 use Rattle.wire_fields.specs.declared.field.Value.TheVariants.{Bytes}
 use Rattle.wire_fields.specs.Places.{IsWithin, value_in}
 use Rattle.ciff_read.specs.declared.body.Body.{Body}
-use Rattle.ciff_read.specs.declared.entry.Entry.{Entry}
+use Rattle.ciff_read.specs.declared.posting_fields.PostingFields.{PostingFields}
 use Rattle.ciff_read.specs.declared.refusal.CiffRefusal.{CiffRefusal}
 use Rattle.ciff_read.specs.declared.refusal.CiffFault.{CiffFault}
 use Rattle.ciff_read.specs.Judging.{FileStart, ListStart, NumberedDoc, judge_header, judge_list, judge_doc, gather, postings_of}
-use Rattle.ciff_read.specs.Places.{message_in}
+use Rattle.ciff_read.specs.Private.Places.{message_in}
 use Rattle.ciff_read.specs.Reading.{ListWalk, start_at, list_walk_at, numbered_at, header_at, list_at, doc_at}
 use Rattle.ciff_read.specs.Refusals.{◌>>=◌, placed, Fails}
 use Rattle.ciff_read.specs.Walking.{PlacedEntry, entry_at, entry_in, entry_inside}
@@ -81,13 +81,10 @@ module _ (bytes : List ℕ) (at first after : ℕ) (order : first ≤ after) (wi
   inner : entry_in (Text (slice_range bytes first after)) at after ≡ (entry_at first (drop first (take after bytes)) >>= λ entry. Ok (record { at = at; entry = entry } ∷ []))
   inner = ap (λ n. entry_at n (slice_range bytes first after) >>= λ entry. Ok (record { at = at; entry = entry } ∷ [])) place ∙ ap (λ (s : List ℕ). entry_at first s >>= λ entry. Ok (record { at = at; entry = entry } ∷ [])) (sym (body_there bytes first after order))
 
-  pub entry_fails : (answer : CiffFault) → Fails answer (entry_at first (drop first (take after bytes))) → Fails answer (entry_in (Text (slice_range bytes first after)) at after)
-  entry_fails answer fails = fails_as answer _ _ (sym inner) (fails_on answer (entry_at first (drop first (take after bytes))) (λ entry. Ok (record { at = at; entry = entry } ∷ [])) fails)
+  pub entry_there : (entry : PostingFields) → entry_at first (drop first (take after bytes)) ≡ Ok entry → entry_in (Text (slice_range bytes first after)) at after ≡ Ok (record { at = at; entry = entry } ∷ [])
+  entry_there entry is = inner ∙ ap (λ (r : Result PostingFields CiffRefusal). r >>= λ entry. Ok (record { at = at; entry = entry } ∷ [])) is
 
-  pub entry_there : (entry : Entry) → entry_at first (drop first (take after bytes)) ≡ Ok entry → entry_in (Text (slice_range bytes first after)) at after ≡ Ok (record { at = at; entry = entry } ∷ [])
-  entry_there entry is = inner ∙ ap (λ (r : Result Entry CiffRefusal). r >>= λ entry. Ok (record { at = at; entry = entry } ∷ [])) is
-
-pub entry_inside_there : (bytes : List ℕ) (at number next first after : ℕ) (value : Value) (entry : Entry) → number ≡ 4 → value ≡ Bytes first after → IsWithin value next → next ≤ length bytes
+pub entry_inside_there : (bytes : List ℕ) (at number next first after : ℕ) (value : Value) (entry : PostingFields) → number ≡ 4 → value ≡ Bytes first after → IsWithin value next → next ≤ length bytes
     → entry_at first (drop first (take after bytes)) ≡ Ok entry → entry_inside at next (record { number = number; value = value_in bytes value }) ≡ Ok (record { at = at; entry = entry } ∷ [])
 entry_inside_there bytes at number next first after value entry four bytes_are fits within is =
     let w : (first ≤ after) × (after ≡ next) = subst (λ (v : Value). IsWithin v next) bytes_are fits in

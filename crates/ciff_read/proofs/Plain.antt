@@ -7,7 +7,7 @@ use Rattle.jass_base.specs.Wire.{WireField, WireValue, Number, Eight, Text, Four
 use Rattle.wire_fields.specs.declared.fault.WireWhy.{WireWhy}
 use Rattle.wire_fields.specs.declared.fault.WireWhy.TheVariants as wire
 use Rattle.wire_fields.specs.Reading.{field_at}
-use Rattle.ciff_read.specs.declared.entry.Entry.{Entry}
+use Rattle.ciff_read.specs.declared.posting_fields.PostingFields.{PostingFields}
 use Rattle.ciff_read.specs.declared.refusal.CiffWhy.{CiffWhy}
 use Rattle.ciff_read.specs.declared.refusal.CiffWhy.TheVariants as whys
 use Rattle.ciff_read.specs.declared.refusal.CiffRefusal.{CiffRefusal}
@@ -84,7 +84,7 @@ five false false false true e x = tt
 five false false false false true x = tt
 five false false false false false x = tt
 
-judge_plain : (docs before : ℕ) (ps : List Posting) (e : Entry) → IsPlainWhy (judge docs before ps e)
+judge_plain : (docs before : ℕ) (ps : List Posting) (e : PostingFields) → IsPlainWhy (judge docs before ps e)
 judge_plain docs before ps e =
     five (over31 e.docid || over31 e.tf) (e.tf == 0) (e.docid == 0 && nat_lt 0 (length ps)) (nat_le docs (last_from 0 ps + e.docid)) (nat_le (2 ^ 29) (before + length ps)) (record { doc = last_from 0 ps + e.docid; tf = e.tf })
 

@@ -8,11 +8,11 @@ use Rattle.std.proofs.lemmas.List.{append-nil, length-append, length-map}
 use Rattle.jass_base.specs.declared.posting.Posting.{Posting}
 use Rattle.jass_base.specs.Ciff.{ArePostings}
 use Rattle.jass_base.specs.Postings.{docs_of, HasTfInRange}
-use Rattle.ciff_read.specs.declared.entry.Entry.{Entry}
+use Rattle.ciff_read.specs.declared.posting_fields.PostingFields.{PostingFields}
 use Rattle.ciff_read.specs.declared.refusal.CiffWhy.{CiffWhy}
 use Rattle.ciff_read.specs.declared.refusal.CiffRefusal.{CiffRefusal}
 use Rattle.ciff_read.specs.Judging.{last_from, judge, gather, over31}
-use Rattle.ciff_read.specs.Kept.{AreKept}
+use Rattle.ciff_read.specs.Private.Kept.{AreKept}
 use Rattle.ciff_read.specs.Refusals.{◌>>=◌, placed}
 use Rattle.ciff_read.specs.Walking.{PlacedEntry, entry_of}
 use Rattle.ciff_read.proofs.Postings.{Follows, judge_follows, judge_is, kept-snoc, last_from-snoc}
@@ -50,7 +50,7 @@ gather_found docs before (body ∷ bodies) (x ∷ xs) last old ps zip kept is = 
         record {
           more = p ∷ g.more;
           parts = g.parts ∙ append_assoc old (p ∷ []) g.more;
-          are = (record { fields = e.fields; spelled = e.spelled; doc = j.0 ∙ ap (λ n. n + x.entry.docid) (sym kept.last_is) ∙ ap (λ (y : Entry). last + y.docid) e.entry; tf = j.1 ∙ ap (λ (y : Entry). y.tf) e.entry }, g.are);
+          are = (record { fields = e.fields; spelled = e.spelled; doc = j.0 ∙ ap (λ n. n + x.entry.docid) (sym kept.last_is) ∙ ap (λ (y : PostingFields). last + y.docid) e.entry; tf = j.1 ∙ ap (λ (y : PostingFields). y.tf) e.entry }, g.are);
           last_now = g.last_now;
           kept = g.kept;
         }
@@ -74,7 +74,7 @@ rise_there docs last some (p ∷ ps) rising tf below above =
           (λ is more. rising 0 (omega arith)),
     )
 
-pub judged_ok : (docs before : ℕ) (old : List Posting) (e : Entry) (p : Posting) → docs ≤ 2 ^ 26 → p.doc ≡ last_from 0 old + e.docid → p.tf ≡ e.tf
+pub judged_ok : (docs before : ℕ) (old : List Posting) (e : PostingFields) (p : Posting) → docs ≤ 2 ^ 26 → p.doc ≡ last_from 0 old + e.docid → p.tf ≡ e.tf
     → (nat_lt 0 (length old) ≡ true → last_from 0 old < p.doc) → p.doc < docs → HasTfInRange p → before + length old < 2 ^ 29
     → judge docs before old e ≡ Ok p
 judged_ok docs before old e p few doc tf above below range room =
@@ -105,8 +105,8 @@ module _ (laws : WireLaws) where
       let is = are.0 in
       let same = fields_same laws body e.fields is.fields e.spelled is.spelled in
       let entry : x.entry ≡ entry_of is.fields = e.entry ∙ ap entry_of same in
-      let doc : p.doc ≡ last_from 0 old + x.entry.docid = is.doc ∙ ap (λ (y : Entry). last_from 0 old + y.docid) (sym entry) in
-      let tf : p.tf ≡ x.entry.tf = is.tf ∙ ap (λ (y : Entry). y.tf) (sym entry) in
+      let doc : p.doc ≡ last_from 0 old + x.entry.docid = is.doc ∙ ap (λ (y : PostingFields). last_from 0 old + y.docid) (sym entry) in
+      let tf : p.tf ≡ x.entry.tf = is.tf ∙ ap (λ (y : PostingFields). y.tf) (sym entry) in
       let room : before + length old < 2 ^ 29 = omega (arith, length-append old (p ∷ more), count) in
       let judged = judged_ok docs before old x.entry p few doc tf rise.0 rise.1 rise.2 room in
       let last = last_from-snoc 0 old p in

@@ -9,11 +9,11 @@ use Rattle.std.proofs.lemmas.List.{map-append, length-map, length-append, get_or
 use Rattle.std.proofs.lemmas.List.Elements.{All-append}
 use Rattle.jass_base.specs.declared.posting.Posting.{Posting}
 use Rattle.jass_base.specs.Postings.{docs_of, HasTfInRange}
-use Rattle.ciff_read.specs.declared.entry.Entry.{Entry}
+use Rattle.ciff_read.specs.declared.posting_fields.PostingFields.{PostingFields}
 use Rattle.ciff_read.specs.declared.refusal.CiffWhy.{CiffWhy}
 use Rattle.ciff_read.specs.declared.refusal.CiffWhy.TheVariants.{Range, Tf, Gap, DocRange, Limit}
 use Rattle.ciff_read.specs.Judging.{last_from, judge}
-use Rattle.ciff_read.specs.Kept.{AreKept}
+use Rattle.ciff_read.specs.Private.Kept.{AreKept}
 
 -- five tests that let a value through
 passed : (a b c d e : Bool) (x y : Posting) → (let r : Result Posting CiffWhy = cond a (Err Range) (cond b (Err Tf) (cond c (Err Gap) (cond d (Err DocRange) (cond e (Err Limit) (Ok x))))) in r) ≡ Ok y
@@ -33,7 +33,7 @@ pub record Follows (docs before last : ℕ) (postings : List Posting) (p : Posti
   pub room : before + length postings < 2 ^ 29
   pub tf : HasTfInRange p
 
-pub judge_follows : (docs before : ℕ) (postings : List Posting) (e : Entry) (p : Posting) → judge docs before postings e ≡ Ok p → Follows docs before (last_from 0 postings) postings p
+pub judge_follows : (docs before : ℕ) (postings : List Posting) (e : PostingFields) (p : Posting) → judge docs before postings e ≡ Ok p → Follows docs before (last_from 0 postings) postings p
 judge_follows docs before postings e p is =
     let t = passed (nat_le (2 ^ 31) e.docid || nat_le (2 ^ 31) e.tf) (e.tf == 0) (e.docid == 0 && nat_lt 0 (length postings)) (nat_le docs (last_from 0 postings + e.docid)) (nat_le (2 ^ 29) (before + length postings)) (record { doc = last_from 0 postings + e.docid; tf = e.tf }) p is in
     subst (Follows docs before (last_from 0 postings) postings) t.5 (record {
@@ -45,7 +45,7 @@ judge_follows docs before postings e p is =
     })
 
 -- what a posting that passes is
-pub judge_is : (docs before : ℕ) (postings : List Posting) (e : Entry) (p : Posting) → judge docs before postings e ≡ Ok p → (p.doc ≡ last_from 0 postings + e.docid) × (p.tf ≡ e.tf)
+pub judge_is : (docs before : ℕ) (postings : List Posting) (e : PostingFields) (p : Posting) → judge docs before postings e ≡ Ok p → (p.doc ≡ last_from 0 postings + e.docid) × (p.tf ≡ e.tf)
 judge_is docs before postings e p is =
     let t = passed (nat_le (2 ^ 31) e.docid || nat_le (2 ^ 31) e.tf) (e.tf == 0) (e.docid == 0 && nat_lt 0 (length postings)) (nat_le docs (last_from 0 postings + e.docid)) (nat_le (2 ^ 29) (before + length postings)) (record { doc = last_from 0 postings + e.docid; tf = e.tf }) p is in
     (ap (λ (q : Posting). q.doc) (sym t.5), ap (λ (q : Posting). q.tf) (sym t.5))

@@ -4,7 +4,7 @@ use Rattle.std.specs.Prelude.{nat_le}
 use Rattle.std.proofs.lemmas.Bool.Decides.{nat_tests}
 use Rattle.ciff_read.specs.declared.refusal.CiffWhy.TheVariants.{Range, DocRange}
 use Rattle.ciff_read.specs.Judging.{NumberedDoc, judge_doc, is_among}
-use Rattle.ciff_read.specs.Recording.{judge_rest}
+use Rattle.ciff_read.specs.Private.Recording.{judge_rest}
 use Rattle.ciff_read.specs.Refusals.{placed}
 
 module _ (at docs : ℕ) (numbers : List ℕ) (x : NumberedDoc) where

@@ -8,7 +8,7 @@ use Rattle.jass_base.specs.Terms.{BytesRise}
 use Rattle.ciff_read.specs.declared.kept_lists.ListPlace.{ListPlace}
 use Rattle.ciff_read.specs.declared.rising_lists.KeptTerm.{KeptTerm}
 use Rattle.ciff_read.specs.KeptEntries.{places_in, terms_in}
-use Rattle.ciff_read.specs.RisingEntries.{term_of, IsWithin, entries_at, AreRising}
+use Rattle.ciff_read.specs.Private.RisingEntries.{term_of, IsWithin, entries_at, AreRising}
 use Rattle.ciff_read.proofs.Postings.{All-one}
 use Rattle.ciff_read.proofs.RisingTerms.{entry_rises}
 

@@ -1,19 +1,19 @@
 -- Postings in their usual spelling, one behind the other.
-use Rattle.std.proofs.Common.{◌≡◌, ℕ, ◌+◌, ◌-◌, ◌^◌, ◌<◌, ◌≤◌, List, [], ◌∷◌, ◌++◌, length, drop, Option, Some, None, Result, Ok, refl, sym, ap, subst, ◌∙◌, arith}
+use Rattle.std.proofs.Common.{◌≡◌, ℕ, ◌+◌, ◌^◌, ◌<◌, ◌≤◌, List, [], ◌∷◌, ◌++◌, length, drop, Result, Ok, refl, sym, ap, subst, ◌∙◌, arith}
 use Rattle.std.specs.Prelude.{fold}
 use Rattle.std.proofs.lemmas.List.{length-drop, drop-drop}
 use Rattle.jass_base.specs.declared.posting.Posting.{Posting}
 use Rattle.jass_base.specs.Wire.{WireField, Text}
-use Rattle.ciff_read.specs.declared.entry.Entry.{Entry}
+use Rattle.ciff_read.specs.declared.posting_fields.PostingFields.{PostingFields}
 use Rattle.ciff_read.specs.declared.gathered.Gathered.{Gathered}
 use Rattle.ciff_read.specs.declared.list_fields.ListFields.{ListFields}
 use Rattle.ciff_read.specs.declared.refusal.CiffRefusal.{CiffRefusal}
 use Rattle.ciff_read.specs.declared.refusal.CiffWhy.{CiffWhy}
 use Rattle.ciff_read.specs.Judging.{gather}
-use Rattle.ciff_read.specs.Kept.{AreKept}
-use Rattle.ciff_read.specs.Places.{GathersRun, gathered_in, gathered_of}
+use Rattle.ciff_read.specs.Private.Kept.{AreKept}
+use Rattle.ciff_read.specs.Private.Places.{GathersRun, gathered_of}
 use Rattle.ciff_read.specs.Refusals.{◌>>=◌, placed}
-use Rattle.ciff_read.specs.Usual.{IsPosting, IsUsual, IsRun}
+use Rattle.ciff_read.specs.Private.Usual.{IsPosting, IsUsual, IsRun}
 use Rattle.ciff_read.specs.Walking.{PlacedEntry, entry_inside}
 use Rattle.ciff_read.proofs.FieldValues.{IsListStart, number_more, text_more}
 use Rattle.ciff_read.proofs.Parts.{gathers_more}
@@ -25,14 +25,14 @@ use Rattle.ciff_read.proofs.Walks.{Walks, walks_on}
 -- ---- one posting more
 
 -- a posting whose tests all pass
-pub record Passes (docs before last : ℕ) (ps : List Posting) (entry : Entry) (p : Posting) : Type 0 where
+pub record Passes (docs before last : ℕ) (ps : List Posting) (entry : PostingFields) (p : Posting) : Type 0 where
   pub usual : IsUsual entry
   pub doc : p.doc ≡ last + entry.docid
   pub tf : p.tf ≡ entry.tf
   pub below : p.doc < docs
   pub room : before + length ps < 2 ^ 29
 
-module _ (docs before last : ℕ) (ps : List Posting) (entry : Entry) (p : Posting) (kept : AreKept docs before last ps) (passes : Passes docs before last ps entry p) where
+module _ (docs before last : ℕ) (ps : List Posting) (entry : PostingFields) (p : Posting) (kept : AreKept docs before last ps) (passes : Passes docs before last ps entry p) where
   follows : Follows docs before last ps p
   follows = record {
     above = λ some. omega (arith, passes.doc, passes.usual.some_gap);
@@ -53,7 +53,7 @@ module _ (docs before last : ℕ) (ps : List Posting) (entry : Entry) (p : Posti
 
 -- ---- one posting more in a run
 
-run-snoc : (bytes : List ℕ) (from at next : ℕ) (entries : List PlacedEntry) (entry : Entry) → IsRun bytes from entries at → IsPosting bytes at entry next → IsRun bytes from (entries ++ record { at = at; entry = entry } ∷ []) next
+run-snoc : (bytes : List ℕ) (from at next : ℕ) (entries : List PlacedEntry) (entry : PostingFields) → IsRun bytes from entries at → IsPosting bytes at entry next → IsRun bytes from (entries ++ record { at = at; entry = entry } ∷ []) next
 run-snoc bytes from at next [] entry run p = (sym run, (next, subst (λ n. IsPosting bytes n entry next) (sym run) p, refl))
 run-snoc bytes from at next (x ∷ xs) entry run p = (run.0, (run.1.0, run.1.1, run-snoc bytes run.1.0 at next xs entry run.1.2 p))
 
@@ -97,13 +97,8 @@ pub record InHand (bytes : List ℕ) (from docs before last : ℕ) (start : Resu
   pub gathered : Ok ps ≡ fold (gather docs before) start entries
   pub kept : AreKept docs before last ps
 
-pub first_in_hand : (bytes : List ℕ) (from docs before last : ℕ) (refusal : Option CiffRefusal) (rest : List ℕ) (ps : List Posting) → from ≤ length bytes → rest ≡ drop from bytes → refusal ≡ None → AreKept docs before last ps
-    → InHand bytes from docs before last (gathered_in refusal ps) rest ps
-first_in_hand bytes from docs before last None rest ps within is none kept = record { at = from; rest_is = is; entries = []; run = refl; forward = omega arith; within = within; gathered = refl; kept = kept }
-first_in_hand bytes from docs before last (Some r) rest ps within is none kept = absurd cc
-
 -- a posting at the front of the rest
-there : (bytes rest : List ℕ) (at size : ℕ) (entry : Entry) → at ≤ length bytes → rest ≡ drop at bytes → IsPosting rest 0 entry size → IsPosting bytes at entry (at + size)
+there : (bytes rest : List ℕ) (at size : ℕ) (entry : PostingFields) → at ≤ length bytes → rest ≡ drop at bytes → IsPosting rest 0 entry size → IsPosting bytes at entry (at + size)
 there bytes rest at size entry within is p = let q = subst (λ (s : List ℕ). IsPosting s 0 entry size) is p in record {
   body = q.body;
   read = q.read ∙ ap (λ (s : List ℕ). Ok (record { number = 4; value = Text q.body }, s)) (drop-drop size at bytes);
@@ -112,7 +107,7 @@ there bytes rest at size entry within is p = let q = subst (λ (s : List ℕ). I
   within = omega (arith, q.within, length-drop at bytes, within);
 }
 
-pub next_in_hand : (bytes : List ℕ) (from docs before last size : ℕ) (start : Result (List Posting) CiffRefusal) (rest later : List ℕ) (ps now : List Posting) (entry : Entry) (p : Posting) → InHand bytes from docs before last start rest ps
+pub next_in_hand : (bytes : List ℕ) (from docs before last size : ℕ) (start : Result (List Posting) CiffRefusal) (rest later : List ℕ) (ps now : List Posting) (entry : PostingFields) (p : Posting) → InHand bytes from docs before last start rest ps
     → Passes docs before last ps entry p → IsPosting rest 0 entry size → later ≡ drop size rest → now ≡ ps ++ p ∷ [] → InHand bytes from docs before p.doc start later now
 next_in_hand bytes from docs before last size start rest later ps now entry p h passes posting later_is now_is =
     let x : PlacedEntry = record { at = h.at; entry = entry } in
@@ -127,15 +122,4 @@ next_in_hand bytes from docs before last size start rest later ps now entry p h 
       within = q.within;
       gathered = gathers_more docs before start (Ok ps) (Ok now) h.entries (x ∷ []) h.gathered (ap (λ (qs : List Posting). Ok qs) now_is ∙ sym more);
       kept = subst (AreKept docs before p.doc) (sym now_is) (kept_usual docs before last ps entry p h.kept passes);
-    }
-
-pub run_in_hand : (bytes : List ℕ) (from last : ℕ) (old now : Gathered) (rest : List ℕ) (ps : List Posting) → InHand bytes from old.docs old.before last (gathered_of old) rest ps → gathered_of now ≡ Ok ps → GathersRun bytes from (length bytes - length rest) old now
-run_in_hand bytes from last old now rest ps h is =
-    let place : length bytes - length rest ≡ h.at = omega (arith, ap length h.rest_is, length-drop h.at bytes, h.within) in
-    record {
-      entries = h.entries;
-      run = subst (λ n. IsRun bytes from h.entries n) (sym place) h.run;
-      forward = omega (arith, place, h.forward);
-      within = omega arith;
-      gathered = is ∙ h.gathered;
     }

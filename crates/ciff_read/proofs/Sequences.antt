@@ -6,7 +6,7 @@ use Rattle.ciff_read.specs.declared.body.Body.{Body}
 use Rattle.ciff_read.specs.declared.refusal.CiffRefusal.{CiffRefusal}
 use Rattle.ciff_read.specs.declared.refusal.CiffFault.{CiffFault}
 use Rattle.ciff_read.specs.Judging.{NumberedDoc, numbers_of}
-use Rattle.ciff_read.specs.Places.{message_in}
+use Rattle.ciff_read.specs.Private.Places.{message_in}
 use Rattle.ciff_read.specs.Reading.{Message, ListsRead, DocsRead, message_end, message_at, list_at, doc_at, lists_at, docs_at, inserted}
 use Rattle.ciff_read.specs.Refusals.{◌>>=◌, Fails}
 use Rattle.ciff_read.proofs.Answering.{fails_on, fails_as}

@@ -3,22 +3,20 @@ use Rattle.std.proofs.Common.{◌≡◌, ℕ, ◌+◌, ◌-◌, ◌*◌, ◌/◌
 use Rattle.std.specs.Prelude.{nat_lt}
 use Rattle.std.proofs.lemmas.Bool.{cases_lt}
 use Rattle.std.proofs.lemmas.Bool.Decides.{nat_tests}
-use Rattle.std.proofs.lemmas.List.{take_all, length-drop, drop-drop}
+use Rattle.std.proofs.lemmas.List.{length-drop, drop-drop}
 use Rattle.jass_base.specs.Wire.{WireField, Text}
 use Rattle.wire_fields.specs.declared.fault.WireWhy.{WireWhy}
 use Rattle.wire_fields.specs.Reading.{varint_at, field_at}
-use Rattle.ciff_read.specs.declared.entry.Entry.{Entry}
+use Rattle.wire_fields.proofs.Varints.{to_end}
+use Rattle.ciff_read.specs.declared.posting_fields.PostingFields.{PostingFields}
 use Rattle.ciff_read.specs.declared.refusal.CiffRefusal.{CiffRefusal}
 use Rattle.ciff_read.specs.Refusals.{◌>>=◌}
-use Rattle.ciff_read.specs.Usual.{IsPosting}
+use Rattle.ciff_read.specs.Private.Usual.{IsPosting}
 use Rattle.ciff_read.specs.Walking.{walk_within, entry_at, entry_inside}
-
-pub to_end : (bytes : List ℕ) (at : ℕ) → take (length bytes - at) (drop at bytes) ≡ drop at bytes
-to_end bytes at = take_all (length bytes - at) (drop at bytes) (omega (arith, length-drop at bytes))
 
 -- ---- the body
 
-abbrev read_as : ℕ → ℕ → Result Entry CiffRefusal
+abbrev read_as : ℕ → ℕ → Result PostingFields CiffRefusal
 read_as docid tf = Ok (record { docid = docid; tf = tf })
 
 of_four : (at g t : ℕ) → g < 128 → t < 128 → entry_at at (8 ∷ g ∷ 16 ∷ t ∷ []) ≡ read_as g t
@@ -204,5 +202,5 @@ posting_at bytes at docid tf size next inside some place there = let begins = su
   within = omega (arith, begins.within, length-drop at bytes, inside, place);
 }
 
-pub entry_there : (bytes : List ℕ) (at : ℕ) (entry : Entry) (next : ℕ) → (p : IsPosting bytes at entry next) → entry_inside at next (record { number = 4; value = Text p.body }) ≡ Ok (record { at = at; entry = entry } ∷ [])
-entry_there bytes at entry next p = ap (λ (r : Result Entry CiffRefusal). r >>= λ e. Ok (record { at = at; entry = e } ∷ [])) (p.spells (next - length p.body))
+pub entry_there : (bytes : List ℕ) (at : ℕ) (entry : PostingFields) (next : ℕ) → (p : IsPosting bytes at entry next) → entry_inside at next (record { number = 4; value = Text p.body }) ≡ Ok (record { at = at; entry = entry } ∷ [])
+entry_there bytes at entry next p = ap (λ (r : Result PostingFields CiffRefusal). r >>= λ e. Ok (record { at = at; entry = e } ∷ [])) (p.spells (next - length p.body))

@@ -8,7 +8,7 @@ use Rattle.std.proofs.lemmas.List.Sums.{fold-append}
 use Rattle.std.proofs.lemmas.Grind.{replicate_next}
 use Rattle.std.proofs.lemmas.List.{append_assoc, length-map, map-append, append-nil, length-append, length-replicate}
 use Rattle.std.proofs.lemmas.List.Elements.{filter_map-append}
-use Rattle.ciff_read.specs.Table.{has_value, reaching, with_value, values_of, table_with}
+use Rattle.ciff_read.specs.Private.Table.{has_value, reaching, with_value, values_of, table_with}
 
 -- a list after one more place was put behind it
 pub reaches_more : {X : Type 0} (e : X) (old now : List X) → now ≡ old ++ replicate (length now - length old) e → length old ≤ length now → now ++ e ∷ [] ≡ old ++ replicate (length (now ++ e ∷ []) - length old) e
@@ -45,11 +45,6 @@ module _ {R : Type 0} where
   nothing_there zero k = refl
   nothing_there (suc n) zero = refl
   nothing_there (suc n) (suc k) = nothing_there n k
-
-  pub none_past : (table : List (Option R)) (n : ℕ) → length table ≤ n → has_value table n ≡ false
-  none_past [] n past = refl
-  none_past (o ∷ table) zero past = absurd (omega arith)
-  none_past (o ∷ table) (suc n) past = none_past table n (omega arith)
 
   reach_get : (table : List (Option R)) (k m : ℕ) → get_or (table ++ replicate k None) m None ≡ get_or table m None
   reach_get [] k m = nothing_there k m

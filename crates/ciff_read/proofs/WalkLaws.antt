@@ -6,7 +6,7 @@ use Rattle.std.proofs.lemmas.List.{length-append}
 use Rattle.std.proofs.lemmas.List.Concat.{flat_map-cons}
 use Rattle.jass_base.specs.Wire.{WireField, WireValue, Number, Eight, Text, Four, IsField, AreFields, texts_in, texts_field}
 use Rattle.wire_fields.specs.Reading.{field_at}
-use Rattle.ciff_read.specs.declared.entry.Entry.{Entry}
+use Rattle.ciff_read.specs.declared.posting_fields.PostingFields.{PostingFields}
 use Rattle.ciff_read.specs.declared.refusal.CiffRefusal.{CiffRefusal}
 use Rattle.ciff_read.specs.Refusals.{◌>>=◌, field_placed}
 use Rattle.ciff_read.specs.Walking.{PlacedEntry, Walked, in_front, walk, walk_within, nothing_inside, entry_of, entry_at, entry_in, entry_inside}
@@ -146,7 +146,7 @@ module _ (laws : WireLaws) where
       let read : entry_at (next - length body) body ≡ Ok (entry_of h.fields) = ap (λ (r : Result Walked CiffRefusal). r >>= λ walked. Ok (entry_of walked.fields)) w in
       record {
         entries = record { at = at; entry = entry_of h.fields } ∷ [];
-        found = ap (λ (r : Result Entry CiffRefusal). r >>= λ entry. Ok (record { at = at; entry = entry } ∷ [])) read;
+        found = ap (λ (r : Result PostingFields CiffRefusal). r >>= λ entry. Ok (record { at = at; entry = entry } ∷ [])) read;
         are = (record { fields = h.fields; spelled = h.spelled; entry = refl }, tt);
       }
   entry_in_only (Four bytes) at next have = record { entries = []; found = refl; are = tt }

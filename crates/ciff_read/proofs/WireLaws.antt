@@ -37,8 +37,5 @@ some_groups : (s : List ℕ) → AreGroups s → 0 < length s
 some_groups [] groups = absurd groups
 some_groups (b ∷ s) groups = omega arith
 
-pub some_varint : (s : List ℕ) (n : ℕ) → IsVarint s n → 0 < length s
-some_varint s n is = some_groups s is.groups
-
 pub some_field : (s : List ℕ) (f : WireField) → IsField s f → 0 < length s
 some_field s f is = omega (arith, ap (λ (t : List ℕ). length t) is.parts, length-append is.tag is.value, some_groups is.tag is.tagged.groups)

@@ -33,11 +33,11 @@ pub record Advances (content : List ℕ) (p : Progress) (piece : PieceData) (now
   pub piece_is : piece ≡ step.piece
   pub keeps : Keeps now step.later
 
-abbrev pub Gives : List ℕ → Progress → Result Piece CiffFault → WalkView → Type 0
-Gives content p (Ok piece) now = Advances content p (piece_data piece) now
-Gives content p (Err fault) now = FailsReading fault (next_of content p)
+abbrev pub GivesPiece : List ℕ → Progress → Result Piece CiffFault → WalkView → Type 0
+GivesPiece content p (Ok piece) now = Advances content p (piece_data piece) now
+GivesPiece content p (Err fault) now = FailsReading fault (next_of content p)
 
 -- the piece that a call gives of a content that is told, where the walk has answered no error
 abbrev pub GivesTold : Option Files → WalkView → WalkView → Result Piece CiffFault → Type 0
 GivesTold files old now result =
-    ForContent files old.name (λ content. old.answered ≡ None → AreFrom content old.start old.bytes → (p : Progress) → Keeps old p → Gives content p result now)
+    ForContent files old.name (λ content. old.answered ≡ None → AreFrom content old.start old.bytes → (p : Progress) → Keeps old p → GivesPiece content p result now)

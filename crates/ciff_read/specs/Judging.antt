@@ -5,13 +5,14 @@ use Rattle.std.specs.Str.{is_utf8}
 use Rattle.jass_base.specs.declared.posting.Posting.{Posting}
 use Rattle.jass_base.specs.Wire.{WireField, number_field, text_field}
 use Rattle.jass_base.specs.Ciff.{HeaderData, DocData, header_of}
-use Rattle.ciff_read.specs.declared.entry.Entry.{Entry}
+use Rattle.ciff_read.specs.declared.posting_fields.PostingFields.{PostingFields}
 use Rattle.ciff_read.specs.declared.refusal.CiffWhy.{CiffWhy}
 use Rattle.ciff_read.specs.declared.refusal.CiffWhy.TheVariants.{Range, Text, Tf, Gap, DocRange, TermTwice, DocTwice, NameText, Limit}
 use Rattle.ciff_read.specs.declared.refusal.CiffRefusal.{CiffRefusal}
 use Rattle.ciff_read.specs.Refusals.{◌>>=◌, placed}
 use Rattle.ciff_read.specs.Seen.{is_seen}
 use Rattle.ciff_read.specs.Walking.{PlacedEntry}
+use Rattle.jass_base.specs.declared.limits.TheConstants.{MOST_DOCUMENTS, MOST_POSTINGS, MOST_TERMS}
 
 -- a header, and the numbers of lists and documents that follow
 pub record FileStart : Type 0 where
@@ -52,7 +53,7 @@ abbrev pub judge_header : FileStart → Result FileStart CiffWhy
 judge_header x =
     if over31 x.header.version || over31 x.lists || over31 x.docs || over31 x.header.total_lists || over31 x.header.total_docs || over63 x.header.total_terms then Err Range
     else (if not (is_utf8 x.header.description) then Err Text
-    else (if nat_lt (2 ^ 24) x.lists || nat_lt (2 ^ 26) x.docs then Err Limit
+    else (if nat_lt MOST_TERMS x.lists || nat_lt MOST_DOCUMENTS x.docs then Err Limit
     else Ok x))
 
 -- the start of a list behind lists of these terms
@@ -70,13 +71,13 @@ last_from last [] = last
 last_from last (p ∷ ps) = last_from p.doc ps
 
 -- the next posting of a list in a file of so many documents, with so many postings in the lists before
-abbrev pub judge : ℕ → ℕ → List Posting → Entry → Result Posting CiffWhy
+abbrev pub judge : ℕ → ℕ → List Posting → PostingFields → Result Posting CiffWhy
 judge docs before postings entry =
     if over31 entry.docid || over31 entry.tf then Err Range
     else (if entry.tf == 0 then Err Tf
     else (if entry.docid == 0 && nat_lt 0 (length postings) then Err Gap
     else (if nat_le docs (last_from 0 postings + entry.docid) then Err DocRange
-    else (if nat_le (2 ^ 29) (before + length postings) then Err Limit
+    else (if nat_le MOST_POSTINGS (before + length postings) then Err Limit
     else Ok (record { doc = last_from 0 postings + entry.docid; tf = entry.tf })))))
 
 -- one posting more, unless an earlier one was refused

@@ -1,9 +1,8 @@
 -- What is read of a message that stands further on in a file.
-use Rattle.std.specs.Prelude.{ℕ, ◌+◌, List, length, drop, Result, Ok, Err}
+use Rattle.std.specs.Prelude.{ℕ, ◌+◌, Result, Ok, Err}
 use Rattle.ciff_read.specs.declared.refusal.CiffRefusal.{CiffRefusal}
 use Rattle.ciff_read.specs.declared.refusal.CiffFault.{CiffFault}
 use Rattle.ciff_read.specs.declared.refusal.CiffFault.TheVariants as faults
-use Rattle.ciff_read.specs.Reading.{Message}
 
 -- a refusal so many places further on
 abbrev pub refusal_moved : ℕ → CiffRefusal → CiffRefusal
@@ -13,10 +12,6 @@ refusal_moved base e = record { at = base + e.at; why = e.why }
 abbrev pub moved : {A : Type 0} → ℕ → Result A CiffRefusal → Result A CiffRefusal
 moved base (Ok x) = Ok x
 moved base (Err e) = Err (refusal_moved base e)
-
--- a message of bytes that begin at a place of a content
-abbrev pub message_moved : List ℕ → ℕ → Message → Message
-message_moved content base m = record { from = base + m.from; body = m.body; rest = drop (base + m.from + length m.body) content }
 
 -- a fault so many places further on
 abbrev pub fault_moved : ℕ → CiffFault → CiffFault

@@ -66,6 +66,6 @@ Fails faults.ReadFault read = ⊥
 Fails faults.NoMemory read = ⊤
 
 -- what a function answers, seen by view, is what reading gives
-abbrev pub Gives : {X Y : Type 0} → (X → Y) → Result X CiffFault → Result Y CiffRefusal → Type 0
-Gives view (Ok x) read = read ≡ Ok (view x)
-Gives view (Err fault) read = Fails fault read
+abbrev pub Answers : {X Y : Type 0} → (X → Y) → Result X CiffFault → Result Y CiffRefusal → Type 0
+Answers view (Ok x) read = read ≡ Ok (view x)
+Answers view (Err fault) read = Fails fault read

@@ -14,7 +14,7 @@ use Rattle.ciff_read.specs.Marks.{is_marked}
 use Rattle.ciff_read.specs.Pieces.{KeptList, Progress, header_of_file, IsReached, list_of_file, postings_kept, terms_kept, places_kept, EndPiece, doc_of_file}
 use Rattle.jass_base.specs.declared.postings_list.PostingsList.{PostingsList}
 use Rattle.jass_base.specs.declared.doc_record.DocRecord.{DocRecord}
-use Rattle.ciff_read.specs.Reached.{GivesReading, MarksOf}
+use Rattle.ciff_read.specs.Private.Reached.{GivesReading, MarksOf}
 use Rattle.ciff_read.specs.Reaching.{FailsReading}
 use Rattle.ciff_read.specs.Reading.{Message, message_at, list_at, at_end}
 use Rattle.ciff_read.specs.Window.{AreFrom}

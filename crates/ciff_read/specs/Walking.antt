@@ -2,14 +2,14 @@
 use Rattle.std.specs.Prelude.{ℕ, zero, suc, ◌+◌, ◌-◌, ◌==◌, List, [], ◌∷◌, ◌++◌, length, Result, Ok, if◌then◌else◌}
 use Rattle.jass_base.specs.Wire.{WireField, WireValue, Number, Eight, Text, Four, number_field}
 use Rattle.wire_fields.specs.Reading.{field_at}
-use Rattle.ciff_read.specs.declared.entry.Entry.{Entry}
+use Rattle.ciff_read.specs.declared.posting_fields.PostingFields.{PostingFields}
 use Rattle.ciff_read.specs.declared.refusal.CiffRefusal.{CiffRefusal}
 use Rattle.ciff_read.specs.Refusals.{◌>>=◌, field_placed}
 
 -- a posting as it stands, and the place of its field
 pub record PlacedEntry : Type 0 where
   pub at : ℕ
-  pub entry : Entry
+  pub entry : PostingFields
 
 -- the fields of a body, and the postings inside them
 pub record Walked : Type 0 where
@@ -39,11 +39,11 @@ abbrev pub nothing_inside : ℕ → ℕ → WireField → Result (List PlacedEnt
 nothing_inside at next f = Ok []
 
 -- the posting that the fields of its body give
-abbrev pub entry_of : List WireField → Entry
+abbrev pub entry_of : List WireField → PostingFields
 entry_of fields = record { docid = number_field 1 fields; tf = number_field 2 fields }
 
 -- the posting of a body that stands at a place
-abbrev pub entry_at : ℕ → List ℕ → Result Entry CiffRefusal
+abbrev pub entry_at : ℕ → List ℕ → Result PostingFields CiffRefusal
 entry_at from body = walk nothing_inside from body >>= λ walked. Ok (entry_of walked.fields)
 
 -- the posting in a value that ends at a place

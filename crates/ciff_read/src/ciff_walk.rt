@@ -19,8 +19,8 @@ use crate::reached_doc::reach_doc;
 use crate::reached_header::reach_header;
 use crate::reached_list::reach_list;
 use crate::refusal::{CiffFault, CiffWhy, refused};
-use crate::window::{ReachStop, Window};
-use jass_base::{Cabinet, DocRecord, Header, Posting, PostingsList, Row, Text};
+use crate::window::Window;
+use jass_base::{Cabinet, DocRecord, Header, Posting, PostingsList, ReadStop, Row, Text};
 use std::alloc::Global;
 use std::marker::Model;
 use std::mem::replace;
@@ -98,8 +98,8 @@ impl CiffWalk {
         let mut window = Window::new(alloc);
         match window.reach(files, name, 0, 1) {
             Ok(()) => {}
-            Err(ReachStop::ReadFault) => return Err(CiffFault::ReadFault),
-            Err(ReachStop::NoMemory) => return Err(CiffFault::NoMemory),
+            Err(ReadStop::ReadFault) => return Err(CiffFault::ReadFault),
+            Err(ReadStop::NoMemory) => return Err(CiffFault::NoMemory),
         }
         let (head, at) = match reach_header(alloc, &mut window, files, name) {
             Ok(read) => read,
@@ -402,8 +402,8 @@ impl CiffWalk {
     {
         match self.window.reach(files, self.name.as_str(), self.at, 1) {
             Ok(()) => {}
-            Err(ReachStop::ReadFault) => return Err(CiffFault::ReadFault),
-            Err(ReachStop::NoMemory) => return Err(CiffFault::NoMemory),
+            Err(ReadStop::ReadFault) => return Err(CiffFault::ReadFault),
+            Err(ReadStop::NoMemory) => return Err(CiffFault::NoMemory),
         }
         if self.window.bytes.len() > (self.at - self.window.start) as usize {
             return Err(refused(self.at as usize, CiffWhy::Trailing));

@@ -3,9 +3,9 @@ ghost use Rattle.jass_base.specs.Ciff.{CollectionData, IsCiff};
 ghost use Rattle.jass_base.specs.CiffViews.{collection_data};
 ghost use Rattle.jass_base.specs.Lists.{HasDocsBelow, DifferInTerm};
 ghost use Rattle.ciff_read.specs.Counts.{posting_count};
-ghost use Rattle.ciff_read.specs.Places.{lists_in, docs_in};
+ghost use Rattle.ciff_read.specs.Private.Places.{lists_in, docs_in};
 ghost use Rattle.ciff_read.specs.Reading.{lists_at, all_docs_at, read_ciff};
-ghost use Rattle.ciff_read.specs.Refusals.{Gives};
+ghost use Rattle.ciff_read.specs.Refusals.{Answers};
 
 use crate::document::read_document;
 use crate::documents::Documents;
@@ -22,8 +22,8 @@ use std::alloc::Global;
 /// first refusal in the order of the format, with its place. Memory may be refused instead.
 pub fn read_collection(alloc: Global, bytes: &[u8]) -> Result<Collection, CiffFault>
     ensures accepted { IfOk result (λ c. IsCiff bytes.now (collection_data c)) }
-    ensures only { (c : CollectionData) → IsCiff bytes.now c → Gives collection_data result (Ok c) }
-    ensures exact { Gives collection_data result (read_ciff bytes.now) }
+    ensures only { (c : CollectionData) → IsCiff bytes.now c → Answers collection_data result (Ok c) }
+    ensures exact { Answers collection_data result (read_ciff bytes.now) }
     ensures few { IfOk result (λ c. posting_count c.lists ≤ 2 ^ 29) }
 {
     files_are_read();
@@ -32,7 +32,7 @@ pub fn read_collection(alloc: Global, bytes: &[u8]) -> Result<Collection, CiffFa
 
 /// Reads the messages of a file, one after the other.
 fn read_messages(alloc: Global, bytes: &[u8]) -> Result<Collection, CiffFault>
-    ensures exact { Gives collection_data result (read_ciff bytes.now) }
+    ensures exact { Answers collection_data result (read_ciff bytes.now) }
     ensures few { IfOk result (λ c. posting_count c.lists ≤ 2 ^ 29) }
 {
     let body = match read_length(bytes, 0) {
@@ -71,7 +71,7 @@ fn read_lists(
 ) -> Result<(Row<PostingsList>, usize), CiffFault>
     requires from { from ≤ length bytes.now }
     requires docs { docs ≤ 2 ^ 26 }
-    ensures exact { Gives (lists_in bytes.now) result (lists_at count docs 0 [] from (drop from bytes.now)) }
+    ensures exact { Answers (lists_in bytes.now) result (lists_at count docs 0 [] from (drop from bytes.now)) }
     ensures within { IfOk result (λ x. x.1 ≤ length bytes.now) }
     ensures count { IfOk result (λ x. length x.0 ≡ count) }
     ensures below { IfOk result (λ x. All (HasDocsBelow docs) x.0) }
@@ -109,7 +109,7 @@ fn read_documents(
     count: u32,
 ) -> Result<(Row<DocRecord>, usize), CiffFault>
     requires { from ≤ length bytes.now }
-    ensures exact { Gives (docs_in bytes.now) result (all_docs_at count from (drop from bytes.now)) }
+    ensures exact { Answers (docs_in bytes.now) result (all_docs_at count from (drop from bytes.now)) }
     ensures within { IfOk result (λ x. x.1 ≤ length bytes.now) }
     ensures count { IfOk result (λ x. length x.0 ≡ count) }
 {

@@ -1,5 +1,5 @@
 ghost use Rattle.std.specs.Prelude.{◌≡◌, [], IfOk, OnOk};
-ghost use Rattle.ciff_read.specs.Table.{with_value, values_of};
+ghost use Rattle.ciff_read.specs.Private.Table.{with_value, values_of};
 
 use jass_base::{DocRecord, NoMemory, Row};
 use std::alloc::Global;

@@ -1,9 +1,9 @@
 ghost use Rattle.std.specs.Prelude.{ℕ, ◌≡◌, ◌+◌, ◌<◌, ◌≤◌, List, length, drop, IfOk, IfErr, OnOk};
 ghost use Rattle.ciff_read.specs.Judging.{is_among};
-ghost use Rattle.ciff_read.specs.Places.{message_in, numbered_in, records_of, AreMarked, PutsDoc};
+ghost use Rattle.ciff_read.specs.Private.Places.{message_in, numbered_in, records_of, AreMarked, PutsDoc};
 ghost use Rattle.ciff_read.specs.Reading.{numbered_at, doc_at};
-ghost use Rattle.ciff_read.specs.Recording.{recorded};
-ghost use Rattle.ciff_read.specs.Refusals.{Gives, Fails};
+ghost use Rattle.ciff_read.specs.Private.Recording.{recorded};
+ghost use Rattle.ciff_read.specs.Refusals.{Answers, Fails};
 
 use crate::body::Body;
 use crate::doc_fields::DocFields;
@@ -16,7 +16,7 @@ use wire_fields::next_field;
 /// Walks the fields from a place to the end of `bytes`.
 fn walk_document(bytes: &[u8], from: usize) -> Result<DocFields<'_>, CiffFault>
     requires { from ≤ length bytes.now }
-    ensures { Gives numbered_in result (numbered_at from (drop from bytes.now)) }
+    ensures { Answers numbered_in result (numbered_at from (drop from bytes.now)) }
 {
     let mut fields = DocFields {
         docid: 0,

@@ -1,7 +1,7 @@
 ghost use Rattle.std.specs.Prelude.{◌≡◌, ◌∷◌, [], ◌++◌, IfOk, OnOk};
 ghost use Rattle.ciff_read.specs.Judging.{is_among};
-ghost use Rattle.ciff_read.specs.Places.{seen_in, AreMarked};
-ghost use Rattle.ciff_read.specs.Table.{table_with, values_of};
+ghost use Rattle.ciff_read.specs.Private.Places.{seen_in, AreMarked};
+ghost use Rattle.ciff_read.specs.Private.Table.{table_with, values_of};
 
 use crate::doc_set::DocSet;
 use crate::doc_table::DocTable;

@@ -1,16 +1,14 @@
 ghost use Rattle.std.specs.Prelude.{ℕ, ◌≡◌, ◌≤◌, ◌^◌};
-ghost use Rattle.ciff_read.specs.Kept.{AreKept};
+ghost use Rattle.ciff_read.specs.Private.Kept.{AreKept};
 ghost use Rattle.ciff_read.specs.Judging.{judge};
 
-use crate::entry::Entry;
+use crate::posting_fields::PostingFields;
 use crate::refusal::{CiffRefusal, CiffWhy};
 use crate::usual::{POSTING_TAG, usual_posting};
+use jass_base::limits::MOST_POSTINGS;
 use jass_base::{NoMemory, Posting, Row};
 use std::alloc::Global;
 use std::mem::replace;
-
-/// The limit of postings in a file.
-const MOST_POSTINGS: u64 = 536_870_912;
 
 /// The postings of a list so far, in rising order, and the first refusal among them.
 #[derive(Debug, Drop)]
@@ -30,7 +28,7 @@ pub struct Gathered {
 impl Gathered {
     ghost use Rattle.std.specs.Prelude.{length, IfOk, OnOk, None, []};
     ghost use Rattle.ciff_read.specs.Judging.{gather};
-    ghost use Rattle.ciff_read.specs.Places.{gathered_of, GathersRun};
+    ghost use Rattle.ciff_read.specs.Private.Places.{gathered_of, GathersRun};
 
     /// No postings yet, and room for so many, in the memory of a vector that is of no more use.
     pub fn with_room(
@@ -60,7 +58,7 @@ impl Gathered {
 
     /// Puts the next posting in, or keeps the refusal of it at its place in the file.
     #[inline(always)]
-    pub fn take(&mut self, at: usize, entry: Entry) -> Result<(), NoMemory>
+    pub fn take(&mut self, at: usize, entry: PostingFields) -> Result<(), NoMemory>
         ensures gathered { OnOk result (gathered_of self.new
             ≡ gather self.old.docs self.old.before (gathered_of self.old) (record { at = at; entry = entry })) }
         ensures docs { self.new.docs ≡ self.old.docs }
@@ -130,7 +128,7 @@ impl Gathered {
 
     /// The next posting, or why it is refused.
     #[inline(always)]
-    fn judge(&self, entry: Entry) -> Result<Posting, CiffWhy>
+    fn judge(&self, entry: PostingFields) -> Result<Posting, CiffWhy>
         ensures { result ≡ judge self.now.docs self.now.before self.now.postings entry }
     {
         if entry.docid >= 1 << 31 || entry.tf >= 1 << 31 {

@@ -1,23 +1,18 @@
 ghost use Rattle.std.specs.Prelude.{◌≡◌, ◌≤◌, length, drop, Ok, Err, IfOk, MatchResult};
 ghost use Rattle.jass_base.specs.Ciff.{FitsHeader};
 ghost use Rattle.ciff_read.specs.Judging as judging;
-ghost use Rattle.ciff_read.specs.Places.{message_in, start_in, start_data};
+ghost use Rattle.ciff_read.specs.Private.Places.{message_in, start_in, start_data};
 ghost use Rattle.ciff_read.specs.Reading.{start_at, header_at};
-ghost use Rattle.ciff_read.specs.Refusals.{Gives};
+ghost use Rattle.ciff_read.specs.Refusals.{Answers};
 
 use crate::body::Body;
 use crate::file_head::{FileHead, HeadFields};
 use crate::refusal::{CiffFault, CiffWhy, refused, refused_field};
 use crate::text::text_of;
+use jass_base::limits::{MOST_DOCUMENTS, MOST_TERMS};
 use jass_base::{Header, Text};
 use std::alloc::Global;
 use wire_fields::next_field;
-
-/// The limit of lists in a file.
-const MOST_LISTS: u64 = 16_777_216;
-
-/// The limit of documents in a file.
-const MOST_DOCS: u64 = 67_108_864;
 
 /// Reads the header, which is the message at `at`.
 pub fn read_header(
@@ -27,7 +22,7 @@ pub fn read_header(
     body: Body,
 ) -> Result<FileHead, CiffFault>
     requires { body.end ≤ length bytes.now }
-    ensures { Gives start_data result (header_at at (message_in bytes.now body)) }
+    ensures { Answers start_data result (header_at at (message_in bytes.now body)) }
 {
     let fields = match walk_header(&bytes[..body.end], body.from) {
         Ok(fields) => fields,
@@ -73,7 +68,7 @@ fn judge_header<'a>(fields: &HeadFields<'a>) -> Result<&'a str, CiffWhy>
     let Some(description) = text_of(fields.description) else {
         return Err(CiffWhy::Text);
     };
-    if fields.lists > MOST_LISTS || fields.docs > MOST_DOCS {
+    if fields.lists > u64::from(MOST_TERMS) || fields.docs > u64::from(MOST_DOCUMENTS) {
         return Err(CiffWhy::Limit);
     }
     Ok(description)
@@ -82,7 +77,7 @@ fn judge_header<'a>(fields: &HeadFields<'a>) -> Result<&'a str, CiffWhy>
 /// Walks the fields from a place to the end of the body. Of each field the last one counts.
 fn walk_header(bytes: &[u8], from: usize) -> Result<HeadFields<'_>, CiffFault>
     requires { from ≤ length bytes.now }
-    ensures { Gives start_in result (start_at from (drop from bytes.now)) }
+    ensures { Answers start_in result (start_at from (drop from bytes.now)) }
 {
     let mut fields = HeadFields {
         version: 0,

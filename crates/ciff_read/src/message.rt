@@ -1,4 +1,4 @@
-ghost use Rattle.ciff_read.specs.Places.{ReadsMessage};
+ghost use Rattle.ciff_read.specs.Private.Places.{ReadsMessage};
 
 use crate::body::Body;
 use crate::refusal::{CiffFault, CiffWhy, refused, refused_field};

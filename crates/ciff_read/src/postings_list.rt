@@ -2,16 +2,16 @@ ghost use Rattle.std.specs.Prelude.{ℕ, ◌≡◌, ◌+◌, ◌≤◌, ◌^◌,
 ghost use Rattle.jass_base.specs.CiffViews.{list_data};
 ghost use Rattle.jass_base.specs.Lists.{HasDocsBelow};
 ghost use Rattle.wire_fields.specs.Places.{IsWithin};
-ghost use Rattle.ciff_read.specs.Finishing.{finished};
-ghost use Rattle.ciff_read.specs.Places.{message_in, ReadsList, GathersField};
+ghost use Rattle.ciff_read.specs.Private.Finishing.{finished};
+ghost use Rattle.ciff_read.specs.Private.Places.{message_in, ReadsList, GathersField};
 ghost use Rattle.ciff_read.specs.Reading.{list_at};
-ghost use Rattle.ciff_read.specs.Refusals.{Gives, Fails};
+ghost use Rattle.ciff_read.specs.Refusals.{Answers, Fails};
 ghost use Rattle.ciff_read.specs.Seen.{is_seen};
 
 use crate::body::Body;
-use crate::entry::read_entry;
 use crate::gathered::Gathered;
 use crate::list_fields::ListFields;
+use crate::posting_fields::read_entry;
 use crate::refusal::{CiffFault, CiffWhy, refused, refused_field};
 use crate::terms::add_term;
 use crate::text::text_of;
@@ -46,7 +46,7 @@ pub fn read_list<'a>(
         ≡ map (λ t. t.now) terms.old.keys ++ list.term ∷ []) }
     ensures few { IfOk result (λ list. before + length list.postings ≤ 2 ^ 29) }
     ensures below { IfOk result (HasDocsBelow docs) }
-    ensures exact { Gives list_data result
+    ensures exact { Answers list_data result
         (list_at docs before (map (λ t. t.now) terms.old.keys) at (message_in bytes.now body)) }
 {
     let spare = Vec::new(alloc);

@@ -1,7 +1,7 @@
 ghost use Rattle.std.specs.Prelude.{ℕ, ◌≡◌, ◌<◌, ◌≤◌, ◌^◌, ◌⊎◌, false, IfOk, IsErrOf};
 ghost use Rattle.jass_base.specs.Outside.{Rose, IsMissing};
 ghost use Rattle.ciff_read.specs.Marks.{is_marked};
-ghost use Rattle.ciff_read.specs.Reached.{DocTold};
+ghost use Rattle.ciff_read.specs.Private.Reached.{DocTold};
 ghost use Rattle.ciff_read.specs.Window.{StaysShown};
 
 use crate::doc_set::DocSet;

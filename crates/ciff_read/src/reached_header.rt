@@ -1,6 +1,6 @@
 ghost use Rattle.std.specs.Prelude.{ℕ, ◌≡◌, ◌≤◌, ◌^◌, ◌⊎◌, IfOk, IsErrOf};
 ghost use Rattle.jass_base.specs.Outside.{Rose, IsMissing};
-ghost use Rattle.ciff_read.specs.Reached.{HeaderTold};
+ghost use Rattle.ciff_read.specs.Private.Reached.{HeaderTold};
 ghost use Rattle.ciff_read.specs.Window.{StaysShown};
 
 use crate::file_head::FileHead;

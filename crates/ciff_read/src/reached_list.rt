@@ -3,7 +3,7 @@ ghost use Rattle.jass_base.specs.Lists.{HasDocsBelow};
 ghost use Rattle.jass_base.specs.Outside.{Rose, IsMissing};
 ghost use Rattle.ciff_read.specs.KeptLists.{kept_in};
 ghost use Rattle.ciff_read.specs.Pieces.{terms_kept};
-ghost use Rattle.ciff_read.specs.Reached.{ListTold};
+ghost use Rattle.ciff_read.specs.Private.Reached.{ListTold};
 ghost use Rattle.ciff_read.specs.Refusals.{IsPlain};
 ghost use Rattle.ciff_read.specs.Seen.{is_seen};
 ghost use Rattle.ciff_read.specs.Window.{StaysShown};

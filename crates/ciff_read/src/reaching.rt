@@ -7,8 +7,8 @@ ghost use Rattle.ciff_read.specs.Window.{StaysShown};
 use crate::body::Body;
 use crate::message::FILE_LIMIT;
 use crate::refusal::{CiffFault, CiffWhy, refused, refused_field};
-use crate::window::{ReachStop, Window};
-use jass_base::Cabinet;
+use crate::window::Window;
+use jass_base::{Cabinet, ReadStop};
 use wire_fields::{WireFault, read_varint};
 
 /// The most bytes that the length of a message has.
@@ -34,8 +34,8 @@ fn reach_size<C: Cabinet>(
 {
     match window.reach(files, name, at, LONGEST_LENGTH) {
         Ok(()) => {}
-        Err(ReachStop::ReadFault) => return Err(CiffFault::ReadFault),
-        Err(ReachStop::NoMemory) => return Err(CiffFault::NoMemory),
+        Err(ReadStop::ReadFault) => return Err(CiffFault::ReadFault),
+        Err(ReadStop::NoMemory) => return Err(CiffFault::NoMemory),
     }
     match read_varint(window.bytes.as_slice(), (at - window.start) as usize) {
         Ok((size, from)) => Ok((size, window.start + from as u64)),
@@ -77,8 +77,8 @@ pub fn reach_message<C: Cabinet>(
     let count = (from - at + size) as usize;
     match window.reach(files, name, at, count) {
         Ok(()) => {}
-        Err(ReachStop::ReadFault) => return Err(CiffFault::ReadFault),
-        Err(ReachStop::NoMemory) => return Err(CiffFault::NoMemory),
+        Err(ReadStop::ReadFault) => return Err(CiffFault::ReadFault),
+        Err(ReadStop::NoMemory) => return Err(CiffFault::NoMemory),
     }
     let front = (at - window.start) as usize;
     if window.bytes.len() - front < count {

@@ -34,7 +34,7 @@ pub struct RisingLists {
 impl Model for RisingLists {
     ghost use Rattle.std.specs.Prelude.{ℕ, List};
     ghost use Rattle.ciff_read.specs.declared.kept_lists.ListPlace.{ListPlace};
-    ghost use Rattle.ciff_read.specs.RisingEntries.{AreRising, entries_at};
+    ghost use Rattle.ciff_read.specs.Private.RisingEntries.{AreRising, entries_at};
 
     ghost Value = { List (List ℕ × ListPlace) };
 

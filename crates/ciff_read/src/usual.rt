@@ -1,7 +1,7 @@
 ghost use Rattle.std.specs.Prelude.{◌≤◌, length, IfSome};
-ghost use Rattle.ciff_read.specs.Usual.{IsPosting, IsUsual};
+ghost use Rattle.ciff_read.specs.Private.Usual.{IsPosting, IsUsual};
 
-use crate::entry::Entry;
+use crate::posting_fields::PostingFields;
 
 /// The first byte of a posting: the field number 4 with the wire type of bytes.
 pub const POSTING_TAG: u8 = 0x22;
@@ -9,7 +9,7 @@ pub const POSTING_TAG: u8 = 0x22;
 /// A posting of a list in its usual spelling, with a gap of one to three bytes and a tf of one byte,
 /// neither of them 0, and the place behind its field. Nearly all postings are spelled so.
 #[inline(always)]
-pub fn usual_posting(bytes: &[u8], at: usize) -> Option<(Entry, usize)>
+pub fn usual_posting(bytes: &[u8], at: usize) -> Option<(PostingFields, usize)>
     requires { at ≤ length bytes.now }
     ensures posting { IfSome result (λ x. IsPosting bytes.now at x.0 x.1) }
     ensures usual { IfSome result (λ x. IsUsual x.0) }
@@ -38,5 +38,5 @@ pub fn usual_posting(bytes: &[u8], at: usize) -> Option<(Entry, usize)>
         + u64::from(second) * (128 * u64::from(field[4] % 128))
         + u64::from(third) * (16_384 * u64::from(field[5] % 128));
     let tf = u64::from(tf);
-    Some((Entry { docid, tf }, at + size + 2))
+    Some((PostingFields { docid, tf }, at + size + 2))
 }

@@ -2,8 +2,8 @@ ghost use Rattle.std.specs.Prelude.{◌≡◌, ◌≢◌, ◌<◌, ◌&&◌, ◌
 ghost use Rattle.std.specs.List.{list_all};
 ghost use Rattle.jass_base.specs.Limits.{IsName};
 ghost use Rattle.ciff_read.specs.Judging as judging;
-ghost use Rattle.ciff_read.specs.Recording.{recorded, numbered_as};
-ghost use Rattle.ciff_read.specs.Refusals.{Gives};
+ghost use Rattle.ciff_read.specs.Private.Recording.{recorded, numbered_as};
+ghost use Rattle.ciff_read.specs.Refusals.{Answers};
 
 use crate::doc_fields::DocFields;
 use crate::refusal::{CiffFault, CiffWhy, refused};
@@ -25,7 +25,7 @@ pub struct WalkedDoc<'a> {
 impl<'a> WalkedDoc<'a> {
     /// The record of the message at `at`, where nothing is left to refuse.
     pub fn finish(self, alloc: Global, at: usize, is_new: bool) -> Result<DocRecord, CiffFault>
-        ensures exact { Gives (numbered_as self.entry) result (recorded (not is_new) at self.entry) }
+        ensures exact { Answers (numbered_as self.entry) result (recorded (not is_new) at self.entry) }
         ensures new { OnOk result (is_new ≡ true) }
     {
         if !is_new {

@@ -1,8 +1,8 @@
 ghost use Rattle.std.specs.Prelude.{◌≡◌, ◌+◌, ◌≤◌, ◌^◌, true, not, length, IfOk, OnOk};
 ghost use Rattle.jass_base.specs.CiffViews.{list_data};
 ghost use Rattle.jass_base.specs.Lists.{HasDocsBelow};
-ghost use Rattle.ciff_read.specs.Finishing.{finished};
-ghost use Rattle.ciff_read.specs.Refusals.{Gives};
+ghost use Rattle.ciff_read.specs.Private.Finishing.{finished};
+ghost use Rattle.ciff_read.specs.Refusals.{Answers};
 
 use crate::gathered::Gathered;
 use crate::refusal::{CiffFault, CiffWhy, refused};
@@ -23,7 +23,7 @@ impl<'a> WalkedList<'a> {
     /// The list of the message at `at`, where nothing is left to refuse.
     pub fn finish(self, alloc: Global, at: usize, is_new: bool) -> Result<PostingsList, CiffFault>
         requires { length self.term.now ≤ 65535 }
-        ensures exact { Gives list_data result (finished (not is_new) at self.entry) }
+        ensures exact { Answers list_data result (finished (not is_new) at self.entry) }
         ensures new { OnOk result (is_new ≡ true) }
         ensures term { IfOk result (λ list. list.term ≡ self.entry.term.now) }
         ensures few { IfOk result (λ list. self.entry.gathered.before + length list.postings ≤ 2 ^ 29) }

@@ -2,19 +2,11 @@ ghost use Rattle.std.specs.Prelude.{ℕ, ◌≡◌, ◌+◌, ◌<◌, ◌≤◌,
 ghost use Rattle.jass_base.specs.Outside.{Rose, IsMissing};
 ghost use Rattle.ciff_read.specs.Window.{Shows, IsAt, StaysShown, ReachesTold};
 
-use jass_base::Cabinet;
+use jass_base::{Cabinet, ReadStop};
 use std::alloc::Global;
 
 /// How many bytes of a file are read at a time.
 const PIECE: usize = 65_536;
-
-/// Why bytes could not be reached.
-#[derive(Clone, Copy, Debug, PartialEq, Eq)]
-pub enum ReachStop {
-    /// A read failed, or the name is missing.
-    ReadFault,
-    NoMemory,
-}
 
 /// A part of a file that is held in memory: its bytes, and the place of the first.
 #[derive(Drop)]
@@ -43,13 +35,13 @@ impl Window {
         name: &str,
         at: u64,
         count: usize,
-    ) -> Result<(), ReachStop>
+    ) -> Result<(), ReadStop>
         requires { at + count ≤ 2 ^ 63 }
         ensures at { OnOk result (IsAt at self.new) }
         ensures shown { StaysShown (C.told files.old) name.now self.old self.new }
         ensures reached { OnOk result (ReachesTold (C.told files.old) name.now self.old self.new at count) }
         ensures there { OnOk result (self.old.bytes.items ≡ [] → 1 ≤ count → ¬ IsMissing (C.told files.old) name.now) }
-        ensures fault { IsErrOf result ReachStop.ReadFault
+        ensures fault { IsErrOf result ReadStop.ReadFault
             → Rose (C.read_faults files.old) (C.read_faults files.new) ⊎ IsMissing (C.told files.old) name.now }
         ensures stays { C.told files.new ≡ C.told files.old }
         ensures later { C.read_faults files.old ≤ C.read_faults files.new }
@@ -102,13 +94,13 @@ impl Window {
     /// Reads on until so many bytes are held, or the file ends. It isn't inlined, so that a call of `reach`
     /// that finds all held stays short.
     #[inline(never)]
-    fn fill<C: Cabinet>(&mut self, files: &mut C, name: &str, count: usize) -> Result<(), ReachStop>
+    fn fill<C: Cabinet>(&mut self, files: &mut C, name: &str, count: usize) -> Result<(), ReadStop>
         requires { self.old.start + count ≤ 2 ^ 63 }
         ensures start { self.new.start ≡ self.old.start }
         ensures shown { StaysShown (C.told files.old) name.now self.old self.new }
         ensures reached { OnOk result (ReachesTold (C.told files.old) name.now self.old self.new self.old.start count) }
         ensures there { OnOk result (length self.old.bytes.items < count → ¬ IsMissing (C.told files.old) name.now) }
-        ensures fault { IsErrOf result ReachStop.ReadFault
+        ensures fault { IsErrOf result ReadStop.ReadFault
             → Rose (C.read_faults files.old) (C.read_faults files.new) ⊎ IsMissing (C.told files.old) name.now }
         ensures stays { C.told files.new ≡ C.told files.old }
         ensures later { C.read_faults files.old ≤ C.read_faults files.new }
@@ -119,11 +111,11 @@ impl Window {
             let at = self.start + held as u64;
             match self.bytes.resize(held + PIECE, 0) {
                 Ok(()) => {}
-                Err(_) => return Err(ReachStop::NoMemory),
+                Err(_) => return Err(ReadStop::NoMemory),
             }
             let Ok(read) = files.read_at(name, at, &mut self.bytes[held..]) else {
                 self.bytes.truncate(held);
-                return Err(ReachStop::ReadFault);
+                return Err(ReadStop::ReadFault);
             };
             self.bytes.truncate(held + read);
             if read == 0 {

@@ -1,11 +1,12 @@
 -- The fields that canonical spellings of values stand for: those of rising numbers, without the ones that are absent.
-use Rattle.std.proofs.Common.{◌≡◌, ◌≢◌, ℕ, ◌+◌, ◌*◌, ◌^◌, ◌<◌, ◌≤◌, Bool, true, false, List, [], ◌∷◌, ◌++◌, length, replicate, refl, sym, ap, subst, ◌∙◌, append_assoc, arith}
+use Rattle.std.proofs.Common.{◌≡◌, ◌≢◌, ℕ, ◌+◌, ◌*◌, ◌^◌, ◌<◌, ◌≤◌, Bool, true, false, List, [], ◌∷◌, ◌++◌, length, replicate, refl, sym, ap, subst, ◌∙◌, arith}
 use Rattle.std.specs.Prelude.{◌==◌, ◌&&◌, nat_lt, if◌then◌else◌, fold, ⊤}
 use Rattle.std.specs.List.{AllByRecursion, list_all, flat_map}
 use Rattle.std.proofs.lemmas.Bool.Decides.{nat_tests}
 use Rattle.std.proofs.lemmas.List.Sums.{fold-append}
-use Rattle.jass_base.specs.Wire.{WireField, WireValue, Number, Eight, Text, Four, IsVarint, IsField, AreFields, Spells, number_in, text_in, eight_in, texts_in, short_varint}
+use Rattle.jass_base.specs.Wire.{WireField, WireValue, Number, Eight, Text, Four, IsVarint, IsField, AreFields, number_in, text_in, eight_in, texts_in, short_varint}
 use Rattle.jass_base.specs.CiffText.{sized, number_spelling, eight_spelling, text_spelling}
+use Rattle.std.proofs.lemmas.Bool.{and_parts}
 use Rattle.ciff_write.proofs.VarintLaws.{short_is_varint}
 
 -- a value that is spelled by nothing
@@ -41,10 +42,6 @@ pub record IsEntry (f : WireField) : Type 0 where
   pub value : CanStand f.value
 
 -- ---- their spelling
-
-pub spells_append : {X : Type 0} (P : List ℕ → X → Type 0) (s t : List ℕ) (xs ys : List X) → Spells P s xs → Spells P t ys → Spells P (s ++ t) (xs ++ ys)
-spells_append P s t [] ys none b = subst (λ (u : List ℕ). Spells P (u ++ t) ys) (sym none) b
-spells_append P s t (x ∷ xs) ys (first, rest, is, one, more) b = (first, rest ++ t, ap (λ (u : List ℕ). u ++ t) is ∙ append_assoc first rest t, one, spells_append P rest t xs ys more b)
 
 absent_nothing : (i : ℕ) (v : WireValue) → is_absent v ≡ true → spelling i v ≡ []
 absent_nothing i (Number n) is = rw is refl
@@ -87,14 +84,10 @@ abbrev pub rises : ℕ → List WireField → Bool
 rises low [] = true
 rises low (f ∷ fs) = nat_lt low f.number && rises f.number fs
 
-both_true : (a b : Bool) → (a && b) ≡ true → (a ≡ true) × (b ≡ true)
-both_true true b is = (refl, is)
-both_true false b is = absurd cc
-
 others_above : (i low : ℕ) (fs : List WireField) → i ≤ low → rises low fs ≡ true → AllByRecursion (λ (f : WireField). f.number ≢ i) fs
 others_above i low [] above is = tt
 others_above i low (f ∷ fs) above is =
-    let parts = both_true (nat_lt low f.number) (rises f.number fs) is in
+    let parts = and_parts (nat_lt low f.number) (rises f.number fs) is in
     let more : low < f.number = grind (arith, nat_tests, parts.0) in
     ((λ same. absurd (omega (arith, same, more, above))), others_above i f.number fs (omega (arith, above, more)) parts.1)
 
@@ -131,7 +124,7 @@ module _ {X : Type 0} (inside : WireValue → X → X) (i : ℕ) where
     kept low (f ∷ fs) rising entries = go (is_absent f.value) (f.number == i) refl refl (λ more. kept f.number fs more entries.1)
       where
         later : rises f.number fs ≡ true
-        later = (both_true (nat_lt low f.number) (rises f.number fs) rising).1
+        later = (and_parts (nat_lt low f.number) (rises f.number fs) rising).1
 
         go : (a b : Bool) → is_absent f.value ≡ a → (f.number == i) ≡ b → (rises f.number fs ≡ true → fold step d (present fs) ≡ fold step d fs) → fold step d (if a then present fs else f ∷ present fs) ≡ fold step (step d f) fs
         go true b is other rest = rest later ∙ ap (λ (x : X). fold step x fs) (sym (step_absent f entries.0.value is))
@@ -151,7 +144,7 @@ module _ {X : Type 0} (inside : WireValue → X → X) (i : ℕ) where
 zeros : (bytes : List ℕ) → list_all (λ b. b == 0) bytes ≡ true → bytes ≡ replicate (length bytes) 0
 zeros [] is = refl
 zeros (b ∷ bs) is =
-    let parts = both_true (b == 0) (list_all (λ b. b == 0) bs) is in
+    let parts = and_parts (b == 0) (list_all (λ b. b == 0) bs) is in
     let none : b ≡ 0 = grind (arith, nat_tests) in
     ap (λ (x : ℕ). x ∷ bs) none ∙ ap (λ (xs : List ℕ). 0 ∷ xs) (zeros bs parts.1)
 

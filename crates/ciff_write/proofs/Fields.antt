@@ -1,5 +1,5 @@
 -- Fields whose tag is one byte.
-use Rattle.std.proofs.Common.{◌≡◌, ◌≢◌, ℕ, suc, ◌+◌, ◌*◌, ◌<◌, ◌≤◌, false, true, List, [], ◌∷◌, ◌++◌, length, map, drop, get_or, refl, sym, ap, ◌∙◌, append_assoc, drop-cons, add-one, length-append, arith}
+use Rattle.std.proofs.Common.{◌≡◌, ◌≢◌, ℕ, suc, ◌+◌, ◌*◌, ◌<◌, ◌≤◌, false, List, [], ◌∷◌, ◌++◌, length, map, drop, get_or, refl, sym, ap, ◌∙◌, append_assoc, drop-cons, add-one, length-append, arith}
 use Rattle.std.specs.Prelude.{◌==◌, nat_le}
 use mir.Val.{bool_byte}
 use Rattle.std.proofs.lemmas.Bool.Decides.{nat_tests}
@@ -13,32 +13,27 @@ use Rattle.jass_base.specs.declared.collection.Collection.{Collection}
 use Rattle.jass_base.specs.Ciff.{HeaderData, ListData, DocData}
 use Rattle.jass_base.specs.CiffViews.{header_data, list_data, doc_data, collection_data}
 use Rattle.jass_base.specs.CiffText.{sized, number_spelling, text_spelling, eight_spelling, postings_spelling, header_body, list_body, doc_body, docs_spelling, canonical_ciff}
-use Rattle.ciff_write.proofs.Varints.{small_varint, few_groups}
+use Rattle.jass_base.proofs.GapGroups.{one_group_written}
+use Rattle.ciff_write.proofs.Varints.{few_groups}
 
 pub number_some : (i n : ℕ) → n ≢ 0 → i < 16 → number_spelling i n ≡ (i * 8) ∷ short_varint n
 number_some i n some small =
     let is : (n == 0) ≡ false = grind (arith, nat_tests) in
-    rw is (ap (λ (tag : List ℕ). tag ++ short_varint n) (small_varint (i * 8) (omega arith)))
+    rw is (ap (λ (tag : List ℕ). tag ++ short_varint n) (one_group_written (i * 8) (omega arith)))
 
 pub text_some : (i : ℕ) (text : List ℕ) → length text ≢ 0 → i < 15 → text_spelling i text ≡ (i * 8 + 2) ∷ sized text
 text_some i text some small =
     let is : (length text == 0) ≡ false = grind (arith, nat_tests) in
-    rw is (ap (λ (tag : List ℕ). tag ++ sized text) (small_varint (i * 8 + 2) (omega arith)))
-
-pub text_none : (i : ℕ) (text : List ℕ) → length text ≡ 0 → text_spelling i text ≡ []
-text_none i text none = rw none refl
+    rw is (ap (λ (tag : List ℕ). tag ++ sized text) (one_group_written (i * 8 + 2) (omega arith)))
 
 -- the bytes of a posting one after the other
 pub posting_put : (old a b : List ℕ) (size : ℕ) → size ≡ length (a ++ b) → size < 128 → (((old ++ 34 ∷ []) ++ size ∷ []) ++ a) ++ b ≡ old ++ (short_varint 34 ++ sized (a ++ b))
 posting_put old a b size is small =
-    let spelled : short_varint (length (a ++ b)) ≡ size ∷ [] = ap short_varint (sym is) ∙ small_varint size small in
-    rw (spelled, small_varint 34 (omega arith)) (simp append_assoc refl)
+    let spelled : short_varint (length (a ++ b)) ≡ size ∷ [] = ap short_varint (sym is) ∙ one_group_written size small in
+    rw (spelled, one_group_written 34 (omega arith)) (simp append_assoc refl)
 
 pub eight_some : (i : ℕ) (bytes : List ℕ) → list_all (λ b. b == 0) bytes ≡ false → i < 15 → eight_spelling i bytes ≡ (i * 8 + 1) ∷ bytes
-eight_some i bytes some small = rw some (ap (λ (tag : List ℕ). tag ++ bytes) (small_varint (i * 8 + 1) (omega arith)))
-
-pub eight_none : (i : ℕ) (bytes : List ℕ) → list_all (λ b. b == 0) bytes ≡ true → eight_spelling i bytes ≡ []
-eight_none i bytes none = rw none refl
+eight_some i bytes some small = rw some (ap (λ (tag : List ℕ). tag ++ bytes) (one_group_written (i * 8 + 1) (omega arith)))
 
 -- pieces that are put one after another
 pub six_put : (old s1 s2 s3 s4 s5 s6 a b c d e f : List ℕ) → s1 ≡ old ++ a → s2 ≡ s1 ++ b → s3 ≡ s2 ++ c → s4 ≡ s3 ++ d → s5 ≡ s4 ++ e → s6 ≡ s5 ++ f → s6 ≡ old ++ (((((a ++ b) ++ c) ++ d) ++ e) ++ f)
@@ -118,11 +113,11 @@ pub posting_spelled : (gap tf : ℕ) (groups : List ℕ) → gap ≢ 0 → tf �
     short_varint 34 ++ sized (number_spelling 1 gap ++ number_spelling 2 tf) ≡ 34 ∷ (3 + length groups) ∷ 8 ∷ (groups ++ 16 ∷ tf ∷ [])
 posting_spelled gap tf groups some often small few is =
     let first : number_spelling 1 gap ≡ 8 ∷ groups = number_some 1 gap some (omega arith) ∙ ap (λ (s : List ℕ). 8 ∷ s) is in
-    let second : number_spelling 2 tf ≡ 16 ∷ tf ∷ [] = number_some 2 tf often (omega arith) ∙ ap (λ (s : List ℕ). 16 ∷ s) (small_varint tf small) in
+    let second : number_spelling 2 tf ≡ 16 ∷ tf ∷ [] = number_some 2 tf often (omega arith) ∙ ap (λ (s : List ℕ). 16 ∷ s) (one_group_written tf small) in
     let body : number_spelling 1 gap ++ number_spelling 2 tf ≡ 8 ∷ (groups ++ 16 ∷ tf ∷ []) = ap (λ (s : List ℕ). s ++ number_spelling 2 tf) first ∙ ap (λ (s : List ℕ). 8 ∷ (groups ++ s)) second in
     let size : length (8 ∷ (groups ++ 16 ∷ tf ∷ [])) ≡ 3 + length groups = omega (arith, length-append groups (16 ∷ tf ∷ [])) in
-    let head : short_varint (length (8 ∷ (groups ++ 16 ∷ tf ∷ []))) ≡ (3 + length groups) ∷ [] = ap short_varint size ∙ small_varint (3 + length groups) (omega (arith, few)) in
-    ap (λ (s : List ℕ). s ++ sized (number_spelling 1 gap ++ number_spelling 2 tf)) (small_varint 34 (omega arith))
+    let head : short_varint (length (8 ∷ (groups ++ 16 ∷ tf ∷ []))) ≡ (3 + length groups) ∷ [] = ap short_varint size ∙ one_group_written (3 + length groups) (omega (arith, few)) in
+    ap (λ (s : List ℕ). s ++ sized (number_spelling 1 gap ++ number_spelling 2 tf)) (one_group_written 34 (omega arith))
     ∙ ap (λ (s : List ℕ). 34 ∷ sized s) body
     ∙ ap (λ (s : List ℕ). 34 ∷ (s ++ 8 ∷ (groups ++ 16 ∷ tf ∷ []))) head
 
@@ -130,5 +125,5 @@ posting_spelled gap tf groups some often small few is =
 pub posting_long : (gap tf a b : ℕ) → gap ≢ 0 → gap < 2097152 → tf ≢ 0 → tf < 128 → a ≡ bool_byte (nat_le 128 gap) → b ≡ bool_byte (nat_le 16384 gap) → 4 + a + b ≡ length (number_spelling 1 gap ++ number_spelling 2 tf)
 posting_long gap tf a b some short often small p q =
     let first : length (number_spelling 1 gap) ≡ suc (length (short_varint gap)) = ap length (number_some 1 gap some (omega arith)) in
-    let second : length (number_spelling 2 tf) ≡ 2 = ap length (number_some 2 tf often (omega arith)) ∙ ap (λ (s : List ℕ). suc (length s)) (small_varint tf small) in
+    let second : length (number_spelling 2 tf) ≡ 2 = ap length (number_some 2 tf often (omega arith)) ∙ ap (λ (s : List ℕ). suc (length s)) (one_group_written tf small) in
     omega (arith, p, q, first, second, few_groups gap short, length-append (number_spelling 1 gap) (number_spelling 2 tf))

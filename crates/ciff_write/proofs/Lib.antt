@@ -1,5 +1,4 @@
 pub mod Collections
-pub mod Compose
 pub mod FieldLaws
 pub mod Fields
 pub mod FileLaws

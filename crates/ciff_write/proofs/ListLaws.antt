@@ -10,8 +10,9 @@ use Rattle.jass_base.specs.Postings.{docs_of, HasTfInRange}
 use Rattle.jass_base.specs.Wire.{WireField, Number, Text, AreFields, number_in, text_in, texts_in, number_field, texts_field, short_varint}
 use Rattle.jass_base.specs.Ciff.{ListData, IsPosting, ArePostings, IsList, FitsList}
 use Rattle.jass_base.specs.CiffText.{sized, number_spelling, text_spelling, posting_body, postings_spelling, list_body}
+use Rattle.ciff_read.proofs.FileLaws.{spells-append}
 use Rattle.ciff_write.proofs.VarintLaws.{short_is_varint, varint_few}
-use Rattle.ciff_write.proofs.FieldLaws.{IsEntry, present, field_spelling, spells_append, table_spelled, kept, kept_before, present_all, texts_skipped, absent_number, absent_text}
+use Rattle.ciff_write.proofs.FieldLaws.{IsEntry, present, field_spelling, table_spelled, kept, kept_before, present_all, texts_skipped, absent_number, absent_text}
 use Rattle.ciff_write.proofs.MessageLaws.{field, entry}
 
 -- ---- a posting
@@ -117,7 +118,7 @@ list_stands docs l few fits =
     = flat_map-append (λ (f : WireField). if f.number == 4 then texts_in f.value else []) (present table) later ∙ ap (λ (bs : List (List ℕ)). bs ++ texts_field 4 later) (texts_skipped 4 (present table) none) ∙ texts_there bodies in
     record {
       fields = present table ++ later;
-      spelled = subst (λ (s : List ℕ). AreFields s (present table ++ later)) flat (spells_append _ (flat_map field_spelling table) (postings_spelling 0 l.postings) (present table) later (table_spelled table entries) (fields_spelled 0 l.postings));
+      spelled = subst (λ (s : List ℕ). AreFields s (present table ++ later)) flat (spells-append _ (flat_map field_spelling table) (postings_spelling 0 l.postings) (present table) later (table_spelled table entries) (fields_spelled 0 l.postings));
       term = sym (kept_before text_in 1 [] absent_text 0 table later refl entries (fields_numbered 1 (λ same. absurd (omega (arith, same))) bodies));
       df = sym (kept_before number_in 2 0 absent_number 0 table later refl entries (fields_numbered 2 (λ same. absurd (omega (arith, same))) bodies));
       cf = sym (kept_before number_in 3 0 absent_number 0 table later refl entries (fields_numbered 3 (λ same. absurd (omega (arith, same))) bodies));

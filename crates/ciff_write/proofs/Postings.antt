@@ -1,5 +1,5 @@
 -- The postings of a list from a place on.
-use Rattle.std.proofs.Common.{◌≡◌, ℕ, zero, suc, ◌+◌, ◌<◌, ◌≤◌, ◌^◌, List, [], ◌∷◌, ◌++◌, length, drop, get_or, sym, ap, subst, ◌∙◌, drop-cons, add-one, length-append, arith}
+use Rattle.std.proofs.Common.{◌≡◌, ℕ, ◌+◌, ◌<◌, ◌≤◌, ◌^◌, List, ◌++◌, length, drop, get_or, sym, ap, ◌∙◌, drop-cons, add-one, length-append, arith}
 use Rattle.std.specs.List.Sorted.{IsStrictlyIncreasing}
 use Rattle.std.specs.Prelude.{All}
 use Rattle.std.proofs.lemmas.List.{length-map, get_or-map}
@@ -9,7 +9,8 @@ use Rattle.jass_base.specs.Lists.{HasDocsBelow}
 use Rattle.jass_base.specs.Postings.{docs_of}
 use Rattle.jass_base.specs.Wire.{short_varint}
 use Rattle.jass_base.specs.CiffText.{sized, posting_body, postings_spelling}
-use Rattle.ciff_write.proofs.Varints.{small_varint}
+use Rattle.shared_lemmas.proofs.Rising.{few_below}
+use Rattle.jass_base.proofs.GapGroups.{one_group_written}
 
 -- the posting at a place, and those behind it
 pub postings_next : (last : ℕ) (ps : List Posting) (i : ℕ) (d : Posting) → i < length ps → postings_spelling last (drop i ps) ≡ (short_varint 34 ++ sized (posting_body last (get_or ps i d))) ++ postings_spelling (get_or ps i d).doc (drop (i + 1) ps)
@@ -22,8 +23,8 @@ postings_size last ps i d size inside is small =
     let p : Posting = get_or ps i d in
     let rest : List ℕ = postings_spelling p.doc (drop (i + 1) ps) in
     let whole : length (postings_spelling last (drop i ps)) ≡ length ((short_varint 34 ++ sized (posting_body last p)) ++ rest) = ap length (postings_next last ps i d inside) in
-    let tag : length (short_varint 34) ≡ 1 = ap length (small_varint 34 (omega arith)) in
-    let head : length (short_varint (length (posting_body last p))) ≡ 1 = ap (λ (n : ℕ). length (short_varint n)) (sym is) ∙ ap length (small_varint size small) in
+    let tag : length (short_varint 34) ≡ 1 = ap length (one_group_written 34 (omega arith)) in
+    let head : length (short_varint (length (posting_body last p))) ≡ 1 = ap (λ (n : ℕ). length (short_varint n)) (sym is) ∙ ap length (one_group_written size small) in
     omega (arith, whole, tag, head, is, length-append (short_varint 34 ++ sized (posting_body last p)) rest, length-append (short_varint 34) (sized (posting_body last p)), length-append (short_varint (length (posting_body last p))) (posting_body last p))
 
 -- the document of a posting is not above that of the next one
@@ -33,19 +34,8 @@ doc_is ps i d inside = get_or-map (λ (p : Posting). p.doc) ps i d 0 inside
 pub next_above : (ps : List Posting) (i : ℕ) (d : Posting) → IsStrictlyIncreasing (docs_of ps) → i < length ps → i + 1 < length ps → (get_or ps i d).doc ≤ get_or (docs_of ps) (i + 1) 0
 next_above ps i d rising here inside = omega (arith, doc_is ps i d here, rising i (omega (arith, length-map ps (λ (p : Posting). p.doc))))
 
--- documents that rise are at least as great as their places
-place_below : (docs : List ℕ) (k : ℕ) → IsStrictlyIncreasing docs → k < length docs → k ≤ get_or docs k 0
-place_below docs zero rising inside = omega arith
-place_below docs (suc k) rising inside =
-    let before : (j : ℕ) → suc j < length docs → get_or docs j 0 < get_or docs (suc j) 0 = λ j more. subst (λ (n : ℕ). get_or docs j 0 < get_or docs n 0) (add-one j) (rising j (omega (arith, more))) in
-    omega (arith, place_below docs k rising (omega arith), before k (omega arith))
-
-pub few_docs : (docs : List ℕ) (n : ℕ) → IsStrictlyIncreasing docs → All (λ doc. doc < n) docs → length docs ≤ n
-few_docs [] n rising below = omega arith
-few_docs (x ∷ xs) n rising below = omega (arith, place_below (x ∷ xs) (length xs) rising (omega arith), below (length xs) 0 (omega arith))
-
 pub few_postings : (docs : ℕ) (lists : List PostingsList) → docs ≤ 2 ^ 26 → All (HasDocsBelow docs) lists → All (λ (l : PostingsList). length l.postings ≤ 2 ^ 26) lists
 few_postings docs lists small below k d inside =
     let l : PostingsList = get_or lists k d in
-    let few : length (docs_of l.postings) ≤ docs = few_docs (docs_of l.postings) docs l.rising (below k d inside) in
+    let few : length (docs_of l.postings) ≤ docs = few_below (docs_of l.postings) docs l.rising (below k d inside) in
     omega (arith, few, small, length-map l.postings (λ (p : Posting). p.doc))

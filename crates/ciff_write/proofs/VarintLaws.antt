@@ -1,17 +1,11 @@
 -- The shortest varint of a number is a varint of it, and no other one begins like it.
 use Rattle.std.proofs.Common.{◌≡◌, ℕ, zero, suc, ◌+◌, ◌^◌, ◌%◌, ◌/◌, ◌<◌, ◌≤◌, Bool, true, false, List, [], ◌∷◌, ◌++◌, length, take, drop, refl, sym, ap, subst, ◌∙◌, append_assoc, arith}
 use Rattle.std.specs.Prelude.{nat_lt}
-use Rattle.std.proofs.lemmas.Bool.Decides.{nat_tests}
 use Rattle.std.proofs.lemmas.List.{take_at, drop_at}
 use Rattle.jass_base.specs.Wire.{groups_value, AreGroups, IsVarint, short_varint_within, short_varint}
 use Rattle.jass_base.specs.CiffText.{sized}
+use Rattle.std.proofs.lemmas.Bool.{ltb-true, ltb-false}
 use Rattle.ciff_write.proofs.Varints.{Fits, fits_less, last_group, more_groups}
-
-below : (n m : ℕ) → nat_lt n m ≡ true → n < m
-below n m is = grind (arith, nat_tests)
-
-not_below : (n m : ℕ) → nat_lt n m ≡ false → m ≤ n
-not_below n m is = grind (arith, nat_tests)
 
 -- groups of a number, at most so many
 record Groups (most n : ℕ) (s : List ℕ) : Type 0 where
@@ -33,10 +27,10 @@ groups_within (suc k) n fits = go (nat_lt n 128) refl (λ smaller. groups_within
   where
     go : (b : Bool) → nat_lt n 128 ≡ b → (Fits k (n / 128) → Groups (suc k) (n / 128) (short_varint_within k (n / 128))) → Groups (suc (suc k)) n (short_varint_within (suc k) n)
     go true is more =
-        let small : n < 128 = below n 128 is in
+        let small : n < 128 = ltb-true n 128 is in
         subst (Groups (suc (suc k)) n) (sym (last_group (suc k) n small)) (record { groups = small; value = omega (arith, small); short = omega arith })
     go false is more =
-        let large : 128 ≤ n = not_below n 128 is in
+        let large : 128 ≤ n = ltb-false n 128 is in
         let later : Groups (suc k) (n / 128) (short_varint_within k (n / 128)) = more (fits_less k n fits) in
         subst (Groups (suc (suc k)) n) (sym (more_groups k n large)) (record {
           groups = groups_more (n % 128 + 128) (short_varint_within k (n / 128)) (omega arith) later.groups;
@@ -55,8 +49,8 @@ few_within zero n = omega arith
 few_within (suc k) n = go (nat_lt n 128) refl (few_within k (n / 128))
   where
     go : (b : Bool) → nat_lt n 128 ≡ b → length (short_varint_within k (n / 128)) ≤ suc k → length (short_varint_within (suc k) n) ≤ suc (suc k)
-    go true is more = let all : length (short_varint_within (suc k) n) ≡ 1 = ap length (last_group (suc k) n (below n 128 is)) in omega (arith, all)
-    go false is more = let all : length (short_varint_within (suc k) n) ≡ suc (length (short_varint_within k (n / 128))) = ap length (more_groups k n (not_below n 128 is)) in omega (arith, all, more)
+    go true is more = let all : length (short_varint_within (suc k) n) ≡ 1 = ap length (last_group (suc k) n (ltb-true n 128 is)) in omega (arith, all)
+    go false is more = let all : length (short_varint_within (suc k) n) ≡ suc (length (short_varint_within k (n / 128))) = ap length (more_groups k n (ltb-false n 128 is)) in omega (arith, all, more)
 
 pub varint_few : (n : ℕ) → length (short_varint n) ≤ 10
 unfolding short_varint
@@ -75,15 +69,15 @@ same_within zero m n r s is = (same_head m n r s is, same_tail m n r s is)
 same_within (suc k) m n r s is = go (nat_lt m 128) (nat_lt n 128) refl refl (λ e. same_within k (m / 128) (n / 128) r s e)
   where
     low : (x : ℕ) (t : List ℕ) → nat_lt x 128 ≡ true → short_varint_within (suc k) x ++ t ≡ x ∷ t
-    low x t small = ap (λ (u : List ℕ). u ++ t) (last_group (suc k) x (below x 128 small))
+    low x t small = ap (λ (u : List ℕ). u ++ t) (last_group (suc k) x (ltb-true x 128 small))
 
     high : (x : ℕ) (t : List ℕ) → nat_lt x 128 ≡ false → short_varint_within (suc k) x ++ t ≡ (x % 128 + 128) ∷ (short_varint_within k (x / 128) ++ t)
-    high x t large = ap (λ (u : List ℕ). u ++ t) (more_groups k x (not_below x 128 large))
+    high x t large = ap (λ (u : List ℕ). u ++ t) (more_groups k x (ltb-false x 128 large))
 
     go : (a b : Bool) → nat_lt m 128 ≡ a → nat_lt n 128 ≡ b → (short_varint_within k (m / 128) ++ r ≡ short_varint_within k (n / 128) ++ s → (m / 128 ≡ n / 128) × (r ≡ s)) → (m ≡ n) × (r ≡ s)
     go true true p q more = let e : m ∷ r ≡ n ∷ s = sym (low m r p) ∙ is ∙ low n s q in (same_head m n r s e, same_tail m n r s e)
-    go true false p q more = let e = same_head m (n % 128 + 128) r (short_varint_within k (n / 128) ++ s) (sym (low m r p) ∙ is ∙ high n s q) in absurd (omega (arith, e, below m 128 p))
-    go false true p q more = let e = same_head (m % 128 + 128) n (short_varint_within k (m / 128) ++ r) s (sym (high m r p) ∙ is ∙ low n s q) in absurd (omega (arith, e, below n 128 q))
+    go true false p q more = let e = same_head m (n % 128 + 128) r (short_varint_within k (n / 128) ++ s) (sym (low m r p) ∙ is ∙ high n s q) in absurd (omega (arith, e, ltb-true m 128 p))
+    go false true p q more = let e = same_head (m % 128 + 128) n (short_varint_within k (m / 128) ++ r) s (sym (high m r p) ∙ is ∙ low n s q) in absurd (omega (arith, e, ltb-true n 128 q))
     go false false p q more =
         let e = sym (high m r p) ∙ is ∙ high n s q in
         let head = same_head (m % 128 + 128) (n % 128 + 128) (short_varint_within k (m / 128) ++ r) (short_varint_within k (n / 128) ++ s) e in

@@ -5,6 +5,8 @@ use mir.Val.{bool_byte}
 use Rattle.std.proofs.lemmas.Bool.Decides.{nat_tests}
 use Rattle.std.proofs.Math.Nat.{pow-suc}
 use Rattle.jass_base.specs.Wire.{short_varint_within, short_varint}
+use Rattle.jass_base.proofs.GapGroups.{one_group_written}
+use Rattle.std.proofs.lemmas.Bool.{leb-false, leb-true}
 
 -- a number below the greatest that k groups behind the first may hold
 abbrev pub Fits : ℕ → ℕ → Type 0
@@ -40,9 +42,6 @@ spelled_more start now value left large (suc k, fits, size, is) = (
 pub spelled_all : (start now : List ℕ) (value left : ℕ) → left < 128 → Spelled start now value left → now ++ left ∷ [] ≡ start ++ short_varint value
 spelled_all start now value left small (k, fits, size, is) = ap (λ (s : List ℕ). now ++ s) (sym (last_group k left small)) ∙ is
 
-pub spelled_room : (start now : List ℕ) (value left room : ℕ) → length start + 10 ≤ room → Spelled start now value left → length now < room
-spelled_room start now value left room fits (k, few, size, is) = omega (arith, size, fits)
-
 -- so many groups, and those of what is left, are as many as the varint of the value has
 abbrev pub Counted : ℕ → ℕ → ℕ → Type 0
 Counted len value left = (k : ℕ) × Fits k left × (len + k ≡ 10) × (len + length (short_varint_within k left) ≡ 1 + length (short_varint value))
@@ -62,13 +61,6 @@ counted_all len value left small (k, fits, size, is) =
     let one : length (short_varint_within k left) ≡ 1 = ap length (last_group k left small) in
     omega (arith, is, one)
 
-pub counted_few : (len value left : ℕ) → Counted len value left → len ≤ 10
-counted_few len value left (k, fits, size, is) = omega (arith, size)
-
-pub small_varint : (n : ℕ) → n < 128 → short_varint n ≡ n ∷ []
-unfolding short_varint
-small_varint n small = last_group 9 n small
-
 pub two_groups : (n : ℕ) → 128 ≤ n → n < 16384 → short_varint n ≡ (n % 128 + 128) ∷ n / 128 ∷ []
 unfolding short_varint
 two_groups n large small = more_groups 8 n large ∙ ap (λ (s : List ℕ). (n % 128 + 128) ∷ s) (last_group 8 (n / 128) (omega (arith, small)))
@@ -79,18 +71,12 @@ three_groups n large small =
     let rest : n / 128 / 128 ≡ n / 16384 = omega arith in
     more_groups 8 n (omega (arith, large)) ∙ ap (λ (s : List ℕ). (n % 128 + 128) ∷ s) (more_groups 7 (n / 128) (omega (arith, large)) ∙ ap (λ (s : List ℕ). (n / 128 % 128 + 128) ∷ s) (last_group 7 (n / 128 / 128) (omega (arith, small)) ∙ ap (λ (x : ℕ). x ∷ []) rest))
 
-not_within : (bound n : ℕ) → nat_le bound n ≡ false → n < bound
-not_within bound n is = grind (arith, nat_tests)
-
-within : (bound n : ℕ) → nat_le bound n ≡ true → bound ≤ n
-within bound n is = grind (arith, nat_tests)
-
 -- one group more for each bound that a number below 2^21 reaches
 pub few_groups : (n : ℕ) → n < 2097152 → length (short_varint n) ≡ 1 + (bool_byte (nat_le 128 n) + bool_byte (nat_le 16384 n))
 few_groups n small = go (nat_le 128 n) (nat_le 16384 n) refl refl
   where
     go : (a b : Bool) → nat_le 128 n ≡ a → nat_le 16384 n ≡ b → length (short_varint n) ≡ 1 + (bool_byte a + bool_byte b)
-    go false false p q = ap length (small_varint n (not_within 128 n p))
-    go true false p q = ap length (two_groups n (within 128 n p) (not_within 16384 n q))
-    go true true p q = ap length (three_groups n (within 16384 n q) small)
-    go false true p q = absurd (omega (arith, not_within 128 n p, within 16384 n q))
+    go false false p q = ap length (one_group_written n (leb-false 128 n p))
+    go true false p q = ap length (two_groups n (leb-true 128 n p) (leb-false 16384 n q))
+    go true true p q = ap length (three_groups n (leb-true 16384 n q) small)
+    go false true p q = absurd (omega (arith, leb-false 128 n p, leb-true 16384 n q))

@@ -2,13 +2,12 @@ ghost use Rattle.std.specs.Prelude.{[]};
 ghost use Rattle.jass_base.specs.Outside.{Wrote};
 ghost use Rattle.jass_base.specs.CiffText.{canonical_ciff};
 ghost use Rattle.jass_base.specs.CiffViews.{collection_data};
-ghost use Rattle.ciff_write.specs.Gathering.{Gathers};
+ghost use Rattle.gathered_text.specs.Gathering.{Gathers};
 
-use crate::buffer::Buffer;
 use crate::document::put_docs;
-use crate::gather::flush;
 use crate::header::put_header;
 use crate::postings_list::put_lists;
+use gathered_text::{Buffer, flush};
 use jass_base::{Collection, Sink, WriteFault};
 
 /// Puts the canonical CIFF file of a collection on the sink. After a WriteFault, which comes

@@ -1,11 +1,11 @@
 ghost use Rattle.std.specs.Prelude.{◌≡◌, ◌≤◌, ◌^◌, ◌++◌, length, map};
 ghost use Rattle.jass_base.specs.CiffText.{sized, doc_body, docs_spelling};
 ghost use Rattle.jass_base.specs.CiffViews.{doc_data};
-ghost use Rattle.ciff_write.specs.Gathering.{Gathers};
+ghost use Rattle.gathered_text.specs.Gathering.{Gathers};
 
-use crate::buffer::Buffer;
 use crate::gather::{put_number, put_size, put_text};
 use crate::lengths::{number_len, text_len};
+use gathered_text::Buffer;
 use jass_base::{DocRecord, Sink, WriteFault};
 
 const NUMBER: u8 = 1;

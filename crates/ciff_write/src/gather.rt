@@ -1,61 +1,11 @@
-ghost use Rattle.std.specs.Prelude.{◌≡◌, ◌+◌, ◌*◌, ◌≤◌, ◌<◌, [], ◌∷◌, ◌++◌, length, IfOk};
-ghost use Rattle.jass_base.specs.Outside.{Wrote};
+ghost use Rattle.std.specs.Prelude.{◌+◌, ◌*◌, ◌<◌, ◌∷◌};
 ghost use Rattle.jass_base.specs.Wire.{short_varint};
 ghost use Rattle.jass_base.specs.CiffText.{number_spelling, text_spelling};
-ghost use Rattle.ciff_write.specs.Gathering.{Gathers};
+ghost use Rattle.gathered_text.specs.Gathering.{Gathers};
 
-use crate::buffer::{Buffer, ROOM};
 use crate::spelling::{NUMBER_ROOM, VARINT_ROOM, push_number, push_varint};
+use gathered_text::{Buffer, make_room, put_bytes};
 use jass_base::{Sink, WriteFault};
-
-/// Puts bytes on the sink.
-fn put<S: Sink>(out: &mut S, bytes: &[u8]) -> Result<(), WriteFault>
-    ensures { Wrote S.written S.faults S.rest out.old out.new bytes.now result }
-{
-    match out.put(bytes) {
-        Ok(()) => Ok(()),
-        Err(_) => Err(WriteFault),
-    }
-}
-
-/// Puts what was gathered on the sink.
-pub fn flush<S: Sink>(out: &mut S, buffer: &mut Buffer) -> Result<(), WriteFault>
-    ensures text { Wrote S.written S.faults S.rest out.old out.new buffer.old result }
-    ensures empty { IfOk result (λ _. buffer.new ≡ []) }
-    ensures kept { Gathers S.written S.faults S.rest out.old out.new buffer.old buffer.new [] result }
-{
-    put(out, buffer.as_slice())?;
-    buffer.clear();
-    Ok(())
-}
-
-/// Makes room for so many bytes: what was gathered goes to the sink where there is too little.
-#[inline(always)]
-pub fn make_room<S: Sink>(out: &mut S, buffer: &mut Buffer, count: usize) -> Result<(), WriteFault>
-    requires { count ≤ 65536 }
-    ensures text { Gathers S.written S.faults S.rest out.old out.new buffer.old buffer.new [] result }
-    ensures room { IfOk result (λ _. length buffer.new + count ≤ 65536) }
-{
-    if count <= buffer.room() {
-        return Ok(());
-    }
-    flush(out, buffer)?;
-    Ok(())
-}
-
-/// Puts bytes behind what was gathered. Those for which the buffer has no room go to the
-/// sink at once.
-pub fn put_bytes<S: Sink>(out: &mut S, buffer: &mut Buffer, bytes: &[u8]) -> Result<(), WriteFault>
-    ensures { Gathers S.written S.faults S.rest out.old out.new buffer.old buffer.new bytes.now result }
-{
-    if bytes.len() <= ROOM {
-        make_room(out, buffer, bytes.len())?;
-        buffer.push(bytes);
-        return Ok(());
-    }
-    flush(out, buffer)?;
-    put(out, bytes)
-}
 
 /// Puts the length of a message.
 pub fn put_size<S: Sink>(out: &mut S, buffer: &mut Buffer, size: u64) -> Result<(), WriteFault>

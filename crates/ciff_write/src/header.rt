@@ -2,12 +2,12 @@ ghost use Rattle.std.specs.Prelude.{◌≡◌, ◌+◌, ◌≤◌, ◌==◌, ◌
 ghost use Rattle.std.specs.List.{list_all};
 ghost use Rattle.jass_base.specs.CiffText.{sized, number_spelling, eight_spelling, header_body};
 ghost use Rattle.jass_base.specs.CiffViews.{header_data};
-ghost use Rattle.ciff_write.specs.Gathering.{Gathers};
+ghost use Rattle.gathered_text.specs.Gathering.{Gathers};
 
-use crate::buffer::Buffer;
-use crate::gather::{make_room, put_size, put_text};
+use crate::gather::{put_size, put_text};
 use crate::lengths::{number_len, text_len};
 use crate::spelling::push_number;
+use gathered_text::{Buffer, make_room};
 use jass_base::{Header, Sink, WriteFault};
 
 const VERSION: u8 = 1;

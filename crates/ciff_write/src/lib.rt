@@ -2,9 +2,8 @@
 
 //! A collection is written as a CIFF file, in the one canonical spelling. Nothing here takes
 //! memory: the length of a message is computed before its bytes are put, and small pieces
-//! are gathered in a fixed buffer, since each put on a sink is a system call in the end.
+//! are gathered in a fixed buffer.
 
-mod buffer;
 mod collection;
 mod document;
 mod gather;

@@ -5,12 +5,12 @@ ghost use Rattle.jass_base.specs.Wire.{short_varint};
 ghost use Rattle.jass_base.specs.CiffText.{sized, number_spelling, postings_spelling, list_body};
 ghost use Rattle.jass_base.specs.CiffViews.{list_data};
 ghost use Rattle.jass_base.specs.declared.postings_list.PostingsList.{PostingsList};
-ghost use Rattle.ciff_write.specs.Gathering.{Gathers};
+ghost use Rattle.gathered_text.specs.Gathering.{Gathers};
 
-use crate::buffer::Buffer;
-use crate::gather::{make_room, put_number, put_size, put_text};
+use crate::gather::{put_number, put_size, put_text};
 use crate::lengths::{number_len, postings_len, text_len};
 use crate::spelling::{POSTING_ROOM, push_posting};
+use gathered_text::{Buffer, make_room};
 use jass_base::{Posting, PostingsList, Sink, WriteFault};
 
 const TERM: u8 = 1;

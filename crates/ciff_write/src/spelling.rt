@@ -4,8 +4,8 @@ ghost use Rattle.std.specs.Prelude.{◌≡◌, ◌+◌, ◌*◌, ◌≤◌, ◌<
 ghost use Rattle.jass_base.specs.Wire.{short_varint};
 ghost use Rattle.jass_base.specs.CiffText.{sized, number_spelling};
 
-use crate::buffer::Buffer;
 use crate::lengths::any_posting_len;
+use gathered_text::Buffer;
 
 /// The most bytes of a varint.
 pub const VARINT_ROOM: usize = 10;

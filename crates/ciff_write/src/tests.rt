@@ -1,11 +1,11 @@
 // Files of one term and three documents that are read and written again, a sink that fails,
 // and postings at the ends of the ranges that are spelled in a way of their own.
 
-use crate::buffer::Buffer;
 use crate::lengths::posting_len;
 use crate::spelling::push_posting;
 use crate::write_collection;
 use ciff_read::read_collection;
+use gathered_text::Buffer;
 use jass_base::{MemSink, Row};
 use std::alloc::Global;
 

@@ -5,7 +5,7 @@ use Rattle.jass_base.specs.Gaps.{gaps_from, spelled_gaps}
 use Rattle.lane_kernels.specs.Width.{least_width}
 use Rattle.codec_packed.specs.Giving.{AreFrom}
 use Rattle.codec_packed.specs.Packing.{packed_block, packed_gaps}
-use Rattle.codec_packed.specs.Steps.{BlockLaws}
+use Rattle.codec_packed.specs.Private.Steps.{BlockLaws}
 use Rattle.codec_packed.proofs.Docs.{behind, below_from, take_gaps, drop_gaps, take_from, drop_from}
 use Rattle.codec_packed.proofs.Turns.{spelled_size}
 

@@ -1,5 +1,5 @@
 -- A block that is read is the block of its gaps, and each block is read.
-use Rattle.std.proofs.Common.{◌≡◌, ℕ, suc, ◌+◌, ◌*◌, ◌^◌, ◌<◌, ◌≤◌, Bool, true, false, cond, List, [], ◌∷◌, ◌++◌, length, take, drop, All, Result, Ok, Err, refl, sym, ap, ◌∙◌, ◌⊎◌, inl, inr, eqb-true, arith, subst}
+use Rattle.std.proofs.Common.{◌≡◌, ℕ, suc, ◌+◌, ◌*◌, ◌^◌, ◌<◌, ◌≤◌, Bool, true, false, cond, List, [], ◌∷◌, ◌++◌, length, take, drop, All, Result, Ok, Err, refl, sym, ap, ◌∙◌, eqb-true, arith, subst}
 use Rattle.std.specs.Prelude.{nat_lt, ◌==◌}
 use Rattle.std.proofs.lemmas.Bool.{le-ltb, ltb-false}
 use Rattle.std.proofs.lemmas.List.{get_or-take, get_or-drop, length-drop, length-take, length-append, length-take-le, take-append-drop, take_at}
@@ -9,7 +9,7 @@ use Rattle.jass_base.specs.declared.payload_fault.PayloadFault.TheVariants.{Cut,
 use Rattle.lane_kernels.specs.Block.{block_bytes, block_values}
 use Rattle.lane_kernels.specs.Width.{least_width}
 use Rattle.codec_packed.specs.Packing.{packed_block}
-use Rattle.codec_packed.specs.Steps.{BlockLaws}
+use Rattle.codec_packed.specs.Private.Steps.{BlockLaws}
 use Rattle.codec_packed.specs.Reading.{PackedBlock, block_at_width, block_in}
 
 -- the answer that a block was read
@@ -34,10 +34,6 @@ block_of gaps size = record { gaps = gaps; size = size }
 
 same_block : (gaps more : List ℕ) (size other : ℕ) → read_as gaps size ≡ read_as more other → block_of gaps size ≡ block_of more other
 same_block gaps more size other is = cc
-
-by_test : {A : Type 0} (b : Bool) (x y r : A) → cond b x y ≡ r → ((b ≡ true) × (x ≡ r)) ⊎ ((b ≡ false) × (y ≡ r))
-by_test true x y r is = inl (refl, is)
-by_test false x y r is = inr (refl, is)
 
 -- what an answer that isn't a fault says of the tests before it
 unless : (b : Bool) (fault : PayloadFault) (other : Result PackedBlock PayloadFault) (gaps : List ℕ) (size : ℕ) → cond b (Err fault) other ≡ read_as gaps size → (b ≡ false) × (other ≡ read_as gaps size)

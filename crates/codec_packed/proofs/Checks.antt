@@ -9,7 +9,7 @@ use Rattle.jass_base.specs.Gaps.{◌>>=◌, GapSpelling, Judges, docs_from, gap_
 use Rattle.jass_base.specs.declared.payload_fault.PayloadFault.{PayloadFault}
 use Rattle.jass_base.specs.declared.payload_fault.PayloadFault.TheVariants.{Longer, DocRange}
 use Rattle.codec_packed.specs.Reading.{block_in, read_blocks}
-use Rattle.codec_packed.specs.Steps.{ChecksBlock, verdict}
+use Rattle.codec_packed.specs.Private.Steps.{ChecksBlock, verdict}
 use Rattle.codec_packed.proofs.Blocks.{read_as}
 use Rattle.codec_packed.proofs.Docs.{behind_gaps, behind_le, gaps_fit, gaps_tested, tests_from}
 

@@ -12,7 +12,7 @@ use Rattle.lane_kernels.specs.Width.{least_width}
 use Rattle.codec_packed.specs.declared.cursor.Cursor.{Cursor}
 use Rattle.codec_packed.specs.Giving.{AreFrom, Gives}
 use Rattle.codec_packed.specs.Packing.{packed_block, packed_gaps}
-use Rattle.codec_packed.specs.Steps.{BlockLaws}
+use Rattle.codec_packed.specs.Private.Steps.{BlockLaws}
 use Rattle.codec_packed.proofs.Checks.{gap_as}
 use Rattle.codec_packed.proofs.Docs.{behind, behind_gaps, behind_le_some, docs_of_gaps, running_docs, take_gaps, drop_gaps, take_from, drop_from, small_gaps}
 use Rattle.codec_packed.proofs.BlockTurns.{behind_last, narrow}

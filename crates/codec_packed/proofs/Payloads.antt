@@ -10,7 +10,7 @@ use Rattle.jass_base.specs.declared.payload_fault.PayloadFault.TheVariants.{DocR
 use Rattle.lane_kernels.specs.Width.{least_width}
 use Rattle.codec_packed.specs.Giving.{AreFrom}
 use Rattle.codec_packed.specs.Packing.{packed_block, packed_gaps, packed_of}
-use Rattle.codec_packed.specs.Steps.{BlockLaws, TailLaws}
+use Rattle.codec_packed.specs.Private.Steps.{BlockLaws, TailLaws}
 use Rattle.codec_packed.specs.Reading.{PackedBlock, block_in, read_blocks, read_packed}
 use Rattle.codec_packed.proofs.Docs.{behind, from_docs, docs_from_all, docs_of_gaps, behind_gaps, take_gaps, drop_gaps, take_from, drop_from, append_from, append_gaps, small_gaps, tests_from, gaps_tested}
 use Rattle.codec_packed.proofs.Blocks.{block_again, StandsBlock, block_stands, all_rest}
@@ -28,9 +28,6 @@ behind_block d least blocks rest bytes block =
     cond (list_all (λ doc. nat_lt doc d) (docs_from least block.gaps))
     (front_of (docs_from least block.gaps) (read_blocks d (least + sum block.gaps + 128) blocks rest (drop block.size bytes)))
     (Err DocRange)
-
-abbrev block_of : List ℕ → ℕ → PackedBlock
-block_of gaps size = record { gaps = gaps; size = size }
 
 module _ (laws : BlockLaws) (tail : TailLaws) where
   pub blocks_again : (blocks d least rest : ℕ) (docs : List ℕ) → d ≤ 2 ^ 26 → AreFrom d least docs → length docs ≡ 128 * blocks + rest

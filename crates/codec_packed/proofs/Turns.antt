@@ -49,18 +49,6 @@ front_kept front bytes more is kept =
     let long : length front ≤ length bytes = omega (arith, size, ap length is) in
     sym (take-take (length front) (length bytes) more long) ∙ ap (take (length front)) kept ∙ is
 
-pub spelled_more : (d next i : ℕ) (docs bytes all : List ℕ) → Turn d next i docs → bytes ++ spelled_gaps (gaps_from next (drop i docs)) ≡ all
-    → (bytes ++ short_varint (get_or docs i 0 - next)) ++ spelled_gaps (gaps_from (get_or docs i 0 + 1) (drop (i + 1) docs)) ≡ all
-spelled_more d next i docs bytes all t is =
-    let gap = get_or docs i 0 - next in
-    append_assoc bytes (short_varint gap) (spelled_gaps (gaps_from (get_or docs i 0 + 1) (drop (i + 1) docs)))
-    ∙ ap (λ (xs : List ℕ). bytes ++ spelled_gaps xs) (sym t.gaps)
-    ∙ is
-
-pub spelled_all : (next i : ℕ) (docs bytes all : List ℕ) → length docs ≤ i → bytes ++ spelled_gaps (gaps_from next (drop i docs)) ≡ all → bytes ≡ all
-spelled_all next i docs bytes all past is =
-    sym (append-nil bytes) ∙ ap (λ (xs : List ℕ). bytes ++ spelled_gaps (gaps_from next xs)) (sym (drop_all i docs past)) ∙ is
-
 -- ---- sizes
 within_cases : (k n : ℕ) (b : Bool) → length (short_varint_within k (n / 128)) ≤ k + 1 → length (cond b (n ∷ []) ((n % 128 + 128) ∷ short_varint_within k (n / 128))) ≤ suc k + 1
 within_cases k n true short = omega arith

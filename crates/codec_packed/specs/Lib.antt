@@ -1,4 +1,4 @@
 pub mod Giving
 pub mod Packing
 pub mod Reading
-pub mod Steps
+pub mod Private

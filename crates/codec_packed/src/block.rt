@@ -4,7 +4,7 @@ ghost use Rattle.jass_base.specs.Gaps.{gaps_from};
 ghost use Rattle.lane_kernels.specs.Width.{least_width};
 ghost use Rattle.codec_packed.specs.Giving.{AreFrom};
 ghost use Rattle.codec_packed.specs.Packing.{packed_block};
-ghost use Rattle.codec_packed.specs.Steps.{ReadsBlock};
+ghost use Rattle.codec_packed.specs.Private.Steps.{ReadsBlock};
 
 use crate::laws::blocks_keep_their_gaps;
 use jass_base::{NoMemory, PayloadFault, Row};

@@ -1,9 +1,10 @@
 // Whether bytes are the payload of a list.
 ghost use Rattle.std.specs.Prelude.{◌≡◌, ◌+◌, ◌*◌, ◌<◌, ◌≤◌, ◌^◌, length, drop};
 ghost use Rattle.codec_packed.specs.Packing.{packed_of};
-ghost use Rattle.jass_base.specs.Gaps.{Accepts, Judges};
+ghost use Rattle.jass_base.specs.Codecs.{Checks, IsCount};
+ghost use Rattle.jass_base.specs.Gaps.{Judges};
 ghost use Rattle.codec_packed.specs.Reading.{read_packed};
-ghost use Rattle.codec_packed.specs.Steps.{ChecksBlock};
+ghost use Rattle.codec_packed.specs.Private.Steps.{ChecksBlock};
 
 use crate::block::read_block;
 use crate::laws::payloads_are_read;
@@ -18,21 +19,16 @@ use lane_kernels::{fits128, running128};
 /// or where a gap isn't a shortest varint of at most four bytes. DocRange where a document is `d` or
 /// above. Longer where bytes are left behind the last gap.
 pub fn check(bytes: &[u8], count: u32, d: u32) -> Result<(), PayloadFault>
-    requires some { 1 ≤ count }
-    requires few { count ≤ d }
-    requires limit { d ≤ 2 ^ 26 }
-    ensures accepted { Accepts packed_of d count bytes.now result }
-    ensures judged { Judges (read_packed d count bytes.now) result }
+    requires { IsCount count d }
+    ensures { Checks packed_of read_packed d count bytes.now result }
 {
     payloads_are_read();
     judge(bytes, count, d)
 }
 
-// The check, by what is read.
+/// The check, by what is read.
 fn judge(bytes: &[u8], count: u32, d: u32) -> Result<(), PayloadFault>
-    requires some { 1 ≤ count }
-    requires few { count ≤ d }
-    requires limit { d ≤ 2 ^ 26 }
+    requires { IsCount count d }
     ensures { Judges (read_packed d count bytes.now) result }
 {
     let mut at = 0;
@@ -43,7 +39,7 @@ fn judge(bytes: &[u8], count: u32, d: u32) -> Result<(), PayloadFault>
     check_gaps(bytes, at, least, count % 128, d)
 }
 
-// Checks the block at a place. The answer is the place behind it and the least document there.
+/// Checks the block at a place. The answer is the place behind it and the least document there.
 fn check_block(bytes: &[u8], at: usize, least: u32, d: u32) -> Result<(usize, u32), PayloadFault>
     requires place { at ≤ length bytes.now }
     requires least { least ≤ d }

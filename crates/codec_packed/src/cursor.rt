@@ -1,5 +1,5 @@
 ghost use Rattle.std.specs.Prelude.{◌≡◌, ℕ, ◌+◌, ◌*◌, ◌<◌, ◌≤◌, ◌↔◌, List, [], length, take, drop};
-ghost use Rattle.jass_base.specs.Gaps.{AreDocs};
+ghost use Rattle.jass_base.specs.Codecs.{GivesAll, HandsOver};
 ghost use Rattle.codec_packed.specs.Giving.{Gives};
 ghost use Rattle.codec_packed.specs.Packing.{packed_of};
 
@@ -20,8 +20,7 @@ pub struct Cursor {
 impl Cursor {
     /// A cursor at the first of `count` documents below `d`.
     pub fn new(count: u32, d: u32) -> Cursor
-        ensures { (bytes docs : List ℕ) → AreDocs d docs → length docs ≡ count → bytes ≡ packed_of docs
-            → Gives result bytes docs }
+        ensures { GivesAll Gives packed_of d count result }
     {
         let _ = d;
         Cursor {
@@ -35,10 +34,7 @@ impl Cursor {
     /// end. What stands behind them in `out` is left open.
     pub fn next_block(&mut self, bytes: &[u8], out: &mut [u32; 128]) -> usize
         requires stands { (docs : List ℕ) × Gives self.old bytes.now docs }
-        ensures most { result ≤ 128 }
-        ensures block { (docs : List ℕ) → Gives self.old bytes.now docs → take result out.new ≡ take result docs }
-        ensures rest { (docs : List ℕ) → Gives self.old bytes.now docs → Gives self.new bytes.now (drop result docs) }
-        ensures end { (docs : List ℕ) → Gives self.old bytes.now docs → (result ≡ 0) ↔ (docs ≡ []) }
+        ensures { HandsOver Gives self.old self.new bytes.now out.new result }
     {
         if self.left >= 128 {
             self.full_block(bytes, out);

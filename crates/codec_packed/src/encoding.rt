@@ -1,5 +1,6 @@
 // Payloads from lists.
 ghost use Rattle.std.specs.Prelude.{◌≡◌, ◌+◌, ◌*◌, ◌<◌, ◌≤◌, ◌^◌, ◌++◌, length, take, OnOk, OnErr};
+ghost use Rattle.jass_base.specs.Codecs.{Encodes};
 ghost use Rattle.jass_base.specs.Gaps.{AreDocs};
 ghost use Rattle.codec_packed.specs.Giving.{AreFrom};
 ghost use Rattle.codec_packed.specs.Packing.{packed_of};
@@ -11,8 +12,7 @@ use jass_base::{NoMemory, Row};
 /// Appends the payload of a list of documents, or nothing where memory is refused.
 pub fn encode(docs: &[u32], d: u32, out: &mut Row<u8>) -> Result<(), NoMemory>
     requires { AreDocs d docs.now }
-    ensures ok { OnOk result (out.new ≡ out.old ++ packed_of docs.now) }
-    ensures err { OnErr result (out.new ≡ out.old) }
+    ensures { Encodes (packed_of docs.now) out.old out.new result }
 {
     let _ = d;
     let before = out.len();
@@ -25,7 +25,7 @@ pub fn encode(docs: &[u32], d: u32, out: &mut Row<u8>) -> Result<(), NoMemory>
     }
 }
 
-// Appends the payload, or a part of it where memory is refused.
+/// Appends the payload, or a part of it where memory is refused.
 fn put_docs(docs: &[u32], out: &mut Row<u8>) -> Result<(), NoMemory>
     requires { AreFrom (2 ^ 26) 0 docs.now }
     ensures ok { OnOk result (out.new ≡ out.old ++ packed_of docs.now) }

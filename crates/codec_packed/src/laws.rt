@@ -5,7 +5,7 @@ ghost use Rattle.std.specs.Prelude.{ℕ, ◌≡◌, ◌≤◌, ◌<◌, ◌^◌,
 ghost use Rattle.jass_base.specs.Gaps.{AreDocs};
 ghost use Rattle.codec_packed.specs.Packing.{packed_of};
 ghost use Rattle.codec_packed.specs.Reading.{read_packed};
-ghost use Rattle.codec_packed.specs.Steps.{BlockLaws, TailLaws};
+ghost use Rattle.codec_packed.specs.Private.Steps.{BlockLaws, TailLaws};
 
 use jass_base::laws::spelled_gaps_are_read;
 use lane_kernels::laws::{

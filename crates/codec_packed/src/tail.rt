@@ -1,11 +1,10 @@
 // The gaps behind the last full block, as shortest varints.
-ghost use Rattle.std.specs.Prelude.{◌≡◌, ◌+◌, ◌*◌, ◌<◌, ◌≤◌, ◌^◌, ◌++◌, length, take, drop, OnOk, OnErr};
+ghost use Rattle.std.specs.Prelude.{◌≡◌, ◌≤◌, ◌^◌, ◌++◌, length, take, drop, OnOk, OnErr};
 ghost use Rattle.jass_base.specs.Gaps.{gaps_from, read_gaps, spelled_gaps};
-ghost use Rattle.jass_base.specs.Wire.{short_varint};
 ghost use Rattle.codec_packed.specs.Giving.{AreFrom};
-ghost use Rattle.codec_packed.specs.Steps.{verdict};
+ghost use Rattle.codec_packed.specs.Private.Steps.{verdict};
 
-use jass_base::{NoMemory, PayloadFault, Row, put_gap, read_gap};
+use jass_base::{NoMemory, PayloadFault, Row, gap_length, put_gap, read_gap};
 
 /// Appends the gaps of documents, the first at least `least`, or some of them where memory is
 /// refused.
@@ -30,27 +29,10 @@ pub(crate) fn gaps_size(docs: &[u32], least: u32) -> u64
     let mut size = 0;
     let mut next = least;
     for doc in docs {
-        size += gap_size(*doc - next);
+        size += gap_length(*doc - next);
         next = *doc + 1;
     }
     size
-}
-
-// The number of bytes of a gap.
-fn gap_size(gap: u32) -> u64
-    requires { gap < 2 ^ 28 }
-    ensures { result ≡ length (short_varint gap) }
-{
-    if gap < 0x80 {
-        return 1;
-    }
-    if gap < 0x4000 {
-        return 2;
-    }
-    if gap < 0x20_0000 {
-        return 3;
-    }
-    4
 }
 
 /// Whether the bytes from a place on are so many gaps of documents below `d`, the first at least

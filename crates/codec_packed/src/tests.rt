@@ -60,7 +60,7 @@ fn faults_are_told(rt: HostRuntime) {
     assert!(&rt; checked(&block, 128, MOST_DOCS) == Err(PayloadFault::Shape));
 }
 
-// The check, where it may be called.
+/// The check, where it may be called.
 fn checked(bytes: &[u8], count: u32, d: u32) -> Result<(), PayloadFault> {
     if count == 0 || count > d || d > MOST_DOCS {
         return Ok(());
@@ -84,7 +84,7 @@ fn are_docs(docs: &[u32], d: u32) -> bool
     true
 }
 
-// Whether a cursor gives at most 256 documents, and then no more.
+/// Whether a cursor gives at most 256 documents, and then no more.
 fn gives_back(docs: &[u32], d: u32, bytes: &[u8]) -> bool
     requires docs { AreDocs d docs.now }
     requires bytes { bytes.now ≡ packed_of docs.now }

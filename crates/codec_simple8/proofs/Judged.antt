@@ -5,7 +5,7 @@ use Rattle.jass_base.specs.Gaps.{Judges, docs_from, ◌>>=◌}
 use Rattle.jass_base.specs.declared.payload_fault.PayloadFault.{PayloadFault}
 use Rattle.jass_base.specs.declared.payload_fault.PayloadFault.TheVariants.{Shape}
 use Rattle.codec_simple8.specs.Simple8.{read_words, read_simple8, spelled_words}
-use Rattle.codec_simple8.specs.Words.{bytes_gaps}
+use Rattle.codec_simple8.specs.Private.Words.{bytes_gaps}
 use Rattle.codec_simple8.proofs.Reading.{Read, words_read}
 
 -- the judgement of the words, where there was no fault

@@ -1,9 +1,10 @@
 -- What a cursor gives before and after it moves.
-use Rattle.std.proofs.Common.{◌≡◌, ℕ, zero, suc, ◌+◌, ◌-◌, ◌/◌, ◌%◌, ◌^◌, ◌<◌, ◌≤◌, List, [], ◌∷◌, ◌++◌, length, take, drop, replicate, refl, sym, ap, subst, ◌∙◌, length-append, take-add, arith}
+use Rattle.std.proofs.Common.{◌≡◌, ◌↔◌, ℕ, zero, suc, ◌+◌, ◌-◌, ◌/◌, ◌%◌, ◌^◌, ◌<◌, ◌≤◌, List, [], ◌∷◌, ◌++◌, length, take, drop, replicate, refl, sym, ap, subst, ◌∙◌, length-append, take-add, arith}
 use Rattle.std.proofs.lemmas.List.{take-append-drop, drop-drop, length-drop, length-replicate, take-replicate, drop-replicate, take-append-le, drop-append-le, length-take-le, length-take, nil_from_length}
 use Rattle.std.proofs.lemmas.List.Elements.{All-take, All-drop}
 use Rattle.std.proofs.lemmas.List.Sums.{sum_by-cons}
 use Rattle.std.proofs.Math.Nat.{mod-eq_of_lt, mod-lt, mod-one}
+use Rattle.jass_base.specs.Codecs.{HandsOver}
 use Rattle.jass_base.specs.Gaps.{docs_from}
 use Rattle.codec_simple8.specs.declared.cursor.Cursor.{Cursor}
 use Rattle.codec_simple8.specs.Cursor.{Gives, Moved}
@@ -238,6 +239,18 @@ moved_both a b c bytes filled result before mid after first second = record {
 pub none_given : (c : Cursor) (bytes docs : List ℕ) → c.zeros ≡ 0 → c.left ≡ 0 → Gives c bytes docs → docs ≡ []
 none_given c bytes docs none done g =
     given_gaps c bytes docs none g ∙ ap (docs_from c.least) (nil_from_length g.gaps (sym g.left ∙ done))
+
+-- what a move from an empty block hands over
+pub handed_over : (old new : Cursor) (bytes : List ℕ) (filled : ℕ) (before after : List ℕ) → Moved old new bytes 0 filled before after
+    → ((docs : List ℕ) → Gives old bytes docs → (filled ≡ 0) ↔ (docs ≡ [])) → HandsOver Gives old new bytes after filled
+handed_over old new bytes filled before after moved ends =
+    let whole : filled - 0 ≡ filled = omega arith in
+    record {
+      most = moved.most;
+      block = λ docs g. moved.docs docs g ∙ ap (λ n. take n docs) whole;
+      rest = λ docs g. subst (λ n. Gives new bytes (drop n docs)) whole (moved.rest docs g);
+      end = ends;
+    }
 
 -- what was given is of the documents
 pub given_end : (filled : ℕ) (before after docs : List ℕ) → filled ≤ length after → take filled after ≡ take 0 before ++ take (filled - 0) docs → docs ≡ [] → filled ≡ 0

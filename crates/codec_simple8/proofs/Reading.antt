@@ -14,7 +14,7 @@ use Rattle.codec_simple8.proofs.Docs.{behind_below, below_behind, docs_gaps, bel
 use Rattle.codec_simple8.proofs.GapLists.{All-from_below}
 use Rattle.codec_simple8.proofs.Selectors.{Either, one_of}
 use Rattle.codec_simple8.proofs.WordLists.{length-gaps_in, bytes_more, bytes_none}
-use Rattle.codec_simple8.specs.Words.{bytes_gaps, AreWords}
+use Rattle.codec_simple8.specs.Private.Words.{bytes_gaps, AreWords}
 
 abbrev pub Read : Type 0
 Read = Result (List ℕ) PayloadFault

@@ -16,7 +16,7 @@ use Rattle.std.proofs.lemmas.Slice.Eq.{bytes_eq-Decides}
 use Rattle.std.proofs.Math.Nat.{mod-lt, mod-add-div, pow-le-pow_right}
 use Rattle.std.proofs.Math.Bool.{or-true}
 use Rattle.codec_simple8.specs.Simple8.{count_of, width_of, takes, selector_of, word_of, fields, gaps_in, word_in, spelled_words}
-use Rattle.codec_simple8.specs.Words.{words_gaps, bytes_gaps, AreWords, spells_them}
+use Rattle.codec_simple8.specs.Private.Words.{words_gaps, bytes_gaps, AreWords, spells_them}
 use Rattle.codec_simple8.proofs.Digits.{Below, Below-wider, number_below, digits_below, number_digits, power_of_power}
 use Rattle.codec_simple8.proofs.Fields.{length-fields, nothing_above}
 use Rattle.codec_simple8.proofs.GapLists.{below_from_All}

@@ -1,3 +1,3 @@
 pub mod Cursor
 pub mod Simple8
-pub mod Words
+pub mod Private

@@ -1,5 +1,6 @@
 ghost use Rattle.std.specs.Prelude.{◌≡◌, ◌<◌, ◌≤◌, ◌^◌};
-ghost use Rattle.jass_base.specs.Gaps.{Accepts, Judges};
+ghost use Rattle.jass_base.specs.Codecs.{Checks, IsCount};
+ghost use Rattle.jass_base.specs.Gaps.{Judges};
 ghost use Rattle.codec_simple8.specs.Simple8.{simple8_of, read_simple8, read_words};
 
 use crate::laws::payloads_are_read;
@@ -13,21 +14,16 @@ use jass_base::PayloadFault;
 /// gaps than are left, DocRange where a document is `d` or above. Then Longer where bytes are left,
 /// and Shape where they aren't the one spelling of the gaps that were read.
 pub fn check(bytes: &[u8], count: u32, d: u32) -> Result<(), PayloadFault>
-    requires some { 1 ≤ count }
-    requires few { count ≤ d }
-    requires limit { d ≤ 2 ^ 26 }
-    ensures accepted { Accepts simple8_of d count bytes.now result }
-    ensures judged { Judges (read_simple8 d count bytes.now) result }
+    requires { IsCount count d }
+    ensures { Checks simple8_of read_simple8 d count bytes.now result }
 {
     payloads_are_read();
     judge(bytes, count, d)
 }
 
-// The check, by what is read.
+/// The check, by what is read.
 fn judge(bytes: &[u8], count: u32, d: u32) -> Result<(), PayloadFault>
-    requires some { 1 ≤ count }
-    requires few { count ≤ d }
-    requires limit { d ≤ 2 ^ 26 }
+    requires { IsCount count d }
     ensures { Judges (read_simple8 d count bytes.now) result }
 {
     match walk(bytes, count, d) {
@@ -41,7 +37,7 @@ fn judge(bytes: &[u8], count: u32, d: u32) -> Result<(), PayloadFault>
     }
 }
 
-// The faults up to Longer.
+/// The faults up to Longer.
 fn walk(bytes: &[u8], count: u32, d: u32) -> Result<(), PayloadFault>
     requires { d ≤ 2 ^ 26 }
     ensures { Judges (read_words count d 0 count bytes.now) result }

@@ -1,12 +1,12 @@
 ghost use Rattle.std.specs.Prelude.{◌≡◌, ℕ, ◌+◌, ◌<◌, ◌≤◌, ◌^◌, ◌↔◌, List, [], All, drop, length, take};
-ghost use Rattle.jass_base.specs.Gaps.{AreDocs};
+ghost use Rattle.jass_base.specs.Codecs.{GivesAll, HandsOver};
 ghost use Rattle.codec_simple8.specs.Cursor.{Gives, Moved};
 ghost use Rattle.codec_simple8.specs.Simple8.{simple8_of};
 
 use crate::rows::put_fields;
 use crate::word::{count_at, word_at};
 
-// The most documents of a word whose gaps have bits.
+/// The most documents of a word whose gaps have bits.
 const MOST: usize = 60;
 
 /// The documents of a payload, block by block. It holds no bytes: each call passes the same ones.
@@ -26,8 +26,7 @@ impl Cursor {
     /// A cursor over the payload of `count` documents, in an index of `d` documents.
     #[inline(always)]
     pub fn new(count: u32, d: u32) -> Cursor
-        ensures { (bytes docs : List ℕ) → AreDocs d docs → length docs ≡ count → bytes ≡ simple8_of docs
-            → Gives result bytes docs }
+        ensures { GivesAll Gives simple8_of d count result }
     {
         Cursor {
             at: 0,
@@ -41,10 +40,7 @@ impl Cursor {
     /// and 0 exactly at the end. What stands behind them in `out` is left open.
     pub fn next_block(&mut self, bytes: &[u8], out: &mut [u32; 128]) -> usize
         requires stands { (docs : List ℕ) × Gives self.old bytes.now docs }
-        ensures most { result ≤ 128 }
-        ensures block { (docs : List ℕ) → Gives self.old bytes.now docs → take result out.new ≡ take result docs }
-        ensures rest { (docs : List ℕ) → Gives self.old bytes.now docs → Gives self.new bytes.now (drop result docs) }
-        ensures end { (docs : List ℕ) → Gives self.old bytes.now docs → (result ≡ 0 ↔ docs ≡ []) }
+        ensures { HandsOver Gives self.old self.new bytes.now out.new result }
     {
         if self.left == 1 && self.zeros == 0 {
             self.put_last(bytes, out);
@@ -57,7 +53,7 @@ impl Cursor {
         filled
     }
 
-    // Writes the one document that is left: most segments have no other.
+    /// Writes the one document that is left: most segments have no other.
     #[inline(always)]
     fn put_last(&mut self, bytes: &[u8], out: &mut [u32; 128])
         requires stands { (docs : List ℕ) × Gives self.old bytes.now docs }
@@ -75,8 +71,8 @@ impl Cursor {
         };
     }
 
-    // Reads a word, and writes its documents, or as many of them as there is room for, where all
-    // its gaps are 0.
+    /// Reads a word, and writes its documents, or as many of them as there is room for, where all
+    /// its gaps are 0.
     #[inline(always)]
     fn put_word(&mut self, bytes: &[u8], out: &mut [u32; 128], filled: usize) -> usize
         requires stands { (docs : List ℕ) × Gives self.old bytes.now docs }
@@ -100,7 +96,7 @@ impl Cursor {
         filled + count
     }
 
-    // Writes documents for the gaps of 0 that are held, as many as there is room for.
+    /// Writes documents for the gaps of 0 that are held, as many as there is room for.
     #[inline(always)]
     fn put_zeros(&mut self, out: &mut [u32; 128], filled: usize) -> usize
         requires stands { (bytes docs : List ℕ) × Gives self.old bytes docs }

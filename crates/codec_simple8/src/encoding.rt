@@ -1,4 +1,5 @@
-ghost use Rattle.std.specs.Prelude.{◌≡◌, ℕ, ◌+◌, ◌<◌, ◌≤◌, ◌^◌, ◌++◌, All, drop, length, slice_index, nat_le, IfSome, IsNone, OnOk, OnErr};
+ghost use Rattle.std.specs.Prelude.{◌≡◌, ℕ, ◌+◌, ◌<◌, ◌≤◌, ◌^◌, All, drop, length, slice_index, nat_le, IfSome, IsNone};
+ghost use Rattle.jass_base.specs.Codecs.{Encodes};
 ghost use Rattle.jass_base.specs.Gaps.{AreDocs, gaps_of};
 ghost use Rattle.codec_simple8.specs.Simple8.{count_of, selector_of, simple8_of, takes, word_of};
 
@@ -6,7 +7,7 @@ use crate::limits::{limit_behind, selector_within};
 use crate::word::{count_at, width_at};
 use jass_base::{NoMemory, Row};
 
-// The most gaps of a word.
+/// The most gaps of a word.
 const MOST: usize = 240;
 
 /// How many bytes the payload of the documents has, in an index of `d` documents: eight a word.
@@ -45,8 +46,7 @@ pub fn length_below(docs: &[u32], d: u32, limit: u64) -> Option<u64>
 /// refused.
 pub fn encode(docs: &[u32], d: u32, out: &mut Row<u8>) -> Result<(), NoMemory>
     requires { AreDocs d docs.now }
-    ensures ok { OnOk result (out.new ≡ out.old ++ simple8_of docs.now) }
-    ensures err { OnErr result (out.new ≡ out.old) }
+    ensures { Encodes (simple8_of docs.now) out.old out.new result }
 {
     let start = out.len();
     let mut at = 0;
@@ -65,7 +65,7 @@ pub fn encode(docs: &[u32], d: u32, out: &mut Row<u8>) -> Result<(), NoMemory>
     Ok(())
 }
 
-// The selector of the word with the gaps of the documents from a place on.
+/// The selector of the word with the gaps of the documents from a place on.
 fn selector_at(docs: &[u32], at: usize) -> usize
     requires docs { (d : ℕ) × AreDocs d docs.now }
     requires within { at < length docs.now }
@@ -76,8 +76,8 @@ fn selector_at(docs: &[u32], at: usize) -> usize
     selector_within(fitting(docs, at))
 }
 
-// How many gaps from a place on fit into words: a selector takes them exactly where its word has no
-// more gaps than these. Each gap is seen once, whatever the selector.
+/// How many gaps from a place on fit into words: a selector takes them exactly where its word has no
+/// more gaps than these. Each gap is seen once, whatever the selector.
 #[inline(always)]
 fn fitting(docs: &[u32], at: usize) -> usize
     requires docs { (d : ℕ) × AreDocs d docs.now }
@@ -99,7 +99,7 @@ fn fitting(docs: &[u32], at: usize) -> usize
     seen
 }
 
-// The word of a selector that takes the gaps of the documents from a place on.
+/// The word of a selector that takes the gaps of the documents from a place on.
 fn word_from(docs: &[u32], at: usize, selector: usize) -> u64
     requires docs { (d : ℕ) × AreDocs d docs.now }
     requires selector { selector ≡ selector_of (drop at (gaps_of docs.now)) }
@@ -131,7 +131,7 @@ fn gap_at(docs: &[u32], at: usize) -> u32
     }
 }
 
-// The gap before a document that isn't the first.
+/// The gap before a document that isn't the first.
 #[inline(always)]
 fn later_gap(docs: &[u32], at: usize) -> u32
     requires docs { (d : ℕ) × AreDocs d docs.now }

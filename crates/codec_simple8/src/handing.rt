@@ -1,5 +1,6 @@
 ghost use Rattle.std.specs.Prelude.{◌≡◌, ℕ, ◌≤◌, ◌^◌, List, length, take, IfOk, Ok};
-ghost use Rattle.jass_base.specs.Gaps.{Accepts, Judges, docs_from};
+ghost use Rattle.jass_base.specs.Codecs.{ChecksInto, IsCount};
+ghost use Rattle.jass_base.specs.Gaps.{Judges, docs_from};
 ghost use Rattle.codec_simple8.specs.Simple8.{simple8_of, read_simple8, read_words};
 
 use crate::laws::payloads_are_read;
@@ -12,25 +13,18 @@ use jass_base::PayloadFault;
 /// The answer of `check`, and where it is Ok, the documents at the front of `out`. What stands behind
 /// them there, or all of it where there is a fault, is left open.
 pub fn check_into(bytes: &[u8], count: u32, d: u32, out: &mut [u32]) -> Result<(), PayloadFault>
-    requires some { 1 ≤ count }
-    requires few { count ≤ d }
-    requires limit { d ≤ 2 ^ 26 }
+    requires count { IsCount count d }
     requires room { count ≤ length out.old }
-    ensures accepted { Accepts simple8_of d count bytes.now result }
-    ensures judged { Judges (read_simple8 d count bytes.now) result }
-    ensures docs { IfOk result (λ _. read_simple8 d count bytes.now ≡ Ok (take count out.new)) }
-    ensures length { length out.new ≡ length out.old }
+    ensures { ChecksInto simple8_of read_simple8 d count bytes.now out.old out.new result }
 {
     payloads_are_read();
     hand_out(bytes, count, d, out)
 }
 
-// The same, by what is read. It is a call, so that its loops have registers of their own.
+/// The same, by what is read. It is a call, so that its loops have registers of their own.
 #[inline(never)]
 fn hand_out(bytes: &[u8], count: u32, d: u32, out: &mut [u32]) -> Result<(), PayloadFault>
-    requires some { 1 ≤ count }
-    requires few { count ≤ d }
-    requires limit { d ≤ 2 ^ 26 }
+    requires count { IsCount count d }
     requires room { count ≤ length out.old }
     ensures judged { Judges (read_simple8 d count bytes.now) result }
     ensures docs { IfOk result (λ _. read_simple8 d count bytes.now ≡ Ok (take count out.new)) }
@@ -47,7 +41,7 @@ fn hand_out(bytes: &[u8], count: u32, d: u32, out: &mut [u32]) -> Result<(), Pay
     }
 }
 
-// The faults up to Longer, and the documents that the words have.
+/// The faults up to Longer, and the documents that the words have.
 fn hand_out_words(bytes: &[u8], count: u32, d: u32, out: &mut [u32]) -> Result<(), PayloadFault>
     requires limit { d ≤ 2 ^ 26 }
     requires room { count ≤ length out.old }

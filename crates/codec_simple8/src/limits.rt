@@ -2,7 +2,7 @@
 ghost use Rattle.std.specs.Prelude.{◌≡◌, ℕ, ◌+◌, ◌<◌, ◌≤◌, ◌^◌};
 ghost use Rattle.codec_simple8.specs.Simple8.{count_of, width_of};
 
-// The least number that no width holds of which a word has more than 1, 2, .. 239 gaps.
+/// The least number that no width holds of which a word has more than 1, 2, .. 239 gaps.
 const LIMITS: [u32; 239] = [
     0x40000000, 0x100000, 0x8000, 0x1000, 0x400, 0x100, 0x80, 0x40, 0x40, 0x20, 0x20, 0x10, 0x10,
     0x10, 0x8, 0x8, 0x8, 0x8, 0x8, 0x4, 0x4, 0x4, 0x4, 0x4, 0x4, 0x4, 0x4, 0x4, 0x4, 0x2, 0x2, 0x2,
@@ -19,7 +19,7 @@ const LIMITS: [u32; 239] = [
     0x1, 0x1, 0x1, 0x1, 0x1, 0x1, 0x1, 0x1, 0x1, 0x1, 0x1, 0x1, 0x1, 0x1, 0x1, 0x1, 0x1,
 ];
 
-// The least selector whose word has no more than 1, 2, .. 240 gaps.
+/// The least selector whose word has no more than 1, 2, .. 240 gaps.
 const SELECTORS: [u8; 240] = [
     15, 14, 13, 12, 11, 10, 9, 8, 8, 7, 7, 6, 6, 6, 5, 5, 5, 5, 5, 4, 4, 4, 4, 4, 4, 4, 4, 4, 4, 3,
     3, 3, 3, 3, 3, 3, 3, 3, 3, 3, 3, 3, 3, 3, 3, 3, 3, 3, 3, 3, 3, 3, 3, 3, 3, 3, 3, 3, 3, 2, 2, 2,

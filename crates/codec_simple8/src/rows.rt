@@ -7,8 +7,8 @@ use crate::values::put_gaps;
 use crate::word::{count_at, width_at};
 use std::simd::prelude::*;
 
-// Writes the documents of a word's gaps behind the first `filled` of a block, the first document
-// at least `least`, and returns the least that may follow. Up to three more slots are written.
+/// Writes the documents of a word's gaps behind the first `filled` of a block, the first document
+/// at least `least`, and returns the least that may follow. Up to three more slots are written.
 #[inline(always)]
 pub(crate) fn put_fields(
     values: u64,
@@ -41,7 +41,7 @@ pub(crate) fn put_fields(
     )
 }
 
-// The same for `count` values of `width` bits each, the first in the lowest bits.
+/// The same for `count` values of `width` bits each, the first in the lowest bits.
 #[inline(always)]
 fn put_rows(
     values: u64,
@@ -72,7 +72,7 @@ fn put_rows(
     out[filled + count - 1] + 1
 }
 
-// The next four values, where those from the first and the second on are a pair.
+/// The next four values, where those from the first and the second on are a pair.
 #[inline(always)]
 fn fields4(pair: u64x2, width: u32) -> u32x4
     requires width { width ≤ 30 }
@@ -86,7 +86,7 @@ fn fields4(pair: u64x2, width: u32) -> u32x4
     low.shuffle(high, [0, 1, 2, 3])
 }
 
-// The pair behind the next four values.
+/// The pair behind the next four values.
 #[inline(always)]
 fn behind4(pair: u64x2, width: u32) -> u64x2
     requires width { width ≤ 30 }
@@ -98,7 +98,7 @@ fn behind4(pair: u64x2, width: u32) -> u64x2
     (pair >> by) >> by
 }
 
-// The sums of one, two, three and four values.
+/// The sums of one, two, three and four values.
 #[inline(always)]
 fn sums4(values: u32x4) -> u32x4
     ensures { (a b c d : ℕ) → values ≡ a ∷ b ∷ c ∷ d ∷ [] → a + b + c + d < 2 ^ 32

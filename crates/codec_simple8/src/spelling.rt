@@ -4,11 +4,11 @@ ghost use Rattle.std.specs.Prelude.{◌≡◌, ◌+◌, ◌<◌, ◌≤◌, ◌^
 ghost use Rattle.std.specs.List.{list_all};
 ghost use Rattle.std.specs.Str.{bytes_eq};
 ghost use Rattle.codec_simple8.specs.Simple8.{count_of, fields, spelled_words, width_of, word_in};
-ghost use Rattle.codec_simple8.specs.Words.{AreWords, bytes_gaps, spells_them};
+ghost use Rattle.codec_simple8.specs.Private.Words.{AreWords, bytes_gaps, spells_them};
 
 use crate::word::{count_at, lowest_at, width_at, word_at};
 
-// Whether the words of bytes are those that their gaps are spelled with.
+/// Whether the words of bytes are those that their gaps are spelled with.
 pub(crate) fn is_spelling(bytes: &[u8], count: u32) -> bool
     requires { AreWords bytes.now count }
     ensures { result ≡ bytes_eq bytes.now (spelled_words (bytes_gaps bytes.now)) }
@@ -25,7 +25,7 @@ pub(crate) fn is_spelling(bytes: &[u8], count: u32) -> bool
     true
 }
 
-// Whether the gaps from a place on are spelled with the word at that place.
+/// Whether the gaps from a place on are spelled with the word at that place.
 fn spells_them(bytes: &[u8], at: usize, left: u32) -> bool
     requires words { AreWords (drop at bytes.now) left }
     requires some { 0 < left }
@@ -44,7 +44,7 @@ fn spells_them(bytes: &[u8], at: usize, left: u32) -> bool
     more > left as usize || !are_narrow(bytes, at, more, width_at(selector - 1))
 }
 
-// Whether a width holds each of the next `count` gaps.
+/// Whether a width holds each of the next `count` gaps.
 fn are_narrow(bytes: &[u8], at: usize, count: usize, width: u32) -> bool
     requires words { (left : ℕ) × AreWords (drop at bytes.now) left }
     requires few { count ≤ length (bytes_gaps (drop at bytes.now)) }
@@ -66,7 +66,7 @@ fn are_narrow(bytes: &[u8], at: usize, count: usize, width: u32) -> bool
     true
 }
 
-// Whether a width holds each of the first `count` gaps of a word.
+/// Whether a width holds each of the first `count` gaps of a word.
 #[inline(always)]
 fn gaps_narrow(values: u64, selector: usize, count: usize, width: u32) -> bool
     requires selector { selector < 16 }

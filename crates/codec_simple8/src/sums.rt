@@ -2,7 +2,7 @@
 ghost use Rattle.std.specs.Prelude.{◌≡◌, ◌<◌, ◌≤◌, sum};
 ghost use Rattle.codec_simple8.specs.Simple8.{count_of, fields, width_of};
 
-// The sum of a word's gaps.
+/// The sum of a word's gaps.
 #[inline(always)]
 #[tactic(auto, unfolding(crate::specs::Simple8::count_of, crate::specs::Simple8::width_of))]
 pub(crate) fn sum_gaps(values: u64, selector: usize) -> u64
@@ -30,7 +30,7 @@ pub(crate) fn sum_gaps(values: u64, selector: usize) -> u64
     }
 }
 
-// The same for `count` values of `width` bits each, the first in the lowest bits.
+/// The same for `count` values of `width` bits each, the first in the lowest bits.
 #[inline(always)]
 fn sum_values(values: u64, count: usize, width: u32) -> u64
     requires { width < 64 }

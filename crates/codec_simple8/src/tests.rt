@@ -80,7 +80,7 @@ fn has_length(docs: &[u32], d: u32, bytes: u64) -> bool {
         && length_below(docs, d, bytes).is_none()
 }
 
-// Whether this is the payload of the documents, by each of the calls.
+/// Whether this is the payload of the documents, by each of the calls.
 fn spells(alloc: Global, docs: &[u32], d: u32, bytes: &[u8]) -> Result<bool, NoMemory> {
     if !are_docs(docs, d) || docs.len() > d as usize {
         return Ok(false);

@@ -3,8 +3,8 @@ ghost use Rattle.std.specs.Prelude.{◌≡◌, ◌+◌, ◌<◌, ◌≤◌, ◌^
 ghost use Rattle.jass_base.specs.Gaps.{docs_from};
 ghost use Rattle.codec_simple8.specs.Simple8.{count_of, fields, least_behind, width_of};
 
-// Writes the documents of a word's gaps behind the first `filled` of a block, the first document
-// at least `least`, and returns the least that may follow.
+/// Writes the documents of a word's gaps behind the first `filled` of a block, the first document
+/// at least `least`, and returns the least that may follow.
 #[inline(always)]
 #[tactic(auto, unfolding(crate::specs::Simple8::count_of, crate::specs::Simple8::width_of))]
 pub(crate) fn put_gaps(
@@ -45,7 +45,7 @@ pub(crate) fn put_gaps(
     }
 }
 
-// The same for `count` values of `width` bits each, the first in the lowest bits.
+/// The same for `count` values of `width` bits each, the first in the lowest bits.
 #[inline(always)]
 fn put_values(
     values: u64,

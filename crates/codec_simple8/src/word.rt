@@ -5,13 +5,13 @@ ghost use Rattle.codec_simple8.specs.Simple8.{count_of, width_of, word_in};
 
 use std::simd::prelude::*;
 
-// How many gaps a word of each selector has.
+/// How many gaps a word of each selector has.
 const COUNTS: [u32; 16] = [240, 120, 60, 30, 20, 15, 12, 10, 8, 7, 6, 5, 4, 3, 2, 1];
 
-// How many bits each of them has.
+/// How many bits each of them has.
 const WIDTHS: [u32; 16] = [0, 0, 1, 2, 3, 4, 5, 6, 7, 8, 10, 12, 15, 20, 30, 60];
 
-// The lowest bit of each gap of a word of each selector, as far as its gaps have bits.
+/// The lowest bit of each gap of a word of each selector, as far as its gaps have bits.
 const LOWEST: [u64; 16] = [
     0,
     0,

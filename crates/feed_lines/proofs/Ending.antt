@@ -1,31 +1,15 @@
 -- The lines of a text that end by LF.
 use Rattle.std.proofs.Common.{◌≡◌, ◌≢◌, ℕ, ◌+◌, ◌-◌, ◌<◌, ◌≤◌, Bool, true, false, List, [], ◌∷◌, ◌++◌, length, take, map, refl, ap, ◌∙◌, arith}
-use Rattle.std.proofs.lemmas.Bool.{eqb-true}
 use Rattle.std.proofs.lemmas.List.{length-take}
-use Rattle.std.proofs.lemmas.List.Elements.{All-from_recursion, recursion_from_All}
 use Rattle.std.proofs.lemmas.List.Splits.{slice_split_at, slice_split_none, length-slice_split}
 use Rattle.std.specs.Prelude.{All, ◌==◌, slice_index, if◌then◌else◌}
-use Rattle.std.specs.List.{slice_split, AllByRecursion}
+use Rattle.std.specs.List.{slice_split}
 use Rattle.std.specs.Str.Lines.{strip_carriage_return}
+use Rattle.text_lines.proofs.Dividing.{not_feeds}
 use Rattle.feed_lines.specs.Lines.{ended_lines, ended_parts}
 
 abbrev pub is_feed : ℕ → Bool
 is_feed b = b == 10
-
--- bytes that are no line feeds
-not_feeds : (line : List ℕ) → All (λ b. b ≢ 10) line → All (λ b. is_feed b ≡ false) line
-not_feeds line all = All-from_recursion (λ b. is_feed b ≡ false) line (onward line (recursion_from_All (λ b. b ≢ 10) line all))
-  where
-    not_ten : (b : ℕ) → b ≢ 10 → is_feed b ≡ false
-    not_ten b other = here (is_feed b) refl
-      where
-        here : (x : Bool) → is_feed b ≡ x → x ≡ false
-        here true e = absurd (other (eqb-true b 10 e))
-        here false e = refl
-
-    onward : (xs : List ℕ) → AllByRecursion (λ b. b ≢ 10) xs → AllByRecursion (λ b. is_feed b ≡ false) xs
-    onward [] each = tt
-    onward (x ∷ xs) each = (not_ten x each.0, onward xs each.1)
 
 one_more : (x : List ℕ) (parts : List (List ℕ)) → 0 < length parts → ended_parts (x ∷ parts) ≡ x ∷ ended_parts parts
 one_more x [] some = absurd (omega (arith, some))

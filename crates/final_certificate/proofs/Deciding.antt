@@ -21,8 +21,9 @@ use Rattle.std.proofs.lemmas.Bool.{cases_Bool}
 use Rattle.shared_lemmas.proofs.Lists.{all_weaker, all_both, all_take, all_drop, all_append, all_filter, filter_passes}
 use Rattle.ranking_model.proofs.Sorting.{Ascends, sorted_ascends}
 use Rattle.ranking_model.proofs.Orders.{rank_total}
+use Rattle.ranking_model.proofs.Candidates.{ascends_take}
 use Rattle.final_certificate.specs.Rule.{gained, is_safe, are_safe, ends_safe, unscored, do_documents_stay, grade_by}
-use Rattle.final_certificate.proofs.Lists.{sum_by-filter, sum_by-same, ascends_take, ascends_drop}
+use Rattle.final_certificate.proofs.Lists.{sum_by-filter, sum_by-same, ascends_drop}
 use Rattle.final_certificate.proofs.Lifting.{is_unscored, is_scored, documents_from, hits_documents, lift, gains_by, raised_documents, are_gains, gain_of_doc, gain_small, gains_by_doc, true_from, documents_below, count_doc, at_most_once, at_least_once}
 use Rattle.final_certificate.proofs.Edges.{Leads, leads_trans, both_gain, leads_itself, safe_leads, ranked, front, others, docs, StaysBefore, keeps_documents, keeps_order}
 use Rattle.final_certificate.proofs.Refuting.{count_own, one, one_small, IsTrueTo, true_ranked, kept_safe, few_enter, settled_safe}

@@ -4,3 +4,4 @@ pub mod Edges
 pub mod Steps
 pub mod Refuting
 pub mod Deciding
+pub mod Limits

@@ -1,5 +1,5 @@
 -- Sums, orders and parts of lists of hits.
-use Rattle.std.proofs.Common.{◌≡◌, ℕ, zero, suc, ◌+◌, List, [], ◌∷◌, ◌++◌, take, drop, filter, sum_by, count_by, Bool, true, false, cond, refl, sym, ap, ◌∙◌, arith, zero-add}
+use Rattle.std.proofs.Common.{◌≡◌, ℕ, zero, suc, ◌+◌, List, [], ◌∷◌, ◌++◌, drop, filter, sum_by, count_by, Bool, true, false, cond, refl, sym, ap, ◌∙◌, arith, zero-add}
 use Rattle.std.specs.Prelude.{IsPermutation, replicate}
 use Rattle.std.specs.List.{AllByRecursion}
 use Rattle.std.specs.declared.cmp.Ordering.{Ordering}
@@ -9,7 +9,7 @@ use Rattle.std.specs.Cmp.{IsTotalOrder}
 use Rattle.std.proofs.lemmas.List.Sorted.{IsPermutation-refl, IsPermutation-cons, IsPermutation-trans, IsPermutation-append_comm, IsPermutation-append_left}
 use Rattle.std.proofs.lemmas.List.Sums.{sum_by-cons, sum_by-append}
 use Rattle.ranking_model.specs.Order.{placed, sorted}
-use Rattle.shared_lemmas.proofs.Lists.{all_weaker, all_take, all_drop, all_filter, filter_all}
+use Rattle.shared_lemmas.proofs.Lists.{all_weaker, all_filter, filter_all}
 use Rattle.ranking_model.proofs.Sorting.{Ascends, level, same_ranks, sorted_ascends, sum_by-sorted, all_sorted, ascends_append}
 
 -- ---- sums
@@ -85,18 +85,7 @@ module _ {A : Type 0} (cmp : A → A → Ordering) (o : IsTotalOrder cmp) (same 
           let j = sum_by-sorted cmp f (filter p back) in
           omega arith
 
-pub ascends_take : {A : Type 0} (cmp : A → A → Ordering) (n : ℕ) (xs : List A) → Ascends cmp xs → Ascends cmp (take n xs)
-ascends_take cmp zero xs h = tt
-ascends_take cmp (suc n) [] h = tt
-ascends_take cmp (suc n) (x ∷ xs) h = (all_take (λ y. is_gt (cmp x y) ≡ false) n xs h.0, ascends_take cmp n xs h.1)
-
 pub ascends_drop : {A : Type 0} (cmp : A → A → Ordering) (n : ℕ) (xs : List A) → Ascends cmp xs → Ascends cmp (drop n xs)
 ascends_drop cmp zero xs h = h
 ascends_drop cmp (suc n) [] h = tt
 ascends_drop cmp (suc n) (x ∷ xs) h = ascends_drop cmp n xs h.1
-
--- the first n are not after the others
-pub take_before_drop : {A : Type 0} (cmp : A → A → Ordering) (n : ℕ) (xs : List A) → Ascends cmp xs → AllByRecursion (λ a. AllByRecursion (λ b. is_gt (cmp a b) ≡ false) (drop n xs)) (take n xs)
-take_before_drop cmp zero xs h = tt
-take_before_drop cmp (suc n) [] h = tt
-take_before_drop cmp (suc n) (x ∷ xs) h = (all_drop (λ y. is_gt (cmp x y) ≡ false) n xs h.0, take_before_drop cmp n xs h.1)

@@ -14,8 +14,9 @@ use Rattle.shared_lemmas.proofs.Sums.{sum_map}
 use Rattle.shared_lemmas.proofs.Lists.{all_weaker, all_both, all_take, all_drop, all_map, all_filter}
 use Rattle.ranking_model.proofs.Sorting.{Ascends, sorted_ascends, sum_by-sorted, all_sorted}
 use Rattle.ranking_model.proofs.Orders.{rank_total}
+use Rattle.ranking_model.proofs.Candidates.{ascends_take, take_before_drop}
 use Rattle.final_certificate.specs.Rule.{gained, is_safe, are_safe}
-use Rattle.final_certificate.proofs.Lists.{sum_by-filter, sum_by-same, ascends_take, take_before_drop}
+use Rattle.final_certificate.proofs.Lists.{sum_by-filter, sum_by-same}
 use Rattle.final_certificate.proofs.Lifting.{is_scored, lift, count_doc}
 use Rattle.final_certificate.proofs.Edges.{Leads, leads_safe, ranked, front, others, parted, docs, docs_lift}
 

@@ -50,6 +50,6 @@ do_documents_stay k bound hits runner_up untouched = if nat_lt (length hits) k t
 unfoldable pub grade_by : ℕ → ℕ → Standing → Grade
 grade_by k bound s = if bound == 0 then Final else (if do_documents_stay k bound s.hits s.runner_up s.least_untouched then (if are_safe bound s.hits then Final else Set) else Open)
 
--- the report after the first n classes, with the grade that this rule gives
+-- the report after the first n segments, with the grade that this rule gives
 abbrev pub report_by : ℕ → QueryPlan → ℕ → Report
 report_by n plan k = report_of n plan (grade_by k (bound_after n plan) (standing_of (scores_after n plan) k))

@@ -30,10 +30,6 @@ pub at_end : (P : ℕ → Type 0) (next : ℕ → ℕ) (k a last : ℕ) → Ends
 at_end P next zero a last e h = subst P e.0 h.0
 at_end P next (suc k) a last e h = at_end P next k (next a) last e h.1
 
-pub end_link : (next : ℕ → ℕ) (k a last : ℕ) → Ends next (suc k) a last → next last ≡ 4294967295
-end_link next zero a last e = subst (λ (b : ℕ). next b ≡ 4294967295) e.0 e.1
-end_link next (suc k) a last e = end_link next k (next a) last e
-
 -- a walk whose last frame is linked to another list goes on along it
 pub walk-spliced : (next next' : ℕ → ℕ) (k m n a last free : ℕ) → n ≡ suc k + m → Ends next (suc k) a last → Distinct (walk next (suc k) a)
     → ((x : ℕ) → x ≢ last → next' x ≡ next x) → next' last ≡ free → walk next' n a ≡ walk next (suc k) a ++ walk next' m free

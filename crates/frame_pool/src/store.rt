@@ -142,7 +142,7 @@ impl FrameStore {
     }
 }
 
-// A row has a slot for each document of a page. It does nothing: a caller learns it by the call.
+/// A row has a slot for each document of a page. It does nothing: a caller learns it by the call.
 fn a_row_is_whole(row: &[u32; SLOTS])
     ensures { length row.now ≡ 256 }
 {}
@@ -153,7 +153,7 @@ fn clear_scores(scores: &mut [u32; SLOTS])
     fill_zero(scores);
 }
 
-// Sets all heap places of a frame to 0, which they are where none was set.
+/// Sets all heap places of a frame to 0, which they are where none was set.
 fn clear_places(places: &mut [u32; SLOTS], placed: bool)
     requires { placed ≡ false → places.old ≡ replicate 256 0 }
     ensures { places.new ≡ replicate 256 0 }

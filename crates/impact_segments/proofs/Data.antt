@@ -1,5 +1,5 @@
 -- A collection and an index in memory, as the plain data that they are.
-use Rattle.std.proofs.Common.{◌≡◌, ℕ, suc, List, [], ◌∷◌, ◌++◌, map, refl, sym, ap, ap₂, ◌∙◌}
+use Rattle.std.proofs.Common.{◌≡◌, ℕ, List, [], ◌∷◌, ◌++◌, map, refl, sym, ap, ap₂, ◌∙◌}
 use Rattle.std.specs.List.{flat_map}
 use Rattle.std.specs.Ordering.{nat_cmp}
 use Rattle.std.specs.Cmp.Lexicographic.{slice_cmp}
@@ -21,8 +21,8 @@ use Rattle.ranking_model.specs.Flat.{entry_cmp}
 use Rattle.index_model.specs.Flat as model
 use Rattle.index_model.specs.Views.{segment_data, term_data}
 use Rattle.impact_segments.specs.Collections.{lengths_of, total_of, weights_in, entries_in, index_of}
-use Rattle.impact_segments.specs.Held.{term_entries, flat_of_terms, numbered_from}
-use Rattle.impact_segments.specs.Weighed.{lengths_in, list_weights, list_entries}
+use Rattle.impact_segments.specs.Private.Held.{term_entries, flat_of_terms}
+use Rattle.impact_segments.specs.Private.Weighed.{lengths_in, list_weights, list_entries}
 
 -- ---- the index
 
@@ -33,10 +33,6 @@ segments_same {T} t (s ∷ ss) = ap (λ (l : List (Entry T)). model.segment_entr
 pub flat_same : (terms : List TermSegments) → flat_of_terms terms ≡ model.flat_of_terms (map term_data terms)
 flat_same [] = refl
 flat_same (t ∷ ts) = ap₂ (λ (x y : List (Entry (List ℕ))). x ++ y) (segments_same t.term t.segments) (flat_same ts)
-
-pub numbers_same : (n : ℕ) (terms : List TermSegments) → numbered_from n terms ≡ model.numbered_from n (map term_data terms)
-numbers_same n [] = refl
-numbers_same n (t ∷ ts) = ap₂ (λ (x y : List (Entry ℕ)). x ++ y) (segments_same n t.segments) (numbers_same (suc n) ts)
 
 -- ---- the collection
 

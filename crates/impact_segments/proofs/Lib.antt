@@ -10,6 +10,4 @@ pub mod ByTerm
 pub mod Grouped
 pub mod ListTerms
 pub mod ListRange
-mod GroupLaws
-mod RangeLaws
 mod Unwidened

@@ -17,7 +17,7 @@ use Rattle.weights.specs.declared.quantizing.Bits.TheVariants.{Raw, Of}
 use Rattle.weights.specs.declared.quantizing.Range.{Range}
 use Rattle.weights.specs.Quantizing.{empty_range, range_of, widened}
 use Rattle.weights.proofs.Limits.{weight_of-lt}
-use Rattle.impact_segments.proofs.RangeLaws.{greatest-from, greatest-ge_each, greatest-ge_start, least-from, least-le_each, least-le_start, same_range}
+use Rattle.weights.proofs.Ranges.{least-le_start, greatest-ge_start, least-le_each, greatest-ge_each, least-from, greatest-from, same_range}
 use Rattle.impact_segments.specs.Collections.{lengths_of, total_of, weight_in, weights_in, weights_of}
 use Rattle.impact_segments.specs.ListTerms.{lists_in_use, widened_by}
 use Rattle.impact_segments.specs.OneList.{EndsLow, first_outside, has_weight, outside}

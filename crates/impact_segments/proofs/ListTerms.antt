@@ -23,14 +23,16 @@ use Rattle.ranking_model.specs.Order.{sorted}
 use Rattle.ranking_model.specs.Flat.{entry_cmp}
 use Rattle.index_model.specs.Grouping.{index_with, with_entries}
 use Rattle.index_model.specs.Index.{IndexData, TermData}
-use Rattle.index_model.proofs.Lists.{map_sorted}
+use Rattle.ranking_model.proofs.Growing.{sorted_map}
+use Rattle.ranking_model.proofs.Sorting.{length_sorted}
 use Rattle.impact_segments.specs.Collections.{entries_in, index_of, lengths_of, total_of, weight_in, weights_of}
 use Rattle.impact_segments.specs.ListTerms.{AreByTerm, list_segments, list_term, lists_in_use, segments_in}
 use Rattle.impact_segments.specs.OneList.{pairs_in}
-use Rattle.impact_segments.specs.Pairs.{pair_cmp}
+use Rattle.impact_segments.specs.Pairs.{pair_cmp, with_impact}
+use Rattle.impact_segments.specs.declared.doc_impact.DocImpact.{DocImpact}
 use Rattle.impact_segments.proofs.ByTerm.{by_term, none_of, own_term}
 use Rattle.impact_segments.proofs.Grouped.{grouped, terms_there}
-use Rattle.impact_segments.proofs.OneTerm.{length_sorted, same_order, under}
+use Rattle.impact_segments.proofs.OneTerm.{same_order, under}
 
 -- what holds of each list with postings
 pub all_in_use : (P : ListData → Type 0) → ((l : ListData) → 1 ≤ length l.postings → P l) → (lists all : List ListData) → IsPermutation lists (lists_in_use all) → AllByRecursion P lists
@@ -43,13 +45,13 @@ module _ (rule : Rule) (lengths : List ℕ) (total : ℕ) (bits : Bits) (range :
   abbrev entries : ListData → List (Entry (List ℕ))
   entries l = entries_in rule lengths total bits range l.term l.postings
 
-  abbrev pairs : ListData → List (ℕ × ℕ)
+  abbrev pairs : ListData → List DocImpact
   pairs l = sorted pair_cmp (pairs_in rule lengths total bits range l.postings)
 
   in_order : (l : ListData) → sorted (entry_cmp (slice_cmp nat_cmp)) (entries l) ≡ map (under l.term) (pairs l)
   in_order l =
-      ap (sorted (entry_cmp (slice_cmp nat_cmp))) (sym (map-map (under l.term) (λ (p : Posting). (p.doc, impact_of bits range (weight_in rule lengths total (length l.postings) p))) l.postings))
-      ∙ sym (map_sorted (under l.term) pair_cmp (entry_cmp (slice_cmp nat_cmp)) (same_order l.term) (pairs_in rule lengths total bits range l.postings))
+      ap (sorted (entry_cmp (slice_cmp nat_cmp))) (sym (map-map (under l.term) (λ (p : Posting). with_impact (impact_of bits range (weight_in rule lengths total (length l.postings) p)) p.doc) l.postings))
+      ∙ sorted_map (under l.term) pair_cmp (entry_cmp (slice_cmp nat_cmp)) (same_order l.term) (pairs_in rule lengths total bits range l.postings)
 
   some_pairs : (l : ListData) → 1 ≤ length l.postings → 1 ≤ length (pairs l)
   some_pairs l some =
@@ -72,7 +74,7 @@ same_terms : (rule : Rule) (lengths : List ℕ) (total : ℕ) (bits : Bits) (ran
 unfolding list_segments
 same_terms rule lengths total bits range other lists same =
     λ i. map (λ (l : ListData).
-    (let t : TermData = record { term = l.term; segments = segments_in (sorted pair_cmp (map (λ (p : Posting). (p.doc, same (weight_in rule lengths total (length l.postings) p) i)) l.postings)) } in t)) lists
+    (let t : TermData = record { term = l.term; segments = segments_in (sorted pair_cmp (map (λ (p : Posting). with_impact (same (weight_in rule lengths total (length l.postings) p) i) p.doc) l.postings)) } in t)) lists
 
 pub index_by_term : (c : CollectionData) (rule : Rule) (bits : Bits) (range : Range) (names : List (List ℕ)) (lists : List ListData) → AreByTerm c lists
     → ((w : ℕ) → impact_of bits range w ≡ impact_of bits (range_of (weights_of c rule)) w)

@@ -27,19 +27,17 @@ use Rattle.weights.specs.Quantizing.{impact_of, range_of}
 use Rattle.ranking_model.specs.declared.entry.Entry.{Entry}
 use Rattle.ranking_model.specs.Order.{sorted}
 use Rattle.ranking_model.specs.Flat.{entry_cmp}
-use Rattle.ranking_model.proofs.Sorting.{Ascends, all_sorted, sorted_ascends, sorted_is_permutation}
+use Rattle.ranking_model.proofs.Sorting.{Ascends, all_sorted, sorted_ascends, sorted_is_permutation, pairs_sorted, length_sorted}
 use Rattle.jass_base.specs.CiffViews.{collection_data}
 use Rattle.index_model.specs.Flat as model
 use Rattle.index_model.specs.Views.{term_data}
 use Rattle.impact_segments.proofs.Data.{flat_same, index_same}
 use Rattle.impact_segments.specs.Collections.{index_of}
-use Rattle.impact_segments.specs.Weighed.{lengths_in, total_length, posting_weight, list_weights, list_entries}
-use Rattle.impact_segments.specs.Held.{flat_of_terms}
-use Rattle.impact_segments.specs.Listed.{has_postings, term_cmp}
-use Rattle.index_model.proofs.Lists.{pairs_sorted}
+use Rattle.impact_segments.specs.Private.Weighed.{lengths_in, total_length, posting_weight, list_weights, list_entries}
+use Rattle.impact_segments.specs.Private.Held.{flat_of_terms}
+use Rattle.impact_segments.specs.Private.Listed.{has_postings, term_cmp}
 use Rattle.impact_segments.proofs.ByTerm.{by_term, none_of, own_term}
 use Rattle.impact_segments.proofs.Orders.{term_total, strictly}
-use Rattle.impact_segments.proofs.OneTerm.{length_sorted}
 
 abbrev text_cmp : List ℕ → List ℕ → Ordering
 text_cmp = slice_cmp nat_cmp

@@ -21,25 +21,24 @@ use Rattle.weights.specs.declared.weighting.Rule.{Rule}
 use Rattle.weights.specs.Quantizing.{impact_of}
 use Rattle.weights.specs.Weighting.{idf}
 use Rattle.impact_segments.specs.Collections.{weight_in}
-use Rattle.impact_segments.specs.OneList.{Unmade, first_outside, has_weight, nearer_end, outside}
-use Rattle.impact_segments.specs.Pairs.{pair_docs}
-use Rattle.impact_segments.specs.declared.one_list.SegmentsFault.{SegmentsFault}
-use Rattle.impact_segments.specs.declared.one_list.SegmentsFault.TheVariants.{Outside, NoMemory}
+use Rattle.impact_segments.specs.OneList.{first_outside, has_weight, nearer_end, outside}
+use Rattle.impact_segments.specs.Pairs.{pair_docs, with_impact}
+use Rattle.impact_segments.specs.declared.doc_impact.DocImpact.{DocImpact}
 
 module _ (f : Posting → ℕ) (list : PostingsList) where
-  abbrev pub pair_by : Posting → ℕ × ℕ
-  pair_by p = (p.doc, f p)
+  abbrev pub pair_by : Posting → DocImpact
+  pair_by p = record { doc = p.doc; impact = f p }
 
-  pub docs_rise_by : (pairs : List (ℕ × ℕ)) → pairs ≡ map pair_by list.postings → IsStrictlyIncreasing (pair_docs pairs)
+  pub docs_rise_by : (pairs : List DocImpact) → pairs ≡ map pair_by list.postings → IsStrictlyIncreasing (pair_docs pairs)
   docs_rise_by pairs is =
       let P : List ℕ → Type 0 = λ (l : List ℕ). IsStrictlyIncreasing l in
-      subst P (sym (ap pair_docs is ∙ map-map (λ (p : ℕ × ℕ). p.0) pair_by list.postings)) list.rising
+      subst P (sym (ap pair_docs is ∙ map-map (λ (p : DocImpact). p.doc) pair_by list.postings)) list.rising
 
-  pub docs_below_by : (d : ℕ) (pairs : List (ℕ × ℕ)) → pairs ≡ map pair_by list.postings → HasDocsBelow d list → AllByRecursion (λ (p : ℕ × ℕ). p.0 < d) pairs
+  pub docs_below_by : (d : ℕ) (pairs : List DocImpact) → pairs ≡ map pair_by list.postings → HasDocsBelow d list → AllByRecursion (λ (p : DocImpact). p.doc < d) pairs
   docs_below_by d pairs is below =
       let P : List ℕ → Type 0 = λ (l : List ℕ). AllByRecursion (λ (doc : ℕ). doc < d) l in
-      all_unmap (λ (doc : ℕ). doc < d) (λ (p : ℕ × ℕ). p.0) pairs
-      (subst P (sym (ap pair_docs is ∙ map-map (λ (p : ℕ × ℕ). p.0) pair_by list.postings)) (recursion_from_All (λ (doc : ℕ). doc < d) (docs_of list.postings) below))
+      all_unmap (λ (doc : ℕ). doc < d) (λ (p : DocImpact). p.doc) pairs
+      (subst P (sym (ap pair_docs is ∙ map-map (λ (p : DocImpact). p.doc) pair_by list.postings)) (recursion_from_All (λ (doc : ℕ). doc < d) (docs_of list.postings) below))
 
 -- a weight by what the weigher of a list keeps
 pub weight_same : (rule kept : Rule) (lengths others : List ℕ) (total sum count rare w : ℕ) (p : Posting) → kept ≡ rule → others ≡ lengths → sum ≡ total → rare ≡ idf (length lengths) count
@@ -49,20 +48,20 @@ weight_same rule kept lengths others total sum count rare w p a b c rare_is valu
     ∙ ap (λ (r : Rule). weight_in r others sum count p) a ∙ ap (λ (l : List ℕ). weight_in rule l sum count p) b ∙ ap (λ (n : ℕ). weight_in rule lengths n count p) c
 
 -- one pair more
-pub pairs_more : (f : Posting → ℕ × ℕ) (pairs longer whole : List (ℕ × ℕ)) (items : List Posting) (i : ℕ) (d : Posting) (mine : ℕ × ℕ) → i < length items → longer ≡ pairs ++ mine ∷ [] → mine ≡ f (get_or items i d)
+pub pairs_more : (f : Posting → DocImpact) (pairs longer whole : List DocImpact) (items : List Posting) (i : ℕ) (d : Posting) (mine : DocImpact) → i < length items → longer ≡ pairs ++ mine ∷ [] → mine ≡ f (get_or items i d)
     → pairs ++ map f (drop i items) ≡ whole → longer ++ map f (drop (i + 1) items) ≡ whole
 pairs_more f pairs longer whole items i d mine low is one so_far =
-    ap (λ (l : List (ℕ × ℕ)). l ++ map f (drop (i + 1) items)) is ∙ append_assoc pairs (mine ∷ []) (map f (drop (i + 1) items))
-    ∙ ap (λ (x : ℕ × ℕ). pairs ++ x ∷ map f (drop (i + 1) items)) one ∙ ap (λ (l : List Posting). pairs ++ map f l) (sym (drop_more items i d low)) ∙ so_far
+    ap (λ (l : List DocImpact). l ++ map f (drop (i + 1) items)) is ∙ append_assoc pairs (mine ∷ []) (map f (drop (i + 1) items))
+    ∙ ap (λ (x : DocImpact). pairs ++ x ∷ map f (drop (i + 1) items)) one ∙ ap (λ (l : List Posting). pairs ++ map f l) (sym (drop_more items i d low)) ∙ so_far
 
 pub pair_is : (bits : Bits) (range : Range) (doc impact w v : ℕ) → impact ≡ impact_of bits range w → w ≡ v
-    → (let mine : ℕ × ℕ = (doc, impact) in mine) ≡ (let other : ℕ × ℕ = (doc, impact_of bits range v) in other)
-pair_is bits range doc impact w v is same = λ j. (doc, (is ∙ ap (impact_of bits range) same) j)
+    → with_impact impact doc ≡ with_impact (impact_of bits range v) doc
+pair_is bits range doc impact w v is same = λ j. with_impact ((is ∙ ap (impact_of bits range) same) j) doc
 
-pub positive_more : (pairs longer : List (ℕ × ℕ)) (doc impact : ℕ) → longer ≡ pairs ++ (doc, impact) ∷ [] → 1 ≤ impact → All (λ (p : ℕ × ℕ). 1 ≤ p.1) pairs → All (λ (p : ℕ × ℕ). 1 ≤ p.1) longer
+pub positive_more : (pairs longer : List DocImpact) (doc impact : ℕ) → longer ≡ pairs ++ with_impact impact doc ∷ [] → 1 ≤ impact → All (λ (p : DocImpact). 1 ≤ p.impact) pairs → All (λ (p : DocImpact). 1 ≤ p.impact) longer
 positive_more pairs longer doc impact is positive all =
-    let P : List (ℕ × ℕ) → Type 0 = λ (l : List (ℕ × ℕ)). All (λ (p : ℕ × ℕ). 1 ≤ p.1) l in
-    subst P (sym is) (All-push (λ (p : ℕ × ℕ). 1 ≤ p.1) pairs (doc, impact) all positive)
+    let P : List DocImpact → Type 0 = λ (l : List DocImpact). All (λ (p : DocImpact). 1 ≤ p.impact) l in
+    subst P (sym is) (All-push (λ (p : DocImpact). 1 ≤ p.impact) pairs (with_impact impact doc) all positive)
 
 -- segments with documents below d have documents of an index of d documents
 pub are_docs : (d : ℕ) (segments : List Segment) → d ≤ 2 ^ 26 → All (HasDocumentsBelow d) segments → All (λ (s : Segment). AreDocs d s.docs) segments
@@ -76,21 +75,9 @@ within_more : (b : Bool) (x : ℕ × ℕ) (later : Option (ℕ × ℕ)) → (if 
 within_more true x later none = refl
 within_more false x later none = cc
 
-outside_first : (b : Bool) (x y : ℕ × ℕ) (later : Option (ℕ × ℕ)) → (if b then None else Some x) ≡ Some y → (if b then later else Some x) ≡ Some y
-outside_first true x y later some = cc
-outside_first false x y later some = some
-
 pub inside_more : (bits : Bits) (range : Range) (w : ℕ) (weights : List ℕ) → outside bits range (w ∷ []) ≡ None → outside bits range (w ∷ weights) ≡ outside bits range weights
 inside_more Raw range w weights none = refl
 inside_more (Of b) range w weights none = within_more (has_weight range w) (nearer_end range w, w) (first_outside range weights) none
-
-some_more : (bits : Bits) (range : Range) (w : ℕ) (weights : List ℕ) (y : ℕ × ℕ) → outside bits range (w ∷ []) ≡ Some y → outside bits range (w ∷ weights) ≡ Some y
-some_more Raw range w weights y some = cc
-some_more (Of b) range w weights y some = outside_first (has_weight range w) (nearer_end range w, w) y (first_outside range weights) some
-
-pub fault_more : (bits : Bits) (range : Range) (w : ℕ) (weights : List ℕ) (fault : SegmentsFault) → Unmade (outside bits range (w ∷ [])) fault → Unmade (outside bits range (w ∷ weights)) fault
-fault_more bits range w weights (Outside kept found) is = some_more bits range w weights (kept, found) is
-fault_more bits range w weights NoMemory is = tt
 
 -- one weight more was judged
 pub judged_more : (weigh : Posting → ℕ) (bits : Bits) (range : Range) (items : List Posting) (i : ℕ) (d : Posting) (w : ℕ) (all : Option (ℕ × ℕ)) → i < length items → w ≡ weigh (get_or items i d) → outside bits range (w ∷ []) ≡ None

@@ -1,10 +1,9 @@
 -- A term's segments from its list, and the terms from the lists.
-use Rattle.std.proofs.Common.{◌≡◌, ℕ, suc, ◌+◌, ◌<◌, ◌≤◌, max, List, [], ◌∷◌, ◌++◌, map, length, get_or, drop, Bool, true, false, refl, sym, ap, ap₂, ◌∙◌, subst, arith, append-nil, append_assoc}
+use Rattle.std.proofs.Common.{◌≡◌, ℕ, ◌+◌, ◌<◌, ◌≤◌, max, List, [], ◌∷◌, ◌++◌, map, length, get_or, drop, refl, sym, ap, ap₂, ◌∙◌, subst, arith, append-nil, append_assoc}
 use Rattle.std.specs.Prelude.{All}
 use Rattle.std.specs.List.{AllByRecursion, flat_map}
 use Rattle.std.specs.List.Sorted.{IsStrictlyIncreasing}
-use Rattle.std.specs.declared.cmp.Ordering.{Ordering}
-use Rattle.std.specs.Ordering.{is_gt, nat_cmp}
+use Rattle.std.specs.Ordering.{nat_cmp}
 use Rattle.std.specs.Cmp.Lexicographic.{slice_cmp}
 use Rattle.std.proofs.lemmas.Cmp.{nat_list_cmp_total, tied_itself}
 use Rattle.std.proofs.lemmas.List.{length-map, map-append, get_or-map, drop_more}
@@ -28,14 +27,15 @@ use Rattle.weights.specs.declared.quantizing.Bits.{Bits}
 use Rattle.weights.specs.declared.quantizing.Range.{Range}
 use Rattle.weights.specs.Quantizing.{impact_of}
 use Rattle.ranking_model.specs.declared.entry.Entry.{Entry}
-use Rattle.ranking_model.specs.Order.{placed, sorted}
+use Rattle.ranking_model.specs.Order.{sorted}
 use Rattle.ranking_model.specs.Flat.{entry_cmp}
-use Rattle.ranking_model.proofs.Sorting.{all_sorted}
-use Rattle.impact_segments.specs.Weighed.{posting_weight, list_entries}
-use Rattle.impact_segments.specs.Held.{term_entries, flat_of_terms}
-use Rattle.impact_segments.specs.Listed.{lists_behind}
-use Rattle.impact_segments.specs.Pairs.{pair_cmp, pairs_of, pair_docs, list_pairs}
-use Rattle.index_model.proofs.Lists.{map_sorted}
+use Rattle.ranking_model.proofs.Sorting.{all_sorted, length_sorted}
+use Rattle.ranking_model.proofs.Growing.{sorted_map}
+use Rattle.impact_segments.specs.Private.Weighed.{posting_weight, list_entries}
+use Rattle.impact_segments.specs.Private.Held.{term_entries, flat_of_terms}
+use Rattle.impact_segments.specs.Private.Listed.{lists_behind}
+use Rattle.impact_segments.specs.Pairs.{pair_cmp, pairs_of, pair_docs, list_pairs, with_impact}
+use Rattle.impact_segments.specs.declared.doc_impact.DocImpact.{DocImpact}
 
 pub all_map_at : {A B : Type 0} (P : B → Type 0) (f : A → B) (xs : List A) (i : ℕ) (d : A) → i < length xs → All P (map f xs) → P (f (get_or xs i d))
 all_map_at P f xs i d low h = let inside : i < length (map f xs) = rw length-map low in subst P (get_or-map f xs i d (f d) low) (h i (f d) inside)
@@ -43,83 +43,72 @@ all_map_at P f xs i d low h = let inside : i < length (map f xs) = rw length-map
 -- ---- the pairs of a list
 
 module _ (rule : Rule) (docs : List DocRecord) (bits : Bits) (range : Range) (list : PostingsList) where
-  abbrev pub pair_of : Posting → ℕ × ℕ
-  pair_of p = (p.doc, impact_of bits range (posting_weight rule docs list p))
+  abbrev pub pair_of : Posting → DocImpact
+  pair_of p = record { doc = p.doc; impact = impact_of bits range (posting_weight rule docs list p) }
 
   -- the pairs so far, and those of the postings that are left
-  pub record Paired (pairs : List (ℕ × ℕ)) (rest : List Posting) : Type 0 where
+  pub record Paired (pairs : List DocImpact) (rest : List Posting) : Type 0 where
     pub value : pairs ++ map pair_of rest ≡ list_pairs rule docs bits range list
-    pub positive : All (λ (p : ℕ × ℕ). 1 ≤ p.1) pairs
+    pub positive : All (λ (p : DocImpact). 1 ≤ p.impact) pairs
 
-  pub paired_more : (pairs longer : List (ℕ × ℕ)) (items : List Posting) (i : ℕ) (d : Posting) (impact w : ℕ) → i < length items → longer ≡ pairs ++ ((get_or items i d).doc, impact) ∷ []
+  pub paired_more : (pairs longer : List DocImpact) (items : List Posting) (i : ℕ) (d : Posting) (impact w : ℕ) → i < length items → longer ≡ pairs ++ with_impact impact (get_or items i d).doc ∷ []
       → impact ≡ impact_of bits range w → w ≡ posting_weight rule docs list (get_or items i d) → 1 ≤ impact → Paired pairs (drop i items) → Paired longer (drop (i + 1) items)
   paired_more pairs longer items i d impact w low is value weight positive paired =
       let p : Posting = get_or items i d in
-      let mine : ℕ × ℕ = (p.doc, impact) in
-      let one : mine ≡ pair_of p = λ j. (p.doc, (value ∙ ap (impact_of bits range) weight) j) in
+      let mine : DocImpact = with_impact impact p.doc in
+      let one : mine ≡ pair_of p = λ j. with_impact ((value ∙ ap (impact_of bits range) weight) j) p.doc in
       let left : pairs ++ map pair_of (p ∷ drop (i + 1) items) ≡ list_pairs rule docs bits range list = ap (λ (l : List Posting). pairs ++ map pair_of l) (sym (drop_more items i d low)) ∙ paired.value in
-      let P : List (ℕ × ℕ) → Type 0 = λ (l : List (ℕ × ℕ)). All (λ (p : ℕ × ℕ). 1 ≤ p.1) l in
+      let P : List DocImpact → Type 0 = λ (l : List DocImpact). All (λ (p : DocImpact). 1 ≤ p.impact) l in
       record {
-        value = ap (λ (l : List (ℕ × ℕ)). l ++ map pair_of (drop (i + 1) items)) is ∙ append_assoc pairs ((p.doc, impact) ∷ []) (map pair_of (drop (i + 1) items))
-            ∙ ap (λ (x : ℕ × ℕ). pairs ++ x ∷ map pair_of (drop (i + 1) items)) one ∙ left;
-        positive = subst P (sym is) (All-push (λ (p : ℕ × ℕ). 1 ≤ p.1) pairs (p.doc, impact) paired.positive positive);
+        value = ap (λ (l : List DocImpact). l ++ map pair_of (drop (i + 1) items)) is ∙ append_assoc pairs (mine ∷ []) (map pair_of (drop (i + 1) items))
+            ∙ ap (λ (x : DocImpact). pairs ++ x ∷ map pair_of (drop (i + 1) items)) one ∙ left;
+        positive = subst P (sym is) (All-push (λ (p : DocImpact). 1 ≤ p.impact) pairs mine paired.positive positive);
       }
 
-  pub docs_rise : (pairs : List (ℕ × ℕ)) → pairs ≡ list_pairs rule docs bits range list → IsStrictlyIncreasing (pair_docs pairs)
+  pub docs_rise : (pairs : List DocImpact) → pairs ≡ list_pairs rule docs bits range list → IsStrictlyIncreasing (pair_docs pairs)
   docs_rise pairs is =
       let P : List ℕ → Type 0 = λ (l : List ℕ). IsStrictlyIncreasing l in
-      subst P (sym (ap pair_docs is ∙ map-map (λ (p : ℕ × ℕ). p.0) pair_of list.postings)) list.rising
+      subst P (sym (ap pair_docs is ∙ map-map (λ (p : DocImpact). p.doc) pair_of list.postings)) list.rising
 
-  pub docs_below : (d : ℕ) (pairs : List (ℕ × ℕ)) → pairs ≡ list_pairs rule docs bits range list → HasDocsBelow d list → AllByRecursion (λ (p : ℕ × ℕ). p.0 < d) pairs
+  pub docs_below : (d : ℕ) (pairs : List DocImpact) → pairs ≡ list_pairs rule docs bits range list → HasDocsBelow d list → AllByRecursion (λ (p : DocImpact). p.doc < d) pairs
   docs_below d pairs is below =
       let P : List ℕ → Type 0 = λ (l : List ℕ). AllByRecursion (λ (doc : ℕ). doc < d) l in
-      all_unmap (λ (doc : ℕ). doc < d) (λ (p : ℕ × ℕ). p.0) pairs
-      (subst P (sym (ap pair_docs is ∙ map-map (λ (p : ℕ × ℕ). p.0) pair_of list.postings)) (recursion_from_All (λ (doc : ℕ). doc < d) (docs_of list.postings) below))
+      all_unmap (λ (doc : ℕ). doc < d) (λ (p : DocImpact). p.doc) pairs
+      (subst P (sym (ap pair_docs is ∙ map-map (λ (p : DocImpact). p.doc) pair_of list.postings)) (recursion_from_All (λ (doc : ℕ). doc < d) (docs_of list.postings) below))
 
 -- ---- the segments of pairs
 
-length_placed : {A : Type 0} (cmp : A → A → Ordering) (x : A) (ys : List A) → length (placed cmp x ys) ≡ suc (length ys)
-length_placed cmp x [] = refl
-length_placed cmp x (y ∷ ys) = step (is_gt (cmp x y)) refl (length_placed cmp x ys) where
-  step : (b : Bool) → is_gt (cmp x y) ≡ b → length (placed cmp x ys) ≡ suc (length ys) → length (placed cmp x (y ∷ ys)) ≡ suc (suc (length ys))
-  step true e rest = rw e (ap suc rest)
-  step false e rest = rw e refl
-
-pub length_sorted : {A : Type 0} (cmp : A → A → Ordering) (xs : List A) → length (sorted cmp xs) ≡ length xs
-length_sorted cmp [] = refl
-length_sorted cmp (x ∷ xs) = length_placed cmp x (sorted cmp xs) ∙ ap suc (length_sorted cmp xs)
-
-pub some_segments : (segments : List Segment) (pairs : List (ℕ × ℕ)) → pairs_of segments ≡ sorted pair_cmp pairs → 1 ≤ length pairs → 1 ≤ length segments
+pub some_segments : (segments : List Segment) (pairs : List DocImpact) → pairs_of segments ≡ sorted pair_cmp pairs → 1 ≤ length pairs → 1 ≤ length segments
 some_segments [] pairs is some = let none : 0 ≡ length (sorted pair_cmp pairs) = ap length is in let all = length_sorted pair_cmp pairs in absurd (omega (arith, none, all, some))
 some_segments (s ∷ ss) pairs is some = omega arith
 
-pub segments_below : (d : ℕ) (segments : List Segment) (pairs : List (ℕ × ℕ)) → pairs_of segments ≡ sorted pair_cmp pairs → AllByRecursion (λ (p : ℕ × ℕ). p.0 < d) pairs → All (HasDocumentsBelow d) segments
+pub segments_below : (d : ℕ) (segments : List Segment) (pairs : List DocImpact) → pairs_of segments ≡ sorted pair_cmp pairs → AllByRecursion (λ (p : DocImpact). p.doc < d) pairs → All (HasDocumentsBelow d) segments
 segments_below d segments pairs is below =
-    let P : List (ℕ × ℕ) → Type 0 = λ (l : List (ℕ × ℕ)). AllByRecursion (λ (p : ℕ × ℕ). p.0 < d) l in
-    let each : AllByRecursion (λ (s : Segment). AllByRecursion (λ (p : ℕ × ℕ). p.0 < d) (map (λ (doc : ℕ). (doc, s.impact)) s.docs)) segments
-    = all_parts (λ (p : ℕ × ℕ). p.0 < d) (λ (s : Segment). map (λ (doc : ℕ). (doc, s.impact)) s.docs) segments (subst P (sym is) (all_sorted pair_cmp (λ (p : ℕ × ℕ). p.0 < d) pairs below)) in
+    let P : List DocImpact → Type 0 = λ (l : List DocImpact). AllByRecursion (λ (p : DocImpact). p.doc < d) l in
+    let each : AllByRecursion (λ (s : Segment). AllByRecursion (λ (p : DocImpact). p.doc < d) (map (with_impact s.impact) s.docs)) segments
+    = all_parts (λ (p : DocImpact). p.doc < d) (λ (s : Segment). map (with_impact s.impact) s.docs) segments (subst P (sym is) (all_sorted pair_cmp (λ (p : DocImpact). p.doc < d) pairs below)) in
     All-from_recursion (HasDocumentsBelow d) segments
-    (all_weaker (λ (s : Segment). AllByRecursion (λ (p : ℕ × ℕ). p.0 < d) (map (λ (doc : ℕ). (doc, s.impact)) s.docs)) (HasDocumentsBelow d)
-    (λ s h. All-from_recursion (λ (doc : ℕ). doc < d) s.docs (all_unmap (λ (p : ℕ × ℕ). p.0 < d) (λ (doc : ℕ). (doc, s.impact)) s.docs h)) segments each)
+    (all_weaker (λ (s : Segment). AllByRecursion (λ (p : DocImpact). p.doc < d) (map (with_impact s.impact) s.docs)) (HasDocumentsBelow d)
+    (λ s h. All-from_recursion (λ (doc : ℕ). doc < d) s.docs (all_unmap (λ (p : DocImpact). p.doc < d) (with_impact s.impact) s.docs h)) segments each)
 
-abbrev pub under : List ℕ → ℕ × ℕ → Entry (List ℕ)
-under t p = record { term = t; doc = p.0; impact = p.1 }
+abbrev pub under : List ℕ → DocImpact → Entry (List ℕ)
+under t p = record { term = t; doc = p.doc; impact = p.impact }
 
 under_pairs : (t : List ℕ) (segments : List Segment) → term_entries t segments ≡ map (under t) (pairs_of segments)
 under_pairs t [] = refl
 under_pairs t (s ∷ ss) =
-    ap₂ (λ (x y : List (Entry (List ℕ))). x ++ y) (sym (map-map (under t) (λ (doc : ℕ). (doc, s.impact)) s.docs)) (under_pairs t ss)
-    ∙ sym (map-append (under t) (map (λ (doc : ℕ). (doc, s.impact)) s.docs) (pairs_of ss))
+    ap₂ (λ (x y : List (Entry (List ℕ))). x ++ y) (sym (map-map (under t) (with_impact s.impact) s.docs)) (under_pairs t ss)
+    ∙ sym (map-append (under t) (map (with_impact s.impact) s.docs) (pairs_of ss))
 
-pub same_order : (t : List ℕ) (p q : ℕ × ℕ) → entry_cmp (slice_cmp nat_cmp) (under t p) (under t q) ≡ pair_cmp p q
+pub same_order : (t : List ℕ) (p q : DocImpact) → entry_cmp (slice_cmp nat_cmp) (under t p) (under t q) ≡ pair_cmp p q
 same_order t p q = let e = tied_itself nat_list_cmp_total t in rw e refl
 
-pub term_is : (rule : Rule) (docs : List DocRecord) (bits : Bits) (range : Range) (list : PostingsList) (t : List ℕ) (segments : List Segment) (pairs : List (ℕ × ℕ)) → t ≡ list.term → pairs ≡ list_pairs rule docs bits range list
+pub term_is : (rule : Rule) (docs : List DocRecord) (bits : Bits) (range : Range) (list : PostingsList) (t : List ℕ) (segments : List Segment) (pairs : List DocImpact) → t ≡ list.term → pairs ≡ list_pairs rule docs bits range list
     → pairs_of segments ≡ sorted pair_cmp pairs → term_entries t segments ≡ sorted (entry_cmp (slice_cmp nat_cmp)) (list_entries rule docs bits range list)
 term_is rule docs bits range list t segments pairs same is grouped =
     under_pairs t segments
     ∙ ap (map (under t)) grouped
-    ∙ map_sorted (under t) pair_cmp (entry_cmp (slice_cmp nat_cmp)) (same_order t) pairs
+    ∙ sym (sorted_map (under t) pair_cmp (entry_cmp (slice_cmp nat_cmp)) (same_order t) pairs)
     ∙ ap (λ (l : List (Entry (List ℕ))). sorted (entry_cmp (slice_cmp nat_cmp)) l)
     (ap (map (under t)) is ∙ map-map (under t) (pair_of rule docs bits range list) list.postings ∙ ap (λ (s : List ℕ). map (λ (p : Posting). under s (pair_of rule docs bits range list p)) list.postings) same)
 

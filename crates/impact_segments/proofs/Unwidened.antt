@@ -15,11 +15,11 @@ use Rattle.weights.specs.declared.quantizing.Range.{Range}
 use Rattle.weights.specs.Quantizing.{empty_range, range_of, widened}
 use Rattle.weights.specs.Weighting.{idf, length_norm, saturated}
 use Rattle.weights.proofs.Bounds.{lg_of_rarity}
+use Rattle.weights.proofs.Ranges.{least-le_start, least-le_each, greatest-ge_each, greatest-from, same_range}
 use Rattle.impact_segments.specs.Bounds.{can_widen, heaviest, lightest, most_tf, weight_at}
 use Rattle.impact_segments.specs.Collections.{weight_in, weights_in}
 use Rattle.impact_segments.specs.OneList.{norms_in}
 use Rattle.impact_segments.proofs.OneTerm.{all_map_at}
-use Rattle.impact_segments.proofs.RangeLaws.{greatest-from, greatest-ge_each, least-le_each, least-le_start, same_range}
 use Rattle.impact_segments.proofs.Weights.{few_rising, weight_by}
 
 -- ---- the ends of norms that were cut

@@ -1,14 +1,13 @@
 -- A list's postings are few enough, and their weights are in the range of all.
 use Rattle.std.proofs.Common.{◌≡◌, ℕ, suc, ◌+◌, ◌<◌, ◌≤◌, ◌^◌, max, min, List, [], ◌∷◌, length, map, drop, get_or, sym, ap, ap₂, ◌∙◌, subst, arith, fold}
-use Rattle.std.specs.Prelude.{All, Contains, slice_index}
+use Rattle.std.specs.Prelude.{All, slice_index}
 use Rattle.std.specs.List.{AllByRecursion, flat_map}
 use Rattle.std.specs.List.Sorted.{IsStrictlyIncreasing}
 use Rattle.std.proofs.lemmas.List.Elements.{recursion_from_All, All-from_recursion}
 use Rattle.std.proofs.lemmas.List.{length-map, get_or-map, drop_more}
 use Rattle.std.proofs.lemmas.Simd.{map-map}
-use Rattle.shared_lemmas.proofs.Members.{all_contained}
 use Rattle.shared_lemmas.proofs.Pairs.{Pairs, rising_pairs}
-use Rattle.shared_lemmas.proofs.Lists.{all_weaker, all_unmap, all_parts}
+use Rattle.shared_lemmas.proofs.Lists.{all_weaker, all_parts}
 use Rattle.jass_base.specs.declared.doc_record.DocRecord.{DocRecord}
 use Rattle.jass_base.specs.declared.posting.Posting.{Posting}
 use Rattle.jass_base.specs.declared.postings_list.PostingsList.{PostingsList}
@@ -18,12 +17,12 @@ use Rattle.weights.specs.declared.weighting.Rule.{Rule}
 use Rattle.weights.specs.declared.weighting.Rule.TheVariants.{Bm25}
 use Rattle.weights.specs.Weighting.{idf, length_norm, saturated, weight_of}
 use Rattle.weights.proofs.Bounds.{saturated_cut}
-use Rattle.impact_segments.proofs.RangeLaws.{greatest-ge_start, least-le_start}
 use Rattle.weights.specs.declared.quantizing.Bits.{Bits}
 use Rattle.weights.specs.declared.quantizing.Bits.TheVariants.{Of}
 use Rattle.weights.specs.declared.quantizing.Range.{Range}
 use Rattle.weights.specs.Quantizing.{widened, range_of, empty_range, Holds, IsInRange}
-use Rattle.impact_segments.specs.Weighed.{lengths_in, total_length, norms_of, list_weights}
+use Rattle.weights.proofs.Ranges.{least-le_start, greatest-ge_start}
+use Rattle.impact_segments.specs.Private.Weighed.{lengths_in, total_length, norms_of, list_weights}
 use Rattle.impact_segments.proofs.OneTerm.{all_map_at}
 
 -- numbers that rise and lie from low on below high
@@ -45,10 +44,6 @@ few_rising docs ps rising below =
 
 pub few_postings : (docs : ℕ) (list : PostingsList) → HasDocsBelow docs list → length list.postings ≤ docs
 few_postings docs list below = few_rising docs list.postings list.rising below
-
-pub its_doc : (docs : ℕ) (list : PostingsList) (p : Posting) → HasDocsBelow docs list → Contains list.postings p → p.doc < docs
-its_doc docs list p below own = all_contained (λ (p : Posting). p.doc < docs) list.postings p
-    (all_unmap (λ (doc : ℕ). doc < docs) (λ (p : Posting). p.doc) list.postings (recursion_from_All (λ (doc : ℕ). doc < docs) (docs_of list.postings) below)) own
 
 -- the document of a posting of a list
 pub item_below : (docs : ℕ) (list : PostingsList) (items : List Posting) (i : ℕ) (d : Posting) → items ≡ list.postings → i < length items → HasDocsBelow docs list → (get_or items i d).doc < docs

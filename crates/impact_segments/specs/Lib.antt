@@ -1,10 +1,7 @@
 pub mod Collections
 pub mod Examples
-pub mod Held
-pub mod Listed
 pub mod Pairs
-pub mod Weighed
 pub mod OneList
-pub mod ImpactTable
 pub mod ListTerms
 pub mod Bounds
+pub mod Private

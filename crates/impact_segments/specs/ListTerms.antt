@@ -14,11 +14,12 @@ use Rattle.index_model.specs.Grouping.{with_posting}
 use Rattle.impact_segments.specs.Collections.{weights_in}
 use Rattle.impact_segments.specs.OneList.{pairs_in}
 use Rattle.impact_segments.specs.Pairs.{pair_cmp}
+use Rattle.impact_segments.specs.declared.doc_impact.DocImpact.{DocImpact}
 
 -- the segments of pairs of a document and an impact, in this order
-abbrev pub segments_in : List (ℕ × ℕ) → List SegmentData
+abbrev pub segments_in : List DocImpact → List SegmentData
 segments_in [] = []
-segments_in (p ∷ pairs) = with_posting p.1 p.0 (segments_in pairs)
+segments_in (p ∷ pairs) = with_posting p.impact p.doc (segments_in pairs)
 
 -- the segments of a list's postings by falling impact
 unfoldable pub list_segments : Rule → List ℕ → ℕ → Bits → Range → List Posting → List SegmentData

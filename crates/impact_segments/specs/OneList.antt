@@ -10,6 +10,7 @@ use Rattle.weights.specs.declared.quantizing.Range.{Range}
 use Rattle.weights.specs.Quantizing.{impact_of}
 use Rattle.weights.specs.Weighting.{length_norm}
 use Rattle.impact_segments.specs.Collections.{total_of, weight_in}
+use Rattle.impact_segments.specs.declared.doc_impact.DocImpact.{DocImpact}
 use Rattle.impact_segments.specs.declared.one_list.SegmentsFault.{SegmentsFault}
 use Rattle.impact_segments.specs.declared.one_list.SegmentsFault.TheVariants.{Outside, NoMemory}
 
@@ -31,9 +32,9 @@ EndsLow Raw range = ⊤
 EndsLow (Of b) range = range.greatest ≤ 2 ^ 40
 
 -- the documents of postings with their impacts
-abbrev pub pairs_in : Rule → List ℕ → ℕ → Bits → Range → List Posting → List (ℕ × ℕ)
+abbrev pub pairs_in : Rule → List ℕ → ℕ → Bits → Range → List Posting → List DocImpact
 pairs_in rule lengths total bits range postings =
-    map (λ (p : Posting). (p.doc, impact_of bits range (weight_in rule lengths total (length postings) p))) postings
+    map (λ (p : Posting). record { doc = p.doc; impact = impact_of bits range (weight_in rule lengths total (length postings) p) }) postings
 
 -- how far two numbers lie apart
 abbrev pub distance : ℕ → ℕ → ℕ

@@ -13,36 +13,41 @@ use Rattle.weights.specs.declared.weighting.Rule.{Rule}
 use Rattle.weights.specs.declared.quantizing.Bits.{Bits}
 use Rattle.weights.specs.declared.quantizing.Range.{Range}
 use Rattle.weights.specs.Quantizing.{impact_of}
-use Rattle.impact_segments.specs.Weighed.{posting_weight}
+use Rattle.impact_segments.specs.Private.Weighed.{posting_weight}
+use Rattle.impact_segments.specs.declared.doc_impact.DocImpact.{DocImpact}
 
 -- falling impacts, then rising documents
-abbrev pub pair_cmp : ℕ × ℕ → ℕ × ℕ → Ordering
-pair_cmp a b = ordering_then (nat_cmp b.1 a.1) (nat_cmp a.0 b.0)
+abbrev pub pair_cmp : DocImpact → DocImpact → Ordering
+pair_cmp a b = ordering_then (nat_cmp b.impact a.impact) (nat_cmp a.doc b.doc)
 
 -- a pair of 32 and 16 bits as one number in the same order
-abbrev pub pair_key : ℕ × ℕ → ℕ
-pair_key p = (65535 - p.1) * 2 ^ 32 + p.0
+abbrev pub pair_key : DocImpact → ℕ
+pair_key p = (65535 - p.impact) * 2 ^ 32 + p.doc
+
+-- a document with this impact
+abbrev pub with_impact : ℕ → ℕ → DocImpact
+with_impact impact doc = record { doc = doc; impact = impact }
 
 -- the pairs that segments hold
-abbrev pub pairs_of : List Segment → List (ℕ × ℕ)
-pairs_of segments = flat_map (λ (s : Segment). map (λ (doc : ℕ). (doc, s.impact)) s.docs) segments
+abbrev pub pairs_of : List Segment → List DocImpact
+pairs_of segments = flat_map (λ (s : Segment). map (with_impact s.impact) s.docs) segments
 
 -- the documents of pairs
-abbrev pub pair_docs : List (ℕ × ℕ) → List ℕ
-pair_docs pairs = map (λ (p : ℕ × ℕ). p.0) pairs
+abbrev pub pair_docs : List DocImpact → List ℕ
+pair_docs pairs = map (λ (p : DocImpact). p.doc) pairs
 
 -- b may stand behind a when segments are cut: its impact is no greater, its document another one, and a later one where the impacts are equal
-abbrev pub Follows : ℕ × ℕ → ℕ × ℕ → Type 0
-Follows a b = (b.1 ≤ a.1) × (a.0 ≢ b.0) × (a.1 ≡ b.1 → a.0 < b.0)
+abbrev pub Follows : DocImpact → DocImpact → Type 0
+Follows a b = (b.impact ≤ a.impact) × (a.doc ≢ b.doc) × (a.impact ≡ b.impact → a.doc < b.doc)
 
 -- the pairs of one impact
-abbrev pub of_impact : ℕ → List (ℕ × ℕ) → List (ℕ × ℕ)
-of_impact impact pairs = filter (λ (p : ℕ × ℕ). p.1 == impact) pairs
+abbrev pub of_impact : ℕ → List DocImpact → List DocImpact
+of_impact impact pairs = filter (λ (p : DocImpact). p.impact == impact) pairs
 
 -- row i holds the documents of the pairs of impact i, up to those that are left
-abbrev pub AreRows : List (Vec ℕ Global) → List (ℕ × ℕ) → List (ℕ × ℕ) → Type 0
+abbrev pub AreRows : List (Vec ℕ Global) → List DocImpact → List DocImpact → Type 0
 AreRows rows rest pairs = (i : ℕ) (d : Vec ℕ Global) → i < length rows → (slice_index_or rows i d).items ++ pair_docs (of_impact i rest) ≡ pair_docs (of_impact i pairs)
 
 -- a list's documents with the impacts of its postings, from the range
-abbrev pub list_pairs : Rule → List DocRecord → Bits → Range → PostingsList → List (ℕ × ℕ)
-list_pairs rule docs bits range list = map (λ (p : Posting). (p.doc, impact_of bits range (posting_weight rule docs list p))) list.postings
+abbrev pub list_pairs : Rule → List DocRecord → Bits → Range → PostingsList → List DocImpact
+list_pairs rule docs bits range list = map (λ (p : Posting). record { doc = p.doc; impact = impact_of bits range (posting_weight rule docs list p) }) list.postings

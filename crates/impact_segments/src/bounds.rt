@@ -82,8 +82,8 @@ fn weight_at(rule: Rule, rare: u32, tf: u32, norm: u64) -> u64
 mod tests {
     use super::*;
 
-    // Three documents of 9, 5 and 1 terms. The weights of a list of all three lie between those of
-    // one mention in the longest and of nine in the shortest one.
+    /// Three documents of 9, 5 and 1 terms. The weights of a list of all three lie between those of
+    /// one mention in the longest and of nine in the shortest one.
     #[test]
     fn a_list_that_can_widen(rt: HostRuntime) {
         let norms = [1_188u64, 900, 612];

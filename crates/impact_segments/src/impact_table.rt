@@ -1,7 +1,7 @@
 //! The impacts of all weights of a range, so that those of postings are looked up.
 
 ghost use Rattle.std.specs.Prelude.{◌≡◌, ◌≤◌, ◌^◌, IsTrue};
-ghost use Rattle.impact_segments.specs.ImpactTable.{AreImpacts, AreImpactsOf};
+ghost use Rattle.impact_segments.specs.Private.ImpactTable.{AreImpacts, AreImpactsOf};
 
 use std::alloc::Global;
 use weights::{Bits, Range, impact_of};

@@ -1,12 +1,12 @@
 #![tactic(auto)]
 
-//! The impact-ordered index of a collection: the weight of each posting as an impact, the
-//! postings of a term in segments of equal impact, and the flat list of such an index.
+//! The impact-ordered index of a collection: the weight of each posting as an impact, and the
+//! postings of a term in segments of equal impact.
 
 mod bounds;
 mod building;
+mod doc_impact;
 pub mod examples;
-mod flattening;
 mod grouping;
 mod impact_table;
 pub mod laws;
@@ -20,7 +20,7 @@ mod weighing;
 
 pub use bounds::{can_widen, most_tf, norm_ends};
 pub use building::build;
-pub use flattening::entries_of;
+pub use doc_impact::DocImpact;
 pub use grouping::group;
 pub use one_list::{
     SegmentsFault, length_norms, segments_by_scratch, segments_of, widen_by_norms, widen_list,

@@ -1,6 +1,6 @@
 ghost use Rattle.std.specs.Prelude.{◌≡◌, List, map, filter, IfOk};
 ghost use Rattle.ranking_model.specs.Order.{sorted};
-ghost use Rattle.impact_segments.specs.Listed.{has_postings, term_cmp, lists_behind};
+ghost use Rattle.impact_segments.specs.Private.Listed.{has_postings, term_cmp, lists_behind};
 
 use jass_base::{NoMemory, PostingsList};
 use std::alloc::Global;

@@ -10,10 +10,12 @@ ghost use Rattle.weights.specs.Quantizing.{IsImpactWidth, IsInRange, impact_of, 
 ghost use Rattle.weights.specs.Weighting.{idf, length_norm};
 ghost use Rattle.index_model.specs.Views.{segment_data};
 ghost use Rattle.impact_segments.specs.Collections.{weight_in, weights_in};
-ghost use Rattle.impact_segments.specs.ImpactTable.{AreImpacts};
+ghost use Rattle.impact_segments.specs.Private.ImpactTable.{AreImpacts};
 ghost use Rattle.impact_segments.specs.ListTerms.{list_segments};
 ghost use Rattle.impact_segments.specs.OneList.{EndsLow, IsListOf, Unmade, nearer_end, norms_in, outside, pairs_in};
+ghost use Rattle.impact_segments.specs.declared.doc_impact.DocImpact.{DocImpact};
 
+use crate::doc_impact::DocImpact;
 use crate::grouping::group_in_place;
 use crate::scratch::Scratch;
 use jass_base::{NoMemory, Posting, PostingsList, Row, Segment};
@@ -296,7 +298,7 @@ fn make_segments(
 
 /// The documents of a list with their impacts, in a vector that is empty before and has room for them.
 fn impacts_of(
-    none: Vec<(u32, u16)>,
+    none: Vec<DocImpact>,
     table: &[u16],
     rule: Rule,
     bits: Bits,
@@ -305,7 +307,7 @@ fn impacts_of(
     list: &PostingsList,
     lengths: &[u32],
     norms: Option<&[u64]>,
-) -> Result<Vec<(u32, u16)>, SegmentsFault>
+) -> Result<Vec<DocImpact>, SegmentsFault>
     requires list { IsListOf lengths.now total list.now }
     requires width { IsImpactWidth bits }
     requires low { EndsLow bits range }
@@ -315,7 +317,7 @@ fn impacts_of(
     requires table { AreImpacts bits range table.now }
     ensures pairs { IfOk result (λ pairs. pairs.items
         ≡ pairs_in rule lengths.now total bits range list.now.postings) }
-    ensures positive { IfOk result (λ pairs. All (λ (p : ℕ × ℕ). 1 ≤ p.1) pairs.items) }
+    ensures positive { IfOk result (λ pairs. All (λ (p : DocImpact). 1 ≤ p.impact) pairs.items) }
     ensures inside { OnOk result (outside bits range (weights_in rule lengths.now total list.now.postings) ≡ None) }
     ensures fault { IfErr result (Unmade (outside bits range (weights_in rule lengths.now total list.now.postings))) }
 {
@@ -324,7 +326,10 @@ fn impacts_of(
     for posting in list.postings.as_slice() {
         let weight = weigher.weigh(*posting);
         let impact = impact_in(table, bits, range, weight)?;
-        pairs.push_reserved((posting.doc, impact));
+        pairs.push_reserved(DocImpact {
+            doc: posting.doc,
+            impact,
+        });
     }
     Ok(pairs)
 }

@@ -4,6 +4,7 @@ ghost use Rattle.std.specs.Prelude.{◌≡◌, ◌≤◌, [], IfOk, vec_capacity
 ghost use Rattle.weights.specs.Quantizing.{IsImpactWidth};
 ghost use Rattle.impact_segments.specs.OneList.{EndsLow};
 
+use crate::doc_impact::DocImpact;
 use crate::impact_table::ImpactTable;
 use crate::spares::Spares;
 use jass_base::{NoMemory, Row, Segment};
@@ -20,7 +21,7 @@ const ROOM: usize = 16;
 pub struct Scratch {
     alloc: Global,
     pub(crate) table: ImpactTable,
-    pairs: Vec<(u32, u16)>,
+    pairs: Vec<DocImpact>,
     pub(crate) spares: Spares,
 }
 
@@ -55,7 +56,7 @@ impl Scratch {
     }
 
     /// No pairs, with room for so many.
-    pub(crate) fn take_pairs(&mut self, count: usize) -> Result<Vec<(u32, u16)>, NoMemory>
+    pub(crate) fn take_pairs(&mut self, count: usize) -> Result<Vec<DocImpact>, NoMemory>
         ensures none { IfOk result (λ pairs. pairs.items ≡ []) }
         ensures room { IfOk result (λ pairs. count ≤ vec_capacity pairs) }
     {
@@ -68,7 +69,7 @@ impl Scratch {
     }
 
     /// Takes pairs back that are no longer of use.
-    pub(crate) fn keep_pairs(&mut self, pairs: Vec<(u32, u16)>) {
+    pub(crate) fn keep_pairs(&mut self, pairs: Vec<DocImpact>) {
         self.pairs = pairs;
     }
 }

@@ -1,4 +1,4 @@
-ghost use Rattle.std.specs.Prelude.{◌≡◌, ℕ, ◌≤◌, List, map, length, All, IfOk, OnOk};
+ghost use Rattle.std.specs.Prelude.{◌≡◌, ◌≤◌, List, map, length, All, IfOk, OnOk};
 ghost use Rattle.std.specs.Ordering.{nat_cmp};
 ghost use Rattle.std.specs.Cmp.Lexicographic.{slice_cmp};
 ghost use Rattle.std.specs.List.{flat_map};
@@ -9,11 +9,13 @@ ghost use Rattle.jass_base.specs.Lists.{HasDocsBelow};
 ghost use Rattle.jass_base.specs.Terms.{HasTermBelow, greatest_impact};
 ghost use Rattle.ranking_model.specs.Order.{sorted};
 ghost use Rattle.ranking_model.specs.Flat.{entry_cmp};
-ghost use Rattle.impact_segments.specs.Weighed.{list_weights, list_entries};
-ghost use Rattle.impact_segments.specs.Held.{term_entries, flat_of_terms};
-ghost use Rattle.impact_segments.specs.Listed.{lists_behind};
+ghost use Rattle.impact_segments.specs.Private.Weighed.{list_weights, list_entries};
+ghost use Rattle.impact_segments.specs.Private.Held.{term_entries, flat_of_terms};
+ghost use Rattle.impact_segments.specs.Private.Listed.{lists_behind};
 ghost use Rattle.impact_segments.specs.Pairs.{list_pairs};
+ghost use Rattle.impact_segments.specs.declared.doc_impact.DocImpact.{DocImpact};
 
+use crate::doc_impact::DocImpact;
 use crate::grouping::group_in_place;
 use crate::spares::Spares;
 use crate::weighing::Weigher;
@@ -60,7 +62,7 @@ fn term_of(
     bits: Bits,
     range: Range,
     list: &PostingsList,
-    pairs: &mut Vec<(u32, u16)>,
+    pairs: &mut Vec<DocImpact>,
 ) -> Result<TermSegments, NoMemory>
     requires width { IsImpactWidth bits }
     requires some { 1 ≤ length list.now.postings }
@@ -84,7 +86,7 @@ fn impacts_of(
     bits: Bits,
     range: Range,
     list: &PostingsList,
-    pairs: &mut Vec<(u32, u16)>,
+    pairs: &mut Vec<DocImpact>,
 ) -> Result<(), NoMemory>
     requires width { IsImpactWidth bits }
     requires some { 1 ≤ length list.now.postings }
@@ -92,13 +94,17 @@ fn impacts_of(
     requires in_range { All (IsInRange bits range) (list_weights weigher.now.rule weigher.now.docs.now list.now) }
     ensures pairs { OnOk result (pairs.new.items
         ≡ list_pairs weigher.now.rule weigher.now.docs.now bits range list.now) }
-    ensures positive { OnOk result (All (λ (p : ℕ × ℕ). 1 ≤ p.1) pairs.new.items) }
+    ensures positive { OnOk result (All (λ (p : DocImpact). 1 ≤ p.impact) pairs.new.items) }
 {
     pairs.clear();
     let rare = weigher.rarity(list);
     for posting in list.postings.as_slice() {
         let impact = impact_of(bits, range, weigher.weigh(rare, *posting));
-        match pairs.push((posting.doc, impact)) {
+        let pair = DocImpact {
+            doc: posting.doc,
+            impact,
+        };
+        match pairs.push(pair) {
             Ok(()) => {}
             Err(_) => return Err(NoMemory),
         }

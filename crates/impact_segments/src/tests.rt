@@ -1,31 +1,38 @@
-// Three documents of 9, 5 and 1 terms that share one term, from their postings to the flat list.
+// Three documents of 9, 5 and 1 terms that share one term, from their postings to the index.
 
-ghost use Rattle.std.specs.Prelude.{◌≡◌, ℕ, ◌<◌, ◌≤◌, ◌^◌, [], ◌∷◌, length, All, AllPairs, IfOk};
+ghost use Rattle.std.specs.Prelude.{◌≡◌, ◌<◌, ◌≤◌, ◌^◌, [], ◌∷◌, length, All, AllPairs, IfOk};
 ghost use Rattle.std.specs.List.Sorted.{IsStrictlyIncreasing};
 ghost use Rattle.jass_base.specs.Lists.{HasDocsBelow};
 ghost use Rattle.jass_base.specs.Postings.{docs_of, HasTfInRange};
 ghost use Rattle.jass_base.specs.declared.postings_list.PostingsList.{PostingsList};
 ghost use Rattle.impact_segments.specs.Pairs.{pair_docs};
+ghost use Rattle.impact_segments.specs.declared.doc_impact.DocImpact.{DocImpact};
 
 use crate::{
-    Scratch, SegmentsFault, build, entries_of, group, length_norms, segments_by_scratch,
+    DocImpact, Scratch, SegmentsFault, build, group, length_norms, segments_by_scratch,
     segments_of, widen_by_norms, widen_list,
 };
 use jass_base::{
-    Collection, DocRecord, Header, NoMemory, Posting, PostingsList, Row, Segment, Text,
+    Collection, DocRecord, Header, ImpactIndex, NoMemory, Posting, PostingsList, Row, Segment,
+    TermSegments, Text,
 };
 use std::alloc::Global;
 use weights::{Bits, Range, Rule};
 
 #[test]
 fn three_documents(rt: HostRuntime) {
-    let entries = flat(rt.alloc());
-    assert!(&rt; entries.is_ok_and(|entries| are_entries(entries.as_slice())));
+    let index = built(rt.alloc());
+    assert!(&rt; index.is_ok_and(|index| is_whole(&index)));
 }
 
 #[test]
 fn pairs_by_impact(rt: HostRuntime) {
-    let segments = group(rt.alloc(), &[(3, 5), (4, 9), (7, 5)]);
+    let pairs = [
+        DocImpact { doc: 3, impact: 5 },
+        DocImpact { doc: 4, impact: 9 },
+        DocImpact { doc: 7, impact: 5 },
+    ];
+    let segments = group(rt.alloc(), &pairs);
     assert!(&rt; segments.is_ok_and(|segments| segments.len() == 2));
     let many = many_by_impact(rt.alloc());
     assert!(&rt; many.is_ok_and(|segments| are_stripes(segments.as_slice())));
@@ -74,20 +81,24 @@ fn segments_of_one_list(rt: HostRuntime) {
     assert!(&rt; lighter.is_err_and(|fault| fault == SegmentsFault::Outside { kept: 2, found: 1 }));
 }
 
-// The segments of enough documents to go without a sort.
+/// The segments of enough documents to go without a sort.
 fn many_by_impact(alloc: Global) -> Result<Row<Segment>, NoMemory> {
     let pairs = striped(alloc)?;
     group(alloc, pairs.as_slice())
 }
 
-// The documents from 0 to 63 with the impacts 1, 2 and 3 in turn.
-fn striped(alloc: Global) -> Result<Vec<(u32, u16)>, NoMemory>
+/// The documents from 0 to 63 with the impacts 1, 2 and 3 in turn.
+fn striped(alloc: Global) -> Result<Vec<DocImpact>, NoMemory>
     ensures rising { IfOk result (λ pairs. IsStrictlyIncreasing (pair_docs pairs.items)) }
-    ensures positive { IfOk result (λ pairs. All (λ (p : ℕ × ℕ). 1 ≤ p.1) pairs.items) }
+    ensures positive { IfOk result (λ pairs. All (λ (p : DocImpact). 1 ≤ p.impact) pairs.items) }
 {
     let mut pairs = Vec::new(alloc);
     for doc in 0..64u32 {
-        match pairs.push((doc, (doc % 3) as u16 + 1)) {
+        let pair = DocImpact {
+            doc,
+            impact: (doc % 3) as u16 + 1,
+        };
+        match pairs.push(pair) {
             Ok(()) => {}
             Err(_) => return Err(NoMemory),
         }
@@ -111,7 +122,7 @@ fn is_stripe(segment: &Segment, impact: u16, from: u32, to: u32) -> bool {
     }
 }
 
-// The range of the BM25 weights of the list of three documents.
+/// The range of the BM25 weights of the list of three documents.
 fn range_of_three(alloc: Global) -> Result<Range, NoMemory> {
     let list = three(alloc, 9)?;
     let mut range = Range::new();
@@ -119,7 +130,7 @@ fn range_of_three(alloc: Global) -> Result<Range, NoMemory> {
     Ok(range)
 }
 
-// The same range, by the norms of the documents.
+/// The same range, by the norms of the documents.
 fn range_by_norms(alloc: Global) -> Result<Range, NoMemory> {
     let list = three(alloc, 9)?;
     let norms = length_norms(alloc, 15, &[9, 5, 1])?;
@@ -135,7 +146,7 @@ fn range_by_norms(alloc: Global) -> Result<Range, NoMemory> {
     Ok(range)
 }
 
-// The segments of the list by BM25, by the norms of the documents.
+/// The segments of the list by BM25, by the norms of the documents.
 fn impacts_by_scratch(alloc: Global, scratch: &mut Scratch) -> Result<Row<Segment>, SegmentsFault> {
     match (three(alloc, 9), length_norms(alloc, 15, &[9, 5, 1])) {
         (Ok(list), Ok(norms)) => {
@@ -163,13 +174,20 @@ fn impacts_by_scratch(alloc: Global, scratch: &mut Scratch) -> Result<Row<Segmen
 fn are_impacts(segments: &[Segment]) -> bool {
     match segments {
         [first, second, third] => {
-            first.impact == 255 && second.impact == 220 && third.impact == 1
+            is_single(first, 255, 0) && is_single(second, 220, 1) && is_single(third, 1, 2)
         }
         _ => false,
     }
 }
 
-// The segments of the list by term frequency, in a range.
+fn is_single(segment: &Segment, impact: u16, doc: u32) -> bool {
+    match segment.docs.as_slice() {
+        [only] => segment.impact == impact && *only == doc,
+        _ => false,
+    }
+}
+
+/// The segments of the list by term frequency, in a range.
 fn three_segments(alloc: Global, range: Range, tf: u32) -> Result<Row<Segment>, SegmentsFault>
     requires tf { (1 ≤ tf) × (tf < 2 ^ 31) }
     requires low { range.greatest ≤ 2 ^ 40 }
@@ -180,7 +198,7 @@ fn three_segments(alloc: Global, range: Range, tf: u32) -> Result<Row<Segment>, 
     }
 }
 
-// The list of a term in three documents, with its frequency in the first.
+/// The list of a term in three documents, with its frequency in the first.
 fn three(alloc: Global, tf: u32) -> Result<PostingsList, NoMemory>
     requires { (1 ≤ tf) × (tf < 2 ^ 31) }
     ensures some { IfOk result (λ list. 1 ≤ length list.postings) }
@@ -194,21 +212,28 @@ fn three(alloc: Global, tf: u32) -> Result<PostingsList, NoMemory>
     list(alloc, "a", &postings)
 }
 
-fn flat(alloc: Global) -> Result<Row<(u32, u32, u16)>, NoMemory> {
-    let index = build(alloc, &collection(alloc)?, Rule::Bm25, Bits::Of(8))?;
-    let mut flat = Row::new(alloc);
-    for entry in entries_of(alloc, &index)?.as_slice() {
-        flat.push((entry.term, entry.doc, entry.impact))
-            .map_err(|refused| refused.1)?;
-    }
-    Ok(flat)
+/// The index of the collection by BM25, in 8 bits.
+fn built(alloc: Global) -> Result<ImpactIndex, NoMemory> {
+    build(alloc, &collection(alloc)?, Rule::Bm25, Bits::Of(8))
 }
 
-fn are_entries(entries: &[(u32, u32, u16)]) -> bool {
-    match entries {
+fn is_whole(index: &ImpactIndex) -> bool {
+    are_names(index.names.as_slice()) && are_terms(index.terms.as_slice()) && index.greatest == 255
+}
+
+fn are_names(names: &[Text]) -> bool {
+    match names {
         [first, second, third] => {
-            *first == (0, 0, 255) && *second == (0, 1, 220) && *third == (0, 2, 1)
+            first.as_str() == "d" && second.as_str() == "d" && third.as_str() == "d"
         }
+        _ => false,
+    }
+}
+
+/// The term without postings is left out.
+fn are_terms(terms: &[TermSegments]) -> bool {
+    match terms {
+        [only] => only.term.as_str() == "a" && are_impacts(only.segments.as_slice()),
         _ => false,
     }
 }

@@ -6,7 +6,7 @@ ghost use Rattle.jass_base.specs.Lists.{HasDocsBelow};
 ghost use Rattle.jass_base.specs.Postings.{HasTfInRange};
 ghost use Rattle.jass_base.specs.declared.postings_list.PostingsList.{PostingsList};
 ghost use Rattle.impact_segments.specs.Collections.{weight_in};
-ghost use Rattle.impact_segments.specs.Weighed.{lengths_in, total_length, norms_of, list_weights};
+ghost use Rattle.impact_segments.specs.Private.Weighed.{lengths_in, total_length, norms_of, list_weights};
 
 use jass_base::{DocRecord, NoMemory, Posting, PostingsList};
 use std::alloc::Global;

@@ -13,13 +13,12 @@ use Rattle.std.proofs.lemmas.List.Sums.{sum_by-cons}
 use Rattle.jass_base.specs.declared.posting.Posting.{Posting}
 use Rattle.jass_base.specs.Postings.{docs_of, HasTfInRange}
 use Rattle.ranking_model.specs.Order.{sorted}
-use Rattle.ranking_model.proofs.Sorting.{Ascends, sorted_ascends, all_sorted, sum_by-sorted}
+use Rattle.ranking_model.proofs.Sorting.{Ascends, sorted_ascends, all_sorted, sum_by-sorted, pairs_sorted}
 use Rattle.index_model.specs.Index.{SegmentData, TermData, IsTerm, SharesNoDocument}
 use Rattle.index_model.proofs.FlatOrder.{term_kept}
 use Rattle.shared_lemmas.proofs.Pairs.{Pairs, pairs_map, rising_from_pairs}
-use Rattle.shared_lemmas.proofs.Lists.{all_weaker, all_append, all_map, all_flat}
+use Rattle.shared_lemmas.proofs.Lists.{all_weaker, all_append, all_map, all_flat, all_across, all_of}
 use Rattle.shared_lemmas.proofs.Pairs.{pairs_append, pairs_weaker, pairs_both}
-use Rattle.index_model.proofs.Lists.{pairs_sorted}
 use Rattle.index_layout.specs.View.{term_postings}
 use Rattle.index_export.specs.Exports.{doc_cmp, segment_postings, term_list, impact_sum}
 
@@ -41,9 +40,6 @@ Differ a b = a.doc ≢ b.doc
 
 -- ---- they differ in their documents
 
-across : {A : Type 0} (P Q : A → Type 0) (R : A → A → Type 0) → ((x y : A) → P x → Q y → R x y) → (xs ys : List A) → AllByRecursion P xs → AllByRecursion Q ys → AllByRecursion (λ x. AllByRecursion (λ y. R x y) ys) xs
-across P Q R f xs ys h k = all_weaker P (λ x. AllByRecursion (λ y. R x y) ys) (λ x p. all_weaker Q (λ y. R x y) (λ y q. f x y p q) ys k) xs h
-
 among : (s : SegmentData) → AllByRecursion (λ (p : Posting). Contains s.docs p.doc) (segment_postings s)
 among s = all_map (λ (p : Posting). Contains s.docs p.doc) (λ (doc : ℕ). record { doc = doc; tf = s.impact }) s.docs (recursion_from_All (Contains s.docs) s.docs (All-contains_itself s.docs))
 
@@ -58,7 +54,7 @@ differ [] h r = tt
 differ (s ∷ ss) h r = pairs_append Differ (segment_postings s) (gathered ss)
     (pairs_map Differ (λ (doc : ℕ). record { doc = doc; tf = s.impact }) s.docs (pairs_weaker (λ (x y : ℕ). x < y) (λ (x y : ℕ). x ≢ y) (λ x y l e. omega (arith, l, e)) s.docs r.0))
     (differ ss h.1 r.1)
-    (across (λ (p : Posting). Contains s.docs p.doc) (λ (p : Posting). ¬ Contains s.docs p.doc) Differ (λ x y p q e. q (subst (Contains s.docs) e p)) (segment_postings s) (gathered ss) (among s) (none_among s ss h.0))
+    (all_across (λ (p : Posting). Contains s.docs p.doc) (λ (p : Posting). ¬ Contains s.docs p.doc) Differ (λ x y p q e. q (subst (Contains s.docs) e p)) (segment_postings s) (gathered ss) (among s) (none_among s ss h.0))
 
 -- ---- so they rise once they are sorted
 
@@ -79,10 +75,6 @@ list_rises d t is =
     (pairs_both (λ a b. is_gt (doc_cmp a b) ≡ false) Differ (sorted doc_cmp ps) (ascends_pairs (sorted doc_cmp ps) (sorted_ascends doc_cmp doc_total ps)) apart)))
 
 -- ---- what holds of each
-
-all_of : {A : Type 0} (P : A → Type 0) → ((x : A) → P x) → (xs : List A) → AllByRecursion P xs
-all_of P f [] = tt
-all_of P f (x ∷ xs) = (f x, all_of P f xs)
 
 pub each_tf : (d : ℕ) (t : TermData) → IsTerm d t → AllByRecursion (λ (p : Posting). (1 ≤ p.tf) × (p.tf ≤ 65535)) (gathered t.segments)
 each_tf d t is =

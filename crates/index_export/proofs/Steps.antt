@@ -3,7 +3,7 @@ use Rattle.std.proofs.Common.{◌≡◌, ℕ, zero, suc, ◌+◌, ◌≤◌, Lis
 use Rattle.std.specs.Prelude.{Some, slice_get}
 use Rattle.std.proofs.lemmas.List.{map-append, take-append-drop, length-take, length-drop}
 use Rattle.jass_base.specs.declared.posting.Posting.{Posting}
-use Rattle.index_export.specs.Gathering.{doc_postings}
+use Rattle.index_export.specs.Private.Gathering.{doc_postings}
 
 behind : {A : Type 0} (xs : List A) (i : ℕ) (x : A) → slice_get xs i ≡ Some x → drop i xs ≡ x ∷ drop (suc i) xs
 behind [] i x is = cc

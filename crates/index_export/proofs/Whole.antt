@@ -1,5 +1,5 @@
 -- The lists and documents of a whole index.
-use Rattle.std.proofs.Common.{◌≡◌, ◌≢◌, ℕ, ◌+◌, ◌*◌, ◌<◌, ◌≤◌, ◌^◌, List, [], ◌∷◌, length, map, true, refl, sym, ap, ◌∙◌, subst, arith}
+use Rattle.std.proofs.Common.{◌≡◌, ◌≢◌, ℕ, ◌*◌, ◌<◌, ◌≤◌, ◌^◌, List, [], ◌∷◌, length, map, true, sym, ap, ◌∙◌, subst, arith}
 use Rattle.std.specs.Prelude.{AllPairs}
 use Rattle.std.specs.List.{AllByRecursion, sum_by}
 use Rattle.std.specs.declared.cmp.Ordering.{Ordering}
@@ -20,8 +20,9 @@ use Rattle.index_model.specs.Index.{TermData, IndexData, IsTerm, IsIndex, RisesT
 use Rattle.shared_lemmas.proofs.Pairs.{Pairs, pairs_by_recursion, pairs_by_places, pairs_map, pairs_unmap}
 use Rattle.shared_lemmas.proofs.Pairs.{pairs_weaker}
 use Rattle.index_layout.specs.View.{term_postings, index_postings}
+use Rattle.shared_lemmas.proofs.Sums.{sum_map}
 use Rattle.index_export.specs.Exports.{term_list, impact_sum, exported_list}
-use Rattle.index_export.specs.Gathering.{cf_sum, term_with}
+use Rattle.index_export.specs.Private.Gathering.{cf_sum, term_with}
 use Rattle.index_export.proofs.OneTerm.{list_sum}
 
 -- ---- one of its terms
@@ -36,10 +37,6 @@ term_small index t low = get_or-le-sum_by term_postings index.terms t (record { 
 
 abbrev cf_of : ListData → ℕ
 cf_of l = l.cf
-
-sum_map : {A B : Type 0} (f : B → ℕ) (g : A → B) (xs : List A) → sum_by f (map g xs) ≡ sum_by (λ x. f (g x)) xs
-sum_map f g [] = refl
-sum_map f g (x ∷ xs) = sum_by-cons f (g x) (map g xs) ∙ ap (λ n. f (g x) + n) (sum_map f g xs) ∙ sym (sum_by-cons (λ x. f (g x)) x xs)
 
 abbrev term_sum : TermData → ℕ
 term_sum t = impact_sum (term_list t)

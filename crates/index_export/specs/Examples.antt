@@ -1,5 +1,5 @@
 -- Small exports on which the definitions are run.
-use Rattle.std.specs.Prelude.{ℕ, List, [], ◌∷◌, codes}
+use Rattle.std.specs.Prelude.{ℕ, List, [], ◌∷◌, ◌++◌, codes}
 use Rattle.jass_base.specs.declared.posting.Posting.{Posting}
 use Rattle.index_model.specs.Examples.{segment, term}
 use Rattle.index_model.specs.Index.{TermData}
@@ -15,7 +15,7 @@ crossing = term (codes "a") (segment 3 (2 ∷ []) ∷ segment 1 (0 ∷ 5 ∷ [])
 abbrev pub small_export : List ℕ
 small_export =
     12 ∷ 8 ∷ 1 ∷ 16 ∷ 1 ∷ 24 ∷ 3 ∷ 32 ∷ 1 ∷ 40 ∷ 3 ∷ 48 ∷ 15
-    ∷ 23 ∷ 10 ∷ 1 ∷ 97 ∷ 16 ∷ 3 ∷ 24 ∷ 15 ∷ 34 ∷ 2 ∷ 16 ∷ 9 ∷ 34 ∷ 4 ∷ 8 ∷ 1 ∷ 16 ∷ 5 ∷ 34 ∷ 4 ∷ 8 ∷ 1 ∷ 16 ∷ 1
-    ∷ 4 ∷ 18 ∷ 2 ∷ 100 ∷ 48
-    ∷ 6 ∷ 8 ∷ 1 ∷ 18 ∷ 2 ∷ 100 ∷ 49
-    ∷ 6 ∷ 8 ∷ 2 ∷ 18 ∷ 2 ∷ 100 ∷ 50 ∷ []
+    ∷ 23 ∷ 10 ∷ 1 ∷ codes "a" ++ 16 ∷ 3 ∷ 24 ∷ 15 ∷ 34 ∷ 2 ∷ 16 ∷ 9 ∷ 34 ∷ 4 ∷ 8 ∷ 1 ∷ 16 ∷ 5 ∷ 34 ∷ 4 ∷ 8 ∷ 1 ∷ 16 ∷ 1
+    ∷ 4 ∷ 18 ∷ 2 ∷ codes "d0"
+    ++ 6 ∷ 8 ∷ 1 ∷ 18 ∷ 2 ∷ codes "d1"
+    ++ 6 ∷ 8 ∷ 2 ∷ 18 ∷ 2 ∷ codes "d2"

@@ -1,3 +1,3 @@
 pub mod Examples
 pub mod Exports
-pub mod Gathering
+pub mod Private

@@ -1,6 +1,6 @@
 ghost use Rattle.std.specs.Prelude.{◌≡◌, length, map, IfOk};
 ghost use Rattle.jass_base.specs.CiffViews.{doc_data};
-ghost use Rattle.index_export.specs.Gathering.{name_records};
+ghost use Rattle.index_export.specs.Private.Gathering.{name_records};
 
 use index_file::IndexFile;
 use jass_base::{DocRecord, NoMemory, Row, Text};

@@ -4,7 +4,7 @@ ghost use Rattle.index_model.specs.Querying.{segments_at};
 ghost use Rattle.index_layout.specs.View.{term_postings};
 ghost use Rattle.index_file.specs.Places.{segment_at};
 ghost use Rattle.index_export.specs.Exports.{doc_cmp, segment_postings, term_list};
-ghost use Rattle.index_export.specs.Gathering.{doc_postings, term_with};
+ghost use Rattle.index_export.specs.Private.Gathering.{doc_postings, term_with};
 
 use index_file::IndexFile;
 use jass_base::{NoMemory, Posting, Steps};

@@ -3,7 +3,7 @@ ghost use Rattle.jass_base.specs.CiffViews.{list_data};
 ghost use Rattle.jass_base.specs.Lists.{HasDocsBelow};
 ghost use Rattle.index_layout.specs.View.{index_postings, term_postings};
 ghost use Rattle.index_export.specs.Exports.{exported_list, impact_sum};
-ghost use Rattle.index_export.specs.Gathering.{cf_sum, term_with};
+ghost use Rattle.index_export.specs.Private.Gathering.{cf_sum, term_with};
 
 use crate::gathering::postings_of;
 use index_file::IndexFile;

@@ -11,7 +11,7 @@ use Rattle.std.proofs.lemmas.List.Elements.{All-head, All-tail, All-weaker, All-
 use Rattle.std.proofs.lemmas.List.Folds.{list_any-append}
 use Rattle.jass_base.specs.Gaps.{AreDocs}
 use Rattle.index_layout.specs.Reading.{is_among, shares_one}
-use Rattle.index_file.specs.Marks.{AreMarks, marked, meets_marked}
+use Rattle.index_file.specs.Private.Marks.{AreMarks, marked, meets_marked}
 
 -- the documents that are still to come
 pub record Left (gives : List ℕ → Type 0) (now d left : ℕ) (docs before marks : List ℕ) : Type 0 where
@@ -49,16 +49,6 @@ block_passed now n rest marks passed =
 
 pub block_marked : (now n : ℕ) (rest marks : List ℕ) → marked now rest marks ≡ marked now (drop n rest) (marked now (take n rest) marks)
 block_marked now n rest marks = ap (λ docs. marked now docs marks) (sym (take-append-drop n rest)) ∙ marked_behind now (take n rest) (drop n rest) marks
-
--- marks below the new one mark no document
-pub marks_begin : (now : ℕ) (marks : List ℕ) → All (λ mark. mark < now) marks → AreMarks now [] marks
-marks_begin now marks below = record {
-  met = λ doc inside. (let less : slice_index marks doc < now = below doc 0 inside in ltb_no (slice_index marks doc) now less);
-  most = All-weaker (λ mark. mark < now) (λ mark. mark ≤ now) (λ mark less. omega (arith, less)) marks below;
-}
-  where
-    ltb_no : (mark now : ℕ) → mark < now → (mark == now) ≡ false
-    ltb_no mark now less = grind (arith, nat_tests, less)
 
 among_more : (earlier : List ℕ) (doc other : ℕ) → is_among (earlier ++ doc ∷ []) other ≡ (is_among earlier other || (other == doc))
 among_more earlier doc other = list_any-append (nat_eq other) earlier (doc ∷ []) ∙ ap (λ b. is_among earlier other || b) (or_false (other == doc))
@@ -99,18 +89,10 @@ marked_are now (doc ∷ docs) earlier marks are =
     subst (λ all. AreMarks now all (marked now docs (slice_set marks doc now))) (append_assoc earlier (doc ∷ []) docs)
     (marked_are now docs (earlier ++ doc ∷ []) (slice_set marks doc now) (mark_one now earlier marks doc are))
 
-pub length-marked : (now : ℕ) (docs marks : List ℕ) → length (marked now docs marks) ≡ length marks
-length-marked now [] marks = refl
-length-marked now (doc ∷ docs) marks = length-marked now docs (slice_set marks doc now) ∙ length-set marks doc now
-
 -- each document is at least one above the one before
 abbrev Rise : ℕ → List ℕ → Type 0
 Rise least [] = ⊤
 Rise least (doc ∷ docs) = (least ≤ doc) × Rise (doc + 1) docs
-
-rise_lower : (less least : ℕ) (docs : List ℕ) → less ≤ least → Rise least docs → Rise less docs
-rise_lower less least [] lower rise = tt
-rise_lower less least (doc ∷ docs) lower rise = (omega (arith, lower, rise.0), rise.1)
 
 rises : (docs : List ℕ) → IsStrictlyIncreasing docs → Rise 0 docs
 rises [] rising = tt

@@ -14,7 +14,7 @@ use Rattle.index_layout.specs.declared.refusal.OpenFault.TheVariants as faults
 use Rattle.index_layout.specs.declared.refusal.OpenRefusal.{OpenRefusal}
 use Rattle.index_layout.specs.declared.refusal.OpenWhy.TheVariants.{Length, DocTwice, Payload}
 use Rattle.index_layout.specs.Reading.{read_segment, docs_or_none, docs_in, payload_end, payload_placed, shares_one}
-use Rattle.index_file.specs.Marks.{AreMarks, meets_marked}
+use Rattle.index_file.specs.Private.Marks.{AreMarks, meets_marked}
 use Rattle.index_file.proofs.MarkLists.{meets_is}
 
 judged_ok : {T : Type 0} (r : Result (List ℕ) PayloadFault) (x : T) → Judges r (Ok x) → r ≡ Ok (docs_or_none r)
@@ -115,12 +115,3 @@ pub apart_end : (bytes : List ℕ) (d now : ℕ) (h : HeadData) (at end : ℕ) (
 apart_end bytes d now h at end earlier marks met is are docs inside told =
     payload_behind bytes d h at end earlier is
     ∙ ap (λ (b : Bool). judged (check b at DocTwice ∷ []) (at + h.size)) (sym (told ∙ meets_is now d earlier (docs_in bytes d h at) marks are docs inside))
-
--- the same of a row that has this head and place
-pub apart_read : (bytes : List ℕ) (d now : ℕ) (h own : HeadData) (at place end : ℕ) (earlier marks : List ℕ) (met : Bool) → own ≡ h → place ≡ at → payload_end bytes d [] h at ≡ Ok end → AreMarks now earlier marks → AreDocs d (docs_in bytes d own place) → d ≤ length marks
-    → met ≡ meets_marked now (docs_in bytes d own place) marks → payload_end bytes d earlier h at ≡ judged (check met at DocTwice ∷ []) (place + own.size)
-apart_read bytes d now h own at place end earlier marks met head here is are docs inside told =
-    let there : payload_end bytes d [] own place ≡ Ok end = ap (λ (x : HeadData). payload_end bytes d [] x place) head ∙ ap (payload_end bytes d [] h) here ∙ is in
-    sym (ap (λ (x : HeadData). payload_end bytes d earlier x place) head ∙ ap (payload_end bytes d earlier h) here)
-    ∙ apart_end bytes d now own place end earlier marks met there are docs inside told
-    ∙ ap (λ n. judged (check met n DocTwice ∷ []) (place + own.size)) here

@@ -9,7 +9,7 @@ use Rattle.std.proofs.lemmas.List.Elements.{All-head, All-tail, All-take, All-fr
 use Rattle.std.proofs.lemmas.Str.{is_utf8-from_IsUtf8, IsUtf8-from_ascii}
 use Rattle.std.proofs.lemmas.Str.Ascii.{IsAscii-from_all}
 use Rattle.index_layout.specs.Reading.{is_name_text}
-use Rattle.index_file.specs.Plain.{IsPlain}
+use Rattle.index_file.specs.Private.Plain.{IsPlain}
 
 -- two fronts, or a front and a part behind it, that reach over one another
 pub plain_over : (bytes : List ℕ) (n from size : ℕ) → from ≤ n → from + size ≡ length bytes → All IsPlain (take n bytes) → All IsPlain (take size (drop from bytes)) → All IsPlain bytes

@@ -1,8 +1,7 @@
 -- What is read of a file, part by part.
-use Rattle.std.proofs.Common.{◌≡◌, ◌≤◌, ◌<◌, ◌==◌, ℕ, Bool, true, false, not, List, [], ◌∷◌, length, map, All, None, Result, Ok, Err, ap, sym, subst, ◌∙◌, refl, arith, get_or}
+use Rattle.std.proofs.Common.{◌≡◌, ◌≤◌, ◌==◌, ℕ, Bool, true, false, not, List, [], ◌∷◌, length, map, All, None, Result, Ok, Err, ap, sym, subst, ◌∙◌, refl, arith}
 use Rattle.std.proofs.lemmas.Bool.Decides.{nat_tests}
 use Rattle.std.proofs.lemmas.List.{length-map}
-use Rattle.std.proofs.lemmas.List.Elements.{All-from_get_or}
 use Rattle.index_layout.specs.Bytes.{u32_in, u64_in}
 use Rattle.index_layout.specs.declared.refusal.OpenRefusal.{OpenRefusal}
 use Rattle.index_layout.specs.declared.refusal.OpenFault.{OpenFault}
@@ -97,9 +96,6 @@ module _ (bytes : List ℕ) (d : ℕ) (places text : List ℕ) (rows : List Term
         greatest = greatest ∙ greatest_are bytes d text segments rows;
       } in
       subst (Stands bytes places text rows segments) (sym (same_view bytes v read)) stands
-
-pub bytes_fit : (bytes : List ℕ) → ((i : ℕ) → get_or bytes i 0 < 256) → All (λ byte. byte < 256) bytes
-bytes_fit bytes fits = All-from_get_or (λ byte. byte < 256) bytes 0 (λ i inside. fits i)
 
 -- what stands before the last checks
 module _ (bytes : List ℕ) (docs terms : ℕ) (places text : List ℕ) (rows : List TermRow) (heads segments : List Segment) (behind_names behind_terms end : ℕ) (same : map (row_head bytes) segments ≡ map (row_head bytes) heads) where

@@ -1,5 +1,5 @@
 -- The terms between neighbouring rows, read one after the other.
-use Rattle.std.proofs.Common.{◌≡◌, ◌≤◌, ◌<◌, ◌+◌, ◌-◌, ℕ, suc, zero, map, take, drop, length, slice_index_or, All, arith, List, [], ◌∷◌, ◌++◌, Result, Ok, Err, append_assoc, ap, sym, subst, ◌∙◌, refl}
+use Rattle.std.proofs.Common.{◌≡◌, ◌≤◌, ◌<◌, ◌+◌, ◌-◌, ℕ, suc, zero, map, take, drop, length, slice_index_or, All, arith, List, [], ◌∷◌, ◌++◌, Result, Ok, append_assoc, ap, sym, subst, ◌∙◌, refl}
 use Rattle.std.specs.Prelude.{slice_range}
 use Rattle.std.proofs.lemmas.List.{append-nil, drop-take, map-append, take-append-drop, take-take, take_all, take_more}
 use Rattle.std.proofs.lemmas.List.Elements.{All-append, All-drop, All-head, All-push, All-tail, All-take, All-weaker}
@@ -12,18 +12,11 @@ use Rattle.index_layout.specs.declared.refusal.OpenRefusal.{OpenRefusal}
 use Rattle.index_layout.specs.Heads.{HeadData}
 use Rattle.index_layout.specs.Refusals.{◌>>=◌}
 use Rattle.index_layout.specs.Reading.{SegmentsRead, IndexRead, read_segments, read_payloads}
+use Rattle.index_layout.proofs.Behind.{with_index, behind_index}
 use Rattle.index_file.specs.declared.segment.Segment.{Segment}
 use Rattle.index_file.specs.declared.term_row.TermRow.{TermRow}
 use Rattle.index_file.specs.Payloads.{IsCounted, row_segment, row_heads, row_terms, term_between}
 use Rattle.index_file.specs.Tables.{RowsFrom, AreRows, row_head}
-
--- behind terms that were read before
-abbrev pub with_index : List TermData → Result IndexRead OpenRefusal → Result IndexRead OpenRefusal
-with_index front read = read >>= λ x. Ok (record { terms = front ++ x.terms; end = x.end })
-
-pub no_index : (read : Result IndexRead OpenRefusal) → read ≡ with_index [] read
-no_index (Ok x) = refl
-no_index (Err e) = refl
 
 -- the row with a number
 abbrev pub row_of : List TermRow → ℕ → TermRow
@@ -118,10 +111,6 @@ terms_push : (bytes : List ℕ) (d : ℕ) (text : List ℕ) (segments : List Seg
 terms_push bytes d text segments [] x y = refl
 terms_push bytes d text segments (a ∷ []) x y = refl
 terms_push bytes d text segments (a ∷ b ∷ front) x y = ap (λ terms. term_between bytes d text segments a b ∷ terms) (terms_push bytes d text segments (b ∷ front) x y)
-
-behind_index : (front : List TermData) (t : TermData) (read : Result IndexRead OpenRefusal) → with_index front (read >>= λ later. Ok (record { terms = t ∷ later.terms; end = later.end })) ≡ with_index (front ++ t ∷ []) read
-behind_index front t (Ok x) = ap (λ (terms : List TermData). (let r : Result IndexRead OpenRefusal = Ok (record { terms = terms; end = x.end }) in r)) (sym (append_assoc front (t ∷ []) x.terms))
-behind_index front t (Err e) = refl
 
 index_on : (bytes : List ℕ) (d : ℕ) (text : List ℕ) (segments : List Segment) (total : Result IndexRead OpenRefusal) (front : List TermData) (x y : TermRow) (rows : List TermRow) (at : ℕ) (here : SegmentsRead)
     → total ≡ with_index front (read_payloads bytes d (row_heads bytes text segments (x ∷ y ∷ rows)) at) → read_segments bytes d [] (map (row_head bytes) (slice_range segments x.segment y.segment)) at ≡ Ok here

@@ -1,5 +1,5 @@
 -- The payloads of a term's segments, read one after the other into their rows.
-use Rattle.std.proofs.Common.{◌≡◌, ◌<◌, ◌+◌, ℕ, map, take, drop, length, slice_index_or, slice_set, All, arith, List, [], ◌∷◌, ◌++◌, Result, Ok, Err, append_assoc, ap, sym, subst, ◌∙◌, refl}
+use Rattle.std.proofs.Common.{◌≡◌, ◌<◌, ◌+◌, ℕ, map, take, drop, length, slice_index_or, slice_set, All, arith, List, [], ◌∷◌, ◌++◌, Result, Ok, Err, ap, sym, subst, ◌∙◌, refl}
 use Rattle.std.specs.List.{flat_map}
 use Rattle.std.proofs.lemmas.List.{append-nil, get_or-map, length-map, map_push, take_more_set, drop-set-lt}
 use Rattle.std.proofs.lemmas.Grind.{flat_map-append}
@@ -10,14 +10,11 @@ use Rattle.index_layout.specs.declared.refusal.OpenRefusal.{OpenRefusal}
 use Rattle.index_layout.specs.Heads.{HeadData}
 use Rattle.index_layout.specs.Refusals.{◌>>=◌}
 use Rattle.index_layout.specs.Reading.{SegmentsRead, docs_in, payload_end, read_segments}
+use Rattle.index_layout.proofs.Behind.{with_segments, behind_segments}
 use Rattle.index_file.specs.declared.segment.Segment.{Segment}
-use Rattle.index_file.specs.Marks.{AreMarks}
+use Rattle.index_file.specs.Private.Marks.{AreMarks}
 use Rattle.index_file.specs.Payloads.{IsCounted, row_segment}
 use Rattle.index_file.specs.Tables.{row_head}
-
--- behind segments that were read before
-abbrev pub with_segments : List SegmentData → Result SegmentsRead OpenRefusal → Result SegmentsRead OpenRefusal
-with_segments front read = read >>= λ x. Ok (record { segments = front ++ x.segments; end = x.end })
 
 pub no_segments : (read : Result SegmentsRead OpenRefusal) → read ≡ with_segments [] read
 no_segments (Ok x) = refl
@@ -34,10 +31,6 @@ row_counted bytes d segments old i s counted heads inside =
     let n = length-map segments (row_head bytes) in
     let at = all i (row_head bytes s) (omega (arith, n, inside)) in
     subst (IsCounted d) (get_or-map (row_head bytes) segments i s (row_head bytes s) inside) at
-
-behind_segments : (front : List SegmentData) (s : SegmentData) (read : Result SegmentsRead OpenRefusal) → with_segments front (read >>= λ later. Ok (record { segments = s ∷ later.segments; end = later.end })) ≡ with_segments (front ++ s ∷ []) read
-behind_segments front s (Ok x) = ap (λ (segments : List SegmentData). (let r : Result SegmentsRead OpenRefusal = Ok (record { segments = segments; end = x.end }) in r)) (sym (append_assoc front (s ∷ []) x.segments))
-behind_segments front s (Err e) = refl
 
 row_segment_is : (bytes : List ℕ) (d : ℕ) (s : Segment) → row_segment bytes d s ≡ record { impact = (row_head bytes s).impact; docs = docs_there bytes d s }
 unfolding row_segment

@@ -6,16 +6,14 @@ use Rattle.index_layout.specs.Reading.{NamesRead, HeadsRead, name_end, name_in, 
 use Rattle.std.proofs.lemmas.List.{map_push, length-append, drop-append-le}
 use Rattle.index_layout.specs.Bytes.{u16_in}
 use Rattle.index_layout.specs.Heads.{HeadData}
+use Rattle.index_layout.proofs.HeadLaws.{head_impact}
+use Rattle.index_layout.proofs.Behind.{with_heads, behind_heads}
 use Rattle.index_file.specs.declared.segment.Segment.{Segment}
 use Rattle.index_file.specs.Tables.{row_head}
 
 -- behind names that were read before
 abbrev pub with_names : List (List ℕ) → Result NamesRead OpenRefusal → Result NamesRead OpenRefusal
 with_names front read = read >>= λ x. Ok (record { names = front ++ x.names; end = x.end })
-
-pub no_names : (read : Result NamesRead OpenRefusal) → read ≡ with_names [] read
-no_names (Ok x) = refl
-no_names (Err e) = refl
 
 behind : (front : List (List ℕ)) (name : List ℕ) (read : Result NamesRead OpenRefusal) → with_names front (read >>= λ later. Ok (record { names = name ∷ later.names; end = later.end })) ≡ with_names (front ++ name ∷ []) read
 behind front name (Ok x) = ap (λ (names : List (List ℕ)). (let r : Result NamesRead OpenRefusal = Ok (record { names = names; end = x.end }) in r)) (sym (append_assoc front (name ∷ []) x.names))
@@ -28,22 +26,6 @@ names_on bytes total front k left at next is more end =
     is ∙ ap (λ n. with_names front (read_names bytes n at)) more
     ∙ ap (λ (e : Result ℕ OpenRefusal). with_names front (e >>= λ next. (read_names bytes left next >>= λ later. Ok (record { names = name_in bytes at ∷ later.names; end = later.end })))) end
     ∙ behind front (name_in bytes at) (read_names bytes left next)
-
--- behind heads that were read before
-abbrev pub with_heads : List HeadData → Result HeadsRead OpenRefusal → Result HeadsRead OpenRefusal
-with_heads front read = read >>= λ x. Ok (record { heads = front ++ x.heads; end = x.end })
-
-pub no_heads : (read : Result HeadsRead OpenRefusal) → read ≡ with_heads [] read
-no_heads (Ok x) = refl
-no_heads (Err e) = refl
-
-behind_heads : (front : List HeadData) (h : HeadData) (read : Result HeadsRead OpenRefusal) → with_heads front (read >>= λ later. Ok (record { heads = h ∷ later.heads; end = later.end })) ≡ with_heads (front ++ h ∷ []) read
-behind_heads front h (Ok x) = ap (λ (heads : List HeadData). (let r : Result HeadsRead OpenRefusal = Ok (record { heads = heads; end = x.end }) in r)) (sym (append_assoc front (h ∷ []) x.heads))
-behind_heads front h (Err e) = refl
-
-head_impact : (bytes : List ℕ) (at : ℕ) → (head_in bytes at).impact ≡ u16_in bytes at
-unfolding head_in
-head_impact bytes at = refl
 
 -- one head more
 pub heads_on : (bytes : List ℕ) (d : ℕ) (total : Result HeadsRead OpenRefusal) (front : List HeadData) (k left above at next : ℕ) (s : Segment) → total ≡ with_heads front (read_heads bytes d k above at) → k ≡ suc left

@@ -1,5 +1,5 @@
 -- Rows of terms while the text and the segments grow.
-use Rattle.std.proofs.Common.{◌≡◌, ◌+◌, ◌-◌, ◌≤◌, ℕ, suc, map, take, drop, length, All, arith, List, [], ◌∷◌, ◌++◌, Option, Some, Result, Ok, Err, append_assoc, ap, sym, subst, ◌∙◌, refl}
+use Rattle.std.proofs.Common.{◌≡◌, ◌+◌, ◌-◌, ◌≤◌, ℕ, suc, map, take, drop, length, All, arith, List, [], ◌∷◌, ◌++◌, Option, Some, Result, Ok, ap, sym, subst, ◌∙◌, refl}
 use Rattle.std.specs.Prelude.{slice_range, max}
 use Rattle.std.proofs.lemmas.List.{append-nil, map-append, length-append, take_all, drop-append-le, take-append-le, length-drop}
 use Rattle.std.proofs.lemmas.List.Elements.{All-append}
@@ -8,28 +8,17 @@ use Rattle.index_layout.specs.declared.refusal.OpenRefusal.{OpenRefusal}
 use Rattle.index_layout.specs.Heads.{HeadData, TermHeads, greatest_of}
 use Rattle.std.proofs.lemmas.List.Sums.{sum_by-cons, sum_by-append}
 use Rattle.index_file.specs.declared.sums.Sums.{Sums}
-use Rattle.index_file.specs.Sums.{AreSums}
+use Rattle.index_file.specs.Private.Sums.{AreSums}
 use Rattle.index_layout.specs.Refusals.{◌>>=◌, Fails}
 use Rattle.index_layout.specs.declared.refusal.OpenFault.{OpenFault}
 use Rattle.index_layout.specs.declared.refusal.OpenFault.TheVariants as faults
 use Rattle.index_layout.specs.Reading.{HeadsRead, TermsRead, term_end, term_in, heads_in, read_heads, read_terms}
+use Rattle.index_layout.proofs.Behind.{with_terms, behind_terms}
 use Rattle.index_file.specs.declared.segment.Segment.{Segment}
 use Rattle.index_file.specs.declared.term_row.TermRow.{TermRow}
 use Rattle.index_file.specs.declared.span.Span.{Span}
 use Rattle.index_file.specs.Payloads.{IsCounted, row_heads}
 use Rattle.index_file.specs.Tables.{row_head, part_of, IsSpan, RowsFrom, AreRows}
-
--- behind terms that were read before
-abbrev pub with_terms : List TermHeads → Result TermsRead OpenRefusal → Result TermsRead OpenRefusal
-with_terms front read = read >>= λ x. Ok (record { terms = front ++ x.terms; end = x.end })
-
-pub no_terms : (read : Result TermsRead OpenRefusal) → read ≡ with_terms [] read
-no_terms (Ok x) = refl
-no_terms (Err e) = refl
-
-behind_terms : (front : List TermHeads) (t : TermHeads) (read : Result TermsRead OpenRefusal) → with_terms front (read >>= λ later. Ok (record { terms = t ∷ later.terms; end = later.end })) ≡ with_terms (front ++ t ∷ []) read
-behind_terms front t (Ok x) = ap (λ (terms : List TermHeads). (let r : Result TermsRead OpenRefusal = Ok (record { terms = terms; end = x.end }) in r)) (sym (append_assoc front (t ∷ []) x.terms))
-behind_terms front t (Err e) = refl
 
 -- one term more
 pub terms_on : (bytes : List ℕ) (d : ℕ) (total : Result TermsRead OpenRefusal) (front : List TermHeads) (k left : ℕ) (before : Option (List ℕ)) (at place : ℕ) (here : HeadsRead) → total ≡ with_terms front (read_terms bytes d k before at) → k ≡ suc left → term_end bytes before at ≡ Ok place

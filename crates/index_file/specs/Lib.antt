@@ -1,10 +1,8 @@
-pub mod Plain
 pub mod Tables
-pub mod Sums
 pub mod Payloads
-pub mod Marks
 pub mod Samples
 pub mod Opened
 pub mod Places
 pub mod Giving
 pub mod Opening
+pub mod Private

@@ -4,6 +4,7 @@ ghost use Rattle.index_layout.specs.Refusals.{Answers};
 
 use crate::number::{u32_at, u64_at};
 use index_layout::{OpenFault, OpenWhy, refused};
+use jass_base::limits::{MOST_DOCUMENTS, MOST_POSTINGS, MOST_TERMS};
 
 /// The numbers of documents and terms, from the first 40 bytes.
 #[tactic(auto, unfolding(index_layout::specs::Reading::read_front, index_layout::specs::Reading::front_checks))]
@@ -25,14 +26,14 @@ pub(crate) fn read_front(bytes: &[u8]) -> Result<(u32, u32), OpenFault>
         return Err(refused(8, OpenWhy::Length));
     }
     let docs = u32_at(bytes, 16);
-    if docs > 67_108_864 {
+    if docs > MOST_DOCUMENTS {
         return Err(refused(16, OpenWhy::Limit));
     }
     let terms = u32_at(bytes, 20);
-    if terms > 16_777_216 {
+    if terms > MOST_TERMS {
         return Err(refused(20, OpenWhy::Limit));
     }
-    if u64_at(bytes, 24) > 536_870_912 {
+    if u64_at(bytes, 24) > MOST_POSTINGS {
         return Err(refused(24, OpenWhy::Limit));
     }
     if u32_at(bytes, 36) != 0 {

@@ -3,7 +3,7 @@ ghost use Rattle.index_layout.specs.Reading.{read_heads};
 ghost use Rattle.index_layout.specs.Refusals.{Answers};
 ghost use Rattle.index_layout.specs.Heads.{HeadData};
 ghost use Rattle.index_file.specs.Payloads.{IsCounted};
-ghost use Rattle.index_file.specs.Sums.{AreSums};
+ghost use Rattle.index_file.specs.Private.Sums.{AreSums};
 ghost use Rattle.index_file.specs.Tables.{HasHead, row_head};
 
 use crate::head::read_head;

@@ -1,6 +1,6 @@
 ghost use Rattle.std.specs.Prelude.{◌≡◌, ◌≤◌, ◌<◌, All, false, length};
 ghost use Rattle.index_layout.specs.Reading.{docs_in};
-ghost use Rattle.index_file.specs.Marks.{marked, meets_marked};
+ghost use Rattle.index_file.specs.Private.Marks.{marked, meets_marked};
 ghost use Rattle.index_file.specs.Payloads.{IsPayloadAt};
 ghost use Rattle.index_file.specs.Tables.{told};
 

@@ -5,9 +5,9 @@ ghost use Rattle.index_file.specs.Opening.{Opens};
 
 use crate::file::IndexFile;
 use index_layout::OpenFault;
-use jass_base::Cabinet;
+use jass_base::{Cabinet, ReadStop};
 use std::alloc::Global;
-use whole_files::{ReadStop, read_front};
+use whole_files::read_front;
 
 /// How many bytes of a file are read at the most: one more than an index file may have, since a
 /// longer file is refused whatever else stands in it.

@@ -1,7 +1,7 @@
 ghost use Rattle.std.specs.Prelude.{ℕ, ◌≡◌, ◌≤◌, ◌<◌, ◌+◌, ◌^◌, ◌++◌, List, [], length, take, IfOk};
 ghost use Rattle.index_layout.specs.Reading.{docs_in, payload_end};
 ghost use Rattle.index_layout.specs.Refusals.{Answers};
-ghost use Rattle.index_file.specs.Marks.{AreMarks};
+ghost use Rattle.index_file.specs.Private.Marks.{AreMarks};
 ghost use Rattle.index_file.specs.Payloads.{IsPayloadAt, placed};
 ghost use Rattle.index_file.specs.Tables.{told};
 
@@ -12,7 +12,7 @@ use index_layout::{OpenFault, OpenWhy, refused};
 use segment_codecs::laws::{payloads_are_read, payloads_have_few_bytes};
 use segment_codecs::{Codec, check, check_front_into};
 
-// How many documents a block has room for.
+/// How many documents a block has room for.
 const BLOCK: u32 = 4096;
 
 /// Checks that the payload of a segment is at a place.

@@ -1,5 +1,5 @@
 ghost use Rattle.std.specs.Prelude.{◌≤◌, ◌+◌, ◌-◌, All, IsTrue, length, take, drop};
-ghost use Rattle.index_file.specs.Plain.{IsPlain};
+ghost use Rattle.index_file.specs.Private.Plain.{IsPlain};
 
 use std::simd::prelude::*;
 

@@ -2,7 +2,7 @@ ghost use Rattle.std.specs.Prelude.{◌≡◌, ◌<◌, ◌≤◌, ◌+◌, ◌^
 ghost use Rattle.index_layout.specs.Reading.{read_terms};
 ghost use Rattle.index_layout.specs.Refusals.{Answers};
 ghost use Rattle.index_file.specs.Payloads.{IsCounted, row_heads};
-ghost use Rattle.index_file.specs.Sums.{AreSums};
+ghost use Rattle.index_file.specs.Private.Sums.{AreSums};
 ghost use Rattle.index_file.specs.Tables.{AreRows, HasHead, row_head};
 
 use crate::heads::read_heads;

@@ -2,7 +2,7 @@
 use Rattle.std.proofs.Common.{◌≡◌, ℕ, List, Option, sym, subst}
 use Rattle.jass_base.specs.Outside.{Files, ForContent}
 use Rattle.ciff_read.specs.Walk.{LeavesWalk, WalkView}
-use Rattle.index_import.specs.Surveying.{IsReady}
+use Rattle.index_import.specs.Private.Surveying.{IsReady}
 
 -- the walk is ready where the same was told, by its name then
 pub ready_then : (files now : Option Files) (name own : List ℕ) (w : WalkView) → now ≡ files → own ≡ name → IsReady now own w → IsReady files name w

@@ -1,21 +1,12 @@
 -- What stands beside a file that is written.
 use Rattle.std.proofs.Common.{◌≡◌, ◌≢◌, ℕ, List, Option, Some, None, Bool, true, false, cond, refl, sym, ap, subst, ◌∙◌}
 use Rattle.std.specs.Prelude.{IfSome}
-use Rattle.std.specs.Ordering.{nat_cmp, is_eq, eq_by_cmp}
+use Rattle.std.specs.Ordering.{nat_cmp, eq_by_cmp}
 use Rattle.std.specs.Cmp.Lexicographic.{slice_cmp}
-use Rattle.std.specs.FinMap.{get, insert, get-insert, slice_cmp-IsAntisymmetric, nat_cmp-IsAntisymmetric}
-use Rattle.std.specs.declared.cmp.Ordering.{Ordering}
-use Rattle.std.specs.declared.cmp.Ordering.TheVariants.{Less, Equal, Greater}
+use Rattle.std.specs.FinMap.{get, insert, get-insert}
 use Rattle.std.proofs.lemmas.Cmp.{nat_list_cmp_total}
 use Rattle.jass_base.specs.Outside.{Files, ForContent, IsMissing, Sets, content_there}
-
-equal_texts : (xs ys : List ℕ) → eq_by_cmp (slice_cmp nat_cmp) xs ys ≡ true → xs ≡ ys
-equal_texts xs ys is = slice_cmp-IsAntisymmetric nat_cmp-IsAntisymmetric xs ys (tied (slice_cmp nat_cmp xs ys) is)
-  where
-    tied : (o : Ordering) → is_eq o ≡ true → o ≡ Equal
-    tied Less is = cc
-    tied Equal is = refl
-    tied Greater is = cc
+use Rattle.shared_lemmas.proofs.Texts.{equal_texts}
 
 other : (m : Files) (index text name : List ℕ) → name ≢ index → get (insert m index text) name ≡ get m name
 other m index text name apart = get-insert nat_list_cmp_total m index text name ∙ at (eq_by_cmp (slice_cmp nat_cmp) name index) refl

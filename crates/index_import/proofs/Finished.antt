@@ -27,13 +27,13 @@ use Rattle.index_write.specs.declared.fault.TermFault.TheVariants as terms
 use Rattle.weights.specs.declared.quantizing.Bits.{Bits}
 use Rattle.weights.specs.declared.quantizing.Range.{Range}
 use Rattle.ciff_read.proofs.Told.{for_both}
-use Rattle.index_import.specs.Rereading.{segments_there}
+use Rattle.index_import.specs.Private.Rereading.{segments_there}
 use Rattle.index_import.specs.declared.fault.ImportFault.{ImportFault}
 use Rattle.index_import.specs.declared.fault.ImportFault.TheVariants.{WriteFault}
 use Rattle.index_import.specs.declared.list_entry.Place.{Place}
 use Rattle.index_import.specs.declared.weighing.Weighing.{Weighing}
 use Rattle.index_import.proofs.Beside.{for_same}
-use Rattle.index_import.specs.Faults.{unappended, unbegun, unread}
+use Rattle.index_import.specs.Private.Faults.{unappended, unbegun, unread}
 use Rattle.index_import.specs.Importing.{Begins, Writes}
 use Rattle.index_import.proofs.Written.{front_of_whole, on_told, payloads_parted, prefix_wanted, whole_front}
 

@@ -21,8 +21,8 @@ use Rattle.index_layout.specs.Heads.{TermHeads as EntryData}
 use Rattle.index_write.specs.Chosen.{chosen_entry, chosen_head, chosen_heads, chosen_payloads, head_data, table_payloads}
 use Rattle.index_write.specs.Streaming.{AreEntries, FallsTo, IsEntry, IsHead, RisesTo, entry_data}
 use Rattle.index_write.specs.declared.term_heads.TermHeads.{TermHeads}
-use Rattle.index_import.specs.Heading.{AreHeads, AreKept, KeepsMore, term_there}
-use Rattle.index_import.specs.Rereading.{segments_there}
+use Rattle.index_import.specs.Private.Heading.{AreHeads, AreKept, KeepsMore, term_there}
+use Rattle.index_import.specs.Private.Rereading.{segments_there}
 use Rattle.index_import.specs.declared.list_entry.ListEntry.{ListEntry}
 use Rattle.index_import.specs.declared.weighing.Weighing.{Weighing}
 

@@ -28,13 +28,13 @@ use Rattle.index_write.specs.declared.term_heads.TermHeads.{TermHeads}
 use Rattle.impact_segments.specs.Collections.{collection_index, index_of, lengths_of, total_of, weights_in, weights_of}
 use Rattle.impact_segments.specs.ListTerms.{AreByTerm, list_term, lists_in_use, widened_by}
 use Rattle.impact_segments.specs.OneList.{outside}
-use Rattle.index_import.specs.Faults.{unread}
-use Rattle.index_import.specs.Heading.{AreHeads, AreInside, FailsAllInside, places_of, term_there, terms_there}
+use Rattle.index_import.specs.Private.Faults.{unread}
+use Rattle.index_import.specs.Private.Heading.{AreHeads, AreInside, FailsAllInside, places_of, term_there, terms_there}
 use Rattle.index_import.specs.Importing.{HasTerms, Imports, IsMade, Writes}
-use Rattle.index_import.specs.Outlining.{IsOutline, list_there, lists_there, names_of}
-use Rattle.index_import.specs.Ranging.{range_there}
-use Rattle.index_import.specs.Rereading.{IsInside, segments_there}
-use Rattle.index_import.specs.Surveying.{kept_entry}
+use Rattle.index_import.specs.Private.Outlining.{IsOutline, list_there, lists_there, names_of}
+use Rattle.index_import.specs.Private.Ranging.{range_there}
+use Rattle.index_import.specs.Private.Rereading.{IsInside, segments_there}
+use Rattle.index_import.specs.Private.Surveying.{kept_entry}
 use Rattle.index_import.specs.declared.fault.ImportFault.{ImportFault}
 use Rattle.index_import.specs.declared.fault.ImportFault.TheVariants.{Refused, ReadFault, TooLarge, WriteFault, NoMemory}
 use Rattle.index_import.specs.declared.list_entry.ListEntry.{ListEntry}

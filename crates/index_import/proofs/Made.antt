@@ -10,9 +10,9 @@ use Rattle.weights.specs.declared.quantizing.Bits.{Bits}
 use Rattle.weights.specs.declared.quantizing.Range.{Range}
 use Rattle.ciff_read.specs.declared.refusal.CiffFault.{CiffFault}
 use Rattle.ciff_read.proofs.Told.{for_one}
-use Rattle.index_import.specs.Outlining.{list_there}
-use Rattle.index_import.specs.Rereading.{MakesOf, MakesSegments}
-use Rattle.index_import.specs.Surveying.{HoldsMost, entry_postings}
+use Rattle.index_import.specs.Private.Outlining.{list_there}
+use Rattle.index_import.specs.Private.Rereading.{MakesOf, MakesSegments}
+use Rattle.index_import.specs.Private.Surveying.{HoldsMost, entry_postings}
 use Rattle.index_import.specs.declared.list_entry.ListEntry.{ListEntry}
 use Rattle.index_import.specs.declared.weighing.Weighing.{Weighing}
 use Rattle.index_import.proofs.Ready.{list_there_is}

@@ -31,9 +31,9 @@ use Rattle.ciff_read.specs.Walk.{HasKept, WalkView}
 use Rattle.impact_segments.specs.Collections.{lengths_of, total_of}
 use Rattle.impact_segments.proofs.OneTerm.{all_map_at}
 use Rattle.impact_segments.proofs.Orders.{strictly}
-use Rattle.shared_lemmas.proofs.Pairs.{pairs_by_places, pairs_by_recursion, pairs_map, pairs_unmap}
-use Rattle.index_import.specs.Outlining.{AreInOrder, IsOutline, IsOutlined, has_postings, list_there, lists_there, names_of}
-use Rattle.index_import.specs.Surveying.{AreGiven, AreKept, HoldsMost, IsSurvey, KeepsAll, has_some, kept_entry, numbered}
+use Rattle.shared_lemmas.proofs.Pairs.{pairs_by_places, pairs_by_recursion, pairs_map, AllPairs-unmap}
+use Rattle.index_import.specs.Private.Outlining.{AreInOrder, IsOutline, IsOutlined, has_postings, list_there, lists_there, names_of}
+use Rattle.index_import.specs.Private.Surveying.{AreGiven, AreKept, HoldsMost, IsSurvey, KeepsAll, has_some, kept_entry, numbered}
 use Rattle.index_import.specs.declared.list_entry.ListEntry.{ListEntry}
 use Rattle.index_import.proofs.Ready.{list_there_is}
 
@@ -41,9 +41,6 @@ use Rattle.index_import.proofs.Ready.{list_there_is}
 
 mapped : {A B : Type 0} (R : B → B → Type 0) (f : A → B) (xs : List A) → AllPairs (λ (x y : A). R (f x) (f y)) xs → AllPairs R (map f xs)
 mapped {A} R f xs pairs = pairs_by_places R (map f xs) (pairs_map R f xs (pairs_by_recursion (λ (x y : A). R (f x) (f y)) xs pairs))
-
-unmapped : {A B : Type 0} (R : B → B → Type 0) (f : A → B) (xs : List A) → AllPairs R (map f xs) → AllPairs (λ (x y : A). R (f x) (f y)) xs
-unmapped {A} R f xs pairs = pairs_by_places (λ (x y : A). R (f x) (f y)) xs (pairs_unmap R f xs (pairs_by_recursion R (map f xs) pairs))
 
 -- what differs still does when it changes places
 module _ {K : Type 0} (eq : K → K → Bool) (same : (x y : K) → Decides (eq x y) (x ≡ y)) where
@@ -138,8 +135,8 @@ module _ (kept : List KeptList) (lists : List ListEntry) (same : map kept_entry 
   entries_differ : AllPairs (λ (a b : List ℕ). a ≢ b) (terms_kept kept) → AllPairs (λ (a b : List ℕ). a ≢ b) (map term_of lists)
   entries_differ differ =
       let R : KeptList → KeptList → Type 0 = λ (a b : KeptList). a.term ≢ b.term in
-      let each : AllPairs R (map kept_entry lists) = subst (AllPairs R) (sym same) (AllPairs-filter R has_some kept (unmapped (λ (a b : List ℕ). a ≢ b) (λ (k : KeptList). k.term) kept differ)) in
-      mapped (λ (a b : List ℕ). a ≢ b) term_of lists (unmapped R kept_entry lists each)
+      let each : AllPairs R (map kept_entry lists) = subst (AllPairs R) (sym same) (AllPairs-filter R has_some kept (AllPairs-unmap (λ (a b : List ℕ). a ≢ b) (λ (k : KeptList). k.term) kept differ)) in
+      mapped (λ (a b : List ℕ). a ≢ b) term_of lists (AllPairs-unmap R kept_entry lists each)
 
 -- ---- the outline, whether or not the content is told
 
@@ -158,7 +155,7 @@ outlined w docs first lists names lengths total kept ordered order sorted is = r
   total_is = is;
   given = All-permutation (λ (e : ListEntry). HasKept w.kept e.place.at e.place.count) first lists order (are_given w.kept first kept.lists_are);
   few_lists = omega (arith, length_permutation first lists order, few_entries w.kept first kept.lists_are, kept.ranges.lists_given, kept.ranges.few_lists);
-  rising = rises lists sorted (unmapped (λ (a b : List ℕ). a ≢ b) term_of lists (moved bytes_eq bytes_eq-Decides (map term_of first) (map term_of lists) (IsPermutation-map term_of first lists order) (entries_differ w.kept first kept.lists_are kept.differ)));
+  rising = rises lists sorted (AllPairs-unmap (λ (a b : List ℕ). a ≢ b) term_of lists (moved bytes_eq bytes_eq-Decides (map term_of first) (map term_of lists) (IsPermutation-map term_of first lists order) (entries_differ w.kept first kept.lists_are kept.differ)));
   postings = omega (arith, sum_by-IsPermutation count_of first lists order, few_counted w.kept first kept.lists_are, kept.ranges.few_postings);
   keep_all = All-permutation (KeepsAll w.docs) first lists order kept.keep_all;
 }
@@ -208,7 +205,7 @@ module _ (law : (records ordered : List NumberedDoc) → IsPermutation ordered r
   in_order_again docs names lengths ordered once =
       let number : ℕ × DocRecord → ℕ = λ (x : ℕ × DocRecord). x.0 in
       let apart : AllPairs (λ (a b : ℕ × DocRecord). a.0 ≢ b.0) ordered.ordered
-      = unmapped (λ (a b : ℕ). a ≢ b) number ordered.ordered (moved nat_eq Decides-eqb (map number docs) (map number ordered.ordered) (IsPermutation-map number docs ordered.ordered ordered.same) (mapped (λ (a b : ℕ). a ≢ b) number docs once)) in
+      = AllPairs-unmap (λ (a b : ℕ). a ≢ b) number ordered.ordered (moved nat_eq Decides-eqb (map number docs) (map number ordered.ordered) (IsPermutation-map number docs ordered.ordered ordered.same) (mapped (λ (a b : ℕ). a ≢ b) number docs once)) in
       let rising : AllPairs (λ (a b : ℕ × DocRecord). a.0 < b.0) ordered.ordered = λ i j d less low. omega (arith, ordered.rising i j d (omega (arith, less)) low, apart i j d less low) in
       law (map numbered docs) (map numbered ordered.ordered) (IsPermutation-map numbered ordered.ordered docs (IsPermutation-sym docs ordered.ordered ordered.same))
       (mapped (λ (a b : NumberedDoc). a.number < b.number) numbered ordered.ordered rising)

@@ -1,5 +1,5 @@
 -- A walk that can be asked for lists again.
-use Rattle.std.proofs.Common.{◌≡◌, ℕ, zero, suc, ◌<◌, ◌⊎◌, inl, inr, List, [], ◌∷◌, map, Option, None, Result, refl, sym, ap, subst, ◌∙◌, arith, ◌≢◌}
+use Rattle.std.proofs.Common.{◌≡◌, ℕ, zero, suc, ◌<◌, ◌⊎◌, inl, inr, List, [], ◌∷◌, map, Option, Result, refl, sym, ap, subst, ◌∙◌, arith, ◌≢◌}
 use Rattle.std.specs.List.{AllByRecursion}
 use Rattle.std.specs.List.Sorted.{IsStrictlyIncreasing}
 use Rattle.jass_base.specs.Ciff.{ListData}
@@ -8,11 +8,11 @@ use Rattle.ciff_read.specs.declared.refusal.CiffRefusal.{CiffRefusal}
 use Rattle.ciff_read.specs.Pieces.{KeptList}
 use Rattle.ciff_read.specs.Reading.{Message, list_at}
 use Rattle.ciff_read.specs.Refusals.{◌>>=◌}
-use Rattle.ciff_read.specs.Walk.{HasKept, IsListAt, KeepsRanges, LeavesWalk, StandsFor, StandsTold, WalkView}
+use Rattle.ciff_read.specs.Walk.{HasKept, IsListAt, LeavesWalk, StandsFor, WalkView}
 use Rattle.shared_lemmas.proofs.Pairs.{Pairs, rising_pairs}
 use Rattle.index_import.proofs.Beside.{beside, for_same, there_beside}
-use Rattle.index_import.specs.Outlining.{list_there, or_nothing}
-use Rattle.index_import.specs.Surveying.{IsReady}
+use Rattle.index_import.specs.Private.Outlining.{list_there, or_nothing}
+use Rattle.index_import.specs.Private.Surveying.{IsReady}
 
 -- the list that stands at a place is the one there
 pub list_there_is : (content : List ℕ) (docs at : ℕ) (list : ListData) → IsListAt content docs at list → list ≡ list_there content docs at
@@ -20,32 +20,8 @@ unfolding list_there
 list_there_is content docs at list is =
     sym (ap (λ (r : Result Message CiffRefusal). or_nothing (r >>= list_at docs 0 [] at)) is.there ∙ ap or_nothing is.judged)
 
-pub ranges_stay : (old new : WalkView) → LeavesWalk old new → KeepsRanges old → KeepsRanges new
-ranges_stay old new same is = record {
-  few_lists = rw same.lists is.few_lists;
-  few_docs = rw same.docs is.few_docs;
-  few_postings = rw same.kept is.few_postings;
-  lists_given = rw (same.kept, same.lists) is.lists_given;
-  docs_given = rw (same.given, same.docs) is.docs_given;
-  near = rw same.at is.near;
-  rising = rw same.kept is.rising;
-  before = rw (same.kept, same.at) is.before;
-}
-
-pub ready_again : (files : Option Files) (name : List ℕ) (old new : WalkView) → IsReady files name old → LeavesWalk old new → StandsTold files new → new.answered ≡ None → IsReady files name new
-ready_again files name old new is same stands unanswered = record {
-  there = is.there;
-  name_is = same.name ∙ is.name_is;
-  stands = stands;
-  unanswered = unanswered;
-  ranges = ranges_stay old new same is.ranges;
-}
-
 -- a place that is kept once has one number of postings
 module _ (at : ℕ) where
-  abbrev HasAmong : List KeptList → ℕ → Type 0
-  HasAmong kept count = HasKept kept at count
-
   abbrev later : KeptList → List KeptList → Type 0
   later k kept = AllByRecursion (λ (n : ℕ). k.at < n) (map (λ (k : KeptList). k.at) kept)
 

@@ -19,7 +19,7 @@ use Rattle.jass_base.specs.declared.header.Header.{Header}
 use Rattle.jass_base.specs.declared.posting.Posting.{Posting}
 use Rattle.jass_base.specs.declared.postings_list.PostingsList.{PostingsList}
 use Rattle.ciff_read.specs.Assembling.{Assembles, IsKeptList, Parts, collection_of, only_header, with_piece}
-use Rattle.ciff_read.specs.Given.{Advances, Gives, GivesTold, piece_data}
+use Rattle.ciff_read.specs.Given.{Advances, GivesPiece, GivesTold, piece_data}
 use Rattle.ciff_read.specs.Judging.{NumberedDoc, is_among, numbers_of}
 use Rattle.ciff_read.specs.Marks.{is_marked}
 use Rattle.ciff_read.specs.Pieces.{DocPiece, EndPiece, IsReached, KeptList, ListPiece, PieceData, Progress, StartPiece, Step, header_of_file, next_of, terms_kept}
@@ -35,7 +35,7 @@ use Rattle.ciff_read.specs.declared.refusal.CiffFault.TheVariants as faults
 use Rattle.ciff_read.specs.declared.refusal.CiffRefusal.{CiffRefusal}
 use Rattle.ciff_read.proofs.Told.{for_all, for_both}
 use Rattle.impact_segments.specs.Bounds.{most_tf}
-use Rattle.index_import.specs.Surveying.{AreKept, HoldsMost, IsSurvey, KeepsAll, entry_postings, has_some, kept_entry, numbered}
+use Rattle.index_import.specs.Private.Surveying.{AreKept, HoldsMost, IsSurvey, KeepsAll, entry_postings, has_some, kept_entry, numbered}
 use Rattle.index_import.specs.declared.list_entry.ListEntry.{ListEntry}
 use Rattle.index_import.proofs.Widening.{list_fits}
 
@@ -297,19 +297,14 @@ module _ (laws : PieceLaws) (content : List ℕ) where
     fault_follows faults.ReadFault is = tt
     fault_follows faults.NoMemory is = tt
 
-  pub header_fault : (fault : CiffFault) → FailsReading fault (header_of_file content) → FailsReading fault (read_ciff content)
-  header_fault (faults.Refused refusal) is = laws.bad_header content refusal is
-  header_fault faults.ReadFault is = tt
-  header_fault faults.NoMemory is = tt
-
 -- what a call gives of the content under the name that the walk began with
 pub gives_there : (told now : Option Files) (name : List ℕ) (old new : WalkView) (result : Result Piece CiffFault) → now ≡ told → old.name ≡ name → old.answered ≡ None → StandsTold told old → GivesTold now old new result
-    → ForContent told name (λ content. (p : Progress) → Keeps old p → Gives content p result new)
+    → ForContent told name (λ content. (p : Progress) → Keeps old p → GivesPiece content p result new)
 gives_there told now name old new result same named unanswered stands gives =
-    subst (λ (n : List ℕ). ForContent told n (λ content. (p : Progress) → Keeps old p → Gives content p result new)) named
+    subst (λ (n : List ℕ). ForContent told n (λ content. (p : Progress) → Keeps old p → GivesPiece content p result new)) named
     (for_both told old.name (λ content. StandsFor content old)
-    (λ content. old.answered ≡ None → AreFrom content old.start old.bytes → (p : Progress) → Keeps old p → Gives content p result new)
-    (λ content. (p : Progress) → Keeps old p → Gives content p result new)
+    (λ content. old.answered ≡ None → AreFrom content old.start old.bytes → (p : Progress) → Keeps old p → GivesPiece content p result new)
+    (λ content. (p : Progress) → Keeps old p → GivesPiece content p result new)
     (λ content here given. given unanswered (here unanswered).shows) stands (subst (λ (files : Option Files). GivesTold files old new result) same gives))
 
 -- nothing is kept of no list, and what was kept stays so where the documents are as many

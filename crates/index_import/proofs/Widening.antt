@@ -4,7 +4,7 @@ use Rattle.std.specs.Prelude.{All}
 use Rattle.std.proofs.Math.Nat.{min-le_right}
 use Rattle.std.proofs.Math.Seq.{take-suc}
 use Rattle.std.proofs.lemmas.List.{length-map, map-append}
-use Rattle.std.proofs.lemmas.List.Elements.{All-map, All-nil, All-push}
+use Rattle.std.proofs.lemmas.List.Elements.{All-map, All-push}
 use Rattle.std.proofs.lemmas.Str.{IsUtf8-from_is_utf8}
 use Rattle.jass_base.specs.Ciff.{FitsList, ListData}
 use Rattle.jass_base.specs.CiffViews.{list_data}
@@ -12,7 +12,7 @@ use Rattle.jass_base.specs.Lists.{HasDocsBelow}
 use Rattle.jass_base.specs.Outside.{Files, ForContent}
 use Rattle.jass_base.specs.declared.posting.Posting.{Posting}
 use Rattle.jass_base.specs.declared.postings_list.PostingsList.{PostingsList}
-use Rattle.ciff_read.proofs.Told.{for_all, for_both}
+use Rattle.ciff_read.proofs.Told.{for_both}
 use Rattle.weights.specs.declared.weighting.Rule.{Rule}
 use Rattle.weights.specs.declared.quantizing.Range.{Range}
 use Rattle.weights.specs.Quantizing.{empty_range, range_of, widened}
@@ -21,9 +21,9 @@ use Rattle.impact_segments.specs.Bounds.{can_widen, most_tf}
 use Rattle.impact_segments.specs.Collections.{weights_in}
 use Rattle.impact_segments.specs.ListTerms.{widened_by}
 use Rattle.impact_segments.specs.OneList.{norms_in}
-use Rattle.index_import.specs.Outlining.{list_there}
-use Rattle.index_import.specs.Ranging.{widened_there}
-use Rattle.index_import.specs.Surveying.{HoldsMost}
+use Rattle.index_import.specs.Private.Outlining.{list_there}
+use Rattle.index_import.specs.Private.Ranging.{widened_there}
+use Rattle.index_import.specs.Private.Surveying.{HoldsMost}
 use Rattle.index_import.specs.declared.list_entry.ListEntry.{ListEntry}
 use Rattle.index_import.specs.declared.weighing.Weighing.{Weighing}
 use Rattle.index_import.proofs.Ready.{list_there_is}
@@ -44,14 +44,6 @@ list_fits docs l below = record {
   rising = l.rising;
   tf = l.tf_in_range;
   below = below;
-}
-
-pub widens_none : (files : Option Files) (name : List ℕ) (docs : ℕ) (w : Weighing) (range : Range) → range ≡ empty_range → Widens files name docs w [] range
-widens_none files name docs w range is = record {
-  read = [];
-  fit = All-nil (FitsList (length w.lengths.now));
-  range_is = is;
-  told = for_all files name (λ content. range ≡ widened_there content docs w []) (λ content. is);
 }
 
 abbrev StaysInside : Type 0

@@ -6,7 +6,7 @@ use Rattle.std.proofs.lemmas.List.{get_or-map, length-map}
 use Rattle.std.proofs.lemmas.Map.Keys.{non_decreasing_from_sorted, sorted_from_strictly_increasing}
 use Rattle.jass_base.specs.Postings.{docs_of}
 use Rattle.jass_base.specs.declared.posting.Posting.{Posting}
-use Rattle.index_import.specs.KeptPostings.{HasWord}
+use Rattle.index_import.specs.Private.KeptPostings.{HasWord}
 
 pub all_have_words : (ps : List Posting) (most : ℕ) (d : Posting) → IsStrictlyIncreasing (docs_of ps) → All (λ (p : Posting). p.tf ≤ most) ps
     → (get_or ps (length ps - 1) d).doc < 2 ^ 21 → most < 2 ^ 11 → All HasWord ps

@@ -15,8 +15,8 @@ use Rattle.index_write.specs.Chosen.{chosen_terms}
 use Rattle.index_write.specs.Saving.{LeavesPrefix}
 use Rattle.index_write.specs.Streaming.{entry_data}
 use Rattle.index_write.specs.declared.term_heads.TermHeads.{TermHeads}
-use Rattle.index_import.specs.Heading.{AreKept}
-use Rattle.index_import.specs.Rereading.{IsInside, segments_there}
+use Rattle.index_import.specs.Private.Heading.{AreKept}
+use Rattle.index_import.specs.Private.Rereading.{IsInside, segments_there}
 use Rattle.index_import.specs.declared.fault.ImportFault.{ImportFault}
 use Rattle.index_import.specs.declared.fault.ImportFault.TheVariants.{Refused, ReadFault, TooLarge, WriteFault, NoMemory}
 use Rattle.index_import.specs.declared.list_entry.Place.{Place}

@@ -1,5 +1,5 @@
 ghost use Rattle.std.specs.Prelude.{◌≡◌};
-ghost use Rattle.index_import.specs.Faults.{unread};
+ghost use Rattle.index_import.specs.Private.Faults.{unread};
 
 use ciff_read::{CiffFault, CiffRefusal};
 

@@ -10,8 +10,8 @@ ghost use Rattle.impact_segments.specs.OneList.{EndsLow};
 ghost use Rattle.index_model.specs.Views.{segment_data};
 ghost use Rattle.index_write.specs.Chosen.{chosen_heads, chosen_payloads, head_data};
 ghost use Rattle.index_write.specs.Streaming.{AreEntries, entry_data};
-ghost use Rattle.index_import.specs.Heading.{AreHeads, FailsAllInside, KeepsMore, places_of};
-ghost use Rattle.index_import.specs.Surveying.{AreGiven, HoldsMost, IsReady, KeepsAll};
+ghost use Rattle.index_import.specs.Private.Heading.{AreHeads, FailsAllInside, KeepsMore, places_of};
+ghost use Rattle.index_import.specs.Private.Surveying.{AreGiven, HoldsMost, IsReady, KeepsAll};
 ghost use Rattle.index_import.specs.declared.list_entry.ListEntry.{ListEntry};
 
 use crate::list_entry::{ListEntry, Place};

@@ -2,8 +2,8 @@ ghost use Rattle.std.specs.Prelude.{ℕ, ◌≡◌, ◌≢◌, ◌≤◌, ◌⊎
 ghost use Rattle.jass_base.specs.Outside.{ForContent, IsMissing, Rose};
 ghost use Rattle.weights.specs.Quantizing.{IsImpactWidth};
 ghost use Rattle.index_import.specs.Importing.{Imports};
-ghost use Rattle.index_import.specs.Outlining.{IsOutline, IsOutlined};
-ghost use Rattle.index_import.specs.Surveying.{IsReady};
+ghost use Rattle.index_import.specs.Private.Outlining.{IsOutline, IsOutlined};
+ghost use Rattle.index_import.specs.Private.Surveying.{IsReady};
 
 use crate::fault::ImportFault;
 use crate::heads::read_heads;

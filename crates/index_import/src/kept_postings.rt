@@ -4,7 +4,7 @@ ghost use Rattle.std.specs.Prelude.{◌≡◌, ◌≤◌, ◌⊎◌, [], length,
 ghost use Rattle.std.specs.List.Sorted.{IsStrictlyIncreasing};
 ghost use Rattle.jass_base.specs.Postings.{docs_of};
 ghost use Rattle.jass_base.specs.declared.posting.Posting.{Posting};
-ghost use Rattle.index_import.specs.KeptPostings.{HasWord, posting_in, postings_in, words_in};
+ghost use Rattle.index_import.specs.Private.KeptPostings.{HasWord, posting_in, postings_in, words_in};
 
 use arrayvec::ArrayVec;
 use jass_base::{NoMemory, Posting};

@@ -3,7 +3,7 @@ ghost use Rattle.std.specs.List.Sorted.{IsStrictlyIncreasing};
 ghost use Rattle.jass_base.specs.Limits.{IsText};
 ghost use Rattle.jass_base.specs.Postings.{HasTfInRange, docs_of};
 ghost use Rattle.impact_segments.specs.Bounds.{most_tf};
-ghost use Rattle.index_import.specs.KeptPostings.{postings_in};
+ghost use Rattle.index_import.specs.Private.KeptPostings.{postings_in};
 
 use crate::kept_postings::KeptPostings;
 use impact_segments::most_tf;

@@ -1,7 +1,7 @@
 ghost use Rattle.std.specs.Prelude.{ℕ, ◌≡◌, ◌<◌, ◌≤◌, ◌^◌, List, length, All, IfOk};
 ghost use Rattle.impact_segments.specs.Collections.{total_of};
-ghost use Rattle.index_import.specs.Outlining.{AreInOrder, IsOutline, IsOutlined};
-ghost use Rattle.index_import.specs.Surveying.{AreKept, IsSurvey};
+ghost use Rattle.index_import.specs.Private.Outlining.{AreInOrder, IsOutline, IsOutlined};
+ghost use Rattle.index_import.specs.Private.Surveying.{AreKept, IsSurvey};
 
 use crate::list_entry::ListEntry;
 use crate::survey::Survey;

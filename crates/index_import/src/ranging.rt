@@ -2,8 +2,8 @@ ghost use Rattle.std.specs.Prelude.{ℕ, ◌≡◌, ◌<◌, ◌≤◌, ◌^◌,
 ghost use Rattle.jass_base.specs.Outside.{Rose, ForContent};
 ghost use Rattle.ciff_read.specs.Walk.{IsOutside, LeavesWalk};
 ghost use Rattle.impact_segments.specs.OneList.{EndsLow};
-ghost use Rattle.index_import.specs.Ranging.{range_there, widened_there};
-ghost use Rattle.index_import.specs.Surveying.{AreGiven, HoldsMost, IsReady, KeepsAll};
+ghost use Rattle.index_import.specs.Private.Ranging.{range_there, widened_there};
+ghost use Rattle.index_import.specs.Private.Surveying.{AreGiven, HoldsMost, IsReady, KeepsAll};
 
 use crate::list_entry::{ListEntry, Place};
 use crate::reading::entry_list;

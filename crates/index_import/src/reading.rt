@@ -5,9 +5,9 @@ ghost use Rattle.jass_base.specs.Outside.{Rose, ForContent};
 ghost use Rattle.weights.specs.Quantizing.{IsImpactWidth};
 ghost use Rattle.ciff_read.specs.Walk.{HasKept, IsOutside, LeavesWalk};
 ghost use Rattle.impact_segments.specs.OneList.{EndsLow};
-ghost use Rattle.index_import.specs.Outlining.{list_there};
-ghost use Rattle.index_import.specs.Rereading.{AreSegments, MakesOf, MakesSegments};
-ghost use Rattle.index_import.specs.Surveying.{AreOfList, HoldsMost, IsReady, KeepsAll, entry_postings};
+ghost use Rattle.index_import.specs.Private.Outlining.{list_there};
+ghost use Rattle.index_import.specs.Private.Rereading.{AreSegments, MakesOf, MakesSegments};
+ghost use Rattle.index_import.specs.Private.Surveying.{AreOfList, HoldsMost, IsReady, KeepsAll, entry_postings};
 
 use crate::list_entry::{ListEntry, Place};
 use crate::weighing::Weighing;

@@ -1,7 +1,7 @@
 ghost use Rattle.std.specs.Prelude.{◌≡◌, ◌≤◌, ◌⊎◌, IfOk, IsErrOf, MatchResult};
 ghost use Rattle.jass_base.specs.Outside.{IsMissing, Rose};
 ghost use Rattle.ciff_read.specs.Walk.{IsOutside};
-ghost use Rattle.index_import.specs.Surveying.{AreKept, IsReady, SurveyTold};
+ghost use Rattle.index_import.specs.Private.Surveying.{AreKept, IsReady, SurveyTold};
 
 use crate::list_entry::ListEntry;
 use ciff_read::laws::pieces_make_the_collection;

@@ -5,9 +5,9 @@ ghost use Rattle.ciff_read.specs.Walk.{HasKept};
 ghost use Rattle.impact_segments.specs.OneList.{EndsLow};
 ghost use Rattle.index_model.specs.Index.{TermData};
 ghost use Rattle.index_write.specs.Streaming.{AreEntries, AreNames, entries_totals, entry_data};
-ghost use Rattle.index_import.specs.Faults.{unappended, unbegun};
+ghost use Rattle.index_import.specs.Private.Faults.{unappended, unbegun};
 ghost use Rattle.index_import.specs.Importing.{HasTerms, Writes};
-ghost use Rattle.index_import.specs.Surveying.{IsReady};
+ghost use Rattle.index_import.specs.Private.Surveying.{IsReady};
 ghost use Rattle.index_import.specs.declared.list_entry.Place.{Place};
 
 use crate::fault::ImportFault;

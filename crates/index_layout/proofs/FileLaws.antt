@@ -1,7 +1,7 @@
 -- Files are read as they are written.
-use Rattle.std.proofs.Common.{map, ◌∷◌, ◌≡◌, ℕ, ◌+◌, ◌<◌, ◌≤◌, ◌^◌, ◌==◌, ◌||◌, not, true, false, nat_lt, nat_eq, List, [], ◌++◌, length, take, drop, All, Some, None, Result, Ok, ap, sym, subst, ◌∙◌, refl, arith}
+use Rattle.std.proofs.Common.{map, ◌∷◌, ◌≡◌, ℕ, ◌+◌, ◌<◌, ◌≤◌, ◌^◌, ◌==◌, ◌||◌, not, false, nat_lt, nat_eq, List, [], ◌++◌, length, take, drop, All, Some, None, Result, Ok, ap, sym, subst, ◌∙◌, refl, arith}
 use Rattle.std.specs.List.{starts_with}
-use borrow.Author.Tests.{ltb-false}
+use borrow.Author.Tests.{ltb-false, eqb-true}
 use Rattle.std.proofs.lemmas.Bool.Decides.{nat_tests}
 use Rattle.std.proofs.lemmas.List.{length-append, append_assoc, append-nil, drop_all, take-append-drop, length-map}
 use Rattle.std.proofs.lemmas.Slice.Eq.{bytes_eq-Decides}
@@ -10,6 +10,7 @@ use Rattle.jass_base.specs.Limits.{IsName, IsText}
 use Rattle.segment_codecs.specs.declared.codec.Codec.{Codec}
 use Rattle.segment_codecs.specs.Codecs.{chosen_codec, codec_number, codec_of, payload_of, read_payload}
 use Rattle.index_model.specs.Index.{SegmentData, TermData, IndexData, IsIndex}
+use Rattle.std.proofs.lemmas.Bool.{or_parts, not-false}
 use Rattle.index_layout.specs.Bytes.{u32_in, u64_in, u32_bytes, u64_bytes}
 use Rattle.index_layout.specs.Heads.{TermHeads, terms_heads, head_postings, payloads_size, greatest_impact}
 use Rattle.index_layout.specs.Layout.{magic, old_magic, names_bytes, terms_bytes, file_length, totals_bytes, front_bytes, terms_payloads}
@@ -17,7 +18,7 @@ use Rattle.index_layout.specs.View.{FileView, IsFileView, HaveCodecs, view_heads
 use Rattle.index_layout.specs.declared.refusal.OpenRefusal.{OpenRefusal}
 use Rattle.index_layout.specs.Refusals.{◌>>=◌}
 use Rattle.index_layout.specs.Reading.{Front, NamesRead, TermsRead, IndexRead, front_checks, read_front, read_names, read_terms, read_payloads, head_codecs, end_checks, after_payloads, after_terms, after_names, after_front, read_index}
-use Rattle.index_layout.proofs.Judging.{same_ok, bind_ok, judged_ok, judged_all, none_of, passed, behind, reaches}
+use Rattle.index_layout.proofs.Judging.{same_ok, bind_ok, judged_ok, judged_all, behind, reaches}
 use Rattle.index_layout.proofs.Numbers.{Fit, u32_found, u64_found, u32_only, u64_only}
 use Rattle.index_layout.proofs.NameLaws.{NamesAre, names_found, names_only}
 use Rattle.index_layout.proofs.TermLaws.{TermsRise, TermsAre, terms_found, terms_only}
@@ -34,7 +35,7 @@ Only = (codec : Codec) (d count : ℕ) (docs bytes : List ℕ) → 1 ≤ count �
 abbrev pub Numbered : Type 0
 Numbered = (codec : Codec) (number : ℕ) → codec_of number ≡ Some codec → codec_number codec ≡ number
 
-step : {A B : Type 0} (r : Result A OpenRefusal) (f : A → Result B OpenRefusal) (x : A) → r ≡ Ok x → (r >>= f) ≡ f x
+pub step : {A B : Type 0} (r : Result A OpenRefusal) (f : A → Result B OpenRefusal) (x : A) → r ≡ Ok x → (r >>= f) ≡ f x
 step r f x is = ap (λ r. r >>= f) is
 
 -- the first 40 bytes with these numbers
@@ -155,15 +156,15 @@ front_only bytes front fits read =
     let last : Front = record { docs = u32_in bytes 16; terms = u32_in bytes 20 } in
     let x = judged_ok (front_checks bytes) last front read in
     let good = x.0 in
-    let size = none_of (nat_lt (length bytes) 40) (not (u64_in bytes 8 == length bytes)) good.1.1.1.0 in
+    let size = or_parts (nat_lt (length bytes) 40) (not (u64_in bytes 8 == length bytes)) good.1.1.1.0 in
     let long : 40 ≤ length bytes = ltb-false (length bytes) 40 size.0 in
-    let known = passed (u64_in bytes 8 == length bytes) size.1 in
+    let known = not-false (u64_in bytes 8 == length bytes) size.1 in
     let whole : u64_in bytes 8 ≡ length bytes = grind (arith, nat_tests, known) in
-    let end = passed (u32_in bytes 36 == 0) good.1.1.1.1.1.1.1.0 in
+    let end = not-false (u32_in bytes 36 == 0) good.1.1.1.1.1.1.1.0 in
     let zero_is : u32_in bytes 36 ≡ 0 = grind (arith, nat_tests, end) in
     let docs : u32_in bytes 16 ≡ front.docs = ap (λ (x : Front). x.docs) x.1 in
     let terms : u32_in bytes 20 ≡ front.terms = ap (λ (x : Front). x.terms) x.1 in
-    let begins : magic ≡ take 8 bytes = (bytes_eq-Decides magic (take 8 bytes)).0 (passed (starts_with nat_eq bytes magic) good.1.1.0) in
+    let begins : magic ≡ take 8 bytes = (bytes_eq-Decides magic (take 8 bytes)).0 (not-false (starts_with nat_eq bytes magic) good.1.1.0) in
     record {
       short = ltb-false (2 ^ 32) (length bytes) good.0;
       long = long;
@@ -228,9 +229,6 @@ view_only bytes front x y z first names terms there end postings greatest =
       },
     )
 
-same_number : (m n : ℕ) → (m == n) ≡ true → m ≡ n
-same_number m n is = grind (arith, nat_tests, is)
-
 pub file_only : Only → Numbered → (v : FileView) (bytes : List ℕ) → Fit bytes → read_index bytes ≡ Ok v → (bytes ≡ file_bytes v) × IsFileView v
 unfolding read_index end_checks
 file_only only numbered v bytes fits read =
@@ -249,10 +247,10 @@ file_only only numbered v bytes fits read =
     let w : FileView = record { index = record { names = x.names; terms = z.terms }; codecs = head_codecs y.terms } in
     let g = judged_ok (end_checks bytes y.terms z.end) w v f.2 in
     let there : PayloadsAre bytes (length x.names) None y.terms y.end z = subst (λ d. PayloadsAre bytes d None y.terms y.end z) (sym names.count) payloads in
-    let t = passed (u64_in bytes 24 == head_postings y.terms) g.0.1.0 in
-    let u = passed (u32_in bytes 32 == greatest_impact y.terms) g.0.1.1.0 in
+    let t = not-false (u64_in bytes 24 == head_postings y.terms) g.0.1.0 in
+    let u = not-false (u32_in bytes 32 == greatest_impact y.terms) g.0.1.1.0 in
     subst (λ (v : FileView). (bytes ≡ file_bytes v) × IsFileView v) {x = w} g.1
-    (view_only bytes front x y z first names terms there (ltb-false z.end (length bytes) g.0.0) (same_number (u64_in bytes 24) (head_postings y.terms) t) (same_number (u32_in bytes 32) (greatest_impact y.terms) u))
+    (view_only bytes front x y z first names terms there (ltb-false z.end (length bytes) g.0.0) (eqb-true (u64_in bytes 24) (head_postings y.terms) t) (eqb-true (u32_in bytes 32) (greatest_impact y.terms) u))
 
 -- how long a file is
 pub size_is : (v : FileView) → length (file_bytes v) ≡ file_length v.index.names (view_heads v)

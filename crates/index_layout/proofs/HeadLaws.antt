@@ -10,13 +10,14 @@ use Rattle.std.proofs.lemmas.Bool.Decides.{nat_tests}
 use Rattle.segment_codecs.specs.declared.codec.Codec.{Codec}
 use Rattle.segment_codecs.specs.declared.codec.Codec.TheVariants.{Varbyte, Packed, Bitmap, Simple8}
 use Rattle.segment_codecs.specs.Codecs.{codec_number, codec_of}
+use Rattle.std.proofs.lemmas.Bool.{or_parts}
 use Rattle.index_layout.specs.Bytes.{u16_in, u32_in, u16_bytes, u32_bytes}
 use Rattle.index_layout.specs.Heads.{HeadData}
 use Rattle.index_layout.specs.Layout.{head_bytes, heads_bytes}
 use Rattle.index_layout.specs.declared.refusal.OpenRefusal.{OpenRefusal}
 use Rattle.index_layout.specs.Refusals.{◌>>=◌}
 use Rattle.index_layout.specs.Reading.{HeadsRead, head_in, head_checks, head_end, read_heads}
-use Rattle.index_layout.proofs.Judging.{bind_ok, same_ok, judged_ok, judged_all, none_of, behind, reaches, parts_stand}
+use Rattle.index_layout.proofs.Judging.{bind_ok, same_ok, judged_ok, judged_all, behind, reaches, parts_stand}
 use Rattle.index_layout.proofs.Numbers.{Fit, u16_found, u32_found, u16_only, u32_only, cell}
 
 -- a head whose numbers are in range, with an impact below a number
@@ -120,8 +121,8 @@ module _ (numbered : (codec : Codec) (number : ℕ) → codec_of number ≡ Some
       let good = x.0 in
       let is_end = x.1 in
       let end : at + 11 ≤ length bytes = ltb-false (length bytes) (at + 11) good.0 in
-      let t = none_of (impact == 0) (nat_le above impact) good.1.0 in
-      let u = none_of (count == 0) (nat_lt d count) good.1.1.0 in
+      let t = or_parts (impact == 0) (nat_le above impact) good.1.0 in
+      let u = or_parts (count == 0) (nat_lt d count) good.1.1.0 in
       let number : byte ≡ codec_number codec = sym (numbered codec byte (named (codec_of byte) good.1.1.1.0)) in
       let first = u16_only bytes at fits (omega (arith, end)) in
       let second : drop (at + 2) bytes ≡ u32_bytes count ++ drop (at + 6) bytes = u32_only bytes (at + 2) fits (omega (arith, end)) ∙ ap (λ n. u32_bytes count ++ drop n bytes) (omega arith) in

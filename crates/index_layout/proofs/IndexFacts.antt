@@ -1,13 +1,11 @@
 -- Indexes, seen from the left.
-use Rattle.std.proofs.Common.{Ordering, Less, Equal, Greater, ◌≡◌, ℕ, ◌<◌, ◌≤◌, true, List, [], ◌∷◌, length, All, Option, Some, None, ap, refl, arith, slice_index_or}
+use Rattle.std.proofs.Common.{◌≡◌, ℕ, ◌<◌, ◌≤◌, true, List, [], ◌∷◌, length, All, Option, Some, None, refl, arith, slice_index_or}
 use Rattle.std.specs.Prelude.{⊤, AllPairs}
-use Rattle.std.specs.Ordering.{is_lt, nat_cmp}
-use Rattle.std.specs.Cmp.Lexicographic.{slice_cmp}
-use Rattle.std.proofs.lemmas.Cmp.{nat_list_cmp_total}
 use Rattle.std.proofs.lemmas.List.Elements.{All-head, All-tail, All-cons, All-nil}
 use Rattle.std.proofs.lemmas.List.Kept.{AllPairs-cons}
 use Rattle.jass_base.specs.Terms.{BytesRise}
 use Rattle.index_model.specs.Index.{SegmentData, TermData, IndexData, IsSegment, IsTerm, IsIndex, FallsTo, RisesTo}
+use Rattle.jass_base.proofs.ByteOrder.{bytes_rise_on}
 use Rattle.index_layout.specs.Reading.{rises_behind}
 use Rattle.index_layout.proofs.Apart.{Alone, pairs_nil, pairs_head, pairs_tail, alone_found, alone_only}
 use Rattle.index_layout.proofs.TermLaws.{IsTermText}
@@ -46,17 +44,9 @@ TermsStand d before (t ∷ terms) = IsTermText before t.term × (1 ≤ length t.
 abbrev IsBehind : Option (List ℕ) → TermData → Type 0
 IsBehind before t = rises_behind before t.term ≡ true
 
-less_from : (o : Ordering) → is_lt o ≡ true → o ≡ Less
-less_from Less is = refl
-less_from Equal is = absurd cc
-less_from Greater is = absurd cc
-
-rises_on : (a b c : List ℕ) → BytesRise a b → BytesRise b c → BytesRise a c
-rises_on a b c one two = ap is_lt (nat_list_cmp_total.trans a b c (less_from (slice_cmp nat_cmp a b) one) (less_from (slice_cmp nat_cmp b c) two))
-
 behind_on : (before : Option (List ℕ)) (a b : List ℕ) → rises_behind before a ≡ true → BytesRise a b → rises_behind before b ≡ true
 behind_on None a b one two = refl
-behind_on (Some before) a b one two = rises_on before a b one two
+behind_on (Some before) a b one two = bytes_rise_on before a b one two
 
 small_impacts : (d : ℕ) (segments : List SegmentData) → All (IsSegment d) segments → All (IsBelow 65536) segments
 small_impacts d segments are = λ i x inside. let e = (are i x inside).impact.1 in omega (arith, e)

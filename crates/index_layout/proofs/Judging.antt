@@ -1,5 +1,5 @@
--- Steps that were passed.
-use Rattle.std.proofs.Common.{◌&&◌, ◌||◌, not, ◌≡◌, ℕ, ◌+◌, ◌≤◌, Bool, true, false, List, [], ◌∷◌, ◌++◌, length, drop, Result, Ok, Err, ap, sym, ◌∙◌, refl, cond, arith}
+-- Steps that were not-false.
+use Rattle.std.proofs.Common.{◌≡◌, ℕ, ◌+◌, ◌≤◌, Bool, true, false, List, [], ◌∷◌, ◌++◌, length, drop, Result, Ok, Err, ap, sym, ◌∙◌, refl, cond, arith}
 use Rattle.std.specs.Prelude.{⊤}
 use Rattle.std.proofs.lemmas.List.{append_assoc, drop-drop, length-drop, length-append}
 use Rattle.std.proofs.Math.Seq.{drop-append_seam}
@@ -32,18 +32,6 @@ judged_ok (c ∷ checks) x y is =
 pub judged_all : {A : Type 0} (checks : List Check) (x : A) → NoneWrong checks → judged checks x ≡ Ok x
 judged_all [] x none = refl
 judged_all (c ∷ checks) x none = rw none.0 (judged_all checks x none.1)
-
-pub none_of : (a b : Bool) → (a || b) ≡ false → (a ≡ false) × (b ≡ false)
-none_of true b is = absurd cc
-none_of false b is = (refl, is)
-
-pub both_of : (a b : Bool) → (a && b) ≡ true → (a ≡ true) × (b ≡ true)
-both_of true b is = (refl, is)
-both_of false b is = absurd cc
-
-pub passed : (a : Bool) → not a ≡ false → a ≡ true
-passed true is = refl
-passed false is = absurd cc
 
 -- behind what stands at a place
 pub behind : (bytes : List ℕ) (at : ℕ) (xs ys : List ℕ) → drop at bytes ≡ xs ++ ys → drop (at + length xs) bytes ≡ ys

@@ -1,4 +1,6 @@
 pub mod Judging
+pub mod Behind
+pub mod Greatest
 pub mod Numbers
 pub mod NameLaws
 pub mod HeadLaws

@@ -9,17 +9,18 @@ use Rattle.std.proofs.lemmas.List.{length-append, append_assoc, length-drop, tak
 use Rattle.std.proofs.lemmas.Bool.Decides.{nat_tests}
 use Rattle.std.proofs.lemmas.List.Elements.{All-head, All-tail, All-cons, All-nil}
 use Rattle.jass_base.specs.Limits.{IsName, IsText}
+use Rattle.std.proofs.lemmas.Bool.{and_parts, or_parts, not-false}
 use Rattle.index_layout.specs.Bytes.{u32_in, u32_bytes}
 use Rattle.index_layout.specs.Layout.{name_bytes, names_bytes}
 use Rattle.index_layout.specs.declared.refusal.OpenRefusal.{OpenRefusal}
 use Rattle.index_layout.specs.Refusals.{◌>>=◌}
 use Rattle.index_layout.specs.Reading.{NamesRead, is_name_text, name_checks, name_in, name_end, read_names}
-use Rattle.index_layout.proofs.Judging.{bind_ok, same_ok, judged_ok, judged_all, none_of, both_of, passed, behind, reaches, parts_stand}
+use Rattle.index_layout.proofs.Judging.{bind_ok, same_ok, judged_ok, judged_all, behind, reaches, parts_stand}
 use Rattle.index_layout.proofs.Numbers.{Fit, u32_found, u32_only}
 
 -- a visible byte
 seen : (b : ℕ) → (nat_lt 32 b && not (b == 127)) ≡ true → (32 < b) × (b ≢ 127)
-seen b is = let t = both_of (nat_lt 32 b) (not (b == 127)) is in (grind (arith, nat_tests, t.0), (λ same. absurd (grind (arith, nat_tests, t.1, same))))
+seen b is = let t = and_parts (nat_lt 32 b) (not (b == 127)) is in (grind (arith, nat_tests, t.0), (λ same. absurd (grind (arith, nat_tests, t.1, same))))
 
 unseen : (b : ℕ) → (32 < b) × (b ≢ 127) → (nat_lt 32 b && not (b == 127)) ≡ true
 unseen b is = let more = is.0 in let other = is.1 in grind (arith, nat_tests, more, other)
@@ -27,7 +28,7 @@ unseen b is = let more = is.0 in let other = is.1 in grind (arith, nat_tests, mo
 pub visible : (name : List ℕ) → list_all (λ b. nat_lt 32 b && not (b == 127)) name ≡ true → All (λ b. (32 < b) × (b ≢ 127)) name
 visible [] is = All-nil (λ b. (32 < b) × (b ≢ 127))
 visible (b ∷ name) is =
-    let t = both_of (nat_lt 32 b && not (b == 127)) (list_all (λ b. nat_lt 32 b && not (b == 127)) name) is in
+    let t = and_parts (nat_lt 32 b && not (b == 127)) (list_all (λ b. nat_lt 32 b && not (b == 127)) name) is in
     All-cons (λ b. (32 < b) × (b ≢ 127)) b name (seen b t.0) (visible name t.1)
 
 pub shown : (name : List ℕ) → All (λ b. (32 < b) × (b ≢ 127)) name → list_all (λ b. nat_lt 32 b && not (b == 127)) name ≡ true
@@ -68,8 +69,8 @@ name_only bytes at next fits read =
     let good = x.0 in
     let is_end = x.1 in
     let end : at + 4 + size ≤ length bytes = ltb-false (length bytes) (at + 4 + size) good.1.1.0 in
-    let t = none_of (size == 0) (nat_lt 1048576 size) good.1.0 in
-    let u = both_of (is_utf8 name) (list_all (λ b. nat_lt 32 b && not (b == 127)) name) (passed (is_name_text name) good.1.1.1.0) in
+    let t = or_parts (size == 0) (nat_lt 1048576 size) good.1.0 in
+    let u = and_parts (is_utf8 name) (list_all (λ b. nat_lt 32 b && not (b == 127)) name) (not-false (is_name_text name) good.1.1.1.0) in
     let exact : at + 4 + size - (at + 4) ≡ size = omega arith in
     let long : length name ≡ size = ap (λ k. length (take k (drop (at + 4) bytes))) exact ∙ length-take-le size (drop (at + 4) bytes) (let l = length-drop (at + 4) bytes in omega (arith, l, end)) in
     let text : drop (at + 4) bytes ≡ name ++ drop next bytes = sym (take-append-drop size (drop (at + 4) bytes)) ∙ ap (λ xs. xs ++ drop size (drop (at + 4) bytes)) (ap (λ k. take k (drop (at + 4) bytes)) (sym exact))

@@ -1,7 +1,6 @@
 -- Payloads are read as they are written.
-use Rattle.std.proofs.Common.{add-one, ◌≡◌, ℕ, suc, zero, ◌+◌, ◌-◌, ◌<◌, ◌≤◌, ◌^◌, false, nat_lt, List, [], ◌∷◌, ◌++◌, length, take, drop, All, Option, Some, Result, Ok, Err, ap, sym, subst, ◌∙◌, refl, arith, slice_index}
+use Rattle.std.proofs.Common.{◌≡◌, ℕ, suc, ◌+◌, ◌-◌, ◌<◌, ◌≤◌, ◌^◌, false, nat_lt, List, [], ◌∷◌, ◌++◌, length, take, drop, All, Option, Some, Result, Ok, Err, ap, sym, subst, ◌∙◌, refl, arith}
 use Rattle.std.specs.Prelude.{slice_range, map}
-use Rattle.std.specs.List.Sorted.{IsStrictlyIncreasing}
 use borrow.Author.Tests.{ltb-false}
 use Rattle.std.proofs.Math.Seq.{take-append_seam}
 use Rattle.std.proofs.lemmas.List.{length-append, append_assoc, length-drop, take-append-drop, drop-drop, length-take-le, length-map}
@@ -11,6 +10,7 @@ use Rattle.jass_base.specs.declared.payload_fault.PayloadFault.{PayloadFault}
 use Rattle.segment_codecs.specs.declared.codec.Codec.{Codec}
 use Rattle.segment_codecs.specs.Codecs.{payload_of, read_payload, payload_size}
 use Rattle.index_model.specs.Index.{SegmentData, TermData}
+use Rattle.shared_lemmas.proofs.Rising.{few_below}
 use Rattle.index_layout.specs.Heads.{HeadData, TermHeads, head_of, heads_of, terms_heads}
 use Rattle.index_layout.specs.Layout.{segments_payloads, terms_payloads}
 use Rattle.index_layout.specs.View.{HaveCodecs}
@@ -25,18 +25,8 @@ use Rattle.index_layout.proofs.Apart.{Alone}
 use Rattle.index_layout.proofs.TermLaws.{TermsRise}
 use Rattle.index_layout.proofs.IndexFacts.{SegmentsFall, TermsStand}
 
-place_below : (docs : List ℕ) (k : ℕ) → IsStrictlyIncreasing docs → k < length docs → k ≤ slice_index docs k
-place_below docs zero rising inside = omega arith
-place_below docs (suc k) rising inside =
-    let before : (j : ℕ) → suc j < length docs → slice_index docs j < slice_index docs (suc j) = λ j more. subst (λ (n : ℕ). slice_index docs j < slice_index docs n) (add-one j) (rising j (omega (arith, more))) in
-    omega (arith, place_below docs k rising (omega arith), before k (omega arith))
-
-few_docs : (docs : List ℕ) (n : ℕ) → IsStrictlyIncreasing docs → All (λ doc. doc < n) docs → length docs ≤ n
-few_docs [] n rising below = omega arith
-few_docs (x ∷ xs) n rising below = omega (arith, place_below (x ∷ xs) (length xs) rising (omega arith), below (length xs) 0 (omega arith))
-
 pub docs_fit : (d : ℕ) (docs : List ℕ) → AreDocs d docs → length docs ≤ d
-docs_fit d docs are = few_docs docs d are.rising are.below
+docs_fit d docs are = few_below docs d are.rising are.below
 
 -- the heads of segments that fall
 pub heads_fall : (d above : ℕ) (segments : List SegmentData) (codecs : List Codec) → length codecs ≡ length segments → SegmentsFall d above segments → HeadsFall d above (heads_of d segments codecs)

@@ -10,13 +10,14 @@ use Rattle.std.proofs.lemmas.Bool.Decides.{nat_tests}
 use Rattle.segment_codecs.specs.declared.codec.Codec.{Codec}
 use Rattle.segment_codecs.specs.Codecs.{codec_number, codec_of}
 use Rattle.jass_base.specs.Limits.{IsText}
+use Rattle.std.proofs.lemmas.Bool.{and_parts, not-false}
 use Rattle.index_layout.specs.Bytes.{u16_in, u32_in, u16_bytes, u32_bytes}
 use Rattle.index_layout.specs.Heads.{HeadData, TermHeads, all_heads, payloads_size}
 use Rattle.index_layout.specs.Layout.{shared_with, rest_behind, term_bytes, head_bytes, heads_bytes, terms_bytes}
 use Rattle.index_layout.specs.declared.refusal.OpenRefusal.{OpenRefusal}
 use Rattle.index_layout.specs.Refusals.{◌>>=◌}
 use Rattle.index_layout.specs.Reading.{HeadsRead, TermsRead, before_bytes, rises_behind, is_next_term, segments_place, term_in, term_checks, term_end, heads_in, read_heads, read_terms}
-use Rattle.index_layout.proofs.Judging.{bind_ok, same_ok, judged_ok, judged_all, both_of, passed, behind, reaches, parts_stand}
+use Rattle.index_layout.proofs.Judging.{bind_ok, same_ok, judged_ok, judged_all, behind, reaches, parts_stand}
 use Rattle.index_layout.proofs.Numbers.{Fit, u16_found, u32_found, u16_only, u32_only}
 use Rattle.index_layout.proofs.HeadLaws.{HeadsAre, HeadsFall, head_size, heads_found, heads_only}
 
@@ -103,9 +104,9 @@ term_only bytes before at next fits read =
     let good = x.0 in
     let is_end = x.1 in
     let end : place + 4 ≤ length bytes = ltb-false (length bytes) (place + 4) good.1.0 in
-    let t = both_of (shared_with b term == sh && nat_le (length term) 65535 && is_utf8 term) (rises_behind before term) (passed (is_next_term before sh term) good.1.1.0) in
-    let u = both_of (shared_with b term == sh && nat_le (length term) 65535) (is_utf8 term) t.0 in
-    let v = both_of (shared_with b term == sh) (nat_le (length term) 65535) u.0 in
+    let t = and_parts (shared_with b term == sh && nat_le (length term) 65535 && is_utf8 term) (rises_behind before term) (not-false (is_next_term before sh term) good.1.1.0) in
+    let u = and_parts (shared_with b term == sh && nat_le (length term) 65535) (is_utf8 term) t.0 in
+    let v = and_parts (shared_with b term == sh) (nat_le (length term) 65535) u.0 in
     let same : shared_with b term ≡ sh = grind (arith, nat_tests, v.0) in
     let prefix = common_prefix_len-le nat_eq b term in
     let front : length (take sh b) ≡ sh = length-take-le sh b (subst (λ n. n ≤ length b) same prefix.0) in

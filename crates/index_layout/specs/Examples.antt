@@ -1,5 +1,5 @@
 -- Small files on which the definitions are run.
-use Rattle.std.specs.Prelude.{ℕ, List, [], ◌∷◌, ◌++◌}
+use Rattle.std.specs.Prelude.{ℕ, List, [], ◌∷◌, ◌++◌, codes}
 use Rattle.segment_codecs.specs.declared.codec.Codec.TheVariants.{Varbyte}
 use Rattle.index_model.specs.Examples.{one_term}
 use Rattle.index_model.specs.Index.{IndexData}
@@ -16,14 +16,14 @@ small_totals =
     74 ∷ 65 ∷ 83 ∷ 83 ∷ 73 ∷ 68 ∷ 88 ∷ 50 ∷ 103 ∷ 0 ∷ 0 ∷ 0 ∷ 0 ∷ 0 ∷ 0 ∷ 0
     ∷ 3 ∷ 0 ∷ 0 ∷ 0 ∷ 1 ∷ 0 ∷ 0 ∷ 0 ∷ 3 ∷ 0 ∷ 0 ∷ 0 ∷ 0 ∷ 0 ∷ 0 ∷ 0 ∷ 9 ∷ 0 ∷ 0 ∷ 0 ∷ 0 ∷ 0 ∷ 0 ∷ 0 ∷ []
 
--- the names `d0`, `d1` and `d2`
+-- the names
 abbrev pub small_names : List ℕ
-small_names = 2 ∷ 0 ∷ 0 ∷ 0 ∷ 100 ∷ 48 ∷ 2 ∷ 0 ∷ 0 ∷ 0 ∷ 100 ∷ 49 ∷ 2 ∷ 0 ∷ 0 ∷ 0 ∷ 100 ∷ 50 ∷ []
+small_names = 2 ∷ 0 ∷ 0 ∷ 0 ∷ codes "d0" ++ 2 ∷ 0 ∷ 0 ∷ 0 ∷ codes "d1" ++ 2 ∷ 0 ∷ 0 ∷ 0 ∷ codes "d2"
 
--- the term `a`, and its three heads
+-- the term, and its three heads
 abbrev pub small_term : List ℕ
 small_term =
-    0 ∷ 0 ∷ 1 ∷ 0 ∷ 97 ∷ 3 ∷ 0 ∷ 0 ∷ 0
+    0 ∷ 0 ∷ 1 ∷ 0 ∷ codes "a" ++ 3 ∷ 0 ∷ 0 ∷ 0
     ∷ 9 ∷ 0 ∷ 1 ∷ 0 ∷ 0 ∷ 0 ∷ 0 ∷ 1 ∷ 0 ∷ 0 ∷ 0
     ∷ 5 ∷ 0 ∷ 1 ∷ 0 ∷ 0 ∷ 0 ∷ 0 ∷ 1 ∷ 0 ∷ 0 ∷ 0
     ∷ 1 ∷ 0 ∷ 1 ∷ 0 ∷ 0 ∷ 0 ∷ 0 ∷ 1 ∷ 0 ∷ 0 ∷ 0 ∷ []

@@ -18,6 +18,7 @@ use Rattle.index_layout.specs.Heads.{HeadData, TermHeads, head_postings, greates
 use Rattle.index_layout.specs.Layout.{magic, old_magic, shared_with}
 use Rattle.index_layout.specs.Refusals.{◌>>=◌, Check, check, judged, refuse}
 use Rattle.index_layout.specs.View.{FileView}
+use Rattle.jass_base.specs.declared.limits.TheConstants.{MOST_DOCUMENTS, MOST_POSTINGS, MOST_TERMS}
 
 -- the numbers of documents and terms
 pub record Front : Type 0 where
@@ -31,9 +32,9 @@ front_checks bytes =
     ∷ check (starts_with nat_eq bytes old_magic) 0 Old
     ∷ check (not (starts_with nat_eq bytes magic)) 0 Magic
     ∷ check (nat_lt (length bytes) 40 || not (u64_in bytes 8 == length bytes)) 8 Length
-    ∷ check (nat_lt (2 ^ 26) (u32_in bytes 16)) 16 Limit
-    ∷ check (nat_lt (2 ^ 24) (u32_in bytes 20)) 20 Limit
-    ∷ check (nat_lt (2 ^ 29) (u64_in bytes 24)) 24 Limit
+    ∷ check (nat_lt MOST_DOCUMENTS (u32_in bytes 16)) 16 Limit
+    ∷ check (nat_lt MOST_TERMS (u32_in bytes 20)) 20 Limit
+    ∷ check (nat_lt MOST_POSTINGS (u64_in bytes 24)) 24 Limit
     ∷ check (not (u32_in bytes 36 == 0)) 36 Totals
     ∷ []
 

@@ -6,6 +6,7 @@ use Rattle.segment_codecs.specs.declared.codec.Codec.{Codec}
 use Rattle.index_model.specs.Index.{SegmentData, TermData, IndexData, IsIndex}
 use Rattle.index_layout.specs.Heads.{TermHeads, terms_heads}
 use Rattle.index_layout.specs.Layout.{front_bytes, terms_payloads}
+use Rattle.jass_base.specs.declared.limits.TheConstants.{MOST_POSTINGS}
 
 -- an index, and the codec of each segment of each term
 pub record FileView : Type 0 where
@@ -40,7 +41,7 @@ HaveCodecs terms codecs =
 pub record IsFileView (v : FileView) : Type 0 where
   pub index : IsIndex v.index
   pub codecs : HaveCodecs v.index.terms v.codecs
-  pub postings : index_postings v.index ≤ 2 ^ 29
+  pub postings : index_postings v.index ≤ MOST_POSTINGS
   pub fits : length (file_bytes v) ≤ 2 ^ 32
 
 -- the shortest codec for each segment

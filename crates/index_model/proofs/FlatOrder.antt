@@ -35,10 +35,6 @@ pub record Kept (documents : ℕ) (segments : List SegmentData) : Type 0 where
   pub impacts : AllByRecursion (λ (s : SegmentData). (1 ≤ s.impact) × (s.impact ≤ 65535)) segments
 
 module _ {T : Type 0} (cmp : T → T → Ordering) (total : IsTotalOrder cmp) where
-  -- segments under a key
-  Keyed : Type 0
-  Keyed = T × List SegmentData
-
   abbrev pub flat_keyed : List (T × List SegmentData) → List (Entry T)
   flat_keyed [] = []
   flat_keyed (k ∷ ks) = term_entries k.0 k.1 ++ flat_keyed ks

@@ -1,5 +1,5 @@
 -- The entries of an index, put together again.
-use Rattle.std.proofs.Common.{◌≡◌, ℕ, suc, ◌<◌, ◌≤◌, false, List, [], ◌∷◌, ◌++◌, length, refl, ap, ◌∙◌, arith, if◌then◌else◌, append-nil}
+use Rattle.std.proofs.Common.{◌≡◌, ℕ, ◌<◌, ◌≤◌, false, List, [], ◌∷◌, ◌++◌, length, refl, ap, ◌∙◌, arith, append-nil}
 use Rattle.std.specs.Prelude.{⊤}
 use Rattle.std.specs.List.{AllByRecursion}
 use Rattle.std.specs.Str.{bytes_eq}
@@ -13,20 +13,20 @@ use Rattle.index_model.specs.Index.{SegmentData, TermData, IndexData, IsSegment,
 use Rattle.index_model.specs.Flat.{doc_entries, segment_entries, term_entries, flat_of_terms, flat_of}
 use Rattle.index_model.specs.Grouping.{with_posting, with_entry, with_entries, index_with}
 
-entries_behind : (xs ys : List (Entry (List ℕ))) (terms : List TermData) → with_entries (xs ++ ys) terms ≡ with_entries xs (with_entries ys terms)
+pub entries_behind : (xs ys : List (Entry (List ℕ))) (terms : List TermData) → with_entries (xs ++ ys) terms ≡ with_entries xs (with_entries ys terms)
 entries_behind [] ys terms = refl
 entries_behind (x ∷ xs) ys terms = ap (with_entry x) (entries_behind xs ys terms)
 
 -- the term isn't that of the first, and the impact isn't
-abbrev IsOtherTerm : List ℕ → List TermData → Type 0
+abbrev pub IsOtherTerm : List ℕ → List TermData → Type 0
 IsOtherTerm term [] = ⊤
 IsOtherTerm term (t ∷ terms) = bytes_eq term t.term ≡ false
 
-abbrev IsOtherImpact : ℕ → List SegmentData → Type 0
+abbrev pub IsOtherImpact : ℕ → List SegmentData → Type 0
 IsOtherImpact impact [] = ⊤
 IsOtherImpact impact (s ∷ segments) = s.impact < impact
 
-new_posting : (impact doc : ℕ) (segments : List SegmentData) → IsOtherImpact impact segments → with_posting impact doc segments ≡ record { impact = impact; docs = doc ∷ [] } ∷ segments
+pub new_posting : (impact doc : ℕ) (segments : List SegmentData) → IsOtherImpact impact segments → with_posting impact doc segments ≡ record { impact = impact; docs = doc ∷ [] } ∷ segments
 new_posting impact doc [] other = refl
 new_posting impact doc (s ∷ segments) other = rw (numbers_apart impact s.impact other) refl
 

@@ -1,6 +1,5 @@
 pub mod FlatOrder
 pub mod Groups
-pub mod Lists
-pub mod Named
+pub mod NamedSegments
 pub mod Numbers
 pub mod Views

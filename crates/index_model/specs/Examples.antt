@@ -1,17 +1,17 @@
 -- Small indexes on which the definitions are run.
 use Rattle.std.specs.Prelude.{ℕ, List, [], ◌∷◌, codes}
-use Rattle.jass_base.specs.declared.named.Named.{Named}
+use Rattle.jass_base.specs.declared.query_term.QueryTerm.{QueryTerm}
 use Rattle.ranking_model.specs.declared.entry.Entry.{Entry}
-use Rattle.ranking_model.specs.declared.class.Class.{Class}
+use Rattle.ranking_model.specs.declared.plan_segment.PlanSegment.{PlanSegment}
 use Rattle.index_model.specs.Index.{SegmentData, TermData, IndexData}
 
 abbrev pub entry : {T : Type 0} → T → ℕ → ℕ → Entry T
 entry term doc impact = record { term = term; doc = doc; impact = impact }
 
-abbrev pub class : ℕ → ℕ → List ℕ → Class
-class place weight docs = record { place = place; weight = weight; docs = docs }
+abbrev pub weighted : ℕ → ℕ → List ℕ → PlanSegment
+weighted term_place weight docs = record { term_place = term_place; weight = weight; docs = docs }
 
-abbrev pub named : ℕ → ℕ → Named
+abbrev pub named : ℕ → ℕ → QueryTerm
 named term times = record { term = term; times = times }
 
 abbrev pub segment : ℕ → List ℕ → SegmentData

@@ -3,6 +3,7 @@ use Rattle.std.specs.Prelude.{ℕ, ◌<◌, ◌≤◌, ◌^◌, List, length, Al
 use Rattle.jass_base.specs.Gaps.{AreDocs}
 use Rattle.jass_base.specs.Limits.{IsName, IsText}
 use Rattle.jass_base.specs.Terms.{BytesRise}
+use Rattle.jass_base.specs.declared.limits.TheConstants.{MOST_DOCUMENTS, MOST_TERMS}
 
 -- all postings of a term that have the same impact: their documents, in rising order
 pub record SegmentData : Type 0 where
@@ -47,9 +48,9 @@ RisesTo term later = BytesRise term.term later.term
 
 -- at most 2^26 names and 2^24 terms, each within its limits, and the terms rise by their bytes
 pub record IsIndex (index : IndexData) : Type 0 where
-  pub few_names : length index.names ≤ 2 ^ 26
+  pub few_names : length index.names ≤ MOST_DOCUMENTS
   pub names : All IsName index.names
   pub names_are_text : All IsText index.names
-  pub few_terms : length index.terms ≤ 2 ^ 24
+  pub few_terms : length index.terms ≤ MOST_TERMS
   pub rising : AllPairs RisesTo index.terms
   pub terms : All (IsTerm (length index.names)) index.terms

@@ -6,8 +6,8 @@ ghost use Rattle.std.specs.Prelude.{◌≡◌, [], ◌∷◌, codes};
 ghost use Rattle.ranking_model.specs.Order.{sorted};
 ghost use Rattle.ranking_model.specs.Plan.{plan_cmp};
 ghost use Rattle.index_model.specs.Flat.{flat_of, numbered_flat};
-ghost use Rattle.index_model.specs.Querying.{query_classes};
-ghost use Rattle.index_model.specs.Examples.{one_term, two_terms, entry, class, named};
+ghost use Rattle.index_model.specs.Querying.{query_segments};
+ghost use Rattle.index_model.specs.Examples.{one_term, two_terms, entry, weighted, named};
 
 /// The entries of an index, by the terms' bytes and by their numbers.
 pub fn flat_lists()
@@ -20,11 +20,11 @@ pub fn flat_lists()
 /// The segments of a query: of `cat` named twice and `dog` once, the other way round, and of no
 /// term.
 pub fn segments_of_queries()
-    ensures cat_dog { query_classes two_terms (named 0 2 ∷ named 1 1 ∷ []) ≡
-        class 0 6 (0 ∷ []) ∷ class 0 2 (1 ∷ 3 ∷ []) ∷ class 1 3 (2 ∷ []) ∷ class 1 2 (1 ∷ []) ∷ [] }
-    ensures dog_cat { query_classes two_terms (named 1 1 ∷ named 0 1 ∷ []) ≡
-        class 0 3 (2 ∷ []) ∷ class 0 2 (1 ∷ []) ∷ class 1 3 (0 ∷ []) ∷ class 1 1 (1 ∷ 3 ∷ []) ∷ [] }
-    ensures none { query_classes two_terms [] ≡ [] }
-    ensures plan { sorted plan_cmp (query_classes two_terms (named 0 2 ∷ named 1 1 ∷ [])) ≡
-        class 0 6 (0 ∷ []) ∷ class 1 3 (2 ∷ []) ∷ class 1 2 (1 ∷ []) ∷ class 0 2 (1 ∷ 3 ∷ []) ∷ [] }
+    ensures cat_dog { query_segments two_terms (named 0 2 ∷ named 1 1 ∷ []) ≡
+        weighted 0 6 (0 ∷ []) ∷ weighted 0 2 (1 ∷ 3 ∷ []) ∷ weighted 1 3 (2 ∷ []) ∷ weighted 1 2 (1 ∷ []) ∷ [] }
+    ensures dog_cat { query_segments two_terms (named 1 1 ∷ named 0 1 ∷ []) ≡
+        weighted 0 3 (2 ∷ []) ∷ weighted 0 2 (1 ∷ []) ∷ weighted 1 3 (0 ∷ []) ∷ weighted 1 1 (1 ∷ 3 ∷ []) ∷ [] }
+    ensures none { query_segments two_terms [] ≡ [] }
+    ensures plan { sorted plan_cmp (query_segments two_terms (named 0 2 ∷ named 1 1 ∷ [])) ≡
+        weighted 0 6 (0 ∷ []) ∷ weighted 1 3 (2 ∷ []) ∷ weighted 1 2 (1 ∷ []) ∷ weighted 0 2 (1 ∷ 3 ∷ []) ∷ [] }
 {}

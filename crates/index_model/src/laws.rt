@@ -5,19 +5,19 @@ ghost use Rattle.std.specs.Prelude.{◌≡◌, ℕ, ◌≤◌, List, length, map
 ghost use Rattle.std.specs.Ordering.{nat_cmp};
 ghost use Rattle.std.specs.Cmp.Lexicographic.{slice_cmp};
 ghost use Rattle.jass_base.specs.declared.impact_index.ImpactIndex.{ImpactIndex};
-ghost use Rattle.jass_base.specs.declared.named.Named.{Named};
+ghost use Rattle.jass_base.specs.declared.query_term.QueryTerm.{QueryTerm};
 ghost use Rattle.jass_base.specs.declared.term_segments.TermSegments.{TermSegments};
 ghost use Rattle.ranking_model.specs.Flat.{IsFlat, terms_of, numbered};
 ghost use Rattle.ranking_model.specs.Order.{sorted};
-ghost use Rattle.ranking_model.specs.Plan.{postings_of, plan_cmp, classes_of, plan_of};
+ghost use Rattle.ranking_model.specs.Plan.{postings_of, plan_cmp, plan_segments, plan_of};
 ghost use Rattle.ranking_model.specs.Postings.{AreTerms, weighted_postings};
 ghost use Rattle.index_model.specs.Index.{TermData, IndexData, IsIndex};
 ghost use Rattle.index_model.specs.Flat.{flat_of, numbered_flat};
 ghost use Rattle.index_model.specs.Grouping.{index_with};
-ghost use Rattle.index_model.specs.Querying.{query_classes};
+ghost use Rattle.index_model.specs.Querying.{query_segments};
 ghost use Rattle.index_model.specs.Views.{index_data};
 
-use ranking_model::laws::segments_are_classes;
+use ranking_model::laws::segments_make_a_plan;
 
 /// The flat list of an index is flat, by the bytes of its terms and by their numbers. Its terms are
 /// those of the index, each once and in the same order, so that a term's number is its place in
@@ -34,16 +34,16 @@ pub fn the_flat_list_is_flat()
 
 /// The weighted postings of a query are those of the segments that it names.
 pub fn a_query_weighs_its_segments()
-    ensures { (index : IndexData) (query : List Named) →
-        weighted_postings (numbered_flat index) query ≡ flat_map postings_of (query_classes index query) }
+    ensures { (index : IndexData) (query : List QueryTerm) →
+        weighted_postings (numbered_flat index) query ≡ flat_map postings_of (query_segments index query) }
 {}
 
-/// The classes of a query's plan are the segments that it names, in the plan's order.
+/// The segments of a query's plan are the segments that it names, in the plan's order.
 pub fn the_plan_has_the_named_segments()
-    ensures { (index : IndexData) (query : List Named) → IsIndex index → AreTerms query →
-        classes_of (weighted_postings (numbered_flat index) query) ≡ sorted plan_cmp (query_classes index query) }
+    ensures { (index : IndexData) (query : List QueryTerm) → IsIndex index → AreTerms query →
+        plan_segments (weighted_postings (numbered_flat index) query) ≡ sorted plan_cmp (query_segments index query) }
 {
-    segments_are_classes();
+    segments_make_a_plan();
     a_query_weighs_its_segments();
 }
 

@@ -1,7 +1,7 @@
 -- The index of a file.
-use Rattle.std.proofs.Common.{◌≡◌, ℕ, ◌<◌, ◌≤◌, ◌^◌, List, length, map, get_or, All, Ok, ap, sym, subst, ◌∙◌, refl, arith}
+use Rattle.std.proofs.Common.{◌≡◌, ℕ, ◌<◌, ◌≤◌, ◌^◌, List, length, map, get_or, All, Ok, ap, sym, subst, ◌∙◌, refl}
 use Rattle.std.specs.Prelude.{AllPairs}
-use Rattle.std.proofs.lemmas.List.{length-map, get_or-map}
+use Rattle.std.proofs.lemmas.List.{length-map}
 use Rattle.jass_base.specs.Limits.{IsName, IsText}
 use Rattle.jass_base.specs.declared.term_segments.TermSegments.{TermSegments}
 use Rattle.jass_base.specs.Terms as memory
@@ -12,6 +12,7 @@ use Rattle.index_layout.specs.declared.refusal.OpenFault.{OpenFault}
 use Rattle.index_layout.specs.declared.refusal.OpenFault.TheVariants as faults
 use Rattle.index_layout.specs.Refusals.{◌>>=◌, Fails}
 use Rattle.index_layout.proofs.Judging.{bind_ok, same_ok}
+use Rattle.shared_lemmas.proofs.Lists.{All-unmap}
 use Rattle.index_version1.specs.Files.{IsFile1View, IsIndexFile1, file1_bytes}
 use Rattle.index_version1.specs.Reading.{index_in, read_file1, read_index1}
 use Rattle.index_version1.proofs.Filling.{pairs_unmap}
@@ -31,9 +32,6 @@ index_only only index bytes fits read =
     let law = only a.0 bytes fits a.1 in
     subst (IsIndexFile1 bytes) (same_ok a.0.index index a.2) (record { codecs = a.0.codecs; view = law.1; spelled = law.0 })
 
-all_unmap : {X Y : Type 0} (P : Y → Type 0) (f : X → Y) (xs : List X) → All P (map f xs) → All (λ x. P (f x)) xs
-all_unmap P f xs are = λ i d inside. subst P (get_or-map f xs i d (f d) inside) (are i (f d) (omega (arith, inside, length-map xs f)))
-
 -- what an index in memory keeps, from what its data keeps
 pub record InMemory (names : List (List ℕ)) (terms : List TermSegments) : Type 0 where
   pub few_names : length names ≤ 2 ^ 26
@@ -46,14 +44,14 @@ pub record InMemory (names : List (List ℕ)) (terms : List TermSegments) : Type
 pub in_memory : (names : List (List ℕ)) (terms : List TermSegments) → IsIndex (record { names = names; terms = map term_data terms }) → InMemory names terms
 in_memory names terms is =
     let d = length names in
-    let each : All (λ (t : TermSegments). IsTerm d (term_data t)) terms = all_unmap (IsTerm d) term_data terms is.terms in
+    let each : All (λ (t : TermSegments). IsTerm d (term_data t)) terms = All-unmap (IsTerm d) term_data terms is.terms in
     record {
       few_names = is.few_names;
       names_fit = is.names;
       names_are_text = is.names_are_text;
       few_terms = subst (λ n. n ≤ 2 ^ 24) (length-map terms term_data) is.few_terms;
       rising = pairs_unmap RisesTo term_data terms is.rising;
-      docs_below = λ i t inside. λ j s within. (all_unmap (IsSegment d) segment_data (get_or terms i t).segments (each i t inside).segments j s within).docs.below;
+      docs_below = λ i t inside. λ j s within. (All-unmap (IsSegment d) segment_data (get_or terms i t).segments (each i t inside).segments j s within).docs.below;
     }
 
 pub fails_found : (bytes : List ℕ) (index : IndexData) (e : OpenFault) → Fails e (read_index1 bytes) → read_index1 bytes ≡ Ok index → e ≡ faults.NoMemory

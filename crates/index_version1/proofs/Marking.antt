@@ -17,7 +17,7 @@ use Rattle.index_layout.specs.declared.refusal.OpenFault.TheVariants.{Refused}
 use Rattle.index_layout.specs.declared.refusal.OpenWhy.TheVariants.{DocTwice}
 use Rattle.index_layout.specs.Reading.{is_among, shares_one, payload_placed, payload_end, read_segment}
 use Rattle.index_layout.specs.declared.refusal.OpenRefusal.{OpenRefusal}
-use Rattle.index_version1.specs.Tables.{Marks}
+use Rattle.index_version1.specs.Private.Tables.{Marks}
 
 or_false : (b : Bool) → (b || false) ≡ b
 or_false true = refl

@@ -14,9 +14,10 @@ use Rattle.index_layout.specs.declared.refusal.OpenRefusal.{OpenRefusal}
 use Rattle.index_layout.specs.declared.refusal.OpenWhy.TheVariants.{Length, Names}
 use Rattle.index_layout.specs.Refusals.{◌>>=◌, check}
 use Rattle.index_layout.specs.Reading.{NamesRead, is_name_text}
-use Rattle.index_layout.proofs.Judging.{NoneWrong, bind_ok, judged_ok, judged_all, none_of, both_of, passed, behind, reaches}
+use Rattle.index_layout.proofs.Judging.{NoneWrong, bind_ok, judged_ok, judged_all, behind, reaches}
 use Rattle.index_layout.proofs.NameLaws.{visible, shown}
 use Rattle.index_layout.proofs.Numbers.{Fit, u32_found, u32_only}
+use Rattle.std.proofs.lemmas.Bool.{and_parts, or_parts, not-false}
 use Rattle.index_version1.specs.Files.{IsShort}
 use Rattle.index_version1.specs.Layout.{offsets_from, offsets_bytes, joined}
 use Rattle.index_version1.specs.Reading.{offset_place, offset_in, bounds_no_name, offset_checks, names_place, name1_in, text_checks, names_from, read_offsets, read_texts, read_names1}
@@ -126,7 +127,7 @@ offset_only bytes i fits inside =
 climbs : (bytes : List ℕ) (k i j : ℕ) → i + k ≡ j → NoneWrong (offset_checks bytes k i) → offset_in bytes i ≤ offset_in bytes j
 climbs bytes zero i j same none = (let e : i ≡ j = omega (arith, same) in subst (λ n. offset_in bytes i ≤ offset_in bytes n) e (omega arith))
 climbs bytes (suc k) i j same none =
-    let t = none_of (nat_le (offset_in bytes (i + 1)) (offset_in bytes i)) (nat_lt (offset_in bytes i + 65535) (offset_in bytes (i + 1))) none.0 in
+    let t = or_parts (nat_le (offset_in bytes (i + 1)) (offset_in bytes i)) (nat_lt (offset_in bytes i + 65535) (offset_in bytes (i + 1))) none.0 in
     let less : offset_in bytes i < offset_in bytes (i + 1) = grind (arith, nat_tests, t.0) in
     let later = climbs bytes k (i + 1) j (omega (arith, same)) none.1 in
     omega (arith, less, later)
@@ -155,10 +156,10 @@ name1_only bytes place i bounds good inside =
     let from = place + a in
     let to = place + b in
     let name = slice_range bytes from to in
-    let t = none_of (nat_le b a) (nat_lt (a + 65535) b) bounds in
+    let t = or_parts (nat_le b a) (nat_lt (a + 65535) b) bounds in
     let less : a < b = grind (arith, nat_tests, t.0) in
     let few : b ≤ a + 65535 = grind (arith, nat_tests, t.1) in
-    let u = both_of (is_utf8 name) (list_all (λ b. nat_lt 32 b && not (b == 127)) name) (passed (is_name_text name) good) in
+    let u = and_parts (is_utf8 name) (list_all (λ b. nat_lt 32 b && not (b == 127)) name) (not-false (is_name_text name) good) in
     let long : length name ≡ to - from = length-take-le (to - from) (drop from bytes) (let l = length-drop from bytes in omega (arith, l, inside)) in
     let text : drop from bytes ≡ name ++ drop to bytes = sym (take-append-drop (to - from) (drop from bytes)) ∙ ap (λ xs. name ++ xs) (drop-drop (to - from) from bytes ∙ (let e : from + (to - from) ≡ to = omega (arith, less) in ap (λ k. drop k bytes) e)) in
     record {
@@ -215,7 +216,7 @@ names1_only bytes d x fits read =
     let e = judged_ok (check (nat_lt (length bytes) (place + offset_in bytes d)) place Length ∷ text_checks bytes place d 0) y x second in
     let inside : place ≤ length bytes = ltb-false (length bytes) place b.0.0 in
     let within : place + offset_in bytes d ≤ length bytes = ltb-false (length bytes) (place + offset_in bytes d) e.0.0 in
-    let first : offset_in bytes 0 ≡ 0 = (let t = passed (offset_in bytes 0 == 0) b.0.1.0 in grind (arith, nat_tests, t)) in
+    let first : offset_in bytes 0 ≡ 0 = (let t = not-false (offset_in bytes 0 == 0) b.0.1.0 in grind (arith, nat_tests, t)) in
     let stand = names_stand bytes place d 0 d (omega arith) fits inside within b.0.1.1 e.0.1 in
     let names = names_from bytes place d 0 in
     let text : drop place bytes ≡ joined names ++ drop (place + offset_in bytes d) bytes = (let e : place ≡ place + offset_in bytes 0 = omega (arith, first) in ap (λ k. drop k bytes) e) ∙ stand.text in

@@ -1,7 +1,7 @@
 -- Files of version 1 are read as they are written.
-use Rattle.std.proofs.Common.{◌≡◌, ℕ, ◌+◌, ◌<◌, ◌≤◌, ◌^◌, ◌==◌, ◌||◌, not, true, false, nat_lt, nat_eq, List, [], ◌++◌, length, take, drop, All, None, Result, Ok, ap, sym, subst, ◌∙◌, refl, arith}
+use Rattle.std.proofs.Common.{◌≡◌, ℕ, ◌+◌, ◌<◌, ◌≤◌, ◌^◌, ◌==◌, ◌||◌, not, false, nat_lt, nat_eq, List, [], ◌++◌, length, take, drop, All, None, Result, Ok, ap, sym, subst, ◌∙◌, refl, arith}
 use Rattle.std.specs.List.{starts_with}
-use borrow.Author.Tests.{ltb-false}
+use borrow.Author.Tests.{ltb-false, eqb-true}
 use Rattle.std.proofs.lemmas.Bool.Decides.{nat_tests}
 use Rattle.std.proofs.lemmas.List.{length-append, append_assoc, append-nil, drop_all, take-append-drop}
 use Rattle.std.proofs.lemmas.Slice.Eq.{bytes_eq-Decides}
@@ -13,23 +13,20 @@ use Rattle.index_layout.specs.Heads.{TermHeads, terms_heads, head_postings, payl
 use Rattle.index_layout.specs.Layout.{old_magic, terms_payloads}
 use Rattle.index_layout.specs.View.{FileView, HaveCodecs, view_heads, view_payloads, index_postings}
 use Rattle.index_layout.specs.declared.refusal.OpenRefusal.{OpenRefusal}
-use Rattle.index_layout.specs.Refusals.{◌>>=◌}
 use Rattle.index_layout.specs.Reading.{Front, NamesRead, TermsRead, IndexRead, read_payloads, head_codecs, end_checks, after_payloads, after_terms}
-use Rattle.index_layout.proofs.Judging.{bind_ok, judged_ok, judged_all, none_of, passed, behind, reaches}
+use Rattle.index_layout.proofs.Judging.{bind_ok, judged_ok, judged_all, behind, reaches}
 use Rattle.index_layout.proofs.Numbers.{Fit, u32_found, u64_found, u32_only, u64_only}
 use Rattle.index_layout.proofs.TermLaws.{TermsRise}
 use Rattle.index_layout.proofs.IndexFacts.{TermsStand, index_found, index_only}
 use Rattle.index_layout.proofs.PayloadLaws.{PayloadsAre, terms_rise, payloads_found, payloads_only}
 use Rattle.index_layout.proofs.Sums.{all_codecs_back, all_counted, all_sized, greatest_small, heads_length}
-use Rattle.index_layout.proofs.FileLaws.{Found, Only, Numbered}
+use Rattle.index_layout.proofs.FileLaws.{Found, Only, Numbered, step}
+use Rattle.std.proofs.lemmas.Bool.{or_parts, not-false}
 use Rattle.index_version1.specs.Files.{IsShort, IsFile1View, file1_bytes}
 use Rattle.index_version1.specs.Layout.{offsets_bytes, joined, terms1_bytes, file1_length, totals1_bytes, front1_bytes}
 use Rattle.index_version1.specs.Reading.{front1_checks, read_front1, read_names1, read_terms1, after_names1, after_front1, read_file1}
 use Rattle.index_version1.proofs.OffsetLaws.{Names1Are, names1_found, names1_only}
 use Rattle.index_version1.proofs.OldTerms.{Terms1Are, terms1_found, terms1_only}
-
-step : {A B : Type 0} (r : Result A OpenRefusal) (f : A → Result B OpenRefusal) (x : A) → r ≡ Ok x → (r >>= f) ≡ f x
-step r f x is = ap (λ r. r >>= f) is
 
 -- the first 40 bytes with these numbers
 abbrev first_bytes : (l d n p g : ℕ) → List ℕ → List ℕ
@@ -155,15 +152,15 @@ front_only bytes front fits read =
     let last : Front = record { docs = u32_in bytes 16; terms = u32_in bytes 20 } in
     let x = judged_ok (front1_checks bytes) last front read in
     let good = x.0 in
-    let size = none_of (nat_lt (length bytes) 40) (not (u64_in bytes 8 == length bytes)) good.1.1.0 in
+    let size = or_parts (nat_lt (length bytes) 40) (not (u64_in bytes 8 == length bytes)) good.1.1.0 in
     let long : 40 ≤ length bytes = ltb-false (length bytes) 40 size.0 in
-    let known = passed (u64_in bytes 8 == length bytes) size.1 in
+    let known = not-false (u64_in bytes 8 == length bytes) size.1 in
     let whole : u64_in bytes 8 ≡ length bytes = grind (arith, nat_tests, known) in
-    let end = passed (u32_in bytes 36 == 0) good.1.1.1.1.1.1.0 in
+    let end = not-false (u32_in bytes 36 == 0) good.1.1.1.1.1.1.0 in
     let zero_is : u32_in bytes 36 ≡ 0 = grind (arith, nat_tests, end) in
     let docs : u32_in bytes 16 ≡ front.docs = ap (λ (x : Front). x.docs) x.1 in
     let terms : u32_in bytes 20 ≡ front.terms = ap (λ (x : Front). x.terms) x.1 in
-    let begins : old_magic ≡ take 8 bytes = (bytes_eq-Decides old_magic (take 8 bytes)).0 (passed (starts_with nat_eq bytes old_magic) good.1.0) in
+    let begins : old_magic ≡ take 8 bytes = (bytes_eq-Decides old_magic (take 8 bytes)).0 (not-false (starts_with nat_eq bytes old_magic) good.1.0) in
     record {
       short = ltb-false (2 ^ 32) (length bytes) good.0;
       long = long;
@@ -231,9 +228,6 @@ view_only bytes front x y z first names terms there end postings greatest =
       },
     )
 
-same_number : (m n : ℕ) → (m == n) ≡ true → m ≡ n
-same_number m n is = grind (arith, nat_tests, is)
-
 pub file1_only : Only → Numbered → (v : FileView) (bytes : List ℕ) → Fit bytes → read_file1 bytes ≡ Ok v → (bytes ≡ file1_bytes v) × IsFile1View v
 unfolding read_file1 end_checks
 file1_only only numbered v bytes fits read =
@@ -252,7 +246,7 @@ file1_only only numbered v bytes fits read =
     let w : FileView = record { index = record { names = x.names; terms = z.terms }; codecs = head_codecs y.terms } in
     let g = judged_ok (end_checks bytes y.terms z.end) w v f.2 in
     let there : PayloadsAre bytes (length x.names) None y.terms y.end z = subst (λ d. PayloadsAre bytes d None y.terms y.end z) (sym names.count) payloads in
-    let t = passed (u64_in bytes 24 == head_postings y.terms) g.0.1.0 in
-    let u = passed (u32_in bytes 32 == greatest_impact y.terms) g.0.1.1.0 in
+    let t = not-false (u64_in bytes 24 == head_postings y.terms) g.0.1.0 in
+    let u = not-false (u32_in bytes 32 == greatest_impact y.terms) g.0.1.1.0 in
     subst (λ (v : FileView). (bytes ≡ file1_bytes v) × IsFile1View v) {x = w} g.1
-    (view_only bytes front x y z first names terms there (ltb-false z.end (length bytes) g.0.0) (same_number (u64_in bytes 24) (head_postings y.terms) t) (same_number (u32_in bytes 32) (greatest_impact y.terms) u))
+    (view_only bytes front x y z first names terms there (ltb-false z.end (length bytes) g.0.0) (eqb-true (u64_in bytes 24) (head_postings y.terms) t) (eqb-true (u32_in bytes 32) (greatest_impact y.terms) u))

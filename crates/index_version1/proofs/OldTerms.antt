@@ -15,10 +15,11 @@ use Rattle.index_layout.specs.Layout.{heads_bytes}
 use Rattle.index_layout.specs.declared.refusal.OpenRefusal.{OpenRefusal}
 use Rattle.index_layout.specs.Refusals.{◌>>=◌}
 use Rattle.index_layout.specs.Reading.{HeadsRead, TermsRead, rises_behind, read_heads}
-use Rattle.index_layout.proofs.Judging.{bind_ok, same_ok, judged_ok, judged_all, both_of, passed, behind, reaches, parts_stand}
+use Rattle.index_layout.proofs.Judging.{bind_ok, same_ok, judged_ok, judged_all, behind, reaches, parts_stand}
 use Rattle.index_layout.proofs.Numbers.{Fit, u16_found, u32_found, u16_only, u32_only}
 use Rattle.index_layout.proofs.HeadLaws.{HeadsAre, heads_found, heads_only}
 use Rattle.index_layout.proofs.TermLaws.{IsTermText, TermsRise, heads_size}
+use Rattle.std.proofs.lemmas.Bool.{and_parts, not-false}
 use Rattle.index_version1.specs.Layout.{term1_bytes, terms1_bytes}
 use Rattle.index_version1.specs.Reading.{segments1_place, term1_in, term1_checks, term1_end, heads1_in, read_terms1}
 
@@ -73,7 +74,7 @@ term1_only bytes before at next fits read =
     let good = x.0 in
     let is_end = x.1 in
     let end : place + 4 ≤ length bytes = ltb-false (length bytes) (place + 4) good.1.0 in
-    let t = both_of (is_utf8 term) (rises_behind before term) (passed (is_utf8 term && rises_behind before term) good.1.1.0) in
+    let t = and_parts (is_utf8 term) (rises_behind before term) (not-false (is_utf8 term && rises_behind before term) good.1.1.0) in
     let exact : place - (at + 2) ≡ size = omega arith in
     let long : length term ≡ size = ap (λ k. length (take k (drop (at + 2) bytes))) exact ∙ length-take-le size (drop (at + 2) bytes) (let l = length-drop (at + 2) bytes in omega (arith, l, end)) in
     let text : drop (at + 2) bytes ≡ term ++ drop place bytes = sym (take-append-drop size (drop (at + 2) bytes)) ∙ ap (λ xs. xs ++ drop size (drop (at + 2) bytes)) (ap (λ k. take k (drop (at + 2) bytes)) (sym exact)) ∙ ap (λ xs. term ++ xs) (drop-drop size (at + 2) bytes) in

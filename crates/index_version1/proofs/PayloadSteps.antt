@@ -1,27 +1,17 @@
 -- Terms whose payloads are read one after the other.
-use Rattle.std.proofs.Common.{◌≡◌, ℕ, ◌<◌, ◌≤◌, List, [], ◌∷◌, ◌++◌, length, map, All, Option, Some, Result, Ok, Err, ap, sym, subst, ◌∙◌, refl, arith, append_assoc}
-use Rattle.std.proofs.lemmas.Bool.Decides.{nat_tests}
+use Rattle.std.proofs.Common.{◌≡◌, ℕ, ◌≤◌, List, [], ◌∷◌, ◌++◌, length, map, Option, Some, Result, Ok, ap, sym, subst, ◌∙◌}
 use Rattle.std.proofs.lemmas.List.{map_push, length-map}
 use Rattle.jass_base.specs.declared.term_segments.TermSegments.{TermSegments}
 use Rattle.index_model.specs.Index.{TermData}
 use Rattle.index_model.specs.Views.{segment_data, term_data}
 use Rattle.index_layout.specs.declared.refusal.OpenRefusal.{OpenRefusal}
-use Rattle.index_layout.specs.declared.refusal.OpenFault.{OpenFault}
-use Rattle.index_layout.specs.declared.refusal.OpenFault.TheVariants as faults
-use Rattle.index_layout.specs.Refusals.{◌>>=◌, Fails}
+use Rattle.index_layout.specs.Refusals.{◌>>=◌}
 use Rattle.index_layout.specs.Reading.{SegmentsRead, IndexRead, read_segments, read_payloads}
 use Rattle.index_layout.proofs.HeadLaws.{HeadsFall}
 use Rattle.index_layout.proofs.TermLaws.{TermsRise}
+use Rattle.index_layout.proofs.Behind.{with_index, behind_index}
 use Rattle.index_version1.specs.declared.old_term.OldTerm.{OldTerm}
-use Rattle.index_version1.specs.Tables.{Marks, head_data, term_heads}
-
--- behind terms that were read before
-abbrev pub with_index : List TermData → Result IndexRead OpenRefusal → Result IndexRead OpenRefusal
-with_index front read = read >>= λ x. Ok (record { terms = front ++ x.terms; end = x.end })
-
-behind_index : (front : List TermData) (t : TermData) (read : Result IndexRead OpenRefusal) → with_index front (read >>= λ later. Ok (record { terms = t ∷ later.terms; end = later.end })) ≡ with_index (front ++ t ∷ []) read
-behind_index front t (Ok x) = ap (λ (terms : List TermData). (let r : Result IndexRead OpenRefusal = Ok (record { terms = terms; end = x.end }) in r)) (sym (append_assoc front (t ∷ []) x.terms))
-behind_index front t (Err e) = refl
+use Rattle.index_version1.specs.Private.Tables.{head_data, term_heads}
 
 -- one term more
 pub filled_on : (bytes : List ℕ) (d : ℕ) (total : Result IndexRead OpenRefusal) (done new : List TermSegments) (t : TermSegments) (old : OldTerm) (from rest : List OldTerm) (at end : ℕ) → new ≡ done ++ t ∷ [] → from ≡ old ∷ rest
@@ -35,19 +25,6 @@ filled_on bytes d total done new t old from rest at end put split is term segmen
     ∙ behind_index front (record { term = old.term; segments = map segment_data t.segments }) (read_payloads bytes d (map term_heads rest) end)
     ∙ ap (λ (xs : List ℕ). with_index (front ++ record { term = xs; segments = map segment_data t.segments } ∷ []) (read_payloads bytes d (map term_heads rest) end)) (sym term)
     ∙ ap (λ (ts : List TermData). with_index ts (read_payloads bytes d (map term_heads rest) end)) (sym (map_push term_data done t) ∙ ap (map term_data) (sym put))
-
--- a segment is refused
-pub filled_not : (bytes : List ℕ) (d : ℕ) (total : Result IndexRead OpenRefusal) (front : List TermData) (old : OldTerm) (from rest : List OldTerm) (at : ℕ) (e : OpenFault) → from ≡ old ∷ rest → total ≡ with_index front (read_payloads bytes d (map term_heads from) at)
-    → Fails e (read_segments bytes d [] (map head_data old.heads) at) → Fails e total
-filled_not bytes d total front old from rest at (faults.Refused refusal) split is fails =
-    is ∙ ap (λ (ts : List OldTerm). with_index front (read_payloads bytes d (map term_heads ts) at)) split
-    ∙ ap (λ (e : Result SegmentsRead OpenRefusal). with_index front (e >>= λ here. (read_payloads bytes d (map term_heads rest) here.end >>= λ later. Ok (record { terms = record { term = old.term; segments = here.segments } ∷ later.terms; end = later.end })))) fails
-filled_not bytes d total front old from rest at faults.ReadFault split is fails = fails
-filled_not bytes d total front old from rest at faults.NoMemory split is fails = tt
-
--- no document has a number above all marks
-pub unmarked : (seen : List ℕ) (most mark : ℕ) → most < mark → All (λ n. n ≤ most) seen → Marks seen mark []
-unmarked seen most mark above few = λ doc inside. (let e = few doc 0 inside in grind (arith, nat_tests, e, above))
 
 pub first_heads : (d : ℕ) (before : Option (List ℕ)) (old : OldTerm) (from rest : List OldTerm) → from ≡ old ∷ rest → TermsRise d before (map term_heads from) → (1 ≤ length old.heads) × HeadsFall d 65536 (map head_data old.heads) × TermsRise d (Some old.term) (map term_heads rest)
 first_heads d before old from rest split rise =

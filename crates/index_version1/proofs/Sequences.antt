@@ -8,21 +8,15 @@ use Rattle.index_layout.specs.Bytes.{u16_in}
 use Rattle.index_layout.specs.Heads.{HeadData}
 use Rattle.index_layout.specs.declared.refusal.OpenFault.{OpenFault}
 use Rattle.index_layout.specs.declared.refusal.OpenFault.TheVariants.{Refused, ReadFault, NoMemory}
-use Rattle.index_layout.proofs.Judging.{judged_ok, passed}
+use Rattle.index_layout.proofs.Judging.{judged_ok}
 use Rattle.index_layout.proofs.HeadLaws.{head_impact}
 use Rattle.std.specs.Str.{IsUtf8, is_utf8}
 use Rattle.std.proofs.lemmas.Str.{IsUtf8-from_is_utf8}
+use Rattle.index_layout.proofs.Behind.{with_heads, behind_heads}
+use Rattle.std.proofs.lemmas.Bool.{not-false}
 use Rattle.index_version1.specs.declared.head.Head.{Head}
-use Rattle.index_version1.specs.Reading.{offset_place, names_place, offset_in, bounds_no_name, offset_checks, read_offsets, read_texts, name1_in, text_checks, names_from}
-use Rattle.index_version1.specs.Tables.{head_data}
-
--- behind heads that were read before
-abbrev pub with_heads : List HeadData → Result HeadsRead OpenRefusal → Result HeadsRead OpenRefusal
-with_heads front read = read >>= λ x. Ok (record { heads = front ++ x.heads; end = x.end })
-
-behind_heads : (front : List HeadData) (h : HeadData) (read : Result HeadsRead OpenRefusal) → with_heads front (read >>= λ later. Ok (record { heads = h ∷ later.heads; end = later.end })) ≡ with_heads (front ++ h ∷ []) read
-behind_heads front h (Ok x) = ap (λ (heads : List HeadData). (let r : Result HeadsRead OpenRefusal = Ok (record { heads = heads; end = x.end }) in r)) (sym (append_assoc front (h ∷ []) x.heads))
-behind_heads front h (Err e) = refl
+use Rattle.index_version1.specs.Reading.{names_place, offset_in, offset_checks, read_offsets, read_texts, name1_in, text_checks, names_from}
+use Rattle.index_version1.specs.Private.Tables.{head_data}
 
 -- one head more
 pub heads_on : (bytes : List ℕ) (d : ℕ) (total : Result HeadsRead OpenRefusal) (front : List HeadData) (k left above at next : ℕ) (s : Head) → total ≡ with_heads front (read_heads bytes d k above at) → k ≡ suc left
@@ -35,13 +29,6 @@ heads_on bytes d total front k left above at next s is more end head =
     ∙ behind_heads front (head_in bytes at) (read_heads bytes d left (u16_in bytes at) next)
     ∙ ap (λ h. with_heads (front ++ h ∷ []) (read_heads bytes d left (u16_in bytes at) next)) (sym head)
     ∙ ap (λ n. with_heads (front ++ head_data s ∷ []) (read_heads bytes d left n next)) impact
-
--- one offset more, or a bad one
-pub offsets_on : (bytes : List ℕ) (place k left i : ℕ) → k ≡ suc left → bounds_no_name (offset_in bytes i) (offset_in bytes (i + 1)) ≡ false → judged (offset_checks bytes k i) place ≡ judged (offset_checks bytes left (i + 1)) place
-offsets_on bytes place k left i more good = rw (more, good) refl
-
-pub offsets_not : (bytes : List ℕ) (place k left i : ℕ) → k ≡ suc left → bounds_no_name (offset_in bytes i) (offset_in bytes (i + 1)) ≡ true → judged (offset_checks bytes k i) place ≡ refuse (offset_place (i + 1)) Names
-offsets_not bytes place k left i more bad = rw (more, bad) refl
 
 -- all offsets are good
 pub offsets_all : (bytes : List ℕ) (d place k i : ℕ) → names_place d ≤ length bytes → offset_in bytes 0 ≡ 0 → place ≡ names_place d → k ≡ 0 → judged (offset_checks bytes d 0) place ≡ judged (offset_checks bytes k i) place → read_offsets bytes d ≡ Ok place
@@ -68,7 +55,7 @@ names_on bytes place k left i front name more is = append_assoc front (name ∷ 
 
 -- a name that was read, or refused
 pub name_good : (bytes name : List ℕ) (at : ℕ) → judged (check (not (is_name_text bytes)) at Names ∷ []) bytes ≡ Ok name → (is_name_text bytes ≡ true) × (bytes ≡ name)
-name_good bytes name at read = let x = judged_ok (check (not (is_name_text bytes)) at Names ∷ []) bytes name read in (passed (is_name_text bytes) x.0.0, x.1)
+name_good bytes name at read = let x = judged_ok (check (not (is_name_text bytes)) at Names ∷ []) bytes name read in (not-false (is_name_text bytes) x.0.0, x.1)
 
 pub name_fails : (e : OpenFault) (bytes : List ℕ) (at : ℕ) (total : Result NamesRead OpenRefusal) → Fails e (judged (check (not (is_name_text bytes)) at Names ∷ []) bytes) → (is_name_text bytes ≡ false → total ≡ refuse at Names) → Fails e total
 name_fails (Refused refusal) bytes at total read bad = by_text (is_name_text bytes) refl read

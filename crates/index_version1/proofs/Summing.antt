@@ -8,9 +8,10 @@ use Rattle.std.proofs.lemmas.Grind.{flat_map-append}
 use Rattle.std.proofs.lemmas.List.{map-append, append-nil, take-append-drop}
 use Rattle.std.proofs.lemmas.List.Sums.{sum_by-append, sum_by-cons}
 use Rattle.index_layout.specs.Heads.{HeadData, TermHeads, all_heads, head_postings, greatest_of, greatest_impact}
+use Rattle.index_layout.proofs.Greatest.{greatest_joins}
 use Rattle.index_version1.specs.declared.head.Head.{Head}
 use Rattle.index_version1.specs.declared.old_term.OldTerm.{OldTerm}
-use Rattle.index_version1.specs.Tables.{head_data, term_heads}
+use Rattle.index_version1.specs.Private.Tables.{head_data, term_heads}
 
 abbrev count_of : HeadData → ℕ
 count_of h = h.count
@@ -39,10 +40,6 @@ postings_front terms n =
 pub unequal : (m n : ℕ) → m < n → false ≡ (m == n)
 unequal m n less = grind (arith, nat_tests, less)
 
-greatest_join : (one two : List HeadData) → greatest_of (one ++ two) ≡ max (greatest_of one) (greatest_of two)
-greatest_join [] two = omega arith
-greatest_join (h ∷ one) two = let e = greatest_join one two in omega (arith, e)
-
 pub next_term : (terms : List OldTerm) (i : ℕ) (t : OldTerm) → i < length terms → t ≡ get_or terms i t → drop i terms ≡ t ∷ drop (i + 1) terms
 next_term terms i t inside is = drop-cons terms i t inside ∙ ap (λ x. x ∷ drop (suc i) terms) (sym is) ∙ ap (λ n. t ∷ drop n terms) (sym (add-one i))
 
@@ -50,4 +47,4 @@ pub greatest_next : (terms : List OldTerm) (i : ℕ) (t : OldTerm) → i < lengt
     → greatest_impact (map term_heads (drop i terms)) ≡ max (greatest_of (map head_data t.heads)) (greatest_impact (map term_heads (drop (i + 1) terms)))
 greatest_next terms i t inside is =
     ap (λ (ts : List OldTerm). greatest_impact (map term_heads ts)) (next_term terms i t inside is)
-    ∙ greatest_join (map head_data t.heads) (all_heads (map term_heads (drop (i + 1) terms)))
+    ∙ greatest_joins (map head_data t.heads) (all_heads (map term_heads (drop (i + 1) terms)))

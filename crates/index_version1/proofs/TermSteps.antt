@@ -1,5 +1,5 @@
 -- Terms that are read one after the other.
-use Rattle.std.proofs.Common.{◌≡◌, ◌≤◌, ◌+◌, nat_lt, Bool, true, false, get_or, arith, zero, ℕ, suc, map, length, List, [], ◌∷◌, ◌++◌, Option, Some, Result, Ok, Err, append_assoc, ap, sym, subst, ◌∙◌, refl}
+use Rattle.std.proofs.Common.{◌≡◌, ◌≤◌, ◌+◌, nat_lt, Bool, true, false, get_or, arith, zero, ℕ, suc, map, length, List, [], ◌∷◌, ◌++◌, Option, Some, Result, Ok, ap, sym, subst, ◌∙◌, refl}
 use Rattle.std.specs.Prelude.{slice_range}
 use Rattle.std.proofs.lemmas.List.{map_push}
 use Rattle.std.specs.Str.{IsUtf8, is_utf8}
@@ -12,17 +12,10 @@ use Rattle.index_layout.specs.declared.refusal.OpenFault.TheVariants as faults
 use Rattle.index_layout.specs.Heads.{TermHeads}
 use Rattle.index_layout.specs.Refusals.{◌>>=◌, Fails, judged, refuse}
 use Rattle.index_layout.specs.Reading.{HeadsRead, TermsRead, read_heads, rises_behind}
+use Rattle.index_layout.proofs.Behind.{with_terms, behind_terms}
 use Rattle.index_version1.specs.declared.old_term.OldTerm.{OldTerm}
 use Rattle.index_version1.specs.Reading.{segments1_place, term1_checks, term1_end, term1_in, heads1_in, read_terms1}
-use Rattle.index_version1.specs.Tables.{before_of, head_data, term_heads}
-
--- behind terms that were read before
-abbrev pub with_terms : List TermHeads → Result TermsRead OpenRefusal → Result TermsRead OpenRefusal
-with_terms front read = read >>= λ x. Ok (record { terms = front ++ x.terms; end = x.end })
-
-behind_terms : (front : List TermHeads) (t : TermHeads) (read : Result TermsRead OpenRefusal) → with_terms front (read >>= λ later. Ok (record { terms = t ∷ later.terms; end = later.end })) ≡ with_terms (front ++ t ∷ []) read
-behind_terms front t (Ok x) = ap (λ (terms : List TermHeads). (let r : Result TermsRead OpenRefusal = Ok (record { terms = terms; end = x.end }) in r)) (sym (append_assoc front (t ∷ []) x.terms))
-behind_terms front t (Err e) = refl
+use Rattle.index_version1.specs.Private.Tables.{before_of, head_data, term_heads}
 
 -- one term more
 pub terms_on : (bytes : List ℕ) (d : ℕ) (total : Result TermsRead OpenRefusal) (front : List TermHeads) (k left : ℕ) (before : Option (List ℕ)) (at place : ℕ) (here : HeadsRead) → total ≡ with_terms front (read_terms1 bytes d k before at) → k ≡ suc left → term1_end bytes before at ≡ Ok place
@@ -35,18 +28,6 @@ terms_on bytes d total front k left before at place here is more end heads =
     ∙ ap (λ (e : Result HeadsRead OpenRefusal). with_terms front (e >>= λ here. (read_terms1 bytes d left (Some (term1_in bytes at)) here.end >>= λ later.
     Ok (record { terms = record { term = term1_in bytes at; heads = here.heads } ∷ later.terms; end = later.end })))) heads
     ∙ behind_terms front (record { term = term1_in bytes at; heads = here.heads }) (read_terms1 bytes d left (Some (term1_in bytes at)) here.end)
-
--- the heads of a term are refused
-pub heads_not : (bytes : List ℕ) (d : ℕ) (total : Result TermsRead OpenRefusal) (front : List TermHeads) (k left : ℕ) (before : Option (List ℕ)) (at place n : ℕ) (e : OpenFault) → total ≡ with_terms front (read_terms1 bytes d k before at) → k ≡ suc left → term1_end bytes before at ≡ Ok place
-    → n ≡ heads1_in bytes at → Fails e (read_heads bytes d n 65536 place) → Fails e total
-heads_not bytes d total front k left before at place n (faults.Refused refusal) is more end count fails =
-    is ∙ ap (λ n. with_terms front (read_terms1 bytes d n before at)) more
-    ∙ ap (λ (e : Result ℕ OpenRefusal). with_terms front (e >>= λ place. (read_heads bytes d (heads1_in bytes at) 65536 place >>= λ here. (read_terms1 bytes d left (Some (term1_in bytes at)) here.end >>= λ later.
-    Ok (record { terms = record { term = term1_in bytes at; heads = here.heads } ∷ later.terms; end = later.end }))))) end
-    ∙ ap (λ (e : Result HeadsRead OpenRefusal). with_terms front (e >>= λ here. (read_terms1 bytes d left (Some (term1_in bytes at)) here.end >>= λ later.
-    Ok (record { terms = record { term = term1_in bytes at; heads = here.heads } ∷ later.terms; end = later.end })))) (ap (λ n. read_heads bytes d n 65536 place) (sym count) ∙ fails)
-heads_not bytes d total front k left before at place n faults.ReadFault is more end count fails = fails
-heads_not bytes d total front k left before at place n faults.NoMemory is more end count fails = tt
 
 -- the last term
 pub before_pushed : (terms : List OldTerm) (t : OldTerm) → before_of (terms ++ t ∷ []) ≡ Some t.term

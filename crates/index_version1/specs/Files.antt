@@ -4,6 +4,7 @@ use Rattle.segment_codecs.specs.declared.codec.Codec.{Codec}
 use Rattle.index_model.specs.Index.{IndexData, IsIndex}
 use Rattle.index_layout.specs.View.{FileView, HaveCodecs, view_heads, view_payloads, index_postings}
 use Rattle.index_version1.specs.Layout.{front1_bytes}
+use Rattle.jass_base.specs.declared.limits.TheConstants.{MOST_POSTINGS}
 
 -- the bytes of a view: what stands before the payloads, and the payloads
 unfoldable pub file1_bytes : FileView → List ℕ
@@ -18,7 +19,7 @@ pub record IsFile1View (v : FileView) : Type 0 where
   pub index : IsIndex v.index
   pub short : All IsShort v.index.names
   pub codecs : HaveCodecs v.index.terms v.codecs
-  pub postings : index_postings v.index ≤ 2 ^ 29
+  pub postings : index_postings v.index ≤ MOST_POSTINGS
   pub fits : length (file1_bytes v) ≤ 2 ^ 32
 
 -- the bytes are those of the index, each segment in some codec

@@ -11,6 +11,7 @@ use Rattle.index_layout.specs.Layout.{old_magic}
 use Rattle.index_layout.specs.Refusals.{◌>>=◌, Check, check, judged}
 use Rattle.index_layout.specs.Reading.{Front, NamesRead, TermsRead, is_name_text, rises_behind, read_heads, after_terms}
 use Rattle.index_layout.specs.View.{FileView}
+use Rattle.jass_base.specs.declared.limits.TheConstants.{MOST_DOCUMENTS, MOST_POSTINGS, MOST_TERMS}
 
 -- the first 40 bytes: magic, length, documents, terms, postings, greatest impact, zero
 unfoldable pub front1_checks : List ℕ → List Check
@@ -18,9 +19,9 @@ front1_checks bytes =
     check (nat_lt (2 ^ 32) (length bytes)) (2 ^ 32) Limit
     ∷ check (not (starts_with nat_eq bytes old_magic)) 0 Magic
     ∷ check (nat_lt (length bytes) 40 || not (u64_in bytes 8 == length bytes)) 8 Length
-    ∷ check (nat_lt (2 ^ 26) (u32_in bytes 16)) 16 Limit
-    ∷ check (nat_lt (2 ^ 24) (u32_in bytes 20)) 20 Limit
-    ∷ check (nat_lt (2 ^ 29) (u64_in bytes 24)) 24 Limit
+    ∷ check (nat_lt MOST_DOCUMENTS (u32_in bytes 16)) 16 Limit
+    ∷ check (nat_lt MOST_TERMS (u32_in bytes 20)) 20 Limit
+    ∷ check (nat_lt MOST_POSTINGS (u64_in bytes 24)) 24 Limit
     ∷ check (not (u32_in bytes 36 == 0)) 36 Totals
     ∷ []
 

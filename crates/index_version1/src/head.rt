@@ -1,7 +1,7 @@
 ghost use Rattle.std.specs.Prelude.{◌≡◌, ◌≤◌, ◌+◌, ◌-◌, ◌^◌, length, map, IfOk};
 ghost use Rattle.index_layout.specs.Reading.{head_end, head_in, read_heads};
 ghost use Rattle.index_layout.specs.Refusals.{Answers};
-ghost use Rattle.index_version1.specs.Tables.{head_data};
+ghost use Rattle.index_version1.specs.Private.Tables.{head_data};
 
 use crate::number::{u16_at, u32_at};
 use index_layout::{OpenFault, OpenWhy, refused};

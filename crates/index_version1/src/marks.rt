@@ -3,7 +3,7 @@
 
 ghost use Rattle.std.specs.Prelude.{ℕ, ◌≡◌, ◌==◌, ◌<◌, ◌≤◌, ◌++◌, List, length, All, slice_index};
 ghost use Rattle.std.specs.List.{list_any};
-ghost use Rattle.index_version1.specs.Tables.{Marks};
+ghost use Rattle.index_version1.specs.Private.Tables.{Marks};
 
 /// Whether one of the documents is marked.
 pub fn has_marked(seen: &[u32], mark: u32, docs: &[u32]) -> bool

@@ -1,6 +1,5 @@
 ghost use Rattle.std.specs.Prelude.{nat_lt, not, ℕ, ◌≡◌, ◌==◌, ◌&&◌, ◌<◌, ◌≤◌, ◌+◌, ◌^◌, [], ◌∷◌, length, IfOk};
 ghost use Rattle.std.specs.List.{list_all};
-ghost use Rattle.std.specs.Str.{is_utf8};
 ghost use Rattle.index_layout.specs.Reading.{is_name_text};
 ghost use Rattle.index_layout.specs.Refusals.{Answers, check, judged};
 ghost use Rattle.index_layout.specs.declared.refusal.OpenWhy.TheVariants.{Names};
@@ -16,16 +15,6 @@ fn is_visible(bytes: &[u8]) -> bool
     ensures { result ≡ list_all (λ b. nat_lt 32 b && not (b == 127)) bytes.now }
 {
     bytes.iter().all(|b| *b > 32 && *b != 127)
-}
-
-/// Whether bytes are UTF-8.
-pub fn is_text(bytes: &[u8]) -> bool
-    ensures { result ≡ is_utf8 bytes.now }
-{
-    match std::str::from_utf8(bytes) {
-        Ok(_) => true,
-        Err(_) => false,
-    }
 }
 
 /// The name with these bytes, which stand at a place.

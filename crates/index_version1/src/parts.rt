@@ -2,9 +2,9 @@ ghost use Rattle.std.specs.Prelude.{◌≡◌, ◌≤◌, ◌^◌, length, map, 
 ghost use Rattle.jass_base.specs.Terms.{greatest_impact};
 ghost use Rattle.index_layout.proofs.TermLaws.{TermsRise};
 ghost use Rattle.index_layout.specs.Refusals.{Answers};
-ghost use Rattle.index_version1.specs.Parts.{parts_data};
+ghost use Rattle.index_version1.specs.Private.Parts.{parts_data};
 ghost use Rattle.index_version1.specs.Reading.{index_after, read_index1, read_names1, read_terms1};
-ghost use Rattle.index_version1.specs.Tables.{term_heads};
+ghost use Rattle.index_version1.specs.Private.Tables.{term_heads};
 
 use crate::front::read_front1;
 use crate::names::read_texts;

@@ -4,7 +4,7 @@ ghost use Rattle.index_layout.proofs.HeadLaws.{HeadsFall};
 ghost use Rattle.index_layout.proofs.TermLaws.{TermsRise};
 ghost use Rattle.index_layout.specs.Reading.{read_payloads, read_segments};
 ghost use Rattle.index_layout.specs.Refusals.{Answers};
-ghost use Rattle.index_version1.specs.Tables.{Marks, head_data, term_heads};
+ghost use Rattle.index_version1.specs.Private.Tables.{Marks, head_data, term_heads};
 
 use crate::old_term::OldTerm;
 use crate::segment::read_segments;

@@ -4,7 +4,7 @@ ghost use Rattle.index_model.specs.Views.{segment_data};
 ghost use Rattle.index_layout.proofs.HeadLaws.{HeadsFall};
 ghost use Rattle.index_layout.specs.Reading.{docs_in, payload_end, read_segments};
 ghost use Rattle.index_layout.specs.Refusals.{Answers};
-ghost use Rattle.index_version1.specs.Tables.{Marks, head_data};
+ghost use Rattle.index_version1.specs.Private.Tables.{Marks, head_data};
 
 use crate::docs::read_docs;
 use crate::head::Head;

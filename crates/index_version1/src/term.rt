@@ -5,7 +5,7 @@ ghost use Rattle.jass_base.specs.Limits.{IsText};
 ghost use Rattle.index_layout.specs.Reading.{rises_behind};
 ghost use Rattle.index_layout.specs.Refusals.{Answers};
 ghost use Rattle.index_version1.specs.Reading.{heads1_in, read_terms1, term1_end, term1_in};
-ghost use Rattle.index_version1.specs.Tables.{before_of, term_heads};
+ghost use Rattle.index_version1.specs.Private.Tables.{before_of, term_heads};
 
 use crate::head::read_heads;
 use crate::number::{u16_at, u32_at};

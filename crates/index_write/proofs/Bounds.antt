@@ -9,9 +9,10 @@ use Rattle.jass_base.specs.Limits.{IsName}
 use Rattle.segment_codecs.specs.Codecs.{chosen_codec, payload_size}
 use Rattle.index_model.specs.Index.{SegmentData, TermData, IndexData, IsSegment, IsTerm, IsIndex}
 use Rattle.index_layout.specs.Bytes.{u32_bytes}
-use Rattle.index_layout.specs.Heads.{HeadData, TermHeads}
-use Rattle.index_layout.specs.Layout.{name_bytes, names_bytes, head_bytes, heads_bytes, rest_behind, shared_with, term_bytes, terms_bytes, totals_bytes, front_bytes}
+use Rattle.index_layout.specs.Heads.{TermHeads}
+use Rattle.index_layout.specs.Layout.{name_bytes, names_bytes, heads_bytes, rest_behind, shared_with, term_bytes, terms_bytes, totals_bytes, front_bytes}
 use Rattle.index_layout.specs.View.{term_postings, index_postings}
+use Rattle.index_layout.proofs.TermLaws.{heads_size}
 use Rattle.index_write.specs.Chosen.{chosen_head, chosen_heads, chosen_terms, chosen_payload, chosen_payloads, table_payloads}
 use Rattle.index_write.proofs.Counting.{term_few}
 use Rattle.index_write.proofs.Texts.{docs_of}
@@ -36,14 +37,6 @@ names_small [] are = omega arith
 names_small (name ∷ names) are =
     let first = (All-head IsName name names are).fits in
     omega (arith, first, length-append (name_bytes name) (names_bytes names), name_size name, names_small names (All-tail IsName name names are))
-
-pub head_size : (h : HeadData) → length (head_bytes h) ≡ 11
-unfolding head_bytes
-head_size h = refl
-
-pub heads_size : (heads : List HeadData) → length (heads_bytes heads) ≡ 11 * length heads
-heads_size [] = refl
-heads_size (h ∷ heads) = omega (arith, length-append (head_bytes h) (heads_bytes heads), head_size h, heads_size heads)
 
 pub term_size : (before term : List ℕ) → length (term_bytes before term) ≡ 4 + length (rest_behind before term)
 unfolding term_bytes

@@ -2,6 +2,7 @@
 use Rattle.std.proofs.Common.{◌≡◌, ℕ, List, [], ◌∷◌, length, ap, sym, ◌∙◌, refl, arith}
 use Rattle.std.specs.Prelude.{Option, Some, None, Bool, true, false, ◌==◌, if◌then◌else◌}
 use Rattle.std.proofs.lemmas.Bool.Decides.{nat_tests}
+use borrow.Author.Tests.{eqb-true}
 use Rattle.segment_codecs.specs.Codecs.{codec_number, codec_of}
 use Rattle.segment_codecs.specs.declared.codec.Codec.{Codec}
 use Rattle.index_layout.specs.Heads.{HeadData}
@@ -16,13 +17,10 @@ chosen_none : (b : Bool) (later : Option Change) (x : Change) → (if b then lat
 chosen_none true later x none = (refl, none)
 chosen_none false later x none = cc
 
-same_number : (x y : ℕ) → (x == y) ≡ true → x ≡ y
-same_number x y is = grind (arith, nat_tests, is)
-
 agree : (kept found : ℕ) (later : Option Change) → unless_same kept found later ≡ None → (kept ≡ found) × (later ≡ None)
 agree kept found later none =
     let both = chosen_none (kept == found) later (record { kept = kept; found = found }) none in
-    (same_number kept found both.0, both.1)
+    (eqb-true kept found both.0, both.1)
 
 -- a codec has its number
 abbrev pub Numbered : Type 0

@@ -3,17 +3,18 @@ use Rattle.std.proofs.Common.{add-one, ◌≡◌, ℕ, suc, zero, ◌<◌, ◌�
 use Rattle.std.specs.Prelude.{◌⊎◌, Contains, AllPairs, flat_map}
 use Rattle.std.specs.List.{AllByRecursion, IsDistinct, list_any}
 use Rattle.std.specs.List.Sorted.{IsStrictlyIncreasing}
-use Rattle.std.proofs.lemmas.Bool.{cases_lt}
-use Rattle.std.proofs.lemmas.Bool.Decides.{nat_tests}
+use Rattle.std.proofs.lemmas.Bool.{cases_lt, ne_eqb}
 use Rattle.std.proofs.lemmas.List.Concat.{length-flat_map}
 use Rattle.std.proofs.lemmas.List.{get_or_default}
 use Rattle.std.proofs.lemmas.List.Elements.{All-head, All-tail, All-append, All-nil, Contains-append_cases}
 use Rattle.std.proofs.lemmas.Map.Keys.{IsDistinct-from_apart}
 use Rattle.std.proofs.lemmas.Map.Steps.{length-le_from_distinct_below}
 use Rattle.std.proofs.lemmas.Map.Views.{Contains-from_any}
+use borrow.Author.Tests.{eqb-true}
 use Rattle.jass_base.specs.Gaps.{AreDocs}
 use Rattle.index_model.specs.Index.{SegmentData, TermData, IsSegment, IsTerm, SharesNoDocument}
 use Rattle.index_layout.specs.View.{term_postings}
+use Rattle.shared_lemmas.proofs.Rising.{few_below}
 
 -- numbers that rise lie apart
 step_to : (docs : List ℕ) → IsStrictlyIncreasing docs → (j : ℕ) → suc j < length docs → slice_index docs j < slice_index docs (suc j)
@@ -27,12 +28,9 @@ far docs rising i (suc j) less inside = either (λ l. far docs rising i j l (ome
     either before (inl l) = omega (arith, before l, step_to docs rising j inside)
     either before (inr l) = subst (λ (n : ℕ). slice_index docs n < slice_index docs (suc j)) {x = j} (omega (arith, l, less)) (step_to docs rising j inside)
 
-unequal : (x y : ℕ) → (x ≡ y → ⊥) → nat_eq x y ≡ false
-unequal x y ne = grind (arith, nat_tests, ne)
-
 rising_distinct : (docs : List ℕ) → IsStrictlyIncreasing docs → IsDistinct nat_eq docs
 rising_distinct docs rising = IsDistinct-from_apart nat_eq docs
-    (λ i j d less inside. unequal (get_or docs i d) (get_or docs j d) (λ same. absurd (omega (arith, same, far docs rising i j less inside, get_or_default docs i d 0 (omega (arith, less, inside)), get_or_default docs j d 0 inside))))
+    (λ i j d less inside. ne_eqb (get_or docs i d) (get_or docs j d) (λ same. absurd (omega (arith, same, far docs rising i j less inside, get_or_default docs i d 0 (omega (arith, less, inside)), get_or_default docs j d 0 inside))))
 
 all_join : (P : ℕ → Type 0) (xs ys : List ℕ) → AllByRecursion P xs → AllByRecursion P ys → AllByRecursion P (xs ++ ys)
 all_join P [] ys one two = two
@@ -45,7 +43,7 @@ Apart xs ys = (x : ℕ) → Contains xs x → ¬ Contains ys x
 differ : (x : ℕ) (ys : List ℕ) → ¬ Contains ys x → AllByRecursion (λ y. nat_eq x y ≡ false) ys
 differ x [] none = tt
 differ x (y ∷ ys) none = (
-  unequal x y (λ same. none (0, omega arith, sym same)),
+  ne_eqb x y (λ same. none (0, omega arith, sym same)),
   differ x ys (λ has. none (suc has.0, (let e = has.1 in omega (arith, e)), has.2)),
 )
 
@@ -93,12 +91,9 @@ all_below : (d : ℕ) (segments : List SegmentData) → All (IsSegment d) segmen
 all_below d [] are = All-nil (Below d)
 all_below d (s ∷ segments) are = All-append (Below d) s.docs (flat_map docs_in segments) (All-head (IsSegment d) s segments are).docs.below (all_below d segments (All-tail (IsSegment d) s segments are))
 
-same_number : (x y : ℕ) → nat_eq x y ≡ true → x ≡ y
-same_number x y is = grind (arith, nat_tests, is)
-
 below_query : (d : ℕ) (docs : List ℕ) → All (Below d) docs → (q : ℕ) → list_any (nat_eq q) docs ≡ true → q < d
 below_query d docs below q found =
-    let has = Contains-from_any same_number q docs found in
+    let has = Contains-from_any eqb-true q docs found in
     subst (λ (n : ℕ). n < d) has.2 (below has.0 q has.1)
 
 -- a term has at most as many postings as the index has documents
@@ -108,13 +103,5 @@ term_few d t is =
     let few : length docs ≤ d = length-le_from_distinct_below docs d (all_distinct d t.segments is.segments is.once) (below_query d docs (all_below d t.segments is.segments)) in
     omega (arith, few, length-flat_map docs_in t.segments)
 
-place_below : (docs : List ℕ) (k : ℕ) → IsStrictlyIncreasing docs → k < length docs → k ≤ slice_index docs k
-place_below docs zero rising inside = omega arith
-place_below docs (suc k) rising inside = omega (arith, place_below docs k rising (omega arith), step_to docs rising k inside)
-
-below_few : (docs : List ℕ) (n : ℕ) → IsStrictlyIncreasing docs → All (Below n) docs → length docs ≤ n
-below_few [] n rising below = omega arith
-below_few (x ∷ xs) n rising below = omega (arith, place_below (x ∷ xs) (length xs) rising (omega arith), below (length xs) 0 (omega arith))
-
 pub docs_few : (d : ℕ) (docs : List ℕ) → AreDocs d docs → length docs ≤ 2 ^ 26
-docs_few d docs are = let limit = are.limit in omega (arith, limit, below_few docs d are.rising are.below)
+docs_few d docs are = let limit = are.limit in omega (arith, limit, few_below docs d are.rising are.below)

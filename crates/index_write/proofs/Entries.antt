@@ -1,6 +1,6 @@
 -- Terms with their heads, from one on.
-use Rattle.std.proofs.Common.{◌≡◌, ℕ, ◌+◌, ◌-◌, ◌*◌, ◌<◌, ◌≤◌, ◌^◌, List, [], ◌∷◌, ◌++◌, length, map, drop, get_or, All, ap, sym, subst, ◌∙◌, refl, arith, slice_index_or}
-use Rattle.std.specs.Prelude.{max, Option, Some, None, Bool, true, false, ◌==◌, cond, if◌then◌else◌}
+use Rattle.std.proofs.Common.{◌≡◌, ℕ, ◌+◌, ◌-◌, ◌*◌, ◌<◌, ◌≤◌, ◌^◌, List, [], ◌∷◌, ◌++◌, length, map, get_or, All, ap, sym, ◌∙◌, refl, arith, slice_index_or}
+use Rattle.std.specs.Prelude.{max}
 use Rattle.std.specs.List.{sum_by}
 use Rattle.std.proofs.lemmas.List.{length-append, length-drop, length-map, get_or-map}
 use Rattle.std.proofs.lemmas.List.Elements.{All-head, All-tail, All-cons}
@@ -8,12 +8,13 @@ use Rattle.std.proofs.lemmas.List.Sums.{sum_by-cons, sum_by-append}
 use Rattle.index_layout.specs.Bytes.{u32_bytes}
 use Rattle.index_layout.specs.Heads.{HeadData, all_heads, head_postings, payloads_size, greatest_of, greatest_impact}
 use Rattle.index_layout.specs.Heads.{TermHeads as EntryData}
-use Rattle.index_layout.specs.Layout.{names_bytes, head_bytes, heads_bytes, rest_behind, shared_with, term_bytes, terms_bytes}
+use Rattle.index_layout.specs.Layout.{heads_bytes, rest_behind, shared_with, term_bytes, terms_bytes}
+use Rattle.shared_lemmas.proofs.Lists.{All-unmap}
+use Rattle.index_layout.proofs.Greatest.{greatest_joins}
 use Rattle.index_write.specs.Chosen.{head_data}
-use Rattle.index_write.specs.Streaming.{AreEntries, AreNames, IsEntry, IsHead, entry_data, heads_left, no_entry}
-use Rattle.index_write.specs.declared.head.PayloadHead.{PayloadHead}
+use Rattle.index_write.specs.Streaming.{AreEntries, IsEntry, IsHead, entry_data, heads_left, no_entry}
 use Rattle.index_write.specs.declared.term_heads.TermHeads.{TermHeads}
-use Rattle.index_write.proofs.Bounds.{one_size, names_small}
+use Rattle.index_write.proofs.Bounds.{one_size}
 
 abbrev pub size_of : HeadData → ℕ
 size_of h = h.size
@@ -46,13 +47,6 @@ pub count_next : (t : TermHeads) (from rest : List TermHeads) → from ≡ t ∷
 count_next t from rest is =
     ap (λ ts. length (all_heads (map entry_data ts))) is ∙ length-append (map head_data t.heads) (all_heads (map entry_data rest))
     ∙ ap (λ n. n + length (all_heads (map entry_data rest))) (length-map t.heads head_data)
-
-max_joins : (a b c : ℕ) → max (max a b) c ≡ max a (max b c)
-max_joins a b c = omega arith
-
-greatest_joins : (heads more : List HeadData) → greatest_of (heads ++ more) ≡ max (greatest_of heads) (greatest_of more)
-greatest_joins [] more = omega arith
-greatest_joins (h ∷ heads) more = ap (max h.impact) (greatest_joins heads more) ∙ sym (max_joins h.impact (greatest_of heads) (greatest_of more))
 
 pub greatest_next : (t : TermHeads) (from rest : List TermHeads) → from ≡ t ∷ rest
     → greatest_impact (map entry_data from) ≡ max (greatest_of (map head_data t.heads)) (greatest_impact (map entry_data rest))
@@ -90,9 +84,6 @@ entries_small before (t ∷ entries) are =
     )
 
 -- a term has at most as many heads as all of them
-all_unmap : {X Y : Type 0} (P : Y → Type 0) (f : X → Y) (xs : List X) → All P (map f xs) → All (λ x. P (f x)) xs
-all_unmap P f xs are = λ i d inside. subst P (get_or-map f xs i d (f d) inside) (are i (f d) (omega (arith, inside, length-map xs f)))
-
 abbrev Few : ℕ → EntryData → Type 0
 Few n t = length t.heads ≤ n
 
@@ -105,10 +96,10 @@ heads_each entries are =
     let plain = map entry_data entries in
     let total = are.postings in
     let few = each_few plain (2 ^ 29) (omega (arith, total, heads_few plain are.each)) in
-    λ i t inside. (let e = all_unmap (Few (2 ^ 29)) entry_data entries few i t inside in omega (arith, e, length-map (get_or entries i t).heads head_data))
+    λ i t inside. (let e = All-unmap (Few (2 ^ 29)) entry_data entries few i t inside in omega (arith, e, length-map (get_or entries i t).heads head_data))
 
 pub terms_each : (entries : List TermHeads) → AreEntries (map entry_data entries) → All (λ (t : TermHeads). length t.term ≤ 65535) entries
-terms_each entries are = λ i t inside. (all_unmap IsEntry entry_data entries are.each i t inside).fits
+terms_each entries are = λ i t inside. (All-unmap IsEntry entry_data entries are.each i t inside).fits
 
 -- the heads of the first of so many terms at the end
 pub heads_there : (entries : List TermHeads) (left : ℕ) (t : TermHeads) → 1 ≤ left → left ≤ length entries → t ≡ slice_index_or entries (length entries - left) t

@@ -14,23 +14,21 @@ use Rattle.index_layout.specs.Bytes.{u32_bytes}
 use Rattle.index_layout.specs.Heads.{HeadData, TermHeads}
 use Rattle.index_layout.specs.Layout.{rest_behind, shared_with, term_bytes, heads_bytes, terms_bytes}
 use Rattle.index_layout.specs.View.{term_postings}
+use Rattle.shared_lemmas.proofs.Lists.{All-unmap}
 use Rattle.index_write.specs.Chosen.{head_data, chosen_head, chosen_heads, chosen_terms, chosen_payloads, table_of, table_payloads}
 use Rattle.index_write.specs.declared.head.PayloadHead.{PayloadHead}
 use Rattle.index_write.proofs.Bounds.{one_size, term_segments_few}
 
-all_unmap : {X Y : Type 0} (P : Y → Type 0) (f : X → Y) (xs : List X) → All P (map f xs) → All (λ x. P (f x)) xs
-all_unmap P f xs are = λ i d inside. subst P (get_or-map f xs i d (f d) inside) (are i (f d) (omega (arith, inside, length-map xs f)))
-
 pub segments_have_docs : (index : ImpactIndex) → IsIndex (index_data index) → All (λ (t : TermSegments). All (λ (s : Segment). AreDocs (length index.names) s.docs) t.segments) index.terms
 segments_have_docs index is =
     let d = length index.names in
-    let terms : All (λ (t : TermSegments). IsTerm d (term_data t)) index.terms = all_unmap (IsTerm d) term_data index.terms is.terms in
-    λ i t inside. λ j s within. (all_unmap (IsSegment d) segment_data (get_or index.terms i t).segments (terms i t inside).segments j s within).docs
+    let terms : All (λ (t : TermSegments). IsTerm d (term_data t)) index.terms = All-unmap (IsTerm d) term_data index.terms is.terms in
+    λ i t inside. λ j s within. (All-unmap (IsSegment d) segment_data (get_or index.terms i t).segments (terms i t inside).segments j s within).docs
 
 pub few_segments : (index : ImpactIndex) → IsIndex (index_data index) → All (λ (t : TermSegments). length t.segments ≤ 2 ^ 26) index.terms
 few_segments index is =
     let d = length index.names in
-    let terms : All (λ (t : TermSegments). IsTerm d (term_data t)) index.terms = all_unmap (IsTerm d) term_data index.terms is.terms in
+    let terms : All (λ (t : TermSegments). IsTerm d (term_data t)) index.terms = All-unmap (IsTerm d) term_data index.terms is.terms in
     let small = is.few_names in
     λ i t inside. (let e = term_segments_few d (term_data (get_or index.terms i t)) (terms i t inside) in omega (arith, e, small, length-map (get_or index.terms i t).segments segment_data))
 

@@ -1,15 +1,11 @@
 -- The text of an index by its chosen heads and payloads.
-use Rattle.std.proofs.Common.{◌≡◌, ℕ, ◌+◌, List, [], ◌∷◌, ◌++◌, length, map, ap, sym, ◌∙◌, refl, arith}
+use Rattle.std.proofs.Common.{◌≡◌, ℕ, ◌+◌, List, [], ◌∷◌, ◌++◌, length, map, ap, sym, ◌∙◌, refl}
 use Rattle.std.specs.Prelude.{flat_map, max}
 use Rattle.std.specs.List.{sum_by}
 use Rattle.std.proofs.lemmas.List.{length-append}
 use Rattle.std.proofs.lemmas.List.Sums.{sum_by-cons, sum_by-append}
-use Rattle.jass_base.specs.declared.segment.Segment.{Segment}
-use Rattle.jass_base.specs.declared.term_segments.TermSegments.{TermSegments}
-use Rattle.jass_base.specs.Terms as memory
 use Rattle.segment_codecs.specs.Codecs.{chosen_codec}
 use Rattle.index_model.specs.Index.{SegmentData, TermData, IndexData}
-use Rattle.index_model.specs.Views.{segment_data, term_data}
 use Rattle.index_layout.specs.Heads.{HeadData, TermHeads, heads_of, terms_heads, all_heads, greatest_of}
 use Rattle.index_layout.specs.Layout.{front_bytes, segments_payloads, terms_payloads}
 use Rattle.index_layout.specs.Totals.{greatest_in}
@@ -86,9 +82,6 @@ all_counted d (t ∷ terms) =
     ∙ ap (λ n. term_postings t + n) (all_counted d terms)
     ∙ sym (sum_by-cons term_postings t terms)
 
-max_joins : (a b c : ℕ) → max (max a b) c ≡ max a (max b c)
-max_joins a b c = omega arith
-
 greatest_heads : (d : ℕ) (segments : List SegmentData) (more : List HeadData) (rest : List SegmentData) → greatest_of more ≡ greatest_in rest → greatest_of (chosen_heads d segments ++ more) ≡ greatest_in (segments ++ rest)
 greatest_heads d [] more rest same = same
 greatest_heads d (s ∷ segments) more rest same = ap (max s.impact) (greatest_heads d segments more rest same)
@@ -96,12 +89,3 @@ greatest_heads d (s ∷ segments) more rest same = ap (max s.impact) (greatest_h
 pub greatest_chosen : (d : ℕ) (terms : List TermData) → greatest_of (table_of d terms) ≡ greatest_in (flat_map (λ (t : TermData). t.segments) terms)
 greatest_chosen d [] = refl
 greatest_chosen d (t ∷ terms) = greatest_heads d t.segments (table_of d terms) (flat_map (λ (t : TermData). t.segments) terms) (greatest_chosen d terms)
-
-greatest_more : (segments : List Segment) (rest : List SegmentData) → greatest_in (map segment_data segments ++ rest) ≡ max (memory.greatest_of segments) (greatest_in rest)
-greatest_more [] rest = omega arith
-greatest_more (s ∷ segments) rest = ap (max s.impact) (greatest_more segments rest) ∙ sym (max_joins s.impact (memory.greatest_of segments) (greatest_in rest))
-
-pub greatest_kept : (terms : List TermSegments) → greatest_in (flat_map (λ (t : TermData). t.segments) (map term_data terms)) ≡ memory.greatest_impact terms
-greatest_kept [] = refl
-greatest_kept (t ∷ terms) =
-    greatest_more t.segments (flat_map (λ (t : TermData). t.segments) (map term_data terms)) ∙ ap (max (memory.greatest_of t.segments)) (greatest_kept terms)

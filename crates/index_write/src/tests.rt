@@ -18,7 +18,7 @@ use jass_base::{
 use segment_codecs::Codec;
 use std::alloc::Global;
 
-// Three documents with the term `a` at the impacts 9, 5 and 1.
+/// Three documents with the term `a` at the impacts 9, 5 and 1.
 const SMALL: [u8; 103] = [
     74, 65, 83, 83, 73, 68, 88, 50, 103, 0, 0, 0, 0, 0, 0, 0, 3, 0, 0, 0, 1, 0, 0, 0, 3, 0, 0, 0,
     0, 0, 0, 0, 9, 0, 0, 0, 0, 0, 0, 0, 2, 0, 0, 0, 100, 48, 2, 0, 0, 0, 100, 49, 2, 0, 0, 0, 100,
@@ -26,7 +26,7 @@ const SMALL: [u8; 103] = [
     0, 1, 0, 1, 0, 0, 0, 0, 1, 0, 0, 0, 0, 1, 2,
 ];
 
-// What stands behind the names where the terms are `car` and `cat`.
+/// What stands behind the names where the terms are `car` and `cat`.
 const CAR_CAT: [u8; 44] = [
     0, 0, 3, 0, 99, 97, 114, 1, 0, 0, 0, 1, 0, 1, 0, 0, 0, 0, 1, 0, 0, 0, 2, 0, 1, 0, 116, 1, 0, 0,
     0, 1, 0, 1, 0, 0, 0, 0, 1, 0, 0, 0, 0, 0,
@@ -103,7 +103,7 @@ fn other_segments_are_refused(rt: HostRuntime) {
     assert!(&rt; refuses_one_segment(rt.alloc(), wanted).is_ok_and(|same| same));
 }
 
-// Whether the bytes of an index, from a place on, are these.
+/// Whether the bytes of an index, from a place on, are these.
 fn is_spelled(alloc: Global, index: &ImpactIndex, from: usize, wanted: &[u8]) -> bool {
     match index_bytes(alloc, index) {
         Ok(bytes) => {
@@ -115,7 +115,7 @@ fn is_spelled(alloc: Global, index: &ImpactIndex, from: usize, wanted: &[u8]) ->
     }
 }
 
-// Whether a file that is written over an older one is answered and left so, where these calls fail.
+/// Whether a file that is written over an older one is answered and left so, where these calls fail.
 fn leaves(
     alloc: Global,
     bad: &[u64],
@@ -131,7 +131,7 @@ fn leaves(
     Ok(written == answer && files.content("i") == Some(content))
 }
 
-// The same for a file that is written term by term, with the totals at its end.
+/// The same for a file that is written term by term, with the totals at its end.
 fn streams(
     alloc: Global,
     bad: &[u64],
@@ -147,7 +147,7 @@ fn streams(
     Ok(written == answer && files.content("i") == Some(content))
 }
 
-// Whether one segment on three heads is answered so, and the file left with its front.
+/// Whether one segment on three heads is answered so, and the file left with its front.
 fn refuses_one_segment(alloc: Global, answer: Result<Totals, TermFault>) -> Result<bool, NoMemory> {
     let mut files = MemCabinet::new(alloc, Row::new(alloc), Row::new(alloc));
     let segments = one(alloc)?;
@@ -155,7 +155,7 @@ fn refuses_one_segment(alloc: Global, answer: Result<Totals, TermFault>) -> Resu
     Ok(written == answer && files.content("i") == Some(&SMALL[..100]))
 }
 
-// Writes the file of the three names and the term `a` with the heads at 9, 5 and 1.
+/// Writes the file of the three names and the term `a` with the heads at 9, 5 and 1.
 fn streamed(
     alloc: Global,
     segments: &[Segment],
@@ -173,7 +173,7 @@ fn streamed(
     Ok(writer.finish())
 }
 
-// Writes what stands before the payloads.
+/// Writes what stands before the payloads.
 fn begun(alloc: Global, files: &mut MemCabinet) -> Result<IndexWriter, SaveFault>
     ensures docs { IfOk result (λ writer. writer.docs ≡ 3) }
     ensures left { IfOk result (λ writer. writer.left ≡ 1) }
@@ -184,7 +184,7 @@ fn begun(alloc: Global, files: &mut MemCabinet) -> Result<IndexWriter, SaveFault
     }
 }
 
-// The three names, and the term `a` with its heads.
+/// The three names, and the term `a` with its heads.
 fn kept(alloc: Global) -> Result<(Row<Text>, Row<TermHeads>), NoMemory>
     ensures names { IfOk result (λ x. AreNames x.0) }
     ensures docs { IfOk result (λ x. length x.0 ≡ 3) }
@@ -215,7 +215,7 @@ fn small_heads(alloc: Global) -> Result<Row<PayloadHead>, NoMemory> {
     payload_heads(alloc, segments.as_slice(), 3)
 }
 
-// The head of a segment of one document below 128.
+/// The head of a segment of one document below 128.
 fn head(impact: u16) -> PayloadHead
     ensures impact { result.impact ≡ impact }
     ensures count { result.count ≡ 1 }
@@ -261,7 +261,7 @@ fn car_and_cat(alloc: Global) -> Result<ImpactIndex, NoMemory> {
     })
 }
 
-// Two terms that rise.
+/// Two terms that rise.
 fn both(
     alloc: Global,
     first: TermSegments,
@@ -315,7 +315,7 @@ fn term(alloc: Global, bytes: &str, segments: Row<Segment>) -> Result<TermSegmen
     Ok(TermSegments { term, segments })
 }
 
-// A segment of one document.
+/// A segment of one document.
 fn segment(alloc: Global, impact: u16, doc: u32) -> Result<Segment, NoMemory>
     requires { 1 ≤ impact }
     ensures impact { IfOk result (λ segment. segment.impact ≡ impact) }

@@ -1,15 +1,15 @@
--- A gap that is read or written group by group.
-use Rattle.std.proofs.Common.{◌≡◌, ℕ, zero, suc, ◌+◌, ◌-◌, ◌*◌, ◌/◌, ◌%◌, ◌^◌, ◌<◌, ◌≤◌, ◌≢◌, ◌==◌, true, false, cond, List, [], ◌∷◌, ◌++◌, length, get_or, take, drop, Result, Ok, Err, refl, sym, ap, ◌∙◌, subst, inl, inr, arith, add-one, drop-cons, set, append_assoc}
+-- A gap that is read group by group.
+use Rattle.std.proofs.Common.{◌≡◌, ℕ, zero, suc, ◌+◌, ◌-◌, ◌*◌, ◌%◌, ◌^◌, ◌<◌, ◌≤◌, ◌≢◌, ◌==◌, true, false, cond, List, [], ◌∷◌, length, get_or, drop, Result, Ok, Err, refl, sym, ap, ◌∙◌, subst, inl, inr, arith, add-one, drop-cons}
 use Rattle.std.specs.Prelude.{nat_lt, IsOk}
 use Rattle.std.proofs.lemmas.Bool.{cases_lt, cond-false}
 use Rattle.std.proofs.lemmas.Bool.Decides.{nat_tests}
-use Rattle.std.proofs.lemmas.List.{drop_all, take_more_set, length-set, length-drop, get_or-drop}
+use Rattle.std.proofs.lemmas.List.{drop_all, length-drop, get_or-drop}
 use Rattle.std.proofs.Math.Nat.{pow-suc, pow-le-pow_right}
 use Rattle.shared_lemmas.proofs.Numbers.{value_small}
 use Rattle.jass_base.specs.declared.payload_fault.PayloadFault.{PayloadFault}
 use Rattle.jass_base.specs.declared.payload_fault.PayloadFault.TheVariants.{Cut, Shape}
 use Rattle.jass_base.specs.Gaps.{GapSpelling, ◌>>=◌, gap_within, gap_in}
-use Rattle.jass_base.specs.Wire.{short_varint, short_varint_within}
+use Rattle.jass_base.specs.Wire.{short_varint}
 use Rattle.jass_base.proofs.GapSpelling.{spelled, with_first}
 
 -- what is read where lower groups have this value, at this scale, in so many bytes
@@ -121,37 +121,7 @@ pub no_byte : (bytes : List ℕ) (at : ℕ) → length bytes ≤ at → gap_in (
 unfolding gap_in
 no_byte bytes at past = rw (drop_all at bytes past) refl
 
--- the groups that are written, and those that are left
-pub record Written (gap size rest : ℕ) (spelling : List ℕ) : Type 0 where
-  pub groups : short_varint gap ≡ take size spelling ++ short_varint_within (9 - size) rest
-  pub fits : rest < 128 ^ (5 - size)
-  pub few : size ≤ 4
-  pub whole : length spelling ≡ 5
-
-pub none_written : (gap : ℕ) (spelling : List ℕ) → gap < 2 ^ 32 → length spelling ≡ 5 → Written gap 0 gap spelling
-unfolding short_varint
-none_written gap spelling small five = record { groups = refl; fits = omega arith; few = omega arith; whole = five }
-
-not_last : (size rest : ℕ) → size ≤ 4 → 128 ≤ rest → rest < 128 ^ (5 - size) → size ≢ 4
-not_last size rest few high fits is = absurd (let one : 128 ^ (5 - size) ≡ 128 = ap (λ n. 128 ^ (5 - n)) is in omega arith)
-
-pub more_written : (gap size rest : ℕ) (spelling : List ℕ) → Written gap size rest spelling → 128 ≤ rest → Written gap (size + 1) (rest / 128) (set spelling size (rest % 128 + 128))
-more_written gap size rest spelling far high =
-    let five = far.whole in
-    let few = far.few in
-    let last = not_last size rest few high far.fits in
-    let large : nat_lt rest 128 ≡ false = grind (arith, nat_tests) in
-    let left : 9 - size ≡ suc (9 - (size + 1)) = omega arith in
-    let power : 5 - size ≡ suc (5 - (size + 1)) = omega arith in
-    let fits : rest < 128 ^ suc (5 - (size + 1)) = subst (λ n. rest < 128 ^ n) power far.fits in
-    record {
-      groups = far.groups ∙ rw (left, large) (sym (ap (λ (s : List ℕ). s ++ short_varint_within (9 - (size + 1)) (rest / 128)) (take_more_set spelling size (rest % 128 + 128) (omega arith))
-          ∙ append_assoc (take size spelling) ((rest % 128 + 128) ∷ []) (short_varint_within (9 - (size + 1)) (rest / 128))));
-      fits = omega (arith, fits, pow-suc 128 (5 - (size + 1)));
-      few = omega arith;
-      whole = length-set spelling size (rest % 128 + 128) ∙ five;
-    }
-
+-- a gap of one group is its varint
 pub one_group_written : (gap : ℕ) → gap < 128 → short_varint gap ≡ gap ∷ []
 unfolding short_varint
 one_group_written gap small =

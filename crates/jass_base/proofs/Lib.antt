@@ -2,9 +2,11 @@ pub mod Accepting
 pub mod ByteOrder
 pub mod DecimalLemmas
 pub mod FilesOf
+pub mod GapBytes
 pub mod GapGroups
 pub mod GapLists
 pub mod GapSpelling
 pub mod Gaps
 pub mod ShortVarints
 pub mod Sinks
+pub mod Writing

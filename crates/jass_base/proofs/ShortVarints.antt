@@ -1,9 +1,9 @@
 -- The shortest varint of a number.
-use Rattle.std.proofs.Common.{◌≡◌, ℕ, zero, suc, ◌+◌, ◌*◌, ◌^◌, ◌%◌, ◌/◌, ◌<◌, ◌≤◌, ◌≢◌, Bool, true, false, cond, List, [], ◌∷◌, ◌++◌, length, All, refl, sym, ap, subst, ◌∙◌, arith}
+use Rattle.std.proofs.Common.{◌≡◌, ℕ, zero, suc, ◌+◌, ◌*◌, ◌^◌, ◌%◌, ◌/◌, ◌<◌, ◌≤◌, ◌≢◌, Bool, true, false, cond, List, [], ◌∷◌, length, All, refl, ap, ◌∙◌, arith}
 use Rattle.std.specs.Prelude.{nat_lt}
 use Rattle.std.proofs.Math.Nat.{pow-suc}
 use Rattle.std.proofs.lemmas.Bool.Decides.{nat_tests}
-use Rattle.jass_base.specs.Wire.{groups_value, AreGroups, EndsInBits, IsVarint, IsShortVarint, short_varint_within, short_varint}
+use Rattle.jass_base.specs.Wire.{groups_value, AreGroups, EndsInBits, IsShortVarint, short_varint_within, short_varint}
 
 -- what is proved of so many groups of a number
 record Spelled (most n : ℕ) (s : List ℕ) : Type 0 where

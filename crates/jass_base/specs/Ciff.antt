@@ -7,6 +7,7 @@ use Rattle.jass_base.specs.declared.posting.Posting.{Posting}
 use Rattle.jass_base.specs.Limits.{IsName}
 use Rattle.jass_base.specs.Postings.{docs_of, HasTfInRange}
 use Rattle.jass_base.specs.Wire.{WireField, Spells, IsSized, AreFields, number_field, text_field, eight_field, texts_field}
+use Rattle.jass_base.specs.declared.limits.TheConstants.{MOST_DOCUMENTS, MOST_POSTINGS, MOST_TERMS}
 
 -- ---- plain data
 
@@ -53,8 +54,8 @@ pub record FitsHeader (h : HeaderData) (lists docs : ℕ) : Type 0 where
   pub total_docs : h.total_docs < 2 ^ 31
   pub total_terms : h.total_terms < 2 ^ 63
   pub description : IsUtf8 h.description
-  pub few_lists : lists ≤ 2 ^ 24
-  pub few_docs : docs ≤ 2 ^ 26
+  pub few_lists : lists ≤ MOST_TERMS
+  pub few_docs : docs ≤ MOST_DOCUMENTS
 
 -- the body of a header
 pub record IsHeader (body : List ℕ) (h : HeaderData) (lists docs : ℕ) : Type 0 where
@@ -121,7 +122,7 @@ pub record IsDocAmong (docs : List DocData) (body : List ℕ) (number : ℕ) : T
   pub spelled : IsDoc body number doc
 
 -- the records of all documents, in whatever order
-pub record AreDocs (docs : List DocData) (bodies : List (List ℕ)) : Type 0 where
+pub record AreRecords (docs : List DocData) (bodies : List (List ℕ)) : Type 0 where
   pub numbers : List ℕ
   pub each : AllZip (IsDocAmong docs) bodies numbers
   pub differ : IsDistinct nat_eq numbers
@@ -141,7 +142,7 @@ pub record IsCiff (bytes : List ℕ) (c : CollectionData) : Type 0 where
   pub messages : Spells IsSized bytes (header_body ∷ list_bodies ++ doc_bodies)
   pub header : IsHeader header_body c.header (length c.lists) (length c.docs)
   pub lists : AllZip (IsList (length c.docs)) list_bodies c.lists
-  pub docs : AreDocs c.docs doc_bodies
+  pub docs : AreRecords c.docs doc_bodies
   pub terms_differ : IsDistinct bytes_eq (map (λ (l : ListData). l.term) c.lists)
-  pub few_postings : postings_count c.lists ≤ 2 ^ 29
+  pub few_postings : postings_count c.lists ≤ MOST_POSTINGS
   pub short : length bytes ≤ 2 ^ 32

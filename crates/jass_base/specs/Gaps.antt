@@ -1,17 +1,18 @@
 -- The documents of a segment as gaps, and a gap as its shortest varint.
-use Rattle.std.specs.Prelude.{ℕ, zero, suc, ◌≡◌, ◌↔◌, ◌<◌, ◌≤◌, ◌+◌, ◌-◌, ◌*◌, ◌%◌, ◌^◌, ◌==◌, List, [], ◌∷◌, length, drop, All, nat_lt, if◌then◌else◌, Result, Ok, Err, IsOk}
+use Rattle.std.specs.Prelude.{ℕ, zero, suc, ◌≡◌, ◌↔◌, ◌<◌, ◌≤◌, ◌+◌, ◌-◌, ◌*◌, ◌%◌, ◌==◌, List, [], ◌∷◌, length, drop, All, nat_lt, if◌then◌else◌, Result, Ok, Err, IsOk}
 use Rattle.std.specs.List.{flat_map}
 use Rattle.std.specs.List.Sorted.{IsStrictlyIncreasing}
 use Rattle.jass_base.specs.Wire.{short_varint}
 use Rattle.jass_base.specs.declared.payload_fault.PayloadFault.{PayloadFault}
 use Rattle.jass_base.specs.declared.payload_fault.PayloadFault.TheVariants.{Cut, Longer, Shape, DocRange}
+use Rattle.jass_base.specs.declared.limits.TheConstants.{MOST_DOCUMENTS}
 
 -- the documents of a segment, in an index of d documents
 pub record AreDocs (d : ℕ) (docs : List ℕ) : Type 0 where
   pub some : 0 < length docs
   pub rising : IsStrictlyIncreasing docs
   pub below : All (λ doc. doc < d) docs
-  pub limit : d ≤ 2 ^ 26
+  pub limit : d ≤ MOST_DOCUMENTS
 
 -- how far each document is above the least that it may be: `least` at first, then one above the document before it
 abbrev pub gaps_from : ℕ → List ℕ → List ℕ

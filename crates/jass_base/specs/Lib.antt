@@ -1,6 +1,7 @@
 pub mod Ciff
 pub mod CiffText
 pub mod CiffViews
+pub mod Codecs
 pub mod Decimal
 pub mod FilesOf
 pub mod Gaps

@@ -1,5 +1,5 @@
 -- Which calls of an outside in memory fail. This project's.
-use Rattle.std.specs.Prelude.{ℕ, ◌+◌, ◌-◌, ◌^◌, min, List, [], Contains}
+use Rattle.std.specs.Prelude.{ℕ, ◌+◌, ◌-◌, ◌^◌, min, List, Contains}
 
 -- the calls that fail, counted from 0, and how many calls there were, up to the last value of a counter
 pub record Script : Type 0 where

@@ -20,3 +20,11 @@ pub struct WriteFault;
 #[derive(Debug, Drop, Error)]
 #[error("failed")]
 pub struct Failed;
+
+/// Why bytes of a file were not read.
+#[derive(Clone, Copy, Debug, PartialEq, Eq)]
+pub enum ReadStop {
+    /// A read failed, or the name is missing.
+    ReadFault,
+    NoMemory,
+}

@@ -6,37 +6,70 @@ use crate::faults::NoMemory;
 use crate::payload_fault::PayloadFault;
 use crate::row::Row;
 
-/// Appends the shortest varint of a gap, or nothing where memory is refused.
+/// How many bytes the shortest varint of a gap has.
 #[inline]
+pub fn gap_length(gap: u32) -> u64
+    ensures is { result ≡ length (short_varint gap) }
+    ensures most { result ≤ 5 }
+    ensures few { gap < 2 ^ 28 → result ≤ 4 }
+{
+    if gap < 1 << 7 {
+        1
+    } else if gap < 1 << 14 {
+        2
+    } else if gap < 1 << 21 {
+        3
+    } else if gap < 1 << 28 {
+        4
+    } else {
+        5
+    }
+}
+
+/// Appends the shortest varint of a gap, or nothing where memory is refused.
+/// Four bytes are appended, and those too many cut off, so that nothing branches on a size that can't be foreseen.
+#[inline(always)]
 pub fn put_gap(gap: u32, out: &mut Row<u8>) -> Result<(), NoMemory>
     ensures ok { OnOk result (out.new ≡ out.old ++ short_varint gap) }
     ensures err { OnErr result (out.new ≡ out.old) }
 {
-    if gap < 128 {
-        return match out.push(gap as u8) {
-            Ok(()) => Ok(()),
-            Err((_, refused)) => Err(refused),
-        };
+    if gap >= 1 << 28 {
+        return put_five(gap, out);
     }
-    let mut spelling = [0u8; 5];
-    let size = spell_gap(gap, &mut spelling);
-    out.extend(&spelling[..size])
+    out.extend(&spelled(gap))?;
+    out.truncate(out.len() - (4 - gap_length(gap) as usize));
+    Ok(())
 }
 
-// Writes the shortest varint to the front of `spelling`, and returns how many bytes it has.
-fn spell_gap(gap: u32, spelling: &mut [u8; 5]) -> usize
-    ensures most { result ≤ 5 }
-    ensures bytes { take result spelling.new ≡ short_varint gap }
+/// The same for five bytes, which no gap of documents has.
+#[inline(never)]
+fn put_five(gap: u32, out: &mut Row<u8>) -> Result<(), NoMemory>
+    requires { 2 ^ 28 ≤ gap }
+    ensures ok { OnOk result (out.new ≡ out.old ++ short_varint gap) }
+    ensures err { OnErr result (out.new ≡ out.old) }
 {
-    let mut size = 0;
-    let mut rest = gap;
-    while rest >= 128 {
-        spelling[size] = (rest % 128 + 128) as u8;
-        rest /= 128;
-        size += 1;
-    }
-    spelling[size] = rest as u8;
-    size + 1
+    out.extend(&[
+        (gap % 128) as u8 + 128,
+        (gap / 128 % 128) as u8 + 128,
+        (gap / 16_384 % 128) as u8 + 128,
+        (gap / 2_097_152 % 128) as u8 + 128,
+        (gap / 268_435_456) as u8,
+    ])?;
+    Ok(())
+}
+
+/// Four bytes that begin with the shortest varint of a gap.
+#[inline(always)]
+fn spelled(gap: u32) -> [u8; 4]
+    requires { gap < 2 ^ 28 }
+    ensures { take (length (short_varint gap)) result ≡ short_varint gap }
+{
+    [
+        (gap % 128) as u8 + 128 * u8::from(gap >= 1 << 7),
+        (gap / 128 % 128) as u8 + 128 * u8::from(gap >= 1 << 14),
+        (gap / 16_384 % 128) as u8 + 128 * u8::from(gap >= 1 << 21),
+        (gap / 2_097_152) as u8,
+    ]
 }
 
 /// Reads the gap at a place, a shortest varint of at most four bytes, so that it is below
@@ -63,7 +96,7 @@ pub fn read_gap(bytes: &[u8], at: usize) -> Result<(u32, usize), PayloadFault>
     read_groups(bytes, at)
 }
 
-// Reads a gap of at least two groups of 7 bits.
+/// Reads a gap of at least two groups of 7 bits.
 #[inline(always)]
 fn read_groups(bytes: &[u8], at: usize) -> Result<(u32, usize), PayloadFault>
     requires within { at < length bytes.now }

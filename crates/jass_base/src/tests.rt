@@ -50,7 +50,9 @@ fn gaps_are_spelled(rt: HostRuntime) {
     let mut row = Row::new(rt.alloc());
     assert!(&rt; put_gap(0, &mut row).is_ok());
     assert!(&rt; put_gap(67_108_735, &mut row).is_ok());
-    assert!(&rt; row.as_slice() == [0x00, 0xff, 0xfe, 0xff, 0x1f].as_slice());
+    assert!(&rt; put_gap(u32::MAX, &mut row).is_ok());
+    let bytes = [0x00, 0xff, 0xfe, 0xff, 0x1f, 0xff, 0xff, 0xff, 0xff, 0x0f];
+    assert!(&rt; row.as_slice() == bytes.as_slice());
 }
 
 #[test]

@@ -17,7 +17,7 @@ use Rattle.session_engine.specs.declared.session.Session.{Session}
 use Rattle.jass_top.specs.Answers.{OnceQuery, once_prefix, once_query, once_steps, once_text}
 use Rattle.jass_top.specs.Meanings.{Output}
 use Rattle.jass_top.specs.OnceMeaning.{asking_meaning}
-use Rattle.jass_top.specs.OnceTexts.{session_text}
+use Rattle.jass_top.specs.Private.OnceTexts.{session_text}
 use Rattle.jass_top.specs.SearchMeaning.{IsSearchReport}
 use Rattle.jass_top.specs.Standing.{Had}
 use Rattle.jass_top.proofs.JudgedFiles.{fits}
@@ -37,7 +37,7 @@ module _ (file : FileView) (query : OnceQuery) (opened s : Session) (pool : Pool
   at : prefix_of s ≡ once_prefix file.index query
   unfolding session_plan
   at = stands.prefix
-      ∙ (λ i. prefix_within ((granted ∙ granted_more (query.budget ∷ []) 0 query.budget (omega arith)) i) (plan_of (length file.index.names) (numbered_flat file.index) (same i).terms).classes)
+      ∙ (λ i. prefix_within ((granted ∙ granted_more (query.budget ∷ []) 0 query.budget (omega arith)) i) (plan_of (length file.index.names) (numbered_flat file.index) (same i).terms).segments)
 
   text_is : session_text file s ≡ once_text file.index query (report_of s)
   unfolding session_plan
@@ -47,7 +47,7 @@ module _ (file : FileView) (query : OnceQuery) (opened s : Session) (pool : Pool
   steps_are : (report_of s).postings ≡ once_steps file.index query
   unfolding session_plan
   steps_are = ap (λ r. r.postings) stands.report
-      ∙ (λ i. size_of_first (at i) (plan_of (length file.index.names) (numbered_flat file.index) (same i).terms).classes)
+      ∙ (λ i. size_of_first (at i) (plan_of (length file.index.names) (numbered_flat file.index) (same i).terms).segments)
 
   report_is : IsReport (prefix_of s) (plan_over file s) (k_of s) (report_of s)
       → IsPromised (weighted_postings (numbered_flat file.index) (terms_of s)) (prefix_of s) (plan_over file s) (k_of s) (report_of s)

@@ -1,6 +1,6 @@
 -- Inputs that are judged one behind the other.
 use Rattle.std.proofs.Common.{◌≡◌, ◌≤◌, ℕ, List, [], ◌∷◌, ap, ◌∙◌, inl, inr}
-use Rattle.jass_base.specs.Writing.{Rose-earlier}
+use Rattle.jass_base.proofs.Writing.{Rose-earlier}
 use Rattle.jass_top.specs.declared.stop.Stop.{Stop}
 use Rattle.jass_top.specs.declared.stop.Stop.TheVariants as stops
 use Rattle.jass_top.specs.Causes.{IsOneOf, Unheld, Unread}

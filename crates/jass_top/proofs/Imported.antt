@@ -5,7 +5,7 @@ use Rattle.std.specs.FinMap.{get}
 use Rattle.std.specs.Io.KnownBytes.{Appends}
 use Rattle.jass_base.specs.Ciff.{CollectionData}
 use Rattle.jass_base.specs.Outside.{Files, OnContent, IsMissing, Rose, Sets}
-use Rattle.jass_base.specs.Writing.{Appends-none}
+use Rattle.jass_base.proofs.Writing.{Appends-none}
 use Rattle.ciff_read.specs.declared.refusal.CiffRefusal.{CiffRefusal}
 use Rattle.ciff_read.specs.Reading.{read_ciff}
 use Rattle.ciff_read.specs.Refusals.{number_of}

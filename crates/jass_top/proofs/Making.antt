@@ -1,7 +1,7 @@
 -- How a command runs that makes an index of its input, from how it runs on the index that was made.
 use Rattle.std.proofs.Common.{◌≡◌, ◌≢◌, ◌≤◌, ◌+◌, ◌^◌, ℕ, List, length, Bool, true, false, nat_le, Option, Result, Ok, Err, subst, ◌∙◌, inl, inr, if◌then◌else◌}
 use Rattle.jass_base.specs.Outside.{Files, Rose}
-use Rattle.jass_base.specs.Writing.{Rose-earlier}
+use Rattle.jass_base.proofs.Writing.{Rose-earlier}
 use Rattle.index_model.specs.Index.{IndexData}
 use Rattle.index_layout.specs.View.{index_text}
 use Rattle.jass_top.specs.declared.stop.Stop.{Stop}

@@ -1,8 +1,8 @@
 -- A file that was created and then written through a sink.
 use Rattle.std.proofs.Common.{◌≤◌, ℕ, List, [], Option, Result, Ok, Err, arith}
 use Rattle.jass_base.specs.Outside.{Files, Sets}
-use Rattle.jass_base.specs.Writing.{Rose-earlier}
-use Rattle.jass_top.specs.RunFiles.{WroteFile, WroteBehind}
+use Rattle.jass_base.proofs.Writing.{Rose-earlier}
+use Rattle.jass_top.specs.Private.RunFiles.{WroteFile, WroteBehind}
 use Rattle.jass_top.proofs.MadeFiles.{written, written_part}
 
 pub wrote_file : {S T E : Type 0} {told : S → Option Files} {faults : S → ℕ} {mine : E} (old mid new : S) (name text : List ℕ) (result : Result T E) → Sets (told old) (told mid) name [] → faults old ≤ faults mid

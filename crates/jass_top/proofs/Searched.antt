@@ -6,7 +6,7 @@ use Rattle.std.proofs.lemmas.List.{length-map}
 use Rattle.std.proofs.lemmas.List.Folds.{flat_map-map}
 use Rattle.jass_base.specs.declared.answer.Budget.{Budget}
 use Rattle.jass_base.specs.declared.answer.Report.{Report}
-use Rattle.jass_base.specs.declared.named.Named.{Named}
+use Rattle.jass_base.specs.declared.query_term.QueryTerm.{QueryTerm}
 use Rattle.jass_base.specs.Outside.{Files}
 use Rattle.jass_base.specs.Writing.{AppendsPrefix}
 use Rattle.ranking_model.specs.declared.entry.Entry.{Entry}
@@ -21,7 +21,6 @@ use Rattle.ranking_model.specs.Search.{QueryData, first_part, prefixes_granted, 
 use Rattle.ranking_model.specs.Search as model
 use Rattle.final_certificate.specs.Rule.{report_by}
 use Rattle.index_model.specs.Flat.{numbered_flat}
-use Rattle.index_model.specs.Index.{IndexData, IsIndex}
 use Rattle.index_layout.specs.View.{FileView, IsFileView}
 use Rattle.query_reader.specs.declared.mode.Mode.{Mode}
 use Rattle.session_engine.specs.Plans.{session_plan}
@@ -35,16 +34,12 @@ use Rattle.jass_top.proofs.Turns.{ForEach}
 
 -- the law of what reports promise
 abbrev pub KeepPromises : Type 0
-KeepPromises = (docs n k : ℕ) (flat : List (Entry ℕ)) (terms : List Named) (report : Report) → IsFlat nat_cmp docs flat
+KeepPromises = (docs n k : ℕ) (flat : List (Entry ℕ)) (terms : List QueryTerm) (report : Report) → IsFlat nat_cmp docs flat
     → IsReport n (plan_of docs flat terms) k report → IsPromised (weighted_postings flat terms) n (plan_of docs flat terms) k report
 
 -- the law of reports by the rule
 abbrev pub GiveReports : Type 0
 GiveReports = (n k : ℕ) (plan : QueryPlan) → IsReport n plan k (report_by n plan k)
-
--- the law of flat lists
-abbrev pub AreFlat : Type 0
-AreFlat = (index : IndexData) → IsIndex index → IsFlat nat_cmp (length index.names) (numbered_flat index)
 
 -- ---- the run
 

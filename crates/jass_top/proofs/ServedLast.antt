@@ -1,7 +1,7 @@
 -- The line behind the last LF of an input.
 use Rattle.std.proofs.Common.{◌≡◌, ◌≢◌, ℕ, ◌+◌, ◌<◌, Bool, true, false, List, [], ◌∷◌, ◌++◌, length, Option, Result, Ok, Err, refl, sym, ap, subst, ◌∙◌, append-nil, inl, inr, arith}
 use Rattle.std.specs.Prelude.{All, IfErr, ◌⊎◌, ◌&&◌, not, nat_eq}
-use Rattle.jass_base.specs.Writing.{Appends-none}
+use Rattle.jass_base.proofs.Writing.{Appends-none}
 use Rattle.std.specs.Str.Lines.{strip_carriage_return}
 use Rattle.std.proofs.lemmas.Bool.Decides.{nat_tests}
 use Rattle.jass_base.specs.Outside.{Rest, Wrote}
@@ -15,11 +15,11 @@ use Rattle.session_desk.specs.Lines.{is_end, read_desk_line}
 use Rattle.session_desk.specs.Replies.{desk_after, desk_reply, desk_steps}
 use Rattle.session_desk.specs.State.{DeskState}
 use Rattle.session_desk.specs.Turns.{desk_postings, desk_replies, steps_from}
-use Rattle.trec_run.specs.Gathering.{Gathers}
+use Rattle.gathered_text.specs.Gathering.{Gathers}
 use Rattle.jass_top.specs.declared.serve_stop.ServeStop.{ServeStop}
 use Rattle.jass_top.specs.declared.serve_stop.ServeStop.TheVariants as stops
-use Rattle.jass_top.specs.Serving.{AnswersLast, IsWhole, IsFrontAt, Leads, given_line, text_from}
-use Rattle.jass_top.specs.Sides.{Side}
+use Rattle.jass_top.specs.Private.Serving.{AnswersLast, IsWhole, IsFrontAt, Leads, given_line, text_from}
+use Rattle.jass_top.specs.Private.Sides.{Side}
 use Rattle.jass_top.proofs.Sides.{side_ok, side_err, side_none}
 use Rattle.jass_top.proofs.Serving.{Loses, given_as, replies_ended, replies_given, replies_none, side_flushed, side_unflushed, steps_ended, steps_given, steps_none}
 

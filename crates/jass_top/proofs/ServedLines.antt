@@ -7,7 +7,8 @@ use Rattle.std.proofs.KnownBytes.{Consumes-trans, Consumes-kept, Consumes-nil}
 use Rattle.std.proofs.lemmas.List.{length-append}
 use Rattle.std.proofs.Math.Seq.{take-append-add, take-append_seam}
 use Rattle.jass_base.specs.Outside.{Rest}
-use Rattle.jass_base.specs.Writing.{AppendsPrefix, AppendsPrefix-longer}
+use Rattle.jass_base.specs.Writing.{AppendsPrefix}
+use Rattle.jass_base.proofs.Writing.{AppendsPrefix-longer}
 use Rattle.jass_base.specs.declared.faults.WriteFault.{WriteFault}
 use Rattle.index_layout.specs.View.{FileView}
 use Rattle.text_lines.specs.Lines.{lines_of}
@@ -19,8 +20,8 @@ use Rattle.session_desk.specs.Turns.{desk_postings, desk_replies, steps_from}
 use Rattle.jass_top.specs.declared.serve_stop.ServeStop.{ServeStop}
 use Rattle.jass_top.specs.declared.serve_stop.ServeStop.TheVariants as stops
 use Rattle.jass_top.specs.ServeMeaning.{IsInput, has_end}
-use Rattle.jass_top.specs.Serving.{Answers, AnswersLast, Finished, IsFront, IsFrontAt, IsWhole, Leads, Moves, Served, Standing, text_from}
-use Rattle.jass_top.specs.Sides.{Side}
+use Rattle.jass_top.specs.Private.Serving.{AnswersLines, AnswersLast, Finished, IsFront, IsFrontAt, IsWhole, Leads, Moves, Served, Standing, text_from}
+use Rattle.jass_top.specs.Private.Sides.{Side}
 use Rattle.jass_top.proofs.Sides.{side_none, side_then}
 use Rattle.jass_top.proofs.Serving.{replies_none, steps_none}
 
@@ -94,7 +95,7 @@ module _ {S : Type 0} {written : S → Option (List ℕ)} {faults : S → ℕ} {
   }
 
   pub serving_on : (old mid out : S) (file same : FileView) (frames : ℕ) (before left : Option (List ℕ)) (steps more later : ℕ) (w u : Waiting) (state last : DeskState) → same ≡ file
-      → Serving written faults rest old mid file frames before left steps more w state → Answers written faults rest mid out [] [] more later same w u state last (Ok wents.On)
+      → Serving written faults rest old mid file frames before left steps more w state → AnswersLines written faults rest mid out [] [] more later same w u state last (Ok wents.On)
       → Serving written faults rest old out file frames before left steps later u last
   serving_on old mid out file same frames before left steps more later w u state last is s a =
       let moves = subst (λ (f : FileView). Moves f w u state last a.text a.scored) is a.goes in
@@ -109,7 +110,7 @@ module _ {S : Type 0} {written : S → Option (List ℕ)} {faults : S → ℕ} {
       }
 
   pub serving_left : (old mid out : S) (file same : FileView) (frames : ℕ) (before left : Option (List ℕ)) (steps more later : ℕ) (w u : Waiting) (state last : DeskState) → same ≡ file
-      → Serving written faults rest old mid file frames before left steps more w state → Answers written faults rest mid out [] [] more later same w u state last (Ok wents.On) → u.left ≡ w.left
+      → Serving written faults rest old mid file frames before left steps more w state → AnswersLines written faults rest mid out [] [] more later same w u state last (Ok wents.On) → u.left ≡ w.left
   serving_left old mid out file same frames before left steps more later w u state last is s a =
       let moves = subst (λ (f : FileView). Moves f w u state last a.text a.scored) is a.goes in
       omega (arith, s.stands.counted, (moves frames s.taken s.said s.scored s.stands).counted)
@@ -162,7 +163,7 @@ still_free before after w u t free = elim t.bytes [ inl same ↦ subst (λ (v : 
 
 module _ {S : Type 0} {written : S → Option (List ℕ)} {faults : S → ℕ} {rest : S → Rest} where
   pub served_end : (old mid out : S) (file same : FileView) (frames : ℕ) (before left : Option (List ℕ)) (steps more later : ℕ) (w u : Waiting) (state last : DeskState) → same ≡ file
-      → Serving written faults rest old mid file frames before left steps more w state → Answers written faults rest mid out [] [] more later same w u state last (Ok wents.End)
+      → Serving written faults rest old mid file frames before left steps more w state → AnswersLines written faults rest mid out [] [] more later same w u state last (Ok wents.End)
       → Served {T = Unit {0}} written faults rest old out file frames before left steps later (Ok tt)
   served_end old mid out file same frames before left steps more later w u state last is s a =
       let leads = subst (λ (f : FileView). Leads f w state a.text a.scored (Finished f)) is a.goes in
@@ -211,14 +212,14 @@ module _ {S : Type 0} {written : S → Option (List ℕ)} {faults : S → ℕ} {
       }
 
   pub served_memory : (old mid out : S) (file same : FileView) (frames : ℕ) (before left : Option (List ℕ)) (steps more later : ℕ) (w u : Waiting) (state last : DeskState) → same ≡ file
-      → Serving written faults rest old mid file frames before left steps more w state → Answers written faults rest mid out [] [] more later same w u state last (Ok wents.NoMemory)
+      → Serving written faults rest old mid file frames before left steps more w state → AnswersLines written faults rest mid out [] [] more later same w u state last (Ok wents.NoMemory)
       → Served {T = Unit {0}} written faults rest old out file frames before left steps later (Err stops.NoMemory)
   served_memory old mid out file same frames before left steps more later w u state last is s a =
       served_first old out file frames before left steps later u last (serving_on old mid out file same frames before left steps more later w u state last is s
       (record { text = a.text; scored = a.scored; side = record { bytes = a.side.bytes; later = a.side.later; failed = tt; rest_stays = a.side.rest_stays }; counted = a.counted; goes = a.goes }))
 
   pub served_cut : (old mid out : S) (file same : FileView) (frames : ℕ) (before left : Option (List ℕ)) (steps more later : ℕ) (w u : Waiting) (state last : DeskState) (fault : WriteFault) → same ≡ file
-      → Serving written faults rest old mid file frames before left steps more w state → Answers written faults rest mid out [] [] more later same w u state last (Err fault)
+      → Serving written faults rest old mid file frames before left steps more w state → AnswersLines written faults rest mid out [] [] more later same w u state last (Err fault)
       → Served {T = Unit {0}} written faults rest old out file frames before left steps later (Err stops.WriteFault)
   served_cut old mid out file same frames before left steps more later w u state last fault is s a =
       let leads = subst (λ (f : FileView). Leads f w state a.text a.scored (IsFront f)) is a.goes in

@@ -22,10 +22,10 @@ use Rattle.session_desk.specs.Turns.{desk_postings, desk_replies, replies_from, 
 use Rattle.jass_top.specs.ServeMeaning.{has_end}
 use Rattle.jass_base.specs.Outside.{Rest}
 use Rattle.jass_base.specs.declared.faults.WriteFault.{WriteFault}
-use Rattle.jass_top.specs.Serving.{Answers, Finished, Goes, IsFront, Leads, Moves, Standing, given_line, text_from}
+use Rattle.jass_top.specs.Private.Serving.{AnswersLines, Finished, Goes, IsFront, Leads, Moves, Standing, given_line, text_from}
 use Rattle.jass_top.proofs.Sides.{side_none, side_same, side_then}
 use Rattle.jass_base.specs.Outside.{Wrote}
-use Rattle.jass_top.specs.Sides.{Side}
+use Rattle.jass_top.specs.Private.Sides.{Side}
 
 -- ---- the replies to lines, one by one
 
@@ -257,12 +257,12 @@ goes_then (Ok wents.End) file w mid new state between after first second n m mov
 goes_then (Err fault) file w mid new state between after first second n m moves goes = then_leads (IsFront file) file w mid state between first second n m moves goes
 
 module _ {S : Type 0} {written : S → Option (List ℕ)} {faults : S → ℕ} {rest : S → Rest} where
-  pub answers_none : (out : S) (before : List ℕ) (steps : ℕ) (file : FileView) (w : Waiting) (state : DeskState) → Answers written faults rest out out before before steps steps file w w state state (Ok wents.On)
+  pub answers_none : (out : S) (before : List ℕ) (steps : ℕ) (file : FileView) (w : Waiting) (state : DeskState) → AnswersLines written faults rest out out before before steps steps file w w state state (Ok wents.On)
   answers_none out before steps file w state = record { text = []; scored = 0; side = side_none out before wents.On; counted = omega arith; goes = stays file w state }
 
   pub answers_then : (old mid new : S) (before between after : List ℕ) (steps more later : ℕ) (file same : FileView) (w v u : Waiting) (state left last : DeskState) (result : Result Went WriteFault) → same ≡ file
-      → Answers written faults rest old mid before between steps more file w v state left (Ok wents.On) → Answers written faults rest mid new between after more later same v u left last result
-      → Answers written faults rest old new before after steps later file w u state last result
+      → AnswersLines written faults rest old mid before between steps more file w v state left (Ok wents.On) → AnswersLines written faults rest mid new between after more later same v u left last result
+      → AnswersLines written faults rest old new before after steps later file w u state last result
   answers_then old mid new before between after steps more later file same w v u state left last result is one two = record {
     text = one.text ++ two.text;
     scored = one.scored + two.scored;
@@ -301,13 +301,13 @@ goes_cut wents.End fault file w new state after text n leads frames taken said s
 
 module _ {S : Type 0} {written : S → Option (List ℕ)} {faults : S → ℕ} {rest : S → Rest} where
   pub answers_flushed : {U F : Type 0} (old mid new : S) (before between : List ℕ) (steps later : ℕ) (file : FileView) (w u : Waiting) (state last : DeskState) (went : Went) {v : U}
-      → Answers written faults rest old mid before between steps later file w u state last (Ok went) → Wrote {E = F} written faults rest mid new between (Ok v)
-      → Answers written faults rest old new before [] steps later file w u state last (Ok went)
+      → AnswersLines written faults rest old mid before between steps later file w u state last (Ok went) → Wrote {E = F} written faults rest mid new between (Ok v)
+      → AnswersLines written faults rest old new before [] steps later file w u state last (Ok went)
   answers_flushed old mid new before between steps later file w u state last went one flushed = record { text = one.text; scored = one.scored; side = side_flushed went one.side flushed; counted = one.counted; goes = one.goes }
 
   pub answers_unflushed : {U F : Type 0} (old mid new : S) (before between : List ℕ) (steps later : ℕ) (file : FileView) (w u : Waiting) (state last : DeskState) (went : Went) {f : F} (fault : WriteFault)
-      → Answers written faults rest old mid before between steps later file w u state last (Ok went) → Wrote {T = U} written faults rest mid new between (Err f)
-      → Answers written faults rest old new before [] steps later file w u state last (Err fault)
+      → AnswersLines written faults rest old mid before between steps later file w u state last (Ok went) → Wrote {T = U} written faults rest mid new between (Err f)
+      → AnswersLines written faults rest old new before [] steps later file w u state last (Err fault)
   answers_unflushed old mid new before between steps later file w u state last went fault one flushed = record {
     text = one.text;
     scored = one.scored;
@@ -317,8 +317,8 @@ module _ {S : Type 0} {written : S → Option (List ℕ)} {faults : S → ℕ} {
   }
 
   -- after a failure it doesn't matter what is left in the buffer
-  pub answers_failed : (old new : S) (before after : List ℕ) (steps later : ℕ) (file : FileView) (w u : Waiting) (state last : DeskState) (fault : WriteFault) → Answers written faults rest old new before after steps later file w u state last (Err fault)
-      → Answers written faults rest old new before [] steps later file w u state last (Err fault)
+  pub answers_failed : (old new : S) (before after : List ℕ) (steps later : ℕ) (file : FileView) (w u : Waiting) (state last : DeskState) (fault : WriteFault) → AnswersLines written faults rest old new before after steps later file w u state last (Err fault)
+      → AnswersLines written faults rest old new before [] steps later file w u state last (Err fault)
   answers_failed old new before after steps later file w u state last fault one = record {
     text = one.text;
     scored = one.scored;

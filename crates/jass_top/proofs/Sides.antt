@@ -2,9 +2,10 @@
 use Rattle.std.proofs.Common.{◌≡◌, ℕ, List, [], ◌++◌, Option, Result, Ok, Err, refl, sym, ap, subst, ◌∙◌, append-nil, append_assoc, arith}
 use Rattle.std.specs.Io.KnownBytes.{Appends}
 use Rattle.jass_base.specs.Outside.{Rest, Wrote}
-use Rattle.jass_base.specs.Writing.{AppendsPrefix, AppendsPrefix-then, AppendsPrefix-longer, AppendsPrefix-whole, Appends-none, Appends-then, Rose-earlier}
-use Rattle.trec_run.specs.Gathering.{Gathers}
-use Rattle.jass_top.specs.Sides.{Side, WroteSide}
+use Rattle.jass_base.specs.Writing.{AppendsPrefix}
+use Rattle.jass_base.proofs.Writing.{AppendsPrefix-then, AppendsPrefix-longer, AppendsPrefix-whole, Appends-none, Appends-then, Rose-earlier}
+use Rattle.gathered_text.specs.Gathering.{Gathers}
+use Rattle.jass_top.specs.Private.Sides.{Side, WroteSide}
 
 prefix_same : (old new : Option (List ℕ)) (text other : List ℕ) → text ≡ other → AppendsPrefix old new text → AppendsPrefix old new other
 prefix_same old new text other is a = subst (λ (t : List ℕ). AppendsPrefix old new t) is a
@@ -94,10 +95,6 @@ module _ {S E : Type 0} {written : S → Option (List ℕ)} {faults : S → ℕ}
         rest_stays = last.rest_stays ∙ done.rest_stays;
       }
 
-  -- what failed before a flush
-  pub wrote_failed : {T U : Type 0} {old new : S} {after text : List ℕ} {e : E} → Side {T = U} written faults rest mine old new [] after text (Err e) → WroteSide {T = T} written faults rest mine old new text (Err e)
-  wrote_failed done = record { bytes = done.bytes; later = done.later; failed = done.failed; rest_stays = done.rest_stays }
-
   -- the other output failed in its flush: before this one's, and after it
   pub wrote_unflushed : {T U : Type 0} {old new : S} {before between text : List ℕ} {u : U} {e : E} → before ≡ [] → ¬ (e ≡ mine) → Side written faults rest mine old new before between text (Ok u) → WroteSide {T = T} written faults rest mine old new text (Err e)
   wrote_unflushed {old = old} {new} {between = between} {text} none foreign done =
@@ -163,8 +160,3 @@ module _ {S E : Type 0} {written : S → Option (List ℕ)} {faults : S → ℕ}
 module _ {S E : Type 0} {written : S → Option (List ℕ)} {faults : S → ℕ} {rest : S → Rest} {mine : E} where
   pub side_foreign : {T U : Type 0} {old new : S} {before after other : List ℕ} (text : List ℕ) {u : U} {e : E} → ¬ (e ≡ mine) → Side written faults rest mine old new before after text (Ok u) → Side {T = T} written faults rest mine old new before other text (Err e)
   side_foreign text foreign done = side_same (append-nil text) (side_stopped text [] foreign done)
-
--- the outputs' failures among more
-pub side_among : {S E F T U : Type 0} {written : S → Option (List ℕ)} {faults : S → ℕ} {rest : S → Rest} {mine : E} {named : F} {old new : S} {before after text : List ℕ} {e : E} {f : F}
-    → (f ≡ named → e ≡ mine) → Side {T = U} written faults rest mine old new before after text (Err e) → Side {T = T} written faults rest named old new before after text (Err f)
-side_among back done = record { bytes = done.bytes; later = done.later; failed = (λ is. done.failed (back is)); rest_stays = done.rest_stays }

@@ -1,9 +1,8 @@
 -- An index has as many postings as its collection, and as its flat list.
-use Rattle.std.proofs.Common.{◌≡◌, ℕ, suc, Bool, true, false, List, [], ◌∷◌, length, map, if◌then◌else◌, refl, sym, ap, ◌∙◌, arith}
+use Rattle.std.proofs.Common.{◌≡◌, ℕ, List, [], ◌∷◌, length, map, refl, sym, ◌∙◌, arith}
 use Rattle.std.specs.Prelude.{sum_by}
 use Rattle.std.specs.List.{flat_map}
-use Rattle.std.specs.declared.cmp.Ordering.{Ordering}
-use Rattle.std.specs.Ordering.{is_gt, nat_cmp}
+use Rattle.std.specs.Ordering.{nat_cmp}
 use Rattle.std.specs.Cmp.Lexicographic.{slice_cmp}
 use Rattle.std.proofs.lemmas.List.{length-map, length-append}
 use Rattle.std.proofs.lemmas.List.Sums.{sum_by-cons}
@@ -16,25 +15,13 @@ use Rattle.weights.specs.declared.weighting.Rule.{Rule}
 use Rattle.weights.specs.declared.quantizing.Bits.{Bits}
 use Rattle.weights.specs.Quantizing.{range_of, impact_of}
 use Rattle.ranking_model.specs.declared.entry.Entry.{Entry}
-use Rattle.ranking_model.specs.Order.{placed, sorted}
 use Rattle.ranking_model.specs.Flat.{entry_cmp}
 use Rattle.ciff_read.specs.Counts.{posting_count}
 use Rattle.index_model.specs.Index.{SegmentData, TermData, IndexData}
 use Rattle.index_model.specs.Flat.{flat_of, flat_of_terms, segment_entries, term_entries}
 use Rattle.index_layout.specs.View.{index_postings, term_postings}
 use Rattle.impact_segments.specs.Collections.{lengths_of, total_of, weight_in, weights_of, entries_in, index_of}
-
-module _ {A : Type 0} (cmp : A → A → Ordering) where
-  length-placed : (x : A) (ys : List A) → length (placed cmp x ys) ≡ suc (length ys)
-  length-placed x [] = refl
-  length-placed x (y ∷ ys) = step (is_gt (cmp x y)) (length-placed x ys) where
-    step : (b : Bool) → length (placed cmp x ys) ≡ suc (length ys) → length (if b then y ∷ placed cmp x ys else x ∷ y ∷ ys) ≡ suc (length (y ∷ ys))
-    step true rest = ap suc rest
-    step false rest = refl
-
-  length-sorted : (xs : List A) → length (sorted cmp xs) ≡ length xs
-  length-sorted [] = refl
-  length-sorted (x ∷ xs) = length-placed x (sorted cmp xs) ∙ ap suc (length-sorted xs)
+use Rattle.ranking_model.proofs.Sorting.{length_sorted}
 
 joined_lists : (f : List ℕ → List Posting → List (Entry (List ℕ))) (lists : List PostingsList) → ((term : List ℕ) (postings : List Posting) → length (f term postings) ≡ length postings)
     → length (flat_map (λ (l : ListData). f l.term l.postings) (map list_data lists)) ≡ sum_by (λ (l : PostingsList). length l.postings) lists
@@ -49,7 +36,7 @@ index_size collection rule bits =
     let c : CollectionData = collection_data collection in
     let lengths : List ℕ = lengths_of c.docs in
     let entries : List ℕ → List Posting → List (Entry (List ℕ)) = entries_in rule lengths (total_of lengths) bits (range_of (weights_of c rule)) in
-    length-sorted (entry_cmp (slice_cmp nat_cmp)) (flat_map (λ (l : ListData). entries l.term l.postings) c.lists)
+    length_sorted (entry_cmp (slice_cmp nat_cmp)) (flat_map (λ (l : ListData). entries l.term l.postings) c.lists)
     ∙ joined_lists entries collection.lists
     (λ term postings. length-map postings (λ (p : Posting). record { term = term; doc = p.doc; impact = impact_of bits (range_of (weights_of c rule)) (weight_in rule lengths (total_of lengths) (length postings) p) }))
 

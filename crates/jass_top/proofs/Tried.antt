@@ -1,5 +1,5 @@
 -- What a trial leaves query by query is its summary.
-use Rattle.std.proofs.Common.{◌≡◌, ℕ, ◌+◌, cond, List, [], ◌∷◌, ◌++◌, length, map, refl, sym, ap, ◌∙◌, arith}
+use Rattle.std.proofs.Common.{◌≡◌, ℕ, ◌+◌, cond, List, [], ◌∷◌, ◌++◌, length, map, refl, ap, arith}
 use Rattle.std.specs.Prelude.{codes, count_by}
 use Rattle.std.specs.List.{sum_by}
 use Rattle.std.specs.Ordering.{nat_cmp}
@@ -12,6 +12,7 @@ use Rattle.index_model.specs.Flat.{numbered_flat}
 use Rattle.index_layout.specs.View.{FileView, chosen_view}
 use Rattle.index_file.specs.Places.{codec_use}
 use Rattle.session_engine.specs.Plans.{session_plan}
+use Rattle.shared_lemmas.proofs.Sums.{sum_map}
 use Rattle.jass_top.specs.declared.trial_sums.BudgetSum.{BudgetSum}
 use Rattle.jass_top.specs.declared.trial_sums.TrialSums.{TrialSums}
 use Rattle.jass_top.specs.SearchMeaning.{IsSearchReport, plan_over_index}
@@ -30,10 +31,6 @@ component file f g adds (query ∷ queries) sums =
     let later = component file f g adds queries (with_query file query sums) in
     let whole = sum_by-cons g query queries in
     omega arith
-
-sum_map : {A B : Type 0} (f : B → ℕ) (g : A → B) (xs : List A) → sum_by f (map g xs) ≡ sum_by (λ x. f (g x)) xs
-sum_map f g [] = refl
-sum_map f g (x ∷ xs) = sum_by-cons f (g x) (map g xs) ∙ ap (λ n. f (g x) + n) (sum_map f g xs) ∙ sym (sum_by-cons (λ x. f (g x)) x xs)
 
 scores_are : (file : FileView) (grants : ℕ) (query : QueryData) → hit_scores (hits_after file grants query) ≡ trial_scores file.index grants query
 unfolding hits_after session_plan

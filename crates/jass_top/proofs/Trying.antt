@@ -27,7 +27,7 @@ use Rattle.jass_top.specs.Meanings.{Output}
 use Rattle.jass_top.specs.SearchTexts.{queries_steps, query_steps}
 use Rattle.jass_top.specs.Standing.{Had}
 use Rattle.jass_top.specs.TrialMeaning.{IsTrialOutput, countable, judge_trial, queries_over, tried_meaning, trial_budgets}
-use Rattle.jass_top.specs.TrialSums.{AreSmallSums, hits_after, report_after, trial_output, with_queries, with_query}
+use Rattle.jass_top.specs.TrialSums.{hits_after, report_after, trial_output, with_queries, with_query}
 use Rattle.jass_top.proofs.JudgedFiles.{fits}
 use Rattle.jass_top.proofs.Turns.{granted_more, prefix_is}
 
@@ -74,13 +74,6 @@ pub next_query : (terms queries i state : ℕ) → i < queries → queries_from 
 next_query terms queries i state low =
     let left : queries - i ≡ suc (queries - (i + 1)) = omega arith in
     ap (λ n. queries_from terms n state) left
-
-pub small_weaker : (n m : ℕ) (sums : TrialSums) → n ≤ m → AreSmallSums n sums → AreSmallSums m sums
-small_weaker n m sums less are =
-    let a = are.0.0 in let b = are.0.1 in let c = are.0.2 in
-    let d = are.1.0 in let e = are.1.1 in let f = are.1.2 in
-    let g = are.2.0 in let h = are.2.1 in let i = are.2.2 in
-    ((omega arith, omega arith, omega arith), (omega arith, omega arith, omega arith), (omega arith, omega arith, omega arith))
 
 module _ (file : FileView) (terms queries i state next : ℕ) (sums more : TrialSums) (words : List (List ℕ)) (low : i < queries)
     (drawn : words ≡ query_words terms state) (moved : next ≡ query_state state) where

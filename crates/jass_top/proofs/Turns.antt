@@ -1,10 +1,10 @@
 -- The texts and the steps of a query from one budget on.
-use Rattle.std.proofs.Common.{◌≡◌, ℕ, ◌+◌, ◌-◌, ◌<◌, ◌≤◌, List, [], ◌∷◌, ◌++◌, length, take, drop, map, flat_map, refl, sym, ap, ◌∙◌, take-append-drop, take_all, get_or, suc, zero, Bool, true, false, ◌==◌, if◌then◌else◌, arith}
+use Rattle.std.proofs.Common.{◌≡◌, ℕ, ◌+◌, ◌-◌, ◌<◌, ◌≤◌, List, [], ◌∷◌, ◌++◌, length, take, drop, map, flat_map, refl, sym, ap, ◌∙◌, take-append-drop, get_or, suc, zero, Bool, true, false, ◌==◌, if◌then◌else◌, arith}
 use Rattle.std.specs.List.{sum_by}
 use Rattle.std.proofs.lemmas.List.{take_more}
 use Rattle.std.proofs.lemmas.List.Sums.{sum_by-append}
 use Rattle.jass_base.specs.declared.answer.Budget.{Budget}
-use Rattle.ranking_model.specs.declared.class.Class.{Class}
+use Rattle.ranking_model.specs.declared.plan_segment.PlanSegment.{PlanSegment}
 use Rattle.ranking_model.specs.declared.plan.QueryPlan.{QueryPlan}
 use Rattle.ranking_model.specs.Plan.{amount_of, granted_sum, granted_with, prefix_within, size_of_first}
 use Rattle.ranking_model.specs.Report.{report_line, run_lines, tag_of}
@@ -48,21 +48,21 @@ module _ (from : ComeFrom) (file : FileView) (k : ℕ) (budgets : List Budget) (
 -- ---- steps
 
 abbrev pub Resumes : Type 0
-Resumes = (before budget n : ℕ) (classes : List Class) → n ≡ prefix_within before classes → before ≤ budget → prefix_within budget classes ≡ n + prefix_within (budget - size_of_first n classes) (drop n classes)
+Resumes = (before budget n : ℕ) (segments : List PlanSegment) → n ≡ prefix_within before segments → before ≤ budget → prefix_within budget segments ≡ n + prefix_within (budget - size_of_first n segments) (drop n segments)
 
 abbrev pub Sizes : Type 0
-Sizes = (n more : ℕ) (classes : List Class) → size_of_first (n + more) classes ≡ size_of_first n classes + size_of_first more (drop n classes)
+Sizes = (n more : ℕ) (segments : List PlanSegment) → size_of_first (n + more) segments ≡ size_of_first n segments + size_of_first more (drop n segments)
 
 pub part_granted : (budgets : List Budget) (j : ℕ) → granted_sum (take j budgets) ≤ granted_sum budgets
 part_granted budgets j =
     let whole : sum_by amount_of budgets ≡ sum_by amount_of (take j budgets) + sum_by amount_of (drop j budgets) = ap (sum_by amount_of) (sym (take-append-drop j budgets)) ∙ sum_by-append amount_of (take j budgets) (drop j budgets) in
     omega (arith, whole)
 
-pub part_scored : Resumes → Sizes → (before budget : ℕ) (classes : List Class) → before ≤ budget → size_of_first (prefix_within before classes) classes ≤ size_of_first (prefix_within budget classes) classes
-part_scored resumes sizes before budget classes less =
-    let n : ℕ = prefix_within before classes in
-    let more : ℕ = prefix_within (budget - size_of_first n classes) (drop n classes) in
-    let is : size_of_first (prefix_within budget classes) classes ≡ size_of_first n classes + size_of_first more (drop n classes) = ap (λ m. size_of_first m classes) (resumes before budget n classes refl less) ∙ sizes n more classes in
+pub part_scored : Resumes → Sizes → (before budget : ℕ) (segments : List PlanSegment) → before ≤ budget → size_of_first (prefix_within before segments) segments ≤ size_of_first (prefix_within budget segments) segments
+part_scored resumes sizes before budget segments less =
+    let n : ℕ = prefix_within before segments in
+    let more : ℕ = prefix_within (budget - size_of_first n segments) (drop n segments) in
+    let is : size_of_first (prefix_within budget segments) segments ≡ size_of_first n segments + size_of_first more (drop n segments) = ap (λ m. size_of_first m segments) (resumes before budget n segments refl less) ∙ sizes n more segments in
     omega (arith, is)
 
 -- ---- one budget more
@@ -75,28 +75,21 @@ granted_more budgets i d inside = omega (arith, sum_more budgets i d inside)
 
 pub prefix_is : (file : FileView) (s t : Session) (pool : PoolView) (budgets : List Budget) (j : ℕ) → SessionStands t file pool → query_of t ≡ query_of s → granted_of t ≡ granted_sum (take j budgets)
     → prefix_of t ≡ prefix_granted j budgets (session_plan file (terms_of s))
-prefix_is file s t pool budgets j stands same granted = stands.prefix ∙ (λ x. prefix_within (granted x) (session_plan file (same x).terms).classes)
+prefix_is file s t pool budgets j stands same granted = stands.prefix ∙ (λ x. prefix_within (granted x) (session_plan file (same x).terms).segments)
 
 pub scored_part : Resumes → Sizes → (file : FileView) (s t : Session) (pool : PoolView) (budgets : List Budget) (j : ℕ) → SessionStands t file pool → query_of t ≡ query_of s → granted_of t ≡ granted_sum (take j budgets)
     → (report_of t).postings ≤ query_steps file budgets (query_data (query_of s))
 scored_part resumes sizes file s t pool budgets j stands same granted =
-    let classes : List Class = (session_plan file (terms_of s)).classes in
-    let is : (report_of t).postings ≡ size_of_first (prefix_within (granted_sum (take j budgets)) classes) classes
-    = ap (λ r. r.postings) stands.report ∙ (λ x. size_of_first (prefix_is file s t pool budgets j stands same granted x) (session_plan file (same x).terms).classes) in
-    omega (arith, is, part_scored resumes sizes (granted_sum (take j budgets)) (granted_sum budgets) classes (part_granted budgets j))
+    let segments : List PlanSegment = (session_plan file (terms_of s)).segments in
+    let is : (report_of t).postings ≡ size_of_first (prefix_within (granted_sum (take j budgets)) segments) segments
+    = ap (λ r. r.postings) stands.report ∙ (λ x. size_of_first (prefix_is file s t pool budgets j stands same granted x) (session_plan file (same x).terms).segments) in
+    omega (arith, is, part_scored resumes sizes (granted_sum (take j budgets)) (granted_sum budgets) segments (part_granted budgets j))
 
-pub scored_all : (file : FileView) (s t : Session) (pool : PoolView) (budgets : List Budget) (j : ℕ) → SessionStands t file pool → query_of t ≡ query_of s → granted_of t ≡ granted_sum (take j budgets) → length budgets ≤ j
-    → (report_of t).postings ≡ query_steps file budgets (query_data (query_of s))
-scored_all file s t pool budgets j stands same granted outside =
-    let classes : List Class = (session_plan file (terms_of s)).classes in
-    ap (λ r. r.postings) stands.report ∙ (λ x. size_of_first (prefix_is file s t pool budgets j stands same granted x) (session_plan file (same x).terms).classes)
-    ∙ ap (λ bs. size_of_first (prefix_within (granted_sum bs) classes) classes) (take_all j budgets outside)
-
-pub scored_none : ((budget : ℕ) (classes : List Class) → size_of_first (prefix_within budget classes) classes ≤ budget) → (file : FileView) (s : Session) (pool : PoolView) → SessionStands s file pool → granted_of s ≡ 0 → (report_of s).postings ≡ 0
+pub scored_none : ((budget : ℕ) (segments : List PlanSegment) → size_of_first (prefix_within budget segments) segments ≤ budget) → (file : FileView) (s : Session) (pool : PoolView) → SessionStands s file pool → granted_of s ≡ 0 → (report_of s).postings ≡ 0
 scored_none fits file s pool stands none =
-    let classes : List Class = (session_plan file (terms_of s)).classes in
-    let is : (report_of s).postings ≡ size_of_first (prefix_within (granted_of s) classes) classes = ap (λ r. r.postings) stands.report ∙ ap (λ n. size_of_first n classes) stands.prefix in
-    omega (arith, is, fits (granted_of s) classes, none)
+    let segments : List PlanSegment = (session_plan file (terms_of s)).segments in
+    let is : (report_of s).postings ≡ size_of_first (prefix_within (granted_of s) segments) segments = ap (λ r. r.postings) stands.report ∙ ap (λ n. size_of_first n segments) stands.prefix in
+    omega (arith, is, fits (granted_of s) segments, none)
 
 -- ---- the first part, and the end
 

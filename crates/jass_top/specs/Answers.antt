@@ -35,11 +35,11 @@ abbrev pub once_plan : IndexData → OnceQuery → QueryPlan
 once_plan index query = plan_over_index index (once_query index query)
 
 abbrev pub once_prefix : IndexData → OnceQuery → ℕ
-once_prefix index query = prefix_within (granted_sum (query.budget ∷ [])) (once_plan index query).classes
+once_prefix index query = prefix_within (granted_sum (query.budget ∷ [])) (once_plan index query).segments
 
 -- the postings that are scored
 abbrev pub once_steps : IndexData → OnceQuery → ℕ
-once_steps index query = size_of_first (once_prefix index query) (once_plan index query).classes
+once_steps index query = size_of_first (once_prefix index query) (once_plan index query).segments
 
 -- the report line, and the run lines of the top k by score, then document, of the sums over that prefix
 abbrev pub once_text : IndexData → OnceQuery → Report → List ℕ

@@ -10,6 +10,7 @@ use Rattle.index_layout.specs.View.{FileView, index_postings, index_text}
 use Rattle.index_version1.specs.Reading.{read_index1}
 use Rattle.jass_top.specs.declared.stop.Place.TheVariants.{Byte}
 use Rattle.jass_top.specs.Judging.{Judged, Accepted, Missing, Refuses, Untold}
+use Rattle.jass_base.specs.declared.limits.TheConstants.{MOST_POSTINGS}
 
 abbrev pub judged_file : {A : Type 0} → List ℕ → Result A OpenRefusal → Judged A
 judged_file name (Ok v) = Accepted v
@@ -36,7 +37,7 @@ judge_old name (Some files) = judged_old name (get files name)
 -- bytes are the text of an index that fits a file
 pub record IsTextOf (bytes : List ℕ) (index : IndexData) : Type 0 where
   pub is : IsIndex index
-  pub postings : index_postings index ≤ 2 ^ 29
+  pub postings : index_postings index ≤ MOST_POSTINGS
   pub fits : length (index_text index) ≤ 2 ^ 32
   pub spelled : bytes ≡ index_text index
 

@@ -12,16 +12,12 @@ pub mod MakingMeaning
 pub mod Meanings
 pub mod MigrateMeaning
 pub mod OnceMeaning
-pub mod OnceTexts
 pub mod RewriteMeaning
-pub mod RunFiles
 pub mod Running
 pub mod SearchMeaning
 pub mod SearchTexts
 pub mod ServeEndings
 pub mod ServeMeaning
-pub mod Serving
-pub mod Sides
 pub mod Standing
 pub mod Stops
 pub mod TextMeaning
@@ -29,3 +25,4 @@ pub mod TrialMeaning
 pub mod TrialSums
 pub mod VersionMeaning
 pub mod Worlds
+pub mod Private

@@ -67,7 +67,7 @@ pub record Search : Type 0 where
 abbrev pub plan_over_index : IndexData → QueryData → QueryPlan
 plan_over_index index query = plan_of (length index.names) (numbered_flat index) query.terms
 
--- a printed report after the first n classes of a query's plan, and what it promises
+-- a printed report after the first n segments of a query's plan, and what it promises
 pub record IsSearchReport (index : IndexData) (query : QueryData) (k n : ℕ) (report : Report) : Type 0 where
   pub exact : IsReport n (plan_over_index index query) k report
   pub promised : IsPromised (weighted_postings (numbered_flat index) query.terms) n (plan_over_index index query) k
@@ -82,8 +82,8 @@ AreSearchReports index search query reports =
 -- the postings that are scored for a query in the end
 abbrev pub scored_postings : IndexData → List Budget → QueryData → ℕ
 scored_postings index budgets query =
-    let classes = (plan_over_index index query).classes in
-    size_of_first (prefix_within (granted_sum budgets) classes) classes
+    let segments = (plan_over_index index query).segments in
+    size_of_first (prefix_within (granted_sum budgets) segments) segments
 
 -- the run lines in the file and the report lines on the output, query by query, for each query budget by budget; a step
 -- is a posting that is newly scored

@@ -49,7 +49,7 @@ query_reports file k budgets query = parts_reports file k query (prefixes_for fi
 -- the postings that are scored for it in the end
 abbrev pub query_steps : FileView → List Budget → QueryData → ℕ
 query_steps file budgets query =
-    let classes = (plan_for file query).classes in size_of_first (prefix_within (granted_sum budgets) classes) classes
+    let segments = (plan_for file query).segments in size_of_first (prefix_within (granted_sum budgets) segments) segments
 
 -- what all queries leave
 abbrev pub queries_run : FileView → ℕ → List Budget → List ℕ → List QueryData → List ℕ

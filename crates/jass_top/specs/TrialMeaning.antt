@@ -24,6 +24,7 @@ use Rattle.jass_top.specs.IndexJudging.{fitting}
 use Rattle.jass_top.specs.Judging.{Judged, Accepted, Refuses, behind}
 use Rattle.jass_top.specs.Meanings.{Output, Meaning}
 use Rattle.jass_top.specs.SearchMeaning.{IsSearchReport, plan_over_index, scored_postings}
+use Rattle.jass_base.specs.declared.limits.TheConstants.{MOST_POSTINGS}
 
 -- ---- the index that is made
 
@@ -33,7 +34,7 @@ trial_index seed docs terms = collection_index Bm25 (Of 8) (trial_collection see
 
 -- an index as a file has at most 2^29 postings: else 48 at byte 24, where a file has their number
 unfoldable pub countable : List ℕ → IndexData → Judged IndexData
-countable name index = if nat_le (index_postings index) (2 ^ 29) then Accepted index else Refuses name 48 (Byte 24)
+countable name index = if nat_le (index_postings index) MOST_POSTINGS then Accepted index else Refuses name 48 (Byte 24)
 
 -- it fits a file by its length, and then by its postings
 abbrev pub judge_trial : IndexData → Judged IndexData
@@ -45,7 +46,7 @@ judge_trial index = behind (fitting (codes "trial") index) (countable (codes "tr
 abbrev pub trial_budgets : List Budget
 trial_budgets = Postings 1000 ∷ Postings 9000 ∷ All ∷ []
 
--- how many classes of a query's plan are scored after so many of them
+-- how many segments of a query's plan are scored after so many of them
 abbrev pub trial_prefix : IndexData → ℕ → QueryData → ℕ
 trial_prefix index grants query = prefix_granted grants trial_budgets (plan_over_index index query)
 

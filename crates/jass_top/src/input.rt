@@ -7,9 +7,9 @@ ghost use Rattle.jass_top.specs.Judging.{Accepted, Shows, judge_ciff};
 use crate::stop::{Place, Stop};
 use ciff_read::laws::the_front_is_enough;
 use ciff_read::{CiffFault, read_collection};
-use jass_base::{Cabinet, Collection};
+use jass_base::{Cabinet, Collection, ReadStop};
 use std::alloc::Global;
-use whole_files::{ReadStop, read_front};
+use whole_files::read_front;
 
 /// How many bytes of a file are read at the most: what is behind them changes no answer, since a
 /// message begins at 2^32 at the latest and its length has at most ten bytes.

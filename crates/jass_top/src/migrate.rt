@@ -11,9 +11,9 @@ use crate::stop::{Place, Stop};
 use index_layout::OpenFault;
 use index_version1::laws::the_front_is_enough;
 use index_version1::read_version1;
-use jass_base::{Cabinet, ImpactIndex, Sink};
+use jass_base::{Cabinet, ImpactIndex, ReadStop, Sink};
 use std::alloc::Global;
-use whole_files::{ReadStop, read_front};
+use whole_files::read_front;
 
 /// How many bytes of a file are read at the most: one more than an index file may have, since a
 /// longer file is refused whatever else stands in it.

@@ -3,9 +3,9 @@ ghost use Rattle.jass_base.specs.Outside.{Wrote};
 ghost use Rattle.jass_top.specs.Stops.{place_text, stop_text, word_text};
 
 use crate::stop::{Place, Stop};
+use gathered_text::put_all;
 use itoa::Buffer;
 use jass_base::{Sink, WriteFault};
-use trec_run::put_all;
 
 /// Puts the line of the first bad word, counted from 1, on the notes.
 pub fn put_word<E: Sink>(notes: &mut E, which: u32) -> Result<(), WriteFault>

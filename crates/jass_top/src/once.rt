@@ -9,7 +9,7 @@ ghost use Rattle.frame_pool.specs.ChainView.{LeavesPool};
 ghost use Rattle.session_engine.specs.Standing.{IsSessionOf, SessionStands, chain_of, granted_of, report_of};
 ghost use Rattle.jass_top.specs.Causes.{Runs};
 ghost use Rattle.jass_top.specs.OnceMeaning.{asking_meaning, once_meaning};
-ghost use Rattle.jass_top.specs.OnceTexts.{once_of, session_text};
+ghost use Rattle.jass_top.specs.Private.OnceTexts.{once_of, session_text};
 ghost use Rattle.jass_top.specs.Worlds.{Outer, outer, with_output};
 
 use crate::import::make_index;

@@ -10,10 +10,10 @@ ghost use Rattle.jass_top.specs.SearchTexts.{asked_of};
 
 use crate::stop::{Place, Stop};
 use index_file::IndexFile;
-use jass_base::{Cabinet, Query, Row};
+use jass_base::{Cabinet, Query, ReadStop, Row};
 use query_reader::{Mode, QueryFault, read_queries};
 use std::alloc::Global;
-use whole_files::{ReadStop, read_front};
+use whole_files::read_front;
 
 /// How many bytes of a file are read at the most: one more than a query file may have, since a
 /// longer file is refused whatever else stands in it.

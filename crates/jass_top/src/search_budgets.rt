@@ -4,17 +4,18 @@ ghost use Rattle.ranking_model.specs.Plan.{granted_with};
 ghost use Rattle.ranking_model.specs.Report.{report_line, run_lines, tag_of};
 ghost use Rattle.ranking_model.specs.Search.{query_data};
 ghost use Rattle.frame_pool.specs.ChainView.{LeavesPool};
-ghost use Rattle.trec_run.specs.Gathering.{Gathers};
+ghost use Rattle.gathered_text.specs.Gathering.{Gathers};
 ghost use Rattle.session_engine.specs.Standing.{IsSessionOf, SessionStands};
 ghost use Rattle.session_engine.specs.Standing.{chain_of, granted_of, k_of, query_of, report_of};
 ghost use Rattle.jass_top.specs.declared.search_stop.SearchOutput.{SearchOutput};
 ghost use Rattle.jass_top.specs.SearchTexts.{Stepped, answer_text, first_part_of, report_text};
 ghost use Rattle.jass_top.specs.SearchTexts.{query_reports, query_run, query_steps};
-ghost use Rattle.jass_top.specs.Sides.{Side};
+ghost use Rattle.jass_top.specs.Private.Sides.{Side};
 
 use crate::search_stop::SearchOutput;
 use frame_pool::FramePool;
 use frame_pool::laws::calls_on_one_chain;
+use gathered_text::{Buffer, flush};
 use index_file::IndexFile;
 use jass_base::{Budget, Hit, Report, Sink, Steps, WriteFault};
 use ranking_model::laws::{the_prefix_is_the_longest, the_ranking_has_documents_of_the_scores};
@@ -24,7 +25,7 @@ use ranking_model::prefix_laws::{
 use session_engine::Session;
 use session_engine::laws::{a_session_plan_names_its_segments, a_standing_session_has_its_chain};
 use std::sync::ledger::Ledger;
-use trec_run::{Buffer, flush, gather_answer, gather_report};
+use trec_run::{gather_answer, gather_report};
 
 /// The most bytes of a report line without its id.
 const REPORT_BYTES: usize = 160;

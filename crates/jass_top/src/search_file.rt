@@ -4,10 +4,10 @@ ghost use Rattle.jass_base.specs.declared.query.Query.{Query};
 ghost use Rattle.session_engine.specs.Plans.{AreKnown};
 ghost use Rattle.jass_top.specs.declared.search_stop.SearchOutput.{SearchOutput};
 ghost use Rattle.jass_top.specs.declared.search_stop.SearchStop.{SearchStop};
-ghost use Rattle.jass_top.specs.RunFiles.{WroteBehind, WroteFile};
+ghost use Rattle.jass_top.specs.Private.RunFiles.{WroteBehind, WroteFile};
 ghost use Rattle.jass_top.specs.SearchTexts.{IsReady, Stepped, asked_of};
 ghost use Rattle.jass_top.specs.SearchTexts.{queries_reports, queries_run, queries_steps};
-ghost use Rattle.jass_top.specs.Sides.{WroteSide};
+ghost use Rattle.jass_top.specs.Private.Sides.{WroteSide};
 
 use crate::search_queries::search_all;
 use crate::search_stop::{SearchOutput, SearchStop};

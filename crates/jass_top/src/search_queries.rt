@@ -7,18 +7,18 @@ ghost use Rattle.jass_top.specs.declared.search_stop.SearchOutput.{SearchOutput}
 ghost use Rattle.jass_top.specs.declared.search_stop.SearchStop.{SearchStop};
 ghost use Rattle.jass_top.specs.SearchTexts.{IsReady, Stepped, asked_of, query_reports, query_run, query_steps};
 ghost use Rattle.jass_top.specs.SearchTexts.{queries_reports, queries_run, queries_steps};
-ghost use Rattle.jass_top.specs.Sides.{Side, WroteSide};
+ghost use Rattle.jass_top.specs.Private.Sides.{Side, WroteSide};
 
 use crate::search_budgets::gather_budgets;
 use crate::search_stop::{SearchOutput, SearchStop};
 use frame_pool::FramePool;
+use gathered_text::{Buffer, flush};
 use index_file::IndexFile;
 use jass_base::{Budget, Query, Row, Sink, Steps};
 use session_engine::laws::a_standing_session_has_its_chain;
 use session_engine::{OpenStop, Session};
 use std::alloc::Global;
 use std::sync::ledger::Ledger;
-use trec_run::{Buffer, flush};
 
 /// Answers queries one after another, each budget by budget: run lines on one output, report lines on the other.
 pub fn search_all<R: Sink, O: Sink, L: Ledger>(

@@ -4,16 +4,16 @@ ghost use Rattle.session_desk.specs.State.{new_state};
 ghost use Rattle.jass_top.specs.declared.serve_stop.ServeStop.{ServeStop};
 ghost use Rattle.session_desk.specs.declared.went.Went.{Went};
 ghost use Rattle.feed_lines.specs.Waiting.{EndsFirst, nothing_yet};
-ghost use Rattle.jass_top.specs.Serving.{Answers, AnswersLast, Served, given_line};
+ghost use Rattle.jass_top.specs.Private.Serving.{AnswersLines, AnswersLast, Served, given_line};
 
 use crate::serve_stop::ServeStop;
 use feed_lines::laws::{a_line_loses_one_byte, lines_are_passed, pending_bytes_wait};
 use feed_lines::{FeedLines, Filled};
+use gathered_text::{Buffer, flush};
 use jass_base::{Feed, Sink, Steps, WriteFault};
 use session_desk::{Desk, Went};
 use std::sync::ledger::Ledger;
 use text_lines::laws::lines_end_by_line_feeds;
-use trec_run::{Buffer, flush};
 
 /// Serves the lines of an input at a desk at which nothing is open: to its end, to a line `end`, or to the most bytes
 /// that are taken. After a fault of the input, and where memory is refused, the replies to the lines before went out.
@@ -112,7 +112,7 @@ pub fn serve_waiting<O: Sink, L: Ledger>(
     steps: &mut Steps<L>,
 ) -> Result<Went, WriteFault>
     ensures file { desk.new.file ≡ desk.old.file }
-    ensures answers { Answers O.written O.faults O.rest out.old out.new buffer.old [] steps.old steps.new
+    ensures answers { AnswersLines O.written O.faults O.rest out.old out.new buffer.old [] steps.old steps.new
         desk.old.file lines.old lines.new desk.old.state desk.new.state result }
     ensures empty { IfOk result (λ _. buffer.new ≡ []) }
     ensures free { result ≡ Ok Went.On → All (λ b. b ≢ 10) lines.new.bytes }
@@ -136,7 +136,7 @@ fn answer_waiting<O: Sink, L: Ledger>(
     steps: &mut Steps<L>,
 ) -> Result<Went, WriteFault>
     ensures file { desk.new.file ≡ desk.old.file }
-    ensures answers { Answers O.written O.faults O.rest out.old out.new buffer.old buffer.new steps.old steps.new
+    ensures answers { AnswersLines O.written O.faults O.rest out.old out.new buffer.old buffer.new steps.old steps.new
         desk.old.file lines.old lines.new desk.old.state desk.new.state result }
     ensures free { result ≡ Ok Went.On → All (λ b. b ≢ 10) lines.new.bytes }
 {
@@ -162,7 +162,7 @@ fn answer_first<O: Sink, L: Ledger>(
 ) -> Result<Went, WriteFault>
     requires { EndsFirst lines.old.bytes end }
     ensures file { desk.new.file ≡ desk.old.file }
-    ensures answers { Answers O.written O.faults O.rest out.old out.new buffer.old buffer.new steps.old steps.new
+    ensures answers { AnswersLines O.written O.faults O.rest out.old out.new buffer.old buffer.new steps.old steps.new
         desk.old.file lines.old lines.new desk.old.state desk.new.state result }
     ensures shorter { result ≡ Ok Went.On → length lines.new.bytes < length lines.old.bytes }
 {

@@ -18,6 +18,7 @@ use crate::trial_queries::try_queries;
 use index_file::IndexFile;
 use index_model::laws::indexes_in_memory_are_indexes;
 use index_write::totals;
+use jass_base::limits::MOST_POSTINGS;
 use jass_base::{ImpactIndex, NoMemory, Row, Sink, Steps};
 use std::alloc::Global;
 use std::sync::ledger::Ledger;
@@ -32,8 +33,6 @@ const NAME: &str = "trial";
 const TOO_MANY: u32 = 48;
 
 const AT_POSTINGS: u64 = 24;
-
-const MOST_POSTINGS: u64 = 536_870_912;
 
 /// Makes a collection from a seed, with so many documents and terms, indexes it, answers so many
 /// queries over it, and prints a summary.

@@ -5,10 +5,10 @@ ghost use Rattle.jass_top.specs.TrialMeaning.{codecs_text, index_segments, size_
 ghost use Rattle.jass_top.specs.TrialSums.{budget_text, trial_text};
 
 use crate::trial_sums::{BudgetSum, TrialSums};
+use gathered_text::put_all;
 use index_file::{CodecUse, IndexFile};
 use itoa::Buffer;
 use jass_base::{Sink, WriteFault};
-use trec_run::put_all;
 
 /// Puts the summary of a trial on the output: a line of its index, and one for each grant.
 pub fn put_summary<O: Sink>(

@@ -10,9 +10,10 @@ use Rattle.std.proofs.lemmas.List.Elements.{All-from_recursion}
 use Rattle.std.proofs.Math.Seq.{take-append_seam, take-append-add}
 use Rattle.jass_base.specs.declared.answer.Budget.{Budget}
 use Rattle.jass_base.specs.declared.answer.Budget.TheVariants as budgets
+use Rattle.std.proofs.lemmas.Option.{same_Some}
 use Rattle.jass_words.specs.Numbers.{IsCount, IsBudget}
-use Rattle.jass_words.specs.Words.{CommandData, Once, Rewrite, Import, Check, Export, Migrate, Search, Help, Version, HasFiles, TakesFiles, TakesTwoFiles, IsFile, IsTerm, AreTerms, IsCommand, IsNoCommand, IsBegun, IsBadWord}
-use Rattle.jass_words.proofs.Parts.{once_word, rewrite_word, import_word, check_word, export_word, migrate_word, search_word, help_word, version_word, word_of, begins, as_once, as_rewrite, as_import, as_check, as_export, as_migrate, as_search, as_help, as_version, some_same}
+use Rattle.jass_words.specs.Words.{CommandData, Once, Rewrite, Import, Check, Export, Migrate, Search, Help, Version, HasFiles, TakesFiles, TakesTwoFiles, IsFile, IsTerm, AreTermWords, IsCommand, IsNoCommand, IsBegun, IsBadWord}
+use Rattle.jass_words.proofs.Parts.{once_word, rewrite_word, import_word, check_word, export_word, migrate_word, search_word, help_word, version_word, word_of, begins, as_once, as_rewrite, as_import, as_check, as_export, as_migrate, as_search, as_help, as_version}
 use Rattle.jass_words.specs.Options.{IsOption, key_of, OptionData, AreOptions, HaveKeysOnce, rule_of, bits_of}
 
 -- fewer words begin a command too
@@ -68,7 +69,7 @@ bad_word words front rest P is begun each none = subst (λ (ws : List (List ℕ)
     next : (x : List ℕ) (more : List (List ℕ)) (command : CommandData) → slice_get rest 0 ≡ Some x → ¬ IsCommand (front ++ x ∷ more) command
     next x more command at whole =
         let (word, first, holds) = each (x ∷ more) command whole in
-        none x (ap (λ (ws : List (List ℕ)). slice_get ws (length front)) is ∙ slice_behind front rest ∙ at) (subst P (sym (some_same x word first)) holds)
+        none x (ap (λ (ws : List (List ℕ)). slice_get ws (length front)) is ∙ slice_behind front rest ∙ at) (subst P (sym (same_Some x word first)) holds)
 
 -- each command that begins so ends there, and the words don't
 pub too_many : (words front rest : List (List ℕ)) → words ≡ front ++ rest → IsBegun front → ((more : List (List ℕ)) (command : CommandData) → IsCommand (front ++ more) command → more ≡ [])
@@ -84,13 +85,13 @@ too_many words front rest is begun last many = subst (λ (ws : List (List ℕ)).
 -- ---- words and numbers that begin each command
 
 abbrev pub a_word : List ℕ
-a_word = 97 ∷ []
+a_word = codes "a"
 
 abbrev pub one_word : List ℕ
-one_word = 49 ∷ []
+one_word = codes "1"
 
 abbrev all_word : List ℕ
-all_word = 97 ∷ 108 ∷ 108 ∷ []
+all_word = codes "all"
 
 pub a_file : IsFile a_word
 a_file = record { some = omega arith; fits = omega arith; nonzero = All-from_recursion (λ (b : ℕ). b ≢ 0) a_word ((λ is. cc), tt) }
@@ -98,7 +99,7 @@ a_file = record { some = omega arith; fits = omega arith; nonzero = All-from_rec
 a_count : IsCount one_word 1
 a_count = record { decimal = refl; some = omega arith; limit = omega arith }
 
-one_term : AreTerms (a_word ∷ [])
+one_term : AreTermWords (a_word ∷ [])
 one_term = record { some = omega arith; few = omega arith; each = All-from_recursion IsTerm (a_word ∷ []) (omega arith, tt) }
 
 pub begun_terms : (f c b : List ℕ) (k : ℕ) (budget : Budget) (terms : List (List ℕ)) → IsFile f → IsCount c k → IsBudget b budget → length terms ≤ 255 → All IsTerm terms → IsBegun (once_word ∷ f ∷ c ∷ b ∷ terms)
@@ -123,10 +124,10 @@ begun_nothing = begun_less (once_word ∷ a_word ∷ []) 2 0 (omega arith) (begu
 -- any file has another beside it
 other_file : (f : List ℕ) → (t : List ℕ) × IsFile t × (f ≢ t)
 other_file [] = (a_word, a_file, λ is. cc)
-other_file (b ∷ []) = (97 ∷ 97 ∷ [], long_file, λ is. (let sizes : 1 ≡ 2 = ap length is in omega (arith, sizes)))
+other_file (b ∷ []) = (codes "aa", long_file, λ is. (let sizes : 1 ≡ 2 = ap length is in omega (arith, sizes)))
   where
-    long_file : IsFile (97 ∷ 97 ∷ [])
-    long_file = record { some = omega arith; fits = omega arith; nonzero = All-from_recursion (λ (b : ℕ). b ≢ 0) (97 ∷ 97 ∷ []) ((λ is. cc), ((λ is. cc), tt)) }
+    long_file : IsFile (codes "aa")
+    long_file = record { some = omega arith; fits = omega arith; nonzero = All-from_recursion (λ (b : ℕ). b ≢ 0) (codes "aa") ((λ is. cc), ((λ is. cc), tt)) }
 other_file (b ∷ c ∷ f) = (a_word, a_file, λ is. (let sizes : length (b ∷ c ∷ f) ≡ 1 = ap length is in omega (arith, sizes)))
 
 -- ---- names behind which files stand
@@ -150,17 +151,17 @@ begun_options f t more options read written differ spelled once = (
 other_beside : (f g : List ℕ) → (t : List ℕ) × IsFile t × (f ≢ t) × (g ≢ t)
 other_beside f g = (let (t, file, first, second) = of_length (length f) (length g) in (t, file, (λ is. first (ap length is)), (λ is. second (ap length is))))
   where
-    two : IsFile (97 ∷ 97 ∷ [])
-    two = record { some = omega arith; fits = omega arith; nonzero = All-from_recursion (λ (b : ℕ). b ≢ 0) (97 ∷ 97 ∷ []) ((λ is. cc), ((λ is. cc), tt)) }
+    two : IsFile (codes "aa")
+    two = record { some = omega arith; fits = omega arith; nonzero = All-from_recursion (λ (b : ℕ). b ≢ 0) (codes "aa") ((λ is. cc), ((λ is. cc), tt)) }
 
-    three : IsFile (97 ∷ 97 ∷ 97 ∷ [])
-    three = record { some = omega arith; fits = omega arith; nonzero = All-from_recursion (λ (b : ℕ). b ≢ 0) (97 ∷ 97 ∷ 97 ∷ []) ((λ is. cc), ((λ is. cc), ((λ is. cc), tt))) }
+    three : IsFile (codes "aaa")
+    three = record { some = omega arith; fits = omega arith; nonzero = All-from_recursion (λ (b : ℕ). b ≢ 0) (codes "aaa") ((λ is. cc), ((λ is. cc), ((λ is. cc), tt))) }
 
     of_length : (m n : ℕ) → (t : List ℕ) × IsFile t × (m ≢ length t) × (n ≢ length t)
-    of_length (suc zero) (suc (suc zero)) = (97 ∷ 97 ∷ 97 ∷ [], three, (λ is. omega (arith, is)), (λ is. omega (arith, is)))
-    of_length (suc (suc zero)) (suc zero) = (97 ∷ 97 ∷ 97 ∷ [], three, (λ is. omega (arith, is)), (λ is. omega (arith, is)))
-    of_length (suc zero) n = (97 ∷ 97 ∷ [], two, (λ is. omega (arith, is)), (λ is. omega (arith, is)))
-    of_length m (suc zero) = (97 ∷ 97 ∷ [], two, (λ is. omega (arith, is)), (λ is. omega (arith, is)))
+    of_length (suc zero) (suc (suc zero)) = (codes "aaa", three, (λ is. omega (arith, is)), (λ is. omega (arith, is)))
+    of_length (suc (suc zero)) (suc zero) = (codes "aaa", three, (λ is. omega (arith, is)), (λ is. omega (arith, is)))
+    of_length (suc zero) n = (codes "aa", two, (λ is. omega (arith, is)), (λ is. omega (arith, is)))
+    of_length m (suc zero) = (codes "aa", two, (λ is. omega (arith, is)), (λ is. omega (arith, is)))
     of_length m n = (a_word, a_file, (λ is. omega (arith, is)), (λ is. omega (arith, is)))
 
 pub begun_search : (f t r : List ℕ) (more : List (List ℕ)) (options : List SearchData) → IsFile f → IsFile t → IsFile r → f ≢ t → f ≢ r → t ≢ r → Spell IsSearchOption more options → HaveOnce search_key options → IsBegun (search_word ∷ f ∷ t ∷ r ∷ more)
@@ -269,7 +270,7 @@ without_second name words f rest takes is file none = bad_word words (name ∷ f
     each : (more : List (List ℕ)) (command : CommandData) → IsCommand (name ∷ f ∷ more) command → (word : List ℕ) × (slice_get more 0 ≡ Some word) × (IsFile word × (f ≢ word))
     each more command whole =
         let (from, to, behind, files) = takes.each (f ∷ more) command whole in
-        let first : f ≡ from = some_same f from (ap (λ (ws : List (List ℕ)). slice_get ws 1) files.parts) in
+        let first : f ≡ from = same_Some f from (ap (λ (ws : List (List ℕ)). slice_get ws 1) files.parts) in
         (to, ap (λ (ws : List (List ℕ)). slice_get ws 2) files.parts, (files.written, λ same. files.differ (sym first ∙ same)))
 
 pub with_more : (name : List ℕ) (words : List (List ℕ)) (f t : List ℕ) (more : List (List ℕ)) → TakesTwoFiles name → HasFiles name words f t more → 3 < length words → IsBadWord words 4
@@ -339,8 +340,8 @@ search_without_run words f t rest files none = bad_word words (search_word ∷ f
     each : (more : List (List ℕ)) (command : CommandData) → IsCommand (search_word ∷ f ∷ t ∷ more) command → (word : List ℕ) × (slice_get more 0 ≡ Some word) × (IsFile word × (f ≢ word) × (t ≢ word))
     each more command whole =
         let (index, queries, run, k, limits, tag, mode, found) = as_search (f ∷ t ∷ more) command whole in
-        let first : f ≡ index = some_same f index (ap (λ (ws : List (List ℕ)). slice_get ws 1) found.files.parts) in
-        let second : t ≡ queries = some_same t queries (ap (λ (ws : List (List ℕ)). slice_get ws 2) found.files.parts) in
+        let first : f ≡ index = same_Some f index (ap (λ (ws : List (List ℕ)). slice_get ws 1) found.files.parts) in
+        let second : t ≡ queries = same_Some t queries (ap (λ (ws : List (List ℕ)). slice_get ws 2) found.files.parts) in
         (run, ap (λ (ws : List (List ℕ)). slice_get ws 3) found.files.parts, (found.output, (λ same. found.apart (sym first ∙ same)), (λ same. found.beside (sym second ∙ same))))
 
 pub search_with_bad : (words : List (List ℕ)) (f t r : List ℕ) (more : List (List ℕ)) (place : ℕ) (options : List SearchData) → HasFiles search_word words f t (r ∷ more) → IsFile r → f ≢ r → t ≢ r → place < length more

@@ -1,5 +1,5 @@
 -- Budgets between commas.
-use Rattle.std.proofs.Common.{◌≡◌, ℕ, ◌<◌, ◌≤◌, List, [], ◌∷◌, ◌++◌, length, refl, sym, ap, subst, ◌∙◌, arith, eqb, append_assoc, length-append}
+use Rattle.std.proofs.Common.{◌≡◌, ℕ, ◌<◌, ◌≤◌, List, [], ◌∷◌, ◌++◌, length, sym, ap, subst, ◌∙◌, arith, eqb, append_assoc, length-append}
 use Rattle.std.proofs.Common.{Bor, Option, Some, None, lit<, false}
 use Rattle.std.specs.Prelude.{IfSome}
 use Rattle.std.proofs.lemmas.Str.Pattern.{IsSplitOnceResult, split_once_first}
@@ -22,9 +22,6 @@ pub record IsSplit (value : List ℕ) (read : List Budget) (rest : List ℕ) : T
   pub front : List (List ℕ)
   pub parts : parts_of value ≡ front ++ parts_of rest
   pub spelled : Spell IsBudget front read
-
-pub split_start : (value : List ℕ) → IsSplit value [] value
-split_start value = record { front = []; parts = refl; spelled = tt }
 
 pub split_more : (value : List ℕ) (read : List Budget) (rest first behind : List ℕ) (budget : Budget) → IsSplit value read rest → parts_of rest ≡ first ∷ parts_of behind → IsBudget first budget → IsSplit value (read ++ budget ∷ []) behind
 split_more value read rest first behind budget split cut is = record {

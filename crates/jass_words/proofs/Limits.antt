@@ -8,6 +8,7 @@ use Rattle.std.proofs.lemmas.List.Splits.{length-slice_split}
 use Rattle.jass_base.specs.declared.answer.Budget.{Budget}
 use Rattle.jass_base.specs.declared.answer.Budget.TheVariants as budgets
 use Rattle.query_reader.specs.declared.mode.Mode.{Mode}
+use Rattle.std.proofs.lemmas.Option.{same_Some}
 use Rattle.jass_words.specs.Numbers.{IsBudget}
 use Rattle.jass_words.specs.Spelled.{Spell, given}
 use Rattle.jass_words.specs.Searching.{SearchData, Hits, Limits, Tag, IsTag, IsSearchOption, IsWithinLimits, hits_in, limits_in, tag_in}
@@ -26,9 +27,6 @@ usual {T} {A} Is kind P value holds each (w ∷ words) (o ∷ options) are = at 
     at None same later = later
     at (Some said) same later = each w o said are.0 same
 
-some_said : {A : Type 0} (a b : A) → Some a ≡ Some b → a ≡ b
-some_said a b is = cc
-
 abbrev IsHits : ℕ → Type 0
 IsHits k = (1 ≤ k) × (k ≤ 100000)
 
@@ -36,24 +34,24 @@ abbrev IsFew : List Budget → Type 0
 IsFew limits = (1 ≤ length limits) × (length limits ≤ 16)
 
 hits_said : (word : List ℕ) (option : SearchData) (k : ℕ) → IsSearchOption word option → hits_in option ≡ Some k → IsHits k
-hits_said word (Hits l) k is same = subst IsHits (some_said l k same) (is.2.some, is.2.limit)
+hits_said word (Hits l) k is same = subst IsHits (same_Some l k same) (is.2.some, is.2.limit)
 hits_said word option k is same = cc
 
 limits_said : (word : List ℕ) (option : SearchData) (limits : List Budget) → IsSearchOption word option → limits_in option ≡ Some limits → IsFew limits
 limits_said word (Limits ls) limits is same =
     let parts = as_many IsBudget (slice_split (λ b. eqb b 44) is.0) ls is.2.each in
-    subst IsFew (some_said ls limits same) (omega (arith, parts, length-slice_split (λ b. eqb b 44) is.0), is.2.few)
+    subst IsFew (same_Some ls limits same) (omega (arith, parts, length-slice_split (λ b. eqb b 44) is.0), is.2.few)
 limits_said word option limits is same = cc
 
 tag_said : (word : List ℕ) (option : SearchData) (tag : List ℕ) → IsSearchOption word option → tag_in option ≡ Some tag → IsTag tag
-tag_said word (Tag t) tag is same = subst IsTag (some_said t tag same) is.2.1
+tag_said word (Tag t) tag is same = subst IsTag (same_Some t tag same) is.2.1
 tag_said word option tag is same = cc
 
 usual_tag : IsTag (codes "jass")
 usual_tag = record {
   some = omega arith;
   fits = omega arith;
-  visible = All-from_recursion (λ b. (33 ≤ b) × (b ≤ 126)) (106 ∷ 97 ∷ 115 ∷ 115 ∷ []) ((omega arith, omega arith), ((omega arith, omega arith), ((omega arith, omega arith), ((omega arith, omega arith), tt))));
+  visible = All-from_recursion (λ b. (33 ≤ b) × (b ≤ 126)) (codes "jass") ((omega arith, omega arith), ((omega arith, omega arith), ((omega arith, omega arith), ((omega arith, omega arith), tt))));
 }
 
 pub search_within : (words : List (List ℕ)) (index queries run : List ℕ) (k : ℕ) (limits : List Budget) (tag : List ℕ) (mode : Mode) → IsCommand words (Search index queries run k limits tag mode) → IsWithinLimits k limits tag

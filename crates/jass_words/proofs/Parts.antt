@@ -17,43 +17,41 @@ use Rattle.jass_words.specs.Searching.{SearchData, IsSearchOption, hits_in, limi
 use Rattle.query_reader.specs.declared.mode.Mode.{Mode}
 use Rattle.query_reader.specs.declared.mode.Mode.TheVariants.{Plain}
 use Rattle.std.specs.Option.{unwrap_or}
+use Rattle.std.proofs.lemmas.Option.{same_Some}
 use Rattle.jass_words.specs.Words.{CommandData, Once, Rewrite, Import, Check, Export, Migrate, Search, Serve, Trial, Help, Version, HasFiles, IsOnce, IsRewrite, IsImport, IsCheck, IsExport, IsMigrate, IsSearch, IsServe, IsFrames, IsTrial, IsHelp, IsVersion, IsCommand}
 
 abbrev pub once_word : List ℕ
-once_word = 111 ∷ 110 ∷ 99 ∷ 101 ∷ []
+once_word = codes "once"
 
 abbrev pub rewrite_word : List ℕ
-rewrite_word = 114 ∷ 101 ∷ 119 ∷ 114 ∷ 105 ∷ 116 ∷ 101 ∷ []
+rewrite_word = codes "rewrite"
 
 abbrev pub import_word : List ℕ
-import_word = 105 ∷ 109 ∷ 112 ∷ 111 ∷ 114 ∷ 116 ∷ []
+import_word = codes "import"
 
 abbrev pub check_word : List ℕ
-check_word = 99 ∷ 104 ∷ 101 ∷ 99 ∷ 107 ∷ []
+check_word = codes "check"
 
 abbrev pub export_word : List ℕ
-export_word = 101 ∷ 120 ∷ 112 ∷ 111 ∷ 114 ∷ 116 ∷ []
+export_word = codes "export"
 
 abbrev pub migrate_word : List ℕ
-migrate_word = 109 ∷ 105 ∷ 103 ∷ 114 ∷ 97 ∷ 116 ∷ 101 ∷ []
+migrate_word = codes "migrate"
 
 abbrev pub search_word : List ℕ
-search_word = 115 ∷ 101 ∷ 97 ∷ 114 ∷ 99 ∷ 104 ∷ []
+search_word = codes "search"
 
 abbrev pub serve_word : List ℕ
-serve_word = 115 ∷ 101 ∷ 114 ∷ 118 ∷ 101 ∷ []
-
-abbrev pub frames_key : List ℕ
-frames_key = 102 ∷ 114 ∷ 97 ∷ 109 ∷ 101 ∷ 115 ∷ 61 ∷ []
+serve_word = codes "serve"
 
 abbrev pub trial_word : List ℕ
-trial_word = 116 ∷ 114 ∷ 105 ∷ 97 ∷ 108 ∷ []
+trial_word = codes "trial"
 
 abbrev pub help_word : List ℕ
-help_word = 45 ∷ 45 ∷ 104 ∷ 101 ∷ 108 ∷ 112 ∷ []
+help_word = codes "--help"
 
 abbrev pub version_word : List ℕ
-version_word = 45 ∷ 45 ∷ 118 ∷ 101 ∷ 114 ∷ 115 ∷ 105 ∷ 111 ∷ 110 ∷ []
+version_word = codes "--version"
 
 -- the name of a command
 abbrev pub word_of : CommandData → List ℕ
@@ -83,55 +81,52 @@ begins words (Trial seed docs terms queries) is = ap (λ (ws : List (List ℕ)).
 begins words Help is = ap (λ (ws : List (List ℕ)). slice_get ws 0) is.parts
 begins words Version is = ap (λ (ws : List (List ℕ)). slice_get ws 0) is.parts
 
-pub some_same : {A : Type 0} (a b : A) → Some a ≡ Some b → a ≡ b
-some_same a b is = cc
-
 -- ---- words behind a name are those of its command
 
 pub as_once : (rest : List (List ℕ)) (command : CommandData) → IsCommand (once_word ∷ rest) command → (ciff : List ℕ) × (k : ℕ) × (budget : Budget) × (terms : List (List ℕ)) × IsOnce (once_word ∷ rest) ciff k budget terms
 as_once rest (Once ciff k budget terms) is = (ciff, k, budget, terms, is)
-as_once rest other is = absurd (other_text once_word (word_of other) refl (some_same once_word (word_of other) (begins (once_word ∷ rest) other is)))
+as_once rest other is = absurd (other_text once_word (word_of other) refl (same_Some once_word (word_of other) (begins (once_word ∷ rest) other is)))
 
 pub as_rewrite : (rest : List (List ℕ)) (command : CommandData) → IsCommand (rewrite_word ∷ rest) command → (from : List ℕ) × (to : List ℕ) × IsRewrite (rewrite_word ∷ rest) from to
 as_rewrite rest (Rewrite from to) is = (from, to, is)
-as_rewrite rest other is = absurd (other_text rewrite_word (word_of other) refl (some_same rewrite_word (word_of other) (begins (rewrite_word ∷ rest) other is)))
+as_rewrite rest other is = absurd (other_text rewrite_word (word_of other) refl (same_Some rewrite_word (word_of other) (begins (rewrite_word ∷ rest) other is)))
 
 pub as_export : (rest : List (List ℕ)) (command : CommandData) → IsCommand (export_word ∷ rest) command → (from : List ℕ) × (to : List ℕ) × IsExport (export_word ∷ rest) from to
 as_export rest (Export from to) is = (from, to, is)
-as_export rest other is = absurd (other_text export_word (word_of other) refl (some_same export_word (word_of other) (begins (export_word ∷ rest) other is)))
+as_export rest other is = absurd (other_text export_word (word_of other) refl (same_Some export_word (word_of other) (begins (export_word ∷ rest) other is)))
 
 pub as_migrate : (rest : List (List ℕ)) (command : CommandData) → IsCommand (migrate_word ∷ rest) command → (from : List ℕ) × (to : List ℕ) × IsMigrate (migrate_word ∷ rest) from to
 as_migrate rest (Migrate from to) is = (from, to, is)
-as_migrate rest other is = absurd (other_text migrate_word (word_of other) refl (some_same migrate_word (word_of other) (begins (migrate_word ∷ rest) other is)))
+as_migrate rest other is = absurd (other_text migrate_word (word_of other) refl (same_Some migrate_word (word_of other) (begins (migrate_word ∷ rest) other is)))
 
 pub as_import : (rest : List (List ℕ)) (command : CommandData) → IsCommand (import_word ∷ rest) command → (ciff : List ℕ) × (index : List ℕ) × (rule : Rule) × (bits : Bits) × IsImport (import_word ∷ rest) ciff index rule bits
 as_import rest (Import ciff index rule bits) is = (ciff, index, rule, bits, is)
-as_import rest other is = absurd (other_text import_word (word_of other) refl (some_same import_word (word_of other) (begins (import_word ∷ rest) other is)))
+as_import rest other is = absurd (other_text import_word (word_of other) refl (same_Some import_word (word_of other) (begins (import_word ∷ rest) other is)))
 
 pub as_search : (rest : List (List ℕ)) (command : CommandData) → IsCommand (search_word ∷ rest) command
     → (index queries run : List ℕ) × (k : ℕ) × (limits : List Budget) × (tag : List ℕ) × (mode : Mode) × IsSearch (search_word ∷ rest) index queries run k limits tag mode
 as_search rest (Search index queries run k limits tag mode) is = (index, queries, run, k, limits, tag, mode, is)
-as_search rest other is = absurd (other_text search_word (word_of other) refl (some_same search_word (word_of other) (begins (search_word ∷ rest) other is)))
+as_search rest other is = absurd (other_text search_word (word_of other) refl (same_Some search_word (word_of other) (begins (search_word ∷ rest) other is)))
 
 pub as_trial : (rest : List (List ℕ)) (command : CommandData) → IsCommand (trial_word ∷ rest) command → (seed docs terms queries : ℕ) × IsTrial (trial_word ∷ rest) seed docs terms queries
 as_trial rest (Trial seed docs terms queries) is = (seed, docs, terms, queries, is)
-as_trial rest other is = absurd (other_text trial_word (word_of other) refl (some_same trial_word (word_of other) (begins (trial_word ∷ rest) other is)))
+as_trial rest other is = absurd (other_text trial_word (word_of other) refl (same_Some trial_word (word_of other) (begins (trial_word ∷ rest) other is)))
 
 pub as_serve : (rest : List (List ℕ)) (command : CommandData) → IsCommand (serve_word ∷ rest) command → (index : List ℕ) × (frames : ℕ) × IsServe (serve_word ∷ rest) index frames
 as_serve rest (Serve index frames) is = (index, frames, is)
-as_serve rest other is = absurd (other_text serve_word (word_of other) refl (some_same serve_word (word_of other) (begins (serve_word ∷ rest) other is)))
+as_serve rest other is = absurd (other_text serve_word (word_of other) refl (same_Some serve_word (word_of other) (begins (serve_word ∷ rest) other is)))
 
 pub as_check : (rest : List (List ℕ)) (command : CommandData) → IsCommand (check_word ∷ rest) command → (index : List ℕ) × IsCheck (check_word ∷ rest) index
 as_check rest (Check index) is = (index, is)
-as_check rest other is = absurd (other_text check_word (word_of other) refl (some_same check_word (word_of other) (begins (check_word ∷ rest) other is)))
+as_check rest other is = absurd (other_text check_word (word_of other) refl (same_Some check_word (word_of other) (begins (check_word ∷ rest) other is)))
 
 pub as_help : (rest : List (List ℕ)) (command : CommandData) → IsCommand (help_word ∷ rest) command → IsHelp (help_word ∷ rest)
 as_help rest Help is = is
-as_help rest other is = absurd (other_text help_word (word_of other) refl (some_same help_word (word_of other) (begins (help_word ∷ rest) other is)))
+as_help rest other is = absurd (other_text help_word (word_of other) refl (same_Some help_word (word_of other) (begins (help_word ∷ rest) other is)))
 
 pub as_version : (rest : List (List ℕ)) (command : CommandData) → IsCommand (version_word ∷ rest) command → IsVersion (version_word ∷ rest)
 as_version rest Version is = is
-as_version rest other is = absurd (other_text version_word (word_of other) refl (some_same version_word (word_of other) (begins (version_word ∷ rest) other is)))
+as_version rest other is = absurd (other_text version_word (word_of other) refl (same_Some version_word (word_of other) (begins (version_word ∷ rest) other is)))
 
 -- ---- words are one command at most
 
@@ -142,7 +137,7 @@ same_files name words from to from' to' more more' is theirs =
     (cc, cc, cc)
 
 one_number : (word other : List ℕ) (least most n m : ℕ) → word ≡ other → IsNumber word least most n → IsNumber other least most m → n ≡ m
-one_number word other least most n m same is theirs = some_same n m (sym is.decimal ∙ ap decimal_of same ∙ theirs.decimal)
+one_number word other least most n m same is theirs = same_Some n m (sym is.decimal ∙ ap decimal_of same ∙ theirs.decimal)
 
 -- a word spells one number of frames
 one_frames : (word other : List ℕ) (n m : ℕ) → word ≡ other → IsFrames word n → IsFrames other m → n ≡ m
@@ -156,7 +151,7 @@ one_command words (Once f k b ts) (Once g l c us) is theirs =
     let limit : is.limit ≡ theirs.limit = cc in
     let terms : ts ≡ us = cc in
     let there : decimal_of is.count ≡ Some l = subst (λ w. decimal_of w ≡ Some l) (sym count) theirs.counted.decimal in
-    let k_is : k ≡ l = some_same k l (sym is.counted.decimal ∙ there) in
+    let k_is : k ≡ l = same_Some k l (sym is.counted.decimal ∙ there) in
     let b_is : b ≡ c = same_budget is.limit b c is.limited (subst (λ w. IsBudget w c) (sym limit) theirs.limited) in
     (λ i. Once (file i) (k_is i) (b_is i) (terms i))
 one_command words (Rewrite from to) (Rewrite from' to') is theirs = (let same = same_files rewrite_word words from to from' to' [] [] is theirs in (λ i. Rewrite (same.0 i) (same.1 i)))
@@ -170,7 +165,7 @@ one_command words (Import ciff index rule bits) (Import ciff' index' rule' bits'
     (λ i. Import (same.0 i) (same.1 i) (rules i) (widths i))
 one_command words (Search index queries run k limits tag mode) (Search index' queries' run' k' limits' tag' mode') is theirs =
     let same = same_files search_word words index queries index' queries' (run ∷ is.more) (run' ∷ theirs.more) is.files theirs.files in
-    let runs : run ≡ run' = some_same run run' (ap (λ (ws : List (List ℕ)). slice_get ws 0) same.2) in
+    let runs : run ≡ run' = same_Some run run' (ap (λ (ws : List (List ℕ)). slice_get ws 0) same.2) in
     let options : is.options ≡ theirs.options = spell_one IsSearchOption one_option theirs.more is.options theirs.options (subst (λ (ws : List (List ℕ)). Spell IsSearchOption ws is.options) (ap (drop 1) same.2) is.spelled) theirs.spelled in
     let hits : k ≡ k' = is.hits ∙ ap (λ (os : List SearchData). unwrap_or (given hits_in os) 1000) options ∙ sym theirs.hits in
     let grants : limits ≡ limits' = is.granted ∙ ap (λ (os : List SearchData). unwrap_or (given limits_in os) (budgets.All ∷ [])) options ∙ sym theirs.granted in
@@ -196,4 +191,4 @@ one_command words (Trial seed docs terms queries) (Trial seed' docs' terms' quer
     (λ i. Trial (first i) (second i) (third i) (fourth i))
 one_command words Help Help is theirs = λ i. Help
 one_command words Version Version is theirs = λ i. Version
-one_command words command other is theirs = absurd (other_text (word_of command) (word_of other) refl (some_same (word_of command) (word_of other) (sym (begins words command is) ∙ begins words other theirs)))
+one_command words command other is theirs = absurd (other_text (word_of command) (word_of other) refl (same_Some (word_of command) (word_of other) (sym (begins words command is) ∙ begins words other theirs)))

@@ -10,6 +10,7 @@ use Rattle.jass_base.specs.declared.answer.Budget.{Budget}
 use Rattle.jass_base.specs.declared.answer.Budget.TheVariants as budgets
 use Rattle.query_reader.specs.declared.mode.Mode.{Mode}
 use Rattle.query_reader.specs.declared.mode.Mode.TheVariants.{Plain, Folded}
+use Rattle.std.proofs.lemmas.Option.{same_Some}
 use Rattle.jass_words.specs.Numbers.{IsBudget}
 use Rattle.jass_words.specs.Spelled.{Spell, HaveOnce, given}
 use Rattle.jass_words.specs.Searching.{SearchData, Hits, Limits, Tag, Reading, search_key, IsMode, IsSearchValue, IsSearchOption, hits_in, limits_in, tag_in, mode_in, SearchSeen}
@@ -18,10 +19,7 @@ use Rattle.jass_words.proofs.Spelling.{spell_one, as_many, spelled_more, once_mo
 -- ---- a word spells one option
 
 abbrev all_word : List ℕ
-all_word = 97 ∷ 108 ∷ 108 ∷ []
-
-some_one : {A : Type 0} (a b : A) → Some a ≡ Some b → a ≡ b
-some_one a b is = cc
+all_word = codes "all"
 
 pub same_budget : (word : List ℕ) (budget other : Budget) → IsBudget word budget → IsBudget word other → budget ≡ other
 same_budget word (budgets.Postings m) (budgets.Postings n) is theirs = (let same : m ≡ n = cc in ap budgets.Postings same)
@@ -36,10 +34,10 @@ one_mode value Plain Folded is theirs = (let both : codes "plain" ≡ codes "fol
 one_mode value Folded Plain is theirs = (let both : codes "plain" ≡ codes "folded" = sym theirs ∙ is in cc)
 
 abbrev letter : SearchData → List ℕ
-letter (Hits k) = 107 ∷ []
-letter (Limits limits) = 98 ∷ []
-letter (Tag tag) = 116 ∷ []
-letter (Reading mode) = 109 ∷ []
+letter (Hits k) = codes "k"
+letter (Limits limits) = codes "b"
+letter (Tag tag) = codes "t"
+letter (Reading mode) = codes "m"
 
 begins_so : (word : List ℕ) (option : SearchData) → IsSearchOption word option → take 1 word ≡ letter option
 begins_so word (Hits k) is = ap (λ (w : List ℕ). take 1 w) is.1
@@ -50,7 +48,7 @@ begins_so word (Reading mode) is = ap (λ (w : List ℕ). take 1 w) is.1
 pub one_option : (word : List ℕ) (a b : SearchData) → IsSearchOption word a → IsSearchOption word b → a ≡ b
 one_option word (Hits k) (Hits l) is theirs =
     let same : is.0 ≡ theirs.0 = ap (drop 2) (sym is.1 ∙ theirs.1) in
-    ap Hits (some_one k l (sym is.2.decimal ∙ subst (λ (v : List ℕ). decimal_of v ≡ Some l) (sym same) theirs.2.decimal))
+    ap Hits (same_Some k l (sym is.2.decimal ∙ subst (λ (v : List ℕ). decimal_of v ≡ Some l) (sym same) theirs.2.decimal))
 one_option word (Limits a) (Limits b) is theirs =
     let same : is.0 ≡ theirs.0 = ap (drop 7) (sym is.1 ∙ theirs.1) in
     ap Limits (spell_one IsBudget same_budget (slice_split (λ c. eqb c 44) is.0) a b is.2.each (subst (λ (v : List ℕ). Spell IsBudget (slice_split (λ c. eqb c 44) v) b) (sym same) theirs.2.each))

@@ -1,19 +1,19 @@
 -- The file and the frames of `serve`, and the first word that is none of them.
-use Rattle.std.proofs.Common.{◌≡◌, ℕ, ◌<◌, ◌≤◌, List, [], ◌∷◌, ◌++◌, length, drop, String, Global, Some, refl, ap, arith}
-use Rattle.std.specs.Prelude.{slice_get, IfSome}
+use Rattle.std.proofs.Common.{◌≡◌, ℕ, ◌<◌, ◌≤◌, List, [], ◌∷◌, length, drop, String, Global, Some, refl, ap, arith}
+use Rattle.std.specs.Prelude.{slice_get, IfSome, codes}
 use Rattle.jass_words.specs.Words.{CommandData, Serve, IsServe, IsFrames, IsFile, IsCommand, IsBegun, IsBadWord, texts}
-use Rattle.jass_words.proofs.Parts.{serve_word, frames_key, as_serve}
+use Rattle.jass_words.proofs.Parts.{serve_word, as_serve}
 use Rattle.jass_words.proofs.Beginnings.{a_word, a_file, begun_less, bad_word, too_many}
 use Rattle.jass_words.proofs.Terms.{found, size_of_texts}
 
-one_frame : IsFrames (frames_key ++ 49 ∷ []) 1
-one_frame = record { count = 49 ∷ []; parts = refl; counted = record { decimal = refl; some = omega arith; limit = omega arith } }
+one_frame : IsFrames (codes "frames=1") 1
+one_frame = record { count = codes "1"; parts = refl; counted = record { decimal = refl; some = omega arith; limit = omega arith } }
 
 begun_whole : (f w : List ℕ) (n : ℕ) → IsFile f → IsFrames w n → IsBegun (serve_word ∷ f ∷ w ∷ [])
 begun_whole f w n file frames = ([], Serve f n, record { last = w; parts = refl; file = file; shared = frames })
 
 begun_file : (f : List ℕ) → IsFile f → IsBegun (serve_word ∷ f ∷ [])
-begun_file f file = begun_less (serve_word ∷ f ∷ (frames_key ++ 49 ∷ []) ∷ []) 3 2 (omega arith) (begun_whole f (frames_key ++ 49 ∷ []) 1 file one_frame)
+begun_file f file = begun_less (serve_word ∷ f ∷ codes "frames=1" ∷ []) 3 2 (omega arith) (begun_whole f (codes "frames=1") 1 file one_frame)
 
 begun_name : IsBegun (serve_word ∷ [])
 begun_name = begun_less (serve_word ∷ a_word ∷ []) 2 1 (omega arith) (begun_file a_word a_file)

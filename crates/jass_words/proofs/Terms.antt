@@ -7,7 +7,7 @@ use Rattle.std.specs.String.{string_bytes}
 use Rattle.std.proofs.lemmas.List.Elements.{All-from_recursion, recursion_from_All}
 use Rattle.jass_base.specs.declared.answer.Budget.{Budget}
 use Rattle.jass_words.specs.Numbers.{IsCount, IsBudget}
-use Rattle.jass_words.specs.Words.{CommandData, Once, Rewrite, Import, Check, Export, Migrate, Search, Serve, Trial, Help, Version, HasFiles, IsCheck, IsFile, IsTerm, AreTerms, IsCommand, IsNoCommand, IsBegun, IsBadWord, texts}
+use Rattle.jass_words.specs.Words.{CommandData, Once, Rewrite, Import, Check, Export, Migrate, Search, Serve, Trial, Help, Version, HasFiles, IsCheck, IsFile, IsTerm, AreTermWords, IsCommand, IsNoCommand, IsBegun, IsBadWord, texts}
 use Rattle.jass_words.proofs.Parts.{once_word, rewrite_word, import_word, check_word, export_word, migrate_word, search_word, serve_word, trial_word, help_word, version_word, word_of, as_once}
 use Rattle.jass_words.proofs.Beginnings.{begun_terms, begun_once, begun_file, begun_count, begun_nothing, never, no_name}
 
@@ -49,8 +49,8 @@ opened5 (x ∷ rest) a b c d e first second third fourth fifth =
 
 -- ---- the terms of `once`
 
-terms_last : (x y z : List ℕ) (rest : List (List ℕ)) (command : CommandData) → IsCommand (once_word ∷ x ∷ y ∷ z ∷ rest) command → AreTerms rest
-terms_last x y z rest command is = (let (ciff, k, budget, terms, once) = as_once (x ∷ y ∷ z ∷ rest) command is in subst AreTerms (sym (ap (drop 4) once.parts)) once.named)
+terms_last : (x y z : List ℕ) (rest : List (List ℕ)) (command : CommandData) → IsCommand (once_word ∷ x ∷ y ∷ z ∷ rest) command → AreTermWords rest
+terms_last x y z rest command is = (let (ciff, k, budget, terms, once) = as_once (x ∷ y ∷ z ∷ rest) command is in subst AreTermWords (sym (ap (drop 4) once.parts)) once.named)
 
 fewer : (terms : List (List ℕ)) (m j : ℕ) → j ≤ m → AllByRecursion IsTerm (take m terms) → AllByRecursion IsTerm (take j terms)
 fewer terms m zero within all = tt
@@ -74,7 +74,7 @@ there (t ∷ ts) (suc m) within = there ts m (omega (arith, within))
 no_terms : (x y z : List ℕ) (terms : List (List ℕ)) (m good : ℕ) → good ≡ min m 255 → good < length terms → ((word : List ℕ) → slice_get terms m ≡ Some word → ¬ IsTerm word)
     → ¬ IsBegun (once_word ∷ x ∷ y ∷ z ∷ take (suc good) terms)
 no_terms x y z terms m good is within next (more, command, whole) =
-    let named : AreTerms (take (suc good) terms ++ more) = terms_last x y z (take (suc good) terms ++ more) command whole in
+    let named : AreTermWords (take (suc good) terms ++ more) = terms_last x y z (take (suc good) terms ++ more) command whole in
     let size : length (take (suc good) terms ++ more) ≡ length (take (suc good) terms) + length more = length-append (take (suc good) terms) more in
     let front : length (take (suc good) terms) ≡ min (suc good) (length terms) = length-take (suc good) terms in
     let below : good < 255 = omega (arith, named.few, size, front, within) in
@@ -102,7 +102,7 @@ once_without_terms f c b k budget terms m good file count limit is within all ne
 
     never_once : (good < length terms) ⊎ (length terms ≡ 0) → IsNoCommand (once_word ∷ f ∷ c ∷ b ∷ terms)
     never_once (inl inside) = never (once_word ∷ f ∷ c ∷ b ∷ terms) (5 + good) (unbegun inside)
-    never_once (inr empty) = λ command whole. (let named : AreTerms terms = terms_last f c b terms command whole in omega (arith, named.some, empty))
+    never_once (inr empty) = λ command whole. (let named : AreTermWords terms = terms_last f c b terms command whole in omega (arith, named.some, empty))
 
     front : (n : ℕ) → n < 5 + good → IsBegun (take n (once_word ∷ f ∷ c ∷ b ∷ terms))
     front zero less = begun_nothing
@@ -114,7 +114,7 @@ once_without_terms f c b k budget terms m good file count limit is within all ne
         (All-from_recursion IsTerm (take j terms) (fewer terms m j (omega (arith, less, is)) all))
 
 -- all words are terms
-pub all_terms : (terms : List (List ℕ)) (m good : ℕ) → good ≡ min m 255 → m ≤ length terms → length terms ≤ good → good ≢ 0 → AllByRecursion IsTerm (take m terms) → AreTerms terms
+pub all_terms : (terms : List (List ℕ)) (m good : ℕ) → good ≡ min m 255 → m ≤ length terms → length terms ≤ good → good ≢ 0 → AllByRecursion IsTerm (take m terms) → AreTermWords terms
 all_terms terms m good is within enough some all =
     let whole : take m terms ≡ terms = take_all m terms (omega (arith, is, within, enough)) in
     record {
@@ -135,13 +135,6 @@ one_more words n word within is short all = subst (λ (k : ℕ). AllByRecursion 
     longer [] i within is all = absurd (omega (arith, within))
     longer (w ∷ ws) zero within is all = (subst (λ (x : String Global). IsTerm (string_bytes x)) is short, tt)
     longer (w ∷ ws) (suc i) within is all = (all.0, longer ws i (omega (arith, within)) is all.1)
-
-pub long_word : (words : List (String Global)) (n : ℕ) (word : String Global) (text : List ℕ) → n < length words → word ≡ slice_index_or words n word → 65535 < length (string_bytes word) → slice_get (texts words) n ≡ Some text → ¬ IsTerm text
-long_word [] n word text within is long at short = absurd (omega (arith, within))
-long_word (w ∷ ws) zero word text within is long at short =
-    let same : string_bytes w ≡ text = cc in
-    omega (arith, long, subst (λ (x : String Global). length (string_bytes w) ≡ length (string_bytes w)) is refl, ap (λ (x : String Global). length (string_bytes x)) is, ap length same, short)
-long_word (w ∷ ws) (suc n) word text within is long at short = long_word ws n word text (omega (arith, within)) is long at short
 
 -- ---- files
 

@@ -43,7 +43,7 @@ abbrev pub IsTerm : List ℕ → Type 0
 IsTerm word = length word ≤ 65535
 
 -- the terms of a query: 1 to 255
-pub record AreTerms (terms : List (List ℕ)) : Type 0 where
+pub record AreTermWords (terms : List (List ℕ)) : Type 0 where
   pub some : 1 ≤ length terms
   pub few : length terms ≤ 255
   pub each : All IsTerm terms
@@ -56,7 +56,7 @@ pub record IsOnce (words : List (List ℕ)) (ciff : List ℕ) (k : ℕ) (budget 
   pub file : IsFile ciff
   pub counted : IsCount count k
   pub limited : IsBudget limit budget
-  pub named : AreTerms terms
+  pub named : AreTermWords terms
 
 -- `NAME FROM TO ..`: two files that differ as texts, and the words behind them
 pub record HasFiles (name : List ℕ) (words : List (List ℕ)) (from to : List ℕ) (more : List (List ℕ)) : Type 0 where

@@ -7,7 +7,7 @@ use Rattle.std.proofs.lemmas.Nat.Bits.{and_pow, bit_at-lt}
 use Rattle.std.proofs.lemmas.Simd.{length-chunk, get_or-chunk, get_or-put_chunk_below, get_or-put_chunk_at, get_or-put_chunk_above}
 use Rattle.shared_lemmas.proofs.Places.{same_four}
 use Rattle.lane_kernels.specs.Adding.{is_near}
-use Rattle.lane_kernels.specs.Lanes.{is_marked, weight_at}
+use Rattle.lane_kernels.specs.Private.Lanes.{is_marked, weight_at}
 use Rattle.lane_kernels.proofs.Running.{plus, by_lanes}
 use lib.Lanes.{zip2, sel_l, sum_l, top, chunk, put_chunk}
 

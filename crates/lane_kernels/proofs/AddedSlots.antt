@@ -8,7 +8,7 @@ use Rattle.std.proofs.lemmas.List.Sums.{sum_by-cons, sum_by-append, count_by-le-
 use Rattle.std.proofs.lemmas.Nat.Bits.{bit_at-lt}
 use Rattle.lane_kernels.specs.Adding.{added_where, is_near, near_where, zeros_where}
 use Rattle.lane_kernels.specs.Bitmap.{bit_of}
-use Rattle.lane_kernels.specs.Lanes.{is_marked, weight_at}
+use Rattle.lane_kernels.specs.Private.Lanes.{is_marked, weight_at}
 use Rattle.lane_kernels.proofs.AddedLanes.{marked_count}
 use Rattle.std.proofs.lemmas.Simd.{sum_fits, fold-sum}
 use lib.Lanes.{sum_l, fold_l, Steps}

@@ -9,7 +9,7 @@ use Rattle.std.proofs.lemmas.Simd.{get_or-chunk, length-chunk, get_or-put_chunk_
 use Rattle.shared_lemmas.proofs.Places.{same_four}
 use Rattle.shared_lemmas.proofs.Bits.{bit_at-mod}
 use Rattle.lane_kernels.specs.Block.{number_of_bits, packed_bit, block_byte}
-use Rattle.lane_kernels.specs.Lanes.{pending_lanes}
+use Rattle.lane_kernels.specs.Private.Lanes.{pending_lanes}
 use Rattle.lane_kernels.proofs.Bits.{bit_at-shr, bit_at-shl, bit_at-shl_below, bit_at_number, number_below, number_is, same_numbers}
 use Rattle.lane_kernels.proofs.Running.{by_lanes}
 use lib.Lanes.{zip2, chunk, put_chunk, digits_l, number_l, Each1}

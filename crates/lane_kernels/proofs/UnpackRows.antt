@@ -8,7 +8,7 @@ use Rattle.std.proofs.lemmas.Simd.{get_or-put_chunk_below, get_or-put_chunk_at}
 use Rattle.shared_lemmas.proofs.Places.{same_four}
 use Rattle.shared_lemmas.proofs.Bits.{bit_at-mod}
 use Rattle.lane_kernels.specs.Block.{number_of_bits, lane_word, lane_number, block_value}
-use Rattle.lane_kernels.specs.Lanes.{lane_words, lane_numbers}
+use Rattle.lane_kernels.specs.Private.Lanes.{lane_words, lane_numbers}
 use Rattle.lane_kernels.proofs.Bits.{bit_at-shr, bit_at-shl, bit_at-shl_below, number_is}
 use lib.Lanes.{zip2, put_chunk}
 

@@ -2,5 +2,5 @@ pub mod Adding
 pub mod Bitmap
 pub mod Block
 pub mod Gaps
-pub mod Lanes
 pub mod Width
+pub mod Private

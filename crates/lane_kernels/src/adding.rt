@@ -5,7 +5,7 @@ ghost use Rattle.std.specs.List.{range_with_len};
 ghost use Rattle.std.specs.Simd.Lanes.{sum_l};
 ghost use Rattle.lane_kernels.specs.Adding.{added_where, is_near, near_where, zeros_where};
 ghost use Rattle.lane_kernels.specs.Bitmap.{bit_of};
-ghost use Rattle.lane_kernels.specs.Lanes.{is_marked, weight_at};
+ghost use Rattle.lane_kernels.specs.Private.Lanes.{is_marked, weight_at};
 
 use crate::lanes::{load, store};
 use std::simd::prelude::*;
@@ -45,14 +45,14 @@ pub fn add_where(slots: &mut [u32], bits: &[u8], w: u32, from: u32) -> Added
     }
 }
 
-// How many slots were 0, and how many are near now, lane by lane.
+/// How many slots were 0, and how many are near now, lane by lane.
 #[derive(Clone, Copy)]
 struct Counts {
     zeros: u32x4,
     nears: u32x4,
 }
 
-// The bits of a byte, each in a lane of its own at its place: the low four, and the high four.
+/// The bits of a byte, each in a lane of its own at its place: the low four, and the high four.
 #[inline(always)]
 fn marks_of(byte: u8) -> (u32x4, u32x4)
     ensures low { (k : ℕ) → k < 4 → is_marked result.0 k ≡ (bit_at byte k == 1) }
@@ -64,7 +64,7 @@ fn marks_of(byte: u8) -> (u32x4, u32x4)
     (lanes & low, lanes & high)
 }
 
-// Adds to four neighbouring slots where the lane of `marks` isn't 0.
+/// Adds to four neighbouring slots where the lane of `marks` isn't 0.
 #[inline(always)]
 fn add_four(
     slots: &mut [u32],

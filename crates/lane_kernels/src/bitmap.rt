@@ -19,7 +19,7 @@ pub fn bits_to_docs(bytes: &[u8], base: u32, out: &mut [u32; 128]) -> usize
     push_bits(high, base + 64, out, count)
 }
 
-// The bytes as one number, the first byte the lowest: its low 64 bits, and those above.
+/// The bytes as one number, the first byte the lowest: its low 64 bits, and those above.
 fn words_of(bytes: &[u8]) -> (u64, u64)
     requires { length bytes.now ≤ 16 }
     ensures low { result.0 ≡ number_l 256 bytes.now % 2 ^ 64 }
@@ -42,7 +42,7 @@ fn words_of_16(bytes: &[u8]) -> (u64, u64)
     (words[0], words[1])
 }
 
-// Writes the numbers of a word's set bits behind the first `count` numbers of `out`.
+/// Writes the numbers of a word's set bits behind the first `count` numbers of `out`.
 fn push_bits(word: u64, base: u32, out: &mut [u32; 128], count: usize) -> usize
     requires room { count ≤ 64 }
     requires base { base ≤ 2 ^ 27 }

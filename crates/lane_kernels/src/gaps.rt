@@ -40,7 +40,7 @@ pub fn running128(before: u32, gaps: &mut [u32; 128])
     }
 }
 
-// The numbers with these gaps, from 0 on.
+/// The numbers with these gaps, from 0 on.
 #[inline(always)]
 fn running4(gaps: u32x4) -> u32x4
     requires four { length gaps ≡ 4 }

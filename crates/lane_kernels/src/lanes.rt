@@ -8,7 +8,7 @@ pub(crate) const ROWS: usize = 32;
 
 pub(crate) const WORD_BITS: usize = 32;
 
-// Four neighbouring numbers of a list.
+/// Four neighbouring numbers of a list.
 #[inline(always)]
 pub(crate) fn load(values: &[u32], place: usize) -> u32x4
     requires { place + 4 ≤ length values.now }

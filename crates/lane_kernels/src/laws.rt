@@ -1,11 +1,10 @@
 // Laws of the definitions that the contracts of this crate cite. Each function does nothing: its
 // contract is the law.
-ghost use Rattle.std.specs.Prelude.{◌≡◌, ℕ, ◌+◌, ◌*◌, ◌/◌, ◌%◌, ◌^◌, ◌<◌, ◌≤◌, ◌↔◌, List, ◌++◌, All, Contains, length, slice_index, sum, take};
+ghost use Rattle.std.specs.Prelude.{◌≡◌, ℕ, ◌+◌, ◌*◌, ◌/◌, ◌%◌, ◌^◌, ◌<◌, ◌≤◌, ◌↔◌, List, ◌++◌, All, Contains, length, slice_index};
 ghost use Rattle.std.specs.Int.{bit_at};
 ghost use Rattle.std.specs.List.Sorted.{IsStrictlyIncreasing};
 ghost use Rattle.lane_kernels.specs.Bitmap.{bit_of, set_bits};
 ghost use Rattle.lane_kernels.specs.Block.{block_bytes, block_values, lane_bit};
-ghost use Rattle.lane_kernels.specs.Gaps.{running};
 ghost use Rattle.lane_kernels.specs.Width.{least_width};
 
 /// A packed block gives its values back.
@@ -46,15 +45,6 @@ pub fn least_width_is_least()
         → All (λ value. value < 2 ^ least_width values) values }
     ensures least { (values : List ℕ) (width : ℕ) → All (λ value. value < 2 ^ 32) values
         → All (λ value. value < 2 ^ width) values → least_width values ≤ width }
-{}
-
-/// The numbers with given gaps, by their places and in parts.
-pub fn running_by_places()
-    ensures count { (before : ℕ) (gaps : List ℕ) → length (running before gaps) ≡ length gaps }
-    ensures places { (before : ℕ) (gaps : List ℕ) (i : ℕ) → i < length gaps
-        → slice_index (running before gaps) i ≡ before + sum (take (i + 1) gaps) + i }
-    ensures parts { (before : ℕ) (front back : List ℕ) → running before (front ++ back)
-        ≡ running before front ++ running (before + sum front + length front) back }
 {}
 
 /// The set bits of a bitmap as a rising list, and in parts.

@@ -2,7 +2,7 @@
 ghost use Rattle.std.specs.Prelude.{◌≡◌, ℕ, ◌+◌, ◌*◌, ◌/◌, ◌^◌, ◌<◌, ◌≤◌, All, length, slice_index};
 ghost use Rattle.std.specs.Simd.Lanes.{digits_l, number_l, put_chunk};
 ghost use Rattle.lane_kernels.specs.Block.{block_byte, block_bytes};
-ghost use Rattle.lane_kernels.specs.Lanes.{pending_lanes};
+ghost use Rattle.lane_kernels.specs.Private.Lanes.{pending_lanes};
 
 use crate::lanes::{ROWS, WORD_BITS, load};
 use std::simd::prelude::*;
@@ -33,8 +33,8 @@ fn pack_rows(values: &[u32; 128], width: usize, out: &mut [u8])
     }
 }
 
-// Adds a row to the bits that wait for their word to be full, writes the word once it is, and
-// returns the bits that wait then.
+/// Adds a row to the bits that wait for their word to be full, writes the word once it is, and
+/// returns the bits that wait then.
 fn pack_row(values: &[u32; 128], width: usize, row: usize, pending: u32x4, out: &mut [u8]) -> u32x4
     requires some { 0 < width }
     requires width { width ≤ 32 }
@@ -59,7 +59,7 @@ fn pack_row(values: &[u32; 128], width: usize, row: usize, pending: u32x4, out: 
     (lanes >> u32x4::splat(1)) >> u32x4::splat((WORD_BITS - 1 - shift) as u32)
 }
 
-// Writes word `word` of each lane.
+/// Writes word `word` of each lane.
 #[inline(always)]
 fn store_words(lanes: u32x4, out: &mut [u8], word: usize)
     requires { 16 * word + 16 ≤ length out.old }

@@ -1,7 +1,7 @@
 // Worked examples of the formats that these kernels read and write.
 use crate::{Added, add_where, bits_to_docs, fits128, pack128, running128, unpack128, width128};
 
-// The documents 0, 2, .., 254 have the gap 0 and then 127 times the gap 1.
+/// The documents 0, 2, .., 254 have the gap 0 and then 127 times the gap 1.
 #[test]
 fn packs_every_second_document(rt: HostRuntime) {
     let mut gaps = [1u32; 128];
@@ -33,7 +33,7 @@ fn reads_a_bitmap(rt: HostRuntime) {
     assert!(rt; docs[0] == 1 && docs[1] == 4 && docs[2] == 8);
 }
 
-// Bits 0, 2 and 7 are set: their slots 0, 7 and 9 become 3, 10 and 12.
+/// Bits 0, 2 and 7 are set: their slots 0, 7 and 9 become 3, 10 and 12.
 #[test]
 fn adds_where_bits_are_set(rt: HostRuntime) {
     // Slot 1 is 5, but its bit is not set.

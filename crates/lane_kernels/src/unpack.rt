@@ -1,7 +1,7 @@
 // Blocks of 128 numbers that were packed to one width.
 ghost use Rattle.std.specs.Prelude.{◌≡◌, ℕ, ◌+◌, ◌*◌, ◌%◌, ◌<◌, ◌≤◌, length, slice_index};
 ghost use Rattle.lane_kernels.specs.Block.{block_value, block_values};
-ghost use Rattle.lane_kernels.specs.Lanes.{lane_numbers, lane_words};
+ghost use Rattle.lane_kernels.specs.Private.Lanes.{lane_numbers, lane_words};
 
 use crate::lanes::{ROWS, WORD_BITS, store};
 use crate::zeros::fill_zero;
@@ -66,7 +66,7 @@ fn unpack_at(bytes: &[u8], width: usize, out: &mut [u32; 128])
     }
 }
 
-// Unpacks the eight rows from row `first` on: a loop so short that it is unrolled.
+/// Unpacks the eight rows from row `first` on: a loop so short that it is unrolled.
 #[inline(always)]
 fn unpack_rows(bytes: &[u8], width: usize, first: usize, out: &mut [u32; 128])
     requires some { 0 < width }
@@ -83,8 +83,8 @@ fn unpack_rows(bytes: &[u8], width: usize, first: usize, out: &mut [u32; 128])
     }
 }
 
-// One number of each lane, from bit `first` of the lane on. It lies in one word of its lane, or in
-// two neighbouring ones.
+/// One number of each lane, from bit `first` of the lane on. It lies in one word of its lane, or in
+/// two neighbouring ones.
 #[inline(always)]
 fn row_at(bytes: &[u8], width: usize, first: usize) -> u32x4
     requires some { 0 < width }
@@ -105,7 +105,7 @@ fn row_at(bytes: &[u8], width: usize, first: usize) -> u32x4
     }
 }
 
-// Word `word` of each lane.
+/// Word `word` of each lane.
 #[inline(always)]
 fn words_at(bytes: &[u8], word: usize) -> u32x4
     requires { 16 * word + 16 ≤ length bytes.now }

@@ -18,7 +18,7 @@ use Rattle.shared_lemmas.proofs.Bits.{bit_at-mod}
 use Rattle.lane_kernels.proofs.Bits.{length-list_of, get_or-list_of, list_of_all}
 use Rattle.jass_base.specs.Gaps.{AreDocs}
 use Rattle.jass_base.specs.declared.payload_fault.PayloadFault.{PayloadFault}
-use Rattle.jass_base.specs.declared.payload_fault.PayloadFault.TheVariants.{Cut, Longer, Shape, DocRange}
+use Rattle.jass_base.specs.declared.payload_fault.PayloadFault.TheVariants.{Shape, DocRange}
 use Rattle.lane_kernels.specs.Bitmap.{bit_of, numbers_of_bits, set_bits}
 use Rattle.plain_codecs.specs.Bitmap.{bit_for, bitmap_byte, bitmap_of, bitmap_size, read_bitmap}
 use Rattle.plain_codecs.proofs.BitNumbers.{bit_at_number, number_is}
@@ -113,11 +113,6 @@ member_below d docs x all in_docs =
     let is = in_docs.2 in
     grind (arith, nat_tests)
 
-pub all_below : (d : ℕ) (docs : List ℕ) → Below d docs ≡ true → All (λ doc. doc < d) docs
-all_below d docs all k e h =
-    let test = AllPass-from_list_all (λ doc. nat_lt doc d) docs all k e h in
-    grind (arith, nat_tests)
-
 pub below_all : (d : ℕ) (docs : List ℕ) → All (λ doc. doc < d) docs → Below d docs ≡ true
 below_all d docs below = all_by_members d docs (λ x in_docs. contains_below d docs x below in_docs)
 
@@ -162,16 +157,6 @@ unused_set members d bytes some size fits used set =
     set (div-eq_of_lt (omega (arith, same, low))))
 
 -- ---- the answers of the reading function
-pub is_cut : (d count : ℕ) (bytes : List ℕ) → length bytes < bitmap_size d → read_bitmap d count bytes ≡ Err Cut
-is_cut d count bytes short =
-    let a : nat_lt (length bytes) (bitmap_size d) ≡ true = grind (arith, nat_tests) in
-    rw a refl
-
-pub is_longer : (d count : ℕ) (bytes : List ℕ) → bitmap_size d < length bytes → read_bitmap d count bytes ≡ Err Longer
-is_longer d count bytes long =
-    let a : nat_lt (length bytes) (bitmap_size d) ≡ false = grind (arith, nat_tests) in
-    let b : nat_lt (bitmap_size d) (length bytes) ≡ true = grind (arith, nat_tests) in
-    rw a (rw b refl)
 
 abbrev judged : ℕ → ℕ → List ℕ → Result (List ℕ) PayloadFault
 judged d count docs = cond (Below d docs) (cond (length docs == count) (Ok docs) (Err Shape)) (Err DocRange)
@@ -181,14 +166,6 @@ is_whole d count bytes size =
     let a : nat_lt (length bytes) (bitmap_size d) ≡ false = grind (arith, nat_tests) in
     let b : nat_lt (bitmap_size d) (length bytes) ≡ false = grind (arith, nat_tests) in
     rw a (rw b refl)
-
-pub is_high : (d count : ℕ) (docs : List ℕ) → Below d docs ≡ false → judged d count docs ≡ Err DocRange
-is_high d count docs high = rw high refl
-
-pub is_other : (d count : ℕ) (docs : List ℕ) → Below d docs ≡ true → length docs ≢ count → judged d count docs ≡ Err Shape
-is_other d count docs low other =
-    let test : (length docs == count) ≡ false = grind (arith, nat_tests) in
-    rw low (rw test refl)
 
 pub is_right : (d count : ℕ) (docs : List ℕ) → Below d docs ≡ true → length docs ≡ count → judged d count docs ≡ Ok docs
 is_right d count docs low long =

@@ -4,11 +4,10 @@ use Rattle.std.specs.Int.{bit_at}
 use Rattle.std.specs.List.Sorted.{IsStrictlyIncreasing}
 use Rattle.std.proofs.lemmas.Bool.{cases_lt, cases_eq}
 use Rattle.std.proofs.lemmas.List.{take_more, take-append-drop, get_or-take, get_or-drop, length-take-le, length-drop, append-nil}
-use Rattle.std.proofs.Math.Seq.{take-append_seam}
 use Rattle.lane_kernels.specs.Block.{list_of}
 use Rattle.std.proofs.lemmas.Nat.Bits.{bit_at-zero, bit_at_set_same, bit_at_set_other}
 use Rattle.plain_codecs.specs.Bitmap.{bit_for, bitmap_byte}
-use Rattle.plain_codecs.specs.Partings.{IsParted}
+use Rattle.plain_codecs.specs.Private.Partings.{IsParted}
 use Rattle.plain_codecs.proofs.BitNumbers.{number_is, list_of_more, list_of_none}
 use Rattle.plain_codecs.proofs.Members.{bit_small, bit_of_none, bit_of_last, bit_of_one, bit_of_others}
 
@@ -107,7 +106,3 @@ one_built docs place first next byte old out new far is parted more =
           ∙ ap (λ n. old ++ (front ++ n ∷ [])) is
           ∙ ap (λ (xs : List ℕ). old ++ xs) (sym (list_of_more (bitmap_byte docs) place));
     }
-
--- what is kept where memory is refused
-pub kept : (docs : List ℕ) (place first : ℕ) (old out : List ℕ) → Built docs place first old out → take (length old) out ≡ old
-kept docs place first old out far = ap (take (length old)) far.text ∙ take-append_seam old (list_of (bitmap_byte docs) place)

@@ -1,14 +1,9 @@
 -- Gaps that are made into documents in place.
-use Rattle.std.proofs.Common.{◌≡◌, ℕ, ◌+◌, ◌^◌, ◌<◌, ◌≤◌, List, [], ◌∷◌, ◌++◌, length, get_or, take, drop, set, sum, All, refl, sym, ap, ◌∙◌, arith}
+use Rattle.std.proofs.Common.{◌≡◌, ℕ, ◌+◌, ◌^◌, ◌<◌, ◌≤◌, List, [], ◌∷◌, ◌++◌, length, get_or, take, drop, set, sum, All, sym, ap, ◌∙◌, arith}
 use Rattle.std.proofs.lemmas.List.{take_more, take_more_set, drop-set-lt, get_or-drop, length-set, length-take-le, get_or-take, take-take, drop-drop, take-append-drop}
 use Rattle.std.proofs.Math.Seq.{take-append_seam, drop-append_seam}
 use Rattle.std.proofs.lemmas.List.Sums.{sum_by_more, sum_by_more_le, sum_by-take-drop}
 use Rattle.jass_base.specs.Gaps.{docs_from}
-use Rattle.lane_kernels.specs.Gaps.{running}
-
-pub running_is : (least : ℕ) (gaps : List ℕ) → running least gaps ≡ docs_from least gaps
-running_is least [] = refl
-running_is least (gap ∷ gaps) = ap (λ (xs : List ℕ). (least + gap) ∷ xs) (running_is (least + gap + 1) gaps)
 
 -- the places before one have documents, those from it on still gaps
 pub record MadeSoFar (least place next : ℕ) (old out : List ℕ) : Type 0 where
@@ -19,9 +14,6 @@ pub record MadeSoFar (least place next : ℕ) (old out : List ℕ) : Type 0 wher
 
 abbrev pub Parts : Type 0
 Parts = (least : ℕ) (front back : List ℕ) → docs_from least (front ++ back) ≡ docs_from least front ++ docs_from (least + sum front + length front) back
-
-pub none_made : (least : ℕ) (old : List ℕ) → MadeSoFar least 0 least old old
-none_made least old = record { long = refl; next_is = omega arith; done = refl; rest = refl }
 
 pub next_gap : (place : ℕ) (old out : List ℕ) → drop place out ≡ drop place old → get_or out place 0 ≡ get_or old place 0
 next_gap place old out same =

@@ -4,7 +4,7 @@ use Rattle.std.proofs.lemmas.List.{append-nil, drop-drop, length-drop, length-se
 use Rattle.jass_base.specs.declared.payload_fault.PayloadFault.{PayloadFault}
 use Rattle.jass_base.specs.declared.payload_fault.PayloadFault.TheVariants.{Longer, DocRange}
 use Rattle.jass_base.specs.Gaps.{gap_in, read_gaps}
-use Rattle.plain_codecs.proofs.Reading.{before, before_none, before_before, one_fits, one_over, no_gap, bytes_left}
+use Rattle.plain_codecs.proofs.Reading.{before, before_before, one_fits, one_over, no_gap, bytes_left}
 
 -- the documents up to a place were read and stand in front
 pub record Handed (d count : ℕ) (bytes first out : List ℕ) (at least i : ℕ) : Type 0 where
@@ -12,16 +12,6 @@ pub record Handed (d count : ℕ) (bytes first out : List ℕ) (at least i : ℕ
   pub low : least ≤ d
   pub within : at ≤ length bytes
   pub long : length out ≡ length first
-
-pub none_handed : (d count : ℕ) (bytes out : List ℕ) → Handed d count bytes out out 0 0 0
-none_handed d count bytes out =
-    let all : count - 0 ≡ count = omega arith in
-    record {
-      read = before_none (read_gaps d 0 count bytes) ∙ ap (λ n. before [] (read_gaps d 0 n bytes)) (sym all);
-      low = omega arith;
-      within = omega arith;
-      long = refl;
-    }
 
 module _ (d count : ℕ) (bytes first out : List ℕ) (at least i : ℕ) (so_far : Handed d count bytes first out at least i) (more : i < count) where
   next_left : count - i ≡ suc (count - (i + 1))

@@ -6,7 +6,6 @@ pub mod Docs
 pub mod Encoding
 pub mod Handing
 pub mod Members
-pub mod Putting
 pub mod Reading
 pub mod Runs
 pub mod ShortGaps

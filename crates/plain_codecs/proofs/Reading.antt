@@ -6,8 +6,8 @@ use Rattle.std.proofs.lemmas.List.{length-drop, drop-drop}
 use Rattle.std.proofs.lemmas.List.Sums.{sum_by-cons}
 use Rattle.jass_base.specs.declared.payload_fault.PayloadFault.{PayloadFault}
 use Rattle.jass_base.specs.declared.payload_fault.PayloadFault.TheVariants.{Longer, DocRange}
-use Rattle.jass_base.specs.Gaps.{◌>>=◌, Judges, gap_in, read_gaps}
-use Rattle.plain_codecs.specs.Runs.{Continues}
+use Rattle.jass_base.specs.Gaps.{◌>>=◌, gap_in, read_gaps}
+use Rattle.plain_codecs.specs.Private.Runs.{Continues}
 
 -- of so many gaps that are left, the first ones have this sum, number and place behind them
 pub record ReadsOn (bytes : List ℕ) (at left sum count next : ℕ) : Type 0 where
@@ -124,20 +124,6 @@ gap_read bytes at left gap next is on some =
     }
 
 -- ---- the answer of a check
-abbrev pub Checks : Result (List ℕ) PayloadFault → Result (Unit {0}) PayloadFault → Type 0
-Checks read result = Judges read result
-
-pub judged : (whole part : Result (List ℕ) PayloadFault) (result : Result (Unit {0}) PayloadFault) → Continues whole part → Checks part result → Checks whole result
-judged whole (Ok docs) result far is = subst (λ read. Checks read result) (sym far.is) is
-judged whole (Err fault) result far is = subst (λ read. Checks read result) (sym far.is) is
-
-pub judged_fault : (whole part : Result (List ℕ) PayloadFault) (fault : PayloadFault) → Continues whole part → part ≡ Err fault → Checks whole (Err fault)
-judged_fault whole part fault far is = subst (λ read. Checks read (Err fault)) (sym (refused whole part fault far is)) refl
-
--- no gap is left
-pub none_left : (d least left : ℕ) (bytes : List ℕ) → left ≡ 0 → length bytes ≡ 0 → Checks (read_gaps d least left bytes) (Ok tt)
-none_left d least left [] none short = rw none refl
-none_left d least left (b ∷ bytes) none short = absurd (omega arith)
 
 pub bytes_left : (d least left : ℕ) (bytes : List ℕ) → left ≡ 0 → 0 < length bytes → read_gaps d least left bytes ≡ Err Longer
 bytes_left d least left bytes none long =

@@ -9,7 +9,7 @@ use Rattle.jass_base.proofs.GapGroups.{one_group_written}
 use Rattle.jass_base.specs.declared.payload_fault.PayloadFault.{PayloadFault}
 use Rattle.jass_base.specs.Gaps.{GapSpelling, gap_in, spelled_gaps}
 use Rattle.jass_base.specs.Wire.{short_varint}
-use Rattle.plain_codecs.specs.Runs.{IsRun}
+use Rattle.plain_codecs.specs.Private.Runs.{IsRun}
 
 abbrev pub spelled : ℕ → ℕ → Result GapSpelling PayloadFault
 spelled gap size = Ok (record { gap = gap; size = size })
@@ -107,10 +107,6 @@ pub record ReadSoFar (bytes : List ℕ) (from count at filled : ℕ) (out : List
 
 same_run : (bytes : List ℕ) (at m n : ℕ) (xs ys : List ℕ) → m ≡ n → xs ≡ ys → IsRun bytes at m xs → IsRun bytes at n ys
 same_run bytes at m n xs ys is same run = subst (λ (zs : List ℕ). IsRun bytes at n zs) same (subst (λ k. IsRun bytes at k xs) is run)
-
-pub none_read : (bytes : List ℕ) (from count : ℕ) (out gaps : List ℕ) → IsRun bytes from count gaps → length out ≡ 128 → ReadSoFar bytes from count from 0 out
-none_read bytes from count out gaps run long =
-    record { few = omega arith; within = run.within; long = long; front = λ gaps run. refl; rest = λ gaps run. same_run bytes from count (count - 0) gaps gaps (omega arith) refl run }
 
 fewer_run : (bytes : List ℕ) (at m n : ℕ) (gaps : List ℕ) → n ≤ length gaps → IsRun bytes at m gaps → IsRun bytes at n gaps
 fewer_run bytes at m n gaps enough run = record { within = run.within; spelled = run.spelled; small = run.small; enough = enough }

@@ -1,11 +1,11 @@
 -- What a cursor gives, in gaps.
-use Rattle.std.proofs.Common.{◌≡◌, ℕ, ◌+◌, ◌-◌, ◌^◌, ◌<◌, ◌≤◌, min, List, [], ◌∷◌, length, take, drop, set, sum, sym, ap, ◌∙◌, arith}
+use Rattle.std.proofs.Common.{◌≡◌, ◌↔◌, ℕ, ◌+◌, ◌-◌, ◌^◌, ◌<◌, ◌≤◌, min, List, [], ◌∷◌, length, take, drop, set, sum, sym, ap, ◌∙◌, arith}
 use Rattle.std.specs.Prelude.{IsOk}
-use Rattle.std.proofs.lemmas.List.{length-drop, take_all, take_more_set}
+use Rattle.std.proofs.lemmas.List.{length-drop, nil_from_length, take_all, take_more_set}
 use Rattle.jass_base.proofs.Gaps.{length-docs_from}
 use Rattle.jass_base.specs.Gaps.{docs_from, gap_in}
 use Rattle.plain_codecs.specs.declared.varbyte.cursor.Cursor.{Cursor}
-use Rattle.plain_codecs.specs.Runs.{IsRun}
+use Rattle.plain_codecs.specs.Private.Runs.{IsRun}
 use Rattle.plain_codecs.specs.VarbyteCursor.{Gives}
 use Rattle.plain_codecs.proofs.Docs.{Parts, Split, split, small_gaps, sum_parts}
 use Rattle.plain_codecs.proofs.Runs.{GapFound, Stepped, spelled, run_read, run_known}
@@ -16,6 +16,11 @@ module _ (cursor : Cursor) (bytes docs : List ℕ) (gives : Gives cursor bytes d
 
   pub run : IsRun bytes cursor.at count gives.gaps
   run = record { within = gives.within; spelled = gives.spelled; small = small_gaps gives.gaps (omega (arith, gives.room)); enough = few }
+
+  pub end : (count ≡ 0) ↔ (docs ≡ [])
+  end =
+      let long : length docs ≡ cursor.left = ap length gives.docs_are ∙ length-docs_from cursor.least gives.gaps ∙ sym gives.left in
+      ((λ zero. nil_from_length docs (omega (arith, long, is, zero))), (λ none. omega (arith, long, is, ap length none)))
 
   -- the gaps at the front of a block leave room
   pub room : (out : List ℕ) → take count out ≡ take count gives.gaps → cursor.least + sum (take count out) + count ≤ 2 ^ 26

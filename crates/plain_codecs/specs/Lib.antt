@@ -1,6 +1,5 @@
 pub mod Bitmap
 pub mod BitmapCursor
-pub mod Partings
-pub mod Runs
 pub mod Varbyte
 pub mod VarbyteCursor
+pub mod Private

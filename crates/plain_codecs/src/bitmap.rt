@@ -1,10 +1,11 @@
 //! A bitmap: bit x is set exactly where document x is in the list.
 
-ghost use Rattle.std.specs.Prelude.{◌≡◌, ◌≤◌, ◌<◌, ◌+◌, ◌*◌, ◌^◌, ◌++◌, length, OnOk, OnErr};
+ghost use Rattle.std.specs.Prelude.{◌≡◌, ◌≤◌, ◌<◌, ◌+◌, ◌*◌, ◌^◌, length};
 ghost use Rattle.std.specs.List.Sorted.{IsStrictlyIncreasing};
+ghost use Rattle.jass_base.specs.Codecs.{Encodes};
 ghost use Rattle.jass_base.specs.Gaps.{AreDocs};
 ghost use Rattle.plain_codecs.specs.Bitmap.{bitmap_byte, bitmap_of, bitmap_size};
-ghost use Rattle.plain_codecs.specs.Partings.{IsParted};
+ghost use Rattle.plain_codecs.specs.Private.Partings.{IsParted};
 
 mod checking;
 mod cursor;
@@ -22,7 +23,7 @@ pub fn length(docs: &[u32], d: u32) -> u64
     u64::from(size(d))
 }
 
-// How many bytes d bits take.
+/// How many bytes d bits take.
 #[inline]
 pub(crate) fn size(d: u32) -> u32
     requires { d ≤ 2 ^ 26 }
@@ -36,8 +37,7 @@ pub(crate) fn size(d: u32) -> u32
 /// memory is refused.
 pub fn encode(docs: &[u32], d: u32, out: &mut Row<u8>) -> Result<(), NoMemory>
     requires { AreDocs d docs.now }
-    ensures ok { OnOk result (out.new ≡ out.old ++ bitmap_of d docs.now) }
-    ensures err { OnErr result (out.new ≡ out.old) }
+    ensures { Encodes (bitmap_of d docs.now) out.old out.new result }
 {
     let before = out.len();
     let mut first = 0;
@@ -55,8 +55,8 @@ pub fn encode(docs: &[u32], d: u32, out: &mut Row<u8>) -> Result<(), NoMemory>
     Ok(())
 }
 
-// The byte at a place, and the first document behind it. The documents from `first` on are
-// in the byte or behind it, and those before `first` are before it.
+/// The byte at a place, and the first document behind it. The documents from `first` on are
+/// in the byte or behind it, and those before `first` are before it.
 fn byte_at(docs: &[u32], first: usize, place: u32) -> (u8, usize)
     requires docs { IsStrictlyIncreasing docs.now }
     requires place { place < 2 ^ 23 }

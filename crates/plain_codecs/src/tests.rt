@@ -63,7 +63,7 @@ fn a_payload_in_front_is_read(rt: HostRuntime) {
     assert!(&rt; varbyte::check_front_into(&bytes[6..], 2, 1, 1 << 26, &mut docs) == shape);
 }
 
-// The documents 0 to 127.
+/// The documents 0 to 127.
 fn counted() -> [u32; 128] {
     let mut docs = [0; 128];
     for place in 0..128 {
@@ -72,7 +72,7 @@ fn counted() -> [u32; 128] {
     docs
 }
 
-// The same and 67,108,863.
+/// The same and 67,108,863.
 fn with_the_last_document() -> [u32; 129] {
     let mut docs = [67_108_863; 129];
     docs[..128].copy_from_slice(&counted());
@@ -96,7 +96,7 @@ fn are_docs(docs: &[u32], d: u32) -> bool
     true
 }
 
-// Whether these are documents, and these bytes are their payload by each call of the codec.
+/// Whether these are documents, and these bytes are their payload by each call of the codec.
 fn is_varbyte(alloc: Global, docs: &[u32], d: u32, payload: &[u8]) -> bool {
     let mut row = Row::new(alloc);
     if !are_docs(docs, d) || varbyte::encode(docs, d, &mut row).is_err() {

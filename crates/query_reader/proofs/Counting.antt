@@ -10,7 +10,7 @@ use Rattle.query_reader.specs.Texts.{plain_mention, plain_mentions}
 use Rattle.query_reader.specs.Slices.{blank_runs}
 use Rattle.query_reader.specs.Refusals.{◌>>=◌, LineFails}
 use Rattle.query_reader.specs.Reading.{broken_limit, unless}
-use Rattle.query_reader.specs.Tally.{TallyData, tallied, CountsIn, counted_in, all_counted_in}
+use Rattle.query_reader.specs.Private.Tally.{TallyData, tallied, CountsIn, counted_in, all_counted_in}
 
 pub then-counted : (terms : List (List ℕ)) (tally : TallyData) (m : Mention) (ms : List Mention) → all_counted_in terms tally (m ∷ ms) ≡ (counted_in tally (term_number terms m) m.factor >>= λ more. all_counted_in terms more ms)
 unfolding all_counted_in

@@ -9,23 +9,23 @@ use Rattle.std.specs.Prelude.{Option, Some, None, filter, sum_by, ◌==◌, All,
 use Rattle.std.specs.List.{filter_map, cons_option, AllByRecursion, position_or_len}
 use Rattle.std.specs.Option.{option_map_or}
 use Rattle.shared_lemmas.proofs.Lists.{all_weaker}
-use Rattle.jass_base.specs.declared.named.Named.{Named}
+use Rattle.jass_base.specs.declared.query_term.QueryTerm.{QueryTerm}
 use Rattle.query_reader.specs.Mentions.{Mention, first_mentions, words_as_mentions, term_number, named_of}
 use Rattle.query_reader.proofs.Limits.{place_of-some}
-use Rattle.query_reader.proofs.Named.{names, times, rows, named, has, Apart, Apart-first}
+use Rattle.query_reader.proofs.NamedTerms.{names, times, rows, named, has, Apart, Apart-first}
 
 -- numbers that differ are those of terms that differ
-others-differ : (f : ℕ → ℕ) (x : ℕ) (xs : List ℕ) → has x xs ≡ false → All (λ (n : Named). x ≡ n.term → ⊥) (rows f xs)
+others-differ : (f : ℕ → ℕ) (x : ℕ) (xs : List ℕ) → has x xs ≡ false → All (λ (n : QueryTerm). x ≡ n.term → ⊥) (rows f xs)
 others-differ f x [] apart = All-nil _
 others-differ f x (y ∷ ys) apart =
     let h = or_parts (eqb y x) (has x ys) apart in
-    All-cons (λ (n : Named). x ≡ n.term → ⊥) (record { term = y; times = f y }) (rows f ys) (λ same. eqb-false y x h.0 (sym same)) (others-differ f x ys h.1)
+    All-cons (λ (n : QueryTerm). x ≡ n.term → ⊥) (record { term = y; times = f y }) (rows f ys) (λ same. eqb-false y x h.0 (sym same)) (others-differ f x ys h.1)
 
-rows-differ : (f : ℕ → ℕ) (xs : List ℕ) → Apart xs → AllPairs (λ (m n : Named). m.term ≡ n.term → ⊥) (rows f xs)
+rows-differ : (f : ℕ → ℕ) (xs : List ℕ) → Apart xs → AllPairs (λ (m n : QueryTerm). m.term ≡ n.term → ⊥) (rows f xs)
 rows-differ f [] apart = λ i j d before inside. absurd (omega (arith, inside))
-rows-differ f (x ∷ xs) apart = AllPairs-cons (λ (m n : Named). m.term ≡ n.term → ⊥) (record { term = x; times = f x }) (rows f xs) (others-differ f x xs apart.0) (rows-differ f xs apart.1)
+rows-differ f (x ∷ xs) apart = AllPairs-cons (λ (m n : QueryTerm). m.term ≡ n.term → ⊥) (record { term = x; times = f x }) (rows f xs) (others-differ f x xs apart.0) (rows-differ f xs apart.1)
 
-pub named-differ : (num : Mention → Option ℕ) (ms : List Mention) → AllPairs (λ (m n : Named). m.term ≡ n.term → ⊥) (named num ms)
+pub named-differ : (num : Mention → Option ℕ) (ms : List Mention) → AllPairs (λ (m n : QueryTerm). m.term ≡ n.term → ⊥) (named num ms)
 named-differ num ms = rows-differ (times num ms) (first_mentions (filter_map num ms)) (Apart-first (filter_map num ms))
 
 -- no more terms than mentions
@@ -45,7 +45,7 @@ known-few num (m ∷ ms) = here (num m) (known-few num ms)
 
 pub named-few : (num : Mention → Option ℕ) (ms : List Mention) → length (named num ms) ≤ length ms
 named-few num ms =
-    omega (arith, known-few num ms, first-few (filter_map num ms), length-map (first_mentions (filter_map num ms)) (λ j. let n : Named = record { term = j; times = times num ms j } in n))
+    omega (arith, known-few num ms, first-few (filter_map num ms), length-map (first_mentions (filter_map num ms)) (λ j. let n : QueryTerm = record { term = j; times = times num ms j } in n))
 
 -- the first mention and the later ones
 times-cons : (num : Mention → Option ℕ) (m : Mention) (ms : List Mention) (j : ℕ) → times num (m ∷ ms) j ≡ cond (names num j m) m.factor 0 + times num ms j
@@ -64,8 +64,8 @@ times-few num (m ∷ ms) j = here (names num j m) (times-cons num m ms j) (times
     here true e rest = omega (arith, e, rest, sum_by-cons (λ x. x.factor) m ms)
     here false e rest = omega (arith, e, rest, sum_by-cons (λ x. x.factor) m ms)
 
-pub named-bounded : (num : Mention → Option ℕ) (ms : List Mention) → All (λ (n : Named). n.times ≤ sum_by (λ m. m.factor) ms) (named num ms)
-named-bounded num ms = All-map (λ (n : Named). n.times ≤ sum_by (λ m. m.factor) ms) (λ j. record { term = j; times = times num ms j }) (first_mentions (filter_map num ms)) (λ k d inside. times-few num ms (get_or (first_mentions (filter_map num ms)) k d))
+pub named-bounded : (num : Mention → Option ℕ) (ms : List Mention) → All (λ (n : QueryTerm). n.times ≤ sum_by (λ m. m.factor) ms) (named num ms)
+named-bounded num ms = All-map (λ (n : QueryTerm). n.times ≤ sum_by (λ m. m.factor) ms) (λ j. record { term = j; times = times num ms j }) (first_mentions (filter_map num ms)) (λ k d inside. times-few num ms (get_or (first_mentions (filter_map num ms)) k d))
 
 -- what holds of all mentioned numbers holds of the first mentions
 all-first : (P : ℕ → Type 0) (xs : List ℕ) → AllByRecursion P xs → All P (first_mentions xs)
@@ -88,8 +88,8 @@ mentioned-named num (m ∷ ms) some =
         first : 1 ≤ times num (m ∷ ms) k
         first = omega (arith, some.0, times-cons num m ms k ∙ ap (λ b. cond b m.factor 0 + times num ms k) it)
 
-pub named-some : (num : Mention → Option ℕ) (ms : List Mention) → AllByRecursion (λ m. 1 ≤ m.factor) ms → All (λ (n : Named). 1 ≤ n.times) (named num ms)
-named-some num ms some = All-map (λ (n : Named). 1 ≤ n.times) (λ j. record { term = j; times = times num ms j }) (first_mentions (filter_map num ms)) (all-first _ (filter_map num ms) (mentioned-named num ms some))
+pub named-some : (num : Mention → Option ℕ) (ms : List Mention) → AllByRecursion (λ m. 1 ≤ m.factor) ms → All (λ (n : QueryTerm). 1 ≤ n.times) (named num ms)
+named-some num ms some = All-map (λ (n : QueryTerm). 1 ≤ n.times) (λ j. record { term = j; times = times num ms j }) (first_mentions (filter_map num ms)) (all-first _ (filter_map num ms) (mentioned-named num ms some))
 
 -- words count once each
 pub words-once : (words : List (List ℕ)) → AllByRecursion (λ (m : Mention). 1 ≤ m.factor) (words_as_mentions words)
@@ -109,5 +109,5 @@ known-below terms (m ∷ ms) = here (term_number terms m) refl (known-below term
     here None e rest = rest
     here (Some k) e rest = ((let there = place_of-some (position_or_len (λ t. bytes_eq t m.term) terms) (length terms) k (term_number terms m) refl e in omega (arith, there.0, there.1)), rest)
 
-pub named-below : (terms : List (List ℕ)) (ms : List Mention) → All (λ (n : Named). n.term < length terms) (named_of terms ms)
-named-below terms ms = All-map (λ (n : Named). n.term < length terms) (λ j. record { term = j; times = times (term_number terms) ms j }) (first_mentions (filter_map (term_number terms) ms)) (all-first (λ j. j < length terms) (filter_map (term_number terms) ms) (known-below terms ms))
+pub named-below : (terms : List (List ℕ)) (ms : List Mention) → All (λ (n : QueryTerm). n.term < length terms) (named_of terms ms)
+named-below terms ms = All-map (λ (n : QueryTerm). n.term < length terms) (λ j. record { term = j; times = times (term_number terms) ms j }) (first_mentions (filter_map (term_number terms) ms)) (all-first (λ j. j < length terms) (filter_map (term_number terms) ms) (known-below terms ms))

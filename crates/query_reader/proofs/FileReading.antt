@@ -60,14 +60,6 @@ pub no-line : (mode : Mode) (terms : List (List ℕ)) → read_lines mode terms 
 unfolding read_lines
 no-line mode terms = refl
 
--- a line without bytes
-pub skipped : (lines rest : List LineData) (line : LineData) → lines ≡ line ∷ rest → length line.bytes ≡ 0 → with_bytes rest ≡ with_bytes lines
-skipped lines rest line is empty = sym (ap with_bytes is ∙ ap (λ (b : Bool). cond b (line ∷ with_bytes rest) (with_bytes rest)) (none line.bytes empty))
-  where
-    none : (bytes : List ℕ) → length bytes ≡ 0 → has_items bytes ≡ false
-    none [] e = refl
-    none (b ∷ bs) e = absurd (omega (arith, e))
-
 kept : (lines rest : List LineData) (line : LineData) → lines ≡ line ∷ rest → ¬ (length line.bytes ≡ 0) → with_bytes lines ≡ line ∷ with_bytes rest
 kept lines rest line is some = ap with_bytes is ∙ ap (λ (b : Bool). cond b (line ∷ with_bytes rest) (with_bytes rest)) (there line.bytes some)
   where

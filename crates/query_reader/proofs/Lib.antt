@@ -1,5 +1,5 @@
 pub mod Facts
-pub mod Named
+pub mod NamedTerms
 pub mod Words
 pub mod Limits
 pub mod Runs

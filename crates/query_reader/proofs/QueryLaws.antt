@@ -7,7 +7,7 @@ use Rattle.std.proofs.lemmas.Str.{IsUtf8-from_is_utf8, is_utf8-from_IsUtf8}
 use Rattle.std.specs.Prelude.{Option, Some, None, Result, Ok, Err, nat_lt, ◌||◌, All}
 use Rattle.std.specs.List.{AllByRecursion, list_any}
 use Rattle.std.specs.Str.{is_utf8}
-use Rattle.jass_base.specs.declared.named.Named.{Named}
+use Rattle.jass_base.specs.declared.query_term.QueryTerm.{QueryTerm}
 use Rattle.text_lines.specs.Lines.{LineData}
 use Rattle.query_reader.specs.declared.mode.Mode.{Mode}
 use Rattle.query_reader.specs.declared.refusal.QueryWhy.{QueryWhy}
@@ -17,15 +17,15 @@ use Rattle.query_reader.specs.Texts.{has_items, mentions_of}
 use Rattle.query_reader.specs.Refusals.{◌>>=◌, at_line}
 use Rattle.query_reader.specs.Queries.{QueryData, IsQuery, IsQueryLine, IsQueryFile, AreQueryLines, id_of, text_of, query_lines}
 use Rattle.query_reader.specs.Reading.{broken_limit, first_of, first_broken, unless, read_mentions, read_line, read_lines, read_query_file}
-use Rattle.query_reader.specs.Tally.{tallied}
-use Rattle.query_reader.proofs.Named.{named-known, named-unknown}
+use Rattle.query_reader.specs.Private.Tally.{tallied}
+use Rattle.query_reader.proofs.NamedTerms.{named-known, named-unknown}
 use Rattle.query_reader.proofs.Limits.{over, limit-none, within-limits}
 use Rattle.query_reader.proofs.Tallying.{with_one, broken-first, broken-none}
 use Rattle.query_reader.proofs.LineReading.{checks, checked, after-fault, is-short}
 use Rattle.query_reader.proofs.FileReading.{judged-file, short-file, one-line, no-line}
 
 -- one mention more leaves no fewer terms, and none named less often
-longer : (ns : List Named) (k f : ℕ) → length ns ≤ length (tallied ns k f)
+longer : (ns : List QueryTerm) (k f : ℕ) → length ns ≤ length (tallied ns k f)
 longer [] k f = omega arith
 longer (n ∷ ns) k f = here (eqb n.term k) (longer ns k f)
   where
@@ -40,7 +40,7 @@ less-often n f e = here (nat_lt 255 n) refl
     here true more = absurd (omega (arith, ltb-true 255 n more, ltb-false 255 (n + f) e))
     here false more = refl
 
-as-often : (ns : List Named) (k f : ℕ) → list_any over (tallied ns k f) ≡ false → list_any over ns ≡ false
+as-often : (ns : List QueryTerm) (k f : ℕ) → list_any over (tallied ns k f) ≡ false → list_any over ns ≡ false
 as-often [] k f none = refl
 as-often (n ∷ ns) k f none = here (eqb n.term k) none (as-often ns k f)
   where
@@ -48,7 +48,7 @@ as-often (n ∷ ns) k f none = here (eqb n.term k) none (as-often ns k f)
     here true e rest = let h = or_parts (nat_lt 255 (n.times + f)) (list_any over ns) e in or_from (over n) (list_any over ns) (less-often n.times f h.0) h.1
     here false e rest = let h = or_parts (over n) (list_any over (tallied ns k f)) e in or_from (over n) (list_any over ns) h.0 (rest h.1)
 
-tallied-within : (ns : List Named) (k f : ℕ) → broken_limit (tallied ns k f) ≡ None → broken_limit ns ≡ None
+tallied-within : (ns : List QueryTerm) (k f : ℕ) → broken_limit (tallied ns k f) ≡ None → broken_limit ns ≡ None
 tallied-within ns k f none =
     let h = within-limits (tallied ns k f) none in
     limit-none ns (omega (arith, h.0, longer ns k f)) (as-often ns k f h.1)
@@ -85,11 +85,11 @@ all-within terms before (m ∷ ms) none first =
     ap (λ xs. broken_limit (named_of terms xs)) (sym (append_assoc before (m ∷ []) ms)) ∙ all-within terms (with_one before m) ms h.0 h.1
 
 -- the limit on times
-few-times : (ns : List Named) → list_any over ns ≡ false → AllByRecursion (λ (n : Named). n.times ≤ 255) ns
+few-times : (ns : List QueryTerm) → list_any over ns ≡ false → AllByRecursion (λ (n : QueryTerm). n.times ≤ 255) ns
 few-times [] none = tt
 few-times (n ∷ ns) none = let h = or_parts (over n) (list_any over ns) none in (ltb-false 255 n.times h.0, few-times ns h.1)
 
-pub few-over : (ns : List Named) → AllByRecursion (λ (n : Named). n.times ≤ 255) ns → list_any over ns ≡ false
+pub few-over : (ns : List QueryTerm) → AllByRecursion (λ (n : QueryTerm). n.times ≤ 255) ns → list_any over ns ≡ false
 few-over [] few = refl
 few-over (n ∷ ns) few = or_from (over n) (list_any over ns) (at (over n) refl) (few-over ns few.1)
   where
@@ -116,7 +116,7 @@ pub query-read : (terms : List (List ℕ)) (id : List ℕ) (ms : List Mention) (
 query-read terms id ms q is =
     let h = read-all terms id ms q is in
     let w = within-limits (named_of terms ms) (all-within terms [] ms refl h.0) in
-    subst (IsQuery terms ms) h.1 (record { named = refl; unknown = refl; few = w.0; times = All-from_recursion (λ (n : Named). n.times ≤ 255) (named_of terms ms) (few-times (named_of terms ms) w.1) })
+    subst (IsQuery terms ms) h.1 (record { named = refl; unknown = refl; few = w.0; times = All-from_recursion (λ (n : QueryTerm). n.times ≤ 255) (named_of terms ms) (few-times (named_of terms ms) w.1) })
 
 id-read : (terms : List (List ℕ)) (id : List ℕ) (ms : List Mention) (q : QueryData) → read_mentions terms id ms ≡ Ok q → q.id ≡ id
 id-read terms id ms q is = ap (λ (x : QueryData). x.id) (sym (read-all terms id ms q is).1)
@@ -128,9 +128,9 @@ same-query terms ms q named unknown =
 
 pub query-only : (terms : List (List ℕ)) (ms : List Mention) (q : QueryData) → IsQuery terms ms q → read_mentions terms q.id ms ≡ Ok q
 query-only terms ms q is =
-    let few = subst (λ (ns : List Named). length ns ≤ 256) is.named is.few in
-    let times = subst (All (λ (n : Named). n.times ≤ 255)) is.named is.times in
-    let none = limit-none (named_of terms ms) few (few-over (named_of terms ms) (recursion_from_All (λ (n : Named). n.times ≤ 255) (named_of terms ms) times)) in
+    let few = subst (λ (ns : List QueryTerm). length ns ≤ 256) is.named is.few in
+    let times = subst (All (λ (n : QueryTerm). n.times ≤ 255)) is.named is.times in
+    let none = limit-none (named_of terms ms) few (few-over (named_of terms ms) (recursion_from_All (λ (n : QueryTerm). n.times ≤ 255) (named_of terms ms) times)) in
     read-is terms q.id ms ∙ ap (λ o. unless o (query-of terms q.id ms)) (unbroken terms [] ms none)
     ∙ ap (λ x. let r : Result QueryData QueryWhy = Ok x in r) (same-query terms ms q is.named is.unknown)
 

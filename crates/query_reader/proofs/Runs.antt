@@ -80,7 +80,3 @@ pub only-run : (text : List ℕ) (found : Option ℕ) → IsFirstByte (is_byte2 
 only-run [] None first is some = absurd (omega (arith, some))
 only-run (x ∷ xs) None first is some = ap (filter has_items) (uncut (x ∷ xs) (λ k less. first k (omega arith) less))
 only-run text (Some at) first is some = cc
-
-pub no-run : (text : List ℕ) → length text ≡ 0 → blank_runs text ≡ []
-no-run [] empty = refl
-no-run (x ∷ xs) empty = absurd (omega (arith, empty))

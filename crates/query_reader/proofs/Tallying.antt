@@ -4,7 +4,7 @@ use Rattle.std.proofs.lemmas.List.{append-nil}
 use Rattle.std.proofs.lemmas.List.Sums.{sum_by-append}
 use Rattle.std.specs.Prelude.{Option, Some, None, Result, Ok, Err, is_none}
 use Rattle.std.specs.Result.{IsErrAnd}
-use Rattle.jass_base.specs.declared.named.Named.{Named}
+use Rattle.jass_base.specs.declared.query_term.QueryTerm.{QueryTerm}
 use Rattle.query_reader.specs.declared.refusal.QueryWhy.{QueryWhy}
 use Rattle.query_reader.specs.declared.refusal.LineFault.{LineFault}
 use Rattle.query_reader.specs.declared.refusal.LineFault.TheVariants.{Refused, NoMemory}
@@ -12,8 +12,8 @@ use Rattle.query_reader.specs.Mentions.{Mention, term_number, named_of, unknown_
 use Rattle.query_reader.specs.Refusals.{◌>>=◌, LineFails, LineGives}
 use Rattle.query_reader.specs.Queries.{QueryData}
 use Rattle.query_reader.specs.Reading.{broken_limit, first_of, first_broken, unless, read_mentions}
-use Rattle.query_reader.specs.Tally.{TallyData, counted_in, all_counted_in}
-use Rattle.query_reader.proofs.Named.{named-known, named-unknown}
+use Rattle.query_reader.specs.Private.Tally.{TallyData, counted_in, all_counted_in}
+use Rattle.query_reader.proofs.NamedTerms.{named-known, named-unknown}
 use Rattle.query_reader.proofs.Counting.{then-counted, none-counted}
 
 -- the tally of mentions
@@ -29,7 +29,7 @@ unknown-one terms before m number is =
     ∙ ap (λ o. unknown_of terms before + (0 + cond (is_none o) 1 0)) is
     ∙ omega arith
 
-same-tally : (named other : List Named) (unknown count : ℕ) → named ≡ other → unknown ≡ count → (let a : TallyData = record { named = named; unknown = unknown } in a) ≡ record { named = other; unknown = count }
+same-tally : (named other : List QueryTerm) (unknown count : ℕ) → named ≡ other → unknown ≡ count → (let a : TallyData = record { named = named; unknown = unknown } in a) ≡ record { named = other; unknown = count }
 same-tally named other unknown count first second = cc
 
 -- one mention more
@@ -114,14 +114,14 @@ line-handed-on view read fault (Ok x) is fails = absurd is
 line-handed-on view read fault (Err e) is fails = subst (λ f. LineFails f read) (sym is) fails
 
 -- the query that is made of a tally
-pub query-made : (terms : List (List ℕ)) (id : List ℕ) (ms : List Mention) (tally : TallyData) (given : List ℕ) (row : List Named) → all_counted_in terms empty_tally ms ≡ Ok tally → given ≡ id → row ≡ tally.named
+pub query-made : (terms : List (List ℕ)) (id : List ℕ) (ms : List Mention) (tally : TallyData) (given : List ℕ) (row : List QueryTerm) → all_counted_in terms empty_tally ms ≡ Ok tally → given ≡ id → row ≡ tally.named
     → read_mentions terms id ms ≡ Ok (record { id = given; terms = row; unknown = tally.unknown })
 query-made terms id ms tally given row is same_id same_row =
     counted-read terms id ms tally is
     ∙ ap (λ text. let r : Result QueryData QueryWhy = Ok (record { id = text; terms = tally.named; unknown = tally.unknown }) in r) (sym same_id)
     ∙ ap (λ ns. let r : Result QueryData QueryWhy = Ok (record { id = given; terms = ns; unknown = tally.unknown }) in r) (sym same_row)
 
-pub row-is : (terms : List (List ℕ)) (ms : List Mention) (tally : TallyData) (row : List Named) → all_counted_in terms empty_tally ms ≡ Ok tally → row ≡ tally.named → row ≡ named_of terms ms
+pub row-is : (terms : List (List ℕ)) (ms : List Mention) (tally : TallyData) (row : List QueryTerm) → all_counted_in terms empty_tally ms ≡ Ok tally → row ≡ tally.named → row ≡ named_of terms ms
 row-is terms ms tally row is same = same ∙ ap (λ (t : TallyData). t.named) (counted-is terms ms tally is)
 
 pub from-start : (terms : List (List ℕ)) (ms : List Mention) (start new seen : TallyData) → all_counted_in terms start ms ≡ Ok new → start ≡ empty_tally → seen ≡ new → all_counted_in terms empty_tally ms ≡ Ok seen

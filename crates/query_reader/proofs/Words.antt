@@ -6,14 +6,14 @@ use Rattle.std.proofs.lemmas.List.Sums.{sum_by-append}
 use Rattle.std.specs.Prelude.{Option, Some, None, String, is_none, All, AllPairs}
 use Rattle.std.specs.String.{string_bytes}
 use Rattle.std.specs.declared.alloc.Global.{Global}
-use Rattle.jass_base.specs.declared.named.Named.{Named}
+use Rattle.jass_base.specs.declared.query_term.QueryTerm.{QueryTerm}
 use Rattle.query_reader.specs.Mentions.{Mention, words_as_mentions, term_number, named_of, unknown_of}
 use Rattle.query_reader.specs.declared.refusal.QueryWhy.{QueryWhy}
 use Rattle.query_reader.specs.Reading.{broken_limit}
-use Rattle.query_reader.specs.Tally.{tallied}
+use Rattle.query_reader.specs.Private.Tally.{tallied}
 use Rattle.query_reader.proofs.Limits.{limit-none}
 use Rattle.query_reader.proofs.QueryLaws.{few-over}
-use Rattle.query_reader.proofs.Named.{named-known, named-unknown}
+use Rattle.query_reader.proofs.NamedTerms.{named-known, named-unknown}
 use Rattle.query_reader.proofs.Facts.{named-below, named-few, named-some, named-differ, named-bounded, words-once, words-factors}
 
 -- the mentions of words
@@ -30,7 +30,7 @@ said-more words i word inside read =
     ∙ ap (λ w. said (take i words) ++ once (string_bytes w) ∷ []) (sym read)
 
 -- a word that is a known term
-pub named-more : (terms : List (List ℕ)) (words : List (String Global)) (i : ℕ) (word : String Global) (ns new : List Named) (k : ℕ) → i < length words
+pub named-more : (terms : List (List ℕ)) (words : List (String Global)) (i : ℕ) (word : String Global) (ns new : List QueryTerm) (k : ℕ) → i < length words
     → word ≡ get_or words i word → term_number terms (once (string_bytes word)) ≡ Some k → ns ≡ named_of terms (said (take i words)) → new ≡ tallied ns k 1
     → new ≡ named_of terms (said (take (i + 1) words))
 named-more terms words i word ns new k inside read known so_far put =
@@ -39,7 +39,7 @@ named-more terms words i word ns new k inside read known so_far put =
     ∙ ap (named_of terms) (sym (said-more words i word inside read))
 
 -- a word that is none
-pub named-same : (terms : List (List ℕ)) (words : List (String Global)) (i : ℕ) (word : String Global) (ns : List Named) → i < length words
+pub named-same : (terms : List (List ℕ)) (words : List (String Global)) (i : ℕ) (word : String Global) (ns : List QueryTerm) → i < length words
     → word ≡ get_or words i word → term_number terms (once (string_bytes word)) ≡ None → ns ≡ named_of terms (said (take i words))
     → ns ≡ named_of terms (said (take (i + 1) words))
 named-same terms words i word ns inside read none so_far =
@@ -60,37 +60,37 @@ unknown-more terms words i word number inside read is =
 said-long : (words : List (String Global)) → length (said words) ≡ length words
 said-long words = length-map (map string_bytes words) once ∙ length-map words string_bytes
 
-pub named-fit : (terms : List (List ℕ)) (words : List (String Global)) (ns : List Named) → ns ≡ named_of terms (said words) → All (λ (n : Named). n.times ≤ length words) ns
+pub named-fit : (terms : List (List ℕ)) (words : List (String Global)) (ns : List QueryTerm) → ns ≡ named_of terms (said words) → All (λ (n : QueryTerm). n.times ≤ length words) ns
 named-fit terms words ns is =
-    subst (λ xs. All (λ (n : Named). n.times ≤ length words) xs) (sym is)
+    subst (λ xs. All (λ (n : QueryTerm). n.times ≤ length words) xs) (sym is)
     (λ k d inside. omega (arith, named-bounded (term_number terms) (said words) k d inside, words-factors (map string_bytes words), length-map words (string_bytes {Z = Global})))
 
-pub said-few : (terms : List (List ℕ)) (words : List (String Global)) (ns : List Named) → ns ≡ named_of terms (said words) → length ns ≤ length words
+pub said-few : (terms : List (List ℕ)) (words : List (String Global)) (ns : List QueryTerm) → ns ≡ named_of terms (said words) → length ns ≤ length words
 said-few terms words ns is = omega (arith, ap length is, named-few (term_number terms) (said words), said-long words)
 
-pub said-some : (terms : List (List ℕ)) (words : List (String Global)) (ns : List Named) → ns ≡ named_of terms (said words) → All (λ (n : Named). 1 ≤ n.times) ns
-said-some terms words ns is = subst (All (λ (n : Named). 1 ≤ n.times)) (sym is) (named-some (term_number terms) (said words) (words-once (map string_bytes words)))
+pub said-some : (terms : List (List ℕ)) (words : List (String Global)) (ns : List QueryTerm) → ns ≡ named_of terms (said words) → All (λ (n : QueryTerm). 1 ≤ n.times) ns
+said-some terms words ns is = subst (All (λ (n : QueryTerm). 1 ≤ n.times)) (sym is) (named-some (term_number terms) (said words) (words-once (map string_bytes words)))
 
-pub said-differ : (terms : List (List ℕ)) (words : List (String Global)) (ns : List Named) → ns ≡ named_of terms (said words) → AllPairs (λ (m n : Named). m.term ≡ n.term → ⊥) ns
-said-differ terms words ns is = subst (AllPairs (λ (m n : Named). m.term ≡ n.term → ⊥)) (sym is) (named-differ (term_number terms) (said words))
+pub said-differ : (terms : List (List ℕ)) (words : List (String Global)) (ns : List QueryTerm) → ns ≡ named_of terms (said words) → AllPairs (λ (m n : QueryTerm). m.term ≡ n.term → ⊥) ns
+said-differ terms words ns is = subst (AllPairs (λ (m n : QueryTerm). m.term ≡ n.term → ⊥)) (sym is) (named-differ (term_number terms) (said words))
 
 -- few words break no limit
 pub said-within : (terms : List (List ℕ)) (words : List (String Global)) → length words ≤ 255 → broken_limit (named_of terms (said words)) ≡ None
 said-within terms words few =
     let ns = named_of terms (said words) in
     limit-none ns (omega (arith, said-few terms words ns refl, few))
-    (few-over ns (recursion_from_All (λ (n : Named). n.times ≤ 255) ns (λ k d inside. omega (arith, named-fit terms words ns refl k d inside, few))))
+    (few-over ns (recursion_from_All (λ (n : QueryTerm). n.times ≤ 255) ns (λ k d inside. omega (arith, named-fit terms words ns refl k d inside, few))))
 
-pub so-far-within : (terms : List (List ℕ)) (words : List (String Global)) (i : ℕ) (ns : List Named) → i ≤ length words → length words ≤ 255 → ns ≡ named_of terms (said (take i words)) → broken_limit ns ≡ None
+pub so-far-within : (terms : List (List ℕ)) (words : List (String Global)) (i : ℕ) (ns : List QueryTerm) → i ≤ length words → length words ≤ 255 → ns ≡ named_of terms (said (take i words)) → broken_limit ns ≡ None
 so-far-within terms words i ns inside few is = ap broken_limit is ∙ said-within terms (take i words) (omega (arith, length-take-le i words inside, few))
 
 -- so a known word never does
-pub never-refused : (terms : List (List ℕ)) (words : List (String Global)) (i : ℕ) (word : String Global) (ns : List Named) (k : ℕ) (why : QueryWhy) → i < length words → word ≡ get_or words i word → length words ≤ 255
+pub never-refused : (terms : List (List ℕ)) (words : List (String Global)) (i : ℕ) (word : String Global) (ns : List QueryTerm) (k : ℕ) (why : QueryWhy) → i < length words → word ≡ get_or words i word → length words ≤ 255
     → term_number terms (once (string_bytes word)) ≡ Some k → ns ≡ named_of terms (said (take i words)) → broken_limit (tallied ns k 1) ≡ Some why → ⊥
 never-refused terms words i word ns k why inside read few known so_far broken = impossible (so-far-within terms words (i + 1) (tallied ns k 1) (omega (arith, inside)) few (named-more terms words i word ns (tallied ns k 1) k inside read known so_far refl))
   where
     impossible : broken_limit (tallied ns k 1) ≡ None → ⊥
     impossible none = cc
 
-pub said-known : (terms : List (List ℕ)) (words : List (String Global)) (ns : List Named) → ns ≡ named_of terms (said words) → All (λ (n : Named). n.term < length terms) ns
-said-known terms words ns is = subst (All (λ (n : Named). n.term < length terms)) (sym is) (named-below terms (said words))
+pub said-known : (terms : List (List ℕ)) (words : List (String Global)) (ns : List QueryTerm) → ns ≡ named_of terms (said words) → All (λ (n : QueryTerm). n.term < length terms) ns
+said-known terms words ns is = subst (All (λ (n : QueryTerm). n.term < length terms)) (sym is) (named-below terms (said words))

@@ -4,5 +4,5 @@ pub mod Refusals
 pub mod Queries
 pub mod Reading
 pub mod Slices
-pub mod Tally
 pub mod Examples
+pub mod Private

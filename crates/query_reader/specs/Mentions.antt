@@ -2,7 +2,7 @@
 use Rattle.std.specs.Prelude.{ℕ, ◌==◌, Bool, false, not, List, [], ◌∷◌, map, filter, count_by, sum_by, position, bytes_eq, is_none, Option}
 use Rattle.std.specs.List.{filter_map}
 use Rattle.std.specs.Option.{option_map_or}
-use Rattle.jass_base.specs.declared.named.Named.{Named}
+use Rattle.jass_base.specs.declared.query_term.QueryTerm.{QueryTerm}
 
 -- a term that a query mentions, and how often the mention counts
 pub record Mention : Type 0 where
@@ -31,7 +31,7 @@ abbrev pub times_named : List (List ℕ) → List Mention → ℕ → ℕ
 times_named terms mentions number = sum_by (λ m. m.factor) (filter (names_number terms number) mentions)
 
 -- the known terms of a query by first mention, each with the sum of the factors of its mentions
-abbrev pub named_of : List (List ℕ) → List Mention → List Named
+abbrev pub named_of : List (List ℕ) → List Mention → List QueryTerm
 named_of terms mentions =
     map (λ number. record { term = number; times = times_named terms mentions number })
     (first_mentions (filter_map (term_number terms) mentions))

@@ -3,7 +3,7 @@ use Rattle.std.specs.Prelude.{ℕ, ◌≡◌, ◌≢◌, ◌≤◌, ◌^◌, ⊤
 use Rattle.std.specs.List.{before_first, position_or_len}
 use Rattle.std.specs.Prelude.{drop}
 use Rattle.std.specs.Str.{IsUtf8}
-use Rattle.jass_base.specs.declared.named.Named.{Named}
+use Rattle.jass_base.specs.declared.query_term.QueryTerm.{QueryTerm}
 use Rattle.jass_base.specs.declared.query.Query.{Query}
 use Rattle.text_lines.specs.Lines.{LineData, lines_of, numbered_from}
 use Rattle.query_reader.specs.declared.mode.Mode.{Mode}
@@ -13,7 +13,7 @@ use Rattle.query_reader.specs.Texts.{has_items, is_blank, mentions_of}
 -- a query as plain data
 pub record QueryData : Type 0 where
   pub id : List ℕ
-  pub terms : List Named
+  pub terms : List QueryTerm
   pub unknown : ℕ
 
 abbrev pub query_data : Query → QueryData
@@ -24,7 +24,7 @@ pub record IsQuery (terms : List (List ℕ)) (mentions : List Mention) (query : 
   pub named : query.terms ≡ named_of terms mentions
   pub unknown : query.unknown ≡ unknown_of terms mentions
   pub few : length query.terms ≤ 256
-  pub times : All (λ (n : Named). n.times ≤ 255) query.terms
+  pub times : All (λ (n : QueryTerm). n.times ≤ 255) query.terms
 
 -- a line's id ends before the first blank, and its text begins there
 abbrev pub id_of : List ℕ → List ℕ

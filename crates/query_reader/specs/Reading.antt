@@ -2,7 +2,7 @@
 use Rattle.std.specs.Prelude.{ℕ, ◌^◌, not, List, [], ◌∷◌, ◌++◌, length, Option, Some, None, Result, Ok, Err, nat_lt, if◌then◌else◌}
 use Rattle.std.specs.List.{list_any}
 use Rattle.std.specs.Str.{is_utf8}
-use Rattle.jass_base.specs.declared.named.Named.{Named}
+use Rattle.jass_base.specs.declared.query_term.QueryTerm.{QueryTerm}
 use Rattle.text_lines.specs.Lines.{LineData}
 use Rattle.query_reader.specs.declared.mode.Mode.{Mode}
 use Rattle.query_reader.specs.declared.refusal.QueryWhy.{QueryWhy}
@@ -14,7 +14,7 @@ use Rattle.query_reader.specs.Refusals.{◌>>=◌, at_line}
 use Rattle.query_reader.specs.Queries.{QueryData, id_of, text_of, query_lines}
 
 -- the limit that named terms break: more than 256 of them, or one named more than 255 times
-abbrev pub broken_limit : List Named → Option QueryWhy
+abbrev pub broken_limit : List QueryTerm → Option QueryWhy
 broken_limit named =
     if nat_lt 256 (length named) then Some Terms
     else (if list_any (λ n. nat_lt 255 n.times) named then Some Times

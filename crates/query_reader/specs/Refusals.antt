@@ -34,9 +34,9 @@ Fails (faults.Refused refusal) read = read ≡ Err refusal
 Fails faults.NoMemory read = ⊤
 
 -- what a function answers, seen by view, is what reading gives
-abbrev pub Gives : {X Y : Type 0} → (X → Y) → Result X QueryFault → Result Y QueryRefusal → Type 0
-Gives view (Ok x) read = read ≡ Ok (view x)
-Gives view (Err fault) read = Fails fault read
+abbrev pub Answers : {X Y : Type 0} → (X → Y) → Result X QueryFault → Result Y QueryRefusal → Type 0
+Answers view (Ok x) read = read ≡ Ok (view x)
+Answers view (Err fault) read = Fails fault read
 
 -- the same of one line
 abbrev pub LineFails : {Y : Type 0} → LineFault → Result Y QueryWhy → Type 0

@@ -1,9 +1,9 @@
 ghost use Rattle.std.specs.Prelude.{ℕ, ◌≡◌, ◌<◌, length, map, All, IfOk};
 ghost use Rattle.std.specs.List.{AllByRecursion};
-ghost use Rattle.jass_base.specs.declared.named.Named.{Named};
+ghost use Rattle.jass_base.specs.declared.query_term.QueryTerm.{QueryTerm};
 ghost use Rattle.jass_base.specs.declared.query.Query.{Query};
 ghost use Rattle.query_reader.specs.Queries.{query_data};
-ghost use Rattle.query_reader.specs.Refusals.{Gives};
+ghost use Rattle.query_reader.specs.Refusals.{Answers};
 ghost use Rattle.query_reader.specs.Reading.{read_query_file};
 
 use crate::line::read_line;
@@ -23,9 +23,9 @@ pub fn read_queries<X: Lexicon>(
     mode: Mode,
     index: &X,
 ) -> Result<Row<Query>, QueryFault>
-    ensures file { Gives (map query_data) result (read_query_file bytes.now mode (X.terms index.now)) }
+    ensures file { Answers (map query_data) result (read_query_file bytes.now mode (X.terms index.now)) }
     ensures known { IfOk result (λ queries. AllByRecursion
-        (λ (query : Query). All (λ (n : Named). n.term < length (X.terms index.now)) query.terms) queries) }
+        (λ (query : Query). All (λ (n : QueryTerm). n.term < length (X.terms index.now)) query.terms) queries) }
 {
     if bytes.len() > LONGEST_FILE {
         return Err(LineFault::Refused(QueryWhy::FileLong).at(0));

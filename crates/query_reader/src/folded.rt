@@ -6,7 +6,7 @@ ghost use Rattle.std.specs.Str.{chars};
 ghost use Rattle.std.specs.String.{string_bytes};
 ghost use Rattle.query_reader.specs.Texts.{factor_of, is_word, is_no_word, folded_term, folded_mentions};
 ghost use Rattle.query_reader.specs.Slices.{BeginsWithout, FindsWordRun, TakesFactor};
-ghost use Rattle.query_reader.specs.Tally.{CountsIn, all_counted_in};
+ghost use Rattle.query_reader.specs.Private.Tally.{CountsIn, all_counted_in};
 
 use crate::refusal::LineFault;
 use crate::tally::Tally;

@@ -1,5 +1,5 @@
 ghost use Rattle.std.specs.Prelude.{ℕ, ◌≡◌, ◌<◌, length, All, IfOk};
-ghost use Rattle.jass_base.specs.declared.named.Named.{Named};
+ghost use Rattle.jass_base.specs.declared.query_term.QueryTerm.{QueryTerm};
 ghost use Rattle.query_reader.specs.Queries.{query_data};
 ghost use Rattle.query_reader.specs.Refusals.{LineGives};
 ghost use Rattle.query_reader.specs.Reading.{read_line};
@@ -22,7 +22,7 @@ pub fn read_line<X: Lexicon>(
     index: &X,
 ) -> Result<Query, LineFault>
     ensures query { LineGives query_data result (read_line mode (X.terms index.now) line.now) }
-    ensures known { IfOk result (λ query. All (λ (n : Named). n.term < length (X.terms index.now)) query.terms) }
+    ensures known { IfOk result (λ query. All (λ (n : QueryTerm). n.term < length (X.terms index.now)) query.terms) }
 {
     if line.len() > LONGEST_LINE {
         return Err(LineFault::Refused(QueryWhy::LineLong));

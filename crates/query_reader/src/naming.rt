@@ -1,6 +1,6 @@
 ghost use Rattle.std.specs.Prelude.{ℕ, ◌≡◌, ◌+◌, ◌<◌, ◌≤◌, length, map, IfOk, All};
 ghost use Rattle.std.specs.String.{string_bytes};
-ghost use Rattle.jass_base.specs.declared.named.Named.{Named};
+ghost use Rattle.jass_base.specs.declared.query_term.QueryTerm.{QueryTerm};
 ghost use Rattle.query_reader.specs.Mentions.{words_as_mentions, named_of, unknown_of};
 
 use crate::refusal::LineFault;
@@ -19,8 +19,8 @@ pub fn name_terms<X: Lexicon>(
     ensures id { IfOk result (λ query. query.id ≡ id.now) }
     ensures terms { IfOk result (λ query. query.terms
         ≡ named_of (X.terms index.now) (words_as_mentions (map string_bytes words.now))) }
-    ensures times { IfOk result (λ query. All (λ (n : Named). n.times ≤ length words.now) query.terms) }
-    ensures known { IfOk result (λ query. All (λ (n : Named). n.term < length (X.terms index.now)) query.terms) }
+    ensures times { IfOk result (λ query. All (λ (n : QueryTerm). n.times ≤ length words.now) query.terms) }
+    ensures known { IfOk result (λ query. All (λ (n : QueryTerm). n.term < length (X.terms index.now)) query.terms) }
     ensures unknown { IfOk result (λ query. query.unknown
         ≡ unknown_of (X.terms index.now) (words_as_mentions (map string_bytes words.now))) }
 {

@@ -1,7 +1,7 @@
 ghost use Rattle.std.specs.Prelude.{ℕ, ◌≡◌, ◌+◌, ◌<◌, ◌≤◌, ◌^◌, length};
 ghost use Rattle.std.specs.Option.{option_map, option_and_then};
 ghost use Rattle.query_reader.specs.Texts.{factor_of, is_blank, at_last_caret, weighted, plain_mention, plain_mentions};
-ghost use Rattle.query_reader.specs.Tally.{CountsIn, all_counted_in};
+ghost use Rattle.query_reader.specs.Private.Tally.{CountsIn, all_counted_in};
 ghost use Rattle.query_reader.specs.Slices.{FindsRun, BeginsWithout, blank_runs, mention_data};
 
 use crate::refusal::LineFault;

@@ -1,10 +1,10 @@
 ghost use Rattle.std.specs.Prelude.{ℕ, ◌≡◌, ◌+◌, ◌<◌, ◌≤◌, ◌^◌, length, All, IfOk};
-ghost use Rattle.jass_base.specs.declared.named.Named.{Named};
+ghost use Rattle.jass_base.specs.declared.query_term.QueryTerm.{QueryTerm};
 ghost use Rattle.query_reader.specs.Texts.{mentions_of};
 ghost use Rattle.query_reader.specs.Queries.{query_data};
-ghost use Rattle.query_reader.specs.Refusals.{Gives, LineGives, at_line};
+ghost use Rattle.query_reader.specs.Refusals.{Answers, LineGives, at_line};
 ghost use Rattle.query_reader.specs.Reading.{read_mentions};
-ghost use Rattle.query_reader.specs.Tally.{CountsIn, all_counted_in};
+ghost use Rattle.query_reader.specs.Private.Tally.{CountsIn, all_counted_in};
 
 use crate::folded::count_folded;
 use crate::mode::Mode;
@@ -24,9 +24,9 @@ pub fn read_terms<X: Lexicon>(
     index: &X,
 ) -> Result<Query, QueryFault>
     requires { length text.now ≤ 1048576 }
-    ensures query { Gives query_data result
+    ensures query { Answers query_data result
         (at_line 1 (read_mentions (X.terms index.now) id.now (mentions_of mode text.now))) }
-    ensures known { IfOk result (λ query. All (λ (n : Named). n.term < length (X.terms index.now)) query.terms) }
+    ensures known { IfOk result (λ query. All (λ (n : QueryTerm). n.term < length (X.terms index.now)) query.terms) }
 {
     match read_query(alloc, id, text, mode, index) {
         Ok(query) => Ok(query),
@@ -44,7 +44,7 @@ pub fn read_query<X: Lexicon>(
 ) -> Result<Query, LineFault>
     requires { length text.now ≤ 1048576 }
     ensures query { LineGives query_data result (read_mentions (X.terms index.now) id.now (mentions_of mode text.now)) }
-    ensures known { IfOk result (λ query. All (λ (n : Named). n.term < length (X.terms index.now)) query.terms) }
+    ensures known { IfOk result (λ query. All (λ (n : QueryTerm). n.term < length (X.terms index.now)) query.terms) }
 {
     let mut tally = Tally::new(alloc);
     count_mentions(alloc, &mut tally, text, mode, index)?;

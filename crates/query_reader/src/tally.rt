@@ -1,9 +1,9 @@
 ghost use Rattle.std.specs.Prelude.{ℕ, ◌≡◌, ◌+◌, ◌<◌, ◌^◌, [], None};
 ghost use Rattle.query_reader.specs.Reading.{broken_limit};
-ghost use Rattle.query_reader.specs.Tally.{TallyData, CountsIn, TalliesIn, counted_in};
+ghost use Rattle.query_reader.specs.Private.Tally.{TallyData, CountsIn, TalliesIn, counted_in};
 
 use crate::refusal::{LineFault, QueryWhy};
-use jass_base::Named;
+use jass_base::QueryTerm;
 use std::alloc::Global;
 use std::marker::Model;
 
@@ -13,7 +13,7 @@ const MOST_TERMS: usize = 256;
 /// What the mentions so far name: known terms by first mention, and the number of the others.
 #[derive(Drop)]
 pub struct Tally {
-    pub named: Vec<Named>,
+    pub named: Vec<QueryTerm>,
     pub unknown: u32,
 }
 
@@ -51,7 +51,7 @@ impl Tally {
 }
 
 /// Names a term by a factor more. A term that wasn't named yet goes behind the others.
-pub fn count_known(named: &mut Vec<Named>, number: u32, factor: u8) -> Result<(), LineFault>
+pub fn count_known(named: &mut Vec<QueryTerm>, number: u32, factor: u8) -> Result<(), LineFault>
     requires { broken_limit named.old.items ≡ None }
     ensures { TalliesIn named.old.items number factor named.new.items result }
 {
@@ -67,7 +67,7 @@ pub fn count_known(named: &mut Vec<Named>, number: u32, factor: u8) -> Result<()
             if named.as_slice().len() == MOST_TERMS {
                 return Err(LineFault::Refused(QueryWhy::Terms));
             }
-            match named.push(Named {
+            match named.push(QueryTerm {
                 term: number,
                 times: factor,
             }) {

@@ -24,12 +24,12 @@ use Rattle.ranking_model.proofs.Orders.{rank_total, rank_same}
 
 -- ---- lists of two parts
 
-ascends_take : {A : Type 0} (cmp : A → A → Ordering) (n : ℕ) (xs : List A) → Ascends cmp xs → Ascends cmp (take n xs)
+pub ascends_take : {A : Type 0} (cmp : A → A → Ordering) (n : ℕ) (xs : List A) → Ascends cmp xs → Ascends cmp (take n xs)
 ascends_take cmp zero xs h = tt
 ascends_take cmp (suc n) [] h = tt
 ascends_take cmp (suc n) (x ∷ xs) h = (all_take (λ y. is_gt (cmp x y) ≡ false) n xs h.0, ascends_take cmp n xs h.1)
 
-take_before_drop : {A : Type 0} (cmp : A → A → Ordering) (n : ℕ) (xs : List A) → Ascends cmp xs → AllByRecursion (λ a. AllByRecursion (λ b. is_gt (cmp a b) ≡ false) (drop n xs)) (take n xs)
+pub take_before_drop : {A : Type 0} (cmp : A → A → Ordering) (n : ℕ) (xs : List A) → Ascends cmp xs → AllByRecursion (λ a. AllByRecursion (λ b. is_gt (cmp a b) ≡ false) (drop n xs)) (take n xs)
 take_before_drop cmp zero xs h = tt
 take_before_drop cmp (suc n) [] h = tt
 take_before_drop cmp (suc n) (x ∷ xs) h = (all_drop (λ y. is_gt (cmp x y) ≡ false) n xs h.0, take_before_drop cmp n xs h.1)
@@ -227,7 +227,7 @@ hits_once d from (score ∷ scores) = step (score == 0) (hits_once d (from + 1) 
     by (inl e) = let none = hits_none_below d (from + 1) scores (omega arith) in let t : (from == d) ≡ true = eq-eqb from d e in rw (split, t) (omega arith)
     by (inr apart) = let f : (from == d) ≡ false = grind (arith, nat_tests) in rw (split, f) (omega arith)
 
-in_hits : (from : ℕ) (scores : List ℕ) (h : Hit) (i : ℕ) → h.doc ≡ from + i → i < length scores → 1 ≤ h.score → h.score ≡ get_or scores i 0 → In h (hits_from from scores)
+pub in_hits : (from : ℕ) (scores : List ℕ) (h : Hit) (i : ℕ) → h.doc ≡ from + i → i < length scores → 1 ≤ h.score → h.score ≡ get_or scores i 0 → In h (hits_from from scores)
 in_hits from [] h i is inside some score_is = absurd (omega arith)
 in_hits from (score ∷ scores) h zero is inside some score_is =
     let f : (score == 0) ≡ false = grind (arith, nat_tests) in
@@ -293,7 +293,7 @@ module _ (scores : List ℕ) (m : ℕ) (candidates : List Hit) (are : AreHitsOf 
 
 -- ---- candidates down to a floor
 
-hits_each : (P : Hit → Type 0) (from : ℕ) (scores : List ℕ) → ((i : ℕ) → i < length scores → 1 ≤ get_or scores i 0 → P (record { doc = from + i; score = get_or scores i 0 })) → AllByRecursion P (hits_from from scores)
+pub hits_each : (P : Hit → Type 0) (from : ℕ) (scores : List ℕ) → ((i : ℕ) → i < length scores → 1 ≤ get_or scores i 0 → P (record { doc = from + i; score = get_or scores i 0 })) → AllByRecursion P (hits_from from scores)
 hits_each P from [] each = tt
 hits_each P from (score ∷ scores) each = by (cases_eq score 0) (hits_each P (from + 1) scores (λ i inside some. let e : from + suc i ≡ from + 1 + i = omega arith in subst (λ d. P (record { doc = d; score = get_or scores i 0 })) e (each (suc i) (omega arith) some))) where
   first : 1 ≤ score → P (record { doc = from; score = score })

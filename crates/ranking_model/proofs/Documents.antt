@@ -28,7 +28,7 @@ by_places P (x ∷ xs) h (suc k) d inside = by_places P xs h.1 k d (omega arith)
 
 -- there is a score for each document
 pub scores_all : (n : ℕ) (plan : QueryPlan) → length (scores_after n plan) ≡ plan.docs
-scores_all n plan = length-map-range_with_len (λ doc. sum_by (gain_of doc) (take n plan.classes)) 0 plan.docs
+scores_all n plan = length-map-range_with_len (λ doc. sum_by (gain_of doc) (take n plan.segments)) 0 plan.docs
 
 pub answer_below : (n : ℕ) (plan : QueryPlan) (k : ℕ) → All (λ (hit : Hit). hit.doc < plan.docs) (top_k n plan k)
 answer_below n plan k =

@@ -1,4 +1,4 @@
--- One class more, one grant more, a prefix that is resumed, and a sort through a map.
+-- One segment more, one grant more, a prefix that is resumed, and a sort through a map.
 use Rattle.std.proofs.Common.{◌≡◌, ℕ, zero, suc, ◌+◌, ◌-◌, ◌*◌, ◌<◌, ◌≤◌, ◌==◌, min, List, [], ◌∷◌, ◌++◌, map, length, take, drop, get_or, set, sum_by, count_by, ◌^◌, Bool, true, false, cond, refl, sym, ap, subst, ◌∙◌, arith, inl, inr, ◌⊎◌, Some, eq-eqb, get_or-set_same, get_or-set_other}
 use Rattle.std.specs.Prelude.{All, slice_get}
 use Rattle.std.specs.declared.cmp.Ordering.{Ordering}
@@ -12,9 +12,9 @@ use Rattle.std.proofs.lemmas.List.Sums.{sum_by-cons, sum_by-append, sum_by_push}
 use Rattle.std.proofs.Math.Nat.{mul-le-mul}
 use Rattle.std.proofs.Math.Seq.{take-add, drop-cons}
 use Rattle.jass_base.specs.declared.answer.Budget.{Budget}
-use Rattle.jass_base.specs.declared.named.Named.{Named}
+use Rattle.jass_base.specs.declared.query_term.QueryTerm.{QueryTerm}
 use Rattle.ranking_model.specs.declared.entry.Entry.{Entry}
-use Rattle.ranking_model.specs.declared.class.Class.{Class}
+use Rattle.ranking_model.specs.declared.plan_segment.PlanSegment.{PlanSegment}
 use Rattle.ranking_model.specs.declared.plan.QueryPlan.{QueryPlan}
 use Rattle.ranking_model.specs.Flat.{IsFlat}
 use Rattle.ranking_model.specs.Order.{placed, sorted}
@@ -28,7 +28,7 @@ use Rattle.ranking_model.proofs.Totals.{prefix_is}
 use Rattle.ranking_model.proofs.Parting.{prefix_there, prefix_fits, prefix_longest}
 use Rattle.ranking_model.proofs.Weighing.{weighted_all, for_each}
 
--- ---- one class more
+-- ---- one segment more
 
 pub length-added : (weight : ℕ) (docs scores : List ℕ) → length (added weight docs scores) ≡ length scores
 length-added weight [] scores = refl
@@ -63,25 +63,25 @@ take_more [] n x is = absurd (cc)
 take_more (y ∷ ys) zero x is = let e : y ≡ x = cc in λ i. e i ∷ []
 take_more (y ∷ ys) (suc n) x is = let one : suc n + 1 ≡ suc (n + 1) = omega arith in rw one (ap (λ l. y ∷ l) (take_more ys n x is))
 
-pub class_added : (n : ℕ) (plan : QueryPlan) (class : Class) → slice_get plan.classes n ≡ Some class → scores_after (n + 1) plan ≡ added class.weight class.docs (scores_after n plan)
-class_added n plan class is = ext_get_or 0 (scores_after (n + 1) plan) (added class.weight class.docs (scores_after n plan)) (long (n + 1) ∙ sym (long n) ∙ sym (length-added class.weight class.docs (scores_after n plan))) each where
+pub segment_added : (n : ℕ) (plan : QueryPlan) (segment : PlanSegment) → slice_get plan.segments n ≡ Some segment → scores_after (n + 1) plan ≡ added segment.weight segment.docs (scores_after n plan)
+segment_added n plan segment is = ext_get_or 0 (scores_after (n + 1) plan) (added segment.weight segment.docs (scores_after n plan)) (long (n + 1) ∙ sym (long n) ∙ sym (length-added segment.weight segment.docs (scores_after n plan))) each where
   long : (m : ℕ) → length (scores_after m plan) ≡ plan.docs
-  long m = length-map-range_with_len (λ doc. sum_by (gain_of doc) (take m plan.classes)) 0 plan.docs
+  long m = length-map-range_with_len (λ doc. sum_by (gain_of doc) (take m plan.segments)) 0 plan.docs
 
-  score : (m d : ℕ) → d < plan.docs → get_or (scores_after m plan) d 0 ≡ sum_by (gain_of d) (take m plan.classes)
-  score m d inside = get_or-map-range_with_len (λ doc. sum_by (gain_of doc) (take m plan.classes)) 0 plan.docs d d 0 inside (omega arith)
+  score : (m d : ℕ) → d < plan.docs → get_or (scores_after m plan) d 0 ≡ sum_by (gain_of d) (take m plan.segments)
+  score m d inside = get_or-map-range_with_len (λ doc. sum_by (gain_of doc) (take m plan.segments)) 0 plan.docs d d 0 inside (omega arith)
 
-  each : (d : ℕ) → d < length (scores_after (n + 1) plan) → get_or (scores_after (n + 1) plan) d 0 ≡ get_or (added class.weight class.docs (scores_after n plan)) d 0
+  each : (d : ℕ) → d < length (scores_after (n + 1) plan) → get_or (scores_after (n + 1) plan) d 0 ≡ get_or (added segment.weight segment.docs (scores_after n plan)) d 0
   each d inside =
       let within : d < plan.docs = (let a = long (n + 1) in omega arith) in
       let before : d < length (scores_after n plan) = (let a = long n in omega arith) in
-      score (n + 1) d within ∙ ap (sum_by (gain_of d)) (take_more plan.classes n class is) ∙ sum_by_push (gain_of d) (take n plan.classes) class
-      ∙ ap (λ s. s + gain_of d class) (sym (score n d within)) ∙ sym (added_at class.weight class.docs (scores_after n plan) d before)
+      score (n + 1) d within ∙ ap (sum_by (gain_of d)) (take_more plan.segments n segment is) ∙ sum_by_push (gain_of d) (take n plan.segments) segment
+      ∙ ap (λ s. s + gain_of d segment) (sym (score n d within)) ∙ sym (added_at segment.weight segment.docs (scores_after n plan) d before)
 
 pub scores_small : (n : ℕ) (plan : QueryPlan) → IsSmall plan → All (λ score. score < 2 ^ 32) (scores_after n plan)
 scores_small n plan small k d inside =
-    let long : k < plan.docs = (let a = length-map-range_with_len (λ doc. sum_by (gain_of doc) (take n plan.classes)) 0 plan.docs in omega arith) in
-    let is : get_or (scores_after n plan) k d ≡ sum_by (gain_of k) (take n plan.classes) = get_or-map-range_with_len (λ doc. sum_by (gain_of doc) (take n plan.classes)) 0 plan.docs k k d long (omega arith) in
+    let long : k < plan.docs = (let a = length-map-range_with_len (λ doc. sum_by (gain_of doc) (take n plan.segments)) 0 plan.docs in omega arith) in
+    let is : get_or (scores_after n plan) k d ≡ sum_by (gain_of k) (take n plan.segments) = get_or-map-range_with_len (λ doc. sum_by (gain_of doc) (take n plan.segments)) 0 plan.docs k k d long (omega arith) in
     subst (λ score. score < 2 ^ 32) (sym is) (small.scores n k)
 
 pub part_small : (weight limit : ℕ) (docs more scores : List ℕ) → All (λ score. score < limit) (added weight (docs ++ more) scores) → All (λ score. score < limit) (added weight docs scores)
@@ -95,44 +95,44 @@ part_small weight limit docs more scores small k d inside =
 
 -- ---- a prefix that is resumed
 
-pub size_split : (n p : ℕ) (classes : List Class) → size_of_first (n + p) classes ≡ size_of_first n classes + size_of_first p (drop n classes)
-size_split n p classes = ap (sum_by (λ (class : Class). length class.docs)) (take-add n p classes) ∙ sum_by-append (λ (class : Class). length class.docs) (take n classes) (take p (drop n classes))
+pub size_split : (n p : ℕ) (segments : List PlanSegment) → size_of_first (n + p) segments ≡ size_of_first n segments + size_of_first p (drop n segments)
+size_split n p segments = ap (sum_by (λ (segment : PlanSegment). length segment.docs)) (take-add n p segments) ∙ sum_by-append (λ (segment : PlanSegment). length segment.docs) (take n segments) (take p (drop n segments))
 
-pub resumed : (before budget n : ℕ) (classes : List Class) → n ≡ prefix_within before classes → before ≤ budget → prefix_within budget classes ≡ n + prefix_within (budget - size_of_first n classes) (drop n classes)
-resumed before budget n classes is more = prefix_is classes budget (n + p) there fits stops where
+pub resumed : (before budget n : ℕ) (segments : List PlanSegment) → n ≡ prefix_within before segments → before ≤ budget → prefix_within budget segments ≡ n + prefix_within (budget - size_of_first n segments) (drop n segments)
+resumed before budget n segments is more = prefix_is segments budget (n + p) there fits stops where
   p : ℕ
-  p = prefix_within (budget - size_of_first n classes) (drop n classes)
+  p = prefix_within (budget - size_of_first n segments) (drop n segments)
 
-  own : n ≤ length classes
-  own = let a = prefix_there before classes in omega arith
+  own : n ≤ length segments
+  own = let a = prefix_there before segments in omega arith
 
-  paid : size_of_first n classes ≤ budget
-  paid = let a = prefix_fits before classes in let b : size_of_first n classes ≡ size_of_first (prefix_within before classes) classes = ap (λ m. size_of_first m classes) is in omega arith
+  paid : size_of_first n segments ≤ budget
+  paid = let a = prefix_fits before segments in let b : size_of_first n segments ≡ size_of_first (prefix_within before segments) segments = ap (λ m. size_of_first m segments) is in omega arith
 
-  left : length (drop n classes) ≡ length classes - n
-  left = length-drop n classes
+  left : length (drop n segments) ≡ length segments - n
+  left = length-drop n segments
 
-  there : n + prefix_within (budget - size_of_first n classes) (drop n classes) ≤ length classes
-  there = let a = prefix_there (budget - size_of_first n classes) (drop n classes) in let b = own in let c = left in omega arith
+  there : n + prefix_within (budget - size_of_first n segments) (drop n segments) ≤ length segments
+  there = let a = prefix_there (budget - size_of_first n segments) (drop n segments) in let b = own in let c = left in omega arith
 
-  fits : size_of_first (n + prefix_within (budget - size_of_first n classes) (drop n classes)) classes ≤ budget
+  fits : size_of_first (n + prefix_within (budget - size_of_first n segments) (drop n segments)) segments ≤ budget
   fits =
-      let a = size_split n (prefix_within (budget - size_of_first n classes) (drop n classes)) classes in
-      let b = prefix_fits (budget - size_of_first n classes) (drop n classes) in
+      let a = size_split n (prefix_within (budget - size_of_first n segments) (drop n segments)) segments in
+      let b = prefix_fits (budget - size_of_first n segments) (drop n segments) in
       let c = paid in
       omega arith
 
-  stops : n + prefix_within (budget - size_of_first n classes) (drop n classes) < length classes → budget < size_of_first (n + prefix_within (budget - size_of_first n classes) (drop n classes) + 1) classes
-  stops less = by (cases_lt (budget - size_of_first n classes) (size_of_first (prefix_within (budget - size_of_first n classes) (drop n classes) + 1) (drop n classes))) where
-    whole : size_of_first (n + prefix_within (budget - size_of_first n classes) (drop n classes) + 1) classes ≡ size_of_first n classes + size_of_first (prefix_within (budget - size_of_first n classes) (drop n classes) + 1) (drop n classes)
+  stops : n + prefix_within (budget - size_of_first n segments) (drop n segments) < length segments → budget < size_of_first (n + prefix_within (budget - size_of_first n segments) (drop n segments) + 1) segments
+  stops less = by (cases_lt (budget - size_of_first n segments) (size_of_first (prefix_within (budget - size_of_first n segments) (drop n segments) + 1) (drop n segments))) where
+    whole : size_of_first (n + prefix_within (budget - size_of_first n segments) (drop n segments) + 1) segments ≡ size_of_first n segments + size_of_first (prefix_within (budget - size_of_first n segments) (drop n segments) + 1) (drop n segments)
     whole =
-        let e : n + prefix_within (budget - size_of_first n classes) (drop n classes) + 1 ≡ n + (prefix_within (budget - size_of_first n classes) (drop n classes) + 1) = omega arith in
-        ap (λ m. size_of_first m classes) e ∙ size_split n (prefix_within (budget - size_of_first n classes) (drop n classes) + 1) classes
+        let e : n + prefix_within (budget - size_of_first n segments) (drop n segments) + 1 ≡ n + (prefix_within (budget - size_of_first n segments) (drop n segments) + 1) = omega arith in
+        ap (λ m. size_of_first m segments) e ∙ size_split n (prefix_within (budget - size_of_first n segments) (drop n segments) + 1) segments
 
-    by : (budget - size_of_first n classes < size_of_first (prefix_within (budget - size_of_first n classes) (drop n classes) + 1) (drop n classes)) ⊎ (size_of_first (prefix_within (budget - size_of_first n classes) (drop n classes) + 1) (drop n classes) ≤ budget - size_of_first n classes)
-        → budget < size_of_first (n + prefix_within (budget - size_of_first n classes) (drop n classes) + 1) classes
+    by : (budget - size_of_first n segments < size_of_first (prefix_within (budget - size_of_first n segments) (drop n segments) + 1) (drop n segments)) ⊎ (size_of_first (prefix_within (budget - size_of_first n segments) (drop n segments) + 1) (drop n segments) ≤ budget - size_of_first n segments)
+        → budget < size_of_first (n + prefix_within (budget - size_of_first n segments) (drop n segments) + 1) segments
     by (inl k) = let a = whole in let b = paid in omega arith
-    by (inr k) = let c = left in absurd (let a = prefix_longest (budget - size_of_first n classes) (prefix_within (budget - size_of_first n classes) (drop n classes) + 1) (drop n classes) (omega arith) k in omega arith)
+    by (inr k) = let c = left in absurd (let a = prefix_longest (budget - size_of_first n segments) (prefix_within (budget - size_of_first n segments) (drop n segments) + 1) (drop n segments) (omega arith) k in omega arith)
 
 -- ---- one grant more
 
@@ -153,9 +153,9 @@ prefixes_from budgets plan j inside =
 
 -- ---- the weights of a query
 
-pub weighted_light : (docs : ℕ) (flat : List (Entry ℕ)) (terms : List Named) → IsFlat nat_cmp docs flat → All (λ named. named.times ≤ 255) terms → AreLight (weighted_postings flat terms)
-weighted_light docs flat terms f times = All-from_recursion (λ p. p.weight ≤ 16711425) (weighted_postings flat terms) (weighted_all (λ p. p.weight ≤ 16711425) 0 terms flat (λ place.
-    for_each (λ (named : Named) (e : Entry ℕ). e.impact * named.times ≤ 16711425) (λ (named : Named). named.times ≤ 255) (λ (e : Entry ℕ). (1 ≤ e.impact) × (e.impact ≤ 65535)) terms flat
+pub weighted_light : (docs : ℕ) (flat : List (Entry ℕ)) (terms : List QueryTerm) → IsFlat nat_cmp docs flat → All (λ named. named.times ≤ 255) terms → AreLight (weighted_postings flat terms)
+weighted_light docs flat terms f times = All-from_recursion (λ p. p.weight ≤ 16711425) (weighted_postings flat terms) (weighted_all (λ p. p.weight ≤ 16711425) 0 terms flat (λ term_place.
+    for_each (λ (named : QueryTerm) (e : Entry ℕ). e.impact * named.times ≤ 16711425) (λ (named : QueryTerm). named.times ≤ 255) (λ (e : Entry ℕ). (1 ≤ e.impact) × (e.impact ≤ 65535)) terms flat
     (λ named e a b. mul-le-mul b.1 a) (recursion_from_All _ terms times) (recursion_from_All _ flat f.impacts)))
 
 -- ---- a sort through a map

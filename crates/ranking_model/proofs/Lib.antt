@@ -1,6 +1,6 @@
 pub mod Sorting
 pub mod Orders
-pub mod Classes
+pub mod PlanSegments
 pub mod Totals
 pub mod Grouping
 pub mod Weighing
@@ -8,7 +8,6 @@ pub mod Small
 pub mod Gains
 pub mod Parting
 pub mod Segments
-pub mod Numbering
 pub mod Documents
 pub mod Rest
 pub mod Searched

@@ -7,7 +7,7 @@ use Rattle.std.proofs.lemmas.Cmp.{then_total, on_total, back_total, nat_cmp_tota
 use Rattle.std.specs.FinMap.{IsAntisymmetric, nat_cmp-IsAntisymmetric}
 use Rattle.jass_base.specs.declared.answer.Hit.{Hit}
 use Rattle.ranking_model.specs.declared.entry.Entry.{Entry}
-use Rattle.ranking_model.specs.declared.class.Class.{Class}
+use Rattle.ranking_model.specs.declared.plan_segment.PlanSegment.{PlanSegment}
 use Rattle.ranking_model.specs.Flat.{entry_cmp}
 use Rattle.ranking_model.specs.Plan.{plan_cmp}
 use Rattle.ranking_model.specs.Scores.{rank_cmp}
@@ -27,8 +27,8 @@ entry_same {T} cmp same x y e =
     λ i. record { term = term i; doc = doc i; impact = impact i }
 
 pub plan_total : IsTotalOrder plan_cmp
-plan_total = then_total (then_total (on_total (λ (c : Class). c.weight) (back_total nat_cmp_total)) (on_total (λ (c : Class). length c.docs) nat_cmp_total))
-    (on_total (λ (c : Class). c.place) nat_cmp_total)
+plan_total = then_total (then_total (on_total (λ (c : PlanSegment). c.weight) (back_total nat_cmp_total)) (on_total (λ (c : PlanSegment). length c.docs) nat_cmp_total))
+    (on_total (λ (c : PlanSegment). c.term_place) nat_cmp_total)
 
 pub rank_total : IsTotalOrder rank_cmp
 rank_total = then_total (on_total (λ (h : Hit). h.score) (back_total nat_cmp_total)) (on_total (λ (h : Hit). h.doc) nat_cmp_total)

@@ -7,13 +7,13 @@ use Rattle.std.proofs.lemmas.Bool.{leb-true, le-leb, cases_lt}
 use Rattle.std.proofs.lemmas.Bool.Decides.{nat_tests}
 use Rattle.std.proofs.lemmas.List.Sums.{sum_by-cons, sum_by-take-drop}
 use Rattle.ranking_model.specs.declared.posting.WeightedPosting.{WeightedPosting}
-use Rattle.ranking_model.specs.declared.class.Class.{Class}
-use Rattle.ranking_model.specs.Plan.{joined, is_of, plan_cmp, classes_of, size_of_first, greatest_up_to, prefix_within, weight_at, cutoff_after, next_after}
+use Rattle.ranking_model.specs.declared.plan_segment.PlanSegment.{PlanSegment}
+use Rattle.ranking_model.specs.Plan.{joined, is_of, plan_cmp, plan_segments, size_of_first, greatest_up_to, prefix_within, weight_at, cutoff_after, next_after}
 use Rattle.ranking_model.specs.Heaviest.{IsHeaviest}
 use Rattle.std.proofs.lemmas.Bool.{cases_Bool}
 use Rattle.ranking_model.proofs.Sorting.{Ascends, sorted_ascends}
 use Rattle.ranking_model.proofs.Orders.{plan_total}
-use Rattle.ranking_model.proofs.Grouping.{more, classes_sum}
+use Rattle.ranking_model.proofs.Grouping.{more, segments_sum}
 
 -- ---- the longest prefix
 
@@ -39,66 +39,66 @@ greatest_greatest (suc n) j test h passes = by (cases_Bool (test (suc n))) (case
   by (inr f) (inl k) rest = rw f (rest (omega arith))
   by (inr f) (inr k) rest = let e : j ≡ suc n = omega arith in absurd (true≢false (sym (rw e at passes) ∙ f))
 
-pub prefix_there : (budget : ℕ) (classes : List Class) → prefix_within budget classes ≤ length classes
-prefix_there budget classes = greatest_within (length classes) (λ n. nat_le (size_of_first n classes) budget)
+pub prefix_there : (budget : ℕ) (segments : List PlanSegment) → prefix_within budget segments ≤ length segments
+prefix_there budget segments = greatest_within (length segments) (λ n. nat_le (size_of_first n segments) budget)
 
-pub prefix_fits : (budget : ℕ) (classes : List Class) → size_of_first (prefix_within budget classes) classes ≤ budget
-prefix_fits budget classes = leb-true _ _ (greatest_passes (length classes) (λ n. nat_le (size_of_first n classes) budget) (le-leb 0 budget (omega arith)))
+pub prefix_fits : (budget : ℕ) (segments : List PlanSegment) → size_of_first (prefix_within budget segments) segments ≤ budget
+prefix_fits budget segments = leb-true _ _ (greatest_passes (length segments) (λ n. nat_le (size_of_first n segments) budget) (le-leb 0 budget (omega arith)))
 
-pub prefix_longest : (budget n : ℕ) (classes : List Class) → n ≤ length classes → size_of_first n classes ≤ budget → n ≤ prefix_within budget classes
-prefix_longest budget n classes h fits = greatest_greatest (length classes) n (λ n. nat_le (size_of_first n classes) budget) h (le-leb _ _ fits)
+pub prefix_longest : (budget n : ℕ) (segments : List PlanSegment) → n ≤ length segments → size_of_first n segments ≤ budget → n ≤ prefix_within budget segments
+prefix_longest budget n segments h fits = greatest_greatest (length segments) n (λ n. nat_le (size_of_first n segments) budget) h (le-leb _ _ fits)
 
 -- ---- the cutoff
 
--- no class weighs less than one behind it
-abbrev Falls : List Class → Type 0
+-- no segment weighs less than one behind it
+abbrev Falls : List PlanSegment → Type 0
 Falls [] = ⊤
 Falls (c ∷ cs) = AllByRecursion (λ d. d.weight ≤ c.weight) cs × Falls cs
 
-falls_from : (cs : List Class) → Ascends plan_cmp cs → Falls cs
+falls_from : (cs : List PlanSegment) → Ascends plan_cmp cs → Falls cs
 falls_from [] h = tt
 falls_from (c ∷ cs) h = (all cs h.0, falls_from cs h.1) where
-  lighter : (d : Class) → is_gt (plan_cmp c d) ≡ false → d.weight ≤ c.weight
+  lighter : (d : PlanSegment) → is_gt (plan_cmp c d) ≡ false → d.weight ≤ c.weight
   lighter d k = grind (arith, nat_tests)
 
-  all : (ds : List Class) → AllByRecursion (λ d. is_gt (plan_cmp c d) ≡ false) ds → AllByRecursion (λ d. d.weight ≤ c.weight) ds
+  all : (ds : List PlanSegment) → AllByRecursion (λ d. is_gt (plan_cmp c d) ≡ false) ds → AllByRecursion (λ d. d.weight ≤ c.weight) ds
   all [] k = tt
   all (d ∷ ds) k = (lighter d k.0, all ds k.1)
 
-weight_at_le : (m at : ℕ) (cs : List Class) → AllByRecursion (λ d. d.weight ≤ m) cs → weight_at at cs ≤ m
+weight_at_le : (m at : ℕ) (cs : List PlanSegment) → AllByRecursion (λ d. d.weight ≤ m) cs → weight_at at cs ≤ m
 weight_at_le m at [] h = omega arith
 weight_at_le m zero (c ∷ cs) h = h.0
 weight_at_le m (suc at) (c ∷ cs) h = weight_at_le m at cs h.1
 
-scored_at_least : (n : ℕ) (cs : List Class) → Falls cs → AllByRecursion (λ class. cutoff_after n cs ≤ class.weight) (take n cs)
+scored_at_least : (n : ℕ) (cs : List PlanSegment) → Falls cs → AllByRecursion (λ segment. cutoff_after n cs ≤ segment.weight) (take n cs)
 scored_at_least zero cs h = tt
 scored_at_least (suc n) [] h = tt
 scored_at_least (suc zero) (c ∷ cs) h = (omega arith, tt)
 scored_at_least (suc (suc n)) (c ∷ cs) h = (weight_at_le c.weight n cs h.0, scored_at_least (suc n) cs h.1)
 
-unscored_at_most : (n : ℕ) (cs : List Class) → Falls cs → AllByRecursion (λ class. class.weight ≤ next_after n cs) (drop n cs)
+unscored_at_most : (n : ℕ) (cs : List PlanSegment) → Falls cs → AllByRecursion (λ segment. segment.weight ≤ next_after n cs) (drop n cs)
 unscored_at_most zero [] h = tt
 unscored_at_most zero (c ∷ cs) h = (omega arith, h.0)
 unscored_at_most (suc n) [] h = tt
 unscored_at_most (suc n) (c ∷ cs) h = unscored_at_most n cs h.1
 
-next_below : (n : ℕ) (cs : List Class) → Falls cs → weight_at (suc n) cs ≤ weight_at n cs
+next_below : (n : ℕ) (cs : List PlanSegment) → Falls cs → weight_at (suc n) cs ≤ weight_at n cs
 next_below n [] h = omega arith
 next_below zero (c ∷ cs) h = weight_at_le c.weight 0 cs h.0
 next_below (suc n) (c ∷ cs) h = next_below n cs h.1
 
-plan_falls : (ps : List WeightedPosting) → Falls (classes_of ps)
-plan_falls ps = falls_from (classes_of ps) (sorted_ascends plan_cmp plan_total (fold joined [] ps))
+plan_falls : (ps : List WeightedPosting) → Falls (plan_segments ps)
+plan_falls ps = falls_from (plan_segments ps) (sorted_ascends plan_cmp plan_total (fold joined [] ps))
 
-pub scored : (ps : List WeightedPosting) (n : ℕ) → AllByRecursion (λ class. cutoff_after n (classes_of ps) ≤ class.weight) (take n (classes_of ps))
-scored ps n = scored_at_least n (classes_of ps) (plan_falls ps)
+pub scored : (ps : List WeightedPosting) (n : ℕ) → AllByRecursion (λ segment. cutoff_after n (plan_segments ps) ≤ segment.weight) (take n (plan_segments ps))
+scored ps n = scored_at_least n (plan_segments ps) (plan_falls ps)
 
-pub unscored : (ps : List WeightedPosting) (n : ℕ) → AllByRecursion (λ class. class.weight ≤ next_after n (classes_of ps)) (drop n (classes_of ps))
-unscored ps n = unscored_at_most n (classes_of ps) (plan_falls ps)
+pub unscored : (ps : List WeightedPosting) (n : ℕ) → AllByRecursion (λ segment. segment.weight ≤ next_after n (plan_segments ps)) (drop n (plan_segments ps))
+unscored ps n = unscored_at_most n (plan_segments ps) (plan_falls ps)
 
-pub parted : (ps : List WeightedPosting) (n : ℕ) → 1 ≤ n → next_after n (classes_of ps) ≤ cutoff_after n (classes_of ps)
+pub parted : (ps : List WeightedPosting) (n : ℕ) → 1 ≤ n → next_after n (plan_segments ps) ≤ cutoff_after n (plan_segments ps)
 parted ps zero h = absurd (omega arith)
-parted ps (suc n) h = next_below n (classes_of ps) (plan_falls ps)
+parted ps (suc n) h = next_below n (plan_segments ps) (plan_falls ps)
 
 -- ---- the heaviest
 
@@ -118,13 +118,13 @@ above cut (p ∷ ps) =
     let more : cut * suc (length ps) ≡ cut + cut * length ps = omega arith in
     rw (a, b, more) (omega arith)
 
-abbrev excess : ℕ → Class → ℕ
-excess cut class = (class.weight - cut) * length class.docs
+abbrev excess : ℕ → PlanSegment → ℕ
+excess cut segment = (segment.weight - cut) * length segment.docs
 
 first_excess : (cut : ℕ) (p : WeightedPosting) → (p.weight - cut) * 1 ≡ p.weight - cut
 first_excess cut p = omega arith
 
-next_excess : (cut : ℕ) (c : Class) (p : WeightedPosting) → is_of c p ≡ true → excess cut (more c p.doc) ≡ excess cut c + (p.weight - cut)
+next_excess : (cut : ℕ) (c : PlanSegment) (p : WeightedPosting) → is_of c p ≡ true → excess cut (more c p.doc) ≡ excess cut c + (p.weight - cut)
 next_excess cut c p e =
     let same : c.weight ≡ p.weight = grind (arith, nat_tests) in
     let long : length (c.docs ++ p.doc ∷ []) ≡ length c.docs + 1 = length-append c.docs (p.doc ∷ []) in
@@ -139,22 +139,22 @@ empty : {A : Type 0} (f : A → ℕ) (xs : List A) → length xs ≡ 0 → sum_b
 empty f [] e = omega arith
 empty f (x ∷ xs) e = absurd (omega arith)
 
--- scored classes are at least as heavy as the cut
-full : (cut : ℕ) (cs : List Class) → AllByRecursion (λ class. cut ≤ class.weight) cs → sum_by (excess cut) cs + cut * sum_by (λ (class : Class). length class.docs) cs ≡ sum_by (λ (class : Class). class.weight * length class.docs) cs
+-- scored segments are at least as heavy as the cut
+full : (cut : ℕ) (cs : List PlanSegment) → AllByRecursion (λ segment. cut ≤ segment.weight) cs → sum_by (excess cut) cs + cut * sum_by (λ (segment : PlanSegment). length segment.docs) cs ≡ sum_by (λ (segment : PlanSegment). segment.weight * length segment.docs) cs
 full cut [] h = omega arith
 full cut (c ∷ cs) h =
     let a = sum_by-cons (excess cut) c cs in
-    let b = sum_by-cons (λ (class : Class). length class.docs) c cs in
-    let d = sum_by-cons (λ (class : Class). class.weight * length class.docs) c cs in
+    let b = sum_by-cons (λ (segment : PlanSegment). length segment.docs) c cs in
+    let d = sum_by-cons (λ (segment : PlanSegment). segment.weight * length segment.docs) c cs in
     let rest = full cut cs h.1 in
     let one : (c.weight - cut) * length c.docs + cut * length c.docs ≡ c.weight * length c.docs = product c.weight cut (length c.docs) h.0 in
-    let spread : cut * (length c.docs + sum_by (λ (class : Class). length class.docs) cs) ≡ cut * length c.docs + cut * sum_by (λ (class : Class). length class.docs) cs = omega arith in
+    let spread : cut * (length c.docs + sum_by (λ (segment : PlanSegment). length segment.docs) cs) ≡ cut * length c.docs + cut * sum_by (λ (segment : PlanSegment). length segment.docs) cs = omega arith in
     rw (a, b, d, spread) (omega arith)
   where
     product : (w cut s : ℕ) → cut ≤ w → (w - cut) * s + cut * s ≡ w * s
     product w cut s h = spread (w - cut) cut s ∙ ap (λ v. v * s) (let e : w - cut + cut ≡ w = omega arith in e)
 
-none : (cut : ℕ) (cs : List Class) → AllByRecursion (λ class. class.weight ≤ cut) cs → sum_by (excess cut) cs ≡ 0
+none : (cut : ℕ) (cs : List PlanSegment) → AllByRecursion (λ segment. segment.weight ≤ cut) cs → sum_by (excess cut) cs ≡ 0
 none cut [] h = refl
 none cut (c ∷ cs) h =
     let a = sum_by-cons (excess cut) c cs in
@@ -162,20 +162,20 @@ none cut (c ∷ cs) h =
     let rest = none cut cs h.1 in
     rw (a, zero_weight, rest) (omega arith)
 
-all_up_to : (m n : ℕ) (cs : List Class) → m ≤ n → AllByRecursion (λ class. class.weight ≤ m) cs → AllByRecursion (λ class. class.weight ≤ n) cs
+all_up_to : (m n : ℕ) (cs : List PlanSegment) → m ≤ n → AllByRecursion (λ segment. segment.weight ≤ m) cs → AllByRecursion (λ segment. segment.weight ≤ n) cs
 all_up_to m n [] h a = tt
 all_up_to m n (c ∷ cs) h a = (let less = a.0 in omega arith, all_up_to m n cs h a.1)
 
 pub heaviest : (n : ℕ) (ps : List WeightedPosting) → IsHeaviest n ps
 heaviest zero ps choice size = empty (λ p. p.weight) (items_where_true choice ps) size
 heaviest (suc n) ps choice size =
-    let cut = cutoff_after (suc n) (classes_of ps) in
+    let cut = cutoff_after (suc n) (plan_segments ps) in
     let chosen = items_where_true choice ps in
     let a = above cut chosen in
     let b = choice_le (λ (p : WeightedPosting). p.weight - cut) choice ps in
-    let total = classes_sum (excess cut) (λ p. p.weight - cut) (first_excess cut) (next_excess cut) ps in
-    let parts = sum_by-take-drop (excess cut) (classes_of ps) (suc n) in
-    let front = full cut (take (suc n) (classes_of ps)) (scored ps (suc n)) in
-    let back = none cut (drop (suc n) (classes_of ps)) (all_up_to _ cut _ (parted ps (suc n) (omega arith)) (unscored ps (suc n))) in
-    let count : cut * length chosen ≡ cut * sum_by (λ (class : Class). length class.docs) (take (suc n) (classes_of ps)) = ap (λ k. cut * k) size in
+    let total = segments_sum (excess cut) (λ p. p.weight - cut) (first_excess cut) (next_excess cut) ps in
+    let parts = sum_by-take-drop (excess cut) (plan_segments ps) (suc n) in
+    let front = full cut (take (suc n) (plan_segments ps)) (scored ps (suc n)) in
+    let back = none cut (drop (suc n) (plan_segments ps)) (all_up_to _ cut _ (parted ps (suc n) (omega arith)) (unscored ps (suc n))) in
+    let count : cut * length chosen ≡ cut * sum_by (λ (segment : PlanSegment). length segment.docs) (take (suc n) (plan_segments ps)) = ap (λ k. cut * k) size in
     omega arith

@@ -1,4 +1,4 @@
--- Sums over a prefix of a list, of a range and of the documents that a class has.
+-- Sums over a prefix of a list, of a range and of the documents that a segment has.
 use Rattle.std.proofs.Common.{◌≡◌, ℕ, suc, zero, ◌+◌, ◌-◌, ◌*◌, ◌^◌, ◌<◌, ◌≤◌, ◌≢◌, List, [], length, get_or, set, take, drop, Bool, true, false, true≢false, cond, sym, ap, ◌∙◌, arith, inl, inr, ◌⊎◌, nat_le, ◌==◌, sum_by, count_by, eq-eqb, get_or-set_same, get_or-set_other}
 use Rattle.std.specs.List.{range_with_len}
 use Rattle.std.proofs.lemmas.List.{take-take, take_rest, ext_get_or}
@@ -7,7 +7,7 @@ use Rattle.std.proofs.lemmas.Bool.{cases_lt, le-leb}
 use Rattle.std.proofs.lemmas.Bool.Decides.{nat_tests}
 use Rattle.std.proofs.Math.Nat.{mul-le-mul_left}
 use borrow.Author.Tests.{eqb-true, eqb-false}
-use Rattle.ranking_model.specs.declared.class.Class.{Class}
+use Rattle.ranking_model.specs.declared.plan_segment.PlanSegment.{PlanSegment}
 use Rattle.ranking_model.specs.Plan.{size_of_first, greatest_up_to, prefix_within}
 use Rattle.ranking_model.specs.Scores.{greatest_weight, gain_of, scores_after}
 use Rattle.ranking_model.specs.declared.plan.QueryPlan.{QueryPlan}
@@ -35,22 +35,15 @@ greatest_is (suc m) n test h passes no_more = by (cases_Bool (test (suc m))) (ca
   by (inr f) (inl k) rest = rw f (rest (omega arith))
   by (inr f) (inr k) rest = let e : n ≡ suc m = omega arith in let t = rw e at passes in absurd (true≢false (sym (t (omega arith)) ∙ f))
 
-pub size_mono : (classes : List Class) (i j : ℕ) → i ≤ j → size_of_first i classes ≤ size_of_first j classes
-size_mono classes i j h = let e = take-take i j classes h in let less = sum_by-take-le (λ (class : Class). length class.docs) (take j classes) i in rw e at less
+pub size_mono : (segments : List PlanSegment) (i j : ℕ) → i ≤ j → size_of_first i segments ≤ size_of_first j segments
+size_mono segments i j h = let e = take-take i j segments h in let less = sum_by-take-le (λ (segment : PlanSegment). length segment.docs) (take j segments) i in rw e at less
 
-pub prefix_is : (classes : List Class) (budget n : ℕ) → n ≤ length classes → size_of_first n classes ≤ budget → (n < length classes → budget < size_of_first (n + 1) classes) → prefix_within budget classes ≡ n
-prefix_is classes budget n h fits stops = greatest_is (length classes) n (λ j. nat_le (size_of_first j classes) budget) h (λ k. le-leb _ _ fits)
-    (λ j a b. past j a b (stops (omega arith)) (size_mono classes (n + 1) j (omega arith)))
+pub prefix_is : (segments : List PlanSegment) (budget n : ℕ) → n ≤ length segments → size_of_first n segments ≤ budget → (n < length segments → budget < size_of_first (n + 1) segments) → prefix_within budget segments ≡ n
+prefix_is segments budget n h fits stops = greatest_is (length segments) n (λ j. nat_le (size_of_first j segments) budget) h (λ k. le-leb _ _ fits)
+    (λ j a b. past j a b (stops (omega arith)) (size_mono segments (n + 1) j (omega arith)))
   where
-    past : (j : ℕ) → n < j → j ≤ length classes → budget < size_of_first (n + 1) classes → size_of_first (n + 1) classes ≤ size_of_first j classes → nat_le (size_of_first j classes) budget ≡ false
+    past : (j : ℕ) → n < j → j ≤ length segments → budget < size_of_first (n + 1) segments → size_of_first (n + 1) segments ≤ size_of_first j segments → nat_le (size_of_first j segments) budget ≡ false
     past j a b over more = grind (arith, nat_tests)
-
--- how often a document stands among the first i and one more
-pub count_on : (docs : List ℕ) (i d : ℕ) → i < length docs → count_by (λ x. x == d) (take (i + 1) docs) ≡ count_by (λ x. x == d) (take i docs) + cond (get_or docs i 0 == d) 1 0
-count_on docs i d h = by (cases_Bool (get_or docs i 0 == d)) where
-  by : ((get_or docs i 0 == d) ≡ true) ⊎ ((get_or docs i 0 == d) ≡ false) → count_by (λ x. x == d) (take (i + 1) docs) ≡ count_by (λ x. x == d) (take i docs) + cond (get_or docs i 0 == d) 1 0
-  by (inl t) = rw t (count_by_more_yes (λ x. x == d) docs i 0 h t)
-  by (inr f) = rw f (count_by_more_no (λ x. x == d) docs i 0 h f ∙ omega arith)
 
 pub room_here : (docs : List ℕ) (now old weight i doc limit : ℕ) → i < length docs → doc ≡ get_or docs i 0 → now ≡ old + weight * count_by (λ x. x == doc) (take i docs) → old + weight * count_by (λ x. x == doc) docs < limit → now + weight < limit
 room_here docs now old weight i doc limit h is inv room =
@@ -78,17 +71,17 @@ added_here docs scores old weight i doc d h is here inv long within = by (cases_
       get_or-set_other scores doc d (get_or scores doc 0 + weight) 0 apart ∙ inv d within ∙ ap (λ n. get_or old d 0 + weight * n) (sym more)
 
 -- the greatest weight of one more place, read from a slice
-pub bound_step : (classes shown : List Class) (count place places bound more : ℕ) → shown ≡ classes → place < places → bound ≡ sum_by (λ p. greatest_weight p (drop count classes)) (range_with_len 0 place)
-    → more ≡ greatest_weight place (take (length shown - count) (drop count shown)) → sum_by (λ p. greatest_weight p (drop count classes)) (range_with_len 0 places) < 2 ^ 32
-    → (bound + more ≡ sum_by (λ p. greatest_weight p (drop count classes)) (range_with_len 0 (place + 1))) × (bound + more < 2 ^ 32)
-bound_step classes shown count place places bound more same within is told limit = (total, let most = sum_range_le (λ p. greatest_weight p (drop count classes)) (place + 1) places (omega arith) in omega (arith, total)) where
-  told' : more ≡ greatest_weight place (drop count classes)
-  told' = told ∙ ap (greatest_weight place) (take_rest shown count) ∙ ap (λ l. greatest_weight place (drop count l)) same
+pub bound_step : (segments shown : List PlanSegment) (count term_place terms bound more : ℕ) → shown ≡ segments → term_place < terms → bound ≡ sum_by (λ p. greatest_weight p (drop count segments)) (range_with_len 0 term_place)
+    → more ≡ greatest_weight term_place (take (length shown - count) (drop count shown)) → sum_by (λ p. greatest_weight p (drop count segments)) (range_with_len 0 terms) < 2 ^ 32
+    → (bound + more ≡ sum_by (λ p. greatest_weight p (drop count segments)) (range_with_len 0 (term_place + 1))) × (bound + more < 2 ^ 32)
+bound_step segments shown count term_place terms bound more same within is told limit = (total, let most = sum_range_le (λ p. greatest_weight p (drop count segments)) (term_place + 1) terms (omega arith) in omega (arith, total)) where
+  told' : more ≡ greatest_weight term_place (drop count segments)
+  told' = told ∙ ap (greatest_weight term_place) (take_rest shown count) ∙ ap (λ l. greatest_weight term_place (drop count l)) same
 
-  total : bound + more ≡ sum_by (λ p. greatest_weight p (drop count classes)) (range_with_len 0 (place + 1))
-  total = let more = sum_range_more (λ p. greatest_weight p (drop count classes)) place in omega (arith, told')
+  total : bound + more ≡ sum_by (λ p. greatest_weight p (drop count segments)) (range_with_len 0 (term_place + 1))
+  total = let more = sum_range_more (λ p. greatest_weight p (drop count segments)) term_place in omega (arith, told')
 
 -- a list with each document's sum at its place is the scores
-pub scores_are : (plan : QueryPlan) (scores : List ℕ) (n : ℕ) → length scores ≡ plan.docs → ((d : ℕ) → d < plan.docs → get_or scores d 0 ≡ sum_by (gain_of d) (take n plan.classes)) → scores ≡ scores_after n plan
-scores_are plan scores n long each = ext_get_or 0 scores (scores_after n plan) (long ∙ sym (length-map-range_with_len (λ d. sum_by (gain_of d) (take n plan.classes)) 0 plan.docs))
-    (λ d h. each d (omega arith) ∙ sym (get_or-map-range_with_len (λ d. sum_by (gain_of d) (take n plan.classes)) 0 plan.docs d d 0 (omega arith) (omega arith)))
+pub scores_are : (plan : QueryPlan) (scores : List ℕ) (n : ℕ) → length scores ≡ plan.docs → ((d : ℕ) → d < plan.docs → get_or scores d 0 ≡ sum_by (gain_of d) (take n plan.segments)) → scores ≡ scores_after n plan
+scores_are plan scores n long each = ext_get_or 0 scores (scores_after n plan) (long ∙ sym (length-map-range_with_len (λ d. sum_by (gain_of d) (take n plan.segments)) 0 plan.docs))
+    (λ d h. each d (omega arith) ∙ sym (get_or-map-range_with_len (λ d. sum_by (gain_of d) (take n plan.segments)) 0 plan.docs d d 0 (omega arith) (omega arith)))

@@ -4,8 +4,8 @@ use Rattle.jass_base.specs.declared.answer.Hit.{Hit}
 use Rattle.jass_base.specs.declared.answer.Report.{Report}
 use Rattle.jass_base.specs.declared.answer.Grade.{Grade}
 use Rattle.ranking_model.specs.declared.entry.Entry.{Entry}
-use Rattle.jass_base.specs.declared.named.Named.{Named}
-use Rattle.ranking_model.specs.declared.class.Class.{Class}
+use Rattle.jass_base.specs.declared.query_term.QueryTerm.{QueryTerm}
+use Rattle.ranking_model.specs.declared.plan_segment.PlanSegment.{PlanSegment}
 use Rattle.ranking_model.specs.declared.plan.QueryPlan.{QueryPlan}
 use Rattle.ranking_model.specs.Flat.{numbered}
 use Rattle.ranking_model.specs.Plan.{plan_of}
@@ -17,11 +17,11 @@ entry term doc impact = record { term = term; doc = doc; impact = impact }
 abbrev pub hit : ℕ → ℕ → Hit
 hit doc score = record { doc = doc; score = score }
 
-abbrev pub named : ℕ → ℕ → Named
+abbrev pub named : ℕ → ℕ → QueryTerm
 named term times = record { term = term; times = times }
 
-abbrev pub class : ℕ → ℕ → List ℕ → Class
-class place weight docs = record { place = place; weight = weight; docs = docs }
+abbrev pub segment : ℕ → ℕ → List ℕ → PlanSegment
+segment term_place weight docs = record { term_place = term_place; weight = weight; docs = docs }
 
 -- postings, segments, segments of the plan, cutoff, next, bound and grade
 abbrev pub report : ℕ → ℕ → ℕ → ℕ → ℕ → ℕ → Grade → Report

@@ -31,9 +31,6 @@ pub record GainsBy (AreSuch : List ℕ → Type 0) (scores later : List ℕ) : T
 abbrev pub GainsUpTo : ℕ → List ℕ → List ℕ → Type 0
 GainsUpTo bound scores later = GainsBy (AreGains bound scores) scores later
 
-abbrev pub GainsWithin : List ℕ → List ℕ → List ℕ → Type 0
-GainsWithin limits scores later = GainsBy (AreGainsWithin limits scores) scores later
-
 -- the documents of the first k
 abbrev pub first_documents : List ℕ → ℕ → List ℕ
 first_documents scores k = map (λ hit. hit.doc) (first_ranked scores k)
@@ -60,7 +57,7 @@ IsSettledWithin scores k limits = IsSettledBy (AreGainsWithin limits scores) sco
 abbrev pub IsKeptWithin : List ℕ → ℕ → List ℕ → Type 0
 IsKeptWithin scores k limits = IsKeptBy (AreGainsWithin limits scores) scores k
 
--- the answer after the first n classes: what is unscored changes neither its documents nor their order
+-- the answer after the first n segments: what is unscored changes neither its documents nor their order
 abbrev pub IsFinal : ℕ → QueryPlan → ℕ → Type 0
 IsFinal n plan k = IsSettled (scores_after n plan) k (bound_after n plan)
 

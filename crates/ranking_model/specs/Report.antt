@@ -10,11 +10,11 @@ use Rattle.ranking_model.specs.Plan.{size_of_first, cutoff_after, next_after}
 use Rattle.ranking_model.specs.Scores.{scores_after, bound_after}
 use Rattle.ranking_model.specs.Finality.{IsGrade}
 
--- the report after the first n classes, with the grade that it is given
+-- the report after the first n segments, with the grade that it is given
 abbrev pub report_of : ℕ → QueryPlan → Grade → Report
-report_of n plan grade = record { postings = size_of_first n plan.classes; segments = n; of = length plan.classes; cutoff = cutoff_after n plan.classes; next = next_after n plan.classes; bound = bound_after n plan; grade = grade }
+report_of n plan grade = record { postings = size_of_first n plan.segments; segments = n; of = length plan.segments; cutoff = cutoff_after n plan.segments; next = next_after n plan.segments; bound = bound_after n plan; grade = grade }
 
--- the report of the first k after the first n classes
+-- the report of the first k after the first n segments
 pub record IsReport (n : ℕ) (plan : QueryPlan) (k : ℕ) (report : Report) : Type 0 where
   pub numbers : report ≡ report_of n plan report.grade
   pub graded : IsGrade (scores_after n plan) k (bound_after n plan) report.grade

@@ -6,22 +6,22 @@ use Rattle.std.specs.declared.cmp.Ordering.{Ordering}
 use Rattle.std.specs.Ordering.{nat_cmp, ordering_then, is_gt}
 use Rattle.jass_base.specs.declared.answer.Hit.{Hit}
 use Rattle.ranking_model.specs.declared.posting.WeightedPosting.{WeightedPosting}
-use Rattle.ranking_model.specs.declared.class.Class.{Class}
+use Rattle.ranking_model.specs.declared.plan_segment.PlanSegment.{PlanSegment}
 use Rattle.ranking_model.specs.declared.plan.QueryPlan.{QueryPlan}
 use Rattle.ranking_model.specs.declared.standing.Standing.{Standing}
 use Rattle.ranking_model.specs.Order.{sorted}
 
--- what a class adds to a document's score: its weight for each of its postings of the document
-abbrev pub gain_of : ℕ → Class → ℕ
-gain_of doc class = class.weight * count_by (λ d. d == doc) class.docs
+-- what a segment adds to a document's score: its weight for each of its postings of the document
+abbrev pub gain_of : ℕ → PlanSegment → ℕ
+gain_of doc segment = segment.weight * count_by (λ d. d == doc) segment.docs
 
 -- what a posting adds to a document's score
 abbrev pub adds : ℕ → WeightedPosting → ℕ
 adds doc p = if p.doc == doc then p.weight else 0
 
--- the scores of all documents after the first n classes
+-- the scores of all documents after the first n segments
 abbrev pub scores_after : ℕ → QueryPlan → List ℕ
-scores_after n plan = map (λ doc. sum_by (gain_of doc) (take n plan.classes)) (range_with_len 0 plan.docs)
+scores_after n plan = map (λ doc. sum_by (gain_of doc) (take n plan.segments)) (range_with_len 0 plan.docs)
 
 -- the scores with a weight added at each of these documents, as often as they name it
 abbrev pub added : ℕ → List ℕ → List ℕ → List ℕ
@@ -33,13 +33,13 @@ abbrev pub greatest : List ℕ → ℕ
 greatest [] = 0
 greatest (x ∷ xs) = max x (greatest xs)
 
--- the greatest weight of a place among some classes, 0 where it has none
-abbrev pub greatest_weight : ℕ → List Class → ℕ
-greatest_weight place classes = greatest (map (λ class. class.weight) (filter (λ class. class.place == place) classes))
+-- the greatest weight of a place among some segments, 0 where it has none
+abbrev pub greatest_weight : ℕ → List PlanSegment → ℕ
+greatest_weight term_place segments = greatest (map (λ segment. segment.weight) (filter (λ segment. segment.term_place == term_place) segments))
 
--- the bound: over the query's terms, the sum of the greatest weight among the term's classes after the first n
+-- the bound: over the query's terms, the sum of the greatest weight among the term's segments after the first n
 abbrev pub bound_after : ℕ → QueryPlan → ℕ
-bound_after n plan = sum_by (λ place. greatest_weight place (drop n plan.classes)) (range_with_len 0 plan.places)
+bound_after n plan = sum_by (λ term_place. greatest_weight term_place (drop n plan.segments)) (range_with_len 0 plan.terms)
 
 -- the documents that have a score, from a document on
 abbrev pub hits_from : ℕ → List ℕ → List Hit
@@ -79,6 +79,6 @@ least_untouched scores = position (λ score. score == 0) scores
 abbrev pub standing_of : List ℕ → ℕ → Standing
 standing_of scores k = record { hits = first_ranked scores k; runner_up = runner_up scores k; least_untouched = least_untouched scores }
 
--- the answer after the first n classes
+-- the answer after the first n segments
 abbrev pub top_k : ℕ → QueryPlan → ℕ → List Hit
 top_k n plan k = first_ranked (scores_after n plan) k

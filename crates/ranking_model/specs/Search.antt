@@ -4,7 +4,7 @@ use Rattle.std.specs.List.{range_with_len, AllZip}
 use Rattle.jass_base.specs.declared.answer.Budget.{Budget}
 use Rattle.jass_base.specs.declared.answer.Hit.{Hit}
 use Rattle.jass_base.specs.declared.answer.Report.{Report}
-use Rattle.jass_base.specs.declared.named.Named.{Named}
+use Rattle.jass_base.specs.declared.query_term.QueryTerm.{QueryTerm}
 use Rattle.jass_base.specs.declared.query.Query.{Query}
 use Rattle.ranking_model.specs.declared.entry.Entry.{Entry}
 use Rattle.ranking_model.specs.declared.plan.QueryPlan.{QueryPlan}
@@ -15,7 +15,7 @@ use Rattle.ranking_model.specs.Report.{IsReport, report_line, tag_of, run_lines}
 -- a query over an index: its id, its known terms by first mention, and the number of its other mentions
 pub record QueryData : Type 0 where
   pub id : List ℕ
-  pub terms : List Named
+  pub terms : List QueryTerm
   pub unknown : ℕ
 
 abbrev pub query_data : Query → QueryData
@@ -23,7 +23,7 @@ query_data query = record { id = query.id; terms = query.terms; unknown = query.
 
 -- the prefix after the first j budgets
 abbrev pub prefix_granted : ℕ → List Budget → QueryPlan → ℕ
-prefix_granted j budgets plan = prefix_within (granted_sum (take j budgets)) plan.classes
+prefix_granted j budgets plan = prefix_within (granted_sum (take j budgets)) plan.segments
 
 -- the prefixes of a query, one for each budget, with those before it
 abbrev pub prefixes_granted : List Budget → QueryPlan → List ℕ

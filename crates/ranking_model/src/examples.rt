@@ -11,7 +11,7 @@ ghost use Rattle.ranking_model.specs.Flat.{IsFlat, numbered};
 ghost use Rattle.ranking_model.specs.Plan.{size_of_first, prefix_within, granted_with, granted_sum, most};
 ghost use Rattle.ranking_model.specs.Scores.{added, scores_after, top_k, runner_up, least_untouched};
 ghost use Rattle.ranking_model.specs.Search.{prefixes_granted, query_run};
-ghost use Rattle.ranking_model.specs.Examples.{hit, class, pets, falling, pet_names, cat_dog, dog_cat, cat_twice_dog, a_once, a_twice, close_a};
+ghost use Rattle.ranking_model.specs.Examples.{hit, segment, pets, falling, pet_names, cat_dog, dog_cat, cat_twice_dog, a_once, a_twice, close_a};
 ghost use Rattle.ranking_model.specs.Examples.{p_q_lower, p_q_higher, p_q_swapping, nothing_known};
 
 use jass_base::Budget;
@@ -26,38 +26,38 @@ pub fn the_small_indexes_are_flat()
 /// The plan of `cat dog` and of `dog cat`: segments by falling weight; of equal weight and number
 /// of postings, the one of the term that is named first.
 pub fn plans_of_two_terms()
-    ensures cat_dog { cat_dog.classes ≡ class 0 3 (0 ∷ []) ∷ class 1 3 (2 ∷ []) ∷ class 1 2 (1 ∷ [])
-        ∷ class 0 1 (1 ∷ 3 ∷ []) ∷ [] }
-    ensures dog_cat { dog_cat.classes ≡ class 0 3 (2 ∷ []) ∷ class 1 3 (0 ∷ []) ∷ class 0 2 (1 ∷ [])
-        ∷ class 1 1 (1 ∷ 3 ∷ []) ∷ [] }
-    ensures cat_twice { cat_twice_dog.classes
-        ≡ class 0 6 (0 ∷ []) ∷ class 1 3 (2 ∷ []) ∷ class 1 2 (1 ∷ []) ∷ class 0 2 (1 ∷ 3 ∷ []) ∷ [] }
+    ensures cat_dog { cat_dog.segments ≡ segment 0 3 (0 ∷ []) ∷ segment 1 3 (2 ∷ []) ∷ segment 1 2 (1 ∷ [])
+        ∷ segment 0 1 (1 ∷ 3 ∷ []) ∷ [] }
+    ensures dog_cat { dog_cat.segments ≡ segment 0 3 (2 ∷ []) ∷ segment 1 3 (0 ∷ []) ∷ segment 0 2 (1 ∷ [])
+        ∷ segment 1 1 (1 ∷ 3 ∷ []) ∷ [] }
+    ensures cat_twice { cat_twice_dog.segments
+        ≡ segment 0 6 (0 ∷ []) ∷ segment 1 3 (2 ∷ []) ∷ segment 1 2 (1 ∷ []) ∷ segment 0 2 (1 ∷ 3 ∷ []) ∷ [] }
 {}
 
 /// `cat dog` with a budget for all postings.
 pub fn everything_is_scored()
-    ensures prefix { prefix_within most cat_dog.classes ≡ 4 }
+    ensures prefix { prefix_within most cat_dog.segments ≡ 4 }
     ensures scores { scores_after 4 cat_dog ≡ 3 ∷ 3 ∷ 3 ∷ 1 ∷ [] }
     ensures answer { top_k 4 cat_dog 4 ≡ hit 0 3 ∷ hit 1 3 ∷ hit 2 3 ∷ hit 3 1 ∷ [] }
 {}
 
 /// `cat dog` with 4 postings, of which the last segment would need 2: it is left whole.
 pub fn a_segment_is_left_whole()
-    ensures prefix { prefix_within 4 cat_dog.classes ≡ 3 }
+    ensures prefix { prefix_within 4 cat_dog.segments ≡ 3 }
     ensures scores { scores_after 3 cat_dog ≡ 3 ∷ 2 ∷ 3 ∷ 0 ∷ [] }
     ensures answer { top_k 3 cat_dog 4 ≡ hit 0 3 ∷ hit 2 3 ∷ hit 1 2 ∷ [] }
 {}
 
 /// `cat dog` with no postings.
 pub fn nothing_is_scored()
-    ensures prefix { prefix_within 0 cat_dog.classes ≡ 0 }
+    ensures prefix { prefix_within 0 cat_dog.segments ≡ 0 }
     ensures scores { scores_after 0 cat_dog ≡ 0 ∷ 0 ∷ 0 ∷ 0 ∷ [] }
     ensures answer { top_k 0 cat_dog 4 ≡ [] }
 {}
 
 /// `cat dog` with 2 postings and two hits; with all postings they are others.
 pub fn two_postings()
-    ensures prefix { prefix_within 2 cat_dog.classes ≡ 2 }
+    ensures prefix { prefix_within 2 cat_dog.segments ≡ 2 }
     ensures scores { scores_after 2 cat_dog ≡ 3 ∷ 0 ∷ 3 ∷ 0 ∷ [] }
     ensures answer { top_k 2 cat_dog 2 ≡ hit 0 3 ∷ hit 2 3 ∷ [] }
     ensures exhaustive { top_k 4 cat_dog 2 ≡ hit 0 3 ∷ hit 1 3 ∷ [] }
@@ -65,24 +65,24 @@ pub fn two_postings()
 
 /// `a` with 1, with 2 and with all postings.
 pub fn one_term()
-    ensures first { prefix_within 1 a_once.classes ≡ 1 }
+    ensures first { prefix_within 1 a_once.segments ≡ 1 }
     ensures first_scores { scores_after 1 a_once ≡ 9 ∷ 0 ∷ 0 ∷ [] }
     ensures first_answer { top_k 1 a_once 1 ≡ hit 0 9 ∷ [] }
-    ensures second { prefix_within 2 a_once.classes ≡ 2 }
+    ensures second { prefix_within 2 a_once.segments ≡ 2 }
     ensures second_scores { scores_after 2 a_once ≡ 9 ∷ 5 ∷ 0 ∷ [] }
     ensures second_answer { top_k 2 a_once 3 ≡ hit 0 9 ∷ hit 1 5 ∷ [] }
     ensures second_answer_of_two { top_k 2 a_once 2 ≡ hit 0 9 ∷ hit 1 5 ∷ [] }
-    ensures all { prefix_within most a_once.classes ≡ 3 }
+    ensures all { prefix_within most a_once.segments ≡ 3 }
     ensures all_scores { scores_after 3 a_once ≡ 9 ∷ 5 ∷ 1 ∷ [] }
     ensures all_answer { top_k 3 a_once 3 ≡ hit 0 9 ∷ hit 1 5 ∷ hit 2 1 ∷ [] }
 {}
 
 /// `p q`, where the documents tie and the lower number is scored first, or the higher.
 pub fn documents_that_tie()
-    ensures lower { prefix_within 1 p_q_lower.classes ≡ 1 }
+    ensures lower { prefix_within 1 p_q_lower.segments ≡ 1 }
     ensures lower_scores { scores_after 1 p_q_lower ≡ 3 ∷ 0 ∷ [] }
     ensures lower_answer { top_k 1 p_q_lower 1 ≡ hit 0 3 ∷ [] }
-    ensures higher { prefix_within 1 p_q_higher.classes ≡ 1 }
+    ensures higher { prefix_within 1 p_q_higher.segments ≡ 1 }
     ensures higher_scores { scores_after 1 p_q_higher ≡ 0 ∷ 3 ∷ [] }
     ensures higher_answer { top_k 1 p_q_higher 1 ≡ hit 1 3 ∷ [] }
     ensures exhaustive { top_k 2 p_q_higher 1 ≡ hit 0 3 ∷ [] }
@@ -90,25 +90,25 @@ pub fn documents_that_tie()
 
 /// `a a`, and `cat^2 dog`: a term weighs as often as it is named.
 pub fn terms_named_twice()
-    ensures twice_all { prefix_within most a_twice.classes ≡ 3 }
+    ensures twice_all { prefix_within most a_twice.segments ≡ 3 }
     ensures twice_scores { scores_after 3 a_twice ≡ 18 ∷ 10 ∷ 2 ∷ [] }
     ensures twice { top_k 3 a_twice 4 ≡ hit 0 18 ∷ hit 1 10 ∷ hit 2 2 ∷ [] }
-    ensures one_twice_all { prefix_within most cat_twice_dog.classes ≡ 4 }
+    ensures one_twice_all { prefix_within most cat_twice_dog.segments ≡ 4 }
     ensures one_twice_scores { scores_after 4 cat_twice_dog ≡ 6 ∷ 4 ∷ 3 ∷ 2 ∷ [] }
     ensures one_twice { top_k 4 cat_twice_dog 4 ≡ hit 0 6 ∷ hit 1 4 ∷ hit 2 3 ∷ hit 3 2 ∷ [] }
 {}
 
 /// A query that names no known term.
 pub fn no_term_is_known()
-    ensures plan { nothing_known.classes ≡ [] }
-    ensures prefix { prefix_within most nothing_known.classes ≡ 0 }
+    ensures plan { nothing_known.segments ≡ [] }
+    ensures prefix { prefix_within most nothing_known.segments ≡ 0 }
     ensures scores { scores_after 0 nothing_known ≡ 0 ∷ 0 ∷ 0 ∷ 0 ∷ [] }
     ensures answer { top_k 0 nothing_known 4 ≡ [] }
 {}
 
 /// `p q`, where the two documents can only change places.
 pub fn documents_that_swap()
-    ensures prefix { prefix_within 2 p_q_swapping.classes ≡ 2 }
+    ensures prefix { prefix_within 2 p_q_swapping.segments ≡ 2 }
     ensures scores { scores_after 2 p_q_swapping ≡ 2 ∷ 3 ∷ [] }
     ensures answer { top_k 2 p_q_swapping 2 ≡ hit 1 3 ∷ hit 0 2 ∷ [] }
     ensures all_scores { scores_after 3 p_q_swapping ≡ 3 ∷ 3 ∷ [] }
@@ -142,10 +142,10 @@ pub fn one_grant_more()
     ensures stops { granted_with (2 ^ 64 - 1) (Budget.Postings 1) ≡ 2 ^ 64 - 1 }
 {}
 
-/// `cat dog` with 2 postings and then 3 more: the classes that are left, and the scores of the last.
+/// `cat dog` with 2 postings and then 3 more: the segments that are left, and the scores of the last.
 pub fn a_search_is_resumed()
-    ensures first { size_of_first 2 cat_dog.classes ≡ 2 }
-    ensures more { prefix_within 3 (drop 2 cat_dog.classes) ≡ 2 }
+    ensures first { size_of_first 2 cat_dog.segments ≡ 2 }
+    ensures more { prefix_within 3 (drop 2 cat_dog.segments) ≡ 2 }
     ensures last { added 1 (1 ∷ 3 ∷ []) (scores_after 3 cat_dog) ≡ 3 ∷ 3 ∷ 3 ∷ 1 ∷ [] }
 {}
 

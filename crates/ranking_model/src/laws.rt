@@ -1,54 +1,53 @@
 //! Laws over the definitions. Each function does nothing: its contract is the law, and a caller
 //! learns it by the call.
 
-ghost use Rattle.std.specs.Prelude.{◌≡◌, ◌≢◌, ℕ, ◌<◌, ◌≤◌, ◌^◌, ◌⊎◌, ◌==◌, nat_le, if◌then◌else◌};
-ghost use Rattle.std.specs.Prelude.{List, [], ◌++◌, length, replicate, take, drop, flat_map, sum_by, count_by, All, AllPairs, Contains, IsPermutation, IsSorted};
+ghost use Rattle.std.specs.Prelude.{◌≡◌, ◌≢◌, ℕ, ◌<◌, ◌≤◌, ◌^◌, ◌⊎◌, nat_le};
+ghost use Rattle.std.specs.Prelude.{List, [], ◌++◌, length, take, drop, flat_map, sum_by, count_by, All, AllPairs, Contains, IsPermutation, IsSorted};
 ghost use Rattle.std.specs.List.{AllByRecursion};
 ghost use Rattle.std.specs.Ordering.{nat_cmp};
-ghost use Rattle.std.specs.Cmp.Lexicographic.{slice_cmp};
 ghost use Rattle.jass_base.specs.declared.answer.Hit.{Hit};
 ghost use Rattle.jass_base.specs.declared.answer.Grade.{Grade};
 ghost use Rattle.jass_base.specs.declared.answer.Report.{Report};
 ghost use Rattle.ranking_model.specs.declared.plan.QueryPlan.{QueryPlan};
-ghost use Rattle.jass_base.specs.declared.named.Named.{Named};
+ghost use Rattle.jass_base.specs.declared.query_term.QueryTerm.{QueryTerm};
 ghost use Rattle.ranking_model.specs.declared.entry.Entry.{Entry};
 ghost use Rattle.ranking_model.specs.declared.posting.WeightedPosting.{WeightedPosting};
-ghost use Rattle.ranking_model.specs.declared.class.Class.{Class};
-ghost use Rattle.ranking_model.specs.Flat.{IsFlat, numbered};
+ghost use Rattle.ranking_model.specs.declared.plan_segment.PlanSegment.{PlanSegment};
+ghost use Rattle.ranking_model.specs.Flat.{IsFlat};
 ghost use Rattle.ranking_model.specs.Order.{sorted};
 ghost use Rattle.ranking_model.specs.Postings.{AreTerms, weighted_postings};
-ghost use Rattle.ranking_model.specs.Plan.{postings_of, plan_of, plan_cmp, classes_of};
+ghost use Rattle.ranking_model.specs.Plan.{postings_of, plan_of, plan_cmp, plan_segments};
 ghost use Rattle.ranking_model.specs.Plan.{size_of_first, prefix_within, cutoff_after, next_after};
 ghost use Rattle.ranking_model.specs.Scores.{adds, gain_of, bound_after, scores_after, rank_cmp, hits_from, first_ranked};
 ghost use Rattle.ranking_model.specs.Scores.{AreAhead, AreHitsOf, HaveAllFrom};
 ghost use Rattle.ranking_model.specs.Limits.{IsSmall};
-ghost use Rattle.ranking_model.specs.Finality.{AreGains, AreGainsWithin, GainsUpTo, IsSettled, IsKept, IsGrade};
-ghost use Rattle.ranking_model.specs.Finality.{IsSettledWithin, IsKeptWithin, IsGradeWithin};
+ghost use Rattle.ranking_model.specs.Finality.{GainsUpTo, IsSettled, IsKept, IsGrade};
+ghost use Rattle.ranking_model.specs.Finality.{IsGradeWithin};
 ghost use Rattle.ranking_model.specs.Heaviest.{IsHeaviest};
 ghost use Rattle.ranking_model.specs.Report.{IsReport};
 ghost use Rattle.ranking_model.specs.Promises.{IsPromised};
 
 /// The prefix that a budget pays for fits it, and no longer one does.
 pub fn the_prefix_is_the_longest()
-    ensures fits { (budget : ℕ) (classes : List Class) →
-        size_of_first (prefix_within budget classes) classes ≤ budget }
-    ensures there { (budget : ℕ) (classes : List Class) →
-        prefix_within budget classes ≤ length classes }
-    ensures longest { (budget n : ℕ) (classes : List Class) →
-        n ≤ length classes → size_of_first n classes ≤ budget → n ≤ prefix_within budget classes }
+    ensures fits { (budget : ℕ) (segments : List PlanSegment) →
+        size_of_first (prefix_within budget segments) segments ≤ budget }
+    ensures there { (budget : ℕ) (segments : List PlanSegment) →
+        prefix_within budget segments ≤ length segments }
+    ensures longest { (budget n : ℕ) (segments : List PlanSegment) →
+        n ≤ length segments → size_of_first n segments ≤ budget → n ≤ prefix_within budget segments }
 {}
 
-/// Scored classes weigh at least the cutoff, and the others at most the next weight, which is at
+/// Scored segments weigh at least the cutoff, and the others at most the next weight, which is at
 /// most the cutoff where anything is scored.
 pub fn the_cutoff_parts_scored_from_unscored()
     ensures scored { (postings : List WeightedPosting) (n : ℕ) →
-        let classes = classes_of postings in
-        AllByRecursion (λ class. cutoff_after n classes ≤ class.weight) (take n classes) }
+        let segments = plan_segments postings in
+        AllByRecursion (λ segment. cutoff_after n segments ≤ segment.weight) (take n segments) }
     ensures unscored { (postings : List WeightedPosting) (n : ℕ) →
-        let classes = classes_of postings in
-        AllByRecursion (λ class. class.weight ≤ next_after n classes) (drop n classes) }
+        let segments = plan_segments postings in
+        AllByRecursion (λ segment. segment.weight ≤ next_after n segments) (drop n segments) }
     ensures parted { (postings : List WeightedPosting) (n : ℕ) →
-        1 ≤ n → next_after n (classes_of postings) ≤ cutoff_after n (classes_of postings) }
+        1 ≤ n → next_after n (plan_segments postings) ≤ cutoff_after n (plan_segments postings) }
 {}
 
 /// The postings of a prefix of the plan are the heaviest of their number.
@@ -56,47 +55,40 @@ pub fn the_scored_prefix_is_the_heaviest()
     ensures { (n : ℕ) (postings : List WeightedPosting) → IsHeaviest n postings }
 {}
 
-/// All classes together have all postings, and give each document the sum of the weights of its
+/// All segments together have all postings, and give each document the sum of the weights of its
 /// postings.
-pub fn the_classes_have_all_postings()
+pub fn the_segments_have_all_postings()
     ensures number { (postings : List WeightedPosting) →
-        let classes = classes_of postings in
-        size_of_first (length classes) classes ≡ length postings }
+        let segments = plan_segments postings in
+        size_of_first (length segments) segments ≡ length postings }
     ensures scores { (postings : List WeightedPosting) (doc : ℕ) →
-        sum_by (gain_of doc) (classes_of postings) ≡ sum_by (adds doc) postings }
+        sum_by (gain_of doc) (plan_segments postings) ≡ sum_by (adds doc) postings }
 {}
 
 /// What a plan is, for which nobody has to open it.
 #[tactic(auto, unfolding(crate::specs::Plan::plan_of))]
-pub fn a_plan_has_the_classes_of_its_postings()
-    ensures docs { (docs : ℕ) (flat : List (Entry ℕ)) (terms : List Named) → (plan_of docs flat terms).docs ≡ docs }
-    ensures places { (docs : ℕ) (flat : List (Entry ℕ)) (terms : List Named) →
-        (plan_of docs flat terms).places ≡ length terms }
-    ensures classes { (docs : ℕ) (flat : List (Entry ℕ)) (terms : List Named) →
-        (plan_of docs flat terms).classes ≡ classes_of (weighted_postings flat terms) }
+pub fn a_plan_has_the_segments_of_its_postings()
+    ensures docs { (docs : ℕ) (flat : List (Entry ℕ)) (terms : List QueryTerm) → (plan_of docs flat terms).docs ≡ docs }
+    ensures terms { (docs : ℕ) (flat : List (Entry ℕ)) (terms : List QueryTerm) →
+        (plan_of docs flat terms).terms ≡ length terms }
+    ensures segments { (docs : ℕ) (flat : List (Entry ℕ)) (terms : List QueryTerm) →
+        (plan_of docs flat terms).segments ≡ plan_segments (weighted_postings flat terms) }
 {}
 
 /// The numbers of a plan fit their types, where each term is named at most 255 times and the index
 /// has at most 2^29 postings.
 pub fn plans_are_small()
-    ensures { (docs : ℕ) (flat : List (Entry ℕ)) (terms : List Named) →
+    ensures { (docs : ℕ) (flat : List (Entry ℕ)) (terms : List QueryTerm) →
         IsFlat nat_cmp docs flat → AreTerms terms → All (λ named. named.times ≤ 255) terms → length flat ≤ 2 ^ 29 →
         IsSmall (plan_of docs flat terms) }
 {}
 
-/// Segments that differ in place or weight, put down one after the other, are the classes.
-pub fn segments_are_classes()
-    ensures { (segments : List Class) →
-        AllByRecursion (λ class. class.docs ≢ []) segments →
-        AllPairs (λ a b. a.place ≡ b.place → a.weight ≢ b.weight) segments →
-        classes_of (flat_map postings_of segments) ≡ sorted plan_cmp segments }
-{}
-
-/// Whatever puts the hits of some scores in order finds the one ranking.
-pub fn the_ranking_is_one()
-    ensures { (scores : List ℕ) (m : ℕ) (hits : List Hit) →
-        IsPermutation (hits_from 0 scores) hits → IsSorted rank_cmp hits →
-        take m hits ≡ first_ranked scores m }
+/// Segments that differ in place or weight, put down one after the other, are the segments.
+pub fn segments_make_a_plan()
+    ensures { (segments : List PlanSegment) →
+        AllByRecursion (λ segment. segment.docs ≢ []) segments →
+        AllPairs (λ a b. a.term_place ≡ b.term_place → a.weight ≢ b.weight) segments →
+        plan_segments (flat_map postings_of segments) ≡ sorted plan_cmp segments }
 {}
 
 /// The ranking from a part of the hits: where none of the part comes after one of the rest, and the
@@ -137,12 +129,6 @@ pub fn the_ranking_has_documents_of_the_scores()
         All (λ (hit : Hit). hit.doc < length scores) (first_ranked scores m) }
 {}
 
-/// Terms by number keep what the flat list is by their bytes.
-pub fn numbers_keep_the_flat_list()
-    ensures { (docs : ℕ) (flat : List (Entry (List ℕ))) →
-        IsFlat (slice_cmp nat_cmp) docs flat → IsFlat nat_cmp docs (numbered flat) }
-{}
-
 /// Scores have one grade at most, and an answer that is settled is kept.
 pub fn the_grade_is_one()
     ensures one { (scores : List ℕ) (k bound : ℕ) (first second : Grade) →
@@ -152,30 +138,10 @@ pub fn the_grade_is_one()
         IsGradeWithin scores k limits first → IsGradeWithin scores k limits second → first ≡ second }
 {}
 
-/// Gains up to a bound are gains with that limit for each document, and what is settled or kept by
-/// a bound is so by limits up to it.
-pub fn a_bound_is_a_limit_for_each()
-    ensures gains { (scores gains : List ℕ) (bound : ℕ) →
-        AreGains bound scores gains → AreGainsWithin (replicate (length scores) bound) scores gains }
-    ensures limits { (scores gains : List ℕ) (bound : ℕ) →
-        AreGainsWithin (replicate (length scores) bound) scores gains → AreGains bound scores gains }
-    ensures settled { (scores limits : List ℕ) (k bound : ℕ) →
-        AllByRecursion (λ limit. limit ≤ bound) limits → IsSettled scores k bound → IsSettledWithin scores k limits }
-    ensures kept { (scores limits : List ℕ) (k bound : ℕ) →
-        AllByRecursion (λ limit. limit ≤ bound) limits → IsKept scores k bound → IsKeptWithin scores k limits }
-{}
-
-/// A term of the query has a posting of a document at most once.
-pub fn a_term_has_a_document_once()
-    ensures { (docs doc place : ℕ) (flat : List (Entry ℕ)) (terms : List Named) → IsFlat nat_cmp docs flat →
-        let classes = (plan_of docs flat terms).classes in
-        sum_by (λ class. if class.place == place then count_by (λ d. d == doc) class.docs else 0) classes ≤ 1 }
-{}
-
-/// What is unscored gives no document more than the bound: the scores after more classes are those
+/// What is unscored gives no document more than the bound: the scores after more segments are those
 /// after fewer, with gains up to the bound of the fewer.
 pub fn the_rest_gains_at_most_the_bound()
-    ensures { (docs n m : ℕ) (flat : List (Entry ℕ)) (terms : List Named) →
+    ensures { (docs n m : ℕ) (flat : List (Entry ℕ)) (terms : List QueryTerm) →
         IsFlat nat_cmp docs flat → n ≤ m →
         let plan = plan_of docs flat terms in
         GainsUpTo (bound_after n plan) (scores_after n plan) (scores_after m plan) }
@@ -184,7 +150,7 @@ pub fn the_rest_gains_at_most_the_bound()
 /// A report of a query on an index keeps its promises. Those of its grade are for every later
 /// prefix of the plan, so for the exhaustive answer.
 pub fn reports_keep_their_promises()
-    ensures { (docs n k : ℕ) (flat : List (Entry ℕ)) (terms : List Named) (report : Report) →
+    ensures { (docs n k : ℕ) (flat : List (Entry ℕ)) (terms : List QueryTerm) (report : Report) →
         IsFlat nat_cmp docs flat →
         let plan = plan_of docs flat terms in
         IsReport n plan k report → IsPromised (weighted_postings flat terms) n plan k report }

@@ -7,13 +7,13 @@
 
 mod bound;
 mod budget;
-mod class;
 mod entry;
 pub mod examples;
 pub mod graded;
 pub mod laws;
 pub mod order_laws;
 mod plan;
+mod plan_segment;
 mod posting;
 mod prefix;
 pub mod prefix_laws;
@@ -25,9 +25,9 @@ pub mod texts;
 
 pub use bound::bound_after;
 pub use budget::{granted_sum, granted_with};
-pub use class::{Class, classes_of};
 pub use entry::Entry;
 pub use plan::{QueryPlan, plan_of, top_k};
+pub use plan_segment::{PlanSegment, plan_segments};
 pub use posting::{WeightedPosting, weighted_postings};
 pub use prefix::{cutoff_after, next_after, prefix_within, size_of_first};
 pub use rank::first_ranked;

@@ -3,14 +3,14 @@ ghost use Rattle.ranking_model.specs.Postings.{weighted_at, weighted_postings};
 ghost use Rattle.ranking_model.specs.Programs.{AreLight};
 
 use crate::entry::Entry;
-use jass_base::{Named, NoMemory, Row};
+use jass_base::{NoMemory, QueryTerm, Row};
 use std::alloc::Global;
 
 /// One posting of an index as a query weighs it.
 #[derive(Clone, Copy, Debug, PartialEq, Eq)]
 pub struct WeightedPosting {
     /// The place of its term in the query, from 0.
-    pub place: u32,
+    pub term_place: u32,
     pub doc: u32,
     /// Impact times how often the query names the term.
     pub weight: u32,
@@ -21,32 +21,32 @@ pub struct WeightedPosting {
 pub fn weighted_postings(
     alloc: Global,
     entries: &[Entry<u32>],
-    terms: &[Named],
+    terms: &[QueryTerm],
 ) -> Result<Row<WeightedPosting>, NoMemory>
     requires { length terms.now ≤ 256 }
     ensures postings { IfOk result (λ postings. postings ≡ weighted_postings entries.now terms.now) }
     ensures light { IfOk result AreLight }
 {
     let mut postings = Row::new(alloc);
-    for (place, named) in terms.iter().enumerate() {
-        weigh(entries, place as u32, *named, &mut postings)?;
+    for (term_place, named) in terms.iter().enumerate() {
+        weigh(entries, term_place as u32, *named, &mut postings)?;
     }
     Ok(postings)
 }
 
 fn weigh(
     entries: &[Entry<u32>],
-    place: u32,
-    named: Named,
+    term_place: u32,
+    named: QueryTerm,
     postings: &mut Row<WeightedPosting>,
 ) -> Result<(), NoMemory>
-    ensures postings { OnOk result (postings.new ≡ postings.old ++ weighted_at place named entries.now) }
+    ensures postings { OnOk result (postings.new ≡ postings.old ++ weighted_at term_place named entries.now) }
     ensures light { AreLight postings.old → AreLight postings.new }
 {
     for entry in entries {
         if entry.term == named.term {
             let posting = WeightedPosting {
-                place,
+                term_place,
                 doc: entry.doc,
                 weight: weight_of(entry.impact, named.times),
             };

@@ -1,20 +1,20 @@
-//! Laws of prefixes that grow: one class more, and one grant more. Each function does nothing: its
+//! Laws of prefixes that grow: one segment more, and one grant more. Each function does nothing: its
 //! contract is the law.
 
 ghost use Rattle.std.specs.Prelude.{◌≡◌, ℕ, ◌+◌, ◌-◌, ◌<◌, ◌≤◌, ◌^◌, List, ◌∷◌, ◌++◌, length, take, drop, slice_get, All};
 ghost use Rattle.jass_base.specs.declared.answer.Budget.{Budget};
-ghost use Rattle.ranking_model.specs.declared.class.Class.{Class};
+ghost use Rattle.ranking_model.specs.declared.plan_segment.PlanSegment.{PlanSegment};
 ghost use Rattle.ranking_model.specs.declared.plan.QueryPlan.{QueryPlan};
 ghost use Rattle.ranking_model.specs.Plan.{size_of_first, prefix_within, granted_with, granted_sum};
 ghost use Rattle.ranking_model.specs.Limits.{IsSmall};
 ghost use Rattle.ranking_model.specs.Scores.{added, scores_after};
 ghost use Rattle.ranking_model.specs.Search.{prefix_granted, prefixes_granted};
 
-/// One class more adds its weight at each of its documents, which may come in parts.
-pub fn one_class_more_is_added()
-    ensures class { (n : ℕ) (plan : QueryPlan) (class : Class) →
-        slice_get plan.classes n ≡ Some class →
-        scores_after (n + 1) plan ≡ added class.weight class.docs (scores_after n plan) }
+/// One segment more adds its weight at each of its documents, which may come in parts.
+pub fn one_segment_more_is_added()
+    ensures segment { (n : ℕ) (plan : QueryPlan) (segment : PlanSegment) →
+        slice_get plan.segments n ≡ Some segment →
+        scores_after (n + 1) plan ≡ added segment.weight segment.docs (scores_after n plan) }
     ensures parts { (weight : ℕ) (docs more scores : List ℕ) →
         added weight (docs ++ more) scores ≡ added weight more (added weight docs scores) }
     ensures length { (weight : ℕ) (docs scores : List ℕ) → length (added weight docs scores) ≡ length scores }
@@ -29,14 +29,14 @@ pub fn scores_stay_small()
         All (λ score. score < limit) (added weight docs scores) }
 {}
 
-/// A prefix is resumed: the classes that are left are scored as far as what is left of the budget
+/// A prefix is resumed: the segments that are left are scored as far as what is left of the budget
 /// goes, and their postings are added to those before.
 pub fn a_prefix_is_resumed()
-    ensures size { (n more : ℕ) (classes : List Class) →
-        size_of_first (n + more) classes ≡ size_of_first n classes + size_of_first more (drop n classes) }
-    ensures prefix { (before budget n : ℕ) (classes : List Class) →
-        n ≡ prefix_within before classes → before ≤ budget →
-        prefix_within budget classes ≡ n + prefix_within (budget - size_of_first n classes) (drop n classes) }
+    ensures size { (n more : ℕ) (segments : List PlanSegment) →
+        size_of_first (n + more) segments ≡ size_of_first n segments + size_of_first more (drop n segments) }
+    ensures prefix { (before budget n : ℕ) (segments : List PlanSegment) →
+        n ≡ prefix_within before segments → before ≤ budget →
+        prefix_within budget segments ≡ n + prefix_within (budget - size_of_first n segments) (drop n segments) }
 {}
 
 /// One budget more is added to the sum of those before it.

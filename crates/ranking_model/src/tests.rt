@@ -4,7 +4,7 @@
 ghost use Rattle.std.specs.Prelude.{◌≡◌};
 
 use crate::{Entry, plan_of, prefix_within, report_of, scores_after, standing_of, top_k};
-use jass_base::{Grade, Hit, Named, NoMemory, Report};
+use jass_base::{Grade, Hit, NoMemory, QueryTerm, Report};
 use std::alloc::Global;
 
 #[test]
@@ -13,7 +13,7 @@ fn four_postings_of_cat_and_dog(rt: HostRuntime) {
     assert!(&rt; cat_and_dog(alloc).is_ok_and(|right| right));
 }
 
-// `cat` in documents 0, 1 and 3, and `dog` in documents 1 and 2.
+/// `cat` in documents 0, 1 and 3, and `dog` in documents 1 and 2.
 fn cat_and_dog(alloc: Global) -> Result<bool, NoMemory> {
     let entries = [
         entry(0, 0, 3),
@@ -22,9 +22,12 @@ fn cat_and_dog(alloc: Global) -> Result<bool, NoMemory> {
         entry(1, 2, 3),
         entry(1, 1, 2),
     ];
-    let terms = [Named { term: 0, times: 1 }, Named { term: 1, times: 1 }];
+    let terms = [
+        QueryTerm { term: 0, times: 1 },
+        QueryTerm { term: 1, times: 1 },
+    ];
     let plan = plan_of(alloc, 4, &entries, &terms)?;
-    let count = prefix_within(4, plan.classes.as_slice());
+    let count = prefix_within(4, plan.segments.as_slice());
     let report = Report {
         postings: 3,
         segments: 3,

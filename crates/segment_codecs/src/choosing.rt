@@ -6,10 +6,10 @@ ghost use Rattle.segment_codecs.specs.declared.codec.Codec.{Codec};
 use crate::codec::Codec;
 use crate::payloads::length;
 
-// How many documents a packed block has.
+/// How many documents a packed block has.
 const BLOCK: usize = 128;
 
-// How many bytes a word of Simple-8b has.
+/// How many bytes a word of Simple-8b has.
 const WORD: u64 = 8;
 
 /// The codec whose payload of the documents is the shortest, in an index of `d` documents. Of equal
@@ -48,7 +48,7 @@ pub fn shortest(docs: &[u32], d: u32) -> Choice
     }
 }
 
-// The shortest of the payloads that aren't of words.
+/// The shortest of the payloads that aren't of words.
 fn shortest_without_words(docs: &[u32], d: u32) -> Choice
     requires { AreDocs d docs.now }
     ensures codec { result.codec ≡ without_words d docs.now }
@@ -57,7 +57,7 @@ fn shortest_without_words(docs: &[u32], d: u32) -> Choice
     shorter_gaps(docs, d).or_shorter(Choice::new(Codec::Bitmap, docs, d))
 }
 
-// The shorter of the two payloads of gaps. Without a full block they are the same.
+/// The shorter of the two payloads of gaps. Without a full block they are the same.
 #[tactic(auto, using(crate::proofs::Sizes::packed_same))]
 fn shorter_gaps(docs: &[u32], d: u32) -> Choice
     requires { AreDocs d docs.now }
@@ -83,7 +83,7 @@ impl Choice {
         }
     }
 
-    // The later one only where it is shorter.
+    /// The later one only where it is shorter.
     fn or_shorter(self, later: Choice) -> Choice
         ensures first { self.size ≤ later.size → result ≡ self }
         ensures later { later.size < self.size → result ≡ later }

@@ -1,5 +1,5 @@
 ghost use Rattle.std.specs.Prelude.{◌≡◌, ℕ, ◌≤◌, ◌↔◌, List, [], length, take, drop};
-ghost use Rattle.jass_base.specs.Gaps.{AreDocs};
+ghost use Rattle.jass_base.specs.Codecs.{GivesAll, HandsOver};
 ghost use Rattle.segment_codecs.specs.Codecs.{payload_of};
 ghost use Rattle.segment_codecs.specs.Giving.{Gives};
 
@@ -24,8 +24,7 @@ enum CodecCursor {
 impl SegmentCursor {
     /// A cursor at the first of `count` documents below `d`.
     pub fn new(codec: Codec, count: u32, d: u32) -> SegmentCursor
-        ensures { (bytes docs : List ℕ) → AreDocs d docs → length docs ≡ count → bytes ≡ payload_of codec d docs
-            → Gives result bytes docs }
+        ensures { GivesAll Gives (payload_of codec d) d count result }
     {
         let codec = match codec {
             Codec::Varbyte => CodecCursor::Varbyte(varbyte::Cursor::new(count, d)),
@@ -40,10 +39,7 @@ impl SegmentCursor {
     /// end. What stands behind them in `out` is left open.
     pub fn next_block(&mut self, bytes: &[u8], out: &mut [u32; 128]) -> usize
         requires stands { (docs : List ℕ) × Gives self.old bytes.now docs }
-        ensures most { result ≤ 128 }
-        ensures block { (docs : List ℕ) → Gives self.old bytes.now docs → take result out.new ≡ take result docs }
-        ensures rest { (docs : List ℕ) → Gives self.old bytes.now docs → Gives self.new bytes.now (drop result docs) }
-        ensures end { (docs : List ℕ) → Gives self.old bytes.now docs → (result ≡ 0 ↔ docs ≡ []) }
+        ensures { HandsOver Gives self.old self.new bytes.now out.new result }
     {
         match &mut self.codec {
             CodecCursor::Varbyte(cursor) => cursor.next_block(bytes, out),

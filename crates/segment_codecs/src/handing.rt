@@ -1,5 +1,5 @@
-ghost use Rattle.std.specs.Prelude.{ℕ, ◌≡◌, ◌≤◌, ◌^◌, List, length, take, IfOk, Ok};
-ghost use Rattle.jass_base.specs.Gaps.{Accepts, Judges};
+ghost use Rattle.std.specs.Prelude.{ℕ, ◌≡◌, ◌≤◌, List, length, take};
+ghost use Rattle.jass_base.specs.Codecs.{ChecksInto, IsCount};
 ghost use Rattle.segment_codecs.specs.Codecs.{payload_of, read_payload};
 ghost use Rattle.segment_codecs.specs.Giving.{Gives};
 
@@ -20,14 +20,9 @@ pub fn check_into(
     d: u32,
     out: &mut [u32],
 ) -> Result<(), PayloadFault>
-    requires some { 1 ≤ count }
-    requires few { count ≤ d }
-    requires limit { d ≤ 2 ^ 26 }
+    requires count { IsCount count d }
     requires room { count ≤ length out.old }
-    ensures accepted { Accepts (payload_of codec d) d count bytes.now result }
-    ensures judged { Judges (read_payload codec d count bytes.now) result }
-    ensures docs { IfOk result (λ _. read_payload codec d count bytes.now ≡ Ok (take count out.new)) }
-    ensures length { length out.new ≡ length out.old }
+    ensures { ChecksInto (payload_of codec d) (read_payload codec) d count bytes.now out.old out.new result }
 {
     match codec {
         Codec::Varbyte => varbyte::check_into(bytes, count, d, out),
@@ -46,15 +41,10 @@ pub fn check_front_into(
     d: u32,
     out: &mut [u32],
 ) -> Result<(), PayloadFault>
-    requires some { 1 ≤ count }
-    requires few { count ≤ d }
-    requires limit { d ≤ 2 ^ 26 }
+    requires count { IsCount count d }
     requires size { size ≤ length bytes.now }
     requires room { count ≤ length out.old }
-    ensures accepted { Accepts (payload_of codec d) d count (take size bytes.now) result }
-    ensures judged { Judges (read_payload codec d count (take size bytes.now)) result }
-    ensures docs { IfOk result (λ _. read_payload codec d count (take size bytes.now) ≡ Ok (take count out.new)) }
-    ensures length { length out.new ≡ length out.old }
+    ensures { ChecksInto (payload_of codec d) (read_payload codec) d count (take size bytes.now) out.old out.new result }
 {
     match codec {
         Codec::Varbyte => varbyte::check_front_into(bytes, size, count, d, out),
@@ -62,7 +52,7 @@ pub fn check_front_into(
     }
 }
 
-// The same for any codec, which is read once for the check and once for the documents.
+/// The same for any codec, which is read once for the check and once for the documents.
 fn check_and_read(
     codec: Codec,
     bytes: &[u8],
@@ -70,14 +60,9 @@ fn check_and_read(
     d: u32,
     out: &mut [u32],
 ) -> Result<(), PayloadFault>
-    requires some { 1 ≤ count }
-    requires few { count ≤ d }
-    requires limit { d ≤ 2 ^ 26 }
+    requires count { IsCount count d }
     requires room { count ≤ length out.old }
-    ensures accepted { Accepts (payload_of codec d) d count bytes.now result }
-    ensures judged { Judges (read_payload codec d count bytes.now) result }
-    ensures docs { IfOk result (λ _. read_payload codec d count bytes.now ≡ Ok (take count out.new)) }
-    ensures length { length out.new ≡ length out.old }
+    ensures { ChecksInto (payload_of codec d) (read_payload codec) d count bytes.now out.old out.new result }
 {
     payloads_are_read();
     match check(codec, bytes, count, d) {
@@ -89,7 +74,7 @@ fn check_and_read(
     Ok(())
 }
 
-// Writes the documents that a cursor gives to the front of `out`.
+/// Writes the documents that a cursor gives to the front of `out`.
 fn read_docs(cursor: SegmentCursor, bytes: &[u8], count: u32, out: &mut [u32])
     requires stands { (docs : List ℕ) × Gives cursor bytes.now docs × (length docs ≡ count) }
     requires room { count ≤ length out.old }

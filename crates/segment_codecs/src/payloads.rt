@@ -1,6 +1,7 @@
 // The calls of each codec by its name.
-ghost use Rattle.std.specs.Prelude.{◌≡◌, ◌≤◌, ◌^◌, ◌++◌, OnOk, OnErr};
-ghost use Rattle.jass_base.specs.Gaps.{AreDocs, Accepts, Judges};
+ghost use Rattle.std.specs.Prelude.{◌≡◌};
+ghost use Rattle.jass_base.specs.Codecs.{Checks, Encodes, IsCount};
+ghost use Rattle.jass_base.specs.Gaps.{AreDocs};
 ghost use Rattle.segment_codecs.specs.Codecs.{payload_of, payload_size, read_payload};
 
 use crate::codec::Codec;
@@ -24,8 +25,7 @@ pub fn length(codec: Codec, docs: &[u32], d: u32) -> u64
 /// memory is refused.
 pub fn encode(codec: Codec, docs: &[u32], d: u32, out: &mut Row<u8>) -> Result<(), NoMemory>
     requires { AreDocs d docs.now }
-    ensures ok { OnOk result (out.new ≡ out.old ++ payload_of codec d docs.now) }
-    ensures err { OnErr result (out.new ≡ out.old) }
+    ensures { Encodes (payload_of codec d docs.now) out.old out.new result }
 {
     match codec {
         Codec::Varbyte => varbyte::encode(docs, d, out),
@@ -38,11 +38,8 @@ pub fn encode(codec: Codec, docs: &[u32], d: u32, out: &mut Row<u8>) -> Result<(
 /// Whether the bytes are the payload of a list of `count` documents below `d`, or the first fault of
 /// the codec's check.
 pub fn check(codec: Codec, bytes: &[u8], count: u32, d: u32) -> Result<(), PayloadFault>
-    requires some { 1 ≤ count }
-    requires few { count ≤ d }
-    requires limit { d ≤ 2 ^ 26 }
-    ensures accepted { Accepts (payload_of codec d) d count bytes.now result }
-    ensures judged { Judges (read_payload codec d count bytes.now) result }
+    requires { IsCount count d }
+    ensures { Checks (payload_of codec d) (read_payload codec) d count bytes.now result }
 {
     match codec {
         Codec::Varbyte => varbyte::check(bytes, count, d),

@@ -102,7 +102,7 @@ fn each_codec_tells_its_faults(rt: HostRuntime) {
     }
 }
 
-// The check, where it may be called.
+/// The check, where it may be called.
 fn checked(codec: Codec, bytes: &[u8], count: u32, d: u32) -> Result<(), PayloadFault> {
     if count == 0 || count > d || d > MOST_DOCS {
         return Ok(());
@@ -127,7 +127,7 @@ fn are_docs(docs: &[u32], d: u32) -> bool
     true
 }
 
-// Whether a cursor gives the documents, and then no more.
+/// Whether a cursor gives the documents, and then no more.
 fn gives_back(codec: Codec, docs: &[u32], d: u32, bytes: &[u8]) -> bool
     requires docs { AreDocs d docs.now }
     requires bytes { bytes.now ≡ payload_of codec d docs.now }

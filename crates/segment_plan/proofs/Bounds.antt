@@ -1,5 +1,5 @@
 -- What one segment more adds to the bound.
-use Rattle.std.proofs.Common.{◌≡◌, ℕ, suc, zero, length-set, replicate, replicate, ◌+◌, ◌-◌, ◌*◌, ◌^◌, ◌<◌, ◌≤◌, ◌≢◌, max, List, [], ◌∷◌, ◌++◌, length, get_or, set, drop, true, false, refl, sym, ap, ◌∙◌, arith, inl, inr, ◌⊎◌, ◌==◌, sum_by, eq-eqb, get_or-set_same, get_or-set_other}
+use Rattle.std.proofs.Common.{◌≡◌, ℕ, suc, zero, length-set, replicate, replicate, ◌+◌, ◌-◌, ◌*◌, ◌^◌, ◌<◌, ◌≤◌, ◌≢◌, max, List, [], ◌∷◌, length, get_or, set, drop, true, false, refl, sym, ap, ◌∙◌, arith, inl, inr, ◌⊎◌, ◌==◌, sum_by, eq-eqb, get_or-set_same, get_or-set_other}
 use Rattle.std.specs.List.{range_with_len, AllByRecursion}
 use Rattle.std.proofs.Math.Seq.{drop-cons}
 use Rattle.std.proofs.lemmas.List.{drop_all}
@@ -11,22 +11,16 @@ use Rattle.segment_plan.specs.Entries.{PlanView, greatest_at, rest_bound}
 use Rattle.segment_plan.specs.Tables.{AreLight, AreBoundsFrom}
 use Rattle.segment_plan.proofs.Ranges.{sums_zero, sums_differ, sum_bounded}
 
-pub light_push : (places : ℕ) (es : List PlanEntry) (e : PlanEntry) → AreLight places es → e.place < places → e.weight ≤ 65535 * 255 → AreLight places (es ++ e ∷ [])
-light_push places es e light here weight = record { here = both (λ e. e.place < places) es light.here here; weights = both (λ e. e.weight ≤ 65535 * 255) es light.weights weight } where
-  both : (P : PlanEntry → Type 0) (es : List PlanEntry) → AllByRecursion P es → P e → AllByRecursion P (es ++ e ∷ [])
-  both P [] all p = (p, tt)
-  both P (x ∷ xs) all p = (all.0, both P xs all.1 p)
+at_first : (term_place : ℕ) (e : PlanEntry) (es : List PlanEntry) → e.term_place ≡ term_place → greatest_at term_place (e ∷ es) ≡ max e.weight (greatest_at term_place es)
+at_first term_place e es same = let t : (e.term_place == term_place) ≡ true = eq-eqb _ _ same in rw t refl
 
-at_first : (place : ℕ) (e : PlanEntry) (es : List PlanEntry) → e.place ≡ place → greatest_at place (e ∷ es) ≡ max e.weight (greatest_at place es)
-at_first place e es same = let t : (e.place == place) ≡ true = eq-eqb _ _ same in rw t refl
+elsewhere : (term_place : ℕ) (e : PlanEntry) (es : List PlanEntry) → e.term_place ≢ term_place → greatest_at term_place (e ∷ es) ≡ greatest_at term_place es
+elsewhere term_place e es apart = let f : (e.term_place == term_place) ≡ false = grind (arith, nat_tests) in rw f refl
 
-elsewhere : (place : ℕ) (e : PlanEntry) (es : List PlanEntry) → e.place ≢ place → greatest_at place (e ∷ es) ≡ greatest_at place es
-elsewhere place e es apart = let f : (e.place == place) ≡ false = grind (arith, nat_tests) in rw f refl
-
-greatest_le : (place : ℕ) (es : List PlanEntry) → AllByRecursion (λ e. e.weight ≤ 65535 * 255) es → greatest_at place es ≤ 16711425
-greatest_le place [] h = omega arith
-greatest_le place (e ∷ es) h = by (cases_Bool (e.place == place)) (greatest_le place es h.1) where
-  by : ((e.place == place) ≡ true) ⊎ ((e.place == place) ≡ false) → greatest_at place es ≤ 16711425 → greatest_at place (e ∷ es) ≤ 16711425
+greatest_le : (term_place : ℕ) (es : List PlanEntry) → AllByRecursion (λ e. e.weight ≤ 65535 * 255) es → greatest_at term_place es ≤ 16711425
+greatest_le term_place [] h = omega arith
+greatest_le term_place (e ∷ es) h = by (cases_Bool (e.term_place == term_place)) (greatest_le term_place es h.1) where
+  by : ((e.term_place == term_place) ≡ true) ⊎ ((e.term_place == term_place) ≡ false) → greatest_at term_place es ≤ 16711425 → greatest_at term_place (e ∷ es) ≤ 16711425
   by (inl t) rest = let this = h.0 in rw t (omega arith)
   by (inr f) rest = rw f rest
 
@@ -35,40 +29,40 @@ all_drop P zero es h = h
 all_drop P (suc n) [] h = tt
 all_drop P (suc n) (e ∷ es) h = all_drop P n es h.1
 
-pub bound_fits : (n places : ℕ) (es : List PlanEntry) → places ≤ 256 → AreLight places es → sum_by (λ place. greatest_at place (drop n es)) (range_with_len 0 places) < 2 ^ 32
-bound_fits n places es few light = let total = sum_bounded (λ place. greatest_at place (drop n es)) places (λ place. greatest_le place (drop n es) (all_drop _ n es light.weights)) in omega arith
+pub bound_fits : (n terms : ℕ) (es : List PlanEntry) → terms ≤ 256 → AreLight terms es → sum_by (λ term_place. greatest_at term_place (drop n es)) (range_with_len 0 terms) < 2 ^ 32
+bound_fits n terms es few light = let total = sum_bounded (λ term_place. greatest_at term_place (drop n es)) terms (λ term_place. greatest_le term_place (drop n es) (all_drop _ n es light.weights)) in omega arith
 
 -- what stands while the segments are seen from the last to the first
-pub record AreSeen (entries : List PlanEntry) (places at bound : ℕ) (table best : List ℕ) : Type 0 where
+pub record AreSeen (entries : List PlanEntry) (terms at bound : ℕ) (table best : List ℕ) : Type 0 where
   pub within : at ≤ length entries
   pub room : length best ≡ 256
-  pub bounds : AreBoundsFrom at table (record { places = places; entries = entries })
-  pub greatest : (place : ℕ) → place < places → get_or best place 0 ≡ greatest_at place (drop at entries)
-  pub sum : bound ≡ sum_by (λ place. greatest_at place (drop at entries)) (range_with_len 0 places)
+  pub bounds : AreBoundsFrom at table (record { terms = terms; entries = entries })
+  pub greatest : (term_place : ℕ) → term_place < terms → get_or best term_place 0 ≡ greatest_at term_place (drop at entries)
+  pub sum : bound ≡ sum_by (λ term_place. greatest_at term_place (drop at entries)) (range_with_len 0 terms)
 
 -- the table of the greatest weights, and the bound, once the segment at a place is seen
-module _ (es : List PlanEntry) (at places bound : ℕ) (d e : PlanEntry) (best : List ℕ) (inside : at < length es) (is : e ≡ get_or es at d) (here : e.place < places) (room : places ≤ length best)
-    (seen : (place : ℕ) → place < places → get_or best place 0 ≡ greatest_at place (drop (at + 1) es))
-    (total : bound ≡ sum_by (λ place. greatest_at place (drop (at + 1) es)) (range_with_len 0 places)) where
+module _ (es : List PlanEntry) (at terms bound : ℕ) (d e : PlanEntry) (best : List ℕ) (inside : at < length es) (is : e ≡ get_or es at d) (here : e.term_place < terms) (room : terms ≤ length best)
+    (seen : (term_place : ℕ) → term_place < terms → get_or best term_place 0 ≡ greatest_at term_place (drop (at + 1) es))
+    (total : bound ≡ sum_by (λ term_place. greatest_at term_place (drop (at + 1) es)) (range_with_len 0 terms)) where
   opened : drop at es ≡ e ∷ drop (at + 1) es
   opened = let one : at + 1 ≡ suc at = omega arith in rw one (drop-cons es at d inside ∙ ap (λ x. x ∷ drop (suc at) es) (sym is))
 
   abbrev now : ℕ
-  now = max (get_or best e.place 0) e.weight
+  now = max (get_or best e.term_place 0) e.weight
 
-  here_now : greatest_at e.place (drop at es) ≡ now
-  here_now = let was = seen e.place here in ap (greatest_at e.place) opened ∙ at_first e.place e (drop (at + 1) es) refl ∙ omega arith
+  here_now : greatest_at e.term_place (drop at es) ≡ now
+  here_now = let was = seen e.term_place here in ap (greatest_at e.term_place) opened ∙ at_first e.term_place e (drop (at + 1) es) refl ∙ omega arith
 
-  pub seen_next : (place : ℕ) → place < places → get_or (set best e.place now) place 0 ≡ greatest_at place (drop at es)
-  seen_next place h = by (cases_eq e.place place) where
-    by : (e.place ≡ place) ⊎ (e.place ≢ place) → get_or (set best e.place now) place 0 ≡ greatest_at place (drop at es)
-    by (inl same) = ap (λ p. get_or (set best e.place now) p 0) (sym same) ∙ get_or-set_same best e.place now 0 (omega arith) ∙ sym here_now ∙ ap (λ p. greatest_at p (drop at es)) same
-    by (inr apart) = get_or-set_other best e.place place now 0 (λ i. apart (sym i)) ∙ seen place h ∙ sym (ap (greatest_at place) opened ∙ elsewhere place e (drop (at + 1) es) apart)
+  pub seen_next : (term_place : ℕ) → term_place < terms → get_or (set best e.term_place now) term_place 0 ≡ greatest_at term_place (drop at es)
+  seen_next term_place h = by (cases_eq e.term_place term_place) where
+    by : (e.term_place ≡ term_place) ⊎ (e.term_place ≢ term_place) → get_or (set best e.term_place now) term_place 0 ≡ greatest_at term_place (drop at es)
+    by (inl same) = ap (λ p. get_or (set best e.term_place now) p 0) (sym same) ∙ get_or-set_same best e.term_place now 0 (omega arith) ∙ sym here_now ∙ ap (λ p. greatest_at p (drop at es)) same
+    by (inr apart) = get_or-set_other best e.term_place term_place now 0 (λ i. apart (sym i)) ∙ seen term_place h ∙ sym (ap (greatest_at term_place) opened ∙ elsewhere term_place e (drop (at + 1) es) apart)
 
-  pub total_next : bound + (now - get_or best e.place 0) ≡ sum_by (λ place. greatest_at place (drop at es)) (range_with_len 0 places)
+  pub total_next : bound + (now - get_or best e.term_place 0) ≡ sum_by (λ term_place. greatest_at term_place (drop at es)) (range_with_len 0 terms)
   total_next =
-      let more = sums_differ (λ place. greatest_at place (drop at es)) (λ place. greatest_at place (drop (at + 1) es)) places e.place (now - get_or best e.place 0) here
-      (λ q h apart. ap (greatest_at q) opened ∙ elsewhere q e (drop (at + 1) es) (λ i. apart (sym i))) (let was = seen e.place here in let is_now = here_now in omega arith) in
+      let more = sums_differ (λ term_place. greatest_at term_place (drop at es)) (λ term_place. greatest_at term_place (drop (at + 1) es)) terms e.term_place (now - get_or best e.term_place 0) here
+      (λ q h apart. ap (greatest_at q) opened ∙ elsewhere q e (drop (at + 1) es) (λ i. apart (sym i))) (let was = seen e.term_place here in let is_now = here_now in omega arith) in
       omega arith
 
 pub bounds_next : (first bound : ℕ) (table : List ℕ) (plan : PlanView) → AreBoundsFrom (first + 1) table plan → first < length plan.entries → bound ≡ rest_bound first plan → AreBoundsFrom first (set table first bound) plan
@@ -81,29 +75,29 @@ bounds_next first bound table plan tables inside is = record { one_more = long �
   by n a b (inr apart) = get_or-set_other table first n bound 0 (λ i. apart (sym i)) ∙ tables.each n (omega arith) b
 
 -- behind the last segment nothing is gained
-pub seen_start : (entries : List PlanEntry) (places : ℕ) (table best : List ℕ) → length best ≡ 256 → ((i : ℕ) → get_or best i 0 ≡ 0) → length table ≡ length entries + 1 → get_or table (length entries) 0 ≡ 0 → AreSeen entries places (length entries) 0 table best
-seen_start entries places table best room zeros long last = record {
+pub seen_start : (entries : List PlanEntry) (terms : ℕ) (table best : List ℕ) → length best ≡ 256 → ((i : ℕ) → get_or best i 0 ≡ 0) → length table ≡ length entries + 1 → get_or table (length entries) 0 ≡ 0 → AreSeen entries terms (length entries) 0 table best
+seen_start entries terms table best room zeros long last = record {
   within = omega arith;
   room = room;
   bounds = record { one_more = long; each = λ n a b. let e : n ≡ length entries = omega arith in ap (λ m. get_or table m 0) e ∙ last ∙ sym (none n a) };
-  greatest = λ place h. zeros place ∙ sym (ap (greatest_at place) (drop_all (length entries) entries (omega arith)));
+  greatest = λ term_place h. zeros term_place ∙ sym (ap (greatest_at term_place) (drop_all (length entries) entries (omega arith)));
   sum = sym (none (length entries) (omega arith));
 } where
-  none : (n : ℕ) → length entries ≤ n → sum_by (λ place. greatest_at place (drop n entries)) (range_with_len 0 places) ≡ 0
-  none n h = sums_zero (λ place. greatest_at place (drop n entries)) places (λ q. ap (greatest_at q) (drop_all n entries h))
+  none : (n : ℕ) → length entries ≤ n → sum_by (λ term_place. greatest_at term_place (drop n entries)) (range_with_len 0 terms) ≡ 0
+  none n h = sums_zero (λ term_place. greatest_at term_place (drop n entries)) terms (λ q. ap (greatest_at q) (drop_all n entries h))
 
 -- one segment more, and that the bound fits its type
-pub seen_step : (entries : List PlanEntry) (places at bound now : ℕ) (table best : List ℕ) (d e : PlanEntry) → places ≤ 256 → AreLight places entries → AreSeen entries places at bound table best → 0 < at → e ≡ get_or entries (at - 1) d → now ≡ max (get_or best e.place 0) e.weight
-    → AreSeen entries places (at - 1) (bound + (now - get_or best e.place 0)) (set table (at - 1) (bound + (now - get_or best e.place 0))) (set best e.place now) × (bound + (now - get_or best e.place 0) < 2 ^ 32)
-seen_step entries places at bound now table best d e few light seen some is top = (
+pub seen_step : (entries : List PlanEntry) (terms at bound now : ℕ) (table best : List ℕ) (d e : PlanEntry) → terms ≤ 256 → AreLight terms entries → AreSeen entries terms at bound table best → 0 < at → e ≡ get_or entries (at - 1) d → now ≡ max (get_or best e.term_place 0) e.weight
+    → AreSeen entries terms (at - 1) (bound + (now - get_or best e.term_place 0)) (set table (at - 1) (bound + (now - get_or best e.term_place 0))) (set best e.term_place now) × (bound + (now - get_or best e.term_place 0) < 2 ^ 32)
+seen_step entries terms at bound now table best d e few light seen some is top = (
   record {
     within = let w = seen.within in omega arith;
-    room = length-set best e.place now ∙ seen.room;
-    bounds = bounds_next (at - 1) (bound + (now - get_or best e.place 0)) table (record { places = places; entries = entries }) (rw (sym before) seen.bounds) inside total;
-    greatest = λ place h. ap (λ x. get_or (set best e.place x) place 0) top ∙ seen_next entries (at - 1) places bound d e best inside is here room greatest sum place h;
+    room = length-set best e.term_place now ∙ seen.room;
+    bounds = bounds_next (at - 1) (bound + (now - get_or best e.term_place 0)) table (record { terms = terms; entries = entries }) (rw (sym before) seen.bounds) inside total;
+    greatest = λ term_place h. ap (λ x. get_or (set best e.term_place x) term_place 0) top ∙ seen_next entries (at - 1) terms bound d e best inside is here room greatest sum term_place h;
     sum = total;
   },
-  let fits = bound_fits (at - 1) places entries few light in let is_total = total in omega arith,
+  let fits = bound_fits (at - 1) terms entries few light in let is_total = total in omega arith,
 ) where
   before : at ≡ at - 1 + 1
   before = omega arith
@@ -111,20 +105,20 @@ seen_step entries places at bound now table best d e few light seen some is top 
   inside : at - 1 < length entries
   inside = let w = seen.within in omega arith
 
-  here : e.place < places
-  here = let h = All-from_recursion (λ (x : PlanEntry). x.place < places) entries light.here (at - 1) d inside in rw (sym is) at h
+  here : e.term_place < terms
+  here = let h = All-from_recursion (λ (x : PlanEntry). x.term_place < terms) entries light.here (at - 1) d inside in rw (sym is) at h
 
-  room : places ≤ length best
+  room : terms ≤ length best
   room = let r = seen.room in omega arith
 
-  greatest : (place : ℕ) → place < places → get_or best place 0 ≡ greatest_at place (drop (at - 1 + 1) entries)
-  greatest place h = seen.greatest place h ∙ ap (λ n. greatest_at place (drop n entries)) before
+  greatest : (term_place : ℕ) → term_place < terms → get_or best term_place 0 ≡ greatest_at term_place (drop (at - 1 + 1) entries)
+  greatest term_place h = seen.greatest term_place h ∙ ap (λ n. greatest_at term_place (drop n entries)) before
 
-  sum : bound ≡ sum_by (λ place. greatest_at place (drop (at - 1 + 1) entries)) (range_with_len 0 places)
-  sum = seen.sum ∙ ap (λ n. sum_by (λ place. greatest_at place (drop n entries)) (range_with_len 0 places)) before
+  sum : bound ≡ sum_by (λ term_place. greatest_at term_place (drop (at - 1 + 1) entries)) (range_with_len 0 terms)
+  sum = seen.sum ∙ ap (λ n. sum_by (λ term_place. greatest_at term_place (drop n entries)) (range_with_len 0 terms)) before
 
-  total : bound + (now - get_or best e.place 0) ≡ sum_by (λ place. greatest_at place (drop (at - 1) entries)) (range_with_len 0 places)
-  total = ap (λ x. bound + (x - get_or best e.place 0)) top ∙ total_next entries (at - 1) places bound d e best inside is here room greatest sum
+  total : bound + (now - get_or best e.term_place 0) ≡ sum_by (λ term_place. greatest_at term_place (drop (at - 1) entries)) (range_with_len 0 terms)
+  total = ap (λ x. bound + (x - get_or best e.term_place 0)) top ∙ total_next entries (at - 1) terms bound d e best inside is here room greatest sum
 
 pub zeros_at : (i : ℕ) → get_or (replicate {A = ℕ} 256 0) i 0 ≡ 0
 zeros_at i = by 256 i where

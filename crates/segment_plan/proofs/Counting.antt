@@ -6,15 +6,15 @@ use borrow.Author.Tests.{eqb-true}
 use Rattle.std.proofs.lemmas.List.{get_or-map, length-map}
 use Rattle.std.proofs.lemmas.Map.Steps.{length-le_from_distinct_below}
 use Rattle.std.proofs.lemmas.Map.Made.{IsDistinct-from_AllPairs}
-use Rattle.jass_base.specs.declared.named.Named.{Named}
+use Rattle.jass_base.specs.declared.query_term.QueryTerm.{QueryTerm}
 use Rattle.segment_plan.specs.declared.entry.PlanHead.{PlanHead}
 use Rattle.segment_plan.specs.Entries.{AreHeads, Fall}
 
 abbrev key : PlanHead → ℕ
-key head = head.place * 65536 + head.impact
+key head = head.term_place * 65536 + head.impact
 
 abbrev pub none : PlanHead
-none = record { place = 0; segment = 0; impact = 0; count = 0 }
+none = record { term_place = 0; segment = 0; impact = 0; count = 0 }
 
 any_below : (n q : ℕ) (xs : List ℕ) → ((i : ℕ) → i < length xs → get_or xs i 0 < n) → list_any (eqb q) xs ≡ true → q < n
 any_below n q [] h e = cc
@@ -23,7 +23,7 @@ any_below n q (x ∷ xs) h e = by (cases_Bool (eqb q x)) (any_below n q xs (λ i
   by (inl t) rest = let same : q ≡ x = eqb-true _ _ t in let first = h 0 (omega arith) in omega arith
   by (inr f) rest = rest (rw f at e)
 
-pub heads_are_few : (terms : List Named) (heads : List PlanHead) → AreHeads terms heads → length terms ≤ 256 → ((i : ℕ) → i < length heads → (get_or heads i none).impact < 65536) → length heads ≤ 2 ^ 24
+pub heads_are_few : (terms : List QueryTerm) (heads : List PlanHead) → AreHeads terms heads → length terms ≤ 256 → ((i : ℕ) → i < length heads → (get_or heads i none).impact < 65536) → length heads ≤ 2 ^ 24
 heads_are_few terms heads are few small =
     let many = length-le_from_distinct_below (map key heads) (2 ^ 24) distinct (λ q. any_below (2 ^ 24) q (map key heads) below) in
     let same = length-map heads key in
@@ -39,7 +39,7 @@ heads_are_few terms heads are few small =
     below : (i : ℕ) → i < length (map key heads) → get_or (map key heads) i 0 < 2 ^ 24
     below i h =
         let within : i < length heads = let same = length-map heads key in omega arith in
-        let place = are.places i none within in
+        let term_place = are.inside i none within in
         let impact = small i within in
         let is = at_key i 0 within in
         omega arith
@@ -50,8 +50,8 @@ heads_are_few terms heads are few small =
         let here : key (get_or heads i none) ≡ key (get_or heads j none) = sym (at_key i d (omega arith)) ∙ e ∙ at_key j d (omega arith) in
         let first = small i (omega arith) in
         let second = small j (omega arith) in
-        let place : (get_or heads i none).place ≡ (get_or heads j none).place = omega arith in
-        apart (get_or heads i none) (get_or heads j none) (are.fall i j none a (omega arith) place) (omega arith)
+        let term_place : (get_or heads i none).term_place ≡ (get_or heads j none).term_place = omega arith in
+        apart (get_or heads i none) (get_or heads j none) (are.fall i j none a (omega arith) term_place) (omega arith)
 
     distinct : IsDistinct eqb (map key heads)
     distinct = IsDistinct-from_AllPairs (λ a b. (eqb-true a b, eq-eqb a b)) (map key heads) differ

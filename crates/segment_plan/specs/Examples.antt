@@ -1,26 +1,26 @@
 -- Small plans on which the definitions are run.
 use Rattle.std.specs.Prelude.{ℕ, List, [], ◌∷◌}
-use Rattle.jass_base.specs.declared.named.Named.{Named}
+use Rattle.jass_base.specs.declared.query_term.QueryTerm.{QueryTerm}
 use Rattle.segment_plan.specs.declared.entry.PlanHead.{PlanHead}
 use Rattle.segment_plan.specs.declared.entry.PlanEntry.{PlanEntry}
 use Rattle.segment_plan.specs.Entries.{PlanView, plan_with}
 
 abbrev pub entry : ℕ → ℕ → ℕ → ℕ → PlanEntry
-entry place segment weight count = record { place = place; segment = segment; weight = weight; count = count }
+entry term_place segment weight count = record { term_place = term_place; segment = segment; weight = weight; count = count }
 
 abbrev head : ℕ → ℕ → ℕ → ℕ → PlanHead
-head place segment impact count = record { place = place; segment = segment; impact = impact; count = count }
+head term_place segment impact count = record { term_place = term_place; segment = segment; impact = impact; count = count }
 
-abbrev named : ℕ → ℕ → Named
+abbrev named : ℕ → ℕ → QueryTerm
 named term times = record { term = term; times = times }
 
 -- one posting of impact 3 and two of impact 1
 abbrev cat : ℕ → List PlanHead → List PlanHead
-cat place heads = head place 0 3 1 ∷ head place 1 1 2 ∷ heads
+cat term_place heads = head term_place 0 3 1 ∷ head term_place 1 1 2 ∷ heads
 
 -- one posting of impact 3 and one of impact 2
 abbrev dog : ℕ → List PlanHead → List PlanHead
-dog place heads = head place 0 3 1 ∷ head place 1 2 1 ∷ heads
+dog term_place heads = head term_place 0 3 1 ∷ head term_place 1 2 1 ∷ heads
 
 -- the segments of `cat dog`
 abbrev pub cat_dog_heads : List PlanHead

@@ -2,7 +2,7 @@
 #[derive(Clone, Copy, Debug, PartialEq, Eq)]
 pub struct PlanHead {
     /// The term's place in the query.
-    pub place: u32,
+    pub term_place: u32,
     /// The segment's place among those of its term.
     pub segment: u32,
     /// At least 1; within a term it falls as the segment rises.
@@ -15,7 +15,7 @@ pub struct PlanHead {
 #[derive(Clone, Copy, Debug, PartialEq, Eq)]
 pub struct PlanEntry {
     /// The term's place in the query.
-    pub place: u32,
+    pub term_place: u32,
     /// The segment's place among those of its term.
     pub segment: u32,
     /// The impact times how often the query names the term.

@@ -2,13 +2,13 @@
 //! 1 and 2: each clause is proved by computing both sides.
 
 ghost use Rattle.std.specs.Prelude.{◌≡◌, List, [], ◌∷◌, length, drop, map};
-ghost use Rattle.jass_base.specs.declared.named.Named.{Named};
+ghost use Rattle.jass_base.specs.declared.query_term.QueryTerm.{QueryTerm};
 ghost use Rattle.segment_plan.specs.Entries.{AreHeads, postings_of, entries_within, rest_bound};
 ghost use Rattle.segment_plan.specs.Examples.{entry, cat_dog_heads, cat_dog, dog_cat, cat_twice_dog};
 
 /// The segments of `cat dog` are those of a query of two terms.
 pub fn segments_of_cat_dog()
-    ensures { (terms : List Named) → length terms ≡ 2 → AreHeads terms cat_dog_heads }
+    ensures { (terms : List QueryTerm) → length terms ≡ 2 → AreHeads terms cat_dog_heads }
 {}
 
 /// Plans of `cat dog`, of `dog cat`, and of `cat` named twice with `dog`: equal weights stand by

@@ -1,5 +1,5 @@
-ghost use Rattle.std.specs.Prelude.{ℕ, ◌≡◌, ◌≤◌, ◌<◌, ◌+◌, Some, ◌==◌, length, drop, slice_get, IfOk};
-ghost use Rattle.segment_plan.specs.Entries.{PlanView, AreHeads, plan_with, postings_of, entries_within, rest_bound};
+ghost use Rattle.std.specs.Prelude.{ℕ, ◌≡◌, ◌≤◌, ◌<◌, ◌+◌, Some, length, drop, slice_get, IfOk};
+ghost use Rattle.segment_plan.specs.Entries.{PlanView, AreHeads, plan_with, entries_within, rest_bound};
 ghost use Rattle.segment_plan.specs.Tables.{HasTables};
 
 use crate::entry::{PlanEntry, PlanHead};
@@ -12,7 +12,7 @@ use std::marker::Model;
 /// number of postings, then rising place.
 #[derive(Debug, Drop)]
 pub struct Plan {
-    places: u32,
+    terms: u32,
     entries: Vec<PlanEntry>,
     /// The number of postings of the first n entries, at place n.
     sums: Vec<u64>,
@@ -23,10 +23,10 @@ pub struct Plan {
 impl Model for Plan {
     ghost Value = { PlanView };
 
-    ghost view = { λ plan. record { places = plan.places; entries = plan.entries.items } };
+    ghost view = { λ plan. record { terms = plan.terms; entries = plan.entries.items } };
 
     ghost invariant = { λ plan.
-        HasTables (record { places = plan.places; entries = plan.entries.items }) plan.sums.items plan.bounds.items };
+        HasTables (record { terms = plan.terms; entries = plan.entries.items }) plan.sums.items plan.bounds.items };
 }
 
 impl Plan {
@@ -42,7 +42,7 @@ impl Plan {
         let sums = sums_of(alloc, entries.as_slice())?;
         let bounds = bounds_of(alloc, terms.len() as u32, entries.as_slice())?;
         Ok(Plan {
-            places: terms.len() as u32,
+            terms: terms.len() as u32,
             entries,
             sums,
             bounds,
@@ -55,24 +55,11 @@ impl Plan {
         self.entries.len() as u32
     }
 
-    pub fn is_empty(&self) -> bool
-        ensures { result ≡ (length self.now.entries == 0) }
-    {
-        self.entries.is_empty()
-    }
-
     pub fn entry(&self, i: u32) -> PlanEntry
         requires { i < length self.now.entries }
         ensures { slice_get self.now.entries i ≡ Some result }
     {
         self.entries[i as usize]
-    }
-
-    /// The number of postings of all entries.
-    pub fn postings(&self) -> u64
-        ensures { result ≡ postings_of self.now.entries }
-    {
-        self.sums[self.entries.len()]
     }
 
     /// No document can gain more than this after the first `n` entries: the sum, over the query's

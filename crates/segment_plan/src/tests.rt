@@ -4,7 +4,7 @@ ghost use Rattle.std.specs.Prelude.{◌≡◌, length, IfOk};
 
 use crate::examples::segments_of_cat_dog;
 use crate::{Plan, PlanEntry, PlanHead};
-use jass_base::{Named, NoMemory, Query, Row, Text};
+use jass_base::{NoMemory, Query, QueryTerm, Row, Text};
 use std::alloc::Global;
 
 #[test]
@@ -13,7 +13,7 @@ fn cat_and_dog(rt: HostRuntime) {
     assert!(&rt; answers(alloc).is_ok_and(|right| right));
 }
 
-// `cat` in documents 0, 1 and 3, and `dog` in documents 1 and 2.
+/// `cat` in documents 0, 1 and 3, and `dog` in documents 1 and 2.
 fn answers(alloc: Global) -> Result<bool, NoMemory> {
     segments_of_cat_dog();
     let heads = [
@@ -24,19 +24,19 @@ fn answers(alloc: Global) -> Result<bool, NoMemory> {
     ];
     let plan = Plan::new(alloc, &query(alloc)?, &heads)?;
     let second = PlanEntry {
-        place: 1,
+        term_place: 1,
         segment: 0,
         weight: 3,
         count: 1,
     };
     Ok(
         plan.len() == 4
-            && plan.postings() == 5
             && plan.entry(1) == second
             && plan.rest_bound(0) == 6
             && plan.rest_bound(1) == 4
             && plan.rest_bound(4) == 0
             && plan.within(0, 4) == 3
+            && plan.within(0, 5) == 4
             && plan.within(2, u64::MAX) == 2
             && plan.within(2, 0) == 0,
     )
@@ -46,7 +46,10 @@ fn query(alloc: Global) -> Result<Query, NoMemory>
     ensures { IfOk result (λ query. length query.terms ≡ 2) }
 {
     let mut terms = Row::new(alloc);
-    terms.extend(&[Named { term: 0, times: 1 }, Named { term: 1, times: 1 }])?;
+    terms.extend(&[
+        QueryTerm { term: 0, times: 1 },
+        QueryTerm { term: 1, times: 1 },
+    ])?;
     Ok(Query {
         id: Text::from_str(alloc, "q")?,
         terms,
@@ -54,11 +57,11 @@ fn query(alloc: Global) -> Result<Query, NoMemory>
     })
 }
 
-fn head(place: u32, segment: u32, impact: u16, count: u32) -> PlanHead
-    ensures { result ≡ record { place = place; segment = segment; impact = impact; count = count } }
+fn head(term_place: u32, segment: u32, impact: u16, count: u32) -> PlanHead
+    ensures { result ≡ record { term_place = term_place; segment = segment; impact = impact; count = count } }
 {
     PlanHead {
-        place,
+        term_place,
         segment,
         impact,
         count,

@@ -11,30 +11,30 @@ use Rattle.index_layout.specs.View.{FileView}
 use Rattle.session_desk.specs.declared.refusal.DeskRefusal.{DeskRefusal}
 use Rattle.session_desk.specs.Lines.{DeskCommand, Open, Grant, Top, Why, Close, End, is_end, read_desk_line}
 use Rattle.session_desk.specs.Replies.{after_of, desk_after, desk_steps, opening, session_report, steps_of, with_opened}
-use Rattle.session_desk.specs.State.{DeskState, Entry, granted_more, is_named, new_state, with_named, without_named}
+use Rattle.session_desk.specs.State.{DeskState, OpenSession, granted_more, is_named, new_state, with_named, without_named}
 use Rattle.session_desk.specs.Turns.{desk_postings, ended_by, sessions_from, steps_from}
 use Rattle.session_desk.proofs.Opened.{named_for, opened_for}
 
 -- ---- sessions whose names differ, and whose grants stop where they do
 
-abbrev pub Unnamed : List ℕ → Entry → Type 0
+abbrev pub Unnamed : List ℕ → OpenSession → Type 0
 Unnamed name e = is_named name e ≡ false
 
-abbrev pub Orderly : List Entry → Type 0
+abbrev pub Orderly : List OpenSession → Type 0
 Orderly [] = ⊤
 Orderly (e ∷ entries) = (e.granted ≤ 2 ^ 64 - 1) × AllByRecursion (Unnamed e.query.id) entries × Orderly entries
 
-none_of : (name : List ℕ) (entries : List Entry) → find (is_named name) entries ≡ None → AllByRecursion (Unnamed name) entries
+none_of : (name : List ℕ) (entries : List OpenSession) → find (is_named name) entries ≡ None → AllByRecursion (Unnamed name) entries
 none_of name [] none = tt
 none_of name (e ∷ entries) none = here (is_named name e) refl (none_of name entries)
   where
     here : (b : Bool) → is_named name e ≡ b → (find (is_named name) entries ≡ None → AllByRecursion (Unnamed name) entries) → (is_named name e ≡ false) × AllByRecursion (Unnamed name) entries
     here true is later =
-        let some : (let o : Option Entry = Some e in o) ≡ None = ap (λ (b : Bool). cond b (Some e) (find (is_named name) entries)) (sym is) ∙ none in
+        let some : (let o : Option OpenSession = Some e in o) ≡ None = ap (λ (b : Bool). cond b (Some e) (find (is_named name) entries)) (sym is) ∙ none in
         cc
     here false is later = (is, later (ap (λ (b : Bool). cond b (Some e) (find (is_named name) entries)) (sym is) ∙ none))
 
-unnamed_more : (name other : List ℕ) (budget : Budget) (entries : List Entry) → AllByRecursion (Unnamed name) entries → AllByRecursion (Unnamed name) (with_named other (granted_more budget) entries)
+unnamed_more : (name other : List ℕ) (budget : Budget) (entries : List OpenSession) → AllByRecursion (Unnamed name) entries → AllByRecursion (Unnamed name) (with_named other (granted_more budget) entries)
 unnamed_more name other budget [] all = tt
 unnamed_more name other budget (e ∷ entries) all = (here (is_named other e), unnamed_more name other budget entries all.1)
   where
@@ -42,7 +42,7 @@ unnamed_more name other budget (e ∷ entries) all = (here (is_named other e), u
     here true = all.0
     here false = all.0
 
-unnamed_less : (name other : List ℕ) (entries : List Entry) → AllByRecursion (Unnamed name) entries → AllByRecursion (Unnamed name) (without_named other entries)
+unnamed_less : (name other : List ℕ) (entries : List OpenSession) → AllByRecursion (Unnamed name) entries → AllByRecursion (Unnamed name) (without_named other entries)
 unnamed_less name other [] all = tt
 unnamed_less name other (e ∷ entries) all = here (is_named other e) (unnamed_less name other entries all.1)
   where
@@ -50,11 +50,11 @@ unnamed_less name other (e ∷ entries) all = here (is_named other e) (unnamed_l
     here true rest = rest
     here false rest = (all.0, rest)
 
-unnamed_join : (name : List ℕ) (entries : List Entry) (entry : Entry) → AllByRecursion (Unnamed name) entries → is_named name entry ≡ false → AllByRecursion (Unnamed name) (entries ++ entry ∷ [])
+unnamed_join : (name : List ℕ) (entries : List OpenSession) (entry : OpenSession) → AllByRecursion (Unnamed name) entries → is_named name entry ≡ false → AllByRecursion (Unnamed name) (entries ++ entry ∷ [])
 unnamed_join name [] entry all other = (other, tt)
 unnamed_join name (e ∷ entries) entry all other = (all.0, unnamed_join name entries entry all.1 other)
 
-turned : (first second : Entry) → is_named second.query.id first ≡ false → is_named first.query.id second ≡ false
+turned : (first second : OpenSession) → is_named second.query.id first ≡ false → is_named first.query.id second ≡ false
 turned first second other = here (is_named first.query.id second) refl
   where
     here : (b : Bool) → is_named first.query.id second ≡ b → b ≡ false
@@ -62,7 +62,7 @@ turned first second other = here (is_named first.query.id second) refl
     here true is =
         absurd (true≢false (sym ((bytes_eq-Decides first.query.id second.query.id).1 (sym ((bytes_eq-Decides second.query.id first.query.id).0 is))) ∙ other))
 
-orderly_more : (name : List ℕ) (budget : Budget) (entries : List Entry) → Orderly entries → Orderly (with_named name (granted_more budget) entries)
+orderly_more : (name : List ℕ) (budget : Budget) (entries : List OpenSession) → Orderly entries → Orderly (with_named name (granted_more budget) entries)
 orderly_more name budget [] orderly = tt
 orderly_more name budget (e ∷ entries) orderly = here (is_named name e) (unnamed_more e.query.id name budget entries orderly.1) (orderly_more name budget entries orderly.2)
   where
@@ -71,7 +71,7 @@ orderly_more name budget (e ∷ entries) orderly = here (is_named name e) (unnam
     here true others more = (omega arith, others, more)
     here false others more = (orderly.0, others, more)
 
-orderly_less : (name : List ℕ) (entries : List Entry) → Orderly entries → Orderly (without_named name entries)
+orderly_less : (name : List ℕ) (entries : List OpenSession) → Orderly entries → Orderly (without_named name entries)
 orderly_less name [] orderly = tt
 orderly_less name (e ∷ entries) orderly = here (is_named name e) (unnamed_less e.query.id name entries orderly.1) (orderly_less name entries orderly.2)
   where
@@ -79,26 +79,26 @@ orderly_less name (e ∷ entries) orderly = here (is_named name e) (unnamed_less
     here true others less = less
     here false others less = (orderly.0, others, less)
 
-orderly_join : (entries : List Entry) (entry : Entry) → Orderly entries → entry.granted ≤ 2 ^ 64 - 1 → AllByRecursion (Unnamed entry.query.id) entries → Orderly (entries ++ entry ∷ [])
+orderly_join : (entries : List OpenSession) (entry : OpenSession) → Orderly entries → entry.granted ≤ 2 ^ 64 - 1 → AllByRecursion (Unnamed entry.query.id) entries → Orderly (entries ++ entry ∷ [])
 orderly_join [] entry orderly most none = (most, tt, tt)
 orderly_join (e ∷ entries) entry orderly most none =
     (orderly.0, unnamed_join e.query.id entries entry orderly.1 (turned e entry none.0), orderly_join entries entry orderly.2 most none.1)
 
 -- ---- sums over sessions
 
-with_unnamed : (name : List ℕ) (change : Entry → Entry) (entries : List Entry) → AllByRecursion (Unnamed name) entries → with_named name change entries ≡ entries
+with_unnamed : (name : List ℕ) (change : OpenSession → OpenSession) (entries : List OpenSession) → AllByRecursion (Unnamed name) entries → with_named name change entries ≡ entries
 with_unnamed name change [] all = refl
 with_unnamed name change (e ∷ entries) all = ap (λ (b : Bool). cond b (change e) e ∷ with_named name change entries) all.0 ∙ ap (λ es. e ∷ es) (with_unnamed name change entries all.1)
 
-module _ (p : Entry → ℕ) where
-  sum_more : (rises : (e : Entry) (budget : Budget) → e.granted ≤ 2 ^ 64 - 1 → p e ≤ p (granted_more budget e)) (name : List ℕ) (budget : Budget) (entries : List Entry) → Orderly entries
-      → sum_by p (with_named name (granted_more budget) entries) ≡ sum_by p entries + option_map_or (λ (e : Entry). p (granted_more budget e) - p e) (find (is_named name) entries) 0
+module _ (p : OpenSession → ℕ) where
+  sum_more : (rises : (e : OpenSession) (budget : Budget) → e.granted ≤ 2 ^ 64 - 1 → p e ≤ p (granted_more budget e)) (name : List ℕ) (budget : Budget) (entries : List OpenSession) → Orderly entries
+      → sum_by p (with_named name (granted_more budget) entries) ≡ sum_by p entries + option_map_or (λ (e : OpenSession). p (granted_more budget e) - p e) (find (is_named name) entries) 0
   sum_more rises name budget [] orderly = omega arith
   sum_more rises name budget (e ∷ entries) orderly = here (is_named name e) refl (sum_more rises name budget entries orderly.2)
     where
       here : (b : Bool) → is_named name e ≡ b
-          → sum_by p (with_named name (granted_more budget) entries) ≡ sum_by p entries + option_map_or (λ (x : Entry). p (granted_more budget x) - p x) (find (is_named name) entries) 0
-          → sum_by p (with_named name (granted_more budget) (e ∷ entries)) ≡ sum_by p (e ∷ entries) + option_map_or (λ (x : Entry). p (granted_more budget x) - p x) (find (is_named name) (e ∷ entries)) 0
+          → sum_by p (with_named name (granted_more budget) entries) ≡ sum_by p entries + option_map_or (λ (x : OpenSession). p (granted_more budget x) - p x) (find (is_named name) entries) 0
+          → sum_by p (with_named name (granted_more budget) (e ∷ entries)) ≡ sum_by p (e ∷ entries) + option_map_or (λ (x : OpenSession). p (granted_more budget x) - p x) (find (is_named name) (e ∷ entries)) 0
       here true is later =
           let named : e.query.id ≡ name = (bytes_eq-Decides e.query.id name).0 is in
           let others : with_named name (granted_more budget) entries ≡ entries = with_unnamed name (granted_more budget) entries (subst (λ n. AllByRecursion (Unnamed n) entries) named orderly.1) in
@@ -110,7 +110,7 @@ module _ (p : Entry → ℕ) where
             ap (sum_by p) first,
             sum_by-cons p (granted_more budget e) entries,
             sum_by-cons p e entries,
-            ap (λ (o : Option Entry). option_map_or (λ (x : Entry). p (granted_more budget x) - p x) o 0) found,
+            ap (λ (o : Option OpenSession). option_map_or (λ (x : OpenSession). p (granted_more budget x) - p x) o 0) found,
             rises e budget orderly.0,
           )
       here false is later =
@@ -123,10 +123,10 @@ module _ (p : Entry → ℕ) where
             ap (sum_by p) first,
             sum_by-cons p e (with_named name (granted_more budget) entries),
             sum_by-cons p e entries,
-            ap (λ (o : Option Entry). option_map_or (λ (x : Entry). p (granted_more budget x) - p x) o 0) found,
+            ap (λ (o : Option OpenSession). option_map_or (λ (x : OpenSession). p (granted_more budget x) - p x) o 0) found,
           )
 
-  sum_less : (name : List ℕ) (entries : List Entry) → sum_by p (filter (is_named name) entries) + sum_by p (without_named name entries) ≡ sum_by p entries
+  sum_less : (name : List ℕ) (entries : List OpenSession) → sum_by p (filter (is_named name) entries) + sum_by p (without_named name entries) ≡ sum_by p entries
   sum_less name [] = omega arith
   sum_less name (e ∷ entries) = here (is_named name e) (sum_less name entries)
     where
@@ -137,41 +137,41 @@ module _ (p : Entry → ℕ) where
 
 -- ---- a line, and lines
 
-abbrev all_scored : FileView → List Entry → ℕ
-all_scored file entries = sum_by (λ (e : Entry). (session_report file e).postings) entries
+abbrev all_scored : FileView → List OpenSession → ℕ
+all_scored file entries = sum_by (λ (e : OpenSession). (session_report file e).postings) entries
 
 abbrev pub Rises : FileView → Type 0
-Rises file = (e : Entry) (budget : Budget) → e.granted ≤ 2 ^ 64 - 1 → (session_report file e).postings ≤ (session_report file (granted_more budget e)).postings
+Rises file = (e : OpenSession) (budget : Budget) → e.granted ≤ 2 ^ 64 - 1 → (session_report file e).postings ≤ (session_report file (granted_more budget e)).postings
 
 abbrev pub IsPaid : FileView → Type 0
-IsPaid file = (e : Entry) → (session_report file e).postings ≤ e.granted
+IsPaid file = (e : OpenSession) → (session_report file e).postings ≤ e.granted
 
 command_counts : (file : FileView) → Rises file → IsPaid file → (state : DeskState) (command : Option DeskCommand) → Orderly state.sessions
     → steps_of file state command + all_scored file state.sessions ≡ all_scored file (ended_by state command) + all_scored file (after_of file state command).sessions
 command_counts file rises paid state None orderly = omega arith
 command_counts file rises paid state (Some (Open name k words)) orderly = here (opening file state name k words) refl
   where
-    here : (r : Result Entry DeskRefusal) → opening file state name k words ≡ r → 0 + all_scored file state.sessions ≡ all_scored file [] + all_scored file (with_opened state r).sessions
+    here : (r : Result OpenSession DeskRefusal) → opening file state name k words ≡ r → 0 + all_scored file state.sessions ≡ all_scored file [] + all_scored file (with_opened state r).sessions
     here (Ok entry) is =
-        let p = λ (e : Entry). (session_report file e).postings in
-        let none : entry.granted ≡ 0 = ap (λ (e : Entry). e.granted) (opened_for file state name k words entry is).is in
+        let p = λ (e : OpenSession). (session_report file e).postings in
+        let none : entry.granted ≡ 0 = ap (λ (e : OpenSession). e.granted) (opened_for file state name k words entry is).is in
         omega (arith, sum_by-append p state.sessions (entry ∷ []), sum_by-cons p entry [], paid entry, none)
     here (Err refusal) is = omega arith
-command_counts file rises paid state (Some (Grant name budget)) orderly = omega (arith, sum_more (λ (e : Entry). (session_report file e).postings) rises name budget state.sessions orderly)
+command_counts file rises paid state (Some (Grant name budget)) orderly = omega (arith, sum_more (λ (e : OpenSession). (session_report file e).postings) rises name budget state.sessions orderly)
 command_counts file rises paid state (Some (Top name)) orderly = omega arith
 command_counts file rises paid state (Some (Why name)) orderly = omega arith
-command_counts file rises paid state (Some (Close name)) orderly = omega (arith, sum_less (λ (e : Entry). (session_report file e).postings) name state.sessions)
+command_counts file rises paid state (Some (Close name)) orderly = omega (arith, sum_less (λ (e : OpenSession). (session_report file e).postings) name state.sessions)
 command_counts file rises paid state (Some End) orderly = omega arith
 
 command_orderly : (file : FileView) (state : DeskState) (command : Option DeskCommand) → Orderly state.sessions → Orderly (after_of file state command).sessions
 command_orderly file state None orderly = orderly
 command_orderly file state (Some (Open name k words)) orderly = here (opening file state name k words) refl
   where
-    here : (r : Result Entry DeskRefusal) → opening file state name k words ≡ r → Orderly (with_opened state r).sessions
+    here : (r : Result OpenSession DeskRefusal) → opening file state name k words ≡ r → Orderly (with_opened state r).sessions
     here (Ok entry) is =
         let opened = opened_for file state name k words entry is in
         let named : entry.query.id ≡ name = named_for file state name k words entry opened in
-        orderly_join state.sessions entry orderly (omega (arith, ap (λ (e : Entry). e.granted) opened.is)) (subst (λ n. AllByRecursion (Unnamed n) state.sessions) (sym named) (none_of name state.sessions opened.free))
+        orderly_join state.sessions entry orderly (omega (arith, ap (λ (e : OpenSession). e.granted) opened.is)) (subst (λ n. AllByRecursion (Unnamed n) state.sessions) (sym named) (none_of name state.sessions opened.free))
     here (Err refusal) is = orderly
 command_orderly file state (Some (Grant name budget)) orderly = orderly_more name budget state.sessions orderly
 command_orderly file state (Some (Top name)) orderly = orderly
@@ -217,7 +217,7 @@ lines_count file rises paid state (line ∷ lines) orderly = here (is_end line) 
             → steps_from file (desk_after file state line) lines + all_scored file (desk_after file state line).sessions ≡ all_scored file (sessions_from file (desk_after file state line) lines)
             → steps_from file state (line ∷ lines) + all_scored file state.sessions ≡ all_scored file (sessions_from file state (line ∷ lines))
         joins true first second later =
-            omega (arith, first, second, line_counts file rises paid state line orderly, sum_by-append (λ (e : Entry). (session_report file e).postings) (ended_by state (read_desk_line line)) (desk_after file state line).sessions)
+            omega (arith, first, second, line_counts file rises paid state line orderly, sum_by-append (λ (e : OpenSession). (session_report file e).postings) (ended_by state (read_desk_line line)) (desk_after file state line).sessions)
         joins false first second later =
             omega (
               arith,
@@ -225,7 +225,7 @@ lines_count file rises paid state (line ∷ lines) orderly = here (is_end line) 
               second,
               later,
               line_counts file rises paid state line orderly,
-              sum_by-append (λ (e : Entry). (session_report file e).postings) (ended_by state (read_desk_line line)) (sessions_from file (desk_after file state line) lines),
+              sum_by-append (λ (e : OpenSession). (session_report file e).postings) (ended_by state (read_desk_line line)) (sessions_from file (desk_after file state line) lines),
             )
 
 pub all_counted : (file : FileView) → Rises file → IsPaid file → (frames : ℕ) (lines : List (List ℕ)) → desk_postings file frames lines ≡ all_scored file (sessions_from file (new_state frames) lines)

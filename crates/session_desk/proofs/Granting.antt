@@ -16,7 +16,7 @@ use Rattle.session_engine.specs.Standing.{IsSessionOf, SessionStands, answer_ove
 use Rattle.session_engine.specs.declared.session.Session.{Session}
 use Rattle.session_desk.specs.declared.told.Told.{Told}
 use Rattle.session_desk.specs.Replies.{session_answer, session_report}
-use Rattle.session_desk.specs.State.{DeskState, Entry, granted_more, is_named, with_named, without_named}
+use Rattle.session_desk.specs.State.{DeskState, OpenSession, granted_more, is_named, with_named, without_named}
 use Rattle.session_desk.specs.Standing.{Differ, IsAt, SessionsStand, entries_of, entry_of, told_of}
 use Rattle.session_desk.proofs.Seating.{OthersStay, Stands, names_before, names_behind, others_stand, still_stand}
 use Rattle.session_desk.proofs.Showing.{changes_there, found_there, goes_there}
@@ -58,7 +58,7 @@ module _ (sessions : List Session) (name : List ℕ) (place : ℕ) (at : IsAt se
       subst (SessionsStand file new) (sym (changed_is there))
       (still_stand stay file old new at.front here there at.back (subst (SessionsStand file old) (at.parts ∙ ap (λ s. at.front ++ s ∷ at.back) (sym (session_is here is))) stand) leaves same stands)
 
-  pub changed_shows : (change : Entry → Entry) (here there : Session) → here ≡ get_or sessions place here → Differ sessions → entry_of there ≡ change (entry_of here)
+  pub changed_shows : (change : OpenSession → OpenSession) (here there : Session) → here ≡ get_or sessions place here → Differ sessions → entry_of there ≡ change (entry_of here)
       → entries_of (slice_set sessions place there) ≡ with_named name change (entries_of sessions)
   changed_shows change here there is differ changed =
       let apart = subst Differ at.parts differ in
@@ -103,11 +103,11 @@ pub answer_shown : (s : Session) (file : FileView) (pool : PoolView) → Session
 unfolding session_answer
 answer_shown s file pool stands = ap (λ n. top_k n (plan_over file s) (k_of s)) stands.prefix
 
-pub told_shown : (file : FileView) (entry : Entry) (report : Report) (unknown : ℕ) → report ≡ session_report file entry → unknown ≡ entry.query.unknown
+pub told_shown : (file : FileView) (entry : OpenSession) (report : Report) (unknown : ℕ) → report ≡ session_report file entry → unknown ≡ entry.query.unknown
     → (let told : Told = record { report = report; unknown = unknown } in told) ≡ told_of file entry
 told_shown file entry report unknown first second = λ i. record { report = first i; unknown = second i }
 
-pub state_shown : (entries others : List Entry) (frames count : ℕ) → entries ≡ others → frames ≡ count
+pub state_shown : (entries others : List OpenSession) (frames count : ℕ) → entries ≡ others → frames ≡ count
     → (let state : DeskState = record { sessions = entries; frames = frames } in state) ≡ record { sessions = others; frames = count }
 state_shown entries others frames count first second = λ i. record { sessions = first i; frames = second i }
 

@@ -6,7 +6,7 @@ use Rattle.std.specs.Prelude.{codes, decimal}
 use Rattle.std.specs.List.{AllByRecursion}
 use Rattle.jass_base.specs.declared.answer.Budget.{Budget}
 use Rattle.jass_base.specs.declared.answer.Report.{Report}
-use Rattle.ranking_model.specs.declared.class.Class.{Class}
+use Rattle.ranking_model.specs.declared.plan_segment.PlanSegment.{PlanSegment}
 use Rattle.ranking_model.specs.declared.plan.QueryPlan.{QueryPlan}
 use Rattle.ranking_model.specs.Plan.{amount_of, granted_sum, granted_with, prefix_within, size_of_first}
 use Rattle.ranking_model.specs.Report.{report_line, run_lines}
@@ -17,7 +17,7 @@ use Rattle.index_layout.specs.View.{FileView}
 use Rattle.session_desk.specs.Alone.{after_lines, budget_in, budgets_in, command_names, does_close, does_name}
 use Rattle.session_desk.specs.Lines.{DeskCommand, Open, Grant, Top, Why, Close, End, read_desk_line}
 use Rattle.session_desk.specs.Replies.{answer_lines, answer_text, command_reply, desk_after, desk_reply, plan_of_session, reply_of, reply_to, report_text, scored_prefix, session_answer, session_report}
-use Rattle.session_desk.specs.State.{DeskState, Entry, granted_more, session_named}
+use Rattle.session_desk.specs.State.{DeskState, OpenSession, granted_more, session_named}
 use Rattle.session_desk.proofs.Isolation.{after_command, other_line, own_line}
 
 -- ---- sums
@@ -26,14 +26,14 @@ use Rattle.session_desk.proofs.Isolation.{after_command, other_line, own_line}
 pub granted_behind : (budgets : List Budget) (budget : Budget) → granted_with (granted_sum budgets) budget ≡ granted_sum (budgets ++ budget ∷ [])
 granted_behind budgets budget = omega (arith, sum_by-append amount_of budgets (budget ∷ []), sum_by-cons amount_of budget [])
 
-abbrev given : Entry → List Budget → Entry
+abbrev given : OpenSession → List Budget → OpenSession
 given entry budgets = record entry { granted = granted_sum budgets }
 
-given_already : (entry : Entry) (budgets : List Budget) → entry.granted ≡ granted_sum budgets → entry ≡ given entry budgets
+given_already : (entry : OpenSession) (budgets : List Budget) → entry.granted ≡ granted_sum budgets → entry ≡ given entry budgets
 given_already entry budgets is = λ i. record entry { granted = is i }
 
 -- a command that names a session grants it the budget that it has
-command_grants : (name : List ℕ) (entry : Entry) (budgets : List Budget) (command : Option DeskCommand) → command_names name command ≡ true → entry.granted ≡ granted_sum budgets
+command_grants : (name : List ℕ) (entry : OpenSession) (budgets : List Budget) (command : Option DeskCommand) → command_names name command ≡ true → entry.granted ≡ granted_sum budgets
     → after_command entry command ≡ given entry (budgets ++ budget_in name command)
 command_grants name entry budgets None names is = absurd (true≢false (sym names))
 command_grants name entry budgets (Some (Open n k words)) names is = given_already entry (budgets ++ []) (is ∙ ap granted_sum (sym (append-nil budgets)))
@@ -58,7 +58,7 @@ none_budgeted name (Some End) other = refl
 
 -- ---- lines
 
-line_grants : (name : List ℕ) (entry : Entry) (budgets : List Budget) (line : List ℕ) → does_name name line ≡ true → entry.granted ≡ granted_sum budgets
+line_grants : (name : List ℕ) (entry : OpenSession) (budgets : List Budget) (line : List ℕ) → does_name name line ≡ true → entry.granted ≡ granted_sum budgets
     → after_command entry (read_desk_line line) ≡ given entry (budgets ++ budget_in name (read_desk_line line))
 unfolding does_name
 line_grants name entry budgets line names is = command_grants name entry budgets (read_desk_line line) names is
@@ -83,7 +83,7 @@ budgets_none : (name : List ℕ) → budgets_in name [] ≡ []
 unfolding budgets_in
 budgets_none name = refl
 
-pub lines_grant : (file : FileView) (name : List ℕ) (state : DeskState) (entry : Entry) (budgets : List Budget) (lines : List (List ℕ)) → session_named name state ≡ Some entry → entry.granted ≡ granted_sum budgets
+pub lines_grant : (file : FileView) (name : List ℕ) (state : DeskState) (entry : OpenSession) (budgets : List Budget) (lines : List (List ℕ)) → session_named name state ≡ Some entry → entry.granted ≡ granted_sum budgets
     → AllByRecursion (λ line. does_close name line ≡ false) lines → session_named name (after_lines file state lines) ≡ Some (record entry { granted = granted_sum (budgets ++ budgets_in name lines) })
 lines_grant file name state entry budgets [] found is stays =
     ap (session_named name) (after_none file state) ∙ found
@@ -94,7 +94,7 @@ lines_grant file name state entry budgets (line ∷ lines) found is stays =
     ∙ ap (λ bs. Some (given entry (budgets ++ bs))) (sym (budgets_cons name line lines))
   where
     here : (b : Bool) → does_name name line ≡ b
-        → ((s : DeskState) (e : Entry) (bs : List Budget) → session_named name s ≡ Some e → e.granted ≡ granted_sum bs → session_named name (after_lines file s lines) ≡ Some (given e (bs ++ budgets_in name lines)))
+        → ((s : DeskState) (e : OpenSession) (bs : List Budget) → session_named name s ≡ Some e → e.granted ≡ granted_sum bs → session_named name (after_lines file s lines) ≡ Some (given e (bs ++ budgets_in name lines)))
         → session_named name (after_lines file (desk_after file state line) lines) ≡ Some (given entry (budgets ++ (budget_in name (read_desk_line line) ++ budgets_in name lines)))
     here true names later =
         let more : List Budget = budgets ++ budget_in name (read_desk_line line) in
@@ -107,49 +107,49 @@ lines_grant file name state entry budgets (line ∷ lines) found is stays =
 -- ---- what is paid for
 
 -- the size of a prefix rises with what pays for it
-pub size_rises : ((n more : ℕ) (classes : List Class) → size_of_first (n + more) classes ≡ size_of_first n classes + size_of_first more (drop n classes))
-    → ((before budget n : ℕ) (classes : List Class) → n ≡ prefix_within before classes → before ≤ budget → prefix_within budget classes ≡ n + prefix_within (budget - size_of_first n classes) (drop n classes))
-    → (before after : ℕ) (classes : List Class) → before ≤ after → size_of_first (prefix_within before classes) classes ≤ size_of_first (prefix_within after classes) classes
-size_rises size prefix before after classes less =
-    let n : ℕ = prefix_within before classes in
-    let more : ℕ = prefix_within (after - size_of_first n classes) (drop n classes) in
-    omega (arith, ap (λ m. size_of_first m classes) (prefix before after n classes refl less), size n more classes)
+pub size_rises : ((n more : ℕ) (segments : List PlanSegment) → size_of_first (n + more) segments ≡ size_of_first n segments + size_of_first more (drop n segments))
+    → ((before budget n : ℕ) (segments : List PlanSegment) → n ≡ prefix_within before segments → before ≤ budget → prefix_within budget segments ≡ n + prefix_within (budget - size_of_first n segments) (drop n segments))
+    → (before after : ℕ) (segments : List PlanSegment) → before ≤ after → size_of_first (prefix_within before segments) segments ≤ size_of_first (prefix_within after segments) segments
+size_rises size prefix before after segments less =
+    let n : ℕ = prefix_within before segments in
+    let more : ℕ = prefix_within (after - size_of_first n segments) (drop n segments) in
+    omega (arith, ap (λ m. size_of_first m segments) (prefix before after n segments refl less), size n more segments)
 
-pub granted_rises : (entry : Entry) (budget : Budget) → entry.granted ≤ 2 ^ 64 - 1 → entry.granted ≤ granted_with entry.granted budget
+pub granted_rises : (entry : OpenSession) (budget : Budget) → entry.granted ≤ 2 ^ 64 - 1 → entry.granted ≤ granted_with entry.granted budget
 granted_rises entry budget most = omega (arith, most)
 
-pub size_is : (file : FileView) (entry : Entry) → (session_report file entry).postings ≡ size_of_first (scored_prefix file entry) (plan_of_session file entry).classes
+pub size_is : (file : FileView) (entry : OpenSession) → (session_report file entry).postings ≡ size_of_first (scored_prefix file entry) (plan_of_session file entry).segments
 unfolding session_report
 size_is file entry = refl
 
 -- ---- one search
 
-pub reported : (file : FileView) (entry : Entry) (budgets : List Budget) → entry.granted ≡ granted_sum budgets
-    → session_report file entry ≡ report_by (prefix_within (granted_sum budgets) (plan_of_session file entry).classes) (plan_of_session file entry) entry.k
+pub reported : (file : FileView) (entry : OpenSession) (budgets : List Budget) → entry.granted ≡ granted_sum budgets
+    → session_report file entry ≡ report_by (prefix_within (granted_sum budgets) (plan_of_session file entry).segments) (plan_of_session file entry) entry.k
 unfolding session_report
-reported file entry budgets is = ap (λ g. report_by (prefix_within g (plan_of_session file entry).classes) (plan_of_session file entry) entry.k) is
+reported file entry budgets is = ap (λ g. report_by (prefix_within g (plan_of_session file entry).segments) (plan_of_session file entry) entry.k) is
 
-pub answered : (file : FileView) (entry : Entry) (budgets : List Budget) → entry.granted ≡ granted_sum budgets
-    → session_answer file entry ≡ top_k (prefix_within (granted_sum budgets) (plan_of_session file entry).classes) (plan_of_session file entry) entry.k
+pub answered : (file : FileView) (entry : OpenSession) (budgets : List Budget) → entry.granted ≡ granted_sum budgets
+    → session_answer file entry ≡ top_k (prefix_within (granted_sum budgets) (plan_of_session file entry).segments) (plan_of_session file entry) entry.k
 unfolding session_answer
-answered file entry budgets is = ap (λ g. top_k (prefix_within g (plan_of_session file entry).classes) (plan_of_session file entry) entry.k) is
+answered file entry budgets is = ap (λ g. top_k (prefix_within g (plan_of_session file entry).segments) (plan_of_session file entry) entry.k) is
 
 reply_is : (file : FileView) (state : DeskState) (line : List ℕ) (command : DeskCommand) → read_desk_line line ≡ Some command → desk_reply file state line ≡ command_reply file state command
 unfolding desk_reply
 reply_is file state line command read = ap (reply_to file state) read
 
-pub grant_told : (file : FileView) (state : DeskState) (line name : List ℕ) (entry : Entry) (budgets : List Budget) (budget : Budget)
+pub grant_told : (file : FileView) (state : DeskState) (line name : List ℕ) (entry : OpenSession) (budgets : List Budget) (budget : Budget)
     → read_desk_line line ≡ Some (Grant name budget) → session_named name state ≡ Some entry → entry.granted ≡ granted_sum budgets
     → desk_reply file state line
-    ≡ report_line entry.query.id (report_by (prefix_within (granted_sum (budgets ++ budget ∷ [])) (plan_of_session file entry).classes) (plan_of_session file entry) entry.k) entry.query.unknown
+    ≡ report_line entry.query.id (report_by (prefix_within (granted_sum (budgets ++ budget ∷ [])) (plan_of_session file entry).segments) (plan_of_session file entry) entry.k) entry.query.unknown
 grant_told file state line name entry budgets budget read found is =
     reply_is file state line (Grant name budget) read ∙ ap (reply_of (λ e. report_text file (granted_more budget e))) found
     ∙ ap (λ (r : Report). report_line entry.query.id r entry.query.unknown) (reported file (granted_more budget entry) (budgets ++ budget ∷ []) (ap (λ g. granted_with g budget) is ∙ granted_behind budgets budget))
 
-pub why_told : (file : FileView) (state : DeskState) (line name : List ℕ) (entry : Entry) (budgets : List Budget)
+pub why_told : (file : FileView) (state : DeskState) (line name : List ℕ) (entry : OpenSession) (budgets : List Budget)
     → read_desk_line line ≡ Some (Why name) → session_named name state ≡ Some entry → entry.granted ≡ granted_sum budgets
     → desk_reply file state line
-    ≡ report_line entry.query.id (report_by (prefix_within (granted_sum budgets) (plan_of_session file entry).classes) (plan_of_session file entry) entry.k) entry.query.unknown
+    ≡ report_line entry.query.id (report_by (prefix_within (granted_sum budgets) (plan_of_session file entry).segments) (plan_of_session file entry) entry.k) entry.query.unknown
 why_told file state line name entry budgets read found is =
     reply_is file state line (Why name) read ∙ ap (reply_of (report_text file)) found
     ∙ ap (λ (r : Report). report_line entry.query.id r entry.query.unknown) (reported file entry budgets is)
@@ -158,12 +158,12 @@ one_run : (names : List (List ℕ)) (plan : QueryPlan) (id : List ℕ) (k n : �
 unfolding answer_lines
 one_run names plan id k n = ap (λ (t : List ℕ). codes "hits " ++ (decimal (length (top_k n plan k)) ++ (codes "\n" ++ t))) (sym (append-nil (run_lines names id (codes "jass") 1 (top_k n plan k))))
 
-pub top_told : (file : FileView) (state : DeskState) (line name : List ℕ) (entry : Entry) (budgets : List Budget)
+pub top_told : (file : FileView) (state : DeskState) (line name : List ℕ) (entry : OpenSession) (budgets : List Budget)
     → read_desk_line line ≡ Some (Top name) → session_named name state ≡ Some entry → entry.granted ≡ granted_sum budgets
     → (let plan = plan_of_session file entry in
-    let prefix = prefix_within (granted_sum budgets) plan.classes in
+    let prefix = prefix_within (granted_sum budgets) plan.segments in
     desk_reply file state line ≡ codes "hits " ++ (decimal (length (top_k prefix plan entry.k)) ++ (codes "\n" ++ query_run file.index.names plan entry.query.id entry.k (prefix ∷ []) (codes "jass"))))
 top_told file state line name entry budgets read found is =
     reply_is file state line (Top name) read ∙ ap (reply_of (answer_text file)) found
     ∙ ap (answer_lines file.index.names entry.query.id) (answered file entry budgets is)
-    ∙ one_run file.index.names (plan_of_session file entry) entry.query.id entry.k (prefix_within (granted_sum budgets) (plan_of_session file entry).classes)
+    ∙ one_run file.index.names (plan_of_session file entry) entry.query.id entry.k (prefix_within (granted_sum budgets) (plan_of_session file entry).segments)

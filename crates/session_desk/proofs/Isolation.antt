@@ -6,30 +6,28 @@ use Rattle.std.specs.Prelude.{bytes_eq, is_some}
 use Rattle.std.specs.List.{find}
 use Rattle.jass_base.specs.declared.answer.Budget.{Budget}
 use Rattle.index_layout.specs.View.{FileView}
+use Rattle.shared_lemmas.proofs.Texts.{bytes_same}
 use Rattle.session_desk.specs.declared.refusal.DeskRefusal.{DeskRefusal}
 use Rattle.session_desk.specs.declared.refusal.DeskRefusal.TheVariants.{NameInUse}
 use Rattle.session_desk.specs.Alone.{alone, command_closes, command_names, does_close, does_name, own_lines, own_replies}
 use Rattle.session_desk.specs.Lines.{DeskCommand, Open, Grant, Top, Why, Close, End, is_end, read_desk_line}
 use Rattle.session_desk.specs.Replies.{after_of, desk_after, desk_reply, opened_reply, opening, reply_of, reply_to, with_opened}
-use Rattle.session_desk.specs.State.{DeskState, Entry, granted_more, is_named, session_named, with_named, without_named}
+use Rattle.session_desk.specs.State.{DeskState, OpenSession, granted_more, is_named, session_named, with_named, without_named}
 use Rattle.session_desk.specs.Turns.{replies_from}
 use Rattle.session_desk.proofs.Joining.{name_taken, refused_first}
 use Rattle.session_desk.proofs.Replying.{name_of_found}
 
 -- ---- finding
 
-same_name : (first second : List ℕ) → bytes_eq first second ≡ true → first ≡ second
-same_name first second same = (bytes_eq-Decides first second).0 same
-
 -- a session of another name is none of this one
-another : (name other : List ℕ) (e : Entry) → bytes_eq other name ≡ false → is_named other e ≡ true → is_named name e ≡ false
+another : (name other : List ℕ) (e : OpenSession) → bytes_eq other name ≡ false → is_named other e ≡ true → is_named name e ≡ false
 another name other e differ is = here (is_named name e) refl
   where
     here : (b : Bool) → is_named name e ≡ b → b ≡ false
     here false so = refl
-    here true so = absurd (true≢false (sym ((bytes_eq-Decides other name).1 (sym (same_name e.query.id other is) ∙ same_name e.query.id name so)) ∙ differ))
+    here true so = absurd (true≢false (sym ((bytes_eq-Decides other name).1 (sym (bytes_same e.query.id other is) ∙ bytes_same e.query.id name so)) ∙ differ))
 
-found_changed : (name other : List ℕ) (budget : Budget) (entries : List Entry) → bytes_eq other name ≡ false
+found_changed : (name other : List ℕ) (budget : Budget) (entries : List OpenSession) → bytes_eq other name ≡ false
     → find (is_named name) (with_named other (granted_more budget) entries) ≡ find (is_named name) entries
 found_changed name other budget [] differ = refl
 found_changed name other budget (e ∷ entries) differ = here (is_named other e) refl (found_changed name other budget entries differ)
@@ -40,18 +38,18 @@ found_changed name other budget (e ∷ entries) differ = here (is_named other e)
     here true is later =
         let no : is_named name e ≡ false = another name other e differ is in
         ap (λ (b : Bool). cond b (Some (granted_more budget e)) (find (is_named name) (with_named other (granted_more budget) entries))) no ∙ later ∙ sym (ap (λ (b : Bool). cond b (Some e) (find (is_named name) entries)) no)
-    here false is later = ap (λ (o : Option Entry). cond (is_named name e) (Some e) o) later
+    here false is later = ap (λ (o : Option OpenSession). cond (is_named name e) (Some e) o) later
 
-found_without : (name other : List ℕ) (entries : List Entry) → bytes_eq other name ≡ false → find (is_named name) (without_named other entries) ≡ find (is_named name) entries
+found_without : (name other : List ℕ) (entries : List OpenSession) → bytes_eq other name ≡ false → find (is_named name) (without_named other entries) ≡ find (is_named name) entries
 found_without name other [] differ = refl
 found_without name other (e ∷ entries) differ = here (is_named other e) refl (found_without name other entries differ)
   where
     here : (b : Bool) → is_named other e ≡ b → find (is_named name) (without_named other entries) ≡ find (is_named name) entries
         → find (is_named name) (cond (not b) (e ∷ without_named other entries) (without_named other entries)) ≡ find (is_named name) (e ∷ entries)
     here true is later = later ∙ sym (ap (λ (b : Bool). cond b (Some e) (find (is_named name) entries)) (another name other e differ is))
-    here false is later = ap (λ (o : Option Entry). cond (is_named name e) (Some e) o) later
+    here false is later = ap (λ (o : Option OpenSession). cond (is_named name e) (Some e) o) later
 
-found_granted : (name : List ℕ) (budget : Budget) (entries : List Entry) (entry : Entry) → find (is_named name) entries ≡ Some entry
+found_granted : (name : List ℕ) (budget : Budget) (entries : List OpenSession) (entry : OpenSession) → find (is_named name) entries ≡ Some entry
     → find (is_named name) (with_named name (granted_more budget) entries) ≡ Some (granted_more budget entry)
 found_granted name budget [] entry found = cc
 found_granted name budget (e ∷ entries) entry found = here (is_named name e) refl (found_granted name budget entries entry)
@@ -60,14 +58,14 @@ found_granted name budget (e ∷ entries) entry found = here (is_named name e) r
         → (find (is_named name) entries ≡ Some entry → find (is_named name) (with_named name (granted_more budget) entries) ≡ Some (granted_more budget entry))
         → cond (is_named name (cond b (granted_more budget e) e)) (Some (cond b (granted_more budget e) e)) (find (is_named name) (with_named name (granted_more budget) entries)) ≡ Some (granted_more budget entry)
     here true is later =
-        let so : (let o : Option Entry = Some e in o) ≡ Some entry = ap (λ (b : Bool). cond b (Some e) (find (is_named name) entries)) (sym is) ∙ found in
+        let so : (let o : Option OpenSession = Some e in o) ≡ Some entry = ap (λ (b : Bool). cond b (Some e) (find (is_named name) entries)) (sym is) ∙ found in
         let same : e ≡ entry = cc in
         ap (λ (b : Bool). cond b (Some (granted_more budget e)) (find (is_named name) (with_named name (granted_more budget) entries))) is ∙ ap (λ x. Some (granted_more budget x)) same
     here false is later =
         ap (λ (b : Bool). cond b (Some e) (find (is_named name) (with_named name (granted_more budget) entries))) is
         ∙ later (ap (λ (b : Bool). cond b (Some e) (find (is_named name) entries)) (sym is) ∙ found)
 
-pub found_joined : (name : List ℕ) (entries : List Entry) (other entry : Entry) → find (is_named name) entries ≡ Some entry → find (is_named name) (entries ++ other ∷ []) ≡ Some entry
+pub found_joined : (name : List ℕ) (entries : List OpenSession) (other entry : OpenSession) → find (is_named name) entries ≡ Some entry → find (is_named name) (entries ++ other ∷ []) ≡ Some entry
 found_joined name [] other entry found = cc
 found_joined name (e ∷ entries) other entry found = here (is_named name e) refl (found_joined name entries other entry)
   where
@@ -80,12 +78,12 @@ found_joined name (e ∷ entries) other entry found = here (is_named name e) ref
 
 -- ---- commands that name another session, or none
 
-pub other_command : (file : FileView) (name : List ℕ) (state : DeskState) (entry : Entry) (command : Option DeskCommand) → command_names name command ≡ false
+pub other_command : (file : FileView) (name : List ℕ) (state : DeskState) (entry : OpenSession) (command : Option DeskCommand) → command_names name command ≡ false
     → session_named name state ≡ Some entry → session_named name (after_of file state command) ≡ Some entry
 other_command file name state entry None other found = found
 other_command file name state entry (Some (Open n k words)) other found = here (opening file state n k words)
   where
-    here : (r : Result Entry DeskRefusal) → session_named name (with_opened state r) ≡ Some entry
+    here : (r : Result OpenSession DeskRefusal) → session_named name (with_opened state r) ≡ Some entry
     here (Ok e) = found_joined name state.sessions e entry found
     here (Err refusal) = found
 other_command file name state entry (Some (Grant n budget)) other found = found_changed name n budget state.sessions other ∙ found
@@ -97,18 +95,18 @@ other_command file name state entry (Some End) other found = found
 -- ---- commands that name the session
 
 -- the session after one of them
-abbrev pub after_command : Entry → Option DeskCommand → Entry
+abbrev pub after_command : OpenSession → Option DeskCommand → OpenSession
 after_command entry (Some (Grant n budget)) = granted_more budget entry
 after_command entry (Some other) = entry
 after_command entry None = entry
 
-taken : (name n : List ℕ) (state : DeskState) (entry : Entry) → bytes_eq n name ≡ true → session_named name state ≡ Some entry → session_named n state ≡ Some entry
-taken name n state entry same found = ap (λ m. session_named m state) (same_name n name same) ∙ found
+taken : (name n : List ℕ) (state : DeskState) (entry : OpenSession) → bytes_eq n name ≡ true → session_named name state ≡ Some entry → session_named n state ≡ Some entry
+taken name n state entry same found = ap (λ m. session_named m state) (bytes_same n name same) ∙ found
 
-refused : (file : FileView) (n : List ℕ) (k : ℕ) (words : List (List ℕ)) (state : DeskState) (entry : Entry) → session_named n state ≡ Some entry → opening file state n k words ≡ Err NameInUse
+refused : (file : FileView) (n : List ℕ) (k : ℕ) (words : List (List ℕ)) (state : DeskState) (entry : OpenSession) → session_named n state ≡ Some entry → opening file state n k words ≡ Err NameInUse
 refused file n k words state entry found = refused_first file state n k words NameInUse (name_taken state n (ap is_some found))
 
-pub same_reply : (file : FileView) (name : List ℕ) (first second : DeskState) (entry : Entry) (command : Option DeskCommand) → command_names name command ≡ true
+pub same_reply : (file : FileView) (name : List ℕ) (first second : DeskState) (entry : OpenSession) (command : Option DeskCommand) → command_names name command ≡ true
     → session_named name first ≡ Some entry → session_named name second ≡ Some entry → reply_to file first command ≡ reply_to file second command
 same_reply file name first second entry None names a b = absurd (true≢false (sym names))
 same_reply file name first second entry (Some (Open n k words)) names a b =
@@ -119,12 +117,12 @@ same_reply file name first second entry (Some (Why n)) names a b = ap (reply_of 
 same_reply file name first second entry (Some (Close n)) names a b = ap (reply_of _) (taken name n first entry names a ∙ sym (taken name n second entry names b))
 same_reply file name first second entry (Some End) names a b = absurd (true≢false (sym names))
 
-pub own_command : (file : FileView) (name : List ℕ) (state : DeskState) (entry : Entry) (command : Option DeskCommand) → command_names name command ≡ true → command_closes name command ≡ false
+pub own_command : (file : FileView) (name : List ℕ) (state : DeskState) (entry : OpenSession) (command : Option DeskCommand) → command_names name command ≡ true → command_closes name command ≡ false
     → session_named name state ≡ Some entry → session_named name (after_of file state command) ≡ Some (after_command entry command)
 own_command file name state entry None names stays found = absurd (true≢false (sym names))
 own_command file name state entry (Some (Open n k words)) names stays found = ap (λ r. session_named name (with_opened state r)) (refused file n k words state entry (taken name n state entry names found)) ∙ found
 own_command file name state entry (Some (Grant n budget)) names stays found =
-    ap (λ m. find (is_named name) (with_named m (granted_more budget) state.sessions)) (same_name n name names) ∙ found_granted name budget state.sessions entry found
+    ap (λ m. find (is_named name) (with_named m (granted_more budget) state.sessions)) (bytes_same n name names) ∙ found_granted name budget state.sessions entry found
 own_command file name state entry (Some (Top n)) names stays found = found
 own_command file name state entry (Some (Why n)) names stays found = found
 own_command file name state entry (Some (Close n)) names stays found = absurd (true≢false (sym names ∙ stays))
@@ -132,22 +130,22 @@ own_command file name state entry (Some End) names stays found = absurd (true≢
 
 -- ---- a desk with this session alone
 
-pub alone_found : (name : List ℕ) (frames : ℕ) (entry : Entry) → is_named name entry ≡ true → session_named name (alone frames entry) ≡ Some entry
+pub alone_found : (name : List ℕ) (frames : ℕ) (entry : OpenSession) → is_named name entry ≡ true → session_named name (alone frames entry) ≡ Some entry
 alone_found name frames entry named = ap (λ (b : Bool). cond b (Some entry) None) named
 
-alone_after : (file : FileView) (name : List ℕ) (frames : ℕ) (entry : Entry) (command : Option DeskCommand) → is_named name entry ≡ true → command_names name command ≡ true → command_closes name command ≡ false
+alone_after : (file : FileView) (name : List ℕ) (frames : ℕ) (entry : OpenSession) (command : Option DeskCommand) → is_named name entry ≡ true → command_names name command ≡ true → command_closes name command ≡ false
     → after_of file (alone frames entry) command ≡ alone frames (after_command entry command)
 alone_after file name frames entry None named names stays = refl
 alone_after file name frames entry (Some (Open n k words)) named names stays =
     ap (with_opened (alone frames entry)) (refused file n k words (alone frames entry) entry (taken name n (alone frames entry) entry names (alone_found name frames entry named)))
 alone_after file name frames entry (Some (Grant n budget)) named names stays =
-    ap (λ (b : Bool). alone frames (cond b (granted_more budget entry) entry)) (ap (λ m. is_named m entry) (same_name n name names) ∙ named)
+    ap (λ (b : Bool). alone frames (cond b (granted_more budget entry) entry)) (ap (λ m. is_named m entry) (bytes_same n name names) ∙ named)
 alone_after file name frames entry (Some (Top n)) named names stays = refl
 alone_after file name frames entry (Some (Why n)) named names stays = refl
 alone_after file name frames entry (Some (Close n)) named names stays = absurd (true≢false (sym names ∙ stays))
 alone_after file name frames entry (Some End) named names stays = refl
 
-pub still_named : (name : List ℕ) (entry : Entry) (command : Option DeskCommand) → is_named name entry ≡ true → is_named name (after_command entry command) ≡ true
+pub still_named : (name : List ℕ) (entry : OpenSession) (command : Option DeskCommand) → is_named name entry ≡ true → is_named name (after_command entry command) ≡ true
 still_named name entry None named = named
 still_named name entry (Some (Open n k words)) named = named
 still_named name entry (Some (Grant n budget)) named = named
@@ -189,21 +187,21 @@ replies_cons file state line lines = refl
 replies_on : (file : FileView) (state : DeskState) (line : List ℕ) (lines : List (List ℕ)) → is_end line ≡ false → replies_from file state (line ∷ lines) ≡ desk_reply file state line ∷ replies_from file (desk_after file state line) lines
 replies_on file state line lines more = replies_cons file state line lines ∙ ap (λ (b : Bool). desk_reply file state line ∷ cond b [] (replies_from file (desk_after file state line) lines)) more
 
-same_reply_line : (file : FileView) (name : List ℕ) (first second : DeskState) (entry : Entry) (line : List ℕ) → does_name name line ≡ true
+same_reply_line : (file : FileView) (name : List ℕ) (first second : DeskState) (entry : OpenSession) (line : List ℕ) → does_name name line ≡ true
     → session_named name first ≡ Some entry → session_named name second ≡ Some entry → desk_reply file first line ≡ desk_reply file second line
 unfolding desk_reply does_name
 same_reply_line file name first second entry line names a b = same_reply file name first second entry (read_desk_line line) names a b
 
-pub other_line : (file : FileView) (name : List ℕ) (state : DeskState) (entry : Entry) (line : List ℕ) → does_name name line ≡ false → session_named name state ≡ Some entry → session_named name (desk_after file state line) ≡ Some entry
+pub other_line : (file : FileView) (name : List ℕ) (state : DeskState) (entry : OpenSession) (line : List ℕ) → does_name name line ≡ false → session_named name state ≡ Some entry → session_named name (desk_after file state line) ≡ Some entry
 unfolding desk_after does_name
 other_line file name state entry line other found = other_command file name state entry (read_desk_line line) other found
 
-pub own_line : (file : FileView) (name : List ℕ) (state : DeskState) (entry : Entry) (line : List ℕ) → does_name name line ≡ true → does_close name line ≡ false
+pub own_line : (file : FileView) (name : List ℕ) (state : DeskState) (entry : OpenSession) (line : List ℕ) → does_name name line ≡ true → does_close name line ≡ false
     → session_named name state ≡ Some entry → session_named name (desk_after file state line) ≡ Some (after_command entry (read_desk_line line))
 unfolding desk_after does_name does_close
 own_line file name state entry line names stays found = own_command file name state entry (read_desk_line line) names stays found
 
-alone_line : (file : FileView) (name : List ℕ) (frames : ℕ) (entry : Entry) (line : List ℕ) → is_named name entry ≡ true → does_name name line ≡ true → does_close name line ≡ false
+alone_line : (file : FileView) (name : List ℕ) (frames : ℕ) (entry : OpenSession) (line : List ℕ) → is_named name entry ≡ true → does_name name line ≡ true → does_close name line ≡ false
     → desk_after file (alone frames entry) line ≡ alone frames (after_command entry (read_desk_line line))
 unfolding desk_after does_name does_close
 alone_line file name frames entry line named names stays = alone_after file name frames entry (read_desk_line line) named names stays
@@ -212,12 +210,12 @@ closing_line : (name line : List ℕ) → does_close name line ≡ true → does
 unfolding does_name does_close
 closing_line name line closes = closing_names name (read_desk_line line) closes
 
-none_told : (file : FileView) (name : List ℕ) (frames : ℕ) (state : DeskState) (entry : Entry) → own_replies file name state [] ≡ replies_from file (alone frames entry) (own_lines name [])
+none_told : (file : FileView) (name : List ℕ) (frames : ℕ) (state : DeskState) (entry : OpenSession) → own_replies file name state [] ≡ replies_from file (alone frames entry) (own_lines name [])
 unfolding own_replies own_lines replies_from
 none_told file name frames state entry = refl
 
 -- the replies to the lines of one session are those that it would get alone
-pub told_alone : (file : FileView) (name : List ℕ) (frames : ℕ) (state : DeskState) (entry : Entry) (lines : List (List ℕ)) → is_named name entry ≡ true → session_named name state ≡ Some entry
+pub told_alone : (file : FileView) (name : List ℕ) (frames : ℕ) (state : DeskState) (entry : OpenSession) (lines : List (List ℕ)) → is_named name entry ≡ true → session_named name state ≡ Some entry
     → own_replies file name state lines ≡ replies_from file (alone frames entry) (own_lines name lines)
 told_alone file name frames state entry [] named found = none_told file name frames state entry
 told_alone file name frames state entry (line ∷ lines) named found =
@@ -226,7 +224,7 @@ told_alone file name frames state entry (line ∷ lines) named found =
     ∙ ap (replies_from file (alone frames entry)) (sym (own_lines_cons name line lines))
   where
     here : (e c n : Bool) → is_end line ≡ e → does_close name line ≡ c → does_name name line ≡ n
-        → ((s : DeskState) (x : Entry) → is_named name x ≡ true → session_named name s ≡ Some x → own_replies file name s lines ≡ replies_from file (alone frames x) (own_lines name lines))
+        → ((s : DeskState) (x : OpenSession) → is_named name x ≡ true → session_named name s ≡ Some x → own_replies file name s lines ≡ replies_from file (alone frames x) (own_lines name lines))
         → cond e [] (cond c (desk_reply file state line ∷ []) (cond n (desk_reply file state line ∷ own_replies file name (desk_after file state line) lines) (own_replies file name (desk_after file state line) lines)))
         ≡ replies_from file (alone frames entry) (cond e [] (cond c (line ∷ []) (cond n (line ∷ own_lines name lines) (own_lines name lines))))
     here true c n a b d later = sym (replies_none file (alone frames entry))
@@ -242,5 +240,5 @@ told_alone file name frames state entry (line ∷ lines) named found =
         ∙ sym (replies_on file (alone frames entry) line (own_lines name lines) a)
     here false false false a b d later = later (desk_after file state line) entry named (other_line file name state entry line d found)
 
-pub has_name : (name : List ℕ) (state : DeskState) (entry : Entry) → session_named name state ≡ Some entry → is_named name entry ≡ true
+pub has_name : (name : List ℕ) (state : DeskState) (entry : OpenSession) → session_named name state ≡ Some entry → is_named name entry ≡ true
 has_name name state entry found = (bytes_eq-Decides entry.query.id name).1 (name_of_found name state.sessions entry found)

@@ -23,8 +23,8 @@ use Rattle.session_engine.specs.Plans.{HasFreeNumber, need_of}
 use Rattle.session_engine.specs.declared.session.Session.{Session}
 use Rattle.session_desk.specs.declared.refusal.DeskRefusal.{DeskRefusal}
 use Rattle.session_desk.specs.declared.refusal.DeskRefusal.TheVariants.{DeskFull, NameInUse, PoolFull}
-use Rattle.session_desk.specs.State.{DeskState, Entry, is_named, session_named, spare_frames}
-use Rattle.session_desk.specs.Opening.{Opens, refuses}
+use Rattle.session_desk.specs.State.{DeskState, OpenSession, is_named, session_named, spare_frames}
+use Rattle.session_desk.specs.Private.Opening.{Opens, refuses}
 use Rattle.session_desk.specs.Replies.{fitting, opened_line, opened_reply, opening, query_refusal, room_refusal, unless_refused, with_opened}
 use Rattle.session_desk.specs.Standing.{Differ, FindsName, SessionsStand, entries_of, entry_of}
 use Rattle.session_desk.proofs.Placing.{HasOtherName}
@@ -51,12 +51,12 @@ pub spare_seen : (file : FileView) (pool : PoolView) (sessions : List Session) �
     → spare_frames file (record { sessions = entries_of sessions; frames = length pool.frames }) ≡ spare_of pool
 spare_seen file pool sessions stand = omega (arith, stand.spare)
 
-abbrev pub entry_for : reader.QueryData → ℕ → Entry
+abbrev pub entry_for : reader.QueryData → ℕ → OpenSession
 entry_for query k = record { query = record { id = query.id; terms = query.terms; unknown = query.unknown }; k = k; granted = 0 }
 
 fits_then : (file : FileView) (state : DeskState) (k : ℕ) (query : reader.QueryData) → need_of file query.terms ≤ spare_frames file state → fitting file state k (Ok query) ≡ Ok (entry_for query k)
 fits_then file state k query room =
-    ap (λ (b : Bool). cond b (let r : Result Entry DeskRefusal = Err (PoolFull (need_of file query.terms) (spare_frames file state)) in r) (Ok (entry_for query k))) (here (nat_lt (spare_frames file state) (need_of file query.terms)) refl)
+    ap (λ (b : Bool). cond b (let r : Result OpenSession DeskRefusal = Err (PoolFull (need_of file query.terms) (spare_frames file state)) in r) (Ok (entry_for query k))) (here (nat_lt (spare_frames file state) (need_of file query.terms)) refl)
   where
     here : (b : Bool) → nat_lt (spare_frames file state) (need_of file query.terms) ≡ b → b ≡ false
     here true less = absurd (omega (arith, room, ltb-true (spare_frames file state) (need_of file query.terms) less))
@@ -135,7 +135,7 @@ read_name terms name mentions query is = here (first_broken terms [] mentions) i
     here (Some why) e = cc
     here None e = let same : (let q : reader.QueryData = record { id = name; terms = named_of terms mentions; unknown = unknown_of terms mentions } in q) ≡ query = cc in sym (ap (λ (q : reader.QueryData). q.id) same)
 
-pub refused_so : (file : FileView) (name : List ℕ) (state : DeskState) (k : ℕ) (read : Result reader.QueryData QueryWhy) (found : Result Entry DeskRefusal) (fault : QueryFault)
+pub refused_so : (file : FileView) (name : List ℕ) (state : DeskState) (k : ℕ) (read : Result reader.QueryData QueryWhy) (found : Result OpenSession DeskRefusal) (fault : QueryFault)
     → found ≡ fitting file state k read → Fails fault (at_line 1 read) → Opens file found name state state (Err (refuses fault))
 refused_so file name state k (Ok query) found (faults.Refused refusal) is fails = cc
 refused_so file name state k (Err why) found (faults.Refused refusal) is fails =

@@ -1,5 +1,4 @@
 pub mod Wording
-pub mod Gathering
 pub mod Placing
 pub mod Seating
 pub mod Showing

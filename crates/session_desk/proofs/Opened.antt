@@ -14,60 +14,60 @@ use Rattle.session_desk.specs.declared.refusal.DeskRefusal.{DeskRefusal}
 use Rattle.session_desk.specs.declared.refusal.DeskRefusal.TheVariants.{DeskFull, NameInUse, PoolFull}
 use Rattle.session_desk.specs.Lines.{DeskCommand, Open, read_desk_line}
 use Rattle.session_desk.specs.Replies.{after_of, desk_after, fitting, opening, room_refusal, unless_refused, with_opened}
-use Rattle.session_desk.specs.State.{DeskState, Entry, is_named, session_named, spare_frames}
+use Rattle.session_desk.specs.State.{DeskState, OpenSession, is_named, session_named, spare_frames}
 use Rattle.session_desk.proofs.Joining.{entry_for, read_name}
 
 -- the mentions that a session was opened for
-pub record OpenedFor (file : FileView) (state : DeskState) (name : List ℕ) (k : ℕ) (words : List (List ℕ)) (entry : Entry) : Type 0 where
+pub record OpenedFor (file : FileView) (state : DeskState) (name : List ℕ) (k : ℕ) (words : List (List ℕ)) (entry : OpenSession) : Type 0 where
   pub query : reader.QueryData
   pub read : read_mentions (texts_of file.index.terms) name (map plain_mention words) ≡ Ok query
   pub is : entry ≡ entry_for query k
   pub free : session_named name state ≡ None
 
-fitted : (file : FileView) (state : DeskState) (k : ℕ) (read : Result reader.QueryData QueryWhy) (entry : Entry) → fitting file state k read ≡ Ok entry → (query : reader.QueryData) × (read ≡ Ok query) × (entry ≡ entry_for query k)
+fitted : (file : FileView) (state : DeskState) (k : ℕ) (read : Result reader.QueryData QueryWhy) (entry : OpenSession) → fitting file state k read ≡ Ok entry → (query : reader.QueryData) × (read ≡ Ok query) × (entry ≡ entry_for query k)
 fitted file state k (Err why) entry is = cc
 fitted file state k (Ok query) entry is = (query, refl, here (nat_lt (spare_frames file state) (need_of file query.terms)) is)
   where
-    here : (b : Bool) → cond b (let r : Result Entry DeskRefusal = Err (PoolFull (need_of file query.terms) (spare_frames file state)) in r) (Ok (entry_for query k)) ≡ Ok entry → entry ≡ entry_for query k
+    here : (b : Bool) → cond b (let r : Result OpenSession DeskRefusal = Err (PoolFull (need_of file query.terms) (spare_frames file state)) in r) (Ok (entry_for query k)) ≡ Ok entry → entry ≡ entry_for query k
     here true e = cc
     here false e = let same : entry_for query k ≡ entry = cc in sym same
 
-unrefused : (first : Option DeskRefusal) (found : Result Entry DeskRefusal) (entry : Entry) → unless_refused first found ≡ Ok entry → (first ≡ None) × (found ≡ Ok entry)
+unrefused : (first : Option DeskRefusal) (found : Result OpenSession DeskRefusal) (entry : OpenSession) → unless_refused first found ≡ Ok entry → (first ≡ None) × (found ≡ Ok entry)
 unrefused None found entry is = (refl, is)
 unrefused (Some refusal) found entry is = cc
 
 unnamed : (name : List ℕ) (state : DeskState) → room_refusal name state ≡ None → session_named name state ≡ None
 unnamed name state none = here (session_named name state) refl
   where
-    here : (o : Option Entry) → session_named name state ≡ o → o ≡ None
+    here : (o : Option OpenSession) → session_named name state ≡ o → o ≡ None
     here None is = refl
     here (Some e) is =
         let refused : (let r : Option DeskRefusal = Some NameInUse in r) ≡ None
         = ap (λ (b : Bool). cond b (Some NameInUse) (cond (nat_le 64 (length state.sessions)) (Some DeskFull) None)) (sym (ap is_some is)) ∙ none in
         cc
 
-pub opened_for : (file : FileView) (state : DeskState) (name : List ℕ) (k : ℕ) (words : List (List ℕ)) (entry : Entry) → opening file state name k words ≡ Ok entry → OpenedFor file state name k words entry
+pub opened_for : (file : FileView) (state : DeskState) (name : List ℕ) (k : ℕ) (words : List (List ℕ)) (entry : OpenSession) → opening file state name k words ≡ Ok entry → OpenedFor file state name k words entry
 unfolding opening
 opened_for file state name k words entry is =
     let passed = unrefused (room_refusal name state) (fitting file state k (read_mentions (texts_of file.index.terms) name (map plain_mention words))) entry is in
     let fits = fitted file state k (read_mentions (texts_of file.index.terms) name (map plain_mention words)) entry passed.1 in
     record { query = fits.0; read = fits.1; is = fits.2; free = unnamed name state passed.0 }
 
-pub named_for : (file : FileView) (state : DeskState) (name : List ℕ) (k : ℕ) (words : List (List ℕ)) (entry : Entry) → OpenedFor file state name k words entry → entry.query.id ≡ name
-named_for file state name k words entry opened = ap (λ (e : Entry). e.query.id) opened.is ∙ read_name (texts_of file.index.terms) name (map plain_mention words) opened.query opened.read
+pub named_for : (file : FileView) (state : DeskState) (name : List ℕ) (k : ℕ) (words : List (List ℕ)) (entry : OpenSession) → OpenedFor file state name k words entry → entry.query.id ≡ name
+named_for file state name k words entry opened = ap (λ (e : OpenSession). e.query.id) opened.is ∙ read_name (texts_of file.index.terms) name (map plain_mention words) opened.query opened.read
 
-found_last : (name : List ℕ) (entries : List Entry) (entry : Entry) → find (is_named name) entries ≡ None → is_named name entry ≡ true → find (is_named name) (entries ++ entry ∷ []) ≡ Some entry
+found_last : (name : List ℕ) (entries : List OpenSession) (entry : OpenSession) → find (is_named name) entries ≡ None → is_named name entry ≡ true → find (is_named name) (entries ++ entry ∷ []) ≡ Some entry
 found_last name [] entry none named = ap (λ (b : Bool). cond b (Some entry) None) named
 found_last name (e ∷ entries) entry none named = here (is_named name e) refl (λ h. found_last name entries entry h named)
   where
     here : (b : Bool) → is_named name e ≡ b → (find (is_named name) entries ≡ None → find (is_named name) (entries ++ entry ∷ []) ≡ Some entry) → find (is_named name) ((e ∷ entries) ++ entry ∷ []) ≡ Some entry
     here true is later =
-        let some : (let o : Option Entry = Some e in o) ≡ None = ap (λ (b : Bool). cond b (Some e) (find (is_named name) entries)) (sym is) ∙ none in
+        let some : (let o : Option OpenSession = Some e in o) ≡ None = ap (λ (b : Bool). cond b (Some e) (find (is_named name) entries)) (sym is) ∙ none in
         cc
     here false is later =
         ap (λ (b : Bool). cond b (Some e) (find (is_named name) (entries ++ entry ∷ []))) is ∙ later (ap (λ (b : Bool). cond b (Some e) (find (is_named name) entries)) (sym is) ∙ none)
 
-pub found_opened : (file : FileView) (state : DeskState) (line name : List ℕ) (k : ℕ) (words : List (List ℕ)) (entry : Entry) → read_desk_line line ≡ Some (Open name k words) → opening file state name k words ≡ Ok entry
+pub found_opened : (file : FileView) (state : DeskState) (line name : List ℕ) (k : ℕ) (words : List (List ℕ)) (entry : OpenSession) → read_desk_line line ≡ Some (Open name k words) → opening file state name k words ≡ Ok entry
     → session_named name (desk_after file state line) ≡ Some entry
 unfolding desk_after
 found_opened file state line name k words entry read is =
@@ -76,7 +76,7 @@ found_opened file state line name k words entry read is =
     ap (λ (o : Option DeskCommand). session_named name (after_of file state o)) read ∙ ap (λ r. session_named name (with_opened state r)) is
     ∙ found_last name state.sessions entry opened.free ((bytes_eq-Decides entry.query.id name).1 named)
 
-pub opened_alike : (file : FileView) (first second : DeskState) (name : List ℕ) (k : ℕ) (words others : List (List ℕ)) (entry other : Entry) → map plain_mention words ≡ map plain_mention others
+pub opened_alike : (file : FileView) (first second : DeskState) (name : List ℕ) (k : ℕ) (words others : List (List ℕ)) (entry other : OpenSession) → map plain_mention words ≡ map plain_mention others
     → opening file first name k words ≡ Ok entry → opening file second name k others ≡ Ok other → entry ≡ other
 opened_alike file first second name k words others entry other mentions a b =
     let one = opened_for file first name k words entry a in
@@ -85,5 +85,5 @@ opened_alike file first second name k words others entry other mentions a b =
     let same : one.query ≡ two.query = cc in
     one.is ∙ ap (λ q. entry_for q k) same ∙ sym two.is
 
-pub none_granted : (file : FileView) (state : DeskState) (name : List ℕ) (k : ℕ) (words : List (List ℕ)) (entry : Entry) → opening file state name k words ≡ Ok entry → entry.granted ≡ 0
-none_granted file state name k words entry is = ap (λ (e : Entry). e.granted) (opened_for file state name k words entry is).is
+pub none_granted : (file : FileView) (state : DeskState) (name : List ℕ) (k : ℕ) (words : List (List ℕ)) (entry : OpenSession) → opening file state name k words ≡ Ok entry → entry.granted ≡ 0
+none_granted file state name k words entry is = ap (λ (e : OpenSession). e.granted) (opened_for file state name k words entry is).is

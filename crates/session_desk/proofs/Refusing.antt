@@ -8,39 +8,39 @@ use Rattle.session_desk.specs.declared.refusal.DeskRefusal.{DeskRefusal}
 use Rattle.session_desk.specs.declared.refusal.DeskRefusal.TheVariants.{BadLine, UnknownSession}
 use Rattle.session_desk.specs.Lines.{DeskCommand, Open, Grant, Top, Why, Close, End, read_desk_line}
 use Rattle.session_desk.specs.Replies.{after_of, desk_after, desk_refusal, desk_reply, desk_steps, newly_scored, opened_reply, opening, refusal_line, refusal_of, reply_of, reply_to, steps_of, unknown_refusal, with_opened}
-use Rattle.session_desk.specs.State.{DeskState, Entry, is_named, session_named, with_named, without_named}
+use Rattle.session_desk.specs.State.{DeskState, OpenSession, is_named, session_named, with_named, without_named}
 
 -- ---- no session has the name
 
-none_found : {P : Type 0} (name : List ℕ) (e : Entry) (entries : List Entry) → find (is_named name) (e ∷ entries) ≡ None → (is_named name e ≡ false → find (is_named name) entries ≡ None → P) → P
+none_found : {P : Type 0} (name : List ℕ) (e : OpenSession) (entries : List OpenSession) → find (is_named name) (e ∷ entries) ≡ None → (is_named name e ≡ false → find (is_named name) entries ≡ None → P) → P
 none_found {P} name e entries none next = here (is_named name e) refl
   where
     here : (b : Bool) → is_named name e ≡ b → P
     here true is =
-        let some : (let o : Option Entry = Some e in o) ≡ None = ap (λ (b : Bool). cond b (Some e) (find (is_named name) entries)) (sym is) ∙ none in
+        let some : (let o : Option OpenSession = Some e in o) ≡ None = ap (λ (b : Bool). cond b (Some e) (find (is_named name) entries)) (sym is) ∙ none in
         cc
     here false is = next is (ap (λ (b : Bool). cond b (Some e) (find (is_named name) entries)) (sym is) ∙ none)
 
-pub with_none : (name : List ℕ) (change : Entry → Entry) (entries : List Entry) → find (is_named name) entries ≡ None → with_named name change entries ≡ entries
+pub with_none : (name : List ℕ) (change : OpenSession → OpenSession) (entries : List OpenSession) → find (is_named name) entries ≡ None → with_named name change entries ≡ entries
 with_none name change [] none = refl
 with_none name change (e ∷ entries) none = none_found name e entries none (λ is rest. ap (λ (b : Bool). cond b (change e) e ∷ with_named name change entries) is ∙ ap (λ es. e ∷ es) (with_none name change entries rest))
 
-pub without_none : (name : List ℕ) (entries : List Entry) → find (is_named name) entries ≡ None → without_named name entries ≡ entries
+pub without_none : (name : List ℕ) (entries : List OpenSession) → find (is_named name) entries ≡ None → without_named name entries ≡ entries
 without_none name [] none = refl
 without_none name (e ∷ entries) none =
     none_found name e entries none (λ is rest. ap (λ (b : Bool). cond (not b) (e ∷ without_named name entries) (without_named name entries)) is ∙ ap (λ es. e ∷ es) (without_none name entries rest))
 
 -- ---- refusals
 
-opening_refused : (found : Result Entry DeskRefusal) (refusal : DeskRefusal) → result_err found ≡ Some refusal → found ≡ Err refusal
+opening_refused : (found : Result OpenSession DeskRefusal) (refusal : DeskRefusal) → result_err found ≡ Some refusal → found ≡ Err refusal
 opening_refused (Ok entry) refusal is = cc
 opening_refused (Err other) refusal is = let same : other ≡ refusal = cc in ap (λ r. Err r) same
 
-unknown : (found : Option Entry) (refusal : DeskRefusal) → unknown_refusal found ≡ Some refusal → (found ≡ None) × (UnknownSession ≡ refusal)
+unknown : (found : Option OpenSession) (refusal : DeskRefusal) → unknown_refusal found ≡ Some refusal → (found ≡ None) × (UnknownSession ≡ refusal)
 unknown (Some entry) refusal is = cc
 unknown None refusal is = (refl, cc)
 
-unknown_reply : (text : Entry → List ℕ) (found : Option Entry) (refusal : DeskRefusal) → unknown_refusal found ≡ Some refusal → reply_of text found ≡ refusal_line refusal
+unknown_reply : (text : OpenSession → List ℕ) (found : Option OpenSession) (refusal : DeskRefusal) → unknown_refusal found ≡ Some refusal → reply_of text found ≡ refusal_line refusal
 unknown_reply text found refusal is = let no = unknown found refusal is in ap (reply_of text) no.0 ∙ ap refusal_line no.1
 
 command_replied : (file : FileView) (state : DeskState) (command : Option DeskCommand) (refusal : DeskRefusal) → refusal_of file state command ≡ Some refusal → reply_to file state command ≡ refusal_line refusal
@@ -64,7 +64,7 @@ command_left file state (Some End) refusal is = refl
 command_unpaid : (file : FileView) (state : DeskState) (command : Option DeskCommand) (refusal : DeskRefusal) → refusal_of file state command ≡ Some refusal → steps_of file state command ≡ 0
 command_unpaid file state None refusal is = refl
 command_unpaid file state (Some (Open name k words)) refusal is = refl
-command_unpaid file state (Some (Grant name budget)) refusal is = ap (λ (o : Option Entry). option_map_or (newly_scored file budget) o 0) (unknown (session_named name state) refusal is).0
+command_unpaid file state (Some (Grant name budget)) refusal is = ap (λ (o : Option OpenSession). option_map_or (newly_scored file budget) o 0) (unknown (session_named name state) refusal is).0
 command_unpaid file state (Some (Top name)) refusal is = refl
 command_unpaid file state (Some (Why name)) refusal is = refl
 command_unpaid file state (Some (Close name)) refusal is = refl

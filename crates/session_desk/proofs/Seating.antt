@@ -13,7 +13,7 @@ use Rattle.frame_pool.specs.Pool.{ChainEntry, IsInUse, PoolView, Promises, spare
 use Rattle.session_engine.specs.Plans.{need_of}
 use Rattle.session_engine.specs.Standing.{IsSessionOf, SessionStands, chain_of, terms_of}
 use Rattle.session_engine.specs.declared.session.Session.{Session}
-use Rattle.session_desk.specs.State.{Entry, needs}
+use Rattle.session_desk.specs.State.{OpenSession, needs}
 use Rattle.session_desk.specs.Standing.{AreApart, Differ, SessionsStand, entries_of, entry_of, name_of}
 use Rattle.session_desk.proofs.Placing.{HasOtherName}
 
@@ -92,7 +92,7 @@ others_stay stay file old new s sessions leaves apart stand = stay sessions file
 needs_parted : (file : FileView) (front : List Session) (s : Session) (back : List Session)
     → needs file (entries_of (front ++ s ∷ back)) ≡ needs file (entries_of front) + need_of file (terms_of s) + needs file (entries_of back)
 needs_parted file front s back =
-    let f = λ (e : Entry). need_of file e.query.terms in
+    let f = λ (e : OpenSession). need_of file e.query.terms in
     omega (
       arith,
       ap (sum_by f) (map-append entry_of front (s ∷ back)),
@@ -102,7 +102,7 @@ needs_parted file front s back =
 
 needs_joined : (file : FileView) (front back : List Session) → needs file (entries_of (front ++ back)) ≡ needs file (entries_of front) + needs file (entries_of back)
 needs_joined file front back =
-    let f = λ (e : Entry). need_of file e.query.terms in
+    let f = λ (e : OpenSession). need_of file e.query.terms in
     ap (sum_by f) (map-append entry_of front back) ∙ sum_by-append f (entries_of front) (entries_of back)
 
 abbrev one_where_used : Option ChainEntry → ℕ
@@ -215,7 +215,7 @@ all_stand stay file old new sessions s stand few names used stands promises othe
         stand.in_use,
         length-append sessions (s ∷ []),
       );
-      spare = omega (arith, spare, stand.spare, ap length promises.frames, needs_joined file sessions (s ∷ []), sum_by-cons (λ (e : Entry). need_of file e.query.terms) (entry_of s) []);
+      spare = omega (arith, spare, stand.spare, ap length promises.frames, needs_joined file sessions (s ∷ []), sum_by-cons (λ (e : OpenSession). need_of file e.query.terms) (entry_of s) []);
     }
 
 -- ---- the last session goes, and then the others
@@ -236,9 +236,6 @@ differ_front : (front back : List Session) → Differ (front ++ back) → Differ
 differ_front [] back differ = tt
 differ_front (t ∷ front) back differ = (all_front (AreApart t) front back differ.0, differ_front front back differ.1)
 
-pub last_used : (pool : PoolView) (sessions front : List Session) (s : Session) → sessions ≡ front ++ s ∷ [] → HaveChains pool sessions → HasChain pool s
-last_used pool sessions front s is have = (all_back (HasChain pool) front (s ∷ []) (subst (AllByRecursion (HasChain pool)) is have.used)).0
-
 pub front_used : (old new : PoolView) (sessions front : List Session) (s : Session) → sessions ≡ front ++ s ∷ [] → LeavesOthers old new (chain_of s) → HaveChains old sessions → HaveChains new front
 front_used old new sessions front s is leaves have =
     let differ = subst Differ is have.differ in
@@ -246,6 +243,3 @@ front_used old new sessions front s is leaves have =
       used = still_used old new s front leaves (apart_before front s [] differ) (all_front (HasChain old) front (s ∷ []) (subst (AllByRecursion (HasChain old)) is have.used));
       differ = differ_front front (s ∷ []) differ;
     }
-
-pub all_used : ((s : Session) (file : FileView) (pool : PoolView) → SessionStands s file pool → IsInUse pool (chain_of s)) → (file : FileView) (pool : PoolView) (sessions : List Session) → SessionsStand file pool sessions → HaveChains pool sessions
-all_used chain file pool sessions stand = record { used = all_weaker (Stands file pool) (HasChain pool) (λ s stands. chain s file pool stands) sessions stand.each; differ = stand.differ }

@@ -3,7 +3,7 @@ use Rattle.std.proofs.Common.{◌≡◌, ◌≢◌, ℕ, Bool, true, false, not,
 use Rattle.std.proofs.lemmas.Slice.Eq.{bytes_eq-Decides}
 use Rattle.std.specs.List.{AllByRecursion, find}
 use Rattle.session_engine.specs.declared.session.Session.{Session}
-use Rattle.session_desk.specs.State.{Entry, is_named, with_named, without_named}
+use Rattle.session_desk.specs.State.{OpenSession, is_named, with_named, without_named}
 use Rattle.session_desk.specs.Standing.{entries_of, entry_of, name_of}
 use Rattle.session_desk.proofs.Placing.{HasOtherName}
 
@@ -30,7 +30,7 @@ found_nowhere name (t ∷ sessions) others =
     ap (λ (b : Bool). cond b (Some (entry_of t)) (find (is_named name) (entries_of sessions))) (named_otherwise name t others.0) ∙ found_nowhere name sessions others.1
 
 -- sessions of other names stay
-pub stays_with : (name : List ℕ) (change : Entry → Entry) (sessions : List Session) → AllByRecursion (HasOtherName name) sessions → with_named name change (entries_of sessions) ≡ entries_of sessions
+pub stays_with : (name : List ℕ) (change : OpenSession → OpenSession) (sessions : List Session) → AllByRecursion (HasOtherName name) sessions → with_named name change (entries_of sessions) ≡ entries_of sessions
 stays_with name change [] others = refl
 stays_with name change (t ∷ sessions) others =
     ap (λ (b : Bool). cond b (change (entry_of t)) (entry_of t) ∷ with_named name change (entries_of sessions)) (named_otherwise name t others.0)
@@ -43,7 +43,7 @@ stays_without name (t ∷ sessions) others =
     ∙ ap (λ es. entry_of t ∷ es) (stays_without name sessions others.1)
 
 -- the one of the name changes
-pub changes_there : (name : List ℕ) (change : Entry → Entry) (front : List Session) (s t : Session) (back : List Session) → AllByRecursion (HasOtherName name) front → name_of s ≡ name
+pub changes_there : (name : List ℕ) (change : OpenSession → OpenSession) (front : List Session) (s t : Session) (back : List Session) → AllByRecursion (HasOtherName name) front → name_of s ≡ name
     → AllByRecursion (HasOtherName name) back → entry_of t ≡ change (entry_of s) → entries_of (front ++ t ∷ back) ≡ with_named name change (entries_of (front ++ s ∷ back))
 changes_there name change [] s t back before named behind changed =
     ap (λ e. e ∷ entries_of back) changed ∙ ap (λ es. change (entry_of s) ∷ es) (sym (stays_with name change back behind))

@@ -1,7 +1,7 @@
 -- The words of a line, and the checks before them.
 use Rattle.std.proofs.Common.{◌≡◌, ℕ, ◌<◌, ◌≤◌, Bool, true, false, not, cond, List, ◌∷◌, length, [], take, drop, refl, ap, sym, subst, ◌∙◌, arith}
 use Rattle.std.proofs.Math.Seq.{take-length, drop-length}
-use Rattle.std.proofs.lemmas.Str.{IsUtf8-from_is_utf8, is_utf8-from_IsUtf8}
+use Rattle.std.proofs.lemmas.Str.{is_utf8-from_IsUtf8}
 use Rattle.std.specs.Prelude.{Option, Some, None, nat_lt, slice_get, get_or}
 use Rattle.std.specs.Option.{unwrap_or}
 use Rattle.std.specs.Str.{is_utf8, IsUtf8}
@@ -10,6 +10,7 @@ use Rattle.query_reader.specs.Texts.{is_blank}
 use Rattle.query_reader.specs.Slices.{blank_runs, BeginsWithout}
 use Rattle.query_reader.proofs.Runs.{first-run, only-run}
 use Rattle.query_reader.proofs.LineReading.{is-short}
+use Rattle.shared_lemmas.proofs.Texts.{no_utf8}
 use Rattle.session_desk.specs.Lines.{DeskCommand, command_in, read_desk_line}
 
 -- a word ends at the first blank behind it, or at the end
@@ -31,13 +32,6 @@ unfolding read_desk_line
 checked line long utf8 a b =
     ap (λ (x : Bool). line_checks x (is_utf8 line) (command_in (blank_runs line))) a
     ∙ ap (λ (x : Bool). line_checks long x (command_in (blank_runs line))) b
-
-no_utf8 : (line : List ℕ) → ¬ IsUtf8 line → is_utf8 line ≡ false
-no_utf8 line never = here (is_utf8 line) refl
-  where
-    here : (b : Bool) → is_utf8 line ≡ b → b ≡ false
-    here true e = absurd (never (IsUtf8-from_is_utf8 line e))
-    here false e = refl
 
 -- a line that isn't text
 pub bad_text : (line : List ℕ) → length line ≤ 1048576 → ¬ IsUtf8 line → read_desk_line line ≡ None

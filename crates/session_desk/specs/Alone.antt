@@ -3,7 +3,7 @@ use Rattle.std.specs.Prelude.{ℕ, Bool, false, List, [], ◌∷◌, ◌++◌, b
 use Rattle.std.specs.Option.{option_map_or}
 use Rattle.jass_base.specs.declared.answer.Budget.{Budget}
 use Rattle.index_layout.specs.View.{FileView}
-use Rattle.session_desk.specs.State.{DeskState, Entry}
+use Rattle.session_desk.specs.State.{DeskState, OpenSession}
 use Rattle.session_desk.specs.Lines.{DeskCommand, Open, Grant, Top, Why, Close, End, is_end, read_desk_line}
 use Rattle.session_desk.specs.Replies.{desk_after, desk_reply}
 
@@ -51,7 +51,7 @@ own_replies file name state (line ∷ lines) =
     else own_replies file name (desk_after file state line) lines))
 
 -- a desk at which this session is the only one
-abbrev pub alone : ℕ → Entry → DeskState
+abbrev pub alone : ℕ → OpenSession → DeskState
 alone frames entry = record { sessions = entry ∷ []; frames = frames }
 
 -- the budgets that lines grant a session

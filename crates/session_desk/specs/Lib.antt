@@ -3,7 +3,6 @@ pub mod Lines
 pub mod Replies
 pub mod Turns
 pub mod Alone
-pub mod Commands
 pub mod Standing
-pub mod Opening
 pub mod Endings
+pub mod Private

@@ -20,7 +20,7 @@ use Rattle.query_reader.specs.Texts.{plain_mention}
 use Rattle.session_engine.specs.Plans.{need_of, session_plan}
 use Rattle.session_desk.specs.declared.refusal.DeskRefusal.{DeskRefusal}
 use Rattle.session_desk.specs.declared.refusal.DeskRefusal.TheVariants.{BadLine, UnknownSession, NameInUse, DeskFull, TooManyTerms, NamedTooOften, PoolFull}
-use Rattle.session_desk.specs.State.{DeskState, Entry, granted_more, session_named, spare_frames, with_named, without_named}
+use Rattle.session_desk.specs.State.{DeskState, OpenSession, granted_more, session_named, spare_frames, with_named, without_named}
 use Rattle.session_desk.specs.Lines.{DeskCommand, Open, Grant, Top, Why, Close, End, read_desk_line}
 
 -- ---- the texts
@@ -36,17 +36,17 @@ refusal_line NamedTooOften = codes "refused 53 named too often\n"
 refusal_line (PoolFull need free) = codes "refused 74 pool " ++ (decimal need ++ (codes " " ++ (decimal free ++ codes "\n")))
 
 -- the plan of a session, and the prefix of it that its grants pay for
-abbrev pub plan_of_session : FileView → Entry → QueryPlan
+abbrev pub plan_of_session : FileView → OpenSession → QueryPlan
 plan_of_session file entry = session_plan file entry.query.terms
 
-abbrev pub scored_prefix : FileView → Entry → ℕ
-scored_prefix file entry = prefix_within entry.granted (plan_of_session file entry).classes
+abbrev pub scored_prefix : FileView → OpenSession → ℕ
+scored_prefix file entry = prefix_within entry.granted (plan_of_session file entry).segments
 
 -- the report and the answer at this prefix
-unfoldable pub session_report : FileView → Entry → Report
+unfoldable pub session_report : FileView → OpenSession → Report
 session_report file entry = report_by (scored_prefix file entry) (plan_of_session file entry) entry.k
 
-unfoldable pub session_answer : FileView → Entry → List Hit
+unfoldable pub session_answer : FileView → OpenSession → List Hit
 session_answer file entry = top_k (scored_prefix file entry) (plan_of_session file entry) entry.k
 
 -- `opened NAME need N unknown U`
@@ -54,18 +54,18 @@ unfoldable pub opened_line : List ℕ → ℕ → ℕ → List ℕ
 opened_line name need unknown =
     codes "opened " ++ (name ++ (codes " need " ++ (decimal need ++ (codes " unknown " ++ (decimal unknown ++ codes "\n")))))
 
-abbrev pub opened_text : FileView → Entry → List ℕ
+abbrev pub opened_text : FileView → OpenSession → List ℕ
 opened_text file entry = opened_line entry.query.id (need_of file entry.query.terms) entry.query.unknown
 
 -- the report line, with the session's name in front
-abbrev pub report_text : FileView → Entry → List ℕ
+abbrev pub report_text : FileView → OpenSession → List ℕ
 report_text file entry = report_line entry.query.id (session_report file entry) entry.query.unknown
 
 -- `hits H`, and as many run lines
 unfoldable pub answer_lines : List (List ℕ) → List ℕ → List Hit → List ℕ
 answer_lines names name hits = codes "hits " ++ (decimal (length hits) ++ (codes "\n" ++ run_lines names name (codes "jass") 1 hits))
 
-abbrev pub answer_text : FileView → Entry → List ℕ
+abbrev pub answer_text : FileView → OpenSession → List ℕ
 answer_text file entry = answer_lines file.index.names entry.query.id (session_answer file entry)
 
 -- `closed NAME`
@@ -83,7 +83,7 @@ query_refusal Terms = TooManyTerms
 query_refusal why = NamedTooOften
 
 -- a session without grants, where its query has the frames that it needs
-abbrev pub fitting : FileView → DeskState → ℕ → Result reader.QueryData QueryWhy → Result Entry DeskRefusal
+abbrev pub fitting : FileView → DeskState → ℕ → Result reader.QueryData QueryWhy → Result OpenSession DeskRefusal
 fitting file state k (Err why) = Err (query_refusal why)
 fitting file state k (Ok query) =
     if nat_lt (spare_frames file state) (need_of file query.terms)
@@ -100,28 +100,28 @@ room_refusal name state =
 abbrev pub has_room : List ℕ → DeskState → Bool
 has_room name state = is_none (room_refusal name state)
 
-abbrev pub unless_refused : Option DeskRefusal → Result Entry DeskRefusal → Result Entry DeskRefusal
+abbrev pub unless_refused : Option DeskRefusal → Result OpenSession DeskRefusal → Result OpenSession DeskRefusal
 unless_refused (Some refusal) found = Err refusal
 unless_refused None found = found
 
 -- the session that is opened, or the first refusal
-unfoldable pub opening : FileView → DeskState → List ℕ → ℕ → List (List ℕ) → Result Entry DeskRefusal
+unfoldable pub opening : FileView → DeskState → List ℕ → ℕ → List (List ℕ) → Result OpenSession DeskRefusal
 opening file state name k words =
     unless_refused (room_refusal name state)
     (fitting file state k (read_mentions (texts_of file.index.terms) name (map plain_mention words)))
 
-abbrev pub opened_reply : FileView → Result Entry DeskRefusal → List ℕ
+abbrev pub opened_reply : FileView → Result OpenSession DeskRefusal → List ℕ
 opened_reply file (Ok entry) = opened_text file entry
 opened_reply file (Err refusal) = refusal_line refusal
 
-abbrev pub with_opened : DeskState → Result Entry DeskRefusal → DeskState
+abbrev pub with_opened : DeskState → Result OpenSession DeskRefusal → DeskState
 with_opened state (Ok entry) = record state { sessions = state.sessions ++ entry ∷ [] }
 with_opened state (Err refusal) = state
 
 -- ---- one command
 
 -- the reply of a session, where there is one
-abbrev pub reply_of : (Entry → List ℕ) → Option Entry → List ℕ
+abbrev pub reply_of : (OpenSession → List ℕ) → Option OpenSession → List ℕ
 reply_of text (Some entry) = text entry
 reply_of text None = refusal_line UnknownSession
 
@@ -143,7 +143,7 @@ command_after file state (Close name) = record state { sessions = without_named 
 command_after file state End = state
 
 -- the postings that a grant scores newly
-abbrev pub newly_scored : FileView → Budget → Entry → ℕ
+abbrev pub newly_scored : FileView → Budget → OpenSession → ℕ
 newly_scored file budget entry = (session_report file (granted_more budget entry)).postings - (session_report file entry).postings
 
 abbrev pub command_steps : FileView → DeskState → DeskCommand → ℕ
@@ -151,7 +151,7 @@ command_steps file state (Grant name budget) = option_map_or (newly_scored file 
 command_steps file state other = 0
 
 -- the first refusal of a command, where it is refused
-abbrev pub unknown_refusal : Option Entry → Option DeskRefusal
+abbrev pub unknown_refusal : Option OpenSession → Option DeskRefusal
 unknown_refusal (Some entry) = None
 unknown_refusal None = Some UnknownSession
 

@@ -9,24 +9,24 @@ use Rattle.session_engine.specs.declared.session.Session.{Session}
 use Rattle.session_desk.specs.declared.table.Table.{Table}
 use Rattle.session_desk.specs.declared.told.Told.{Told}
 use Rattle.session_desk.specs.Replies.{session_report}
-use Rattle.session_desk.specs.State.{DeskState, Entry, needs}
+use Rattle.session_desk.specs.State.{DeskState, OpenSession, needs}
 
 -- ---- what is seen
 
 abbrev pub name_of : Session → List ℕ
 name_of s = (query_of s).id
 
-abbrev pub entry_of : Session → Entry
+abbrev pub entry_of : Session → OpenSession
 entry_of s = record { query = query_data (query_of s); k = k_of s; granted = granted_of s }
 
-abbrev pub entries_of : List Session → List Entry
+abbrev pub entries_of : List Session → List OpenSession
 entries_of sessions = map entry_of sessions
 
 abbrev pub state_of : Table → DeskState
 state_of table = record { sessions = entries_of table.sessions.items; frames = length table.pool.frames }
 
 -- what a report line tells of a session
-abbrev pub told_of : FileView → Entry → Told
+abbrev pub told_of : FileView → OpenSession → Told
 told_of file entry = record { report = session_report file entry; unknown = entry.query.unknown }
 
 -- ---- places

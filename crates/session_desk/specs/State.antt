@@ -8,14 +8,14 @@ use Rattle.index_layout.specs.View.{FileView}
 use Rattle.session_engine.specs.Plans.{need_of}
 
 -- an open session: its query, whose id is the session's name, how many documents are asked for, and the sum of its grants
-pub record Entry : Type 0 where
+pub record OpenSession : Type 0 where
   pub query : QueryData
   pub k : ℕ
   pub granted : ℕ
 
 -- the open sessions by opening, and the number of frames that they share
 pub record DeskState : Type 0 where
-  pub sessions : List Entry
+  pub sessions : List OpenSession
   pub frames : ℕ
 
 -- a desk over an index file
@@ -27,27 +27,27 @@ pub record DeskView : Type 0 where
 abbrev pub new_state : ℕ → DeskState
 new_state frames = record { sessions = []; frames = frames }
 
-abbrev pub is_named : List ℕ → Entry → Bool
+abbrev pub is_named : List ℕ → OpenSession → Bool
 is_named name entry = bytes_eq entry.query.id name
 
 -- the session of a name, where one is open
-abbrev pub session_named : List ℕ → DeskState → Option Entry
+abbrev pub session_named : List ℕ → DeskState → Option OpenSession
 session_named name state = find (is_named name) state.sessions
 
 -- the frames that sessions need at the most, and those that no open session may need
-abbrev pub needs : FileView → List Entry → ℕ
-needs file entries = sum_by (λ (e : Entry). need_of file e.query.terms) entries
+abbrev pub needs : FileView → List OpenSession → ℕ
+needs file entries = sum_by (λ (e : OpenSession). need_of file e.query.terms) entries
 
 abbrev pub spare_frames : FileView → DeskState → ℕ
 spare_frames file state = state.frames - needs file state.sessions
 
 -- a session to which a budget more is granted
-abbrev pub granted_more : Budget → Entry → Entry
+abbrev pub granted_more : Budget → OpenSession → OpenSession
 granted_more budget entry = record entry { granted = granted_with entry.granted budget }
 
 -- the sessions with that of a name changed, and without it
-abbrev pub with_named : List ℕ → (Entry → Entry) → List Entry → List Entry
-with_named name change entries = map (λ (e : Entry). if is_named name e then change e else e) entries
+abbrev pub with_named : List ℕ → (OpenSession → OpenSession) → List OpenSession → List OpenSession
+with_named name change entries = map (λ (e : OpenSession). if is_named name e then change e else e) entries
 
-abbrev pub without_named : List ℕ → List Entry → List Entry
-without_named name entries = filter (λ (e : Entry). not (is_named name e)) entries
+abbrev pub without_named : List ℕ → List OpenSession → List OpenSession
+without_named name entries = filter (λ (e : OpenSession). not (is_named name e)) entries

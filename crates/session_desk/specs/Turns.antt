@@ -2,7 +2,7 @@
 use Rattle.std.specs.Prelude.{ℕ, ◌+◌, List, [], ◌∷◌, ◌++◌, filter, Option, Some, None, if◌then◌else◌}
 use Rattle.std.specs.List.{concat}
 use Rattle.index_layout.specs.View.{FileView}
-use Rattle.session_desk.specs.State.{DeskState, Entry, is_named, new_state}
+use Rattle.session_desk.specs.State.{DeskState, OpenSession, is_named, new_state}
 use Rattle.session_desk.specs.Lines.{DeskCommand, Close, is_end, read_desk_line}
 use Rattle.session_desk.specs.Replies.{desk_after, desk_reply, desk_steps}
 
@@ -13,13 +13,13 @@ replies_from file state (line ∷ lines) =
     desk_reply file state line ∷ (if is_end line then [] else replies_from file (desk_after file state line) lines)
 
 -- the sessions that a line closes
-abbrev pub ended_by : DeskState → Option DeskCommand → List Entry
+abbrev pub ended_by : DeskState → Option DeskCommand → List OpenSession
 ended_by state (Some (Close name)) = filter (is_named name) state.sessions
 ended_by state (Some other) = []
 ended_by state None = []
 
 -- all sessions that are open or will be opened, each as it is in the end: those that lines close, and then the others
-unfoldable pub sessions_from : FileView → DeskState → List (List ℕ) → List Entry
+unfoldable pub sessions_from : FileView → DeskState → List (List ℕ) → List OpenSession
 sessions_from file state [] = state.sessions
 sessions_from file state (line ∷ lines) =
     ended_by state (read_desk_line line)

@@ -1,26 +1,27 @@
 ghost use Rattle.std.specs.Prelude.{◌≡◌, ◌≤◌, ◌+◌, ◌↔◌, IfOk, IsTrue, Ok, Some, length, option_map};
 ghost use Rattle.index_layout.specs.View.{FileView};
 ghost use Rattle.query_reader.specs.Slices.{blank_runs};
-ghost use Rattle.session_desk.specs.Commands.{FitsLine, command_data};
+ghost use Rattle.session_desk.specs.Private.Commands.{FitsLine, command_data};
 ghost use Rattle.session_desk.specs.Endings.{left_where, may_take_memory, text_where};
 ghost use Rattle.session_desk.specs.Lines.{Close, Grant, Open, Top, Why, is_end_command};
 ghost use Rattle.session_desk.specs.Replies.{after_of, command_after, command_reply, command_steps, end_text, reply_to, steps_of};
 ghost use Rattle.session_desk.specs.Standing.{TableStands, state_of};
-ghost use Rattle.trec_run.specs.Gathering.{Gathers};
+ghost use Rattle.gathered_text.specs.Gathering.{Gathers};
 
 use crate::command::Command;
-use crate::opening::OpenFault;
+use crate::opening::SessionFault;
 use crate::refusal::DeskRefusal;
 use crate::table::Table;
 use crate::texts::{gather_closed, gather_end, gather_hits, gather_opened, gather_refusal};
 use crate::went::Went;
+use gathered_text::Buffer;
 use index_file::IndexFile;
 use jass_base::{Budget, Sink, Steps, WriteFault};
 use ranking_model::laws::the_ranking_has_documents_of_the_scores;
 use session_engine::laws::a_session_plan_names_its_segments;
 use std::alloc::Global;
 use std::sync::ledger::Ledger;
-use trec_run::{Buffer, gather_report};
+use trec_run::gather_report;
 
 /// Gathers the reply to a command, or to a bad line where there is none. A command has its effect also where a put
 /// fails.
@@ -93,8 +94,8 @@ fn open<S: Sink>(
 {
     let gathered = match table.open(alloc, index, name, k, mentions) {
         Ok(opened) => gather_opened(out, buffer, name, opened.need, opened.unknown),
-        Err(OpenFault::Refused(refusal)) => gather_refusal(out, buffer, refusal),
-        Err(OpenFault::NoMemory) => return Ok(Went::NoMemory),
+        Err(SessionFault::Refused(refusal)) => gather_refusal(out, buffer, refusal),
+        Err(SessionFault::NoMemory) => return Ok(Went::NoMemory),
     };
     match gathered {
         Ok(()) => Ok(Went::On),

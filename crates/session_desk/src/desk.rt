@@ -1,21 +1,20 @@
 ghost use Rattle.std.specs.Prelude.{◌≡◌, ◌≤◌, ◌+◌, ◌↔◌, Ok, IfErr, IfOk, IsTrue};
-ghost use Rattle.jass_base.specs.Outside.{Wrote};
 ghost use Rattle.session_desk.specs.Endings.{left_where, may_want_memory, text_where};
 ghost use Rattle.session_desk.specs.Lines.{is_end};
 ghost use Rattle.session_desk.specs.Replies.{desk_after, desk_reply, desk_steps};
 ghost use Rattle.session_desk.specs.State.{new_state};
-ghost use Rattle.trec_run.specs.Gathering.{Gathers};
+ghost use Rattle.gathered_text.specs.Gathering.{Gathers};
 
 use crate::answering::answer;
 use crate::reading::read_command;
 use crate::table::Table;
 use crate::went::Went;
+use gathered_text::Buffer;
 use index_file::IndexFile;
 use jass_base::{NoMemory, Sink, Steps, WriteFault};
 use std::alloc::Global;
 use std::marker::Model;
 use std::sync::ledger::Ledger;
-use trec_run::{Buffer, flush};
 
 /// Up to 64 sessions over one index file, in the frames of one pool. It ends only by `close`.
 ///
@@ -57,38 +56,8 @@ impl Desk {
         }
     }
 
-    /// Answers a line, which has no line end, and puts the reply on the sink. The line has its effect also after a
-    /// `WriteFault`, and then a prefix of the reply went out.
-    pub fn command<S: Sink, L: Ledger>(
-        &mut self,
-        line: &[u8],
-        out: &mut S,
-        steps: &mut Steps<L>,
-    ) -> Result<Went, WriteFault>
-        ensures file { self.new.file ≡ self.old.file }
-        ensures reply { Wrote S.written S.faults S.rest out.old out.new
-            (text_where result (desk_reply self.old.file self.old.state line.now)) result }
-        ensures after { self.new.state ≡ left_where result self.old.state
-            (desk_after self.old.file self.old.state line.now) }
-        ensures steps { steps.new ≡ steps.old + desk_steps self.old.file self.old.state line.now }
-        ensures end { IfOk result (λ went. went ≡ Went.End ↔ IsTrue (is_end line.now)) }
-        ensures memory { IfOk result (λ went. went ≡ Went.NoMemory →
-            IsTrue (may_want_memory self.old.state line.now)) }
-        ensures untouched { result ≡ Ok Went.NoMemory → out.new ≡ out.old }
-    {
-        let mut buffer = Buffer::new();
-        match self.answer_line(line, out, &mut buffer, steps) {
-            Ok(Went::NoMemory) => Ok(Went::NoMemory),
-            Ok(went) => match flush(out, &mut buffer) {
-                Ok(()) => Ok(went),
-                Err(fault) => Err(fault),
-            },
-            Err(fault) => Err(fault),
-        }
-    }
-
-    /// Answers a line as `command` does, and gathers the reply behind others. After a `WriteFault` a prefix of what was
-    /// gathered before and of the reply went out.
+    /// Answers a line, which has no line end, and gathers the reply behind others. The line has its effect also after a
+    /// `WriteFault`, and then a prefix of what was gathered before and of the reply went out.
     pub fn answer_line<S: Sink, L: Ledger>(
         &mut self,
         line: &[u8],

@@ -20,7 +20,7 @@ ghost use Rattle.session_desk.specs.Alone.{after_lines, alone, budgets_in, does_
 ghost use Rattle.session_desk.specs.Lines.{Grant, Open, Top, Why, is_end, read_desk_line};
 ghost use Rattle.session_desk.specs.Replies.{desk_after, desk_refusal, desk_reply, desk_steps, newly_scored};
 ghost use Rattle.session_desk.specs.Replies.{opening, plan_of_session, refusal_line, scored_prefix, session_report};
-ghost use Rattle.session_desk.specs.State.{DeskState, Entry, granted_more, new_state, session_named};
+ghost use Rattle.session_desk.specs.State.{DeskState, OpenSession, granted_more, new_state, session_named};
 ghost use Rattle.session_desk.specs.Turns.{desk_postings, replies_from, sessions_from, steps_from};
 
 use final_certificate::laws::a_prefix_has_one_report;
@@ -60,14 +60,14 @@ pub fn refused_lines_leave_the_state()
 /// What is opened depends on its line and the index alone, has nothing granted, and is then found by its name.
 pub fn a_session_is_opened_by_its_line()
     ensures same { (file : FileView) (first second : DeskState) (name : List ℕ) (k : ℕ)
-        (words others : List (List ℕ)) (entry other : Entry) →
+        (words others : List (List ℕ)) (entry other : OpenSession) →
         map plain_mention words ≡ map plain_mention others →
         opening file first name k words ≡ Ok entry → opening file second name k others ≡ Ok other → entry ≡ other }
     ensures none { (file : FileView) (state : DeskState) (name : List ℕ) (k : ℕ) (words : List (List ℕ))
-        (entry : Entry) →
+        (entry : OpenSession) →
         opening file state name k words ≡ Ok entry → entry.granted ≡ 0 }
     ensures found { (file : FileView) (state : DeskState) (line name : List ℕ) (k : ℕ) (words : List (List ℕ))
-        (entry : Entry) →
+        (entry : OpenSession) →
         read_desk_line line ≡ Some (Open name k words) → opening file state name k words ≡ Ok entry →
         session_named name (desk_after file state line) ≡ Some entry }
 {}
@@ -76,17 +76,17 @@ pub fn a_session_is_opened_by_its_line()
 /// no other session, to these lines alone. So two sessions that were opened with the same name, k and mentions are told
 /// the same, whatever other lines stand before, between and after, and whatever the numbers of frames.
 pub fn sessions_are_answered_alone()
-    ensures alone { (file : FileView) (name : List ℕ) (state : DeskState) (entry : Entry) (lines : List (List ℕ))
+    ensures alone { (file : FileView) (name : List ℕ) (state : DeskState) (entry : OpenSession) (lines : List (List ℕ))
         (frames : ℕ) →
         session_named name state ≡ Some entry →
         own_replies file name state lines ≡ replies_from file (alone frames entry) (own_lines name lines) }
-    ensures same { (file : FileView) (name : List ℕ) (first second : DeskState) (entry : Entry)
+    ensures same { (file : FileView) (name : List ℕ) (first second : DeskState) (entry : OpenSession)
         (lines others : List (List ℕ)) →
         session_named name first ≡ Some entry → session_named name second ≡ Some entry →
         own_lines name lines ≡ own_lines name others →
         own_replies file name first lines ≡ own_replies file name second others }
     ensures opened { (file : FileView) (first second : DeskState) (line other name : List ℕ) (k : ℕ)
-        (words more : List (List ℕ)) (entry twin : Entry) (lines others : List (List ℕ)) →
+        (words more : List (List ℕ)) (entry twin : OpenSession) (lines others : List (List ℕ)) →
         read_desk_line line ≡ Some (Open name k words) → read_desk_line other ≡ Some (Open name k more) →
         map plain_mention words ≡ map plain_mention more →
         opening file first name k words ≡ Ok entry → opening file second name k more ≡ Ok twin →
@@ -97,7 +97,7 @@ pub fn sessions_are_answered_alone()
 
 /// Lines that don't close a session leave its query and k, and grant it the sum of the budgets that name it.
 pub fn a_session_has_the_sum_of_its_grants()
-    ensures { (file : FileView) (name : List ℕ) (state : DeskState) (entry : Entry) (budgets : List Budget)
+    ensures { (file : FileView) (name : List ℕ) (state : DeskState) (entry : OpenSession) (budgets : List Budget)
         (lines : List (List ℕ)) →
         session_named name state ≡ Some entry → entry.granted ≡ granted_sum budgets →
         AllByRecursion (λ line. does_close name line ≡ false) lines →
@@ -107,24 +107,26 @@ pub fn a_session_has_the_sum_of_its_grants()
 
 /// Each report and answer of a session is that of one search alone with the sum of its grants.
 pub fn sessions_answer_as_one_search()
-    ensures grant { (file : FileView) (state : DeskState) (line name : List ℕ) (entry : Entry) (budgets : List Budget)
-        (budget : Budget) →
+    ensures grant { (file : FileView) (state : DeskState) (line name : List ℕ) (entry : OpenSession)
+        (budgets : List Budget) (budget : Budget) →
         read_desk_line line ≡ Some (Grant name budget) → session_named name state ≡ Some entry →
         entry.granted ≡ granted_sum budgets →
         let plan = plan_of_session file entry in
-        let prefix = prefix_within (granted_sum (budgets ++ budget ∷ [])) plan.classes in
+        let prefix = prefix_within (granted_sum (budgets ++ budget ∷ [])) plan.segments in
         desk_reply file state line ≡ report_line entry.query.id (report_by prefix plan entry.k) entry.query.unknown }
-    ensures why { (file : FileView) (state : DeskState) (line name : List ℕ) (entry : Entry) (budgets : List Budget) →
+    ensures why { (file : FileView) (state : DeskState) (line name : List ℕ) (entry : OpenSession)
+        (budgets : List Budget) →
         read_desk_line line ≡ Some (Why name) → session_named name state ≡ Some entry →
         entry.granted ≡ granted_sum budgets →
         let plan = plan_of_session file entry in
-        let prefix = prefix_within (granted_sum budgets) plan.classes in
+        let prefix = prefix_within (granted_sum budgets) plan.segments in
         desk_reply file state line ≡ report_line entry.query.id (report_by prefix plan entry.k) entry.query.unknown }
-    ensures top { (file : FileView) (state : DeskState) (line name : List ℕ) (entry : Entry) (budgets : List Budget) →
+    ensures top { (file : FileView) (state : DeskState) (line name : List ℕ) (entry : OpenSession)
+        (budgets : List Budget) →
         read_desk_line line ≡ Some (Top name) → session_named name state ≡ Some entry →
         entry.granted ≡ granted_sum budgets →
         let plan = plan_of_session file entry in
-        let prefix = prefix_within (granted_sum budgets) plan.classes in
+        let prefix = prefix_within (granted_sum budgets) plan.segments in
         desk_reply file state line
         ≡ codes "hits " ++ (decimal (length (top_k prefix plan entry.k)) ++ (codes "\n"
         ++ query_run file.index.names plan entry.query.id entry.k (prefix ∷ []) (codes "jass"))) }
@@ -134,9 +136,9 @@ pub fn sessions_answer_as_one_search()
 /// prefix.
 #[tactic(auto, unfolding(crate::specs::Replies::session_report))]
 pub fn reports_of_desks_keep_their_promises()
-    ensures report { (file : FileView) (entry : Entry) →
+    ensures report { (file : FileView) (entry : OpenSession) →
         IsReport (scored_prefix file entry) (plan_of_session file entry) entry.k (session_report file entry) }
-    ensures promised { (file : FileView) (entry : Entry) → IsFileView file →
+    ensures promised { (file : FileView) (entry : OpenSession) → IsFileView file →
         IsPromised (weighted_postings (numbered_flat file.index) entry.query.terms) (scored_prefix file entry)
         (plan_of_session file entry) entry.k (session_report file entry) }
 {
@@ -149,7 +151,7 @@ pub fn reports_of_desks_keep_their_promises()
 pub fn the_steps_are_those_of_the_sessions()
     ensures { (file : FileView) (frames : ℕ) (lines : List (List ℕ)) →
         desk_postings file frames lines
-        ≡ sum_by (λ (e : Entry). (session_report file e).postings) (sessions_from file (new_state frames) lines) }
+        ≡ sum_by (λ (e : OpenSession). (session_report file e).postings) (sessions_from file (new_state frames) lines) }
 {
     the_prefix_is_the_longest();
     a_prefix_is_resumed();
@@ -158,11 +160,11 @@ pub fn the_steps_are_those_of_the_sessions()
 /// The postings that are scored for a session are at most the sum of its grants. A grant scores what it adds to them,
 /// and a second grant of all adds nothing.
 pub fn grants_pay_for_the_steps()
-    ensures most { (file : FileView) (entry : Entry) → (session_report file entry).postings ≤ entry.granted }
-    ensures paid { (file : FileView) (entry : Entry) (budget : Budget) → entry.granted ≤ 2 ^ 64 - 1 →
+    ensures most { (file : FileView) (entry : OpenSession) → (session_report file entry).postings ≤ entry.granted }
+    ensures paid { (file : FileView) (entry : OpenSession) (budget : Budget) → entry.granted ≤ 2 ^ 64 - 1 →
         (session_report file entry).postings + newly_scored file budget entry
         ≡ (session_report file (granted_more budget entry)).postings }
-    ensures again { (file : FileView) (entry : Entry) → newly_scored file All (granted_more All entry) ≡ 0 }
+    ensures again { (file : FileView) (entry : OpenSession) → newly_scored file All (granted_more All entry) ≡ 0 }
 {
     the_prefix_is_the_longest();
     a_prefix_is_resumed();

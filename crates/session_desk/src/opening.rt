@@ -4,7 +4,7 @@ ghost use Rattle.query_reader.specs.Queries.{query_data};
 ghost use Rattle.query_reader.specs.Slices.{blank_runs};
 ghost use Rattle.session_engine.specs.Plans.{AreKnown};
 ghost use Rattle.session_engine.specs.declared.session.Session.{Session};
-ghost use Rattle.session_desk.specs.Opening.{Opens, refuses};
+ghost use Rattle.session_desk.specs.Private.Opening.{Opens, refuses};
 ghost use Rattle.session_desk.specs.Replies.{fitting, has_room, opening, room_refusal};
 ghost use Rattle.session_desk.specs.Standing.{Differ, TableStands, name_of, state_of};
 
@@ -30,7 +30,7 @@ pub struct Opened {
 
 /// Why no session was opened.
 #[derive(Clone, Copy)]
-pub enum OpenFault {
+pub enum SessionFault {
     Refused(DeskRefusal),
     NoMemory,
 }
@@ -44,7 +44,7 @@ impl Table {
         name: &str,
         k: u32,
         mentions: &str,
-    ) -> Result<Opened, OpenFault>
+    ) -> Result<Opened, SessionFault>
         requires stands { TableStands index.now self.old }
         requires some { 1 ≤ k }
         requires few { k ≤ 100000 }
@@ -52,15 +52,15 @@ impl Table {
         ensures stands { TableStands index.now self.new }
         ensures opens { Opens index.now (opening index.now (state_of self.old) name.now k (blank_runs mentions.now))
             name.now (state_of self.old) (state_of self.new) result }
-        ensures memory { IsErrOf result OpenFault.NoMemory → IsTrue (has_room name.now (state_of self.old)) }
+        ensures memory { IsErrOf result SessionFault.NoMemory → IsTrue (has_room name.now (state_of self.old)) }
     {
         match self.room_refusal(name) {
-            Some(refusal) => return Err(OpenFault::Refused(refusal)),
+            Some(refusal) => return Err(SessionFault::Refused(refusal)),
             None => {}
         }
         match read_terms(alloc, name, mentions, Mode::Plain, index) {
             Ok(query) => self.add(alloc, index, query, k),
-            Err(fault) => Err(open_fault(fault)),
+            Err(fault) => Err(session_fault(fault)),
         }
     }
 
@@ -88,7 +88,7 @@ impl Table {
         index: &IndexFile,
         query: Query,
         k: u32,
-    ) -> Result<Opened, OpenFault>
+    ) -> Result<Opened, SessionFault>
         requires stands { TableStands index.now self.old }
         requires others { AllByRecursion (λ (s : Session). name_of s ≢ query.id) self.old.sessions.items }
         requires room { length self.old.sessions.items < 64 }
@@ -110,22 +110,22 @@ impl Table {
                 Ok(Opened { need, unknown })
             }
             Err(OpenStop::PoolFull { need, free }) => {
-                Err(OpenFault::Refused(DeskRefusal::PoolFull { need, free }))
+                Err(SessionFault::Refused(DeskRefusal::PoolFull { need, free }))
             }
-            Err(OpenStop::NoMemory) => Err(OpenFault::NoMemory),
+            Err(OpenStop::NoMemory) => Err(SessionFault::NoMemory),
         }
     }
 }
 
 /// What a fault of mentions is at a desk.
-fn open_fault(fault: QueryFault) -> OpenFault
+fn session_fault(fault: QueryFault) -> SessionFault
     ensures { result ≡ refuses fault }
 {
     match fault {
-        QueryFault::NoMemory => OpenFault::NoMemory,
+        QueryFault::NoMemory => SessionFault::NoMemory,
         QueryFault::Refused(refusal) => match refusal.why {
-            QueryWhy::Terms => OpenFault::Refused(DeskRefusal::TooManyTerms),
-            _ => OpenFault::Refused(DeskRefusal::NamedTooOften),
+            QueryWhy::Terms => SessionFault::Refused(DeskRefusal::TooManyTerms),
+            _ => SessionFault::Refused(DeskRefusal::NamedTooOften),
         },
     }
 }

@@ -2,7 +2,7 @@ ghost use Rattle.std.specs.Prelude.{◌≡◌, ◌≤◌, length, IfSome};
 ghost use Rattle.std.specs.List.{list_all};
 ghost use Rattle.std.specs.Option.{option_map};
 ghost use Rattle.query_reader.specs.Slices.{blank_runs};
-ghost use Rattle.session_desk.specs.Commands.{FitsLine, command_data, name_data};
+ghost use Rattle.session_desk.specs.Private.Commands.{FitsLine, command_data, name_data};
 ghost use Rattle.session_desk.specs.Lines.{budget_of, command_of, end_of, grant_of, is_name, is_name_byte, k_of, only_name, open_of, read_desk_line};
 
 use crate::command::Command;

@@ -3,6 +3,7 @@
 ghost use Rattle.std.specs.Prelude.{◌≡◌, ◌≤◌, ◌<◌};
 
 use crate::{Desk, Went};
+use gathered_text::{Buffer, flush};
 use index_file::IndexFile;
 use itoa::Buffer as Digits;
 use jass_base::{MemSink, Row, Sink, Steps, WriteFault};
@@ -121,18 +122,21 @@ fn file_of(alloc: Global, terms: Terms<'_>) -> Result<IndexFile, AllocError> {
     }
 }
 
-/// Answers the lines of a script, each of which ends with a line feed, as far as nothing fails.
+/// Answers the lines of a script, each of which ends with a line feed, and puts each reply by itself, as far as nothing
+/// fails.
 fn answer_all<S: Sink, L: Ledger>(
     desk: &mut Desk,
     script: &[u8],
     out: &mut S,
     steps: &mut Steps<L>,
 ) -> Result<Went, WriteFault> {
+    let mut buffer = Buffer::new();
     let mut rest = script;
     let mut went = Went::On;
     while let Some(end) = memchr(b'\n', rest) {
         let (line, behind) = rest.split_at(end);
-        went = desk.command(line, out, steps)?;
+        went = desk.answer_line(line, out, &mut buffer, steps)?;
+        flush(out, &mut buffer)?;
         rest = &behind[1..];
     }
     Ok(went)

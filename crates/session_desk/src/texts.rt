@@ -1,12 +1,13 @@
 ghost use Rattle.std.specs.Prelude.{ℕ, ◌≡◌, ◌<◌, ◌++◌, All, codes, decimal, length};
 ghost use Rattle.jass_base.specs.declared.answer.Hit.{Hit};
 ghost use Rattle.session_desk.specs.Replies.{answer_lines, closed_text, end_text, opened_line, refusal_line};
-ghost use Rattle.trec_run.specs.Gathering.{Gathers};
+ghost use Rattle.gathered_text.specs.Gathering.{Gathers};
 
 use crate::refusal::DeskRefusal;
+use gathered_text::{Buffer, gather_all};
 use itoa::Buffer as Digits;
 use jass_base::{Hit, Names, Sink, WriteFault};
-use trec_run::{Buffer, gather_all, gather_answer};
+use trec_run::gather_answer;
 
 /// The tag of the run lines of an answer.
 const TAG: &str = "jass";

@@ -38,7 +38,7 @@ row_parted bits row end inside is =
           ∙ sym (none_behind bits (row + 1) (omega (arith, short)))
       | inr full ↦
           let next : base + 8 * length (take size rest) ≡ 128 * (row + 1) = omega (arith, long, is, full) in
-          let place : 16 * row + size ≡ 16 * (row + 1) = omega (arith, is, full) in
+          let term_place : 16 * row + size ≡ 16 * (row + 1) = omega (arith, is, full) in
           ap (λ n. set_bits n (drop size rest)) next
-          ∙ ap (set_bits (128 * (row + 1))) (drop-drop size (16 * row) bits ∙ ap (λ n. drop n bits) place)
+          ∙ ap (set_bits (128 * (row + 1))) (drop-drop size (16 * row) bits ∙ ap (λ n. drop n bits) term_place)
     ])

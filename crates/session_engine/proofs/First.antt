@@ -7,37 +7,37 @@ use Rattle.std.proofs.lemmas.List.Elements.{recursion_from_All}
 use Rattle.std.proofs.lemmas.List.FromFn.{length-range_with_len}
 use Rattle.std.proofs.lemmas.List.Sums.{sum_by-cons}
 use Rattle.jass_base.specs.declared.faults.NoMemory.{NoMemory}
-use Rattle.jass_base.specs.declared.named.Named.{Named}
+use Rattle.jass_base.specs.declared.query_term.QueryTerm.{QueryTerm}
 use Rattle.frame_pool.specs.Pool.{ChainEntry, PoolView, Promises}
 use Rattle.index_layout.specs.View.{FileView}
 use Rattle.index_model.specs.Index.{IndexData}
-use Rattle.ranking_model.specs.declared.class.Class.{Class}
+use Rattle.ranking_model.specs.declared.plan_segment.PlanSegment.{PlanSegment}
 use Rattle.ranking_model.specs.declared.plan.QueryPlan.{QueryPlan}
 use Rattle.ranking_model.specs.Plan.{size_of_first}
 use Rattle.ranking_model.specs.Scores.{scores_after}
 use Rattle.segment_plan.specs.declared.entry.PlanEntry.{PlanEntry}
 use Rattle.segment_plan.specs.declared.entry.PlanHead.{PlanHead}
 use Rattle.segment_plan.specs.Entries.{PlanView, plan_with}
-use Rattle.session_engine.specs.Plans.{AreKnown, NamesSegment, class_named, query_heads}
+use Rattle.session_engine.specs.Plans.{AreKnown, NamesSegment, segment_named, query_heads}
 use Rattle.session_engine.specs.Standing.{IsPlanned}
 
-abbrev size : Class → ℕ
-size class = length class.docs
+abbrev size : PlanSegment → ℕ
+size segment = length segment.docs
 
--- a class isn't paid for by nothing
-none_paid : (classes : List Class) (n : ℕ) → AllByRecursion (λ (c : Class). 1 ≤ length c.docs) classes → n ≤ length classes → size_of_first n classes ≤ 0 → n ≡ 0
-none_paid classes zero some within paid = refl
+-- a segment isn't paid for by nothing
+none_paid : (segments : List PlanSegment) (n : ℕ) → AllByRecursion (λ (c : PlanSegment). 1 ≤ length c.docs) segments → n ≤ length segments → size_of_first n segments ≤ 0 → n ≡ 0
+none_paid segments zero some within paid = refl
 none_paid [] (suc n) some within paid = absurd (omega (arith, within))
 none_paid (c ∷ cs) (suc n) some within paid = let first = sum_by-cons size c (take n cs) in let one = some.0 in absurd (omega (arith, first, one, paid))
 
-named_some : (index : IndexData) (terms : List Named) (entries : List PlanEntry) → AllByRecursion (NamesSegment index terms) entries → AllByRecursion (λ (c : Class). 1 ≤ length c.docs) (map (class_named index terms) entries)
+named_some : (index : IndexData) (terms : List QueryTerm) (entries : List PlanEntry) → AllByRecursion (NamesSegment index terms) entries → AllByRecursion (λ (c : PlanSegment). 1 ≤ length c.docs) (map (segment_named index terms) entries)
 named_some index terms [] h = tt
 named_some index terms (e ∷ es) h = ((let count = h.0.count in let some = h.0.some in omega arith), named_some index terms es h.1)
 
-pub none_at_first : (index : IndexData) (terms : List Named) (entries : List PlanEntry) (classes : List Class) (n : ℕ) → All (NamesSegment index terms) entries → classes ≡ map (class_named index terms) entries
-    → n ≤ length classes → size_of_first n classes ≤ 0 → n ≡ 0
-none_at_first index terms entries classes n names is within paid =
-    none_paid classes n (subst (AllByRecursion (λ (c : Class). 1 ≤ length c.docs)) (sym is) (named_some index terms entries (recursion_from_All (NamesSegment index terms) entries names))) within paid
+pub none_at_first : (index : IndexData) (terms : List QueryTerm) (entries : List PlanEntry) (segments : List PlanSegment) (n : ℕ) → All (NamesSegment index terms) entries → segments ≡ map (segment_named index terms) entries
+    → n ≤ length segments → size_of_first n segments ≤ 0 → n ≡ 0
+none_at_first index terms entries segments n names is within paid =
+    none_paid segments n (subst (AllByRecursion (λ (c : PlanSegment). 1 ≤ length c.docs)) (sym is) (named_some index terms entries (recursion_from_All (NamesSegment index terms) entries names))) within paid
 
 all_zero : (xs : List ℕ) → map {B = ℕ} (λ (x : ℕ). 0) xs ≡ replicate (length xs) 0
 all_zero [] = refl
@@ -56,7 +56,7 @@ given_back old promised new chain other n is same frames chains =
     (λ i. record { frames = one i; chains = two i })
 
 -- the plan of the heads that were gathered
-pub planned : (file : FileView) (terms : List Named) (heads : List PlanHead) (r : Result PlanView NoMemory) → AreKnown file terms → All (λ (n : Named). n.times ≤ 255) terms → heads ≡ query_heads file.index terms
+pub planned : (file : FileView) (terms : List QueryTerm) (heads : List PlanHead) (r : Result PlanView NoMemory) → AreKnown file terms → All (λ (n : QueryTerm). n.times ≤ 255) terms → heads ≡ query_heads file.index terms
     → IfOk r (λ plan. plan ≡ plan_with terms heads) → IfOk r (λ plan. IsPlanned file terms plan)
 planned file terms heads (Ok plan) known times is made = record { known = known; times = times; arranged = made ∙ ap (plan_with terms) is }
 planned file terms heads (Err e) known times is made = tt

@@ -2,9 +2,8 @@
 use Rattle.std.proofs.Common.{◌≡◌, ℕ, suc, ◌+◌, ◌<◌, ◌≤◌, min, List, [], ◌∷◌, ◌++◌, length, get_or, drop, sym, ap, ◌∙◌, arith, append_assoc, append-nil}
 use Rattle.std.specs.Prelude.{sum_by}
 use Rattle.std.proofs.lemmas.List.Sums.{sum_by-cons}
-use Rattle.std.proofs.lemmas.List.{drop_all}
-use Rattle.std.proofs.Math.Seq.{drop-cons}
-use Rattle.jass_base.specs.declared.named.Named.{Named}
+use Rattle.std.proofs.lemmas.List.{drop_all, drop_more}
+use Rattle.jass_base.specs.declared.query_term.QueryTerm.{QueryTerm}
 use Rattle.index_model.specs.Index.{SegmentData, TermData}
 use Rattle.index_model.specs.Querying.{segments_at}
 use Rattle.segment_plan.specs.declared.entry.PlanHead.{PlanHead}
@@ -16,56 +15,49 @@ no_segment = record { impact = 0; docs = [] }
 abbrev pub size : SegmentData → ℕ
 size s = length s.docs
 
--- what is left is one item and the rest
-abbrev item : {A : Type 0} → List A → ℕ → A → A
-item xs i d = get_or xs i d
-
-opened : {A : Type 0} (xs : List A) (i : ℕ) (d : A) → i < length xs → drop i xs ≡ get_or xs i d ∷ drop (i + 1) xs
-opened xs i d inside = let one : i + 1 ≡ suc i = omega arith in drop-cons xs i d inside ∙ ap (λ n. get_or xs i d ∷ drop n xs) (sym one)
-
 pub sum_step : {A : Type 0} (f : A → ℕ) (xs : List A) (i limit sum new count : ℕ) (d : A) → i < length xs
     → new ≡ min limit (sum + f (get_or xs i d))
     → min limit (sum + sum_by f (drop i xs)) ≡ min limit count
     → min limit (new + sum_by f (drop (i + 1) xs)) ≡ min limit count
 sum_step f xs i limit sum new count d inside now is =
-    let left : sum_by f (drop i xs) ≡ f (get_or xs i d) + sum_by f (drop (i + 1) xs) = ap (sum_by f) (opened xs i d inside) ∙ sum_by-cons f (get_or xs i d) (drop (i + 1) xs) in
+    let left : sum_by f (drop i xs) ≡ f (get_or xs i d) + sum_by f (drop (i + 1) xs) = ap (sum_by f) (drop_more xs i d inside) ∙ sum_by-cons f (get_or xs i d) (drop (i + 1) xs) in
     omega arith
 
 pub counted_all : {A : Type 0} (f : A → ℕ) (xs : List A) (i sum limit count : ℕ) → length xs ≤ i → sum ≤ limit
     → min limit (sum + sum_by f (drop i xs)) ≡ min limit count → sum ≡ min limit count
 counted_all f xs i sum limit count past low is = let none : sum_by f (drop i xs) ≡ 0 = ap (sum_by f) (drop_all i xs past) in omega arith
 
-pub heads_step : (place i : ℕ) (segments : List SegmentData) (items all : List PlanHead) (impact count : ℕ) → i < length segments
+pub heads_step : (term_place i : ℕ) (segments : List SegmentData) (items all : List PlanHead) (impact count : ℕ) → i < length segments
     → impact ≡ (get_or segments i no_segment).impact → count ≡ length (get_or segments i no_segment).docs
-    → items ++ heads_at place i (drop i segments) ≡ all
-    → (items ++ record { place = place; segment = i; impact = impact; count = count } ∷ []) ++ heads_at place (i + 1) (drop (i + 1) segments) ≡ all
-heads_step place i segments items all impact count inside impacts counts is =
-    let head : PlanHead = record { place = place; segment = i; impact = impact; count = count } in
+    → items ++ heads_at term_place i (drop i segments) ≡ all
+    → (items ++ record { term_place = term_place; segment = i; impact = impact; count = count } ∷ []) ++ heads_at term_place (i + 1) (drop (i + 1) segments) ≡ all
+heads_step term_place i segments items all impact count inside impacts counts is =
+    let head : PlanHead = record { term_place = term_place; segment = i; impact = impact; count = count } in
     let one : suc i ≡ i + 1 = omega arith in
-    let left : heads_at place i (drop i segments) ≡ head ∷ heads_at place (i + 1) (drop (i + 1) segments)
-    = ap (heads_at place i) (opened segments i no_segment inside)
-    ∙ (λ k. record { place = place; segment = i; impact = sym impacts k; count = sym counts k } ∷ heads_at place (one k) (drop (i + 1) segments)) in
-    append_assoc items (head ∷ []) (heads_at place (i + 1) (drop (i + 1) segments)) ∙ ap (λ (hs : List PlanHead). items ++ hs) (sym left) ∙ is
+    let left : heads_at term_place i (drop i segments) ≡ head ∷ heads_at term_place (i + 1) (drop (i + 1) segments)
+    = ap (heads_at term_place i) (drop_more segments i no_segment inside)
+    ∙ (λ k. record { term_place = term_place; segment = i; impact = sym impacts k; count = sym counts k } ∷ heads_at term_place (one k) (drop (i + 1) segments)) in
+    append_assoc items (head ∷ []) (heads_at term_place (i + 1) (drop (i + 1) segments)) ∙ ap (λ (hs : List PlanHead). items ++ hs) (sym left) ∙ is
 
-abbrev pub no_term : Named
+abbrev pub no_term : QueryTerm
 no_term = record { term = 0; times = 0 }
 
-pub terms_step : (i place : ℕ) (query : List Named) (terms : List TermData) (items new all : List PlanHead) → i < length query → place ≡ i
-    → new ≡ items ++ heads_at place 0 (segments_at terms (get_or query i no_term).term)
+pub terms_step : (i term_place : ℕ) (query : List QueryTerm) (terms : List TermData) (items new all : List PlanHead) → i < length query → term_place ≡ i
+    → new ≡ items ++ heads_at term_place 0 (segments_at terms (get_or query i no_term).term)
     → items ++ heads_from i (drop i query) terms ≡ all
     → new ++ heads_from (i + 1) (drop (i + 1) query) terms ≡ all
-terms_step i place query terms items new all inside same grown is =
-    let named : Named = get_or query i no_term in
+terms_step i term_place query terms items new all inside same grown is =
+    let named : QueryTerm = get_or query i no_term in
     let here : List PlanHead = heads_at i 0 (segments_at terms named.term) in
     let one : suc i ≡ i + 1 = omega arith in
     let left : heads_from i (drop i query) terms ≡ here ++ heads_from (i + 1) (drop (i + 1) query) terms
-    = ap (λ (ns : List Named). heads_from i ns terms) (opened query i no_term inside)
+    = ap (λ (ns : List QueryTerm). heads_from i ns terms) (drop_more query i no_term inside)
     ∙ (λ k. here ++ heads_from (one k) (drop (i + 1) query) terms) in
     ap (λ (hs : List PlanHead). hs ++ heads_from (i + 1) (drop (i + 1) query) terms) (grown ∙ ap (λ n. items ++ heads_at n 0 (segments_at terms named.term)) same)
     ∙ append_assoc items here (heads_from (i + 1) (drop (i + 1) query) terms) ∙ ap (λ (hs : List PlanHead). items ++ hs) (sym left) ∙ is
 
-pub heads_all : (place i : ℕ) (segments : List SegmentData) (items all : List PlanHead) → length segments ≤ i → items ++ heads_at place i (drop i segments) ≡ all → items ≡ all
-heads_all place i segments items all past is = sym (append-nil items) ∙ ap (λ (ss : List SegmentData). items ++ heads_at place i ss) (sym (drop_all i segments past)) ∙ is
+pub heads_all : (term_place i : ℕ) (segments : List SegmentData) (items all : List PlanHead) → length segments ≤ i → items ++ heads_at term_place i (drop i segments) ≡ all → items ≡ all
+heads_all term_place i segments items all past is = sym (append-nil items) ∙ ap (λ (ss : List SegmentData). items ++ heads_at term_place i ss) (sym (drop_all i segments past)) ∙ is
 
-pub terms_all : (i : ℕ) (query : List Named) (terms : List TermData) (items all : List PlanHead) → length query ≤ i → items ++ heads_from i (drop i query) terms ≡ all → items ≡ all
-terms_all i query terms items all past is = sym (append-nil items) ∙ ap (λ (ns : List Named). items ++ heads_from i ns terms) (sym (drop_all i query past)) ∙ is
+pub terms_all : (i : ℕ) (query : List QueryTerm) (terms : List TermData) (items all : List PlanHead) → length query ≤ i → items ++ heads_from i (drop i query) terms ≡ all → items ≡ all
+terms_all i query terms items all past is = sym (append-nil items) ∙ ap (λ (ns : List QueryTerm). items ++ heads_from i ns terms) (sym (drop_all i query past)) ∙ is

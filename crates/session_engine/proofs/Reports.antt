@@ -10,7 +10,7 @@ use Rattle.ranking_model.specs.Scores.{bound_after, first_ranked, least_untouche
 use Rattle.final_certificate.specs.Rule.{grade_by, report_by}
 
 pub reported : (n : ℕ) (plan : QueryPlan) (k postings of cutoff next bound : ℕ) (grade : Grade) (hits : List Hit) (up : Option Hit) (untouched : Option ℕ)
-    → postings ≡ size_of_first n plan.classes → of ≡ length plan.classes → cutoff ≡ cutoff_after n plan.classes → next ≡ next_after n plan.classes → bound ≡ bound_after n plan
+    → postings ≡ size_of_first n plan.segments → of ≡ length plan.segments → cutoff ≡ cutoff_after n plan.segments → next ≡ next_after n plan.segments → bound ≡ bound_after n plan
     → grade ≡ grade_by k bound (record { hits = hits; runner_up = up; least_untouched = untouched })
     → hits ≡ first_ranked (scores_after n plan) k → up ≡ runner_up (scores_after n plan) k → untouched ≡ least_untouched (scores_after n plan)
     → (let r : Report = record { postings = postings; segments = n; of = of; cutoff = cutoff; next = next; bound = bound; grade = grade } in r) ≡ report_by n plan k

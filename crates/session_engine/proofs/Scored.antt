@@ -6,20 +6,20 @@ use Rattle.frame_pool.specs.ChainView.{LeavesPool, chain_view}
 use Rattle.accumulator_pages.specs.Adding.{page_count}
 use Rattle.accumulator_pages.specs.Pages.{HasRoomFor}
 use Rattle.ranking_model.specs.declared.plan.QueryPlan.{QueryPlan}
-use Rattle.ranking_model.specs.declared.class.Class.{Class}
+use Rattle.ranking_model.specs.declared.plan_segment.PlanSegment.{PlanSegment}
 use Rattle.ranking_model.specs.Plan.{prefix_within, size_of_first}
 use Rattle.ranking_model.specs.Scores.{added, scores_after}
 use Rattle.session_scores.specs.declared.scores.Scores.{Scores}
 use Rattle.session_scores.specs.Scores.{AreScoresOf, ScoresStand, docs_of, own_chain, own_view, scores_of}
 use Rattle.session_engine.specs.Standing.{ScoredTo}
 
--- the classes of a plan from one on up to another are scored, and their postings are counted
+-- the segments of a plan from one on up to another are scored, and their postings are counted
 pub record Progress (from i need : ℕ) (plan : QueryPlan) (first : Scores) (old : PoolView) (now : Scores) (new : PoolView) (before steps postings : ℕ) : Type 0 where
   pub scored : ScoredTo i plan need now new
   pub same : AreScoresOf first now
   pub leaves : LeavesPool old new (own_chain first)
   pub counted : steps ≡ before + postings
-  pub paid : size_of_first from plan.classes + postings ≡ size_of_first i plan.classes
+  pub paid : size_of_first from plan.segments + postings ≡ size_of_first i plan.segments
 
 pub started : (from need : ℕ) (plan : QueryPlan) (first : Scores) (old : PoolView) (steps : ℕ) → ScoredTo from plan need first old → LeavesPool old old (own_chain first) → Progress from from need plan first old first old steps steps 0
 started from need plan first old steps scored leaves = record {
@@ -36,7 +36,7 @@ module _ {from i need : ℕ} {plan : QueryPlan} {first : Scores} {old : PoolView
       → All (λ score. score < 2 ^ 32) (added weight docs (scores_of now new))
   fits_next weight docs next all = subst (λ (l : List ℕ). All (λ score. score < 2 ^ 32) l) (next ∙ ap (added weight docs) (sym progress.scored.sums)) all
 
-  pub room_next : (count names all : ℕ) → size_of_first (i + 1) plan.classes ≡ size_of_first i plan.classes + count → size_of_first (i + 1) plan.classes ≤ all → plan.docs ≡ names → need ≡ min (page_count names) all
+  pub room_next : (count names all : ℕ) → size_of_first (i + 1) plan.segments ≡ size_of_first i plan.segments + count → size_of_first (i + 1) plan.segments ≤ all → plan.docs ≡ names → need ≡ min (page_count names) all
       → HasRoomFor (own_view now new) (docs_of now) count
   room_next count names all next most docs needs =
       let pages : page_count (docs_of now) ≡ page_count names = ap page_count (progress.scored.docs ∙ docs) in
@@ -44,11 +44,11 @@ module _ {from i need : ℕ} {plan : QueryPlan} {first : Scores} {old : PoolView
       let promise = progress.scored.promise in
       omega arith
 
-  pub fits_count : (count all : ℕ) → size_of_first (i + 1) plan.classes ≡ size_of_first i plan.classes + count → size_of_first (i + 1) plan.classes ≤ all → all < 2 ^ 32 → postings + count < 2 ^ 32
+  pub fits_count : (count all : ℕ) → size_of_first (i + 1) plan.segments ≡ size_of_first i plan.segments + count → size_of_first (i + 1) plan.segments ≤ all → all < 2 ^ 32 → postings + count < 2 ^ 32
   fits_count count all next most small = let paid = progress.paid in omega arith
 
   pub next : (count weight : ℕ) (docs : List ℕ) (later : Scores) (pool : PoolView) (after : ℕ) → scores_after (i + 1) plan ≡ added weight docs (scores_after i plan)
-      → size_of_first (i + 1) plan.classes ≡ size_of_first i plan.classes + count
+      → size_of_first (i + 1) plan.segments ≡ size_of_first i plan.segments + count
       → scores_of later pool ≡ added weight docs (scores_of now new) → length (own_view later pool).frames ≤ length (own_view now new).frames + count → ScoresStand later pool → AreScoresOf now later
       → LeavesPool new pool (own_chain now) → after ≡ steps + count
       → ((a b c : PoolView) (chain : ℕ) → LeavesPool a b chain → LeavesPool b c chain → LeavesPool a c chain)
@@ -81,8 +81,8 @@ after_settle {after = after} was stand scores frames same leaves = record {
 }
 
 -- the prefix that more grants pay for
-pub prefix_grown : (n granted more postings further : ℕ) (classes : List Class) → n ≡ prefix_within granted classes → granted ≤ more → postings ≡ size_of_first n classes → further ≡ prefix_within (more - postings) (drop n classes)
-    → ((before budget n : ℕ) (classes : List Class) → n ≡ prefix_within before classes → before ≤ budget → prefix_within budget classes ≡ n + prefix_within (budget - size_of_first n classes) (drop n classes))
-    → n + further ≡ prefix_within more classes
-prefix_grown n granted more postings further classes is low paid found resumed =
-    ap (λ k. n + k) (found ∙ ap (λ p. prefix_within (more - p) (drop n classes)) paid) ∙ sym (resumed granted more n classes is low)
+pub prefix_grown : (n granted more postings further : ℕ) (segments : List PlanSegment) → n ≡ prefix_within granted segments → granted ≤ more → postings ≡ size_of_first n segments → further ≡ prefix_within (more - postings) (drop n segments)
+    → ((before budget n : ℕ) (segments : List PlanSegment) → n ≡ prefix_within before segments → before ≤ budget → prefix_within budget segments ≡ n + prefix_within (budget - size_of_first n segments) (drop n segments))
+    → n + further ≡ prefix_within more segments
+prefix_grown n granted more postings further segments is low paid found resumed =
+    ap (λ k. n + k) (found ∙ ap (λ p. prefix_within (more - p) (drop n segments)) paid) ∙ sym (resumed granted more n segments is low)

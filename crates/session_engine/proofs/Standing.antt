@@ -24,7 +24,7 @@ module _
         stand = stands s.scores old new chain leaves other is.scored.stand;
         docs = is.scored.docs;
         sums = same s.scores old new chain leaves other ∙ is.scored.sums;
-        frames = subst (λ (v : ChainView). length v.frames ≤ size_of_first s.scored (plan_over file s).classes) (sym (view s.scores old new chain leaves other)) is.scored.frames;
+        frames = subst (λ (v : ChainView). length v.frames ≤ size_of_first s.scored (plan_over file s).segments) (sym (view s.scores old new chain leaves other)) is.scored.frames;
         promise = ap (λ (v : ChainView). v.promise) (view s.scores old new chain leaves other) ∙ is.scored.promise;
       };
       settled = settled s.scores old new chain leaves other is.settled;

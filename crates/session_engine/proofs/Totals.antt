@@ -5,13 +5,13 @@ use Rattle.std.specs.List.{flat_map}
 use Rattle.std.proofs.lemmas.List.{length-map, length-append}
 use Rattle.std.proofs.lemmas.List.Sums.{sum_by-cons}
 use Rattle.std.proofs.lemmas.Grind.{flat_map-append}
-use Rattle.jass_base.specs.declared.named.Named.{Named}
-use Rattle.ranking_model.specs.declared.class.Class.{Class}
+use Rattle.jass_base.specs.declared.query_term.QueryTerm.{QueryTerm}
+use Rattle.ranking_model.specs.declared.plan_segment.PlanSegment.{PlanSegment}
 use Rattle.ranking_model.specs.declared.posting.WeightedPosting.{WeightedPosting}
 use Rattle.ranking_model.specs.Plan.{postings_of}
 use Rattle.index_model.specs.Index.{SegmentData, TermData, IndexData}
 use Rattle.index_model.specs.Flat.{segment_entries, term_entries, numbered_from, numbered_flat}
-use Rattle.index_model.specs.Querying.{segments_at, classes_at, classes_from, query_classes}
+use Rattle.index_model.specs.Querying.{segments_at, query_segments_at, query_segments_from, query_segments}
 use Rattle.index_layout.specs.View.{term_postings, index_postings}
 use Rattle.session_engine.specs.Plans.{postings_at, postings_of_terms}
 
@@ -30,22 +30,22 @@ flat_from n (t ∷ ts) = length-append (term_entries n t.segments) (numbered_fro
 pub flat_is_long : (index : IndexData) → length (numbered_flat index) ≡ index_postings index
 flat_is_long index = flat_from 0 index.terms
 
-classes_length_at : (place : ℕ) (named : Named) (segments : List SegmentData) → length (flat_map postings_of (classes_at place named segments)) ≡ sum_by size segments
-classes_length_at place named [] = refl
-classes_length_at place named (s ∷ ss) =
-    length-append (postings_of (record { place = place; weight = s.impact * named.times; docs = s.docs })) (flat_map postings_of (classes_at place named ss))
-    ∙ ap₂ (λ x y. x + y) (length-map s.docs (λ (doc : ℕ). record { place = place; doc = doc; weight = s.impact * named.times })) (classes_length_at place named ss)
+plan_length_at : (term_place : ℕ) (named : QueryTerm) (segments : List SegmentData) → length (flat_map postings_of (query_segments_at term_place named segments)) ≡ sum_by size segments
+plan_length_at term_place named [] = refl
+plan_length_at term_place named (s ∷ ss) =
+    length-append (postings_of (record { term_place = term_place; weight = s.impact * named.times; docs = s.docs })) (flat_map postings_of (query_segments_at term_place named ss))
+    ∙ ap₂ (λ x y. x + y) (length-map s.docs (λ (doc : ℕ). record { term_place = term_place; doc = doc; weight = s.impact * named.times })) (plan_length_at term_place named ss)
     ∙ sym (sum_by-cons size s ss)
 
-classes_length : (place : ℕ) (query : List Named) (terms : List TermData) → length (flat_map postings_of (classes_from place query terms)) ≡ postings_of_terms terms query
-classes_length place [] terms = refl
-classes_length place (named ∷ query) terms =
-    let here : List Class = classes_at place named (segments_at terms named.term) in
-    let later : List Class = classes_from (suc place) query terms in
+plan_length : (term_place : ℕ) (query : List QueryTerm) (terms : List TermData) → length (flat_map postings_of (query_segments_from term_place query terms)) ≡ postings_of_terms terms query
+plan_length term_place [] terms = refl
+plan_length term_place (named ∷ query) terms =
+    let here : List PlanSegment = query_segments_at term_place named (segments_at terms named.term) in
+    let later : List PlanSegment = query_segments_from (suc term_place) query terms in
     ap (λ (ps : List WeightedPosting). length ps) (flat_map-append postings_of here later)
     ∙ length-append (flat_map postings_of here) (flat_map postings_of later)
-    ∙ ap₂ (λ x y. x + y) (classes_length_at place named (segments_at terms named.term)) (classes_length (suc place) query terms)
-    ∙ sym (sum_by-cons (λ (n : Named). postings_at terms n.term) named query)
+    ∙ ap₂ (λ x y. x + y) (plan_length_at term_place named (segments_at terms named.term)) (plan_length (suc term_place) query terms)
+    ∙ sym (sum_by-cons (λ (n : QueryTerm). postings_at terms n.term) named query)
 
-pub query_is_long : (index : IndexData) (query : List Named) → length (flat_map postings_of (query_classes index query)) ≡ postings_of_terms index.terms query
-query_is_long index query = classes_length 0 query index.terms
+pub query_is_long : (index : IndexData) (query : List QueryTerm) → length (flat_map postings_of (query_segments index query)) ≡ postings_of_terms index.terms query
+query_is_long index query = plan_length 0 query index.terms

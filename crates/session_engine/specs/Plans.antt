@@ -2,8 +2,8 @@
 use Rattle.std.specs.Prelude.{ℕ, suc, ◌≡◌, ◌<◌, ◌≤◌, min, false, All, List, [], ◌∷◌, ◌++◌, length, slice_get, sum_by}
 use Rattle.std.specs.Prelude.{Some}
 use Rattle.std.specs.List.{slice_index_or}
-use Rattle.jass_base.specs.declared.named.Named.{Named}
-use Rattle.ranking_model.specs.declared.class.Class.{Class}
+use Rattle.jass_base.specs.declared.query_term.QueryTerm.{QueryTerm}
+use Rattle.ranking_model.specs.declared.plan_segment.PlanSegment.{PlanSegment}
 use Rattle.ranking_model.specs.declared.plan.QueryPlan.{QueryPlan}
 use Rattle.ranking_model.specs.Plan.{plan_of, size_of_first}
 use Rattle.ranking_model.specs.Postings.{AreTerms}
@@ -19,19 +19,19 @@ use Rattle.accumulator_pages.specs.Adding.{page_count}
 use Rattle.frame_pool.specs.Pool.{PoolView, all_in_use}
 
 -- the terms are numbers of the index's terms
-abbrev pub AreKnown : FileView → List Named → Type 0
-AreKnown file terms = All (λ (n : Named). n.term < length file.index.terms) terms
+abbrev pub AreKnown : FileView → List QueryTerm → Type 0
+AreKnown file terms = All (λ (n : QueryTerm). n.term < length file.index.terms) terms
 
 -- the plan of a query with these terms over the index of a file
-unfoldable pub session_plan : FileView → List Named → QueryPlan
+unfoldable pub session_plan : FileView → List QueryTerm → QueryPlan
 session_plan file terms = plan_of (length file.index.names) (numbered_flat file.index) terms
 
--- the number of postings of all classes of a plan
+-- the number of postings of all segments of a plan
 abbrev pub plan_postings : QueryPlan → ℕ
-plan_postings plan = size_of_first (length plan.classes) plan.classes
+plan_postings plan = size_of_first (length plan.segments) plan.segments
 
 -- how many frames a query can use at the most: one for each page of 256 documents, and one for each posting of its plan
-abbrev pub need_of : FileView → List Named → ℕ
+abbrev pub need_of : FileView → List QueryTerm → ℕ
 need_of file terms = min (page_count (length file.index.names)) (plan_postings (session_plan file terms))
 
 -- a number for one chain more is free
@@ -42,44 +42,44 @@ HasFreeNumber pool = all_in_use pool ≡ false
 
 -- the heads of a named term's segments from a segment on
 abbrev pub heads_at : ℕ → ℕ → List SegmentData → List PlanHead
-heads_at place segment [] = []
-heads_at place segment (s ∷ segments) =
-    record { place = place; segment = segment; impact = s.impact; count = length s.docs }
-    ∷ heads_at place (suc segment) segments
+heads_at term_place segment [] = []
+heads_at term_place segment (s ∷ segments) =
+    record { term_place = term_place; segment = segment; impact = s.impact; count = length s.docs }
+    ∷ heads_at term_place (suc segment) segments
 
 -- the heads of named terms, of which the first has this place in the query
-abbrev pub heads_from : ℕ → List Named → List TermData → List PlanHead
-heads_from place [] terms = []
-heads_from place (named ∷ query) terms =
-    heads_at place 0 (segments_at terms named.term) ++ heads_from (suc place) query terms
+abbrev pub heads_from : ℕ → List QueryTerm → List TermData → List PlanHead
+heads_from term_place [] terms = []
+heads_from term_place (named ∷ query) terms =
+    heads_at term_place 0 (segments_at terms named.term) ++ heads_from (suc term_place) query terms
 
-abbrev pub query_heads : IndexData → List Named → List PlanHead
+abbrev pub query_heads : IndexData → List QueryTerm → List PlanHead
 query_heads index query = heads_from 0 query index.terms
 
 -- the number of the term at a place of a query
-abbrev pub term_of : List Named → ℕ → ℕ
-term_of terms place = (slice_index_or terms place (record { term = 0; times = 0 })).term
+abbrev pub term_of : List QueryTerm → ℕ → ℕ
+term_of terms term_place = (slice_index_or terms term_place (record { term = 0; times = 0 })).term
 
 -- the documents of the segment that an entry of a plan names
-abbrev pub docs_named : IndexData → List Named → PlanEntry → List ℕ
-docs_named index terms entry = (segment_at index.terms (term_of terms entry.place) entry.segment).docs
+abbrev pub docs_named : IndexData → List QueryTerm → PlanEntry → List ℕ
+docs_named index terms entry = (segment_at index.terms (term_of terms entry.term_place) entry.segment).docs
 
--- the class of that segment
-abbrev pub class_named : IndexData → List Named → PlanEntry → Class
-class_named index terms entry =
-    record { place = entry.place; weight = entry.weight; docs = docs_named index terms entry }
+-- the segment of the plan that an entry stands for
+abbrev pub segment_named : IndexData → List QueryTerm → PlanEntry → PlanSegment
+segment_named index terms entry =
+    record { term_place = entry.term_place; weight = entry.weight; docs = docs_named index terms entry }
 
 -- an entry of a plan names a segment of a term of the query, which has as many documents as it says, and a weight
-pub record NamesSegment (index : IndexData) (terms : List Named) (entry : PlanEntry) : Type 0 where
-  pub place : entry.place < length terms
-  pub term : term_of terms entry.place < length index.terms
-  pub segment : entry.segment < length (segments_at index.terms (term_of terms entry.place))
+pub record NamesSegment (index : IndexData) (terms : List QueryTerm) (entry : PlanEntry) : Type 0 where
+  pub term_place : entry.term_place < length terms
+  pub term : term_of terms entry.term_place < length index.terms
+  pub segment : entry.segment < length (segments_at index.terms (term_of terms entry.term_place))
   pub count : entry.count ≡ length (docs_named index terms entry)
   pub some : 1 ≤ entry.count
   pub weight : 1 ≤ entry.weight
 
 -- the plan of a query with known terms over the file has this entry at a place
-pub record HasEntry (file : FileView) (terms : List Named) (n : ℕ) (entry : PlanEntry) : Type 0 where
+pub record HasEntry (file : FileView) (terms : List QueryTerm) (n : ℕ) (entry : PlanEntry) : Type 0 where
   pub index : IsIndex file.index
   pub named : AreTerms terms
   pub known : AreKnown file terms
@@ -90,5 +90,5 @@ abbrev pub postings_at : List TermData → ℕ → ℕ
 postings_at terms number = sum_by (λ (s : SegmentData). length s.docs) (segments_at terms number)
 
 -- the number of postings of some terms
-abbrev pub postings_of_terms : List TermData → List Named → ℕ
-postings_of_terms terms query = sum_by (λ (n : Named). postings_at terms n.term) query
+abbrev pub postings_of_terms : List TermData → List QueryTerm → ℕ
+postings_of_terms terms query = sum_by (λ (n : QueryTerm). postings_at terms n.term) query

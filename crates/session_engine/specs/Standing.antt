@@ -2,7 +2,7 @@
 use Rattle.std.specs.Prelude.{ℕ, ◌≡◌, ◌≤◌, All, List, length}
 use Rattle.jass_base.specs.declared.answer.Hit.{Hit}
 use Rattle.jass_base.specs.declared.answer.Report.{Report}
-use Rattle.jass_base.specs.declared.named.Named.{Named}
+use Rattle.jass_base.specs.declared.query_term.QueryTerm.{QueryTerm}
 use Rattle.jass_base.specs.declared.query.Query.{Query}
 use Rattle.ranking_model.specs.declared.plan.QueryPlan.{QueryPlan}
 use Rattle.ranking_model.specs.Plan.{prefix_within, size_of_first}
@@ -21,7 +21,7 @@ use Rattle.session_engine.specs.declared.session.Session.{Session}
 abbrev pub query_of : Session → Query
 query_of s = s.query
 
-abbrev pub terms_of : Session → List Named
+abbrev pub terms_of : Session → List QueryTerm
 terms_of s = s.query.terms
 
 -- how many documents are asked for
@@ -36,7 +36,7 @@ granted_of s = s.granted
 abbrev pub chain_of : Session → ℕ
 chain_of s = scores.own_chain s.scores
 
--- how many classes of its plan are scored
+-- how many segments of its plan are scored
 abbrev pub prefix_of : Session → ℕ
 prefix_of s = s.scored
 
@@ -60,25 +60,25 @@ pub record IsSessionOf (old new : Session) : Type 0 where
 
 -- ---- standing
 
--- the scores are those after the first n classes of a plan, in a chain that has no more frames than these have postings
+-- the scores are those after the first n segments of a plan, in a chain that has no more frames than these have postings
 pub record ScoredTo (n : ℕ) (plan : QueryPlan) (need : ℕ) (s : Scores) (pool : PoolView) : Type 0 where
   pub stand : scores.ScoresStand s pool
   pub docs : scores.docs_of s ≡ plan.docs
   pub sums : scores.scores_of s pool ≡ scores_after n plan
-  pub frames : length (scores.own_view s pool).frames ≤ size_of_first n plan.classes
+  pub frames : length (scores.own_view s pool).frames ≤ size_of_first n plan.segments
   pub promise : (scores.own_view s pool).promise ≡ need
 
 -- the terms of a query are the index's, and a plan is arranged from the segments that they name
-pub record IsPlanned (file : FileView) (terms : List Named) (plan : PlanView) : Type 0 where
+pub record IsPlanned (file : FileView) (terms : List QueryTerm) (plan : PlanView) : Type 0 where
   pub known : AreKnown file terms
-  pub times : All (λ (n : Named). n.times ≤ 255) terms
+  pub times : All (λ (n : QueryTerm). n.times ≤ 255) terms
   pub arranged : plan ≡ plan_with terms (query_heads file.index terms)
 
 -- the session has scored the longest prefix of its plan that its grants pay for, and its first documents and its report
 -- are those of this prefix; its chain has the promise that the query needs
 pub record SessionStands (s : Session) (file : FileView) (pool : PoolView) : Type 0 where
   pub planned : IsPlanned file (terms_of s) s.plan
-  pub prefix : prefix_of s ≡ prefix_within (granted_of s) (plan_over file s).classes
+  pub prefix : prefix_of s ≡ prefix_within (granted_of s) (plan_over file s).segments
   pub scored : ScoredTo (prefix_of s) (plan_over file s) (need_of file (terms_of s)) s.scores pool
   pub settled : scores.IsSettled s.scores pool
   pub asked : scores.k_of s.scores ≡ k_of s

@@ -14,7 +14,7 @@ use crate::scoring::{WeighedSegment, score_segment};
 use frame_pool::FramePool;
 use frame_pool::laws::calls_on_one_chain;
 use index_file::IndexFile;
-use jass_base::{Named, Steps};
+use jass_base::{QueryTerm, Steps};
 use ranking_model::prefix_laws::scores_stay_small;
 use segment_plan::Plan;
 use session_scores::Scores;
@@ -25,7 +25,7 @@ pub fn score_entries<L: Ledger>(
     scores: &mut Scores,
     index: &IndexFile,
     pool: &mut FramePool,
-    terms: &[Named],
+    terms: &[QueryTerm],
     plan: &Plan,
     from: u32,
     to: u32,
@@ -39,8 +39,8 @@ pub fn score_entries<L: Ledger>(
     requires within { to ≤ length plan.now.entries }
     ensures scored { ScoredTo to (session_plan index.now terms.now) (need_of index.now terms.now)
         scores.new pool.new }
-    ensures postings { size_of_first from (session_plan index.now terms.now).classes + result
-        ≡ size_of_first to (session_plan index.now terms.now).classes }
+    ensures postings { size_of_first from (session_plan index.now terms.now).segments + result
+        ≡ size_of_first to (session_plan index.now terms.now).segments }
     ensures steps { steps.new ≡ steps.old + result }
     ensures same { AreScoresOf scores.old scores.new }
     ensures leaves { LeavesPool pool.old pool.new (own_chain scores.old) }
@@ -56,7 +56,7 @@ pub fn score_entries<L: Ledger>(
     for i in from..to {
         let entry = plan.entry(i);
         let segment = WeighedSegment {
-            term: terms[entry.place as usize].term,
+            term: terms[entry.term_place as usize].term,
             segment: entry.segment,
             weight: entry.weight,
             count: entry.count,

@@ -1,10 +1,10 @@
 ghost use Rattle.std.specs.Prelude.{◌≡◌, ◌<◌, ◌≤◌, ◌++◌, All, length, IfOk, OnOk};
-ghost use Rattle.jass_base.specs.declared.named.Named.{Named};
+ghost use Rattle.jass_base.specs.declared.query_term.QueryTerm.{QueryTerm};
 ghost use Rattle.index_model.specs.Querying.{segments_at};
 ghost use Rattle.session_engine.specs.Plans.{AreKnown, heads_at, heads_from, query_heads};
 
 use index_file::IndexFile;
-use jass_base::{Named, NoMemory};
+use jass_base::{NoMemory, QueryTerm};
 use segment_plan::PlanHead;
 use std::alloc::Global;
 
@@ -12,18 +12,18 @@ use std::alloc::Global;
 pub fn query_heads(
     alloc: Global,
     index: &IndexFile,
-    terms: &[Named],
+    terms: &[QueryTerm],
 ) -> Result<Vec<PlanHead>, NoMemory>
     requires few { length terms.now ≤ 256 }
     requires known { AreKnown index.now terms.now }
     ensures heads { IfOk result (λ heads. heads.items ≡ query_heads index.now.index terms.now) }
-    ensures times { IfOk result (λ _. All (λ (n : Named). n.times ≤ 255) terms.now) }
+    ensures times { IfOk result (λ _. All (λ (n : QueryTerm). n.times ≤ 255) terms.now) }
 {
     let mut heads = Vec::new(alloc);
-    let mut place = 0;
+    let mut term_place = 0;
     for named in terms {
-        gather_heads(index, *named, place, &mut heads)?;
-        place += 1;
+        gather_heads(index, *named, term_place, &mut heads)?;
+        term_place += 1;
     }
     Ok(heads)
 }
@@ -31,19 +31,19 @@ pub fn query_heads(
 /// Puts the heads of a term's segments behind the others. The term has this place in the query.
 fn gather_heads(
     index: &IndexFile,
-    named: Named,
-    place: u32,
+    named: QueryTerm,
+    term_place: u32,
     heads: &mut Vec<PlanHead>,
 ) -> Result<(), NoMemory>
     requires { named.term < length index.now.index.terms }
     ensures heads { OnOk result
-        (heads.new.items ≡ heads.old.items ++ heads_at place 0 (segments_at index.now.index.terms named.term)) }
+        (heads.new.items ≡ heads.old.items ++ heads_at term_place 0 (segments_at index.now.index.terms named.term)) }
     ensures times { named.times ≤ 255 }
 {
     for segment in 0..index.segments(named.term) {
         let head = index.head(named.term, segment);
         let head = PlanHead {
-            place,
+            term_place,
             segment,
             impact: head.impact,
             count: head.count,

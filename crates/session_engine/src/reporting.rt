@@ -12,7 +12,7 @@ use frame_pool::FramePool;
 use jass_base::Report;
 use segment_plan::Plan;
 use segment_plan::laws::{
-    a_class_for_each_entry, prefixes_are_those_of_the_plan, weights_are_those_of_the_plan,
+    a_segment_for_each_entry, prefixes_are_those_of_the_plan, weights_are_those_of_the_plan,
 };
 use session_scores::Scores;
 
@@ -30,10 +30,10 @@ pub fn report_at(
     requires asked { k_of scores.now ≡ k }
     requires within { count ≤ length plan.now.entries }
     requires postings { postings ≡ postings_of (take count plan.now.entries) }
-    ensures { (classes : QueryPlan) → HasShape plan.now classes →
-        scores_of scores.now pool.now ≡ scores_after count classes → result ≡ report_by count classes k }
+    ensures { (defined : QueryPlan) → HasShape plan.now defined →
+        scores_of scores.now pool.now ≡ scores_after count defined → result ≡ report_by count defined k }
 {
-    a_class_for_each_entry();
+    a_segment_for_each_entry();
     prefixes_are_those_of_the_plan();
     weights_are_those_of_the_plan();
     let bound = plan.rest_bound(count);
@@ -57,7 +57,7 @@ pub fn report_at(
 /// The weight of the last of the first `count` entries, 0 where there is none.
 fn cutoff(plan: &Plan, count: u32) -> u32
     requires { count ≤ length plan.now.entries }
-    ensures { (classes : QueryPlan) → HasShape plan.now classes → result ≡ cutoff_after count classes.classes }
+    ensures { (defined : QueryPlan) → HasShape plan.now defined → result ≡ cutoff_after count defined.segments }
 {
     weights_are_those_of_the_plan();
     if count == 0 {
@@ -70,7 +70,7 @@ fn cutoff(plan: &Plan, count: u32) -> u32
 /// The weight of the entry behind the first `count`, 0 where there is none.
 fn next(plan: &Plan, count: u32) -> u32
     requires { count ≤ length plan.now.entries }
-    ensures { (classes : QueryPlan) → HasShape plan.now classes → result ≡ next_after count classes.classes }
+    ensures { (defined : QueryPlan) → HasShape plan.now defined → result ≡ next_after count defined.segments }
 {
     weights_are_those_of_the_plan();
     if count < plan.len() {

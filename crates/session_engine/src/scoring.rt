@@ -11,7 +11,7 @@ use frame_pool::FramePool;
 use frame_pool::laws::calls_on_one_chain;
 use index_file::IndexFile;
 use jass_base::Steps;
-use ranking_model::prefix_laws::{one_class_more_is_added, scores_stay_small};
+use ranking_model::prefix_laws::{one_segment_more_is_added, scores_stay_small};
 use session_scores::Scores;
 use std::sync::ledger::Ledger;
 
@@ -80,7 +80,7 @@ fn score_bits(scores: &mut Scores, pool: &mut FramePool, bits: &[u8], weight: u3
     ensures leaves { LeavesPool pool.old pool.new (own_chain scores.old) }
 {
     calls_on_one_chain();
-    one_class_more_is_added();
+    one_segment_more_is_added();
     scores_stay_small();
     let mut row = 0;
     'rows: while 16 * row < bits.len() {
@@ -119,7 +119,7 @@ fn score_blocks<L: Ledger>(
     ensures steps { steps.new ≡ steps.old + segment.count }
 {
     calls_on_one_chain();
-    one_class_more_is_added();
+    one_segment_more_is_added();
     scores_stay_small();
     let mut cursor = index.cursor(segment.term, segment.segment);
     let mut left = segment.count as usize;

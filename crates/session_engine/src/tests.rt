@@ -9,7 +9,7 @@ use crate::{OpenStop, Session, need};
 use frame_pool::FramePool;
 use index_file::IndexFile;
 use index_layout::OpenFault;
-use jass_base::{Budget, Grade, Hit, Named, NoMemory, Query, Report, Row, Steps, Text};
+use jass_base::{Budget, Grade, Hit, NoMemory, Query, QueryTerm, Report, Row, Steps, Text};
 use std::alloc::Global;
 use std::marker::Brand;
 use std::sync::ledger::{Blank, Ledger};
@@ -42,12 +42,12 @@ fn opened(alloc: Global, bytes: &[u8]) -> Result<IndexFile, OpenFault> {
     }
 }
 
-// The query for the term with number 0.
+/// The query for the term with number 0.
 fn asked(alloc: Global) -> Result<Query, NoMemory>
     ensures { IfOk result (λ query. query.terms ≡ record { term = 0; times = 1 } ∷ []) }
 {
     let mut terms = Row::new(alloc);
-    terms.extend(&[Named { term: 0, times: 1 }])?;
+    terms.extend(&[QueryTerm { term: 0, times: 1 }])?;
     Ok(Query {
         id: Text::from_str(alloc, "q")?,
         terms,
@@ -55,7 +55,7 @@ fn asked(alloc: Global) -> Result<Query, NoMemory>
     })
 }
 
-// The reports of grants of one posting, of one more, and of all.
+/// The reports of grants of one posting, of one more, and of all.
 fn granted<L: Ledger>(
     session: &mut Session,
     file: &IndexFile,
@@ -75,7 +75,7 @@ fn granted<L: Ledger>(
     [first, second, last]
 }
 
-// A final report of so many segments of one posting each.
+/// A final report of so many segments of one posting each.
 fn report(segments: u32, cutoff: u32, next: u32) -> Report {
     Report {
         postings: u64::from(segments),

@@ -13,9 +13,6 @@ pub same_added : (w : ℕ) (docs s : List ℕ) → pages.added w docs s ≡ adde
 same_added w [] s = refl
 same_added w (doc ∷ docs) s = same_added w docs (set s doc (get_or s doc 0 + w))
 
-pub added_now : (w : ℕ) (docs s s' new : List ℕ) → s' ≡ s → new ≡ pages.added w docs s' → new ≡ added w docs s
-added_now w docs s s' new same is = is ∙ same_added w docs s' ∙ ap (added w docs) same
-
 pub noted_after : (top : TopView) (last : Hit) (w : ℕ) (docs s s' p p' n n' : List ℕ) → AreNoted top last (pages.added w docs s) p (n ++ pages.raised w last docs s)
     → s' ≡ pages.added w docs s → p' ≡ p → n' ≡ n ++ pages.raised w last docs s → AreNoted top last s' p' n'
 noted_after top last w docs s s' p p' n n' are is same notes =

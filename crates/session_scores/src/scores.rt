@@ -1,7 +1,7 @@
 ghost use Rattle.std.specs.Prelude.{◌≡◌, ℕ, ◌+◌, ◌*◌, ◌<◌, ◌≤◌, ◌^◌, [], ◌∷◌, All, IfOk, IfErr, length, replicate};
 ghost use Rattle.frame_pool.specs.Pool.{PoolView, IsInUse};
 ghost use Rattle.frame_pool.specs.ChainView.{LeavesPool, chain_view};
-ghost use Rattle.accumulator_pages.specs.Adding.{touched_count, touched_pages};
+ghost use Rattle.accumulator_pages.specs.Adding.{touched_pages};
 ghost use Rattle.accumulator_pages.specs.Pages.{HasRoomFor};
 ghost use Rattle.lane_kernels.specs.Bitmap.{set_bits};
 ghost use Rattle.ranking_model.specs.Scores.{added, first_ranked, least_untouched, runner_up};
@@ -167,7 +167,7 @@ impl Scores {
         }
     }
 
-    // Cuts the notes where so many more are too many.
+    /// Cuts the notes where so many more are too many.
     fn make_room(&mut self, pool: &FramePool, docs: usize)
         requires stand { ScoresStand self.old pool.now }
         requires block { docs ≤ 128 }
@@ -181,8 +181,8 @@ impl Scores {
         }
     }
 
-    // Forgets those noted that k + 1 documents rank before. Whoever comes to be at the last of these or ahead of it
-    // later is noted then.
+    /// Forgets those noted that k + 1 documents rank before. Whoever comes to be at the last of these or ahead of it
+    /// later is noted then.
     fn cut(&mut self, pool: &FramePool)
         requires stand { ScoresStand self.old pool.now }
         ensures limit { length self.new.reached.docs + 128 ≤ self.new.limit }
@@ -201,7 +201,7 @@ impl Scores {
         self.limit = self.reached.as_slice().len() + self.step;
     }
 
-    // Takes in those noted.
+    /// Takes in those noted.
     fn settle_noted(&mut self, pool: &mut FramePool)
         requires stand { ScoresStand self.old pool.old }
         ensures settled { IsSettled self.new pool.new }
@@ -246,13 +246,6 @@ impl Scores {
         self.pages.least_untouched(pool)
     }
 
-    /// How many documents have a score of at least 1.
-    pub fn touched(&self) -> u32
-        ensures { (pool : PoolView) → ScoresStand self.now pool → result ≡ touched_count (scores_of self.now pool) }
-    {
-        self.pages.touched()
-    }
-
     /// How many frames the chain has, which is how many pages of 256 documents have one with a score of at least 1.
     pub fn frames(&self) -> u32
         ensures taken { (pool : PoolView) → ScoresStand self.now pool
@@ -281,8 +274,8 @@ impl Scores {
     }
 }
 
-// Room for the first k + 1 documents, and for as many notes that a cut keeps, as many more and a block: each cut is
-// paid for by the notes before it, and the last of the first documents, which few pass, is soon known.
+/// Room for the first k + 1 documents, and for as many notes that a cut keeps, as many more and a block: each cut is
+/// paid for by the notes before it, and the last of the first documents, which few pass, is soon known.
 fn rooms(alloc: Global, k: u32) -> Result<(Top, Reached), NoMemory>
     requires some { 1 ≤ k }
     requires few { k ≤ 100000 }

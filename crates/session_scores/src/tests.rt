@@ -8,7 +8,7 @@ use jass_base::{Hit, NoMemory};
 use std::alloc::Global;
 use std::process::Abort;
 
-// The scores of at most 256 documents, with a promise of their frame.
+/// The scores of at most 256 documents, with a promise of their frame.
 fn opened(rt: &impl Abort, alloc: Global, pool: &mut FramePool, docs: u32, k: u32) -> Scores
     requires page { docs ≤ 256 }
     requires some { 1 ≤ k }
@@ -30,7 +30,7 @@ fn opened(rt: &impl Abort, alloc: Global, pool: &mut FramePool, docs: u32, k: u3
     }
 }
 
-// Adds a weight to scores of which none is above `most`.
+/// Adds a weight to scores of which none is above `most`.
 fn add_some(scores: &mut Scores, pool: &mut FramePool, docs: &[u32], w: u32, most: u32)
     requires stand { ScoresStand scores.old pool.old }
     requires page { docs_of scores.old ≤ 256 }
@@ -48,7 +48,7 @@ fn add_some(scores: &mut Scores, pool: &mut FramePool, docs: &[u32], w: u32, mos
     scores.add_all(pool, docs, w);
 }
 
-// The same, and settles the first documents.
+/// The same, and settles the first documents.
 fn add(scores: &mut Scores, pool: &mut FramePool, docs: &[u32], w: u32, most: u32)
     requires stand { ScoresStand scores.old pool.old }
     requires page { docs_of scores.old ≤ 256 }
@@ -67,7 +67,7 @@ fn add(scores: &mut Scores, pool: &mut FramePool, docs: &[u32], w: u32, most: u3
     scores.settle(pool);
 }
 
-// Adds a weight to all scores of a row of 128 documents out of 256.
+/// Adds a weight to all scores of a row of 128 documents out of 256.
 fn add_row(scores: &mut Scores, pool: &mut FramePool, row: u32, w: u32, most: u32)
     requires stand { ScoresStand scores.old pool.old }
     requires docs { docs_of scores.old ≡ 256 }
@@ -84,7 +84,7 @@ fn add_row(scores: &mut Scores, pool: &mut FramePool, row: u32, w: u32, most: u3
     scores.add_bits(pool, row, &[255; 16], w);
 }
 
-// Adds a weight where bits of a byte are set, and settles the first documents.
+/// Adds a weight where bits of a byte are set, and settles the first documents.
 fn add_byte(scores: &mut Scores, pool: &mut FramePool, byte: u8, w: u32, most: u32)
     requires stand { ScoresStand scores.old pool.old }
     requires docs { docs_of scores.old ≡ 5 }
@@ -115,13 +115,11 @@ fn bits_are_documents(rt: HostRuntime) {
     add_byte(&mut scores, &mut pool, 0b10010, 4, 10);
     assert!(rt; scores.hits() == [Hit { doc: 1, score: 4 }, Hit { doc: 4, score: 4 }].as_slice());
     assert_eq!(rt; scores.frames(), 1);
-    assert_eq!(rt; scores.touched(), 2);
 
     // Documents 2 and 3 reach the score of document 4, and stand before it; document 1 rises too.
     add_byte(&mut scores, &mut pool, 0b01110, 4, 20);
     assert!(rt; scores.hits() == [Hit { doc: 1, score: 8 }, Hit { doc: 2, score: 4 }].as_slice());
     assert!(rt; scores.runner_up() == Some(Hit { doc: 3, score: 4 }));
-    assert_eq!(rt; scores.touched(), 4);
     assert_eq!(rt; scores.least_untouched(&pool), Some(0));
     pool.give_back(scores.into_chain());
 }
@@ -150,7 +148,6 @@ fn ties_go_to_the_lower_document(rt: HostRuntime) {
     assert!(rt; scores.hits() == [Hit { doc: 1, score: 5 }].as_slice());
     assert!(rt; scores.runner_up() == Some(Hit { doc: 2, score: 4 }));
 
-    assert_eq!(rt; scores.touched(), 4);
     assert_eq!(rt; scores.frames(), 1);
     pool.give_back(scores.into_chain());
 }
@@ -168,7 +165,6 @@ fn notes_are_cut_between_two_settlings(rt: HostRuntime) {
     add(&mut scores, &mut pool, &[6, 4, 3], 1, 384);
     assert!(rt; scores.hits() == [Hit { doc: 3, score: 2 }].as_slice());
     assert!(rt; scores.runner_up() == Some(Hit { doc: 4, score: 2 }));
-    assert_eq!(rt; scores.touched(), 256);
 
     // Document 4 of the heap falls behind a cut, and is noted as it passes the last hit again.
     add_row(&mut scores, &mut pool, 1, 5, 389);

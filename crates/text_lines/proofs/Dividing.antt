@@ -37,7 +37,7 @@ from_one_part [] is some = absurd (some refl)
 from_one_part (b ∷ bs) is some = ap (λ parts. map strip_carriage_return (lines_of_parts parts)) is
 
 -- a line feed behind bytes that are none
-not_feeds : (line : List ℕ) → All (λ b. b ≢ 10) line → All (λ b. is_feed b ≡ false) line
+pub not_feeds : (line : List ℕ) → All (λ b. b ≢ 10) line → All (λ b. is_feed b ≡ false) line
 not_feeds line all = All-from_recursion (λ b. is_feed b ≡ false) line (onward line (recursion_from_All (λ b. b ≢ 10) line all))
   where
     not_ten : (b : ℕ) → b ≢ 10 → is_feed b ≡ false

@@ -5,14 +5,15 @@ use Rattle.std.specs.Ordering.{is_gt}
 use Rattle.std.proofs.lemmas.Bool.{cases_eq}
 use Rattle.std.proofs.lemmas.Bool.Decides.{nat_tests}
 use Rattle.std.proofs.lemmas.List.{length-take}
-use Rattle.std.proofs.lemmas.List.Sums.{count_by-le-length, sum_by-cons, sum_by-take-le}
+use Rattle.std.proofs.lemmas.List.Sums.{count_by-le-length, sum_by-cons}
 use Rattle.jass_base.specs.declared.answer.Hit.{Hit}
 use Rattle.ranking_model.specs.Order.{placed, sorted}
 use Rattle.ranking_model.specs.Scores.{rank_cmp, hits_from, first_ranked}
 use Rattle.ranking_model.proofs.Sorting.{Ascends, sum_by-sorted, sorted_ascends}
 use Rattle.ranking_model.proofs.Orders.{rank_total}
+use Rattle.shared_lemmas.proofs.Members.{In, all_at}
+use Rattle.ranking_model.proofs.Candidates.{in_hits}
 use Rattle.topk_heap.specs.Standing.{AreInOrder}
-use Rattle.topk_heap.proofs.Lists.{In, all_at}
 use Rattle.topk_heap.proofs.Ranking.{Own, all_in_order, first_own}
 
 -- 1 where a hit ranks before x
@@ -92,17 +93,6 @@ more_ahead x from (a ∷ old) (b ∷ new) size up =
     by (inr e) (inl f) rest = absurd (let u = first in omega arith)
     by (inr e) (inr f) rest = omega (arith, rest, some a old e, some b new f, ahead_rises x from a b first)
 
-in_hits : (from : ℕ) (scores : List ℕ) (h : Hit) (i : ℕ) → h.doc ≡ from + i → i < length scores → 1 ≤ h.score → h.score ≡ get_or scores i 0 → In h (hits_from from scores)
-in_hits from [] h i is inside some score_is = absurd (omega arith)
-in_hits from (score ∷ scores) h zero is inside some score_is =
-    let f : (score == 0) ≡ false = grind (arith, nat_tests) in
-    let doc : h.doc ≡ from = omega arith in
-    rw f (inl (λ j. record { doc = doc j; score = score_is j }))
-in_hits from (score ∷ scores) h (suc i) is inside some score_is = step (score == 0) (in_hits (from + 1) scores h i (omega arith) (omega arith) some score_is) where
-  step : (b : Bool) → In h (hits_from (from + 1) scores) → In h (if b then hits_from (from + 1) scores else record { doc = from; score = score } ∷ hits_from (from + 1) scores)
-  step true rest = rest
-  step false rest = inr rest
-
 in_placed : (z x : Hit) (ys : List Hit) → (z ≡ x) ⊎ In z ys → In z (placed rank_cmp x ys)
 in_placed z x [] h = h
 in_placed z x (y ∷ ys) h = step (is_gt (rank_cmp x y)) h (λ k. in_placed z x ys k) where
@@ -143,13 +133,3 @@ first_before old new m x size up there same =
     let own = all_at (Own new) (first_ranked new m) x (first_own new m) there in
     first_if_few old m x (let o = own.0 in omega arith, own.1, own.2 ∙ sym same)
     (let few = few_if_first new m x there in let more = more_ahead x 0 old new size up in omega arith)
-
--- where m first documents all ranked before x, they still do
-pub pushed_out : (old new : List ℕ) (m : ℕ) (x : Hit) → length old ≡ length new → Rises old new → length (first_ranked old m) ≡ m → AllByRecursion (λ y. is_gt (rank_cmp x y) ≡ true) (first_ranked old m) → In x (first_ranked new m) → ⊥
-pushed_out old new m x size up full before there =
-    let few = few_if_first new m x there in
-    let more = more_ahead x 0 old new size up in
-    let a = all_ahead x (first_ranked old m) before in
-    let b = sum_by-take-le (ahead x) (sorted rank_cmp (hits_from 0 old)) m in
-    let c = sum_by-sorted rank_cmp (ahead x) (hits_from 0 old) in
-    absurd (omega (arith, few, more, a, b, c, full))

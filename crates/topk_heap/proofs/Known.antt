@@ -1,11 +1,11 @@
 -- Who is among the first by some scores.
-use Rattle.std.proofs.Common.{◌≡◌, ◌≢◌, ℕ, zero, suc, ◌+◌, ◌<◌, ◌≤◌, ◌==◌, List, [], ◌∷◌, length, get_or, set, sum_by, count_by, Bool, true, false, true≢false, cond, refl, sym, ap, subst, ◌∙◌, arith, inl, inr, ◌⊎◌, eq-eqb}
-use Rattle.std.specs.Prelude.{Contains, IfSome, None, Option, Some, nat_le, nat_lt, slice_get}
+use Rattle.std.proofs.Common.{◌≡◌, ◌≢◌, ℕ, ◌+◌, ◌<◌, ◌≤◌, List, [], ◌∷◌, length, get_or, sum_by, Bool, true, false, true≢false, cond, refl, sym, ap, subst, ◌∙◌, arith, inl, inr, ◌⊎◌}
+use Rattle.std.specs.Prelude.{Contains, IfSome, None, Option, Some, nat_lt, slice_get}
 use Rattle.std.specs.List.{AllByRecursion}
 use Rattle.std.specs.Ordering.{is_gt}
 use Rattle.std.proofs.lemmas.Bool.{cases_eq, cases_lt}
 use Rattle.std.proofs.lemmas.Bool.Decides.{nat_tests}
-use Rattle.std.proofs.lemmas.List.{length-take, set-get_or}
+use Rattle.std.proofs.lemmas.List.{length-take}
 use Rattle.std.proofs.lemmas.Option.{get_or_from_slice_get, slice_get_cases, slice_get_within}
 use Rattle.std.proofs.lemmas.List.Sums.{sum_by-cons, sum_by-take-le}
 use Rattle.frame_pool.specs.Pool.{PoolView}
@@ -18,79 +18,17 @@ use Rattle.ranking_model.specs.Order.{sorted}
 use Rattle.ranking_model.specs.Scores.{rank_cmp, hits_from, first_ranked, runner_up}
 use Rattle.ranking_model.proofs.Sorting.{sum_by-sorted}
 use Rattle.accumulator_pages.specs.Adding.{score_to_pass}
+use Rattle.shared_lemmas.proofs.Members.{In, in_from_contains, all_at, all_in}
 use Rattle.topk_heap.specs.Noting.{LetsPass, Passes, just_behind}
-use Rattle.topk_heap.specs.Standing.{HaveFirst, StandsBelow, TopStands, TopView}
+use Rattle.topk_heap.specs.Standing.{HaveFirst, TopStands, TopView}
 use Rattle.topk_heap.proofs.Ahead.{ahead, all_ahead, few_if_first, first_if_few, first_of_few}
-use Rattle.topk_heap.proofs.Lists.{In, all_at, all_by_index, all_in, in_from_contains}
+use Rattle.topk_heap.proofs.Lists.{all_by_index}
 use Rattle.topk_heap.proofs.Ranking.{Own, first_in_order, first_own, order_index}
 
 pub left : (top : TopView) (pages : Pages) (old new : PoolView) (chain : ℕ) → LeavesOthers old new chain → own_chain pages ≢ chain
     → TopStands top (pages_scores pages old) (pages_places pages old) → TopStands top (pages_scores pages new) (pages_places pages new)
 left top pages old new chain leaves apart stands =
     subst (λ (v : ChainView). TopStands top (view_scores pages.docs v) (view_places pages.docs v)) (sym (view_stays pages old new chain leaves apart)) stands
-
-set_back : (s : List ℕ) (x a b : ℕ) → set (set s x a) x b ≡ set s x b
-set_back [] x a b = refl
-set_back (y ∷ s) zero a b = refl
-set_back (y ∷ s) (suc x) a b = ap (λ (t : List ℕ). y ∷ t) (set_back s x a b)
-
-at_set : (s : List ℕ) (x a : ℕ) → x < length s → get_or (set s x a) x 0 ≡ a
-at_set [] x a inside = absurd (omega arith)
-at_set (y ∷ s) zero a inside = refl
-at_set (y ∷ s) (suc x) a inside = at_set s x a (omega arith)
-
-pub risen : (top : TopView) (scores places : List ℕ) (doc score : ℕ) → TopStands top scores places → doc < length scores → get_or scores doc 0 < score → StandsBelow top (set scores doc score) places doc
-risen top scores places doc score stands inside low = record {
-  lower = get_or scores doc 0;
-  below = (let e = at_set scores doc score inside in omega arith);
-  stands = subst (λ (s : List ℕ). TopStands top s places) (sym (set_back scores doc score (get_or scores doc 0) ∙ set-get_or scores doc 0)) stands;
-}
-
--- ---- down to a floor
-
-ranks_behind : (x h : Hit) → x.score < h.score → is_gt (rank_cmp x h) ≡ true
-ranks_behind x h low = grind (arith, nat_tests)
-
-reach : (x : Hit) (floor from : ℕ) (scores : List ℕ) → x.score < floor → sum_by (λ s. cond (nat_le floor s) 1 0) scores ≤ sum_by (ahead x) (hits_from from scores)
-reach x floor from [] low = omega arith
-reach x floor from (score ∷ scores) low = by (cases_lt score floor) (cases_eq score 0) (reach x floor (from + 1) scores low) where
-  split : sum_by (λ s. cond (nat_le floor s) 1 0) (score ∷ scores) ≡ cond (nat_le floor score) 1 0 + sum_by (λ s. cond (nat_le floor s) 1 0) scores
-  split = sum_by-cons (λ s. cond (nat_le floor s) 1 0) score scores
-
-  none : score ≡ 0 → hits_from from (score ∷ scores) ≡ hits_from (from + 1) scores
-  none e = let t : (score == 0) ≡ true = eq-eqb score 0 e in rw t refl
-
-  some : (score ≡ 0 → ⊥) → sum_by (ahead x) (hits_from from (score ∷ scores)) ≡ ahead x (record { doc = from; score = score }) + sum_by (ahead x) (hits_from (from + 1) scores)
-  some e = let f : (score == 0) ≡ false = grind (arith, nat_tests) in rw f (sum_by-cons (ahead x) (record { doc = from; score = score }) (hits_from (from + 1) scores))
-
-  counted : floor ≤ score → ◌≡◌ {A = ℕ} (ahead x (record { doc = from; score = score })) 1
-  counted high = ap (λ (b : Bool). cond {A = ℕ} b 1 0) (ranks_behind x (record { doc = from; score = score }) (omega arith))
-
-  low_is : score < floor → ◌≡◌ {A = ℕ} (cond (nat_le floor score) 1 0) 0
-  low_is below = let f : nat_le floor score ≡ false = grind (arith, nat_tests) in ap (λ (b : Bool). cond {A = ℕ} b 1 0) f
-
-  high_is : floor ≤ score → ◌≡◌ {A = ℕ} (cond (nat_le floor score) 1 0) 1
-  high_is above = let t : nat_le floor score ≡ true = grind (arith, nat_tests) in ap (λ (b : Bool). cond {A = ℕ} b 1 0) t
-
-  by : (score < floor) ⊎ (floor ≤ score) → (score ≡ 0) ⊎ (score ≡ 0 → ⊥) → sum_by (λ s. cond (nat_le floor s) 1 0) scores ≤ sum_by (ahead x) (hits_from (from + 1) scores)
-      → sum_by (λ s. cond (nat_le floor s) 1 0) (score ∷ scores) ≤ sum_by (ahead x) (hits_from from (score ∷ scores))
-  by (inl below) (inl e) rest = omega (arith, rest, split, low_is below, ap (sum_by (ahead x)) (none e))
-  by (inl below) (inr e) rest = omega (arith, rest, split, low_is below, some e)
-  by (inr above) (inl e) rest = absurd (omega (arith, low, above, e))
-  by (inr above) (inr e) rest = omega (arith, rest, split, high_is above, some e, counted above)
-
-pub down_to : (scores docs : List ℕ) (m floor : ℕ) → ((doc : ℕ) → doc < length scores → 1 ≤ get_or scores doc 0 → floor ≤ get_or scores doc 0 → Contains docs doc)
-    → (floor ≤ 1) ⊎ (m ≤ count_by (nat_le floor) scores) → HaveFirst scores m docs
-down_to scores docs m floor known enough = all_in (λ (h : Hit). Contains docs h.doc) (first_ranked scores m) there where
-  there : (h : Hit) → In h (first_ranked scores m) → Contains docs h.doc
-  there h first = by (cases_lt h.score floor) enough where
-    own : Own scores h
-    own = all_at (Own scores) (first_ranked scores m) h (first_own scores m) first
-
-    by : (h.score < floor) ⊎ (floor ≤ h.score) → (floor ≤ 1) ⊎ (m ≤ count_by (nat_le floor) scores) → Contains docs h.doc
-    by (inr high) k = known h.doc own.0 (let a = own.1 in let b = own.2 in omega arith) (let b = own.2 in omega arith)
-    by (inl low) (inl none) = absurd (let a = own.1 in omega arith)
-    by (inl low) (inr many) = absurd (let few = few_if_first scores m h first in let more = reach h floor 0 scores low in omega (arith, few, more, many))
 
 -- ---- past a hit
 

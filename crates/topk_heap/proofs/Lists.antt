@@ -1,35 +1,15 @@
 -- Being in a list, and what holds of its items and of pairs of them.
-use Rattle.std.proofs.Common.{◌≡◌, ◌≢◌, ℕ, zero, suc, ◌<◌, List, [], ◌∷◌, ◌++◌, length, map, take, get_or, Bool, true, false, refl, sym, ap, subst, arith, inl, inr, ◌⊎◌}
-use Rattle.std.specs.Prelude.{Contains, reverse}
+use Rattle.std.proofs.Common.{◌≡◌, ◌≢◌, ℕ, zero, suc, ◌<◌, List, [], ◌∷◌, ◌++◌, length, map, take, get_or, refl, sym, ap, subst, arith, inl, inr, ◌⊎◌}
+use Rattle.std.specs.Prelude.{reverse}
 use Rattle.std.specs.List.{AllByRecursion}
-use Rattle.std.specs.declared.cmp.Ordering.{Ordering}
-use Rattle.std.specs.Ordering.{is_gt}
 use Rattle.std.proofs.lemmas.Bool.{cases_eq}
 use Rattle.std.proofs.lemmas.Grind.{reverse_onto}
 use Rattle.jass_base.specs.declared.answer.Hit.{Hit}
-use Rattle.ranking_model.specs.Order.{placed, sorted}
-use Rattle.ranking_model.proofs.Sorting.{all_placed}
 use Rattle.shared_lemmas.proofs.Pairs.{Pairs}
+use Rattle.shared_lemmas.proofs.Members.{In, all_at, all_in}
+use Rattle.shared_lemmas.proofs.Lists.{all_take}
 
 -- ---- being in a list
-
-abbrev pub In : {A : Type 0} → A → List A → Type 0
-In x [] = ⊥
-In x (y ∷ ys) = (x ≡ y) ⊎ In x ys
-
-pub in_from_contains : {A : Type 0} (xs : List A) (x : A) → Contains xs x → In x xs
-in_from_contains [] x h = absurd (let k = h.1 in omega arith)
-in_from_contains {A} (y ∷ ys) x h = at h.0 h.1 h.2 (λ k. in_from_contains ys x k) where
-  at : (k : ℕ) → k < suc (length ys) → get_or (y ∷ ys) k x ≡ x → (Contains ys x → In x ys) → In x (y ∷ ys)
-  at zero inside is later = inl (sym is)
-  at (suc k) inside is later = inr (later (k, omega arith, is))
-
-pub contains_from_in : {A : Type 0} (xs : List A) (x : A) → In x xs → Contains xs x
-contains_from_in [] x h = absurd h
-contains_from_in (y ∷ ys) x (inl e) = (0, omega arith, sym e)
-contains_from_in {A} (y ∷ ys) x (inr there) = behind (contains_from_in ys x there) where
-  behind : Contains ys x → Contains (y ∷ ys) x
-  behind h = (suc h.0, (let k = h.1 in omega arith), h.2)
 
 pub in_append : {A : Type 0} (x : A) (xs ys : List A) → In x (xs ++ ys) → In x xs ⊎ In x ys
 in_append x [] ys h = inr h
@@ -55,32 +35,6 @@ in_map f x (y ∷ xs) (inr there) = inr (in_map f x xs there)
 
 -- ---- what holds of all items
 
-pub all_imp : {A : Type 0} (P Q : A → Type 0) → ((x : A) → P x → Q x) → (xs : List A) → AllByRecursion P xs → AllByRecursion Q xs
-all_imp P Q imp [] h = tt
-all_imp P Q imp (x ∷ xs) h = (imp x h.0, all_imp P Q imp xs h.1)
-
-pub all_at : {A : Type 0} (P : A → Type 0) (xs : List A) (x : A) → AllByRecursion P xs → In x xs → P x
-all_at P [] x h there = absurd there
-all_at P (y ∷ ys) x h (inl e) = subst P (sym e) h.0
-all_at P (y ∷ ys) x h (inr there) = all_at P ys x h.1 there
-
-pub all_in : {A : Type 0} (P : A → Type 0) (xs : List A) → ((x : A) → In x xs → P x) → AllByRecursion P xs
-all_in P [] h = tt
-all_in P (x ∷ xs) h = (h x (inl refl), all_in P xs (λ y there. h y (inr there)))
-
-pub all_append : {A : Type 0} (P : A → Type 0) (xs ys : List A) → AllByRecursion P xs → AllByRecursion P ys → AllByRecursion P (xs ++ ys)
-all_append P [] ys h k = k
-all_append P (x ∷ xs) ys h k = (h.0, all_append P xs ys h.1 k)
-
-pub all_map : {A B : Type 0} (P : B → Type 0) (f : A → B) (xs : List A) → AllByRecursion (λ x. P (f x)) xs → AllByRecursion P (map f xs)
-all_map P f [] h = tt
-all_map P f (x ∷ xs) h = (h.0, all_map P f xs h.1)
-
-pub all_take : {A : Type 0} (P : A → Type 0) (n : ℕ) (xs : List A) → AllByRecursion P xs → AllByRecursion P (take n xs)
-all_take P zero xs h = tt
-all_take P (suc n) [] h = tt
-all_take P (suc n) (x ∷ xs) h = (h.0, all_take P n xs h.1)
-
 pub all_by_index : {A : Type 0} (P : A → Type 0) (d : A) (xs : List A) → ((i : ℕ) → i < length xs → P (get_or xs i d)) → AllByRecursion P xs
 all_by_index P d [] h = tt
 all_by_index P d (x ∷ xs) h = (h 0 (omega arith), all_by_index P d xs (λ i inside. h (suc i) (omega arith)))
@@ -98,28 +52,10 @@ pairs_index R (x ∷ xs) h i zero d before inside = absurd (omega arith)
 pairs_index R (x ∷ xs) h zero (suc j) d before inside = all_index (λ y. R x y) xs h.0 j d (omega arith)
 pairs_index R (x ∷ xs) h (suc i) (suc j) d before inside = pairs_index R xs h.1 i j d (omega arith) (omega arith)
 
-pub pairs_append : {A : Type 0} (R : A → A → Type 0) (xs ys : List A) → Pairs R xs → Pairs R ys → AllByRecursion (λ x. AllByRecursion (λ y. R x y) ys) xs → Pairs R (xs ++ ys)
-pairs_append R [] ys h k across = k
-pairs_append R (x ∷ xs) ys h k across = (all_append (λ y. R x y) xs ys h.0 across.0, pairs_append R xs ys h.1 k across.1)
-
 pub pairs_take : {A : Type 0} (R : A → A → Type 0) (n : ℕ) (xs : List A) → Pairs R xs → Pairs R (take n xs)
 pairs_take R zero xs h = tt
 pairs_take R (suc n) [] h = tt
 pairs_take R (suc n) (x ∷ xs) h = (all_take (λ y. R x y) n xs h.0, pairs_take R n xs h.1)
-
-pairs_placed : {A : Type 0} (cmp : A → A → Ordering) (R : A → A → Type 0) (back : (x y : A) → R x y → R y x) (x : A) (ys : List A) → AllByRecursion (λ y. R x y) ys → Pairs R ys → Pairs R (placed cmp x ys)
-pairs_placed cmp R back x [] h k = (tt, tt)
-pairs_placed {A} cmp R back x (y ∷ ys) h k = step (is_gt (cmp x y)) refl (pairs_placed cmp R back x ys h.1 k.1) where
-  step : (b : Bool) → is_gt (cmp x y) ≡ b → Pairs R (placed cmp x ys) → Pairs R (placed cmp x (y ∷ ys))
-  step true e rest = rw e (all_placed cmp (λ z. R y z) x ys (back x y h.0) k.0, rest)
-  step false e rest = rw e (h, k)
-
-pub pairs_sorted : {A : Type 0} (cmp : A → A → Ordering) (R : A → A → Type 0) → ((x y : A) → R x y → R y x) → (xs : List A) → Pairs R xs → Pairs R (sorted cmp xs)
-pairs_sorted cmp R back [] h = tt
-pairs_sorted {A} cmp R back (x ∷ xs) h = pairs_placed cmp R back x (sorted cmp xs) (all_sorted_here (λ y. R x y) xs h.0) (pairs_sorted cmp R back xs h.1) where
-  all_sorted_here : (P : A → Type 0) (ys : List A) → AllByRecursion P ys → AllByRecursion P (sorted cmp ys)
-  all_sorted_here P [] k = tt
-  all_sorted_here P (y ∷ ys) k = all_placed cmp P y (sorted cmp ys) k.0 (all_sorted_here P ys k.1)
 
 -- ---- in the other order
 

@@ -14,12 +14,14 @@ use Rattle.accumulator_pages.proofs.Adding.{added-above, length-added}
 use Rattle.accumulator_pages.proofs.Raising.{raised-all, raised-only, raised-once}
 use Rattle.ranking_model.specs.Order.{sorted}
 use Rattle.ranking_model.specs.Scores.{rank_cmp, hits_from, first_ranked, runner_up}
-use Rattle.shared_lemmas.proofs.Pairs.{Pairs, pairs_by_recursion}
+use Rattle.shared_lemmas.proofs.Pairs.{Pairs, pairs_by_recursion, pairs_append}
+use Rattle.shared_lemmas.proofs.Members.{In, in_from_contains, contains_from_in, all_at, all_in}
+use Rattle.shared_lemmas.proofs.Lists.{all_weaker, all_append}
 use Rattle.topk_heap.specs.Noting.{AreNoted, LetsPass, Passes, just_behind}
 use Rattle.topk_heap.specs.Standing.{HaveFirst, IsTouched, TopStands, TopView, with_heap}
 use Rattle.topk_heap.proofs.Ahead.{more_ahead}
 use Rattle.topk_heap.proofs.Known.{lets_pass, pass_first, passed, some_to_pass}
-use Rattle.topk_heap.proofs.Lists.{In, all_append, all_at, all_imp, all_in, all_index, contains_from_in, in_append, in_from_contains, in_left, in_map, in_right, pairs_append, pairs_index}
+use Rattle.topk_heap.proofs.Lists.{all_index, in_append, in_left, in_map, in_right, pairs_index}
 use Rattle.topk_heap.proofs.Raised.{heap_has, placed_after}
 
 -- ---- lists
@@ -162,11 +164,11 @@ module _ (top : TopView) (last : Hit) (w : ℕ) (docs s places noted : List ℕ)
 
   only_all : AllByRecursion (Passes last (added w docs s)) (noted ++ raised w last docs s)
   only_all = all_append (Passes last (added w docs s)) noted (raised w last docs s)
-      (all_imp (Passes last s) (Passes last (added w docs s)) later noted (recursion_from_All (Passes last s) noted are.only))
+      (all_weaker (Passes last s) (Passes last (added w docs s)) later noted (recursion_from_All (Passes last s) noted are.only))
       (all_in (Passes last (added w docs s)) (raised w last docs s) (λ doc there. now doc (contains_from_in (raised w last docs s) doc there)))
 
   across : AllByRecursion (λ a. AllByRecursion (λ b. a ≢ b) (raised w last docs s)) noted
-  across = all_imp (Passes last s) (λ a. AllByRecursion (λ b. a ≢ b) (raised w last docs s))
+  across = all_weaker (Passes last s) (λ a. AllByRecursion (λ b. a ≢ b) (raised w last docs s))
       (λ a is. all_in (λ b. a ≢ b) (raised w last docs s)
       (λ b there same. let r = raised-only w b last docs s inside (contains_from_in (raised w last docs s) b there) in
       let low : get_or s a 0 < score_to_pass last a = subst (λ d. get_or s d 0 < score_to_pass last d) (sym same) r.1 in
@@ -192,7 +194,7 @@ module _ (top : TopView) (last : Hit) (w : ℕ) (docs s places noted : List ℕ)
   pub more_noted : AreNoted top last (added w docs s) places (noted ++ raised w last docs s)
   more_noted = record {
     placed = record {
-      touched = all_imp (λ (h : Hit). IsTouched s h.doc) (λ (h : Hit). IsTouched (added w docs s) h.doc)
+      touched = all_weaker (λ (h : Hit). IsTouched s h.doc) (λ (h : Hit). IsTouched (added w docs s) h.doc)
           (λ h is. ((let a = is.0 in let b = size in omega arith), (let a = is.1 in let b = added-above w docs s h.doc in omega arith))) top.hits are.placed.touched;
       placed = are.placed.placed;
     };

@@ -1,9 +1,9 @@
 -- Hits in order, and the first of some scores.
-use Rattle.std.proofs.Common.{◌≡◌, ◌≢◌, ℕ, zero, suc, ◌+◌, ◌-◌, ◌/◌, ◌<◌, ◌≤◌, ◌==◌, List, [], ◌∷◌, length, take, get_or, Bool, true, false, refl, sym, ap, subst, ◌∙◌, arith, inl, inr, ◌⊎◌, eq-eqb, true≢false}
-use Rattle.std.specs.Prelude.{IsPermutation, reverse, slice_get, nat_lt, min, IsTrue, Option, Some, None, IfSome, is_some, option_map, if◌then◌else◌}
+use Rattle.std.proofs.Common.{◌≡◌, ◌≢◌, ℕ, zero, suc, ◌+◌, ◌-◌, ◌/◌, ◌<◌, ◌≤◌, ◌==◌, List, [], ◌∷◌, length, take, get_or, Bool, true, false, refl, sym, ap, subst, ◌∙◌, arith, inl, inr, ◌⊎◌, true≢false}
+use Rattle.std.specs.Prelude.{IsPermutation, reverse, slice_get, nat_lt, min, Option, Some, None, IfSome, is_some, option_map, if◌then◌else◌}
 use Rattle.std.specs.List.{AllByRecursion}
 use Rattle.std.specs.Ordering.{is_gt}
-use Rattle.std.proofs.lemmas.Bool.{cases_eq, cases_lt}
+use Rattle.std.proofs.lemmas.Bool.{cases_lt}
 use Rattle.std.proofs.lemmas.Bool.Decides.{nat_tests}
 use Rattle.std.proofs.lemmas.List.{get_or-reverse, length-reverse, take_min}
 use Rattle.std.proofs.lemmas.Option.{get_or_from_slice_get, slice_get_past, slice_get_read}
@@ -11,12 +11,14 @@ use Rattle.std.proofs.lemmas.List.Sorted.{IsPermutation-reverse, IsPermutation-s
 use Rattle.jass_base.specs.declared.answer.Hit.{Hit}
 use Rattle.ranking_model.specs.Order.{sorted}
 use Rattle.ranking_model.specs.Scores.{rank_cmp, hits_from, first_ranked, runner_up}
-use Rattle.ranking_model.proofs.Sorting.{Ascends, all_sorted, one_order, sorted_ascending, sorted_ascends}
+use Rattle.ranking_model.proofs.Sorting.{Ascends, all_sorted, one_order, sorted_ascending, sorted_ascends, pairs_sorted}
 use Rattle.ranking_model.proofs.Orders.{rank_total, rank_same}
 use Rattle.shared_lemmas.proofs.Pairs.{Pairs}
+use Rattle.shared_lemmas.proofs.Lists.{all_weaker, all_take}
+use Rattle.ranking_model.proofs.Candidates.{hits_each, ascends_take}
 use Rattle.topk_heap.specs.Hits.{hit_at}
 use Rattle.topk_heap.specs.Standing.{AreInOrder, IsHeap}
-use Rattle.topk_heap.proofs.Lists.{all_at, all_by_index, all_in, in_reverse, all_imp, all_take, all_index, pairs_sorted, pairs_take}
+use Rattle.topk_heap.proofs.Lists.{all_index, pairs_take}
 use Rattle.topk_heap.proofs.Rows.{take_front}
 
 abbrev pub Apart : Hit → Hit → Type 0
@@ -43,11 +45,11 @@ in_order (x ∷ xs) up apart = (each xs up.0 apart.0, in_order xs up.1 apart.1) 
 
 pub order_ascends : (xs : List Hit) → AreInOrder xs → Ascends rank_cmp xs
 order_ascends [] order = tt
-order_ascends (x ∷ xs) order = (all_imp (λ (y : Hit). (is_gt (rank_cmp y x) ≡ true) × (y.doc ≢ x.doc)) (λ y. is_gt (rank_cmp x y) ≡ false) (λ y h. before x y h.0) xs order.0, order_ascends xs order.1)
+order_ascends (x ∷ xs) order = (all_weaker (λ (y : Hit). (is_gt (rank_cmp y x) ≡ true) × (y.doc ≢ x.doc)) (λ y. is_gt (rank_cmp x y) ≡ false) (λ y h. before x y h.0) xs order.0, order_ascends xs order.1)
 
 pub order_apart : (xs : List Hit) → AreInOrder xs → Pairs Apart xs
 order_apart [] order = tt
-order_apart (x ∷ xs) order = (all_imp (λ (y : Hit). (is_gt (rank_cmp y x) ≡ true) × (y.doc ≢ x.doc)) (λ y. Apart x y) (λ y h e. h.1 (sym e)) xs order.0, order_apart xs order.1)
+order_apart (x ∷ xs) order = (all_weaker (λ (y : Hit). (is_gt (rank_cmp y x) ≡ true) × (y.doc ≢ x.doc)) (λ y. Apart x y) (λ y h e. h.1 (sym e)) xs order.0, order_apart xs order.1)
 
 pub order_index : (xs : List Hit) → AreInOrder xs → (i j : ℕ) (d : Hit) → i < j → j < length xs → is_gt (rank_cmp (get_or xs j d) (get_or xs i d)) ≡ true
 order_index [] order i j d up inside = absurd (omega arith)
@@ -68,21 +70,6 @@ heap_of xs order i some inside =
 
 -- ---- the first of some scores
 
-ascends_take : (n : ℕ) (xs : List Hit) → Ascends rank_cmp xs → Ascends rank_cmp (take n xs)
-ascends_take zero xs h = tt
-ascends_take (suc n) [] h = tt
-ascends_take (suc n) (x ∷ xs) h = (all_take (λ y. is_gt (rank_cmp x y) ≡ false) n xs h.0, ascends_take n xs h.1)
-
-pub hits_each : (P : Hit → Type 0) (from : ℕ) (scores : List ℕ) → ((i : ℕ) → i < length scores → 1 ≤ get_or scores i 0 → P (record { doc = from + i; score = get_or scores i 0 })) → AllByRecursion P (hits_from from scores)
-hits_each P from [] each = tt
-hits_each P from (score ∷ scores) each = by (cases_eq score 0) (hits_each P (from + 1) scores (λ i inside some. let e : from + suc i ≡ from + 1 + i = omega arith in subst (λ d. P (record { doc = d; score = get_or scores i 0 })) e (each (suc i) (omega arith) some))) where
-  first : 1 ≤ score → P (record { doc = from; score = score })
-  first some = let e : from + 0 ≡ from = omega arith in subst (λ d. P (record { doc = d; score = score })) e (each 0 (omega arith) some)
-
-  by : (score ≡ 0) ⊎ (score ≡ 0 → ⊥) → AllByRecursion P (hits_from (from + 1) scores) → AllByRecursion P (hits_from from (score ∷ scores))
-  by (inl e) rest = let t : (score == 0) ≡ true = eq-eqb score 0 e in rw t rest
-  by (inr apart) rest = let f : (score == 0) ≡ false = grind (arith, nat_tests) in rw f (first (omega arith), rest)
-
 hits_apart : (from : ℕ) (scores : List ℕ) → Pairs Apart (hits_from from scores)
 hits_apart from [] = tt
 hits_apart from (score ∷ scores) = step (score == 0) (hits_apart (from + 1) scores) where
@@ -102,7 +89,7 @@ all_in_order scores =
 
 pub first_in_order : (scores : List ℕ) (m : ℕ) → AreInOrder (first_ranked scores m)
 first_in_order scores m =
-    in_order (first_ranked scores m) (ascends_take m (sorted rank_cmp (hits_from 0 scores)) (sorted_ascends rank_cmp rank_total (hits_from 0 scores)))
+    in_order (first_ranked scores m) (ascends_take rank_cmp m (sorted rank_cmp (hits_from 0 scores)) (sorted_ascends rank_cmp rank_total (hits_from 0 scores)))
     (pairs_take Apart m (sorted rank_cmp (hits_from 0 scores)) (pairs_sorted rank_cmp Apart (λ x y apart e. apart (sym e)) (hits_from 0 scores) (hits_apart 0 scores)))
 
 -- hits in order whose heap is the first of some scores are these
@@ -134,30 +121,6 @@ looked_up {B = B} now xs i (Some x) there is = sym (slice_get_read xs (length xs
 
 pub next_is : (scores : List ℕ) (k : ℕ) (row front : List Hit) (o : Option Hit) → AreInOrder row → front ≡ row → o ≡ slice_get front k → IsPermutation (first_ranked scores (k + 1)) (reverse row) → o ≡ runner_up scores k
 next_is scores k row front o order same is moved = is ∙ ap (λ (xs : List Hit). slice_get xs k) (same ∙ is_first scores (k + 1) row order moved)
-
--- a hit behind the last of hits in order is behind all of them
-pub behind_all : (x : Hit) (xs : List Hit) (k : ℕ) (d last : Hit) → AreInOrder xs → length xs ≤ k + 1 → k < length xs → last ≡ get_or xs k d → is_gt (rank_cmp x last) ≡ true → AllByRecursion (λ y. is_gt (rank_cmp x y) ≡ true) (reverse xs)
-behind_all x xs k d last order few inside is behind_last =
-    all_in (λ y. is_gt (rank_cmp x y) ≡ true) (reverse xs) (λ y there. all_at (λ y. is_gt (rank_cmp x y) ≡ true) xs y (all_by_index (λ y. is_gt (rank_cmp x y) ≡ true) d xs (λ i here. by i here (cases_eq i k))) (in_reverse y xs there))
-  where
-    further : (a b c : Hit) → is_gt (rank_cmp a b) ≡ true → is_gt (rank_cmp b c) ≡ true → is_gt (rank_cmp a c) ≡ true
-    further a b c one two = grind (arith, nat_tests)
-
-    by : (i : ℕ) → i < length xs → (i ≡ k) ⊎ (i ≡ k → ⊥) → is_gt (rank_cmp x (get_or xs i d)) ≡ true
-    by i here (inl e) = subst (λ j. is_gt (rank_cmp x (get_or xs j d)) ≡ true) (sym e) (subst (λ (h : Hit). is_gt (rank_cmp x h) ≡ true) is behind_last)
-    by i here (inr apart) = further x last (get_or xs i d) behind_last (subst (λ (h : Hit). is_gt (rank_cmp h (get_or xs i d)) ≡ true) (sym is) (order_index xs order i k d (omega arith) inside))
-
-pub by_score : (doc score : ℕ) (last : Hit) → score < last.score → is_gt (rank_cmp (record { doc = doc; score = score }) last) ≡ true
-by_score doc score last low = grind (arith, nat_tests)
-
-pub by_doc : (doc score : ℕ) (last : Hit) → last.score ≡ score → last.doc < doc → is_gt (rank_cmp (record { doc = doc; score = score }) last) ≡ true
-by_doc doc score last same high = grind (arith, nat_tests)
-
-pub ltb_says : (a b : ℕ) → IsTrue (nat_lt a b) → a < b
-ltb_says a b said = by (cases_lt a b) where
-  by : (a < b) ⊎ (b ≤ a) → a < b
-  by (inl low) = low
-  by (inr high) = absurd (true≢false (let f : nat_lt a b ≡ false = grind (arith, nat_tests) in sym said ∙ f))
 
 pub last_is : (row front : List Hit) (k : ℕ) (o : Option Hit) → length row ≤ k + 1 → front ≡ row → o ≡ slice_get front k → IfSome o (λ hit. length (reverse row) ≡ k + 1) × IfSome o (λ hit. hit ≡ hit_at (reverse row) 0)
 last_is row front k None few same is = (tt, tt)

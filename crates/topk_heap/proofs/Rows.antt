@@ -1,5 +1,5 @@
 -- Rows and heap places, one item on.
-use Rattle.std.proofs.Common.{◌≡◌, ℕ, zero, suc, Bool, true, false, cond, ◌==◌, ◌+◌, ◌-◌, ◌<◌, ◌≤◌, List, [], ◌∷◌, ◌++◌, append_assoc, map, length, get_or, set, take, drop, refl, sym, ap, ◌∙◌, subst, arith, drop-cons}
+use Rattle.std.proofs.Common.{◌≡◌, ℕ, zero, suc, ◌+◌, ◌-◌, ◌<◌, ◌≤◌, List, [], ◌∷◌, length, get_or, set, take, drop, refl, sym, ap, ◌∙◌, subst, arith, drop-cons}
 use Rattle.std.proofs.lemmas.List.{get_or_read, length-take}
 use Rattle.jass_base.specs.declared.answer.Hit.{Hit}
 use Rattle.frame_pool.specs.Pool.{PoolView}
@@ -8,44 +8,7 @@ use Rattle.accumulator_pages.specs.declared.pages.Pages.{Pages}
 use Rattle.accumulator_pages.specs.Pages.{own_chain, own_view, pages_places, pages_scores}
 use Rattle.accumulator_pages.proofs.Standing.{length-values}
 use Rattle.topk_heap.specs.Hits.{with_score}
-use Rattle.topk_heap.specs.Places.{KeepsScores, hit_of, newcomers, with_places, without_places}
-
--- ---- scores
-
-pub map_next : {A : Type 0} (f : A → A) (xs : List A) (i : ℕ) (d : A) → i < length xs
-    → take (i + 1) (set xs i (f (get_or xs i d))) ++ map f (drop (i + 1) (set xs i (f (get_or xs i d)))) ≡ take i xs ++ map f (drop i xs)
-map_next f [] i d inside = absurd (omega arith)
-map_next f (x ∷ xs) zero d inside = refl
-map_next {A} f (x ∷ xs) (suc i) d inside =
-    let one : suc i + 1 ≡ suc (i + 1) = omega arith in
-    ap (λ n. take n (set (x ∷ xs) (suc i) (f (get_or xs i d))) ++ map f (drop n (set (x ∷ xs) (suc i) (f (get_or xs i d))))) one
-    ∙ ap (λ (ys : List A). x ∷ ys) (map_next f xs i d (omega arith))
-
-pub map_done : {A : Type 0} (f : A → A) (xs ys : List A) (i : ℕ) → length xs ≤ i → take i xs ++ map f (drop i xs) ≡ ys → xs ≡ ys
-map_done {A = A} f xs ys i past is = sym (at xs i past) ∙ is where
-  at : (xs : List A) (i : ℕ) → length xs ≤ i → take i xs ++ map f (drop i xs) ≡ xs
-  at [] zero past = refl
-  at [] (suc i) past = refl
-  at (x ∷ xs) zero past = absurd (omega arith)
-  at (x ∷ xs) (suc i) past = ap (λ (ys : List A). x ∷ ys) (at xs i (omega arith))
-
--- ---- newcomers
-
-pub newcomers_next : (scores places docs : List ℕ) (i : ℕ) (hits hits' all : List Hit) → i < length docs
-    → hits' ≡ hits ++ cond (get_or places (get_or docs i 0) 0 == 0) (hit_of scores (get_or docs i 0) ∷ []) []
-    → hits ++ newcomers scores places (drop i docs) ≡ all → hits' ++ newcomers scores places (drop (i + 1) docs) ≡ all
-newcomers_next scores places docs i hits hits' all inside is left =
-    let one : i + 1 ≡ suc i = omega arith in
-    ap (λ n. hits' ++ newcomers scores places (drop n docs)) one
-    ∙ ap (λ (xs : List Hit). xs ++ newcomers scores places (drop (suc i) docs)) is
-    ∙ append_assoc hits (cond (get_or places (get_or docs i 0) 0 == 0) (hit_of scores (get_or docs i 0) ∷ []) []) (newcomers scores places (drop (suc i) docs))
-    ∙ ap (λ (xs : List Hit). hits ++ xs) (by (get_or places (get_or docs i 0) 0 == 0) (newcomers scores places (drop (suc i) docs)) (hit_of scores (get_or docs i 0)))
-    ∙ ap (λ ds. hits ++ newcomers scores places ds) (sym (drop-cons docs i 0 inside))
-    ∙ left
-  where
-    by : (b : Bool) (rest : List Hit) (hit : Hit) → cond b (hit ∷ []) [] ++ rest ≡ cond b (hit ∷ rest) rest
-    by true rest hit = refl
-    by false rest hit = refl
+use Rattle.topk_heap.specs.Places.{KeepsScores, with_places, without_places}
 
 -- ---- heap places
 

@@ -16,8 +16,10 @@ use Rattle.ranking_model.specs.Scores.{rank_cmp}
 use Rattle.ranking_model.proofs.Candidates.{first_part}
 use Rattle.ranking_model.proofs.Orders.{rank_total, rank_same}
 use Rattle.ranking_model.proofs.Sorting.{Ascends, all_sorted, ascends_append, sort_is_sorted, sorted_ascending, sorted_ascends, sorted_is_permutation}
+use Rattle.shared_lemmas.proofs.Members.{in_from_contains, all_at}
+use Rattle.shared_lemmas.proofs.Lists.{all_weaker, all_map}
 use Rattle.topk_heap.specs.Hits.{HitsView, hit_of_key, keys_view}
-use Rattle.topk_heap.proofs.Lists.{all_at, all_by_index, all_imp, all_map, in_from_contains, in_right}
+use Rattle.topk_heap.proofs.Lists.{all_by_index, in_right}
 
 not_after : (x y : Hit) → is_lt (rank_cmp y x) ≡ false → is_gt (rank_cmp x y) ≡ false
 not_after x y above = grind (arith, nat_tests)
@@ -34,7 +36,7 @@ selected_are_first all front x back m moved split size = first_part rank_cmp ran
   above : AllByRecursion (λ y. AllByRecursion (λ z. is_gt (rank_cmp y z) ≡ false) (x ∷ back)) front
   above = all_by_index (λ y. AllByRecursion (λ z. is_gt (rank_cmp y z) ≡ false) (x ∷ back)) x front (λ i inside. ahead _ (not_after _ x (split.0 i x inside))) where
     ahead : (y : Hit) → is_gt (rank_cmp y x) ≡ false → AllByRecursion (λ z. is_gt (rank_cmp y z) ≡ false) (x ∷ back)
-    ahead y before = (before, all_imp (λ z. is_gt (rank_cmp x z) ≡ false) (λ z. is_gt (rank_cmp y z) ≡ false) (λ z after. through y x z before after) back behind)
+    ahead y before = (before, all_weaker (λ z. is_gt (rank_cmp x z) ≡ false) (λ z. is_gt (rank_cmp y z) ≡ false) (λ z after. through y x z before after) back behind)
 
 -- ---- one of them, by the numbers that they are sorted by
 
@@ -59,8 +61,8 @@ selected_at all front x back n moved ahead behind size =
 
     order : Ascends rank_cmp (sorted rank_cmp front ++ x ∷ sorted rank_cmp back)
     order = ascends_append rank_cmp (sorted rank_cmp front) (x ∷ sorted rank_cmp back) (sorted_ascends rank_cmp rank_total front) (back_order, sorted_ascends rank_cmp rank_total back)
-        (all_imp (λ y. is_gt (rank_cmp y x) ≡ false) (λ y. AllByRecursion (λ z. is_gt (rank_cmp y z) ≡ false) (x ∷ sorted rank_cmp back))
-        (λ y h. (h, all_imp (λ z. is_gt (rank_cmp x z) ≡ false) (λ z. is_gt (rank_cmp y z) ≡ false) (λ z k. through y x z h k) (sorted rank_cmp back) back_order))
+        (all_weaker (λ y. is_gt (rank_cmp y x) ≡ false) (λ y. AllByRecursion (λ z. is_gt (rank_cmp y z) ≡ false) (x ∷ sorted rank_cmp back))
+        (λ y h. (h, all_weaker (λ z. is_gt (rank_cmp x z) ≡ false) (λ z. is_gt (rank_cmp y z) ≡ false) (λ z k. through y x z h k) (sorted rank_cmp back) back_order))
         (sorted rank_cmp front) (all_sorted rank_cmp (λ y. is_gt (rank_cmp y x) ≡ false) front ahead))
 
     whole : sorted rank_cmp front ++ x ∷ sorted rank_cmp back ≡ sorted rank_cmp all

@@ -10,12 +10,14 @@ use Rattle.std.proofs.Math.Seq.{take-append_seam}
 use Rattle.jass_base.specs.declared.answer.Hit.{Hit}
 use Rattle.ranking_model.specs.Order.{sorted}
 use Rattle.ranking_model.specs.Scores.{rank_cmp, first_ranked, runner_up, AreHitsOf}
-use Rattle.shared_lemmas.proofs.Pairs.{Pairs, pairs_by_recursion}
+use Rattle.shared_lemmas.proofs.Pairs.{Pairs, pairs_by_recursion, pairs_append}
 use Rattle.ranking_model.proofs.Candidates.{first_of_candidates}
+use Rattle.shared_lemmas.proofs.Members.{In, in_from_contains, contains_from_in, all_at, all_in}
+use Rattle.shared_lemmas.proofs.Lists.{all_weaker, all_append, all_map}
 use Rattle.topk_heap.specs.Hits.{HitsView}
 use Rattle.topk_heap.specs.Places.{hit_of, newcomers, rescored, with_places, without_places}
 use Rattle.topk_heap.specs.Standing.{AreInOrder, ArePlacesOf, HaveFirst, IsPlaced, IsTop, IsTouched, TopStands, TopView, top_view, with_heap}
-use Rattle.topk_heap.proofs.Lists.{In, Has, doc_cases, in_append, in_from_contains, contains_from_in, in_left, in_right, in_map, in_reverse, in_reversed, all_append, all_at, all_by_index, all_imp, all_in, all_index, all_map, all_reversed, pairs_append, pairs_index}
+use Rattle.topk_heap.proofs.Lists.{Has, doc_cases, in_append, in_left, in_right, in_map, in_reverse, in_reversed, all_by_index, all_index, all_reversed, pairs_index}
 use Rattle.topk_heap.proofs.Ranking.{Apart, Own, first_in_order, first_own, heap_of, order_apart}
 
 -- ---- newcomers
@@ -70,14 +72,14 @@ module _ (scores places raised : List ℕ) (row : List Hit) (m : ℕ)
   pub candidates_own : AllByRecursion (Own scores) (map (rescored scores) row ++ newcomers scores places raised)
   candidates_own =
       all_append (Own scores) (map (rescored scores) row) (newcomers scores places raised)
-      (all_map (Own scores) (rescored scores) row (all_imp (λ (h : Hit). IsTouched scores h.doc) (λ h. Own scores (rescored scores h)) (λ h is. (is.0, is.1, refl)) row touched))
+      (all_map (Own scores) (rescored scores) row (all_weaker (λ (h : Hit). IsTouched scores h.doc) (λ h. Own scores (rescored scores h)) (λ h is. (is.0, is.1, refl)) row touched))
       (newcomers_all (Own scores) scores places raised (λ d there none. let is = all_at (λ d. IsTouched scores d) raised d known there in (is.0, is.1, refl)))
 
   candidates_apart : Pairs Apart (map (rescored scores) row ++ newcomers scores places raised)
   candidates_apart =
       pairs_append Apart (map (rescored scores) row) (newcomers scores places raised) (pairs_rescored scores row apart) (newcomers_apart scores places raised once)
       (all_map (λ x. AllByRecursion (λ y. Apart x y) (newcomers scores places raised)) (rescored scores) row
-      (all_imp (λ (h : Hit). get_or places h.doc 0 ≢ 0) (λ h. AllByRecursion (λ y. Apart (rescored scores h) y) (newcomers scores places raised))
+      (all_weaker (λ (h : Hit). get_or places h.doc 0 ≢ 0) (λ h. AllByRecursion (λ y. Apart (rescored scores h) y) (newcomers scores places raised))
       (λ h some. newcomers_all (λ y. Apart (rescored scores h) y) scores places raised (λ d there none e. some (ap (λ x. get_or places x 0) e ∙ none)))
       row (row_placed row places placed)))
 
@@ -159,7 +161,7 @@ with_at : (hits : List Hit) (s : List ℕ) → Pairs Apart hits → AllByRecursi
     → get_or (with_places hits s) (get_or hits j d).doc 0 ≡ length hits - j
 with_at [] s apart inside j d here = absurd (omega arith)
 with_at (hit ∷ hits) s apart inside zero d here =
-    with_keeps hits (set s hit.doc (1 + length hits)) hit.doc (all_imp (λ h. Apart hit h) (λ (h : Hit). h.doc ≢ hit.doc) (λ h k e. k (sym e)) hits apart.0)
+    with_keeps hits (set s hit.doc (1 + length hits)) hit.doc (all_weaker (λ h. Apart hit h) (λ (h : Hit). h.doc ≢ hit.doc) (λ h k e. k (sym e)) hits apart.0)
     ∙ get_or-set_same s hit.doc (1 + length hits) 0 inside.0 ∙ omega arith
 with_at (hit ∷ hits) s apart inside (suc j) d here =
     with_at hits (set s hit.doc (1 + length hits)) apart.1
@@ -221,7 +223,7 @@ row_touched scores row xs touched is i d inside =
     (subst (λ (ys : List Hit). AllByRecursion (λ (h : Hit). IsTouched scores h.doc) ys) (sym is) (all_map (λ (h : Hit). IsTouched scores h.doc) (rescored scores) row touched)) i d inside
 
 first_touched : (scores : List ℕ) (m : ℕ) → AllByRecursion (λ (h : Hit). IsTouched scores h.doc) (first_ranked scores m)
-first_touched scores m = all_imp (Own scores) (λ (h : Hit). IsTouched scores h.doc) (λ h own. (own.0, subst (λ n. 1 ≤ n) own.2 own.1)) (first_ranked scores m) (first_own scores m)
+first_touched scores m = all_weaker (Own scores) (λ (h : Hit). IsTouched scores h.doc) (λ h own. (own.0, subst (λ n. 1 ≤ n) own.2 own.1)) (first_ranked scores m) (first_own scores m)
 
 pub new_touched : (scores : List ℕ) (new xs : List Hit) (m : ℕ) → new ≡ first_ranked scores m → xs ≡ new → (i : ℕ) (d : Hit) → i < length xs → IsTouched scores (get_or xs i d).doc
 new_touched scores new xs m is same i d inside =
@@ -236,7 +238,7 @@ stands_settled k hits scores scores' places cleared places' raised row sliced fr
     let order : AreInOrder hits.hits = subst AreInOrder (sym new) (first_in_order scores m) in
     let inside : AllByRecursion (λ (h : Hit). h.doc < length without) hits.hits =
     subst (λ (ys : List Hit). AllByRecursion (λ (h : Hit). h.doc < length without) ys) (sym new)
-    (all_imp (Own scores) (λ (h : Hit). h.doc < length without) (λ h own. let n = length-without (map (rescored scores) row) places in let o = own.0 in omega arith) (first_ranked scores m) (first_own scores m)) in
+    (all_weaker (Own scores) (λ (h : Hit). h.doc < length without) (λ h own. let n = length-without (map (rescored scores) row) places in let o = own.0 in omega arith) (first_ranked scores m) (first_own scores m)) in
     record {
       hits = subst (λ (xs : List Hit). IsPermutation xs (reverse hits.hits)) (new ∙ ap (λ s. first_ranked s m) (sym scores_same)) (IsPermutation-reverse hits.hits);
       heap = heap_of hits.hits order;

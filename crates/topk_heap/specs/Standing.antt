@@ -1,5 +1,5 @@
 -- The first documents of some scores in a heap, the last of them in front. Heaps: J. W. J. Williams, Algorithm 232 (CACM 1964).
-use Rattle.std.specs.Prelude.{◌≡◌, ◌≢◌, ℕ, ◌+◌, ◌-◌, ◌/◌, ◌<◌, ◌≤◌, true, List, [], ◌∷◌, ◌++◌, ⊤, length, map, reverse, slice_index, slice_set, IsPermutation, Contains}
+use Rattle.std.specs.Prelude.{◌≡◌, ◌≢◌, ℕ, ◌+◌, ◌-◌, ◌/◌, ◌<◌, ◌≤◌, true, List, [], ◌∷◌, ◌++◌, ⊤, length, map, reverse, slice_index, IsPermutation, Contains}
 use Rattle.std.specs.List.{AllByRecursion}
 use Rattle.std.specs.Ordering.{is_gt}
 use Rattle.jass_base.specs.declared.answer.Hit.{Hit}
@@ -65,9 +65,3 @@ with_heap top docs = map (λ (hit : Hit). hit.doc) top.hits ++ docs
 -- the first m documents of some scores are among these
 abbrev pub HaveFirst : List ℕ → ℕ → List ℕ → Type 0
 HaveFirst scores m docs = AllByRecursion (λ hit. Contains docs hit.doc) (first_ranked scores m)
-
--- the heap would stand if the document's score were some lower number
-pub record StandsBelow (top : TopView) (scores places : List ℕ) (doc : ℕ) : Type 0 where
-  pub lower : ℕ
-  pub below : lower < slice_index scores doc
-  pub stands : TopStands top (slice_set scores doc lower) places

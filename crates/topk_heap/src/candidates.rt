@@ -70,7 +70,7 @@ impl Candidates {
     }
 }
 
-// The number after the first n by size, out of those in front of a row.
+/// The number after the first n by size, out of those in front of a row.
 fn select_key(row: &mut [u64], count: usize, n: usize) -> u64
     requires within { count ≤ length row.old }
     requires some { n < count }
@@ -82,14 +82,14 @@ fn select_key(row: &mut [u64], count: usize, n: usize) -> u64
     *key
 }
 
-// Numbers of 64 bits are below 2^64.
+/// Numbers of 64 bits are below 2^64.
 fn numbers_fit(keys: &[u64])
     ensures { (i : ℕ) → slice_index keys.now i < 18446744073709551616 }
 {
     let _ = keys;
 }
 
-// The hit that is sorted by a number.
+/// The hit that is sorted by a number.
 fn hit_of_key(key: u64) -> Hit
     ensures { result ≡ hit_of_key key }
 {

@@ -93,7 +93,7 @@ fn blank_row(alloc: Global, len: usize) -> Result<Vec<Hit>, NoMemory>
     vec![in alloc; Hit { doc: 0, score: 0 }; len].map_err(|_| NoMemory)
 }
 
-// Puts the first of the hits in order in front of their row.
+/// Puts the first of the hits in order in front of their row.
 fn rank_first(row: &mut [Hit], hits: usize, count: usize, aside: &mut [Hit])
     requires { hits ≤ length row.old }
     ensures front { take (min hits count) row.new ≡ take count (sorted rank_cmp (take hits row.old)) }
@@ -109,8 +109,8 @@ fn rank_first(row: &mut [Hit], hits: usize, count: usize, aside: &mut [Hit])
     }
 }
 
-// Writes the first of the hits to `first`, in order. The hits themselves are lost: nothing tells what a selection
-// leaves.
+/// Writes the first of the hits to `first`, in order. The hits themselves are lost: nothing tells what a selection
+/// leaves.
 fn select_first(hits: &mut [Hit], first: &mut [Hit])
     requires { length first.old < length hits.old }
     ensures first { first.new ≡ take (length first.old) (sorted rank_cmp hits.old) }
@@ -127,14 +127,14 @@ fn rank(hits: &mut [Hit])
     hits.sort_unstable_by(rank_order);
 }
 
-// The order of hits. One number of each is compared, since two comparisons would branch.
+/// The order of hits. One number of each is compared, since two comparisons would branch.
 fn rank_order(a: &Hit, b: &Hit) -> Ordering
     ensures { result ≡ rank_cmp a.now b.now }
 {
     rank_key(a).cmp(&rank_key(b))
 }
 
-// The number of a hit is less than that of another exactly where the hit is ahead.
+/// The number of a hit is less than that of another exactly where the hit is ahead.
 pub fn rank_key(hit: &Hit) -> u64
     ensures key { result ≡ rank_key hit.now }
     ensures fits { (hit.now.doc < 4294967296) × (hit.now.score < 4294967296) }

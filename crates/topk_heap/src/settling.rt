@@ -44,7 +44,7 @@ pub fn gather(hits: &mut Hits, pages: &Pages, pool: &FramePool, raised: &[u32])
     }
 }
 
-// Whether a document has no heap place.
+/// Whether a document has no heap place.
 fn is_outside(pages: &Pages, pool: &FramePool, doc: u32) -> bool
     requires stands { Stands pages.now pool.now }
     requires inside { doc < docs_of pages.now }

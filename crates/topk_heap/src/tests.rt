@@ -6,8 +6,7 @@ ghost use Rattle.accumulator_pages.specs.Pages.{ArePagesOf, HasRoom, HasRoomFor,
 ghost use Rattle.topk_heap.specs.Standing.{TopStands};
 
 use crate::laws::{
-    a_risen_document_can_be_raised, calls_on_other_chains_leave_a_heap,
-    the_runner_up_is_a_document, those_raised_are_noted,
+    calls_on_other_chains_leave_a_heap, the_runner_up_is_a_document, those_raised_are_noted,
 };
 use crate::top::{Top, just_behind};
 use accumulator_pages::laws::calls_on_other_chains_leave_pages;
@@ -18,7 +17,7 @@ use jass_base::{Hit, NoMemory};
 use std::alloc::Global;
 use std::process::Abort;
 
-// A session over some documents for the first one, with a promise of three frames.
+/// A session over some documents for the first one, with a promise of three frames.
 fn opened(
     rt: &impl Abort,
     alloc: Global,
@@ -51,7 +50,7 @@ fn opened(
     }
 }
 
-// Adds to a score that is known to be small, and raises the document.
+/// Adds to a score that is known to be small, and settles its document.
 fn add(rt: &impl Abort, pages: &mut Pages, top: &mut Top, pool: &mut FramePool, doc: u32, w: u32)
     requires stands { Stands pages.old pool.old }
     requires top { TopStands top.old (pages_scores pages.old pool.old) (pages_places pages.old pool.old) }
@@ -59,21 +58,22 @@ fn add(rt: &impl Abort, pages: &mut Pages, top: &mut Top, pool: &mut FramePool, 
     requires weight { 1 ≤ w }
     requires small { w < 1000 }
     requires frame { HasRoom (own_view pages.old pool.old) (doc / 256) }
+    requires room { 1 ≤ top.old.room }
     ensures stands { Stands pages.new pool.new }
     ensures top { TopStands top.new (pages_scores pages.new pool.new) (pages_places pages.new pool.new) }
     ensures same { ArePagesOf pages.old pages.new }
     ensures frames { length (own_view pages.new pool.new).frames ≤ length (own_view pages.old pool.old).frames + 1 }
     ensures leaves { LeavesPool pool.old pool.new (own_chain pages.old) }
     ensures promise { (own_view pages.new pool.new).promise ≡ (own_view pages.old pool.old).promise }
+    ensures room { top.new.room ≡ top.old.room }
 {
-    a_risen_document_can_be_raised();
     calls_on_one_chain();
     assert!(rt; pages.get(pool, doc) < 1000);
     pages.add(pool, doc, w);
-    top.raise(pages, pool, doc);
+    top.settle(pages, pool, &[doc]);
 }
 
-// The same beside another session, which still stands.
+/// The same beside another session, which still stands.
 fn add_beside(
     rt: &impl Abort,
     other: &Pages,
@@ -93,6 +93,7 @@ fn add_beside(
     requires weight { 1 ≤ w }
     requires small { w < 1000 }
     requires frame { HasRoom (own_view pages.old pool.old) (doc / 256) }
+    requires room { 1 ≤ top.old.room }
     ensures other { Stands other.now pool.new }
     ensures other_view { own_view other.now pool.new ≡ own_view other.now pool.old }
     ensures other_top { TopStands other_top.now (pages_scores other.now pool.new) (pages_places other.now pool.new) }
@@ -101,13 +102,14 @@ fn add_beside(
     ensures same { ArePagesOf pages.old pages.new }
     ensures frames { length (own_view pages.new pool.new).frames ≤ length (own_view pages.old pool.old).frames + 1 }
     ensures promise { (own_view pages.new pool.new).promise ≡ (own_view pages.old pool.old).promise }
+    ensures room { top.new.room ≡ top.old.room }
 {
     calls_on_other_chains_leave_pages();
     calls_on_other_chains_leave_a_heap();
     add(rt, pages, top, pool, doc, w);
 }
 
-// A session beside another one, which still stands.
+/// A session beside another one, which still stands.
 fn opened_beside(
     rt: &impl Abort,
     alloc: Global,
@@ -119,6 +121,7 @@ fn opened_beside(
     requires other_top { TopStands other_top.now (pages_scores other.now pool.old) (pages_places other.now pool.old) }
     ensures stands { Stands result.0 pool.new }
     ensures docs { docs_of result.0 ≡ 3 }
+    ensures room { 1 ≤ result.1.room }
     ensures view { own_view result.0 pool.new ≡ record { promise = 3; frames = [] } }
     ensures top { TopStands result.1 (pages_scores result.0 pool.new) (pages_places result.0 pool.new) }
     ensures apart { own_chain other.now ≢ own_chain result.0 }
@@ -128,10 +131,10 @@ fn opened_beside(
 {
     calls_on_other_chains_leave_pages();
     calls_on_other_chains_leave_a_heap();
-    opened(rt, alloc, pool, 3, 0)
+    opened(rt, alloc, pool, 3, 1)
 }
 
-// Adds a weight to the scores of some of six documents, and settles those that have passed the last of the heap.
+/// Adds a weight to the scores of some of six documents, and settles those that have passed the last of the heap.
 fn add_batch(
     rt: &impl Abort,
     pages: &mut Pages,
@@ -172,7 +175,7 @@ fn documents_rise_one_by_one(rt: HostRuntime) {
     let Ok(mut pool) = FramePool::new(rt.alloc(), 3, 1) else {
         panic!(rt; "no memory")
     };
-    let (mut pages, mut top) = opened(&rt, rt.alloc(), &mut pool, 3, 0);
+    let (mut pages, mut top) = opened(&rt, rt.alloc(), &mut pool, 3, 1);
     assert!(rt; top.ranked().is_empty() && top.runner_up() == None);
 
     add(&rt, &mut pages, &mut top, &mut pool, 1, 5);
@@ -194,7 +197,7 @@ fn two_sessions_take_turns(rt: HostRuntime) {
     let Ok(mut pool) = FramePool::new(rt.alloc(), 6, 2) else {
         panic!(rt; "no memory")
     };
-    let (mut x, mut x_top) = opened(&rt, rt.alloc(), &mut pool, 3, 0);
+    let (mut x, mut x_top) = opened(&rt, rt.alloc(), &mut pool, 3, 1);
     let (mut y, mut y_top) = opened_beside(&rt, rt.alloc(), &mut pool, &x, &x_top);
 
     // The documents tie in one session, in either order of arrival.

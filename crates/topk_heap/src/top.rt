@@ -1,12 +1,10 @@
-ghost use Rattle.std.specs.Prelude.{true, replicate, IsTrue, reverse, ◌≡◌, ◌≢◌, ℕ, List, ◌+◌, ◌<◌, ◌≤◌, ◌++◌, [], All, AllPairs, IfOk, IfSome, length, slice_get, slice_index, take};
-ghost use Rattle.std.specs.List.{AllByRecursion};
-ghost use Rattle.std.specs.Ordering.{is_gt};
+ghost use Rattle.std.specs.Prelude.{replicate, ◌≡◌, ◌≢◌, ℕ, List, ◌+◌, ◌<◌, ◌≤◌, ◌++◌, [], All, AllPairs, IfOk, IfSome, length, slice_get, slice_index, take};
 ghost use Rattle.accumulator_pages.specs.Pages.{Stands, docs_of, pages_places, pages_scores};
-ghost use Rattle.ranking_model.specs.Scores.{rank_cmp, first_ranked, runner_up};
+ghost use Rattle.ranking_model.specs.Scores.{first_ranked, runner_up};
 ghost use Rattle.topk_heap.specs.Hits.{hit_at};
 ghost use Rattle.topk_heap.specs.Noting.{just_behind};
 ghost use Rattle.topk_heap.specs.Places.{KeepsScores};
-ghost use Rattle.topk_heap.specs.Standing.{AreInOrder, StandsBelow, HaveFirst, IsPlaced, IsTouched, TopStands, with_heap};
+ghost use Rattle.topk_heap.specs.Standing.{HaveFirst, IsPlaced, IsTouched, TopStands, with_heap};
 
 use crate::candidates::Candidates;
 use crate::hits::Hits;
@@ -78,39 +76,6 @@ impl Top {
         clear_places(pages, pool, &self.hits.as_slice()[..standing]);
         self.hits.keep_first(self.k as usize + 1);
         set_places(pages, pool, self.hits.as_slice());
-    }
-
-    /// Takes in what one document has gained.
-    pub fn raise(&mut self, pages: &mut Pages, pool: &mut FramePool, doc: u32)
-        requires pages { Stands pages.old pool.old }
-        requires below { StandsBelow self.old (pages_scores pages.old pool.old) (pages_places pages.old pool.old) doc }
-        ensures stands { TopStands self.new (pages_scores pages.new pool.new) (pages_places pages.new pool.new) }
-        ensures keeps { KeepsScores pages.old pages.new pool.old pool.new }
-        ensures k { self.new.k ≡ self.old.k }
-        ensures room { self.new.room ≡ self.old.room }
-    {
-        let score = pages.get(pool, doc);
-        if !self.is_full_before(doc, score) {
-            self.settle(pages, pool, &[doc]);
-        }
-    }
-
-    // Whether the heap is full, and all its documents rank before this one.
-    fn is_full_before(&self, doc: u32, score: u32) -> bool
-        ensures full { IsTrue result → length self.now.hits ≡ self.now.k + 1 }
-        ensures before { IsTrue result
-            → AllByRecursion (λ other. is_gt (rank_cmp (record { doc = doc; score = score }) other) ≡ true)
-            self.now.hits }
-        ensures order { AreInOrder (reverse self.now.hits) }
-        ensures room { 1 ≤ self.now.room }
-    {
-        let hits = self.hits.as_slice();
-        let last = self.k as usize;
-        if hits.len() <= last {
-            return false;
-        }
-        let last = hits[last];
-        last.score > score || (last.score == score && last.doc < doc)
     }
 
     /// The first k documents.

@@ -1,5 +1,3 @@
-pub mod Compose
-pub mod Digits
 pub mod Lines
 pub mod Parts
 pub mod Reading

@@ -1,5 +1,3 @@
-pub mod Columns
-pub mod Gathering
-pub mod Lines
 pub mod Runs
 pub mod Totals
+pub mod Private

@@ -3,14 +3,13 @@ ghost use Rattle.std.specs.List.{slice_index_or};
 ghost use Rattle.jass_base.specs.Outside.{Wrote};
 ghost use Rattle.jass_base.specs.declared.answer.Hit.{Hit};
 ghost use Rattle.ranking_model.specs.Report.{run_lines, tag_of};
-ghost use Rattle.trec_run.specs.Columns.{whole_tag};
-ghost use Rattle.trec_run.specs.Gathering.{Gathers};
+ghost use Rattle.trec_run.specs.Private.Columns.{whole_tag};
+ghost use Rattle.gathered_text.specs.Gathering.{Gathers};
 
 use crate::block::{BLOCK, gather_block};
-use crate::buffer::Buffer;
 use crate::frame::frame_of;
-use crate::gather::flush;
 use crate::line::Shared;
+use gathered_text::{Buffer, flush};
 use itoa::Buffer as Digits;
 use jass_base::{Hit, Names, Sink, WriteFault};
 
@@ -32,8 +31,7 @@ pub fn put_answer<S: Sink, N: Names>(
 {
     let mut buffer = Buffer::new();
     gather_answer(out, &mut buffer, id, index, hits, tag, part)?;
-    flush(out, &mut buffer)?;
-    Ok(())
+    flush(out, &mut buffer)
 }
 
 /// Gathers the run lines of an answer, as `put_answer` puts them. After a WriteFault a prefix of what was gathered

@@ -4,13 +4,12 @@ ghost use Rattle.std.specs.Prelude.{ℕ, ◌≡◌, ◌+◌, ◌*◌, ◌<◌, �
 ghost use Rattle.std.specs.List.{slice_index_or};
 ghost use Rattle.jass_base.specs.declared.answer.Hit.{Hit};
 ghost use Rattle.ranking_model.specs.Report.{run_lines};
-ghost use Rattle.trec_run.specs.Columns.{IsFrame, whole_tag};
-ghost use Rattle.trec_run.specs.Gathering.{Gathers};
+ghost use Rattle.trec_run.specs.Private.Columns.{IsFrame, whole_tag};
+ghost use Rattle.gathered_text.specs.Gathering.{Gathers};
 
-use crate::buffer::Buffer;
 use crate::frame::Frame;
-use crate::gather::flush;
 use crate::line::{SHORT, SHORT_LINE, Shared, gather_line, push_line};
+use gathered_text::{Buffer, make_room};
 use jass_base::{Hit, Names, Sink, WriteFault};
 
 /// The most hits of a block.
@@ -40,9 +39,7 @@ pub fn gather_block<S: Sink, N: Names>(
     if longest_name(index, hits) > SHORT {
         return gather_each(out, buffer, shared, index, hits, first);
     }
-    if buffer.room() < BLOCK * SHORT_LINE {
-        flush(out, buffer)?;
-    }
+    make_room(out, buffer, BLOCK * SHORT_LINE)?;
     push_each(buffer, frame, index, hits, first);
     Ok(())
 }

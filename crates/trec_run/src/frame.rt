@@ -1,8 +1,8 @@
 ghost use Rattle.std.specs.Prelude.{◌≡◌, IfSome};
-ghost use Rattle.trec_run.specs.Columns.{AreShort, IsFrame, front_of, tail_of, whole_tag};
+ghost use Rattle.trec_run.specs.Private.Columns.{AreShort, IsFrame, front_of, tail_of, whole_tag};
 
 use crate::line::Shared;
-use crate::short_text::ShortText;
+use gathered_text::ShortText;
 
 /// What the run lines of an answer have before the name, and behind the score.
 #[derive(Drop)]

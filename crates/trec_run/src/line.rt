@@ -1,11 +1,10 @@
 ghost use Rattle.std.specs.Prelude.{◌≡◌, ◌+◌, ◌≤◌, ◌++◌, codes, decimal, length, IsTrue};
 ghost use Rattle.ranking_model.specs.Report.{run_line};
-ghost use Rattle.trec_run.specs.Gathering.{Gathers};
-ghost use Rattle.trec_run.specs.Columns.{AreShort, whole_tag};
+ghost use Rattle.gathered_text.specs.Gathering.{Gathers};
+ghost use Rattle.trec_run.specs.Private.Columns.{AreShort, whole_tag};
 
-use crate::buffer::Buffer;
 use crate::frame::Frame;
-use crate::gather::gather_all;
+use gathered_text::{Buffer, gather_all};
 use itoa::Buffer as Digits;
 use jass_base::{Sink, WriteFault};
 

@@ -1,10 +1,9 @@
 ghost use Rattle.std.specs.Prelude.{◌≡◌, ◌++◌, codes};
 ghost use Rattle.jass_base.specs.Outside.{Wrote};
 ghost use Rattle.ranking_model.specs.Report.{report_line, grade_word};
-ghost use Rattle.trec_run.specs.Gathering.{Gathers};
+ghost use Rattle.gathered_text.specs.Gathering.{Gathers};
 
-use crate::buffer::Buffer;
-use crate::gather::{flush, gather_all};
+use gathered_text::{Buffer, flush, gather_all};
 use itoa::Buffer as Digits;
 use jass_base::{Grade, Report, Sink, WriteFault};
 
@@ -20,8 +19,7 @@ pub fn put_report<S: Sink>(
 {
     let mut buffer = Buffer::new();
     gather_report(out, &mut buffer, id, unknown, report)?;
-    flush(out, &mut buffer)?;
-    Ok(())
+    flush(out, &mut buffer)
 }
 
 /// Gathers the report line of an answer, as `put_report` puts it. After a WriteFault a prefix of what was gathered

@@ -28,7 +28,7 @@ fn bad_lines(rt: HostRuntime) {
     assert!(&rt; refuses(alloc, b"1 Q0 d\xff 1 x t", 1, RunWhy::Columns));
 }
 
-// The one line that follows a line without bytes.
+/// The one line that follows a line without bytes.
 fn is_second(alloc: Global, text: &[u8]) -> bool {
     match read_run(alloc, text) {
         Ok(run) => match run.as_slice() {

@@ -1,7 +1,7 @@
 ghost use Rattle.jass_base.specs.Outside.{Wrote};
 ghost use Rattle.trec_run.specs.Totals.{totals_line};
 
-use crate::gather::put_all;
+use gathered_text::put_all;
 use itoa::Buffer;
 use jass_base::{Sink, Totals, WriteFault};
 

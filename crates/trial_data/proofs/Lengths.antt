@@ -9,7 +9,7 @@ use Rattle.std.proofs.lemmas.List.Sums.{sum_by-cons}
 use Rattle.jass_base.specs.declared.posting.Posting.{Posting}
 use Rattle.jass_base.specs.Ciff.{ListData}
 use Rattle.jass_base.specs.Postings.{docs_of}
-use Rattle.trial_data.specs.Gathering.{with_postings, with_lists}
+use Rattle.trial_data.specs.Private.Gathering.{with_postings, with_lists}
 use Rattle.trial_data.specs.Trials.{tf_in, doc_length}
 
 pub length-with_postings : (lengths : List ℕ) (ps : List Posting) → length (with_postings lengths ps) ≡ length lengths

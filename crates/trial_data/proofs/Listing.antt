@@ -16,7 +16,7 @@ use Rattle.jass_base.specs.Ciff.{HeaderData, ListData, DocData, CollectionData}
 use Rattle.jass_base.specs.CiffViews.{list_data, doc_data}
 use Rattle.jass_base.specs.Lists.{DifferInTerm}
 use Rattle.jass_base.specs.Postings.{docs_of}
-use Rattle.trial_data.specs.Gathering.{with_postings, with_lists, records_from, cf_sum}
+use Rattle.trial_data.specs.Private.Gathering.{with_postings, with_lists, records_from, cf_sum}
 use Rattle.trial_data.specs.Trials.{DrawnLists, term_postings, list_with, lists_from, put_list, term_name, doc_name, tf_in, doc_length, doc_with, header_with, collection_with}
 use Rattle.trial_data.proofs.Drawing.{AreDrawn, term_drawn, docs_below, few_drawn, tf_sum_small}
 use Rattle.trial_data.proofs.Lengths.{tf_in-cons, with_postings_at, length-with_postings}

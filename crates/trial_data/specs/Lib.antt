@@ -1,4 +1,4 @@
 pub mod Examples
-pub mod Gathering
 pub mod Generator
 pub mod Trials
+pub mod Private

@@ -1,6 +1,6 @@
 ghost use Rattle.std.specs.Prelude.{◌≡◌, ◌<◌, ◌≤◌, ◌^◌, length, map, All, IfOk};
 ghost use Rattle.jass_base.specs.CiffViews.{doc_data};
-ghost use Rattle.trial_data.specs.Gathering.{records_from};
+ghost use Rattle.trial_data.specs.Private.Gathering.{records_from};
 
 use crate::names::put_name;
 use jass_base::{DocRecord, NoMemory, Row, Text};

@@ -1,7 +1,7 @@
 ghost use Rattle.std.specs.Prelude.{ℕ, ◌≡◌, ◌*◌, ◌<◌, ◌≤◌, ◌^◌, length, map, slice_index, All, IfOk, OnOk};
 ghost use Rattle.jass_base.specs.CiffViews.{list_data};
 ghost use Rattle.jass_base.specs.Lists.{HasDocsBelow};
-ghost use Rattle.trial_data.specs.Gathering.{cf_sum, with_lists};
+ghost use Rattle.trial_data.specs.Private.Gathering.{cf_sum, with_lists};
 ghost use Rattle.trial_data.specs.Trials.{list_with, lists_from, term_postings};
 
 use crate::draws::Draws;

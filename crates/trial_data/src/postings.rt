@@ -1,6 +1,6 @@
 ghost use Rattle.std.specs.Prelude.{ℕ, ◌≡◌, ◌<◌, ◌≤◌, ◌^◌, length, slice_index, All, OnOk};
 ghost use Rattle.jass_base.specs.Postings.{docs_of};
-ghost use Rattle.trial_data.specs.Gathering.{with_postings};
+ghost use Rattle.trial_data.specs.Private.Gathering.{with_postings};
 ghost use Rattle.trial_data.specs.Trials.{term_postings, tf_of, tf_sum};
 
 use crate::draws::Draws;

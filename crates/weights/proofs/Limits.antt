@@ -1,6 +1,6 @@
 -- Limits of whole weights and impacts, over plain numbers.
 use Rattle.std.proofs.Common.{◌≡◌, ℕ, ◌+◌, ◌-◌, ◌*◌, ◌/◌, ◌^◌, ◌<◌, ◌≤◌, ◌==◌, Bool, true, false, cond, refl, arith, ◌∙◌, ap, pow_mono}
-use Rattle.std.proofs.Math.Nat.{div-le_of_le-mul, mul-div_cancel_left, zero-div, zero-mul, le-div_iff_mul-le, div-mul-le_self, mul-le-mul_right, le_trans}
+use Rattle.std.proofs.Math.Nat.{div-le_of_le-mul, mul-div_cancel_left, le-div_iff_mul-le, div-mul-le_self, mul-le-mul_right, le_trans}
 use Rattle.std.proofs.lemmas.Bool.{eqb-true, eqb-false}
 use Rattle.weights.specs.declared.weighting.Rule.{Rule}
 use Rattle.weights.specs.declared.weighting.Rule.TheVariants.{Tf, Bm25}
@@ -8,12 +8,8 @@ use Rattle.weights.specs.declared.quantizing.Bits.{Bits}
 use Rattle.weights.specs.declared.quantizing.Bits.TheVariants.{Raw, Of}
 use Rattle.weights.specs.declared.quantizing.Range.{Range}
 use Rattle.weights.specs.Weighting.{idf, length_norm, saturated, weight_of}
-use Rattle.weights.specs.Quantizing.{IsImpactWidth, Holds, IsInRange, impact_of}
-use Rattle.weights.proofs.Bounds.{lg_of_rarity, place-le}
-
-pub weight_of-positive : (rule : Rule) (docs total n tf length : ℕ) → 1 ≤ tf → 1 ≤ weight_of rule docs total n tf length
-weight_of-positive Tf docs total n tf length some = some
-weight_of-positive Bm25 docs total n tf length some = omega arith
+use Rattle.weights.specs.Quantizing.{IsInRange, impact_of}
+use Rattle.weights.proofs.Bounds.{lg_of_rarity}
 
 -- a quotient with the term frequency below the line too
 pub saturated_le : (rare tf norm : ℕ) → saturated rare tf norm ≤ 2 * rare
@@ -30,31 +26,6 @@ weight_of-lt Bm25 docs total n tf length some within limit few =
 either : (b : Bool) (p : ℕ) (P : ℕ → Type 0) → (b ≡ true → P 1) → (b ≡ false → P p) → P (cond b 1 p)
 either true p P at_one apart = at_one refl
 either false p P at_one apart = apart refl
-
-pub impact_of-positive : (bits : Bits) (range : Range) (w : ℕ) → 1 ≤ w → 1 ≤ impact_of bits range w
-impact_of-positive Raw range w some = omega arith
-impact_of-positive (Of b) range w some =
-    either (range.least == range.greatest) _ (λ p. 1 ≤ p) (λ _. omega arith) (λ _. omega arith)
-
-pub impact_of-lt : (b : ℕ) (range : Range) (w : ℕ) → 1 ≤ b → Holds range w → impact_of (Of b) range w < 2 ^ b
-impact_of-lt b range w some holds =
-    let two : 2 ^ 1 ≤ 2 ^ b = pow_mono some in
-    either (range.least == range.greatest) _ (λ p. p < 2 ^ b) (λ _. omega arith)
-    (λ _. omega (arith, place-le (w - range.least) (2 ^ b - 2) (range.greatest - range.least) (omega arith)))
-
-pub impact_of-le : (bits : Bits) (range : Range) (w : ℕ) → IsImpactWidth bits → IsInRange bits range w → impact_of bits range w ≤ 65535
-impact_of-le Raw range w width holds = omega arith
-impact_of-le (Of b) range w (some, limit) holds =
-    let most : 2 ^ b ≤ 2 ^ 16 = pow_mono limit in
-    omega (arith, impact_of-lt b range w some holds)
-
-pub impact_of-least : (b : ℕ) (range : Range) → impact_of (Of b) range range.least ≡ 1
-impact_of-least b range =
-    let nothing : range.least - range.least ≡ 0 = omega arith in
-    let none : (range.least - range.least) * (2 ^ b - 2) ≡ 0 = rw nothing (zero-mul (2 ^ b - 2)) in
-    let width : ℕ = range.greatest - range.least in
-    either (range.least == range.greatest) _ (λ p. p ≡ 1) (λ _. refl)
-    (λ _. ap (λ above. 1 + above / width) none ∙ ap (λ place. 1 + place) (zero-div width))
 
 pub impact_of-greatest : (b : ℕ) (range : Range) → 1 ≤ b → range.least < range.greatest
     → impact_of (Of b) range range.greatest ≡ 2 ^ b - 1

@@ -9,28 +9,28 @@ use Rattle.std.proofs.lemmas.Bool.{cases_lt}
 use Rattle.weights.specs.declared.quantizing.Range.{Range}
 use Rattle.weights.specs.Quantizing.{empty_range, widened, range_of}
 
-least-le_start : (r : Range) (ws : List ℕ) → (fold widened r ws).least ≤ r.least
+pub least-le_start : (r : Range) (ws : List ℕ) → (fold widened r ws).least ≤ r.least
 least-le_start r [] = omega arith
 least-le_start r (w ∷ ws) = omega (arith, least-le_start (widened r w) ws)
 
-greatest-ge_start : (r : Range) (ws : List ℕ) → r.greatest ≤ (fold widened r ws).greatest
+pub greatest-ge_start : (r : Range) (ws : List ℕ) → r.greatest ≤ (fold widened r ws).greatest
 greatest-ge_start r [] = omega arith
 greatest-ge_start r (w ∷ ws) = omega (arith, greatest-ge_start (widened r w) ws)
 
-least-le_each : (r : Range) (ws : List ℕ) → AllByRecursion (λ w. (fold widened r ws).least ≤ w) ws
+pub least-le_each : (r : Range) (ws : List ℕ) → AllByRecursion (λ w. (fold widened r ws).least ≤ w) ws
 least-le_each r [] = tt
 least-le_each r (w ∷ ws) = (omega (arith, least-le_start (widened r w) ws), least-le_each (widened r w) ws)
 
-greatest-ge_each : (r : Range) (ws : List ℕ) → AllByRecursion (λ w. w ≤ (fold widened r ws).greatest) ws
+pub greatest-ge_each : (r : Range) (ws : List ℕ) → AllByRecursion (λ w. w ≤ (fold widened r ws).greatest) ws
 greatest-ge_each r [] = tt
 greatest-ge_each r (w ∷ ws) = (omega (arith, greatest-ge_start (widened r w) ws), greatest-ge_each (widened r w) ws)
 
 -- what is below the start and each weight is below the least
-least-from : (k : ℕ) (r : Range) (ws : List ℕ) → k ≤ r.least → AllByRecursion (λ w. k ≤ w) ws → k ≤ (fold widened r ws).least
+pub least-from : (k : ℕ) (r : Range) (ws : List ℕ) → k ≤ r.least → AllByRecursion (λ w. k ≤ w) ws → k ≤ (fold widened r ws).least
 least-from k r [] start each = start
 least-from k r (w ∷ ws) start each = least-from k (widened r w) ws (omega (arith, each.0)) each.1
 
-greatest-from : (k : ℕ) (r : Range) (ws : List ℕ) → r.greatest ≤ k → AllByRecursion (λ w. w ≤ k) ws
+pub greatest-from : (k : ℕ) (r : Range) (ws : List ℕ) → r.greatest ≤ k → AllByRecursion (λ w. w ≤ k) ws
     → (fold widened r ws).greatest ≤ k
 greatest-from k r [] start each = start
 greatest-from k r (w ∷ ws) start each = greatest-from k (widened r w) ws (omega (arith, each.0)) each.1
@@ -107,7 +107,7 @@ greatest-ge ws vs moved =
     (recursion_from_All _ vs (All-weaker (Contains vs) (λ v. v ≤ (range_of ws).greatest)
     (λ v among. range_of-greatest ws v (Contains-permutation vs ws v moved among)) vs (All-contains_itself vs)))
 
-same_range : (r s : Range) → r.least ≡ s.least → r.greatest ≡ s.greatest → r ≡ s
+pub same_range : (r s : Range) → r.least ≡ s.least → r.greatest ≡ s.greatest → r ≡ s
 same_range r s low high = ap₂ (λ (l g : ℕ). let both : Range = record { least = l; greatest = g } in both) low high
 
 -- the order of the weights does not count

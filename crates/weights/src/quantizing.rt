@@ -62,7 +62,7 @@ pub fn impact_of(bits: Bits, range: Range, w: u64) -> u16
     }
 }
 
-// How many of the steps that divide a width lie within what is above its least end, rounded down.
+/// How many of the steps that divide a width lie within what is above its least end, rounded down.
 fn steps_to(above: u64, width: u64, steps: u64) -> u64
     requires some { 1 ≤ width }
     requires above_limit { above ≤ 2 ^ 40 }

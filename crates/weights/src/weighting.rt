@@ -5,14 +5,14 @@ ghost use Rattle.weights.specs.Weighting.{idf, length_norm, saturated, weight_of
 
 use crate::logarithm::lg;
 
-// 1,000 times BM25's k1 + 1, k1 * (1 - b) and k1 * b, for k1 = 0.9 and b = 0.4.
+/// 1,000 times BM25's k1 + 1, k1 * (1 - b) and k1 * b, for k1 = 0.9 and b = 0.4.
 const GAIN: u64 = 1_900;
 
 const FLAT_PART: u128 = 540;
 
 const LENGTH_PART: u128 = 360;
 
-// The norm at which no weight is above 1, whatever the term.
+/// The norm at which no weight is above 1, whatever the term.
 const MOST_NORM: u128 = 1 << 63;
 
 /// How a posting is weighed.
@@ -75,7 +75,7 @@ pub fn idf(docs: u32, n: u32) -> u32
     lg(rarity(docs, n)) - 10 * 1024
 }
 
-// 1,024 times (docs + 1) / n.
+/// 1,024 times (docs + 1) / n.
 fn rarity(docs: u32, n: u32) -> u64
     requires { 1 ≤ n }
     ensures { result ≡ 1024 * (docs + 1) / n }
@@ -98,7 +98,7 @@ pub fn length_norm(docs: u32, total: u64, length: u32) -> u64
 mod tests {
     use super::*;
 
-    // Three documents of 9, 5 and 1 terms, each of which has no term but one that they share.
+    /// Three documents of 9, 5 and 1 terms, each of which has no term but one that they share.
     #[test]
     fn weights_of_three_documents(rt: HostRuntime) {
         assert_eq!(rt; idf(3, 3), 341);

@@ -1,12 +1,12 @@
 -- A content that is read piece by piece.
-use Rattle.std.proofs.Common.{◌≡◌, ℕ, ◌+◌, ◌<◌, ◌≤◌, List, [], ◌++◌, length, take, drop, Option, Some, None, refl, sym, ap, subst, ◌∙◌, length-take, length-drop, length-append, take_all, arith}
+use Rattle.std.proofs.Common.{◌≡◌, ℕ, ◌+◌, ◌<◌, ◌≤◌, List, ◌++◌, length, take, drop, Option, Some, None, sym, ap, subst, ◌∙◌, length-take, length-drop, length-append, take_all, arith}
 use Rattle.std.proofs.lemmas.List.{take-take}
 use Rattle.std.specs.Prelude.{IsSomeAnd, IfSome}
 use Rattle.std.specs.FinMap.{get}
 use Rattle.std.proofs.Math.Seq.{take-add}
 use Rattle.std.proofs.Math.Nat.{min-eq_left}
 use Rattle.jass_base.specs.Outside.{Files, OnContent, ForContent, AreBytesAt}
-use Rattle.whole_files.specs.Fronts.{IsFrontOf}
+use Rattle.whole_files.specs.Private.Fronts.{IsFrontOf}
 
 -- what holds of the front and what holds of the content of a name that is there
 pub there : (files : Option Files) (name : List ℕ) (P Q R : List ℕ → Type 0) → ((content : List ℕ) → P content → Q content → R content) → ForContent files name P → OnContent files name Q → OnContent files name R
@@ -24,18 +24,6 @@ kept (Some files) name P p = at (get files name) p
     at : (o : Option (List ℕ)) → IsSomeAnd o P → IfSome o P
     at None p = tt
     at (Some content) p = p
-
--- nothing is the front of any content
-pub front_empty : (files : Option Files) (name row : List ℕ) → row ≡ [] → ForContent files name (IsFrontOf row)
-front_empty None name row is = tt
-front_empty (Some files) name row is = at (get files name)
-  where
-    empty_front : (content : List ℕ) → IsFrontOf row content
-    empty_front content = rw is (record { front = refl; within = omega arith })
-
-    at : (o : Option (List ℕ)) → IfSome o (IsFrontOf row)
-    at None = tt
-    at (Some content) = empty_front content
 
 -- one piece more
 pub front_more : (row piece grown content : List ℕ) (at count : ℕ) → at ≡ length row → grown ≡ row ++ take count piece → IsFrontOf row content → AreBytesAt content at count piece → IsFrontOf grown content

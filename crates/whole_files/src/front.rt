@@ -1,19 +1,11 @@
 ghost use Rattle.std.specs.Prelude.{ℕ, ◌≡◌, ◌<◌, ◌≤◌, ◌⊎◌, length, take, IfOk, IsErrOf};
 ghost use Rattle.jass_base.specs.Outside.{Rose, IsMissing, OnContent};
 
-use jass_base::{Cabinet, Row};
+use jass_base::{Cabinet, ReadStop, Row};
 use std::alloc::Global;
 
 /// How many bytes of a file are read at a time.
 const PIECE: usize = 65_536;
-
-/// Why a file was not read.
-#[derive(Clone, Copy, Debug, PartialEq, Eq)]
-pub enum ReadStop {
-    /// A read failed, or the name is missing.
-    ReadFault,
-    NoMemory,
-}
 
 /// Reads a file to its end, or its first `most` bytes where it has more.
 pub fn read_front<C: Cabinet>(

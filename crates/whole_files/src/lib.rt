@@ -4,4 +4,4 @@
 
 mod front;
 
-pub use front::{ReadStop, read_front};
+pub use front::read_front;

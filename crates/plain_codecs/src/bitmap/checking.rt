@@ -1,6 +1,7 @@
 ghost use Rattle.std.specs.Prelude.{◌≡◌, ◌≤◌, ◌^◌, length, nat_lt, not};
 ghost use Rattle.std.specs.List.{list_all};
-ghost use Rattle.jass_base.specs.Gaps.{Accepts, Judges};
+ghost use Rattle.jass_base.specs.Codecs.{Checks, IsCount};
+ghost use Rattle.jass_base.specs.Gaps.{Judges};
 ghost use Rattle.lane_kernels.specs.Bitmap.{set_bits};
 ghost use Rattle.plain_codecs.specs.Bitmap.{bitmap_of, bitmap_size, read_bitmap};
 
@@ -14,21 +15,16 @@ use lane_kernels::laws::set_bits_rise;
 /// Cut where there are fewer bytes than d bits take, Longer where there are more. Then
 /// DocRange where a bit from d on is set, and Shape where not `count` bits are set.
 pub fn check(bytes: &[u8], count: u32, d: u32) -> Result<(), PayloadFault>
-    requires some { 1 ≤ count }
-    requires few { count ≤ d }
-    requires limit { d ≤ 2 ^ 26 }
-    ensures accepted { Accepts (bitmap_of d) d count bytes.now result }
-    ensures judged { Judges (read_bitmap d count bytes.now) result }
+    requires { IsCount count d }
+    ensures { Checks (bitmap_of d) read_bitmap d count bytes.now result }
 {
     payloads_are_read();
     judge(bytes, count, d)
 }
 
-// The check, by what is read.
+/// The check, by what is read.
 fn judge(bytes: &[u8], count: u32, d: u32) -> Result<(), PayloadFault>
-    requires some { 1 ≤ count }
-    requires few { count ≤ d }
-    requires limit { d ≤ 2 ^ 26 }
+    requires { IsCount count d }
     ensures { Judges (read_bitmap d count bytes.now) result }
 {
     let size = size(d) as usize;
@@ -47,7 +43,7 @@ fn judge(bytes: &[u8], count: u32, d: u32) -> Result<(), PayloadFault>
     Ok(())
 }
 
-// Whether a bit from d on is set.
+/// Whether a bit from d on is set.
 fn reaches(bytes: &[u8], d: u32) -> bool
     requires some { 1 ≤ d }
     requires limit { d ≤ 2 ^ 26 }
@@ -62,7 +58,7 @@ fn reaches(bytes: &[u8], d: u32) -> bool
     bytes[bytes.len() - 1] >> used != 0
 }
 
-// How many bits are set.
+/// How many bits are set.
 fn ones(bytes: &[u8]) -> u32
     requires { length bytes.now ≤ 2 ^ 23 }
     ensures { result ≡ length (set_bits 0 bytes.now) }

@@ -1,5 +1,5 @@
 ghost use Rattle.std.specs.Prelude.{ℕ, ◌≡◌, ◌≤◌, ◌↔◌, List, [], length, take, drop};
-ghost use Rattle.jass_base.specs.Gaps.{AreDocs};
+ghost use Rattle.jass_base.specs.Codecs.{GivesAll, HandsOver};
 ghost use Rattle.plain_codecs.specs.Bitmap.{bitmap_of};
 ghost use Rattle.plain_codecs.specs.BitmapCursor.{Gives};
 
@@ -18,8 +18,7 @@ impl Cursor {
     /// A cursor in front of the payload of `count` documents, in an index of d documents.
     #[inline]
     pub fn new(count: u32, d: u32) -> Cursor
-        ensures { (bytes docs : List ℕ) → AreDocs d docs → length docs ≡ count → bytes ≡ bitmap_of d docs
-            → Gives result bytes docs }
+        ensures { GivesAll Gives (bitmap_of d) d count result }
     {
         bits_are_documents();
         Cursor { at: 0 }
@@ -31,10 +30,7 @@ impl Cursor {
     /// each call.
     pub fn next_block(&mut self, bytes: &[u8], out: &mut [u32; 128]) -> usize
         requires stands { (docs : List ℕ) × Gives self.old bytes.now docs }
-        ensures most { result ≤ 128 }
-        ensures block { (docs : List ℕ) → Gives self.old bytes.now docs → take result out.new ≡ take result docs }
-        ensures rest { (docs : List ℕ) → Gives self.old bytes.now docs → Gives self.new bytes.now (drop result docs) }
-        ensures end { (docs : List ℕ) → Gives self.old bytes.now docs → (result ≡ 0 ↔ docs ≡ []) }
+        ensures { HandsOver Gives self.old self.new bytes.now out.new result }
     {
         set_bits_rise();
         while self.at < bytes.len() {

@@ -1,6 +1,7 @@
 ghost use Rattle.std.specs.Prelude.{ℕ, ◌≡◌, ◌≤◌, ◌-◌, ◌*◌, ◌^◌, length, drop, sum, IfOk, IfErr, Err};
-ghost use Rattle.jass_base.specs.Gaps.{Accepts, Judges, read_gaps};
-ghost use Rattle.plain_codecs.specs.Runs.{Continues};
+ghost use Rattle.jass_base.specs.Codecs.{Checks, IsCount};
+ghost use Rattle.jass_base.specs.Gaps.{Judges, read_gaps};
+ghost use Rattle.plain_codecs.specs.Private.Runs.{Continues};
 ghost use Rattle.plain_codecs.specs.Varbyte.{varbyte_of, read_varbyte};
 
 use crate::varbyte::laws::payloads_are_read;
@@ -13,21 +14,16 @@ use jass_base::{PayloadFault, read_gap};
 /// seen; Shape where a fourth byte has the top bit set, or the varint isn't shortest;
 /// DocRange where the document is d or above. Then Longer where bytes are left.
 pub fn check(bytes: &[u8], count: u32, d: u32) -> Result<(), PayloadFault>
-    requires some { 1 ≤ count }
-    requires few { count ≤ d }
-    requires limit { d ≤ 2 ^ 26 }
-    ensures accepted { Accepts varbyte_of d count bytes.now result }
-    ensures judged { Judges (read_varbyte d count bytes.now) result }
+    requires { IsCount count d }
+    ensures { Checks varbyte_of read_varbyte d count bytes.now result }
 {
     payloads_are_read();
     judge(bytes, count, d)
 }
 
-// The check, by what is read.
+/// The check, by what is read.
 fn judge(bytes: &[u8], count: u32, d: u32) -> Result<(), PayloadFault>
-    requires some { 1 ≤ count }
-    requires few { count ≤ d }
-    requires limit { d ≤ 2 ^ 26 }
+    requires { IsCount count d }
     ensures { Judges (read_varbyte d count bytes.now) result }
 {
     let mut place = Place { at: 0, least: 0 };
@@ -46,14 +42,14 @@ fn judge(bytes: &[u8], count: u32, d: u32) -> Result<(), PayloadFault>
     Ok(())
 }
 
-// The place of a gap, and the least that its document may be.
+/// The place of a gap, and the least that its document may be.
 #[derive(Clone, Copy)]
 struct Place {
     at: usize,
     least: u32,
 }
 
-// Reads so many documents, sixteen at most, and gives the place behind them.
+/// Reads so many documents, sixteen at most, and gives the place behind them.
 #[inline(always)]
 fn skip(bytes: &[u8], place: Place, count: u32, d: u32) -> Result<Place, PayloadFault>
     requires within { place.at ≤ length bytes.now }
@@ -94,7 +90,7 @@ fn sum16(bytes: &[u8; 16]) -> u32
     sum
 }
 
-// Reads so many documents one by one, and gives the place behind them.
+/// Reads so many documents one by one, and gives the place behind them.
 #[inline(always)]
 fn skip_each(bytes: &[u8], from: Place, count: u32, d: u32) -> Result<Place, PayloadFault>
     requires within { from.at ≤ length bytes.now }

@@ -1,5 +1,5 @@
 ghost use Rattle.std.specs.Prelude.{ℕ, ◌≡◌, ◌≤◌, ◌↔◌, List, [], length, take, drop};
-ghost use Rattle.jass_base.specs.Gaps.{AreDocs};
+ghost use Rattle.jass_base.specs.Codecs.{GivesAll, HandsOver};
 ghost use Rattle.plain_codecs.specs.Varbyte.{varbyte_of};
 ghost use Rattle.plain_codecs.specs.VarbyteCursor.{Gives};
 
@@ -21,8 +21,7 @@ impl Cursor {
     /// A cursor in front of the payload of `count` documents, in an index of d documents.
     #[inline]
     pub fn new(count: u32, d: u32) -> Cursor
-        ensures { (bytes docs : List ℕ) → AreDocs d docs → length docs ≡ count → bytes ≡ varbyte_of docs
-            → Gives result bytes docs }
+        ensures { GivesAll Gives varbyte_of d count result }
     {
         laws::gaps_and_docs_are_inverse();
         laws::gaps_of_docs();
@@ -40,10 +39,7 @@ impl Cursor {
     /// was made for, at each call.
     pub fn next_block(&mut self, bytes: &[u8], out: &mut [u32; 128]) -> usize
         requires stands { (docs : List ℕ) × Gives self.old bytes.now docs }
-        ensures most { result ≤ 128 }
-        ensures block { (docs : List ℕ) → Gives self.old bytes.now docs → take result out.new ≡ take result docs }
-        ensures rest { (docs : List ℕ) → Gives self.old bytes.now docs → Gives self.new bytes.now (drop result docs) }
-        ensures end { (docs : List ℕ) → Gives self.old bytes.now docs → (result ≡ 0 ↔ docs ≡ []) }
+        ensures { HandsOver Gives self.old self.new bytes.now out.new result }
     {
         laws::docs_of_gaps();
         if self.left == 1 {
@@ -56,7 +52,7 @@ impl Cursor {
         count as usize
     }
 
-    // The last document, which is the only one of most segments.
+    /// The last document, which is the only one of most segments.
     #[inline(always)]
     fn last(&mut self, bytes: &[u8], out: &mut [u32; 128]) -> usize
         requires one { self.old.left ≡ 1 }

@@ -1,5 +1,6 @@
 ghost use Rattle.std.specs.Prelude.{◌≡◌, ◌≤◌, ◌^◌, length, take, IfOk, IsTrue, Ok};
-ghost use Rattle.jass_base.specs.Gaps.{Accepts, Judges};
+ghost use Rattle.jass_base.specs.Codecs.{ChecksInto, IsCount};
+ghost use Rattle.jass_base.specs.Gaps.{Judges};
 ghost use Rattle.plain_codecs.specs.Varbyte.{varbyte_of, read_varbyte};
 
 use crate::varbyte::laws::payloads_are_read;
@@ -9,20 +10,15 @@ use jass_base::{PayloadFault, read_gap};
 /// The answer of `check`, and where it is Ok, the documents at the front of `out`. What stands behind
 /// them there, or all of it where there is a fault, is left open.
 pub fn check_into(bytes: &[u8], count: u32, d: u32, out: &mut [u32]) -> Result<(), PayloadFault>
-    requires some { 1 ≤ count }
-    requires few { count ≤ d }
-    requires limit { d ≤ 2 ^ 26 }
+    requires count { IsCount count d }
     requires room { count ≤ length out.old }
-    ensures accepted { Accepts varbyte_of d count bytes.now result }
-    ensures judged { Judges (read_varbyte d count bytes.now) result }
-    ensures docs { IfOk result (λ _. read_varbyte d count bytes.now ≡ Ok (take count out.new)) }
-    ensures length { length out.new ≡ length out.old }
+    ensures { ChecksInto varbyte_of read_varbyte d count bytes.now out.old out.new result }
 {
     payloads_are_read();
     hand_out(bytes, count, d, out)
 }
 
-// The same, by what is read. It is a call, so that its loop has registers of its own.
+/// The same, by what is read. It is a call, so that its loop has registers of its own.
 #[inline(never)]
 fn hand_out(bytes: &[u8], count: u32, d: u32, out: &mut [u32]) -> Result<(), PayloadFault>
     requires limit { d ≤ 2 ^ 26 }
@@ -61,15 +57,10 @@ pub fn check_front_into(
     d: u32,
     out: &mut [u32],
 ) -> Result<(), PayloadFault>
-    requires some { 1 ≤ count }
-    requires few { count ≤ d }
-    requires limit { d ≤ 2 ^ 26 }
+    requires count { IsCount count d }
     requires size { size ≤ length bytes.now }
     requires room { count ≤ length out.old }
-    ensures accepted { Accepts varbyte_of d count (take size bytes.now) result }
-    ensures judged { Judges (read_varbyte d count (take size bytes.now)) result }
-    ensures docs { IfOk result (λ _. read_varbyte d count (take size bytes.now) ≡ Ok (take count out.new)) }
-    ensures length { length out.new ≡ length out.old }
+    ensures { ChecksInto varbyte_of read_varbyte d count (take size bytes.now) out.old out.new result }
 {
     payloads_are_read();
     if hand_out_short(bytes, size, count, d, out) {
@@ -78,8 +69,8 @@ pub fn check_front_into(
     hand_out(&bytes[..size], count, d, out)
 }
 
-// Hands out a payload whose gaps have up to three bytes each, where the bytes hold so many for each
-// gap, and tells whether it was one. Where it tells no, `hand_out` finds out what there is.
+/// Hands out a payload whose gaps have up to three bytes each, where the bytes hold so many for each
+/// gap, and tells whether it was one. Where it tells no, `hand_out` finds out what there is.
 #[inline(always)]
 fn hand_out_short(bytes: &[u8], size: usize, count: u32, d: u32, out: &mut [u32]) -> bool
     requires limit { d ≤ 2 ^ 26 }

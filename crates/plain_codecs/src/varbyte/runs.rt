@@ -1,12 +1,12 @@
 // Gaps in a row: read from bytes, and made into documents.
 ghost use Rattle.std.specs.Prelude.{ℕ, ◌≡◌, ◌+◌, ◌-◌, ◌≤◌, ◌<◌, ◌^◌, List, length, take, drop, sum, ◌++◌, All, IsTrue, IsFalse, IfSome};
 ghost use Rattle.jass_base.specs.Gaps.{docs_from};
-ghost use Rattle.plain_codecs.specs.Runs.{IsRun};
+ghost use Rattle.plain_codecs.specs.Private.Runs.{IsRun};
 
 use jass_base::{known_gap, laws};
 use lane_kernels::{running128, small16, widen16};
 
-// Reads so many gaps from a place on to the front of `out`, and returns the place behind them.
+/// Reads so many gaps from a place on to the front of `out`, and returns the place behind them.
 pub(crate) fn read_run(bytes: &[u8], from: usize, count: usize, out: &mut [u32; 128]) -> usize
     requires block { count ≤ 128 }
     requires run { (gaps : List ℕ) × IsRun bytes.now from count gaps }
@@ -28,8 +28,8 @@ pub(crate) fn read_run(bytes: &[u8], from: usize, count: usize, out: &mut [u32; 
     at
 }
 
-// Reads gaps one by one to the places of `out` from `first` on, and returns the place behind
-// them.
+/// Reads gaps one by one to the places of `out` from `first` on, and returns the place behind
+/// them.
 #[inline(always)]
 fn read_each(bytes: &[u8], from: usize, first: usize, end: usize, out: &mut [u32; 128]) -> usize
     requires order { first ≤ end }
@@ -50,7 +50,7 @@ fn read_each(bytes: &[u8], from: usize, first: usize, end: usize, out: &mut [u32
     at
 }
 
-// Copies sixteen bytes to a place of `out` where each is a gap of its own.
+/// Copies sixteen bytes to a place of `out` where each is a gap of its own.
 #[inline(always)]
 fn copy_small(bytes: &[u8], at: usize, place: usize, out: &mut [u32; 128]) -> bool
     requires within { at ≤ length bytes.now }
@@ -70,7 +70,7 @@ fn copy_small(bytes: &[u8], at: usize, place: usize, out: &mut [u32; 128]) -> bo
     true
 }
 
-// The sixteen bytes at a place where each is a gap of its own.
+/// The sixteen bytes at a place where each is a gap of its own.
 #[inline(always)]
 pub(crate) fn small_run(bytes: &[u8], at: usize) -> Option<&[u8; 16]>
     requires { at ≤ length bytes.now }
@@ -86,8 +86,8 @@ pub(crate) fn small_run(bytes: &[u8], at: usize) -> Option<&[u8; 16]>
     }
 }
 
-// Makes the first `count` gaps documents, the first at least `least`, and returns the least
-// that a document behind them may be.
+/// Makes the first `count` gaps documents, the first at least `least`, and returns the least
+/// that a document behind them may be.
 pub(crate) fn docs_of_gaps(least: u32, count: usize, out: &mut [u32; 128]) -> u32
     requires block { count ≤ 128 }
     requires room { least + sum (take count out.old) + count ≤ 2 ^ 26 }

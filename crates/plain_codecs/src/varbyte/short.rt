@@ -2,7 +2,7 @@
 ghost use Rattle.std.specs.Prelude.{ℕ, ◌≡◌, ◌+◌, ◌≤◌, ◌<◌, ◌^◌, length, take, drop, Ok, IsTrue};
 ghost use Rattle.jass_base.specs.Gaps.{gap_in};
 
-// A gap of up to three bytes, how many they are, and whether it is one.
+/// A gap of up to three bytes, how many they are, and whether it is one.
 #[derive(Clone, Copy)]
 pub(crate) struct ShortGap {
     pub(crate) gap: u32,
@@ -10,7 +10,7 @@ pub(crate) struct ShortGap {
     pub(crate) is_gap: bool,
 }
 
-// Reads the gap at a place. It is the same in each front of the bytes that holds it.
+/// Reads the gap at a place. It is the same in each front of the bytes that holds it.
 #[inline(always)]
 pub(crate) fn short_gap(bytes: &[u8], at: usize) -> ShortGap
     requires { at + 3 ≤ length bytes.now }

@@ -4,12 +4,12 @@ use Rattle.jass_base.specs.Ciff.{DocData}
 use Rattle.jass_base.specs.CiffViews.{doc_data}
 use Rattle.ciff_read.specs.declared.refusal.CiffRefusal.{CiffRefusal}
 use Rattle.ciff_read.specs.Judging.{NumberedDoc}
-use Rattle.ciff_read.specs.Places.{message_in, table_of, records_of}
+use Rattle.ciff_read.specs.Private.Places.{message_in, table_of, records_of}
 use Rattle.ciff_read.specs.Reading.{DocsRead, docs_at, inserted, docs_in_order}
 use Rattle.ciff_read.specs.Refusals.{◌>>=◌}
 use Rattle.ciff_read.proofs.Answering.{fails_on}
 use Rattle.std.proofs.lemmas.List.{length-map}
-use Rattle.ciff_read.specs.Table.{values_of, table_with}
+use Rattle.ciff_read.specs.Private.Table.{values_of, table_with}
 use Rattle.ciff_read.proofs.Numbered.{docs_from, length_from}
 use Rattle.ciff_read.proofs.Sequences.{docs_end, docs_message_not, docs_doc_not, docs_on, end_there}
 use Rattle.ciff_read.proofs.Tables.{map-values}

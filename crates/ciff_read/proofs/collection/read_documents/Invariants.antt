@@ -1,5 +1,5 @@
 use Rattle.std.proofs.Common.{◌≡◌, ◌-◌, ◌≤◌, [], length, drop}
-use Rattle.ciff_read.specs.Places.{records_of, AreMarked}
+use Rattle.ciff_read.specs.Private.Places.{records_of, AreMarked}
 use Rattle.ciff_read.specs.Reading.{docs_at}
 use Rattle.ciff_read.proofs.collection.read_documents.Given as goal
 

@@ -6,7 +6,7 @@ use Rattle.std.proofs.lemmas.List.{map-append, length-append}
 use Rattle.std.proofs.lemmas.List.Elements.{All-append, All-nil}
 use Rattle.jass_base.specs.Ciff.{ListData}
 use Rattle.jass_base.specs.CiffViews.{list_data}
-use Rattle.ciff_read.specs.Places.{message_in}
+use Rattle.ciff_read.specs.Private.Places.{message_in}
 use Rattle.ciff_read.specs.Reading.{lists_at}
 use Rattle.ciff_read.proofs.Sequences.{with_lists, no_lists, lists_end, lists_message_not, lists_list_not, lists_on, end_there}
 use Rattle.ciff_read.specs.Seen.{is_seen}

@@ -1,5 +1,5 @@
 use Rattle.std.proofs.Common.{◌∙◌, ap, sym, [], drop}
-use Rattle.ciff_read.specs.Places.{message_in, start_data, lists_in, docs_in}
+use Rattle.ciff_read.specs.Private.Places.{message_in, start_data, lists_in, docs_in}
 use Rattle.ciff_read.specs.Reading.{lists_at, read_ciff}
 use Rattle.ciff_read.proofs.Answering.{refuses, fails_as}
 use Rattle.ciff_read.proofs.Files.{file_message_not, file_header_not, file_lists_not, file_docs_not, file_ends, at_last, at_more}

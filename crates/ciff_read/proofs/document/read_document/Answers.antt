@@ -4,10 +4,10 @@ use Rattle.std.proofs.lemmas.Bool.{not-true}
 use Rattle.jass_base.specs.CiffViews.{doc_data}
 use Rattle.jass_base.specs.declared.doc_record.DocRecord.{DocRecord}
 use Rattle.ciff_read.specs.Judging.{NumberedDoc, is_among}
-use Rattle.ciff_read.specs.Places.{message_in, table_of, numbered_from, records_of, seen_in}
+use Rattle.ciff_read.specs.Private.Places.{message_in, table_of, numbered_from, records_of, seen_in}
 use Rattle.ciff_read.specs.Reading.{doc_at}
-use Rattle.ciff_read.specs.Recording.{recorded, numbered_as}
-use Rattle.ciff_read.specs.Table.{has_value, with_value, table_with}
+use Rattle.ciff_read.specs.Private.Recording.{recorded, numbered_as}
+use Rattle.ciff_read.specs.Private.Table.{has_value, with_value, table_with}
 use Rattle.ciff_read.proofs.Answering.{fails_as}
 use Rattle.ciff_read.proofs.HeldParts.{not_not}
 use Rattle.ciff_read.proofs.Numbered.{length-inserted, among_all, insert_all}

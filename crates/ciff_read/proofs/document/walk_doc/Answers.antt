@@ -1,5 +1,5 @@
 use Rattle.std.proofs.Common.{◌∙◌, ap, arith}
-use Rattle.ciff_read.specs.Places.{message_in, numbered_in}
+use Rattle.ciff_read.specs.Private.Places.{message_in, numbered_in}
 use Rattle.ciff_read.specs.Reading.{doc_at}
 use Rattle.ciff_read.specs.Refusals.{placed}
 use Rattle.ciff_read.proofs.Answering.{refuses}

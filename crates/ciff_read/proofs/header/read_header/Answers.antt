@@ -1,5 +1,5 @@
 use Rattle.std.proofs.Common.{ap, sym, ◌∙◌, Ok, List, ℕ}
-use Rattle.ciff_read.specs.Places.{message_in, start_in}
+use Rattle.ciff_read.specs.Private.Places.{message_in, start_in}
 use Rattle.ciff_read.specs.Reading.{header_at}
 use Rattle.ciff_read.specs.Refusals.{placed}
 use Rattle.ciff_read.proofs.Answering.{refuses}

@@ -2,7 +2,7 @@ use Rattle.std.proofs.Common.{◌≡◌, refl, ap, ◌∙◌, Result, Ok}
 use Rattle.std.specs.Prelude.{fold}
 use Rattle.ciff_read.specs.declared.refusal.CiffRefusal.{CiffRefusal}
 use Rattle.ciff_read.specs.Judging.{ListStart, list_start_of, gather}
-use Rattle.ciff_read.specs.Places.{gathered_of}
+use Rattle.ciff_read.specs.Private.Places.{gathered_of}
 use Rattle.ciff_read.specs.Refusals.{◌>>=◌}
 use Rattle.ciff_read.specs.Walking.{Walked, entry_inside}
 use Rattle.wire_fields.specs.Places.{field_in}

@@ -1,7 +1,7 @@
 use Rattle.std.proofs.Common.{◌≡◌, ◌-◌, length}
 use Rattle.std.specs.Prelude.{fold}
 use Rattle.ciff_read.specs.Judging.{gather}
-use Rattle.ciff_read.specs.Places.{gathered_of}
+use Rattle.ciff_read.specs.Private.Places.{gathered_of}
 use Rattle.ciff_read.specs.Walking.{entry_inside}
 use Rattle.ciff_read.proofs.FieldValues.{IsListStart}
 use Rattle.ciff_read.proofs.Walks.{Walks}

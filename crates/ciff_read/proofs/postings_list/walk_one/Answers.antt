@@ -1,7 +1,7 @@
 use Rattle.std.proofs.Common.{◌∙◌, ap, sym, arith, length, List, ℕ}
 use Rattle.std.specs.Str.{is_utf8}
 use Rattle.ciff_read.specs.Judging.{ListStart, judge_list}
-use Rattle.ciff_read.specs.Places.{list_start_in, gathered_of}
+use Rattle.ciff_read.specs.Private.Places.{list_start_in, gathered_of}
 use Rattle.ciff_read.specs.Refusals.{placed}
 use Rattle.ciff_read.proofs.Answering.{refuses}
 use Rattle.ciff_read.proofs.FinishedLists.{no_text, long_text, walked_there}

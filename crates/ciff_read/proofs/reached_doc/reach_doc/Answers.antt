@@ -4,11 +4,11 @@ use Rattle.jass_base.specs.Outside.{Files}
 use Rattle.ciff_read.specs.declared.refusal.CiffFault.{CiffFault}
 use Rattle.ciff_read.specs.declared.refusal.CiffFault.TheVariants as faults
 use Rattle.ciff_read.specs.Pieces.{doc_of_file}
-use Rattle.ciff_read.specs.Places.{message_in}
-use Rattle.ciff_read.specs.Reached.{MarksOf}
+use Rattle.ciff_read.specs.Private.Places.{message_in}
+use Rattle.ciff_read.specs.Private.Reached.{MarksOf}
 use Rattle.ciff_read.specs.Reaching.{FailsReading, HoldsMessage}
 use Rattle.ciff_read.specs.Reading.{doc_at}
-use Rattle.ciff_read.specs.Recording.{recorded, numbered_as}
+use Rattle.ciff_read.specs.Private.Recording.{recorded, numbered_as}
 use Rattle.ciff_read.specs.Window.{Shows}
 use Rattle.ciff_read.proofs.Answering.{fails_as}
 use Rattle.ciff_read.proofs.HeldParts.{refusal_of, not_not, placed_place, doc_given, doc_not, cut_end, not_read_fault, err_is}

@@ -1,7 +1,7 @@
 use Rattle.std.proofs.Common.{◌≡◌, Option, Ok}
 use Rattle.jass_base.specs.Outside.{Files}
 use Rattle.ciff_read.specs.Pieces.{header_of_file}
-use Rattle.ciff_read.specs.Places.{start_data}
+use Rattle.ciff_read.specs.Private.Places.{start_data}
 use Rattle.ciff_read.specs.Reaching.{FailsReading, HoldsMessage}
 use Rattle.ciff_read.specs.Window.{Shows}
 use Rattle.ciff_read.proofs.HeldParts.{header_given, header_not}

@@ -3,10 +3,10 @@ use Rattle.jass_base.specs.CiffViews.{list_data}
 use Rattle.jass_base.specs.Outside.{Files}
 use Rattle.ciff_read.specs.declared.refusal.CiffFault.{CiffFault}
 use Rattle.ciff_read.specs.declared.refusal.CiffFault.TheVariants as faults
-use Rattle.ciff_read.specs.Finishing.{finished}
+use Rattle.ciff_read.specs.Private.Finishing.{finished}
 use Rattle.ciff_read.specs.KeptLists.{kept_in}
 use Rattle.ciff_read.specs.Pieces.{list_of_file, terms_kept}
-use Rattle.ciff_read.specs.Places.{message_in}
+use Rattle.ciff_read.specs.Private.Places.{message_in}
 use Rattle.ciff_read.specs.Reaching.{FailsReading, HoldsMessage}
 use Rattle.ciff_read.specs.Reading.{list_at}
 use Rattle.ciff_read.specs.Window.{Shows}

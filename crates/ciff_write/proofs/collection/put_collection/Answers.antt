@@ -1,5 +1,5 @@
 use Rattle.std.proofs.Common.{List, length, refl, sym, subst}
-use Rattle.ciff_write.proofs.Compose.{gather_cut, gather_then, gather_same}
+use Rattle.gathered_text.proofs.Compose.{gather_cut, gather_then, gather_same}
 use Rattle.ciff_write.proofs.Fields.{file_spelled}
 use Rattle.ciff_write.proofs.Postings.{few_postings}
 use Rattle.std.specs.Prelude.{All, ◌≤◌, ◌^◌}

@@ -1,5 +1,5 @@
 use Rattle.std.proofs.Common.{arith}
-use Rattle.ciff_write.proofs.Compose.{up_to_more, up_to_failed}
+use Rattle.gathered_text.proofs.Compose.{up_to_more, up_to_failed}
 use Rattle.ciff_write.proofs.Fields.{docs_next}
 use Rattle.ciff_write.proofs.document.put_docs.Goals as goal
 

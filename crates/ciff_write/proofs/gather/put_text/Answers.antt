@@ -1,6 +1,6 @@
 use Rattle.std.proofs.Common.{ℕ, List, ◌∷◌, ◌++◌, ◌+◌, ◌*◌, length, ap, sym, ◌∙◌, arith}
 use Rattle.jass_base.specs.Wire.{short_varint}
-use Rattle.ciff_write.proofs.Compose.{gather_cut, gather_then, gather_same}
+use Rattle.gathered_text.proofs.Compose.{gather_cut, gather_then, gather_same}
 use Rattle.ciff_write.proofs.Fields.{text_some}
 use Rattle.std.proofs.Common.{◌≢◌}
 use Rattle.std.proofs.lemmas.Bool.Decides.{nat_tests}

@@ -1,4 +1,4 @@
-use Rattle.ciff_write.proofs.Compose.{up_to_more, up_to_failed}
+use Rattle.gathered_text.proofs.Compose.{up_to_more, up_to_failed}
 use Rattle.ciff_write.proofs.Fields.{lists_next}
 use Rattle.ciff_write.proofs.postings_list.put_lists.Goals as goal
 

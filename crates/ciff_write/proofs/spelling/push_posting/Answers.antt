@@ -1,12 +1,13 @@
 use Rattle.std.proofs.Common.{ℕ, List, [], ◌∷◌, ◌++◌, ◌+◌, ◌%◌, ◌/◌, sym, ap, ◌∙◌, arith}
+use Rattle.jass_base.proofs.GapGroups.{one_group_written}
 use Rattle.ciff_write.proofs.Fields.{posting_spelled}
-use Rattle.ciff_write.proofs.Varints.{small_varint, two_groups, three_groups}
+use Rattle.ciff_write.proofs.Varints.{two_groups, three_groups}
 use Rattle.ciff_write.proofs.spelling.push_posting.Goals as goal
 
 pub returns-then-gap-lt128 : goal.returns-then-gap-lt128
 returns-then-gap-lt128 c =
     let gap : ℕ = c.args.gap in
-    let spelled = posting_spelled gap c.args.tf (gap ∷ []) c.if-gap-eq0.false c.if-tf-eq0.false c.if-tf-ge128.false (omega arith) (small_varint gap c.if-gap-lt128.true) in
+    let spelled = posting_spelled gap c.args.tf (gap ∷ []) c.if-gap-eq0.false c.if-tf-eq0.false c.if-tf-ge128.false (omega arith) (one_group_written gap c.if-gap-lt128.true) in
     c.push.ensures ∙ ap (λ (s : List ℕ). c.args.buffer.now ++ s) (sym spelled)
 
 pub returns-then-gap-lt16384 : goal.returns-then-gap-lt16384

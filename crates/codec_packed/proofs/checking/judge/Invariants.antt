@@ -1,6 +1,6 @@
 use Rattle.std.proofs.Common.{◌≡◌, ◌-◌, ◌/◌, ◌%◌, ◌≤◌, length, drop}
 use Rattle.codec_packed.specs.Reading.{read_blocks, read_packed}
-use Rattle.codec_packed.specs.Steps.{verdict}
+use Rattle.codec_packed.specs.Private.Steps.{verdict}
 use Rattle.codec_packed.proofs.checking.judge.Given as goal
 
 abbrev pub invariant-loop-turn : goal.invariant-loop-turn

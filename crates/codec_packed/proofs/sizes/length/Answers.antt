@@ -2,7 +2,7 @@ use Rattle.std.proofs.Common.{◌^◌, ◌/◌, ◌<◌, ℕ, List, length, ap, 
 use Rattle.jass_base.proofs.Gaps.{length-gaps_from}
 use Rattle.jass_base.specs.Gaps.{AreDocs, gaps_of}
 use Rattle.codec_packed.specs.Packing.{packed_of}
-use Rattle.codec_packed.specs.Steps.{BlockLaws}
+use Rattle.codec_packed.specs.Private.Steps.{BlockLaws}
 use Rattle.codec_packed.proofs.Docs.{from_docs, from_wider}
 use Rattle.codec_packed.proofs.Turns.{few_docs}
 use Rattle.codec_packed.proofs.BlockTurns.{all_left, next_block_of, counted_more, counted_all, rest_are, packed_size}

@@ -1,6 +1,6 @@
 use Rattle.std.proofs.Common.{◌≡◌, ◌-◌, ◌≤◌, length, drop}
 use Rattle.jass_base.specs.Gaps.{read_gaps}
-use Rattle.codec_packed.specs.Steps.{verdict}
+use Rattle.codec_packed.specs.Private.Steps.{verdict}
 use Rattle.codec_packed.proofs.tail.check_gaps.Given as goal
 
 abbrev pub invariant-loop-turn : goal.invariant-loop-turn

@@ -10,4 +10,4 @@ overflow_add-size c =
     let t = turn (2 ^ 26) c.loop-doc.next c.loop-doc.doc-index docs c.loop-doc.invariant.0 (omega arith) in
     let total = spelled_size (gaps_from c.args.least docs) in
     let more = size_more (2 ^ 26) c.loop-doc.next c.loop-doc.doc-index c.loop-doc.size _ docs t c.loop-doc.invariant.1 in
-    omega (arith, more, total, length-gaps_from c.args.least docs, few_docs (2 ^ 26) c.args.least docs c.requires, c.gap_size-size.ensures)
+    omega (arith, more, total, length-gaps_from c.args.least docs, few_docs (2 ^ 26) c.args.least docs c.requires, c.gap_length-size.ensures.is)

@@ -31,8 +31,8 @@ loop-at-preserved c =
           );
     }
 
-pub returns-clause-ok : goal.returns-clause-ok
-returns-clause-ok c =
+pub returns : goal.returns
+returns c =
     let long = length-gaps_from 0 c.args.docs.now in
     let none : drop c.loop-at.at (gaps_of c.args.docs.now) ≡ [] = drop_all c.loop-at.at (gaps_of c.args.docs.now) (omega (arith, long, c.loop-at-test.false)) in
-    sym (append-nil c.loop-at.out) ∙ ap (λ (rest : List ℕ). c.loop-at.out ++ rest) (sym (ap spelled_words none ∙ no_words)) ∙ c.loop-at.invariant.all
+    record { ok = sym (append-nil c.loop-at.out) ∙ ap (λ (rest : List ℕ). c.loop-at.out ++ rest) (sym (ap spelled_words none ∙ no_words)) ∙ c.loop-at.invariant.all; err = tt }

@@ -10,7 +10,7 @@ returns-in-Err-clause-judged c = judged_err c.args.d c.args.count c.args.bytes.n
 pub is_spelling-requires : goal.is_spelling-requires
 is_spelling-requires c =
     let r = judged_ok (read_words c.args.count c.args.d 0 c.args.count c.args.bytes.now) c.in-Ok.ensures.judged in
-    words_are c.args.d c.args.count c.args.bytes.now r.0 c.requires.limit (words_read c.args.count c.args.d 0 c.args.count c.args.bytes.now r.0 (omega arith) r.1)
+    words_are c.args.d c.args.count c.args.bytes.now r.0 c.requires.count.limit (words_read c.args.count c.args.d 0 c.args.count c.args.bytes.now r.0 (omega arith) r.1)
 
 pub returns-then-is_spelling-clause-judged : goal.returns-then-is_spelling-clause-judged
 returns-then-is_spelling-clause-judged c =

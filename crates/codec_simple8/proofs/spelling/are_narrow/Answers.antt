@@ -4,7 +4,7 @@ use Rattle.std.specs.List.{list_all}
 use Rattle.std.proofs.lemmas.Bool.{cases_lt}
 use Rattle.std.proofs.lemmas.List.{drop-drop}
 use Rattle.codec_simple8.specs.Simple8.{count_of, width_of, fields, gaps_in, word_in}
-use Rattle.codec_simple8.specs.Words.{AreWords, bytes_gaps}
+use Rattle.codec_simple8.specs.Private.Words.{AreWords, bytes_gaps}
 use Rattle.codec_simple8.proofs.Tables.{count_some}
 use Rattle.codec_simple8.proofs.WordLists.{words_one, narrow_parts, length-gaps_in}
 use Rattle.codec_simple8.proofs.spelling.are_narrow.Goals as goal

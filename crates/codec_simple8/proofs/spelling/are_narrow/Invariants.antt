@@ -1,6 +1,6 @@
 use Rattle.std.proofs.Common.{◌≡◌, ◌≤◌, ◌^◌, drop, take, length, nat_lt}
 use Rattle.std.specs.List.{list_all}
-use Rattle.codec_simple8.specs.Words.{AreWords, bytes_gaps}
+use Rattle.codec_simple8.specs.Private.Words.{AreWords, bytes_gaps}
 use Rattle.codec_simple8.proofs.spelling.are_narrow.Given as goal
 
 abbrev pub invariant-loop-left : goal.invariant-loop-left

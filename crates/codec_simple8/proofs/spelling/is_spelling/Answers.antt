@@ -1,7 +1,7 @@
 use Rattle.std.proofs.Common.{◌≡◌, ◌+◌, ◌%◌, ◌≤◌, drop, length-drop, refl, sym, ap, subst, ◌∙◌, arith}
 use Rattle.std.proofs.lemmas.List.{drop-drop, get_or-drop}
 use Rattle.codec_simple8.specs.Simple8.{count_of, word_in}
-use Rattle.codec_simple8.specs.Words.{AreWords}
+use Rattle.codec_simple8.specs.Private.Words.{AreWords}
 use Rattle.codec_simple8.proofs.Tables.{count_some, count_most}
 use Rattle.codec_simple8.proofs.WordLists.{words_one, spelling_fails, spelling_one, spelling_end}
 use Rattle.codec_simple8.proofs.spelling.is_spelling.Goals as goal

@@ -1,7 +1,7 @@
 use Rattle.std.proofs.Common.{◌≡◌, drop}
 use Rattle.std.specs.Str.{bytes_eq}
 use Rattle.codec_simple8.specs.Simple8.{spelled_words}
-use Rattle.codec_simple8.specs.Words.{AreWords, bytes_gaps}
+use Rattle.codec_simple8.specs.Private.Words.{AreWords, bytes_gaps}
 use Rattle.codec_simple8.proofs.spelling.is_spelling.Given as goal
 
 abbrev pub invariant-loop-left : goal.invariant-loop-left

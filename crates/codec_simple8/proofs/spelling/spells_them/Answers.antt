@@ -3,7 +3,7 @@ use Rattle.std.specs.Prelude.{nat_le}
 use Rattle.std.specs.List.{list_all}
 use Rattle.std.proofs.lemmas.Bool.Decides.{nat_tests}
 use Rattle.codec_simple8.specs.Simple8.{count_of, width_of}
-use Rattle.codec_simple8.specs.Words.{bytes_gaps}
+use Rattle.codec_simple8.specs.Private.Words.{bytes_gaps}
 use Rattle.codec_simple8.proofs.Tables.{count_most, width_most, bits_most}
 use Rattle.codec_simple8.proofs.WordLists.{words_one, test_unused, test_first, test_later}
 use Rattle.codec_simple8.proofs.Trying.{fails_few}

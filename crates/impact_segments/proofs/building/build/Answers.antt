@@ -9,8 +9,8 @@ use Rattle.jass_base.specs.Lists.{HasDocsBelow}
 use Rattle.jass_base.specs.Terms.{HasTermBelow, greatest_impact}
 use Rattle.weights.specs.Quantizing.{IsInRange}
 use Rattle.ranking_model.specs.Order.{sorted}
-use Rattle.impact_segments.specs.Weighed.{list_weights}
-use Rattle.impact_segments.specs.Listed.{has_postings, term_cmp, lists_behind}
+use Rattle.impact_segments.specs.Private.Weighed.{list_weights}
+use Rattle.impact_segments.specs.Private.Listed.{has_postings, term_cmp, lists_behind}
 use Rattle.impact_segments.proofs.OneIndex.{listed_all, listed_some, listed_shorter, terms_rise, built_flat, as_many, all_names, all_text}
 use Rattle.impact_segments.proofs.building.build.Goals as goal
 

@@ -1,5 +1,5 @@
 use Rattle.std.proofs.Common.{◌≡◌, ◌+◌, ◌-◌, ◌≤◌, length}
-use Rattle.impact_segments.specs.ImpactTable.{AreImpactsOf}
+use Rattle.impact_segments.specs.Private.ImpactTable.{AreImpactsOf}
 use Rattle.impact_segments.proofs.impact_table.impacts_in.Given as goal
 
 abbrev pub invariant-weights : goal.invariant-weights

@@ -1,5 +1,5 @@
 -- The sort is stable, so it leaves what sorting by insertion leaves.
-use Rattle.std.proofs.Common.{rules, List, refl, ap, ◌∙◌}
+use Rattle.std.proofs.Common.{rules, List, refl, sym, ap, ◌∙◌}
 use Rattle.std.specs.declared.cmp.Ordering.{Ordering}
 use Rattle.std.specs.Ordering.{is_lt}
 use Rattle.std.specs.Cmp.{IsTotalOrder, IsStrictWeakOrder}
@@ -8,11 +8,11 @@ use Rattle.std.proofs.lemmas.List.Sorted.{answers_always, ranks_by}
 use Rattle.jass_base.specs.declared.postings_list.PostingsList.{PostingsList}
 use Rattle.ranking_model.specs.Order.{sorted}
 use Rattle.ranking_model.proofs.Sorting.{stable_is_sorted}
-use Rattle.impact_segments.specs.Listed.{term_cmp, lists_behind}
-use Rattle.index_model.proofs.Lists.{map_sorted}
+use Rattle.impact_segments.specs.Private.Listed.{term_cmp, lists_behind}
 use Rattle.impact_segments.proofs.Orders.{term_total}
 use Rattle.impact_segments.proofs.listing.lists_by_term.Goals as goal
 use denote.Ref.{Bor}
+use Rattle.ranking_model.proofs.Growing.{sorted_map}
 
 abbrev behind : Bor PostingsList → PostingsList
 behind r = r.now
@@ -31,5 +31,5 @@ returns-in-Ok c =
     ap lists_behind (stable_is_sorted ref_cmp ref_total c.in_ok-listed.listed.items c.sort_by.new.self.items
     (c.in-Ok.ensures.sorted (λ (a b : Bor PostingsList). is_lt (ref_cmp a b)) ref_less (answers_always _ _ _ (λ f a r f' called. search rules)))
     (c.in-Ok.ensures.stable (λ (a b : Bor PostingsList). is_lt (ref_cmp a b)) ref_less (answers_always _ _ _ (λ f a r f' called. search rules))))
-    ∙ map_sorted behind ref_cmp term_cmp (λ a b. refl) c.in_ok-listed.listed.items
+    ∙ sym (sorted_map behind ref_cmp term_cmp (λ a b. refl) c.in_ok-listed.listed.items)
     ∙ ap (λ (l : List PostingsList). sorted term_cmp l) c.in_ok-listed.ensures

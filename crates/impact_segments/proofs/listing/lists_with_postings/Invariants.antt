@@ -1,5 +1,5 @@
 use Rattle.std.proofs.Common.{◌≡◌, ◌++◌, drop, filter}
-use Rattle.impact_segments.specs.Listed.{has_postings, lists_behind}
+use Rattle.impact_segments.specs.Private.Listed.{has_postings, lists_behind}
 use Rattle.impact_segments.proofs.listing.lists_with_postings.Given as goal
 
 abbrev pub invariant-loop-list : goal.invariant-loop-list

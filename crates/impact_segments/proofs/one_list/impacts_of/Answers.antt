@@ -4,6 +4,7 @@ use Rattle.jass_base.specs.declared.posting.Posting.{Posting}
 use Rattle.weights.specs.Quantizing.{impact_of}
 use Rattle.impact_segments.specs.Collections.{weight_in, weights_in}
 use Rattle.impact_segments.specs.OneList.{outside, pairs_in}
+use Rattle.impact_segments.specs.Pairs.{with_impact}
 use Rattle.impact_segments.proofs.OneList.{judged_more, pair_is, pairs_more, positive_more, weight_same}
 use Rattle.impact_segments.proofs.Weights.{item_below}
 use Rattle.impact_segments.proofs.one_list.impacts_of.Goals as goal
@@ -33,8 +34,8 @@ loop-posting-preserved c =
     let weighed : w ≡ weigh p = weight_same rule c.new-weigher.result.rule lengths c.new-weigher.result.lengths.now total c.new-weigher.result.total count c.new-weigher.result.rare w p
     c.new-weigher.ensures.rule c.new-weigher.ensures.lengths c.new-weigher.ensures.total c.new-weigher.ensures.rare (c.weigh-weight.ensures.value count) in
     record {
-      pairs = pairs_more (λ (p : Posting). (p.doc, impact_of bits range (weigh p))) c.loop-posting.pairs.items c.push_reserved.new.self.items (pairs_in rule lengths total bits range c.args.list.now.postings) items i none
-          (p.doc, c.in_ok-impact.impact) c.loop-posting-test.true c.push_reserved.ensures.items (pair_is bits range p.doc c.in_ok-impact.impact w (weigh p) c.in_ok-impact.ensures.value weighed) c.loop-posting.invariant.pairs;
+      pairs = pairs_more (λ (p : Posting). with_impact (impact_of bits range (weigh p)) p.doc) c.loop-posting.pairs.items c.push_reserved.new.self.items (pairs_in rule lengths total bits range c.args.list.now.postings) items i none
+          (with_impact c.in_ok-impact.impact p.doc) c.loop-posting-test.true c.push_reserved.ensures.items (pair_is bits range p.doc c.in_ok-impact.impact w (weigh p) c.in_ok-impact.ensures.value weighed) c.loop-posting.invariant.pairs;
       positive = positive_more c.loop-posting.pairs.items c.push_reserved.new.self.items p.doc c.in_ok-impact.impact c.push_reserved.ensures.items c.in_ok-impact.ensures.positive c.loop-posting.invariant.positive;
       judged = judged_more weigh bits range items i none w (outside bits range (weights_in rule lengths total c.args.list.now.postings)) c.loop-posting-test.true weighed c.in_ok-impact.ensures.ok c.loop-posting.invariant.judged;
       count = omega (arith, c.push_reserved.ensures.len, c.loop-posting.invariant.count);

@@ -1,16 +1,18 @@
-use Rattle.std.proofs.Common.{◌≡◌, ◌≤◌, ◌++◌, ℕ, drop, length, map, vec_capacity}
+use Rattle.std.proofs.Common.{◌≡◌, ◌≤◌, ◌++◌, drop, length, map, vec_capacity}
 use Rattle.std.specs.Prelude.{All}
 use Rattle.jass_base.specs.declared.posting.Posting.{Posting}
 use Rattle.weights.specs.Quantizing.{impact_of}
 use Rattle.impact_segments.specs.Collections.{weight_in, weights_in}
 use Rattle.impact_segments.specs.OneList.{outside, pairs_in}
+use Rattle.impact_segments.specs.Pairs.{with_impact}
+use Rattle.impact_segments.specs.declared.doc_impact.DocImpact.{DocImpact}
 use Rattle.impact_segments.proofs.one_list.impacts_of.Given as goal
 
 abbrev pub invariant-loop-posting : goal.invariant-loop-posting
 invariant-loop-posting l = record {
-  pairs : l.pairs.items ++ map (λ (p : Posting). (p.doc, impact_of l.bits l.range (weight_in l.fn.rule l.fn.lengths l.fn.total (length l.fn.list.postings) p))) (drop l.posting-index l.posting-items)
+  pairs : l.pairs.items ++ map (λ (p : Posting). with_impact (impact_of l.bits l.range (weight_in l.fn.rule l.fn.lengths l.fn.total (length l.fn.list.postings) p)) p.doc) (drop l.posting-index l.posting-items)
       ≡ pairs_in l.fn.rule l.fn.lengths l.fn.total l.bits l.range l.fn.list.postings;
-  positive : All (λ (p : ℕ × ℕ). 1 ≤ p.1) l.pairs.items;
+  positive : All (λ (p : DocImpact). 1 ≤ p.impact) l.pairs.items;
   judged : outside l.bits l.range (map (weight_in l.fn.rule l.fn.lengths l.fn.total (length l.fn.list.postings)) (drop l.posting-index l.posting-items))
       ≡ outside l.bits l.range (weights_in l.fn.rule l.fn.lengths l.fn.total l.fn.list.postings);
   count : length l.pairs.items ≡ l.posting-index;

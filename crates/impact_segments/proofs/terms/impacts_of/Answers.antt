@@ -3,7 +3,7 @@ use Rattle.std.proofs.Common.{ℕ, List, length, map, sym, subst}
 use Rattle.std.specs.Prelude.{All}
 use Rattle.jass_base.specs.declared.posting.Posting.{Posting}
 use Rattle.weights.specs.Quantizing.{IsInRange}
-use Rattle.impact_segments.specs.Weighed.{posting_weight}
+use Rattle.impact_segments.specs.Private.Weighed.{posting_weight}
 use Rattle.impact_segments.proofs.OneTerm.{all_map_at, paired_more}
 use Rattle.impact_segments.proofs.Weights.{item_below}
 use Rattle.impact_segments.proofs.terms.impacts_of.Goals as goal

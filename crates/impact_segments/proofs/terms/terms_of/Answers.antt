@@ -11,8 +11,8 @@ use Rattle.weights.specs.Quantizing.{IsInRange}
 use Rattle.ranking_model.specs.Order.{sorted}
 use Rattle.ranking_model.specs.Flat.{entry_cmp}
 use Rattle.ranking_model.specs.declared.entry.Entry.{Entry}
-use Rattle.impact_segments.specs.Weighed.{list_weights, list_entries}
-use Rattle.impact_segments.specs.Listed.{lists_behind}
+use Rattle.impact_segments.specs.Private.Weighed.{list_weights, list_entries}
+use Rattle.impact_segments.specs.Private.Listed.{lists_behind}
 use Rattle.impact_segments.proofs.OneTerm.{Built, built_more, all_map_at}
 use Rattle.impact_segments.proofs.terms.terms_of.Goals as goal
 

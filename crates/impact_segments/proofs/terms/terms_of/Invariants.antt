@@ -4,7 +4,7 @@ use Rattle.std.specs.Cmp.Lexicographic.{slice_cmp}
 use Rattle.jass_base.specs.declared.postings_list.PostingsList.{PostingsList}
 use Rattle.ranking_model.specs.Order.{sorted}
 use Rattle.ranking_model.specs.Flat.{entry_cmp}
-use Rattle.impact_segments.specs.Weighed.{list_entries}
+use Rattle.impact_segments.specs.Private.Weighed.{list_entries}
 use Rattle.impact_segments.proofs.OneTerm.{Built}
 use Rattle.impact_segments.proofs.terms.terms_of.Given as goal
 

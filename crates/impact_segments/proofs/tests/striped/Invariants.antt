@@ -1,12 +1,13 @@
-use Rattle.std.proofs.Common.{ℕ, ◌<◌, ◌≤◌}
+use Rattle.std.proofs.Common.{◌<◌, ◌≤◌}
 use Rattle.std.specs.Prelude.{All}
 use Rattle.std.specs.List.Sorted.{IsStrictlyIncreasing}
 use Rattle.impact_segments.specs.Pairs.{pair_docs}
+use Rattle.impact_segments.specs.declared.doc_impact.DocImpact.{DocImpact}
 use Rattle.impact_segments.proofs.tests.striped.Given as goal
 
 abbrev pub invariant-loop-doc : goal.invariant-loop-doc
 invariant-loop-doc l = record {
   rising : IsStrictlyIncreasing (pair_docs l.pairs.items);
-  below : All (λ (p : ℕ × ℕ). p.0 < l.doc) l.pairs.items;
-  positive : All (λ (p : ℕ × ℕ). 1 ≤ p.1) l.pairs.items;
+  below : All (λ (p : DocImpact). p.doc < l.doc) l.pairs.items;
+  positive : All (λ (p : DocImpact). 1 ≤ p.impact) l.pairs.items;
 }

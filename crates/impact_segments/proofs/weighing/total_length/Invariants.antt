@@ -1,5 +1,5 @@
 use Rattle.std.proofs.Common.{◌≡◌, ◌*◌, ◌≤◌, ◌^◌, take, sum}
-use Rattle.impact_segments.specs.Weighed.{lengths_in}
+use Rattle.impact_segments.specs.Private.Weighed.{lengths_in}
 use Rattle.impact_segments.proofs.weighing.total_length.Given as goal
 
 abbrev pub invariant-loop-doc : goal.invariant-loop-doc

@@ -2,7 +2,7 @@
 use Rattle.std.proofs.Common.{ℕ, List, ap}
 use Rattle.jass_base.specs.CiffViews.{doc_data}
 use Rattle.jass_base.specs.Ciff.{DocData}
-use Rattle.index_export.specs.Gathering.{name_records}
+use Rattle.index_export.specs.Private.Gathering.{name_records}
 use Rattle.index_export.proofs.Steps.{there, one_more}
 use Rattle.index_export.proofs.documents.records_of.Goals as goal
 

@@ -1,6 +1,6 @@
 use Rattle.std.proofs.Common.{◌≡◌, ◌++◌, drop, map}
 use Rattle.jass_base.specs.CiffViews.{doc_data}
-use Rattle.index_export.specs.Gathering.{name_records}
+use Rattle.index_export.specs.Private.Gathering.{name_records}
 use Rattle.index_export.proofs.documents.records_of.Given as goal
 
 abbrev pub invariant-loop-doc : goal.invariant-loop-doc

@@ -1,7 +1,7 @@
 -- A block more of the documents that are left.
 use Rattle.std.proofs.Common.{ℕ, List, drop, take, ◌++◌, arith}
 use Rattle.index_file.specs.Places.{segment_at}
-use Rattle.index_export.specs.Gathering.{doc_postings}
+use Rattle.index_export.specs.Private.Gathering.{doc_postings}
 use Rattle.index_export.proofs.Steps.{block_more, block_counted}
 use Rattle.index_export.proofs.gathering.add_blocks.Goals as goal
 

@@ -1,7 +1,7 @@
 use Rattle.std.proofs.Common.{◌≡◌, ◌++◌, ◌+◌, ◌-◌, ◌≤◌, ℕ, List, length}
 use Rattle.index_file.specs.Giving.{Gives}
 use Rattle.index_file.specs.Places.{segment_at}
-use Rattle.index_export.specs.Gathering.{doc_postings}
+use Rattle.index_export.specs.Private.Gathering.{doc_postings}
 use Rattle.index_export.proofs.gathering.add_blocks.Given as goal
 
 abbrev pub invariant-blocks-2 : goal.invariant-blocks-2

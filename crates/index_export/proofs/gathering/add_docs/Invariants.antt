@@ -1,5 +1,5 @@
 use Rattle.std.proofs.Common.{◌≡◌, ◌++◌, drop}
-use Rattle.index_export.specs.Gathering.{doc_postings}
+use Rattle.index_export.specs.Private.Gathering.{doc_postings}
 use Rattle.index_export.proofs.gathering.add_docs.Given as goal
 
 abbrev pub invariant-loop-doc : goal.invariant-loop-doc

@@ -2,7 +2,7 @@ use Rattle.std.proofs.Common.{◌≡◌, ◌++◌, ◌+◌, ◌≤◌, drop}
 use Rattle.std.specs.List.{flat_map}
 use Rattle.index_model.specs.Querying.{segments_at}
 use Rattle.index_export.specs.Exports.{segment_postings}
-use Rattle.index_export.specs.Gathering.{docs_count}
+use Rattle.index_export.specs.Private.Gathering.{docs_count}
 use Rattle.index_export.proofs.gathering.gather.Given as goal
 
 abbrev pub invariant-loop-s : goal.invariant-loop-s

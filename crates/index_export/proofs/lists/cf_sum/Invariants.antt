@@ -1,5 +1,5 @@
 use Rattle.std.proofs.Common.{◌≡◌, take}
-use Rattle.index_export.specs.Gathering.{cf_sum}
+use Rattle.index_export.specs.Private.Gathering.{cf_sum}
 use Rattle.index_export.proofs.lists.cf_sum.Given as goal
 
 abbrev pub invariant-loop-list : goal.invariant-loop-list

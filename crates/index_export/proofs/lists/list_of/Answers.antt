@@ -5,7 +5,7 @@ use Rattle.std.specs.List.Sorted.{IsStrictlyIncreasing}
 use Rattle.jass_base.specs.declared.posting.Posting.{Posting}
 use Rattle.jass_base.specs.Postings.{docs_of, HasTfInRange}
 use Rattle.index_export.specs.Exports.{term_list, impact_sum}
-use Rattle.index_export.specs.Gathering.{term_with}
+use Rattle.index_export.specs.Private.Gathering.{term_with}
 use Rattle.index_export.proofs.OneTerm.{list_rises, list_tf, list_below, list_count, list_sum}
 use Rattle.index_export.proofs.Whole.{term_is, term_small}
 use Rattle.index_export.proofs.lists.list_of.Goals as goal

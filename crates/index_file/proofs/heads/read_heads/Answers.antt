@@ -6,10 +6,11 @@ use Rattle.index_file.specs.Payloads.{IsCounted}
 use Rattle.index_file.specs.Tables.{HasHead, row_head}
 use Rattle.std.specs.Prelude.{max}
 use Rattle.std.proofs.lemmas.List.Elements.{All-push}
+use Rattle.index_layout.proofs.Behind.{with_heads}
 use Rattle.index_file.specs.declared.sums.Sums.{Sums}
-use Rattle.index_file.specs.Sums.{AreSums}
+use Rattle.index_file.specs.Private.Sums.{AreSums}
 use Rattle.index_file.proofs.TermRows.{sums_push}
-use Rattle.index_file.proofs.Sequences.{with_heads, heads_on, rows_on}
+use Rattle.index_file.proofs.Sequences.{heads_on, rows_on}
 use Rattle.index_file.proofs.heads.read_heads.Goals as goal
 
 pub heads-preserved : goal.heads-preserved

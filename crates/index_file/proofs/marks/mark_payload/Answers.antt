@@ -1,7 +1,7 @@
 use Rattle.std.proofs.Common.{◌<◌, ◌-◌, drop, ap, sym, ◌∙◌, arith}
 use Rattle.std.proofs.lemmas.List.{length-drop}
 use Rattle.std.proofs.lemmas.List.Elements.{All-drop}
-use Rattle.index_file.specs.Marks.{marked, meets_marked}
+use Rattle.index_file.specs.Private.Marks.{marked, meets_marked}
 use Rattle.index_file.proofs.MarkLists.{block_met, block_passed, block_marked}
 use Rattle.index_file.proofs.marks.mark_payload.Goals as goal
 

@@ -1,7 +1,7 @@
 use Rattle.std.proofs.Common.{◌≡◌, ◌+◌, ◌++◌, true, false, ap, sym, subst, ◌∙◌}
 use Rattle.index_layout.specs.Reading.{docs_in, payload_end}
 use Rattle.index_layout.specs.Refusals.{Fails}
-use Rattle.index_file.specs.Marks.{AreMarks, marked, meets_marked}
+use Rattle.index_file.specs.Private.Marks.{AreMarks, marked, meets_marked}
 use Rattle.index_file.specs.Tables.{told}
 use Rattle.index_file.proofs.MarkLists.{marked_are}
 use Rattle.index_file.proofs.OnePayload.{payload_fails, apart_end}

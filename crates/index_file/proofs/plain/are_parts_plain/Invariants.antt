@@ -1,5 +1,5 @@
 use Rattle.std.proofs.Common.{◌≤◌, ◌-◌, All, length, take}
-use Rattle.index_file.specs.Plain.{IsPlain}
+use Rattle.index_file.specs.Private.Plain.{IsPlain}
 use Rattle.index_file.proofs.plain.are_parts_plain.Given as goal
 
 abbrev pub invariant-parts : goal.invariant-parts

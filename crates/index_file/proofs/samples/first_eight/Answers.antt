@@ -1,7 +1,7 @@
 use Rattle.std.proofs.Common.{arith}
+use Rattle.jass_base.proofs.Accepting.{all_bytes}
 use Rattle.index_file.specs.Samples.{first_eight, leading}
 use Rattle.index_file.proofs.Leading.{leading_on, leading_done, number_small, number_fits}
-use Rattle.index_file.proofs.Reading.{bytes_fit}
 use Rattle.index_file.proofs.samples.first_eight.Goals as goal
 
 pub overflow_mul-number : goal.overflow_mul-number
@@ -28,4 +28,4 @@ returns-clause-number c =
     leading_done (leading 8 c.args.text.now) c.bytes.number c.bytes.i c.args.text.now (omega (arith, all, most)) c.bytes.invariant.read
 
 pub returns-clause-bytes : goal.returns-clause-bytes
-returns-clause-bytes c = bytes_fit c.args.text.now (λ i. omega (arith, c.type_inv.text i))
+returns-clause-bytes c = all_bytes c.args.text.now (λ i. omega (arith, c.type_inv.text i))

@@ -1,8 +1,8 @@
 use Rattle.std.proofs.Common.{◌*◌, ◌-◌, ◌<◌, ◌≤◌, length, length-append, ap, ◌∙◌, arith}
 use Rattle.std.specs.Int.{div_ceil}
+use Rattle.jass_base.proofs.Accepting.{all_bytes}
 use Rattle.index_file.specs.Samples.{first_eight}
 use Rattle.index_file.specs.Tables.{part_of}
-use Rattle.index_file.proofs.Reading.{bytes_fit}
 use Rattle.index_file.proofs.Sampling.{sampled_on, term_after, all_sampled}
 use Rattle.index_file.proofs.Standing.{rows_in_order}
 use Rattle.index_file.proofs.samples.sample_terms.Goals as goal
@@ -30,6 +30,6 @@ returns c =
     let over : div_ceil (length c.args.rows.now - 1) 64 ≤ length c.samples.samples = omega (arith, c.samples-test.false, c.div_ceil-i-end.ensures, count) in
     record {
       told = λ i low. c.samples.invariant.told i (omega (arith, low, count));
-      bytes = bytes_fit c.args.text.now (λ i. omega (arith, c.type_inv.text i));
+      bytes = all_bytes c.args.text.now (λ i. omega (arith, c.type_inv.text i));
       enough = all_sampled (length c.args.rows.now) (length c.samples.samples) over;
     }

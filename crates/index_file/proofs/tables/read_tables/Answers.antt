@@ -4,9 +4,10 @@ use Rattle.index_layout.specs.Reading.{Front, NamesRead, TermsRead, name_in, rea
 use Rattle.index_layout.specs.View.{FileView}
 use Rattle.index_layout.specs.Refusals.{judged}
 use Rattle.index_layout.specs.Reading.{end_checks}
+use Rattle.jass_base.proofs.Accepting.{all_bytes}
 use Rattle.index_file.specs.Payloads.{row_heads}
-use Rattle.index_file.specs.Sums.{AreSums}
-use Rattle.index_file.proofs.Reading.{fails_on, fails_as, front_not, front_there, names_there, terms_there, ends_told, view_with, stands_there, up_to_ends, bytes_fit}
+use Rattle.index_file.specs.Private.Sums.{AreSums}
+use Rattle.index_file.proofs.Reading.{fails_on, fails_as, front_not, front_there, names_there, terms_there, ends_told, view_with, stands_there, up_to_ends}
 use Rattle.index_file.proofs.Standing.{same_view}
 use Rattle.index_file.proofs.Wholes.{heads_are, rows_stay}
 use Rattle.index_file.proofs.tables.read_tables.Goals as goal
@@ -95,5 +96,5 @@ returns-in-Ok-check_ends-clause-stands c =
     let passed = c.in-Ok-check_ends.ensures (row_heads bytes text segments rows) v whole in
     let read = before ∙ passed in
     let totals = ends_told bytes (row_heads bytes text segments rows) end v passed in
-    let law = c.files_are_read.ensures.only v bytes (bytes_fit bytes (λ i. omega (arith, c.type_inv.bytes i))) read in
+    let law = c.files_are_read.ensures.only v bytes (all_bytes bytes (λ i. omega (arith, c.type_inv.bytes i))) read in
     stands_there bytes docs places text rows segments c.in-Ok-read_names.ensures.count read law.0 law.1 c.in-Ok-read_names.ensures.within are c.in-Ok-place_segments.ensures.payloads c.in-Ok.ensures.long.0 totals.0 totals.1

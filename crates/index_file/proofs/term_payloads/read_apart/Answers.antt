@@ -3,11 +3,12 @@ use Rattle.std.specs.List.{flat_map}
 use Rattle.std.proofs.lemmas.List.Elements.{All-push, All-set}
 use Rattle.index_layout.specs.Reading.{docs_in, payload_end, read_segments}
 use Rattle.index_layout.specs.Heads.{HeadData}
+use Rattle.index_layout.proofs.Behind.{with_segments}
 use Rattle.index_file.specs.declared.segment.Segment.{Segment}
-use Rattle.index_file.specs.Marks.{AreMarks}
+use Rattle.index_file.specs.Private.Marks.{AreMarks}
 use Rattle.index_file.specs.Payloads.{IsCounted, IsPayload, IsPayloadAt, placed, row_segment}
 use Rattle.index_file.specs.Tables.{HasHead, row_head, told}
-use Rattle.index_file.proofs.SegmentLists.{docs_there, with_segments, segments_on, marks_on, row_counted, row_read, rows_left}
+use Rattle.index_file.proofs.SegmentLists.{docs_there, segments_on, marks_on, row_counted, row_read, rows_left}
 use Rattle.index_file.proofs.term_payloads.read_apart.Goals as goal
 
 pub check_apart-requires-clause-counted : goal.check_apart-requires-clause-counted

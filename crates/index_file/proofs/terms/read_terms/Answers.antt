@@ -3,12 +3,13 @@ use Rattle.std.proofs.lemmas.List.{length-append, map-append}
 use Rattle.std.proofs.lemmas.List.Elements.{All-append}
 use Rattle.index_layout.specs.Heads.{TermHeads}
 use Rattle.index_layout.specs.Reading.{HeadsRead, term_in, read_heads, read_terms}
+use Rattle.index_layout.proofs.Behind.{with_terms}
 use Rattle.index_file.specs.declared.span.Span.{Span}
 use Rattle.index_file.specs.declared.term_row.TermRow.{TermRow}
 use Rattle.index_file.specs.Payloads.{row_heads}
-use Rattle.index_file.specs.Sums.{AreSums}
+use Rattle.index_file.specs.Private.Sums.{AreSums}
 use Rattle.index_file.specs.Tables.{AreRows, HasHead, before_in, row_head}
-use Rattle.index_file.proofs.TermRows.{with_terms, terms_on, terms_end, heads_not, counted_on, rows_next}
+use Rattle.index_file.proofs.TermRows.{terms_on, terms_end, heads_not, counted_on, rows_next}
 use Rattle.index_file.proofs.terms.read_terms.Goals as goal
 
 pub terms-preserved : goal.terms-preserved

@@ -10,9 +10,9 @@ use Rattle.jass_base.specs.declared.segment.Segment.{Segment}
 use Rattle.index_model.specs.Views.{segment_data}
 use Rattle.index_write.specs.Chosen.{chosen_heads, chosen_payloads, head_data}
 use Rattle.index_write.specs.declared.term_heads.TermHeads.{TermHeads}
-use Rattle.index_import.specs.Heading.{AreHeads, KeepsMore}
-use Rattle.index_import.specs.Rereading.{AreSegments, segments_there}
-use Rattle.index_import.specs.Surveying.{HoldsMost, IsReady, KeepsAll}
+use Rattle.index_import.specs.Private.Heading.{AreHeads, KeepsMore}
+use Rattle.index_import.specs.Private.Rereading.{AreSegments, segments_there}
+use Rattle.index_import.specs.Private.Surveying.{HoldsMost, IsReady, KeepsAll}
 use Rattle.index_import.specs.declared.list_entry.ListEntry.{ListEntry}
 use Rattle.index_import.specs.declared.list_entry.Place.{Place}
 use Rattle.index_import.proofs.Again.{told_now}

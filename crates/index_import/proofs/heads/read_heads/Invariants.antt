@@ -1,7 +1,7 @@
 use Rattle.std.proofs.Common.{◌≡◌, ◌≤◌}
 use Rattle.ciff_read.specs.Walk.{LeavesWalk}
-use Rattle.index_import.specs.Heading.{AreHeads, places_of}
-use Rattle.index_import.specs.Surveying.{IsReady}
+use Rattle.index_import.specs.Private.Heading.{AreHeads, places_of}
+use Rattle.index_import.specs.Private.Surveying.{IsReady}
 use Rattle.index_import.proofs.Headed.{HaveEntries}
 use Rattle.index_import.proofs.heads.read_heads.Given as goal
 

@@ -6,9 +6,9 @@ use Rattle.jass_base.specs.Outside.{Files, ForContent}
 use Rattle.ciff_read.specs.Pieces.{KeptList}
 use Rattle.ciff_read.specs.Walk.{HasKept}
 use Rattle.ciff_read.proofs.Told.{for_one}
-use Rattle.index_import.specs.Ranging.{range_there}
-use Rattle.index_import.specs.Outlining.{IsOutline}
-use Rattle.index_import.specs.Surveying.{AreGiven, HoldsMost, KeepsAll}
+use Rattle.index_import.specs.Private.Ranging.{range_there}
+use Rattle.index_import.specs.Private.Outlining.{IsOutline}
+use Rattle.index_import.specs.Private.Surveying.{AreGiven, HoldsMost, KeepsAll}
 use Rattle.index_import.specs.declared.list_entry.ListEntry.{ListEntry}
 use Rattle.index_import.specs.declared.list_entry.Place.{Place}
 use Rattle.index_import.proofs.Again.{told_now}

@@ -1,5 +1,5 @@
 use Rattle.std.proofs.Common.{◌≡◌, ◌++◌, drop, map}
-use Rattle.index_import.specs.KeptPostings.{posting_in}
+use Rattle.index_import.specs.Private.KeptPostings.{posting_in}
 use Rattle.index_import.proofs.kept_postings.few_words.Given as goal
 
 abbrev pub invariant-loop-posting : goal.invariant-loop-posting

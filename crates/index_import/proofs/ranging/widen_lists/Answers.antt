@@ -7,8 +7,8 @@ use Rattle.ciff_read.specs.Walk.{HasKept, LeavesWalk}
 use Rattle.ciff_read.proofs.Told.{for_one}
 use Rattle.weights.specs.declared.quantizing.Bits.TheVariants.{Of}
 use Rattle.weights.specs.declared.quantizing.Range.{Range}
-use Rattle.index_import.specs.Outlining.{list_there}
-use Rattle.index_import.specs.Surveying.{HoldsMost, IsReady, KeepsAll}
+use Rattle.index_import.specs.Private.Outlining.{list_there}
+use Rattle.index_import.specs.Private.Surveying.{HoldsMost, IsReady, KeepsAll}
 use Rattle.index_import.specs.declared.list_entry.ListEntry.{ListEntry}
 use Rattle.index_import.proofs.Again.{ready_then, told_now, told_then}
 use Rattle.index_import.proofs.Ready.{leaves_then}

@@ -1,6 +1,6 @@
 use Rattle.std.proofs.Common.{◌≡◌, ◌≤◌, take}
 use Rattle.ciff_read.specs.Walk.{LeavesWalk}
-use Rattle.index_import.specs.Surveying.{IsReady}
+use Rattle.index_import.specs.Private.Surveying.{IsReady}
 use Rattle.index_import.proofs.Widening.{Widens}
 use Rattle.index_import.proofs.ranging.widen_lists.Given as goal
 

@@ -1,6 +1,6 @@
 -- What was kept is the list that is there.
 use Rattle.std.proofs.Common.{Ok, Err}
-use Rattle.index_import.specs.Surveying.{entry_postings}
+use Rattle.index_import.specs.Private.Surveying.{entry_postings}
 use Rattle.index_import.proofs.Made.{all_there, made_there}
 use Rattle.index_import.proofs.reading.entry_segments.Goals as goal
 

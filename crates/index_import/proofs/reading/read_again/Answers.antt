@@ -3,7 +3,7 @@ use Rattle.std.proofs.Common.{◌≡◌, None, length}
 use Rattle.jass_base.specs.CiffViews.{list_data}
 use Rattle.ciff_read.specs.Walk.{IsListAt}
 use Rattle.ciff_read.proofs.Told.{for_one}
-use Rattle.index_import.specs.Outlining.{list_there}
+use Rattle.index_import.specs.Private.Outlining.{list_there}
 use Rattle.index_import.proofs.Ready.{list_there_is, one_count}
 use Rattle.index_import.proofs.reading.read_again.Goals as goal
 

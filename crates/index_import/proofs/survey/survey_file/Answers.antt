@@ -7,9 +7,10 @@ use Rattle.ciff_read.specs.Given.{PieceRanges}
 use Rattle.ciff_read.specs.Walk.{StandsFor, StandsTold, WalkView, kept_of}
 use Rattle.ciff_read.specs.declared.piece.Piece.{Piece}
 use Rattle.ciff_read.proofs.Told.{for_one}
-use Rattle.index_import.specs.Surveying.{HoldsMost, KeepsAll}
+use Rattle.index_import.specs.Private.Surveying.{HoldsMost, KeepsAll}
 use Rattle.index_import.specs.declared.list_entry.ListEntry.{ListEntry}
-use Rattle.index_import.proofs.Surveying.{Follows, Holds, PieceLaws, all_kept, doc_held, doc_told, empty_held, end_told, entry_is, fault_told, kept_fit, keeps_more, kept_same, gives_there, list_held, list_told, most_told, keeps_none, no_most, nothing_follows, nothing_held, keeps_same, same_held, same_most, start_told}
+use Rattle.index_import.proofs.Surveying.{Follows, Holds, PieceLaws, all_kept, doc_held, doc_told, empty_held, end_told, entry_is, fault_told, gives_there, list_held, list_told, most_told, start_told}
+use Rattle.index_import.proofs.Surveying.{kept_fit, kept_same, keeps_more, keeps_none, keeps_same, no_most, nothing_follows, nothing_held, same_held, same_most}
 use Rattle.index_import.proofs.survey.survey_file.Goals as goal
 
 pub pieces-init : goal.pieces-init

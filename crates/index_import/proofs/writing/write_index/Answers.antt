@@ -17,10 +17,10 @@ use Rattle.index_layout.specs.Heads.{TermHeads as EntryData}
 use Rattle.index_write.specs.Streaming.{WriterView, change_of, entries_totals, entry_data, next_heads}
 use Rattle.index_write.specs.declared.fault.TermFault.{TermFault}
 use Rattle.index_write.specs.Streaming.{Unappended}
-use Rattle.index_import.specs.Heading.{AreKept}
+use Rattle.index_import.specs.Private.Heading.{AreKept}
 use Rattle.index_import.specs.Importing.{Writes}
-use Rattle.index_import.specs.Rereading.{FailsInside, IsInside}
-use Rattle.index_import.specs.Surveying.{IsReady}
+use Rattle.index_import.specs.Private.Rereading.{FailsInside, IsInside}
+use Rattle.index_import.specs.Private.Surveying.{IsReady}
 use Rattle.index_import.specs.declared.fault.ImportFault.{ImportFault}
 use Rattle.index_import.specs.declared.list_entry.Place.{Place}
 use Rattle.index_import.proofs.Beside.{beside}

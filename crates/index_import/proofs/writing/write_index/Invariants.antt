@@ -6,7 +6,7 @@ use Rattle.index_layout.specs.Layout.{file_length, front_bytes}
 use Rattle.index_write.specs.Chosen.{table_payloads}
 use Rattle.index_write.specs.Streaming.{entry_data, writer_view}
 use Rattle.index_import.specs.Importing.{HasTerms}
-use Rattle.index_import.specs.Surveying.{IsReady}
+use Rattle.index_import.specs.Private.Surveying.{IsReady}
 use Rattle.index_import.proofs.writing.write_index.Given as goal
 
 abbrev pub invariant-places : goal.invariant-places

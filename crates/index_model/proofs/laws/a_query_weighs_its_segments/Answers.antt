@@ -1,4 +1,4 @@
-use Rattle.index_model.proofs.Named.{weighs}
+use Rattle.index_model.proofs.NamedSegments.{weighs}
 use Rattle.index_model.proofs.laws.a_query_weighs_its_segments.Goals as goal
 
 pub returns : goal.returns

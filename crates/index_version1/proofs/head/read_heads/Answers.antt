@@ -2,8 +2,9 @@ use Rattle.std.proofs.Common.{◌≡◌, ◌+◌, ◌-◌, suc, List, map, ap, s
 use Rattle.std.proofs.lemmas.List.{map_push}
 use Rattle.index_layout.specs.Heads.{HeadData}
 use Rattle.index_layout.specs.Reading.{read_heads}
-use Rattle.index_version1.specs.Tables.{head_data}
-use Rattle.index_version1.proofs.Sequences.{with_heads, heads_on}
+use Rattle.index_layout.proofs.Behind.{with_heads}
+use Rattle.index_version1.specs.Private.Tables.{head_data}
+use Rattle.index_version1.proofs.Sequences.{heads_on}
 use Rattle.index_version1.proofs.head.read_heads.Goals as goal
 
 pub heads-preserved : goal.heads-preserved

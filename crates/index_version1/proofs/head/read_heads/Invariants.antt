@@ -1,7 +1,7 @@
 use Rattle.std.proofs.Common.{◌≡◌, ◌-◌, ◌≤◌, length, map}
 use Rattle.index_layout.specs.Reading.{read_heads}
-use Rattle.index_version1.specs.Tables.{head_data}
-use Rattle.index_version1.proofs.Sequences.{with_heads}
+use Rattle.index_layout.proofs.Behind.{with_heads}
+use Rattle.index_version1.specs.Private.Tables.{head_data}
 use Rattle.index_version1.proofs.head.read_heads.Given as goal
 
 abbrev pub invariant-heads : goal.invariant-heads

@@ -1,5 +1,5 @@
 use Rattle.std.proofs.Common.{ℕ, ◌≤◌, ◌++◌, List, take, All}
-use Rattle.index_version1.specs.Tables.{Marks}
+use Rattle.index_version1.specs.Private.Tables.{Marks}
 use Rattle.index_version1.proofs.marks.mark_all.Given as goal
 
 abbrev pub invariant-loop-doc : goal.invariant-loop-doc

@@ -1,7 +1,7 @@
 use Rattle.std.proofs.Common.{arith, List, map, ap, ◌∙◌}
 use Rattle.index_layout.specs.Heads.{greatest_impact}
 use Rattle.index_version1.specs.declared.old_term.OldTerm.{OldTerm}
-use Rattle.index_version1.specs.Tables.{term_heads}
+use Rattle.index_version1.specs.Private.Tables.{term_heads}
 use Rattle.index_version1.proofs.Parting.{greatest_read}
 use Rattle.index_version1.proofs.parts.read_rest.Goals as goal
 

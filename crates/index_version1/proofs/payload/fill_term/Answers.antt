@@ -2,7 +2,7 @@ use Rattle.std.proofs.Common.{arith, List, map, ap, sym, ◌∙◌, []}
 use Rattle.std.proofs.lemmas.List.{length-map}
 use Rattle.index_layout.specs.Reading.{read_segments}
 use Rattle.index_version1.specs.declared.head.Head.{Head}
-use Rattle.index_version1.specs.Tables.{head_data}
+use Rattle.index_version1.specs.Private.Tables.{head_data}
 use Rattle.index_version1.proofs.Filling.{segments_fit}
 use Rattle.index_version1.proofs.payload.fill_term.Goals as goal
 

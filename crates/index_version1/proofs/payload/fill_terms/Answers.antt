@@ -2,7 +2,7 @@ use Rattle.std.proofs.Common.{arith, ◌≡◌, ◌+◌, ◌∷◌, List, length
 use Rattle.std.specs.Prelude.{Some}
 use Rattle.index_layout.specs.Reading.{read_payloads}
 use Rattle.index_version1.specs.declared.old_term.OldTerm.{OldTerm}
-use Rattle.index_version1.specs.Tables.{term_heads}
+use Rattle.index_version1.specs.Private.Tables.{term_heads}
 use Rattle.index_version1.proofs.PayloadSteps.{filled_on, first_heads}
 use Rattle.index_version1.proofs.payload.fill_terms.Goals as goal
 

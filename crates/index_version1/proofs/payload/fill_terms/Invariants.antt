@@ -3,8 +3,8 @@ use Rattle.std.specs.Prelude.{Option}
 use Rattle.index_model.specs.Views.{term_data}
 use Rattle.index_layout.proofs.TermLaws.{TermsRise}
 use Rattle.index_layout.specs.Reading.{read_payloads}
-use Rattle.index_version1.specs.Tables.{term_heads}
-use Rattle.index_version1.proofs.PayloadSteps.{with_index}
+use Rattle.index_layout.proofs.Behind.{with_index}
+use Rattle.index_version1.specs.Private.Tables.{term_heads}
 use Rattle.index_version1.proofs.payload.fill_terms.Given as goal
 
 abbrev pub invariant-loop-term : goal.invariant-loop-term

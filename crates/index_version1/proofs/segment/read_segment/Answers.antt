@@ -1,6 +1,6 @@
 use Rattle.std.proofs.Common.{arith, ap, sym, subst, ◌∙◌, ◌==◌, ◌<◌, length, slice_index, All}
 use Rattle.std.specs.List.{list_any}
-use Rattle.index_version1.specs.Tables.{head_data}
+use Rattle.index_version1.specs.Private.Tables.{head_data}
 use Rattle.index_version1.proofs.Marking.{shares_marked, segment_twice, segment_read}
 use Rattle.index_version1.proofs.segment.read_segment.Goals as goal
 

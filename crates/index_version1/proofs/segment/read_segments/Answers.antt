@@ -4,7 +4,7 @@ use Rattle.segment_codecs.specs.declared.codec.Codec.TheVariants.{Varbyte}
 use Rattle.index_model.specs.Views.{segment_data}
 use Rattle.index_layout.specs.Reading.{read_segments}
 use Rattle.index_version1.specs.declared.head.Head.{Head}
-use Rattle.index_version1.specs.Tables.{Marks, head_data}
+use Rattle.index_version1.specs.Private.Tables.{Marks, head_data}
 use Rattle.index_version1.proofs.SegmentSteps.{all_docs, heads_next, segments_on, docs_on, fall_on}
 use Rattle.index_version1.proofs.segment.read_segments.Goals as goal
 

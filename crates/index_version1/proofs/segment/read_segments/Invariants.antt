@@ -2,8 +2,9 @@ use Rattle.std.proofs.Common.{◌≡◌, ◌≤◌, ℕ, [], length, map, drop, 
 use Rattle.index_model.specs.Views.{segment_data}
 use Rattle.index_layout.specs.Reading.{read_segments}
 use Rattle.index_layout.proofs.HeadLaws.{HeadsFall}
-use Rattle.index_version1.specs.Tables.{Marks, head_data}
-use Rattle.index_version1.proofs.SegmentSteps.{all_docs, with_segments}
+use Rattle.index_layout.proofs.Behind.{with_segments}
+use Rattle.index_version1.specs.Private.Tables.{Marks, head_data}
+use Rattle.index_version1.proofs.SegmentSteps.{all_docs}
 use Rattle.index_version1.proofs.segment.read_segments.Given as goal
 
 abbrev pub invariant-loop-head : goal.invariant-loop-head

@@ -1,7 +1,7 @@
 use Rattle.std.proofs.Common.{arith, List, ap, map}
 use Rattle.index_layout.specs.Heads.{greatest_of}
 use Rattle.index_version1.specs.declared.head.Head.{Head}
-use Rattle.index_version1.specs.Tables.{head_data}
+use Rattle.index_version1.specs.Private.Tables.{head_data}
 use Rattle.index_version1.proofs.Summing.{greatest_next}
 use Rattle.index_version1.proofs.sums.greatest.Goals as goal
 

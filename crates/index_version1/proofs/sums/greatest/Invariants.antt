@@ -1,7 +1,7 @@
 use Rattle.std.proofs.Common.{◌≡◌, drop, map}
 use Rattle.std.specs.Prelude.{max}
 use Rattle.index_layout.specs.Heads.{greatest_impact}
-use Rattle.index_version1.specs.Tables.{term_heads}
+use Rattle.index_version1.specs.Private.Tables.{term_heads}
 use Rattle.index_version1.proofs.sums.greatest.Given as goal
 
 abbrev pub invariant-loop-term : goal.invariant-loop-term

@@ -1,5 +1,5 @@
 use Rattle.std.proofs.Common.{arith, sym, ◌∙◌}
-use Rattle.index_version1.specs.Tables.{before_of}
+use Rattle.index_version1.specs.Private.Tables.{before_of}
 use Rattle.index_version1.proofs.TermSteps.{term_not, term_empty}
 use Rattle.index_version1.proofs.term.read_term.Goals as goal
 

@@ -1,7 +1,7 @@
 use Rattle.std.proofs.Common.{◌≡◌, ◌+◌, ◌-◌, suc, List, None, ap, sym, ◌∙◌, arith}
 use Rattle.index_layout.specs.Reading.{read_heads}
 use Rattle.index_version1.specs.Reading.{read_terms1, term1_end}
-use Rattle.index_version1.specs.Tables.{before_of}
+use Rattle.index_version1.specs.Private.Tables.{before_of}
 use Rattle.index_version1.specs.declared.old_term.OldTerm.{OldTerm}
 use Rattle.index_version1.proofs.TermSteps.{old_turn}
 use Rattle.index_version1.proofs.term.read_terms.Goals as goal

@@ -1,7 +1,7 @@
 use Rattle.std.proofs.Common.{◌≡◌, ◌-◌, ◌≤◌, length, map, None}
+use Rattle.index_layout.proofs.Behind.{with_terms}
 use Rattle.index_version1.specs.Reading.{read_terms1}
-use Rattle.index_version1.specs.Tables.{before_of, term_heads}
-use Rattle.index_version1.proofs.TermSteps.{with_terms}
+use Rattle.index_version1.specs.Private.Tables.{before_of, term_heads}
 use Rattle.index_version1.proofs.term.read_terms.Given as goal
 
 abbrev pub invariant-terms : goal.invariant-terms

@@ -1,6 +1,7 @@
 use Rattle.std.proofs.Common.{sym}
+use Rattle.index_layout.proofs.Greatest.{greatest_kept}
 use Rattle.index_write.proofs.Memory.{terms_counted}
-use Rattle.index_write.proofs.Texts.{all_sized, all_counted, greatest_chosen, greatest_kept}
+use Rattle.index_write.proofs.Texts.{all_sized, all_counted, greatest_chosen}
 use Rattle.index_write.proofs.laws.tables_have_their_sums.Goals as goal
 
 pub returns-clause-sizes : goal.returns-clause-sizes

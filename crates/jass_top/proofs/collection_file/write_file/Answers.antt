@@ -2,7 +2,7 @@ use Rattle.std.proofs.Common.{List, ℕ, Some, sym, subst}
 use Rattle.jass_base.specs.CiffText.{canonical_ciff}
 use Rattle.jass_base.specs.CiffViews.{collection_data}
 use Rattle.jass_base.specs.Outside.{Sets, Rose}
-use Rattle.jass_base.specs.Writing.{Rose-earlier}
+use Rattle.jass_base.proofs.Writing.{Rose-earlier}
 use Rattle.jass_top.specs.Standing.{LeavesFront}
 use Rattle.jass_top.proofs.MadeFiles.{made, written, written_part}
 use Rattle.jass_top.proofs.collection_file.write_file.Goals as goal

@@ -2,7 +2,7 @@ use Rattle.std.proofs.Common.{[], Some, refl, subst, inr, arith}
 use Rattle.jass_base.specs.Ciff.{CollectionData}
 use Rattle.jass_base.specs.CiffText.{canonical_ciff}
 use Rattle.jass_base.specs.CiffViews.{collection_data}
-use Rattle.jass_base.specs.Writing.{Appends-none, Rose-earlier}
+use Rattle.jass_base.proofs.Writing.{Appends-none, Rose-earlier}
 use Rattle.index_layout.specs.View.{index_postings}
 use Rattle.index_export.specs.Exports.{export_of}
 use Rattle.jass_top.specs.Standing.{LeavesFront}

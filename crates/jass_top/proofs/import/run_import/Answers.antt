@@ -1,7 +1,8 @@
 use Rattle.std.proofs.Common.{◌≡◌, Err, Some, refl, ap, sym, subst, inl, inr, arith}
 use Rattle.std.specs.Io.KnownBytes.{Appends}
 use Rattle.jass_base.specs.declared.answer.Totals.{Totals}
-use Rattle.jass_base.specs.Writing.{Appends-none, AppendsPrefix}
+use Rattle.jass_base.specs.Writing.{AppendsPrefix}
+use Rattle.jass_base.proofs.Writing.{Appends-none}
 use Rattle.index_layout.specs.View.{index_text}
 use Rattle.index_import.specs.Importing.{Imports}
 use Rattle.index_import.specs.declared.fault.ImportFault.{ImportFault}

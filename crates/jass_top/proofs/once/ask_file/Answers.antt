@@ -2,7 +2,7 @@ use Rattle.std.proofs.Common.{◌≡◌, refl, ap, ◌∙◌, inl, arith}
 use Rattle.ranking_model.specs.Search.{query_data}
 use Rattle.session_engine.specs.Standing.{query_of, report_of}
 use Rattle.jass_top.specs.Answers.{once_query}
-use Rattle.jass_top.specs.OnceTexts.{once_of}
+use Rattle.jass_top.specs.Private.OnceTexts.{once_of}
 use Rattle.jass_top.proofs.Asking.{had}
 use Rattle.jass_top.proofs.Turns.{scored_none}
 use Rattle.jass_top.proofs.once.ask_file.Goals as goal

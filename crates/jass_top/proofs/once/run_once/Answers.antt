@@ -5,7 +5,7 @@ use Rattle.index_model.specs.Views.{index_data}
 use Rattle.impact_segments.specs.Collections.{collection_index}
 use Rattle.jass_top.specs.Judging.{judge_ciff}
 use Rattle.jass_top.specs.OnceMeaning.{IsOnceOutput}
-use Rattle.jass_top.specs.OnceTexts.{once_of}
+use Rattle.jass_top.specs.Private.OnceTexts.{once_of}
 use Rattle.jass_top.specs.Worlds.{outer}
 use Rattle.jass_top.proofs.Making.{made_runs}
 use Rattle.jass_top.proofs.once.run_once.Goals as goal

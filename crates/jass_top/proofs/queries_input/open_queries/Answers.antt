@@ -1,7 +1,7 @@
 use Rattle.std.proofs.Common.{◌≡◌, ℕ, ◌<◌, List, map, Ok, Err, refl, ap, sym, subst, ◌∙◌, inl, All}
 use Rattle.std.specs.List.{AllByRecursion}
 use Rattle.std.proofs.lemmas.List.{length-map}
-use Rattle.jass_base.specs.declared.named.Named.{Named}
+use Rattle.jass_base.specs.declared.query_term.QueryTerm.{QueryTerm}
 use Rattle.jass_base.specs.declared.query.Query.{Query}
 use Rattle.index_file.specs.Places.{texts_of}
 use Rattle.index_model.specs.Index.{TermData}
@@ -32,7 +32,7 @@ returns-in-Ok-read_queries-clause-accepted g c =
 
 pub returns-in-Ok-read_queries-clause-known : goal.returns-in-Ok-read_queries-clause-known
 returns-in-Ok-read_queries-clause-known g c =
-    subst (λ (n : ℕ). AllByRecursion (λ (query : Query). All (λ (named : Named). named.term < n) query.terms) c.in-Ok-read_queries.queries) (length-map c.args.index.now.index.terms (λ (t : TermData). t.term)) c.in-Ok-read_queries.ensures.known
+    subst (λ (n : ℕ). AllByRecursion (λ (query : Query). All (λ (named : QueryTerm). named.term < n) query.terms) c.in-Ok-read_queries.queries) (length-map c.args.index.now.index.terms (λ (t : TermData). t.term)) c.in-Ok-read_queries.ensures.known
 
 pub returns-in-Err-Refused-clause-unread : goal.returns-in-Err-Refused-clause-unread
 returns-in-Err-Refused-clause-unread g c =

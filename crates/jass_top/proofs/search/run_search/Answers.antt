@@ -1,6 +1,6 @@
 use Rattle.std.proofs.Common.{refl, ap, subst, inl, inr, ◌∙◌}
 use Rattle.jass_base.specs.Outside.{Sets}
-use Rattle.jass_base.specs.Writing.{Rose-earlier}
+use Rattle.jass_base.proofs.Writing.{Rose-earlier}
 use Rattle.jass_top.specs.declared.search_stop.SearchStop.TheVariants.{Unwritten}
 use Rattle.jass_top.specs.SearchTexts.{asked_of, search_output}
 use Rattle.jass_top.specs.SearchMeaning.{Search}

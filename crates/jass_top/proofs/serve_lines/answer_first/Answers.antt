@@ -6,8 +6,8 @@ use Rattle.jass_base.specs.declared.faults.WriteFault.{WriteFault}
 use Rattle.session_desk.specs.declared.went.Went.{Went}
 use Rattle.session_desk.specs.Endings.{left_where, text_where}
 use Rattle.session_desk.specs.Lines.{is_end}
-use Rattle.trec_run.specs.Gathering.{Gathers}
-use Rattle.jass_top.specs.Serving.{Moves}
+use Rattle.gathered_text.specs.Gathering.{Gathers}
+use Rattle.jass_top.specs.Private.Serving.{Moves}
 use Rattle.jass_top.proofs.Sides.{side_ok, side_err}
 use Rattle.jass_top.proofs.Serving.{goes_last, goes_on, line_cuts, line_finishes, line_moves, opening_steps, stays}
 use Rattle.jass_top.proofs.serve_lines.answer_first.Goals as goal

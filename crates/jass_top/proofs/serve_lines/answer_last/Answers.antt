@@ -4,7 +4,7 @@ use Rattle.session_desk.specs.declared.went.Went.{Went}
 use Rattle.session_desk.specs.declared.went.Went.TheVariants as wents
 use Rattle.session_desk.specs.Endings.{text_where}
 use Rattle.session_desk.specs.Replies.{desk_reply, desk_steps}
-use Rattle.trec_run.specs.Gathering.{Gathers}
+use Rattle.gathered_text.specs.Gathering.{Gathers}
 use Rattle.jass_top.proofs.Serving.{opening_steps}
 use Rattle.jass_top.proofs.ServedLast.{none_left, last_whole, last_none, last_sent, last_unsent, last_wanting, nothing_there, something_there}
 use Rattle.jass_top.proofs.serve_lines.answer_last.Goals as goal

@@ -1,6 +1,6 @@
 use Rattle.std.proofs.Common.{Ok, Err, refl, subst, ◌∙◌}
 use Rattle.session_desk.specs.declared.went.Went.{Went}
-use Rattle.jass_top.specs.Serving.{Answers}
+use Rattle.jass_top.specs.Private.Serving.{AnswersLines}
 use Rattle.jass_top.proofs.Serving.{answers_none, answers_then}
 use Rattle.jass_top.proofs.serve_lines.answer_waiting.Goals as goal
 
@@ -9,7 +9,7 @@ lines-init g c = record { file = refl; answers = answers_none c.args.out.now c.a
 
 pub lines-preserved : goal.lines-preserved
 lines-preserved g c =
-    let answers = subst (λ (went : Went). Answers g.O.Sink.written g.O.Sink.faults g.O.Sink.rest c.args.out.now c.answer_first.new.out c.args.buffer.now
+    let answers = subst (λ (went : Went). AnswersLines g.O.Sink.written g.O.Sink.faults g.O.Sink.rest c.args.out.now c.answer_first.new.out c.args.buffer.now
     c.answer_first.new.buffer c.args.steps.now c.answer_first.new.steps c.args.desk.now.file c.args.lines.now c.answer_first.new.lines c.args.desk.now.state
     c.answer_first.new.desk.state (Ok went))
     c.in-Ok-On.field-0-is
@@ -19,7 +19,7 @@ lines-preserved g c =
 
 pub returns-in-Ok-End-clause-answers : goal.returns-in-Ok-End-clause-answers
 returns-in-Ok-End-clause-answers g c =
-    subst (λ (went : Went). Answers g.O.Sink.written g.O.Sink.faults g.O.Sink.rest c.args.out.now c.answer_first.new.out c.args.buffer.now
+    subst (λ (went : Went). AnswersLines g.O.Sink.written g.O.Sink.faults g.O.Sink.rest c.args.out.now c.answer_first.new.out c.args.buffer.now
     c.answer_first.new.buffer c.args.steps.now c.answer_first.new.steps c.args.desk.now.file c.args.lines.now c.answer_first.new.lines c.args.desk.now.state
     c.answer_first.new.desk.state (Ok went))
     c.in-Ok-End.field-0-is
@@ -28,7 +28,7 @@ returns-in-Ok-End-clause-answers g c =
 
 pub returns-in-Ok-NoMemory-clause-answers : goal.returns-in-Ok-NoMemory-clause-answers
 returns-in-Ok-NoMemory-clause-answers g c =
-    subst (λ (went : Went). Answers g.O.Sink.written g.O.Sink.faults g.O.Sink.rest c.args.out.now c.answer_first.new.out c.args.buffer.now
+    subst (λ (went : Went). AnswersLines g.O.Sink.written g.O.Sink.faults g.O.Sink.rest c.args.out.now c.answer_first.new.out c.args.buffer.now
     c.answer_first.new.buffer c.args.steps.now c.answer_first.new.steps c.args.desk.now.file c.args.lines.now c.answer_first.new.lines c.args.desk.now.state
     c.answer_first.new.desk.state (Ok went))
     c.in-Ok-NoMemory.field-0-is

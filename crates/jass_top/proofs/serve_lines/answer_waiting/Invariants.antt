@@ -1,12 +1,12 @@
 use Rattle.std.proofs.Common.{◌≡◌, Ok, length}
 use Rattle.session_desk.specs.declared.went.Went.TheVariants as wents
-use Rattle.jass_top.specs.Serving.{Answers}
+use Rattle.jass_top.specs.Private.Serving.{AnswersLines}
 use Rattle.jass_top.proofs.serve_lines.answer_waiting.Given as goal
 
 abbrev pub invariant-lines : goal.invariant-lines
 invariant-lines g l = record {
   file : l.desk.file ≡ l.fn.desk.file;
-  answers : Answers g.O.Sink.written g.O.Sink.faults g.O.Sink.rest l.fn.out l.out l.fn.buffer l.buffer l.fn.steps l.steps l.fn.desk.file l.fn.lines l.lines l.fn.desk.state l.desk.state (Ok wents.On);
+  answers : AnswersLines g.O.Sink.written g.O.Sink.faults g.O.Sink.rest l.fn.out l.out l.fn.buffer l.buffer l.fn.steps l.steps l.fn.desk.file l.fn.lines l.lines l.fn.desk.state l.desk.state (Ok wents.On);
 }
 
 abbrev pub decreases-lines : goal.decreases-lines

@@ -4,7 +4,7 @@ use Rattle.jass_base.specs.declared.faults.ReadFault.{ReadFault}
 use Rattle.feed_lines.specs.declared.filled.Filled.{Filled}
 use Rattle.feed_lines.specs.Waiting.{Fills}
 use Rattle.session_desk.specs.declared.went.Went.{Went}
-use Rattle.jass_top.specs.Serving.{Answers}
+use Rattle.jass_top.specs.Private.Serving.{AnswersLines}
 use Rattle.jass_top.proofs.ServedLines.{served_cut, served_end, served_fault, served_last, served_limit, served_memory, serving_left, serving_none, serving_on, serving_still, serving_taken, still_free, still_left}
 use Rattle.jass_top.proofs.serve_lines.serve_lines.Goals as goal
 
@@ -27,9 +27,9 @@ pieces-preserved g c = record {
       (serving_on c.args.out.now c.pieces.out c.serve_waiting.new.out c.args.desk.now.file c.pieces.desk.file c.args.desk.now.state.frames
       (g.I.Feed.left c.args.input.now) (g.I.Feed.left c.pieces.input) c.args.steps.now c.pieces.steps c.serve_waiting.new.steps c.pieces.lines
       c.serve_waiting.new.lines c.pieces.desk.state c.serve_waiting.new.desk.state c.pieces.invariant.file c.pieces.invariant.serving (subst (λ
-      (went : Went). Answers g.O.Sink.written g.O.Sink.faults g.O.Sink.rest c.pieces.out c.serve_waiting.new.out [] [] c.pieces.steps c.serve_waiting.new.steps
+      (went : Went). AnswersLines g.O.Sink.written g.O.Sink.faults g.O.Sink.rest c.pieces.out c.serve_waiting.new.out [] [] c.pieces.steps c.serve_waiting.new.steps
       c.pieces.desk.file c.pieces.lines c.serve_waiting.new.lines c.pieces.desk.state c.serve_waiting.new.desk.state (Ok went)) c.in-Ok-On.field-0-is (subst (λ
-      (b : List ℕ). Answers g.O.Sink.written g.O.Sink.faults g.O.Sink.rest c.pieces.out c.serve_waiting.new.out b [] c.pieces.steps c.serve_waiting.new.steps
+      (b : List ℕ). AnswersLines g.O.Sink.written g.O.Sink.faults g.O.Sink.rest c.pieces.out c.serve_waiting.new.out b [] c.pieces.steps c.serve_waiting.new.steps
       c.pieces.desk.file c.pieces.lines c.serve_waiting.new.lines c.pieces.desk.state c.serve_waiting.new.desk.state
       (Ok c.in-Ok-On.field-0)) c.pieces.invariant.empty c.in-Ok-On.ensures.answers))) (subst (λ (f : Filled). Fills {E = ReadFault}
       (g.I.Feed.left c.pieces.input) (g.I.Feed.left c.fill.new.input) c.serve_waiting.new.lines c.fill.new.self
@@ -41,9 +41,9 @@ pub returns-in-Ok-End-clause-served : goal.returns-in-Ok-End-clause-served
 returns-in-Ok-End-clause-served g c = served_end c.args.out.now c.pieces.out c.serve_waiting.new.out c.args.desk.now.file c.pieces.desk.file
     c.args.desk.now.state.frames (g.I.Feed.left c.args.input.now) (g.I.Feed.left c.pieces.input) c.args.steps.now c.pieces.steps c.serve_waiting.new.steps
     c.pieces.lines c.serve_waiting.new.lines c.pieces.desk.state c.serve_waiting.new.desk.state c.pieces.invariant.file c.pieces.invariant.serving (subst (λ
-    (went : Went). Answers g.O.Sink.written g.O.Sink.faults g.O.Sink.rest c.pieces.out c.serve_waiting.new.out [] [] c.pieces.steps c.serve_waiting.new.steps
+    (went : Went). AnswersLines g.O.Sink.written g.O.Sink.faults g.O.Sink.rest c.pieces.out c.serve_waiting.new.out [] [] c.pieces.steps c.serve_waiting.new.steps
     c.pieces.desk.file c.pieces.lines c.serve_waiting.new.lines c.pieces.desk.state c.serve_waiting.new.desk.state (Ok went)) c.in-Ok-End.field-0-is (subst (λ
-    (b : List ℕ). Answers g.O.Sink.written g.O.Sink.faults g.O.Sink.rest c.pieces.out c.serve_waiting.new.out b [] c.pieces.steps c.serve_waiting.new.steps
+    (b : List ℕ). AnswersLines g.O.Sink.written g.O.Sink.faults g.O.Sink.rest c.pieces.out c.serve_waiting.new.out b [] c.pieces.steps c.serve_waiting.new.steps
     c.pieces.desk.file c.pieces.lines c.serve_waiting.new.lines c.pieces.desk.state c.serve_waiting.new.desk.state
     (Ok c.in-Ok-End.field-0)) c.pieces.invariant.empty c.in-Ok-End.ensures.answers))
 
@@ -51,9 +51,9 @@ pub returns-in-Ok-NoMemory-clause-served : goal.returns-in-Ok-NoMemory-clause-se
 returns-in-Ok-NoMemory-clause-served g c = served_memory c.args.out.now c.pieces.out c.serve_waiting.new.out c.args.desk.now.file c.pieces.desk.file
     c.args.desk.now.state.frames (g.I.Feed.left c.args.input.now) (g.I.Feed.left c.pieces.input) c.args.steps.now c.pieces.steps c.serve_waiting.new.steps
     c.pieces.lines c.serve_waiting.new.lines c.pieces.desk.state c.serve_waiting.new.desk.state c.pieces.invariant.file c.pieces.invariant.serving (subst (λ
-    (went : Went). Answers g.O.Sink.written g.O.Sink.faults g.O.Sink.rest c.pieces.out c.serve_waiting.new.out [] [] c.pieces.steps c.serve_waiting.new.steps
+    (went : Went). AnswersLines g.O.Sink.written g.O.Sink.faults g.O.Sink.rest c.pieces.out c.serve_waiting.new.out [] [] c.pieces.steps c.serve_waiting.new.steps
     c.pieces.desk.file c.pieces.lines c.serve_waiting.new.lines c.pieces.desk.state c.serve_waiting.new.desk.state (Ok went)) c.in-Ok-NoMemory.field-0-is (subst
-    (λ (b : List ℕ). Answers g.O.Sink.written g.O.Sink.faults g.O.Sink.rest c.pieces.out c.serve_waiting.new.out b [] c.pieces.steps c.serve_waiting.new.steps
+    (λ (b : List ℕ). AnswersLines g.O.Sink.written g.O.Sink.faults g.O.Sink.rest c.pieces.out c.serve_waiting.new.out b [] c.pieces.steps c.serve_waiting.new.steps
     c.pieces.desk.file c.pieces.lines c.serve_waiting.new.lines c.pieces.desk.state c.serve_waiting.new.desk.state
     (Ok c.in-Ok-NoMemory.field-0)) c.pieces.invariant.empty c.in-Ok-NoMemory.ensures.answers))
 
@@ -61,7 +61,7 @@ pub returns-in-Err-clause-served : goal.returns-in-Err-clause-served
 returns-in-Err-clause-served g c = served_cut c.args.out.now c.pieces.out c.serve_waiting.new.out c.args.desk.now.file c.pieces.desk.file
     c.args.desk.now.state.frames (g.I.Feed.left c.args.input.now) (g.I.Feed.left c.pieces.input) c.args.steps.now c.pieces.steps c.serve_waiting.new.steps
     c.pieces.lines c.serve_waiting.new.lines c.pieces.desk.state c.serve_waiting.new.desk.state c.in-Err.field-0 c.pieces.invariant.file
-    c.pieces.invariant.serving (subst (λ (b : List ℕ). Answers g.O.Sink.written g.O.Sink.faults g.O.Sink.rest c.pieces.out c.serve_waiting.new.out b []
+    c.pieces.invariant.serving (subst (λ (b : List ℕ). AnswersLines g.O.Sink.written g.O.Sink.faults g.O.Sink.rest c.pieces.out c.serve_waiting.new.out b []
     c.pieces.steps c.serve_waiting.new.steps c.pieces.desk.file c.pieces.lines c.serve_waiting.new.lines c.pieces.desk.state c.serve_waiting.new.desk.state
     (Err c.in-Err.field-0)) c.pieces.invariant.empty c.in-Err.ensures.answers)
 
@@ -71,9 +71,9 @@ pieces-smaller g c =
     let left = (serving_left c.args.out.now c.pieces.out c.serve_waiting.new.out c.args.desk.now.file c.pieces.desk.file c.args.desk.now.state.frames
     (g.I.Feed.left c.args.input.now) (g.I.Feed.left c.pieces.input) c.args.steps.now c.pieces.steps c.serve_waiting.new.steps c.pieces.lines
     c.serve_waiting.new.lines c.pieces.desk.state c.serve_waiting.new.desk.state c.pieces.invariant.file c.pieces.invariant.serving (subst (λ
-    (went : Went). Answers g.O.Sink.written g.O.Sink.faults g.O.Sink.rest c.pieces.out c.serve_waiting.new.out [] [] c.pieces.steps
+    (went : Went). AnswersLines g.O.Sink.written g.O.Sink.faults g.O.Sink.rest c.pieces.out c.serve_waiting.new.out [] [] c.pieces.steps
     c.serve_waiting.new.steps c.pieces.desk.file c.pieces.lines c.serve_waiting.new.lines c.pieces.desk.state c.serve_waiting.new.desk.state
-    (Ok went)) c.in-Ok-On.field-0-is (subst (λ (b : List ℕ). Answers g.O.Sink.written g.O.Sink.faults g.O.Sink.rest c.pieces.out c.serve_waiting.new.out b
+    (Ok went)) c.in-Ok-On.field-0-is (subst (λ (b : List ℕ). AnswersLines g.O.Sink.written g.O.Sink.faults g.O.Sink.rest c.pieces.out c.serve_waiting.new.out b
     [] c.pieces.steps c.serve_waiting.new.steps c.pieces.desk.file c.pieces.lines c.serve_waiting.new.lines c.pieces.desk.state
     c.serve_waiting.new.desk.state (Ok c.in-Ok-On.field-0)) c.pieces.invariant.empty c.in-Ok-On.ensures.answers))) in
     omega (arith, takes.some, takes.counted, left)
@@ -90,9 +90,9 @@ returns-in-Ok-End-fill-clause-served g c =
     c.args.desk.now.file c.pieces.desk.file c.args.desk.now.state.frames (g.I.Feed.left c.args.input.now)
     (g.I.Feed.left c.pieces.input) c.args.steps.now c.pieces.steps c.serve_waiting.new.steps c.pieces.lines c.serve_waiting.new.lines c.pieces.desk.state
     c.serve_waiting.new.desk.state c.pieces.invariant.file c.pieces.invariant.serving (subst (λ
-    (went : Went). Answers g.O.Sink.written g.O.Sink.faults g.O.Sink.rest c.pieces.out c.serve_waiting.new.out [] [] c.pieces.steps
+    (went : Went). AnswersLines g.O.Sink.written g.O.Sink.faults g.O.Sink.rest c.pieces.out c.serve_waiting.new.out [] [] c.pieces.steps
     c.serve_waiting.new.steps c.pieces.desk.file c.pieces.lines c.serve_waiting.new.lines c.pieces.desk.state c.serve_waiting.new.desk.state
-    (Ok went)) c.in-Ok-On.field-0-is (subst (λ (b : List ℕ). Answers g.O.Sink.written g.O.Sink.faults g.O.Sink.rest c.pieces.out c.serve_waiting.new.out b
+    (Ok went)) c.in-Ok-On.field-0-is (subst (λ (b : List ℕ). AnswersLines g.O.Sink.written g.O.Sink.faults g.O.Sink.rest c.pieces.out c.serve_waiting.new.out b
     [] c.pieces.steps c.serve_waiting.new.steps c.pieces.desk.file c.pieces.lines c.serve_waiting.new.lines c.pieces.desk.state
     c.serve_waiting.new.desk.state (Ok c.in-Ok-On.field-0)) c.pieces.invariant.empty c.in-Ok-On.ensures.answers))) ends.0 (c.serve_waiting.ensures.free
     (c.in-Ok-On.is ∙ ap (λ (went : Went). (let r : Result Went WriteFault = Ok went in r)) c.in-Ok-On.field-0-is))) ends.2 (omega (
@@ -113,9 +113,9 @@ returns-in-Ok-Limit-clause-served g c =
     (serving_on c.args.out.now c.pieces.out c.serve_waiting.new.out c.args.desk.now.file c.pieces.desk.file c.args.desk.now.state.frames
     (g.I.Feed.left c.args.input.now) (g.I.Feed.left c.pieces.input) c.args.steps.now c.pieces.steps c.serve_waiting.new.steps c.pieces.lines
     c.serve_waiting.new.lines c.pieces.desk.state c.serve_waiting.new.desk.state c.pieces.invariant.file c.pieces.invariant.serving (subst (λ
-    (went : Went). Answers g.O.Sink.written g.O.Sink.faults g.O.Sink.rest c.pieces.out c.serve_waiting.new.out [] [] c.pieces.steps
+    (went : Went). AnswersLines g.O.Sink.written g.O.Sink.faults g.O.Sink.rest c.pieces.out c.serve_waiting.new.out [] [] c.pieces.steps
     c.serve_waiting.new.steps c.pieces.desk.file c.pieces.lines c.serve_waiting.new.lines c.pieces.desk.state c.serve_waiting.new.desk.state
-    (Ok went)) c.in-Ok-On.field-0-is (subst (λ (b : List ℕ). Answers g.O.Sink.written g.O.Sink.faults g.O.Sink.rest c.pieces.out c.serve_waiting.new.out b
+    (Ok went)) c.in-Ok-On.field-0-is (subst (λ (b : List ℕ). AnswersLines g.O.Sink.written g.O.Sink.faults g.O.Sink.rest c.pieces.out c.serve_waiting.new.out b
     [] c.pieces.steps c.serve_waiting.new.steps c.pieces.desk.file c.pieces.lines c.serve_waiting.new.lines c.pieces.desk.state
     c.serve_waiting.new.desk.state (Ok c.in-Ok-On.field-0)) c.pieces.invariant.empty c.in-Ok-On.ensures.answers))) full.0 (c.serve_waiting.ensures.free
     (c.in-Ok-On.is ∙ ap (λ (went : Went). (let r : Result Went WriteFault = Ok went in r)) c.in-Ok-On.field-0-is))) (still_free
@@ -135,9 +135,9 @@ returns-in-Err-fill-clause-served g c =
     (serving_on c.args.out.now c.pieces.out c.serve_waiting.new.out c.args.desk.now.file c.pieces.desk.file c.args.desk.now.state.frames
     (g.I.Feed.left c.args.input.now) (g.I.Feed.left c.pieces.input) c.args.steps.now c.pieces.steps c.serve_waiting.new.steps c.pieces.lines
     c.serve_waiting.new.lines c.pieces.desk.state c.serve_waiting.new.desk.state c.pieces.invariant.file c.pieces.invariant.serving (subst (λ
-    (went : Went). Answers g.O.Sink.written g.O.Sink.faults g.O.Sink.rest c.pieces.out c.serve_waiting.new.out [] [] c.pieces.steps
+    (went : Went). AnswersLines g.O.Sink.written g.O.Sink.faults g.O.Sink.rest c.pieces.out c.serve_waiting.new.out [] [] c.pieces.steps
     c.serve_waiting.new.steps c.pieces.desk.file c.pieces.lines c.serve_waiting.new.lines c.pieces.desk.state c.serve_waiting.new.desk.state
-    (Ok went)) c.in-Ok-On.field-0-is (subst (λ (b : List ℕ). Answers g.O.Sink.written g.O.Sink.faults g.O.Sink.rest c.pieces.out c.serve_waiting.new.out b
+    (Ok went)) c.in-Ok-On.field-0-is (subst (λ (b : List ℕ). AnswersLines g.O.Sink.written g.O.Sink.faults g.O.Sink.rest c.pieces.out c.serve_waiting.new.out b
     [] c.pieces.steps c.serve_waiting.new.steps c.pieces.desk.file c.pieces.lines c.serve_waiting.new.lines c.pieces.desk.state
     c.serve_waiting.new.desk.state (Ok c.in-Ok-On.field-0)) c.pieces.invariant.empty c.in-Ok-On.ensures.answers))) nothing (c.serve_waiting.ensures.free
     (c.in-Ok-On.is ∙ ap (λ (went : Went). (let r : Result Went WriteFault = Ok went in r)) c.in-Ok-On.field-0-is))) (still_free

@@ -1,7 +1,7 @@
 use Rattle.std.proofs.Common.{◌≡◌, sym, ◌∙◌}
 use Rattle.std.specs.Cmp.Lexicographic.{same_text, other_text}
+use Rattle.std.proofs.lemmas.Option.{same_Some}
 use Rattle.jass_words.specs.Words.{texts}
-use Rattle.jass_words.proofs.Parts.{some_same}
 use Rattle.jass_words.proofs.Beginnings.{without_file, without_second}
 use Rattle.jass_words.proofs.Terms.{opened1, opened2, files_there}
 use Rattle.jass_words.proofs.files.read_files.Goals as goal
@@ -21,7 +21,7 @@ returns-then-eq-clause-bad_word c = λ name named takes.
     let (rest, is) = opened2 (texts c.args.words.now) name c.in-Some.from.now named c.in-Some.ensures.some in
     let same : c.in-Some.from.now ≡ c.in-Some-file_at.to.now = same_text c.in-Some.from.now c.in-Some-file_at.to.now (sym c.if-eq.true ∙ c.eq.ensures) in
     without_second name (texts c.args.words.now) c.in-Some.from.now rest takes is c.in-Some.ensures.file
-    (λ word at differ. absurd (differ (same ∙ some_same c.in-Some-file_at.to.now word (sym c.in-Some-file_at.ensures.some ∙ at))))
+    (λ word at differ. absurd (differ (same ∙ same_Some c.in-Some-file_at.to.now word (sym c.in-Some-file_at.ensures.some ∙ at))))
 
 pub returns-clause-files : goal.returns-clause-files
 returns-clause-files c = λ name named.

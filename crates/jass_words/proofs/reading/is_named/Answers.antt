@@ -2,7 +2,7 @@ use Rattle.std.proofs.Common.{Some, sym, ap, ◌∙◌}
 use Rattle.std.specs.String.{string_bytes}
 use Rattle.std.specs.Option.{option_copied}
 use Rattle.std.specs.Cmp.Lexicographic.{same_text, other_text}
-use Rattle.jass_words.proofs.Parts.{some_same}
+use Rattle.std.proofs.lemmas.Option.{same_Some}
 use Rattle.jass_words.proofs.Terms.{first_word, must}
 use Rattle.jass_words.proofs.reading.is_named.Goals as goal
 
@@ -10,5 +10,5 @@ pub returns-in-Some : goal.returns-in-Some
 returns-in-Some c =
     let first = first_word c.args.words.now c.in-Some.word.now (sym c.first.ensures.value ∙ ap option_copied c.in-Some.is) in (
       (λ yes. first ∙ ap Some (sym c.as_str.ensures.value ∙ same_text c.as_str.result.now c.args.name.now (sym yes ∙ c.eq.ensures))),
-      (λ is. must c.eq.result (λ never. other_text c.as_str.result.now c.args.name.now (never ∙ c.eq.ensures)) (c.as_str.ensures.value ∙ some_same (string_bytes c.in-Some.word.now) c.args.name.now (sym first ∙ is))),
+      (λ is. must c.eq.result (λ never. other_text c.as_str.result.now c.args.name.now (never ∙ c.eq.ensures)) (c.as_str.ensures.value ∙ same_Some (string_bytes c.in-Some.word.now) c.args.name.now (sym first ∙ is))),
     )

@@ -6,10 +6,11 @@ use Rattle.jass_base.specs.declared.answer.Budget.{Budget}
 use Rattle.jass_base.specs.declared.answer.Budget.TheVariants.{All}
 use Rattle.query_reader.specs.declared.mode.Mode.{Mode}
 use Rattle.query_reader.specs.declared.mode.Mode.TheVariants.{Plain}
+use Rattle.std.proofs.lemmas.Option.{same_Some}
 use Rattle.jass_words.specs.Searching.{IsSearchOption}
 use Rattle.jass_words.specs.Spelled.{Spell}
 use Rattle.jass_words.specs.Words.{texts}
-use Rattle.jass_words.proofs.Parts.{search_word, some_same}
+use Rattle.jass_words.proofs.Parts.{search_word}
 use Rattle.jass_words.proofs.SearchKeys.{now_or}
 use Rattle.jass_words.proofs.Beginnings.{search_takes, search_without_run, search_with_bad}
 use Rattle.jass_words.proofs.Terms.{with_run, behind, size_of_texts}
@@ -29,7 +30,7 @@ returns-then-eq-clause-bad_word c =
     let (more, files) = c.in-Ok.ensures.files search_word c.requires in
     let run = c.in-Some.run'.now in
     search_without_run (texts c.args.words.now) _ _ more files (λ word at apart beside.
-    (let same : run ≡ word = some_same run word (sym c.in-Some.ensures.some ∙ at) in
+    (let same : run ≡ word = same_Some run word (sym c.in-Some.ensures.some ∙ at) in
     elim c.then-eq.branch [
       | then-eq-via-then-eq w ↦ absurd (apart (sym (same_text run c.in-Ok.files.0.now (sym w.if-eq.true ∙ c.eq.ensures)) ∙ same))
       | then-eq-via-else-eq+then-eq-2 w ↦ absurd (beside (sym (same_text run c.in-Ok.files.1.now (sym w.if-eq-2.true ∙ w.eq-else-eq.ensures)) ∙ same))

@@ -1,6 +1,6 @@
 use Rattle.std.proofs.Common.{◌≡◌, ℕ, ◌*◌, ◌/◌, ◌<◌, slice_index}
 use Rattle.lane_kernels.specs.Block.{block_byte}
-use Rattle.lane_kernels.specs.Lanes.{pending_lanes}
+use Rattle.lane_kernels.specs.Private.Lanes.{pending_lanes}
 use Rattle.lane_kernels.proofs.pack.pack_rows.Given as goal
 
 abbrev pub invariant-loop-row : goal.invariant-loop-row

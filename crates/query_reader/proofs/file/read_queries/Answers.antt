@@ -2,7 +2,7 @@
 use Rattle.std.proofs.Common.{◌∙◌, ◌<◌, ap, sym, subst, map, length, rules}
 use Rattle.std.specs.Prelude.{All}
 use Rattle.std.specs.List.{AllByRecursion}
-use Rattle.jass_base.specs.declared.named.Named.{Named}
+use Rattle.jass_base.specs.declared.query_term.QueryTerm.{QueryTerm}
 use Rattle.jass_base.specs.declared.query.Query.{Query}
 use Rattle.text_lines.specs.Lines.{HasNumberUpTo, line_data}
 use Rattle.query_reader.specs.Refusals.{Fails, fault_at}
@@ -24,7 +24,7 @@ loop-line-init g c =
     record {
       read = ap (λ qs. with_front (map query_data qs) (read_lines mode terms (with_bytes lines))) c.new-queries.ensures ∙ at-start c.args.bytes.now mode terms lines (search rules) (ap with_bytes (c.into_iter-line-iterator.ensures.into_iter_gives ∙ c.new-line-items.ensures.lines));
       numbers = subst (AllByRecursion (HasNumberUpTo (length c.args.bytes.now))) (sym c.into_iter-line-iterator.ensures.into_iter_gives) c.new-line-items.ensures.numbers;
-      known = subst (AllByRecursion (λ (query : Query). All (λ (n : Named). n.term < length terms) query.terms)) (sym c.new-queries.ensures) tt;
+      known = subst (AllByRecursion (λ (query : Query). All (λ (n : QueryTerm). n.term < length terms) query.terms)) (sym c.new-queries.ensures) tt;
     }
 
 pub loop-line-preserved : goal.loop-line-preserved

@@ -3,7 +3,7 @@ use Rattle.std.proofs.Common.{◌∙◌, ap, sym, subst, arith}
 use Rattle.std.specs.Prelude.{position, bytes_eq}
 use Rattle.query_reader.specs.Mentions.{Mention}
 use Rattle.query_reader.specs.Texts.{folded_term, folded_mentions}
-use Rattle.query_reader.specs.Tally.{all_counted_in}
+use Rattle.query_reader.specs.Private.Tally.{all_counted_in}
 use Rattle.query_reader.specs.Refusals.{LineFails}
 use Rattle.query_reader.proofs.Counting.{none-counted, one-counted, one-refused, handed-on, few-more}
 use Rattle.query_reader.proofs.folded.count_characters.Goals as goal

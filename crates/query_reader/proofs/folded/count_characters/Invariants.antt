@@ -1,7 +1,7 @@
 -- What is left of the text is still to be counted in.
 use Rattle.std.proofs.Common.{◌≡◌, ◌+◌, ◌≤◌, length}
 use Rattle.query_reader.specs.Texts.{folded_mentions}
-use Rattle.query_reader.specs.Tally.{all_counted_in}
+use Rattle.query_reader.specs.Private.Tally.{all_counted_in}
 use Rattle.query_reader.proofs.folded.count_characters.Given as goal
 
 abbrev pub invariant-loop-run : goal.invariant-loop-run

@@ -4,7 +4,7 @@ use Rattle.std.proofs.lemmas.Iterator.{items_from_collect, YieldsList-from_chars
 use Rattle.std.specs.Prelude.{IfOk}
 use Rattle.std.specs.Str.{chars}
 use Rattle.query_reader.specs.Texts.{folded_mentions}
-use Rattle.query_reader.specs.Tally.{CountsIn, all_counted_in}
+use Rattle.query_reader.specs.Private.Tally.{CountsIn, all_counted_in}
 use Rattle.query_reader.proofs.folded.count_folded.Goals as goal
 
 pub returns : goal.returns

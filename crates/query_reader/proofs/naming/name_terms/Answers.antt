@@ -2,7 +2,7 @@
 use Rattle.std.proofs.Common.{take, ap, sym, subst, ◌∙◌, arith}
 use Rattle.std.proofs.lemmas.List.{length-take-le}
 use Rattle.std.specs.Prelude.{position, bytes_eq, Some, None, Err}
-use Rattle.query_reader.specs.Tally.{TalliesIn}
+use Rattle.query_reader.specs.Private.Tally.{TalliesIn}
 use Rattle.query_reader.proofs.Words.{named-more, named-same, unknown-more, named-fit, said-few, said-some, said-differ, said-known, so-far-within, never-refused}
 use Rattle.query_reader.proofs.naming.name_terms.Goals as goal
 use Rattle.query_reader.proofs.naming.name_terms.Goals.{in-Some+in-Ok, in-None}

@@ -1,7 +1,7 @@
 -- Each turn counts in the mention of one run.
 use Rattle.std.proofs.Common.{◌∙◌, ◌∷◌, ap, sym, subst, arith}
 use Rattle.query_reader.specs.Texts.{plain_mentions}
-use Rattle.query_reader.specs.Tally.{all_counted_in}
+use Rattle.query_reader.specs.Private.Tally.{all_counted_in}
 use Rattle.query_reader.specs.Refusals.{LineFails}
 use Rattle.query_reader.specs.Slices.{mention_data}
 use Rattle.query_reader.proofs.Counting.{none-counted, one-counted, one-refused, handed-on, first-mention, no-mentions, few-more}

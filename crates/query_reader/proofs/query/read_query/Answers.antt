@@ -1,12 +1,12 @@
 -- The tally of all mentions is the query's.
 use Rattle.std.proofs.Common.{◌≡◌, ◌<◌, ◌≤◌, ap, sym, subst, length, arith}
 use Rattle.std.specs.Prelude.{All, AllPairs}
-use Rattle.jass_base.specs.declared.named.Named.{Named}
+use Rattle.jass_base.specs.declared.query_term.QueryTerm.{QueryTerm}
 use Rattle.query_reader.specs.Mentions.{term_number}
 use Rattle.query_reader.specs.Texts.{mentions_of}
 use Rattle.query_reader.specs.Queries.{query_data}
 use Rattle.query_reader.specs.Refusals.{LineFails}
-use Rattle.query_reader.specs.Tally.{TallyData, all_counted_in}
+use Rattle.query_reader.specs.Private.Tally.{TallyData, all_counted_in}
 use Rattle.query_reader.proofs.Facts.{named-some, named-differ, named-below}
 use Rattle.query_reader.proofs.Factors.{all-count}
 use Rattle.query_reader.proofs.Limits.{within-limits}
@@ -30,8 +30,8 @@ invariant_of-result g c =
     let row = row-is terms mentions tally c.from_vec.result counted c.from_vec.ensures in
     record {
       few = omega (arith, ap length c.from_vec.ensures, (within-limits c.tally.inside.named.items c.tally.invariant).0);
-      named = subst (All (λ (n : Named). 1 ≤ n.times)) (sym row) (named-some (term_number terms) mentions (all-count c.args.mode c.args.text.now));
-      differ = subst (AllPairs (λ (m n : Named). m.term ≡ n.term → ⊥)) (sym row) (named-differ (term_number terms) mentions);
+      named = subst (All (λ (n : QueryTerm). 1 ≤ n.times)) (sym row) (named-some (term_number terms) mentions (all-count c.args.mode c.args.text.now));
+      differ = subst (AllPairs (λ (m n : QueryTerm). m.term ≡ n.term → ⊥)) (sym row) (named-differ (term_number terms) mentions);
     }
 
 pub returns-clause-query : goal.returns-clause-query
@@ -48,4 +48,4 @@ returns-clause-known g c =
     let mentions = mentions_of c.args.mode c.args.text.now in
     let tally : TallyData = record { named = c.tally.inside.named.items; unknown = c.tally.inside.unknown } in
     let counted = from-start terms mentions c.new-tally.result c.count_mentions.new.tally tally c.in_ok-count_mentions.ensures c.new-tally.ensures c.tally.view_is in
-    subst (All (λ (n : Named). n.term < length terms)) (sym (row-is terms mentions tally c.from_vec.result counted c.from_vec.ensures)) (named-below terms mentions)
+    subst (All (λ (n : QueryTerm). n.term < length terms)) (sym (row-is terms mentions tally c.from_vec.result counted c.from_vec.ensures)) (named-below terms mentions)

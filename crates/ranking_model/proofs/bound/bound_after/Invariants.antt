@@ -3,5 +3,5 @@ use Rattle.std.specs.List.{range_with_len}
 use Rattle.ranking_model.specs.Scores.{greatest_weight}
 use Rattle.ranking_model.proofs.bound.bound_after.Given as goal
 
-abbrev pub invariant-loop-place : goal.invariant-loop-place
-invariant-loop-place l = l.bound ≡ sum_by (λ place. greatest_weight place (drop l.count l.plan.classes)) (range_with_len 0 l.place)
+abbrev pub invariant-loop-term_place : goal.invariant-loop-term_place
+invariant-loop-term_place l = l.bound ≡ sum_by (λ term_place. greatest_weight term_place (drop l.count l.plan.segments)) (range_with_len 0 l.term_place)

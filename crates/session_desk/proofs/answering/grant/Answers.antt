@@ -1,7 +1,7 @@
 -- What is told of the session of the name.
 use Rattle.std.proofs.Common.{ℕ, List, refl, subst}
 use Rattle.jass_base.specs.declared.faults.WriteFault.{WriteFault}
-use Rattle.trec_run.specs.Gathering.{Gathers}
+use Rattle.gathered_text.specs.Gathering.{Gathers}
 use Rattle.session_desk.specs.State.{granted_more}
 use Rattle.session_desk.specs.Standing.{state_of}
 use Rattle.session_desk.proofs.Replying.{reply_told}

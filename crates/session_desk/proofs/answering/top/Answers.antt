@@ -1,7 +1,7 @@
 -- The answer of the session of the name.
 use Rattle.std.proofs.Common.{◌∙◌, ℕ, List, subst}
 use Rattle.jass_base.specs.declared.faults.WriteFault.{WriteFault}
-use Rattle.trec_run.specs.Gathering.{Gathers}
+use Rattle.gathered_text.specs.Gathering.{Gathers}
 use Rattle.session_desk.specs.Standing.{entry_of, state_of}
 use Rattle.session_desk.proofs.Granting.{answer_shown}
 use Rattle.session_desk.proofs.Replying.{reply_answered}

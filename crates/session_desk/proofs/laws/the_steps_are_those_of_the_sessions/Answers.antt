@@ -13,7 +13,7 @@ returns c file frames lines =
       arith,
       size_is file e,
       size_is file (granted_more budget e),
-      size_rises c.a_prefix_is_resumed.ensures.size c.a_prefix_is_resumed.ensures.prefix e.granted (granted_with e.granted budget) (plan_of_session file e).classes (granted_rises e budget most),
+      size_rises c.a_prefix_is_resumed.ensures.size c.a_prefix_is_resumed.ensures.prefix e.granted (granted_with e.granted budget) (plan_of_session file e).segments (granted_rises e budget most),
     ) in
-    let paid : IsPaid file = λ e. omega (arith, size_is file e, c.the_prefix_is_the_longest.ensures.fits e.granted (plan_of_session file e).classes) in
+    let paid : IsPaid file = λ e. omega (arith, size_is file e, c.the_prefix_is_the_longest.ensures.fits e.granted (plan_of_session file e).segments) in
     all_counted file rises paid frames lines

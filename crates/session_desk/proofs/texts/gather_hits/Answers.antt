@@ -1,20 +1,23 @@
 -- A line, and the run lines behind it.
-use Rattle.std.proofs.Common.{ℕ, List, ◌++◌, codes, decimal, length}
+use Rattle.std.proofs.Common.{◌≡◌, ℕ, List, ◌++◌, codes, decimal, length, refl, ap, ◌∙◌, append_assoc}
 use Rattle.ranking_model.specs.Report.{run_lines}
 use Rattle.session_desk.specs.Replies.{answer_lines}
-use Rattle.session_desk.proofs.Gathering.{first_failed, parted, then_second}
+use Rattle.gathered_text.proofs.Compose.{gather_cut, gather_then, gather_same}
 use Rattle.session_desk.proofs.texts.gather_hits.Goals as goal
+
+parted : (a b c d : List ℕ) → (a ++ (b ++ c)) ++ d ≡ a ++ (b ++ (c ++ d))
+parted a b c d = append_assoc a (b ++ c) d ∙ ap (λ t. a ++ t) (append_assoc b c d)
 
 pub returns-in-Err : goal.returns-in-Err
 unfolding answer_lines
 returns-in-Err g c =
     let head : List ℕ = codes "hits " ++ (decimal (length c.args.hits.now) ++ codes "\n") in
     let lines : List ℕ = run_lines (g.N.Names.names c.args.index.now) c.args.name.now (codes "jass") 1 c.args.hits.now in
-    first_failed head lines (answer_lines (g.N.Names.names c.args.index.now) c.args.name.now c.args.hits.now) (parted (codes "hits ") (decimal (length c.args.hits.now)) (codes "\n") lines) c.in-Err.ensures
+    gather_same (parted (codes "hits ") (decimal (length c.args.hits.now)) (codes "\n") lines) (gather_cut head lines refl c.in-Err.ensures)
 
 pub returns : goal.returns
 unfolding answer_lines
 returns g c =
     let head : List ℕ = codes "hits " ++ (decimal (length c.args.hits.now) ++ codes "\n") in
     let lines : List ℕ = run_lines (g.N.Names.names c.args.index.now) c.args.name.now (codes "jass") 1 c.args.hits.now in
-    then_second head lines (answer_lines (g.N.Names.names c.args.index.now) c.args.name.now c.args.hits.now) c.gather_answer.result (parted (codes "hits ") (decimal (length c.args.hits.now)) (codes "\n") lines) c.in-Ok.ensures c.gather_answer.ensures
+    gather_same (parted (codes "hits ") (decimal (length c.args.hits.now)) (codes "\n") lines) (gather_then head lines c.in-Ok.ensures c.gather_answer.ensures)

@@ -17,7 +17,7 @@ bounds-terms-entry g c =
       at = subst (λ (p : PlanView). slice_get p.entries c.loop-i.i ≡ Some c.entry-entry.result) c.requires.planned.arranged c.entry-entry.ensures;
     } in
     let names = c.one_entry_more_is_scored.ensures.names c.args.index.now c.args.terms.now c.loop-i.i c.entry-entry.result has in
-    names.place
+    names.term_place
 
 pub score_segment-requires-clause-term : goal.score_segment-requires-clause-term
 score_segment-requires-clause-term g c =

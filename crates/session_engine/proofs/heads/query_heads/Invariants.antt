@@ -1,9 +1,9 @@
 use Rattle.std.proofs.Common.{◌≡◌, ◌≤◌, ◌++◌, drop, take}
 use Rattle.std.specs.Prelude.{All}
-use Rattle.jass_base.specs.declared.named.Named.{Named}
+use Rattle.jass_base.specs.declared.query_term.QueryTerm.{QueryTerm}
 use Rattle.session_engine.specs.Plans.{heads_from, query_heads}
 use Rattle.session_engine.proofs.heads.query_heads.Given as goal
 
 abbrev pub invariant-loop-named : goal.invariant-loop-named
-invariant-loop-named l = (l.place ≡ l.named-index) × (l.heads.items ++ heads_from l.named-index (drop l.named-index l.terms) l.index.index.terms ≡ query_heads l.index.index l.terms)
-    × All (λ (n : Named). n.times ≤ 255) (take l.named-index l.terms)
+invariant-loop-named l = (l.term_place ≡ l.named-index) × (l.heads.items ++ heads_from l.named-index (drop l.named-index l.terms) l.index.index.terms ≡ query_heads l.index.index l.terms)
+    × All (λ (n : QueryTerm). n.times ≤ 255) (take l.named-index l.terms)

@@ -1,5 +1,5 @@
 use Rattle.std.proofs.Common.{◌∙◌, List, length, ap}
-use Rattle.ranking_model.specs.declared.class.Class.{Class}
+use Rattle.ranking_model.specs.declared.plan_segment.PlanSegment.{PlanSegment}
 use Rattle.ranking_model.specs.declared.posting.WeightedPosting.{WeightedPosting}
 use Rattle.ranking_model.specs.Plan.{size_of_first}
 use Rattle.ranking_model.specs.Postings.{weighted_postings}
@@ -11,7 +11,7 @@ use Rattle.session_engine.proofs.laws.a_session_plan_has_its_postings.Goals as g
 pub returns : goal.returns
 unfolding session_plan
 returns c file terms =
-    ap (λ (classes : List Class). size_of_first (length classes) classes) (c.a_plan_has_the_classes_of_its_postings.ensures.classes (length file.index.names) (numbered_flat file.index) terms)
-    ∙ c.the_classes_have_all_postings.ensures.number (weighted_postings (numbered_flat file.index) terms)
+    ap (λ (segments : List PlanSegment). size_of_first (length segments) segments) (c.a_plan_has_the_segments_of_its_postings.ensures.segments (length file.index.names) (numbered_flat file.index) terms)
+    ∙ c.the_segments_have_all_postings.ensures.number (weighted_postings (numbered_flat file.index) terms)
     ∙ ap (λ (ps : List WeightedPosting). length ps) (c.a_query_weighs_its_segments.ensures file.index terms)
     ∙ query_is_long file.index terms

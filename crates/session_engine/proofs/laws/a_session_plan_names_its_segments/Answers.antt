@@ -1,21 +1,21 @@
 use Rattle.std.proofs.Common.{◌∙◌, List, length, map, ap}
 use Rattle.std.proofs.lemmas.List.Elements.{All-from_recursion}
-use Rattle.ranking_model.specs.declared.class.Class.{Class}
+use Rattle.ranking_model.specs.declared.plan_segment.PlanSegment.{PlanSegment}
 use Rattle.segment_plan.specs.Entries.{plan_with}
 use Rattle.index_model.specs.Flat.{numbered_flat}
 use Rattle.segment_plan.specs.Shape.{shape}
 use Rattle.session_engine.specs.Plans.{NamesSegment, query_heads, session_plan}
-use Rattle.session_engine.proofs.Segments.{arranged_classes, arranged_named, arranged_shapes, heads_are}
+use Rattle.session_engine.proofs.Segments.{arranged_segments, arranged_named, arranged_shapes, heads_are}
 use Rattle.session_engine.proofs.laws.a_session_plan_names_its_segments.Goals as goal
 
 pub returns-clause-heads : goal.returns-clause-heads
 returns-clause-heads c file terms is are known = heads_are file.index terms is
 
-pub returns-clause-classes : goal.returns-clause-classes
+pub returns-clause-segments : goal.returns-clause-segments
 unfolding session_plan
-returns-clause-classes c file terms is are known =
-    c.a_plan_has_the_classes_of_its_postings.ensures.classes (length file.index.names) (numbered_flat file.index) terms
-    ∙ c.the_plan_has_the_named_segments.ensures file.index terms is are ∙ arranged_classes file.index terms is are known
+returns-clause-segments c file terms is are known =
+    c.a_plan_has_the_segments_of_its_postings.ensures.segments (length file.index.names) (numbered_flat file.index) terms
+    ∙ c.the_plan_has_the_named_segments.ensures file.index terms is are ∙ arranged_segments file.index terms is are known
 
 pub returns-clause-names : goal.returns-clause-names
 returns-clause-names c file terms is are known =
@@ -24,9 +24,9 @@ returns-clause-names c file terms is are known =
 pub returns-clause-shape : goal.returns-clause-shape
 unfolding session_plan
 returns-clause-shape c file terms is are known = record {
-  places = c.a_plan_has_the_classes_of_its_postings.ensures.places (length file.index.names) (numbered_flat file.index) terms;
-  classes = ap (λ (classes : List Class). map shape classes)
-      (c.a_plan_has_the_classes_of_its_postings.ensures.classes (length file.index.names) (numbered_flat file.index) terms
-      ∙ c.the_plan_has_the_named_segments.ensures file.index terms is are ∙ arranged_classes file.index terms is are known)
+  terms = c.a_plan_has_the_segments_of_its_postings.ensures.terms (length file.index.names) (numbered_flat file.index) terms;
+  segments = ap (λ (segments : List PlanSegment). map shape segments)
+      (c.a_plan_has_the_segments_of_its_postings.ensures.segments (length file.index.names) (numbered_flat file.index) terms
+      ∙ c.the_plan_has_the_named_segments.ensures file.index terms is are ∙ arranged_segments file.index terms is are known)
       ∙ arranged_shapes file.index terms is are known;
 }

@@ -26,7 +26,7 @@ add_bits-requires-clause-fits c =
     let block = set_bits (128 * c.rows.row) (slice_range c.args.bits.now (16 * c.rows.row) c.min-end.result) in
     let behind = from_row c.args.bits.now (c.rows.row + 1) in
     let cut = row_parted c.args.bits.now c.rows.row c.min-end.result c.rows-test.true (omega (arith, c.min-end.ensures)) in
-    block_fits c.rows.invariant.0 block behind cut c.requires.fits c.one_class_more_is_added.ensures.parts c.scores_stay_small.ensures.part
+    block_fits c.rows.invariant.0 block behind cut c.requires.fits c.one_segment_more_is_added.ensures.parts c.scores_stay_small.ensures.part
 
 pub add_bits-requires-clause-frames : goal.add_bits-requires-clause-frames
 add_bits-requires-clause-frames c =
@@ -42,7 +42,7 @@ rows-preserved c =
     let cut = row_parted c.args.bits.now c.rows.row c.min-end.result c.rows-test.true (omega (arith, c.min-end.ensures)) in (
       more_scored c.rows.invariant.0 block behind cut c.add_bits.new.self c.add_bits.new.pool
           c.add_bits.ensures.stand c.add_bits.ensures.scores c.add_bits.ensures.frames c.add_bits.ensures.same c.add_bits.ensures.leaves
-          c.one_class_more_is_added.ensures.parts c.calls_on_one_chain.ensures.two,
+          c.one_segment_more_is_added.ensures.parts c.calls_on_one_chain.ensures.two,
       omega (arith, c.rows-test.true),
     )
 

@@ -22,7 +22,7 @@ add_all-requires-clause-fits g c =
     let part = c.pieces.invariant.0 in
     let given = c.next_block-given.result in
     block_fits part.scored (take given c.next_block-given.new.out) (drop given part.rest) (given_parted given (take given c.next_block-given.new.out) part.rest (c.next_block-given.ensures.block part.rest part.gives)) c.requires.fits
-    c.one_class_more_is_added.ensures.parts c.scores_stay_small.ensures.part
+    c.one_segment_more_is_added.ensures.parts c.scores_stay_small.ensures.part
 
 pub add_all-requires-clause-frames : goal.add_all-requires-clause-frames
 add_all-requires-clause-frames g c =
@@ -50,7 +50,7 @@ pieces-preserved g c =
           (c.next_block-given.ensures.rest part.rest part.gives) (c.next_block-given.ensures.block part.rest part.gives)
           (let long = c.next_block-given.array_long in let most = c.next_block-given.ensures.most in let size = length-take given block in omega arith)
           c.add_all.ensures.stand c.add_all.ensures.scores c.add_all.ensures.frames c.add_all.ensures.same c.add_all.ensures.leaves c.next_block-given.ensures.steps
-          c.one_class_more_is_added.ensures.parts c.calls_on_one_chain.ensures.two,
+          c.one_segment_more_is_added.ensures.parts c.calls_on_one_chain.ensures.two,
       omega (arith, most, many, c.pieces.invariant.1, c.next_block-given.ensures.steps),
     )
 

@@ -1,7 +1,7 @@
 use Rattle.std.proofs.Common.{◌≡◌, ℕ, List, ◌+◌, ◌++◌, decimal, drop, get_or, slice_get, Some, ap, sym, ◌∙◌, arith}
 use Rattle.jass_base.specs.declared.answer.Hit.{Hit}
 use Rattle.ranking_model.specs.Report.{run_lines}
-use Rattle.trec_run.specs.Columns.{IsFrame}
+use Rattle.trec_run.specs.Private.Columns.{IsFrame}
 use Rattle.trec_run.proofs.Lines.{framed, line_done}
 use Rattle.trec_run.proofs.block.push_each.Goals as goal
 

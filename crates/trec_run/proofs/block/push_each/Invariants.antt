@@ -1,6 +1,6 @@
 use Rattle.std.proofs.Common.{◌≡◌, ℕ, List, ◌+◌, ◌*◌, ◌≤◌, ◌++◌, length, drop}
 use Rattle.ranking_model.specs.Report.{run_lines}
-use Rattle.trec_run.specs.Columns.{IsFrame}
+use Rattle.trec_run.specs.Private.Columns.{IsFrame}
 use Rattle.trec_run.proofs.block.push_each.Given as goal
 
 abbrev pub invariant-loop-hit : goal.invariant-loop-hit

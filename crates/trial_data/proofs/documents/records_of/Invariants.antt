@@ -1,6 +1,6 @@
 use Rattle.std.proofs.Common.{◌≡◌, ◌++◌, length, drop, map}
 use Rattle.jass_base.specs.CiffViews.{doc_data}
-use Rattle.trial_data.specs.Gathering.{records_from}
+use Rattle.trial_data.specs.Private.Gathering.{records_from}
 use Rattle.trial_data.proofs.documents.records_of.Given as goal
 
 abbrev pub invariant-loop-length : goal.invariant-loop-length

@@ -6,7 +6,7 @@ use Rattle.jass_base.specs.Ciff.{ListData}
 use Rattle.jass_base.specs.declared.posting.Posting.{Posting}
 use Rattle.jass_base.specs.declared.postings_list.PostingsList.{PostingsList}
 use Rattle.jass_base.specs.Lists.{HasDocsBelow}
-use Rattle.trial_data.specs.Gathering.{with_postings}
+use Rattle.trial_data.specs.Private.Gathering.{with_postings}
 use Rattle.trial_data.specs.Trials.{term_postings}
 use Rattle.trial_data.proofs.Listing.{lists_more, rest_more, term_adds}
 use Rattle.trial_data.proofs.lists.draw_lists.Goals as goal

@@ -2,7 +2,7 @@ use Rattle.std.proofs.Common.{◌≡◌, ℕ, ◌-◌, ◌*◌, ◌≤◌, lengt
 use Rattle.std.specs.Prelude.{All}
 use Rattle.jass_base.specs.CiffViews.{list_data}
 use Rattle.jass_base.specs.Lists.{HasDocsBelow}
-use Rattle.trial_data.specs.Gathering.{with_lists}
+use Rattle.trial_data.specs.Private.Gathering.{with_lists}
 use Rattle.trial_data.specs.Trials.{lists_from}
 use Rattle.trial_data.proofs.Listing.{with_front}
 use Rattle.trial_data.proofs.lists.draw_lists.Given as goal

@@ -7,7 +7,7 @@ use Rattle.jass_base.specs.Ciff.{HeaderData, ListData, DocData, CollectionData}
 use Rattle.jass_base.specs.CiffViews.{header_data, list_data, doc_data}
 use Rattle.jass_base.specs.declared.postings_list.PostingsList.{PostingsList}
 use Rattle.jass_base.specs.Lists.{HasDocsBelow}
-use Rattle.trial_data.specs.Gathering.{with_lists, cf_sum, records_from}
+use Rattle.trial_data.specs.Private.Gathering.{with_lists, cf_sum, records_from}
 use Rattle.trial_data.specs.Trials.{lists_from, collection_with, trial_collection, trial_state}
 use Rattle.trial_data.proofs.Listing.{cf_is, cf_small, lists_many, records_many, terms_differ, lengths_are, collection_is}
 use Rattle.trial_data.proofs.making.make_with_draws.Goals as goal

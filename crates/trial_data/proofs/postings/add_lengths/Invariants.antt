@@ -1,5 +1,5 @@
 use Rattle.std.proofs.Common.{◌≡◌, length, drop}
-use Rattle.trial_data.specs.Gathering.{with_postings}
+use Rattle.trial_data.specs.Private.Gathering.{with_postings}
 use Rattle.trial_data.proofs.postings.add_lengths.Given as goal
 
 abbrev pub invariant-loop-posting : goal.invariant-loop-posting

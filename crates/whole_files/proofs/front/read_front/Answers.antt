@@ -1,6 +1,6 @@
 use Rattle.std.proofs.Common.{◌≡◌, ◌≤◌, length, take, Option, subst, ◌∙◌, arith}
 use Rattle.jass_base.specs.Outside.{Files, OnContent, AreBytesAt}
-use Rattle.whole_files.specs.Fronts.{IsFrontOf}
+use Rattle.whole_files.specs.Private.Fronts.{IsFrontOf}
 use Rattle.whole_files.proofs.Fronts.{there, kept, front_more, front_whole, front_cut}
 use Rattle.whole_files.proofs.front.read_front.Goals as goal
 

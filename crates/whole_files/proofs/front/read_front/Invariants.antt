@@ -1,6 +1,6 @@
 use Rattle.std.proofs.Common.{◌≡◌, ◌≤◌, ◌<◌, ◌-◌, ◌^◌, length}
 use Rattle.jass_base.specs.Outside.{ForContent, OnContent}
-use Rattle.whole_files.specs.Fronts.{IsFrontOf}
+use Rattle.whole_files.specs.Private.Fronts.{IsFrontOf}
 use Rattle.whole_files.proofs.front.read_front.Given as goal
 
 abbrev pub invariant-pieces : goal.invariant-pieces

@@ -2,7 +2,7 @@ use Rattle.std.proofs.Common.{◌≡◌, List, ℕ, Option, Ok, sym, subst}
 use Rattle.jass_base.specs.Outside.{Files, ForContent}
 use Rattle.ciff_read.specs.KeptLists.{kept_in}
 use Rattle.ciff_read.specs.Pieces.{header_of_file}
-use Rattle.ciff_read.specs.Reached.{file_header}
+use Rattle.ciff_read.specs.Private.Reached.{file_header}
 use Rattle.ciff_read.specs.Walk.{StandsFor}
 use Rattle.ciff_read.specs.Window.{AreFrom, Shows}
 use Rattle.ciff_read.proofs.Opening.{new_walk, opened}

@@ -1,5 +1,5 @@
 use Rattle.std.proofs.Common.{◌≡◌}
-use Rattle.ciff_read.specs.Table.{values_of}
+use Rattle.ciff_read.specs.Private.Table.{values_of}
 use Rattle.ciff_read.proofs.doc_table.DocTable.into_row.Given as goal
 
 abbrev pub invariant-records : goal.invariant-records

@@ -1,5 +1,5 @@
 use Rattle.std.proofs.Common.{◌∙◌, sym}
-use Rattle.ciff_read.specs.Table.{table_with}
+use Rattle.ciff_read.specs.Private.Table.{table_with}
 use Rattle.ciff_read.proofs.Numbered.{among_records}
 use Rattle.ciff_read.proofs.documents.Documents.has.Goals as goal
 

@@ -1,7 +1,7 @@
 use Rattle.std.proofs.Common.{ℕ, Bool, List, Option, ◌∙◌, ap, sym}
 use Rattle.std.specs.Prelude.{◌||◌, nat_eq}
 use Rattle.jass_base.specs.declared.doc_record.DocRecord.{DocRecord}
-use Rattle.ciff_read.specs.Table.{has_value, table_with}
+use Rattle.ciff_read.specs.Private.Table.{has_value, table_with}
 use Rattle.ciff_read.proofs.Tables.{has-with, table-more}
 use Rattle.ciff_read.proofs.documents.Documents.put.Goals as goal
 

@@ -1,5 +1,5 @@
 use Rattle.std.proofs.Common.{subst, sym}
-use Rattle.ciff_read.specs.Kept.{AreKept}
+use Rattle.ciff_read.specs.Private.Kept.{AreKept}
 use Rattle.ciff_read.proofs.Postings.{Follows, judge_follows, kept-snoc}
 use Rattle.ciff_read.proofs.gathered.Gathered.take.Goals as goal
 

@@ -1,5 +1,5 @@
 use Rattle.std.proofs.Common.{◌<◌, ◌≤◌, ◌^◌, length, vec_capacity}
-use Rattle.ciff_read.specs.Places.{gathered_of}
+use Rattle.ciff_read.specs.Private.Places.{gathered_of}
 use Rattle.ciff_read.proofs.Runs.{InHand}
 use Rattle.ciff_read.proofs.gathered.Gathered.take_run.Given as goal
 

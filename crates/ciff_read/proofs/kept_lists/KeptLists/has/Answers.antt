@@ -1,10 +1,11 @@
 use Rattle.std.proofs.Common.{◌∙◌, sym, ap, List}
 use Rattle.std.specs.Prelude.{String}
 use Rattle.std.specs.declared.alloc.Global.{Global}
+use Rattle.std.proofs.lemmas.List.{nil_from_length}
 use Rattle.ciff_read.specs.declared.kept_lists.ListPlace.{ListPlace}
 use Rattle.ciff_read.specs.KeptEntries.{hashed_in, terms_in}
 use Rattle.ciff_read.specs.Seen.{is_seen}
-use Rattle.ciff_read.proofs.KeptTerms.{found_is, none_there, seen_first, seen_later}
+use Rattle.ciff_read.proofs.KeptTerms.{found_is, seen_first, seen_later}
 use Rattle.ciff_read.proofs.kept_lists.KeptLists.has.Goals as goal
 
 pub returns-then-has : goal.returns-then-has
@@ -15,7 +16,7 @@ returns-then-is_empty c =
     let later = c.args.self.now.hashed.entries in
     sym (
     seen_later c.args.term.now c.args.self.now.rising (hashed_in later) (sym c.has.ensures ∙ c.if-has.false)
-    ∙ ap (λ (entries : List (String Global × ListPlace)). is_seen c.args.term.now (terms_in (hashed_in entries))) (none_there later (c.is_empty.ensures.0 c.if-is_empty.true))
+    ∙ ap (λ (entries : List (String Global × ListPlace)). is_seen c.args.term.now (terms_in (hashed_in entries))) (nil_from_length later (c.is_empty.ensures.0 c.if-is_empty.true))
     )
 
 pub returns : goal.returns

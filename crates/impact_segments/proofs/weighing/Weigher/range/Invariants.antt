@@ -1,7 +1,7 @@
 use Rattle.std.proofs.Common.{◌≡◌, ◌<◌, ◌^◌, drop, fold}
 use Rattle.std.specs.List.{flat_map}
 use Rattle.weights.specs.Quantizing.{widened, range_of}
-use Rattle.impact_segments.specs.Weighed.{list_weights}
+use Rattle.impact_segments.specs.Private.Weighed.{list_weights}
 use Rattle.impact_segments.proofs.weighing.Weigher.range.Given as goal
 
 abbrev pub invariant-loop-list : goal.invariant-loop-list

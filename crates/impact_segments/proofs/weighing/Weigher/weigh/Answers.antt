@@ -2,7 +2,7 @@
 use Rattle.std.proofs.Common.{sym, ap, ◌∙◌, arith}
 use Rattle.weights.specs.declared.weighting.Rule.{Rule}
 use Rattle.impact_segments.specs.Collections.{weight_in}
-use Rattle.impact_segments.specs.Weighed.{lengths_in, total_length}
+use Rattle.impact_segments.specs.Private.Weighed.{lengths_in, total_length}
 use Rattle.impact_segments.proofs.Weights.{norm_at, weight_is}
 use Rattle.impact_segments.proofs.weighing.Weigher.weigh.Goals as goal
 

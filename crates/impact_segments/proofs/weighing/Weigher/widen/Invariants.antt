@@ -1,6 +1,6 @@
 use Rattle.std.proofs.Common.{◌≡◌, ◌<◌, ◌^◌, drop, fold, map}
 use Rattle.weights.specs.Quantizing.{widened}
-use Rattle.impact_segments.specs.Weighed.{posting_weight, list_weights}
+use Rattle.impact_segments.specs.Private.Weighed.{posting_weight, list_weights}
 use Rattle.impact_segments.proofs.weighing.Weigher.widen.Given as goal
 
 abbrev pub invariant-loop-posting : goal.invariant-loop-posting

@@ -1,5 +1,5 @@
 use Rattle.std.proofs.Common.{◌≡◌, ◌≤◌, ◌++◌, drop, length, map, vec_capacity}
-use Rattle.index_import.specs.KeptPostings.{posting_in, postings_in}
+use Rattle.index_import.specs.Private.KeptPostings.{posting_in, postings_in}
 use Rattle.index_import.proofs.kept_postings.KeptPostings.postings.Given as goal
 
 abbrev pub invariant-loop-word : goal.invariant-loop-word

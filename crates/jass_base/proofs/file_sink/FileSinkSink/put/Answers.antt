@@ -1,5 +1,4 @@
 use Rattle.std.proofs.Common.{◌∷◌, ap}
-use Rattle.jass_base.specs.Outside.{Rest}
 use Rattle.jass_base.proofs.Sinks.{puts, rest_stays}
 use Rattle.jass_base.proofs.file_sink.FileSinkSink.put.Goals as goal
 

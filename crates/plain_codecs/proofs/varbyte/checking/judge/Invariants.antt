@@ -1,6 +1,6 @@
 use Rattle.std.proofs.Common.{◌≤◌, drop, length}
 use Rattle.jass_base.specs.Gaps.{read_gaps}
-use Rattle.plain_codecs.specs.Runs.{Continues}
+use Rattle.plain_codecs.specs.Private.Runs.{Continues}
 use Rattle.plain_codecs.proofs.varbyte.checking.judge.Given as goal
 
 abbrev pub invariant-loop-left : goal.invariant-loop-left

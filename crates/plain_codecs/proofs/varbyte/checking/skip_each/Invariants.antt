@@ -1,6 +1,6 @@
 use Rattle.std.proofs.Common.{◌-◌, ◌≤◌, ℕ, drop, length}
 use Rattle.jass_base.specs.Gaps.{read_gaps}
-use Rattle.plain_codecs.specs.Runs.{Continues}
+use Rattle.plain_codecs.specs.Private.Runs.{Continues}
 use Rattle.plain_codecs.proofs.varbyte.checking.skip_each.Given as goal
 
 abbrev pub invariant-loop : goal.invariant-loop

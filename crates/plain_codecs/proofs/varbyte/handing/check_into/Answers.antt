@@ -1,12 +1,12 @@
-use Rattle.jass_base.proofs.Accepting.{accepts, all_bytes}
+use Rattle.jass_base.proofs.Accepting.{checks_into, all_bytes}
 use Rattle.plain_codecs.specs.Varbyte.{varbyte_of, read_varbyte}
 use Rattle.plain_codecs.proofs.varbyte.handing.check_into.Goals as goal
 
-pub returns-clause-accepted : goal.returns-clause-accepted
-returns-clause-accepted c =
+pub returns : goal.returns
+returns c =
     let d = c.args.d in
     let count = c.args.count in
     let bytes = c.args.bytes.now in
-    accepts varbyte_of d count bytes (read_varbyte d count bytes) c.hand_out.result c.hand_out.ensures.judged
+    checks_into varbyte_of read_varbyte d count bytes c.args.out.now c.hand_out.new.out c.hand_out.result c.hand_out.ensures.judged c.hand_out.ensures.docs c.hand_out.ensures.length
     (λ docs are size is. c.payloads_are_read.ensures.found d count docs bytes are size is)
-    (λ docs is. c.payloads_are_read.ensures.only d count docs bytes c.requires.some c.requires.limit (all_bytes bytes (λ k. (c.type_inv.bytes k).fits)) is)
+    (λ docs is. c.payloads_are_read.ensures.only d count docs bytes c.requires.count.some c.requires.count.limit (all_bytes bytes (λ k. (c.type_inv.bytes k).fits)) is)

@@ -22,5 +22,5 @@ invariant_of-result c = record {
       (λ i h. let small = All-from_recursion (λ (head : PlanHead). head.impact ≤ 65535) c.args.heads.now c.in_ok-entries.ensures.small i none h in omega arith)
       c.in_ok-entries.ensures.entries (c.as_slice.ensures.value ∙ c.in_ok-arrange.ensures) in omega arith;
   summed = subst (AreSums c.in_ok-sums.sums.items) c.as_slice.ensures.value c.in_ok-sums.ensures;
-  bounded = subst (λ (entries : List PlanEntry). AreBoundsFrom 0 c.in_ok-bounds.bounds.items (record { places = length c.as_slice-terms.result.now; entries = entries })) c.as_slice-2.ensures.value c.in_ok-bounds.ensures;
+  bounded = subst (λ (entries : List PlanEntry). AreBoundsFrom 0 c.in_ok-bounds.bounds.items (record { terms = length c.as_slice-terms.result.now; entries = entries })) c.as_slice-2.ensures.value c.in_ok-bounds.ensures;
 }

@@ -1,7 +1,7 @@
 -- The line is read, and its command answered.
 use Rattle.std.proofs.Common.{◌≡◌, ◌+◌, ◌↔◌, IfOk, IsTrue, Option, subst}
 use Rattle.jass_base.specs.declared.faults.WriteFault.{WriteFault}
-use Rattle.trec_run.specs.Gathering.{Gathers}
+use Rattle.gathered_text.specs.Gathering.{Gathers}
 use Rattle.session_desk.specs.declared.went.Went.{Went}
 use Rattle.session_desk.specs.declared.went.Went.TheVariants.{End, NoMemory}
 use Rattle.session_desk.specs.Endings.{left_where, may_take_memory, may_want_memory, text_where}

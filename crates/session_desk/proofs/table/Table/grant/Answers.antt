@@ -5,7 +5,7 @@ use Rattle.jass_base.specs.declared.query.Query.{Query}
 use Rattle.std.specs.Option.{option_map, option_map_or}
 use Rattle.session_engine.specs.Standing.{report_of}
 use Rattle.session_desk.specs.Replies.{newly_scored, session_report}
-use Rattle.session_desk.specs.State.{Entry, granted_more}
+use Rattle.session_desk.specs.State.{OpenSession, granted_more}
 use Rattle.session_desk.specs.Standing.{entry_of, told_of}
 use Rattle.session_desk.proofs.Granting.{changed_shows, changed_stand, entry_granted, found_at, report_shown, stands_at, state_shown, steps_shown, told_shown}
 use Rattle.session_desk.proofs.Showing.{found_nowhere, stays_with}
@@ -14,7 +14,7 @@ use Rattle.session_desk.proofs.table.Table.grant.Goals as goal
 pub returns-in_err-place-clause-told : goal.returns-in_err-place-clause-told
 returns-in_err-place-clause-told g c =
     c.from_residual.ensures
-    ∙ ap (option_map (λ (entry : Entry). told_of c.args.index.now (granted_more c.args.budget entry))) (sym (found_nowhere c.args.name.now c.args.self.now.sessions.items c.in_err-place.ensures))
+    ∙ ap (option_map (λ (entry : OpenSession). told_of c.args.index.now (granted_more c.args.budget entry))) (sym (found_nowhere c.args.name.now c.args.self.now.sessions.items c.in_err-place.ensures))
 
 pub returns-in_err-place-clause-after : goal.returns-in_err-place-clause-after
 returns-in_err-place-clause-after g c =
@@ -22,7 +22,7 @@ returns-in_err-place-clause-after g c =
 
 pub returns-in_err-place-clause-steps : goal.returns-in_err-place-clause-steps
 returns-in_err-place-clause-steps g c =
-    omega (arith, ap (λ (o : Option Entry). option_map_or (newly_scored c.args.index.now c.args.budget) o 0) (found_nowhere c.args.name.now c.args.self.now.sessions.items c.in_err-place.ensures))
+    omega (arith, ap (λ (o : Option OpenSession). option_map_or (newly_scored c.args.index.now c.args.budget) o 0) (found_nowhere c.args.name.now c.args.self.now.sessions.items c.in_err-place.ensures))
 
 pub returns-clause-stands : goal.returns-clause-stands
 returns-clause-stands g c =
@@ -41,7 +41,7 @@ returns-clause-told g c =
     let found = found_at c.args.self.now.sessions.items c.args.name.now c.in_ok-place.place c.in_ok-place.ensures here c.index_mut-session.ensures.value c.requires.stands.sessions.differ in
     let told = told_shown file (entry_of there) c.grant-report.result c.query.result.now.unknown
     (c.grant-report.ensures.report ∙ report_shown there file c.grant-report.new.pool c.grant-report.ensures.stands) (ap (λ (q : Query). q.unknown) c.query.ensures) in
-    ap (λ t. Some t) (told ∙ ap (told_of file) granted) ∙ ap (option_map (λ (entry : Entry). told_of file (granted_more c.args.budget entry))) (sym found)
+    ap (λ t. Some t) (told ∙ ap (told_of file) granted) ∙ ap (option_map (λ (entry : OpenSession). told_of file (granted_more c.args.budget entry))) (sym found)
 
 pub returns-clause-after : goal.returns-clause-after
 returns-clause-after g c =
@@ -64,4 +64,4 @@ returns-clause-steps g c =
     let after = c.grant-report.ensures.report ∙ report_shown there file c.grant-report.new.pool c.grant-report.ensures.stands ∙ ap (session_report file) granted in
     steps_shown c.args.steps.now c.grant-report.new.steps (report_of here).postings c.grant-report.result.postings (session_report file (entry_of here)) (session_report file (granted_more c.args.budget (entry_of here)))
     (ap (λ (r : Report). r.postings) (sym before)) (ap (λ (r : Report). r.postings) (sym after)) c.grant-report.ensures.more c.grant-report.ensures.steps
-    ∙ ap (λ (o : Option Entry). c.args.steps.now + option_map_or (newly_scored file c.args.budget) o 0) (sym found)
+    ∙ ap (λ (o : Option OpenSession). c.args.steps.now + option_map_or (newly_scored file c.args.budget) o 0) (sym found)

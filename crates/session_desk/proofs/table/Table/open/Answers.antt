@@ -8,10 +8,10 @@ use Rattle.query_reader.specs.Slices.{blank_runs}
 use Rattle.query_reader.specs.Texts.{mentions_of}
 use Rattle.query_reader.specs.declared.mode.Mode.TheVariants.{Plain}
 use Rattle.session_desk.specs.declared.refusal.DeskRefusal.{DeskRefusal}
-use Rattle.session_desk.specs.declared.opening.OpenFault.{OpenFault}
-use Rattle.session_desk.specs.Opening.{Opens}
+use Rattle.session_desk.specs.declared.opening.SessionFault.{SessionFault}
+use Rattle.session_desk.specs.Private.Opening.{Opens}
 use Rattle.session_desk.specs.Replies.{fitting, opening}
-use Rattle.session_desk.specs.State.{Entry}
+use Rattle.session_desk.specs.State.{OpenSession}
 use Rattle.session_desk.specs.Standing.{state_of}
 use Rattle.session_desk.proofs.Joining.{plain_so, read_name, read_so, refused_first, refused_so, then_fits}
 use Rattle.session_desk.proofs.Placing.{HasOtherName}
@@ -35,7 +35,7 @@ returns-in-Ok-clause-opens c =
     let named = read_name (texts_of file.index.terms) name (mentions_of Plain c.args.mentions.now) (query_data c.in-Ok.query) read in
     let found = then_fits file state name c.args.k (blank_runs c.args.mentions.now) (sym c.in-None.ensures.refusal)
     ∙ ap (fitting file state c.args.k) (ap (read_mentions (texts_of file.index.terms) name) (sym (plain_so c.args.mentions.now)) ∙ read) in
-    subst (λ (r : Result Entry DeskRefusal). Opens file r name state (state_of c.add.new.self) c.add.result) (sym found)
+    subst (λ (r : Result OpenSession DeskRefusal). Opens file r name state (state_of c.add.new.self) c.add.result) (sym found)
     (subst (λ (n : List ℕ). Opens file (fitting file state c.args.k (Ok (query_data c.in-Ok.query))) n state (state_of c.add.new.self) c.add.result) named c.add.ensures.opens)
 
 pub returns-in-Err-clause-opens : goal.returns-in-Err-clause-opens
@@ -45,5 +45,5 @@ returns-in-Err-clause-opens c =
     let name = c.args.name.now in
     let found = then_fits file state name c.args.k (blank_runs c.args.mentions.now) (sym c.in-None.ensures.refusal)
     ∙ ap (λ ms. fitting file state c.args.k (read_mentions (texts_of file.index.terms) name ms)) (sym (plain_so c.args.mentions.now)) in
-    subst (λ (fault : OpenFault). Opens file (opening file state name c.args.k (blank_runs c.args.mentions.now)) name state state (Err fault)) (sym c.open_fault.ensures)
+    subst (λ (fault : SessionFault). Opens file (opening file state name c.args.k (blank_runs c.args.mentions.now)) name state state (Err fault)) (sym c.session_fault.ensures)
     (refused_so file name state c.args.k (read_mentions (texts_of file.index.terms) name (mentions_of Plain c.args.mentions.now)) _ c.in-Err.fault found c.in-Err.ensures.query)

@@ -1,6 +1,6 @@
 use Rattle.std.proofs.Common.{◌≡◌, ◌+◌, ◌-◌, ◌≤◌, ◌∙◌, ap, sym, subst, List, arith}
 use Rattle.jass_base.specs.declared.answer.Report.{Report}
-use Rattle.jass_base.specs.declared.named.Named.{Named}
+use Rattle.jass_base.specs.declared.query_term.QueryTerm.{QueryTerm}
 use Rattle.ranking_model.specs.Plan.{prefix_within, size_of_first}
 use Rattle.ranking_model.specs.Postings.{AreTerms}
 use Rattle.segment_plan.specs.Entries.{PlanView}
@@ -18,16 +18,16 @@ overflow_add-before g c =
     let stands = c.requires.stands in
     let are : AreTerms s.query.terms = record { few = s.query.few; named = s.query.named; differ = s.query.differ } in
     let shape = subst (λ (p : PlanView). HasShape p plan) (sym stands.planned.arranged) (c.a_session_plan_names_its_segments.ensures.shape file s.query.terms c.is_checked.ensures.index are stands.planned.known) in
-    let paid : s.report.postings ≡ size_of_first s.scored plan.classes = ap (λ (r : Report). r.postings) stands.report in
+    let paid : s.report.postings ≡ size_of_first s.scored plan.segments = ap (λ (r : Report). r.postings) stands.report in
     let low : s.granted ≤ c.granted_with-self.result = omega (arith, c.fits-self, c.granted_with-self.ensures) in
-    let grown : s.scored + c.within.result ≡ prefix_within c.granted_with-self.result plan.classes
-    = prefix_grown s.scored s.granted c.granted_with-self.result s.report.postings c.within.result plan.classes stands.prefix low paid
+    let grown : s.scored + c.within.result ≡ prefix_within c.granted_with-self.result plan.segments
+    = prefix_grown s.scored s.granted c.granted_with-self.result s.report.postings c.within.result plan.segments stands.prefix low paid
     (c.within.ensures.many ∙ sym (c.prefixes_are_those_of_the_plan.ensures.resumed s.plan plan s.scored (c.granted_with-self.result - s.report.postings) shape)) c.a_prefix_is_resumed.ensures.prefix in
     let terms = c.as_slice-terms.ensures in
-    let more : size_of_first s.scored plan.classes + c.score_entries-more.result ≡ size_of_first (s.scored + c.within.result) plan.classes
-    = subst (λ (ts : List Named). size_of_first s.scored (session_plan file ts).classes + c.score_entries-more.result ≡ size_of_first (s.scored + c.within.result) (session_plan file ts).classes) terms c.score_entries-more.ensures.postings in
-    let most = c.the_prefix_is_the_longest.ensures.fits c.granted_with-self.result plan.classes in
-    let same = ap (λ n. size_of_first n plan.classes) grown in
+    let more : size_of_first s.scored plan.segments + c.score_entries-more.result ≡ size_of_first (s.scored + c.within.result) plan.segments
+    = subst (λ (ts : List QueryTerm). size_of_first s.scored (session_plan file ts).segments + c.score_entries-more.result ≡ size_of_first (s.scored + c.within.result) (session_plan file ts).segments) terms c.score_entries-more.ensures.postings in
+    let most = c.the_prefix_is_the_longest.ensures.fits c.granted_with-self.result plan.segments in
+    let same = ap (λ n. size_of_first n plan.segments) grown in
     omega (arith, paid, more, most, same, c.granted_with-self.type_inv)
 
 pub returns-clause-stands : goal.returns-clause-stands
@@ -38,15 +38,15 @@ returns-clause-stands g c =
     let stands = c.requires.stands in
     let are : AreTerms s.query.terms = record { few = s.query.few; named = s.query.named; differ = s.query.differ } in
     let shape = subst (λ (p : PlanView). HasShape p plan) (sym stands.planned.arranged) (c.a_session_plan_names_its_segments.ensures.shape file s.query.terms c.is_checked.ensures.index are stands.planned.known) in
-    let paid : s.report.postings ≡ size_of_first s.scored plan.classes = ap (λ (r : Report). r.postings) stands.report in
+    let paid : s.report.postings ≡ size_of_first s.scored plan.segments = ap (λ (r : Report). r.postings) stands.report in
     let low : s.granted ≤ c.granted_with-self.result = omega (arith, c.fits-self, c.granted_with-self.ensures) in
-    let grown : s.scored + c.within.result ≡ prefix_within c.granted_with-self.result plan.classes
-    = prefix_grown s.scored s.granted c.granted_with-self.result s.report.postings c.within.result plan.classes stands.prefix low paid
+    let grown : s.scored + c.within.result ≡ prefix_within c.granted_with-self.result plan.segments
+    = prefix_grown s.scored s.granted c.granted_with-self.result s.report.postings c.within.result plan.segments stands.prefix low paid
     (c.within.ensures.many ∙ sym (c.prefixes_are_those_of_the_plan.ensures.resumed s.plan plan s.scored (c.granted_with-self.result - s.report.postings) shape)) c.a_prefix_is_resumed.ensures.prefix in
     let terms = c.as_slice-terms.ensures in
-    let more : size_of_first s.scored plan.classes + c.score_entries-more.result ≡ size_of_first (s.scored + c.within.result) plan.classes
-    = subst (λ (ts : List Named). size_of_first s.scored (session_plan file ts).classes + c.score_entries-more.result ≡ size_of_first (s.scored + c.within.result) (session_plan file ts).classes) terms c.score_entries-more.ensures.postings in
-    let scored = after_settle (subst (λ (ts : List Named). ScoredTo (s.scored + c.within.result) (session_plan file ts) (need_of file ts) c.score_entries-more.new.scores c.score_entries-more.new.pool) terms c.score_entries-more.ensures.scored)
+    let more : size_of_first s.scored plan.segments + c.score_entries-more.result ≡ size_of_first (s.scored + c.within.result) plan.segments
+    = subst (λ (ts : List QueryTerm). size_of_first s.scored (session_plan file ts).segments + c.score_entries-more.result ≡ size_of_first (s.scored + c.within.result) (session_plan file ts).segments) terms c.score_entries-more.ensures.postings in
+    let scored = after_settle (subst (λ (ts : List QueryTerm). ScoredTo (s.scored + c.within.result) (session_plan file ts) (need_of file ts) c.score_entries-more.new.scores c.score_entries-more.new.pool) terms c.score_entries-more.ensures.scored)
     c.settle.ensures.stand c.settle.ensures.scores c.settle.ensures.frames c.settle.ensures.same c.settle.ensures.leaves in
     let report = c.report_at-report.ensures plan shape scored.sums in
     record {
@@ -66,15 +66,15 @@ returns-clause-steps g c =
     let stands = c.requires.stands in
     let are : AreTerms s.query.terms = record { few = s.query.few; named = s.query.named; differ = s.query.differ } in
     let shape = subst (λ (p : PlanView). HasShape p plan) (sym stands.planned.arranged) (c.a_session_plan_names_its_segments.ensures.shape file s.query.terms c.is_checked.ensures.index are stands.planned.known) in
-    let paid : s.report.postings ≡ size_of_first s.scored plan.classes = ap (λ (r : Report). r.postings) stands.report in
+    let paid : s.report.postings ≡ size_of_first s.scored plan.segments = ap (λ (r : Report). r.postings) stands.report in
     let low : s.granted ≤ c.granted_with-self.result = omega (arith, c.fits-self, c.granted_with-self.ensures) in
-    let grown : s.scored + c.within.result ≡ prefix_within c.granted_with-self.result plan.classes
-    = prefix_grown s.scored s.granted c.granted_with-self.result s.report.postings c.within.result plan.classes stands.prefix low paid
+    let grown : s.scored + c.within.result ≡ prefix_within c.granted_with-self.result plan.segments
+    = prefix_grown s.scored s.granted c.granted_with-self.result s.report.postings c.within.result plan.segments stands.prefix low paid
     (c.within.ensures.many ∙ sym (c.prefixes_are_those_of_the_plan.ensures.resumed s.plan plan s.scored (c.granted_with-self.result - s.report.postings) shape)) c.a_prefix_is_resumed.ensures.prefix in
     let terms = c.as_slice-terms.ensures in
-    let more : size_of_first s.scored plan.classes + c.score_entries-more.result ≡ size_of_first (s.scored + c.within.result) plan.classes
-    = subst (λ (ts : List Named). size_of_first s.scored (session_plan file ts).classes + c.score_entries-more.result ≡ size_of_first (s.scored + c.within.result) (session_plan file ts).classes) terms c.score_entries-more.ensures.postings in
-    let scored = after_settle (subst (λ (ts : List Named). ScoredTo (s.scored + c.within.result) (session_plan file ts) (need_of file ts) c.score_entries-more.new.scores c.score_entries-more.new.pool) terms c.score_entries-more.ensures.scored)
+    let more : size_of_first s.scored plan.segments + c.score_entries-more.result ≡ size_of_first (s.scored + c.within.result) plan.segments
+    = subst (λ (ts : List QueryTerm). size_of_first s.scored (session_plan file ts).segments + c.score_entries-more.result ≡ size_of_first (s.scored + c.within.result) (session_plan file ts).segments) terms c.score_entries-more.ensures.postings in
+    let scored = after_settle (subst (λ (ts : List QueryTerm). ScoredTo (s.scored + c.within.result) (session_plan file ts) (need_of file ts) c.score_entries-more.new.scores c.score_entries-more.new.pool) terms c.score_entries-more.ensures.scored)
     c.settle.ensures.stand c.settle.ensures.scores c.settle.ensures.frames c.settle.ensures.same c.settle.ensures.leaves in
     let report = c.report_at-report.ensures plan shape scored.sums in
     let postings = ap (λ (r : Report). r.postings) report in

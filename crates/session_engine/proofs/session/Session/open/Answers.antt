@@ -23,7 +23,7 @@ returns-in-Ok-new-clause-stands c =
         stand = made.stand;
         docs = made.docs ∙ c.docs.ensures ∙ sym (c.a_session_plan_names_its_segments.ensures.docs file terms);
         sums = sums;
-        frames = subst (λ v. length v.frames ≤ size_of_first 0 (session_plan file terms).classes) (sym view) (omega arith);
+        frames = subst (λ v. length v.frames ≤ size_of_first 0 (session_plan file terms).segments) (sym view) (omega arith);
         promise = ap (λ v. v.promise) view ∙ c.need-need.ensures;
       };
       settled = made.settled;

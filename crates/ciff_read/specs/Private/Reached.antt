@@ -1,0 +1,51 @@
+-- What is read of a file by a window, part by part.
+use Rattle.std.specs.Prelude.{ℕ, ◌≡◌, List, Result, Ok, Err, Option}
+use Rattle.jass_base.specs.CiffViews.{list_data, doc_data}
+use Rattle.jass_base.specs.Outside.{Files, ForContent}
+use Rattle.jass_base.specs.declared.postings_list.PostingsList.{PostingsList}
+use Rattle.jass_base.specs.declared.doc_record.DocRecord.{DocRecord}
+use Rattle.ciff_read.specs.declared.file_head.FileHead.{FileHead}
+use Rattle.ciff_read.specs.declared.refusal.CiffRefusal.{CiffRefusal}
+use Rattle.ciff_read.specs.declared.refusal.CiffFault.{CiffFault}
+use Rattle.ciff_read.specs.declared.window.Window.{Window}
+use Rattle.ciff_read.specs.declared.kept_lists.KeptLists.{KeptLists}
+use Rattle.ciff_read.specs.declared.doc_set.DocSet.{DocSet}
+use Rattle.ciff_read.specs.Judging.{is_among}
+use Rattle.ciff_read.specs.KeptLists.{kept_in}
+use Rattle.ciff_read.specs.Marks.{is_marked}
+use Rattle.ciff_read.specs.Pieces.{FileHeader, ListInFile, DocInFile, header_of_file, list_of_file, doc_of_file, terms_kept}
+use Rattle.ciff_read.specs.Private.Places.{start_data}
+use Rattle.ciff_read.specs.Reaching.{FailsReading}
+use Rattle.ciff_read.specs.Window.{Shows}
+
+-- what a function answers, seen by view, is what reading gives; a read fault or want of memory may come instead
+abbrev pub GivesReading : {X Y : Type 0} → (X → Y) → Result X CiffFault → Result Y CiffRefusal → Type 0
+GivesReading view (Ok x) read = read ≡ Ok (view x)
+GivesReading view (Err fault) read = FailsReading fault read
+
+-- the header that was read, and the place behind it
+abbrev pub file_header : FileHead × ℕ → FileHeader
+file_header x = record { start = start_data x.0; end = x.1 }
+
+abbrev pub HeaderTold : Option Files → List ℕ → Window → Result (FileHead × ℕ) CiffFault → Type 0
+HeaderTold files name old result = ForContent files name (λ content. Shows content old → GivesReading file_header result (header_of_file content))
+
+-- the list that was read, and the place behind it
+abbrev pub list_in_file : PostingsList × ℕ → ListInFile
+list_in_file x = record { list = list_data x.0; end = x.1 }
+
+abbrev pub ListTold : Option Files → List ℕ → Window → ℕ → ℕ → KeptLists → ℕ → Result (PostingsList × ℕ) CiffFault → Type 0
+ListTold files name old docs before kept at result =
+    ForContent files name (λ content. Shows content old → GivesReading list_in_file result (list_of_file content docs before (terms_kept (kept_in kept)) at))
+
+-- a document's number and record, and the place behind it
+abbrev pub doc_in_file : ℕ × DocRecord × ℕ → DocInFile
+doc_in_file x = record { doc = record { number = x.0; doc = doc_data x.1 }; end = x.2 }
+
+-- the numbers that are marked are these
+abbrev pub MarksOf : List ℕ → List ℕ → Type 0
+MarksOf words numbers = (n : ℕ) → is_marked words n ≡ is_among n numbers
+
+abbrev pub DocTold : Option Files → List ℕ → Window → ℕ → DocSet → ℕ → Result (ℕ × DocRecord × ℕ) CiffFault → Type 0
+DocTold files name old docs set at result =
+    ForContent files name (λ content. Shows content old → (numbers : List ℕ) → MarksOf set.words.items numbers → GivesReading doc_in_file result (doc_of_file content docs numbers at))

@@ -1,0 +1,8 @@
+-- Words that no clause of a public call cites: those of this crate's own functions.
+pub mod Faults
+pub mod Heading
+pub mod KeptPostings
+pub mod Outlining
+pub mod Ranging
+pub mod Rereading
+pub mod Surveying

@@ -1,0 +1,19 @@
+-- The range of the weights of the lists of a file that was judged.
+use Rattle.std.specs.Prelude.{ℕ, List}
+use Rattle.weights.specs.declared.quantizing.Bits.{Bits}
+use Rattle.weights.specs.declared.quantizing.Bits.TheVariants.{Raw, Of}
+use Rattle.weights.specs.declared.quantizing.Range.{Range}
+use Rattle.weights.specs.Quantizing.{empty_range}
+use Rattle.impact_segments.specs.ListTerms.{widened_by}
+use Rattle.index_import.specs.Private.Outlining.{lists_there}
+use Rattle.index_import.specs.declared.list_entry.ListEntry.{ListEntry}
+use Rattle.index_import.specs.declared.weighing.Weighing.{Weighing}
+
+-- the range of the weights of all lists that entries name
+abbrev pub widened_there : List ℕ → ℕ → Weighing → List ListEntry → Range
+widened_there content docs w lists = widened_by w.rule w.lengths.now w.total empty_range (lists_there content docs lists)
+
+-- the range that impacts of these bits are places in; raw ones ask for none
+abbrev pub range_there : List ℕ → ℕ → Weighing → Bits → List ListEntry → Range
+range_there content docs w Raw lists = empty_range
+range_there content docs w (Of b) lists = widened_there content docs w lists

@@ -1,5 +1,0 @@
-use Rattle.std.proofs.Common.{◌≡◌, ◌+◌, ◌*◌, ◌<◌, ◌==◌, ℕ, take, length, get_or, count_by}
-use Rattle.ranking_model.proofs.scores.add_class.Given as goal
-
-abbrev pub invariant-loop-doc : goal.invariant-loop-doc
-invariant-loop-doc l = (d : ℕ) → d < length l.fn.scores → get_or l.scores d 0 ≡ get_or l.fn.scores d 0 + l.class.weight * count_by (λ x. x == d) (take l.doc-index l.class.docs)
