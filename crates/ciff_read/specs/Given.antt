@@ -12,6 +12,7 @@ use Rattle.ciff_read.specs.Reaching.{FailsReading}
 use Rattle.ciff_read.specs.Seen.{is_seen}
 use Rattle.ciff_read.specs.Walk.{WalkView, Keeps, OneMore, kept_of}
 use Rattle.ciff_read.specs.Window.{AreFrom}
+use Rattle.jass_base.specs.declared.limits.TheConstants.{MOST_DOCUMENTS, MOST_TERMS}
 
 abbrev pub piece_data : Piece → PieceData
 piece_data (pieces.Start header lists docs) = StartPiece (header_data header) lists docs
@@ -21,7 +22,7 @@ piece_data pieces.End = EndPiece
 
 -- what holds of a piece and of the walk that gives it, whether or not the content is told
 abbrev pub PieceRanges : WalkView → WalkView → Piece → Type 0
-PieceRanges old new (pieces.Start header lists docs) = IsSome old.header × (new.header ≡ None) × (lists ≤ 2 ^ 24) × (docs ≤ 2 ^ 26) × (new.kept ≡ old.kept) × (new.given ≡ old.given)
+PieceRanges old new (pieces.Start header lists docs) = IsSome old.header × (new.header ≡ None) × (lists ≤ MOST_TERMS) × (docs ≤ MOST_DOCUMENTS) × (new.kept ≡ old.kept) × (new.given ≡ old.given)
 PieceRanges old new (pieces.List at list) = (new.header ≡ old.header) × (new.given ≡ old.given) × (at ≡ old.at) × (is_seen list.term (terms_kept old.kept) ≡ false) × (new.kept ≡ old.kept ++ kept_of at list ∷ []) × HasDocsBelow old.docs list
 PieceRanges old new (pieces.Doc number item) = (new.header ≡ old.header) × (new.kept ≡ old.kept) × (number < old.docs) × (is_marked old.marks number ≡ false) × OneMore old.marks new.marks number × (new.given ≡ old.given + 1)
 PieceRanges old new pieces.End = (new.kept ≡ old.kept) × (new.given ≡ old.given) × (length old.kept ≡ old.lists) × (old.given ≡ old.docs)

@@ -18,6 +18,7 @@ use Rattle.ciff_read.specs.Private.Reached.{GivesReading, MarksOf}
 use Rattle.ciff_read.specs.Reaching.{FailsReading}
 use Rattle.ciff_read.specs.Reading.{Message, message_at, list_at, at_end}
 use Rattle.ciff_read.specs.Window.{AreFrom}
+use Rattle.jass_base.specs.declared.limits.TheConstants.{MOST_DOCUMENTS, MOST_POSTINGS, MOST_TERMS}
 
 -- what a walk is: the file's name; what it keeps of the file up to a place; the numbers of the documents that it has given, as marked
 -- bits, and how many these are; the error that it has answered; and the bytes of the file that it holds, from a place on
@@ -36,9 +37,9 @@ pub record WalkView : Type 0 where
 
 -- the ranges that hold whether or not the content is told
 pub record KeepsRanges (w : WalkView) : Type 0 where
-  pub few_lists : w.lists ≤ 2 ^ 24
-  pub few_docs : w.docs ≤ 2 ^ 26
-  pub few_postings : postings_kept w.kept ≤ 2 ^ 29
+  pub few_lists : w.lists ≤ MOST_TERMS
+  pub few_docs : w.docs ≤ MOST_DOCUMENTS
+  pub few_postings : postings_kept w.kept ≤ MOST_POSTINGS
   pub lists_given : length w.kept ≤ w.lists
   pub docs_given : w.given ≤ w.docs
   pub near : w.at ≤ 2 ^ 32
@@ -47,10 +48,10 @@ pub record KeepsRanges (w : WalkView) : Type 0 where
 
 -- the same of the parts of a walk
 pub record IsInRange (lists docs at given postings : ℕ) (kept : List KeptList) : Type 0 where
-  pub few_lists : lists ≤ 2 ^ 24
-  pub few_docs : docs ≤ 2 ^ 26
+  pub few_lists : lists ≤ MOST_TERMS
+  pub few_docs : docs ≤ MOST_DOCUMENTS
   pub counted : postings ≡ postings_kept kept
-  pub few_postings : postings ≤ 2 ^ 29
+  pub few_postings : postings ≤ MOST_POSTINGS
   pub lists_given : length kept ≤ lists
   pub docs_given : given ≤ docs
   pub near : at ≤ 2 ^ 32

@@ -6,6 +6,7 @@ ghost use Rattle.ciff_read.specs.Counts.{posting_count};
 ghost use Rattle.ciff_read.specs.Private.Places.{lists_in, docs_in};
 ghost use Rattle.ciff_read.specs.Reading.{lists_at, all_docs_at, read_ciff};
 ghost use Rattle.ciff_read.specs.Refusals.{Answers};
+ghost use Rattle.jass_base.specs.declared.limits.TheConstants.{MOST_DOCUMENTS, MOST_POSTINGS};
 
 use crate::document::read_document;
 use crate::documents::Documents;
@@ -24,7 +25,7 @@ pub fn read_collection(alloc: Global, bytes: &[u8]) -> Result<Collection, CiffFa
     ensures accepted { IfOk result (λ c. IsCiff bytes.now (collection_data c)) }
     ensures only { (c : CollectionData) → IsCiff bytes.now c → Answers collection_data result (Ok c) }
     ensures exact { Answers collection_data result (read_ciff bytes.now) }
-    ensures few { IfOk result (λ c. posting_count c.lists ≤ 2 ^ 29) }
+    ensures few { IfOk result (λ c. posting_count c.lists ≤ MOST_POSTINGS) }
 {
     files_are_read();
     read_messages(alloc, bytes)
@@ -33,7 +34,7 @@ pub fn read_collection(alloc: Global, bytes: &[u8]) -> Result<Collection, CiffFa
 /// Reads the messages of a file, one after the other.
 fn read_messages(alloc: Global, bytes: &[u8]) -> Result<Collection, CiffFault>
     ensures exact { Answers collection_data result (read_ciff bytes.now) }
-    ensures few { IfOk result (λ c. posting_count c.lists ≤ 2 ^ 29) }
+    ensures few { IfOk result (λ c. posting_count c.lists ≤ MOST_POSTINGS) }
 {
     let body = match read_length(bytes, 0) {
         Ok(body) => body,
@@ -70,13 +71,13 @@ fn read_lists(
     docs: u32,
 ) -> Result<(Row<PostingsList>, usize), CiffFault>
     requires from { from ≤ length bytes.now }
-    requires docs { docs ≤ 2 ^ 26 }
+    requires docs { docs ≤ MOST_DOCUMENTS }
     ensures exact { Answers (lists_in bytes.now) result (lists_at count docs 0 [] from (drop from bytes.now)) }
     ensures within { IfOk result (λ x. x.1 ≤ length bytes.now) }
     ensures count { IfOk result (λ x. length x.0 ≡ count) }
     ensures below { IfOk result (λ x. All (HasDocsBelow docs) x.0) }
     ensures differ { IfOk result (λ x. AllPairs DifferInTerm x.0) }
-    ensures few { IfOk result (λ x. posting_count x.0 ≤ 2 ^ 29) }
+    ensures few { IfOk result (λ x. posting_count x.0 ≤ MOST_POSTINGS) }
 {
     let mut lists = Row::new(alloc);
     let mut terms: IndexSet<&str> = IndexSet::new(alloc);

@@ -1,4 +1,5 @@
 ghost use Rattle.std.specs.Prelude.{ℕ, ◌≤◌, ◌^◌};
+ghost use Rattle.jass_base.specs.declared.limits.TheConstants.{MOST_DOCUMENTS, MOST_TERMS};
 
 use jass_base::Header;
 
@@ -10,8 +11,8 @@ pub struct FileHead {
     pub lists: u32,
     /// At most 2^26.
     pub docs: u32,
-    pub ghost few_lists: { lists ≤ 2 ^ 24 },
-    pub ghost few_docs: { docs ≤ 2 ^ 26 },
+    pub ghost few_lists: { lists ≤ MOST_TERMS },
+    pub ghost few_docs: { docs ≤ MOST_DOCUMENTS },
 }
 
 /// The fields of the first message as they stand.

@@ -1,6 +1,7 @@
 ghost use Rattle.std.specs.Prelude.{ℕ, ◌≡◌, ◌≤◌, ◌^◌};
 ghost use Rattle.ciff_read.specs.Private.Kept.{AreKept};
 ghost use Rattle.ciff_read.specs.Judging.{judge};
+ghost use Rattle.jass_base.specs.declared.limits.TheConstants.{MOST_DOCUMENTS, MOST_POSTINGS};
 
 use crate::posting_fields::PostingFields;
 use crate::refusal::{CiffRefusal, CiffWhy};
@@ -37,8 +38,8 @@ impl Gathered {
         before: u64,
         room: usize,
     ) -> Result<Gathered, NoMemory>
-        requires docs { docs ≤ 2 ^ 26 }
-        requires before { before ≤ 2 ^ 29 }
+        requires docs { docs ≤ MOST_DOCUMENTS }
+        requires before { before ≤ MOST_POSTINGS }
         ensures empty { IfOk result (λ gathered. gathered_of gathered ≡ Ok []) }
         ensures docs { IfOk result (λ gathered. gathered.docs ≡ docs) }
         ensures before { IfOk result (λ gathered. gathered.before ≡ before) }

@@ -7,6 +7,7 @@ ghost use Rattle.ciff_read.specs.Private.Places.{message_in, ReadsList, GathersF
 ghost use Rattle.ciff_read.specs.Reading.{list_at};
 ghost use Rattle.ciff_read.specs.Refusals.{Answers, Fails};
 ghost use Rattle.ciff_read.specs.Seen.{is_seen};
+ghost use Rattle.jass_base.specs.declared.limits.TheConstants.{MOST_DOCUMENTS, MOST_POSTINGS};
 
 use crate::body::Body;
 use crate::gathered::Gathered;
@@ -39,12 +40,12 @@ pub fn read_list<'a>(
     terms: &mut IndexSet<&'a str>,
 ) -> Result<PostingsList, CiffFault>
     requires within { body.end ≤ length bytes.now }
-    requires docs { docs ≤ 2 ^ 26 }
-    requires before { before ≤ 2 ^ 29 }
+    requires docs { docs ≤ MOST_DOCUMENTS }
+    requires before { before ≤ MOST_POSTINGS }
     ensures new { IfOk result (λ list. is_seen list.term (map (λ t. t.now) terms.old.keys) ≡ false) }
     ensures terms { IfOk result (λ list. map (λ t. t.now) terms.new.keys
         ≡ map (λ t. t.now) terms.old.keys ++ list.term ∷ []) }
-    ensures few { IfOk result (λ list. before + length list.postings ≤ 2 ^ 29) }
+    ensures few { IfOk result (λ list. before + length list.postings ≤ MOST_POSTINGS) }
     ensures below { IfOk result (HasDocsBelow docs) }
     ensures exact { Answers list_data result
         (list_at docs before (map (λ t. t.now) terms.old.keys) at (message_in bytes.now body)) }
@@ -76,8 +77,8 @@ pub fn walk_one<'a>(
     before: u64,
 ) -> Result<WalkedList<'a>, CiffFault>
     requires within { body.end ≤ length bytes.now }
-    requires docs { docs ≤ 2 ^ 26 }
-    requires before { before ≤ 2 ^ 29 }
+    requires docs { docs ≤ MOST_DOCUMENTS }
+    requires before { before ≤ MOST_POSTINGS }
     ensures walked { IfOk result (λ list. (terms : List (List ℕ))
         → list_at docs before terms at (message_in bytes.now body) ≡ finished (is_seen list.term.now terms) at list) }
     ensures refused { IfErr result (λ fault. (terms : List (List ℕ))

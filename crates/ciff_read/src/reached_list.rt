@@ -7,6 +7,7 @@ ghost use Rattle.ciff_read.specs.Private.Reached.{ListTold};
 ghost use Rattle.ciff_read.specs.Refusals.{IsPlain};
 ghost use Rattle.ciff_read.specs.Seen.{is_seen};
 ghost use Rattle.ciff_read.specs.Window.{StaysShown};
+ghost use Rattle.jass_base.specs.declared.limits.TheConstants.{MOST_DOCUMENTS, MOST_POSTINGS};
 
 use crate::kept_lists::KeptLists;
 use crate::laws::{messages_move, refusals_are_near};
@@ -33,13 +34,13 @@ pub fn reach_list<C: Cabinet>(
     kept: &KeptLists,
 ) -> Result<(PostingsList, u64), CiffFault>
     requires at { at ≤ 2 ^ 32 }
-    requires docs { docs ≤ 2 ^ 26 }
-    requires before { before ≤ 2 ^ 29 }
+    requires docs { docs ≤ MOST_DOCUMENTS }
+    requires before { before ≤ MOST_POSTINGS }
     ensures near { IfOk result (λ x. x.1 ≤ 2 ^ 32) }
     ensures behind { IfOk result (λ x. at < x.1) }
     ensures plain { IfErr result IsPlain }
     ensures new { IfOk result (λ x. is_seen x.0.term (terms_kept (kept_in kept.now)) ≡ false) }
-    ensures few { IfOk result (λ x. before + length x.0.postings ≤ 2 ^ 29) }
+    ensures few { IfOk result (λ x. before + length x.0.postings ≤ MOST_POSTINGS) }
     ensures below { IfOk result (λ x. HasDocsBelow docs x.0) }
     ensures shown { StaysShown (C.told files.old) name.now window.old window.new }
     ensures exact { ListTold (C.told files.old) name.now window.old docs before kept.now at result }

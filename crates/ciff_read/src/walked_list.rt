@@ -3,6 +3,7 @@ ghost use Rattle.jass_base.specs.CiffViews.{list_data};
 ghost use Rattle.jass_base.specs.Lists.{HasDocsBelow};
 ghost use Rattle.ciff_read.specs.Private.Finishing.{finished};
 ghost use Rattle.ciff_read.specs.Refusals.{Answers};
+ghost use Rattle.jass_base.specs.declared.limits.TheConstants.{MOST_POSTINGS};
 
 use crate::gathered::Gathered;
 use crate::refusal::{CiffFault, CiffWhy, refused};
@@ -26,7 +27,7 @@ impl<'a> WalkedList<'a> {
         ensures exact { Answers list_data result (finished (not is_new) at self.entry) }
         ensures new { OnOk result (is_new ≡ true) }
         ensures term { IfOk result (λ list. list.term ≡ self.entry.term.now) }
-        ensures few { IfOk result (λ list. self.entry.gathered.before + length list.postings ≤ 2 ^ 29) }
+        ensures few { IfOk result (λ list. self.entry.gathered.before + length list.postings ≤ MOST_POSTINGS) }
         ensures below { IfOk result (HasDocsBelow self.entry.gathered.docs) }
     {
         let WalkedList {

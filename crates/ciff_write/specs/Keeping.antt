@@ -6,6 +6,7 @@ use Rattle.jass_base.specs.declared.collection.Collection.{Collection}
 use Rattle.jass_base.specs.Ciff.{CollectionData, ListData, FitsHeader, FitsList, FitsDoc, postings_count}
 use Rattle.jass_base.specs.CiffText.{canonical_ciff}
 use Rattle.jass_base.specs.CiffViews.{collection_data}
+use Rattle.jass_base.specs.declared.limits.TheConstants.{MOST_POSTINGS}
 
 -- the numbers, texts, documents and lists are in the ranges and limits of the format, and the file ends by place 2^32
 pub record KeepsLimits (c : CollectionData) : Type 0 where
@@ -14,11 +15,11 @@ pub record KeepsLimits (c : CollectionData) : Type 0 where
   pub lists : All (FitsList (length c.docs)) c.lists
   pub docs : All FitsDoc c.docs
   pub terms_differ : IsDistinct bytes_eq (map (λ (l : ListData). l.term) c.lists)
-  pub few_postings : postings_count c.lists ≤ 2 ^ 29
+  pub few_postings : postings_count c.lists ≤ MOST_POSTINGS
   pub short : length (canonical_ciff c) ≤ 2 ^ 32
 
 -- what the fields of a Collection don't say of it: there are eight bytes of the average (as in their array), and the limits of the whole file
 pub record IsWithinFile (c : Collection) : Type 0 where
   pub average : length c.header.average ≡ 8
-  pub few_postings : postings_count (collection_data c).lists ≤ 2 ^ 29
+  pub few_postings : postings_count (collection_data c).lists ≤ MOST_POSTINGS
   pub short : length (canonical_ciff (collection_data c)) ≤ 2 ^ 32

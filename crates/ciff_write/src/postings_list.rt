@@ -6,6 +6,7 @@ ghost use Rattle.jass_base.specs.CiffText.{sized, number_spelling, postings_spel
 ghost use Rattle.jass_base.specs.CiffViews.{list_data};
 ghost use Rattle.jass_base.specs.declared.postings_list.PostingsList.{PostingsList};
 ghost use Rattle.gathered_text.specs.Gathering.{Gathers};
+ghost use Rattle.jass_base.specs.declared.limits.TheConstants.{MOST_DOCUMENTS};
 
 use crate::gather::{put_number, put_size, put_text};
 use crate::lengths::{number_len, postings_len, text_len};
@@ -25,7 +26,7 @@ pub fn put_lists<S: Sink>(
     buffer: &mut Buffer,
     lists: &[PostingsList],
 ) -> Result<(), WriteFault>
-    requires { All (λ (l : PostingsList). length l.postings ≤ 2 ^ 26) lists.now }
+    requires { All (λ (l : PostingsList). length l.postings ≤ MOST_DOCUMENTS) lists.now }
     ensures { Gathers S.written S.faults S.rest out.old out.new buffer.old buffer.new
         (flat_map (λ (l : PostingsList). sized (list_body (list_data l))) lists.now) result }
 {
@@ -41,7 +42,7 @@ fn put_list<S: Sink>(
     buffer: &mut Buffer,
     list: &PostingsList,
 ) -> Result<(), WriteFault>
-    requires { length list.now.postings ≤ 2 ^ 26 }
+    requires { length list.now.postings ≤ MOST_DOCUMENTS }
     ensures { Gathers S.written S.faults S.rest out.old out.new buffer.old buffer.new
         (sized (list_body (list_data list.now))) result }
 {
@@ -54,7 +55,7 @@ fn put_list<S: Sink>(
 
 /// The bytes of the body of a postings list.
 fn list_len(list: &PostingsList) -> u64
-    requires { length list.now.postings ≤ 2 ^ 26 }
+    requires { length list.now.postings ≤ MOST_DOCUMENTS }
     ensures { result ≡ length (list_body (list_data list.now)) }
 {
     let counts = number_len(list.df) + number_len(list.cf);

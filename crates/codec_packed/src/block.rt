@@ -5,6 +5,7 @@ ghost use Rattle.lane_kernels.specs.Width.{least_width};
 ghost use Rattle.codec_packed.specs.Giving.{AreFrom};
 ghost use Rattle.codec_packed.specs.Packing.{packed_block};
 ghost use Rattle.codec_packed.specs.Private.Steps.{ReadsBlock};
+ghost use Rattle.jass_base.specs.declared.limits.TheConstants.{MOST_DOCUMENTS};
 
 use crate::laws::blocks_keep_their_gaps;
 use jass_base::{NoMemory, PayloadFault, Row};
@@ -19,7 +20,7 @@ const MOST_BYTES: usize = 513;
 /// The gaps of 128 documents, the first at least `least`.
 pub(crate) fn block_gaps(docs: &[u32], least: u32) -> [u32; 128]
     requires count { length docs.now ≡ 128 }
-    requires rising { AreFrom (2 ^ 26) least docs.now }
+    requires rising { AreFrom MOST_DOCUMENTS least docs.now }
     ensures { result ≡ gaps_from least docs.now }
 {
     let mut gaps = [0; 128];
@@ -34,7 +35,7 @@ pub(crate) fn block_gaps(docs: &[u32], least: u32) -> [u32; 128]
 /// Appends the block of 128 documents, or nothing where memory is refused.
 pub(crate) fn put_block(docs: &[u32], least: u32, out: &mut Row<u8>) -> Result<(), NoMemory>
     requires count { length docs.now ≡ 128 }
-    requires rising { AreFrom (2 ^ 26) least docs.now }
+    requires rising { AreFrom MOST_DOCUMENTS least docs.now }
     ensures ok { OnOk result (out.new ≡ out.old ++ packed_block (gaps_from least docs.now)) }
     ensures err { OnErr result (out.new ≡ out.old) }
 {
@@ -50,7 +51,7 @@ pub(crate) fn put_block(docs: &[u32], least: u32, out: &mut Row<u8>) -> Result<(
 /// The number of bytes of the block of 128 documents.
 pub(crate) fn block_size(docs: &[u32], least: u32) -> u64
     requires count { length docs.now ≡ 128 }
-    requires rising { AreFrom (2 ^ 26) least docs.now }
+    requires rising { AreFrom MOST_DOCUMENTS least docs.now }
     ensures { result ≡ length (packed_block (gaps_from least docs.now)) }
 {
     blocks_keep_their_gaps();

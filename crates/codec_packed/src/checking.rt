@@ -1,10 +1,11 @@
 // Whether bytes are the payload of a list.
 ghost use Rattle.std.specs.Prelude.{◌≡◌, ◌+◌, ◌*◌, ◌<◌, ◌≤◌, ◌^◌, length, drop};
 ghost use Rattle.codec_packed.specs.Packing.{packed_of};
-ghost use Rattle.jass_base.specs.Codecs.{Checks, IsCount};
+ghost use Rattle.jass_base.specs.Codecs.{Checks, IsDocCount};
 ghost use Rattle.jass_base.specs.Gaps.{Judges};
 ghost use Rattle.codec_packed.specs.Reading.{read_packed};
 ghost use Rattle.codec_packed.specs.Private.Steps.{ChecksBlock};
+ghost use Rattle.jass_base.specs.declared.limits.TheConstants.{MOST_DOCUMENTS};
 
 use crate::block::read_block;
 use crate::laws::payloads_are_read;
@@ -19,7 +20,7 @@ use lane_kernels::{fits128, running128};
 /// or where a gap isn't a shortest varint of at most four bytes. DocRange where a document is `d` or
 /// above. Longer where bytes are left behind the last gap.
 pub fn check(bytes: &[u8], count: u32, d: u32) -> Result<(), PayloadFault>
-    requires { IsCount count d }
+    requires { IsDocCount count d }
     ensures { Checks packed_of read_packed d count bytes.now result }
 {
     payloads_are_read();
@@ -28,7 +29,7 @@ pub fn check(bytes: &[u8], count: u32, d: u32) -> Result<(), PayloadFault>
 
 /// The check, by what is read.
 fn judge(bytes: &[u8], count: u32, d: u32) -> Result<(), PayloadFault>
-    requires { IsCount count d }
+    requires { IsDocCount count d }
     ensures { Judges (read_packed d count bytes.now) result }
 {
     let mut at = 0;
@@ -43,7 +44,7 @@ fn judge(bytes: &[u8], count: u32, d: u32) -> Result<(), PayloadFault>
 fn check_block(bytes: &[u8], at: usize, least: u32, d: u32) -> Result<(usize, u32), PayloadFault>
     requires place { at ≤ length bytes.now }
     requires least { least ≤ d }
-    requires limit { d ≤ 2 ^ 26 }
+    requires limit { d ≤ MOST_DOCUMENTS }
     ensures { ChecksBlock d bytes.now at least result }
 {
     let mut docs = [0; 128];

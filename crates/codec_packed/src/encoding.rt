@@ -4,6 +4,7 @@ ghost use Rattle.jass_base.specs.Codecs.{Encodes};
 ghost use Rattle.jass_base.specs.Gaps.{AreDocs};
 ghost use Rattle.codec_packed.specs.Giving.{AreFrom};
 ghost use Rattle.codec_packed.specs.Packing.{packed_of};
+ghost use Rattle.jass_base.specs.declared.limits.TheConstants.{MOST_DOCUMENTS};
 
 use crate::block::{BLOCK, put_block};
 use crate::tail::put_gaps;
@@ -27,7 +28,7 @@ pub fn encode(docs: &[u32], d: u32, out: &mut Row<u8>) -> Result<(), NoMemory>
 
 /// Appends the payload, or a part of it where memory is refused.
 fn put_docs(docs: &[u32], out: &mut Row<u8>) -> Result<(), NoMemory>
-    requires { AreFrom (2 ^ 26) 0 docs.now }
+    requires { AreFrom MOST_DOCUMENTS 0 docs.now }
     ensures ok { OnOk result (out.new ≡ out.old ++ packed_of docs.now) }
     ensures err { OnErr result (take (length out.old) out.new ≡ out.old) }
 {

@@ -6,6 +6,7 @@ ghost use Rattle.jass_base.specs.Gaps.{AreDocs};
 ghost use Rattle.codec_packed.specs.Packing.{packed_of};
 ghost use Rattle.codec_packed.specs.Reading.{read_packed};
 ghost use Rattle.codec_packed.specs.Private.Steps.{BlockLaws, TailLaws};
+ghost use Rattle.jass_base.specs.declared.limits.TheConstants.{MOST_DOCUMENTS};
 
 use jass_base::laws::spelled_gaps_are_read;
 use lane_kernels::laws::{
@@ -17,7 +18,7 @@ use lane_kernels::laws::{
 pub fn payloads_are_read()
     ensures found { (d count : ℕ) (docs bytes : List ℕ) → AreDocs d docs → length docs ≡ count
         → bytes ≡ packed_of docs → read_packed d count bytes ≡ Ok docs }
-    ensures only { (d count : ℕ) (docs bytes : List ℕ) → 1 ≤ count → d ≤ 2 ^ 26
+    ensures only { (d count : ℕ) (docs bytes : List ℕ) → 1 ≤ count → d ≤ MOST_DOCUMENTS
         → All (λ byte. byte < 256) bytes → read_packed d count bytes ≡ Ok docs
         → AreDocs d docs × (length docs ≡ count) × (bytes ≡ packed_of docs) }
 {

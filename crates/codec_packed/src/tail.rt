@@ -3,13 +3,14 @@ ghost use Rattle.std.specs.Prelude.{◌≡◌, ◌≤◌, ◌^◌, ◌++◌, len
 ghost use Rattle.jass_base.specs.Gaps.{gaps_from, read_gaps, spelled_gaps};
 ghost use Rattle.codec_packed.specs.Giving.{AreFrom};
 ghost use Rattle.codec_packed.specs.Private.Steps.{verdict};
+ghost use Rattle.jass_base.specs.declared.limits.TheConstants.{MOST_DOCUMENTS};
 
 use jass_base::{NoMemory, PayloadFault, Row, gap_length, put_gap, read_gap};
 
 /// Appends the gaps of documents, the first at least `least`, or some of them where memory is
 /// refused.
 pub(crate) fn put_gaps(docs: &[u32], least: u32, out: &mut Row<u8>) -> Result<(), NoMemory>
-    requires { AreFrom (2 ^ 26) least docs.now }
+    requires { AreFrom MOST_DOCUMENTS least docs.now }
     ensures ok { OnOk result (out.new ≡ out.old ++ spelled_gaps (gaps_from least docs.now)) }
     ensures err { OnErr result (take (length out.old) out.new ≡ out.old) }
 {
@@ -23,7 +24,7 @@ pub(crate) fn put_gaps(docs: &[u32], least: u32, out: &mut Row<u8>) -> Result<()
 
 /// The number of bytes of the gaps of documents, the first at least `least`.
 pub(crate) fn gaps_size(docs: &[u32], least: u32) -> u64
-    requires { AreFrom (2 ^ 26) least docs.now }
+    requires { AreFrom MOST_DOCUMENTS least docs.now }
     ensures { result ≡ length (spelled_gaps (gaps_from least docs.now)) }
 {
     let mut size = 0;
@@ -46,7 +47,7 @@ pub(crate) fn check_gaps(
 ) -> Result<(), PayloadFault>
     requires place { at ≤ length bytes.now }
     requires least { least ≤ d }
-    requires limit { d ≤ 2 ^ 26 }
+    requires limit { d ≤ MOST_DOCUMENTS }
     ensures { result ≡ verdict (read_gaps d least count (drop at bytes.now)) }
 {
     let mut place = at;

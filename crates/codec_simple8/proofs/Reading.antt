@@ -125,20 +125,20 @@ walk_end whole d bytes at left least w done all =
     w.whole_is ∙ ap (λ r. r >>= with_front w.front) (read_end w.n d least left (drop at bytes) done ∙ ap nothing_more t)
 
 -- the sum and the number of a word's gaps
-pub word_behind : (least word sum_is : ℕ) → sum_is ≡ sum (fields (width_of (word % 16)) (count_of (word % 16)) (word / 16)) → least + (sum_is + count_of (word % 16)) ≡ least_behind least (gaps_in word)
+pub word_behind : (least word selector total : ℕ) → selector ≡ word % 16 → total ≡ sum (fields (width_of selector) (count_of selector) (word / 16)) → least + (total + count_of selector) ≡ least_behind least (gaps_in word)
 unfolding gaps_in
-word_behind least word sum_is is =
-    let total : sum (gaps_in word) ≡ sum_is = sym is in
-    omega (arith, total, length-gaps_in word)
+word_behind least word selector total its is =
+    let sum_is : total ≡ sum (gaps_in word) = is ∙ ap (λ s. sum (fields (width_of s) (count_of s) (word / 16))) its in
+    omega (arith, sum_is, ap count_of its, length-gaps_in word)
 
 -- where a word has no more gaps than are left
-pub few_gaps : (left : ℕ) (bytes : List ℕ) (word gaps : ℕ) → word ≡ word_in bytes → gaps ≡ count_of (word % 16) → gaps ≤ left → count_of (word_in bytes % 16) ≤ left
-few_gaps left bytes word gaps is many few = subst (λ word. count_of (word % 16) ≤ left) is (omega (arith, many, few))
+pub few_gaps : (left : ℕ) (bytes : List ℕ) (word selector gaps : ℕ) → word ≡ word_in bytes → selector ≡ word % 16 → gaps ≡ count_of selector → gaps ≤ left → count_of (word_in bytes % 16) ≤ left
+few_gaps left bytes word selector gaps is its many few = subst (λ word. count_of (word % 16) ≤ left) is (omega (arith, ap count_of its, many, few))
 
 -- the least document behind a word
-pub least_after : (least : ℕ) (bytes : List ℕ) (word total gaps : ℕ) → word ≡ word_in bytes → total ≡ sum (fields (width_of (word % 16)) (count_of (word % 16)) (word / 16)) → gaps ≡ count_of (word % 16)
+pub least_after : (least : ℕ) (bytes : List ℕ) (word selector total gaps : ℕ) → word ≡ word_in bytes → selector ≡ word % 16 → total ≡ sum (fields (width_of selector) (count_of selector) (word / 16)) → gaps ≡ count_of selector
     → least + (total + gaps) ≡ least_behind least (gaps_in (word_in bytes))
-least_after least bytes word total gaps is sum_is many = ap (λ n. least + (total + n)) many ∙ word_behind least word total sum_is ∙ ap (λ word. least_behind least (gaps_in word)) is
+least_after least bytes word selector total gaps is its sum_is many = ap (λ n. least + (total + n)) many ∙ word_behind least word selector total its sum_is ∙ ap (λ word. least_behind least (gaps_in word)) is
 
 -- ---- what was read
 

@@ -1,12 +1,14 @@
 ghost use Rattle.std.specs.Prelude.{◌≡◌, ◌<◌, ◌≤◌, ◌^◌};
-ghost use Rattle.jass_base.specs.Codecs.{Checks, IsCount};
+ghost use Rattle.jass_base.specs.Codecs.{Checks, IsDocCount};
 ghost use Rattle.jass_base.specs.Gaps.{Judges};
 ghost use Rattle.codec_simple8.specs.Simple8.{simple8_of, read_simple8, read_words};
+ghost use Rattle.jass_base.specs.declared.limits.TheConstants.{MOST_DOCUMENTS};
 
 use crate::laws::payloads_are_read;
+use crate::selector::Selector;
 use crate::spelling::is_spelling;
 use crate::sums::sum_gaps;
-use crate::word::{count_at, word_at};
+use crate::word::word_at;
 use jass_base::PayloadFault;
 
 /// Ok where the bytes are the payload of a list of `count` documents below `d`; else the first
@@ -14,7 +16,7 @@ use jass_base::PayloadFault;
 /// gaps than are left, DocRange where a document is `d` or above. Then Longer where bytes are left,
 /// and Shape where they aren't the one spelling of the gaps that were read.
 pub fn check(bytes: &[u8], count: u32, d: u32) -> Result<(), PayloadFault>
-    requires { IsCount count d }
+    requires { IsDocCount count d }
     ensures { Checks simple8_of read_simple8 d count bytes.now result }
 {
     payloads_are_read();
@@ -23,7 +25,7 @@ pub fn check(bytes: &[u8], count: u32, d: u32) -> Result<(), PayloadFault>
 
 /// The check, by what is read.
 fn judge(bytes: &[u8], count: u32, d: u32) -> Result<(), PayloadFault>
-    requires { IsCount count d }
+    requires { IsDocCount count d }
     ensures { Judges (read_simple8 d count bytes.now) result }
 {
     match walk(bytes, count, d) {
@@ -39,7 +41,7 @@ fn judge(bytes: &[u8], count: u32, d: u32) -> Result<(), PayloadFault>
 
 /// The faults up to Longer.
 fn walk(bytes: &[u8], count: u32, d: u32) -> Result<(), PayloadFault>
-    requires { d ≤ 2 ^ 26 }
+    requires { d ≤ MOST_DOCUMENTS }
     ensures { Judges (read_words count d 0 count bytes.now) result }
 {
     let mut at = 0;
@@ -50,8 +52,8 @@ fn walk(bytes: &[u8], count: u32, d: u32) -> Result<(), PayloadFault>
             return Err(PayloadFault::Cut);
         }
         let word = word_at(bytes, at);
-        let selector = (word % 16) as usize;
-        let gaps = count_at(selector) as u32;
+        let selector = Selector::of(word);
+        let gaps = selector.count() as u32;
         if gaps > left {
             return Err(PayloadFault::Shape);
         }

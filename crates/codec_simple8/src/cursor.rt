@@ -4,7 +4,8 @@ ghost use Rattle.codec_simple8.specs.Cursor.{Gives, Moved};
 ghost use Rattle.codec_simple8.specs.Simple8.{simple8_of};
 
 use crate::rows::put_fields;
-use crate::word::{count_at, word_at};
+use crate::selector::Selector;
+use crate::word::word_at;
 
 /// The most documents of a word whose gaps have bits.
 const MOST: usize = 60;
@@ -84,11 +85,11 @@ impl Cursor {
         ensures more { filled < result }
     {
         let word = word_at(bytes, self.at);
-        let selector = (word % 16) as usize;
-        let count = count_at(selector);
+        let selector = Selector::of(word);
+        let count = selector.count();
         self.at += 8;
         self.left -= count as u32;
-        if selector < 2 {
+        if selector.number < 2 {
             self.zeros = count as u32;
             return self.put_zeros(out, filled);
         }

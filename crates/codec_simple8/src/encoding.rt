@@ -2,9 +2,10 @@ ghost use Rattle.std.specs.Prelude.{◌≡◌, ℕ, ◌+◌, ◌<◌, ◌≤◌,
 ghost use Rattle.jass_base.specs.Codecs.{Encodes};
 ghost use Rattle.jass_base.specs.Gaps.{AreDocs, gaps_of};
 ghost use Rattle.codec_simple8.specs.Simple8.{count_of, selector_of, simple8_of, takes, word_of};
+ghost use Rattle.jass_base.specs.declared.limits.TheConstants.{MOST_DOCUMENTS};
 
 use crate::limits::{limit_behind, selector_within};
-use crate::word::{count_at, width_at};
+use crate::selector::Selector;
 use jass_base::{NoMemory, Row};
 
 /// The most gaps of a word.
@@ -18,7 +19,7 @@ pub fn length(docs: &[u32], d: u32) -> u64
     let mut words = 0u64;
     let mut at = 0;
     while at < docs.len() {
-        at += count_at(selector_at(docs, at));
+        at += selector_at(docs, at).count();
         words += 1;
     }
     8 * words
@@ -37,7 +38,7 @@ pub fn length_below(docs: &[u32], d: u32, limit: u64) -> Option<u64>
         if bytes >= limit {
             return None;
         }
-        at += count_at(selector_at(docs, at));
+        at += selector_at(docs, at).count();
     }
     Some(bytes)
 }
@@ -60,18 +61,17 @@ pub fn encode(docs: &[u32], d: u32, out: &mut Row<u8>) -> Result<(), NoMemory>
                 return Err(NoMemory);
             }
         }
-        at += count_at(selector);
+        at += selector.count();
     }
     Ok(())
 }
 
 /// The selector of the word with the gaps of the documents from a place on.
-fn selector_at(docs: &[u32], at: usize) -> usize
+fn selector_at(docs: &[u32], at: usize) -> Selector
     requires docs { (d : ℕ) × AreDocs d docs.now }
     requires within { at < length docs.now }
-    ensures selector { result ≡ selector_of (drop at (gaps_of docs.now)) }
-    ensures few { at + count_of result ≤ length docs.now }
-    ensures selectors { result < 16 }
+    ensures selector { result.number ≡ selector_of (drop at (gaps_of docs.now)) }
+    ensures few { at + count_of result.number ≤ length docs.now }
 {
     selector_within(fitting(docs, at))
 }
@@ -100,21 +100,20 @@ fn fitting(docs: &[u32], at: usize) -> usize
 }
 
 /// The word of a selector that takes the gaps of the documents from a place on.
-fn word_from(docs: &[u32], at: usize, selector: usize) -> u64
+fn word_from(docs: &[u32], at: usize, selector: Selector) -> u64
     requires docs { (d : ℕ) × AreDocs d docs.now }
-    requires selector { selector ≡ selector_of (drop at (gaps_of docs.now)) }
-    requires few { at + count_of selector ≤ length docs.now }
-    requires selectors { selector < 16 }
-    ensures { result ≡ word_of selector (drop at (gaps_of docs.now)) }
+    requires selector { selector.number ≡ selector_of (drop at (gaps_of docs.now)) }
+    requires few { at + count_of selector.number ≤ length docs.now }
+    ensures { result ≡ word_of selector.number (drop at (gaps_of docs.now)) }
 {
-    let width = width_at(selector);
+    let width = selector.width();
     let mut values = 0u64;
-    let mut i = count_at(selector);
+    let mut i = selector.count();
     while i > 0 {
         i -= 1;
         values = (values << width) | u64::from(gap_at(docs, at + i));
     }
-    (values << 4) | selector as u64
+    (values << 4) | selector.number as u64
 }
 
 #[inline(always)]
@@ -122,7 +121,7 @@ fn gap_at(docs: &[u32], at: usize) -> u32
     requires docs { (d : ℕ) × AreDocs d docs.now }
     requires within { at < length docs.now }
     ensures gap { result ≡ slice_index (gaps_of docs.now) at }
-    ensures small { result < 2 ^ 26 }
+    ensures small { result < MOST_DOCUMENTS }
 {
     if at == 0 {
         docs[0]
@@ -138,7 +137,7 @@ fn later_gap(docs: &[u32], at: usize) -> u32
     requires later { 0 < at }
     requires within { at < length docs.now }
     ensures gap { result ≡ slice_index (gaps_of docs.now) at }
-    ensures small { result < 2 ^ 26 }
+    ensures small { result < MOST_DOCUMENTS }
 {
     docs[at] - docs[at - 1] - 1
 }

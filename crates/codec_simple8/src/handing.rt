@@ -1,19 +1,21 @@
 ghost use Rattle.std.specs.Prelude.{◌≡◌, ℕ, ◌≤◌, ◌^◌, List, length, take, IfOk, Ok};
-ghost use Rattle.jass_base.specs.Codecs.{ChecksInto, IsCount};
+ghost use Rattle.jass_base.specs.Codecs.{ChecksInto, IsDocCount};
 ghost use Rattle.jass_base.specs.Gaps.{Judges, docs_from};
 ghost use Rattle.codec_simple8.specs.Simple8.{simple8_of, read_simple8, read_words};
+ghost use Rattle.jass_base.specs.declared.limits.TheConstants.{MOST_DOCUMENTS};
 
 use crate::laws::payloads_are_read;
+use crate::selector::Selector;
 use crate::spelling::is_spelling;
 use crate::sums::sum_gaps;
 use crate::values::put_gaps;
-use crate::word::{count_at, word_at};
+use crate::word::word_at;
 use jass_base::PayloadFault;
 
 /// The answer of `check`, and where it is Ok, the documents at the front of `out`. What stands behind
 /// them there, or all of it where there is a fault, is left open.
 pub fn check_into(bytes: &[u8], count: u32, d: u32, out: &mut [u32]) -> Result<(), PayloadFault>
-    requires count { IsCount count d }
+    requires count { IsDocCount count d }
     requires room { count ≤ length out.old }
     ensures { ChecksInto simple8_of read_simple8 d count bytes.now out.old out.new result }
 {
@@ -24,7 +26,7 @@ pub fn check_into(bytes: &[u8], count: u32, d: u32, out: &mut [u32]) -> Result<(
 /// The same, by what is read. It is a call, so that its loops have registers of their own.
 #[inline(never)]
 fn hand_out(bytes: &[u8], count: u32, d: u32, out: &mut [u32]) -> Result<(), PayloadFault>
-    requires count { IsCount count d }
+    requires count { IsDocCount count d }
     requires room { count ≤ length out.old }
     ensures judged { Judges (read_simple8 d count bytes.now) result }
     ensures docs { IfOk result (λ _. read_simple8 d count bytes.now ≡ Ok (take count out.new)) }
@@ -43,7 +45,7 @@ fn hand_out(bytes: &[u8], count: u32, d: u32, out: &mut [u32]) -> Result<(), Pay
 
 /// The faults up to Longer, and the documents that the words have.
 fn hand_out_words(bytes: &[u8], count: u32, d: u32, out: &mut [u32]) -> Result<(), PayloadFault>
-    requires limit { d ≤ 2 ^ 26 }
+    requires limit { d ≤ MOST_DOCUMENTS }
     requires room { count ≤ length out.old }
     ensures judged { Judges (read_words count d 0 count bytes.now) result }
     ensures docs { IfOk result (λ _. (gaps : List ℕ) → read_words count d 0 count bytes.now ≡ Ok gaps
@@ -58,8 +60,8 @@ fn hand_out_words(bytes: &[u8], count: u32, d: u32, out: &mut [u32]) -> Result<(
             return Err(PayloadFault::Cut);
         }
         let word = word_at(bytes, at);
-        let selector = (word % 16) as usize;
-        let gaps = count_at(selector) as u32;
+        let selector = Selector::of(word);
+        let gaps = selector.count() as u32;
         if gaps > left {
             return Err(PayloadFault::Shape);
         }

@@ -10,6 +10,7 @@ mod handing;
 pub mod laws;
 mod limits;
 mod rows;
+mod selector;
 mod spelling;
 mod sums;
 #[cfg(test)]

@@ -2,6 +2,8 @@
 ghost use Rattle.std.specs.Prelude.{◌≡◌, ℕ, ◌+◌, ◌<◌, ◌≤◌, ◌^◌};
 ghost use Rattle.codec_simple8.specs.Simple8.{count_of, width_of};
 
+use crate::selector::Selector;
+
 /// The least number that no width holds of which a word has more than 1, 2, .. 239 gaps.
 const LIMITS: [u32; 239] = [
     0x40000000, 0x100000, 0x8000, 0x1000, 0x400, 0x100, 0x80, 0x40, 0x40, 0x20, 0x20, 0x10, 0x10,
@@ -44,12 +46,13 @@ pub(crate) fn limit_behind(seen: usize) -> u32
 
 /// The least selector whose word has no more than `seen` gaps.
 #[inline(always)]
-pub(crate) fn selector_within(seen: usize) -> usize
+pub(crate) fn selector_within(seen: usize) -> Selector
     requires some { 1 ≤ seen }
     requires most { seen ≤ 240 }
-    ensures small { result < 16 }
-    ensures few { count_of result ≤ seen }
-    ensures least { (s : ℕ) → s < result → seen < count_of s }
+    ensures few { count_of result.number ≤ seen }
+    ensures least { (s : ℕ) → s < result.number → seen < count_of s }
 {
-    SELECTORS[seen - 1] as usize
+    Selector {
+        number: SELECTORS[seen - 1] as usize,
+    }
 }

@@ -2,9 +2,10 @@
 ghost use Rattle.std.specs.Prelude.{◌≡◌, ℕ, ◌+◌, ◌*◌, ◌/◌, ◌<◌, ◌≤◌, ◌^◌, ◌++◌, All, [], ◌∷◌, length, take};
 ghost use Rattle.jass_base.specs.Gaps.{docs_from};
 ghost use Rattle.codec_simple8.specs.Simple8.{count_of, fields, least_behind, width_of};
+ghost use Rattle.jass_base.specs.declared.limits.TheConstants.{MOST_DOCUMENTS};
 
+use crate::selector::Selector;
 use crate::values::put_gaps;
-use crate::word::{count_at, width_at};
 use std::simd::prelude::*;
 
 /// Writes the documents of a word's gaps behind the first `filled` of a block, the first document
@@ -12,29 +13,29 @@ use std::simd::prelude::*;
 #[inline(always)]
 pub(crate) fn put_fields(
     values: u64,
-    selector: usize,
+    selector: Selector,
     least: u32,
     out: &mut [u32],
     filled: usize,
 ) -> u32
-    requires from { 2 ≤ selector }
-    requires to { selector < 16 }
+    requires from { 2 ≤ selector.number }
     requires room { filled + 60 ≤ length out.old }
-    requires least { least ≤ 2 ^ 26 }
-    requires below { All (λ doc. doc < 2 ^ 26)
-        (docs_from least (fields (width_of selector) (count_of selector) values)) }
-    ensures docs { take (filled + count_of selector) out.new
-        ≡ take filled out.old ++ docs_from least (fields (width_of selector) (count_of selector) values) }
-    ensures next { result ≡ least_behind least (fields (width_of selector) (count_of selector) values) }
+    requires least { least ≤ MOST_DOCUMENTS }
+    requires below { All (λ doc. doc < MOST_DOCUMENTS)
+        (docs_from least (fields (width_of selector.number) (count_of selector.number) values)) }
+    ensures docs { take (filled + count_of selector.number) out.new ≡ take filled out.old
+        ++ docs_from least (fields (width_of selector.number) (count_of selector.number) values) }
+    ensures next { result
+        ≡ least_behind least (fields (width_of selector.number) (count_of selector.number) values) }
     ensures length { length out.new ≡ length out.old }
 {
-    if selector == 15 {
+    if selector.number == 15 {
         return put_gaps(values, selector, least, out, filled);
     }
     put_rows(
         values,
-        count_at(selector),
-        width_at(selector),
+        selector.count(),
+        selector.width(),
         least,
         out,
         filled,
@@ -55,8 +56,8 @@ fn put_rows(
     requires count { count ≤ 60 }
     requires width { width ≤ 30 }
     requires room { filled + 4 * ((count + 3) / 4) ≤ length out.old }
-    requires least { least ≤ 2 ^ 26 }
-    requires below { All (λ doc. doc < 2 ^ 26) (docs_from least (fields width count values)) }
+    requires least { least ≤ MOST_DOCUMENTS }
+    requires below { All (λ doc. doc < MOST_DOCUMENTS) (docs_from least (fields width count values)) }
     ensures docs { take (filled + count) out.new ≡ take filled out.old ++ docs_from least (fields width count values) }
     ensures next { result ≡ least_behind least (fields width count values) }
     ensures length { length out.new ≡ length out.old }

@@ -6,7 +6,8 @@ ghost use Rattle.std.specs.Str.{bytes_eq};
 ghost use Rattle.codec_simple8.specs.Simple8.{count_of, fields, spelled_words, width_of, word_in};
 ghost use Rattle.codec_simple8.specs.Private.Words.{AreWords, bytes_gaps, spells_them};
 
-use crate::word::{count_at, lowest_at, width_at, word_at};
+use crate::selector::Selector;
+use crate::word::word_at;
 
 /// Whether the words of bytes are those that their gaps are spelled with.
 pub(crate) fn is_spelling(bytes: &[u8], count: u32) -> bool
@@ -19,7 +20,7 @@ pub(crate) fn is_spelling(bytes: &[u8], count: u32) -> bool
         if !spells_them(bytes, at, left) {
             return false;
         }
-        left -= count_at((word_at(bytes, at) % 16) as usize) as u32;
+        left -= Selector::of(word_at(bytes, at)).count() as u32;
         at += 8;
     }
     true
@@ -32,16 +33,17 @@ fn spells_them(bytes: &[u8], at: usize, left: u32) -> bool
     ensures { result ≡ spells_them (word_in (drop at bytes.now)) (bytes_gaps (drop at bytes.now)) }
 {
     let word = word_at(bytes, at);
-    let selector = (word % 16) as usize;
-    let used = width_at(selector) * count_at(selector) as u32;
+    let selector = Selector::of(word);
+    let used = selector.width() * selector.count() as u32;
     if (word / 16) >> used != 0 {
         return false;
     }
-    if selector == 0 {
+    if selector.number == 0 {
         return true;
     }
-    let more = count_at(selector - 1);
-    more > left as usize || !are_narrow(bytes, at, more, width_at(selector - 1))
+    let narrower = selector.before();
+    let more = narrower.count();
+    more > left as usize || !are_narrow(bytes, at, more, narrower.width())
 }
 
 /// Whether a width holds each of the next `count` gaps.
@@ -55,8 +57,8 @@ fn are_narrow(bytes: &[u8], at: usize, count: usize, width: u32) -> bool
     let mut left = count;
     while left > 0 {
         let word = word_at(bytes, at);
-        let selector = (word % 16) as usize;
-        let gaps = count_at(selector).min(left);
+        let selector = Selector::of(word);
+        let gaps = selector.count().min(left);
         if !gaps_narrow(word / 16, selector, gaps, width) {
             return false;
         }
@@ -68,18 +70,17 @@ fn are_narrow(bytes: &[u8], at: usize, count: usize, width: u32) -> bool
 
 /// Whether a width holds each of the first `count` gaps of a word.
 #[inline(always)]
-fn gaps_narrow(values: u64, selector: usize, count: usize, width: u32) -> bool
-    requires selector { selector < 16 }
-    requires count { count ≤ count_of selector }
+fn gaps_narrow(values: u64, selector: Selector, count: usize, width: u32) -> bool
+    requires count { count ≤ count_of selector.number }
     requires width { width < 64 }
-    ensures { result ≡ list_all (λ gap. nat_lt gap (2 ^ width)) (fields (width_of selector) count values) }
+    ensures { result ≡ list_all (λ gap. nat_lt gap (2 ^ width)) (fields (width_of selector.number) count values) }
 {
-    let own = width_at(selector);
+    let own = selector.width();
     if own <= width {
         return true;
     }
     let first = values & ((1u64 << (own * count as u32)) - 1);
     // the bits of each gap that the width doesn't hold
-    let high = lowest_at(selector) * ((1u64 << own) - (1u64 << width));
+    let high = selector.lowest() * ((1u64 << own) - (1u64 << width));
     first & high == 0
 }

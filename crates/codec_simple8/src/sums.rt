@@ -2,15 +2,16 @@
 ghost use Rattle.std.specs.Prelude.{◌≡◌, ◌<◌, ◌≤◌, sum};
 ghost use Rattle.codec_simple8.specs.Simple8.{count_of, fields, width_of};
 
+use crate::selector::Selector;
+
 /// The sum of a word's gaps.
 #[inline(always)]
 #[tactic(auto, unfolding(crate::specs::Simple8::count_of, crate::specs::Simple8::width_of))]
-pub(crate) fn sum_gaps(values: u64, selector: usize) -> u64
-    requires { selector < 16 }
-    ensures sum { result ≡ sum (fields (width_of selector) (count_of selector) values) }
+pub(crate) fn sum_gaps(values: u64, selector: Selector) -> u64
+    ensures sum { result ≡ sum (fields (width_of selector.number) (count_of selector.number) values) }
     ensures most { result ≤ values }
 {
-    match selector {
+    match selector.number {
         0 => sum_values(values, 240, 0),
         1 => sum_values(values, 120, 0),
         2 => sum_values(values, 60, 1),

@@ -2,6 +2,9 @@
 ghost use Rattle.std.specs.Prelude.{◌≡◌, ◌+◌, ◌<◌, ◌≤◌, ◌^◌, ◌++◌, All, length, take};
 ghost use Rattle.jass_base.specs.Gaps.{docs_from};
 ghost use Rattle.codec_simple8.specs.Simple8.{count_of, fields, least_behind, width_of};
+ghost use Rattle.jass_base.specs.declared.limits.TheConstants.{MOST_DOCUMENTS};
+
+use crate::selector::Selector;
 
 /// Writes the documents of a word's gaps behind the first `filled` of a block, the first document
 /// at least `least`, and returns the least that may follow.
@@ -9,23 +12,23 @@ ghost use Rattle.codec_simple8.specs.Simple8.{count_of, fields, least_behind, wi
 #[tactic(auto, unfolding(crate::specs::Simple8::count_of, crate::specs::Simple8::width_of))]
 pub(crate) fn put_gaps(
     values: u64,
-    selector: usize,
+    selector: Selector,
     least: u32,
     out: &mut [u32],
     filled: usize,
 ) -> u32
-    requires to { selector < 16 }
-    requires room { filled + count_of selector ≤ length out.old }
-    requires least { least ≤ 2 ^ 26 }
-    requires below { All (λ doc. doc < 2 ^ 26)
-        (docs_from least (fields (width_of selector) (count_of selector) values)) }
-    ensures docs { take (filled + count_of selector) out.new
-        ≡ take filled out.old ++ docs_from least (fields (width_of selector) (count_of selector) values) }
-    ensures next { result ≡ least_behind least (fields (width_of selector) (count_of selector) values) }
+    requires room { filled + count_of selector.number ≤ length out.old }
+    requires least { least ≤ MOST_DOCUMENTS }
+    requires below { All (λ doc. doc < MOST_DOCUMENTS)
+        (docs_from least (fields (width_of selector.number) (count_of selector.number) values)) }
+    ensures docs { take (filled + count_of selector.number) out.new ≡ take filled out.old
+        ++ docs_from least (fields (width_of selector.number) (count_of selector.number) values) }
+    ensures next { result
+        ≡ least_behind least (fields (width_of selector.number) (count_of selector.number) values) }
     ensures length { length out.new ≡ length out.old }
 {
     // Each selector is compiled on its own, so that its count and its shifts are constants.
-    match selector {
+    match selector.number {
         0 => put_values(values, 240, 0, least, out, filled),
         1 => put_values(values, 120, 0, least, out, filled),
         2 => put_values(values, 60, 1, least, out, filled),
@@ -57,8 +60,8 @@ fn put_values(
 ) -> u32
     requires width { width < 64 }
     requires room { filled + count ≤ length out.old }
-    requires least { least ≤ 2 ^ 26 }
-    requires below { All (λ doc. doc < 2 ^ 26) (docs_from least (fields width count values)) }
+    requires least { least ≤ MOST_DOCUMENTS }
+    requires below { All (λ doc. doc < MOST_DOCUMENTS) (docs_from least (fields width count values)) }
     ensures docs { take (filled + count) out.new ≡ take filled out.old ++ docs_from least (fields width count values) }
     ensures next { result ≡ least_behind least (fields width count values) }
     ensures length { length out.new ≡ length out.old }

@@ -142,7 +142,7 @@ impl FrameStore {
     }
 }
 
-/// A row has a slot for each document of a page. It does nothing: a caller learns it by the call.
+/// A law: a row has a slot for each document of a page. The function does nothing: a caller learns it by the call.
 fn a_row_is_whole(row: &[u32; SLOTS])
     ensures { length row.now ≡ 256 }
 {}

@@ -36,8 +36,7 @@ pub fn make_room<S: Sink>(out: &mut S, buffer: &mut Buffer, count: usize) -> Res
     if count <= buffer.room() {
         return Ok(());
     }
-    flush(out, buffer)?;
-    Ok(())
+    flush(out, buffer)
 }
 
 /// Puts bytes behind what was gathered. Those for which the buffer has no room go to the

@@ -13,10 +13,11 @@ use Rattle.impact_segments.specs.Collections.{total_of, weight_in}
 use Rattle.impact_segments.specs.declared.doc_impact.DocImpact.{DocImpact}
 use Rattle.impact_segments.specs.declared.one_list.SegmentsFault.{SegmentsFault}
 use Rattle.impact_segments.specs.declared.one_list.SegmentsFault.TheVariants.{Outside, NoMemory}
+use Rattle.jass_base.specs.declared.limits.TheConstants.{MOST_DOCUMENTS}
 
 -- a list with postings, of documents that have these lengths and so many terms in all
 pub record IsListOf (lengths : List ℕ) (terms : ℕ) (list : PostingsList) : Type 0 where
-  pub few : length lengths ≤ 2 ^ 26
+  pub few : length lengths ≤ MOST_DOCUMENTS
   pub small : All (λ n. n < 2 ^ 31) lengths
   pub total : terms ≡ total_of lengths
   pub some : 1 ≤ length list.postings

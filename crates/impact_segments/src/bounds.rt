@@ -5,6 +5,7 @@ ghost use Rattle.jass_base.specs.Postings.{HasTfInRange};
 ghost use Rattle.jass_base.specs.declared.posting.Posting.{Posting};
 ghost use Rattle.weights.specs.Quantizing.{range_of};
 ghost use Rattle.impact_segments.specs.Bounds.{can_widen, most_tf, weight_at};
+ghost use Rattle.jass_base.specs.declared.limits.TheConstants.{MOST_DOCUMENTS};
 
 use jass_base::Posting;
 use weights::{Range, Rule, idf, saturated};
@@ -47,7 +48,7 @@ pub fn can_widen(
     norms: &[u64],
     ends: Range,
 ) -> bool
-    requires few { length norms.now ≤ 2 ^ 26 }
+    requires few { length norms.now ≤ MOST_DOCUMENTS }
     requires cut { All (λ n. n ≤ 2 ^ 63) norms.now }
     requires ends { ends ≡ range_of norms.now }
     requires some { 1 ≤ count }

@@ -12,6 +12,7 @@ ghost use Rattle.impact_segments.specs.Bounds.{can_widen, most_tf};
 ghost use Rattle.impact_segments.specs.Collections.{index_of, lengths_of, total_of, weights_in, weights_of};
 ghost use Rattle.impact_segments.specs.ListTerms.{AreByTerm, list_term, lists_in_use, widened_by};
 ghost use Rattle.impact_segments.specs.OneList.{EndsLow, norms_in, outside};
+ghost use Rattle.jass_base.specs.declared.limits.TheConstants.{MOST_DOCUMENTS};
 
 use weights::laws::bm25_follows_frequencies;
 
@@ -43,14 +44,14 @@ pub fn widened_lists_have_the_range()
         (lists : List ListData) → All (λ (l : ListData). outside bits (widened_by rule lengths total range lists)
         (weights_in rule lengths total l.postings) ≡ None) lists }
     ensures low { (rule : Rule) (bits : Bits) (lengths : List ℕ) (total : ℕ) (lists : List ListData)
-        → length lengths ≤ 2 ^ 26 → All (FitsList (length lengths)) lists
+        → length lengths ≤ MOST_DOCUMENTS → All (FitsList (length lengths)) lists
         → EndsLow bits (widened_by rule lengths total empty_range lists) }
 {}
 
 /// A list that can't widen a range leaves it as it is, for all that its postings are.
 pub fn lists_inside_leave_the_range()
     ensures { (rule : Rule) (lengths : List ℕ) (total : ℕ) (range : Range) (l : ListData)
-        → length lengths ≤ 2 ^ 26 → FitsList (length lengths) l → 1 ≤ length l.postings
+        → length lengths ≤ MOST_DOCUMENTS → FitsList (length lengths) l → 1 ≤ length l.postings
         → can_widen rule (length lengths) (length l.postings) (most_tf l.postings)
         (range_of (norms_in lengths total)) range ≡ false
         → fold widened range (weights_in rule lengths total l.postings) ≡ range }

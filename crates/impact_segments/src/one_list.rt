@@ -14,6 +14,7 @@ ghost use Rattle.impact_segments.specs.Private.ImpactTable.{AreImpacts};
 ghost use Rattle.impact_segments.specs.ListTerms.{list_segments};
 ghost use Rattle.impact_segments.specs.OneList.{EndsLow, IsListOf, Unmade, nearer_end, norms_in, outside, pairs_in};
 ghost use Rattle.impact_segments.specs.declared.doc_impact.DocImpact.{DocImpact};
+ghost use Rattle.jass_base.specs.declared.limits.TheConstants.{MOST_DOCUMENTS};
 
 use crate::doc_impact::DocImpact;
 use crate::grouping::group_in_place;
@@ -72,7 +73,7 @@ impl<'a> ListRule<'a> {
     }
 
     fn weigh(&self, posting: Posting) -> u64
-        requires few { length self.now.lengths.now ≤ 2 ^ 26 }
+        requires few { length self.now.lengths.now ≤ MOST_DOCUMENTS }
         requires total { 1 ≤ self.now.total }
         requires limit { self.now.rare < 27 * 1024 }
         requires below { posting.doc < length self.now.lengths.now }
@@ -93,7 +94,7 @@ impl<'a> ListRule<'a> {
 
     /// How far the length of a document slows the growth of a weight.
     fn norm(&self, doc: u32) -> u64
-        requires few { length self.now.lengths.now ≤ 2 ^ 26 }
+        requires few { length self.now.lengths.now ≤ MOST_DOCUMENTS }
         requires total { 1 ≤ self.now.total }
         requires below { doc < length self.now.lengths.now }
         ensures { result ≡ min (length_norm (length self.now.lengths.now) self.now.total
@@ -113,7 +114,7 @@ impl<'a> ListRule<'a> {
 /// many terms in all. A caller that reads lists more than once makes the norms once, so that they are
 /// not taken for each posting.
 pub fn length_norms(alloc: Global, total: u64, lengths: &[u32]) -> Result<Vec<u64>, NoMemory>
-    requires few { length lengths.now ≤ 2 ^ 26 }
+    requires few { length lengths.now ≤ MOST_DOCUMENTS }
     requires total { 1 ≤ total }
     ensures { IfOk result (λ norms. norms.items ≡ norms_in lengths.now total) }
 {

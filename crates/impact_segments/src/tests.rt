@@ -230,7 +230,7 @@ fn are_names(names: &[Text]) -> bool {
     }
 }
 
-/// The term without postings is left out.
+/// Whether these are the terms of the index: the one without postings is left out.
 fn are_terms(terms: &[TermSegments]) -> bool {
     match terms {
         [only] => only.term.as_str() == "a" && are_impacts(only.segments.as_slice()),

@@ -7,6 +7,7 @@ ghost use Rattle.jass_base.specs.Postings.{HasTfInRange};
 ghost use Rattle.jass_base.specs.declared.postings_list.PostingsList.{PostingsList};
 ghost use Rattle.impact_segments.specs.Collections.{weight_in};
 ghost use Rattle.impact_segments.specs.Private.Weighed.{lengths_in, total_length, norms_of, list_weights};
+ghost use Rattle.jass_base.specs.declared.limits.TheConstants.{MOST_DOCUMENTS};
 
 use jass_base::{DocRecord, NoMemory, Posting, PostingsList};
 use std::alloc::Global;
@@ -20,7 +21,7 @@ pub(crate) struct Weigher<'a> {
     /// How far each document's length slows the growth of a weight. It is taken once for each
     /// document, and not for each posting.
     norms: Vec<u64>,
-    ghost few_docs: { length docs.now ≤ 2 ^ 26 },
+    ghost few_docs: { length docs.now ≤ MOST_DOCUMENTS },
     ghost norms_are: { norms.items ≡ norms_of docs.now },
 }
 
@@ -30,7 +31,7 @@ impl<'a> Weigher<'a> {
         rule: Rule,
         docs: &'a [DocRecord],
     ) -> Result<Weigher<'a>, NoMemory>
-        requires { length docs.now ≤ 2 ^ 26 }
+        requires { length docs.now ≤ MOST_DOCUMENTS }
         ensures rule { IfOk result (λ w. w.rule ≡ rule) }
         ensures docs { IfOk result (λ w. w.docs.now ≡ docs.now) }
     {
@@ -110,7 +111,7 @@ impl<'a> Weigher<'a> {
 
 /// How far each document's length slows the growth of a weight.
 fn norms_of(alloc: Global, docs: &[DocRecord]) -> Result<Vec<u64>, NoMemory>
-    requires { length docs.now ≤ 2 ^ 26 }
+    requires { length docs.now ≤ MOST_DOCUMENTS }
     ensures { IfOk result (λ norms. norms.items ≡ norms_of docs.now) }
 {
     let count = docs.len() as u32;
@@ -130,7 +131,7 @@ fn norms_of(alloc: Global, docs: &[DocRecord]) -> Result<Vec<u64>, NoMemory>
 
 /// The terms of all documents in all, at least 1.
 fn total_length(docs: &[DocRecord]) -> u64
-    requires { length docs.now ≤ 2 ^ 26 }
+    requires { length docs.now ≤ MOST_DOCUMENTS }
     ensures { result ≡ total_length docs.now }
 {
     let mut total: u64 = 0;

@@ -5,6 +5,7 @@ ghost use Rattle.index_layout.specs.Heads.{HeadData};
 ghost use Rattle.index_file.specs.Payloads.{IsCounted};
 ghost use Rattle.index_file.specs.Private.Sums.{AreSums};
 ghost use Rattle.index_file.specs.Tables.{HasHead, row_head};
+ghost use Rattle.jass_base.specs.declared.limits.TheConstants.{MOST_DOCUMENTS};
 
 use crate::head::read_head;
 use crate::segment::Segment;
@@ -25,9 +26,9 @@ pub(crate) fn read_heads(
 ) -> Result<usize, OpenFault>
     requires from { from ≤ length bytes.now }
     requires few { length bytes.now ≤ 2 ^ 32 }
-    requires docs { docs ≤ 2 ^ 26 }
+    requires docs { docs ≤ MOST_DOCUMENTS }
     requires segments { length segments.old < 2 ^ 32 }
-    requires small { sums.old.postings ≤ 2 ^ 26 * length segments.old }
+    requires small { sums.old.postings ≤ MOST_DOCUMENTS * length segments.old }
     ensures exact { Answers
         (λ end. record { heads = map (row_head bytes.now) (drop (length segments.old) segments.new); end = end }) result
         (read_heads bytes.now docs count 65536 from) }
@@ -37,7 +38,7 @@ pub(crate) fn read_heads(
     ensures there { IfOk result (λ _. All (HasHead bytes.now) (drop (length segments.old) segments.new)) }
     ensures sums { OnOk result ((heads : List HeadData) → AreSums sums.old heads
         → AreSums sums.new (heads ++ map (row_head bytes.now) (drop (length segments.old) segments.new))) }
-    ensures small { OnOk result (sums.new.postings ≤ 2 ^ 26 * length segments.new) }
+    ensures small { OnOk result (sums.new.postings ≤ MOST_DOCUMENTS * length segments.new) }
     ensures end { IfOk result (λ end. end ≤ length bytes.now) }
 {
     let mut at = from;

@@ -4,6 +4,7 @@ ghost use Rattle.index_layout.specs.Refusals.{Answers};
 ghost use Rattle.index_file.specs.Private.Marks.{AreMarks};
 ghost use Rattle.index_file.specs.Payloads.{IsPayloadAt, placed};
 ghost use Rattle.index_file.specs.Tables.{told};
+ghost use Rattle.jass_base.specs.declared.limits.TheConstants.{MOST_DOCUMENTS};
 
 use crate::marks::{mark_docs, mark_payload};
 use crate::segment::Segment;
@@ -24,7 +25,7 @@ pub(crate) fn check_payload(
 ) -> Result<(), OpenFault>
     requires at { at ≤ length bytes.now }
     requires few { length bytes.now ≤ 2 ^ 32 }
-    requires docs { docs ≤ 2 ^ 26 }
+    requires docs { docs ≤ MOST_DOCUMENTS }
     requires counted { (1 ≤ head.count) × (head.count ≤ docs) }
     ensures exact { Answers (λ _. at + head.size) result (payload_end bytes.now docs [] (told head) at) }
     ensures place { IfOk result (λ _. at < 2 ^ 32) }
@@ -53,7 +54,7 @@ fn check_into_block(
 ) -> Result<(), OpenFault>
     requires at { at ≤ length bytes.now }
     requires few { length bytes.now ≤ 2 ^ 32 }
-    requires docs { docs ≤ 2 ^ 26 }
+    requires docs { docs ≤ MOST_DOCUMENTS }
     requires counted { (1 ≤ head.count) × (head.count ≤ docs) }
     requires room { head.count ≤ 4096 }
     ensures exact { Answers (λ _. at + head.size) result (payload_end bytes.now docs [] (told head) at) }
@@ -86,7 +87,7 @@ pub(crate) fn check_apart(
 ) -> Result<(), OpenFault>
     requires at { at ≤ length bytes.now }
     requires few { length bytes.now ≤ 2 ^ 32 }
-    requires docs { docs ≤ 2 ^ 26 }
+    requires docs { docs ≤ MOST_DOCUMENTS }
     requires counted { (1 ≤ head.count) × (head.count ≤ docs) }
     requires marks { docs ≤ length marks.old }
     ensures exact { (earlier : List ℕ) → AreMarks now earlier marks.old
@@ -118,7 +119,7 @@ fn check_few(
 ) -> Result<(), OpenFault>
     requires at { at ≤ length bytes.now }
     requires few { length bytes.now ≤ 2 ^ 32 }
-    requires docs { docs ≤ 2 ^ 26 }
+    requires docs { docs ≤ MOST_DOCUMENTS }
     requires counted { (1 ≤ head.count) × (head.count ≤ docs) }
     requires marks { docs ≤ length marks.old }
     requires room { head.count ≤ 4096 }
@@ -151,7 +152,7 @@ fn check_many(
 ) -> Result<(), OpenFault>
     requires at { at ≤ length bytes.now }
     requires few { length bytes.now ≤ 2 ^ 32 }
-    requires docs { docs ≤ 2 ^ 26 }
+    requires docs { docs ≤ MOST_DOCUMENTS }
     requires counted { (1 ≤ head.count) × (head.count ≤ docs) }
     requires marks { docs ≤ length marks.old }
     ensures exact { (earlier : List ℕ) → AreMarks now earlier marks.old

@@ -3,6 +3,7 @@ ghost use Rattle.index_layout.specs.Reading.{read_payloads, read_segments};
 ghost use Rattle.index_layout.specs.Refusals.{Answers};
 ghost use Rattle.index_file.specs.Payloads.{IsCounted, IsPayload, row_heads, row_segment, row_terms};
 ghost use Rattle.index_file.specs.Tables.{AreRows, HasHead, row_head};
+ghost use Rattle.jass_base.specs.declared.limits.TheConstants.{MOST_DOCUMENTS};
 
 use crate::marks::next_mark;
 use crate::segment::Segment;
@@ -24,7 +25,7 @@ pub(crate) fn read_payloads(
 ) -> Result<usize, OpenFault>
     requires from { from ≤ length bytes.now }
     requires few { length bytes.now ≤ 2 ^ 32 }
-    requires docs { docs ≤ 2 ^ 26 }
+    requires docs { docs ≤ MOST_DOCUMENTS }
     requires rows { (text : List ℕ) × AreRows text segments.old rows.now }
     requires terms { length rows.now ≤ 2 ^ 32 }
     requires counted { All (IsCounted docs) (map (row_head bytes.now) segments.old) }
@@ -72,7 +73,7 @@ fn read_between(
     block: &mut [u32; 4096],
 ) -> Result<usize, OpenFault>
     requires few { length bytes.now ≤ 2 ^ 32 }
-    requires docs { docs ≤ 2 ^ 26 }
+    requires docs { docs ≤ MOST_DOCUMENTS }
     requires from { from ≤ length bytes.now }
     requires order { (first ≤ last) × (last ≤ length segments.old) }
     requires counted { All (IsCounted docs) (map (row_head bytes.now) segments.old) }

@@ -4,6 +4,7 @@ ghost use Rattle.index_file.specs.Payloads.{IsCounted, IsPayload, row_heads, row
 ghost use Rattle.index_file.specs.Tables.{AreRows, HasHead, row_head};
 ghost use Rattle.index_layout.specs.Reading.{read_index, read_payloads};
 ghost use Rattle.index_layout.specs.Refusals.{Answers};
+ghost use Rattle.jass_base.specs.declared.limits.TheConstants.{MOST_DOCUMENTS};
 
 use crate::ends::check_ends;
 use crate::front::read_front;
@@ -66,7 +67,7 @@ fn place_segments(
 ) -> Result<(Row<Segment>, usize), OpenFault>
     requires from { from ≤ length bytes.now }
     requires few { length bytes.now ≤ 2 ^ 32 }
-    requires docs { docs ≤ 2 ^ 26 }
+    requires docs { docs ≤ MOST_DOCUMENTS }
     requires rows { (text : List ℕ) × AreRows text heads rows.now }
     requires terms { length rows.now ≤ 2 ^ 32 }
     requires counted { All (IsCounted docs) (map (row_head bytes.now) heads) }

@@ -3,6 +3,7 @@ ghost use Rattle.index_layout.specs.Reading.{read_segments};
 ghost use Rattle.index_layout.specs.Refusals.{Answers};
 ghost use Rattle.index_file.specs.Payloads.{IsCounted, IsPayload, row_segment};
 ghost use Rattle.index_file.specs.Tables.{HasHead, row_head};
+ghost use Rattle.jass_base.specs.declared.limits.TheConstants.{MOST_DOCUMENTS};
 
 use crate::payload::{check_apart, check_payload, placed};
 use crate::segment::Segment;
@@ -21,7 +22,7 @@ pub(crate) fn read_term_payloads(
     block: &mut [u32; 4096],
 ) -> Result<usize, OpenFault>
     requires few { length bytes.now ≤ 2 ^ 32 }
-    requires docs { docs ≤ 2 ^ 26 }
+    requires docs { docs ≤ MOST_DOCUMENTS }
     requires from { from ≤ length bytes.now }
     requires counted { All (IsCounted docs) (map (row_head bytes.now) segments.old) }
     requires there { All (HasHead bytes.now) segments.old }
@@ -50,7 +51,7 @@ fn read_only(
     from: usize,
 ) -> Result<usize, OpenFault>
     requires few { length bytes.now ≤ 2 ^ 32 }
-    requires docs { docs ≤ 2 ^ 26 }
+    requires docs { docs ≤ MOST_DOCUMENTS }
     requires from { from ≤ length bytes.now }
     requires counted { All (IsCounted docs) (map (row_head bytes.now) segments.old) }
     requires there { All (HasHead bytes.now) segments.old }
@@ -84,7 +85,7 @@ fn read_apart(
     block: &mut [u32; 4096],
 ) -> Result<usize, OpenFault>
     requires few { length bytes.now ≤ 2 ^ 32 }
-    requires docs { docs ≤ 2 ^ 26 }
+    requires docs { docs ≤ MOST_DOCUMENTS }
     requires from { from ≤ length bytes.now }
     requires counted { All (IsCounted docs) (map (row_head bytes.now) segments.old) }
     requires there { All (HasHead bytes.now) segments.old }

@@ -4,6 +4,7 @@ ghost use Rattle.index_layout.specs.Refusals.{Answers};
 ghost use Rattle.index_file.specs.Payloads.{IsCounted, row_heads};
 ghost use Rattle.index_file.specs.Private.Sums.{AreSums};
 ghost use Rattle.index_file.specs.Tables.{AreRows, HasHead, row_head};
+ghost use Rattle.jass_base.specs.declared.limits.TheConstants.{MOST_DOCUMENTS};
 
 use crate::heads::read_heads;
 use crate::segment::Segment;
@@ -35,7 +36,7 @@ pub(crate) fn read_terms(
 ) -> Result<(Row<u8>, Row<TermRow>, Row<Segment>, Sums, usize), OpenFault>
     requires from { from ≤ length bytes.now }
     requires few { length bytes.now ≤ 2 ^ 32 }
-    requires docs { docs ≤ 2 ^ 26 }
+    requires docs { docs ≤ MOST_DOCUMENTS }
     ensures exact { Answers (λ x. record { terms = row_heads bytes.now x.0 x.2 x.1; end = x.4 }) result
         (read_terms bytes.now docs count None from) }
     ensures rows { IfOk result (λ x. AreRows x.0 x.2 x.1) }

@@ -13,6 +13,7 @@ ghost use Rattle.index_write.specs.Streaming.{AreEntries, entry_data};
 ghost use Rattle.index_import.specs.Private.Heading.{AreHeads, FailsAllInside, KeepsMore, places_of};
 ghost use Rattle.index_import.specs.Private.Surveying.{AreGiven, HoldsMost, IsReady, KeepsAll};
 ghost use Rattle.index_import.specs.declared.list_entry.ListEntry.{ListEntry};
+ghost use Rattle.jass_base.specs.declared.limits.TheConstants.{MOST_POSTINGS, MOST_TERMS};
 
 use crate::list_entry::{ListEntry, Place};
 use crate::reading::entry_segments;
@@ -55,8 +56,8 @@ pub(crate) fn read_heads<C: Cabinet>(
     requires told { ForContent (C.told files.old) walk.old.name (λ content.
         All (HoldsMost content walk.old.docs) lists.items) }
     requires rising { AllPairs (λ (a b : ListEntry). BytesRise a.term b.term) lists.items }
-    requires few { length lists.items ≤ 2 ^ 24 }
-    requires postings { sum_by (λ (e : ListEntry). e.place.count) lists.items ≤ 2 ^ 29 }
+    requires few { length lists.items ≤ MOST_TERMS }
+    requires postings { sum_by (λ (e : ListEntry). e.place.count) lists.items ≤ MOST_POSTINGS }
     requires docs { length weighing.lengths.now ≡ walk.old.docs }
     requires width { IsImpactWidth bits }
     requires low { EndsLow bits range }

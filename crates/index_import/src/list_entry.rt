@@ -4,6 +4,7 @@ ghost use Rattle.jass_base.specs.Limits.{IsText};
 ghost use Rattle.jass_base.specs.Postings.{HasTfInRange, docs_of};
 ghost use Rattle.impact_segments.specs.Bounds.{most_tf};
 ghost use Rattle.index_import.specs.Private.KeptPostings.{postings_in};
+ghost use Rattle.jass_base.specs.declared.limits.TheConstants.{MOST_POSTINGS};
 
 use crate::kept_postings::KeptPostings;
 use impact_segments::most_tf;
@@ -38,7 +39,7 @@ impl ListEntry {
     /// for each, and they are at most four or there is room for so many.
     pub fn new(alloc: Global, at: u64, list: PostingsList, room: usize) -> (ListEntry, Row<Posting>)
         requires some { 1 ≤ length list.postings }
-        requires few { length list.postings ≤ 2 ^ 29 }
+        requires few { length list.postings ≤ MOST_POSTINGS }
         ensures term { result.0.term ≡ list.term }
         ensures at { result.0.place.at ≡ at }
         ensures count { result.0.place.count ≡ length list.postings }

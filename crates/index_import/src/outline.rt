@@ -2,6 +2,7 @@ ghost use Rattle.std.specs.Prelude.{ℕ, ◌≡◌, ◌<◌, ◌≤◌, ◌^◌,
 ghost use Rattle.impact_segments.specs.Collections.{total_of};
 ghost use Rattle.index_import.specs.Private.Outlining.{AreInOrder, IsOutline, IsOutlined};
 ghost use Rattle.index_import.specs.Private.Surveying.{AreKept, IsSurvey};
+ghost use Rattle.jass_base.specs.declared.limits.TheConstants.{MOST_DOCUMENTS};
 
 use crate::list_entry::ListEntry;
 use crate::survey::Survey;
@@ -81,7 +82,7 @@ fn in_order(alloc: Global, docs: Vec<(u32, DocRecord)>) -> Result<(Row<Text>, Ve
 
 /// The terms of documents of these lengths in all, at least 1.
 fn total_length(lengths: &[u32]) -> u64
-    requires { length lengths.now ≤ 2 ^ 26 }
+    requires { length lengths.now ≤ MOST_DOCUMENTS }
     ensures { result ≡ total_of lengths.now }
 {
     let mut total: u64 = 0;

@@ -1,6 +1,7 @@
 ghost use Rattle.std.specs.Prelude.{ℕ, ◌≡◌, ◌<◌, ◌≤◌, ◌^◌, length, All};
 ghost use Rattle.impact_segments.specs.Collections.{total_of};
 ghost use Rattle.impact_segments.specs.OneList.{norms_in};
+ghost use Rattle.jass_base.specs.declared.limits.TheConstants.{MOST_DOCUMENTS};
 
 use weights::Rule;
 
@@ -14,7 +15,7 @@ pub(crate) struct Weighing<'a> {
     pub lengths: &'a [u32],
     /// How far each length slows the growth of a weight.
     pub norms: &'a [u64],
-    pub ghost few: { length lengths.now ≤ 2 ^ 26 },
+    pub ghost few: { length lengths.now ≤ MOST_DOCUMENTS },
     pub ghost small: { All (λ n. n < 2 ^ 31) lengths.now },
     pub ghost total_is: { total ≡ total_of lengths.now },
     pub ghost norms_are: { norms.now ≡ norms_in lengths.now total },

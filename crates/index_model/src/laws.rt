@@ -38,7 +38,7 @@ pub fn a_query_weighs_its_segments()
         weighted_postings (numbered_flat index) query ≡ flat_map postings_of (query_segments index query) }
 {}
 
-/// The segments of a query's plan are the segments that it names, in the plan's order.
+/// A query's plan has the segments that the query names, in the plan's order.
 pub fn the_plan_has_the_named_segments()
     ensures { (index : IndexData) (query : List QueryTerm) → IsIndex index → AreTerms query →
         plan_segments (weighted_postings (numbered_flat index) query) ≡ sorted plan_cmp (query_segments index query) }

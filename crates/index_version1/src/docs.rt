@@ -4,6 +4,7 @@ ghost use Rattle.segment_codecs.specs.Codecs.{read_payload};
 ghost use Rattle.segment_codecs.specs.Giving.{Gives};
 ghost use Rattle.index_layout.specs.Reading.{payload_placed};
 ghost use Rattle.index_layout.specs.Refusals.{Answers};
+ghost use Rattle.jass_base.specs.declared.limits.TheConstants.{MOST_DOCUMENTS};
 
 use crate::head::Head;
 use index_layout::{OpenFault, OpenWhy, refused};
@@ -42,7 +43,7 @@ pub fn read_docs(
 ) -> Result<Row<u32>, OpenFault>
     requires some { 1 ≤ head.count }
     requires few { head.count ≤ d }
-    requires limit { d ≤ 2 ^ 26 }
+    requires limit { d ≤ MOST_DOCUMENTS }
     ensures docs { IfOk result (AreDocs d) }
     ensures exact { Answers (λ docs. docs) result
         (payload_placed at (read_payload head.codec d head.count payload.now)) }

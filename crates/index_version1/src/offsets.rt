@@ -3,6 +3,7 @@
 ghost use Rattle.std.specs.Prelude.{ℕ, ◌≡◌, ◌≤◌, ◌<◌, ◌+◌, ◌^◌, length, IfOk};
 ghost use Rattle.index_layout.specs.Refusals.{Answers};
 ghost use Rattle.index_version1.specs.Reading.{names_place, offset_in, offset_place, read_offsets};
+ghost use Rattle.jass_base.specs.declared.limits.TheConstants.{MOST_DOCUMENTS};
 
 use crate::number::u32_at;
 use index_layout::{OpenFault, OpenWhy, refused};
@@ -21,7 +22,7 @@ pub fn offset_at(bytes: &[u8], i: usize) -> u32
 #[tactic(auto, unfolding(crate::specs::Reading::read_offsets))]
 pub fn read_offsets(bytes: &[u8], docs: u32) -> Result<usize, OpenFault>
     requires few { length bytes.now ≤ 2 ^ 32 }
-    requires docs { docs ≤ 2 ^ 26 }
+    requires docs { docs ≤ MOST_DOCUMENTS }
     ensures exact { Answers (λ place. place) result (read_offsets bytes.now docs) }
     ensures place { IfOk result (λ place. place ≡ names_place docs) }
     ensures within { IfOk result (λ place. place ≤ length bytes.now) }

@@ -5,6 +5,7 @@ ghost use Rattle.index_layout.specs.Refusals.{Answers};
 ghost use Rattle.index_version1.specs.Private.Parts.{parts_data};
 ghost use Rattle.index_version1.specs.Reading.{index_after, read_index1, read_names1, read_terms1};
 ghost use Rattle.index_version1.specs.Private.Tables.{term_heads};
+ghost use Rattle.jass_base.specs.declared.limits.TheConstants.{MOST_DOCUMENTS, MOST_TERMS};
 
 use crate::front::read_front1;
 use crate::names::read_texts;
@@ -30,7 +31,7 @@ pub struct Parts {
 /// The names, and the place behind the last.
 fn read_names(alloc: Global, bytes: &[u8], docs: u32) -> Result<(Row<Text>, usize), OpenFault>
     requires short { length bytes.now ≤ 2 ^ 32 }
-    requires docs { docs ≤ 2 ^ 26 }
+    requires docs { docs ≤ MOST_DOCUMENTS }
     ensures exact { Answers (λ x. record { names = x.0; end = x.1 }) result (read_names1 bytes.now docs) }
     ensures end { IfOk result (λ x. x.1 ≤ length bytes.now) }
 {
@@ -77,9 +78,9 @@ fn read_rest(
     rows: Row<OldTerm>,
     at: usize,
 ) -> Result<Parts, OpenFault>
-    requires few_terms { length rows ≤ 2 ^ 24 }
+    requires few_terms { length rows ≤ MOST_TERMS }
     requires rise { TermsRise docs None (map term_heads rows) }
-    requires limit { docs ≤ 2 ^ 26 }
+    requires limit { docs ≤ MOST_DOCUMENTS }
     requires at { at ≤ length bytes.now }
     requires long { 40 ≤ length bytes.now }
     requires short { length bytes.now ≤ 2 ^ 32 }

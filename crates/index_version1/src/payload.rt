@@ -5,6 +5,7 @@ ghost use Rattle.index_layout.proofs.TermLaws.{TermsRise};
 ghost use Rattle.index_layout.specs.Reading.{read_payloads, read_segments};
 ghost use Rattle.index_layout.specs.Refusals.{Answers};
 ghost use Rattle.index_version1.specs.Private.Tables.{Marks, head_data, term_heads};
+ghost use Rattle.jass_base.specs.declared.limits.TheConstants.{MOST_DOCUMENTS, MOST_TERMS};
 
 use crate::old_term::OldTerm;
 use crate::segment::read_segments;
@@ -25,7 +26,7 @@ fn fill_term(
 ) -> Result<(TermSegments, usize), OpenFault>
     requires some { 1 ≤ length old.heads }
     requires fall { HeadsFall d 65536 (map head_data old.heads) }
-    requires limit { d ≤ 2 ^ 26 }
+    requires limit { d ≤ MOST_DOCUMENTS }
     requires from { from ≤ length bytes.now }
     requires short { length bytes.now ≤ 2 ^ 32 }
     requires seen { length seen.old ≡ d }
@@ -55,9 +56,9 @@ fn fill_terms(
     from: usize,
     seen: &mut [u32],
 ) -> Result<(Row<TermSegments>, usize), OpenFault>
-    requires few_terms { length terms ≤ 2 ^ 24 }
+    requires few_terms { length terms ≤ MOST_TERMS }
     requires rise { TermsRise d None (map term_heads terms) }
-    requires limit { d ≤ 2 ^ 26 }
+    requires limit { d ≤ MOST_DOCUMENTS }
     requires from { from ≤ length bytes.now }
     requires short { length bytes.now ≤ 2 ^ 32 }
     requires seen { length seen.old ≡ d }
@@ -93,9 +94,9 @@ pub fn read_payloads(
     terms: Row<OldTerm>,
     from: usize,
 ) -> Result<(Row<TermSegments>, usize), OpenFault>
-    requires few_terms { length terms ≤ 2 ^ 24 }
+    requires few_terms { length terms ≤ MOST_TERMS }
     requires rise { TermsRise d None (map term_heads terms) }
-    requires limit { d ≤ 2 ^ 26 }
+    requires limit { d ≤ MOST_DOCUMENTS }
     requires from { from ≤ length bytes.now }
     requires short { length bytes.now ≤ 2 ^ 32 }
     ensures exact { Answers (λ x. record { terms = map term_data x.0; end = x.1 }) result

@@ -5,6 +5,7 @@ ghost use Rattle.index_layout.proofs.HeadLaws.{HeadsFall};
 ghost use Rattle.index_layout.specs.Reading.{docs_in, payload_end, read_segments};
 ghost use Rattle.index_layout.specs.Refusals.{Answers};
 ghost use Rattle.index_version1.specs.Private.Tables.{Marks, head_data};
+ghost use Rattle.jass_base.specs.declared.limits.TheConstants.{MOST_DOCUMENTS};
 
 use crate::docs::read_docs;
 use crate::head::Head;
@@ -28,7 +29,7 @@ fn read_segment(
     requires impact { 1 ≤ head.impact }
     requires some { 1 ≤ head.count }
     requires few { head.count ≤ d }
-    requires limit { d ≤ 2 ^ 26 }
+    requires limit { d ≤ MOST_DOCUMENTS }
     requires at { at ≤ length bytes.now }
     requires short { length bytes.now ≤ 2 ^ 32 }
     requires seen { length seen.old ≡ d }
@@ -71,7 +72,7 @@ pub fn read_segments(
     mark: u32,
 ) -> Result<(Row<Segment>, usize), OpenFault>
     requires fall { HeadsFall d 65536 (map head_data heads.now) }
-    requires limit { d ≤ 2 ^ 26 }
+    requires limit { d ≤ MOST_DOCUMENTS }
     requires from { from ≤ length bytes.now }
     requires short { length bytes.now ≤ 2 ^ 32 }
     requires seen { length seen.old ≡ d }

@@ -71,7 +71,7 @@ fn is_small(index: &ImpactIndex) -> bool {
         && index.greatest == 9
 }
 
-/// Whether so many bytes of the file with this byte at a place are so refused.
+/// Whether so many bytes of the file, with this byte at a place, are refused so.
 fn is_refused(
     alloc: Global,
     place: usize,

@@ -15,6 +15,7 @@ use Rattle.index_write.specs.declared.fault.SaveFault.TheVariants as saving
 use Rattle.index_write.specs.declared.fault.TermFault.{TermFault}
 use Rattle.index_write.specs.declared.fault.TermFault.TheVariants.{Changed, WriteFault, NoMemory}
 use Rattle.index_write.specs.declared.term_heads.TermHeads.{TermHeads}
+use Rattle.jass_base.specs.declared.limits.TheConstants.{MOST_DOCUMENTS, MOST_POSTINGS, MOST_TERMS}
 
 -- a term and its heads as plain data
 abbrev pub entry_data : TermHeads → EntryData
@@ -22,7 +23,7 @@ entry_data t = record { term = t.term; heads = map head_data t.heads }
 
 -- names of documents: at most 2^26, each within its limits
 pub record AreNames (names : List (List ℕ)) : Type 0 where
-  pub few : length names ≤ 2 ^ 26
+  pub few : length names ≤ MOST_DOCUMENTS
   pub each : All IsName names
   pub text : All IsText names
 
@@ -50,10 +51,10 @@ RisesTo entry later = BytesRise entry.term later.term
 
 -- at most 2^24 terms with their heads, by rising bytes, of at most 2^29 postings
 pub record AreEntries (entries : List EntryData) : Type 0 where
-  pub few : length entries ≤ 2 ^ 24
+  pub few : length entries ≤ MOST_TERMS
   pub rising : AllPairs RisesTo entries
   pub each : All IsEntry entries
-  pub postings : head_postings entries ≤ 2 ^ 29
+  pub postings : head_postings entries ≤ MOST_POSTINGS
 
 -- what a writer keeps: the file's name, the number of documents, the terms with their heads, and how many of these are left
 pub record WriterView : Type 0 where
@@ -67,7 +68,7 @@ writer_view name docs entries left = record { name = name; docs = docs; entries 
 
 -- what holds of a writer
 pub record IsWriter (writer : WriterView) : Type 0 where
-  pub docs : writer.docs ≤ 2 ^ 26
+  pub docs : writer.docs ≤ MOST_DOCUMENTS
   pub entries : AreEntries writer.entries
   pub left : writer.left ≤ length writer.entries
 

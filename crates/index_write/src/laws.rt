@@ -23,6 +23,7 @@ ghost use Rattle.index_write.specs.Chosen.{chosen_entry, chosen_heads, chosen_pa
 ghost use Rattle.index_write.specs.Saving.{LeavesPrefix};
 ghost use Rattle.index_write.specs.Streaming.{AreEntries, AreNames, FallsTo, IsEntry, IsHead, change_of, entries_totals, entry_data};
 ghost use Rattle.index_write.specs.declared.term_heads.TermHeads.{TermHeads};
+ghost use Rattle.jass_base.specs.declared.limits.TheConstants.{MOST_DOCUMENTS, MOST_POSTINGS};
 
 use index_layout::laws::lengths_are_known;
 use index_model::laws::indexes_in_memory_are_indexes;
@@ -30,7 +31,7 @@ use segment_codecs::laws::{codecs_have_their_numbers, payloads_have_few_bytes};
 
 /// A segment has at most as many documents as the index, and its payload has few bytes.
 pub(crate) fn segments_are_small()
-    ensures docs { (d : ℕ) (docs : List ℕ) → AreDocs d docs → length docs ≤ 2 ^ 26 }
+    ensures docs { (d : ℕ) (docs : List ℕ) → AreDocs d docs → length docs ≤ MOST_DOCUMENTS }
     ensures bytes { (d : ℕ) (docs : List ℕ) → AreDocs d docs → payload_size d docs (chosen_codec d docs) ≤ 2 ^ 28 }
 {
     payloads_have_few_bytes();
@@ -39,7 +40,7 @@ pub(crate) fn segments_are_small()
 /// The documents of each segment are those of a segment, and a term has few segments.
 pub(crate) fn terms_have_documents()
     ensures few { (index : ImpactIndex) → index.greatest ≤ 65535
-        → All (λ (t : TermSegments). length t.segments ≤ 2 ^ 26) index.terms }
+        → All (λ (t : TermSegments). length t.segments ≤ MOST_DOCUMENTS) index.terms }
     ensures docs { (index : ImpactIndex) → index.greatest ≤ 65535
         → All (λ (t : TermSegments). All (λ (s : Segment). AreDocs (length index.names) s.docs) t.segments)
         index.terms }
@@ -87,7 +88,7 @@ pub(crate) fn parts_are_small()
 pub(crate) fn entries_are_small()
     ensures names { (names : List (List ℕ)) → AreNames names → length (names_bytes names) ≤ 2 ^ 47 }
     ensures terms { (entries : List EntryData) → AreEntries entries → length (terms_bytes [] entries) ≤ 2 ^ 42 }
-    ensures heads { (entries : List EntryData) → AreEntries entries → length (all_heads entries) ≤ 2 ^ 29 }
+    ensures heads { (entries : List EntryData) → AreEntries entries → length (all_heads entries) ≤ MOST_POSTINGS }
     ensures fit { (entries : List TermHeads) → AreEntries (map entry_data entries)
         → All (λ (t : TermHeads). length t.term ≤ 65535) entries }
     ensures few { (entries : List TermHeads) → AreEntries (map entry_data entries)
@@ -130,7 +131,7 @@ pub fn made_heads_are_entries()
     ensures falling { (d : ℕ) (segments : List Segment) → AllPairs SegmentFalls segments
         → AllPairs FallsTo (chosen_heads d (map segment_data segments)) }
     ensures entry { (d : ℕ) (t : TermData) → IsTerm d t → IsEntry (chosen_entry d t) }
-    ensures entries { (index : IndexData) → IsIndex index → index_postings index ≤ 2 ^ 29
+    ensures entries { (index : IndexData) → IsIndex index → index_postings index ≤ MOST_POSTINGS
         → AreEntries (chosen_terms (length index.names) index.terms) }
 {
     payloads_have_few_bytes();

@@ -8,6 +8,7 @@ ghost use Rattle.index_layout.specs.Totals.{totals_of};
 ghost use Rattle.index_layout.specs.View.{index_postings};
 ghost use Rattle.index_write.specs.Chosen.{head_data};
 ghost use Rattle.index_write.specs.Streaming.{entry_data};
+ghost use Rattle.jass_base.specs.declared.limits.TheConstants.{MOST_POSTINGS};
 
 use crate::head::PayloadHead;
 use crate::laws::{parts_are_small, tables_have_their_sums};
@@ -77,7 +78,7 @@ pub struct HeadSums {
 
 /// The sums of the heads of a term.
 fn term_sums(heads: &[PayloadHead]) -> HeadSums
-    requires { length heads.now ≤ 2 ^ 29 }
+    requires { length heads.now ≤ MOST_POSTINGS }
     ensures postings { result.postings ≡ sum_by (λ (h : HeadData). h.count) (map head_data heads.now) }
     ensures greatest { result.greatest ≡ greatest_of (map head_data heads.now) }
     ensures payloads { result.payloads ≡ sum_by (λ (h : HeadData). h.size) (map head_data heads.now) }
@@ -101,7 +102,7 @@ fn term_sums(heads: &[PayloadHead]) -> HeadSums
 
 /// The sums of the heads of terms, in one pass over them.
 pub fn heads_sums(entries: &[TermHeads]) -> HeadSums
-    requires { length (all_heads (map entry_data entries.now)) ≤ 2 ^ 29 }
+    requires { length (all_heads (map entry_data entries.now)) ≤ MOST_POSTINGS }
     ensures postings { result.postings ≡ head_postings (map entry_data entries.now) }
     ensures greatest { result.greatest ≡ greatest_impact (map entry_data entries.now) }
     ensures payloads { result.payloads ≡ payloads_size (map entry_data entries.now) }

@@ -32,6 +32,26 @@ length_five gap high low =
     more 8 gap 4 (omega arith) (more 7 (gap / 128) 3 (omega arith) (more 6 (gap / 128 / 128) 2 (omega arith)
     (more 5 (gap / 128 / 128 / 128) 1 (omega arith) (one 4 (gap / 128 / 128 / 128 / 128) (omega arith)))))
 
+-- a byte, and one more for each limit that a gap reaches
+pub length_sum : (gap x y z w : ℕ) → gap < 2 ^ 32
+    → (gap < 128 → x ≡ 0) → (128 ≤ gap → x ≡ 1) → (gap < 16384 → y ≡ 0) → (16384 ≤ gap → y ≡ 1)
+    → (gap < 2097152 → z ≡ 0) → (2097152 ≤ gap → z ≡ 1) → (gap < 268435456 → w ≡ 0) → (268435456 ≤ gap → w ≡ 1)
+    → 1 + x + y + z + w ≡ length (short_varint gap)
+length_sum gap x y z w fits x0 x1 y0 y1 z0 z1 w0 w1 =
+    elim (cases_lt gap 128) [
+      | inl a ↦ omega (arith, length_one gap a, x0 a, y0 (omega (arith, a)), z0 (omega (arith, a)), w0 (omega (arith, a)))
+      | inr a ↦ elim (cases_lt gap 16384) [
+        | inl b ↦ omega (arith, length_two gap a b, x1 a, y0 b, z0 (omega (arith, b)), w0 (omega (arith, b)))
+        | inr b ↦ elim (cases_lt gap 2097152) [
+          | inl d ↦ omega (arith, length_three gap b d, x1 a, y1 b, z0 d, w0 (omega (arith, d)))
+          | inr d ↦ elim (cases_lt gap 268435456) [
+            | inl e ↦ omega (arith, length_four gap d e, x1 a, y1 b, z1 d, w0 e)
+            | inr e ↦ omega (arith, length_five gap e fits, x1 a, y1 b, z1 d, w1 e)
+          ]
+        ]
+      ]
+    ]
+
 -- bytes that begin with the shortest varint of a number, of at most so many groups behind the first
 abbrev Begin : ℕ → List ℕ → ℕ → Type 0
 Begin k bytes n = take (length (short_varint_within k n)) bytes ≡ short_varint_within k n

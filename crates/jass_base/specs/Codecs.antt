@@ -2,6 +2,7 @@
 use Rattle.std.specs.Prelude.{ℕ, ◌≡◌, ◌≤◌, ◌^◌, ◌↔◌, List, [], ◌++◌, length, take, drop, Result, Ok, OnOk, OnErr, IfOk}
 use Rattle.jass_base.specs.Gaps.{AreDocs, Accepts, Judges}
 use Rattle.jass_base.specs.declared.payload_fault.PayloadFault.{PayloadFault}
+use Rattle.jass_base.specs.declared.limits.TheConstants.{MOST_DOCUMENTS}
 
 -- a payload was put behind the bytes that there were, or nothing where the call failed
 pub record Encodes {T E : Type 0} (payload old new : List ℕ) (result : Result T E) : Type 0 where
@@ -9,10 +10,10 @@ pub record Encodes {T E : Type 0} (payload old new : List ℕ) (result : Result 
   pub err : OnErr result (new ≡ old)
 
 -- an index of d documents can have a list of so many
-pub record IsCount (count d : ℕ) : Type 0 where
+pub record IsDocCount (count d : ℕ) : Type 0 where
   pub some : 1 ≤ count
   pub few : count ≤ d
-  pub limit : d ≤ 2 ^ 26
+  pub limit : d ≤ MOST_DOCUMENTS
 
 -- an answer that is Ok exactly for the payload of so many documents below d, and else the first fault of reading
 pub record Checks {T : Type 0} (payload : List ℕ → List ℕ) (read : ℕ → ℕ → List ℕ → Result (List ℕ) PayloadFault) (d count : ℕ) (bytes : List ℕ) (result : Result T PayloadFault) : Type 0 where

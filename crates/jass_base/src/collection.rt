@@ -1,5 +1,6 @@
 ghost use Rattle.std.specs.Prelude.{ℕ, ◌≡◌, ◌<◌, ◌≤◌, ◌^◌, length, All, AllPairs};
 ghost use Rattle.jass_base.specs.Lists.{HasDocsBelow, DifferInTerm};
+ghost use Rattle.jass_base.specs.declared.limits.TheConstants.{MOST_DOCUMENTS, MOST_TERMS};
 
 use crate::doc_record::DocRecord;
 use crate::header::Header;
@@ -15,8 +16,8 @@ pub struct Collection {
     pub lists: Row<PostingsList>,
     /// At most 2^26 documents.
     pub docs: Row<DocRecord>,
-    pub ghost few_lists: { length lists ≤ 2 ^ 24 },
-    pub ghost few_docs: { length docs ≤ 2 ^ 26 },
+    pub ghost few_lists: { length lists ≤ MOST_TERMS },
+    pub ghost few_docs: { length docs ≤ MOST_DOCUMENTS },
     pub ghost docs_below: { All (HasDocsBelow (length docs)) lists },
     pub ghost terms_differ: { AllPairs DifferInTerm lists },
 }

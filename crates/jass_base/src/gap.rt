@@ -6,28 +6,22 @@ use crate::faults::NoMemory;
 use crate::payload_fault::PayloadFault;
 use crate::row::Row;
 
-/// How many bytes the shortest varint of a gap has.
+/// How many bytes the shortest varint of a gap has. A sum, since which of them a gap has can't be foreseen: branches
+/// cost a twentieth of the time of `import`.
 #[inline]
 pub fn gap_length(gap: u32) -> u64
     ensures is { result ≡ length (short_varint gap) }
     ensures most { result ≤ 5 }
     ensures few { gap < 2 ^ 28 → result ≤ 4 }
 {
-    if gap < 1 << 7 {
-        1
-    } else if gap < 1 << 14 {
-        2
-    } else if gap < 1 << 21 {
-        3
-    } else if gap < 1 << 28 {
-        4
-    } else {
-        5
-    }
+    1 + u64::from(gap >= 1 << 7)
+        + u64::from(gap >= 1 << 14)
+        + u64::from(gap >= 1 << 21)
+        + u64::from(gap >= 1 << 28)
 }
 
-/// Appends the shortest varint of a gap, or nothing where memory is refused.
-/// Four bytes are appended, and those too many cut off, so that nothing branches on a size that can't be foreseen.
+/// Appends the shortest varint of a gap, or nothing where memory is refused. Of a gap below 2^28 four bytes are
+/// appended, and those too many cut off, so that nothing branches on a size that can't be foreseen.
 #[inline(always)]
 pub fn put_gap(gap: u32, out: &mut Row<u8>) -> Result<(), NoMemory>
     ensures ok { OnOk result (out.new ≡ out.old ++ short_varint gap) }

@@ -1,6 +1,7 @@
 ghost use Rattle.std.specs.Prelude.{ℕ, ◌≡◌, ◌<◌, ◌≤◌, ◌^◌, length, All, AllPairs};
 ghost use Rattle.jass_base.specs.Limits.{IsName, IsText};
 ghost use Rattle.jass_base.specs.Terms.{RisesTo, HasTermBelow, greatest_impact};
+ghost use Rattle.jass_base.specs.declared.limits.TheConstants.{MOST_DOCUMENTS, MOST_TERMS};
 
 use crate::row::Row;
 use crate::term_segments::TermSegments;
@@ -16,10 +17,10 @@ pub struct ImpactIndex {
     pub terms: Row<TermSegments>,
     /// The greatest impact; 0 where there is none.
     pub greatest: u16,
-    pub ghost few_names: { length names ≤ 2 ^ 26 },
+    pub ghost few_names: { length names ≤ MOST_DOCUMENTS },
     pub ghost names_fit: { All IsName names },
     pub ghost names_are_text: { All IsText names },
-    pub ghost few_terms: { length terms ≤ 2 ^ 24 },
+    pub ghost few_terms: { length terms ≤ MOST_TERMS },
     pub ghost rising: { AllPairs RisesTo terms },
     pub ghost docs_below: { All (HasTermBelow (length names)) terms },
     pub ghost greatest_is: { greatest ≡ greatest_impact terms },

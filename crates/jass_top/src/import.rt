@@ -10,6 +10,7 @@ ghost use Rattle.impact_segments.specs.Collections.{collection_index};
 ghost use Rattle.jass_top.specs.ImportMeaning.{import_meaning};
 ghost use Rattle.jass_top.specs.Judging.{Accepted, Shows, judge_ciff};
 ghost use Rattle.jass_top.specs.Worlds.{outer};
+ghost use Rattle.jass_base.specs.declared.limits.TheConstants.{MOST_POSTINGS};
 
 use crate::input::read_file;
 use crate::saving::TOO_LARGE;
@@ -76,7 +77,7 @@ pub fn make_index<'a, C: Cabinet>(
     ensures made { IfOk result (λ index. (c : CollectionData)
         × Shows (judge_ciff ciff.now (C.told files.old)) (Accepted c)
         × (index_data index ≡ collection_index rule bits c)) }
-    ensures few { IfOk result (λ index. index_postings (index_data index) ≤ 2 ^ 29) }
+    ensures few { IfOk result (λ index. index_postings (index_data index) ≤ MOST_POSTINGS) }
     ensures unread { IfErr result (λ stop. Unread (ciff.now ∷ []) (judge_ciff ciff.now (C.told files.old))
         (C.read_faults files.old) (C.read_faults files.new) stop) }
     ensures stays { C.told files.new ≡ C.told files.old }

@@ -3,6 +3,7 @@ ghost use Rattle.jass_base.specs.CiffViews.{collection_data};
 ghost use Rattle.ciff_read.specs.Counts.{posting_count};
 ghost use Rattle.jass_top.specs.Causes.{Unread};
 ghost use Rattle.jass_top.specs.Judging.{Accepted, Shows, judge_ciff};
+ghost use Rattle.jass_base.specs.declared.limits.TheConstants.{MOST_POSTINGS};
 
 use crate::stop::{Place, Stop};
 use ciff_read::laws::the_front_is_enough;
@@ -23,7 +24,7 @@ pub fn read_file<'a, C: Cabinet>(
 ) -> Result<Collection, Stop<'a>>
     ensures accepted { IfOk result (λ collection.
         Shows (judge_ciff name.now (C.told files.old)) (Accepted (collection_data collection))) }
-    ensures few { IfOk result (λ collection. posting_count collection.lists ≤ 2 ^ 29) }
+    ensures few { IfOk result (λ collection. posting_count collection.lists ≤ MOST_POSTINGS) }
     ensures unread { IfErr result (λ stop. Unread (name.now ∷ []) (judge_ciff name.now (C.told files.old))
         (C.read_faults files.old) (C.read_faults files.new) stop) }
     ensures stays { C.told files.new ≡ C.told files.old }

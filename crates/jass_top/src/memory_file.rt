@@ -4,6 +4,7 @@ ghost use Rattle.index_model.specs.Index.{IndexData};
 ghost use Rattle.index_model.specs.Views.{index_data};
 ghost use Rattle.jass_top.specs.Causes.{Unheld};
 ghost use Rattle.jass_top.specs.IndexJudging.{IsTextOf, fitting};
+ghost use Rattle.jass_base.specs.declared.limits.TheConstants.{MOST_POSTINGS};
 
 use crate::import::impacts_are_small;
 use crate::saving::TOO_LARGE;
@@ -22,7 +23,7 @@ pub fn file_in_memory<'a>(
     index: &ImpactIndex,
     input: &'a str,
 ) -> Result<IndexFile, Stop<'a>>
-    requires { index_postings (index_data index.now) ≤ 2 ^ 29 }
+    requires { index_postings (index_data index.now) ≤ MOST_POSTINGS }
     ensures index { IfOk result (λ file. file.index ≡ index_data index.now) }
     ensures view { IfOk result (λ file. IsFileView file) }
     ensures fits { OnOk result (length (index_text (index_data index.now)) ≤ 2 ^ 32) }

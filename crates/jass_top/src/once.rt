@@ -11,6 +11,7 @@ ghost use Rattle.jass_top.specs.Causes.{Runs};
 ghost use Rattle.jass_top.specs.OnceMeaning.{asking_meaning, once_meaning};
 ghost use Rattle.jass_top.specs.Private.OnceTexts.{once_of, session_text};
 ghost use Rattle.jass_top.specs.Worlds.{Outer, outer, with_output};
+ghost use Rattle.jass_base.specs.declared.limits.TheConstants.{MOST_POSTINGS};
 
 use crate::import::make_index;
 use crate::memory_file::file_in_memory;
@@ -62,7 +63,7 @@ fn ask_made<'a, O: Sink, L: Ledger>(
     out: &mut O,
     steps: &mut Steps<L>,
 ) -> Result<(), Stop<'a>>
-    requires { index_postings (index_data index.now) ≤ 2 ^ 29 }
+    requires { index_postings (index_data index.now) ≤ MOST_POSTINGS }
     ensures { (beside : Outer) → Runs (asking_meaning input.now (index_data index.now) (once_of question.entry))
         (with_output O.Sink out.old (record beside { steps = steps.old }))
         (with_output O.Sink out.new (record beside { steps = steps.new })) result }

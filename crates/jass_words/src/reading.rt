@@ -13,7 +13,7 @@ use crate::trial::read_trial;
 use weights::{Bits, Rule};
 
 /// The most terms of one query.
-const MOST_TERMS: usize = 255;
+const MOST_TERM_WORDS: usize = 255;
 
 /// Words that are no command: the first word, counted from 1, such that no command begins
 /// with the words up to it; one more than their number where there is no such word.
@@ -89,7 +89,7 @@ fn read_once<'a>(words: &'a [String]) -> Result<Command<'a>, WordFault>
         return Err(WordFault { which: 4 });
     };
     let terms = &words[4..];
-    let good = terms_in(terms).min(MOST_TERMS);
+    let good = terms_in(terms).min(MOST_TERM_WORDS);
     if good == 0 || good < terms.len() {
         return Err(WordFault {
             which: 5 + good as u32,

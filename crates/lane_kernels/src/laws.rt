@@ -1,5 +1,6 @@
-// Laws of the definitions that the contracts of this crate cite. Each function does nothing: its
-// contract is the law.
+//! Laws of the definitions that the contracts of this crate cite. Each function does nothing: its
+//! contract is the law.
+
 ghost use Rattle.std.specs.Prelude.{◌≡◌, ℕ, ◌+◌, ◌*◌, ◌/◌, ◌%◌, ◌^◌, ◌<◌, ◌≤◌, ◌↔◌, List, ◌++◌, All, Contains, length, slice_index};
 ghost use Rattle.std.specs.Int.{bit_at};
 ghost use Rattle.std.specs.List.Sorted.{IsStrictlyIncreasing};

@@ -16,7 +16,7 @@ pub fn width128(values: &[u32; 128]) -> u8
     (32 - union128(values).leading_zeros()) as u8
 }
 
-/// Has each bit that one of the values has.
+/// A number with each bit that one of the values has.
 fn union128(values: &[u32; 128]) -> u32
     ensures { (width : ℕ)
         → (result < 2 ^ width) ↔ All (λ value. value < 2 ^ width) values.now }

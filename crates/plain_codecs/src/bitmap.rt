@@ -6,6 +6,7 @@ ghost use Rattle.jass_base.specs.Codecs.{Encodes};
 ghost use Rattle.jass_base.specs.Gaps.{AreDocs};
 ghost use Rattle.plain_codecs.specs.Bitmap.{bitmap_byte, bitmap_of, bitmap_size};
 ghost use Rattle.plain_codecs.specs.Private.Partings.{IsParted};
+ghost use Rattle.jass_base.specs.declared.limits.TheConstants.{MOST_DOCUMENTS};
 
 mod checking;
 mod cursor;
@@ -26,7 +27,7 @@ pub fn length(docs: &[u32], d: u32) -> u64
 /// How many bytes d bits take.
 #[inline]
 pub(crate) fn size(d: u32) -> u32
-    requires { d ≤ 2 ^ 26 }
+    requires { d ≤ MOST_DOCUMENTS }
     ensures is { result ≡ bitmap_size d }
     ensures most { result ≤ 2 ^ 23 }
 {

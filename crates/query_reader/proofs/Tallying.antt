@@ -9,7 +9,7 @@ use Rattle.query_reader.specs.declared.refusal.QueryWhy.{QueryWhy}
 use Rattle.query_reader.specs.declared.refusal.LineFault.{LineFault}
 use Rattle.query_reader.specs.declared.refusal.LineFault.TheVariants.{Refused, NoMemory}
 use Rattle.query_reader.specs.Mentions.{Mention, term_number, named_of, unknown_of}
-use Rattle.query_reader.specs.Refusals.{◌>>=◌, LineFails, LineGives}
+use Rattle.query_reader.specs.Refusals.{◌>>=◌, LineFails, LineAnswers}
 use Rattle.query_reader.specs.Queries.{QueryData}
 use Rattle.query_reader.specs.Reading.{broken_limit, first_of, first_broken, unless, read_mentions}
 use Rattle.query_reader.specs.Private.Tally.{TallyData, counted_in, all_counted_in}
@@ -109,7 +109,7 @@ counted-fails terms id ms (Refused why) is = at (first_broken terms [] ms) (sym 
 counted-fails terms id ms NoMemory is = tt
 
 -- a fault handed on
-pub line-handed-on : {X : Type 0} (view : X → QueryData) (read : Result QueryData QueryWhy) (fault : LineFault) (result : Result X LineFault) → IsErrAnd result (λ e. e ≡ fault) → LineFails fault read → LineGives view result read
+pub line-handed-on : {X : Type 0} (view : X → QueryData) (read : Result QueryData QueryWhy) (fault : LineFault) (result : Result X LineFault) → IsErrAnd result (λ e. e ≡ fault) → LineFails fault read → LineAnswers view result read
 line-handed-on view read fault (Ok x) is fails = absurd is
 line-handed-on view read fault (Err e) is fails = subst (λ f. LineFails f read) (sym is) fails
 

@@ -43,9 +43,9 @@ abbrev pub LineFails : {Y : Type 0} → LineFault → Result Y QueryWhy → Type
 LineFails (line_faults.Refused why) read = read ≡ Err why
 LineFails line_faults.NoMemory read = ⊤
 
-abbrev pub LineGives : {X Y : Type 0} → (X → Y) → Result X LineFault → Result Y QueryWhy → Type 0
-LineGives view (Ok x) read = read ≡ Ok (view x)
-LineGives view (Err fault) read = LineFails fault read
+abbrev pub LineAnswers : {X Y : Type 0} → (X → Y) → Result X LineFault → Result Y QueryWhy → Type 0
+LineAnswers view (Ok x) read = read ≡ Ok (view x)
+LineAnswers view (Err fault) read = LineFails fault read
 
 -- the fault of a line that has this number
 abbrev pub fault_at : ℕ → LineFault → QueryFault

@@ -1,7 +1,7 @@
 ghost use Rattle.std.specs.Prelude.{ℕ, ◌≡◌, ◌<◌, length, All, IfOk};
 ghost use Rattle.jass_base.specs.declared.query_term.QueryTerm.{QueryTerm};
 ghost use Rattle.query_reader.specs.Queries.{query_data};
-ghost use Rattle.query_reader.specs.Refusals.{LineGives};
+ghost use Rattle.query_reader.specs.Refusals.{LineAnswers};
 ghost use Rattle.query_reader.specs.Reading.{read_line};
 
 use crate::mode::Mode;
@@ -21,7 +21,7 @@ pub fn read_line<X: Lexicon>(
     mode: Mode,
     index: &X,
 ) -> Result<Query, LineFault>
-    ensures query { LineGives query_data result (read_line mode (X.terms index.now) line.now) }
+    ensures query { LineAnswers query_data result (read_line mode (X.terms index.now) line.now) }
     ensures known { IfOk result (λ query. All (λ (n : QueryTerm). n.term < length (X.terms index.now)) query.terms) }
 {
     if line.len() > LONGEST_LINE {

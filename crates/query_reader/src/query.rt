@@ -2,7 +2,7 @@ ghost use Rattle.std.specs.Prelude.{ℕ, ◌≡◌, ◌+◌, ◌<◌, ◌≤◌,
 ghost use Rattle.jass_base.specs.declared.query_term.QueryTerm.{QueryTerm};
 ghost use Rattle.query_reader.specs.Texts.{mentions_of};
 ghost use Rattle.query_reader.specs.Queries.{query_data};
-ghost use Rattle.query_reader.specs.Refusals.{Answers, LineGives, at_line};
+ghost use Rattle.query_reader.specs.Refusals.{Answers, LineAnswers, at_line};
 ghost use Rattle.query_reader.specs.Reading.{read_mentions};
 ghost use Rattle.query_reader.specs.Private.Tally.{CountsIn, all_counted_in};
 
@@ -43,7 +43,8 @@ pub fn read_query<X: Lexicon>(
     index: &X,
 ) -> Result<Query, LineFault>
     requires { length text.now ≤ 1048576 }
-    ensures query { LineGives query_data result (read_mentions (X.terms index.now) id.now (mentions_of mode text.now)) }
+    ensures query { LineAnswers query_data result
+        (read_mentions (X.terms index.now) id.now (mentions_of mode text.now)) }
     ensures known { IfOk result (λ query. All (λ (n : QueryTerm). n.term < length (X.terms index.now)) query.terms) }
 {
     let mut tally = Tally::new(alloc);

@@ -8,7 +8,7 @@ use std::alloc::Global;
 use std::marker::Model;
 
 /// The most known terms of a query.
-const MOST_TERMS: usize = 256;
+const MOST_QUERY_TERMS: usize = 256;
 
 /// What the mentions so far name: known terms by first mention, and the number of the others.
 #[derive(Drop)]
@@ -64,7 +64,7 @@ pub fn count_known(named: &mut Vec<QueryTerm>, number: u32, factor: u8) -> Resul
             None => Err(LineFault::Refused(QueryWhy::Times)),
         },
         None => {
-            if named.as_slice().len() == MOST_TERMS {
+            if named.as_slice().len() == MOST_QUERY_TERMS {
                 return Err(LineFault::Refused(QueryWhy::Terms));
             }
             match named.push(QueryTerm {

@@ -14,7 +14,7 @@ use Rattle.ranking_model.specs.declared.plan.QueryPlan.{QueryPlan}
 use Rattle.ranking_model.specs.Order.{sorted}
 use Rattle.ranking_model.specs.Postings.{weighted_postings}
 
--- a segment is the postings of one place and one weight
+-- a segment is the postings of one term of the query and one weight
 abbrev pub is_of : PlanSegment → WeightedPosting → Bool
 is_of segment p = segment.term_place == p.term_place && segment.weight == p.weight
 
@@ -31,7 +31,7 @@ joined (segment ∷ segments) p = if is_of segment p then record segment { docs 
 abbrev pub grouped : List WeightedPosting → List PlanSegment
 grouped postings = fold joined [] postings
 
--- the plan's order: falling weight, then rising number of postings, then rising place
+-- the plan's order: falling weight, then rising number of postings, then the term's rising place in the query
 abbrev pub plan_cmp : PlanSegment → PlanSegment → Ordering
 plan_cmp a b = ordering_then (ordering_then (nat_cmp b.weight a.weight) (nat_cmp (length a.docs) (length b.docs))) (nat_cmp a.term_place b.term_place)
 

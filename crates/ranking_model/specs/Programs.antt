@@ -7,7 +7,7 @@ use Rattle.ranking_model.specs.declared.posting.WeightedPosting.{WeightedPosting
 use Rattle.ranking_model.specs.declared.plan_segment.PlanSegment.{PlanSegment}
 use Rattle.ranking_model.specs.Plan.{is_of}
 
--- rising places, falling weights: the order in which the postings of an index come
+-- by the term's rising place in the query, then falling weight: the order in which the postings of an index come
 abbrev pub place_cmp : WeightedPosting → WeightedPosting → Ordering
 place_cmp a b = ordering_then (nat_cmp a.term_place b.term_place) (nat_cmp b.weight a.weight)
 

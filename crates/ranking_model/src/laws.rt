@@ -26,6 +26,7 @@ ghost use Rattle.ranking_model.specs.Finality.{IsGradeWithin};
 ghost use Rattle.ranking_model.specs.Heaviest.{IsHeaviest};
 ghost use Rattle.ranking_model.specs.Report.{IsReport};
 ghost use Rattle.ranking_model.specs.Promises.{IsPromised};
+ghost use Rattle.jass_base.specs.declared.limits.TheConstants.{MOST_POSTINGS};
 
 /// The prefix that a budget pays for fits it, and no longer one does.
 pub fn the_prefix_is_the_longest()
@@ -79,11 +80,12 @@ pub fn a_plan_has_the_segments_of_its_postings()
 /// has at most 2^29 postings.
 pub fn plans_are_small()
     ensures { (docs : ℕ) (flat : List (Entry ℕ)) (terms : List QueryTerm) →
-        IsFlat nat_cmp docs flat → AreTerms terms → All (λ named. named.times ≤ 255) terms → length flat ≤ 2 ^ 29 →
+        IsFlat nat_cmp docs flat → AreTerms terms → All (λ named. named.times ≤ 255) terms →
+        length flat ≤ MOST_POSTINGS →
         IsSmall (plan_of docs flat terms) }
 {}
 
-/// Segments that differ in place or weight, put down one after the other, are the segments.
+/// Segments that differ in their term's place or in weight, put down one after the other, are the plan's.
 pub fn segments_make_a_plan()
     ensures { (segments : List PlanSegment) →
         AllByRecursion (λ segment. segment.docs ≢ []) segments →

@@ -6,6 +6,7 @@ ghost use Rattle.ranking_model.specs.Plan.{plan_of};
 ghost use Rattle.ranking_model.specs.Limits.{IsSmall};
 ghost use Rattle.ranking_model.specs.Scores.{top_k};
 ghost use Rattle.jass_base.specs.declared.answer.Hit.{Hit};
+ghost use Rattle.jass_base.specs.declared.limits.TheConstants.{MOST_POSTINGS};
 
 use crate::entry::Entry;
 use crate::plan_segment::{PlanSegment, plan_segments};
@@ -35,7 +36,7 @@ pub fn plan_of(
 ) -> Result<QueryPlan, NoMemory>
     requires flat { IsFlat nat_cmp docs entries.now }
     requires terms { AreTerms terms.now }
-    requires postings { length entries.now ≤ 2 ^ 29 }
+    requires postings { length entries.now ≤ MOST_POSTINGS }
     ensures plan { IfOk result (λ plan. plan ≡ plan_of docs entries.now terms.now) }
     ensures small { IfOk result (λ plan. IsSmall plan) }
 {

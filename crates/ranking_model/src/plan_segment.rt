@@ -8,7 +8,7 @@ use jass_base::{NoMemory, Row};
 use std::alloc::Global;
 use std::cmp::Reverse;
 
-/// The postings of a query that have one place (one term of the query) and one weight.
+/// The postings of a query that are of one of its terms and have one weight.
 #[derive(Debug, Drop)]
 pub struct PlanSegment {
     pub term_place: u32,
@@ -17,7 +17,7 @@ pub struct PlanSegment {
 }
 
 /// The segments of a query's postings in the order in which they are scored: by falling weight,
-/// then rising number of postings, then rising place.
+/// then rising number of postings, then the term's rising place in the query.
 pub fn plan_segments(
     alloc: Global,
     postings: &[WeightedPosting],

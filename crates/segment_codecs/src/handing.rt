@@ -1,5 +1,5 @@
 ghost use Rattle.std.specs.Prelude.{ℕ, ◌≡◌, ◌≤◌, List, length, take};
-ghost use Rattle.jass_base.specs.Codecs.{ChecksInto, IsCount};
+ghost use Rattle.jass_base.specs.Codecs.{ChecksInto, IsDocCount};
 ghost use Rattle.segment_codecs.specs.Codecs.{payload_of, read_payload};
 ghost use Rattle.segment_codecs.specs.Giving.{Gives};
 
@@ -20,7 +20,7 @@ pub fn check_into(
     d: u32,
     out: &mut [u32],
 ) -> Result<(), PayloadFault>
-    requires count { IsCount count d }
+    requires count { IsDocCount count d }
     requires room { count ≤ length out.old }
     ensures { ChecksInto (payload_of codec d) (read_payload codec) d count bytes.now out.old out.new result }
 {
@@ -41,10 +41,11 @@ pub fn check_front_into(
     d: u32,
     out: &mut [u32],
 ) -> Result<(), PayloadFault>
-    requires count { IsCount count d }
+    requires count { IsDocCount count d }
     requires size { size ≤ length bytes.now }
     requires room { count ≤ length out.old }
-    ensures { ChecksInto (payload_of codec d) (read_payload codec) d count (take size bytes.now) out.old out.new result }
+    ensures { ChecksInto (payload_of codec d) (read_payload codec) d count
+        (take size bytes.now) out.old out.new result }
 {
     match codec {
         Codec::Varbyte => varbyte::check_front_into(bytes, size, count, d, out),
@@ -60,7 +61,7 @@ fn check_and_read(
     d: u32,
     out: &mut [u32],
 ) -> Result<(), PayloadFault>
-    requires count { IsCount count d }
+    requires count { IsDocCount count d }
     requires room { count ≤ length out.old }
     ensures { ChecksInto (payload_of codec d) (read_payload codec) d count bytes.now out.old out.new result }
 {

@@ -7,6 +7,7 @@ ghost use Rattle.lane_kernels.specs.Bitmap.{set_bits};
 ghost use Rattle.plain_codecs.specs.Bitmap.{bitmap_size};
 ghost use Rattle.segment_codecs.specs.Codecs.{chosen_codec, codec_number, codec_of, payload_of, payload_size, read_payload};
 ghost use Rattle.segment_codecs.specs.declared.codec.Codec.{Codec};
+ghost use Rattle.jass_base.specs.declared.limits.TheConstants.{MOST_DOCUMENTS};
 
 use jass_base::laws::{gap_varints_are_read, gaps_of_docs};
 use plain_codecs::{bitmap, varbyte};
@@ -16,7 +17,7 @@ pub fn payloads_are_read()
     ensures found { (codec : Codec) (d count : ℕ) (docs bytes : List ℕ) → AreDocs d docs
         → length docs ≡ count → bytes ≡ payload_of codec d docs
         → read_payload codec d count bytes ≡ Ok docs }
-    ensures only { (codec : Codec) (d count : ℕ) (docs bytes : List ℕ) → 1 ≤ count → d ≤ 2 ^ 26
+    ensures only { (codec : Codec) (d count : ℕ) (docs bytes : List ℕ) → 1 ≤ count → d ≤ MOST_DOCUMENTS
         → All (λ byte. byte < 256) bytes → read_payload codec d count bytes ≡ Ok docs
         → AreDocs d docs × (length docs ≡ count) × (bytes ≡ payload_of codec d docs) }
 {

@@ -1,6 +1,6 @@
 // The calls of each codec by its name.
 ghost use Rattle.std.specs.Prelude.{◌≡◌};
-ghost use Rattle.jass_base.specs.Codecs.{Checks, Encodes, IsCount};
+ghost use Rattle.jass_base.specs.Codecs.{Checks, Encodes, IsDocCount};
 ghost use Rattle.jass_base.specs.Gaps.{AreDocs};
 ghost use Rattle.segment_codecs.specs.Codecs.{payload_of, payload_size, read_payload};
 
@@ -38,7 +38,7 @@ pub fn encode(codec: Codec, docs: &[u32], d: u32, out: &mut Row<u8>) -> Result<(
 /// Whether the bytes are the payload of a list of `count` documents below `d`, or the first fault of
 /// the codec's check.
 pub fn check(codec: Codec, bytes: &[u8], count: u32, d: u32) -> Result<(), PayloadFault>
-    requires { IsCount count d }
+    requires { IsDocCount count d }
     ensures { Checks (payload_of codec d) (read_payload codec) d count bytes.now result }
 {
     match codec {

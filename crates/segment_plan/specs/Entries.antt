@@ -36,7 +36,7 @@ times_at terms term_place = (slice_index_or terms term_place (record { term = 0;
 abbrev pub entry_of : List QueryTerm → PlanHead → PlanEntry
 entry_of terms head = record { term_place = head.term_place; segment = head.segment; weight = head.impact * times_at terms head.term_place; count = head.count }
 
--- the plan's order: falling weight, then rising number of postings, then rising place
+-- the plan's order: falling weight, then rising number of postings, then the term's rising place in the query
 abbrev pub entry_cmp : PlanEntry → PlanEntry → Ordering
 entry_cmp a b = ordering_then (ordering_then (nat_cmp b.weight a.weight) (nat_cmp a.count b.count)) (nat_cmp a.term_place b.term_place)
 

@@ -17,7 +17,7 @@ use crate::entry::PlanEntry;
 use ranking_model::PlanSegment;
 use ranking_model::order_laws::sorted_goes_through_a_map;
 
-/// A plan of heads has the shape of the plan of definitions whose segments they are.
+/// A plan of heads has the shape of a plan of definitions whose segments have the heads' shapes.
 pub fn a_plan_of_heads_has_the_shape()
     ensures { (terms : List QueryTerm) (heads : List PlanHead) (segments : List PlanSegment) (plan : QueryPlan) →
         map shape segments ≡ map (λ head. entry_shape (entry_of terms head)) heads →

@@ -9,7 +9,7 @@ use std::alloc::Global;
 use std::marker::Model;
 
 /// The segments of a query in the order in which they are scored: by falling weight, then rising
-/// number of postings, then rising place.
+/// number of postings, then the term's rising place in the query.
 #[derive(Debug, Drop)]
 pub struct Plan {
     terms: u32,

@@ -1,5 +1,5 @@
-// Laws of the definitions. Each function does nothing; its clauses hold of all numbers, for proofs about whole
-// collections.
+//! Laws of the definitions. Each function does nothing; its clauses hold of all numbers, for proofs about whole
+//! collections.
 
 ghost use Rattle.std.specs.Prelude.{◌≡◌, ℕ, ◌-◌, ◌^◌, ◌<◌, ◌≤◌, List, length, All, Contains, IsPermutation};
 ghost use Rattle.weights.specs.declared.quantizing.Bits.{Bits};

@@ -6,6 +6,7 @@ use Rattle.lane_kernels.specs.Block.{block_bytes, block_values}
 use Rattle.lane_kernels.specs.Width.{least_width}
 use Rattle.codec_packed.specs.Giving.{AreFrom}
 use Rattle.codec_packed.specs.Reading.{block_in, read_blocks}
+use Rattle.jass_base.specs.declared.limits.TheConstants.{MOST_DOCUMENTS}
 
 -- what the kernels' laws say of blocks
 pub record BlockLaws : Type 0 where
@@ -18,7 +19,7 @@ pub record BlockLaws : Type 0 where
 
 -- what the laws of gaps say of the gaps behind the blocks
 pub record TailLaws : Type 0 where
-  pub found : (d least n : ℕ) (docs : List ℕ) → d ≤ 2 ^ 26 → AreFrom d least docs → length docs ≡ n → read_gaps d least n (spelled_gaps (gaps_from least docs)) ≡ Ok docs
+  pub found : (d least n : ℕ) (docs : List ℕ) → d ≤ MOST_DOCUMENTS → AreFrom d least docs → length docs ≡ n → read_gaps d least n (spelled_gaps (gaps_from least docs)) ≡ Ok docs
   pub only : (d least n : ℕ) (docs bytes : List ℕ) → All (λ byte. byte < 256) bytes → read_gaps d least n bytes ≡ Ok docs
       → AreFrom d least docs × (length docs ≡ n) × (bytes ≡ spelled_gaps (gaps_from least docs))
 

@@ -14,6 +14,7 @@ use Rattle.impact_segments.specs.Collections.{lengths_of, total_of}
 use Rattle.index_write.specs.Streaming.{AreNames}
 use Rattle.index_import.specs.declared.list_entry.ListEntry.{ListEntry}
 use Rattle.index_import.specs.Private.Surveying.{AreGiven, HoldsMost, KeepsAll, kept_entry}
+use Rattle.jass_base.specs.declared.limits.TheConstants.{MOST_DOCUMENTS, MOST_POSTINGS, MOST_TERMS}
 
 -- documents by rising numbers: their names and their lengths
 pub record AreInOrder (docs : List (ℕ × DocRecord)) (names : List (List ℕ)) (lengths : List ℕ) : Type 0 where
@@ -28,13 +29,13 @@ pub record IsOutlined (w : WalkView) (names : List (List ℕ)) (lengths : List �
   pub names_are : AreNames names
   pub as_many : length names ≡ w.docs
   pub docs : length lengths ≡ w.docs
-  pub few : length lengths ≤ 2 ^ 26
+  pub few : length lengths ≤ MOST_DOCUMENTS
   pub small : All (λ n. n < 2 ^ 31) lengths
   pub total_is : total ≡ total_of lengths
   pub given : AreGiven w.kept lists
-  pub few_lists : length lists ≤ 2 ^ 24
+  pub few_lists : length lists ≤ MOST_TERMS
   pub rising : AllPairs (λ (a b : ListEntry). BytesRise a.term b.term) lists
-  pub postings : sum_by (λ (e : ListEntry). e.place.count) lists ≤ 2 ^ 29
+  pub postings : sum_by (λ (e : ListEntry). e.place.count) lists ≤ MOST_POSTINGS
   pub keep_all : All (KeepsAll w.docs) lists
 
 abbrev pub nothing_there : ListData

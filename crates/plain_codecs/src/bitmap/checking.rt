@@ -1,9 +1,10 @@
 ghost use Rattle.std.specs.Prelude.{◌≡◌, ◌≤◌, ◌^◌, length, nat_lt, not};
 ghost use Rattle.std.specs.List.{list_all};
-ghost use Rattle.jass_base.specs.Codecs.{Checks, IsCount};
+ghost use Rattle.jass_base.specs.Codecs.{Checks, IsDocCount};
 ghost use Rattle.jass_base.specs.Gaps.{Judges};
 ghost use Rattle.lane_kernels.specs.Bitmap.{set_bits};
 ghost use Rattle.plain_codecs.specs.Bitmap.{bitmap_of, bitmap_size, read_bitmap};
+ghost use Rattle.jass_base.specs.declared.limits.TheConstants.{MOST_DOCUMENTS};
 
 use crate::bitmap::laws::payloads_are_read;
 use crate::bitmap::size;
@@ -15,7 +16,7 @@ use lane_kernels::laws::set_bits_rise;
 /// Cut where there are fewer bytes than d bits take, Longer where there are more. Then
 /// DocRange where a bit from d on is set, and Shape where not `count` bits are set.
 pub fn check(bytes: &[u8], count: u32, d: u32) -> Result<(), PayloadFault>
-    requires { IsCount count d }
+    requires { IsDocCount count d }
     ensures { Checks (bitmap_of d) read_bitmap d count bytes.now result }
 {
     payloads_are_read();
@@ -24,7 +25,7 @@ pub fn check(bytes: &[u8], count: u32, d: u32) -> Result<(), PayloadFault>
 
 /// The check, by what is read.
 fn judge(bytes: &[u8], count: u32, d: u32) -> Result<(), PayloadFault>
-    requires { IsCount count d }
+    requires { IsDocCount count d }
     ensures { Judges (read_bitmap d count bytes.now) result }
 {
     let size = size(d) as usize;
@@ -46,7 +47,7 @@ fn judge(bytes: &[u8], count: u32, d: u32) -> Result<(), PayloadFault>
 /// Whether a bit from d on is set.
 fn reaches(bytes: &[u8], d: u32) -> bool
     requires some { 1 ≤ d }
-    requires limit { d ≤ 2 ^ 26 }
+    requires limit { d ≤ MOST_DOCUMENTS }
     requires size { length bytes.now ≡ bitmap_size d }
     ensures { result ≡ not (list_all (λ doc. nat_lt doc d) (set_bits 0 bytes.now)) }
 {

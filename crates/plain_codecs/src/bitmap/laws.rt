@@ -4,6 +4,7 @@ ghost use Rattle.std.specs.Prelude.{ℕ, ◌≡◌, ◌≤◌, ◌<◌, ◌^◌,
 ghost use Rattle.jass_base.specs.Gaps.{AreDocs};
 ghost use Rattle.lane_kernels.specs.Bitmap.{set_bits};
 ghost use Rattle.plain_codecs.specs.Bitmap.{bitmap_of, bitmap_size, read_bitmap};
+ghost use Rattle.jass_base.specs.declared.limits.TheConstants.{MOST_DOCUMENTS};
 
 use lane_kernels::laws::set_bits_rise;
 
@@ -22,7 +23,7 @@ pub fn bits_are_documents()
 pub fn payloads_are_read()
     ensures found { (d count : ℕ) (docs bytes : List ℕ) → AreDocs d docs → length docs ≡ count
         → bytes ≡ bitmap_of d docs → read_bitmap d count bytes ≡ Ok docs }
-    ensures only { (d count : ℕ) (docs bytes : List ℕ) → 1 ≤ count → d ≤ 2 ^ 26 → All (λ byte. byte < 256) bytes
+    ensures only { (d count : ℕ) (docs bytes : List ℕ) → 1 ≤ count → d ≤ MOST_DOCUMENTS → All (λ byte. byte < 256) bytes
         → read_bitmap d count bytes ≡ Ok docs → AreDocs d docs × (length docs ≡ count) × (bytes ≡ bitmap_of d docs) }
 {
     bits_are_documents();

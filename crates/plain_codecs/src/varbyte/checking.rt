@@ -1,8 +1,9 @@
 ghost use Rattle.std.specs.Prelude.{ℕ, ◌≡◌, ◌≤◌, ◌-◌, ◌*◌, ◌^◌, length, drop, sum, IfOk, IfErr, Err};
-ghost use Rattle.jass_base.specs.Codecs.{Checks, IsCount};
+ghost use Rattle.jass_base.specs.Codecs.{Checks, IsDocCount};
 ghost use Rattle.jass_base.specs.Gaps.{Judges, read_gaps};
 ghost use Rattle.plain_codecs.specs.Private.Runs.{Continues};
 ghost use Rattle.plain_codecs.specs.Varbyte.{varbyte_of, read_varbyte};
+ghost use Rattle.jass_base.specs.declared.limits.TheConstants.{MOST_DOCUMENTS};
 
 use crate::varbyte::laws::payloads_are_read;
 use crate::varbyte::runs::small_run;
@@ -14,7 +15,7 @@ use jass_base::{PayloadFault, read_gap};
 /// seen; Shape where a fourth byte has the top bit set, or the varint isn't shortest;
 /// DocRange where the document is d or above. Then Longer where bytes are left.
 pub fn check(bytes: &[u8], count: u32, d: u32) -> Result<(), PayloadFault>
-    requires { IsCount count d }
+    requires { IsDocCount count d }
     ensures { Checks varbyte_of read_varbyte d count bytes.now result }
 {
     payloads_are_read();
@@ -23,7 +24,7 @@ pub fn check(bytes: &[u8], count: u32, d: u32) -> Result<(), PayloadFault>
 
 /// The check, by what is read.
 fn judge(bytes: &[u8], count: u32, d: u32) -> Result<(), PayloadFault>
-    requires { IsCount count d }
+    requires { IsDocCount count d }
     ensures { Judges (read_varbyte d count bytes.now) result }
 {
     let mut place = Place { at: 0, least: 0 };
@@ -54,7 +55,7 @@ struct Place {
 fn skip(bytes: &[u8], place: Place, count: u32, d: u32) -> Result<Place, PayloadFault>
     requires within { place.at ≤ length bytes.now }
     requires low { place.least ≤ d }
-    requires limit { d ≤ 2 ^ 26 }
+    requires limit { d ≤ MOST_DOCUMENTS }
     ensures within { IfOk result (λ behind. behind.at ≤ length bytes.now) }
     ensures low { IfOk result (λ behind. behind.least ≤ d) }
     ensures reads { IfOk result (λ behind. (left : ℕ) → count ≤ left
@@ -95,7 +96,7 @@ fn sum16(bytes: &[u8; 16]) -> u32
 fn skip_each(bytes: &[u8], from: Place, count: u32, d: u32) -> Result<Place, PayloadFault>
     requires within { from.at ≤ length bytes.now }
     requires low { from.least ≤ d }
-    requires limit { d ≤ 2 ^ 26 }
+    requires limit { d ≤ MOST_DOCUMENTS }
     ensures within { IfOk result (λ behind. behind.at ≤ length bytes.now) }
     ensures low { IfOk result (λ behind. behind.least ≤ d) }
     ensures reads { IfOk result (λ behind. (left : ℕ) → count ≤ left

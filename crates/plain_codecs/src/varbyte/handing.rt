@@ -1,7 +1,8 @@
 ghost use Rattle.std.specs.Prelude.{◌≡◌, ◌≤◌, ◌^◌, length, take, IfOk, IsTrue, Ok};
-ghost use Rattle.jass_base.specs.Codecs.{ChecksInto, IsCount};
+ghost use Rattle.jass_base.specs.Codecs.{ChecksInto, IsDocCount};
 ghost use Rattle.jass_base.specs.Gaps.{Judges};
 ghost use Rattle.plain_codecs.specs.Varbyte.{varbyte_of, read_varbyte};
+ghost use Rattle.jass_base.specs.declared.limits.TheConstants.{MOST_DOCUMENTS};
 
 use crate::varbyte::laws::payloads_are_read;
 use crate::varbyte::short::short_gap;
@@ -10,7 +11,7 @@ use jass_base::{PayloadFault, read_gap};
 /// The answer of `check`, and where it is Ok, the documents at the front of `out`. What stands behind
 /// them there, or all of it where there is a fault, is left open.
 pub fn check_into(bytes: &[u8], count: u32, d: u32, out: &mut [u32]) -> Result<(), PayloadFault>
-    requires count { IsCount count d }
+    requires count { IsDocCount count d }
     requires room { count ≤ length out.old }
     ensures { ChecksInto varbyte_of read_varbyte d count bytes.now out.old out.new result }
 {
@@ -21,7 +22,7 @@ pub fn check_into(bytes: &[u8], count: u32, d: u32, out: &mut [u32]) -> Result<(
 /// The same, by what is read. It is a call, so that its loop has registers of its own.
 #[inline(never)]
 fn hand_out(bytes: &[u8], count: u32, d: u32, out: &mut [u32]) -> Result<(), PayloadFault>
-    requires limit { d ≤ 2 ^ 26 }
+    requires limit { d ≤ MOST_DOCUMENTS }
     requires room { count ≤ length out.old }
     ensures judged { Judges (read_varbyte d count bytes.now) result }
     ensures docs { IfOk result (λ _. read_varbyte d count bytes.now ≡ Ok (take count out.new)) }
@@ -57,7 +58,7 @@ pub fn check_front_into(
     d: u32,
     out: &mut [u32],
 ) -> Result<(), PayloadFault>
-    requires count { IsCount count d }
+    requires count { IsDocCount count d }
     requires size { size ≤ length bytes.now }
     requires room { count ≤ length out.old }
     ensures { ChecksInto varbyte_of read_varbyte d count (take size bytes.now) out.old out.new result }
@@ -73,7 +74,7 @@ pub fn check_front_into(
 /// gap, and tells whether it was one. Where it tells no, `hand_out` finds out what there is.
 #[inline(always)]
 fn hand_out_short(bytes: &[u8], size: usize, count: u32, d: u32, out: &mut [u32]) -> bool
-    requires limit { d ≤ 2 ^ 26 }
+    requires limit { d ≤ MOST_DOCUMENTS }
     requires size { size ≤ length bytes.now }
     requires room { count ≤ length out.old }
     ensures docs { IsTrue result → read_varbyte d count (take size bytes.now) ≡ Ok (take count out.new) }

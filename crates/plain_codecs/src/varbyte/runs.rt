@@ -2,6 +2,7 @@
 ghost use Rattle.std.specs.Prelude.{ℕ, ◌≡◌, ◌+◌, ◌-◌, ◌≤◌, ◌<◌, ◌^◌, List, length, take, drop, sum, ◌++◌, All, IsTrue, IsFalse, IfSome};
 ghost use Rattle.jass_base.specs.Gaps.{docs_from};
 ghost use Rattle.plain_codecs.specs.Private.Runs.{IsRun};
+ghost use Rattle.jass_base.specs.declared.limits.TheConstants.{MOST_DOCUMENTS};
 
 use jass_base::{known_gap, laws};
 use lane_kernels::{running128, small16, widen16};
@@ -90,7 +91,7 @@ pub(crate) fn small_run(bytes: &[u8], at: usize) -> Option<&[u8; 16]>
 /// that a document behind them may be.
 pub(crate) fn docs_of_gaps(least: u32, count: usize, out: &mut [u32; 128]) -> u32
     requires block { count ≤ 128 }
-    requires room { least + sum (take count out.old) + count ≤ 2 ^ 26 }
+    requires room { least + sum (take count out.old) + count ≤ MOST_DOCUMENTS }
     ensures docs { take count out.new ≡ docs_from least (take count out.old) }
     ensures behind { result ≡ least + sum (take count out.old) + count }
 {

@@ -17,13 +17,13 @@ returns-then-bytes-at-lt8 c =
     rw is refl
 
 pub overflow_cast-gaps : goal.overflow_cast-gaps
-overflow_cast-gaps c = record { fits = omega (arith, c.count_at-gaps.ensures, count_most (c.word_at-word.result % 16) (omega arith)) }
+overflow_cast-gaps c = record { fits = omega (arith, c.count-gaps.ensures, count_most c.of-selector.result.number c.of-selector.result.few) }
 
 pub returns-then-gaps-left : goal.returns-then-gaps-left
 returns-then-gaps-left c =
     let word = c.word_at-word.ensures in
     let long : 8 ≤ length (drop c.loop-left.at c.args.bytes.now) = omega (arith, c.if-bytes-at-lt8.false, length-drop c.loop-left.at c.args.bytes.now) in
-    let many : c.loop-left.left < count_of (word_in (drop c.loop-left.at c.args.bytes.now) % 16) = subst (λ word. c.loop-left.left < count_of (word % 16)) c.word_at-word.ensures (omega (arith, c.count_at-gaps.ensures, c.if-gaps-left.true)) in
+    let many : c.loop-left.left < count_of (word_in (drop c.loop-left.at c.args.bytes.now) % 16) = subst (λ word. c.loop-left.left < count_of (word % 16)) c.word_at-word.ensures (omega (arith, c.count-gaps.ensures, ap count_of c.of-selector.ensures, c.if-gaps-left.true)) in
     let is = walk_fault (read_words c.args.count c.args.d 0 c.args.count c.args.bytes.now) c.args.d c.args.bytes.now c.loop-left.at c.loop-left.left c.loop-left.least Shape c.loop-left.invariant (omega (arith, c.loop-left-test.true))
     (word_shape c.args.d c.loop-left.least c.loop-left.left (drop c.loop-left.at c.args.bytes.now) long many) in
     rw is refl
@@ -31,24 +31,24 @@ returns-then-gaps-left c =
 pub returns-then-least-from : goal.returns-then-least-from
 returns-then-least-from c =
     let long : 8 ≤ length (drop c.loop-left.at c.args.bytes.now) = omega (arith, c.if-bytes-at-lt8.false, length-drop c.loop-left.at c.args.bytes.now) in
-    let few = few_gaps c.loop-left.left (drop c.loop-left.at c.args.bytes.now) c.word_at-word.result c.count_at-gaps.result c.word_at-word.ensures c.count_at-gaps.ensures c.if-gaps-left.false in
-    let least = least_after c.loop-left.least (drop c.loop-left.at c.args.bytes.now) c.word_at-word.result c.sum_gaps.result c.from.result c.word_at-word.ensures c.sum_gaps.ensures.sum (c.from.ensures ∙ c.count_at-gaps.ensures) in
+    let few = few_gaps c.loop-left.left (drop c.loop-left.at c.args.bytes.now) c.word_at-word.result c.of-selector.result.number c.count-gaps.result c.word_at-word.ensures c.of-selector.ensures c.count-gaps.ensures c.if-gaps-left.false in
+    let least = least_after c.loop-left.least (drop c.loop-left.at c.args.bytes.now) c.word_at-word.result c.of-selector.result.number c.sum_gaps.result c.from.result c.word_at-word.ensures c.of-selector.ensures c.sum_gaps.ensures.sum (c.from.ensures ∙ c.count-gaps.ensures) in
     let is = walk_fault (read_words c.args.count c.args.d 0 c.args.count c.args.bytes.now) c.args.d c.args.bytes.now c.loop-left.at c.loop-left.left c.loop-left.least DocRange c.loop-left.invariant (omega (arith, c.loop-left-test.true))
     (word_range c.args.d c.loop-left.least c.loop-left.left (drop c.loop-left.at c.args.bytes.now) long few c.loop-left.invariant.low (omega (arith, c.if-least-from.true, c.from-in-loop-left.ensures, least))) in
     rw is refl
 
 pub loop-left-smaller : goal.loop-left-smaller
-loop-left-smaller c = omega (arith, c.count_at-gaps.ensures, count_some (c.word_at-word.result % 16) (omega arith), c.loop-left-test.true)
+loop-left-smaller c = omega (arith, c.count-gaps.ensures, count_some c.of-selector.result.number c.of-selector.result.few, c.loop-left-test.true)
 
 pub loop-left-preserved : goal.loop-left-preserved
 loop-left-preserved c =
     let long : 8 ≤ length (drop c.loop-left.at c.args.bytes.now) = omega (arith, c.if-bytes-at-lt8.false, length-drop c.loop-left.at c.args.bytes.now) in
-    let few = few_gaps c.loop-left.left (drop c.loop-left.at c.args.bytes.now) c.word_at-word.result c.count_at-gaps.result c.word_at-word.ensures c.count_at-gaps.ensures c.if-gaps-left.false in
-    let least = least_after c.loop-left.least (drop c.loop-left.at c.args.bytes.now) c.word_at-word.result c.sum_gaps.result c.from.result c.word_at-word.ensures c.sum_gaps.ensures.sum (c.from.ensures ∙ c.count_at-gaps.ensures) in
+    let few = few_gaps c.loop-left.left (drop c.loop-left.at c.args.bytes.now) c.word_at-word.result c.of-selector.result.number c.count-gaps.result c.word_at-word.ensures c.of-selector.ensures c.count-gaps.ensures c.if-gaps-left.false in
+    let least = least_after c.loop-left.least (drop c.loop-left.at c.args.bytes.now) c.word_at-word.result c.of-selector.result.number c.sum_gaps.result c.from.result c.word_at-word.ensures c.of-selector.ensures c.sum_gaps.ensures.sum (c.from.ensures ∙ c.count-gaps.ensures) in
     let low : least_behind c.loop-left.least (gaps_in (word_in (drop c.loop-left.at c.args.bytes.now))) ≤ c.args.d = omega (arith, c.if-least-from.false, c.from-in-loop-left.ensures, least) in
     let own = length-gaps_in (word_in (drop c.loop-left.at c.args.bytes.now)) in
     let many : 0 < length (gaps_in (word_in (drop c.loop-left.at c.args.bytes.now))) = omega (arith, own, count_some (word_in (drop c.loop-left.at c.args.bytes.now) % 16) (omega arith)) in
-    let count : c.count_at-gaps.result ≡ length (gaps_in (word_in (drop c.loop-left.at c.args.bytes.now))) = c.count_at-gaps.ensures ∙ ap (λ word. count_of (word % 16)) c.word_at-word.ensures ∙ sym own in
+    let count : c.count-gaps.result ≡ length (gaps_in (word_in (drop c.loop-left.at c.args.bytes.now))) = c.count-gaps.ensures ∙ ap count_of c.of-selector.ensures ∙ ap (λ word. count_of (word % 16)) c.word_at-word.ensures ∙ sym own in
     rw (least, count) (walk_one (read_words c.args.count c.args.d 0 c.args.count c.args.bytes.now) c.args.d c.args.bytes.now c.loop-left.at c.loop-left.left c.loop-left.least (gaps_in (word_in (drop c.loop-left.at c.args.bytes.now)))
     c.loop-left.invariant (omega (arith, c.loop-left-test.true)) long many low
     (word_ok c.args.d c.loop-left.least c.loop-left.left (drop c.loop-left.at c.args.bytes.now) long few low))

@@ -24,13 +24,13 @@ overflow_mul-result c =
     record { fits = omega (arith, long, few, most, c.loop-at.invariant.1) }
 
 pub loop-at-smaller : goal.loop-at-smaller
-loop-at-smaller c = omega (arith, c.count_at-at.ensures, count_some c.selector_at.result c.selector_at.ensures.selectors, c.loop-at-test.true, c.selector_at.ensures.few)
+loop-at-smaller c = omega (arith, c.count-at.ensures, count_some c.selector_at.result.number c.selector_at.result.few, c.loop-at-test.true, c.selector_at.ensures.few)
 
 pub loop-at-preserved : goal.loop-at-preserved
 loop-at-preserved c =
     let long = length-gaps_from 0 c.args.docs.now in
-    let next = next_length (gaps_of c.args.docs.now) c.loop-at.at c.selector_at.result (omega (arith, long, c.loop-at-test.true)) c.selector_at.ensures.selector in
-    (omega (arith, c.count_at-at.ensures, c.selector_at.ensures.few), rw c.count_at-at.ensures (omega (arith, next, c.loop-at.invariant.1)))
+    let next = next_length (gaps_of c.args.docs.now) c.loop-at.at c.selector_at.result.number (omega (arith, long, c.loop-at-test.true)) c.selector_at.ensures.selector in
+    (omega (arith, c.count-at.ensures, c.selector_at.ensures.few), rw c.count-at.ensures (omega (arith, next, c.loop-at.invariant.1)))
 
 pub returns : goal.returns
 returns c =

@@ -22,16 +22,16 @@ returns-then-bytes-limit-clause-none c =
     λ none. omega (arith, more, c.loop-at.invariant.all, c.if-bytes-limit.true)
 
 pub loop-at-smaller : goal.loop-at-smaller
-loop-at-smaller c = omega (arith, c.count_at-at.ensures, count_some c.selector_at.result c.selector_at.ensures.selectors, c.loop-at-test.true, c.selector_at.ensures.few)
+loop-at-smaller c = omega (arith, c.count-at.ensures, count_some c.selector_at.result.number c.selector_at.result.few, c.loop-at-test.true, c.selector_at.ensures.few)
 
 pub loop-at-preserved : goal.loop-at-preserved
 loop-at-preserved c =
     let long = length-gaps_from 0 c.args.docs.now in
-    let next = next_length (gaps_of c.args.docs.now) c.loop-at.at c.selector_at.result (omega (arith, long, c.loop-at-test.true)) c.selector_at.ensures.selector in
+    let next = next_length (gaps_of c.args.docs.now) c.loop-at.at c.selector_at.result.number (omega (arith, long, c.loop-at-test.true)) c.selector_at.ensures.selector in
     record {
-      within = omega (arith, c.count_at-at.ensures, c.selector_at.ensures.few);
+      within = omega (arith, c.count-at.ensures, c.selector_at.ensures.few);
       below = λ some. omega (arith, c.if-bytes-limit.false);
-      all = rw c.count_at-at.ensures (omega (arith, next, c.loop-at.invariant.all));
+      all = rw c.count-at.ensures (omega (arith, next, c.loop-at.invariant.all));
     }
 
 pub returns-clause-some : goal.returns-clause-some

@@ -11,7 +11,7 @@ use Rattle.codec_simple8.proofs.WordParts.{value_put, selector_put}
 use Rattle.codec_simple8.proofs.encoding.word_from.Goals as goal
 
 pub overflow_shl-values : goal.overflow_shl-values
-overflow_shl-values c = omega (arith, c.width_at-width.ensures, width_most c.args.selector c.requires.selectors)
+overflow_shl-values c = omega (arith, c.width-width.ensures, width_most c.args.selector.number c.args.selector.few)
 
 -- the selector takes the gaps
 taken : (docs : List ℕ) (at s d : ℕ) → AreDocs d docs → s < 16 → s ≡ selector_of (drop at (gaps_of docs)) → at + count_of s ≤ length docs → takes s (drop at (gaps_of docs)) ≡ true
@@ -23,21 +23,21 @@ taken docs at s d are small is few =
 
 pub loop-i-preserved : goal.loop-i-preserved
 loop-i-preserved c =
-    let s = c.args.selector in
-    let takes_them = taken c.args.docs.now c.args.at c.args.selector c.requires.docs.0 c.requires.docs.1 c.requires.selectors c.requires.selector c.requires.few in
-    let long = length-take-le (count_of c.args.selector) (drop c.args.at (gaps_of c.args.docs.now)) (takes_enough c.args.selector (drop c.args.at (gaps_of c.args.docs.now)) takes_them) in
-    let short : width_of c.args.selector * length (take (count_of c.args.selector) (drop c.args.at (gaps_of c.args.docs.now))) ≤ 60 = rw long (bits_most c.args.selector c.requires.selectors) in
-    let put = value_put (width_of c.args.selector) c.loop-i.i (take (count_of c.args.selector) (drop c.args.at (gaps_of c.args.docs.now)))
-    (takes_narrow c.args.selector (drop c.args.at (gaps_of c.args.docs.now)) takes_them) short (omega (arith, c.loop-i-test.true))
+    let s = c.args.selector.number in
+    let takes_them = taken c.args.docs.now c.args.at c.args.selector.number c.requires.docs.0 c.requires.docs.1 c.args.selector.few c.requires.selector c.requires.few in
+    let long = length-take-le (count_of c.args.selector.number) (drop c.args.at (gaps_of c.args.docs.now)) (takes_enough c.args.selector.number (drop c.args.at (gaps_of c.args.docs.now)) takes_them) in
+    let short : width_of c.args.selector.number * length (take (count_of c.args.selector.number) (drop c.args.at (gaps_of c.args.docs.now))) ≤ 60 = rw long (bits_most c.args.selector.number c.args.selector.few) in
+    let put = value_put (width_of c.args.selector.number) c.loop-i.i (take (count_of c.args.selector.number) (drop c.args.at (gaps_of c.args.docs.now)))
+    (takes_narrow c.args.selector.number (drop c.args.at (gaps_of c.args.docs.now)) takes_them) short (omega (arith, c.loop-i-test.true))
     (omega (arith, long, c.loop-i.invariant.0)) in
-    let value : c.from.result ≡ get_or (take (count_of c.args.selector) (drop c.args.at (gaps_of c.args.docs.now))) (c.loop-i.i - 1) 0 =
-    c.from.ensures ∙ c.gap_at.ensures.gap ∙ sym (get_or-drop c.args.at (gaps_of c.args.docs.now) (c.loop-i.i - 1) 0) ∙ sym (get_or-take (count_of c.args.selector) (drop c.args.at (gaps_of c.args.docs.now)) (c.loop-i.i - 1) 0 (omega (arith, c.loop-i.invariant.0, c.loop-i-test.true))) in
-    (omega (arith, c.loop-i.invariant.0), rw (c.width_at-width.ensures, value, c.loop-i.invariant.1) put)
+    let value : c.from.result ≡ get_or (take (count_of c.args.selector.number) (drop c.args.at (gaps_of c.args.docs.now))) (c.loop-i.i - 1) 0 =
+    c.from.ensures ∙ c.gap_at.ensures.gap ∙ sym (get_or-drop c.args.at (gaps_of c.args.docs.now) (c.loop-i.i - 1) 0) ∙ sym (get_or-take (count_of c.args.selector.number) (drop c.args.at (gaps_of c.args.docs.now)) (c.loop-i.i - 1) 0 (omega (arith, c.loop-i.invariant.0, c.loop-i-test.true))) in
+    (omega (arith, c.loop-i.invariant.0), rw (c.width-width.ensures, value, c.loop-i.invariant.1) put)
 
 pub returns : goal.returns
 returns c =
-    let takes_them = taken c.args.docs.now c.args.at c.args.selector c.requires.docs.0 c.requires.docs.1 c.requires.selectors c.requires.selector c.requires.few in
+    let takes_them = taken c.args.docs.now c.args.at c.args.selector.number c.requires.docs.0 c.requires.docs.1 c.args.selector.few c.requires.selector c.requires.few in
     let none : c.loop-i.i ≡ 0 = omega (arith, c.loop-i-test.false) in
-    let values : c.loop-i.values ≡ number_l (2 ^ width_of c.args.selector) (take (count_of c.args.selector) (drop c.args.at (gaps_of c.args.docs.now))) =
-    c.loop-i.invariant.1 ∙ ap (λ i. number_l (2 ^ width_of c.args.selector) (drop i (take (count_of c.args.selector) (drop c.args.at (gaps_of c.args.docs.now))))) none in
-    rw values (selector_put c.args.selector (drop c.args.at (gaps_of c.args.docs.now)) c.requires.selectors takes_them)
+    let values : c.loop-i.values ≡ number_l (2 ^ width_of c.args.selector.number) (take (count_of c.args.selector.number) (drop c.args.at (gaps_of c.args.docs.now))) =
+    c.loop-i.invariant.1 ∙ ap (λ i. number_l (2 ^ width_of c.args.selector.number) (drop i (take (count_of c.args.selector.number) (drop c.args.at (gaps_of c.args.docs.now))))) none in
+    rw values (selector_put c.args.selector.number (drop c.args.at (gaps_of c.args.docs.now)) c.args.selector.few takes_them)

@@ -5,7 +5,7 @@ use Rattle.codec_simple8.specs.Simple8.{count_of, width_of}
 use Rattle.codec_simple8.proofs.encoding.word_from.Given as goal
 
 abbrev pub invariant-loop-i : goal.invariant-loop-i
-invariant-loop-i l = (l.i ≤ count_of l.selector) × (l.values ≡ number_l (2 ^ width_of l.selector) (drop l.i (take (count_of l.selector) (drop l.at (gaps_of l.docs)))))
+invariant-loop-i l = (l.i ≤ count_of l.selector.number) × (l.values ≡ number_l (2 ^ width_of l.selector.number) (drop l.i (take (count_of l.selector.number) (drop l.at (gaps_of l.docs)))))
 
 abbrev pub decreases-loop-i : goal.decreases-loop-i
 decreases-loop-i l = l.i

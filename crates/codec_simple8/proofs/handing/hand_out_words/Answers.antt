@@ -22,12 +22,12 @@ returns-then-bytes-at-lt8-clause-judged c =
     rw is refl
 
 pub overflow_cast-gaps : goal.overflow_cast-gaps
-overflow_cast-gaps c = record { fits = omega (arith, c.count_at-gaps.ensures, count_most (c.word_at-word.result % 16) (omega arith)) }
+overflow_cast-gaps c = record { fits = omega (arith, c.count-gaps.ensures, count_most c.of-selector.result.number c.of-selector.result.few) }
 
 pub returns-then-gaps-left-clause-judged : goal.returns-then-gaps-left-clause-judged
 returns-then-gaps-left-clause-judged c =
     let long : 8 ≤ length (drop c.words.at c.args.bytes.now) = omega (arith, c.if-bytes-at-lt8.false, length-drop c.words.at c.args.bytes.now) in
-    let many : c.words.left < count_of (word_in (drop c.words.at c.args.bytes.now) % 16) = subst (λ word. c.words.left < count_of (word % 16)) c.word_at-word.ensures (omega (arith, c.count_at-gaps.ensures, c.if-gaps-left.true)) in
+    let many : c.words.left < count_of (word_in (drop c.words.at c.args.bytes.now) % 16) = subst (λ word. c.words.left < count_of (word % 16)) c.word_at-word.ensures (omega (arith, c.count-gaps.ensures, ap count_of c.of-selector.ensures, c.if-gaps-left.true)) in
     let is = walk_fault (read_words c.args.count c.args.d 0 c.args.count c.args.bytes.now) c.args.d c.args.bytes.now c.words.at c.words.left c.words.least Shape c.words.invariant.walk (omega (arith, c.words-test.true))
     (word_shape c.args.d c.words.least c.words.left (drop c.words.at c.args.bytes.now) long many) in
     rw is refl
@@ -36,8 +36,8 @@ pub returns-then-behind-from-clause-judged : goal.returns-then-behind-from-claus
 returns-then-behind-from-clause-judged c =
     let rest = drop c.words.at c.args.bytes.now in
     let long : 8 ≤ length rest = omega (arith, c.if-bytes-at-lt8.false, length-drop c.words.at c.args.bytes.now) in
-    let few = few_gaps c.words.left rest c.word_at-word.result c.count_at-gaps.result c.word_at-word.ensures c.count_at-gaps.ensures c.if-gaps-left.false in
-    let least = least_after c.words.least rest c.word_at-word.result c.sum_gaps.result c.from-in-words.result c.word_at-word.ensures c.sum_gaps.ensures.sum (c.from-in-words.ensures ∙ c.count_at-gaps.ensures) in
+    let few = few_gaps c.words.left rest c.word_at-word.result c.of-selector.result.number c.count-gaps.result c.word_at-word.ensures c.of-selector.ensures c.count-gaps.ensures c.if-gaps-left.false in
+    let least = least_after c.words.least rest c.word_at-word.result c.of-selector.result.number c.sum_gaps.result c.from-in-words.result c.word_at-word.ensures c.of-selector.ensures c.sum_gaps.ensures.sum (c.from-in-words.ensures ∙ c.count-gaps.ensures) in
     let is = walk_fault (read_words c.args.count c.args.d 0 c.args.count c.args.bytes.now) c.args.d c.args.bytes.now c.words.at c.words.left c.words.least DocRange c.words.invariant.walk (omega (arith, c.words-test.true))
     (word_range c.args.d c.words.least c.words.left rest long few c.words.invariant.walk.low (omega (arith, c.if-behind-from.true, c.from.ensures, c.from-in-words-2.ensures, least))) in
     rw is refl
@@ -46,13 +46,13 @@ pub put_gaps-least-requires-clause-below : goal.put_gaps-least-requires-clause-b
 unfolding gaps_in
 put_gaps-least-requires-clause-below c =
     let word = c.word_at-word.result in
-    let sum_is = word_behind c.words.least word c.sum_gaps.result c.sum_gaps.ensures.sum in
-    let low : least_behind c.words.least (gaps_in word) ≤ c.args.d = omega (arith, sum_is, c.if-behind-from.false, c.from.ensures, c.from-in-words.ensures, c.from-in-words-2.ensures, c.count_at-gaps.ensures) in
+    let sum_is = word_behind c.words.least word c.of-selector.result.number c.sum_gaps.result c.of-selector.ensures c.sum_gaps.ensures.sum in
+    let low : least_behind c.words.least (gaps_in word) ≤ c.args.d = omega (arith, sum_is, c.if-behind-from.false, c.from.ensures, c.from-in-words.ensures, c.from-in-words-2.ensures, c.count-gaps.ensures) in
     let docs = docs_from c.words.least (gaps_in word) in
-    All-from_below (2 ^ 26) docs (Below-wider c.args.d (2 ^ 26) docs c.requires.limit (below_behind c.args.d c.words.least (gaps_in word) low))
+    rw c.of-selector.ensures (All-from_below (2 ^ 26) docs (Below-wider c.args.d (2 ^ 26) docs c.requires.limit (below_behind c.args.d c.words.least (gaps_in word) low)))
 
 pub words-smaller : goal.words-smaller
-words-smaller c = omega (arith, c.count_at-gaps.ensures, count_some (c.word_at-word.result % 16) (omega arith), c.words-test.true)
+words-smaller c = omega (arith, c.count-gaps.ensures, count_some c.of-selector.result.number c.of-selector.result.few, c.words-test.true)
 
 pub words-preserved : goal.words-preserved
 unfolding gaps_in
@@ -61,14 +61,14 @@ words-preserved c =
     let own = gaps_in (word_in rest) in
     let filled = c.args.count - c.words.left in
     let long : 8 ≤ length rest = omega (arith, c.if-bytes-at-lt8.false, length-drop c.words.at c.args.bytes.now) in
-    let few = few_gaps c.words.left rest c.word_at-word.result c.count_at-gaps.result c.word_at-word.ensures c.count_at-gaps.ensures c.if-gaps-left.false in
-    let least = least_after c.words.least rest c.word_at-word.result c.sum_gaps.result c.from-in-words.result c.word_at-word.ensures c.sum_gaps.ensures.sum (c.from-in-words.ensures ∙ c.count_at-gaps.ensures) in
+    let few = few_gaps c.words.left rest c.word_at-word.result c.of-selector.result.number c.count-gaps.result c.word_at-word.ensures c.of-selector.ensures c.count-gaps.ensures c.if-gaps-left.false in
+    let least = least_after c.words.least rest c.word_at-word.result c.of-selector.result.number c.sum_gaps.result c.from-in-words.result c.word_at-word.ensures c.of-selector.ensures c.sum_gaps.ensures.sum (c.from-in-words.ensures ∙ c.count-gaps.ensures) in
     let low : least_behind c.words.least own ≤ c.args.d = omega (arith, c.if-behind-from.false, c.from.ensures, c.from-in-words-2.ensures, least) in
     let many : 0 < length own = omega (arith, length-gaps_in (word_in rest), count_some (word_in rest % 16) (omega arith)) in
-    let count : c.count_at-gaps.result ≡ length own = c.count_at-gaps.ensures ∙ ap (λ word. count_of (word % 16)) c.word_at-word.ensures ∙ sym (length-gaps_in (word_in rest)) in
-    let next : c.put_gaps-least.result ≡ least_behind c.words.least own = c.put_gaps-least.ensures.next ∙ ap (λ word. least_behind c.words.least (gaps_in word)) c.word_at-word.ensures in
+    let count : c.count-gaps.result ≡ length own = c.count-gaps.ensures ∙ ap count_of c.of-selector.ensures ∙ ap (λ word. count_of (word % 16)) c.word_at-word.ensures ∙ sym (length-gaps_in (word_in rest)) in
+    let next : c.put_gaps-least.result ≡ least_behind c.words.least own = (rw c.of-selector.ensures at c.put_gaps-least.ensures.next) ∙ ap (λ word. least_behind c.words.least (gaps_in word)) c.word_at-word.ensures in
     let put : take (filled + count_of (word_in rest % 16)) c.put_gaps-least.new.out ≡ take filled c.words.out ++ docs_from c.words.least own =
-    subst (λ word. take (filled + count_of (word % 16)) c.put_gaps-least.new.out ≡ take filled c.words.out ++ docs_from c.words.least (gaps_in word)) c.word_at-word.ensures c.put_gaps-least.ensures.docs in
+    subst (λ word. take (filled + count_of (word % 16)) c.put_gaps-least.new.out ≡ take filled c.words.out ++ docs_from c.words.least (gaps_in word)) c.word_at-word.ensures (rw c.of-selector.ensures at c.put_gaps-least.ensures.docs) in
     rw (next, count) (handed_one (read_words c.args.count c.args.d 0 c.args.count c.args.bytes.now) c.args.d c.args.bytes.now c.args.count c.words.at c.words.left c.words.least c.args.out.now c.words.out c.put_gaps-least.new.out own
     c.words.invariant (omega (arith, c.words-test.true)) long many (omega (arith, few, length-gaps_in (word_in rest))) low (word_ok c.args.d c.words.least c.words.left rest long few low)
     (ap (λ n. take (filled + n) c.put_gaps-least.new.out) (length-gaps_in (word_in rest)) ∙ put) c.put_gaps-least.ensures.length)

@@ -27,9 +27,9 @@ least_each k s from less =
     let w : nat_lt (k + 1) (count_of s) ≡ true = rw v at u in
     grind (arith, nat_tests)
 
-pub returns-clause-small : goal.returns-clause-small
+pub invariant_of-result : goal.invariant_of-result
 unfolding table
-returns-clause-small c = small_each (c.args.seen - 1) (omega (arith, c.requires.some, c.requires.most))
+invariant_of-result c = record { few = small_each (c.args.seen - 1) (omega (arith, c.requires.some, c.requires.most)) }
 
 pub returns-clause-few : goal.returns-clause-few
 unfolding table

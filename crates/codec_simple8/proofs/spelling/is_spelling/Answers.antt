@@ -19,21 +19,21 @@ word_at-requires c =
     omega (arith, one.long, length-drop c.loop-left.at c.args.bytes.now)
 
 pub overflow_cast-left : goal.overflow_cast-left
-overflow_cast-left c = record { fits = omega (arith, c.count_at.ensures, count_most (c.word_at.result % 16) (omega arith)) }
+overflow_cast-left c = record { fits = omega (arith, c.count.ensures, count_most c.of.result.number c.of.result.few) }
 
 pub overflow_sub-left : goal.overflow_sub-left
 overflow_sub-left c =
     let one = words_one (drop c.loop-left.at c.args.bytes.now) c.loop-left.left c.loop-left.invariant.words (omega (arith, c.loop-left-test.true)) in
     let few : count_of (c.word_at.result % 16) ≤ c.loop-left.left = subst (λ word. count_of (word % 16) ≤ c.loop-left.left) (sym c.word_at.ensures) one.few in
-    omega (arith, c.count_at.ensures, few)
+    omega (arith, c.count.ensures, ap count_of c.of.ensures, few)
 
 pub loop-left-smaller : goal.loop-left-smaller
-loop-left-smaller c = omega (arith, c.count_at.ensures, count_some (c.word_at.result % 16) (omega arith), c.loop-left-test.true)
+loop-left-smaller c = omega (arith, c.count.ensures, count_some c.of.result.number c.of.result.few, c.loop-left-test.true)
 
 pub loop-left-preserved : goal.loop-left-preserved
 loop-left-preserved c =
     let one = words_one (drop c.loop-left.at c.args.bytes.now) c.loop-left.left c.loop-left.invariant.words (omega (arith, c.loop-left-test.true)) in
-    let count : c.count_at.result ≡ count_of (word_in (drop c.loop-left.at c.args.bytes.now) % 16) = c.count_at.ensures ∙ ap (λ word. count_of (word % 16)) c.word_at.ensures in
+    let count : c.count.result ≡ count_of (word_in (drop c.loop-left.at c.args.bytes.now) % 16) = c.count.ensures ∙ ap count_of c.of.ensures ∙ ap (λ word. count_of (word % 16)) c.word_at.ensures in
     rw (count, sym (drop-drop 8 c.loop-left.at c.args.bytes.now)) (record {
       words = one.next;
       same = c.loop-left.invariant.same ∙ spelling_one (drop c.loop-left.at c.args.bytes.now) c.loop-left.left c.loop-left.invariant.words (omega (arith, c.loop-left-test.true))

@@ -1,4 +1,4 @@
-use Rattle.std.proofs.Common.{◌≡◌, ℕ, ◌-◌, ◌*◌, ◌/◌, ◌%◌, ◌≤◌, ◌^◌, List, [], drop, take, length, length-drop, true, false, nat_lt, sym, ap, ◌∙◌, arith}
+use Rattle.std.proofs.Common.{◌≡◌, ℕ, ◌-◌, ◌*◌, ◌/◌, ◌%◌, ◌≤◌, ◌^◌, drop, take, length, length-drop, true, false, nat_lt, sym, ap, ◌∙◌, arith}
 use Rattle.std.specs.Prelude.{nat_le}
 use Rattle.std.specs.List.{list_all}
 use Rattle.std.proofs.lemmas.Bool.Decides.{nat_tests}
@@ -15,49 +15,51 @@ word_at-word-requires c =
     omega (arith, one.long, length-drop c.args.at c.args.bytes.now)
 
 pub overflow_cast-used : goal.overflow_cast-used
-overflow_cast-used c = record { fits = omega (arith, c.count_at.ensures, count_most (c.word_at-word.result % 16) (omega arith)) }
+overflow_cast-used c = record { fits = omega (arith, c.count.ensures, count_most c.of-selector.result.number c.of-selector.result.few) }
 
 pub overflow_mul-used : goal.overflow_mul-used
-overflow_mul-used c = let most = bits_most (c.word_at-word.result % 16) (omega arith) in rw (c.width_at.ensures, c.count_at.ensures) (record { fits = omega (arith, most) })
+overflow_mul-used c = let most = bits_most c.of-selector.result.number c.of-selector.result.few in rw (c.width.ensures, c.count.ensures) (record { fits = omega (arith, most) })
 
 pub overflow_cast-used-2 : goal.overflow_cast-used-2
-overflow_cast-used-2 c = let most = bits_most (c.word_at-word.result % 16) (omega arith) in rw (c.width_at.ensures, c.count_at.ensures) (record { fits = omega (arith, most) })
+overflow_cast-used-2 c = let most = bits_most c.of-selector.result.number c.of-selector.result.few in rw (c.width.ensures, c.count.ensures) (record { fits = omega (arith, most) })
 
 pub overflow_shr-word : goal.overflow_shr-word
-overflow_shr-word c = let most = bits_most (c.word_at-word.result % 16) (omega arith) in rw (c.width_at.ensures, c.count_at.ensures) (omega (arith, most))
+overflow_shr-word c = let most = bits_most c.of-selector.result.number c.of-selector.result.few in rw (c.width.ensures, c.count.ensures) (omega (arith, most))
 
 -- the word's bits that are used
-used : (word w c : ℕ) (gaps : List ℕ) → w ≡ width_of (word % 16) → c ≡ count_of (word % 16) → w * c ≡ width_of (word % 16) * count_of (word % 16)
-used word w c gaps wide many = ap (λ w. w * c) wide ∙ ap (λ c. width_of (word % 16) * c) many
+used : (word selector w c : ℕ) → selector ≡ word % 16 → w ≡ width_of selector → c ≡ count_of selector → w * c ≡ width_of (word % 16) * count_of (word % 16)
+used word selector w c its wide many = ap (λ w. w * c) wide ∙ ap (λ c. width_of selector * c) many ∙ ap (λ s. width_of s * count_of s) its
 
 pub returns-then-word-used-ne0 : goal.returns-then-word-used-ne0
 returns-then-word-used-ne0 c =
-    let bits = used c.word_at-word.result c.width_at.result c.count_at.result [] c.width_at.ensures c.count_at.ensures in
+    let bits = used c.word_at-word.result c.of-selector.result.number c.width.result c.count.result c.of-selector.ensures c.width.ensures c.count.ensures in
     rw (sym c.word_at-word.ensures) (test_unused c.word_at-word.result (bytes_gaps (drop c.args.at c.args.bytes.now)) (λ none. c.if-word-used-ne0.true (ap (λ b. c.word_at-word.result / 16 / 2 ^ b) bits ∙ none)))
 
 pub returns-then-selector-eq0 : goal.returns-then-selector-eq0
 returns-then-selector-eq0 c =
-    let bits = used c.word_at-word.result c.width_at.result c.count_at.result [] c.width_at.ensures c.count_at.ensures in
-    rw (sym c.word_at-word.ensures) (test_first c.word_at-word.result (bytes_gaps (drop c.args.at c.args.bytes.now)) (ap (λ b. c.word_at-word.result / 16 / 2 ^ b) (sym bits) ∙ c.if-word-used-ne0.false) c.if-selector-eq0.true)
+    let bits = used c.word_at-word.result c.of-selector.result.number c.width.result c.count.result c.of-selector.ensures c.width.ensures c.count.ensures in
+    rw (sym c.word_at-word.ensures) (test_first c.word_at-word.result (bytes_gaps (drop c.args.at c.args.bytes.now)) (ap (λ b. c.word_at-word.result / 16 / 2 ^ b) (sym bits) ∙ c.if-word-used-ne0.false) (sym c.of-selector.ensures ∙ c.if-selector-eq0.true))
 
 pub are_narrow-requires-clause-width : goal.are_narrow-requires-clause-width
-are_narrow-requires-clause-width c = omega (arith, c.width_at-else-more-left.ensures, width_most (c.word_at-word.result % 16 - 1) (omega arith))
+are_narrow-requires-clause-width c = omega (arith, c.width-else-more-left.ensures, width_most c.before-narrower.result.number c.before-narrower.result.few)
 
 pub returns-then-more-left : goal.returns-then-more-left
 returns-then-more-left c =
-    let bits = used c.word_at-word.result c.width_at.result c.count_at.result [] c.width_at.ensures c.count_at.ensures in
+    let bits = used c.word_at-word.result c.of-selector.result.number c.width.result c.count.result c.of-selector.ensures c.width.ensures c.count.ensures in
+    let its : c.before-narrower.result.number ≡ c.word_at-word.result % 16 - 1 = c.before-narrower.ensures ∙ ap (λ s. s - 1) c.of-selector.ensures in
     let less = c.if-more-left.true in
-    let t : nat_lt c.args.left c.count_at-more.result ≡ true = grind (arith, nat_tests) in
-    let fails = fails_few (bytes_gaps (drop c.args.at c.args.bytes.now)) (c.word_at-word.result % 16 - 1) (omega (arith, c.requires.words.count, c.count_at-more.ensures, c.if-more-left.true)) in
-    rw (t, sym c.word_at-word.ensures) (test_later c.word_at-word.result (bytes_gaps (drop c.args.at c.args.bytes.now)) false (ap (λ b. c.word_at-word.result / 16 / 2 ^ b) (sym bits) ∙ c.if-word-used-ne0.false) c.if-selector-eq0.false fails)
+    let t : nat_lt c.args.left c.count-more.result ≡ true = grind (arith, nat_tests) in
+    let fails = fails_few (bytes_gaps (drop c.args.at c.args.bytes.now)) (c.word_at-word.result % 16 - 1) (omega (arith, c.requires.words.count, c.count-more.ensures, ap count_of its, c.if-more-left.true)) in
+    rw (t, sym c.word_at-word.ensures) (test_later c.word_at-word.result (bytes_gaps (drop c.args.at c.args.bytes.now)) false (ap (λ b. c.word_at-word.result / 16 / 2 ^ b) (sym bits) ∙ c.if-word-used-ne0.false) (λ none. c.if-selector-eq0.false (c.of-selector.ensures ∙ none)) fails)
 
 pub returns-else-more-left : goal.returns-else-more-left
 returns-else-more-left c =
-    let bits = used c.word_at-word.result c.width_at.result c.count_at.result [] c.width_at.ensures c.count_at.ensures in
-    let enough : count_of (c.word_at-word.result % 16 - 1) ≤ length (bytes_gaps (drop c.args.at c.args.bytes.now)) = omega (arith, c.requires.words.count, c.count_at-more.ensures, c.if-more-left.false) in
+    let bits = used c.word_at-word.result c.of-selector.result.number c.width.result c.count.result c.of-selector.ensures c.width.ensures c.count.ensures in
+    let its : c.before-narrower.result.number ≡ c.word_at-word.result % 16 - 1 = c.before-narrower.ensures ∙ ap (λ s. s - 1) c.of-selector.ensures in
+    let enough : count_of (c.word_at-word.result % 16 - 1) ≤ length (bytes_gaps (drop c.args.at c.args.bytes.now)) = omega (arith, c.requires.words.count, c.count-more.ensures, ap count_of its, c.if-more-left.false) in
     let t : nat_le (count_of (c.word_at-word.result % 16 - 1)) (length (bytes_gaps (drop c.args.at c.args.bytes.now))) ≡ true = grind (arith, nat_tests) in
     let narrow : c.are_narrow.result ≡ list_all (λ gap. nat_lt gap (2 ^ width_of (c.word_at-word.result % 16 - 1))) (take (count_of (c.word_at-word.result % 16 - 1)) (bytes_gaps (drop c.args.at c.args.bytes.now))) =
-    c.are_narrow.ensures ∙ ap (λ n. list_all (λ gap. nat_lt gap (2 ^ c.width_at-else-more-left.result)) (take n (bytes_gaps (drop c.args.at c.args.bytes.now)))) c.count_at-more.ensures
-    ∙ ap (λ w. list_all (λ gap. nat_lt gap (2 ^ w)) (take (count_of (c.word_at-word.result % 16 - 1)) (bytes_gaps (drop c.args.at c.args.bytes.now)))) c.width_at-else-more-left.ensures in
-    rw (sym c.word_at-word.ensures) (test_later c.word_at-word.result (bytes_gaps (drop c.args.at c.args.bytes.now)) c.are_narrow.result (ap (λ b. c.word_at-word.result / 16 / 2 ^ b) (sym bits) ∙ c.if-word-used-ne0.false) c.if-selector-eq0.false
+    c.are_narrow.ensures ∙ ap (λ n. list_all (λ gap. nat_lt gap (2 ^ c.width-else-more-left.result)) (take n (bytes_gaps (drop c.args.at c.args.bytes.now)))) (c.count-more.ensures ∙ ap count_of its)
+    ∙ ap (λ w. list_all (λ gap. nat_lt gap (2 ^ w)) (take (count_of (c.word_at-word.result % 16 - 1)) (bytes_gaps (drop c.args.at c.args.bytes.now)))) (c.width-else-more-left.ensures ∙ ap width_of its) in
+    rw (sym c.word_at-word.ensures) (test_later c.word_at-word.result (bytes_gaps (drop c.args.at c.args.bytes.now)) c.are_narrow.result (ap (λ b. c.word_at-word.result / 16 / 2 ^ b) (sym bits) ∙ c.if-word-used-ne0.false) (λ none. c.if-selector-eq0.false (c.of-selector.ensures ∙ none))
     (rw t (sym narrow)))

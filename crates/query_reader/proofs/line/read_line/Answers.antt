@@ -1,7 +1,7 @@
 -- The checks of a line in their order.
 use Rattle.std.proofs.Common.{◌∙◌, ap, sym, subst, take, drop, rules}
 use Rattle.query_reader.specs.Queries.{query_data}
-use Rattle.query_reader.specs.Refusals.{LineGives}
+use Rattle.query_reader.specs.Refusals.{LineAnswers}
 use Rattle.query_reader.proofs.LineReading.{long-line, bad-text, id-end, no-id, good-line}
 use Rattle.query_reader.proofs.line.read_line.Goals as goal
 
@@ -22,4 +22,4 @@ returns-clause-query g c =
     let is = good-line c.args.mode (g.X.Lexicon.terms c.args.index.now) line c.unwrap_or-id_end.result c.split_at.result.0.now c.split_at.result.1.now (search rules) c.in-Ok.ensures.cases.1
     (id-end line c.memchr2.result c.memchr2.ensures ∙ sym c.unwrap_or-id_end.ensures) (search rules)
     (c.split_at.ensures.front ∙ ap (take c.unwrap_or-id_end.result) c.in-Ok.ensures.cases.0) (c.split_at.ensures.back ∙ ap (drop c.unwrap_or-id_end.result) c.in-Ok.ensures.cases.0) in
-    subst (LineGives query_data c.read_query.result) is c.read_query.ensures.query
+    subst (LineAnswers query_data c.read_query.result) is c.read_query.ensures.query

@@ -1,6 +1,6 @@
 use Rattle.std.proofs.Common.{refl}
 use Rattle.codec_simple8.specs.Simple8.{width_of}
-use Rattle.codec_simple8.proofs.word.width_at.Goals as goal
+use Rattle.codec_simple8.proofs.selector.Selector.width.Goals as goal
 
 pub returns : goal.returns
 unfolding width_of

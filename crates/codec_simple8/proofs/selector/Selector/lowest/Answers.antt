@@ -4,7 +4,7 @@ use Rattle.std.specs.Simd.Lanes.{number_l}
 use Rattle.std.proofs.lemmas.Bool.Decides.{nat_tests}
 use Rattle.codec_simple8.specs.Simple8.{count_of, width_of}
 use Rattle.codec_simple8.proofs.Tables.{at_each}
-use Rattle.codec_simple8.proofs.word.lowest_at.Goals as goal
+use Rattle.codec_simple8.proofs.selector.Selector.lowest.Goals as goal
 
 table : List ℕ
 table = 0 ∷ 0 ∷ 1152921504606846975 ∷ 384307168202282325 ∷ 164703072086692425 ∷ 76861433640456465 ∷ 37191016277640225 ∷ 18300341342965825 ∷ 567382630219905 ∷ 282578800148737 ∷ 1127000493261825 ∷ 281543712968705 ∷ 35185445863425 ∷ 1099512676353 ∷ 1073741825 ∷ 1 ∷ []
@@ -19,4 +19,4 @@ lowest s from to =
 
 pub returns : goal.returns
 unfolding table
-returns c = lowest c.args.selector c.requires.from c.requires.to
+returns c = lowest c.args.self.number c.requires c.args.self.few

@@ -1,6 +1,6 @@
 use Rattle.std.proofs.Common.{refl}
 use Rattle.codec_simple8.specs.Simple8.{count_of}
-use Rattle.codec_simple8.proofs.word.count_at.Goals as goal
+use Rattle.codec_simple8.proofs.selector.Selector.count.Goals as goal
 
 pub returns : goal.returns
 unfolding count_of
