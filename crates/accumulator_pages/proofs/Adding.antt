@@ -1,6 +1,5 @@
 -- Weights added to scores.
-use Rattle.std.proofs.Common.{◌≡◌, ℕ, suc, zero, Bool, true, false, cond, nat_lt, nat_le, ◌&&◌, ◌++◌, append_assoc, ◌+◌, ◌-◌, ◌*◌, ◌/◌, ◌%◌, ◌^◌, ◌<◌, ◌≤◌, List, [], ◌∷◌, length, get_or, set, drop, All, refl, sym, ap, ◌∙◌, subst, arith, length-set, get_or-set_same, drop-cons}
-use Rattle.std.proofs.lemmas.List.Elements.{All-get_or}
+use Rattle.shared_lemmas.proofs.Common.{◌≡◌, ℕ, suc, zero, Bool, true, false, cond, nat_lt, nat_le, ◌&&◌, ◌++◌, append_assoc, ◌+◌, ◌-◌, ◌*◌, ◌/◌, ◌%◌, ◌^◌, ◌<◌, ◌≤◌, List, [], ◌∷◌, length, get_or, set, drop, All, refl, sym, ap, ◌∙◌, subst, arith, length-set, get_or-set_same, drop-cons, All-get_or}
 use Rattle.jass_base.specs.declared.answer.Hit.{Hit}
 use Rattle.accumulator_pages.specs.Adding.{added, crossed, raised, score_to_pass}
 
@@ -36,8 +35,7 @@ pub next : (w : ℕ) (docs scores new all : List ℕ) (i d : ℕ) → i < length
 next w docs scores new all i d inside is step left =
     let one : i + 1 ≡ suc i = omega arith in
     ap (λ j. added w (drop j docs) new) one ∙ ap (λ n. added w (drop (suc i) docs) n) step
-    ∙ ap (λ x. added w (drop (suc i) docs) (set scores x (get_or scores x 0 + w))) is
-    ∙ sym (ap (λ ds. added w ds scores) (drop-cons docs i 0 inside)) ∙ left
+    ∙ ap (λ x. added w (drop (suc i) docs) (set scores x (get_or scores x 0 + w))) is ∙ sym (ap (λ ds. added w ds scores) (drop-cons docs i 0 inside)) ∙ left
 
 -- a score on the way to scores that fit fits
 pub fits : (w : ℕ) (docs scores all : List ℕ) (i d n : ℕ) → i < length docs → d ≡ get_or docs i 0 → length scores ≡ n → d < n → All (λ s. s < 2 ^ 32) all
@@ -47,8 +45,7 @@ fits w docs scores all i d n inside is len below small left =
     let there : added w (drop (suc i) docs) (set scores e (get_or scores e 0 + w)) ≡ all = sym (ap (λ ds. added w ds scores) (drop-cons docs i 0 inside)) ∙ left in
     let size : length all ≡ n = ap length (sym left) ∙ length-added w (drop i docs) scores ∙ len in
     let most : get_or all e 0 < 2 ^ 32 = All-get_or (λ s. s < 2 ^ 32) all e 0 (omega arith) small in
-    let reached : get_or scores e 0 + w ≤ get_or all e 0 =
-    subst (λ xs. get_or scores e 0 + w ≤ get_or xs e 0) there
+    let reached : get_or scores e 0 + w ≤ get_or all e 0 = subst (λ xs. get_or scores e 0 + w ≤ get_or xs e 0) there
     (subst (λ x. x ≤ get_or (added w (drop (suc i) docs) (set scores e (get_or scores e 0 + w))) e 0) (get_or-set_same scores e (get_or scores e 0 + w) 0 (omega arith))
     (added-above w (drop (suc i) docs) (set scores e (get_or scores e 0 + w)) e)) in
     subst (λ x. get_or scores x 0 + w < 2 ^ 32) (sym is) (omega (arith, most, reached))
@@ -67,8 +64,7 @@ next_noted w last docs scores new here there all i d score inside is rose step t
     ∙ ap (λ n. crossed d (score - w) score last ++ raised w last (drop (suc i) docs) n) (sym step)
     ∙ ap (λ j. crossed d (score - w) score last ++ raised w last (drop j docs) new) (sym one) in
     ap (λ xs. xs ++ raised w last (drop (i + 1) docs) new) there_is
-    ∙ append_assoc here (crossed d (score - w) score last) (raised w last (drop (i + 1) docs) new)
-    ∙ ap (λ ys. here ++ ys) (sym opened) ∙ left
+    ∙ append_assoc here (crossed d (score - w) score last) (raised w last (drop (i + 1) docs) new) ∙ ap (λ ys. here ++ ys) (sym opened) ∙ left
 
 pub few_crossed : (d before after : ℕ) (last : Hit) → length (crossed d before after last) ≤ 1
 few_crossed d before after last = by_test (nat_lt before (score_to_pass last d) && nat_le (score_to_pass last d) after) d

@@ -1,30 +1,17 @@
 -- Weights added where the bits of a bitmap are set.
-use Rattle.std.proofs.Common.{◌≡◌, ◌≢◌, ◌==◌, ℕ, suc, zero, Bool, true, false, ◌&&◌, cond, eqb, nat_lt, nat_le, ◌++◌, ◌+◌, ◌-◌, ◌*◌, ◌/◌, ◌%◌, ◌<◌, ◌≤◌, List, [], ◌∷◌, length, map, filter, take, drop, get_or, set, count_by, All, AllPairs, refl, sym, ap, ◌∙◌, subst, inl, inr, ◌⊎◌, arith, length-set, get_or-set_other, eq-eqb}
-use Rattle.std.specs.Int.{bit_at}
-use Rattle.std.specs.List.{flat_map, list_any, range_with_len}
-use Rattle.std.proofs.lemmas.Bool.{cases_lt, ne_eqb}
-use Rattle.std.proofs.lemmas.Bool.Decides.{eqb_tells, nat_tests}
-use Rattle.std.proofs.lemmas.Grind.{get_or_default_zero, same_number_lists}
-use Rattle.std.proofs.lemmas.List.{get_or-drop, get_or-take, get_or_append_left, get_or-append_right, get_or_past, length-drop, length-map, length-take}
-use Rattle.std.proofs.lemmas.List.Folds.{list_any_at}
-use Rattle.std.proofs.lemmas.List.FromFn.{get_or-map-range_with_len, get_or-range_with_len, length-map-range_with_len, length-range_with_len}
-use Rattle.std.proofs.lemmas.List.Kept.{AllPairs-from_increasing}
-use Rattle.std.proofs.lemmas.List.Sums.{count_by-le-length, length-filter, sum_by-cons}
-use Rattle.std.proofs.lemmas.Nat.Bits.{bit_at-lt, bit_at-zero, same_from_bits_below}
+use Rattle.shared_lemmas.proofs.Common.{◌≡◌, ◌≢◌, ◌==◌, ℕ, suc, zero, Bool, true, false, ◌&&◌, cond, eqb, nat_lt, nat_le, ◌++◌, ◌+◌, ◌-◌, ◌*◌, ◌/◌, ◌%◌, ◌<◌, ◌≤◌, List, [], ◌∷◌, length, map, filter, take, drop, get_or, set, count_by, All, AllPairs, refl, sym, ap, ◌∙◌, subst, inl, inr, ◌⊎◌, arith}
+use Rattle.shared_lemmas.proofs.Common.{length-set, get_or-set_other, eq-eqb, bit_at, flat_map, list_any, range_with_len, cases_lt, ne_eqb, eqb_tells, nat_tests, get_or_default_zero, same_number_lists, get_or-drop, get_or-take, get_or_append_left, get_or-append_right, get_or_past, length-drop}
+use Rattle.shared_lemmas.proofs.Common.{length-map, length-take, list_any_at, get_or-map-range_with_len, get_or-range_with_len, length-map-range_with_len, length-range_with_len, AllPairs-from_increasing, count_by-le-length, length-filter, sum_by-cons, bit_at-lt, bit_at-zero, same_from_bits_below}
 use Rattle.frame_pool.specs.ChainView.{with_page}
 use Rattle.jass_base.specs.declared.answer.Hit.{Hit}
 use Rattle.lane_kernels.specs.Bitmap.{bit_of, numbers_of_bits, set_bits}
-use Rattle.lane_kernels.proofs.SetBits.{set_bits_from_base, set_bits_members, set_bits_rise}
+use Rattle.lane_kernels.proofs.SetBits.{set_bits_from_base, set_bits_members, set_bits_rise, in_range}
 use Rattle.accumulator_pages.specs.Adding.{added, crossed, raised, touched_count, score_to_pass}
 use Rattle.accumulator_pages.proofs.Adding.{length-added}
 use Rattle.accumulator_pages.proofs.Counting.{touched-rise, worth}
 use Rattle.accumulator_pages.proofs.Raising.{added-each}
 
 -- ---- how often a number is among those of the set bits
-
--- the numbers base + i of those i of a range whose bit is 1
-abbrev picked : (ℕ → ℕ) → ℕ → ℕ → ℕ → List ℕ
-picked bit base from n = map (λ i. base + i) (filter (λ i. bit i == 1) (range_with_len from n))
 
 -- one more bit in front
 counted_step : (b : Bool) (p : ℕ → Bool) (base i : ℕ) (rest : List ℕ)
@@ -40,21 +27,20 @@ just_one : (b c : Bool) → c ≡ true → worth (b && c) ≡ worth b
 just_one true c is = ap worth is
 just_one false c is = refl
 
-counted_none : (bit : ℕ → ℕ) (base from n x : ℕ) → ((i : ℕ) → from ≤ i → i < from + n → base + i ≢ x) → count_by (λ o. o == x) (picked bit base from n) ≡ 0
+counted_none : (bit : ℕ → ℕ) (base from n x : ℕ) → ((i : ℕ) → from ≤ i → i < from + n → base + i ≢ x) → count_by (λ o. o == x) (in_range bit base from n) ≡ 0
 counted_none bit base from zero x apart = refl
-counted_none bit base from (suc n) x apart =
-    omega (
-      arith,
-      counted_step (bit from == 1) (λ o. o == x) base from (filter (λ i. bit i == 1) (range_with_len (from + 1) n)),
-      not_one (bit from == 1) (base + from == x) (ne_eqb (base + from) x (apart from (omega arith) (omega arith))),
-      counted_none bit base (from + 1) n x (λ i low high. apart i (omega arith) (omega arith)),
-    )
+counted_none bit base from (suc n) x apart = omega (
+  arith,
+  counted_step (bit from == 1) (λ o. o == x) base from (filter (λ i. bit i == 1) (range_with_len (from + 1) n)),
+  not_one (bit from == 1) (base + from == x) (ne_eqb (base + from) x (apart from (omega arith) (omega arith))),
+  counted_none bit base (from + 1) n x (λ i low high. apart i (omega arith) (omega arith)),
+)
 
-counted_once : (bit : ℕ → ℕ) (base from n d : ℕ) → from ≤ d → d < from + n → count_by (λ o. o == base + d) (picked bit base from n) ≡ worth (bit d == 1)
+counted_once : (bit : ℕ → ℕ) (base from n d : ℕ) → from ≤ d → d < from + n → count_by (λ o. o == base + d) (in_range bit base from n) ≡ worth (bit d == 1)
 counted_once bit base from zero d low high = absurd (omega arith)
 counted_once bit base from (suc n) d low high =
     let first = counted_step (bit from == 1) (λ o. o == base + d) base from (filter (λ i. bit i == 1) (range_with_len (from + 1) n)) in
-    elim (cases_lt from d) as (λ _. count_by (λ o. o == base + d) (picked bit base from (suc n)) ≡ worth (bit d == 1)) [
+    elim (cases_lt from d) as (λ _. count_by (λ o. o == base + d) (in_range bit base from (suc n)) ≡ worth (bit d == 1)) [
       | inl before ↦ omega (
         arith,
         first,
@@ -86,7 +72,7 @@ past_bits bits i past = ap (λ (b : ℕ). bit_at b (i % 8)) (get_or_past bits (i
 pub bits_counted : (base d : ℕ) (bits : List ℕ) → count_by (λ o. o == base + d) (set_bits base bits) ≡ bit_of bits d
 unfolding numbers_of_bits
 bits_counted base d bits =
-    elim (cases_lt d (8 * length bits)) as (λ _. count_by (λ o. o == base + d) (picked (bit_of bits) base 0 (8 * length bits)) ≡ bit_of bits d) [
+    elim (cases_lt d (8 * length bits)) as (λ _. count_by (λ o. o == base + d) (in_range (bit_of bits) base 0 (8 * length bits)) ≡ bit_of bits d) [
       | inl within ↦ counted_once (bit_of bits) base 0 (8 * length bits) d (omega arith) (omega arith) ∙ bit_is_worth bits d
       | inr past ↦
           counted_none (bit_of bits) base 0 (8 * length bits) (base + d) (λ i low high e. absurd (omega arith)) ∙ sym (past_bits bits d past)
@@ -114,17 +100,16 @@ half_bit bits half slot = cond (slot / 128 == half) (bit_of bits (slot % 128)) 0
 
 -- a document of no bit
 added-outside : (w row d : ℕ) (bits s : List ℕ) → 8 * length bits ≤ 128 → d < length s → d / 128 ≢ row → get_or (added w (set_bits (128 * row) bits) s) d 0 ≡ get_or s d 0
-added-outside w row d bits s few inside apart =
-    elim (cases_lt d (128 * row)) as (λ _. get_or (added w (set_bits (128 * row) bits) s) d 0 ≡ get_or s d 0) [
-      | inl before ↦ added-bits_before w (128 * row) d bits s before inside
-      | inr after ↦
-          let past : 8 * length bits ≤ d - 128 * row =
-          elim (cases_lt (d - 128 * row) 128) as (λ _. 8 * length bits ≤ d - 128 * row) [ inl near ↦ absurd (apart (omega (arith, near, after))) | inr far ↦ omega (arith, far, few) ] in
-          let at : 128 * row + (d - 128 * row) ≡ d = omega (arith, after) in
-          subst (λ (e : ℕ). get_or (added w (set_bits (128 * row) bits) s) e 0 ≡ get_or s e 0) at
-          (added-bits w (128 * row) (d - 128 * row) bits s (omega (arith, at, inside))
-          ∙ ap (λ (b : ℕ). get_or s (128 * row + (d - 128 * row)) 0 + w * b) (past_bits bits (d - 128 * row) past) ∙ omega arith)
-    ]
+added-outside w row d bits s few inside apart = elim (cases_lt d (128 * row)) as (λ _. get_or (added w (set_bits (128 * row) bits) s) d 0 ≡ get_or s d 0) [
+  | inl before ↦ added-bits_before w (128 * row) d bits s before inside
+  | inr after ↦
+      let past : 8 * length bits ≤ d - 128 * row =
+      elim (cases_lt (d - 128 * row) 128) as (λ _. 8 * length bits ≤ d - 128 * row) [ inl near ↦ absurd (apart (omega (arith, near, after))) | inr far ↦ omega (arith, far, few) ] in
+      let at : 128 * row + (d - 128 * row) ≡ d = omega (arith, after) in
+      subst (λ (e : ℕ). get_or (added w (set_bits (128 * row) bits) s) e 0 ≡ get_or s e 0) at
+      (added-bits w (128 * row) (d - 128 * row) bits s (omega (arith, at, inside))
+      ∙ ap (λ (b : ℕ). get_or s (128 * row + (d - 128 * row)) 0 + w * b) (past_bits bits (d - 128 * row) past) ∙ omega arith)
+]
 
 added-half : (w row d : ℕ) (bits s : List ℕ) → 8 * length bits ≤ 128 → d < length s → d / 256 ≡ row / 2
     → get_or (added w (set_bits (128 * row) bits) s) d 0 ≡ get_or s d 0 + w * half_bit bits (row % 2) (d % 256)
@@ -148,12 +133,10 @@ added_is_page w row bits s slots few slots_are =
     let after : ℕ → ℕ = λ d. cond (d / 256 == row / 2) (get_or slots (d % 256) 0) (get_or s d 0) in
     let new : List ℕ = added w (set_bits (128 * row) bits) s in
     let size : length new ≡ length s = length-added w (set_bits (128 * row) bits) s in
-    let each : (d : ℕ) → d < length s → get_or new d 0 ≡ after d =
-    λ d inside. elim (eqb_tells (d / 256) (row / 2)) as (λ _. get_or new d 0 ≡ after d) [
+    let each : (d : ℕ) → d < length s → get_or new d 0 ≡ after d = λ d inside. elim (eqb_tells (d / 256) (row / 2)) as (λ _. get_or new d 0 ≡ after d) [
       | inl same ↦
           let at : 256 * (row / 2) + d % 256 ≡ d = omega (arith, same.1) in
-          added-half w row d bits s few inside same.1
-          ∙ ap (λ (e : ℕ). get_or s e 0 + w * half_bit bits (row % 2) (d % 256)) (sym at)
+          added-half w row d bits s few inside same.1 ∙ ap (λ (e : ℕ). get_or s e 0 + w * half_bit bits (row % 2) (d % 256)) (sym at)
           ∙ sym (slots_are (d % 256) (omega arith) (omega (arith, at, inside)))
           ∙ sym (ap (λ (b : Bool). cond b (get_or slots (d % 256) 0) (get_or s d 0)) same.0)
       | inr other ↦
@@ -187,8 +170,7 @@ pub raised-apart : (w : ℕ) (last : Hit) (docs s : List ℕ) → AllPairs (λ a
 raised-apart w last [] s apart = refl
 raised-apart w last (x ∷ docs) s apart =
     let after : List ℕ = set s x (get_or s x 0 + w) in
-    ap (λ (ys : List ℕ). crossed x (get_or s x 0) (get_or s x 0 + w) last ++ ys)
-    (raised-apart w last docs after (apart_rest x docs apart)
+    ap (λ (ys : List ℕ). crossed x (get_or s x 0) (get_or s x 0 + w) last ++ ys) (raised-apart w last docs after (apart_rest x docs apart)
     ∙ flat_map-same (λ d. crossed d (get_or s d 0) (get_or s d 0 + w) last) (λ d. crossed d (get_or after d 0) (get_or after d 0 + w) last) docs
     (λ k inside. ap (λ (v : ℕ). crossed (get_or docs k 0) v (v + w) last)
     (get_or-set_other s x (get_or docs k 0) (get_or s x 0 + w) 0 (apart_first x docs apart k inside))))
@@ -231,8 +213,7 @@ bit_of_number_there base bits k inside =
 pub raised-none : (w base : ℕ) (last : Hit) (bits s : List ℕ)
     → ((i : ℕ) → i < 8 * length bits → bit_of bits i ≡ 1 → (get_or s (base + i) 0 + w < last.score) ⊎ (last.score + w < get_or s (base + i) 0 + w))
     → raised w last (set_bits base bits) s ≡ []
-raised-none w base last bits s far =
-    raised-bits w base last bits s
+raised-none w base last bits s far = raised-bits w base last bits s
     ∙ flat_map-nil (λ d. crossed d (get_or s d 0) (get_or s d 0 + w) last) (set_bits base bits) (λ k inside.
     let there = bit_of_number_there base bits k inside in
     ap (λ (d : ℕ). crossed d (get_or s d 0) (get_or s d 0 + w) last) there.1
@@ -246,14 +227,13 @@ raised-none w base last bits s far =
 
 counted_same : (p q : ℕ → Bool) (xs : List ℕ) → ((k : ℕ) → k < length xs → q (get_or xs k 0) ≡ p (get_or xs k 0)) → count_by q xs ≡ count_by p xs
 counted_same p q [] same = refl
-counted_same p q (x ∷ xs) same =
-    omega (
-      arith,
-      sum_by-cons (λ y. worth (q y)) x xs,
-      sum_by-cons (λ y. worth (p y)) x xs,
-      ap worth (same 0 (omega arith)),
-      counted_same p q xs (λ k inside. same (suc k) (omega arith)),
-    )
+counted_same p q (x ∷ xs) same = omega (
+  arith,
+  sum_by-cons (λ y. worth (q y)) x xs,
+  sum_by-cons (λ y. worth (p y)) x xs,
+  ap worth (same 0 (omega arith)),
+  counted_same p q xs (λ k inside. same (suc k) (omega arith)),
+)
 
 alone : (w score : ℕ) → worth (eqb (score + w) w) ≡ worth (eqb score 0)
 alone w score = grind (arith, nat_tests)
@@ -275,25 +255,23 @@ touched-apart w (x ∷ docs) s some within apart =
           (λ k inside. ap (λ (v : ℕ). v == 0) (get_or-set_other s x (get_or docs k 0) (get_or s x 0 + w) 0 (apart_first x docs apart k inside))),
     )
 
-counted_by_bits : (p : ℕ → Bool) (bit : ℕ → ℕ) (base from n : ℕ) → count_by p (picked bit base from n) ≡ count_by (λ i. (bit i == 1) && p (base + i)) (range_with_len from n)
+counted_by_bits : (p : ℕ → Bool) (bit : ℕ → ℕ) (base from n : ℕ) → count_by p (in_range bit base from n) ≡ count_by (λ i. (bit i == 1) && p (base + i)) (range_with_len from n)
 counted_by_bits p bit base from zero = refl
-counted_by_bits p bit base from (suc n) =
-    omega (
-      arith,
-      counted_step (bit from == 1) p base from (filter (λ i. bit i == 1) (range_with_len (from + 1) n)),
-      sum_by-cons (λ i. worth ((bit i == 1) && p (base + i))) from (range_with_len (from + 1) n),
-      counted_by_bits p bit base (from + 1) n,
-    )
+counted_by_bits p bit base from (suc n) = omega (
+  arith,
+  counted_step (bit from == 1) p base from (filter (λ i. bit i == 1) (range_with_len (from + 1) n)),
+  sum_by-cons (λ i. worth ((bit i == 1) && p (base + i))) from (range_with_len (from + 1) n),
+  counted_by_bits p bit base (from + 1) n,
+)
 
 pub touched-bits : (w base : ℕ) (bits s : List ℕ) → 1 ≤ w → All (λ d. d < length s) (set_bits base bits)
     → touched_count (added w (set_bits base bits) s) ≡ touched_count s + count_by (λ i. (bit_of bits i == 1) && (get_or s (base + i) 0 == 0)) (range_with_len 0 (8 * length bits))
 unfolding numbers_of_bits
-touched-bits w base bits s some within =
-    omega (
-      arith,
-      touched-apart w (set_bits base bits) s some within (bits_apart base bits),
-      counted_by_bits (λ d. get_or s d 0 == 0) (bit_of bits) base 0 (8 * length bits),
-    )
+touched-bits w base bits s some within = omega (
+  arith,
+  touched-apart w (set_bits base bits) s some within (bits_apart base bits),
+  counted_by_bits (λ d. get_or s d 0 == 0) (bit_of bits) base 0 (8 * length bits),
+)
 
 -- ---- the slots of half a page
 
@@ -354,9 +332,7 @@ put_half w half slot bits lent part one few size part_size part_is small =
 pub touched-slots : (w base : ℕ) (bits s slots : List ℕ) → 1 ≤ w → All (λ d. d < length s) (set_bits base bits) → length slots ≡ 8 * length bits
     → ((i : ℕ) → i < 8 * length bits → bit_of bits i ≡ 1 → get_or slots i 0 ≡ get_or s (base + i) 0)
     → touched_count (added w (set_bits base bits) s) ≡ touched_count s + count_by (λ i. (bit_of bits i == 1) && (get_or slots i 0 == 0)) (range_with_len 0 (length slots))
-touched-slots w base bits s slots some within size were =
-    touched-bits w base bits s some within
-    ∙ ap (λ (n : ℕ). touched_count s + n)
+touched-slots w base bits s slots some within size were = touched-bits w base bits s some within ∙ ap (λ (n : ℕ). touched_count s + n)
     (counted_same (λ i. (bit_of bits i == 1) && (get_or slots i 0 == 0)) (λ i. (bit_of bits i == 1) && (get_or s (base + i) 0 == 0)) (range_with_len 0 (8 * length bits))
     (λ k inside. let low : k < 8 * length bits = omega (arith, inside, length-range_with_len 0 (8 * length bits)) in
     subst (λ (i : ℕ). ((bit_of bits i == 1) && (get_or s (base + i) 0 == 0)) ≡ ((bit_of bits i == 1) && (get_or slots i 0 == 0)))
@@ -397,11 +373,9 @@ raised-not_near w base last bits s slots size are none =
 -- who passed the hit, by the scores after
 pub raised-by_new : (w base : ℕ) (last : Hit) (bits s new : List ℕ) → All (λ d. d < length s) (set_bits base bits) → new ≡ added w (set_bits base bits) s
     → raised w last (set_bits base bits) s ≡ flat_map (λ d. crossed d (get_or new d 0 - w) (get_or new d 0) last) (set_bits base bits)
-raised-by_new w base last bits s new within is =
-    raised-bits w base last bits s
+raised-by_new w base last bits s new within is = raised-bits w base last bits s
     ∙ flat_map-same (λ d. crossed d (get_or new d 0 - w) (get_or new d 0) last) (λ d. crossed d (get_or s d 0) (get_or s d 0 + w) last) (set_bits base bits) (λ k inside.
-    let there = bit_of_number_there base bits k inside in
-    let i : ℕ = there.0 in
+    let there = bit_of_number_there base bits k inside in let i : ℕ = there.0 in
     let low : base + i < length s = omega (arith, within k 0 inside, there.1) in
     let rose : get_or new (base + i) 0 ≡ get_or s (base + i) 0 + w =
     ap (λ (xs : List ℕ). get_or xs (base + i) 0) is ∙ added-bits w base i bits s low ∙ ap (λ (b : ℕ). get_or s (base + i) 0 + w * b) there.3 ∙ omega arith in
@@ -424,20 +398,17 @@ nil_of_none (x ∷ xs) none = absurd (none (omega arith))
 
 -- no bit of bytes that are 0 is set
 pub none_set : (bits : List ℕ) → ((k : ℕ) → k < length bits → get_or bits k 0 ≡ 0) → (base : ℕ) → set_bits base bits ≡ []
-none_set bits zeros base =
-    nil_of_none (set_bits base bits) (λ some.
-    let there = bit_of_number_there base bits 0 some in
-    let i : ℕ = there.0 in
+none_set bits zeros base = nil_of_none (set_bits base bits) (λ some.
+    let there = bit_of_number_there base bits 0 some in let i : ℕ = there.0 in
     let unset : bit_of bits i ≡ 0 = ap (λ (b : ℕ). bit_at b (i % 8)) (zeros (i / 8) (omega (arith, there.2))) ∙ bit_at-zero (i % 8) in
     absurd (omega (arith, unset, there.3)))
 
 -- a byte that isn't 0 has a bit that is set
 pub some_set : (bits : List ℕ) (k : ℕ) → k < length bits → get_or bits k 0 < 256 → get_or bits k 0 ≢ 0 → (base : ℕ) → 1 ≤ length (set_bits base bits)
-some_set bits k inside byte other base =
-    elim (cases_lt 0 (length (set_bits base bits))) as (λ _. 1 ≤ length (set_bits base bits)) [
-      | inl some ↦ some
-      | inr none ↦ absurd (other (same_from_bits_below 8 (get_or bits k 0) 0 byte (omega arith) (λ i low. unset none i low ∙ sym (bit_at-zero i))))
-    ]
+some_set bits k inside byte other base = elim (cases_lt 0 (length (set_bits base bits))) as (λ _. 1 ≤ length (set_bits base bits)) [
+  | inl some ↦ some
+  | inr none ↦ absurd (other (same_from_bits_below 8 (get_or bits k 0) 0 byte (omega arith) (λ i low. unset none i low ∙ sym (bit_at-zero i))))
+]
   where
     unset : length (set_bits base bits) ≤ 0 → (i : ℕ) → i < 8 → bit_at (get_or bits k 0) i ≡ 0
     unset none i low =

@@ -1,12 +1,6 @@
 -- Touched documents and pages, counted.
-use Rattle.std.proofs.Common.{◌≡◌, ℕ, suc, zero, Bool, true, false, not, cond, eqb, ◌+◌, ◌*◌, ◌/◌, ◌%◌, ◌<◌, ◌≤◌, List, [], ◌∷◌, length, get_or, set, drop, take, count_by, refl, ap, ◌∙◌, arith, length-set}
-use Rattle.std.specs.List.{range_with_len}
-use Rattle.std.proofs.lemmas.Grind.{get_or_default_zero}
-use Rattle.std.proofs.lemmas.Bool.{lt-ltb, le-ltb}
-use Rattle.std.proofs.lemmas.Bool.Decides.{nat_tests}
-use Rattle.std.proofs.lemmas.List.{get_or-take, get_or-drop, length-take, length-drop}
-use Rattle.std.proofs.lemmas.List.Folds.{list_any-from_Any, list_any_none}
-use Rattle.std.proofs.lemmas.List.Sums.{sum_by-set, sum_by-cons, count_by-le-length}
+use Rattle.shared_lemmas.proofs.Common.{◌≡◌, ℕ, suc, zero, Bool, true, false, not, cond, eqb, ◌+◌, ◌*◌, ◌/◌, ◌%◌, ◌<◌, ◌≤◌, List, [], ◌∷◌, length, get_or, set, drop, take, count_by, refl, ap, ◌∙◌, arith, length-set, range_with_len, get_or_default_zero, lt-ltb, le-ltb, nat_tests, get_or-take}
+use Rattle.shared_lemmas.proofs.Common.{get_or-drop, length-take, length-drop, list_any-from_Any, list_any_none, sum_by-set, sum_by-cons, count_by-le-length}
 use Rattle.shared_lemmas.proofs.Places.{in_range}
 use mir.Val.{bool_byte}
 use Rattle.accumulator_pages.specs.Adding.{is_touched, touched_count, page_is_touched}
@@ -63,8 +57,7 @@ touched_there scores page has =
     )
 
 pub untouched_there : (scores : List ℕ) (page : ℕ) → ((d : ℕ) → d / 256 ≡ page → get_or scores d 0 ≡ 0) → page_is_touched scores page ≡ false
-untouched_there scores page none =
-    list_any_none is_touched (take 256 (drop (256 * page) scores)) (λ k d inside.
+untouched_there scores page none = list_any_none is_touched (take 256 (drop (256 * page) scores)) (λ k d inside.
     le-ltb 0 (get_or (take 256 (drop (256 * page) scores)) k d) (omega (
       arith,
       get_or_default_zero (take 256 (drop (256 * page) scores)) k d inside,

@@ -1,13 +1,6 @@
 -- The slots of half a page, to which a weight is added where bits are set.
-use Rattle.std.proofs.Common.{◌≡◌, ◌≢◌, ℕ, Bool, false, ◌++◌, ◌+◌, ◌-◌, ◌*◌, ◌/◌, ◌%◌, ◌^◌, ◌<◌, ◌≤◌, List, [], length, take, drop, get_or, All, refl, sym, ap, ◌∙◌, subst, inl, inr, arith}
-use Rattle.std.specs.List.{flat_map}
-use Rattle.std.proofs.lemmas.Bool.{cases_lt}
-use Rattle.std.proofs.lemmas.Bool.Decides.{eqb_tells}
-use Rattle.std.proofs.lemmas.Grind.{get_or_default_zero}
-use Rattle.std.proofs.lemmas.List.{get_or-drop, get_or-take, length-drop, length-take}
-use Rattle.std.proofs.lemmas.List.Elements.{All-get_or}
-use Rattle.std.proofs.lemmas.List.FromFn.{length-map-range_with_len}
-use Rattle.std.proofs.lemmas.Nat.Bits.{bit_at-lt}
+use Rattle.shared_lemmas.proofs.Common.{◌≡◌, ◌≢◌, ℕ, Bool, false, ◌++◌, ◌+◌, ◌-◌, ◌*◌, ◌/◌, ◌%◌, ◌^◌, ◌<◌, ◌≤◌, List, [], length, take, drop, get_or, All, refl, sym, ap, ◌∙◌, subst, inl, inr, arith, flat_map, cases_lt, eqb_tells, get_or_default_zero, get_or-drop, get_or-take, length-drop}
+use Rattle.shared_lemmas.proofs.Common.{length-take, All-get_or, length-map-range_with_len, bit_at-lt}
 use Rattle.frame_pool.specs.ChainView.{with_page}
 use Rattle.jass_base.specs.declared.answer.Hit.{Hit}
 use Rattle.lane_kernels.specs.Adding.{added_where, near_where, zeros_where}
@@ -21,9 +14,7 @@ use Rattle.accumulator_pages.proofs.Bits.{added-bits, added_is_page, bit_of_numb
 -- ---- the documents of set bits
 
 pub bit_inside : (base n i : ℕ) (bits : List ℕ) → All (λ d. d < n) (set_bits base bits) → bit_of bits i ≡ 1 → base + i < n
-bit_inside base n i bits within set =
-    let has = (set_bits_members base bits i).1 set in
-    omega (arith, within has.0 (base + i) has.1, has.2)
+bit_inside base n i bits within set = let has = (set_bits_members base bits i).1 set in omega (arith, within has.0 (base + i) has.1, has.2)
 
 -- the first of them is in the page of the row
 pub row_inside : (row docs : ℕ) (bits : List ℕ) → length bits ≤ 16 → 1 ≤ length (set_bits (128 * row) bits) → All (λ d. d < docs) (set_bits (128 * row) bits) → row / 2 < page_count docs
@@ -33,8 +24,7 @@ row_inside row docs bits few some within =
     omega (arith, inside)
 
 added-set : (w base i : ℕ) (bits s : List ℕ) → base + i < length s → bit_of bits i ≡ 1 → get_or (added w (set_bits base bits) s) (base + i) 0 ≡ get_or s (base + i) 0 + w
-added-set w base i bits s inside set =
-    added-bits w base i bits s inside ∙ ap (λ (b : ℕ). get_or s (base + i) 0 + w * b) set ∙ omega arith
+added-set w base i bits s inside set = added-bits w base i bits s inside ∙ ap (λ (b : ℕ). get_or s (base + i) 0 + w * b) set ∙ omega arith
 
 -- each of them has the weight
 pub rose : (w base : ℕ) (bits s new : List ℕ) → All (λ d. d < length s) (set_bits base bits) → new ≡ added w (set_bits base bits) s → All (λ d. w ≤ get_or new d 0) (set_bits base bits)
@@ -80,8 +70,7 @@ slot_was row n i bits s lent few is are within low set =
     let inside : 128 * row + i < length s = bit_inside (128 * row) (length s) i bits within set in
     let at : 256 * (row / 2) + (128 * (row % 2) + i) ≡ 128 * row + i = omega arith in
     get_or-take n (drop (128 * (row % 2)) lent) i 0 (omega (arith, low, is)) ∙ get_or-drop (128 * (row % 2)) lent i 0
-    ∙ are (128 * (row % 2) + i) (omega (arith, low, few)) (omega (arith, inside, at))
-    ∙ ap (λ (d : ℕ). get_or s d 0) at
+    ∙ are (128 * (row % 2) + i) (omega (arith, low, few)) (omega (arith, inside, at)) ∙ ap (λ (d : ℕ). get_or s d 0) at
 
 -- the weight fits into each slot: it is added to those of documents alone
 pub half_fits : (w row n : ℕ) (bits s lent : List ℕ) → length bits ≤ 16 → n ≡ 8 * length bits → AreSlots lent s (row / 2) → All (λ d. d < length s) (set_bits (128 * row) bits)
@@ -113,8 +102,7 @@ half_raised w row n bits s lent part few is size are made =
     let from : ℕ = 128 * half in
     let m : ℕ = 8 * length bits in
     let made_of : part ≡ added_where w bits (half_of lent half m) = made ∙ ap (λ (k : ℕ). added_where w bits (half_of lent half k)) is in
-    let part_size : length part ≡ m =
-    ap (λ (xs : List ℕ). length xs) made_of
+    let part_size : length part ≡ m = ap (λ (xs : List ℕ). length xs) made_of
     ∙ length-map-range_with_len (λ i. get_or (half_of lent half m) i 0 + w * bit_of bits i) 0 (length (half_of lent half m))
     ∙ length-half lent half m size (omega arith) (omega (arith, few)) in
     let slots : List ℕ = take from lent ++ (part ++ drop m (drop from lent)) in
@@ -128,10 +116,8 @@ half_raised w row n bits s lent part few is size are made =
 pub half_zeros : (w row n told : ℕ) (bits s lent : List ℕ) → length bits ≤ 16 → n ≡ 8 * length bits → length lent ≡ 256 → AreSlots lent s (row / 2)
     → 1 ≤ w → All (λ d. d < length s) (set_bits (128 * row) bits) → told ≡ zeros_where bits (half_of lent (row % 2) n)
     → touched_count (added w (set_bits (128 * row) bits) s) ≡ touched_count s + told
-half_zeros w row n told bits s lent few is size are some within counted =
-    touched-slots w (128 * row) bits s (half_of lent (row % 2) n) some within
-    (length-half lent (row % 2) n size (omega arith) (omega (arith, few, is)) ∙ is)
-    (λ i low set. slot_was row n i bits s lent few is are within low set)
+half_zeros w row n told bits s lent few is size are some within counted = touched-slots w (128 * row) bits s (half_of lent (row % 2) n) some within
+    (length-half lent (row % 2) n size (omega arith) (omega (arith, few, is)) ∙ is) (λ i low set. slot_was row n i bits s lent few is are within low set)
     ∙ ap (λ (k : ℕ). touched_count s + k) (sym counted)
 
 -- no slot near the hit: no document passed it
@@ -142,22 +128,18 @@ half_not_near w row n last near bits s lent part few is size are within made tol
     let half : ℕ = row % 2 in
     let m : ℕ = 8 * length bits in
     let made_of : part ≡ added_where w bits (half_of lent half m) = made ∙ ap (λ (k : ℕ). added_where w bits (half_of lent half k)) is in
-    let part_size : length part ≡ m =
-    ap (λ (xs : List ℕ). length xs) made_of
+    let part_size : length part ≡ m = ap (λ (xs : List ℕ). length xs) made_of
     ∙ length-map-range_with_len (λ i. get_or (half_of lent half m) i 0 + w * bit_of bits i) 0 (length (half_of lent half m))
     ∙ length-half lent half m size (omega arith) (omega (arith, few)) in
     raised-not_near w (128 * row) last bits s part part_size
     (λ i low set. ap (λ (xs : List ℕ). get_or xs i 0) made_of ∙ part_added w half m i bits lent size (omega (arith, few)) low
-    ∙ ap (λ (b : ℕ). get_or lent (128 * half + i) 0 + w * b) set
-    ∙ (let e : get_or lent (128 * half + i) 0 + w * 1 ≡ get_or s (128 * row + i) 0 + w =
-    omega (
+    ∙ ap (λ (b : ℕ). get_or lent (128 * half + i) 0 + w * b) set ∙ (let e : get_or lent (128 * half + i) 0 + w * 1 ≡ get_or s (128 * row + i) 0 + w = omega (
       arith,
       get_or-take m (drop (128 * half) lent) i 0 low,
       get_or-drop (128 * half) lent i 0,
       slot_was row m i bits s lent few refl are within low set,
     ) in
-    e))
-    (sym told ∙ none)
+    e)) (sym told ∙ none)
 
 -- ---- who is noted
 
@@ -183,5 +165,4 @@ pub slots_rose : (w row : ℕ) (bits s lent : List ℕ) → length bits ≤ 16 �
     → All (λ d. w ≤ get_or s d 0) (set_bits (128 * row) bits) → All (λ d. w ≤ get_or lent (d % 256) 0) (set_bits (128 * row) bits)
 slots_rose w row bits s lent few are within rose k d inside =
     let is : get_or (set_bits (128 * row) bits) k d ≡ get_or (set_bits (128 * row) bits) k 0 = get_or_default_zero (set_bits (128 * row) bits) k d inside in
-    subst (λ (e : ℕ). w ≤ get_or lent (e % 256) 0) (sym is)
-    (omega (arith, rose k 0 inside, slot_is row k bits s lent few are within inside))
+    subst (λ (e : ℕ). w ≤ get_or lent (e % 256) 0) (sym is) (omega (arith, rose k 0 inside, slot_is row k bits s lent few are within inside))

@@ -1,12 +1,6 @@
 -- Who passes a hit while a weight is added, and by how much scores rise.
-use Rattle.std.proofs.Common.{◌≡◌, ◌≢◌, ◌==◌, ℕ, suc, zero, Bool, true, cond, nat_lt, nat_le, ◌&&◌, ◌++◌, ◌+◌, ◌*◌, ◌<◌, ◌≤◌, List, [], ◌∷◌, length, get_or, set, count_by, All, AllPairs, Contains, refl, sym, ap, ◌∙◌, subst, inl, inr, arith, length-set, get_or-set_same, get_or-set_other}
-use Rattle.std.specs.List.{AllByRecursion}
-use Rattle.std.proofs.lemmas.Bool.{cases_lt, cases_Bool}
-use Rattle.std.proofs.lemmas.Bool.Decides.{eqb_tells, nat_tests}
-use Rattle.std.proofs.lemmas.List.Elements.{Contains-append_left, Contains-append_right, Contains-append_cases, recursion_from_All, All-cons, All-nil}
-use Rattle.std.proofs.Math.Nat.{mul-add}
-use Rattle.std.proofs.lemmas.List.Kept.{AllPairs-cons}
-use Rattle.std.proofs.lemmas.List.Sums.{sum_by-cons}
+use Rattle.shared_lemmas.proofs.Common.{◌≡◌, ◌≢◌, ◌==◌, ℕ, suc, zero, Bool, true, cond, nat_lt, nat_le, ◌&&◌, ◌++◌, ◌+◌, ◌*◌, ◌<◌, ◌≤◌, List, [], ◌∷◌, length, get_or, set, count_by, All, AllPairs, Contains, refl, sym, ap, ◌∙◌, subst, inl, inr, arith, length-set, get_or-set_same, get_or-set_other}
+use Rattle.shared_lemmas.proofs.Common.{AllByRecursion, cases_lt, cases_Bool, eqb_tells, nat_tests, Contains-append_left, Contains-append_right, Contains-append_cases, recursion_from_All, All-cons, All-nil, mul-add, AllPairs-cons, sum_by-cons}
 use Rattle.jass_base.specs.declared.answer.Hit.{Hit}
 use Rattle.accumulator_pages.specs.Adding.{added, crossed, raised, score_to_pass}
 use Rattle.accumulator_pages.proofs.Adding.{rises, added-above}
@@ -85,8 +79,7 @@ raised-all w d last (x ∷ docs) s inside below reached =
           elim (cases_lt (get_or s x 0 + w) (score_to_pass last x)) as (λ _. Contains (first ++ rest) d) [
             | inl still ↦ later (omega (arith, still, risen, floor))
             | inr now ↦
-                Contains-append_left first rest d
-                (subst (λ (e : ℕ). Contains first e) same.1
+                Contains-append_left first rest d (subst (λ (e : ℕ). Contains first e) same.1
                 (crossed_here x (get_or s x 0) (get_or s x 0 + w) last (omega (arith, below, floor, ap (λ (e : ℕ). get_or s e 0) same.1)) now))
           ]
       | inr other ↦ later (omega (arith, below, there w x d s other.1))
@@ -127,8 +120,7 @@ once_by_recursion w n last (x ∷ docs) s long within =
     as (λ _. AllPairs (λ a b. a ≢ b) (crossed x (get_or s x 0) (get_or s x 0 + w) last ++ rest)) [
       | inl now ↦
           let reached : score_to_pass last x ≤ get_or s x 0 + w = (crossed_then (get_or s x 0) (get_or s x 0 + w) (score_to_pass last x) now).1 in
-          subst (λ (b : Bool). AllPairs (λ a b. a ≢ b) (cond b (x ∷ []) [] ++ rest)) (sym now)
-          (AllPairs-cons (λ a b. a ≢ b) x rest
+          subst (λ (b : Bool). AllPairs (λ a b. a ≢ b) (cond b (x ∷ []) [] ++ rest)) (sym now) (AllPairs-cons (λ a b. a ≢ b) x rest
           (apart x rest (λ has. absurd (omega (arith, reached, (only_by_recursion w x n last docs (one_more w x s) (size w x s ∙ long) within.1 has).1, here w x s (omega (arith, long, within.0))))))
           pairs)
       | inr not_now ↦ subst (λ (b : Bool). AllPairs (λ a b. a ≢ b) (cond b (x ∷ []) [] ++ rest)) (sym not_now) pairs

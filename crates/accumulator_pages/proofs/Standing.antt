@@ -1,13 +1,7 @@
 -- Pages that stand in a pool.
-use Rattle.std.proofs.Common.{◌≡◌, ◌≢◌, ℕ, suc, zero, true, not, cond, ◌==◌, ◌+◌, ◌/◌, ◌%◌, ◌<◌, ◌≤◌, min, List, [], ◌∷◌, map, length, get_or, set, replicate, count_by, Option, Some, None, option_map, find, refl, sym, ap, ◌∙◌, subst, inl, inr, arith, get_or-set_same}
-use Rattle.std.proofs.lemmas.List.{get_or_past}
-use Rattle.std.proofs.lemmas.Bool.{cases_lt}
-use Rattle.std.specs.Int.{div_ceil}
-use Rattle.std.specs.List.{range_with_len}
-use Rattle.std.proofs.lemmas.Bool.Decides.{eqb_tells}
-use Rattle.std.proofs.lemmas.List.{length-replicate, get_or-replicate, get_or_read}
-use Rattle.std.proofs.lemmas.List.Folds.{sum_by-replicate}
-use Rattle.std.proofs.lemmas.List.FromFn.{length-map-range_with_len, get_or-map-range_with_len}
+use Rattle.shared_lemmas.proofs.Common.{◌≡◌, ◌≢◌, ℕ, suc, zero, true, not, cond, ◌==◌, ◌+◌, ◌/◌, ◌%◌, ◌<◌, ◌≤◌, min, List, [], ◌∷◌, map, length, get_or, set, replicate, count_by, Option, Some, None, refl, sym, ap, ◌∙◌, subst, inl, inr, arith, get_or-set_same, get_or_past, length-replicate}
+use Rattle.shared_lemmas.proofs.Common.{get_or-replicate, get_or_read, cases_lt, div_ceil, range_with_len, eqb_tells, sum_by-replicate, length-map-range_with_len, get_or-map-range_with_len}
+use Rattle.std.proofs.Common.{option_map, find}
 use Rattle.shared_lemmas.proofs.Places.{in_range}
 use Rattle.frame_pool.specs.Pool.{PoolView, FrameContent}
 use Rattle.frame_pool.specs.ChainView.{ChainView, HasPage, HeldFrame, KeepsFrames, LeavesOthers, frame_with_page, number_with_page, slot_value, view_values, view_scores}
@@ -39,8 +33,7 @@ map-zero f a zero zeros = refl
 map-zero f a (suc n) zeros = ap (λ (x : ℕ). x ∷ map f (range_with_len (a + 1) n)) (zeros a) ∙ ap (λ (xs : List ℕ). 0 ∷ xs) (map-zero f (a + 1) n zeros)
 
 pub no_values : (values : FrameContent → List ℕ) (docs : ℕ) (view : ChainView) → view.frames ≡ [] → view_values values docs view ≡ replicate docs 0
-no_values values docs view empty =
-    map-zero (λ d. slot_value values (frame_with_page view (d / 256)) (d % 256)) 0 docs
+no_values values docs view empty = map-zero (λ d. slot_value values (frame_with_page view (d / 256)) (d % 256)) 0 docs
     (λ d. ap (λ (hs : List HeldFrame). slot_value values (find (λ h. h.content.page == d / 256) hs) (d % 256)) empty)
 
 pub new_stands : (table : List ℕ) (docs : ℕ) (view : ChainView) → view.frames ≡ [] → table ≡ replicate (div_ceil docs 256) 4294967295 → TableStands table docs view
@@ -62,11 +55,10 @@ new_unused table scores n made page inside other =
 -- ---- room for a frame
 
 vacant_entry : (entry : ℕ) → frame_of_entry entry ≡ None → (entry == no_frame) ≡ true
-vacant_entry entry none =
-    elim (eqb_tells entry no_frame) as (λ _. (entry == no_frame) ≡ true) [
-      | inl same ↦ same.0
-      | inr other ↦ absurd (some_none entry (sym (ap (λ b. cond b None (Some entry)) other.0) ∙ none))
-    ]
+vacant_entry entry none = elim (eqb_tells entry no_frame) as (λ _. (entry == no_frame) ≡ true) [
+  | inl same ↦ same.0
+  | inr other ↦ absurd (some_none entry (sym (ap (λ b. cond b None (Some entry)) other.0) ∙ none))
+]
   where
     some_none : (e : ℕ) → Some e ≡ None → ⊥
     some_none e h = cc
@@ -103,8 +95,7 @@ used_now table table' scores doc w same others inside some used page within entr
 -- ---- frames are touched pages
 
 entry_none : (table : List ℕ) (docs : ℕ) (view : ChainView) (page : ℕ) → TableStands table docs view → page < length table → get_or table page 0 ≡ no_frame → number_with_page view page ≡ None
-entry_none table docs view page stands inside is =
-    stands.entries page inside ∙ ap frame_of_entry is
+entry_none table docs view page stands inside is = stands.entries page inside ∙ ap frame_of_entry is
 
 page_tells : (table : List ℕ) (docs : ℕ) (view : ChainView) → TableStands table docs view
     → ((page : ℕ) → page < length table → get_or table page 0 ≢ no_frame → HasTouched (view_scores docs view) page)
@@ -115,8 +106,7 @@ page_tells table docs view stands used page inside =
           untouched_there (view_scores docs view) page (λ d here. elim (cases_lt d docs) [
             | inl within ↦ value-none (λ x. x.scores) docs view d within (ap (number_with_page view) here ∙ entry_none table docs view page stands inside vacant.1)
             | inr past ↦ get_or_past (view_scores docs view) d 0 (omega (arith, past, length-values (λ x. x.scores) docs view))
-          ])
-          ∙ sym (ap not vacant.0)
+          ]) ∙ sym (ap not vacant.0)
       | inr held ↦ touched_there (view_scores docs view) page (used page inside held.1) ∙ sym (ap not held.0)
     ]
 

@@ -1,10 +1,6 @@
 -- The first document without a score.
-use Rattle.std.proofs.Common.{◌≡◌, ◌≢◌, ◌==◌, ℕ, ◌+◌, ◌-◌, ◌*◌, ◌<◌, ◌≤◌, Bool, false, not, List, length, get_or, All, Some, None, eqb-true, eq-eqb, sym, ap, ◌∙◌, subst, inl, inr, arith}
-use Rattle.std.specs.List.{position, prefix_len}
-use Rattle.std.proofs.lemmas.Bool.{cases_lt, ne_eqb}
-use Rattle.std.proofs.lemmas.Bool.Decides.{nat_tests}
-use Rattle.std.proofs.lemmas.List.Sums.{prefix_len_is}
-use Rattle.std.proofs.lemmas.List.Quantifiers.{position-Some}
+use Rattle.shared_lemmas.proofs.Common.{◌≡◌, ◌≢◌, ◌==◌, ℕ, ◌+◌, ◌-◌, ◌*◌, ◌<◌, ◌≤◌, Bool, false, not, List, length, get_or, All, Some, None, eqb-true, eq-eqb, sym, ap, ◌∙◌, subst, inl, inr, arith, prefix_len, cases_lt, ne_eqb, nat_tests, prefix_len_is, position-Some}
+use Rattle.std.specs.List.{position}
 
 abbrev is_zero : ℕ → Bool
 is_zero score = score == 0
@@ -26,13 +22,12 @@ all_touched s docs d size past before =
 -- pages without a zero, and the front of the next one
 pub joined : (s : List ℕ) (docs page n : ℕ) → ((k : ℕ) → k < 256 * page → k < docs → get_or s k 0 ≢ 0) → ((i : ℕ) → i < n → 256 * page + i < docs → get_or s (256 * page + i) 0 ≢ 0)
     → (k : ℕ) → k < 256 * page + n → k < docs → get_or s k 0 ≢ 0
-joined s docs page n pages front k inside within =
-    elim (cases_lt k (256 * page)) as (λ _. get_or s k 0 ≢ 0) [
-      | inl below ↦ pages k below within
-      | inr above ↦
-          let at : 256 * page + (k - 256 * page) ≡ k = omega arith in
-          subst (λ (j : ℕ). get_or s j 0 ≢ 0) at (front (k - 256 * page) (omega arith) (omega arith))
-    ]
+joined s docs page n pages front k inside within = elim (cases_lt k (256 * page)) as (λ _. get_or s k 0 ≢ 0) [
+  | inl below ↦ pages k below within
+  | inr above ↦
+      let at : 256 * page + (k - 256 * page) ≡ k = omega arith in
+      subst (λ (j : ℕ). get_or s j 0 ≢ 0) at (front (k - 256 * page) (omega arith) (omega arith))
+]
 
 -- the same page by page
 pub joined_page : (s : List ℕ) (docs page next : ℕ) → next ≡ page + 1 → ((k : ℕ) → k < 256 * page → k < docs → get_or s k 0 ≢ 0) → ((i : ℕ) → i < 256 → 256 * page + i < docs → get_or s (256 * page + i) 0 ≢ 0)

@@ -1,3 +1,4 @@
 pub mod Adding
 pub mod Pages
 pub mod Reached
+pub mod Private

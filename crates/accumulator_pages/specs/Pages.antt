@@ -71,12 +71,7 @@ HasTouched scores page = (doc : ℕ) × (doc / 256 ≡ page) × (0 < slice_index
 abbrev pub AreUsed : List ℕ → List ℕ → Type 0
 AreUsed table scores = (page : ℕ) → page < length table → slice_index table page ≢ no_frame → HasTouched scores page
 
--- the fields of pages tell what their chain holds, and each page with a frame has a touched document
-pub record FramesStand (pages : Pages) (view : ChainView) : Type 0 where
-  pub fields : FieldsStand pages view
-  pub used : AreUsed pages.table.items (view_scores pages.docs view)
-
--- that, and all touched documents are counted
+-- the fields of pages tell what their chain holds, each page with a frame has a touched document, and all of these are counted
 pub record PagesStand (pages : Pages) (view : ChainView) : Type 0 where
   pub fields : FieldsStand pages view
   pub touched : pages.touched ≡ touched_count (view_scores pages.docs view)

@@ -4,7 +4,8 @@ ghost use Rattle.frame_pool.specs.Pool.{PoolView, IsInUse};
 ghost use Rattle.frame_pool.specs.ChainView.{HasPage, LeavesPool, chain_view};
 ghost use Rattle.lane_kernels.specs.Bitmap.{set_bits};
 ghost use Rattle.accumulator_pages.specs.Adding.{added, crossed, raised, touched_count, touched_pages};
-ghost use Rattle.accumulator_pages.specs.Pages.{ArePagesOf, FieldsStand, FramesStand, HasRoom, HasRoomFor, Stands, docs_of, frame_of_entry, no_frame, own_chain, own_view, pages_places, pages_scores};
+ghost use Rattle.accumulator_pages.specs.Pages.{ArePagesOf, FieldsStand, HasRoom, HasRoomFor, Stands, docs_of, frame_of_entry, no_frame, own_chain, own_view, pages_places, pages_scores};
+ghost use Rattle.accumulator_pages.specs.Private.Frames.{FramesStand};
 
 use crate::reached::Reached;
 use frame_pool::laws::calls_on_one_chain;

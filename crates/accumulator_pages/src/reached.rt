@@ -1,4 +1,4 @@
-ghost use Rattle.std.specs.Prelude.{◌≡◌, ◌+◌, ◌-◌, ◌<◌, ◌≤◌, ◌^◌, ◌++◌, [], All, filter, length, nat_le, IfOk};
+ghost use Rattle.std.specs.Prelude.{◌≡◌, ◌+◌, ◌-◌, ◌<◌, ◌≤◌, ◌++◌, [], All, filter, length, nat_le, IfOk};
 ghost use Rattle.accumulator_pages.specs.Adding.{crossed, score_to_pass};
 ghost use Rattle.accumulator_pages.specs.Pages.{Stands, docs_of, pages_scores};
 ghost use Rattle.accumulator_pages.specs.Reached.{passes};

@@ -1,5 +1,5 @@
 // Pages in a pool, by a collection of four documents in two pages.
-ghost use Rattle.std.specs.Prelude.{◌≡◌, ◌≢◌, ◌+◌, ◌/◌, ◌<◌, ◌≤◌, ◌^◌, [], None, length, slice_index, slice_index_or};
+ghost use Rattle.std.specs.Prelude.{◌≡◌, ◌≢◌, ◌+◌, ◌/◌, ◌<◌, ◌≤◌, [], None, length, slice_index, slice_index_or};
 ghost use Rattle.frame_pool.specs.ChainView.{LeavesOthers, LeavesPool};
 ghost use Rattle.accumulator_pages.specs.Pages.{ArePagesOf, HasRoom, Stands, docs_of, own_chain, own_view, pages_scores};
 

@@ -1,16 +1,7 @@
 -- The piece that a walk gives is the next one of the content.
-use Rattle.std.proofs.Common.{◌≡◌, ◌∙◌, ℕ, suc, ◌+◌, ◌<◌, ◌≤◌, Bool, true, false, cond, List, [], ◌∷◌, ◌++◌, length, drop, Option, Some, None, Result, Ok, Err, refl, sym, ap, subst, arith}
-use Rattle.std.specs.Prelude.{◌==◌, ◌||◌, nat_lt}
-use Rattle.std.proofs.lemmas.Bool.Decides.{nat_tests}
-use Rattle.std.proofs.lemmas.List.{length-append}
-use Rattle.std.proofs.lemmas.List.Folds.{list_any-append}
-use Rattle.std.proofs.lemmas.Bool.{cond-true, cond-false, lt-ltb, le-ltb}
-use Rattle.jass_base.specs.Ciff.{HeaderData}
-use Rattle.jass_base.specs.CiffViews.{header_data, list_data, doc_data}
-use Rattle.jass_base.specs.Outside.{Files, ForContent}
-use Rattle.jass_base.specs.declared.doc_record.DocRecord.{DocRecord}
-use Rattle.jass_base.specs.declared.header.Header.{Header}
-use Rattle.jass_base.specs.declared.postings_list.PostingsList.{PostingsList}
+use Rattle.shared_lemmas.proofs.Common.{◌≡◌, ◌∙◌, ℕ, suc, ◌+◌, ◌<◌, ◌≤◌, Bool, true, false, cond, List, [], ◌∷◌, ◌++◌, length, drop, Option, Some, None, Result, Ok, Err, refl, sym, ap, subst, arith, ◌==◌, ◌||◌, nat_lt, nat_tests, length-append, list_any-append, cond-true, cond-false, lt-ltb}
+use Rattle.shared_lemmas.proofs.Common.{le-ltb}
+use Rattle.ciff_read.proofs.Below.{HeaderData, header_data, list_data, doc_data, Files, ForContent, DocRecord, Header, PostingsList}
 use Rattle.ciff_read.specs.declared.piece.Piece.{Piece}
 use Rattle.ciff_read.specs.declared.piece.Piece.TheVariants as pieces
 use Rattle.ciff_read.specs.declared.refusal.CiffFault.{CiffFault}
@@ -23,7 +14,8 @@ use Rattle.ciff_read.specs.Private.Reached.{GivesReading, MarksOf}
 use Rattle.ciff_read.specs.Reaching.{FailsReading}
 use Rattle.ciff_read.specs.Reading.{at_end}
 use Rattle.ciff_read.specs.Refusals.{◌>>=◌}
-use Rattle.ciff_read.specs.Walk.{WalkView, Keeps, Stands, StandsFor, StandsTold, StaysHeld, OneMore, kept_of, ListGiven, DocGiven, EndGiven, LeavesOthers, LeavesLists, LeavesPlace}
+use Rattle.ciff_read.specs.Walk.{WalkView, Keeps, Stands, StandsFor, StandsTold, OneMore, kept_of}
+use Rattle.ciff_read.specs.Private.Walk.{StaysHeld, ListGiven, DocGiven, EndGiven, LeavesOthers, LeavesLists, LeavesPlace}
 use Rattle.ciff_read.specs.Window.{AreFrom}
 use Rattle.ciff_read.proofs.HeldParts.{reading_fails_on, reading_as}
 use Rattle.ciff_read.proofs.Told.{for_all, for_one, for_both, for_pair}

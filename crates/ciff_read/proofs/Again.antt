@@ -1,22 +1,19 @@
 -- A list that was given is found again at its place.
-use Rattle.std.proofs.Common.{◌≡◌, ◌≢◌, ◌∙◌, ℕ, zero, suc, Bool, true, false, cond, List, [], ◌∷◌, length, drop, All, Option, Some, None, Result, Ok, Err, refl, sym, ap, subst}
-use Rattle.std.specs.Prelude.{nat_lt, Contains}
-use Rattle.std.proofs.lemmas.List.Elements.{All-append, All-nil}
-use Rattle.jass_base.specs.Ciff.{HeaderData, ListData}
-use Rattle.jass_base.specs.Outside.{Files, ForContent}
+use Rattle.shared_lemmas.proofs.Common.{◌≡◌, ◌≢◌, ◌∙◌, ℕ, zero, suc, Bool, true, false, cond, List, [], ◌∷◌, length, drop, All, Option, Some, None, Result, Ok, Err, refl, sym, ap, subst, nat_lt, Contains, All-append, All-nil}
+use Rattle.ciff_read.proofs.Below.{HeaderData, ListData, Files, ForContent}
 use Rattle.ciff_read.specs.declared.refusal.CiffRefusal.{CiffRefusal}
 use Rattle.ciff_read.specs.declared.refusal.CiffFault.{CiffFault}
 use Rattle.ciff_read.specs.declared.refusal.CiffFault.TheVariants as faults
 use Rattle.ciff_read.specs.Pieces.{KeptList, Progress, EndPiece, ListPiece, DocPiece, StartPiece, Step, ListInFile, DocInFile, header_of_file, begun, with_list, with_doc, without_header, list_of_file, doc_of_file, list_next, doc_next, end_next, next_behind, next_of, postings_kept, terms_kept, after, IsReached}
 use Rattle.ciff_read.specs.Reaching.{FailsReading}
-use Rattle.ciff_read.specs.Reading.{Message, message_end, message_at, list_at, at_end}
+use Rattle.ciff_read.specs.Reading.{Message, message_end, message_at, list_at}
 use Rattle.ciff_read.specs.Refusals.{◌>>=◌}
 use Rattle.ciff_read.specs.Walk.{WalkView, Stands, StandsFor, StandsTold, IsListAt, HasKept, IsGiven, IsOutside, FindsAgain}
 use Rattle.ciff_read.specs.Window.{AreFrom}
 use Rattle.ciff_read.proofs.Fewer.{list_alone}
 use Rattle.ciff_read.proofs.Postings.{All-one}
 use Rattle.ciff_read.proofs.Told.{for_both}
-use Rattle.ciff_read.proofs.WireLaws.{bound, done_is}
+use Rattle.ciff_read.proofs.WireLaws.{bound, done_is, ended_with}
 
 -- a list that was given stands at its place, with as many postings as are kept
 record IsThere (content : List ℕ) (docs : ℕ) (k : KeptList) : Type 0 where
@@ -26,10 +23,6 @@ record IsThere (content : List ℕ) (docs : ℕ) (k : KeptList) : Type 0 where
 
 abbrev AreThere : List ℕ → Progress → Type 0
 AreThere content p = All (IsThere content p.docs) p.kept
-
-end_is : {A : Type 0} (at : ℕ) (s : List ℕ) (x y : A) → at_end at s x ≡ Ok y → x ≡ y
-end_is at [] x y is = done_is x y is
-end_is at (b ∷ s) x y is = absurd cc
 
 module _ (content : List ℕ) (q : Progress) (s : Step) (there : AreThere content q) where
   there_as : (later : Progress) → later ≡ s.later → AreThere content later → AreThere content s.later
@@ -57,7 +50,7 @@ module _ (content : List ℕ) (q : Progress) (s : Step) (there : AreThere conten
   end_there : end_next content q ≡ Ok s → AreThere content s.later
   end_there is =
       let made : Step = record { piece = EndPiece; later = q } in
-      there_as q (ap (λ (x : Step). x.later) (end_is q.at (drop q.at content) made s is)) there
+      there_as q (ap (λ (x : Step). x.later) (ended_with q.at (drop q.at content) made s is)) there
 
   message_there : (a b : Bool) → cond a (list_next content q) (cond b (doc_next content q) (end_next content q)) ≡ Ok s → AreThere content s.later
   message_there true b is = list_there is

@@ -1,7 +1,6 @@
 -- So many documents that are read are those of their messages, in order, and those of such messages are read.
 use Rattle.std.proofs.Common.{◌≡◌, ℕ, ◌+◌, ◌^◌, ◌≤◌, List, [], ◌++◌, length, map, Result, Ok, sym, ap, subst, ◌∙◌}
-use Rattle.jass_base.specs.Ciff.{DocData, AreRecords}
-use Rattle.jass_base.specs.Wire.{Spells, IsSized}
+use Rattle.ciff_read.proofs.Below.{DocData, AreRecords, Spells, IsSized}
 use Rattle.ciff_read.specs.declared.refusal.CiffRefusal.{CiffRefusal}
 use Rattle.ciff_read.specs.Judging.{NumberedDoc}
 use Rattle.ciff_read.specs.Reading.{DocsRead, DocsInOrder, docs_at, docs_in_order, all_docs_at}
@@ -25,9 +24,8 @@ module _ (laws : WireLaws) where
   pub all_docs_found : (count at : ℕ) (s : List ℕ) (y : DocsInOrder) → at ≤ 2 ^ 32 → all_docs_at count at s ≡ Ok y → AllDocsFound count at s y
   all_docs_found count at s y short is =
       let g = bound (docs_at count count [] at s) (λ z. Ok (docs_in_order z)) y is in
-      let z = g.0 in
-      let in_order = done_is (docs_in_order z) y g.2 in
-      let docs = docs_found laws count count [] at s z short g.1 in
+      let in_order = done_is (docs_in_order g.0) y g.2 in
+      let docs = docs_found laws count count [] at s g.0 short g.1 in
       let puts = subst (λ n. Puts n [] docs.bodies docs.docs_put docs.final) (sym docs.count) docs.puts in
       let stand = docs_stand docs.bodies docs.docs_put docs.final puts in
       let same : values_of docs.final ≡ y.docs = sym (docs_from 0 docs.final) ∙ ap (map (λ (r : NumberedDoc). r.doc)) (sym docs.final_is) ∙ ap (λ (w : DocsInOrder). w.docs) in_order in

@@ -1,15 +1,10 @@
 -- Records that are placed by rising numbers have the numbers that they had, so a document's record is judged alike behind them.
-use Rattle.std.proofs.Common.{◌≡◌, ℕ, Bool, true, false, cond, List, [], ◌∷◌, Result, Ok, Err, refl, ap, ◌∙◌}
-use Rattle.std.specs.Prelude.{fold, ◌==◌, ◌||◌, nat_lt}
+use Rattle.shared_lemmas.proofs.Common.{◌≡◌, ℕ, Bool, true, false, cond, List, [], ◌∷◌, Result, Ok, Err, refl, ap, ◌∙◌, sym, fold, ◌==◌, ◌||◌, nat_lt, or-false}
 use Rattle.ciff_read.specs.declared.refusal.CiffRefusal.{CiffRefusal}
 use Rattle.ciff_read.specs.Assembling.{by_number}
 use Rattle.ciff_read.specs.Judging.{NumberedDoc, numbers_of, is_among, judge_doc}
 use Rattle.ciff_read.specs.Reading.{Message, numbered_at, doc_at, inserted}
 use Rattle.ciff_read.specs.Refusals.{◌>>=◌, placed}
-
-or_false : (a : Bool) → a ≡ (a || false)
-or_false true = refl
-or_false false = refl
 
 or_swap : (a b c : Bool) → (a || (b || c)) ≡ (b || (a || c))
 or_swap true true c = refl
@@ -34,7 +29,7 @@ module _ (n : ℕ) where
       go false more = refl
 
   among_placed : (rs so_far : List NumberedDoc) → is_among n (numbers_of (fold (λ (others : List NumberedDoc) (x : NumberedDoc). inserted x others) so_far rs)) ≡ (is_among n (numbers_of so_far) || is_among n (numbers_of rs))
-  among_placed [] so_far = or_false (is_among n (numbers_of so_far))
+  among_placed [] so_far = sym (or-false (is_among n (numbers_of so_far)))
   among_placed (x ∷ rs) so_far =
       among_placed rs (inserted x so_far) ∙ ap (λ b. b || is_among n (numbers_of rs)) (among_inserted x so_far)
       ∙ or_behind (x.number == n) (is_among n (numbers_of so_far)) (is_among n (numbers_of rs))

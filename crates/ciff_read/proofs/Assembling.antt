@@ -1,11 +1,7 @@
 -- The pieces that are given of a file make up the collection that is read of it.
-use Rattle.std.proofs.Common.{◌≡◌, ℕ, suc, ◌+◌, ◌-◌, ◌<◌, ◌≤◌, Bool, true, false, cond, List, [], ◌∷◌, ◌++◌, length, map, drop, Option, Some, None, Result, Ok, Err, refl, sym, ap, subst, ◌∙◌, append_assoc, arith}
-use Rattle.std.specs.Prelude.{nat_lt}
-use Rattle.std.specs.List.{AllZip}
-use Rattle.std.proofs.lemmas.Bool.{ltb-true, ltb-false}
-use Rattle.std.proofs.lemmas.List.{append-nil, drop-drop, drop_at, length-append, length-map, map-append}
-use Rattle.std.proofs.lemmas.List.Sums.{fold-append, sum_by-append, sum_by-cons}
-use Rattle.std.proofs.lemmas.Slice.Zip.{AllZip-long}
+use Rattle.shared_lemmas.proofs.Common.{◌≡◌, ℕ, suc, ◌+◌, ◌-◌, ◌<◌, ◌≤◌, Bool, true, false, cond, List, [], ◌∷◌, ◌++◌, length, map, drop, Option, Some, None, Result, Ok, Err, refl, sym, ap, subst, ◌∙◌, append_assoc, arith, nat_lt, ltb-true, ltb-false, drop-drop, drop_at, length-append, length-map}
+use Rattle.shared_lemmas.proofs.Common.{map-append, fold-append, sum_by-append, sum_by-cons, AllZip-long}
+use Rattle.std.proofs.lemmas.List.{append-nil}
 use Rattle.jass_base.specs.Ciff.{HeaderData, ListData, CollectionData}
 use Rattle.ciff_read.specs.declared.refusal.CiffRefusal.{CiffRefusal}
 use Rattle.ciff_read.specs.Assembling.{Parts, Assembles, IsKeptList, only_header, with_piece, by_number, collection_of, rest_of}
@@ -16,7 +12,8 @@ use Rattle.ciff_read.specs.Refusals.{◌>>=◌}
 use Rattle.ciff_read.proofs.Among.{among_by_number, same_doc}
 use Rattle.ciff_read.proofs.Fewer.{list_alone}
 use Rattle.ciff_read.proofs.MessageLaws.{message_found}
-use Rattle.ciff_read.proofs.WireLaws.{WireLaws, bound, done_is}
+use Rattle.ciff_read.proofs.WireLaws.{WireLaws, bound, done_is, ended_with}
+use Rattle.shared_lemmas.proofs.Lists.{zip-append}
 
 -- ---- refusals
 
@@ -42,21 +39,11 @@ ended_too : {A B : Type 0} (at : ℕ) (s : List ℕ) (x y : A) (z : B) → at_en
 ended_too at [] x y z is = refl
 ended_too at (b ∷ s) x y z is = absurd cc
 
-pub ended_with : {A : Type 0} (at : ℕ) (s : List ℕ) (x y : A) → at_end at s x ≡ Ok y → x ≡ y
-ended_with at [] x y is = done_is x y is
-ended_with at (b ∷ s) x y is = absurd cc
-
 unended_too : {A B : Type 0} (at : ℕ) (s : List ℕ) (x : A) (z : B) → RefusesToo (at_end at s x) (at_end at s z)
 unended_too at [] x z e is = absurd cc
 unended_too at (b ∷ s) x z e is = refuses_on (at_end at (b ∷ s) x) (at_end at (b ∷ s) x) (λ y. y) (λ y. Ok z) (refuses_itself (at_end at (b ∷ s) x)) e is
 
 -- ---- lists
-
-zip_more : {A B : Type 0} (R : A → B → Type 0) (xs : List A) (ys : List B) (x : A) (y : B) → AllZip R xs ys → R x y → AllZip R (xs ++ x ∷ []) (ys ++ y ∷ [])
-zip_more R [] [] x y all one = (one, tt)
-zip_more R [] (b ∷ ys) x y all one = absurd all
-zip_more R (a ∷ xs) [] x y all one = absurd all
-zip_more R (a ∷ xs) (b ∷ ys) x y all one = (all.0, zip_more R xs ys x y all.1 one)
 
 lists_alike : (docs at n k before count : ℕ) (terms others : List (List ℕ)) (s t : List ℕ) → n ≡ k → before ≡ count → terms ≡ others → s ≡ t → lists_at n docs before terms at s ≡ lists_at k docs count others at t
 lists_alike docs at n k before count terms others s t a b c d i = lists_at (a i) docs (b i) (c i) at (d i)
@@ -164,7 +151,8 @@ module _ (laws : WireLaws) (content : List ℕ) where
               ∙ ap (λ (r : Result ListData CiffRefusal). r >>= list_read m >>= after_lists p.docs parts) judged
               ∙ regroup (lists_at left p.docs (before + length l.postings) (terms ++ l.term ∷ []) (message_end m) m.rest)
               ∙ ap (λ (r : Result ListsRead CiffRefusal). r >>= after_lists p.docs (record parts { lists = parts.lists ++ l ∷ [] })) same_state;
-          lists = zip_more (IsKeptList content p.docs) p.kept parts.lists one l is.lists (record { term = refl; count = refl; there = record { message = m; there = there; judged = list_alone p.docs before terms p.at m l judged } });
+          lists = zip-append (IsKeptList content p.docs) p.kept parts.lists (one ∷ []) (l ∷ []) is.lists
+              (record { term = refl; count = refl; there = record { message = m; there = there; judged = list_alone p.docs before terms p.at m l judged } }, tt);
           numbers = is.numbers;
         }
 

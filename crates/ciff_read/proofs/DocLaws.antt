@@ -1,16 +1,9 @@
 -- The documents that are read are those of the messages, and those of the messages are read.
-use Rattle.std.proofs.Common.{◌≡◌, ◌≢◌, ℕ, zero, suc, ◌+◌, ◌-◌, ◌^◌, ◌<◌, ◌≤◌, Bool, true, false, not, cond, List, [], ◌∷◌, ◌++◌, length, get_or, map, replicate, Option, Some, None, Result, Ok, Err, refl, sym, ap, subst, ◌∙◌, append_assoc, arith, inl, inr}
-use Rattle.std.specs.Prelude.{◌==◌, ◌&&◌, nat_eq, nat_lt, nat_le, is_some, slice_get}
-use Rattle.std.specs.List.{AllZip, AllByRecursion, IsDistinct, list_all}
-use Rattle.std.specs.Str.{is_utf8}
-use Rattle.std.proofs.lemmas.Bool.{cases_eq, and_parts, not-false}
-use Rattle.std.proofs.lemmas.Bool.Decides.{nat_tests}
-use Rattle.std.proofs.lemmas.List.{length-append, length-replicate, length-set}
-use Rattle.std.proofs.lemmas.List.Elements.{All-from_recursion, recursion_from_All}
-use Rattle.jass_base.specs.Ciff.{DocData, IsDoc, IsDocAmong, AreRecords}
-use Rattle.jass_base.specs.Limits.{IsName}
-use Rattle.jass_base.specs.Wire.{Spells, IsSized}
-use Rattle.std.proofs.lemmas.Option.{slice_get_within}
+use Rattle.shared_lemmas.proofs.Common.{◌≡◌, ◌≢◌, ℕ, zero, suc, ◌+◌, ◌-◌, ◌^◌, ◌<◌, ◌≤◌, Bool, true, false, not, cond, List, [], ◌∷◌, ◌++◌, length, get_or, map, replicate, Option, Some, None, Result, Ok, Err, refl, sym, ap, subst, ◌∙◌, append_assoc, arith, inl, inr, ◌==◌, ◌&&◌, nat_eq, nat_lt}
+use Rattle.shared_lemmas.proofs.Common.{nat_le, is_some, slice_get, AllZip, AllByRecursion, list_all, is_utf8, cases_eq, and_parts, not-false, nat_tests, length-append, length-replicate, All-from_recursion, recursion_from_All, slice_get_within}
+use Rattle.std.specs.List.{IsDistinct}
+use Rattle.std.proofs.lemmas.List.{length-set}
+use Rattle.ciff_read.proofs.Below.{DocData, IsDoc, IsDocAmong, AreRecords, IsName, Spells, IsSized}
 use Rattle.ciff_read.specs.declared.refusal.CiffWhy.{CiffWhy}
 use Rattle.ciff_read.specs.declared.refusal.CiffWhy.TheVariants.{Range, DocRange, DocTwice, Text, NameText}
 use Rattle.ciff_read.specs.declared.refusal.CiffRefusal.{CiffRefusal}
@@ -55,9 +48,8 @@ name_found : (s : List ℕ) → is_name s ≡ true → IsName s
 name_found s h =
     let t = and_parts (not (length s == 0) && nat_le (length s) 1048576) (list_all visible s) h in
     let u = and_parts (not (length s == 0)) (nat_le (length s) 1048576) t.0 in
-    let a = u.0 in
     let b = u.1 in
-    record { some = some (length s) a; fits = grind (arith, nat_tests); visible = All-from_recursion (λ b. (32 < b) × (b ≢ 127)) s (all_visible s t.1) }
+    record { some = some (length s) u.0; fits = grind (arith, nat_tests); visible = All-from_recursion (λ b. (32 < b) × (b ≢ 127)) s (all_visible s t.1) }
   where
     some : (n : ℕ) → not (n == 0) ≡ true → 1 ≤ n
     some zero h = absurd cc

@@ -1,7 +1,5 @@
 -- What a message's values are behind one field more.
-use Rattle.std.proofs.Common.{◌≡◌, ℕ, List, [], ◌∷◌, ◌++◌, refl, sym, ap, ◌∙◌}
-use Rattle.std.specs.Prelude.{replicate}
-use Rattle.std.proofs.lemmas.List.Sums.{fold-append}
+use Rattle.shared_lemmas.proofs.Common.{◌≡◌, ℕ, List, [], ◌∷◌, ◌++◌, refl, sym, ap, ◌∙◌, replicate, fold-append}
 use Rattle.jass_base.specs.Wire.{WireField, number_after, text_after, eight_after, number_field, text_field, eight_field}
 use Rattle.ciff_read.specs.declared.posting_fields.PostingFields.{PostingFields}
 use Rattle.ciff_read.specs.declared.doc_fields.DocFields.{DocFields}

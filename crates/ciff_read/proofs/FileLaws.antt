@@ -1,9 +1,7 @@
 -- A file that is read stands for the collection that is given, and each such file is read.
-use Rattle.std.proofs.Common.{◌≡◌, ℕ, ◌+◌, ◌^◌, ◌≤◌, List, [], ◌∷◌, ◌++◌, length, Result, Ok, refl, sym, ap, subst, ◌∙◌, append_assoc, arith}
-use Rattle.std.specs.List.{AllZip}
-use Rattle.std.proofs.lemmas.List.{append-nil, length-append}
-use Rattle.jass_base.specs.Ciff.{CollectionData, IsCiff, IsHeader, IsList}
-use Rattle.jass_base.specs.Wire.{Spells, IsSized}
+use Rattle.shared_lemmas.proofs.Common.{◌≡◌, ℕ, ◌+◌, ◌^◌, ◌≤◌, List, [], ◌∷◌, ◌++◌, length, Result, Ok, refl, sym, ap, subst, ◌∙◌, append_assoc, arith, AllZip, length-append}
+use Rattle.std.proofs.lemmas.List.{append-nil}
+use Rattle.ciff_read.proofs.Below.{CollectionData, IsCiff, IsHeader, IsList, Spells, IsSized}
 use Rattle.ciff_read.specs.declared.refusal.CiffRefusal.{CiffRefusal}
 use Rattle.ciff_read.specs.Judging.{FileStart}
 use Rattle.ciff_read.specs.Reading.{Message, ListsRead, DocsInOrder, message_end, message_at, header_at, lists_at, all_docs_at, at_end, read_ciff}

@@ -1,6 +1,5 @@
 -- A file that is read part by part.
-use Rattle.std.proofs.Common.{◌≡◌, ℕ, ◌<◌, ◌≤◌, List, [], length, drop, Result, Ok, Err, refl, sym, ap, ◌∙◌, drop-cons}
-use Rattle.std.proofs.lemmas.List.{drop_all}
+use Rattle.shared_lemmas.proofs.Common.{◌≡◌, ℕ, ◌<◌, ◌≤◌, List, [], length, drop, Result, Ok, Err, refl, sym, ap, ◌∙◌, drop-cons, drop_all}
 use Rattle.jass_base.specs.Ciff.{CollectionData}
 use Rattle.ciff_read.specs.declared.refusal.CiffWhy.TheVariants.{Trailing}
 use Rattle.ciff_read.specs.declared.refusal.CiffRefusal.{CiffRefusal}

@@ -1,11 +1,7 @@
 -- What stands behind place 2^32 + 16 changes nothing of what is read.
-use Rattle.std.proofs.Common.{◌≡◌, ℕ, zero, suc, ◌+◌, ◌-◌, ◌^◌, ◌<◌, ◌≤◌, Bool, true, false, cond, List, [], ◌∷◌, ◌++◌, length, map, take, drop, Result, Ok, Err, refl, sym, ap, subst, ◌∙◌, arith}
-use Rattle.std.specs.Prelude.{nat_lt}
-use Rattle.std.proofs.lemmas.Bool.{le-ltb, ltb-false, ltb-true}
-use Rattle.std.proofs.lemmas.List.{length-take, length-drop, take-take, drop-take, take_all}
-use Rattle.jass_base.specs.Ciff.{ListData, CollectionData}
-use Rattle.wire_fields.specs.declared.fault.WireWhy.{WireWhy}
-use Rattle.wire_fields.specs.Reading.{varint_at}
+use Rattle.shared_lemmas.proofs.Common.{◌≡◌, ℕ, zero, suc, ◌+◌, ◌-◌, ◌^◌, ◌<◌, ◌≤◌, Bool, true, false, cond, List, [], ◌∷◌, ◌++◌, length, map, take, drop, Result, Ok, Err, refl, sym, ap, subst, ◌∙◌, arith, nat_lt, le-ltb, ltb-false, ltb-true, length-take, length-drop, take-take, drop-take}
+use Rattle.shared_lemmas.proofs.Common.{take_all}
+use Rattle.ciff_read.proofs.Below.{ListData, CollectionData, WireWhy, varint_at}
 use Rattle.ciff_read.proofs.VarintFront.{Alike, ReadAlike, varint_front}
 use Rattle.ciff_read.specs.declared.refusal.CiffWhy.{CiffWhy}
 use Rattle.ciff_read.specs.declared.refusal.CiffWhy.TheVariants.{Cut, Limit}

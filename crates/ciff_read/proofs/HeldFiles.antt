@@ -1,17 +1,16 @@
 -- A file whose messages are read through a window.
 use Rattle.std.proofs.Common.{◌≡◌, ℕ, ◌+◌, ◌-◌, ◌^◌, ◌<◌, ◌≤◌, List, length, drop, Result, Ok, Err, refl, sym, ap, subst, arith}
-use Rattle.wire_fields.specs.declared.fault.WireWhy.{WireWhy}
-use Rattle.wire_fields.specs.Places.{ReadsVarint}
-use Rattle.wire_fields.specs.Reading.{varint_at}
+use Rattle.ciff_read.proofs.Below.{WireWhy, ReadsVarint, varint_at}
 use Rattle.ciff_read.specs.declared.refusal.CiffWhy.TheVariants.{Cut, Limit}
 use Rattle.ciff_read.specs.declared.refusal.CiffRefusal.{CiffRefusal}
 use Rattle.ciff_read.specs.declared.refusal.CiffFault.{CiffFault}
 use Rattle.ciff_read.specs.declared.refusal.CiffFault.TheVariants as faults
 use Rattle.ciff_read.specs.declared.window.Window.{Window}
-use Rattle.ciff_read.specs.Reaching.{FailsReading, ReadsSize, HoldsMessage}
+use Rattle.ciff_read.specs.Reaching.{FailsReading}
+use Rattle.ciff_read.specs.Private.Reaching.{ReadsSize, HoldsMessage}
 use Rattle.ciff_read.specs.Reading.{message_at}
 use Rattle.ciff_read.specs.Refusals.{Fails, why_of}
-use Rattle.ciff_read.specs.Window.{Shows, IsAt, Reaches}
+use Rattle.ciff_read.specs.Private.Window.{Shows, IsAt, Reaches}
 use Rattle.ciff_read.proofs.HeldMessages.{size_there, size_bad, message_held, message_short}
 use Rattle.ciff_read.proofs.Messages.{message_bad, message_over}
 

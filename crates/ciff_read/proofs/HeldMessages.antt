@@ -1,11 +1,9 @@
 -- A message that is read through a window.
-use Rattle.std.proofs.Common.{◌≡◌, ℕ, zero, suc, ◌+◌, ◌-◌, ◌*◌, ◌%◌, ◌^◌, ◌<◌, ◌≤◌, Bool, true, false, cond, List, [], ◌∷◌, ◌++◌, length, take, drop, Result, Ok, Err, refl, sym, ap, subst, ◌∙◌, length-drop, arith}
-use Rattle.std.proofs.Common.{inl, inr}
-use Rattle.std.specs.Prelude.{◌⊎◌, nat_lt, slice_range}
-use Rattle.std.proofs.lemmas.List.{drop-drop, take-append-drop, drop_all, drop-append-le, take-append-le}
-use Rattle.wire_fields.specs.declared.fault.WireWhy.{WireWhy}
-use Rattle.wire_fields.specs.declared.fault.WireWhy.TheVariants.{Cut, LongVarint}
-use Rattle.wire_fields.specs.Reading.{◌>>=◌, varint_at, varint_within}
+use Rattle.shared_lemmas.proofs.Common.{◌≡◌, ℕ, zero, suc, ◌+◌, ◌-◌, ◌*◌, ◌%◌, ◌^◌, ◌<◌, ◌≤◌, Bool, true, false, cond, List, [], ◌∷◌, ◌++◌, length, take, drop, Result, Ok, Err, refl, sym, ap, subst, ◌∙◌, arith, inl, inr, ◌⊎◌, nat_lt, slice_range, drop-drop, take-append-drop, drop_all}
+use Rattle.shared_lemmas.proofs.Common.{drop-append-le, take-append-le}
+use Rattle.std.proofs.Common.{length-drop}
+use Rattle.ciff_read.proofs.Below.{WireWhy, Cut, LongVarint, ◌>>=◌, varint_within}
+use Rattle.wire_fields.specs.Reading.{varint_at}
 use Rattle.ciff_read.specs.declared.refusal.CiffWhy.TheVariants as why
 use Rattle.ciff_read.specs.Reading.{Message, message_at}
 use Rattle.ciff_read.specs.Window.{AreFrom}

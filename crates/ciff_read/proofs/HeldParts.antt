@@ -9,10 +9,12 @@ use Rattle.ciff_read.specs.declared.refusal.CiffFault.{CiffFault}
 use Rattle.ciff_read.specs.declared.refusal.CiffFault.TheVariants as faults
 use Rattle.ciff_read.specs.declared.window.Window.{Window}
 use Rattle.ciff_read.specs.Judging.{FileStart, NumberedDoc}
-use Rattle.ciff_read.specs.Moving.{refusal_moved, moved, fault_moved}
+use Rattle.ciff_read.specs.Moving.{refusal_moved, moved}
+use Rattle.ciff_read.specs.Private.Moving.{fault_moved}
 use Rattle.ciff_read.specs.Pieces.{FileHeader, ListInFile, DocInFile, header_of_file, list_of_file, doc_of_file}
 use Rattle.ciff_read.specs.Private.Places.{message_in}
-use Rattle.ciff_read.specs.Reaching.{FailsReading, HoldsMessage, message_shown}
+use Rattle.ciff_read.specs.Reaching.{FailsReading}
+use Rattle.ciff_read.specs.Private.Reaching.{HoldsMessage, message_shown}
 use Rattle.ciff_read.specs.Reading.{Message, message_end, header_at, list_at, doc_at}
 use Rattle.ciff_read.specs.Refusals.{◌>>=◌, placed, Fails}
 use Rattle.ciff_read.proofs.FrontLaws.{header_same}

@@ -1,15 +1,11 @@
 -- Terms in a table of lists.
-use Rattle.std.proofs.Common.{◌≡◌, ℕ, zero, suc, ◌+◌, ◌<◌, Bool, true, false, cond, List, [], ◌∷◌, ◌++◌, length, map, Some, refl, sym, ap, ◌∙◌, arith}
-use Rattle.std.specs.Prelude.{◌||◌, is_some, slice_get, String, string_bytes, string_eq}
-use Rattle.std.specs.List.{list_any}
-use Rattle.std.specs.Map.{lookup}
-use Rattle.std.specs.Str.{bytes_eq}
-use Rattle.std.specs.declared.alloc.Global.{Global}
-use Rattle.std.proofs.lemmas.List.{append_assoc, map-append}
-use Rattle.std.proofs.lemmas.List.Folds.{list_any-append}
+use Rattle.shared_lemmas.proofs.Common.{◌≡◌, ℕ, zero, suc, ◌+◌, ◌<◌, Bool, true, false, cond, List, [], ◌∷◌, ◌++◌, length, map, Some, refl, sym, ap, ◌∙◌, arith, bytes_eq, ◌||◌, is_some, slice_get, String, string_eq, list_any, lookup, Global, map-append, list_any-append}
+use Rattle.std.specs.Prelude.{string_bytes}
+use Rattle.std.proofs.lemmas.List.{append_assoc}
 use Rattle.indexmap.specs.IndexMap.{insert_entry}
 use Rattle.ciff_read.specs.declared.kept_lists.ListPlace.{ListPlace}
-use Rattle.ciff_read.specs.KeptEntries.{hashed_in, kept_as, kept_from, places_in, terms_in}
+use Rattle.ciff_read.specs.KeptEntries.{hashed_in, kept_as, kept_from}
+use Rattle.ciff_read.specs.Private.KeptEntries.{places_in, terms_in}
 use Rattle.ciff_read.specs.Pieces.{KeptList}
 use Rattle.ciff_read.specs.Seen.{is_seen}
 use Rattle.ciff_read.proofs.RisingTerms.{terms_append}

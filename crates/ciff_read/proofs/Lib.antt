@@ -1,3 +1,4 @@
+mod Below
 pub mod AllDocs
 pub mod Answering
 pub mod FieldValues

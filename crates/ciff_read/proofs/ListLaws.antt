@@ -1,15 +1,8 @@
 -- The lists that are read are those of the messages, and those of the messages are read.
-use Rattle.std.proofs.Common.{◌≡◌, ℕ, zero, suc, ◌+◌, ◌^◌, ◌≤◌, false, List, [], ◌∷◌, ◌++◌, length, map, Result, Ok, refl, sym, ap, subst, ◌∙◌, append_assoc, arith}
-use Rattle.std.specs.Prelude.{◌||◌, ⊤}
-use Rattle.std.specs.List.{AllZip, AllByRecursion, IsDistinct}
-use Rattle.std.specs.Str.{bytes_eq}
-use Rattle.std.proofs.lemmas.Cmp.{nat_list_eq_equiv}
-use Rattle.std.proofs.lemmas.List.{length-append}
-use Rattle.std.proofs.lemmas.List.Folds.{list_any-append}
-use Rattle.std.proofs.lemmas.List.Sums.{sum_by-cons}
-use Rattle.std.proofs.lemmas.Bool.{or_parts, or_from}
-use Rattle.jass_base.specs.Ciff.{ListData, IsList, postings_count}
-use Rattle.jass_base.specs.Wire.{Spells, IsSized}
+use Rattle.shared_lemmas.proofs.Common.{◌≡◌, ℕ, zero, suc, ◌+◌, ◌^◌, ◌≤◌, false, List, [], ◌∷◌, ◌++◌, length, map, Result, Ok, refl, sym, ap, subst, ◌∙◌, append_assoc, arith, ◌||◌, ⊤, bytes_eq, AllZip, AllByRecursion, nat_list_eq_equiv, length-append, list_any-append, sum_by-cons, or_parts}
+use Rattle.shared_lemmas.proofs.Common.{or_from}
+use Rattle.std.specs.List.{IsDistinct}
+use Rattle.ciff_read.proofs.Below.{ListData, IsList, postings_count, Spells, IsSized}
 use Rattle.ciff_read.specs.declared.refusal.CiffRefusal.{CiffRefusal}
 use Rattle.ciff_read.specs.Reading.{Message, ListsRead, message_end, message_at, list_at, lists_at}
 use Rattle.ciff_read.specs.Refusals.{◌>>=◌}

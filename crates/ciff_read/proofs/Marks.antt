@@ -1,15 +1,11 @@
 -- Marking one number more changes that number alone.
-use Rattle.std.proofs.Common.{◌≡◌, ◌≢◌, ℕ, zero, suc, ◌*◌, ◌/◌, ◌%◌, ◌^◌, ◌<◌, Bool, true, false, List, [], ◌∷◌, ◌++◌, length, get_or, set, replicate, refl, sym, ap, ◌∙◌, arith, inl, inr, get_or-set_same, get_or-set_other}
-use Rattle.std.specs.Prelude.{◌||◌, nat_eq, bit_or}
-use Rattle.std.specs.Int.{bit_at, w64}
-use Rattle.std.proofs.lemmas.Bool.{cases_eq}
-use Rattle.std.proofs.lemmas.Bool.Decides.{nat_tests}
-use Rattle.std.proofs.lemmas.Nat.Bits.{bit_at_set_same, bit_at_set_other}
-use Rattle.shared_lemmas.proofs.Places.{zeros_there}
+use Rattle.shared_lemmas.proofs.Common.{◌≡◌, ◌≢◌, ℕ, zero, suc, ◌*◌, ◌/◌, ◌%◌, ◌^◌, ◌<◌, Bool, true, false, List, [], ◌∷◌, ◌++◌, length, get_or, set, replicate, refl, sym, ap, ◌∙◌, arith, inl, inr, get_or-set_same, get_or-set_other, ◌||◌, nat_eq, bit_or, bit_at, w64, cases_eq, nat_tests}
+use Rattle.shared_lemmas.proofs.Common.{bit_at_set_same, bit_at_set_other}
 use Rattle.ciff_read.specs.Marks.{is_marked}
+use Rattle.shared_lemmas.proofs.Places.{same_there}
 
 zeros_behind : (words : List ℕ) (more k : ℕ) → get_or (words ++ replicate more 0) k 0 ≡ get_or words k 0
-zeros_behind [] more k = zeros_there more k
+zeros_behind [] more k = same_there 0 more k
 zeros_behind (w ∷ words) more zero = refl
 zeros_behind (w ∷ words) more (suc k) = zeros_behind words more k
 

@@ -1,10 +1,6 @@
 -- What is read as a message is one, and each message is read.
-use Rattle.std.proofs.Common.{◌≡◌, ℕ, ◌+◌, ◌-◌, ◌^◌, ◌≤◌, Bool, true, false, cond, List, ◌++◌, length, take, drop, Result, Ok, Err, refl, sym, ap, subst, ◌∙◌, append_assoc, arith}
-use Rattle.std.specs.Prelude.{nat_lt}
-use Rattle.std.proofs.lemmas.Bool.{le-ltb, ltb-false}
-use Rattle.std.proofs.lemmas.List.{length-take, length-append, take-append-drop, take_at, drop_at}
-use Rattle.jass_base.specs.Wire.{IsVarint, IsSized}
-use Rattle.wire_fields.specs.Reading.{varint_at}
+use Rattle.shared_lemmas.proofs.Common.{◌≡◌, ℕ, ◌+◌, ◌-◌, ◌^◌, ◌≤◌, Bool, true, false, cond, List, ◌++◌, length, take, drop, Result, Ok, Err, refl, sym, ap, subst, ◌∙◌, append_assoc, arith, nat_lt, le-ltb, ltb-false, length-take, length-append, take-append-drop, take_at, drop_at}
+use Rattle.ciff_read.proofs.Below.{IsVarint, IsSized, varint_at}
 use Rattle.ciff_read.specs.declared.refusal.CiffWhy.{CiffWhy}
 use Rattle.ciff_read.specs.declared.refusal.CiffWhy.TheVariants.{Cut, Limit}
 use Rattle.ciff_read.specs.declared.refusal.CiffRefusal.{CiffRefusal}

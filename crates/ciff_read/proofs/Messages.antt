@@ -1,10 +1,6 @@
 -- A message that is read from its length.
-use Rattle.std.proofs.Common.{◌≡◌, ℕ, ◌+◌, ◌-◌, ◌^◌, ◌<◌, ◌≤◌, true, false, List, length, take, drop, Ok, Err, refl, sym, ap, subst, ◌∙◌, arith}
-use Rattle.std.specs.Prelude.{nat_lt, slice_range}
-use Rattle.std.proofs.lemmas.Bool.Decides.{nat_tests}
-use Rattle.std.proofs.lemmas.List.{length-drop, drop-drop, drop-take}
-use Rattle.wire_fields.specs.declared.fault.WireFault.{WireFault}
-use Rattle.wire_fields.specs.Reading.{varint_at}
+use Rattle.shared_lemmas.proofs.Common.{◌≡◌, ℕ, ◌+◌, ◌-◌, ◌^◌, ◌<◌, ◌≤◌, true, false, List, length, take, drop, Ok, Err, refl, sym, ap, subst, ◌∙◌, arith, nat_lt, slice_range, nat_tests, length-drop, drop-drop, drop-take}
+use Rattle.ciff_read.proofs.Below.{WireFault, varint_at}
 use Rattle.ciff_read.specs.declared.refusal.CiffWhy.TheVariants.{Cut, Limit}
 use Rattle.ciff_read.specs.declared.refusal.CiffFault.{CiffFault}
 use Rattle.ciff_read.specs.declared.refusal.CiffFault.TheVariants as faults

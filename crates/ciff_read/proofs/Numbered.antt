@@ -1,11 +1,7 @@
 -- The values of a table with their numbers: which are there, one more, and the values alone.
-use Rattle.std.proofs.Common.{◌≡◌, ℕ, zero, suc, ◌+◌, ◌-◌, ◌<◌, Bool, true, false, cond, List, [], ◌∷◌, ◌++◌, length, map, option_map, get_or, set, replicate, Option, Some, None, refl, sym, ap, ◌∙◌, arith}
-use Rattle.std.specs.Prelude.{nat_eq, nat_lt}
-use Rattle.std.proofs.lemmas.Bool.Decides.{nat_tests}
-use Rattle.std.proofs.lemmas.List.{length-map}
-use Rattle.jass_base.specs.Ciff.{DocData}
-use Rattle.jass_base.specs.CiffViews.{doc_data}
-use Rattle.jass_base.specs.declared.doc_record.DocRecord.{DocRecord}
+use Rattle.shared_lemmas.proofs.Common.{◌≡◌, ℕ, zero, suc, ◌+◌, ◌-◌, ◌<◌, Bool, true, false, cond, List, [], ◌∷◌, ◌++◌, length, map, get_or, set, replicate, Option, Some, None, refl, sym, ap, ◌∙◌, arith, nat_eq, nat_lt, nat_tests, length-map}
+use Rattle.std.proofs.Common.{option_map}
+use Rattle.ciff_read.proofs.Below.{DocData, doc_data, DocRecord}
 use Rattle.ciff_read.specs.Judging.{NumberedDoc, numbers_of, is_among}
 use Rattle.ciff_read.specs.Private.Places.{numbered_from}
 use Rattle.ciff_read.specs.Reading.{inserted}

@@ -1,7 +1,5 @@
 -- A walk that was opened.
-use Rattle.std.proofs.Common.{◌≡◌, ℕ, ◌%◌, false, List, [], Some, None, Result, Ok, refl, ap, ◌∙◌}
-use Rattle.std.specs.Prelude.{nat_eq}
-use Rattle.std.proofs.lemmas.Nat.Bits.{bit_at-zero}
+use Rattle.shared_lemmas.proofs.Common.{◌≡◌, ℕ, ◌%◌, List, [], Some, None, Result, Ok, refl, ap, ◌∙◌, nat_eq, bit_at-zero}
 use Rattle.jass_base.specs.CiffViews.{header_data}
 use Rattle.ciff_read.specs.declared.file_head.FileHead.{FileHead}
 use Rattle.ciff_read.specs.declared.refusal.CiffRefusal.{CiffRefusal}
@@ -11,10 +9,7 @@ use Rattle.ciff_read.specs.Pieces.{KeptList, FileHeader, header_of_file, begun, 
 use Rattle.ciff_read.specs.Private.Reached.{file_header}
 use Rattle.ciff_read.specs.Refusals.{◌>>=◌}
 use Rattle.ciff_read.specs.Walk.{WalkView, Stands}
-use Rattle.ciff_read.specs.Window.{Shows}
-
-none_marked : (n : ℕ) → is_marked [] n ≡ false
-none_marked n = ap (λ b. nat_eq b 1) (bit_at-zero (n % 64))
+use Rattle.ciff_read.specs.Private.Window.{Shows}
 
 -- what a walk is that has given nothing
 abbrev pub new_walk : List ℕ → FileHead → ℕ → List KeptList → List ℕ → Window → WalkView
@@ -44,7 +39,7 @@ opened content name head at kept marks w none unmarked is shows = record {
     at = refl;
     kept = none;
     given = refl;
-    marks = λ n. ap (λ (words : List ℕ). is_marked words n) unmarked ∙ none_marked n;
+    marks = λ n. ap (λ (words : List ℕ). is_marked words n) unmarked ∙ ap (λ b. nat_eq b 1) (bit_at-zero (n % 64));
   };
   shows = shows;
 }

@@ -1,12 +1,7 @@
 -- Records whose numbers differ have one order by rising numbers.
-use Rattle.std.proofs.Common.{◌≡◌, ℕ, zero, suc, ◌<◌, Bool, true, false, cond, List, [], ◌∷◌, length, refl, sym, subst, ap, ◌∙◌, arith, inl, inr, ◌⊎◌}
-use Rattle.std.specs.Prelude.{fold, ⊤, nat_eq, nat_lt, slice_index_or}
-use Rattle.std.specs.List.{AllByRecursion, AllPairs, Contains, IsDistinct}
-use Rattle.std.specs.List.Sorted.{IsPermutation}
-use Rattle.std.proofs.lemmas.Bool.Decides.{nat_tests}
-use Rattle.std.proofs.lemmas.List.Elements.{recursion_from_All}
-use Rattle.std.proofs.lemmas.List.Sorted.{IsPermutation-sym, Contains-permutation}
-use Rattle.std.proofs.lemmas.Map.Keys.{IsDistinct-IsPermutation}
+use Rattle.shared_lemmas.proofs.Common.{◌≡◌, ℕ, zero, suc, ◌<◌, Bool, true, false, cond, List, [], ◌∷◌, length, refl, sym, subst, ap, ◌∙◌, arith, inl, inr, ◌⊎◌, fold, ⊤, nat_eq, nat_lt, slice_index_or, IsPermutation, AllByRecursion, nat_tests, recursion_from_All, IsPermutation-sym}
+use Rattle.shared_lemmas.proofs.Common.{Contains-permutation, IsDistinct-IsPermutation}
+use Rattle.std.specs.List.{AllPairs, Contains, IsDistinct}
 use Rattle.ciff_read.specs.Assembling.{by_number}
 use Rattle.ciff_read.specs.Judging.{NumberedDoc}
 use Rattle.ciff_read.specs.Reading.{inserted}

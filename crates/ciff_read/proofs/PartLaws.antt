@@ -1,14 +1,6 @@
 -- What is read as a header or a list is one, and each is read.
-use Rattle.std.proofs.Common.{◌≡◌, ℕ, ◌+◌, ◌^◌, ◌<◌, ◌≤◌, Bool, true, false, not, cond, List, [], length, Result, Ok, Err, refl, sym, ap, subst, ◌∙◌, arith}
-use Rattle.std.specs.Prelude.{nat_lt, ◌||◌}
-use Rattle.std.specs.Str.{IsUtf8, is_utf8}
-use Rattle.std.proofs.lemmas.Bool.Decides.{nat_tests}
-use Rattle.std.proofs.lemmas.Str.{IsUtf8-from_is_utf8, is_utf8-from_IsUtf8}
-use Rattle.std.proofs.lemmas.List.Elements.{All-nil}
-use Rattle.jass_base.specs.declared.posting.Posting.{Posting}
-use Rattle.jass_base.specs.Ciff.{HeaderData, ListData, IsHeader, IsList, ArePostings}
-use Rattle.jass_base.specs.Postings.{HasTfInRange}
-use Rattle.jass_base.specs.Wire.{texts_field}
+use Rattle.shared_lemmas.proofs.Common.{◌≡◌, ℕ, ◌+◌, ◌^◌, ◌<◌, ◌≤◌, Bool, true, false, not, cond, List, [], length, Result, Ok, Err, refl, sym, ap, subst, ◌∙◌, arith, nat_lt, ◌||◌, IsUtf8, is_utf8, nat_tests, IsUtf8-from_is_utf8, is_utf8-from_IsUtf8, All-nil, not-false}
+use Rattle.ciff_read.proofs.Below.{Posting, HeaderData, ListData, IsHeader, IsList, ArePostings, HasTfInRange, texts_field}
 use Rattle.ciff_read.specs.declared.refusal.CiffWhy.{CiffWhy}
 use Rattle.ciff_read.specs.declared.refusal.CiffWhy.TheVariants.{Range, Text, TermTwice, Limit}
 use Rattle.ciff_read.specs.declared.refusal.CiffRefusal.{CiffRefusal}
@@ -36,11 +28,7 @@ four_passed false false false true u v w z x y is = absurd cc
 four_passed false false false false u v w z x y is = (refl, refl, refl, refl, cc)
 
 pub is_text : (s : List ℕ) → not (is_utf8 s) ≡ false → IsUtf8 s
-is_text s h = IsUtf8-from_is_utf8 s (yes_of (is_utf8 s) h)
-  where
-    yes_of : (b : Bool) → not b ≡ false → b ≡ true
-    yes_of true h = refl
-    yes_of false h = absurd cc
+is_text s h = IsUtf8-from_is_utf8 s (not-false (is_utf8 s) h)
 
 pub no_fault : (s : List ℕ) → IsUtf8 s → not (is_utf8 s) ≡ false
 no_fault s is = ap not (is_utf8-from_IsUtf8 s is)

@@ -1,14 +1,6 @@
 -- Messages that are read part by part.
-use Rattle.std.proofs.Common.{◌≡◌, ℕ, ◌-◌, ◌≤◌, List, [], ◌∷◌, ◌++◌, length, take, drop, Result, Ok, Err, sym, ap, subst, ◌∙◌, arith}
-use Rattle.std.specs.Prelude.{fold, slice_range}
-use Rattle.std.proofs.lemmas.List.{length-take, length-drop}
-use Rattle.std.proofs.lemmas.List.Sums.{fold-append}
-use Rattle.jass_base.specs.declared.posting.Posting.{Posting}
-use Rattle.jass_base.specs.Ciff.{ListData}
-use Rattle.jass_base.specs.Wire.{Text}
-use Rattle.wire_fields.specs.declared.field.Value.{Value}
-use Rattle.wire_fields.specs.declared.field.Value.TheVariants.{Bytes}
-use Rattle.wire_fields.specs.Places.{IsWithin, value_in}
+use Rattle.shared_lemmas.proofs.Common.{◌≡◌, ℕ, ◌-◌, ◌≤◌, List, [], ◌∷◌, ◌++◌, length, take, drop, Result, Ok, sym, ap, subst, ◌∙◌, arith, fold, slice_range, length-take, length-drop, fold-append}
+use Rattle.ciff_read.proofs.Below.{Posting, ListData, Text, Value, Bytes, IsWithin, value_in}
 use Rattle.ciff_read.specs.declared.body.Body.{Body}
 use Rattle.ciff_read.specs.declared.posting_fields.PostingFields.{PostingFields}
 use Rattle.ciff_read.specs.declared.refusal.CiffRefusal.{CiffRefusal}
@@ -62,16 +54,6 @@ module _ (bytes : List ℕ) (body : Body) (at : ℕ) where
 
       pub list_judged_not : (answer : CiffFault) → Fails answer (placed at (judge_list terms walked.start)) → Fails answer (list_at docs before terms at (message_in bytes body))
       list_judged_not answer fails = fails_as answer _ _ (sym list_judged) (fails_on answer (placed at (judge_list terms walked.start)) (λ start. list_rest walked start) fails)
-
-      module _ (start : ListStart) (judged : placed at (judge_list terms walked.start) ≡ Ok start) where
-        list_gathered : list_at docs before terms at (message_in bytes body) ≡ list_rest walked start
-        list_gathered = list_judged ∙ ap (λ (r : Result ListStart CiffRefusal). r >>= λ start. list_rest walked start) judged
-
-        pub list_refused : (refusal : CiffRefusal) → postings_of docs before walked.entries ≡ Err refusal → list_at docs before terms at (message_in bytes body) ≡ Err refusal
-        list_refused refusal gathered = list_gathered ∙ ap (λ (r : Result (List Posting) CiffRefusal). r >>= λ postings. Ok (record { term = start.term; df = start.df; cf = start.cf; postings = postings })) gathered
-
-        pub list_there : (postings : List Posting) → postings_of docs before walked.entries ≡ Ok postings → list_at docs before terms at (message_in bytes body) ≡ Ok (record { term = start.term; df = start.df; cf = start.cf; postings = postings })
-        list_there postings gathered = list_gathered ∙ ap (λ (r : Result (List Posting) CiffRefusal). r >>= λ postings. Ok (record { term = start.term; df = start.df; cf = start.cf; postings = postings })) gathered
 
 -- the posting in a field
 module _ (bytes : List ℕ) (at first after : ℕ) (order : first ≤ after) (within : after ≤ length bytes) where

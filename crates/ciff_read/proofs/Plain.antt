@@ -1,12 +1,7 @@
 -- No refusal of a list says that something changed: it is read once.
-use Rattle.std.proofs.Common.{◌≡◌, ℕ, zero, suc, ◌+◌, ◌^◌, ◌-◌, Bool, true, false, cond, List, [], ◌∷◌, ◌++◌, length, Result, Ok, Err, sym, subst}
-use Rattle.std.specs.Prelude.{◌==◌, ◌||◌, ◌&&◌, not, nat_lt, nat_le, ⊤, fold}
-use Rattle.std.specs.Str.{is_utf8}
-use Rattle.jass_base.specs.declared.posting.Posting.{Posting}
-use Rattle.jass_base.specs.Wire.{WireField, WireValue, Number, Eight, Text, Four}
-use Rattle.wire_fields.specs.declared.fault.WireWhy.{WireWhy}
+use Rattle.shared_lemmas.proofs.Common.{◌≡◌, ℕ, zero, suc, ◌+◌, ◌^◌, ◌-◌, Bool, true, false, cond, List, [], ◌∷◌, ◌++◌, length, Result, Ok, Err, sym, subst, ◌==◌, ◌||◌, ◌&&◌, not, nat_lt, nat_le, ⊤, fold, is_utf8}
+use Rattle.ciff_read.proofs.Below.{Posting, WireField, WireValue, Number, Eight, Text, Four, WireWhy, field_at}
 use Rattle.wire_fields.specs.declared.fault.WireWhy.TheVariants as wire
-use Rattle.wire_fields.specs.Reading.{field_at}
 use Rattle.ciff_read.specs.declared.posting_fields.PostingFields.{PostingFields}
 use Rattle.ciff_read.specs.declared.refusal.CiffWhy.{CiffWhy}
 use Rattle.ciff_read.specs.declared.refusal.CiffWhy.TheVariants as whys
@@ -14,9 +9,10 @@ use Rattle.ciff_read.specs.declared.refusal.CiffRefusal.{CiffRefusal}
 use Rattle.ciff_read.specs.declared.refusal.CiffFault.{CiffFault}
 use Rattle.ciff_read.specs.declared.refusal.CiffFault.TheVariants as faults
 use Rattle.ciff_read.specs.Judging.{ListStart, list_start_of, over31, over63, last_from, judge_list, judge, gather, postings_of}
-use Rattle.ciff_read.specs.Moving.{fault_moved}
+use Rattle.ciff_read.specs.Private.Moving.{fault_moved}
 use Rattle.ciff_read.specs.Reading.{Message, list_walk_at, list_at}
-use Rattle.ciff_read.specs.Refusals.{◌>>=◌, placed, field_placed, why_of, Fails, SaysNoChange, IsPlain}
+use Rattle.ciff_read.specs.Refusals.{◌>>=◌, placed, field_placed, why_of, Fails}
+use Rattle.ciff_read.specs.Private.Plain.{SaysNoChange, IsPlain}
 use Rattle.ciff_read.specs.Seen.{is_seen}
 use Rattle.ciff_read.specs.Walking.{PlacedEntry, in_front, walk, walk_within, nothing_inside, entry_of, entry_at, entry_in, entry_inside}
 

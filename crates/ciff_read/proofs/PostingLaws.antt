@@ -1,13 +1,8 @@
 -- The postings that are gathered are those of the bodies, and those of the bodies are gathered.
-use Rattle.std.proofs.Common.{◌≡◌, ℕ, suc, ◌+◌, ◌^◌, ◌<◌, ◌≤◌, Bool, true, false, List, [], ◌∷◌, ◌++◌, length, get_or, All, Result, Ok, Err, refl, sym, ap, subst, ◌∙◌, append_assoc, arith}
-use Rattle.std.specs.Prelude.{fold, ◌==◌, ◌&&◌, nat_lt, nat_le, ⊤}
-use Rattle.std.specs.List.{AllZip, AllByRecursion}
-use Rattle.std.specs.List.Sorted.{IsStrictlyIncreasing}
-use Rattle.std.proofs.lemmas.Bool.Decides.{nat_tests}
-use Rattle.std.proofs.lemmas.List.{append-nil, length-append, length-map}
-use Rattle.jass_base.specs.declared.posting.Posting.{Posting}
-use Rattle.jass_base.specs.Ciff.{ArePostings}
-use Rattle.jass_base.specs.Postings.{docs_of, HasTfInRange}
+use Rattle.shared_lemmas.proofs.Common.{◌≡◌, ℕ, suc, ◌+◌, ◌^◌, ◌<◌, ◌≤◌, Bool, true, false, List, [], ◌∷◌, ◌++◌, length, get_or, All, Result, Ok, Err, refl, sym, ap, subst, ◌∙◌, append_assoc, arith, fold, ◌==◌, ◌&&◌, nat_lt, nat_le, ⊤, AllZip, AllByRecursion, IsStrictlyIncreasing, nat_tests}
+use Rattle.shared_lemmas.proofs.Common.{length-append, length-map}
+use Rattle.std.proofs.lemmas.List.{append-nil}
+use Rattle.ciff_read.proofs.Below.{Posting, ArePostings, docs_of, HasTfInRange}
 use Rattle.ciff_read.specs.declared.posting_fields.PostingFields.{PostingFields}
 use Rattle.ciff_read.specs.declared.refusal.CiffWhy.{CiffWhy}
 use Rattle.ciff_read.specs.declared.refusal.CiffRefusal.{CiffRefusal}

@@ -1,14 +1,7 @@
 -- What postings keep when one more is put behind them.
-use Rattle.std.proofs.Common.{ap, ◌≡◌, ℕ, zero, suc, ◌+◌, ◌^◌, ◌<◌, ◌≤◌, Bool, true, false, cond, List, [], ◌∷◌, ◌++◌, length, All, Result, Ok, Err, refl, sym, subst, arith, inl, inr}
-use Rattle.std.specs.Prelude.{nat_le, nat_lt, ◌==◌, ◌||◌, ◌&&◌}
-use Rattle.std.specs.List.Sorted.{IsStrictlyIncreasing}
-use Rattle.std.proofs.lemmas.Bool.{cases_lt}
-use Rattle.std.proofs.lemmas.Bool.Decides.{nat_tests}
-use Rattle.std.proofs.Math.Seq.{get_or-append_seam}
-use Rattle.std.proofs.lemmas.List.{map-append, length-map, length-append, get_or_append_left}
-use Rattle.std.proofs.lemmas.List.Elements.{All-append}
-use Rattle.jass_base.specs.declared.posting.Posting.{Posting}
-use Rattle.jass_base.specs.Postings.{docs_of, HasTfInRange}
+use Rattle.shared_lemmas.proofs.Common.{ap, ◌≡◌, ℕ, zero, suc, ◌+◌, ◌^◌, ◌<◌, ◌≤◌, Bool, true, false, cond, List, [], ◌∷◌, ◌++◌, length, All, Result, Ok, Err, refl, sym, subst, arith, inl, inr, nat_le, nat_lt, ◌==◌, ◌||◌, ◌&&◌, IsStrictlyIncreasing, cases_lt, nat_tests, get_or-append_seam}
+use Rattle.shared_lemmas.proofs.Common.{map-append, length-map, length-append, get_or_append_left, All-append}
+use Rattle.ciff_read.proofs.Below.{Posting, docs_of, HasTfInRange}
 use Rattle.ciff_read.specs.declared.posting_fields.PostingFields.{PostingFields}
 use Rattle.ciff_read.specs.declared.refusal.CiffWhy.{CiffWhy}
 use Rattle.ciff_read.specs.declared.refusal.CiffWhy.TheVariants.{Range, Tf, Gap, DocRange, Limit}

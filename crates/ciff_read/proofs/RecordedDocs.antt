@@ -1,7 +1,5 @@
 -- A document's record that is judged in two steps.
-use Rattle.std.proofs.Common.{◌≡◌, ℕ, ◌^◌, ◌<◌, ◌≤◌, true, false, List, Err, refl, arith}
-use Rattle.std.specs.Prelude.{nat_le}
-use Rattle.std.proofs.lemmas.Bool.Decides.{nat_tests}
+use Rattle.shared_lemmas.proofs.Common.{◌≡◌, ℕ, ◌^◌, ◌<◌, ◌≤◌, true, false, List, Err, refl, arith, nat_le, nat_tests}
 use Rattle.ciff_read.specs.declared.refusal.CiffWhy.TheVariants.{Range, DocRange}
 use Rattle.ciff_read.specs.Judging.{NumberedDoc, judge_doc, is_among}
 use Rattle.ciff_read.specs.Private.Recording.{judge_rest}

@@ -1,16 +1,10 @@
 -- Places that rise, and the one that is looked for among them.
-use Rattle.std.proofs.Common.{◌≡◌, ◌∙◌, ℕ, zero, suc, ◌+◌, ◌-◌, ◌^◌, ◌<◌, ◌≤◌, List, [], ◌∷◌, ◌++◌, length, map, get_or, All, Some, refl, sym, ap, subst, arith, inl, inr}
-use Rattle.std.specs.Prelude.{slice_get}
-use Rattle.std.specs.List.Sorted.{IsStrictlyIncreasing}
-use Rattle.std.proofs.lemmas.Bool.{cases_lt}
-use Rattle.std.proofs.lemmas.Map.Keys.{below_from_sorted, sorted_from_strictly_increasing}
-use Rattle.std.proofs.lemmas.Option.{get_or_from_slice_get, same_Some}
-use Rattle.std.proofs.lemmas.List.{map-append, length-map, length-append, get_or-map}
-use Rattle.std.proofs.lemmas.List.Sums.{sum_by-append}
-use Rattle.std.proofs.lemmas.List.Elements.{All-append, All-map, Contains-append_right}
+use Rattle.shared_lemmas.proofs.Common.{◌≡◌, ◌∙◌, ℕ, zero, suc, ◌+◌, ◌-◌, ◌^◌, ◌<◌, ◌≤◌, List, [], ◌∷◌, ◌++◌, length, map, get_or, All, Some, refl, sym, ap, subst, arith, inl, inr, slice_get, IsStrictlyIncreasing, cases_lt, below_from_sorted, sorted_from_strictly_increasing, get_or_from_slice_get}
+use Rattle.shared_lemmas.proofs.Common.{same_Some, map-append, length-map, length-append, get_or-map, sum_by-append, All-append, All-map, Contains-append_right}
 use Rattle.ciff_read.specs.declared.kept_lists.ListPlace.{ListPlace}
 use Rattle.ciff_read.specs.Pieces.{KeptList, places_kept}
-use Rattle.ciff_read.specs.Walk.{IsInRange, HasKept, IsGiven}
+use Rattle.ciff_read.specs.Walk.{HasKept, IsGiven}
+use Rattle.ciff_read.specs.Private.Walk.{IsInRange}
 use Rattle.ciff_read.proofs.KeptTerms.{as_kept}
 use Rattle.ciff_read.proofs.Postings.{rising-snoc, All-one}
 

@@ -1,16 +1,13 @@
 -- Lists whose terms stand one behind the other, while bytes and lists are appended.
-use Rattle.std.proofs.Common.{◌≡◌, ◌∙◌, ℕ, zero, suc, ◌+◌, ◌-◌, ◌<◌, ◌≤◌, ◌^◌, List, [], ◌∷◌, ◌++◌, length, take, drop, get_or, All, Some, refl, sym, ap, subst, arith}
-use Rattle.std.specs.Prelude.{AllPairs, slice_get, slice_range}
-use Rattle.std.proofs.lemmas.List.{map-append, length-append, take_all, drop-append-le, take-append-le, length-drop}
-use Rattle.std.proofs.lemmas.List.Elements.{All-append, All-head, All-tail}
-use Rattle.std.proofs.Math.Seq.{drop-append_seam}
+use Rattle.shared_lemmas.proofs.Common.{◌≡◌, ◌∙◌, ℕ, zero, suc, ◌+◌, ◌<◌, ◌^◌, List, [], ◌∷◌, ◌++◌, length, get_or, All, Some, refl, sym, ap, subst, arith, AllPairs, slice_get, map-append, length-append, All-append, All-head, All-tail}
 use Rattle.jass_base.specs.Terms.{BytesRise}
 use Rattle.ciff_read.specs.declared.kept_lists.ListPlace.{ListPlace}
 use Rattle.ciff_read.specs.declared.rising_lists.KeptTerm.{KeptTerm}
-use Rattle.ciff_read.specs.KeptEntries.{places_in, terms_in}
+use Rattle.ciff_read.specs.Private.KeptEntries.{places_in, terms_in}
 use Rattle.ciff_read.specs.Private.RisingEntries.{term_of, IsWithin, entries_at, AreRising}
 use Rattle.ciff_read.proofs.Postings.{All-one}
 use Rattle.ciff_read.proofs.RisingTerms.{entry_rises}
+use Rattle.shared_lemmas.proofs.Places.{slice_stays, slice_new}
 
 -- the term and the place of one of the lists
 term_at : (bytes : List ℕ) (lists : List KeptTerm) (i : ℕ) (list : KeptTerm) → i < length (entries_at bytes lists) → list ≡ get_or lists i list → get_or (terms_in (entries_at bytes lists)) i [] ≡ term_of bytes list
@@ -32,18 +29,6 @@ module _ (bytes : List ℕ) (lists : List KeptTerm) (entries : List (List ℕ ×
 
   pub place_of_list : slice_get (places_in entries) i ≡ Some list.place
   place_of_list = ap (λ (es : List (List ℕ × ListPlace)). slice_get (places_in es) i) (sym are) ∙ place_at bytes lists i list within is
-
--- bytes that are appended leave a part before them as it is, and are a part themselves
-slice_stays : (bytes more : List ℕ) (from to : ℕ) → from ≤ to → to ≤ length bytes → slice_range (bytes ++ more) from to ≡ slice_range bytes from to
-slice_stays bytes more from to order within =
-    ap (take (to - from)) (drop-append-le from bytes more (omega (arith, order, within)))
-    ∙ take-append-le (to - from) (drop from bytes) more (let l = length-drop from bytes in omega (arith, l, order, within))
-
-slice_new : (bytes more : List ℕ) (from to : ℕ) → from ≡ length bytes → to ≡ length (bytes ++ more) → slice_range (bytes ++ more) from to ≡ more
-slice_new bytes more from to first last =
-    let l = length-append bytes more in
-    let size : to - from ≡ length more = omega (arith, l, first, last) in
-    ap (λ n. take n (drop from (bytes ++ more))) size ∙ ap (λ n. take (length more) (drop n (bytes ++ more))) first ∙ ap (take (length more)) (drop-append_seam bytes more) ∙ take_all (length more) more (omega arith)
 
 entries_on : (bytes more : List ℕ) (lists : List KeptTerm) → All (IsWithin bytes) lists → entries_at (bytes ++ more) lists ≡ entries_at bytes lists
 entries_on bytes more [] within = refl

@@ -1,24 +1,12 @@
 -- Terms that rise by their bytes, and one that is looked for among them.
-use Rattle.std.proofs.Common.{Less, Equal, Greater, ◌≡◌, ◌∙◌, ℕ, suc, ◌+◌, ◌<◌, ◌≤◌, true, false, List, [], ◌∷◌, ◌++◌, length, get_or, All, refl, sym, ap, subst, arith, inl, inr}
-use Rattle.std.specs.Prelude.{AllPairs}
-use Rattle.std.specs.Ordering.{is_lt, is_eq, nat_cmp, ordering_reverse}
-use Rattle.std.specs.Cmp.Lexicographic.{slice_cmp}
-use Rattle.std.specs.Str.{bytes_eq}
-use Rattle.std.proofs.lemmas.Bool.{cases_lt}
-use Rattle.std.proofs.lemmas.Cmp.{nat_list_cmp_total}
-use Rattle.std.proofs.lemmas.List.{length-append, get_or_default, get_or_append_left}
-use Rattle.std.proofs.lemmas.List.Folds.{list_any_at, list_any_none}
-use Rattle.std.proofs.lemmas.Map.Text.{is_eq-slice_cmp}
-use Rattle.std.proofs.Math.Seq.{get_or-append_seam}
+use Rattle.shared_lemmas.proofs.Common.{◌≡◌, ◌∙◌, ℕ, suc, ◌+◌, ◌<◌, ◌≤◌, true, false, List, [], ◌∷◌, ◌++◌, length, get_or, All, refl, sym, ap, subst, arith, inl, inr, AllPairs, bytes_eq, is_lt, is_eq, nat_cmp, slice_cmp, cases_lt, length-append, get_or_default, get_or_append_left, list_any_at}
+use Rattle.shared_lemmas.proofs.Common.{list_any_none, is_eq-slice_cmp, get_or-append_seam}
+use Rattle.std.proofs.Common.{Less, Equal, Greater}
 use Rattle.shared_lemmas.proofs.Texts.{bytes_same, bytes_itself, bytes_flipped}
-use Rattle.jass_base.specs.Terms.{BytesRise}
-use Rattle.jass_base.proofs.ByteOrder.{bytes_rise_on, bytes_apart}
+use Rattle.ciff_read.proofs.Below.{BytesRise, bytes_apart, bytes_fall, below_on, above_on}
 use Rattle.ciff_read.specs.declared.kept_lists.ListPlace.{ListPlace}
-use Rattle.ciff_read.specs.KeptEntries.{terms_in}
+use Rattle.ciff_read.specs.Private.KeptEntries.{terms_in}
 use Rattle.ciff_read.specs.Seen.{is_seen}
-
-turned : (a b : List ℕ) → slice_cmp nat_cmp a b ≡ Greater → BytesRise b a
-turned a b is = ap is_lt (nat_list_cmp_total.antisymm b a ∙ ap ordering_reverse is)
 
 -- what stands below a place rises to the term, and what stands from a place on rises from it
 pub record Halves (terms : List (List ℕ)) (term : List ℕ) (from to : ℕ) : Type 0 where
@@ -28,22 +16,10 @@ pub record Halves (terms : List (List ℕ)) (term : List ℕ) (from to : ℕ) : 
   pub above : (i : ℕ) → to ≤ i → i < length terms → BytesRise term (get_or terms i [])
 
 module _ (terms : List (List ℕ)) (term : List ℕ) (rising : AllPairs BytesRise terms) where
-  below_on : (middle : ℕ) → middle < length terms → BytesRise (get_or terms middle []) term → (i : ℕ) → i < middle + 1 → BytesRise (get_or terms i []) term
-  below_on middle inside here i low = elim (cases_lt i middle) [
-    | inl l ↦ bytes_rise_on (get_or terms i []) (get_or terms middle []) term (rising i middle [] l inside) here
-    | inr g ↦ subst (λ j. BytesRise (get_or terms j []) term) (omega (arith, low, g)) here
-  ]
-
-  above_on : (middle : ℕ) → BytesRise term (get_or terms middle []) → (i : ℕ) → middle ≤ i → i < length terms → BytesRise term (get_or terms i [])
-  above_on middle here i high inside = elim (cases_lt middle i) [
-    | inl l ↦ bytes_rise_on term (get_or terms middle []) (get_or terms i []) here (rising middle i [] l inside)
-    | inr g ↦ subst (λ j. BytesRise term (get_or terms j [])) (omega (arith, high, g)) here
-  ]
-
   -- where the last rises to the term, all do
   pub all_before : (n : ℕ) → length terms ≡ n + 1 → BytesRise (get_or terms n []) term → All (λ t. BytesRise t term) terms
   all_before n size last i d inside =
-      subst (λ t. BytesRise t term) (get_or_default terms i [] d inside) (below_on n (omega (arith, size)) last i (omega (arith, inside, size)))
+      subst (λ t. BytesRise t term) (get_or_default terms i [] d inside) (below_on terms term rising n (omega (arith, size)) last i (omega (arith, inside, size)))
 
   module _ (from to middle : ℕ) (h : Halves terms term from to) (first : from ≤ middle) (last : middle < to) where
     inside : middle < length terms
@@ -53,7 +29,7 @@ module _ (terms : List (List ℕ)) (term : List ℕ) (rising : AllPairs BytesRis
     upper less = record {
       order = omega (arith, last);
       within = h.within;
-      below = below_on middle inside (ap is_lt less);
+      below = below_on terms term rising middle inside (ap is_lt less);
       above = h.above;
     }
 
@@ -62,7 +38,7 @@ module _ (terms : List (List ℕ)) (term : List ℕ) (rising : AllPairs BytesRis
       order = first;
       within = omega (arith, inside);
       below = h.below;
-      above = above_on middle (turned (get_or terms middle []) term greater);
+      above = above_on terms term rising middle (bytes_fall (get_or terms middle []) term greater);
     }
 
     pub found : slice_cmp nat_cmp (get_or terms middle []) term ≡ Equal → is_seen term terms ≡ true

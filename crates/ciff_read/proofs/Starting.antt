@@ -1,13 +1,12 @@
 -- A file of which the header isn't given yet was given nothing of.
-use Rattle.std.proofs.Common.{◌≡◌, ℕ, zero, suc, Bool, true, false, cond, List, drop, Option, Some, None, Result, Ok, refl, sym, ap, subst, ◌∙◌}
-use Rattle.std.specs.Prelude.{length, nat_lt}
+use Rattle.std.proofs.Common.{◌≡◌, ℕ, zero, suc, Bool, true, false, cond, List, drop, Option, Some, None, Result, Ok, refl, sym, ap, subst, ◌∙◌, length, nat_lt}
 use Rattle.jass_base.specs.Ciff.{HeaderData}
 use Rattle.ciff_read.specs.declared.refusal.CiffRefusal.{CiffRefusal}
 use Rattle.ciff_read.specs.Assembling.{Assembles, only_header}
 use Rattle.ciff_read.specs.Pieces.{Progress, ListPiece, DocPiece, EndPiece, StartPiece, Step, FileHeader, postings_kept, terms_kept, header_of_file, begun, with_list, with_doc, list_of_file, doc_of_file, list_next, doc_next, end_next, without_header, next_behind, next_of, after, IsReached}
 use Rattle.ciff_read.specs.Refusals.{◌>>=◌}
-use Rattle.ciff_read.proofs.Assembling.{header_given, ended_with}
-use Rattle.ciff_read.proofs.WireLaws.{WireLaws, bound, done_is}
+use Rattle.ciff_read.proofs.Assembling.{header_given}
+use Rattle.ciff_read.proofs.WireLaws.{WireLaws, bound, done_is, ended_with}
 
 module _ (content : List ℕ) (p : Progress) where
   -- what a step leads to has no header left

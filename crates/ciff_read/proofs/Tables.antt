@@ -1,14 +1,10 @@
 -- How many values a table has, and what lies in one that reaches a number.
-use Rattle.std.proofs.Common.{◌≡◌, ℕ, zero, suc, ◌+◌, ◌-◌, ◌<◌, ◌≤◌, ◌≢◌, Bool, true, false, List, [], ◌∷◌, ◌++◌, length, get_or, set, replicate, map, option_map, Option, Some, None, refl, sym, ap, ◌∙◌, arith}
-use Rattle.std.proofs.Common.{inl, inr, get_or-set_same, get_or-set_other}
-use Rattle.std.specs.Prelude.{◌||◌, nat_eq, is_some}
-use Rattle.std.proofs.lemmas.Bool.{cases_eq}
-use Rattle.std.proofs.lemmas.Bool.Decides.{nat_tests}
-use Rattle.std.proofs.lemmas.List.Sums.{fold-append}
-use Rattle.std.proofs.lemmas.Grind.{replicate_next}
-use Rattle.std.proofs.lemmas.List.{append_assoc, length-map, map-append, append-nil, length-append, length-replicate}
-use Rattle.std.proofs.lemmas.List.Elements.{filter_map-append}
+use Rattle.shared_lemmas.proofs.Common.{◌≡◌, ℕ, zero, suc, ◌+◌, ◌-◌, ◌<◌, ◌≤◌, ◌≢◌, Bool, true, false, List, [], ◌∷◌, ◌++◌, length, get_or, set, replicate, map, Option, Some, None, refl, sym, ap, ◌∙◌, arith, inl, inr, get_or-set_same, get_or-set_other, ◌||◌, nat_eq, is_some, cases_eq, nat_tests}
+use Rattle.shared_lemmas.proofs.Common.{fold-append, replicate_next, length-map, map-append, length-append, length-replicate, filter_map-append}
+use Rattle.std.proofs.Common.{option_map}
+use Rattle.std.proofs.lemmas.List.{append_assoc, append-nil}
 use Rattle.ciff_read.specs.Private.Table.{has_value, reaching, with_value, values_of, table_with}
+use Rattle.shared_lemmas.proofs.Places.{same_there}
 
 -- a list after one more place was put behind it
 pub reaches_more : {X : Type 0} (e : X) (old now : List X) → now ≡ old ++ replicate (length now - length old) e → length old ≤ length now → now ++ e ∷ [] ≡ old ++ replicate (length (now ++ e ∷ []) - length old) e
@@ -41,13 +37,8 @@ module _ {R : Type 0} where
   missing_is None h = refl
   missing_is (Some x) h = absurd cc
 
-  nothing_there : (n k : ℕ) → get_or (replicate {A = Option R} n None) k None ≡ None
-  nothing_there zero k = refl
-  nothing_there (suc n) zero = refl
-  nothing_there (suc n) (suc k) = nothing_there n k
-
   reach_get : (table : List (Option R)) (k m : ℕ) → get_or (table ++ replicate k None) m None ≡ get_or table m None
-  reach_get [] k m = nothing_there k m
+  reach_get [] k m = same_there None k m
   reach_get (o ∷ table) k zero = refl
   reach_get (o ∷ table) k (suc m) = reach_get table k m
 

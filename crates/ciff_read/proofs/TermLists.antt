@@ -1,15 +1,7 @@
 -- Terms behind references, and lists of terms that differ.
-use Rattle.std.proofs.Common.{◌≡◌, ◌≢◌, ℕ, ◌<◌, Bool, true, false, List, [], ◌∷◌, ◌++◌, length, get_or, map, refl, ap, ◌∙◌, Bor, arith, inl, inr}
-use Rattle.std.specs.Prelude.{◌||◌, AllPairs}
-use Rattle.std.specs.List.{list_any}
-use Rattle.std.specs.Str.{bytes_eq}
-use Rattle.std.proofs.lemmas.Bool.{cases_lt}
-use Rattle.std.proofs.lemmas.Cmp.{nat_list_eq_equiv}
-use Rattle.std.proofs.lemmas.List.{length-map, length-append, get_or_append_left, get_or-map}
-use Rattle.std.proofs.lemmas.List.Folds.{list_any_at}
-use Rattle.std.proofs.Math.Seq.{get_or-append_seam}
-use Rattle.jass_base.specs.declared.postings_list.PostingsList.{PostingsList}
-use Rattle.jass_base.specs.Lists.{DifferInTerm}
+use Rattle.shared_lemmas.proofs.Common.{◌≡◌, ◌≢◌, ℕ, ◌<◌, Bool, true, false, List, [], ◌∷◌, ◌++◌, length, get_or, map, refl, ap, ◌∙◌, Bor, arith, inl, inr, bytes_eq, ◌||◌, AllPairs, list_any, cases_lt, nat_list_eq_equiv, length-map, length-append, get_or_append_left, get_or-map, list_any_at}
+use Rattle.shared_lemmas.proofs.Common.{get_or-append_seam}
+use Rattle.ciff_read.proofs.Below.{PostingsList, DifferInTerm}
 use Rattle.ciff_read.specs.Seen.{is_seen}
 
 pub any_map : (p : List ℕ → Bool) (terms : List (Bor (List ℕ))) → list_any (λ t. p t.now) terms ≡ list_any p (map (λ t. t.now) terms)

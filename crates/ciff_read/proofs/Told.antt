@@ -1,7 +1,5 @@
 -- What holds of a content, where the contents are told.
-use Rattle.std.proofs.Common.{◌≡◌, ℕ, List, Option, Some, None}
-use Rattle.std.specs.Prelude.{IsSomeAnd, IfSome}
-use Rattle.std.specs.FinMap.{get}
+use Rattle.shared_lemmas.proofs.Common.{◌≡◌, ℕ, List, Option, Some, None, IsSomeAnd, IfSome, get}
 use Rattle.jass_base.specs.Outside.{Files, IsMissing, OnContent, ForContent}
 
 pub for_all : (files : Option Files) (name : List ℕ) (P : List ℕ → Type 0) → ((content : List ℕ) → P content) → ForContent files name P
@@ -22,14 +20,6 @@ for_both (Some files) name P Q R both p q = at (get files name) p q
 
 pub for_one : (files : Option Files) (name : List ℕ) (P R : List ℕ → Type 0) → ((content : List ℕ) → P content → R content) → ForContent files name P → ForContent files name R
 for_one files name P R one p = for_both files name P P R (λ content first second. one content first) p p
-
-pub on_for : (files : Option Files) (name : List ℕ) (P : List ℕ → Type 0) → OnContent files name P → ForContent files name P
-on_for None name P p = tt
-on_for (Some files) name P p = at (get files name) p
-  where
-    at : (o : Option (List ℕ)) → IsSomeAnd o P → IfSome o P
-    at None p = tt
-    at (Some content) p = p
 
 pub for_pair : (files : Option Files) (name : List ℕ) (P Q : List ℕ → Type 0) → ForContent files name P → ForContent files name Q → ForContent files name (λ content. P content × Q content)
 for_pair files name P Q p q = for_both files name P Q (λ content. P content × Q content) (λ content first second. (first, second)) p q

@@ -1,9 +1,7 @@
 -- A varint is read from the first ten bytes.
-use Rattle.std.proofs.Common.{◌≡◌, ℕ, zero, suc, ◌+◌, ◌-◌, ◌*◌, ◌%◌, ◌≤◌, Bool, true, false, cond, List, [], ◌∷◌, length, take, Result, Ok, Err, refl, ap, ◌∙◌, arith}
-use Rattle.std.specs.Prelude.{nat_lt}
-use Rattle.wire_fields.specs.declared.fault.WireWhy.{WireWhy}
-use Rattle.wire_fields.specs.declared.fault.WireWhy.TheVariants.{LongVarint}
-use Rattle.wire_fields.specs.Reading.{◌>>=◌, varint_at, varint_within}
+use Rattle.shared_lemmas.proofs.Common.{◌≡◌, ℕ, zero, suc, ◌+◌, ◌-◌, ◌*◌, ◌%◌, ◌≤◌, Bool, true, false, cond, List, [], ◌∷◌, length, take, Result, Ok, Err, refl, ap, ◌∙◌, arith, nat_lt}
+use Rattle.ciff_read.proofs.Below.{WireWhy, LongVarint, ◌>>=◌, varint_within}
+use Rattle.wire_fields.specs.Reading.{varint_at}
 
 -- two readings that end alike: with values that R ties, or with the same refusal
 abbrev pub Alike : {E A B : Type 0} → (A → B → Type 0) → Result A E → Result B E → Type 0

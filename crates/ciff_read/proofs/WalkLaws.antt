@@ -1,17 +1,13 @@
 -- What is walked is the fields of the body, and the fields of a body are walked.
-use Rattle.std.proofs.Common.{◌≡◌, ℕ, zero, suc, ◌+◌, ◌-◌, ◌<◌, ◌≤◌, Bool, true, false, cond, List, [], ◌∷◌, ◌++◌, length, Result, Ok, refl, sym, ap, subst, ◌∙◌, arith}
-use Rattle.std.specs.Prelude.{◌==◌}
-use Rattle.std.specs.List.{AllZip, AllByRecursion}
-use Rattle.std.proofs.lemmas.List.{length-append}
-use Rattle.std.proofs.lemmas.List.Concat.{flat_map-cons}
-use Rattle.jass_base.specs.Wire.{WireField, WireValue, Number, Eight, Text, Four, IsField, AreFields, texts_in, texts_field}
-use Rattle.wire_fields.specs.Reading.{field_at}
+use Rattle.shared_lemmas.proofs.Common.{◌≡◌, ℕ, zero, suc, ◌+◌, ◌-◌, ◌<◌, ◌≤◌, Bool, true, false, cond, List, [], ◌∷◌, ◌++◌, length, Result, Ok, refl, sym, ap, subst, ◌∙◌, arith, ◌==◌, AllZip, AllByRecursion, length-append, flat_map-cons}
+use Rattle.ciff_read.proofs.Below.{WireField, WireValue, Number, Eight, Text, Four, IsField, AreFields, texts_in, texts_field, field_at}
 use Rattle.ciff_read.specs.declared.posting_fields.PostingFields.{PostingFields}
 use Rattle.ciff_read.specs.declared.refusal.CiffRefusal.{CiffRefusal}
 use Rattle.ciff_read.specs.Refusals.{◌>>=◌, field_placed}
 use Rattle.ciff_read.specs.Walking.{PlacedEntry, Walked, in_front, walk, walk_within, nothing_inside, entry_of, entry_at, entry_in, entry_inside}
 use Rattle.ciff_read.proofs.Walks.{nothing, no_field, one_field}
 use Rattle.ciff_read.proofs.WireLaws.{WireLaws, bound, done_is, field_unplaced, some_field}
+use Rattle.shared_lemmas.proofs.Lists.{zip-append}
 
 -- the posting of a body
 pub record IsEntryOf (body : List ℕ) (x : PlacedEntry) : Type 0 where
@@ -26,12 +22,6 @@ pub record HasFields (body : List ℕ) : Type 0 where
 -- the texts of field 4 in a field
 abbrev pub texts_four : WireField → List (List ℕ)
 texts_four f = cond (f.number == 4) (texts_in f.value) []
-
-pub zip-append : {A B : Type 0} (R : A → B → Type 0) (xs : List A) (ys : List B) (us : List A) (vs : List B) → AllZip R xs ys → AllZip R us vs → AllZip R (xs ++ us) (ys ++ vs)
-zip-append R [] [] us vs h k = k
-zip-append R [] (y ∷ ys) us vs h k = absurd h
-zip-append R (x ∷ xs) [] us vs h k = absurd h
-zip-append R (x ∷ xs) (y ∷ ys) us vs h k = (h.0, zip-append R xs ys us vs h.1 k)
 
 module _ (laws : WireLaws) where
   -- the parts of a walk

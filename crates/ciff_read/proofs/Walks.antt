@@ -1,12 +1,8 @@
 -- Walking a body field by field, as the loops do.
 use Rattle.std.proofs.Common.{◌≡◌, ℕ, zero, suc, ◌+◌, ◌-◌, ◌<◌, ◌≤◌, List, [], ◌∷◌, ◌++◌, length, drop, Result, Ok, Err, refl, sym, ap, subst, ◌∙◌, arith, append_assoc}
 use Rattle.std.proofs.lemmas.List.{append-nil, drop_all, length-drop}
-use Rattle.jass_base.specs.Wire.{WireField}
-use Rattle.wire_fields.specs.declared.fault.WireWhy.{WireWhy}
-use Rattle.wire_fields.specs.Reading.{field_at}
+use Rattle.ciff_read.proofs.Below.{WireField, WireWhy, field_at, WireFault, ReadsField}
 use Rattle.ciff_read.specs.declared.refusal.CiffRefusal.{CiffRefusal}
-use Rattle.wire_fields.specs.declared.fault.WireFault.{WireFault}
-use Rattle.wire_fields.specs.Places.{ReadsField}
 use Rattle.ciff_read.specs.declared.refusal.CiffFault.{CiffFault}
 use Rattle.ciff_read.specs.declared.refusal.CiffFault.TheVariants as faults
 use Rattle.ciff_read.specs.Refusals.{◌>>=◌, why_of, Fails}

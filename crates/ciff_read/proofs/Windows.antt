@@ -1,8 +1,7 @@
 -- Bytes of a content from a place on.
-use Rattle.std.proofs.Common.{◌≡◌, ℕ, ◌+◌, ◌-◌, ◌≤◌, List, [], ◌++◌, length, take, drop, refl, sym, ap, ◌∙◌, length-take, length-drop, length-append, arith}
-use Rattle.std.proofs.lemmas.List.{append_assoc, drop-drop, drop-take, take_all, take-take, take-append-le}
-use Rattle.std.proofs.Math.Seq.{take-add, take-append-add, take-append_seam}
-use Rattle.std.proofs.Math.Nat.{min-eq_left}
+use Rattle.shared_lemmas.proofs.Common.{◌≡◌, ℕ, ◌+◌, ◌-◌, ◌≤◌, List, [], ◌++◌, length, take, drop, refl, sym, ap, ◌∙◌, arith, drop-drop, drop-take, take_all, take-take, take-append-le, take-add, take-append-add, take-append_seam, min-eq_left}
+use Rattle.std.proofs.Common.{length-take, length-drop, length-append}
+use Rattle.std.proofs.lemmas.List.{append_assoc}
 use Rattle.jass_base.specs.Outside.{AreBytesAt}
 use Rattle.ciff_read.specs.Window.{AreFrom}
 

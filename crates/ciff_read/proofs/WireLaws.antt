@@ -1,12 +1,11 @@
 -- What is known of reading varints and fields.
-use Rattle.std.proofs.Common.{◌≡◌, ℕ, ◌<◌, List, [], ◌∷◌, ◌++◌, length, Result, Ok, Err, refl, ap, arith}
-use Rattle.std.proofs.lemmas.List.{length-append}
-use Rattle.jass_base.specs.Wire.{WireField, AreGroups, IsVarint, IsField}
-use Rattle.wire_fields.specs.declared.fault.WireWhy.{WireWhy}
-use Rattle.wire_fields.specs.Reading.{varint_at, field_at}
+use Rattle.shared_lemmas.proofs.Common.{◌≡◌, ℕ, ◌<◌, List, [], ◌∷◌, ◌++◌, length, Result, Ok, Err, refl, ap, arith, length-append}
+use Rattle.ciff_read.proofs.Below.{WireField, AreGroups, IsVarint, IsField, WireWhy, varint_at, field_at}
 use Rattle.ciff_read.specs.declared.refusal.CiffWhy.{CiffWhy}
 use Rattle.ciff_read.specs.declared.refusal.CiffRefusal.{CiffRefusal}
+use Rattle.ciff_read.specs.Reading.{at_end}
 use Rattle.ciff_read.specs.Refusals.{◌>>=◌, placed, field_placed}
+use Rattle.ciff_read.specs.Reading.{at_end}
 
 pub record WireLaws : Type 0 where
   pub varint_found : (bytes rest : List ℕ) (n : ℕ) → varint_at bytes ≡ Ok (n, rest) → (s : List ℕ) × (bytes ≡ s ++ rest) × IsVarint s n
@@ -24,6 +23,11 @@ done x = Ok x
 
 pub done_is : {A : Type 0} (x y : A) → done x ≡ done y → x ≡ y
 done_is x y is = cc
+
+-- the end of a file
+pub ended_with : {A : Type 0} (at : ℕ) (s : List ℕ) (x y : A) → at_end at s x ≡ Ok y → x ≡ y
+ended_with at [] x y is = done_is x y is
+ended_with at (b ∷ s) x y is = absurd cc
 
 pub unplaced : {A : Type 0} (at : ℕ) (r : Result A CiffWhy) (x : A) → placed at r ≡ Ok x → r ≡ Ok x
 unplaced at (Ok y) x is = let e = done_is y x is in ap (λ z. Ok z) e

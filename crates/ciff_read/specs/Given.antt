@@ -1,5 +1,5 @@
 -- The pieces that a walk gives.
-use Rattle.std.specs.Prelude.{ℕ, ◌≡◌, ◌<◌, ◌≤◌, ◌+◌, ◌^◌, false, List, [], ◌∷◌, ◌++◌, length, IsSome, Option, None, Result, Ok, Err}
+use Rattle.std.specs.Prelude.{ℕ, ◌≡◌, ◌<◌, ◌≤◌, ◌+◌, false, List, [], ◌∷◌, ◌++◌, length, IsSome, Option, None, Result, Ok, Err}
 use Rattle.jass_base.specs.CiffViews.{header_data, list_data, doc_data}
 use Rattle.jass_base.specs.Lists.{HasDocsBelow}
 use Rattle.jass_base.specs.Outside.{Files, ForContent}

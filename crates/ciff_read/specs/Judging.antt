@@ -12,7 +12,7 @@ use Rattle.ciff_read.specs.declared.refusal.CiffRefusal.{CiffRefusal}
 use Rattle.ciff_read.specs.Refusals.{◌>>=◌, placed}
 use Rattle.ciff_read.specs.Seen.{is_seen}
 use Rattle.ciff_read.specs.Walking.{PlacedEntry}
-use Rattle.jass_base.specs.declared.limits.TheConstants.{MOST_DOCUMENTS, MOST_POSTINGS, MOST_TERMS}
+use Rattle.jass_base.specs.declared.limits.TheConstants.{LONGEST_NAME, LONGEST_TERM, MOST_DOCUMENTS, MOST_POSTINGS, MOST_TERMS}
 
 -- a header, and the numbers of lists and documents that follow
 pub record FileStart : Type 0 where
@@ -60,7 +60,7 @@ judge_header x =
 abbrev pub judge_list : List (List ℕ) → ListStart → Result ListStart CiffWhy
 judge_list terms x =
     if not (is_utf8 x.term) then Err Text
-    else (if nat_lt 65535 (length x.term) then Err Limit
+    else (if nat_lt LONGEST_TERM (length x.term) then Err Limit
     else (if is_seen x.term terms then Err TermTwice
     else (if over63 x.df || over63 x.cf then Err Range
     else Ok x)))
@@ -90,7 +90,7 @@ postings_of docs before entries = fold (gather docs before) (Ok []) entries
 
 -- whether a text may be a name: it has some bytes and not too many, and none is a blank or a control character
 abbrev pub is_name : List ℕ → Bool
-is_name name = not (length name == 0) && nat_le (length name) 1048576 && list_all (λ b. nat_lt 32 b && not (b == 127)) name
+is_name name = not (length name == 0) && nat_le (length name) LONGEST_NAME && list_all (λ b. nat_lt 32 b && not (b == 127)) name
 
 -- the numbers of records
 abbrev pub numbers_of : List NumberedDoc → List ℕ

@@ -1,8 +1,6 @@
 -- What is read of a message that stands further on in a file.
 use Rattle.std.specs.Prelude.{ℕ, ◌+◌, Result, Ok, Err}
 use Rattle.ciff_read.specs.declared.refusal.CiffRefusal.{CiffRefusal}
-use Rattle.ciff_read.specs.declared.refusal.CiffFault.{CiffFault}
-use Rattle.ciff_read.specs.declared.refusal.CiffFault.TheVariants as faults
 
 -- a refusal so many places further on
 abbrev pub refusal_moved : ℕ → CiffRefusal → CiffRefusal
@@ -12,9 +10,3 @@ refusal_moved base e = record { at = base + e.at; why = e.why }
 abbrev pub moved : {A : Type 0} → ℕ → Result A CiffRefusal → Result A CiffRefusal
 moved base (Ok x) = Ok x
 moved base (Err e) = Err (refusal_moved base e)
-
--- a fault so many places further on
-abbrev pub fault_moved : ℕ → CiffFault → CiffFault
-fault_moved base (faults.Refused e) = faults.Refused (refusal_moved base e)
-fault_moved base faults.ReadFault = faults.ReadFault
-fault_moved base faults.NoMemory = faults.NoMemory

@@ -1,5 +1,5 @@
 -- Reading a CIFF file from the left, message by message, with the first refusal and its place.
-use Rattle.std.specs.Prelude.{ℕ, zero, suc, ◌+◌, ◌-◌, ◌^◌, List, [], ◌∷◌, ◌++◌, length, map, take, drop, Result, Ok, Err, nat_lt, if◌then◌else◌}
+use Rattle.std.specs.Prelude.{ℕ, zero, suc, ◌+◌, ◌-◌, List, [], ◌∷◌, ◌++◌, length, map, take, drop, Result, Ok, Err, nat_lt, if◌then◌else◌}
 use Rattle.jass_base.specs.Ciff.{ListData, DocData, CollectionData}
 use Rattle.wire_fields.specs.Reading.{varint_at}
 use Rattle.ciff_read.specs.declared.refusal.CiffWhy.{CiffWhy}
@@ -8,6 +8,7 @@ use Rattle.ciff_read.specs.declared.refusal.CiffRefusal.{CiffRefusal}
 use Rattle.ciff_read.specs.Judging.{FileStart, ListStart, NumberedDoc, start_of, list_start_of, numbered_of, judge_header, judge_list, judge_doc, numbers_of, postings_of}
 use Rattle.ciff_read.specs.Refusals.{◌>>=◌, placed, field_placed}
 use Rattle.ciff_read.specs.Walking.{PlacedEntry, walk, nothing_inside, entry_inside}
+use Rattle.jass_base.specs.declared.limits.TheConstants.{LONGEST_FILE}
 
 -- a message: the place of its body, the body, and the bytes behind it
 pub record Message : Type 0 where
@@ -22,7 +23,7 @@ message_end m = m.from + length m.body
 -- the body of so many bytes that begins at a place; the message stands at another
 abbrev pub body_at : ℕ → ℕ → ℕ → List ℕ → Result Message CiffWhy
 body_at at from size s =
-    if nat_lt (2 ^ 32) (from + size) then Err Limit
+    if nat_lt LONGEST_FILE (from + size) then Err Limit
     else (if nat_lt (length s) size then Err Cut
     else Ok (record { from = from; body = take size s; rest = drop size s }))
 

@@ -31,17 +31,6 @@ number_of Trailing = 21
 number_of Limit = 22
 number_of (Changed kept found) = 23
 
--- a refusal of what was read once
-abbrev pub SaysNoChange : CiffWhy → Type 0
-SaysNoChange (Changed kept found) = ⊥
-SaysNoChange why = ⊤
-
--- a fault that no reading before takes part in
-abbrev pub IsPlain : CiffFault → Type 0
-IsPlain (faults.Refused refusal) = SaysNoChange refusal.why
-IsPlain faults.ReadFault = ⊤
-IsPlain faults.NoMemory = ⊤
-
 -- what a fault in the fields is as a refusal
 abbrev pub why_of : WireWhy → CiffWhy
 why_of wire.Cut = Cut

@@ -1,8 +1,8 @@
 -- A walk over a file as plain data, and the content that it stands for.
-use Rattle.std.specs.Prelude.{ℕ, ◌==◌, ◌||◌, ◌≡◌, ◌≢◌, ◌<◌, ◌≤◌, ◌^◌, ⊤, List, [], length, drop, All, Contains, MatchResult, Option, Some, None, Result, Ok, Err, IsSome}
+use Rattle.std.specs.Prelude.{ℕ, ◌==◌, ◌||◌, ◌≡◌, ◌≢◌, ◌<◌, ◌≤◌, ⊤, List, [], length, drop, All, Contains, MatchResult, Option, Some, None, Result, Ok, Err, IsSome}
 use Rattle.std.specs.List.Sorted.{IsStrictlyIncreasing}
 use Rattle.jass_base.specs.Ciff.{HeaderData, ListData}
-use Rattle.jass_base.specs.CiffViews.{list_data, doc_data}
+use Rattle.jass_base.specs.CiffViews.{list_data}
 use Rattle.jass_base.specs.Outside.{Files, ForContent}
 use Rattle.ciff_read.specs.declared.refusal.CiffFault.{CiffFault}
 use Rattle.ciff_read.specs.declared.refusal.CiffFault.TheVariants as faults
@@ -11,14 +11,12 @@ use Rattle.ciff_read.specs.declared.refusal.CiffWhy.{CiffWhy}
 use Rattle.ciff_read.specs.declared.refusal.CiffWhy.TheVariants as whys
 use Rattle.ciff_read.specs.Judging.{is_among}
 use Rattle.ciff_read.specs.Marks.{is_marked}
-use Rattle.ciff_read.specs.Pieces.{KeptList, Progress, header_of_file, IsReached, list_of_file, postings_kept, terms_kept, places_kept, EndPiece, doc_of_file}
+use Rattle.ciff_read.specs.Pieces.{KeptList, Progress, header_of_file, IsReached, postings_kept, places_kept}
 use Rattle.jass_base.specs.declared.postings_list.PostingsList.{PostingsList}
-use Rattle.jass_base.specs.declared.doc_record.DocRecord.{DocRecord}
-use Rattle.ciff_read.specs.Private.Reached.{GivesReading, MarksOf}
 use Rattle.ciff_read.specs.Reaching.{FailsReading}
-use Rattle.ciff_read.specs.Reading.{Message, message_at, list_at, at_end}
+use Rattle.ciff_read.specs.Reading.{Message, message_at, list_at}
 use Rattle.ciff_read.specs.Window.{AreFrom}
-use Rattle.jass_base.specs.declared.limits.TheConstants.{MOST_DOCUMENTS, MOST_POSTINGS, MOST_TERMS}
+use Rattle.jass_base.specs.declared.limits.TheConstants.{LONGEST_FILE, MOST_DOCUMENTS, MOST_POSTINGS, MOST_TERMS}
 
 -- what a walk is: the file's name; what it keeps of the file up to a place; the numbers of the documents that it has given, as marked
 -- bits, and how many these are; the error that it has answered; and the bytes of the file that it holds, from a place on
@@ -42,21 +40,9 @@ pub record KeepsRanges (w : WalkView) : Type 0 where
   pub few_postings : postings_kept w.kept ≤ MOST_POSTINGS
   pub lists_given : length w.kept ≤ w.lists
   pub docs_given : w.given ≤ w.docs
-  pub near : w.at ≤ 2 ^ 32
+  pub near : w.at ≤ LONGEST_FILE
   pub rising : IsStrictlyIncreasing (places_kept w.kept)
   pub before : All (λ (k : KeptList). k.at < w.at) w.kept
-
--- the same of the parts of a walk
-pub record IsInRange (lists docs at given postings : ℕ) (kept : List KeptList) : Type 0 where
-  pub few_lists : lists ≤ MOST_TERMS
-  pub few_docs : docs ≤ MOST_DOCUMENTS
-  pub counted : postings ≡ postings_kept kept
-  pub few_postings : postings ≤ MOST_POSTINGS
-  pub lists_given : length kept ≤ lists
-  pub docs_given : given ≤ docs
-  pub near : at ≤ 2 ^ 32
-  pub rising : IsStrictlyIncreasing (places_kept kept)
-  pub before : All (λ (k : KeptList). k.at < at) kept
 
 -- a walk over the file of a name that has given nothing yet
 pub record Begins (name : List ℕ) (w : WalkView) : Type 0 where
@@ -149,54 +135,10 @@ abbrev pub KeepsError : {T : Type 0} → WalkView → Result T CiffFault → Typ
 KeepsError now (Ok x) = ⊤
 KeepsError now (Err fault) = now.answered ≡ Some fault
 
--- what the giving of a message leaves
-pub record LeavesOthers (old new : WalkView) : Type 0 where
-  pub name : new.name ≡ old.name
-  pub header : new.header ≡ old.header
-  pub lists : new.lists ≡ old.lists
-  pub docs : new.docs ≡ old.docs
-  pub marks : new.marks ≡ old.marks
-  pub given : new.given ≡ old.given
-  pub answered : new.answered ≡ old.answered
-
 -- a list as it is kept
 abbrev pub kept_of : ℕ → PostingsList → KeptList
 kept_of at list = record { term = list.term; at = at; count = length list.postings }
 
--- the list that was given is the one at the walk's place, and the walk stands behind it
-abbrev pub ListGiven : Option Files → WalkView → WalkView → Result PostingsList CiffFault → Type 0
-ListGiven files old new result =
-    ForContent files old.name (λ content. AreFrom content old.start old.bytes → GivesReading (λ (list : PostingsList). record { list = list_data list; end = new.at }) result (list_of_file content old.docs (postings_kept old.kept) (terms_kept old.kept) old.at))
-
--- what is held of a content stays so
-abbrev pub StaysHeld : Option Files → WalkView → WalkView → Type 0
-StaysHeld files old new = ForContent files old.name (λ content. AreFrom content old.start old.bytes → AreFrom content new.start new.bytes)
-
--- what the giving of a document leaves, and what the end of a file leaves
-pub record LeavesLists (old new : WalkView) : Type 0 where
-  pub name : new.name ≡ old.name
-  pub header : new.header ≡ old.header
-  pub lists : new.lists ≡ old.lists
-  pub docs : new.docs ≡ old.docs
-  pub kept : new.kept ≡ old.kept
-  pub answered : new.answered ≡ old.answered
-
-pub record LeavesPlace (old new : WalkView) : Type 0 where
-  pub at : new.at ≡ old.at
-  pub marks : new.marks ≡ old.marks
-  pub given : new.given ≡ old.given
-
 -- one number more is marked
 abbrev pub OneMore : List ℕ → List ℕ → ℕ → Type 0
 OneMore old new number = (n : ℕ) → is_marked new n ≡ (n == number || is_marked old n)
-
--- the document that was given is the one at the walk's place, and the walk stands behind it
-abbrev pub DocGiven : Option Files → WalkView → WalkView → Result (ℕ × DocRecord) CiffFault → Type 0
-DocGiven files old new result =
-    ForContent files old.name (λ content. AreFrom content old.start old.bytes → (numbers : List ℕ) → MarksOf old.marks numbers
-    → GivesReading (λ (x : ℕ × DocRecord). record { doc = record { number = x.0; doc = doc_data x.1 }; end = new.at }) result (doc_of_file content old.docs numbers old.at))
-
--- nothing is left behind the walk's place
-abbrev pub EndGiven : Option Files → WalkView → Result Unit CiffFault → Type 0
-EndGiven files old result =
-    ForContent files old.name (λ content. AreFrom content old.start old.bytes → GivesReading (λ u. EndPiece) result (at_end old.at (drop old.at content) EndPiece))

@@ -1,4 +1,4 @@
-ghost use Rattle.std.specs.Prelude.{ℕ, ◌≡◌, ◌+◌, ◌<◌, ◌≤◌, ◌⊎◌, [], ◌∷◌, ◌++◌, false, length};
+ghost use Rattle.std.specs.Prelude.{◌≡◌, ◌+◌, ◌<◌, ◌≤◌, ◌⊎◌, [], ◌∷◌, ◌++◌, false, length};
 ghost use Rattle.std.specs.Prelude.{Some, None, IfOk, IfErr, IsErrOf, MatchResult, OnOk};
 ghost use Rattle.jass_base.specs.Lists.{HasDocsBelow};
 ghost use Rattle.jass_base.specs.Outside.{Rose, IsMissing, ForContent};
@@ -8,9 +8,9 @@ ghost use Rattle.ciff_read.specs.Seen.{is_seen};
 ghost use Rattle.ciff_read.specs.Given.{PieceRanges, GivesTold};
 ghost use Rattle.ciff_read.specs.Walk.{IsOutside, StandsTold, SameError, KeepsError};
 ghost use Rattle.ciff_read.specs.Walk.{IsGiven, HasKept, FindsAgain, ChangesOnly, LeavesWalk};
-ghost use Rattle.ciff_read.specs.Walk.{KeepsRanges, Opens, Begins, StaysHeld};
-ghost use Rattle.ciff_read.specs.Walk.{LeavesOthers, ListGiven, kept_of, LeavesLists, DocGiven, OneMore};
-ghost use Rattle.ciff_read.specs.Walk.{LeavesPlace, EndGiven};
+ghost use Rattle.ciff_read.specs.Walk.{KeepsRanges, Opens, Begins, kept_of, OneMore};
+ghost use Rattle.ciff_read.specs.Private.Walk.{StaysHeld, LeavesOthers, ListGiven};
+ghost use Rattle.ciff_read.specs.Private.Walk.{LeavesLists, LeavesPlace, DocGiven, EndGiven};
 
 use crate::doc_set::DocSet;
 use crate::kept_lists::{KeptLists, ListPlace};
@@ -59,8 +59,8 @@ impl Model for CiffWalk {
     ghost use Rattle.std.specs.Option.{option_map};
     ghost use Rattle.jass_base.specs.CiffViews.{header_data};
     ghost use Rattle.ciff_read.specs.KeptLists.{kept_in};
-    ghost use Rattle.ciff_read.specs.Pieces.{postings_kept};
-    ghost use Rattle.ciff_read.specs.Walk.{WalkView, IsInRange};
+    ghost use Rattle.ciff_read.specs.Walk.{WalkView};
+    ghost use Rattle.ciff_read.specs.Private.Walk.{IsInRange};
 
     ghost Value = { WalkView };
 
@@ -101,10 +101,7 @@ impl CiffWalk {
             Err(ReadStop::ReadFault) => return Err(CiffFault::ReadFault),
             Err(ReadStop::NoMemory) => return Err(CiffFault::NoMemory),
         }
-        let (head, at) = match reach_header(alloc, &mut window, files, name) {
-            Ok(read) => read,
-            Err(fault) => return Err(fault),
-        };
+        let (head, at) = reach_header(alloc, &mut window, files, name)?;
         let Ok(name) = Text::from_str(alloc, name) else {
             return Err(CiffFault::NoMemory);
         };
@@ -285,7 +282,7 @@ impl CiffWalk {
     {
         let none = KeptLists::new(self.alloc);
         let spare = replace(&mut self.spare, Vec::new(self.alloc));
-        let list = match reach_list(
+        let (list, _end) = reach_list(
             self.alloc,
             spare,
             &mut self.window,
@@ -295,10 +292,7 @@ impl CiffWalk {
             self.docs,
             0,
             &none,
-        ) {
-            Ok((list, _)) => list,
-            Err(fault) => return Err(fault),
-        };
+        )?;
         let (count, index) = self.kept.count_at(at, self.again);
         self.again = index + 1;
         let kept = u64::from(count);
@@ -326,7 +320,7 @@ impl CiffWalk {
     {
         let at = self.at;
         let spare = replace(&mut self.spare, Vec::new(self.alloc));
-        let (list, end) = match reach_list(
+        let (list, end) = reach_list(
             self.alloc,
             spare,
             &mut self.window,
@@ -336,10 +330,7 @@ impl CiffWalk {
             self.docs,
             self.postings,
             &self.kept,
-        ) {
-            Ok(read) => read,
-            Err(fault) => return Err(fault),
-        };
+        )?;
         let count = list.postings.len() as u32;
         let place = ListPlace { at, count };
         match self.kept.add(self.alloc, list.term.as_str(), place) {
@@ -367,7 +358,7 @@ impl CiffWalk {
         ensures later { C.read_faults files.old ≤ C.read_faults files.new }
         ensures others { C.write_faults files.old ≤ C.write_faults files.new }
     {
-        let (number, item, end) = match reach_doc(
+        let (number, item, end) = reach_doc(
             self.alloc,
             &mut self.window,
             files,
@@ -375,10 +366,7 @@ impl CiffWalk {
             self.at,
             self.docs,
             &self.numbers,
-        ) {
-            Ok(read) => read,
-            Err(fault) => return Err(fault),
-        };
+        )?;
         match self.numbers.insert(number) {
             Ok(()) => {}
             Err(_) => return Err(CiffFault::NoMemory),

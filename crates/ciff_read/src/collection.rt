@@ -1,4 +1,4 @@
-ghost use Rattle.std.specs.Prelude.{◌≡◌, ◌≤◌, ◌^◌, Ok, [], length, drop, All, AllPairs, IfOk};
+ghost use Rattle.std.specs.Prelude.{◌≡◌, ◌≤◌, Ok, [], length, drop, All, AllPairs, IfOk};
 ghost use Rattle.jass_base.specs.Ciff.{CollectionData, IsCiff};
 ghost use Rattle.jass_base.specs.CiffViews.{collection_data};
 ghost use Rattle.jass_base.specs.Lists.{HasDocsBelow, DifferInTerm};
@@ -36,22 +36,10 @@ fn read_messages(alloc: Global, bytes: &[u8]) -> Result<Collection, CiffFault>
     ensures exact { Answers collection_data result (read_ciff bytes.now) }
     ensures few { IfOk result (λ c. posting_count c.lists ≤ MOST_POSTINGS) }
 {
-    let body = match read_length(bytes, 0) {
-        Ok(body) => body,
-        Err(fault) => return Err(fault),
-    };
-    let head = match read_header(alloc, bytes, 0, body) {
-        Ok(head) => head,
-        Err(fault) => return Err(fault),
-    };
-    let (lists, at) = match read_lists(alloc, bytes, body.end, head.lists, head.docs) {
-        Ok(read) => read,
-        Err(fault) => return Err(fault),
-    };
-    let (docs, at) = match read_documents(alloc, bytes, at, head.docs) {
-        Ok(read) => read,
-        Err(fault) => return Err(fault),
-    };
+    let body = read_length(bytes, 0)?;
+    let head = read_header(alloc, bytes, 0, body)?;
+    let (lists, at) = read_lists(alloc, bytes, body.end, head.lists, head.docs)?;
+    let (docs, at) = read_documents(alloc, bytes, at, head.docs)?;
     if at < bytes.len() {
         return Err(refused(at, CiffWhy::Trailing));
     }
@@ -84,14 +72,8 @@ fn read_lists(
     let mut at = from;
     let mut before: u64 = 0;
     'lists: for _ in 0..count {
-        let body = match read_length(bytes, at) {
-            Ok(body) => body,
-            Err(fault) => return Err(fault),
-        };
-        let list = match read_list(alloc, bytes, at, body, docs, before, &mut terms) {
-            Ok(list) => list,
-            Err(fault) => return Err(fault),
-        };
+        let body = read_length(bytes, at)?;
+        let list = read_list(alloc, bytes, at, body, docs, before, &mut terms)?;
         before += list.postings.len() as u64;
         at = body.end;
         match lists.push(list) {
@@ -117,14 +99,8 @@ fn read_documents(
     let mut documents = Documents::new(alloc);
     let mut at = from;
     'documents: for _ in 0..count {
-        let body = match read_length(bytes, at) {
-            Ok(body) => body,
-            Err(fault) => return Err(fault),
-        };
-        match read_document(alloc, bytes, at, body, count, &mut documents) {
-            Ok(()) => {}
-            Err(fault) => return Err(fault),
-        }
+        let body = read_length(bytes, at)?;
+        read_document(alloc, bytes, at, body, count, &mut documents)?;
         at = body.end;
     }
     match documents.into_row(alloc) {

@@ -35,10 +35,7 @@ impl DocSet {
     {
         let place = (doc / 64) as usize;
         'reaching: while self.words.len() <= place {
-            match self.words.push(0) {
-                Ok(()) => {}
-                Err(_) => return Err(NoMemory),
-            }
+            self.words.push(0)?;
         }
         self.words[place] |= 1 << (doc % 64);
         Ok(())

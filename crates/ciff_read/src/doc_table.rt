@@ -26,10 +26,7 @@ impl DocTable {
     {
         let place = doc as usize;
         'reaching: while self.records.len() <= place {
-            match self.records.push(None) {
-                Ok(()) => {}
-                Err(_) => return Err(NoMemory),
-            }
+            self.records.push(None)?;
         }
         self.records[place] = Some(entry);
         Ok(())

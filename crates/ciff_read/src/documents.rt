@@ -43,14 +43,8 @@ impl Documents {
         ensures records { OnOk result (self.new.records.items ≡ self.old.records.items ++ (doc, entry) ∷ []) }
         ensures marked { OnOk result (AreMarked self.new) }
     {
-        match self.numbers.insert(doc) {
-            Ok(()) => {}
-            Err(refused) => return Err(refused),
-        }
-        match self.records.push((doc, entry)) {
-            Ok(()) => {}
-            Err(_) => return Err(NoMemory),
-        }
+        self.numbers.insert(doc)?;
+        self.records.push((doc, entry))?;
         Ok(())
     }
 
@@ -64,10 +58,7 @@ impl Documents {
         } = self;
         let mut table = DocTable::new(alloc);
         'records: for (doc, record) in records {
-            match table.put(doc, record) {
-                Ok(()) => {}
-                Err(refused) => return Err(refused),
-            }
+            table.put(doc, record)?;
         }
         table.into_row(alloc)
     }

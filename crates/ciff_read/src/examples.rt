@@ -1,6 +1,6 @@
 //! The definitions on a file of one term and three documents.
 
-ghost use Rattle.std.specs.Prelude.{◌≡◌, Ok};
+ghost use Rattle.std.specs.Prelude.{◌≡◌};
 ghost use Rattle.jass_base.specs.Ciff.{IsCiff};
 ghost use Rattle.jass_base.specs.CiffText.{canonical_ciff};
 ghost use Rattle.ciff_read.specs.Examples.{small_file, small_collection};

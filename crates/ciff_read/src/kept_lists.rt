@@ -1,7 +1,8 @@
 ghost use Rattle.std.specs.Prelude.{◌≡◌, ◌<◌, ◌∷◌, [], ◌++◌, false, length, Some, IfSome, IsSome, OnOk, OnErr};
 ghost use Rattle.std.specs.Prelude.{slice_get};
 ghost use Rattle.std.specs.List.Sorted.{IsStrictlyIncreasing};
-ghost use Rattle.ciff_read.specs.KeptEntries.{kept_as, places_in};
+ghost use Rattle.ciff_read.specs.KeptEntries.{kept_as};
+ghost use Rattle.ciff_read.specs.Private.KeptEntries.{places_in};
 ghost use Rattle.ciff_read.specs.KeptLists.{entries_in, kept_in};
 ghost use Rattle.ciff_read.specs.Walk.{HasKept, IsGiven};
 ghost use Rattle.ciff_read.specs.Pieces.{terms_kept, places_kept};

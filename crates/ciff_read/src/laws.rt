@@ -4,6 +4,7 @@ ghost use Rattle.std.specs.Prelude.{ℕ, ◌≡◌, ◌<◌, ◌≤◌, ◌+◌,
 ghost use Rattle.std.specs.List.{AllPairs};
 ghost use Rattle.std.specs.List.Sorted.{IsPermutation};
 ghost use Rattle.jass_base.specs.Ciff.{HeaderData, CollectionData, IsCiff};
+ghost use Rattle.jass_base.specs.declared.limits.TheConstants.{LONGEST_FILE};
 ghost use Rattle.ciff_read.specs.Assembling.{Parts, Assembles, only_header, with_piece, by_number, collection_of};
 ghost use Rattle.ciff_read.specs.Judging.{NumberedDoc};
 ghost use Rattle.ciff_read.specs.Moving.{moved};
@@ -28,7 +29,7 @@ pub fn files_are_read()
 /// The first 2^32 + 16 bytes decide what is read: a message ends by place 2^32, and the length
 /// of the next one has at most ten bytes.
 pub fn the_front_is_enough()
-    ensures { (bytes : List ℕ) → read_ciff (take 4294967312 bytes) ≡ read_ciff bytes }
+    ensures { (bytes : List ℕ) → read_ciff (take (LONGEST_FILE + 16) bytes) ≡ read_ciff bytes }
 {}
 
 /// A message is judged by its bytes alone: where it stands further on, its refusals do, too.

@@ -2,10 +2,8 @@ ghost use Rattle.ciff_read.specs.Private.Places.{ReadsMessage};
 
 use crate::body::Body;
 use crate::refusal::{CiffFault, CiffWhy, refused, refused_field};
+use jass_base::limits::LONGEST_FILE;
 use wire_fields::read_varint;
-
-/// The place behind the last byte that a file may have.
-pub const FILE_LIMIT: u64 = 4_294_967_296;
 
 /// Reads the length of the message at a place.
 pub fn read_length(bytes: &[u8], at: usize) -> Result<Body, CiffFault>
@@ -15,7 +13,7 @@ pub fn read_length(bytes: &[u8], at: usize) -> Result<Body, CiffFault>
         Ok(read) => read,
         Err(fault) => return Err(refused_field(fault)),
     };
-    if from as u64 > FILE_LIMIT || length > FILE_LIMIT - from as u64 {
+    if from as u64 > LONGEST_FILE || length > LONGEST_FILE - from as u64 {
         return Err(refused(at, CiffWhy::Limit));
     }
     if length > (bytes.len() - from) as u64 {

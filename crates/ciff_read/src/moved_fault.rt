@@ -1,5 +1,5 @@
 ghost use Rattle.std.specs.Prelude.{◌≡◌, ◌<◌, ◌+◌, ◌^◌};
-ghost use Rattle.ciff_read.specs.Moving.{fault_moved};
+ghost use Rattle.ciff_read.specs.Private.Moving.{fault_moved};
 ghost use Rattle.ciff_read.specs.declared.refusal.CiffRefusal.{CiffRefusal};
 
 use crate::refusal::{CiffFault, CiffRefusal};

@@ -1,4 +1,4 @@
-ghost use Rattle.std.specs.Prelude.{ℕ, ◌≡◌, ◌+◌, ◌≤◌, ◌^◌, false, List, length, map, [], ◌∷◌, ◌++◌, IfOk, IfErr};
+ghost use Rattle.std.specs.Prelude.{ℕ, ◌≡◌, ◌+◌, ◌≤◌, false, List, length, map, [], ◌∷◌, ◌++◌, IfOk, IfErr};
 ghost use Rattle.jass_base.specs.CiffViews.{list_data};
 ghost use Rattle.jass_base.specs.Lists.{HasDocsBelow};
 ghost use Rattle.wire_fields.specs.Places.{IsWithin};
@@ -7,7 +7,7 @@ ghost use Rattle.ciff_read.specs.Private.Places.{message_in, ReadsList, GathersF
 ghost use Rattle.ciff_read.specs.Reading.{list_at};
 ghost use Rattle.ciff_read.specs.Refusals.{Answers, Fails};
 ghost use Rattle.ciff_read.specs.Seen.{is_seen};
-ghost use Rattle.jass_base.specs.declared.limits.TheConstants.{MOST_DOCUMENTS, MOST_POSTINGS};
+ghost use Rattle.jass_base.specs.declared.limits.TheConstants.{LONGEST_TERM, MOST_DOCUMENTS, MOST_POSTINGS};
 
 use crate::body::Body;
 use crate::gathered::Gathered;
@@ -18,12 +18,10 @@ use crate::terms::add_term;
 use crate::text::text_of;
 use crate::walked_list::WalkedList;
 use indexmap::IndexSet;
+use jass_base::limits::LONGEST_TERM;
 use jass_base::{Posting, PostingsList};
 use std::alloc::Global;
 use wire_fields::{Field, Value, next_field};
-
-/// The limit of a term's bytes.
-const LONGEST_TERM: usize = 65_535;
 
 /// The fewest bytes of a posting that has a gap.
 const USUAL_BYTES: usize = 6;
@@ -51,10 +49,7 @@ pub fn read_list<'a>(
         (list_at docs before (map (λ t. t.now) terms.old.keys) at (message_in bytes.now body)) }
 {
     let spare = Vec::new(alloc);
-    let walked = match walk_one(alloc, spare, bytes, at, body, docs, before) {
-        Ok(walked) => walked,
-        Err(fault) => return Err(fault),
-    };
+    let walked = walk_one(alloc, spare, bytes, at, body, docs, before)?;
     let is_new = match add_term(terms, walked.term) {
         Ok(is_new) => is_new,
         Err(_) => return Err(CiffFault::NoMemory),
@@ -83,7 +78,7 @@ pub fn walk_one<'a>(
         → list_at docs before terms at (message_in bytes.now body) ≡ finished (is_seen list.term.now terms) at list) }
     ensures refused { IfErr result (λ fault. (terms : List (List ℕ))
         → Fails fault (list_at docs before terms at (message_in bytes.now body))) }
-    ensures fits { IfOk result (λ list. length list.term.now ≤ 65535) }
+    ensures fits { IfOk result (λ list. length list.term.now ≤ LONGEST_TERM) }
     ensures docs { IfOk result (λ list. list.gathered.docs ≡ docs) }
     ensures before { IfOk result (λ list. list.gathered.before ≡ before) }
 {
@@ -161,10 +156,7 @@ fn gather(bytes: &[u8], at: usize, field: &Field, gathered: &mut Gathered) -> Re
     let Value::Bytes(first, after) = field.value else {
         return Ok(());
     };
-    let entry = match read_entry(&bytes[..after], first) {
-        Ok(entry) => entry,
-        Err(fault) => return Err(fault),
-    };
+    let entry = read_entry(&bytes[..after], first)?;
     match gathered.take(at, entry) {
         Ok(()) => Ok(()),
         Err(_) => Err(CiffFault::NoMemory),

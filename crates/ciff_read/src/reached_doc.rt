@@ -1,8 +1,9 @@
-ghost use Rattle.std.specs.Prelude.{ℕ, ◌≡◌, ◌<◌, ◌≤◌, ◌^◌, ◌⊎◌, false, IfOk, IsErrOf};
+ghost use Rattle.std.specs.Prelude.{◌≡◌, ◌<◌, ◌≤◌, ◌⊎◌, false, IfOk, IsErrOf};
 ghost use Rattle.jass_base.specs.Outside.{Rose, IsMissing};
 ghost use Rattle.ciff_read.specs.Marks.{is_marked};
 ghost use Rattle.ciff_read.specs.Private.Reached.{DocTold};
-ghost use Rattle.ciff_read.specs.Window.{StaysShown};
+ghost use Rattle.jass_base.specs.declared.limits.TheConstants.{LONGEST_FILE};
+ghost use Rattle.ciff_read.specs.Private.Window.{StaysShown};
 
 use crate::doc_set::DocSet;
 use crate::document::walk_doc;
@@ -25,8 +26,8 @@ pub fn reach_doc<C: Cabinet>(
     docs: u32,
     numbers: &DocSet,
 ) -> Result<(u32, DocRecord, u64), CiffFault>
-    requires { at ≤ 2 ^ 32 }
-    ensures near { IfOk result (λ x. x.2 ≤ 2 ^ 32) }
+    requires { at ≤ LONGEST_FILE }
+    ensures near { IfOk result (λ x. x.2 ≤ LONGEST_FILE) }
     ensures behind { IfOk result (λ x. at < x.2) }
     ensures new { IfOk result (λ x. is_marked numbers.now.words.items x.0 ≡ false) }
     ensures below { IfOk result (λ x. x.0 < docs) }
@@ -40,10 +41,7 @@ pub fn reach_doc<C: Cabinet>(
 {
     messages_move();
     refusals_are_near();
-    let body = match reach_message(window, files, name, at) {
-        Ok(body) => body,
-        Err(fault) => return Err(fault),
-    };
+    let body = reach_message(window, files, name, at)?;
     let place = (at - window.start) as usize;
     let bytes = window.bytes.as_slice();
     let walked = match walk_doc(bytes, place, body, docs) {

@@ -1,7 +1,8 @@
-ghost use Rattle.std.specs.Prelude.{ℕ, ◌≡◌, ◌≤◌, ◌^◌, ◌⊎◌, IfOk, IsErrOf};
+ghost use Rattle.std.specs.Prelude.{◌≡◌, ◌≤◌, ◌⊎◌, IfOk, IsErrOf};
 ghost use Rattle.jass_base.specs.Outside.{Rose, IsMissing};
 ghost use Rattle.ciff_read.specs.Private.Reached.{HeaderTold};
-ghost use Rattle.ciff_read.specs.Window.{StaysShown};
+ghost use Rattle.jass_base.specs.declared.limits.TheConstants.{LONGEST_FILE};
+ghost use Rattle.ciff_read.specs.Private.Window.{StaysShown};
 
 use crate::file_head::FileHead;
 use crate::header::read_header;
@@ -18,7 +19,7 @@ pub fn reach_header<C: Cabinet>(
     files: &mut C,
     name: &str,
 ) -> Result<(FileHead, u64), CiffFault>
-    ensures near { IfOk result (λ x. x.1 ≤ 2 ^ 32) }
+    ensures near { IfOk result (λ x. x.1 ≤ LONGEST_FILE) }
     ensures shown { StaysShown (C.told files.old) name.now window.old window.new }
     ensures exact { HeaderTold (C.told files.old) name.now window.old result }
     ensures fault { IsErrOf result CiffFault.ReadFault
@@ -27,10 +28,7 @@ pub fn reach_header<C: Cabinet>(
     ensures later { C.read_faults files.old ≤ C.read_faults files.new }
     ensures others { C.write_faults files.old ≤ C.write_faults files.new }
 {
-    let body = match reach_message(window, files, name, 0) {
-        Ok(body) => body,
-        Err(fault) => return Err(fault),
-    };
+    let body = reach_message(window, files, name, 0)?;
     match read_header(alloc, window.bytes.as_slice(), 0, body) {
         Ok(head) => Ok((head, body.end as u64)),
         Err(fault) => Err(fault),

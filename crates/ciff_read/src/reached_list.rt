@@ -1,13 +1,13 @@
-ghost use Rattle.std.specs.Prelude.{ℕ, ◌≡◌, ◌<◌, ◌≤◌, ◌+◌, ◌^◌, ◌⊎◌, false, length, IfOk, IfErr, IsErrOf};
+ghost use Rattle.std.specs.Prelude.{◌≡◌, ◌<◌, ◌≤◌, ◌+◌, ◌⊎◌, false, length, IfOk, IfErr, IsErrOf};
 ghost use Rattle.jass_base.specs.Lists.{HasDocsBelow};
 ghost use Rattle.jass_base.specs.Outside.{Rose, IsMissing};
 ghost use Rattle.ciff_read.specs.KeptLists.{kept_in};
 ghost use Rattle.ciff_read.specs.Pieces.{terms_kept};
 ghost use Rattle.ciff_read.specs.Private.Reached.{ListTold};
-ghost use Rattle.ciff_read.specs.Refusals.{IsPlain};
+ghost use Rattle.ciff_read.specs.Private.Plain.{IsPlain};
 ghost use Rattle.ciff_read.specs.Seen.{is_seen};
-ghost use Rattle.ciff_read.specs.Window.{StaysShown};
-ghost use Rattle.jass_base.specs.declared.limits.TheConstants.{MOST_DOCUMENTS, MOST_POSTINGS};
+ghost use Rattle.jass_base.specs.declared.limits.TheConstants.{LONGEST_FILE, MOST_DOCUMENTS, MOST_POSTINGS};
+ghost use Rattle.ciff_read.specs.Private.Window.{StaysShown};
 
 use crate::kept_lists::KeptLists;
 use crate::laws::{messages_move, refusals_are_near};
@@ -33,10 +33,10 @@ pub fn reach_list<C: Cabinet>(
     before: u64,
     kept: &KeptLists,
 ) -> Result<(PostingsList, u64), CiffFault>
-    requires at { at ≤ 2 ^ 32 }
+    requires at { at ≤ LONGEST_FILE }
     requires docs { docs ≤ MOST_DOCUMENTS }
     requires before { before ≤ MOST_POSTINGS }
-    ensures near { IfOk result (λ x. x.1 ≤ 2 ^ 32) }
+    ensures near { IfOk result (λ x. x.1 ≤ LONGEST_FILE) }
     ensures behind { IfOk result (λ x. at < x.1) }
     ensures plain { IfErr result IsPlain }
     ensures new { IfOk result (λ x. is_seen x.0.term (terms_kept (kept_in kept.now)) ≡ false) }
@@ -52,10 +52,7 @@ pub fn reach_list<C: Cabinet>(
 {
     messages_move();
     refusals_are_near();
-    let body = match reach_message(window, files, name, at) {
-        Ok(body) => body,
-        Err(fault) => return Err(fault),
-    };
+    let body = reach_message(window, files, name, at)?;
     let place = (at - window.start) as usize;
     let bytes = window.bytes.as_slice();
     let walked = match walk_one(alloc, spare, bytes, place, body, docs, before) {

@@ -1,13 +1,14 @@
-ghost use Rattle.std.specs.Prelude.{ℕ, ◌≡◌, ◌<◌, ◌≤◌, ◌+◌, ◌^◌, ◌⊎◌, length, IfOk, IfErr, IsErrOf};
+ghost use Rattle.std.specs.Prelude.{◌≡◌, ◌<◌, ◌≤◌, ◌+◌, ◌⊎◌, length, IfOk, IfErr, IsErrOf};
 ghost use Rattle.jass_base.specs.Outside.{Rose, IsMissing};
-ghost use Rattle.ciff_read.specs.Refusals.{IsPlain};
-ghost use Rattle.ciff_read.specs.Reaching.{SizeTold, MessageTold};
-ghost use Rattle.ciff_read.specs.Window.{StaysShown};
+ghost use Rattle.jass_base.specs.declared.limits.TheConstants.{LONGEST_FILE};
+ghost use Rattle.ciff_read.specs.Private.Plain.{IsPlain};
+ghost use Rattle.ciff_read.specs.Private.Reaching.{SizeTold, MessageTold};
+ghost use Rattle.ciff_read.specs.Private.Window.{StaysShown};
 
 use crate::body::Body;
-use crate::message::FILE_LIMIT;
 use crate::refusal::{CiffFault, CiffWhy, refused, refused_field};
 use crate::window::Window;
+use jass_base::limits::LONGEST_FILE;
 use jass_base::{Cabinet, ReadStop};
 use wire_fields::{WireFault, read_varint};
 
@@ -21,7 +22,7 @@ fn reach_size<C: Cabinet>(
     name: &str,
     at: u64,
 ) -> Result<(u64, u64), CiffFault>
-    requires { at ≤ 2 ^ 32 }
+    requires { at ≤ LONGEST_FILE }
     ensures place { IfOk result (λ x. at < x.1) }
     ensures plain { IfErr result IsPlain }
     ensures shown { StaysShown (C.told files.old) name.now window.old window.new }
@@ -53,11 +54,11 @@ pub fn reach_message<C: Cabinet>(
     name: &str,
     at: u64,
 ) -> Result<Body, CiffFault>
-    requires { at ≤ 2 ^ 32 }
+    requires { at ≤ LONGEST_FILE }
     ensures within { IfOk result (λ body. body.end ≤ length window.new.bytes.items) }
     ensures front { IfOk result (λ body. window.new.start ≤ at) }
     ensures behind { IfOk result (λ body. at < window.new.start + body.end) }
-    ensures near { IfOk result (λ body. window.new.start + body.end ≤ 2 ^ 32) }
+    ensures near { IfOk result (λ body. window.new.start + body.end ≤ LONGEST_FILE) }
     ensures plain { IfErr result IsPlain }
     ensures shown { StaysShown (C.told files.old) name.now window.old window.new }
     ensures exact { MessageTold (C.told files.old) name.now at window.old window.new result }
@@ -67,11 +68,8 @@ pub fn reach_message<C: Cabinet>(
     ensures later { C.read_faults files.old ≤ C.read_faults files.new }
     ensures others { C.write_faults files.old ≤ C.write_faults files.new }
 {
-    let (size, from) = match reach_size(window, files, name, at) {
-        Ok(read) => read,
-        Err(fault) => return Err(fault),
-    };
-    if from > FILE_LIMIT || size > FILE_LIMIT - from {
+    let (size, from) = reach_size(window, files, name, at)?;
+    if from > LONGEST_FILE || size > LONGEST_FILE - from {
         return Err(refused(at as usize, CiffWhy::Limit));
     }
     let count = (from - at + size) as usize;

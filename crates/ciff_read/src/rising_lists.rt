@@ -3,7 +3,7 @@ ghost use Rattle.std.specs.Prelude.{AllPairs, slice_get, slice_index_or};
 ghost use Rattle.std.specs.Cmp.Lexicographic.{slice_cmp};
 ghost use Rattle.std.specs.Ordering.{nat_cmp};
 ghost use Rattle.jass_base.specs.Terms.{BytesRise};
-ghost use Rattle.ciff_read.specs.KeptEntries.{places_in, terms_in};
+ghost use Rattle.ciff_read.specs.Private.KeptEntries.{places_in, terms_in};
 ghost use Rattle.ciff_read.specs.Seen.{is_seen};
 
 use crate::kept_lists::ListPlace;
@@ -122,10 +122,7 @@ impl RisingLists {
             return Err(NoMemory);
         }
         let from = self.bytes.len();
-        match self.bytes.extend_from_slice(term.as_bytes()) {
-            Ok(()) => {}
-            Err(_) => return Err(NoMemory),
-        }
+        self.bytes.extend_from_slice(term.as_bytes())?;
         let to = self.bytes.len();
         match self.lists.push(KeptTerm { from, to, place }) {
             Ok(()) => {}

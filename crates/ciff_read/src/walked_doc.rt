@@ -8,11 +8,9 @@ ghost use Rattle.ciff_read.specs.Refusals.{Answers};
 use crate::doc_fields::DocFields;
 use crate::refusal::{CiffFault, CiffWhy, refused};
 use crate::text::text_of;
+use jass_base::limits::LONGEST_NAME;
 use jass_base::{DocRecord, Text};
 use std::alloc::Global;
-
-/// The limit of a name's bytes.
-const LONGEST_NAME: usize = 1_048_576;
 
 /// A document's record whose fields were walked, and whose number is one of the file's. What
 /// is left to judge is whether the number is new, then the name and the length.

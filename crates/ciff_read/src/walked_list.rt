@@ -1,9 +1,9 @@
-ghost use Rattle.std.specs.Prelude.{◌≡◌, ◌+◌, ◌≤◌, ◌^◌, true, not, length, IfOk, OnOk};
+ghost use Rattle.std.specs.Prelude.{◌≡◌, ◌+◌, ◌≤◌, true, not, length, IfOk, OnOk};
 ghost use Rattle.jass_base.specs.CiffViews.{list_data};
 ghost use Rattle.jass_base.specs.Lists.{HasDocsBelow};
 ghost use Rattle.ciff_read.specs.Private.Finishing.{finished};
 ghost use Rattle.ciff_read.specs.Refusals.{Answers};
-ghost use Rattle.jass_base.specs.declared.limits.TheConstants.{MOST_POSTINGS};
+ghost use Rattle.jass_base.specs.declared.limits.TheConstants.{LONGEST_TERM, MOST_POSTINGS};
 
 use crate::gathered::Gathered;
 use crate::refusal::{CiffFault, CiffWhy, refused};
@@ -23,7 +23,7 @@ pub struct WalkedList<'a> {
 impl<'a> WalkedList<'a> {
     /// The list of the message at `at`, where nothing is left to refuse.
     pub fn finish(self, alloc: Global, at: usize, is_new: bool) -> Result<PostingsList, CiffFault>
-        requires { length self.term.now ≤ 65535 }
+        requires { length self.term.now ≤ LONGEST_TERM }
         ensures exact { Answers list_data result (finished (not is_new) at self.entry) }
         ensures new { OnOk result (is_new ≡ true) }
         ensures term { IfOk result (λ list. list.term ≡ self.entry.term.now) }

@@ -1,6 +1,6 @@
 ghost use Rattle.std.specs.Prelude.{ℕ, ◌≡◌, ◌+◌, ◌<◌, ◌≤◌, ◌^◌, ◌⊎◌, [], List, length, drop, IsTrue, IsErrOf, OnOk};
 ghost use Rattle.jass_base.specs.Outside.{Rose, IsMissing};
-ghost use Rattle.ciff_read.specs.Window.{Shows, IsAt, StaysShown, ReachesTold};
+ghost use Rattle.ciff_read.specs.Private.Window.{Shows, IsAt, StaysShown, ReachesTold};
 
 use jass_base::{Cabinet, ReadStop};
 use std::alloc::Global;

@@ -1,21 +1,7 @@
 -- A Collection keeps the limits of the format where its file does.
-use Rattle.std.proofs.Common.{◌≡◌, ◌≢◌, ℕ, ◌<◌, List, [], ◌∷◌, length, map, get_or, refl, sym, ap, subst, ◌∙◌, arith}
-use Rattle.std.specs.Prelude.{All, AllPairs}
-use Rattle.std.proofs.lemmas.Str.{IsUtf8-from_is_utf8}
-use Rattle.std.proofs.lemmas.List.{length-map, get_or-map}
-use Rattle.std.proofs.lemmas.List.Elements.{All-map}
-use Rattle.std.proofs.lemmas.Map.Made.{IsDistinct-from_AllPairs}
-use Rattle.std.proofs.lemmas.Slice.Eq.{bytes_eq-Decides}
-use Rattle.jass_base.specs.declared.postings_list.PostingsList.{PostingsList}
-use Rattle.jass_base.specs.declared.doc_record.DocRecord.{DocRecord}
-use Rattle.jass_base.specs.declared.collection.Collection.{Collection}
-use Rattle.jass_base.specs.Lists.{HasDocsBelow, DifferInTerm}
-use Rattle.jass_base.specs.Ciff.{ListData, FitsList, FitsDoc}
-use Rattle.jass_base.specs.CiffViews.{list_data, doc_data, collection_data}
+use Rattle.shared_lemmas.proofs.Common.{◌≡◌, ◌≢◌, ℕ, ◌<◌, List, [], ◌∷◌, length, map, get_or, refl, sym, ap, subst, ◌∙◌, arith, All, AllPairs, IsUtf8-from_is_utf8, length-map, get_or-map, All-map, IsDistinct-from_AllPairs, bytes_eq-Decides}
+use Rattle.ciff_write.proofs.Below.{PostingsList, DocRecord, Collection, DifferInTerm, ListData, FitsList, FitsDoc, list_data, doc_data, collection_data, list_fits}
 use Rattle.ciff_write.specs.Keeping.{KeepsLimits, IsWithinFile}
-
-list_fits : (docs : ℕ) (l : PostingsList) → HasDocsBelow docs l → FitsList docs (list_data l)
-list_fits docs l below = record { text = IsUtf8-from_is_utf8 l.term l.term_is_text; short = l.term_fits; df = l.df_in_range; cf = l.cf_in_range; rising = l.rising; tf = l.tf_in_range; below = below }
 
 doc_fits : (d : DocRecord) → FitsDoc (doc_data d)
 doc_fits d = record { text = IsUtf8-from_is_utf8 d.name d.name_is_text; name = d.name_fits; length = d.length_in_range }

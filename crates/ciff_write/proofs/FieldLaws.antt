@@ -1,12 +1,6 @@
 -- The fields that canonical spellings of values stand for: those of rising numbers, without the ones that are absent.
-use Rattle.std.proofs.Common.{◌≡◌, ◌≢◌, ℕ, ◌+◌, ◌*◌, ◌^◌, ◌<◌, ◌≤◌, Bool, true, false, List, [], ◌∷◌, ◌++◌, length, replicate, refl, sym, ap, subst, ◌∙◌, arith}
-use Rattle.std.specs.Prelude.{◌==◌, ◌&&◌, nat_lt, if◌then◌else◌, fold, ⊤}
-use Rattle.std.specs.List.{AllByRecursion, list_all, flat_map}
-use Rattle.std.proofs.lemmas.Bool.Decides.{nat_tests}
-use Rattle.std.proofs.lemmas.List.Sums.{fold-append}
-use Rattle.jass_base.specs.Wire.{WireField, WireValue, Number, Eight, Text, Four, IsVarint, IsField, AreFields, number_in, text_in, eight_in, texts_in, short_varint}
-use Rattle.jass_base.specs.CiffText.{sized, number_spelling, eight_spelling, text_spelling}
-use Rattle.std.proofs.lemmas.Bool.{and_parts}
+use Rattle.shared_lemmas.proofs.Common.{◌≡◌, ◌≢◌, ℕ, ◌+◌, ◌*◌, ◌^◌, ◌<◌, ◌≤◌, Bool, true, false, List, [], ◌∷◌, ◌++◌, length, replicate, refl, sym, ap, subst, ◌∙◌, arith, ◌==◌, ◌&&◌, nat_lt, if◌then◌else◌, fold, ⊤, AllByRecursion, list_all, flat_map, nat_tests, fold-append, and_parts}
+use Rattle.ciff_write.proofs.Below.{WireField, WireValue, Number, Eight, Text, Four, IsVarint, IsField, AreFields, number_in, text_in, eight_in, texts_in, short_varint, sized, number_spelling, eight_spelling, text_spelling}
 use Rattle.ciff_write.proofs.VarintLaws.{short_is_varint}
 
 -- a value that is spelled by nothing

@@ -1,19 +1,10 @@
 -- Fields whose tag is one byte.
-use Rattle.std.proofs.Common.{◌≡◌, ◌≢◌, ℕ, suc, ◌+◌, ◌*◌, ◌<◌, ◌≤◌, false, List, [], ◌∷◌, ◌++◌, length, map, drop, get_or, refl, sym, ap, ◌∙◌, append_assoc, drop-cons, add-one, length-append, arith}
-use Rattle.std.specs.Prelude.{◌==◌, nat_le}
+use Rattle.shared_lemmas.proofs.Common.{◌≡◌, ◌≢◌, ℕ, suc, ◌+◌, ◌*◌, ◌<◌, ◌≤◌, false, List, [], ◌∷◌, ◌++◌, length, map, drop, get_or, refl, sym, ap, ◌∙◌, append_assoc, drop-cons, add-one, arith, ◌==◌, nat_le, nat_tests, list_all, flat_map, length-map}
+use Rattle.std.proofs.Common.{length-append}
 use mir.Val.{bool_byte}
-use Rattle.std.proofs.lemmas.Bool.Decides.{nat_tests}
-use Rattle.jass_base.specs.Wire.{short_varint}
-use Rattle.std.specs.List.{list_all, flat_map}
-use Rattle.std.proofs.lemmas.List.{length-map}
-use Rattle.jass_base.specs.declared.posting.Posting.{Posting}
-use Rattle.jass_base.specs.declared.postings_list.PostingsList.{PostingsList}
-use Rattle.jass_base.specs.declared.doc_record.DocRecord.{DocRecord}
-use Rattle.jass_base.specs.declared.collection.Collection.{Collection}
-use Rattle.jass_base.specs.Ciff.{HeaderData, ListData, DocData}
-use Rattle.jass_base.specs.CiffViews.{header_data, list_data, doc_data, collection_data}
-use Rattle.jass_base.specs.CiffText.{sized, number_spelling, text_spelling, eight_spelling, postings_spelling, header_body, list_body, doc_body, docs_spelling, canonical_ciff}
-use Rattle.jass_base.proofs.GapGroups.{one_group_written}
+use Rattle.ciff_write.proofs.Below.{short_varint, Posting, PostingsList, DocRecord, Collection, HeaderData, ListData, DocData, header_data, list_data, doc_data, collection_data, sized, number_spelling, text_spelling, eight_spelling, postings_spelling, header_body, list_body, doc_body}
+use Rattle.ciff_write.proofs.Below.{docs_spelling, one_group_written}
+use Rattle.jass_base.specs.CiffText.{canonical_ciff}
 use Rattle.ciff_write.proofs.Varints.{few_groups}
 
 pub number_some : (i n : ℕ) → n ≢ 0 → i < 16 → number_spelling i n ≡ (i * 8) ∷ short_varint n

@@ -1,13 +1,10 @@
 -- The canonical file of a collection that keeps the limits stands for it.
-use Rattle.std.proofs.Common.{◌≡◌, ℕ, suc, ◌+◌, ◌*◌, ◌^◌, ◌<◌, ◌≤◌, Bool, true, false, List, [], ◌∷◌, ◌++◌, length, refl, sym, ap, subst, ◌∙◌, append_assoc, length-append, arith, Some}
-use Rattle.std.specs.Prelude.{◌==◌, if◌then◌else◌, nat_eq, slice_get}
-use Rattle.std.specs.List.{AllByRecursion, AllZip, IsDistinct, flat_map}
-use Rattle.std.proofs.lemmas.Bool.Decides.{nat_tests}
-use Rattle.std.proofs.lemmas.List.Elements.{recursion_from_All}
-use Rattle.std.proofs.lemmas.Grind.{flat_map-append}
-use Rattle.jass_base.specs.Wire.{IsSized, Spells, short_varint}
-use Rattle.jass_base.specs.Ciff.{ListData, DocData, CollectionData, IsCiff, IsHeader, IsList, IsDocAmong, FitsList, FitsDoc}
-use Rattle.jass_base.specs.CiffText.{sized, text_spelling, header_body, list_body, doc_body, docs_spelling, canonical_ciff}
+use Rattle.shared_lemmas.proofs.Common.{◌≡◌, ℕ, suc, ◌+◌, ◌*◌, ◌^◌, ◌<◌, ◌≤◌, Bool, true, false, List, [], ◌∷◌, ◌++◌, length, refl, sym, ap, subst, ◌∙◌, append_assoc, arith, Some, ◌==◌, if◌then◌else◌, nat_eq, slice_get, AllByRecursion, AllZip, flat_map, nat_tests, recursion_from_All}
+use Rattle.shared_lemmas.proofs.Common.{flat_map-append}
+use Rattle.std.proofs.Common.{length-append}
+use Rattle.std.specs.List.{IsDistinct}
+use Rattle.ciff_write.proofs.Below.{IsSized, Spells, short_varint, ListData, DocData, CollectionData, IsCiff, IsHeader, IsList, IsDocAmong, FitsList, FitsDoc, sized, text_spelling, header_body, list_body, doc_body, docs_spelling}
+use Rattle.jass_base.specs.CiffText.{canonical_ciff}
 use Rattle.ciff_write.specs.Keeping.{KeepsLimits}
 use Rattle.ciff_write.proofs.VarintLaws.{short_is_varint}
 use Rattle.ciff_write.proofs.MessageLaws.{header_stands, doc_stands}

@@ -1,3 +1,4 @@
+mod Below
 pub mod Collections
 pub mod FieldLaws
 pub mod Fields

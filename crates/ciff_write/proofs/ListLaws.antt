@@ -1,17 +1,10 @@
 -- The canonical body of a postings list stands for it.
-use Rattle.std.proofs.Common.{◌≡◌, ◌≢◌, ℕ, suc, ◌+◌, ◌-◌, ◌*◌, ◌^◌, ◌<◌, ◌≤◌, Bool, true, false, List, [], ◌∷◌, ◌++◌, length, get_or, refl, sym, ap, subst, ◌∙◌, append_assoc, append-nil, length-append, add-one, arith}
-use Rattle.std.specs.Prelude.{◌==◌, if◌then◌else◌}
-use Rattle.std.specs.List.{AllByRecursion, flat_map}
-use Rattle.std.specs.List.Sorted.{IsStrictlyIncreasing}
-use Rattle.std.proofs.lemmas.List.Elements.{recursion_from_All}
-use Rattle.std.proofs.lemmas.Grind.{flat_map-append}
-use Rattle.jass_base.specs.declared.posting.Posting.{Posting}
-use Rattle.jass_base.specs.Postings.{docs_of, HasTfInRange}
-use Rattle.jass_base.specs.Wire.{WireField, Number, Text, AreFields, number_in, text_in, texts_in, number_field, texts_field, short_varint}
-use Rattle.jass_base.specs.Ciff.{ListData, IsPosting, ArePostings, IsList, FitsList}
-use Rattle.jass_base.specs.CiffText.{sized, number_spelling, text_spelling, posting_body, postings_spelling, list_body}
-use Rattle.ciff_read.proofs.FileLaws.{spells-append}
-use Rattle.ciff_write.proofs.VarintLaws.{short_is_varint, varint_few}
+use Rattle.shared_lemmas.proofs.Common.{◌≡◌, ◌≢◌, ℕ, suc, ◌+◌, ◌-◌, ◌*◌, ◌^◌, ◌<◌, ◌≤◌, Bool, true, false, List, [], ◌∷◌, ◌++◌, length, get_or, refl, sym, ap, subst, ◌∙◌, append_assoc, append-nil, add-one, arith, ◌==◌, if◌then◌else◌, AllByRecursion, flat_map, IsStrictlyIncreasing}
+use Rattle.shared_lemmas.proofs.Common.{recursion_from_All, flat_map-append}
+use Rattle.std.proofs.Common.{length-append}
+use Rattle.ciff_write.proofs.Below.{Posting, docs_of, HasTfInRange, WireField, Number, Text, AreFields, number_in, text_in, texts_in, number_field, texts_field, short_varint, ListData, IsPosting, ArePostings, IsList, FitsList, sized, number_spelling, text_spelling, posting_body, postings_spelling}
+use Rattle.ciff_write.proofs.Below.{list_body, spells-append, short_size}
+use Rattle.ciff_write.proofs.VarintLaws.{short_is_varint}
 use Rattle.ciff_write.proofs.FieldLaws.{IsEntry, present, field_spelling, table_spelled, kept, kept_before, present_all, texts_skipped, absent_number, absent_text}
 use Rattle.ciff_write.proofs.MessageLaws.{field, entry}
 
@@ -48,7 +41,7 @@ number_few i n = go (n == 0)
   where
     go : (b : Bool) → length (if b then [] else short_varint (i * 8) ++ short_varint n) ≤ 20
     go true = omega arith
-    go false = omega (arith, length-append (short_varint (i * 8)) (short_varint n), varint_few (i * 8), varint_few n)
+    go false = omega (arith, length-append (short_varint (i * 8)) (short_varint n), short_size (i * 8), short_size n)
 
 posting_few : (last : ℕ) (p : Posting) → length (posting_body last p) < 2 ^ 64
 posting_few last p = omega (arith, length-append (number_spelling 1 (p.doc - last)) (number_spelling 2 p.tf), number_few 1 (p.doc - last), number_few 2 p.tf)

@@ -1,9 +1,6 @@
 -- The canonical bodies of a header and of a document stand for them.
-use Rattle.std.proofs.Common.{◌≡◌, ℕ, ◌^◌, ◌<◌, ◌≤◌, List, [], ◌∷◌, ◌++◌, length, replicate, refl, sym, subst, append_assoc, append-nil, arith}
-use Rattle.std.specs.List.{AllByRecursion, flat_map}
-use Rattle.jass_base.specs.Wire.{WireField, WireValue, Number, Eight, Text, AreFields, number_in, text_in, eight_in, number_field, text_field, eight_field}
-use Rattle.jass_base.specs.Ciff.{HeaderData, DocData, IsHeader, IsDoc, FitsHeader, FitsDoc}
-use Rattle.jass_base.specs.CiffText.{number_spelling, eight_spelling, text_spelling, header_body, doc_body}
+use Rattle.shared_lemmas.proofs.Common.{◌≡◌, ℕ, ◌^◌, ◌<◌, ◌≤◌, List, [], ◌∷◌, ◌++◌, length, replicate, refl, sym, subst, append_assoc, append-nil, arith, AllByRecursion, flat_map}
+use Rattle.ciff_write.proofs.Below.{WireField, WireValue, Number, Eight, Text, AreFields, number_in, text_in, eight_in, number_field, text_field, eight_field, HeaderData, DocData, IsHeader, IsDoc, FitsHeader, FitsDoc, number_spelling, eight_spelling, text_spelling, header_body, doc_body}
 use Rattle.ciff_write.proofs.FieldLaws.{IsEntry, CanStand, present, field_spelling, table_spelled, kept, absent_number, absent_text, absent_eight}
 
 abbrev pub field : ℕ → WireValue → WireField

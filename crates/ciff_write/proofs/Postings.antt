@@ -1,16 +1,8 @@
 -- The postings of a list from a place on.
-use Rattle.std.proofs.Common.{◌≡◌, ℕ, ◌+◌, ◌<◌, ◌≤◌, ◌^◌, List, ◌++◌, length, drop, get_or, sym, ap, ◌∙◌, drop-cons, add-one, length-append, arith}
-use Rattle.std.specs.List.Sorted.{IsStrictlyIncreasing}
-use Rattle.std.specs.Prelude.{All}
-use Rattle.std.proofs.lemmas.List.{length-map, get_or-map}
-use Rattle.jass_base.specs.declared.posting.Posting.{Posting}
-use Rattle.jass_base.specs.declared.postings_list.PostingsList.{PostingsList}
-use Rattle.jass_base.specs.Lists.{HasDocsBelow}
-use Rattle.jass_base.specs.Postings.{docs_of}
-use Rattle.jass_base.specs.Wire.{short_varint}
-use Rattle.jass_base.specs.CiffText.{sized, posting_body, postings_spelling}
+use Rattle.shared_lemmas.proofs.Common.{◌≡◌, ℕ, ◌+◌, ◌<◌, ◌≤◌, ◌^◌, List, ◌++◌, length, drop, get_or, sym, ap, ◌∙◌, drop-cons, add-one, arith, All, IsStrictlyIncreasing, length-map, get_or-map}
+use Rattle.std.proofs.Common.{length-append}
+use Rattle.ciff_write.proofs.Below.{Posting, PostingsList, HasDocsBelow, docs_of, short_varint, sized, posting_body, postings_spelling, one_group_written}
 use Rattle.shared_lemmas.proofs.Rising.{few_below}
-use Rattle.jass_base.proofs.GapGroups.{one_group_written}
 
 -- the posting at a place, and those behind it
 pub postings_next : (last : ℕ) (ps : List Posting) (i : ℕ) (d : Posting) → i < length ps → postings_spelling last (drop i ps) ≡ (short_varint 34 ++ sized (posting_body last (get_or ps i d))) ++ postings_spelling (get_or ps i d).doc (drop (i + 1) ps)

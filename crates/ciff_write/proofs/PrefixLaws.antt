@@ -1,11 +1,7 @@
 -- A canonical file begins no other one.
 use Rattle.std.proofs.Common.{◌≡◌, ℕ, ◌+◌, ◌≤◌, List, [], ◌∷◌, ◌++◌, length, Result, Ok, refl, sym, ap, subst, ◌∙◌, append_assoc, append-nil, length-append, arith}
 use Rattle.std.specs.List.{flat_map}
-use Rattle.jass_base.specs.Wire.{WireField, IsField, AreFields, number_field}
-use Rattle.jass_base.specs.Ciff.{CollectionData, IsCiff, IsHeader}
-use Rattle.jass_base.specs.CiffText.{sized, canonical_ciff}
-use Rattle.wire_fields.specs.declared.fault.WireWhy.{WireWhy}
-use Rattle.wire_fields.specs.Reading.{field_at}
+use Rattle.ciff_write.proofs.Below.{WireField, IsField, AreFields, number_field, CollectionData, IsCiff, IsHeader, sized, canonical_ciff, WireWhy, field_at}
 use Rattle.ciff_write.specs.Keeping.{KeepsLimits}
 use Rattle.ciff_write.proofs.VarintLaws.{groups_some, same_sized}
 use Rattle.ciff_write.proofs.FileLaws.{header_of_file, bodies_of, list_bodies, doc_bodies, list_bodies_long, doc_bodies_long, file_messages, file_header, file_stands}

@@ -1,11 +1,8 @@
 -- The shortest varint of a number is a varint of it, and no other one begins like it.
-use Rattle.std.proofs.Common.{◌≡◌, ℕ, zero, suc, ◌+◌, ◌^◌, ◌%◌, ◌/◌, ◌<◌, ◌≤◌, Bool, true, false, List, [], ◌∷◌, ◌++◌, length, take, drop, refl, sym, ap, subst, ◌∙◌, append_assoc, arith}
-use Rattle.std.specs.Prelude.{nat_lt}
-use Rattle.std.proofs.lemmas.List.{take_at, drop_at}
-use Rattle.jass_base.specs.Wire.{groups_value, AreGroups, IsVarint, short_varint_within, short_varint}
-use Rattle.jass_base.specs.CiffText.{sized}
-use Rattle.std.proofs.lemmas.Bool.{ltb-true, ltb-false}
-use Rattle.ciff_write.proofs.Varints.{Fits, fits_less, last_group, more_groups}
+use Rattle.shared_lemmas.proofs.Common.{◌≡◌, ℕ, zero, suc, ◌+◌, ◌^◌, ◌%◌, ◌/◌, ◌<◌, ◌≤◌, Bool, true, false, List, [], ◌∷◌, ◌++◌, length, take, drop, refl, sym, ap, subst, ◌∙◌, append_assoc, arith, nat_lt, take_at, drop_at, ltb-true, ltb-false}
+use Rattle.ciff_write.proofs.Below.{groups_value, AreGroups, IsVarint, short_varint_within, sized, last_group, more_groups}
+use Rattle.jass_base.specs.Wire.{short_varint}
+use Rattle.ciff_write.proofs.Varints.{Fits, fits_less}
 
 -- groups of a number, at most so many
 record Groups (most n : ℕ) (s : List ℕ) : Type 0 where
@@ -43,18 +40,6 @@ unfolding short_varint
 short_is_varint n fits =
     let all : Groups 10 n (short_varint_within 9 n) = groups_within 9 n fits in
     record { groups = all.groups; short = all.short; value = all.value; fits = fits }
-
-few_within : (k n : ℕ) → length (short_varint_within k n) ≤ suc k
-few_within zero n = omega arith
-few_within (suc k) n = go (nat_lt n 128) refl (few_within k (n / 128))
-  where
-    go : (b : Bool) → nat_lt n 128 ≡ b → length (short_varint_within k (n / 128)) ≤ suc k → length (short_varint_within (suc k) n) ≤ suc (suc k)
-    go true is more = let all : length (short_varint_within (suc k) n) ≡ 1 = ap length (last_group (suc k) n (ltb-true n 128 is)) in omega (arith, all)
-    go false is more = let all : length (short_varint_within (suc k) n) ≡ suc (length (short_varint_within k (n / 128))) = ap length (more_groups k n (ltb-false n 128 is)) in omega (arith, all, more)
-
-pub varint_few : (n : ℕ) → length (short_varint n) ≤ 10
-unfolding short_varint
-varint_few n = few_within 9 n
 
 -- ---- beginnings
 

@@ -1,12 +1,9 @@
 -- A shortest varint that is spelled, or counted, group by group.
-use Rattle.std.proofs.Common.{◌≡◌, ℕ, zero, suc, ◌+◌, ◌*◌, ◌^◌, ◌%◌, ◌/◌, ◌<◌, ◌≤◌, Bool, true, false, List, [], ◌∷◌, ◌++◌, length, refl, sym, ap, ◌∙◌, append_assoc, length-append, arith}
-use Rattle.std.specs.Prelude.{nat_lt, nat_le}
+use Rattle.shared_lemmas.proofs.Common.{◌≡◌, ℕ, zero, suc, ◌+◌, ◌*◌, ◌^◌, ◌%◌, ◌/◌, ◌<◌, ◌≤◌, Bool, true, false, List, [], ◌∷◌, ◌++◌, length, refl, sym, ap, ◌∙◌, append_assoc, arith, nat_le, pow-suc, leb-false, leb-true}
+use Rattle.std.proofs.Common.{length-append}
 use mir.Val.{bool_byte}
-use Rattle.std.proofs.lemmas.Bool.Decides.{nat_tests}
-use Rattle.std.proofs.Math.Nat.{pow-suc}
-use Rattle.jass_base.specs.Wire.{short_varint_within, short_varint}
-use Rattle.jass_base.proofs.GapGroups.{one_group_written}
-use Rattle.std.proofs.lemmas.Bool.{leb-false, leb-true}
+use Rattle.ciff_write.proofs.Below.{short_varint_within, one_group_written, last_group, more_groups}
+use Rattle.jass_base.specs.Wire.{short_varint}
 
 -- a number below the greatest that k groups behind the first may hold
 abbrev pub Fits : ℕ → ℕ → Type 0
@@ -14,13 +11,6 @@ Fits k n = n < 2 * 128 ^ k
 
 pub fits_less : (k n : ℕ) → Fits (suc k) n → Fits k (n / 128)
 fits_less k n fits = let p : 128 ^ suc k ≡ 128 ^ k * 128 = pow-suc 128 k in grind arith
-
-pub last_group : (k n : ℕ) → n < 128 → short_varint_within k n ≡ n ∷ []
-last_group zero n small = refl
-last_group (suc k) n small = let low : nat_lt n 128 ≡ true = grind (arith, nat_tests) in rw low refl
-
-pub more_groups : (k n : ℕ) → 128 ≤ n → short_varint_within (suc k) n ≡ (n % 128 + 128) ∷ short_varint_within k (n / 128)
-more_groups k n large = let high : nat_lt n 128 ≡ false = grind (arith, nat_tests) in rw high refl
 
 -- the groups in `now` behind `start`, and those of what is left, are the varint of the value
 abbrev pub Spelled : List ℕ → List ℕ → ℕ → ℕ → Type 0

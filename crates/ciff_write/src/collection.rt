@@ -1,4 +1,3 @@
-ghost use Rattle.std.specs.Prelude.{[]};
 ghost use Rattle.jass_base.specs.Outside.{Wrote};
 ghost use Rattle.jass_base.specs.CiffText.{canonical_ciff};
 ghost use Rattle.jass_base.specs.CiffViews.{collection_data};

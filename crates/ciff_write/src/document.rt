@@ -1,4 +1,4 @@
-ghost use Rattle.std.specs.Prelude.{◌≡◌, ◌≤◌, ◌^◌, ◌++◌, length, map};
+ghost use Rattle.std.specs.Prelude.{◌≡◌, length, map};
 ghost use Rattle.jass_base.specs.CiffText.{sized, doc_body, docs_spelling};
 ghost use Rattle.jass_base.specs.CiffViews.{doc_data};
 ghost use Rattle.gathered_text.specs.Gathering.{Gathers};

@@ -3,6 +3,7 @@ ghost use Rattle.std.specs.List.{list_all};
 ghost use Rattle.jass_base.specs.CiffText.{sized, number_spelling, eight_spelling, header_body};
 ghost use Rattle.jass_base.specs.CiffViews.{header_data};
 ghost use Rattle.gathered_text.specs.Gathering.{Gathers};
+ghost use Rattle.gathered_text.specs.declared.buffer.TheConstants.{ROOM};
 
 use crate::gather::{put_size, put_text};
 use crate::lengths::{number_len, text_len};
@@ -70,7 +71,7 @@ fn average_len(average: &[u8; 8]) -> u8
 
 /// Puts the numbers of a header.
 fn push_numbers(buffer: &mut Buffer, header: &Header, lists: u64, docs: u64)
-    requires { length buffer.old + 66 ≤ 65536 }
+    requires { length buffer.old + 66 ≤ ROOM }
     ensures bytes { buffer.new ≡ buffer.old
         ++ (number_spelling 1 header.now.version ++ number_spelling 2 lists ++ number_spelling 3 docs
         ++ number_spelling 4 header.now.total_lists ++ number_spelling 5 header.now.total_docs
@@ -87,7 +88,7 @@ fn push_numbers(buffer: &mut Buffer, header: &Header, lists: u64, docs: u64)
 
 /// Puts the average length, or nothing for eight zeros.
 fn push_average(buffer: &mut Buffer, average: &[u8; 8])
-    requires { length buffer.old + 9 ≤ 65536 }
+    requires { length buffer.old + 9 ≤ ROOM }
     ensures { buffer.new ≡ buffer.old ++ eight_spelling 7 average.now }
 {
     if !is_zero(average) {

@@ -3,6 +3,7 @@
 ghost use Rattle.std.specs.Prelude.{◌≡◌, ◌+◌, ◌*◌, ◌≤◌, ◌<◌, ◌++◌, length};
 ghost use Rattle.jass_base.specs.Wire.{short_varint};
 ghost use Rattle.jass_base.specs.CiffText.{sized, number_spelling};
+ghost use Rattle.gathered_text.specs.declared.buffer.TheConstants.{ROOM};
 
 use crate::lengths::any_posting_len;
 use gathered_text::Buffer;
@@ -27,7 +28,7 @@ const TF: u8 = 16;
 
 /// Puts the shortest varint of a number.
 pub fn push_varint(buffer: &mut Buffer, value: u64)
-    requires { length buffer.old + 10 ≤ 65536 }
+    requires { length buffer.old + 10 ≤ ROOM }
     ensures bytes { buffer.new ≡ buffer.old ++ short_varint value }
     ensures few { length buffer.new ≤ length buffer.old + 10 }
 {
@@ -41,7 +42,7 @@ pub fn push_varint(buffer: &mut Buffer, value: u64)
 
 /// Puts the field of a number, or nothing for 0.
 pub fn push_number(buffer: &mut Buffer, field: u8, value: u64)
-    requires room { length buffer.old + 11 ≤ 65536 }
+    requires room { length buffer.old + 11 ≤ ROOM }
     requires field { field < 16 }
     ensures bytes { buffer.new ≡ buffer.old ++ number_spelling field value }
     ensures few { length buffer.new ≤ length buffer.old + 11 }
@@ -56,7 +57,7 @@ pub fn push_number(buffer: &mut Buffer, field: u8, value: u64)
 /// nearly all tf one.
 #[inline(always)]
 pub fn push_posting(buffer: &mut Buffer, gap: u32, tf: u32)
-    requires { length buffer.old + 24 ≤ 65536 }
+    requires { length buffer.old + 24 ≤ ROOM }
     ensures { buffer.new ≡ buffer.old ++ (short_varint (4 * 8 + 2)
         ++ sized (number_spelling 1 gap ++ number_spelling 2 tf)) }
 {
@@ -80,7 +81,7 @@ pub fn push_posting(buffer: &mut Buffer, gap: u32, tf: u32)
 
 /// Puts the field of a posting of any numbers.
 fn push_any_posting(buffer: &mut Buffer, gap: u32, tf: u32)
-    requires { length buffer.old + 24 ≤ 65536 }
+    requires { length buffer.old + 24 ≤ ROOM }
     ensures { buffer.new ≡ buffer.old ++ (short_varint (4 * 8 + 2)
         ++ sized (number_spelling 1 gap ++ number_spelling 2 tf)) }
 {

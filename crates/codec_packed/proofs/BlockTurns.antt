@@ -1,6 +1,5 @@
 -- One block more, of documents that are written.
-use Rattle.std.proofs.Common.{◌≡◌, ℕ, zero, suc, ◌+◌, ◌-◌, ◌*◌, ◌/◌, ◌<◌, ◌≤◌, List, [], ◌∷◌, ◌++◌, length, get_or, take, drop, refl, sym, ap, ◌∙◌, append_assoc, arith, subst}
-use Rattle.std.proofs.lemmas.List.{length-take-le, length-drop, length-append, take_rest, get_or-take, get_or-drop, drop-drop}
+use Rattle.shared_lemmas.proofs.Common.{◌≡◌, ℕ, zero, suc, ◌+◌, ◌-◌, ◌*◌, ◌/◌, ◌<◌, ◌≤◌, List, [], ◌∷◌, ◌++◌, length, get_or, take, drop, refl, sym, ap, ◌∙◌, append_assoc, arith, subst, length-take-le, length-drop, length-append, take_rest, get_or-take, get_or-drop, drop-drop}
 use Rattle.jass_base.specs.Gaps.{gaps_from, spelled_gaps}
 use Rattle.lane_kernels.specs.Width.{least_width}
 use Rattle.codec_packed.specs.Giving.{AreFrom}

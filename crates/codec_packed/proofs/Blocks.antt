@@ -1,8 +1,6 @@
 -- A block that is read is the block of its gaps, and each block is read.
-use Rattle.std.proofs.Common.{◌≡◌, ℕ, suc, ◌+◌, ◌*◌, ◌^◌, ◌<◌, ◌≤◌, Bool, true, false, cond, List, [], ◌∷◌, ◌++◌, length, take, drop, All, Result, Ok, Err, refl, sym, ap, ◌∙◌, eqb-true, arith, subst}
-use Rattle.std.specs.Prelude.{nat_lt, ◌==◌}
-use Rattle.std.proofs.lemmas.Bool.{le-ltb, ltb-false}
-use Rattle.std.proofs.lemmas.List.{get_or-take, get_or-drop, length-drop, length-take, length-append, length-take-le, take-append-drop, take_at}
+use Rattle.shared_lemmas.proofs.Common.{◌≡◌, ℕ, suc, ◌+◌, ◌*◌, ◌^◌, ◌<◌, ◌≤◌, Bool, true, false, cond, List, [], ◌∷◌, ◌++◌, length, take, drop, All, Result, Ok, Err, refl, sym, ap, ◌∙◌, eqb-true, arith, subst, nat_lt, ◌==◌, le-ltb, ltb-false, get_or-take, get_or-drop, length-drop, length-take}
+use Rattle.shared_lemmas.proofs.Common.{length-append, length-take-le, take-append-drop, take_at}
 use Rattle.shared_lemmas.proofs.Numbers.{number_itself}
 use Rattle.jass_base.specs.declared.payload_fault.PayloadFault.{PayloadFault}
 use Rattle.jass_base.specs.declared.payload_fault.PayloadFault.TheVariants.{Cut, Shape}
@@ -48,14 +46,10 @@ all_tail : (b : ℕ) (bytes : List ℕ) → All (λ byte. byte < 256) (b ∷ byt
 all_tail b bytes small k d l = small (suc k) d (omega arith)
 
 all_front : (n : ℕ) (bytes : List ℕ) → All (λ byte. byte < 256) bytes → All (λ byte. byte < 256) (take n bytes)
-all_front n bytes small k d l =
-    let size = length-take n bytes in
-    rw (get_or-take n bytes k d (omega (arith, size, l))) (small k d (omega (arith, size, l)))
+all_front n bytes small k d l = let size = length-take n bytes in rw (get_or-take n bytes k d (omega (arith, size, l))) (small k d (omega (arith, size, l)))
 
 pub all_rest : (n : ℕ) (bytes : List ℕ) → All (λ byte. byte < 256) bytes → All (λ byte. byte < 256) (drop n bytes)
-all_rest n bytes small k d l =
-    let size = length-drop n bytes in
-    rw (get_or-drop n bytes k d) (small (n + k) d (omega (arith, size, l)))
+all_rest n bytes small k d l = let size = length-drop n bytes in rw (get_or-drop n bytes k d) (small (n + k) d (omega (arith, size, l)))
 
 -- a block that was read, in front of what is left
 pub record StandsBlock (bytes gaps : List ℕ) (size : ℕ) : Type 0 where

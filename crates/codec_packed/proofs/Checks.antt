@@ -1,17 +1,13 @@
 -- What a check says, gap by gap and block by block.
-use Rattle.std.proofs.Common.{◌≡◌, ℕ, suc, ◌+◌, ◌-◌, ◌<◌, ◌≤◌, Bool, true, false, cond, nat_lt, List, [], ◌∷◌, ◌++◌, length, drop, sum, Result, Ok, Err, inl, inr, refl, sym, subst, ap, ◌∙◌, arith}
-use Rattle.std.specs.Prelude.{◌==◌, ◌↔◌, IsTrue}
-use Rattle.std.specs.List.{list_all}
-use Rattle.std.proofs.lemmas.Bool.{cases_lt, lt-ltb, le-ltb, cases_Bool}
-use Rattle.std.proofs.lemmas.Bool.Decides.{nat_tests}
-use Rattle.std.proofs.lemmas.List.{drop-drop}
-use Rattle.jass_base.specs.Gaps.{◌>>=◌, GapSpelling, Judges, docs_from, gap_in, read_gaps}
+use Rattle.shared_lemmas.proofs.Common.{◌≡◌, ℕ, suc, ◌+◌, ◌-◌, ◌<◌, ◌≤◌, Bool, true, false, cond, nat_lt, List, [], ◌∷◌, ◌++◌, length, drop, sum, Result, Ok, Err, inl, inr, refl, sym, subst, ap, ◌∙◌, arith, ◌==◌, ◌↔◌, IsTrue, list_all, cases_lt, lt-ltb, le-ltb, cases_Bool, nat_tests, drop-drop}
+use Rattle.jass_base.specs.Gaps.{◌>>=◌, Judges, docs_from, gap_in, read_gaps}
 use Rattle.jass_base.specs.declared.payload_fault.PayloadFault.{PayloadFault}
 use Rattle.jass_base.specs.declared.payload_fault.PayloadFault.TheVariants.{Longer, DocRange}
 use Rattle.codec_packed.specs.Reading.{block_in, read_blocks}
 use Rattle.codec_packed.specs.Private.Steps.{ChecksBlock, verdict}
 use Rattle.codec_packed.proofs.Blocks.{read_as}
 use Rattle.codec_packed.proofs.Docs.{behind_gaps, behind_le, gaps_fit, gaps_tested, tests_from}
+use Rattle.jass_base.proofs.GapSpelling.{spelled}
 
 abbrev pub Read : Type 0
 Read = Result (List ℕ) PayloadFault
@@ -30,16 +26,14 @@ judged (Ok docs) result is = rw is refl
 judged (Err fault) result is = is
 
 -- ---- gap by gap
-abbrev pub gap_as : ℕ → ℕ → Result GapSpelling PayloadFault
-gap_as gap size = Ok (record { gap = gap; size = size })
 
 pub gap_fault : (d least n : ℕ) (bytes : List ℕ) (fault : PayloadFault) → gap_in bytes ≡ Err fault → verdict (read_gaps d least (suc n) bytes) ≡ Err fault
 gap_fault d least n bytes fault is = rw is refl
 
-pub gap_far : (d least n : ℕ) (bytes : List ℕ) (gap size : ℕ) → gap_in bytes ≡ gap_as gap size → d ≤ least + gap → verdict (read_gaps d least (suc n) bytes) ≡ Err DocRange
+pub gap_far : (d least n : ℕ) (bytes : List ℕ) (gap size : ℕ) → gap_in bytes ≡ spelled gap size → d ≤ least + gap → verdict (read_gaps d least (suc n) bytes) ≡ Err DocRange
 gap_far d least n bytes gap size is far = rw (is, le-ltb _ _ far) refl
 
-pub gap_read : (d least n : ℕ) (bytes : List ℕ) (gap size : ℕ) → gap_in bytes ≡ gap_as gap size → least + gap < d
+pub gap_read : (d least n : ℕ) (bytes : List ℕ) (gap size : ℕ) → gap_in bytes ≡ spelled gap size → least + gap < d
     → verdict (read_gaps d least (suc n) bytes) ≡ verdict (read_gaps d (least + gap + 1) n (drop size bytes))
 gap_read d least n bytes gap size is near = rw (is, lt-ltb _ _ near) (one_verdict (least + gap) (read_gaps d (least + gap + 1) n (drop size bytes)))
 
@@ -59,7 +53,7 @@ module _ (d next n turn place : ℕ) (bytes : List ℕ) (whole : Result (Unit {0
   pub turn_fault : (fault : PayloadFault) → gap_in (drop place bytes) ≡ Err fault → whole ≡ Err fault
   turn_fault fault f = left ∙ gap_fault d next (n - (turn + 1)) (drop place bytes) fault f
 
-  module _ (gap behind : ℕ) (read : gap_in (drop place bytes) ≡ gap_as gap (behind - place)) where
+  module _ (gap behind : ℕ) (read : gap_in (drop place bytes) ≡ spelled gap (behind - place)) where
     pub turn_far : d - next ≤ gap → whole ≡ Err DocRange
     turn_far far = left ∙ gap_far d next (n - (turn + 1)) (drop place bytes) gap (behind - place) read (omega arith)
 
@@ -120,7 +114,4 @@ checks_fault d least at bytes fault result read is =
     subst (ChecksBlock d bytes at least) (sym is) (λ blocks rest. block_fault d least blocks rest (drop at bytes) fault read)
 
 pub no_room : (x d : ℕ) (fits : Bool) → fits ≡ false → (IsTrue fits ↔ (x < d)) → d ≤ x
-no_room x d fits is room = elim (cases_lt x d) [
-  | inl l ↦ absurd (let t = room.1 l in let f = is in cc)
-  | inr g ↦ g
-]
+no_room x d fits is room = elim (cases_lt x d) [ inl l ↦ absurd (let t = room.1 l in let f = is in cc) | inr g ↦ g ]

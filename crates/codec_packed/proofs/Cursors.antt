@@ -1,10 +1,8 @@
 -- What a cursor gives next.
-use Rattle.std.proofs.Common.{◌≡◌, ℕ, suc, ◌+◌, ◌-◌, ◌*◌, ◌/◌, ◌^◌, ◌<◌, ◌≤◌, List, [], ◌∷◌, ◌++◌, length, get_or, take, drop, sum, set, All, Err, refl, sym, ap, ◌∙◌, arith, subst}
-use Rattle.std.specs.Prelude.{IsOk}
-use Rattle.std.proofs.lemmas.List.{length-take-le, length-drop, length-append, take_at, drop_at, drop_more, take_more, take_more_set, take_all, drop_all, get_or-drop, drop-drop}
+use Rattle.shared_lemmas.proofs.Common.{◌≡◌, ℕ, suc, ◌+◌, ◌-◌, ◌*◌, ◌/◌, ◌^◌, ◌<◌, ◌≤◌, List, [], ◌∷◌, ◌++◌, length, get_or, take, drop, sum, set, All, refl, sym, ap, ◌∙◌, arith, subst, IsOk, length-take-le, length-drop, length-append, take_at, drop_at, drop_more, take_more, take_more_set}
+use Rattle.shared_lemmas.proofs.Common.{take_all, drop_all, get_or-drop, drop-drop}
 use Rattle.jass_base.proofs.Gaps.{length-gaps_from}
-use Rattle.jass_base.specs.Gaps.{GapSpelling, gaps_from, spelled_gaps, gap_in}
-use Rattle.jass_base.specs.declared.payload_fault.PayloadFault.{PayloadFault}
+use Rattle.jass_base.specs.Gaps.{gaps_from, spelled_gaps, gap_in}
 use Rattle.jass_base.specs.Wire.{short_varint}
 use Rattle.lane_kernels.specs.Block.{block_bytes, block_values}
 use Rattle.lane_kernels.specs.Gaps.{running}
@@ -13,9 +11,9 @@ use Rattle.codec_packed.specs.declared.cursor.Cursor.{Cursor}
 use Rattle.codec_packed.specs.Giving.{AreFrom, Gives}
 use Rattle.codec_packed.specs.Packing.{packed_block, packed_gaps}
 use Rattle.codec_packed.specs.Private.Steps.{BlockLaws}
-use Rattle.codec_packed.proofs.Checks.{gap_as}
 use Rattle.codec_packed.proofs.Docs.{behind, behind_gaps, behind_le_some, docs_of_gaps, running_docs, take_gaps, drop_gaps, take_from, drop_from, small_gaps}
 use Rattle.codec_packed.proofs.BlockTurns.{behind_last, narrow}
+use Rattle.jass_base.proofs.GapSpelling.{spelled, GapFound, spelled_same}
 
 -- ---- a full block
 module _ (laws : BlockLaws) (at least left : ℕ) (bytes docs : List ℕ) (gives : Gives (record { at = at; least = least; left = left }) bytes docs) (full : 128 ≤ left) where
@@ -112,18 +110,8 @@ module _ (laws : BlockLaws) (at least left : ℕ) (bytes docs : List ℕ) (gives
         }
 
 -- ---- a gap behind the blocks
-abbrev pub GapLaw : Type 0
-GapLaw = (gap : ℕ) (rest : List ℕ) → gap < 2 ^ 28 → gap_in (short_varint gap ++ rest) ≡ gap_as gap (length (short_varint gap))
 
-abbrev spelling_of : ℕ → ℕ → GapSpelling
-spelling_of gap size = record { gap = gap; size = size }
-
-same_spelling : (gap other size more : ℕ) → gap_as gap size ≡ gap_as other more → (gap ≡ other) × (size ≡ more)
-same_spelling gap other size more is =
-    let e : spelling_of gap size ≡ spelling_of other more = cc in
-    (ap (λ (s : GapSpelling). s.gap) e, ap (λ (s : GapSpelling). s.size) e)
-
-module _ (law : GapLaw) (at least left : ℕ) (bytes docs : List ℕ) (gives : Gives (record { at = at; least = least; left = left }) bytes docs) (few : left < 128) (some : 0 < left) where
+module _ (law : GapFound) (at least left : ℕ) (bytes docs : List ℕ) (gives : Gives (record { at = at; least = least; left = left }) bytes docs) (few : left < 128) (some : 0 < left) where
   abbrev doc : ℕ
   doc = get_or docs 0 0
 
@@ -142,15 +130,15 @@ module _ (law : GapLaw) (at least left : ℕ) (bytes docs : List ℕ) (gives : G
       ∙ ap (λ n. packed_gaps n (gaps_from least docs)) (let e : left / 128 ≡ 0 = omega arith in e)
       ∙ ap (λ (xs : List ℕ). spelled_gaps (gaps_from least xs)) docs_are
 
-  gap_here : gap_in (drop at bytes) ≡ gap_as (doc - least) (length (short_varint (doc - least)))
+  gap_here : gap_in (drop at bytes) ≡ spelled (doc - least) (length (short_varint (doc - least)))
   gap_here = ap gap_in gap_bytes ∙ law (doc - least) (spelled_gaps (gaps_from (doc + 1) rest)) (omega (arith, first.1))
 
   pub gap_stands : IsOk (gap_in (drop at bytes))
   gap_stands = rw gap_here refl
 
-  module _ (gap behind : ℕ) (read : gap_in (drop at bytes) ≡ gap_as gap (behind - at)) (on : at < behind) where
+  module _ (gap behind : ℕ) (read : gap_in (drop at bytes) ≡ spelled gap (behind - at)) (on : at < behind) where
     spelling : (doc - least ≡ gap) × (length (short_varint (doc - least)) ≡ behind - at)
-    spelling = same_spelling _ _ _ _ (sym gap_here ∙ read)
+    spelling = spelled_same _ _ _ _ (sym gap_here ∙ read)
 
     pub doc_is : least + gap ≡ doc
     doc_is = omega (arith, spelling.0, first.0)
@@ -184,8 +172,7 @@ pub gives_dropped : (cursor : Cursor) (i : ℕ) (bytes docs : List ℕ) → Give
 gives_dropped cursor i bytes docs gives = subst (Gives cursor bytes) (drop-drop 1 i docs) gives
 
 pub given_all : (i count : ℕ) (out docs : List ℕ) → i ≡ count → length docs ≡ count → take i out ≡ take i docs → take count out ≡ docs
-given_all i count out docs end many same =
-    ap (λ k. take k out) (sym end) ∙ same ∙ take_all i docs (omega (arith, end, many))
+given_all i count out docs end many same = ap (λ k. take k out) (sym end) ∙ same ∙ take_all i docs (omega (arith, end, many))
 
 pub gives_end : (cursor : Cursor) (i : ℕ) (bytes docs : List ℕ) → length docs ≤ i → Gives cursor bytes (drop i docs) → Gives cursor bytes []
 gives_end cursor i bytes docs past gives = subst (Gives cursor bytes) (drop_all i docs past) gives

@@ -1,14 +1,9 @@
 -- Documents and their gaps, in parts.
-use Rattle.std.proofs.Common.{◌≡◌, ℕ, zero, suc, ◌+◌, ◌-◌, ◌^◌, ◌<◌, ◌≤◌, true, List, [], ◌∷◌, ◌++◌, length, get_or, take, drop, sum, All, refl, sym, ap, arith, subst}
-use Rattle.std.specs.Prelude.{nat_lt, ◌&&◌}
-use Rattle.std.specs.List.{list_all}
-use Rattle.std.specs.List.Sorted.{IsStrictlyIncreasing}
-use Rattle.std.proofs.lemmas.Bool.Decides.{nat_tests}
-use Rattle.std.proofs.lemmas.List.Sums.{sum_by-cons}
-use Rattle.std.proofs.lemmas.Bool.{and_parts}
+use Rattle.shared_lemmas.proofs.Common.{◌≡◌, ℕ, zero, suc, ◌+◌, ◌-◌, ◌^◌, ◌<◌, ◌≤◌, true, List, [], ◌∷◌, ◌++◌, length, get_or, take, drop, sum, All, refl, ap, arith, nat_lt, ◌&&◌, list_all, IsStrictlyIncreasing, nat_tests, sum_by-cons, and_parts}
 use Rattle.jass_base.specs.Gaps.{AreDocs, gaps_from, docs_from}
 use Rattle.lane_kernels.specs.Gaps.{running}
 use Rattle.codec_packed.specs.Giving.{AreFrom}
+use Rattle.jass_base.proofs.Gaps.{RiseFrom, rise_from, rising, from_least, docs_again, gaps_below}
 
 -- the least document that may stand behind these
 abbrev pub behind : ℕ → List ℕ → ℕ
@@ -16,16 +11,17 @@ behind least [] = least
 behind least (doc ∷ docs) = behind (doc + 1) docs
 
 -- ---- documents as a recursion
-next_place : (k : ℕ) → suc k + 1 ≡ suc (k + 1)
-next_place k = omega arith
+
+rise_of : (d least : ℕ) (docs : List ℕ) → AreFrom d least docs → RiseFrom least docs
+rise_of d least [] are = tt
+rise_of d least (doc ∷ docs) are = (are.0, rise_of d (doc + 1) docs are.2)
+
+from_rise : (d least : ℕ) (docs : List ℕ) → RiseFrom least docs → All (λ doc. doc < d) docs → AreFrom d least docs
+from_rise d least [] rise below = tt
+from_rise d least (doc ∷ docs) rise below = (rise.0, below 0 0 (omega arith), from_rise d (doc + 1) docs rise.1 (λ k e l. below (suc k) e (omega arith)))
 
 pub from_rising : (d least : ℕ) (docs : List ℕ) → IsStrictlyIncreasing docs → All (λ doc. doc < d) docs → (0 < length docs → least ≤ get_or docs 0 0) → AreFrom d least docs
-from_rising d least [] up below first = tt
-from_rising d least (doc ∷ docs) up below first = (
-  first (omega arith),
-  below 0 0 (omega arith),
-  from_rising d (doc + 1) docs (λ k l. subst (λ n. get_or (doc ∷ docs) (suc k) 0 < get_or (doc ∷ docs) n 0) (next_place k) (up (suc k) (omega arith))) (λ k e l. below (suc k) e (omega arith)) (λ l. omega (arith, up 0 (omega arith))),
-)
+from_rising d least docs up below first = from_rise d least docs (rise_from least docs up first) below
 
 pub from_docs : (d : ℕ) (docs : List ℕ) → AreDocs d docs → AreFrom d 0 docs
 from_docs d docs are = from_rising d 0 docs are.rising are.below (λ l. omega arith)
@@ -34,15 +30,8 @@ pub from_wider : (d e least : ℕ) (docs : List ℕ) → d ≤ e → AreFrom d l
 from_wider d e least [] le are = tt
 from_wider d e least (doc ∷ docs) le are = (are.0, omega (arith, are.1), from_wider d e (doc + 1) docs le are.2)
 
-first_from : (d least : ℕ) (docs : List ℕ) → AreFrom d least docs → 0 < length docs → least ≤ get_or docs 0 0
-first_from d least [] are some = absurd (omega arith)
-first_from d least (doc ∷ docs) are some = are.0
-
 pub rising_from : (d least : ℕ) (docs : List ℕ) → AreFrom d least docs → IsStrictlyIncreasing docs
-rising_from d least [] are k l = absurd (omega arith)
-rising_from d least (doc ∷ docs) are zero l = omega (arith, first_from d (doc + 1) docs are.2 (omega arith))
-rising_from d least (doc ∷ docs) are (suc k) l =
-    subst (λ n. get_or (doc ∷ docs) (suc k) 0 < get_or (doc ∷ docs) n 0) (sym (next_place k)) (rising_from d (doc + 1) docs are.2 k (omega arith))
+rising_from d least docs are = rising least docs (rise_of d least docs are)
 
 pub below_from : (d least : ℕ) (docs : List ℕ) → AreFrom d least docs → All (λ doc. doc < d) docs
 below_from d least [] are k e l = absurd (omega arith)
@@ -50,19 +39,14 @@ below_from d least (doc ∷ docs) are zero e l = are.1
 below_from d least (doc ∷ docs) are (suc k) e l = below_from d (doc + 1) docs are.2 k e (omega arith)
 
 pub least_from : (d least low : ℕ) (docs : List ℕ) → low ≤ least → AreFrom d least docs → All (λ doc. low ≤ doc) docs
-least_from d least low [] le are k e l = absurd (omega arith)
-least_from d least low (doc ∷ docs) le are zero e l = omega (arith, are.0)
-least_from d least low (doc ∷ docs) le are (suc k) e l = least_from d (doc + 1) low docs (omega (arith, are.0)) are.2 k e (omega arith)
+least_from d least low docs le are = from_least least low docs (rise_of d least docs are) le
 
 pub docs_from_all : (d : ℕ) (docs : List ℕ) → d ≤ 2 ^ 26 → 0 < length docs → AreFrom d 0 docs → AreDocs d docs
 docs_from_all d docs limit some are = record { some = some; rising = rising_from d 0 docs are; below = below_from d 0 docs are; limit = limit }
 
 -- ---- documents and gaps
 pub docs_of_gaps : (d least : ℕ) (docs : List ℕ) → AreFrom d least docs → docs_from least (gaps_from least docs) ≡ docs
-docs_of_gaps d least [] are = refl
-docs_of_gaps d least (doc ∷ docs) are =
-    let same : least + (doc - least) ≡ doc = omega (arith, are.0) in
-    rw same (ap (λ (xs : List ℕ). doc ∷ xs) (docs_of_gaps d (doc + 1) docs are.2))
+docs_of_gaps d least docs are = docs_again least docs (rise_of d least docs are)
 
 pub running_docs : (least : ℕ) (gaps : List ℕ) → running least gaps ≡ docs_from least gaps
 running_docs least [] = refl
@@ -111,9 +95,7 @@ behind_le_some d least [] are some = absurd (omega arith)
 behind_le_some d least (doc ∷ docs) are some = behind_le d (doc + 1) docs (omega (arith, are.1)) are.2
 
 pub small_gaps : (d least : ℕ) (docs : List ℕ) → d ≤ 2 ^ 32 → AreFrom d least docs → All (λ gap. gap < 2 ^ 32) (gaps_from least docs)
-small_gaps d least [] limit are k e l = absurd (omega arith)
-small_gaps d least (doc ∷ docs) limit are zero e l = omega (arith, are.1)
-small_gaps d least (doc ∷ docs) limit are (suc k) e l = small_gaps d (doc + 1) docs limit are.2 k e (omega arith)
+small_gaps d least docs limit are k e l = omega (arith, limit, gaps_below d least docs (below_from d least docs are) k e l)
 
 pub tests_from : (d least : ℕ) (docs : List ℕ) → AreFrom d least docs → list_all (λ doc. nat_lt doc d) docs ≡ true
 tests_from d least [] are = refl

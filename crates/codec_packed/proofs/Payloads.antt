@@ -1,8 +1,6 @@
 -- The payloads are what is read, block by block.
-use Rattle.std.proofs.Common.{◌≡◌, ℕ, zero, suc, ◌+◌, ◌*◌, ◌/◌, ◌%◌, ◌^◌, ◌<◌, ◌≤◌, Bool, true, false, cond, List, ◌++◌, length, take, drop, sum, All, Result, Ok, Err, refl, sym, ap, ◌∙◌, arith, subst}
-use Rattle.std.specs.Prelude.{nat_lt}
-use Rattle.std.specs.List.{list_all}
-use Rattle.std.proofs.lemmas.List.{length-drop, length-append, length-take-le, take-append-drop, take_at, drop_at}
+use Rattle.shared_lemmas.proofs.Common.{◌≡◌, ℕ, zero, suc, ◌+◌, ◌*◌, ◌/◌, ◌%◌, ◌^◌, ◌<◌, ◌≤◌, Bool, true, false, cond, List, ◌++◌, length, take, drop, sum, All, Result, Ok, Err, refl, sym, ap, ◌∙◌, arith, subst, nat_lt, list_all, length-drop, length-append, length-take-le, take-append-drop}
+use Rattle.shared_lemmas.proofs.Common.{take_at, drop_at}
 use Rattle.jass_base.proofs.Gaps.{gaps_again, length-gaps_from, length-docs_from}
 use Rattle.jass_base.specs.Gaps.{◌>>=◌, AreDocs, gaps_from, docs_from}
 use Rattle.jass_base.specs.declared.payload_fault.PayloadFault.{PayloadFault}

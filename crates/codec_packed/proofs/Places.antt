@@ -1,9 +1,5 @@
 -- The block at a place of the bytes.
-use Rattle.std.proofs.Common.{◌≡◌, ◌≢◌, ℕ, ◌+◌, ◌-◌, ◌*◌, ◌<◌, ◌≤◌, true, false, nat_lt, List, length, get_or, take, drop, Err, refl, sym, ap, ◌∙◌, arith}
-use Rattle.std.specs.Prelude.{◌==◌}
-use Rattle.std.proofs.lemmas.Bool.{lt-ltb, le-ltb}
-use Rattle.std.proofs.lemmas.Bool.Decides.{nat_tests}
-use Rattle.std.proofs.lemmas.List.{drop_more, drop_all, length-drop}
+use Rattle.shared_lemmas.proofs.Common.{◌≡◌, ◌≢◌, ℕ, ◌+◌, ◌-◌, ◌*◌, ◌<◌, ◌≤◌, true, false, nat_lt, List, length, get_or, take, drop, Err, refl, sym, ap, ◌∙◌, arith, ◌==◌, lt-ltb, le-ltb, nat_tests, drop_more, drop_all, length-drop}
 use Rattle.jass_base.specs.declared.payload_fault.PayloadFault.TheVariants.{Cut, Shape}
 use Rattle.lane_kernels.specs.Block.{block_values}
 use Rattle.lane_kernels.specs.Width.{least_width}
@@ -41,9 +37,7 @@ module _ (bytes : List ℕ) (at : ℕ) (inside : at < length bytes) where
       enough = le-ltb _ _ (omega (arith, length-drop (at + 1) bytes, long))
 
       pub not_least : least_width gaps ≢ width → block_in (drop at bytes) ≡ Err Shape
-      not_least other =
-          let test : (least_width gaps == width) ≡ false = grind (arith, nat_tests) in
-          at_width ∙ rw (enough, values_there, test) refl
+      not_least other = let test : (least_width gaps == width) ≡ false = grind (arith, nat_tests) in at_width ∙ rw (enough, values_there, test) refl
 
       pub block_there : least_width gaps ≡ width → block_in (drop at bytes) ≡ read_as gaps (at + 1 + 16 * n - at)
       block_there least =

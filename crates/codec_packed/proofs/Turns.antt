@@ -1,9 +1,9 @@
 -- One document more, and one block more.
-use Rattle.std.proofs.Common.{◌≡◌, ℕ, zero, suc, ◌+◌, ◌-◌, ◌*◌, ◌/◌, ◌%◌, ◌<◌, ◌≤◌, Bool, true, false, cond, nat_lt, List, [], ◌∷◌, ◌++◌, length, get_or, take, drop, set, append-nil, sym, ap, ◌∙◌, append_assoc, arith, subst}
-use Rattle.std.proofs.lemmas.List.{drop_more, drop_all, length-take, length-append, take-append-le, take-take, take_more_set, take_all}
+use Rattle.shared_lemmas.proofs.Common.{◌≡◌, ℕ, ◌+◌, ◌-◌, ◌*◌, ◌<◌, ◌≤◌, List, [], ◌∷◌, ◌++◌, length, get_or, take, drop, set, append-nil, sym, ap, ◌∙◌, append_assoc, arith, subst, drop_more, drop_all, length-take, length-append, take-append-le, take-take, take_more_set, take_all}
 use Rattle.jass_base.specs.Gaps.{gaps_from, spelled_gaps}
-use Rattle.jass_base.specs.Wire.{short_varint, short_varint_within}
+use Rattle.jass_base.specs.Wire.{short_varint}
 use Rattle.codec_packed.specs.Giving.{AreFrom}
+use Rattle.jass_base.proofs.ShortVarints.{short_size}
 
 -- ---- one document more
 pub record Turn (d next i : ℕ) (docs : List ℕ) : Type 0 where
@@ -50,17 +50,6 @@ front_kept front bytes more is kept =
     sym (take-take (length front) (length bytes) more long) ∙ ap (take (length front)) kept ∙ is
 
 -- ---- sizes
-within_cases : (k n : ℕ) (b : Bool) → length (short_varint_within k (n / 128)) ≤ k + 1 → length (cond b (n ∷ []) ((n % 128 + 128) ∷ short_varint_within k (n / 128))) ≤ suc k + 1
-within_cases k n true short = omega arith
-within_cases k n false short = omega (arith, short)
-
-short_within : (k n : ℕ) → length (short_varint_within k n) ≤ k + 1
-short_within zero n = omega arith
-short_within (suc k) n = within_cases k n (nat_lt n 128) (short_within k (n / 128))
-
-pub short_size : (n : ℕ) → length (short_varint n) ≤ 10
-unfolding short_varint
-short_size n = short_within 9 n
 
 pub spelled_size : (gaps : List ℕ) → length (spelled_gaps gaps) ≤ 10 * length gaps
 spelled_size [] = omega arith

@@ -1,5 +1,5 @@
 -- What a cursor still gives.
-use Rattle.std.specs.Prelude.{ℕ, ◌≡◌, ◌+◌, ◌/◌, ◌<◌, ◌≤◌, ◌^◌, List, [], ◌∷◌, length, drop}
+use Rattle.std.specs.Prelude.{ℕ, ◌≡◌, ◌+◌, ◌/◌, ◌<◌, ◌≤◌, List, [], ◌∷◌, length, drop}
 use Rattle.jass_base.specs.Gaps.{gaps_from}
 use Rattle.codec_packed.specs.Packing.{packed_gaps}
 use Rattle.codec_packed.specs.declared.cursor.Cursor.{Cursor}

@@ -1,7 +1,6 @@
 // Blocks of 128 gaps, one at a time.
-ghost use Rattle.std.specs.Prelude.{◌≡◌, ◌+◌, ◌*◌, ◌<◌, ◌≤◌, ◌^◌, ◌++◌, length, drop, OnOk, OnErr};
+ghost use Rattle.std.specs.Prelude.{◌≡◌, ◌+◌, ◌*◌, ◌<◌, ◌≤◌, ◌++◌, length, OnOk, OnErr};
 ghost use Rattle.jass_base.specs.Gaps.{gaps_from};
-ghost use Rattle.lane_kernels.specs.Width.{least_width};
 ghost use Rattle.codec_packed.specs.Giving.{AreFrom};
 ghost use Rattle.codec_packed.specs.Packing.{packed_block};
 ghost use Rattle.codec_packed.specs.Private.Steps.{ReadsBlock};

@@ -1,4 +1,4 @@
-ghost use Rattle.std.specs.Prelude.{◌≡◌, ℕ, ◌+◌, ◌*◌, ◌<◌, ◌≤◌, ◌↔◌, List, [], length, take, drop};
+ghost use Rattle.std.specs.Prelude.{◌≡◌, ℕ, ◌+◌, ◌*◌, ◌<◌, ◌≤◌, List, [], take, drop};
 ghost use Rattle.jass_base.specs.Codecs.{GivesAll, HandsOver};
 ghost use Rattle.codec_packed.specs.Giving.{Gives};
 ghost use Rattle.codec_packed.specs.Packing.{packed_of};

@@ -1,7 +1,7 @@
 //! What reading gives is what the payloads say. Each function does nothing of its own: its contract
 //! is the law, and a caller learns it by the call.
 
-ghost use Rattle.std.specs.Prelude.{ℕ, ◌≡◌, ◌≤◌, ◌<◌, ◌^◌, List, length, All, Ok};
+ghost use Rattle.std.specs.Prelude.{ℕ, ◌≡◌, ◌≤◌, ◌<◌, List, length, All, Ok};
 ghost use Rattle.jass_base.specs.Gaps.{AreDocs};
 ghost use Rattle.codec_packed.specs.Packing.{packed_of};
 ghost use Rattle.codec_packed.specs.Reading.{read_packed};

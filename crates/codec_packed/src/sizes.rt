@@ -1,5 +1,5 @@
 // How many bytes payloads have.
-ghost use Rattle.std.specs.Prelude.{◌≡◌, ◌+◌, ◌*◌, ◌<◌, ◌≤◌, ◌^◌};
+ghost use Rattle.std.specs.Prelude.{◌≡◌, ◌+◌, ◌*◌};
 ghost use Rattle.std.specs.Prelude as list;
 ghost use Rattle.jass_base.specs.Gaps.{AreDocs};
 ghost use Rattle.codec_packed.specs.Packing.{packed_of};

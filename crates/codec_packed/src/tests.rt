@@ -1,5 +1,5 @@
 // Payloads and faults of a table.
-ghost use Rattle.std.specs.Prelude.{◌≡◌, ◌<◌, ◌≤◌, ◌^◌, IsTrue, length};
+ghost use Rattle.std.specs.Prelude.{◌≡◌, ◌<◌, IsTrue, length};
 ghost use Rattle.jass_base.specs.Gaps.{AreDocs};
 ghost use Rattle.codec_packed.specs.Packing.{packed_of};
 

@@ -1,12 +1,6 @@
 -- Numbers, and their digits to a base, the lowest first.
-use Rattle.std.proofs.Common.{◌≡◌, ℕ, zero, suc, ◌+◌, ◌*◌, ◌/◌, ◌%◌, ◌^◌, ◌<◌, ◌≤◌, true, List, [], ◌∷◌, length, refl, sym, ap, ◌∙◌, arith}
-use Rattle.std.specs.Prelude.{nat_lt}
-use Rattle.std.specs.List.{list_all}
-use Rattle.std.specs.Simd.Lanes.{number_l, digits_l}
-use Rattle.std.proofs.lemmas.Bool.Decides.{nat_tests}
-use Rattle.std.proofs.Math.Nat.{add-mul-div_left, add-mul-mod_self_left, mod-eq_of_lt, div-eq_of_lt, pow-succ', pow-suc, pow-zero, mul-suc, mod-add-div, mod-lt}
-use Rattle.std.proofs.lemmas.Nat.{div_below, mul-le, pow-add}
-use Rattle.std.proofs.lemmas.Bool.{and_parts}
+use Rattle.shared_lemmas.proofs.Common.{◌≡◌, ℕ, zero, suc, ◌+◌, ◌*◌, ◌/◌, ◌%◌, ◌^◌, ◌<◌, ◌≤◌, true, List, [], ◌∷◌, length, refl, sym, ap, ◌∙◌, arith, nat_lt, list_all, number_l, digits_l, nat_tests, add-mul-div_left, add-mul-mod_self_left, mod-eq_of_lt, div-eq_of_lt, pow-succ', pow-suc, pow-zero}
+use Rattle.shared_lemmas.proofs.Common.{mul-suc, mod-add-div, mod-lt, div_below, mul-le, pow-add, and_parts}
 
 -- each number is below p
 abbrev pub Below : ℕ → List ℕ → Type 0

@@ -1,12 +1,7 @@
 -- The documents with given gaps.
-use Rattle.std.proofs.Common.{◌≡◌, ℕ, zero, suc, ◌+◌, ◌-◌, ◌<◌, ◌≤◌, List, [], ◌∷◌, ◌++◌, length, take, drop, replicate, refl, sym, ap, ◌∙◌, arith}
-use Rattle.std.specs.Prelude.{nat_lt, slice_index, sum}
-use Rattle.std.specs.List.{list_all}
-use Rattle.std.proofs.lemmas.List.Folds.{list_all-append}
-use Rattle.std.specs.List.Sorted.{IsStrictlyIncreasing}
-use Rattle.std.proofs.lemmas.List.{take_at, drop_at, take-append-drop, length-take-le, length-replicate, replicate_more}
-use Rattle.std.proofs.lemmas.List.Sums.{sum_by-cons}
-use Rattle.jass_base.proofs.Gaps.{length-docs_from}
+use Rattle.shared_lemmas.proofs.Common.{◌≡◌, ℕ, zero, suc, ◌+◌, ◌≤◌, List, [], ◌∷◌, ◌++◌, length, take, drop, replicate, refl, sym, ap, ◌∙◌, arith, nat_lt, sum, list_all, list_all-append, IsStrictlyIncreasing, take_at, drop_at, take-append-drop, length-take-le, length-replicate, replicate_more}
+use Rattle.shared_lemmas.proofs.Common.{sum_by-cons}
+use Rattle.jass_base.proofs.Gaps.{length-docs_from, rise_from, docs_again as again}
 use Rattle.jass_base.specs.Gaps.{gaps_from, docs_from}
 use Rattle.codec_simple8.specs.Simple8.{least_behind}
 use Rattle.codec_simple8.proofs.Digits.{Below, Below-head, Below-tail, Below-cons}
@@ -43,8 +38,7 @@ pub behind_below : (p least : ℕ) (gaps : List ℕ) → least ≤ p → Below p
 behind_below p least [] low all = omega arith
 behind_below p least (gap ∷ gaps) low all =
     let here = Below-head p (least + gap) (docs_from (least + gap + 1) gaps) all in
-    let rest = behind_below p (least + gap + 1) gaps (omega arith) (Below-tail p (least + gap) (docs_from (least + gap + 1) gaps) all) in
-    omega (arith, rest, behind_one least gap gaps)
+    omega (arith, behind_below p (least + gap + 1) gaps (omega arith) (Below-tail p (least + gap) (docs_from (least + gap + 1) gaps) all), behind_one least gap gaps)
 
 -- and the other way round
 pub below_behind : (p least : ℕ) (gaps : List ℕ) → least_behind least gaps ≤ p → Below p (docs_from least gaps)
@@ -77,28 +71,5 @@ one_zero least n =
 
 -- ---- the documents that gaps were taken of
 
-abbrev RisesFrom : ℕ → List ℕ → Type 0
-RisesFrom least [] = Unit {0}
-RisesFrom least (doc ∷ docs) = (least ≤ doc) × RisesFrom (doc + 1) docs
-
-rises_from : (least : ℕ) (docs : List ℕ) → IsStrictlyIncreasing docs → (0 < length docs → least ≤ slice_index docs 0) → RisesFrom least docs
-rises_from least [] rising first = tt
-rises_from least (doc ∷ docs) rising first = (first (omega arith), rises_from (doc + 1) docs (λ k h. later k h) next)
-  where
-    later : (k : ℕ) → k + 1 < length docs → slice_index docs k < slice_index docs (k + 1)
-    later k h =
-        let place : suc k + 1 ≡ suc (k + 1) = omega arith in
-        let step : slice_index (doc ∷ docs) (suc k) < slice_index (doc ∷ docs) (suc k + 1) = rising (suc k) (omega (arith, h)) in
-        rw place at step
-
-    next : 0 < length docs → doc + 1 ≤ slice_index docs 0
-    next some = omega (arith, rising 0 (omega (arith, some)))
-
-again : (least : ℕ) (docs : List ℕ) → RisesFrom least docs → docs_from least (gaps_from least docs) ≡ docs
-again least [] rises = refl
-again least (doc ∷ docs) rises =
-    let e : least + (doc - least) ≡ doc = omega (arith, rises.0) in
-    rw e (ap (λ (ds : List ℕ). doc ∷ ds) (again (doc + 1) docs rises.1))
-
 pub docs_again : (docs : List ℕ) → IsStrictlyIncreasing docs → docs_from 0 (gaps_from 0 docs) ≡ docs
-docs_again docs rising = again 0 docs (rises_from 0 docs rising (λ h. omega arith))
+docs_again docs rising = again 0 docs (rise_from 0 docs rising (λ h. omega arith))

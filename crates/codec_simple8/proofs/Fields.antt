@@ -1,14 +1,6 @@
 -- The numbers that stand in the bits of another, one after the other.
-use Rattle.std.proofs.Common.{◌≡◌, ℕ, zero, suc, ◌+◌, ◌*◌, ◌-◌, ◌/◌, ◌%◌, ◌^◌, ◌<◌, ◌≤◌, Bool, true, false, [], ◌∷◌, length, replicate, bit_and, ◌⊎◌, inl, inr, refl, sym, ap, ◌∙◌, arith}
-use Rattle.std.specs.Prelude.{nat_eq, nat_lt, ◌&&◌, sum}
-use Rattle.std.specs.List.{list_all}
-use Rattle.std.specs.Simd.Lanes.{digits_l, number_l}
-use Rattle.std.proofs.lemmas.Bool.{cases_lt}
-use Rattle.std.proofs.lemmas.Bool.Decides.{nat_tests}
-use Rattle.std.proofs.lemmas.List.{length-replicate}
-use Rattle.std.proofs.lemmas.List.Sums.{sum_by-cons}
-use Rattle.std.proofs.lemmas.Nat.{and_block, and_le_r, and_mask, div-add-mod', field_of, le-div, mod-mul-add, mod-pow-add, mul-le, one_shl, pow-add, pow_pos, shr_below}
-use Rattle.std.proofs.Math.Nat.{div-eq_of_lt, mod-add-div, mod-eq_of_lt, mod-lt, mod-one, mul-suc, pow-le-pow_right, suc-mul}
+use Rattle.shared_lemmas.proofs.Common.{◌≡◌, ℕ, zero, suc, ◌+◌, ◌*◌, ◌-◌, ◌/◌, ◌%◌, ◌^◌, ◌<◌, ◌≤◌, true, false, [], ◌∷◌, length, replicate, bit_and, inl, inr, refl, sym, ap, ◌∙◌, arith, nat_eq, nat_lt, ◌&&◌, sum, list_all, digits_l, number_l, cases_lt, nat_tests, length-replicate, sum_by-cons}
+use Rattle.shared_lemmas.proofs.Common.{and_block, and_le_r, and_mask, div-add-mod', field_of, le-div, mod-mul-add, mod-pow-add, mul-le, one_shl, pow-add, pow_pos, shr_below, div-eq_of_lt, mod-add-div, mod-eq_of_lt, mod-lt, mod-one, mul-suc, pow-le-pow_right, suc-mul, and-true, and-false}
 use Rattle.codec_simple8.specs.Simple8.{fields}
 use Rattle.codec_simple8.proofs.Digits.{Below, Below-cons, Below-wider, digits_below, length-digits, number_below, power_of_power}
 
@@ -30,18 +22,14 @@ masked rest width small = ap (λ m. bit_and rest (m - 1)) (one_shl width 64 smal
 
 -- nothing is left of a number above a width exactly where the width holds it
 pub nothing_above : (gap p : ℕ) → 0 < p → nat_eq (gap / p) 0 ≡ nat_lt gap p
-nothing_above gap p some = go (cases_lt gap p)
-  where
-    go : (gap < p) ⊎ (p ≤ gap) → nat_eq (gap / p) 0 ≡ nat_lt gap p
-    go (inl less) =
-        let none : gap / p ≡ 0 = div-eq_of_lt less in
-        let t : nat_lt gap p ≡ true = grind (arith, nat_tests) in
-        rw (none, t) refl
-    go (inr more) =
-        let one : 1 ≤ gap / p = le-div 1 gap p some (omega arith) in
-        let t : nat_lt gap p ≡ false = grind (arith, nat_tests) in
-        let u : nat_eq (gap / p) 0 ≡ false = grind (arith, nat_tests) in
-        rw (u, t) refl
+nothing_above gap p some = elim (cases_lt gap p) [
+  | inl less ↦ let none : gap / p ≡ 0 = div-eq_of_lt less in let t : nat_lt gap p ≡ true = grind (arith, nat_tests) in rw (none, t) refl
+  | inr more ↦
+      let one : 1 ≤ gap / p = le-div 1 gap p some (omega arith) in
+      let t : nat_lt gap p ≡ false = grind (arith, nat_tests) in
+      let u : nat_eq (gap / p) 0 ≡ false = grind (arith, nat_tests) in
+      rw (u, t) refl
+]
 
 -- ---- their sum
 
@@ -69,7 +57,6 @@ sum_all w m rest done values all is s = let none = ap sum (fields_none w m rest 
 -- the bits that a width doesn't hold
 high_part : (r own width : ℕ) → width < own → r < 2 ^ own → nat_eq (bit_and r (2 ^ own - 2 ^ width)) 0 ≡ nat_lt r (2 ^ width)
 high_part r own width wider small =
-    let j = own - width in
     let split : own ≡ own - width + width = omega (arith, wider) in
     let power : 2 ^ own ≡ 2 ^ (own - width) * 2 ^ width = ap (λ n. 2 ^ n) split ∙ pow-add 2 (own - width) width in
     let some = pow_pos (own - width) in
@@ -96,31 +83,18 @@ high_part r own width wider small =
         t ∙ sym u
 
 and_zero : (a p r : ℕ) → 0 < p → nat_eq (a * p + r) 0 ≡ (nat_eq r 0 && nat_eq a 0)
-and_zero zero p r some = let e : 0 * p + r ≡ r = omega arith in rw e (and_true (nat_eq r 0))
-  where
-    and_true : (b : Bool) → b ≡ (b && true)
-    and_true true = refl
-    and_true false = refl
+and_zero zero p r some = let e : 0 * p + r ≡ r = omega arith in rw e (sym (and-true (nat_eq r 0)))
 and_zero (suc a) p r some =
     let more : 0 < suc a * p + r = omega (arith, suc-mul a p) in
     let t : nat_eq (suc a * p + r) 0 ≡ false = grind (arith, nat_tests) in
     let u : nat_eq (suc a) 0 ≡ false = grind (arith, nat_tests) in
-    t ∙ sym (ap (λ b. nat_eq r 0 && b) u ∙ and_false (nat_eq r 0))
-  where
-    and_false : (b : Bool) → (b && false) ≡ false
-    and_false true = refl
-    and_false false = refl
+    t ∙ sym (ap (λ b. nat_eq r 0 && b) u ∙ and-false (nat_eq r 0))
 
 -- of numbers one after the other
 pub high_parts : (own width n x : ℕ) → width < own → nat_eq (bit_and x (number_l (2 ^ own) (replicate n (2 ^ own - 2 ^ width)))) 0 ≡ list_all (λ gap. nat_lt gap (2 ^ width)) (fields own n x)
 unfolding fields
-high_parts own width zero x wider =
-    let none : bit_and x 0 ≡ 0 = omega (arith, and_le_r x 0) in
-    rw none refl
+high_parts own width zero x wider = let none : bit_and x 0 ≡ 0 = omega (arith, and_le_r x 0) in rw none refl
 high_parts own width (suc n) x wider =
-    let p = 2 ^ own in
-    let h = 2 ^ own - 2 ^ width in
-    let rest = number_l (2 ^ own) (replicate n (2 ^ own - 2 ^ width)) in
     let x_is : x ≡ x / 2 ^ own * 2 ^ own + x % 2 ^ own = sym (div-add-mod' x (2 ^ own)) in
     let high : 2 ^ own - 2 ^ width < 2 ^ own = omega (arith, pow_pos width, pow_pos own) in
     let turned : 2 ^ own - 2 ^ width + 2 ^ own * number_l (2 ^ own) (replicate n (2 ^ own - 2 ^ width)) ≡ number_l (2 ^ own) (replicate n (2 ^ own - 2 ^ width)) * 2 ^ own + (2 ^ own - 2 ^ width) = turn (2 ^ own - 2 ^ width) (2 ^ own) (number_l (2 ^ own) (replicate n (2 ^ own - 2 ^ width))) in

@@ -1,11 +1,7 @@
 -- Writing the documents of a word's gaps four at a time.
-use Rattle.std.proofs.Common.{◌≡◌, ℕ, zero, suc, ◌+◌, ◌*◌, ◌-◌, ◌/◌, ◌%◌, ◌^◌, ◌<◌, ◌≤◌, List, [], ◌∷◌, ◌++◌, length, take, get_or, bit_and, refl, sym, ap, subst, ◌∙◌, append_assoc, append-nil, length-append, arith}
-use Rattle.std.specs.Prelude.{sum, slice_index}
-use Rattle.std.proofs.lemmas.List.{take_at, take-take, length-take-le, get_or-take, get_or-append_right}
-use Rattle.std.proofs.lemmas.List.Sums.{sum_by-cons, sum_by-append}
-use Rattle.std.proofs.lemmas.Nat.{pow_pos, shr-shr, mul-le}
-use Rattle.std.proofs.lemmas.Simd.{take_more_put_chunk}
-use Rattle.std.proofs.Math.Nat.{mod-lt, pow-le-pow_right}
+use Rattle.shared_lemmas.proofs.Common.{◌≡◌, ℕ, zero, suc, ◌+◌, ◌*◌, ◌-◌, ◌/◌, ◌%◌, ◌^◌, ◌<◌, ◌≤◌, List, [], ◌∷◌, ◌++◌, length, take, get_or, bit_and, refl, sym, ap, subst, ◌∙◌, append_assoc, append-nil, arith, sum, slice_index, take_at, take-take, length-take-le, get_or-take, get_or-append_right}
+use Rattle.shared_lemmas.proofs.Common.{sum_by-cons, sum_by-append, pow_pos, shr-shr, mul-le, take_more_put_chunk, mod-lt, pow-le-pow_right}
+use Rattle.std.proofs.Common.{length-append}
 use Rattle.shared_lemmas.proofs.Places.{same_four}
 use Rattle.jass_base.proofs.Gaps.{length-docs_from}
 use Rattle.jass_base.specs.Gaps.{docs_from}
@@ -107,9 +103,7 @@ abbrev plus : ℕ → ℕ → ℕ
 plus a b = (a + b) % 4294967296
 
 abbrev raised : List ℕ → List ℕ → List ℕ
-raised first sums =
-    let by = (slice_index (sums ++ sums) 3 + 4) % 4294967296 in
-    zip2 plus first (by ∷ by ∷ by ∷ by ∷ [])
+raised first sums = let by = (slice_index (sums ++ sums) 3 + 4) % 4294967296 in zip2 plus first (by ∷ by ∷ by ∷ by ∷ [])
 
 pub fours_more : (w n m i j : ℕ) (pair first out whole gaps sums later : List ℕ) → m ≡ suc (suc (suc (suc n))) → j ≡ i + 4 → j ≤ length out
     → Fours w m pair first (take i out) whole
@@ -164,7 +158,6 @@ unfolding fields
 fours_all w m n k c count filled values least pair first old out none are place within fours =
     let f = subst (λ m. Fours w m pair first (take k out) (take filled old ++ docs_from least (fields w n values))) none fours in
     let x = more w count c values in
-    let D = docs_from least (fields w count values) in
     let front : take k out ≡ take filled old ++ docs_from least (fields w n values) = sym (append-nil (take k out)) ∙ f.docs in
     let parts : docs_from least (fields w n values) ≡ docs_from least (fields w count values) ++ docs_from (least_behind least (fields w count values)) x.values =
     ap (λ n. docs_from least (fields w n values)) are ∙ ap (docs_from least) x.parts ∙ docs_parts least (fields w count values) x.values in

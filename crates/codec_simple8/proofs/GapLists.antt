@@ -1,9 +1,5 @@
 -- Lists of documents and lists of their gaps.
-use Rattle.std.proofs.Common.{◌≡◌, ℕ, zero, suc, ◌+◌, ◌-◌, ◌^◌, ◌<◌, ◌≤◌, List, [], ◌∷◌, length, drop, refl, ap, ◌∙◌, arith}
-use Rattle.std.specs.Prelude.{All, slice_index}
-use Rattle.std.proofs.lemmas.List.{length-drop}
-use Rattle.std.proofs.lemmas.List.Elements.{All-head, All-tail, All-nil, All-cons}
-use Rattle.shared_lemmas.proofs.Rising.{place_below}
+use Rattle.shared_lemmas.proofs.Common.{◌≡◌, ℕ, zero, suc, ◌+◌, ◌-◌, ◌^◌, ◌<◌, ◌≤◌, List, [], ◌∷◌, length, drop, refl, ap, ◌∙◌, arith, All, slice_index, length-drop, All-head, All-tail, All-nil, All-cons}
 use Rattle.jass_base.proofs.Gaps.{length-gaps_from}
 use Rattle.jass_base.specs.Gaps.{AreDocs, gaps_of, gaps_from}
 use Rattle.codec_simple8.proofs.Digits.{Below, Below-head, Below-tail, Below-cons}
@@ -39,13 +35,6 @@ Below-drop p (suc n) (x ∷ xs) all = Below-drop p n xs (Below-tail p x xs all)
 -- the gaps that are left are as many as the documents
 pub left_length : (docs : List ℕ) (at : ℕ) → length (drop at (gaps_of docs)) ≡ length docs - at
 left_length docs at = length-drop at (gaps_of docs) ∙ ap (λ n. n - at) (length-gaps_from 0 docs)
-
--- and so there are no more than below their limit
-pub docs_few : (d : ℕ) (docs : List ℕ) → AreDocs d docs → length docs ≤ 2 ^ 26
-docs_few d docs are =
-    let last = place_below docs (length docs - 1) are.rising (omega (arith, are.some)) in
-    let below = are.below (length docs - 1) 0 (omega (arith, are.some)) in
-    omega (arith, last, below, are.limit, are.some)
 
 pub All-from_below : (p : ℕ) (xs : List ℕ) → Below p xs → All (λ x. x < p) xs
 All-from_below p [] all = All-nil (λ x. x < p)

@@ -4,7 +4,8 @@ use Rattle.std.proofs.lemmas.List.Sums.{sum_by-append}
 use Rattle.jass_base.specs.Gaps.{docs_from}
 use Rattle.codec_simple8.specs.Simple8.{least_behind, read_word, read_words}
 use Rattle.codec_simple8.proofs.Docs.{docs_parts}
-use Rattle.codec_simple8.proofs.Reading.{Read, Walk, walk_start, walk_one, walk_end, ok_same}
+use Rattle.codec_simple8.proofs.Reading.{Read, Walk, walk_start, walk_one, walk_end}
+use Rattle.shared_lemmas.proofs.Results.{ok_same}
 
 -- the documents of the gaps that were read stand at the front
 pub record Handed (whole : Read) (d : ℕ) (bytes : List ℕ) (count at left least : ℕ) (first out : List ℕ) : Type 0 where

@@ -1,13 +1,12 @@
 -- What a cursor gives before and after it moves.
-use Rattle.std.proofs.Common.{◌≡◌, ◌↔◌, ℕ, zero, suc, ◌+◌, ◌-◌, ◌/◌, ◌%◌, ◌^◌, ◌<◌, ◌≤◌, List, [], ◌∷◌, ◌++◌, length, take, drop, replicate, refl, sym, ap, subst, ◌∙◌, length-append, take-add, arith}
-use Rattle.std.proofs.lemmas.List.{take-append-drop, drop-drop, length-drop, length-replicate, take-replicate, drop-replicate, take-append-le, drop-append-le, length-take-le, length-take, nil_from_length}
-use Rattle.std.proofs.lemmas.List.Elements.{All-take, All-drop}
-use Rattle.std.proofs.lemmas.List.Sums.{sum_by-cons}
-use Rattle.std.proofs.Math.Nat.{mod-eq_of_lt, mod-lt, mod-one}
+use Rattle.shared_lemmas.proofs.Common.{◌≡◌, ◌↔◌, ℕ, zero, suc, ◌+◌, ◌-◌, ◌/◌, ◌%◌, ◌^◌, ◌<◌, ◌≤◌, List, [], ◌∷◌, ◌++◌, length, take, drop, replicate, refl, sym, ap, subst, ◌∙◌, arith, take-append-drop, drop-drop, length-drop, length-replicate, take-replicate, drop-replicate, take-append-le}
+use Rattle.shared_lemmas.proofs.Common.{drop-append-le, length-take-le, length-take, nil_from_length, All-take, All-drop, sum_by-cons, mod-eq_of_lt, mod-lt, mod-one}
+use Rattle.std.proofs.Common.{length-append, take-add}
 use Rattle.jass_base.specs.Codecs.{HandsOver}
 use Rattle.jass_base.specs.Gaps.{docs_from}
 use Rattle.codec_simple8.specs.declared.cursor.Cursor.{Cursor}
-use Rattle.codec_simple8.specs.Cursor.{Gives, Moved}
+use Rattle.codec_simple8.specs.Cursor.{Gives}
+use Rattle.codec_simple8.specs.Private.Cursor.{Moved}
 use Rattle.codec_simple8.specs.Simple8.{count_of, width_of, fields, gaps_in, word_in, least_behind}
 use Rattle.codec_simple8.proofs.Digits.{Below, Below-head}
 use Rattle.codec_simple8.proofs.Docs.{docs_first, docs_later, docs_gaps, behind_below, zeros_behind}
@@ -70,8 +69,7 @@ zeros_fit c n bytes docs some within g =
     let one : Below (2 ^ 26) (docs_from c.least (replicate 1 0)) =
     subst (Below (2 ^ 26)) (zeros_docs c 1 bytes docs (omega arith) g) (below_from_All (2 ^ 26) (2 ^ 26) (take 1 docs) (omega arith) (All-take (λ doc. doc < 2 ^ 26) 1 docs g.below)) in
     let first = Below-head (2 ^ 26) (c.least + 0) [] one in
-    let behind = behind_below (2 ^ 26) c.least (replicate n 0) (omega (arith, first)) low in
-    omega (arith, behind, zeros_behind c.least n)
+    omega (arith, zeros_behind c.least n, behind_below (2 ^ 26) c.least (replicate n 0) (omega (arith, first)) low)
 
 -- ---- a word
 
@@ -135,7 +133,6 @@ flat_gaps word flat = ap (λ width. fields width (count_of (word % 16)) (word / 
 pub word_held : (c : Cursor) (bytes docs : List ℕ) → c.zeros ≡ 0 → 0 < c.left → width_of (next_word c bytes % 16) ≡ 0 → Gives c bytes docs → Gives (holding_word c bytes) bytes docs
 word_held c bytes docs none some flat g =
     let w = given_word c bytes docs none some g in
-    let n = count_of (next_word c bytes % 16) in
     let zeros : take (count_of (next_word c bytes % 16)) g.gaps ≡ replicate (count_of (next_word c bytes % 16)) 0 = sym w.values ∙ flat_gaps (next_word c bytes) flat in
     let parts : g.gaps ≡ replicate (count_of (next_word c bytes % 16)) 0 ++ drop (count_of (next_word c bytes % 16)) g.gaps =
     sym (take-append-drop (count_of (next_word c bytes % 16)) g.gaps) ∙ ap (λ (front : List ℕ). front ++ drop (count_of (next_word c bytes % 16)) g.gaps) zeros in
@@ -237,8 +234,7 @@ moved_both a b c bytes filled result before mid after first second = record {
 
 -- where nothing is left, and no gap of 0 is held, there is no document
 pub none_given : (c : Cursor) (bytes docs : List ℕ) → c.zeros ≡ 0 → c.left ≡ 0 → Gives c bytes docs → docs ≡ []
-none_given c bytes docs none done g =
-    given_gaps c bytes docs none g ∙ ap (docs_from c.least) (nil_from_length g.gaps (sym g.left ∙ done))
+none_given c bytes docs none done g = given_gaps c bytes docs none g ∙ ap (docs_from c.least) (nil_from_length g.gaps (sym g.left ∙ done))
 
 -- what a move from an empty block hands over
 pub handed_over : (old new : Cursor) (bytes : List ℕ) (filled : ℕ) (before after : List ℕ) → Moved old new bytes 0 filled before after
@@ -255,6 +251,4 @@ handed_over old new bytes filled before after moved ends =
 -- what was given is of the documents
 pub given_end : (filled : ℕ) (before after docs : List ℕ) → filled ≤ length after → take filled after ≡ take 0 before ++ take (filled - 0) docs → docs ≡ [] → filled ≡ 0
 given_end filled before after docs within put none =
-    let long = length-take-le filled after within in
-    let few = ap length (ap (take (filled - 0)) none) in
-    omega (arith, long, ap length put, few, length-take (filled - 0) docs, ap length none)
+    omega (arith, ap length put, length-take (filled - 0) docs, ap length none, length-take-le filled after within, ap length (ap (take (filled - 0)) none))

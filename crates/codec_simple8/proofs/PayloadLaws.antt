@@ -1,12 +1,7 @@
 -- What is read of the payload of a list, and what the bytes are that a list is read of.
-use Rattle.std.proofs.Common.{◌≡◌, ℕ, zero, suc, ◌+◌, ◌-◌, ◌%◌, ◌^◌, ◌<◌, ◌≤◌, true, cond, List, [], ◌∷◌, ◌++◌, length, take, drop, Ok, Err, refl, sym, ap, subst, ◌∙◌, arith}
-use Rattle.std.specs.Prelude.{All, nat_eq, slice_index}
-use Rattle.std.specs.List.Sorted.{IsStrictlyIncreasing}
+use Rattle.shared_lemmas.proofs.Common.{◌≡◌, ℕ, zero, suc, ◌+◌, ◌-◌, ◌%◌, ◌^◌, ◌<◌, ◌≤◌, true, cond, List, [], ◌∷◌, ◌++◌, length, take, drop, Ok, Err, refl, sym, ap, subst, ◌∙◌, arith, All, nat_eq, slice_index, IsStrictlyIncreasing, nat_tests, length-take-le, length-drop, take-append-drop}
+use Rattle.shared_lemmas.proofs.Common.{nil_from_length, sum_by-take-le, sum_by-take-drop, bytes_eq-Decides}
 use Rattle.std.specs.Str.{bytes_eq}
-use Rattle.std.proofs.lemmas.Bool.Decides.{nat_tests}
-use Rattle.std.proofs.lemmas.List.{length-take-le, length-drop, take-append-drop, nil_from_length}
-use Rattle.std.proofs.lemmas.List.Sums.{sum_by-take-le, sum_by-take-drop}
-use Rattle.std.proofs.lemmas.Slice.Eq.{bytes_eq-Decides}
 use Rattle.jass_base.proofs.GapSpelling.{bound}
 use Rattle.jass_base.proofs.Gaps.{length-docs_from, gaps_again, length-gaps_from}
 use Rattle.jass_base.specs.Gaps.{AreDocs, gaps_of, gaps_from, docs_from, ◌>>=◌}
@@ -15,9 +10,10 @@ use Rattle.codec_simple8.specs.Simple8.{count_of, gaps_in, word_in, least_behind
 use Rattle.codec_simple8.proofs.Digits.{Below}
 use Rattle.codec_simple8.proofs.Docs.{behind_below, docs_again}
 use Rattle.codec_simple8.proofs.GapLists.{below_from_All, All-from_below, docs_gaps_below, Below-drop}
-use Rattle.codec_simple8.proofs.Reading.{Read, read_one, read_end, nothing_more, behind_first, with_front, word_ok, if_ok, ok_same, words_read}
+use Rattle.codec_simple8.proofs.Reading.{Read, read_one, read_end, nothing_more, behind_first, with_front, word_ok, words_read}
 use Rattle.codec_simple8.proofs.Tables.{count_some}
 use Rattle.codec_simple8.proofs.Words.{front_word, no_words}
+use Rattle.shared_lemmas.proofs.Results.{ok_same, if_ok}
 
 -- ---- found
 
@@ -36,7 +32,6 @@ spelled_read n d least zero gaps bytes is count few below low =
 spelled_read zero d least (suc left) gaps bytes is count few below low = absurd (omega arith)
 spelled_read (suc n) d least (suc left) gaps bytes is count few below low =
     let f = front_word bytes gaps is (omega (arith, count)) below in
-    let c = count_of (word_in bytes % 16) in
     let own : length (gaps_in (word_in bytes)) ≡ count_of (word_in bytes % 16) = ap length f.values ∙ length-take-le (count_of (word_in bytes % 16)) gaps f.few in
     let some = count_some (word_in bytes % 16) (omega arith) in
     let same : least_behind least (gaps_in (word_in bytes)) ≡ least_behind least (take (count_of (word_in bytes % 16)) gaps) = ap (least_behind least) f.values in
@@ -72,7 +67,6 @@ pub read_payload : (d count : ℕ) (docs bytes : List ℕ) → 1 ≤ count → d
 unfolding read_simple8
 read_payload d count docs bytes some limit is =
     let x = bound (read_words count d 0 count bytes) (λ gaps. cond (bytes_eq bytes (spelled_words gaps)) (Ok (docs_from 0 gaps)) (Err Shape)) docs is in
-    let gaps = x.0 in
     let r = words_read count d 0 count bytes x.0 (omega arith) x.1 in
     let t = if_ok (bytes_eq bytes (spelled_words x.0)) (Ok (docs_from 0 x.0)) Shape docs x.2 in
     let same = ok_same (docs_from 0 x.0) docs t.1 in

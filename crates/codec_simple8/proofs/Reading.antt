@@ -1,9 +1,6 @@
 -- Reading words one after the other.
-use Rattle.std.proofs.Common.{◌≡◌, ℕ, zero, suc, ◌+◌, ◌-◌, ◌/◌, ◌%◌, ◌^◌, ◌<◌, ◌≤◌, Bool, true, false, cond, List, [], ◌++◌, length, drop, Result, Ok, Err, inl, inr, refl, sym, ap, subst, ◌∙◌, append_assoc, length-append, arith}
-use Rattle.std.specs.Prelude.{All, nat_eq, nat_lt, sum}
-use Rattle.std.specs.List.{list_all}
-use Rattle.std.proofs.lemmas.Bool.Decides.{nat_tests}
-use Rattle.std.proofs.lemmas.List.{length-drop, drop-drop}
+use Rattle.shared_lemmas.proofs.Common.{◌≡◌, zero, suc, ◌+◌, ◌-◌, ◌/◌, ◌%◌, ◌^◌, ◌<◌, ◌≤◌, Bool, true, false, cond, [], ◌++◌, Result, Ok, Err, inl, inr, refl, sym, ap, subst, ◌∙◌, append_assoc, arith, All, nat_eq, nat_lt, sum, list_all, nat_tests, length-drop, drop-drop}
+use Rattle.std.proofs.Common.{ℕ, List, length, drop, length-append}
 use Rattle.jass_base.proofs.GapSpelling.{bound}
 use Rattle.jass_base.specs.Gaps.{docs_from, ◌>>=◌}
 use Rattle.jass_base.specs.declared.payload_fault.PayloadFault.{PayloadFault}
@@ -15,6 +12,7 @@ use Rattle.codec_simple8.proofs.GapLists.{All-from_below}
 use Rattle.codec_simple8.proofs.Selectors.{Either, one_of}
 use Rattle.codec_simple8.proofs.WordLists.{length-gaps_in, bytes_more, bytes_none}
 use Rattle.codec_simple8.specs.Private.Words.{bytes_gaps, AreWords}
+use Rattle.shared_lemmas.proofs.Results.{if_ok, unless_ok, ok_same}
 
 abbrev pub Read : Type 0
 Read = Result (List ℕ) PayloadFault
@@ -128,8 +126,7 @@ walk_end whole d bytes at left least w done all =
 pub word_behind : (least word selector total : ℕ) → selector ≡ word % 16 → total ≡ sum (fields (width_of selector) (count_of selector) (word / 16)) → least + (total + count_of selector) ≡ least_behind least (gaps_in word)
 unfolding gaps_in
 word_behind least word selector total its is =
-    let sum_is : total ≡ sum (gaps_in word) = is ∙ ap (λ s. sum (fields (width_of s) (count_of s) (word / 16))) its in
-    omega (arith, sum_is, ap count_of its, length-gaps_in word)
+    omega (arith, ap count_of its, length-gaps_in word, is ∙ ap (λ s. sum (fields (width_of s) (count_of s) (word / 16))) its)
 
 -- where a word has no more gaps than are left
 pub few_gaps : (left : ℕ) (bytes : List ℕ) (word selector gaps : ℕ) → word ≡ word_in bytes → selector ≡ word % 16 → gaps ≡ count_of selector → gaps ≤ left → count_of (word_in bytes % 16) ≤ left
@@ -142,17 +139,6 @@ least_after least bytes word selector total gaps is its sum_is many = ap (λ n. 
 
 -- ---- what was read
 
-pub if_ok : (test : Bool) (r : Read) (why : PayloadFault) (y : List ℕ) → cond test r (Err why) ≡ Ok y → (test ≡ true) × (r ≡ Ok y)
-if_ok true r why y is = (refl, is)
-if_ok false r why y is = absurd cc
-
-unless_ok : (test : Bool) (why : PayloadFault) (r : Read) (y : List ℕ) → cond test (Err why) r ≡ Ok y → (test ≡ false) × (r ≡ Ok y)
-unless_ok true why r y is = absurd cc
-unless_ok false why r y is = (refl, is)
-
-pub ok_same : (x y : List ℕ) → (let r : Read = Ok x in r) ≡ Ok y → x ≡ y
-ok_same x y is = cc
-
 -- a word that was read
 record WordRead (d least left : ℕ) (bytes own : List ℕ) : Type 0 where
   long : 8 ≤ length bytes
@@ -163,7 +149,6 @@ record WordRead (d least left : ℕ) (bytes own : List ℕ) : Type 0 where
 word_read : (d least left : ℕ) (bytes own : List ℕ) → read_word d least left bytes ≡ Ok own → WordRead d least left bytes own
 word_read d least left bytes own is =
     let gaps = gaps_in (word_in bytes) in
-    let range = λ (test : Bool). cond test (let r : Read = Ok (gaps_in (word_in bytes)) in r) (Err DocRange) in
     let first = unless_ok (nat_lt (length bytes) 8) Cut (cond (nat_lt left (length (gaps_in (word_in bytes)))) (Err Shape) (cond (list_all (λ doc. nat_lt doc d) (docs_from least (gaps_in (word_in bytes)))) (Ok (gaps_in (word_in bytes))) (Err DocRange))) own is in
     let second = unless_ok (nat_lt left (length (gaps_in (word_in bytes)))) Shape (cond (list_all (λ doc. nat_lt doc d) (docs_from least (gaps_in (word_in bytes)))) (Ok (gaps_in (word_in bytes))) (Err DocRange)) own first.1 in
     let third = if_ok (list_all (λ doc. nat_lt doc d) (docs_from least (gaps_in (word_in bytes)))) (Ok (gaps_in (word_in bytes))) DocRange own second.1 in

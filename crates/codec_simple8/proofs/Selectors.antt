@@ -1,8 +1,5 @@
 -- The least selector whose word takes the gaps at the front of a list.
-use Rattle.std.proofs.Common.{◌≡◌, ℕ, zero, suc, ◌+◌, ◌^◌, ◌<◌, ◌≤◌, Bool, true, false, List, [], ◌∷◌, length, ◌⊎◌, ◌≢◌, inl, inr, refl, sym, ap, ◌∙◌, arith}
-use Rattle.std.specs.Prelude.{nat_lt, nat_le}
-use Rattle.std.proofs.lemmas.Bool.{cases_eq, cases_lt}
-use Rattle.std.proofs.lemmas.Bool.Decides.{nat_tests}
+use Rattle.shared_lemmas.proofs.Common.{◌≡◌, ℕ, zero, suc, ◌+◌, ◌^◌, ◌<◌, ◌≤◌, Bool, true, false, List, [], ◌∷◌, length, ◌⊎◌, ◌≢◌, inl, inr, refl, sym, ap, ◌∙◌, arith, nat_lt, nat_le, cases_eq, cases_lt, nat_tests}
 use Rattle.codec_simple8.specs.Simple8.{takes, selector_from, selector_of}
 use Rattle.codec_simple8.proofs.Tables.{last_count, last_width}
 use Rattle.codec_simple8.proofs.Digits.{Below, Below-head}
@@ -75,8 +72,7 @@ last_takes gap gaps small =
 pub selector_takes : (gaps : List ℕ) → 0 < length gaps → Below (2 ^ 26) gaps → takes (selector_of gaps) gaps ≡ true
 unfolding selector_of
 selector_takes [] some small = absurd (omega arith)
-selector_takes (gap ∷ gaps) some small = go (cases_lt (selector_from 15 0 (gap ∷ gaps)) 15)
-  where
-    go : (selector_from 15 0 (gap ∷ gaps) < 15) ⊎ (15 ≤ selector_from 15 0 (gap ∷ gaps)) → takes (selector_from 15 0 (gap ∷ gaps)) (gap ∷ gaps) ≡ true
-    go (inl less) = (stop 15 0 (gap ∷ gaps)).takes_them less
-    go (inr last) = let at = stop 15 0 (gap ∷ gaps) in let is : selector_from 15 0 (gap ∷ gaps) ≡ 15 = omega (arith, at.to) in rw is (last_takes gap gaps small)
+selector_takes (gap ∷ gaps) some small = elim (cases_lt (selector_from 15 0 (gap ∷ gaps)) 15) [
+  | inl less ↦ (stop 15 0 (gap ∷ gaps)).takes_them less
+  | inr last ↦ let at = stop 15 0 (gap ∷ gaps) in let is : selector_from 15 0 (gap ∷ gaps) ≡ 15 = omega (arith, at.to) in rw is (last_takes gap gaps small)
+]

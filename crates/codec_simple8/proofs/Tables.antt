@@ -1,16 +1,10 @@
 -- What holds of each of the 16 selectors.
-use Rattle.std.proofs.Common.{◌≡◌, ℕ, zero, suc, ◌+◌, ◌*◌, ◌<◌, ◌≤◌, Bool, true, false, refl, arith}
-use Rattle.std.specs.Prelude.{nat_eq, nat_lt, nat_le, ◌||◌}
-use Rattle.std.specs.List.{list_all, range_with_len}
-use Rattle.std.proofs.lemmas.Bool.Decides.{nat_tests}
-use Rattle.std.proofs.lemmas.Bool.{and_parts}
+use Rattle.shared_lemmas.proofs.Common.{◌≡◌, ℕ, zero, suc, ◌+◌, ◌*◌, ◌<◌, ◌≤◌, Bool, true, false, refl, arith, nat_eq, nat_lt, nat_le, ◌||◌, list_all, range_with_len, nat_tests, and_parts}
 use Rattle.codec_simple8.specs.Simple8.{count_of, width_of}
 
 each_from : (p : ℕ → Bool) (n a : ℕ) → list_all p (range_with_len a n) ≡ true → (k : ℕ) → k < n → p (a + k) ≡ true
 each_from p zero a all k within = absurd (omega arith)
-each_from p (suc n) a all zero within =
-    let here : a + 0 ≡ a = omega arith in
-    rw here (and_parts (p a) (list_all p (range_with_len (a + 1) n)) all).0
+each_from p (suc n) a all zero within = let here : a + 0 ≡ a = omega arith in rw here (and_parts (p a) (list_all p (range_with_len (a + 1) n)) all).0
 each_from p (suc n) a all (suc k) within =
     let there : a + suc k ≡ a + 1 + k = omega arith in
     rw there (each_from p n (a + 1) (and_parts (p a) (list_all p (range_with_len (a + 1) n)) all).1 k (omega arith))

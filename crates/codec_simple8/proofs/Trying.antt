@@ -1,12 +1,5 @@
 -- Passing over gaps while they fit into words together.
-use Rattle.std.proofs.Common.{◌≡◌, ℕ, zero, suc, ◌+◌, ◌^◌, ◌<◌, ◌≤◌, true, false, List, [], ◌∷◌, length, take, get_or, bit_or, ◌⊎◌, inl, inr, refl, sym, ap, subst, ◌∙◌, arith}
-use Rattle.std.specs.Prelude.{nat_lt, nat_le, ◌&&◌}
-use Rattle.std.specs.List.{list_all}
-use Rattle.std.proofs.lemmas.Bool.{cases_lt}
-use Rattle.std.proofs.lemmas.Bool.Decides.{nat_tests}
-use Rattle.std.proofs.lemmas.List.{take-take}
-use Rattle.std.proofs.lemmas.List.Folds.{list_all_more}
-use Rattle.std.proofs.lemmas.Nat.{or_lt, le_or_l, le_or_r}
+use Rattle.shared_lemmas.proofs.Common.{◌≡◌, ℕ, zero, suc, ◌+◌, ◌^◌, ◌<◌, ◌≤◌, true, false, List, [], ◌∷◌, length, take, get_or, bit_or, ◌⊎◌, inl, inr, refl, sym, ap, subst, ◌∙◌, arith, nat_lt, nat_le, ◌&&◌, list_all, cases_lt, nat_tests, take-take, list_all_more, or_lt, le_or_l, le_or_r}
 use Rattle.codec_simple8.specs.Simple8.{count_of, width_of, takes, selector_of}
 use Rattle.codec_simple8.proofs.Digits.{Below, Below-head, Below-tail, Below-cons}
 use Rattle.codec_simple8.proofs.Selectors.{one_of, Either, selector_is}
@@ -67,14 +60,8 @@ joined_first [] gap some is = absurd (omega arith)
 joined_first (x ∷ gaps) gap some is = λ w. go (2 ^ w) (cases_lt gap (2 ^ w))
   where
     go : (p : ℕ) → (gap < p) ⊎ (p ≤ gap) → list_all (λ gap. nat_lt gap p) (take 1 (x ∷ gaps)) ≡ nat_lt gap p
-    go p (inl less) =
-        let t : nat_lt x p ≡ true = grind (arith, nat_tests, is) in
-        let u : nat_lt gap p ≡ true = grind (arith, nat_tests) in
-        rw (t, u) refl
-    go p (inr more) =
-        let t : nat_lt x p ≡ false = grind (arith, nat_tests, is) in
-        let u : nat_lt gap p ≡ false = grind (arith, nat_tests) in
-        rw (t, u) refl
+    go p (inl less) = let t : nat_lt x p ≡ true = grind (arith, nat_tests, is) in let u : nat_lt gap p ≡ true = grind (arith, nat_tests) in rw (t, u) refl
+    go p (inr more) = let t : nat_lt x p ≡ false = grind (arith, nat_tests, is) in let u : nat_lt gap p ≡ false = grind (arith, nat_tests) in rw (t, u) refl
 
 -- a selector whose word has no more gaps than fit together takes the gaps
 pub fit_taken : (gaps : List ℕ) (seen bits s : ℕ) → Fitting gaps seen bits → seen ≤ length gaps → s < 16 → count_of s ≤ seen → takes s gaps ≡ true
@@ -100,11 +87,10 @@ past_fails gaps seen bits s joined more wide = go (one_of (takes s gaps))
 -- where passing over the gaps ends, a selector takes them exactly where its word has no more
 pub ends : (gaps : List ℕ) (seen bits : ℕ) → Fitting gaps seen bits → seen ≤ length gaps → ((s : ℕ) → s < 16 → seen < count_of s → takes s gaps ≡ false)
     → (s : ℕ) → s < 16 → takes s gaps ≡ nat_le (count_of s) seen
-ends gaps seen bits fitting within fail s small = go (cases_lt seen (count_of s))
-  where
-    go : (seen < count_of s) ⊎ (count_of s ≤ seen) → takes s gaps ≡ nat_le (count_of s) seen
-    go (inl more) = let t : nat_le (count_of s) seen ≡ false = grind (arith, nat_tests) in fail s small more ∙ sym t
-    go (inr few) = let t : nat_le (count_of s) seen ≡ true = grind (arith, nat_tests) in fit_taken gaps seen bits s fitting within small few ∙ sym t
+ends gaps seen bits fitting within fail s small = elim (cases_lt seen (count_of s)) [
+  | inl more ↦ let t : nat_le (count_of s) seen ≡ false = grind (arith, nat_tests) in fail s small more ∙ sym t
+  | inr few ↦ let t : nat_le (count_of s) seen ≡ true = grind (arith, nat_tests) in fit_taken gaps seen bits s fitting within small few ∙ sym t
+]
 
 -- the least selector whose word has no more gaps than fit
 pub least_is : (gaps : List ℕ) (seen selector : ℕ) → ((s : ℕ) → s < 16 → takes s gaps ≡ nat_le (count_of s) seen) → selector < 16 → count_of selector ≤ seen
@@ -119,6 +105,4 @@ least_is gaps seen selector exact small few least =
 
 -- a first gap fits into each word that has no other
 pub first_fits : (gap s : ℕ) → s < 16 → count_of s ≤ 1 → gap < 2 ^ 26 → gap < 2 ^ width_of s
-first_fits gap s small one below =
-    let width : 2 ^ width_of s ≡ 2 ^ 60 = ap (λ s. 2 ^ width_of s) (last_only s small one) ∙ ap (λ w. 2 ^ w) last_width in
-    omega (arith, width)
+first_fits gap s small one below = omega (arith, ap (λ s. 2 ^ width_of s) (last_only s small one) ∙ ap (λ w. 2 ^ w) last_width)

@@ -1,20 +1,9 @@
 -- Bytes that are whole words, and whether their gaps are spelled with these words.
-use Rattle.std.proofs.Common.{◌≡◌, ℕ, zero, suc, ◌+◌, ◌*◌, ◌-◌, ◌/◌, ◌%◌, ◌^◌, ◌<◌, ◌≤◌, Bool, true, false, List, [], ◌∷◌, ◌++◌, length, take, drop, get_or, ◌⊎◌, ◌≢◌, inl, inr, refl, sym, ap, subst, ◌∙◌, length-append, append-nil, arith}
-use Rattle.std.specs.Prelude.{All, nat_eq, nat_lt, nat_le, not, ◌&&◌, ◌||◌}
-use Rattle.std.specs.Int.{w64, to_le_bytes}
-use Rattle.std.specs.List.{list_all}
-use Rattle.std.specs.Simd.Lanes.{number_l}
+use Rattle.shared_lemmas.proofs.Common.{◌≡◌, ℕ, zero, suc, ◌+◌, ◌*◌, ◌-◌, ◌/◌, ◌%◌, ◌^◌, ◌<◌, ◌≤◌, Bool, true, false, List, [], ◌∷◌, ◌++◌, length, take, drop, get_or, ◌⊎◌, ◌≢◌, inl, inr, refl, sym, ap, subst, ◌∙◌, append-nil, arith, All, nat_eq, nat_lt, nat_le, not, ◌&&◌, ◌||◌, w64, to_le_bytes}
+use Rattle.shared_lemmas.proofs.Common.{list_all, number_l, cases_eq, cases_lt, and_parts, nat_tests, length-drop, length-take-le, length-take, take_at, drop_at, take-append-drop, get_or-take, get_or_past, take-take, take_all, take-append-le, nil_from_length, list_all-append, take-append-add}
+use Rattle.shared_lemmas.proofs.Common.{All-drop, le_bytes_8, pow_pos, bytes_eq-Decides, mod-lt, mod-add-div, pow-le-pow_right, or-true}
+use Rattle.std.proofs.Common.{length-append}
 use Rattle.std.specs.Str.{bytes_eq}
-use Rattle.std.proofs.lemmas.Bool.{cases_eq, cases_lt, and_parts}
-use Rattle.std.proofs.lemmas.Bool.Decides.{nat_tests}
-use Rattle.std.proofs.lemmas.List.{length-drop, length-take-le, length-take, take_at, drop_at, take-append-drop, get_or-take, get_or_past, take-take, take_all, take-append-le, nil_from_length}
-use Rattle.std.proofs.lemmas.List.Folds.{list_all-append}
-use Rattle.std.proofs.Math.Seq.{take-append-add}
-use Rattle.std.proofs.lemmas.List.Elements.{All-drop}
-use Rattle.std.proofs.lemmas.Nat.{le_bytes_8, pow_pos}
-use Rattle.std.proofs.lemmas.Slice.Eq.{bytes_eq-Decides}
-use Rattle.std.proofs.Math.Nat.{mod-lt, mod-add-div, pow-le-pow_right}
-use Rattle.std.proofs.Math.Bool.{or-true}
 use Rattle.codec_simple8.specs.Simple8.{count_of, width_of, takes, selector_of, word_of, fields, gaps_in, word_in, spelled_words}
 use Rattle.codec_simple8.specs.Private.Words.{words_gaps, bytes_gaps, AreWords, spells_them}
 use Rattle.codec_simple8.proofs.Digits.{Below, Below-wider, number_below, digits_below, number_digits, power_of_power}
@@ -40,9 +29,7 @@ bytes_more bytes long =
 
 pub bytes_none : (bytes : List ℕ) → length bytes < 8 → bytes_gaps bytes ≡ []
 unfolding bytes_gaps
-bytes_none bytes short =
-    let none : length bytes / 8 ≡ 0 = omega arith in
-    ap (λ n. words_gaps n bytes) none
+bytes_none bytes short = let none : length bytes / 8 ≡ 0 = omega arith in ap (λ n. words_gaps n bytes) none
 
 -- a word, and the words behind it
 pub record OneWord (bytes : List ℕ) (left : ℕ) : Type 0 where
@@ -93,14 +80,13 @@ takes_later (suc n) s gaps less taken =
     rw e (takes_next (s + n) gaps (omega arith) (takes_later n s gaps (omega arith) taken))
 
 none_before : (s : ℕ) (gaps : List ℕ) → s < 16 → takes (s - 1) gaps ≡ false → (r : ℕ) → r < s → takes r gaps ≡ false
-none_before s gaps small fails r less = go (one_of (takes r gaps))
-  where
-    go : Either (takes r gaps) → takes r gaps ≡ false
-    go (inl taken) =
-        let last : r + (s - 1 - r) ≡ s - 1 = omega arith in
-        let there : takes (s - 1) gaps ≡ true = subst (λ t. takes t gaps ≡ true) last (takes_later (s - 1 - r) r gaps (omega arith) taken) in
-        absurd cc
-    go (inr none) = none
+none_before s gaps small fails r less = elim (one_of (takes r gaps)) [
+  | inl taken ↦
+      let last : r + (s - 1 - r) ≡ s - 1 = omega arith in
+      let there : takes (s - 1) gaps ≡ true = subst (λ t. takes t gaps ≡ true) last (takes_later (s - 1 - r) r gaps (omega arith) taken) in
+      absurd cc
+  | inr none ↦ none
+]
 
 -- ---- the word that gaps are spelled with
 
@@ -123,25 +109,23 @@ spells word gaps is =
 
 spells_again : (word : ℕ) (gaps : List ℕ) → Spells word gaps → spells_them word gaps ≡ true
 unfolding spells_them
-spells_again word gaps sp = go sp.least
-  where
-    go : (word % 16 ≡ 0) ⊎ (takes (word % 16 - 1) gaps ≡ false) → (nat_lt (word / 16) (2 ^ (width_of (word % 16) * count_of (word % 16))) && (nat_eq (word % 16) 0 || not (takes (word % 16 - 1) gaps))) ≡ true
-    go (inl first) =
-        let used = sp.used in
-        let t : nat_lt (word / 16) (2 ^ (width_of (word % 16) * count_of (word % 16))) ≡ true = grind (arith, nat_tests) in
-        let u : nat_eq (word % 16) 0 ≡ true = grind (arith, nat_tests) in
-        rw (t, u) refl
-    go (inr fails) =
-        let used = sp.used in
-        let t : nat_lt (word / 16) (2 ^ (width_of (word % 16) * count_of (word % 16))) ≡ true = grind (arith, nat_tests) in
-        rw (t, fails) (or-true (nat_eq (word % 16) 0))
+spells_again word gaps sp = elim sp.least [
+  | inl first ↦
+      let used = sp.used in
+      let t : nat_lt (word / 16) (2 ^ (width_of (word % 16) * count_of (word % 16))) ≡ true = grind (arith, nat_tests) in
+      let u : nat_eq (word % 16) 0 ≡ true = grind (arith, nat_tests) in
+      rw (t, u) refl
+  | inr fails ↦
+      let used = sp.used in
+      let t : nat_lt (word / 16) (2 ^ (width_of (word % 16) * count_of (word % 16))) ≡ true = grind (arith, nat_tests) in
+      rw (t, fails) (or-true (nat_eq (word % 16) 0))
+]
 
 values_used : (s : ℕ) (gaps : List ℕ) → s < 16 → takes s gaps ≡ true → word_of s gaps / 16 < 2 ^ (width_of s * count_of s)
 values_used s gaps small taken =
     let long = length-take-le (count_of s) gaps (takes_enough s gaps taken) in
     let fits = number_below (2 ^ width_of s) (take (count_of s) gaps) (takes_narrow s gaps taken) in
-    let power : (2 ^ width_of s) ^ length (take (count_of s) gaps) ≡ 2 ^ (width_of s * count_of s) = ap (λ n. (2 ^ width_of s) ^ n) long ∙ power_of_power 2 (width_of s) (count_of s) in
-    omega (arith, fits, power, word_high s gaps small)
+    omega (arith, fits, word_high s gaps small, ap (λ n. (2 ^ width_of s) ^ n) long ∙ power_of_power 2 (width_of s) (count_of s))
 
 -- gaps are spelled with the first word of their spelling
 pub first_spells : (gaps : List ℕ) → 0 < length gaps → Below (2 ^ 26) gaps → spells_them (word_of (selector_of gaps) gaps) gaps ≡ true
@@ -162,7 +146,6 @@ pub spells_first : (word : ℕ) (gaps more : List ℕ) → gaps ≡ gaps_in word
 unfolding word_of gaps_in fields
 spells_first word gaps more parts is =
     let sp = spells word gaps is in
-    let s = word % 16 in
     let small : word % 16 < 16 = mod-lt word (omega arith) in
     let own = length-gaps_in word in
     let own' : take (count_of (word % 16)) gaps ≡ gaps_in word = ap (take (count_of (word % 16))) parts ∙ take_at (gaps_in word) more (count_of (word % 16)) own in
@@ -182,7 +165,6 @@ spells_first word gaps more parts is =
 pub test_unused : (word : ℕ) (gaps : List ℕ) → (word / 16 / 2 ^ (width_of (word % 16) * count_of (word % 16)) ≡ 0 → ⊥) → false ≡ spells_them word gaps
 unfolding spells_them
 test_unused word gaps some =
-    let p = 2 ^ (width_of (word % 16) * count_of (word % 16)) in
     let t : nat_eq (word / 16 / 2 ^ (width_of (word % 16) * count_of (word % 16))) 0 ≡ false = grind (arith, nat_tests) in
     let u : nat_lt (word / 16) (2 ^ (width_of (word % 16) * count_of (word % 16))) ≡ false = sym (nothing_above (word / 16) (2 ^ (width_of (word % 16) * count_of (word % 16))) (pow_pos (width_of (word % 16) * count_of (word % 16)))) ∙ t in
     rw u refl
@@ -194,15 +176,11 @@ used_bits word none =
 
 pub test_first : (word : ℕ) (gaps : List ℕ) → word / 16 / 2 ^ (width_of (word % 16) * count_of (word % 16)) ≡ 0 → word % 16 ≡ 0 → true ≡ spells_them word gaps
 unfolding spells_them
-test_first word gaps none first =
-    let u : nat_eq (word % 16) 0 ≡ true = grind (arith, nat_tests) in
-    rw (used_bits word none, u) refl
+test_first word gaps none first = let u : nat_eq (word % 16) 0 ≡ true = grind (arith, nat_tests) in rw (used_bits word none, u) refl
 
 pub test_later : (word : ℕ) (gaps : List ℕ) (taken : Bool) → word / 16 / 2 ^ (width_of (word % 16) * count_of (word % 16)) ≡ 0 → (word % 16 ≡ 0 → ⊥) → takes (word % 16 - 1) gaps ≡ taken → not taken ≡ spells_them word gaps
 unfolding spells_them
-test_later word gaps taken none later is =
-    let u : nat_eq (word % 16) 0 ≡ false = grind (arith, nat_tests) in
-    rw (used_bits word none, u, is) refl
+test_later word gaps taken none later is = let u : nat_eq (word % 16) 0 ≡ false = grind (arith, nat_tests) in rw (used_bits word none, u, is) refl
 
 -- ---- bytes that are a spelling
 
@@ -266,13 +244,12 @@ spelling_one bytes left are some small holds =
 
 -- where no gap is left, no byte is
 words_end : (bytes : List ℕ) → AreWords bytes 0 → bytes ≡ []
-words_end bytes are = go (cases_lt (length bytes) 8)
-  where
-    go : (length bytes < 8) ⊎ (8 ≤ length bytes) → bytes ≡ []
-    go (inl short) = nil_from_length bytes (omega (arith, short, are.whole))
-    go (inr long) =
-        let count = ap length (bytes_more bytes long) ∙ length-append (gaps_in (word_in bytes)) (bytes_gaps (drop 8 bytes)) in
-        absurd (omega (arith, count, are.count, length-gaps_in (word_in bytes), count_some (word_in bytes % 16) (mod-lt (word_in bytes) (omega arith))))
+words_end bytes are = elim (cases_lt (length bytes) 8) [
+  | inl short ↦ nil_from_length bytes (omega (arith, short, are.whole))
+  | inr long ↦
+      let count = ap length (bytes_more bytes long) ∙ length-append (gaps_in (word_in bytes)) (bytes_gaps (drop 8 bytes)) in
+      absurd (omega (arith, count, are.count, length-gaps_in (word_in bytes), count_some (word_in bytes % 16) (mod-lt (word_in bytes) (omega arith))))
+]
 
 pub spelling_end : (bytes : List ℕ) → AreWords bytes 0 → true ≡ bytes_eq bytes (spelled_words (bytes_gaps bytes))
 spelling_end bytes are =

@@ -1,10 +1,6 @@
 -- A word in the making, and the words that are left.
-use Rattle.std.proofs.Common.{◌≡◌, ℕ, zero, suc, ◌+◌, ◌*◌, ◌-◌, ◌%◌, ◌^◌, ◌<◌, ◌≤◌, true, List, [], ◌∷◌, ◌++◌, length, take, drop, get_or, bit_or, refl, sym, ap, subst, ◌∙◌, arith}
-use Rattle.std.specs.Int.{w64, to_le_bytes}
-use Rattle.std.specs.Simd.Lanes.{number_l}
-use Rattle.std.proofs.lemmas.List.{length-drop, length-append, drop-drop, drop_more}
-use Rattle.std.proofs.lemmas.Nat.{shl_whole, or_shifted}
-use Rattle.std.proofs.Math.Nat.{mul-suc, mul-le-mul_left}
+use Rattle.shared_lemmas.proofs.Common.{◌≡◌, ℕ, zero, suc, ◌+◌, ◌*◌, ◌-◌, ◌%◌, ◌^◌, ◌<◌, ◌≤◌, true, List, [], ◌∷◌, ◌++◌, length, take, drop, get_or, bit_or, refl, sym, ap, subst, ◌∙◌, arith, w64, to_le_bytes, number_l, length-drop, length-append, drop-drop, drop_more, shl_whole, or_shifted}
+use Rattle.shared_lemmas.proofs.Common.{mul-suc, mul-le-mul_left}
 use Rattle.codec_simple8.specs.Simple8.{count_of, width_of, takes, selector_of, word_of, spelled_words}
 use Rattle.codec_simple8.proofs.Digits.{Below, Below-head, Below-tail, number_below, power_of_power}
 use Rattle.codec_simple8.proofs.GapLists.{Below-drop}
@@ -22,7 +18,6 @@ value_at p (suc i) (x ∷ xs) all within = value_at p i xs (Below-tail p x xs al
 pub value_put : (w i : ℕ) (xs : List ℕ) → Below (2 ^ w) xs → w * length xs ≤ 60 → 0 < i → i ≤ length xs
     → bit_or (number_l (2 ^ w) (drop i xs) * 2 ^ w % 2 ^ 64) (get_or xs (i - 1) 0) ≡ number_l (2 ^ w) (drop (i - 1) xs)
 value_put w i xs all short some within =
-    let n = number_l (2 ^ w) (drop i xs) in
     let fits = number_below (2 ^ w) (drop i xs) (Below-drop (2 ^ w) i xs all) in
     let power = power_of_power 2 w (length (drop i xs)) in
     let below : number_l (2 ^ w) (drop i xs) < 2 ^ (w * length (drop i xs)) = omega (arith, fits, power) in
@@ -44,7 +39,6 @@ pub selector_put : (s : ℕ) (gaps : List ℕ) → s < 16 → takes s gaps ≡ t
     → bit_or (number_l (2 ^ width_of s) (take (count_of s) gaps) * 16 % 2 ^ 64) s ≡ word_of s gaps
 unfolding word_of
 selector_put s gaps small taken =
-    let n = number_l (2 ^ width_of s) (take (count_of s) gaps) in
     let fits = values_fit s gaps small taken in
     let whole = shl_whole (number_l (2 ^ width_of s) (take (count_of s) gaps)) 60 4 64 fits (omega arith) in
     let joined = or_shifted (number_l (2 ^ width_of s) (take (count_of s) gaps)) 4 s small in
@@ -73,12 +67,10 @@ bytes_within : (n : ℕ) (gaps : List ℕ) → length gaps ≤ n → length (spe
 bytes_within n [] few = rw no_words (omega arith)
 bytes_within zero (gap ∷ gaps) few = absurd (omega arith)
 bytes_within (suc n) (gap ∷ gaps) few =
-    let s = selector_of (gap ∷ gaps) in
     let some = count_some (selector_of (gap ∷ gaps)) (selector_small (gap ∷ gaps)) in
     let shorter = length-drop (count_of (selector_of (gap ∷ gaps))) (gap ∷ gaps) in
-    let rest = bytes_within n (drop (count_of (selector_of (gap ∷ gaps))) (gap ∷ gaps)) (omega (arith, shorter, some)) in
     let next = ap length (one_word (gap ∷ gaps) (omega arith)) ∙ length-append (to_le_bytes w64 (word_of (selector_of (gap ∷ gaps)) (gap ∷ gaps))) (spelled_words (drop (count_of (selector_of (gap ∷ gaps))) (gap ∷ gaps))) in
-    omega (arith, rest, next, shorter, some)
+    omega (arith, next, shorter, some, bytes_within n (drop (count_of (selector_of (gap ∷ gaps))) (gap ∷ gaps)) (omega (arith, shorter, some)))
 
 pub bytes_few : (gaps : List ℕ) → length (spelled_words gaps) ≤ 8 * length gaps
 bytes_few gaps = bytes_within (length gaps) gaps (omega arith)

@@ -1,14 +1,7 @@
 -- A word, and what is read of it.
-use Rattle.std.proofs.Common.{◌≡◌, ℕ, zero, suc, ◌*◌, ◌/◌, ◌%◌, ◌^◌, ◌<◌, ◌≤◌, true, List, [], ◌∷◌, ◌++◌, length, take, drop, refl, sym, ap, subst, ◌∙◌, length-append, arith}
-use Rattle.std.specs.Prelude.{nat_lt, nat_le}
-use Rattle.std.specs.Int.{w64, from_le_bytes, to_le_bytes}
-use Rattle.std.specs.List.{list_all, flat_map}
-use Rattle.std.specs.Simd.Lanes.{number_l, digits_l}
-use Rattle.std.proofs.lemmas.Bool.Decides.{nat_tests}
-use Rattle.std.proofs.lemmas.List.{length-take-le, length-drop, take_at, drop_at}
-use Rattle.std.proofs.lemmas.Nat.{from_le_bytes-to_le_bytes_8}
-use Rattle.std.proofs.Math.Nat.{pow-le-pow_right}
-use Rattle.std.proofs.lemmas.Bool.{and_parts}
+use Rattle.shared_lemmas.proofs.Common.{◌≡◌, ℕ, zero, suc, ◌/◌, ◌%◌, ◌^◌, ◌<◌, ◌≤◌, true, List, [], ◌∷◌, ◌++◌, length, take, drop, refl, sym, ap, subst, ◌∙◌, arith, nat_lt, nat_le, w64, from_le_bytes, to_le_bytes, list_all, flat_map, number_l, digits_l, nat_tests, length-take-le, length-drop}
+use Rattle.shared_lemmas.proofs.Common.{take_at, drop_at, from_le_bytes-to_le_bytes_8, pow-le-pow_right, and_parts}
+use Rattle.std.proofs.Common.{length-append}
 use Rattle.codec_simple8.specs.Simple8.{count_of, width_of, takes, selector_of, word_of, gaps_in, fields, words_within, spelled_words, word_in}
 use Rattle.codec_simple8.proofs.Digits.{Below, digits_number, number_below, first_digit, later_digits, power_of_power}
 use Rattle.codec_simple8.proofs.Selectors.{selector_small, selector_takes}
@@ -44,10 +37,8 @@ pub values_fit : (s : ℕ) (gaps : List ℕ) → s < 16 → takes s gaps ≡ tru
 values_fit s gaps small taken =
     let long = length-take-le (count_of s) gaps (takes_enough s gaps taken) in
     let fits = number_below (2 ^ width_of s) (take (count_of s) gaps) (takes_narrow s gaps taken) in
-    let power : (2 ^ width_of s) ^ length (take (count_of s) gaps) ≡ 2 ^ (width_of s * count_of s) = ap (λ n. (2 ^ width_of s) ^ n) long ∙ power_of_power 2 (width_of s) (count_of s) in
     let some : 0 < 2 = omega arith in
-    let most : 2 ^ (width_of s * count_of s) ≤ 2 ^ 60 = pow-le-pow_right some (bits_most s small) in
-    omega (arith, fits, power, most)
+    omega (arith, fits, ap (λ n. (2 ^ width_of s) ^ n) long ∙ power_of_power 2 (width_of s) (count_of s), pow-le-pow_right some (bits_most s small))
 
 pub word_fits : (s : ℕ) (gaps : List ℕ) → s < 16 → takes s gaps ≡ true → word_of s gaps < 2 ^ 64
 unfolding word_of
@@ -93,7 +84,6 @@ pub one_word : (gaps : List ℕ) → 0 < length gaps → spelled_words gaps ≡ 
 unfolding spelled_words
 one_word [] some = absurd (omega arith)
 one_word (gap ∷ gaps) some =
-    let c = count_of (selector_of (gap ∷ gaps)) in
     let one = count_some (selector_of (gap ∷ gaps)) (selector_small (gap ∷ gaps)) in
     ap (λ (words : List ℕ). to_le_bytes w64 (word_of (selector_of (gap ∷ gaps)) (gap ∷ gaps)) ++ flat_map (to_le_bytes w64) words)
     (enough (length gaps) (length (drop (count_of (selector_of (gap ∷ gaps))) (gap ∷ gaps))) (drop (count_of (selector_of (gap ∷ gaps))) (gap ∷ gaps))

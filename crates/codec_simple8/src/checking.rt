@@ -1,4 +1,4 @@
-ghost use Rattle.std.specs.Prelude.{◌≡◌, ◌<◌, ◌≤◌, ◌^◌};
+ghost use Rattle.std.specs.Prelude.{◌<◌, ◌≤◌};
 ghost use Rattle.jass_base.specs.Codecs.{Checks, IsDocCount};
 ghost use Rattle.jass_base.specs.Gaps.{Judges};
 ghost use Rattle.codec_simple8.specs.Simple8.{simple8_of, read_simple8, read_words};
@@ -28,10 +28,7 @@ fn judge(bytes: &[u8], count: u32, d: u32) -> Result<(), PayloadFault>
     requires { IsDocCount count d }
     ensures { Judges (read_simple8 d count bytes.now) result }
 {
-    match walk(bytes, count, d) {
-        Ok(()) => {}
-        Err(fault) => return Err(fault),
-    }
+    walk(bytes, count, d)?;
     if is_spelling(bytes, count) {
         Ok(())
     } else {

@@ -1,6 +1,7 @@
-ghost use Rattle.std.specs.Prelude.{◌≡◌, ℕ, ◌+◌, ◌<◌, ◌≤◌, ◌^◌, ◌↔◌, List, [], All, drop, length, take};
+ghost use Rattle.std.specs.Prelude.{◌≡◌, ℕ, ◌+◌, ◌<◌, ◌≤◌, List};
 ghost use Rattle.jass_base.specs.Codecs.{GivesAll, HandsOver};
-ghost use Rattle.codec_simple8.specs.Cursor.{Gives, Moved};
+ghost use Rattle.codec_simple8.specs.Cursor.{Gives};
+ghost use Rattle.codec_simple8.specs.Private.Cursor.{Moved};
 ghost use Rattle.codec_simple8.specs.Simple8.{simple8_of};
 
 use crate::rows::put_fields;

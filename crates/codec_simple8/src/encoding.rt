@@ -1,4 +1,4 @@
-ghost use Rattle.std.specs.Prelude.{◌≡◌, ℕ, ◌+◌, ◌<◌, ◌≤◌, ◌^◌, All, drop, length, slice_index, nat_le, IfSome, IsNone};
+ghost use Rattle.std.specs.Prelude.{◌≡◌, ℕ, ◌+◌, ◌<◌, ◌≤◌, drop, length, slice_index, nat_le, IfSome, IsNone};
 ghost use Rattle.jass_base.specs.Codecs.{Encodes};
 ghost use Rattle.jass_base.specs.Gaps.{AreDocs, gaps_of};
 ghost use Rattle.codec_simple8.specs.Simple8.{count_of, selector_of, simple8_of, takes, word_of};

@@ -1,4 +1,4 @@
-ghost use Rattle.std.specs.Prelude.{◌≡◌, ℕ, ◌≤◌, ◌^◌, List, length, take, IfOk, Ok};
+ghost use Rattle.std.specs.Prelude.{◌≡◌, ℕ, ◌≤◌, List, length, take, IfOk, Ok};
 ghost use Rattle.jass_base.specs.Codecs.{ChecksInto, IsDocCount};
 ghost use Rattle.jass_base.specs.Gaps.{Judges, docs_from};
 ghost use Rattle.codec_simple8.specs.Simple8.{simple8_of, read_simple8, read_words};
@@ -32,10 +32,7 @@ fn hand_out(bytes: &[u8], count: u32, d: u32, out: &mut [u32]) -> Result<(), Pay
     ensures docs { IfOk result (λ _. read_simple8 d count bytes.now ≡ Ok (take count out.new)) }
     ensures length { length out.new ≡ length out.old }
 {
-    match hand_out_words(bytes, count, d, out) {
-        Ok(()) => {}
-        Err(fault) => return Err(fault),
-    }
+    hand_out_words(bytes, count, d, out)?;
     if is_spelling(bytes, count) {
         Ok(())
     } else {

@@ -1,6 +1,6 @@
 //! What is read of bytes is the list that they are the payload of.
 
-ghost use Rattle.std.specs.Prelude.{ℕ, ◌≡◌, ◌<◌, ◌≤◌, ◌^◌, List, All, length, Ok};
+ghost use Rattle.std.specs.Prelude.{ℕ, ◌≡◌, ◌<◌, ◌≤◌, List, All, length, Ok};
 ghost use Rattle.jass_base.specs.Gaps.{AreDocs};
 ghost use Rattle.codec_simple8.specs.Simple8.{read_simple8, simple8_of};
 ghost use Rattle.jass_base.specs.declared.limits.TheConstants.{MOST_DOCUMENTS};

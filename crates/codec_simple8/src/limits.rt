@@ -1,5 +1,5 @@
 // How many gaps stand in a word, and how wide they may be, by the number of them that were seen.
-ghost use Rattle.std.specs.Prelude.{◌≡◌, ℕ, ◌+◌, ◌<◌, ◌≤◌, ◌^◌};
+ghost use Rattle.std.specs.Prelude.{ℕ, ◌+◌, ◌<◌, ◌≤◌, ◌^◌};
 ghost use Rattle.codec_simple8.specs.Simple8.{count_of, width_of};
 
 use crate::selector::Selector;

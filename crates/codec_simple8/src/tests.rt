@@ -1,7 +1,6 @@
 // Worked payloads: the documents, their bytes, and what is read of them.
-ghost use Rattle.std.specs.Prelude.{◌≡◌, ℕ, ◌+◌, ◌<◌, ◌≤◌, ◌^◌, List, IsTrue, length};
+ghost use Rattle.std.specs.Prelude.{◌≡◌, ◌+◌, ◌<◌, ◌≤◌, IsTrue, length};
 ghost use Rattle.jass_base.specs.Gaps.{AreDocs};
-ghost use Rattle.codec_simple8.specs.Cursor.{Gives};
 ghost use Rattle.codec_simple8.specs.Simple8.{simple8_of};
 
 use crate::{Cursor, check, encode, length, length_below};
@@ -86,10 +85,7 @@ fn spells(alloc: Global, docs: &[u32], d: u32, bytes: &[u8]) -> Result<bool, NoM
         return Ok(false);
     }
     let mut row = Row::new(alloc);
-    match encode(docs, d, &mut row) {
-        Ok(()) => {}
-        Err(refused) => return Err(refused),
-    }
+    encode(docs, d, &mut row)?;
     let same = row.as_slice() == bytes
         && check(bytes, docs.len() as u32, d).is_ok()
         && gives(row.as_slice(), docs, d);

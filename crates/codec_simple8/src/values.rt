@@ -1,5 +1,5 @@
 // The documents of a word.
-ghost use Rattle.std.specs.Prelude.{◌≡◌, ◌+◌, ◌<◌, ◌≤◌, ◌^◌, ◌++◌, All, length, take};
+ghost use Rattle.std.specs.Prelude.{◌≡◌, ◌+◌, ◌<◌, ◌≤◌, ◌++◌, All, length, take};
 ghost use Rattle.jass_base.specs.Gaps.{docs_from};
 ghost use Rattle.codec_simple8.specs.Simple8.{count_of, fields, least_behind, width_of};
 ghost use Rattle.jass_base.specs.declared.limits.TheConstants.{MOST_DOCUMENTS};

@@ -1,15 +1,7 @@
 -- The lines of a text that end by LF.
-use Rattle.std.proofs.Common.{◌≡◌, ◌≢◌, ℕ, ◌+◌, ◌-◌, ◌<◌, ◌≤◌, Bool, true, false, List, [], ◌∷◌, ◌++◌, length, take, map, refl, ap, ◌∙◌, arith}
-use Rattle.std.proofs.lemmas.List.{length-take}
-use Rattle.std.proofs.lemmas.List.Splits.{slice_split_at, slice_split_none, length-slice_split}
-use Rattle.std.specs.Prelude.{All, ◌==◌, slice_index, if◌then◌else◌}
-use Rattle.std.specs.List.{slice_split}
-use Rattle.std.specs.Str.Lines.{strip_carriage_return}
-use Rattle.text_lines.proofs.Dividing.{not_feeds}
+use Rattle.shared_lemmas.proofs.Common.{◌≡◌, ◌≢◌, ℕ, ◌+◌, ◌-◌, ◌<◌, ◌≤◌, Bool, true, false, List, [], ◌∷◌, ◌++◌, length, take, map, refl, ap, ◌∙◌, arith, length-take, slice_split_at, slice_split_none, length-slice_split, All, ◌==◌, slice_index, if◌then◌else◌, slice_split, strip_carriage_return}
+use Rattle.text_lines.proofs.Dividing.{not_feeds, is_feed}
 use Rattle.feed_lines.specs.Lines.{ended_lines, ended_parts}
-
-abbrev pub is_feed : ℕ → Bool
-is_feed b = b == 10
 
 one_more : (x : List ℕ) (parts : List (List ℕ)) → 0 < length parts → ended_parts (x ∷ parts) ≡ x ∷ ended_parts parts
 one_more x [] some = absurd (omega (arith, some))

@@ -1,13 +1,7 @@
 -- Bytes that are held in a part of a buffer.
-use Rattle.std.proofs.Common.{◌≡◌, ℕ, ◌+◌, ◌-◌, ◌<◌, ◌≤◌, List, ◌++◌, length, take, drop, refl, ap, sym, ◌∙◌, arith}
-use Rattle.std.specs.Prelude.{Option, slice_range}
-use Rattle.std.specs.Io.KnownBytes.{Consumes, IsAtEnd}
-use Rattle.std.proofs.lemmas.List.{drop-drop, drop-take, length-take, length-drop, take-take}
-use Rattle.std.proofs.lemmas.List.Edits.{length-paste, take-paste}
-use Rattle.std.proofs.lemmas.Slice.{take-put_mid}
-use Rattle.std.proofs.Math.Seq.{paste, take-append-add}
+use Rattle.shared_lemmas.proofs.Common.{◌≡◌, ℕ, ◌+◌, ◌-◌, ◌<◌, ◌≤◌, List, ◌++◌, length, take, drop, refl, ap, sym, ◌∙◌, arith, Option, slice_range, Consumes, IsAtEnd, drop-drop, drop-take, length-take, length-drop, take-take, length-paste, take-paste, take-put_mid, paste, take-append-add}
 use borrow.Rule.Slice.PartMut.{put_mid}
-use Rattle.feed_lines.specs.Waiting.{ReadsSome}
+use Rattle.feed_lines.specs.Private.Reads.{ReadsSome}
 
 -- a part without its front
 pub without_front : (xs : List ℕ) (from to count : ℕ) → count ≤ length (slice_range xs from to) → slice_range xs (from + count) to ≡ drop count (slice_range xs from to)

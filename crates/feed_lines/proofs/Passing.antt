@@ -1,10 +1,6 @@
 -- Lines that are passed, and bytes that wait to be.
-use Rattle.std.proofs.Common.{◌≡◌, ◌≢◌, ℕ, ◌+◌, ◌<◌, ◌≤◌, Bool, true, false, List, [], ◌∷◌, ◌++◌, length, take, drop, refl, ap, sym, subst, ◌∙◌, append_assoc, append-nil, inl, inr, arith}
-use Rattle.std.proofs.lemmas.List.{length-append}
-use Rattle.std.proofs.lemmas.Bool.Decides.{nat_tests}
-use Rattle.std.proofs.lemmas.List.Elements.{All-append, All-nil}
-use Rattle.std.specs.Prelude.{All, Option, ◌||◌, nat_le, ◌⊎◌, if◌then◌else◌}
-use Rattle.std.specs.Str.Lines.{strip_carriage_return}
+use Rattle.shared_lemmas.proofs.Common.{◌≡◌, ◌≢◌, ℕ, ◌+◌, ◌<◌, ◌≤◌, Bool, true, false, List, [], ◌∷◌, ◌++◌, length, take, drop, refl, ap, sym, subst, ◌∙◌, append_assoc, append-nil, inl, inr, arith, length-append, nat_tests, All-append, All-nil, All, Option, ◌||◌, nat_le, ◌⊎◌, if◌then◌else◌}
+use Rattle.shared_lemmas.proofs.Common.{strip_carriage_return}
 use Rattle.text_lines.specs.Lines.{lines_of}
 use Rattle.feed_lines.specs.Waiting.{Waiting, EndsFirst, Takes, TakesNothing, kept, nothing_yet}
 use Rattle.feed_lines.specs.Lines.{ended_lines, Passed, Holds, IsFirstLine, PassesLine}
@@ -38,8 +34,7 @@ passed_whole taken passed pending p free =
     ∙ ap (λ lines. passed ++ lines) (none_ended pending free) ∙ append-nil passed
 
 pub passed_all : (taken : List ℕ) (passed : List (List ℕ)) (pending : List ℕ) → Passed taken passed pending → lines_of taken ≡ passed ++ lines_of pending
-passed_all taken passed pending p =
-    ap lines_of (sym (append-nil taken)) ∙ p.lines [] ∙ ap (λ text. passed ++ lines_of text) (append-nil pending)
+passed_all taken passed pending p = ap lines_of (sym (append-nil taken)) ∙ p.lines [] ∙ ap (λ text. passed ++ lines_of text) (append-nil pending)
 
 -- ---- waiting
 

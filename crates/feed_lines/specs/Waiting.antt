@@ -57,15 +57,3 @@ Fills before after old new (Ok More) = Takes before after old new
 Fills before after old new (Ok End) = TakesNothing before after old new × (0 < old.left) × IsAtEnd after
 Fills before after old new (Ok Limit) = TakesNothing before after old new × (old.left ≡ 0)
 Fills before after old new (Err fault) = TakesNothing before after old new
-
-pub record ReadsSome (before after : Option (List ℕ)) (old new : List ℕ) (count : ℕ) : Type 0 where
-  pub taken : List ℕ
-  pub size : length taken ≡ count
-  pub consumed : Consumes before after taken
-  pub bytes : new ≡ old ++ taken
-  pub end : count ≡ 0 → IsAtEnd after
-
--- one read behind held bytes
-abbrev pub Reads : {E : Type 0} → Option (List ℕ) → Option (List ℕ) → List ℕ → List ℕ → Result ℕ E → Type 0
-Reads before after old new (Ok count) = ReadsSome before after old new count
-Reads before after old new (Err fault) = Keeps before after × (new ≡ old)

@@ -1,4 +1,4 @@
-ghost use Rattle.std.specs.Prelude.{ℕ, ◌≡◌, ◌<◌, ◌≤◌, ◌^◌, take, drop, length, false, All, ◌≢◌, ◌+◌, [], IfOk, nat_eq};
+ghost use Rattle.std.specs.Prelude.{◌≡◌, ◌<◌, ◌≤◌, take, length, false, ◌+◌, IfOk, nat_eq};
 ghost use Rattle.std.specs.Str.Lines.{strip_carriage_return};
 ghost use Rattle.jass_base.specs.Outside.{HasCause};
 ghost use Rattle.feed_lines.specs.Waiting.{Fills, FirstEnd, nothing_yet, passed_to};

@@ -1,6 +1,6 @@
-ghost use Rattle.std.specs.Prelude.{ℕ, ◌≡◌, ◌+◌, ◌<◌, ◌≤◌, [], ◌++◌, min, nat_le, length, drop, IfOk};
+ghost use Rattle.std.specs.Prelude.{ℕ, ◌≡◌, ◌+◌, ◌<◌, ◌≤◌, [], min, nat_le, length, drop, IfOk};
 ghost use Rattle.jass_base.specs.Outside.{HasCause};
-ghost use Rattle.feed_lines.specs.Waiting.{Reads};
+ghost use Rattle.feed_lines.specs.Private.Reads.{Reads};
 
 use jass_base::{Failed, Feed, NoMemory};
 use std::alloc::Global;

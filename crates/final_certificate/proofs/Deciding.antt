@@ -1,15 +1,7 @@
 -- The rule at the edges decides the grade of any scores.
-use Rattle.std.proofs.Common.{◌≡◌, ℕ, zero, suc, ◌+◌, ◌<◌, ◌≤◌, ◌==◌, ◌&&◌, List, [], ◌∷◌, ◌++◌, length, map, take, drop, filter, get_or, Bool, true, false, true≢false, cond, refl, sym, ap, subst, ◌∙◌, arith, inl, inr, ◌⊎◌, Some, None, Option}
-use Rattle.std.specs.Prelude.{IsPermutation, slice_get, nat_lt}
+use Rattle.shared_lemmas.proofs.Common.{◌≡◌, ℕ, zero, suc, ◌+◌, ◌<◌, ◌≤◌, ◌==◌, ◌&&◌, List, [], ◌∷◌, ◌++◌, length, map, take, drop, filter, get_or, Bool, true, false, true≢false, cond, refl, sym, ap, subst, ◌∙◌, arith, inl, inr, ◌⊎◌, Some, None, Option, IsPermutation, slice_get, nat_lt}
+use Rattle.shared_lemmas.proofs.Common.{AllByRecursion, position_or_len, cases_lt, ltb-true, ltb-false, and_parts, and_cases, cases_Bool, nat_tests, length-take, position-Some, sum_by-append, sum_by-cons, fails_before_first, drop_of_length-le}
 use Rattle.std.specs.Option.{is_none}
-use Rattle.std.specs.List.{AllByRecursion, position_or_len}
-use Rattle.std.proofs.lemmas.Bool.{cases_lt, ltb-true, ltb-false, and_parts, and_cases}
-use Rattle.std.proofs.lemmas.Bool.Decides.{nat_tests}
-use Rattle.std.proofs.lemmas.List.{length-take}
-use Rattle.std.proofs.lemmas.List.Quantifiers.{position-Some}
-use Rattle.std.proofs.lemmas.List.Sorted.{IsPermutation-refl}
-use Rattle.std.proofs.lemmas.List.Sums.{sum_by-append, sum_by-cons, fails_before_first}
-use Rattle.std.proofs.Math.ListN.{drop_of_length-le}
 use borrow.Author.Tests.{eqb-true}
 use Rattle.jass_base.specs.declared.answer.Hit.{Hit}
 use Rattle.ranking_model.specs.Order.{sorted}
@@ -17,16 +9,16 @@ use Rattle.ranking_model.specs.Scores.{rank_cmp, first_ranked, runner_up, least_
 use Rattle.ranking_model.specs.declared.standing.Standing.{Standing}
 use Rattle.ranking_model.specs.Finality.{raised, first_documents, IsSettled, IsKept, IsGrade}
 use Rattle.jass_base.specs.declared.answer.Grade.TheVariants.{Final, Set, Open}
-use Rattle.std.proofs.lemmas.Bool.{cases_Bool}
 use Rattle.shared_lemmas.proofs.Lists.{all_weaker, all_both, all_take, all_drop, all_append, all_filter, filter_passes}
 use Rattle.ranking_model.proofs.Sorting.{Ascends, sorted_ascends}
 use Rattle.ranking_model.proofs.Orders.{rank_total}
-use Rattle.ranking_model.proofs.Candidates.{ascends_take}
+use Rattle.ranking_model.proofs.Candidates.{ascends_take, count_doc}
 use Rattle.final_certificate.specs.Rule.{gained, is_safe, are_safe, ends_safe, unscored, do_documents_stay, grade_by}
 use Rattle.final_certificate.proofs.Lists.{sum_by-filter, sum_by-same, ascends_drop}
-use Rattle.final_certificate.proofs.Lifting.{is_unscored, is_scored, documents_from, hits_documents, lift, gains_by, raised_documents, are_gains, gain_of_doc, gain_small, gains_by_doc, true_from, documents_below, count_doc, at_most_once, at_least_once}
+use Rattle.final_certificate.proofs.Lifting.{is_unscored, is_scored, documents_from, hits_documents, lift, gains_by, raised_documents, are_gains, gain_of_doc, gain_small, gains_by_doc, true_from, documents_below, at_most_once, at_least_once}
 use Rattle.final_certificate.proofs.Edges.{Leads, leads_trans, both_gain, leads_itself, safe_leads, ranked, front, others, docs, StaysBefore, keeps_documents, keeps_order}
 use Rattle.final_certificate.proofs.Refuting.{count_own, one, one_small, IsTrueTo, true_ranked, kept_safe, few_enter, settled_safe}
+use Rattle.ranking_model.proofs.Promises.{settled_is_kept}
 
 -- ---- all the documents of some scores
 
@@ -133,8 +125,7 @@ to_kept scores k bound kept gains a =
     (subst (λ l. IsPermutation (docs (front (of_scores scores) k)) l) (sym (first_raised scores (gain_of_doc gains) k)) (kept (gain_of_doc gains) (gain_small bound scores gains a))))
 
 from_kept : (scores : List ℕ) (k bound : ℕ) → IsKept scores k bound → (gain : ℕ → ℕ) → ((d : ℕ) → gain d ≤ bound) → IsPermutation (docs (front (of_scores scores) k)) (docs (front (map (lift gain) (of_scores scores)) k))
-from_kept scores k bound kept gain small =
-    subst (λ l. IsPermutation l (docs (front (map (lift gain) (of_scores scores)) k))) (ap docs (first_is scores k))
+from_kept scores k bound kept gain small = subst (λ l. IsPermutation l (docs (front (map (lift gain) (of_scores scores)) k))) (ap docs (first_is scores k))
     (subst (λ l. IsPermutation (first_documents scores k) l) (first_raised scores gain k) (kept (gains_by gain 0 scores) (are_gains gain bound small 0 scores)))
 
 to_settled : (scores : List ℕ) (k bound : ℕ) → ((gain : ℕ → ℕ) → ((d : ℕ) → gain d ≤ bound) → docs (front (map (lift gain) (of_scores scores)) k) ≡ docs (front (of_scores scores) k)) → IsSettled scores k bound
@@ -180,8 +171,7 @@ stays scores k bound least is rule = by (cases_Bool (nat_lt (length (front (of_s
   by (inr f) =
       let safe = and_parts (ends_safe bound (front (of_scores scores) k) (slice_get (drop k (ranked (of_scores scores))) 0)) (ends_safe bound (front (of_scores scores) k) (unscored least))
       (sym (rule_full k bound (front (of_scores scores) k) (slice_get (drop k (ranked (of_scores scores))) 0) least f) ∙ rule) in
-      let m = few scores k in
-      let n = ltb-false _ _ f in
+      let m = few scores k in let n = ltb-false _ _ f in
       let size : length (front (of_scores scores) k) ≡ k = omega arith in (
         inl size,
         before_both bound (front (of_scores scores) k) (drop k (ranked (of_scores scores))) (filter is_unscored (of_scores scores))
@@ -298,9 +288,6 @@ not_kept scores k bound least is some rule still_kept = by (cases_Bool (nat_lt (
   by (inl t) = unscored_enters scores k bound least is some (ltb-true _ _ t) (sym (rule_few k bound (front (of_scores scores) k) (slice_get (drop k (ranked (of_scores scores))) 0) least t) ∙ rule) still_kept
   by (inr f) = edge (and_cases (ends_safe bound (front (of_scores scores) k) (slice_get (drop k (ranked (of_scores scores))) 0)) (ends_safe bound (front (of_scores scores) k) (unscored least))
       (sym (rule_full k bound (front (of_scores scores) k) (slice_get (drop k (ranked (of_scores scores))) 0) least f) ∙ rule))
-
-settled_is_kept : (scores : List ℕ) (k bound : ℕ) → IsSettled scores k bound → IsKept scores k bound
-settled_is_kept scores k bound settled gains are = subst (IsPermutation (first_documents scores k)) (sym (settled gains are)) (IsPermutation-refl (first_documents scores k))
 
 pub opened : (scores : List ℕ) (k bound : ℕ) (hits : List Hit) (runner : Option Hit) (least : Option ℕ) → standing_of scores k ≡ record { hits = hits; runner_up = runner; least_untouched = least }
     → 1 ≤ bound → do_documents_stay k bound hits runner least ≡ false → IsGrade scores k bound Open

@@ -1,17 +1,7 @@
 -- What the documents at the edges of an answer tell of all gains.
-use Rattle.std.proofs.Common.{◌≡◌, ◌≢◌, ℕ, ◌+◌, ◌≤◌, ◌&&◌, List, [], ◌∷◌, ◌++◌, length, map, take, drop, filter, sum_by, Bool, true, false, true≢false, refl, sym, ap, subst, ◌∙◌, arith, inl, inr, ◌⊎◌}
-use Rattle.std.specs.Prelude.{IsPermutation}
-use Rattle.std.specs.List.{AllByRecursion}
-use Rattle.std.specs.declared.cmp.Ordering.{Ordering}
-use Rattle.std.specs.declared.cmp.Ordering.TheVariants.{Less, Equal, Greater}
-use Rattle.std.specs.Ordering.{is_lt, is_gt}
-use Rattle.std.specs.Cmp.{upto}
-use Rattle.std.proofs.lemmas.Bool.Decides.{nat_tests}
-use Rattle.std.proofs.lemmas.List.{length-map, length-take, append-nil, take_all}
-use Rattle.std.proofs.lemmas.List.Sorted.{IsPermutation-map, length_permutation}
-use Rattle.std.proofs.lemmas.List.Sums.{sum_by-append, sum_by-take-drop}
-use Rattle.std.proofs.lemmas.List.Filters.{sum_by-filter_both}
-use Rattle.std.proofs.Math.Seq.{take-append_seam}
+use Rattle.shared_lemmas.proofs.Common.{◌≡◌, ◌≢◌, ℕ, ◌+◌, ◌≤◌, List, [], ◌∷◌, ◌++◌, length, map, take, drop, filter, sum_by, true, false, true≢false, refl, sym, ap, subst, ◌∙◌, arith, inl, inr, ◌⊎◌, IsPermutation, AllByRecursion, Ordering, Less, Equal, Greater, is_lt, is_gt, upto, nat_tests}
+use Rattle.shared_lemmas.proofs.Common.{length-map, length-take, take_all, IsPermutation-map, length_permutation, sum_by-append, sum_by-take-drop, sum_by-filter_both, take-append_seam, and_parts}
+use Rattle.std.proofs.lemmas.List.{append-nil}
 use Rattle.shared_lemmas.proofs.Sums.{sum_map}
 use Rattle.shared_lemmas.proofs.Lists.{all_weaker, all_take, all_map, filter_passes}
 use Rattle.jass_base.specs.declared.answer.Hit.{Hit}
@@ -89,23 +79,17 @@ lift_scored gain h t = grind (arith, nat_tests)
 
 map_leads : (gain : ℕ → ℕ) (bound : ℕ) → ((d : ℕ) → gain d ≤ bound) → (xs ys : List Hit) → StaysBefore bound xs ys
     → AllByRecursion (λ a. AllByRecursion (λ b. Leads a b) (map (lift gain) ys)) (map (lift gain) xs)
-map_leads gain bound small xs ys h =
-    all_map (λ a. AllByRecursion (λ b. Leads a b) (map (lift gain) ys)) (lift gain) xs
+map_leads gain bound small xs ys h = all_map (λ a. AllByRecursion (λ b. Leads a b) (map (lift gain) ys)) (lift gain) xs
     (all_weaker (λ a. AllByRecursion (λ b. Leads a (gained bound b)) ys) (λ a. AllByRecursion (λ b. Leads (lift gain a) b) (map (lift gain) ys))
-    (λ a k. all_map (λ b. Leads (lift gain a) b) (lift gain) ys
-    (all_weaker (λ b. Leads a (gained bound b)) (λ b. Leads (lift gain a) (lift gain b))
+    (λ a k. all_map (λ b. Leads (lift gain a) b) (lift gain) ys (all_weaker (λ b. Leads a (gained bound b)) (λ b. Leads (lift gain a) (lift gain b))
     (λ b l. leads_trans (lift gain a) a (lift gain b) (gained_leads (gain a.doc) a) (leads_trans a (gained bound b) (lift gain b) l (more_leads (gain b.doc) bound b (small b.doc)))) ys k)) xs h)
 
 -- where the others stay behind, the first are the same documents in the order of their new scores
 pub keeps : (all : List Hit) (k : ℕ) (gain : ℕ → ℕ) (bound : ℕ) → ((d : ℕ) → gain d ≤ bound) → (length (front all k) ≡ k) ⊎ (others all k ≡ [])
     → StaysBefore bound (front all k) (others all k) → front (map (lift gain) all) k ≡ sorted rank_cmp (map (lift gain) (front all k))
 keeps all k gain bound small full above = ap (take k) parts ∙ cut full where
-  firsts : List Hit
-  firsts = map (lift gain) (front all k)
-
   parts : ranked (map (lift gain) all) ≡ sorted rank_cmp (map (lift gain) (front all k)) ++ sorted rank_cmp (filter is_scored (map (lift gain) (others all k)))
-  parts = sorted_parts rank_cmp rank_total rank_same is_scored (map (lift gain) all) (map (lift gain) (front all k)) (map (lift gain) (others all k))
-      (λ f.
+  parts = sorted_parts rank_cmp rank_total rank_same is_scored (map (lift gain) all) (map (lift gain) (front all k)) (map (lift gain) (others all k)) (λ f.
       let a = sum_map f (lift gain) all in
       let b = sum_map f (lift gain) (front all k) in
       let c = sum_map f (lift gain) (others all k) in
@@ -148,15 +132,10 @@ chain : (gain : ℕ → ℕ) (bound : ℕ) → ((d : ℕ) → gain d ≤ bound) 
 chain gain bound small [] h = tt
 chain gain bound small (a ∷ []) h = (tt, tt)
 chain gain bound small (a ∷ b ∷ xs) h =
-    let two = split (is_safe bound a b) (are_safe bound (b ∷ xs)) h in
+    let two = and_parts (is_safe bound a b) (are_safe bound (b ∷ xs)) h in
     let rest = chain gain bound small (b ∷ xs) two.1 in
     let step : Leads (lift gain a) (lift gain b) = leads_trans (lift gain a) a (lift gain b) (gained_leads (gain a.doc) a) (leads_trans a (gained bound b) (lift gain b) (safe_leads bound a b two.0) (more_leads (gain b.doc) bound b (small b.doc))) in
     ((step, all_weaker (λ y. Leads (lift gain b) y) (λ y. Leads (lift gain a) y) (λ y l. leads_trans (lift gain a) (lift gain b) y step l) (map (lift gain) xs) rest.0), rest)
-  where
-    split : (p q : Bool) → (p && q) ≡ true → (p ≡ true) × (q ≡ true)
-    split true true e = (refl, refl)
-    split true false e = absurd (true≢false (sym e))
-    split false q e = absurd (true≢false (sym e))
 
 pub keeps_order : (all : List Hit) (k : ℕ) (gain : ℕ → ℕ) (bound : ℕ) → ((d : ℕ) → gain d ≤ bound) → (length (front all k) ≡ k) ⊎ (others all k ≡ [])
     → StaysBefore bound (front all k) (others all k) → are_safe bound (front all k) ≡ true → docs (front (map (lift gain) all) k) ≡ docs (front all k)

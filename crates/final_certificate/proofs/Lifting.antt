@@ -1,14 +1,11 @@
 -- All documents as hits, those of score 0 among them, and gains as a function of the document.
-use Rattle.std.proofs.Common.{◌≡◌, ℕ, zero, suc, ◌+◌, ◌<◌, ◌≤◌, ◌==◌, List, [], ◌∷◌, length, map, filter, sum_by, Bool, true, false, not, cond, get_or, refl, ap, ◌∙◌, arith, inl, inr, ◌⊎◌}
-use Rattle.std.specs.List.{AllByRecursion}
-use Rattle.std.proofs.lemmas.List.Sums.{sum_by-cons}
+use Rattle.shared_lemmas.proofs.Common.{◌≡◌, ℕ, zero, suc, ◌+◌, ◌<◌, ◌≤◌, ◌==◌, List, [], ◌∷◌, length, map, filter, Bool, true, false, not, cond, get_or, refl, ap, ◌∙◌, arith, inl, inr, ◌⊎◌, AllByRecursion, sum_by-cons, nat_tests, cases_Bool}
 use borrow.Author.Tests.{eqb-true}
-use Rattle.std.proofs.lemmas.Bool.Decides.{nat_tests}
 use Rattle.jass_base.specs.declared.answer.Hit.{Hit}
 use Rattle.ranking_model.specs.Scores.{hits_from}
 use Rattle.ranking_model.specs.Finality.{AreGains, raised}
-use Rattle.std.proofs.lemmas.Bool.{cases_Bool}
 use Rattle.final_certificate.specs.Rule.{gained}
+use Rattle.ranking_model.proofs.Candidates.{count_doc}
 
 abbrev pub is_unscored : Hit → Bool
 is_unscored hit = hit.score == 0
@@ -90,9 +87,6 @@ true_from score_of doc (score ∷ scores) at =
 pub documents_below : (doc limit : ℕ) (scores : List ℕ) → doc + length scores ≤ limit → AllByRecursion (λ (h : Hit). h.doc < limit) (documents_from doc scores)
 documents_below doc limit [] within = tt
 documents_below doc limit (score ∷ scores) within = (omega arith, documents_below (doc + 1) limit scores (omega arith))
-
-abbrev pub count_doc : ℕ → List Hit → ℕ
-count_doc doc hits = sum_by (λ (h : Hit). cond (h.doc == doc) 1 0) hits
 
 none_before : (z doc : ℕ) (scores : List ℕ) → z < doc → count_doc z (documents_from doc scores) ≡ 0
 none_before z doc [] before = refl

@@ -1,7 +1,5 @@
 -- One bound for all documents, and a limit for each.
-use Rattle.std.proofs.Common.{◌≡◌, ◌≤◌, ℕ, zero, suc, List, [], ◌∷◌, length, arith}
-use Rattle.std.specs.Prelude.{replicate}
-use Rattle.std.specs.List.{AllByRecursion, AllZip}
+use Rattle.shared_lemmas.proofs.Common.{◌≤◌, ℕ, zero, suc, List, [], ◌∷◌, length, arith, replicate, AllByRecursion, AllZip}
 use Rattle.ranking_model.specs.Finality.{AreGains, AreGainsWithin}
 
 limits_of_bound : (bound : ℕ) (scores gains : List ℕ) → AreGains bound scores gains → AllZip (λ gain limit. gain ≤ limit) gains (replicate (length scores) bound)

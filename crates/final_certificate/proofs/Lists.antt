@@ -1,13 +1,6 @@
 -- Sums, orders and parts of lists of hits.
-use Rattle.std.proofs.Common.{◌≡◌, ℕ, zero, suc, ◌+◌, List, [], ◌∷◌, ◌++◌, drop, filter, sum_by, count_by, Bool, true, false, cond, refl, sym, ap, ◌∙◌, arith, zero-add}
-use Rattle.std.specs.Prelude.{IsPermutation, replicate}
-use Rattle.std.specs.List.{AllByRecursion}
-use Rattle.std.specs.declared.cmp.Ordering.{Ordering}
-use Rattle.std.specs.declared.cmp.Ordering.TheVariants.{Less, Equal, Greater}
-use Rattle.std.specs.Ordering.{is_gt}
-use Rattle.std.specs.Cmp.{IsTotalOrder}
-use Rattle.std.proofs.lemmas.List.Sorted.{IsPermutation-refl, IsPermutation-cons, IsPermutation-trans, IsPermutation-append_comm, IsPermutation-append_left}
-use Rattle.std.proofs.lemmas.List.Sums.{sum_by-cons, sum_by-append}
+use Rattle.shared_lemmas.proofs.Common.{◌≡◌, ℕ, zero, suc, ◌+◌, List, [], ◌∷◌, ◌++◌, drop, filter, sum_by, count_by, Bool, true, false, cond, refl, sym, ap, ◌∙◌, arith, zero-add, IsPermutation, replicate, AllByRecursion, Ordering, Less, Equal, Greater, is_gt, IsTotalOrder, IsPermutation-refl}
+use Rattle.shared_lemmas.proofs.Common.{IsPermutation-cons, IsPermutation-trans, IsPermutation-append_comm, IsPermutation-append_left, sum_by-cons, sum_by-append}
 use Rattle.ranking_model.specs.Order.{placed, sorted}
 use Rattle.shared_lemmas.proofs.Lists.{all_weaker, all_filter, filter_all}
 use Rattle.ranking_model.proofs.Sorting.{Ascends, level, same_ranks, sorted_ascends, sum_by-sorted, all_sorted, ascends_append}
@@ -23,12 +16,7 @@ sum_by-filter {A} p f (x ∷ xs) = step (p x) refl (sum_by-filter p f xs) where
 
 pub sum_by-same : {A : Type 0} (f g : A → ℕ) (xs : List A) → AllByRecursion (λ x. f x ≡ g x) xs → sum_by f xs ≡ sum_by g xs
 sum_by-same f g [] h = refl
-sum_by-same f g (x ∷ xs) h =
-    let a = sum_by-cons f x xs in
-    let b = sum_by-cons g x xs in
-    let rest = sum_by-same f g xs h.1 in
-    let first = h.0 in
-    omega arith
+sum_by-same f g (x ∷ xs) h = let a = sum_by-cons f x xs in let b = sum_by-cons g x xs in let rest = sum_by-same f g xs h.1 in let first = h.0 in omega arith
 
 -- ---- order
 

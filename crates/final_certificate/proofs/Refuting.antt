@@ -1,23 +1,17 @@
 -- One gain of the bound by one document changes an answer whose edges are not safe.
-use Rattle.std.proofs.Common.{◌≡◌, ◌≢◌, ℕ, ◌+◌, ◌<◌, ◌≤◌, ◌==◌, List, [], ◌∷◌, length, map, drop, filter, Bool, true, false, cond, refl, sym, ap, subst, ◌∙◌, arith, inl, inr, ◌⊎◌, eq-eqb}
-use Rattle.std.specs.Prelude.{IsPermutation}
-use Rattle.std.specs.List.{AllByRecursion}
-use Rattle.std.proofs.lemmas.Bool.Decides.{nat_tests}
-use Rattle.std.proofs.lemmas.List.{length-map, length-take, take_all}
-use Rattle.std.proofs.lemmas.List.Sorted.{length_permutation, sum_by-IsPermutation}
-use Rattle.std.proofs.lemmas.List.Sums.{sum_by-cons, sum_by-take-drop}
+use Rattle.shared_lemmas.proofs.Common.{◌≡◌, ◌≢◌, ℕ, ◌+◌, ◌<◌, ◌≤◌, ◌==◌, List, [], ◌∷◌, length, map, drop, filter, Bool, true, false, cond, refl, sym, ap, subst, ◌∙◌, arith, inl, inr, ◌⊎◌, eq-eqb, IsPermutation, AllByRecursion, nat_tests, length-map, length-take, take_all, length_permutation}
+use Rattle.shared_lemmas.proofs.Common.{sum_by-IsPermutation, sum_by-cons, sum_by-take-drop, cases_Bool}
 use borrow.Author.Tests.{eqb-true}
 use Rattle.jass_base.specs.declared.answer.Hit.{Hit}
 use Rattle.ranking_model.specs.Scores.{rank_cmp}
-use Rattle.std.proofs.lemmas.Bool.{cases_Bool}
 use Rattle.shared_lemmas.proofs.Sums.{sum_map}
 use Rattle.shared_lemmas.proofs.Lists.{all_weaker, all_both, all_take, all_drop, all_map, all_filter}
 use Rattle.ranking_model.proofs.Sorting.{Ascends, sorted_ascends, sum_by-sorted, all_sorted}
 use Rattle.ranking_model.proofs.Orders.{rank_total}
-use Rattle.ranking_model.proofs.Candidates.{ascends_take, take_before_drop}
+use Rattle.ranking_model.proofs.Candidates.{ascends_take, take_before_drop, count_doc}
 use Rattle.final_certificate.specs.Rule.{gained, is_safe, are_safe}
 use Rattle.final_certificate.proofs.Lists.{sum_by-filter, sum_by-same}
-use Rattle.final_certificate.proofs.Lifting.{is_scored, lift, count_doc}
+use Rattle.final_certificate.proofs.Lifting.{is_scored, lift}
 use Rattle.final_certificate.proofs.Edges.{Leads, leads_safe, ranked, front, others, parted, docs, docs_lift}
 
 pub count_own : (z : ℕ) (h : Hit) (xs : List Hit) → h.doc ≡ z → count_doc z (h ∷ xs) ≡ 1 + count_doc z xs
@@ -68,8 +62,7 @@ with_gain bound z all = map (lift (one bound z)) all
 
 -- whatever gains is hit
 entered : (all : List Hit) (bound z : ℕ) → 1 ≤ bound → count_doc z (ranked (with_gain bound z all)) ≡ count_doc z all
-entered all bound z some =
-    sum_by-sorted rank_cmp (λ (h : Hit). cond (h.doc == z) 1 0) (filter is_scored (with_gain bound z all))
+entered all bound z some = sum_by-sorted rank_cmp (λ (h : Hit). cond (h.doc == z) 1 0) (filter is_scored (with_gain bound z all))
     ∙ sum_by-filter is_scored (λ (h : Hit). cond (h.doc == z) 1 0) (with_gain bound z all)
     ∙ sum_map (λ (h : Hit). cond (is_scored h) (cond (h.doc == z) 1 0) 0) (lift (one bound z)) all
     ∙ sum_by-same (λ (h : Hit). cond (is_scored (lift (one bound z) h)) (cond (h.doc == z) 1 0) 0) (λ (h : Hit). cond (h.doc == z) 1 0) all (each all)
@@ -94,8 +87,7 @@ pub true_ranked : (score_of : ℕ → ℕ) (xs : List Hit) → IsTrueTo score_of
 true_ranked score_of xs h = all_sorted rank_cmp (λ (h : Hit). h.score ≡ score_of h.doc) (filter is_scored xs) (all_filter (λ (h : Hit). h.score ≡ score_of h.doc) is_scored xs h)
 
 still : (all : List Hit) (k bound z doc : ℕ) → KeepsWith all k bound z → count_doc doc (front (with_gain bound z all) k) ≡ count_doc doc (front all k)
-still all k bound z doc kept =
-    sym (sum_map (λ d. cond (d == doc) 1 0) (λ (h : Hit). h.doc) (front (with_gain bound z all) k))
+still all k bound z doc kept = sym (sum_map (λ d. cond (d == doc) 1 0) (λ (h : Hit). h.doc) (front (with_gain bound z all) k))
     ∙ sum_by-IsPermutation (λ d. cond (d == doc) 1 0) (docs (front all k)) (docs (front (with_gain bound z all) k)) kept
     ∙ sum_map (λ d. cond (d == doc) 1 0) (λ (h : Hit). h.doc) (front all k)
 
@@ -115,9 +107,6 @@ pub kept_safe : (all : List Hit) (score_of : ℕ → ℕ) → IsTrueTo score_of 
 kept_safe all score_of true_all once k bound a b some a_true b_true a_in b_out kept =
     leads_safe bound a b apart (subst (λ (h : Hit). Leads a h) there (subst (λ (h : Hit). Leads h second.0) here second.2.1))
   where
-    new : List Hit
-    new = with_gain bound b.doc all
-
     gone : count_doc b.doc (front all k) ≡ 0
     gone = outside all k b.doc once b_out
 
@@ -130,9 +119,7 @@ kept_safe all score_of true_all once k bound a b some a_true b_true a_in b_out k
     behind : 1 ≤ count_doc b.doc (drop k (ranked (with_gain bound b.doc all)))
     behind =
         let s = sum_by-take-drop (λ (h : Hit). cond (h.doc == b.doc) 1 0) (ranked (with_gain bound b.doc all)) k in
-        let e = entered all bound b.doc some in
-        let i = inside all k b.doc b_out in
-        let k' = still all k bound b.doc b.doc kept in
+        let e = entered all bound b.doc some in let i = inside all k b.doc b_out in let k' = still all k bound b.doc b.doc kept in
         let g = gone in
         omega arith
 
@@ -146,9 +133,7 @@ kept_safe all score_of true_all once k bound a b some a_true b_true a_in b_out k
     second : (u : Hit) × (u.doc ≡ b.doc) × ((u.score ≡ score_of u.doc + one bound b.doc u.doc) × Leads first.0 u)
     second = found (λ u. (u.score ≡ score_of u.doc + one bound b.doc u.doc) × Leads first.0 u) b.doc (drop k (ranked (with_gain bound b.doc all)))
         (all_both (λ (u : Hit). u.score ≡ score_of u.doc + one bound b.doc u.doc) (λ u. Leads first.0 u) (drop k (ranked (with_gain bound b.doc all)))
-        (all_drop (λ (u : Hit). u.score ≡ score_of u.doc + one bound b.doc u.doc) k (ranked (with_gain bound b.doc all)) trues)
-        first.2.1)
-        behind
+        (all_drop (λ (u : Hit). u.score ≡ score_of u.doc + one bound b.doc u.doc) k (ranked (with_gain bound b.doc all)) trues) first.2.1) behind
 
     here : first.0 ≡ a
     here = same_hit first.0 a first.1 (first.2.0 ∙ ap (λ d. score_of d + one bound b.doc d) first.1 ∙ (let z = one_other bound b.doc a.doc apart in omega arith))
@@ -165,9 +150,7 @@ few_enter all once k bound z some few out kept =
     let d = length-take k (ranked (with_gain bound z all)) in
     let e : length (ranked (with_gain bound z all)) ≤ k = omega arith in
     let f = ap (count_doc z) (take_all k (ranked (with_gain bound z all)) e) in
-    let g = entered all bound z some in
-    let h = inside all k z out in
-    let i = outside all k z once out in
+    let g = entered all bound z some in let h = inside all k z out in let i = outside all k z once out in
     let j = still all k bound z z kept in
     absurd (omega arith)
 
@@ -185,8 +168,7 @@ read_back score_of (x ∷ xs) (y ∷ ys) a b same =
     λ i. first i ∷ rest i
 
 order_read : (all : List Hit) (score_of : ℕ → ℕ) → IsTrueTo score_of all → (k bound z : ℕ) → docs (front (with_gain bound z all) k) ≡ docs (front all k) → Ascends rank_cmp (map (lift (one bound z)) (front all k))
-order_read all score_of true_all k bound z same =
-    subst (Ascends rank_cmp)
+order_read all score_of true_all k bound z same = subst (Ascends rank_cmp)
     (read_back (λ d. score_of d + one bound z d) (front (with_gain bound z all) k) (map (lift (one bound z)) (front all k))
     (all_take (λ (h : Hit). h.score ≡ score_of h.doc + one bound z h.doc) k (ranked (with_gain bound z all)) (true_ranked (λ d. score_of d + one bound z d) (with_gain bound z all) (true_lift score_of (one bound z) all true_all)))
     (true_lift score_of (one bound z) (front all k) (all_take (λ (h : Hit). h.score ≡ score_of h.doc) k (ranked all) (true_ranked score_of all true_all)))
@@ -208,15 +190,10 @@ all_safe bound (a ∷ b ∷ xs) order once =
     fewer z = let s = sum_by-cons (λ (h : Hit). cond (h.doc == z) 1 0) a (b ∷ xs) in let o = once z in omega arith
 
     apart : a.doc ≢ b.doc
-    apart e =
-        let s = count_own b.doc a (b ∷ xs) e in
-        let t = count_own b.doc b xs refl in
-        let o = once b.doc in
-        omega arith
+    apart e = let s = count_own b.doc a (b ∷ xs) e in let t = count_own b.doc b xs refl in let o = once b.doc in omega arith
 
 -- where the order is kept, each hit is safe from the next
 pub settled_safe : (all : List Hit) (score_of : ℕ → ℕ) → IsTrueTo score_of all → ((d : ℕ) → count_doc d all ≤ 1) → (k bound : ℕ)
     → ((z : ℕ) → docs (front (with_gain bound z all) k) ≡ docs (front all k)) → are_safe bound (front all k) ≡ true
-settled_safe all score_of true_all once k bound same =
-    all_safe bound (front all k) (λ z. order_read all score_of true_all k bound z (same z))
+settled_safe all score_of true_all once k bound same = all_safe bound (front all k) (λ z. order_read all score_of true_all k bound z (same z))
     (λ z. let s = parted all k (λ (h : Hit). cond (h.doc == z) 1 0) in let o = once z in omega arith)

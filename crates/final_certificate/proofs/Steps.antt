@@ -1,7 +1,5 @@
 -- What the code's steps read: places of a list.
-use Rattle.std.proofs.Common.{◌≡◌, ℕ, zero, suc, ◌+◌, ◌-◌, ◌<◌, ◌≤◌, ◌&&◌, List, [], ◌∷◌, length, get_or, drop, true, false, refl, sym, ap, ◌∙◌, arith, Some, Option}
-use Rattle.std.specs.Prelude.{slice_get}
-use Rattle.std.proofs.lemmas.List.{length-drop}
+use Rattle.shared_lemmas.proofs.Common.{◌≡◌, ℕ, zero, suc, ◌+◌, ◌-◌, ◌<◌, ◌≤◌, ◌&&◌, List, [], ◌∷◌, length, get_or, drop, true, false, refl, sym, ap, ◌∙◌, arith, Some, Option, slice_get, length-drop}
 use Rattle.jass_base.specs.declared.answer.Hit.{Hit}
 use Rattle.final_certificate.specs.Rule.{is_safe, is_safe_from, are_safe, ends_safe}
 

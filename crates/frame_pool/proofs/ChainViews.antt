@@ -1,20 +1,17 @@
 -- Chains seen through a pool's view, after a change of it.
-use Rattle.std.proofs.Common.{◌≡◌, ◌≢◌, ℕ, suc, zero, ◌+◌, ◌-◌, ◌*◌, ◌/◌, ◌%◌, ◌<◌, ◌≤◌, ◌==◌, Bool, true, false, List, [], ◌∷◌, length, map, get_or, set, Option, Some, None, sum_by, cond, eqb, IsSome, is_some, find, unwrap_or, option_map, Contains, refl, sym, ap, ◌∙◌, subst, inl, inr, arith, length-set, get_or-set_same, get_or-set_other}
-use Rattle.std.specs.List.{range_with_len}
-use Rattle.std.proofs.lemmas.Bool.{ne_eqb, eq-eqb}
-use Rattle.std.proofs.lemmas.Bool.Decides.{eqb_tells}
-use Rattle.std.proofs.lemmas.List.FromFn.{get_or-map-range_with_len, get_or-range_with_len, length-range_with_len, length-map-range_with_len}
+use Rattle.shared_lemmas.proofs.Common.{◌≡◌, ◌≢◌, ℕ, suc, zero, ◌+◌, ◌-◌, ◌*◌, ◌/◌, ◌%◌, ◌<◌, ◌≤◌, ◌==◌, Bool, true, false, List, [], ◌∷◌, length, map, get_or, set, Option, Some, None, sum_by, cond, eqb, IsSome, is_some, Contains, refl, sym, ap, ◌∙◌, subst, inl, inr, arith, length-set}
+use Rattle.shared_lemmas.proofs.Common.{get_or-set_same, get_or-set_other, range_with_len, ne_eqb, eqb_tells, get_or-map-range_with_len, get_or-range_with_len, length-range_with_len, length-map-range_with_len, length-map}
+use Rattle.std.proofs.Common.{find, unwrap_or, option_map}
+use Rattle.std.proofs.lemmas.Bool.{eq-eqb}
 use Rattle.frame_pool.specs.Pool.{PoolView, ChainEntry, FrameContent, cleared, content_of, chain_of, HasFrame, with_first, promise_of, promised, spare_of}
 use Rattle.frame_pool.specs.ChainView.{ChainView, HeldFrame, chain_view, held_frame, frame_with_page, number_with_page, LacksPage, slot_value, view_values, KeepsChain, KeepsFrames, HasPage, LeavesOthers, LeavesPool, with_first_held, with_page}
 use Rattle.frame_pool.specs.Sound.{IsSound}
-use Rattle.std.proofs.lemmas.List.{length-map}
 use Rattle.frame_pool.proofs.Pages.{none_found, held_by, pages_before, of_page}
 
 -- equal on each item, equal on the list
 pub map-same : {A B : Type 0} (f g : A → B) (xs : List A) → ((x : A) → Contains xs x → g x ≡ f x) → map g xs ≡ map f xs
 map-same f g [] same = refl
-map-same {A} {B} f g (x ∷ xs) same =
-    ap (λ (y : B). y ∷ map g xs) (same x (0, omega arith, refl))
+map-same {A} {B} f g (x ∷ xs) same = ap (λ (y : B). y ∷ map g xs) (same x (0, omega arith, refl))
     ∙ ap (λ (ys : List B). f x ∷ ys) (map-same f g xs (λ y has. same y (suc has.0, (let h : has.0 < length xs = has.1 in omega arith), has.2)))
 
 abbrev seen_as : ChainEntry → List HeldFrame → ChainView
@@ -27,16 +24,14 @@ keeps-chain old new d entry contents =
     let chain : chain_of new d ≡ chain_of old d = ap (λ (e : Option ChainEntry). unwrap_or e (record { promise = 0; frames = [] })) entry in
     record {
       in_use = ((λ h. subst (λ (e : Option ChainEntry). IsSome e) entry h), (λ h. subst (λ (e : Option ChainEntry). IsSome e) (sym entry) h));
-      view = ap (λ (x : ChainEntry). seen_as x (map (held_frame new) x.frames)) chain
-          ∙ ap (λ (hs : List HeldFrame). seen_as (chain_of old d) hs)
+      view = ap (λ (x : ChainEntry). seen_as x (map (held_frame new) x.frames)) chain ∙ ap (λ (hs : List HeldFrame). seen_as (chain_of old d) hs)
           (map-same (held_frame old) (held_frame new) (chain_of old d).frames (λ g has. ap (λ (x : FrameContent). held_by (λ _. x) g) (contents g has)));
     }
 
 -- a call that writes the entry of one chain, and the content of one frame that no other chain has
 pub leaves-others : (old new : PoolView) (c f : ℕ) (entry : Option ChainEntry) (content : FrameContent) → new.chains ≡ set old.chains c entry → new.frames ≡ set old.frames f content
     → ((d : ℕ) → d ≢ c → HasFrame old d f → ⊥) → LeavesOthers old new c
-leaves-others old new c f entry content chains frames alone d ne =
-    keeps-chain old new d
+leaves-others old new c f entry content chains frames alone d ne = keeps-chain old new d
     (ap (λ (es : List (Option ChainEntry)). get_or es d None) chains ∙ get_or-set_other old.chains c d entry None ne)
     (λ g has. ap (λ (xs : List FrameContent). get_or xs g (cleared 0)) frames
     ∙ get_or-set_other old.frames f g content (cleared 0) (λ same. alone d ne (subst (λ x. HasFrame old d x) same has)))
@@ -54,8 +49,7 @@ took-view old new c f page chains inside frames exists alone =
     ap (λ (x : ChainEntry). seen_as x (map (held_frame new) x.frames)) chain
     ∙ ap (λ (x : FrameContent). seen_as (chain_of old c) (held_by (λ _. x) f ∷ map (held_frame new) (chain_of old c).frames)) first
     ∙ ap (λ (hs : List HeldFrame). seen_as (chain_of old c) (held_by (λ _. cleared page) f ∷ hs))
-    (map-same (held_frame old) (held_frame new) (chain_of old c).frames
-    (λ g has. ap (λ (x : FrameContent). held_by (λ _. x) g)
+    (map-same (held_frame old) (held_frame new) (chain_of old c).frames (λ g has. ap (λ (x : FrameContent). held_by (λ _. x) g)
     (ap (λ (xs : List FrameContent). get_or xs g (cleared 0)) frames
     ∙ get_or-set_other old.frames f g (cleared page) (cleared 0) (λ same. alone (subst (λ x. HasFrame old c x) same has)))))
 
@@ -85,8 +79,7 @@ found-same values old new p s (g ∷ fs) pages same =
     ap (λ (q : ℕ). slot_value values (cond (eqb q p) (Some (held_by new g)) (find (λ h. h.content.page == p) (map (held_by new) fs))) s) (pages g)
     ∙ elim (eqb_tells (old g).page p) as (λ _. slot_value values (cond (eqb (old g).page p) (Some (held_by new g)) (find (λ h. h.content.page == p) (map (held_by new) fs))) s
     ≡ slot_value values (cond (eqb (old g).page p) (Some (held_by old g)) (find (λ h. h.content.page == p) (map (held_by old) fs))) s) [
-      | inl here ↦ ap (λ b. slot_value values (cond b (Some (held_by new g)) (find (λ h. h.content.page == p) (map (held_by new) fs))) s) here.0
-          ∙ same g here.1
+      | inl here ↦ ap (λ b. slot_value values (cond b (Some (held_by new g)) (find (λ h. h.content.page == p) (map (held_by new) fs))) s) here.0 ∙ same g here.1
           ∙ sym (ap (λ b. slot_value values (cond b (Some (held_by old g)) (find (λ h. h.content.page == p) (map (held_by old) fs))) s) here.0)
       | inr other ↦ ap (λ b. slot_value values (cond b (Some (held_by new g)) (find (λ h. h.content.page == p) (map (held_by new) fs))) s) other.0
           ∙ found-same values old new p s fs pages same
@@ -100,12 +93,10 @@ found-at : (values : FrameContent → List ℕ) (content : ℕ → FrameContent)
 found-at values content s [] k f inside is apart = absurd (omega arith)
 found-at values content s (g ∷ fs) zero f inside is apart =
     ap (λ b. slot_value values (cond b (Some (held_by content g)) (find (λ h. h.content.page == (content f).page) (map (held_by content) fs))) s)
-    (eq-eqb (content g).page (content f).page (ap (λ (x : ℕ). (content x).page) is))
-    ∙ ap (λ (x : ℕ). get_or (values (content x)) s 0) is
+    (eq-eqb (content g).page (content f).page (ap (λ (x : ℕ). (content x).page) is)) ∙ ap (λ (x : ℕ). get_or (values (content x)) s 0) is
 found-at values content s (g ∷ fs) (suc k) f inside is apart =
     ap (λ b. slot_value values (cond b (Some (held_by content g)) (find (λ h. h.content.page == (content f).page) (map (held_by content) fs))) s)
-    (ne_eqb (content g).page (content f).page (apart 0 (omega arith)))
-    ∙ found-at values content s fs k f (omega arith) is (λ j lt. apart (suc j) (omega arith))
+    (ne_eqb (content g).page (content f).page (apart 0 (omega arith))) ∙ found-at values content s fs k f (omega arith) is (λ j lt. apart (suc j) (omega arith))
 
 found-number : (old new : ℕ → FrameContent) (p : ℕ) (fs : List ℕ) → ((g : ℕ) → (new g).page ≡ (old g).page)
     → option_map (λ h. h.number) (find (λ h. h.content.page == p) (map (held_by new) fs)) ≡ option_map (λ h. h.number) (find (λ h. h.content.page == p) (map (held_by old) fs))
@@ -123,8 +114,7 @@ found-number old new p (g ∷ fs) pages =
 -- functions of the documents that agree but at one
 map-range-same : (f g : ℕ → ℕ) (a n : ℕ) → ((d : ℕ) → a ≤ d → g d ≡ f d) → map g (range_with_len a n) ≡ map f (range_with_len a n)
 map-range-same f g a zero same = refl
-map-range-same f g a (suc n) same =
-    ap (λ (x : ℕ). x ∷ map g (range_with_len (a + 1) n)) (same a (omega arith))
+map-range-same f g a (suc n) same = ap (λ (x : ℕ). x ∷ map g (range_with_len (a + 1) n)) (same a (omega arith))
     ∙ ap (λ (xs : List ℕ). f a ∷ xs) (map-range-same f g (a + 1) n (λ d le. same d (omega arith)))
 
 map-range-set : (f g : ℕ → ℕ) (a n i d v : ℕ) → a + i ≡ d → g d ≡ v → ((e : ℕ) → e ≢ d → g e ≡ f e) → map g (range_with_len a n) ≡ set (map f (range_with_len a n)) i v
@@ -133,8 +123,7 @@ map-range-set f g a (suc n) zero d v is here same =
     let a_is : a ≡ d = omega arith in
     ap (λ (x : ℕ). x ∷ map g (range_with_len (a + 1) n)) (ap g a_is ∙ here)
     ∙ ap (λ (xs : List ℕ). v ∷ xs) (map-range-same f g (a + 1) n (λ e le. same e (λ h. absurd (omega arith))))
-map-range-set f g a (suc n) (suc i) d v is here same =
-    ap (λ (x : ℕ). x ∷ map g (range_with_len (a + 1) n)) (same a (λ h. absurd (omega arith)))
+map-range-set f g a (suc n) (suc i) d v is here same = ap (λ (x : ℕ). x ∷ map g (range_with_len (a + 1) n)) (same a (λ h. absurd (omega arith)))
     ∙ ap (λ (xs : List ℕ). f a ∷ xs) (map-range-set f g (a + 1) n i d v (omega arith) here same)
 
 -- the value of a slot is that of its document
@@ -164,11 +153,10 @@ written-other : (old new : PoolView) (f : ℕ) (x : FrameContent) → Writes old
 written-other old new f x w g ne = ap (λ (xs : List FrameContent). get_or xs g (cleared 0)) w.frames ∙ get_or-set_other old.frames f g x (cleared 0) ne
 
 written-page : (old new : PoolView) (f : ℕ) (x : FrameContent) → Writes old new f x → (g : ℕ) → (content_of new g).page ≡ (content_of old g).page
-written-page old new f x w g =
-    elim (eqb_tells g f) as (λ _. (content_of new g).page ≡ (content_of old g).page) [
-      | inl same ↦ subst (λ (y : ℕ). (content_of new y).page ≡ (content_of old y).page) (sym same.1) (ap (λ (c : FrameContent). c.page) (written-at old new f x w) ∙ w.page)
-      | inr other ↦ ap (λ (c : FrameContent). c.page) (written-other old new f x w g other.1)
-    ]
+written-page old new f x w g = elim (eqb_tells g f) as (λ _. (content_of new g).page ≡ (content_of old g).page) [
+  | inl same ↦ subst (λ (y : ℕ). (content_of new y).page ≡ (content_of old y).page) (sym same.1) (ap (λ (c : FrameContent). c.page) (written-at old new f x w) ∙ w.page)
+  | inr other ↦ ap (λ (c : FrameContent). c.page) (written-other old new f x w g other.1)
+]
 
 written-chain : (old new : PoolView) (f : ℕ) (x : FrameContent) → Writes old new f x → (c : ℕ) → chain_of new c ≡ chain_of old c
 written-chain old new f x w c = ap (λ (es : List (Option ChainEntry)). unwrap_or (get_or es c None) (record { promise = 0; frames = [] })) w.chains
@@ -180,8 +168,7 @@ written-view old new f x w c = ap (λ (e : ChainEntry). seen_as e (map (held_fra
 -- the values that the write leaves
 pub write-keeps_values : (values : FrameContent → List ℕ) (old new : PoolView) (f : ℕ) (x : FrameContent) → Writes old new f x → values x ≡ values (content_of old f)
     → (c docs : ℕ) → view_values values docs (chain_view new c) ≡ view_values values docs (chain_view old c)
-write-keeps_values values old new f x w is c docs =
-    ap (view_values values docs) (written-view old new f x w c)
+write-keeps_values values old new f x w is c docs = ap (view_values values docs) (written-view old new f x w c)
     ∙ map-same (λ d. slot_value values (frame_with_page (chain_view old c) (d / 256)) (d % 256))
     (λ d. slot_value values (find (λ h. h.content.page == d / 256) (map (held_by (content_of new)) (chain_of old c).frames)) (d % 256)) (range_with_len 0 docs)
     (λ d _. found-same values (content_of old) (content_of new) (d / 256) (d % 256) (chain_of old c).frames (written-page old new f x w)
@@ -250,8 +237,7 @@ write-sets_own_page values old new f slots x w sound is c docs has =
           (λ g at. elim (eqb_tells g f) as (λ _. get_or (values (content_of new g)) (d % 256) 0 ≡ get_or (values (content_of old g)) (d % 256) 0) [
             | inl it ↦ absurd (other.1 (sym at ∙ ap (λ (y : ℕ). (content_of old y).page) it.1))
             | inr apart ↦ ap (λ (c : FrameContent). get_or (values c) (d % 256) 0) (written-other old new f x w g apart.1)
-          ])
-          ∙ sym (get_or-map-range_with_len before 0 docs d d 0 inside (omega arith))
+          ]) ∙ sym (get_or-map-range_with_len before 0 docs d d 0 inside (omega arith))
           ∙ sym (ap (λ b. cond b (get_or slots (d % 256) 0) (get_or were d 0)) other.0)
     ] in
     ap (view_values values docs) (written-view old new f x w c)
@@ -261,18 +247,15 @@ write-sets_own_page values old new f slots x w sound is c docs has =
 
 -- each page keeps its frame
 pub write-keeps_numbers : (old new : PoolView) (f : ℕ) (x : FrameContent) → Writes old new f x → (c p : ℕ) → number_with_page (chain_view new c) p ≡ number_with_page (chain_view old c) p
-write-keeps_numbers old new f x w c p =
-    ap (λ (v : ChainView). number_with_page v p) (written-view old new f x w c)
+write-keeps_numbers old new f x w c p = ap (λ (v : ChainView). number_with_page v p) (written-view old new f x w c)
     ∙ found-number (content_of old) (content_of new) p (chain_of old c).frames (written-page old new f x w)
 
 write-leaves_own : (old new : PoolView) (f : ℕ) (x : FrameContent) → Writes old new f x → IsSound old → (c : ℕ) → HasFrame old c f → LeavesOthers old new c
-write-leaves_own old new f x w sound c has d ne =
-    keeps-chain old new d (ap (λ (es : List (Option ChainEntry)). get_or es d None) w.chains)
+write-leaves_own old new f x w sound c has d ne = keeps-chain old new d (ap (λ (es : List (Option ChainEntry)). get_or es d None) w.chains)
     (λ g at. written-other old new f x w g (λ same. ne (sound.one_chain d c f (subst (λ (y : ℕ). HasFrame old d y) same at) has)))
 
 write-keeps_spare : (old new : PoolView) (f : ℕ) (x : FrameContent) → Writes old new f x → spare_of new ≡ spare_of old
-write-keeps_spare old new f x w =
-    ap (λ (n : ℕ). n - promised new) (ap (λ (fs : List FrameContent). length fs) w.frames ∙ length-set old.frames f x)
+write-keeps_spare old new f x w = ap (λ (n : ℕ). n - promised new) (ap (λ (fs : List FrameContent). length fs) w.frames ∙ length-set old.frames f x)
     ∙ ap (λ (es : List (Option ChainEntry)). length old.frames - sum_by promise_of es) w.chains
 
 -- ---- the same by the page that a chain has the frame for

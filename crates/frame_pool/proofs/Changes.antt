@@ -1,13 +1,12 @@
 -- A pool keeps its lists through each of its changes.
-use Rattle.std.proofs.Common.{◌≡◌, ◌≢◌, ℕ, suc, ◌+◌, ◌-◌, ◌<◌, ◌≤◌, List, ◌∷◌, ◌++◌, length, map, get_or, set, Option, Some, None, sum_by, cond, eqb, refl, sym, ap, ◌∙◌, subst, arith, add-one, length-set}
-use Rattle.std.specs.List.{AllByRecursion}
-use Rattle.std.proofs.lemmas.List.Sums.{sum_by-set}
-use Rattle.std.proofs.lemmas.Bool.{ne_eqb, eq-eqb}
-use Rattle.shared_lemmas.proofs.Lists.{all_weaker, all_append}
+use Rattle.shared_lemmas.proofs.Common.{◌≡◌, ◌≢◌, ℕ, suc, ◌+◌, ◌-◌, ◌<◌, ◌≤◌, List, ◌∷◌, ◌++◌, length, map, get_or, set, Option, Some, None, sum_by, cond, eqb, refl, sym, ap, ◌∙◌, subst, arith, add-one, length-set, AllByRecursion, sum_by-set, ne_eqb}
+use Rattle.std.proofs.lemmas.Bool.{eq-eqb}
+use Rattle.shared_lemmas.proofs.Lists.{all_weaker, all_append, all_map}
 use Rattle.frame_pool.specs.declared.lease.Lease.{Lease}
-use Rattle.frame_pool.specs.Links.{walk, grown}
-use Rattle.frame_pool.specs.Kept.{Ends, Distinct, Belong, LeaseKept, EachKept, Kept, taken_by, promised_to}
-use Rattle.frame_pool.proofs.Walks.{all-map, map-agree, walk-same, ends-same, not_in, belong-same, grown-ends, walk-spliced, distinct-append, at_end}
+use Rattle.frame_pool.specs.Links.{walk}
+use Rattle.frame_pool.specs.Private.Leases.{grown}
+use Rattle.frame_pool.specs.Private.Kept.{Ends, Distinct, Belong, LeaseKept, EachKept, Kept, taken_by, promised_to}
+use Rattle.frame_pool.proofs.Walks.{map-agree, walk-same, ends-same, not_in, belong-same, grown-ends, walk-spliced, distinct-append, at_end}
 use Rattle.frame_pool.proofs.Leases.{changed, changed-same, changed-other, in_range, each-other, lease_kept, some_free, free_at, each-set, all_taken_fit}
 
 -- ---- a frame is taken
@@ -42,8 +41,12 @@ grown-kept n next next' page page' owner c free at l k inside none room same_lin
       ends = subst (λ j. Ends next' j free (cond (eqb l.taken 0) free l.last)) (sym (add-one l.taken))
           (grown-ends next' l.taken l.first free l.last link (ends-same next next' l.taken l.first l.last agree k.ends));
       within = omega arith;
-      pages = subst (λ (xs : List ℕ). Distinct (map page' xs)) (sym is) (subst (λ (ps : List ℕ). Distinct ps) (sym pages_is) (all-map (λ p. p ≢ at) page frames new, k.pages));
+      pages = subst (λ (xs : List ℕ). Distinct (map page' xs)) (sym is) (subst (λ (ps : List ℕ). Distinct ps) (sym pages_is) (all_map (λ p. p ≢ at) page frames new, k.pages));
     }
+
+sum-set : (f : Option Lease → ℕ) (leases : List (Option Lease)) (c : ℕ) (old new : Option Lease) → c < length leases → get_or leases c None ≡ old
+    → sum_by f (set leases c new) + f old ≡ sum_by f leases + f new
+sum-set f leases c old new inside is = subst (λ (o : Option Lease). sum_by f (set leases c new) + f o ≡ sum_by f leases + f new) is (sum_by-set f leases c new None inside)
 
 pub took-kept : (n : ℕ) (next next' page page' : ℕ → ℕ) (free at : ℕ) (leases : List (Option Lease)) (promised c : ℕ) (l : Lease) → Kept n next page free leases promised
     → get_or leases c None ≡ Some l → l.taken < l.promise → AllByRecursion (λ x. page x ≢ at) (walk next l.taken l.first)
@@ -60,11 +63,9 @@ took-kept n next next' page page' free at leases promised c l kept is room new s
     let none : owner free ≡ 0 = front.owned.0.1 in
     let inside : c < length leases = in_range leases c l is in
     let taken : sum_by taken_by (set leases c (Some (grown l free))) + l.taken ≡ sum_by taken_by leases + (l.taken + 1) =
-    subst (λ (o : Option Lease). sum_by taken_by (set leases c (Some (grown l free))) + taken_by o ≡ sum_by taken_by leases + (l.taken + 1)) is
-    (sum_by-set taken_by leases c (Some (grown l free)) None inside) in
+    sum-set taken_by leases c (Some l) (Some (grown l free)) inside is in
     let promises : sum_by promised_to (set leases c (Some (grown l free))) + l.promise ≡ sum_by promised_to leases + l.promise =
-    subst (λ (o : Option Lease). sum_by promised_to (set leases c (Some (grown l free))) + promised_to o ≡ sum_by promised_to leases + l.promise) is
-    (sum_by-set promised_to leases c (Some (grown l free)) None inside) in
+    sum-set promised_to leases c (Some l) (Some (grown l free)) inside is in
     let fuel' : n - sum_by taken_by (set leases c (Some (grown l free))) ≡ m = omega arith in
     let agree : AllByRecursion (λ x. next' x ≡ next x) rest = all_weaker (λ x. x ≢ free) (λ x. next' x ≡ next x) same_link rest front.once.0 in
     let owners : AllByRecursion (λ x. owner x ≡ 0 → changed owner free (c + 1) x ≡ 0) rest =
@@ -92,18 +93,14 @@ pub promised-kept : (n : ℕ) (next page : ℕ → ℕ) (free : ℕ) (leases : L
     → Kept n next page free (set leases c (Some (record { promise = more; taken = 0; first = 4294967295; last = 4294967295 }))) (promised + more)
 promised-kept n next page free leases promised c more kept inside is room =
     let lease : Lease = record { promise = more; taken = 0; first = 4294967295; last = 4294967295 } in
-    let taken : sum_by taken_by (set leases c (Some lease)) + 0 ≡ sum_by taken_by leases + 0 =
-    subst (λ (o : Option Lease). sum_by taken_by (set leases c (Some lease)) + taken_by o ≡ sum_by taken_by leases + 0) is (sum_by-set taken_by leases c (Some lease) None inside) in
-    let promises : sum_by promised_to (set leases c (Some lease)) + 0 ≡ sum_by promised_to leases + more =
-    subst (λ (o : Option Lease). sum_by promised_to (set leases c (Some lease)) + promised_to o ≡ sum_by promised_to leases + more) is
-    (sum_by-set promised_to leases c (Some lease) None inside) in
+    let taken : sum_by taken_by (set leases c (Some lease)) + 0 ≡ sum_by taken_by leases + 0 = sum-set taken_by leases c None (Some lease) inside is in
+    let promises : sum_by promised_to (set leases c (Some lease)) + 0 ≡ sum_by promised_to leases + more = sum-set promised_to leases c None (Some lease) inside is in
     let same : sum_by taken_by (set leases c (Some lease)) ≡ sum_by taken_by leases = omega arith in
     record {
       owner = kept.owner;
       free_frames = subst (λ (j : ℕ). Belong n kept.owner 0 (walk next (n - j) free)) (sym same) kept.free_frames;
       each = each-set (λ d o. EachKept n next page kept.owner d o) leases c (Some lease) inside
-          (record { belong = record { owned = tt; once = tt }; ends = refl; within = omega arith; pages = tt })
-          (λ d ne. kept.each d);
+          (record { belong = record { owned = tt; once = tt }; ends = refl; within = omega arith; pages = tt }) (λ d ne. kept.each d);
       promised_is = omega (arith, kept.promised_is);
       fits = room;
       small = kept.small;
@@ -126,10 +123,8 @@ pub released_none-kept : (n : ℕ) (next page : ℕ → ℕ) (free : ℕ) (lease
     → get_or leases c None ≡ Some l → l.taken ≡ 0 → Kept n next page free (set leases c None) (promised - l.promise)
 released_none-kept n next page free leases promised c l kept is none =
     let inside : c < length leases = in_range leases c l is in
-    let taken : sum_by taken_by (set leases c None) + l.taken ≡ sum_by taken_by leases + 0 =
-    subst (λ (o : Option Lease). sum_by taken_by (set leases c None) + taken_by o ≡ sum_by taken_by leases + 0) is (sum_by-set taken_by leases c None None inside) in
-    let promises : sum_by promised_to (set leases c None) + l.promise ≡ sum_by promised_to leases + 0 =
-    subst (λ (o : Option Lease). sum_by promised_to (set leases c None) + promised_to o ≡ sum_by promised_to leases + 0) is (sum_by-set promised_to leases c None None inside) in
+    let taken : sum_by taken_by (set leases c None) + l.taken ≡ sum_by taken_by leases + 0 = sum-set taken_by leases c (Some l) None inside is in
+    let promises : sum_by promised_to (set leases c None) + l.promise ≡ sum_by promised_to leases + 0 = sum-set promised_to leases c (Some l) None inside is in
     let same : sum_by taken_by (set leases c None) ≡ sum_by taken_by leases = omega arith in
     record {
       owner = kept.owner;
@@ -154,10 +149,8 @@ released-kept n next next' page free leases promised c k l kept is some same_lin
     let owner : ℕ → ℕ = kept.owner in
     let here : LeaseKept n next page owner c l = lease_kept n next page free leases promised c l kept is in
     let inside : c < length leases = in_range leases c l is in
-    let taken : sum_by taken_by (set leases c None) + l.taken ≡ sum_by taken_by leases + 0 =
-    subst (λ (o : Option Lease). sum_by taken_by (set leases c None) + taken_by o ≡ sum_by taken_by leases + 0) is (sum_by-set taken_by leases c None None inside) in
-    let promises : sum_by promised_to (set leases c None) + l.promise ≡ sum_by promised_to leases + 0 =
-    subst (λ (o : Option Lease). sum_by promised_to (set leases c None) + promised_to o ≡ sum_by promised_to leases + 0) is (sum_by-set promised_to leases c None None inside) in
+    let taken : sum_by taken_by (set leases c None) + l.taken ≡ sum_by taken_by leases + 0 = sum-set taken_by leases c (Some l) None inside is in
+    let promises : sum_by promised_to (set leases c None) + l.promise ≡ sum_by promised_to leases + 0 = sum-set promised_to leases c (Some l) None inside is in
     let m : ℕ = n - sum_by taken_by leases in
     let fit : sum_by taken_by leases ≤ n = all_taken_fit n next page free leases promised kept in
     let fuel' : n - sum_by taken_by (set leases c None) ≡ suc k + m = omega arith in
@@ -174,8 +167,7 @@ released-kept n next next' page free leases promised c k l kept is some same_lin
     let owner' : ℕ → ℕ = freed owner (c + 1) in
     let back : Belong n owner' 0 frames =
     belong-same n owner owner' (c + 1) 0 frames (all_weaker (λ x. (x < n) × (owner x ≡ c + 1)) (λ x. owner x ≡ c + 1 → owner' x ≡ 0) (λ x _ h. freed-same owner (c + 1) x h) frames belong.owned) belong in
-    let stay : Belong n owner' 0 old_free =
-    belong-same n owner owner' 0 0 old_free
+    let stay : Belong n owner' 0 old_free = belong-same n owner owner' 0 0 old_free
     (all_weaker (λ x. (x < n) × (owner x ≡ 0)) (λ x. owner x ≡ 0 → owner' x ≡ 0) (λ x _ h. freed-other owner (c + 1) x (λ e. absurd (omega (arith, e, h))) ∙ h) old_free kept.free_frames.owned)
     kept.free_frames in
     record {
@@ -187,8 +179,7 @@ released-kept n next next' page free leases promised c k l kept is some same_lin
       }));
       each = each-set (λ d o. EachKept n next' page owner' d o) leases c None inside tt
           (λ d ne. each-other n next next' page page owner owner' d l.last (get_or leases d None) (kept.each d)
-          (λ h. ne (omega (arith, h, last_is.1))) same_link (λ x _. refl)
-          (λ x h. freed-other owner (c + 1) x (λ e. ne (omega (arith, e, h))) ∙ h));
+          (λ h. ne (omega (arith, h, last_is.1))) same_link (λ x _. refl) (λ x h. freed-other owner (c + 1) x (λ e. ne (omega (arith, e, h))) ∙ h));
       promised_is = omega (arith, kept.promised_is);
       fits = omega (arith, kept.fits);
       small = kept.small;

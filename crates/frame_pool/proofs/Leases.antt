@@ -1,13 +1,10 @@
 -- What a pool keeps, after each change of its leases and links.
-use Rattle.std.proofs.Common.{◌≡◌, ◌≢◌, ℕ, suc, zero, ◌+◌, ◌-◌, ◌<◌, ◌≤◌, List, [], ◌∷◌, length, map, get_or, set, Option, Some, None, sum_by, cond, eqb, refl, sym, ap, subst, inl, inr, arith, get_or-set_same, get_or-set_other}
-use Rattle.std.specs.List.{AllByRecursion}
-use Rattle.std.proofs.lemmas.List.Sums.{sum_by-cons}
-use Rattle.std.proofs.lemmas.Bool.{ne_eqb, eq-eqb}
-use Rattle.std.proofs.lemmas.Bool.Decides.{eqb_tells}
+use Rattle.shared_lemmas.proofs.Common.{◌≡◌, ◌≢◌, ℕ, suc, zero, ◌+◌, ◌-◌, ◌<◌, ◌≤◌, List, [], ◌∷◌, length, map, get_or, set, Option, Some, None, sum_by, cond, eqb, refl, sym, ap, subst, inl, inr, arith, get_or-set_same, get_or-set_other, AllByRecursion, sum_by-cons, ne_eqb, eqb_tells}
+use Rattle.std.proofs.lemmas.Bool.{eq-eqb}
 use Rattle.shared_lemmas.proofs.Lists.{all_weaker}
 use Rattle.frame_pool.specs.declared.lease.Lease.{Lease}
 use Rattle.frame_pool.specs.Links.{walk}
-use Rattle.frame_pool.specs.Kept.{Distinct, Belong, LeaseKept, EachKept, Kept, taken_by, promised_to}
+use Rattle.frame_pool.specs.Private.Kept.{Distinct, Belong, LeaseKept, EachKept, Kept, taken_by, promised_to}
 use Rattle.frame_pool.proofs.Walks.{map-agree, walk-same, ends-same, not_in, belong-same}
 
 -- the owners with one changed
@@ -75,8 +72,7 @@ all_taken_fit n next page free leases promised kept =
 pub some_free : (n : ℕ) (next page : ℕ → ℕ) (free : ℕ) (leases : List (Option Lease)) (promised c : ℕ) (l : Lease) (kept : Kept n next page free leases promised)
     → get_or leases c None ≡ Some l → l.taken < l.promise → sum_by taken_by leases < n
 some_free n next page free leases promised c l kept is room =
-    let lt : taken_by (get_or leases c None) < promised_to (get_or leases c None) =
-    subst (λ (o : Option Lease). taken_by o < promised_to o) (sym is) room in
+    let lt : taken_by (get_or leases c None) < promised_to (get_or leases c None) = subst (λ (o : Option Lease). taken_by o < promised_to o) (sym is) room in
     omega (arith, kept.promised_is, kept.fits, sum_lt leases c (λ i. within_promise n next page kept.owner i (get_or leases i None) (kept.each i)) lt)
 
 -- the free frames, of which there is one
@@ -87,8 +83,7 @@ free_at n next page free m leases promised kept is = subst (λ j. Belong n kept.
 -- each place of a list after a write
 pub each-set : (P : ℕ → Option Lease → Type 0) (leases : List (Option Lease)) (c : ℕ) (o : Option Lease) → c < length leases → P c o
     → ((d : ℕ) → d ≢ c → P d (get_or leases d None)) → (d : ℕ) → P d (get_or (set leases c o) d None)
-each-set P leases c o inside here others d =
-    elim (eqb_tells d c) as (λ _. P d (get_or (set leases c o) d None)) [
-      | inl same ↦ subst (λ (e : ℕ). P e (get_or (set leases c o) e None)) (sym same.1) (subst (P c) (sym (get_or-set_same leases c o None inside)) here)
-      | inr other ↦ subst (P d) (sym (get_or-set_other leases c d o None other.1)) (others d other.1)
-    ]
+each-set P leases c o inside here others d = elim (eqb_tells d c) as (λ _. P d (get_or (set leases c o) d None)) [
+  | inl same ↦ subst (λ (e : ℕ). P e (get_or (set leases c o) e None)) (sym same.1) (subst (P c) (sym (get_or-set_same leases c o None inside)) here)
+  | inr other ↦ subst (P d) (sym (get_or-set_other leases c d o None other.1)) (others d other.1)
+]

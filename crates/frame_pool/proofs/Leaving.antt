@@ -1,7 +1,5 @@
 -- What calls on one chain leave of a pool.
-use Rattle.std.proofs.Common.{◌≡◌, ◌↔◌, ℕ, suc, zero, Bool, ◌&&◌, List, [], ◌∷◌, length, map, get_or, Option, None, is_some, refl, sym, ap, ◌∙◌}
-use Rattle.std.specs.List.{list_all}
-use Rattle.std.proofs.lemmas.List.{length-map}
+use Rattle.shared_lemmas.proofs.Common.{◌≡◌, ◌↔◌, ℕ, suc, zero, Bool, ◌&&◌, List, [], ◌∷◌, length, map, get_or, Option, None, is_some, refl, sym, ap, ◌∙◌, list_all, length-map}
 use Rattle.frame_pool.specs.Pool.{PoolView, ChainEntry, IsInUse, promise_refusal, all_in_use}
 use Rattle.frame_pool.specs.ChainView.{LeavesPool}
 

@@ -1,15 +1,13 @@
 -- A new pool.
-use Rattle.std.proofs.Common.{◌≡◌, ◌≢◌, ℕ, suc, zero, ◌+◌, ◌-◌, ◌*◌, ◌<◌, ◌≤◌, List, [], ◌∷◌, length, map, get_or, replicate, Option, None, sum_by, refl, sym, ap, ◌∙◌, subst, arith}
-use Rattle.std.specs.List.{AllByRecursion, range_with_len}
-use Rattle.std.proofs.lemmas.List.{length-map, length-replicate}
-use Rattle.std.proofs.lemmas.List.Folds.{sum_by-replicate}
-use Rattle.std.proofs.lemmas.List.FromFn.{length-map-range_with_len, get_or-map-range_with_len}
+use Rattle.shared_lemmas.proofs.Common.{◌≡◌, ◌≢◌, ℕ, suc, zero, ◌+◌, ◌-◌, ◌*◌, ◌<◌, ◌≤◌, List, [], ◌∷◌, length, map, get_or, replicate, Option, None, sum_by, refl, sym, ap, ◌∙◌, subst, arith, AllByRecursion, range_with_len, length-map, length-replicate, sum_by-replicate, length-map-range_with_len}
+use Rattle.shared_lemmas.proofs.Common.{get_or-map-range_with_len}
 use Rattle.shared_lemmas.proofs.Lists.{all_weaker}
 use Rattle.frame_pool.specs.declared.lease.Lease.{Lease}
 use Rattle.frame_pool.specs.Frames.{Frame}
 use Rattle.frame_pool.specs.Pool.{ChainEntry, IsUnused}
 use Rattle.frame_pool.specs.Links.{walk, blank, link_of, page_of, frame_content, chain_entry, view_of, free_frame}
-use Rattle.frame_pool.specs.Kept.{Distinct, EachKept, PoolKept, IsSized, taken_by, promised_to}
+use Rattle.frame_pool.specs.Private.Kept.{Distinct, EachKept, PoolKept, IsSized, taken_by, promised_to}
+use Rattle.shared_lemmas.proofs.Places.{same_there}
 
 abbrev new_frames : ℕ → List Frame
 new_frames n = map free_frame (range_with_len 1 n)
@@ -31,11 +29,6 @@ sized-map [] f = record { scores = length-replicate {A = ℕ} 256 0; places = le
 sized-map (x ∷ xs) zero = record { scores = length-replicate {A = ℕ} 256 0; places = length-replicate {A = ℕ} 256 0 }
 sized-map (x ∷ xs) (suc f) = sized-map xs f
 
-none-at : (m c : ℕ) → get_or {A = Option Lease} (replicate m None) c None ≡ None
-none-at zero c = refl
-none-at (suc m) zero = refl
-none-at (suc m) (suc c) = none-at m c
-
 no-entries : (next : ℕ → ℕ) (m : ℕ) → map (chain_entry next) (replicate m None) ≡ replicate m None
 no-entries next zero = refl
 no-entries next (suc m) = ap (λ (es : List (Option ChainEntry)). None ∷ es) (no-entries next m)
@@ -56,7 +49,7 @@ new-kept n m small few =
               (walk (link_of (new_frames n)) (length (new_frames n) - sum_by taken_by (replicate m None)) 0) list.0;
           once = list.1;
         };
-        each = λ c. subst (λ (o : Option Lease). EachKept (length (new_frames n)) (link_of (new_frames n)) (page_of (new_frames n)) (λ _. 0) c o) (sym (none-at m c)) tt;
+        each = λ c. subst (λ (o : Option Lease). EachKept (length (new_frames n)) (link_of (new_frames n)) (page_of (new_frames n)) (λ _. 0) c o) (sym (same_there None m c)) tt;
         promised_is = omega arith;
         fits = omega arith;
         small = omega arith;
@@ -67,8 +60,7 @@ new-kept n m small few =
 
 pub new-pool : (n m : ℕ) (frames : List Frame) (leases : List (Option Lease)) → n ≤ 1048576 → m ≤ 1024 → frames ≡ map free_frame (range_with_len 1 n) → leases ≡ replicate m None
     → PoolKept frames leases 0 0
-new-pool n m frames leases small few frames_is leases_is =
-    subst (λ (fs : List Frame). PoolKept fs leases 0 0) (sym frames_is)
+new-pool n m frames leases small few frames_is leases_is = subst (λ (fs : List Frame). PoolKept fs leases 0 0) (sym frames_is)
     (subst (λ (ls : List (Option Lease)). PoolKept (map free_frame (range_with_len 1 n)) ls 0 0) (sym leases_is) (new-kept n m small few))
 
 pub new-unused : (n m : ℕ) (frames : List Frame) (leases : List (Option Lease)) → frames ≡ map free_frame (range_with_len 1 n) → leases ≡ replicate m None → IsUnused (view_of frames leases) n m

@@ -16,19 +16,18 @@ none_found (Some x) h = cc
 has_member : (content : ℕ → FrameContent) (p f : ℕ) (fs : List ℕ) → option_map (λ h. h.number) (find (λ h. h.content.page == p) (map (held_by content) fs)) ≡ Some f
     → Contains fs f × ((content f).page ≡ p)
 has_member content p f [] has = cc
-has_member content p f (g ∷ fs) has =
-    elim (eqb_tells (content g).page p) as (λ _. Contains (g ∷ fs) f × ((content f).page ≡ p)) [
-      | inl here ↦
-          let is : Some g ≡ Some f =
-          sym (ap (λ b. option_map (λ (h : HeldFrame). h.number) (cond b (Some (held_by content g)) (find (λ h. h.content.page == p) (map (held_by content) fs)))) here.0) ∙ has in
-          let same : g ≡ f = cc in
-          ((0, omega arith, same), subst (λ (x : ℕ). (content x).page ≡ p) same here.1)
-      | inr other ↦
-          let rest : option_map (λ (h : HeldFrame). h.number) (find (λ h. h.content.page == p) (map (held_by content) fs)) ≡ Some f =
-          sym (ap (λ b. option_map (λ (h : HeldFrame). h.number) (cond b (Some (held_by content g)) (find (λ h. h.content.page == p) (map (held_by content) fs)))) other.0) ∙ has in
-          let there = has_member content p f fs rest in
-          ((suc there.0.0, (let h : there.0.0 < length fs = there.0.1 in omega arith), there.0.2), there.1)
-    ]
+has_member content p f (g ∷ fs) has = elim (eqb_tells (content g).page p) as (λ _. Contains (g ∷ fs) f × ((content f).page ≡ p)) [
+  | inl here ↦
+      let is : Some g ≡ Some f =
+      sym (ap (λ b. option_map (λ (h : HeldFrame). h.number) (cond b (Some (held_by content g)) (find (λ h. h.content.page == p) (map (held_by content) fs)))) here.0) ∙ has in
+      let same : g ≡ f = cc in
+      ((0, omega arith, same), subst (λ (x : ℕ). (content x).page ≡ p) same here.1)
+  | inr other ↦
+      let rest : option_map (λ (h : HeldFrame). h.number) (find (λ h. h.content.page == p) (map (held_by content) fs)) ≡ Some f =
+      sym (ap (λ b. option_map (λ (h : HeldFrame). h.number) (cond b (Some (held_by content g)) (find (λ h. h.content.page == p) (map (held_by content) fs)))) other.0) ∙ has in
+      let there = has_member content p f fs rest in
+      ((suc there.0.0, (let h : there.0.0 < length fs = there.0.1 in omega arith), there.0.2), there.1)
+]
 
 -- a frame whose page none before it has is found by its page
 number-at : (content : ℕ → FrameContent) (fs : List ℕ) (k f : ℕ) → k < length fs → get_or fs k f ≡ f → ((j : ℕ) → j < k → (content (get_or fs j f)).page ≢ (content f).page)
@@ -36,12 +35,10 @@ number-at : (content : ℕ → FrameContent) (fs : List ℕ) (k f : ℕ) → k <
 number-at content [] k f inside is apart = absurd (omega arith)
 number-at content (g ∷ fs) zero f inside is apart =
     ap (λ b. option_map (λ (h : HeldFrame). h.number) (cond b (Some (held_by content g)) (find (λ h. h.content.page == (content f).page) (map (held_by content) fs))))
-    (eq-eqb (content g).page (content f).page (ap (λ (x : ℕ). (content x).page) is))
-    ∙ ap (λ (x : ℕ). Some x) is
+    (eq-eqb (content g).page (content f).page (ap (λ (x : ℕ). (content x).page) is)) ∙ ap (λ (x : ℕ). Some x) is
 number-at content (g ∷ fs) (suc k) f inside is apart =
     ap (λ b. option_map (λ (h : HeldFrame). h.number) (cond b (Some (held_by content g)) (find (λ h. h.content.page == (content f).page) (map (held_by content) fs))))
-    (ne_eqb (content g).page (content f).page (apart 0 (omega arith)))
-    ∙ number-at content fs k f (omega arith) is (λ j lt. apart (suc j) (omega arith))
+    (ne_eqb (content g).page (content f).page (apart 0 (omega arith))) ∙ number-at content fs k f (omega arith) is (λ j lt. apart (suc j) (omega arith))
 
 -- the pages of a chain before that of one of its frames
 pub pages_before : (pool : PoolView) (c : ℕ) → AllPairs (λ a b. (content_of pool a).page ≢ (content_of pool b).page) (chain_of pool c).frames

@@ -1,15 +1,14 @@
 -- What a walk says of the frames in it.
-use Rattle.std.proofs.Common.{◌≡◌, ◌≢◌, ℕ, suc, zero, ◌+◌, ◌<◌, List, [], ◌∷◌, length, get_or, Option, Some, None, cond, eqb, slice_get, is_some, true, unwrap_or, Contains, refl, sym, ap, ◌∙◌, subst, arith}
-use Rattle.std.specs.List.{AllByRecursion}
-use Rattle.std.proofs.lemmas.Bool.{ne_eqb, eq-eqb}
+use Rattle.shared_lemmas.proofs.Common.{◌≡◌, ◌≢◌, ℕ, suc, zero, ◌+◌, ◌<◌, List, [], ◌∷◌, length, get_or, Option, Some, None, cond, eqb, slice_get, is_some, true, Contains, refl, sym, ap, ◌∙◌, subst, arith, AllByRecursion, ne_eqb, length-map}
+use Rattle.std.proofs.Common.{unwrap_or}
+use Rattle.std.proofs.lemmas.Bool.{eq-eqb}
 use Rattle.frame_pool.specs.declared.lease.Lease.{Lease}
 use Rattle.frame_pool.specs.Frames.{Frame}
 use Rattle.frame_pool.specs.Pool.{PoolView, ChainEntry, IsInUse, HasFrame, chain_of, number_after}
-use Rattle.std.proofs.lemmas.List.{length-map}
 use Rattle.shared_lemmas.proofs.Lists.{all_weaker}
 use Rattle.frame_pool.specs.ChainView.{chain_view, held_frame}
 use Rattle.frame_pool.specs.Links.{walk, link_of, page_of, view_of}
-use Rattle.frame_pool.specs.Kept.{Ends, Distinct, LeaseKept, PoolKept}
+use Rattle.frame_pool.specs.Private.Kept.{Ends, Distinct, LeaseKept, PoolKept}
 use Rattle.frame_pool.proofs.Walks.{length-walk}
 use Rattle.frame_pool.proofs.Leases.{lease_kept}
 use Rattle.frame_pool.proofs.Views.{chain_of_is, lease_of}
@@ -24,14 +23,12 @@ apart_at x (y ∷ ys) (suc j) f h inside is = apart_at x ys j f h.1 (omega arith
 number-after-walk : (next : ℕ → ℕ) (k a last j f : ℕ) → Ends next k a last → Distinct (walk next k a) → AllByRecursion (λ x. x < 4294967295) (walk next k a)
     → j < length (walk next k a) → get_or (walk next k a) j f ≡ f → number_after (walk next k a) f ≡ cond (eqb (next f) 4294967295) None (Some (next f))
 number-after-walk next zero a last j f ends once small inside is = absurd (omega arith)
-number-after-walk next (suc zero) a last zero f ends once small inside is =
-    ap (λ b. cond b None None) (eq-eqb a f is)
+number-after-walk next (suc zero) a last zero f ends once small inside is = ap (λ b. cond b None None) (eq-eqb a f is)
     ∙ sym (ap (λ b. cond b None (Some (next f))) (eq-eqb (next f) 4294967295 (ap next (sym is) ∙ ends.1)))
 number-after-walk next (suc zero) a last (suc j) f ends once small inside is = absurd (omega arith)
 number-after-walk next (suc (suc k)) a last zero f ends once small inside is =
     let behind : next a < 4294967295 = small.1.0 in
-    ap (λ b. cond b (Some (next a)) (number_after (walk next (suc k) (next a)) f)) (eq-eqb a f is)
-    ∙ ap (λ (x : ℕ). Some (next x)) is
+    ap (λ b. cond b (Some (next a)) (number_after (walk next (suc k) (next a)) f)) (eq-eqb a f is) ∙ ap (λ (x : ℕ). Some (next x)) is
     ∙ sym (ap (λ b. cond b None (Some (next f))) (ne_eqb (next f) 4294967295 (λ h. absurd (omega (arith, h, behind, ap next is)))))
 number-after-walk next (suc (suc k)) a last (suc j) f ends once small inside is =
     let shorter : j < length (walk next (suc k) (next a)) = omega arith in

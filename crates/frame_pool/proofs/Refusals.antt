@@ -1,16 +1,12 @@
 -- When a promise is refused, by the leases.
-use Rattle.std.proofs.Common.{◌≡◌, ℕ, ◌-◌, ◌<◌, ◌≤◌, true, false, cond, List, [], ◌∷◌, length, map, get_or, Option, Some, None, is_some, is_none, position, nat_lt, refl, sym, ap, ◌∙◌, inl, inr, ◌&&◌, arith}
-use Rattle.std.specs.List.{list_all, position_or_len}
-use Rattle.std.proofs.lemmas.List.Sums.{fails_before_first, list_all-from_AllPass, AllPass-from_list_all}
-use Rattle.std.proofs.lemmas.List.Quantifiers.{position-Some}
-use Rattle.std.proofs.lemmas.Bool.{lt-ltb, le-ltb, cases_Bool}
-use Rattle.std.proofs.lemmas.Bool.Decides.{nat_tests}
+use Rattle.shared_lemmas.proofs.Common.{◌≡◌, ℕ, ◌-◌, ◌<◌, ◌≤◌, true, false, cond, List, [], ◌∷◌, length, map, get_or, Option, Some, None, is_some, is_none, position, nat_lt, refl, sym, ap, ◌∙◌, inl, inr, ◌&&◌, arith, list_all, position_or_len, fails_before_first, list_all-from_AllPass}
+use Rattle.shared_lemmas.proofs.Common.{AllPass-from_list_all, position-Some, lt-ltb, le-ltb, cases_Bool, nat_tests}
 use Rattle.frame_pool.specs.declared.lease.Lease.{Lease}
 use Rattle.frame_pool.specs.Frames.{Frame}
 use Rattle.frame_pool.specs.declared.refusal.PoolRefusal.TheVariants.{Chains, Short}
 use Rattle.frame_pool.specs.Pool.{PoolView, promised, spare_of, all_in_use, promise_refusal}
 use Rattle.frame_pool.specs.Links.{chain_entry, link_of, view_of}
-use Rattle.frame_pool.specs.Kept.{PoolKept}
+use Rattle.frame_pool.specs.Private.Kept.{PoolKept}
 use Rattle.frame_pool.proofs.Views.{promised_view, frame_count}
 
 entry_some : (next : ℕ → ℕ) (o : Option Lease) → is_some (chain_entry next o) ≡ is_some o
@@ -19,18 +15,16 @@ entry_some next (Some l) = refl
 
 all-entries : (next : ℕ → ℕ) (leases : List (Option Lease)) → list_all is_some (map (chain_entry next) leases) ≡ list_all is_some leases
 all-entries next [] = refl
-all-entries next (x ∷ xs) =
-    ap (λ b. b && list_all is_some (map (chain_entry next) xs)) (entry_some next x) ∙ ap (λ b. is_some x && b) (all-entries next xs)
+all-entries next (x ∷ xs) = ap (λ b. b && list_all is_some (map (chain_entry next) xs)) (entry_some next x) ∙ ap (λ b. is_some x && b) (all-entries next xs)
 
 pub all_in_use_is : (frames : List Frame) (leases : List (Option Lease)) (pool : PoolView) → view_of frames leases ≡ pool → all_in_use pool ≡ list_all is_some leases
 all_in_use_is frames leases pool view = ap all_in_use (sym view) ∙ all-entries (link_of frames) leases
 
 pub none_unused : (leases : List (Option Lease)) → position is_none leases ≡ None → list_all is_some leases ≡ true
-none_unused leases none =
-    elim (cases_Bool (nat_lt (position_or_len is_none leases) (length leases))) as (λ _. list_all is_some leases ≡ true) [
-      | inl found ↦ absurd (some_none (position_or_len is_none leases) (sym (ap (λ b. cond b (Some (position_or_len is_none leases)) None) found) ∙ none))
-      | inr past ↦ list_all-from_AllPass is_some leases (λ k d inside. some_there (get_or leases k d) (fails_before_first is_none leases k d (grind (arith, nat_tests))))
-    ]
+none_unused leases none = elim (cases_Bool (nat_lt (position_or_len is_none leases) (length leases))) as (λ _. list_all is_some leases ≡ true) [
+  | inl found ↦ absurd (some_none (position_or_len is_none leases) (sym (ap (λ b. cond b (Some (position_or_len is_none leases)) None) found) ∙ none))
+  | inr past ↦ list_all-from_AllPass is_some leases (λ k d inside. some_there (get_or leases k d) (fails_before_first is_none leases k d (grind (arith, nat_tests))))
+]
   where
     some_none : (k : ℕ) → Some k ≡ None → ⊥
     some_none k h = cc
@@ -65,8 +59,7 @@ spare_is frames leases free sum pool kept view =
     ap (λ (n : ℕ). n - promised pool) (frame_count frames leases pool view) ∙ ap (λ (s : ℕ). length frames - s) promises
 
 pub refused_chains : (pool : PoolView) (n k : ℕ) → all_in_use pool ≡ true → k ≡ length pool.chains → Some (Chains k) ≡ promise_refusal pool n
-refused_chains pool n k all is =
-    ap (λ (j : ℕ). Some (Chains j)) is
+refused_chains pool n k all is = ap (λ (j : ℕ). Some (Chains j)) is
     ∙ sym (ap (λ b. cond b (Some (Chains (length pool.chains))) (cond (nat_lt (spare_of pool) n) (Some (Short n (spare_of pool))) None)) all)
 
 pub refused_short : (pool : PoolView) (n s : ℕ) → all_in_use pool ≡ false → s ≡ spare_of pool → s < n → Some (Short n s) ≡ promise_refusal pool n

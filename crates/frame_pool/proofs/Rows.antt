@@ -1,12 +1,10 @@
 -- Three tables that keep frames, and a write to one row of them.
-use Rattle.std.proofs.Common.{◌≡◌, ℕ, suc, zero, ◌+◌, ◌-◌, ◌<◌, ◌++◌, take, inl, inr, true, false, List, [], ◌∷◌, length, map, get_or, set, replicate, refl, sym, ap, ◌∙◌, subst, arith, length-set}
-use Rattle.std.specs.List.{range_with_len}
-use Rattle.std.proofs.lemmas.Bool.{cases_lt}
-use Rattle.std.proofs.lemmas.List.{length-replicate, set-get_or, length-append, length-take, get_or-take, get_or_append_left, get_or-append_right, get_or-replicate, get_or_past, get_or_read}
-use Rattle.std.proofs.Math.Seq.{take-append_seam}
+use Rattle.shared_lemmas.proofs.Common.{◌≡◌, ℕ, suc, zero, ◌+◌, ◌-◌, ◌<◌, ◌++◌, take, inl, inr, true, false, List, [], ◌∷◌, length, map, get_or, set, replicate, refl, sym, ap, ◌∙◌, subst, arith, length-set, range_with_len, cases_lt, length-replicate, set-get_or, length-append, length-take}
+use Rattle.shared_lemmas.proofs.Common.{get_or-take, get_or_append_left, get_or-append_right, get_or-replicate, get_or_past, get_or_read, take-append_seam}
 use Rattle.frame_pool.specs.declared.store.Head.{Head}
 use Rattle.frame_pool.specs.Pool.{slots_of}
-use Rattle.frame_pool.specs.Frames.{AreRows, Frame, IsRow, blank, frame_of, frames_of, free_frame, free_head}
+use Rattle.frame_pool.specs.Frames.{Frame, blank, free_frame}
+use Rattle.frame_pool.specs.Private.Tables.{AreRows, IsRow, frame_of, frames_of, free_head}
 
 -- ---- the slots that a list makes
 
@@ -20,8 +18,7 @@ length-slots_of list = omega (arith, length-take 256 (list ++ replicate 256 0), 
 
 pub slot-at : (list : List ℕ) (s : ℕ) → s < 256 → get_or (slots_of list) s 0 ≡ get_or list s 0
 unfolding slots_of
-slot-at list s small =
-    get_or-take 256 (list ++ replicate 256 0) s 0 small
+slot-at list s small = get_or-take 256 (list ++ replicate 256 0) s 0 small
     ∙ elim (cases_lt s (length list)) as (λ _. get_or (list ++ replicate 256 0) s 0 ≡ get_or list s 0) [
       | inl within ↦ get_or_append_left list (replicate 256 0) 0 s within
       | inr past ↦ get_or-append_right list (replicate 256 0) (length list) s 0 refl past ∙ get_or-replicate 256 (s - length list) 0 0 (omega arith) ∙ sym (get_or_past list s 0 past)
@@ -34,19 +31,13 @@ no_scores = whole (replicate 256 0) (length-replicate {A = ℕ} 256 0)
 
 pub counts : (heads : List Head) (scores places : List (List ℕ)) → AreRows heads scores places → (length scores ≡ length heads) × (length places ≡ length heads)
 counts [] [] [] rows = (refl, refl)
-counts [] [] (p ∷ places) rows = absurd rows
-counts [] (s ∷ scores) places rows = absurd rows
-counts (h ∷ heads) [] places rows = absurd rows
-counts (h ∷ heads) (s ∷ scores) [] rows = absurd rows
 counts (h ∷ heads) (s ∷ scores) (p ∷ places) rows = let rest = counts heads scores places rows.1 in (ap suc rest.0, ap suc rest.1)
+counts heads scores places rows = absurd rows
 
 pub length-frames : (heads : List Head) (scores places : List (List ℕ)) → AreRows heads scores places → length (frames_of heads scores places) ≡ length heads
 length-frames [] [] [] rows = refl
-length-frames [] [] (p ∷ places) rows = absurd rows
-length-frames [] (s ∷ scores) places rows = absurd rows
-length-frames (h ∷ heads) [] places rows = absurd rows
-length-frames (h ∷ heads) (s ∷ scores) [] rows = absurd rows
 length-frames (h ∷ heads) (s ∷ scores) (p ∷ places) rows = ap suc (length-frames heads scores places rows.1)
+length-frames heads scores places rows = absurd rows
 
 -- one row, and the frame that it is
 pub row_at : (heads : List Head) (scores places : List (List ℕ)) (f : ℕ) (h : Head) (p : List ℕ) → AreRows heads scores places → f < length heads
@@ -69,29 +60,22 @@ frame_at (x ∷ heads) (y ∷ scores) (z ∷ places) (suc f) h s p rows inside =
 pub rows-set : (heads : List Head) (scores places : List (List ℕ)) (f : ℕ) (h : Head) (s p : List ℕ) → AreRows heads scores places → IsRow h p
     → AreRows (set heads f h) (set scores f s) (set places f p)
 rows-set [] [] [] f h s p rows row = rows
-rows-set [] [] (z ∷ places) f h s p rows row = absurd rows
-rows-set [] (y ∷ scores) places f h s p rows row = absurd rows
-rows-set (x ∷ heads) [] places f h s p rows row = absurd rows
-rows-set (x ∷ heads) (y ∷ scores) [] f h s p rows row = absurd rows
 rows-set (x ∷ heads) (y ∷ scores) (z ∷ places) zero h s p rows row = (row, rows.1)
 rows-set (x ∷ heads) (y ∷ scores) (z ∷ places) (suc f) h s p rows row = (rows.0, rows-set heads scores places f h s p rows.1 row)
+rows-set heads scores places f h s p rows row = absurd rows
 
 frames-set : (heads : List Head) (scores places : List (List ℕ)) (f : ℕ) (h : Head) (s p : List ℕ) → AreRows heads scores places
     → frames_of (set heads f h) (set scores f s) (set places f p) ≡ set (frames_of heads scores places) f (frame_of h s p)
 frames-set [] [] [] f h s p rows = refl
-frames-set [] [] (z ∷ places) f h s p rows = absurd rows
-frames-set [] (y ∷ scores) places f h s p rows = absurd rows
-frames-set (x ∷ heads) [] places f h s p rows = absurd rows
-frames-set (x ∷ heads) (y ∷ scores) [] f h s p rows = absurd rows
 frames-set (x ∷ heads) (y ∷ scores) (z ∷ places) zero h s p rows = refl
 frames-set (x ∷ heads) (y ∷ scores) (z ∷ places) (suc f) h s p rows = ap (λ (fs : List Frame). frame_of x y z ∷ fs) (frames-set heads scores places f h s p rows.1)
+frames-set heads scores places f h s p rows = absurd rows
 
 -- the number of a frame in the list is a place of each table
 pub inside_all : (heads : List Head) (scores places : List (List ℕ)) (frames : List Frame) (f : ℕ) → AreRows heads scores places → frames_of heads scores places ≡ frames → f < length frames
     → (f < length heads) × (f < length scores) × (f < length places)
 inside_all heads scores places frames f rows view inside =
-    let same = counts heads scores places rows in
-    let size = length-frames heads scores places rows in
+    let same = counts heads scores places rows in let size = length-frames heads scores places rows in
     (omega (arith, size, ap (λ (fs : List Frame). length fs) view), omega (arith, size, same.0, ap (λ (fs : List Frame). length fs) view), omega (arith, size, same.1, ap (λ (fs : List Frame). length fs) view))
 
 -- the frame that the list has there
@@ -139,8 +123,7 @@ module _ (heads : List Head) (scores places : List (List ℕ)) (frames : List Fr
       let p : List ℕ = get_or places f [] in
       let row = row_at heads scores places f (free_head 0) [] rows here in
       keep_written heads heads scores (set scores f slots) places places frames f h slots p _ rows view
-      (sym (set-get_or heads f (free_head 0))) refl (sym (set-get_or places f []))
-      (record { place_slots = row.place_slots; unset = row.unset })
+      (sym (set-get_or heads f (free_head 0))) refl (sym (set-get_or places f [])) (record { place_slots = row.place_slots; unset = row.unset })
       (sym (ap (λ (x : Frame). let y : Frame = record x { scores = slots_of slots } in y) (frame_there heads scores places frames f (free_head 0) [] [] rows view inside)))
 
   pub place_set : (slot v : ℕ) (head : Head) (read : List ℕ) → head ≡ get_or heads f head → read ≡ get_or places f read

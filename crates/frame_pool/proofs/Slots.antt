@@ -1,12 +1,12 @@
 -- A slot of a frame is set, and all its scores are lent.
-use Rattle.std.proofs.Common.{◌≡◌, ℕ, ◌<◌, List, length, get_or, set, Option, refl, sym, ap, ◌∙◌, subst, arith}
-use Rattle.std.proofs.lemmas.List.{map-set}
+use Rattle.shared_lemmas.proofs.Common.{◌≡◌, ℕ, ◌<◌, List, length, get_or, set, Option, refl, sym, ap, ◌∙◌, subst, arith, map-set}
 use Rattle.frame_pool.specs.declared.lease.Lease.{Lease}
-use Rattle.frame_pool.specs.Frames.{Frame, frame_at, rescored}
+use Rattle.frame_pool.specs.Frames.{Frame}
+use Rattle.frame_pool.specs.Private.Tables.{frame_at, rescored}
 use Rattle.frame_pool.specs.Pool.{PoolView, ChainEntry, FrameContent, content_of, with_frame_scores, with_scores}
 use Rattle.frame_pool.specs.ChainView.{IsTaken}
 use Rattle.frame_pool.specs.Links.{blank, frame_content, view_of}
-use Rattle.frame_pool.specs.Kept.{PoolKept}
+use Rattle.frame_pool.specs.Private.Kept.{PoolKept}
 use Rattle.frame_pool.proofs.Views.{taken_range, content_is, content_seen, frame_count, content-kept, content-chains}
 use Rattle.frame_pool.proofs.ChainViews.{Writes}
 use Rattle.frame_pool.proofs.Rows.{length-slots_of}
@@ -26,12 +26,8 @@ writes frames frames' leases free sum pool kept view i new taken is next page =
 pub written-kept : (frames frames' : List Frame) (leases : List (Option Lease)) (free sum : ℕ) → PoolKept frames leases free sum
     → (i : ℕ) (new : Frame) → frames' ≡ set frames i new → new.next ≡ (get_or frames i blank).next → new.page ≡ (get_or frames i blank).page
     → length new.scores ≡ length (get_or frames i blank).scores → length new.places ≡ length (get_or frames i blank).places → PoolKept frames' leases free sum
-written-kept frames frames' leases free sum kept i new is next page scores places =
-    subst (λ (fs : List Frame). PoolKept fs leases free sum) (sym is)
-    (content-kept frames leases free sum i new kept next page (record {
-      scores = scores ∙ (kept.sized i).scores;
-      places = places ∙ (kept.sized i).places;
-    }))
+written-kept frames frames' leases free sum kept i new is next page scores places = subst (λ (fs : List Frame). PoolKept fs leases free sum) (sym is)
+    (content-kept frames leases free sum i new kept next page (record { scores = scores ∙ (kept.sized i).scores; places = places ∙ (kept.sized i).places }))
 
 -- ---- the frame has the scores that a list makes
 

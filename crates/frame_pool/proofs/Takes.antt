@@ -1,18 +1,16 @@
 -- A frame is taken, a promise is made, a chain is given back: what the pool's fields keep, and what its view shows.
-use Rattle.std.proofs.Common.{◌≡◌, ◌≢◌, ℕ, suc, zero, ◌+◌, ◌-◌, ◌<◌, ◌≤◌, ◌==◌, Bool, List, [], ◌∷◌, length, map, get_or, set, replicate, Option, Some, None, sum_by, cond, IsSome, unwrap_or, is_some, option_map, find, refl, sym, ap, ◌∙◌, subst, inl, inr, arith, length-set, get_or-set_same, get_or-set_other}
-use Rattle.std.specs.List.{AllByRecursion}
-use Rattle.std.proofs.lemmas.List.{length-map, map-set, length-replicate}
-use Rattle.std.proofs.lemmas.List.Sums.{sum_by-set}
+use Rattle.shared_lemmas.proofs.Common.{◌≡◌, ◌≢◌, ℕ, suc, zero, ◌+◌, ◌-◌, ◌<◌, ◌≤◌, ◌==◌, Bool, List, [], ◌∷◌, length, map, get_or, set, replicate, Option, Some, None, sum_by, cond, IsSome, is_some, refl, sym, ap, ◌∙◌, subst, inl, inr, arith, length-set, get_or-set_same, get_or-set_other}
+use Rattle.shared_lemmas.proofs.Common.{AllByRecursion, length-map, map-set, length-replicate, sum_by-set, eqb_tells, fun_ext}
+use Rattle.std.proofs.Common.{unwrap_or, option_map, find}
 use Rattle.std.proofs.lemmas.Bool.{eq-eqb}
-use Rattle.std.proofs.lemmas.Bool.Decides.{eqb_tells}
 use Rattle.frame_pool.specs.declared.lease.Lease.{Lease}
 use Rattle.frame_pool.specs.Frames.{Frame}
 use Rattle.frame_pool.specs.Pool.{PoolView, ChainEntry, FrameContent, cleared, content_of, chain_of, IsInUse, HasFrame, IsFree, promise_of, promised, spare_of, with_first, Promises}
 use Rattle.frame_pool.specs.Sound.{IsSound}
 use Rattle.frame_pool.specs.ChainView.{HasPage, number_with_page, frame_with_page, ChainView, HeldFrame, chain_view, held_frame, LacksPage, with_first_held, view_values, LeavesOthers, LeavesPool}
-use Rattle.std.proofs.Math.Path.{fun_ext}
-use Rattle.frame_pool.specs.Links.{walk, grown, blank, link_of, page_of, frame_content, chain_entry, view_of, relinked, relinked_first}
-use Rattle.frame_pool.specs.Kept.{Ends, Belong, LeaseKept, Kept, PoolKept, taken_by}
+use Rattle.frame_pool.specs.Links.{walk, blank, link_of, page_of, frame_content, chain_entry, view_of}
+use Rattle.frame_pool.specs.Private.Leases.{grown, relinked, relinked_first}
+use Rattle.frame_pool.specs.Private.Kept.{Ends, Belong, LeaseKept, Kept, PoolKept, taken_by}
 use Rattle.frame_pool.proofs.Walks.{length-walk, at_end}
 use Rattle.frame_pool.proofs.Leases.{in_range, lease_kept, some_free, free_at}
 use Rattle.frame_pool.proofs.Changes.{took-kept, promised-kept, released-kept, released_none-kept, grown-walk}
@@ -48,8 +46,7 @@ takes-spare old new c f page t =
     omega (arith, promised-set old new c (Some (with_first (chain_of old c) f)) t.chains t.inside, ap (λ (fs : List FrameContent). length fs) t.frames, length-set old.frames f (cleared page))
 
 pub takes-in_use : (old new : PoolView) (c f page : ℕ) → Takes old new c f page → IsInUse new c
-takes-in_use old new c f page t =
-    subst (λ (es : List (Option ChainEntry)). IsSome (get_or es c None)) (sym t.chains)
+takes-in_use old new c f page t = subst (λ (es : List (Option ChainEntry)). IsSome (get_or es c None)) (sym t.chains)
     (subst (λ (e : Option ChainEntry). IsSome e) (sym (get_or-set_same old.chains c (Some (with_first (chain_of old c) f)) None t.inside)) refl)
 
 -- a page that isn't found is that of no frame
@@ -62,10 +59,7 @@ lacks-all content page' p (g ∷ fs) same none =
       | inl here ↦
           let found : Some (held_by content g) ≡ None = sym (ap (λ b. cond b (Some (held_by content g)) rest) here.0) ∙ none in
           cc
-      | inr other ↦ (
-        (λ e. other.1 (same g ∙ e)),
-        lacks-all content page' p fs same (sym (ap (λ b. cond b (Some (held_by content g)) rest) other.0) ∙ none),
-      )
+      | inr other ↦ ((λ e. other.1 (same g ∙ e)), lacks-all content page' p fs same (sym (ap (λ b. cond b (Some (held_by content g)) rest) other.0) ∙ none))
     ]
 
 -- the fields after frame `free` was taken for chain c
@@ -115,8 +109,7 @@ took-pool frames leases free sum pool kept view c page l l' after frames' is roo
       frames = map-set frame_content frames free written ∙ ap (λ (p : PoolView). set p.frames free (cleared page)) view;
       chains = entries-set next (link_of (set frames free written)) leases c (Some (grown l free)) (Some (with_first (chain_of pool c) free)) entry
           (λ d ne. entry-agrees n next (link_of (set frames free written)) (page_of frames) owner d free (get_or leases d None) (kept.lists.each d)
-          (λ h. absurd (omega (arith, h, none))) same_link)
-          ∙ ap (λ (p : PoolView). set p.chains c (Some (with_first (chain_of pool c) free))) view;
+          (λ h. absurd (omega (arith, h, none))) same_link) ∙ ap (λ (p : PoolView). set p.chains c (Some (with_first (chain_of pool c) free))) view;
       inside = omega (arith, lease_count frames leases pool view);
     } in (
       subst (λ (fs : List Frame). PoolKept fs (set leases c (Some l')) after sum) (sym frames_are)
@@ -158,8 +151,7 @@ pub takes-view : (old new : PoolView) (c f page : ℕ) → Takes old new c f pag
 takes-view old new c f page t = took-view old new c f page t.chains t.inside t.frames t.free.exists (t.free.in_no_chain c)
 
 pub takes-has : (old new : PoolView) (c f page : ℕ) → Takes old new c f page → HasPage (chain_view new c) page f
-takes-has old new c f page t =
-    ap (λ (v : ChainView). number_with_page v page) (takes-view old new c f page t)
+takes-has old new c f page t = ap (λ (v : ChainView). number_with_page v page) (takes-view old new c f page t)
     ∙ ap (λ b. option_map (λ (h : HeldFrame). h.number) (cond b (Some (let h : HeldFrame = record { number = f; content = cleared page } in h)) (frame_with_page (chain_view old c) page)))
     (eq-eqb page page refl)
 
@@ -183,8 +175,7 @@ takes-leaves old new c f page t used = record {
 
 pub takes-values : (values : FrameContent → List ℕ) (old new : PoolView) (c f page : ℕ) → Takes old new c f page → ((i : ℕ) → get_or (values (cleared page)) i 0 ≡ 0) → LacksPage (chain_view old c) page
     → (docs : ℕ) → view_values values docs (chain_view new c) ≡ view_values values docs (chain_view old c)
-takes-values values old new c f page t zeros lacks docs =
-    ap (view_values values docs) (takes-view old new c f page t)
+takes-values values old new c f page t zeros lacks docs = ap (view_values values docs) (takes-view old new c f page t)
     ∙ took-values values docs (chain_view old c) f (cleared page) zeros lacks
 
 -- ---- a promise is made
@@ -222,12 +213,10 @@ abbrev seen : PoolView → ChainEntry → ChainView
 seen pool e = record { promise = e.promise; frames = map (held_frame pool) e.frames }
 
 pub promises-view : (old new : PoolView) (c n : ℕ) → Promises old new c n → chain_view new c ≡ record { promise = n; frames = [] }
-promises-view old new c n p =
-    ap (λ (e : Option ChainEntry). seen new (unwrap_or e (record { promise = 0; frames = [] }))) (promises-chain old new c n p)
+promises-view old new c n p = ap (λ (e : Option ChainEntry). seen new (unwrap_or e (record { promise = 0; frames = [] }))) (promises-chain old new c n p)
 
 pub promises-others : (old new : PoolView) (c n : ℕ) → Promises old new c n → LeavesOthers old new c
-promises-others old new c n p d ne =
-    keeps-chain old new d
+promises-others old new c n p d ne = keeps-chain old new d
     (ap (λ (es : List (Option ChainEntry)). get_or es d None) p.chains ∙ get_or-set_other old.chains c d (Some (let e : ChainEntry = record { promise = n; frames = [] } in e)) None ne)
     (λ g has. ap (λ (xs : List FrameContent). get_or xs g (cleared 0)) p.frames)
 
@@ -245,8 +234,7 @@ pub record Gives (old new : PoolView) (c : ℕ) : Type 0 where
   pub inside : c < length old.chains
 
 pub gives-others : (old new : PoolView) (c : ℕ) → Gives old new c → LeavesOthers old new c
-gives-others old new c g d ne =
-    keeps-chain old new d
+gives-others old new c g d ne = keeps-chain old new d
     (ap (λ (es : List (Option ChainEntry)). get_or es d None) g.chains ∙ get_or-set_other old.chains c d None None ne)
     (λ f has. ap (λ (xs : List FrameContent). get_or xs f (cleared 0)) g.frames)
 
@@ -313,10 +301,7 @@ gave-pool frames leases free sum pool kept view c l is =
     × Gives pool (view_of (relinked frames l free) (set leases c None)) c) [
       | inl none ↦ subst (λ (b : Bool). PoolKept (cond b frames (set frames l.last (linked frames l free))) (set leases c None) (cond b free l.first) (sum - l.promise)
           × Gives pool (view_of (cond b frames (set frames l.last (linked frames l free))) (set leases c None)) c) (sym none.0) (
-            record {
-              lists = released_none-kept (length frames) next (page_of frames) free leases sum c l kept.lists is none.1;
-              sized = kept.sized;
-            },
+            record { lists = released_none-kept (length frames) next (page_of frames) free leases sum c l kept.lists is none.1; sized = kept.sized },
             record {
               frames = ap (λ (p : PoolView). p.frames) view;
               chains = entries-set next next leases c None None refl (λ d ne. refl) ∙ ap (λ (p : PoolView). set p.chains c None) view;

@@ -1,17 +1,14 @@
 -- What a pool's fields say of its view.
-use Rattle.std.proofs.Common.{◌≡◌, ◌≢◌, ℕ, suc, zero, ◌+◌, ◌<◌, ◌≤◌, List, [], ◌∷◌, length, map, get_or, set, Option, Some, None, sum_by, IsSome, unwrap_or, AllPairs, refl, sym, ap, ◌∙◌, subst, arith, length-set, map-id}
-use Rattle.std.specs.List.{AllByRecursion}
-use Rattle.std.proofs.lemmas.List.{length-map, get_or_read}
-use Rattle.std.proofs.lemmas.List.Sums.{sum_by-cons}
-use Rattle.std.proofs.lemmas.List.Elements.{All-from_recursion, All-contains}
+use Rattle.shared_lemmas.proofs.Common.{◌≡◌, ◌≢◌, ℕ, suc, zero, ◌+◌, ◌<◌, ◌≤◌, List, [], ◌∷◌, length, map, get_or, set, Option, Some, None, sum_by, IsSome, AllPairs, refl, sym, ap, ◌∙◌, subst, arith, length-set, AllByRecursion, length-map, get_or_read, sum_by-cons, All-from_recursion, All-contains}
+use Rattle.shared_lemmas.proofs.Common.{fun_ext}
+use Rattle.std.proofs.Common.{unwrap_or, map-id}
 use Rattle.frame_pool.specs.declared.lease.Lease.{Lease}
 use Rattle.frame_pool.specs.Frames.{Frame}
 use Rattle.frame_pool.specs.Pool.{PoolView, ChainEntry, FrameContent, content_of, chain_of, IsInUse, HasFrame, promise_of}
 use Rattle.frame_pool.specs.ChainView.{IsTaken}
 use Rattle.frame_pool.specs.Sound.{IsSound}
 use Rattle.frame_pool.specs.Links.{walk, blank, link_of, page_of, frame_content, chain_entry, view_of}
-use Rattle.frame_pool.specs.Kept.{Distinct, EachKept, Kept, PoolKept, taken_by, promised_to, IsSized}
-use Rattle.std.proofs.Math.Path.{fun_ext}
+use Rattle.frame_pool.specs.Private.Kept.{Distinct, EachKept, Kept, PoolKept, taken_by, promised_to, IsSized}
 use Rattle.shared_lemmas.proofs.Lists.{all_weaker}
 use Rattle.frame_pool.proofs.Walks.{length-walk, walk-same, not_in}
 use Rattle.frame_pool.proofs.Pages.{of_page, by_page}
@@ -45,8 +42,7 @@ some_lease next (Some l) h = (l, refl)
 
 -- a chain number in use has a lease
 pub lease_of : (frames : List Frame) (leases : List (Option Lease)) (pool : PoolView) → view_of frames leases ≡ pool → (c : ℕ) → IsInUse pool c → (l : Lease) × (get_or leases c None ≡ Some l)
-lease_of frames leases pool view c used =
-    some_lease (link_of frames) (get_or leases c None)
+lease_of frames leases pool view c used = some_lease (link_of frames) (get_or leases c None)
     (subst (λ (e : Option ChainEntry). IsSome e) (ap (λ (p : PoolView). get_or p.chains c None) (sym view) ∙ entry_is frames leases c) used)
 
 pub in_use_range : (frames : List Frame) (leases : List (Option Lease)) (pool : PoolView) → view_of frames leases ≡ pool → (c : ℕ) → IsInUse pool c → c < length leases
@@ -71,8 +67,7 @@ of_chain P frames leases c none some =
 -- the frames of a chain are owned by it
 pub owned_frames : (frames : List Frame) (leases : List (Option Lease)) (free sum : ℕ) (kept : PoolKept frames leases free sum) (c : ℕ)
     → AllByRecursion (λ f. (f < length frames) × (kept.lists.owner f ≡ c + 1)) (chain_of (view_of frames leases) c).frames
-owned_frames frames leases free sum kept c =
-    of_chain (λ fs. AllByRecursion (λ f. (f < length frames) × (kept.lists.owner f ≡ c + 1)) fs) frames leases c tt
+owned_frames frames leases free sum kept c = of_chain (λ fs. AllByRecursion (λ f. (f < length frames) × (kept.lists.owner f ≡ c + 1)) fs) frames leases c tt
     (λ l is. (lease_kept (length frames) (link_of frames) (page_of frames) free leases sum c l kept.lists is).belong.owned)
 
 pub owned_frame : (frames : List Frame) (leases : List (Option Lease)) (free sum : ℕ) (kept : PoolKept frames leases free sum) (c f : ℕ)
@@ -123,8 +118,7 @@ within_entry next (Some l) h = omega (arith, length-walk next l.taken l.first)
 
 pages_apart : (frames : List Frame) (leases : List (Option Lease)) (free sum : ℕ) → PoolKept frames leases free sum
     → (c : ℕ) → AllPairs (λ a b. (content_of (view_of frames leases) a).page ≢ (content_of (view_of frames leases) b).page) (chain_of (view_of frames leases) c).frames
-pages_apart frames leases free sum kept c =
-    distinct_pairs (λ f. (content_of (view_of frames leases) f).page) (chain_of (view_of frames leases) c).frames
+pages_apart frames leases free sum kept c = distinct_pairs (λ f. (content_of (view_of frames leases) f).page) (chain_of (view_of frames leases) c).frames
     (subst (λ (ps : List ℕ). Distinct ps) (sym (pages_seen frames leases (chain_of (view_of frames leases) c).frames))
     (of_chain (λ fs. Distinct (map (page_of frames) fs)) frames leases c tt (λ l is. (lease_kept (length frames) (link_of frames) (page_of frames) free leases sum c l kept.lists is).pages)))
 
@@ -153,15 +147,13 @@ pub entries-set : (next next' : ℕ → ℕ) (leases : List (Option Lease)) (c :
     → ((d : ℕ) → d ≢ c → chain_entry next' (get_or leases d None) ≡ chain_entry next (get_or leases d None))
     → map (chain_entry next') (set leases c new) ≡ set (map (chain_entry next) leases) c entry
 entries-set next next' [] c new entry is others = refl
-entries-set next next' (x ∷ xs) zero new entry is others =
-    ap (λ (e : Option ChainEntry). e ∷ map (chain_entry next') xs) is
+entries-set next next' (x ∷ xs) zero new entry is others = ap (λ (e : Option ChainEntry). e ∷ map (chain_entry next') xs) is
     ∙ ap (λ (es : List (Option ChainEntry)). entry ∷ es) (entries-same next next' xs (λ d. others (suc d) (λ h. absurd (omega (arith, h)))))
   where
     entries-same : (next next' : ℕ → ℕ) (leases : List (Option Lease)) → ((d : ℕ) → chain_entry next' (get_or leases d None) ≡ chain_entry next (get_or leases d None))
         → map (chain_entry next') leases ≡ map (chain_entry next) leases
     entries-same next next' [] same = refl
-    entries-same next next' (x ∷ xs) same =
-        ap (λ (e : Option ChainEntry). e ∷ map (chain_entry next') xs) (same 0)
+    entries-same next next' (x ∷ xs) same = ap (λ (e : Option ChainEntry). e ∷ map (chain_entry next') xs) (same 0)
         ∙ ap (λ (es : List (Option ChainEntry)). chain_entry next x ∷ es) (entries-same next next' xs (λ d. same (suc d)))
 entries-set next next' (x ∷ xs) (suc c) new entry is others =
     ap (λ (e : Option ChainEntry). e ∷ map (chain_entry next') (set xs c new)) (others 0 (λ h. absurd (omega (arith, h))))
@@ -171,8 +163,7 @@ entries-set next next' (x ∷ xs) (suc c) new entry is others =
 pub entry-agrees : (n : ℕ) (next next' page owner : ℕ → ℕ) (d f : ℕ) (o : Option Lease) → EachKept n next page owner d o → owner f ≢ d + 1
     → ((x : ℕ) → x ≢ f → next' x ≡ next x) → chain_entry next' o ≡ chain_entry next o
 entry-agrees n next next' page owner d f None kept ne same = refl
-entry-agrees n next next' page owner d f (Some l) kept ne same =
-    ap (λ (xs : List ℕ). Some (record { promise = l.promise; frames = xs }))
+entry-agrees n next next' page owner d f (Some l) kept ne same = ap (λ (xs : List ℕ). Some (record { promise = l.promise; frames = xs }))
     (walk-same next next' l.taken l.first
     (all_weaker (λ x. x ≢ f) (λ x. next' x ≡ next x) same (walk next l.taken l.first) (not_in n owner (d + 1) (walk next l.taken l.first) f kept.belong.owned ne)))
 
@@ -207,8 +198,7 @@ content-kept frames leases free sum i new kept next_is page_is sized =
 
 pub content-chains : (frames : List Frame) (leases : List (Option Lease)) (i : ℕ) (new : Frame) → new.next ≡ (get_or frames i blank).next
     → (view_of (set frames i new) leases).chains ≡ (view_of frames leases).chains
-content-chains frames leases i new next_is =
-    ap (λ (next : ℕ → ℕ). map (chain_entry next) leases) (fun_ext (field-set (λ f. f.next) frames i new next_is))
+content-chains frames leases i new next_is = ap (λ (next : ℕ → ℕ). map (chain_entry next) leases) (fun_ext (field-set (λ f. f.next) frames i new next_is))
 
 -- ---- frames that were read
 

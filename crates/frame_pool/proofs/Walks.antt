@@ -1,10 +1,8 @@
 -- Lists of frames along links, and what a write to one link leaves of them.
-use Rattle.std.proofs.Common.{◌≡◌, ◌≢◌, ℕ, suc, zero, ◌+◌, ◌<◌, List, [], ◌∷◌, ◌++◌, length, map, refl, sym, ap, ◌∙◌, subst, Bool, cond, ◌==◌, if◌then◌else◌, arith}
-use Rattle.std.proofs.lemmas.Bool.{ne_eqb}
-use Rattle.std.specs.List.{AllByRecursion}
+use Rattle.shared_lemmas.proofs.Common.{◌≡◌, ◌≢◌, ℕ, suc, zero, ◌+◌, ◌<◌, List, [], ◌∷◌, ◌++◌, length, map, refl, sym, ap, ◌∙◌, subst, Bool, cond, ◌==◌, if◌then◌else◌, arith, ne_eqb, AllByRecursion}
 use Rattle.shared_lemmas.proofs.Lists.{all_weaker, all_append, all_both}
 use Rattle.frame_pool.specs.Links.{walk}
-use Rattle.frame_pool.specs.Kept.{Ends, Distinct, Belong}
+use Rattle.frame_pool.specs.Private.Kept.{Ends, Distinct, Belong}
 
 pub length-walk : (next : ℕ → ℕ) (k a : ℕ) → length (walk next k a) ≡ k
 length-walk next zero a = refl
@@ -61,10 +59,6 @@ distinct-append (x ∷ xs) ys d e apart = (all_append (λ y. y ≢ x) xs ys d.0 
 pub map-agree : (page page' : ℕ → ℕ) (xs : List ℕ) → AllByRecursion (λ x. page' x ≡ page x) xs → map page' xs ≡ map page xs
 map-agree page page' [] h = refl
 map-agree page page' (x ∷ xs) h = ap (λ (y : ℕ). y ∷ map page' xs) h.0 ∙ ap (λ (ys : List ℕ). page x ∷ ys) (map-agree page page' xs h.1)
-
-pub all-map : (P : ℕ → Type 0) (f : ℕ → ℕ) (xs : List ℕ) → AllByRecursion (λ x. P (f x)) xs → AllByRecursion P (map f xs)
-all-map P f [] h = tt
-all-map P f (x ∷ xs) h = (h.0, all-map P f xs h.1)
 
 -- one frame more in front
 pub grown-ends : (next : ℕ → ℕ) (k first frame last : ℕ) → next frame ≡ first → Ends next k first last → Ends next (suc k) frame (if k == 0 then frame else last)

@@ -2,6 +2,6 @@ pub mod Pool
 pub mod ChainView
 pub mod Sound
 pub mod Links
-pub mod Kept
 pub mod Frames
 pub mod Lending
+pub mod Private

@@ -1,5 +1,5 @@
 -- How a pool's table of frames and its leases stand for what contracts see of it.
-use Rattle.std.specs.Prelude.{ℕ, ◌+◌, ◌==◌, if◌then◌else◌, zero, suc, List, [], ◌∷◌, map, slice_index_or, slice_set, Option, Some, None}
+use Rattle.std.specs.Prelude.{ℕ, zero, suc, List, [], ◌∷◌, map, slice_index_or, Option, Some, None}
 pub use Rattle.frame_pool.specs.Frames.{Frame, blank, free_frame}
 use Rattle.frame_pool.specs.declared.lease.Lease.{Lease}
 use Rattle.frame_pool.specs.Pool.{FrameContent, ChainEntry, PoolView}
@@ -33,16 +33,3 @@ chain_entry next (Some l) = Some (record { promise = l.promise; frames = walk ne
 -- what a pool with these frames and leases shows
 abbrev pub view_of : List Frame → List (Option Lease) → PoolView
 view_of frames leases = record { frames = map frame_content frames; chains = map (chain_entry (link_of frames)) leases }
-
--- the lease with one frame more in front
-abbrev pub grown : Lease → ℕ → Lease
-grown lease frame = record { promise = lease.promise; taken = lease.taken + 1; first = frame; last = (if lease.taken == 0 then frame else lease.last) }
-
--- the frames with the free list linked behind those of a lease
-abbrev pub relinked : List Frame → Lease → ℕ → List Frame
-relinked frames lease free =
-    if lease.taken == 0 then frames else slice_set frames lease.last (record (slice_index_or frames lease.last blank) { next = free })
-
--- and the first of the list that this makes
-abbrev pub relinked_first : Lease → ℕ → ℕ
-relinked_first lease free = if lease.taken == 0 then free else lease.first

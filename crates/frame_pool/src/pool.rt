@@ -5,6 +5,7 @@ ghost use Rattle.frame_pool.specs.ChainView.{HasPage, IsTaken, KeepsFrames, Lack
 ghost use Rattle.frame_pool.specs.Sound.{IsSound};
 ghost use Rattle.std.specs.Borrow.{sem};
 ghost use Rattle.frame_pool.specs.Lending.{LendsScores};
+ghost use Rattle.jass_base.specs.declared.limits.TheConstants.{MOST_FRAMES};
 
 use crate::chain::Chain;
 use crate::frame::FrameId;
@@ -31,7 +32,7 @@ pub struct FramePool {
 impl Model for FramePool {
     ghost use Rattle.frame_pool.specs.Pool.{PoolView};
     ghost use Rattle.frame_pool.specs.Links.{view_of};
-    ghost use Rattle.frame_pool.specs.Kept.{PoolKept};
+    ghost use Rattle.frame_pool.specs.Private.Kept.{PoolKept};
 
     ghost Value = { PoolView };
 
@@ -44,7 +45,7 @@ impl FramePool {
     /// A pool of so many frames, for at most so many chains at a time. It takes 2,060 bytes a frame, and no other call
     /// takes memory.
     pub fn new(alloc: Global, frames: u32, chains: u32) -> Result<FramePool, NoMemory>
-        requires frames { frames ≤ 1048576 }
+        requires frames { frames ≤ MOST_FRAMES }
         requires chains { chains ≤ 1024 }
         ensures unused { IfOk result (λ pool. IsUnused pool frames chains) }
         ensures sound { IfOk result (λ pool. IsSound pool) }
@@ -102,7 +103,7 @@ impl FramePool {
         requires room { length (chain_view self.old chain.now).frames < (chain_view self.old chain.now).promise }
         requires new_page { LacksPage (chain_view self.old chain.now) page }
         ensures free { IsFree self.old result.number }
-        ensures small { result.number < 1048576 }
+        ensures small { result.number < MOST_FRAMES }
         ensures frames { self.new.frames ≡ slice_set self.old.frames result.number (cleared page) }
         ensures chains { self.new.chains ≡ slice_set self.old.chains chain.now
             (Some (with_first (chain_of self.old chain.now) result.number)) }

@@ -1,8 +1,10 @@
 ghost use Rattle.std.specs.Prelude.{◌≡◌, ◌<◌, ◌≤◌, IfOk, false, length, map, replicate, slice_index, slice_set};
 ghost use Rattle.std.specs.List.{range_with_len};
-ghost use Rattle.frame_pool.specs.Frames.{cleared_frame, frame_at, free_frame, free_head, linked, placed, scored};
+ghost use Rattle.frame_pool.specs.Frames.{cleared_frame, free_frame};
+ghost use Rattle.frame_pool.specs.Private.Tables.{frame_at, free_head, linked, placed, scored};
 ghost use Rattle.std.specs.Borrow.{sem};
-ghost use Rattle.frame_pool.specs.Lending.{LendsRow};
+ghost use Rattle.jass_base.specs.declared.limits.TheConstants.{MOST_FRAMES};
+ghost use Rattle.frame_pool.specs.Private.Lending.{LendsRow};
 
 use jass_base::NoMemory;
 use lane_kernels::fill_zero;
@@ -33,7 +35,8 @@ pub(crate) struct FrameStore {
 
 impl Model for FrameStore {
     ghost use Rattle.std.specs.Prelude.{List};
-    ghost use Rattle.frame_pool.specs.Frames.{AreRows, Frame, frames_of};
+    ghost use Rattle.frame_pool.specs.Frames.{Frame};
+    ghost use Rattle.frame_pool.specs.Private.Tables.{AreRows, frames_of};
 
     ghost Value = { List Frame };
 
@@ -45,7 +48,7 @@ impl Model for FrameStore {
 impl FrameStore {
     /// So many frames, each linked to the one behind it.
     pub(crate) fn linked(alloc: Global, count: u32) -> Result<FrameStore, NoMemory>
-        requires { count ≤ 1048576 }
+        requires { count ≤ MOST_FRAMES }
         ensures { IfOk result (λ store. store ≡ map free_frame (range_with_len 1 count)) }
     {
         let heads = linked_heads(alloc, count)?;
@@ -164,23 +167,17 @@ fn clear_places(places: &mut [u32; SLOTS], placed: bool)
 }
 
 fn linked_heads(alloc: Global, count: u32) -> Result<Vec<Head>, NoMemory>
-    requires { count ≤ 1048576 }
+    requires { count ≤ MOST_FRAMES }
     ensures { IfOk result (λ heads. heads.items ≡ map free_head (range_with_len 1 count)) }
 {
-    let mut heads = match Vec::with_capacity(alloc, count as usize) {
-        Ok(heads) => heads,
-        Err(_) => return Err(NoMemory),
-    };
+    let mut heads = Vec::with_capacity(alloc, count as usize)?;
     for number in 0..count {
         let head = Head {
             page: 0,
             next: number + 1,
             placed: false,
         };
-        match heads.push(head) {
-            Ok(()) => {}
-            Err(_) => return Err(NoMemory),
-        }
+        heads.push(head)?;
     }
     Ok(heads)
 }
@@ -188,15 +185,9 @@ fn linked_heads(alloc: Global, count: u32) -> Result<Vec<Head>, NoMemory>
 fn zero_rows(alloc: Global, count: u32) -> Result<Vec<[u32; SLOTS]>, NoMemory>
     ensures { IfOk result (λ rows. rows.items ≡ replicate count (replicate 256 0)) }
 {
-    let mut rows = match Vec::with_capacity(alloc, count as usize) {
-        Ok(rows) => rows,
-        Err(_) => return Err(NoMemory),
-    };
+    let mut rows = Vec::with_capacity(alloc, count as usize)?;
     for _ in 0..count {
-        match rows.push([0; SLOTS]) {
-            Ok(()) => {}
-            Err(_) => return Err(NoMemory),
-        }
+        rows.push([0; SLOTS])?;
     }
     Ok(rows)
 }

@@ -1,15 +1,10 @@
 -- Texts that are gathered one after another.
-use Rattle.std.proofs.Common.{◌≡◌, ℕ, ◌+◌, ◌<◌, List, [], ◌++◌, length, drop, get_or, flat_map, Option, Result, Ok, Err, refl, sym, ap, subst, ◌∙◌, append-nil, append_assoc, drop-cons, add-one, arith}
-use Rattle.std.specs.Prelude.{IsErr}
-use Rattle.std.specs.Io.KnownBytes.{Appends}
+use Rattle.shared_lemmas.proofs.Common.{◌≡◌, ℕ, ◌+◌, ◌<◌, List, [], ◌++◌, length, drop, get_or, Option, Result, Ok, Err, refl, sym, ap, subst, ◌∙◌, append-nil, append_assoc, drop-cons, add-one, arith, IsErr, Appends}
+use Rattle.std.proofs.Common.{flat_map}
 use Rattle.jass_base.specs.declared.faults.WriteFault.{WriteFault}
 use Rattle.jass_base.specs.Outside.{Rest, Wrote}
-use Rattle.jass_base.specs.Writing.{AppendsPrefix}
-use Rattle.jass_base.proofs.Writing.{AppendsPrefix-then, AppendsPrefix-longer, Appends-none, Appends-then, Rose-earlier}
+use Rattle.jass_base.proofs.Writing.{AppendsPrefix-then, AppendsPrefix-longer, Appends-none, Appends-then, Rose-earlier, AppendsPrefix-same}
 use Rattle.gathered_text.specs.Gathering.{Gathers}
-
-AppendsPrefix-same : (old new : Option (List ℕ)) (text other : List ℕ) → text ≡ other → AppendsPrefix old new text → AppendsPrefix old new other
-AppendsPrefix-same old new text other is a = subst (λ (t : List ℕ). AppendsPrefix old new t) is a
 
 module _ {S : Type 0} {written : S → Option (List ℕ)} {faults : S → ℕ} {rest : S → Rest} where
   -- the first of two texts failed

@@ -1,7 +1,5 @@
 -- How many digits a number has, and where they are written.
-use Rattle.std.proofs.Common.{◌≡◌, ℕ, ◌+◌, ◌/◌, ◌<◌, ◌≤◌, ◌^◌, List, ◌++◌, take, drop, decimal, length, ap, subst, ◌∙◌, arith}
-use Rattle.std.proofs.Math.Seq.{take-add, take-append_seam}
-use Rattle.std.proofs.lemmas.Fmt.{length-decimal-le}
+use Rattle.shared_lemmas.proofs.Common.{◌≡◌, ℕ, ◌+◌, ◌/◌, ◌<◌, ◌≤◌, ◌^◌, List, ◌++◌, take, drop, decimal, length, ap, subst, ◌∙◌, arith, take-add, take-append_seam, length-decimal-le}
 use Rattle.itoa.proofs.Decimal.{length_one, length_two, length_pair}
 
 pub at_most_twenty : (n : ℕ) → n < 2 ^ 64 → length (decimal n) ≤ 20

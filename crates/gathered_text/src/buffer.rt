@@ -1,4 +1,5 @@
 ghost use Rattle.std.specs.Prelude.{◌≡◌, ◌+◌, ◌≤◌, ◌<◌, [], ◌∷◌, ◌++◌, length, decimal};
+ghost use Rattle.gathered_text.specs.declared.buffer.TheConstants.{ROOM};
 
 use crate::digit_count::digit_count;
 use crate::short_text::{self, ShortText};
@@ -17,12 +18,13 @@ pub struct Buffer {
 
 impl Model for Buffer {
     ghost use Rattle.std.specs.Prelude.{List, ℕ, take, ◌≤◌};
+    ghost use Rattle.gathered_text.specs.declared.buffer.TheConstants.{ROOM};
 
     ghost Value = { List ℕ };
 
     ghost view = { λ b. take b.len b.bytes };
 
-    ghost invariant = { λ b. b.len ≤ 65536 };
+    ghost invariant = { λ b. b.len ≤ ROOM };
 }
 
 impl Buffer {
@@ -37,7 +39,7 @@ impl Buffer {
 
     /// How many bytes there is room for.
     pub fn room(&self) -> usize
-        ensures { result + length self.now ≡ 65536 }
+        ensures { result + length self.now ≡ ROOM }
     {
         ROOM - self.len
     }
@@ -57,7 +59,7 @@ impl Buffer {
     /// Puts bytes for which there is room behind the others.
     #[inline(always)]
     pub fn push(&mut self, bytes: &[u8])
-        requires { length self.old + length bytes.now ≤ 65536 }
+        requires { length self.old + length bytes.now ≤ ROOM }
         ensures { self.new ≡ self.old ++ bytes.now }
     {
         let end = self.len + bytes.len();
@@ -67,7 +69,7 @@ impl Buffer {
 
     /// Puts a byte for which there is room behind the others.
     pub fn push_byte(&mut self, byte: u8)
-        requires { length self.old < 65536 }
+        requires { length self.old < ROOM }
         ensures { self.new ≡ self.old ++ byte ∷ [] }
     {
         self.bytes[self.len] = byte;
@@ -78,7 +80,7 @@ impl Buffer {
     /// lines holds the row in registers.
     #[inline(always)]
     pub fn push_short(&mut self, text: &ShortText)
-        requires { length self.old + 64 ≤ 65536 }
+        requires { length self.old + 64 ≤ ROOM }
         ensures text { self.new ≡ self.old ++ text.now }
         ensures few { length self.new ≤ length self.old + 64 }
     {
@@ -88,7 +90,7 @@ impl Buffer {
 
     /// Puts the digits of a number behind the others.
     pub fn push_number(&mut self, number: u64)
-        requires { length self.old + 20 ≤ 65536 }
+        requires { length self.old + 20 ≤ ROOM }
         ensures text { self.new ≡ self.old ++ decimal number }
         ensures few { length self.new ≤ length self.old + 20 }
     {

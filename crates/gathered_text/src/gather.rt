@@ -1,6 +1,7 @@
-ghost use Rattle.std.specs.Prelude.{◌≡◌, ◌+◌, ◌≤◌, [], ◌++◌, length, flat_map, IfOk};
+ghost use Rattle.std.specs.Prelude.{◌≡◌, ◌+◌, ◌≤◌, [], length, flat_map, IfOk};
 ghost use Rattle.jass_base.specs.Outside.{Wrote};
 ghost use Rattle.gathered_text.specs.Gathering.{Gathers};
+ghost use Rattle.gathered_text.specs.declared.buffer.TheConstants.{ROOM};
 
 use crate::buffer::{Buffer, ROOM};
 use jass_base::{Sink, WriteFault};
@@ -29,9 +30,9 @@ pub fn flush<S: Sink>(out: &mut S, buffer: &mut Buffer) -> Result<(), WriteFault
 /// Makes room for so many bytes: what was gathered goes to the sink where there is too little.
 #[inline(always)]
 pub fn make_room<S: Sink>(out: &mut S, buffer: &mut Buffer, count: usize) -> Result<(), WriteFault>
-    requires { count ≤ 65536 }
+    requires { count ≤ ROOM }
     ensures text { Gathers S.written S.faults S.rest out.old out.new buffer.old buffer.new [] result }
-    ensures room { IfOk result (λ _. length buffer.new + count ≤ 65536) }
+    ensures room { IfOk result (λ _. length buffer.new + count ≤ ROOM) }
 {
     if count <= buffer.room() {
         return Ok(());

@@ -1,34 +1,14 @@
 -- Lists by rising terms: the entries of each in order, one list after the other, are all entries in order.
-use Rattle.std.proofs.Common.{◌≡◌, ℕ, ◌≤◌, List, [], ◌∷◌, ◌++◌, filter, length, map, Bool, true, false, true≢false, cond, refl, sym, ap, ap₂, ◌∙◌, subst, arith}
-use Rattle.std.specs.Prelude.{IsPermutation, nat_lt}
-use Rattle.std.specs.List.{AllByRecursion, flat_map}
-use Rattle.std.specs.declared.cmp.Ordering.{Ordering}
-use Rattle.std.specs.declared.cmp.Ordering.TheVariants.{Less, Equal, Greater}
-use Rattle.std.specs.Ordering.{is_gt, is_lt, is_eq, nat_cmp}
-use Rattle.std.specs.Cmp.{IsTotalOrder}
-use Rattle.std.specs.Cmp.Lexicographic.{slice_cmp}
-use Rattle.std.proofs.lemmas.Bool.Decides.{nat_tests}
-use Rattle.std.proofs.lemmas.Cmp.{nat_list_cmp_total}
-use Rattle.std.proofs.lemmas.List.Elements.{filter-append, recursion_from_All, All-from_recursion}
-use Rattle.std.proofs.lemmas.List.Sorted.{All-permutation, sum_by-IsPermutation}
-use Rattle.std.proofs.lemmas.List.Sums.{length-filter}
+use Rattle.shared_lemmas.proofs.Common.{◌≡◌, ℕ, ◌≤◌, List, [], ◌∷◌, ◌++◌, filter, length, map, Bool, true, false, true≢false, cond, refl, sym, ap, ap₂, ◌∙◌, subst, arith, IsPermutation, nat_lt, AllByRecursion, flat_map, Ordering, Less, Equal, Greater, is_gt, is_lt, is_eq, nat_cmp, IsTotalOrder}
+use Rattle.shared_lemmas.proofs.Common.{slice_cmp, nat_tests, nat_list_cmp_total, filter-append, recursion_from_All, All-from_recursion, All-permutation, sum_by-IsPermutation, length-filter}
 use Rattle.shared_lemmas.proofs.Pairs.{Pairs}
 use Rattle.shared_lemmas.proofs.Lists.{all_filter, filter_passes, all_weaker, all_append}
 use Rattle.shared_lemmas.proofs.Texts.{not_itself}
-use Rattle.jass_base.specs.declared.posting.Posting.{Posting}
-use Rattle.weights.specs.declared.weighting.Rule.{Rule}
-use Rattle.weights.specs.declared.quantizing.Bits.{Bits}
-use Rattle.weights.specs.declared.quantizing.Range.{Range}
-use Rattle.weights.specs.Quantizing.{impact_of}
-use Rattle.ranking_model.specs.declared.entry.Entry.{Entry}
-use Rattle.ranking_model.specs.Order.{sorted}
-use Rattle.ranking_model.specs.Flat.{entry_cmp}
-use Rattle.ranking_model.proofs.Orders.{entry_total}
-use Rattle.ranking_model.proofs.Sorting.{Ascends, level, same_ranks, sorted_ascends, sorted_level, all_sorted, ascends_append}
+use Rattle.impact_segments.proofs.Below.{Posting, Rule, Bits, Range, impact_of, Entry, sorted, entry_cmp, entry_total, Ascends, level, same_ranks, sorted_ascends, sorted_level, all_sorted, ascends_append}
 use Rattle.impact_segments.specs.Collections.{entries_in, weight_in}
 use Rattle.impact_segments.proofs.Orders.{term_same}
 
-abbrev text_cmp : List ℕ → List ℕ → Ordering
+abbrev pub text_cmp : List ℕ → List ℕ → Ordering
 text_cmp = slice_cmp nat_cmp
 
 abbrev flat_cmp : Entry (List ℕ) → Entry (List ℕ) → Ordering

@@ -1,25 +1,8 @@
 -- A collection and an index in memory, as the plain data that they are.
-use Rattle.std.proofs.Common.{◌≡◌, ℕ, List, [], ◌∷◌, ◌++◌, map, refl, sym, ap, ap₂, ◌∙◌}
-use Rattle.std.specs.List.{flat_map}
-use Rattle.std.specs.Ordering.{nat_cmp}
-use Rattle.std.specs.Cmp.Lexicographic.{slice_cmp}
-use Rattle.std.proofs.lemmas.Simd.{map-map}
-use Rattle.jass_base.specs.Ciff.{ListData, DocData}
-use Rattle.jass_base.specs.CiffViews.{list_data, doc_data, collection_data}
-use Rattle.jass_base.specs.declared.collection.Collection.{Collection}
-use Rattle.jass_base.specs.declared.doc_record.DocRecord.{DocRecord}
-use Rattle.jass_base.specs.declared.posting.Posting.{Posting}
-use Rattle.jass_base.specs.declared.postings_list.PostingsList.{PostingsList}
-use Rattle.jass_base.specs.declared.segment.Segment.{Segment}
-use Rattle.jass_base.specs.declared.term_segments.TermSegments.{TermSegments}
-use Rattle.weights.specs.declared.weighting.Rule.{Rule}
-use Rattle.weights.specs.declared.quantizing.Bits.{Bits}
-use Rattle.weights.specs.Quantizing.{range_of}
-use Rattle.ranking_model.specs.declared.entry.Entry.{Entry}
-use Rattle.ranking_model.specs.Order.{sorted}
-use Rattle.ranking_model.specs.Flat.{entry_cmp}
+use Rattle.shared_lemmas.proofs.Common.{◌≡◌, ℕ, List, [], ◌∷◌, ◌++◌, map, refl, sym, ap, ap₂, ◌∙◌, slice_cmp, map-map}
+use Rattle.std.proofs.Common.{flat_map, nat_cmp}
+use Rattle.impact_segments.proofs.Below.{ListData, DocData, list_data, doc_data, collection_data, Collection, Posting, PostingsList, Segment, TermSegments, Rule, Bits, range_of, Entry, sorted, entry_cmp, segment_data, term_data}
 use Rattle.index_model.specs.Flat as model
-use Rattle.index_model.specs.Views.{segment_data, term_data}
 use Rattle.impact_segments.specs.Collections.{lengths_of, total_of, weights_in, entries_in, index_of}
 use Rattle.impact_segments.specs.Private.Held.{term_entries, flat_of_terms}
 use Rattle.impact_segments.specs.Private.Weighed.{lengths_in, list_weights, list_entries}
@@ -40,14 +23,11 @@ through : {B : Type 0} (F : List ℕ → List Posting → List B) (lists : List 
 through F [] = refl
 through {B} F (l ∷ ls) = ap (λ (x : List B). F l.term l.postings ++ x) (through F ls)
 
-lengths_same : (docs : List DocRecord) → lengths_in docs ≡ lengths_of (map doc_data docs)
-lengths_same docs = sym (map-map (λ (d : DocData). d.length) doc_data docs)
-
 pub index_same : (c : Collection) (rule : Rule) (bits : Bits)
     → sorted (entry_cmp (slice_cmp nat_cmp)) (flat_map (list_entries rule c.docs bits (range_of (flat_map (list_weights rule c.docs) c.lists))) c.lists) ≡ index_of (collection_data c) rule bits
 index_same c rule bits =
     let E : List ℕ → List ℕ → List (Entry (List ℕ)) = λ (lengths weights : List ℕ). flat_map (λ (l : PostingsList). entries_in rule lengths (total_of lengths) bits (range_of weights) l.term l.postings) c.lists in
-    let lengths : lengths_in c.docs ≡ lengths_of (map doc_data c.docs) = lengths_same c.docs in
+    let lengths : lengths_in c.docs ≡ lengths_of (map doc_data c.docs) = sym (map-map (λ (d : DocData). d.length) doc_data c.docs) in
     let weights = through (λ (term : List ℕ) (ps : List Posting). weights_in rule (lengths_of (map doc_data c.docs)) (total_of (lengths_of (map doc_data c.docs))) ps) c.lists in
     ap (sorted (entry_cmp (slice_cmp nat_cmp)))
     (ap (λ (x : List ℕ). E x (flat_map (λ (l : PostingsList). weights_in rule x (total_of x) l.postings) c.lists)) lengths

@@ -1,27 +1,9 @@
 -- Pairs in order, grouped: the segments that hold them, and the terms of lists by rising terms.
-use Rattle.std.proofs.Common.{◌≡◌, ℕ, ◌+◌, ◌≤◌, List, [], ◌∷◌, ◌++◌, map, length, refl, sym, ap, ◌∙◌, subst, arith, sum_by}
-use Rattle.std.specs.Prelude.{AllPairs}
-use Rattle.std.specs.List.{AllByRecursion, flat_map}
-use Rattle.std.proofs.lemmas.List.{length-append, length-map}
-use Rattle.std.proofs.lemmas.List.Sums.{sum_by-cons}
+use Rattle.shared_lemmas.proofs.Common.{◌≡◌, ℕ, ◌+◌, ◌≤◌, List, [], ◌∷◌, ◌++◌, map, length, refl, sym, ap, ◌∙◌, subst, arith, sum_by, AllPairs, AllByRecursion, flat_map, length-append, length-map, sum_by-cons}
 use Rattle.shared_lemmas.proofs.Pairs.{Pairs, pairs_by_recursion}
-use Rattle.jass_base.proofs.ByteOrder.{bytes_apart}
+use Rattle.impact_segments.proofs.Below.{bytes_apart, ListData, FallsTo, BytesRise, Posting, Segment, Rule, Bits, Range, sorted, SegmentData, TermData, with_entry, with_entries, segment_data, entries_behind, new_posting, IsOtherTerm, IsOtherImpact, length_sorted}
 use Rattle.shared_lemmas.proofs.Numbers.{number_itself}
 use Rattle.shared_lemmas.proofs.Texts.{bytes_itself}
-use Rattle.jass_base.specs.Ciff.{ListData}
-use Rattle.jass_base.specs.Segments.{FallsTo}
-use Rattle.jass_base.specs.Terms.{BytesRise}
-use Rattle.jass_base.specs.declared.posting.Posting.{Posting}
-use Rattle.jass_base.specs.declared.segment.Segment.{Segment}
-use Rattle.weights.specs.declared.weighting.Rule.{Rule}
-use Rattle.weights.specs.declared.quantizing.Bits.{Bits}
-use Rattle.weights.specs.declared.quantizing.Range.{Range}
-use Rattle.ranking_model.specs.Order.{sorted}
-use Rattle.index_model.specs.Index.{SegmentData, TermData}
-use Rattle.index_model.specs.Grouping.{with_entry, with_entries}
-use Rattle.index_model.specs.Views.{segment_data}
-use Rattle.index_model.proofs.Groups.{entries_behind, new_posting, IsOtherTerm, IsOtherImpact}
-use Rattle.ranking_model.proofs.Sorting.{length_sorted}
 use Rattle.impact_segments.specs.ListTerms.{list_segments, segments_in}
 use Rattle.impact_segments.specs.OneList.{pairs_in}
 use Rattle.impact_segments.specs.Pairs.{pair_cmp, pairs_of, with_impact}

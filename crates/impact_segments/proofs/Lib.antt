@@ -1,3 +1,4 @@
+mod Below
 pub mod Cutting
 pub mod Data
 pub mod OneIndex

@@ -1,23 +1,8 @@
 -- A range that was widened list by list is that of all weights, and holds each.
-use Rattle.std.proofs.Common.{◌≡◌, ℕ, ◌≤◌, ◌^◌, List, [], ◌∷◌, ◌++◌, fold, length, true, refl, sym, ap, ◌∙◌, subst, arith}
-use Rattle.std.specs.Prelude.{All, IsPermutation, None, nat_lt, slice_index}
-use Rattle.std.specs.List.{AllByRecursion, flat_map}
-use Rattle.std.proofs.Math.Nat.{le_antisymm}
-use Rattle.std.proofs.lemmas.Bool.Decides.{nat_tests}
-use Rattle.std.proofs.lemmas.List.Elements.{recursion_from_All, All-from_recursion}
-use Rattle.std.proofs.lemmas.List.Sorted.{All-permutation, IsPermutation-sym}
-use Rattle.std.proofs.lemmas.List.Sums.{fold-append}
+use Rattle.shared_lemmas.proofs.Common.{◌≡◌, ℕ, ◌≤◌, ◌^◌, List, [], ◌∷◌, ◌++◌, fold, length, true, refl, sym, ap, ◌∙◌, subst, arith, All, IsPermutation, None, nat_lt, slice_index, AllByRecursion, flat_map, le_antisymm, nat_tests, recursion_from_All, All-from_recursion, All-permutation}
+use Rattle.shared_lemmas.proofs.Common.{IsPermutation-sym, fold-append}
 use Rattle.shared_lemmas.proofs.Lists.{all_weaker, all_map, all_flat, all_parts}
-use Rattle.jass_base.specs.Ciff.{CollectionData, FitsList, ListData}
-use Rattle.jass_base.specs.Postings.{HasTfInRange}
-use Rattle.jass_base.specs.declared.posting.Posting.{Posting}
-use Rattle.weights.specs.declared.weighting.Rule.{Rule}
-use Rattle.weights.specs.declared.quantizing.Bits.{Bits}
-use Rattle.weights.specs.declared.quantizing.Bits.TheVariants.{Raw, Of}
-use Rattle.weights.specs.declared.quantizing.Range.{Range}
-use Rattle.weights.specs.Quantizing.{empty_range, range_of, widened}
-use Rattle.weights.proofs.Limits.{weight_of-lt}
-use Rattle.weights.proofs.Ranges.{least-le_start, greatest-ge_start, least-le_each, greatest-ge_each, least-from, greatest-from, same_range}
+use Rattle.impact_segments.proofs.Below.{CollectionData, FitsList, ListData, HasTfInRange, Posting, Rule, Bits, Raw, Of, Range, empty_range, range_of, widened, weight_of-lt, least-le_start, greatest-ge_start, least-le_each, greatest-ge_each, least-from, greatest-from, same_range}
 use Rattle.impact_segments.specs.Collections.{lengths_of, total_of, weight_in, weights_in, weights_of}
 use Rattle.impact_segments.specs.ListTerms.{lists_in_use, widened_by}
 use Rattle.impact_segments.specs.OneList.{EndsLow, first_outside, has_weight, outside}

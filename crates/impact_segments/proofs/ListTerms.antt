@@ -1,30 +1,10 @@
 -- The terms of lists make the index of their collection.
-use Rattle.std.proofs.Common.{◌≡◌, ℕ, ◌≤◌, List, [], map, length, Bool, true, sym, ap, ◌∙◌, arith}
-use Rattle.std.specs.Prelude.{AllPairs, IsPermutation, nat_lt}
-use Rattle.std.specs.List.{AllByRecursion, flat_map}
-use Rattle.std.specs.Ordering.{nat_cmp}
-use Rattle.std.specs.Cmp.Lexicographic.{slice_cmp}
-use Rattle.std.proofs.lemmas.Bool.Decides.{nat_tests}
-use Rattle.std.proofs.lemmas.List.{length-map}
-use Rattle.std.proofs.lemmas.List.Elements.{recursion_from_All, All-from_recursion}
-use Rattle.std.proofs.lemmas.List.Sorted.{All-permutation, IsPermutation-sym}
-use Rattle.std.proofs.lemmas.Simd.{map-map}
+use Rattle.shared_lemmas.proofs.Common.{◌≡◌, ℕ, ◌≤◌, List, [], map, length, Bool, true, sym, ap, ◌∙◌, arith, AllPairs, IsPermutation, nat_lt, AllByRecursion, flat_map, slice_cmp, nat_tests, length-map, recursion_from_All, All-from_recursion, All-permutation, IsPermutation-sym, map-map}
+use Rattle.std.proofs.Common.{nat_cmp}
 use Rattle.shared_lemmas.proofs.Pairs.{pairs_by_recursion}
 use Rattle.shared_lemmas.proofs.Lists.{filter_passes, all_weaker}
-use Rattle.jass_base.specs.Ciff.{CollectionData, ListData}
-use Rattle.jass_base.specs.Terms.{BytesRise}
-use Rattle.jass_base.specs.declared.posting.Posting.{Posting}
-use Rattle.weights.specs.declared.weighting.Rule.{Rule}
-use Rattle.weights.specs.declared.quantizing.Bits.{Bits}
-use Rattle.weights.specs.declared.quantizing.Range.{Range}
-use Rattle.weights.specs.Quantizing.{impact_of, range_of}
-use Rattle.ranking_model.specs.declared.entry.Entry.{Entry}
-use Rattle.ranking_model.specs.Order.{sorted}
-use Rattle.ranking_model.specs.Flat.{entry_cmp}
-use Rattle.index_model.specs.Grouping.{index_with, with_entries}
-use Rattle.index_model.specs.Index.{IndexData, TermData}
-use Rattle.ranking_model.proofs.Growing.{sorted_map}
-use Rattle.ranking_model.proofs.Sorting.{length_sorted}
+use Rattle.impact_segments.proofs.Below.{CollectionData, ListData, BytesRise, Posting, Rule, Bits, Range, impact_of, range_of, Entry, sorted, entry_cmp, with_entries, IndexData, TermData, sorted_map, length_sorted}
+use Rattle.index_model.specs.Grouping.{index_with}
 use Rattle.impact_segments.specs.Collections.{entries_in, index_of, lengths_of, total_of, weight_in, weights_of}
 use Rattle.impact_segments.specs.ListTerms.{AreByTerm, list_segments, list_term, lists_in_use, segments_in}
 use Rattle.impact_segments.specs.OneList.{pairs_in}

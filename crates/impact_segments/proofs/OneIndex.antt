@@ -1,46 +1,18 @@
 -- The lists' entries, list by list in the order of terms, are the one sorted list of the definition.
-use Rattle.std.proofs.Common.{◌≡◌, ℕ, suc, ◌≤◌, List, [], ◌∷◌, map, filter, length, Bool, true, false, refl, sym, ap, ◌∙◌, subst, arith}
-use Rattle.std.specs.Prelude.{All, AllPairs}
-use Rattle.std.specs.List.{AllByRecursion, flat_map}
-use Rattle.std.specs.declared.cmp.Ordering.{Ordering}
-use Rattle.std.specs.Ordering.{is_gt, is_lt, nat_cmp}
-use Rattle.std.specs.Cmp.Lexicographic.{slice_cmp}
-use Rattle.std.proofs.lemmas.Bool.Decides.{nat_tests}
-use Rattle.std.proofs.lemmas.List.{length-map}
-use Rattle.std.proofs.lemmas.List.Elements.{recursion_from_All, All-from_recursion}
-use Rattle.std.proofs.lemmas.List.Sorted.{IsPermutation-sym}
-use Rattle.std.proofs.lemmas.List.Kept.{AllPairs-filter}
+use Rattle.shared_lemmas.proofs.Common.{◌≡◌, ℕ, suc, ◌≤◌, List, [], ◌∷◌, map, filter, length, Bool, true, false, refl, sym, ap, ◌∙◌, subst, arith, All, AllPairs, AllByRecursion, flat_map, is_gt, is_lt, nat_cmp, slice_cmp, nat_tests, length-map, recursion_from_All, All-from_recursion}
+use Rattle.shared_lemmas.proofs.Common.{IsPermutation-sym, AllPairs-filter}
 use Rattle.shared_lemmas.proofs.Pairs.{Pairs, pairs_by_recursion, pairs_by_places, pairs_weaker, pairs_both, pairs_map, pairs_unmap}
 use Rattle.shared_lemmas.proofs.Lists.{all_filter, filter_passes, all_weaker}
-use Rattle.jass_base.specs.declared.collection.Collection.{Collection}
-use Rattle.jass_base.specs.declared.doc_record.DocRecord.{DocRecord}
-use Rattle.jass_base.specs.declared.posting.Posting.{Posting}
-use Rattle.jass_base.specs.declared.postings_list.PostingsList.{PostingsList}
-use Rattle.jass_base.specs.declared.term_segments.TermSegments.{TermSegments}
-use Rattle.jass_base.specs.Lists.{DifferInTerm}
-use Rattle.jass_base.specs.Limits.{IsName, IsText}
-use Rattle.jass_base.specs.Terms.{RisesTo}
-use Rattle.weights.specs.declared.weighting.Rule.{Rule}
-use Rattle.weights.specs.declared.quantizing.Bits.{Bits}
-use Rattle.weights.specs.declared.quantizing.Range.{Range}
-use Rattle.weights.specs.Quantizing.{impact_of, range_of}
-use Rattle.ranking_model.specs.declared.entry.Entry.{Entry}
-use Rattle.ranking_model.specs.Order.{sorted}
-use Rattle.ranking_model.specs.Flat.{entry_cmp}
-use Rattle.ranking_model.proofs.Sorting.{Ascends, all_sorted, sorted_ascends, sorted_is_permutation, pairs_sorted, length_sorted}
-use Rattle.jass_base.specs.CiffViews.{collection_data}
+use Rattle.impact_segments.proofs.Below.{Collection, DocRecord, Posting, PostingsList, TermSegments, DifferInTerm, IsName, IsText, RisesTo, Rule, Bits, Range, impact_of, range_of, Entry, sorted, entry_cmp, all_sorted, sorted_ascends, sorted_is_permutation, pairs_sorted, length_sorted}
+use Rattle.impact_segments.proofs.Below.{ascends_pairs, collection_data, term_data}
 use Rattle.index_model.specs.Flat as model
-use Rattle.index_model.specs.Views.{term_data}
 use Rattle.impact_segments.proofs.Data.{flat_same, index_same}
 use Rattle.impact_segments.specs.Collections.{index_of}
 use Rattle.impact_segments.specs.Private.Weighed.{lengths_in, total_length, posting_weight, list_weights, list_entries}
 use Rattle.impact_segments.specs.Private.Held.{flat_of_terms}
 use Rattle.impact_segments.specs.Private.Listed.{has_postings, term_cmp}
-use Rattle.impact_segments.proofs.ByTerm.{by_term, none_of, own_term}
+use Rattle.impact_segments.proofs.ByTerm.{by_term, none_of, own_term, text_cmp}
 use Rattle.impact_segments.proofs.Orders.{term_total, strictly}
-
-abbrev text_cmp : List ℕ → List ℕ → Ordering
-text_cmp = slice_cmp nat_cmp
 
 -- ---- the lists in order
 
@@ -72,16 +44,12 @@ listed_shorter lists listed is =
 abbrev Rises : PostingsList → PostingsList → Type 0
 Rises a b = is_lt (text_cmp a.term b.term) ≡ true
 
-ascends_pairs : (lists : List PostingsList) → Ascends term_cmp lists → Pairs (λ a b. is_gt (term_cmp a b) ≡ false) lists
-ascends_pairs [] h = tt
-ascends_pairs (l ∷ ls) h = (h.0, ascends_pairs ls h.1)
-
 listed_rises : (lists : List PostingsList) → AllPairs DifferInTerm lists → Pairs Rises (sorted term_cmp (filter has_postings lists))
 listed_rises lists differ =
     let some : List PostingsList = filter has_postings lists in
     let apart : Pairs DifferInTerm (sorted term_cmp some) = pairs_sorted term_cmp DifferInTerm (λ a b n e. n (sym e)) some (pairs_by_recursion DifferInTerm some (AllPairs-filter DifferInTerm has_postings lists differ)) in
     pairs_weaker (λ a b. (is_gt (term_cmp a b) ≡ false) × DifferInTerm a b) Rises (λ a b h. strictly a.term b.term h.0 h.1) (sorted term_cmp some)
-    (pairs_both (λ a b. is_gt (term_cmp a b) ≡ false) DifferInTerm (sorted term_cmp some) (ascends_pairs (sorted term_cmp some) (sorted_ascends term_cmp term_total some)) apart)
+    (pairs_both (λ a b. is_gt (term_cmp a b) ≡ false) DifferInTerm (sorted term_cmp some) (ascends_pairs term_cmp (sorted term_cmp some) (sorted_ascends term_cmp term_total some)) apart)
 
 pub terms_rise : (lists listed : List PostingsList) (terms : List TermSegments) → AllPairs DifferInTerm lists → listed ≡ sorted term_cmp (filter has_postings lists)
     → map (λ (t : TermSegments). t.term) terms ≡ map (λ (l : PostingsList). l.term) listed → AllPairs RisesTo terms

@@ -1,25 +1,8 @@
 -- The pairs of one list, and whether its weights lie in a range.
-use Rattle.std.proofs.Common.{◌≡◌, ℕ, ◌+◌, ◌<◌, ◌≤◌, ◌^◌, List, [], ◌∷◌, ◌++◌, map, length, get_or, drop, Bool, true, false, refl, sym, ap, ◌∙◌, subst, arith, append_assoc}
-use Rattle.std.specs.Prelude.{All, Option, Some, None, if◌then◌else◌}
-use Rattle.std.specs.List.{AllByRecursion}
-use Rattle.std.specs.List.Sorted.{IsStrictlyIncreasing}
-use Rattle.std.proofs.lemmas.List.Elements.{recursion_from_All, All-push}
-use Rattle.std.proofs.lemmas.List.{drop_more}
-use Rattle.std.proofs.lemmas.Simd.{map-map}
+use Rattle.shared_lemmas.proofs.Common.{◌≡◌, ℕ, ◌+◌, ◌<◌, ◌≤◌, ◌^◌, List, [], ◌∷◌, ◌++◌, map, length, get_or, drop, Bool, true, false, refl, sym, ap, ◌∙◌, subst, arith, append_assoc, All, Option, Some, None, if◌then◌else◌, AllByRecursion, IsStrictlyIncreasing, recursion_from_All, All-push}
+use Rattle.shared_lemmas.proofs.Common.{drop_more, map-map}
 use Rattle.shared_lemmas.proofs.Lists.{all_unmap}
-use Rattle.jass_base.specs.Gaps.{AreDocs}
-use Rattle.jass_base.specs.Lists.{HasDocsBelow}
-use Rattle.jass_base.specs.Postings.{docs_of}
-use Rattle.jass_base.specs.Segments.{HasDocumentsBelow}
-use Rattle.jass_base.specs.declared.posting.Posting.{Posting}
-use Rattle.jass_base.specs.declared.postings_list.PostingsList.{PostingsList}
-use Rattle.jass_base.specs.declared.segment.Segment.{Segment}
-use Rattle.weights.specs.declared.quantizing.Bits.{Bits}
-use Rattle.weights.specs.declared.quantizing.Bits.TheVariants.{Raw, Of}
-use Rattle.weights.specs.declared.quantizing.Range.{Range}
-use Rattle.weights.specs.declared.weighting.Rule.{Rule}
-use Rattle.weights.specs.Quantizing.{impact_of}
-use Rattle.weights.specs.Weighting.{idf}
+use Rattle.impact_segments.proofs.Below.{AreDocs, HasDocsBelow, docs_of, HasDocumentsBelow, Posting, PostingsList, Segment, Bits, Raw, Of, Range, Rule, impact_of, idf}
 use Rattle.impact_segments.specs.Collections.{weight_in}
 use Rattle.impact_segments.specs.OneList.{first_outside, has_weight, nearer_end, outside}
 use Rattle.impact_segments.specs.Pairs.{pair_docs, with_impact}

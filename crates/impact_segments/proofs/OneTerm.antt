@@ -1,40 +1,16 @@
 -- A term's segments from its list, and the terms from the lists.
-use Rattle.std.proofs.Common.{◌≡◌, ℕ, ◌+◌, ◌<◌, ◌≤◌, max, List, [], ◌∷◌, ◌++◌, map, length, get_or, drop, refl, sym, ap, ap₂, ◌∙◌, subst, arith, append-nil, append_assoc}
-use Rattle.std.specs.Prelude.{All}
-use Rattle.std.specs.List.{AllByRecursion, flat_map}
-use Rattle.std.specs.List.Sorted.{IsStrictlyIncreasing}
-use Rattle.std.specs.Ordering.{nat_cmp}
-use Rattle.std.specs.Cmp.Lexicographic.{slice_cmp}
-use Rattle.std.proofs.lemmas.Cmp.{nat_list_cmp_total, tied_itself}
-use Rattle.std.proofs.lemmas.List.{length-map, map-append, get_or-map, drop_more}
+use Rattle.shared_lemmas.proofs.Common.{◌≡◌, ℕ, ◌+◌, ◌<◌, ◌≤◌, max, List, [], ◌∷◌, ◌++◌, map, length, get_or, drop, refl, sym, ap, ap₂, ◌∙◌, subst, arith, append-nil, append_assoc, All, AllByRecursion, flat_map, IsStrictlyIncreasing, nat_cmp, slice_cmp, nat_list_cmp_total, tied_itself, length-map}
+use Rattle.shared_lemmas.proofs.Common.{map-append, get_or-map, drop_more, recursion_from_All, All-from_recursion, All-push, map-map}
 use Rattle.std.proofs.lemmas.List.Concat.{flat_map-append}
-use Rattle.std.proofs.lemmas.List.Elements.{recursion_from_All, All-from_recursion, All-push}
-use Rattle.std.proofs.lemmas.Simd.{map-map}
 use Rattle.shared_lemmas.proofs.Pairs.{Pairs, pairs_by_recursion}
 use Rattle.shared_lemmas.proofs.Lists.{all_weaker, all_unmap, all_parts}
 use denote.Ref.{Bor}
-use Rattle.jass_base.specs.declared.doc_record.DocRecord.{DocRecord}
-use Rattle.jass_base.specs.declared.posting.Posting.{Posting}
-use Rattle.jass_base.specs.declared.postings_list.PostingsList.{PostingsList}
-use Rattle.jass_base.specs.declared.segment.Segment.{Segment}
-use Rattle.jass_base.specs.declared.term_segments.TermSegments.{TermSegments}
-use Rattle.jass_base.specs.Lists.{HasDocsBelow}
-use Rattle.jass_base.specs.Postings.{docs_of}
-use Rattle.jass_base.specs.Segments.{FallsTo, HasDocumentsBelow}
-use Rattle.jass_base.specs.Terms.{HasTermBelow, greatest_of, greatest_impact}
-use Rattle.weights.specs.declared.weighting.Rule.{Rule}
-use Rattle.weights.specs.declared.quantizing.Bits.{Bits}
-use Rattle.weights.specs.declared.quantizing.Range.{Range}
-use Rattle.weights.specs.Quantizing.{impact_of}
-use Rattle.ranking_model.specs.declared.entry.Entry.{Entry}
-use Rattle.ranking_model.specs.Order.{sorted}
-use Rattle.ranking_model.specs.Flat.{entry_cmp}
-use Rattle.ranking_model.proofs.Sorting.{all_sorted, length_sorted}
-use Rattle.ranking_model.proofs.Growing.{sorted_map}
+use Rattle.impact_segments.proofs.Below.{DocRecord, Posting, PostingsList, Segment, TermSegments, HasDocsBelow, docs_of, FallsTo, HasDocumentsBelow, HasTermBelow, greatest_of, greatest_impact, Rule, Bits, Range, impact_of, Entry, sorted, entry_cmp, all_sorted, length_sorted, sorted_map}
 use Rattle.impact_segments.specs.Private.Weighed.{posting_weight, list_entries}
 use Rattle.impact_segments.specs.Private.Held.{term_entries, flat_of_terms}
 use Rattle.impact_segments.specs.Private.Listed.{lists_behind}
-use Rattle.impact_segments.specs.Pairs.{pair_cmp, pairs_of, pair_docs, list_pairs, with_impact}
+use Rattle.impact_segments.specs.Pairs.{pair_cmp, pairs_of, pair_docs, with_impact}
+use Rattle.impact_segments.specs.Private.Pairs.{list_pairs}
 use Rattle.impact_segments.specs.declared.doc_impact.DocImpact.{DocImpact}
 
 pub all_map_at : {A B : Type 0} (P : B → Type 0) (f : A → B) (xs : List A) (i : ℕ) (d : A) → i < length xs → All P (map f xs) → P (f (get_or xs i d))

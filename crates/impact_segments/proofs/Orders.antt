@@ -1,17 +1,10 @@
 -- The orders of pairs, lists and entries are total.
-use Rattle.std.proofs.Common.{◌≡◌, ◌≢◌, ℕ, ◌^◌, ◌<◌, List, true, false, true≢false, refl, sym, ap, ◌∙◌, arith, ⊎_elim}
-use Rattle.std.specs.declared.cmp.Ordering.{Ordering}
-use Rattle.std.specs.declared.cmp.Ordering.TheVariants.{Less, Equal, Greater}
-use Rattle.std.specs.Ordering.{nat_cmp, ordering_then, is_gt, is_lt}
-use Rattle.std.specs.Cmp.{IsTotalOrder, IsStrictWeakOrder, nat_cmp_is}
-use Rattle.std.proofs.lemmas.Bool.{cases_lt}
-use Rattle.std.proofs.lemmas.List.Sorted.{ranks_by}
-use Rattle.std.specs.Cmp.Lexicographic.{slice_cmp}
-use Rattle.std.proofs.lemmas.Cmp.{then_total, on_total, back_total, nat_cmp_total, nat_list_cmp_total}
-use Rattle.std.specs.FinMap.{nat_cmp-IsAntisymmetric, slice_cmp-IsAntisymmetric}
-use Rattle.jass_base.specs.declared.postings_list.PostingsList.{PostingsList}
-use Rattle.ranking_model.proofs.Sorting.{both_equal}
-use Rattle.impact_segments.specs.Pairs.{pair_cmp, pair_key, with_impact}
+use Rattle.shared_lemmas.proofs.Common.{◌≡◌, ◌≢◌, ℕ, ◌^◌, ◌<◌, List, true, false, true≢false, refl, sym, ap, ◌∙◌, arith, ⊎_elim, nat_cmp, ordering_then, is_gt, is_lt, IsTotalOrder, IsStrictWeakOrder, nat_cmp_is, cases_lt, ranks_by, slice_cmp, then_total, on_total, back_total, nat_cmp_total}
+use Rattle.shared_lemmas.proofs.Common.{nat_list_cmp_total, nat_cmp-IsAntisymmetric, slice_cmp-IsAntisymmetric}
+use Rattle.std.proofs.Common.{Ordering, Less, Equal, Greater}
+use Rattle.impact_segments.proofs.Below.{PostingsList, both_equal}
+use Rattle.impact_segments.specs.Pairs.{pair_cmp, with_impact}
+use Rattle.impact_segments.specs.Private.Pairs.{pair_key}
 use Rattle.impact_segments.specs.declared.doc_impact.DocImpact.{DocImpact}
 use Rattle.impact_segments.specs.Private.Listed.{term_cmp}
 

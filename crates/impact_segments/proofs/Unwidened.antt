@@ -1,21 +1,7 @@
 -- A list that can't widen a range leaves it as it is.
-use Rattle.std.proofs.Common.{◌≡◌, ℕ, ◌<◌, ◌≤◌, ◌^◌, max, min, List, [], ◌∷◌, length, false, refl, ap, ◌∙◌, arith, fold}
-use Rattle.std.specs.Prelude.{◌||◌, All, nat_lt, slice_index}
-use Rattle.std.specs.List.{AllByRecursion}
-use Rattle.std.proofs.Math.Nat.{le_trans}
-use Rattle.std.proofs.lemmas.Bool.Decides.{nat_tests}
-use Rattle.std.proofs.lemmas.List.Elements.{All-from_recursion, recursion_from_All}
+use Rattle.shared_lemmas.proofs.Common.{◌≡◌, ℕ, ◌<◌, ◌≤◌, ◌^◌, max, min, List, [], ◌∷◌, length, false, refl, ap, ◌∙◌, arith, fold, ◌||◌, All, nat_lt, slice_index, AllByRecursion, le_trans, nat_tests, All-from_recursion, recursion_from_All}
 use Rattle.shared_lemmas.proofs.Lists.{all_map}
-use Rattle.jass_base.specs.Ciff.{FitsList, ListData}
-use Rattle.jass_base.specs.Postings.{HasTfInRange, docs_of}
-use Rattle.jass_base.specs.declared.posting.Posting.{Posting}
-use Rattle.weights.specs.declared.weighting.Rule.{Rule}
-use Rattle.weights.specs.declared.weighting.Rule.TheVariants.{Tf, Bm25}
-use Rattle.weights.specs.declared.quantizing.Range.{Range}
-use Rattle.weights.specs.Quantizing.{empty_range, range_of, widened}
-use Rattle.weights.specs.Weighting.{idf, length_norm, saturated}
-use Rattle.weights.proofs.Bounds.{lg_of_rarity}
-use Rattle.weights.proofs.Ranges.{least-le_start, least-le_each, greatest-ge_each, greatest-from, same_range}
+use Rattle.impact_segments.proofs.Below.{FitsList, ListData, HasTfInRange, docs_of, Posting, Rule, Tf, Bm25, Range, empty_range, range_of, widened, idf, length_norm, saturated, lg_of_rarity, least-le_start, least-le_each, greatest-ge_each, greatest-from, same_range}
 use Rattle.impact_segments.specs.Bounds.{can_widen, heaviest, lightest, most_tf, weight_at}
 use Rattle.impact_segments.specs.Collections.{weight_in, weights_in}
 use Rattle.impact_segments.specs.OneList.{norms_in}

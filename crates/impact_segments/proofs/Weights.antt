@@ -1,27 +1,9 @@
 -- A list's postings are few enough, and their weights are in the range of all.
-use Rattle.std.proofs.Common.{◌≡◌, ℕ, suc, ◌+◌, ◌<◌, ◌≤◌, ◌^◌, max, min, List, [], ◌∷◌, length, map, drop, get_or, sym, ap, ap₂, ◌∙◌, subst, arith, fold}
-use Rattle.std.specs.Prelude.{All, slice_index}
-use Rattle.std.specs.List.{AllByRecursion, flat_map}
-use Rattle.std.specs.List.Sorted.{IsStrictlyIncreasing}
-use Rattle.std.proofs.lemmas.List.Elements.{recursion_from_All, All-from_recursion}
-use Rattle.std.proofs.lemmas.List.{length-map, get_or-map, drop_more}
-use Rattle.std.proofs.lemmas.Simd.{map-map}
+use Rattle.shared_lemmas.proofs.Common.{◌≡◌, ℕ, suc, ◌+◌, ◌<◌, ◌≤◌, ◌^◌, max, min, List, [], ◌∷◌, length, map, drop, get_or, sym, ap, ap₂, ◌∙◌, subst, arith, fold, All, slice_index, AllByRecursion, flat_map, IsStrictlyIncreasing, recursion_from_All, All-from_recursion, length-map, get_or-map}
+use Rattle.shared_lemmas.proofs.Common.{drop_more, map-map}
 use Rattle.shared_lemmas.proofs.Pairs.{Pairs, rising_pairs}
 use Rattle.shared_lemmas.proofs.Lists.{all_weaker, all_parts}
-use Rattle.jass_base.specs.declared.doc_record.DocRecord.{DocRecord}
-use Rattle.jass_base.specs.declared.posting.Posting.{Posting}
-use Rattle.jass_base.specs.declared.postings_list.PostingsList.{PostingsList}
-use Rattle.jass_base.specs.Lists.{HasDocsBelow}
-use Rattle.jass_base.specs.Postings.{docs_of}
-use Rattle.weights.specs.declared.weighting.Rule.{Rule}
-use Rattle.weights.specs.declared.weighting.Rule.TheVariants.{Bm25}
-use Rattle.weights.specs.Weighting.{idf, length_norm, saturated, weight_of}
-use Rattle.weights.proofs.Bounds.{saturated_cut}
-use Rattle.weights.specs.declared.quantizing.Bits.{Bits}
-use Rattle.weights.specs.declared.quantizing.Bits.TheVariants.{Of}
-use Rattle.weights.specs.declared.quantizing.Range.{Range}
-use Rattle.weights.specs.Quantizing.{widened, range_of, empty_range, Holds, IsInRange}
-use Rattle.weights.proofs.Ranges.{least-le_start, greatest-ge_start}
+use Rattle.impact_segments.proofs.Below.{DocRecord, Posting, PostingsList, HasDocsBelow, docs_of, Rule, Bm25, idf, length_norm, saturated, weight_of, saturated_cut, Bits, Of, Range, widened, range_of, empty_range, Holds, IsInRange, least-le_start, greatest-ge_start}
 use Rattle.impact_segments.specs.Private.Weighed.{lengths_in, total_length, norms_of, list_weights}
 use Rattle.impact_segments.proofs.OneTerm.{all_map_at}
 

@@ -9,8 +9,8 @@ use Rattle.index_model.specs.Examples as model
 abbrev pub posting : ℕ → ℕ → Posting
 posting doc tf = record { doc = doc; tf = tf }
 
-abbrev pub entry : List ℕ → ℕ → ℕ → Entry (List ℕ)
-entry term doc impact = record { term = term; doc = doc; impact = impact }
+abbrev pub flat_entry : List ℕ → ℕ → ℕ → Entry (List ℕ)
+flat_entry term doc impact = record { term = term; doc = doc; impact = impact }
 
 abbrev pub list : List ℕ → List Posting → ListData
 list term postings = record { term = term; df = 0; cf = 0; postings = postings }

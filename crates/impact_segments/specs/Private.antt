@@ -2,4 +2,5 @@
 pub mod Held
 pub mod ImpactTable
 pub mod Listed
+pub mod Pairs
 pub mod Weighed

@@ -5,7 +5,7 @@ ghost use Rattle.std.specs.Prelude.{◌≡◌, [], ◌∷◌, codes, map};
 ghost use Rattle.ranking_model.specs.Examples.{pets, falling};
 ghost use Rattle.weights.specs.Quantizing.{empty_range};
 ghost use Rattle.impact_segments.specs.Collections.{index_of, lengths_of, total_of};
-ghost use Rattle.impact_segments.specs.Examples.{entry, lists_by_term, one_term, terms_in_index, two_terms};
+ghost use Rattle.impact_segments.specs.Examples.{flat_entry, lists_by_term, one_term, terms_in_index, two_terms};
 ghost use Rattle.impact_segments.specs.ListTerms.{list_term};
 
 use weights::{Bits, Rule};
@@ -22,7 +22,7 @@ pub fn impacts_are_term_frequencies()
 #[tactic(auto, unfolding(weights::specs::Logarithm::exponent_of))]
 pub fn impacts_of_eight_bits()
     ensures { index_of one_term Rule.Bm25 (Bits.Of 8)
-        ≡ entry (codes "a") 0 255 ∷ entry (codes "a") 1 220 ∷ entry (codes "a") 2 1 ∷ [] }
+        ≡ flat_entry (codes "a") 0 255 ∷ flat_entry (codes "a") 1 220 ∷ flat_entry (codes "a") 2 1 ∷ [] }
 {}
 
 /// Each list of `cat` and `dog` by itself becomes a term of their index.

@@ -1,14 +1,16 @@
-ghost use Rattle.std.specs.Prelude.{◌≡◌, ◌≢◌, [], ◌^◌, ◌<◌, ◌≤◌, length, take, All, AllPairs, IfOk, slice_index_or};
+ghost use Rattle.std.specs.Prelude.{◌≡◌, ◌≢◌, ◌^◌, ◌<◌, ◌≤◌, length, take, All, AllPairs, IfOk, slice_index_or};
 ghost use Rattle.std.specs.List.Sorted.{IsStrictlyIncreasing};
 ghost use Rattle.ranking_model.specs.Order.{sorted};
 ghost use Rattle.jass_base.specs.declared.segment.Segment.{Segment};
 ghost use Rattle.jass_base.specs.Segments.{FallsTo, SharesNoDocument};
-ghost use Rattle.impact_segments.specs.Pairs.{pair_cmp, pair_key, pairs_of, pair_docs, Follows};
+ghost use Rattle.impact_segments.specs.Pairs.{pair_cmp, pairs_of, pair_docs};
+ghost use Rattle.impact_segments.specs.Private.Pairs.{pair_key, Follows};
 ghost use Rattle.impact_segments.specs.declared.doc_impact.DocImpact.{DocImpact};
 
 use crate::doc_impact::DocImpact;
 use crate::rows::{group_by_rows, row_count};
 use crate::spares::Spares;
+use jass_base::limits::GREATEST_IMPACT;
 use jass_base::{NoMemory, Row, Segment};
 use std::alloc::Global;
 use std::cmp::Ordering;
@@ -72,7 +74,7 @@ fn key(pair: DocImpact) -> u64
     ensures doc { pair.doc < 2 ^ 32 }
     ensures impact { pair.impact < 2 ^ 16 }
 {
-    u64::from(65_535 - pair.impact) * 4_294_967_296 + u64::from(pair.doc)
+    u64::from(GREATEST_IMPACT - u32::from(pair.impact)) * 4_294_967_296 + u64::from(pair.doc)
 }
 
 /// One segment for each run of equal impacts.
@@ -139,10 +141,7 @@ fn docs_of(run: &[DocImpact], spares: &mut Spares) -> Result<Row<u32>, NoMemory>
 {
     let mut docs = spares.row(run.len())?;
     for pair in run {
-        match docs.push(pair.doc) {
-            Ok(()) => {}
-            Err(_) => return Err(NoMemory),
-        }
+        docs.push(pair.doc)?;
     }
     Ok(Row::from_vec(docs))
 }

@@ -1,7 +1,7 @@
 //! Laws over the definitions, by which an index can be made a list at a time. Each function does
 //! nothing: its contract is the law, and a caller learns it by the call.
 
-ghost use Rattle.std.specs.Prelude.{◌≡◌, ℕ, ◌≤◌, ◌^◌, [], ◌∷◌, ◌++◌, List, None, false, All, IsPermutation, fold, length, map};
+ghost use Rattle.std.specs.Prelude.{◌≡◌, ℕ, ◌≤◌, [], ◌∷◌, ◌++◌, List, None, false, All, IsPermutation, fold, length, map};
 ghost use Rattle.jass_base.specs.Ciff.{CollectionData, FitsList, ListData};
 ghost use Rattle.weights.specs.declared.weighting.Rule.{Rule};
 ghost use Rattle.weights.specs.declared.quantizing.Bits.{Bits};

@@ -1,4 +1,4 @@
-ghost use Rattle.std.specs.Prelude.{◌≡◌, List, map, filter, IfOk};
+ghost use Rattle.std.specs.Prelude.{◌≡◌, filter, IfOk};
 ghost use Rattle.ranking_model.specs.Order.{sorted};
 ghost use Rattle.impact_segments.specs.Private.Listed.{has_postings, term_cmp, lists_behind};
 
@@ -28,10 +28,7 @@ fn lists_with_postings<'a>(
     let mut listed = Vec::new(alloc);
     for list in lists {
         if !list.postings.is_empty() {
-            match listed.push(list) {
-                Ok(()) => {}
-                Err(_) => return Err(NoMemory),
-            }
+            listed.push(list)?;
         }
     }
     Ok(listed)

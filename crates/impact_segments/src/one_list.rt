@@ -119,15 +119,9 @@ pub fn length_norms(alloc: Global, total: u64, lengths: &[u32]) -> Result<Vec<u6
     ensures { IfOk result (λ norms. norms.items ≡ norms_in lengths.now total) }
 {
     let count = lengths.len() as u32;
-    let mut norms = match Vec::with_capacity(alloc, lengths.len()) {
-        Ok(norms) => norms,
-        Err(_) => return Err(NoMemory),
-    };
+    let mut norms = Vec::with_capacity(alloc, lengths.len())?;
     for length in lengths {
-        match norms.push(length_norm(count, total, *length)) {
-            Ok(()) => {}
-            Err(_) => return Err(NoMemory),
-        }
+        norms.push(length_norm(count, total, *length))?;
     }
     Ok(norms)
 }

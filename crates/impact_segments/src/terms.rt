@@ -1,4 +1,4 @@
-ghost use Rattle.std.specs.Prelude.{◌≡◌, ◌≤◌, List, map, length, All, IfOk, OnOk};
+ghost use Rattle.std.specs.Prelude.{◌≡◌, ◌≤◌, map, length, All, IfOk, OnOk};
 ghost use Rattle.std.specs.Ordering.{nat_cmp};
 ghost use Rattle.std.specs.Cmp.Lexicographic.{slice_cmp};
 ghost use Rattle.std.specs.List.{flat_map};
@@ -12,7 +12,7 @@ ghost use Rattle.ranking_model.specs.Flat.{entry_cmp};
 ghost use Rattle.impact_segments.specs.Private.Weighed.{list_weights, list_entries};
 ghost use Rattle.impact_segments.specs.Private.Held.{term_entries, flat_of_terms};
 ghost use Rattle.impact_segments.specs.Private.Listed.{lists_behind};
-ghost use Rattle.impact_segments.specs.Pairs.{list_pairs};
+ghost use Rattle.impact_segments.specs.Private.Pairs.{list_pairs};
 ghost use Rattle.impact_segments.specs.declared.doc_impact.DocImpact.{DocImpact};
 
 use crate::doc_impact::DocImpact;
@@ -47,10 +47,7 @@ pub(crate) fn terms_of(
     let mut pairs = Vec::new(alloc);
     for list in lists {
         let term = term_of(alloc, weigher, bits, range, list, &mut pairs)?;
-        match terms.push(term) {
-            Ok(()) => {}
-            Err(_) => return Err(NoMemory),
-        }
+        terms.push(term)?;
     }
     Ok(terms)
 }
@@ -104,10 +101,7 @@ fn impacts_of(
             doc: posting.doc,
             impact,
         };
-        match pairs.push(pair) {
-            Ok(()) => {}
-            Err(_) => return Err(NoMemory),
-        }
+        pairs.push(pair)?;
     }
     Ok(())
 }

@@ -1,6 +1,6 @@
 // Three documents of 9, 5 and 1 terms that share one term, from their postings to the index.
 
-ghost use Rattle.std.specs.Prelude.{◌≡◌, ◌<◌, ◌≤◌, ◌^◌, [], ◌∷◌, length, All, AllPairs, IfOk};
+ghost use Rattle.std.specs.Prelude.{◌≡◌, ◌<◌, ◌≤◌, ◌^◌, [], ◌∷◌, length, All, IfOk};
 ghost use Rattle.std.specs.List.Sorted.{IsStrictlyIncreasing};
 ghost use Rattle.jass_base.specs.Lists.{HasDocsBelow};
 ghost use Rattle.jass_base.specs.Postings.{docs_of, HasTfInRange};
@@ -98,10 +98,7 @@ fn striped(alloc: Global) -> Result<Vec<DocImpact>, NoMemory>
             doc,
             impact: (doc % 3) as u16 + 1,
         };
-        match pairs.push(pair) {
-            Ok(()) => {}
-            Err(_) => return Err(NoMemory),
-        }
+        pairs.push(pair)?;
     }
     Ok(pairs)
 }

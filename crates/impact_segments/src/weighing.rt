@@ -116,15 +116,9 @@ fn norms_of(alloc: Global, docs: &[DocRecord]) -> Result<Vec<u64>, NoMemory>
 {
     let count = docs.len() as u32;
     let total = total_length(docs);
-    let mut norms = match Vec::with_capacity(alloc, docs.len()) {
-        Ok(norms) => norms,
-        Err(_) => return Err(NoMemory),
-    };
+    let mut norms = Vec::with_capacity(alloc, docs.len())?;
     for doc in docs {
-        match norms.push(length_norm(count, total, doc.length)) {
-            Ok(()) => {}
-            Err(_) => return Err(NoMemory),
-        }
+        norms.push(length_norm(count, total, doc.length))?;
     }
     Ok(norms)
 }

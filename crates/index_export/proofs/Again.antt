@@ -1,15 +1,7 @@
 -- An export, made an index again.
-use Rattle.std.proofs.Common.{◌≡◌, ℕ, ◌≤◌, List, [], ◌∷◌, ◌++◌, length, map, min, refl, sym, ap, ap₂, ◌∙◌, subst, arith}
-use Rattle.std.specs.Prelude.{IsPermutation}
-use Rattle.std.specs.List.{AllByRecursion, flat_map}
-use Rattle.std.specs.Ordering.{nat_cmp}
-use Rattle.std.specs.Cmp.Lexicographic.{slice_cmp}
-use Rattle.std.specs.FinMap.{nat_cmp-IsAntisymmetric, slice_cmp-IsAntisymmetric}
-use Rattle.std.proofs.lemmas.Cmp.{nat_list_cmp_total}
-use Rattle.std.proofs.lemmas.List.{map-append}
-use Rattle.std.proofs.lemmas.List.Elements.{recursion_from_All}
-use Rattle.std.proofs.lemmas.List.Sorted.{IsPermutation-refl, IsPermutation-sym, IsPermutation-map, IsPermutation-append}
-use Rattle.std.proofs.lemmas.Simd.{map-map}
+use Rattle.shared_lemmas.proofs.Common.{◌≡◌, ℕ, ◌≤◌, List, [], ◌∷◌, ◌++◌, length, map, min, refl, sym, ap, ap₂, ◌∙◌, subst, arith, IsPermutation, AllByRecursion, flat_map, slice_cmp, nat_cmp-IsAntisymmetric, slice_cmp-IsAntisymmetric, nat_list_cmp_total, map-append, recursion_from_All}
+use Rattle.shared_lemmas.proofs.Common.{IsPermutation-refl, IsPermutation-sym, IsPermutation-map, IsPermutation-append, map-map}
+use Rattle.std.proofs.Common.{nat_cmp}
 use Rattle.jass_base.specs.Ciff.{ListData, DocData}
 use Rattle.jass_base.specs.declared.posting.Posting.{Posting}
 use Rattle.weights.specs.declared.quantizing.Bits.TheVariants.{Raw}

@@ -1,24 +1,16 @@
 -- The postings of a term, by rising document.
-use Rattle.std.proofs.Common.{◌≡◌, ◌≢◌, ℕ, ◌+◌, ◌*◌, ◌<◌, ◌≤◌, List, [], ◌∷◌, length, false, refl, sym, ap₂, ◌∙◌, subst, arith}
-use Rattle.std.specs.Prelude.{All, Contains}
-use Rattle.std.specs.List.{AllByRecursion, flat_map, sum_by}
-use Rattle.std.specs.List.Sorted.{IsStrictlyIncreasing}
-use Rattle.std.specs.Cmp.{IsTotalOrder}
-use Rattle.std.specs.Ordering.{is_gt}
-use Rattle.std.proofs.lemmas.Bool.Decides.{nat_tests}
-use Rattle.std.proofs.lemmas.Cmp.{on_total, nat_cmp_total}
-use Rattle.std.proofs.lemmas.List.{length-map, length-append}
-use Rattle.std.proofs.lemmas.List.Elements.{recursion_from_All, All-from_recursion, All-contains_itself}
-use Rattle.std.proofs.lemmas.List.Sums.{sum_by-cons}
+use Rattle.shared_lemmas.proofs.Common.{◌≡◌, ◌≢◌, ℕ, ◌+◌, ◌*◌, ◌<◌, ◌≤◌, List, [], ◌∷◌, length, false, refl, sym, ap₂, ◌∙◌, subst, arith, All, Contains, AllByRecursion, flat_map, IsStrictlyIncreasing, IsTotalOrder, nat_tests, on_total, nat_cmp_total, length-map, length-append, recursion_from_All}
+use Rattle.shared_lemmas.proofs.Common.{All-from_recursion, All-contains_itself, sum_by-cons}
+use Rattle.std.proofs.Common.{is_gt}
+use Rattle.std.specs.List.{sum_by}
 use Rattle.jass_base.specs.declared.posting.Posting.{Posting}
 use Rattle.jass_base.specs.Postings.{docs_of, HasTfInRange}
 use Rattle.ranking_model.specs.Order.{sorted}
-use Rattle.ranking_model.proofs.Sorting.{Ascends, sorted_ascends, all_sorted, sum_by-sorted, pairs_sorted}
+use Rattle.ranking_model.proofs.Sorting.{sorted_ascends, all_sorted, sum_by-sorted, pairs_sorted, ascends_pairs}
 use Rattle.index_model.specs.Index.{SegmentData, TermData, IsTerm, SharesNoDocument}
 use Rattle.index_model.proofs.FlatOrder.{term_kept}
-use Rattle.shared_lemmas.proofs.Pairs.{Pairs, pairs_map, rising_from_pairs}
+use Rattle.shared_lemmas.proofs.Pairs.{Pairs, pairs_map, rising_from_pairs, pairs_append, pairs_weaker, pairs_both}
 use Rattle.shared_lemmas.proofs.Lists.{all_weaker, all_append, all_map, all_flat, all_across, all_of}
-use Rattle.shared_lemmas.proofs.Pairs.{pairs_append, pairs_weaker, pairs_both}
 use Rattle.index_layout.specs.View.{term_postings}
 use Rattle.index_export.specs.Exports.{doc_cmp, segment_postings, term_list, impact_sum}
 
@@ -58,10 +50,6 @@ differ (s ∷ ss) h r = pairs_append Differ (segment_postings s) (gathered ss)
 
 -- ---- so they rise once they are sorted
 
-ascends_pairs : (ps : List Posting) → Ascends doc_cmp ps → Pairs (λ a b. is_gt (doc_cmp a b) ≡ false) ps
-ascends_pairs [] h = tt
-ascends_pairs (p ∷ ps) h = (h.0, ascends_pairs ps h.1)
-
 before : (a b : Posting) → is_gt (doc_cmp a b) ≡ false → a.doc ≢ b.doc → a.doc < b.doc
 before a b h n = grind (arith, nat_tests)
 
@@ -72,7 +60,7 @@ list_rises d t is =
     let apart : Pairs Differ (sorted doc_cmp ps) = pairs_sorted doc_cmp Differ (λ a b n e. n (sym e)) ps (differ t.segments kept.once kept.rising) in
     rising_from_pairs (docs_of (term_list t)) (pairs_map (λ (x y : ℕ). x < y) doc_of (term_list t)
     (pairs_weaker (λ a b. (is_gt (doc_cmp a b) ≡ false) × Differ a b) (λ (a b : Posting). a.doc < b.doc) (λ a b k. before a b k.0 k.1) (sorted doc_cmp ps)
-    (pairs_both (λ a b. is_gt (doc_cmp a b) ≡ false) Differ (sorted doc_cmp ps) (ascends_pairs (sorted doc_cmp ps) (sorted_ascends doc_cmp doc_total ps)) apart)))
+    (pairs_both (λ a b. is_gt (doc_cmp a b) ≡ false) Differ (sorted doc_cmp ps) (ascends_pairs doc_cmp (sorted doc_cmp ps) (sorted_ascends doc_cmp doc_total ps)) apart)))
 
 -- ---- what holds of each
 

@@ -1,7 +1,5 @@
 -- One step of a loop that builds a list.
-use Rattle.std.proofs.Common.{◌≡◌, ℕ, zero, suc, ◌+◌, ◌≤◌, List, [], ◌∷◌, ◌++◌, length, map, take, drop, sym, ap, ◌∙◌, arith, append_assoc}
-use Rattle.std.specs.Prelude.{Some, slice_get}
-use Rattle.std.proofs.lemmas.List.{map-append, take-append-drop, length-take, length-drop}
+use Rattle.shared_lemmas.proofs.Common.{◌≡◌, ℕ, zero, suc, ◌+◌, ◌≤◌, List, [], ◌∷◌, ◌++◌, length, map, take, drop, sym, ap, ◌∙◌, arith, append_assoc, Some, slice_get, map-append, take-append-drop, length-take, length-drop}
 use Rattle.jass_base.specs.declared.posting.Posting.{Posting}
 use Rattle.index_export.specs.Private.Gathering.{doc_postings}
 

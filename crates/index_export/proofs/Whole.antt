@@ -1,24 +1,14 @@
 -- The lists and documents of a whole index.
-use Rattle.std.proofs.Common.{◌≡◌, ◌≢◌, ℕ, ◌*◌, ◌<◌, ◌≤◌, ◌^◌, List, [], ◌∷◌, length, map, true, sym, ap, ◌∙◌, subst, arith}
-use Rattle.std.specs.Prelude.{AllPairs}
-use Rattle.std.specs.List.{AllByRecursion, sum_by}
-use Rattle.std.specs.declared.cmp.Ordering.{Ordering}
-use Rattle.std.specs.declared.cmp.Ordering.TheVariants.{Equal}
-use Rattle.std.specs.Ordering.{is_lt, nat_cmp}
-use Rattle.std.specs.Cmp.Lexicographic.{slice_cmp}
-use Rattle.std.proofs.lemmas.Cmp.{nat_list_cmp_total, tied_itself}
-use Rattle.std.proofs.lemmas.List.{length-map}
-use Rattle.std.proofs.lemmas.List.Elements.{recursion_from_All}
-use Rattle.std.proofs.lemmas.List.Sums.{sum_by-cons, get_or-le-sum_by}
-use Rattle.std.proofs.lemmas.Simd.{map-map}
+use Rattle.shared_lemmas.proofs.Common.{◌≡◌, ◌≢◌, ℕ, ◌*◌, ◌<◌, ◌≤◌, ◌^◌, List, [], ◌∷◌, length, map, true, sym, ap, ◌∙◌, subst, arith, AllPairs, AllByRecursion, is_lt, nat_cmp, slice_cmp, nat_list_cmp_total, tied_itself, length-map, recursion_from_All, sum_by-cons, get_or-le-sum_by, map-map}
+use Rattle.std.proofs.Common.{Ordering, Equal}
+use Rattle.std.specs.List.{sum_by}
 use Rattle.jass_base.specs.Ciff.{ListData}
 use Rattle.jass_base.specs.CiffViews.{list_data}
 use Rattle.jass_base.specs.declared.postings_list.PostingsList.{PostingsList}
 use Rattle.jass_base.specs.Lists.{DifferInTerm}
 use Rattle.jass_base.specs.Terms.{BytesRise}
 use Rattle.index_model.specs.Index.{TermData, IndexData, IsTerm, IsIndex, RisesTo}
-use Rattle.shared_lemmas.proofs.Pairs.{Pairs, pairs_by_recursion, pairs_by_places, pairs_map, pairs_unmap}
-use Rattle.shared_lemmas.proofs.Pairs.{pairs_weaker}
+use Rattle.shared_lemmas.proofs.Pairs.{Pairs, pairs_by_recursion, pairs_by_places, pairs_map, pairs_unmap, pairs_weaker}
 use Rattle.index_layout.specs.View.{term_postings, index_postings}
 use Rattle.shared_lemmas.proofs.Sums.{sum_map}
 use Rattle.index_export.specs.Exports.{term_list, impact_sum, exported_list}

@@ -1,7 +1,7 @@
 -- Small exports on which the definitions are run.
 use Rattle.std.specs.Prelude.{ℕ, List, [], ◌∷◌, ◌++◌, codes}
 use Rattle.jass_base.specs.declared.posting.Posting.{Posting}
-use Rattle.index_model.specs.Examples.{segment, term}
+use Rattle.index_model.specs.Examples.{term, term_segment}
 use Rattle.index_model.specs.Index.{TermData}
 
 abbrev pub posting : ℕ → ℕ → Posting
@@ -9,7 +9,7 @@ posting doc tf = record { doc = doc; tf = tf }
 
 -- a term with impact 3 in one document and impact 1 in two others, which stand before and behind it
 abbrev pub crossing : TermData
-crossing = term (codes "a") (segment 3 (2 ∷ []) ∷ segment 1 (0 ∷ 5 ∷ []) ∷ [])
+crossing = term (codes "a") (term_segment 3 (2 ∷ []) ∷ term_segment 1 (0 ∷ 5 ∷ []) ∷ [])
 
 -- the CIFF file of three documents and one term with the impacts 9, 5 and 1: the header, the list, and the documents
 abbrev pub small_export : List ℕ

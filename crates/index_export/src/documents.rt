@@ -14,10 +14,7 @@ pub(crate) fn records_of(alloc: Global, index: &IndexFile) -> Result<Row<DocReco
     let mut docs = Row::new(alloc);
     for doc in 0..index.docs() {
         let name = Text::from_str(alloc, index.name(doc))?;
-        match docs.push(DocRecord { name, length: 0 }) {
-            Ok(()) => {}
-            Err(_) => return Err(NoMemory),
-        }
+        docs.push(DocRecord { name, length: 0 })?;
     }
     Ok(docs)
 }

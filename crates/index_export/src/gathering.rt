@@ -111,10 +111,7 @@ fn add_blocks<L: Ledger>(
         if given == 0 {
             return Ok(());
         }
-        match add_docs(&block[..given], impact, postings) {
-            Ok(()) => {}
-            Err(_) => return Err(NoMemory),
-        }
+        add_docs(&block[..given], impact, postings)?;
     }
 }
 
@@ -127,10 +124,7 @@ fn add_docs(docs: &[u32], impact: u16, postings: &mut Vec<Posting>) -> Result<()
             doc: *doc,
             tf: u32::from(impact),
         };
-        match postings.push(posting) {
-            Ok(()) => {}
-            Err(_) => return Err(NoMemory),
-        }
+        postings.push(posting)?;
     }
     Ok(())
 }

@@ -1,7 +1,7 @@
 //! The law that ties an export to its index. The function does nothing: its contract is the law,
 //! and a caller learns it by the call.
 
-ghost use Rattle.std.specs.Prelude.{◌≡◌, List, ℕ, map};
+ghost use Rattle.std.specs.Prelude.{◌≡◌, map};
 ghost use Rattle.jass_base.specs.Ciff.{DocData};
 ghost use Rattle.weights.specs.declared.quantizing.Bits.TheVariants.{Raw};
 ghost use Rattle.weights.specs.declared.weighting.Rule.TheVariants.{Tf};

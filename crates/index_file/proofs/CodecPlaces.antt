@@ -1,18 +1,12 @@
 -- The codec of a segment, by its term and its place in it.
-use Rattle.std.proofs.Common.{◌≡◌, ◌<◌, ◌≤◌, ◌+◌, ◌-◌, ℕ, zero, suc, List, [], ◌∷◌, ◌++◌, length, take, drop, ap, sym, subst, ◌∙◌, slice_index, slice_index_or, arith}
-use Rattle.std.specs.Prelude.{slice_range}
-use Rattle.std.proofs.lemmas.List.{get_or_append_left, get_or-append-add, get_or-map, length-append, length-map}
-use Rattle.segment_codecs.specs.declared.codec.Codec.{Codec}
-use Rattle.segment_codecs.specs.declared.codec.Codec.TheVariants.{Varbyte}
-use Rattle.index_layout.specs.View.{FileView, HaveCodecs}
-use Rattle.index_model.specs.Index.{TermData}
-use Rattle.index_model.specs.Querying.{segments_at}
+use Rattle.shared_lemmas.proofs.Common.{◌≡◌, ◌<◌, ◌≤◌, ◌+◌, ℕ, zero, suc, List, [], ◌∷◌, ◌++◌, length, take, drop, ap, sym, subst, ◌∙◌, slice_index, slice_index_or, arith, slice_range, get_or_append_left, get_or-append-add, get_or-map, length-append, length-map}
+use Rattle.index_file.proofs.Below.{Codec, Varbyte, FileView, HaveCodecs, TermData, segments_at}
 use Rattle.index_file.specs.declared.segment.Segment.{Segment}
 use Rattle.index_file.specs.declared.term_row.TermRow.{TermRow}
-use Rattle.index_file.specs.Opened.{Stands}
-use Rattle.index_file.specs.Payloads.{row_segment, row_terms, term_between}
+use Rattle.index_file.specs.Private.Opened.{Stands}
+use Rattle.index_file.specs.Private.Payloads.{row_segment, row_terms, term_between}
 use Rattle.index_file.specs.Places.{all_codecs, codec_at}
-use Rattle.index_file.specs.Tables.{RowsFrom, row_head}
+use Rattle.index_file.specs.Private.Tables.{RowsFrom, row_head}
 use Rattle.index_file.proofs.Standing.{part_size, row_of, segment_of, segment_there, there}
 use Rattle.index_file.proofs.TermRows.{row_below}
 

@@ -1,17 +1,8 @@
 -- A file whose front is read: a longer one is refused whatever it holds.
-use Rattle.std.proofs.Common.{◌≡◌, ◌<◌, ◌^◌, ℕ, List, length, take, true, nat_lt, Option, Some, None, Result, Ok, Err, ap, sym, ◌∙◌, refl, arith, inl, inr}
-use Rattle.std.specs.Prelude.{IsSomeAnd}
-use Rattle.std.specs.FinMap.{get}
-use Rattle.std.proofs.lemmas.Bool.{cases_lt}
-use Rattle.std.proofs.lemmas.List.{take_all, length-take-le}
-use Rattle.jass_base.specs.Outside.{Files, OnContent}
-use Rattle.index_layout.specs.declared.refusal.OpenFault.{OpenFault}
+use Rattle.shared_lemmas.proofs.Common.{◌≡◌, ◌<◌, ◌^◌, ℕ, List, length, take, true, nat_lt, Option, Some, None, Result, Ok, Err, ap, sym, ◌∙◌, refl, arith, inl, inr, IsSomeAnd, get, cases_lt, take_all, length-take-le}
+use Rattle.index_file.proofs.Below.{Files, OnContent, OpenFault, OpenRefusal, Limit, Answers, FileView}
 use Rattle.index_layout.specs.declared.refusal.OpenFault.TheVariants as faults
-use Rattle.index_layout.specs.declared.refusal.OpenRefusal.{OpenRefusal}
-use Rattle.index_layout.specs.declared.refusal.OpenWhy.TheVariants.{Limit}
 use Rattle.index_layout.specs.Reading.{front_checks, read_front, read_index}
-use Rattle.index_layout.specs.Refusals.{Answers}
-use Rattle.index_layout.specs.View.{FileView}
 use Rattle.index_file.specs.Opening.{Opens}
 
 abbrev too_long : Result FileView OpenRefusal

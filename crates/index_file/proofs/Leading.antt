@@ -1,12 +1,8 @@
 -- Texts by their first bytes.
-use Rattle.std.proofs.Common.{Less, ◌≡◌, ◌<◌, ◌≤◌, ◌+◌, ◌*◌, ◌^◌, ◌-◌, ℕ, zero, suc, true, false, List, [], ◌∷◌, drop, All, slice_index, nat_lt, nat_eq, arith, inl, inr, ap, sym, subst, ◌∙◌, refl}
-use Rattle.std.specs.Ordering.{nat_cmp}
-use Rattle.std.specs.Cmp.Lexicographic.{slice_cmp}
-use Rattle.std.proofs.lemmas.Bool.{cases_lt}
-use Rattle.std.proofs.lemmas.Bool.Decides.{nat_tests}
-use Rattle.std.proofs.lemmas.List.Elements.{All-head, All-tail}
-use Rattle.std.proofs.Math.Nat.{mul-le-mul_right, pow-suc, pow-le-pow_right}
-use Rattle.index_file.specs.Samples.{leading, first_eight}
+use Rattle.shared_lemmas.proofs.Common.{◌≡◌, ◌<◌, ◌≤◌, ◌+◌, ◌*◌, ◌^◌, ◌-◌, ℕ, zero, suc, true, false, List, [], ◌∷◌, drop, All, slice_index, nat_lt, nat_eq, arith, inl, inr, ap, sym, subst, ◌∙◌, refl, nat_cmp, slice_cmp, cases_lt, nat_tests, All-head, All-tail, mul-le-mul_right, pow-suc}
+use Rattle.shared_lemmas.proofs.Common.{pow-le-pow_right}
+use Rattle.std.proofs.Common.{Less}
+use Rattle.index_file.specs.Private.Samples.{leading, first_eight}
 
 abbrev Byte : ℕ → Type 0
 Byte b = b < 256
@@ -28,9 +24,6 @@ leading_small (suc k) (x ∷ text) bytes =
     let here = within x (256 ^ k) (leading k text) (All-head Byte x text bytes) (leading_small k text (All-tail Byte x text bytes)) in
     omega (arith, e, here)
 
-lower_first : (x y : ℕ) (xs ys : List ℕ) → x < y → slice_cmp nat_cmp (x ∷ xs) (y ∷ ys) ≡ Less
-lower_first x y xs ys less = (let e : nat_lt x y ≡ true = grind (arith, nat_tests, less) in rw e refl)
-
 same_first : (x : ℕ) (xs ys : List ℕ) → slice_cmp nat_cmp (x ∷ xs) (x ∷ ys) ≡ slice_cmp nat_cmp xs ys
 same_first x xs ys =
     let e : nat_lt x x ≡ false = grind (arith, nat_tests) in
@@ -44,7 +37,7 @@ below (suc k) [] [] bytes others less = absurd (omega (arith, less))
 below (suc k) [] (y ∷ ys) bytes others less = refl
 below (suc k) (x ∷ xs) [] bytes others less = absurd (omega (arith, less))
 below (suc k) (x ∷ xs) (y ∷ ys) bytes others less = elim (cases_lt x y) [
-  | inl l ↦ lower_first x y xs ys l
+  | inl l ↦ (let e : nat_lt x y ≡ true = grind (arith, nat_tests, l) in rw e refl)
   | inr g ↦ elim (cases_lt y x) [
     | inl l ↦ absurd (
         let top : (y + 1) * 256 ^ k ≤ x * 256 ^ k = mul-le-mul_right (256 ^ k) (omega (arith, l)) in

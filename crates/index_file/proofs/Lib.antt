@@ -1,3 +1,4 @@
+mod Below
 mod CodecPlaces
 mod Contents
 mod Halves

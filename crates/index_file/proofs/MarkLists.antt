@@ -1,16 +1,8 @@
 -- Marks of the documents of a term, and which of them were met before.
-use Rattle.std.proofs.Common.{◌≡◌, ◌≢◌, ◌≤◌, ◌<◌, ◌+◌, ◌==◌, ◌||◌, ℕ, suc, Bool, true, false, nat_eq, All, List, [], ◌∷◌, ◌++◌, length, take, drop, slice_index, slice_set, ap, sym, subst, ◌∙◌, refl, arith}
-use Rattle.std.specs.Prelude.{⊤, ◌⊎◌}
-use Rattle.std.specs.List.{list_any}
-use Rattle.std.specs.List.Sorted.{IsStrictlyIncreasing}
-use Rattle.std.proofs.Common.{inl, inr}
-use Rattle.std.proofs.lemmas.Bool.{cases_eq}
-use Rattle.std.proofs.lemmas.Bool.Decides.{nat_tests}
-use Rattle.std.proofs.lemmas.List.{append-nil, append_assoc, get_or-set_same, get_or-set_other, length-set, take-append-drop}
-use Rattle.std.proofs.lemmas.List.Elements.{All-head, All-tail, All-weaker, All-set}
-use Rattle.std.proofs.lemmas.List.Folds.{list_any-append}
-use Rattle.jass_base.specs.Gaps.{AreDocs}
-use Rattle.index_layout.specs.Reading.{is_among, shares_one}
+use Rattle.shared_lemmas.proofs.Common.{◌≡◌, ◌≢◌, ◌≤◌, ◌<◌, ◌+◌, ◌==◌, ◌||◌, ℕ, Bool, true, false, nat_eq, All, List, [], ◌∷◌, ◌++◌, length, take, drop, slice_index, slice_set, ap, sym, subst, ◌∙◌, refl, arith, ◌⊎◌, list_any, inl, inr, cases_eq, nat_tests, take-append-drop, All-head, All-tail}
+use Rattle.shared_lemmas.proofs.Common.{All-weaker, All-set, list_any-append, or-false, or-true}
+use Rattle.std.proofs.lemmas.List.{append-nil, append_assoc, get_or-set_same, get_or-set_other, length-set}
+use Rattle.index_file.proofs.Below.{AreDocs, is_among, shares_one, RiseFrom, rise_from}
 use Rattle.index_file.specs.Private.Marks.{AreMarks, marked, meets_marked}
 
 -- the documents that are still to come
@@ -51,19 +43,7 @@ pub block_marked : (now n : ℕ) (rest marks : List ℕ) → marked now rest mar
 block_marked now n rest marks = ap (λ docs. marked now docs marks) (sym (take-append-drop n rest)) ∙ marked_behind now (take n rest) (drop n rest) marks
 
 among_more : (earlier : List ℕ) (doc other : ℕ) → is_among (earlier ++ doc ∷ []) other ≡ (is_among earlier other || (other == doc))
-among_more earlier doc other = list_any-append (nat_eq other) earlier (doc ∷ []) ∙ ap (λ b. is_among earlier other || b) (or_false (other == doc))
-  where
-    or_false : (b : Bool) → (b || false) ≡ b
-    or_false true = refl
-    or_false false = refl
-
-or_true : (b : Bool) → (b || true) ≡ true
-or_true true = refl
-or_true false = refl
-
-or_no : (b : Bool) → (b || false) ≡ b
-or_no true = refl
-or_no false = refl
+among_more earlier doc other = list_any-append (nat_eq other) earlier (doc ∷ []) ∙ ap (λ b. is_among earlier other || b) (or-false (other == doc))
 
 pub mark_one : (now : ℕ) (earlier marks : List ℕ) (doc : ℕ) → AreMarks now earlier marks → AreMarks now (earlier ++ doc ∷ []) (slice_set marks doc now)
 mark_one now earlier marks doc are = record {
@@ -76,11 +56,11 @@ mark_one now earlier marks doc are = record {
         let here : slice_index (slice_set marks doc now) other ≡ now = ap (slice_index (slice_set marks doc now)) same ∙ get_or-set_same marks doc now 0 (subst (λ n. n < length marks) same within) in
         let a : (slice_index (slice_set marks doc now) other == now) ≡ true = grind (arith, nat_tests, here) in
         let b : (other == doc) ≡ true = grind (arith, nat_tests, same) in
-        a ∙ sym (among_more earlier doc other ∙ ap (λ x. is_among earlier other || x) b ∙ or_true (is_among earlier other))
+        a ∙ sym (among_more earlier doc other ∙ ap (λ x. is_among earlier other || x) b ∙ or-true (is_among earlier other))
     either other within (inr apart) =
         let b : (other == doc) ≡ false = grind (arith, nat_tests, apart) in
         ap (λ mark. mark == now) (get_or-set_other marks doc other now 0 apart) ∙ are.met other within
-        ∙ sym (among_more earlier doc other ∙ ap (λ x. is_among earlier other || x) b ∙ or_no (is_among earlier other))
+        ∙ sym (among_more earlier doc other ∙ ap (λ x. is_among earlier other || x) b ∙ or-false (is_among earlier other))
 
 -- documents that were marked are met later
 pub marked_are : (now : ℕ) (docs earlier marks : List ℕ) → AreMarks now earlier marks → AreMarks now (earlier ++ docs) (marked now docs marks)
@@ -89,31 +69,18 @@ marked_are now (doc ∷ docs) earlier marks are =
     subst (λ all. AreMarks now all (marked now docs (slice_set marks doc now))) (append_assoc earlier (doc ∷ []) docs)
     (marked_are now docs (earlier ++ doc ∷ []) (slice_set marks doc now) (mark_one now earlier marks doc are))
 
--- each document is at least one above the one before
-abbrev Rise : ℕ → List ℕ → Type 0
-Rise least [] = ⊤
-Rise least (doc ∷ docs) = (least ≤ doc) × Rise (doc + 1) docs
-
-rises : (docs : List ℕ) → IsStrictlyIncreasing docs → Rise 0 docs
-rises [] rising = tt
-rises (doc ∷ []) rising = (omega arith, tt)
-rises (doc ∷ next ∷ docs) rising =
-    let later = rises (next ∷ docs) (λ j inside. (let e : suc j + 1 ≡ suc (j + 1) = omega arith in
-    subst (λ n. slice_index (doc ∷ next ∷ docs) (suc j) < slice_index (doc ∷ next ∷ docs) n) e (rising (suc j) (omega (arith, inside))))) in
-    (omega arith, ((let less = rising 0 (omega arith) in omega (arith, less)), later.1))
-
 -- whether a document of some has the mark
 abbrev meets_now : ℕ → List ℕ → List ℕ → Bool
 meets_now now marks docs = list_any (λ doc. slice_index marks doc == now) docs
 
-other_mark : (now least : ℕ) (docs marks : List ℕ) (doc : ℕ) → doc < least → Rise least docs → meets_now now (slice_set marks doc now) docs ≡ meets_now now marks docs
+other_mark : (now least : ℕ) (docs marks : List ℕ) (doc : ℕ) → doc < least → RiseFrom least docs → meets_now now (slice_set marks doc now) docs ≡ meets_now now marks docs
 other_mark now least [] marks doc less rise = refl
 other_mark now least (next ∷ docs) marks doc less rise =
     let above = rise.0 in
     let apart : next ≢ doc = (λ same. absurd (omega (arith, less, above, same))) in
     rw (get_or-set_other marks doc next now 0 apart, other_mark now (next + 1) docs marks doc (omega (arith, less, above)) rise.1) refl
 
-meets_each : (now least : ℕ) (docs marks : List ℕ) → Rise least docs → meets_marked now docs marks ≡ meets_now now marks docs
+meets_each : (now least : ℕ) (docs marks : List ℕ) → RiseFrom least docs → meets_marked now docs marks ≡ meets_now now marks docs
 meets_each now least [] marks rise = refl
 meets_each now least (doc ∷ docs) marks rise =
     ap (λ b. (slice_index marks doc == now) || b) (meets_each now (doc + 1) docs (slice_set marks doc now) rise.1 ∙ other_mark now (doc + 1) docs marks doc (omega arith) rise.1)
@@ -125,5 +92,5 @@ meets_earlier now earlier (doc ∷ docs) marks are below =
 
 pub meets_is : (now d : ℕ) (earlier docs marks : List ℕ) → AreMarks now earlier marks → AreDocs d docs → d ≤ length marks → meets_marked now docs marks ≡ shares_one earlier docs
 meets_is now d earlier docs marks are all inside =
-    meets_each now 0 docs marks (rises docs all.rising)
+    meets_each now 0 docs marks (rise_from 0 docs all.rising (λ some. omega arith))
     ∙ meets_earlier now earlier docs marks are (All-weaker (λ doc. doc < d) (λ doc. doc < length marks) (λ doc less. omega (arith, less, inside)) docs all.below)

@@ -1,9 +1,5 @@
 -- Whether a front coded term may follow the one before it, seen from its rest.
-use Rattle.std.proofs.Common.{◌≡◌, ◌+◌, ◌≤◌, ◌==◌, ◌&&◌, ◌||◌, not, Bool, true, false, ℕ, suc, zero, nat_lt, nat_le, nat_eq, List, [], ◌∷◌, ◌++◌, length, take, slice_index, ap, sym, subst, ◌∙◌, refl, arith}
-use Rattle.std.specs.Ordering.{is_lt, nat_cmp}
-use Rattle.std.specs.Cmp.Lexicographic.{slice_cmp}
-use Rattle.std.proofs.lemmas.Bool.Decides.{nat_tests}
-use Rattle.std.proofs.lemmas.List.Sums.{common_prefix_len-le}
+use Rattle.shared_lemmas.proofs.Common.{◌≡◌, ◌+◌, ◌≤◌, ◌==◌, ◌&&◌, ◌||◌, not, Bool, true, false, ℕ, suc, zero, nat_lt, nat_le, nat_eq, List, [], ◌∷◌, ◌++◌, length, take, slice_index, ap, sym, subst, ◌∙◌, refl, arith, is_lt, nat_cmp, slice_cmp, nat_tests, common_prefix_len-le}
 use Rattle.index_layout.specs.Layout.{shared_with}
 
 -- what the code asks

@@ -1,19 +1,8 @@
 -- One payload that is read.
-use Rattle.std.proofs.Common.{◌≡◌, ℕ, ◌+◌, ◌-◌, ◌≤◌, ◌<◌, ◌^◌, Bool, List, [], ◌∷◌, length, take, drop, subst, All, Result, Ok, Err, ap, sym, ◌∙◌, refl, slice_index, arith, true, false, nat_lt}
-use Rattle.std.specs.Prelude.{slice_range}
-use Rattle.std.proofs.lemmas.List.{take-take}
-use Rattle.std.proofs.lemmas.List.Elements.{All-take, All-drop, All-from_get_or}
-use Rattle.jass_base.specs.Gaps.{Judges, AreDocs}
-use Rattle.jass_base.specs.declared.payload_fault.PayloadFault.{PayloadFault}
-use Rattle.segment_codecs.specs.declared.codec.Codec.{Codec}
-use Rattle.segment_codecs.specs.Codecs.{payload_of, read_payload}
-use Rattle.index_layout.specs.Heads.{HeadData}
-use Rattle.index_layout.specs.Refusals.{◌>>=◌, check, judged, refuse, Fails}
-use Rattle.index_layout.specs.declared.refusal.OpenFault.{OpenFault}
+use Rattle.shared_lemmas.proofs.Common.{◌≡◌, ℕ, ◌+◌, ◌-◌, ◌≤◌, ◌<◌, ◌^◌, Bool, List, [], ◌∷◌, length, take, drop, subst, All, Result, Ok, Err, ap, sym, ◌∙◌, refl, slice_index, arith, true, false, nat_lt, slice_range, take-take}
+use Rattle.index_file.proofs.Below.{Judges, AreDocs, PayloadFault, Codec, payload_of, read_payload, HeadData, ◌>>=◌, check, judged, refuse, Fails, OpenFault, OpenRefusal, Length, DocTwice, Payload, docs_or_none, payload_placed, shares_one, part_bytes}
 use Rattle.index_layout.specs.declared.refusal.OpenFault.TheVariants as faults
-use Rattle.index_layout.specs.declared.refusal.OpenRefusal.{OpenRefusal}
-use Rattle.index_layout.specs.declared.refusal.OpenWhy.TheVariants.{Length, DocTwice, Payload}
-use Rattle.index_layout.specs.Reading.{read_segment, docs_or_none, docs_in, payload_end, payload_placed, shares_one}
+use Rattle.index_layout.specs.Reading.{read_segment, docs_in, payload_end}
 use Rattle.index_file.specs.Private.Marks.{AreMarks, meets_marked}
 use Rattle.index_file.proofs.MarkLists.{meets_is}
 
@@ -52,9 +41,6 @@ front_is bytes at size fits =
 pub front_judged : {T : Type 0} (bytes : List ℕ) (d : ℕ) (h : HeadData) (at : ℕ) (result : Result T PayloadFault) → at + h.size ≤ length bytes
     → Judges (read_payload h.codec d h.count (take h.size (take (length bytes - at) (drop at bytes)))) result → Judges (read_payload h.codec d h.count (slice_range bytes at (at + h.size))) result
 front_judged bytes d h at result fits is = subst (λ (part : List ℕ). Judges (read_payload h.codec d h.count part) result) (front_is bytes at h.size fits) is
-
-part_bytes : (bytes : List ℕ) (from to : ℕ) → ((i : ℕ) → slice_index bytes i < 256) → All (λ byte. byte < 256) (slice_range bytes from to)
-part_bytes bytes from to fits = All-take (λ byte. byte < 256) _ _ (All-drop (λ byte. byte < 256) _ _ (All-from_get_or (λ byte. byte < 256) bytes 0 (λ i inside. fits i)))
 
 module _ {T : Type 0} (bytes : List ℕ) (d : ℕ) (h : HeadData) (at : ℕ) (x : T) (fits : at + h.size ≤ length bytes) (is : Judges (read_payload h.codec d h.count (slice_range bytes at (at + h.size))) (Ok x)) where
   -- behind the fit and the codec's check, what was met before decides

@@ -1,12 +1,7 @@
 -- A payload of one varint.
-use Rattle.std.proofs.Common.{◌≡◌, ◌<◌, ◌+◌, ◌-◌, ◌^◌, ℕ, List, [], ◌∷◌, ◌++◌, length, drop, Result, Ok, ap, sym, subst, ◌∙◌, refl, arith}
-use Rattle.std.specs.Prelude.{slice_range, IsOk}
+use Rattle.std.proofs.Common.{◌≡◌, ◌<◌, ◌+◌, ◌-◌, ◌^◌, ℕ, List, [], ◌∷◌, ◌++◌, length, drop, Result, Ok, ap, sym, subst, ◌∙◌, refl, arith, slice_range, IsOk}
 use Rattle.std.proofs.lemmas.List.{append-nil, take-append-drop}
-use Rattle.jass_base.specs.Gaps.{AreDocs, GapSpelling, gap_in}
-use Rattle.jass_base.specs.Wire.{short_varint}
-use Rattle.jass_base.specs.declared.payload_fault.PayloadFault.{PayloadFault}
-use Rattle.segment_codecs.specs.Codecs.{payload_of}
-use Rattle.segment_codecs.specs.declared.codec.Codec.TheVariants.{Varbyte}
+use Rattle.index_file.proofs.Below.{AreDocs, GapSpelling, gap_in, short_varint, PayloadFault, payload_of, Varbyte}
 
 abbrev pub Found : Type 0
 Found = (gap : ℕ) (rest : List ℕ) → gap < 2 ^ 28 → gap_in (short_varint gap ++ rest) ≡ Ok (record { gap = gap; size = length (short_varint gap) })

@@ -1,13 +1,7 @@
 -- Texts of visible characters of ASCII.
-use Rattle.std.proofs.Common.{◌≡◌, ◌<◌, ◌≤◌, ◌+◌, ◌-◌, ℕ, true, false, not, ◌&&◌, ◌==◌, List, [], ◌∷◌, length, length-take, take, take-take, drop, All, nat_lt, get_or, ap, sym, subst, ◌∙◌, refl, arith, inl, inr}
-use Rattle.std.specs.List.{list_all}
-use Rattle.std.specs.Str.{is_utf8}
-use Rattle.std.proofs.lemmas.Bool.{cases_lt}
-use Rattle.std.proofs.lemmas.Bool.Decides.{nat_tests}
-use Rattle.std.proofs.lemmas.List.{get_or-take, get_or-drop, length-take-le, length-drop, drop-take}
-use Rattle.std.proofs.lemmas.List.Elements.{All-head, All-tail, All-take, All-from_get_or, All-get_or}
-use Rattle.std.proofs.lemmas.Str.{is_utf8-from_IsUtf8, IsUtf8-from_ascii}
-use Rattle.std.proofs.lemmas.Str.Ascii.{IsAscii-from_all}
+use Rattle.shared_lemmas.proofs.Common.{◌≡◌, ◌<◌, ◌≤◌, ◌+◌, ◌-◌, ℕ, true, false, not, ◌&&◌, ◌==◌, List, [], ◌∷◌, length, take, drop, All, nat_lt, get_or, ap, sym, subst, ◌∙◌, refl, arith, inl, inr, list_all, is_utf8, cases_lt, nat_tests, get_or-take, get_or-drop, length-take-le, length-drop}
+use Rattle.shared_lemmas.proofs.Common.{drop-take, All-head, All-tail, All-take, All-from_get_or, All-get_or, is_utf8-from_IsUtf8, IsUtf8-from_ascii, IsAscii-from_all}
+use Rattle.std.proofs.Common.{length-take, take-take}
 use Rattle.index_layout.specs.Reading.{is_name_text}
 use Rattle.index_file.specs.Private.Plain.{IsPlain}
 

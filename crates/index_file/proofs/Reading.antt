@@ -1,20 +1,15 @@
 -- What is read of a file, part by part.
-use Rattle.std.proofs.Common.{◌≡◌, ◌≤◌, ◌==◌, ℕ, Bool, true, false, not, List, [], ◌∷◌, length, map, All, None, Result, Ok, Err, ap, sym, subst, ◌∙◌, refl, arith}
-use Rattle.std.proofs.lemmas.Bool.Decides.{nat_tests}
-use Rattle.std.proofs.lemmas.List.{length-map}
-use Rattle.index_layout.specs.Bytes.{u32_in, u64_in}
-use Rattle.index_layout.specs.declared.refusal.OpenRefusal.{OpenRefusal}
-use Rattle.index_layout.specs.declared.refusal.OpenFault.{OpenFault}
+use Rattle.shared_lemmas.proofs.Common.{◌≡◌, ◌≤◌, ◌==◌, ℕ, Bool, true, false, not, List, [], ◌∷◌, length, map, All, None, Result, Ok, Err, ap, sym, subst, ◌∙◌, refl, arith, nat_tests, length-map}
+use Rattle.index_file.proofs.Below.{u32_in, u64_in, OpenRefusal, OpenFault, TermHeads, head_postings, greatest_impact, Front, NamesRead, TermsRead, IndexRead, read_front, read_names, read_terms, read_payloads, name_in, head_codecs, after_front, after_names, after_terms, after_payloads, ◌>>=◌}
+use Rattle.index_file.proofs.Below.{Fails, Check, judged, FileView, IsFileView, file_bytes}
 use Rattle.index_layout.specs.declared.refusal.OpenFault.TheVariants as faults
-use Rattle.index_layout.specs.Heads.{TermHeads, head_postings, greatest_impact}
-use Rattle.index_layout.specs.Reading.{Front, NamesRead, TermsRead, IndexRead, read_front, read_names, read_terms, read_payloads, name_in, end_checks, head_codecs, after_front, after_names, after_terms, after_payloads, read_index}
-use Rattle.index_layout.specs.Refusals.{◌>>=◌, Fails, Check, judged}
-use Rattle.index_layout.specs.View.{FileView, IsFileView, file_bytes}
+use Rattle.index_layout.specs.Reading.{end_checks, read_index}
 use Rattle.index_file.specs.declared.segment.Segment.{Segment}
 use Rattle.index_file.specs.declared.term_row.TermRow.{TermRow}
-use Rattle.index_file.specs.Opened.{view_of, Stands}
-use Rattle.index_file.specs.Payloads.{IsPayload, row_heads, row_terms}
-use Rattle.index_file.specs.Tables.{IsNamePlace, AreRows, row_head}
+use Rattle.index_file.specs.Opened.{view_of}
+use Rattle.index_file.specs.Private.Opened.{Stands}
+use Rattle.index_file.specs.Private.Payloads.{IsPayload, row_heads, row_terms}
+use Rattle.index_file.specs.Private.Tables.{IsNamePlace, AreRows, row_head}
 use Rattle.index_file.proofs.Standing.{same_view}
 use Rattle.index_file.proofs.Wholes.{codecs_are, heads_stay, postings_are, greatest_are, terms_count}
 

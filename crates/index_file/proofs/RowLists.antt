@@ -1,50 +1,16 @@
 -- The terms between neighbouring rows, read one after the other.
-use Rattle.std.proofs.Common.{◌≡◌, ◌≤◌, ◌<◌, ◌+◌, ◌-◌, ℕ, suc, zero, map, take, drop, length, slice_index_or, All, arith, List, [], ◌∷◌, ◌++◌, Result, Ok, append_assoc, ap, sym, subst, ◌∙◌, refl}
-use Rattle.std.specs.Prelude.{slice_range}
-use Rattle.std.proofs.lemmas.List.{append-nil, drop-take, map-append, take-append-drop, take-take, take_all, take_more}
-use Rattle.std.proofs.lemmas.List.Elements.{All-append, All-drop, All-head, All-push, All-tail, All-take, All-weaker}
-use Rattle.std.proofs.Common.{add-one}
-use Rattle.std.proofs.Math.ListN.{drop_of_length-le}
-use Rattle.std.proofs.Math.Seq.{drop-cons}
+use Rattle.shared_lemmas.proofs.Common.{◌≡◌, ◌≤◌, ◌<◌, ◌+◌, ◌-◌, ℕ, map, take, drop, length, All, arith, List, [], ◌∷◌, ◌++◌, Result, Ok, append_assoc, ap, sym, subst, ◌∙◌, refl, slice_range, drop-take, map-append, take-append-drop, take-take, take_all, take_more, drop_more, All-append, All-drop}
+use Rattle.shared_lemmas.proofs.Common.{All-head, All-push, All-tail, All-take, All-weaker, drop_of_length-le}
+use Rattle.std.proofs.lemmas.List.{append-nil}
 use Rattle.std.specs.List.{drop-map, take-map}
-use Rattle.index_model.specs.Index.{TermData}
-use Rattle.index_layout.specs.declared.refusal.OpenRefusal.{OpenRefusal}
-use Rattle.index_layout.specs.Heads.{HeadData}
-use Rattle.index_layout.specs.Refusals.{◌>>=◌}
-use Rattle.index_layout.specs.Reading.{SegmentsRead, IndexRead, read_segments, read_payloads}
-use Rattle.index_layout.proofs.Behind.{with_index, behind_index}
+use Rattle.index_file.proofs.Below.{TermData, OpenRefusal, HeadData, ◌>>=◌, SegmentsRead, IndexRead, read_segments, read_payloads, with_index, behind_index}
 use Rattle.index_file.specs.declared.segment.Segment.{Segment}
 use Rattle.index_file.specs.declared.term_row.TermRow.{TermRow}
-use Rattle.index_file.specs.Payloads.{IsCounted, row_segment, row_heads, row_terms, term_between}
-use Rattle.index_file.specs.Tables.{RowsFrom, AreRows, row_head}
+use Rattle.index_file.specs.Private.Payloads.{IsCounted, row_segment, row_heads, row_terms, term_between}
+use Rattle.index_file.specs.Private.Tables.{RowsFrom, AreRows, row_head}
+use Rattle.index_file.proofs.Standing.{row_of}
 
--- the row with a number
-abbrev pub row_of : List TermRow → ℕ → TermRow
-row_of rows i = slice_index_or rows i (record { text = 0; segment = 0 })
-
-rows_left : (rows : List TermRow) (i : ℕ) → i < length rows → drop i rows ≡ row_of rows i ∷ drop (i + 1) rows
-rows_left rows i inside = drop-cons rows i (record { text = 0; segment = 0 }) inside ∙ ap (λ n. row_of rows i ∷ drop n rows) (sym (add-one i))
-
--- the order of the rows
-row_under : (text : List ℕ) (segments : List Segment) (a : TermRow) (rows : List TermRow) → RowsFrom text segments a rows → a.segment ≤ length segments
-row_under text segments a [] are = (let last = are.1 in omega (arith, last))
-row_under text segments a (b ∷ rows) are = (let here = are.1 in let later = row_under text segments b rows are.2 in omega (arith, here, later))
-
-pub record InOrder (segments : List Segment) (x y : TermRow) : Type 0 where
-  pub rise : x.segment ≤ y.segment
-  pub within : y.segment ≤ length segments
-
-in_order : (text : List ℕ) (segments : List Segment) (a : TermRow) (rows : List TermRow) (i : ℕ) → RowsFrom text segments a rows → i < length rows → InOrder segments (row_of (a ∷ rows) i) (row_of rows i)
-in_order text segments a [] i are inside = absurd (omega (arith, inside))
-in_order text segments a (b ∷ rows) zero are inside = record { rise = are.1; within = row_under text segments b rows are.2 }
-in_order text segments a (b ∷ rows) (suc i) are inside = in_order text segments b rows i are.2 (omega (arith, inside))
-
-pub rows_order : (text : List ℕ) (segments : List Segment) (rows : List TermRow) (i : ℕ) → AreRows text segments rows → i + 1 < length rows → InOrder segments (row_of rows i) (row_of rows (i + 1))
-rows_order text segments [] i are inside = absurd are
-rows_order text segments (a ∷ rows) i are inside =
-    let e : suc i ≡ i + 1 = omega arith in
-    subst (λ n. InOrder segments (row_of (a ∷ rows) i) (row_of (a ∷ rows) n)) e (in_order text segments a rows i are.2 (omega (arith, inside)))
-
+-- the last row
 last_of : (text : List ℕ) (segments : List Segment) (a : TermRow) (rows : List TermRow) → RowsFrom text segments a rows → (row_of (a ∷ rows) (length rows)).segment ≡ length segments
 last_of text segments a [] are = are.1
 last_of text segments a (b ∷ rows) are = last_of text segments b rows are.2
@@ -133,7 +99,7 @@ module _ (bytes : List ℕ) (d : ℕ) (rows : List TermRow) (i : ℕ) (old new :
       let y = row_of rows (i + 1) in
       let rest = drop (i + 1 + 1) rows in
       let none : TermRow = record { text = 0; segment = 0 } in
-      let left : drop i rows ≡ x ∷ y ∷ rest = rows_left rows i (omega (arith, inside)) ∙ ap (λ more. x ∷ more) (rows_left rows (i + 1) inside) in
+      let left : drop i rows ≡ x ∷ y ∷ rest = drop_more rows i (record { text = 0; segment = 0 }) (omega (arith, inside)) ∙ ap (λ more. x ∷ more) (drop_more rows (i + 1) (record { text = 0; segment = 0 }) inside) in
       let done : take (i + 1) rows ≡ take i rows ++ x ∷ [] = take_more rows i none (omega (arith, inside)) in
       let more : take (i + 1 + 1) rows ≡ take i rows ++ x ∷ y ∷ [] = take_more rows (i + 1) none inside ∙ ap (λ some. some ++ y ∷ []) done ∙ append_assoc (take i rows) (x ∷ []) (y ∷ []) in
       let read_on = index_on bytes d text old total (row_terms bytes d text old (take (i + 1) rows)) x y rest at (record { segments = map (row_segment bytes d) (slice_range new x.segment y.segment); end = end })
@@ -143,7 +109,7 @@ module _ (bytes : List ℕ) (d : ℕ) (rows : List TermRow) (i : ℕ) (old new :
       ∙ sym (ap (row_terms bytes d text new) more ∙ terms_push bytes d text new (take i rows) x y) in
       read_on
       ∙ ap (λ some. with_index some (read_payloads bytes d (row_heads bytes text old (y ∷ rest)) end)) terms
-      ∙ ap (λ some. with_index (row_terms bytes d text new (take (i + 1 + 1) rows)) (read_payloads bytes d some end)) (heads_stay bytes text old new (y ∷ rest) (sym heads) ∙ ap (row_heads bytes text new) (sym (rows_left rows (i + 1) inside)))
+      ∙ ap (λ some. with_index (row_terms bytes d text new (take (i + 1 + 1) rows)) (read_payloads bytes d some end)) (heads_stay bytes text old new (y ∷ rest) (sym heads) ∙ ap (row_heads bytes text new) (sym (drop_more rows (i + 1) (record { text = 0; segment = 0 }) inside)))
 
   pub below_next : (row_of rows i).segment ≤ (row_of rows (i + 1)).segment → All (EndsBy (row_of rows (i + 1)).segment) (take (i + 1 + 1) rows)
   below_next rise =
@@ -163,7 +129,7 @@ before_next P segments from to order front part =
 pub index_end : (bytes : List ℕ) (d : ℕ) (text : List ℕ) (segments : List Segment) (rows : List TermRow) (i at : ℕ) (total : Result IndexRead OpenRefusal) → i + 1 ≡ length rows
     → total ≡ with_index (row_terms bytes d text segments (take (i + 1) rows)) (read_payloads bytes d (row_heads bytes text segments (drop i rows)) at) → total ≡ Ok (record { terms = row_terms bytes d text segments rows; end = at })
 index_end bytes d text segments rows i at total last is =
-    let left : drop i rows ≡ row_of rows i ∷ [] = rows_left rows i (omega (arith, last)) ∙ ap (λ some. row_of rows i ∷ some) (drop_of_length-le rows (omega (arith, last))) in
+    let left : drop i rows ≡ row_of rows i ∷ [] = drop_more rows i (record { text = 0; segment = 0 }) (omega (arith, last)) ∙ ap (λ some. row_of rows i ∷ some) (drop_of_length-le rows (omega (arith, last))) in
     let all : take (i + 1) rows ≡ rows = take_all (i + 1) rows (omega (arith, last)) in
     is
     ∙ ap (λ some. with_index (row_terms bytes d text segments (take (i + 1) rows)) (read_payloads bytes d (row_heads bytes text segments some) at)) left

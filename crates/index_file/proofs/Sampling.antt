@@ -1,19 +1,13 @@
 -- What the sampled terms of an opened file tell.
-use Rattle.std.proofs.Common.{Less, Greater, ◌≡◌, ◌<◌, ◌≤◌, ◌+◌, ◌-◌, ◌*◌, ◌/◌, ◌%◌, ℕ, List, [], ◌∷◌, ◌++◌, length, drop, All, ap, sym, subst, ◌∙◌, slice_index, inl, inr, arith}
-use Rattle.std.specs.Int.{div_ceil}
-use Rattle.std.proofs.lemmas.Bool.{cases_lt}
-use Rattle.std.specs.Ordering.{nat_cmp, ordering_reverse}
-use Rattle.std.specs.Cmp.Lexicographic.{slice_cmp}
-use Rattle.std.proofs.lemmas.Cmp.{nat_list_cmp_total}
-use Rattle.std.proofs.Math.ListN.{get_or-append}
-use Rattle.std.proofs.Math.Seq.{get_or-append_seam}
-use Rattle.std.proofs.lemmas.List.Elements.{All-take, All-drop}
+use Rattle.shared_lemmas.proofs.Common.{◌≡◌, ◌<◌, ◌≤◌, ◌+◌, ◌-◌, ◌*◌, ◌/◌, ◌%◌, ℕ, List, [], ◌∷◌, ◌++◌, length, drop, All, ap, sym, subst, ◌∙◌, slice_index, inl, inr, arith, div_ceil, cases_lt, nat_cmp, ordering_reverse, slice_cmp, nat_list_cmp_total, get_or-append, get_or-append_seam, All-take}
+use Rattle.shared_lemmas.proofs.Common.{All-drop}
+use Rattle.std.proofs.Common.{Less, Greater}
 use Rattle.index_layout.specs.View.{FileView}
 use Rattle.index_file.specs.declared.segment.Segment.{Segment}
 use Rattle.index_file.specs.declared.term_row.TermRow.{TermRow}
-use Rattle.index_file.specs.Opened.{IsOpened}
+use Rattle.index_file.specs.Private.Opened.{IsOpened}
 use Rattle.index_file.specs.Places.{term_at}
-use Rattle.index_file.specs.Samples.{first_eight, row_at, text_at}
+use Rattle.index_file.specs.Private.Samples.{first_eight, row_at, text_at}
 use Rattle.index_file.proofs.Leading.{eight_below}
 use Rattle.index_file.proofs.Standing.{there}
 

@@ -1,20 +1,11 @@
 -- The payloads of a term's segments, read one after the other into their rows.
-use Rattle.std.proofs.Common.{◌≡◌, ◌<◌, ◌+◌, ℕ, map, take, drop, length, slice_index_or, slice_set, All, arith, List, [], ◌∷◌, ◌++◌, Result, Ok, Err, ap, sym, subst, ◌∙◌, refl}
-use Rattle.std.specs.List.{flat_map}
-use Rattle.std.proofs.lemmas.List.{append-nil, get_or-map, length-map, map_push, take_more_set, drop-set-lt}
-use Rattle.std.proofs.lemmas.Grind.{flat_map-append}
-use Rattle.std.proofs.Math.Seq.{drop-cons, map-set_same}
-use Rattle.std.proofs.Common.{add-one}
-use Rattle.index_model.specs.Index.{SegmentData}
-use Rattle.index_layout.specs.declared.refusal.OpenRefusal.{OpenRefusal}
-use Rattle.index_layout.specs.Heads.{HeadData}
-use Rattle.index_layout.specs.Refusals.{◌>>=◌}
-use Rattle.index_layout.specs.Reading.{SegmentsRead, docs_in, payload_end, read_segments}
-use Rattle.index_layout.proofs.Behind.{with_segments, behind_segments}
+use Rattle.shared_lemmas.proofs.Common.{◌≡◌, ◌<◌, ◌+◌, ℕ, map, take, drop, length, slice_index_or, slice_set, All, arith, List, [], ◌∷◌, ◌++◌, Result, Ok, Err, ap, sym, subst, ◌∙◌, refl, flat_map, get_or-map, length-map, map_push, take_more_set, drop-set-lt, flat_map-append, map-set_same}
+use Rattle.std.proofs.lemmas.List.{append-nil}
+use Rattle.index_file.proofs.Below.{SegmentData, OpenRefusal, HeadData, ◌>>=◌, SegmentsRead, docs_in, payload_end, read_segments, with_segments, behind_segments}
 use Rattle.index_file.specs.declared.segment.Segment.{Segment}
 use Rattle.index_file.specs.Private.Marks.{AreMarks}
-use Rattle.index_file.specs.Payloads.{IsCounted, row_segment}
-use Rattle.index_file.specs.Tables.{row_head}
+use Rattle.index_file.specs.Private.Payloads.{IsCounted, row_segment}
+use Rattle.index_file.specs.Private.Tables.{row_head}
 
 pub no_segments : (read : Result SegmentsRead OpenRefusal) → read ≡ with_segments [] read
 no_segments (Ok x) = refl
@@ -88,6 +79,3 @@ row_read bytes d rows i s blank inside head = record {
   rest = drop-set-lt (i + 1) rows i s (omega arith);
   heads = map-set_same (row_head bytes) rows i s blank head;
 }
-
-pub rows_left : (rows : List Segment) (i : ℕ) (blank : Segment) → i < length rows → drop i rows ≡ slice_index_or rows i blank ∷ drop (i + 1) rows
-rows_left rows i blank inside = drop-cons rows i blank inside ∙ ap (λ n. slice_index_or rows i blank ∷ drop n rows) (sym (add-one i))

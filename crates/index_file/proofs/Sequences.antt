@@ -1,15 +1,8 @@
 -- Parts that are read one after the other.
-use Rattle.std.proofs.Common.{◌≡◌, ◌≤◌, ℕ, suc, map, drop, length, arith, List, [], ◌∷◌, ◌++◌, Result, Ok, Err, append_assoc, ap, sym, ◌∙◌, refl}
-use Rattle.index_layout.specs.declared.refusal.OpenRefusal.{OpenRefusal}
-use Rattle.index_layout.specs.Refusals.{◌>>=◌}
-use Rattle.index_layout.specs.Reading.{NamesRead, HeadsRead, name_end, name_in, read_names, head_end, head_in, read_heads}
-use Rattle.std.proofs.lemmas.List.{map_push, length-append, drop-append-le}
-use Rattle.index_layout.specs.Bytes.{u16_in}
-use Rattle.index_layout.specs.Heads.{HeadData}
-use Rattle.index_layout.proofs.HeadLaws.{head_impact}
-use Rattle.index_layout.proofs.Behind.{with_heads, behind_heads}
+use Rattle.shared_lemmas.proofs.Common.{◌≡◌, ◌≤◌, ℕ, suc, map, drop, length, arith, List, [], ◌∷◌, ◌++◌, Result, Ok, Err, append_assoc, ap, sym, ◌∙◌, refl, map_push, length-append, drop-append-le}
+use Rattle.index_file.proofs.Below.{OpenRefusal, ◌>>=◌, NamesRead, name_end, name_in, read_names}
 use Rattle.index_file.specs.declared.segment.Segment.{Segment}
-use Rattle.index_file.specs.Tables.{row_head}
+use Rattle.index_file.specs.Private.Tables.{row_head}
 
 -- behind names that were read before
 abbrev pub with_names : List (List ℕ) → Result NamesRead OpenRefusal → Result NamesRead OpenRefusal
@@ -26,18 +19,6 @@ names_on bytes total front k left at next is more end =
     is ∙ ap (λ n. with_names front (read_names bytes n at)) more
     ∙ ap (λ (e : Result ℕ OpenRefusal). with_names front (e >>= λ next. (read_names bytes left next >>= λ later. Ok (record { names = name_in bytes at ∷ later.names; end = later.end })))) end
     ∙ behind front (name_in bytes at) (read_names bytes left next)
-
--- one head more
-pub heads_on : (bytes : List ℕ) (d : ℕ) (total : Result HeadsRead OpenRefusal) (front : List HeadData) (k left above at next : ℕ) (s : Segment) → total ≡ with_heads front (read_heads bytes d k above at) → k ≡ suc left
-    → head_end bytes d above at ≡ Ok next → row_head bytes s ≡ head_in bytes at
-    → total ≡ with_heads (front ++ row_head bytes s ∷ []) (read_heads bytes d left (row_head bytes s).impact next)
-heads_on bytes d total front k left above at next s is more end head =
-    let impact : u16_in bytes at ≡ (row_head bytes s).impact = sym (head_impact bytes at) ∙ ap (λ (h : HeadData). h.impact) (sym head) in
-    is ∙ ap (λ n. with_heads front (read_heads bytes d n above at)) more
-    ∙ ap (λ (e : Result ℕ OpenRefusal). with_heads front (e >>= λ next. (read_heads bytes d left (u16_in bytes at) next >>= λ later. Ok (record { heads = head_in bytes at ∷ later.heads; end = later.end })))) end
-    ∙ behind_heads front (head_in bytes at) (read_heads bytes d left (u16_in bytes at) next)
-    ∙ ap (λ h. with_heads (front ++ h ∷ []) (read_heads bytes d left (u16_in bytes at) next)) (sym head)
-    ∙ ap (λ n. with_heads (front ++ row_head bytes s ∷ []) (read_heads bytes d left n next)) impact
 
 -- rows behind those of before
 pub rows_on : (bytes : List ℕ) (before now new : List Segment) (s : Segment) → now ≡ before ++ drop (length before) now → new ≡ now ++ s ∷ []

@@ -1,26 +1,15 @@
 -- What an opened file's tables tell of its view.
-use Rattle.std.proofs.Common.{◌≡◌, ◌<◌, ◌≤◌, ◌+◌, ◌-◌, ℕ, zero, suc, List, [], ◌∷◌, ◌++◌, length, map, drop, Some, All, Ok, ap, sym, subst, ◌∙◌, refl, slice_get, slice_index, slice_index_or, arith}
-use Rattle.std.specs.Prelude.{slice_range}
-use Rattle.std.specs.List.{flat_map}
-use Rattle.std.specs.Str.{IsUtf8}
-use Rattle.std.proofs.lemmas.List.{length-map, get_or-map, get_or-drop, get_or-take, length-drop, length-take-le}
-use Rattle.std.proofs.lemmas.Option.{slice_get-get_or}
-use Rattle.std.proofs.lemmas.Str.{IsUtf8-from_is_utf8}
-use Rattle.jass_base.specs.Gaps.{AreDocs}
-use Rattle.jass_base.specs.Limits.{IsText}
-use Rattle.segment_codecs.specs.Codecs.{payload_of}
-use Rattle.index_model.specs.Index.{SegmentData, TermData, IsSegment, IsTerm}
-use Rattle.index_model.specs.Querying.{segments_at}
-use Rattle.index_layout.specs.Reading.{name_in, read_index}
-use Rattle.index_layout.specs.Totals.{greatest_in, index_greatest}
-use Rattle.index_layout.specs.View.{FileView, IsFileView, file_bytes}
+use Rattle.shared_lemmas.proofs.Common.{◌≡◌, ◌<◌, ◌≤◌, ◌+◌, ◌-◌, ℕ, zero, suc, List, [], ◌∷◌, ◌++◌, length, map, drop, Some, All, Ok, ap, sym, subst, ◌∙◌, refl, slice_get, slice_index, slice_index_or, arith, slice_range, length-map, get_or-map, get_or-drop, get_or-take, length-drop, length-take-le}
+use Rattle.shared_lemmas.proofs.Common.{slice_get-get_or, IsUtf8-from_is_utf8}
+use Rattle.std.specs.Prelude.{flat_map, IsUtf8}
+use Rattle.index_file.proofs.Below.{AreDocs, IsText, payload_of, SegmentData, TermData, IsSegment, IsTerm, segments_at, name_in, read_index, greatest_in, index_greatest, FileView, IsFileView, file_bytes, HeadData}
 use Rattle.index_file.specs.declared.segment.Segment.{Segment}
 use Rattle.index_file.specs.declared.term_row.TermRow.{TermRow}
-use Rattle.index_file.specs.Opened.{view_of, view_or_empty, Stands}
-use Rattle.index_file.specs.Payloads.{IsPayload, row_segment, row_terms, term_between}
+use Rattle.index_file.specs.Opened.{view_of, view_or_empty}
+use Rattle.index_file.specs.Private.Opened.{Stands}
+use Rattle.index_file.specs.Private.Payloads.{IsPayload, row_segment, row_terms, term_between}
 use Rattle.index_file.specs.Places.{term_at, segment_at}
-use Rattle.index_layout.specs.Heads.{HeadData}
-use Rattle.index_file.specs.Tables.{RowsFrom, AreRows, row_head, told}
+use Rattle.index_file.specs.Private.Tables.{RowsFrom, AreRows, row_head, told}
 use Rattle.index_file.specs.declared.segment_head.SegmentHead.{SegmentHead}
 use Rattle.index_file.proofs.TermRows.{row_below}
 
@@ -75,8 +64,7 @@ pub there : (bytes places text : List ℕ) (rows : List TermRow) (segments : Lis
 there bytes places text [] segments v s t inside = absurd (s.placed)
 there bytes places text (a ∷ rows) segments v s t inside =
     let d = length v.index.names in
-    let count = s.count in
-    let below : t < length rows = omega (arith, inside, count) in
+    let below : t < length rows = omega (arith, inside, s.count) in
     let is = ap (λ (terms : List TermData). term_of terms t) s.terms ∙ term_there bytes d text segments a rows t below ∙ ap (term_between bytes d text segments (row_of (a ∷ rows) t)) (next_row a rows t) in
     record {
       order = subst (λ y. InOrder text segments (row_of (a ∷ rows) t) y) (next_row a rows t) (in_order text segments a rows t s.placed.2 below);

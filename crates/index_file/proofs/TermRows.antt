@@ -1,24 +1,16 @@
 -- Rows of terms while the text and the segments grow.
-use Rattle.std.proofs.Common.{◌≡◌, ◌+◌, ◌-◌, ◌≤◌, ℕ, suc, map, take, drop, length, All, arith, List, [], ◌∷◌, ◌++◌, Option, Some, Result, Ok, ap, sym, subst, ◌∙◌, refl}
-use Rattle.std.specs.Prelude.{slice_range, max}
-use Rattle.std.proofs.lemmas.List.{append-nil, map-append, length-append, take_all, drop-append-le, take-append-le, length-drop}
-use Rattle.std.proofs.lemmas.List.Elements.{All-append}
-use Rattle.std.proofs.Math.Seq.{drop-append_seam}
-use Rattle.index_layout.specs.declared.refusal.OpenRefusal.{OpenRefusal}
-use Rattle.index_layout.specs.Heads.{HeadData, TermHeads, greatest_of}
-use Rattle.std.proofs.lemmas.List.Sums.{sum_by-cons, sum_by-append}
+use Rattle.shared_lemmas.proofs.Common.{◌≡◌, ◌+◌, ◌≤◌, ℕ, suc, map, length, All, arith, List, [], ◌∷◌, ◌++◌, Option, Some, Result, Ok, ap, sym, subst, ◌∙◌, refl, max, map-append, length-append, All-append, sum_by-cons, sum_by-append}
+use Rattle.std.proofs.lemmas.List.{append-nil}
+use Rattle.index_file.proofs.Below.{OpenRefusal, HeadData, TermHeads, greatest_of, ◌>>=◌, Fails, OpenFault, HeadsRead, TermsRead, term_end, term_in, heads_in, read_heads, read_terms, with_terms, behind_terms}
 use Rattle.index_file.specs.declared.sums.Sums.{Sums}
 use Rattle.index_file.specs.Private.Sums.{AreSums}
-use Rattle.index_layout.specs.Refusals.{◌>>=◌, Fails}
-use Rattle.index_layout.specs.declared.refusal.OpenFault.{OpenFault}
 use Rattle.index_layout.specs.declared.refusal.OpenFault.TheVariants as faults
-use Rattle.index_layout.specs.Reading.{HeadsRead, TermsRead, term_end, term_in, heads_in, read_heads, read_terms}
-use Rattle.index_layout.proofs.Behind.{with_terms, behind_terms}
 use Rattle.index_file.specs.declared.segment.Segment.{Segment}
 use Rattle.index_file.specs.declared.term_row.TermRow.{TermRow}
 use Rattle.index_file.specs.declared.span.Span.{Span}
-use Rattle.index_file.specs.Payloads.{IsCounted, row_heads}
-use Rattle.index_file.specs.Tables.{row_head, part_of, IsSpan, RowsFrom, AreRows}
+use Rattle.shared_lemmas.proofs.Places.{slice_stays, slice_new}
+use Rattle.index_file.specs.Private.Payloads.{IsCounted, row_heads}
+use Rattle.index_file.specs.Private.Tables.{row_head, part_of, IsSpan, RowsFrom, AreRows}
 
 -- one term more
 pub terms_on : (bytes : List ℕ) (d : ℕ) (total : Result TermsRead OpenRefusal) (front : List TermHeads) (k left : ℕ) (before : Option (List ℕ)) (at place : ℕ) (here : HeadsRead) → total ≡ with_terms front (read_terms bytes d k before at) → k ≡ suc left → term_end bytes before at ≡ Ok place
@@ -37,18 +29,6 @@ pub terms_end : (bytes : List ℕ) (d : ℕ) (total : Result TermsRead OpenRefus
 terms_end bytes d total front k before at is none =
     is ∙ ap (λ n. with_terms front (read_terms bytes d n before at)) none
     ∙ ap (λ (terms : List TermHeads). (let r : Result TermsRead OpenRefusal = Ok (record { terms = terms; end = at }) in r)) (append-nil front)
-
--- parts stay where more is appended
-slice_stays : {X : Type 0} (xs more : List X) (from to : ℕ) → from ≤ to → to ≤ length xs → slice_range (xs ++ more) from to ≡ slice_range xs from to
-slice_stays xs more from to order within =
-    ap (take (to - from)) (drop-append-le from xs more (omega (arith, order, within)))
-    ∙ take-append-le (to - from) (drop from xs) more (let l = length-drop from xs in omega (arith, l, order, within))
-
-slice_new : {X : Type 0} (xs more : List X) (from to : ℕ) → from ≡ length xs → to ≡ length (xs ++ more) → slice_range (xs ++ more) from to ≡ more
-slice_new xs more from to first last =
-    let l = length-append xs more in
-    let size : to - from ≡ length more = omega (arith, l, first, last) in
-    ap (λ n. take n (drop from (xs ++ more))) size ∙ ap (λ n. take (length more) (drop n (xs ++ more))) first ∙ ap (take (length more)) (drop-append_seam xs more) ∙ take_all (length more) more (omega arith)
 
 part_new : (text term : List ℕ) (span : Span) → span.from ≡ length text → span.to ≡ length (text ++ term) → part_of (text ++ term) span ≡ term
 unfolding part_of

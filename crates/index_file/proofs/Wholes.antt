@@ -1,20 +1,13 @@
 -- Tables as wholes: all heads, all codecs, and the totals.
-use Rattle.std.proofs.Common.{◌≡◌, ◌≤◌, ◌+◌, ◌-◌, ℕ, List, [], ◌∷◌, ◌++◌, length, map, take, drop, All, ap, sym, ◌∙◌, refl, arith}
-use Rattle.std.specs.Prelude.{slice_range, max}
-use Rattle.std.specs.List.{flat_map, sum_by}
-use Rattle.std.proofs.lemmas.List.{length-map, map-append, take-map, drop-map, take-append-drop, drop-drop, drop_all}
-use Rattle.std.proofs.lemmas.List.Elements.{All-head, All-tail, All-take, All-drop}
-use Rattle.std.proofs.lemmas.List.Sums.{sum_by-cons, sum_by-append}
-use Rattle.index_model.specs.Index.{SegmentData, TermData}
-use Rattle.index_layout.specs.Heads.{HeadData, TermHeads, all_heads, head_postings, greatest_of, greatest_impact}
-use Rattle.index_layout.specs.Reading.{head_codecs}
-use Rattle.index_layout.specs.Totals.{greatest_in}
-use Rattle.index_layout.specs.View.{term_postings}
+use Rattle.shared_lemmas.proofs.Common.{◌≡◌, ◌≤◌, ◌+◌, ◌-◌, ℕ, List, [], ◌∷◌, ◌++◌, length, map, take, drop, All, ap, sym, ◌∙◌, refl, arith, slice_range, max, flat_map, length-map, map-append, take-map, drop-map, take-append-drop, drop-drop, drop_all, All-head, All-tail, All-take, All-drop}
+use Rattle.shared_lemmas.proofs.Common.{sum_by-cons, sum_by-append}
+use Rattle.std.specs.List.{sum_by}
+use Rattle.index_file.proofs.Below.{SegmentData, TermData, HeadData, TermHeads, all_heads, head_postings, greatest_of, greatest_impact, head_codecs, greatest_in, term_postings}
 use Rattle.index_file.specs.declared.segment.Segment.{Segment}
 use Rattle.index_file.specs.declared.term_row.TermRow.{TermRow}
 use Rattle.index_file.specs.Places.{all_codecs}
-use Rattle.index_file.specs.Payloads.{IsPayload, row_segment, row_heads, row_terms}
-use Rattle.index_file.specs.Tables.{RowsFrom, AreRows, row_head}
+use Rattle.index_file.specs.Private.Payloads.{IsPayload, row_segment, row_heads, row_terms}
+use Rattle.index_file.specs.Private.Tables.{RowsFrom, AreRows, row_head}
 
 -- parts of a list that follow one another
 parts_join : {X : Type 0} (xs : List X) (from to : ℕ) → from ≤ to → slice_range xs from to ++ drop to xs ≡ drop from xs

@@ -1,6 +1,3 @@
-pub mod Tables
-pub mod Payloads
-pub mod Samples
 pub mod Opened
 pub mod Places
 pub mod Giving

@@ -1,16 +1,8 @@
--- An opened file: its bytes, and what its tables tell of them.
-use Rattle.std.specs.Prelude.{ℕ, ◌≡◌, ◌+◌, ◌≤◌, List, [], length, map, All, Result, Ok, Err}
-use Rattle.index_layout.specs.Bytes.{u32_in, u64_in}
+-- An opened file, seen by its bytes alone.
+use Rattle.std.specs.Prelude.{ℕ, List, [], Result, Ok, Err}
 use Rattle.index_layout.specs.declared.refusal.OpenRefusal.{OpenRefusal}
-use Rattle.index_layout.specs.Reading.{name_in, read_index}
-use Rattle.index_layout.specs.Totals.{index_greatest}
-use Rattle.index_layout.specs.View.{FileView, IsFileView, file_bytes, index_postings}
-use Rattle.index_file.specs.declared.segment.Segment.{Segment}
-use Rattle.index_file.specs.declared.term_row.TermRow.{TermRow}
-use Rattle.index_file.specs.Payloads.{IsPayload, row_terms}
-use Rattle.index_file.specs.Places.{all_codecs}
-use Rattle.index_file.specs.Samples.{AreSamples}
-use Rattle.index_file.specs.Tables.{IsNamePlace, AreRows, row_head}
+use Rattle.index_layout.specs.Reading.{read_index}
+use Rattle.index_layout.specs.View.{FileView}
 
 abbrev pub view_or_empty : Result FileView OpenRefusal → FileView
 view_or_empty (Ok v) = v
@@ -19,25 +11,3 @@ view_or_empty (Err refusal) = record { index = record { names = []; terms = [] }
 -- the view of the bytes
 unfoldable pub view_of : List ℕ → FileView
 view_of bytes = view_or_empty (read_index bytes)
-
--- the tables tell where the parts of the view stand in the bytes
-pub record Stands (bytes places text : List ℕ) (rows : List TermRow)
-    (segments : List Segment) (v : FileView) : Type 0 where
-  pub spelled : bytes ≡ file_bytes v
-  pub view : IsFileView v
-  pub names : v.index.names ≡ map (name_in bytes) places
-  pub within : All (IsNamePlace bytes) places
-  pub terms : v.index.terms ≡ row_terms bytes (length v.index.names) text segments rows
-  pub count : length rows ≡ length v.index.terms + 1
-  pub placed : AreRows text segments rows
-  pub codecs : all_codecs v.codecs ≡ map (λ (s : Segment). (row_head bytes s).codec) segments
-  pub payloads : All (IsPayload bytes (length v.index.names)) segments
-  pub front : 40 ≤ length bytes
-  pub postings : u64_in bytes 24 ≡ index_postings v.index
-  pub greatest : u32_in bytes 32 ≡ index_greatest v.index
-
--- the tables, and the sampled terms
-pub record IsOpened (bytes places text : List ℕ) (rows : List TermRow)
-    (segments : List Segment) (samples : List ℕ) (v : FileView) : Type 0 where
-  pub stands : Stands bytes places text rows segments v
-  pub sampled : AreSamples text rows samples

@@ -1,4 +1,4 @@
-ghost use Rattle.std.specs.Prelude.{◌≡◌, ◌≤◌, List, length};
+ghost use Rattle.std.specs.Prelude.{◌≤◌, List, length};
 ghost use Rattle.index_layout.specs.Heads.{TermHeads, all_heads};
 ghost use Rattle.index_layout.specs.Reading.{end_checks};
 ghost use Rattle.index_layout.specs.Refusals.{Answers, judged};

@@ -6,7 +6,6 @@ ghost use Rattle.jass_base.specs.Gaps.{AreDocs};
 ghost use Rattle.lane_kernels.specs.Bitmap.{set_bits};
 ghost use Rattle.plain_codecs.specs.Bitmap.{bitmap_size};
 ghost use Rattle.segment_codecs.specs.Codecs.{payload_of};
-ghost use Rattle.index_model.specs.Index.{TermData};
 ghost use Rattle.index_model.specs.Querying.{segments_at};
 ghost use Rattle.index_layout.specs.Reading.{read_index};
 ghost use Rattle.index_layout.specs.Refusals.{Answers};
@@ -14,8 +13,8 @@ ghost use Rattle.index_layout.specs.Totals.{totals_of};
 ghost use Rattle.index_layout.specs.View.{FileView, IsFileView, file_bytes};
 ghost use Rattle.index_file.specs.Giving.{Gives};
 ghost use Rattle.index_file.specs.Places.{codec_at, codec_use, segment_at, term_at, uses_of};
-ghost use Rattle.index_file.specs.Samples.{first_eight};
-ghost use Rattle.index_file.specs.Tables.{HasHead, row_head};
+ghost use Rattle.index_file.specs.Private.Samples.{first_eight};
+ghost use Rattle.index_file.specs.Private.Tables.{HasHead, row_head};
 
 use crate::cursor::Cursor;
 use crate::figures::{CodecUse, Head};
@@ -48,7 +47,8 @@ pub struct IndexFile {
 }
 
 impl Model for IndexFile {
-    ghost use Rattle.index_file.specs.Opened.{IsOpened, view_of};
+    ghost use Rattle.index_file.specs.Opened.{view_of};
+    ghost use Rattle.index_file.specs.Private.Opened.{IsOpened};
     ghost use Rattle.index_layout.specs.View.{FileView};
 
     ghost Value = { FileView };
@@ -64,10 +64,7 @@ impl IndexFile {
         ensures exact { Answers (λ file. file) result (read_index bytes) }
         ensures accepted { IfOk result (λ file. (bytes ≡ file_bytes file) × IsFileView file) }
     {
-        let (places, text, rows, segments) = match read_tables(alloc, bytes.as_slice()) {
-            Ok(tables) => tables,
-            Err(fault) => return Err(fault),
-        };
+        let (places, text, rows, segments) = read_tables(alloc, bytes.as_slice())?;
         let samples = match sample_terms(alloc, text.as_slice(), rows.as_slice()) {
             Ok(samples) => samples,
             Err(_) => return Err(OpenFault::NoMemory),

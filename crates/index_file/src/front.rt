@@ -1,7 +1,7 @@
-ghost use Rattle.std.specs.Prelude.{◌≡◌, ◌≤◌, ◌^◌, length, IfOk};
+ghost use Rattle.std.specs.Prelude.{◌≤◌, length, IfOk};
 ghost use Rattle.index_layout.specs.Reading.{read_front};
 ghost use Rattle.index_layout.specs.Refusals.{Answers};
-ghost use Rattle.jass_base.specs.declared.limits.TheConstants.{MOST_DOCUMENTS, MOST_TERMS};
+ghost use Rattle.jass_base.specs.declared.limits.TheConstants.{LONGEST_FILE, MOST_DOCUMENTS, MOST_TERMS};
 
 use crate::number::{u32_at, u64_at};
 use index_layout::{OpenFault, OpenWhy, refused};
@@ -11,7 +11,7 @@ use jass_base::limits::{MOST_DOCUMENTS, MOST_POSTINGS, MOST_TERMS};
 #[tactic(auto, unfolding(index_layout::specs::Reading::read_front, index_layout::specs::Reading::front_checks))]
 pub(crate) fn read_front(bytes: &[u8]) -> Result<(u32, u32), OpenFault>
     ensures exact { Answers (λ x. record { docs = x.0; terms = x.1 }) result (read_front bytes.now) }
-    ensures long { IfOk result (λ _. (40 ≤ length bytes.now) × (length bytes.now ≤ 2 ^ 32)) }
+    ensures long { IfOk result (λ _. (40 ≤ length bytes.now) × (length bytes.now ≤ LONGEST_FILE)) }
     ensures few { IfOk result (λ x. (x.0 ≤ MOST_DOCUMENTS) × (x.1 ≤ MOST_TERMS)) }
 {
     if bytes.len() > 0x1_0000_0000 {

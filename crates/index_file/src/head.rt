@@ -1,7 +1,8 @@
-ghost use Rattle.std.specs.Prelude.{◌≡◌, ◌≤◌, ◌+◌, ◌^◌, length, IfOk};
+ghost use Rattle.std.specs.Prelude.{◌≡◌, ◌≤◌, ◌+◌, length, IfOk};
 ghost use Rattle.index_layout.specs.Reading.{head_end, head_in};
 ghost use Rattle.index_layout.specs.Refusals.{Answers};
-ghost use Rattle.index_file.specs.Payloads.{IsCounted};
+ghost use Rattle.jass_base.specs.declared.limits.TheConstants.{LONGEST_FILE};
+ghost use Rattle.index_file.specs.Private.Payloads.{IsCounted};
 
 use crate::number::{u16_at, u32_at};
 use index_layout::{OpenFault, OpenWhy, refused};
@@ -16,7 +17,7 @@ pub(crate) fn read_head(
     at: usize,
 ) -> Result<(u16, u32), OpenFault>
     requires at { at ≤ length bytes.now }
-    requires few { length bytes.now ≤ 2 ^ 32 }
+    requires few { length bytes.now ≤ LONGEST_FILE }
     ensures exact { Answers (λ _. at + 11) result (head_end bytes.now docs above at) }
     ensures impact { IfOk result (λ read. read.0 ≡ (head_in bytes.now at).impact) }
     ensures count { IfOk result (λ read. read.1 ≡ (head_in bytes.now at).count) }

@@ -1,17 +1,18 @@
-ghost use Rattle.std.specs.Prelude.{◌≡◌, ◌<◌, ◌≤◌, ◌*◌, ◌^◌, ◌++◌, List, length, map, drop, All, IfOk, OnOk};
+ghost use Rattle.std.specs.Prelude.{◌≡◌, ◌<◌, ◌≤◌, ◌+◌, ◌*◌, ◌^◌, ◌++◌, List, length, map, drop, All, IfOk, OnOk};
 ghost use Rattle.index_layout.specs.Reading.{read_heads};
 ghost use Rattle.index_layout.specs.Refusals.{Answers};
 ghost use Rattle.index_layout.specs.Heads.{HeadData};
-ghost use Rattle.index_file.specs.Payloads.{IsCounted};
+ghost use Rattle.index_file.specs.Private.Payloads.{IsCounted};
 ghost use Rattle.index_file.specs.Private.Sums.{AreSums};
-ghost use Rattle.index_file.specs.Tables.{HasHead, row_head};
-ghost use Rattle.jass_base.specs.declared.limits.TheConstants.{MOST_DOCUMENTS};
+ghost use Rattle.jass_base.specs.declared.limits.TheConstants.{GREATEST_IMPACT, LONGEST_FILE, MOST_DOCUMENTS};
+ghost use Rattle.index_file.specs.Private.Tables.{HasHead, row_head};
 
 use crate::head::read_head;
 use crate::segment::Segment;
 use crate::sums::Sums;
 use index_layout::OpenFault;
 use jass_base::Row;
+use jass_base::limits::GREATEST_IMPACT;
 
 /// Appends the heads of a term, so many from a place on, adds them to the sums, and gives the place
 /// behind them.
@@ -25,13 +26,13 @@ pub(crate) fn read_heads(
     from: usize,
 ) -> Result<usize, OpenFault>
     requires from { from ≤ length bytes.now }
-    requires few { length bytes.now ≤ 2 ^ 32 }
+    requires few { length bytes.now ≤ LONGEST_FILE }
     requires docs { docs ≤ MOST_DOCUMENTS }
     requires segments { length segments.old < 2 ^ 32 }
     requires small { sums.old.postings ≤ MOST_DOCUMENTS * length segments.old }
     ensures exact { Answers
         (λ end. record { heads = map (row_head bytes.now) (drop (length segments.old) segments.new); end = end }) result
-        (read_heads bytes.now docs count 65536 from) }
+        (read_heads bytes.now docs count (GREATEST_IMPACT + 1) from) }
     ensures kept { OnOk result (segments.new ≡ segments.old ++ drop (length segments.old) segments.new) }
     ensures counted { IfOk result (λ _. All (IsCounted docs)
         (map (row_head bytes.now) (drop (length segments.old) segments.new))) }
@@ -42,14 +43,11 @@ pub(crate) fn read_heads(
     ensures end { IfOk result (λ end. end ≤ length bytes.now) }
 {
     let mut at = from;
-    let mut above = 65_536;
+    let mut above = GREATEST_IMPACT + 1;
     // behind the reference each head would wait for the sums of the one before
     let mut total = *sums;
     'heads: for _ in 0..count {
-        let (impact, postings) = match read_head(bytes, docs, above, at) {
-            Ok(read) => read,
-            Err(fault) => return Err(fault),
-        };
+        let (impact, postings) = read_head(bytes, docs, above, at)?;
         match segments.push(Segment {
             head: at as u32,
             place: 0,

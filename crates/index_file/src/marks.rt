@@ -1,8 +1,8 @@
 ghost use Rattle.std.specs.Prelude.{◌≡◌, ◌≤◌, ◌<◌, All, false, length};
 ghost use Rattle.index_layout.specs.Reading.{docs_in};
 ghost use Rattle.index_file.specs.Private.Marks.{marked, meets_marked};
-ghost use Rattle.index_file.specs.Payloads.{IsPayloadAt};
-ghost use Rattle.index_file.specs.Tables.{told};
+ghost use Rattle.index_file.specs.Private.Payloads.{IsPayloadAt};
+ghost use Rattle.index_file.specs.Private.Tables.{told};
 
 use crate::segment_head::SegmentHead;
 use segment_codecs::SegmentCursor;

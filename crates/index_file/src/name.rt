@@ -1,19 +1,21 @@
 ghost use Rattle.std.specs.List.{list_all};
 ghost use Rattle.std.specs.Str.{is_utf8};
-ghost use Rattle.std.specs.Prelude.{nat_lt, not, ◌&&◌, ◌==◌, ◌≡◌, ◌≤◌, ◌<◌, ◌+◌, ◌^◌, length, IfOk};
-ghost use Rattle.index_file.specs.Tables.{IsNamePlace};
+ghost use Rattle.std.specs.Prelude.{nat_lt, not, ◌&&◌, ◌==◌, ◌≡◌, ◌≤◌, ◌<◌, ◌+◌, length, IfOk};
+ghost use Rattle.index_file.specs.Private.Tables.{IsNamePlace};
 ghost use Rattle.index_layout.specs.Reading.{is_name_text, name_end};
 ghost use Rattle.index_layout.specs.Refusals.{Answers};
+ghost use Rattle.jass_base.specs.declared.limits.TheConstants.{LONGEST_FILE};
 
 use crate::number::u32_at;
 use crate::plain::is_plain;
 use index_layout::{OpenFault, OpenWhy, refused};
+use jass_base::limits::LONGEST_NAME;
 
 /// The place behind the name whose length stands at a place.
 #[tactic(auto, unfolding(index_layout::specs::Reading::name_end, index_layout::specs::Reading::name_checks, index_layout::specs::Reading::name_in))]
 pub(crate) fn name_end(bytes: &[u8], at: usize) -> Result<usize, OpenFault>
     requires at { at ≤ length bytes.now }
-    requires few { length bytes.now ≤ 2 ^ 32 }
+    requires few { length bytes.now ≤ LONGEST_FILE }
     ensures exact { Answers (λ next. next) result (name_end bytes.now at) }
     ensures within { IfOk result (λ next. (next ≤ length bytes.now) × IsNamePlace bytes.now at) }
 {
@@ -21,7 +23,7 @@ pub(crate) fn name_end(bytes: &[u8], at: usize) -> Result<usize, OpenFault>
         return Err(refused(at, OpenWhy::Length));
     }
     let size = u32_at(bytes, at) as usize;
-    if size == 0 || size > 1_048_576 {
+    if size == 0 || size > LONGEST_NAME {
         return Err(refused(at, OpenWhy::Names));
     }
     if bytes.len() - at - 4 < size {

@@ -1,7 +1,8 @@
-ghost use Rattle.std.specs.Prelude.{◌≡◌, ◌≤◌, ◌^◌, length, map, All, IfOk};
+ghost use Rattle.std.specs.Prelude.{◌≡◌, ◌≤◌, length, map, All, IfOk};
 ghost use Rattle.index_layout.specs.Reading.{name_in, read_names};
 ghost use Rattle.index_layout.specs.Refusals.{Answers};
-ghost use Rattle.index_file.specs.Tables.{IsNamePlace};
+ghost use Rattle.jass_base.specs.declared.limits.TheConstants.{LONGEST_FILE};
+ghost use Rattle.index_file.specs.Private.Tables.{IsNamePlace};
 
 use crate::name::name_end;
 use index_layout::OpenFault;
@@ -16,7 +17,7 @@ pub(crate) fn read_names(
     docs: u32,
 ) -> Result<(Row<u32>, usize), OpenFault>
     requires front { 40 ≤ length bytes.now }
-    requires few { length bytes.now ≤ 2 ^ 32 }
+    requires few { length bytes.now ≤ LONGEST_FILE }
     ensures exact { Answers (λ x. record { names = map (name_in bytes.now) x.0; end = x.1 }) result
         (read_names bytes.now docs 40) }
     ensures within { IfOk result (λ x. All (IsNamePlace bytes.now) x.0) }
@@ -26,10 +27,7 @@ pub(crate) fn read_names(
     let mut places = Row::new(alloc);
     let mut at = 40;
     'names: for _ in 0..docs {
-        let next = match name_end(bytes, at) {
-            Ok(next) => next,
-            Err(fault) => return Err(fault),
-        };
+        let next = name_end(bytes, at)?;
         match places.push(at as u32) {
             Ok(()) => {}
             Err(_) => return Err(OpenFault::NoMemory),

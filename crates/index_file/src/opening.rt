@@ -5,13 +5,14 @@ ghost use Rattle.index_file.specs.Opening.{Opens};
 
 use crate::file::IndexFile;
 use index_layout::OpenFault;
+use jass_base::limits::LONGEST_FILE;
 use jass_base::{Cabinet, ReadStop};
 use std::alloc::Global;
 use whole_files::read_front;
 
 /// How many bytes of a file are read at the most: one more than an index file may have, since a
 /// longer file is refused whatever else stands in it.
-const MOST_BYTES: usize = 4_294_967_297;
+const MOST_BYTES: usize = LONGEST_FILE as usize + 1;
 
 /// Opens the index file with a name, or tells the first refusal.
 pub fn open<C: Cabinet>(alloc: Global, files: &mut C, name: &str) -> Result<IndexFile, OpenFault>

@@ -2,9 +2,9 @@ ghost use Rattle.std.specs.Prelude.{ℕ, ◌≡◌, ◌≤◌, ◌<◌, ◌+◌,
 ghost use Rattle.index_layout.specs.Reading.{docs_in, payload_end};
 ghost use Rattle.index_layout.specs.Refusals.{Answers};
 ghost use Rattle.index_file.specs.Private.Marks.{AreMarks};
-ghost use Rattle.index_file.specs.Payloads.{IsPayloadAt, placed};
-ghost use Rattle.index_file.specs.Tables.{told};
-ghost use Rattle.jass_base.specs.declared.limits.TheConstants.{MOST_DOCUMENTS};
+ghost use Rattle.jass_base.specs.declared.limits.TheConstants.{LONGEST_FILE, MOST_DOCUMENTS};
+ghost use Rattle.index_file.specs.Private.Payloads.{IsPayloadAt, placed};
+ghost use Rattle.index_file.specs.Private.Tables.{told};
 
 use crate::marks::{mark_docs, mark_payload};
 use crate::segment::Segment;
@@ -24,7 +24,7 @@ pub(crate) fn check_payload(
     at: usize,
 ) -> Result<(), OpenFault>
     requires at { at ≤ length bytes.now }
-    requires few { length bytes.now ≤ 2 ^ 32 }
+    requires few { length bytes.now ≤ LONGEST_FILE }
     requires docs { docs ≤ MOST_DOCUMENTS }
     requires counted { (1 ≤ head.count) × (head.count ≤ docs) }
     ensures exact { Answers (λ _. at + head.size) result (payload_end bytes.now docs [] (told head) at) }
@@ -53,7 +53,7 @@ fn check_into_block(
     block: &mut [u32; 4096],
 ) -> Result<(), OpenFault>
     requires at { at ≤ length bytes.now }
-    requires few { length bytes.now ≤ 2 ^ 32 }
+    requires few { length bytes.now ≤ LONGEST_FILE }
     requires docs { docs ≤ MOST_DOCUMENTS }
     requires counted { (1 ≤ head.count) × (head.count ≤ docs) }
     requires room { head.count ≤ 4096 }
@@ -86,7 +86,7 @@ pub(crate) fn check_apart(
     block: &mut [u32; 4096],
 ) -> Result<(), OpenFault>
     requires at { at ≤ length bytes.now }
-    requires few { length bytes.now ≤ 2 ^ 32 }
+    requires few { length bytes.now ≤ LONGEST_FILE }
     requires docs { docs ≤ MOST_DOCUMENTS }
     requires counted { (1 ≤ head.count) × (head.count ≤ docs) }
     requires marks { docs ≤ length marks.old }
@@ -118,7 +118,7 @@ fn check_few(
     block: &mut [u32; 4096],
 ) -> Result<(), OpenFault>
     requires at { at ≤ length bytes.now }
-    requires few { length bytes.now ≤ 2 ^ 32 }
+    requires few { length bytes.now ≤ LONGEST_FILE }
     requires docs { docs ≤ MOST_DOCUMENTS }
     requires counted { (1 ≤ head.count) × (head.count ≤ docs) }
     requires marks { docs ≤ length marks.old }
@@ -131,10 +131,7 @@ fn check_few(
     ensures place { IfOk result (λ _. at < 2 ^ 32) }
     ensures payload { IfOk result (λ _. IsPayloadAt bytes.now docs (told head) at) }
 {
-    match check_into_block(bytes, docs, head, at, block) {
-        Ok(()) => {}
-        Err(fault) => return Err(fault),
-    }
+    check_into_block(bytes, docs, head, at, block)?;
     if mark_docs(marks, now, &block[..head.count as usize]) {
         return Err(refused(at, OpenWhy::DocTwice));
     }
@@ -151,7 +148,7 @@ fn check_many(
     now: u16,
 ) -> Result<(), OpenFault>
     requires at { at ≤ length bytes.now }
-    requires few { length bytes.now ≤ 2 ^ 32 }
+    requires few { length bytes.now ≤ LONGEST_FILE }
     requires docs { docs ≤ MOST_DOCUMENTS }
     requires counted { (1 ≤ head.count) × (head.count ≤ docs) }
     requires marks { docs ≤ length marks.old }
@@ -163,10 +160,7 @@ fn check_many(
     ensures place { IfOk result (λ _. at < 2 ^ 32) }
     ensures payload { IfOk result (λ _. IsPayloadAt bytes.now docs (told head) at) }
 {
-    match check_payload(bytes, docs, head, at) {
-        Ok(()) => {}
-        Err(fault) => return Err(fault),
-    }
+    check_payload(bytes, docs, head, at)?;
     if mark_payload(marks, now, bytes, docs, head, at) {
         return Err(refused(at, OpenWhy::DocTwice));
     }

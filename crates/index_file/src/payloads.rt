@@ -1,9 +1,9 @@
 ghost use Rattle.std.specs.Prelude.{ℕ, ◌≡◌, ◌<◌, ◌≤◌, ◌^◌, [], List, length, map, slice_range, take, All, IfOk};
 ghost use Rattle.index_layout.specs.Reading.{read_payloads, read_segments};
 ghost use Rattle.index_layout.specs.Refusals.{Answers};
-ghost use Rattle.index_file.specs.Payloads.{IsCounted, IsPayload, row_heads, row_segment, row_terms};
-ghost use Rattle.index_file.specs.Tables.{AreRows, HasHead, row_head};
-ghost use Rattle.jass_base.specs.declared.limits.TheConstants.{MOST_DOCUMENTS};
+ghost use Rattle.jass_base.specs.declared.limits.TheConstants.{LONGEST_FILE, MOST_DOCUMENTS};
+ghost use Rattle.index_file.specs.Private.Payloads.{IsCounted, IsPayload, row_heads, row_segment, row_terms};
+ghost use Rattle.index_file.specs.Private.Tables.{AreRows, HasHead, row_head};
 
 use crate::marks::next_mark;
 use crate::segment::Segment;
@@ -24,7 +24,7 @@ pub(crate) fn read_payloads(
     from: usize,
 ) -> Result<usize, OpenFault>
     requires from { from ≤ length bytes.now }
-    requires few { length bytes.now ≤ 2 ^ 32 }
+    requires few { length bytes.now ≤ LONGEST_FILE }
     requires docs { docs ≤ MOST_DOCUMENTS }
     requires rows { (text : List ℕ) × AreRows text segments.old rows.now }
     requires terms { length rows.now ≤ 2 ^ 32 }
@@ -50,12 +50,9 @@ pub(crate) fn read_payloads(
         let first = rows[i].segment;
         let last = rows[i + 1].segment;
         now = next_mark(marks, now);
-        at = match read_between(
+        at = read_between(
             bytes, docs, segments, first, last, marks, now, at, &mut block,
-        ) {
-            Ok(end) => end,
-            Err(fault) => return Err(fault),
-        };
+        )?;
     }
     Ok(at)
 }
@@ -72,7 +69,7 @@ fn read_between(
     from: usize,
     block: &mut [u32; 4096],
 ) -> Result<usize, OpenFault>
-    requires few { length bytes.now ≤ 2 ^ 32 }
+    requires few { length bytes.now ≤ LONGEST_FILE }
     requires docs { docs ≤ MOST_DOCUMENTS }
     requires from { from ≤ length bytes.now }
     requires order { (first ≤ last) × (last ≤ length segments.old) }

@@ -1,6 +1,6 @@
-ghost use Rattle.std.specs.Prelude.{ℕ, ◌≡◌, ◌<◌, List, slice_index, All, IfOk};
-ghost use Rattle.index_file.specs.Samples.{AreSamples, first_eight};
-ghost use Rattle.index_file.specs.Tables.{AreRows};
+ghost use Rattle.std.specs.Prelude.{◌≡◌, ◌<◌, List, slice_index, All, IfOk};
+ghost use Rattle.index_file.specs.Private.Samples.{AreSamples, first_eight};
+ghost use Rattle.index_file.specs.Private.Tables.{AreRows};
 ghost use Rattle.index_file.specs.declared.segment.Segment.{Segment};
 
 use crate::span::{Span, part};
@@ -45,10 +45,7 @@ pub(crate) fn sample_terms(
             from: rows[64 * i].text,
             to: rows[64 * i + 1].text,
         };
-        match samples.push(first_eight(part(text, span))) {
-            Ok(()) => {}
-            Err(_) => return Err(NoMemory),
-        }
+        samples.push(first_eight(part(text, span)))?;
     }
     Ok(samples)
 }

@@ -1,6 +1,4 @@
-ghost use Rattle.std.specs.Prelude.{ℕ, ◌≡◌, ◌≤◌, ◌<◌, List, map, length, position, bytes_eq, AllPairs};
-ghost use Rattle.index_model.specs.Index.{TermData};
-ghost use Rattle.jass_base.specs.Terms.{BytesRise};
+ghost use Rattle.std.specs.Prelude.{◌≤◌, ◌<◌};
 ghost use Rattle.index_file.specs.Places.{texts_of};
 
 use crate::file::IndexFile;

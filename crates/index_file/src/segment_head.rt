@@ -1,7 +1,7 @@
 ghost use Rattle.std.specs.Prelude.{◌≡◌, ◌<◌, length, slice_index};
 ghost use Rattle.std.specs.Option.{unwrap_or};
 ghost use Rattle.segment_codecs.specs.Codecs.{codec_of};
-ghost use Rattle.index_file.specs.Tables.{HasHead, row_head, told};
+ghost use Rattle.index_file.specs.Private.Tables.{HasHead, row_head, told};
 
 use crate::number::{u16_at, u32_at};
 use crate::segment::Segment;

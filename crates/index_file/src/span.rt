@@ -1,5 +1,5 @@
 ghost use Rattle.std.specs.Prelude.{◌≡◌};
-ghost use Rattle.index_file.specs.Tables.{IsSpan, part_of};
+ghost use Rattle.index_file.specs.Private.Tables.{IsSpan, part_of};
 
 /// Where a term stands in the text of all terms.
 #[derive(Clone, Copy)]
@@ -9,7 +9,7 @@ pub(crate) struct Span {
 }
 
 /// A part of a text.
-#[tactic(auto, unfolding(crate::specs::Tables::part_of))]
+#[tactic(auto, unfolding(crate::specs::Private::Tables::part_of))]
 #[inline(always)]
 pub(crate) fn part(text: &[u8], span: Span) -> &[u8]
     requires { IsSpan text.now span }

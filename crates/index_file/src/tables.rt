@@ -1,10 +1,11 @@
 ghost use Rattle.std.specs.Prelude.{ℕ, ◌≡◌, ◌≤◌, ◌^◌, List, length, map, All, IfOk};
-ghost use Rattle.index_file.specs.Opened.{Stands, view_of};
-ghost use Rattle.index_file.specs.Payloads.{IsCounted, IsPayload, row_heads, row_terms};
-ghost use Rattle.index_file.specs.Tables.{AreRows, HasHead, row_head};
+ghost use Rattle.index_file.specs.Opened.{view_of};
+ghost use Rattle.index_file.specs.Private.Opened.{Stands};
+ghost use Rattle.index_file.specs.Private.Payloads.{IsCounted, IsPayload, row_heads, row_terms};
+ghost use Rattle.index_file.specs.Private.Tables.{AreRows, HasHead, row_head};
 ghost use Rattle.index_layout.specs.Reading.{read_index, read_payloads};
 ghost use Rattle.index_layout.specs.Refusals.{Answers};
-ghost use Rattle.jass_base.specs.declared.limits.TheConstants.{MOST_DOCUMENTS};
+ghost use Rattle.jass_base.specs.declared.limits.TheConstants.{LONGEST_FILE, MOST_DOCUMENTS};
 
 use crate::ends::check_ends;
 use crate::front::read_front;
@@ -28,28 +29,16 @@ pub(crate) fn read_tables(
     ensures stands { IfOk result (λ x. Stands bytes.now x.0 x.1 x.2 x.3 (view_of bytes.now)) }
 {
     files_are_read();
-    let (docs, count) = match read_front(bytes) {
-        Ok(front) => front,
-        Err(fault) => return Err(fault),
-    };
-    let (places, behind_names) = match read_names(alloc, bytes, docs) {
-        Ok(read) => read,
-        Err(fault) => return Err(fault),
-    };
-    let (text, rows, heads, sums, behind_terms) = match read_terms(
+    let (docs, count) = read_front(bytes)?;
+    let (places, behind_names) = read_names(alloc, bytes, docs)?;
+    let (text, rows, heads, sums, behind_terms) = read_terms(
         alloc,
         bytes,
         docs,
         count,
         behind_names,
-    ) {
-        Ok(read) => read,
-        Err(fault) => return Err(fault),
-    };
-    let (segments, end) = match place_segments(alloc, bytes, docs, &rows, heads, behind_terms) {
-        Ok(read) => read,
-        Err(fault) => return Err(fault),
-    };
+    )?;
+    let (segments, end) = place_segments(alloc, bytes, docs, &rows, heads, behind_terms)?;
     match check_ends(bytes, sums, end) {
         Ok(()) => Ok((places, text, rows, segments)),
         Err(fault) => Err(fault),
@@ -66,7 +55,7 @@ fn place_segments(
     from: usize,
 ) -> Result<(Row<Segment>, usize), OpenFault>
     requires from { from ≤ length bytes.now }
-    requires few { length bytes.now ≤ 2 ^ 32 }
+    requires few { length bytes.now ≤ LONGEST_FILE }
     requires docs { docs ≤ MOST_DOCUMENTS }
     requires rows { (text : List ℕ) × AreRows text heads rows.now }
     requires terms { length rows.now ≤ 2 ^ 32 }

@@ -1,9 +1,10 @@
 ghost use Rattle.std.specs.Str.{is_utf8};
-ghost use Rattle.std.specs.Prelude.{nat_le, ◌≡◌, ◌≤◌, ◌+◌, ◌^◌, ◌++◌, ◌==◌, ◌&&◌, length, take, drop, IfOk, OnOk, IfSome};
+ghost use Rattle.std.specs.Prelude.{nat_le, ◌≡◌, ◌≤◌, ◌+◌, ◌++◌, ◌==◌, ◌&&◌, length, take, drop, IfOk, OnOk, IfSome};
 ghost use Rattle.index_layout.specs.Layout.{shared_with};
 ghost use Rattle.index_layout.specs.Reading.{before_bytes, rises_behind, term_end, term_in, heads_in};
 ghost use Rattle.index_layout.specs.Refusals.{Answers};
-ghost use Rattle.index_file.specs.Tables.{IsSpan, before_in, part_of};
+ghost use Rattle.jass_base.specs.declared.limits.TheConstants.{LONGEST_FILE, LONGEST_TERM};
+ghost use Rattle.index_file.specs.Private.Tables.{IsSpan, before_in, part_of};
 
 use crate::following::follows;
 use crate::name::is_text;
@@ -11,6 +12,7 @@ use crate::number::{u16_at, u32_at};
 use crate::plain::is_plain;
 use crate::span::Span;
 use index_layout::{OpenFault, OpenWhy, refused};
+use jass_base::limits::LONGEST_TERM;
 use jass_base::{NoMemory, Row};
 
 /// Appends so many bytes of the text itself.
@@ -20,16 +22,13 @@ fn repeat(text: &mut Row<u8>, from: usize, count: usize) -> Result<(), NoMemory>
 {
     'bytes: for i in 0..count {
         let byte = text.as_slice()[from + i];
-        match text.push(byte) {
-            Ok(()) => {}
-            Err(_) => return Err(NoMemory),
-        }
+        text.push(byte)?;
     }
     Ok(())
 }
 
 /// Whether a term with these bytes of the one before and this rest is above it, and shares no more.
-#[tactic(auto, unfolding(crate::specs::Tables::part_of))]
+#[tactic(auto, unfolding(crate::specs::Private::Tables::part_of))]
 fn may_follow(text: &[u8], before: Option<Span>, shared: usize, rest: &[u8]) -> bool
     requires { IfSome before (IsSpan text.now) }
     ensures { result ≡ (shared_with (before_bytes (before_in text.now before))
@@ -44,7 +43,7 @@ fn may_follow(text: &[u8], before: Option<Span>, shared: usize, rest: &[u8]) -> 
 }
 
 /// Appends a term, whose first bytes are those of the one before.
-#[tactic(auto, unfolding(crate::specs::Tables::part_of))]
+#[tactic(auto, unfolding(crate::specs::Private::Tables::part_of))]
 fn append_term(
     text: &mut Row<u8>,
     before: Option<Span>,
@@ -57,10 +56,7 @@ fn append_term(
         text.old ++ (take shared (before_bytes (before_in text.old before)) ++ rest.now)) }
 {
     if let Some(span) = before {
-        match repeat(text, span.from as usize, shared) {
-            Ok(()) => {}
-            Err(_) => return Err(NoMemory),
-        }
+        repeat(text, span.from as usize, shared)?;
     }
     match text.extend(rest) {
         Ok(()) => Ok(()),
@@ -70,9 +66,9 @@ fn append_term(
 
 /// Whether bytes are the text of a term.
 fn is_term_text(bytes: &[u8]) -> bool
-    ensures { result ≡ (nat_le (length bytes.now) 65535 && is_utf8 bytes.now) }
+    ensures { result ≡ (nat_le (length bytes.now) LONGEST_TERM && is_utf8 bytes.now) }
 {
-    bytes.len() <= 65_535 && (is_plain(bytes) || is_text(bytes))
+    bytes.len() <= LONGEST_TERM && (is_plain(bytes) || is_text(bytes))
 }
 
 /// Appends the term at a place behind the one before, and gives the place of its heads and their
@@ -86,7 +82,7 @@ pub(crate) fn read_term(
 ) -> Result<(usize, u32), OpenFault>
     requires before { IfSome before (IsSpan text.old) }
     requires at { at ≤ length bytes.now }
-    requires few { length bytes.now ≤ 2 ^ 32 }
+    requires few { length bytes.now ≤ LONGEST_FILE }
     ensures exact { Answers (λ x. x.0) result (term_end bytes.now (before_in text.old before) at) }
     ensures term { OnOk result (text.new ≡ text.old ++ term_in bytes.now (before_in text.old before) at) }
     ensures heads { IfOk result (λ x. x.1 ≡ heads_in bytes.now at) }

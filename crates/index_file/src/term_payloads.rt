@@ -1,9 +1,9 @@
-ghost use Rattle.std.specs.Prelude.{◌≡◌, ◌≤◌, ◌<◌, ◌^◌, All, [], length, map, IfOk};
+ghost use Rattle.std.specs.Prelude.{◌≡◌, ◌≤◌, ◌<◌, All, [], length, map, IfOk};
 ghost use Rattle.index_layout.specs.Reading.{read_segments};
 ghost use Rattle.index_layout.specs.Refusals.{Answers};
-ghost use Rattle.index_file.specs.Payloads.{IsCounted, IsPayload, row_segment};
-ghost use Rattle.index_file.specs.Tables.{HasHead, row_head};
-ghost use Rattle.jass_base.specs.declared.limits.TheConstants.{MOST_DOCUMENTS};
+ghost use Rattle.jass_base.specs.declared.limits.TheConstants.{LONGEST_FILE, MOST_DOCUMENTS};
+ghost use Rattle.index_file.specs.Private.Payloads.{IsCounted, IsPayload, row_segment};
+ghost use Rattle.index_file.specs.Private.Tables.{HasHead, row_head};
 
 use crate::payload::{check_apart, check_payload, placed};
 use crate::segment::Segment;
@@ -21,7 +21,7 @@ pub(crate) fn read_term_payloads(
     from: usize,
     block: &mut [u32; 4096],
 ) -> Result<usize, OpenFault>
-    requires few { length bytes.now ≤ 2 ^ 32 }
+    requires few { length bytes.now ≤ LONGEST_FILE }
     requires docs { docs ≤ MOST_DOCUMENTS }
     requires from { from ≤ length bytes.now }
     requires counted { All (IsCounted docs) (map (row_head bytes.now) segments.old) }
@@ -50,7 +50,7 @@ fn read_only(
     segments: &mut [Segment],
     from: usize,
 ) -> Result<usize, OpenFault>
-    requires few { length bytes.now ≤ 2 ^ 32 }
+    requires few { length bytes.now ≤ LONGEST_FILE }
     requires docs { docs ≤ MOST_DOCUMENTS }
     requires from { from ≤ length bytes.now }
     requires counted { All (IsCounted docs) (map (row_head bytes.now) segments.old) }
@@ -66,10 +66,7 @@ fn read_only(
 {
     let segment = segments[0];
     let head = head_of(bytes, segment);
-    match check_payload(bytes, docs, head, from) {
-        Ok(()) => {}
-        Err(fault) => return Err(fault),
-    }
+    check_payload(bytes, docs, head, from)?;
     segments[0] = placed(segment, from);
     Ok(from + head.size as usize)
 }
@@ -84,7 +81,7 @@ fn read_apart(
     from: usize,
     block: &mut [u32; 4096],
 ) -> Result<usize, OpenFault>
-    requires few { length bytes.now ≤ 2 ^ 32 }
+    requires few { length bytes.now ≤ LONGEST_FILE }
     requires docs { docs ≤ MOST_DOCUMENTS }
     requires from { from ≤ length bytes.now }
     requires counted { All (IsCounted docs) (map (row_head bytes.now) segments.old) }
@@ -103,10 +100,7 @@ fn read_apart(
     'segments: for i in 0..segments.len() {
         let segment = segments[i];
         let head = head_of(bytes, segment);
-        match check_apart(bytes, docs, head, at, marks, now, block) {
-            Ok(()) => {}
-            Err(fault) => return Err(fault),
-        }
+        check_apart(bytes, docs, head, at, marks, now, block)?;
         segments[i] = placed(segment, at);
         at += head.size as usize;
     }

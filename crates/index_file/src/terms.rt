@@ -1,10 +1,10 @@
 ghost use Rattle.std.specs.Prelude.{◌≡◌, ◌<◌, ◌≤◌, ◌+◌, ◌^◌, length, map, All, None, IfOk};
 ghost use Rattle.index_layout.specs.Reading.{read_terms};
 ghost use Rattle.index_layout.specs.Refusals.{Answers};
-ghost use Rattle.index_file.specs.Payloads.{IsCounted, row_heads};
+ghost use Rattle.index_file.specs.Private.Payloads.{IsCounted, row_heads};
 ghost use Rattle.index_file.specs.Private.Sums.{AreSums};
-ghost use Rattle.index_file.specs.Tables.{AreRows, HasHead, row_head};
-ghost use Rattle.jass_base.specs.declared.limits.TheConstants.{MOST_DOCUMENTS};
+ghost use Rattle.jass_base.specs.declared.limits.TheConstants.{LONGEST_FILE, MOST_DOCUMENTS};
+ghost use Rattle.index_file.specs.Private.Tables.{AreRows, HasHead, row_head};
 
 use crate::heads::read_heads;
 use crate::segment::Segment;
@@ -35,7 +35,7 @@ pub(crate) fn read_terms(
     from: usize,
 ) -> Result<(Row<u8>, Row<TermRow>, Row<Segment>, Sums, usize), OpenFault>
     requires from { from ≤ length bytes.now }
-    requires few { length bytes.now ≤ 2 ^ 32 }
+    requires few { length bytes.now ≤ LONGEST_FILE }
     requires docs { docs ≤ MOST_DOCUMENTS }
     ensures exact { Answers (λ x. record { terms = row_heads bytes.now x.0 x.2 x.1; end = x.4 }) result
         (read_terms bytes.now docs count None from) }
@@ -66,14 +66,8 @@ pub(crate) fn read_terms(
     let mut at = from;
     'terms: for _ in 0..count {
         let start = text.len();
-        let (place, heads) = match read_term(&mut text, before, bytes, at) {
-            Ok(read) => read,
-            Err(fault) => return Err(fault),
-        };
-        at = match read_heads(&mut segments, &mut sums, bytes, docs, heads, place) {
-            Ok(end) => end,
-            Err(fault) => return Err(fault),
-        };
+        let (place, heads) = read_term(&mut text, before, bytes, at)?;
+        at = read_heads(&mut segments, &mut sums, bytes, docs, heads, place)?;
         if text.len() > most_text || segments.len() > 0xffff_ffff {
             return Err(OpenFault::NoMemory);
         }
@@ -94,7 +88,7 @@ pub(crate) fn read_terms(
 
 /// How many bytes of terms are held at the most of a file of this size: fewer than 2^32.
 fn most_text(size: usize) -> usize
-    requires { size ≤ 2 ^ 32 }
+    requires { size ≤ LONGEST_FILE }
     ensures { result < 2 ^ 32 }
 {
     (TEXT_PER_BYTE * size + SPARE_TEXT).min(0xffff_ffff)

@@ -1,7 +1,7 @@
 // The file of three documents and one term: what is seen of it, what is refused where a byte of it
 // is changed, and where it is refused when it is cut.
 
-ghost use Rattle.std.specs.Prelude.{◌≡◌, ◌<◌, ◌≤◌};
+ghost use Rattle.std.specs.Prelude.{◌≡◌, ◌<◌};
 
 use crate::{CodecUse, IndexFile, open};
 use index_layout::{OpenFault, OpenWhy};

@@ -1,7 +1,6 @@
 -- A walk that is asked for one list after another.
 use Rattle.std.proofs.Common.{◌≡◌, ℕ, List, Option, sym, subst}
-use Rattle.jass_base.specs.Outside.{Files, ForContent}
-use Rattle.ciff_read.specs.Walk.{LeavesWalk, WalkView}
+use Rattle.index_import.proofs.Below.{Files, ForContent, LeavesWalk, WalkView}
 use Rattle.index_import.specs.Private.Surveying.{IsReady}
 
 -- the walk is ready where the same was told, by its name then

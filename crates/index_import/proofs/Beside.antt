@@ -1,10 +1,5 @@
 -- What stands beside a file that is written.
-use Rattle.std.proofs.Common.{◌≡◌, ◌≢◌, ℕ, List, Option, Some, None, Bool, true, false, cond, refl, sym, ap, subst, ◌∙◌}
-use Rattle.std.specs.Prelude.{IfSome}
-use Rattle.std.specs.Ordering.{nat_cmp, eq_by_cmp}
-use Rattle.std.specs.Cmp.Lexicographic.{slice_cmp}
-use Rattle.std.specs.FinMap.{get, insert, get-insert}
-use Rattle.std.proofs.lemmas.Cmp.{nat_list_cmp_total}
+use Rattle.shared_lemmas.proofs.Common.{◌≡◌, ◌≢◌, ℕ, List, Option, Some, None, Bool, true, false, cond, refl, sym, ap, subst, ◌∙◌, IfSome, nat_cmp, eq_by_cmp, slice_cmp, get, insert, get-insert, nat_list_cmp_total}
 use Rattle.jass_base.specs.Outside.{Files, ForContent, IsMissing, Sets, content_there}
 use Rattle.shared_lemmas.proofs.Texts.{equal_texts}
 

@@ -1,32 +1,13 @@
 -- An index file that is begun, and one that is whole.
-use Rattle.std.proofs.Common.{◌≡◌, ◌≤◌, ◌<◌, ◌-◌, ◌^◌, ◌⊎◌, ℕ, ◌∷◌, get_or, List, ◌++◌, length, map, take, drop, suc, [], Option, Some, None, Result, Ok, Err, refl, sym, ap, ap₂, subst, ◌∙◌, inl, inr, arith, append_assoc}
-use Rattle.std.proofs.Math.Seq.{get_or-append_seam}
-use Rattle.std.proofs.lemmas.List.{get_or-map, length-append, length-map, take_all}
-use Rattle.std.specs.Prelude.{IfErr, IfOk}
-use Rattle.jass_base.specs.Outside.{Appended, Files, Extends, ForContent, IsMissing, Sets, content_there}
-use Rattle.jass_base.specs.declared.answer.Totals.{Totals}
-use Rattle.ciff_read.specs.declared.refusal.CiffFault.{CiffFault}
+use Rattle.shared_lemmas.proofs.Common.{◌≡◌, ◌≤◌, ◌<◌, ◌-◌, ◌^◌, ◌⊎◌, ℕ, ◌∷◌, get_or, List, ◌++◌, length, map, take, drop, suc, [], Option, Some, None, Result, Ok, Err, refl, sym, ap, ap₂, subst, ◌∙◌, inl, inr, arith, append_assoc, get_or-append_seam, get_or-map, length-append, length-map}
+use Rattle.shared_lemmas.proofs.Common.{take_all, IfErr, IfOk}
+use Rattle.index_import.proofs.Below.{Appended, Files, Extends, ForContent, IsMissing, Sets, content_there, Totals, CiffFault, CiffRefusal, Segment, segment_data, IndexData, SegmentData, TermData, HeadData, file_length, front_bytes, totals_of, index_text, chosen_entry, chosen_heads}
+use Rattle.index_import.proofs.Below.{chosen_payloads, chosen_terms, table_payloads, LeavesPrefix, Untouched, Unappending, Unbegun, WriterView, change_of, entries_totals, entry_data, next_heads, no_entry, TermHeads, SaveFault, TermFault, Bits, Range, for_both}
 use Rattle.ciff_read.specs.declared.refusal.CiffFault.TheVariants as reading
-use Rattle.ciff_read.specs.declared.refusal.CiffRefusal.{CiffRefusal}
-use Rattle.jass_base.specs.declared.segment.Segment.{Segment}
-use Rattle.index_model.specs.Views.{segment_data}
-use Rattle.index_model.specs.Index.{IndexData, SegmentData, TermData}
-use Rattle.index_layout.specs.Heads.{HeadData}
 use Rattle.index_layout.specs.Heads.{TermHeads as EntryData}
-use Rattle.index_layout.specs.Layout.{file_length, front_bytes}
-use Rattle.index_layout.specs.Totals.{totals_of}
-use Rattle.index_layout.specs.View.{index_text}
-use Rattle.index_write.specs.Chosen.{chosen_entry, chosen_heads, chosen_payloads, chosen_terms, table_payloads}
-use Rattle.index_write.specs.Saving.{LeavesPrefix, Untouched}
-use Rattle.index_write.specs.Streaming.{Unappending, Unbegun, WriterView, change_of, entries_totals, entry_data, heads_left, next_heads, no_entry}
-use Rattle.index_write.specs.declared.term_heads.TermHeads.{TermHeads}
-use Rattle.index_write.specs.declared.fault.SaveFault.{SaveFault}
+use Rattle.index_write.specs.Streaming.{heads_left}
 use Rattle.index_write.specs.declared.fault.SaveFault.TheVariants as saving
-use Rattle.index_write.specs.declared.fault.TermFault.{TermFault}
 use Rattle.index_write.specs.declared.fault.TermFault.TheVariants as terms
-use Rattle.weights.specs.declared.quantizing.Bits.{Bits}
-use Rattle.weights.specs.declared.quantizing.Range.{Range}
-use Rattle.ciff_read.proofs.Told.{for_both}
 use Rattle.index_import.specs.Private.Rereading.{segments_there}
 use Rattle.index_import.specs.declared.fault.ImportFault.{ImportFault}
 use Rattle.index_import.specs.declared.fault.ImportFault.TheVariants.{WriteFault}
@@ -34,7 +15,8 @@ use Rattle.index_import.specs.declared.list_entry.Place.{Place}
 use Rattle.index_import.specs.declared.weighing.Weighing.{Weighing}
 use Rattle.index_import.proofs.Beside.{for_same}
 use Rattle.index_import.specs.Private.Faults.{unappended, unbegun, unread}
-use Rattle.index_import.specs.Importing.{Begins, Writes}
+use Rattle.index_import.specs.Importing.{Begins}
+use Rattle.index_import.specs.Private.Writing.{Writes}
 use Rattle.index_import.proofs.Written.{front_of_whole, on_told, payloads_parted, prefix_wanted, whole_front}
 
 abbrev pub index_with_terms : List (List ℕ) → List TermData → IndexData

@@ -1,33 +1,17 @@
 -- The heads of lists that are read again, list by list.
-use Rattle.std.proofs.Common.{rules, append-nil, ◌≡◌, ℕ, ◌+◌, ◌≤◌, ◌^◌, List, [], ◌∷◌, ◌++◌, length, map, Option, Some, None, refl, sym, ap, ap₂, subst, ◌∙◌, arith}
-use Rattle.std.specs.Prelude.{All, AllPairs}
-use Rattle.std.specs.List.{AllByRecursion, sum_by}
-use Rattle.std.proofs.lemmas.Grind.{flat_map-append}
-use Rattle.std.proofs.lemmas.List.{length-map, map-append}
-use Rattle.std.proofs.lemmas.List.Elements.{All-push}
-use Rattle.std.proofs.lemmas.List.Sums.{sum_by-append, sum_by-cons}
-use Rattle.jass_base.specs.Limits.{IsText}
-use Rattle.jass_base.specs.Outside.{Files, ForContent}
-use Rattle.jass_base.specs.Terms.{BytesRise}
-use Rattle.jass_base.specs.declared.segment.Segment.{Segment}
-use Rattle.weights.specs.declared.quantizing.Bits.{Bits}
-use Rattle.weights.specs.declared.quantizing.Range.{Range}
-use Rattle.ciff_read.proofs.Told.{for_all, for_both}
-use Rattle.index_model.specs.Index.{SegmentData, TermData}
-use Rattle.index_model.specs.Views.{segment_data}
+use Rattle.shared_lemmas.proofs.Common.{rules, append-nil, ◌≡◌, ℕ, ◌+◌, ◌≤◌, ◌^◌, List, [], ◌∷◌, ◌++◌, length, map, Option, Some, None, refl, sym, ap, ap₂, subst, ◌∙◌, arith, All, AllPairs, AllByRecursion, flat_map-append, length-map, map-append, All-push, sum_by-append, sum_by-cons}
+use Rattle.std.specs.List.{sum_by}
+use Rattle.index_import.proofs.Below.{IsText, Files, ForContent, BytesRise, Segment, Bits, Range, for_all, for_both, SegmentData, TermData, segment_data, HeadData, all_heads, head_postings, chosen_entry, chosen_head, chosen_heads, chosen_payloads, head_data, table_payloads, AreEntries, FallsTo}
+use Rattle.index_import.proofs.Below.{IsEntry, IsHead, RisesTo, entry_data, TermHeads}
 use Rattle.shared_lemmas.proofs.Pairs.{Pairs, pairs_by_places, pairs_by_recursion, pairs_map}
-use Rattle.index_layout.specs.Heads.{HeadData, all_heads, head_postings}
 use Rattle.index_layout.specs.Heads.{TermHeads as EntryData}
-use Rattle.index_write.specs.Chosen.{chosen_entry, chosen_head, chosen_heads, chosen_payloads, head_data, table_payloads}
-use Rattle.index_write.specs.Streaming.{AreEntries, FallsTo, IsEntry, IsHead, RisesTo, entry_data}
-use Rattle.index_write.specs.declared.term_heads.TermHeads.{TermHeads}
-use Rattle.index_import.specs.Private.Heading.{AreHeads, AreKept, KeepsMore, term_there}
+use Rattle.index_import.specs.Private.Heading.{AreHeads, ArePayloads, KeepsMore, term_there}
 use Rattle.index_import.specs.Private.Rereading.{segments_there}
 use Rattle.index_import.specs.declared.list_entry.ListEntry.{ListEntry}
 use Rattle.index_import.specs.declared.weighing.Weighing.{Weighing}
 
 -- the payloads of one term more
-kept_more : (docs : ℕ) (terms : List TermData) (t : TermData) (before after : Option (List ℕ)) → AreKept before docs terms → KeepsMore before (chosen_payloads docs t.segments) after → AreKept after docs (terms ++ t ∷ [])
+kept_more : (docs : ℕ) (terms : List TermData) (t : TermData) (before after : Option (List ℕ)) → ArePayloads before docs terms → KeepsMore before (chosen_payloads docs t.segments) after → ArePayloads after docs (terms ++ t ∷ [])
 kept_more docs terms t before None are keeps = tt
 kept_more docs terms t None (Some after) are keeps = absurd keeps
 kept_more docs terms t (Some before) (Some after) are keeps =

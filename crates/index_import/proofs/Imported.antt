@@ -1,36 +1,14 @@
 -- The index that is made of a file that was judged.
-use Rattle.std.proofs.Common.{◌≡◌, ℕ, inl, inr, List, [], ◌∷◌, map, Option, Some, None, Result, Ok, Err, refl, sym, ap, ap₂, subst, ◌∙◌}
-use Rattle.std.specs.Prelude.{All, AllPairs, IfSome, IsSomeAnd, IsPermutation}
-use Rattle.std.specs.FinMap.{get}
-use Rattle.std.specs.List.{AllByRecursion}
-use Rattle.std.proofs.lemmas.List.Elements.{All-from_recursion, All-map, recursion_from_All}
-use Rattle.std.proofs.lemmas.Simd.{map-map}
-use Rattle.jass_base.specs.Ciff.{CollectionData, ListData}
-use Rattle.jass_base.specs.Outside.{Files, ForContent, IsMissing, OnContent}
-use Rattle.jass_base.specs.Terms.{BytesRise}
-use Rattle.jass_base.specs.declared.answer.Totals.{Totals}
-use Rattle.weights.specs.declared.weighting.Rule.{Rule}
-use Rattle.weights.specs.declared.quantizing.Bits.{Bits}
-use Rattle.weights.specs.declared.quantizing.Bits.TheVariants.{Raw, Of}
-use Rattle.weights.specs.declared.quantizing.Range.{Range}
-use Rattle.weights.specs.Quantizing.{empty_range, impact_of, range_of}
-use Rattle.ciff_read.specs.Assembling.{IsKeptList}
-use Rattle.ciff_read.specs.Reading.{read_ciff}
-use Rattle.ciff_read.specs.Walk.{LeavesWalk, WalkView}
-use Rattle.ciff_read.specs.declared.refusal.CiffFault.{CiffFault}
+use Rattle.shared_lemmas.proofs.Common.{◌≡◌, ℕ, inl, inr, List, [], ◌∷◌, map, Option, Some, None, Result, Ok, Err, refl, sym, ap, ap₂, subst, ◌∙◌, All, AllPairs, IfSome, IsSomeAnd, IsPermutation, get, AllByRecursion, All-from_recursion, All-map, recursion_from_All, map-map}
+use Rattle.index_import.proofs.Below.{CollectionData, ListData, Files, ForContent, IsMissing, OnContent, BytesRise, Totals, Rule, Bits, Raw, Of, Range, empty_range, impact_of, range_of, IsKeptList, read_ciff, LeavesWalk, WalkView, CiffFault, for_both, for_one, for_pair, index_with, IndexData}
+use Rattle.index_import.proofs.Below.{SegmentData, TermData, TermHeads, collection_index, index_of, lengths_of, total_of, weights_in, weights_of, AreByTerm, list_term, lists_in_use, widened_by, outside}
 use Rattle.ciff_read.specs.declared.refusal.CiffFault.TheVariants as reading
-use Rattle.ciff_read.proofs.Told.{for_both, for_one, for_pair}
-use Rattle.index_model.specs.Grouping.{index_with}
-use Rattle.index_model.specs.Index.{IndexData, SegmentData, TermData}
 use Rattle.shared_lemmas.proofs.Pairs.{Pairs, pairs_by_places, pairs_by_recursion, pairs_map}
 use Rattle.shared_lemmas.proofs.Lists.{all_unmap, all_weaker}
-use Rattle.index_write.specs.declared.term_heads.TermHeads.{TermHeads}
-use Rattle.impact_segments.specs.Collections.{collection_index, index_of, lengths_of, total_of, weights_in, weights_of}
-use Rattle.impact_segments.specs.ListTerms.{AreByTerm, list_term, lists_in_use, widened_by}
-use Rattle.impact_segments.specs.OneList.{outside}
 use Rattle.index_import.specs.Private.Faults.{unread}
 use Rattle.index_import.specs.Private.Heading.{AreHeads, AreInside, FailsAllInside, places_of, term_there, terms_there}
-use Rattle.index_import.specs.Importing.{HasTerms, Imports, IsMade, Writes}
+use Rattle.index_import.specs.Importing.{Imports, IsMade}
+use Rattle.index_import.specs.Private.Writing.{HasTerms, Writes}
 use Rattle.index_import.specs.Private.Outlining.{IsOutline, list_there, lists_there, names_of}
 use Rattle.index_import.specs.Private.Ranging.{range_there}
 use Rattle.index_import.specs.Private.Rereading.{IsInside, segments_there}

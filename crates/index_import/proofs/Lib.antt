@@ -1,3 +1,4 @@
+mod Below
 mod Again
 mod Beside
 mod Finished

@@ -1,15 +1,6 @@
 -- What is made of a list that is read again, or of postings that were kept.
 use Rattle.std.proofs.Common.{◌≡◌, ◌≤◌, ℕ, List, length, Option, Result, ap, subst, ◌∙◌}
-use Rattle.jass_base.specs.Ciff.{ListData}
-use Rattle.jass_base.specs.CiffViews.{list_data}
-use Rattle.jass_base.specs.Outside.{Files, ForContent}
-use Rattle.jass_base.specs.declared.posting.Posting.{Posting}
-use Rattle.jass_base.specs.declared.postings_list.PostingsList.{PostingsList}
-use Rattle.jass_base.specs.declared.segment.Segment.{Segment}
-use Rattle.weights.specs.declared.quantizing.Bits.{Bits}
-use Rattle.weights.specs.declared.quantizing.Range.{Range}
-use Rattle.ciff_read.specs.declared.refusal.CiffFault.{CiffFault}
-use Rattle.ciff_read.proofs.Told.{for_one}
+use Rattle.index_import.proofs.Below.{ListData, list_data, Files, ForContent, Posting, PostingsList, Segment, Bits, Range, CiffFault, for_one}
 use Rattle.index_import.specs.Private.Outlining.{list_there}
 use Rattle.index_import.specs.Private.Rereading.{MakesOf, MakesSegments}
 use Rattle.index_import.specs.Private.Surveying.{HoldsMost, entry_postings}

@@ -1,36 +1,10 @@
 -- What the first pass kept, put in order.
-use Rattle.std.proofs.Common.{◌≡◌, ◌≢◌, ℕ, ◌+◌, ◌<◌, ◌≤◌, ◌^◌, Bool, true, false, cond, List, [], ◌∷◌, map, length, filter, get_or, refl, sym, ap, subst, ◌∙◌, arith}
-use Rattle.std.specs.Prelude.{All, AllPairs, Contains, Decides, nat_eq, nat_lt, not}
-use Rattle.std.specs.Cmp.{IsStrictWeakOrder}
-use Rattle.std.specs.Cmp.Lexicographic.{slice_cmp}
-use Rattle.std.specs.List.{AllByRecursion, AllZip, sum_by}
-use Rattle.std.specs.List.Sorted.{IsPermutation, IsSortedBy}
-use Rattle.std.specs.Ordering.{is_gt, is_lt, nat_cmp, ordering_reverse}
-use Rattle.std.specs.Str.{bytes_eq}
-use Rattle.std.specs.declared.cmp.Ordering.{Ordering}
-use Rattle.std.specs.declared.cmp.Ordering.TheVariants.{Less, Equal, Greater}
-use Rattle.std.proofs.lemmas.Bool.Decides.{Decides-eqb, Decides-like, same_from_decides}
-use Rattle.std.proofs.lemmas.Cmp.{nat_list_cmp_total}
-use Rattle.std.proofs.lemmas.List.{get_or_default, length-map}
-use Rattle.std.proofs.lemmas.List.Elements.{All-filter, All-from_recursion, All-map}
-use Rattle.std.proofs.lemmas.List.Filters.{length-filter_both, sum_by-filter_both}
-use Rattle.std.proofs.lemmas.List.Kept.{AllPairs-filter}
-use Rattle.std.proofs.lemmas.List.Sorted.{All-permutation, IsPermutation-map, IsPermutation-sym, length_permutation, ranks_by, sorted_far, sum_by-IsPermutation}
-use Rattle.std.proofs.lemmas.List.Sums.{sum_by-cons}
-use Rattle.std.proofs.lemmas.Map.Keys.{IsDistinct-IsPermutation}
-use Rattle.std.proofs.lemmas.Map.Made.{AllPairs-from_IsDistinct, IsDistinct-from_AllPairs}
-use Rattle.std.proofs.lemmas.Slice.Eq.{bytes_eq-Decides}
-use Rattle.jass_base.specs.Ciff.{ListData}
-use Rattle.jass_base.specs.Limits.{IsName, IsText}
-use Rattle.jass_base.specs.Terms.{BytesRise}
-use Rattle.jass_base.specs.declared.doc_record.DocRecord.{DocRecord}
-use Rattle.ciff_read.specs.Assembling.{IsKeptList, by_number, collection_of}
-use Rattle.ciff_read.specs.Judging.{NumberedDoc}
-use Rattle.ciff_read.specs.Pieces.{KeptList, postings_kept, terms_kept}
-use Rattle.ciff_read.specs.Walk.{HasKept, WalkView}
-use Rattle.impact_segments.specs.Collections.{lengths_of, total_of}
-use Rattle.impact_segments.proofs.OneTerm.{all_map_at}
-use Rattle.impact_segments.proofs.Orders.{strictly}
+use Rattle.shared_lemmas.proofs.Common.{◌≡◌, ◌≢◌, ℕ, ◌+◌, ◌<◌, ◌≤◌, ◌^◌, Bool, true, false, cond, List, [], ◌∷◌, map, length, filter, get_or, refl, sym, ap, subst, ◌∙◌, arith, All, AllPairs, Contains, Decides, nat_eq, nat_lt, not, IsPermutation, IsSortedBy, bytes_eq, IsStrictWeakOrder, slice_cmp}
+use Rattle.shared_lemmas.proofs.Common.{AllByRecursion, AllZip, is_gt, is_lt, nat_cmp, ordering_reverse, Ordering, Less, Equal, Greater, Decides-eqb, Decides-like, same_from_decides, nat_list_cmp_total, get_or_default, length-map, All-filter, All-from_recursion, All-map, length-filter_both}
+use Rattle.shared_lemmas.proofs.Common.{sum_by-filter_both, AllPairs-filter, All-permutation, IsPermutation-map, IsPermutation-sym, length_permutation, ranks_by, sorted_far, sum_by-IsPermutation, sum_by-cons, IsDistinct-IsPermutation, AllPairs-from_IsDistinct, IsDistinct-from_AllPairs}
+use Rattle.shared_lemmas.proofs.Common.{bytes_eq-Decides}
+use Rattle.std.specs.List.{sum_by}
+use Rattle.index_import.proofs.Below.{ListData, IsName, IsText, BytesRise, DocRecord, IsKeptList, by_number, collection_of, NumberedDoc, KeptList, postings_kept, terms_kept, HasKept, WalkView, lengths_of, total_of, all_map_at, strictly}
 use Rattle.shared_lemmas.proofs.Pairs.{pairs_by_places, pairs_by_recursion, pairs_map, AllPairs-unmap}
 use Rattle.index_import.specs.Private.Outlining.{AreInOrder, IsOutline, IsOutlined, has_postings, list_there, lists_there, names_of}
 use Rattle.index_import.specs.Private.Surveying.{AreGiven, AreKept, HoldsMost, IsSurvey, KeepsAll, has_some, kept_entry, numbered}

@@ -1,14 +1,6 @@
 -- A walk that can be asked for lists again.
-use Rattle.std.proofs.Common.{◌≡◌, ℕ, zero, suc, ◌<◌, ◌⊎◌, inl, inr, List, [], ◌∷◌, map, Option, Result, refl, sym, ap, subst, ◌∙◌, arith, ◌≢◌}
-use Rattle.std.specs.List.{AllByRecursion}
-use Rattle.std.specs.List.Sorted.{IsStrictlyIncreasing}
-use Rattle.jass_base.specs.Ciff.{ListData}
-use Rattle.jass_base.specs.Outside.{Files, Sets}
-use Rattle.ciff_read.specs.declared.refusal.CiffRefusal.{CiffRefusal}
-use Rattle.ciff_read.specs.Pieces.{KeptList}
-use Rattle.ciff_read.specs.Reading.{Message, list_at}
-use Rattle.ciff_read.specs.Refusals.{◌>>=◌}
-use Rattle.ciff_read.specs.Walk.{HasKept, IsListAt, LeavesWalk, StandsFor, WalkView}
+use Rattle.shared_lemmas.proofs.Common.{◌≡◌, ℕ, zero, suc, ◌<◌, ◌⊎◌, inl, inr, List, [], ◌∷◌, map, Option, Result, refl, sym, ap, subst, ◌∙◌, arith, ◌≢◌, AllByRecursion, IsStrictlyIncreasing}
+use Rattle.index_import.proofs.Below.{ListData, Files, Sets, CiffRefusal, KeptList, Message, list_at, ◌>>=◌, HasKept, IsListAt, LeavesWalk, StandsFor, WalkView}
 use Rattle.shared_lemmas.proofs.Pairs.{Pairs, rising_pairs}
 use Rattle.index_import.proofs.Beside.{beside, for_same, there_beside}
 use Rattle.index_import.specs.Private.Outlining.{list_there, or_nothing}

@@ -1,43 +1,13 @@
 -- What the first pass over a file keeps, piece by piece.
-use Rattle.std.proofs.Common.{◌≡◌, ◌≢◌, ℕ, ◌+◌, ◌-◌, ◌≤◌, ◌<◌, ◌⊎◌, inl, inr, Bool, true, false, cond, List, [], ◌∷◌, ◌++◌, map, length, filter, Option, Some, None, Result, Ok, Err, refl, sym, ap, subst, ◌∙◌, arith}
-use Rattle.std.specs.Prelude.{◌||◌, ◌==◌, All, AllPairs, IsSome}
-use Rattle.std.specs.List.{AllByRecursion, AllZip}
-use Rattle.std.specs.List.Sorted.{IsStrictlyIncreasing}
-use Rattle.std.specs.Str.{bytes_eq}
-use Rattle.std.proofs.lemmas.Bool.Decides.{nat_tests, not_from_Decides}
-use Rattle.std.proofs.lemmas.List.{length-append, map-append}
-use Rattle.std.proofs.lemmas.List.Elements.{All-from_recursion, All-nil, All-push, filter-append}
-use Rattle.std.proofs.lemmas.List.Quantifiers.{all_pairs_push}
-use Rattle.std.proofs.lemmas.Slice.Eq.{bytes_eq-Decides}
-use Rattle.jass_base.specs.CiffViews.{header_data, list_data}
-use Rattle.jass_base.specs.Ciff.{FitsList, HeaderData, ListData}
-use Rattle.jass_base.specs.Lists.{HasDocsBelow}
-use Rattle.jass_base.specs.Outside.{Files, ForContent}
-use Rattle.jass_base.specs.Postings.{HasTfInRange, docs_of}
-use Rattle.jass_base.specs.declared.doc_record.DocRecord.{DocRecord}
-use Rattle.jass_base.specs.declared.header.Header.{Header}
-use Rattle.jass_base.specs.declared.posting.Posting.{Posting}
-use Rattle.jass_base.specs.declared.postings_list.PostingsList.{PostingsList}
-use Rattle.ciff_read.specs.Assembling.{Assembles, IsKeptList, Parts, collection_of, only_header, with_piece}
-use Rattle.ciff_read.specs.Given.{Advances, GivesPiece, GivesTold, piece_data}
-use Rattle.ciff_read.specs.Judging.{NumberedDoc, is_among, numbers_of}
-use Rattle.ciff_read.specs.Marks.{is_marked}
-use Rattle.ciff_read.specs.Pieces.{DocPiece, EndPiece, IsReached, KeptList, ListPiece, PieceData, Progress, StartPiece, Step, header_of_file, next_of, terms_kept}
-use Rattle.ciff_read.specs.Reaching.{FailsReading}
-use Rattle.ciff_read.specs.Reading.{read_ciff}
-use Rattle.ciff_read.specs.Seen.{is_seen}
-use Rattle.ciff_read.specs.Walk.{Begins, IsListAt, Keeps, KeepsRanges, StandsFor, StandsTold, WalkView, kept_of}
-use Rattle.ciff_read.specs.Window.{AreFrom}
-use Rattle.ciff_read.specs.declared.piece.Piece.{Piece}
+use Rattle.shared_lemmas.proofs.Common.{◌≡◌, ◌≢◌, ℕ, ◌+◌, ◌-◌, ◌≤◌, ◌<◌, ◌⊎◌, inl, inr, Bool, true, false, cond, List, [], ◌∷◌, ◌++◌, map, length, filter, Option, Some, None, Result, Ok, Err, refl, sym, ap, subst, ◌∙◌, arith, ◌||◌, ◌==◌, All, AllPairs, IsSome, bytes_eq, AllByRecursion, AllZip}
+use Rattle.shared_lemmas.proofs.Common.{IsStrictlyIncreasing, nat_tests, not_from_Decides, length-append, map-append, All-from_recursion, All-nil, All-push, filter-append, all_pairs_push, bytes_eq-Decides}
+use Rattle.index_import.proofs.Below.{header_data, list_data, FitsList, HeaderData, ListData, HasDocsBelow, Files, ForContent, HasTfInRange, docs_of, DocRecord, Header, Posting, PostingsList, Assembles, IsKeptList, Parts, collection_of, only_header, with_piece, Advances, GivesPiece, GivesTold}
+use Rattle.index_import.proofs.Below.{piece_data, NumberedDoc, is_among, numbers_of, is_marked, DocPiece, EndPiece, IsReached, KeptList, ListPiece, PieceData, Progress, StartPiece, Step, header_of_file, next_of, terms_kept, FailsReading, read_ciff, is_seen, Begins, IsListAt, Keeps, KeepsRanges}
+use Rattle.index_import.proofs.Below.{StandsFor, StandsTold, WalkView, kept_of, AreFrom, Piece, CiffFault, CiffRefusal, for_all, for_both, most_tf, list_fits}
 use Rattle.ciff_read.specs.declared.piece.Piece.TheVariants as pieces
-use Rattle.ciff_read.specs.declared.refusal.CiffFault.{CiffFault}
 use Rattle.ciff_read.specs.declared.refusal.CiffFault.TheVariants as faults
-use Rattle.ciff_read.specs.declared.refusal.CiffRefusal.{CiffRefusal}
-use Rattle.ciff_read.proofs.Told.{for_all, for_both}
-use Rattle.impact_segments.specs.Bounds.{most_tf}
 use Rattle.index_import.specs.Private.Surveying.{AreKept, HoldsMost, IsSurvey, KeepsAll, entry_postings, has_some, kept_entry, numbered}
 use Rattle.index_import.specs.declared.list_entry.ListEntry.{ListEntry}
-use Rattle.index_import.proofs.Widening.{list_fits}
 
 -- ---- what is kept, whether or not the content is told
 

@@ -1,12 +1,6 @@
 -- The items of a vector that a loop takes one by one.
-use Rattle.std.proofs.Common.{◌≡◌, List, [], ◌∷◌, ◌++◌, length, Some, None, refl, sym, ap, ◌∙◌, map-id}
-use Rattle.std.specs.Prelude.{All}
-use Rattle.std.specs.Iterator.{Yields}
-use Rattle.std.specs.Vec.Iter.{into_iter_items, into_iter_len, into_iter_steps}
-use Rattle.std.specs.declared.vec.IntoIter.{IntoIter}
-use Rattle.std.proofs.lemmas.Iterator.Adapters.{YieldsList-from_vec}
-use Rattle.std.proofs.lemmas.Iterator.Consumers.{YieldsList-end}
-use Rattle.std.proofs.lemmas.List.Elements.{All-head, All-tail}
+use Rattle.shared_lemmas.proofs.Common.{◌≡◌, List, [], ◌∷◌, ◌++◌, length, Some, None, refl, sym, ap, ◌∙◌, All, Yields, into_iter_items, into_iter_len, into_iter_steps, IntoIter, YieldsList-from_vec, YieldsList-end, All-head, All-tail}
+use Rattle.std.proofs.Common.{map-id}
 
 module _ {X Z : Type 0} where
   -- what was given is a front of the items

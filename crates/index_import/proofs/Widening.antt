@@ -1,26 +1,6 @@
 -- A range that is widened by lists that are read again.
-use Rattle.std.proofs.Common.{◌≡◌, ℕ, suc, ◌+◌, ◌<◌, ◌≤◌, ◌^◌, Bool, false, List, [], ◌∷◌, ◌++◌, fold, get_or, length, map, min, take, Option, sym, ap, ap₂, subst, ◌∙◌, arith}
-use Rattle.std.specs.Prelude.{All}
-use Rattle.std.proofs.Math.Nat.{min-le_right}
-use Rattle.std.proofs.Math.Seq.{take-suc}
-use Rattle.std.proofs.lemmas.List.{length-map, map-append}
-use Rattle.std.proofs.lemmas.List.Elements.{All-map, All-push}
-use Rattle.std.proofs.lemmas.Str.{IsUtf8-from_is_utf8}
-use Rattle.jass_base.specs.Ciff.{FitsList, ListData}
-use Rattle.jass_base.specs.CiffViews.{list_data}
-use Rattle.jass_base.specs.Lists.{HasDocsBelow}
-use Rattle.jass_base.specs.Outside.{Files, ForContent}
-use Rattle.jass_base.specs.declared.posting.Posting.{Posting}
-use Rattle.jass_base.specs.declared.postings_list.PostingsList.{PostingsList}
-use Rattle.ciff_read.proofs.Told.{for_both}
-use Rattle.weights.specs.declared.weighting.Rule.{Rule}
-use Rattle.weights.specs.declared.quantizing.Range.{Range}
-use Rattle.weights.specs.Quantizing.{empty_range, range_of, widened}
-use Rattle.weights.specs.Weighting.{length_norm}
-use Rattle.impact_segments.specs.Bounds.{can_widen, most_tf}
-use Rattle.impact_segments.specs.Collections.{weights_in}
-use Rattle.impact_segments.specs.ListTerms.{widened_by}
-use Rattle.impact_segments.specs.OneList.{norms_in}
+use Rattle.shared_lemmas.proofs.Common.{◌≡◌, ℕ, suc, ◌+◌, ◌<◌, ◌≤◌, ◌^◌, Bool, false, List, [], ◌∷◌, ◌++◌, fold, get_or, length, map, min, take, Option, sym, ap, ap₂, subst, ◌∙◌, arith, All, min-le_right, take-suc, length-map, map-append, All-map, All-push}
+use Rattle.index_import.proofs.Below.{FitsList, ListData, list_data, HasDocsBelow, Files, ForContent, Posting, PostingsList, for_both, Rule, Range, empty_range, range_of, widened, length_norm, can_widen, most_tf, weights_in, widened_by, norms_in, list_fits}
 use Rattle.index_import.specs.Private.Outlining.{list_there}
 use Rattle.index_import.specs.Private.Ranging.{widened_there}
 use Rattle.index_import.specs.Private.Surveying.{HoldsMost}
@@ -34,17 +14,6 @@ pub record Widens (files : Option Files) (name : List ℕ) (docs : ℕ) (w : Wei
   pub fit : All (FitsList (length w.lengths.now)) read
   pub range_is : range ≡ widened_by w.rule w.lengths.now w.total empty_range read
   pub told : ForContent files name (λ content. range ≡ widened_there content docs w lists)
-
-pub list_fits : (docs : ℕ) (l : PostingsList) → HasDocsBelow docs l → FitsList docs (list_data l)
-list_fits docs l below = record {
-  text = IsUtf8-from_is_utf8 l.term l.term_is_text;
-  short = l.term_fits;
-  df = l.df_in_range;
-  cf = l.cf_in_range;
-  rising = l.rising;
-  tf = l.tf_in_range;
-  below = below;
-}
 
 abbrev StaysInside : Type 0
 StaysInside = (rule : Rule) (lengths : List ℕ) (total : ℕ) (range : Range) (l : ListData) → length lengths ≤ 2 ^ 26 → FitsList (length lengths) l → 1 ≤ length l.postings

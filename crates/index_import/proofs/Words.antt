@@ -1,11 +1,6 @@
 -- Postings have words where the last document and the greatest frequency are small.
-use Rattle.std.proofs.Common.{ℕ, ◌≡◌, ◌-◌, ◌<◌, ◌≤◌, ◌^◌, List, length, get_or, arith}
-use Rattle.std.specs.Prelude.{All}
-use Rattle.std.specs.List.Sorted.{IsStrictlyIncreasing}
-use Rattle.std.proofs.lemmas.List.{get_or-map, length-map}
-use Rattle.std.proofs.lemmas.Map.Keys.{non_decreasing_from_sorted, sorted_from_strictly_increasing}
-use Rattle.jass_base.specs.Postings.{docs_of}
-use Rattle.jass_base.specs.declared.posting.Posting.{Posting}
+use Rattle.shared_lemmas.proofs.Common.{ℕ, ◌≡◌, ◌-◌, ◌<◌, ◌≤◌, ◌^◌, List, length, get_or, arith, All, IsStrictlyIncreasing, get_or-map, length-map, non_decreasing_from_sorted, sorted_from_strictly_increasing}
+use Rattle.index_import.proofs.Below.{docs_of, Posting}
 use Rattle.index_import.specs.Private.KeptPostings.{HasWord}
 
 pub all_have_words : (ps : List Posting) (most : ℕ) (d : Posting) → IsStrictlyIncreasing (docs_of ps) → All (λ (p : Posting). p.tf ≤ most) ps

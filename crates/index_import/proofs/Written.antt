@@ -1,14 +1,6 @@
 -- An index file whose payloads are appended term by term.
-use Rattle.std.proofs.Common.{◌≡◌, ◌<◌, ◌⊎◌, ℕ, List, [], ◌∷◌, ◌++◌, length, take, drop, get_or, min, Option, Some, None, refl, sym, ap, subst, ◌∙◌, inl, inr, arith, append-nil, suc}
-use Rattle.std.specs.Prelude.{IfSome}
-use Rattle.std.specs.FinMap.{get}
-use Rattle.std.proofs.Math.Seq.{take-append_seam, take-suc}
-use Rattle.std.proofs.lemmas.Grind.{flat_map-append}
-use Rattle.std.proofs.lemmas.List.{take-append-drop, take-append-le, take_min}
-use Rattle.jass_base.specs.Outside.{Files, Extends, ForContent, IsMissing, Sets, content_or_empty}
-use Rattle.index_model.specs.Index.{TermData}
-use Rattle.index_write.specs.Chosen.{chosen_payloads, table_payloads}
-use Rattle.index_write.specs.Saving.{LeavesPrefix}
+use Rattle.shared_lemmas.proofs.Common.{◌≡◌, ◌<◌, ◌⊎◌, ℕ, List, [], ◌∷◌, ◌++◌, length, take, drop, get_or, min, Option, Some, None, refl, sym, ap, subst, ◌∙◌, inl, inr, arith, append-nil, suc, IfSome, get, take-append_seam, take-suc, flat_map-append, take-append-drop, take-append-le, take_min}
+use Rattle.index_import.proofs.Below.{Files, Extends, ForContent, IsMissing, Sets, content_or_empty, TermData, chosen_payloads, table_payloads, LeavesPrefix}
 
 pub extends_sets : (old new : Option Files) (name bytes : List ℕ) → Extends old new name bytes → (text : List ℕ) × Sets old new name text
 extends_sets None new name bytes is = ([], is)

@@ -6,3 +6,4 @@ pub mod Outlining
 pub mod Ranging
 pub mod Rereading
 pub mod Surveying
+pub mod Writing

@@ -1,4 +1,4 @@
-ghost use Rattle.std.specs.Prelude.{ℕ, ◌≡◌, ◌<◌, ◌≤◌, ◌^◌, [], length, map, All, AllPairs, IfErr, IfOk, IsErrOf, OnOk};
+ghost use Rattle.std.specs.Prelude.{◌≡◌, ◌<◌, ◌≤◌, length, map, All, AllPairs, IfErr, IfOk, IsErrOf, OnOk};
 ghost use Rattle.std.specs.List.{sum_by};
 ghost use Rattle.jass_base.specs.Gaps.{AreDocs};
 ghost use Rattle.jass_base.specs.Outside.{Rose, ForContent};
@@ -22,7 +22,7 @@ use ciff_read::{CiffFault, CiffWalk};
 use impact_segments::Scratch;
 use index_write::laws::made_heads_are_entries;
 use index_write::{PayloadHead, TermHeads, payload_heads, put_payloads};
-use jass_base::{Cabinet, NoMemory, Row, Segment};
+use jass_base::{Cabinet, Row, Segment};
 use std::alloc::Global;
 use weights::{Bits, Range};
 
@@ -77,7 +77,7 @@ pub(crate) fn read_heads<C: Cabinet>(
 {
     made_heads_are_entries();
     let docs = weighing.lengths.len() as u32;
-    let mut terms = match with_room(alloc, lists.len()) {
+    let mut terms = match Row::with_room(alloc, lists.len()) {
         Ok(terms) => terms,
         Err(_) => return Err(CiffFault::NoMemory),
     };
@@ -124,16 +124,6 @@ pub(crate) fn read_heads<C: Cabinet>(
         places,
         payloads,
     })
-}
-
-/// An empty row that has room for the heads of so many terms.
-fn with_room(alloc: Global, count: usize) -> Result<Row<TermHeads>, NoMemory>
-    ensures { IfOk result (λ terms. terms ≡ []) }
-{
-    match Vec::with_capacity(alloc, count) {
-        Ok(terms) => Ok(Row::from_vec(terms)),
-        Err(_) => Err(NoMemory),
-    }
 }
 
 /// Keeps the payloads of one term more, where those before were kept and are few. Where memory is

@@ -1,4 +1,4 @@
-ghost use Rattle.std.specs.Prelude.{ℕ, ◌≡◌, ◌≢◌, ◌≤◌, ◌⊎◌, IsErrOf};
+ghost use Rattle.std.specs.Prelude.{◌≢◌, ◌≤◌, ◌⊎◌, IsErrOf};
 ghost use Rattle.jass_base.specs.Outside.{ForContent, IsMissing, Rose};
 ghost use Rattle.weights.specs.Quantizing.{IsImpactWidth};
 ghost use Rattle.index_import.specs.Importing.{Imports};

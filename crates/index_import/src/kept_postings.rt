@@ -5,6 +5,7 @@ ghost use Rattle.std.specs.List.Sorted.{IsStrictlyIncreasing};
 ghost use Rattle.jass_base.specs.Postings.{docs_of};
 ghost use Rattle.jass_base.specs.declared.posting.Posting.{Posting};
 ghost use Rattle.index_import.specs.Private.KeptPostings.{HasWord, posting_in, postings_in, words_in};
+ghost use Rattle.index_import.specs.declared.kept_postings.TheConstants.{FEW};
 
 use arrayvec::ArrayVec;
 use jass_base::{NoMemory, Posting};
@@ -47,10 +48,7 @@ impl KeptPostings {
             return KeptPostings::none();
         }
         if postings.len() <= FEW {
-            return match few_words(postings) {
-                Some(words) => KeptPostings::Few(words),
-                None => KeptPostings::none(),
-            };
+            return KeptPostings::Few(few_words(postings));
         }
         if postings.len() > room {
             return KeptPostings::none();
@@ -75,10 +73,7 @@ impl KeptPostings {
     {
         let words = self.words();
         spare.clear();
-        match spare.reserve(words.len()) {
-            Ok(()) => {}
-            Err(_) => return Err(NoMemory),
-        }
+        spare.reserve(words.len())?;
         for word in words {
             spare.push_reserved(posting_in(*word));
         }
@@ -109,18 +104,16 @@ fn have_words(postings: &[Posting], most: u32) -> bool
 }
 
 /// The words of postings that are few.
-fn few_words(postings: &[Posting]) -> Option<ArrayVec<u32, FEW>>
-    requires { All HasWord postings.now }
-    ensures { IfSome result (λ words. map posting_in words.items ≡ postings.now) }
+fn few_words(postings: &[Posting]) -> ArrayVec<u32, FEW>
+    requires few { length postings.now ≤ FEW }
+    requires words { All HasWord postings.now }
+    ensures { map posting_in result.items ≡ postings.now }
 {
     let mut words = ArrayVec::new();
     for posting in postings {
-        match words.try_push(word_of(*posting)) {
-            Ok(()) => {}
-            Err(_) => return None,
-        }
+        words.push(word_of(*posting));
     }
-    Some(words)
+    words
 }
 
 /// The words of postings, in memory of their own.

@@ -1,10 +1,10 @@
-ghost use Rattle.std.specs.Prelude.{ℕ, ◌≡◌, ◌<◌, ◌≤◌, ◌⊎◌, ◌^◌, [], length, All, IfOk};
+ghost use Rattle.std.specs.Prelude.{◌≡◌, ◌<◌, ◌≤◌, ◌⊎◌, ◌^◌, [], length, All, IfOk};
 ghost use Rattle.std.specs.List.Sorted.{IsStrictlyIncreasing};
 ghost use Rattle.jass_base.specs.Limits.{IsText};
 ghost use Rattle.jass_base.specs.Postings.{HasTfInRange, docs_of};
 ghost use Rattle.impact_segments.specs.Bounds.{most_tf};
 ghost use Rattle.index_import.specs.Private.KeptPostings.{postings_in};
-ghost use Rattle.jass_base.specs.declared.limits.TheConstants.{MOST_POSTINGS};
+ghost use Rattle.jass_base.specs.declared.limits.TheConstants.{LONGEST_TERM, MOST_POSTINGS};
 
 use crate::kept_postings::KeptPostings;
 use impact_segments::most_tf;
@@ -30,7 +30,7 @@ pub(crate) struct ListEntry {
     pub place: Place,
     /// All its postings, or none.
     pub kept: KeptPostings,
-    pub ghost term_fits: { length term ≤ 65535 },
+    pub ghost term_fits: { length term ≤ LONGEST_TERM },
     pub ghost term_is_text: { IsText term },
 }
 
@@ -70,10 +70,7 @@ impl ListEntry {
         requires tf { All HasTfInRange (postings_in self.now.kept) }
         ensures { IfOk result (λ list. list.postings ≡ postings_in self.now.kept) }
     {
-        let postings = match self.kept.postings(spare.into_vec()) {
-            Ok(postings) => postings,
-            Err(_) => return Err(NoMemory),
-        };
+        let postings = self.kept.postings(spare.into_vec())?;
         match Text::from_str(alloc, "") {
             Ok(term) => Ok(PostingsList {
                 term,

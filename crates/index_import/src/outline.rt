@@ -1,4 +1,4 @@
-ghost use Rattle.std.specs.Prelude.{ℕ, ◌≡◌, ◌<◌, ◌≤◌, ◌^◌, List, length, All, IfOk};
+ghost use Rattle.std.specs.Prelude.{ℕ, ◌≡◌, ◌<◌, ◌≤◌, List, length, IfOk};
 ghost use Rattle.impact_segments.specs.Collections.{total_of};
 ghost use Rattle.index_import.specs.Private.Outlining.{AreInOrder, IsOutline, IsOutlined};
 ghost use Rattle.index_import.specs.Private.Surveying.{AreKept, IsSurvey};
@@ -39,10 +39,7 @@ impl Outline {
             docs,
             mut lists,
         } = survey;
-        match lists.sort_by(|a, b| a.term.as_str().cmp(b.term.as_str())) {
-            Ok(()) => {}
-            Err(_) => return Err(NoMemory),
-        }
+        lists.sort_by(|a, b| a.term.as_str().cmp(b.term.as_str()))?;
         let (names, lengths) = in_order(alloc, docs)?;
         let total = total_length(&lengths);
         Ok(Outline {
@@ -60,22 +57,13 @@ fn in_order(alloc: Global, docs: Vec<(u32, DocRecord)>) -> Result<(Row<Text>, Ve
     ensures { IfOk result (λ x. AreInOrder docs.items x.0 x.1.items) }
 {
     let mut docs = docs;
-    match docs.sort_by(|a, b| a.0.cmp(&b.0)) {
-        Ok(()) => {}
-        Err(_) => return Err(NoMemory),
-    }
+    docs.sort_by(|a, b| a.0.cmp(&b.0))?;
     let mut names = Row::new(alloc);
     let mut lengths = Vec::new(alloc);
     for (_, record) in docs {
         let DocRecord { name, length, .. } = record;
-        match names.push(name) {
-            Ok(()) => {}
-            Err(_) => return Err(NoMemory),
-        }
-        match lengths.push(length) {
-            Ok(()) => {}
-            Err(_) => return Err(NoMemory),
-        }
+        names.push(name)?;
+        lengths.push(length)?;
     }
     Ok((names, lengths))
 }

@@ -1,4 +1,4 @@
-ghost use Rattle.std.specs.Prelude.{ℕ, ◌≡◌, ◌≢◌, ◌≤◌, ◌^◌, length, MatchResult, IfErr, IfOk, IsErrOf, OnOk};
+ghost use Rattle.std.specs.Prelude.{◌≡◌, ◌≢◌, ◌≤◌, length, MatchResult, IfErr, IfOk, IsErrOf, OnOk};
 ghost use Rattle.jass_base.specs.CiffViews.{list_data};
 ghost use Rattle.jass_base.specs.Lists.{HasDocsBelow};
 ghost use Rattle.jass_base.specs.Outside.{Rose, ForContent};
@@ -188,10 +188,7 @@ pub(crate) fn read_segments<C: Cabinet>(
     ensures later { C.read_faults files.old ≤ C.read_faults files.new }
     ensures others { C.write_faults files.old ≤ C.write_faults files.new }
 {
-    let list = match read_again(walk, files, place) {
-        Ok(list) => list,
-        Err(fault) => return Err(fault),
-    };
+    let list = read_again(walk, files, place)?;
     let made = make_segments(scratch, alloc, weighing, bits, range, &list, place.at);
     walk.take_back(list.postings);
     match made {

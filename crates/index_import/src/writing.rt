@@ -1,4 +1,4 @@
-ghost use Rattle.std.specs.Prelude.{ℕ, ◌≡◌, ◌≢◌, ◌≤◌, ◌^◌, List, length, map, All, IfErr, IfOk, IsErrOf};
+ghost use Rattle.std.specs.Prelude.{◌≡◌, ◌≢◌, ◌≤◌, List, length, map, All, IfErr, IfOk, IsErrOf};
 ghost use Rattle.jass_base.specs.Outside.{Appended, Rose};
 ghost use Rattle.weights.specs.Quantizing.{IsImpactWidth};
 ghost use Rattle.ciff_read.specs.Walk.{HasKept};
@@ -6,7 +6,7 @@ ghost use Rattle.impact_segments.specs.OneList.{EndsLow};
 ghost use Rattle.index_model.specs.Index.{TermData};
 ghost use Rattle.index_write.specs.Streaming.{AreEntries, AreNames, entries_totals, entry_data};
 ghost use Rattle.index_import.specs.Private.Faults.{unappended, unbegun};
-ghost use Rattle.index_import.specs.Importing.{HasTerms, Writes};
+ghost use Rattle.index_import.specs.Private.Writing.{HasTerms, Writes};
 ghost use Rattle.index_import.specs.Private.Surveying.{IsReady};
 ghost use Rattle.index_import.specs.declared.list_entry.Place.{Place};
 

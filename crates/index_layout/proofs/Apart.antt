@@ -1,14 +1,9 @@
 -- Segments that share no document.
-use Rattle.std.proofs.Common.{inl, inr, ◌≡◌, ℕ, suc, Bool, true, false, nat_eq, List, [], ◌∷◌, ◌++◌, All, ap, sym, ◌∙◌, refl, arith, slice_index_or}
-use Rattle.std.specs.Prelude.{⊤, ◌⊎◌, Contains, AllPairs}
-use Rattle.std.proofs.lemmas.Bool.Decides.{nat_tests}
-use Rattle.std.proofs.lemmas.Cmp.{nat_eq_equiv}
-use Rattle.std.proofs.lemmas.List.Elements.{All-head, All-tail, All-cons, All-nil, Contains-append_left, Contains-append_right, Contains-append_cases}
-use Rattle.std.proofs.lemmas.List.Folds.{Any-from_list_any, list_any_at}
-use Rattle.std.proofs.lemmas.List.Kept.{AllPairs-cons}
-use Rattle.std.proofs.lemmas.Map.Views.{Contains-from_any, list_any-from_Contains}
+use Rattle.shared_lemmas.proofs.Common.{inl, inr, ◌≡◌, ℕ, suc, Bool, true, false, List, [], ◌∷◌, ◌++◌, All, ap, sym, ◌∙◌, refl, arith, slice_index_or, ⊤, ◌⊎◌, Contains, AllPairs, nat_eq_equiv, All-head, All-tail, All-cons, All-nil, Contains-append_left, Contains-append_right, Contains-append_cases}
+use Rattle.shared_lemmas.proofs.Common.{Any-from_list_any, list_any_at, AllPairs-cons, Contains-from_any, list_any-from_Contains}
 use Rattle.index_model.specs.Index.{SegmentData, SharesNoDocument}
 use Rattle.index_layout.specs.Reading.{is_among, shares_one}
+use Rattle.std.proofs.lemmas.Bool.{eqb-true}
 
 pub pairs_nil : {X : Type 0} (R : X → X → Type 0) → AllPairs R []
 pairs_nil R = λ i j d less inside. absurd (omega (arith, inside))
@@ -26,14 +21,11 @@ AreApart earlier docs = (doc : ℕ) → Contains earlier doc → ¬ Contains doc
 apart_found : (earlier docs : List ℕ) → AreApart earlier docs → shares_one earlier docs ≡ false
 apart_found earlier docs none = by_answer (shares_one earlier docs) refl
   where
-    same : (x y : ℕ) → nat_eq x y ≡ true → x ≡ y
-    same x y is = grind (arith, nat_tests, is)
-
     by_answer : (b : Bool) → b ≡ shares_one earlier docs → shares_one earlier docs ≡ false
     by_answer false is = sym is
     by_answer true is =
         let any = Any-from_list_any (is_among earlier) docs (sym is) in
-        absurd (none any.1 (Contains-from_any same any.1 earlier any.4) (any.0, any.2, any.3))
+        absurd (none any.1 (Contains-from_any eqb-true any.1 earlier any.4) (any.0, any.2, any.3))
 
 apart_only : (earlier docs : List ℕ) → shares_one earlier docs ≡ false → AreApart earlier docs
 apart_only earlier docs is = λ doc one two.

@@ -1,10 +1,12 @@
 -- What is read behind what was read before.
-use Rattle.std.proofs.Common.{◌≡◌, List, [], ◌∷◌, ◌++◌, Result, Ok, Err, append_assoc, ap, sym, refl}
+use Rattle.std.proofs.Common.{◌≡◌, List, [], ◌∷◌, ◌++◌, Result, Ok, Err, append_assoc, ap, sym, refl, ℕ, suc, ◌∙◌}
 use Rattle.index_model.specs.Index.{SegmentData, TermData}
 use Rattle.index_layout.specs.declared.refusal.OpenRefusal.{OpenRefusal}
 use Rattle.index_layout.specs.Heads.{HeadData, TermHeads}
 use Rattle.index_layout.specs.Refusals.{◌>>=◌}
-use Rattle.index_layout.specs.Reading.{HeadsRead, TermsRead, SegmentsRead, IndexRead}
+use Rattle.index_layout.specs.Reading.{HeadsRead, TermsRead, SegmentsRead, IndexRead, head_end, head_in, read_heads}
+use Rattle.index_layout.specs.Bytes.{u16_in}
+use Rattle.index_layout.proofs.HeadLaws.{head_impact}
 
 -- ---- heads
 
@@ -14,6 +16,18 @@ with_heads front read = read >>= λ x. Ok (record { heads = front ++ x.heads; en
 pub behind_heads : (front : List HeadData) (h : HeadData) (read : Result HeadsRead OpenRefusal) → with_heads front (read >>= λ later. Ok (record { heads = h ∷ later.heads; end = later.end })) ≡ with_heads (front ++ h ∷ []) read
 behind_heads front h (Ok x) = ap (λ (heads : List HeadData). (let r : Result HeadsRead OpenRefusal = Ok (record { heads = heads; end = x.end }) in r)) (sym (append_assoc front (h ∷ []) x.heads))
 behind_heads front h (Err e) = refl
+
+-- one head more
+pub heads_on : (bytes : List ℕ) (d : ℕ) (total : Result HeadsRead OpenRefusal) (front : List HeadData) (k left above at next : ℕ) (h : HeadData) → total ≡ with_heads front (read_heads bytes d k above at) → k ≡ suc left
+    → head_end bytes d above at ≡ Ok next → h ≡ head_in bytes at
+    → total ≡ with_heads (front ++ h ∷ []) (read_heads bytes d left h.impact next)
+heads_on bytes d total front k left above at next h is more end head =
+    let impact : u16_in bytes at ≡ h.impact = sym (head_impact bytes at) ∙ ap (λ (h : HeadData). h.impact) (sym head) in
+    is ∙ ap (λ n. with_heads front (read_heads bytes d n above at)) more
+    ∙ ap (λ (e : Result ℕ OpenRefusal). with_heads front (e >>= λ next. (read_heads bytes d left (u16_in bytes at) next >>= λ later. Ok (record { heads = head_in bytes at ∷ later.heads; end = later.end })))) end
+    ∙ behind_heads front (head_in bytes at) (read_heads bytes d left (u16_in bytes at) next)
+    ∙ ap (λ h. with_heads (front ++ h ∷ []) (read_heads bytes d left (u16_in bytes at) next)) (sym head)
+    ∙ ap (λ n. with_heads (front ++ h ∷ []) (read_heads bytes d left n next)) impact
 
 -- ---- terms with their heads
 

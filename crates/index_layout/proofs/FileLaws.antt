@@ -1,16 +1,13 @@
 -- Files are read as they are written.
-use Rattle.std.proofs.Common.{map, ◌∷◌, ◌≡◌, ℕ, ◌+◌, ◌<◌, ◌≤◌, ◌^◌, ◌==◌, ◌||◌, not, false, nat_lt, nat_eq, List, [], ◌++◌, length, take, drop, All, Some, None, Result, Ok, ap, sym, subst, ◌∙◌, refl, arith}
-use Rattle.std.specs.List.{starts_with}
+use Rattle.shared_lemmas.proofs.Common.{map, ◌∷◌, ◌≡◌, ℕ, ◌+◌, ◌<◌, ◌≤◌, ◌^◌, ◌==◌, ◌||◌, not, false, nat_lt, nat_eq, List, [], ◌++◌, length, take, drop, All, Some, None, Result, Ok, ap, sym, subst, ◌∙◌, refl, arith, starts_with, nat_tests, length-append, drop_all, take-append-drop, length-map}
+use Rattle.shared_lemmas.proofs.Common.{bytes_eq-Decides, or_parts, not-false}
 use borrow.Author.Tests.{ltb-false, eqb-true}
-use Rattle.std.proofs.lemmas.Bool.Decides.{nat_tests}
-use Rattle.std.proofs.lemmas.List.{length-append, append_assoc, append-nil, drop_all, take-append-drop, length-map}
-use Rattle.std.proofs.lemmas.Slice.Eq.{bytes_eq-Decides}
+use Rattle.std.proofs.lemmas.List.{append_assoc, append-nil}
 use Rattle.jass_base.specs.Gaps.{AreDocs}
 use Rattle.jass_base.specs.Limits.{IsName, IsText}
 use Rattle.segment_codecs.specs.declared.codec.Codec.{Codec}
 use Rattle.segment_codecs.specs.Codecs.{chosen_codec, codec_number, codec_of, payload_of, read_payload}
 use Rattle.index_model.specs.Index.{SegmentData, TermData, IndexData, IsIndex}
-use Rattle.std.proofs.lemmas.Bool.{or_parts, not-false}
 use Rattle.index_layout.specs.Bytes.{u32_in, u64_in, u32_bytes, u64_bytes}
 use Rattle.index_layout.specs.Heads.{TermHeads, terms_heads, head_postings, payloads_size, greatest_impact}
 use Rattle.index_layout.specs.Layout.{magic, old_magic, names_bytes, terms_bytes, file_length, totals_bytes, front_bytes, terms_payloads}
@@ -18,13 +15,14 @@ use Rattle.index_layout.specs.View.{FileView, IsFileView, HaveCodecs, view_heads
 use Rattle.index_layout.specs.declared.refusal.OpenRefusal.{OpenRefusal}
 use Rattle.index_layout.specs.Refusals.{◌>>=◌}
 use Rattle.index_layout.specs.Reading.{Front, NamesRead, TermsRead, IndexRead, front_checks, read_front, read_names, read_terms, read_payloads, head_codecs, end_checks, after_payloads, after_terms, after_names, after_front, read_index}
-use Rattle.index_layout.proofs.Judging.{same_ok, bind_ok, judged_ok, judged_all, behind, reaches}
+use Rattle.index_layout.proofs.Judging.{bind_ok, judged_ok, judged_all, behind, reaches}
 use Rattle.index_layout.proofs.Numbers.{Fit, u32_found, u64_found, u32_only, u64_only}
 use Rattle.index_layout.proofs.NameLaws.{NamesAre, names_found, names_only}
 use Rattle.index_layout.proofs.TermLaws.{TermsRise, TermsAre, terms_found, terms_only}
 use Rattle.index_layout.proofs.IndexFacts.{TermsStand, index_found, index_only}
 use Rattle.index_layout.proofs.PayloadLaws.{PayloadsAre, terms_rise, payloads_found, payloads_only}
 use Rattle.index_layout.proofs.Sums.{all_codecs_back, all_counted, all_sized, greatest_small, heads_length}
+use Rattle.shared_lemmas.proofs.Results.{ok_same}
 
 abbrev pub Found : Type 0
 Found = (codec : Codec) (d count : ℕ) (docs bytes : List ℕ) → AreDocs d docs → length docs ≡ count → bytes ≡ payload_of codec d docs → read_payload codec d count bytes ≡ Ok docs
@@ -38,11 +36,11 @@ Numbered = (codec : Codec) (number : ℕ) → codec_of number ≡ Some codec →
 pub step : {A B : Type 0} (r : Result A OpenRefusal) (f : A → Result B OpenRefusal) (x : A) → r ≡ Ok x → (r >>= f) ≡ f x
 step r f x is = ap (λ r. r >>= f) is
 
--- the first 40 bytes with these numbers
-abbrev first_bytes : (l d n p g : ℕ) → List ℕ → List ℕ
-first_bytes l d n p g rest = magic ++ (u64_bytes l ++ (u32_bytes d ++ (u32_bytes n ++ (u64_bytes p ++ (u32_bytes g ++ (u32_bytes 0 ++ rest))))))
+-- the first 40 bytes with these numbers, behind the 8 that tell the version
+abbrev pub first_bytes : (mark : List ℕ) (l d n p g : ℕ) → List ℕ → List ℕ
+first_bytes mark l d n p g rest = mark ++ (u64_bytes l ++ (u32_bytes d ++ (u32_bytes n ++ (u64_bytes p ++ (u32_bytes g ++ (u32_bytes 0 ++ rest))))))
 
-abbrev front_of : ℕ → ℕ → Result Front OpenRefusal
+abbrev pub front_of : ℕ → ℕ → Result Front OpenRefusal
 front_of d n = Ok (record { docs = d; terms = n })
 
 record FrontThere (bytes rest : List ℕ) (d n p g : ℕ) : Type 0 where
@@ -52,7 +50,7 @@ record FrontThere (bytes rest : List ℕ) (d n p g : ℕ) : Type 0 where
   pub long : 40 ≤ length bytes
   pub stands : drop 40 bytes ≡ rest
 
-front_found : (bytes rest : List ℕ) (l d n p g : ℕ) → bytes ≡ first_bytes l d n p g rest → l ≡ length bytes → length bytes ≤ 2 ^ 32 → d ≤ 2 ^ 26 → n ≤ 2 ^ 24 → p ≤ 2 ^ 29 → g ≤ 65536 → FrontThere bytes rest d n p g
+front_found : (bytes rest : List ℕ) (l d n p g : ℕ) → bytes ≡ first_bytes magic l d n p g rest → l ≡ length bytes → length bytes ≤ 2 ^ 32 → d ≤ 2 ^ 26 → n ≤ 2 ^ 24 → p ≤ 2 ^ 29 → g ≤ 65536 → FrontThere bytes rest d n p g
 unfolding read_front front_checks
 front_found bytes rest l d n p g spelled whole short docs terms few small =
     let tail = u32_bytes 0 ++ rest in
@@ -83,16 +81,16 @@ front_found bytes rest l d n p g spelled whole short docs terms few small =
 -- the bytes of a view in parts
 view_is : (names : List (List ℕ)) (heads : List TermHeads) (terms : List TermData) (codecs : List (List Codec)) → terms_heads (length names) terms codecs ≡ heads
     → file_bytes (record { index = record { names = names; terms = terms }; codecs = codecs })
-    ≡ first_bytes (file_length names heads) (length names) (length heads) (head_postings heads) (greatest_impact heads) (names_bytes names ++ (terms_bytes [] heads ++ terms_payloads (length names) terms codecs))
+    ≡ first_bytes magic (file_length names heads) (length names) (length heads) (head_postings heads) (greatest_impact heads) (names_bytes names ++ (terms_bytes [] heads ++ terms_payloads (length names) terms codecs))
 unfolding file_bytes front_bytes totals_bytes view_heads view_payloads
 view_is names heads terms codecs same =
-    ap (λ heads. first_bytes (file_length names heads) (length names) (length heads) (head_postings heads) (greatest_impact heads) ((names_bytes names ++ terms_bytes [] heads) ++ terms_payloads (length names) terms codecs)) same
-    ∙ ap (first_bytes (file_length names heads) (length names) (length heads) (head_postings heads) (greatest_impact heads)) (append_assoc (names_bytes names) (terms_bytes [] heads) (terms_payloads (length names) terms codecs))
+    ap (λ heads. first_bytes magic (file_length names heads) (length names) (length heads) (head_postings heads) (greatest_impact heads) ((names_bytes names ++ terms_bytes [] heads) ++ terms_payloads (length names) terms codecs)) same
+    ∙ ap (first_bytes magic (file_length names heads) (length names) (length heads) (head_postings heads) (greatest_impact heads)) (append_assoc (names_bytes names) (terms_bytes [] heads) (terms_payloads (length names) terms codecs))
 
 whole_found : Found → (bytes : List ℕ) (names : List (List ℕ)) (heads : List TermHeads) (terms : List TermData) (codecs : List (List Codec)) → All IsName names → All IsText names → length names ≤ 2 ^ 26 → length heads ≤ 2 ^ 24 → head_postings heads ≤ 2 ^ 29
     → HaveCodecs terms codecs → TermsStand (length names) None terms → terms_heads (length names) terms codecs ≡ heads → TermsRise (length names) None heads → head_codecs heads ≡ codecs → payloads_size heads ≡ length (terms_payloads (length names) terms codecs)
     → length bytes ≤ 2 ^ 32
-    → bytes ≡ first_bytes (file_length names heads) (length names) (length heads) (head_postings heads) (greatest_impact heads) (names_bytes names ++ (terms_bytes [] heads ++ terms_payloads (length names) terms codecs))
+    → bytes ≡ first_bytes magic (file_length names heads) (length names) (length heads) (head_postings heads) (greatest_impact heads) (names_bytes names ++ (terms_bytes [] heads ++ terms_payloads (length names) terms codecs))
     → read_index bytes ≡ Ok (record { index = record { names = names; terms = terms }; codecs = codecs })
 unfolding read_index end_checks
 whole_found found bytes names heads terms codecs are texts few_names few_terms few have stand same rise back sizes short spelled =
@@ -119,10 +117,8 @@ whole_found found bytes names heads terms codecs are texts few_names few_terms f
     let terms_read : read_terms bytes d (length heads) None (40 + length nb) ≡ Ok y = terms_found bytes d None (40 + length nb) heads payloads rise few_names small short terms_in at_terms in
     let payloads_read : read_payloads bytes d heads at ≡ Ok z = ap (λ hs. read_payloads bytes d hs at) (sym same) ∙ payloads_found found bytes d None terms codecs at [] have stand payloads_in (at_payloads ∙ sym (append-nil payloads)) in
     let a : nat_lt (at + length payloads) (length bytes) ≡ false = (let e = ap length spelled in grind (arith, e, l_rest, l_more)) in
-    let postings = front.postings in
-    let greatest = front.greatest in
-    let b : not (u64_in bytes 24 == head_postings heads) ≡ false = rw postings (grind (arith, nat_tests)) in
-    let c : not (u32_in bytes 32 == greatest_impact heads) ≡ false = rw greatest (grind (arith, nat_tests)) in
+    let b : not (u64_in bytes 24 == head_postings heads) ≡ false = rw front.postings (grind (arith, nat_tests)) in
+    let c : not (u32_in bytes 32 == greatest_impact heads) ≡ false = rw front.greatest (grind (arith, nat_tests)) in
     let v : FileView = record { index = record { names = names; terms = terms }; codecs = head_codecs heads } in
     step (read_front bytes) (after_front bytes) first front.read
     ∙ step (read_names bytes d 40) (after_names bytes first) x names_read
@@ -148,7 +144,7 @@ record FrontRead (bytes : List ℕ) (front : Front) : Type 0 where
   pub docs : front.docs ≤ 2 ^ 26
   pub terms : front.terms ≤ 2 ^ 24
   pub postings : u64_in bytes 24 ≤ 2 ^ 29
-  pub spelled : bytes ≡ first_bytes (length bytes) front.docs front.terms (u64_in bytes 24) (u32_in bytes 32) (drop 40 bytes)
+  pub spelled : bytes ≡ first_bytes magic (length bytes) front.docs front.terms (u64_in bytes 24) (u32_in bytes 32) (drop 40 bytes)
 
 front_only : (bytes : List ℕ) (front : Front) → Fit bytes → read_front bytes ≡ Ok front → FrontRead bytes front
 unfolding read_front front_checks
@@ -180,13 +176,13 @@ front_only bytes front fits read =
           ∙ ap (λ xs. u32_bytes (u32_in bytes 32) ++ xs) (u32_only bytes 36 fits (omega (arith, long)) ∙ ap (λ n. u32_bytes n ++ drop 40 bytes) zero_is))))));
     }
 
-same_first : (l d n p g : ℕ) (rest : List ℕ) (l2 d2 n2 p2 g2 : ℕ) (rest2 : List ℕ) → l ≡ l2 → d ≡ d2 → n ≡ n2 → p ≡ p2 → g ≡ g2 → rest ≡ rest2 → first_bytes l d n p g rest ≡ first_bytes l2 d2 n2 p2 g2 rest2
-same_first l d n p g rest l2 d2 n2 p2 g2 rest2 a b c e f h = rw (a, b, c, e, f, h) refl
+pub same_first : (mark : List ℕ) (l d n p g : ℕ) (rest : List ℕ) (l2 d2 n2 p2 g2 : ℕ) (rest2 : List ℕ) → l ≡ l2 → d ≡ d2 → n ≡ n2 → p ≡ p2 → g ≡ g2 → rest ≡ rest2 → first_bytes mark l d n p g rest ≡ first_bytes mark l2 d2 n2 p2 g2 rest2
+same_first mark l d n p g rest l2 d2 n2 p2 g2 rest2 a b c e f h = rw (a, b, c, e, f, h) refl
 
 -- the bytes of parts that were read
 whole_only : (bytes : List ℕ) (front : Front) (names : List (List ℕ)) (heads : List TermHeads) (payloads : List ℕ) → FrontRead bytes front → length names ≡ front.docs → length heads ≡ front.terms → payloads_size heads ≡ length payloads
     → u64_in bytes 24 ≡ head_postings heads → u32_in bytes 32 ≡ greatest_impact heads → drop 40 bytes ≡ names_bytes names ++ (terms_bytes [] heads ++ payloads)
-    → bytes ≡ first_bytes (file_length names heads) (length names) (length heads) (head_postings heads) (greatest_impact heads) (names_bytes names ++ (terms_bytes [] heads ++ payloads))
+    → bytes ≡ first_bytes magic (file_length names heads) (length names) (length heads) (head_postings heads) (greatest_impact heads) (names_bytes names ++ (terms_bytes [] heads ++ payloads))
 whole_only bytes front names heads payloads first docs terms sizes postings greatest rest =
     let nb = names_bytes names in
     let tb = terms_bytes [] heads in
@@ -195,7 +191,7 @@ whole_only bytes front names heads payloads first docs terms sizes postings grea
     let g = length-append nb (tb ++ payloads) in
     let h = length-append tb payloads in
     let whole : length bytes ≡ file_length names heads = omega (arith, e, f, g, h, sizes) in
-    first.spelled ∙ same_first (length bytes) front.docs front.terms (u64_in bytes 24) (u32_in bytes 32) (drop 40 bytes) (file_length names heads) (length names) (length heads) (head_postings heads) (greatest_impact heads) (nb ++ (tb ++ payloads))
+    first.spelled ∙ same_first magic (length bytes) front.docs front.terms (u64_in bytes 24) (u32_in bytes 32) (drop 40 bytes) (file_length names heads) (length names) (length heads) (head_postings heads) (greatest_impact heads) (nb ++ (tb ++ payloads))
     whole (sym docs) (sym terms) postings greatest rest
 
 -- the view that was read
@@ -275,4 +271,4 @@ unfolding index_text
 text_is index is few short = record { index = is; codecs = have_chosen (length index.names) index.terms; postings = few; fits = short }
 
 pub one_view : (v w : FileView) → read_index (file_bytes v) ≡ Ok v → read_index (file_bytes w) ≡ Ok w → file_bytes v ≡ file_bytes w → v ≡ w
-one_view v w first second same = same_ok v w (sym first ∙ ap read_index same ∙ second)
+one_view v w first second same = ok_same v w (sym first ∙ ap read_index same ∙ second)

@@ -1,7 +1,5 @@
 -- The greatest impact, in parts.
-use Rattle.std.proofs.Common.{◌≡◌, List, [], ◌∷◌, ◌++◌, map, ap, sym, ◌∙◌, refl, arith}
-use Rattle.std.specs.Prelude.{max}
-use Rattle.std.specs.List.{flat_map}
+use Rattle.std.proofs.Common.{◌≡◌, List, [], ◌∷◌, ◌++◌, map, ap, sym, ◌∙◌, refl, arith, max, flat_map}
 use Rattle.jass_base.specs.declared.segment.Segment.{Segment}
 use Rattle.jass_base.specs.declared.term_segments.TermSegments.{TermSegments}
 use Rattle.jass_base.specs.Terms as memory

@@ -1,24 +1,21 @@
 -- Heads are read as they are written.
-use Rattle.std.proofs.Common.{◌≡◌, ℕ, suc, zero, ◌+◌, ◌<◌, ◌≤◌, ◌^◌, ◌==◌, ◌||◌, false, nat_lt, nat_le, List, [], ◌∷◌, ◌++◌, length, drop, Option, Some, None, Result, Ok, ap, sym, subst, ◌∙◌, refl, arith, slice_index}
-use Rattle.std.specs.Prelude.{⊤}
-use Rattle.std.specs.Option.{unwrap_or, is_none}
-use Rattle.std.specs.List.{sum_by}
+use Rattle.shared_lemmas.proofs.Common.{◌≡◌, ℕ, suc, zero, ◌+◌, ◌<◌, ◌≤◌, ◌^◌, ◌==◌, ◌||◌, false, nat_lt, nat_le, List, [], ◌∷◌, ◌++◌, length, drop, Option, Some, None, Result, Ok, ap, sym, subst, ◌∙◌, refl, arith, slice_index, ⊤, is_none, sum_by, length-append, get_or-drop, sum_by-cons, nat_tests}
+use Rattle.shared_lemmas.proofs.Common.{or_parts}
+use Rattle.std.specs.Prelude.{unwrap_or}
 use borrow.Author.Tests.{ltb-false}
-use Rattle.std.proofs.lemmas.List.{length-append, append_assoc, get_or-drop}
-use Rattle.std.proofs.lemmas.List.Sums.{sum_by-cons}
-use Rattle.std.proofs.lemmas.Bool.Decides.{nat_tests}
+use Rattle.std.proofs.lemmas.List.{append_assoc}
 use Rattle.segment_codecs.specs.declared.codec.Codec.{Codec}
 use Rattle.segment_codecs.specs.declared.codec.Codec.TheVariants.{Varbyte, Packed, Bitmap, Simple8}
 use Rattle.segment_codecs.specs.Codecs.{codec_number, codec_of}
-use Rattle.std.proofs.lemmas.Bool.{or_parts}
 use Rattle.index_layout.specs.Bytes.{u16_in, u32_in, u16_bytes, u32_bytes}
 use Rattle.index_layout.specs.Heads.{HeadData}
 use Rattle.index_layout.specs.Layout.{head_bytes, heads_bytes}
 use Rattle.index_layout.specs.declared.refusal.OpenRefusal.{OpenRefusal}
 use Rattle.index_layout.specs.Refusals.{◌>>=◌}
 use Rattle.index_layout.specs.Reading.{HeadsRead, head_in, head_checks, head_end, read_heads}
-use Rattle.index_layout.proofs.Judging.{bind_ok, same_ok, judged_ok, judged_all, behind, reaches, parts_stand}
+use Rattle.index_layout.proofs.Judging.{bind_ok, judged_ok, judged_all, behind, reaches, parts_stand}
 use Rattle.index_layout.proofs.Numbers.{Fit, u16_found, u32_found, u16_only, u32_only, cell}
+use Rattle.shared_lemmas.proofs.Results.{ok_same}
 
 -- a head whose numbers are in range, with an impact below a number
 pub record IsHead (d above : ℕ) (h : HeadData) : Type 0 where
@@ -60,13 +57,9 @@ head_found bytes d above at h rest is below limit small from stands =
     let codec : slice_index bytes (at + 6) ≡ number = ap (slice_index bytes) (omega arith) ∙ sym (get_or-drop (at + 6) bytes 0 0) ∙ ap (λ (b : List ℕ). slice_index b 0) six in
     let there : codec_of (slice_index bytes (at + 6)) ≡ Some h.codec = ap codec_of codec ∙ known h.codec in
     let end : at + 11 ≤ length bytes = reaches bytes at (head_bytes h) rest stands from in
-    let some = is.some in
-    let falls = is.falls in
-    let postings = is.postings in
-    let few = is.few in
     let a : nat_lt (length bytes) (at + 11) ≡ false = grind (arith) in
-    let b : (u16_in bytes at == 0 || nat_le above (u16_in bytes at)) ≡ false = rw impact (grind (arith, nat_tests, some, falls)) in
-    let e : (u32_in bytes (at + 2) == 0 || nat_lt d (u32_in bytes (at + 2))) ≡ false = rw count (grind (arith, nat_tests, postings, few)) in
+    let b : (u16_in bytes at == 0 || nat_le above (u16_in bytes at)) ≡ false = rw impact (grind (arith, nat_tests, is.some, is.falls)) in
+    let e : (u32_in bytes (at + 2) == 0 || nat_lt d (u32_in bytes (at + 2))) ≡ false = rw count (grind (arith, nat_tests, is.postings, is.few)) in
     let f : is_none (codec_of (slice_index bytes (at + 6))) ≡ false = ap is_none there in
     record {
       end = judged_all (head_checks bytes d above at) (at + 11) (a, (b, (e, (f, tt))));
@@ -135,14 +128,14 @@ module _ (numbered : (codec : Codec) (number : ℕ) → codec_of number ≡ Some
       }
 
   pub heads_only : (bytes : List ℕ) (d above k at : ℕ) (x : HeadsRead) → Fit bytes → at ≤ length bytes → read_heads bytes d k above at ≡ Ok x → HeadsAre bytes d above at k x
-  heads_only bytes d above zero at x fits from read = subst (HeadsAre bytes d above at 0) (same_ok (record { heads = []; end = at }) x read) (record { fall = tt; count = refl; stand = refl; within = from })
+  heads_only bytes d above zero at x fits from read = subst (HeadsAre bytes d above at 0) (ok_same (record { heads = []; end = at }) x read) (record { fall = tt; count = refl; stand = refl; within = from })
   heads_only bytes d above (suc k) at x fits from read =
       let h = head_in bytes at in
       let a = bind_ok (head_end bytes d above at) (λ next. (read_heads bytes d k (u16_in bytes at) next >>= λ later. Ok (record { heads = head_in bytes at ∷ later.heads; end = later.end }))) x read in
       let one = head_only bytes d above at a.0 fits a.1 in
       let b = bind_ok (read_heads bytes d k (u16_in bytes at) a.0) (λ later. Ok (record { heads = head_in bytes at ∷ later.heads; end = later.end })) x a.2 in
       let later = heads_only bytes d (u16_in bytes at) k a.0 b.0 fits one.within b.1 in
-      subst (HeadsAre bytes d above at (suc k)) (same_ok (record { heads = h ∷ b.0.heads; end = b.0.end }) x b.2) (record {
+      subst (HeadsAre bytes d above at (suc k)) (ok_same (record { heads = h ∷ b.0.heads; end = b.0.end }) x b.2) (record {
         fall = (one.is, subst (λ n. HeadsFall d n b.0.heads) (sym (head_impact bytes at)) later.fall);
         count = ap suc later.count;
         stand = parts_stand bytes at a.0 b.0.end (head_bytes h) (heads_bytes b.0.heads) one.stands later.stand;

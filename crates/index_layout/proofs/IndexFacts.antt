@@ -1,8 +1,5 @@
 -- Indexes, seen from the left.
-use Rattle.std.proofs.Common.{◌≡◌, ℕ, ◌<◌, ◌≤◌, true, List, [], ◌∷◌, length, All, Option, Some, None, refl, arith, slice_index_or}
-use Rattle.std.specs.Prelude.{⊤, AllPairs}
-use Rattle.std.proofs.lemmas.List.Elements.{All-head, All-tail, All-cons, All-nil}
-use Rattle.std.proofs.lemmas.List.Kept.{AllPairs-cons}
+use Rattle.shared_lemmas.proofs.Common.{◌≡◌, ℕ, ◌<◌, ◌≤◌, true, List, [], ◌∷◌, length, All, Option, Some, None, refl, arith, slice_index_or, ⊤, AllPairs, All-head, All-tail, All-cons, All-nil, AllPairs-cons}
 use Rattle.jass_base.specs.Terms.{BytesRise}
 use Rattle.index_model.specs.Index.{SegmentData, TermData, IndexData, IsSegment, IsTerm, IsIndex, FallsTo, RisesTo}
 use Rattle.jass_base.proofs.ByteOrder.{bytes_rise_on}

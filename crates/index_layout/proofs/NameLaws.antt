@@ -1,22 +1,17 @@
 -- Names are read as they are written.
-use Rattle.std.proofs.Common.{◌≡◌, ◌≢◌, ℕ, suc, zero, ◌+◌, ◌-◌, ◌<◌, ◌≤◌, ◌==◌, ◌||◌, ◌&&◌, not, true, false, nat_lt, List, [], ◌∷◌, ◌++◌, length, take, drop, All, Result, Ok, ap, sym, subst, ◌∙◌, refl, arith}
-use Rattle.std.specs.Prelude.{slice_range}
+use Rattle.shared_lemmas.proofs.Common.{◌≡◌, ◌≢◌, ℕ, suc, zero, ◌+◌, ◌-◌, ◌<◌, ◌≤◌, ◌==◌, ◌||◌, ◌&&◌, not, true, false, nat_lt, List, [], ◌∷◌, ◌++◌, length, take, drop, All, Result, Ok, ap, sym, subst, ◌∙◌, refl, arith, slice_range, list_all, is_utf8, take-append_seam, length-append, length-drop}
+use Rattle.shared_lemmas.proofs.Common.{take-append-drop, drop-drop, length-take-le, nat_tests, All-head, All-tail, All-cons, All-nil, and_parts, or_parts, not-false}
 use borrow.Author.Tests.{ltb-false}
-use Rattle.std.specs.List.{list_all}
-use Rattle.std.specs.Str.{is_utf8}
-use Rattle.std.proofs.Math.Seq.{take-append_seam}
-use Rattle.std.proofs.lemmas.List.{length-append, append_assoc, length-drop, take-append-drop, drop-drop, length-take-le}
-use Rattle.std.proofs.lemmas.Bool.Decides.{nat_tests}
-use Rattle.std.proofs.lemmas.List.Elements.{All-head, All-tail, All-cons, All-nil}
+use Rattle.std.proofs.lemmas.List.{append_assoc}
 use Rattle.jass_base.specs.Limits.{IsName, IsText}
-use Rattle.std.proofs.lemmas.Bool.{and_parts, or_parts, not-false}
 use Rattle.index_layout.specs.Bytes.{u32_in, u32_bytes}
 use Rattle.index_layout.specs.Layout.{name_bytes, names_bytes}
 use Rattle.index_layout.specs.declared.refusal.OpenRefusal.{OpenRefusal}
 use Rattle.index_layout.specs.Refusals.{◌>>=◌}
 use Rattle.index_layout.specs.Reading.{NamesRead, is_name_text, name_checks, name_in, name_end, read_names}
-use Rattle.index_layout.proofs.Judging.{bind_ok, same_ok, judged_ok, judged_all, behind, reaches, parts_stand}
+use Rattle.index_layout.proofs.Judging.{bind_ok, judged_ok, judged_all, behind, reaches, parts_stand}
 use Rattle.index_layout.proofs.Numbers.{Fit, u32_found, u32_only}
+use Rattle.shared_lemmas.proofs.Results.{ok_same}
 
 -- a visible byte
 seen : (b : ℕ) → (nat_lt 32 b && not (b == 127)) ≡ true → (32 < b) × (b ≢ 127)
@@ -101,13 +96,13 @@ pub record NamesAre (bytes : List ℕ) (at k : ℕ) (x : NamesRead) : Type 0 whe
   pub within : x.end ≤ length bytes
 
 pub names_only : (bytes : List ℕ) (k at : ℕ) (x : NamesRead) → Fit bytes → at ≤ length bytes → read_names bytes k at ≡ Ok x → NamesAre bytes at k x
-names_only bytes zero at x fits from read = subst (NamesAre bytes at 0) (same_ok (record { names = []; end = at }) x read) (record { are = All-nil IsName; texts = All-nil IsText; count = refl; stand = refl; within = from })
+names_only bytes zero at x fits from read = subst (NamesAre bytes at 0) (ok_same (record { names = []; end = at }) x read) (record { are = All-nil IsName; texts = All-nil IsText; count = refl; stand = refl; within = from })
 names_only bytes (suc k) at x fits from read =
     let a = bind_ok (name_end bytes at) (λ next. (read_names bytes k next >>= λ later. Ok (record { names = name_in bytes at ∷ later.names; end = later.end }))) x read in
     let one = name_only bytes at a.0 fits a.1 in
     let b = bind_ok (read_names bytes k a.0) (λ later. Ok (record { names = name_in bytes at ∷ later.names; end = later.end })) x a.2 in
     let later = names_only bytes k a.0 b.0 fits one.within b.1 in
-    subst (NamesAre bytes at (suc k)) (same_ok (record { names = name_in bytes at ∷ b.0.names; end = b.0.end }) x b.2) (record {
+    subst (NamesAre bytes at (suc k)) (ok_same (record { names = name_in bytes at ∷ b.0.names; end = b.0.end }) x b.2) (record {
       are = All-cons IsName (name_in bytes at) b.0.names one.is later.are;
       texts = All-cons IsText (name_in bytes at) b.0.names one.text later.texts;
       count = ap suc later.count;

@@ -1,8 +1,6 @@
 -- Numbers are read as they are written.
-use Rattle.std.proofs.Common.{◌≡◌, ℕ, suc, zero, ◌+◌, ◌<◌, ◌≤◌, ◌^◌, List, [], ◌∷◌, ◌++◌, length, drop, map, All, ap, sym, ◌∙◌, refl, arith, slice_index}
-use Rattle.std.proofs.lemmas.List.{get_or-drop, drop_more}
-use Rattle.std.proofs.lemmas.List.Elements.{All-head, All-tail}
-use Rattle.std.proofs.lemmas.Nat.{le_bytes_2, le_bytes_4, le_bytes_8, from_le_bytes-to_le_bytes_2, from_le_bytes-to_le_bytes_4, from_le_bytes-to_le_bytes_8}
+use Rattle.shared_lemmas.proofs.Common.{◌≡◌, ℕ, suc, zero, ◌+◌, ◌<◌, ◌≤◌, ◌^◌, List, [], ◌∷◌, ◌++◌, length, drop, map, All, ap, sym, ◌∙◌, refl, arith, slice_index, get_or-drop, drop_more, All-head, All-tail, le_bytes_2, le_bytes_4, le_bytes_8, from_le_bytes-to_le_bytes_2}
+use Rattle.shared_lemmas.proofs.Common.{from_le_bytes-to_le_bytes_4, from_le_bytes-to_le_bytes_8}
 use Rattle.index_layout.specs.Bytes.{u16_in, u32_in, u64_in, u16_bytes, u32_bytes, u64_bytes}
 
 -- each byte is below 256

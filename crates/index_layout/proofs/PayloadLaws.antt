@@ -1,10 +1,8 @@
 -- Payloads are read as they are written.
-use Rattle.std.proofs.Common.{◌≡◌, ℕ, suc, ◌+◌, ◌-◌, ◌<◌, ◌≤◌, ◌^◌, false, nat_lt, List, [], ◌∷◌, ◌++◌, length, take, drop, All, Option, Some, Result, Ok, Err, ap, sym, subst, ◌∙◌, refl, arith}
-use Rattle.std.specs.Prelude.{slice_range, map}
+use Rattle.shared_lemmas.proofs.Common.{◌≡◌, ℕ, suc, ◌+◌, ◌-◌, ◌<◌, ◌≤◌, ◌^◌, false, nat_lt, List, [], ◌∷◌, ◌++◌, length, take, drop, All, Option, Some, Result, Ok, Err, ap, sym, subst, ◌∙◌, refl, arith, slice_range, map, take-append_seam, length-append, length-drop, take-append-drop, drop-drop}
+use Rattle.shared_lemmas.proofs.Common.{length-take-le, length-map, All-take, All-drop, All-from_get_or}
 use borrow.Author.Tests.{ltb-false}
-use Rattle.std.proofs.Math.Seq.{take-append_seam}
-use Rattle.std.proofs.lemmas.List.{length-append, append_assoc, length-drop, take-append-drop, drop-drop, length-take-le, length-map}
-use Rattle.std.proofs.lemmas.List.Elements.{All-take, All-drop, All-from_get_or}
+use Rattle.std.proofs.lemmas.List.{append_assoc}
 use Rattle.jass_base.specs.Gaps.{AreDocs}
 use Rattle.jass_base.specs.declared.payload_fault.PayloadFault.{PayloadFault}
 use Rattle.segment_codecs.specs.declared.codec.Codec.{Codec}
@@ -18,15 +16,13 @@ use Rattle.index_layout.specs.declared.refusal.OpenRefusal.{OpenRefusal}
 use Rattle.index_layout.specs.declared.refusal.OpenWhy.TheVariants.{Length, DocTwice}
 use Rattle.index_layout.specs.Refusals.{◌>>=◌, check, judged}
 use Rattle.index_layout.specs.Reading.{SegmentsRead, IndexRead, docs_or_none, payload_placed, shares_one, read_segment, docs_in, payload_end, read_segments, read_payloads, head_codecs}
-use Rattle.index_layout.proofs.Judging.{bind_ok, same_ok, judged_ok, behind, reaches, parts_stand}
+use Rattle.index_layout.proofs.Judging.{bind_ok, judged_ok, behind, reaches, parts_stand}
 use Rattle.index_layout.proofs.Numbers.{Fit}
 use Rattle.index_layout.proofs.HeadLaws.{HeadsFall}
 use Rattle.index_layout.proofs.Apart.{Alone}
 use Rattle.index_layout.proofs.TermLaws.{TermsRise}
 use Rattle.index_layout.proofs.IndexFacts.{SegmentsFall, TermsStand}
-
-pub docs_fit : (d : ℕ) (docs : List ℕ) → AreDocs d docs → length docs ≤ d
-docs_fit d docs are = few_below docs d are.rising are.below
+use Rattle.shared_lemmas.proofs.Results.{ok_same}
 
 -- the heads of segments that fall
 pub heads_fall : (d above : ℕ) (segments : List SegmentData) (codecs : List Codec) → length codecs ≡ length segments → SegmentsFall d above segments → HeadsFall d above (heads_of d segments codecs)
@@ -35,7 +31,7 @@ heads_fall d above (s ∷ segments) [] same fall = absurd (omega (arith, same))
 heads_fall d above (s ∷ segments) (codec ∷ codecs) same fall =
     let is = fall.0 in
     let some = is.docs.some in (
-      record { some = is.impact.0; falls = fall.1; postings = omega (arith, some); few = docs_fit d s.docs is.docs },
+      record { some = is.impact.0; falls = fall.1; postings = omega (arith, some); few = few_below s.docs d is.docs.rising is.docs.below },
       heads_fall d s.impact segments codecs (omega (arith, same)) fall.2,
     )
 
@@ -102,7 +98,7 @@ module _ (found : (codec : Codec) (d count : ℕ) (docs bytes : List ℕ) → Ar
       let long = length-append payloads (terms_payloads d terms codecs) in
       rw (one, later) (ap (λ n. (let r : Result IndexRead OpenRefusal = Ok (record { terms = t ∷ terms; end = n }) in r)) (omega (arith, long)))
 
-part_bytes : (bytes : List ℕ) (from to : ℕ) → Fit bytes → All (λ byte. byte < 256) (slice_range bytes from to)
+pub part_bytes : (bytes : List ℕ) (from to : ℕ) → Fit bytes → All (λ byte. byte < 256) (slice_range bytes from to)
 part_bytes bytes from to fits = All-take (λ byte. byte < 256) _ _ (All-drop (λ byte. byte < 256) _ _ (All-from_get_or (λ byte. byte < 256) bytes 0 (λ i inside. fits i)))
 
 -- a payload that was read
@@ -122,7 +118,7 @@ head_again bytes d earlier h at next is = ap (λ n. (let x : HeadData = record {
     ∙ ap (λ n. (let x : HeadData = record { impact = h.impact; count = h.count; codec = h.codec; size = n } in x)) is.size
 
 placed : (at : ℕ) (r : Result (List ℕ) PayloadFault) (docs : List ℕ) → payload_placed at r ≡ Ok docs → r ≡ Ok docs
-placed at (Ok x) docs is = ap Ok (same_ok x docs is)
+placed at (Ok x) docs is = ap Ok (ok_same x docs is)
 placed at (Err fault) docs is = absurd cc
 
 abbrev pub head_codec_list : List HeadData → List Codec
@@ -173,7 +169,7 @@ module _ (only : (codec : Codec) (d count : ℕ) (docs bytes : List ℕ) → 1 �
 
   pub segments_only : (bytes : List ℕ) (d above : ℕ) (earlier : List ℕ) (heads : List HeadData) (at : ℕ) (x : SegmentsRead) → Fit bytes → d ≤ 2 ^ 26 → above ≤ 65536 → HeadsFall d above heads → at ≤ length bytes → read_segments bytes d earlier heads at ≡ Ok x
       → SegmentsAre bytes d above earlier heads at x
-  segments_only bytes d above earlier [] at x fits limit below fall from read = subst (SegmentsAre bytes d above earlier [] at) (same_ok (record { segments = []; end = at }) x read) (record { fall = tt; alone = tt; same = refl; count = refl; stand = refl; within = from })
+  segments_only bytes d above earlier [] at x fits limit below fall from read = subst (SegmentsAre bytes d above earlier [] at) (ok_same (record { segments = []; end = at }) x read) (record { fall = tt; alone = tt; same = refl; count = refl; stand = refl; within = from })
   segments_only bytes d above earlier (h ∷ heads) at x fits limit below fall from read =
       let docs = docs_in bytes d h at in
       let s = segment_in bytes d h at in
@@ -187,7 +183,7 @@ module _ (only : (codec : Codec) (d count : ℕ) (docs bytes : List ℕ) → 1 �
       Ok (record { segments = record { impact = h.impact; docs = docs_in bytes d h at } ∷ later.segments; end = later.end })) x a.2 in
       let later = segments_only bytes d h.impact (earlier ++ docs) heads a.0 b.0 fits limit (omega (arith, falls, below)) fall.1 one.within b.1 in
       let codecs = head_codec_list heads in
-      subst (SegmentsAre bytes d above earlier (h ∷ heads) at) (same_ok (record { segments = s ∷ b.0.segments; end = b.0.end }) x b.2) (record {
+      subst (SegmentsAre bytes d above earlier (h ∷ heads) at) (ok_same (record { segments = s ∷ b.0.segments; end = b.0.end }) x b.2) (record {
         fall = (record { impact = (is.some, omega (arith, falls, below)); docs = one.docs }, falls, later.fall);
         alone = (one.alone, later.alone);
         same = ap (λ x. x ∷ heads_of d b.0.segments codecs) (head_again bytes d earlier h at a.0 one) ∙ ap (λ xs. h ∷ xs) later.same;
@@ -198,7 +194,7 @@ module _ (only : (codec : Codec) (d count : ℕ) (docs bytes : List ℕ) → 1 �
 
   pub payloads_only : (bytes : List ℕ) (d : ℕ) (before : Option (List ℕ)) (terms : List TermHeads) (at : ℕ) (x : IndexRead) → Fit bytes → d ≤ 2 ^ 26 → TermsRise d before terms → at ≤ length bytes
       → read_payloads bytes d terms at ≡ Ok x → PayloadsAre bytes d before terms at x
-  payloads_only bytes d before [] at x fits limit rise from read = subst (PayloadsAre bytes d before [] at) (same_ok (record { terms = []; end = at }) x read) (record { terms_stand = tt; have = refl; same = refl; count = refl; stand = refl; within = from })
+  payloads_only bytes d before [] at x fits limit rise from read = subst (PayloadsAre bytes d before [] at) (ok_same (record { terms = []; end = at }) x read) (record { terms_stand = tt; have = refl; same = refl; count = refl; stand = refl; within = from })
   payloads_only bytes d before (t ∷ terms) at x fits limit rise from read =
       let a = bind_ok (read_segments bytes d [] t.heads at) (λ here.
       (read_payloads bytes d terms here.end >>= λ later.
@@ -211,7 +207,7 @@ module _ (only : (codec : Codec) (d count : ℕ) (docs bytes : List ℕ) → 1 �
       let payloads = segments_payloads d a.0.segments codecs in
       let one : TermData = record { term = t.term; segments = a.0.segments } in
       let lengths : length codecs ≡ length a.0.segments = length-map t.heads (λ (h : HeadData). h.codec) ∙ sym here.count in
-      subst (PayloadsAre bytes d before (t ∷ terms) at) (same_ok (record { terms = one ∷ b.0.terms; end = b.0.end }) x b.2) (record {
+      subst (PayloadsAre bytes d before (t ∷ terms) at) (ok_same (record { terms = one ∷ b.0.terms; end = b.0.end }) x b.2) (record {
         terms_stand = (rise.0, subst (λ n. 1 ≤ n) (sym here.count) rise.1, here.fall, here.alone, later.terms_stand);
         have = ap (λ n. n ∷ map (λ (here : List Codec). length here) (head_codecs terms)) lengths ∙ ap (λ ns. length a.0.segments ∷ ns) later.have;
         same = ap (λ heads. (let y : TermHeads = record { term = t.term; heads = heads } in y) ∷ terms_heads d b.0.terms (head_codecs terms)) here.same ∙ ap (λ xs. t ∷ xs) later.same;

@@ -1,11 +1,7 @@
 -- The small file is one.
-use Rattle.std.proofs.Common.{◌≡◌, ◌≢◌, ℕ, suc, zero, ◌<◌, ◌≤◌, ◌^◌, List, [], ◌∷◌, length, All, None, subst, sym, refl, arith}
-use Rattle.std.specs.Prelude.{codes}
-use Rattle.std.specs.Str.{IsAscii}
-use Rattle.std.proofs.lemmas.List.Elements.{All-cons, All-nil}
-use Rattle.std.proofs.lemmas.Str.{is_utf8-from_IsUtf8, IsUtf8-from_ascii}
+use Rattle.shared_lemmas.proofs.Common.{◌≡◌, ◌≢◌, ℕ, suc, zero, ◌<◌, ◌≤◌, ◌^◌, List, [], ◌∷◌, length, All, None, subst, sym, refl, arith, codes, IsAscii, All-cons, All-nil, is_utf8-from_IsUtf8, IsUtf8-from_ascii}
 use Rattle.jass_base.specs.Limits.{IsName, IsText}
-use Rattle.index_model.specs.Examples.{one_term, segment}
+use Rattle.index_model.specs.Examples.{one_term, term_segment}
 use Rattle.index_model.specs.Index.{IsIndex, IsSegment}
 use Rattle.index_layout.specs.Examples.{small_view, small_file}
 use Rattle.index_layout.specs.View.{IsFileView, file_bytes}
@@ -29,7 +25,7 @@ Visible b = (32 < b) × (b ≢ 127)
 short_name : (a b : ℕ) → Visible a → Visible b → IsName (a ∷ b ∷ [])
 short_name a b first second = record { some = omega arith; fits = omega arith; visible = All-cons Visible a (b ∷ []) first (All-cons Visible b [] second (All-nil Visible)) }
 
-one_document : (impact doc : ℕ) → 1 ≤ impact → impact ≤ 65535 → doc < 3 → IsSegment 3 (segment impact (doc ∷ []))
+one_document : (impact doc : ℕ) → 1 ≤ impact → impact ≤ 65535 → doc < 3 → IsSegment 3 (term_segment impact (doc ∷ []))
 one_document impact doc some fits below = record {
   impact = (some, fits);
   docs = record { some = omega arith; rising = λ i inside. absurd (omega (arith, inside)); below = All-cons (λ doc. doc < 3) doc [] below (All-nil (λ doc. doc < 3)); limit = omega arith };

@@ -1,9 +1,5 @@
 -- The totals of heads and of what they stand for.
-use Rattle.std.proofs.Common.{◌≡◌, ℕ, suc, ◌+◌, ◌≤◌, List, [], ◌∷◌, ◌++◌, length, Option, Some, ap, sym, ◌∙◌, refl, arith}
-use Rattle.std.specs.Prelude.{map, max}
-use Rattle.std.specs.List.{sum_by}
-use Rattle.std.proofs.lemmas.List.{length-append}
-use Rattle.std.proofs.lemmas.List.Sums.{sum_by-cons, sum_by-append}
+use Rattle.shared_lemmas.proofs.Common.{◌≡◌, ℕ, suc, ◌+◌, ◌≤◌, List, [], ◌∷◌, ◌++◌, length, Option, Some, ap, sym, ◌∙◌, refl, arith, map, max, sum_by, length-append, sum_by-cons, sum_by-append}
 use Rattle.segment_codecs.specs.declared.codec.Codec.{Codec}
 use Rattle.segment_codecs.specs.Codecs.{payload_of}
 use Rattle.index_model.specs.Index.{SegmentData, TermData}

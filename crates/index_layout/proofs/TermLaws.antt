@@ -1,25 +1,21 @@
 -- Terms with their heads are read as they are written.
-use Rattle.std.proofs.Common.{◌≡◌, ℕ, suc, zero, ◌+◌, ◌*◌, ◌-◌, ◌<◌, ◌≤◌, ◌^◌, ◌==◌, ◌&&◌, not, Bool, true, false, nat_lt, nat_le, nat_eq, List, [], ◌∷◌, ◌++◌, length, take, drop, Option, Some, Result, Ok, ap, sym, subst, ◌∙◌, refl, arith}
-use Rattle.std.specs.Prelude.{⊤, slice_range}
-use Rattle.std.specs.Str.{is_utf8}
+use Rattle.shared_lemmas.proofs.Common.{◌≡◌, ℕ, suc, zero, ◌+◌, ◌*◌, ◌-◌, ◌<◌, ◌≤◌, ◌^◌, ◌==◌, ◌&&◌, not, Bool, true, false, nat_lt, nat_le, nat_eq, List, [], ◌∷◌, ◌++◌, length, take, drop, Option, Some, Result, Ok, ap, sym, subst, ◌∙◌, refl, arith, ⊤, slice_range, is_utf8, take-append_seam}
+use Rattle.shared_lemmas.proofs.Common.{drop-append_seam, length-append, length-drop, take-append-drop, drop-drop, length-take-le, sum_by-append, common_prefix_len-le, nat_tests, and_parts, not-false}
 use borrow.Author.Tests.{ltb-false}
-use Rattle.std.proofs.Math.Seq.{take-append_seam, drop-append_seam}
-use Rattle.std.proofs.lemmas.List.{length-append, append_assoc, length-drop, take-append-drop, drop-drop, length-take-le}
-use Rattle.std.proofs.lemmas.List.Sums.{sum_by-append, common_prefix_len-le}
-use Rattle.std.proofs.lemmas.Bool.Decides.{nat_tests}
+use Rattle.std.proofs.lemmas.List.{append_assoc}
 use Rattle.segment_codecs.specs.declared.codec.Codec.{Codec}
 use Rattle.segment_codecs.specs.Codecs.{codec_number, codec_of}
 use Rattle.jass_base.specs.Limits.{IsText}
-use Rattle.std.proofs.lemmas.Bool.{and_parts, not-false}
 use Rattle.index_layout.specs.Bytes.{u16_in, u32_in, u16_bytes, u32_bytes}
 use Rattle.index_layout.specs.Heads.{HeadData, TermHeads, all_heads, payloads_size}
 use Rattle.index_layout.specs.Layout.{shared_with, rest_behind, term_bytes, head_bytes, heads_bytes, terms_bytes}
 use Rattle.index_layout.specs.declared.refusal.OpenRefusal.{OpenRefusal}
 use Rattle.index_layout.specs.Refusals.{◌>>=◌}
 use Rattle.index_layout.specs.Reading.{HeadsRead, TermsRead, before_bytes, rises_behind, is_next_term, segments_place, term_in, term_checks, term_end, heads_in, read_heads, read_terms}
-use Rattle.index_layout.proofs.Judging.{bind_ok, same_ok, judged_ok, judged_all, behind, reaches, parts_stand}
+use Rattle.index_layout.proofs.Judging.{bind_ok, judged_ok, judged_all, behind, reaches, parts_stand}
 use Rattle.index_layout.proofs.Numbers.{Fit, u16_found, u32_found, u16_only, u32_only}
 use Rattle.index_layout.proofs.HeadLaws.{HeadsAre, HeadsFall, head_size, heads_found, heads_only}
+use Rattle.shared_lemmas.proofs.Results.{ok_same}
 
 one_more : (y n : ℕ) (xs ys : List ℕ) → take n xs ≡ take n ys → take (1 + n) (y ∷ xs) ≡ take (1 + n) (y ∷ ys)
 one_more y n xs ys same = let e : suc n ≡ 1 + n = omega arith in subst (λ m. take m (y ∷ xs) ≡ take m (y ∷ ys)) e (ap (λ zs. y ∷ zs) same)
@@ -176,7 +172,7 @@ terms_next bytes d k before at place here later x one heads_are terms_are same =
     let t : TermHeads = record { term = term; heads = here.heads } in
     let heads = heads_bytes here.heads in
     let n = length here.heads in
-    subst (TermsAre bytes d before at (suc k)) (same_ok (record { terms = t ∷ later.terms; end = later.end }) x same) (record {
+    subst (TermsAre bytes d before at (suc k)) (ok_same (record { terms = t ∷ later.terms; end = later.end }) x same) (record {
       rise = (one.is, subst (λ m. 1 ≤ m) (sym heads_are.count) one.some, heads_are.fall, terms_are.rise);
       count = ap suc terms_are.count;
       stand = parts_stand bytes at here.end later.end (front ++ (u32_bytes n ++ heads)) (terms_bytes term later.terms)
@@ -186,7 +182,7 @@ terms_next bytes d k before at place here later x one heads_are terms_are same =
 
 module _ (numbered : (codec : Codec) (number : ℕ) → codec_of number ≡ Some codec → codec_number codec ≡ number) where
   pub terms_only : (bytes : List ℕ) (d k : ℕ) (before : Option (List ℕ)) (at : ℕ) (x : TermsRead) → Fit bytes → at ≤ length bytes → read_terms bytes d k before at ≡ Ok x → TermsAre bytes d before at k x
-  terms_only bytes d zero before at x fits from read = subst (TermsAre bytes d before at 0) (same_ok (record { terms = []; end = at }) x read) (record { rise = tt; count = refl; stand = refl; within = from })
+  terms_only bytes d zero before at x fits from read = subst (TermsAre bytes d before at 0) (ok_same (record { terms = []; end = at }) x read) (record { rise = tt; count = refl; stand = refl; within = from })
   terms_only bytes d (suc k) before at x fits from read =
       let a = bind_ok (term_end bytes before at) (λ place.
       (read_heads bytes d (heads_in bytes at) 65536 place >>= λ here.

@@ -1,5 +1,5 @@
 -- Reading an index file from the left, with the first refusal and its place. This project's.
-use Rattle.std.specs.Prelude.{ℕ, zero, suc, ◌+◌, ◌^◌, ◌==◌, ◌||◌, ◌&&◌, not, Bool, true, List, [], ◌∷◌, ◌++◌, length, map, take, Option, Some, None, Result, Ok, Err, nat_lt, nat_le, slice_index, slice_range}
+use Rattle.std.specs.Prelude.{ℕ, zero, suc, ◌+◌, ◌==◌, ◌||◌, ◌&&◌, not, Bool, true, List, [], ◌∷◌, ◌++◌, length, map, take, Option, Some, None, Result, Ok, Err, nat_lt, nat_le, slice_index, slice_range}
 use Rattle.std.specs.Option.{unwrap_or, is_none}
 use Rattle.std.specs.List.{list_all, list_any, starts_with}
 use Rattle.std.specs.Prelude.{nat_eq}
@@ -18,7 +18,7 @@ use Rattle.index_layout.specs.Heads.{HeadData, TermHeads, head_postings, greates
 use Rattle.index_layout.specs.Layout.{magic, old_magic, shared_with}
 use Rattle.index_layout.specs.Refusals.{◌>>=◌, Check, check, judged, refuse}
 use Rattle.index_layout.specs.View.{FileView}
-use Rattle.jass_base.specs.declared.limits.TheConstants.{MOST_DOCUMENTS, MOST_POSTINGS, MOST_TERMS}
+use Rattle.jass_base.specs.declared.limits.TheConstants.{GREATEST_IMPACT, LONGEST_FILE, LONGEST_NAME, LONGEST_TERM, MOST_DOCUMENTS, MOST_POSTINGS, MOST_TERMS}
 
 -- the numbers of documents and terms
 pub record Front : Type 0 where
@@ -28,7 +28,7 @@ pub record Front : Type 0 where
 -- the first 40 bytes: magic, length, documents, terms, postings, greatest impact, zero
 unfoldable pub front_checks : List ℕ → List Check
 front_checks bytes =
-    check (nat_lt (2 ^ 32) (length bytes)) (2 ^ 32) Limit
+    check (nat_lt LONGEST_FILE (length bytes)) LONGEST_FILE Limit
     ∷ check (starts_with nat_eq bytes old_magic) 0 Old
     ∷ check (not (starts_with nat_eq bytes magic)) 0 Magic
     ∷ check (nat_lt (length bytes) 40 || not (u64_in bytes 8 == length bytes)) 8 Length
@@ -52,7 +52,7 @@ is_name_text name = is_utf8 name && list_all (λ b. nat_lt 32 b && not (b == 127
 unfoldable pub name_checks : List ℕ → ℕ → List Check
 name_checks bytes at =
     check (nat_lt (length bytes) (at + 4)) at Length
-    ∷ check (u32_in bytes at == 0 || nat_lt 1048576 (u32_in bytes at)) at Names
+    ∷ check (u32_in bytes at == 0 || nat_lt LONGEST_NAME (u32_in bytes at)) at Names
     ∷ check (nat_lt (length bytes) (at + 4 + u32_in bytes at)) at Length
     ∷ check (not (is_name_text (name_in bytes at))) at Names
     ∷ []
@@ -129,7 +129,7 @@ rises_behind (Some before) term = is_lt (slice_cmp nat_cmp before term)
 abbrev pub is_next_term : Option (List ℕ) → ℕ → List ℕ → Bool
 is_next_term before shared term =
     shared_with (before_bytes before) term == shared
-    && nat_le (length term) 65535 && is_utf8 term && rises_behind before term
+    && nat_le (length term) LONGEST_TERM && is_utf8 term && rises_behind before term
 
 unfoldable pub term_checks : List ℕ → Option (List ℕ) → ℕ → List Check
 term_checks bytes before at =
@@ -156,7 +156,7 @@ abbrev pub read_terms : List ℕ → ℕ → ℕ → Option (List ℕ) → ℕ �
 read_terms bytes d zero before at = Ok (record { terms = []; end = at })
 read_terms bytes d (suc k) before at =
     term_end bytes before at >>= λ place.
-    (read_heads bytes d (heads_in bytes at) 65536 place >>= λ here.
+    (read_heads bytes d (heads_in bytes at) (GREATEST_IMPACT + 1) place >>= λ here.
     (read_terms bytes d k (Some (term_in bytes before at)) here.end >>= λ later.
     Ok (record {
       terms = record { term = term_in bytes before at; heads = here.heads } ∷ later.terms;

@@ -1,5 +1,5 @@
 -- The totals of an index, and how many of its segments are in each codec.
-use Rattle.std.specs.Prelude.{ℕ, ◌+◌, List, [], ◌∷◌, length, max}
+use Rattle.std.specs.Prelude.{ℕ, List, [], ◌∷◌, length, max}
 use Rattle.std.specs.List.{flat_map}
 use Rattle.jass_base.specs.declared.answer.Totals.{Totals}
 use Rattle.index_model.specs.Index.{SegmentData, TermData, IndexData}

@@ -1,12 +1,12 @@
 -- What callers see of an index file, and the bytes of what they see.
-use Rattle.std.specs.Prelude.{ℕ, ◌≡◌, ◌≤◌, ◌^◌, List, ◌++◌, length, map}
+use Rattle.std.specs.Prelude.{ℕ, ◌≡◌, ◌≤◌, List, ◌++◌, length, map}
 use Rattle.std.specs.List.{sum_by}
 use Rattle.segment_codecs.specs.Codecs.{chosen_codec}
 use Rattle.segment_codecs.specs.declared.codec.Codec.{Codec}
 use Rattle.index_model.specs.Index.{SegmentData, TermData, IndexData, IsIndex}
 use Rattle.index_layout.specs.Heads.{TermHeads, terms_heads}
 use Rattle.index_layout.specs.Layout.{front_bytes, terms_payloads}
-use Rattle.jass_base.specs.declared.limits.TheConstants.{MOST_POSTINGS}
+use Rattle.jass_base.specs.declared.limits.TheConstants.{LONGEST_FILE, MOST_POSTINGS}
 
 -- an index, and the codec of each segment of each term
 pub record FileView : Type 0 where
@@ -42,7 +42,7 @@ pub record IsFileView (v : FileView) : Type 0 where
   pub index : IsIndex v.index
   pub codecs : HaveCodecs v.index.terms v.codecs
   pub postings : index_postings v.index ≤ MOST_POSTINGS
-  pub fits : length (file_bytes v) ≤ 2 ^ 32
+  pub fits : length (file_bytes v) ≤ LONGEST_FILE
 
 -- the shortest codec for each segment
 abbrev pub chosen_codecs : ℕ → List TermData → List (List Codec)

@@ -1,12 +1,12 @@
 //! What reading and writing promise of one another. Each function does nothing: its contract is the
 //! law, and a caller learns it by the call.
 
-ghost use Rattle.std.specs.Prelude.{ℕ, ◌≡◌, ◌<◌, ◌≤◌, ◌^◌, List, length, All, Ok};
+ghost use Rattle.std.specs.Prelude.{ℕ, ◌≡◌, ◌<◌, ◌≤◌, List, length, All, Ok};
 ghost use Rattle.index_model.specs.Index.{IndexData, IsIndex};
 ghost use Rattle.index_layout.specs.Layout.{file_length};
 ghost use Rattle.index_layout.specs.Reading.{read_index};
 ghost use Rattle.index_layout.specs.View.{FileView, IsFileView, chosen_view, file_bytes, index_postings, index_text, view_heads};
-ghost use Rattle.jass_base.specs.declared.limits.TheConstants.{MOST_POSTINGS};
+ghost use Rattle.jass_base.specs.declared.limits.TheConstants.{LONGEST_FILE, MOST_POSTINGS};
 
 use segment_codecs::laws::{codecs_have_their_numbers, payloads_are_read};
 
@@ -31,7 +31,7 @@ pub fn files_have_one_view()
 /// The text of an index of at most 2^29 postings is a file where it has at most 2^32 bytes.
 pub fn texts_are_files()
     ensures { (index : IndexData) → IsIndex index → index_postings index ≤ MOST_POSTINGS
-        → length (index_text index) ≤ 2 ^ 32 → IsFileView (chosen_view index) }
+        → length (index_text index) ≤ LONGEST_FILE → IsFileView (chosen_view index) }
 {}
 
 /// How many bytes a file has, by its names and heads alone.

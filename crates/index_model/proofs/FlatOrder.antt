@@ -1,15 +1,6 @@
 -- A flat list of segments under rising keys, terms or their numbers, is flat.
-use Rattle.std.proofs.Common.{◌≡◌, ◌≢◌, ℕ, suc, ◌<◌, ◌≤◌, List, [], ◌∷◌, ◌++◌, length, true, false, refl, sym, ap, ◌∙◌, subst, arith}
-use Rattle.std.specs.Prelude.{Contains}
-use Rattle.std.specs.List.{AllByRecursion}
-use Rattle.std.specs.declared.cmp.Ordering.{Ordering}
-use Rattle.std.specs.declared.cmp.Ordering.TheVariants.{Less, Equal, Greater}
-use Rattle.std.specs.Cmp.{IsTotalOrder}
-use Rattle.std.specs.Cmp.Lexicographic.{slice_cmp}
-use Rattle.std.specs.Ordering.{is_gt, is_lt, nat_cmp, ordering_then}
-use Rattle.std.proofs.lemmas.Cmp.{nat_cmp_total, nat_list_cmp_total, tied_itself}
-use Rattle.std.proofs.lemmas.Bool.Decides.{nat_tests}
-use Rattle.std.proofs.lemmas.List.Elements.{recursion_from_All, All-from_recursion, All-contains_itself}
+use Rattle.shared_lemmas.proofs.Common.{◌≡◌, ◌≢◌, ℕ, suc, ◌<◌, ◌≤◌, List, [], ◌∷◌, ◌++◌, length, true, false, refl, sym, ap, ◌∙◌, subst, arith, map, Contains, AllByRecursion, Ordering, Less, Equal, Greater, IsTotalOrder, slice_cmp, is_gt, is_lt, nat_cmp, ordering_then, nat_cmp_total}
+use Rattle.shared_lemmas.proofs.Common.{nat_list_cmp_total, tied_itself, nat_tests, recursion_from_All, All-from_recursion, All-contains_itself}
 use Rattle.shared_lemmas.proofs.Pairs.{Pairs, pairs_by_recursion, pairs_by_places, pairs_weaker, pairs_append, pairs_map, rising_pairs}
 use Rattle.shared_lemmas.proofs.Lists.{all_weaker, all_append, all_map, all_across, all_of}
 use Rattle.ranking_model.specs.declared.entry.Entry.{Entry}
@@ -180,24 +171,18 @@ term_kept d t is =
 
 -- by the bytes
 abbrev keys_of : List TermData → List (List ℕ × List SegmentData)
-keys_of [] = []
-keys_of (t ∷ ts) = (t.term, t.segments) ∷ keys_of ts
+keys_of terms = map (λ (t : TermData). (t.term, t.segments)) terms
 
 of_keys : (terms : List TermData) → flat_keyed (slice_cmp nat_cmp) nat_list_cmp_total (keys_of terms) ≡ flat_of_terms terms
 of_keys [] = refl
 of_keys (t ∷ ts) = ap (λ (l : List (Entry (List ℕ))). term_entries t.term t.segments ++ l) (of_keys ts)
 
-behind_term : (t : TermData) (ts : List TermData) → AllByRecursion (λ (u : TermData). RisesTo t u) ts → AllByRecursion (λ (k : List ℕ × List SegmentData). is_lt (slice_cmp nat_cmp t.term k.0) ≡ true) (keys_of ts)
-behind_term t [] h = tt
-behind_term t (u ∷ us) h = (h.0, behind_term t us h.1)
-
 keys_rise : (terms : List TermData) → Pairs RisesTo terms → Pairs (KeysRise (slice_cmp nat_cmp) nat_list_cmp_total) (keys_of terms)
-keys_rise [] h = tt
-keys_rise (t ∷ ts) h = (behind_term t ts h.0, keys_rise ts h.1)
+keys_rise terms h = pairs_map (KeysRise (slice_cmp nat_cmp) nat_list_cmp_total) (λ (t : TermData). (t.term, t.segments)) terms h
 
 keys_kept : (d : ℕ) (terms : List TermData) → AllByRecursion (IsTerm d) terms → AllByRecursion (λ (k : List ℕ × List SegmentData). Kept d k.1) (keys_of terms)
-keys_kept d [] h = tt
-keys_kept d (t ∷ ts) h = (term_kept d t h.0, keys_kept d ts h.1)
+keys_kept d terms h = all_map (λ (k : List ℕ × List SegmentData). Kept d k.1) (λ (t : TermData). (t.term, t.segments)) terms
+    (all_weaker (IsTerm d) (λ (t : TermData). Kept d t.segments) (term_kept d) terms h)
 
 pub bytes_flat : (index : IndexData) → IsIndex index → IsFlat (slice_cmp nat_cmp) (length index.names) (flat_of index)
 bytes_flat index is =

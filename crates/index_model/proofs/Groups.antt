@@ -1,9 +1,6 @@
 -- The entries of an index, put together again.
-use Rattle.std.proofs.Common.{◌≡◌, ℕ, ◌<◌, ◌≤◌, false, List, [], ◌∷◌, ◌++◌, length, refl, ap, ◌∙◌, arith, append-nil}
-use Rattle.std.specs.Prelude.{⊤}
-use Rattle.std.specs.List.{AllByRecursion}
+use Rattle.shared_lemmas.proofs.Common.{◌≡◌, ℕ, ◌<◌, ◌≤◌, false, List, [], ◌∷◌, ◌++◌, length, refl, ap, ◌∙◌, arith, append-nil, ⊤, AllByRecursion, recursion_from_All}
 use Rattle.std.specs.Str.{bytes_eq}
-use Rattle.std.proofs.lemmas.List.Elements.{recursion_from_All}
 use Rattle.jass_base.proofs.ByteOrder.{bytes_apart}
 use Rattle.shared_lemmas.proofs.Numbers.{number_itself, numbers_apart}
 use Rattle.shared_lemmas.proofs.Texts.{bytes_itself}

@@ -1,11 +1,6 @@
 -- The segments that a query names, as its weighted postings and as the segments of its plan.
-use Rattle.std.proofs.Common.{◌≡◌, ◌≢◌, ℕ, zero, suc, ◌+◌, ◌*◌, ◌<◌, ◌≤◌, List, [], ◌∷◌, ◌++◌, map, filter, length, Bool, true, false, ◌==◌, refl, sym, ap, ap₂, ◌∙◌, arith, append-nil}
-use Rattle.std.specs.Prelude.{AllPairs, All}
-use Rattle.std.specs.List.{AllByRecursion, flat_map}
-use Rattle.std.proofs.lemmas.List.{map-append}
-use Rattle.std.proofs.lemmas.Grind.{flat_map-append}
-use Rattle.std.proofs.lemmas.List.Elements.{filter-append, recursion_from_All}
-use Rattle.std.proofs.lemmas.Simd.{map-map}
+use Rattle.shared_lemmas.proofs.Common.{◌≡◌, ◌≢◌, ℕ, zero, suc, ◌+◌, ◌*◌, ◌<◌, ◌≤◌, List, [], ◌∷◌, ◌++◌, map, filter, length, Bool, true, false, ◌==◌, refl, sym, ap, ap₂, ◌∙◌, arith, append-nil, AllPairs, All, AllByRecursion, flat_map, map-append, flat_map-append, filter-append, recursion_from_All}
+use Rattle.shared_lemmas.proofs.Common.{map-map, ne_eqb}
 use Rattle.shared_lemmas.proofs.Pairs.{Pairs, pairs_by_places, pairs_weaker, pairs_append, pairs_map}
 use Rattle.shared_lemmas.proofs.Lists.{all_weaker, all_append, filter_all}
 use Rattle.jass_base.specs.declared.query_term.QueryTerm.{QueryTerm}
@@ -14,7 +9,7 @@ use Rattle.ranking_model.specs.declared.plan_segment.PlanSegment.{PlanSegment}
 use Rattle.ranking_model.specs.declared.posting.WeightedPosting.{WeightedPosting}
 use Rattle.ranking_model.specs.Plan.{postings_of}
 use Rattle.ranking_model.specs.Postings.{weighted_from, weighted_postings}
-use Rattle.std.proofs.lemmas.Bool.{eq-eqb, ne_eqb}
+use Rattle.std.proofs.lemmas.Bool.{eq-eqb}
 use Rattle.index_model.specs.Index.{SegmentData, TermData, IndexData, IsSegment, IsTerm, IsIndex, FallsTo}
 use Rattle.index_model.specs.Flat.{segment_entries, term_entries, numbered_from, numbered_flat}
 use Rattle.index_model.specs.Querying.{segments_at, query_segments_at, query_segments_from, query_segments}

@@ -1,31 +1,21 @@
 -- A term's number is its place: the flat list by number.
-use Rattle.std.proofs.Common.{◌≡◌, ◌≢◌, ℕ, suc, ◌+◌, ◌<◌, ◌≤◌, List, [], ◌∷◌, ◌++◌, map, filter, not, length, get_or, true, false, true≢false, refl, sym, ap, ap₂, ◌∙◌, subst, arith, append_assoc, length-append, add-one}
-use Rattle.std.specs.Prelude.{AllPairs, bytes_eq}
-use Rattle.std.specs.List.{AllByRecursion}
-use Rattle.std.specs.Ordering.{is_lt, nat_cmp}
-use Rattle.std.specs.Cmp.Lexicographic.{slice_cmp}
-use Rattle.std.proofs.lemmas.Cmp.{nat_list_cmp_total, tied_itself}
-use Rattle.std.proofs.lemmas.Slice.Eq.{bytes_eq-Decides}
-use Rattle.std.proofs.lemmas.List.{get_or_at, map-append, length_push}
-use Rattle.std.proofs.lemmas.List.Sums.{position_or_len_is}
-use Rattle.std.proofs.lemmas.Simd.{map-map}
-use Rattle.std.proofs.lemmas.Bool.{false_from_ne_true}
+use Rattle.shared_lemmas.proofs.Common.{◌≡◌, ◌≢◌, ℕ, suc, ◌+◌, ◌<◌, ◌≤◌, List, [], ◌∷◌, ◌++◌, map, filter, not, length, get_or, true, false, refl, sym, ap, ap₂, ◌∙◌, subst, arith, append_assoc, add-one, AllPairs, bytes_eq, AllByRecursion, is_lt, nat_cmp, slice_cmp, bytes_eq-Decides, get_or_at}
+use Rattle.shared_lemmas.proofs.Common.{map-append, length_push, position_or_len_is, map-map, false_from_ne_true}
+use Rattle.std.proofs.Common.{length-append}
 use Rattle.shared_lemmas.proofs.Pairs.{Pairs, pairs_by_recursion, pairs_by_places, pairs_weaker, pairs_map}
 use Rattle.shared_lemmas.proofs.Lists.{all_append}
 use Rattle.ranking_model.specs.declared.entry.Entry.{Entry}
 use Rattle.ranking_model.specs.Flat.{terms_of, number_of, numbered}
 use Rattle.index_model.specs.Index.{SegmentData, TermData, RisesTo}
 use Rattle.index_model.specs.Flat.{doc_entries, segment_entries, term_entries, flat_of_terms, numbered_from}
+use Rattle.shared_lemmas.proofs.Texts.{not_itself}
 
 abbrev pub texts_of : List TermData → List (List ℕ)
 texts_of terms = map (λ (t : TermData). t.term) terms
 
 -- terms that rise differ
 rise_apart : (s t : List ℕ) → is_lt (slice_cmp nat_cmp s t) ≡ true → s ≢ t
-rise_apart s t l e =
-    let P : List ℕ → Type 0 = λ (x : List ℕ). is_lt (slice_cmp nat_cmp s x) ≡ true in
-    let own = subst P (sym e) l in
-    true≢false (sym own ∙ ap is_lt (tied_itself nat_list_cmp_total s))
+rise_apart s t l e = not_itself s (subst (λ (x : List ℕ). is_lt (slice_cmp nat_cmp s x) ≡ true) (sym e) l)
 
 pub apart : (terms : List TermData) → AllPairs RisesTo terms → Pairs (λ (s t : List ℕ). s ≢ t) (texts_of terms)
 apart terms rising = pairs_map (λ (s t : List ℕ). s ≢ t) (λ (t : TermData). t.term) terms

@@ -1,9 +1,5 @@
 -- An index in memory as plain data.
-use Rattle.std.proofs.Common.{◌≡◌, ℕ, ◌≤◌, ◌^◌, List, [], ◌∷◌, length, map, arith, ◌∙◌}
-use Rattle.std.specs.List.{AllByRecursion}
-use Rattle.std.proofs.lemmas.List.{length-map}
-use Rattle.std.proofs.lemmas.Simd.{map-map}
-use Rattle.std.proofs.lemmas.List.Elements.{recursion_from_All, All-from_recursion}
+use Rattle.shared_lemmas.proofs.Common.{◌≡◌, ℕ, ◌≤◌, ◌^◌, List, [], ◌∷◌, length, map, arith, ◌∙◌, AllByRecursion, length-map, map-map, recursion_from_All, All-from_recursion}
 use Rattle.shared_lemmas.proofs.Pairs.{pairs_by_recursion, pairs_by_places, pairs_map}
 use Rattle.shared_lemmas.proofs.Lists.{all_map}
 use Rattle.jass_base.specs.declared.segment.Segment.{Segment}

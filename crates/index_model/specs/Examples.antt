@@ -5,17 +5,17 @@ use Rattle.ranking_model.specs.declared.entry.Entry.{Entry}
 use Rattle.ranking_model.specs.declared.plan_segment.PlanSegment.{PlanSegment}
 use Rattle.index_model.specs.Index.{SegmentData, TermData, IndexData}
 
-abbrev pub entry : {T : Type 0} → T → ℕ → ℕ → Entry T
-entry term doc impact = record { term = term; doc = doc; impact = impact }
+abbrev pub flat_entry : {T : Type 0} → T → ℕ → ℕ → Entry T
+flat_entry term doc impact = record { term = term; doc = doc; impact = impact }
 
-abbrev pub weighted : ℕ → ℕ → List ℕ → PlanSegment
-weighted term_place weight docs = record { term_place = term_place; weight = weight; docs = docs }
+abbrev pub plan_segment : ℕ → ℕ → List ℕ → PlanSegment
+plan_segment term_place weight docs = record { term_place = term_place; weight = weight; docs = docs }
 
 abbrev pub named : ℕ → ℕ → QueryTerm
 named term times = record { term = term; times = times }
 
-abbrev pub segment : ℕ → List ℕ → SegmentData
-segment impact docs = record { impact = impact; docs = docs }
+abbrev pub term_segment : ℕ → List ℕ → SegmentData
+term_segment impact docs = record { impact = impact; docs = docs }
 
 abbrev pub term : List ℕ → List SegmentData → TermData
 term bytes segments = record { term = bytes; segments = segments }
@@ -24,12 +24,12 @@ term bytes segments = record { term = bytes; segments = segments }
 abbrev pub one_term : IndexData
 one_term = record {
   names = codes "d0" ∷ codes "d1" ∷ codes "d2" ∷ [];
-  terms = term (codes "a") (segment 9 (0 ∷ []) ∷ segment 5 (1 ∷ []) ∷ segment 1 (2 ∷ []) ∷ []) ∷ [];
+  terms = term (codes "a") (term_segment 9 (0 ∷ []) ∷ term_segment 5 (1 ∷ []) ∷ term_segment 1 (2 ∷ []) ∷ []) ∷ [];
 }
 
 -- four documents with two terms
 abbrev pub two_terms : IndexData
 two_terms = record {
   names = codes "d0" ∷ codes "d1" ∷ codes "d2" ∷ codes "d3" ∷ [];
-  terms = term (codes "cat") (segment 3 (0 ∷ []) ∷ segment 1 (1 ∷ 3 ∷ []) ∷ []) ∷ term (codes "dog") (segment 3 (2 ∷ []) ∷ segment 2 (1 ∷ []) ∷ []) ∷ [];
+  terms = term (codes "cat") (term_segment 3 (0 ∷ []) ∷ term_segment 1 (1 ∷ 3 ∷ []) ∷ []) ∷ term (codes "dog") (term_segment 3 (2 ∷ []) ∷ term_segment 2 (1 ∷ []) ∷ []) ∷ [];
 }

@@ -1,9 +1,9 @@
 -- An index as plain data (Lin and Trotman, "Anytime Ranking for Impact-Ordered Indexes", ICTIR 2015).
-use Rattle.std.specs.Prelude.{ℕ, ◌<◌, ◌≤◌, ◌^◌, List, length, All, AllPairs, Contains}
+use Rattle.std.specs.Prelude.{ℕ, ◌<◌, ◌≤◌, List, length, All, AllPairs, Contains}
 use Rattle.jass_base.specs.Gaps.{AreDocs}
 use Rattle.jass_base.specs.Limits.{IsName, IsText}
 use Rattle.jass_base.specs.Terms.{BytesRise}
-use Rattle.jass_base.specs.declared.limits.TheConstants.{MOST_DOCUMENTS, MOST_TERMS}
+use Rattle.jass_base.specs.declared.limits.TheConstants.{GREATEST_IMPACT, LONGEST_TERM, MOST_DOCUMENTS, MOST_TERMS}
 
 -- all postings of a term that have the same impact: their documents, in rising order
 pub record SegmentData : Type 0 where
@@ -22,7 +22,7 @@ pub record IndexData : Type 0 where
 
 -- a segment of an index of so many documents: an impact of 16 bits that isn't 0, and at least one document
 pub record IsSegment (documents : ℕ) (segment : SegmentData) : Type 0 where
-  pub impact : (1 ≤ segment.impact) × (segment.impact ≤ 65535)
+  pub impact : (1 ≤ segment.impact) × (segment.impact ≤ GREATEST_IMPACT)
   pub docs : AreDocs documents segment.docs
 
 -- the impact is above that of a later segment
@@ -36,7 +36,7 @@ SharesNoDocument first second = (doc : ℕ) → Contains first.docs doc → ¬ C
 -- a term of an index of so many documents: a text of at most 65,535 bytes with at least one segment; impacts fall, and a document stands at most once in it
 pub record IsTerm (documents : ℕ) (term : TermData) : Type 0 where
   pub text : IsText term.term
-  pub fits : length term.term ≤ 65535
+  pub fits : length term.term ≤ LONGEST_TERM
   pub some : 1 ≤ length term.segments
   pub segments : All (IsSegment documents) term.segments
   pub falling : AllPairs FallsTo term.segments

@@ -7,24 +7,27 @@ ghost use Rattle.ranking_model.specs.Order.{sorted};
 ghost use Rattle.ranking_model.specs.Plan.{plan_cmp};
 ghost use Rattle.index_model.specs.Flat.{flat_of, numbered_flat};
 ghost use Rattle.index_model.specs.Querying.{query_segments};
-ghost use Rattle.index_model.specs.Examples.{one_term, two_terms, entry, weighted, named};
+ghost use Rattle.index_model.specs.Examples.{one_term, two_terms, flat_entry, plan_segment, named};
 
 /// The entries of an index, by the terms' bytes and by their numbers.
 pub fn flat_lists()
     ensures a { flat_of one_term ≡
-        entry (codes "a") 0 9 ∷ entry (codes "a") 1 5 ∷ entry (codes "a") 2 1 ∷ [] }
+        flat_entry (codes "a") 0 9 ∷ flat_entry (codes "a") 1 5 ∷ flat_entry (codes "a") 2 1 ∷ [] }
     ensures numbers { numbered_flat two_terms ≡
-        entry 0 0 3 ∷ entry 0 1 1 ∷ entry 0 3 1 ∷ entry 1 2 3 ∷ entry 1 1 2 ∷ [] }
+        flat_entry 0 0 3 ∷ flat_entry 0 1 1 ∷ flat_entry 0 3 1 ∷ flat_entry 1 2 3 ∷ flat_entry 1 1 2 ∷ [] }
 {}
 
 /// The segments of a query: of `cat` named twice and `dog` once, the other way round, and of no
 /// term.
 pub fn segments_of_queries()
     ensures cat_dog { query_segments two_terms (named 0 2 ∷ named 1 1 ∷ []) ≡
-        weighted 0 6 (0 ∷ []) ∷ weighted 0 2 (1 ∷ 3 ∷ []) ∷ weighted 1 3 (2 ∷ []) ∷ weighted 1 2 (1 ∷ []) ∷ [] }
+        plan_segment 0 6 (0 ∷ []) ∷ plan_segment 0 2 (1 ∷ 3 ∷ [])
+        ∷ plan_segment 1 3 (2 ∷ []) ∷ plan_segment 1 2 (1 ∷ []) ∷ [] }
     ensures dog_cat { query_segments two_terms (named 1 1 ∷ named 0 1 ∷ []) ≡
-        weighted 0 3 (2 ∷ []) ∷ weighted 0 2 (1 ∷ []) ∷ weighted 1 3 (0 ∷ []) ∷ weighted 1 1 (1 ∷ 3 ∷ []) ∷ [] }
+        plan_segment 0 3 (2 ∷ []) ∷ plan_segment 0 2 (1 ∷ [])
+        ∷ plan_segment 1 3 (0 ∷ []) ∷ plan_segment 1 1 (1 ∷ 3 ∷ []) ∷ [] }
     ensures none { query_segments two_terms [] ≡ [] }
     ensures plan { sorted plan_cmp (query_segments two_terms (named 0 2 ∷ named 1 1 ∷ [])) ≡
-        weighted 0 6 (0 ∷ []) ∷ weighted 1 3 (2 ∷ []) ∷ weighted 1 2 (1 ∷ []) ∷ weighted 0 2 (1 ∷ 3 ∷ []) ∷ [] }
+        plan_segment 0 6 (0 ∷ []) ∷ plan_segment 1 3 (2 ∷ [])
+        ∷ plan_segment 1 2 (1 ∷ []) ∷ plan_segment 0 2 (1 ∷ 3 ∷ []) ∷ [] }
 {}

@@ -1,7 +1,7 @@
 //! Laws over the definitions. Each function does nothing: its contract is the law, and a caller
 //! learns it by the call.
 
-ghost use Rattle.std.specs.Prelude.{◌≡◌, ℕ, ◌≤◌, List, length, map, flat_map};
+ghost use Rattle.std.specs.Prelude.{◌≡◌, ◌≤◌, List, length, map, flat_map};
 ghost use Rattle.std.specs.Ordering.{nat_cmp};
 ghost use Rattle.std.specs.Cmp.Lexicographic.{slice_cmp};
 ghost use Rattle.jass_base.specs.declared.impact_index.ImpactIndex.{ImpactIndex};
@@ -9,13 +9,14 @@ ghost use Rattle.jass_base.specs.declared.query_term.QueryTerm.{QueryTerm};
 ghost use Rattle.jass_base.specs.declared.term_segments.TermSegments.{TermSegments};
 ghost use Rattle.ranking_model.specs.Flat.{IsFlat, terms_of, numbered};
 ghost use Rattle.ranking_model.specs.Order.{sorted};
-ghost use Rattle.ranking_model.specs.Plan.{postings_of, plan_cmp, plan_segments, plan_of};
+ghost use Rattle.ranking_model.specs.Plan.{postings_of, plan_cmp, plan_segments};
 ghost use Rattle.ranking_model.specs.Postings.{AreTerms, weighted_postings};
 ghost use Rattle.index_model.specs.Index.{TermData, IndexData, IsIndex};
 ghost use Rattle.index_model.specs.Flat.{flat_of, numbered_flat};
 ghost use Rattle.index_model.specs.Grouping.{index_with};
 ghost use Rattle.index_model.specs.Querying.{query_segments};
 ghost use Rattle.index_model.specs.Views.{index_data};
+ghost use Rattle.jass_base.specs.declared.limits.TheConstants.{GREATEST_IMPACT};
 
 use ranking_model::laws::segments_make_a_plan;
 
@@ -50,7 +51,7 @@ pub fn the_plan_has_the_named_segments()
 /// An index in memory is an index, as its impacts have 16 bits, and its terms are those of its flat
 /// list.
 pub fn indexes_in_memory_are_indexes()
-    ensures index { (index : ImpactIndex) → index.greatest ≤ 65535 → IsIndex (index_data index) }
+    ensures index { (index : ImpactIndex) → index.greatest ≤ GREATEST_IMPACT → IsIndex (index_data index) }
     ensures terms { (index : ImpactIndex) →
         terms_of (flat_of (index_data index)) ≡ map (λ (t : TermSegments). t.term) index.terms }
 {}

@@ -1,19 +1,7 @@
 -- Segments that were read are those of a term.
-use Rattle.std.proofs.Common.{◌≡◌, ℕ, ◌≤◌, ◌^◌, List, [], length, map, get_or, Ok, sym, subst, ◌∙◌, arith}
-use Rattle.std.specs.Prelude.{AllPairs}
-use Rattle.std.proofs.lemmas.List.{length-map, get_or-map}
-use Rattle.jass_base.specs.declared.segment.Segment.{Segment}
+use Rattle.shared_lemmas.proofs.Common.{◌≡◌, ℕ, ◌≤◌, ◌^◌, List, [], length, map, get_or, Ok, sym, subst, ◌∙◌, arith, AllPairs, length-map, get_or-map}
+use Rattle.index_version1.proofs.Below.{Segment, FallsTo, SharesNoDocument, segment_data, HeadData, SegmentsRead, read_segments, alone_only, Only, HeadsFall, fall_only, Fit, segments_only}
 use Rattle.jass_base.specs.Segments as memory
-use Rattle.index_model.specs.Index.{FallsTo, SharesNoDocument}
-use Rattle.index_model.specs.Views.{segment_data}
-use Rattle.index_layout.specs.Heads.{HeadData}
-use Rattle.index_layout.specs.Reading.{SegmentsRead, read_segments}
-use Rattle.index_layout.proofs.Apart.{alone_only}
-use Rattle.index_layout.proofs.FileLaws.{Only}
-use Rattle.index_layout.proofs.HeadLaws.{HeadsFall}
-use Rattle.index_layout.proofs.IndexFacts.{fall_only}
-use Rattle.index_layout.proofs.Numbers.{Fit}
-use Rattle.index_layout.proofs.PayloadLaws.{segments_only}
 
 pub pairs_unmap : {X Y : Type 0} (R : Y → Y → Type 0) (f : X → Y) (xs : List X) → AllPairs R (map f xs) → AllPairs (λ a b. R (f a) (f b)) xs
 pairs_unmap R f xs are = λ i j d less inside.

@@ -1,21 +1,13 @@
 -- The index of a file.
-use Rattle.std.proofs.Common.{◌≡◌, ℕ, ◌<◌, ◌≤◌, ◌^◌, List, length, map, get_or, All, Ok, ap, sym, subst, ◌∙◌, refl}
-use Rattle.std.specs.Prelude.{AllPairs}
-use Rattle.std.proofs.lemmas.List.{length-map}
-use Rattle.jass_base.specs.Limits.{IsName, IsText}
-use Rattle.jass_base.specs.declared.term_segments.TermSegments.{TermSegments}
+use Rattle.shared_lemmas.proofs.Common.{◌≡◌, ℕ, ◌<◌, ◌≤◌, ◌^◌, List, length, map, get_or, All, Ok, ap, sym, subst, ◌∙◌, refl, AllPairs, length-map}
+use Rattle.index_version1.proofs.Below.{IsName, IsText, TermSegments, IndexData, IsSegment, IsTerm, IsIndex, RisesTo, segment_data, term_data, FileView, OpenFault, ◌>>=◌, Fails, bind_ok}
 use Rattle.jass_base.specs.Terms as memory
-use Rattle.index_model.specs.Index.{IndexData, IsSegment, IsTerm, IsIndex, RisesTo}
-use Rattle.index_model.specs.Views.{segment_data, term_data}
-use Rattle.index_layout.specs.View.{FileView}
-use Rattle.index_layout.specs.declared.refusal.OpenFault.{OpenFault}
 use Rattle.index_layout.specs.declared.refusal.OpenFault.TheVariants as faults
-use Rattle.index_layout.specs.Refusals.{◌>>=◌, Fails}
-use Rattle.index_layout.proofs.Judging.{bind_ok, same_ok}
 use Rattle.shared_lemmas.proofs.Lists.{All-unmap}
 use Rattle.index_version1.specs.Files.{IsFile1View, IsIndexFile1, file1_bytes}
 use Rattle.index_version1.specs.Reading.{index_in, read_file1, read_index1}
 use Rattle.index_version1.proofs.Filling.{pairs_unmap}
+use Rattle.shared_lemmas.proofs.Results.{ok_same}
 
 pub index_found : ((v : FileView) → IsFile1View v → read_file1 (file1_bytes v) ≡ Ok v) → (index : IndexData) (bytes : List ℕ) → IsIndexFile1 bytes index → read_index1 bytes ≡ Ok index
 unfolding read_index1
@@ -30,7 +22,7 @@ unfolding read_index1
 index_only only index bytes fits read =
     let a = bind_ok (read_file1 bytes) index_in index read in
     let law = only a.0 bytes fits a.1 in
-    subst (IsIndexFile1 bytes) (same_ok a.0.index index a.2) (record { codecs = a.0.codecs; view = law.1; spelled = law.0 })
+    subst (IsIndexFile1 bytes) (ok_same a.0.index index a.2) (record { codecs = a.0.codecs; view = law.1; spelled = law.0 })
 
 -- what an index in memory keeps, from what its data keeps
 pub record InMemory (names : List (List ℕ)) (terms : List TermSegments) : Type 0 where

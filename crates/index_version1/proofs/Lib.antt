@@ -1,3 +1,4 @@
+mod Below
 mod OffsetLaws
 mod OldTerms
 mod OldFiles

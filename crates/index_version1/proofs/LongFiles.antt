@@ -1,10 +1,6 @@
 -- A file whose front is read: a longer one is refused whatever it holds.
-use Rattle.std.proofs.Common.{◌≡◌, ◌<◌, ◌^◌, ℕ, List, length, take, true, nat_lt, Result, Ok, Err, ap, sym, ◌∙◌, refl, arith, inl, inr}
-use Rattle.std.proofs.lemmas.Bool.{cases_lt}
-use Rattle.std.proofs.lemmas.List.{take_all, length-take-le}
-use Rattle.index_model.specs.Index.{IndexData}
-use Rattle.index_layout.specs.declared.refusal.OpenRefusal.{OpenRefusal}
-use Rattle.index_layout.specs.declared.refusal.OpenWhy.TheVariants.{Limit}
+use Rattle.shared_lemmas.proofs.Common.{◌≡◌, ◌<◌, ◌^◌, ℕ, List, length, take, true, nat_lt, Result, Err, ap, sym, ◌∙◌, refl, arith, inl, inr, cases_lt, take_all, length-take-le}
+use Rattle.index_version1.proofs.Below.{IndexData, OpenRefusal, Limit}
 use Rattle.index_version1.specs.Reading.{front1_checks, read_front1, read_file1, read_index1}
 
 abbrev too_long : Result IndexData OpenRefusal

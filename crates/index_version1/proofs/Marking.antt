@@ -1,34 +1,16 @@
 -- Documents that are marked one after the other, and documents that are read.
-use Rattle.std.proofs.Common.{add-one, ◌≡◌, ℕ, ◌+◌, ◌<◌, ◌≤◌, ◌≢◌, ◌==◌, ◌||◌, Bool, true, false, nat_eq, nat_lt, List, [], ◌∷◌, ◌++◌, length, take, drop, get_or, All, Result, Ok, Err, ap, sym, subst, ◌∙◌, refl, arith, append_assoc, set, slice_index, get_or-set_other, get_or-set_same, length-set}
-use Rattle.std.specs.List.{list_any}
-use Rattle.std.proofs.Math.Seq.{take-suc}
-use Rattle.std.proofs.lemmas.List.{take_all, take-append-drop}
-use Rattle.std.proofs.lemmas.List.Folds.{list_any-append}
-use Rattle.std.proofs.lemmas.Bool.Decides.{nat_tests}
-use Rattle.std.proofs.lemmas.List.Elements.{All-head, All-tail}
-use Rattle.jass_base.specs.Gaps.{Judges}
-use Rattle.jass_base.specs.declared.payload_fault.PayloadFault.{PayloadFault}
-use Rattle.std.specs.Prelude.{slice_range}
-use Rattle.segment_codecs.specs.Codecs.{read_payload}
-use Rattle.index_layout.specs.Heads.{HeadData}
-use Rattle.index_layout.specs.Refusals.{Fails}
-use Rattle.index_layout.specs.declared.refusal.OpenFault.{OpenFault}
-use Rattle.index_layout.specs.declared.refusal.OpenFault.TheVariants.{Refused}
-use Rattle.index_layout.specs.declared.refusal.OpenWhy.TheVariants.{DocTwice}
-use Rattle.index_layout.specs.Reading.{is_among, shares_one, payload_placed, payload_end, read_segment}
-use Rattle.index_layout.specs.declared.refusal.OpenRefusal.{OpenRefusal}
+use Rattle.shared_lemmas.proofs.Common.{add-one, ◌≡◌, ℕ, ◌+◌, ◌<◌, ◌≤◌, ◌≢◌, ◌==◌, ◌||◌, Bool, true, false, nat_eq, nat_lt, List, [], ◌∷◌, ◌++◌, length, take, drop, get_or, All, Result, Ok, Err, ap, sym, subst, ◌∙◌, refl, arith, append_assoc, set, slice_index, get_or-set_other, get_or-set_same}
+use Rattle.shared_lemmas.proofs.Common.{length-set, list_any, take-suc, take_all, take-append-drop, list_any-append, nat_tests, All-head, All-tail, slice_range, or-false, or-true}
+use Rattle.index_version1.proofs.Below.{Judges, PayloadFault, read_payload, HeadData, Fails, OpenFault, Refused, DocTwice, is_among, shares_one, payload_placed, OpenRefusal}
+use Rattle.index_layout.specs.Reading.{payload_end, read_segment}
 use Rattle.index_version1.specs.Private.Tables.{Marks}
-
-or_false : (b : Bool) → (b || false) ≡ b
-or_false true = refl
-or_false false = refl
 
 one_more : (earlier docs : List ℕ) (i q : ℕ) → i < length docs → is_among (earlier ++ take (i + 1) docs) q ≡ (is_among (earlier ++ take i docs) q || nat_eq q (get_or docs i 0))
 one_more earlier docs i q inside =
     let x = get_or docs i 0 in
     ap (λ n. is_among (earlier ++ take n docs) q) (add-one i) ∙ ap (λ xs. is_among (earlier ++ xs) q) (take-suc docs i 0 inside)
     ∙ ap (list_any (nat_eq q)) (sym (append_assoc earlier (take i docs) (x ∷ [])))
-    ∙ list_any-append (nat_eq q) (earlier ++ take i docs) (x ∷ []) ∙ ap (λ b. is_among (earlier ++ take i docs) q || b) (or_false (nat_eq q x))
+    ∙ list_any-append (nat_eq q) (earlier ++ take i docs) (x ∷ []) ∙ ap (λ b. is_among (earlier ++ take i docs) q || b) (or-false (nat_eq q x))
 
 pub mark_on : (seen docs : List ℕ) (mark i : ℕ) (earlier : List ℕ) → i < length docs → get_or docs i 0 < length seen → Marks seen mark (earlier ++ take i docs) → Marks (set seen (get_or docs i 0) mark) mark (earlier ++ take (i + 1) docs)
 mark_on seen docs mark i earlier inside below marks = λ q within. by_doc q within (nat_eq q (get_or docs i 0)) refl
@@ -41,17 +23,13 @@ mark_on seen docs mark i earlier inside below marks = λ q within. by_doc q with
         let same : q ≡ get_or docs i 0 = grind (arith, nat_tests, is) in
         let here : slice_index (set seen (get_or docs i 0) mark) q ≡ mark = ap (slice_index (set seen (get_or docs i 0) mark)) same ∙ get_or-set_same seen (get_or docs i 0) mark 0 below in
         let left : (slice_index (set seen (get_or docs i 0) mark) q == mark) ≡ true = grind (arith, nat_tests, here) in
-        let right : (is_among (earlier ++ take i docs) q || nat_eq q (get_or docs i 0)) ≡ true = ap (λ b. is_among (earlier ++ take i docs) q || b) (sym is) ∙ or_true (is_among (earlier ++ take i docs) q) in
+        let right : (is_among (earlier ++ take i docs) q || nat_eq q (get_or docs i 0)) ≡ true = ap (λ b. is_among (earlier ++ take i docs) q || b) (sym is) ∙ or-true (is_among (earlier ++ take i docs) q) in
         left ∙ sym (one_more earlier docs i q inside ∙ right)
-      where
-        or_true : (b : Bool) → (b || true) ≡ true
-        or_true true = refl
-        or_true false = refl
     by_doc q within false is =
         let ne : q ≢ get_or docs i 0 = λ same. absurd (grind (arith, nat_tests, is, same)) in
         let there : slice_index (set seen (get_or docs i 0) mark) q ≡ slice_index seen q = get_or-set_other seen (get_or docs i 0) q mark 0 ne in
         ap (λ n. n == mark) there ∙ marks q (omega (arith, within, length-set seen (get_or docs i 0) mark))
-        ∙ sym (one_more earlier docs i q inside ∙ ap (λ b. is_among (earlier ++ take i docs) q || b) (sym is) ∙ or_false (is_among (earlier ++ take i docs) q))
+        ∙ sym (one_more earlier docs i q inside ∙ ap (λ b. is_among (earlier ++ take i docs) q || b) (sym is) ∙ or-false (is_among (earlier ++ take i docs) q))
 
 pub marked_all : (seen docs : List ℕ) (mark i : ℕ) (earlier : List ℕ) → length docs ≤ i → Marks seen mark (earlier ++ take i docs) → Marks seen mark (earlier ++ docs)
 marked_all seen docs mark i earlier end marks = subst (λ xs. Marks seen mark (earlier ++ xs)) (take_all i docs end) marks

@@ -1,16 +1,9 @@
 -- No refusal of version 1 is that of an older version.
-use Rattle.std.proofs.Common.{◌≡◌, ◌≢◌, ℕ, zero, suc, ◌+◌, ◌==◌, not, nat_lt, Bool, true, false, cond, List, [], ◌∷◌, ◌++◌, length, Option, Some, None, Result, Ok, Err, subst}
-use Rattle.std.specs.Prelude.{⊤}
-use Rattle.jass_base.specs.declared.payload_fault.PayloadFault.{PayloadFault}
-use Rattle.index_model.specs.Index.{IndexData}
-use Rattle.index_layout.specs.Bytes.{u16_in}
-use Rattle.index_layout.specs.Heads.{HeadData, TermHeads}
-use Rattle.index_layout.specs.declared.refusal.OpenWhy.TheVariants.{Old, Magic, Length, Names, TermOrder, Heads, Payload, DocTwice, Totals, Limit}
-use Rattle.index_layout.specs.declared.refusal.OpenRefusal.{OpenRefusal}
-use Rattle.index_layout.specs.declared.refusal.OpenFault.{OpenFault}
+use Rattle.shared_lemmas.proofs.Common.{◌≡◌, ◌≢◌, ℕ, zero, suc, ◌+◌, ◌==◌, not, nat_lt, Bool, true, false, cond, List, [], ◌∷◌, ◌++◌, length, Option, Some, None, Result, Ok, Err, subst, ⊤}
+use Rattle.index_version1.proofs.Below.{PayloadFault, IndexData, u16_in, HeadData, TermHeads, Old, Magic, Length, Names, TermOrder, Heads, Payload, DocTwice, Totals, Limit, OpenRefusal, OpenFault, ◌>>=◌, Fails, Check, check, judged, NamesRead, IndexRead, read_heads, payload_placed, read_segment}
+use Rattle.index_version1.proofs.Below.{docs_in, shares_one, read_segments, read_payloads, after_payloads, after_terms}
 use Rattle.index_layout.specs.declared.refusal.OpenFault.TheVariants as faults
-use Rattle.index_layout.specs.Refusals.{◌>>=◌, Fails, Check, check, judged}
-use Rattle.index_layout.specs.Reading.{NamesRead, IndexRead, head_checks, head_end, read_heads, payload_placed, read_segment, docs_in, shares_one, payload_end, read_segments, read_payloads, end_checks, after_payloads, after_terms}
+use Rattle.index_layout.specs.Reading.{head_checks, head_end, payload_end, end_checks}
 use Rattle.index_version1.specs.Acceptance.{IsOfVersion1}
 use Rattle.index_version1.specs.Reading.{front1_checks, read_front1, offset_in, offset_checks, names_place, text_checks, names_from, read_offsets, read_texts, read_names1, term1_in, term1_checks, term1_end, heads1_in, read_terms1, after_names1, after_front1, read_file1, index_in, read_index1}
 

@@ -1,23 +1,10 @@
 -- Offsets and names are read as they are written.
-use Rattle.std.proofs.Common.{◌≡◌, ℕ, suc, zero, ◌+◌, ◌*◌, ◌-◌, ◌<◌, ◌≤◌, ◌^◌, ◌==◌, ◌&&◌, not, true, false, nat_lt, nat_le, List, [], ◌∷◌, ◌++◌, length, take, drop, All, Result, Ok, ap, sym, subst, ◌∙◌, refl, arith}
-use Rattle.std.specs.Prelude.{slice_range, flat_map}
-use Rattle.std.specs.List.{list_all}
-use Rattle.std.specs.Str.{is_utf8}
+use Rattle.shared_lemmas.proofs.Common.{◌≡◌, ℕ, suc, zero, ◌+◌, ◌*◌, ◌-◌, ◌<◌, ◌≤◌, ◌^◌, ◌==◌, ◌&&◌, not, true, false, nat_lt, nat_le, List, [], ◌∷◌, ◌++◌, length, take, drop, All, Result, Ok, ap, sym, subst, ◌∙◌, refl, arith, slice_range, list_all, is_utf8, take-append_seam, length-append}
+use Rattle.shared_lemmas.proofs.Common.{length-drop, take-append-drop, drop-drop, length-take-le, nat_tests, All-head, All-tail, All-cons, All-nil, and_parts, or_parts, not-false}
+use Rattle.std.specs.Prelude.{flat_map}
 use borrow.Author.Tests.{ltb-false}
-use Rattle.std.proofs.Math.Seq.{take-append_seam}
-use Rattle.std.proofs.lemmas.List.{length-append, append_assoc, length-drop, take-append-drop, drop-drop, length-take-le}
-use Rattle.std.proofs.lemmas.Bool.Decides.{nat_tests}
-use Rattle.std.proofs.lemmas.List.Elements.{All-head, All-tail, All-cons, All-nil}
-use Rattle.jass_base.specs.Limits.{IsName, IsText}
-use Rattle.index_layout.specs.Bytes.{u32_in, u32_bytes}
-use Rattle.index_layout.specs.declared.refusal.OpenRefusal.{OpenRefusal}
-use Rattle.index_layout.specs.declared.refusal.OpenWhy.TheVariants.{Length, Names}
-use Rattle.index_layout.specs.Refusals.{◌>>=◌, check}
-use Rattle.index_layout.specs.Reading.{NamesRead, is_name_text}
-use Rattle.index_layout.proofs.Judging.{NoneWrong, bind_ok, judged_ok, judged_all, behind, reaches}
-use Rattle.index_layout.proofs.NameLaws.{visible, shown}
-use Rattle.index_layout.proofs.Numbers.{Fit, u32_found, u32_only}
-use Rattle.std.proofs.lemmas.Bool.{and_parts, or_parts, not-false}
+use Rattle.std.proofs.lemmas.List.{append_assoc}
+use Rattle.index_version1.proofs.Below.{IsName, IsText, u32_in, u32_bytes, OpenRefusal, Length, Names, ◌>>=◌, check, NamesRead, is_name_text, NoneWrong, bind_ok, judged_ok, judged_all, behind, reaches, visible, shown, Fit, u32_found, u32_only}
 use Rattle.index_version1.specs.Files.{IsShort}
 use Rattle.index_version1.specs.Layout.{offsets_from, offsets_bytes, joined}
 use Rattle.index_version1.specs.Reading.{offset_place, offset_in, bounds_no_name, offset_checks, names_place, name1_in, text_checks, names_from, read_offsets, read_texts, read_names1}
@@ -50,11 +37,10 @@ offsets_there bytes (name ∷ names) i at rest small stands =
 checks_pass : (bytes : List ℕ) (names : List (List ℕ)) (i at : ℕ) → OffsetsAre bytes names i at → All IsName names → All IsShort names → NoneWrong (offset_checks bytes (length names) i)
 checks_pass bytes [] i at are named short = tt
 checks_pass bytes (name ∷ names) i at are named short =
-    let here = are.0 in
     let next = first_is bytes names (i + 1) (at + length name) are.1 in
     let some = (All-head IsName name names named).some in
     let few = All-head IsShort name names short in
-    let a : bounds_no_name (offset_in bytes i) (offset_in bytes (i + 1)) ≡ false = rw (here, next) (grind (arith, nat_tests, some, few)) in
+    let a : bounds_no_name (offset_in bytes i) (offset_in bytes (i + 1)) ≡ false = rw (are.0, next) (grind (arith, nat_tests, some, few)) in
     (a, checks_pass bytes names (i + 1) (at + length name) are.1 (All-tail IsName name names named) (All-tail IsShort name names short))
 
 last_is : (bytes : List ℕ) (names : List (List ℕ)) (i at : ℕ) → OffsetsAre bytes names i at → offset_in bytes (i + length names) ≡ at + length (joined names)

@@ -1,39 +1,18 @@
 -- Files of version 1 are read as they are written.
-use Rattle.std.proofs.Common.{◌≡◌, ℕ, ◌+◌, ◌<◌, ◌≤◌, ◌^◌, ◌==◌, ◌||◌, not, false, nat_lt, nat_eq, List, [], ◌++◌, length, take, drop, All, None, Result, Ok, ap, sym, subst, ◌∙◌, refl, arith}
-use Rattle.std.specs.List.{starts_with}
+use Rattle.shared_lemmas.proofs.Common.{◌≡◌, ℕ, ◌+◌, ◌<◌, ◌≤◌, ◌^◌, ◌==◌, ◌||◌, not, false, nat_lt, nat_eq, List, [], ◌++◌, length, take, drop, All, None, Result, Ok, ap, sym, subst, ◌∙◌, refl, arith, starts_with, nat_tests, length-append, drop_all, take-append-drop, bytes_eq-Decides, or_parts}
+use Rattle.shared_lemmas.proofs.Common.{not-false}
 use borrow.Author.Tests.{ltb-false, eqb-true}
-use Rattle.std.proofs.lemmas.Bool.Decides.{nat_tests}
-use Rattle.std.proofs.lemmas.List.{length-append, append_assoc, append-nil, drop_all, take-append-drop}
-use Rattle.std.proofs.lemmas.Slice.Eq.{bytes_eq-Decides}
-use Rattle.jass_base.specs.Limits.{IsName, IsText}
-use Rattle.segment_codecs.specs.declared.codec.Codec.{Codec}
-use Rattle.index_model.specs.Index.{TermData}
-use Rattle.index_layout.specs.Bytes.{u32_in, u64_in, u32_bytes, u64_bytes}
-use Rattle.index_layout.specs.Heads.{TermHeads, terms_heads, head_postings, payloads_size, greatest_impact}
-use Rattle.index_layout.specs.Layout.{old_magic, terms_payloads}
-use Rattle.index_layout.specs.View.{FileView, HaveCodecs, view_heads, view_payloads, index_postings}
-use Rattle.index_layout.specs.declared.refusal.OpenRefusal.{OpenRefusal}
-use Rattle.index_layout.specs.Reading.{Front, NamesRead, TermsRead, IndexRead, read_payloads, head_codecs, end_checks, after_payloads, after_terms}
-use Rattle.index_layout.proofs.Judging.{bind_ok, judged_ok, judged_all, behind, reaches}
-use Rattle.index_layout.proofs.Numbers.{Fit, u32_found, u64_found, u32_only, u64_only}
-use Rattle.index_layout.proofs.TermLaws.{TermsRise}
-use Rattle.index_layout.proofs.IndexFacts.{TermsStand, index_found, index_only}
-use Rattle.index_layout.proofs.PayloadLaws.{PayloadsAre, terms_rise, payloads_found, payloads_only}
-use Rattle.index_layout.proofs.Sums.{all_codecs_back, all_counted, all_sized, greatest_small, heads_length}
-use Rattle.index_layout.proofs.FileLaws.{Found, Only, Numbered, step}
-use Rattle.std.proofs.lemmas.Bool.{or_parts, not-false}
+use Rattle.std.proofs.lemmas.List.{append_assoc, append-nil}
+use Rattle.index_version1.proofs.Below.{IsName, IsText, Codec, TermData, u32_in, u64_in, u32_bytes, u64_bytes, TermHeads, terms_heads, head_postings, payloads_size, greatest_impact, old_magic, terms_payloads, FileView, HaveCodecs, index_postings, OpenRefusal, Front, NamesRead, TermsRead, IndexRead}
+use Rattle.index_version1.proofs.Below.{read_payloads, head_codecs, after_payloads, after_terms, bind_ok, judged_ok, judged_all, behind, reaches, Fit, u32_found, u64_found, u32_only, u64_only, TermsRise, TermsStand, index_found, index_only, PayloadsAre, terms_rise, payloads_found, payloads_only}
+use Rattle.index_version1.proofs.Below.{all_codecs_back, all_counted, all_sized, greatest_small, heads_length, Found, Only, Numbered, step, first_bytes, front_of, same_first}
+use Rattle.index_layout.specs.View.{view_heads, view_payloads}
+use Rattle.index_layout.specs.Reading.{end_checks}
 use Rattle.index_version1.specs.Files.{IsShort, IsFile1View, file1_bytes}
 use Rattle.index_version1.specs.Layout.{offsets_bytes, joined, terms1_bytes, file1_length, totals1_bytes, front1_bytes}
 use Rattle.index_version1.specs.Reading.{front1_checks, read_front1, read_names1, read_terms1, after_names1, after_front1, read_file1}
 use Rattle.index_version1.proofs.OffsetLaws.{Names1Are, names1_found, names1_only}
 use Rattle.index_version1.proofs.OldTerms.{Terms1Are, terms1_found, terms1_only}
-
--- the first 40 bytes with these numbers
-abbrev first_bytes : (l d n p g : ℕ) → List ℕ → List ℕ
-first_bytes l d n p g rest = old_magic ++ (u64_bytes l ++ (u32_bytes d ++ (u32_bytes n ++ (u64_bytes p ++ (u32_bytes g ++ (u32_bytes 0 ++ rest))))))
-
-abbrev front_of : ℕ → ℕ → Result Front OpenRefusal
-front_of d n = Ok (record { docs = d; terms = n })
 
 record FrontThere (bytes rest : List ℕ) (d n p g : ℕ) : Type 0 where
   pub read : read_front1 bytes ≡ Ok (record { docs = d; terms = n })
@@ -42,7 +21,7 @@ record FrontThere (bytes rest : List ℕ) (d n p g : ℕ) : Type 0 where
   pub long : 40 ≤ length bytes
   pub stands : drop 40 bytes ≡ rest
 
-front_found : (bytes rest : List ℕ) (l d n p g : ℕ) → bytes ≡ first_bytes l d n p g rest → l ≡ length bytes → length bytes ≤ 2 ^ 32 → d ≤ 2 ^ 26 → n ≤ 2 ^ 24 → p ≤ 2 ^ 29 → g ≤ 65536 → FrontThere bytes rest d n p g
+front_found : (bytes rest : List ℕ) (l d n p g : ℕ) → bytes ≡ first_bytes old_magic l d n p g rest → l ≡ length bytes → length bytes ≤ 2 ^ 32 → d ≤ 2 ^ 26 → n ≤ 2 ^ 24 → p ≤ 2 ^ 29 → g ≤ 65536 → FrontThere bytes rest d n p g
 unfolding read_front1 front1_checks
 front_found bytes rest l d n p g spelled whole short docs terms few small =
     let tail = u32_bytes 0 ++ rest in
@@ -72,18 +51,18 @@ front_found bytes rest l d n p g spelled whole short docs terms few small =
 -- the bytes of a view in parts
 view_is : (names : List (List ℕ)) (heads : List TermHeads) (terms : List TermData) (codecs : List (List Codec)) → terms_heads (length names) terms codecs ≡ heads
     → file1_bytes (record { index = record { names = names; terms = terms }; codecs = codecs })
-    ≡ first_bytes (file1_length names heads) (length names) (length heads) (head_postings heads) (greatest_impact heads) (offsets_bytes names ++ (joined names ++ (terms1_bytes heads ++ terms_payloads (length names) terms codecs)))
+    ≡ first_bytes old_magic (file1_length names heads) (length names) (length heads) (head_postings heads) (greatest_impact heads) (offsets_bytes names ++ (joined names ++ (terms1_bytes heads ++ terms_payloads (length names) terms codecs)))
 unfolding file1_bytes front1_bytes totals1_bytes view_heads view_payloads
 view_is names heads terms codecs same =
     let last = terms_payloads (length names) terms codecs in
-    let first = first_bytes (file1_length names heads) (length names) (length heads) (head_postings heads) (greatest_impact heads) in
-    ap (λ heads. first_bytes (file1_length names heads) (length names) (length heads) (head_postings heads) (greatest_impact heads) ((offsets_bytes names ++ (joined names ++ terms1_bytes heads)) ++ last)) same
+    let first = first_bytes old_magic (file1_length names heads) (length names) (length heads) (head_postings heads) (greatest_impact heads) in
+    ap (λ heads. first_bytes old_magic (file1_length names heads) (length names) (length heads) (head_postings heads) (greatest_impact heads) ((offsets_bytes names ++ (joined names ++ terms1_bytes heads)) ++ last)) same
     ∙ ap first (append_assoc (offsets_bytes names) (joined names ++ terms1_bytes heads) last ∙ ap (λ xs. offsets_bytes names ++ xs) (append_assoc (joined names) (terms1_bytes heads) last))
 
 whole_found : Found → (bytes : List ℕ) (names : List (List ℕ)) (heads : List TermHeads) (terms : List TermData) (codecs : List (List Codec)) → All IsName names → All IsText names → All IsShort names → length names ≤ 2 ^ 26 → length heads ≤ 2 ^ 24 → head_postings heads ≤ 2 ^ 29
     → HaveCodecs terms codecs → TermsStand (length names) None terms → terms_heads (length names) terms codecs ≡ heads → TermsRise (length names) None heads → head_codecs heads ≡ codecs → payloads_size heads ≡ length (terms_payloads (length names) terms codecs)
     → length bytes ≤ 2 ^ 32
-    → bytes ≡ first_bytes (file1_length names heads) (length names) (length heads) (head_postings heads) (greatest_impact heads) (offsets_bytes names ++ (joined names ++ (terms1_bytes heads ++ terms_payloads (length names) terms codecs)))
+    → bytes ≡ first_bytes old_magic (file1_length names heads) (length names) (length heads) (head_postings heads) (greatest_impact heads) (offsets_bytes names ++ (joined names ++ (terms1_bytes heads ++ terms_payloads (length names) terms codecs)))
     → read_file1 bytes ≡ Ok (record { index = record { names = names; terms = terms }; codecs = codecs })
 unfolding read_file1 end_checks
 whole_found found bytes names heads terms codecs are texts lengths few_names few_terms few have stand same rise back sizes short spelled =
@@ -115,10 +94,8 @@ whole_found found bytes names heads terms codecs are texts lengths few_names few
     let terms_read : read_terms1 bytes d (length heads) None place ≡ Ok y = terms1_found bytes d None place heads payloads rise few_names small short terms_in at_terms in
     let payloads_read : read_payloads bytes d heads at ≡ Ok z = ap (λ hs. read_payloads bytes d hs at) (sym same) ∙ payloads_found found bytes d None terms codecs at [] have stand payloads_in (at_payloads ∙ sym (append-nil payloads)) in
     let a : nat_lt (at + length payloads) (length bytes) ≡ false = (let e = ap length spelled in grind (arith, e, l_rest, l_more, l_last)) in
-    let postings = front.postings in
-    let greatest = front.greatest in
-    let b : not (u64_in bytes 24 == head_postings heads) ≡ false = rw postings (grind (arith, nat_tests)) in
-    let c : not (u32_in bytes 32 == greatest_impact heads) ≡ false = rw greatest (grind (arith, nat_tests)) in
+    let b : not (u64_in bytes 24 == head_postings heads) ≡ false = rw front.postings (grind (arith, nat_tests)) in
+    let c : not (u32_in bytes 32 == greatest_impact heads) ≡ false = rw front.greatest (grind (arith, nat_tests)) in
     let v : FileView = record { index = record { names = names; terms = terms }; codecs = head_codecs heads } in
     step (read_front1 bytes) (after_front1 bytes) first front.read
     ∙ step (read_names1 bytes d) (after_names1 bytes first) x names_read
@@ -144,7 +121,7 @@ record FrontRead (bytes : List ℕ) (front : Front) : Type 0 where
   pub docs : front.docs ≤ 2 ^ 26
   pub terms : front.terms ≤ 2 ^ 24
   pub postings : u64_in bytes 24 ≤ 2 ^ 29
-  pub spelled : bytes ≡ first_bytes (length bytes) front.docs front.terms (u64_in bytes 24) (u32_in bytes 32) (drop 40 bytes)
+  pub spelled : bytes ≡ first_bytes old_magic (length bytes) front.docs front.terms (u64_in bytes 24) (u32_in bytes 32) (drop 40 bytes)
 
 front_only : (bytes : List ℕ) (front : Front) → Fit bytes → read_front1 bytes ≡ Ok front → FrontRead bytes front
 unfolding read_front1 front1_checks
@@ -176,13 +153,10 @@ front_only bytes front fits read =
           ∙ ap (λ xs. u32_bytes (u32_in bytes 32) ++ xs) (u32_only bytes 36 fits (omega (arith, long)) ∙ ap (λ n. u32_bytes n ++ drop 40 bytes) zero_is))))));
     }
 
-same_first : (l d n p g : ℕ) (rest : List ℕ) (l2 d2 n2 p2 g2 : ℕ) (rest2 : List ℕ) → l ≡ l2 → d ≡ d2 → n ≡ n2 → p ≡ p2 → g ≡ g2 → rest ≡ rest2 → first_bytes l d n p g rest ≡ first_bytes l2 d2 n2 p2 g2 rest2
-same_first l d n p g rest l2 d2 n2 p2 g2 rest2 a b c e f h = rw (a, b, c, e, f, h) refl
-
 -- the bytes of parts that were read
 whole_only : (bytes : List ℕ) (front : Front) (names : List (List ℕ)) (heads : List TermHeads) (payloads : List ℕ) → FrontRead bytes front → length names ≡ front.docs → length heads ≡ front.terms → payloads_size heads ≡ length payloads
     → u64_in bytes 24 ≡ head_postings heads → u32_in bytes 32 ≡ greatest_impact heads → drop 40 bytes ≡ offsets_bytes names ++ (joined names ++ (terms1_bytes heads ++ payloads))
-    → bytes ≡ first_bytes (file1_length names heads) (length names) (length heads) (head_postings heads) (greatest_impact heads) (offsets_bytes names ++ (joined names ++ (terms1_bytes heads ++ payloads)))
+    → bytes ≡ first_bytes old_magic (file1_length names heads) (length names) (length heads) (head_postings heads) (greatest_impact heads) (offsets_bytes names ++ (joined names ++ (terms1_bytes heads ++ payloads)))
 whole_only bytes front names heads payloads first docs terms sizes postings greatest rest =
     let ob = offsets_bytes names in
     let nb = joined names in
@@ -193,7 +167,7 @@ whole_only bytes front names heads payloads first docs terms sizes postings grea
     let h = length-append nb (tb ++ payloads) in
     let i = length-append tb payloads in
     let whole : length bytes ≡ file1_length names heads = omega (arith, e, f, g, h, i, sizes) in
-    first.spelled ∙ same_first (length bytes) front.docs front.terms (u64_in bytes 24) (u32_in bytes 32) (drop 40 bytes) (file1_length names heads) (length names) (length heads) (head_postings heads) (greatest_impact heads) (ob ++ (nb ++ (tb ++ payloads)))
+    first.spelled ∙ same_first old_magic (length bytes) front.docs front.terms (u64_in bytes 24) (u32_in bytes 32) (drop 40 bytes) (file1_length names heads) (length names) (length heads) (head_postings heads) (greatest_impact heads) (ob ++ (nb ++ (tb ++ payloads)))
     whole (sym docs) (sym terms) postings greatest rest
 
 -- the view that was read

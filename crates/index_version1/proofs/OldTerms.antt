@@ -1,27 +1,14 @@
 -- Terms with their heads are read as they are written.
-use Rattle.std.proofs.Common.{◌≡◌, ℕ, suc, zero, ◌+◌, ◌-◌, ◌<◌, ◌≤◌, ◌^◌, ◌==◌, ◌&&◌, not, true, false, nat_lt, List, [], ◌∷◌, ◌++◌, length, take, drop, Option, Some, Result, Ok, ap, sym, subst, ◌∙◌, refl, arith}
-use Rattle.std.specs.Prelude.{slice_range}
-use Rattle.std.specs.Str.{is_utf8}
+use Rattle.shared_lemmas.proofs.Common.{◌≡◌, ℕ, suc, zero, ◌+◌, ◌-◌, ◌<◌, ◌≤◌, ◌^◌, ◌==◌, ◌&&◌, not, true, false, nat_lt, List, [], ◌∷◌, ◌++◌, length, take, drop, Option, Some, Result, Ok, ap, sym, subst, ◌∙◌, refl, arith, slice_range, is_utf8, take-append_seam, length-append, length-drop}
+use Rattle.shared_lemmas.proofs.Common.{take-append-drop, drop-drop, length-take-le, sum_by-append, nat_tests, and_parts, not-false}
 use borrow.Author.Tests.{ltb-false}
-use Rattle.std.proofs.Math.Seq.{take-append_seam}
-use Rattle.std.proofs.lemmas.List.{length-append, append_assoc, length-drop, take-append-drop, drop-drop, length-take-le}
-use Rattle.std.proofs.lemmas.List.Sums.{sum_by-append}
-use Rattle.std.proofs.lemmas.Bool.Decides.{nat_tests}
-use Rattle.segment_codecs.specs.declared.codec.Codec.{Codec}
-use Rattle.segment_codecs.specs.Codecs.{codec_number, codec_of}
-use Rattle.index_layout.specs.Bytes.{u16_in, u32_in, u16_bytes, u32_bytes}
-use Rattle.index_layout.specs.Heads.{HeadData, TermHeads, all_heads, payloads_size}
-use Rattle.index_layout.specs.Layout.{heads_bytes}
-use Rattle.index_layout.specs.declared.refusal.OpenRefusal.{OpenRefusal}
-use Rattle.index_layout.specs.Refusals.{◌>>=◌}
-use Rattle.index_layout.specs.Reading.{HeadsRead, TermsRead, rises_behind, read_heads}
-use Rattle.index_layout.proofs.Judging.{bind_ok, same_ok, judged_ok, judged_all, behind, reaches, parts_stand}
-use Rattle.index_layout.proofs.Numbers.{Fit, u16_found, u32_found, u16_only, u32_only}
-use Rattle.index_layout.proofs.HeadLaws.{HeadsAre, heads_found, heads_only}
-use Rattle.index_layout.proofs.TermLaws.{IsTermText, TermsRise, heads_size}
-use Rattle.std.proofs.lemmas.Bool.{and_parts, not-false}
+use Rattle.std.proofs.lemmas.List.{append_assoc}
+use Rattle.index_version1.proofs.Below.{Codec, codec_number, codec_of, u32_in, u16_bytes, u32_bytes, HeadData, TermHeads, all_heads, payloads_size, heads_bytes, OpenRefusal, ◌>>=◌, HeadsRead, TermsRead, rises_behind, read_heads, bind_ok, judged_ok, judged_all, behind, reaches, parts_stand, Fit}
+use Rattle.index_version1.proofs.Below.{u16_found, u32_found, u16_only, u32_only, HeadsAre, heads_found, heads_only, IsTermText, TermsRise, heads_size}
+use Rattle.index_layout.specs.Bytes.{u16_in}
 use Rattle.index_version1.specs.Layout.{term1_bytes, terms1_bytes}
 use Rattle.index_version1.specs.Reading.{segments1_place, term1_in, term1_checks, term1_end, heads1_in, read_terms1}
+use Rattle.shared_lemmas.proofs.Results.{ok_same}
 
 record Term1There (bytes : List ℕ) (before : Option (List ℕ)) (at : ℕ) (term : List ℕ) (n : ℕ) : Type 0 where
   pub end : term1_end bytes before at ≡ Ok (at + 2 + length term + 4)
@@ -32,9 +19,8 @@ term1_found : (bytes : List ℕ) (before : Option (List ℕ)) (at : ℕ) (term :
     → drop at bytes ≡ u16_bytes (length term) ++ (term ++ (u32_bytes n ++ rest)) → Term1There bytes before at term n
 unfolding term1_in term1_end term1_checks heads1_in
 term1_found bytes before at term n rest is some small from stands =
-    let fits = is.fits in
     let tail = u32_bytes n ++ rest in
-    let size : u16_in bytes at ≡ length term = u16_found bytes at (length term) (term ++ tail) (omega (arith, fits)) stands in
+    let size : u16_in bytes at ≡ length term = u16_found bytes at (length term) (term ++ tail) (omega (arith, is.fits)) stands in
     let body : drop (at + 2) bytes ≡ term ++ tail = behind bytes at (u16_bytes (length term)) (term ++ tail) stands in
     let place : segments1_place bytes at ≡ at + 2 + length term = ap (λ n. at + 2 + n) size in
     let behind_it : drop (at + 2 + length term) bytes ≡ tail = behind bytes (at + 2) term tail body in
@@ -147,7 +133,7 @@ terms1_next : (bytes : List ℕ) (d k : ℕ) (before : Option (List ℕ)) (at pl
     → (let r : Result TermsRead OpenRefusal = Ok (record { terms = record { term = term1_in bytes at; heads = here.heads } ∷ later.terms; end = later.end }) in r) ≡ Ok x → Terms1Are bytes d before at (suc k) x
 terms1_next bytes d k before at place here later x one heads_are terms_are same =
     let t : TermHeads = record { term = term1_in bytes at; heads = here.heads } in
-    subst (Terms1Are bytes d before at (suc k)) (same_ok (record { terms = t ∷ later.terms; end = later.end }) x same) (record {
+    subst (Terms1Are bytes d before at (suc k)) (ok_same (record { terms = t ∷ later.terms; end = later.end }) x same) (record {
       rise = (one.is, subst (λ m. 1 ≤ m) (sym heads_are.count) one.some, heads_are.fall, terms_are.rise);
       count = ap suc terms_are.count;
       stand = parts_stand bytes at here.end later.end (term1_bytes t) (terms1_bytes later.terms)
@@ -157,7 +143,7 @@ terms1_next bytes d k before at place here later x one heads_are terms_are same 
 
 module _ (numbered : (codec : Codec) (number : ℕ) → codec_of number ≡ Some codec → codec_number codec ≡ number) where
   pub terms1_only : (bytes : List ℕ) (d k : ℕ) (before : Option (List ℕ)) (at : ℕ) (x : TermsRead) → Fit bytes → at ≤ length bytes → read_terms1 bytes d k before at ≡ Ok x → Terms1Are bytes d before at k x
-  terms1_only bytes d zero before at x fits from read = subst (Terms1Are bytes d before at 0) (same_ok (record { terms = []; end = at }) x read) (record { rise = tt; count = refl; stand = refl; within = from })
+  terms1_only bytes d zero before at x fits from read = subst (Terms1Are bytes d before at 0) (ok_same (record { terms = []; end = at }) x read) (record { rise = tt; count = refl; stand = refl; within = from })
   terms1_only bytes d (suc k) before at x fits from read =
       let a = bind_ok (term1_end bytes before at) (λ place.
       (read_heads bytes d (heads1_in bytes at) 65536 place >>= λ here.

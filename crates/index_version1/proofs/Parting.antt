@@ -1,20 +1,8 @@
 -- The greatest impact of what was read.
-use Rattle.std.proofs.Common.{◌≡◌, ℕ, ◌≤◌, ◌^◌, List, [], ◌∷◌, ◌++◌, length, map, None, Ok, ap, sym, ◌∙◌, refl, arith}
-use Rattle.std.specs.Prelude.{flat_map, max}
-use Rattle.jass_base.specs.declared.term_segments.TermSegments.{TermSegments}
+use Rattle.std.proofs.Common.{◌≡◌, ℕ, ◌≤◌, ◌^◌, List, [], ◌∷◌, ◌++◌, length, map, None, Ok, ap, sym, ◌∙◌, refl, arith, flat_map, max}
+use Rattle.index_version1.proofs.Below.{TermSegments, Codec, SegmentData, TermData, term_data, HeadData, TermHeads, heads_of, terms_heads, all_heads, greatest_of, greatest_impact, greatest_in, HaveCodecs, IndexRead, head_codecs, read_payloads, Only, Fit, first_codecs, payloads_only, TermsRise}
+use Rattle.index_version1.proofs.Below.{greatest_kept}
 use Rattle.jass_base.specs.Terms as memory
-use Rattle.segment_codecs.specs.declared.codec.Codec.{Codec}
-use Rattle.index_model.specs.Index.{SegmentData, TermData}
-use Rattle.index_model.specs.Views.{term_data}
-use Rattle.index_layout.specs.Heads.{HeadData, TermHeads, heads_of, terms_heads, all_heads, greatest_of, greatest_impact}
-use Rattle.index_layout.specs.Totals.{greatest_in}
-use Rattle.index_layout.specs.View.{HaveCodecs}
-use Rattle.index_layout.specs.Reading.{IndexRead, head_codecs, read_payloads}
-use Rattle.index_layout.proofs.FileLaws.{Only}
-use Rattle.index_layout.proofs.Numbers.{Fit}
-use Rattle.index_layout.proofs.PayloadLaws.{first_codecs, payloads_only}
-use Rattle.index_layout.proofs.TermLaws.{TermsRise}
-use Rattle.index_layout.proofs.Greatest.{greatest_kept}
 
 heads_greatest : (d : ℕ) (segments : List SegmentData) (codecs : List Codec) (more : List HeadData) (rest : List SegmentData) → length codecs ≡ length segments → greatest_of more ≡ greatest_in rest → greatest_of (heads_of d segments codecs ++ more) ≡ greatest_in (segments ++ rest)
 heads_greatest d [] codecs more rest same is = is

@@ -1,15 +1,6 @@
 -- Terms whose payloads are read one after the other.
-use Rattle.std.proofs.Common.{◌≡◌, ℕ, ◌≤◌, List, [], ◌∷◌, ◌++◌, length, map, Option, Some, Result, Ok, ap, sym, subst, ◌∙◌}
-use Rattle.std.proofs.lemmas.List.{map_push, length-map}
-use Rattle.jass_base.specs.declared.term_segments.TermSegments.{TermSegments}
-use Rattle.index_model.specs.Index.{TermData}
-use Rattle.index_model.specs.Views.{segment_data, term_data}
-use Rattle.index_layout.specs.declared.refusal.OpenRefusal.{OpenRefusal}
-use Rattle.index_layout.specs.Refusals.{◌>>=◌}
-use Rattle.index_layout.specs.Reading.{SegmentsRead, IndexRead, read_segments, read_payloads}
-use Rattle.index_layout.proofs.HeadLaws.{HeadsFall}
-use Rattle.index_layout.proofs.TermLaws.{TermsRise}
-use Rattle.index_layout.proofs.Behind.{with_index, behind_index}
+use Rattle.shared_lemmas.proofs.Common.{◌≡◌, ℕ, ◌≤◌, List, [], ◌∷◌, ◌++◌, length, map, Option, Some, Result, Ok, ap, sym, subst, ◌∙◌, map_push, length-map}
+use Rattle.index_version1.proofs.Below.{TermSegments, TermData, segment_data, term_data, OpenRefusal, ◌>>=◌, SegmentsRead, IndexRead, read_segments, read_payloads, HeadsFall, TermsRise, with_index, behind_index}
 use Rattle.index_version1.specs.declared.old_term.OldTerm.{OldTerm}
 use Rattle.index_version1.specs.Private.Tables.{head_data, term_heads}
 

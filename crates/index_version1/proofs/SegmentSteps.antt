@@ -1,18 +1,9 @@
 -- Segments that are read one after the other.
-use Rattle.std.proofs.Common.{suc, add-one, ◌≡◌, ℕ, ◌+◌, ◌<◌, List, [], ◌∷◌, ◌++◌, length, map, drop, get_or, Result, Ok, ap, sym, subst, ◌∙◌}
-use Rattle.std.specs.Prelude.{flat_map}
+use Rattle.std.proofs.Common.{suc, add-one, ◌≡◌, ℕ, ◌+◌, ◌<◌, List, [], ◌∷◌, ◌++◌, length, map, drop, get_or, Result, Ok, ap, sym, subst, ◌∙◌, flat_map}
 use Rattle.std.proofs.Math.Seq.{drop-cons}
 use Rattle.std.proofs.lemmas.List.{map_push, append-nil}
 use Rattle.std.proofs.lemmas.Grind.{flat_map-append}
-use Rattle.jass_base.specs.declared.segment.Segment.{Segment}
-use Rattle.index_model.specs.Index.{SegmentData}
-use Rattle.index_model.specs.Views.{segment_data}
-use Rattle.index_layout.specs.Heads.{HeadData}
-use Rattle.index_layout.specs.declared.refusal.OpenRefusal.{OpenRefusal}
-use Rattle.index_layout.specs.Refusals.{◌>>=◌}
-use Rattle.index_layout.specs.Reading.{SegmentsRead, docs_in, payload_end, read_segments}
-use Rattle.index_layout.proofs.HeadLaws.{HeadsFall}
-use Rattle.index_layout.proofs.Behind.{with_segments, behind_segments}
+use Rattle.index_version1.proofs.Below.{Segment, SegmentData, segment_data, HeadData, OpenRefusal, ◌>>=◌, SegmentsRead, docs_in, payload_end, read_segments, HeadsFall, with_segments, behind_segments}
 use Rattle.index_version1.specs.declared.head.Head.{Head}
 use Rattle.index_version1.specs.Private.Tables.{head_data}
 

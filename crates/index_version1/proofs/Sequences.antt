@@ -1,34 +1,8 @@
 -- Parts that are read one after the other.
-use Rattle.std.proofs.Common.{◌≡◌, ◌≤◌, ◌<◌, ◌+◌, ◌==◌, not, nat_lt, ℕ, Bool, zero, suc, length, true, false, List, [], ◌∷◌, ◌++◌, Result, Ok, Err, append_assoc, ap, sym, subst, ◌∙◌, refl, arith}
-use Rattle.index_layout.specs.declared.refusal.OpenRefusal.{OpenRefusal}
-use Rattle.index_layout.specs.declared.refusal.OpenWhy.TheVariants.{Names}
-use Rattle.index_layout.specs.Refusals.{◌>>=◌, Fails, check, judged, refuse}
-use Rattle.index_layout.specs.Reading.{HeadsRead, NamesRead, head_end, head_in, read_heads, is_name_text}
-use Rattle.index_layout.specs.Bytes.{u16_in}
-use Rattle.index_layout.specs.Heads.{HeadData}
-use Rattle.index_layout.specs.declared.refusal.OpenFault.{OpenFault}
-use Rattle.index_layout.specs.declared.refusal.OpenFault.TheVariants.{Refused, ReadFault, NoMemory}
-use Rattle.index_layout.proofs.Judging.{judged_ok}
-use Rattle.index_layout.proofs.HeadLaws.{head_impact}
-use Rattle.std.specs.Str.{IsUtf8, is_utf8}
-use Rattle.std.proofs.lemmas.Str.{IsUtf8-from_is_utf8}
-use Rattle.index_layout.proofs.Behind.{with_heads, behind_heads}
-use Rattle.std.proofs.lemmas.Bool.{not-false}
-use Rattle.index_version1.specs.declared.head.Head.{Head}
+use Rattle.shared_lemmas.proofs.Common.{◌≡◌, ◌≤◌, ◌<◌, ◌+◌, ◌==◌, not, nat_lt, ℕ, Bool, zero, suc, length, true, false, List, [], ◌∷◌, ◌++◌, Result, Ok, Err, append_assoc, ap, sym, subst, ◌∙◌, refl, arith, IsUtf8, not-false}
+use Rattle.index_version1.proofs.Below.{OpenRefusal, Names, Fails, check, judged, refuse, NamesRead, is_name_text, OpenFault, Refused, ReadFault, NoMemory, judged_ok}
 use Rattle.index_version1.specs.Reading.{names_place, offset_in, offset_checks, read_offsets, read_texts, name1_in, text_checks, names_from}
-use Rattle.index_version1.specs.Private.Tables.{head_data}
-
--- one head more
-pub heads_on : (bytes : List ℕ) (d : ℕ) (total : Result HeadsRead OpenRefusal) (front : List HeadData) (k left above at next : ℕ) (s : Head) → total ≡ with_heads front (read_heads bytes d k above at) → k ≡ suc left
-    → head_end bytes d above at ≡ Ok next → head_data s ≡ head_in bytes at
-    → total ≡ with_heads (front ++ head_data s ∷ []) (read_heads bytes d left s.impact next)
-heads_on bytes d total front k left above at next s is more end head =
-    let impact : u16_in bytes at ≡ s.impact = sym (head_impact bytes at) ∙ ap (λ (h : HeadData). h.impact) (sym head) in
-    is ∙ ap (λ n. with_heads front (read_heads bytes d n above at)) more
-    ∙ ap (λ (e : Result ℕ OpenRefusal). with_heads front (e >>= λ next. (read_heads bytes d left (u16_in bytes at) next >>= λ later. Ok (record { heads = head_in bytes at ∷ later.heads; end = later.end })))) end
-    ∙ behind_heads front (head_in bytes at) (read_heads bytes d left (u16_in bytes at) next)
-    ∙ ap (λ h. with_heads (front ++ h ∷ []) (read_heads bytes d left (u16_in bytes at) next)) (sym head)
-    ∙ ap (λ n. with_heads (front ++ head_data s ∷ []) (read_heads bytes d left n next)) impact
+use Rattle.shared_lemmas.proofs.Texts.{no_utf8}
 
 -- all offsets are good
 pub offsets_all : (bytes : List ℕ) (d place k i : ℕ) → names_place d ≤ length bytes → offset_in bytes 0 ≡ 0 → place ≡ names_place d → k ≡ 0 → judged (offset_checks bytes d 0) place ≡ judged (offset_checks bytes k i) place → read_offsets bytes d ≡ Ok place
@@ -68,12 +42,8 @@ name_fails NoMemory bytes at total read bad = tt
 
 pub not_text : (e : OpenFault) (bytes : List ℕ) (at : ℕ) → e ≡ Refused (record { at = at; why = Names }) → (IsUtf8 bytes → ⊥) → Fails e (judged (check (not (is_name_text bytes)) at Names ∷ []) bytes)
 not_text e bytes at is none =
-    let no = no_text bytes (is_utf8 bytes) refl none in
+    let no = no_utf8 bytes none in
     subst (λ e. Fails e (judged (check (not (is_name_text bytes)) at Names ∷ []) bytes)) (sym is) (rw no refl)
-  where
-    no_text : (bytes : List ℕ) (test : Bool) → is_utf8 bytes ≡ test → (IsUtf8 bytes → ⊥) → is_utf8 bytes ≡ false
-    no_text bytes true is none = absurd (none (IsUtf8-from_is_utf8 bytes is))
-    no_text bytes false is none = is
 
 pub texts_open : (bytes : List ℕ) (d place : ℕ) → place + offset_in bytes d ≤ length bytes → read_texts bytes d place ≡ judged (text_checks bytes place d 0) (record { names = names_from bytes place d 0; end = place + offset_in bytes d })
 unfolding read_texts

@@ -1,14 +1,8 @@
 -- The sums over the heads of terms.
-use Rattle.std.proofs.Common.{suc, add-one, ◌≡◌, ℕ, ◌+◌, ◌<◌, ◌≤◌, ◌==◌, false, List, [], ◌∷◌, ◌++◌, length, map, take, drop, get_or, ap, sym, ◌∙◌, refl, arith}
-use Rattle.std.specs.Prelude.{max}
-use Rattle.std.specs.List.{sum_by}
-use Rattle.std.proofs.Math.Seq.{take-suc, drop-cons}
-use Rattle.std.proofs.lemmas.Bool.Decides.{nat_tests}
-use Rattle.std.proofs.lemmas.Grind.{flat_map-append}
-use Rattle.std.proofs.lemmas.List.{map-append, append-nil, take-append-drop}
-use Rattle.std.proofs.lemmas.List.Sums.{sum_by-append, sum_by-cons}
-use Rattle.index_layout.specs.Heads.{HeadData, TermHeads, all_heads, head_postings, greatest_of, greatest_impact}
-use Rattle.index_layout.proofs.Greatest.{greatest_joins}
+use Rattle.shared_lemmas.proofs.Common.{suc, add-one, ◌≡◌, ℕ, ◌+◌, ◌<◌, ◌≤◌, ◌==◌, false, List, [], ◌∷◌, ◌++◌, length, map, take, drop, get_or, ap, sym, ◌∙◌, refl, arith, max, sum_by, take-suc, nat_tests, flat_map-append, map-append, take-append-drop, sum_by-append, sum_by-cons}
+use Rattle.std.proofs.Math.Seq.{drop-cons}
+use Rattle.std.proofs.lemmas.List.{append-nil}
+use Rattle.index_version1.proofs.Below.{HeadData, TermHeads, all_heads, head_postings, greatest_of, greatest_impact, greatest_joins}
 use Rattle.index_version1.specs.declared.head.Head.{Head}
 use Rattle.index_version1.specs.declared.old_term.OldTerm.{OldTerm}
 use Rattle.index_version1.specs.Private.Tables.{head_data, term_heads}

@@ -1,21 +1,11 @@
 -- Terms that are read one after the other.
-use Rattle.std.proofs.Common.{◌≡◌, ◌≤◌, ◌+◌, nat_lt, Bool, true, false, get_or, arith, zero, ℕ, suc, map, length, List, [], ◌∷◌, ◌++◌, Option, Some, Result, Ok, ap, sym, subst, ◌∙◌, refl}
-use Rattle.std.specs.Prelude.{slice_range}
-use Rattle.std.proofs.lemmas.List.{map_push}
-use Rattle.std.specs.Str.{IsUtf8, is_utf8}
-use Rattle.std.proofs.lemmas.Str.{IsUtf8-from_is_utf8, is_utf8-from_IsUtf8}
-use Rattle.index_layout.specs.Bytes.{u16_in, u32_in}
-use Rattle.index_layout.specs.declared.refusal.OpenWhy.TheVariants.{TermOrder, Heads}
-use Rattle.index_layout.specs.declared.refusal.OpenRefusal.{OpenRefusal}
-use Rattle.index_layout.specs.declared.refusal.OpenFault.{OpenFault}
+use Rattle.shared_lemmas.proofs.Common.{◌≡◌, ◌≤◌, ◌+◌, nat_lt, true, false, get_or, arith, zero, ℕ, suc, map, length, List, [], ◌∷◌, ◌++◌, Option, Some, Result, Ok, ap, sym, subst, ◌∙◌, refl, slice_range, map_push, IsUtf8, is_utf8, is_utf8-from_IsUtf8}
+use Rattle.index_version1.proofs.Below.{u16_in, u32_in, TermOrder, Heads, OpenRefusal, OpenFault, TermHeads, ◌>>=◌, Fails, judged, refuse, HeadsRead, TermsRead, read_heads, rises_behind, with_terms, behind_terms}
 use Rattle.index_layout.specs.declared.refusal.OpenFault.TheVariants as faults
-use Rattle.index_layout.specs.Heads.{TermHeads}
-use Rattle.index_layout.specs.Refusals.{◌>>=◌, Fails, judged, refuse}
-use Rattle.index_layout.specs.Reading.{HeadsRead, TermsRead, read_heads, rises_behind}
-use Rattle.index_layout.proofs.Behind.{with_terms, behind_terms}
 use Rattle.index_version1.specs.declared.old_term.OldTerm.{OldTerm}
 use Rattle.index_version1.specs.Reading.{segments1_place, term1_checks, term1_end, term1_in, heads1_in, read_terms1}
 use Rattle.index_version1.specs.Private.Tables.{before_of, head_data, term_heads}
+use Rattle.shared_lemmas.proofs.Texts.{no_utf8}
 
 -- one term more
 pub terms_on : (bytes : List ℕ) (d : ℕ) (total : Result TermsRead OpenRefusal) (front : List TermHeads) (k left : ℕ) (before : Option (List ℕ)) (at place : ℕ) (here : HeadsRead) → total ≡ with_terms front (read_terms1 bytes d k before at) → k ≡ suc left → term1_end bytes before at ≡ Ok place
@@ -42,10 +32,6 @@ last_of (u ∷ []) (suc i) t size is = absurd (omega (arith, size))
 last_of (u ∷ v ∷ terms) zero t size is = absurd (omega (arith, size))
 last_of (u ∷ v ∷ terms) (suc i) t size is = last_of (v ∷ terms) i t (omega (arith, size)) is
 
-no_text : (bytes : List ℕ) (test : Bool) → is_utf8 bytes ≡ test → (IsUtf8 bytes → ⊥) → is_utf8 bytes ≡ false
-no_text bytes true is none = absurd (none (IsUtf8-from_is_utf8 bytes is))
-no_text bytes false is none = is
-
 -- a term that isn't text, and one without segments
 pub term_not : (bytes : List ℕ) (before : Option (List ℕ)) (at size : ℕ) (e : OpenFault) → size ≡ u16_in bytes at → e ≡ faults.Refused (record { at = at; why = TermOrder }) → at + 2 ≤ length bytes → at + 2 + size + 4 ≤ length bytes
     → (IsUtf8 (slice_range bytes (at + 2) (at + 2 + size)) → ⊥) → Fails e (term1_end bytes before at)
@@ -54,7 +40,7 @@ term_not bytes before at size e is fault one two none =
     let place : at + 2 + size ≡ segments1_place bytes at = ap (λ n. at + 2 + n) is in
     let x : nat_lt (length bytes) (at + 2) ≡ false = grind (arith, one) in
     let y : nat_lt (length bytes) (segments1_place bytes at + 4) ≡ false = rw (← place) (grind (arith, two)) in
-    let no : is_utf8 (slice_range bytes (at + 2) (segments1_place bytes at)) ≡ false = subst (λ n. is_utf8 (slice_range bytes (at + 2) n) ≡ false) place (no_text (slice_range bytes (at + 2) (at + 2 + size)) (is_utf8 (slice_range bytes (at + 2) (at + 2 + size))) refl none) in
+    let no : is_utf8 (slice_range bytes (at + 2) (segments1_place bytes at)) ≡ false = subst (λ n. is_utf8 (slice_range bytes (at + 2) n) ≡ false) place (no_utf8 (slice_range bytes (at + 2) (at + 2 + size)) none) in
     subst (λ e. Fails e (judged (term1_checks bytes before at) (segments1_place bytes at + 4))) (sym fault) (rw (x, y, no) refl)
 
 pub term_empty : (bytes : List ℕ) (before : Option (List ℕ)) (at size : ℕ) (e : OpenFault) → size ≡ u16_in bytes at → e ≡ faults.Refused (record { at = at + 2 + size; why = Heads }) → at + 2 ≤ length bytes → at + 2 + size + 4 ≤ length bytes

@@ -1,6 +1,6 @@
 -- Reading an index file of version 1 from the left, with the first refusal and its place. Heads, payloads and the end are
 -- judged as in the later version. This project's.
-use Rattle.std.specs.Prelude.{ℕ, zero, suc, ◌+◌, ◌*◌, ◌^◌, ◌==◌, ◌||◌, ◌&&◌, not, Bool, List, [], ◌∷◌, length, Option, Some, None, Result, Ok, nat_eq, nat_lt, nat_le, slice_range}
+use Rattle.std.specs.Prelude.{ℕ, zero, suc, ◌+◌, ◌*◌, ◌==◌, ◌||◌, ◌&&◌, not, Bool, List, [], ◌∷◌, length, Option, Some, None, Result, Ok, nat_eq, nat_lt, nat_le, slice_range}
 use Rattle.std.specs.List.{starts_with}
 use Rattle.std.specs.Str.{is_utf8}
 use Rattle.index_model.specs.Index.{IndexData}
@@ -11,12 +11,12 @@ use Rattle.index_layout.specs.Layout.{old_magic}
 use Rattle.index_layout.specs.Refusals.{◌>>=◌, Check, check, judged}
 use Rattle.index_layout.specs.Reading.{Front, NamesRead, TermsRead, is_name_text, rises_behind, read_heads, after_terms}
 use Rattle.index_layout.specs.View.{FileView}
-use Rattle.jass_base.specs.declared.limits.TheConstants.{MOST_DOCUMENTS, MOST_POSTINGS, MOST_TERMS}
+use Rattle.jass_base.specs.declared.limits.TheConstants.{GREATEST_IMPACT, LONGEST_FILE, LONGEST_OLD_NAME, MOST_DOCUMENTS, MOST_POSTINGS, MOST_TERMS}
 
 -- the first 40 bytes: magic, length, documents, terms, postings, greatest impact, zero
 unfoldable pub front1_checks : List ℕ → List Check
 front1_checks bytes =
-    check (nat_lt (2 ^ 32) (length bytes)) (2 ^ 32) Limit
+    check (nat_lt LONGEST_FILE (length bytes)) LONGEST_FILE Limit
     ∷ check (not (starts_with nat_eq bytes old_magic)) 0 Magic
     ∷ check (nat_lt (length bytes) 40 || not (u64_in bytes 8 == length bytes)) 8 Length
     ∷ check (nat_lt MOST_DOCUMENTS (u32_in bytes 16)) 16 Limit
@@ -37,7 +37,7 @@ offset_in bytes i = u32_in bytes (offset_place i)
 
 -- an offset and the next one that don't bound 1 to 65,535 bytes
 abbrev pub bounds_no_name : ℕ → ℕ → Bool
-bounds_no_name from to = nat_le to from || nat_lt (from + 65535) to
+bounds_no_name from to = nat_le to from || nat_lt (from + LONGEST_OLD_NAME) to
 
 -- so many offsets behind the one with a number
 abbrev pub offset_checks : List ℕ → ℕ → ℕ → List Check
@@ -109,7 +109,7 @@ abbrev pub read_terms1 : List ℕ → ℕ → ℕ → Option (List ℕ) → ℕ 
 read_terms1 bytes d zero before at = Ok (record { terms = []; end = at })
 read_terms1 bytes d (suc k) before at =
     term1_end bytes before at >>= λ place.
-    (read_heads bytes d (heads1_in bytes at) 65536 place >>= λ here.
+    (read_heads bytes d (heads1_in bytes at) (GREATEST_IMPACT + 1) place >>= λ here.
     (read_terms1 bytes d k (Some (term1_in bytes at)) here.end >>= λ later.
     Ok (record {
       terms = record { term = term1_in bytes at; heads = here.heads } ∷ later.terms;
@@ -130,10 +130,6 @@ read_file1 bytes = read_front1 bytes >>= after_front1 bytes
 -- the index of a view
 abbrev pub index_in : FileView → Result IndexData OpenRefusal
 index_in v = Ok v.index
-
--- the index behind its names and heads
-abbrev pub index_after : List ℕ → Front → List (List ℕ) → TermsRead → Result IndexData OpenRefusal
-index_after bytes front names x = after_terms bytes front names x >>= index_in
 
 -- the index that bytes stand for, or the first refusal
 unfoldable pub read_index1 : List ℕ → Result IndexData OpenRefusal

@@ -1,4 +1,4 @@
-ghost use Rattle.std.specs.Prelude.{ℕ, ◌≡◌, ◌≤◌, ◌^◌, List, length, IfOk};
+ghost use Rattle.std.specs.Prelude.{ℕ, ◌≡◌, ◌≤◌, List, IfOk};
 ghost use Rattle.jass_base.specs.Gaps.{AreDocs};
 ghost use Rattle.segment_codecs.specs.Codecs.{read_payload};
 ghost use Rattle.segment_codecs.specs.Giving.{Gives};
@@ -26,10 +26,7 @@ fn give_all(alloc: Global, from: SegmentCursor, payload: &[u8]) -> Result<Row<u3
         if given == 0 {
             return Ok(docs);
         }
-        match docs.extend(&block[..given]) {
-            Ok(()) => {}
-            Err(_) => return Err(NoMemory),
-        }
+        docs.extend(&block[..given])?;
     }
 }
 

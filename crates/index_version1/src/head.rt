@@ -1,11 +1,13 @@
-ghost use Rattle.std.specs.Prelude.{◌≡◌, ◌≤◌, ◌+◌, ◌-◌, ◌^◌, length, map, IfOk};
+ghost use Rattle.std.specs.Prelude.{◌≡◌, ◌≤◌, ◌+◌, ◌-◌, length, map, IfOk};
 ghost use Rattle.index_layout.specs.Reading.{head_end, head_in, read_heads};
 ghost use Rattle.index_layout.specs.Refusals.{Answers};
 ghost use Rattle.index_version1.specs.Private.Tables.{head_data};
+ghost use Rattle.jass_base.specs.declared.limits.TheConstants.{GREATEST_IMPACT, LONGEST_FILE};
 
 use crate::number::{u16_at, u32_at};
 use index_layout::{OpenFault, OpenWhy, refused};
 use jass_base::Row;
+use jass_base::limits::GREATEST_IMPACT;
 use segment_codecs::Codec;
 use std::alloc::Global;
 
@@ -24,7 +26,7 @@ pub struct Head {
 #[tactic(auto, unfolding(index_layout::specs::Reading::head_end, index_layout::specs::Reading::head_checks, index_layout::specs::Reading::head_in))]
 fn read_head(bytes: &[u8], docs: u32, above: u32, at: usize) -> Result<Head, OpenFault>
     requires at { at ≤ length bytes.now }
-    requires few { length bytes.now ≤ 2 ^ 32 }
+    requires few { length bytes.now ≤ LONGEST_FILE }
     ensures exact { Answers (λ _. at + 11) result (head_end bytes.now docs above at) }
     ensures head { IfOk result (λ head. head_data head ≡ head_in bytes.now at) }
     ensures within { IfOk result (λ _. at + 11 ≤ length bytes.now) }
@@ -61,19 +63,16 @@ pub fn read_heads(
     from: usize,
 ) -> Result<(Row<Head>, usize), OpenFault>
     requires from { from ≤ length bytes.now }
-    requires few { length bytes.now ≤ 2 ^ 32 }
+    requires few { length bytes.now ≤ LONGEST_FILE }
     ensures exact { Answers (λ x. record { heads = map head_data x.0; end = x.1 }) result
-        (read_heads bytes.now docs count 65536 from) }
+        (read_heads bytes.now docs count (GREATEST_IMPACT + 1) from) }
     ensures end { IfOk result (λ x. x.1 ≤ length bytes.now) }
 {
     let mut heads = Row::new(alloc);
     let mut at = from;
-    let mut above = 65_536;
+    let mut above = GREATEST_IMPACT + 1;
     'heads: for _ in 0..count {
-        let head = match read_head(bytes, docs, above, at) {
-            Ok(head) => head,
-            Err(fault) => return Err(fault),
-        };
+        let head = read_head(bytes, docs, above, at)?;
         match heads.push(head) {
             Ok(()) => {}
             Err(_) => return Err(OpenFault::NoMemory),

@@ -1,11 +1,12 @@
 //! What the reading of version 1 promises. Each function does nothing: its contract is the law, and
 //! a caller learns it by the call.
 
-ghost use Rattle.std.specs.Prelude.{ℕ, ◌≡◌, ◌<◌, ◌^◌, List, All, Ok, take};
+ghost use Rattle.std.specs.Prelude.{ℕ, ◌≡◌, ◌<◌, ◌+◌, List, All, Ok, take};
 ghost use Rattle.index_model.specs.Index.{IndexData};
 ghost use Rattle.index_layout.specs.View.{FileView};
 ghost use Rattle.index_version1.specs.Files.{IsFile1View, IsIndexFile1, file1_bytes};
 ghost use Rattle.index_version1.specs.Reading.{read_file1, read_index1};
+ghost use Rattle.jass_base.specs.declared.limits.TheConstants.{LONGEST_FILE};
 
 use segment_codecs::laws::{codecs_have_their_numbers, payloads_are_read};
 
@@ -30,5 +31,5 @@ pub fn indexes_are_read()
 
 /// The first 2^32 + 1 bytes decide: a longer file is refused whatever else stands in it.
 pub fn the_front_is_enough()
-    ensures { (bytes : List ℕ) → read_index1 (take 4294967297 bytes) ≡ read_index1 bytes }
+    ensures { (bytes : List ℕ) → read_index1 (take (LONGEST_FILE + 1) bytes) ≡ read_index1 bytes }
 {}

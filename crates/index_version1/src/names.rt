@@ -1,9 +1,10 @@
-ghost use Rattle.std.specs.Prelude.{nat_lt, not, ℕ, ◌≡◌, ◌==◌, ◌&&◌, ◌<◌, ◌≤◌, ◌+◌, ◌^◌, [], ◌∷◌, length, IfOk};
+ghost use Rattle.std.specs.Prelude.{nat_lt, not, ℕ, ◌≡◌, ◌==◌, ◌&&◌, ◌<◌, ◌≤◌, ◌+◌, [], ◌∷◌, length, IfOk};
 ghost use Rattle.std.specs.List.{list_all};
 ghost use Rattle.index_layout.specs.Reading.{is_name_text};
 ghost use Rattle.index_layout.specs.Refusals.{Answers, check, judged};
 ghost use Rattle.index_layout.specs.declared.refusal.OpenWhy.TheVariants.{Names};
 ghost use Rattle.index_version1.specs.Reading.{name1_in, names_place, offset_in, offset_place, read_texts};
+ghost use Rattle.jass_base.specs.declared.limits.TheConstants.{LONGEST_FILE};
 
 use crate::offsets::offset_at;
 use index_layout::{OpenFault, OpenWhy, refused};
@@ -36,7 +37,7 @@ fn read_name(alloc: Global, bytes: &[u8], at: usize) -> Result<Text, OpenFault>
 /// The bytes of the name with a number; names begin at a place.
 #[tactic(auto, unfolding(crate::specs::Reading::name1_in))]
 fn name_at(bytes: &[u8], place: usize, i: usize) -> &[u8]
-    requires few { length bytes.now ≤ 2 ^ 32 }
+    requires few { length bytes.now ≤ LONGEST_FILE }
     requires offsets { offset_place (i + 2) ≤ length bytes.now }
     requires order { offset_in bytes.now i ≤ offset_in bytes.now (i + 1) }
     requires within { place + offset_in bytes.now (i + 1) ≤ length bytes.now }
@@ -55,7 +56,7 @@ pub fn read_texts(
     docs: u32,
     place: usize,
 ) -> Result<(Row<Text>, usize), OpenFault>
-    requires few { length bytes.now ≤ 2 ^ 32 }
+    requires few { length bytes.now ≤ LONGEST_FILE }
     requires place { place ≡ names_place docs }
     requires within { place ≤ length bytes.now }
     requires rising { (i : ℕ) → i < docs → offset_in bytes.now i < offset_in bytes.now (i + 1) }
@@ -69,10 +70,7 @@ pub fn read_texts(
     let mut names = Row::new(alloc);
     'names: for i in 0..docs as usize {
         let at = place + offset_at(bytes, i) as usize;
-        let name = match read_name(alloc, name_at(bytes, place, i), at) {
-            Ok(name) => name,
-            Err(fault) => return Err(fault),
-        };
+        let name = read_name(alloc, name_at(bytes, place, i), at)?;
         match names.push(name) {
             Ok(()) => {}
             Err(_) => return Err(OpenFault::NoMemory),

@@ -1,11 +1,11 @@
-ghost use Rattle.std.specs.Prelude.{◌≡◌, ◌≤◌, ◌^◌, length, map, None, IfOk};
+ghost use Rattle.std.specs.Prelude.{◌≡◌, ◌≤◌, length, map, None, IfOk};
 ghost use Rattle.jass_base.specs.Terms.{greatest_impact};
 ghost use Rattle.index_layout.proofs.TermLaws.{TermsRise};
 ghost use Rattle.index_layout.specs.Refusals.{Answers};
-ghost use Rattle.index_version1.specs.Private.Parts.{parts_data};
-ghost use Rattle.index_version1.specs.Reading.{index_after, read_index1, read_names1, read_terms1};
+ghost use Rattle.index_version1.specs.Reading.{read_index1, read_names1, read_terms1};
+ghost use Rattle.index_version1.specs.Private.Parts.{index_after, parts_data};
 ghost use Rattle.index_version1.specs.Private.Tables.{term_heads};
-ghost use Rattle.jass_base.specs.declared.limits.TheConstants.{MOST_DOCUMENTS, MOST_TERMS};
+ghost use Rattle.jass_base.specs.declared.limits.TheConstants.{LONGEST_FILE, MOST_DOCUMENTS, MOST_TERMS};
 
 use crate::front::read_front1;
 use crate::names::read_texts;
@@ -30,15 +30,12 @@ pub struct Parts {
 
 /// The names, and the place behind the last.
 fn read_names(alloc: Global, bytes: &[u8], docs: u32) -> Result<(Row<Text>, usize), OpenFault>
-    requires short { length bytes.now ≤ 2 ^ 32 }
+    requires short { length bytes.now ≤ LONGEST_FILE }
     requires docs { docs ≤ MOST_DOCUMENTS }
     ensures exact { Answers (λ x. record { names = x.0; end = x.1 }) result (read_names1 bytes.now docs) }
     ensures end { IfOk result (λ x. x.1 ≤ length bytes.now) }
 {
-    let place = match read_offsets(bytes, docs) {
-        Ok(place) => place,
-        Err(fault) => return Err(fault),
-    };
+    let place = read_offsets(bytes, docs)?;
     match read_texts(alloc, bytes, docs, place) {
         Ok(read) => Ok(read),
         Err(fault) => Err(fault),
@@ -54,7 +51,7 @@ fn read_rising(
     from: usize,
 ) -> Result<(Row<OldTerm>, usize), OpenFault>
     requires from { from ≤ length bytes.now }
-    requires short { length bytes.now ≤ 2 ^ 32 }
+    requires short { length bytes.now ≤ LONGEST_FILE }
     ensures exact { Answers (λ x. record { terms = map term_heads x.0; end = x.1 }) result
         (read_terms1 bytes.now docs count None from) }
     ensures rise { IfOk result (λ x. TermsRise docs None (map term_heads x.0)) }
@@ -83,7 +80,7 @@ fn read_rest(
     requires limit { docs ≤ MOST_DOCUMENTS }
     requires at { at ≤ length bytes.now }
     requires long { 40 ≤ length bytes.now }
-    requires short { length bytes.now ≤ 2 ^ 32 }
+    requires short { length bytes.now ≤ LONGEST_FILE }
     ensures exact { Answers parts_data result (index_after bytes.now (record { docs = docs; terms = length rows })
         names (record { terms = map term_heads rows; end = at })) }
     ensures greatest { IfOk result (λ parts. parts.greatest ≡ greatest_impact parts.terms) }
@@ -91,10 +88,7 @@ fn read_rest(
     payloads_are_read();
     let counted = has_postings(rows.as_slice(), u64_at(bytes, 24));
     let greatest = greatest(rows.as_slice());
-    let (terms, end) = match read_payloads(alloc, bytes, docs, rows, at) {
-        Ok(read) => read,
-        Err(fault) => return Err(fault),
-    };
+    let (terms, end) = read_payloads(alloc, bytes, docs, rows, at)?;
     if end < bytes.len() {
         return Err(refused(end, OpenWhy::Length));
     }
@@ -117,18 +111,9 @@ pub fn read_parts(alloc: Global, bytes: &[u8]) -> Result<Parts, OpenFault>
     ensures exact { Answers parts_data result (read_index1 bytes.now) }
     ensures greatest { IfOk result (λ parts. parts.greatest ≡ greatest_impact parts.terms) }
 {
-    let (docs, count) = match read_front1(bytes) {
-        Ok(front) => front,
-        Err(fault) => return Err(fault),
-    };
-    let (names, from) = match read_names(alloc, bytes, docs) {
-        Ok(read) => read,
-        Err(fault) => return Err(fault),
-    };
-    let (rows, at) = match read_rising(alloc, bytes, docs, count, from) {
-        Ok(read) => read,
-        Err(fault) => return Err(fault),
-    };
+    let (docs, count) = read_front1(bytes)?;
+    let (names, from) = read_names(alloc, bytes, docs)?;
+    let (rows, at) = read_rising(alloc, bytes, docs, count, from)?;
     match read_rest(alloc, bytes, docs, names, rows, at) {
         Ok(parts) => Ok(parts),
         Err(fault) => Err(fault),

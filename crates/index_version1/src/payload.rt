@@ -1,11 +1,11 @@
-ghost use Rattle.std.specs.Prelude.{ℕ, ◌≡◌, ◌≤◌, ◌<◌, ◌^◌, [], length, map, All, None, IfOk};
+ghost use Rattle.std.specs.Prelude.{ℕ, ◌≡◌, ◌≤◌, ◌<◌, ◌+◌, [], length, map, All, None, IfOk};
 ghost use Rattle.index_model.specs.Views.{segment_data, term_data};
 ghost use Rattle.index_layout.proofs.HeadLaws.{HeadsFall};
 ghost use Rattle.index_layout.proofs.TermLaws.{TermsRise};
 ghost use Rattle.index_layout.specs.Reading.{read_payloads, read_segments};
 ghost use Rattle.index_layout.specs.Refusals.{Answers};
 ghost use Rattle.index_version1.specs.Private.Tables.{Marks, head_data, term_heads};
-ghost use Rattle.jass_base.specs.declared.limits.TheConstants.{MOST_DOCUMENTS, MOST_TERMS};
+ghost use Rattle.jass_base.specs.declared.limits.TheConstants.{GREATEST_IMPACT, LONGEST_FILE, MOST_DOCUMENTS, MOST_TERMS};
 
 use crate::old_term::OldTerm;
 use crate::segment::read_segments;
@@ -25,10 +25,10 @@ fn fill_term(
     mark: u32,
 ) -> Result<(TermSegments, usize), OpenFault>
     requires some { 1 ≤ length old.heads }
-    requires fall { HeadsFall d 65536 (map head_data old.heads) }
+    requires fall { HeadsFall d (GREATEST_IMPACT + 1) (map head_data old.heads) }
     requires limit { d ≤ MOST_DOCUMENTS }
     requires from { from ≤ length bytes.now }
-    requires short { length bytes.now ≤ 2 ^ 32 }
+    requires short { length bytes.now ≤ LONGEST_FILE }
     requires seen { length seen.old ≡ d }
     requires none { Marks seen.old mark [] }
     ensures exact { Answers (λ x. record { segments = map segment_data x.0.segments; end = x.1 }) result
@@ -39,10 +39,7 @@ fn fill_term(
 {
     payloads_are_read();
     let OldTerm { term, heads } = old;
-    let (segments, end) = match read_segments(alloc, bytes, d, heads.as_slice(), from, seen, mark) {
-        Ok(read) => read,
-        Err(fault) => return Err(fault),
-    };
+    let (segments, end) = read_segments(alloc, bytes, d, heads.as_slice(), from, seen, mark)?;
     Ok((TermSegments { term, segments }, end))
 }
 
@@ -60,7 +57,7 @@ fn fill_terms(
     requires rise { TermsRise d None (map term_heads terms) }
     requires limit { d ≤ MOST_DOCUMENTS }
     requires from { from ≤ length bytes.now }
-    requires short { length bytes.now ≤ 2 ^ 32 }
+    requires short { length bytes.now ≤ LONGEST_FILE }
     requires seen { length seen.old ≡ d }
     requires none { All (λ n. n ≤ 0) seen.old }
     ensures exact { Answers (λ x. record { terms = map term_data x.0; end = x.1 }) result
@@ -72,10 +69,7 @@ fn fill_terms(
     let mut at = from;
     for term in terms.into_vec() {
         mark += 1;
-        let (term, end) = match fill_term(alloc, bytes, d, term, at, seen, mark) {
-            Ok(read) => read,
-            Err(fault) => return Err(fault),
-        };
+        let (term, end) = fill_term(alloc, bytes, d, term, at, seen, mark)?;
         match filled.push(term) {
             Ok(()) => {}
             Err(_) => return Err(OpenFault::NoMemory),
@@ -98,7 +92,7 @@ pub fn read_payloads(
     requires rise { TermsRise d None (map term_heads terms) }
     requires limit { d ≤ MOST_DOCUMENTS }
     requires from { from ≤ length bytes.now }
-    requires short { length bytes.now ≤ 2 ^ 32 }
+    requires short { length bytes.now ≤ LONGEST_FILE }
     ensures exact { Answers (λ x. record { terms = map term_data x.0; end = x.1 }) result
         (read_payloads bytes.now d (map term_heads terms) from) }
     ensures end { IfOk result (λ x. x.1 ≤ length bytes.now) }

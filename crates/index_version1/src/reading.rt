@@ -23,10 +23,7 @@ pub fn read_version1(alloc: Global, bytes: &[u8]) -> Result<ImpactIndex, OpenFau
 {
     old_files_are_read();
     indexes_are_read();
-    let parts = match read_parts(alloc, bytes) {
-        Ok(parts) => parts,
-        Err(fault) => return Err(fault),
-    };
+    let parts = read_parts(alloc, bytes)?;
     let Parts {
         names,
         terms,

@@ -1,11 +1,10 @@
-ghost use Rattle.std.specs.Prelude.{ℕ, ◌≡◌, ◌≤◌, ◌<◌, ◌+◌, ◌^◌, ◌++◌, [], List, length, map, All, AllPairs, IfOk, OnOk};
-ghost use Rattle.jass_base.specs.Segments.{FallsTo, SharesNoDocument};
+ghost use Rattle.std.specs.Prelude.{ℕ, ◌≡◌, ◌≤◌, ◌<◌, ◌+◌, ◌++◌, [], List, length, map, All, IfOk, OnOk};
 ghost use Rattle.index_model.specs.Views.{segment_data};
 ghost use Rattle.index_layout.proofs.HeadLaws.{HeadsFall};
 ghost use Rattle.index_layout.specs.Reading.{docs_in, payload_end, read_segments};
 ghost use Rattle.index_layout.specs.Refusals.{Answers};
 ghost use Rattle.index_version1.specs.Private.Tables.{Marks, head_data};
-ghost use Rattle.jass_base.specs.declared.limits.TheConstants.{MOST_DOCUMENTS};
+ghost use Rattle.jass_base.specs.declared.limits.TheConstants.{GREATEST_IMPACT, LONGEST_FILE, MOST_DOCUMENTS};
 
 use crate::docs::read_docs;
 use crate::head::Head;
@@ -31,7 +30,7 @@ fn read_segment(
     requires few { head.count ≤ d }
     requires limit { d ≤ MOST_DOCUMENTS }
     requires at { at ≤ length bytes.now }
-    requires short { length bytes.now ≤ 2 ^ 32 }
+    requires short { length bytes.now ≤ LONGEST_FILE }
     requires seen { length seen.old ≡ d }
     ensures exact { (earlier : List ℕ) → Marks seen.old mark earlier
         → Answers (λ _. at + head.size) result (payload_end bytes.now d earlier (head_data head) at) }
@@ -46,10 +45,7 @@ fn read_segment(
     if bytes.len() - at < size {
         return Err(refused(at, OpenWhy::Length));
     }
-    let docs = match read_docs(alloc, &bytes[at..at + size], head, d, at) {
-        Ok(docs) => docs,
-        Err(fault) => return Err(fault),
-    };
+    let docs = read_docs(alloc, &bytes[at..at + size], head, d, at)?;
     if has_marked(seen, mark, docs.as_slice()) {
         return Err(refused(at, OpenWhy::DocTwice));
     }
@@ -71,10 +67,10 @@ pub fn read_segments(
     seen: &mut [u32],
     mark: u32,
 ) -> Result<(Row<Segment>, usize), OpenFault>
-    requires fall { HeadsFall d 65536 (map head_data heads.now) }
+    requires fall { HeadsFall d (GREATEST_IMPACT + 1) (map head_data heads.now) }
     requires limit { d ≤ MOST_DOCUMENTS }
     requires from { from ≤ length bytes.now }
-    requires short { length bytes.now ≤ 2 ^ 32 }
+    requires short { length bytes.now ≤ LONGEST_FILE }
     requires seen { length seen.old ≡ d }
     requires none { Marks seen.old mark [] }
     ensures exact { Answers (λ x. record { segments = map segment_data x.0; end = x.1 }) result
@@ -85,10 +81,7 @@ pub fn read_segments(
     let mut segments = Row::new(alloc);
     let mut at = from;
     for head in heads {
-        let segment = match read_segment(alloc, bytes, d, *head, at, seen, mark) {
-            Ok(segment) => segment,
-            Err(fault) => return Err(fault),
-        };
+        let segment = read_segment(alloc, bytes, d, *head, at, seen, mark)?;
         match segments.push(segment) {
             Ok(()) => {}
             Err(_) => return Err(OpenFault::NoMemory),

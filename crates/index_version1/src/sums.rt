@@ -2,7 +2,7 @@
 
 ghost use Rattle.std.specs.Prelude.{◌≡◌, ◌==◌, ◌<◌, ◌+◌, map, max, MatchOption};
 ghost use Rattle.std.specs.List.{sum_by};
-ghost use Rattle.index_layout.specs.Heads.{HeadData, greatest_impact, greatest_of, head_postings};
+ghost use Rattle.index_layout.specs.Heads.{greatest_impact, greatest_of, head_postings};
 ghost use Rattle.index_version1.specs.Private.Tables.{head_data, term_heads};
 ghost use Rattle.index_version1.specs.declared.head.Head.{Head};
 

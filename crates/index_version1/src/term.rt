@@ -1,4 +1,4 @@
-ghost use Rattle.std.specs.Prelude.{ℕ, ◌≡◌, ◌≤◌, ◌+◌, ◌-◌, ◌^◌, length, map, None, IfOk};
+ghost use Rattle.std.specs.Prelude.{◌≡◌, ◌≤◌, ◌+◌, ◌-◌, length, map, None, IfOk};
 ghost use Rattle.std.specs.Ordering.{is_lt, nat_cmp};
 ghost use Rattle.std.specs.Cmp.Lexicographic.{slice_cmp};
 ghost use Rattle.jass_base.specs.Limits.{IsText};
@@ -6,6 +6,7 @@ ghost use Rattle.index_layout.specs.Reading.{rises_behind};
 ghost use Rattle.index_layout.specs.Refusals.{Answers};
 ghost use Rattle.index_version1.specs.Reading.{heads1_in, read_terms1, term1_end, term1_in};
 ghost use Rattle.index_version1.specs.Private.Tables.{before_of, term_heads};
+ghost use Rattle.jass_base.specs.declared.limits.TheConstants.{LONGEST_FILE, LONGEST_TERM};
 
 use crate::head::read_heads;
 use crate::number::{u16_at, u32_at};
@@ -45,10 +46,10 @@ fn read_term(
     at: usize,
 ) -> Result<(Text, usize, u32), OpenFault>
     requires at { at ≤ length bytes.now }
-    requires few { length bytes.now ≤ 2 ^ 32 }
+    requires few { length bytes.now ≤ LONGEST_FILE }
     ensures exact { Answers (λ x. x.1) result (term1_end bytes.now (before_of before.now) at) }
     ensures term { IfOk result (λ x. x.0 ≡ term1_in bytes.now at) }
-    ensures fits { IfOk result (λ x. length x.0 ≤ 65535) }
+    ensures fits { IfOk result (λ x. length x.0 ≤ LONGEST_TERM) }
     ensures text { IfOk result (λ x. IsText x.0) }
     ensures heads { IfOk result (λ x. x.2 ≡ heads1_in bytes.now at) }
     ensures within { IfOk result (λ x. x.1 ≤ length bytes.now) }
@@ -86,7 +87,7 @@ pub fn read_terms(
     from: usize,
 ) -> Result<(Row<OldTerm>, usize), OpenFault>
     requires from { from ≤ length bytes.now }
-    requires few { length bytes.now ≤ 2 ^ 32 }
+    requires few { length bytes.now ≤ LONGEST_FILE }
     ensures exact { Answers (λ x. record { terms = map term_heads x.0; end = x.1 }) result
         (read_terms1 bytes.now docs count None from) }
     ensures end { IfOk result (λ x. x.1 ≤ length bytes.now) }
@@ -94,14 +95,8 @@ pub fn read_terms(
     let mut terms = Row::new(alloc);
     let mut at = from;
     'terms: for _ in 0..count {
-        let (term, place, heads) = match read_term(alloc, terms.as_slice(), bytes, at) {
-            Ok(read) => read,
-            Err(fault) => return Err(fault),
-        };
-        let (heads, end) = match read_heads(alloc, bytes, docs, heads, place) {
-            Ok(read) => read,
-            Err(fault) => return Err(fault),
-        };
+        let (term, place, heads) = read_term(alloc, terms.as_slice(), bytes, at)?;
+        let (heads, end) = read_heads(alloc, bytes, docs, heads, place)?;
         match terms.push(OldTerm { term, heads }) {
             Ok(()) => {}
             Err(_) => return Err(OpenFault::NoMemory),

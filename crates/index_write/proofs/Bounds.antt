@@ -1,18 +1,7 @@
 -- The parts of an index file fit 64 bits.
-use Rattle.std.proofs.Common.{◌≡◌, ℕ, ◌+◌, ◌*◌, ◌≤◌, ◌^◌, List, [], ◌∷◌, ◌++◌, length, All, refl, arith, slice_index_or}
-use Rattle.std.specs.List.{sum_by}
-use Rattle.std.proofs.lemmas.List.{length-append, length-drop, length-map}
-use Rattle.std.proofs.lemmas.List.Elements.{All-head, All-tail}
-use Rattle.std.proofs.lemmas.List.Sums.{sum_by-cons, sum_by-le}
-use Rattle.jass_base.specs.Gaps.{AreDocs}
-use Rattle.jass_base.specs.Limits.{IsName}
-use Rattle.segment_codecs.specs.Codecs.{chosen_codec, payload_size}
-use Rattle.index_model.specs.Index.{SegmentData, TermData, IndexData, IsSegment, IsTerm, IsIndex}
-use Rattle.index_layout.specs.Bytes.{u32_bytes}
-use Rattle.index_layout.specs.Heads.{TermHeads}
-use Rattle.index_layout.specs.Layout.{name_bytes, names_bytes, heads_bytes, rest_behind, shared_with, term_bytes, terms_bytes, totals_bytes, front_bytes}
-use Rattle.index_layout.specs.View.{term_postings, index_postings}
-use Rattle.index_layout.proofs.TermLaws.{heads_size}
+use Rattle.shared_lemmas.proofs.Common.{◌≡◌, ℕ, ◌+◌, ◌*◌, ◌≤◌, ◌^◌, List, [], ◌∷◌, ◌++◌, length, All, refl, arith, slice_index_or, sum_by, length-append, length-drop, length-map, All-head, All-tail, sum_by-cons, sum_by-le}
+use Rattle.index_write.proofs.Below.{AreDocs, IsName, chosen_codec, payload_size, SegmentData, TermData, IndexData, IsSegment, IsTerm, IsIndex, u32_bytes, TermHeads, names_bytes, heads_bytes, rest_behind, shared_with, terms_bytes, term_postings, index_postings, heads_size}
+use Rattle.index_layout.specs.Layout.{name_bytes, term_bytes, totals_bytes, front_bytes}
 use Rattle.index_write.specs.Chosen.{chosen_head, chosen_heads, chosen_terms, chosen_payload, chosen_payloads, table_payloads}
 use Rattle.index_write.proofs.Counting.{term_few}
 use Rattle.index_write.proofs.Texts.{docs_of}
@@ -25,8 +14,7 @@ pub index_few : (index : IndexData) → IsIndex index → index_postings index �
 index_few index is =
     let each : All (λ (t : TermData). term_postings t ≤ 67108864) index.terms = λ i t inside. (let e = term_few (length index.names) (slice_index_or index.terms i t) (is.terms i t inside) in let f = is.few_names in omega (arith, e, f)) in
     let all = sum_by-le term_postings 67108864 index.terms each in
-    let few = is.few_terms in
-    omega (arith, all, few)
+    omega (arith, all, is.few_terms)
 
 pub name_size : (name : List ℕ) → length (name_bytes name) ≡ 4 + length name
 unfolding name_bytes
@@ -53,8 +41,7 @@ term_segments_few d t is = omega (arith, term_few d t is, segments_few d t.segme
 
 one_small : (d : ℕ) (before : List ℕ) (t : TermData) → d ≤ 2 ^ 26 → IsTerm d t → 4 + length (rest_behind before t.term) + 4 + 11 * length t.segments ≤ 2 ^ 30
 one_small d before t small is =
-    let fits = is.fits in
-    omega (arith, fits, small, term_few d t is, segments_few d t.segments is.segments, length-drop (shared_with before t.term) t.term)
+    omega (arith, is.fits, small, term_few d t is, segments_few d t.segments is.segments, length-drop (shared_with before t.term) t.term)
 
 -- the bytes of a term and its heads
 pub one_size : (before : List ℕ) (t : TermHeads) (rest : List ℕ) (heads : ℕ) → length t.heads ≡ heads

@@ -1,11 +1,7 @@
 -- The first number in which heads differ.
-use Rattle.std.proofs.Common.{◌≡◌, ℕ, List, [], ◌∷◌, length, ap, sym, ◌∙◌, refl, arith}
-use Rattle.std.specs.Prelude.{Option, Some, None, Bool, true, false, ◌==◌, if◌then◌else◌}
-use Rattle.std.proofs.lemmas.Bool.Decides.{nat_tests}
+use Rattle.shared_lemmas.proofs.Common.{◌≡◌, ℕ, List, [], ◌∷◌, length, ap, sym, ◌∙◌, refl, arith, Option, Some, None, Bool, true, false, ◌==◌, if◌then◌else◌, nat_tests}
 use borrow.Author.Tests.{eqb-true}
-use Rattle.segment_codecs.specs.Codecs.{codec_number, codec_of}
-use Rattle.segment_codecs.specs.declared.codec.Codec.{Codec}
-use Rattle.index_layout.specs.Heads.{HeadData}
+use Rattle.index_write.proofs.Below.{codec_number, codec_of, Codec, HeadData}
 use Rattle.index_write.specs.Streaming.{change_of, head_change, heads_change, unless_same}
 use Rattle.index_write.specs.declared.change.Change.{Change}
 

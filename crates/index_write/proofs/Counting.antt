@@ -1,20 +1,11 @@
 -- A document stands at most once in a term, so that a term has few postings.
-use Rattle.std.proofs.Common.{add-one, ◌≡◌, ℕ, suc, zero, ◌<◌, ◌≤◌, ◌^◌, true, false, nat_eq, List, [], ◌∷◌, ◌++◌, length, get_or, All, sym, subst, refl, arith, inl, inr, slice_index}
-use Rattle.std.specs.Prelude.{◌⊎◌, Contains, AllPairs, flat_map}
-use Rattle.std.specs.List.{AllByRecursion, IsDistinct, list_any}
-use Rattle.std.specs.List.Sorted.{IsStrictlyIncreasing}
-use Rattle.std.proofs.lemmas.Bool.{cases_lt, ne_eqb}
-use Rattle.std.proofs.lemmas.List.Concat.{length-flat_map}
-use Rattle.std.proofs.lemmas.List.{get_or_default}
-use Rattle.std.proofs.lemmas.List.Elements.{All-head, All-tail, All-append, All-nil, Contains-append_cases}
-use Rattle.std.proofs.lemmas.Map.Keys.{IsDistinct-from_apart}
-use Rattle.std.proofs.lemmas.Map.Steps.{length-le_from_distinct_below}
-use Rattle.std.proofs.lemmas.Map.Views.{Contains-from_any}
+use Rattle.shared_lemmas.proofs.Common.{add-one, ◌≡◌, ℕ, suc, zero, ◌<◌, ◌≤◌, true, false, nat_eq, List, [], ◌∷◌, ◌++◌, length, get_or, All, sym, subst, refl, arith, inl, inr, slice_index, ◌⊎◌, Contains, AllPairs, AllByRecursion, list_any, IsStrictlyIncreasing, cases_lt, ne_eqb, length-flat_map}
+use Rattle.shared_lemmas.proofs.Common.{get_or_default, All-head, All-tail, All-append, All-nil, Contains-append_cases, IsDistinct-from_apart, length-le_from_distinct_below, Contains-from_any}
+use Rattle.std.specs.Prelude.{flat_map}
+use Rattle.std.specs.List.{IsDistinct}
 use borrow.Author.Tests.{eqb-true}
-use Rattle.jass_base.specs.Gaps.{AreDocs}
-use Rattle.index_model.specs.Index.{SegmentData, TermData, IsSegment, IsTerm, SharesNoDocument}
-use Rattle.index_layout.specs.View.{term_postings}
-use Rattle.shared_lemmas.proofs.Rising.{few_below}
+use Rattle.index_write.proofs.Below.{SegmentData, TermData, IsSegment, IsTerm, SharesNoDocument, term_postings, pairs_head, pairs_tail}
+use Rattle.shared_lemmas.proofs.Lists.{all_append}
 
 -- numbers that rise lie apart
 step_to : (docs : List ℕ) → IsStrictlyIncreasing docs → (j : ℕ) → suc j < length docs → slice_index docs j < slice_index docs (suc j)
@@ -32,10 +23,6 @@ rising_distinct : (docs : List ℕ) → IsStrictlyIncreasing docs → IsDistinct
 rising_distinct docs rising = IsDistinct-from_apart nat_eq docs
     (λ i j d less inside. ne_eqb (get_or docs i d) (get_or docs j d) (λ same. absurd (omega (arith, same, far docs rising i j less inside, get_or_default docs i d 0 (omega (arith, less, inside)), get_or_default docs j d 0 inside))))
 
-all_join : (P : ℕ → Type 0) (xs ys : List ℕ) → AllByRecursion P xs → AllByRecursion P ys → AllByRecursion P (xs ++ ys)
-all_join P [] ys one two = two
-all_join P (x ∷ xs) ys one two = (one.0, all_join P xs ys one.1 two)
-
 -- no number of one list is in the other
 abbrev Apart : List ℕ → List ℕ → Type 0
 Apart xs ys = (x : ℕ) → Contains xs x → ¬ Contains ys x
@@ -51,7 +38,7 @@ distinct_join : (xs ys : List ℕ) → IsDistinct nat_eq xs → IsDistinct nat_e
 unfolding IsDistinct
 distinct_join [] ys one two apart = two
 distinct_join (x ∷ xs) ys one two apart = (
-  all_join (λ y. nat_eq x y ≡ false) xs ys one.0 (differ x ys (apart x (0, omega arith, refl))),
+  all_append (λ y. nat_eq x y ≡ false) xs ys one.0 (differ x ys (apart x (0, omega arith, refl))),
   distinct_join xs ys one.1 two (λ z has. apart z (suc has.0, (let e = has.1 in omega (arith, e)), has.2)),
 )
 
@@ -71,18 +58,12 @@ later_apart docs (s ∷ segments) apart =
     both_apart docs s.docs (flat_map docs_in segments) (All-head (λ (s : SegmentData). Apart docs s.docs) s segments apart)
     (later_apart docs segments (All-tail (λ (s : SegmentData). Apart docs s.docs) s segments apart))
 
-pairs_head : (s : SegmentData) (segments : List SegmentData) → AllPairs SharesNoDocument (s ∷ segments) → All (SharesNoDocument s) segments
-pairs_head s segments are = λ i d inside. are 0 (suc i) d (omega arith) (omega (arith, inside))
-
-pairs_tail : (s : SegmentData) (segments : List SegmentData) → AllPairs SharesNoDocument (s ∷ segments) → AllPairs SharesNoDocument segments
-pairs_tail s segments are = λ i j d less inside. are (suc i) (suc j) d (omega (arith, less)) (omega (arith, inside))
-
 all_distinct : (d : ℕ) (segments : List SegmentData) → All (IsSegment d) segments → AllPairs SharesNoDocument segments → IsDistinct nat_eq (flat_map docs_in segments)
 unfolding IsDistinct
 all_distinct d [] are pairs = tt
 all_distinct d (s ∷ segments) are pairs =
     distinct_join s.docs (flat_map docs_in segments) (rising_distinct s.docs (All-head (IsSegment d) s segments are).docs.rising)
-    (all_distinct d segments (All-tail (IsSegment d) s segments are) (pairs_tail s segments pairs)) (later_apart s.docs segments (pairs_head s segments pairs))
+    (all_distinct d segments (All-tail (IsSegment d) s segments are) (pairs_tail SharesNoDocument s segments pairs)) (later_apart s.docs segments (pairs_head SharesNoDocument s segments pairs))
 
 abbrev Below : ℕ → ℕ → Type 0
 Below d doc = doc < d
@@ -102,6 +83,3 @@ term_few d t is =
     let docs = flat_map docs_in t.segments in
     let few : length docs ≤ d = length-le_from_distinct_below docs d (all_distinct d t.segments is.segments is.once) (below_query d docs (all_below d t.segments is.segments)) in
     omega (arith, few, length-flat_map docs_in t.segments)
-
-pub docs_few : (d : ℕ) (docs : List ℕ) → AreDocs d docs → length docs ≤ 2 ^ 26
-docs_few d docs are = let limit = are.limit in omega (arith, limit, few_below docs d are.rising are.below)

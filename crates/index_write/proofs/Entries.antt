@@ -1,16 +1,8 @@
 -- Terms with their heads, from one on.
-use Rattle.std.proofs.Common.{◌≡◌, ℕ, ◌+◌, ◌-◌, ◌*◌, ◌<◌, ◌≤◌, ◌^◌, List, [], ◌∷◌, ◌++◌, length, map, get_or, All, ap, sym, ◌∙◌, refl, arith, slice_index_or}
-use Rattle.std.specs.Prelude.{max}
-use Rattle.std.specs.List.{sum_by}
-use Rattle.std.proofs.lemmas.List.{length-append, length-drop, length-map, get_or-map}
-use Rattle.std.proofs.lemmas.List.Elements.{All-head, All-tail, All-cons}
-use Rattle.std.proofs.lemmas.List.Sums.{sum_by-cons, sum_by-append}
-use Rattle.index_layout.specs.Bytes.{u32_bytes}
-use Rattle.index_layout.specs.Heads.{HeadData, all_heads, head_postings, payloads_size, greatest_of, greatest_impact}
+use Rattle.shared_lemmas.proofs.Common.{◌≡◌, ℕ, ◌+◌, ◌-◌, ◌*◌, ◌<◌, ◌≤◌, ◌^◌, List, [], ◌∷◌, ◌++◌, length, map, get_or, All, ap, sym, ◌∙◌, refl, arith, slice_index_or, max, sum_by, length-append, length-drop, length-map, get_or-map, All-head, All-tail, All-cons, sum_by-cons, sum_by-append}
+use Rattle.index_write.proofs.Below.{u32_bytes, HeadData, all_heads, head_postings, payloads_size, greatest_of, greatest_impact, heads_bytes, rest_behind, shared_with, term_bytes, terms_bytes, greatest_joins}
 use Rattle.index_layout.specs.Heads.{TermHeads as EntryData}
-use Rattle.index_layout.specs.Layout.{heads_bytes, rest_behind, shared_with, term_bytes, terms_bytes}
 use Rattle.shared_lemmas.proofs.Lists.{All-unmap}
-use Rattle.index_layout.proofs.Greatest.{greatest_joins}
 use Rattle.index_write.specs.Chosen.{head_data}
 use Rattle.index_write.specs.Streaming.{AreEntries, IsEntry, IsHead, entry_data, heads_left, no_entry}
 use Rattle.index_write.specs.declared.term_heads.TermHeads.{TermHeads}
@@ -62,26 +54,17 @@ counted (h ∷ heads) are =
 pub heads_few : (entries : List EntryData) → All IsEntry entries → length (all_heads entries) ≤ head_postings entries
 heads_few [] are = omega arith
 heads_few (t ∷ entries) are =
-    omega (
-      arith,
-      counted t.heads (All-head IsEntry t entries are).heads,
-      length-append t.heads (all_heads entries),
-      sum_by-append count_of t.heads (all_heads entries),
-      heads_few entries (All-tail IsEntry t entries are),
-    )
+    let here = counted t.heads (All-head IsEntry t entries are).heads in
+    let all = length-append t.heads (all_heads entries) in
+    omega (arith, here, all, sum_by-append count_of t.heads (all_heads entries), heads_few entries (All-tail IsEntry t entries are))
 
 pub entries_small : (before : List ℕ) (entries : List EntryData) → All IsEntry entries → length (terms_bytes before entries) ≤ 65543 * length entries + 11 * length (all_heads entries)
 entries_small before [] are = omega arith
 entries_small before (t ∷ entries) are =
     let fits = (All-head IsEntry t entries are).fits in
-    omega (
-      arith,
-      fits,
-      one_size before t (terms_bytes t.term entries) (length t.heads) refl,
-      length-drop (shared_with before t.term) t.term,
-      length-append t.heads (all_heads entries),
-      entries_small t.term entries (All-tail IsEntry t entries are),
-    )
+    let size = one_size before t (terms_bytes t.term entries) (length t.heads) refl in
+    let rest = length-drop (shared_with before t.term) t.term in
+    omega (arith, fits, size, rest, length-append t.heads (all_heads entries), entries_small t.term entries (All-tail IsEntry t entries are))
 
 -- a term has at most as many heads as all of them
 abbrev Few : ℕ → EntryData → Type 0
@@ -94,8 +77,7 @@ each_few (t ∷ entries) n few = All-cons (Few n) t entries (omega (arith, few, 
 pub heads_each : (entries : List TermHeads) → AreEntries (map entry_data entries) → All (λ (t : TermHeads). length t.heads < 2 ^ 32) entries
 heads_each entries are =
     let plain = map entry_data entries in
-    let total = are.postings in
-    let few = each_few plain (2 ^ 29) (omega (arith, total, heads_few plain are.each)) in
+    let few = each_few plain (2 ^ 29) (omega (arith, are.postings, heads_few plain are.each)) in
     λ i t inside. (let e = All-unmap (Few (2 ^ 29)) entry_data entries few i t inside in omega (arith, e, length-map (get_or entries i t).heads head_data))
 
 pub terms_each : (entries : List TermHeads) → AreEntries (map entry_data entries) → All (λ (t : TermHeads). length t.term ≤ 65535) entries

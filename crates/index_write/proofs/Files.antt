@@ -1,10 +1,6 @@
 -- A file that is made empty and then written.
-use Rattle.std.proofs.Common.{◌≡◌, ℕ, ◌+◌, List, [], ◌++◌, length, take, Option, Some, None, Result, Ok, Err, inl, inr, sym, ap, subst, ◌∙◌, ◌⊎◌, OnErr}
-use Rattle.std.specs.Option.{unwrap_or}
-use Rattle.std.specs.FinMap.{insert}
-use Rattle.std.proofs.Math.Seq.{take-append-add, take-append_seam}
-use Rattle.jass_base.specs.Outside.{Files, Sets, Extends, content_or_empty}
-use Rattle.jass_base.proofs.Sinks.{get_set, set_twice}
+use Rattle.shared_lemmas.proofs.Common.{◌≡◌, ℕ, ◌+◌, List, [], ◌++◌, length, take, Option, Some, None, Result, Ok, Err, inl, inr, sym, ap, subst, ◌∙◌, ◌⊎◌, OnErr, unwrap_or, insert, take-append-add, take-append_seam}
+use Rattle.index_write.proofs.Below.{Files, Sets, Extends, content_or_empty, get_set, set_twice}
 use Rattle.index_write.specs.Saving.{LeavesPrefix}
 
 pub sets_then : (old mid new : Option Files) (name bytes : List ℕ) → Sets old mid name [] → Extends mid new name bytes → Sets old new name bytes

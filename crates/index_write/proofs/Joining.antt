@@ -1,16 +1,10 @@
 -- Parts that are put one after the other.
-use Rattle.std.proofs.Common.{◌≡◌, ℕ, List, [], ◌++◌, length, ap, sym, refl, ◌∙◌, append_assoc}
-use Rattle.std.specs.List.{sum_by}
-use Rattle.std.proofs.lemmas.List.{length-map}
-use Rattle.jass_base.specs.declared.answer.Totals.{Totals}
-use Rattle.index_model.specs.Index.{IndexData}
-use Rattle.index_layout.specs.Bytes.{u32_bytes, u64_bytes}
-use Rattle.index_layout.specs.Heads.{HeadData, TermHeads, head_postings, greatest_of, greatest_impact}
-use Rattle.index_layout.specs.Layout.{magic, file_length, front_bytes, names_bytes, terms_bytes, totals_bytes}
-use Rattle.index_layout.specs.Totals.{index_greatest, totals_of}
-use Rattle.index_layout.specs.View.{index_postings}
+use Rattle.shared_lemmas.proofs.Common.{◌≡◌, ℕ, List, [], ◌++◌, length, ap, sym, refl, ◌∙◌, append_assoc, sum_by, length-map}
+use Rattle.index_write.proofs.Below.{Totals, IndexData, u32_bytes, u64_bytes, HeadData, TermHeads, head_postings, greatest_of, greatest_impact, magic, file_length, names_bytes, terms_bytes, index_greatest, totals_of, index_postings}
+use Rattle.index_layout.specs.Layout.{front_bytes, totals_bytes}
 use Rattle.index_write.specs.Chosen.{chosen_entry, chosen_terms}
-use Rattle.index_write.specs.Streaming.{entries_totals, first_bytes}
+use Rattle.index_write.specs.Streaming.{entries_totals}
+use Rattle.index_write.specs.Private.Front.{first_bytes}
 use Rattle.index_write.proofs.Texts.{table_is, all_counted, greatest_chosen}
 
 pub seven : (a b c d e f g h i j k l m n o : List ℕ) → b ≡ a ++ i → c ≡ b ++ j → d ≡ c ++ k → e ≡ d ++ l → f ≡ e ++ m → g ≡ f ++ n → h ≡ g ++ o

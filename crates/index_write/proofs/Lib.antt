@@ -1,3 +1,4 @@
+mod Below
 mod Counting
 mod Bounds
 mod Texts

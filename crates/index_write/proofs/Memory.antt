@@ -1,21 +1,12 @@
 -- An index in memory, seen from its table of heads.
-use Rattle.std.proofs.Common.{suc, add-one, append_assoc, ◌≡◌, ℕ, ◌+◌, ◌*◌, ◌^◌, ◌<◌, ◌≤◌, List, [], ◌∷◌, ◌++◌, length, map, take, drop, get_or, All, ap, sym, subst, ◌∙◌, refl, arith}
+use Rattle.shared_lemmas.proofs.Common.{suc, add-one, append_assoc, ◌≡◌, ℕ, ◌+◌, ◌*◌, ◌^◌, ◌<◌, ◌≤◌, List, [], ◌∷◌, ◌++◌, length, map, take, drop, get_or, All, ap, sym, subst, ◌∙◌, refl, arith, take-append_seam, drop-append_seam, length-map, length-append, get_or-map, take-map, drop-map}
+use Rattle.shared_lemmas.proofs.Common.{sum_by-cons}
 use Rattle.std.specs.List.{sum_by}
-use Rattle.std.proofs.Math.Seq.{drop-cons, take-append_seam, drop-append_seam}
-use Rattle.std.proofs.lemmas.List.{length-map, length-append, get_or-map, take-map, drop-map}
-use Rattle.std.proofs.lemmas.List.Sums.{sum_by-cons}
-use Rattle.jass_base.specs.Gaps.{AreDocs}
-use Rattle.jass_base.specs.declared.segment.Segment.{Segment}
-use Rattle.jass_base.specs.declared.term_segments.TermSegments.{TermSegments}
-use Rattle.jass_base.specs.declared.impact_index.ImpactIndex.{ImpactIndex}
-use Rattle.index_model.specs.Index.{SegmentData, IsSegment, IsTerm, IsIndex}
-use Rattle.index_model.specs.Views.{segment_data, term_data, index_data}
-use Rattle.index_layout.specs.Bytes.{u32_bytes}
-use Rattle.index_layout.specs.Heads.{HeadData, TermHeads}
-use Rattle.index_layout.specs.Layout.{rest_behind, shared_with, term_bytes, heads_bytes, terms_bytes}
-use Rattle.index_layout.specs.View.{term_postings}
+use Rattle.std.proofs.Math.Seq.{drop-cons}
+use Rattle.index_write.proofs.Below.{AreDocs, Segment, TermSegments, ImpactIndex, SegmentData, IsSegment, IsTerm, IsIndex, segment_data, term_data, index_data, u32_bytes, HeadData, TermHeads, rest_behind, shared_with, term_bytes, heads_bytes, terms_bytes, term_postings}
 use Rattle.shared_lemmas.proofs.Lists.{All-unmap}
-use Rattle.index_write.specs.Chosen.{head_data, chosen_head, chosen_heads, chosen_terms, chosen_payloads, table_of, table_payloads}
+use Rattle.index_write.specs.Chosen.{head_data, chosen_head, chosen_heads, chosen_terms, chosen_payloads, table_payloads}
+use Rattle.index_write.specs.Private.Table.{table_of}
 use Rattle.index_write.specs.declared.head.PayloadHead.{PayloadHead}
 use Rattle.index_write.proofs.Bounds.{one_size, term_segments_few}
 

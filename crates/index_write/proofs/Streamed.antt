@@ -1,24 +1,11 @@
 -- An index that is written term by term.
-use Rattle.std.proofs.Common.{◌≡◌, ℕ, ◌<◌, ◌≤◌, ◌^◌, List, [], ◌∷◌, ◌++◌, length, map, get_or, All, ap, sym, subst, ◌∙◌, refl, arith, append-nil}
-use Rattle.std.specs.Prelude.{AllPairs}
-use Rattle.std.specs.List.{flat_map, sum_by}
-use Rattle.std.proofs.lemmas.List.{length-map, get_or-map}
+use Rattle.shared_lemmas.proofs.Common.{◌≡◌, ℕ, ◌<◌, ◌≤◌, ◌^◌, List, [], ◌∷◌, ◌++◌, length, map, get_or, All, ap, ◌∙◌, refl, arith, append-nil, AllPairs, length-map, get_or-map, All-head, All-tail, All-cons, All-nil}
+use Rattle.std.specs.List.{sum_by}
 use Rattle.std.proofs.lemmas.List.Concat.{flat_map-append}
-use Rattle.std.proofs.lemmas.List.Elements.{All-head, All-tail, All-cons, All-nil}
-use Rattle.jass_base.specs.Gaps.{AreDocs}
-use Rattle.jass_base.specs.Terms.{BytesRise}
+use Rattle.index_write.proofs.Below.{AreDocs, BytesRise, Segment, Totals, chosen_codec, payload_size, Codec, SegmentData, TermData, IndexData, IsSegment, IsTerm, IsIndex, segment_data, HeadData, head_postings, greatest_of, greatest_impact, index_greatest, totals_of, index_postings}
 use Rattle.jass_base.specs.Segments as memory
-use Rattle.jass_base.specs.declared.segment.Segment.{Segment}
-use Rattle.jass_base.specs.declared.answer.Totals.{Totals}
-use Rattle.segment_codecs.specs.Codecs.{chosen_codec, payload_size}
-use Rattle.segment_codecs.specs.declared.codec.Codec.{Codec}
-use Rattle.index_model.specs.Index.{SegmentData, TermData, IndexData, IsSegment, IsTerm, IsIndex}
 use Rattle.index_model.specs.Index as model
-use Rattle.index_model.specs.Views.{segment_data}
-use Rattle.index_layout.specs.Heads.{HeadData, head_postings, greatest_of, greatest_impact}
 use Rattle.index_layout.specs.Heads.{TermHeads as EntryData}
-use Rattle.index_layout.specs.Totals.{index_greatest, totals_of}
-use Rattle.index_layout.specs.View.{index_postings}
 use Rattle.index_write.specs.Chosen.{chosen_entry, chosen_head, chosen_heads, chosen_payloads, chosen_terms, table_payloads}
 use Rattle.index_write.specs.Streaming.{AreEntries, FallsTo, IsEntry, IsHead, RisesTo, entries_totals}
 use Rattle.index_write.proofs.Texts.{table_is, all_counted, greatest_chosen}
@@ -115,9 +102,8 @@ memory_heads some d [] are = All-nil IsHead
 memory_heads some d (s ∷ segments) are =
     let Docs : Segment → Type 0 = λ (s : Segment). AreDocs d s.docs in
     let docs = All-head Docs s segments are in
-    let positive = s.positive in
     All-cons IsHead (chosen_head d (segment_data s)) (chosen_heads d (map segment_data segments)) (record {
-      impact = omega (arith, positive);
+      impact = omega (arith, s.positive);
       count = (let e = docs.some in omega (arith, e));
       size = some (chosen_codec d s.docs) d s.docs docs;
     }) (memory_heads some d segments (All-tail Docs s segments are))

@@ -1,16 +1,10 @@
 -- The text of an index by its chosen heads and payloads.
-use Rattle.std.proofs.Common.{◌≡◌, ℕ, ◌+◌, List, [], ◌∷◌, ◌++◌, length, map, ap, sym, ◌∙◌, refl}
-use Rattle.std.specs.Prelude.{flat_map, max}
-use Rattle.std.specs.List.{sum_by}
-use Rattle.std.proofs.lemmas.List.{length-append}
-use Rattle.std.proofs.lemmas.List.Sums.{sum_by-cons, sum_by-append}
-use Rattle.segment_codecs.specs.Codecs.{chosen_codec}
-use Rattle.index_model.specs.Index.{SegmentData, TermData, IndexData}
-use Rattle.index_layout.specs.Heads.{HeadData, TermHeads, heads_of, terms_heads, all_heads, greatest_of}
-use Rattle.index_layout.specs.Layout.{front_bytes, segments_payloads, terms_payloads}
-use Rattle.index_layout.specs.Totals.{greatest_in}
-use Rattle.index_layout.specs.View.{view_heads, view_payloads, file_bytes, chosen_codecs, chosen_view, index_text, term_postings}
-use Rattle.index_write.specs.Chosen.{chosen_head, chosen_heads, chosen_terms, table_of, chosen_payload, chosen_payloads, table_payloads}
+use Rattle.shared_lemmas.proofs.Common.{◌≡◌, ℕ, ◌+◌, List, [], ◌∷◌, ◌++◌, length, map, ap, sym, ◌∙◌, refl, max, sum_by, length-append, sum_by-cons, sum_by-append}
+use Rattle.std.proofs.Common.{flat_map}
+use Rattle.index_write.proofs.Below.{chosen_codec, SegmentData, TermData, IndexData, HeadData, TermHeads, heads_of, terms_heads, all_heads, greatest_of, front_bytes, segments_payloads, terms_payloads, greatest_in, chosen_codecs, chosen_view, term_postings}
+use Rattle.index_layout.specs.View.{view_heads, view_payloads, file_bytes, index_text}
+use Rattle.index_write.specs.Chosen.{chosen_head, chosen_heads, chosen_terms, chosen_payload, chosen_payloads, table_payloads}
+use Rattle.index_write.specs.Private.Table.{table_of}
 
 heads_chosen : (d : ℕ) (segments : List SegmentData) → heads_of d segments (map (λ (s : SegmentData). chosen_codec d s.docs) segments) ≡ chosen_heads d segments
 heads_chosen d [] = refl

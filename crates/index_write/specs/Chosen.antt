@@ -16,10 +16,6 @@ chosen_head d segment = head_of d segment (chosen_codec d segment.docs)
 abbrev pub chosen_heads : ℕ → List SegmentData → List HeadData
 chosen_heads d segments = map (chosen_head d) segments
 
--- the heads of all terms
-abbrev pub table_of : ℕ → List TermData → List HeadData
-table_of d terms = flat_map (λ (t : TermData). chosen_heads d t.segments) terms
-
 -- a term with these heads
 abbrev pub chosen_entry : ℕ → TermData → TermHeads
 chosen_entry d t = record { term = t.term; heads = chosen_heads d t.segments }

@@ -1,3 +1,4 @@
 pub mod Chosen
 pub mod Saving
 pub mod Streaming
+pub mod Private

@@ -1,19 +1,20 @@
 -- Why a text is not written, and what stands then.
-use Rattle.std.specs.Prelude.{ℕ, ◌≡◌, ◌<◌, ◌≤◌, ◌^◌, ⊤, ◌⊎◌, List, length, take, Option}
+use Rattle.std.specs.Prelude.{ℕ, ◌≡◌, ◌<◌, ◌≤◌, ⊤, ◌⊎◌, List, length, take, Option}
 use Rattle.jass_base.specs.Outside.{Files, Sets}
 use Rattle.index_write.specs.declared.fault.SaveFault.{SaveFault}
 use Rattle.index_write.specs.declared.fault.SaveFault.TheVariants.{TooLarge, WriteFault, NoMemory}
+use Rattle.jass_base.specs.declared.limits.TheConstants.{LONGEST_FILE}
 
 -- a fault of a text that is made in memory: it has more than 2^32 bytes, or memory was refused
 abbrev pub Unmade : List ℕ → SaveFault → Type 0
-Unmade text (TooLarge n) = (length text ≡ n) × (2 ^ 32 < n)
+Unmade text (TooLarge n) = (length text ≡ n) × (LONGEST_FILE < n)
 Unmade text WriteFault = ⊥
 Unmade text NoMemory = ⊤
 
 -- a fault of a text that is written to a file: writing is tried only where it fits
 abbrev pub Unwritten : List ℕ → SaveFault → Type 0
-Unwritten text (TooLarge n) = (length text ≡ n) × (2 ^ 32 < n)
-Unwritten text WriteFault = length text ≤ 2 ^ 32
+Unwritten text (TooLarge n) = (length text ≡ n) × (LONGEST_FILE < n)
+Unwritten text WriteFault = length text ≤ LONGEST_FILE
 Unwritten text NoMemory = ⊤
 
 -- the contents are as before, or the name has a prefix of the text and every other name stays

@@ -1,11 +1,9 @@
 -- An index file that is written term by term: what its writer is given and keeps, and what it appends.
-use Rattle.std.specs.Prelude.{ℕ, ◌≡◌, ◌==◌, ◌<◌, ◌≤◌, ◌-◌, ◌^◌, ⊤, List, [], ◌∷◌, ◌++◌, length, map, All, AllPairs, Option, Some, None, if◌then◌else◌, slice_index_or}
+use Rattle.std.specs.Prelude.{ℕ, ◌≡◌, ◌==◌, ◌<◌, ◌≤◌, ◌-◌, ⊤, List, [], ◌∷◌, length, map, All, AllPairs, Option, Some, None, if◌then◌else◌, slice_index_or}
 use Rattle.jass_base.specs.Limits.{IsName, IsText}
 use Rattle.jass_base.specs.Terms.{BytesRise}
 use Rattle.jass_base.specs.declared.answer.Totals.{Totals}
 use Rattle.segment_codecs.specs.Codecs.{codec_number}
-use Rattle.index_layout.specs.Bytes.{u32_bytes, u64_bytes}
-use Rattle.index_layout.specs.Layout.{magic}
 use Rattle.index_layout.specs.Heads.{HeadData, head_postings, greatest_impact}
 use Rattle.index_layout.specs.Heads.{TermHeads as EntryData}
 use Rattle.index_write.specs.Chosen.{head_data}
@@ -15,7 +13,7 @@ use Rattle.index_write.specs.declared.fault.SaveFault.TheVariants as saving
 use Rattle.index_write.specs.declared.fault.TermFault.{TermFault}
 use Rattle.index_write.specs.declared.fault.TermFault.TheVariants.{Changed, WriteFault, NoMemory}
 use Rattle.index_write.specs.declared.term_heads.TermHeads.{TermHeads}
-use Rattle.jass_base.specs.declared.limits.TheConstants.{MOST_DOCUMENTS, MOST_POSTINGS, MOST_TERMS}
+use Rattle.jass_base.specs.declared.limits.TheConstants.{LONGEST_FILE, LONGEST_TERM, MOST_DOCUMENTS, MOST_POSTINGS, MOST_TERMS}
 
 -- a term and its heads as plain data
 abbrev pub entry_data : TermHeads → EntryData
@@ -40,7 +38,7 @@ FallsTo head later = later.impact < head.impact
 -- a term with its heads: a text of at most 65,535 bytes with at least one head, whose impacts fall
 pub record IsEntry (entry : EntryData) : Type 0 where
   pub text : IsText entry.term
-  pub fits : length entry.term ≤ 65535
+  pub fits : length entry.term ≤ LONGEST_TERM
   pub some : 1 ≤ length entry.heads
   pub heads : All IsHead entry.heads
   pub falling : AllPairs FallsTo entry.heads
@@ -66,12 +64,6 @@ pub record WriterView : Type 0 where
 abbrev pub writer_view : List ℕ → ℕ → List TermHeads → ℕ → WriterView
 writer_view name docs entries left = record { name = name; docs = docs; entries = map entry_data entries; left = left }
 
--- what holds of a writer
-pub record IsWriter (writer : WriterView) : Type 0 where
-  pub docs : writer.docs ≤ MOST_DOCUMENTS
-  pub entries : AreEntries writer.entries
-  pub left : writer.left ≤ length writer.entries
-
 abbrev pub no_entry : EntryData
 no_entry = record { term = []; heads = [] }
 
@@ -96,12 +88,6 @@ entries_totals docs entries = record {
   greatest = greatest_impact entries;
 }
 
--- the first 40 bytes of a file of so many bytes with these totals
-abbrev pub first_bytes : ℕ → Totals → List ℕ
-first_bytes size totals =
-    magic ++ (u64_bytes size ++ (u32_bytes totals.docs ++ (u32_bytes totals.terms
-    ++ (u64_bytes totals.postings ++ (u32_bytes totals.greatest ++ u32_bytes 0)))))
-
 -- two numbers, where they differ, and else what comes later
 abbrev pub unless_same : ℕ → ℕ → Option Change → Option Change
 unless_same kept found later = if kept == found then later else Some (record { kept = kept; found = found })
@@ -124,17 +110,11 @@ heads_change (head ∷ kept) (other ∷ found) = head_change head other (heads_c
 unfoldable pub change_of : List HeadData → List HeadData → Option Change
 change_of kept found = unless_same (length kept) (length found) (heads_change kept found)
 
--- a fault of a file of so many bytes whose front is made in memory: it has more than 2^32, or memory was refused
-abbrev pub Unspelled : ℕ → SaveFault → Type 0
-Unspelled size (saving.TooLarge n) = (size ≡ n) × (2 ^ 32 < n)
-Unspelled size saving.WriteFault = ⊥
-Unspelled size saving.NoMemory = size ≤ 2 ^ 32
-
 -- a fault of a file of so many bytes before its payloads are written: it has more than 2^32, or writing failed, or memory was refused
 abbrev pub Unbegun : ℕ → SaveFault → Type 0
-Unbegun size (saving.TooLarge n) = (size ≡ n) × (2 ^ 32 < n)
-Unbegun size saving.WriteFault = size ≤ 2 ^ 32
-Unbegun size saving.NoMemory = size ≤ 2 ^ 32
+Unbegun size (saving.TooLarge n) = (size ≡ n) × (LONGEST_FILE < n)
+Unbegun size saving.WriteFault = size ≤ LONGEST_FILE
+Unbegun size saving.NoMemory = size ≤ LONGEST_FILE
 
 -- a fault of a term's payloads: the first difference of its heads, where there is one, or writing failed, or memory was refused
 abbrev pub Unappended : Option Change → TermFault → Type 0

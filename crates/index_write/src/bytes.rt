@@ -1,11 +1,14 @@
-ghost use Rattle.std.specs.Prelude.{◌≡◌, ◌≤◌, ◌<◌, ◌^◌, [], ◌++◌, length, map, IfOk, IfErr, OnOk};
+ghost use Rattle.std.specs.Prelude.{◌≡◌, ◌≤◌, ◌<◌, ◌^◌, ◌++◌, length, map, IfOk, IfErr, OnOk};
 ghost use Rattle.index_model.specs.Views.{term_data, index_data};
 ghost use Rattle.index_layout.specs.Heads.{payloads_size};
 ghost use Rattle.index_layout.specs.Layout.{file_length, front_bytes, totals_bytes};
 ghost use Rattle.index_layout.specs.View.{index_text};
-ghost use Rattle.index_write.specs.Chosen.{head_data, chosen_terms, table_of};
+ghost use Rattle.index_write.specs.Chosen.{head_data, chosen_terms};
+ghost use Rattle.index_write.specs.Private.Table.{table_of};
 ghost use Rattle.index_write.specs.Saving.{Unmade};
-ghost use Rattle.index_write.specs.Streaming.{AreEntries, AreNames, Unspelled, entries_totals, entry_data, first_bytes};
+ghost use Rattle.index_write.specs.Streaming.{AreEntries, AreNames, entries_totals, entry_data};
+ghost use Rattle.jass_base.specs.declared.limits.TheConstants.{GREATEST_IMPACT, LONGEST_FILE};
+ghost use Rattle.index_write.specs.Private.Front.{Unspelled, first_bytes};
 
 use crate::fault::SaveFault;
 use crate::front::{put_entries, put_names, put_terms};
@@ -15,24 +18,12 @@ use crate::lengths::{front_len, index_len};
 use crate::payloads::put_all_payloads;
 use crate::sums::totals;
 use crate::term_heads::TermHeads;
+use jass_base::limits::LONGEST_FILE;
 use jass_base::{ImpactIndex, NoMemory, Row, Text, Totals};
 use std::alloc::Global;
 
-/// The most bytes of an index file.
-const MOST_BYTES: u64 = 4_294_967_296;
-
 /// The first eight bytes of an index file.
 const MAGIC: &[u8] = b"JASSIDX2";
-
-/// An empty row that has room for so many bytes, so that they are never moved.
-fn with_room(alloc: Global, len: u64) -> Result<Row<u8>, NoMemory>
-    ensures { IfOk result (λ row. row ≡ []) }
-{
-    match Vec::with_capacity(alloc, len as usize) {
-        Ok(bytes) => Ok(Row::from_vec(bytes)),
-        Err(_) => Err(NoMemory),
-    }
-}
 
 /// Appends the first 40 bytes: magic, length, documents, terms, postings, the greatest impact, zero.
 fn put_numbers(totals: &Totals, len: u64, out: &mut Row<u8>) -> Result<(), NoMemory>
@@ -68,13 +59,13 @@ fn spelled(
     heads: &[PayloadHead],
     len: u64,
 ) -> Result<Row<u8>, NoMemory>
-    requires greatest { index.now.greatest ≤ 65535 }
+    requires greatest { index.now.greatest ≤ GREATEST_IMPACT }
     requires heads { map head_data heads.now ≡ table_of (length index.now.names) (map term_data index.now.terms) }
     requires len { len ≡ length (index_text (index_data index.now)) }
     ensures { IfOk result (λ row. row ≡ index_text (index_data index.now)) }
 {
     texts_have_their_parts();
-    let mut out = with_room(alloc, len)?;
+    let mut out = Row::with_room(alloc, len as usize)?;
     put_totals(index, len, &mut out)?;
     put_names(index.names.as_slice(), &mut out)?;
     put_terms(index, heads, &mut out)?;
@@ -86,7 +77,7 @@ fn spelled(
 /// where they are more than 2^32, unless memory is refused first.
 pub fn index_bytes(alloc: Global, index: &ImpactIndex) -> Result<Row<u8>, SaveFault>
     ensures bytes { IfOk result (λ row. row ≡ index_text (index_data index.now)) }
-    ensures fits { OnOk result (length (index_text (index_data index.now)) ≤ 2 ^ 32) }
+    ensures fits { OnOk result (length (index_text (index_data index.now)) ≤ LONGEST_FILE) }
     ensures fault { IfErr result (Unmade (index_text (index_data index.now))) }
 {
     let _greatest = index.greatest;
@@ -95,7 +86,7 @@ pub fn index_bytes(alloc: Global, index: &ImpactIndex) -> Result<Row<u8>, SaveFa
         Err(_) => return Err(SaveFault::NoMemory),
     };
     let len = index_len(index, heads.as_slice());
-    if len > MOST_BYTES {
+    if len > LONGEST_FILE {
         return Err(SaveFault::TooLarge { length: len });
     }
     match spelled(alloc, index, heads.as_slice(), len) {
@@ -121,7 +112,7 @@ fn spelled_front(
     ensures { IfOk result (λ row. row ≡ front_bytes names.now (map entry_data entries.now)) }
 {
     entries_are_small();
-    let mut out = with_room(alloc, front)?;
+    let mut out = Row::with_room(alloc, front as usize)?;
     put_numbers(totals, len, &mut out)?;
     put_names(names, &mut out)?;
     put_entries(entries, &mut out)?;
@@ -143,12 +134,12 @@ pub fn front_of(
     requires payloads { payloads ≡ payloads_size (map entry_data entries.now) }
     requires few { payloads < 2 ^ 62 }
     ensures bytes { IfOk result (λ row. row ≡ front_bytes names.now (map entry_data entries.now)) }
-    ensures fits { OnOk result (file_length names.now (map entry_data entries.now) ≤ 2 ^ 32) }
+    ensures fits { OnOk result (file_length names.now (map entry_data entries.now) ≤ LONGEST_FILE) }
     ensures fault { IfErr result (Unspelled (file_length names.now (map entry_data entries.now))) }
 {
     let front = front_len(names, entries);
     let len = front + payloads;
-    if len <= MOST_BYTES {
+    if len <= LONGEST_FILE {
         match spelled_front(alloc, names, entries, totals, front, len) {
             Ok(bytes) => Ok(bytes),
             Err(_) => Err(SaveFault::NoMemory),

@@ -1,8 +1,9 @@
-ghost use Rattle.std.specs.Prelude.{◌≡◌, ◌≤◌, ◌^◌, length, IfErr, IsErrOf, OnOk, OnErr};
+ghost use Rattle.std.specs.Prelude.{◌≤◌, length, IfErr, IsErrOf, OnOk, OnErr};
 ghost use Rattle.jass_base.specs.Outside.{HasCause, Rose, Sets};
 ghost use Rattle.index_model.specs.Views.{index_data};
 ghost use Rattle.index_layout.specs.View.{index_text};
 ghost use Rattle.index_write.specs.Saving.{LeavesPrefix, Untouched, Unwritten};
+ghost use Rattle.jass_base.specs.declared.limits.TheConstants.{LONGEST_FILE};
 
 use crate::bytes::index_bytes;
 use crate::fault::SaveFault;
@@ -33,7 +34,7 @@ pub fn write_index<C: Cabinet>(
 ) -> Result<(), SaveFault>
     ensures content { OnOk result (Sets (C.told files.old) (C.told files.new) name.now
         (index_text (index_data index.now))) }
-    ensures fits { OnOk result (length (index_text (index_data index.now)) ≤ 2 ^ 32) }
+    ensures fits { OnOk result (length (index_text (index_data index.now)) ≤ LONGEST_FILE) }
     ensures fault { IfErr result (Unwritten (index_text (index_data index.now))) }
     ensures untouched { IfErr result (Untouched files.old files.new) }
     ensures front { OnErr result (LeavesPrefix (C.told files.old) (C.told files.new) name.now

@@ -5,9 +5,11 @@ ghost use Rattle.jass_base.specs.Limits.{IsName};
 ghost use Rattle.index_model.specs.Views.{term_data};
 ghost use Rattle.index_layout.specs.Bytes.{u32_bytes};
 ghost use Rattle.index_layout.specs.Layout.{name_bytes, names_bytes, head_bytes, heads_bytes, term_bytes, terms_bytes};
-ghost use Rattle.index_write.specs.Chosen.{head_data, chosen_terms, table_of};
+ghost use Rattle.index_write.specs.Chosen.{head_data, chosen_terms};
+ghost use Rattle.index_write.specs.Private.Table.{table_of};
 ghost use Rattle.index_write.specs.Streaming.{entry_data};
 ghost use Rattle.index_write.specs.declared.term_heads.TermHeads.{TermHeads};
+ghost use Rattle.jass_base.specs.declared.limits.TheConstants.{GREATEST_IMPACT, LONGEST_NAME, LONGEST_TERM};
 
 use crate::head::PayloadHead;
 use crate::laws::terms_have_documents;
@@ -18,7 +20,7 @@ use jass_base::{ImpactIndex, NoMemory, Row, Text};
 /// Appends a name behind its length.
 #[tactic(auto, unfolding(index_layout::specs::Layout::name_bytes))]
 fn put_name(name: &str, out: &mut Row<u8>) -> Result<(), NoMemory>
-    requires { length name.now ≤ 1048576 }
+    requires { length name.now ≤ LONGEST_NAME }
     ensures { OnOk result (out.new ≡ out.old ++ name_bytes name.now) }
 {
     out.extend(&(name.len() as u32).to_le_bytes())?;
@@ -74,7 +76,7 @@ fn put_heads(heads: &[PayloadHead], out: &mut Row<u8>) -> Result<(), NoMemory>
 /// Appends a term: how many bytes it shares with the one before, how many it adds, and these.
 #[tactic(auto, unfolding(index_layout::specs::Layout::term_bytes))]
 fn put_term(before: &[u8], term: &[u8], out: &mut Row<u8>) -> Result<(), NoMemory>
-    requires { length term.now ≤ 65535 }
+    requires { length term.now ≤ LONGEST_TERM }
     ensures { OnOk result (out.new ≡ out.old ++ term_bytes before.now term.now) }
 {
     let shared = shared_len(before, term);
@@ -92,7 +94,7 @@ fn put_entry(
     heads: &[PayloadHead],
     out: &mut Row<u8>,
 ) -> Result<(), NoMemory>
-    requires term { length term.now ≤ 65535 }
+    requires term { length term.now ≤ LONGEST_TERM }
     requires heads { length heads.now < 2 ^ 32 }
     ensures { OnOk result (out.new ≡ out.old ++ (term_bytes before.now term.now
         ++ (u32_bytes (length heads.now) ++ heads_bytes (map head_data heads.now)))) }
@@ -109,7 +111,7 @@ pub fn put_terms(
     heads: &[PayloadHead],
     out: &mut Row<u8>,
 ) -> Result<(), NoMemory>
-    requires greatest { index.now.greatest ≤ 65535 }
+    requires greatest { index.now.greatest ≤ GREATEST_IMPACT }
     requires heads { map head_data heads.now ≡ table_of (length index.now.names) (map term_data index.now.terms) }
     ensures { OnOk result (out.new ≡ out.old
         ++ terms_bytes [] (chosen_terms (length index.now.names) (map term_data index.now.terms))) }
@@ -129,7 +131,7 @@ pub fn put_terms(
 
 /// Appends terms with their heads.
 pub fn put_entries(entries: &[TermHeads], out: &mut Row<u8>) -> Result<(), NoMemory>
-    requires fit { All (λ (t : TermHeads). length t.term ≤ 65535) entries.now }
+    requires fit { All (λ (t : TermHeads). length t.term ≤ LONGEST_TERM) entries.now }
     requires few { All (λ (t : TermHeads). length t.heads < 2 ^ 32) entries.now }
     ensures { OnOk result (out.new ≡ out.old ++ terms_bytes [] (map entry_data entries.now)) }
 {

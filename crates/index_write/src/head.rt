@@ -1,8 +1,10 @@
-ghost use Rattle.std.specs.Prelude.{◌≡◌, ◌≤◌, ◌^◌, [], ◌++◌, length, map, All, OnOk, IfOk};
+ghost use Rattle.std.specs.Prelude.{◌≡◌, ◌≤◌, ◌++◌, length, map, All, OnOk, IfOk};
 ghost use Rattle.jass_base.specs.Gaps.{AreDocs};
 ghost use Rattle.jass_base.specs.declared.segment.Segment.{Segment};
 ghost use Rattle.index_model.specs.Views.{segment_data, term_data};
-ghost use Rattle.index_write.specs.Chosen.{head_data, chosen_head, chosen_heads, table_of};
+ghost use Rattle.index_write.specs.Chosen.{head_data, chosen_head, chosen_heads};
+ghost use Rattle.jass_base.specs.declared.limits.TheConstants.{GREATEST_IMPACT};
+ghost use Rattle.index_write.specs.Private.Table.{table_of};
 
 use crate::laws::{segments_are_small, terms_have_documents};
 use jass_base::{ImpactIndex, NoMemory, Row, Segment};
@@ -52,10 +54,7 @@ pub fn push_heads(
         ≡ map head_data heads.old ++ chosen_heads d (map segment_data segments.now)) }
 {
     for segment in segments {
-        match heads.push(PayloadHead::new(segment, d)) {
-            Ok(()) => {}
-            Err(_) => return Err(NoMemory),
-        }
+        heads.push(PayloadHead::new(segment, d))?;
     }
     Ok(())
 }
@@ -69,24 +68,14 @@ pub fn payload_heads(
     requires { All (λ (s : Segment). AreDocs d s.docs) segments.now }
     ensures { IfOk result (λ heads. map head_data heads ≡ chosen_heads d (map segment_data segments.now)) }
 {
-    let mut heads = with_room(alloc, segments.len())?;
+    let mut heads = Row::with_room(alloc, segments.len())?;
     push_heads(segments, d, &mut heads)?;
     Ok(heads)
 }
 
-/// An empty row that has room for so many heads.
-fn with_room(alloc: Global, count: usize) -> Result<Row<PayloadHead>, NoMemory>
-    ensures { IfOk result (λ heads. heads ≡ []) }
-{
-    match Vec::with_capacity(alloc, count) {
-        Ok(heads) => Ok(Row::from_vec(heads)),
-        Err(_) => Err(NoMemory),
-    }
-}
-
 /// The heads of all terms' segments.
 pub fn index_heads(alloc: Global, index: &ImpactIndex) -> Result<Row<PayloadHead>, NoMemory>
-    requires { index.now.greatest ≤ 65535 }
+    requires { index.now.greatest ≤ GREATEST_IMPACT }
     ensures { IfOk result (λ heads. map head_data heads
         ≡ table_of (length index.now.names) (map term_data index.now.terms)) }
 {

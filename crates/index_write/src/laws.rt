@@ -19,11 +19,12 @@ ghost use Rattle.index_layout.specs.Heads.{greatest_of as greatest_head};
 ghost use Rattle.index_layout.specs.Layout.{file_length, front_bytes, names_bytes, terms_bytes};
 ghost use Rattle.index_layout.specs.Totals.{index_greatest, totals_of};
 ghost use Rattle.index_layout.specs.View.{index_postings, index_text};
-ghost use Rattle.index_write.specs.Chosen.{chosen_entry, chosen_heads, chosen_payloads, chosen_terms, table_of, table_payloads};
+ghost use Rattle.index_write.specs.Chosen.{chosen_entry, chosen_heads, chosen_payloads, chosen_terms, table_payloads};
+ghost use Rattle.index_write.specs.Private.Table.{table_of};
 ghost use Rattle.index_write.specs.Saving.{LeavesPrefix};
 ghost use Rattle.index_write.specs.Streaming.{AreEntries, AreNames, FallsTo, IsEntry, IsHead, change_of, entries_totals, entry_data};
 ghost use Rattle.index_write.specs.declared.term_heads.TermHeads.{TermHeads};
-ghost use Rattle.jass_base.specs.declared.limits.TheConstants.{MOST_DOCUMENTS, MOST_POSTINGS};
+ghost use Rattle.jass_base.specs.declared.limits.TheConstants.{GREATEST_IMPACT, LONGEST_TERM, MOST_DOCUMENTS, MOST_POSTINGS};
 
 use index_layout::laws::lengths_are_known;
 use index_model::laws::indexes_in_memory_are_indexes;
@@ -39,9 +40,9 @@ pub(crate) fn segments_are_small()
 
 /// The documents of each segment are those of a segment, and a term has few segments.
 pub(crate) fn terms_have_documents()
-    ensures few { (index : ImpactIndex) → index.greatest ≤ 65535
+    ensures few { (index : ImpactIndex) → index.greatest ≤ GREATEST_IMPACT
         → All (λ (t : TermSegments). length t.segments ≤ MOST_DOCUMENTS) index.terms }
-    ensures docs { (index : ImpactIndex) → index.greatest ≤ 65535
+    ensures docs { (index : ImpactIndex) → index.greatest ≤ GREATEST_IMPACT
         → All (λ (t : TermSegments). All (λ (s : Segment). AreDocs (length index.names) s.docs) t.segments)
         index.terms }
 {
@@ -90,7 +91,7 @@ pub(crate) fn entries_are_small()
     ensures terms { (entries : List EntryData) → AreEntries entries → length (terms_bytes [] entries) ≤ 2 ^ 42 }
     ensures heads { (entries : List EntryData) → AreEntries entries → length (all_heads entries) ≤ MOST_POSTINGS }
     ensures fit { (entries : List TermHeads) → AreEntries (map entry_data entries)
-        → All (λ (t : TermHeads). length t.term ≤ 65535) entries }
+        → All (λ (t : TermHeads). length t.term ≤ LONGEST_TERM) entries }
     ensures few { (entries : List TermHeads) → AreEntries (map entry_data entries)
         → All (λ (t : TermHeads). length t.heads < 2 ^ 32) entries }
 {}

@@ -6,9 +6,11 @@ ghost use Rattle.index_model.specs.Views.{term_data, index_data};
 ghost use Rattle.index_layout.specs.Heads.{payloads_size};
 ghost use Rattle.index_layout.specs.Layout.{file_length, front_bytes, names_bytes, rest_behind, shared_with, terms_bytes};
 ghost use Rattle.index_layout.specs.View.{index_text};
-ghost use Rattle.index_write.specs.Chosen.{head_data, chosen_terms, table_of};
+ghost use Rattle.index_write.specs.Chosen.{head_data, chosen_terms};
+ghost use Rattle.index_write.specs.Private.Table.{table_of};
 ghost use Rattle.index_write.specs.Streaming.{AreEntries, AreNames, entry_data};
 ghost use Rattle.index_write.specs.declared.head.PayloadHead.{PayloadHead};
+ghost use Rattle.jass_base.specs.declared.limits.TheConstants.{GREATEST_IMPACT};
 
 use crate::head::PayloadHead;
 use crate::laws::{
@@ -85,7 +87,7 @@ fn payloads_len(heads: &[PayloadHead]) -> u64
 
 /// The bytes of the file, by its names, its terms and its heads.
 pub fn index_len(index: &ImpactIndex, heads: &[PayloadHead]) -> u64
-    requires greatest { index.now.greatest ≤ 65535 }
+    requires greatest { index.now.greatest ≤ GREATEST_IMPACT }
     requires heads { map head_data heads.now ≡ table_of (length index.now.names) (map term_data index.now.terms) }
     ensures { result ≡ length (index_text (index_data index.now)) }
 {

@@ -4,7 +4,9 @@ ghost use Rattle.std.specs.Prelude.{◌≡◌, ◌≤◌, ◌++◌, length, map,
 ghost use Rattle.jass_base.specs.Gaps.{AreDocs};
 ghost use Rattle.jass_base.specs.declared.segment.Segment.{Segment};
 ghost use Rattle.index_model.specs.Views.{segment_data, term_data};
-ghost use Rattle.index_write.specs.Chosen.{head_data, chosen_head, chosen_heads, chosen_payload, chosen_payloads, table_of, table_payloads};
+ghost use Rattle.index_write.specs.Chosen.{head_data, chosen_head, chosen_heads, chosen_payload, chosen_payloads, table_payloads};
+ghost use Rattle.jass_base.specs.declared.limits.TheConstants.{GREATEST_IMPACT};
+ghost use Rattle.index_write.specs.Private.Table.{table_of};
 
 use crate::head::PayloadHead;
 use crate::laws::terms_have_documents;
@@ -49,7 +51,7 @@ pub fn put_all_payloads(
     heads: &[PayloadHead],
     out: &mut Row<u8>,
 ) -> Result<(), NoMemory>
-    requires greatest { index.now.greatest ≤ 65535 }
+    requires greatest { index.now.greatest ≤ GREATEST_IMPACT }
     requires heads { map head_data heads.now ≡ table_of (length index.now.names) (map term_data index.now.terms) }
     ensures { OnOk result (out.new ≡ out.old
         ++ table_payloads (length index.now.names) (map term_data index.now.terms)) }

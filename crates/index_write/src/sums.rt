@@ -8,7 +8,7 @@ ghost use Rattle.index_layout.specs.Totals.{totals_of};
 ghost use Rattle.index_layout.specs.View.{index_postings};
 ghost use Rattle.index_write.specs.Chosen.{head_data};
 ghost use Rattle.index_write.specs.Streaming.{entry_data};
-ghost use Rattle.jass_base.specs.declared.limits.TheConstants.{MOST_POSTINGS};
+ghost use Rattle.jass_base.specs.declared.limits.TheConstants.{GREATEST_IMPACT, MOST_POSTINGS};
 
 use crate::head::PayloadHead;
 use crate::laws::{parts_are_small, tables_have_their_sums};
@@ -42,7 +42,7 @@ fn terms_postings(terms: &[TermSegments]) -> u64
 
 /// The postings of an index.
 fn postings_in(index: &ImpactIndex) -> u64
-    requires { index.now.greatest ≤ 65535 }
+    requires { index.now.greatest ≤ GREATEST_IMPACT }
     ensures { result ≡ index_postings (index_data index.now) }
 {
     indexes_in_memory_are_indexes();

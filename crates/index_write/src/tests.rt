@@ -1,6 +1,6 @@
 // The bytes of small indexes, and files that can't be written.
 
-ghost use Rattle.std.specs.Prelude.{◌≡◌, ℕ, ◌<◌, ◌≤◌, ◌^◌, [], ◌∷◌, length, map, max, All, AllPairs, IfOk};
+ghost use Rattle.std.specs.Prelude.{◌≡◌, ℕ, ◌<◌, ◌≤◌, [], ◌∷◌, length, map, max, All, AllPairs, IfOk};
 ghost use Rattle.jass_base.specs.Gaps.{AreDocs};
 ghost use Rattle.jass_base.specs.Limits.{IsName, IsText};
 ghost use Rattle.jass_base.specs.declared.segment.Segment.{Segment};

@@ -1,6 +1,6 @@
 //! An index file that is written term by term.
 
-ghost use Rattle.std.specs.Prelude.{◌≡◌, ◌≤◌, ◌^◌, None, length, map, All, AllPairs, IfErr, IfOk, IsErr, IsErrOf, OnErr, OnOk};
+ghost use Rattle.std.specs.Prelude.{◌≡◌, ◌≤◌, length, map, All, AllPairs, IfErr, IfOk, IsErr, IsErrOf, OnErr, OnOk};
 ghost use Rattle.jass_base.specs.Gaps.{AreDocs};
 ghost use Rattle.jass_base.specs.Outside.{Appended, Rose, Sets};
 ghost use Rattle.jass_base.specs.Segments.{SharesNoDocument};
@@ -10,6 +10,7 @@ ghost use Rattle.index_layout.specs.Layout.{file_length, front_bytes};
 ghost use Rattle.index_write.specs.Chosen.{chosen_heads, chosen_payloads, head_data};
 ghost use Rattle.index_write.specs.Saving.{LeavesPrefix, Untouched};
 ghost use Rattle.index_write.specs.Streaming.{AreEntries, AreNames, Unappended, Unappending, Unbegun, behind_term, change_of, entries_totals, entry_data, heads_left, next_heads};
+ghost use Rattle.jass_base.specs.declared.limits.TheConstants.{LONGEST_FILE};
 
 use crate::bytes::front_of;
 use crate::change::same_heads;
@@ -40,7 +41,8 @@ pub struct IndexWriter {
 
 impl Model for IndexWriter {
     ghost use Rattle.std.specs.Prelude.{map};
-    ghost use Rattle.index_write.specs.Streaming.{IsWriter, WriterView, entry_data, writer_view};
+    ghost use Rattle.index_write.specs.Streaming.{WriterView, entry_data, writer_view};
+    ghost use Rattle.index_write.specs.Private.Writer.{IsWriter};
 
     ghost Value = { WriterView };
 
@@ -69,7 +71,7 @@ impl IndexWriter {
         ensures left { IfOk result (λ writer. writer.left ≡ length terms) }
         ensures content { OnOk result (Sets (C.told files.old) (C.told files.new) name.now
             (front_bytes names (map entry_data terms))) }
-        ensures fits { OnOk result (file_length names (map entry_data terms) ≤ 2 ^ 32) }
+        ensures fits { OnOk result (file_length names (map entry_data terms) ≤ LONGEST_FILE) }
         ensures fault { IfErr result (Unbegun (file_length names (map entry_data terms))) }
         ensures untouched { IfErr result (Untouched files.old files.new) }
         ensures front { OnErr result (LeavesPrefix (C.told files.old) (C.told files.new) name.now

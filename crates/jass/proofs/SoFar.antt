@@ -1,14 +1,10 @@
 -- The words of the first arguments.
-use Rattle.std.proofs.Common.{◌≡◌, ℕ, zero, suc, ◌+◌, ◌≤◌, List, [], ◌∷◌, ◌++◌, length, take, drop, map, Bool, true, false, Option, Some, None, String, Global, refl, sym, ap, ◌∙◌, arith, length-append}
-use Rattle.std.proofs.lemmas.Bool.Decides.{nat_tests}
-use Rattle.std.specs.Option.{option_map}
-use Rattle.std.specs.Prelude.{slice_get, nat_le, ⊤, ◌&&◌, if◌then◌else◌}
-use Rattle.std.specs.Str.{is_utf8, IsUtf8}
-use Rattle.std.specs.String.{string_bytes}
-use Rattle.std.proofs.lemmas.List.{map-append, length-map}
-use Rattle.std.proofs.lemmas.Str.{IsUtf8-from_is_utf8, is_utf8-from_IsUtf8}
+use Rattle.shared_lemmas.proofs.Common.{◌≡◌, ℕ, zero, suc, ◌+◌, ◌≤◌, List, [], ◌∷◌, ◌++◌, length, take, drop, map, Bool, true, false, Option, Some, None, String, refl, sym, ap, ◌∙◌, arith, nat_tests, option_map, slice_get, nat_le, ⊤, ◌&&◌, if◌then◌else◌, is_utf8, IsUtf8, string_bytes, map-append}
+use Rattle.shared_lemmas.proofs.Common.{length-map, IsUtf8-from_is_utf8, is_utf8-from_IsUtf8}
+use Rattle.std.proofs.Common.{Global, length-append}
 use Rattle.jass_words.specs.Words.{texts}
-use Rattle.jass.specs.CommandLine.{GivesWord, word_of, long_word}
+use Rattle.jass.specs.CommandLine.{word_of, long_word}
+use Rattle.jass.specs.Private.Words.{GivesWord}
 
 abbrev pub SoFar : Option (List (List ℕ)) → List (List ℕ) → Type 0
 SoFar None words = ⊤
@@ -16,9 +12,7 @@ SoFar (Some arguments) words = words ≡ map word_of (take (length words) (drop 
 
 grown : (rest : List (List ℕ)) (n : ℕ) (a : List ℕ) → slice_get rest n ≡ Some a → take (suc n) rest ≡ take n rest ++ a ∷ []
 grown [] n a is = cc
-grown (x ∷ rest) zero a is =
-    let same : x ≡ a = cc in
-    ap (λ (w : List ℕ). w ∷ []) same
+grown (x ∷ rest) zero a is = let same : x ≡ a = cc in ap (λ (w : List ℕ). w ∷ []) same
 grown (x ∷ rest) (suc n) a is = ap (λ (ws : List (List ℕ)). x ∷ ws) (grown rest n a is)
 
 behind_first : (arguments : List (List ℕ)) (n : ℕ) → slice_get arguments (suc n) ≡ slice_get (drop 1 arguments) n

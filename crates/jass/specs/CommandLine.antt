@@ -1,7 +1,6 @@
 -- The words that a program's arguments give.
 use Rattle.std.specs.Prelude.{ℕ, ◌≡◌, ◌<◌, ◌&&◌, List, length, take, drop, map, Option, Some, None, Result, Ok, Err, ⊤, IsSomeAnd, codes, nat_le, slice_get, if◌then◌else◌}
 use Rattle.std.specs.List.{repeat}
-use Rattle.std.specs.Option.{option_map}
 use Rattle.std.specs.Str.{is_utf8}
 use Rattle.std.specs.declared.env.FillError.{FillError}
 use Rattle.std.specs.declared.env.FillError.TheVariants.{NotPresent, TooLong}
@@ -20,11 +19,6 @@ long_word = repeat 65536 (codes "x")
 -- the word of an argument: its bytes, or the long word where they are no text or are longer than that
 abbrev pub word_of : List ℕ → List ℕ
 word_of argument = if nat_le (length argument) 65536 && is_utf8 argument then argument else long_word
-
--- the word of the argument at a place, or None where there is none, where the arguments are told
-abbrev pub GivesWord : Option (List (List ℕ)) → ℕ → Option (List ℕ) → Type 0
-GivesWord None place word = ⊤
-GivesWord (Some arguments) place word = word ≡ option_map word_of (slice_get arguments place)
 
 -- the words of the arguments behind the program's name, in their order, where the arguments are told
 abbrev pub AreWords : Option (List (List ℕ)) → List (List ℕ) → Type 0

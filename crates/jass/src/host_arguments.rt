@@ -1,5 +1,4 @@
 ghost use Rattle.std.specs.Prelude.{None};
-ghost use Rattle.std.specs.Io.{WritesAtMost};
 
 use crate::arguments::Arguments;
 use std::env::{Env, FillError};

@@ -1,8 +1,9 @@
-ghost use Rattle.std.specs.Prelude.{ℕ, ◌≡◌, ◌≤◌, IfOk, length};
+ghost use Rattle.std.specs.Prelude.{◌≡◌, ◌≤◌, IfOk, length};
 ghost use Rattle.std.specs.Option.{option_map};
 ghost use Rattle.std.specs.String.{string_bytes};
 ghost use Rattle.jass_words.specs.Words.{texts};
-ghost use Rattle.jass.specs.CommandLine.{AreWords, GivesWord, word_of, long_word};
+ghost use Rattle.jass.specs.CommandLine.{AreWords, word_of, long_word};
+ghost use Rattle.jass.specs.Private.Words.{GivesWord};
 
 use crate::arguments::Arguments;
 use std::alloc::{AllocError, Global};

@@ -1,7 +1,5 @@
 -- A check that judges by what is read accepts exactly the payloads.
-use Rattle.std.proofs.Common.{◌≡◌, ℕ, ◌<◌, List, length, take, get_or, subst, Result, Ok, Err, refl}
-use Rattle.std.specs.Prelude.{IfOk, All}
-use Rattle.std.proofs.lemmas.List.{get_or_default}
+use Rattle.shared_lemmas.proofs.Common.{◌≡◌, ℕ, ◌<◌, List, length, take, get_or, subst, Result, Ok, Err, refl, IfOk, All, get_or_default}
 use Rattle.jass_base.specs.declared.payload_fault.PayloadFault.{PayloadFault}
 use Rattle.jass_base.specs.Codecs.{Checks, ChecksInto}
 use Rattle.jass_base.specs.Gaps.{AreDocs, Accepts, Judges}

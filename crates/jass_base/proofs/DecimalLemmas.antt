@@ -1,20 +1,13 @@
 -- Digit by digit, and the number of all of them.
-use Rattle.std.proofs.Common.{◌≡◌, ◌==◌, ℕ, ◌+◌, ◌*◌, ◌^◌, ◌<◌, ◌≤◌, Bool, true, false, ◌&&◌, List, [], ◌∷◌, length, Some, None, nat_lt, nat_le, if◌then◌else◌, refl, sym, ap, ◌∙◌, arith}
-use Rattle.std.specs.Char.{digit_value, is_ascii_digit}
-use Rattle.std.specs.List.{list_all}
-use Rattle.std.specs.Str.Parse.{digits_value, digits_value_after}
-use Rattle.std.proofs.lemmas.Bool.Decides.{nat_tests}
+use Rattle.shared_lemmas.proofs.Common.{◌≡◌, ◌==◌, ℕ, ◌+◌, ◌*◌, ◌^◌, ◌<◌, ◌≤◌, Bool, true, false, ◌&&◌, List, [], ◌∷◌, length, Some, None, nat_lt, nat_le, if◌then◌else◌, refl, sym, ap, ◌∙◌, arith, digit_value, is_ascii_digit, list_all, digits_value, digits_value_after, nat_tests, and-false}
 use borrow.Author.Tests.{ltb-true, ltb-false}
-use Rattle.jass_base.specs.Decimal.{decimal_of, value_after}
+use Rattle.jass_base.specs.Decimal.{decimal_of}
+use Rattle.jass_base.specs.Private.Decimal.{value_after}
 
 -- more digits make no smaller number
 after_ge : (v : ℕ) (bs : List ℕ) → v ≤ digits_value_after 10 v bs
 after_ge v [] = omega arith
 after_ge v (b ∷ bs) = omega (arith, after_ge (v * 10 + digit_value b) bs)
-
-and-false : (x : Bool) → (x && false) ≡ false
-and-false true = refl
-and-false false = refl
 
 too_large : (n : ℕ) → 2 ^ 64 ≤ n → nat_lt n (2 ^ 64) ≡ false
 too_large n large = grind (arith, nat_tests)

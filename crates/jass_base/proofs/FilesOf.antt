@@ -1,16 +1,9 @@
 -- What a map of names and contents tells, by name, and after a change.
-use Rattle.std.proofs.Common.{◌≡◌, ℕ, List, [], ◌∷◌, ◌++◌, Option, Some, None, String, Vec, map, cond, Bool, true, false, unwrap_or, is_some, refl, sym, ap, ◌∙◌}
-use Rattle.std.specs.BTreeMap.{BTreeMap, UpdatesBy, IsUnchanged, IsEmpty, get_by_text, is_at}
-use Rattle.std.specs.Map.{lookup}
-use Rattle.std.specs.Option.{option_map}
-use Rattle.std.specs.Ordering.{nat_cmp, is_eq, eq_by_cmp}
-use Rattle.std.specs.String.{string_bytes, string_cmp}
+use Rattle.shared_lemmas.proofs.Common.{◌≡◌, ℕ, List, [], ◌∷◌, ◌++◌, Option, Some, None, String, Vec, map, cond, Bool, true, false, is_some, refl, sym, ap, ◌∙◌, BTreeMap, UpdatesBy, IsUnchanged, IsEmpty, get_by_text, is_at, lookup, option_map, nat_cmp, is_eq, eq_by_cmp, string_bytes, string_cmp}
+use Rattle.shared_lemmas.proofs.Common.{slice_cmp, empty, from_entries, get, insert, get-insert, get-from_entries, same_map, slice_cmp-IsAntisymmetric, nat_cmp-IsAntisymmetric, Global, btree_map_updates_text, is_eq-slice_cmp, nat_list_cmp_total, eq_by_cmp_equiv}
+use Rattle.std.proofs.Common.{unwrap_or}
 use Rattle.std.specs.Str.{bytes_eq}
-use Rattle.std.specs.Cmp.Lexicographic.{slice_cmp}
-use Rattle.std.specs.FinMap.{empty, find, from_entries, get, insert, get-insert, get-from_entries, same_map, slice_cmp-IsAntisymmetric, nat_cmp-IsAntisymmetric}
-use Rattle.std.specs.declared.alloc.Global.{Global}
-use Rattle.std.proofs.lemmas.Map.Text.{btree_map_updates_text, is_eq-slice_cmp}
-use Rattle.std.proofs.lemmas.Cmp.{nat_list_cmp_total, eq_by_cmp_equiv}
+use Rattle.std.specs.FinMap.{find}
 use Rattle.shared_lemmas.proofs.Texts.{equal_texts}
 use Rattle.jass_base.specs.FilesOf.{files_of, named}
 use Rattle.jass_base.specs.Outside.{Files, content_or_empty}
@@ -81,8 +74,7 @@ insert_same m bs content had =
 -- a content that grows by bytes
 pub files_of-grown : (m n : BTreeMap (String Global) (Vec ℕ Global)) (bs bytes : List ℕ) (had v : Vec ℕ Global) → get_by_text m bs ≡ Some had
     → v.items ≡ had.items ++ bytes → UpdatesBy string_cmp (λ k. slice_cmp nat_cmp bs (string_bytes k)) m n (Some v) → files_of n ≡ insert (files_of m) bs (content_or_empty (files_of m) bs ++ bytes)
-files_of-grown m n bs bytes had v was is updates =
-    files_of-set m n bs _ v (is ∙ ap (λ (xs : List ℕ). xs ++ bytes) (sym (content_there m bs had was))) updates
+files_of-grown m n bs bytes had v was is updates = files_of-set m n bs _ v (is ∙ ap (λ (xs : List ℕ). xs ++ bytes) (sym (content_there m bs had was))) updates
 
 -- a content that stays
 pub files_of-kept : (m n : BTreeMap (String Global) (Vec ℕ Global)) (bs : List ℕ) (had v : Vec ℕ Global) → get_by_text m bs ≡ Some had → v.items ≡ had.items → UpdatesBy string_cmp (λ k. slice_cmp nat_cmp bs (string_bytes k)) m n (Some v) → files_of n ≡ files_of m

@@ -1,7 +1,7 @@
 -- How many bytes the shortest varint of a gap has, and bytes that begin with it.
-use Rattle.std.proofs.Common.{◌≡◌, ℕ, suc, ◌+◌, ◌*◌, ◌/◌, ◌%◌, ◌^◌, ◌<◌, ◌≤◌, List, [], ◌∷◌, length, take, refl, ap, ◌∙◌, arith, inl, inr}
-use Rattle.std.proofs.lemmas.Bool.{cases_lt, lt-ltb, le-ltb}
+use Rattle.shared_lemmas.proofs.Common.{◌≡◌, ℕ, suc, ◌+◌, ◌*◌, ◌/◌, ◌%◌, ◌^◌, ◌<◌, ◌≤◌, List, [], ◌∷◌, length, take, refl, ap, ◌∙◌, arith, inl, inr, cases_lt, lt-ltb, le-ltb}
 use Rattle.jass_base.specs.Wire.{short_varint, short_varint_within}
+use Rattle.jass_base.proofs.ShortVarints.{last_group, more_groups}
 
 one : (k n : ℕ) → n < 128 → length (short_varint_within (suc k) n) ≡ 1
 one k n low = rw (lt-ltb _ _ low) refl
@@ -86,13 +86,6 @@ groups_begin gap x y z fits x0 x1 y0 y1 z0 z1 =
     (step 6 (gap / 128 / 128) z _ (λ l. z0 (omega (arith, l))) (λ m. z1 (omega (arith, m)))
     (last_begins 5 (gap / 128 / 128 / 128) [] (omega arith)))))
 
--- five bytes
-group_more : (k n : ℕ) → 128 ≤ n → short_varint_within (suc k) n ≡ (n % 128 + 128) ∷ short_varint_within k (n / 128)
-group_more k n high = rw (le-ltb _ _ high) refl
-
-group_last : (k n : ℕ) → n < 128 → short_varint_within (suc k) n ≡ n ∷ []
-group_last k n low = rw (lt-ltb _ _ low) refl
-
 pub five_groups : (gap : ℕ) → 268435456 ≤ gap → gap < 2 ^ 32
     → short_varint gap ≡ (gap % 128 + 128) ∷ (gap / 128 % 128 + 128) ∷ (gap / 16384 % 128 + 128) ∷ (gap / 2097152 % 128 + 128) ∷ gap / 268435456 ∷ []
 unfolding short_varint
@@ -100,8 +93,8 @@ five_groups gap high fits =
     let third : gap / 16384 ≡ gap / 128 / 128 = omega arith in
     let fourth : gap / 2097152 ≡ gap / 128 / 128 / 128 = omega arith in
     let fifth : gap / 268435456 ≡ gap / 128 / 128 / 128 / 128 = omega arith in
-    let last = group_last 4 (gap / 128 / 128 / 128 / 128) (omega arith) in
-    let two = group_more 5 (gap / 128 / 128 / 128) (omega arith) ∙ ap (λ (s : List ℕ). (gap / 128 / 128 / 128 % 128 + 128) ∷ s) last in
-    let three = group_more 6 (gap / 128 / 128) (omega arith) ∙ ap (λ (s : List ℕ). (gap / 128 / 128 % 128 + 128) ∷ s) two in
-    let four = group_more 7 (gap / 128) (omega arith) ∙ ap (λ (s : List ℕ). (gap / 128 % 128 + 128) ∷ s) three in
-    rw (third, fourth, fifth) (group_more 8 gap (omega arith) ∙ ap (λ (s : List ℕ). (gap % 128 + 128) ∷ s) four)
+    let last = last_group 5 (gap / 128 / 128 / 128 / 128) (omega arith) in
+    let two = more_groups 5 (gap / 128 / 128 / 128) (omega arith) ∙ ap (λ (s : List ℕ). (gap / 128 / 128 / 128 % 128 + 128) ∷ s) last in
+    let three = more_groups 6 (gap / 128 / 128) (omega arith) ∙ ap (λ (s : List ℕ). (gap / 128 / 128 % 128 + 128) ∷ s) two in
+    let four = more_groups 7 (gap / 128) (omega arith) ∙ ap (λ (s : List ℕ). (gap / 128 % 128 + 128) ∷ s) three in
+    rw (third, fourth, fifth) (more_groups 8 gap (omega arith) ∙ ap (λ (s : List ℕ). (gap % 128 + 128) ∷ s) four)

@@ -1,10 +1,6 @@
 -- A gap that is read group by group.
-use Rattle.std.proofs.Common.{◌≡◌, ℕ, zero, suc, ◌+◌, ◌-◌, ◌*◌, ◌%◌, ◌^◌, ◌<◌, ◌≤◌, ◌≢◌, ◌==◌, true, false, cond, List, [], ◌∷◌, length, get_or, drop, Result, Ok, Err, refl, sym, ap, ◌∙◌, subst, inl, inr, arith, add-one, drop-cons}
-use Rattle.std.specs.Prelude.{nat_lt, IsOk}
-use Rattle.std.proofs.lemmas.Bool.{cases_lt, cond-false}
-use Rattle.std.proofs.lemmas.Bool.Decides.{nat_tests}
-use Rattle.std.proofs.lemmas.List.{drop_all, length-drop, get_or-drop}
-use Rattle.std.proofs.Math.Nat.{pow-suc, pow-le-pow_right}
+use Rattle.shared_lemmas.proofs.Common.{◌≡◌, ℕ, zero, suc, ◌+◌, ◌-◌, ◌*◌, ◌%◌, ◌^◌, ◌<◌, ◌≤◌, ◌≢◌, ◌==◌, true, false, cond, List, [], ◌∷◌, length, get_or, drop, Result, Ok, Err, refl, sym, ap, ◌∙◌, subst, inl, inr, arith, add-one, drop-cons, nat_lt, IsOk, cases_lt, cond-false, nat_tests, drop_all}
+use Rattle.shared_lemmas.proofs.Common.{length-drop, get_or-drop, pow-suc}
 use Rattle.shared_lemmas.proofs.Numbers.{value_small}
 use Rattle.jass_base.specs.declared.payload_fault.PayloadFault.{PayloadFault}
 use Rattle.jass_base.specs.declared.payload_fault.PayloadFault.TheVariants.{Cut, Shape}
@@ -69,12 +65,6 @@ one_group (b ∷ bytes) gap some high byte is =
     let low : b % 128 ≡ gap = omega arith in
     record { scale_is = omega arith; below = omega arith; inside = omega arith; read = groups_more 3 b bytes large ∙ rw (← low) refl }
 
-pub scale_small : (i scale : ℕ) → i < 4 → scale ≡ 128 ^ i → scale ≤ 128 ^ 3
-scale_small i scale few is = let below : i ≤ 3 = omega arith in rw is (pow-le-pow_right {n = 128} (omega arith) {i = i} {j = 3} below)
-
-pub group_small : (b scale : ℕ) → b < 128 → scale ≤ 128 ^ 3 → b * scale ≤ 127 * 128 ^ 3
-group_small b scale small few = grind arith
-
 module _ (bytes : List ℕ) (i gap scale : ℕ) (far : SoFar bytes i gap scale) (few : i < 4) where
   left : 4 - i ≡ suc (3 - i)
   left = omega arith
@@ -83,8 +73,7 @@ module _ (bytes : List ℕ) (i gap scale : ℕ) (far : SoFar bytes i gap scale) 
   ends_cut short = far.read ∙ rw (left, drop_all i bytes short, none_within (3 - i)) refl
 
   pub ends_shape : i < length bytes → get_or bytes i 0 ≡ 0 → gap_in bytes ≡ Err Shape
-  ends_shape within is =
-      far.read ∙ rw (left, drop-cons bytes i 0 within, is, one_within (3 - i) 0 (drop (suc i) bytes) refl) refl
+  ends_shape within is = far.read ∙ rw (left, drop-cons bytes i 0 within, is, one_within (3 - i) 0 (drop (suc i) bytes) refl) refl
 
   pub ends_group : (b size : ℕ) → i < length bytes → b ≡ get_or bytes i 0 → b ≢ 0 → b < 128 → size ≡ i + 1 → gap_in bytes ≡ spelled (gap + b * scale) size
   ends_group b size within is some small place =
@@ -113,9 +102,7 @@ ends_long bytes gap scale far = far.read
 -- a gap of one group, and none
 pub one_byte : (bytes : List ℕ) (at : ℕ) → at < length bytes → get_or bytes at 0 < 128 → gap_in (drop at bytes) ≡ spelled (get_or bytes at 0) 1
 unfolding gap_in
-one_byte bytes at inside small =
-    let low : nat_lt (get_or bytes at 0) 128 ≡ true = grind (arith, nat_tests) in
-    rw (drop-cons bytes at 0 inside, low) refl
+one_byte bytes at inside small = let low : nat_lt (get_or bytes at 0) 128 ≡ true = grind (arith, nat_tests) in rw (drop-cons bytes at 0 inside, low) refl
 
 pub no_byte : (bytes : List ℕ) (at : ℕ) → length bytes ≤ at → gap_in (drop at bytes) ≡ Err Cut
 unfolding gap_in
@@ -124,9 +111,7 @@ no_byte bytes at past = rw (drop_all at bytes past) refl
 -- a gap of one group is its varint
 pub one_group_written : (gap : ℕ) → gap < 128 → short_varint gap ≡ gap ∷ []
 unfolding short_varint
-one_group_written gap small =
-    let low : nat_lt gap 128 ≡ true = grind (arith, nat_tests) in
-    rw low refl
+one_group_written gap small = let low : nat_lt gap 128 ≡ true = grind (arith, nat_tests) in rw low refl
 
 -- ---- where a gap is known to stand
 no_fault : (read : Result GapSpelling PayloadFault) (fault : PayloadFault) → IsOk read → read ≡ Err fault → ⊥
@@ -137,8 +122,20 @@ pub first_inside : (bytes : List ℕ) (at : ℕ) → IsOk (gap_in (drop at bytes
 first_inside bytes at known =
     elim (cases_lt at (length bytes)) [ inl l ↦ l | inr g ↦ absurd (no_fault (gap_in (drop at bytes)) Cut known (no_byte bytes at g)) ]
 
--- the groups of a gap that begins at a place, the first of which has more behind it
-module _ (bytes : List ℕ) (at first : ℕ) (within : at < length bytes) (high : 128 ≤ get_or bytes at 0) (byte : get_or bytes at 0 < 256) (is : first ≡ get_or bytes at 0 - 128) where
+-- the first group of a gap that begins at a place has more behind it
+pub record Begins (bytes : List ℕ) (at x : ℕ) : Type 0 where
+  pub within : at < length bytes
+  pub byte : (i : ℕ) → get_or bytes i 0 < 256
+  pub is : x ≡ get_or bytes at 0
+  pub high : 128 ≤ x
+
+pub begins : (bytes : List ℕ) (at : ℕ) {x : ℕ} → at < length bytes → ((i : ℕ) → get_or bytes i 0 < 256) → x ≡ get_or bytes at 0 → 128 ≤ x → Begins bytes at x
+begins bytes at within byte is high = record { within = within; byte = byte; is = is; high = high }
+
+pub known_begins : (bytes : List ℕ) (at : ℕ) {x : ℕ} → IsOk (gap_in (drop at bytes)) → ((i : ℕ) → get_or bytes i 0 < 256) → x ≡ get_or bytes at 0 → 128 ≤ x → Begins bytes at x
+known_begins bytes at known byte is high = begins bytes at (first_inside bytes at known) byte is high
+
+module _ {bytes : List ℕ} {at x : ℕ} (gap : Begins bytes at x) where
   abbrev pub here : List ℕ
   here = drop at bytes
 
@@ -148,54 +145,52 @@ module _ (bytes : List ℕ) (at first : ℕ) (within : at < length bytes) (high 
   at_place : (i b : ℕ) → b ≡ get_or bytes (at + i) 0 → b ≡ get_or here i 0
   at_place i b same = same ∙ sym (get_or-drop at bytes i 0)
 
-  pub after_one : SoFar here 1 first 128
+  pub after_one : SoFar here 1 (x - 128) 128
   after_one =
-      let same : get_or here 0 0 ≡ get_or bytes at 0 = get_or-drop at bytes 0 0 ∙ ap (λ n. get_or bytes n 0) (let e : at + 0 ≡ at = omega arith in e) in
-      one_group here first (omega (arith, long)) (omega (arith, same)) (omega (arith, same)) (omega (arith, same))
+      let w = gap.within in
+      let byte = gap.byte at in
+      let high = gap.high in
+      let same : get_or here 0 0 ≡ x = get_or-drop at bytes 0 0 ∙ ap (λ n. get_or bytes n 0) (let e : at + 0 ≡ at = omega arith in e) ∙ sym gap.is in
+      one_group here (x - 128) (omega (arith, long)) (omega (arith, same)) (omega (arith, same, gap.is)) (omega (arith, same))
 
-  pub after_group : (i gap scale b : ℕ) → SoFar here i gap scale → i < 4 → at + i < length bytes → b ≡ get_or bytes (at + i) 0 → 128 ≤ b → b < 256 → SoFar here (i + 1) (gap + (b - 128) * scale) (scale * 128)
-  after_group i gap scale b far few inside same top fits = one_more here i gap scale far few b (omega (arith, long)) (at_place i b same) top fits
+  after_group : {i low scale : ℕ} (b : ℕ) → SoFar here i low scale → i < 4 → at + i < length bytes → b ≡ get_or bytes (at + i) 0 → 128 ≤ b → SoFar here (i + 1) (low + (b - 128) * scale) (scale * 128)
+  after_group {i} {low} {scale} b far few inside same top = one_more here i low scale far few b (omega (arith, long)) (at_place i b same) top (omega (arith, same, gap.byte (at + i)))
 
-  pub after_two : (second : ℕ) → at + 1 < length bytes → second ≡ get_or bytes (at + 1) 0 → 128 ≤ second → second < 256 → SoFar here 2 (first + (second - 128) * 128) 16384
-  after_two second inside same top fits = after_group 1 first 128 second after_one (omega arith) inside same top fits
+  pub after_two : (y : ℕ) → at + 1 < length bytes → y ≡ get_or bytes (at + 1) 0 → 128 ≤ y → SoFar here 2 (x - 128 + (y - 128) * 128) 16384
+  after_two y inside same top = after_group y after_one (omega arith) inside same top
 
-  pub after_three : (second third : ℕ) → at + 2 < length bytes → second ≡ get_or bytes (at + 1) 0 → 128 ≤ second → second < 256 → third ≡ get_or bytes (at + 2) 0 → 128 ≤ third → third < 256
-      → SoFar here 3 (first + (second - 128) * 128 + (third - 128) * 16384) 2097152
-  after_three second third inside same top fits same_third top_third fits_third =
-      after_group 2 (first + (second - 128) * 128) 16384 third (after_two second (omega arith) same top fits) (omega arith) inside same_third top_third fits_third
+  pub after_three : (y z : ℕ) → at + 2 < length bytes → y ≡ get_or bytes (at + 1) 0 → 128 ≤ y → z ≡ get_or bytes (at + 2) 0 → 128 ≤ z
+      → SoFar here 3 (x - 128 + (y - 128) * 128 + (z - 128) * 16384) 2097152
+  after_three y z inside same top same_third top_third = after_group z (after_two y (omega arith) same top) (omega arith) inside same_third top_third
 
-  pub long_at : (i gap scale b : ℕ) → SoFar here i gap scale → i ≡ 3 → at + 3 < length bytes → b ≡ get_or bytes (at + 3) 0 → 128 ≤ b → b < 256 → gap_in here ≡ Err Shape
-  long_at i gap scale b far three inside same top fits =
-      let place : at + i ≡ at + 3 = omega arith in
-      let next : i + 1 ≡ 4 = omega arith in
-      ends_long here (gap + (b - 128) * scale) (scale * 128)
-      (subst (λ n. SoFar here n (gap + (b - 128) * scale) (scale * 128)) next (after_group i gap scale b far (omega arith) (omega arith) (same ∙ ap (λ n. get_or bytes n 0) (sym place)) top fits))
+  module _ {i low scale : ℕ} (far : SoFar here i low scale) where
+    pub long_at : (b : ℕ) → i ≡ 3 → at + 3 < length bytes → b ≡ get_or bytes (at + 3) 0 → 128 ≤ b → gap_in here ≡ Err Shape
+    long_at b three inside same top =
+        let place : at + i ≡ at + 3 = omega arith in
+        let next : i + 1 ≡ 4 = omega arith in
+        ends_long here (low + (b - 128) * scale) (scale * 128)
+        (subst (λ n. SoFar here n (low + (b - 128) * scale) (scale * 128)) next (after_group b far (omega arith) (omega arith) (same ∙ ap (λ n. get_or bytes n 0) (sym place)) top))
 
-  pub cut_at : (i gap scale : ℕ) → SoFar here i gap scale → i < 4 → length bytes - at ≤ i → gap_in here ≡ Err Cut
-  cut_at i gap scale far few short = ends_cut here i gap scale far few (omega (arith, long))
+    pub cut_at : i < 4 → length bytes - at ≤ i → gap_in here ≡ Err Cut
+    cut_at few short = ends_cut here i low scale far few (omega (arith, long))
 
-  pub zero_at : (i gap scale b : ℕ) → SoFar here i gap scale → i < 4 → at + i < length bytes → b ≡ get_or bytes (at + i) 0 → b ≡ 0 → gap_in here ≡ Err Shape
-  zero_at i gap scale b far few inside same none = ends_shape here i gap scale far few (omega (arith, long)) (sym (at_place i b same) ∙ none)
+    pub zero_at : (b : ℕ) → i < 4 → at + i < length bytes → b ≡ get_or bytes (at + i) 0 → b ≡ 0 → gap_in here ≡ Err Shape
+    zero_at b few inside same none = ends_shape here i low scale far few (omega (arith, long)) (sym (at_place i b same) ∙ none)
 
-  pub ends_at : (i gap scale b size : ℕ) → SoFar here i gap scale → i < 4 → at + i < length bytes → b ≡ get_or bytes (at + i) 0 → b ≢ 0 → b < 128 → size ≡ i + 1 → gap_in here ≡ spelled (gap + b * scale) size
-  ends_at i gap scale b size far few inside same some small place = ends_group here i gap scale far few b size (omega (arith, long)) (at_place i b same) some small place
+    pub ends_at : (b size : ℕ) → i < 4 → at + i < length bytes → b ≡ get_or bytes (at + i) 0 → b ≢ 0 → b < 128 → size ≡ i + 1 → gap_in here ≡ spelled (low + b * scale) size
+    ends_at b size few inside same some small place = ends_group here i low scale far few b size (omega (arith, long)) (at_place i b same) some small place
 
-  module _ (known : IsOk (gap_in here)) where
-    pub inside_at : (i gap scale : ℕ) → SoFar here i gap scale → i < 4 → at + i < length bytes
-    inside_at i gap scale far few =
-        elim (cases_lt (at + i) (length bytes)) [
-          | inl l ↦ l
-          | inr g ↦ absurd (no_fault (gap_in here) Cut known (cut_at i gap scale far few (omega arith)))
-        ]
+    module _ (known : IsOk (gap_in here)) where
+      pub inside_at : i < 4 → at + i < length bytes
+      inside_at few = elim (cases_lt (at + i) (length bytes)) [ inl l ↦ l | inr g ↦ absurd (no_fault (gap_in here) Cut known (cut_at few (omega arith))) ]
 
-    pub known_at : (i gap scale b size : ℕ) → SoFar here i gap scale → i < 4 → b ≡ get_or bytes (at + i) 0 → b < 128 → size ≡ i + 1 → gap_in here ≡ spelled (gap + b * scale) size
-    known_at i gap scale b size far few same small place =
-        let inside = inside_at i gap scale far few in
-        ends_at i gap scale b size far few inside same (λ none. no_fault (gap_in here) Shape known (zero_at i gap scale b far few inside same none)) small place
+      pub known_at : (b size : ℕ) → i < 4 → b ≡ get_or bytes (at + i) 0 → b < 128 → size ≡ i + 1 → gap_in here ≡ spelled (low + b * scale) size
+      known_at b size few same small place =
+          ends_at b size few (inside_at few) same (λ none. no_fault (gap_in here) Shape known (zero_at b few (inside_at few) same none)) small place
 
-    pub last_small : (gap scale b : ℕ) → SoFar here 3 gap scale → b ≡ get_or bytes (at + 3) 0 → b < 256 → b < 128
-    last_small gap scale b far same fits =
-        elim (cases_lt b 128) [
-          | inl l ↦ l
-          | inr g ↦ absurd (no_fault (gap_in here) Shape known (long_at 3 gap scale b far refl (inside_at 3 gap scale far (omega arith)) same g fits))
-        ]
+      pub last_small : (b : ℕ) → i ≡ 3 → b ≡ get_or bytes (at + 3) 0 → b < 128
+      last_small b three same =
+          elim (cases_lt b 128) [
+            | inl l ↦ l
+            | inr g ↦ absurd (no_fault (gap_in here) Shape known (long_at b three (let inside = inside_at (omega arith) in omega arith) same g))
+          ]

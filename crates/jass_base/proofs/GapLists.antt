@@ -1,17 +1,12 @@
 -- Documents and the bytes that spell their gaps.
-use Rattle.std.proofs.Common.{◌≡◌, ℕ, zero, suc, ◌+◌, ◌-◌, ◌^◌, ◌<◌, ◌≤◌, ◌==◌, true, cond, List, [], ◌∷◌, ◌++◌, length, drop, sum, All, Result, Ok, Err, refl, sym, ap, ◌∙◌, subst, arith}
-use Rattle.std.specs.Prelude.{nat_lt}
-use Rattle.std.proofs.lemmas.Bool.Decides.{nat_tests}
-use Rattle.std.proofs.lemmas.List.{take-append-drop}
-use Rattle.std.proofs.lemmas.List.Elements.{All-drop}
-use Rattle.std.proofs.lemmas.List.Sums.{sum_by-cons}
-use Rattle.std.proofs.Math.Seq.{drop-append_seam}
+use Rattle.shared_lemmas.proofs.Common.{◌≡◌, ℕ, zero, suc, ◌+◌, ◌-◌, ◌^◌, ◌<◌, ◌≤◌, ◌==◌, true, cond, List, [], ◌∷◌, ◌++◌, length, drop, sum, All, Result, Ok, Err, refl, sym, ap, ◌∙◌, subst, arith, nat_lt, nat_tests, take-append-drop, All-drop, sum_by-cons, drop-append_seam}
 use Rattle.jass_base.specs.declared.payload_fault.PayloadFault.{PayloadFault}
 use Rattle.jass_base.specs.declared.payload_fault.PayloadFault.TheVariants.{Longer, DocRange}
 use Rattle.jass_base.specs.Gaps.{GapSpelling, ◌>>=◌, gaps_from, docs_from, spelled_gaps, gap_in, read_gaps}
 use Rattle.jass_base.specs.Wire.{short_varint}
 use Rattle.jass_base.proofs.Gaps.{RiseFrom, docs_again, below_room, length-gaps_from}
-use Rattle.jass_base.proofs.GapSpelling.{bound, if_ok, ok_same, gap_found, gap_spells}
+use Rattle.jass_base.proofs.GapSpelling.{bound, gap_found, gap_spells}
+use Rattle.shared_lemmas.proofs.Results.{if_ok, ok_same}
 
 pub gaps_found : (d least : ℕ) (gaps : List ℕ) → least + sum gaps + length gaps ≤ d → d ≤ 2 ^ 28 → read_gaps d least (length gaps) (spelled_gaps gaps) ≡ Ok (docs_from least gaps)
 gaps_found d least [] room limit = refl

@@ -1,16 +1,25 @@
 -- A gap and its shortest varint.
-use Rattle.std.proofs.Common.{◌≡◌, ℕ, zero, suc, ◌+◌, ◌*◌, ◌/◌, ◌%◌, ◌^◌, ◌<◌, ◌≤◌, ◌==◌, Bool, true, false, cond, List, [], ◌∷◌, ◌++◌, length, take, All, Result, Ok, Err, refl, ap, subst, arith, add-one}
-use Rattle.std.specs.Prelude.{nat_lt}
-use Rattle.std.proofs.lemmas.Bool.Decides.{nat_tests}
-use Rattle.std.proofs.Math.Nat.{pow-suc}
+use Rattle.shared_lemmas.proofs.Common.{◌≡◌, ℕ, zero, suc, ◌+◌, ◌*◌, ◌/◌, ◌%◌, ◌^◌, ◌<◌, ◌≤◌, ◌==◌, Bool, true, false, cond, List, [], ◌∷◌, ◌++◌, length, take, All, Result, Ok, Err, refl, ap, subst, arith, add-one, nat_lt, nat_tests, pow-suc}
 use Rattle.shared_lemmas.proofs.Numbers.{power_some}
 use Rattle.jass_base.specs.declared.payload_fault.PayloadFault.{PayloadFault}
 use Rattle.jass_base.specs.declared.payload_fault.PayloadFault.TheVariants.{Shape}
 use Rattle.jass_base.specs.Gaps.{GapSpelling, ◌>>=◌, gap_within, gap_in}
 use Rattle.jass_base.specs.Wire.{short_varint, short_varint_within}
+use Rattle.shared_lemmas.proofs.Results.{if_ok, unless_ok, ok_same}
 
 abbrev pub spelled : ℕ → ℕ → Result GapSpelling PayloadFault
 spelled gap size = Ok (record { gap = gap; size = size })
+
+pub spelled_same : (g h m n : ℕ) → spelled g m ≡ spelled h n → (g ≡ h) × (m ≡ n)
+spelled_same g h m n is =
+    let x : GapSpelling = record { gap = g; size = m } in
+    let y : GapSpelling = record { gap = h; size = n } in
+    let e : x ≡ y = cc in
+    (ap (λ (r : GapSpelling). r.gap) e, ap (λ (r : GapSpelling). r.size) e)
+
+-- the law of reading gaps
+abbrev pub GapFound : Type 0
+GapFound = (gap : ℕ) (rest : List ℕ) → gap < 2 ^ 28 → gap_in (short_varint gap ++ rest) ≡ spelled gap (length (short_varint gap))
 
 -- what a gap of at least two groups is, by the groups behind the first
 abbrev pub with_first : ℕ → GapSpelling → Result GapSpelling PayloadFault
@@ -21,25 +30,10 @@ pub bound : {A B : Type 0} (r : Result A PayloadFault) (f : A → Result B Paylo
 bound (Ok x) f y is = (x, refl, is)
 bound (Err fault) f y is = absurd cc
 
-pub if_ok : {A : Type 0} (test : Bool) (r : Result A PayloadFault) (fault : PayloadFault) (y : A) → cond test r (Err fault) ≡ Ok y → (test ≡ true) × (r ≡ Ok y)
-if_ok true r fault y is = (refl, is)
-if_ok false r fault y is = absurd cc
-
-pub else_ok : {A : Type 0} (test : Bool) (r : Result A PayloadFault) (fault : PayloadFault) (y : A) → cond test (Err fault) r ≡ Ok y → (test ≡ false) × (r ≡ Ok y)
-else_ok true r fault y is = absurd cc
-else_ok false r fault y is = (refl, is)
-
-pub ok_same : {A : Type 0} (x y : A) → (let r : Result A PayloadFault = Ok x in r) ≡ Ok y → x ≡ y
-ok_same x y is = cc
-
 -- each gap is read
 pub within_found : (k m gap : ℕ) (rest : List ℕ) → k ≤ m → gap < 128 * 128 ^ k → gap_within k (short_varint_within m gap ++ rest) ≡ spelled gap (length (short_varint_within m gap))
-within_found zero zero gap rest fewer small =
-    let low : nat_lt gap 128 ≡ true = grind (arith, nat_tests) in
-    rw low refl
-within_found zero (suc m) gap rest fewer small =
-    let low : nat_lt gap 128 ≡ true = grind (arith, nat_tests) in
-    rw low (rw low refl)
+within_found zero zero gap rest fewer small = let low : nat_lt gap 128 ≡ true = grind (arith, nat_tests) in rw low refl
+within_found zero (suc m) gap rest fewer small = let low : nat_lt gap 128 ≡ true = grind (arith, nat_tests) in rw low (rw low refl)
 within_found (suc k) zero gap rest fewer small = absurd (omega arith)
 within_found (suc k) (suc m) gap rest fewer small = go (nat_lt gap 128) refl (λ less. within_found k m (gap / 128) rest (omega arith) less)
   where
@@ -86,7 +80,7 @@ is_read (suc k) (b ∷ bytes) read is = go (nat_lt b 128) refl is (λ rest h. is
     go true low is more = one_read (suc k) b bytes read (grind (arith, nat_tests)) is
     go false large is more =
         let x = bound (gap_within k bytes) (with_first b) read is in
-        let t = else_ok (x.0.gap == 0) (spelled (b % 128 + 128 * x.0.gap) (x.0.size + 1)) Shape read x.2 in
+        let t = unless_ok (x.0.gap == 0) Shape (spelled (b % 128 + 128 * x.0.gap) (x.0.size + 1)) read x.2 in
         more_read k b bytes x.0 read (more x.0 x.1) t.1
 
 -- and is the shortest varint
@@ -109,9 +103,7 @@ more_spells m b bytes rest read far high byte some is =
 pub spells : (k m : ℕ) (bytes : List ℕ) (read : GapSpelling) → k ≤ m → All (λ byte. byte < 256) bytes → gap_within k bytes ≡ Ok read → Spells m bytes read
 spells zero m [] read fewer all is = absurd cc
 spells (suc k) m [] read fewer all is = absurd cc
-spells zero m (b ∷ bytes) read fewer all is =
-    let t = if_ok (nat_lt b 128) (spelled b 1) Shape read is in
-    one_spells m b bytes read t.0 t.1
+spells zero m (b ∷ bytes) read fewer all is = let t = if_ok (nat_lt b 128) (spelled b 1) Shape read is in one_spells m b bytes read t.0 t.1
 spells (suc k) zero (b ∷ bytes) read fewer all is = absurd (omega arith)
 spells (suc k) (suc m) (b ∷ bytes) read fewer all is = go (nat_lt b 128) refl is (λ rest h. spells k m bytes rest (omega arith) (λ i d s. all (suc i) d (omega arith)) h)
   where
@@ -121,7 +113,7 @@ spells (suc k) (suc m) (b ∷ bytes) read fewer all is = go (nat_lt b 128) refl 
     go false large is more =
         let high : 128 ≤ b = grind (arith, nat_tests) in
         let x = bound (gap_within k bytes) (with_first b) read is in
-        let t = else_ok (x.0.gap == 0) (spelled (b % 128 + 128 * x.0.gap) (x.0.size + 1)) Shape read x.2 in
+        let t = unless_ok (x.0.gap == 0) Shape (spelled (b % 128 + 128 * x.0.gap) (x.0.size + 1)) read x.2 in
         let not_zero = t.0 in
         let some : 1 ≤ x.0.gap = grind (arith, nat_tests) in
         more_spells m b bytes x.0 read (more x.0 x.1) high (all 0 0 (omega arith)) some t.1

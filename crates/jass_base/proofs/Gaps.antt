@@ -1,10 +1,8 @@
 -- Documents and their gaps.
-use Rattle.std.proofs.Common.{◌≡◌, ℕ, zero, suc, ◌+◌, ◌-◌, ◌<◌, ◌≤◌, List, [], ◌∷◌, ◌++◌, length, get_or, sum, All, refl, ap, ◌∙◌, arith}
-use Rattle.std.specs.Prelude.{⊤}
-use Rattle.std.specs.List.Sorted.{IsStrictlyIncreasing}
-use Rattle.std.proofs.lemmas.List.Sums.{sum_by-cons}
+use Rattle.shared_lemmas.proofs.Common.{◌≡◌, ℕ, zero, suc, ◌+◌, ◌-◌, ◌<◌, ◌≤◌, List, [], ◌∷◌, ◌++◌, length, get_or, sum, All, refl, ap, ◌∙◌, arith, ◌^◌, ⊤, IsStrictlyIncreasing, sum_by-cons}
 use Rattle.shared_lemmas.proofs.Places.{read_behind}
-use Rattle.jass_base.specs.Gaps.{gaps_from, docs_from}
+use Rattle.jass_base.specs.Gaps.{gaps_from, docs_from, AreDocs}
+use Rattle.shared_lemmas.proofs.Rising.{few_below}
 
 -- documents that rise from a least one on
 abbrev pub RiseFrom : ℕ → List ℕ → Type 0
@@ -30,9 +28,7 @@ rising least (doc ∷ next ∷ docs) rise (suc k) h = rw (read_behind doc (next 
 pub from_least : (least low : ℕ) (docs : List ℕ) → RiseFrom least docs → low ≤ least → All (λ doc. low ≤ doc) docs
 from_least least low [] rise lower k d h = absurd (omega arith)
 from_least least low (doc ∷ docs) rise lower zero d h = let up = rise.0 in omega arith
-from_least least low (doc ∷ docs) rise lower (suc k) d h =
-    let up = rise.0 in
-    from_least (doc + 1) low docs rise.1 (omega arith) k d (omega arith)
+from_least least low (doc ∷ docs) rise lower (suc k) d h = let up = rise.0 in from_least (doc + 1) low docs rise.1 (omega arith) k d (omega arith)
 
 pub docs_again : (least : ℕ) (docs : List ℕ) → RiseFrom least docs → docs_from least (gaps_from least docs) ≡ docs
 docs_again least [] rise = refl
@@ -43,9 +39,7 @@ docs_again least (doc ∷ docs) rise =
 
 pub gaps_again : (least : ℕ) (gaps : List ℕ) → gaps_from least (docs_from least gaps) ≡ gaps
 gaps_again least [] = refl
-gaps_again least (gap ∷ gaps) =
-    let is : least + gap - least ≡ gap = omega arith in
-    rw is (ap (λ (xs : List ℕ). gap ∷ xs) (gaps_again (least + gap + 1) gaps))
+gaps_again least (gap ∷ gaps) = let is : least + gap - least ≡ gap = omega arith in rw is (ap (λ (xs : List ℕ). gap ∷ xs) (gaps_again (least + gap + 1) gaps))
 
 pub rises : (least : ℕ) (gaps : List ℕ) → RiseFrom least (docs_from least gaps)
 rises least [] = tt
@@ -78,8 +72,7 @@ gaps_below d least (doc ∷ docs) below (suc k) e h = gaps_below d (doc + 1) doc
 pub room_below : (d least : ℕ) (gaps : List ℕ) → least + sum gaps + length gaps ≤ d → All (λ doc. doc < d) (docs_from least gaps)
 room_below d least [] room k e h = absurd (omega arith)
 room_below d least (gap ∷ gaps) room zero e h = omega (arith, sum_by-cons (λ y. y) gap gaps)
-room_below d least (gap ∷ gaps) room (suc k) e h =
-    room_below d (least + gap + 1) gaps (omega (arith, sum_by-cons (λ y. y) gap gaps)) k e (omega arith)
+room_below d least (gap ∷ gaps) room (suc k) e h = room_below d (least + gap + 1) gaps (omega (arith, sum_by-cons (λ y. y) gap gaps)) k e (omega arith)
 
 pub below_room : (d least : ℕ) (gaps : List ℕ) → least ≤ d → All (λ doc. doc < d) (docs_from least gaps) → least + sum gaps + length gaps ≤ d
 below_room d least [] start below = omega arith
@@ -87,3 +80,7 @@ below_room d least (gap ∷ gaps) start below =
     let low = below 0 0 (omega arith) in
     let rest = below_room d (least + gap + 1) gaps (omega arith) (λ i x s. below (suc i) x (omega arith)) in
     omega (arith, rest, sum_by-cons (λ y. y) gap gaps)
+
+-- documents are no more than there may be
+pub docs_few : (d : ℕ) (docs : List ℕ) → AreDocs d docs → length docs ≤ 2 ^ 26
+docs_few d docs are = let limit = are.limit in omega (arith, limit, few_below docs d are.rising are.below)

@@ -10,3 +10,5 @@ pub mod Gaps
 pub mod ShortVarints
 pub mod Sinks
 pub mod Writing
+pub mod Contents
+pub mod Fitting

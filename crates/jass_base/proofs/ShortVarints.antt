@@ -1,8 +1,5 @@
 -- The shortest varint of a number.
-use Rattle.std.proofs.Common.{◌≡◌, ℕ, zero, suc, ◌+◌, ◌*◌, ◌^◌, ◌%◌, ◌/◌, ◌<◌, ◌≤◌, ◌≢◌, Bool, true, false, cond, List, [], ◌∷◌, length, All, refl, ap, ◌∙◌, arith}
-use Rattle.std.specs.Prelude.{nat_lt}
-use Rattle.std.proofs.Math.Nat.{pow-suc}
-use Rattle.std.proofs.lemmas.Bool.Decides.{nat_tests}
+use Rattle.shared_lemmas.proofs.Common.{◌≡◌, ℕ, zero, suc, ◌+◌, ◌*◌, ◌^◌, ◌%◌, ◌/◌, ◌<◌, ◌≤◌, ◌≢◌, Bool, true, false, cond, List, [], ◌∷◌, length, All, refl, ap, ◌∙◌, arith, nat_lt, pow-suc, nat_tests}
 use Rattle.jass_base.specs.Wire.{groups_value, AreGroups, EndsInBits, IsShortVarint, short_varint_within, short_varint}
 
 -- what is proved of so many groups of a number
@@ -64,3 +61,24 @@ within_one (suc k) n (b ∷ c ∷ s) bytes groups short value ends =
 pub shortest_is_short : (s : List ℕ) (n : ℕ) → All (λ byte. byte < 256) s → IsShortVarint s n → s ≡ short_varint n
 unfolding short_varint
 shortest_is_short s n bytes is = within_one 9 n s bytes is.varint.groups is.varint.short is.varint.value is.shortest
+
+-- group by group
+pub last_group : (k n : ℕ) → n < 128 → short_varint_within k n ≡ n ∷ []
+last_group zero n small = refl
+last_group (suc k) n small = let low : nat_lt n 128 ≡ true = grind (arith, nat_tests) in rw low refl
+
+pub more_groups : (k n : ℕ) → 128 ≤ n → short_varint_within (suc k) n ≡ (n % 128 + 128) ∷ short_varint_within k (n / 128)
+more_groups k n large = let high : nat_lt n 128 ≡ false = grind (arith, nat_tests) in rw high refl
+
+-- it has 10 bytes at most
+within_cases : (k n : ℕ) (b : Bool) → length (short_varint_within k (n / 128)) ≤ k + 1 → length (cond b (n ∷ []) ((n % 128 + 128) ∷ short_varint_within k (n / 128))) ≤ suc k + 1
+within_cases k n true short = omega arith
+within_cases k n false short = omega (arith, short)
+
+length_within : (k n : ℕ) → length (short_varint_within k n) ≤ k + 1
+length_within zero n = omega arith
+length_within (suc k) n = within_cases k n (nat_lt n 128) (length_within k (n / 128))
+
+pub short_size : (n : ℕ) → length (short_varint n) ≤ 10
+unfolding short_varint
+short_size n = length_within 9 n

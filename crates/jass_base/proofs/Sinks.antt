@@ -1,12 +1,9 @@
 -- A name of a cabinet seen as a sink.
-use Rattle.std.proofs.Common.{◌≡◌, ℕ, List, [], ◌++◌, take, Option, Some, None, Result, Ok, Err, inl, inr, cond, Bool, true, false, unwrap_or, refl, sym, ap, subst, ◌∙◌, append-nil}
-use Rattle.std.specs.Ordering.{nat_cmp, is_eq, eq_by_cmp}
-use Rattle.std.specs.Cmp.Lexicographic.{slice_cmp}
-use Rattle.std.specs.Io.KnownBytes.{Appends}
-use Rattle.std.specs.FinMap.{get, insert, get-insert}
-use Rattle.std.proofs.lemmas.Cmp.{nat_list_cmp_total, tied_itself}
+use Rattle.shared_lemmas.proofs.Common.{◌≡◌, ℕ, List, [], ◌++◌, take, Option, Some, None, Result, Ok, Err, inl, inr, cond, Bool, true, false, refl, sym, ap, subst, ◌∙◌, nat_cmp, is_eq, eq_by_cmp, slice_cmp, Appends, get, insert, get-insert, nat_list_cmp_total, tied_itself}
+use Rattle.std.proofs.Common.{unwrap_or}
 use Rattle.jass_base.specs.Outside.{Files, content_or_empty, content_there, others_told, Appended, Extends, Puts}
 use Rattle.jass_base.proofs.FilesOf.{same_files}
+use Rattle.jass_base.proofs.Writing.{Appends-none}
 
 -- a name that was set has its content
 pub get_set : (files : Files) (name content : List ℕ) → get (insert files name content) name ≡ Some content
@@ -35,13 +32,9 @@ extended None new name bytes is = tt
 extended (Some old) None name bytes is = absurd is
 extended (Some old) (Some new) name bytes is = extended_at (get old name) old new name bytes refl is
 
-unchanged : (o : Option (List ℕ)) → Appends o o []
-unchanged None = tt
-unchanged (Some xs) = sym (append-nil xs)
-
 pub puts : {T E : Type 0} (old new : Option Files) (name bytes : List ℕ) (result : Result T E) → Appended old new name bytes result → Puts (content_there old name) (content_there new name) bytes result
 puts old new name bytes (Ok x) is = extended old new name bytes is
-puts old new name bytes (Err e) (inl same) = (0, rw same (unchanged (content_there old name)))
+puts old new name bytes (Err e) (inl same) = (0, rw same (Appends-none (content_there old name)))
 puts old new name bytes (Err e) (inr (n, is)) = (n, extended old new name (take n bytes) is)
 
 -- and the other names stay

@@ -1,9 +1,5 @@
 -- Laws of a text that is put on a sink piece by piece.
-use Rattle.std.specs.Prelude.{ℕ, ◌≡◌, ◌+◌, ◌≤◌, min, List, [], ◌++◌, length, take, Option, Some, None}
-use Rattle.std.specs.Io.KnownBytes.{Appends}
-use Rattle.std.proofs.Common.{sym, ap, subst, ◌∙◌, append-nil, append_assoc, arith}
-use Rattle.std.proofs.lemmas.List.{take-append-le, take_min}
-use Rattle.std.proofs.Math.Seq.{take-append-add}
+use Rattle.shared_lemmas.proofs.Common.{ℕ, ◌≡◌, ◌+◌, ◌≤◌, min, List, [], ◌++◌, length, take, Option, Some, None, Appends, sym, ap, subst, ◌∙◌, append-nil, append_assoc, arith, take-append-le, take_min, take-append-add}
 use Rattle.jass_base.specs.Outside.{Rose}
 use Rattle.jass_base.specs.Writing.{AppendsPrefix}
 
@@ -23,6 +19,9 @@ Appends-then (Some xs) (Some ys) (Some zs) first second a b = b ∙ ap (λ (text
 pub Appends-same : (old new : Option (List ℕ)) (text other : List ℕ) → text ≡ other → Appends old new text → Appends old new other
 Appends-same old new text other is a = subst (λ (t : List ℕ). Appends old new t) is a
 
+pub AppendsPrefix-same : (old new : Option (List ℕ)) (text other : List ℕ) → text ≡ other → AppendsPrefix old new text → AppendsPrefix old new other
+AppendsPrefix-same old new text other is a = subst (λ (t : List ℕ). AppendsPrefix old new t) is a
+
 -- a whole text and a prefix of the next one
 pub AppendsPrefix-then : (old mid new : Option (List ℕ)) (first second : List ℕ) → Appends old mid first → AppendsPrefix mid new second → AppendsPrefix old new (first ++ second)
 AppendsPrefix-then old mid new first second a (n, b) = (length first + n, Appends-same old new (first ++ take n second) (take (length first + n) (first ++ second)) (sym (take-append-add first second n)) (Appends-then old mid new first (take n second) a b))
@@ -40,7 +39,3 @@ AppendsPrefix-whole old new first second a = AppendsPrefix-then old new new firs
 -- a count that rose later in a call rose in the call
 pub Rose-earlier : (before mid now : ℕ) → before ≤ mid → Rose mid now → Rose before now
 Rose-earlier before mid now later rose = omega arith
-
--- and one that rose earlier, and never falls
-pub Rose-later : (before mid now : ℕ) → mid ≤ now → Rose before mid → Rose before now
-Rose-later before mid now later rose = omega arith

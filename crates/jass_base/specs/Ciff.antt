@@ -7,7 +7,7 @@ use Rattle.jass_base.specs.declared.posting.Posting.{Posting}
 use Rattle.jass_base.specs.Limits.{IsName}
 use Rattle.jass_base.specs.Postings.{docs_of, HasTfInRange}
 use Rattle.jass_base.specs.Wire.{WireField, Spells, IsSized, AreFields, number_field, text_field, eight_field, texts_field}
-use Rattle.jass_base.specs.declared.limits.TheConstants.{MOST_DOCUMENTS, MOST_POSTINGS, MOST_TERMS}
+use Rattle.jass_base.specs.declared.limits.TheConstants.{LONGEST_FILE, LONGEST_TERM, MOST_DOCUMENTS, MOST_POSTINGS, MOST_TERMS}
 
 -- ---- plain data
 
@@ -83,7 +83,7 @@ ArePostings last (body ∷ bodies) (p ∷ ps) = IsPosting last body p × ArePost
 -- what a postings list keeps in a collection of so many documents
 pub record FitsList (docs : ℕ) (l : ListData) : Type 0 where
   pub text : IsUtf8 l.term
-  pub short : length l.term ≤ 65535
+  pub short : length l.term ≤ LONGEST_TERM
   pub df : l.df < 2 ^ 63
   pub cf : l.cf < 2 ^ 63
   pub rising : IsStrictlyIncreasing (docs_of l.postings)
@@ -145,4 +145,4 @@ pub record IsCiff (bytes : List ℕ) (c : CollectionData) : Type 0 where
   pub docs : AreRecords c.docs doc_bodies
   pub terms_differ : IsDistinct bytes_eq (map (λ (l : ListData). l.term) c.lists)
   pub few_postings : postings_count c.lists ≤ MOST_POSTINGS
-  pub short : length bytes ≤ 2 ^ 32
+  pub short : length bytes ≤ LONGEST_FILE

@@ -1,5 +1,5 @@
 -- What the calls of every codec say of a list and its payload.
-use Rattle.std.specs.Prelude.{ℕ, ◌≡◌, ◌≤◌, ◌^◌, ◌↔◌, List, [], ◌++◌, length, take, drop, Result, Ok, OnOk, OnErr, IfOk}
+use Rattle.std.specs.Prelude.{ℕ, ◌≡◌, ◌≤◌, ◌↔◌, List, [], ◌++◌, length, take, drop, Result, Ok, OnOk, OnErr, IfOk}
 use Rattle.jass_base.specs.Gaps.{AreDocs, Accepts, Judges}
 use Rattle.jass_base.specs.declared.payload_fault.PayloadFault.{PayloadFault}
 use Rattle.jass_base.specs.declared.limits.TheConstants.{MOST_DOCUMENTS}

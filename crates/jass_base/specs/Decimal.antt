@@ -1,6 +1,6 @@
 -- Decimal numbers of 64 bits.
-use Rattle.std.specs.Prelude.{ℕ, ◌+◌, ◌*◌, ◌^◌, Bool, ◌&&◌, List, [], ◌∷◌, length, Option, Some, None, nat_lt, nat_le, if◌then◌else◌}
-use Rattle.std.specs.Char.{digit_value, is_ascii_digit}
+use Rattle.std.specs.Prelude.{ℕ, ◌^◌, Bool, ◌&&◌, List, length, Option, Some, None, nat_lt, nat_le, if◌then◌else◌}
+use Rattle.std.specs.Char.{is_ascii_digit}
 use Rattle.std.specs.List.{list_all}
 use Rattle.std.specs.Str.Parse.{digits_value}
 
@@ -11,8 +11,3 @@ is_decimal bytes = nat_le 1 (length bytes) && nat_le (length bytes) 20 && list_a
 -- the number that a decimal stands for
 abbrev pub decimal_of : List ℕ → Option ℕ
 decimal_of bytes = if is_decimal bytes then Some (digits_value 10 bytes) else None
-
--- the number that digits stand for where they follow those of v
-abbrev pub value_after : ℕ → List ℕ → Option ℕ
-value_after v [] = Some v
-value_after v (b ∷ bs) = if is_ascii_digit b && nat_lt (v * 10 + digit_value b) (2 ^ 64) then value_after (v * 10 + digit_value b) bs else None

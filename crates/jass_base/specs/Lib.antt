@@ -15,3 +15,4 @@ pub mod Segments
 pub mod Terms
 pub mod Wire
 pub mod Writing
+pub mod Private

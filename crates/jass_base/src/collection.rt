@@ -1,4 +1,4 @@
-ghost use Rattle.std.specs.Prelude.{ℕ, ◌≡◌, ◌<◌, ◌≤◌, ◌^◌, length, All, AllPairs};
+ghost use Rattle.std.specs.Prelude.{◌<◌, ◌≤◌, length, All, AllPairs};
 ghost use Rattle.jass_base.specs.Lists.{HasDocsBelow, DifferInTerm};
 ghost use Rattle.jass_base.specs.declared.limits.TheConstants.{MOST_DOCUMENTS, MOST_TERMS};
 

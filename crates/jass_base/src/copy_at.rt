@@ -1,4 +1,4 @@
-ghost use Rattle.std.specs.Prelude.{ℕ, ◌≡◌, ◌<◌, ◌≤◌, length, take, drop};
+ghost use Rattle.std.specs.Prelude.{◌≤◌, length};
 ghost use Rattle.jass_base.specs.Outside.{AreBytesAt};
 
 /// Copies bytes from a place on to the front of a buffer, and answers how many.

@@ -2,7 +2,7 @@ ghost use Rattle.std.specs.Prelude.{◌≡◌, ◌<◌, ◌+◌, ◌*◌, ◌^�
 ghost use Rattle.std.specs.Char.{digit_value, is_ascii_digit};
 ghost use Rattle.std.specs.Option.{SomeIff};
 ghost use Rattle.jass_base.specs.Decimal.{decimal_of};
-ghost use Rattle.jass_base.specs.Decimal.{value_after};
+ghost use Rattle.jass_base.specs.Private.Decimal.{value_after};
 
 /// The number that 1 to 20 ASCII digits stand for. Leading zeros are allowed. None exactly
 /// where the bytes are something else, or the number is 2^64 or more.

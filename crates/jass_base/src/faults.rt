@@ -1,9 +1,31 @@
+use std::alloc::{AllocError, AllocFailed};
 use thiserror::Error;
 
 /// Memory was refused. The one answer that may come from any call that takes an allocator.
 #[derive(Debug, Drop, Error)]
 #[error("no memory")]
 pub struct NoMemory;
+
+/// What room that is asked for, and a sort, may answer.
+impl From<AllocError> for NoMemory {
+    fn from(_refused: AllocError) -> NoMemory {
+        NoMemory
+    }
+}
+
+/// Drops what a vector had no room for.
+impl<T: Drop> From<AllocFailed<T>> for NoMemory {
+    fn from(_refused: AllocFailed<T>) -> NoMemory {
+        NoMemory
+    }
+}
+
+/// Drops what a row had no room for.
+impl<T: Drop> From<(T, NoMemory)> for NoMemory {
+    fn from(_refused: (T, NoMemory)) -> NoMemory {
+        NoMemory
+    }
+}
 
 /// An input could not be read.
 #[derive(Debug, Drop, Error)]

@@ -1,4 +1,4 @@
-ghost use Rattle.std.specs.Prelude.{ℕ, ◌≡◌, ◌↔◌, Some, drop, IsErr};
+ghost use Rattle.std.specs.Prelude.{◌≡◌, ◌↔◌, Some, drop, IsErr};
 ghost use Rattle.std.specs.Io.{ReadsAtMost};
 ghost use Rattle.std.specs.Io.KnownBytes.{ReadConsumes};
 ghost use Rattle.jass_base.specs.Outside.{HasCause};

@@ -1,4 +1,4 @@
-ghost use Rattle.std.specs.Prelude.{ℕ, ◌≡◌, [], Some, IsErr};
+ghost use Rattle.std.specs.Prelude.{◌≡◌, [], Some, IsErr};
 ghost use Rattle.jass_base.specs.Outside.{HasCause, Puts};
 ghost use Rattle.jass_base.specs.Scripts.{uncalled, called, FailsNext};
 

@@ -1,7 +1,8 @@
-ghost use Rattle.std.specs.Prelude.{ℕ, ◌<◌, ◌≤◌, ◌^◌, length, All};
+ghost use Rattle.std.specs.Prelude.{◌<◌, ◌≤◌, ◌^◌, length, All};
 ghost use Rattle.std.specs.List.Sorted.{IsStrictlyIncreasing};
 ghost use Rattle.jass_base.specs.Limits.{IsText};
 ghost use Rattle.jass_base.specs.Postings.{docs_of, HasTfInRange};
+ghost use Rattle.jass_base.specs.declared.limits.TheConstants.{LONGEST_TERM};
 
 use crate::posting::Posting;
 use crate::row::Row;
@@ -16,7 +17,7 @@ pub struct PostingsList {
     pub df: u64,
     pub cf: u64,
     pub postings: Row<Posting>,
-    pub ghost term_fits: { length term ≤ 65535 },
+    pub ghost term_fits: { length term ≤ LONGEST_TERM },
     pub ghost term_is_text: { IsText term },
     pub ghost df_in_range: { df < 2 ^ 63 },
     pub ghost cf_in_range: { cf < 2 ^ 63 },

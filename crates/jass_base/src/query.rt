@@ -1,5 +1,6 @@
-ghost use Rattle.std.specs.Prelude.{ℕ, ◌≤◌, ◌≢◌, length, All, AllPairs};
+ghost use Rattle.std.specs.Prelude.{◌≤◌, ◌≢◌, length, All, AllPairs};
 ghost use Rattle.jass_base.specs.declared.query_term.QueryTerm.{QueryTerm};
+ghost use Rattle.jass_base.specs.declared.limits.TheConstants.{MOST_QUERY_TERMS};
 
 use crate::query_term::QueryTerm;
 use crate::row::Row;
@@ -13,7 +14,7 @@ pub struct Query {
     pub terms: Row<QueryTerm>,
     /// The number of mentions of terms that the index hasn't.
     pub unknown: u32,
-    pub ghost few: { length terms ≤ 256 },
+    pub ghost few: { length terms ≤ MOST_QUERY_TERMS },
     pub ghost named: { All (λ (n : QueryTerm). 1 ≤ n.times) terms },
     pub ghost differ: { AllPairs (λ (m n : QueryTerm). m.term ≢ n.term) terms },
 }

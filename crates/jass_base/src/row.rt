@@ -1,4 +1,4 @@
-ghost use Rattle.std.specs.Prelude.{◌≡◌, ◌==◌, ◌∷◌, [], ◌++◌, length, take, OnOk, OnErr, IfErr};
+ghost use Rattle.std.specs.Prelude.{◌≡◌, ◌==◌, ◌∷◌, [], ◌++◌, length, take, IfOk, OnOk, OnErr, IfErr};
 
 use crate::faults::NoMemory;
 use std::alloc::Global;
@@ -26,6 +26,15 @@ impl<T> Row<T> {
         Row {
             vec: Vec::new(alloc),
         }
+    }
+
+    /// An empty row that has room for so many values, so that they are never moved.
+    pub fn with_room(alloc: Global, count: usize) -> Result<Row<T>, NoMemory>
+        ensures { IfOk result (λ row. row ≡ []) }
+    {
+        Ok(Row {
+            vec: Vec::with_capacity(alloc, count)?,
+        })
     }
 
     /// Puts a value at the end, or hands it back where memory is refused.

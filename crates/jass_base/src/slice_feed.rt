@@ -1,4 +1,4 @@
-ghost use Rattle.std.specs.Prelude.{ℕ, ◌≡◌, Some};
+ghost use Rattle.std.specs.Prelude.{◌≡◌, Some};
 
 use crate::faults::Failed;
 use crate::feed::Feed;

@@ -1,6 +1,7 @@
-ghost use Rattle.std.specs.Prelude.{ℕ, ◌<◌, ◌≤◌, length, AllPairs};
+ghost use Rattle.std.specs.Prelude.{◌<◌, ◌≤◌, length, AllPairs};
 ghost use Rattle.jass_base.specs.Limits.{IsText};
 ghost use Rattle.jass_base.specs.Segments.{FallsTo, SharesNoDocument};
+ghost use Rattle.jass_base.specs.declared.limits.TheConstants.{LONGEST_TERM};
 
 use crate::row::Row;
 use crate::segment::Segment;
@@ -13,7 +14,7 @@ pub struct TermSegments {
     pub term: Text,
     /// At least one segment.
     pub segments: Row<Segment>,
-    pub ghost term_fits: { length term ≤ 65535 },
+    pub ghost term_fits: { length term ≤ LONGEST_TERM },
     pub ghost term_is_text: { IsText term },
     pub ghost some: { 1 ≤ length segments },
     pub ghost falling: { AllPairs FallsTo segments },

@@ -1,14 +1,7 @@
 -- What the words of a command keep of its numbers.
 use Rattle.std.proofs.Common.{ℕ, List, [], ◌∷◌, sym, subst}
-use Rattle.weights.specs.declared.quantizing.Bits.{Bits}
-use Rattle.weights.specs.declared.quantizing.Bits.TheVariants.{Raw, Of}
-use Rattle.weights.specs.Quantizing.{IsImpactWidth}
-use Rattle.jass_words.specs.Options.{OptionData, Weights, Width, IsBits, AreOptions, bits_of}
-use Rattle.jass_base.specs.declared.answer.Budget.{Budget}
-use Rattle.query_reader.specs.declared.mode.Mode.{Mode}
-use Rattle.jass_words.specs.Searching.{IsWithinLimits}
-use Rattle.jass_words.specs.Words.{CommandData, Once, Rewrite, Import, Check, Export, Migrate, Search, Serve, Trial, Help, Version, IsTrialSize, IsCommand}
-use Rattle.jass_top.specs.Commands.{IsAllowed}
+use Rattle.jass_top.proofs.Below.{Bits, Raw, Of, IsImpactWidth, OptionData, Weights, Width, IsBits, AreOptions, bits_of, Budget, Mode, IsWithinLimits, CommandData, Once, Rewrite, Import, Check, Export, Migrate, Search, Serve, Trial, Help, Version, IsTrialSize, IsCommand}
+use Rattle.jass_top.specs.Private.Allowed.{IsAllowed}
 
 a_width : (value : List ℕ) (bits : Bits) → IsBits value bits → IsImpactWidth bits
 a_width value Raw is = tt

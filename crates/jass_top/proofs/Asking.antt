@@ -1,22 +1,11 @@
 -- What a session that was opened for a query of words answers after its one grant.
-use Rattle.std.proofs.Common.{◌≡◌, ℕ, ◌≤◌, ◌^◌, List, [], ◌∷◌, ◌++◌, Option, inr, ap, subst, ◌∙◌, arith}
-use Rattle.std.specs.Prelude.{codes, length}
-use Rattle.jass_base.specs.Outside.{Files}
-use Rattle.ranking_model.specs.Plan.{granted_with, plan_of, prefix_within, size_of_first}
-use Rattle.ranking_model.specs.Postings.{weighted_postings}
-use Rattle.ranking_model.specs.Promises.{IsPromised}
-use Rattle.ranking_model.specs.Report.{IsReport, report_line, run_lines}
-use Rattle.ranking_model.specs.Scores.{top_k}
-use Rattle.ranking_model.specs.Search.{query_data}
-use Rattle.index_model.specs.Flat.{numbered_flat}
-use Rattle.index_layout.specs.View.{FileView, index_text}
-use Rattle.frame_pool.specs.Pool.{PoolView}
+use Rattle.shared_lemmas.proofs.Common.{◌≡◌, ℕ, ◌≤◌, ◌^◌, List, [], ◌∷◌, ◌++◌, Option, inr, ap, subst, ◌∙◌, arith, codes, length}
+use Rattle.jass_top.proofs.Below.{Files, granted_with, plan_of, prefix_within, size_of_first, weighted_postings, IsPromised, IsReport, report_line, run_lines, top_k, query_data, numbered_flat, FileView, index_text, PoolView, IsSessionOf, SessionStands, granted_of, k_of, plan_over, prefix_of}
+use Rattle.jass_top.proofs.Below.{query_of, report_of, terms_of, Session}
 use Rattle.session_engine.specs.Plans.{session_plan}
-use Rattle.session_engine.specs.Standing.{IsSessionOf, SessionStands, granted_of, k_of, plan_over, prefix_of, query_of, report_of, terms_of}
-use Rattle.session_engine.specs.declared.session.Session.{Session}
 use Rattle.jass_top.specs.Answers.{OnceQuery, once_prefix, once_query, once_steps, once_text}
 use Rattle.jass_top.specs.Meanings.{Output}
-use Rattle.jass_top.specs.OnceMeaning.{asking_meaning}
+use Rattle.jass_top.specs.Private.HeldIndexes.{asking_meaning}
 use Rattle.jass_top.specs.Private.OnceTexts.{session_text}
 use Rattle.jass_top.specs.SearchMeaning.{IsSearchReport}
 use Rattle.jass_top.specs.Standing.{Had}
@@ -53,8 +42,7 @@ module _ (file : FileView) (query : OnceQuery) (opened s : Session) (pool : Pool
       → IsPromised (weighted_postings (numbered_flat file.index) (terms_of s)) (prefix_of s) (plan_over file s) (k_of s) (report_of s)
       → IsSearchReport file.index (once_query file.index query) query.k (once_prefix file.index query) (report_of s)
   unfolding session_plan
-  report_is exact promised =
-      subst (λ n. IsSearchReport file.index (once_query file.index query) query.k n (report_of s)) at
+  report_is exact promised = subst (λ n. IsSearchReport file.index (once_query file.index query) query.k n (report_of s)) at
       (subst (λ k. IsSearchReport file.index (once_query file.index query) k (prefix_of s) (report_of s)) asked
       (subst (λ q. IsSearchReport file.index q (k_of s) (prefix_of s) (report_of s)) same (record { exact = exact; promised = promised })))
 
@@ -68,10 +56,6 @@ module _ (file : FileView) (query : OnceQuery) (opened s : Session) (pool : Pool
     inputs = file.index;
     output = answered;
     accepted = inr (fits input file.index few);
-    exact = record {
-      report = report_of s;
-      answer = report_is exact promised;
-      whole = λ i. record { content = []; text = text_is i; steps = steps_are i };
-    };
+    exact = record { report = report_of s; answer = report_is exact promised; whole = λ i. record { content = []; text = text_is i; steps = steps_are i } };
     left = left;
   }

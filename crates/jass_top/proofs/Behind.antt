@@ -3,7 +3,8 @@ use Rattle.std.proofs.Common.{◌≡◌, ◌≤◌, ℕ, List, [], ◌∷◌, ap
 use Rattle.jass_base.proofs.Writing.{Rose-earlier}
 use Rattle.jass_top.specs.declared.stop.Stop.{Stop}
 use Rattle.jass_top.specs.declared.stop.Stop.TheVariants as stops
-use Rattle.jass_top.specs.Causes.{IsOneOf, Unheld, Unread}
+use Rattle.jass_top.specs.Causes.{IsOneOf}
+use Rattle.jass_top.specs.Private.Causes.{Unheld, Unread}
 use Rattle.jass_top.specs.Judging.{Judged, Accepted, Refuses, Untold, Shows, behind}
 
 pub shown_then : {A B : Type 0} (judged : Judged A) (x : A) (next : A → Judged B) (other : Judged B) → Shows judged (Accepted x) → Shows (next x) other → Shows (behind judged next) other

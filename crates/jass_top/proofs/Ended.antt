@@ -1,8 +1,6 @@
 -- How a run of `serve`, and of any command, ends, from how the command ran.
-use Rattle.std.proofs.Common.{◌≡◌, ◌≢◌, ◌≤◌, ◌^◌, ℕ, List, length, true, false, Option, Some, None, Ok, Err, inl, inr, refl, sym, ap, subst, ◌∙◌, arith}
-use Rattle.std.specs.Prelude.{◌⊎◌}
-use Rattle.jass_base.specs.Outside.{Rose}
-use Rattle.index_layout.specs.View.{FileView}
+use Rattle.shared_lemmas.proofs.Common.{◌≡◌, ◌≢◌, ◌≤◌, ℕ, List, length, true, false, Option, Some, None, Ok, Err, inl, inr, refl, sym, ap, subst, ◌∙◌, arith, ◌⊎◌}
+use Rattle.jass_top.proofs.Below.{Rose, FileView, MOST_TAKEN}
 use Rattle.jass_top.specs.declared.stop.Place.{Place}
 use Rattle.jass_top.specs.declared.stop.Stop.{Stop}
 use Rattle.jass_top.specs.declared.stop.Stop.TheVariants as stops
@@ -10,11 +8,14 @@ use Rattle.jass_top.specs.declared.status.Status.TheVariants as status
 use Rattle.jass_top.specs.Endings.{Noted}
 use Rattle.jass_top.specs.IndexJudging.{judge_index}
 use Rattle.jass_top.specs.Judging.{Accepted, Missing, Refuses, Shows, IsUnaccepted}
-use Rattle.jass_top.specs.Meanings.{Means, IsOnFiles, OnFiles, AtDesk}
+use Rattle.jass_top.specs.Meanings.{Means, OnFiles, AtDesk}
 use Rattle.jass_top.specs.ServeEndings.{EndsServing, IndexUnread, InputUnread}
-use Rattle.jass_top.specs.Running.{EndsAs, RunsAs}
-use Rattle.jass_top.specs.ServeMeaning.{IsAnswered, IsInput, NoneServed, RunsServing, ServedUntil, Unserved, has_end, lines_taken}
-use Rattle.jass_top.specs.Stops.{read_fault_text, refusal_text, status_of, stop_text, write_fault_text}
+use Rattle.jass_top.specs.Running.{EndsAs}
+use Rattle.jass_top.specs.Private.Running.{RunsAs, IsOnFiles}
+use Rattle.jass_top.specs.ServeMeaning.{IsAnswered, IsInput, NoneServed, has_end, lines_taken}
+use Rattle.jass_top.specs.Private.ServeRuns.{RunsServing, ServedUntil, Unserved}
+use Rattle.jass_top.specs.Stops.{read_fault_text, refusal_text, write_fault_text}
+use Rattle.jass_top.specs.Private.Stops.{status_of, stop_text}
 use Rattle.jass_top.specs.Worlds.{World, fed_in}
 use Rattle.jass_top.proofs.Endings.{both_ways, ends_done, ends_stopped, missing_accepted, missing_refused, refused_accepted, refused_alone}
 
@@ -24,7 +25,7 @@ same_input None one other is had = cc
 same_input (Some bytes) one other is had = (let same : Some bytes ≡ Some other = is in cc)
 
 -- an input isn't both answered and too long
-one_end : (left : Option (List ℕ)) (one other : List ℕ) → left ≡ Some other → IsInput left one → 2 ^ 30 ≤ length one → has_end (lines_taken one) ≡ false → IsAnswered other → {B : Type 0} → B
+one_end : (left : Option (List ℕ)) (one other : List ℕ) → left ≡ Some other → IsInput left one → MOST_TAKEN ≤ length one → has_end (lines_taken one) ≡ false → IsAnswered other → {B : Type 0} → B
 one_end left one other is had long endless answered =
     let same = same_input left one other is had in
     elim answered [

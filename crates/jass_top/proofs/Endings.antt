@@ -7,9 +7,9 @@ use Rattle.jass_top.specs.declared.status.Status.TheVariants as status
 use Rattle.jass_top.specs.Judging.{Judged, Accepted, Missing, Refuses, Untold, Shows, IsUnaccepted}
 use Rattle.jass_top.specs.Meanings.{Meaning}
 use Rattle.jass_top.specs.Standing.{Keeps, Does, Stands}
-use Rattle.jass_top.specs.Causes.{Stopped}
+use Rattle.jass_top.specs.Private.Causes.{Stopped}
 use Rattle.jass_top.specs.Endings.{Noted, Ends}
-use Rattle.jass_top.specs.Stops.{status_of, stop_text}
+use Rattle.jass_top.specs.Private.Stops.{status_of, stop_text}
 use Rattle.jass_top.specs.Worlds.{Outer, World}
 
 -- a judgement is one alone

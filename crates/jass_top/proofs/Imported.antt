@@ -1,23 +1,9 @@
 -- What an import is judged to be, and what stands after it.
-use Rattle.std.proofs.Common.{rules, [], ◌≡◌, ◌≤◌, ◌<◌, ◌^◌, ◌⊎◌, ℕ, List, length, take, Option, Some, None, Result, Ok, Err, refl, sym, ap, subst, ◌∙◌, inl, inr, arith}
-use Rattle.std.specs.Prelude.{IsSomeAnd}
-use Rattle.std.specs.FinMap.{get}
-use Rattle.std.specs.Io.KnownBytes.{Appends}
-use Rattle.jass_base.specs.Ciff.{CollectionData}
-use Rattle.jass_base.specs.Outside.{Files, OnContent, IsMissing, Rose, Sets}
-use Rattle.jass_base.proofs.Writing.{Appends-none}
-use Rattle.ciff_read.specs.declared.refusal.CiffRefusal.{CiffRefusal}
-use Rattle.ciff_read.specs.Reading.{read_ciff}
-use Rattle.ciff_read.specs.Refusals.{number_of}
-use Rattle.weights.specs.declared.weighting.Rule.{Rule}
-use Rattle.weights.specs.declared.quantizing.Bits.{Bits}
-use Rattle.index_model.specs.Index.{IndexData}
-use Rattle.index_layout.specs.View.{index_text}
-use Rattle.impact_segments.specs.Collections.{collection_index}
-use Rattle.index_import.specs.Importing.{Begins, IsMade}
+use Rattle.shared_lemmas.proofs.Common.{rules, [], ◌≡◌, ◌≤◌, ◌<◌, ◌^◌, ◌⊎◌, ℕ, List, length, Option, Some, None, Ok, Err, refl, sym, ap, subst, ◌∙◌, inl, inr, arith, IsSomeAnd, get, Appends}
+use Rattle.jass_top.proofs.Below.{CollectionData, Files, OnContent, IsMissing, Rose, Appends-none, CiffRefusal, read_ciff, number_of, Rule, Bits, IndexData, index_text, collection_index, Begins, IsMade}
 use Rattle.jass_top.specs.declared.stop.Place.TheVariants.{Byte}
 use Rattle.jass_top.specs.IndexJudging.{fitting}
-use Rattle.jass_top.specs.Judging.{Judged, Accepted, Missing, Refuses, Untold, Shows, behind, judge_ciff, judged_ciff, judged_content}
+use Rattle.jass_top.specs.Judging.{Judged, Accepted, Missing, Refuses, Shows, behind, judge_ciff, judged_ciff, judged_content}
 use Rattle.jass_top.specs.ImportMeaning.{import_meaning}
 use Rattle.jass_top.specs.MakingMeaning.{judge_made, made_output}
 use Rattle.jass_top.specs.Standing.{Stands}

@@ -1,12 +1,6 @@
 -- What a file is judged to be, from what reading it gave.
-use Rattle.std.proofs.Common.{◌≡◌, ◌≢◌, ℕ, List, take, Option, Some, None, Result, Ok, Err, refl, sym, ap, ◌∙◌, ◌⊎◌, inl, inr}
-use Rattle.std.specs.Prelude.{IsSomeAnd}
-use Rattle.std.specs.FinMap.{get}
-use Rattle.jass_base.specs.Ciff.{CollectionData, IsCiff}
-use Rattle.jass_base.specs.Outside.{Files, OnContent, IsMissing, Rose}
-use Rattle.ciff_read.specs.declared.refusal.CiffRefusal.{CiffRefusal}
-use Rattle.ciff_read.specs.Reading.{read_ciff}
-use Rattle.ciff_read.specs.Refusals.{number_of}
+use Rattle.shared_lemmas.proofs.Common.{◌≡◌, ◌≢◌, ℕ, List, take, Option, Some, None, Result, Ok, Err, refl, sym, ap, ◌∙◌, ◌⊎◌, inl, inr, IsSomeAnd, get}
+use Rattle.jass_top.proofs.Below.{CollectionData, IsCiff, Files, OnContent, IsMissing, Rose, CiffRefusal, read_ciff, number_of}
 use Rattle.jass_top.specs.declared.stop.Place.{Place}
 use Rattle.jass_top.specs.declared.stop.Place.TheVariants.{Byte}
 use Rattle.jass_top.specs.Judging.{Accepted, Missing, Refuses, Untold, IsRefused, Shows, judged_ciff, judged_content, judge_ciff}
@@ -38,9 +32,7 @@ unfolding judge_ciff
 found law name files c is = at (get files name) refl is
   where
     read : (content : List ℕ) (result : Result CollectionData CiffRefusal) → read_ciff content ≡ result → judged_ciff name result ≡ Accepted c → read_ciff content ≡ Ok c
-    read content (Ok d) gives is =
-        let same : d ≡ c = cc in
-        gives ∙ ap Ok same
+    read content (Ok d) gives is = let same : d ≡ c = cc in gives ∙ ap Ok same
     read content (Err e) gives is = cc
 
     at : (o : Option (List ℕ)) → get files name ≡ o → judged_content name o ≡ Accepted c → (content : List ℕ) × (get files name ≡ Some content) × IsCiff content c
@@ -75,9 +67,7 @@ missed name other files is = at (get files name) is
     read (Err e) is = cc
 
     at : (o : Option (List ℕ)) → judged_content name o ≡ Missing other → (other ≡ name) × (o ≡ None)
-    at None is =
-        let same : other ≡ name = cc in
-        (same, refl)
+    at None is = let same : other ≡ name = cc in (same, refl)
     at (Some content) is = read (read_ciff content) is
 
 pub refused : (name other : List ℕ) (files : Files) (number : ℕ) (place : Place) → judge_ciff name (Some files) ≡ Refuses other number place
@@ -95,6 +85,4 @@ refused name other files number place is = at (get files name) is
 
     at : (o : Option (List ℕ)) → judged_content name o ≡ Refuses other number place → (other ≡ name) × (content : List ℕ) × (o ≡ Some content) × IsRefused content number place
     at None is = cc
-    at (Some content) is =
-        let (same, refusal) = read content (read_ciff content) refl is in
-        (same, content, refl, refusal)
+    at (Some content) is = let (same, refusal) = read content (read_ciff content) refl is in (same, content, refl, refusal)

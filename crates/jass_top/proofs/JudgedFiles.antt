@@ -1,16 +1,7 @@
 -- What an index file is judged to be, from what opening it gave, and what is judged behind other inputs.
-use Rattle.std.proofs.Common.{◌≡◌, ◌≢◌, ◌≤◌, ◌<◌, ◌^◌, ℕ, List, length, take, Option, Some, None, Result, Ok, Err, true, false, nat_le, refl, sym, ap, subst, ◌∙◌, ◌⊎◌, inl, inr, arith}
-use Rattle.std.specs.Prelude.{IsSomeAnd}
-use Rattle.std.specs.FinMap.{get}
-use Rattle.std.proofs.lemmas.Bool.Decides.{nat_tests}
-use Rattle.std.proofs.lemmas.List.{take_all}
-use Rattle.jass_base.specs.Outside.{Files, OnContent, IsMissing, Rose, Sets}
-use Rattle.index_model.specs.Index.{IndexData}
-use Rattle.index_layout.specs.declared.refusal.OpenRefusal.{OpenRefusal}
-use Rattle.index_layout.specs.Reading.{read_index}
-use Rattle.index_layout.specs.View.{FileView, index_text}
+use Rattle.shared_lemmas.proofs.Common.{◌≡◌, ◌≢◌, ◌≤◌, ◌<◌, ◌^◌, ℕ, List, length, take, Option, Some, None, Result, Ok, Err, true, false, nat_le, refl, sym, ap, subst, ◌∙◌, ◌⊎◌, inl, inr, arith, IsSomeAnd, get, nat_tests, take_all}
+use Rattle.jass_top.proofs.Below.{Files, OnContent, IsMissing, Rose, Sets, IndexData, OpenRefusal, read_index, FileView, index_text, read_index1}
 use Rattle.jass_top.specs.IndexJudging.{judged_file, judged_index, judged_old, judge_index, judge_old, fitting}
-use Rattle.index_version1.specs.Reading.{read_index1}
 use Rattle.jass_top.specs.Standing.{LeavesFront}
 use Rattle.jass_top.specs.declared.stop.Place.TheVariants.{Byte}
 use Rattle.jass_top.specs.Judging.{Accepted, Missing, Refuses, Untold, Shows}
@@ -54,9 +45,7 @@ fits name index few = (let is : nat_le (length (index_text index)) (2 ^ 32) ≡ 
 
 pub too_large : (name : List ℕ) (index : IndexData) (n : ℕ) → length (index_text index) ≡ n → 2 ^ 32 < n → fitting name index ≡ Refuses name 49 (Byte n)
 unfolding fitting
-too_large name index n size large =
-    let is : nat_le n (2 ^ 32) ≡ false = grind (arith, nat_tests, large) in
-    rw (size, is) refl
+too_large name index n size large = let is : nat_le n (2 ^ 32) ≡ false = grind (arith, nat_tests, large) in rw (size, is) refl
 
 -- a whole content is a front of itself
 pub whole_front : (old new : Option Files) (name text : List ℕ) → Sets old new name text → LeavesFront (Some name) old new text
@@ -64,33 +53,29 @@ whole_front old new name text is = inr (length text, subst (λ (content : List �
 
 -- ---- what is accepted stands for its content
 
+found : {A : Type 0} (name : List ℕ) (result : Result A OpenRefusal) (x : A) → judged_file name result ≡ Accepted x → result ≡ Ok x
+found name (Ok w) x is = let same : w ≡ x = cc in ap Ok same
+found name (Err e) x is = cc
+
+result_told : {A : Type 0} (name : List ℕ) (result : Result A OpenRefusal) → judged_file name result ≢ Untold
+result_told name (Ok c) is = cc
+result_told name (Err e) is = cc
+
 pub index_found : (name : List ℕ) (files : Files) (v : FileView) → judge_index name (Some files) ≡ Accepted v → (content : List ℕ) × (get files name ≡ Some content) × (read_index content ≡ Ok v)
 unfolding judge_index
 index_found name files v is = at (get files name) refl is
   where
-    read : (content : List ℕ) (result : Result FileView OpenRefusal) → read_index content ≡ result → judged_file name result ≡ Accepted v → read_index content ≡ Ok v
-    read content (Ok w) gives is =
-        let same : w ≡ v = cc in
-        gives ∙ ap Ok same
-    read content (Err e) gives is = cc
-
     at : (o : Option (List ℕ)) → get files name ≡ o → judged_index name o ≡ Accepted v → (content : List ℕ) × (get files name ≡ Some content) × (read_index content ≡ Ok v)
     at None there is = cc
-    at (Some content) there is = (content, there, read content (read_index content) refl is)
+    at (Some content) there is = (content, there, found name (read_index content) v is)
 
 pub old_found : (name : List ℕ) (files : Files) (index : IndexData) → judge_old name (Some files) ≡ Accepted index → (content : List ℕ) × (get files name ≡ Some content) × (read_index1 content ≡ Ok index)
 unfolding judge_old
 old_found name files index is = at (get files name) refl is
   where
-    read : (content : List ℕ) (result : Result IndexData OpenRefusal) → read_index1 content ≡ result → judged_file name result ≡ Accepted index → read_index1 content ≡ Ok index
-    read content (Ok w) gives is =
-        let same : w ≡ index = cc in
-        gives ∙ ap Ok same
-    read content (Err e) gives is = cc
-
     at : (o : Option (List ℕ)) → get files name ≡ o → judged_old name o ≡ Accepted index → (content : List ℕ) × (get files name ≡ Some content) × (read_index1 content ≡ Ok index)
     at None there is = cc
-    at (Some content) there is = (content, there, read content (read_index1 content) refl is)
+    at (Some content) there is = (content, there, found name (read_index1 content) index is)
 
 pub index_only : (name : List ℕ) (files : Files) (content : List ℕ) (v : FileView) → get files name ≡ Some content → read_index content ≡ Ok v → judge_index name (Some files) ≡ Accepted v
 unfolding judge_index
@@ -104,22 +89,14 @@ pub index_told : (name : List ℕ) (files : Files) → judge_index name (Some fi
 unfolding judge_index
 index_told name files is = at (get files name) is
   where
-    read : (result : Result FileView OpenRefusal) → judged_file name result ≢ Untold
-    read (Ok c) is = cc
-    read (Err e) is = cc
-
     at : (o : Option (List ℕ)) → judged_index name o ≢ Untold
     at None is = cc
-    at (Some content) is = read (read_index content) is
+    at (Some content) is = result_told name (read_index content) is
 
 pub old_told : (name : List ℕ) (files : Files) → judge_old name (Some files) ≢ Untold
 unfolding judge_old
 old_told name files is = at (get files name) is
   where
-    read : (result : Result IndexData OpenRefusal) → judged_file name result ≢ Untold
-    read (Ok c) is = cc
-    read (Err e) is = cc
-
     at : (o : Option (List ℕ)) → judged_old name o ≢ Untold
     at None is = cc
-    at (Some content) is = read (read_index1 content) is
+    at (Some content) is = result_told name (read_index1 content) is

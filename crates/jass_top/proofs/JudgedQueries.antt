@@ -1,20 +1,13 @@
 -- What a query file is judged to be, from what reading it gave.
-use Rattle.std.proofs.Common.{◌≡◌, ◌≢◌, ◌≤◌, ◌<◌, ℕ, List, [], ◌∷◌, length, map, take, Bool, true, false, nat_lt, Option, Some, None, Result, Ok, Err, refl, sym, ap, ◌∙◌, ◌⊎◌, inl, inr, arith, length-take}
-use Rattle.std.specs.Prelude.{IsSomeAnd}
-use Rattle.std.specs.FinMap.{get}
-use Rattle.std.proofs.lemmas.Bool.Decides.{nat_tests}
-use Rattle.std.proofs.lemmas.List.{take_all}
-use Rattle.jass_base.specs.declared.query.Query.{Query}
-use Rattle.jass_base.specs.Outside.{Files, OnContent, IsMissing, Rose}
-use Rattle.ranking_model.specs.Search.{QueryData}
-use Rattle.query_reader.specs.declared.mode.Mode.{Mode}
-use Rattle.query_reader.specs.declared.refusal.QueryRefusal.{QueryRefusal}
+use Rattle.shared_lemmas.proofs.Common.{◌≡◌, ◌≢◌, ◌≤◌, ◌<◌, ℕ, List, [], ◌∷◌, length, map, take, Bool, true, false, nat_lt, Option, Some, None, Result, Ok, Err, refl, sym, ap, ◌∙◌, ◌⊎◌, inl, inr, arith, IsSomeAnd, get, nat_tests, take_all}
+use Rattle.std.proofs.Common.{length-take}
+use Rattle.jass_top.proofs.Below.{Query, Files, OnContent, IsMissing, Rose, QueryData, Mode, QueryRefusal}
 use Rattle.query_reader.specs.Queries as reader
 use Rattle.query_reader.specs.Reading.{read_query_file}
 use Rattle.jass_top.specs.IndexJudging.{judge_index}
 use Rattle.jass_top.specs.Judging.{Accepted, Missing, Untold, Shows}
 use Rattle.jass_top.specs.SearchMeaning.{judge_queries, judged_queries, judged_query_file, plain_query}
-use Rattle.jass_top.specs.SearchTexts.{asked_of}
+use Rattle.jass_top.specs.Private.SearchRuns.{asked_of}
 use Rattle.jass_top.proofs.JudgedFiles.{index_told}
 
 -- a front that is too long is refused as the whole file is
@@ -69,17 +62,13 @@ queries_found law name mode terms files queries is = at (get files name) refl is
   where
     read : (content : List ℕ) (result : Result (List reader.QueryData) QueryRefusal) → read_query_file content mode terms ≡ result → judged_queries name result ≡ Accepted queries
         → (asked : List reader.QueryData) × reader.IsQueryFile content mode terms asked × (queries ≡ map plain_query asked)
-    read content (Ok asked) gives is =
-        let same : queries ≡ map plain_query asked = cc in
-        (asked, law content mode terms asked gives, same)
+    read content (Ok asked) gives is = let same : queries ≡ map plain_query asked = cc in (asked, law content mode terms asked gives, same)
     read content (Err e) gives is = cc
 
     at : (o : Option (List ℕ)) → get files name ≡ o → judged_query_file name mode terms o ≡ Accepted queries
         → (content : List ℕ) × (get files name ≡ Some content) × (asked : List reader.QueryData) × reader.IsQueryFile content mode terms asked × (queries ≡ map plain_query asked)
     at None there is = cc
-    at (Some content) there is =
-        let (asked, holds, same) = read content (read_query_file content mode terms) refl is in
-        (content, there, asked, holds, same)
+    at (Some content) there is = let (asked, holds, same) = read content (read_query_file content mode terms) refl is in (content, there, asked, holds, same)
 
 pub queries_only : ((bytes : List ℕ) (mode : Mode) (terms : List (List ℕ)) (asked : List reader.QueryData) → reader.IsQueryFile bytes mode terms asked → read_query_file bytes mode terms ≡ Ok asked)
     → (name : List ℕ) (mode : Mode) (terms : List (List ℕ)) (files : Files) (content : List ℕ) (asked : List reader.QueryData) → get files name ≡ Some content → reader.IsQueryFile content mode terms asked

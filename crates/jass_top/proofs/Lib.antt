@@ -1,3 +1,4 @@
+mod Below
 pub mod Allowing
 pub mod Asking
 pub mod Behind

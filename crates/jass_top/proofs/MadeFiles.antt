@@ -1,15 +1,7 @@
 -- A file that is made empty and then written.
-use Rattle.std.proofs.Common.{◌≡◌, ℕ, List, [], ◌++◌, take, Option, Some, None, Bool, true, false, inl, inr, cond, refl, sym, ap, ◌∙◌, ◌⊎◌}
-use Rattle.std.specs.Ordering.{nat_cmp, eq_by_cmp}
-use Rattle.std.specs.Cmp.Lexicographic.{slice_cmp}
-use Rattle.std.specs.Io.KnownBytes.{Appends}
-use Rattle.std.specs.FinMap.{get, insert, get-insert}
-use Rattle.std.proofs.lemmas.Cmp.{nat_list_cmp_total}
-use Rattle.jass_base.specs.Outside.{Files, Sets, content_there, others_told}
-use Rattle.jass_base.specs.Writing.{AppendsPrefix}
-use Rattle.jass_base.proofs.FilesOf.{same_files}
+use Rattle.shared_lemmas.proofs.Common.{◌≡◌, ℕ, List, [], ◌++◌, take, Option, Some, None, Bool, true, false, inl, inr, cond, refl, sym, ap, ◌∙◌, ◌⊎◌, nat_cmp, eq_by_cmp, slice_cmp, Appends, get, insert, get-insert, nat_list_cmp_total}
+use Rattle.jass_top.proofs.Below.{Files, Sets, content_there, others_told, AppendsPrefix, same_files, get_set, set_twice}
 use Rattle.shared_lemmas.proofs.Texts.{equal_texts}
-use Rattle.jass_base.proofs.Sinks.{get_set, set_twice}
 use Rattle.jass_top.specs.Standing.{LeavesFront}
 
 -- contents that agree beside a name, and at the name have the text
@@ -39,9 +31,7 @@ written (Some f) (Some m) (Some n) name text set put others =
     there : (o p : Option (List ℕ)) → o ≡ Some [] → Appends o p text → p ≡ Some text
     there None p is put = cc
     there (Some c) None is put = absurd put
-    there (Some c) (Some d) is put =
-        let empty : c ≡ [] = cc in
-        ap Some (put ∙ ap (λ (xs : List ℕ). xs ++ text) empty)
+    there (Some c) (Some d) is put = let empty : c ≡ [] = cc in ap Some (put ∙ ap (λ (xs : List ℕ). xs ++ text) empty)
 
 pub made : (old new : Option Files) (name text : List ℕ) → (new ≡ old) ⊎ Sets old new name [] → LeavesFront (Some name) old new text
 made old new name text (inl same) = inl same

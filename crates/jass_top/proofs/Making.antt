@@ -1,22 +1,19 @@
 -- How a command runs that makes an index of its input, from how it runs on the index that was made.
-use Rattle.std.proofs.Common.{◌≡◌, ◌≢◌, ◌≤◌, ◌+◌, ◌^◌, ℕ, List, length, Bool, true, false, nat_le, Option, Result, Ok, Err, subst, ◌∙◌, inl, inr, if◌then◌else◌}
-use Rattle.jass_base.specs.Outside.{Files, Rose}
-use Rattle.jass_base.proofs.Writing.{Rose-earlier}
-use Rattle.index_model.specs.Index.{IndexData}
-use Rattle.index_layout.specs.View.{index_text}
+use Rattle.shared_lemmas.proofs.Common.{◌≡◌, ◌≢◌, ◌≤◌, ◌+◌, ◌^◌, ℕ, List, length, Bool, true, false, nat_le, Option, Result, Ok, Err, subst, ◌∙◌, inl, inr, if◌then◌else◌, Appends}
+use Rattle.jass_top.proofs.Below.{Files, Rose, Rose-earlier, IndexData, index_text, AppendsPrefix}
 use Rattle.jass_top.specs.declared.stop.Stop.{Stop}
 use Rattle.jass_top.specs.declared.stop.Stop.TheVariants as stops
-use Rattle.jass_top.specs.Causes.{Runs, WriteFailed}
+use Rattle.jass_top.specs.Causes.{WriteFailed}
+use Rattle.jass_top.specs.Private.Causes.{Runs}
 use Rattle.jass_top.specs.IndexJudging.{fitting}
 use Rattle.jass_top.specs.declared.stop.Place.TheVariants.{Byte}
 use Rattle.jass_top.specs.Judging.{Judged, Accepted, Missing, Refuses, Shows}
-use Rattle.jass_top.specs.MakingMeaning.{on_made, on_index, judge_made}
+use Rattle.jass_top.specs.MakingMeaning.{on_made, judge_made}
+use Rattle.jass_top.specs.Private.HeldIndexes.{on_index}
 use Rattle.jass_top.specs.Meanings.{Output}
 use Rattle.jass_top.specs.Standing.{Keeps, Does, DoesPart, Stands, Counts, LeavesFile, LeavesFront}
 use Rattle.jass_top.specs.Worlds.{Outer}
 use Rattle.jass_top.proofs.Behind.{shown_then}
-use Rattle.std.specs.Io.KnownBytes.{Appends}
-use Rattle.jass_base.specs.Writing.{AppendsPrefix}
 
 -- the input was read, and nothing else was done
 pub record HasRead (before mid : Outer) : Type 0 where

@@ -1,12 +1,9 @@
 -- The text of an index in memory, read again.
 use Rattle.std.proofs.Common.{◌≡◌, ◌≤◌, ◌^◌, ℕ, List, length, Ok, Err, refl, sym, ap, ◌∙◌}
-use Rattle.index_model.specs.Index.{IndexData, IsIndex}
-use Rattle.index_layout.specs.declared.refusal.OpenFault.{OpenFault}
+use Rattle.jass_top.proofs.Below.{IndexData, IsIndex, OpenFault, read_index, Fails, FileView, IsFileView, chosen_view, file_bytes, index_postings}
 use Rattle.index_layout.specs.declared.refusal.OpenFault.TheVariants as faults
-use Rattle.index_layout.specs.Reading.{read_index}
-use Rattle.index_layout.specs.Refusals.{Fails}
-use Rattle.index_layout.specs.View.{FileView, IsFileView, chosen_view, file_bytes, index_postings, index_text}
-use Rattle.jass_top.specs.IndexJudging.{IsTextOf}
+use Rattle.index_layout.specs.View.{index_text}
+use Rattle.jass_top.specs.Private.HeldIndexes.{IsTextOf}
 
 module _ (texts : (index : IndexData) → IsIndex index → index_postings index ≤ 2 ^ 29 → length (index_text index) ≤ 2 ^ 32 → IsFileView (chosen_view index))
     (found : (v : FileView) → IsFileView v → read_index (file_bytes v) ≡ Ok v)

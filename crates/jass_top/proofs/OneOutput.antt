@@ -1,22 +1,13 @@
 -- A command has one output for its inputs.
-use Rattle.std.proofs.Common.{◌≡◌, ℕ, List, [], ◌∷◌, refl, sym, ap, ◌∙◌}
-use Rattle.std.specs.Prelude.{sum_by}
-use Rattle.std.specs.List.{AllZip}
-use Rattle.jass_base.specs.declared.answer.Grade.{Grade}
-use Rattle.jass_base.specs.declared.answer.Report.{Report}
-use Rattle.ranking_model.specs.declared.plan.QueryPlan.{QueryPlan}
-use Rattle.ranking_model.specs.Finality.{IsGrade}
-use Rattle.ranking_model.specs.Report.{IsReport, report_of}
-use Rattle.ranking_model.specs.Search.{QueryData, prefixes_granted, report_lines}
-use Rattle.index_model.specs.Index.{IndexData}
-use Rattle.jass_words.specs.Words.{CommandData, Once, Rewrite, Import, Check, Export, Migrate, Search, Serve, Trial, Help, Version}
+use Rattle.shared_lemmas.proofs.Common.{◌≡◌, ℕ, List, [], ◌∷◌, refl, sym, ap, ◌∙◌, sum_by, AllZip}
+use Rattle.jass_top.proofs.Below.{Grade, Report, QueryPlan, IsGrade, IsReport, QueryData, prefixes_granted, report_lines, IndexData, CommandData, Once, Search, Serve, Trial, trial_queries}
+use Rattle.ranking_model.specs.Report.{report_of}
 use Rattle.jass_top.specs.Answers.{OnceQuery, once_plan, once_prefix, once_steps, once_text}
 use Rattle.jass_top.specs.Commands.{meaning_of}
 use Rattle.jass_top.specs.Meanings.{HasOneOutput, Output}
 use Rattle.jass_top.specs.OnceMeaning.{IsOnceOutput}
 use Rattle.jass_top.specs.SearchMeaning.{AreSearchReports, IsSearchOutput, IsSearchReport, SearchInputs, plan_over_index, scored_postings}
 use Rattle.jass_top.specs.SearchMeaning as asked
-use Rattle.trial_data.specs.Trials.{trial_queries}
 use Rattle.jass_top.specs.TrialMeaning.{AreTrialReports, IsTrialOutput, queries_over, trial_budgets, trial_prefix, trial_summary}
 
 -- ---- reports are one
@@ -82,13 +73,7 @@ module _ (one_grade : (scores : List ℕ) (k bound : ℕ) (first second : Grade)
 
   pub one_output : (command : CommandData) → HasOneOutput (meaning_of command)
   one_output (Once ciff k budget terms) = λ inputs one other is theirs. same_answer (record { k = k; budget = budget; words = terms }) inputs one other is theirs
-  one_output (Rewrite from to) = λ inputs one other is theirs. is ∙ sym theirs
-  one_output (Import ciff index rule bits) = λ inputs one other is theirs. is ∙ sym theirs
-  one_output (Check index) = λ inputs one other is theirs. is ∙ sym theirs
-  one_output (Export index ciff) = λ inputs one other is theirs. is ∙ sym theirs
-  one_output (Migrate from to) = λ inputs one other is theirs. is ∙ sym theirs
   one_output (Search index queries run k limits tag mode) = λ inputs one other is theirs. same_search (record { k = k; budgets = limits; tag = tag }) inputs one other is theirs
   one_output (Serve index frames) = tt
   one_output (Trial seed docs terms queries) = λ inputs one other is theirs. same_trial (queries_over inputs (trial_queries seed docs terms queries)) inputs one other is theirs
-  one_output Help = λ inputs one other is theirs. is ∙ sym theirs
-  one_output Version = λ inputs one other is theirs. is ∙ sym theirs
+  one_output command = λ inputs one other is theirs. is ∙ sym theirs

@@ -1,11 +1,7 @@
 -- A pool after a session was opened, used and closed.
-use Rattle.std.proofs.Common.{◌≡◌, ℕ, ◌+◌, List, [], ◌∷◌, Option, Some, None, suc, zero, false, slice_set, refl, sym, subst, arith}
-use Rattle.std.specs.Prelude.{IsSome, is_some, slice_index_or}
-use Rattle.std.specs.List.{list_all}
-use Rattle.frame_pool.specs.Pool.{ChainEntry, IsInUse, PoolView, spare_of}
-use Rattle.frame_pool.specs.ChainView.{LeavesPool, chain_view}
-use Rattle.index_layout.specs.View.{FileView}
-use Rattle.jass_top.specs.SearchTexts.{IsReady}
+use Rattle.shared_lemmas.proofs.Common.{◌≡◌, ℕ, ◌+◌, List, [], ◌∷◌, Option, Some, None, suc, zero, false, slice_set, refl, sym, subst, arith, IsSome, is_some, slice_index_or, list_all}
+use Rattle.jass_top.proofs.Below.{ChainEntry, IsInUse, PoolView, spare_of, LeavesPool, chain_view, FileView}
+use Rattle.jass_top.specs.Private.SearchRuns.{IsReady}
 
 free_again : (xs : List (Option ChainEntry)) (i : ℕ) → IsSome (slice_index_or xs i None) → list_all is_some (slice_set xs i None) ≡ false
 free_again [] i used = cc

@@ -1,7 +1,6 @@
 -- A file that was created and then written through a sink.
 use Rattle.std.proofs.Common.{◌≤◌, ℕ, List, [], Option, Result, Ok, Err, arith}
-use Rattle.jass_base.specs.Outside.{Files, Sets}
-use Rattle.jass_base.proofs.Writing.{Rose-earlier}
+use Rattle.jass_top.proofs.Below.{Files, Sets, Rose-earlier}
 use Rattle.jass_top.specs.Private.RunFiles.{WroteFile, WroteBehind}
 use Rattle.jass_top.proofs.MadeFiles.{written, written_part}
 

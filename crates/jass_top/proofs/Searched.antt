@@ -1,32 +1,11 @@
 -- What a search leaves query by query is its output.
-use Rattle.std.proofs.Common.{◌≡◌, ℕ, ◌==◌, List, [], ◌∷◌, ◌++◌, length, map, flat_map, refl, sym, ap, subst, ◌∙◌, ◌+◌, ◌≤◌, Option, Some, if◌then◌else◌}
-use Rattle.std.specs.List.{AllZip}
-use Rattle.std.specs.Ordering.{nat_cmp}
-use Rattle.std.proofs.lemmas.List.{length-map}
-use Rattle.std.proofs.lemmas.List.Folds.{flat_map-map}
-use Rattle.jass_base.specs.declared.answer.Budget.{Budget}
-use Rattle.jass_base.specs.declared.answer.Report.{Report}
-use Rattle.jass_base.specs.declared.query_term.QueryTerm.{QueryTerm}
-use Rattle.jass_base.specs.Outside.{Files}
-use Rattle.jass_base.specs.Writing.{AppendsPrefix}
-use Rattle.ranking_model.specs.declared.entry.Entry.{Entry}
-use Rattle.ranking_model.specs.declared.plan.QueryPlan.{QueryPlan}
-use Rattle.ranking_model.specs.Flat.{IsFlat}
-use Rattle.ranking_model.specs.Plan.{plan_of}
-use Rattle.ranking_model.specs.Postings.{weighted_postings}
-use Rattle.ranking_model.specs.Promises.{IsPromised}
-use Rattle.ranking_model.specs.Report.{IsReport, report_line}
-use Rattle.ranking_model.specs.Scores.{top_k}
-use Rattle.ranking_model.specs.Search.{QueryData, first_part, prefixes_granted, report_lines, run_parts}
+use Rattle.shared_lemmas.proofs.Common.{◌≡◌, ℕ, ◌==◌, List, [], ◌∷◌, ◌++◌, length, map, refl, sym, ap, subst, ◌∙◌, ◌+◌, ◌≤◌, Option, Some, if◌then◌else◌, AllZip, nat_cmp, length-map, flat_map-map}
+use Rattle.std.proofs.Common.{flat_map}
+use Rattle.jass_top.proofs.Below.{Budget, Report, QueryTerm, Files, AppendsPrefix, Entry, QueryPlan, IsFlat, plan_of, weighted_postings, IsPromised, IsReport, report_line, top_k, QueryData, first_part, prefixes_granted, report_lines, run_parts, report_by, numbered_flat, FileView, IsFileView, Mode}
 use Rattle.ranking_model.specs.Search as model
-use Rattle.final_certificate.specs.Rule.{report_by}
-use Rattle.index_model.specs.Flat.{numbered_flat}
-use Rattle.index_layout.specs.View.{FileView, IsFileView}
-use Rattle.query_reader.specs.declared.mode.Mode.{Mode}
 use Rattle.session_engine.specs.Plans.{session_plan}
 use Rattle.jass_top.specs.SearchMeaning.{AreSearchReports, IsSearchOutput, IsSearchReport, Search, judge_search, plan_over_index, search_meaning}
-use Rattle.jass_top.specs.SearchTexts.{first_part_of, parts_reports, parts_run, plan_for, prefixes_for, query_run}
-use Rattle.jass_top.specs.SearchTexts.{queries_reports, search_output}
+use Rattle.jass_top.specs.SearchTexts.{first_part_of, parts_reports, parts_run, plan_for, prefixes_for, query_run, queries_reports, search_output}
 use Rattle.jass_top.specs.Judging.{Accepted, Shows}
 use Rattle.jass_top.specs.Standing.{DoesPart, LeavesFront}
 use Rattle.jass_top.specs.Worlds.{Outer}

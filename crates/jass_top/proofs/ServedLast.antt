@@ -1,21 +1,6 @@
 -- The line behind the last LF of an input.
-use Rattle.std.proofs.Common.{◌≡◌, ◌≢◌, ℕ, ◌+◌, ◌<◌, Bool, true, false, List, [], ◌∷◌, ◌++◌, length, Option, Result, Ok, Err, refl, sym, ap, subst, ◌∙◌, append-nil, inl, inr, arith}
-use Rattle.std.specs.Prelude.{All, IfErr, ◌⊎◌, ◌&&◌, not, nat_eq}
-use Rattle.jass_base.proofs.Writing.{Appends-none}
-use Rattle.std.specs.Str.Lines.{strip_carriage_return}
-use Rattle.std.proofs.lemmas.Bool.Decides.{nat_tests}
-use Rattle.jass_base.specs.Outside.{Rest, Wrote}
-use Rattle.jass_base.specs.declared.faults.WriteFault.{WriteFault}
-use Rattle.index_layout.specs.View.{FileView}
-use Rattle.text_lines.specs.Lines.{lines_of}
-use Rattle.feed_lines.specs.Lines.{Holds, Passed}
-use Rattle.feed_lines.specs.Waiting.{Waiting}
-use Rattle.session_desk.specs.declared.went.Went.{Went}
-use Rattle.session_desk.specs.Lines.{is_end, read_desk_line}
-use Rattle.session_desk.specs.Replies.{desk_after, desk_reply, desk_steps}
-use Rattle.session_desk.specs.State.{DeskState}
-use Rattle.session_desk.specs.Turns.{desk_postings, desk_replies, steps_from}
-use Rattle.gathered_text.specs.Gathering.{Gathers}
+use Rattle.shared_lemmas.proofs.Common.{◌≡◌, ◌≢◌, ℕ, ◌+◌, ◌<◌, Bool, true, false, List, [], ◌∷◌, ◌++◌, length, Option, Result, Ok, Err, refl, sym, ap, subst, ◌∙◌, append-nil, inl, inr, arith, All, IfErr, ◌⊎◌, ◌&&◌, not, nat_eq, strip_carriage_return, nat_tests}
+use Rattle.jass_top.proofs.Below.{Appends-none, Rest, Wrote, WriteFault, FileView, lines_of, Holds, Passed, Waiting, Went, is_end, read_desk_line, desk_after, desk_reply, desk_steps, DeskState, desk_postings, desk_replies, steps_from, Gathers}
 use Rattle.jass_top.specs.declared.serve_stop.ServeStop.{ServeStop}
 use Rattle.jass_top.specs.declared.serve_stop.ServeStop.TheVariants as stops
 use Rattle.jass_top.specs.Private.Serving.{AnswersLast, IsWhole, IsFrontAt, Leads, given_line, text_from}

@@ -1,29 +1,16 @@
 -- All lines of an input, from how each piece of it went.
-use Rattle.std.proofs.Common.{◌≡◌, ◌≢◌, ℕ, ◌+◌, ◌-◌, ◌<◌, ◌^◌, Bool, true, false, List, [], ◌++◌, length, take, Option, Some, None, Result, Ok, Err, refl, sym, ap, subst, ◌∙◌, append-nil, inl, inr, arith}
-use Rattle.std.specs.Prelude.{All, if◌then◌else◌}
-use Rattle.std.proofs.lemmas.List.Elements.{All-nil}
-use Rattle.std.specs.Io.KnownBytes.{Appends, Consumes, IsAtEnd}
-use Rattle.std.proofs.KnownBytes.{Consumes-trans, Consumes-kept, Consumes-nil}
-use Rattle.std.proofs.lemmas.List.{length-append}
-use Rattle.std.proofs.Math.Seq.{take-append-add, take-append_seam}
-use Rattle.jass_base.specs.Outside.{Rest}
-use Rattle.jass_base.specs.Writing.{AppendsPrefix}
-use Rattle.jass_base.proofs.Writing.{AppendsPrefix-longer}
-use Rattle.jass_base.specs.declared.faults.WriteFault.{WriteFault}
-use Rattle.index_layout.specs.View.{FileView}
-use Rattle.text_lines.specs.Lines.{lines_of}
-use Rattle.feed_lines.specs.Lines.{Holds, Passed, ended_lines}
-use Rattle.feed_lines.specs.Waiting.{Takes, TakesNothing, Waiting, is_too_long, nothing_yet}
+use Rattle.shared_lemmas.proofs.Common.{◌≡◌, ◌≢◌, ℕ, ◌+◌, ◌-◌, ◌<◌, Bool, true, false, List, [], ◌++◌, length, take, Option, Some, None, Result, Ok, Err, refl, sym, ap, subst, ◌∙◌, append-nil, inl, inr, arith, All, if◌then◌else◌, All-nil, Appends, Consumes, IsAtEnd, Consumes-trans, Consumes-kept}
+use Rattle.shared_lemmas.proofs.Common.{Consumes-nil, length-append, take-append-add, take-append_seam}
+use Rattle.jass_top.proofs.Below.{Rest, AppendsPrefix, AppendsPrefix-longer, WriteFault, FileView, lines_of, Holds, Passed, ended_lines, ReadFault, Filled, Fills, Takes, TakesNothing, Waiting, is_too_long, nothing_yet, Went, DeskState, new_state, steps_from, MOST_TAKEN}
 use Rattle.session_desk.specs.declared.went.Went.TheVariants as wents
-use Rattle.session_desk.specs.State.{DeskState, new_state}
-use Rattle.session_desk.specs.Turns.{desk_postings, desk_replies, steps_from}
+use Rattle.session_desk.specs.Turns.{desk_postings, desk_replies}
 use Rattle.jass_top.specs.declared.serve_stop.ServeStop.{ServeStop}
 use Rattle.jass_top.specs.declared.serve_stop.ServeStop.TheVariants as stops
 use Rattle.jass_top.specs.ServeMeaning.{IsInput, has_end}
 use Rattle.jass_top.specs.Private.Serving.{AnswersLines, AnswersLast, Finished, IsFront, IsFrontAt, IsWhole, Leads, Moves, Served, Standing, text_from}
 use Rattle.jass_top.specs.Private.Sides.{Side}
 use Rattle.jass_top.proofs.Sides.{side_none, side_then}
-use Rattle.jass_top.proofs.Serving.{replies_none, steps_none}
+use Rattle.jass_top.proofs.Serving.{answers_as, replies_none, steps_none}
 
 -- at the beginning nothing was said
 at_first : (file : FileView) (frames : ℕ) (rest : List (List ℕ)) → desk_replies file frames rest ≡ text_from file (new_state frames) rest
@@ -66,20 +53,19 @@ module _ {S : Type 0} {written : S → Option (List ℕ)} {faults : S → ℕ} {
 
   recast_err : {T : Type 0} {old new : S} {before after text : List ℕ} (fault : WriteFault)
       → Side {T = T} {E = WriteFault} written faults rest (record {}) old new before after text (Err fault)
-      → Side {T = Unit {0}} {E = ServeStop} written faults rest stops.WriteFault old new before after text
-      (Err stops.WriteFault)
+      → Side {T = Unit {0}} {E = ServeStop} written faults rest stops.WriteFault old new before after text (Err stops.WriteFault)
   recast_err fault done = record { bytes = done.bytes; later = done.later; failed = λ is. done.failed refl; rest_stays = done.rest_stays }
 
   exactly : {T E : Type 0} {mine : E} (old new : S) (text : List ℕ) (t : T) → Side written faults rest mine old new [] [] text (Ok t) → Appends (written old) (written new) text
   exactly old new text t side = subst (λ (sent : List ℕ). Appends (written old) (written new) sent) (sym (append-nil side.bytes.0) ∙ side.bytes.2) side.bytes.1
 
-  pub serving_none : (none : Passed [] [] []) (holds : Holds (nothing_yet (2 ^ 30)) []) (out : S) (file : FileView) (frames : ℕ) (before : Option (List ℕ)) (steps : ℕ) (w : Waiting) (state : DeskState) → w ≡ nothing_yet (2 ^ 30) → state ≡ new_state frames
+  pub serving_none : (none : Passed [] [] []) (holds : Holds (nothing_yet MOST_TAKEN) []) (out : S) (file : FileView) (frames : ℕ) (before : Option (List ℕ)) (steps : ℕ) (w : Waiting) (state : DeskState) → w ≡ nothing_yet MOST_TAKEN → state ≡ new_state frames
       → Serving written faults rest out out file frames before before steps steps w state
   serving_none none holds out file frames before steps w state is new = record {
     taken = [];
     said = [];
     scored = 0;
-    stands = subst (λ (v : Waiting). Standing file frames [] [] 0 v state) (sym is) (subst (λ (s : DeskState). Standing file frames [] [] 0 (nothing_yet (2 ^ 30)) s) (sym new) (record {
+    stands = subst (λ (v : Waiting). Standing file frames [] [] 0 v state) (sym is) (subst (λ (s : DeskState). Standing file frames [] [] 0 (nothing_yet MOST_TAKEN) s) (sym new) (record {
       passed = [];
       pending = [];
       here = none;
@@ -94,10 +80,10 @@ module _ {S : Type 0} {written : S → Option (List ℕ)} {faults : S → ℕ} {
     consumed = Consumes-nil before;
   }
 
-  pub serving_on : (old mid out : S) (file same : FileView) (frames : ℕ) (before left : Option (List ℕ)) (steps more later : ℕ) (w u : Waiting) (state last : DeskState) → same ≡ file
+  pub serving_on : {old mid out : S} {file same : FileView} {frames : ℕ} {before left : Option (List ℕ)} {steps more later : ℕ} {w u : Waiting} {state last : DeskState} → same ≡ file
       → Serving written faults rest old mid file frames before left steps more w state → AnswersLines written faults rest mid out [] [] more later same w u state last (Ok wents.On)
       → Serving written faults rest old out file frames before left steps later u last
-  serving_on old mid out file same frames before left steps more later w u state last is s a =
+  serving_on {old} {mid} {out} {file} {same} {frames} {before} {left} {steps} {more} {later} {w} {u} {state} {last} is s a =
       let moves = subst (λ (f : FileView). Moves f w u state last a.text a.scored) is a.goes in
       record {
         taken = s.taken;
@@ -109,18 +95,18 @@ module _ {S : Type 0} {written : S → Option (List ℕ)} {faults : S → ℕ} {
         consumed = s.consumed;
       }
 
-  pub serving_left : (old mid out : S) (file same : FileView) (frames : ℕ) (before left : Option (List ℕ)) (steps more later : ℕ) (w u : Waiting) (state last : DeskState) → same ≡ file
+  pub serving_left : {old mid out : S} {file same : FileView} {frames : ℕ} {before left : Option (List ℕ)} {steps more later : ℕ} {w u : Waiting} {state last : DeskState} → same ≡ file
       → Serving written faults rest old mid file frames before left steps more w state → AnswersLines written faults rest mid out [] [] more later same w u state last (Ok wents.On) → u.left ≡ w.left
-  serving_left old mid out file same frames before left steps more later w u state last is s a =
+  serving_left {old} {mid} {out} {file} {same} {frames} {before} {left} {steps} {more} {later} {w} {u} {state} {last} is s a =
       let moves = subst (λ (f : FileView). Moves f w u state last a.text a.scored) is a.goes in
       omega (arith, s.stands.counted, (moves frames s.taken s.said s.scored s.stands).counted)
 
   pub serving_taken : (passed_more : (taken : List ℕ) (passed : List (List ℕ)) (pending piece : List ℕ) → Passed taken passed pending → Passed (taken ++ piece) passed (pending ++ piece))
       (holds_more : (before after : Option (List ℕ)) (old new : Waiting) (pending : List ℕ) (takes : Takes before after old new) → Holds old pending → All (λ b. b ≢ 10) old.bytes → Holds new (pending ++ takes.taken))
-      (old out : S) (file : FileView) (frames : ℕ) (before left after : Option (List ℕ)) (steps later : ℕ) (w u : Waiting) (state : DeskState)
+      {old out : S} {file : FileView} {frames : ℕ} {before left after : Option (List ℕ)} {steps later : ℕ} {w u : Waiting} {state : DeskState}
       → Serving written faults rest old out file frames before left steps later w state → (takes : Takes left after w u) → All (λ b. b ≢ 10) w.bytes
       → Serving written faults rest old out file frames before after steps later u state
-  serving_taken passed_more holds_more old out file frames before left after steps later w u state s takes free = record {
+  serving_taken passed_more holds_more {old} {out} {file} {frames} {before} {left} {after} {steps} {later} {w} {u} {state} s takes free = record {
     taken = s.taken ++ takes.taken;
     said = s.said;
     scored = s.scored;
@@ -139,6 +125,23 @@ module _ {S : Type 0} {written : S → Option (List ℕ)} {faults : S → ℕ} {
     consumed = Consumes-trans before left after s.taken takes.taken s.consumed takes.consumed;
   }
 
+module _ {S : Type 0} {written : S → Option (List ℕ)} {faults : S → ℕ} {rest : S → Rest} where
+  -- with an empty buffer, and by what was told
+  pub emptied : {old out : S} {b : List ℕ} {steps later : ℕ} {file : FileView} {w u : Waiting} {state last : DeskState} {result : Result Went WriteFault} → b ≡ []
+      → AnswersLines written faults rest old out b [] steps later file w u state last result → AnswersLines written faults rest old out [] [] steps later file w u state last result
+  emptied {old} {out} {b} {steps} {later} {file} {w} {u} {state} {last} {result} empty a =
+      subst (λ (bytes : List ℕ). AnswersLines written faults rest old out bytes [] steps later file w u state last result) empty a
+
+  pub answered : {old out : S} {b : List ℕ} {steps later : ℕ} {file : FileView} {w u : Waiting} {state last : DeskState} {told went : Went} → b ≡ [] → told ≡ went
+      → AnswersLines written faults rest old out b [] steps later file w u state last (Ok told) → AnswersLines written faults rest old out [] [] steps later file w u state last (Ok went)
+  answered empty is a = answers_as is (emptied empty a)
+
+pub told_as : {r : Result Went WriteFault} {told went : Went} → r ≡ Ok told → told ≡ went → r ≡ Ok went
+told_as is same = cc
+
+pub filled : (before after : Option (List ℕ)) (w u : Waiting) {f g : Filled} → f ≡ g → Fills {E = ReadFault} before after w u (Ok f) → Fills {E = ReadFault} before after w u (Ok g)
+filled before after w u is fills = subst (λ (h : Filled). Fills {E = ReadFault} before after w u (Ok h)) is fills
+
 -- what is said for the lines that were passed
 first_replies : (file : FileView) (frames : ℕ) (taken said : List ℕ) (scored : ℕ) (w : Waiting) (state : DeskState) → (s : Standing file frames taken said scored w state) → desk_replies file frames s.passed ≡ said
 first_replies file frames taken said scored w state s = ap (desk_replies file frames) (sym (append-nil s.passed)) ∙ s.replies [] ∙ ap (λ (t : List ℕ). said ++ t) (replies_none file state) ∙ append-nil said
@@ -147,31 +150,31 @@ first_steps : (file : FileView) (frames : ℕ) (taken said : List ℕ) (scored :
 first_steps file frames taken said scored w state s = (let sum = ap (desk_postings file frames) (sym (append-nil s.passed)) ∙ s.steps [] in let none = steps_none file state in omega (arith, sum, none))
 
 -- nothing was taken
-pub still_left : (before after : Option (List ℕ)) (w u : Waiting) → TakesNothing before after w u → u.left ≡ w.left
-still_left before after w u t = elim t.bytes [ inl same ↦ ap (λ (v : Waiting). v.left) same | inr less ↦ ap (λ (v : Waiting). v.left) less ∙ of_kept (is_too_long w) ]
+pub still_left : {before after : Option (List ℕ)} {w u : Waiting} → TakesNothing before after w u → u.left ≡ w.left
+still_left {w = w} t = elim t.bytes [ inl same ↦ ap (λ (v : Waiting). v.left) same | inr less ↦ ap (λ (v : Waiting). v.left) less ∙ of_kept (is_too_long w) ]
   where
     of_kept : (b : Bool) → (let v : Waiting = if b then record { bytes = []; long = true; left = w.left } else w in v).left ≡ w.left
     of_kept true = refl
     of_kept false = refl
 
-pub still_free : (before after : Option (List ℕ)) (w u : Waiting) → TakesNothing before after w u → All (λ b. b ≢ 10) w.bytes → All (λ b. b ≢ 10) u.bytes
-still_free before after w u t free = elim t.bytes [ inl same ↦ subst (λ (v : Waiting). All (λ b. b ≢ 10) v.bytes) (sym same) free | inr less ↦ subst (λ (v : Waiting). All (λ b. b ≢ 10) v.bytes) (sym less) (of_kept (is_too_long w)) ]
+pub still_free : {before after : Option (List ℕ)} {w u : Waiting} → TakesNothing before after w u → All (λ b. b ≢ 10) w.bytes → All (λ b. b ≢ 10) u.bytes
+still_free {w = w} t free = elim t.bytes [ inl same ↦ subst (λ (v : Waiting). All (λ b. b ≢ 10) v.bytes) (sym same) free | inr less ↦ subst (λ (v : Waiting). All (λ b. b ≢ 10) v.bytes) (sym less) (of_kept (is_too_long w)) ]
   where
     of_kept : (b : Bool) → All (λ b. b ≢ 10) (let v : Waiting = if b then record { bytes = []; long = true; left = w.left } else w in v).bytes
     of_kept true = All-nil (λ b. b ≢ 10)
     of_kept false = free
 
 module _ {S : Type 0} {written : S → Option (List ℕ)} {faults : S → ℕ} {rest : S → Rest} where
-  pub served_end : (old mid out : S) (file same : FileView) (frames : ℕ) (before left : Option (List ℕ)) (steps more later : ℕ) (w u : Waiting) (state last : DeskState) → same ≡ file
+  pub served_end : {old mid out : S} {file same : FileView} {frames : ℕ} {before left : Option (List ℕ)} {steps more later : ℕ} {w u : Waiting} {state last : DeskState} → same ≡ file
       → Serving written faults rest old mid file frames before left steps more w state → AnswersLines written faults rest mid out [] [] more later same w u state last (Ok wents.End)
       → Served {T = Unit {0}} written faults rest old out file frames before left steps later (Ok tt)
-  served_end old mid out file same frames before left steps more later w u state last is s a =
+  served_end {old} {mid} {out} {file} {same} {frames} {before} {left} {steps} {more} {later} {w} {u} {state} {last} is s a =
       let leads = subst (λ (f : FileView). Leads f w state a.text a.scored (Finished f)) is a.goes in
       let f = leads frames s.taken s.said s.scored s.stands in
       let side = side_then s.said a.text s.side (recast wents.End a.side) in
       let behind = rest_of left in
-      let k = 2 ^ 30 - length s.taken in
-      let size : length s.taken + k ≡ 2 ^ 30 = omega (arith, f.size) in
+      let k = MOST_TAKEN - length s.taken in
+      let size : length s.taken + k ≡ MOST_TAKEN = omega (arith, f.size) in
       let scored = f.steps behind in
       record {
         serves = record {
@@ -189,9 +192,9 @@ module _ {S : Type 0} {written : S → Option (List ℕ)} {faults : S → ℕ} {
         rest_stays = side.rest_stays;
       }
 
-  served_first : (old out : S) (file : FileView) (frames : ℕ) (before left : Option (List ℕ)) (steps later : ℕ) (w : Waiting) (state : DeskState)
+  served_first : {old out : S} {file : FileView} {frames : ℕ} {before left : Option (List ℕ)} {steps later : ℕ} {w : Waiting} {state : DeskState}
       → Serving written faults rest old out file frames before left steps later w state → Served {T = Unit {0}} written faults rest old out file frames before left steps later (Err stops.NoMemory)
-  served_first old out file frames before left steps later w state s =
+  served_first {old} {out} {file} {frames} {before} {left} {steps} {later} {w} {state} s =
       let scored = first_steps file frames s.taken s.said s.scored w state s.stands in
       record {
         serves = record {
@@ -211,17 +214,17 @@ module _ {S : Type 0} {written : S → Option (List ℕ)} {faults : S → ℕ} {
         rest_stays = s.side.rest_stays;
       }
 
-  pub served_memory : (old mid out : S) (file same : FileView) (frames : ℕ) (before left : Option (List ℕ)) (steps more later : ℕ) (w u : Waiting) (state last : DeskState) → same ≡ file
+  pub served_memory : {old mid out : S} {file same : FileView} {frames : ℕ} {before left : Option (List ℕ)} {steps more later : ℕ} {w u : Waiting} {state last : DeskState} → same ≡ file
       → Serving written faults rest old mid file frames before left steps more w state → AnswersLines written faults rest mid out [] [] more later same w u state last (Ok wents.NoMemory)
       → Served {T = Unit {0}} written faults rest old out file frames before left steps later (Err stops.NoMemory)
-  served_memory old mid out file same frames before left steps more later w u state last is s a =
-      served_first old out file frames before left steps later u last (serving_on old mid out file same frames before left steps more later w u state last is s
+  served_memory {old} {mid} {out} {file} {same} {frames} {before} {left} {steps} {more} {later} {w} {u} {state} {last} is s a =
+      served_first (serving_on {last = last} is s
       (record { text = a.text; scored = a.scored; side = record { bytes = a.side.bytes; later = a.side.later; failed = tt; rest_stays = a.side.rest_stays }; counted = a.counted; goes = a.goes }))
 
-  pub served_cut : (old mid out : S) (file same : FileView) (frames : ℕ) (before left : Option (List ℕ)) (steps more later : ℕ) (w u : Waiting) (state last : DeskState) (fault : WriteFault) → same ≡ file
+  pub served_cut : {old mid out : S} {file same : FileView} {frames : ℕ} {before left : Option (List ℕ)} {steps more later : ℕ} {w u : Waiting} {state last : DeskState} {fault : WriteFault} → same ≡ file
       → Serving written faults rest old mid file frames before left steps more w state → AnswersLines written faults rest mid out [] [] more later same w u state last (Err fault)
       → Served {T = Unit {0}} written faults rest old out file frames before left steps later (Err stops.WriteFault)
-  served_cut old mid out file same frames before left steps more later w u state last fault is s a =
+  served_cut {old} {mid} {out} {file} {same} {frames} {before} {left} {steps} {more} {later} {w} {u} {state} {last} {fault} is s a =
       let leads = subst (λ (f : FileView). Leads f w state a.text a.scored (IsFront f)) is a.goes in
       let front = leads frames s.taken s.said s.scored s.stands (rest_of left) in
       let side = side_then s.said a.text s.side (recast_err fault a.side) in
@@ -240,10 +243,10 @@ module _ {S : Type 0} {written : S → Option (List ℕ)} {faults : S → ℕ} {
       }
 
   pub serving_still : (holds_still : (before after : Option (List ℕ)) (old new : Waiting) (pending : List ℕ) → TakesNothing before after old new → Holds old pending → All (λ b. b ≢ 10) old.bytes → Holds new pending)
-      (old out : S) (file : FileView) (frames : ℕ) (before left after : Option (List ℕ)) (steps later : ℕ) (w u : Waiting) (state : DeskState)
+      {old out : S} {file : FileView} {frames : ℕ} {before left after : Option (List ℕ)} {steps later : ℕ} {w u : Waiting} {state : DeskState}
       → Serving written faults rest old out file frames before left steps later w state → TakesNothing left after w u → All (λ b. b ≢ 10) w.bytes
       → Serving written faults rest old out file frames before after steps later u state
-  serving_still holds_still old out file frames before left after steps later w u state s nothing free = record {
+  serving_still holds_still {old} {out} {file} {frames} {before} {left} {after} {steps} {later} {w} {u} {state} s nothing free = record {
     taken = s.taken;
     said = s.said;
     scored = s.scored;
@@ -252,7 +255,7 @@ module _ {S : Type 0} {written : S → Option (List ℕ)} {faults : S → ℕ} {
       pending = s.stands.pending;
       here = s.stands.here;
       holds = holds_still left after w u s.stands.pending nothing s.stands.holds free;
-      counted = omega (arith, s.stands.counted, still_left left after w u nothing);
+      counted = omega (arith, s.stands.counted, still_left nothing);
       endless = s.stands.endless;
       replies = s.stands.replies;
       steps = s.stands.steps;
@@ -264,10 +267,10 @@ module _ {S : Type 0} {written : S → Option (List ℕ)} {faults : S → ℕ} {
 
   module _ (all_free : (w : Waiting) (pending : List ℕ) → Holds w pending → All (λ b. b ≢ 10) w.bytes → All (λ b. b ≢ 10) pending)
       (passed_whole : (taken : List ℕ) (passed : List (List ℕ)) (pending : List ℕ) → Passed taken passed pending → All (λ b. b ≢ 10) pending → ended_lines taken ≡ passed) where
-    pub served_fault : (old out : S) (file : FileView) (frames : ℕ) (before left : Option (List ℕ)) (steps later : ℕ) (w : Waiting) (state : DeskState)
+    pub served_fault : {old out : S} {file : FileView} {frames : ℕ} {before left : Option (List ℕ)} {steps later : ℕ} {w : Waiting} {state : DeskState}
         → Serving written faults rest old out file frames before left steps later w state → All (λ b. b ≢ 10) w.bytes
         → Served {T = Unit {0}} written faults rest old out file frames before left steps later (Err stops.ReadFault)
-    served_fault old out file frames before left steps later w state s free =
+    served_fault {old} {out} {file} {frames} {before} {left} {steps} {later} {w} {state} s free =
         let lines = passed_whole s.taken s.stands.passed s.stands.pending s.stands.here (all_free w s.stands.pending s.stands.holds free) in
         let scored = ap (desk_postings file frames) lines ∙ first_steps file frames s.taken s.said s.scored w state s.stands in
         record {
@@ -285,12 +288,12 @@ module _ {S : Type 0} {written : S → Option (List ℕ)} {faults : S → ℕ} {
           rest_stays = s.side.rest_stays;
         }
 
-    pub served_limit : (old out : S) (file : FileView) (frames : ℕ) (before left : Option (List ℕ)) (steps later : ℕ) (w : Waiting) (state : DeskState)
+    pub served_limit : {old out : S} {file : FileView} {frames : ℕ} {before left : Option (List ℕ)} {steps later : ℕ} {w : Waiting} {state : DeskState}
         → Serving written faults rest old out file frames before left steps later w state → All (λ b. b ≢ 10) w.bytes → w.left ≡ 0
         → Served {T = Unit {0}} written faults rest old out file frames before left steps later (Err stops.Limit)
-    served_limit old out file frames before left steps later w state s free none =
-        let size : length s.taken ≡ 2 ^ 30 = omega (arith, s.stands.counted, none) in
-        let front : take (2 ^ 30) (s.taken ++ rest_of left) ≡ s.taken = ap (λ (n : ℕ). take n (s.taken ++ rest_of left)) (sym size) ∙ take-append_seam s.taken (rest_of left) in
+    served_limit {old} {out} {file} {frames} {before} {left} {steps} {later} {w} {state} s free none =
+        let size : length s.taken ≡ MOST_TAKEN = omega (arith, s.stands.counted, none) in
+        let front : take MOST_TAKEN (s.taken ++ rest_of left) ≡ s.taken = ap (λ (n : ℕ). take n (s.taken ++ rest_of left)) (sym size) ∙ take-append_seam s.taken (rest_of left) in
         let lines = ap ended_lines front ∙ passed_whole s.taken s.stands.passed s.stands.pending s.stands.here (all_free w s.stands.pending s.stands.holds free) in
         let scored = ap (desk_postings file frames) lines ∙ first_steps file frames s.taken s.said s.scored w state s.stands in
         record {
@@ -311,13 +314,12 @@ module _ {S : Type 0} {written : S → Option (List ℕ)} {faults : S → ℕ} {
           rest_stays = s.side.rest_stays;
         }
 
-  pub served_last : (old mid out : S) (file same : FileView) (frames : ℕ) (before left : Option (List ℕ)) (steps more later : ℕ) (w : Waiting) (state : DeskState) (result : Result (Unit {0}) ServeStop) → same ≡ file
+  pub served_last : {old mid out : S} {file same : FileView} {frames : ℕ} {before left : Option (List ℕ)} {steps more later : ℕ} {w : Waiting} {state : DeskState} (result : Result (Unit {0}) ServeStop) → same ≡ file
       → Serving written faults rest old mid file frames before left steps more w state → IsAtEnd left → 0 < w.left → AnswersLast written faults rest mid out more later same w state result
       → Served {T = Unit {0}} written faults rest old out file frames before left steps later result
-  served_last old mid out file same frames before left steps more later w state (Ok x) is s end some a =
+  served_last {old} {mid} {out} {file} {same} {frames} {before} {left} {steps} {more} {later} {w} {state} (Ok x) is s end some a =
       let leads = subst (λ (f : FileView). Leads f w state a.text a.scored (IsWhole f)) is a.goes in
-      let whole = leads frames s.taken s.said s.scored s.stands in
-      let side = side_then s.said a.text s.side a.side in
+      let whole = leads frames s.taken s.said s.scored s.stands in let side = side_then s.said a.text s.side a.side in
       record {
         serves = record {
           input = s.taken;
@@ -333,13 +335,12 @@ module _ {S : Type 0} {written : S → Option (List ℕ)} {faults : S → ℕ} {
         failed = tt;
         rest_stays = side.rest_stays;
       }
-  served_last old mid out file same frames before left steps more later w state (Err stops.NoMemory) is s end some a =
-      served_first old out file frames before left steps later w state (subst (λ (o : S). Serving written faults rest old o file frames before left steps later w state) (sym (a.same refl))
+  served_last {old} {mid} {out} {file} {same} {frames} {before} {left} {steps} {more} {later} {w} {state} (Err stops.NoMemory) is s end some a =
+      served_first (subst (λ (o : S). Serving written faults rest old o file frames before left steps later w state) (sym (a.same refl))
       (record { taken = s.taken; said = s.said; scored = s.scored; stands = s.stands; side = s.side; counted = omega (arith, s.counted, a.counted, a.goes.1); consumed = s.consumed }))
-  served_last old mid out file same frames before left steps more later w state (Err stops.WriteFault) is s end some a =
+  served_last {old} {mid} {out} {file} {same} {frames} {before} {left} {steps} {more} {later} {w} {state} (Err stops.WriteFault) is s end some a =
       let leads = subst (λ (f : FileView). Leads f w state a.text a.scored (λ frames taken said scored. IsFrontAt f frames taken said scored [])) is a.goes in
-      let front = leads frames s.taken s.said s.scored s.stands in
-      let side = side_then s.said a.text s.side a.side in
+      let front = leads frames s.taken s.said s.scored s.stands in let side = side_then s.said a.text s.side a.side in
       record {
         serves = record {
           input = s.taken ++ [];
@@ -353,5 +354,5 @@ module _ {S : Type 0} {written : S → Option (List ℕ)} {faults : S → ℕ} {
         failed = side.failed;
         rest_stays = side.rest_stays;
       }
-  served_last old mid out file same frames before left steps more later w state (Err stops.ReadFault) is s end some a = absurd a.goes
-  served_last old mid out file same frames before left steps more later w state (Err stops.Limit) is s end some a = absurd a.goes
+  served_last {old} {mid} {out} {file} {same} {frames} {before} {left} {steps} {more} {later} {w} {state} (Err stops.ReadFault) is s end some a = absurd a.goes
+  served_last {old} {mid} {out} {file} {same} {frames} {before} {left} {steps} {more} {later} {w} {state} (Err stops.Limit) is s end some a = absurd a.goes

@@ -1,30 +1,16 @@
 -- Lines of an input that are served one by one.
-use Rattle.std.proofs.Common.{◌≡◌, ℕ, ◌+◌, ◌<◌, ◌≤◌, Bool, true, false, List, [], ◌∷◌, ◌++◌, length, take, drop, Option, Some, None, Result, Ok, Err, refl, sym, ap, subst, ◌∙◌, append_assoc, append-nil, arith}
-use Rattle.std.specs.Prelude.{◌||◌, not, nat_lt, ◌↔◌, IsTrue, if◌then◌else◌}
-use Rattle.std.specs.Io.KnownBytes.{Appends}
-use Rattle.std.specs.List.{concat}
-use Rattle.std.specs.Str.Lines.{strip_carriage_return}
-use Rattle.std.proofs.lemmas.Bool.Decides.{nat_tests}
-use Rattle.std.proofs.lemmas.Str.{IsUtf8-nil, is_utf8-from_IsUtf8}
-use Rattle.std.specs.Str.{is_utf8}
-use Rattle.query_reader.specs.Slices.{blank_runs}
-use Rattle.session_desk.specs.declared.went.Went.{Went}
+use Rattle.shared_lemmas.proofs.Common.{◌≡◌, ℕ, ◌+◌, ◌<◌, ◌≤◌, Bool, true, false, List, [], ◌∷◌, ◌++◌, length, take, drop, Option, Some, None, Result, Ok, Err, refl, sym, ap, subst, ◌∙◌, append_assoc, append-nil, arith, ◌||◌, not, nat_lt, ◌↔◌, IsTrue, if◌then◌else◌, Appends, concat}
+use Rattle.shared_lemmas.proofs.Common.{strip_carriage_return, nat_tests, IsUtf8-nil, is_utf8-from_IsUtf8, is_utf8}
+use Rattle.jass_top.proofs.Below.{blank_runs, Went, text_where, may_take_memory, Gathers, FileView, lines_of, Holds, IsFirstLine, Passed, PassesLine, ended_lines, EndsFirst, Waiting, passed_to, DeskCommand, Open, End, command_in, is_end_command, after_of, reply_to, steps_of, DeskState}
+use Rattle.jass_top.proofs.Below.{desk_postings, desk_replies, Rest, Wrote, WriteFault}
+use Rattle.session_desk.specs.Endings.{may_want_memory}
 use Rattle.session_desk.specs.declared.went.Went.TheVariants as wents
-use Rattle.session_desk.specs.Endings.{may_take_memory, may_want_memory}
-use Rattle.index_layout.specs.View.{FileView}
-use Rattle.text_lines.specs.Lines.{lines_of}
-use Rattle.feed_lines.specs.Lines.{Holds, IsFirstLine, Passed, PassesLine, ended_lines}
-use Rattle.feed_lines.specs.Waiting.{EndsFirst, Waiting, passed_to}
-use Rattle.session_desk.specs.Lines.{DeskCommand, Open, Grant, Top, Why, Close, End, command_in, is_end, is_end_command, read_desk_line}
-use Rattle.session_desk.specs.Replies.{after_of, desk_after, desk_reply, desk_steps, reply_to, steps_of}
-use Rattle.session_desk.specs.State.{DeskState}
-use Rattle.session_desk.specs.Turns.{desk_postings, desk_replies, replies_from, steps_from}
+use Rattle.session_desk.specs.Lines.{is_end, read_desk_line}
+use Rattle.session_desk.specs.Replies.{desk_after, desk_reply, desk_steps}
+use Rattle.session_desk.specs.Turns.{replies_from, steps_from}
 use Rattle.jass_top.specs.ServeMeaning.{has_end}
-use Rattle.jass_base.specs.Outside.{Rest}
-use Rattle.jass_base.specs.declared.faults.WriteFault.{WriteFault}
 use Rattle.jass_top.specs.Private.Serving.{AnswersLines, Finished, Goes, IsFront, Leads, Moves, Standing, given_line, text_from}
 use Rattle.jass_top.proofs.Sides.{side_none, side_same, side_then}
-use Rattle.jass_base.specs.Outside.{Wrote}
 use Rattle.jass_top.specs.Private.Sides.{Side}
 
 -- ---- the replies to lines, one by one
@@ -120,15 +106,13 @@ then_leads P file w new state after first second n m moves leads frames taken sa
 
 pub replies_given : (file : FileView) (state : DeskState) (actual line : List ℕ) (rest : List (List ℕ)) → read_desk_line actual ≡ read_desk_line line → is_end line ≡ false
     → text_from file state (actual ∷ rest) ≡ desk_reply file state line ++ text_from file (desk_after file state line) rest
-replies_given file state actual line rest same on =
-    replies_more file state actual rest (same_end actual line same ∙ on)
+replies_given file state actual line rest same on = replies_more file state actual rest (same_end actual line same ∙ on)
     ∙ ap (λ (t : List ℕ). t ++ text_from file (desk_after file state actual) rest) (same_reply file state actual line same)
     ∙ ap (λ (s : DeskState). desk_reply file state line ++ text_from file s rest) (same_after file state actual line same)
 
 pub steps_given : (file : FileView) (state : DeskState) (actual line : List ℕ) (rest : List (List ℕ)) → read_desk_line actual ≡ read_desk_line line → is_end line ≡ false
     → steps_from file state (actual ∷ rest) ≡ desk_steps file state line + steps_from file (desk_after file state line) rest
-steps_given file state actual line rest same on =
-    steps_more file state actual rest (same_end actual line same ∙ on)
+steps_given file state actual line rest same on = steps_more file state actual rest (same_end actual line same ∙ on)
     ∙ ap (λ (n : ℕ). n + steps_from file (desk_after file state actual) rest) (same_steps file state actual line same)
     ∙ ap (λ (s : DeskState). desk_steps file state line + steps_from file s rest) (same_after file state actual line same)
 
@@ -180,8 +164,7 @@ module _ (loses : Loses) (passes : PassesFirst) (passed_line : PassedLine) where
   pub line_moves : (file : FileView) (w : Waiting) (state : DeskState) (end : ℕ) (line : List ℕ) → EndsFirst w.bytes end → line ≡ given_line w (take end w.bytes) → is_end line ≡ false
       → Moves file w (passed_to end w) state (desk_after file state line) (desk_reply file state line) (desk_steps file state line)
   line_moves file w state end line first is on frames taken said scored s =
-      let p = passes w s.pending end s.holds first in
-      let actual = strip_carriage_return p.line in
+      let p = passes w s.pending end s.holds first in let actual = strip_carriage_return p.line in
       let same = same_line w s.pending line end p is in
       record {
         passed = s.passed ++ actual ∷ [];
@@ -192,16 +175,14 @@ module _ (loses : Loses) (passes : PassesFirst) (passed_line : PassedLine) where
         endless = still_endless s.passed actual s.endless (same_end actual line same ∙ on);
         replies = λ rest. ap (desk_replies file frames) (append_assoc s.passed (actual ∷ []) rest) ∙ s.replies (actual ∷ rest) ∙ ap (λ (t : List ℕ). said ++ t) (replies_given file state actual line rest same on)
             ∙ sym (append_assoc said (desk_reply file state line) (text_from file (desk_after file state line) rest));
-        steps = λ rest.
-            (let one = ap (desk_postings file frames) (append_assoc s.passed (actual ∷ []) rest) ∙ s.steps (actual ∷ rest) in
+        steps = λ rest. (let one = ap (desk_postings file frames) (append_assoc s.passed (actual ∷ []) rest) ∙ s.steps (actual ∷ rest) in
             let two = steps_given file state actual line rest same on in omega (arith, one, two));
       }
 
   pub line_finishes : (file : FileView) (w : Waiting) (state : DeskState) (end : ℕ) (line : List ℕ) → EndsFirst w.bytes end → line ≡ given_line w (take end w.bytes) → is_end line ≡ true
       → Leads file w state (desk_reply file state line) (desk_steps file state line) (Finished file)
   line_finishes file w state end line first is last frames taken said scored s =
-      let p = passes w s.pending end s.holds first in
-      let actual = strip_carriage_return p.line in
+      let p = passes w s.pending end s.holds first in let actual = strip_carriage_return p.line in
       let same = same_line w s.pending line end p is in
       let after = passed_line taken s.passed s.pending p.line (drop (end + 1) w.bytes) s.here p.first in
       let lines = λ (more : List ℕ). after.lines more ∙ append_assoc s.passed (actual ∷ []) (lines_of (drop (end + 1) w.bytes ++ more)) in
@@ -210,8 +191,7 @@ module _ (loses : Loses) (passes : PassesFirst) (passed_line : PassedLine) where
         ended = λ more. ap has_end (after.ended more ∙ append_assoc s.passed (actual ∷ []) (ended_lines (drop (end + 1) w.bytes ++ more))) ∙ end_there s.passed actual (ended_lines (drop (end + 1) w.bytes ++ more)) (same_end actual line same ∙ last);
         replies = λ more. ap (desk_replies file frames) (lines more) ∙ s.replies (actual ∷ lines_of (drop (end + 1) w.bytes ++ more))
             ∙ ap (λ (t : List ℕ). said ++ t) (replies_ended file state actual line (lines_of (drop (end + 1) w.bytes ++ more)) same last);
-        steps = λ more.
-            (let one = ap (desk_postings file frames) (lines more) ∙ s.steps (actual ∷ lines_of (drop (end + 1) w.bytes ++ more)) in
+        steps = λ more. (let one = ap (desk_postings file frames) (lines more) ∙ s.steps (actual ∷ lines_of (drop (end + 1) w.bytes ++ more)) in
             let two = steps_ended file state actual line (lines_of (drop (end + 1) w.bytes ++ more)) same last in omega (arith, one, two));
       }
 
@@ -241,11 +221,7 @@ opening_steps file state line wants = at (read_desk_line line) wants
     at : (c : Option DeskCommand) → IsTrue (may_take_memory state c) → steps_of file state c ≡ 0
     at None wants = cc
     at (Some (Open name k words)) wants = refl
-    at (Some (Grant name budget)) wants = cc
-    at (Some (Top name)) wants = cc
-    at (Some (Why name)) wants = cc
-    at (Some (Close name)) wants = cc
-    at (Some End) wants = cc
+    at (Some other) wants = cc
 
 -- ---- several lines
 
@@ -260,10 +236,21 @@ module _ {S : Type 0} {written : S → Option (List ℕ)} {faults : S → ℕ} {
   pub answers_none : (out : S) (before : List ℕ) (steps : ℕ) (file : FileView) (w : Waiting) (state : DeskState) → AnswersLines written faults rest out out before before steps steps file w w state state (Ok wents.On)
   answers_none out before steps file w state = record { text = []; scored = 0; side = side_none out before wents.On; counted = omega arith; goes = stays file w state }
 
-  pub answers_then : (old mid new : S) (before between after : List ℕ) (steps more later : ℕ) (file same : FileView) (w v u : Waiting) (state left last : DeskState) (result : Result Went WriteFault) → same ≡ file
+  pub answers_as : {old out : S} {before after : List ℕ} {steps later : ℕ} {file : FileView} {w u : Waiting} {state last : DeskState} {told went : Went} → told ≡ went
+      → AnswersLines written faults rest old out before after steps later file w u state last (Ok told) → AnswersLines written faults rest old out before after steps later file w u state last (Ok went)
+  answers_as {old} {out} {before} {after} {steps} {later} {file} {w} {u} {state} {last} is a =
+      subst (λ (went : Went). AnswersLines written faults rest old out before after steps later file w u state last (Ok went)) is a
+
+  pub told_reply : {old new : S} {before after : List ℕ} {told went : Went} (reply : List ℕ) → told ≡ went
+      → Gathers {E = WriteFault} written faults rest old new before after (text_where {E = WriteFault} (Ok told) reply) (Ok told)
+      → Gathers {E = WriteFault} written faults rest old new before after (text_where {E = WriteFault} (Ok went) reply) (Ok went)
+  told_reply {old} {new} {before} {after} reply is gathers =
+      subst (λ (went : Went). Gathers {E = WriteFault} written faults rest old new before after (text_where {E = WriteFault} (Ok went) reply) (Ok went)) is gathers
+
+  pub answers_then : {old mid new : S} {before between after : List ℕ} {steps more later : ℕ} {file same : FileView} {w v u : Waiting} {state left last : DeskState} {result : Result Went WriteFault} → same ≡ file
       → AnswersLines written faults rest old mid before between steps more file w v state left (Ok wents.On) → AnswersLines written faults rest mid new between after more later same v u left last result
       → AnswersLines written faults rest old new before after steps later file w u state last result
-  answers_then old mid new before between after steps more later file same w v u state left last result is one two = record {
+  answers_then {file = file} {w = w} {v} {u} {state} {left} {last} {result} is one two = record {
     text = one.text ++ two.text;
     scored = one.scored + two.scored;
     side = side_then one.text two.text one.side two.side;
@@ -275,24 +262,22 @@ module _ {S : Type 0} {written : S → Option (List ℕ)} {faults : S → ℕ} {
 
 module _ {S E : Type 0} {written : S → Option (List ℕ)} {faults : S → ℕ} {rest : S → Rest} {mine : E} where
   pub side_flushed : {T U V F : Type 0} {old mid new : S} {before between text : List ℕ} {u : U} {v : V} (t : T) → Side written faults rest mine old mid before between text (Ok u) → Wrote {E = F} written faults rest mid new between (Ok v) → Side written faults rest mine old new before [] text (Ok t)
-  side_flushed {old = old} {mid} {new} {before} {between} {text} t done last =
-      side_same (append-nil text) (side_then text [] done (record {
-        bytes = (between, last.bytes, refl);
-        later = last.cause.later;
-        failed = tt;
-        rest_stays = last.rest_stays;
-      }))
+  side_flushed {old = old} {mid} {new} {before} {between} {text} t done last = side_same (append-nil text) (side_then text [] done (record {
+    bytes = (between, last.bytes, refl);
+    later = last.cause.later;
+    failed = tt;
+    rest_stays = last.rest_stays;
+  }))
 
   pub side_unflushed : {T U V F : Type 0} {old mid new : S} {before between text : List ℕ} {u : U} {f : F} (e : E)
       → Side written faults rest mine old mid before between text (Ok u) → Wrote {T = V} written faults rest mid new between (Err f)
       → Side {T = T} written faults rest mine old new before [] text (Err e)
-  side_unflushed {old = old} {mid} {new} {before} {between} {text} e done last =
-      side_same (append-nil text) (side_then text [] done (record {
-        bytes = (last.bytes.0, subst (λ (t : List ℕ). Appends (written mid) (written new) (take last.bytes.0 t)) (sym (append-nil between)) last.bytes.1);
-        later = last.cause.later;
-        failed = (λ is. last.cause.failed);
-        rest_stays = last.rest_stays;
-      }))
+  side_unflushed {old = old} {mid} {new} {before} {between} {text} e done last = side_same (append-nil text) (side_then text [] done (record {
+    bytes = (last.bytes.0, subst (λ (t : List ℕ). Appends (written mid) (written new) (take last.bytes.0 t)) (sym (append-nil between)) last.bytes.1);
+    later = last.cause.later;
+    failed = (λ is. last.cause.failed);
+    rest_stays = last.rest_stays;
+  }))
 
 goes_cut : {E : Type 0} (went : Went) (fault : E) (file : FileView) (w new : Waiting) (state after : DeskState) (text : List ℕ) (n : ℕ) → Goes {E = E} file w new state after text n (Ok went) → Goes file w new state after text n (Err fault)
 goes_cut wents.On fault file w new state after text n moves frames taken said scored s = standing_front file frames new after taken (said ++ text) (scored + n) (moves frames taken said scored s)

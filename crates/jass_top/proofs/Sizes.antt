@@ -1,27 +1,7 @@
 -- An index has as many postings as its collection, and as its flat list.
-use Rattle.std.proofs.Common.{◌≡◌, ℕ, List, [], ◌∷◌, length, map, refl, sym, ◌∙◌, arith}
-use Rattle.std.specs.Prelude.{sum_by}
-use Rattle.std.specs.List.{flat_map}
-use Rattle.std.specs.Ordering.{nat_cmp}
-use Rattle.std.specs.Cmp.Lexicographic.{slice_cmp}
-use Rattle.std.proofs.lemmas.List.{length-map, length-append}
-use Rattle.std.proofs.lemmas.List.Sums.{sum_by-cons}
-use Rattle.jass_base.specs.declared.collection.Collection.{Collection}
-use Rattle.jass_base.specs.Ciff.{ListData, CollectionData}
-use Rattle.jass_base.specs.CiffViews.{list_data, collection_data}
-use Rattle.jass_base.specs.declared.posting.Posting.{Posting}
-use Rattle.jass_base.specs.declared.postings_list.PostingsList.{PostingsList}
-use Rattle.weights.specs.declared.weighting.Rule.{Rule}
-use Rattle.weights.specs.declared.quantizing.Bits.{Bits}
-use Rattle.weights.specs.Quantizing.{range_of, impact_of}
-use Rattle.ranking_model.specs.declared.entry.Entry.{Entry}
-use Rattle.ranking_model.specs.Flat.{entry_cmp}
-use Rattle.ciff_read.specs.Counts.{posting_count}
-use Rattle.index_model.specs.Index.{SegmentData, TermData, IndexData}
-use Rattle.index_model.specs.Flat.{flat_of, flat_of_terms, segment_entries, term_entries}
-use Rattle.index_layout.specs.View.{index_postings, term_postings}
-use Rattle.impact_segments.specs.Collections.{lengths_of, total_of, weight_in, weights_of, entries_in, index_of}
-use Rattle.ranking_model.proofs.Sorting.{length_sorted}
+use Rattle.shared_lemmas.proofs.Common.{◌≡◌, ℕ, List, [], ◌∷◌, length, map, refl, sym, ◌∙◌, arith, sum_by, flat_map, nat_cmp, slice_cmp, length-map, length-append, sum_by-cons}
+use Rattle.jass_top.proofs.Below.{Collection, ListData, CollectionData, list_data, collection_data, Posting, PostingsList, Rule, Bits, range_of, impact_of, Entry, entry_cmp, posting_count, SegmentData, TermData, IndexData, flat_of, flat_of_terms, segment_entries, term_entries, index_postings}
+use Rattle.jass_top.proofs.Below.{term_postings, lengths_of, total_of, weight_in, weights_of, entries_in, index_of, length_sorted}
 
 joined_lists : (f : List ℕ → List Posting → List (Entry (List ℕ))) (lists : List PostingsList) → ((term : List ℕ) (postings : List Posting) → length (f term postings) ≡ length postings)
     → length (flat_map (λ (l : ListData). f l.term l.postings) (map list_data lists)) ≡ sum_by (λ (l : PostingsList). length l.postings) lists
@@ -33,11 +13,9 @@ joined_lists f (l ∷ ls) is =
 
 pub index_size : (collection : Collection) (rule : Rule) (bits : Bits) → length (index_of (collection_data collection) rule bits) ≡ posting_count collection.lists
 index_size collection rule bits =
-    let c : CollectionData = collection_data collection in
-    let lengths : List ℕ = lengths_of c.docs in
+    let c : CollectionData = collection_data collection in let lengths : List ℕ = lengths_of c.docs in
     let entries : List ℕ → List Posting → List (Entry (List ℕ)) = entries_in rule lengths (total_of lengths) bits (range_of (weights_of c rule)) in
-    length_sorted (entry_cmp (slice_cmp nat_cmp)) (flat_map (λ (l : ListData). entries l.term l.postings) c.lists)
-    ∙ joined_lists entries collection.lists
+    length_sorted (entry_cmp (slice_cmp nat_cmp)) (flat_map (λ (l : ListData). entries l.term l.postings) c.lists) ∙ joined_lists entries collection.lists
     (λ term postings. length-map postings (λ (p : Posting). record { term = term; doc = p.doc; impact = impact_of bits (range_of (weights_of c rule)) (weight_in rule lengths (total_of lengths) (length postings) p) }))
 
 -- an index has as many postings as its flat list

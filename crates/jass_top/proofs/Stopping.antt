@@ -2,7 +2,7 @@
 use Rattle.std.proofs.Common.{refl, inl}
 use Rattle.jass_top.specs.declared.stop.Stop.{Stop}
 use Rattle.jass_top.specs.declared.stop.Stop.TheVariants as stops
-use Rattle.jass_top.specs.Causes.{Stopped, Unheld}
+use Rattle.jass_top.specs.Private.Causes.{Stopped, Unheld}
 use Rattle.jass_top.specs.Meanings.{Meaning}
 use Rattle.jass_top.specs.Standing.{Keeps}
 use Rattle.jass_top.specs.Worlds.{Outer}

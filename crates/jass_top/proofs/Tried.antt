@@ -1,16 +1,7 @@
 -- What a trial leaves query by query is its summary.
-use Rattle.std.proofs.Common.{◌≡◌, ℕ, ◌+◌, cond, List, [], ◌∷◌, ◌++◌, length, map, refl, ap, arith}
-use Rattle.std.specs.Prelude.{codes, count_by}
+use Rattle.shared_lemmas.proofs.Common.{◌≡◌, ℕ, ◌+◌, cond, List, [], ◌∷◌, ◌++◌, length, map, refl, ap, arith, codes, count_by, nat_cmp, sum_by-cons}
 use Rattle.std.specs.List.{sum_by}
-use Rattle.std.specs.Ordering.{nat_cmp}
-use Rattle.std.proofs.lemmas.List.Sums.{sum_by-cons}
-use Rattle.jass_base.specs.declared.answer.Report.{Report}
-use Rattle.ranking_model.specs.Flat.{IsFlat}
-use Rattle.ranking_model.specs.Report.{IsReport}
-use Rattle.ranking_model.specs.Search.{QueryData}
-use Rattle.index_model.specs.Flat.{numbered_flat}
-use Rattle.index_layout.specs.View.{FileView, chosen_view}
-use Rattle.index_file.specs.Places.{codec_use}
+use Rattle.jass_top.proofs.Below.{Report, IsFlat, IsReport, QueryData, numbered_flat, FileView, chosen_view, codec_use}
 use Rattle.session_engine.specs.Plans.{session_plan}
 use Rattle.shared_lemmas.proofs.Sums.{sum_map}
 use Rattle.jass_top.specs.declared.trial_sums.BudgetSum.{BudgetSum}

@@ -1,24 +1,7 @@
 -- The sessions of a trial, and how it ends.
-use Rattle.std.proofs.Common.{◌≡◌, ◌≤◌, ◌<◌, ◌^◌, ◌+◌, ◌-◌, ℕ, suc, true, false, List, ◌∷◌, length, take, get_or, Option, refl, sym, ap, ◌∙◌, inr, arith}
-use Rattle.std.specs.Prelude.{codes, nat_le}
-use Rattle.std.proofs.lemmas.Bool.Decides.{nat_tests}
-use Rattle.std.proofs.lemmas.List.{length-take}
-use Rattle.std.proofs.lemmas.List.Sums.{sum_by-cons}
-use Rattle.jass_base.specs.Outside.{Files}
-use Rattle.jass_base.specs.declared.answer.Budget.TheVariants.{All}
-use Rattle.ranking_model.specs.declared.plan.QueryPlan.{QueryPlan}
-use Rattle.ranking_model.specs.Order.{sorted}
-use Rattle.ranking_model.specs.Plan.{granted_sum, granted_with}
-use Rattle.ranking_model.specs.Scores.{hits_from, rank_cmp, scores_after, top_k}
-use Rattle.ranking_model.specs.Search.{QueryData, query_data}
-use Rattle.final_certificate.specs.Rule.{report_by}
-use Rattle.index_model.specs.Index.{IndexData}
-use Rattle.index_layout.specs.View.{FileView, index_postings, index_text}
-use Rattle.frame_pool.specs.Pool.{PoolView}
-use Rattle.session_engine.specs.Plans.{session_plan}
-use Rattle.session_engine.specs.Standing.{SessionStands, answer_over, granted_of, k_of, query_of, report_of}
-use Rattle.session_engine.specs.declared.session.Session.{Session}
-use Rattle.trial_data.specs.Trials.{queries_from, query_words, query_state}
+use Rattle.shared_lemmas.proofs.Common.{◌≡◌, ◌≤◌, ◌<◌, ◌^◌, ◌+◌, ◌-◌, ℕ, suc, true, false, List, ◌∷◌, length, take, get_or, Option, refl, sym, ap, ◌∙◌, inr, arith, codes, nat_le, nat_tests, length-take, sum_by-cons}
+use Rattle.jass_top.proofs.Below.{Files, All, QueryPlan, sorted, granted_sum, granted_with, hits_from, rank_cmp, scores_after, top_k, QueryData, query_data, report_by, IndexData, FileView, index_postings, index_text, PoolView, session_plan, SessionStands, answer_over, granted_of, k_of, query_of}
+use Rattle.jass_top.proofs.Below.{report_of, Session, queries_from, query_words, query_state}
 use Rattle.jass_top.specs.declared.stop.Place.TheVariants.{Byte}
 use Rattle.jass_top.specs.declared.trial_sums.TrialSums.{TrialSums}
 use Rattle.jass_top.specs.Answers.{words_query}
@@ -71,9 +54,7 @@ module _ (file : FileView) (s t : Session) (pool : PoolView) (j : ℕ) (stands :
 -- ---- one query more
 
 pub next_query : (terms queries i state : ℕ) → i < queries → queries_from terms (queries - i) state ≡ query_words terms state ∷ queries_from terms (queries - (i + 1)) (query_state state)
-next_query terms queries i state low =
-    let left : queries - i ≡ suc (queries - (i + 1)) = omega arith in
-    ap (λ n. queries_from terms n state) left
+next_query terms queries i state low = let left : queries - i ≡ suc (queries - (i + 1)) = omega arith in ap (λ n. queries_from terms n state) left
 
 module _ (file : FileView) (terms queries i state next : ℕ) (sums more : TrialSums) (words : List (List ℕ)) (low : i < queries)
     (drawn : words ≡ query_words terms state) (moved : next ≡ query_state state) where

@@ -1,22 +1,11 @@
 -- The texts and the steps of a query from one budget on.
-use Rattle.std.proofs.Common.{◌≡◌, ℕ, ◌+◌, ◌-◌, ◌<◌, ◌≤◌, List, [], ◌∷◌, ◌++◌, length, take, drop, map, flat_map, refl, sym, ap, ◌∙◌, take-append-drop, get_or, suc, zero, Bool, true, false, ◌==◌, if◌then◌else◌, arith}
+use Rattle.shared_lemmas.proofs.Common.{◌≡◌, ℕ, ◌+◌, ◌-◌, ◌<◌, ◌≤◌, List, [], ◌∷◌, ◌++◌, length, take, drop, map, refl, sym, ap, ◌∙◌, get_or, Bool, true, false, ◌==◌, if◌then◌else◌, arith, take_more, drop_all, sum_by-append}
+use Rattle.std.proofs.Common.{flat_map, take-append-drop}
 use Rattle.std.specs.List.{sum_by}
-use Rattle.std.proofs.lemmas.List.{take_more}
-use Rattle.std.proofs.lemmas.List.Sums.{sum_by-append}
-use Rattle.jass_base.specs.declared.answer.Budget.{Budget}
-use Rattle.ranking_model.specs.declared.plan_segment.PlanSegment.{PlanSegment}
-use Rattle.ranking_model.specs.declared.plan.QueryPlan.{QueryPlan}
-use Rattle.ranking_model.specs.Plan.{amount_of, granted_sum, granted_with, prefix_within, size_of_first}
-use Rattle.ranking_model.specs.Report.{report_line, run_lines, tag_of}
-use Rattle.ranking_model.specs.Scores.{top_k}
-use Rattle.ranking_model.specs.Search.{QueryData, prefix_granted, prefixes_granted, query_data, run_parts}
-use Rattle.final_certificate.specs.Rule.{report_by}
-use Rattle.index_layout.specs.View.{FileView}
-use Rattle.frame_pool.specs.Pool.{PoolView}
-use Rattle.session_engine.specs.Plans.{session_plan}
-use Rattle.session_engine.specs.Standing.{SessionStands, granted_of, k_of, plan_over, prefix_of, query_of, report_of, terms_of}
-use Rattle.session_engine.specs.declared.session.Session.{Session}
-use Rattle.jass_top.specs.SearchTexts.{answer_text, first_part_of, parts_reports, parts_run, plan_for, prefixes_for, query_steps, report_text}
+use Rattle.jass_top.proofs.Below.{Budget, PlanSegment, QueryPlan, amount_of, granted_sum, granted_with, prefix_within, size_of_first, report_line, run_lines, tag_of, top_k, QueryData, prefix_granted, prefixes_granted, query_data, run_parts, report_by, FileView, PoolView, session_plan}
+use Rattle.jass_top.proofs.Below.{SessionStands, granted_of, k_of, plan_over, prefix_of, query_of, report_of, terms_of, Session}
+use Rattle.jass_top.specs.SearchTexts.{first_part_of, parts_reports, parts_run, plan_for, prefixes_for, query_steps}
+use Rattle.jass_top.specs.Private.SearchRuns.{answer_text, report_text}
 
 -- the law of prefixes, one for each budget
 abbrev pub ComeFrom : Type 0
@@ -100,21 +89,15 @@ first_small budgets = at (length budgets == 1)
     at true = omega arith
     at false = omega arith
 
-drop_end : {A : Type 0} (xs : List A) (i : ℕ) → length xs ≤ i → drop i xs ≡ []
-drop_end [] zero few = refl
-drop_end [] (suc i) few = refl
-drop_end (x ∷ xs) zero few = absurd (omega (arith, few))
-drop_end (x ∷ xs) (suc i) few = drop_end xs i (omega (arith, few))
-
 abbrev pub ForEach : Type 0
 ForEach = (budgets : List Budget) (plan : QueryPlan) → length (prefixes_granted budgets plan) ≡ length budgets
 
 pub run_end : ForEach → (file : FileView) (k : ℕ) (tag : List ℕ) (budgets : List Budget) (query : QueryData) (part i : ℕ) → length budgets ≤ i → parts_run file k tag query part (drop i (prefixes_for file budgets query)) ≡ []
 unfolding parts_run
 run_end many file k tag budgets query part i outside =
-    ap (λ ns. run_parts file.index.names query.id tag part (map (λ n. top_k n (plan_for file query) k) ns)) (drop_end (prefixes_for file budgets query) i (omega (arith, many budgets (plan_for file query), outside)))
+    ap (λ ns. run_parts file.index.names query.id tag part (map (λ n. top_k n (plan_for file query) k) ns)) (drop_all i (prefixes_for file budgets query) (omega (arith, many budgets (plan_for file query), outside)))
 
 pub report_end : ForEach → (file : FileView) (k : ℕ) (budgets : List Budget) (query : QueryData) (i : ℕ) → length budgets ≤ i → parts_reports file k query (drop i (prefixes_for file budgets query)) ≡ []
 unfolding parts_reports
 report_end many file k budgets query i outside =
-    ap (flat_map (λ n. report_line query.id (report_by n (plan_for file query) k) query.unknown)) (drop_end (prefixes_for file budgets query) i (omega (arith, many budgets (plan_for file query), outside)))
+    ap (flat_map (λ n. report_line query.id (report_by n (plan_for file query) k) query.unknown)) (drop_all i (prefixes_for file budgets query) (omega (arith, many budgets (plan_for file query), outside)))

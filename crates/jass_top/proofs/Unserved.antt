@@ -1,10 +1,9 @@
 -- How `serve` stops where no line was served.
-use Rattle.std.proofs.Common.{◌≡◌, ℕ, List, [], ◌∷◌, Option, Err, inl, sym, subst}
-use Rattle.std.specs.Io.KnownBytes.{Consumes}
-use Rattle.std.proofs.KnownBytes.{Consumes-nil}
-use Rattle.jass_top.specs.Causes.{Unread}
+use Rattle.shared_lemmas.proofs.Common.{◌≡◌, ℕ, List, [], ◌∷◌, Option, Err, inl, sym, subst, Consumes, Consumes-nil}
+use Rattle.jass_top.specs.Private.Causes.{Unread}
 use Rattle.jass_top.specs.IndexJudging.{judge_index}
-use Rattle.jass_top.specs.ServeMeaning.{RunsServing, TakesFront}
+use Rattle.jass_top.specs.ServeMeaning.{TakesFront}
+use Rattle.jass_top.specs.Private.ServeRuns.{RunsServing}
 use Rattle.jass_top.specs.Worlds.{Fed}
 use Rattle.jass_top.specs.declared.stop.Stop.{Stop}
 

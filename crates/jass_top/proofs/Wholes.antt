@@ -1,7 +1,6 @@
 -- One text behind another.
 use Rattle.std.proofs.Common.{ℕ, List, ◌++◌, Option, Result, Ok, Err, ◌∙◌, arith}
-use Rattle.jass_base.specs.Outside.{Rest, Wrote}
-use Rattle.jass_base.proofs.Writing.{Appends-then, AppendsPrefix-then, AppendsPrefix-longer, Rose-earlier}
+use Rattle.jass_top.proofs.Below.{Rest, Wrote, Appends-then, AppendsPrefix-then, AppendsPrefix-longer, Rose-earlier}
 
 pub cut : {S T E : Type 0} (written : S → Option (List ℕ)) (faults : S → ℕ) (rest : S → Rest) (old new : S) (first second : List ℕ) (e : E) (f : E)
     → Wrote {T = T} {E = E} written faults rest old new first (Err e) → Wrote {T = T} {E = E} written faults rest old new (first ++ second) (Err f)

@@ -1,8 +1,6 @@
--- What each command means, and what its words keep.
-use Rattle.std.specs.Prelude.{◌≢◌, ◌≤◌, length, ⊤}
-use Rattle.weights.specs.Quantizing.{IsImpactWidth}
+-- What each command means.
 use Rattle.jass_top.specs.CheckMeaning.{check_meaning}
-use Rattle.jass_words.specs.Words.{CommandData, IsTrialSize, Once, Rewrite, Import, Check, Export, Migrate, Search, Serve, Trial, Help, Version}
+use Rattle.jass_words.specs.Words.{CommandData, Once, Rewrite, Import, Check, Export, Migrate, Search, Serve, Trial, Help, Version}
 use Rattle.jass_top.specs.ExportMeaning.{export_meaning}
 use Rattle.jass_top.specs.HelpMeaning.{help_meaning}
 use Rattle.jass_top.specs.ImportMeaning.{import_meaning}
@@ -27,17 +25,3 @@ meaning_of (Serve index frames) = AtDesk index frames
 meaning_of (Trial seed docs terms queries) = OnFiles (trial_meaning seed docs terms queries)
 meaning_of Help = OnFiles help_meaning
 meaning_of Version = OnFiles version_meaning
-
--- what the words of a command keep of its numbers and files
-abbrev pub IsAllowed : CommandData → Type 0
-IsAllowed (Once ciff k budget terms) = (1 ≤ k) × (k ≤ 100000) × (length terms ≤ 255)
-IsAllowed (Rewrite from to) = ⊤
-IsAllowed (Import ciff index rule bits) = IsImpactWidth bits × (ciff ≢ index)
-IsAllowed (Check index) = ⊤
-IsAllowed (Export index ciff) = ⊤
-IsAllowed (Migrate from to) = ⊤
-IsAllowed (Search index queries run k limits tag mode) = (1 ≤ k) × (k ≤ 100000) × (length limits ≤ 16)
-IsAllowed (Serve index frames) = (1 ≤ frames) × (frames ≤ 1048576)
-IsAllowed (Trial seed docs terms queries) = IsTrialSize seed docs terms queries
-IsAllowed Help = ⊤
-IsAllowed Version = ⊤

@@ -1,16 +1,16 @@
 -- What index files, and indexes that become files, are judged to be.
-use Rattle.std.specs.Prelude.{ℕ, ◌≡◌, ◌≤◌, ◌^◌, nat_le, List, length, Option, Some, None, Result, Ok, Err, if◌then◌else◌}
+use Rattle.std.specs.Prelude.{ℕ, nat_le, List, length, Option, Some, None, Result, Ok, Err, if◌then◌else◌}
 use Rattle.std.specs.FinMap.{get}
 use Rattle.jass_base.specs.Outside.{Files}
-use Rattle.index_model.specs.Index.{IndexData, IsIndex}
+use Rattle.index_model.specs.Index.{IndexData}
 use Rattle.index_layout.specs.declared.refusal.OpenRefusal.{OpenRefusal}
 use Rattle.index_layout.specs.Reading.{read_index}
 use Rattle.index_layout.specs.Refusals.{number_of}
-use Rattle.index_layout.specs.View.{FileView, index_postings, index_text}
+use Rattle.index_layout.specs.View.{FileView, index_text}
 use Rattle.index_version1.specs.Reading.{read_index1}
 use Rattle.jass_top.specs.declared.stop.Place.TheVariants.{Byte}
 use Rattle.jass_top.specs.Judging.{Judged, Accepted, Missing, Refuses, Untold}
-use Rattle.jass_base.specs.declared.limits.TheConstants.{MOST_POSTINGS}
+use Rattle.jass_base.specs.declared.limits.TheConstants.{LONGEST_FILE}
 
 abbrev pub judged_file : {A : Type 0} → List ℕ → Result A OpenRefusal → Judged A
 judged_file name (Ok v) = Accepted v
@@ -34,15 +34,8 @@ unfoldable pub judge_old : List ℕ → Option Files → Judged IndexData
 judge_old name None = Untold
 judge_old name (Some files) = judged_old name (get files name)
 
--- bytes are the text of an index that fits a file
-pub record IsTextOf (bytes : List ℕ) (index : IndexData) : Type 0 where
-  pub is : IsIndex index
-  pub postings : index_postings index ≤ MOST_POSTINGS
-  pub fits : length (index_text index) ≤ 2 ^ 32
-  pub spelled : bytes ≡ index_text index
-
 -- an index that is to become a file, of the input of this name: 49 at the file's length where that is above 2^32 bytes
 unfoldable pub fitting : List ℕ → IndexData → Judged IndexData
 fitting name index =
-    if nat_le (length (index_text index)) (2 ^ 32) then Accepted index
+    if nat_le (length (index_text index)) LONGEST_FILE then Accepted index
     else Refuses name 49 (Byte (length (index_text index)))

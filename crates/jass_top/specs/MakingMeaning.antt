@@ -6,7 +6,7 @@ use Rattle.index_layout.specs.Totals.{totals_of}
 use Rattle.index_layout.specs.View.{index_text}
 use Rattle.trec_run.specs.Totals.{totals_line}
 use Rattle.jass_top.specs.IndexJudging.{fitting}
-use Rattle.jass_top.specs.Judging.{Judged, Accepted, behind}
+use Rattle.jass_top.specs.Judging.{Judged, behind}
 use Rattle.jass_top.specs.Meanings.{Output, Meaning}
 
 -- an index's text in the file, and its totals line
@@ -32,13 +32,6 @@ on_made input judge made file IsOutput = record {
   IsOutput = IsOutput;
 }
 
--- the same of an index that was made of an input
-abbrev pub on_index : List ℕ → IndexData → Option (List ℕ) → (IndexData → Output → Type 0) → Meaning
-on_index input index file IsOutput = on_made input (λ told. Accepted index) (λ made. made) file IsOutput
-
 -- the index becomes a file
 abbrev pub making_meaning : {A : Type 0} → List ℕ → List ℕ → (Option Files → Judged A) → (A → IndexData) → Meaning
 making_meaning input file judge made = on_made input judge made (Some file) (λ index output. output ≡ made_output index)
-
-abbrev pub saving_meaning : List ℕ → List ℕ → IndexData → Meaning
-saving_meaning input file index = on_index input index (Some file) (λ made output. output ≡ made_output made)

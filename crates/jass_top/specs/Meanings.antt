@@ -28,10 +28,6 @@ pub data Means : Type 1 where
   OnFiles : Meaning → Means
   AtDesk : List ℕ → ℕ → Means
 
-abbrev pub IsOnFiles : Means → Type 0
-IsOnFiles (OnFiles m) = ⊤
-IsOnFiles (AtDesk index frames) = ⊥
-
 -- the output is one for the inputs; at a desk the replies are a function of the lines
 abbrev pub HasOneOutput : Means → Type 0
 HasOneOutput (OnFiles m) =

@@ -7,7 +7,7 @@ use Rattle.index_model.specs.Index.{IndexData}
 use Rattle.jass_top.specs.Answers.{OnceQuery, once_prefix, once_query, once_steps, once_text}
 use Rattle.impact_segments.specs.Collections.{collection_index}
 use Rattle.jass_top.specs.Judging.{judge_ciff}
-use Rattle.jass_top.specs.MakingMeaning.{on_index, on_made}
+use Rattle.jass_top.specs.MakingMeaning.{on_made}
 use Rattle.jass_top.specs.Meanings.{Output, Meaning}
 use Rattle.jass_top.specs.SearchMeaning.{IsSearchReport}
 
@@ -22,7 +22,3 @@ pub record IsOnceOutput (query : OnceQuery) (index : IndexData) (output : Output
 -- the index is the collection's, weighed by term frequency, with the weights as impacts
 abbrev pub once_meaning : List ℕ → OnceQuery → Meaning
 once_meaning ciff query = on_made ciff (judge_ciff ciff) (collection_index Tf Raw) None (IsOnceOutput query)
-
--- an index that was made of an input is asked
-abbrev pub asking_meaning : List ℕ → IndexData → OnceQuery → Meaning
-asking_meaning input index query = on_index input index None (IsOnceOutput query)

@@ -3,3 +3,12 @@ pub mod OnceTexts
 pub mod RunFiles
 pub mod Serving
 pub mod Sides
+pub mod Causes
+pub mod ServeRuns
+pub mod Running
+pub mod Allowed
+pub mod HeldIndexes
+pub mod SearchRuns
+pub mod Stops
+pub mod SmallSums
+pub mod Worlds

@@ -1,19 +1,14 @@
 -- What a search leaves query by query, as functions of the view of an index file: the grades are those of the rule.
-use Rattle.std.specs.Prelude.{ℕ, ◌≡◌, ◌+◌, ◌≤◌, ◌==◌, List, map, flat_map, sum_by, length, Result, MatchResult, if◌then◌else◌}
+use Rattle.std.specs.Prelude.{ℕ, ◌==◌, List, map, flat_map, sum_by, length, if◌then◌else◌}
 use Rattle.jass_base.specs.declared.answer.Budget.{Budget}
-use Rattle.jass_base.specs.declared.query.Query.{Query}
 use Rattle.ranking_model.specs.declared.plan.QueryPlan.{QueryPlan}
 use Rattle.ranking_model.specs.Plan.{granted_sum, prefix_within, size_of_first}
-use Rattle.ranking_model.specs.Report.{report_line, run_lines, tag_of}
+use Rattle.ranking_model.specs.Report.{report_line}
 use Rattle.ranking_model.specs.Scores.{top_k}
-use Rattle.ranking_model.specs.Search.{QueryData, prefixes_granted, query_data, run_parts}
+use Rattle.ranking_model.specs.Search.{QueryData, prefixes_granted, run_parts}
 use Rattle.final_certificate.specs.Rule.{report_by}
 use Rattle.index_layout.specs.View.{FileView}
-use Rattle.accumulator_pages.specs.Adding.{page_count}
-use Rattle.frame_pool.specs.Pool.{PoolView, spare_of}
-use Rattle.session_engine.specs.Plans.{HasFreeNumber, session_plan}
-use Rattle.session_engine.specs.Standing.{answer_over, query_of, report_of}
-use Rattle.session_engine.specs.declared.session.Session.{Session}
+use Rattle.session_engine.specs.Plans.{session_plan}
 use Rattle.jass_top.specs.Meanings.{Output}
 use Rattle.jass_top.specs.SearchMeaning.{Search}
 
@@ -67,25 +62,3 @@ search_output file search queries = record {
   text = queries_reports file search.k search.budgets queries;
   steps = queries_steps file search.budgets queries;
 }
-
--- so many steps were counted; after a failure at most so many, and the count never fell
-abbrev pub Stepped : {T E : Type 0} → ℕ → ℕ → ℕ → Result T E → Type 0
-Stepped old new count result = MatchResult result (λ _. new ≡ old + count) (λ _. (old ≤ new) × (new ≤ old + count))
-
--- the queries as plain data
-abbrev pub asked_of : List Query → List QueryData
-asked_of queries = map query_data queries
-
--- ---- one session
-
--- the run lines of its answer as a part, and its report line
-abbrev pub answer_text : FileView → Session → List ℕ → ℕ → List ℕ
-answer_text file s tag part = run_lines file.index.names (query_of s).id (tag_of tag part) 1 (answer_over file s)
-
-abbrev pub report_text : Session → List ℕ
-report_text s = report_line (query_of s).id (report_of s) (query_of s).unknown
-
--- a pool can hold a session more over the file, whatever its query
-pub record IsReady (file : FileView) (pool : PoolView) : Type 0 where
-  pub number : HasFreeNumber pool
-  pub frames : page_count (length file.index.names) ≤ spare_of pool

@@ -1,23 +1,19 @@
 -- What `serve` means: the lines of the input are answered at a desk over an index file, up to and with the first line
 -- `end`; 2^30 bytes of the input are taken at the most.
-use Rattle.std.specs.Prelude.{ℕ, ◌≡◌, ◌<◌, ◌≤◌, ◌+◌, ◌^◌, Bool, true, false, ◌||◌, List, [], ◌∷◌, ◌++◌, length, take, Option, Some, None, Result, Ok, Err, ◌⊎◌, ⊤, codes}
+use Rattle.std.specs.Prelude.{ℕ, ◌≡◌, ◌<◌, ◌≤◌, ◌+◌, Bool, true, false, ◌||◌, List, [], ◌∷◌, ◌++◌, length, take, Option, Some, None, ◌⊎◌, ⊤}
 use Rattle.std.specs.Io.KnownBytes.{Appends, Consumes}
-use Rattle.jass_base.specs.Outside.{Files, Rose}
+use Rattle.jass_base.specs.Outside.{Files}
 use Rattle.jass_base.specs.Writing.{AppendsPrefix}
 use Rattle.index_layout.specs.View.{FileView}
 use Rattle.text_lines.specs.Lines.{lines_of}
 use Rattle.feed_lines.specs.Lines.{ended_lines}
 use Rattle.session_desk.specs.Lines.{is_end}
 use Rattle.session_desk.specs.Turns.{desk_postings, desk_replies}
-use Rattle.jass_top.specs.Causes.{Unread}
 use Rattle.jass_top.specs.IndexJudging.{judge_index}
 use Rattle.jass_top.specs.Judging.{Accepted, Shows}
 use Rattle.jass_top.specs.Standing.{Keeps}
 use Rattle.jass_top.specs.Worlds.{Fed}
-use Rattle.jass_top.specs.declared.stop.Stop.{Stop}
-use Rattle.jass_top.specs.declared.stop.Stop.TheVariants as why
-use Rattle.jass_top.specs.declared.serve_stop.ServeStop.{ServeStop}
-use Rattle.jass_top.specs.declared.serve_stop.ServeStop.TheVariants as stops
+use Rattle.jass_words.specs.declared.word_limits.TheConstants.{MOST_TAKEN}
 
 -- one of the lines is `end`
 abbrev pub has_end : List (List ℕ) → Bool
@@ -26,7 +22,7 @@ has_end (line ∷ lines) = is_end line || has_end lines
 
 -- the lines that end by LF within the bytes that are taken at the most
 abbrev pub lines_taken : List ℕ → List (List ℕ)
-lines_taken input = ended_lines (take (2 ^ 30) input)
+lines_taken input = ended_lines (take MOST_TAKEN input)
 
 -- these may be the bytes of the input: they are those that the feed had, where it tells them
 abbrev pub IsInput : Option (List ℕ) → List ℕ → Type 0
@@ -35,7 +31,7 @@ IsInput (Some bytes) input = input ≡ bytes
 
 -- the input is answered to its end, or to a line `end`
 abbrev pub IsAnswered : List ℕ → Type 0
-IsAnswered input = (length input < 2 ^ 30) ⊎ (has_end (lines_taken input) ≡ true)
+IsAnswered input = (length input < MOST_TAKEN) ⊎ (has_end (lines_taken input) ≡ true)
 
 -- what a desk has written and counted for lines: their replies, and the postings that were scored for them
 pub record Replies (file : FileView) (frames : ℕ) (lines : List (List ℕ)) (before after : Option (List ℕ)) (steps later : ℕ) : Type 0 where
@@ -77,23 +73,10 @@ pub record ServesPart (file : FileView) (frames : ℕ) (left before after : Opti
 pub record ServesFront (file : FileView) (frames : ℕ) (left rest before after : Option (List ℕ)) (steps later : ℕ) : Type 0 where
   pub input : List ℕ
   pub had : IsInput left input
-  pub consumed : Consumes left rest (take (2 ^ 30) input)
-  pub long : 2 ^ 30 ≤ length input
+  pub consumed : Consumes left rest (take MOST_TAKEN input)
+  pub long : MOST_TAKEN ≤ length input
   pub endless : has_end (lines_taken input) ≡ false
   pub replies : Replies file frames (lines_taken input) before after steps later
-
--- how the lines of an input were served
-abbrev pub Serves : {T : Type 0} → FileView → ℕ → Option (List ℕ) → Option (List ℕ) → Option (List ℕ) → Option (List ℕ) → ℕ → ℕ
-    → Result T ServeStop → Type 0
-Serves file frames left rest before after steps later (Ok x) = ServesAll file frames left before after steps later
-Serves file frames left rest before after steps later (Err stops.NoMemory) =
-    ServesFirst file frames left before after steps later
-Serves file frames left rest before after steps later (Err stops.ReadFault) =
-    ServesTaken file frames left rest before after steps later
-Serves file frames left rest before after steps later (Err stops.WriteFault) =
-    ServesPart file frames left before after steps later
-Serves file frames left rest before after steps later (Err stops.Limit) =
-    ServesFront file frames left rest before after steps later
 
 -- bytes were taken off the front of the input
 abbrev pub TakesFront : Option (List ℕ) → Option (List ℕ) → Type 0
@@ -132,30 +115,3 @@ FrontServed index frames before after = Over index before.outer.told (λ file.
 pub record NoneServed (before after : Fed) : Type 0 where
   pub kept : Keeps before.outer after.outer
   pub input : after.left ≡ before.left
-
--- the index wasn't had
-pub record Unserved (index : List ℕ) (before after : Fed) (stop : Stop) : Type 0 where
-  pub unread : Unread (index ∷ []) (judge_index index before.outer.told) before.outer.read_faults after.outer.read_faults stop
-  pub none : NoneServed before after
-
--- serving stopped at a line
-abbrev pub ServedUntil : List ℕ → ℕ → Fed → Fed → Stop → Type 0
-ServedUntil index frames before after why.NoMemory = FirstServed index frames before after
-ServedUntil index frames before after (why.Refused name number at) = ⊥
-ServedUntil index frames before after (why.ReadFault name) =
-    (name.now ≡ codes "input") × Rose before.feed_faults after.feed_faults × TakenServed index frames before after
-ServedUntil index frames before after (why.WriteFault name) =
-    (name.now ≡ codes "output") × Rose before.outer.out_faults after.outer.out_faults
-    × PartServed index frames before after
-ServedUntil index frames before after why.InputLimit = FrontServed index frames before after
-
-abbrev pub ServedAs : List ℕ → ℕ → Fed → Fed → Result (Unit {0}) Stop → Type 0
-ServedAs index frames before after (Ok x) = AllServed index frames before after
-ServedAs index frames before after (Err stop) =
-    Unserved index before after stop ⊎ ServedUntil index frames before after stop
-
--- how `serve` runs: files stay, and the feed loses bytes at its front alone
-pub record RunsServing (index : List ℕ) (frames : ℕ) (before after : Fed) (result : Result (Unit {0}) Stop) : Type 0 where
-  pub files : after.outer.told ≡ before.outer.told
-  pub taken : TakesFront before.left after.left
-  pub served : ServedAs index frames before after result

@@ -2,18 +2,9 @@
 use Rattle.std.specs.Prelude.{ℕ, List, ◌++◌, decimal, codes}
 use Rattle.jass_top.specs.declared.stop.Place.{Place}
 use Rattle.jass_top.specs.declared.stop.Place.TheVariants.{Byte, Line}
-use Rattle.jass_top.specs.declared.stop.Stop.{Stop}
 use Rattle.jass_top.specs.declared.stop.Stop.TheVariants.{NoMemory, Refused, ReadFault, WriteFault, InputLimit}
 use Rattle.jass_top.specs.declared.status.Status.{Status}
 use Rattle.jass_top.specs.declared.status.Status.TheVariants as status
-
--- the status of the run
-abbrev pub status_of : Stop → Status
-status_of NoMemory = status.NoMemory
-status_of (Refused name number at) = status.Refused
-status_of (ReadFault name) = status.ReadFault
-status_of (WriteFault name) = status.WriteFault
-status_of InputLimit = status.InputLimit
 
 -- the program's exit status
 abbrev pub exit_number : Status → ℕ
@@ -48,11 +39,3 @@ write_fault_text name = name ++ codes ": write fault\n"
 
 abbrev pub limit_text : List ℕ
 limit_text = codes "input limit\n"
-
--- the line of a command that stopped
-abbrev pub stop_text : Stop → List ℕ
-stop_text NoMemory = memory_text
-stop_text (Refused name number at) = refusal_text name.now number at
-stop_text (ReadFault name) = read_fault_text name.now
-stop_text (WriteFault name) = write_fault_text name.now
-stop_text InputLimit = limit_text

@@ -1,6 +1,6 @@
 -- What `trial` means: of a collection from a seed an index is made, queries over it are answered, and a summary is put on
 -- the output. Which collection, which queries and what is summed up are this project's.
-use Rattle.std.specs.Prelude.{◌≡◌, ℕ, ◌^◌, nat_le, Bool, true, false, List, [], ◌∷◌, ◌++◌, length, map, sum_by, count_by, None, decimal, codes, if◌then◌else◌}
+use Rattle.std.specs.Prelude.{◌≡◌, ℕ, nat_le, Bool, true, false, List, [], ◌∷◌, ◌++◌, length, map, sum_by, count_by, None, decimal, codes, if◌then◌else◌}
 use Rattle.std.specs.List.{AllZip}
 use Rattle.jass_base.specs.declared.answer.Budget.{Budget}
 use Rattle.jass_base.specs.declared.answer.Budget.TheVariants.{Postings, All}

@@ -1,5 +1,5 @@
 -- What the answers of a trial sum up to, as functions of the view of an index file: the grades are those of the rule.
-use Rattle.std.specs.Prelude.{ℕ, ◌+◌, ◌*◌, ◌^◌, ◌≤◌, List, [], ◌∷◌, ◌++◌, codes, if◌then◌else◌}
+use Rattle.std.specs.Prelude.{ℕ, ◌+◌, List, [], ◌∷◌, ◌++◌, codes, if◌then◌else◌}
 use Rattle.jass_base.specs.declared.answer.Hit.{Hit}
 use Rattle.jass_base.specs.declared.answer.Report.{Report}
 use Rattle.ranking_model.specs.Scores.{top_k}
@@ -27,13 +27,6 @@ with_answer sum report hits = record {
   finals = sum.finals + (if is_final report.grade then 1 else 0);
   scores = sum.scores + hit_scores hits;
 }
-
--- sums over at most so many queries, of whose postings there are fewer than 2^32, and of whose hits ten with scores below it
-abbrev pub IsSmallSum : ℕ → BudgetSum → Type 0
-IsSmallSum n sum = (sum.postings ≤ n * 2 ^ 32) × (sum.finals ≤ n) × (sum.scores ≤ n * (10 * 2 ^ 32))
-
-abbrev pub AreSmallSums : ℕ → TrialSums → Type 0
-AreSmallSums n sums = IsSmallSum n sums.first × IsSmallSum n sums.second × IsSmallSum n sums.last
 
 -- the report and the hits of a query after so many grants
 abbrev pub prefix_after : FileView → ℕ → QueryData → ℕ

@@ -1,6 +1,6 @@
 ghost use Rattle.std.specs.Prelude.{ℕ};
 ghost use Rattle.jass_top.specs.CheckMeaning.{check_meaning};
-ghost use Rattle.jass_top.specs.Causes.{Runs};
+ghost use Rattle.jass_top.specs.Private.Causes.{Runs};
 ghost use Rattle.jass_top.specs.Worlds.{outer};
 
 use crate::index_input::open_index;

@@ -1,4 +1,4 @@
-ghost use Rattle.std.specs.Prelude.{◌≡◌, ◌≤◌, Some, OnOk, OnErr};
+ghost use Rattle.std.specs.Prelude.{◌≡◌, Some, OnOk, OnErr};
 ghost use Rattle.jass_base.specs.CiffText.{canonical_ciff};
 ghost use Rattle.jass_base.specs.CiffViews.{collection_data};
 ghost use Rattle.jass_base.specs.Outside.{Rose, Sets, Puts, HasCause, content_there, others_told};

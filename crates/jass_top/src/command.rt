@@ -1,9 +1,9 @@
-ghost use Rattle.std.specs.Prelude.{ℕ, ◌≡◌};
+ghost use Rattle.std.specs.Prelude.{◌≡◌};
 ghost use Rattle.jass_words.specs.Commands.{command_data};
-ghost use Rattle.jass_top.specs.Commands.{meaning_of, IsAllowed};
-ghost use Rattle.jass_top.specs.Meanings.{IsOnFiles};
-ghost use Rattle.jass_top.specs.Running.{RunsAs};
-ghost use Rattle.jass_top.specs.Worlds.{fed};
+ghost use Rattle.jass_top.specs.Commands.{meaning_of};
+ghost use Rattle.jass_top.specs.Private.Allowed.{IsAllowed};
+ghost use Rattle.jass_top.specs.Private.Running.{RunsAs, IsOnFiles};
+ghost use Rattle.jass_top.specs.Private.Worlds.{fed};
 
 use crate::check::run_check;
 use crate::export::run_export;

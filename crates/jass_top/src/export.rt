@@ -1,7 +1,7 @@
-ghost use Rattle.std.specs.Prelude.{ℕ};
-ghost use Rattle.jass_top.specs.Causes.{Runs};
+ghost use Rattle.jass_top.specs.Private.Causes.{Runs};
 ghost use Rattle.jass_top.specs.ExportMeaning.{export_meaning};
-ghost use Rattle.jass_top.specs.Worlds.{Outer, with_files};
+ghost use Rattle.jass_top.specs.Worlds.{Outer};
+ghost use Rattle.jass_top.specs.Private.Worlds.{with_files};
 
 use crate::collection_file::write_file;
 use crate::index_input::open_index;

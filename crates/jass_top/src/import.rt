@@ -1,16 +1,16 @@
-ghost use Rattle.std.specs.Prelude.{ℕ, ◌≡◌, ◌≢◌, ◌≤◌, ◌^◌, [], ◌∷◌, IfOk, IfErr};
+ghost use Rattle.std.specs.Prelude.{ℕ, ◌≡◌, ◌≢◌, ◌≤◌, [], ◌∷◌, IfOk, IfErr};
 ghost use Rattle.index_layout.specs.View.{index_postings};
 ghost use Rattle.index_model.specs.Views.{index_data};
 ghost use Rattle.ciff_read.specs.Counts.{posting_count};
 ghost use Rattle.jass_base.specs.Ciff.{CollectionData};
 ghost use Rattle.jass_base.specs.CiffViews.{collection_data};
 ghost use Rattle.weights.specs.Quantizing.{IsImpactWidth};
-ghost use Rattle.jass_top.specs.Causes.{Runs, Unread};
+ghost use Rattle.jass_top.specs.Private.Causes.{Runs, Unread};
 ghost use Rattle.impact_segments.specs.Collections.{collection_index};
 ghost use Rattle.jass_top.specs.ImportMeaning.{import_meaning};
 ghost use Rattle.jass_top.specs.Judging.{Accepted, Shows, judge_ciff};
 ghost use Rattle.jass_top.specs.Worlds.{outer};
-ghost use Rattle.jass_base.specs.declared.limits.TheConstants.{MOST_POSTINGS};
+ghost use Rattle.jass_base.specs.declared.limits.TheConstants.{GREATEST_IMPACT, MOST_POSTINGS};
 
 use crate::input::read_file;
 use crate::saving::TOO_LARGE;
@@ -119,7 +119,7 @@ pub fn index_collection(
 
 /// Impacts have 16 bits.
 pub fn impacts_are_small(index: &ImpactIndex)
-    ensures { index.now.greatest ≤ 65535 }
+    ensures { index.now.greatest ≤ GREATEST_IMPACT }
 {
     let _greatest = index.greatest;
 }

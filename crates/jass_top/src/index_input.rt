@@ -1,6 +1,6 @@
-ghost use Rattle.std.specs.Prelude.{ℕ, ◌≡◌, ◌≤◌, [], ◌∷◌, IfOk, IfErr};
+ghost use Rattle.std.specs.Prelude.{◌≡◌, ◌≤◌, [], ◌∷◌, IfOk, IfErr};
 ghost use Rattle.index_layout.specs.View.{IsFileView};
-ghost use Rattle.jass_top.specs.Causes.{Unread};
+ghost use Rattle.jass_top.specs.Private.Causes.{Unread};
 ghost use Rattle.jass_top.specs.IndexJudging.{judge_index};
 ghost use Rattle.jass_top.specs.Judging.{Accepted, Shows};
 

@@ -1,20 +1,21 @@
-ghost use Rattle.std.specs.Prelude.{ℕ, ◌≡◌, ◌≤◌, ◌^◌, [], ◌∷◌, IfOk, IfErr};
+ghost use Rattle.std.specs.Prelude.{◌≡◌, ◌≤◌, [], ◌∷◌, IfOk, IfErr};
 ghost use Rattle.jass_base.specs.CiffViews.{collection_data};
 ghost use Rattle.ciff_read.specs.Counts.{posting_count};
-ghost use Rattle.jass_top.specs.Causes.{Unread};
+ghost use Rattle.jass_top.specs.Private.Causes.{Unread};
 ghost use Rattle.jass_top.specs.Judging.{Accepted, Shows, judge_ciff};
 ghost use Rattle.jass_base.specs.declared.limits.TheConstants.{MOST_POSTINGS};
 
 use crate::stop::{Place, Stop};
 use ciff_read::laws::the_front_is_enough;
 use ciff_read::{CiffFault, read_collection};
+use jass_base::limits::LONGEST_FILE;
 use jass_base::{Cabinet, Collection, ReadStop};
 use std::alloc::Global;
 use whole_files::read_front;
 
 /// How many bytes of a file are read at the most: what is behind them changes no answer, since a
 /// message begins at 2^32 at the latest and its length has at most ten bytes.
-const MOST_BYTES: usize = 4_294_967_312;
+const MOST_BYTES: usize = LONGEST_FILE as usize + 16;
 
 /// Reads the collection of a CIFF file.
 pub fn read_file<'a, C: Cabinet>(

@@ -1,10 +1,11 @@
-ghost use Rattle.std.specs.Prelude.{◌≡◌, ◌≤◌, ◌^◌, [], ◌∷◌, length, IfOk, IfErr, OnOk};
+ghost use Rattle.std.specs.Prelude.{◌≡◌, ◌≤◌, [], ◌∷◌, length, IfOk, IfErr, OnOk};
 ghost use Rattle.index_layout.specs.View.{IsFileView, chosen_view, index_postings, index_text};
 ghost use Rattle.index_model.specs.Index.{IndexData};
 ghost use Rattle.index_model.specs.Views.{index_data};
-ghost use Rattle.jass_top.specs.Causes.{Unheld};
-ghost use Rattle.jass_top.specs.IndexJudging.{IsTextOf, fitting};
-ghost use Rattle.jass_base.specs.declared.limits.TheConstants.{MOST_POSTINGS};
+ghost use Rattle.jass_top.specs.IndexJudging.{fitting};
+ghost use Rattle.jass_base.specs.declared.limits.TheConstants.{LONGEST_FILE, MOST_POSTINGS};
+ghost use Rattle.jass_top.specs.Private.Causes.{Unheld};
+ghost use Rattle.jass_top.specs.Private.HeldIndexes.{IsTextOf};
 
 use crate::import::impacts_are_small;
 use crate::saving::TOO_LARGE;
@@ -26,15 +27,12 @@ pub fn file_in_memory<'a>(
     requires { index_postings (index_data index.now) ≤ MOST_POSTINGS }
     ensures index { IfOk result (λ file. file.index ≡ index_data index.now) }
     ensures view { IfOk result (λ file. IsFileView file) }
-    ensures fits { OnOk result (length (index_text (index_data index.now)) ≤ 2 ^ 32) }
+    ensures fits { OnOk result (length (index_text (index_data index.now)) ≤ LONGEST_FILE) }
     ensures unmade { IfErr result (λ stop. Unheld (input.now ∷ []) (fitting input.now (index_data index.now)) stop) }
 {
     impacts_are_small(index);
     indexes_in_memory_are_indexes();
-    let bytes = match text_in_memory(alloc, index, input) {
-        Ok(bytes) => bytes,
-        Err(stop) => return Err(stop),
-    };
+    let bytes = text_in_memory(alloc, index, input)?;
     match open_text(alloc, bytes) {
         Ok(file) => Ok(file),
         Err(_) => Err(Stop::NoMemory),
@@ -48,7 +46,7 @@ pub fn text_in_memory<'a>(
     input: &'a str,
 ) -> Result<Row<u8>, Stop<'a>>
     ensures bytes { IfOk result (λ row. row ≡ index_text (index_data index.now)) }
-    ensures fits { OnOk result (length (index_text (index_data index.now)) ≤ 2 ^ 32) }
+    ensures fits { OnOk result (length (index_text (index_data index.now)) ≤ LONGEST_FILE) }
     ensures unmade { IfErr result (λ stop. Unheld (input.now ∷ []) (fitting input.now (index_data index.now)) stop) }
 {
     match index_bytes(alloc, index) {

@@ -1,6 +1,6 @@
 ghost use Rattle.std.specs.Prelude.{ℕ, ◌≡◌, ◌≤◌, [], ◌∷◌, IfOk, IfErr};
 ghost use Rattle.index_model.specs.Views.{index_data};
-ghost use Rattle.jass_top.specs.Causes.{Runs, Unread};
+ghost use Rattle.jass_top.specs.Private.Causes.{Runs, Unread};
 ghost use Rattle.jass_top.specs.IndexJudging.{judge_old};
 ghost use Rattle.jass_top.specs.Judging.{Accepted, Shows};
 ghost use Rattle.jass_top.specs.MigrateMeaning.{migrate_meaning};
@@ -11,13 +11,14 @@ use crate::stop::{Place, Stop};
 use index_layout::OpenFault;
 use index_version1::laws::the_front_is_enough;
 use index_version1::read_version1;
+use jass_base::limits::LONGEST_FILE;
 use jass_base::{Cabinet, ImpactIndex, ReadStop, Sink};
 use std::alloc::Global;
 use whole_files::read_front;
 
 /// How many bytes of a file are read at the most: one more than an index file may have, since a
 /// longer file is refused whatever else stands in it.
-const MOST_BYTES: usize = 4_294_967_297;
+const MOST_BYTES: usize = LONGEST_FILE as usize + 1;
 
 /// Writes the index of a file of version 1 as an index file, and prints its totals.
 pub fn run_migrate<'a, C: Cabinet, O: Sink>(

@@ -1,6 +1,7 @@
 ghost use Rattle.std.specs.Prelude.{◌++◌, codes};
 ghost use Rattle.jass_base.specs.Outside.{Wrote};
-ghost use Rattle.jass_top.specs.Stops.{place_text, stop_text, word_text};
+ghost use Rattle.jass_top.specs.Stops.{place_text, word_text};
+ghost use Rattle.jass_top.specs.Private.Stops.{stop_text};
 
 use crate::stop::{Place, Stop};
 use gathered_text::put_all;

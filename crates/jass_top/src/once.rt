@@ -1,4 +1,4 @@
-ghost use Rattle.std.specs.Prelude.{ℕ, ◌≡◌, ◌+◌, ◌<◌, ◌≤◌, ◌^◌, ◌++◌, length, All, codes};
+ghost use Rattle.std.specs.Prelude.{◌≡◌, ◌+◌, ◌<◌, ◌≤◌, ◌++◌, length, All, codes};
 ghost use Rattle.index_layout.specs.View.{IsFileView, index_postings, index_text};
 ghost use Rattle.index_model.specs.Views.{index_data};
 ghost use Rattle.jass_base.specs.declared.answer.Hit.{Hit};
@@ -7,11 +7,13 @@ ghost use Rattle.ranking_model.specs.Plan.{granted_with};
 ghost use Rattle.ranking_model.specs.Report.{report_line, run_lines};
 ghost use Rattle.frame_pool.specs.ChainView.{LeavesPool};
 ghost use Rattle.session_engine.specs.Standing.{IsSessionOf, SessionStands, chain_of, granted_of, report_of};
-ghost use Rattle.jass_top.specs.Causes.{Runs};
-ghost use Rattle.jass_top.specs.OnceMeaning.{asking_meaning, once_meaning};
+ghost use Rattle.jass_top.specs.Private.Causes.{Runs};
+ghost use Rattle.jass_top.specs.OnceMeaning.{once_meaning};
+ghost use Rattle.jass_top.specs.Private.HeldIndexes.{asking_meaning};
 ghost use Rattle.jass_top.specs.Private.OnceTexts.{once_of, session_text};
-ghost use Rattle.jass_top.specs.Worlds.{Outer, outer, with_output};
-ghost use Rattle.jass_base.specs.declared.limits.TheConstants.{MOST_POSTINGS};
+ghost use Rattle.jass_top.specs.Worlds.{Outer, outer};
+ghost use Rattle.jass_base.specs.declared.limits.TheConstants.{LONGEST_FILE, MOST_POSTINGS};
+ghost use Rattle.jass_top.specs.Private.Worlds.{with_output};
 
 use crate::import::make_index;
 use crate::memory_file::file_in_memory;
@@ -85,7 +87,7 @@ fn ask_file<'a, O: Sink, L: Ledger>(
     steps: &mut Steps<L>,
 ) -> Result<(), Stop<'a>>
     requires view { IsFileView index.now }
-    requires fits { length (index_text index.now.index) ≤ 2 ^ 32 }
+    requires fits { length (index_text index.now.index) ≤ LONGEST_FILE }
     ensures { (beside : Outer) → Runs (asking_meaning input.now index.now.index (once_of question.entry))
         (with_output O.Sink out.old (record beside { steps = steps.old }))
         (with_output O.Sink out.new (record beside { steps = steps.new })) result }
@@ -156,9 +158,6 @@ fn put_lines<O: Sink>(
     ensures { Wrote O.written O.faults O.rest out.old out.new (report_line id.now report unknown
         ++ run_lines index.now.index.names id.now (codes "jass") 1 hits.now) result }
 {
-    match put_report(out, id, unknown, report) {
-        Ok(()) => {}
-        Err(fault) => return Err(fault),
-    }
+    put_report(out, id, unknown, report)?;
     put_answer(out, id, index, hits, TAG, 0)
 }

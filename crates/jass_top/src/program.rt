@@ -1,9 +1,9 @@
-ghost use Rattle.std.specs.Prelude.{ℕ, ◌≡◌, ◌≢◌};
+ghost use Rattle.std.specs.Prelude.{◌≡◌, ◌≢◌};
 ghost use Rattle.jass_words.specs.Words.{CommandData, texts, IsCommand};
 ghost use Rattle.jass_top.specs.Commands.{meaning_of};
 ghost use Rattle.jass_top.specs.Endings.{AreSome, EndsAtWords};
 ghost use Rattle.jass_top.specs.Running.{EndsAs};
-ghost use Rattle.jass_top.specs.Stops.{status_of};
+ghost use Rattle.jass_top.specs.Private.Stops.{status_of};
 ghost use Rattle.jass_top.specs.Worlds.{world};
 
 use crate::command::run_command;

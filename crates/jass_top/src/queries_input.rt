@@ -1,15 +1,16 @@
-ghost use Rattle.std.specs.Prelude.{ℕ, ◌≡◌, ◌≤◌, [], ◌∷◌, IfOk, IfErr};
+ghost use Rattle.std.specs.Prelude.{◌≡◌, ◌≤◌, [], ◌∷◌, IfOk, IfErr};
 ghost use Rattle.std.specs.List.{AllByRecursion};
 ghost use Rattle.jass_base.specs.declared.query.Query.{Query};
 ghost use Rattle.index_file.specs.Places.{texts_of};
 ghost use Rattle.session_engine.specs.Plans.{AreKnown};
-ghost use Rattle.jass_top.specs.Causes.{Unread};
+ghost use Rattle.jass_top.specs.Private.Causes.{Unread};
 ghost use Rattle.jass_top.specs.Judging.{Accepted, Shows};
 ghost use Rattle.jass_top.specs.SearchMeaning.{judge_queries};
-ghost use Rattle.jass_top.specs.SearchTexts.{asked_of};
+ghost use Rattle.jass_top.specs.Private.SearchRuns.{asked_of};
 
 use crate::stop::{Place, Stop};
 use index_file::IndexFile;
+use jass_base::limits::LONGEST_QUERY_FILE;
 use jass_base::{Cabinet, Query, ReadStop, Row};
 use query_reader::{Mode, QueryFault, read_queries};
 use std::alloc::Global;
@@ -17,7 +18,7 @@ use whole_files::read_front;
 
 /// How many bytes of a file are read at the most: one more than a query file may have, since a
 /// longer file is refused whatever else stands in it.
-const MOST_BYTES: usize = 268_435_457;
+const MOST_BYTES: usize = LONGEST_QUERY_FILE + 1;
 
 /// Reads the queries of a file over the terms of an index.
 pub fn open_queries<'a, C: Cabinet>(

@@ -1,4 +1,5 @@
-ghost use Rattle.std.specs.Prelude.{ℕ, ◌≤◌, length};
+ghost use Rattle.std.specs.Prelude.{◌≤◌, length};
+ghost use Rattle.jass_base.specs.declared.limits.TheConstants.{MOST_HITS, MOST_TERM_WORDS};
 
 use jass_base::Budget;
 
@@ -10,6 +11,6 @@ pub struct Question<'a> {
     pub budget: Budget,
     /// 1 to 255 terms, each as it stands.
     pub terms: &'a [String],
-    pub ghost hits: { (1 ≤ k) × (k ≤ 100000) },
-    pub ghost few_terms: { length terms.now ≤ 255 },
+    pub ghost hits: { (1 ≤ k) × (k ≤ MOST_HITS) },
+    pub ghost few_terms: { length terms.now ≤ MOST_TERM_WORDS },
 }

@@ -1,7 +1,7 @@
 ghost use Rattle.std.specs.Prelude.{ℕ};
 ghost use Rattle.index_model.specs.Views.{index_data};
-ghost use Rattle.jass_top.specs.Causes.{Runs};
-ghost use Rattle.jass_top.specs.MakingMeaning.{saving_meaning};
+ghost use Rattle.jass_top.specs.Private.Causes.{Runs};
+ghost use Rattle.jass_top.specs.Private.HeldIndexes.{saving_meaning};
 ghost use Rattle.jass_top.specs.Worlds.{outer};
 
 use crate::stop::{OUTPUT, Place, Stop};

@@ -1,13 +1,15 @@
-ghost use Rattle.std.specs.Prelude.{ℕ, ◌≡◌, ◌≤◌, [], ◌∷◌, length, IfOk, IfErr};
+ghost use Rattle.std.specs.Prelude.{◌≡◌, ◌≤◌, [], ◌∷◌, length, IfOk, IfErr};
 ghost use Rattle.std.specs.List.{AllByRecursion};
 ghost use Rattle.jass_base.specs.declared.query.Query.{Query};
 ghost use Rattle.index_layout.specs.View.{IsFileView};
 ghost use Rattle.session_engine.specs.Plans.{AreKnown};
-ghost use Rattle.jass_top.specs.Causes.{Runs, Unread};
+ghost use Rattle.jass_top.specs.Private.Causes.{Runs, Unread};
 ghost use Rattle.jass_top.specs.Judging.{Accepted, Shows};
 ghost use Rattle.jass_top.specs.SearchMeaning.{judge_search, search_meaning};
-ghost use Rattle.jass_top.specs.SearchTexts.{asked_of};
+ghost use Rattle.jass_top.specs.Private.SearchRuns.{asked_of};
 ghost use Rattle.jass_top.specs.Worlds.{outer};
+ghost use Rattle.jass_base.specs.declared.limits.TheConstants.{MOST_HITS};
+ghost use Rattle.jass_words.specs.declared.word_limits.TheConstants.{MOST_BUDGETS};
 
 use crate::index_input::open_index;
 use crate::laws::a_search_leaves_its_output;
@@ -36,8 +38,8 @@ pub fn run_search<'a, C: Cabinet, O: Sink, L: Ledger>(
     steps: &mut Steps<L>,
 ) -> Result<(), Stop<'a>>
     requires some { 1 ≤ k }
-    requires few_hits { k ≤ 100000 }
-    requires few_budgets { length budgets.now ≤ 16 }
+    requires few_hits { k ≤ MOST_HITS }
+    requires few_budgets { length budgets.now ≤ MOST_BUDGETS }
     ensures { Runs (search_meaning index.now queries.now run.now
         (record { k = k; budgets = budgets.now; tag = tag.now }) mode)
         (outer C.Cabinet O.Sink files.old out.old steps.old)

@@ -8,9 +8,11 @@ ghost use Rattle.gathered_text.specs.Gathering.{Gathers};
 ghost use Rattle.session_engine.specs.Standing.{IsSessionOf, SessionStands};
 ghost use Rattle.session_engine.specs.Standing.{chain_of, granted_of, k_of, query_of, report_of};
 ghost use Rattle.jass_top.specs.declared.search_stop.SearchOutput.{SearchOutput};
-ghost use Rattle.jass_top.specs.SearchTexts.{Stepped, answer_text, first_part_of, report_text};
+ghost use Rattle.jass_top.specs.SearchTexts.{first_part_of};
+ghost use Rattle.jass_top.specs.Private.SearchRuns.{Stepped, answer_text, report_text};
 ghost use Rattle.jass_top.specs.SearchTexts.{query_reports, query_run, query_steps};
 ghost use Rattle.jass_top.specs.Private.Sides.{Side};
+ghost use Rattle.jass_words.specs.declared.word_limits.TheConstants.{MOST_BUDGETS};
 
 use crate::search_stop::SearchOutput;
 use frame_pool::FramePool;
@@ -43,7 +45,7 @@ pub fn gather_budgets<R: Sink, O: Sink, L: Ledger>(
     out: &mut O,
     out_buffer: &mut Buffer,
 ) -> Result<(), SearchOutput>
-    requires few { length budgets.now ≤ 16 }
+    requires few { length budgets.now ≤ MOST_BUDGETS }
     requires stands { SessionStands session.old index.now pool.old }
     requires none { granted_of session.old ≡ 0 }
     ensures stands { SessionStands session.new index.now pool.new }
@@ -63,12 +65,9 @@ pub fn gather_budgets<R: Sink, O: Sink, L: Ledger>(
     calls_on_one_chain();
     let mut part = first_part(budgets);
     for budget in budgets {
-        match gather_budget(
+        gather_budget(
             session, *budget, part, tag, index, pool, steps, run, run_buffer, out, out_buffer,
-        ) {
-            Ok(()) => {}
-            Err(which) => return Err(which),
-        }
+        )?;
         part += 1;
     }
     Ok(())
@@ -172,10 +171,7 @@ fn gather_hits<R: Sink>(
     ensures { Gathers R.written R.faults R.rest run.old run.new run_buffer.old run_buffer.new
         (run_lines index.now.index.names id.now (tag_of tag.now part) 1 hits.now) result }
 {
-    match gather_answer(run, run_buffer, id, index, hits, tag, part) {
-        Ok(()) => {}
-        Err(fault) => return Err(fault),
-    }
+    gather_answer(run, run_buffer, id, index, hits, tag, part)?;
     if room >= id.len() + REPORT_BYTES {
         return Ok(());
     }

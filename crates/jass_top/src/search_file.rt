@@ -5,9 +5,11 @@ ghost use Rattle.session_engine.specs.Plans.{AreKnown};
 ghost use Rattle.jass_top.specs.declared.search_stop.SearchOutput.{SearchOutput};
 ghost use Rattle.jass_top.specs.declared.search_stop.SearchStop.{SearchStop};
 ghost use Rattle.jass_top.specs.Private.RunFiles.{WroteBehind, WroteFile};
-ghost use Rattle.jass_top.specs.SearchTexts.{IsReady, Stepped, asked_of};
+ghost use Rattle.jass_top.specs.Private.SearchRuns.{IsReady, Stepped, asked_of};
 ghost use Rattle.jass_top.specs.SearchTexts.{queries_reports, queries_run, queries_steps};
 ghost use Rattle.jass_top.specs.Private.Sides.{WroteSide};
+ghost use Rattle.jass_base.specs.declared.limits.TheConstants.{MOST_HITS};
+ghost use Rattle.jass_words.specs.declared.word_limits.TheConstants.{MOST_BUDGETS};
 
 use crate::search_queries::search_all;
 use crate::search_stop::{SearchOutput, SearchStop};
@@ -31,8 +33,8 @@ pub fn write_search<C: Cabinet, O: Sink, L: Ledger>(
     out: &mut O,
 ) -> Result<(), SearchStop>
     requires some { 1 ≤ k }
-    requires few_hits { k ≤ 100000 }
-    requires few_budgets { length budgets.now ≤ 16 }
+    requires few_hits { k ≤ MOST_HITS }
+    requires few_budgets { length budgets.now ≤ MOST_BUDGETS }
     requires known { AllByRecursion (λ (query : Query). AreKnown index.now query.terms) queries }
     ensures steps { Stepped steps.old steps.new (queries_steps index.now budgets.now (asked_of queries)) result }
     ensures run { WroteFile C.told C.write_faults (SearchStop.Unwritten SearchOutput.Run) files.old files.new name.now
@@ -71,8 +73,8 @@ fn search_behind<'a, C: Cabinet, O: Sink, L: Ledger>(
     out: &mut O,
 ) -> Result<(), SearchStop>
     requires some { 1 ≤ k }
-    requires few_hits { k ≤ 100000 }
-    requires few_budgets { length budgets.now ≤ 16 }
+    requires few_hits { k ≤ MOST_HITS }
+    requires few_budgets { length budgets.now ≤ MOST_BUDGETS }
     requires known { AllByRecursion (λ (query : Query). AreKnown index.now query.terms) queries }
     requires ready { IsReady index.now pool.old }
     ensures steps { Stepped steps.old steps.new (queries_steps index.now budgets.now (asked_of queries)) result }

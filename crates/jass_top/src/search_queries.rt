@@ -1,13 +1,16 @@
-ghost use Rattle.std.specs.Prelude.{◌≡◌, ◌≤◌, length};
+ghost use Rattle.std.specs.Prelude.{◌≤◌, length};
 ghost use Rattle.std.specs.List.{AllByRecursion};
 ghost use Rattle.jass_base.specs.declared.query.Query.{Query};
 ghost use Rattle.ranking_model.specs.Search.{query_data};
 ghost use Rattle.session_engine.specs.Plans.{AreKnown};
 ghost use Rattle.jass_top.specs.declared.search_stop.SearchOutput.{SearchOutput};
 ghost use Rattle.jass_top.specs.declared.search_stop.SearchStop.{SearchStop};
-ghost use Rattle.jass_top.specs.SearchTexts.{IsReady, Stepped, asked_of, query_reports, query_run, query_steps};
+ghost use Rattle.jass_top.specs.SearchTexts.{query_reports, query_run, query_steps};
+ghost use Rattle.jass_top.specs.Private.SearchRuns.{IsReady, Stepped, asked_of};
 ghost use Rattle.jass_top.specs.SearchTexts.{queries_reports, queries_run, queries_steps};
 ghost use Rattle.jass_top.specs.Private.Sides.{Side, WroteSide};
+ghost use Rattle.jass_base.specs.declared.limits.TheConstants.{MOST_HITS};
+ghost use Rattle.jass_words.specs.declared.word_limits.TheConstants.{MOST_BUDGETS};
 
 use crate::search_budgets::gather_budgets;
 use crate::search_stop::{SearchOutput, SearchStop};
@@ -34,8 +37,8 @@ pub fn search_all<R: Sink, O: Sink, L: Ledger>(
     out: &mut O,
 ) -> Result<(), SearchStop>
     requires some { 1 ≤ k }
-    requires few_hits { k ≤ 100000 }
-    requires few_budgets { length budgets.now ≤ 16 }
+    requires few_hits { k ≤ MOST_HITS }
+    requires few_budgets { length budgets.now ≤ MOST_BUDGETS }
     requires known { AllByRecursion (λ (query : Query). AreKnown index.now query.terms) queries }
     requires ready { IsReady index.now pool.old }
     ensures steps { Stepped steps.old steps.new (queries_steps index.now budgets.now (asked_of queries)) result }
@@ -46,7 +49,7 @@ pub fn search_all<R: Sink, O: Sink, L: Ledger>(
 {
     let mut run_buffer = Buffer::new();
     let mut out_buffer = Buffer::new();
-    match gather_queries(
+    gather_queries(
         alloc,
         queries,
         k,
@@ -59,10 +62,7 @@ pub fn search_all<R: Sink, O: Sink, L: Ledger>(
         &mut run_buffer,
         out,
         &mut out_buffer,
-    ) {
-        Ok(()) => {}
-        Err(stop) => return Err(stop),
-    }
+    )?;
     match flush(run, &mut run_buffer) {
         Ok(()) => {}
         Err(_) => return Err(SearchStop::Unwritten(SearchOutput::Run)),
@@ -89,8 +89,8 @@ fn gather_queries<R: Sink, O: Sink, L: Ledger>(
     out_buffer: &mut Buffer,
 ) -> Result<(), SearchStop>
     requires some { 1 ≤ k }
-    requires few_hits { k ≤ 100000 }
-    requires few_budgets { length budgets.now ≤ 16 }
+    requires few_hits { k ≤ MOST_HITS }
+    requires few_budgets { length budgets.now ≤ MOST_BUDGETS }
     requires known { AllByRecursion (λ (query : Query). AreKnown index.now query.terms) queries }
     requires ready { IsReady index.now pool.old }
     ensures steps { Stepped steps.old steps.new (queries_steps index.now budgets.now (asked_of queries)) result }
@@ -102,12 +102,9 @@ fn gather_queries<R: Sink, O: Sink, L: Ledger>(
         (queries_reports index.now k budgets.now (asked_of queries)) result }
 {
     for query in queries.into_vec() {
-        match gather_query(
+        gather_query(
             alloc, query, k, budgets, tag, index, pool, steps, run, run_buffer, out, out_buffer,
-        ) {
-            Ok(()) => {}
-            Err(stop) => return Err(stop),
-        }
+        )?;
     }
     Ok(())
 }
@@ -128,8 +125,8 @@ fn gather_query<R: Sink, O: Sink, L: Ledger>(
     out_buffer: &mut Buffer,
 ) -> Result<(), SearchStop>
     requires some { 1 ≤ k }
-    requires few_hits { k ≤ 100000 }
-    requires few_budgets { length budgets.now ≤ 16 }
+    requires few_hits { k ≤ MOST_HITS }
+    requires few_budgets { length budgets.now ≤ MOST_BUDGETS }
     requires known { AreKnown index.now query.terms }
     requires ready { IsReady index.now pool.old }
     ensures ready { IsReady index.now pool.new }

@@ -1,6 +1,7 @@
-ghost use Rattle.std.specs.Prelude.{ℕ, ◌≤◌};
-ghost use Rattle.jass_top.specs.ServeMeaning.{RunsServing};
-ghost use Rattle.jass_top.specs.Worlds.{fed};
+ghost use Rattle.std.specs.Prelude.{◌≤◌};
+ghost use Rattle.jass_base.specs.declared.limits.TheConstants.{MOST_FRAMES};
+ghost use Rattle.jass_top.specs.Private.ServeRuns.{RunsServing};
+ghost use Rattle.jass_top.specs.Private.Worlds.{fed};
 
 use crate::index_input::open_index;
 use crate::serve_lines::serve_lines;
@@ -8,12 +9,10 @@ use crate::serve_stop::ServeStop;
 use crate::stop::{INPUT, OUTPUT, Stop};
 use feed_lines::FeedLines;
 use jass_base::{Cabinet, Feed, Sink, Steps};
+use jass_words::word_limits::MOST_TAKEN;
 use session_desk::Desk;
 use std::alloc::Global;
 use std::sync::ledger::Ledger;
-
-/// How many bytes of the input are taken at the most: 2^30.
-const MOST_TAKEN: u64 = 1_073_741_824;
 
 /// Answers the lines of the input at a desk over an index file.
 pub fn run_serve<'a, C: Cabinet, I: Feed, O: Sink, L: Ledger>(
@@ -26,7 +25,7 @@ pub fn run_serve<'a, C: Cabinet, I: Feed, O: Sink, L: Ledger>(
     steps: &mut Steps<L>,
 ) -> Result<(), Stop<'a>>
     requires some { 1 ≤ frames }
-    requires few { frames ≤ 1048576 }
+    requires few { frames ≤ MOST_FRAMES }
     ensures { RunsServing index.now frames
         (fed C.Cabinet I.Feed O.Sink files.old input.old out.old steps.old)
         (fed C.Cabinet I.Feed O.Sink files.new input.new out.new steps.new) result }

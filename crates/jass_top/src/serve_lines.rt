@@ -1,10 +1,11 @@
-ghost use Rattle.std.specs.Prelude.{ℕ, ◌≡◌, ◌≢◌, ◌≤◌, ◌<◌, ◌^◌, ◌+◌, [], length, take, All, Ok, Err, IfOk, IfErr, nat_eq, not, ◌&&◌};
+ghost use Rattle.std.specs.Prelude.{◌≡◌, ◌≢◌, ◌≤◌, ◌<◌, [], length, take, All, Ok, Err, IfOk, IfErr, nat_eq, not, ◌&&◌};
 ghost use Rattle.jass_base.specs.Outside.{Rose, Wrote};
 ghost use Rattle.session_desk.specs.State.{new_state};
 ghost use Rattle.jass_top.specs.declared.serve_stop.ServeStop.{ServeStop};
 ghost use Rattle.session_desk.specs.declared.went.Went.{Went};
 ghost use Rattle.feed_lines.specs.Waiting.{EndsFirst, nothing_yet};
 ghost use Rattle.jass_top.specs.Private.Serving.{AnswersLines, AnswersLast, Served, given_line};
+ghost use Rattle.jass_words.specs.declared.word_limits.TheConstants.{MOST_TAKEN};
 
 use crate::serve_stop::ServeStop;
 use feed_lines::laws::{a_line_loses_one_byte, lines_are_passed, pending_bytes_wait};
@@ -25,7 +26,7 @@ pub fn serve_lines<I: Feed, O: Sink, L: Ledger>(
     steps: &mut Steps<L>,
 ) -> Result<(), ServeStop>
     requires new { desk.old.state ≡ new_state desk.old.state.frames }
-    requires nothing { lines.old ≡ nothing_yet (2 ^ 30) }
+    requires nothing { lines.old ≡ nothing_yet MOST_TAKEN }
     ensures served { Served O.written O.faults O.rest out.old out.new desk.old.file desk.old.state.frames
         (I.left input.old) (I.left input.new) steps.old steps.new result }
     ensures later { I.faults input.old ≤ I.faults input.new }
@@ -117,10 +118,7 @@ pub fn serve_waiting<O: Sink, L: Ledger>(
     ensures empty { IfOk result (λ _. buffer.new ≡ []) }
     ensures free { result ≡ Ok Went.On → All (λ b. b ≢ 10) lines.new.bytes }
 {
-    let went = match answer_waiting(desk, lines, out, buffer, steps) {
-        Ok(went) => went,
-        Err(fault) => return Err(fault),
-    };
+    let went = answer_waiting(desk, lines, out, buffer, steps)?;
     match flush(out, buffer) {
         Ok(()) => Ok(went),
         Err(fault) => Err(fault),

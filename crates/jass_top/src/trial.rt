@@ -3,11 +3,14 @@ ghost use Rattle.index_layout.specs.View.{IsFileView, chosen_view};
 ghost use Rattle.index_model.specs.Views.{index_data};
 ghost use Rattle.trial_data.specs.Trials.{queries_from, trial_state};
 ghost use Rattle.jass_words.specs.Words.{IsTrialSize};
-ghost use Rattle.jass_top.specs.Causes.{Runs, Unheld};
-ghost use Rattle.jass_top.specs.IndexJudging.{IsTextOf};
+ghost use Rattle.jass_top.specs.Private.Causes.{Runs, Unheld};
+ghost use Rattle.jass_top.specs.Private.HeldIndexes.{IsTextOf};
 ghost use Rattle.jass_top.specs.Judging.{Accepted};
 ghost use Rattle.jass_top.specs.TrialMeaning.{judge_trial, trial_index, trial_meaning, tried_meaning};
-ghost use Rattle.jass_top.specs.Worlds.{Outer, with_output};
+ghost use Rattle.jass_top.specs.Worlds.{Outer};
+ghost use Rattle.jass_base.specs.declared.limits.TheConstants.{MOST_TRIAL};
+ghost use Rattle.jass_top.specs.Private.Worlds.{with_output};
+ghost use Rattle.jass_words.specs.declared.word_limits.TheConstants.{MOST_QUERIES};
 
 use crate::import::{impacts_are_small, index_collection};
 use crate::laws::a_trial_leaves_its_summary;
@@ -68,7 +71,7 @@ fn try_file<'a, O: Sink, L: Ledger>(
     steps: &mut Steps<L>,
 ) -> Result<(), Stop<'a>>
     requires terms { 1 ≤ terms }
-    requires queries { queries ≤ 10000 }
+    requires queries { queries ≤ MOST_QUERIES }
     requires view { IsFileView index.now }
     requires chosen { index.now ≡ chosen_view index.now.index }
     requires accepted { judge_trial index.now.index ≡ Accepted index.now.index }
@@ -95,8 +98,8 @@ fn make_trial<'a>(
     docs: u32,
     terms: u32,
 ) -> Result<(IndexFile, Draws), Stop<'a>>
-    requires docs { docs ≤ 1048576 }
-    requires terms { terms ≤ 1048576 }
+    requires docs { docs ≤ MOST_TRIAL }
+    requires terms { terms ≤ MOST_TRIAL }
     ensures file { IfOk result (λ made. made.0 ≡ chosen_view (trial_index seed docs terms)) }
     ensures view { IfOk result (λ made. IsFileView made.0) }
     ensures draws { IfOk result (λ made. made.1 ≡ trial_state seed docs terms) }
@@ -105,10 +108,7 @@ fn make_trial<'a>(
     ensures unmade { IfErr result
         (λ stop. Unheld (codes "trial" ∷ []) (judge_trial (trial_index seed docs terms)) stop) }
 {
-    let (bytes, draws) = match trial_bytes(alloc, seed, docs, terms) {
-        Ok(made) => made,
-        Err(stop) => return Err(stop),
-    };
+    let (bytes, draws) = trial_bytes(alloc, seed, docs, terms)?;
     match open_text(alloc, bytes) {
         Ok(file) => Ok((file, draws)),
         Err(_) => Err(Stop::NoMemory),
@@ -122,8 +122,8 @@ fn trial_bytes<'a>(
     docs: u32,
     terms: u32,
 ) -> Result<(Row<u8>, Draws), Stop<'a>>
-    requires docs { docs ≤ 1048576 }
-    requires terms { terms ≤ 1048576 }
+    requires docs { docs ≤ MOST_TRIAL }
+    requires terms { terms ≤ MOST_TRIAL }
     ensures text { IfOk result (λ made. IsTextOf made.0 (trial_index seed docs terms)) }
     ensures draws { IfOk result (λ made. made.1 ≡ trial_state seed docs terms) }
     ensures accepted { OnOk result
@@ -158,15 +158,12 @@ fn index_trial(
     docs: u32,
     terms: u32,
 ) -> Result<(ImpactIndex, Draws), NoMemory>
-    requires docs { docs ≤ 1048576 }
-    requires terms { terms ≤ 1048576 }
+    requires docs { docs ≤ MOST_TRIAL }
+    requires terms { terms ≤ MOST_TRIAL }
     ensures index { IfOk result (λ made. index_data made.0 ≡ trial_index seed docs terms) }
     ensures draws { IfOk result (λ made. made.1 ≡ trial_state seed docs terms) }
 {
-    let (collection, draws) = match make_with_draws(alloc, seed, docs, terms) {
-        Ok(made) => made,
-        Err(refused) => return Err(refused),
-    };
+    let (collection, draws) = make_with_draws(alloc, seed, docs, terms)?;
     match index_collection(alloc, &collection, Rule::Bm25, Bits::Of(8)) {
         Ok(index) => Ok((index, draws)),
         Err(refused) => Err(refused),

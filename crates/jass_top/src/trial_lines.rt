@@ -18,18 +18,9 @@ pub fn put_summary<O: Sink>(
 ) -> Result<(), WriteFault>
     ensures { Wrote O.written O.faults O.rest out.old out.new (trial_text index.now sums) result }
 {
-    match put_use(out, index) {
-        Ok(()) => {}
-        Err(fault) => return Err(fault),
-    }
-    match put_sum(out, b"1000", sums.first) {
-        Ok(()) => {}
-        Err(fault) => return Err(fault),
-    }
-    match put_sum(out, b"10000", sums.second) {
-        Ok(()) => {}
-        Err(fault) => return Err(fault),
-    }
+    put_use(out, index)?;
+    put_sum(out, b"1000", sums.first)?;
+    put_sum(out, b"10000", sums.second)?;
     put_sum(out, b"all", sums.last)
 }
 
@@ -38,10 +29,7 @@ fn put_use<O: Sink>(out: &mut O, index: &IndexFile) -> Result<(), WriteFault>
     ensures { Wrote O.written O.faults O.rest out.old out.new
         (use_line index.now.index (codec_use index.now.codecs)) result }
 {
-    match put_size(out, index) {
-        Ok(()) => {}
-        Err(fault) => return Err(fault),
-    }
+    put_size(out, index)?;
     put_codecs(out, index.codecs())
 }
 

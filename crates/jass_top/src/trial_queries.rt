@@ -7,9 +7,13 @@ ghost use Rattle.session_engine.specs.Standing.{chain_of, granted_of, k_of, quer
 ghost use Rattle.trial_data.specs.Trials.{queries_from};
 ghost use Rattle.jass_words.specs.Words.{texts};
 ghost use Rattle.jass_top.specs.Answers.{words_query};
-ghost use Rattle.jass_top.specs.SearchTexts.{IsReady, Stepped, queries_steps, query_steps};
+ghost use Rattle.jass_top.specs.SearchTexts.{queries_steps, query_steps};
+ghost use Rattle.jass_top.specs.Private.SearchRuns.{IsReady, Stepped};
 ghost use Rattle.jass_top.specs.TrialMeaning.{queries_over, trial_budgets};
-ghost use Rattle.jass_top.specs.TrialSums.{AreSmallSums, IsSmallSum, no_sums, with_answer, with_queries, with_query};
+ghost use Rattle.jass_top.specs.TrialSums.{no_sums, with_answer, with_queries, with_query};
+ghost use Rattle.jass_base.specs.declared.limits.TheConstants.{MOST_TERM_WORDS};
+ghost use Rattle.jass_top.specs.Private.SmallSums.{AreSmallSums, IsSmallSum};
+ghost use Rattle.jass_words.specs.declared.word_limits.TheConstants.{MOST_QUERIES};
 
 use crate::trial_sums::{BudgetSum, TrialSums};
 use frame_pool::FramePool;
@@ -42,7 +46,7 @@ pub fn try_queries<L: Ledger>(
     steps: &mut Steps<L>,
 ) -> Result<TrialSums, NoMemory>
     requires terms { 0 < terms }
-    requires queries { queries ≤ 10000 }
+    requires queries { queries ≤ MOST_QUERIES }
     ensures sums { IfOk result (λ sums. sums ≡ with_queries index.now
         (queries_over index.now.index (queries_from terms queries draws.old)) no_sums) }
     ensures steps { Stepped steps.old steps.new (queries_steps index.now trial_budgets
@@ -75,9 +79,9 @@ fn try_query<L: Ledger>(
     sums: TrialSums,
     steps: &mut Steps<L>,
 ) -> Result<TrialSums, NoMemory>
-    requires few { length words.now ≤ 255 }
+    requires few { length words.now ≤ MOST_TERM_WORDS }
     requires ready { IsReady index.now pool.old }
-    requires small { AreSmallSums 10000 sums }
+    requires small { AreSmallSums MOST_QUERIES sums }
     ensures ready { IsReady index.now pool.new }
     ensures sums { IfOk result (λ more. more
         ≡ with_query index.now (words_query index.now.index (texts words.now)) sums) }
@@ -110,7 +114,7 @@ fn try_grants<L: Ledger>(
     requires stands { SessionStands session.old index.now pool.old }
     requires none { granted_of session.old ≡ 0 }
     requires hits { k_of session.old ≡ 10 }
-    requires small { AreSmallSums 10000 sums }
+    requires small { AreSmallSums MOST_QUERIES sums }
     ensures stands { SessionStands session.new index.now pool.new }
     ensures same { IsSessionOf session.old session.new }
     ensures leaves { LeavesPool pool.old pool.new (chain_of session.old) }
@@ -156,7 +160,7 @@ fn try_grant<L: Ledger>(
 ) -> BudgetSum
     requires stands { SessionStands session.old index.now pool.old }
     requires hits { k_of session.old ≡ 10 }
-    requires small { IsSmallSum 10000 sum }
+    requires small { IsSmallSum MOST_QUERIES sum }
     ensures stands { SessionStands session.new index.now pool.new }
     ensures granted { granted_of session.new ≡ granted_with (granted_of session.old) budget }
     ensures same { IsSessionOf session.old session.new }

@@ -1,6 +1,8 @@
 ghost use Rattle.std.specs.Prelude.{ℕ, ◌≡◌, ◌+◌, ◌*◌, ◌<◌, ◌≤◌, ◌^◌, length, if◌then◌else◌};
 ghost use Rattle.jass_top.specs.TrialMeaning.{hit_scores, is_final};
-ghost use Rattle.jass_top.specs.TrialSums.{AreSmallSums, IsSmallSum, no_sums, with_answer};
+ghost use Rattle.jass_top.specs.TrialSums.{no_sums, with_answer};
+ghost use Rattle.jass_top.specs.Private.SmallSums.{AreSmallSums, IsSmallSum};
+ghost use Rattle.jass_words.specs.declared.word_limits.TheConstants.{MOST_QUERIES};
 
 use jass_base::{Grade, Hit, Report};
 
@@ -45,7 +47,7 @@ impl TrialSums {
 impl BudgetSum {
     /// With one answer more, of at most 10,001.
     pub fn with(self, report: Report, hits: &[Hit]) -> BudgetSum
-        requires small { IsSmallSum 10000 self }
+        requires small { IsSmallSum MOST_QUERIES self }
         requires postings { report.postings < 2 ^ 32 }
         requires few { length hits.now ≤ 10 }
         ensures sum { result ≡ with_answer self report hits.now }

@@ -1,6 +1,7 @@
-ghost use Rattle.jass_top.specs.Causes.{Runs};
+ghost use Rattle.jass_top.specs.Private.Causes.{Runs};
 ghost use Rattle.jass_top.specs.VersionMeaning.{version_meaning};
-ghost use Rattle.jass_top.specs.Worlds.{Outer, with_output};
+ghost use Rattle.jass_top.specs.Worlds.{Outer};
+ghost use Rattle.jass_top.specs.Private.Worlds.{with_output};
 
 use crate::fixed_text::print_text;
 use crate::stop::Stop;

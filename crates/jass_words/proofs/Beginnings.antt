@@ -1,18 +1,14 @@
 -- Words that begin a command, and the first word that is at fault: lemmas over any command, and then each command's own.
-use Rattle.std.proofs.Common.{◌≡◌, ◌≢◌, ℕ, ◌+◌, zero, suc, ◌<◌, ◌≤◌, List, [], ◌∷◌, ◌++◌, length, take, drop, Some, refl, sym, ap, subst, ◌∙◌, arith, append-nil, take-append-drop, length-append}
-use Rattle.std.specs.Prelude.{slice_get, All, codes}
-use Rattle.std.specs.Option.{unwrap_or}
-use Rattle.query_reader.specs.declared.mode.Mode.TheVariants.{Plain}
+use Rattle.shared_lemmas.proofs.Common.{◌≡◌, ◌≢◌, ℕ, ◌+◌, zero, suc, ◌<◌, ◌≤◌, List, [], ◌∷◌, ◌++◌, length, take, drop, Some, refl, sym, ap, subst, ◌∙◌, arith, append-nil, slice_get, All, codes, unwrap_or, take-take, All-from_recursion, take-append_seam, take-append-add, same_Some}
+use Rattle.std.proofs.Common.{take-append-drop, length-append}
+use Rattle.jass_words.proofs.Below.{Plain, Budget}
 use Rattle.jass_words.specs.Spelled.{Spell, HaveOnce, given}
 use Rattle.jass_words.specs.Searching.{SearchData, IsSearchOption, search_key, hits_in, limits_in, tag_in, mode_in}
-use Rattle.std.proofs.lemmas.List.{take-take, append_assoc}
-use Rattle.std.proofs.lemmas.List.Elements.{All-from_recursion}
-use Rattle.std.proofs.Math.Seq.{take-append_seam, take-append-add}
-use Rattle.jass_base.specs.declared.answer.Budget.{Budget}
+use Rattle.std.proofs.lemmas.List.{append_assoc}
 use Rattle.jass_base.specs.declared.answer.Budget.TheVariants as budgets
-use Rattle.std.proofs.lemmas.Option.{same_Some}
 use Rattle.jass_words.specs.Numbers.{IsCount, IsBudget}
-use Rattle.jass_words.specs.Words.{CommandData, Once, Rewrite, Import, Check, Export, Migrate, Search, Help, Version, HasFiles, TakesFiles, TakesTwoFiles, IsFile, IsTerm, AreTermWords, IsCommand, IsNoCommand, IsBegun, IsBadWord}
+use Rattle.jass_words.specs.Words.{CommandData, Once, Rewrite, Import, Check, Export, Migrate, Search, Help, Version, HasFiles, IsFile, IsTerm, AreTermWords, IsCommand, IsNoCommand, IsBegun, IsBadWord}
+use Rattle.jass_words.specs.Private.Files.{TakesFiles, TakesTwoFiles}
 use Rattle.jass_words.proofs.Parts.{once_word, rewrite_word, import_word, check_word, export_word, migrate_word, search_word, help_word, version_word, word_of, begins, as_once, as_rewrite, as_import, as_check, as_export, as_migrate, as_search, as_help, as_version}
 use Rattle.jass_words.specs.Options.{IsOption, key_of, OptionData, AreOptions, HaveKeysOnce, rule_of, bits_of}
 
@@ -121,13 +117,13 @@ begun_once = begun_less (once_word ∷ a_word ∷ []) 2 1 (omega arith) (begun_f
 pub begun_nothing : IsBegun []
 begun_nothing = begun_less (once_word ∷ a_word ∷ []) 2 0 (omega arith) (begun_file a_word a_file)
 
+two_letters : IsFile (codes "aa")
+two_letters = record { some = omega arith; fits = omega arith; nonzero = All-from_recursion (λ (b : ℕ). b ≢ 0) (codes "aa") ((λ is. cc), ((λ is. cc), tt)) }
+
 -- any file has another beside it
 other_file : (f : List ℕ) → (t : List ℕ) × IsFile t × (f ≢ t)
 other_file [] = (a_word, a_file, λ is. cc)
-other_file (b ∷ []) = (codes "aa", long_file, λ is. (let sizes : 1 ≡ 2 = ap length is in omega (arith, sizes)))
-  where
-    long_file : IsFile (codes "aa")
-    long_file = record { some = omega arith; fits = omega arith; nonzero = All-from_recursion (λ (b : ℕ). b ≢ 0) (codes "aa") ((λ is. cc), ((λ is. cc), tt)) }
+other_file (b ∷ []) = (codes "aa", two_letters, λ is. (let sizes : 1 ≡ 2 = ap length is in omega (arith, sizes)))
 other_file (b ∷ c ∷ f) = (a_word, a_file, λ is. (let sizes : length (b ∷ c ∷ f) ≡ 1 = ap length is in omega (arith, sizes)))
 
 -- ---- names behind which files stand
@@ -151,17 +147,14 @@ begun_options f t more options read written differ spelled once = (
 other_beside : (f g : List ℕ) → (t : List ℕ) × IsFile t × (f ≢ t) × (g ≢ t)
 other_beside f g = (let (t, file, first, second) = of_length (length f) (length g) in (t, file, (λ is. first (ap length is)), (λ is. second (ap length is))))
   where
-    two : IsFile (codes "aa")
-    two = record { some = omega arith; fits = omega arith; nonzero = All-from_recursion (λ (b : ℕ). b ≢ 0) (codes "aa") ((λ is. cc), ((λ is. cc), tt)) }
-
     three : IsFile (codes "aaa")
     three = record { some = omega arith; fits = omega arith; nonzero = All-from_recursion (λ (b : ℕ). b ≢ 0) (codes "aaa") ((λ is. cc), ((λ is. cc), ((λ is. cc), tt))) }
 
     of_length : (m n : ℕ) → (t : List ℕ) × IsFile t × (m ≢ length t) × (n ≢ length t)
     of_length (suc zero) (suc (suc zero)) = (codes "aaa", three, (λ is. omega (arith, is)), (λ is. omega (arith, is)))
     of_length (suc (suc zero)) (suc zero) = (codes "aaa", three, (λ is. omega (arith, is)), (λ is. omega (arith, is)))
-    of_length (suc zero) n = (codes "aa", two, (λ is. omega (arith, is)), (λ is. omega (arith, is)))
-    of_length m (suc zero) = (codes "aa", two, (λ is. omega (arith, is)), (λ is. omega (arith, is)))
+    of_length (suc zero) n = (codes "aa", two_letters, (λ is. omega (arith, is)), (λ is. omega (arith, is)))
+    of_length m (suc zero) = (codes "aa", two_letters, (λ is. omega (arith, is)), (λ is. omega (arith, is)))
     of_length m n = (a_word, a_file, (λ is. omega (arith, is)), (λ is. omega (arith, is)))
 
 pub begun_search : (f t r : List ℕ) (more : List (List ℕ)) (options : List SearchData) → IsFile f → IsFile t → IsFile r → f ≢ t → f ≢ r → t ≢ r → Spell IsSearchOption more options → HaveOnce search_key options → IsBegun (search_word ∷ f ∷ t ∷ r ∷ more)
@@ -190,32 +183,26 @@ begun_from name f takes file = (let (t, to, differ) = other_file f in begun_less
 begun_name : (name : List ℕ) → TakesFiles name → IsBegun (name ∷ [])
 begun_name name takes = begun_less (name ∷ a_word ∷ []) 2 1 (omega arith) (begun_from name a_word takes a_file)
 
-pub rewrite_takes : TakesTwoFiles rewrite_word
-rewrite_takes = record {
+-- a command of two files and nothing behind them
+two_files : (name : List ℕ) (As : List ℕ → List ℕ → CommandData)
+    → ((rest : List (List ℕ)) (command : CommandData) → IsCommand (name ∷ rest) command → (from : List ℕ) × (to : List ℕ) × HasFiles name (name ∷ rest) from to [])
+    → ((words : List (List ℕ)) (from to : List ℕ) → HasFiles name words from to [] → IsCommand words (As from to)) → TakesTwoFiles name
+two_files name As has is_one = record {
   takes = record {
-    each = λ rest command is. (let (from, to, whole) = as_rewrite rest command is in (from, to, [], whole));
-    begun = λ from to read written differ. ([], Rewrite from to, record { parts = refl; read = read; written = written; differ = differ });
+    each = λ rest command is. (let (from, to, whole) = has rest command is in (from, to, [], whole));
+    begun = λ from to read written differ. ([], As from to, is_one (name ∷ from ∷ to ∷ []) from to (record { parts = refl; read = read; written = written; differ = differ }));
   };
-  ends = λ from to more command is. (let (f, t, whole) = as_rewrite (from ∷ to ∷ more) command is in ap (drop 3) whole.parts);
+  ends = λ from to more command is. (let (f, t, whole) = has (from ∷ to ∷ more) command is in ap (drop 3) whole.parts);
 }
+
+pub rewrite_takes : TakesTwoFiles rewrite_word
+rewrite_takes = two_files rewrite_word Rewrite as_rewrite (λ words from to is. is)
 
 pub export_takes : TakesTwoFiles export_word
-export_takes = record {
-  takes = record {
-    each = λ rest command is. (let (from, to, whole) = as_export rest command is in (from, to, [], whole));
-    begun = λ from to read written differ. ([], Export from to, record { parts = refl; read = read; written = written; differ = differ });
-  };
-  ends = λ from to more command is. (let (f, t, whole) = as_export (from ∷ to ∷ more) command is in ap (drop 3) whole.parts);
-}
+export_takes = two_files export_word Export as_export (λ words from to is. is)
 
 pub migrate_takes : TakesTwoFiles migrate_word
-migrate_takes = record {
-  takes = record {
-    each = λ rest command is. (let (from, to, whole) = as_migrate rest command is in (from, to, [], whole));
-    begun = λ from to read written differ. ([], Migrate from to, record { parts = refl; read = read; written = written; differ = differ });
-  };
-  ends = λ from to more command is. (let (f, t, whole) = as_migrate (from ∷ to ∷ more) command is in ap (drop 3) whole.parts);
-}
+migrate_takes = two_files migrate_word Migrate as_migrate (λ words from to is. is)
 
 pub import_takes : TakesFiles import_word
 import_takes = record {
@@ -226,8 +213,7 @@ import_takes = record {
 pub search_takes : TakesFiles search_word
 search_takes = record {
   each = λ rest command is. (let (index, queries, run, k, limits, tag, mode, whole) = as_search rest command is in (index, queries, run ∷ whole.more, whole.files));
-  begun = λ from to read written differ.
-      (let (run, file, apart, beside) = other_beside from to in
+  begun = λ from to read written differ. (let (run, file, apart, beside) = other_beside from to in
       begun_less (search_word ∷ from ∷ to ∷ run ∷ []) 4 3 (omega arith) (begun_search from to run [] [] read written file differ apart beside tt tt));
 }
 

@@ -1,13 +1,7 @@
 -- Budgets between commas.
-use Rattle.std.proofs.Common.{◌≡◌, ℕ, ◌<◌, ◌≤◌, List, [], ◌∷◌, ◌++◌, length, sym, ap, subst, ◌∙◌, arith, eqb, append_assoc, length-append}
-use Rattle.std.proofs.Common.{Bor, Option, Some, None, lit<, false}
-use Rattle.std.specs.Prelude.{IfSome}
-use Rattle.std.proofs.lemmas.Str.Pattern.{IsSplitOnceResult, split_once_first}
-use Rattle.std.proofs.lemmas.List.Splits.{slice_split_none}
-use Rattle.std.proofs.lemmas.List.Sums.{fails_before_first}
-use Rattle.std.proofs.lemmas.List.Elements.{All-from_get_or}
-use Rattle.std.specs.List.{slice_split, position_or_len, before_first, after_first}
-use Rattle.std.proofs.lemmas.List.Splits.{slice_split_first}
+use Rattle.shared_lemmas.proofs.Common.{◌≡◌, ℕ, ◌<◌, ◌≤◌, List, [], ◌∷◌, ◌++◌, length, sym, ap, subst, ◌∙◌, arith, eqb, append_assoc, Bor, Option, Some, None, lit<, false, IfSome, IsSplitOnceResult, split_once_first, slice_split_none, slice_split_first, fails_before_first, All-from_get_or}
+use Rattle.shared_lemmas.proofs.Common.{slice_split, position_or_len, before_first, after_first}
+use Rattle.std.proofs.Common.{length-append}
 use Rattle.jass_base.specs.declared.answer.Budget.{Budget}
 use Rattle.jass_words.specs.Numbers.{IsBudget}
 use Rattle.jass_words.specs.Spelled.{Spell}

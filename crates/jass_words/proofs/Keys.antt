@@ -1,15 +1,9 @@
 -- Words that are options of `import`.
-use Rattle.std.proofs.Common.{◌≡◌, ◌≢◌, ℕ, ◌≤◌, List, [], ◌∷◌, ◌++◌, length, drop, Some, None, refl, sym, ap, subst, ◌∙◌, arith}
-use Rattle.std.specs.Prelude.{codes, slice_index, Option}
-use Rattle.std.specs.List.{AllByRecursion}
-use Rattle.std.specs.Option.{unwrap_or}
-use Rattle.jass_base.specs.Decimal.{decimal_of}
-use Rattle.weights.specs.declared.weighting.Rule.{Rule}
-use Rattle.weights.specs.declared.weighting.Rule.TheVariants.{Tf, Bm25}
-use Rattle.weights.specs.declared.quantizing.Bits.{Bits}
-use Rattle.weights.specs.declared.quantizing.Bits.TheVariants.{Raw, Of}
+use Rattle.shared_lemmas.proofs.Common.{◌≡◌, ◌≢◌, ℕ, ◌≤◌, List, [], ◌∷◌, ◌++◌, length, Some, None, refl, sym, ap, subst, ◌∙◌, arith, codes, slice_index, Option, AllByRecursion, unwrap_or, append_cancel_left}
+use Rattle.jass_words.proofs.Below.{decimal_of, Rule, Tf, Bm25, Bits, Raw, Of}
 use Rattle.jass_words.proofs.Spelling.{as_many, spelled_more, once_more, again}
-use Rattle.jass_words.specs.Options.{OptionData, Weights, Width, key_of, IsRule, IsBits, IsOption, AreOptions, HaveKeysOnce, rule_of, bits_of, seen_rule, seen_bits, Seen}
+use Rattle.jass_words.specs.Options.{OptionData, Weights, Width, key_of, IsRule, IsBits, IsOption, AreOptions, HaveKeysOnce, rule_of, bits_of}
+use Rattle.jass_words.specs.Private.Options.{seen_rule, seen_bits, Seen}
 
 one_rule : (value : List ℕ) (a b : Rule) → IsRule value a → IsRule value b → a ≡ b
 one_rule value Tf Tf is theirs = refl
@@ -23,19 +17,15 @@ one_width value (Of m) (Of n) is theirs = (let same : m ≡ n = cc in ap Of same
 one_width value Raw (Of n) is theirs = (let none : decimal_of (codes "raw") ≡ Some n = subst (λ w. decimal_of w ≡ Some n) is theirs.0 in cc)
 one_width value (Of m) Raw is theirs = (let none : decimal_of (codes "raw") ≡ Some m = subst (λ w. decimal_of w ≡ Some m) theirs is.0 in cc)
 
-same_rest : (key v w : List ℕ) → key ++ v ≡ key ++ w → v ≡ w
-same_rest [] v w is = is
-same_rest (k ∷ key) v w is = same_rest key v w (ap (drop 1) is)
-
 other_keys : (v w : List ℕ) → codes "weights=" ++ v ≢ codes "bits=" ++ w
 other_keys v w is = (let first : 119 ≡ 98 = ap (λ (xs : List ℕ). slice_index xs 0) is in omega (arith, first))
 
 pub option_one : (word : List ℕ) (a b : OptionData) → IsOption word a → IsOption word b → a ≡ b
 option_one word (Weights r) (Weights s) is theirs =
-    let same : is.0 ≡ theirs.0 = same_rest (codes "weights=") is.0 theirs.0 (sym is.1 ∙ theirs.1) in
+    let same : is.0 ≡ theirs.0 = append_cancel_left (codes "weights=") is.0 theirs.0 (sym is.1 ∙ theirs.1) in
     ap Weights (one_rule theirs.0 r s (subst (λ v. IsRule v r) same is.2) theirs.2)
 option_one word (Width r) (Width s) is theirs =
-    let same : is.0 ≡ theirs.0 = same_rest (codes "bits=") is.0 theirs.0 (sym is.1 ∙ theirs.1) in
+    let same : is.0 ≡ theirs.0 = append_cancel_left (codes "bits=") is.0 theirs.0 (sym is.1 ∙ theirs.1) in
     ap Width (one_width theirs.0 r s (subst (λ v. IsBits v r) same is.2) theirs.2)
 option_one word (Weights r) (Width s) is theirs = absurd (other_keys is.0 theirs.0 (sym is.1 ∙ theirs.1))
 option_one word (Width r) (Weights s) is theirs = absurd (other_keys theirs.0 is.0 (sym theirs.1 ∙ is.1))

@@ -1,3 +1,4 @@
+mod Below
 pub mod Spelling
 pub mod Commas
 pub mod Keys

@@ -1,14 +1,7 @@
 -- What a search asks for is within the limits.
-use Rattle.std.proofs.Common.{◌≡◌, ℕ, ◌≤◌, List, [], ◌∷◌, length, Option, Some, None, refl, sym, subst, arith, eqb}
-use Rattle.std.specs.Prelude.{codes}
-use Rattle.std.specs.Option.{option_or, unwrap_or}
-use Rattle.std.specs.List.{slice_split}
-use Rattle.std.proofs.lemmas.List.Elements.{All-from_recursion}
-use Rattle.std.proofs.lemmas.List.Splits.{length-slice_split}
-use Rattle.jass_base.specs.declared.answer.Budget.{Budget}
+use Rattle.shared_lemmas.proofs.Common.{◌≡◌, ℕ, ◌≤◌, List, [], ◌∷◌, length, Option, Some, None, refl, sym, subst, arith, eqb, codes, option_or, unwrap_or, slice_split, All-from_recursion, length-slice_split, same_Some}
+use Rattle.jass_words.proofs.Below.{Budget, Mode}
 use Rattle.jass_base.specs.declared.answer.Budget.TheVariants as budgets
-use Rattle.query_reader.specs.declared.mode.Mode.{Mode}
-use Rattle.std.proofs.lemmas.Option.{same_Some}
 use Rattle.jass_words.specs.Numbers.{IsBudget}
 use Rattle.jass_words.specs.Spelled.{Spell, given}
 use Rattle.jass_words.specs.Searching.{SearchData, Hits, Limits, Tag, IsTag, IsSearchOption, IsWithinLimits, hits_in, limits_in, tag_in}

@@ -1,12 +1,7 @@
 -- The name that a command's words begin with, and the one command that has it.
-use Rattle.std.proofs.Common.{refl, ◌≡◌, ℕ, List, [], ◌∷◌, drop, Some, sym, ap, subst, ◌∙◌}
-use Rattle.std.specs.Prelude.{slice_get, codes}
-use Rattle.jass_base.specs.declared.answer.Budget.{Budget}
+use Rattle.shared_lemmas.proofs.Common.{refl, ◌≡◌, ℕ, List, [], ◌∷◌, drop, Some, sym, ap, subst, ◌∙◌, slice_get, codes, other_text, unwrap_or, same_Some}
+use Rattle.jass_words.proofs.Below.{Budget, decimal_of, Rule, Bits, Mode, Plain}
 use Rattle.jass_base.specs.declared.answer.Budget.TheVariants as budgets
-use Rattle.std.specs.Cmp.Lexicographic.{other_text}
-use Rattle.jass_base.specs.Decimal.{decimal_of}
-use Rattle.weights.specs.declared.weighting.Rule.{Rule}
-use Rattle.weights.specs.declared.quantizing.Bits.{Bits}
 use Rattle.jass_words.specs.Options.{IsOption, AreOptions, rule_of, bits_of}
 use Rattle.jass_words.proofs.Keys.{option_one}
 use Rattle.jass_words.proofs.SearchKeys.{same_budget, one_option}
@@ -14,10 +9,6 @@ use Rattle.jass_words.proofs.Spelling.{spell_one}
 use Rattle.jass_words.specs.Numbers.{IsNumber, IsBudget}
 use Rattle.jass_words.specs.Spelled.{Spell, given}
 use Rattle.jass_words.specs.Searching.{SearchData, IsSearchOption, hits_in, limits_in, tag_in, mode_in}
-use Rattle.query_reader.specs.declared.mode.Mode.{Mode}
-use Rattle.query_reader.specs.declared.mode.Mode.TheVariants.{Plain}
-use Rattle.std.specs.Option.{unwrap_or}
-use Rattle.std.proofs.lemmas.Option.{same_Some}
 use Rattle.jass_words.specs.Words.{CommandData, Once, Rewrite, Import, Check, Export, Migrate, Search, Serve, Trial, Help, Version, HasFiles, IsOnce, IsRewrite, IsImport, IsCheck, IsExport, IsMigrate, IsSearch, IsServe, IsFrames, IsTrial, IsHelp, IsVersion, IsCommand}
 
 abbrev pub once_word : List ℕ

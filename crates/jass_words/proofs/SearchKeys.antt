@@ -1,19 +1,11 @@
 -- Words that are options of `search`.
-use Rattle.std.proofs.Common.{◌≡◌, ◌≢◌, ℕ, ◌+◌, ◌≤◌, List, [], ◌∷◌, ◌++◌, length, take, drop, Option, Some, None, refl, sym, ap, subst, ◌∙◌, arith, eqb}
-use Rattle.std.specs.Prelude.{codes}
-use Rattle.std.specs.Cmp.Lexicographic.{other_text}
-use Rattle.std.specs.List.{slice_split}
-use Rattle.std.specs.Option.{unwrap_or, option_map}
-use Rattle.std.proofs.Common.{Bor}
-use Rattle.jass_base.specs.Decimal.{decimal_of}
-use Rattle.jass_base.specs.declared.answer.Budget.{Budget}
+use Rattle.shared_lemmas.proofs.Common.{◌≡◌, ◌≢◌, ℕ, ◌+◌, ◌≤◌, List, [], ◌∷◌, ◌++◌, length, take, drop, Option, Some, None, refl, sym, ap, subst, ◌∙◌, arith, eqb, Bor, codes, other_text, slice_split, unwrap_or, option_map, same_Some}
+use Rattle.jass_words.proofs.Below.{decimal_of, Budget, Mode, Plain, Folded}
 use Rattle.jass_base.specs.declared.answer.Budget.TheVariants as budgets
-use Rattle.query_reader.specs.declared.mode.Mode.{Mode}
-use Rattle.query_reader.specs.declared.mode.Mode.TheVariants.{Plain, Folded}
-use Rattle.std.proofs.lemmas.Option.{same_Some}
 use Rattle.jass_words.specs.Numbers.{IsBudget}
 use Rattle.jass_words.specs.Spelled.{Spell, HaveOnce, given}
-use Rattle.jass_words.specs.Searching.{SearchData, Hits, Limits, Tag, Reading, search_key, IsMode, IsSearchValue, IsSearchOption, hits_in, limits_in, tag_in, mode_in, SearchSeen}
+use Rattle.jass_words.specs.Searching.{SearchData, Hits, Limits, Tag, Reading, search_key, IsMode, IsSearchValue, IsSearchOption, hits_in, limits_in, tag_in, mode_in}
+use Rattle.jass_words.specs.Private.Options.{SearchSeen}
 use Rattle.jass_words.proofs.Spelling.{spell_one, as_many, spelled_more, once_more, IsKind, given_then, given_stays, fresh, twice, many, one_at_most, again}
 
 -- ---- a word spells one option
@@ -69,9 +61,7 @@ hits_kind = record { same = same; other = other }
 
     other : (option : SearchData) → hits_in option ≡ None → search_key option ≢ codes "k"
     other (Hits k) none both = cc
-    other (Limits l) none both = cc
-    other (Tag t) none both = cc
-    other (Reading m) none both = cc
+    other option none both = cc
 
 limits_kind : IsKind search_key limits_in (codes "budget")
 limits_kind = record { same = same; other = other }
@@ -82,9 +72,7 @@ limits_kind = record { same = same; other = other }
 
     other : (option : SearchData) → limits_in option ≡ None → search_key option ≢ codes "budget"
     other (Hits k) none both = cc
-    other (Limits l) none both = cc
-    other (Tag t) none both = cc
-    other (Reading m) none both = cc
+    other option none both = cc
 
 tag_kind : IsKind search_key tag_in (codes "tag")
 tag_kind = record { same = same; other = other }
@@ -95,9 +83,7 @@ tag_kind = record { same = same; other = other }
 
     other : (option : SearchData) → tag_in option ≡ None → search_key option ≢ codes "tag"
     other (Hits k) none both = cc
-    other (Limits l) none both = cc
-    other (Tag t) none both = cc
-    other (Reading m) none both = cc
+    other option none both = cc
 
 mode_kind : IsKind search_key mode_in (codes "mode")
 mode_kind = record { same = same; other = other }
@@ -108,18 +94,14 @@ mode_kind = record { same = same; other = other }
 
     other : (option : SearchData) → mode_in option ≡ None → search_key option ≢ codes "mode"
     other (Hits k) none both = cc
-    other (Limits l) none both = cc
-    other (Tag t) none both = cc
-    other (Reading m) none both = cc
+    other option none both = cc
 
 -- ---- at most four options
 
 four_kinds : (options : List SearchData) → length options ≡ many hits_in options + many limits_in options + many tag_in options + many mode_in options
 four_kinds [] = refl
 four_kinds (Hits k ∷ options) = omega (arith, four_kinds options)
-four_kinds (Limits l ∷ options) = omega (arith, four_kinds options)
-four_kinds (Tag t ∷ options) = omega (arith, four_kinds options)
-four_kinds (Reading m ∷ options) = omega (arith, four_kinds options)
+four_kinds (option ∷ options) = omega (arith, four_kinds options)
 
 pub few_read : (words : List (List ℕ)) (hits : Option ℕ) (limits : Option (List Budget)) (tag : Option (List ℕ)) (mode : Option Mode) → SearchSeen words hits limits tag mode → length words ≤ 4
 few_read words hits limits tag mode seen =

@@ -1,26 +1,14 @@
 -- Words that begin a command are short.
-use Rattle.std.proofs.Common.{◌≡◌, ℕ, suc, ◌≤◌, Bool, true, false, List, [], ◌∷◌, ◌++◌, length, Some, None, sym, ap, subst, eqb, ◌*◌, ◌+◌, ◌∙◌, arith, length-append, if◌then◌else◌}
-use Rattle.std.specs.Prelude.{codes, ◌&&◌, nat_le, nat_lt, ◌^◌}
-use Rattle.std.specs.Char.{is_ascii_digit}
-use Rattle.std.specs.List.{AllByRecursion, list_all, slice_split, join_with_byte}
-use Rattle.std.proofs.lemmas.List.Splits.{join_with_byte-slice_split}
-use Rattle.std.specs.Str.Parse.{digits_value}
-use Rattle.std.proofs.lemmas.Bool.{leb-true}
-use Rattle.std.proofs.lemmas.List.Elements.{recursion_from_All}
-use Rattle.jass_base.specs.Decimal.{is_decimal, decimal_of}
-use Rattle.jass_base.specs.declared.answer.Budget.{Budget}
+use Rattle.shared_lemmas.proofs.Common.{◌≡◌, ℕ, suc, ◌≤◌, Bool, true, false, List, [], ◌∷◌, ◌++◌, length, Some, None, sym, ap, subst, eqb, ◌*◌, ◌+◌, ◌∙◌, arith, if◌then◌else◌, codes, ◌&&◌, nat_le, nat_lt, ◌^◌, is_ascii_digit, AllByRecursion, list_all, slice_split, join_with_byte}
+use Rattle.shared_lemmas.proofs.Common.{join_with_byte-slice_split, digits_value, leb-true, recursion_from_All}
+use Rattle.std.proofs.Common.{length-append}
+use Rattle.jass_words.proofs.Below.{is_decimal, decimal_of, Budget, Rule, Tf, Bm25, Bits, Raw, Of, Mode, Plain, Folded}
 use Rattle.jass_base.specs.declared.answer.Budget.TheVariants as budgets
-use Rattle.weights.specs.declared.weighting.Rule.{Rule}
-use Rattle.weights.specs.declared.weighting.Rule.TheVariants.{Tf, Bm25}
-use Rattle.weights.specs.declared.quantizing.Bits.{Bits}
-use Rattle.weights.specs.declared.quantizing.Bits.TheVariants.{Raw, Of}
 use Rattle.jass_words.specs.Options.{OptionData, Weights, Width, IsRule, IsBits, IsOption, AreOptions}
 use Rattle.jass_words.specs.Words.{CommandData, Once, Rewrite, Import, Check, Export, Migrate, Search, Serve, Trial, Help, Version, IsTerm, IsCommand, IsBegun}
 use Rattle.jass_words.specs.Numbers.{IsBudget}
 use Rattle.jass_words.specs.Spelled.{Spell}
 use Rattle.jass_words.specs.Searching.{SearchData, Hits, Limits, Tag, Reading, AreBudgets, IsMode, IsSearchOption}
-use Rattle.query_reader.specs.declared.mode.Mode.{Mode}
-use Rattle.query_reader.specs.declared.mode.Mode.TheVariants.{Plain, Folded}
 
 -- the second of four facts
 second : (a b c d : Bool) → (a && b && c && d) ≡ true → b ≡ true
@@ -92,9 +80,7 @@ short_mode value Plain is = (let size : length value ≡ 5 = ap length is in ome
 short_mode value Folded is = (let size : length value ≡ 6 = ap length is in omega (arith, size))
 
 short_search_option : (word : List ℕ) (option : SearchData) → IsSearchOption word option → length word ≤ 65535
-short_search_option word (Hits k) is =
-    let size : length word ≡ suc (suc (length is.0)) = ap length is.1 in
-    omega (arith, size, few_digits is.0 k is.2.decimal)
+short_search_option word (Hits k) is = let size : length word ≡ suc (suc (length is.0)) = ap length is.1 in omega (arith, size, few_digits is.0 k is.2.decimal)
 short_search_option word (Limits limits) is =
     let size : length word ≡ suc (suc (suc (suc (suc (suc (suc (length is.0))))))) = ap length is.1 in
     omega (arith, size, short_limits is.0 limits is.2)
@@ -112,24 +98,20 @@ short_search (w ∷ words) [] are = absurd are
 short_search (w ∷ words) (o ∷ options) are = (short_search_option w o are.0, short_search words options are.1)
 
 short_command : (words : List (List ℕ)) (command : CommandData) → IsCommand words command → AllByRecursion IsTerm words
-short_command words (Once ciff k budget terms) is =
-    subst (AllByRecursion IsTerm) (sym is.parts)
+short_command words (Once ciff k budget terms) is = subst (AllByRecursion IsTerm) (sym is.parts)
     (omega arith, (omega (arith, is.file.fits), (short_decimal is.count k is.counted.decimal, (short_budget is.limit budget is.limited, recursion_from_All IsTerm terms is.named.each))))
 short_command words (Rewrite from to) is = subst (AllByRecursion IsTerm) (sym is.parts) (omega arith, (omega (arith, is.read.fits), (omega (arith, is.written.fits), tt)))
 short_command words (Export from to) is = subst (AllByRecursion IsTerm) (sym is.parts) (omega arith, (omega (arith, is.read.fits), (omega (arith, is.written.fits), tt)))
 short_command words (Migrate from to) is = subst (AllByRecursion IsTerm) (sym is.parts) (omega arith, (omega (arith, is.read.fits), (omega (arith, is.written.fits), tt)))
 short_command words (Check index) is = subst (AllByRecursion IsTerm) (sym is.parts) (omega arith, (omega (arith, is.file.fits), tt))
-short_command words (Import ciff index rule bits) is =
-    subst (AllByRecursion IsTerm) (sym is.files.parts)
+short_command words (Import ciff index rule bits) is = subst (AllByRecursion IsTerm) (sym is.files.parts)
     (omega arith, (omega (arith, is.files.read.fits), (omega (arith, is.files.written.fits), short_options is.more is.options is.spelled)))
-short_command words (Search index queries run k limits tag mode) is =
-    subst (AllByRecursion IsTerm) (sym is.files.parts)
+short_command words (Search index queries run k limits tag mode) is = subst (AllByRecursion IsTerm) (sym is.files.parts)
     (omega arith, (omega (arith, is.files.read.fits), (omega (arith, is.files.written.fits), (omega (arith, is.output.fits), short_search is.more is.options is.spelled))))
 short_command words (Serve index frames) is =
     let size = ap length is.shared.parts in
     subst (AllByRecursion IsTerm) (sym is.parts) (omega arith, (omega (arith, is.file.fits), (omega (arith, size, few_digits is.shared.count frames is.shared.counted.decimal), tt)))
-short_command words (Trial seed docs terms queries) is =
-    subst (AllByRecursion IsTerm) (sym is.parts)
+short_command words (Trial seed docs terms queries) is = subst (AllByRecursion IsTerm) (sym is.parts)
     (omega arith, (short_decimal is.first seed is.seeded.decimal, (short_decimal is.second docs is.sized.decimal, (short_decimal is.third terms is.named.decimal, (short_decimal is.fourth queries is.asked.decimal, tt)))))
 short_command words Help is = subst (AllByRecursion IsTerm) (sym is.parts) (omega arith, tt)
 short_command words Version is = subst (AllByRecursion IsTerm) (sym is.parts) (omega arith, tt)

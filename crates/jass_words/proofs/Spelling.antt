@@ -1,7 +1,6 @@
 -- Words that spell options, for the options of any command.
-use Rattle.std.proofs.Common.{◌≡◌, ◌≢◌, ℕ, ◌+◌, ◌≤◌, List, [], ◌∷◌, ◌++◌, length, Option, Some, None, refl, sym, ap, subst, ◌∙◌, arith}
-use Rattle.std.specs.List.{AllByRecursion}
-use Rattle.std.specs.Option.{option_or}
+use Rattle.shared_lemmas.proofs.Common.{◌≡◌, ◌≢◌, ℕ, ◌+◌, ◌≤◌, List, [], ◌∷◌, ◌++◌, length, true, false, Option, Some, None, refl, sym, ap, subst, ◌∙◌, arith, AllByRecursion, option_or}
+use Rattle.std.specs.Option.{is_some}
 use Rattle.jass_words.specs.Spelled.{Spell, HaveOnce, given}
 
 pub spell_one : {T : Type 0} (Is : List ℕ → T → Type 0) → ((word : List ℕ) (a b : T) → Is word a → Is word b → a ≡ b) → (words : List (List ℕ)) (a b : List T) → Spell Is words a → Spell Is words b → a ≡ b
@@ -140,3 +139,13 @@ again {T} Is one words word rest options seen here before is are =
     let front : p.front ≡ seen = spell_one Is one words p.front seen p.before before in
     let same : p.here ≡ here = one word p.here here p.is is in
     (p.back, p.parts ∙ ap (λ (os : List T). os ++ p.here ∷ p.back) front ∙ ap (λ (o : T). seen ++ o ∷ p.back) same)
+
+-- ---- a value that is there, or isn't
+
+pub some_of : {A : Type 0} (x : Option A) → is_some x ≡ true → (y : A) × (x ≡ Some y)
+some_of (Some y) is = (y, refl)
+some_of None is = cc
+
+pub none_of : {A : Type 0} (x : Option A) → is_some x ≡ false → x ≡ None
+none_of (Some y) is = cc
+none_of None is = refl

@@ -1,10 +1,8 @@
 -- The terms of `once`, and the first word that is none.
-use Rattle.std.proofs.Common.{◌≡◌, ◌≢◌, ℕ, zero, suc, ◌+◌, ◌<◌, ◌≤◌, min, List, [], ◌∷◌, ◌++◌, length, take, drop, Option, Some, String, Global, refl, sym, ap, subst, ◌∙◌, arith, length-append, length-take, length-drop, ◌-◌, take_all, ◌⊎◌, inl, inr}
-use Rattle.std.specs.Prelude.{slice_get, Bool, true, false, IfSome, IsTrue}
-use Rattle.std.proofs.lemmas.List.{length-map}
-use Rattle.std.specs.List.{AllByRecursion, slice_index_or}
-use Rattle.std.specs.String.{string_bytes}
-use Rattle.std.proofs.lemmas.List.Elements.{All-from_recursion, recursion_from_All}
+use Rattle.shared_lemmas.proofs.Common.{◌≡◌, ◌≢◌, ℕ, zero, suc, ◌+◌, ◌<◌, ◌≤◌, min, List, [], ◌∷◌, ◌++◌, length, take, drop, Option, Some, String, refl, sym, ap, subst, ◌∙◌, arith, ◌-◌, ◌⊎◌, inl, inr, slice_get, Bool, true, false, IfSome, IsTrue, length-map, AllByRecursion, string_bytes}
+use Rattle.shared_lemmas.proofs.Common.{All-from_recursion, recursion_from_All}
+use Rattle.std.proofs.Common.{Global, length-append, length-take, length-drop, take_all}
+use Rattle.std.specs.List.{slice_index_or}
 use Rattle.jass_base.specs.declared.answer.Budget.{Budget}
 use Rattle.jass_words.specs.Numbers.{IsCount, IsBudget}
 use Rattle.jass_words.specs.Words.{CommandData, Once, Rewrite, Import, Check, Export, Migrate, Search, Serve, Trial, Help, Version, HasFiles, IsCheck, IsFile, IsTerm, AreTermWords, IsCommand, IsNoCommand, IsBegun, IsBadWord, texts}
@@ -14,9 +12,7 @@ use Rattle.jass_words.proofs.Beginnings.{begun_terms, begun_once, begun_file, be
 -- words that have a first one, a second one and so on
 pub opened1 : (words : List (List ℕ)) (a : List ℕ) → slice_get words 0 ≡ Some a → (rest : List (List ℕ)) × (words ≡ a ∷ rest)
 opened1 [] a is = cc
-opened1 (x ∷ rest) a is =
-    let same : x ≡ a = cc in
-    (rest, ap (λ (w : List ℕ). w ∷ rest) same)
+opened1 (x ∷ rest) a is = let same : x ≡ a = cc in (rest, ap (λ (w : List ℕ). w ∷ rest) same)
 
 pub opened2 : (words : List (List ℕ)) (a b : List ℕ) → slice_get words 0 ≡ Some a → slice_get words 1 ≡ Some b → (rest : List (List ℕ)) × (words ≡ a ∷ b ∷ rest)
 opened2 [] a b is then_is = cc
@@ -60,9 +56,7 @@ fewer (t ∷ ts) (suc m) (suc j) within all = (all.0, fewer ts m j (omega (arith
 
 item_short : (terms more : List (List ℕ)) (m : ℕ) (word : List ℕ) → slice_get terms m ≡ Some word → AllByRecursion IsTerm (take (suc m) terms ++ more) → IsTerm word
 item_short [] more m word is all = cc
-item_short (t ∷ ts) more zero word is all =
-    let same : t ≡ word = cc in
-    subst IsTerm same all.0
+item_short (t ∷ ts) more zero word is all = let same : t ≡ word = cc in subst IsTerm same all.0
 item_short (t ∷ ts) more (suc m) word is all = item_short ts more m word is all.1
 
 there : (terms : List (List ℕ)) (m : ℕ) → m < length terms → (word : List ℕ) × (slice_get terms m ≡ Some word)
@@ -87,12 +81,7 @@ pub once_without_terms : (f c b : List ℕ) (k : ℕ) (budget : Budget) (terms :
     → good ≡ min m 255 → m ≤ length terms → AllByRecursion IsTerm (take m terms) → ((word : List ℕ) → slice_get terms m ≡ Some word → ¬ IsTerm word) → (good < length terms) ⊎ (length terms ≡ 0)
     → IsBadWord (once_word ∷ f ∷ c ∷ b ∷ terms) (5 + good)
 once_without_terms f c b k budget terms m good file count limit is within all next fault =
-    record {
-      none = never_once fault;
-      before = front;
-      here = λ inside. unbegun (omega (arith, inside));
-      there = omega (arith, is, within);
-    }
+    record { none = never_once fault; before = front; here = λ inside. unbegun (omega (arith, inside)); there = omega (arith, is, within) }
   where
     five : suc (suc (suc (suc (suc good)))) ≡ 5 + good
     five = omega arith
@@ -109,8 +98,7 @@ once_without_terms f c b k budget terms m good file count limit is within all ne
     front (suc zero) less = begun_once
     front (suc (suc zero)) less = begun_file f file
     front (suc (suc (suc zero))) less = begun_count f c k file count
-    front (suc (suc (suc (suc j)))) less =
-        begun_terms f c b k budget (take j terms) file count limit (omega (arith, length-take j terms, less, is))
+    front (suc (suc (suc (suc j)))) less = begun_terms f c b k budget (take j terms) file count limit (omega (arith, length-take j terms, less, is))
         (All-from_recursion IsTerm (take j terms) (fewer terms m j (omega (arith, less, is)) all))
 
 -- all words are terms
@@ -176,15 +164,11 @@ behind words n more is =
 
 -- a word that is there, of which something holds
 pub found : (words : List (List ℕ)) (place : ℕ) (P : List ℕ → Type 0) → place < length words → IfSome (slice_get words place) P → (word : List ℕ) × (slice_get words place ≡ Some word) × P word
-found words place P within holds =
-    let (word, at) = there words place within in
-    (word, at, subst (λ (o : Option (List ℕ)). IfSome o P) at holds)
+found words place P within holds = let (word, at) = there words place within in (word, at, subst (λ (o : Option (List ℕ)). IfSome o P) at holds)
 
 pub first_word : (words : List (String Global)) (name : String Global) → slice_get words 0 ≡ Some name → slice_get (texts words) 0 ≡ Some (string_bytes name)
 first_word [] name is = cc
-first_word (w ∷ ws) name is =
-    let same : w ≡ name = cc in
-    ap (λ (x : String Global). Some (string_bytes x)) same
+first_word (w ∷ ws) name is = let same : w ≡ name = cc in ap (λ (x : String Global). Some (string_bytes x)) same
 
 -- true, since false contradicts
 pub must : (b : Bool) {A : Type 0} → (false ≡ b → ¬ A) → A → IsTrue b
@@ -244,9 +228,7 @@ behind_four words f k budget name first third_there third fourth_there fourth =
 -- a name alone
 pub alone : (words : List (List ℕ)) (name : List ℕ) → slice_get words 0 ≡ Some name → length words ≤ 1 → words ≡ name ∷ []
 alone [] name is few = cc
-alone (a ∷ []) name is few =
-    let same : a ≡ name = cc in
-    ap (λ (w : List ℕ). w ∷ []) same
+alone (a ∷ []) name is few = let same : a ≡ name = cc in ap (λ (w : List ℕ). w ∷ []) same
 alone (a ∷ x ∷ rest) name is few = absurd (omega (arith, few))
 
 -- ---- the words behind two files

@@ -4,3 +4,4 @@ pub mod Options
 pub mod Searching
 pub mod Spelled
 pub mod Words
+pub mod Private

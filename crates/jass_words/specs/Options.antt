@@ -1,11 +1,12 @@
 -- The options of `import`. This project's grammar.
-use Rattle.std.specs.Prelude.{ℕ, ◌≡◌, ◌≤◌, List, [], ◌∷◌, ◌++◌, codes, Option, Some, None}
+use Rattle.std.specs.Prelude.{ℕ, ◌≡◌, ◌≤◌, List, [], ◌∷◌, ◌++◌, codes, Some}
 use Rattle.jass_base.specs.Decimal.{decimal_of}
 use Rattle.weights.specs.declared.weighting.Rule.{Rule}
 use Rattle.weights.specs.declared.weighting.Rule.TheVariants.{Tf, Bm25}
 use Rattle.weights.specs.declared.quantizing.Bits.{Bits}
 use Rattle.weights.specs.declared.quantizing.Bits.TheVariants.{Raw, Of}
 use Rattle.jass_words.specs.Spelled.{Spell, HaveOnce}
+use Rattle.jass_words.specs.declared.word_limits.TheConstants.{MOST_BITS}
 
 -- what an option's word says
 pub data OptionData : Type 0 where
@@ -25,7 +26,7 @@ IsRule value Bm25 = value ≡ codes "bm25"
 -- `raw`, or a decimal from 1 to 16
 abbrev pub IsBits : List ℕ → Bits → Type 0
 IsBits value Raw = value ≡ codes "raw"
-IsBits value (Of bits) = (decimal_of value ≡ Some bits) × (1 ≤ bits) × (bits ≤ 16)
+IsBits value (Of bits) = (decimal_of value ≡ Some bits) × (1 ≤ bits) × (bits ≤ MOST_BITS)
 
 abbrev pub IsValue : List ℕ → OptionData → Type 0
 IsValue value (Weights rule) = IsRule value rule
@@ -54,24 +55,3 @@ abbrev pub bits_of : List OptionData → Bits
 bits_of [] = Raw
 bits_of (Weights rule ∷ options) = bits_of options
 bits_of (Width bits ∷ options) = bits
-
--- ---- options read so far
-
--- the rule and the bits that are given, where they are
-abbrev pub seen_rule : List OptionData → Option Rule
-seen_rule [] = None
-seen_rule (Weights rule ∷ options) = Some rule
-seen_rule (Width bits ∷ options) = seen_rule options
-
-abbrev pub seen_bits : List OptionData → Option Bits
-seen_bits [] = None
-seen_bits (Weights rule ∷ options) = seen_bits options
-seen_bits (Width bits ∷ options) = Some bits
-
--- words that spell options with distinct keys, of which these are seen
-pub record Seen (words : List (List ℕ)) (rule : Option Rule) (bits : Option Bits) : Type 0 where
-  pub options : List OptionData
-  pub spelled : AreOptions words options
-  pub once : HaveKeysOnce options
-  pub rules : rule ≡ seen_rule options
-  pub widths : bits ≡ seen_bits options

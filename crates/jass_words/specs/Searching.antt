@@ -5,7 +5,9 @@ use Rattle.jass_base.specs.declared.answer.Budget.{Budget}
 use Rattle.query_reader.specs.declared.mode.Mode.{Mode}
 use Rattle.query_reader.specs.declared.mode.Mode.TheVariants.{Plain, Folded}
 use Rattle.jass_words.specs.Numbers.{IsCount, IsBudget}
-use Rattle.jass_words.specs.Spelled.{Spell, HaveOnce, given}
+use Rattle.jass_words.specs.Spelled.{Spell}
+use Rattle.jass_base.specs.declared.limits.TheConstants.{MOST_HITS}
+use Rattle.jass_words.specs.declared.word_limits.TheConstants.{LONGEST_TAG, MOST_BUDGETS}
 
 -- what an option's word says
 pub data SearchData : Type 0 where
@@ -24,12 +26,12 @@ search_key (Reading mode) = codes "mode"
 -- 1 to 16 budgets, divided by commas
 pub record AreBudgets (value : List ℕ) (budgets : List Budget) : Type 0 where
   pub each : Spell IsBudget (slice_split (λ b. b == 44) value) budgets
-  pub few : length budgets ≤ 16
+  pub few : length budgets ≤ MOST_BUDGETS
 
 -- the tag of a run: 1 to 64 visible ASCII characters
 pub record IsTag (tag : List ℕ) : Type 0 where
   pub some : 1 ≤ length tag
-  pub fits : length tag ≤ 64
+  pub fits : length tag ≤ LONGEST_TAG
   pub visible : All (λ b. (33 ≤ b) × (b ≤ 126)) tag
 
 -- how the queries are read
@@ -51,9 +53,9 @@ IsSearchOption word option =
 -- what a search asks for is within the limits
 pub record IsWithinLimits (k : ℕ) (limits : List Budget) (tag : List ℕ) : Type 0 where
   pub some_hits : 1 ≤ k
-  pub most_hits : k ≤ 100000
+  pub most_hits : k ≤ MOST_HITS
   pub some_budgets : 1 ≤ length limits
-  pub most_budgets : length limits ≤ 16
+  pub most_budgets : length limits ≤ MOST_BUDGETS
   pub tagged : IsTag tag
 
 -- ---- the kinds of options
@@ -81,16 +83,3 @@ mode_in (Hits k) = None
 mode_in (Limits budgets) = None
 mode_in (Tag tag) = None
 mode_in (Reading mode) = Some mode
-
--- ---- options read so far
-
--- words that spell options with distinct keys, of which these are seen
-pub record SearchSeen (words : List (List ℕ)) (hits : Option ℕ) (limits : Option (List Budget))
-    (tag : Option (List ℕ)) (mode : Option Mode) : Type 0 where
-  pub options : List SearchData
-  pub spelled : Spell IsSearchOption words options
-  pub once : HaveOnce search_key options
-  pub counts : hits ≡ given hits_in options
-  pub grants : limits ≡ given limits_in options
-  pub tags : tag ≡ given tag_in options
-  pub modes : mode ≡ given mode_in options

@@ -1,5 +1,5 @@
 -- The words of the command line: what a command is, and the first word that is none of a command's. This project's grammar.
-use Rattle.std.specs.Prelude.{ℕ, ◌≡◌, ◌≢◌, ◌<◌, ◌≤◌, ◌+◌, List, [], ◌∷◌, ◌^◌, ◌++◌, length, take, map, codes, All, String}
+use Rattle.std.specs.Prelude.{ℕ, ◌≡◌, ◌≢◌, ◌<◌, ◌≤◌, ◌+◌, List, [], ◌∷◌, ◌++◌, length, take, map, codes, All, String}
 use Rattle.std.specs.String.{string_bytes}
 use Rattle.std.specs.declared.alloc.Global.{Global}
 use Rattle.std.specs.Option.{unwrap_or}
@@ -13,6 +13,8 @@ use Rattle.jass_words.specs.Numbers.{IsNumber, IsCount, IsBudget}
 use Rattle.jass_words.specs.Options.{OptionData, AreOptions, HaveKeysOnce, rule_of, bits_of}
 use Rattle.jass_words.specs.Searching.{SearchData, IsSearchOption, search_key, hits_in, limits_in, tag_in, mode_in}
 use Rattle.jass_words.specs.Spelled.{Spell, HaveOnce, given}
+use Rattle.jass_base.specs.declared.limits.TheConstants.{LONGEST_FILE_NAME, LONGEST_TERM, MOST_FRAMES, MOST_TERM_WORDS, MOST_TRIAL}
+use Rattle.jass_words.specs.declared.word_limits.TheConstants.{MOST_QUERIES, MOST_SEED}
 
 -- the words as texts
 abbrev pub texts : List (String Global) → List (List ℕ)
@@ -35,17 +37,17 @@ pub data CommandData : Type 0 where
 -- a file's name: 1 to 4,096 bytes, none of them 0
 pub record IsFile (word : List ℕ) : Type 0 where
   pub some : 1 ≤ length word
-  pub fits : length word ≤ 4096
+  pub fits : length word ≤ LONGEST_FILE_NAME
   pub nonzero : All (λ b. b ≢ 0) word
 
 -- a term, as it stands
 abbrev pub IsTerm : List ℕ → Type 0
-IsTerm word = length word ≤ 65535
+IsTerm word = length word ≤ LONGEST_TERM
 
 -- the terms of a query: 1 to 255
 pub record AreTermWords (terms : List (List ℕ)) : Type 0 where
   pub some : 1 ≤ length terms
-  pub few : length terms ≤ 255
+  pub few : length terms ≤ MOST_TERM_WORDS
   pub each : All IsTerm terms
 
 -- `once CIFF K BUDGET TERM..`
@@ -113,7 +115,7 @@ pub record IsSearch (words : List (List ℕ)) (index queries run : List ℕ) (k 
 pub record IsFrames (word : List ℕ) (frames : ℕ) : Type 0 where
   pub count : List ℕ
   pub parts : word ≡ codes "frames=" ++ count
-  pub counted : IsNumber count 1 1048576 frames
+  pub counted : IsNumber count 1 MOST_FRAMES frames
 
 -- `serve INDEX frames=N`
 pub record IsServe (words : List (List ℕ)) (index : List ℕ) (frames : ℕ) : Type 0 where
@@ -129,10 +131,10 @@ pub record IsTrial (words : List (List ℕ)) (seed docs terms queries : ℕ) : T
   pub third : List ℕ
   pub fourth : List ℕ
   pub parts : words ≡ codes "trial" ∷ first ∷ second ∷ third ∷ fourth ∷ []
-  pub seeded : IsNumber first 0 2147483647 seed
-  pub sized : IsNumber second 1 1048576 docs
-  pub named : IsNumber third 1 1048576 terms
-  pub asked : IsNumber fourth 0 10000 queries
+  pub seeded : IsNumber first 0 MOST_SEED seed
+  pub sized : IsNumber second 1 MOST_TRIAL docs
+  pub named : IsNumber third 1 MOST_TRIAL terms
+  pub asked : IsNumber fourth 0 MOST_QUERIES queries
 
 -- `--help`
 pub record IsHelp (words : List (List ℕ)) : Type 0 where
@@ -174,21 +176,7 @@ pub record IsBadWord (words : List (List ℕ)) (which : ℕ) : Type 0 where
 
 -- what the numbers of a trial keep
 pub record IsTrialSize (seed docs terms queries : ℕ) : Type 0 where
-  pub seeded : seed < 2 ^ 31
-  pub sized : (1 ≤ docs) × (docs ≤ 1048576)
-  pub named : (1 ≤ terms) × (terms ≤ 1048576)
-  pub asked : queries ≤ 10000
-
--- ---- what the readers of files ask of a name
-
--- each command of this name begins with two files, and two files behind the name begin one
-pub record TakesFiles (name : List ℕ) : Type 0 where
-  pub each : (rest : List (List ℕ)) (command : CommandData) → IsCommand (name ∷ rest) command
-      → (from to : List ℕ) × (more : List (List ℕ)) × HasFiles name (name ∷ rest) from to more
-  pub begun : (from to : List ℕ) → IsFile from → IsFile to → from ≢ to → IsBegun (name ∷ from ∷ to ∷ [])
-
--- and ends there
-pub record TakesTwoFiles (name : List ℕ) : Type 0 where
-  pub takes : TakesFiles name
-  pub ends : (from to : List ℕ) (more : List (List ℕ)) (command : CommandData)
-      → IsCommand (name ∷ from ∷ to ∷ more) command → more ≡ []
+  pub seeded : seed ≤ MOST_SEED
+  pub sized : (1 ≤ docs) × (docs ≤ MOST_TRIAL)
+  pub named : (1 ≤ terms) × (terms ≤ MOST_TRIAL)
+  pub asked : queries ≤ MOST_QUERIES

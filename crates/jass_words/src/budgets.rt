@@ -1,11 +1,10 @@
 ghost use Rattle.std.specs.Prelude.{◌≡◌, ◌≤◌, ◌++◌, ◌∷◌, [], IfSome, None, length};
 ghost use Rattle.jass_base.specs.declared.answer.Budget.TheVariants.{All};
+ghost use Rattle.jass_words.specs.declared.word_limits.TheConstants.{MOST_BUDGETS};
 
+use crate::word_limits::MOST_BUDGETS;
 use jass_base::Budget;
 use std::marker::Model;
-
-/// The most budgets of one search.
-const MOST_BUDGETS: usize = 16;
 
 /// At most 16 budgets, in order. Contracts see their list.
 #[derive(Clone, Copy)]
@@ -19,19 +18,20 @@ impl Model for Budgets {
     ghost use Rattle.std.proofs.Common.{arith, sym, ap, ◌∙◌, take-append-drop, length-take-le};
     ghost use Rattle.jass_base.specs.declared.answer.Budget.{Budget};
     ghost use Rattle.jass_base.specs.declared.answer.Budget.TheVariants.{All};
+    ghost use Rattle.jass_words.specs.declared.word_limits.TheConstants.{MOST_BUDGETS};
 
     ghost Value = { List Budget };
 
     ghost view = { λ b. take b.count b.items };
 
     // Budgets that are no part of the list are `all`, so that the list gives the fields back.
-    ghost invariant = { λ b. (b.count ≤ 16) × (length b.items ≡ 16)
-        × (drop b.count b.items ≡ replicate (16 - b.count) All) };
+    ghost invariant = { λ b. (b.count ≤ MOST_BUDGETS) × (length b.items ≡ MOST_BUDGETS)
+        × (drop b.count b.items ≡ replicate (MOST_BUDGETS - b.count) All) };
 
-    ghost inverse = { λ v. record { items = v ++ replicate (16 - length v) All; count = length v } };
+    ghost inverse = { λ v. record { items = v ++ replicate (MOST_BUDGETS - length v) All; count = length v } };
 
     ghost inverse_ok = { λ b h. (let size = length-take-le b.count b.items (omega (arith, h.0, h.1)) in (λ i. record {
-      items = (ap (λ n. take b.count b.items ++ replicate (16 - n) All) size
+      items = (ap (λ n. take b.count b.items ++ replicate (MOST_BUDGETS - n) All) size
           ∙ ap (λ rest. take b.count b.items ++ rest) (sym h.2) ∙ take-append-drop b.count b.items) i;
       count = size i;
     })) };
@@ -61,8 +61,8 @@ impl Budgets {
     /// These budgets and one more; `None` where there are 16.
     pub fn with(self, budget: Budget) -> Option<Budgets>
         ensures some { IfSome result (λ more. more ≡ self ++ budget ∷ []) }
-        ensures few { IfSome result (λ more. length more ≤ 16) }
-        ensures none { result ≡ None → 16 ≤ length self }
+        ensures few { IfSome result (λ more. length more ≤ MOST_BUDGETS) }
+        ensures none { result ≡ None → MOST_BUDGETS ≤ length self }
     {
         if self.count == MOST_BUDGETS {
             return None;
@@ -77,7 +77,7 @@ impl Budgets {
 
     pub fn as_slice(&self) -> &[Budget]
         ensures items { result.now ≡ self.now }
-        ensures few { length result.now ≤ 16 }
+        ensures few { length result.now ≤ MOST_BUDGETS }
     {
         &self.items[..self.count]
     }

@@ -1,5 +1,6 @@
 ghost use Rattle.std.specs.Prelude.{ℕ, ◌≡◌, Some, List, [], IfOk, IfErr, slice_get};
-ghost use Rattle.jass_words.specs.Words.{texts, HasFiles, IsBadWord, TakesFiles, TakesTwoFiles};
+ghost use Rattle.jass_words.specs.Words.{texts, HasFiles, IsBadWord};
+ghost use Rattle.jass_words.specs.Private.Files.{TakesFiles, TakesTwoFiles};
 
 use crate::reading::WordFault;
 use crate::slots::file_at;

@@ -6,6 +6,7 @@ ghost use Rattle.jass_base.specs.declared.answer.Budget.{Budget};
 ghost use Rattle.query_reader.specs.declared.mode.Mode.{Mode};
 ghost use Rattle.jass_words.specs.Searching.{IsWithinLimits};
 ghost use Rattle.jass_words.specs.Words.{CommandData, Search, Trial, IsCommand, IsBegun, IsTrialSize};
+ghost use Rattle.jass_base.specs.declared.limits.TheConstants.{LONGEST_TERM};
 
 /// Words are one command at most.
 pub fn words_are_one_command()
@@ -16,7 +17,7 @@ pub fn words_are_one_command()
 /// No word of a command is longer than 65,535 bytes, so a longer one is the first bad word, or
 /// one is bad before it.
 pub fn a_command_has_short_words()
-    ensures { (words : List (List ℕ)) → IsBegun words → AllByRecursion (λ word. length word ≤ 65535) words }
+    ensures { (words : List (List ℕ)) → IsBegun words → AllByRecursion (λ word. length word ≤ LONGEST_TERM) words }
 {}
 
 /// The numbers of a trial are within their limits.

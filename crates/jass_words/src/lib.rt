@@ -15,6 +15,7 @@ mod slots;
 #[cfg(test)]
 mod tests;
 mod trial;
+pub mod word_limits;
 
 pub use budgets::Budgets;
 pub use command::Command;

@@ -1,14 +1,13 @@
 ghost use Rattle.std.specs.Prelude.{ℕ, ◌≡◌, ◌≢◌, ◌++◌, ◌∷◌, [], List, None, IfSome, MatchOption};
 ghost use Rattle.weights.specs.declared.weighting.Rule.{Rule};
 ghost use Rattle.weights.specs.declared.quantizing.Bits.{Bits};
-ghost use Rattle.jass_words.specs.Commands.{option_data};
-ghost use Rattle.jass_words.specs.Options.{OptionData, AreOptions, HaveKeysOnce, IsBits, IsOption, IsRule, Seen};
+ghost use Rattle.jass_words.specs.Private.Reading.{option_data};
+ghost use Rattle.jass_words.specs.Options.{OptionData, AreOptions, HaveKeysOnce, IsBits, IsOption, IsRule};
+ghost use Rattle.jass_words.specs.Private.Options.{Seen};
 
+use crate::word_limits::MOST_BITS;
 use jass_base::read_decimal;
 use weights::{Bits, Rule};
-
-/// The most bits of an impact.
-const MOST_BITS: u64 = 16;
 
 /// An option of `import`.
 #[derive(Clone, Copy)]

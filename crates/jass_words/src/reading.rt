@@ -10,10 +10,8 @@ use crate::search::read_search;
 use crate::serve::read_serve;
 use crate::slots::{budget_at, count_at, file_at, terms_in};
 use crate::trial::read_trial;
+use jass_base::limits::MOST_TERM_WORDS;
 use weights::{Bits, Rule};
-
-/// The most terms of one query.
-const MOST_TERM_WORDS: usize = 255;
 
 /// Words that are no command: the first word, counted from 1, such that no command begins
 /// with the words up to it; one more than their number where there is no such word.

@@ -1,5 +1,6 @@
 ghost use Rattle.std.specs.Prelude.{ℕ, ◌≡◌, ◌<◌, ◌≤◌, ◌+◌, ◌++◌, List, Some, IfOk, IfErr, codes, length, slice_get, take};
-ghost use Rattle.jass_words.specs.Commands.{command_data, AreRead};
+ghost use Rattle.jass_words.specs.Commands.{command_data};
+ghost use Rattle.jass_words.specs.Private.Reading.{AreRead};
 ghost use Rattle.jass_words.specs.Searching.{SearchData, IsSearchOption, search_key};
 ghost use Rattle.jass_words.specs.Spelled.{Spell, HaveOnce};
 ghost use Rattle.jass_words.specs.Words.{texts, IsCommand, IsBadWord};

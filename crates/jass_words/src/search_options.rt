@@ -1,16 +1,14 @@
-ghost use Rattle.std.specs.Prelude.{ℕ, ◌≡◌, ◌↔◌, ◌++◌, ◌∷◌, [], List, None, IfSome, IsTrue, codes};
+ghost use Rattle.std.specs.Prelude.{ℕ, ◌≡◌, ◌↔◌, ◌++◌, ◌∷◌, [], List, None, IfSome, IsTrue};
 ghost use Rattle.jass_base.specs.declared.answer.Budget.{Budget};
 ghost use Rattle.query_reader.specs.declared.mode.Mode.{Mode};
-ghost use Rattle.jass_words.specs.Commands.{search_data, AreRead};
+ghost use Rattle.jass_words.specs.Private.Reading.{search_data, AreRead};
 ghost use Rattle.jass_words.specs.Searching.{SearchData, AreBudgets, IsMode, IsSearchOption, IsSearchValue, IsTag, search_key};
 ghost use Rattle.jass_words.specs.Spelled.{Spell, HaveOnce};
 
 use crate::budgets::Budgets;
 use crate::slots::{read_budget, read_count};
+use crate::word_limits::LONGEST_TAG;
 use query_reader::Mode;
-
-/// The most bytes of a tag.
-const LONGEST_TAG: usize = 64;
 
 /// An option of `search`.
 #[derive(Clone, Copy)]

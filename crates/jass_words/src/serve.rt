@@ -6,10 +6,8 @@ use crate::command::Command;
 use crate::options::value_behind;
 use crate::reading::WordFault;
 use crate::slots::file_at;
+use jass_base::limits::MOST_FRAMES;
 use jass_base::read_decimal;
-
-/// The most frames of a desk.
-const MOST_FRAMES: u64 = 1_048_576;
 
 /// Reads the words of `serve INDEX frames=FRAMES`.
 pub fn read_serve<'a>(words: &'a [String]) -> Result<Command<'a>, WordFault>

@@ -4,15 +4,8 @@ ghost use Rattle.jass_base.specs.declared.answer.Budget.{Budget};
 ghost use Rattle.jass_words.specs.Numbers.{IsNumber, IsCount, IsBudget};
 ghost use Rattle.jass_words.specs.Words.{texts, IsFile, IsTerm};
 
+use jass_base::limits::{LONGEST_FILE_NAME, LONGEST_TERM, MOST_HITS};
 use jass_base::{Budget, read_decimal};
-
-/// The most bytes of a file's name, and of a term.
-const LONGEST_FILE: usize = 4_096;
-
-const LONGEST_TERM: usize = 65_535;
-
-/// The greatest number of hits that can be asked for.
-const MOST_HITS: u32 = 100_000;
 
 /// The word at a place, where it can name a file: 1 to 4,096 bytes, none of them zero.
 pub fn file_at(words: &[String], place: usize) -> Option<&str>
@@ -30,7 +23,7 @@ fn is_file(word: &str) -> bool
     ensures { IsTrue result ↔ IsFile word.now }
 {
     let bytes = word.as_bytes();
-    !bytes.is_empty() && bytes.len() <= LONGEST_FILE && bytes.iter().all(|byte| *byte != 0)
+    !bytes.is_empty() && bytes.len() <= LONGEST_FILE_NAME && bytes.iter().all(|byte| *byte != 0)
 }
 
 /// The number of hits in the word at a place.

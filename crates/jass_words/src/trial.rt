@@ -5,14 +5,8 @@ ghost use Rattle.jass_words.specs.Words.{texts, IsCommand, IsBadWord};
 use crate::command::Command;
 use crate::reading::WordFault;
 use crate::slots::number_at;
-
-/// The greatest seed.
-const MOST_SEED: u32 = 0x7fff_ffff;
-
-/// The most documents, and the most terms, of a trial.
-const MOST_SIZE: u32 = 1_048_576;
-
-const MOST_QUERIES: u32 = 10_000;
+use crate::word_limits::{MOST_QUERIES, MOST_SEED};
+use jass_base::limits::MOST_TRIAL;
 
 /// Reads the words of `trial SEED DOCS TERMS QUERIES`.
 pub fn read_trial<'a>(words: &'a [String]) -> Result<Command<'a>, WordFault>
@@ -23,10 +17,10 @@ pub fn read_trial<'a>(words: &'a [String]) -> Result<Command<'a>, WordFault>
     let Some(seed) = number_at(words, 1, 0, MOST_SEED) else {
         return Err(WordFault { which: 2 });
     };
-    let Some(docs) = number_at(words, 2, 1, MOST_SIZE) else {
+    let Some(docs) = number_at(words, 2, 1, MOST_TRIAL) else {
         return Err(WordFault { which: 3 });
     };
-    let Some(terms) = number_at(words, 3, 1, MOST_SIZE) else {
+    let Some(terms) = number_at(words, 3, 1, MOST_TRIAL) else {
         return Err(WordFault { which: 4 });
     };
     let Some(queries) = number_at(words, 4, 0, MOST_QUERIES) else {

@@ -1,10 +1,6 @@
 -- Adding to four neighbouring slots, lane by lane.
-use Rattle.std.proofs.Common.{◌≡◌, ℕ, zero, suc, ◌+◌, ◌-◌, ◌*◌, ◌%◌, ◌^◌, ◌<◌, ◌≤◌, Bool, true, false, not, cond, ◌&&◌, eqb, leb, List, [], ◌∷◌, length, map, get_or, replicate, count_by, bit_and, sym, ap, ◌∙◌, refl, arith, inl, inr, ◌⊎◌}
-use Rattle.std.specs.Int.{bit_at}
-use Rattle.std.specs.List.{range_with_len}
-use Rattle.std.proofs.lemmas.Bool.{cases_lt, le-leb, lt-leb, ne_eqb}
-use Rattle.std.proofs.lemmas.Nat.Bits.{and_pow, bit_at-lt}
-use Rattle.std.proofs.lemmas.Simd.{length-chunk, get_or-chunk, get_or-put_chunk_below, get_or-put_chunk_at, get_or-put_chunk_above}
+use Rattle.shared_lemmas.proofs.Common.{◌≡◌, ℕ, zero, suc, ◌+◌, ◌-◌, ◌*◌, ◌%◌, ◌^◌, ◌<◌, ◌≤◌, Bool, true, false, not, cond, ◌&&◌, eqb, leb, List, [], ◌∷◌, length, map, get_or, replicate, count_by, bit_and, sym, ap, ◌∙◌, refl, arith, inl, inr, ◌⊎◌, bit_at, range_with_len, cases_lt, le-leb, lt-leb}
+use Rattle.shared_lemmas.proofs.Common.{ne_eqb, and_pow, bit_at-lt, length-chunk, get_or-chunk, get_or-put_chunk_below, get_or-put_chunk_at, get_or-put_chunk_above}
 use Rattle.shared_lemmas.proofs.Places.{same_four}
 use Rattle.lane_kernels.specs.Adding.{is_near}
 use Rattle.lane_kernels.specs.Private.Lanes.{is_marked, weight_at}
@@ -40,21 +36,22 @@ mark_is x zero p small some is = ap (λ n. not (eqb n 0)) (let e : x ≡ 0 = ome
 mark_is x (suc zero) p small some is = ap not (ne_eqb x 0 (λ e. omega arith))
 mark_is x (suc (suc b)) p small some is = absurd (omega arith)
 
+-- one bit of a byte as a mark
+bit_marked : (byte n : ℕ) → n ≡ byte → (k p : ℕ) → 2 ^ k ≡ p → 0 < p → not (eqb (bit_and n p) 0) ≡ eqb (bit_at byte k) 1
+bit_marked byte n is k p power some =
+    mark_is (bit_and n p) (bit_at n k) p (bit_at-lt n k) some (ap (bit_and n) (sym power) ∙ and_pow n k ∙ ap (λ q. bit_at n k * q) power) ∙ ap (λ m. eqb (bit_at m k) 1) is
+
 pub marks_low : (byte n : ℕ) → n ≡ byte → (k : ℕ) → k < 4 → is_marked (bit_and n 1 ∷ bit_and n 2 ∷ bit_and n 4 ∷ bit_and n 8 ∷ []) k ≡ eqb (bit_at byte k) 1
-marks_low byte n is = by_places (λ k. is_marked (bit_and n 1 ∷ bit_and n 2 ∷ bit_and n 4 ∷ bit_and n 8 ∷ []) k ≡ eqb (bit_at byte k) 1) (at 0 1 refl (omega arith)) (at 1 2 refl (omega arith)) (at 2 4 refl (omega arith)) (at 3 8 refl (omega arith))
-  where
-    at : (k p : ℕ) → 2 ^ k ≡ p → 0 < p → not (eqb (bit_and n p) 0) ≡ eqb (bit_at byte k) 1
-    at k p power some =
-        mark_is (bit_and n p) (bit_at n k) p (bit_at-lt n k) some (ap (bit_and n) (sym power) ∙ and_pow n k ∙ ap (λ q. bit_at n k * q) power)
-        ∙ ap (λ m. eqb (bit_at m k) 1) is
+marks_low byte n is =
+    let at = bit_marked byte n is in
+    by_places (λ k. is_marked (bit_and n 1 ∷ bit_and n 2 ∷ bit_and n 4 ∷ bit_and n 8 ∷ []) k ≡ eqb (bit_at byte k) 1)
+    (at 0 1 refl (omega arith)) (at 1 2 refl (omega arith)) (at 2 4 refl (omega arith)) (at 3 8 refl (omega arith))
 
 pub marks_high : (byte n : ℕ) → n ≡ byte → (k : ℕ) → k < 4 → is_marked (bit_and n 16 ∷ bit_and n 32 ∷ bit_and n 64 ∷ bit_and n 128 ∷ []) k ≡ eqb (bit_at byte (4 + k)) 1
-marks_high byte n is = by_places (λ k. is_marked (bit_and n 16 ∷ bit_and n 32 ∷ bit_and n 64 ∷ bit_and n 128 ∷ []) k ≡ eqb (bit_at byte (4 + k)) 1) (at 4 16 refl (omega arith)) (at 5 32 refl (omega arith)) (at 6 64 refl (omega arith)) (at 7 128 refl (omega arith))
-  where
-    at : (k p : ℕ) → 2 ^ k ≡ p → 0 < p → not (eqb (bit_and n p) 0) ≡ eqb (bit_at byte k) 1
-    at k p power some =
-        mark_is (bit_and n p) (bit_at n k) p (bit_at-lt n k) some (ap (bit_and n) (sym power) ∙ and_pow n k ∙ ap (λ q. bit_at n k * q) power)
-        ∙ ap (λ m. eqb (bit_at m k) 1) is
+marks_high byte n is =
+    let at = bit_marked byte n is in
+    by_places (λ k. is_marked (bit_and n 16 ∷ bit_and n 32 ∷ bit_and n 64 ∷ bit_and n 128 ∷ []) k ≡ eqb (bit_at byte (4 + k)) 1)
+    (at 4 16 refl (omega arith)) (at 5 32 refl (omega arith)) (at 6 64 refl (omega arith)) (at 7 128 refl (omega arith))
 
 -- ---- one lane, where b tells that it isn't marked
 added_lane : (b : Bool) (a w : ℕ) → a + cond (not b) w 0 < 2 ^ 32 → (a + cond (top 31 (cond b 4294967295 0)) 0 w) % 2 ^ 32 ≡ a + cond (not b) w 0

@@ -1,17 +1,12 @@
 -- Adding to the slots of a bitmap, four at a time.
-use Rattle.std.proofs.Common.{◌≡◌, ℕ, zero, suc, ◌+◌, ◌-◌, ◌*◌, ◌/◌, ◌%◌, ◌^◌, ◌<◌, ◌≤◌, Bool, true, false, not, cond, ◌&&◌, ◌||◌, eqb, List, [], ◌∷◌, ◌++◌, length, get_or, count_by, sym, ap, ◌∙◌, refl, arith, inl, inr, ◌⊎◌, Fits, w32}
-use Rattle.std.specs.Int.{bit_at}
-use Rattle.std.specs.List.{list_any, range_with_len}
-use Rattle.std.proofs.lemmas.Bool.{cases_lt, ne_eqb}
-use Rattle.std.proofs.lemmas.List.FromFn.{fill_by_all, length-range_with_len}
-use Rattle.std.proofs.lemmas.List.Sums.{sum_by-cons, sum_by-append, count_by-le-length}
-use Rattle.std.proofs.lemmas.Nat.Bits.{bit_at-lt}
+use Rattle.shared_lemmas.proofs.Common.{◌≡◌, ℕ, zero, suc, ◌+◌, ◌-◌, ◌*◌, ◌/◌, ◌%◌, ◌^◌, ◌<◌, ◌≤◌, Bool, true, false, not, cond, ◌&&◌, ◌||◌, eqb, List, [], ◌∷◌, ◌++◌, length, get_or, count_by, sym, ap, ◌∙◌, refl, arith, inl, inr, ◌⊎◌, Fits, w32, bit_at, list_any, range_with_len, cases_lt, ne_eqb}
+use Rattle.shared_lemmas.proofs.Common.{fill_by_all, length-range_with_len, sum_by-cons, sum_by-append, count_by-le-length, bit_at-lt, sum_fits, fold-sum}
 use Rattle.lane_kernels.specs.Adding.{added_where, is_near, near_where, zeros_where}
 use Rattle.lane_kernels.specs.Bitmap.{bit_of}
 use Rattle.lane_kernels.specs.Private.Lanes.{is_marked, weight_at}
 use Rattle.lane_kernels.proofs.AddedLanes.{marked_count}
-use Rattle.std.proofs.lemmas.Simd.{sum_fits, fold-sum}
 use lib.Lanes.{sum_l, fold_l, Steps}
+use Rattle.lane_kernels.proofs.SetBits.{range-append}
 
 -- ---- counts over neighbouring numbers
 count_cons : (p : ℕ → Bool) (a n : ℕ) → count_by p (range_with_len a (suc n)) ≡ cond (p a) 1 0 + count_by p (range_with_len (a + 1) n)
@@ -25,13 +20,6 @@ count_same p q a b (suc n) same =
     ∙ ap (λ t. cond t 1 0 + count_by p (range_with_len (a + 1) n)) (same 0 a b (omega arith) (omega arith) (omega arith))
     ∙ ap (λ m. cond (q b) 1 0 + m) (count_same p q (a + 1) (b + 1) n (λ k i j h e f. same (suc k) i j (omega arith) (omega arith) (omega arith)))
     ∙ sym (count_cons q b n)
-
-range-append : (a n m : ℕ) → range_with_len a (n + m) ≡ range_with_len a n ++ range_with_len (a + n) m
-range-append a zero m =
-    ap (range_with_len a) (let e : zero + m ≡ m = omega arith in e) ∙ ap (λ b. range_with_len b m) (let e : a ≡ a + zero = omega arith in e)
-range-append a (suc n) m =
-    ap (range_with_len a) (let e : suc n + m ≡ suc (n + m) = omega arith in e)
-    ∙ ap (λ (xs : List ℕ). a ∷ xs) (range-append (a + 1) n m ∙ ap (λ b. range_with_len (a + 1) n ++ range_with_len b m) (let e : a + 1 + n ≡ a + suc n = omega arith in e))
 
 count_more : (p : ℕ → Bool) (n m : ℕ) → count_by p (range_with_len 0 (n + m)) ≡ count_by p (range_with_len 0 n) + count_by p (range_with_len n m)
 count_more p n m =
@@ -102,10 +90,7 @@ module _ (w from : ℕ) (bits slots now zeros nears : List ℕ) (n : ℕ) (was :
     four_more same others zs ns lanes zeros_now nears_now = record {
       long = same ∙ was.long;
       lanes = lanes;
-      done = λ i h. elim (cases_lt i n) [
-        | inl below ↦ others i (inl below) ∙ was.done i below
-        | inr above ↦ value_is i above h
-      ];
+      done = λ i h. elim (cases_lt i n) [ inl below ↦ others i (inl below) ∙ was.done i below | inr above ↦ value_is i above h ];
       rest = λ i h. others i (inr h) ∙ was.rest i (omega arith);
       zeros_are =
           zeros_now

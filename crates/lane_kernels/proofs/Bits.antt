@@ -1,11 +1,6 @@
 -- Numbers by their bits.
-use Rattle.std.proofs.Common.{◌≡◌, ℕ, zero, suc, ◌+◌, ◌-◌, ◌*◌, ◌/◌, ◌%◌, ◌^◌, ◌<◌, ◌≤◌, List, length, get_or, sym, ap, ◌∙◌, refl, arith, inl, inr}
-use Rattle.std.specs.Int.{bit_at}
-use Rattle.std.proofs.lemmas.Bool.{cases_lt}
-use Rattle.std.proofs.lemmas.Nat.{pow_pos, shr-shr}
-use Rattle.std.proofs.lemmas.Nat.Bits.{bit_at_cat_low, bit_at_cat_high, bit_at_lowest, bit_at-lt, bit_at-zero, same_from_bits_below}
-use Rattle.std.proofs.lemmas.List.FromFn.{get_or-map-range_with_len, length-map-range_with_len, fill_by_all}
-use Rattle.std.proofs.Math.Nat.{pow-suc}
+use Rattle.shared_lemmas.proofs.Common.{◌≡◌, ℕ, zero, suc, ◌+◌, ◌-◌, ◌*◌, ◌/◌, ◌%◌, ◌^◌, ◌<◌, ◌≤◌, List, length, get_or, sym, ap, ◌∙◌, refl, arith, inl, inr, bit_at, cases_lt, pow_pos, shr-shr, bit_at_cat_low, bit_at_cat_high, bit_at_lowest, bit_at-lt, bit_at-zero, same_from_bits_below}
+use Rattle.shared_lemmas.proofs.Common.{get_or-map-range_with_len, length-map-range_with_len, fill_by_all, pow-suc}
 use Rattle.shared_lemmas.proofs.Bits.{bit_times}
 use Rattle.lane_kernels.specs.Block.{number_of_bits, list_of}
 
@@ -14,12 +9,10 @@ pub bit_at-shr : (n k v : ℕ) → bit_at (n / 2 ^ k) v ≡ bit_at n (k + v)
 bit_at-shr n k v = ap (λ m. m % 2) (shr-shr n k v)
 
 pub bit_at-shl_below : (n k v : ℕ) → v < k → bit_at (n * 2 ^ k) v ≡ 0
-bit_at-shl_below n k v h =
-    ap (λ m. bit_at m v) (let e : n * 2 ^ k ≡ n * 2 ^ k + 0 = omega arith in e) ∙ bit_at_cat_low n k 0 v h ∙ bit_at-zero v
+bit_at-shl_below n k v h = ap (λ m. bit_at m v) (let e : n * 2 ^ k ≡ n * 2 ^ k + 0 = omega arith in e) ∙ bit_at_cat_low n k 0 v h ∙ bit_at-zero v
 
 pub bit_at-shl : (n k v : ℕ) → k ≤ v → bit_at (n * 2 ^ k) v ≡ bit_at n (v - k)
-bit_at-shl n k v h =
-    ap (λ m. bit_at m v) (let e : n * 2 ^ k ≡ n * 2 ^ k + 0 = omega arith in e) ∙ bit_at_cat_high n k 0 v (pow_pos k) h
+bit_at-shl n k v h = ap (λ m. bit_at m v) (let e : n * 2 ^ k ≡ n * 2 ^ k + 0 = omega arith in e) ∙ bit_at_cat_high n k 0 v (pow_pos k) h
 
 -- ---- a number from its bits
 pub number_below : (bit : ℕ → ℕ) (n : ℕ) → ((v : ℕ) → v < n → bit v < 2) → number_of_bits bit n < 2 ^ n

@@ -1,11 +1,7 @@
 -- Values that are packed into lanes, a row at a time.
-use Rattle.std.proofs.Common.{◌≡◌, ℕ, zero, suc, ◌+◌, ◌-◌, ◌*◌, ◌/◌, ◌%◌, ◌^◌, ◌<◌, ◌≤◌, List, [], ◌∷◌, length, get_or, replicate, bit_or, All, sym, ap, refl, ◌∙◌, subst, arith, inl, inr}
-use Rattle.std.specs.Int.{bit_at}
+use Rattle.shared_lemmas.proofs.Common.{◌≡◌, ℕ, zero, suc, ◌+◌, ◌-◌, ◌*◌, ◌/◌, ◌%◌, ◌^◌, ◌<◌, ◌≤◌, List, [], ◌∷◌, length, get_or, replicate, bit_or, All, sym, ap, refl, ◌∙◌, subst, arith, inl, inr, bit_at, cases_lt, or_lt, shl_below, shr_below, shr-shr, mod_below, pow_pos, div-mul-add, mod-mul-add}
+use Rattle.shared_lemmas.proofs.Common.{row_fits, bit_at_above, bit_at_or, bit_at-lt, get_or-chunk, length-chunk, get_or-put_chunk_below, get_or-put_chunk_at, get_or_narrower}
 use Rattle.std.proofs.Math.Pow.{pow_mono}
-use Rattle.std.proofs.lemmas.Bool.{cases_lt}
-use Rattle.std.proofs.lemmas.Nat.{or_lt, shl_below, shr_below, shr-shr, mod_below, pow_pos, div-mul-add, mod-mul-add, row_fits}
-use Rattle.std.proofs.lemmas.Nat.Bits.{bit_at_above, bit_at_or, bit_at-lt}
-use Rattle.std.proofs.lemmas.Simd.{get_or-chunk, length-chunk, get_or-put_chunk_below, get_or-put_chunk_at, get_or_narrower}
 use Rattle.shared_lemmas.proofs.Places.{same_four}
 use Rattle.shared_lemmas.proofs.Bits.{bit_at-mod}
 use Rattle.lane_kernels.specs.Block.{number_of_bits, packed_bit, block_byte}
@@ -33,14 +29,11 @@ module _ (bit : ℕ → ℕ) (small : (x : ℕ) → bit x < 2) (first width valu
       bit_at_or before (shifted % 2 ^ 32) v
       ∙ elim (cases_lt v s) [
         | inl l ↦
-            let none : bit_at shifted v ≡ 0 = bit_at-shl_below value s v l in
-            let some : bit_at before v ≡ bit (32 * (first / 32) + v) = bit_at_number (λ u. bit (32 * (first / 32) + u)) s (λ u _. small (32 * (first / 32) + u)) v l in
-            omega arith
+            omega (arith, bit_at-shl_below value s v l, bit_at_number (λ u. bit (32 * (first / 32) + u)) s (λ u _. small (32 * (first / 32) + u)) v l)
         | inr g ↦
             let none : bit_at before v ≡ 0 = bit_at_above before s v (number_below (λ u. bit (32 * (first / 32) + u)) s (λ u _. small (32 * (first / 32) + u))) g in
-            let some : bit_at shifted v ≡ bit_at value (v - s) = bit_at-shl value s v g in
             let place : bit (first + (v - s)) ≡ bit (32 * (first / 32) + v) = ap bit (omega arith) in
-            omega (arith, is (v - s) (omega arith))
+            omega (arith, is (v - s) (omega arith), bit_at-shl value s v g)
       ]
 
   -- where the word is not yet full

@@ -1,9 +1,5 @@
 -- A packed block and its values determine each other.
-use Rattle.std.proofs.Common.{◌≡◌, ℕ, zero, suc, ◌+◌, ◌*◌, ◌/◌, ◌%◌, ◌^◌, ◌<◌, List, [], ◌∷◌, length, get_or, All, sym, ap, ◌∙◌, arith}
-use Rattle.std.specs.Int.{bit_at}
-use Rattle.std.proofs.lemmas.List.{get_or_default}
-use Rattle.std.proofs.lemmas.Nat.{div-add-mod', div-mul-add, mod-mul-add, div_below, mod_below, mul-add-lt}
-use Rattle.std.proofs.lemmas.Nat.Bits.{bit_at-lt}
+use Rattle.shared_lemmas.proofs.Common.{◌≡◌, ℕ, zero, suc, ◌+◌, ◌*◌, ◌/◌, ◌%◌, ◌^◌, ◌<◌, List, [], ◌∷◌, length, get_or, All, sym, ap, ◌∙◌, arith, bit_at, get_or_default, div-add-mod', div-mul-add, mod-mul-add, div_below, mod_below, mul-add-lt, bit_at-lt}
 use Rattle.shared_lemmas.proofs.Places.{reads_below}
 use Rattle.lane_kernels.specs.Block.{list_of, word_at, lane_word, lane_bit, block_value, block_values, packed_bit, block_byte, block_bytes}
 use Rattle.lane_kernels.proofs.Bits.{bit_at_number, number_below, number_is, length-list_of, get_or-list_of, list_of_all}

@@ -1,12 +1,7 @@
 -- The first place that passes a test.
-use Rattle.std.proofs.Common.{◌≡◌, ◌≢◌, ◌==◌, ◌+◌, ℕ, ◌<◌, ◌≤◌, Bool, true, false, not, cond, suc, ◌*◌, [], ◌∷◌, List, length, map, get_or, All, Option, Some, None, IsNone, ◌↔◌, eqb-true, eq-eqb, refl, zero, ◌^◌, IsTrue, nat_lt, subst, sym, ap, ◌∙◌, arith, inl, inr}
-use Rattle.std.specs.List.{position, prefix_len}
-use Rattle.std.proofs.Math.Nat.{pow-suc}
-use Rattle.std.proofs.lemmas.Bool.{cases_lt, ltb-true, lt-ltb}
-use Rattle.std.proofs.lemmas.Bool.Decides.{nat_tests}
-use Rattle.std.proofs.lemmas.List.Sums.{prefix_len_passes}
-use Rattle.std.proofs.lemmas.List.Quantifiers.{position-Some}
-use Rattle.std.proofs.lemmas.Simd.{length-chunk, trailing_mask_l, run_in_chunk_fails, run_in_chunk_stops, none_from_empty_mask}
+use Rattle.shared_lemmas.proofs.Common.{◌≡◌, ◌≢◌, ◌==◌, ◌+◌, ℕ, ◌<◌, ◌≤◌, Bool, true, false, not, cond, suc, ◌*◌, [], ◌∷◌, List, length, map, get_or, All, Option, Some, None, IsNone, ◌↔◌, eqb-true, eq-eqb, refl, zero, ◌^◌, IsTrue, nat_lt, subst, sym, ap, ◌∙◌, arith, inl, inr, prefix_len, pow-suc}
+use Rattle.shared_lemmas.proofs.Common.{cases_lt, ltb-true, lt-ltb, nat_tests, prefix_len_passes, position-Some, length-chunk, trailing_mask_l, run_in_chunk_fails, run_in_chunk_stops, none_from_empty_mask}
+use Rattle.std.specs.List.{position}
 use Rattle.shared_lemmas.proofs.Places.{position_at}
 use lib.Count.{count_trailing_zeros}
 use lib.Lanes.{chunk, mask_l}
@@ -40,8 +35,7 @@ module _ (xs : List ℕ) (at : ℕ) (room : at + 16 ≤ length xs) (before : (k 
       (run_in_chunk_stops is_zero xs at 16 n 0 room counted within))
 
   pub none_in_chunk : mask ≡ 0 → (k : ℕ) → k < at + 16 → is_zero (get_or xs k 0) ≡ false
-  none_in_chunk none k h =
-      elim (cases_lt k at) [ inl l ↦ before k l | inr g ↦ none_from_empty_mask is_zero xs at 16 0 room (sym is ∙ none) k (omega arith) h ]
+  none_in_chunk none k h = elim (cases_lt k at) [ inl l ↦ before k l | inr g ↦ none_from_empty_mask is_zero xs at 16 0 room (sym is ∙ none) k (omega arith) h ]
 
 -- there is no first zero exactly where none is zero
 pub none_is_zero : (xs : List ℕ) (r : Option ℕ) → r ≡ position is_zero xs → IsNone r ↔ All (λ x. x ≢ 0) xs

@@ -1,9 +1,6 @@
 -- Running sums, four lanes at a time.
-use Rattle.std.proofs.Common.{◌≡◌, ℕ, zero, suc, ◌+◌, ◌%◌, ◌^◌, ◌<◌, ◌≤◌, List, [], ◌∷◌, ◌++◌, length, get_or, take, drop, replicate, sum, sym, ap, ◌∙◌, refl, arith}
-use Rattle.std.proofs.lemmas.List.Sums.{sum_by-cons}
+use Rattle.shared_lemmas.proofs.Common.{◌≡◌, ℕ, zero, suc, ◌+◌, ◌%◌, ◌^◌, ◌<◌, ◌≤◌, List, [], ◌∷◌, ◌++◌, length, get_or, take, drop, replicate, sum, sym, ap, ◌∙◌, refl, arith, sum_by-cons, take_all, length-take-le, drop-drop, drop_at, length-chunk, put_chunk_is, take_more_put_chunk}
 use Rattle.lane_kernels.specs.Gaps.{running}
-use Rattle.std.proofs.lemmas.List.{take_all, length-take-le, drop-drop, drop_at}
-use Rattle.std.proofs.lemmas.Simd.{length-chunk, put_chunk_is, take_more_put_chunk}
 use Rattle.shared_lemmas.proofs.Places.{same_four}
 use Rattle.lane_kernels.proofs.Sums.{front_and_chunk, sum_with_chunk, sum_to_chunk_le}
 use lib.Lanes.{zip2, pick_l, chunk, put_chunk}

@@ -1,17 +1,11 @@
 -- The set bits of a word, and of the bytes that make one.
-use Rattle.std.proofs.Common.{◌≡◌, ◌==◌, ℕ, zero, suc, ◌+◌, ◌-◌, ◌*◌, ◌/◌, ◌%◌, ◌^◌, ◌<◌, ◌≤◌, Bool, true, false, cond, eqb, List, [], ◌∷◌, ◌++◌, length, map, filter, get_or, replicate, bit_and, sym, ap, ◌∙◌, refl, arith, subst, inl, inr, add-one, Contains, All, ◌⊎◌, ◌↔◌, eqb-true, eq-eqb}
-use Rattle.std.specs.Int.{bit_at}
-use Rattle.std.specs.List.{range_with_len}
-use Rattle.std.specs.List.Sorted.{IsStrictlyIncreasing}
-use Rattle.std.proofs.lemmas.Bool.{cases_lt}
-use Rattle.std.proofs.lemmas.List.{append-nil, get_or_append_left, get_or-append-add, length-append, get_or-map, get_or_past, length-map}
-use Rattle.std.proofs.lemmas.List.FromFn.{get_or-range_with_len, length-range_with_len}
-use Rattle.std.proofs.lemmas.List.Kept.{IsStrictlyIncreasing-filter}
-use Rattle.std.proofs.lemmas.Nat.{and_block, and_le_r, mod-pow-add, pow-add, shr-shr}
-use Rattle.std.proofs.lemmas.Nat.Bits.{bit_at_cat_low, bit_at_cat_high, bit_at-zero}
-use Rattle.lane_kernels.specs.Bitmap.{bit_of, numbers_of_bits, set_bits, word_bits}
-use Rattle.std.proofs.Math.Nat.{div-eq_of_lt, div-one, pow-suc}
-use Rattle.shared_lemmas.proofs.Members.{contains_behind}
+use Rattle.shared_lemmas.proofs.Common.{◌≡◌, ◌==◌, ℕ, zero, suc, ◌+◌, ◌-◌, ◌*◌, ◌/◌, ◌%◌, ◌^◌, ◌<◌, ◌≤◌, Bool, true, false, cond, eqb, List, [], ◌∷◌, ◌++◌, length, map, filter, get_or, replicate, bit_and, sym, ap, ◌∙◌, refl, arith, subst, inl, inr, add-one, Contains, All, ◌⊎◌, ◌↔◌, eqb-true}
+use Rattle.shared_lemmas.proofs.Common.{eq-eqb, bit_at, range_with_len, IsStrictlyIncreasing, cases_lt, get_or_append_left, get_or-append-add, length-append, get_or-map, get_or_past, length-map, map-append, get_or-range_with_len, length-range_with_len, IsStrictlyIncreasing-filter, and_block}
+use Rattle.shared_lemmas.proofs.Common.{and_le_r, mod-pow-add, pow-add, shr-shr, bit_at_cat_low, bit_at_cat_high, bit_at-zero, div-eq_of_lt, div-one, pow-suc, filter-append}
+use Rattle.std.proofs.lemmas.List.{append-nil}
+use Rattle.lane_kernels.specs.Bitmap.{bit_of, numbers_of_bits, set_bits}
+use Rattle.lane_kernels.specs.Private.Bitmap.{word_bits}
+use Rattle.shared_lemmas.proofs.Members.{contains_behind, contains_first}
 use lib.Bits.{and_self}
 use lib.Count.{count_trailing_zeros, under}
 use lib.Lanes.{number_l}
@@ -27,8 +21,7 @@ put bit base rest = cond (eqb bit 1) (base ∷ rest) rest
 
 step : (base n word bit half : ℕ) → word % 2 ≡ bit → word / 2 ≡ half → bits_from base (suc n) word ≡ put bit base (bits_from (base + 1) n half)
 unfolding bits_from
-step base n word bit half is by =
-    ap (λ b. put b base (bits_from (base + 1) n (word / 2))) is ∙ ap (λ h. put bit base (bits_from (base + 1) n h)) by
+step base n word bit half is by = ap (λ b. put b base (bits_from (base + 1) n (word / 2))) is ∙ ap (λ h. put bit base (bits_from (base + 1) n h)) by
 
 put-append : (b : Bool) (base : ℕ) (xs ys : List ℕ) → cond b (base ∷ (xs ++ ys)) (xs ++ ys) ≡ cond b (base ∷ xs) xs ++ ys
 put-append true base xs ys = refl
@@ -55,11 +48,7 @@ bits_from-mod base (suc n) word =
 -- the bits below n, and then those above
 pub bits_from-add : (base n m word : ℕ) → bits_from base (n + m) word ≡ bits_from base n word ++ bits_from (base + n) m (word / 2 ^ n)
 unfolding bits_from
-bits_from-add base zero m word =
-    let a : 0 + m ≡ m = omega arith in
-    let b : base + 0 ≡ base = omega arith in
-    let d : word / 1 ≡ word = div-one word in
-    cc
+bits_from-add base zero m word = let a : 0 + m ≡ m = omega arith in let b : base + 0 ≡ base = omega arith in let d : word / 1 ≡ word = div-one word in cc
 bits_from-add base (suc n) m word =
     let count : suc n + m ≡ suc (n + m) = omega arith in
     let from : base + 1 + n ≡ base + suc n = omega arith in
@@ -158,8 +147,7 @@ length-word_bits base word = omega (arith, ap length (word_bits_are base word), 
 
 -- while a bit is left, there is a place for its number
 pub room_for_one : (base word rest filled count : ℕ) → rest < 2 ^ 64 → 0 < rest → filled + length (word_bits base rest) ≡ count + length (word_bits base word) → count ≤ 64 → filled < 128
-room_for_one base word rest filled count fits some left room =
-    omega (arith, left, length-word_bits base word, ap length (word_bits_first base rest fits some))
+room_for_one base word rest filled count fits some left room = omega (arith, left, length-word_bits base word, ap length (word_bits_first base rest fits some))
 
 -- ---- bytes as one number
 pub bit_of_number : (bytes : List ℕ) → ((k : ℕ) → get_or bytes k 0 < 256) → (i : ℕ) → bit_of bytes i ≡ bit_at (number_l 256 bytes) i
@@ -214,7 +202,7 @@ set_bits_of_words base bytes fits short =
 
 -- ---- bitmaps in parts
 -- the numbers base + i of those i of a range whose bit is 1
-abbrev in_range : (ℕ → ℕ) → ℕ → ℕ → ℕ → List ℕ
+abbrev pub in_range : (ℕ → ℕ) → ℕ → ℕ → ℕ → List ℕ
 in_range bit base from n = map (λ i. base + i) (filter (λ i. bit i == 1) (range_with_len from n))
 
 in_range_step : (b : Bool) (base i : ℕ) (xs ys : List ℕ) → map (λ i. base + i) xs ≡ ys → map (λ i. base + i) (cond b (i ∷ xs) xs) ≡ cond b ((base + i) ∷ ys) ys
@@ -234,16 +222,19 @@ in_range_same bit bit' base base' from from' (suc n) e same =
     ∙ ap (λ x. cond (eqb (bit' from') 1) (x ∷ in_range bit' base' (from' + 1) n) (in_range bit' base' (from' + 1) n)) e
     ∙ sym (in_range_step (eqb (bit' from') 1) base' from' (filter (λ i. bit' i == 1) (range_with_len (from' + 1) n)) (in_range bit' base' (from' + 1) n) refl)
 
+pub range-append : (a n m : ℕ) → range_with_len a (n + m) ≡ range_with_len a n ++ range_with_len (a + n) m
+range-append a zero m =
+    ap (range_with_len a) (let e : zero + m ≡ m = omega arith in e) ∙ ap (λ b. range_with_len b m) (let e : a ≡ a + zero = omega arith in e)
+range-append a (suc n) m =
+    ap (range_with_len a) (let e : suc n + m ≡ suc (n + m) = omega arith in e)
+    ∙ ap (λ (xs : List ℕ). a ∷ xs) (range-append (a + 1) n m ∙ ap (λ b. range_with_len (a + 1) n ++ range_with_len b m) (let e : a + 1 + n ≡ a + suc n = omega arith in e))
+
 in_range_parts : (bit : ℕ → ℕ) (base from n m : ℕ) → in_range bit base from (n + m) ≡ in_range bit base from n ++ in_range bit base (from + n) m
-in_range_parts bit base from zero m =
-    ap (in_range bit base from) (let a : 0 + m ≡ m = omega arith in a) ∙ ap (λ f. in_range bit base f m) (let a : from ≡ from + 0 = omega arith in a)
-in_range_parts bit base from (suc n) m =
-    let tail : List ℕ = in_range bit base (from + suc n) m in
-    ap (in_range bit base from) (let a : suc n + m ≡ suc (n + m) = omega arith in a)
-    ∙ in_range_step (eqb (bit from) 1) base from (filter (λ i. bit i == 1) (range_with_len (from + 1) (n + m))) (in_range bit base (from + 1) n ++ tail)
-    (in_range_parts bit base (from + 1) n m ∙ ap (λ f. in_range bit base (from + 1) n ++ in_range bit base f m) (let a : from + 1 + n ≡ from + suc n = omega arith in a))
-    ∙ put-append (eqb (bit from) 1) (base + from) (in_range bit base (from + 1) n) tail
-    ∙ ap (λ (xs : List ℕ). xs ++ tail) (sym (in_range_step (eqb (bit from) 1) base from (filter (λ i. bit i == 1) (range_with_len (from + 1) n)) (in_range bit base (from + 1) n) refl))
+in_range_parts bit base from n m =
+    let front = range_with_len from n in
+    let back = range_with_len (from + n) m in
+    ap (λ (xs : List ℕ). map (λ i. base + i) (filter (λ i. bit i == 1) xs)) (range-append from n m) ∙ ap (map (λ i. base + i)) (filter-append (λ i. bit i == 1) front back)
+    ∙ map-append (λ i. base + i) (filter (λ i. bit i == 1) front) (filter (λ i. bit i == 1) back)
 
 pub set_bits-append : (base : ℕ) (xs ys : List ℕ) → set_bits base (xs ++ ys) ≡ set_bits base xs ++ set_bits (base + 8 * length xs) ys
 unfolding numbers_of_bits
@@ -262,8 +253,6 @@ set_bits-append base xs ys =
     ∙ ap (bit_at (get_or ys ((0 + i) / 8) 0)) (let a : (0 + n + i) % 8 ≡ (0 + i) % 8 = omega arith in a)))
 
 -- ---- which numbers they are
-Contains_head : (x y : ℕ) (xs : List ℕ) → y ≡ x → Contains (y ∷ xs) x
-Contains_head x y xs e = (0, omega arith, e)
 
 in_range_has : (b : Bool) (first x : ℕ) (rest : List ℕ) → Contains (cond b (first ∷ rest) rest) x → ((b ≡ true) × (first ≡ x)) ⊎ Contains rest x
 in_range_has true first x rest (zero, h, e) = inl (refl, e)
@@ -292,7 +281,7 @@ in_range_all bit base from (suc n) x low high set =
       | inr g ↦
           let is : from ≡ x = omega arith in
           subst (λ b. Contains (cond b ((base + from) ∷ rest) rest) (base + x)) (sym (eq-eqb (bit from) 1 (ap bit is ∙ set)))
-          (Contains_head (base + x) (base + from) rest (omega arith))
+          (contains_first (base + x) (base + from) rest (omega arith))
     ])
   where
     later : (b : Bool) → Contains (in_range bit base (from + 1) n) (base + x) → Contains (cond b ((base + from) ∷ in_range bit base (from + 1) n) (in_range bit base (from + 1) n)) (base + x)

@@ -1,9 +1,7 @@
 -- Sums of lanes.
-use Rattle.std.proofs.Common.{◌≡◌, ℕ, ◌+◌, ◌*◌, ◌^◌, ◌<◌, ◌≤◌, List, [], ◌∷◌, ◌++◌, length, get_or, take, sum, sym, ap, ◌∙◌, refl, arith, Fits, w64, map, subst}
-use Rattle.std.proofs.lemmas.List.{get_or_default, map-id, take_all}
-use Rattle.std.proofs.lemmas.List.Sums.{sum_by-cons, sum_by-append, sum_by-take-le, sum_by-le}
-use Rattle.std.proofs.Math.Seq.{take-add}
-use Rattle.std.proofs.lemmas.Simd.{adds_fit, sum_fits, sum-zip2, fold-sum}
+use Rattle.shared_lemmas.proofs.Common.{◌≡◌, ℕ, ◌+◌, ◌*◌, ◌^◌, ◌<◌, ◌≤◌, List, [], ◌∷◌, ◌++◌, length, get_or, take, sum, sym, ap, ◌∙◌, refl, arith, Fits, map, subst, get_or_default, map-id, take_all, sum_by-cons, sum_by-append, sum_by-take-le, sum_by-le, take-add, adds_fit, sum_fits, sum-zip2}
+use Rattle.shared_lemmas.proofs.Common.{fold-sum}
+use Rattle.std.proofs.Common.{w64}
 use lib.Lanes.{sum_l, chunk, Each2, zip2, Steps, fold_l}
 
 pub sum_l_is : (xs : List ℕ) → sum_l xs ≡ sum xs
@@ -21,8 +19,7 @@ pub sum_to_chunk_le : (xs : List ℕ) (i : ℕ) → sum (take i xs) + sum (chunk
 sum_to_chunk_le xs i = omega (arith, sum_with_chunk xs i, sum_by-take-le (λ y. y) xs (i + 4))
 
 pub small_sum : (xs : List ℕ) → length xs ≡ 128 → ((k : ℕ) → get_or xs k 0 < 2 ^ 32) → sum xs ≤ 128 * 2 ^ 32
-small_sum xs long fits =
-    omega (arith, sum_by-le (λ y. y) (2 ^ 32) xs (λ k d h. omega (arith, get_or_default xs k d 0 h, fits k)))
+small_sum xs long fits = omega (arith, sum_by-le (λ y. y) (2 ^ 32) xs (λ k d h. omega (arith, get_or_default xs k d 0 h, fits k)))
 
 module _ (xs sums : List ℕ) (i : ℕ) (long : length xs ≡ 128) (fits : (k : ℕ) → get_or xs k 0 < 2 ^ 32) (is : sum_l sums ≡ sum (take i xs)) where
   -- the lanes' sums stay far below 2 ^ 64

@@ -1,10 +1,6 @@
 -- A number out of one word of its lane, or out of two.
-use Rattle.std.proofs.Common.{◌≡◌, ℕ, ◌+◌, ◌-◌, ◌*◌, ◌/◌, ◌%◌, ◌^◌, ◌<◌, ◌≤◌, List, length, get_or, replicate, zero, suc, bit_and, bit_or, sym, ap, refl, ◌∙◌, arith, inl, inr}
-use Rattle.std.specs.Int.{bit_at}
-use Rattle.std.proofs.lemmas.Bool.{cases_lt}
-use Rattle.std.proofs.lemmas.Nat.{and_mask, mod_below, pow_pos}
-use Rattle.std.proofs.lemmas.Nat.Bits.{bit_at_above, bit_at_or, ones_shr}
-use Rattle.std.proofs.lemmas.Simd.{get_or-put_chunk_below, get_or-put_chunk_at}
+use Rattle.shared_lemmas.proofs.Common.{◌≡◌, ℕ, ◌+◌, ◌-◌, ◌*◌, ◌/◌, ◌%◌, ◌^◌, ◌<◌, ◌≤◌, List, length, get_or, replicate, zero, suc, bit_and, bit_or, sym, ap, refl, ◌∙◌, arith, inl, inr, bit_at, cases_lt, and_mask, mod_below, pow_pos, bit_at_above, bit_at_or, ones_shr, get_or-put_chunk_below}
+use Rattle.shared_lemmas.proofs.Common.{get_or-put_chunk_at}
 use Rattle.shared_lemmas.proofs.Places.{same_four}
 use Rattle.shared_lemmas.proofs.Bits.{bit_at-mod}
 use Rattle.lane_kernels.specs.Block.{number_of_bits, lane_word, lane_number, block_value}
@@ -53,17 +49,14 @@ module _ (word : ℕ → ℕ) (first width : ℕ) where
             let none : bit_at (b * 2 ^ (32 - s)) v ≡ 0 = bit_at-shl_below b (32 - s) v (omega arith) in
             omega (arith, in_first v l)
         | inr g ↦
-            let none : bit_at a (s + v) ≡ 0 = bit_at_above a 32 (s + v) small g in
             let some : bit_at (b * 2 ^ (32 - s)) v ≡ bit_at b (v - (32 - s)) = bit_at-shl b (32 - s) v (omega arith) in
             let place : bit_at b (v - (32 - s)) ≡ bit_at b (s + v - 32) = ap (bit_at b) (omega arith) in
-            omega (arith, in_second v g (omega arith))
+            omega (arith, in_second v g (omega arith), bit_at_above a 32 (s + v) small g)
       ])
 
 -- ---- a row: the same of four lanes
 pub lane_word_below : (bytes : List ℕ) → ((k : ℕ) → get_or bytes k 0 < 256) → (lane j : ℕ) → lane_word bytes lane j < 2 ^ 32
-lane_word_below bytes fits lane j =
-    let at : ℕ = 16 * j + 4 * lane in
-    omega (arith, fits at, fits (at + 1), fits (at + 2), fits (at + 3))
+lane_word_below bytes fits lane j = let at : ℕ = 16 * j + 4 * lane in omega (arith, fits at, fits (at + 1), fits (at + 2), fits (at + 3))
 
 mask_is : (width : ℕ) → width ≤ 32 → 4294967295 / 2 ^ (32 - width) ≡ 2 ^ width - 1
 mask_is width narrow = ones_shr 32 (32 - width) (omega arith) ∙ ap (λ n. 2 ^ n - 1) (omega arith)

@@ -1,11 +1,6 @@
 -- Widths: which numbers are below a power of two.
-use Rattle.std.proofs.Common.{◌≡◌, ◌↔◌, ℕ, zero, suc, ◌+◌, ◌^◌, ◌<◌, ◌≤◌, List, [], ◌∷◌, ◌++◌, length, get_or, take, bit_or, All, sym, arith, inl, inr, subst}
-use Rattle.std.specs.List.{AllByRecursion}
-use Rattle.std.proofs.lemmas.Bool.{cases_lt}
-use Rattle.std.proofs.lemmas.Grind.{pow_more}
-use Rattle.std.proofs.lemmas.List.{get_or_default, take_all}
+use Rattle.shared_lemmas.proofs.Common.{◌≡◌, ◌↔◌, ℕ, zero, suc, ◌+◌, ◌^◌, ◌<◌, ◌≤◌, List, [], ◌∷◌, ◌++◌, length, get_or, take, bit_or, All, sym, arith, inl, inr, subst, AllByRecursion, cases_lt, pow_more, get_or_default, take_all, or_lt, le_or_l, le_or_r, leading_length, pow_pos}
 use Rattle.std.proofs.Math.Pow.{pow_mono}
-use Rattle.std.proofs.lemmas.Nat.{or_lt, le_or_l, le_or_r, leading_length, pow_pos}
 use Rattle.lane_kernels.specs.Width.{bit_width, least_width}
 use Rattle.lane_kernels.proofs.Sums.{front_and_chunk}
 use lib.Lanes.{zip2, chunk, fold_l}
@@ -51,9 +46,7 @@ fold_below width a (x ∷ xs) h k = fold_below width (bit_or a x) xs (or_lt widt
 
 below_fold : (width a : ℕ) (xs : List ℕ) → fold_l bit_or a xs < 2 ^ width → (a < 2 ^ width) × Below width xs
 below_fold width a [] h = (h, tt)
-below_fold width a (x ∷ xs) h =
-    let r = below_fold width (bit_or a x) xs h in
-    (omega (arith, r.0, le_or_l a x), (omega (arith, r.0, le_or_r a x), r.1))
+below_fold width a (x ∷ xs) h = let r = below_fold width (bit_or a x) xs h in (omega (arith, r.0, le_or_l a x), (omega (arith, r.0, le_or_r a x), r.1))
 
 -- a row of the loop
 pub union_more : (width : ℕ) (xs union lanes : List ℕ) (i : ℕ) → lanes ≡ chunk i 4 xs → length union ≡ length lanes → (Below width union ↔ Below width (take i xs))
@@ -74,9 +67,7 @@ union_all width xs union i past so_far = (
 
 -- ---- the least width
 pub width_holds : (v : ℕ) → v < 2 ^ 32 → v < 2 ^ bit_width v
-width_holds v small =
-    let t = leading_length 32 v small in
-    subst (λ n. v < 2 ^ n) (let e : t.0 ≡ bit_width v = omega (arith, t.1) in e) t.2
+width_holds v small = let t = leading_length 32 v small in subst (λ n. v < 2 ^ n) (let e : t.0 ≡ bit_width v = omega (arith, t.1) in e) t.2
 
 pub width_least : (v width : ℕ) → v < 2 ^ 32 → v < 2 ^ width → bit_width v ≤ width
 width_least v width small below =
@@ -105,8 +96,7 @@ least_width_holds (x ∷ xs) small = (
 
 pub least_width_least : (xs : List ℕ) (width : ℕ) → Below 32 xs → Below width xs → least_width xs ≤ width
 least_width_least [] width small h = omega arith
-least_width_least (x ∷ xs) width small h =
-    omega (arith, width_least x width small.0 h.0, least_width_least xs width small.1 h.1)
+least_width_least (x ∷ xs) width small h = omega (arith, width_least x width small.0 h.0, least_width_least xs width small.1 h.1)
 
 -- the width of a union is the least width
 module _ (xs : List ℕ) (union : ℕ) (small : Below 32 xs) (same : (width : ℕ) → (union < 2 ^ width) ↔ All (λ v. v < 2 ^ width) xs) where
@@ -122,8 +112,7 @@ module _ (xs : List ℕ) (union : ℕ) (small : Below 32 xs) (same : (width : �
   pub union_width : bit_width union ≡ least_width xs
   union_width =
       let at_most = union_least (least_width xs) (All-from_below (least_width xs) xs (least_width_holds xs small)) in
-      let at_least = least_width_least xs (bit_width union) small (below_from_All (bit_width union) xs union_holds) in
-      omega arith
+      omega (arith, least_width_least xs (bit_width union) small (below_from_All (bit_width union) xs union_holds))
 
 pub small_from_reads : (xs : List ℕ) → ((k : ℕ) → get_or xs k 0 < 2 ^ 32) → Below 32 xs
 small_from_reads xs h = below_from_All 32 xs (λ k d l. omega (arith, get_or_default xs k d 0 l, h k))

@@ -14,7 +14,3 @@ numbers_of_bits bit base n = map (λ i. base + i) (filter (λ i. bit i == 1) (ra
 -- the numbers base + i of the set bits i of the bytes, rising
 abbrev pub set_bits : ℕ → List ℕ → List ℕ
 set_bits base bytes = numbers_of_bits (bit_of bytes) base (8 * length bytes)
-
--- the same of the 64 bits of one word
-abbrev pub word_bits : ℕ → ℕ → List ℕ
-word_bits base word = numbers_of_bits (bit_at word) base 64

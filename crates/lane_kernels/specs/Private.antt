@@ -1,2 +1,3 @@
 -- Words that no clause of a public call cites: those of this crate's own functions.
 pub mod Lanes
+pub mod Bitmap

@@ -1,7 +1,8 @@
 // Bitmaps of up to 128 bits.
-ghost use Rattle.std.specs.Prelude.{◌≡◌, ◌+◌, ◌/◌, ◌%◌, ◌^◌, ◌<◌, ◌≤◌, ◌++◌, length, take};
+ghost use Rattle.std.specs.Prelude.{◌≡◌, ◌+◌, ◌/◌, ◌%◌, ◌^◌, ◌≤◌, ◌++◌, length, take};
 ghost use Rattle.std.specs.Simd.Lanes.{number_l};
-ghost use Rattle.lane_kernels.specs.Bitmap.{set_bits, word_bits};
+ghost use Rattle.lane_kernels.specs.Bitmap.{set_bits};
+ghost use Rattle.lane_kernels.specs.Private.Bitmap.{word_bits};
 
 use std::simd::prelude::*;
 

@@ -1,5 +1,5 @@
 // The gaps of 128 rising numbers: how far each is above the least number that it may be.
-ghost use Rattle.std.specs.Prelude.{◌≡◌, ℕ, ◌+◌, ◌<◌, ◌^◌, ◌↔◌, IsTrue, length, replicate, slice_index, sum, take};
+ghost use Rattle.std.specs.Prelude.{◌≡◌, ℕ, ◌+◌, ◌<◌, ◌^◌, ◌↔◌, IsTrue, length, slice_index, sum, take};
 ghost use Rattle.lane_kernels.specs.Gaps.{running};
 
 use crate::lanes::{ROWS, load, store};

@@ -1,7 +1,5 @@
 -- What a cursor of a bitmap gives next.
-use Rattle.std.proofs.Common.{◌≡◌, ◌↔◌, ℕ, ◌+◌, ◌-◌, ◌*◌, ◌<◌, ◌≤◌, List, [], ◌++◌, length, take, drop, sym, ap, ◌∙◌, subst, arith}
-use Rattle.std.proofs.lemmas.List.{length-drop, length-append, length-take-le, drop-drop, drop_all, take-append-drop}
-use Rattle.std.proofs.Math.Seq.{take-append_seam, drop-append_seam}
+use Rattle.shared_lemmas.proofs.Common.{◌≡◌, ◌↔◌, ℕ, ◌+◌, ◌-◌, ◌*◌, ◌<◌, ◌≤◌, List, [], ◌++◌, length, take, drop, sym, ap, ◌∙◌, subst, arith, length-drop, length-append, length-take-le, drop-drop, drop_all, take-append-drop, take-append_seam, drop-append_seam}
 use Rattle.lane_kernels.specs.Bitmap.{set_bits}
 use Rattle.plain_codecs.specs.declared.bitmap.cursor.Cursor.{Cursor}
 use Rattle.plain_codecs.specs.BitmapCursor.{Gives}
@@ -35,8 +33,7 @@ module _ (parts : SetParts) (cursor : Cursor) (bytes docs : List ℕ) (gives : G
 
   module _ (count : ℕ) (is : count ≡ length here) where
     pub block : (out : List ℕ) → take count out ≡ here → take count out ≡ take count docs
-    block out same =
-        same ∙ sym (ap (take count) docs_parted ∙ ap (λ n. take n (here ++ behind)) is ∙ take-append_seam here behind)
+    block out same = same ∙ sym (ap (take count) docs_parted ∙ ap (λ n. take n (here ++ behind)) is ∙ take-append_seam here behind)
 
     rest_is : drop count docs ≡ behind
     rest_is = ap (drop count) docs_parted ∙ ap (λ n. drop n (here ++ behind)) is ∙ drop-append_seam here behind

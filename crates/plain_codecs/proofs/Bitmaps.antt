@@ -1,27 +1,17 @@
 -- Bitmaps and the documents of their bits.
-use Rattle.std.proofs.Common.{◌≡◌, ◌≢◌, ◌↔◌, ◌==◌, ℕ, ◌+◌, ◌-◌, ◌*◌, ◌/◌, ◌%◌, ◌^◌, ◌<◌, ◌≤◌, Bool, true, false, cond, List, [], ◌∷◌, ◌++◌, length, get_or, take, filter, count_ones, Contains, All, Result, Ok, Err, refl, sym, ap, ◌∙◌, subst, inl, inr, arith}
-use Rattle.std.specs.Prelude.{nat_lt}
-use Rattle.std.specs.Int.{bit_at}
+use Rattle.shared_lemmas.proofs.Common.{◌≡◌, ◌≢◌, ◌↔◌, ◌==◌, ℕ, ◌+◌, ◌-◌, ◌*◌, ◌/◌, ◌%◌, ◌^◌, ◌<◌, ◌≤◌, Bool, true, false, cond, List, [], ◌∷◌, ◌++◌, length, get_or, take, filter, count_ones, Contains, All, Result, Ok, Err, refl, sym, ap, ◌∙◌, subst, inl, inr, arith, nat_lt, bit_at, list_all}
+use Rattle.shared_lemmas.proofs.Common.{range_with_len, IsStrictlyIncreasing, cases_lt, false_from_ne_true, nat_tests, get_or_default, get_or_past, length-map, length-append, take_more, AllPass-from_list_all, list_all-from_AllPass, pow_pos, shr_split, mod_below, bit_at_above, bit_at-lt}
+use Rattle.shared_lemmas.proofs.Common.{bit_at-zero, same_from_bits_below, div-eq_of_lt}
 use lib.Count.{ones_step}
-use Rattle.std.specs.List.{list_all, range_with_len}
-use Rattle.std.specs.List.Sorted.{IsStrictlyIncreasing}
-use Rattle.std.proofs.lemmas.Bool.{cases_lt, false_from_ne_true}
-use Rattle.std.proofs.lemmas.Bool.Decides.{nat_tests}
-use Rattle.std.proofs.lemmas.List.{get_or_default, get_or_past, length-map, length-append, take_more}
-use Rattle.std.proofs.lemmas.List.Sums.{AllPass-from_list_all, list_all-from_AllPass}
-use Rattle.std.proofs.lemmas.Nat.{pow_pos, shr_split, mod_below}
-use Rattle.std.proofs.lemmas.Nat.Bits.{bit_at_above, bit_at-lt, bit_at-zero, same_from_bits_below}
-use Rattle.std.proofs.Math.Nat.{div-eq_of_lt}
 use Rattle.jass_base.proofs.Gaps.{rise_from}
 use Rattle.shared_lemmas.proofs.Places.{reads_below}
 use Rattle.shared_lemmas.proofs.Bits.{bit_at-mod}
-use Rattle.lane_kernels.proofs.Bits.{length-list_of, get_or-list_of, list_of_all}
+use Rattle.lane_kernels.proofs.Bits.{length-list_of, get_or-list_of, list_of_all, bit_at_number, number_is}
 use Rattle.jass_base.specs.Gaps.{AreDocs}
 use Rattle.jass_base.specs.declared.payload_fault.PayloadFault.{PayloadFault}
 use Rattle.jass_base.specs.declared.payload_fault.PayloadFault.TheVariants.{Shape, DocRange}
 use Rattle.lane_kernels.specs.Bitmap.{bit_of, numbers_of_bits, set_bits}
 use Rattle.plain_codecs.specs.Bitmap.{bit_for, bitmap_byte, bitmap_of, bitmap_size, read_bitmap}
-use Rattle.plain_codecs.proofs.BitNumbers.{bit_at_number, number_is}
 use Rattle.plain_codecs.proofs.Members.{same_rising, bit_small, bit_of_member, member_of_bit}
 
 -- the laws of set bits
@@ -34,10 +24,7 @@ Members = (base : ℕ) (bytes : List ℕ) (i : ℕ) → Contains (set_bits base 
 same_bits : (a b : ℕ) → a < 2 → b < 2 → (a ≡ 1 → b ≡ 1) → (b ≡ 1 → a ≡ 1) → a ≡ b
 same_bits a b small_a small_b to from =
     elim (cases_lt a 1) [
-      | inl l ↦ elim (cases_lt b 1) [
-        | inl m ↦ omega arith
-        | inr g ↦ let one : a ≡ 1 = from (omega arith) in omega arith
-      ]
+      | inl l ↦ elim (cases_lt b 1) [ inl m ↦ omega arith | inr g ↦ let one : a ≡ 1 = from (omega arith) in omega arith ]
       | inr g ↦ let one : b ≡ 1 = to (omega arith) in omega arith
     ]
 
@@ -64,7 +51,7 @@ bit_of_bitmap : (d : ℕ) (docs : List ℕ) (x : ℕ) → x / 8 < bitmap_size d 
 bit_of_bitmap d docs x h =
     let place : 8 * (x / 8) + x % 8 ≡ x = omega arith in
     ap (λ n. bit_at n (x % 8)) (get_or-list_of (bitmap_byte docs) (bitmap_size d) (x / 8) h)
-    ∙ bit_at_number (λ v. bit_for docs (8 * (x / 8) + v)) 8 (λ v. bit_small docs (8 * (x / 8) + v)) (x % 8) (omega arith)
+    ∙ bit_at_number (λ v. bit_for docs (8 * (x / 8) + v)) 8 (λ v l. bit_small docs (8 * (x / 8) + v)) (x % 8) (omega arith)
     ∙ ap (bit_for docs) place
 
 contains_below : (d : ℕ) (docs : List ℕ) (x : ℕ) → All (λ doc. doc < d) docs → Contains docs x → x < d
@@ -87,7 +74,7 @@ pub bitmap_only : Members → (d : ℕ) (bytes : List ℕ) → All (λ byte. byt
 bitmap_only members d bytes below size =
     let docs : List ℕ = set_bits 0 bytes in
     sym (list_of_all (bitmap_byte docs) bytes (bitmap_size d) size (λ k h.
-    number_is (λ v. bit_for docs (8 * k + v)) 8 (get_or bytes k 0) (reads_below bytes below k) (λ v. bit_small docs (8 * k + v)) (λ v l.
+    number_is (λ v. bit_for docs (8 * k + v)) 8 (get_or bytes k 0) (reads_below bytes below k) (λ v l.
     let x : ℕ = 8 * k + v in
     let byte : x / 8 ≡ k = omega arith in
     let bit : x % 8 ≡ v = omega arith in
@@ -108,10 +95,7 @@ all_by_members d docs low =
     grind (arith, nat_tests))
 
 member_below : (d : ℕ) (docs : List ℕ) (x : ℕ) → Below d docs ≡ true → Contains docs x → x < d
-member_below d docs x all in_docs =
-    let test = AllPass-from_list_all (λ doc. nat_lt doc d) docs all in_docs.0 x in_docs.1 in
-    let is = in_docs.2 in
-    grind (arith, nat_tests)
+member_below d docs x all in_docs = grind (arith, nat_tests, AllPass-from_list_all (λ doc. nat_lt doc d) docs all in_docs.0 x in_docs.1, in_docs.2)
 
 pub below_all : (d : ℕ) (docs : List ℕ) → All (λ doc. doc < d) docs → Below d docs ≡ true
 below_all d docs below = all_by_members d docs (λ x in_docs. contains_below d docs x below in_docs)
@@ -168,9 +152,7 @@ is_whole d count bytes size =
     rw a (rw b refl)
 
 pub is_right : (d count : ℕ) (docs : List ℕ) → Below d docs ≡ true → length docs ≡ count → judged d count docs ≡ Ok docs
-is_right d count docs low long =
-    let test : (length docs == count) ≡ true = grind (arith, nat_tests) in
-    rw low (rw test refl)
+is_right d count docs low long = let test : (length docs == count) ≡ true = grind (arith, nat_tests) in rw low (rw test refl)
 
 pub documents_read : (d count : ℕ) (docs bytes : List ℕ) → AreDocs d docs → length docs ≡ count → length bytes ≡ bitmap_size d → set_bits 0 bytes ≡ docs → read_bitmap d count bytes ≡ Ok docs
 documents_read d count docs bytes are long size is =

@@ -1,15 +1,13 @@
 -- A byte whose bits are set one by one.
-use Rattle.std.proofs.Common.{◌≡◌, ◌≢◌, ℕ, zero, suc, ◌+◌, ◌-◌, ◌*◌, ◌/◌, ◌%◌, ◌^◌, ◌<◌, ◌≤◌, List, [], ◌∷◌, ◌++◌, length, get_or, take, drop, bit_or, w8, append_assoc, sym, ap, ◌∙◌, inl, inr, arith}
-use Rattle.std.specs.Int.{bit_at}
-use Rattle.std.specs.List.Sorted.{IsStrictlyIncreasing}
-use Rattle.std.proofs.lemmas.Bool.{cases_lt, cases_eq}
-use Rattle.std.proofs.lemmas.List.{take_more, take-append-drop, get_or-take, get_or-drop, length-take-le, length-drop, append-nil}
+use Rattle.shared_lemmas.proofs.Common.{◌≡◌, ◌≢◌, ℕ, zero, suc, ◌+◌, ◌-◌, ◌*◌, ◌/◌, ◌%◌, ◌^◌, ◌<◌, ◌≤◌, List, [], ◌∷◌, ◌++◌, length, get_or, take, drop, bit_or, w8, append_assoc, sym, ap, ◌∙◌, inl, inr, arith, bit_at, IsStrictlyIncreasing, cases_lt, cases_eq, take_more, take-append-drop}
+use Rattle.shared_lemmas.proofs.Common.{get_or-take, get_or-drop, length-take-le, length-drop, bit_at-zero, bit_at_set_same, bit_at_set_other}
+use Rattle.std.proofs.lemmas.List.{append-nil}
 use Rattle.lane_kernels.specs.Block.{list_of}
-use Rattle.std.proofs.lemmas.Nat.Bits.{bit_at-zero, bit_at_set_same, bit_at_set_other}
 use Rattle.plain_codecs.specs.Bitmap.{bit_for, bitmap_byte}
 use Rattle.plain_codecs.specs.Private.Partings.{IsParted}
-use Rattle.plain_codecs.proofs.BitNumbers.{number_is, list_of_more, list_of_none}
-use Rattle.plain_codecs.proofs.Members.{bit_small, bit_of_none, bit_of_last, bit_of_one, bit_of_others}
+use Rattle.plain_codecs.proofs.BitNumbers.{list_of_more, list_of_none}
+use Rattle.plain_codecs.proofs.Members.{bit_of_none, bit_of_last, bit_of_one, bit_of_others}
+use Rattle.lane_kernels.proofs.Bits.{number_is}
 
 -- the documents before a place are in the byte or before it, and the bits of those in it are set
 pub record Gathered (docs : List ℕ) (place at byte : ℕ) : Type 0 where
@@ -66,17 +64,16 @@ module _ (docs : List ℕ) (place at byte : ℕ) (rising : IsStrictlyIncreasing 
   high : (k : ℕ) → at ≤ k → k < length docs → 8 * (place + 1) ≤ get_or docs k 0
   high k h l =
       let inside : at < length docs = omega arith in
-      let here : get_or docs at 0 / 8 ≢ place = other inside in
       let low = far.behind at (omega arith) inside in
       let way : at + (k - at) ≡ k = omega arith in
-      omega (arith, here, low, rising_far docs at (k - at) rising (omega arith), ap (λ m. get_or docs m 0) way)
+      omega (arith, low, rising_far docs at (k - at) rising (omega arith), ap (λ m. get_or docs m 0) way, other inside)
 
   pub all_parted : IsParted docs at (8 * (place + 1))
   all_parted = record { within = far.within; before = far.before; behind = high }
 
   pub all_gathered : byte < 256 → byte ≡ bitmap_byte docs place
   all_gathered small =
-      number_is (λ v. bit_for docs (8 * place + v)) 8 byte small (λ v. bit_small docs (8 * place + v)) (λ v h.
+      number_is (λ v. bit_for docs (8 * place + v)) 8 byte small (λ v h.
       let x : ℕ = 8 * place + v in
       let none = bit_of_none (drop at docs) x (λ k l is.
       let inside : at + k < length docs = omega (arith, l, length-drop at docs) in

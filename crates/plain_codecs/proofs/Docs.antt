@@ -1,8 +1,7 @@
 -- Gaps that are made into documents in place.
-use Rattle.std.proofs.Common.{◌≡◌, ℕ, ◌+◌, ◌^◌, ◌<◌, ◌≤◌, List, [], ◌∷◌, ◌++◌, length, get_or, take, drop, set, sum, All, sym, ap, ◌∙◌, arith}
-use Rattle.std.proofs.lemmas.List.{take_more, take_more_set, drop-set-lt, get_or-drop, length-set, length-take-le, get_or-take, take-take, drop-drop, take-append-drop}
-use Rattle.std.proofs.Math.Seq.{take-append_seam, drop-append_seam}
-use Rattle.std.proofs.lemmas.List.Sums.{sum_by_more, sum_by_more_le, sum_by-take-drop}
+use Rattle.shared_lemmas.proofs.Common.{◌≡◌, ℕ, ◌+◌, ◌^◌, ◌<◌, ◌≤◌, List, [], ◌∷◌, ◌++◌, length, get_or, take, drop, set, sum, All, sym, ap, ◌∙◌, arith, take_more, take_more_set, drop-set-lt, get_or-drop, length-take-le, get_or-take, take-take, drop-drop, take-append-drop, take-append_seam}
+use Rattle.shared_lemmas.proofs.Common.{drop-append_seam, sum_by_more, sum_by_more_le, sum_by-take-drop}
+use Rattle.std.proofs.lemmas.List.{length-set}
 use Rattle.jass_base.specs.Gaps.{docs_from}
 
 -- the places before one have documents, those from it on still gaps

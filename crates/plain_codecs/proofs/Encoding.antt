@@ -1,9 +1,6 @@
 -- Documents whose gaps are spelled one after the other.
-use Rattle.std.proofs.Common.{◌≡◌, ℕ, ◌+◌, ◌-◌, ◌*◌, ◌<◌, ◌≤◌, List, [], ◌++◌, length, get_or, take, drop, refl, sym, ap, ◌∙◌, append_assoc, drop-cons, add-one, arith}
-use Rattle.std.specs.List.Sorted.{IsStrictlyIncreasing}
-use Rattle.std.proofs.lemmas.List.{length-append, append-nil, drop_all, take-append-le, take_all}
+use Rattle.std.proofs.Common.{◌≡◌, ℕ, ◌+◌, ◌*◌, ◌<◌, ◌≤◌, List, ◌++◌, length, get_or, take, drop}
 use Rattle.jass_base.specs.Gaps.{gaps_from, gaps_of, spelled_gaps}
-use Rattle.jass_base.specs.Wire.{short_varint}
 
 -- the documents from a place on, and the least that the first may be
 pub record Place (docs : List ℕ) (i least : ℕ) : Type 0 where

@@ -1,15 +1,8 @@
 -- Rising lists and their members, and the bits of members.
-use Rattle.std.proofs.Common.{◌≡◌, ◌≢◌, ◌==◌, ℕ, zero, suc, ◌+◌, ◌<◌, ◌≤◌, Bool, true, false, cond, List, [], ◌∷◌, ◌++◌, length, get_or, Contains, refl, sym, ap, ◌∙◌, subst, arith}
-use Rattle.std.specs.Prelude.{◌||◌}
-use Rattle.std.specs.List.{list_any}
-use Rattle.std.proofs.lemmas.Bool.Decides.{nat_tests}
-use Rattle.std.proofs.lemmas.List.Elements.{Contains-push}
-use Rattle.shared_lemmas.proofs.Members.{contains_behind}
+use Rattle.shared_lemmas.proofs.Common.{◌≡◌, ◌≢◌, ◌==◌, ℕ, zero, suc, ◌+◌, ◌<◌, ◌≤◌, Bool, true, false, cond, List, [], ◌∷◌, ◌++◌, length, get_or, Contains, refl, sym, ap, ◌∙◌, subst, arith, ◌||◌, list_any, nat_tests, Contains-push}
+use Rattle.shared_lemmas.proofs.Members.{contains_behind, contains_first}
 use Rattle.jass_base.proofs.Gaps.{RiseFrom}
 use Rattle.plain_codecs.specs.Bitmap.{bit_for}
-
-contains_first : (x : ℕ) (xs : List ℕ) → Contains (x ∷ xs) x
-contains_first x xs = (0, omega arith, refl)
 
 contains_rest : (x z : ℕ) (xs : List ℕ) → Contains (x ∷ xs) z → x ≢ z → Contains xs z
 contains_rest x z xs in_all other = go in_all.0 in_all.1 in_all.2
@@ -32,11 +25,11 @@ at_least least z (x ∷ xs) rise in_xs = go in_xs.0 in_xs.1 in_xs.2 (λ rest. at
 -- rising lists with the same members are the same
 pub same_rising : (least : ℕ) (xs ys : List ℕ) → RiseFrom least xs → RiseFrom least ys → ((z : ℕ) → Contains xs z → Contains ys z) → ((z : ℕ) → Contains ys z → Contains xs z) → xs ≡ ys
 same_rising least [] [] rise_x rise_y to from = refl
-same_rising least [] (y ∷ ys) rise_x rise_y to from = absurd (contains_none y (from y (contains_first y ys)))
-same_rising least (x ∷ xs) [] rise_x rise_y to from = absurd (contains_none x (to x (contains_first x xs)))
+same_rising least [] (y ∷ ys) rise_x rise_y to from = absurd (contains_none y (from y (contains_first y y ys refl)))
+same_rising least (x ∷ xs) [] rise_x rise_y to from = absurd (contains_none x (to x (contains_first x x xs refl)))
 same_rising least (x ∷ xs) (y ∷ ys) rise_x rise_y to from =
-    let down : y ≤ x = at_least y x (y ∷ ys) (omega arith, rise_y.1) (to x (contains_first x xs)) in
-    let up : x ≤ y = at_least x y (x ∷ xs) (omega arith, rise_x.1) (from y (contains_first y ys)) in
+    let down : y ≤ x = at_least y x (y ∷ ys) (omega arith, rise_y.1) (to x (contains_first x x xs refl)) in
+    let up : x ≤ y = at_least x y (x ∷ xs) (omega arith, rise_x.1) (from y (contains_first y y ys refl)) in
     let same : x ≡ y = omega arith in
     let rise_rest : RiseFrom (x + 1) ys = subst (λ n. RiseFrom (n + 1) ys) (sym same) rise_y.1 in
     let rest = same_rising (x + 1) xs ys rise_x.1 rise_rest
@@ -71,9 +64,7 @@ member_has x [] is = absurd cc
 member_has x (doc ∷ docs) is = go (doc == x) refl is (λ rest. contains_behind x doc docs (member_has x docs rest))
   where
     go : (test : Bool) → (doc == x) ≡ test → (test || Has x docs) ≡ true → (Has x docs ≡ true → Contains (doc ∷ docs) x) → Contains (doc ∷ docs) x
-    go true same is more =
-        let e : doc ≡ x = grind (arith, nat_tests) in
-        subst (λ n. Contains (doc ∷ docs) n) e (contains_first doc docs)
+    go true same is more = let e : doc ≡ x = grind (arith, nat_tests) in subst (λ n. Contains (doc ∷ docs) n) e (contains_first doc doc docs refl)
     go false same is more = more is
 
 pub bit_of_member : (docs : List ℕ) (x : ℕ) → Contains docs x → bit_for docs x ≡ 1

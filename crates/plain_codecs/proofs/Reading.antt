@@ -1,9 +1,5 @@
 -- Reading gaps in parts.
-use Rattle.std.proofs.Common.{◌≡◌, ℕ, zero, suc, ◌+◌, ◌-◌, ◌<◌, ◌≤◌, ◌==◌, Bool, true, false, List, [], ◌∷◌, ◌++◌, length, take, drop, sum, All, Result, Ok, Err, refl, sym, ap, ◌∙◌, subst, append_assoc, arith}
-use Rattle.std.specs.Prelude.{nat_lt}
-use Rattle.std.proofs.lemmas.Bool.Decides.{nat_tests}
-use Rattle.std.proofs.lemmas.List.{length-drop, drop-drop}
-use Rattle.std.proofs.lemmas.List.Sums.{sum_by-cons}
+use Rattle.shared_lemmas.proofs.Common.{◌≡◌, ℕ, zero, suc, ◌+◌, ◌-◌, ◌<◌, ◌≤◌, ◌==◌, Bool, true, false, List, [], ◌∷◌, ◌++◌, length, take, drop, sum, All, Result, Ok, Err, refl, sym, ap, ◌∙◌, subst, append_assoc, arith, nat_lt, nat_tests, length-drop, drop-drop, sum_by-cons}
 use Rattle.jass_base.specs.declared.payload_fault.PayloadFault.{PayloadFault}
 use Rattle.jass_base.specs.declared.payload_fault.PayloadFault.TheVariants.{Longer, DocRange}
 use Rattle.jass_base.specs.Gaps.{◌>>=◌, gap_in, read_gaps}
@@ -38,21 +34,15 @@ refused whole part fault far is = far.is ∙ ap (before far.front) is
 -- one gap
 pub one_fits : (d least n gap size : ℕ) (bytes : List ℕ) → gap_in bytes ≡ Ok (record { gap = gap; size = size }) → least + gap < d
     → read_gaps d least (suc n) bytes ≡ before ((least + gap) ∷ []) (read_gaps d (least + gap + 1) n (drop size bytes))
-one_fits d least n gap size bytes is low =
-    let test : nat_lt (least + gap) d ≡ true = grind (arith, nat_tests) in
-    rw is (rw test refl)
+one_fits d least n gap size bytes is low = let test : nat_lt (least + gap) d ≡ true = grind (arith, nat_tests) in rw is (rw test refl)
 
 pub one_over : (d least n gap size : ℕ) (bytes : List ℕ) → gap_in bytes ≡ Ok (record { gap = gap; size = size }) → d ≤ least + gap
     → read_gaps d least (suc n) bytes ≡ Err DocRange
-one_over d least n gap size bytes is high =
-    let test : nat_lt (least + gap) d ≡ false = grind (arith, nat_tests) in
-    rw is (rw test refl)
+one_over d least n gap size bytes is high = let test : nat_lt (least + gap) d ≡ false = grind (arith, nat_tests) in rw is (rw test refl)
 
 pub one_small : (b : ℕ) (bytes : List ℕ) → b < 128 → gap_in (b ∷ bytes) ≡ Ok (record { gap = b; size = 1 })
 unfolding gap_in
-one_small b bytes small =
-    let test : nat_lt b 128 ≡ true = grind (arith, nat_tests) in
-    rw test refl
+one_small b bytes small = let test : nat_lt b 128 ≡ true = grind (arith, nat_tests) in rw test refl
 
 pub no_gap : (d least left : ℕ) (bytes : List ℕ) (fault : PayloadFault) → 1 ≤ left → gap_in bytes ≡ Err fault → read_gaps d least left bytes ≡ Err fault
 no_gap d least zero bytes fault some is = absurd (omega arith)
@@ -91,9 +81,7 @@ small_over (suc n) m d least (b ∷ s) small long low over =
     go true t is more =
         let less : least + b < d = grind (arith, nat_tests) in
         one_fits d least (n + m) b 1 (b ∷ s) is less ∙ ap (before ((least + b) ∷ [])) (more (omega arith))
-    go false t is more =
-        let high : d ≤ least + b = grind (arith, nat_tests) in
-        one_over d least (n + m) b 1 (b ∷ s) is high
+    go false t is more = let high : d ≤ least + b = grind (arith, nat_tests) in one_over d least (n + m) b 1 (b ∷ s) is high
 
 pub small_read : (bytes : List ℕ) (at left count : ℕ) → All (λ byte. byte < 128) (take count (drop at bytes)) → at + count ≤ length bytes → count ≤ left
     → ReadsOn bytes at left (sum (take count (drop at bytes))) count (at + count)
@@ -126,9 +114,7 @@ gap_read bytes at left gap next is on some =
 -- ---- the answer of a check
 
 pub bytes_left : (d least left : ℕ) (bytes : List ℕ) → left ≡ 0 → 0 < length bytes → read_gaps d least left bytes ≡ Err Longer
-bytes_left d least left bytes none long =
-    let test : (length bytes == 0) ≡ false = grind (arith, nat_tests) in
-    rw none (rw test refl)
+bytes_left d least left bytes none long = let test : (length bytes == 0) ≡ false = grind (arith, nat_tests) in rw none (rw test refl)
 
 -- ---- a part of the gaps
 module _ (bytes s : List ℕ) (at least d count n : ℕ) (whole : count ≡ 16) (are : s ≡ take 16 (drop at bytes)) (within : at + 16 ≤ length bytes) (small : All (λ byte. byte < 128) s) (is : n ≡ sum s) where

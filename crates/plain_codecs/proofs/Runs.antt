@@ -1,29 +1,12 @@
 -- Gaps that bytes spell from a place on.
-use Rattle.std.proofs.Common.{◌≡◌, ℕ, zero, suc, ◌+◌, ◌-◌, ◌^◌, ◌<◌, ◌≤◌, Bool, true, false, List, [], ◌∷◌, ◌++◌, length, get_or, take, drop, set, All, Result, Ok, refl, sym, ap, ◌∙◌, subst, append_assoc, arith}
-use Rattle.std.specs.Prelude.{nat_lt, IsOk}
-use Rattle.std.proofs.lemmas.Bool.Decides.{nat_tests}
-use Rattle.std.proofs.lemmas.List.{drop-drop, length-drop, take_more_set, length-set, length-append, length-take-le, get_or-take, append-nil}
-use Rattle.std.proofs.lemmas.List.Elements.{All-drop}
-use Rattle.std.proofs.Math.Seq.{drop-append_seam, take-append_seam, take-add}
+use Rattle.shared_lemmas.proofs.Common.{◌≡◌, ℕ, zero, suc, ◌+◌, ◌-◌, ◌^◌, ◌<◌, ◌≤◌, Bool, true, false, List, [], ◌∷◌, ◌++◌, length, get_or, take, drop, set, All, refl, sym, ap, ◌∙◌, subst, append_assoc, arith, nat_lt, IsOk, nat_tests, drop-drop, length-drop, take_more_set, length-append}
+use Rattle.shared_lemmas.proofs.Common.{length-take-le, get_or-take, All-drop, drop-append_seam, take-append_seam, take-add}
+use Rattle.std.proofs.lemmas.List.{length-set, append-nil}
 use Rattle.jass_base.proofs.GapGroups.{one_group_written}
-use Rattle.jass_base.specs.declared.payload_fault.PayloadFault.{PayloadFault}
-use Rattle.jass_base.specs.Gaps.{GapSpelling, gap_in, spelled_gaps}
+use Rattle.jass_base.specs.Gaps.{gap_in, spelled_gaps}
 use Rattle.jass_base.specs.Wire.{short_varint}
 use Rattle.plain_codecs.specs.Private.Runs.{IsRun}
-
-abbrev pub spelled : ℕ → ℕ → Result GapSpelling PayloadFault
-spelled gap size = Ok (record { gap = gap; size = size })
-
--- the law of reading gaps
-abbrev pub GapFound : Type 0
-GapFound = (gap : ℕ) (rest : List ℕ) → gap < 2 ^ 28 → gap_in (short_varint gap ++ rest) ≡ spelled gap (length (short_varint gap))
-
-spelled_same : (g h m n : ℕ) → spelled g m ≡ spelled h n → (g ≡ h) × (m ≡ n)
-spelled_same g h m n is =
-    let x : GapSpelling = record { gap = g; size = m } in
-    let y : GapSpelling = record { gap = h; size = n } in
-    let e : x ≡ y = cc in
-    (ap (λ (r : GapSpelling). r.gap) e, ap (λ (r : GapSpelling). r.size) e)
+use Rattle.jass_base.proofs.GapSpelling.{spelled, GapFound, spelled_same}
 
 -- the first gap of a run
 pub record Stepped (bytes : List ℕ) (next count gap : ℕ) (gaps : List ℕ) : Type 0 where
@@ -49,14 +32,11 @@ run_read found bytes at next gap count (x ∷ xs) run some is on within =
 
 pub run_known : GapFound → (bytes : List ℕ) (at count : ℕ) (gaps : List ℕ) → IsRun bytes at count gaps → 0 < count → IsOk (gap_in (drop at bytes))
 run_known found bytes at count [] run some = absurd (let e = run.enough in omega arith)
-run_known found bytes at count (x ∷ xs) run some =
-    subst IsOk (sym (ap gap_in run.spelled ∙ found x (spelled_gaps xs) (run.small 0 0 (omega arith)))) refl
+run_known found bytes at count (x ∷ xs) run some = subst IsOk (sym (ap gap_in run.spelled ∙ found x (spelled_gaps xs) (run.small 0 0 (omega arith)))) refl
 
 short_large : (gap : ℕ) (rest : List ℕ) → 128 ≤ gap → 128 ≤ get_or (short_varint gap ++ rest) 0 0
 unfolding short_varint
-short_large gap rest large =
-    let test : nat_lt gap 128 ≡ false = grind (arith, nat_tests) in
-    rw test (omega arith)
+short_large gap rest large = let test : nat_lt gap 128 ≡ false = grind (arith, nat_tests) in rw test (omega arith)
 
 abbrev AreSmall : ℕ → List ℕ → Type 0
 AreSmall n gaps = (take n gaps ≡ take n (spelled_gaps gaps)) × (drop n (spelled_gaps gaps) ≡ spelled_gaps (drop n gaps))

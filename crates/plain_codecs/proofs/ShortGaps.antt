@@ -1,12 +1,9 @@
 -- Gaps of up to three bytes, read together.
-use Rattle.std.proofs.Common.{◌≡◌, ℕ, ◌+◌, ◌*◌, ◌/◌, ◌%◌, ◌<◌, ◌≤◌, ◌==◌, Bool, true, false, List, ◌∷◌, length, get_or, take, drop, sym, ap, ◌∙◌, refl, arith}
-use Rattle.std.specs.Prelude.{nat_lt}
-use Rattle.std.specs.Int.Bits.{bit_and, and_zero_l}
-use Rattle.std.proofs.lemmas.Bool.Decides.{nat_tests}
-use Rattle.std.proofs.lemmas.List.{drop_more, get_or-take, length-take}
+use Rattle.shared_lemmas.proofs.Common.{◌≡◌, ℕ, ◌+◌, ◌*◌, ◌/◌, ◌%◌, ◌<◌, ◌≤◌, ◌==◌, Bool, true, false, List, ◌∷◌, length, get_or, take, drop, sym, ap, ◌∙◌, refl, arith, nat_lt, and_zero_l, nat_tests, drop_more, get_or-take, length-take}
+use Rattle.std.specs.Int.Bits.{bit_and}
 use Rattle.jass_base.specs.Gaps.{gap_in}
 use Rattle.plain_codecs.proofs.Reading.{one_small}
-use Rattle.plain_codecs.proofs.Runs.{spelled}
+use Rattle.jass_base.proofs.GapSpelling.{spelled}
 
 two_small : (a b : ℕ) (bytes : List ℕ) → 128 ≤ a → 1 ≤ b → b < 128 → gap_in (a ∷ b ∷ bytes) ≡ spelled (a % 128 + 128 * b) 2
 unfolding gap_in

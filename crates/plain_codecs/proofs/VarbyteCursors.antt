@@ -1,14 +1,13 @@
 -- What a cursor gives, in gaps.
-use Rattle.std.proofs.Common.{◌≡◌, ◌↔◌, ℕ, ◌+◌, ◌-◌, ◌^◌, ◌<◌, ◌≤◌, min, List, [], ◌∷◌, length, take, drop, set, sum, sym, ap, ◌∙◌, arith}
-use Rattle.std.specs.Prelude.{IsOk}
-use Rattle.std.proofs.lemmas.List.{length-drop, nil_from_length, take_all, take_more_set}
+use Rattle.shared_lemmas.proofs.Common.{◌≡◌, ◌↔◌, ℕ, ◌+◌, ◌-◌, ◌^◌, ◌<◌, ◌≤◌, min, List, [], ◌∷◌, length, take, drop, set, sum, sym, ap, ◌∙◌, arith, IsOk, length-drop, nil_from_length, take_all, take_more_set}
 use Rattle.jass_base.proofs.Gaps.{length-docs_from}
 use Rattle.jass_base.specs.Gaps.{docs_from, gap_in}
 use Rattle.plain_codecs.specs.declared.varbyte.cursor.Cursor.{Cursor}
 use Rattle.plain_codecs.specs.Private.Runs.{IsRun}
 use Rattle.plain_codecs.specs.VarbyteCursor.{Gives}
 use Rattle.plain_codecs.proofs.Docs.{Parts, Split, split, small_gaps, sum_parts}
-use Rattle.plain_codecs.proofs.Runs.{GapFound, Stepped, spelled, run_read, run_known}
+use Rattle.plain_codecs.proofs.Runs.{Stepped, run_read, run_known}
+use Rattle.jass_base.proofs.GapSpelling.{spelled, GapFound}
 
 module _ (cursor : Cursor) (bytes docs : List ℕ) (gives : Gives cursor bytes docs) (count : ℕ) (is : count ≡ min cursor.left 128) where
   pub few : count ≤ length gives.gaps

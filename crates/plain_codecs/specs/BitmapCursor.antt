@@ -1,5 +1,5 @@
 -- What a cursor of a bitmap still gives.
-use Rattle.std.specs.Prelude.{ℕ, ◌≡◌, ◌*◌, ◌+◌, ◌≤◌, ◌^◌, List, length, drop}
+use Rattle.std.specs.Prelude.{ℕ, ◌≡◌, ◌*◌, ◌+◌, ◌≤◌, List, length, drop}
 use Rattle.lane_kernels.specs.Bitmap.{set_bits}
 use Rattle.plain_codecs.specs.declared.bitmap.cursor.Cursor.{Cursor}
 use Rattle.jass_base.specs.declared.limits.TheConstants.{MOST_DOCUMENTS}

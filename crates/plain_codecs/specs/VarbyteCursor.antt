@@ -1,5 +1,5 @@
 -- What a cursor of a varbyte payload still gives.
-use Rattle.std.specs.Prelude.{ℕ, ◌≡◌, ◌+◌, ◌≤◌, ◌^◌, List, length, drop, sum}
+use Rattle.std.specs.Prelude.{ℕ, ◌≡◌, ◌+◌, ◌≤◌, List, length, drop, sum}
 use Rattle.jass_base.specs.Gaps.{docs_from, spelled_gaps}
 use Rattle.plain_codecs.specs.declared.varbyte.cursor.Cursor.{Cursor}
 use Rattle.jass_base.specs.declared.limits.TheConstants.{MOST_DOCUMENTS}

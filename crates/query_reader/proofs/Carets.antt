@@ -1,8 +1,5 @@
 -- What stands behind the last `^` of a run.
-use Rattle.std.proofs.Common.{◌≡◌, ℕ, zero, suc, ◌+◌, ◌-◌, ◌<◌, Bool, true, false, cond, List, [], ◌∷◌, length, take, drop, refl, ap, sym, subst, ◌∙◌, arith}
-use Rattle.std.proofs.lemmas.List.{length-drop, take_all}
-use Rattle.std.specs.Prelude.{Option, Some, None, slice_index, ◌==◌}
-use Rattle.std.specs.Option.{option_map, option_and_then}
+use Rattle.shared_lemmas.proofs.Common.{◌≡◌, ℕ, zero, suc, ◌+◌, ◌-◌, ◌<◌, Bool, true, false, cond, List, [], ◌∷◌, length, take, drop, refl, ap, sym, subst, ◌∙◌, arith, length-drop, take_all, Option, Some, None, slice_index, ◌==◌, option_map, option_and_then}
 use Rattle.memchr.specs.Find.{IsLastByte, is_byte}
 use Rattle.query_reader.specs.Mentions.{Mention}
 use Rattle.query_reader.specs.Texts.{Cut, at_last_caret, cut_later, weighted, has_items, factor_of, plain_mention}
@@ -26,8 +23,7 @@ no-caret (b ∷ bs) none = ap (cut_later b bs) (no-caret bs (λ k less. none (su
 last-caret : (run : List ℕ) (at : ℕ) → at < length run → (slice_index run at == 94) ≡ true → ((k : ℕ) → at < k → k < length run → ¬ ((slice_index run k == 94) ≡ true)) → at_last_caret run ≡ Some (record { before = take at run; behind = drop (suc at) run })
 unfolding at_last_caret
 last-caret [] at inside is none = absurd (omega (arith, inside))
-last-caret (b ∷ bs) zero inside is none =
-    ap (cut_later b bs) (no-caret bs (λ k less. none (suc k) (omega arith) (omega (arith, less))))
+last-caret (b ∷ bs) zero inside is none = ap (cut_later b bs) (no-caret bs (λ k less. none (suc k) (omega arith) (omega (arith, less))))
     ∙ ap (λ (x : Bool). front-or-none x bs) is
 last-caret (b ∷ bs) (suc at) inside is none = ap (cut_later b bs) (last-caret bs at (omega (arith, inside)) is (λ k more less. none (suc k) (omega (arith, more)) (omega (arith, less))))
 
@@ -73,8 +69,7 @@ some-before (b ∷ bs) (suc at) inside there = refl
 
 pub weighted-behind : (run : List ℕ) (found : Option ℕ) (at factor : ℕ) → IsLastByte (is_byte 94) run found → found ≡ Some at → ¬ (at ≡ 0) → factor_of (behind-place run at) ≡ Some factor
     → option_and_then weighted (at_last_caret run) ≡ Some (record { term = take at run; factor = factor })
-weighted-behind run found at factor last is there some =
-    (cut-at run found at last is).1
+weighted-behind run found at factor last is there some = (cut-at run found at last is).1
     ∙ ap (λ (b : Bool). with-or-none b (take at run) (factor_of (behind-place run at))) (some-before run at (cut-at run found at last is).0 there)
     ∙ ap (with-or-none true (take at run)) some
 

@@ -1,14 +1,12 @@
 -- Mentions counted in one after the other.
-use Rattle.std.proofs.Common.{◌≡◌, ℕ, ◌+◌, ◌≤◌, List, [], ◌∷◌, map, refl, ap, sym, subst, ◌∙◌, arith}
-use Rattle.std.specs.Prelude.{Option, Some, None, Result, Ok, Err}
-use Rattle.std.specs.Result.{IsErrAnd}
+use Rattle.shared_lemmas.proofs.Common.{◌≡◌, ℕ, ◌+◌, ◌≤◌, List, [], ◌∷◌, map, refl, ap, sym, subst, ◌∙◌, arith, Option, Some, None, Result, Ok, Err, IsErrAnd}
 use Rattle.query_reader.specs.declared.refusal.QueryWhy.{QueryWhy}
 use Rattle.query_reader.specs.declared.refusal.LineFault.{LineFault}
 use Rattle.query_reader.specs.declared.refusal.LineFault.TheVariants.{Refused, NoMemory}
 use Rattle.query_reader.specs.Mentions.{Mention, term_number}
-use Rattle.query_reader.specs.Texts.{plain_mention, plain_mentions}
-use Rattle.query_reader.specs.Slices.{blank_runs}
-use Rattle.query_reader.specs.Refusals.{◌>>=◌, LineFails}
+use Rattle.query_reader.specs.Texts.{plain_mention, plain_mentions, blank_runs}
+use Rattle.query_reader.specs.Refusals.{◌>>=◌}
+use Rattle.query_reader.specs.Private.Lines.{LineFails}
 use Rattle.query_reader.specs.Reading.{broken_limit, unless}
 use Rattle.query_reader.specs.Private.Tally.{TallyData, tallied, CountsIn, counted_in, all_counted_in}
 

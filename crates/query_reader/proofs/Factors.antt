@@ -1,10 +1,5 @@
 -- Each factor is at least 1.
-use Rattle.std.proofs.Common.{◌≡◌, ℕ, ◌≤◌, Bool, true, false, cond, List, [], ◌∷◌, length, map, refl, arith}
-use Rattle.std.proofs.lemmas.Bool.{leb-true}
-use Rattle.std.specs.Prelude.{Option, Some, None, nat_le, filter, IfSome, ◌&&◌}
-use Rattle.std.specs.List.{AllByRecursion, slice_split}
-use Rattle.std.specs.Option.{option_map, option_and_then, unwrap_or}
-use Rattle.std.specs.Str.{chars}
+use Rattle.shared_lemmas.proofs.Common.{◌≡◌, ℕ, ◌≤◌, Bool, true, false, cond, List, [], ◌∷◌, length, map, refl, arith, leb-true, Option, Some, None, nat_le, filter, IfSome, ◌&&◌, AllByRecursion, slice_split, option_map, option_and_then, unwrap_or, chars}
 use Rattle.jass_base.specs.Decimal.{decimal_of}
 use Rattle.query_reader.specs.declared.mode.Mode.{Mode}
 use Rattle.query_reader.specs.declared.mode.Mode.TheVariants.{Plain, Folded}

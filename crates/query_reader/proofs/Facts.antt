@@ -1,13 +1,7 @@
 -- What the terms that mentions name have in common.
-use Rattle.std.proofs.Common.{◌≡◌, ℕ, ◌+◌, ◌<◌, ◌≤◌, Bool, true, false, not, eqb, cond, List, [], ◌∷◌, length, get_or, refl, ap, sym, ◌∙◌, arith}
-use Rattle.std.proofs.lemmas.Bool.{eqb-false, eq-eqb, or_parts}
-use Rattle.std.proofs.lemmas.List.{length-map}
-use Rattle.std.proofs.lemmas.List.Elements.{All-cons, All-nil, All-map, All-filter}
-use Rattle.std.proofs.lemmas.List.Kept.{AllPairs-cons}
-use Rattle.std.proofs.lemmas.List.Sums.{sum_by-cons, length-filter, count_by-le-length}
-use Rattle.std.specs.Prelude.{Option, Some, None, filter, sum_by, ◌==◌, All, AllPairs, bytes_eq}
-use Rattle.std.specs.List.{filter_map, cons_option, AllByRecursion, position_or_len}
-use Rattle.std.specs.Option.{option_map_or}
+use Rattle.shared_lemmas.proofs.Common.{◌≡◌, ℕ, ◌+◌, ◌<◌, ◌≤◌, Bool, true, false, not, eqb, cond, List, [], ◌∷◌, length, get_or, refl, ap, sym, ◌∙◌, arith, eqb-false, or_parts, length-map, All-cons, All-nil, All-map, All-filter, AllPairs-cons, sum_by-cons, length-filter, count_by-le-length, Option}
+use Rattle.shared_lemmas.proofs.Common.{Some, None, filter, sum_by, ◌==◌, All, AllPairs, bytes_eq, filter_map, cons_option, AllByRecursion, position_or_len, option_map_or}
+use Rattle.std.proofs.lemmas.Bool.{eq-eqb}
 use Rattle.shared_lemmas.proofs.Lists.{all_weaker}
 use Rattle.jass_base.specs.declared.query_term.QueryTerm.{QueryTerm}
 use Rattle.query_reader.specs.Mentions.{Mention, first_mentions, words_as_mentions, term_number, named_of}

@@ -1,9 +1,6 @@
 -- The queries of a file, line by line.
-use Rattle.std.proofs.Common.{◌≡◌, ℕ, ◌<◌, ◌≤◌, ◌^◌, Bool, true, false, cond, List, [], ◌∷◌, ◌++◌, length, map, refl, ap, sym, subst, ◌∙◌, arith, append_assoc}
-use Rattle.std.proofs.lemmas.Bool.{ltb-true, ltb-false}
-use Rattle.std.proofs.lemmas.List.{append-nil, map-append}
-use Rattle.std.specs.Prelude.{Result, Ok, Err, nat_lt, filter}
-use Rattle.std.specs.List.{AllByRecursion}
+use Rattle.shared_lemmas.proofs.Common.{◌≡◌, ℕ, ◌<◌, ◌≤◌, ◌^◌, Bool, true, false, cond, List, [], ◌∷◌, ◌++◌, length, map, refl, ap, sym, subst, ◌∙◌, arith, append_assoc, ltb-true, ltb-false, map-append, Result, Ok, Err, nat_lt, filter, AllByRecursion}
+use Rattle.std.proofs.lemmas.List.{append-nil}
 use Rattle.jass_base.specs.declared.query.Query.{Query}
 use Rattle.text_lines.specs.Lines.{LineData}
 use Rattle.query_reader.specs.declared.mode.Mode.{Mode}
@@ -12,7 +9,8 @@ use Rattle.query_reader.specs.declared.refusal.QueryRefusal.{QueryRefusal}
 use Rattle.query_reader.specs.declared.refusal.LineFault.{LineFault}
 use Rattle.query_reader.specs.declared.refusal.LineFault.TheVariants.{Refused, NoMemory}
 use Rattle.query_reader.specs.Texts.{has_items}
-use Rattle.query_reader.specs.Refusals.{◌>>=◌, at_line, Fails, LineFails, fault_at}
+use Rattle.query_reader.specs.Refusals.{◌>>=◌, at_line, Fails}
+use Rattle.query_reader.specs.Private.Lines.{LineFails, fault_at}
 use Rattle.query_reader.specs.Queries.{QueryData, query_data, query_lines}
 use Rattle.query_reader.specs.Reading.{read_line, read_lines, read_query_file}
 
@@ -77,16 +75,14 @@ pub line-read : (mode : Mode) (terms : List (List ℕ)) (queries : List Query) (
     → with_front (map query_data all) (read_lines mode terms (with_bytes rest)) ≡ with_front (map query_data queries) (read_lines mode terms (with_bytes lines))
 line-read mode terms queries query all lines rest line is some good all_is =
     ap (λ qs. with_front qs (read_lines mode terms (with_bytes rest))) (ap (map query_data) all_is ∙ map-append query_data queries (query ∷ []))
-    ∙ more-front (map query_data queries) (query_data query) (read_lines mode terms (with_bytes rest))
-    ∙ sym (ap (with_front (map query_data queries))
+    ∙ more-front (map query_data queries) (query_data query) (read_lines mode terms (with_bytes rest)) ∙ sym (ap (with_front (map query_data queries))
     (ap (read_lines mode terms) (kept lines rest line is some) ∙ one-line mode terms line (with_bytes rest)
     ∙ ap (λ r. at_line line.number r >>= λ q. read_lines mode terms (with_bytes rest) >>= λ qs. Ok (q ∷ qs)) good))
 
 -- a line that is none
 pub line-refused : (mode : Mode) (terms : List (List ℕ)) (queries : List QueryData) (lines rest : List LineData) (line : LineData) (fault : LineFault) → lines ≡ line ∷ rest → ¬ (length line.bytes ≡ 0)
     → LineFails fault (read_line mode terms line.bytes) → Fails (fault_at line.number fault) (with_front queries (read_lines mode terms (with_bytes lines)))
-line-refused mode terms queries lines rest line (Refused why) is some bad =
-    ap (with_front queries)
+line-refused mode terms queries lines rest line (Refused why) is some bad = ap (with_front queries)
     (ap (read_lines mode terms) (kept lines rest line is some) ∙ one-line mode terms line (with_bytes rest)
     ∙ ap (λ r. at_line line.number r >>= λ q. read_lines mode terms (with_bytes rest) >>= λ qs. Ok (q ∷ qs)) bad)
 line-refused mode terms queries lines rest line NoMemory is some bad = tt

@@ -1,12 +1,6 @@
 -- The checks of a line in their order.
-use Rattle.std.proofs.Common.{◌≡◌, ℕ, zero, suc, ◌<◌, ◌≤◌, Bool, true, false, not, cond, List, [], ◌∷◌, length, take, drop, get_or, refl, ap, sym, ◌∙◌, arith}
-use Rattle.std.proofs.lemmas.Bool.{ltb-true, ltb-false}
-use Rattle.std.proofs.lemmas.List.Sums.{position_or_len_is}
-use Rattle.std.proofs.lemmas.Str.{is_utf8-from_IsUtf8}
-use Rattle.std.specs.Prelude.{Option, Some, None, Err, nat_lt}
-use Rattle.std.specs.List.{position_or_len}
-use Rattle.std.specs.Option.{unwrap_or}
-use Rattle.std.specs.Str.{is_utf8, IsUtf8}
+use Rattle.shared_lemmas.proofs.Common.{◌≡◌, ℕ, zero, suc, ◌<◌, ◌≤◌, Bool, true, false, not, cond, List, [], ◌∷◌, length, take, drop, get_or, refl, ap, sym, ◌∙◌, arith, ltb-true, ltb-false, position_or_len_is, is_utf8-from_IsUtf8, Option, Some, None, Err, nat_lt, position_or_len, unwrap_or}
+use Rattle.shared_lemmas.proofs.Common.{is_utf8, IsUtf8}
 use Rattle.shared_lemmas.proofs.Texts.{no_utf8}
 use Rattle.memchr.specs.Find.{IsFirstByte, is_byte2}
 use Rattle.query_reader.specs.declared.mode.Mode.{Mode}

@@ -1,13 +1,8 @@
 -- What a query names, one mention after the other. The number of a mention's term is any function here.
-use Rattle.std.proofs.Common.{◌≡◌, ℕ, ◌+◌, Bool, true, false, not, eqb, cond, List, [], ◌∷◌, ◌++◌, map, refl, ap, sym, subst, ◌∙◌, arith}
-use Rattle.std.proofs.lemmas.Bool.{eqb-true, eqb-false, or_parts}
-use Rattle.std.proofs.lemmas.Bool.Decides.{nat_tests}
+use Rattle.shared_lemmas.proofs.Common.{◌≡◌, ℕ, ◌+◌, Bool, true, false, not, eqb, cond, List, [], ◌∷◌, ◌++◌, map, refl, ap, sym, subst, ◌∙◌, arith, eqb-false, or_parts, nat_tests, filter-append, filter_map-append, sum_by-append, Option, Some, None, filter, sum_by, ◌==◌, ⊤, filter_map, cons_option}
+use Rattle.shared_lemmas.proofs.Common.{list_any, option_map_or}
+use Rattle.std.proofs.lemmas.Bool.{eqb-true}
 use Rattle.std.proofs.lemmas.List.{append-nil}
-use Rattle.std.proofs.lemmas.List.Elements.{filter-append, filter_map-append}
-use Rattle.std.proofs.lemmas.List.Sums.{sum_by-append}
-use Rattle.std.specs.Prelude.{Option, Some, None, filter, sum_by, ◌==◌, ◌||◌, ⊤}
-use Rattle.std.specs.List.{filter_map, cons_option, list_any}
-use Rattle.std.specs.Option.{option_map_or}
 use Rattle.jass_base.specs.declared.query_term.QueryTerm.{QueryTerm}
 use Rattle.query_reader.specs.Mentions.{Mention, first_mentions}
 use Rattle.query_reader.specs.Private.Tally.{tallied}
@@ -80,10 +75,8 @@ rows-other f g k (x ∷ xs) same apart =
     ap (λ t. record { term = x; times = t } ∷ rows f xs) (same x (eqb-false x k h.0)) ∙ ap (λ ns. record { term = x; times = g x } ∷ ns) (rows-other f g k xs same h.1)
 
 rows-added : (f g : ℕ → ℕ) (k factor : ℕ) (xs : List ℕ) → ((j : ℕ) → (j ≡ k → ⊥) → f j ≡ g j) → f k ≡ g k + factor → (has k xs ≡ false → g k ≡ 0) → Apart xs → rows f (added xs k) ≡ tallied (rows g xs) k factor
-rows-added f g k factor [] same more none apart =
-    let e : f k ≡ factor = omega (arith, more, none refl) in ap (λ t. record { term = k; times = t } ∷ []) e
-rows-added f g k factor (x ∷ xs) same more none apart =
-    here (eqb x k) refl (λ other. rows-added f g k factor xs same more (λ h. none (rw other h)) apart.1)
+rows-added f g k factor [] same more none apart = let e : f k ≡ factor = omega (arith, more, none refl) in ap (λ t. record { term = k; times = t } ∷ []) e
+rows-added f g k factor (x ∷ xs) same more none apart = here (eqb x k) refl (λ other. rows-added f g k factor xs same more (λ h. none (rw other h)) apart.1)
   where
     here : (b : Bool) → eqb x k ≡ b → (eqb x k ≡ false → rows f (added xs k) ≡ tallied (rows g xs) k factor) → rows f (cond b (x ∷ xs) (x ∷ added xs k)) ≡ cond b (record { term = x; times = g x + factor } ∷ rows g xs) (record { term = x; times = g x } ∷ tallied (rows g xs) k factor)
     here true is rest =
@@ -102,10 +95,8 @@ abbrev pub times : (Mention → Option ℕ) → List Mention → ℕ → ℕ
 times num ms j = sum_by (λ m. m.factor) (filter (names num j) ms)
 
 times-more : (num : Mention → Option ℕ) (ms : List Mention) (m : Mention) (j : ℕ) → times num (ms ++ m ∷ []) j ≡ times num ms j + cond (names num j m) m.factor 0
-times-more num ms m j =
-    ap (sum_by (λ x. x.factor)) (filter-append (names num j) ms (m ∷ []))
-    ∙ sum_by-append (λ x. x.factor) (filter (names num j) ms) (filter (names num j) (m ∷ []))
-    ∙ ap (λ t. times num ms j + t) (one (names num j m))
+times-more num ms m j = ap (sum_by (λ x. x.factor)) (filter-append (names num j) ms (m ∷ []))
+    ∙ sum_by-append (λ x. x.factor) (filter (names num j) ms) (filter (names num j) (m ∷ [])) ∙ ap (λ t. times num ms j + t) (one (names num j m))
   where
     one : (b : Bool) → sum_by (λ x. x.factor) (cond b (m ∷ []) []) ≡ cond b m.factor 0
     one true = omega arith

@@ -1,12 +1,8 @@
 -- Reading gives the queries that mentions, lines and files stand for, and no others.
-use Rattle.std.proofs.Common.{◌≡◌, ◌≢◌, ℕ, suc, ◌+◌, ◌≤◌, ◌^◌, Bool, true, false, eqb, cond, List, [], ◌∷◌, ◌++◌, length, refl, ap, sym, subst, ◌∙◌, arith, append_assoc}
-use Rattle.std.proofs.lemmas.Bool.{true≢false, ltb-true, ltb-false, or_parts, or_from}
+use Rattle.shared_lemmas.proofs.Common.{◌≡◌, ◌≢◌, ℕ, suc, ◌+◌, ◌≤◌, ◌^◌, Bool, true, false, eqb, cond, List, [], ◌∷◌, ◌++◌, length, refl, ap, sym, subst, ◌∙◌, arith, append_assoc, ltb-true, ltb-false, or_parts, or_from, All-from_recursion, recursion_from_All, IsUtf8-from_is_utf8}
+use Rattle.shared_lemmas.proofs.Common.{is_utf8-from_IsUtf8, Option, Some, None, Result, Ok, Err, nat_lt, ◌||◌, All, AllByRecursion, list_any, is_utf8}
+use Rattle.std.proofs.lemmas.Bool.{true≢false}
 use Rattle.std.proofs.lemmas.List.{append-nil}
-use Rattle.std.proofs.lemmas.List.Elements.{All-from_recursion, recursion_from_All}
-use Rattle.std.proofs.lemmas.Str.{IsUtf8-from_is_utf8, is_utf8-from_IsUtf8}
-use Rattle.std.specs.Prelude.{Option, Some, None, Result, Ok, Err, nat_lt, ◌||◌, All}
-use Rattle.std.specs.List.{AllByRecursion, list_any}
-use Rattle.std.specs.Str.{is_utf8}
 use Rattle.jass_base.specs.declared.query_term.QueryTerm.{QueryTerm}
 use Rattle.text_lines.specs.Lines.{LineData}
 use Rattle.query_reader.specs.declared.mode.Mode.{Mode}
@@ -49,9 +45,7 @@ as-often (n ∷ ns) k f none = here (eqb n.term k) none (as-often ns k f)
     here false e rest = let h = or_parts (over n) (list_any over (tallied ns k f)) e in or_from (over n) (list_any over ns) h.0 (rest h.1)
 
 tallied-within : (ns : List QueryTerm) (k f : ℕ) → broken_limit (tallied ns k f) ≡ None → broken_limit ns ≡ None
-tallied-within ns k f none =
-    let h = within-limits (tallied ns k f) none in
-    limit-none ns (omega (arith, h.0, longer ns k f)) (as-often ns k f h.1)
+tallied-within ns k f none = let h = within-limits (tallied ns k f) none in limit-none ns (omega (arith, h.0, longer ns k f)) (as-often ns k f h.1)
 
 one-within : (terms : List (List ℕ)) (before : List Mention) (m : Mention) → broken_limit (named_of terms (with_one before m)) ≡ None → broken_limit (named_of terms before) ≡ None
 one-within terms before m none = at (term_number terms m) refl
@@ -70,8 +64,7 @@ unbroken : (terms : List (List ℕ)) (before ms : List Mention) → broken_limit
 unbroken terms before [] none = broken-none terms before
 unbroken terms before (m ∷ ms) none =
     let whole = ap (λ xs. broken_limit (named_of terms xs)) (append_assoc before (m ∷ []) ms) ∙ none in
-    broken-first terms before m ms
-    ∙ ap (λ o. first_of o (first_broken terms (with_one before m) ms)) (front-within terms (with_one before m) ms whole)
+    broken-first terms before m ms ∙ ap (λ o. first_of o (first_broken terms (with_one before m) ms)) (front-within terms (with_one before m) ms whole)
     ∙ unbroken terms (with_one before m) ms whole
 
 no-first : (a b : Option QueryWhy) → first_of a b ≡ None → (a ≡ None) × (b ≡ None)
@@ -122,8 +115,7 @@ id-read : (terms : List (List ℕ)) (id : List ℕ) (ms : List Mention) (q : Que
 id-read terms id ms q is = ap (λ (x : QueryData). x.id) (sym (read-all terms id ms q is).1)
 
 same-query : (terms : List (List ℕ)) (ms : List Mention) (q : QueryData) → q.terms ≡ named_of terms ms → q.unknown ≡ unknown_of terms ms → query-of terms q.id ms ≡ q
-same-query terms ms q named unknown =
-    ap (λ ns. let r : QueryData = record { id = q.id; terms = ns; unknown = unknown_of terms ms } in r) (sym named)
+same-query terms ms q named unknown = ap (λ ns. let r : QueryData = record { id = q.id; terms = ns; unknown = unknown_of terms ms } in r) (sym named)
     ∙ ap (λ n. let r : QueryData = record { id = q.id; terms = q.terms; unknown = n } in r) (sym unknown)
 
 pub query-only : (terms : List (List ℕ)) (ms : List Mention) (q : QueryData) → IsQuery terms ms q → read_mentions terms q.id ms ≡ Ok q
@@ -200,8 +192,7 @@ lines-only : (mode : Mode) (terms : List (List ℕ)) (lines : List LineData) (qs
 lines-only mode terms [] [] are = no-line mode terms
 lines-only mode terms [] (q ∷ qs) are = absurd are
 lines-only mode terms (line ∷ lines) [] are = absurd are
-lines-only mode terms (line ∷ lines) (q ∷ qs) are =
-    one-line mode terms line lines
+lines-only mode terms (line ∷ lines) (q ∷ qs) are = one-line mode terms line lines
     ∙ ap (λ r. at_line line.number r >>= λ x. read_lines mode terms lines >>= λ more. Ok (x ∷ more)) (line-only mode terms line.bytes q are.0)
     ∙ ap (λ (r : Result (List QueryData) QueryRefusal). r >>= λ more. Ok (q ∷ more)) (lines-only mode terms lines qs are.1)
 

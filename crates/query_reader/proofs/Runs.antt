@@ -1,13 +1,9 @@
 -- The runs of a text between blanks, and what stands behind the last `^` of a run.
-use Rattle.std.proofs.Common.{◌≡◌, ℕ, zero, suc, ◌<◌, Bool, true, false, List, [], ◌∷◌, length, take, drop, refl, ap, sym, subst, ◌∙◌, arith}
+use Rattle.shared_lemmas.proofs.Common.{◌≡◌, ℕ, zero, suc, ◌<◌, Bool, true, false, List, [], ◌∷◌, length, take, drop, refl, ap, sym, subst, ◌∙◌, arith, length-drop, slice_split-cons_yes, slice_split-cons_no, Option, Some, None, filter, slice_index, slice_split, onto_first}
 use Rattle.std.proofs.lemmas.Bool.{true≢false}
-use Rattle.std.proofs.lemmas.List.{length-drop}
-use Rattle.std.proofs.lemmas.List.Splits.{slice_split-cons_yes, slice_split-cons_no}
-use Rattle.std.specs.Prelude.{Option, Some, None, filter, slice_index}
-use Rattle.std.specs.List.{slice_split, onto_first}
 use Rattle.memchr.specs.Find.{IsFirstByte, is_byte2}
-use Rattle.query_reader.specs.Texts.{has_items, is_blank}
-use Rattle.query_reader.specs.Slices.{blank_runs, BeginsWithout}
+use Rattle.query_reader.specs.Texts.{has_items, is_blank, blank_runs}
+use Rattle.query_reader.specs.Slices.{BeginsWithout}
 
 -- a blank at the front
 pub blank-first : (b : ℕ) (text : List ℕ) → is_blank b ≡ true → blank_runs (b ∷ text) ≡ blank_runs text
@@ -27,14 +23,12 @@ other x never = here (is_blank x) refl
 cut-there : (text : List ℕ) (end : ℕ) → end < length text → is_blank (slice_index text end) ≡ true → None_before text end → slice_split is_blank text ≡ take end text ∷ slice_split is_blank (drop (suc end) text)
 cut-there [] end inside at none = absurd (omega (arith, inside))
 cut-there (x ∷ xs) zero inside at none = slice_split-cons_yes is_blank x xs at
-cut-there (x ∷ xs) (suc end) inside at none =
-    slice_split-cons_no is_blank x xs (other x (none 0 (omega arith)))
+cut-there (x ∷ xs) (suc end) inside at none = slice_split-cons_no is_blank x xs (other x (none 0 (omega arith)))
     ∙ ap (onto_first x) (cut-there xs end (omega (arith, inside)) at (λ k less. none (suc k) (omega (arith, less))))
 
 uncut : (text : List ℕ) → None_before text (length text) → slice_split is_blank text ≡ text ∷ []
 uncut [] none = refl
-uncut (x ∷ xs) none =
-    slice_split-cons_no is_blank x xs (other x (none 0 (omega arith)))
+uncut (x ∷ xs) none = slice_split-cons_no is_blank x xs (other x (none 0 (omega arith)))
     ∙ ap (onto_first x) (uncut xs (λ k less. none (suc k) (omega (arith, less))))
 
 -- a text from a blank on has the runs that stand behind it

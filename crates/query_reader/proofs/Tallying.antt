@@ -1,15 +1,13 @@
 -- Mentions counted in one after the other name what all of them name.
-use Rattle.std.proofs.Common.{◌≡◌, ℕ, ◌+◌, cond, List, [], ◌∷◌, ◌++◌, refl, ap, sym, subst, ◌∙◌, arith, append_assoc}
+use Rattle.shared_lemmas.proofs.Common.{◌≡◌, ℕ, ◌+◌, cond, List, [], ◌∷◌, ◌++◌, refl, ap, sym, subst, ◌∙◌, arith, append_assoc, sum_by-append, Option, Some, None, Result, Ok, Err, is_none, IsErrAnd}
 use Rattle.std.proofs.lemmas.List.{append-nil}
-use Rattle.std.proofs.lemmas.List.Sums.{sum_by-append}
-use Rattle.std.specs.Prelude.{Option, Some, None, Result, Ok, Err, is_none}
-use Rattle.std.specs.Result.{IsErrAnd}
 use Rattle.jass_base.specs.declared.query_term.QueryTerm.{QueryTerm}
 use Rattle.query_reader.specs.declared.refusal.QueryWhy.{QueryWhy}
 use Rattle.query_reader.specs.declared.refusal.LineFault.{LineFault}
 use Rattle.query_reader.specs.declared.refusal.LineFault.TheVariants.{Refused, NoMemory}
 use Rattle.query_reader.specs.Mentions.{Mention, term_number, named_of, unknown_of}
-use Rattle.query_reader.specs.Refusals.{◌>>=◌, LineFails, LineAnswers}
+use Rattle.query_reader.specs.Refusals.{◌>>=◌}
+use Rattle.query_reader.specs.Private.Lines.{LineFails, LineAnswers}
 use Rattle.query_reader.specs.Queries.{QueryData}
 use Rattle.query_reader.specs.Reading.{broken_limit, first_of, first_broken, unless, read_mentions}
 use Rattle.query_reader.specs.Private.Tally.{TallyData, counted_in, all_counted_in}
@@ -24,10 +22,8 @@ abbrev pub with_one : List Mention → Mention → List Mention
 with_one before m = before ++ m ∷ []
 
 unknown-one : (terms : List (List ℕ)) (before : List Mention) (m : Mention) (number : Option ℕ) → term_number terms m ≡ number → unknown_of terms (with_one before m) ≡ unknown_of terms before + cond (is_none number) 1 0
-unknown-one terms before m number is =
-    sum_by-append (λ x. cond (is_none (term_number terms x)) 1 0) before (m ∷ [])
-    ∙ ap (λ o. unknown_of terms before + (0 + cond (is_none o) 1 0)) is
-    ∙ omega arith
+unknown-one terms before m number is = sum_by-append (λ x. cond (is_none (term_number terms x)) 1 0) before (m ∷ [])
+    ∙ ap (λ o. unknown_of terms before + (0 + cond (is_none o) 1 0)) is ∙ omega arith
 
 same-tally : (named other : List QueryTerm) (unknown count : ℕ) → named ≡ other → unknown ≡ count → (let a : TallyData = record { named = named; unknown = unknown } in a) ≡ record { named = other; unknown = count }
 same-tally named other unknown count first second = cc
@@ -59,12 +55,10 @@ unfolding first_broken
 broken-none terms before = refl
 
 all-counted : (terms : List (List ℕ)) (before ms : List Mention) → broken_limit (named_of terms before) ≡ None → all_counted_in terms (tally_of terms before) ms ≡ unless (first_broken terms before ms) (tally_of terms (before ++ ms))
-all-counted terms before [] none =
-    none-counted terms (tally_of terms before)
+all-counted terms before [] none = none-counted terms (tally_of terms before)
     ∙ ap (λ xs. let r : Result TallyData QueryWhy = Ok (tally_of terms xs) in r) (sym (append-nil before))
     ∙ ap (λ o. unless o (tally_of terms (before ++ []))) (sym (broken-none terms before))
-all-counted terms before (m ∷ ms) none =
-    then-counted terms (tally_of terms before) m ms
+all-counted terms before (m ∷ ms) none = then-counted terms (tally_of terms before) m ms
     ∙ ap (λ (r : Result TallyData QueryWhy). r >>= λ more. all_counted_in terms more ms) (one-more terms before m none)
     ∙ at (broken_limit (named_of terms (with_one before m))) refl (all-counted terms (with_one before m) ms)
     ∙ ap (λ o. unless o (tally_of terms (before ++ m ∷ ms))) (sym (broken-first terms before m ms))
@@ -116,8 +110,7 @@ line-handed-on view read fault (Err e) is fails = subst (λ f. LineFails f read)
 -- the query that is made of a tally
 pub query-made : (terms : List (List ℕ)) (id : List ℕ) (ms : List Mention) (tally : TallyData) (given : List ℕ) (row : List QueryTerm) → all_counted_in terms empty_tally ms ≡ Ok tally → given ≡ id → row ≡ tally.named
     → read_mentions terms id ms ≡ Ok (record { id = given; terms = row; unknown = tally.unknown })
-query-made terms id ms tally given row is same_id same_row =
-    counted-read terms id ms tally is
+query-made terms id ms tally given row is same_id same_row = counted-read terms id ms tally is
     ∙ ap (λ text. let r : Result QueryData QueryWhy = Ok (record { id = text; terms = tally.named; unknown = tally.unknown }) in r) (sym same_id)
     ∙ ap (λ ns. let r : Result QueryData QueryWhy = Ok (record { id = given; terms = ns; unknown = tally.unknown }) in r) (sym same_row)
 

@@ -1,10 +1,9 @@
 -- The runs of letters and digits in a text, each with its factor.
-use Rattle.std.proofs.Common.{◌≡◌, ℕ, suc, ◌+◌, ◌-◌, ◌≤◌, Bool, true, false, not, cond, List, [], ◌∷◌, ◌++◌, length, take, drop, refl, ap, sym, subst, ◌∙◌, arith, length-append}
-use Rattle.std.proofs.lemmas.List.{length-drop, take_all, drop_all}
-use Rattle.std.specs.Prelude.{Some, None, ◌==◌}
-use Rattle.std.specs.List.{AllByRecursion, position_or_len}
+use Rattle.shared_lemmas.proofs.Common.{◌≡◌, ℕ, suc, ◌+◌, ◌-◌, ◌≤◌, Bool, true, false, not, cond, List, [], ◌∷◌, ◌++◌, length, take, drop, refl, ap, sym, subst, ◌∙◌, arith, length-drop, take_all, drop_all, Some, None, ◌==◌, AllByRecursion, position_or_len}
+use Rattle.std.proofs.Common.{length-append}
 use Rattle.query_reader.specs.Texts.{Part, is_word, onto_first_part, parts_of, folded_parts, folded_mentions, folded_term, with_factor, factor_of}
-use Rattle.query_reader.specs.Slices.{BeginsWithout, IsWordRun}
+use Rattle.query_reader.specs.Private.Slices.{IsWordRun}
+use Rattle.query_reader.specs.Slices.{BeginsWithout}
 
 abbrev part : List ℕ → Bool → Part
 part run caret = record { run = run; caret = caret }
@@ -83,8 +82,7 @@ no-characters = mentions-parts [] ∙ ap folded_parts (parts-gap [] tt) ∙ no-p
 -- a run that no `^` follows
 pub without-caret : (text : List ℕ) → BeginsWithout is_word text → caret-first text ≡ false → (run : List ℕ) → IsWordRun run → folded_mentions (run ++ text) ≡ record { term = folded_term run; factor = 1 } ∷ folded_mentions text
 without-caret text begins plain [] is = absurd (omega (arith, is.some))
-without-caret [] begins plain (r ∷ rs) is =
-    mentions-parts ((r ∷ rs) ++ []) ∙ ap folded_parts (first-part (r ∷ rs) [] is.words tt) ∙ last-part r rs false
+without-caret [] begins plain (r ∷ rs) is = mentions-parts ((r ∷ rs) ++ []) ∙ ap folded_parts (first-part (r ∷ rs) [] is.words tt) ∙ last-part r rs false
     ∙ ap (λ ms. record { term = folded_term (r ∷ rs); factor = 1 } ∷ ms) (sym no-characters)
 without-caret (c ∷ cs) begins plain (r ∷ rs) is =
     let (p, ps, parts) = some-part cs in
@@ -140,8 +138,7 @@ pub shorter-behind : (text digits rest : List ℕ) → text ≡ 94 ∷ (digits +
 shorter-behind text digits rest is = omega (arith, ap length is, length-append digits rest)
 
 pub gap-from : (text : List ℕ) (start : ℕ) → position_or_len is_word text ≡ start → folded_mentions (take (length text - start) (drop start text)) ≡ folded_mentions text
-gap-from text start is =
-    ap folded_mentions (take_all (length text - start) (drop start text) (omega (arith, length-drop start text)))
+gap-from text start is = ap folded_mentions (take_all (length text - start) (drop start text) (omega (arith, length-drop start text)))
     ∙ ap (λ n. folded_mentions (drop n text)) (sym is) ∙ gap-mentions text
 
 pub gap-whole : (text : List ℕ) → length text ≤ position_or_len is_word text → folded_mentions [] ≡ folded_mentions text

@@ -1,11 +1,6 @@
 -- The mentions of words as they stand, one word after the other.
-use Rattle.std.proofs.Common.{◌≡◌, ℕ, ◌+◌, ◌<◌, ◌≤◌, cond, List, [], ◌∷◌, ◌++◌, length, get_or, take, map, refl, ap, sym, subst, ◌∙◌, arith}
-use Rattle.std.proofs.lemmas.List.{map-append, map_more, length-map, length-take-le}
-use Rattle.std.proofs.lemmas.List.Elements.{recursion_from_All}
-use Rattle.std.proofs.lemmas.List.Sums.{sum_by-append}
-use Rattle.std.specs.Prelude.{Option, Some, None, String, is_none, All, AllPairs}
-use Rattle.std.specs.String.{string_bytes}
-use Rattle.std.specs.declared.alloc.Global.{Global}
+use Rattle.shared_lemmas.proofs.Common.{◌≡◌, ℕ, ◌+◌, ◌<◌, ◌≤◌, cond, List, [], ◌∷◌, ◌++◌, length, get_or, take, map, refl, ap, sym, subst, ◌∙◌, arith, map-append, map_more, length-map, length-take-le, recursion_from_All, sum_by-append, Option, Some, None, String, is_none, All, AllPairs}
+use Rattle.shared_lemmas.proofs.Common.{string_bytes, Global}
 use Rattle.jass_base.specs.declared.query_term.QueryTerm.{QueryTerm}
 use Rattle.query_reader.specs.Mentions.{Mention, words_as_mentions, term_number, named_of, unknown_of}
 use Rattle.query_reader.specs.declared.refusal.QueryWhy.{QueryWhy}
@@ -24,8 +19,7 @@ abbrev once : List ℕ → Mention
 once word = record { term = word; factor = 1 }
 
 said-more : (words : List (String Global)) (i : ℕ) (word : String Global) → i < length words → word ≡ get_or words i word → said (take (i + 1) words) ≡ said (take i words) ++ once (string_bytes word) ∷ []
-said-more words i word inside read =
-    ap words_as_mentions (map_more string_bytes words i word inside)
+said-more words i word inside read = ap words_as_mentions (map_more string_bytes words i word inside)
     ∙ map-append once (map string_bytes (take i words)) (string_bytes (get_or words i word) ∷ [])
     ∙ ap (λ w. said (take i words) ++ once (string_bytes w) ∷ []) (sym read)
 
@@ -33,8 +27,7 @@ said-more words i word inside read =
 pub named-more : (terms : List (List ℕ)) (words : List (String Global)) (i : ℕ) (word : String Global) (ns new : List QueryTerm) (k : ℕ) → i < length words
     → word ≡ get_or words i word → term_number terms (once (string_bytes word)) ≡ Some k → ns ≡ named_of terms (said (take i words)) → new ≡ tallied ns k 1
     → new ≡ named_of terms (said (take (i + 1) words))
-named-more terms words i word ns new k inside read known so_far put =
-    put ∙ ap (λ xs. tallied xs k 1) so_far
+named-more terms words i word ns new k inside read known so_far put = put ∙ ap (λ xs. tallied xs k 1) so_far
     ∙ sym (named-known (term_number terms) (said (take i words)) (once (string_bytes word)) k known)
     ∙ ap (named_of terms) (sym (said-more words i word inside read))
 
@@ -42,8 +35,7 @@ named-more terms words i word ns new k inside read known so_far put =
 pub named-same : (terms : List (List ℕ)) (words : List (String Global)) (i : ℕ) (word : String Global) (ns : List QueryTerm) → i < length words
     → word ≡ get_or words i word → term_number terms (once (string_bytes word)) ≡ None → ns ≡ named_of terms (said (take i words))
     → ns ≡ named_of terms (said (take (i + 1) words))
-named-same terms words i word ns inside read none so_far =
-    so_far
+named-same terms words i word ns inside read none so_far = so_far
     ∙ sym (named-unknown (term_number terms) (said (take i words)) (once (string_bytes word)) none)
     ∙ ap (named_of terms) (sym (said-more words i word inside read))
 
@@ -51,18 +43,15 @@ named-same terms words i word ns inside read none so_far =
 pub unknown-more : (terms : List (List ℕ)) (words : List (String Global)) (i : ℕ) (word : String Global) (number : Option ℕ) → i < length words
     → word ≡ get_or words i word → term_number terms (once (string_bytes word)) ≡ number → unknown_of terms (said (take (i + 1) words)) ≡ unknown_of terms
     (said (take i words)) + cond (is_none number) 1 0
-unknown-more terms words i word number inside read is =
-    ap (unknown_of terms) (said-more words i word inside read)
+unknown-more terms words i word number inside read is = ap (unknown_of terms) (said-more words i word inside read)
     ∙ sum_by-append (λ m. cond (is_none (term_number terms m)) 1 0) (said (take i words)) (once (string_bytes word) ∷ [])
-    ∙ ap (λ o. unknown_of terms (said (take i words)) + (0 + cond (is_none o) 1 0)) is
-    ∙ omega arith
+    ∙ ap (λ o. unknown_of terms (said (take i words)) + (0 + cond (is_none o) 1 0)) is ∙ omega arith
 
 said-long : (words : List (String Global)) → length (said words) ≡ length words
 said-long words = length-map (map string_bytes words) once ∙ length-map words string_bytes
 
 pub named-fit : (terms : List (List ℕ)) (words : List (String Global)) (ns : List QueryTerm) → ns ≡ named_of terms (said words) → All (λ (n : QueryTerm). n.times ≤ length words) ns
-named-fit terms words ns is =
-    subst (λ xs. All (λ (n : QueryTerm). n.times ≤ length words) xs) (sym is)
+named-fit terms words ns is = subst (λ xs. All (λ (n : QueryTerm). n.times ≤ length words) xs) (sym is)
     (λ k d inside. omega (arith, named-bounded (term_number terms) (said words) k d inside, words-factors (map string_bytes words), length-map words (string_bytes {Z = Global})))
 
 pub said-few : (terms : List (List ℕ)) (words : List (String Global)) (ns : List QueryTerm) → ns ≡ named_of terms (said words) → length ns ≤ length words

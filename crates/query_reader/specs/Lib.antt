@@ -3,6 +3,6 @@ pub mod Texts
 pub mod Refusals
 pub mod Queries
 pub mod Reading
-pub mod Slices
 pub mod Examples
 pub mod Private
+pub mod Slices

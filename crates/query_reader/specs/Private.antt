@@ -1,2 +1,4 @@
 -- Words that no clause of a public call cites: those of this crate's own functions.
 pub mod Tally
+pub mod Lines
+pub mod Slices

@@ -1,5 +1,5 @@
 -- What a query is, and which queries a file holds. This project's.
-use Rattle.std.specs.Prelude.{ℕ, ◌≡◌, ◌≢◌, ◌≤◌, ◌^◌, ⊤, List, [], ◌∷◌, length, filter, All}
+use Rattle.std.specs.Prelude.{ℕ, ◌≡◌, ◌≢◌, ◌≤◌, ⊤, List, [], ◌∷◌, length, filter, All}
 use Rattle.std.specs.List.{before_first, position_or_len}
 use Rattle.std.specs.Prelude.{drop}
 use Rattle.std.specs.Str.{IsUtf8}
@@ -9,6 +9,7 @@ use Rattle.text_lines.specs.Lines.{LineData, lines_of, numbered_from}
 use Rattle.query_reader.specs.declared.mode.Mode.{Mode}
 use Rattle.query_reader.specs.Mentions.{Mention, named_of, unknown_of}
 use Rattle.query_reader.specs.Texts.{has_items, is_blank, mentions_of}
+use Rattle.jass_base.specs.declared.limits.TheConstants.{LONGEST_LINE, LONGEST_QUERY_FILE, MOST_QUERY_TERMS, MOST_TIMES}
 
 -- a query as plain data
 pub record QueryData : Type 0 where
@@ -23,8 +24,8 @@ query_data query = record { id = query.id; terms = query.terms; unknown = query.
 pub record IsQuery (terms : List (List ℕ)) (mentions : List Mention) (query : QueryData) : Type 0 where
   pub named : query.terms ≡ named_of terms mentions
   pub unknown : query.unknown ≡ unknown_of terms mentions
-  pub few : length query.terms ≤ 256
-  pub times : All (λ (n : QueryTerm). n.times ≤ 255) query.terms
+  pub few : length query.terms ≤ MOST_QUERY_TERMS
+  pub times : All (λ (n : QueryTerm). n.times ≤ MOST_TIMES) query.terms
 
 -- a line's id ends before the first blank, and its text begins there
 abbrev pub id_of : List ℕ → List ℕ
@@ -35,7 +36,7 @@ text_of line = drop (position_or_len is_blank line) line
 
 -- a line is a query
 pub record IsQueryLine (mode : Mode) (terms : List (List ℕ)) (line : List ℕ) (query : QueryData) : Type 0 where
-  pub fits : length line ≤ 1048576
+  pub fits : length line ≤ LONGEST_LINE
   pub utf8 : IsUtf8 line
   pub id : query.id ≡ id_of line
   pub begins : query.id ≢ []
@@ -54,5 +55,5 @@ AreQueryLines mode terms (line ∷ lines) (query ∷ queries) = IsQueryLine mode
 
 -- a file holds queries: one in each line that has bytes
 pub record IsQueryFile (bytes : List ℕ) (mode : Mode) (terms : List (List ℕ)) (queries : List QueryData) : Type 0 where
-  pub fits : length bytes ≤ 2 ^ 28
+  pub fits : length bytes ≤ LONGEST_QUERY_FILE
   pub lines : AreQueryLines mode terms (query_lines bytes) queries

@@ -1,5 +1,5 @@
 -- Reading a query file from the left, line by line, with the first refusal and its line.
-use Rattle.std.specs.Prelude.{ℕ, ◌^◌, not, List, [], ◌∷◌, ◌++◌, length, Option, Some, None, Result, Ok, Err, nat_lt, if◌then◌else◌}
+use Rattle.std.specs.Prelude.{ℕ, not, List, [], ◌∷◌, ◌++◌, length, Option, Some, None, Result, Ok, Err, nat_lt, if◌then◌else◌}
 use Rattle.std.specs.List.{list_any}
 use Rattle.std.specs.Str.{is_utf8}
 use Rattle.jass_base.specs.declared.query_term.QueryTerm.{QueryTerm}
@@ -12,12 +12,13 @@ use Rattle.query_reader.specs.Mentions.{Mention, named_of, unknown_of}
 use Rattle.query_reader.specs.Texts.{has_items, mentions_of}
 use Rattle.query_reader.specs.Refusals.{◌>>=◌, at_line}
 use Rattle.query_reader.specs.Queries.{QueryData, id_of, text_of, query_lines}
+use Rattle.jass_base.specs.declared.limits.TheConstants.{LONGEST_LINE, LONGEST_QUERY_FILE, MOST_QUERY_TERMS, MOST_TIMES}
 
 -- the limit that named terms break: more than 256 of them, or one named more than 255 times
 abbrev pub broken_limit : List QueryTerm → Option QueryWhy
 broken_limit named =
-    if nat_lt 256 (length named) then Some Terms
-    else (if list_any (λ n. nat_lt 255 n.times) named then Some Times
+    if nat_lt MOST_QUERY_TERMS (length named) then Some Terms
+    else (if list_any (λ n. nat_lt MOST_TIMES n.times) named then Some Times
     else None)
 
 abbrev pub first_of : Option QueryWhy → Option QueryWhy → Option QueryWhy
@@ -40,7 +41,7 @@ read_mentions terms id mentions = unless (first_broken terms [] mentions) (recor
 -- the first check that a line fails before its mentions are read
 unfoldable pub line_fault : List ℕ → Option QueryWhy
 line_fault line =
-    if nat_lt 1048576 (length line) then Some LineLong
+    if nat_lt LONGEST_LINE (length line) then Some LineLong
     else (if not (is_utf8 line) then Some Text
     else (if not (has_items (id_of line)) then Some NoId
     else None))
@@ -59,5 +60,5 @@ read_lines mode terms (line ∷ lines) =
 -- the queries of a file, or its first refusal
 unfoldable pub read_query_file : List ℕ → Mode → List (List ℕ) → Result (List QueryData) QueryRefusal
 read_query_file bytes mode terms =
-    if nat_lt (2 ^ 28) (length bytes) then Err (record { line = 0; why = FileLong })
+    if nat_lt LONGEST_QUERY_FILE (length bytes) then Err (record { line = 0; why = FileLong })
     else read_lines mode terms (query_lines bytes)

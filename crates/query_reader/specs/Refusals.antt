@@ -5,8 +5,6 @@ use Rattle.query_reader.specs.declared.refusal.QueryWhy.TheVariants.{Text, NoId,
 use Rattle.query_reader.specs.declared.refusal.QueryRefusal.{QueryRefusal}
 use Rattle.query_reader.specs.declared.refusal.QueryFault.{QueryFault}
 use Rattle.query_reader.specs.declared.refusal.QueryFault.TheVariants as faults
-use Rattle.query_reader.specs.declared.refusal.LineFault.{LineFault}
-use Rattle.query_reader.specs.declared.refusal.LineFault.TheVariants as line_faults
 
 -- the numbers of the refusals
 abbrev pub number_of : QueryWhy → ℕ
@@ -37,17 +35,3 @@ Fails faults.NoMemory read = ⊤
 abbrev pub Answers : {X Y : Type 0} → (X → Y) → Result X QueryFault → Result Y QueryRefusal → Type 0
 Answers view (Ok x) read = read ≡ Ok (view x)
 Answers view (Err fault) read = Fails fault read
-
--- the same of one line
-abbrev pub LineFails : {Y : Type 0} → LineFault → Result Y QueryWhy → Type 0
-LineFails (line_faults.Refused why) read = read ≡ Err why
-LineFails line_faults.NoMemory read = ⊤
-
-abbrev pub LineAnswers : {X Y : Type 0} → (X → Y) → Result X LineFault → Result Y QueryWhy → Type 0
-LineAnswers view (Ok x) read = read ≡ Ok (view x)
-LineAnswers view (Err fault) read = LineFails fault read
-
--- the fault of a line that has this number
-abbrev pub fault_at : ℕ → LineFault → QueryFault
-fault_at line (line_faults.Refused why) = faults.Refused (record { line = line; why = why })
-fault_at line line_faults.NoMemory = faults.NoMemory

@@ -1,5 +1,5 @@
 -- The mentions in a text. The rules of runs and factors are this project's; letters, numbers and case folding are Unicode's (UAX 44, and section 3.13 of the standard).
-use Rattle.std.specs.Prelude.{ℕ, Bool, true, false, ◌==◌, ◌&&◌, ◌||◌, not, List, [], ◌∷◌, length, map, filter, Option, Some, None, nat_le, encode_utf8_all, if◌then◌else◌}
+use Rattle.std.specs.Prelude.{ℕ, Bool, true, false, ◌==◌, ◌&&◌, ◌||◌, List, [], ◌∷◌, length, map, filter, Option, Some, None, nat_le, encode_utf8_all, if◌then◌else◌}
 use Rattle.std.specs.List.{slice_split}
 use Rattle.std.specs.Str.{chars}
 use Rattle.std.specs.Option.{option_map, option_and_then, unwrap_or}
@@ -11,6 +11,7 @@ use Rattle.jass_base.specs.Decimal.{decimal_of}
 use Rattle.query_reader.specs.declared.mode.Mode.{Mode}
 use Rattle.query_reader.specs.declared.mode.Mode.TheVariants.{Plain, Folded}
 use Rattle.query_reader.specs.Mentions.{Mention}
+use Rattle.jass_base.specs.declared.limits.TheConstants.{MOST_TIMES}
 
 abbrev pub has_items : List ℕ → Bool
 has_items [] = false
@@ -18,7 +19,7 @@ has_items (x ∷ xs) = true
 
 -- a factor text: 1 to 3 ASCII digits that stand for 1 to 255
 abbrev pub factor_in_range : ℕ → Option ℕ
-factor_in_range n = if nat_le 1 n && nat_le n 255 then Some n else None
+factor_in_range n = if nat_le 1 n && nat_le n MOST_TIMES then Some n else None
 
 abbrev pub factor_of : List ℕ → Option ℕ
 factor_of text = if nat_le (length text) 3 then option_and_then factor_in_range (decimal_of text) else None
@@ -51,6 +52,10 @@ unfoldable pub plain_mention : List ℕ → Mention
 plain_mention run = unwrap_or (option_and_then weighted (at_last_caret run)) (record { term = run; factor = 1 })
 
 -- the runs between blanks
+abbrev pub blank_runs : List ℕ → List (List ℕ)
+blank_runs text = filter has_items (slice_split is_blank text)
+
+-- a mention for each
 unfoldable pub plain_mentions : List ℕ → List Mention
 plain_mentions text = map plain_mention (filter has_items (slice_split is_blank text))
 
@@ -59,9 +64,6 @@ plain_mentions text = map plain_mention (filter has_items (slice_split is_blank 
 -- a letter or a decimal digit of any script
 unfoldable pub is_word : ℕ → Bool
 is_word c = is_alphabetic c || general_category_eq (general_category c) DecimalNumber
-
-abbrev pub is_no_word : ℕ → Bool
-is_no_word c = not (is_word c)
 
 -- what stands between characters that are none, and whether a `^` follows it
 pub record Part : Type 0 where

@@ -1,4 +1,4 @@
-ghost use Rattle.std.specs.Prelude.{ℕ, ◌≡◌, ◌<◌, length, map, All, IfOk};
+ghost use Rattle.std.specs.Prelude.{◌<◌, length, map, All, IfOk};
 ghost use Rattle.std.specs.List.{AllByRecursion};
 ghost use Rattle.jass_base.specs.declared.query_term.QueryTerm.{QueryTerm};
 ghost use Rattle.jass_base.specs.declared.query.Query.{Query};
@@ -9,12 +9,10 @@ ghost use Rattle.query_reader.specs.Reading.{read_query_file};
 use crate::line::read_line;
 use crate::mode::Mode;
 use crate::refusal::{LineFault, QueryFault, QueryWhy};
+use jass_base::limits::LONGEST_QUERY_FILE;
 use jass_base::{Lexicon, Query, Row};
 use std::alloc::Global;
 use text_lines::Lines;
-
-/// The most bytes of a query file.
-const LONGEST_FILE: usize = 1 << 28;
 
 /// The queries of a file, one in each line that has bytes, or the first refusal.
 pub fn read_queries<X: Lexicon>(
@@ -27,7 +25,7 @@ pub fn read_queries<X: Lexicon>(
     ensures known { IfOk result (λ queries. AllByRecursion
         (λ (query : Query). All (λ (n : QueryTerm). n.term < length (X.terms index.now)) query.terms) queries) }
 {
-    if bytes.len() > LONGEST_FILE {
+    if bytes.len() > LONGEST_QUERY_FILE {
         return Err(LineFault::Refused(QueryWhy::FileLong).at(0));
     }
     let mut queries = Row::new(alloc);

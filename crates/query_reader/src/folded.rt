@@ -1,11 +1,12 @@
-ghost use Rattle.std.specs.Prelude.{ℕ, ◌≡◌, ◌+◌, ◌<◌, ◌≤◌, ◌^◌, ◌==◌, ◌∷◌, ◌++◌, true, length, IfSome, IfNone, IfOk, IsTrue};
+ghost use Rattle.std.specs.Prelude.{◌≡◌, ◌+◌, ◌<◌, ◌≤◌, ◌^◌, ◌==◌, ◌∷◌, ◌++◌, true, length, IfSome, IfNone, IfOk, IsTrue};
 ghost use Rattle.std.specs.Char.{digit_value, is_ascii_digit};
 ghost use Rattle.std.specs.List.{AllByRecursion};
 ghost use Rattle.std.specs.Option.{SomeIff};
 ghost use Rattle.std.specs.Str.{chars};
 ghost use Rattle.std.specs.String.{string_bytes};
-ghost use Rattle.query_reader.specs.Texts.{factor_of, is_word, is_no_word, folded_term, folded_mentions};
-ghost use Rattle.query_reader.specs.Slices.{BeginsWithout, FindsWordRun, TakesFactor};
+ghost use Rattle.query_reader.specs.Texts.{factor_of, is_word, folded_term, folded_mentions};
+ghost use Rattle.query_reader.specs.Private.Slices.{FindsWordRun, TakesFactor, is_no_word};
+ghost use Rattle.query_reader.specs.Slices.{BeginsWithout};
 ghost use Rattle.query_reader.specs.Private.Tally.{CountsIn, all_counted_in};
 
 use crate::refusal::LineFault;

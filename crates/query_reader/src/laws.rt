@@ -1,6 +1,6 @@
 //! Laws of queries. Each function does nothing: its contract is the law.
 
-ghost use Rattle.std.specs.Prelude.{ℕ, ◌≡◌, ◌↔◌, List, Ok};
+ghost use Rattle.std.specs.Prelude.{ℕ, ◌≡◌, List, Ok};
 ghost use Rattle.query_reader.specs.declared.mode.Mode.{Mode};
 ghost use Rattle.query_reader.specs.Mentions.{Mention};
 ghost use Rattle.query_reader.specs.Queries.{QueryData, IsQuery, IsQueryLine, IsQueryFile};

@@ -1,18 +1,16 @@
-ghost use Rattle.std.specs.Prelude.{ℕ, ◌≡◌, ◌<◌, length, All, IfOk};
+ghost use Rattle.std.specs.Prelude.{◌<◌, length, All, IfOk};
 ghost use Rattle.jass_base.specs.declared.query_term.QueryTerm.{QueryTerm};
 ghost use Rattle.query_reader.specs.Queries.{query_data};
-ghost use Rattle.query_reader.specs.Refusals.{LineAnswers};
+ghost use Rattle.query_reader.specs.Private.Lines.{LineAnswers};
 ghost use Rattle.query_reader.specs.Reading.{read_line};
 
 use crate::mode::Mode;
 use crate::query::read_query;
 use crate::refusal::{LineFault, QueryWhy};
+use jass_base::limits::LONGEST_LINE;
 use jass_base::{Lexicon, Query};
 use memchr::memchr2;
 use std::alloc::Global;
-
-/// The most bytes of a line without its end.
-const LONGEST_LINE: usize = 1_048_576;
 
 /// The query of a line: its id ends before the first blank, and its mentions follow.
 pub fn read_line<X: Lexicon>(

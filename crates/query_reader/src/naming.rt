@@ -1,7 +1,8 @@
-ghost use Rattle.std.specs.Prelude.{ℕ, ◌≡◌, ◌+◌, ◌<◌, ◌≤◌, length, map, IfOk, All};
+ghost use Rattle.std.specs.Prelude.{◌≡◌, ◌+◌, ◌<◌, ◌≤◌, length, map, IfOk, All};
 ghost use Rattle.std.specs.String.{string_bytes};
 ghost use Rattle.jass_base.specs.declared.query_term.QueryTerm.{QueryTerm};
 ghost use Rattle.query_reader.specs.Mentions.{words_as_mentions, named_of, unknown_of};
+ghost use Rattle.jass_base.specs.declared.limits.TheConstants.{MOST_TERM_WORDS};
 
 use crate::refusal::LineFault;
 use crate::tally::count_known;
@@ -15,7 +16,7 @@ pub fn name_terms<X: Lexicon>(
     words: &[String],
     index: &X,
 ) -> Result<Query, NoMemory>
-    requires { length words.now ≤ 255 }
+    requires { length words.now ≤ MOST_TERM_WORDS }
     ensures id { IfOk result (λ query. query.id ≡ id.now) }
     ensures terms { IfOk result (λ query. query.terms
         ≡ named_of (X.terms index.now) (words_as_mentions (map string_bytes words.now))) }

@@ -1,11 +1,13 @@
-ghost use Rattle.std.specs.Prelude.{ℕ, ◌≡◌, ◌+◌, ◌<◌, ◌≤◌, ◌^◌, length};
+ghost use Rattle.std.specs.Prelude.{◌≡◌, ◌+◌, ◌<◌, ◌≤◌, ◌^◌, length};
 ghost use Rattle.std.specs.Option.{option_map, option_and_then};
-ghost use Rattle.query_reader.specs.Texts.{factor_of, is_blank, at_last_caret, weighted, plain_mention, plain_mentions};
+ghost use Rattle.query_reader.specs.Texts.{factor_of, is_blank, at_last_caret, weighted, plain_mention, plain_mentions, blank_runs};
 ghost use Rattle.query_reader.specs.Private.Tally.{CountsIn, all_counted_in};
-ghost use Rattle.query_reader.specs.Slices.{FindsRun, BeginsWithout, blank_runs, mention_data};
+ghost use Rattle.query_reader.specs.Private.Slices.{mention_data};
+ghost use Rattle.query_reader.specs.Slices.{FindsRun, BeginsWithout};
 
 use crate::refusal::LineFault;
 use crate::tally::Tally;
+use jass_base::limits::MOST_TIMES;
 use jass_base::{Lexicon, read_decimal};
 use memchr::{memchr2, memrchr};
 
@@ -93,7 +95,7 @@ fn read_factor(text: &[u8]) -> Option<u8>
         return None;
     }
     match read_decimal(text) {
-        Some(factor) if factor >= 1 && factor <= 255 => Some(factor as u8),
+        Some(factor) if factor >= 1 && factor <= MOST_TIMES => Some(factor as u8),
         _ => None,
     }
 }

@@ -1,10 +1,12 @@
-ghost use Rattle.std.specs.Prelude.{ℕ, ◌≡◌, ◌+◌, ◌<◌, ◌≤◌, ◌^◌, length, All, IfOk};
+ghost use Rattle.std.specs.Prelude.{◌+◌, ◌<◌, ◌≤◌, ◌^◌, length, All, IfOk};
 ghost use Rattle.jass_base.specs.declared.query_term.QueryTerm.{QueryTerm};
 ghost use Rattle.query_reader.specs.Texts.{mentions_of};
 ghost use Rattle.query_reader.specs.Queries.{query_data};
-ghost use Rattle.query_reader.specs.Refusals.{Answers, LineAnswers, at_line};
+ghost use Rattle.query_reader.specs.Refusals.{Answers, at_line};
+ghost use Rattle.query_reader.specs.Private.Lines.{LineAnswers};
 ghost use Rattle.query_reader.specs.Reading.{read_mentions};
 ghost use Rattle.query_reader.specs.Private.Tally.{CountsIn, all_counted_in};
+ghost use Rattle.jass_base.specs.declared.limits.TheConstants.{LONGEST_LINE};
 
 use crate::folded::count_folded;
 use crate::mode::Mode;
@@ -23,7 +25,7 @@ pub fn read_terms<X: Lexicon>(
     mode: Mode,
     index: &X,
 ) -> Result<Query, QueryFault>
-    requires { length text.now ≤ 1048576 }
+    requires { length text.now ≤ LONGEST_LINE }
     ensures query { Answers query_data result
         (at_line 1 (read_mentions (X.terms index.now) id.now (mentions_of mode text.now))) }
     ensures known { IfOk result (λ query. All (λ (n : QueryTerm). n.term < length (X.terms index.now)) query.terms) }
@@ -42,7 +44,7 @@ pub fn read_query<X: Lexicon>(
     mode: Mode,
     index: &X,
 ) -> Result<Query, LineFault>
-    requires { length text.now ≤ 1048576 }
+    requires { length text.now ≤ LONGEST_LINE }
     ensures query { LineAnswers query_data result
         (read_mentions (X.terms index.now) id.now (mentions_of mode text.now)) }
     ensures known { IfOk result (λ query. All (λ (n : QueryTerm). n.term < length (X.terms index.now)) query.terms) }

@@ -1,5 +1,6 @@
 ghost use Rattle.std.specs.Prelude.{◌≡◌};
-ghost use Rattle.query_reader.specs.Refusals.{number_of, fault_at};
+ghost use Rattle.query_reader.specs.Refusals.{number_of};
+ghost use Rattle.query_reader.specs.Private.Lines.{fault_at};
 
 /// Why bytes are no query file. The number of each refusal stands beside it.
 #[derive(Clone, Copy, Debug, PartialEq, Eq)]

@@ -1,14 +1,12 @@
-ghost use Rattle.std.specs.Prelude.{ℕ, ◌≡◌, ◌+◌, ◌<◌, ◌^◌, [], None};
+ghost use Rattle.std.specs.Prelude.{◌≡◌, ◌+◌, ◌<◌, ◌^◌, [], None};
 ghost use Rattle.query_reader.specs.Reading.{broken_limit};
 ghost use Rattle.query_reader.specs.Private.Tally.{TallyData, CountsIn, TalliesIn, counted_in};
 
 use crate::refusal::{LineFault, QueryWhy};
 use jass_base::QueryTerm;
+use jass_base::limits::MOST_QUERY_TERMS;
 use std::alloc::Global;
 use std::marker::Model;
-
-/// The most known terms of a query.
-const MOST_QUERY_TERMS: usize = 256;
 
 /// What the mentions so far name: known terms by first mention, and the number of the others.
 #[derive(Drop)]

@@ -1,6 +1,6 @@
 // Query files over a few terms, plain and folded, and what is refused.
 
-ghost use Rattle.std.specs.Prelude.{ℕ, [], ◌∷◌, codes};
+ghost use Rattle.std.specs.Prelude.{[], ◌∷◌, codes};
 
 use crate::{Mode, QueryFault, name_terms, read_queries, read_terms};
 use jass_base::{Lexicon, Query};

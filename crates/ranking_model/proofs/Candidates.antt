@@ -1,18 +1,8 @@
 -- The ranking from a part of the hits of some scores, and from candidates among which the first are.
-use Rattle.std.proofs.Common.{◌≡◌, ◌≢◌, ℕ, zero, suc, ◌+◌, ◌<◌, ◌≤◌, ◌==◌, List, [], ◌∷◌, ◌++◌, length, take, drop, get_or, sum_by, count_by, Bool, true, false, cond, refl, sym, ap, subst, ◌∙◌, arith, inl, inr, ◌⊎◌, eq-eqb, if◌then◌else◌}
-use Rattle.std.specs.Prelude.{IsPermutation, IsSorted, Contains, nat_le}
-use Rattle.std.specs.List.{AllByRecursion}
-use Rattle.std.specs.declared.cmp.Ordering.{Ordering}
-use Rattle.std.specs.Ordering.{is_gt}
-use Rattle.std.specs.FinMap.{IsAntisymmetric}
-use Rattle.std.specs.Cmp.{IsTotalOrder}
-use Rattle.std.proofs.lemmas.Bool.{cases_lt, cases_eq}
-use Rattle.std.proofs.lemmas.Bool.Decides.{nat_tests}
-use Rattle.std.proofs.lemmas.List.{append-nil, take_all, length-take}
-use Rattle.std.proofs.lemmas.List.Sorted.{sum_by-IsPermutation, length_permutation, IsPermutation-refl, IsPermutation-cons, IsPermutation-trans, IsPermutation-middle, IsPermutation-append_left, IsPermutation-append_right}
-use Rattle.std.proofs.lemmas.List.Sums.{sum_by-cons, sum_by-append, sum_by-take-le}
-use Rattle.std.proofs.Math.Seq.{take-append_seam}
-use Rattle.std.proofs.Math.ListN.{drop_of_length-le}
+use Rattle.shared_lemmas.proofs.Common.{◌≡◌, ◌≢◌, ℕ, zero, suc, ◌+◌, ◌<◌, ◌≤◌, ◌==◌, List, [], ◌∷◌, ◌++◌, length, take, drop, get_or, sum_by, count_by, Bool, true, false, cond, refl, sym, ap, subst, ◌∙◌, arith, inl, inr, ◌⊎◌, eq-eqb, if◌then◌else◌, IsPermutation, IsSorted, Contains, nat_le}
+use Rattle.shared_lemmas.proofs.Common.{AllByRecursion, Ordering, is_gt, IsAntisymmetric, IsTotalOrder, cases_lt, cases_eq, nat_tests, take_all, length-take, sum_by-IsPermutation, length_permutation, IsPermutation-refl, IsPermutation-cons, IsPermutation-trans, IsPermutation-middle}
+use Rattle.shared_lemmas.proofs.Common.{IsPermutation-append_left, IsPermutation-append_right, sum_by-cons, sum_by-append, sum_by-take-le, take-append_seam, drop_of_length-le}
+use Rattle.std.proofs.lemmas.List.{append-nil}
 use Rattle.shared_lemmas.proofs.Pairs.{Pairs, pairs_by_recursion}
 use Rattle.shared_lemmas.proofs.Members.{In, in_from_contains, all_at, all_in}
 use Rattle.shared_lemmas.proofs.Lists.{all_weaker, all_take, all_drop}
@@ -74,7 +64,7 @@ in_placed {A} cmp z x (y ∷ ys) h = step (is_gt (cmp x y)) h (λ k. in_placed c
   step true (inr (inr there)) later = inr (later (inr there))
   step false k later = k
 
-in_sorted : {A : Type 0} (cmp : A → A → Ordering) (z : A) (xs : List A) → In z xs → In z (sorted cmp xs)
+pub in_sorted : {A : Type 0} (cmp : A → A → Ordering) (z : A) (xs : List A) → In z xs → In z (sorted cmp xs)
 in_sorted cmp z [] h = h
 in_sorted cmp z (x ∷ xs) (inl e) = in_placed cmp z x (sorted cmp xs) (inl e)
 in_sorted cmp z (x ∷ xs) (inr there) = in_placed cmp z x (sorted cmp xs) (inr (in_sorted cmp z xs there))
@@ -83,10 +73,7 @@ in_part : {A : Type 0} (z : A) (n : ℕ) (xs : List A) → In z xs → In z (tak
 in_part z n [] h = absurd h
 in_part z zero (x ∷ xs) h = inr h
 in_part z (suc n) (x ∷ xs) (inl e) = inl (inl e)
-in_part z (suc n) (x ∷ xs) (inr there) = by (in_part z n xs there) where
-  by : In z (take n xs) ⊎ In z (drop n xs) → In z (x ∷ take n xs) ⊎ In z (drop n xs)
-  by (inl k) = inl (inr k)
-  by (inr k) = inr k
+in_part z (suc n) (x ∷ xs) (inr there) = elim (in_part z n xs there) [ inl k ↦ inl (inr k) | inr k ↦ inr k ]
 
 -- ---- an item of a list, put in front
 
@@ -123,10 +110,7 @@ pull {A} x (y ∷ ys) (inr h) = behind y ys (pull x ys h) where
 
       turn : (z : A) → (z ≡ y) ⊎ In z ys → (z ≡ x) ⊎ ((z ≡ y) ⊎ In z pulled.rest)
       turn z (inl e) = inr (inl e)
-      turn z (inr k) = by (pulled.left z k) where
-        by : (z ≡ x) ⊎ In z pulled.rest → (z ≡ x) ⊎ ((z ≡ y) ⊎ In z pulled.rest)
-        by (inl e) = inl e
-        by (inr l) = inr (inr l)
+      turn z (inr k) = elim (pulled.left z k) [ inl e ↦ inl e | inr l ↦ inr (inr l) ]
 
 pub record Parted {A : Type 0} (front xs : List A) : Type 0 where
   pub others : List A
@@ -154,7 +138,7 @@ part {A} (x ∷ front) xs apart h = with_first (pull x xs h.0) (λ rest k. part 
 
 -- ---- hits of different documents
 
-abbrev count_doc : ℕ → List Hit → ℕ
+abbrev pub count_doc : ℕ → List Hit → ℕ
 count_doc d hits = sum_by (λ (h : Hit). cond (h.doc == d) 1 0) hits
 
 counted : (d : ℕ) (hits : List Hit) (h : Hit) → h.doc ≡ d → In h hits → 1 ≤ count_doc d hits
@@ -247,9 +231,7 @@ module _ (scores : List ℕ) (m : ℕ) (candidates : List Hit) (are : AreHitsOf 
   first_once : (d : ℕ) → count_doc d (first_ranked scores m) ≤ 1
   first_once d =
       let a = sum_by-take-le (λ (h : Hit). cond (h.doc == d) 1 0) (sorted rank_cmp (hits_from 0 scores)) m in
-      let b = sum_by-sorted rank_cmp (λ (h : Hit). cond (h.doc == d) 1 0) (hits_from 0 scores) in
-      let c = hits_once d 0 scores in
-      omega arith
+      omega (arith, sum_by-sorted rank_cmp (λ (h : Hit). cond (h.doc == d) 1 0) (hits_from 0 scores), hits_once d 0 scores)
 
   parted : Parted (first_ranked scores m) candidates
   parted = part (first_ranked scores m) candidates (apart_once (first_ranked scores m) first_once) (all_weaker (λ hit. Contains candidates hit) (λ hit. In hit candidates) (λ hit h. in_from_contains candidates hit h) (first_ranked scores m) there)
@@ -325,10 +307,7 @@ few_reach floor (suc m) (x ∷ xs) h order (inl e) low =
     let rest = none_reach floor x xs mine order.0 in
     rw (s, f) (omega arith)
 few_reach floor (suc m) (x ∷ xs) h order (inr there) low =
-    let s = sum_by-cons (reaching floor) x xs in
-    let rest = few_reach floor m xs h order.1 there low in
-    let one : reaching floor x ≤ 1 = at_most_one (nat_le floor x.score) in
-    omega arith
+    omega (arith, sum_by-cons (reaching floor) x xs, few_reach floor m xs h order.1 there low, at_most_one (nat_le floor x.score))
   where
     at_most_one : (b : Bool) → cond {A = ℕ} b 1 0 ≤ 1
     at_most_one true = omega arith
@@ -352,8 +331,7 @@ first_down_to scores m floor candidates are has enough = first_of_candidates sco
   more =
       let a = sum_by-sorted rank_cmp (reaching floor) (hits_from 0 scores) in
       let b = sum_by-IsPermutation (reaching floor) (hits_from 0 scores) (candidates ++ rest.others) rest.moved in
-      let c = sum_by-append (reaching floor) candidates rest.others in
-      omega arith
+      omega (arith, sum_by-append (reaching floor) candidates rest.others)
 
   there : (h : Hit) → In h (first_ranked scores m) → Contains candidates h
   there h first = by (cases_lt h.score floor) enough where

@@ -1,8 +1,5 @@
 -- The documents of an answer are those of the index.
-use Rattle.std.proofs.Common.{◌≡◌, ℕ, zero, suc, ◌+◌, ◌<◌, ◌≤◌, ◌==◌, Bool, true, false, List, [], ◌∷◌, length, take, sum_by, if◌then◌else◌, subst, arith}
-use Rattle.std.specs.Prelude.{All}
-use Rattle.std.specs.List.{AllByRecursion}
-use Rattle.std.proofs.lemmas.List.FromFn.{length-map-range_with_len}
+use Rattle.shared_lemmas.proofs.Common.{◌≡◌, ℕ, ◌+◌, ◌<◌, ◌≤◌, ◌==◌, Bool, true, false, List, [], ◌∷◌, length, take, sum_by, if◌then◌else◌, subst, arith, All, AllByRecursion, length-map-range_with_len, All-from_recursion}
 use Rattle.shared_lemmas.proofs.Lists.{all_take}
 use Rattle.jass_base.specs.declared.answer.Hit.{Hit}
 use Rattle.ranking_model.specs.Order.{sorted}
@@ -20,16 +17,10 @@ hits_below limit doc (score ∷ scores) within = step (score == 0) (hits_below l
 pub ranked_below : (scores : List ℕ) (m : ℕ) → AllByRecursion (λ (hit : Hit). hit.doc < length scores) (first_ranked scores m)
 ranked_below scores m = all_take (λ (hit : Hit). hit.doc < length scores) m (sorted rank_cmp (hits_from 0 scores)) (all_sorted rank_cmp (λ (hit : Hit). hit.doc < length scores) (hits_from 0 scores) (hits_below (length scores) 0 scores (omega arith)))
 
--- each of a list, by places
-pub by_places : {A : Type 0} (P : A → Type 0) (xs : List A) → AllByRecursion P xs → All P xs
-by_places P [] h k d inside = absurd (omega arith)
-by_places P (x ∷ xs) h zero d inside = h.0
-by_places P (x ∷ xs) h (suc k) d inside = by_places P xs h.1 k d (omega arith)
-
 -- there is a score for each document
 pub scores_all : (n : ℕ) (plan : QueryPlan) → length (scores_after n plan) ≡ plan.docs
 scores_all n plan = length-map-range_with_len (λ doc. sum_by (gain_of doc) (take n plan.segments)) 0 plan.docs
 
 pub answer_below : (n : ℕ) (plan : QueryPlan) (k : ℕ) → All (λ (hit : Hit). hit.doc < plan.docs) (top_k n plan k)
 answer_below n plan k =
-    by_places (λ (hit : Hit). hit.doc < plan.docs) (top_k n plan k) (subst (λ limit. AllByRecursion (λ (hit : Hit). hit.doc < limit) (top_k n plan k)) (scores_all n plan) (ranked_below (scores_after n plan) k))
+    All-from_recursion (λ (hit : Hit). hit.doc < plan.docs) (top_k n plan k) (subst (λ limit. AllByRecursion (λ (hit : Hit). hit.doc < limit) (top_k n plan k)) (scores_all n plan) (ranked_below (scores_after n plan) k))

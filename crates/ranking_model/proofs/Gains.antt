@@ -1,6 +1,5 @@
 -- An answer to which nothing can be added is settled, and one whose documents some gains change is open.
-use Rattle.std.proofs.Common.{◌≡◌, ◌+◌, ℕ, List, [], ◌∷◌, refl, ap, sum_by, arith}
-use Rattle.std.proofs.lemmas.List.Sorted.{sum_by-IsPermutation}
+use Rattle.shared_lemmas.proofs.Common.{◌≡◌, ◌+◌, ℕ, List, [], ◌∷◌, refl, ap, sum_by, arith, sum_by-IsPermutation}
 use Rattle.jass_base.specs.declared.answer.Grade.TheVariants.{Open}
 use Rattle.ranking_model.specs.Finality.{AreGains, raised, first_documents, IsSettled, IsGrade}
 

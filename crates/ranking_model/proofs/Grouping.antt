@@ -1,11 +1,8 @@
 -- What holds of postings, of the segments that they are grouped into, and of these in the plan's order.
-use Rattle.std.proofs.Common.{◌≡◌, ℕ, suc, ◌+◌, ◌≤◌, List, [], ◌∷◌, ◌++◌, length, true, false, refl, sym, ◌∙◌, arith, zero-add, inl, inr, ◌⊎◌, fold, sum_by}
-use Rattle.std.specs.List.{AllByRecursion}
-use Rattle.std.proofs.lemmas.List.Sums.{sum_by-cons}
+use Rattle.shared_lemmas.proofs.Common.{◌≡◌, ℕ, suc, ◌+◌, ◌≤◌, List, [], ◌∷◌, ◌++◌, length, true, false, refl, sym, ◌∙◌, arith, zero-add, inl, inr, ◌⊎◌, fold, sum_by, AllByRecursion, sum_by-cons, cases_Bool}
 use Rattle.ranking_model.specs.declared.plan_segment.PlanSegment.{PlanSegment}
 use Rattle.ranking_model.specs.declared.posting.WeightedPosting.{WeightedPosting}
 use Rattle.ranking_model.specs.Plan.{plan_cmp, is_of, begun, joined, plan_segments}
-use Rattle.std.proofs.lemmas.Bool.{cases_Bool}
 use Rattle.ranking_model.proofs.Sorting.{sum_by-sorted, all_sorted}
 
 -- a segment with one document more
@@ -36,10 +33,8 @@ module _ (f : PlanSegment → ℕ) (g : WeightedPosting → ℕ) (first : (p : W
 module _ (P : PlanSegment → Type 0) (Q : WeightedPosting → Type 0) (first : (p : WeightedPosting) → Q p → P (begun p)) (next : (c : PlanSegment) (p : WeightedPosting) → is_of c p ≡ true → P c → Q p → P (more c p.doc)) where
   joined_all : (cs : List PlanSegment) (p : WeightedPosting) → AllByRecursion P cs → Q p → AllByRecursion P (joined cs p)
   joined_all [] p h q = (first p q, tt)
-  joined_all (c ∷ cs) p h q = by (cases_Bool (is_of c p)) (joined_all cs p h.1 q) where
-    by : (is_of c p ≡ true) ⊎ (is_of c p ≡ false) → AllByRecursion P (joined cs p) → AllByRecursion P (joined (c ∷ cs) p)
-    by (inl t) rest = rw t (next c p t h.0 q, h.1)
-    by (inr e) rest = rw e (h.0, rest)
+  joined_all (c ∷ cs) p h q =
+      let rest = joined_all cs p h.1 q in elim (cases_Bool (is_of c p)) [ inl t ↦ rw t (next c p t h.0 q, h.1) | inr e ↦ rw e (h.0, rest) ]
 
   grouped_all : (cs : List PlanSegment) (ps : List WeightedPosting) → AllByRecursion P cs → AllByRecursion Q ps → AllByRecursion P (fold joined cs ps)
   grouped_all cs [] h q = h
@@ -50,10 +45,7 @@ module _ (P : PlanSegment → Type 0) (Q : WeightedPosting → Type 0) (first : 
 
 joined_length : (cs : List PlanSegment) (p : WeightedPosting) → length (joined cs p) ≤ suc (length cs)
 joined_length [] p = omega arith
-joined_length (c ∷ cs) p = by (cases_Bool (is_of c p)) (joined_length cs p) where
-  by : (is_of c p ≡ true) ⊎ (is_of c p ≡ false) → length (joined cs p) ≤ suc (length cs) → length (joined (c ∷ cs) p) ≤ suc (suc (length cs))
-  by (inl t) rest = rw t (omega arith)
-  by (inr e) rest = rw e (omega arith)
+joined_length (c ∷ cs) p = let rest = joined_length cs p in elim (cases_Bool (is_of c p)) [ inl t ↦ rw t (omega arith) | inr e ↦ rw e (omega arith) ]
 
 grouped_length : (cs : List PlanSegment) (ps : List WeightedPosting) → length (fold joined cs ps) ≤ length cs + length ps
 grouped_length cs [] = omega arith
@@ -63,5 +55,4 @@ grouped_length cs (p ∷ ps) = let one = joined_length cs p in let rest = groupe
 pub plan_length : (ps : List WeightedPosting) → length (plan_segments ps) ≤ length ps
 plan_length ps =
     let same : length (plan_segments ps) ≡ length (fold joined [] ps) = sym (length_sum (plan_segments ps)) ∙ sum_by-sorted plan_cmp (λ c. 1) (fold joined [] ps) ∙ length_sum (fold joined [] ps) in
-    let rest = grouped_length [] ps in
-    omega arith
+    omega (arith, grouped_length [] ps)

@@ -1,16 +1,9 @@
 -- One segment more, one grant more, a prefix that is resumed, and a sort through a map.
-use Rattle.std.proofs.Common.{◌≡◌, ℕ, zero, suc, ◌+◌, ◌-◌, ◌*◌, ◌<◌, ◌≤◌, ◌==◌, min, List, [], ◌∷◌, ◌++◌, map, length, take, drop, get_or, set, sum_by, count_by, ◌^◌, Bool, true, false, cond, refl, sym, ap, subst, ◌∙◌, arith, inl, inr, ◌⊎◌, Some, eq-eqb, get_or-set_same, get_or-set_other}
-use Rattle.std.specs.Prelude.{All, slice_get}
-use Rattle.std.specs.declared.cmp.Ordering.{Ordering}
-use Rattle.std.specs.Ordering.{is_gt, nat_cmp}
-use Rattle.std.proofs.lemmas.Bool.{cases_lt, cases_eq}
-use Rattle.std.proofs.lemmas.Bool.Decides.{nat_tests}
-use Rattle.std.proofs.lemmas.List.{ext_get_or, get_or_default, length-drop, length-set}
-use Rattle.std.proofs.lemmas.List.Elements.{recursion_from_All, All-from_recursion}
-use Rattle.std.proofs.lemmas.List.FromFn.{length-map-range_with_len, get_or-map-range_with_len}
-use Rattle.std.proofs.lemmas.List.Sums.{sum_by-cons, sum_by-append, sum_by_push}
-use Rattle.std.proofs.Math.Nat.{mul-le-mul}
-use Rattle.std.proofs.Math.Seq.{take-add, drop-cons}
+use Rattle.shared_lemmas.proofs.Common.{◌≡◌, ℕ, zero, suc, ◌+◌, ◌-◌, ◌*◌, ◌<◌, ◌≤◌, ◌==◌, min, List, [], ◌∷◌, ◌++◌, map, length, take, drop, get_or, set, sum_by, count_by, ◌^◌, Bool, true, false, cond, refl, sym, ap, subst, ◌∙◌, arith, inl, inr, ◌⊎◌, Some, eq-eqb, get_or-set_same, get_or-set_other}
+use Rattle.shared_lemmas.proofs.Common.{All, slice_get, ⊤, Ordering, is_gt, nat_cmp, cases_lt, cases_eq, nat_tests, ext_get_or, get_or_default, length-drop, recursion_from_All, All-from_recursion, length-map-range_with_len, get_or-map-range_with_len, sum_by-cons, sum_by-append, sum_by_push}
+use Rattle.shared_lemmas.proofs.Common.{mul-le-mul, take-add, AllByRecursion}
+use Rattle.std.proofs.lemmas.List.{length-set}
+use Rattle.std.proofs.Math.Seq.{drop-cons}
 use Rattle.jass_base.specs.declared.answer.Budget.{Budget}
 use Rattle.jass_base.specs.declared.query_term.QueryTerm.{QueryTerm}
 use Rattle.ranking_model.specs.declared.entry.Entry.{Entry}
@@ -27,6 +20,8 @@ use Rattle.ranking_model.specs.Search.{prefix_granted, prefixes_granted}
 use Rattle.ranking_model.proofs.Totals.{prefix_is}
 use Rattle.ranking_model.proofs.Parting.{prefix_there, prefix_fits, prefix_longest}
 use Rattle.ranking_model.proofs.Weighing.{weighted_all, for_each}
+use Rattle.ranking_model.proofs.Sorting.{all_sorted}
+use Rattle.shared_lemmas.proofs.Lists.{all_of}
 
 -- ---- one segment more
 
@@ -118,9 +113,7 @@ resumed before budget n segments is more = prefix_is segments budget (n + p) the
   fits : size_of_first (n + prefix_within (budget - size_of_first n segments) (drop n segments)) segments ≤ budget
   fits =
       let a = size_split n (prefix_within (budget - size_of_first n segments) (drop n segments)) segments in
-      let b = prefix_fits (budget - size_of_first n segments) (drop n segments) in
-      let c = paid in
-      omega arith
+      omega (arith, prefix_fits (budget - size_of_first n segments) (drop n segments), paid)
 
   stops : n + prefix_within (budget - size_of_first n segments) (drop n segments) < length segments → budget < size_of_first (n + prefix_within (budget - size_of_first n segments) (drop n segments) + 1) segments
   stops less = by (cases_lt (budget - size_of_first n segments) (size_of_first (prefix_within (budget - size_of_first n segments) (drop n segments) + 1) (drop n segments))) where
@@ -158,16 +151,20 @@ weighted_light docs flat terms f times = All-from_recursion (λ p. p.weight ≤ 
     for_each (λ (named : QueryTerm) (e : Entry ℕ). e.impact * named.times ≤ 16711425) (λ (named : QueryTerm). named.times ≤ 255) (λ (e : Entry ℕ). (1 ≤ e.impact) × (e.impact ≤ 65535)) terms flat
     (λ named e a b. mul-le-mul b.1 a) (recursion_from_All _ terms times) (recursion_from_All _ flat f.impacts)))
 
--- ---- a sort through a map
+-- ---- a sort through a map that keeps the order of some items
 
-module _ {A B : Type 0} (f : A → B) (cmp : A → A → Ordering) (mapped : B → B → Ordering) (same : (x y : A) → mapped (f x) (f y) ≡ cmp x y) where
-  placed_map : (x : A) (ys : List A) → placed mapped (f x) (map f ys) ≡ map f (placed cmp x ys)
-  placed_map x [] = refl
-  placed_map x (y ∷ ys) = rw (same x y) (step (is_gt (cmp x y)) (placed_map x ys)) where
+module _ {A B : Type 0} (f : A → B) (P : A → Type 0) (cmp : A → A → Ordering) (mapped : B → B → Ordering) (same : (x y : A) → P x → P y → mapped (f x) (f y) ≡ cmp x y) where
+  placed_map : (x : A) (ys : List A) → P x → AllByRecursion P ys → placed mapped (f x) (map f ys) ≡ map f (placed cmp x ys)
+  placed_map x [] p h = refl
+  placed_map x (y ∷ ys) p h = rw (same x y p h.0) (step (is_gt (cmp x y)) (placed_map x ys p h.1)) where
     step : (b : Bool) → placed mapped (f x) (map f ys) ≡ map f (placed cmp x ys) → cond b (f y ∷ placed mapped (f x) (map f ys)) (f x ∷ f y ∷ map f ys) ≡ map f (cond b (y ∷ placed cmp x ys) (x ∷ y ∷ ys))
     step true rest = ap (λ l. f y ∷ l) rest
     step false rest = refl
 
-  pub sorted_map : (xs : List A) → sorted mapped (map f xs) ≡ map f (sorted cmp xs)
-  sorted_map [] = refl
-  sorted_map (x ∷ xs) = ap (placed mapped (f x)) (sorted_map xs) ∙ placed_map x (sorted cmp xs)
+  pub sorted_map_where : (xs : List A) → AllByRecursion P xs → sorted mapped (map f xs) ≡ map f (sorted cmp xs)
+  sorted_map_where [] h = refl
+  sorted_map_where (x ∷ xs) h = ap (placed mapped (f x)) (sorted_map_where xs h.1) ∙ placed_map x (sorted cmp xs) h.0 (all_sorted cmp P xs h.1)
+
+-- of all items
+pub sorted_map : {A B : Type 0} (f : A → B) (cmp : A → A → Ordering) (mapped : B → B → Ordering) → ((x y : A) → mapped (f x) (f y) ≡ cmp x y) → (xs : List A) → sorted mapped (map f xs) ≡ map f (sorted cmp xs)
+sorted_map f cmp mapped same xs = sorted_map_where f (λ x. ⊤) cmp mapped (λ x y p q. same x y) xs (all_of (λ x. ⊤) (λ x. tt) xs)

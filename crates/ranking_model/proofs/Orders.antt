@@ -1,10 +1,5 @@
 -- Laws of the orders of the definitions: each is total, and only equal entries, or equal hits, tie.
-use Rattle.std.proofs.Common.{◌≡◌, length, sym}
-use Rattle.std.specs.declared.cmp.Ordering.{Ordering}
-use Rattle.std.specs.Ordering.{nat_cmp, ordering_then}
-use Rattle.std.specs.Cmp.{IsTotalOrder}
-use Rattle.std.proofs.lemmas.Cmp.{then_total, on_total, back_total, nat_cmp_total}
-use Rattle.std.specs.FinMap.{IsAntisymmetric, nat_cmp-IsAntisymmetric}
+use Rattle.shared_lemmas.proofs.Common.{◌≡◌, length, sym, Ordering, nat_cmp, ordering_then, IsTotalOrder, then_total, on_total, back_total, nat_cmp_total, IsAntisymmetric, nat_cmp-IsAntisymmetric}
 use Rattle.jass_base.specs.declared.answer.Hit.{Hit}
 use Rattle.ranking_model.specs.declared.entry.Entry.{Entry}
 use Rattle.ranking_model.specs.declared.plan_segment.PlanSegment.{PlanSegment}

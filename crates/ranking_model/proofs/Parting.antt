@@ -1,16 +1,11 @@
 -- The plan's weights fall, so a prefix of it is parted from the rest by weight, and is the heaviest of its size.
-use Rattle.std.proofs.Common.{◌≡◌, ℕ, zero, suc, ◌+◌, ◌-◌, ◌*◌, ◌<◌, ◌≤◌, List, [], ◌∷◌, length, take, drop, Bool, true, false, true≢false, refl, sym, ap, ◌∙◌, arith, inl, inr, ◌⊎◌, sum_by, fold, ◌++◌, length-append}
-use Rattle.std.specs.Prelude.{⊤, nat_le}
-use Rattle.std.specs.List.{AllByRecursion, items_where_true}
-use Rattle.std.specs.Ordering.{is_gt}
-use Rattle.std.proofs.lemmas.Bool.{leb-true, le-leb, cases_lt}
-use Rattle.std.proofs.lemmas.Bool.Decides.{nat_tests}
-use Rattle.std.proofs.lemmas.List.Sums.{sum_by-cons, sum_by-take-drop}
+use Rattle.shared_lemmas.proofs.Common.{◌≡◌, ℕ, zero, suc, ◌+◌, ◌-◌, ◌*◌, ◌<◌, ◌≤◌, List, [], ◌∷◌, length, take, drop, Bool, true, false, true≢false, refl, sym, ap, ◌∙◌, arith, inl, inr, ◌⊎◌, sum_by, fold, ◌++◌, ⊤, nat_le, AllByRecursion, items_where_true, is_gt, leb-true, le-leb, cases_lt}
+use Rattle.shared_lemmas.proofs.Common.{nat_tests, sum_by-cons, sum_by-take-drop, cases_Bool}
+use Rattle.std.proofs.Common.{length-append}
 use Rattle.ranking_model.specs.declared.posting.WeightedPosting.{WeightedPosting}
 use Rattle.ranking_model.specs.declared.plan_segment.PlanSegment.{PlanSegment}
 use Rattle.ranking_model.specs.Plan.{joined, is_of, plan_cmp, plan_segments, size_of_first, greatest_up_to, prefix_within, weight_at, cutoff_after, next_after}
 use Rattle.ranking_model.specs.Heaviest.{IsHeaviest}
-use Rattle.std.proofs.lemmas.Bool.{cases_Bool}
 use Rattle.ranking_model.proofs.Sorting.{Ascends, sorted_ascends}
 use Rattle.ranking_model.proofs.Orders.{plan_total}
 use Rattle.ranking_model.proofs.Grouping.{more, segments_sum}
@@ -19,17 +14,12 @@ use Rattle.ranking_model.proofs.Grouping.{more, segments_sum}
 
 greatest_within : (n : ℕ) (test : ℕ → Bool) → greatest_up_to n test ≤ n
 greatest_within zero test = omega arith
-greatest_within (suc n) test = by (cases_Bool (test (suc n))) (greatest_within n test) where
-  by : (test (suc n) ≡ true) ⊎ (test (suc n) ≡ false) → greatest_up_to n test ≤ n → greatest_up_to (suc n) test ≤ suc n
-  by (inl t) rest = rw t (omega arith)
-  by (inr f) rest = rw f (omega arith)
+greatest_within (suc n) test =
+    let rest = greatest_within n test in elim (cases_Bool (test (suc n))) [ inl t ↦ rw t (omega arith) | inr f ↦ rw f (omega arith) ]
 
 greatest_passes : (n : ℕ) (test : ℕ → Bool) → test 0 ≡ true → test (greatest_up_to n test) ≡ true
 greatest_passes zero test start = start
-greatest_passes (suc n) test start = by (cases_Bool (test (suc n))) (greatest_passes n test start) where
-  by : (test (suc n) ≡ true) ⊎ (test (suc n) ≡ false) → test (greatest_up_to n test) ≡ true → test (greatest_up_to (suc n) test) ≡ true
-  by (inl t) rest = rw t t
-  by (inr f) rest = rw f rest
+greatest_passes (suc n) test start = let rest = greatest_passes n test start in elim (cases_Bool (test (suc n))) [ inl t ↦ rw t t | inr f ↦ rw f rest ]
 
 greatest_greatest : (n j : ℕ) (test : ℕ → Bool) → j ≤ n → test j ≡ true → j ≤ greatest_up_to n test
 greatest_greatest zero j test h passes = h
@@ -175,7 +165,5 @@ heaviest (suc n) ps choice size =
     let b = choice_le (λ (p : WeightedPosting). p.weight - cut) choice ps in
     let total = segments_sum (excess cut) (λ p. p.weight - cut) (first_excess cut) (next_excess cut) ps in
     let parts = sum_by-take-drop (excess cut) (plan_segments ps) (suc n) in
-    let front = full cut (take (suc n) (plan_segments ps)) (scored ps (suc n)) in
     let back = none cut (drop (suc n) (plan_segments ps)) (all_up_to _ cut _ (parted ps (suc n) (omega arith)) (unscored ps (suc n))) in
-    let count : cut * length chosen ≡ cut * sum_by (λ (segment : PlanSegment). length segment.docs) (take (suc n) (plan_segments ps)) = ap (λ k. cut * k) size in
-    omega arith
+    omega (arith, full cut (take (suc n) (plan_segments ps)) (scored ps (suc n)), ap (λ k. cut * k) size)

@@ -1,17 +1,11 @@
 -- Postings in order by place and weight join the last segment or begin one behind it.
-use Rattle.std.proofs.Common.{◌≡◌, ℕ, suc, ◌+◌, ◌<◌, ◌≤◌, List, [], ◌∷◌, ◌++◌, length, get_or, set, take, drop, fold, zero, Bool, true, false, true≢false, refl, sym, ap, ◌∙◌, subst, arith}
-use Rattle.std.proofs.lemmas.Bool.Decides.{nat_tests}
-use Rattle.std.proofs.Math.Seq.{drop-cons}
-use native.Mathlib.Numerals.{unary_clauses, add-one}
-use Rattle.std.proofs.lemmas.List.Sums.{fold_more}
-use Rattle.std.specs.Prelude.{⊤}
-use Rattle.std.specs.List.{AllByRecursion}
-use Rattle.std.specs.Ordering.{is_gt}
-use Rattle.std.specs.Cmp.{IsTotalOrder}
-use Rattle.std.proofs.lemmas.Cmp.{then_total, on_total, back_total, nat_cmp_total}
+use Rattle.shared_lemmas.proofs.Common.{◌≡◌, ℕ, suc, ◌+◌, ◌<◌, ◌≤◌, List, [], ◌∷◌, ◌++◌, length, get_or, set, take, drop, fold, zero, Bool, true, false, true≢false, refl, sym, ap, ◌∙◌, subst, arith, nat_tests, fold_more, ⊤, AllByRecursion, is_gt, IsTotalOrder, then_total, on_total, back_total}
+use Rattle.shared_lemmas.proofs.Common.{nat_cmp_total, drop_more}
+use native.Mathlib.Numerals.{unary_clauses}
 use Rattle.ranking_model.specs.declared.plan_segment.PlanSegment.{PlanSegment}
 use Rattle.ranking_model.specs.declared.posting.WeightedPosting.{WeightedPosting}
-use Rattle.ranking_model.specs.Programs.{ends_in, last_with, place_cmp}
+use Rattle.ranking_model.specs.Programs.{place_cmp}
+use Rattle.ranking_model.specs.Private.Programs.{ends_in, last_with}
 use Rattle.ranking_model.specs.Plan.{is_of, begun, joined}
 use Rattle.ranking_model.proofs.Sorting.{Ascends}
 
@@ -93,16 +87,13 @@ pub record Grouped (cs : List PlanSegment) (ps : List WeightedPosting) (i : ℕ)
   pub ready : Ready cs (drop i ps)
   pub order : Ascends place_cmp (drop i ps)
 
-one_more : (i : ℕ) (ps : List WeightedPosting) (d : WeightedPosting) → i < length ps → drop i ps ≡ get_or ps i d ∷ drop (i + 1) ps
-one_more i ps d h = rw (add-one) (drop-cons ps i d h)
-
 fold_on : (i : ℕ) (ps : List WeightedPosting) (d : WeightedPosting) (acc : List PlanSegment) → i < length ps → fold joined acc (take (i + 1) ps) ≡ joined (fold joined acc (take i ps)) (get_or ps i d)
 fold_on i ps d acc h = fold_more joined acc ps i d h
 
 pub grouped_joins : (cs seen new : List PlanSegment) (ps : List WeightedPosting) (i : ℕ) (d : WeightedPosting) (answer : Bool) → i < length ps → Grouped cs ps i → seen ≡ cs → answer ≡ ends_in seen (get_or ps i d) → answer ≡ true → new ≡ last_with cs (get_or ps i d).doc → Grouped new ps (i + 1)
 grouped_joins cs seen new ps i d answer h g same_list told was is =
     let e : ends_in cs (get_or ps i d) ≡ true = ap (λ l. ends_in l (get_or ps i d)) (sym same_list) ∙ sym told ∙ was in
-    let split = one_more i ps d h in
+    let split = drop_more ps i d h in
     let order = rw split at g.order in
     let step = joins cs (get_or ps i d) (drop (i + 1) ps) (rw split at g.ready) order e in
     record {
@@ -114,7 +105,7 @@ grouped_joins cs seen new ps i d answer h g same_list told was is =
 pub grouped_begins : (cs seen new : List PlanSegment) (ps : List WeightedPosting) (i : ℕ) (d : WeightedPosting) (answer : Bool) → i < length ps → Grouped cs ps i → seen ≡ cs → answer ≡ ends_in seen (get_or ps i d) → answer ≡ false → new ≡ cs ++ begun (get_or ps i d) ∷ [] → Grouped new ps (i + 1)
 grouped_begins cs seen new ps i d answer h g same_list told was is =
     let e : ends_in cs (get_or ps i d) ≡ false = ap (λ l. ends_in l (get_or ps i d)) (sym same_list) ∙ sym told ∙ was in
-    let split = one_more i ps d h in
+    let split = drop_more ps i d h in
     let order = rw split at g.order in
     let step = begins cs (get_or ps i d) (drop (i + 1) ps) (rw split at g.ready) order e in
     record {

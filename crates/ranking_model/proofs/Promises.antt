@@ -1,8 +1,5 @@
 -- A report keeps what it promises: its numbers are the plan's, and its grade is for all gains up to the bound.
-use Rattle.std.proofs.Common.{◌≡◌, ℕ, ◌≤◌, List, take, drop, sym, ap, subst, ◌∙◌}
-use Rattle.std.specs.Prelude.{IsPermutation}
-use Rattle.std.specs.List.{AllByRecursion}
-use Rattle.std.specs.Ordering.{nat_cmp}
+use Rattle.shared_lemmas.proofs.Common.{◌≡◌, ℕ, ◌≤◌, List, take, drop, sym, ap, subst, ◌∙◌, IsPermutation, AllByRecursion, nat_cmp, IsPermutation-refl}
 use Rattle.jass_base.specs.declared.answer.Report.{Report}
 use Rattle.jass_base.specs.declared.query_term.QueryTerm.{QueryTerm}
 use Rattle.ranking_model.specs.declared.entry.Entry.{Entry}
@@ -17,11 +14,14 @@ use Rattle.ranking_model.specs.Promises.{IsPromised}
 use Rattle.ranking_model.proofs.Parting.{scored, unscored, parted, heaviest}
 use Rattle.ranking_model.proofs.Rest.{later_scores}
 
-settled_later : (scores later : List ℕ) (k bound : ℕ) → GainsUpTo bound scores later → IsSettled scores k bound → first_documents later k ≡ first_documents scores k
+pub settled_later : (scores later : List ℕ) (k bound : ℕ) → GainsUpTo bound scores later → IsSettled scores k bound → first_documents later k ≡ first_documents scores k
 settled_later scores later k bound g settled = ap (λ s. first_documents s k) (sym g.reach) ∙ settled g.gains g.within
 
-kept_later : (scores later : List ℕ) (k bound : ℕ) → GainsUpTo bound scores later → IsKept scores k bound → IsPermutation (first_documents scores k) (first_documents later k)
+pub kept_later : (scores later : List ℕ) (k bound : ℕ) → GainsUpTo bound scores later → IsKept scores k bound → IsPermutation (first_documents scores k) (first_documents later k)
 kept_later scores later k bound g kept = subst (λ s. IsPermutation (first_documents scores k) (first_documents s k)) g.reach (kept g.gains g.within)
+
+pub settled_is_kept : (scores : List ℕ) (k bound : ℕ) → IsSettled scores k bound → IsKept scores k bound
+settled_is_kept scores k bound settled gains are = subst (IsPermutation (first_documents scores k)) (sym (settled gains are)) (IsPermutation-refl (first_documents scores k))
 
 pub promised : (docs n k : ℕ) (flat : List (Entry ℕ)) (terms : List QueryTerm) (report : Report) → IsFlat nat_cmp docs flat
     → IsReport n (plan_of docs flat terms) k report → IsPromised (weighted_postings flat terms) n (plan_of docs flat terms) k report

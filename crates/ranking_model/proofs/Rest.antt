@@ -1,12 +1,6 @@
 -- What a document can still gain: a term has one posting of it at most, so it gains at most the bound.
-use Rattle.std.proofs.Common.{◌≡◌, ◌≢◌, ℕ, zero, suc, ◌+◌, ◌-◌, ◌*◌, ◌<◌, ◌≤◌, max, List, [], ◌∷◌, ◌++◌, map, filter, length, take, drop, true, false, cond, ◌&&◌, refl, sym, ap, ◌∙◌, subst, arith, inl, inr, ◌⊎◌, ◌==◌, sum_by, count_by, eqb-true}
-use Rattle.std.specs.Prelude.{nat_lt}
-use Rattle.std.specs.List.{AllByRecursion, range_with_len}
-use Rattle.std.specs.Ordering.{nat_cmp}
-use Rattle.std.proofs.lemmas.Bool.{cases_lt, cases_eq}
-use Rattle.std.proofs.lemmas.Bool.Decides.{nat_tests}
-use Rattle.std.proofs.lemmas.List.{drop-take, take-take}
-use Rattle.std.proofs.lemmas.List.Sums.{sum_by-cons, sum_by-append, sum_by_push, sum_by-take-le, sum_by-take-drop, sum_by-le-sum_by}
+use Rattle.shared_lemmas.proofs.Common.{◌≡◌, ◌≢◌, ℕ, zero, suc, ◌+◌, ◌-◌, ◌*◌, ◌<◌, ◌≤◌, max, List, [], ◌∷◌, ◌++◌, map, filter, length, take, drop, true, false, cond, ◌&&◌, refl, sym, ap, ◌∙◌, subst, arith, inl, inr, ◌⊎◌, ◌==◌, sum_by, count_by, eqb-true, nat_lt, AllByRecursion, range_with_len}
+use Rattle.shared_lemmas.proofs.Common.{nat_cmp, cases_lt, cases_eq, nat_tests, drop-take, take-take, sum_by-cons, sum_by-append, sum_by_push, sum_by-take-le, sum_by-take-drop, sum_by-le-sum_by, cases_Bool}
 use Rattle.ranking_model.specs.declared.entry.Entry.{Entry}
 use Rattle.jass_base.specs.declared.query_term.QueryTerm.{QueryTerm}
 use Rattle.ranking_model.specs.declared.posting.WeightedPosting.{WeightedPosting}
@@ -16,11 +10,11 @@ use Rattle.ranking_model.specs.Postings.{weighted_at, weighted_from, weighted_po
 use Rattle.ranking_model.specs.Plan.{is_of, begun, plan_segments, plan_of}
 use Rattle.ranking_model.specs.Scores.{gain_of, greatest_weight, bound_after, scores_after}
 use Rattle.ranking_model.specs.Finality.{raised, GainsUpTo}
-use Rattle.std.proofs.lemmas.Bool.{cases_Bool}
 use Rattle.shared_lemmas.proofs.Pairs.{Pairs, pairs_by_recursion}
 use Rattle.shared_lemmas.proofs.Lists.{all_drop}
 use Rattle.ranking_model.proofs.Totals.{sum_range_more}
 use Rattle.ranking_model.proofs.Grouping.{more, segments_sum, segments_all}
+use Rattle.ranking_model.proofs.Weighing.{weigh, none_left}
 
 -- ---- how often a document stands in a place
 
@@ -32,10 +26,7 @@ abbrev count_at : ℕ → ℕ → PlanSegment → ℕ
 count_at doc term_place c = cond (c.term_place == term_place) (count_by (λ d. d == doc) c.docs) 0
 
 at_first : (doc term_place : ℕ) (p : WeightedPosting) → count_at doc term_place (begun p) ≡ one_at doc term_place p
-at_first doc term_place p = by (cases_Bool (p.term_place == term_place)) where
-  by : ((p.term_place == term_place) ≡ true) ⊎ ((p.term_place == term_place) ≡ false) → count_at doc term_place (begun p) ≡ one_at doc term_place p
-  by (inl e) = rw e (omega arith)
-  by (inr e) = rw e refl
+at_first doc term_place p = elim (cases_Bool (p.term_place == term_place)) [ inl e ↦ rw e (omega arith) | inr e ↦ rw e refl ]
 
 at_next : (doc term_place : ℕ) (c : PlanSegment) (p : WeightedPosting) → is_of c p ≡ true → count_at doc term_place (more c p.doc) ≡ count_at doc term_place c + one_at doc term_place p
 at_next doc term_place c p e = by (cases_Bool (p.term_place == term_place)) where
@@ -48,9 +39,6 @@ at_next doc term_place c p e = by (cases_Bool (p.term_place == term_place)) wher
   by : ((p.term_place == term_place) ≡ true) ⊎ ((p.term_place == term_place) ≡ false) → count_at doc term_place (more c p.doc) ≡ count_at doc term_place c + one_at doc term_place p
   by (inl k) = rw (same, k) pushed
   by (inr k) = rw (same, k) refl
-
-abbrev weigh : ℕ → ℕ → Entry ℕ → WeightedPosting
-weigh term_place times e = record { term_place = term_place; doc = e.doc; weight = e.impact * times }
 
 -- no posting of another place counts
 elsewhere : (doc term_place other times : ℕ) (es : List (Entry ℕ)) → (other == term_place) ≡ false → sum_by (one_at doc term_place) (map (weigh other times) es) ≡ 0
@@ -66,26 +54,13 @@ above_place doc term_place from (named ∷ terms) flat h =
     let rest = above_place doc term_place (suc from) terms flat (omega arith) in
     sum_by-append (one_at doc term_place) (weighted_at from named flat) (weighted_from (suc from) terms flat) ∙ omega arith
 
--- once a term's posting of the document is counted, no other of the term counts
-no_more : (doc term_place times term : ℕ) (e : Entry ℕ) (es : List (Entry ℕ)) → e.term ≡ term → e.doc ≡ doc → AllByRecursion (λ f. e.term ≡ f.term → e.doc ≢ f.doc) es → sum_by (one_at doc term_place) (map (weigh term_place times) (filter (λ f. f.term == term) es)) ≡ 0
-no_more doc term_place times term e [] a b h = refl
-no_more doc term_place times term e (f ∷ fs) a b h = by (cases_Bool (f.term == term)) (no_more doc term_place times term e fs a b h.1) where
-  by : ((f.term == term) ≡ true) ⊎ ((f.term == term) ≡ false) → sum_by (one_at doc term_place) (map (weigh term_place times) (filter (λ f. f.term == term) fs)) ≡ 0
-      → sum_by (one_at doc term_place) (map (weigh term_place times) (filter (λ f. f.term == term) (f ∷ fs))) ≡ 0
-  by (inl t) rest =
-      let same : e.term ≡ f.term = a ∙ sym (eqb-true _ _ t) in
-      let apart : e.doc ≢ f.doc = h.0 same in
-      let none : one_at doc term_place (weigh term_place times f) ≡ 0 = grind (arith, nat_tests) in
-      rw t (sum_by-cons (one_at doc term_place) (weigh term_place times f) (map (weigh term_place times) (filter (λ f. f.term == term) fs)) ∙ omega arith)
-  by (inr k) rest = rw k rest
-
 in_term : (doc term_place times term : ℕ) (es : List (Entry ℕ)) → Pairs (λ a b. a.term ≡ b.term → a.doc ≢ b.doc) es → sum_by (one_at doc term_place) (map (weigh term_place times) (filter (λ f. f.term == term) es)) ≤ 1
 in_term doc term_place times term [] p = omega arith
 in_term doc term_place times term (e ∷ es) p = by (cases_Bool (e.term == term)) (cases_Bool (e.doc == doc)) (in_term doc term_place times term es p.1) where
   by : ((e.term == term) ≡ true) ⊎ ((e.term == term) ≡ false) → ((e.doc == doc) ≡ true) ⊎ ((e.doc == doc) ≡ false) → sum_by (one_at doc term_place) (map (weigh term_place times) (filter (λ f. f.term == term) es)) ≤ 1
       → sum_by (one_at doc term_place) (map (weigh term_place times) (filter (λ f. f.term == term) (e ∷ es))) ≤ 1
   by (inl t) (inl d) rest =
-      let none = no_more doc term_place times term e es (eqb-true _ _ t) (eqb-true _ _ d) p.0 in
+      let none = none_left (one_at doc term_place) doc term_place times term e es (λ f other. grind (arith, nat_tests)) (eqb-true _ _ t) (eqb-true _ _ d) p.0 in
       let one = sum_by-cons (one_at doc term_place) (weigh term_place times e) (map (weigh term_place times) (filter (λ f. f.term == term) es)) in
       let most : one_at doc term_place (weigh term_place times e) ≤ 1 = grind (arith, nat_tests) in
       rw t (rw one (rw none (omega arith)))
@@ -108,14 +83,12 @@ once_in_place doc term_place from (named ∷ terms) flat p = by (cases_eq from t
       omega (arith, split)
   by (inr e) rest =
       let apart : (from == term_place) ≡ false = grind (arith, nat_tests) in
-      let first = elsewhere doc term_place from named.times (filter (λ e. e.term == named.term) flat) apart in
-      omega (arith, split)
+      omega (arith, split, elsewhere doc term_place from named.times (filter (λ e. e.term == named.term) flat) apart)
 
 pub segments_once : (doc term_place : ℕ) (terms : List QueryTerm) (flat : List (Entry ℕ)) → Pairs (λ a b. a.term ≡ b.term → a.doc ≢ b.doc) flat → sum_by (count_at doc term_place) (plan_segments (weighted_postings flat terms)) ≤ 1
 segments_once doc term_place terms flat p =
     let same = segments_sum (count_at doc term_place) (one_at doc term_place) (at_first doc term_place) (at_next doc term_place) (weighted_postings flat terms) in
-    let most = once_in_place doc term_place 0 terms flat p in
-    omega arith
+    omega (arith, once_in_place doc term_place 0 terms flat p)
 
 -- ---- what a place adds
 
@@ -161,12 +134,7 @@ sum_zero (x ∷ xs) = sum_by-cons (λ x. 0) x xs ∙ (let rest = sum_zero xs in 
 
 sum_plus : {A : Type 0} (f g : A → ℕ) (xs : List A) → sum_by (λ x. f x + g x) xs ≡ sum_by f xs + sum_by g xs
 sum_plus f g [] = refl
-sum_plus f g (x ∷ xs) =
-    let a = sum_by-cons (λ x. f x + g x) x xs in
-    let b = sum_by-cons f x xs in
-    let c = sum_by-cons g x xs in
-    let rest = sum_plus f g xs in
-    omega arith
+sum_plus f g (x ∷ xs) = omega (arith, sum_by-cons (λ x. f x + g x) x xs, sum_by-cons f x xs, sum_by-cons g x xs, sum_plus f g xs)
 
 single : (at x terms : ℕ) → sum_by (λ term_place. cond (at == term_place) x 0) (range_with_len 0 terms) ≡ cond (nat_lt at terms) x 0
 single at x zero = let past : nat_lt at 0 ≡ false = grind (arith, nat_tests) in rw past refl
@@ -236,8 +204,7 @@ rest_within doc docs n terms flat f =
     few : (term_place : ℕ) → sum_by (count_at doc term_place) (drop n (plan_segments (weighted_postings flat terms))) ≤ 1
     few term_place =
         let all = segments_once doc term_place terms flat (pairs_by_recursion _ flat f.once) in
-        let split = sum_by-take-drop (count_at doc term_place) (plan_segments (weighted_postings flat terms)) n in
-        omega arith
+        omega (arith, sum_by-take-drop (count_at doc term_place) (plan_segments (weighted_postings flat terms)) n)
 
 -- ---- as lists over all documents
 

@@ -21,10 +21,7 @@ cat_dog_reports = (
     graded = not_kept (3 ∷ 0 ∷ 3 ∷ 0 ∷ []) (0 ∷ 3 ∷ 0 ∷ 0 ∷ []) 2 3 (λ d. d) (record { each = refl; within = (omega arith, (omega arith, (omega arith, (omega arith, tt)))) }) (λ same. absurd (omega arith));
   },
   (
-    record {
-      numbers = refl;
-      graded = settled_without_gains (3 ∷ 3 ∷ 3 ∷ 1 ∷ []) 2;
-    },
+    record { numbers = refl; graded = settled_without_gains (3 ∷ 3 ∷ 3 ∷ 1 ∷ []) 2 },
     tt,
   ),
 )

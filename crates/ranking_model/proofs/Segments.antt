@@ -1,8 +1,6 @@
 -- Segments that differ in place or weight are the segments of their postings.
-use Rattle.std.proofs.Common.{◌≡◌, ◌≢◌, ℕ, List, [], ◌∷◌, ◌++◌, map, true, false, refl, sym, ap, ◌∙◌, arith, fold, append_assoc, append-nil, ◌&&◌, ◌==◌, flat_map}
-use Rattle.std.specs.List.{AllByRecursion}
-use Rattle.std.proofs.lemmas.Bool.Decides.{nat_tests}
-use Rattle.std.proofs.lemmas.List.Sums.{fold-append}
+use Rattle.shared_lemmas.proofs.Common.{◌≡◌, ◌≢◌, ℕ, List, [], ◌∷◌, ◌++◌, map, true, false, refl, sym, ap, ◌∙◌, arith, fold, append_assoc, append-nil, ◌&&◌, ◌==◌, AllByRecursion, nat_tests, fold-append}
+use Rattle.std.proofs.Common.{flat_map}
 use Rattle.shared_lemmas.proofs.Pairs.{Pairs}
 use Rattle.ranking_model.specs.declared.posting.WeightedPosting.{WeightedPosting}
 use Rattle.ranking_model.specs.declared.plan_segment.PlanSegment.{PlanSegment}

@@ -1,13 +1,7 @@
 -- The numbers of a query's plan on an index fit the types of a report.
-use Rattle.std.proofs.Common.{◌≡◌, ℕ, ◌+◌, ◌*◌, ◌^◌, ◌<◌, ◌≤◌, List, [], ◌∷◌, ◌++◌, length, drop, true, false, cond, refl, ◌∙◌, arith, inl, inr, ◌⊎◌, ◌==◌, sum_by, count_by, length-append}
-use Rattle.std.specs.Prelude.{All}
-use Rattle.std.specs.List.{AllByRecursion, range_with_len}
-use Rattle.std.specs.Ordering.{nat_cmp}
-use Rattle.std.proofs.lemmas.Bool.Decides.{nat_tests}
-use Rattle.std.proofs.Math.Seq.{take-length}
-use Rattle.std.proofs.lemmas.List.Elements.{recursion_from_All}
-use Rattle.std.proofs.lemmas.List.Sums.{sum_by_push, sum_by-take-le, sum_by-le}
-use Rattle.std.proofs.lemmas.List.FromFn.{length-range_with_len}
+use Rattle.shared_lemmas.proofs.Common.{◌≡◌, ℕ, ◌+◌, ◌*◌, ◌^◌, ◌<◌, ◌≤◌, List, [], ◌∷◌, ◌++◌, length, drop, true, false, cond, refl, ◌∙◌, arith, inl, inr, ◌⊎◌, ◌==◌, sum_by, count_by, All, AllByRecursion, range_with_len, nat_cmp, nat_tests, take-length, recursion_from_All, sum_by_push}
+use Rattle.shared_lemmas.proofs.Common.{sum_by-take-le, sum_by-le, length-range_with_len, cases_Bool}
+use Rattle.std.proofs.Common.{length-append}
 use Rattle.ranking_model.specs.declared.entry.Entry.{Entry}
 use Rattle.ranking_model.specs.Programs.{AreLight}
 use Rattle.jass_base.specs.declared.query_term.QueryTerm.{QueryTerm}
@@ -21,9 +15,8 @@ use Rattle.ranking_model.specs.Scores.{adds, gain_of, greatest_weight, bound_aft
 use Rattle.ranking_model.specs.Limits.{IsSmall}
 use Rattle.ranking_model.proofs.Grouping.{more, segments_sum, segments_all, plan_length, length_sum}
 use Rattle.ranking_model.proofs.Weighing.{weighted_length, weighted_documents, all_add}
-use Rattle.std.proofs.lemmas.Bool.{cases_Bool}
 use Rattle.shared_lemmas.proofs.Pairs.{pairs_by_recursion}
-use Rattle.shared_lemmas.proofs.Lists.{all_drop}
+use Rattle.shared_lemmas.proofs.Lists.{all_drop, all_append}
 
 -- ---- what a posting adds to its segment
 
@@ -37,10 +30,7 @@ pub sizes : (ps : List WeightedPosting) → sum_by (λ (c : PlanSegment). length
 sizes ps = segments_sum (λ c. length c.docs) (λ p. 1) size_first size_next ps ∙ length_sum ps
 
 gain_first : (doc : ℕ) (p : WeightedPosting) → gain_of doc (begun p) ≡ adds doc p
-gain_first doc p = by (cases_Bool (p.doc == doc)) where
-  by : ((p.doc == doc) ≡ true) ⊎ ((p.doc == doc) ≡ false) → gain_of doc (begun p) ≡ adds doc p
-  by (inl t) = rw t (omega arith)
-  by (inr f) = rw f (omega arith)
+gain_first doc p = elim (cases_Bool (p.doc == doc)) [ inl t ↦ rw t (omega arith) | inr f ↦ rw f (omega arith) ]
 
 same_weight : (c : PlanSegment) (p : WeightedPosting) → is_of c p ≡ true → c.weight ≡ p.weight
 same_weight c p e = grind (arith, nat_tests)
@@ -61,10 +51,9 @@ gains doc ps = segments_sum (gain_of doc) (adds doc) (gain_first doc) (gain_next
 
 greatest_weight_le : (term_place m : ℕ) (cs : List PlanSegment) → AllByRecursion (λ c. c.weight ≤ m) cs → greatest_weight term_place cs ≤ m
 greatest_weight_le term_place m [] h = omega arith
-greatest_weight_le term_place m (c ∷ cs) h = by (cases_Bool (c.term_place == term_place)) (greatest_weight_le term_place m cs h.1) where
-  by : ((c.term_place == term_place) ≡ true) ⊎ ((c.term_place == term_place) ≡ false) → greatest_weight term_place cs ≤ m → greatest_weight term_place (c ∷ cs) ≤ m
-  by (inl t) rest = let here = h.0 in rw t (omega arith)
-  by (inr f) rest = rw f rest
+greatest_weight_le term_place m (c ∷ cs) h =
+    let rest = greatest_weight_le term_place m cs h.1 in
+    elim (cases_Bool (c.term_place == term_place)) [ inl t ↦ let here = h.0 in rw t (omega arith) | inr f ↦ rw f rest ]
 
 bound_le : (n m : ℕ) (plan : QueryPlan) → AllByRecursion (λ c. c.weight ≤ m) plan.segments → bound_after n plan ≤ plan.terms * m
 bound_le n m plan h =
@@ -75,7 +64,7 @@ bound_le n m plan h =
 pub plan_is_small : (docs : ℕ) (flat : List (Entry ℕ)) (terms : List QueryTerm) → IsFlat nat_cmp docs flat → AreTerms terms → length flat ≤ 2 ^ 29 → AreLight (weighted_postings flat terms) → IsSmall (plan_of docs flat terms)
 unfolding plan_of
 plan_is_small docs flat terms f t few light = record {
-  documents = segments_all (λ c. AllByRecursion (λ doc. doc < docs) c.docs) (λ p. p.doc < docs) (λ p h. (h, tt)) (λ c p e h k. one_more c.docs p.doc h k) ps (weighted_documents docs 0 terms flat f t);
+  documents = segments_all (λ c. AllByRecursion (λ doc. doc < docs) c.docs) (λ p. p.doc < docs) (λ p h. (h, tt)) (λ c p e h k. all_append (λ doc. doc < docs) c.docs (p.doc ∷ []) h (k, tt)) ps (weighted_documents docs 0 terms flat f t);
   postings = let all = take-length (plan_segments ps) in let total = sizes ps in rw (all, total) (omega (arith, long));
   segments = let count = plan_length ps in omega (arith, long);
   bounds = λ n. let most = bound_le n 16711425 (plan_of docs flat terms) weights in let few = t.few in omega arith;
@@ -90,7 +79,3 @@ plan_is_small docs flat terms f t few light = record {
 
     weights : AllByRecursion (λ c. c.weight ≤ 16711425) (plan_segments ps)
     weights = segments_all (λ c. c.weight ≤ 16711425) (λ p. p.weight ≤ 16711425) (λ p h. h) (λ c p e h k. h) ps (recursion_from_All _ ps light)
-
-    one_more : (ds : List ℕ) (d : ℕ) → AllByRecursion (λ doc. doc < docs) ds → d < docs → AllByRecursion (λ doc. doc < docs) (ds ++ d ∷ [])
-    one_more [] d h k = (k, tt)
-    one_more (x ∷ xs) d h k = (h.0, one_more xs d h.1 k)

@@ -1,18 +1,11 @@
 -- Sums over a prefix of a list, of a range and of the documents that a segment has.
-use Rattle.std.proofs.Common.{◌≡◌, ℕ, suc, zero, ◌+◌, ◌-◌, ◌*◌, ◌^◌, ◌<◌, ◌≤◌, ◌≢◌, List, [], length, get_or, set, take, drop, Bool, true, false, true≢false, cond, sym, ap, ◌∙◌, arith, inl, inr, ◌⊎◌, nat_le, ◌==◌, sum_by, count_by, eq-eqb, get_or-set_same, get_or-set_other}
-use Rattle.std.specs.List.{range_with_len}
-use Rattle.std.proofs.lemmas.List.{take-take, take_rest, ext_get_or}
-use Rattle.std.proofs.lemmas.List.Sums.{sum_by_push, sum_by-take-le, count_by_more_no, count_by_more_yes}
-use Rattle.std.proofs.lemmas.Bool.{cases_lt, le-leb}
-use Rattle.std.proofs.lemmas.Bool.Decides.{nat_tests}
-use Rattle.std.proofs.Math.Nat.{mul-le-mul_left}
+use Rattle.shared_lemmas.proofs.Common.{◌≡◌, ℕ, suc, zero, ◌+◌, ◌-◌, ◌*◌, ◌^◌, ◌<◌, ◌≤◌, ◌≢◌, List, [], length, get_or, set, take, drop, Bool, true, false, true≢false, cond, sym, ap, ◌∙◌, arith, inl, inr, ◌⊎◌, nat_le, ◌==◌, sum_by, count_by, eq-eqb, get_or-set_same, get_or-set_other}
+use Rattle.shared_lemmas.proofs.Common.{range_with_len, take-take, take_rest, ext_get_or, sum_by_push, sum_by-take-le, count_by_more_no, count_by_more_yes, cases_lt, le-leb, nat_tests, mul-le-mul_left, length-map-range_with_len, get_or-map-range_with_len, cases_Bool}
 use borrow.Author.Tests.{eqb-true, eqb-false}
 use Rattle.ranking_model.specs.declared.plan_segment.PlanSegment.{PlanSegment}
 use Rattle.ranking_model.specs.Plan.{size_of_first, greatest_up_to, prefix_within}
 use Rattle.ranking_model.specs.Scores.{greatest_weight, gain_of, scores_after}
 use Rattle.ranking_model.specs.declared.plan.QueryPlan.{QueryPlan}
-use Rattle.std.proofs.lemmas.List.FromFn.{length-map-range_with_len, get_or-map-range_with_len}
-use Rattle.std.proofs.lemmas.Bool.{cases_Bool}
 use Rattle.shared_lemmas.proofs.Sums.{range_push}
 
 pub sum_range_more : (f : ℕ → ℕ) (n : ℕ) → sum_by f (range_with_len 0 (n + 1)) ≡ sum_by f (range_with_len 0 n) + f n

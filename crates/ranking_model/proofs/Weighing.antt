@@ -1,12 +1,7 @@
 -- The weighted postings of a flat list: their order, their number, their documents and their weights.
-use Rattle.std.proofs.Common.{◌≡◌, ◌≢◌, ℕ, suc, ◌+◌, ◌*◌, ◌<◌, ◌≤◌, List, [], ◌∷◌, ◌++◌, map, filter, length, true, false, refl, sym, ap, ◌∙◌, arith, inl, inr, ◌⊎◌, ◌==◌, sum_by, eqb-true, length-append}
-use Rattle.std.specs.Prelude.{IsSorted}
-use Rattle.std.specs.List.{AllByRecursion}
-use Rattle.std.specs.Ordering.{is_gt, nat_cmp}
-use Rattle.std.proofs.lemmas.Cmp.{nat_cmp_total}
-use Rattle.std.proofs.lemmas.Bool.Decides.{nat_tests}
-use Rattle.std.proofs.lemmas.List.Elements.{recursion_from_All}
-use Rattle.std.proofs.lemmas.List.Sums.{sum_by-cons, sum_by-append}
+use Rattle.shared_lemmas.proofs.Common.{◌≡◌, ◌≢◌, ℕ, suc, ◌+◌, ◌*◌, ◌<◌, ◌≤◌, List, [], ◌∷◌, ◌++◌, map, filter, length, true, false, refl, sym, ap, ◌∙◌, arith, inl, inr, ◌⊎◌, ◌==◌, sum_by, eqb-true, IsSorted, AllByRecursion, is_gt, nat_cmp, nat_cmp_total, nat_tests, recursion_from_All, sum_by-cons}
+use Rattle.shared_lemmas.proofs.Common.{sum_by-append, cases_Bool}
+use Rattle.std.proofs.Common.{length-append}
 use Rattle.ranking_model.specs.declared.entry.Entry.{Entry}
 use Rattle.ranking_model.specs.Programs.{place_cmp}
 use Rattle.jass_base.specs.declared.query_term.QueryTerm.{QueryTerm}
@@ -14,14 +9,13 @@ use Rattle.ranking_model.specs.declared.posting.WeightedPosting.{WeightedPosting
 use Rattle.ranking_model.specs.Flat.{entry_cmp, IsFlat}
 use Rattle.ranking_model.specs.Postings.{AreTerms, weighted_at, weighted_from, weighted_postings}
 use Rattle.ranking_model.specs.Scores.{adds}
-use Rattle.std.proofs.lemmas.Bool.{cases_Bool}
 use Rattle.shared_lemmas.proofs.Lists.{all_front, all_back}
 use Rattle.shared_lemmas.proofs.Pairs.{Pairs, pairs_by_recursion}
 use Rattle.ranking_model.proofs.Sorting.{Ascends, ascends_sorted, ascends_filter, ascends_append, sorted_ascending}
 use Rattle.ranking_model.proofs.Orders.{entry_total}
 use Rattle.ranking_model.proofs.PlanSegments.{place_total}
 
-abbrev weigh : ℕ → ℕ → Entry ℕ → WeightedPosting
+abbrev pub weigh : ℕ → ℕ → Entry ℕ → WeightedPosting
 weigh term_place times e = record { term_place = term_place; doc = e.doc; weight = e.impact * times }
 
 -- ---- the order
@@ -32,18 +26,13 @@ AllOf term es = AllByRecursion (λ e. e.term ≡ term) es
 
 all_of : (term : ℕ) (es : List (Entry ℕ)) → AllOf term (filter (λ e. e.term == term) es)
 all_of term [] = tt
-all_of term (e ∷ es) = by (cases_Bool (e.term == term)) (all_of term es) where
-  by : ((e.term == term) ≡ true) ⊎ ((e.term == term) ≡ false) → AllOf term (filter (λ e. e.term == term) es) → AllOf term (filter (λ e. e.term == term) (e ∷ es))
-  by (inl t) rest = rw t (eqb-true _ _ t, rest)
-  by (inr f) rest = rw f rest
+all_of term (e ∷ es) = let rest = all_of term es in elim (cases_Bool (e.term == term)) [ inl t ↦ rw t (eqb-true _ _ t, rest) | inr f ↦ rw f rest ]
 
 falls : (a b : Entry ℕ) → a.term ≡ b.term → is_gt (entry_cmp nat_cmp a b) ≡ false → b.impact ≤ a.impact
 falls a b same h = grind (arith, nat_tests)
 
 lighter : (term_place times : ℕ) (a b : Entry ℕ) → b.impact ≤ a.impact → is_gt (place_cmp (weigh term_place times a) (weigh term_place times b)) ≡ false
-lighter term_place times a b h =
-    let less : b.impact * times ≤ a.impact * times = grind arith in
-    grind (arith, nat_tests)
+lighter term_place times a b h = let less : b.impact * times ≤ a.impact * times = grind arith in grind (arith, nat_tests)
 
 weighed_ascends : (term_place times term : ℕ) (es : List (Entry ℕ)) → AllOf term es → Ascends (entry_cmp nat_cmp) es → Ascends place_cmp (map (weigh term_place times) es)
 weighed_ascends term_place times term [] h a = tt
@@ -117,10 +106,7 @@ weighted_all P term_place [] flat h = tt
 weighted_all P term_place (named ∷ terms) flat h = both flat (h term_place).0 (weighted_all P (suc term_place) terms flat (λ p. (h p).1)) where
   both : (es : List (Entry ℕ)) → AllByRecursion (λ e. P (weigh term_place named.times e)) es → AllByRecursion P (weighted_from (suc term_place) terms flat) → AllByRecursion P (weighted_at term_place named es ++ weighted_from (suc term_place) terms flat)
   both [] k rest = rest
-  both (e ∷ es) k rest = one (cases_Bool (e.term == named.term)) (both es k.1 rest) where
-    one : ((e.term == named.term) ≡ true) ⊎ ((e.term == named.term) ≡ false) → AllByRecursion P (weighted_at term_place named es ++ weighted_from (suc term_place) terms flat) → AllByRecursion P (weighted_at term_place named (e ∷ es) ++ weighted_from (suc term_place) terms flat)
-    one (inl t) more = rw t (k.0, more)
-    one (inr f) more = rw f more
+  both (e ∷ es) k rest = let more = both es k.1 rest in elim (cases_Bool (e.term == named.term)) [ inl t ↦ rw t (k.0, more) | inr f ↦ rw f more ]
 
 -- a fact of each entry and each number of mentions
 pub for_each : {A B : Type 0} (R : A → B → Type 0) (P : A → Type 0) (Q : B → Type 0) (xs : List A) (ys : List B) → ((x : A) (y : B) → P x → Q y → R x y) → AllByRecursion P xs → AllByRecursion Q ys → AllByRecursion (λ x. AllByRecursion (R x) ys) xs
@@ -137,17 +123,15 @@ weighted_documents docs term_place terms flat f t = weighted_all (λ p. p.doc < 
 -- ---- the score of one document
 
 -- once a term's posting of the document is counted, no other of the term counts
-none_left : (doc term_place times term : ℕ) (e : Entry ℕ) (es : List (Entry ℕ)) → e.term ≡ term → e.doc ≡ doc → AllByRecursion (λ f. e.term ≡ f.term → e.doc ≢ f.doc) es → sum_by (adds doc) (map (weigh term_place times) (filter (λ f. f.term == term) es)) ≡ 0
-none_left doc term_place times term e [] a b h = refl
-none_left doc term_place times term e (f ∷ fs) a b h = by (cases_Bool (f.term == term)) (none_left doc term_place times term e fs a b h.1) where
-  by : ((f.term == term) ≡ true) ⊎ ((f.term == term) ≡ false) → sum_by (adds doc) (map (weigh term_place times) (filter (λ f. f.term == term) fs)) ≡ 0
-      → sum_by (adds doc) (map (weigh term_place times) (filter (λ f. f.term == term) (f ∷ fs))) ≡ 0
-  by (inl t) rest =
-      let same : e.term ≡ f.term = a ∙ sym (eqb-true _ _ t) in
-      let apart : e.doc ≢ f.doc = h.0 same in
-      let other : (f.doc == doc) ≡ false = grind (arith, nat_tests) in
-      rw t (sum_by-cons (adds doc) (weigh term_place times f) (map (weigh term_place times) (filter (λ f. f.term == term) fs)) ∙ rw other (omega arith))
-  by (inr k) rest = rw k rest
+pub none_left : (count : WeightedPosting → ℕ) (doc term_place times term : ℕ) (e : Entry ℕ) (es : List (Entry ℕ)) → ((f : Entry ℕ) → f.doc ≢ doc → count (weigh term_place times f) ≡ 0)
+    → e.term ≡ term → e.doc ≡ doc → AllByRecursion (λ f. e.term ≡ f.term → e.doc ≢ f.doc) es → sum_by count (map (weigh term_place times) (filter (λ f. f.term == term) es)) ≡ 0
+none_left count doc term_place times term e [] zeros a b h = refl
+none_left count doc term_place times term e (f ∷ fs) zeros a b h = let rest = none_left count doc term_place times term e fs zeros a b h.1 in elim (cases_Bool (f.term == term)) [
+  | inl t ↦
+      let other : f.doc ≢ doc = λ same. h.0 (a ∙ sym (eqb-true _ _ t)) (b ∙ sym same) in
+      rw t (sum_by-cons count (weigh term_place times f) (map (weigh term_place times) (filter (λ f. f.term == term) fs)) ∙ omega (arith, rest, zeros f other))
+  | inr k ↦ rw k rest
+]
 
 term_adds : (doc term_place times term : ℕ) (es : List (Entry ℕ)) → Pairs (λ a b. a.term ≡ b.term → a.doc ≢ b.doc) es → AllByRecursion (λ p. p.weight ≤ 16711425) (map (weigh term_place times) (filter (λ f. f.term == term) es))
     → sum_by (adds doc) (map (weigh term_place times) (filter (λ f. f.term == term) es)) ≤ 16711425
@@ -158,7 +142,7 @@ term_adds doc term_place times term (e ∷ es) p h = by (cases_Bool (e.term == t
       → sum_by (adds doc) (map (weigh term_place times) (filter (λ f. f.term == term) (e ∷ es))) ≤ 16711425
   by (inl t) (inl d) rest =
       let light = rw t at h in
-      let none = none_left doc term_place times term e es (eqb-true _ _ t) (eqb-true _ _ d) p.0 in
+      let none = none_left (adds doc) doc term_place times term e es (λ f other. let apart : (f.doc == doc) ≡ false = grind (arith, nat_tests) in rw apart refl) (eqb-true _ _ t) (eqb-true _ _ d) p.0 in
       let one = sum_by-cons (adds doc) (weigh term_place times e) (map (weigh term_place times) (filter (λ f. f.term == term) es)) in
       let most = light.0 in
       rw t (rw one (rw (d, none) (omega arith)))

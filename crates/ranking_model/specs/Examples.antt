@@ -11,8 +11,8 @@ use Rattle.ranking_model.specs.Flat.{numbered}
 use Rattle.ranking_model.specs.Plan.{plan_of}
 use Rattle.ranking_model.specs.Search.{QueryData}
 
-abbrev entry : List ℕ → ℕ → ℕ → Entry (List ℕ)
-entry term doc impact = record { term = term; doc = doc; impact = impact }
+abbrev flat_entry : List ℕ → ℕ → ℕ → Entry (List ℕ)
+flat_entry term doc impact = record { term = term; doc = doc; impact = impact }
 
 abbrev pub hit : ℕ → ℕ → Hit
 hit doc score = record { doc = doc; score = score }
@@ -20,8 +20,8 @@ hit doc score = record { doc = doc; score = score }
 abbrev pub named : ℕ → ℕ → QueryTerm
 named term times = record { term = term; times = times }
 
-abbrev pub segment : ℕ → ℕ → List ℕ → PlanSegment
-segment term_place weight docs = record { term_place = term_place; weight = weight; docs = docs }
+abbrev pub plan_segment : ℕ → ℕ → List ℕ → PlanSegment
+plan_segment term_place weight docs = record { term_place = term_place; weight = weight; docs = docs }
 
 -- postings, segments, segments of the plan, cutoff, next, bound and grade
 abbrev pub report : ℕ → ℕ → ℕ → ℕ → ℕ → ℕ → Grade → Report
@@ -29,7 +29,7 @@ report postings segments of cutoff next bound grade = record { postings = postin
 
 -- four documents with `cat` and `dog`
 abbrev pub pets : List (Entry (List ℕ))
-pets = entry (codes "cat") 0 3 ∷ entry (codes "cat") 1 1 ∷ entry (codes "cat") 3 1 ∷ entry (codes "dog") 2 3 ∷ entry (codes "dog") 1 2 ∷ []
+pets = flat_entry (codes "cat") 0 3 ∷ flat_entry (codes "cat") 1 1 ∷ flat_entry (codes "cat") 3 1 ∷ flat_entry (codes "dog") 2 3 ∷ flat_entry (codes "dog") 1 2 ∷ []
 
 -- their names
 abbrev pub pet_names : List (List ℕ)
@@ -37,7 +37,7 @@ pet_names = codes "d0" ∷ codes "d1" ∷ codes "d2" ∷ codes "d3" ∷ []
 
 -- three documents with `a`
 abbrev pub falling : List (Entry (List ℕ))
-falling = entry (codes "a") 0 9 ∷ entry (codes "a") 1 5 ∷ entry (codes "a") 2 1 ∷ []
+falling = flat_entry (codes "a") 0 9 ∷ flat_entry (codes "a") 1 5 ∷ flat_entry (codes "a") 2 1 ∷ []
 
 -- their names
 abbrev pub falling_names : List (List ℕ)
@@ -45,19 +45,19 @@ falling_names = codes "d0" ∷ codes "d1" ∷ codes "d2" ∷ []
 
 -- three documents with `a`, close to one another
 abbrev pub close : List (Entry (List ℕ))
-close = entry (codes "a") 0 9 ∷ entry (codes "a") 1 8 ∷ entry (codes "a") 2 7 ∷ []
+close = flat_entry (codes "a") 0 9 ∷ flat_entry (codes "a") 1 8 ∷ flat_entry (codes "a") 2 7 ∷ []
 
 -- two documents of equal impact: the first has `p` and the second `q`
 abbrev pub lower_first : List (Entry (List ℕ))
-lower_first = entry (codes "p") 0 3 ∷ entry (codes "q") 1 3 ∷ []
+lower_first = flat_entry (codes "p") 0 3 ∷ flat_entry (codes "q") 1 3 ∷ []
 
 -- the same, the other way round
 abbrev pub higher_first : List (Entry (List ℕ))
-higher_first = entry (codes "p") 1 3 ∷ entry (codes "q") 0 3 ∷ []
+higher_first = flat_entry (codes "p") 1 3 ∷ flat_entry (codes "q") 0 3 ∷ []
 
 -- two documents that can only change places
 abbrev pub swapping : List (Entry (List ℕ))
-swapping = entry (codes "p") 1 3 ∷ entry (codes "p") 0 2 ∷ entry (codes "q") 0 1 ∷ []
+swapping = flat_entry (codes "p") 1 3 ∷ flat_entry (codes "p") 0 2 ∷ flat_entry (codes "q") 0 1 ∷ []
 
 abbrev pub cat_dog : QueryPlan
 cat_dog = plan_of 4 (numbered pets) (named 0 1 ∷ named 1 1 ∷ [])

@@ -5,6 +5,7 @@ use Rattle.std.specs.List.{position_or_len}
 use Rattle.std.specs.declared.cmp.Ordering.{Ordering}
 use Rattle.std.specs.Ordering.{nat_cmp, ordering_then}
 use Rattle.ranking_model.specs.declared.entry.Entry.{Entry}
+use Rattle.jass_base.specs.declared.limits.TheConstants.{GREATEST_IMPACT}
 
 -- the order of an index: rising terms, falling impacts, rising documents
 abbrev pub entry_cmp : {T : Type 0} → (T → T → Ordering) → Entry T → Entry T → Ordering
@@ -15,7 +16,7 @@ pub record IsFlat {T : Type 0} (cmp : T → T → Ordering) (docs : ℕ) (flat :
   pub order : IsSorted (entry_cmp cmp) flat
   pub once : AllPairs (λ a b. a.term ≡ b.term → a.doc ≢ b.doc) flat
   pub documents : All (λ e. e.doc < docs) flat
-  pub impacts : All (λ e. (1 ≤ e.impact) × (e.impact ≤ 65535)) flat
+  pub impacts : All (λ e. (1 ≤ e.impact) × (e.impact ≤ GREATEST_IMPACT)) flat
 
 -- the terms of a flat list, each once
 abbrev pub terms_of : List (Entry (List ℕ)) → List (List ℕ)

@@ -11,3 +11,4 @@ pub mod Promises
 pub mod Programs
 pub mod Search
 pub mod Examples
+pub mod Private

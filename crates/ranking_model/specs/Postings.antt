@@ -4,10 +4,11 @@ use Rattle.std.specs.Prelude.{ℕ, suc, ◌*◌, ◌≤◌, ◌≢◌, length, A
 use Rattle.ranking_model.specs.declared.entry.Entry.{Entry}
 use Rattle.jass_base.specs.declared.query_term.QueryTerm.{QueryTerm}
 use Rattle.ranking_model.specs.declared.posting.WeightedPosting.{WeightedPosting}
+use Rattle.jass_base.specs.declared.limits.TheConstants.{MOST_QUERY_TERMS}
 
 -- the known terms of a query: at most 256, which differ, each named at least once
 pub record AreTerms (terms : List QueryTerm) : Type 0 where
-  pub few : length terms ≤ 256
+  pub few : length terms ≤ MOST_QUERY_TERMS
   pub named : All (λ n. 1 ≤ n.times) terms
   pub differ : AllPairs (λ m n. m.term ≢ n.term) terms
 

@@ -3,7 +3,7 @@
 
 #![tactic(auto, unfolding(crate::specs::Plan::plan_of))]
 
-ghost use Rattle.std.specs.Prelude.{◌≡◌, ℕ, map, drop, ◌^◌, ◌-◌, [], ◌∷◌, ◌++◌, codes};
+ghost use Rattle.std.specs.Prelude.{◌≡◌, ℕ, map, drop, ◌^◌, ◌-◌, [], ◌∷◌, codes};
 ghost use Rattle.std.specs.Ordering.{nat_cmp};
 ghost use Rattle.std.specs.Cmp.Lexicographic.{slice_cmp};
 ghost use Rattle.ranking_model.specs.declared.entry.Entry.{Entry};
@@ -11,7 +11,7 @@ ghost use Rattle.ranking_model.specs.Flat.{IsFlat, numbered};
 ghost use Rattle.ranking_model.specs.Plan.{size_of_first, prefix_within, granted_with, granted_sum, most};
 ghost use Rattle.ranking_model.specs.Scores.{added, scores_after, top_k, runner_up, least_untouched};
 ghost use Rattle.ranking_model.specs.Search.{prefixes_granted, query_run};
-ghost use Rattle.ranking_model.specs.Examples.{hit, segment, pets, falling, pet_names, cat_dog, dog_cat, cat_twice_dog, a_once, a_twice, close_a};
+ghost use Rattle.ranking_model.specs.Examples.{hit, plan_segment, pets, falling, pet_names, cat_dog, dog_cat, cat_twice_dog, a_once, a_twice, close_a};
 ghost use Rattle.ranking_model.specs.Examples.{p_q_lower, p_q_higher, p_q_swapping, nothing_known};
 
 use jass_base::Budget;
@@ -26,12 +26,15 @@ pub fn the_small_indexes_are_flat()
 /// The plan of `cat dog` and of `dog cat`: segments by falling weight; of equal weight and number
 /// of postings, the one of the term that is named first.
 pub fn plans_of_two_terms()
-    ensures cat_dog { cat_dog.segments ≡ segment 0 3 (0 ∷ []) ∷ segment 1 3 (2 ∷ []) ∷ segment 1 2 (1 ∷ [])
-        ∷ segment 0 1 (1 ∷ 3 ∷ []) ∷ [] }
-    ensures dog_cat { dog_cat.segments ≡ segment 0 3 (2 ∷ []) ∷ segment 1 3 (0 ∷ []) ∷ segment 0 2 (1 ∷ [])
-        ∷ segment 1 1 (1 ∷ 3 ∷ []) ∷ [] }
+    ensures cat_dog { cat_dog.segments
+        ≡ plan_segment 0 3 (0 ∷ []) ∷ plan_segment 1 3 (2 ∷ []) ∷ plan_segment 1 2 (1 ∷ [])
+        ∷ plan_segment 0 1 (1 ∷ 3 ∷ []) ∷ [] }
+    ensures dog_cat { dog_cat.segments
+        ≡ plan_segment 0 3 (2 ∷ []) ∷ plan_segment 1 3 (0 ∷ []) ∷ plan_segment 0 2 (1 ∷ [])
+        ∷ plan_segment 1 1 (1 ∷ 3 ∷ []) ∷ [] }
     ensures cat_twice { cat_twice_dog.segments
-        ≡ segment 0 6 (0 ∷ []) ∷ segment 1 3 (2 ∷ []) ∷ segment 1 2 (1 ∷ []) ∷ segment 0 2 (1 ∷ 3 ∷ []) ∷ [] }
+        ≡ plan_segment 0 6 (0 ∷ []) ∷ plan_segment 1 3 (2 ∷ [])
+        ∷ plan_segment 1 2 (1 ∷ []) ∷ plan_segment 0 2 (1 ∷ 3 ∷ []) ∷ [] }
 {}
 
 /// `cat dog` with a budget for all postings.

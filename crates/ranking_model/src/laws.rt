@@ -1,7 +1,7 @@
 //! Laws over the definitions. Each function does nothing: its contract is the law, and a caller
 //! learns it by the call.
 
-ghost use Rattle.std.specs.Prelude.{◌≡◌, ◌≢◌, ℕ, ◌<◌, ◌≤◌, ◌^◌, ◌⊎◌, nat_le};
+ghost use Rattle.std.specs.Prelude.{◌≡◌, ◌≢◌, ℕ, ◌<◌, ◌≤◌, ◌⊎◌, nat_le};
 ghost use Rattle.std.specs.Prelude.{List, [], ◌++◌, length, take, drop, flat_map, sum_by, count_by, All, AllPairs, Contains, IsPermutation, IsSorted};
 ghost use Rattle.std.specs.List.{AllByRecursion};
 ghost use Rattle.std.specs.Ordering.{nat_cmp};
@@ -26,7 +26,7 @@ ghost use Rattle.ranking_model.specs.Finality.{IsGradeWithin};
 ghost use Rattle.ranking_model.specs.Heaviest.{IsHeaviest};
 ghost use Rattle.ranking_model.specs.Report.{IsReport};
 ghost use Rattle.ranking_model.specs.Promises.{IsPromised};
-ghost use Rattle.jass_base.specs.declared.limits.TheConstants.{MOST_POSTINGS};
+ghost use Rattle.jass_base.specs.declared.limits.TheConstants.{MOST_POSTINGS, MOST_TIMES};
 
 /// The prefix that a budget pays for fits it, and no longer one does.
 pub fn the_prefix_is_the_longest()
@@ -80,7 +80,7 @@ pub fn a_plan_has_the_segments_of_its_postings()
 /// has at most 2^29 postings.
 pub fn plans_are_small()
     ensures { (docs : ℕ) (flat : List (Entry ℕ)) (terms : List QueryTerm) →
-        IsFlat nat_cmp docs flat → AreTerms terms → All (λ named. named.times ≤ 255) terms →
+        IsFlat nat_cmp docs flat → AreTerms terms → All (λ named. named.times ≤ MOST_TIMES) terms →
         length flat ≤ MOST_POSTINGS →
         IsSmall (plan_of docs flat terms) }
 {}

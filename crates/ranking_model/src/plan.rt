@@ -1,4 +1,4 @@
-ghost use Rattle.std.specs.Prelude.{◌≡◌, ◌<◌, ◌≤◌, ◌^◌, length, IfOk, All};
+ghost use Rattle.std.specs.Prelude.{◌≡◌, ◌<◌, ◌≤◌, length, IfOk, All};
 ghost use Rattle.std.specs.Ordering.{nat_cmp};
 ghost use Rattle.ranking_model.specs.Flat.{IsFlat};
 ghost use Rattle.ranking_model.specs.Postings.{AreTerms};

@@ -1,6 +1,7 @@
 ghost use Rattle.std.specs.Prelude.{◌≡◌, ◌<◌, [], ◌∷◌, ◌++◌, IfOk, OnOk, fold, IsSorted, vec_len};
 ghost use Rattle.ranking_model.specs.Order.{sorted};
-ghost use Rattle.ranking_model.specs.Programs.{ends_in, last_with, place_cmp};
+ghost use Rattle.ranking_model.specs.Programs.{place_cmp};
+ghost use Rattle.ranking_model.specs.Private.Programs.{ends_in, last_with};
 ghost use Rattle.ranking_model.specs.Plan.{begun, joined, plan_cmp, plan_segments};
 
 use crate::posting::WeightedPosting;

@@ -1,6 +1,7 @@
 ghost use Rattle.std.specs.Prelude.{◌≡◌, ◌*◌, ◌≤◌, ◌++◌, length, IfOk, OnOk};
 ghost use Rattle.ranking_model.specs.Postings.{weighted_at, weighted_postings};
 ghost use Rattle.ranking_model.specs.Programs.{AreLight};
+ghost use Rattle.jass_base.specs.declared.limits.TheConstants.{MOST_QUERY_TERMS};
 
 use crate::entry::Entry;
 use jass_base::{NoMemory, QueryTerm, Row};
@@ -23,7 +24,7 @@ pub fn weighted_postings(
     entries: &[Entry<u32>],
     terms: &[QueryTerm],
 ) -> Result<Row<WeightedPosting>, NoMemory>
-    requires { length terms.now ≤ 256 }
+    requires { length terms.now ≤ MOST_QUERY_TERMS }
     ensures postings { IfOk result (λ postings. postings ≡ weighted_postings entries.now terms.now) }
     ensures light { IfOk result AreLight }
 {

@@ -1,7 +1,6 @@
 -- Documents that are read block by block.
-use Rattle.std.proofs.Common.{◌≡◌, ◌≤◌, ◌+◌, ℕ, List, ◌++◌, length, take, drop, ap, sym, ◌∙◌, append_assoc, length-append, length-drop, arith}
-use Rattle.std.proofs.Math.Seq.{take-append_seam, take-append-add}
-use Rattle.std.proofs.lemmas.List.{take-append-drop, length-take-le}
+use Rattle.shared_lemmas.proofs.Common.{◌≡◌, ◌≤◌, ◌+◌, ℕ, List, ◌++◌, length, take, drop, ap, sym, ◌∙◌, append_assoc, arith, take-append_seam, take-append-add, take-append-drop, length-take-le}
+use Rattle.std.proofs.Common.{length-append, length-drop}
 
 -- the documents are those in front, and those that are still given
 pub record ReadSoFar (gives : List ℕ → Type 0) (filled : ℕ) (docs out : List ℕ) : Type 0 where
@@ -39,8 +38,7 @@ block_room gives filled n docs out block so_far few here room =
     let front : length (take filled out) ≡ filled = length-take-le filled out so_far.inside in
     let own : length (take n rest) ≡ n = ap length (sym (here rest so_far.given)) ∙ length-take-le n block few in
     let many = ap length so_far.is ∙ length-append (take filled out) rest in
-    let parts : length rest ≡ length (take n rest) + length (drop n rest) = ap length (sym (take-append-drop n rest)) ∙ length-append (take n rest) (drop n rest) in
-    omega (arith, front, own, many, parts, room)
+    omega (arith, front, own, many, room, ap length (sym (take-append-drop n rest)) ∙ length-append (take n rest) (drop n rest))
 
 pub length_put : (filled k n : ℕ) (out block part : List ℕ) → k ≡ n → filled + n ≤ length out → part ≡ take n block → n ≤ length block → length (take filled out ++ (part ++ drop k (drop filled out))) ≡ length out
 length_put filled k n out block part same room is few =

@@ -1,9 +1,6 @@
 -- How many bytes a payload has.
-use Rattle.std.proofs.Common.{◌≡◌, ℕ, zero, suc, ◌*◌, ◌/◌, ◌<◌, ◌≤◌, List, [], ◌∷◌, length, take, drop, length-append, true, refl, arith}
-use Rattle.std.specs.Prelude.{nat_le}
-use Rattle.std.proofs.lemmas.Bool.{le-leb}
-use Rattle.std.proofs.Math.Nat.{div-eq_of_lt}
-use Rattle.std.specs.List.{AllByRecursion}
+use Rattle.shared_lemmas.proofs.Common.{◌≡◌, ℕ, zero, suc, ◌*◌, ◌≤◌, List, [], ◌∷◌, length, take, drop, true, refl, arith, ◌/◌, ◌<◌, nat_le, le-leb, AllByRecursion, div-eq_of_lt}
+use Rattle.std.proofs.Common.{length-append}
 use Rattle.jass_base.specs.Gaps.{AreDocs, gaps_of, spelled_gaps}
 use Rattle.jass_base.proofs.Gaps.{length-gaps_from}
 use Rattle.jass_base.specs.Wire.{short_varint}
@@ -12,7 +9,7 @@ use Rattle.codec_simple8.specs.Simple8.{selector_of, spelled_words}
 use Rattle.codec_simple8.proofs.WordParts.{next_length}
 use Rattle.segment_codecs.specs.Codecs.{payload_size, shorter}
 use Rattle.segment_codecs.specs.declared.codec.Codec.{Codec}
-use Rattle.segment_codecs.specs.declared.codec.Codec.TheVariants.{Varbyte, Packed, Simple8}
+use Rattle.segment_codecs.specs.declared.codec.Codec.TheVariants.{Simple8, Varbyte, Packed}
 
 -- a shortest varint of a gap has one to four bytes
 abbrev pub FewBytes : ℕ → Type 0
@@ -37,8 +34,7 @@ words_some gaps some = let next = next_length gaps 0 (selector_of gaps) (omega (
 pub simple8_some : (d : ℕ) (docs : List ℕ) → AreDocs d docs → 8 ≤ payload_size d docs Simple8
 simple8_some d docs are =
     let some : 1 ≤ length (gaps_of docs) = omega (arith, length-gaps_from 0 docs, are.some) in
-    let next = next_length (gaps_of docs) 0 (selector_of (gaps_of docs)) (omega (arith, some)) refl in
-    omega (arith, next)
+    omega (arith, next_length (gaps_of docs) 0 (selector_of (gaps_of docs)) (omega (arith, some)) refl)
 
 -- without a full block all gaps are varints
 pub packed_same : (d : ℕ) (docs : List ℕ) → length docs < 128 → payload_size d docs Packed ≡ payload_size d docs Varbyte

@@ -1,4 +1,4 @@
-ghost use Rattle.std.specs.Prelude.{◌≡◌, ℕ, ◌≤◌, ◌↔◌, List, [], length, take, drop};
+ghost use Rattle.std.specs.Prelude.{ℕ, List};
 ghost use Rattle.jass_base.specs.Codecs.{GivesAll, HandsOver};
 ghost use Rattle.segment_codecs.specs.Codecs.{payload_of};
 ghost use Rattle.segment_codecs.specs.Giving.{Gives};

@@ -66,10 +66,7 @@ fn check_and_read(
     ensures { ChecksInto (payload_of codec d) (read_payload codec) d count bytes.now out.old out.new result }
 {
     payloads_are_read();
-    match check(codec, bytes, count, d) {
-        Ok(()) => {}
-        Err(fault) => return Err(fault),
-    }
+    check(codec, bytes, count, d)?;
     let cursor = SegmentCursor::new(codec, count, d);
     read_docs(cursor, bytes, count, out);
     Ok(())

@@ -1,7 +1,7 @@
 //! What the definitions of the codecs promise. Each function does nothing of its own: its contract
 //! is the law, and a caller learns it by the call.
 
-ghost use Rattle.std.specs.Prelude.{ℕ, ◌≡◌, ◌≤◌, ◌<◌, ◌*◌, ◌^◌, List, length, All, Ok, Some};
+ghost use Rattle.std.specs.Prelude.{ℕ, ◌≡◌, ◌≤◌, ◌<◌, ◌*◌, List, length, All, Ok, Some};
 ghost use Rattle.jass_base.specs.Gaps.{AreDocs};
 ghost use Rattle.lane_kernels.specs.Bitmap.{set_bits};
 ghost use Rattle.plain_codecs.specs.Bitmap.{bitmap_size};

@@ -1,10 +1,6 @@
 -- Segments of definitions and entries of the same shape have the same sizes, weights and bounds.
-use Rattle.std.proofs.Common.{◌≡◌, ℕ, suc, zero, ◌≤◌, List, [], ◌∷◌, length, map, take, drop, true, false, refl, sym, ap, ◌∙◌, arith, inl, inr, ◌⊎◌, ◌==◌, nat_le, sum_by, Some}
-use Rattle.std.specs.Prelude.{slice_get}
-use Rattle.std.proofs.lemmas.List.{length-map, take-map}
+use Rattle.shared_lemmas.proofs.Common.{◌≡◌, ℕ, suc, zero, ◌≤◌, List, [], ◌∷◌, length, map, take, drop, true, false, refl, sym, ap, ◌∙◌, arith, inl, inr, ◌⊎◌, ◌==◌, nat_le, sum_by, Some, slice_get, length-map, take-map, sum_by-cons, cases_Bool, take-length}
 use Rattle.std.specs.List.{drop-map}
-use Rattle.std.proofs.lemmas.List.Sums.{sum_by-cons}
-use Rattle.std.proofs.lemmas.Bool.{cases_Bool}
 use Rattle.ranking_model.specs.declared.plan_segment.PlanSegment.{PlanSegment}
 use Rattle.ranking_model.specs.Plan.{size_of_first, greatest_up_to, prefix_within, weight_at}
 use Rattle.ranking_model.specs.Scores.{greatest_weight}
@@ -51,10 +47,7 @@ pub alike_size : (n : ℕ) (cs : List PlanSegment) (es : List PlanEntry) → Ali
 alike_size n cs es h = sizes_alike (take n cs) (take n es) (alike_take n cs es h)
 
 pub alike_sizes : (cs : List PlanSegment) (es : List PlanEntry) → Alike cs es → size_of_first (length cs) cs ≡ postings_of es
-alike_sizes cs es h = alike_size (length cs) cs es h ∙ ap postings_of (ap (λ n. take n es) (alike_length cs es h) ∙ take_length es) where
-  take_length : (es : List PlanEntry) → take (length es) es ≡ es
-  take_length [] = refl
-  take_length (e ∷ es) = ap (λ l. e ∷ l) (take_length es)
+alike_sizes cs es h = alike_size (length cs) cs es h ∙ ap postings_of (ap (λ n. take n es) (alike_length cs es h) ∙ take-length es)
 
 pub alike_prefix : (budget : ℕ) (cs : List PlanSegment) (es : List PlanEntry) → Alike cs es → prefix_within budget cs ≡ entries_within budget es
 alike_prefix budget cs es h = ap (λ m. greatest_up_to m (λ n. nat_le (size_of_first n cs) budget)) (alike_length cs es h)

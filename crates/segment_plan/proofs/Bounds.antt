@@ -1,15 +1,13 @@
 -- What one segment more adds to the bound.
-use Rattle.std.proofs.Common.{◌≡◌, ℕ, suc, zero, length-set, replicate, replicate, ◌+◌, ◌-◌, ◌*◌, ◌^◌, ◌<◌, ◌≤◌, ◌≢◌, max, List, [], ◌∷◌, length, get_or, set, drop, true, false, refl, sym, ap, ◌∙◌, arith, inl, inr, ◌⊎◌, ◌==◌, sum_by, eq-eqb, get_or-set_same, get_or-set_other}
-use Rattle.std.specs.List.{range_with_len, AllByRecursion}
+use Rattle.shared_lemmas.proofs.Common.{◌≡◌, ℕ, suc, zero, length-set, replicate, ◌+◌, ◌-◌, ◌*◌, ◌^◌, ◌<◌, ◌≤◌, ◌≢◌, max, List, [], ◌∷◌, length, get_or, set, drop, true, false, refl, sym, ap, ◌∙◌, arith, inl, inr, ◌⊎◌, ◌==◌, sum_by, eq-eqb, get_or-set_same, get_or-set_other, range_with_len}
+use Rattle.shared_lemmas.proofs.Common.{AllByRecursion, drop_all, All-from_recursion, cases_Bool, cases_eq, nat_tests}
 use Rattle.std.proofs.Math.Seq.{drop-cons}
-use Rattle.std.proofs.lemmas.List.{drop_all}
-use Rattle.std.proofs.lemmas.List.Elements.{All-from_recursion}
-use Rattle.std.proofs.lemmas.Bool.{cases_Bool, cases_eq}
-use Rattle.std.proofs.lemmas.Bool.Decides.{nat_tests}
 use Rattle.segment_plan.specs.declared.entry.PlanEntry.{PlanEntry}
 use Rattle.segment_plan.specs.Entries.{PlanView, greatest_at, rest_bound}
-use Rattle.segment_plan.specs.Tables.{AreLight, AreBoundsFrom}
+use Rattle.segment_plan.specs.Private.Tables.{AreBoundsFrom}
+use Rattle.segment_plan.specs.Private.Arranging.{AreLight}
 use Rattle.segment_plan.proofs.Ranges.{sums_zero, sums_differ, sum_bounded}
+use Rattle.shared_lemmas.proofs.Lists.{all_drop}
 
 at_first : (term_place : ℕ) (e : PlanEntry) (es : List PlanEntry) → e.term_place ≡ term_place → greatest_at term_place (e ∷ es) ≡ max e.weight (greatest_at term_place es)
 at_first term_place e es same = let t : (e.term_place == term_place) ≡ true = eq-eqb _ _ same in rw t refl
@@ -23,11 +21,6 @@ greatest_le term_place (e ∷ es) h = by (cases_Bool (e.term_place == term_place
   by : ((e.term_place == term_place) ≡ true) ⊎ ((e.term_place == term_place) ≡ false) → greatest_at term_place es ≤ 16711425 → greatest_at term_place (e ∷ es) ≤ 16711425
   by (inl t) rest = let this = h.0 in rw t (omega arith)
   by (inr f) rest = rw f rest
-
-all_drop : (P : PlanEntry → Type 0) (n : ℕ) (es : List PlanEntry) → AllByRecursion P es → AllByRecursion P (drop n es)
-all_drop P zero es h = h
-all_drop P (suc n) [] h = tt
-all_drop P (suc n) (e ∷ es) h = all_drop P n es h.1
 
 pub bound_fits : (n terms : ℕ) (es : List PlanEntry) → terms ≤ 256 → AreLight terms es → sum_by (λ term_place. greatest_at term_place (drop n es)) (range_with_len 0 terms) < 2 ^ 32
 bound_fits n terms es few light = let total = sum_bounded (λ term_place. greatest_at term_place (drop n es)) terms (λ term_place. greatest_le term_place (drop n es) (all_drop _ n es light.weights)) in omega arith

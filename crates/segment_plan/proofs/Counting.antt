@@ -1,11 +1,7 @@
 -- A query has few segments, since those of one term differ in impact.
-use Rattle.std.proofs.Common.{◌≡◌, ℕ, suc, ◌+◌, ◌*◌, ◌^◌, ◌<◌, ◌≤◌, ◌≢◌, List, [], ◌∷◌, length, map, get_or, true, false, eqb, eq-eqb, sym, ◌∙◌, arith, inl, inr, ◌⊎◌, AllPairs}
-use Rattle.std.specs.List.{list_any, IsDistinct}
-use Rattle.std.proofs.lemmas.Bool.{cases_Bool}
+use Rattle.shared_lemmas.proofs.Common.{◌≡◌, ℕ, suc, ◌+◌, ◌*◌, ◌^◌, ◌<◌, ◌≤◌, ◌≢◌, List, [], ◌∷◌, length, map, get_or, true, false, eqb, eq-eqb, sym, ◌∙◌, arith, inl, inr, ◌⊎◌, AllPairs, list_any, IsDistinct, cases_Bool, get_or-map, length-map, length-le_from_distinct_below}
+use Rattle.shared_lemmas.proofs.Common.{IsDistinct-from_AllPairs}
 use borrow.Author.Tests.{eqb-true}
-use Rattle.std.proofs.lemmas.List.{get_or-map, length-map}
-use Rattle.std.proofs.lemmas.Map.Steps.{length-le_from_distinct_below}
-use Rattle.std.proofs.lemmas.Map.Made.{IsDistinct-from_AllPairs}
 use Rattle.jass_base.specs.declared.query_term.QueryTerm.{QueryTerm}
 use Rattle.segment_plan.specs.declared.entry.PlanHead.{PlanHead}
 use Rattle.segment_plan.specs.Entries.{AreHeads, Fall}
@@ -39,9 +35,7 @@ heads_are_few terms heads are few small =
     below : (i : ℕ) → i < length (map key heads) → get_or (map key heads) i 0 < 2 ^ 24
     below i h =
         let within : i < length heads = let same = length-map heads key in omega arith in
-        let term_place = are.inside i none within in
-        let impact = small i within in
-        let is = at_key i 0 within in
+        let term_place = are.inside i none within in let impact = small i within in let is = at_key i 0 within in
         omega arith
 
     differ : AllPairs (λ x y. x ≢ y) (map key heads)

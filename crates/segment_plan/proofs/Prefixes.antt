@@ -1,13 +1,9 @@
 -- The longest prefix that fits, from the sums.
-use Rattle.std.proofs.Common.{◌≡◌, ℕ, ◌+◌, ◌<◌, ◌≤◌, List, length, get_or, take, drop, false, sym, ap, ◌∙◌, arith, nat_le}
-use Rattle.std.proofs.lemmas.List.{take-take, drop-take, length-drop, get_or-drop}
-use Rattle.std.proofs.lemmas.List.Sums.{sum_by-take-le, sum_by-take-drop}
-use Rattle.std.proofs.lemmas.Bool.{le-leb}
-use Rattle.std.proofs.lemmas.Bool.Decides.{nat_tests}
+use Rattle.shared_lemmas.proofs.Common.{◌≡◌, ℕ, ◌+◌, ◌<◌, ◌≤◌, List, length, get_or, take, drop, false, sym, ap, ◌∙◌, arith, nat_le, take-take, drop-take, length-drop, get_or-drop, sum_by-take-le, sum_by-take-drop, le-leb, nat_tests}
 use Rattle.ranking_model.proofs.Totals.{greatest_is}
 use Rattle.segment_plan.specs.declared.entry.PlanEntry.{PlanEntry}
 use Rattle.segment_plan.specs.Entries.{postings_of, entries_within}
-use Rattle.segment_plan.specs.Tables.{AreSums}
+use Rattle.segment_plan.specs.Private.Tables.{AreSums}
 
 pub postings_mono : (entries : List PlanEntry) (i j : ℕ) → i ≤ j → postings_of (take i entries) ≤ postings_of (take j entries)
 postings_mono entries i j h = let e = take-take i j entries h in let less = sum_by-take-le (λ (entry : PlanEntry). entry.count) (take j entries) i in rw e at less
@@ -58,18 +54,14 @@ module _ (entries : List PlanEntry) (sums shown : List ℕ) (from : ℕ) (are : 
 
   pub shown_rise : (i : ℕ) → i < length shown → get_or shown 0 0 ≤ get_or shown i 0
   shown_rise i h =
-      let long = shown_length in
-      let first = are.each from within in
+      let long = shown_length in let first = are.each from within in
       let later = are.each (from + i) (omega arith) in
       let more = postings_mono entries from (from + i) (omega arith) in
-      let a = start_at in
-      let b = shown_at i in
+      let a = start_at in let b = shown_at i in
       omega arith
 
   pub shown_within : (n left : ℕ) → n < length shown → get_or shown n 0 ≤ get_or shown 0 0 + left → (n + 1 < length shown → get_or shown 0 0 + left < get_or shown (n + 1) 0) → n ≡ entries_within left (drop from entries)
   shown_within n left h fits stops =
-      let long = shown_length in
-      let a = start_at in
-      let b = shown_at n in
+      let long = shown_length in let a = start_at in let b = shown_at n in
       let next : get_or shown (n + 1) 0 ≡ get_or sums (from + n + 1) 0 = shown_at (n + 1) ∙ ap (λ m. get_or sums m 0) (omega arith) in
       within_is entries sums from n left are (omega arith) (omega arith) (λ k. let over = stops (omega arith) in omega arith)

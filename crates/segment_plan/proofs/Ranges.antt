@@ -1,8 +1,5 @@
 -- Sums over the numbers below n.
-use Rattle.std.proofs.Common.{◌≡◌, ℕ, suc, zero, ◌+◌, ◌*◌, ◌<◌, ◌≤◌, ◌≢◌, [], refl, sym, ap, ◌∙◌, arith, inl, inr, ◌⊎◌, sum_by}
-use Rattle.std.specs.List.{range_with_len}
-use Rattle.std.proofs.lemmas.List.Sums.{sum_by_push}
-use Rattle.std.proofs.lemmas.Bool.{cases_eq}
+use Rattle.shared_lemmas.proofs.Common.{◌≡◌, ℕ, suc, zero, ◌+◌, ◌*◌, ◌<◌, ◌≤◌, ◌≢◌, refl, sym, ap, ◌∙◌, arith, inl, inr, ◌⊎◌, sum_by, range_with_len, sum_by_push, cases_eq}
 use Rattle.shared_lemmas.proofs.Sums.{range_push}
 
 pub sum_more : (f : ℕ → ℕ) (n : ℕ) → sum_by f (range_with_len 0 (suc n)) ≡ sum_by f (range_with_len 0 n) + f n
@@ -20,8 +17,7 @@ sums_differ f g (suc n) at more h others here = by (cases_eq at n) (λ k. sums_d
   by (inl e) rest =
       let same = sums_agree f g n (λ q k. others q (omega arith) (λ i. omega (arith, i, k, e))) in
       let last : f n ≡ g n + more = rw e at here in
-      let a = sum_more f n in
-      let b = sum_more g n in
+      let a = sum_more f n in let b = sum_more g n in
       omega arith
   by (inr e) rest = let same = rest (omega arith) in let last = others n (omega arith) (λ i. e (sym i)) in let a = sum_more f n in let b = sum_more g n in omega arith
 

@@ -1,6 +1,5 @@
 -- Segments of definitions and entries of the same shapes have them in the plan's order too.
-use Rattle.std.proofs.Common.{◌≡◌, List, map, sym, ap, ◌∙◌}
-use Rattle.std.proofs.lemmas.Simd.{map-map}
+use Rattle.shared_lemmas.proofs.Common.{◌≡◌, List, map, sym, ap, ◌∙◌, map-map}
 use Rattle.ranking_model.specs.declared.plan_segment.PlanSegment.{PlanSegment}
 use Rattle.ranking_model.specs.Order.{sorted}
 use Rattle.ranking_model.specs.Plan.{plan_cmp}

@@ -1,4 +1,4 @@
 pub mod Entries
 pub mod Examples
 pub mod Shape
-pub mod Tables
+pub mod Private

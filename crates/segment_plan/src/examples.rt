@@ -4,7 +4,7 @@
 ghost use Rattle.std.specs.Prelude.{◌≡◌, List, [], ◌∷◌, length, drop, map};
 ghost use Rattle.jass_base.specs.declared.query_term.QueryTerm.{QueryTerm};
 ghost use Rattle.segment_plan.specs.Entries.{AreHeads, postings_of, entries_within, rest_bound};
-ghost use Rattle.segment_plan.specs.Examples.{entry, cat_dog_heads, cat_dog, dog_cat, cat_twice_dog};
+ghost use Rattle.segment_plan.specs.Examples.{plan_entry, cat_dog_heads, cat_dog, dog_cat, cat_twice_dog};
 
 /// The segments of `cat dog` are those of a query of two terms.
 pub fn segments_of_cat_dog()
@@ -15,11 +15,11 @@ pub fn segments_of_cat_dog()
 /// the number of postings before the place.
 pub fn plans_of_queries()
     ensures cat_dog { cat_dog.entries ≡
-        entry 0 0 3 1 ∷ entry 1 0 3 1 ∷ entry 1 1 2 1 ∷ entry 0 1 1 2 ∷ [] }
+        plan_entry 0 0 3 1 ∷ plan_entry 1 0 3 1 ∷ plan_entry 1 1 2 1 ∷ plan_entry 0 1 1 2 ∷ [] }
     ensures dog_cat { dog_cat.entries ≡
-        entry 0 0 3 1 ∷ entry 1 0 3 1 ∷ entry 0 1 2 1 ∷ entry 1 1 1 2 ∷ [] }
+        plan_entry 0 0 3 1 ∷ plan_entry 1 0 3 1 ∷ plan_entry 0 1 2 1 ∷ plan_entry 1 1 1 2 ∷ [] }
     ensures cat_twice_dog { cat_twice_dog.entries ≡
-        entry 0 0 6 1 ∷ entry 1 0 3 1 ∷ entry 1 1 2 1 ∷ entry 0 1 2 2 ∷ [] }
+        plan_entry 0 0 6 1 ∷ plan_entry 1 0 3 1 ∷ plan_entry 1 1 2 1 ∷ plan_entry 0 1 2 2 ∷ [] }
 {}
 
 /// What `cat dog` has, what budgets pay for, and the bounds.

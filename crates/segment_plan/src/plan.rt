@@ -1,6 +1,6 @@
-ghost use Rattle.std.specs.Prelude.{ℕ, ◌≡◌, ◌≤◌, ◌<◌, ◌+◌, Some, length, drop, slice_get, IfOk};
+ghost use Rattle.std.specs.Prelude.{◌≡◌, ◌≤◌, ◌<◌, ◌+◌, Some, length, drop, slice_get, IfOk};
 ghost use Rattle.segment_plan.specs.Entries.{PlanView, AreHeads, plan_with, entries_within, rest_bound};
-ghost use Rattle.segment_plan.specs.Tables.{HasTables};
+ghost use Rattle.segment_plan.specs.Private.Tables.{HasTables};
 
 use crate::entry::{PlanEntry, PlanHead};
 use crate::tables::{arrange, bounds_of, longest, sums_of, weigh};

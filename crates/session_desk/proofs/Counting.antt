@@ -1,13 +1,7 @@
 -- Each line scores what the sessions gain by it.
-use Rattle.std.proofs.Common.{◌≡◌, ℕ, ◌+◌, ◌-◌, ◌≤◌, ◌^◌, Bool, true, false, not, cond, List, [], ◌∷◌, ◌++◌, filter, Option, Some, None, Result, Ok, Err, refl, sym, ap, subst, ◌∙◌, arith}
+use Rattle.shared_lemmas.proofs.Common.{◌≡◌, ℕ, ◌+◌, ◌-◌, ◌≤◌, ◌^◌, Bool, true, false, not, cond, List, [], ◌∷◌, ◌++◌, filter, Option, Some, None, Result, Ok, Err, refl, sym, ap, subst, ◌∙◌, arith, sum_by-append, sum_by-cons, bytes_eq-Decides, ⊤, sum_by, AllByRecursion, find, option_map_or}
 use Rattle.std.proofs.lemmas.Bool.{true≢false}
-use Rattle.std.proofs.lemmas.List.Sums.{sum_by-append, sum_by-cons}
-use Rattle.std.proofs.lemmas.Slice.Eq.{bytes_eq-Decides}
-use Rattle.std.specs.Prelude.{⊤, sum_by}
-use Rattle.std.specs.List.{AllByRecursion, find}
-use Rattle.std.specs.Option.{option_map_or}
-use Rattle.jass_base.specs.declared.answer.Budget.{Budget}
-use Rattle.index_layout.specs.View.{FileView}
+use Rattle.session_desk.proofs.Below.{Budget, FileView}
 use Rattle.session_desk.specs.declared.refusal.DeskRefusal.{DeskRefusal}
 use Rattle.session_desk.specs.Lines.{DeskCommand, Open, Grant, Top, Why, Close, End, is_end, read_desk_line}
 use Rattle.session_desk.specs.Replies.{after_of, desk_after, desk_steps, opening, session_report, steps_of, with_opened}
@@ -22,37 +16,37 @@ Unnamed name e = is_named name e ≡ false
 
 abbrev pub Orderly : List OpenSession → Type 0
 Orderly [] = ⊤
-Orderly (e ∷ entries) = (e.granted ≤ 2 ^ 64 - 1) × AllByRecursion (Unnamed e.query.id) entries × Orderly entries
+Orderly (e ∷ sessions) = (e.granted ≤ 2 ^ 64 - 1) × AllByRecursion (Unnamed e.query.id) sessions × Orderly sessions
 
-none_of : (name : List ℕ) (entries : List OpenSession) → find (is_named name) entries ≡ None → AllByRecursion (Unnamed name) entries
+none_of : (name : List ℕ) (sessions : List OpenSession) → find (is_named name) sessions ≡ None → AllByRecursion (Unnamed name) sessions
 none_of name [] none = tt
-none_of name (e ∷ entries) none = here (is_named name e) refl (none_of name entries)
+none_of name (e ∷ sessions) none = here (is_named name e) refl (none_of name sessions)
   where
-    here : (b : Bool) → is_named name e ≡ b → (find (is_named name) entries ≡ None → AllByRecursion (Unnamed name) entries) → (is_named name e ≡ false) × AllByRecursion (Unnamed name) entries
+    here : (b : Bool) → is_named name e ≡ b → (find (is_named name) sessions ≡ None → AllByRecursion (Unnamed name) sessions) → (is_named name e ≡ false) × AllByRecursion (Unnamed name) sessions
     here true is later =
-        let some : (let o : Option OpenSession = Some e in o) ≡ None = ap (λ (b : Bool). cond b (Some e) (find (is_named name) entries)) (sym is) ∙ none in
+        let some : (let o : Option OpenSession = Some e in o) ≡ None = ap (λ (b : Bool). cond b (Some e) (find (is_named name) sessions)) (sym is) ∙ none in
         cc
-    here false is later = (is, later (ap (λ (b : Bool). cond b (Some e) (find (is_named name) entries)) (sym is) ∙ none))
+    here false is later = (is, later (ap (λ (b : Bool). cond b (Some e) (find (is_named name) sessions)) (sym is) ∙ none))
 
-unnamed_more : (name other : List ℕ) (budget : Budget) (entries : List OpenSession) → AllByRecursion (Unnamed name) entries → AllByRecursion (Unnamed name) (with_named other (granted_more budget) entries)
+unnamed_more : (name other : List ℕ) (budget : Budget) (sessions : List OpenSession) → AllByRecursion (Unnamed name) sessions → AllByRecursion (Unnamed name) (with_named other (granted_more budget) sessions)
 unnamed_more name other budget [] all = tt
-unnamed_more name other budget (e ∷ entries) all = (here (is_named other e), unnamed_more name other budget entries all.1)
+unnamed_more name other budget (e ∷ sessions) all = (here (is_named other e), unnamed_more name other budget sessions all.1)
   where
     here : (b : Bool) → is_named name (cond b (granted_more budget e) e) ≡ false
     here true = all.0
     here false = all.0
 
-unnamed_less : (name other : List ℕ) (entries : List OpenSession) → AllByRecursion (Unnamed name) entries → AllByRecursion (Unnamed name) (without_named other entries)
+unnamed_less : (name other : List ℕ) (sessions : List OpenSession) → AllByRecursion (Unnamed name) sessions → AllByRecursion (Unnamed name) (without_named other sessions)
 unnamed_less name other [] all = tt
-unnamed_less name other (e ∷ entries) all = here (is_named other e) (unnamed_less name other entries all.1)
+unnamed_less name other (e ∷ sessions) all = here (is_named other e) (unnamed_less name other sessions all.1)
   where
-    here : (b : Bool) → AllByRecursion (Unnamed name) (without_named other entries) → AllByRecursion (Unnamed name) (cond (not b) (e ∷ without_named other entries) (without_named other entries))
+    here : (b : Bool) → AllByRecursion (Unnamed name) (without_named other sessions) → AllByRecursion (Unnamed name) (cond (not b) (e ∷ without_named other sessions) (without_named other sessions))
     here true rest = rest
     here false rest = (all.0, rest)
 
-unnamed_join : (name : List ℕ) (entries : List OpenSession) (entry : OpenSession) → AllByRecursion (Unnamed name) entries → is_named name entry ≡ false → AllByRecursion (Unnamed name) (entries ++ entry ∷ [])
-unnamed_join name [] entry all other = (other, tt)
-unnamed_join name (e ∷ entries) entry all other = (all.0, unnamed_join name entries entry all.1 other)
+unnamed_join : (name : List ℕ) (sessions : List OpenSession) (session : OpenSession) → AllByRecursion (Unnamed name) sessions → is_named name session ≡ false → AllByRecursion (Unnamed name) (sessions ++ session ∷ [])
+unnamed_join name [] session all other = (other, tt)
+unnamed_join name (e ∷ sessions) session all other = (all.0, unnamed_join name sessions session all.1 other)
 
 turned : (first second : OpenSession) → is_named second.query.id first ≡ false → is_named first.query.id second ≡ false
 turned first second other = here (is_named first.query.id second) refl
@@ -62,83 +56,83 @@ turned first second other = here (is_named first.query.id second) refl
     here true is =
         absurd (true≢false (sym ((bytes_eq-Decides first.query.id second.query.id).1 (sym ((bytes_eq-Decides second.query.id first.query.id).0 is))) ∙ other))
 
-orderly_more : (name : List ℕ) (budget : Budget) (entries : List OpenSession) → Orderly entries → Orderly (with_named name (granted_more budget) entries)
+orderly_more : (name : List ℕ) (budget : Budget) (sessions : List OpenSession) → Orderly sessions → Orderly (with_named name (granted_more budget) sessions)
 orderly_more name budget [] orderly = tt
-orderly_more name budget (e ∷ entries) orderly = here (is_named name e) (unnamed_more e.query.id name budget entries orderly.1) (orderly_more name budget entries orderly.2)
+orderly_more name budget (e ∷ sessions) orderly = here (is_named name e) (unnamed_more e.query.id name budget sessions orderly.1) (orderly_more name budget sessions orderly.2)
   where
-    here : (b : Bool) → AllByRecursion (Unnamed e.query.id) (with_named name (granted_more budget) entries) → Orderly (with_named name (granted_more budget) entries)
-        → Orderly (cond b (granted_more budget e) e ∷ with_named name (granted_more budget) entries)
+    here : (b : Bool) → AllByRecursion (Unnamed e.query.id) (with_named name (granted_more budget) sessions) → Orderly (with_named name (granted_more budget) sessions)
+        → Orderly (cond b (granted_more budget e) e ∷ with_named name (granted_more budget) sessions)
     here true others more = (omega arith, others, more)
     here false others more = (orderly.0, others, more)
 
-orderly_less : (name : List ℕ) (entries : List OpenSession) → Orderly entries → Orderly (without_named name entries)
+orderly_less : (name : List ℕ) (sessions : List OpenSession) → Orderly sessions → Orderly (without_named name sessions)
 orderly_less name [] orderly = tt
-orderly_less name (e ∷ entries) orderly = here (is_named name e) (unnamed_less e.query.id name entries orderly.1) (orderly_less name entries orderly.2)
+orderly_less name (e ∷ sessions) orderly = here (is_named name e) (unnamed_less e.query.id name sessions orderly.1) (orderly_less name sessions orderly.2)
   where
-    here : (b : Bool) → AllByRecursion (Unnamed e.query.id) (without_named name entries) → Orderly (without_named name entries) → Orderly (cond (not b) (e ∷ without_named name entries) (without_named name entries))
+    here : (b : Bool) → AllByRecursion (Unnamed e.query.id) (without_named name sessions) → Orderly (without_named name sessions) → Orderly (cond (not b) (e ∷ without_named name sessions) (without_named name sessions))
     here true others less = less
     here false others less = (orderly.0, others, less)
 
-orderly_join : (entries : List OpenSession) (entry : OpenSession) → Orderly entries → entry.granted ≤ 2 ^ 64 - 1 → AllByRecursion (Unnamed entry.query.id) entries → Orderly (entries ++ entry ∷ [])
-orderly_join [] entry orderly most none = (most, tt, tt)
-orderly_join (e ∷ entries) entry orderly most none =
-    (orderly.0, unnamed_join e.query.id entries entry orderly.1 (turned e entry none.0), orderly_join entries entry orderly.2 most none.1)
+orderly_join : (sessions : List OpenSession) (session : OpenSession) → Orderly sessions → session.granted ≤ 2 ^ 64 - 1 → AllByRecursion (Unnamed session.query.id) sessions → Orderly (sessions ++ session ∷ [])
+orderly_join [] session orderly most none = (most, tt, tt)
+orderly_join (e ∷ sessions) session orderly most none =
+    (orderly.0, unnamed_join e.query.id sessions session orderly.1 (turned e session none.0), orderly_join sessions session orderly.2 most none.1)
 
 -- ---- sums over sessions
 
-with_unnamed : (name : List ℕ) (change : OpenSession → OpenSession) (entries : List OpenSession) → AllByRecursion (Unnamed name) entries → with_named name change entries ≡ entries
+with_unnamed : (name : List ℕ) (change : OpenSession → OpenSession) (sessions : List OpenSession) → AllByRecursion (Unnamed name) sessions → with_named name change sessions ≡ sessions
 with_unnamed name change [] all = refl
-with_unnamed name change (e ∷ entries) all = ap (λ (b : Bool). cond b (change e) e ∷ with_named name change entries) all.0 ∙ ap (λ es. e ∷ es) (with_unnamed name change entries all.1)
+with_unnamed name change (e ∷ sessions) all = ap (λ (b : Bool). cond b (change e) e ∷ with_named name change sessions) all.0 ∙ ap (λ es. e ∷ es) (with_unnamed name change sessions all.1)
 
 module _ (p : OpenSession → ℕ) where
-  sum_more : (rises : (e : OpenSession) (budget : Budget) → e.granted ≤ 2 ^ 64 - 1 → p e ≤ p (granted_more budget e)) (name : List ℕ) (budget : Budget) (entries : List OpenSession) → Orderly entries
-      → sum_by p (with_named name (granted_more budget) entries) ≡ sum_by p entries + option_map_or (λ (e : OpenSession). p (granted_more budget e) - p e) (find (is_named name) entries) 0
+  sum_more : (rises : (e : OpenSession) (budget : Budget) → e.granted ≤ 2 ^ 64 - 1 → p e ≤ p (granted_more budget e)) (name : List ℕ) (budget : Budget) (sessions : List OpenSession) → Orderly sessions
+      → sum_by p (with_named name (granted_more budget) sessions) ≡ sum_by p sessions + option_map_or (λ (e : OpenSession). p (granted_more budget e) - p e) (find (is_named name) sessions) 0
   sum_more rises name budget [] orderly = omega arith
-  sum_more rises name budget (e ∷ entries) orderly = here (is_named name e) refl (sum_more rises name budget entries orderly.2)
+  sum_more rises name budget (e ∷ sessions) orderly = here (is_named name e) refl (sum_more rises name budget sessions orderly.2)
     where
       here : (b : Bool) → is_named name e ≡ b
-          → sum_by p (with_named name (granted_more budget) entries) ≡ sum_by p entries + option_map_or (λ (x : OpenSession). p (granted_more budget x) - p x) (find (is_named name) entries) 0
-          → sum_by p (with_named name (granted_more budget) (e ∷ entries)) ≡ sum_by p (e ∷ entries) + option_map_or (λ (x : OpenSession). p (granted_more budget x) - p x) (find (is_named name) (e ∷ entries)) 0
+          → sum_by p (with_named name (granted_more budget) sessions) ≡ sum_by p sessions + option_map_or (λ (x : OpenSession). p (granted_more budget x) - p x) (find (is_named name) sessions) 0
+          → sum_by p (with_named name (granted_more budget) (e ∷ sessions)) ≡ sum_by p (e ∷ sessions) + option_map_or (λ (x : OpenSession). p (granted_more budget x) - p x) (find (is_named name) (e ∷ sessions)) 0
       here true is later =
           let named : e.query.id ≡ name = (bytes_eq-Decides e.query.id name).0 is in
-          let others : with_named name (granted_more budget) entries ≡ entries = with_unnamed name (granted_more budget) entries (subst (λ n. AllByRecursion (Unnamed n) entries) named orderly.1) in
-          let first : with_named name (granted_more budget) (e ∷ entries) ≡ granted_more budget e ∷ entries
-          = ap (λ (b : Bool). cond b (granted_more budget e) e ∷ with_named name (granted_more budget) entries) is ∙ ap (λ es. granted_more budget e ∷ es) others in
-          let found : find (is_named name) (e ∷ entries) ≡ Some e = ap (λ (b : Bool). cond b (Some e) (find (is_named name) entries)) is in
+          let others : with_named name (granted_more budget) sessions ≡ sessions = with_unnamed name (granted_more budget) sessions (subst (λ n. AllByRecursion (Unnamed n) sessions) named orderly.1) in
+          let first : with_named name (granted_more budget) (e ∷ sessions) ≡ granted_more budget e ∷ sessions
+          = ap (λ (b : Bool). cond b (granted_more budget e) e ∷ with_named name (granted_more budget) sessions) is ∙ ap (λ es. granted_more budget e ∷ es) others in
+          let found : find (is_named name) (e ∷ sessions) ≡ Some e = ap (λ (b : Bool). cond b (Some e) (find (is_named name) sessions)) is in
           omega (
             arith,
             ap (sum_by p) first,
-            sum_by-cons p (granted_more budget e) entries,
-            sum_by-cons p e entries,
+            sum_by-cons p (granted_more budget e) sessions,
+            sum_by-cons p e sessions,
             ap (λ (o : Option OpenSession). option_map_or (λ (x : OpenSession). p (granted_more budget x) - p x) o 0) found,
             rises e budget orderly.0,
           )
       here false is later =
-          let first : with_named name (granted_more budget) (e ∷ entries) ≡ e ∷ with_named name (granted_more budget) entries
-          = ap (λ (b : Bool). cond b (granted_more budget e) e ∷ with_named name (granted_more budget) entries) is in
-          let found : find (is_named name) (e ∷ entries) ≡ find (is_named name) entries = ap (λ (b : Bool). cond b (Some e) (find (is_named name) entries)) is in
+          let first : with_named name (granted_more budget) (e ∷ sessions) ≡ e ∷ with_named name (granted_more budget) sessions
+          = ap (λ (b : Bool). cond b (granted_more budget e) e ∷ with_named name (granted_more budget) sessions) is in
+          let found : find (is_named name) (e ∷ sessions) ≡ find (is_named name) sessions = ap (λ (b : Bool). cond b (Some e) (find (is_named name) sessions)) is in
           omega (
             arith,
             later,
             ap (sum_by p) first,
-            sum_by-cons p e (with_named name (granted_more budget) entries),
-            sum_by-cons p e entries,
+            sum_by-cons p e (with_named name (granted_more budget) sessions),
+            sum_by-cons p e sessions,
             ap (λ (o : Option OpenSession). option_map_or (λ (x : OpenSession). p (granted_more budget x) - p x) o 0) found,
           )
 
-  sum_less : (name : List ℕ) (entries : List OpenSession) → sum_by p (filter (is_named name) entries) + sum_by p (without_named name entries) ≡ sum_by p entries
+  sum_less : (name : List ℕ) (sessions : List OpenSession) → sum_by p (filter (is_named name) sessions) + sum_by p (without_named name sessions) ≡ sum_by p sessions
   sum_less name [] = omega arith
-  sum_less name (e ∷ entries) = here (is_named name e) (sum_less name entries)
+  sum_less name (e ∷ sessions) = here (is_named name e) (sum_less name sessions)
     where
-      here : (b : Bool) → sum_by p (filter (is_named name) entries) + sum_by p (without_named name entries) ≡ sum_by p entries
-          → sum_by p (cond b (e ∷ filter (is_named name) entries) (filter (is_named name) entries)) + sum_by p (cond (not b) (e ∷ without_named name entries) (without_named name entries)) ≡ sum_by p (e ∷ entries)
-      here true later = omega (arith, later, sum_by-cons p e (filter (is_named name) entries), sum_by-cons p e entries)
-      here false later = omega (arith, later, sum_by-cons p e (without_named name entries), sum_by-cons p e entries)
+      here : (b : Bool) → sum_by p (filter (is_named name) sessions) + sum_by p (without_named name sessions) ≡ sum_by p sessions
+          → sum_by p (cond b (e ∷ filter (is_named name) sessions) (filter (is_named name) sessions)) + sum_by p (cond (not b) (e ∷ without_named name sessions) (without_named name sessions)) ≡ sum_by p (e ∷ sessions)
+      here true later = omega (arith, later, sum_by-cons p e (filter (is_named name) sessions), sum_by-cons p e sessions)
+      here false later = omega (arith, later, sum_by-cons p e (without_named name sessions), sum_by-cons p e sessions)
 
 -- ---- a line, and lines
 
 abbrev all_scored : FileView → List OpenSession → ℕ
-all_scored file entries = sum_by (λ (e : OpenSession). (session_report file e).postings) entries
+all_scored file sessions = sum_by (λ (e : OpenSession). (session_report file e).postings) sessions
 
 abbrev pub Rises : FileView → Type 0
 Rises file = (e : OpenSession) (budget : Budget) → e.granted ≤ 2 ^ 64 - 1 → (session_report file e).postings ≤ (session_report file (granted_more budget e)).postings
@@ -152,10 +146,10 @@ command_counts file rises paid state None orderly = omega arith
 command_counts file rises paid state (Some (Open name k words)) orderly = here (opening file state name k words) refl
   where
     here : (r : Result OpenSession DeskRefusal) → opening file state name k words ≡ r → 0 + all_scored file state.sessions ≡ all_scored file [] + all_scored file (with_opened state r).sessions
-    here (Ok entry) is =
+    here (Ok session) is =
         let p = λ (e : OpenSession). (session_report file e).postings in
-        let none : entry.granted ≡ 0 = ap (λ (e : OpenSession). e.granted) (opened_for file state name k words entry is).is in
-        omega (arith, sum_by-append p state.sessions (entry ∷ []), sum_by-cons p entry [], paid entry, none)
+        let none : session.granted ≡ 0 = ap (λ (e : OpenSession). e.granted) (opened_for file state name k words session is).is in
+        omega (arith, sum_by-append p state.sessions (session ∷ []), sum_by-cons p session [], paid session, none)
     here (Err refusal) is = omega arith
 command_counts file rises paid state (Some (Grant name budget)) orderly = omega (arith, sum_more (λ (e : OpenSession). (session_report file e).postings) rises name budget state.sessions orderly)
 command_counts file rises paid state (Some (Top name)) orderly = omega arith
@@ -168,10 +162,10 @@ command_orderly file state None orderly = orderly
 command_orderly file state (Some (Open name k words)) orderly = here (opening file state name k words) refl
   where
     here : (r : Result OpenSession DeskRefusal) → opening file state name k words ≡ r → Orderly (with_opened state r).sessions
-    here (Ok entry) is =
-        let opened = opened_for file state name k words entry is in
-        let named : entry.query.id ≡ name = named_for file state name k words entry opened in
-        orderly_join state.sessions entry orderly (omega (arith, ap (λ (e : OpenSession). e.granted) opened.is)) (subst (λ n. AllByRecursion (Unnamed n) state.sessions) (sym named) (none_of name state.sessions opened.free))
+    here (Ok session) is =
+        let opened = opened_for file state name k words session is in
+        let named : session.query.id ≡ name = named_for file state name k words session opened in
+        orderly_join state.sessions session orderly (omega (arith, ap (λ (e : OpenSession). e.granted) opened.is)) (subst (λ n. AllByRecursion (Unnamed n) state.sessions) (sym named) (none_of name state.sessions opened.free))
     here (Err refusal) is = orderly
 command_orderly file state (Some (Grant name budget)) orderly = orderly_more name budget state.sessions orderly
 command_orderly file state (Some (Top name)) orderly = orderly
@@ -218,15 +212,14 @@ lines_count file rises paid state (line ∷ lines) orderly = here (is_end line) 
             → steps_from file state (line ∷ lines) + all_scored file state.sessions ≡ all_scored file (sessions_from file state (line ∷ lines))
         joins true first second later =
             omega (arith, first, second, line_counts file rises paid state line orderly, sum_by-append (λ (e : OpenSession). (session_report file e).postings) (ended_by state (read_desk_line line)) (desk_after file state line).sessions)
-        joins false first second later =
-            omega (
-              arith,
-              first,
-              second,
-              later,
-              line_counts file rises paid state line orderly,
-              sum_by-append (λ (e : OpenSession). (session_report file e).postings) (ended_by state (read_desk_line line)) (sessions_from file (desk_after file state line) lines),
-            )
+        joins false first second later = omega (
+          arith,
+          first,
+          second,
+          later,
+          line_counts file rises paid state line orderly,
+          sum_by-append (λ (e : OpenSession). (session_report file e).postings) (ended_by state (read_desk_line line)) (sessions_from file (desk_after file state line) lines),
+        )
 
 pub all_counted : (file : FileView) → Rises file → IsPaid file → (frames : ℕ) (lines : List (List ℕ)) → desk_postings file frames lines ≡ all_scored file (sessions_from file (new_state frames) lines)
 unfolding desk_postings

@@ -2,22 +2,15 @@
 use Rattle.std.proofs.Common.{◌≡◌, ℕ, ◌+◌, ◌-◌, ◌≤◌, List, [], ◌∷◌, ◌++◌, length, get_or, Some, None, refl, sym, ap, subst, ◌∙◌, arith}
 use Rattle.shared_lemmas.proofs.Lists.{all_back}
 use Rattle.std.specs.List.{AllByRecursion, find, remove, slice_set}
-use Rattle.jass_base.specs.declared.answer.Budget.{Budget}
-use Rattle.jass_base.specs.declared.answer.Report.{Report}
-use Rattle.index_layout.specs.View.{FileView}
-use Rattle.ranking_model.specs.Plan.{granted_with}
-use Rattle.ranking_model.specs.Scores.{top_k}
+use Rattle.session_desk.proofs.Below.{Budget, Report, FileView, granted_with, top_k, report_by, LeavesOthers, LeavesPool, chain_view, IsInUse, PoolView, spare_of, need_of, IsSessionOf, SessionStands, answer_over, chain_of, granted_of, k_of, plan_over, report_of, terms_of, Session}
 use Rattle.ranking_model.specs.Search.{query_data}
-use Rattle.final_certificate.specs.Rule.{report_by}
-use Rattle.frame_pool.specs.ChainView.{LeavesOthers, LeavesPool, chain_view}
-use Rattle.frame_pool.specs.Pool.{IsInUse, PoolView, spare_of}
-use Rattle.session_engine.specs.Plans.{need_of}
-use Rattle.session_engine.specs.Standing.{IsSessionOf, SessionStands, answer_over, chain_of, granted_of, k_of, plan_over, report_of, terms_of}
-use Rattle.session_engine.specs.declared.session.Session.{Session}
 use Rattle.session_desk.specs.declared.told.Told.{Told}
 use Rattle.session_desk.specs.Replies.{session_answer, session_report}
 use Rattle.session_desk.specs.State.{DeskState, OpenSession, granted_more, is_named, with_named, without_named}
-use Rattle.session_desk.specs.Standing.{Differ, IsAt, SessionsStand, entries_of, entry_of, told_of}
+use Rattle.session_desk.specs.Standing.{sessions_data, session_data}
+use Rattle.session_desk.specs.Private.Standing.{Differ, SessionsStand}
+use Rattle.session_desk.specs.Private.Reporting.{told_of}
+use Rattle.session_desk.specs.Private.Places.{IsAt}
 use Rattle.session_desk.proofs.Seating.{OthersStay, Stands, names_before, names_behind, others_stand, still_stand}
 use Rattle.session_desk.proofs.Showing.{changes_there, found_there, goes_there}
 
@@ -46,26 +39,23 @@ module _ (sessions : List Session) (name : List ℕ) (place : ℕ) (at : IsAt se
   changed_is there =
       ap (λ ss. slice_set ss place there) at.parts ∙ ap (λ n. slice_set (at.front ++ at.session ∷ at.back) n there) (sym at.behind) ∙ set_at at.front at.session there at.back
 
-  pub found_at : (here : Session) → here ≡ get_or sessions place here → Differ sessions → find (is_named name) (entries_of sessions) ≡ Some (entry_of here)
-  found_at here is differ =
-      ap (λ ss. find (is_named name) (entries_of ss)) at.parts
+  pub found_at : (here : Session) → here ≡ get_or sessions place here → Differ sessions → find (is_named name) (sessions_data sessions) ≡ Some (session_data here)
+  found_at here is differ = ap (λ ss. find (is_named name) (sessions_data ss)) at.parts
       ∙ found_there name at.front at.session at.back (names_before at.front at.session at.back name at.named (subst Differ at.parts differ)) at.named
-      ∙ ap (λ s. Some (entry_of s)) (sym (session_is here is))
+      ∙ ap (λ s. Some (session_data s)) (sym (session_is here is))
 
   pub changed_stand : OthersStay → (file : FileView) (old new : PoolView) (here there : Session) → here ≡ get_or sessions place here → SessionsStand file old sessions
       → LeavesPool old new (chain_of here) → IsSessionOf here there → SessionStands there file new → SessionsStand file new (slice_set sessions place there)
-  changed_stand stay file old new here there is stand leaves same stands =
-      subst (SessionsStand file new) (sym (changed_is there))
+  changed_stand stay file old new here there is stand leaves same stands = subst (SessionsStand file new) (sym (changed_is there))
       (still_stand stay file old new at.front here there at.back (subst (SessionsStand file old) (at.parts ∙ ap (λ s. at.front ++ s ∷ at.back) (sym (session_is here is))) stand) leaves same stands)
 
-  pub changed_shows : (change : OpenSession → OpenSession) (here there : Session) → here ≡ get_or sessions place here → Differ sessions → entry_of there ≡ change (entry_of here)
-      → entries_of (slice_set sessions place there) ≡ with_named name change (entries_of sessions)
+  pub changed_shows : (change : OpenSession → OpenSession) (here there : Session) → here ≡ get_or sessions place here → Differ sessions → session_data there ≡ change (session_data here)
+      → sessions_data (slice_set sessions place there) ≡ with_named name change (sessions_data sessions)
   changed_shows change here there is differ changed =
       let apart = subst Differ at.parts differ in
-      ap entries_of (changed_is there)
+      ap sessions_data (changed_is there)
       ∙ changes_there name change at.front at.session there at.back (names_before at.front at.session at.back name at.named apart) at.named (names_behind at.front at.session at.back name at.named apart)
-      (changed ∙ ap (λ s. change (entry_of s)) (session_is here is))
-      ∙ ap (λ ss. with_named name change (entries_of ss)) (sym at.parts)
+      (changed ∙ ap (λ s. change (session_data s)) (session_is here is)) ∙ ap (λ ss. with_named name change (sessions_data ss)) (sym at.parts)
 
   pub stands_at : (file : FileView) (pool : PoolView) (here : Session) → here ≡ get_or sessions place here → SessionsStand file pool sessions → SessionStands here file pool
   stands_at file pool here is stand =
@@ -78,38 +68,37 @@ module _ (sessions : List Session) (name : List ℕ) (place : ℕ) (at : IsAt se
       → IsInUse old (chain_of here) → (chain_view old (chain_of here)).promise ≡ need_of file (terms_of here)
       → new.frames ≡ old.frames → new.chains ≡ slice_set old.chains (chain_of here) None → LeavesOthers old new (chain_of here)
       → spare_of new ≡ spare_of old + (chain_view old (chain_of here)).promise → SessionsStand file new (remove sessions place)
-  gone_stand stay file old new here is stand in_use promise frames chains others spare =
-      subst (SessionsStand file new) (sym gone_is)
+  gone_stand stay file old new here is stand in_use promise frames chains others spare = subst (SessionsStand file new) (sym gone_is)
       (others_stand stay file old new at.front here at.back (subst (SessionsStand file old) (at.parts ∙ ap (λ s. at.front ++ s ∷ at.back) (sym (session_is here is))) stand)
       in_use promise frames chains others spare)
 
-  pub gone_shows : Differ sessions → entries_of (remove sessions place) ≡ without_named name (entries_of sessions)
+  pub gone_shows : Differ sessions → sessions_data (remove sessions place) ≡ without_named name (sessions_data sessions)
   gone_shows differ =
       let apart = subst Differ at.parts differ in
-      ap entries_of gone_is
+      ap sessions_data gone_is
       ∙ goes_there name at.front at.session at.back (names_before at.front at.session at.back name at.named apart) at.named (names_behind at.front at.session at.back name at.named apart)
-      ∙ ap (λ ss. without_named name (entries_of ss)) (sym at.parts)
+      ∙ ap (λ ss. without_named name (sessions_data ss)) (sym at.parts)
 
 -- ---- what a session shows
 
-pub entry_granted : (here there : Session) (budget : Budget) → IsSessionOf here there → granted_of there ≡ granted_with (granted_of here) budget → entry_of there ≡ granted_more budget (entry_of here)
-entry_granted here there budget same granted = λ i. record { query = query_data (same.query i); k = same.k i; granted = granted i }
+pub session_granted : (here there : Session) (budget : Budget) → IsSessionOf here there → granted_of there ≡ granted_with (granted_of here) budget → session_data there ≡ granted_more budget (session_data here)
+session_granted here there budget same granted = λ i. record { query = query_data (same.query i); k = same.k i; granted = granted i }
 
-pub report_shown : (s : Session) (file : FileView) (pool : PoolView) → SessionStands s file pool → report_of s ≡ session_report file (entry_of s)
+pub report_shown : (s : Session) (file : FileView) (pool : PoolView) → SessionStands s file pool → report_of s ≡ session_report file (session_data s)
 unfolding session_report
 report_shown s file pool stands = stands.report ∙ ap (λ n. report_by n (plan_over file s) (k_of s)) stands.prefix
 
-pub answer_shown : (s : Session) (file : FileView) (pool : PoolView) → SessionStands s file pool → answer_over file s ≡ session_answer file (entry_of s)
+pub answer_shown : (s : Session) (file : FileView) (pool : PoolView) → SessionStands s file pool → answer_over file s ≡ session_answer file (session_data s)
 unfolding session_answer
 answer_shown s file pool stands = ap (λ n. top_k n (plan_over file s) (k_of s)) stands.prefix
 
-pub told_shown : (file : FileView) (entry : OpenSession) (report : Report) (unknown : ℕ) → report ≡ session_report file entry → unknown ≡ entry.query.unknown
-    → (let told : Told = record { report = report; unknown = unknown } in told) ≡ told_of file entry
-told_shown file entry report unknown first second = λ i. record { report = first i; unknown = second i }
+pub told_shown : (file : FileView) (session : OpenSession) (report : Report) (unknown : ℕ) → report ≡ session_report file session → unknown ≡ session.query.unknown
+    → (let told : Told = record { report = report; unknown = unknown } in told) ≡ told_of file session
+told_shown file session report unknown first second = λ i. record { report = first i; unknown = second i }
 
-pub state_shown : (entries others : List OpenSession) (frames count : ℕ) → entries ≡ others → frames ≡ count
-    → (let state : DeskState = record { sessions = entries; frames = frames } in state) ≡ record { sessions = others; frames = count }
-state_shown entries others frames count first second = λ i. record { sessions = first i; frames = second i }
+pub state_shown : (sessions others : List OpenSession) (frames count : ℕ) → sessions ≡ others → frames ≡ count
+    → (let state : DeskState = record { sessions = sessions; frames = frames } in state) ≡ record { sessions = others; frames = count }
+state_shown sessions others frames count first second = λ i. record { sessions = first i; frames = second i }
 
 -- the steps of a grant are the postings of its report, less those of the one before
 pub steps_shown : (old new before after : ℕ) (earlier later : Report) → earlier.postings ≡ before → later.postings ≡ after → before ≤ after → new + before ≡ old + after

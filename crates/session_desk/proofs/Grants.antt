@@ -1,19 +1,7 @@
 -- The sum of a session's grants, and what it pays for.
-use Rattle.std.proofs.Common.{◌≡◌, ℕ, ◌+◌, ◌-◌, ◌≤◌, ◌^◌, Bool, true, false, cond, List, [], ◌∷◌, ◌++◌, length, drop, Option, Some, None, refl, sym, ap, ◌∙◌, append-nil, append_assoc, arith}
+use Rattle.shared_lemmas.proofs.Common.{◌≡◌, ℕ, ◌+◌, ◌-◌, ◌≤◌, ◌^◌, Bool, true, false, cond, List, [], ◌∷◌, ◌++◌, length, drop, Option, Some, None, refl, sym, ap, ◌∙◌, append-nil, append_assoc, arith, sum_by-append, sum_by-cons, codes, decimal, AllByRecursion}
 use Rattle.std.proofs.lemmas.Bool.{true≢false}
-use Rattle.std.proofs.lemmas.List.Sums.{sum_by-append, sum_by-cons}
-use Rattle.std.specs.Prelude.{codes, decimal}
-use Rattle.std.specs.List.{AllByRecursion}
-use Rattle.jass_base.specs.declared.answer.Budget.{Budget}
-use Rattle.jass_base.specs.declared.answer.Report.{Report}
-use Rattle.ranking_model.specs.declared.plan_segment.PlanSegment.{PlanSegment}
-use Rattle.ranking_model.specs.declared.plan.QueryPlan.{QueryPlan}
-use Rattle.ranking_model.specs.Plan.{amount_of, granted_sum, granted_with, prefix_within, size_of_first}
-use Rattle.ranking_model.specs.Report.{report_line, run_lines}
-use Rattle.ranking_model.specs.Scores.{top_k}
-use Rattle.ranking_model.specs.Search.{query_run}
-use Rattle.final_certificate.specs.Rule.{report_by}
-use Rattle.index_layout.specs.View.{FileView}
+use Rattle.session_desk.proofs.Below.{Budget, Report, PlanSegment, QueryPlan, amount_of, granted_sum, granted_with, prefix_within, size_of_first, report_line, run_lines, top_k, query_run, report_by, FileView}
 use Rattle.session_desk.specs.Alone.{after_lines, budget_in, budgets_in, command_names, does_close, does_name}
 use Rattle.session_desk.specs.Lines.{DeskCommand, Open, Grant, Top, Why, Close, End, read_desk_line}
 use Rattle.session_desk.specs.Replies.{answer_lines, answer_text, command_reply, desk_after, desk_reply, plan_of_session, reply_of, reply_to, report_text, scored_prefix, session_answer, session_report}
@@ -27,41 +15,37 @@ pub granted_behind : (budgets : List Budget) (budget : Budget) → granted_with 
 granted_behind budgets budget = omega (arith, sum_by-append amount_of budgets (budget ∷ []), sum_by-cons amount_of budget [])
 
 abbrev given : OpenSession → List Budget → OpenSession
-given entry budgets = record entry { granted = granted_sum budgets }
+given session budgets = record session { granted = granted_sum budgets }
 
-given_already : (entry : OpenSession) (budgets : List Budget) → entry.granted ≡ granted_sum budgets → entry ≡ given entry budgets
-given_already entry budgets is = λ i. record entry { granted = is i }
+given_already : (session : OpenSession) (budgets : List Budget) → session.granted ≡ granted_sum budgets → session ≡ given session budgets
+given_already session budgets is = λ i. record session { granted = is i }
 
 -- a command that names a session grants it the budget that it has
-command_grants : (name : List ℕ) (entry : OpenSession) (budgets : List Budget) (command : Option DeskCommand) → command_names name command ≡ true → entry.granted ≡ granted_sum budgets
-    → after_command entry command ≡ given entry (budgets ++ budget_in name command)
-command_grants name entry budgets None names is = absurd (true≢false (sym names))
-command_grants name entry budgets (Some (Open n k words)) names is = given_already entry (budgets ++ []) (is ∙ ap granted_sum (sym (append-nil budgets)))
-command_grants name entry budgets (Some (Grant n budget)) names is =
-    given_granted ∙ ap (λ (b : Bool). given entry (budgets ++ cond b (budget ∷ []) [])) (sym names)
+command_grants : (name : List ℕ) (session : OpenSession) (budgets : List Budget) (command : Option DeskCommand) → command_names name command ≡ true → session.granted ≡ granted_sum budgets
+    → after_command session command ≡ given session (budgets ++ budget_in name command)
+command_grants name session budgets None names is = absurd (true≢false (sym names))
+command_grants name session budgets (Some (Open n k words)) names is = given_already session (budgets ++ []) (is ∙ ap granted_sum (sym (append-nil budgets)))
+command_grants name session budgets (Some (Grant n budget)) names is =
+    given_granted ∙ ap (λ (b : Bool). given session (budgets ++ cond b (budget ∷ []) [])) (sym names)
   where
-    given_granted : granted_more budget entry ≡ given entry (budgets ++ budget ∷ [])
-    given_granted = λ i. record entry { granted = (ap (λ g. granted_with g budget) is ∙ granted_behind budgets budget) i }
-command_grants name entry budgets (Some (Top n)) names is = given_already entry (budgets ++ []) (is ∙ ap granted_sum (sym (append-nil budgets)))
-command_grants name entry budgets (Some (Why n)) names is = given_already entry (budgets ++ []) (is ∙ ap granted_sum (sym (append-nil budgets)))
-command_grants name entry budgets (Some (Close n)) names is = given_already entry (budgets ++ []) (is ∙ ap granted_sum (sym (append-nil budgets)))
-command_grants name entry budgets (Some End) names is = absurd (true≢false (sym names))
+    given_granted : granted_more budget session ≡ given session (budgets ++ budget ∷ [])
+    given_granted = λ i. record session { granted = (ap (λ g. granted_with g budget) is ∙ granted_behind budgets budget) i }
+command_grants name session budgets (Some (Top n)) names is = given_already session (budgets ++ []) (is ∙ ap granted_sum (sym (append-nil budgets)))
+command_grants name session budgets (Some (Why n)) names is = given_already session (budgets ++ []) (is ∙ ap granted_sum (sym (append-nil budgets)))
+command_grants name session budgets (Some (Close n)) names is = given_already session (budgets ++ []) (is ∙ ap granted_sum (sym (append-nil budgets)))
+command_grants name session budgets (Some End) names is = absurd (true≢false (sym names))
 
 none_budgeted : (name : List ℕ) (command : Option DeskCommand) → command_names name command ≡ false → budget_in name command ≡ []
 none_budgeted name None other = refl
-none_budgeted name (Some (Open n k words)) other = refl
 none_budgeted name (Some (Grant n budget)) other = ap (λ (b : Bool). cond b (budget ∷ []) []) other
-none_budgeted name (Some (Top n)) other = refl
-none_budgeted name (Some (Why n)) other = refl
-none_budgeted name (Some (Close n)) other = refl
-none_budgeted name (Some End) other = refl
+none_budgeted name (Some command) other = refl
 
 -- ---- lines
 
-line_grants : (name : List ℕ) (entry : OpenSession) (budgets : List Budget) (line : List ℕ) → does_name name line ≡ true → entry.granted ≡ granted_sum budgets
-    → after_command entry (read_desk_line line) ≡ given entry (budgets ++ budget_in name (read_desk_line line))
+line_grants : (name : List ℕ) (session : OpenSession) (budgets : List Budget) (line : List ℕ) → does_name name line ≡ true → session.granted ≡ granted_sum budgets
+    → after_command session (read_desk_line line) ≡ given session (budgets ++ budget_in name (read_desk_line line))
 unfolding does_name
-line_grants name entry budgets line names is = command_grants name entry budgets (read_desk_line line) names is
+line_grants name session budgets line names is = command_grants name session budgets (read_desk_line line) names is
 
 line_budgets_none : (name line : List ℕ) → does_name name line ≡ false → budget_in name (read_desk_line line) ≡ []
 unfolding does_name
@@ -83,26 +67,23 @@ budgets_none : (name : List ℕ) → budgets_in name [] ≡ []
 unfolding budgets_in
 budgets_none name = refl
 
-pub lines_grant : (file : FileView) (name : List ℕ) (state : DeskState) (entry : OpenSession) (budgets : List Budget) (lines : List (List ℕ)) → session_named name state ≡ Some entry → entry.granted ≡ granted_sum budgets
-    → AllByRecursion (λ line. does_close name line ≡ false) lines → session_named name (after_lines file state lines) ≡ Some (record entry { granted = granted_sum (budgets ++ budgets_in name lines) })
-lines_grant file name state entry budgets [] found is stays =
-    ap (session_named name) (after_none file state) ∙ found
-    ∙ ap (λ e. Some e) (given_already entry (budgets ++ budgets_in name []) (is ∙ ap granted_sum (sym (ap (λ bs. budgets ++ bs) (budgets_none name) ∙ append-nil budgets))))
-lines_grant file name state entry budgets (line ∷ lines) found is stays =
-    ap (session_named name) (after_cons file state line lines)
+pub lines_grant : (file : FileView) (name : List ℕ) (state : DeskState) (session : OpenSession) (budgets : List Budget) (lines : List (List ℕ)) → session_named name state ≡ Some session → session.granted ≡ granted_sum budgets
+    → AllByRecursion (λ line. does_close name line ≡ false) lines → session_named name (after_lines file state lines) ≡ Some (record session { granted = granted_sum (budgets ++ budgets_in name lines) })
+lines_grant file name state session budgets [] found is stays = ap (session_named name) (after_none file state) ∙ found
+    ∙ ap (λ e. Some e) (given_already session (budgets ++ budgets_in name []) (is ∙ ap granted_sum (sym (ap (λ bs. budgets ++ bs) (budgets_none name) ∙ append-nil budgets))))
+lines_grant file name state session budgets (line ∷ lines) found is stays = ap (session_named name) (after_cons file state line lines)
     ∙ here (does_name name line) refl (λ s e bs f g. lines_grant file name s e bs lines f g stays.1)
-    ∙ ap (λ bs. Some (given entry (budgets ++ bs))) (sym (budgets_cons name line lines))
+    ∙ ap (λ bs. Some (given session (budgets ++ bs))) (sym (budgets_cons name line lines))
   where
     here : (b : Bool) → does_name name line ≡ b
         → ((s : DeskState) (e : OpenSession) (bs : List Budget) → session_named name s ≡ Some e → e.granted ≡ granted_sum bs → session_named name (after_lines file s lines) ≡ Some (given e (bs ++ budgets_in name lines)))
-        → session_named name (after_lines file (desk_after file state line) lines) ≡ Some (given entry (budgets ++ (budget_in name (read_desk_line line) ++ budgets_in name lines)))
+        → session_named name (after_lines file (desk_after file state line) lines) ≡ Some (given session (budgets ++ (budget_in name (read_desk_line line) ++ budgets_in name lines)))
     here true names later =
         let more : List Budget = budgets ++ budget_in name (read_desk_line line) in
-        later (desk_after file state line) (given entry more) more (own_line file name state entry line names stays.0 found ∙ ap (λ e. Some e) (line_grants name entry budgets line names is)) refl
-        ∙ ap (λ bs. Some (given entry bs)) (append_assoc budgets (budget_in name (read_desk_line line)) (budgets_in name lines))
-    here false other later =
-        later (desk_after file state line) entry budgets (other_line file name state entry line other found) is
-        ∙ ap (λ bs. Some (given entry (budgets ++ (bs ++ budgets_in name lines)))) (sym (line_budgets_none name line other))
+        later (desk_after file state line) (given session more) more (own_line file name state session line names stays.0 found ∙ ap (λ e. Some e) (line_grants name session budgets line names is)) refl
+        ∙ ap (λ bs. Some (given session bs)) (append_assoc budgets (budget_in name (read_desk_line line)) (budgets_in name lines))
+    here false other later = later (desk_after file state line) session budgets (other_line file name state session line other found) is
+        ∙ ap (λ bs. Some (given session (budgets ++ (bs ++ budgets_in name lines)))) (sym (line_budgets_none name line other))
 
 -- ---- what is paid for
 
@@ -115,55 +96,52 @@ size_rises size prefix before after segments less =
     let more : ℕ = prefix_within (after - size_of_first n segments) (drop n segments) in
     omega (arith, ap (λ m. size_of_first m segments) (prefix before after n segments refl less), size n more segments)
 
-pub granted_rises : (entry : OpenSession) (budget : Budget) → entry.granted ≤ 2 ^ 64 - 1 → entry.granted ≤ granted_with entry.granted budget
-granted_rises entry budget most = omega (arith, most)
+pub granted_rises : (session : OpenSession) (budget : Budget) → session.granted ≤ 2 ^ 64 - 1 → session.granted ≤ granted_with session.granted budget
+granted_rises session budget most = omega (arith, most)
 
-pub size_is : (file : FileView) (entry : OpenSession) → (session_report file entry).postings ≡ size_of_first (scored_prefix file entry) (plan_of_session file entry).segments
+pub size_is : (file : FileView) (session : OpenSession) → (session_report file session).postings ≡ size_of_first (scored_prefix file session) (plan_of_session file session).segments
 unfolding session_report
-size_is file entry = refl
+size_is file session = refl
 
 -- ---- one search
 
-pub reported : (file : FileView) (entry : OpenSession) (budgets : List Budget) → entry.granted ≡ granted_sum budgets
-    → session_report file entry ≡ report_by (prefix_within (granted_sum budgets) (plan_of_session file entry).segments) (plan_of_session file entry) entry.k
+pub reported : (file : FileView) (session : OpenSession) (budgets : List Budget) → session.granted ≡ granted_sum budgets
+    → session_report file session ≡ report_by (prefix_within (granted_sum budgets) (plan_of_session file session).segments) (plan_of_session file session) session.k
 unfolding session_report
-reported file entry budgets is = ap (λ g. report_by (prefix_within g (plan_of_session file entry).segments) (plan_of_session file entry) entry.k) is
+reported file session budgets is = ap (λ g. report_by (prefix_within g (plan_of_session file session).segments) (plan_of_session file session) session.k) is
 
-pub answered : (file : FileView) (entry : OpenSession) (budgets : List Budget) → entry.granted ≡ granted_sum budgets
-    → session_answer file entry ≡ top_k (prefix_within (granted_sum budgets) (plan_of_session file entry).segments) (plan_of_session file entry) entry.k
+pub answered : (file : FileView) (session : OpenSession) (budgets : List Budget) → session.granted ≡ granted_sum budgets
+    → session_answer file session ≡ top_k (prefix_within (granted_sum budgets) (plan_of_session file session).segments) (plan_of_session file session) session.k
 unfolding session_answer
-answered file entry budgets is = ap (λ g. top_k (prefix_within g (plan_of_session file entry).segments) (plan_of_session file entry) entry.k) is
+answered file session budgets is = ap (λ g. top_k (prefix_within g (plan_of_session file session).segments) (plan_of_session file session) session.k) is
 
 reply_is : (file : FileView) (state : DeskState) (line : List ℕ) (command : DeskCommand) → read_desk_line line ≡ Some command → desk_reply file state line ≡ command_reply file state command
 unfolding desk_reply
 reply_is file state line command read = ap (reply_to file state) read
 
-pub grant_told : (file : FileView) (state : DeskState) (line name : List ℕ) (entry : OpenSession) (budgets : List Budget) (budget : Budget)
-    → read_desk_line line ≡ Some (Grant name budget) → session_named name state ≡ Some entry → entry.granted ≡ granted_sum budgets
+pub grant_told : (file : FileView) (state : DeskState) (line name : List ℕ) (session : OpenSession) (budgets : List Budget) (budget : Budget)
+    → read_desk_line line ≡ Some (Grant name budget) → session_named name state ≡ Some session → session.granted ≡ granted_sum budgets
     → desk_reply file state line
-    ≡ report_line entry.query.id (report_by (prefix_within (granted_sum (budgets ++ budget ∷ [])) (plan_of_session file entry).segments) (plan_of_session file entry) entry.k) entry.query.unknown
-grant_told file state line name entry budgets budget read found is =
+    ≡ report_line session.query.id (report_by (prefix_within (granted_sum (budgets ++ budget ∷ [])) (plan_of_session file session).segments) (plan_of_session file session) session.k) session.query.unknown
+grant_told file state line name session budgets budget read found is =
     reply_is file state line (Grant name budget) read ∙ ap (reply_of (λ e. report_text file (granted_more budget e))) found
-    ∙ ap (λ (r : Report). report_line entry.query.id r entry.query.unknown) (reported file (granted_more budget entry) (budgets ++ budget ∷ []) (ap (λ g. granted_with g budget) is ∙ granted_behind budgets budget))
+    ∙ ap (λ (r : Report). report_line session.query.id r session.query.unknown) (reported file (granted_more budget session) (budgets ++ budget ∷ []) (ap (λ g. granted_with g budget) is ∙ granted_behind budgets budget))
 
-pub why_told : (file : FileView) (state : DeskState) (line name : List ℕ) (entry : OpenSession) (budgets : List Budget)
-    → read_desk_line line ≡ Some (Why name) → session_named name state ≡ Some entry → entry.granted ≡ granted_sum budgets
-    → desk_reply file state line
-    ≡ report_line entry.query.id (report_by (prefix_within (granted_sum budgets) (plan_of_session file entry).segments) (plan_of_session file entry) entry.k) entry.query.unknown
-why_told file state line name entry budgets read found is =
-    reply_is file state line (Why name) read ∙ ap (reply_of (report_text file)) found
-    ∙ ap (λ (r : Report). report_line entry.query.id r entry.query.unknown) (reported file entry budgets is)
+pub why_told : (file : FileView) (state : DeskState) (line name : List ℕ) (session : OpenSession) (budgets : List Budget)
+    → read_desk_line line ≡ Some (Why name) → session_named name state ≡ Some session → session.granted ≡ granted_sum budgets → desk_reply file state line
+    ≡ report_line session.query.id (report_by (prefix_within (granted_sum budgets) (plan_of_session file session).segments) (plan_of_session file session) session.k) session.query.unknown
+why_told file state line name session budgets read found is = reply_is file state line (Why name) read ∙ ap (reply_of (report_text file)) found
+    ∙ ap (λ (r : Report). report_line session.query.id r session.query.unknown) (reported file session budgets is)
 
 one_run : (names : List (List ℕ)) (plan : QueryPlan) (id : List ℕ) (k n : ℕ) → answer_lines names id (top_k n plan k) ≡ codes "hits " ++ (decimal (length (top_k n plan k)) ++ (codes "\n" ++ query_run names plan id k (n ∷ []) (codes "jass")))
 unfolding answer_lines
 one_run names plan id k n = ap (λ (t : List ℕ). codes "hits " ++ (decimal (length (top_k n plan k)) ++ (codes "\n" ++ t))) (sym (append-nil (run_lines names id (codes "jass") 1 (top_k n plan k))))
 
-pub top_told : (file : FileView) (state : DeskState) (line name : List ℕ) (entry : OpenSession) (budgets : List Budget)
-    → read_desk_line line ≡ Some (Top name) → session_named name state ≡ Some entry → entry.granted ≡ granted_sum budgets
-    → (let plan = plan_of_session file entry in
+pub top_told : (file : FileView) (state : DeskState) (line name : List ℕ) (session : OpenSession) (budgets : List Budget)
+    → read_desk_line line ≡ Some (Top name) → session_named name state ≡ Some session → session.granted ≡ granted_sum budgets
+    → (let plan = plan_of_session file session in
     let prefix = prefix_within (granted_sum budgets) plan.segments in
-    desk_reply file state line ≡ codes "hits " ++ (decimal (length (top_k prefix plan entry.k)) ++ (codes "\n" ++ query_run file.index.names plan entry.query.id entry.k (prefix ∷ []) (codes "jass"))))
-top_told file state line name entry budgets read found is =
-    reply_is file state line (Top name) read ∙ ap (reply_of (answer_text file)) found
-    ∙ ap (answer_lines file.index.names entry.query.id) (answered file entry budgets is)
-    ∙ one_run file.index.names (plan_of_session file entry) entry.query.id entry.k (prefix_within (granted_sum budgets) (plan_of_session file entry).segments)
+    desk_reply file state line ≡ codes "hits " ++ (decimal (length (top_k prefix plan session.k)) ++ (codes "\n" ++ query_run file.index.names plan session.query.id session.k (prefix ∷ []) (codes "jass"))))
+top_told file state line name session budgets read found is = reply_is file state line (Top name) read ∙ ap (reply_of (answer_text file)) found
+    ∙ ap (answer_lines file.index.names session.query.id) (answered file session budgets is)
+    ∙ one_run file.index.names (plan_of_session file session) session.query.id session.k (prefix_within (granted_sum budgets) (plan_of_session file session).segments)

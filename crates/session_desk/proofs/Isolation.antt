@@ -1,11 +1,7 @@
 -- A reply reads the session that its line names, and no other line changes it.
-use Rattle.std.proofs.Common.{◌≡◌, ℕ, Bool, true, false, not, cond, List, [], ◌∷◌, ◌++◌, Option, Some, None, Result, Ok, Err, refl, sym, ap, ◌∙◌}
+use Rattle.shared_lemmas.proofs.Common.{◌≡◌, ℕ, Bool, true, false, not, cond, List, [], ◌∷◌, ◌++◌, Option, Some, None, Result, Ok, Err, refl, sym, ap, ◌∙◌, bytes_eq-Decides, bytes_eq, is_some, find}
 use Rattle.std.proofs.lemmas.Bool.{true≢false}
-use Rattle.std.proofs.lemmas.Slice.Eq.{bytes_eq-Decides}
-use Rattle.std.specs.Prelude.{bytes_eq, is_some}
-use Rattle.std.specs.List.{find}
-use Rattle.jass_base.specs.declared.answer.Budget.{Budget}
-use Rattle.index_layout.specs.View.{FileView}
+use Rattle.session_desk.proofs.Below.{Budget, FileView}
 use Rattle.shared_lemmas.proofs.Texts.{bytes_same}
 use Rattle.session_desk.specs.declared.refusal.DeskRefusal.{DeskRefusal}
 use Rattle.session_desk.specs.declared.refusal.DeskRefusal.TheVariants.{NameInUse}
@@ -27,146 +23,136 @@ another name other e differ is = here (is_named name e) refl
     here false so = refl
     here true so = absurd (true≢false (sym ((bytes_eq-Decides other name).1 (sym (bytes_same e.query.id other is) ∙ bytes_same e.query.id name so)) ∙ differ))
 
-found_changed : (name other : List ℕ) (budget : Budget) (entries : List OpenSession) → bytes_eq other name ≡ false
-    → find (is_named name) (with_named other (granted_more budget) entries) ≡ find (is_named name) entries
+found_changed : (name other : List ℕ) (budget : Budget) (sessions : List OpenSession) → bytes_eq other name ≡ false
+    → find (is_named name) (with_named other (granted_more budget) sessions) ≡ find (is_named name) sessions
 found_changed name other budget [] differ = refl
-found_changed name other budget (e ∷ entries) differ = here (is_named other e) refl (found_changed name other budget entries differ)
+found_changed name other budget (e ∷ sessions) differ = here (is_named other e) refl (found_changed name other budget sessions differ)
   where
-    here : (b : Bool) → is_named other e ≡ b → find (is_named name) (with_named other (granted_more budget) entries) ≡ find (is_named name) entries
-        → cond (is_named name (cond b (granted_more budget e) e)) (Some (cond b (granted_more budget e) e)) (find (is_named name) (with_named other (granted_more budget) entries))
-        ≡ cond (is_named name e) (Some e) (find (is_named name) entries)
+    here : (b : Bool) → is_named other e ≡ b → find (is_named name) (with_named other (granted_more budget) sessions) ≡ find (is_named name) sessions
+        → cond (is_named name (cond b (granted_more budget e) e)) (Some (cond b (granted_more budget e) e)) (find (is_named name) (with_named other (granted_more budget) sessions))
+        ≡ cond (is_named name e) (Some e) (find (is_named name) sessions)
     here true is later =
         let no : is_named name e ≡ false = another name other e differ is in
-        ap (λ (b : Bool). cond b (Some (granted_more budget e)) (find (is_named name) (with_named other (granted_more budget) entries))) no ∙ later ∙ sym (ap (λ (b : Bool). cond b (Some e) (find (is_named name) entries)) no)
+        ap (λ (b : Bool). cond b (Some (granted_more budget e)) (find (is_named name) (with_named other (granted_more budget) sessions))) no ∙ later ∙ sym (ap (λ (b : Bool). cond b (Some e) (find (is_named name) sessions)) no)
     here false is later = ap (λ (o : Option OpenSession). cond (is_named name e) (Some e) o) later
 
-found_without : (name other : List ℕ) (entries : List OpenSession) → bytes_eq other name ≡ false → find (is_named name) (without_named other entries) ≡ find (is_named name) entries
+found_without : (name other : List ℕ) (sessions : List OpenSession) → bytes_eq other name ≡ false → find (is_named name) (without_named other sessions) ≡ find (is_named name) sessions
 found_without name other [] differ = refl
-found_without name other (e ∷ entries) differ = here (is_named other e) refl (found_without name other entries differ)
+found_without name other (e ∷ sessions) differ = here (is_named other e) refl (found_without name other sessions differ)
   where
-    here : (b : Bool) → is_named other e ≡ b → find (is_named name) (without_named other entries) ≡ find (is_named name) entries
-        → find (is_named name) (cond (not b) (e ∷ without_named other entries) (without_named other entries)) ≡ find (is_named name) (e ∷ entries)
-    here true is later = later ∙ sym (ap (λ (b : Bool). cond b (Some e) (find (is_named name) entries)) (another name other e differ is))
+    here : (b : Bool) → is_named other e ≡ b → find (is_named name) (without_named other sessions) ≡ find (is_named name) sessions
+        → find (is_named name) (cond (not b) (e ∷ without_named other sessions) (without_named other sessions)) ≡ find (is_named name) (e ∷ sessions)
+    here true is later = later ∙ sym (ap (λ (b : Bool). cond b (Some e) (find (is_named name) sessions)) (another name other e differ is))
     here false is later = ap (λ (o : Option OpenSession). cond (is_named name e) (Some e) o) later
 
-found_granted : (name : List ℕ) (budget : Budget) (entries : List OpenSession) (entry : OpenSession) → find (is_named name) entries ≡ Some entry
-    → find (is_named name) (with_named name (granted_more budget) entries) ≡ Some (granted_more budget entry)
-found_granted name budget [] entry found = cc
-found_granted name budget (e ∷ entries) entry found = here (is_named name e) refl (found_granted name budget entries entry)
+found_granted : (name : List ℕ) (budget : Budget) (sessions : List OpenSession) (session : OpenSession) → find (is_named name) sessions ≡ Some session
+    → find (is_named name) (with_named name (granted_more budget) sessions) ≡ Some (granted_more budget session)
+found_granted name budget [] session found = cc
+found_granted name budget (e ∷ sessions) session found = here (is_named name e) refl (found_granted name budget sessions session)
   where
     here : (b : Bool) → is_named name e ≡ b
-        → (find (is_named name) entries ≡ Some entry → find (is_named name) (with_named name (granted_more budget) entries) ≡ Some (granted_more budget entry))
-        → cond (is_named name (cond b (granted_more budget e) e)) (Some (cond b (granted_more budget e) e)) (find (is_named name) (with_named name (granted_more budget) entries)) ≡ Some (granted_more budget entry)
+        → (find (is_named name) sessions ≡ Some session → find (is_named name) (with_named name (granted_more budget) sessions) ≡ Some (granted_more budget session))
+        → cond (is_named name (cond b (granted_more budget e) e)) (Some (cond b (granted_more budget e) e)) (find (is_named name) (with_named name (granted_more budget) sessions)) ≡ Some (granted_more budget session)
     here true is later =
-        let so : (let o : Option OpenSession = Some e in o) ≡ Some entry = ap (λ (b : Bool). cond b (Some e) (find (is_named name) entries)) (sym is) ∙ found in
-        let same : e ≡ entry = cc in
-        ap (λ (b : Bool). cond b (Some (granted_more budget e)) (find (is_named name) (with_named name (granted_more budget) entries))) is ∙ ap (λ x. Some (granted_more budget x)) same
-    here false is later =
-        ap (λ (b : Bool). cond b (Some e) (find (is_named name) (with_named name (granted_more budget) entries))) is
-        ∙ later (ap (λ (b : Bool). cond b (Some e) (find (is_named name) entries)) (sym is) ∙ found)
+        let so : (let o : Option OpenSession = Some e in o) ≡ Some session = ap (λ (b : Bool). cond b (Some e) (find (is_named name) sessions)) (sym is) ∙ found in
+        let same : e ≡ session = cc in
+        ap (λ (b : Bool). cond b (Some (granted_more budget e)) (find (is_named name) (with_named name (granted_more budget) sessions))) is ∙ ap (λ x. Some (granted_more budget x)) same
+    here false is later = ap (λ (b : Bool). cond b (Some e) (find (is_named name) (with_named name (granted_more budget) sessions))) is
+        ∙ later (ap (λ (b : Bool). cond b (Some e) (find (is_named name) sessions)) (sym is) ∙ found)
 
-pub found_joined : (name : List ℕ) (entries : List OpenSession) (other entry : OpenSession) → find (is_named name) entries ≡ Some entry → find (is_named name) (entries ++ other ∷ []) ≡ Some entry
-found_joined name [] other entry found = cc
-found_joined name (e ∷ entries) other entry found = here (is_named name e) refl (found_joined name entries other entry)
+pub found_joined : (name : List ℕ) (sessions : List OpenSession) (other session : OpenSession) → find (is_named name) sessions ≡ Some session → find (is_named name) (sessions ++ other ∷ []) ≡ Some session
+found_joined name [] other session found = cc
+found_joined name (e ∷ sessions) other session found = here (is_named name e) refl (found_joined name sessions other session)
   where
-    here : (b : Bool) → is_named name e ≡ b → (find (is_named name) entries ≡ Some entry → find (is_named name) (entries ++ other ∷ []) ≡ Some entry)
-        → find (is_named name) ((e ∷ entries) ++ other ∷ []) ≡ Some entry
+    here : (b : Bool) → is_named name e ≡ b → (find (is_named name) sessions ≡ Some session → find (is_named name) (sessions ++ other ∷ []) ≡ Some session)
+        → find (is_named name) ((e ∷ sessions) ++ other ∷ []) ≡ Some session
     here true is later =
-        ap (λ (b : Bool). cond b (Some e) (find (is_named name) (entries ++ other ∷ []))) is ∙ ap (λ (b : Bool). cond b (Some e) (find (is_named name) entries)) (sym is) ∙ found
+        ap (λ (b : Bool). cond b (Some e) (find (is_named name) (sessions ++ other ∷ []))) is ∙ ap (λ (b : Bool). cond b (Some e) (find (is_named name) sessions)) (sym is) ∙ found
     here false is later =
-        ap (λ (b : Bool). cond b (Some e) (find (is_named name) (entries ++ other ∷ []))) is ∙ later (ap (λ (b : Bool). cond b (Some e) (find (is_named name) entries)) (sym is) ∙ found)
+        ap (λ (b : Bool). cond b (Some e) (find (is_named name) (sessions ++ other ∷ []))) is ∙ later (ap (λ (b : Bool). cond b (Some e) (find (is_named name) sessions)) (sym is) ∙ found)
 
 -- ---- commands that name another session, or none
 
-pub other_command : (file : FileView) (name : List ℕ) (state : DeskState) (entry : OpenSession) (command : Option DeskCommand) → command_names name command ≡ false
-    → session_named name state ≡ Some entry → session_named name (after_of file state command) ≡ Some entry
-other_command file name state entry None other found = found
-other_command file name state entry (Some (Open n k words)) other found = here (opening file state n k words)
+pub other_command : (file : FileView) (name : List ℕ) (state : DeskState) (session : OpenSession) (command : Option DeskCommand) → command_names name command ≡ false
+    → session_named name state ≡ Some session → session_named name (after_of file state command) ≡ Some session
+other_command file name state session None other found = found
+other_command file name state session (Some (Open n k words)) other found = here (opening file state n k words)
   where
-    here : (r : Result OpenSession DeskRefusal) → session_named name (with_opened state r) ≡ Some entry
-    here (Ok e) = found_joined name state.sessions e entry found
+    here : (r : Result OpenSession DeskRefusal) → session_named name (with_opened state r) ≡ Some session
+    here (Ok e) = found_joined name state.sessions e session found
     here (Err refusal) = found
-other_command file name state entry (Some (Grant n budget)) other found = found_changed name n budget state.sessions other ∙ found
-other_command file name state entry (Some (Top n)) other found = found
-other_command file name state entry (Some (Why n)) other found = found
-other_command file name state entry (Some (Close n)) other found = found_without name n state.sessions other ∙ found
-other_command file name state entry (Some End) other found = found
+other_command file name state session (Some (Grant n budget)) other found = found_changed name n budget state.sessions other ∙ found
+other_command file name state session (Some (Top n)) other found = found
+other_command file name state session (Some (Why n)) other found = found
+other_command file name state session (Some (Close n)) other found = found_without name n state.sessions other ∙ found
+other_command file name state session (Some End) other found = found
 
 -- ---- commands that name the session
 
 -- the session after one of them
 abbrev pub after_command : OpenSession → Option DeskCommand → OpenSession
-after_command entry (Some (Grant n budget)) = granted_more budget entry
-after_command entry (Some other) = entry
-after_command entry None = entry
+after_command session (Some (Grant n budget)) = granted_more budget session
+after_command session (Some other) = session
+after_command session None = session
 
-taken : (name n : List ℕ) (state : DeskState) (entry : OpenSession) → bytes_eq n name ≡ true → session_named name state ≡ Some entry → session_named n state ≡ Some entry
-taken name n state entry same found = ap (λ m. session_named m state) (bytes_same n name same) ∙ found
+taken : (name n : List ℕ) (state : DeskState) (session : OpenSession) → bytes_eq n name ≡ true → session_named name state ≡ Some session → session_named n state ≡ Some session
+taken name n state session same found = ap (λ m. session_named m state) (bytes_same n name same) ∙ found
 
-refused : (file : FileView) (n : List ℕ) (k : ℕ) (words : List (List ℕ)) (state : DeskState) (entry : OpenSession) → session_named n state ≡ Some entry → opening file state n k words ≡ Err NameInUse
-refused file n k words state entry found = refused_first file state n k words NameInUse (name_taken state n (ap is_some found))
+refused : (file : FileView) (n : List ℕ) (k : ℕ) (words : List (List ℕ)) (state : DeskState) (session : OpenSession) → session_named n state ≡ Some session → opening file state n k words ≡ Err NameInUse
+refused file n k words state session found = refused_first file state n k words NameInUse (name_taken state n (ap is_some found))
 
-pub same_reply : (file : FileView) (name : List ℕ) (first second : DeskState) (entry : OpenSession) (command : Option DeskCommand) → command_names name command ≡ true
-    → session_named name first ≡ Some entry → session_named name second ≡ Some entry → reply_to file first command ≡ reply_to file second command
-same_reply file name first second entry None names a b = absurd (true≢false (sym names))
-same_reply file name first second entry (Some (Open n k words)) names a b =
-    ap (opened_reply file) (refused file n k words first entry (taken name n first entry names a) ∙ sym (refused file n k words second entry (taken name n second entry names b)))
-same_reply file name first second entry (Some (Grant n budget)) names a b = ap (reply_of _) (taken name n first entry names a ∙ sym (taken name n second entry names b))
-same_reply file name first second entry (Some (Top n)) names a b = ap (reply_of _) (taken name n first entry names a ∙ sym (taken name n second entry names b))
-same_reply file name first second entry (Some (Why n)) names a b = ap (reply_of _) (taken name n first entry names a ∙ sym (taken name n second entry names b))
-same_reply file name first second entry (Some (Close n)) names a b = ap (reply_of _) (taken name n first entry names a ∙ sym (taken name n second entry names b))
-same_reply file name first second entry (Some End) names a b = absurd (true≢false (sym names))
+pub same_reply : (file : FileView) (name : List ℕ) (first second : DeskState) (session : OpenSession) (command : Option DeskCommand) → command_names name command ≡ true
+    → session_named name first ≡ Some session → session_named name second ≡ Some session → reply_to file first command ≡ reply_to file second command
+same_reply file name first second session None names a b = absurd (true≢false (sym names))
+same_reply file name first second session (Some (Open n k words)) names a b =
+    ap (opened_reply file) (refused file n k words first session (taken name n first session names a) ∙ sym (refused file n k words second session (taken name n second session names b)))
+same_reply file name first second session (Some (Grant n budget)) names a b = ap (reply_of _) (taken name n first session names a ∙ sym (taken name n second session names b))
+same_reply file name first second session (Some (Top n)) names a b = ap (reply_of _) (taken name n first session names a ∙ sym (taken name n second session names b))
+same_reply file name first second session (Some (Why n)) names a b = ap (reply_of _) (taken name n first session names a ∙ sym (taken name n second session names b))
+same_reply file name first second session (Some (Close n)) names a b = ap (reply_of _) (taken name n first session names a ∙ sym (taken name n second session names b))
+same_reply file name first second session (Some End) names a b = absurd (true≢false (sym names))
 
-pub own_command : (file : FileView) (name : List ℕ) (state : DeskState) (entry : OpenSession) (command : Option DeskCommand) → command_names name command ≡ true → command_closes name command ≡ false
-    → session_named name state ≡ Some entry → session_named name (after_of file state command) ≡ Some (after_command entry command)
-own_command file name state entry None names stays found = absurd (true≢false (sym names))
-own_command file name state entry (Some (Open n k words)) names stays found = ap (λ r. session_named name (with_opened state r)) (refused file n k words state entry (taken name n state entry names found)) ∙ found
-own_command file name state entry (Some (Grant n budget)) names stays found =
-    ap (λ m. find (is_named name) (with_named m (granted_more budget) state.sessions)) (bytes_same n name names) ∙ found_granted name budget state.sessions entry found
-own_command file name state entry (Some (Top n)) names stays found = found
-own_command file name state entry (Some (Why n)) names stays found = found
-own_command file name state entry (Some (Close n)) names stays found = absurd (true≢false (sym names ∙ stays))
-own_command file name state entry (Some End) names stays found = absurd (true≢false (sym names))
+pub own_command : (file : FileView) (name : List ℕ) (state : DeskState) (session : OpenSession) (command : Option DeskCommand) → command_names name command ≡ true → command_closes name command ≡ false
+    → session_named name state ≡ Some session → session_named name (after_of file state command) ≡ Some (after_command session command)
+own_command file name state session None names stays found = absurd (true≢false (sym names))
+own_command file name state session (Some (Open n k words)) names stays found = ap (λ r. session_named name (with_opened state r)) (refused file n k words state session (taken name n state session names found)) ∙ found
+own_command file name state session (Some (Grant n budget)) names stays found =
+    ap (λ m. find (is_named name) (with_named m (granted_more budget) state.sessions)) (bytes_same n name names) ∙ found_granted name budget state.sessions session found
+own_command file name state session (Some (Top n)) names stays found = found
+own_command file name state session (Some (Why n)) names stays found = found
+own_command file name state session (Some (Close n)) names stays found = absurd (true≢false (sym names ∙ stays))
+own_command file name state session (Some End) names stays found = absurd (true≢false (sym names))
 
 -- ---- a desk with this session alone
 
-pub alone_found : (name : List ℕ) (frames : ℕ) (entry : OpenSession) → is_named name entry ≡ true → session_named name (alone frames entry) ≡ Some entry
-alone_found name frames entry named = ap (λ (b : Bool). cond b (Some entry) None) named
+pub alone_found : (name : List ℕ) (frames : ℕ) (session : OpenSession) → is_named name session ≡ true → session_named name (alone frames session) ≡ Some session
+alone_found name frames session named = ap (λ (b : Bool). cond b (Some session) None) named
 
-alone_after : (file : FileView) (name : List ℕ) (frames : ℕ) (entry : OpenSession) (command : Option DeskCommand) → is_named name entry ≡ true → command_names name command ≡ true → command_closes name command ≡ false
-    → after_of file (alone frames entry) command ≡ alone frames (after_command entry command)
-alone_after file name frames entry None named names stays = refl
-alone_after file name frames entry (Some (Open n k words)) named names stays =
-    ap (with_opened (alone frames entry)) (refused file n k words (alone frames entry) entry (taken name n (alone frames entry) entry names (alone_found name frames entry named)))
-alone_after file name frames entry (Some (Grant n budget)) named names stays =
-    ap (λ (b : Bool). alone frames (cond b (granted_more budget entry) entry)) (ap (λ m. is_named m entry) (bytes_same n name names) ∙ named)
-alone_after file name frames entry (Some (Top n)) named names stays = refl
-alone_after file name frames entry (Some (Why n)) named names stays = refl
-alone_after file name frames entry (Some (Close n)) named names stays = absurd (true≢false (sym names ∙ stays))
-alone_after file name frames entry (Some End) named names stays = refl
+alone_after : (file : FileView) (name : List ℕ) (frames : ℕ) (session : OpenSession) (command : Option DeskCommand) → is_named name session ≡ true → command_names name command ≡ true → command_closes name command ≡ false
+    → after_of file (alone frames session) command ≡ alone frames (after_command session command)
+alone_after file name frames session None named names stays = refl
+alone_after file name frames session (Some (Open n k words)) named names stays =
+    ap (with_opened (alone frames session)) (refused file n k words (alone frames session) session (taken name n (alone frames session) session names (alone_found name frames session named)))
+alone_after file name frames session (Some (Grant n budget)) named names stays =
+    ap (λ (b : Bool). alone frames (cond b (granted_more budget session) session)) (ap (λ m. is_named m session) (bytes_same n name names) ∙ named)
+alone_after file name frames session (Some (Top n)) named names stays = refl
+alone_after file name frames session (Some (Why n)) named names stays = refl
+alone_after file name frames session (Some (Close n)) named names stays = absurd (true≢false (sym names ∙ stays))
+alone_after file name frames session (Some End) named names stays = refl
 
-pub still_named : (name : List ℕ) (entry : OpenSession) (command : Option DeskCommand) → is_named name entry ≡ true → is_named name (after_command entry command) ≡ true
-still_named name entry None named = named
-still_named name entry (Some (Open n k words)) named = named
-still_named name entry (Some (Grant n budget)) named = named
-still_named name entry (Some (Top n)) named = named
-still_named name entry (Some (Why n)) named = named
-still_named name entry (Some (Close n)) named = named
-still_named name entry (Some End) named = named
+pub still_named : (name : List ℕ) (session : OpenSession) (command : Option DeskCommand) → is_named name session ≡ true → is_named name (after_command session command) ≡ true
+still_named name session None named = named
+still_named name session (Some (Grant n budget)) named = named
+still_named name session (Some other) named = named
 
 closing_names : (name : List ℕ) (command : Option DeskCommand) → command_closes name command ≡ true → command_names name command ≡ true
 closing_names name None closes = absurd (true≢false (sym closes))
-closing_names name (Some (Open n k words)) closes = absurd (true≢false (sym closes))
-closing_names name (Some (Grant n budget)) closes = absurd (true≢false (sym closes))
-closing_names name (Some (Top n)) closes = absurd (true≢false (sym closes))
-closing_names name (Some (Why n)) closes = absurd (true≢false (sym closes))
 closing_names name (Some (Close n)) closes = closes
-closing_names name (Some End) closes = absurd (true≢false (sym closes))
+closing_names name (Some other) closes = absurd (true≢false (sym closes))
 
 -- ---- lines
 
-own_replies_cons : (file : FileView) (name : List ℕ) (state : DeskState) (line : List ℕ) (lines : List (List ℕ))
-    → own_replies file name state (line ∷ lines)
+own_replies_cons : (file : FileView) (name : List ℕ) (state : DeskState) (line : List ℕ) (lines : List (List ℕ)) → own_replies file name state (line ∷ lines)
     ≡ cond (is_end line) [] (cond (does_close name line) (desk_reply file state line ∷ []) (cond (does_name name line) (desk_reply file state line ∷ own_replies file name (desk_after file state line) lines) (own_replies file name (desk_after file state line) lines)))
 unfolding own_replies
 own_replies_cons file name state line lines = refl
@@ -187,58 +173,57 @@ replies_cons file state line lines = refl
 replies_on : (file : FileView) (state : DeskState) (line : List ℕ) (lines : List (List ℕ)) → is_end line ≡ false → replies_from file state (line ∷ lines) ≡ desk_reply file state line ∷ replies_from file (desk_after file state line) lines
 replies_on file state line lines more = replies_cons file state line lines ∙ ap (λ (b : Bool). desk_reply file state line ∷ cond b [] (replies_from file (desk_after file state line) lines)) more
 
-same_reply_line : (file : FileView) (name : List ℕ) (first second : DeskState) (entry : OpenSession) (line : List ℕ) → does_name name line ≡ true
-    → session_named name first ≡ Some entry → session_named name second ≡ Some entry → desk_reply file first line ≡ desk_reply file second line
+same_reply_line : (file : FileView) (name : List ℕ) (first second : DeskState) (session : OpenSession) (line : List ℕ) → does_name name line ≡ true
+    → session_named name first ≡ Some session → session_named name second ≡ Some session → desk_reply file first line ≡ desk_reply file second line
 unfolding desk_reply does_name
-same_reply_line file name first second entry line names a b = same_reply file name first second entry (read_desk_line line) names a b
+same_reply_line file name first second session line names a b = same_reply file name first second session (read_desk_line line) names a b
 
-pub other_line : (file : FileView) (name : List ℕ) (state : DeskState) (entry : OpenSession) (line : List ℕ) → does_name name line ≡ false → session_named name state ≡ Some entry → session_named name (desk_after file state line) ≡ Some entry
+pub other_line : (file : FileView) (name : List ℕ) (state : DeskState) (session : OpenSession) (line : List ℕ) → does_name name line ≡ false → session_named name state ≡ Some session → session_named name (desk_after file state line) ≡ Some session
 unfolding desk_after does_name
-other_line file name state entry line other found = other_command file name state entry (read_desk_line line) other found
+other_line file name state session line other found = other_command file name state session (read_desk_line line) other found
 
-pub own_line : (file : FileView) (name : List ℕ) (state : DeskState) (entry : OpenSession) (line : List ℕ) → does_name name line ≡ true → does_close name line ≡ false
-    → session_named name state ≡ Some entry → session_named name (desk_after file state line) ≡ Some (after_command entry (read_desk_line line))
+pub own_line : (file : FileView) (name : List ℕ) (state : DeskState) (session : OpenSession) (line : List ℕ) → does_name name line ≡ true → does_close name line ≡ false
+    → session_named name state ≡ Some session → session_named name (desk_after file state line) ≡ Some (after_command session (read_desk_line line))
 unfolding desk_after does_name does_close
-own_line file name state entry line names stays found = own_command file name state entry (read_desk_line line) names stays found
+own_line file name state session line names stays found = own_command file name state session (read_desk_line line) names stays found
 
-alone_line : (file : FileView) (name : List ℕ) (frames : ℕ) (entry : OpenSession) (line : List ℕ) → is_named name entry ≡ true → does_name name line ≡ true → does_close name line ≡ false
-    → desk_after file (alone frames entry) line ≡ alone frames (after_command entry (read_desk_line line))
+alone_line : (file : FileView) (name : List ℕ) (frames : ℕ) (session : OpenSession) (line : List ℕ) → is_named name session ≡ true → does_name name line ≡ true → does_close name line ≡ false
+    → desk_after file (alone frames session) line ≡ alone frames (after_command session (read_desk_line line))
 unfolding desk_after does_name does_close
-alone_line file name frames entry line named names stays = alone_after file name frames entry (read_desk_line line) named names stays
+alone_line file name frames session line named names stays = alone_after file name frames session (read_desk_line line) named names stays
 
 closing_line : (name line : List ℕ) → does_close name line ≡ true → does_name name line ≡ true
 unfolding does_name does_close
 closing_line name line closes = closing_names name (read_desk_line line) closes
 
-none_told : (file : FileView) (name : List ℕ) (frames : ℕ) (state : DeskState) (entry : OpenSession) → own_replies file name state [] ≡ replies_from file (alone frames entry) (own_lines name [])
+none_told : (file : FileView) (name : List ℕ) (frames : ℕ) (state : DeskState) (session : OpenSession) → own_replies file name state [] ≡ replies_from file (alone frames session) (own_lines name [])
 unfolding own_replies own_lines replies_from
-none_told file name frames state entry = refl
+none_told file name frames state session = refl
 
 -- the replies to the lines of one session are those that it would get alone
-pub told_alone : (file : FileView) (name : List ℕ) (frames : ℕ) (state : DeskState) (entry : OpenSession) (lines : List (List ℕ)) → is_named name entry ≡ true → session_named name state ≡ Some entry
-    → own_replies file name state lines ≡ replies_from file (alone frames entry) (own_lines name lines)
-told_alone file name frames state entry [] named found = none_told file name frames state entry
-told_alone file name frames state entry (line ∷ lines) named found =
-    own_replies_cons file name state line lines
+pub told_alone : (file : FileView) (name : List ℕ) (frames : ℕ) (state : DeskState) (session : OpenSession) (lines : List (List ℕ)) → is_named name session ≡ true → session_named name state ≡ Some session
+    → own_replies file name state lines ≡ replies_from file (alone frames session) (own_lines name lines)
+told_alone file name frames state session [] named found = none_told file name frames state session
+told_alone file name frames state session (line ∷ lines) named found = own_replies_cons file name state line lines
     ∙ here (is_end line) (does_close name line) (does_name name line) refl refl refl (λ s e. told_alone file name frames s e lines)
-    ∙ ap (replies_from file (alone frames entry)) (sym (own_lines_cons name line lines))
+    ∙ ap (replies_from file (alone frames session)) (sym (own_lines_cons name line lines))
   where
     here : (e c n : Bool) → is_end line ≡ e → does_close name line ≡ c → does_name name line ≡ n
         → ((s : DeskState) (x : OpenSession) → is_named name x ≡ true → session_named name s ≡ Some x → own_replies file name s lines ≡ replies_from file (alone frames x) (own_lines name lines))
         → cond e [] (cond c (desk_reply file state line ∷ []) (cond n (desk_reply file state line ∷ own_replies file name (desk_after file state line) lines) (own_replies file name (desk_after file state line) lines)))
-        ≡ replies_from file (alone frames entry) (cond e [] (cond c (line ∷ []) (cond n (line ∷ own_lines name lines) (own_lines name lines))))
-    here true c n a b d later = sym (replies_none file (alone frames entry))
+        ≡ replies_from file (alone frames session) (cond e [] (cond c (line ∷ []) (cond n (line ∷ own_lines name lines) (own_lines name lines))))
+    here true c n a b d later = sym (replies_none file (alone frames session))
     here false true n a b d later =
-        ap (λ r. r ∷ []) (same_reply_line file name state (alone frames entry) entry line (closing_line name line b) found (alone_found name frames entry named))
-        ∙ ap (λ rs. desk_reply file (alone frames entry) line ∷ rs) (sym (replies_none file (desk_after file (alone frames entry) line)))
-        ∙ sym (replies_on file (alone frames entry) line [] a)
+        ap (λ r. r ∷ []) (same_reply_line file name state (alone frames session) session line (closing_line name line b) found (alone_found name frames session named))
+        ∙ ap (λ rs. desk_reply file (alone frames session) line ∷ rs) (sym (replies_none file (desk_after file (alone frames session) line)))
+        ∙ sym (replies_on file (alone frames session) line [] a)
     here false false true a b d later =
-        ap (λ r. r ∷ own_replies file name (desk_after file state line) lines) (same_reply_line file name state (alone frames entry) entry line d found (alone_found name frames entry named))
-        ∙ ap (λ rs. desk_reply file (alone frames entry) line ∷ rs) (
-        later (desk_after file state line) (after_command entry (read_desk_line line)) (still_named name entry (read_desk_line line) named) (own_line file name state entry line d b found)
-        ∙ ap (λ s. replies_from file s (own_lines name lines)) (sym (alone_line file name frames entry line named d b)))
-        ∙ sym (replies_on file (alone frames entry) line (own_lines name lines) a)
-    here false false false a b d later = later (desk_after file state line) entry named (other_line file name state entry line d found)
+        ap (λ r. r ∷ own_replies file name (desk_after file state line) lines) (same_reply_line file name state (alone frames session) session line d found (alone_found name frames session named))
+        ∙ ap (λ rs. desk_reply file (alone frames session) line ∷ rs) (
+        later (desk_after file state line) (after_command session (read_desk_line line)) (still_named name session (read_desk_line line) named) (own_line file name state session line d b found)
+        ∙ ap (λ s. replies_from file s (own_lines name lines)) (sym (alone_line file name frames session line named d b)))
+        ∙ sym (replies_on file (alone frames session) line (own_lines name lines) a)
+    here false false false a b d later = later (desk_after file state line) session named (other_line file name state session line d found)
 
-pub has_name : (name : List ℕ) (state : DeskState) (entry : OpenSession) → session_named name state ≡ Some entry → is_named name entry ≡ true
-has_name name state entry found = (bytes_eq-Decides entry.query.id name).1 (name_of_found name state.sessions entry found)
+pub has_name : (name : List ℕ) (state : DeskState) (session : OpenSession) → session_named name state ≡ Some session → is_named name session ≡ true
+has_name name state session found = (bytes_eq-Decides session.query.id name).1 (name_of_found name state.sessions session found)

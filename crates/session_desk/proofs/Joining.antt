@@ -1,35 +1,24 @@
 -- A session joins the others of a desk.
-use Rattle.std.proofs.Common.{◌≡◌, ℕ, ◌+◌, ◌-◌, ◌<◌, ◌≤◌, Bool, true, false, cond, List, [], ◌∷◌, ◌++◌, length, map, Option, Some, None, Result, Ok, Err, refl, sym, ap, subst, ◌∙◌, arith}
-use Rattle.std.proofs.lemmas.Bool.{leb-true, leb-false, ltb-true, true≢false}
-use Rattle.std.proofs.lemmas.List.{map-append}
-use Rattle.std.proofs.lemmas.List.Sums.{sum_by-cons}
-use Rattle.std.specs.Prelude.{count_by, is_some, nat_le, nat_lt}
-use Rattle.std.specs.List.{AllByRecursion, find, list_all}
-use Rattle.index_layout.specs.View.{FileView}
-use Rattle.frame_pool.specs.Pool.{ChainEntry, PoolView, spare_of}
-use Rattle.index_file.specs.Places.{texts_of}
-use Rattle.query_reader.specs.declared.mode.Mode.TheVariants.{Plain}
-use Rattle.query_reader.specs.declared.refusal.QueryFault.{QueryFault}
+use Rattle.shared_lemmas.proofs.Common.{◌≡◌, ℕ, ◌+◌, ◌-◌, ◌<◌, ◌≤◌, Bool, true, false, cond, List, [], ◌∷◌, ◌++◌, length, map, Option, Some, None, Result, Ok, Err, refl, sym, ap, subst, ◌∙◌, arith, leb-true, leb-false, ltb-true, map-append, sum_by-cons, count_by, is_some, nat_le, nat_lt}
+use Rattle.shared_lemmas.proofs.Common.{AllByRecursion, find, list_all}
+use Rattle.std.proofs.lemmas.Bool.{true≢false}
+use Rattle.session_desk.proofs.Below.{FileView, ChainEntry, PoolView, spare_of, texts_of, Plain, QueryFault, QueryRefusal, QueryWhy, Mention, named_of, unknown_of, first_broken, unless, Fails, at_line, plain_mention, blank_runs, HasFreeNumber, need_of, Session}
 use Rattle.query_reader.specs.declared.refusal.QueryFault.TheVariants as faults
-use Rattle.query_reader.specs.declared.refusal.QueryRefusal.{QueryRefusal}
-use Rattle.query_reader.specs.declared.refusal.QueryWhy.{QueryWhy}
-use Rattle.query_reader.specs.Mentions.{Mention, named_of, unknown_of}
 use Rattle.query_reader.specs.Queries as reader
-use Rattle.query_reader.specs.Reading.{first_broken, read_mentions, unless}
-use Rattle.query_reader.specs.Refusals.{Fails, at_line}
-use Rattle.query_reader.specs.Slices.{blank_runs}
-use Rattle.query_reader.specs.Texts.{mentions_of, plain_mention, plain_mentions}
-use Rattle.session_engine.specs.Plans.{HasFreeNumber, need_of}
-use Rattle.session_engine.specs.declared.session.Session.{Session}
+use Rattle.query_reader.specs.Reading.{read_mentions}
+use Rattle.query_reader.specs.Texts.{mentions_of, plain_mentions}
 use Rattle.session_desk.specs.declared.refusal.DeskRefusal.{DeskRefusal}
 use Rattle.session_desk.specs.declared.refusal.DeskRefusal.TheVariants.{DeskFull, NameInUse, PoolFull}
 use Rattle.session_desk.specs.State.{DeskState, OpenSession, is_named, session_named, spare_frames}
 use Rattle.session_desk.specs.Private.Opening.{Opens, refuses}
 use Rattle.session_desk.specs.Replies.{fitting, opened_line, opened_reply, opening, query_refusal, room_refusal, unless_refused, with_opened}
-use Rattle.session_desk.specs.Standing.{Differ, FindsName, SessionsStand, entries_of, entry_of}
+use Rattle.session_desk.specs.Standing.{sessions_data, session_data}
+use Rattle.session_desk.specs.Private.Standing.{Differ, SessionsStand}
+use Rattle.session_desk.specs.Private.Places.{FindsName}
 use Rattle.session_desk.proofs.Placing.{HasOtherName}
 use Rattle.session_desk.proofs.Seating.{names_before}
 use Rattle.session_desk.proofs.Showing.{found_there}
+use Rattle.session_desk.specs.declared.desk_limits.TheConstants.{MOST_SESSIONS}
 
 -- ---- a number is free
 
@@ -48,15 +37,15 @@ number_free file pool sessions stand few = here (list_all is_some pool.chains) r
 -- ---- there are frames
 
 pub spare_seen : (file : FileView) (pool : PoolView) (sessions : List Session) → SessionsStand file pool sessions
-    → spare_frames file (record { sessions = entries_of sessions; frames = length pool.frames }) ≡ spare_of pool
+    → spare_frames file (record { sessions = sessions_data sessions; frames = length pool.frames }) ≡ spare_of pool
 spare_seen file pool sessions stand = omega (arith, stand.spare)
 
-abbrev pub entry_for : reader.QueryData → ℕ → OpenSession
-entry_for query k = record { query = record { id = query.id; terms = query.terms; unknown = query.unknown }; k = k; granted = 0 }
+abbrev pub session_for : reader.QueryData → ℕ → OpenSession
+session_for query k = record { query = record { id = query.id; terms = query.terms; unknown = query.unknown }; k = k; granted = 0 }
 
-fits_then : (file : FileView) (state : DeskState) (k : ℕ) (query : reader.QueryData) → need_of file query.terms ≤ spare_frames file state → fitting file state k (Ok query) ≡ Ok (entry_for query k)
+fits_then : (file : FileView) (state : DeskState) (k : ℕ) (query : reader.QueryData) → need_of file query.terms ≤ spare_frames file state → fitting file state k (Ok query) ≡ Ok (session_for query k)
 fits_then file state k query room =
-    ap (λ (b : Bool). cond b (let r : Result OpenSession DeskRefusal = Err (PoolFull (need_of file query.terms) (spare_frames file state)) in r) (Ok (entry_for query k))) (here (nat_lt (spare_frames file state) (need_of file query.terms)) refl)
+    ap (λ (b : Bool). cond b (let r : Result OpenSession DeskRefusal = Err (PoolFull (need_of file query.terms) (spare_frames file state)) in r) (Ok (session_for query k))) (here (nat_lt (spare_frames file state) (need_of file query.terms)) refl)
   where
     here : (b : Bool) → nat_lt (spare_frames file state) (need_of file query.terms) ≡ b → b ≡ false
     here true less = absurd (omega (arith, room, ltb-true (spare_frames file state) (need_of file query.terms) less))
@@ -64,24 +53,22 @@ fits_then file state k query room =
 
 pub opened_so : (file : FileView) (state : DeskState) (k before after : ℕ) (query : reader.QueryData) → spare_frames file state ≡ before → after + need_of file query.terms ≡ before
     → opened_reply file (fitting file state k (Ok query)) ≡ opened_line query.id (before - after) query.unknown
-opened_so file state k before after query spare paid =
-    ap (opened_reply file) (fits_then file state k query (omega (arith, spare, paid)))
+opened_so file state k before after query spare paid = ap (opened_reply file) (fits_then file state k query (omega (arith, spare, paid)))
     ∙ ap (λ (n : ℕ). opened_line query.id n query.unknown) (let is : need_of file query.terms ≡ before - after = omega (arith, paid) in is)
 
 pub joined_shows : (file : FileView) (sessions : List Session) (s : Session) (k frames count before after : ℕ) (query : reader.QueryData)
-    → (let state : DeskState = record { sessions = entries_of sessions; frames = count } in spare_frames file state ≡ before) → after + need_of file query.terms ≡ before
-    → entry_of s ≡ entry_for query k → frames ≡ count
-    → (let new : DeskState = record { sessions = entries_of (sessions ++ s ∷ []); frames = frames } in new)
-    ≡ with_opened (record { sessions = entries_of sessions; frames = count }) (fitting file (record { sessions = entries_of sessions; frames = count }) k (Ok query))
+    → (let state : DeskState = record { sessions = sessions_data sessions; frames = count } in spare_frames file state ≡ before) → after + need_of file query.terms ≡ before
+    → session_data s ≡ session_for query k → frames ≡ count → (let new : DeskState = record { sessions = sessions_data (sessions ++ s ∷ []); frames = frames } in new)
+    ≡ with_opened (record { sessions = sessions_data sessions; frames = count }) (fitting file (record { sessions = sessions_data sessions; frames = count }) k (Ok query))
 joined_shows file sessions s k frames count before after query spare paid is same =
-    (λ i. record { sessions = (map-append entry_of sessions (s ∷ []) ∙ ap (λ e. entries_of sessions ++ e ∷ []) is) i; frames = same i })
-    ∙ ap (with_opened (record { sessions = entries_of sessions; frames = count })) (sym (fits_then file (record { sessions = entries_of sessions; frames = count }) k query (omega (arith, spare, paid))))
+    (λ i. record { sessions = (map-append session_data sessions (s ∷ []) ∙ ap (λ e. sessions_data sessions ++ e ∷ []) is) i; frames = same i })
+    ∙ ap (with_opened (record { sessions = sessions_data sessions; frames = count })) (sym (fits_then file (record { sessions = sessions_data sessions; frames = count }) k query (omega (arith, spare, paid))))
 
 -- ---- what is judged before
 
-pub taken_there : (sessions : List Session) (name : List ℕ) (place : Option ℕ) → FindsName sessions name place → is_some place ≡ true → Differ sessions → is_some (find (is_named name) (entries_of sessions)) ≡ true
+pub taken_there : (sessions : List Session) (name : List ℕ) (place : Option ℕ) → FindsName sessions name place → is_some place ≡ true → Differ sessions → is_some (find (is_named name) (sessions_data sessions)) ≡ true
 taken_there sessions name (Some place) at some differ =
-    ap is_some (ap (λ ss. find (is_named name) (entries_of ss)) at.parts ∙ found_there name at.front at.session at.back (names_before at.front at.session at.back name at.named (subst Differ at.parts differ)) at.named)
+    ap is_some (ap (λ ss. find (is_named name) (sessions_data ss)) at.parts ∙ found_there name at.front at.session at.back (names_before at.front at.session at.back name at.named (subst Differ at.parts differ)) at.named)
 taken_there sessions name None at some differ = absurd (true≢false (sym some))
 
 pub free_there : (sessions : List Session) (name : List ℕ) (place : Option ℕ) → FindsName sessions name place → is_some place ≡ false → AllByRecursion (HasOtherName name) sessions
@@ -92,19 +79,19 @@ abbrev judges : Bool → Bool → Option DeskRefusal
 judges taken full = cond taken (Some NameInUse) (cond full (Some DeskFull) None)
 
 pub name_taken : (state : DeskState) (name : List ℕ) → is_some (session_named name state) ≡ true → room_refusal name state ≡ Some NameInUse
-name_taken state name taken = ap (λ (b : Bool). judges b (nat_le 64 (length state.sessions))) taken
+name_taken state name taken = ap (λ (b : Bool). judges b (nat_le MOST_SESSIONS (length state.sessions))) taken
 
 pub desk_full : (state : DeskState) (name : List ℕ) → session_named name state ≡ None → 64 ≤ length state.sessions → room_refusal name state ≡ Some DeskFull
-desk_full state name free many = ap (λ (b : Bool). judges b (nat_le 64 (length state.sessions))) (ap is_some free) ∙ ap (judges false) (here (nat_le 64 (length state.sessions)) refl)
+desk_full state name free many = ap (λ (b : Bool). judges b (nat_le MOST_SESSIONS (length state.sessions))) (ap is_some free) ∙ ap (judges false) (here (nat_le MOST_SESSIONS (length state.sessions)) refl)
   where
-    here : (b : Bool) → nat_le 64 (length state.sessions) ≡ b → b ≡ true
+    here : (b : Bool) → nat_le MOST_SESSIONS (length state.sessions) ≡ b → b ≡ true
     here true e = refl
     here false e = absurd (omega (arith, many, leb-false 64 (length state.sessions) e))
 
 pub room_there : (state : DeskState) (name : List ℕ) → session_named name state ≡ None → length state.sessions < 64 → room_refusal name state ≡ None
-room_there state name free few = ap (λ (b : Bool). judges b (nat_le 64 (length state.sessions))) (ap is_some free) ∙ ap (judges false) (here (nat_le 64 (length state.sessions)) refl)
+room_there state name free few = ap (λ (b : Bool). judges b (nat_le MOST_SESSIONS (length state.sessions))) (ap is_some free) ∙ ap (judges false) (here (nat_le MOST_SESSIONS (length state.sessions)) refl)
   where
-    here : (b : Bool) → nat_le 64 (length state.sessions) ≡ b → b ≡ false
+    here : (b : Bool) → nat_le MOST_SESSIONS (length state.sessions) ≡ b → b ≡ false
     here true e = absurd (omega (arith, few, leb-true 64 (length state.sessions) e))
     here false e = refl
 

@@ -1,3 +1,4 @@
+mod Below
 pub mod Wording
 pub mod Placing
 pub mod Seating

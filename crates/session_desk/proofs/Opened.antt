@@ -1,40 +1,33 @@
 -- What was opened, and that it is found.
-use Rattle.std.proofs.Common.{◌≡◌, ℕ, Bool, true, false, cond, List, [], ◌∷◌, ◌++◌, map, Option, Some, None, Result, Ok, Err, refl, sym, ap, ◌∙◌}
-use Rattle.std.proofs.lemmas.Slice.Eq.{bytes_eq-Decides}
-use Rattle.std.specs.Prelude.{is_some, nat_le, nat_lt, length}
-use Rattle.std.specs.List.{find}
-use Rattle.index_layout.specs.View.{FileView}
-use Rattle.index_file.specs.Places.{texts_of}
-use Rattle.query_reader.specs.declared.refusal.QueryWhy.{QueryWhy}
+use Rattle.shared_lemmas.proofs.Common.{◌≡◌, ℕ, Bool, true, false, cond, List, [], ◌∷◌, ◌++◌, map, Option, Some, None, Result, Ok, Err, refl, sym, ap, ◌∙◌, bytes_eq-Decides, is_some, nat_le, nat_lt, length, find}
+use Rattle.session_desk.proofs.Below.{FileView, texts_of, QueryWhy, read_mentions, plain_mention, need_of}
 use Rattle.query_reader.specs.Queries as reader
-use Rattle.query_reader.specs.Reading.{read_mentions}
-use Rattle.query_reader.specs.Texts.{plain_mention}
-use Rattle.session_engine.specs.Plans.{need_of}
 use Rattle.session_desk.specs.declared.refusal.DeskRefusal.{DeskRefusal}
 use Rattle.session_desk.specs.declared.refusal.DeskRefusal.TheVariants.{DeskFull, NameInUse, PoolFull}
 use Rattle.session_desk.specs.Lines.{DeskCommand, Open, read_desk_line}
 use Rattle.session_desk.specs.Replies.{after_of, desk_after, fitting, opening, room_refusal, unless_refused, with_opened}
 use Rattle.session_desk.specs.State.{DeskState, OpenSession, is_named, session_named, spare_frames}
-use Rattle.session_desk.proofs.Joining.{entry_for, read_name}
+use Rattle.session_desk.proofs.Joining.{session_for, read_name}
+use Rattle.session_desk.specs.declared.desk_limits.TheConstants.{MOST_SESSIONS}
 
 -- the mentions that a session was opened for
-pub record OpenedFor (file : FileView) (state : DeskState) (name : List ℕ) (k : ℕ) (words : List (List ℕ)) (entry : OpenSession) : Type 0 where
+pub record OpenedFor (file : FileView) (state : DeskState) (name : List ℕ) (k : ℕ) (words : List (List ℕ)) (session : OpenSession) : Type 0 where
   pub query : reader.QueryData
   pub read : read_mentions (texts_of file.index.terms) name (map plain_mention words) ≡ Ok query
-  pub is : entry ≡ entry_for query k
+  pub is : session ≡ session_for query k
   pub free : session_named name state ≡ None
 
-fitted : (file : FileView) (state : DeskState) (k : ℕ) (read : Result reader.QueryData QueryWhy) (entry : OpenSession) → fitting file state k read ≡ Ok entry → (query : reader.QueryData) × (read ≡ Ok query) × (entry ≡ entry_for query k)
-fitted file state k (Err why) entry is = cc
-fitted file state k (Ok query) entry is = (query, refl, here (nat_lt (spare_frames file state) (need_of file query.terms)) is)
+fitted : (file : FileView) (state : DeskState) (k : ℕ) (read : Result reader.QueryData QueryWhy) (session : OpenSession) → fitting file state k read ≡ Ok session → (query : reader.QueryData) × (read ≡ Ok query) × (session ≡ session_for query k)
+fitted file state k (Err why) session is = cc
+fitted file state k (Ok query) session is = (query, refl, here (nat_lt (spare_frames file state) (need_of file query.terms)) is)
   where
-    here : (b : Bool) → cond b (let r : Result OpenSession DeskRefusal = Err (PoolFull (need_of file query.terms) (spare_frames file state)) in r) (Ok (entry_for query k)) ≡ Ok entry → entry ≡ entry_for query k
+    here : (b : Bool) → cond b (let r : Result OpenSession DeskRefusal = Err (PoolFull (need_of file query.terms) (spare_frames file state)) in r) (Ok (session_for query k)) ≡ Ok session → session ≡ session_for query k
     here true e = cc
-    here false e = let same : entry_for query k ≡ entry = cc in sym same
+    here false e = let same : session_for query k ≡ session = cc in sym same
 
-unrefused : (first : Option DeskRefusal) (found : Result OpenSession DeskRefusal) (entry : OpenSession) → unless_refused first found ≡ Ok entry → (first ≡ None) × (found ≡ Ok entry)
-unrefused None found entry is = (refl, is)
-unrefused (Some refusal) found entry is = cc
+unrefused : (first : Option DeskRefusal) (found : Result OpenSession DeskRefusal) (session : OpenSession) → unless_refused first found ≡ Ok session → (first ≡ None) × (found ≡ Ok session)
+unrefused None found session is = (refl, is)
+unrefused (Some refusal) found session is = cc
 
 unnamed : (name : List ℕ) (state : DeskState) → room_refusal name state ≡ None → session_named name state ≡ None
 unnamed name state none = here (session_named name state) refl
@@ -43,47 +36,45 @@ unnamed name state none = here (session_named name state) refl
     here None is = refl
     here (Some e) is =
         let refused : (let r : Option DeskRefusal = Some NameInUse in r) ≡ None
-        = ap (λ (b : Bool). cond b (Some NameInUse) (cond (nat_le 64 (length state.sessions)) (Some DeskFull) None)) (sym (ap is_some is)) ∙ none in
+        = ap (λ (b : Bool). cond b (Some NameInUse) (cond (nat_le MOST_SESSIONS (length state.sessions)) (Some DeskFull) None)) (sym (ap is_some is)) ∙ none in
         cc
 
-pub opened_for : (file : FileView) (state : DeskState) (name : List ℕ) (k : ℕ) (words : List (List ℕ)) (entry : OpenSession) → opening file state name k words ≡ Ok entry → OpenedFor file state name k words entry
+pub opened_for : (file : FileView) (state : DeskState) (name : List ℕ) (k : ℕ) (words : List (List ℕ)) (session : OpenSession) → opening file state name k words ≡ Ok session → OpenedFor file state name k words session
 unfolding opening
-opened_for file state name k words entry is =
-    let passed = unrefused (room_refusal name state) (fitting file state k (read_mentions (texts_of file.index.terms) name (map plain_mention words))) entry is in
-    let fits = fitted file state k (read_mentions (texts_of file.index.terms) name (map plain_mention words)) entry passed.1 in
+opened_for file state name k words session is =
+    let passed = unrefused (room_refusal name state) (fitting file state k (read_mentions (texts_of file.index.terms) name (map plain_mention words))) session is in
+    let fits = fitted file state k (read_mentions (texts_of file.index.terms) name (map plain_mention words)) session passed.1 in
     record { query = fits.0; read = fits.1; is = fits.2; free = unnamed name state passed.0 }
 
-pub named_for : (file : FileView) (state : DeskState) (name : List ℕ) (k : ℕ) (words : List (List ℕ)) (entry : OpenSession) → OpenedFor file state name k words entry → entry.query.id ≡ name
-named_for file state name k words entry opened = ap (λ (e : OpenSession). e.query.id) opened.is ∙ read_name (texts_of file.index.terms) name (map plain_mention words) opened.query opened.read
+pub named_for : (file : FileView) (state : DeskState) (name : List ℕ) (k : ℕ) (words : List (List ℕ)) (session : OpenSession) → OpenedFor file state name k words session → session.query.id ≡ name
+named_for file state name k words session opened = ap (λ (e : OpenSession). e.query.id) opened.is ∙ read_name (texts_of file.index.terms) name (map plain_mention words) opened.query opened.read
 
-found_last : (name : List ℕ) (entries : List OpenSession) (entry : OpenSession) → find (is_named name) entries ≡ None → is_named name entry ≡ true → find (is_named name) (entries ++ entry ∷ []) ≡ Some entry
-found_last name [] entry none named = ap (λ (b : Bool). cond b (Some entry) None) named
-found_last name (e ∷ entries) entry none named = here (is_named name e) refl (λ h. found_last name entries entry h named)
+found_last : (name : List ℕ) (sessions : List OpenSession) (session : OpenSession) → find (is_named name) sessions ≡ None → is_named name session ≡ true → find (is_named name) (sessions ++ session ∷ []) ≡ Some session
+found_last name [] session none named = ap (λ (b : Bool). cond b (Some session) None) named
+found_last name (e ∷ sessions) session none named = here (is_named name e) refl (λ h. found_last name sessions session h named)
   where
-    here : (b : Bool) → is_named name e ≡ b → (find (is_named name) entries ≡ None → find (is_named name) (entries ++ entry ∷ []) ≡ Some entry) → find (is_named name) ((e ∷ entries) ++ entry ∷ []) ≡ Some entry
+    here : (b : Bool) → is_named name e ≡ b → (find (is_named name) sessions ≡ None → find (is_named name) (sessions ++ session ∷ []) ≡ Some session) → find (is_named name) ((e ∷ sessions) ++ session ∷ []) ≡ Some session
     here true is later =
-        let some : (let o : Option OpenSession = Some e in o) ≡ None = ap (λ (b : Bool). cond b (Some e) (find (is_named name) entries)) (sym is) ∙ none in
+        let some : (let o : Option OpenSession = Some e in o) ≡ None = ap (λ (b : Bool). cond b (Some e) (find (is_named name) sessions)) (sym is) ∙ none in
         cc
     here false is later =
-        ap (λ (b : Bool). cond b (Some e) (find (is_named name) (entries ++ entry ∷ []))) is ∙ later (ap (λ (b : Bool). cond b (Some e) (find (is_named name) entries)) (sym is) ∙ none)
+        ap (λ (b : Bool). cond b (Some e) (find (is_named name) (sessions ++ session ∷ []))) is ∙ later (ap (λ (b : Bool). cond b (Some e) (find (is_named name) sessions)) (sym is) ∙ none)
 
-pub found_opened : (file : FileView) (state : DeskState) (line name : List ℕ) (k : ℕ) (words : List (List ℕ)) (entry : OpenSession) → read_desk_line line ≡ Some (Open name k words) → opening file state name k words ≡ Ok entry
-    → session_named name (desk_after file state line) ≡ Some entry
+pub found_opened : (file : FileView) (state : DeskState) (line name : List ℕ) (k : ℕ) (words : List (List ℕ)) (session : OpenSession) → read_desk_line line ≡ Some (Open name k words) → opening file state name k words ≡ Ok session
+    → session_named name (desk_after file state line) ≡ Some session
 unfolding desk_after
-found_opened file state line name k words entry read is =
-    let opened = opened_for file state name k words entry is in
-    let named = named_for file state name k words entry opened in
+found_opened file state line name k words session read is =
+    let opened = opened_for file state name k words session is in let named = named_for file state name k words session opened in
     ap (λ (o : Option DeskCommand). session_named name (after_of file state o)) read ∙ ap (λ r. session_named name (with_opened state r)) is
-    ∙ found_last name state.sessions entry opened.free ((bytes_eq-Decides entry.query.id name).1 named)
+    ∙ found_last name state.sessions session opened.free ((bytes_eq-Decides session.query.id name).1 named)
 
-pub opened_alike : (file : FileView) (first second : DeskState) (name : List ℕ) (k : ℕ) (words others : List (List ℕ)) (entry other : OpenSession) → map plain_mention words ≡ map plain_mention others
-    → opening file first name k words ≡ Ok entry → opening file second name k others ≡ Ok other → entry ≡ other
-opened_alike file first second name k words others entry other mentions a b =
-    let one = opened_for file first name k words entry a in
-    let two = opened_for file second name k others other b in
+pub opened_alike : (file : FileView) (first second : DeskState) (name : List ℕ) (k : ℕ) (words others : List (List ℕ)) (session other : OpenSession) → map plain_mention words ≡ map plain_mention others
+    → opening file first name k words ≡ Ok session → opening file second name k others ≡ Ok other → session ≡ other
+opened_alike file first second name k words others session other mentions a b =
+    let one = opened_for file first name k words session a in let two = opened_for file second name k others other b in
     let read : (let r : Result reader.QueryData QueryWhy = Ok one.query in r) ≡ Ok two.query = sym one.read ∙ ap (read_mentions (texts_of file.index.terms) name) mentions ∙ two.read in
     let same : one.query ≡ two.query = cc in
-    one.is ∙ ap (λ q. entry_for q k) same ∙ sym two.is
+    one.is ∙ ap (λ q. session_for q k) same ∙ sym two.is
 
-pub none_granted : (file : FileView) (state : DeskState) (name : List ℕ) (k : ℕ) (words : List (List ℕ)) (entry : OpenSession) → opening file state name k words ≡ Ok entry → entry.granted ≡ 0
-none_granted file state name k words entry is = ap (λ (e : OpenSession). e.granted) (opened_for file state name k words entry is).is
+pub none_granted : (file : FileView) (state : DeskState) (name : List ℕ) (k : ℕ) (words : List (List ℕ)) (session : OpenSession) → opening file state name k words ≡ Ok session → session.granted ≡ 0
+none_granted file state name k words session is = ap (λ (e : OpenSession). e.granted) (opened_for file state name k words session is).is

@@ -1,8 +1,5 @@
 -- A refused line changes nothing.
-use Rattle.std.proofs.Common.{◌≡◌, ℕ, Bool, true, false, not, cond, List, [], ◌∷◌, Option, Some, None, Result, Ok, Err, refl, sym, ap, ◌∙◌}
-use Rattle.std.specs.List.{find}
-use Rattle.std.specs.Option.{option_map_or}
-use Rattle.std.specs.Result.{result_err}
+use Rattle.shared_lemmas.proofs.Common.{◌≡◌, ℕ, Bool, true, false, not, cond, List, [], ◌∷◌, Option, Some, None, Result, Ok, Err, refl, sym, ap, ◌∙◌, find, option_map_or, result_err}
 use Rattle.index_layout.specs.View.{FileView}
 use Rattle.session_desk.specs.declared.refusal.DeskRefusal.{DeskRefusal}
 use Rattle.session_desk.specs.declared.refusal.DeskRefusal.TheVariants.{BadLine, UnknownSession}
@@ -12,32 +9,32 @@ use Rattle.session_desk.specs.State.{DeskState, OpenSession, is_named, session_n
 
 -- ---- no session has the name
 
-none_found : {P : Type 0} (name : List ℕ) (e : OpenSession) (entries : List OpenSession) → find (is_named name) (e ∷ entries) ≡ None → (is_named name e ≡ false → find (is_named name) entries ≡ None → P) → P
-none_found {P} name e entries none next = here (is_named name e) refl
+none_found : {P : Type 0} (name : List ℕ) (e : OpenSession) (sessions : List OpenSession) → find (is_named name) (e ∷ sessions) ≡ None → (is_named name e ≡ false → find (is_named name) sessions ≡ None → P) → P
+none_found {P} name e sessions none next = here (is_named name e) refl
   where
     here : (b : Bool) → is_named name e ≡ b → P
     here true is =
-        let some : (let o : Option OpenSession = Some e in o) ≡ None = ap (λ (b : Bool). cond b (Some e) (find (is_named name) entries)) (sym is) ∙ none in
+        let some : (let o : Option OpenSession = Some e in o) ≡ None = ap (λ (b : Bool). cond b (Some e) (find (is_named name) sessions)) (sym is) ∙ none in
         cc
-    here false is = next is (ap (λ (b : Bool). cond b (Some e) (find (is_named name) entries)) (sym is) ∙ none)
+    here false is = next is (ap (λ (b : Bool). cond b (Some e) (find (is_named name) sessions)) (sym is) ∙ none)
 
-pub with_none : (name : List ℕ) (change : OpenSession → OpenSession) (entries : List OpenSession) → find (is_named name) entries ≡ None → with_named name change entries ≡ entries
+pub with_none : (name : List ℕ) (change : OpenSession → OpenSession) (sessions : List OpenSession) → find (is_named name) sessions ≡ None → with_named name change sessions ≡ sessions
 with_none name change [] none = refl
-with_none name change (e ∷ entries) none = none_found name e entries none (λ is rest. ap (λ (b : Bool). cond b (change e) e ∷ with_named name change entries) is ∙ ap (λ es. e ∷ es) (with_none name change entries rest))
+with_none name change (e ∷ sessions) none = none_found name e sessions none (λ is rest. ap (λ (b : Bool). cond b (change e) e ∷ with_named name change sessions) is ∙ ap (λ es. e ∷ es) (with_none name change sessions rest))
 
-pub without_none : (name : List ℕ) (entries : List OpenSession) → find (is_named name) entries ≡ None → without_named name entries ≡ entries
+pub without_none : (name : List ℕ) (sessions : List OpenSession) → find (is_named name) sessions ≡ None → without_named name sessions ≡ sessions
 without_none name [] none = refl
-without_none name (e ∷ entries) none =
-    none_found name e entries none (λ is rest. ap (λ (b : Bool). cond (not b) (e ∷ without_named name entries) (without_named name entries)) is ∙ ap (λ es. e ∷ es) (without_none name entries rest))
+without_none name (e ∷ sessions) none =
+    none_found name e sessions none (λ is rest. ap (λ (b : Bool). cond (not b) (e ∷ without_named name sessions) (without_named name sessions)) is ∙ ap (λ es. e ∷ es) (without_none name sessions rest))
 
 -- ---- refusals
 
 opening_refused : (found : Result OpenSession DeskRefusal) (refusal : DeskRefusal) → result_err found ≡ Some refusal → found ≡ Err refusal
-opening_refused (Ok entry) refusal is = cc
+opening_refused (Ok session) refusal is = cc
 opening_refused (Err other) refusal is = let same : other ≡ refusal = cc in ap (λ r. Err r) same
 
 unknown : (found : Option OpenSession) (refusal : DeskRefusal) → unknown_refusal found ≡ Some refusal → (found ≡ None) × (UnknownSession ≡ refusal)
-unknown (Some entry) refusal is = cc
+unknown (Some session) refusal is = cc
 unknown None refusal is = (refl, cc)
 
 unknown_reply : (text : OpenSession → List ℕ) (found : Option OpenSession) (refusal : DeskRefusal) → unknown_refusal found ≡ Some refusal → reply_of text found ≡ refusal_line refusal
@@ -63,12 +60,8 @@ command_left file state (Some End) refusal is = refl
 
 command_unpaid : (file : FileView) (state : DeskState) (command : Option DeskCommand) (refusal : DeskRefusal) → refusal_of file state command ≡ Some refusal → steps_of file state command ≡ 0
 command_unpaid file state None refusal is = refl
-command_unpaid file state (Some (Open name k words)) refusal is = refl
 command_unpaid file state (Some (Grant name budget)) refusal is = ap (λ (o : Option OpenSession). option_map_or (newly_scored file budget) o 0) (unknown (session_named name state) refusal is).0
-command_unpaid file state (Some (Top name)) refusal is = refl
-command_unpaid file state (Some (Why name)) refusal is = refl
-command_unpaid file state (Some (Close name)) refusal is = refl
-command_unpaid file state (Some End) refusal is = refl
+command_unpaid file state (Some other) refusal is = refl
 
 pub line_replied : (file : FileView) (state : DeskState) (line : List ℕ) (refusal : DeskRefusal) → desk_refusal file state line ≡ Some refusal → desk_reply file state line ≡ refusal_line refusal
 unfolding desk_refusal desk_reply

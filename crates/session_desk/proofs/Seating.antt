@@ -1,20 +1,14 @@
 -- The sessions of a desk as one of them changes, goes, or joins the others.
-use Rattle.std.proofs.Common.{◌≡◌, ◌≢◌, ℕ, zero, suc, ◌+◌, ◌<◌, Bool, cond, List, [], ◌∷◌, ◌++◌, length, map, get_or, Option, Some, None, refl, sym, ap, subst, ◌∙◌, arith}
+use Rattle.shared_lemmas.proofs.Common.{◌≡◌, ◌≢◌, ℕ, zero, suc, ◌+◌, ◌<◌, Bool, cond, List, [], ◌∷◌, ◌++◌, length, map, get_or, Option, Some, None, refl, sym, ap, subst, ◌∙◌, arith, length-append, length-map, map-append, sum_by-append, sum_by-cons, sum_by-set, IsSome, count_by, is_some, sum_by}
+use Rattle.shared_lemmas.proofs.Common.{AllByRecursion}
 use Rattle.std.proofs.lemmas.Bool.{true≢false}
-use Rattle.std.proofs.lemmas.List.{length-append, length-map, length-set, map-append}
-use Rattle.std.proofs.lemmas.List.Sums.{sum_by-append, sum_by-cons, sum_by-set}
-use Rattle.std.specs.Prelude.{IsSome, count_by, is_some, sum_by}
-use Rattle.std.specs.List.{AllByRecursion, slice_set, slice_index_or}
+use Rattle.std.proofs.lemmas.List.{length-set}
+use Rattle.std.specs.List.{slice_set, slice_index_or}
 use Rattle.shared_lemmas.proofs.Lists.{all_append, all_back, all_front, all_weaker}
-use Rattle.jass_base.specs.declared.query.Query.{Query}
-use Rattle.index_layout.specs.View.{FileView}
-use Rattle.frame_pool.specs.ChainView.{LeavesOthers, LeavesPool, chain_view}
-use Rattle.frame_pool.specs.Pool.{ChainEntry, IsInUse, PoolView, Promises, spare_of}
-use Rattle.session_engine.specs.Plans.{need_of}
-use Rattle.session_engine.specs.Standing.{IsSessionOf, SessionStands, chain_of, terms_of}
-use Rattle.session_engine.specs.declared.session.Session.{Session}
+use Rattle.session_desk.proofs.Below.{Query, FileView, LeavesOthers, LeavesPool, chain_view, ChainEntry, IsInUse, PoolView, Promises, spare_of, need_of, IsSessionOf, SessionStands, chain_of, terms_of, Session}
 use Rattle.session_desk.specs.State.{OpenSession, needs}
-use Rattle.session_desk.specs.Standing.{AreApart, Differ, SessionsStand, entries_of, entry_of, name_of}
+use Rattle.session_desk.specs.Standing.{sessions_data, session_data}
+use Rattle.session_desk.specs.Private.Standing.{AreApart, Differ, SessionsStand, name_of}
 use Rattle.session_desk.proofs.Placing.{HasOtherName}
 
 abbrev pub HasOtherChain : ℕ → Session → Type 0
@@ -90,20 +84,20 @@ others_stay stay file old new s sessions leaves apart stand = stay sessions file
 -- ---- frames and chains
 
 needs_parted : (file : FileView) (front : List Session) (s : Session) (back : List Session)
-    → needs file (entries_of (front ++ s ∷ back)) ≡ needs file (entries_of front) + need_of file (terms_of s) + needs file (entries_of back)
+    → needs file (sessions_data (front ++ s ∷ back)) ≡ needs file (sessions_data front) + need_of file (terms_of s) + needs file (sessions_data back)
 needs_parted file front s back =
     let f = λ (e : OpenSession). need_of file e.query.terms in
     omega (
       arith,
-      ap (sum_by f) (map-append entry_of front (s ∷ back)),
-      sum_by-append f (entries_of front) (entry_of s ∷ entries_of back),
-      sum_by-cons f (entry_of s) (entries_of back),
+      ap (sum_by f) (map-append session_data front (s ∷ back)),
+      sum_by-append f (sessions_data front) (session_data s ∷ sessions_data back),
+      sum_by-cons f (session_data s) (sessions_data back),
     )
 
-needs_joined : (file : FileView) (front back : List Session) → needs file (entries_of (front ++ back)) ≡ needs file (entries_of front) + needs file (entries_of back)
+needs_joined : (file : FileView) (front back : List Session) → needs file (sessions_data (front ++ back)) ≡ needs file (sessions_data front) + needs file (sessions_data back)
 needs_joined file front back =
     let f = λ (e : OpenSession). need_of file e.query.terms in
-    ap (sum_by f) (map-append entry_of front back) ∙ sum_by-append f (entries_of front) (entries_of back)
+    ap (sum_by f) (map-append session_data front back) ∙ sum_by-append f (sessions_data front) (sessions_data back)
 
 abbrev one_where_used : Option ChainEntry → ℕ
 one_where_used entry = cond (is_some entry) 1 0
@@ -187,10 +181,7 @@ apart_from : (old : PoolView) (s : Session) (sessions : List Session) → slice_
     → AllByRecursion (λ (t : Session). IsInUse old (chain_of t)) sessions → AllByRecursion (AreApart s) sessions
 apart_from old s [] unused names used = tt
 apart_from old s (t ∷ sessions) unused names used = (
-  record {
-    names = names.0;
-    chains = (λ e. true≢false (sym used.0 ∙ ap (λ n. is_some (slice_index_or old.chains n None)) e ∙ ap is_some unused));
-  },
+  record { names = names.0; chains = (λ e. true≢false (sym used.0 ∙ ap (λ n. is_some (slice_index_or old.chains n None)) e ∙ ap is_some unused)) },
   apart_from old s sessions unused names.1 used.1,
 )
 
@@ -215,7 +206,7 @@ all_stand stay file old new sessions s stand few names used stands promises othe
         stand.in_use,
         length-append sessions (s ∷ []),
       );
-      spare = omega (arith, spare, stand.spare, ap length promises.frames, needs_joined file sessions (s ∷ []), sum_by-cons (λ (e : OpenSession). need_of file e.query.terms) (entry_of s) []);
+      spare = omega (arith, spare, stand.spare, ap length promises.frames, needs_joined file sessions (s ∷ []), sum_by-cons (λ (e : OpenSession). need_of file e.query.terms) (session_data s) []);
     }
 
 -- ---- the last session goes, and then the others

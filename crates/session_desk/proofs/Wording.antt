@@ -1,15 +1,6 @@
 -- The words of a line, and the checks before them.
-use Rattle.std.proofs.Common.{◌≡◌, ℕ, ◌<◌, ◌≤◌, Bool, true, false, not, cond, List, ◌∷◌, length, [], take, drop, refl, ap, sym, subst, ◌∙◌, arith}
-use Rattle.std.proofs.Math.Seq.{take-length, drop-length}
-use Rattle.std.proofs.lemmas.Str.{is_utf8-from_IsUtf8}
-use Rattle.std.specs.Prelude.{Option, Some, None, nat_lt, slice_get, get_or}
-use Rattle.std.specs.Option.{unwrap_or}
-use Rattle.std.specs.Str.{is_utf8, IsUtf8}
-use Rattle.memchr.specs.Find.{IsFirstByte, is_byte2}
-use Rattle.query_reader.specs.Texts.{is_blank}
-use Rattle.query_reader.specs.Slices.{blank_runs, BeginsWithout}
-use Rattle.query_reader.proofs.Runs.{first-run, only-run}
-use Rattle.query_reader.proofs.LineReading.{is-short}
+use Rattle.shared_lemmas.proofs.Common.{◌≡◌, ℕ, ◌<◌, ◌≤◌, Bool, true, false, not, cond, List, ◌∷◌, length, [], take, drop, refl, ap, sym, subst, ◌∙◌, arith, take-length, drop-length, is_utf8-from_IsUtf8, Option, Some, None, nat_lt, slice_get, get_or, unwrap_or, is_utf8, IsUtf8}
+use Rattle.session_desk.proofs.Below.{IsFirstByte, is_byte2, is_blank, blank_runs, BeginsWithout, first-run, only-run, is-short}
 use Rattle.shared_lemmas.proofs.Texts.{no_utf8}
 use Rattle.session_desk.specs.Lines.{DeskCommand, command_in, read_desk_line}
 
@@ -29,8 +20,7 @@ line_checks long utf8 command = cond long None (cond (not utf8) None command)
 
 checked : (line : List ℕ) (long utf8 : Bool) → nat_lt 1048576 (length line) ≡ long → is_utf8 line ≡ utf8 → read_desk_line line ≡ line_checks long utf8 (command_in (blank_runs line))
 unfolding read_desk_line
-checked line long utf8 a b =
-    ap (λ (x : Bool). line_checks x (is_utf8 line) (command_in (blank_runs line))) a
+checked line long utf8 a b = ap (λ (x : Bool). line_checks x (is_utf8 line) (command_in (blank_runs line))) a
     ∙ ap (λ (x : Bool). line_checks long x (command_in (blank_runs line))) b
 
 -- a line that isn't text

@@ -52,7 +52,7 @@ own_replies file name state (line ∷ lines) =
 
 -- a desk at which this session is the only one
 abbrev pub alone : ℕ → OpenSession → DeskState
-alone frames entry = record { sessions = entry ∷ []; frames = frames }
+alone frames session = record { sessions = session ∷ []; frames = frames }
 
 -- the budgets that lines grant a session
 abbrev pub budget_in : List ℕ → Option DeskCommand → List Budget

@@ -7,7 +7,9 @@ use Rattle.std.specs.Str.{is_utf8}
 use Rattle.jass_base.specs.Decimal.{decimal_of}
 use Rattle.jass_base.specs.declared.answer.Budget.{Budget}
 use Rattle.jass_base.specs.declared.answer.Budget.TheVariants.{Postings, All}
-use Rattle.query_reader.specs.Slices.{blank_runs}
+use Rattle.jass_base.specs.declared.limits.TheConstants.{LONGEST_LINE, MOST_HITS}
+use Rattle.query_reader.specs.Texts.{blank_runs}
+use Rattle.session_desk.specs.declared.desk_limits.TheConstants.{LONGEST_SESSION_NAME}
 
 -- what a line asks for; `open` has the words behind its number of documents
 pub data DeskCommand : Type 0 where
@@ -26,11 +28,11 @@ is_name_byte b = is_ascii_alphanumeric b || b == 45 || b == 95 || b == 46
 
 -- the name of a session: 1 to 32 of these
 unfoldable pub is_name : List ℕ → Bool
-is_name word = nat_le 1 (length word) && nat_le (length word) 32 && list_all is_name_byte word
+is_name word = nat_le 1 (length word) && nat_le (length word) LONGEST_SESSION_NAME && list_all is_name_byte word
 
 -- how many documents are asked for: 1 to 100,000
 abbrev pub k_in_range : ℕ → Option ℕ
-k_in_range n = if nat_le 1 n && nat_le n 100000 then Some n else None
+k_in_range n = if nat_le 1 n && nat_le n MOST_HITS then Some n else None
 
 unfoldable pub k_of : List ℕ → Option ℕ
 k_of word = option_and_then k_in_range (decimal_of word)
@@ -86,7 +88,7 @@ command_in (verb ∷ words) = command_of verb words
 
 -- the command of a line without its end: at most 1,048,576 bytes of UTF-8 in one of the six forms
 unfoldable pub read_desk_line : List ℕ → Option DeskCommand
-read_desk_line line = if nat_lt 1048576 (length line) then None else (if not (is_utf8 line) then None else command_in (blank_runs line))
+read_desk_line line = if nat_lt LONGEST_LINE (length line) then None else (if not (is_utf8 line) then None else command_in (blank_runs line))
 
 -- ---- what lines are
 

@@ -22,6 +22,7 @@ use Rattle.session_desk.specs.declared.refusal.DeskRefusal.{DeskRefusal}
 use Rattle.session_desk.specs.declared.refusal.DeskRefusal.TheVariants.{BadLine, UnknownSession, NameInUse, DeskFull, TooManyTerms, NamedTooOften, PoolFull}
 use Rattle.session_desk.specs.State.{DeskState, OpenSession, granted_more, session_named, spare_frames, with_named, without_named}
 use Rattle.session_desk.specs.Lines.{DeskCommand, Open, Grant, Top, Why, Close, End, read_desk_line}
+use Rattle.session_desk.specs.declared.desk_limits.TheConstants.{MOST_SESSIONS}
 
 -- ---- the texts
 
@@ -37,17 +38,17 @@ refusal_line (PoolFull need free) = codes "refused 74 pool " ++ (decimal need ++
 
 -- the plan of a session, and the prefix of it that its grants pay for
 abbrev pub plan_of_session : FileView → OpenSession → QueryPlan
-plan_of_session file entry = session_plan file entry.query.terms
+plan_of_session file session = session_plan file session.query.terms
 
 abbrev pub scored_prefix : FileView → OpenSession → ℕ
-scored_prefix file entry = prefix_within entry.granted (plan_of_session file entry).segments
+scored_prefix file session = prefix_within session.granted (plan_of_session file session).segments
 
 -- the report and the answer at this prefix
 unfoldable pub session_report : FileView → OpenSession → Report
-session_report file entry = report_by (scored_prefix file entry) (plan_of_session file entry) entry.k
+session_report file session = report_by (scored_prefix file session) (plan_of_session file session) session.k
 
 unfoldable pub session_answer : FileView → OpenSession → List Hit
-session_answer file entry = top_k (scored_prefix file entry) (plan_of_session file entry) entry.k
+session_answer file session = top_k (scored_prefix file session) (plan_of_session file session) session.k
 
 -- `opened NAME need N unknown U`
 unfoldable pub opened_line : List ℕ → ℕ → ℕ → List ℕ
@@ -55,18 +56,18 @@ opened_line name need unknown =
     codes "opened " ++ (name ++ (codes " need " ++ (decimal need ++ (codes " unknown " ++ (decimal unknown ++ codes "\n")))))
 
 abbrev pub opened_text : FileView → OpenSession → List ℕ
-opened_text file entry = opened_line entry.query.id (need_of file entry.query.terms) entry.query.unknown
+opened_text file session = opened_line session.query.id (need_of file session.query.terms) session.query.unknown
 
 -- the report line, with the session's name in front
 abbrev pub report_text : FileView → OpenSession → List ℕ
-report_text file entry = report_line entry.query.id (session_report file entry) entry.query.unknown
+report_text file session = report_line session.query.id (session_report file session) session.query.unknown
 
 -- `hits H`, and as many run lines
 unfoldable pub answer_lines : List (List ℕ) → List ℕ → List Hit → List ℕ
 answer_lines names name hits = codes "hits " ++ (decimal (length hits) ++ (codes "\n" ++ run_lines names name (codes "jass") 1 hits))
 
 abbrev pub answer_text : FileView → OpenSession → List ℕ
-answer_text file entry = answer_lines file.index.names entry.query.id (session_answer file entry)
+answer_text file session = answer_lines file.index.names session.query.id (session_answer file session)
 
 -- `closed NAME`
 unfoldable pub closed_text : List ℕ → List ℕ
@@ -94,7 +95,7 @@ fitting file state k (Ok query) =
 abbrev pub room_refusal : List ℕ → DeskState → Option DeskRefusal
 room_refusal name state =
     if is_some (session_named name state) then Some NameInUse
-    else (if nat_le 64 (length state.sessions) then Some DeskFull
+    else (if nat_le MOST_SESSIONS (length state.sessions) then Some DeskFull
     else None)
 
 abbrev pub has_room : List ℕ → DeskState → Bool
@@ -111,26 +112,26 @@ opening file state name k words =
     (fitting file state k (read_mentions (texts_of file.index.terms) name (map plain_mention words)))
 
 abbrev pub opened_reply : FileView → Result OpenSession DeskRefusal → List ℕ
-opened_reply file (Ok entry) = opened_text file entry
+opened_reply file (Ok session) = opened_text file session
 opened_reply file (Err refusal) = refusal_line refusal
 
 abbrev pub with_opened : DeskState → Result OpenSession DeskRefusal → DeskState
-with_opened state (Ok entry) = record state { sessions = state.sessions ++ entry ∷ [] }
+with_opened state (Ok session) = record state { sessions = state.sessions ++ session ∷ [] }
 with_opened state (Err refusal) = state
 
 -- ---- one command
 
 -- the reply of a session, where there is one
 abbrev pub reply_of : (OpenSession → List ℕ) → Option OpenSession → List ℕ
-reply_of text (Some entry) = text entry
+reply_of text (Some session) = text session
 reply_of text None = refusal_line UnknownSession
 
 abbrev pub command_reply : FileView → DeskState → DeskCommand → List ℕ
 command_reply file state (Open name k words) = opened_reply file (opening file state name k words)
-command_reply file state (Grant name budget) = reply_of (λ entry. report_text file (granted_more budget entry)) (session_named name state)
+command_reply file state (Grant name budget) = reply_of (λ session. report_text file (granted_more budget session)) (session_named name state)
 command_reply file state (Top name) = reply_of (answer_text file) (session_named name state)
 command_reply file state (Why name) = reply_of (report_text file) (session_named name state)
-command_reply file state (Close name) = reply_of (λ entry. closed_text name) (session_named name state)
+command_reply file state (Close name) = reply_of (λ session. closed_text name) (session_named name state)
 command_reply file state End = end_text
 
 -- the state after it
@@ -144,7 +145,7 @@ command_after file state End = state
 
 -- the postings that a grant scores newly
 abbrev pub newly_scored : FileView → Budget → OpenSession → ℕ
-newly_scored file budget entry = (session_report file (granted_more budget entry)).postings - (session_report file entry).postings
+newly_scored file budget session = (session_report file (granted_more budget session)).postings - (session_report file session).postings
 
 abbrev pub command_steps : FileView → DeskState → DeskCommand → ℕ
 command_steps file state (Grant name budget) = option_map_or (newly_scored file budget) (session_named name state) 0
@@ -152,7 +153,7 @@ command_steps file state other = 0
 
 -- the first refusal of a command, where it is refused
 abbrev pub unknown_refusal : Option OpenSession → Option DeskRefusal
-unknown_refusal (Some entry) = None
+unknown_refusal (Some session) = None
 unknown_refusal None = Some UnknownSession
 
 abbrev pub command_refusal : FileView → DeskState → DeskCommand → Option DeskRefusal

@@ -28,7 +28,7 @@ abbrev pub new_state : ℕ → DeskState
 new_state frames = record { sessions = []; frames = frames }
 
 abbrev pub is_named : List ℕ → OpenSession → Bool
-is_named name entry = bytes_eq entry.query.id name
+is_named name session = bytes_eq session.query.id name
 
 -- the session of a name, where one is open
 abbrev pub session_named : List ℕ → DeskState → Option OpenSession
@@ -36,18 +36,18 @@ session_named name state = find (is_named name) state.sessions
 
 -- the frames that sessions need at the most, and those that no open session may need
 abbrev pub needs : FileView → List OpenSession → ℕ
-needs file entries = sum_by (λ (e : OpenSession). need_of file e.query.terms) entries
+needs file sessions = sum_by (λ (e : OpenSession). need_of file e.query.terms) sessions
 
 abbrev pub spare_frames : FileView → DeskState → ℕ
 spare_frames file state = state.frames - needs file state.sessions
 
 -- a session to which a budget more is granted
 abbrev pub granted_more : Budget → OpenSession → OpenSession
-granted_more budget entry = record entry { granted = granted_with entry.granted budget }
+granted_more budget session = record session { granted = granted_with session.granted budget }
 
 -- the sessions with that of a name changed, and without it
 abbrev pub with_named : List ℕ → (OpenSession → OpenSession) → List OpenSession → List OpenSession
-with_named name change entries = map (λ (e : OpenSession). if is_named name e then change e else e) entries
+with_named name change sessions = map (λ (e : OpenSession). if is_named name e then change e else e) sessions
 
 abbrev pub without_named : List ℕ → List OpenSession → List OpenSession
-without_named name entries = filter (λ (e : OpenSession). not (is_named name e)) entries
+without_named name sessions = filter (λ (e : OpenSession). not (is_named name e)) sessions

@@ -1,12 +1,14 @@
 ghost use Rattle.std.specs.Prelude.{◌≡◌, ◌≤◌, ◌+◌, ◌↔◌, IfOk, IsTrue, Ok, Some, length, option_map};
 ghost use Rattle.index_layout.specs.View.{FileView};
-ghost use Rattle.query_reader.specs.Slices.{blank_runs};
+ghost use Rattle.query_reader.specs.Texts.{blank_runs};
 ghost use Rattle.session_desk.specs.Private.Commands.{FitsLine, command_data};
 ghost use Rattle.session_desk.specs.Endings.{left_where, may_take_memory, text_where};
 ghost use Rattle.session_desk.specs.Lines.{Close, Grant, Open, Top, Why, is_end_command};
 ghost use Rattle.session_desk.specs.Replies.{after_of, command_after, command_reply, command_steps, end_text, reply_to, steps_of};
-ghost use Rattle.session_desk.specs.Standing.{TableStands, state_of};
+ghost use Rattle.session_desk.specs.Standing.{state_of};
+ghost use Rattle.session_desk.specs.Private.Standing.{TableStands};
 ghost use Rattle.gathered_text.specs.Gathering.{Gathers};
+ghost use Rattle.jass_base.specs.declared.limits.TheConstants.{LONGEST_LINE, MOST_HITS};
 
 use crate::command::Command;
 use crate::opening::SessionFault;
@@ -80,7 +82,7 @@ fn open<S: Sink>(
     buffer: &mut Buffer,
 ) -> Result<Went, WriteFault>
     requires stands { TableStands index.now table.old }
-    requires fits { (1 ≤ k) × (k ≤ 100000) × (length mentions.now ≤ 1048576) }
+    requires fits { (1 ≤ k) × (k ≤ MOST_HITS) × (length mentions.now ≤ LONGEST_LINE) }
     ensures stands { TableStands index.now table.new }
     ensures reply { Gathers S.written S.faults S.rest out.old out.new buffer.old buffer.new
         (text_where result

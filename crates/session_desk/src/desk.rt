@@ -4,6 +4,7 @@ ghost use Rattle.session_desk.specs.Lines.{is_end};
 ghost use Rattle.session_desk.specs.Replies.{desk_after, desk_reply, desk_steps};
 ghost use Rattle.session_desk.specs.State.{new_state};
 ghost use Rattle.gathered_text.specs.Gathering.{Gathers};
+ghost use Rattle.jass_base.specs.declared.limits.TheConstants.{MOST_FRAMES};
 
 use crate::answering::answer;
 use crate::reading::read_command;
@@ -27,7 +28,8 @@ pub struct Desk {
 
 impl Model for Desk {
     ghost use Rattle.session_desk.specs.State.{DeskView};
-    ghost use Rattle.session_desk.specs.Standing.{TableStands, state_of};
+    ghost use Rattle.session_desk.specs.Standing.{state_of};
+    ghost use Rattle.session_desk.specs.Private.Standing.{TableStands};
 
     ghost Value = { DeskView };
 
@@ -41,7 +43,7 @@ impl Desk {
     /// the index back.
     pub fn new(alloc: Global, index: IndexFile, frames: u32) -> Result<Desk, (IndexFile, NoMemory)>
         requires some { 1 ≤ frames }
-        requires few { frames ≤ 1048576 }
+        requires few { frames ≤ MOST_FRAMES }
         ensures file { IfOk result (λ desk. desk.file ≡ index) }
         ensures state { IfOk result (λ desk. desk.state ≡ new_state frames) }
         ensures err { IfErr result (λ e. e.0 ≡ index) }

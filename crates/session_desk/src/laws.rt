@@ -60,36 +60,36 @@ pub fn refused_lines_leave_the_state()
 /// What is opened depends on its line and the index alone, has nothing granted, and is then found by its name.
 pub fn a_session_is_opened_by_its_line()
     ensures same { (file : FileView) (first second : DeskState) (name : List ℕ) (k : ℕ)
-        (words others : List (List ℕ)) (entry other : OpenSession) →
+        (words others : List (List ℕ)) (session other : OpenSession) →
         map plain_mention words ≡ map plain_mention others →
-        opening file first name k words ≡ Ok entry → opening file second name k others ≡ Ok other → entry ≡ other }
+        opening file first name k words ≡ Ok session → opening file second name k others ≡ Ok other → session ≡ other }
     ensures none { (file : FileView) (state : DeskState) (name : List ℕ) (k : ℕ) (words : List (List ℕ))
-        (entry : OpenSession) →
-        opening file state name k words ≡ Ok entry → entry.granted ≡ 0 }
+        (session : OpenSession) →
+        opening file state name k words ≡ Ok session → session.granted ≡ 0 }
     ensures found { (file : FileView) (state : DeskState) (line name : List ℕ) (k : ℕ) (words : List (List ℕ))
-        (entry : OpenSession) →
-        read_desk_line line ≡ Some (Open name k words) → opening file state name k words ≡ Ok entry →
-        session_named name (desk_after file state line) ≡ Some entry }
+        (session : OpenSession) →
+        read_desk_line line ≡ Some (Open name k words) → opening file state name k words ≡ Ok session →
+        session_named name (desk_after file state line) ≡ Some session }
 {}
 
 /// Isolation: the replies to the lines that name a session, up to the one that closes it, are those of a desk that has
 /// no other session, to these lines alone. So two sessions that were opened with the same name, k and mentions are told
 /// the same, whatever other lines stand before, between and after, and whatever the numbers of frames.
 pub fn sessions_are_answered_alone()
-    ensures alone { (file : FileView) (name : List ℕ) (state : DeskState) (entry : OpenSession) (lines : List (List ℕ))
-        (frames : ℕ) →
-        session_named name state ≡ Some entry →
-        own_replies file name state lines ≡ replies_from file (alone frames entry) (own_lines name lines) }
-    ensures same { (file : FileView) (name : List ℕ) (first second : DeskState) (entry : OpenSession)
+    ensures alone { (file : FileView) (name : List ℕ) (state : DeskState) (session : OpenSession)
+        (lines : List (List ℕ)) (frames : ℕ) →
+        session_named name state ≡ Some session →
+        own_replies file name state lines ≡ replies_from file (alone frames session) (own_lines name lines) }
+    ensures same { (file : FileView) (name : List ℕ) (first second : DeskState) (session : OpenSession)
         (lines others : List (List ℕ)) →
-        session_named name first ≡ Some entry → session_named name second ≡ Some entry →
+        session_named name first ≡ Some session → session_named name second ≡ Some session →
         own_lines name lines ≡ own_lines name others →
         own_replies file name first lines ≡ own_replies file name second others }
     ensures opened { (file : FileView) (first second : DeskState) (line other name : List ℕ) (k : ℕ)
-        (words more : List (List ℕ)) (entry twin : OpenSession) (lines others : List (List ℕ)) →
+        (words more : List (List ℕ)) (session twin : OpenSession) (lines others : List (List ℕ)) →
         read_desk_line line ≡ Some (Open name k words) → read_desk_line other ≡ Some (Open name k more) →
         map plain_mention words ≡ map plain_mention more →
-        opening file first name k words ≡ Ok entry → opening file second name k more ≡ Ok twin →
+        opening file first name k words ≡ Ok session → opening file second name k more ≡ Ok twin →
         own_lines name lines ≡ own_lines name others →
         own_replies file name (desk_after file first line) lines
         ≡ own_replies file name (desk_after file second other) others }
@@ -97,50 +97,52 @@ pub fn sessions_are_answered_alone()
 
 /// Lines that don't close a session leave its query and k, and grant it the sum of the budgets that name it.
 pub fn a_session_has_the_sum_of_its_grants()
-    ensures { (file : FileView) (name : List ℕ) (state : DeskState) (entry : OpenSession) (budgets : List Budget)
+    ensures { (file : FileView) (name : List ℕ) (state : DeskState) (session : OpenSession) (budgets : List Budget)
         (lines : List (List ℕ)) →
-        session_named name state ≡ Some entry → entry.granted ≡ granted_sum budgets →
+        session_named name state ≡ Some session → session.granted ≡ granted_sum budgets →
         AllByRecursion (λ line. does_close name line ≡ false) lines →
         session_named name (after_lines file state lines)
-        ≡ Some (record entry { granted = granted_sum (budgets ++ budgets_in name lines) }) }
+        ≡ Some (record session { granted = granted_sum (budgets ++ budgets_in name lines) }) }
 {}
 
 /// Each report and answer of a session is that of one search alone with the sum of its grants.
 pub fn sessions_answer_as_one_search()
-    ensures grant { (file : FileView) (state : DeskState) (line name : List ℕ) (entry : OpenSession)
+    ensures grant { (file : FileView) (state : DeskState) (line name : List ℕ) (session : OpenSession)
         (budgets : List Budget) (budget : Budget) →
-        read_desk_line line ≡ Some (Grant name budget) → session_named name state ≡ Some entry →
-        entry.granted ≡ granted_sum budgets →
-        let plan = plan_of_session file entry in
+        read_desk_line line ≡ Some (Grant name budget) → session_named name state ≡ Some session →
+        session.granted ≡ granted_sum budgets →
+        let plan = plan_of_session file session in
         let prefix = prefix_within (granted_sum (budgets ++ budget ∷ [])) plan.segments in
-        desk_reply file state line ≡ report_line entry.query.id (report_by prefix plan entry.k) entry.query.unknown }
-    ensures why { (file : FileView) (state : DeskState) (line name : List ℕ) (entry : OpenSession)
+        desk_reply file state line
+        ≡ report_line session.query.id (report_by prefix plan session.k) session.query.unknown }
+    ensures why { (file : FileView) (state : DeskState) (line name : List ℕ) (session : OpenSession)
         (budgets : List Budget) →
-        read_desk_line line ≡ Some (Why name) → session_named name state ≡ Some entry →
-        entry.granted ≡ granted_sum budgets →
-        let plan = plan_of_session file entry in
-        let prefix = prefix_within (granted_sum budgets) plan.segments in
-        desk_reply file state line ≡ report_line entry.query.id (report_by prefix plan entry.k) entry.query.unknown }
-    ensures top { (file : FileView) (state : DeskState) (line name : List ℕ) (entry : OpenSession)
-        (budgets : List Budget) →
-        read_desk_line line ≡ Some (Top name) → session_named name state ≡ Some entry →
-        entry.granted ≡ granted_sum budgets →
-        let plan = plan_of_session file entry in
+        read_desk_line line ≡ Some (Why name) → session_named name state ≡ Some session →
+        session.granted ≡ granted_sum budgets →
+        let plan = plan_of_session file session in
         let prefix = prefix_within (granted_sum budgets) plan.segments in
         desk_reply file state line
-        ≡ codes "hits " ++ (decimal (length (top_k prefix plan entry.k)) ++ (codes "\n"
-        ++ query_run file.index.names plan entry.query.id entry.k (prefix ∷ []) (codes "jass"))) }
+        ≡ report_line session.query.id (report_by prefix plan session.k) session.query.unknown }
+    ensures top { (file : FileView) (state : DeskState) (line name : List ℕ) (session : OpenSession)
+        (budgets : List Budget) →
+        read_desk_line line ≡ Some (Top name) → session_named name state ≡ Some session →
+        session.granted ≡ granted_sum budgets →
+        let plan = plan_of_session file session in
+        let prefix = prefix_within (granted_sum budgets) plan.segments in
+        desk_reply file state line
+        ≡ codes "hits " ++ (decimal (length (top_k prefix plan session.k)) ++ (codes "\n"
+        ++ query_run file.index.names plan session.query.id session.k (prefix ∷ []) (codes "jass"))) }
 {}
 
 /// A printed report is that of its prefix, with the one grade that it has, and keeps its promises for every later
 /// prefix.
 #[tactic(auto, unfolding(crate::specs::Replies::session_report))]
 pub fn reports_of_desks_keep_their_promises()
-    ensures report { (file : FileView) (entry : OpenSession) →
-        IsReport (scored_prefix file entry) (plan_of_session file entry) entry.k (session_report file entry) }
-    ensures promised { (file : FileView) (entry : OpenSession) → IsFileView file →
-        IsPromised (weighted_postings (numbered_flat file.index) entry.query.terms) (scored_prefix file entry)
-        (plan_of_session file entry) entry.k (session_report file entry) }
+    ensures report { (file : FileView) (session : OpenSession) →
+        IsReport (scored_prefix file session) (plan_of_session file session) session.k (session_report file session) }
+    ensures promised { (file : FileView) (session : OpenSession) → IsFileView file →
+        IsPromised (weighted_postings (numbered_flat file.index) session.query.terms) (scored_prefix file session)
+        (plan_of_session file session) session.k (session_report file session) }
 {
     a_prefix_has_one_report();
     the_flat_list_is_flat();
@@ -160,11 +162,12 @@ pub fn the_steps_are_those_of_the_sessions()
 /// The postings that are scored for a session are at most the sum of its grants. A grant scores what it adds to them,
 /// and a second grant of all adds nothing.
 pub fn grants_pay_for_the_steps()
-    ensures most { (file : FileView) (entry : OpenSession) → (session_report file entry).postings ≤ entry.granted }
-    ensures paid { (file : FileView) (entry : OpenSession) (budget : Budget) → entry.granted ≤ 2 ^ 64 - 1 →
-        (session_report file entry).postings + newly_scored file budget entry
-        ≡ (session_report file (granted_more budget entry)).postings }
-    ensures again { (file : FileView) (entry : OpenSession) → newly_scored file All (granted_more All entry) ≡ 0 }
+    ensures most { (file : FileView) (session : OpenSession) →
+        (session_report file session).postings ≤ session.granted }
+    ensures paid { (file : FileView) (session : OpenSession) (budget : Budget) → session.granted ≤ 2 ^ 64 - 1 →
+        (session_report file session).postings + newly_scored file budget session
+        ≡ (session_report file (granted_more budget session)).postings }
+    ensures again { (file : FileView) (session : OpenSession) → newly_scored file All (granted_more All session) ≡ 0 }
 {
     the_prefix_is_the_longest();
     a_prefix_is_resumed();

@@ -7,6 +7,7 @@
 mod answering;
 mod command;
 mod desk;
+pub mod desk_limits;
 pub mod laws;
 mod opening;
 mod reading;

@@ -1,15 +1,19 @@
 ghost use Rattle.std.specs.Prelude.{◌≡◌, ◌≢◌, ◌≤◌, ◌<◌, Ok, IfNone, IsErrOf, IsTrue, length};
 ghost use Rattle.std.specs.List.{AllByRecursion};
 ghost use Rattle.query_reader.specs.Queries.{query_data};
-ghost use Rattle.query_reader.specs.Slices.{blank_runs};
+ghost use Rattle.query_reader.specs.Texts.{blank_runs};
 ghost use Rattle.session_engine.specs.Plans.{AreKnown};
 ghost use Rattle.session_engine.specs.declared.session.Session.{Session};
 ghost use Rattle.session_desk.specs.Private.Opening.{Opens, refuses};
 ghost use Rattle.session_desk.specs.Replies.{fitting, has_room, opening, room_refusal};
-ghost use Rattle.session_desk.specs.Standing.{Differ, TableStands, name_of, state_of};
+ghost use Rattle.session_desk.specs.Standing.{state_of};
+ghost use Rattle.session_desk.specs.Private.Standing.{Differ, TableStands, name_of};
+ghost use Rattle.jass_base.specs.declared.limits.TheConstants.{LONGEST_LINE, MOST_HITS};
+ghost use Rattle.session_desk.specs.declared.desk_limits.TheConstants.{MOST_SESSIONS};
 
+use crate::desk_limits::MOST_SESSIONS;
 use crate::refusal::DeskRefusal;
-use crate::table::{MOST_SESSIONS, Table};
+use crate::table::Table;
 use index_file::IndexFile;
 use jass_base::Query;
 use query_reader::{Mode, QueryFault, QueryWhy, read_terms};
@@ -47,8 +51,8 @@ impl Table {
     ) -> Result<Opened, SessionFault>
         requires stands { TableStands index.now self.old }
         requires some { 1 ≤ k }
-        requires few { k ≤ 100000 }
-        requires fits { length mentions.now ≤ 1048576 }
+        requires few { k ≤ MOST_HITS }
+        requires fits { length mentions.now ≤ LONGEST_LINE }
         ensures stands { TableStands index.now self.new }
         ensures opens { Opens index.now (opening index.now (state_of self.old) name.now k (blank_runs mentions.now))
             name.now (state_of self.old) (state_of self.new) result }
@@ -70,7 +74,7 @@ impl Table {
         ensures refusal { result ≡ room_refusal name.now (state_of self.now) }
         ensures free { IfNone result
             (AllByRecursion (λ (s : Session). name_of s ≢ name.now) self.now.sessions.items) }
-        ensures few { IfNone result (length self.now.sessions.items < 64) }
+        ensures few { IfNone result (length self.now.sessions.items < MOST_SESSIONS) }
     {
         if self.place_of(name).is_some() {
             return Some(DeskRefusal::NameInUse);
@@ -91,10 +95,10 @@ impl Table {
     ) -> Result<Opened, SessionFault>
         requires stands { TableStands index.now self.old }
         requires others { AllByRecursion (λ (s : Session). name_of s ≢ query.id) self.old.sessions.items }
-        requires room { length self.old.sessions.items < 64 }
+        requires room { length self.old.sessions.items < MOST_SESSIONS }
         requires known { AreKnown index.now query.terms }
         requires some { 1 ≤ k }
-        requires few { k ≤ 100000 }
+        requires few { k ≤ MOST_HITS }
         ensures stands { TableStands index.now self.new }
         ensures opens { Opens index.now (fitting index.now (state_of self.old) k (Ok (query_data query)))
             query.id (state_of self.old) (state_of self.new) result }

@@ -1,22 +1,16 @@
 ghost use Rattle.std.specs.Prelude.{◌≡◌, ◌≤◌, length, IfSome};
 ghost use Rattle.std.specs.List.{list_all};
 ghost use Rattle.std.specs.Option.{option_map};
-ghost use Rattle.query_reader.specs.Slices.{blank_runs};
+ghost use Rattle.query_reader.specs.Texts.{blank_runs};
 ghost use Rattle.session_desk.specs.Private.Commands.{FitsLine, command_data, name_data};
 ghost use Rattle.session_desk.specs.Lines.{budget_of, command_of, end_of, grant_of, is_name, is_name_byte, k_of, only_name, open_of, read_desk_line};
+ghost use Rattle.jass_base.specs.declared.limits.TheConstants.{LONGEST_LINE, MOST_HITS};
 
 use crate::command::Command;
+use crate::desk_limits::LONGEST_SESSION_NAME;
 use crate::words::next_word;
+use jass_base::limits::{LONGEST_LINE, MOST_HITS};
 use jass_base::{Budget, read_decimal};
-
-/// The most bytes of a line without its end.
-const LONGEST_LINE: usize = 1_048_576;
-
-/// The most bytes of a session's name.
-const LONGEST_NAME: usize = 32;
-
-/// The most documents that may be asked for.
-const MOST_DOCUMENTS: u64 = 100_000;
 
 /// The command of a line, or `None` where it is a bad line.
 #[tactic(auto, unfolding(crate::specs::Lines::read_desk_line))]
@@ -37,7 +31,7 @@ pub fn read_command(line: &[u8]) -> Option<Command<'_>>
 /// The command of a first word and those behind it.
 #[tactic(auto, unfolding(crate::specs::Lines::command_of))]
 fn command_of<'a>(verb: &str, words: &'a str) -> Option<Command<'a>>
-    requires { length words.now ≤ 1048576 }
+    requires { length words.now ≤ LONGEST_LINE }
     ensures command { option_map command_data result ≡ command_of verb.now (blank_runs words.now) }
     ensures fits { FitsLine result }
 {
@@ -60,7 +54,7 @@ fn command_of<'a>(verb: &str, words: &'a str) -> Option<Command<'a>>
 
 /// What stands behind `open`: a name, a number of documents, and mentions.
 fn read_open(words: &str) -> Option<Command<'_>>
-    requires { length words.now ≤ 1048576 }
+    requires { length words.now ≤ LONGEST_LINE }
     ensures command { option_map command_data result ≡ open_of (blank_runs words.now) }
     ensures fits { FitsLine result }
 {
@@ -114,7 +108,7 @@ fn read_end(words: &str) -> Option<Command<'_>>
 fn is_name(word: &str) -> bool
     ensures { result ≡ is_name word.now }
 {
-    !word.is_empty() && word.len() <= LONGEST_NAME && are_name_bytes(word.as_bytes())
+    !word.is_empty() && word.len() <= LONGEST_SESSION_NAME && are_name_bytes(word.as_bytes())
 }
 
 /// Whether all bytes may stand in a name.
@@ -135,10 +129,10 @@ fn is_name_byte(byte: u8) -> bool
 #[tactic(auto, unfolding(crate::specs::Lines::k_of))]
 fn read_k(word: &str) -> Option<u32>
     ensures k { result ≡ k_of word.now }
-    ensures range { IfSome result (λ k. (1 ≤ k) × (k ≤ 100000)) }
+    ensures range { IfSome result (λ k. (1 ≤ k) × (k ≤ MOST_HITS)) }
 {
     match read_decimal(word.as_bytes()) {
-        Some(k) if k >= 1 && k <= MOST_DOCUMENTS => Some(k as u32),
+        Some(k) if k >= 1 && k <= u64::from(MOST_HITS) => Some(k as u32),
         _ => None,
     }
 }

@@ -3,9 +3,14 @@ ghost use Rattle.index_layout.specs.View.{FileView};
 ghost use Rattle.session_engine.specs.Standing.{SessionStands};
 ghost use Rattle.session_desk.specs.Lines.{Close, Grant};
 ghost use Rattle.session_desk.specs.Replies.{command_after, command_steps};
-ghost use Rattle.session_desk.specs.Standing.{Differ, FindsName, TableStands, entry_of, state_of, told_of};
+ghost use Rattle.session_desk.specs.Standing.{session_data, state_of};
+ghost use Rattle.session_desk.specs.Private.Standing.{Differ, TableStands};
+ghost use Rattle.session_desk.specs.Private.Reporting.{told_of};
+ghost use Rattle.session_desk.specs.Private.Places.{FindsName};
 ghost use Rattle.session_desk.specs.State.{granted_more, new_state, session_named};
+ghost use Rattle.jass_base.specs.declared.limits.TheConstants.{MOST_FRAMES};
 
+use crate::desk_limits::MOST_SESSIONS;
 use crate::told::Told;
 use frame_pool::FramePool;
 use index_file::IndexFile;
@@ -17,9 +22,6 @@ use session_engine::laws::{
 use std::alloc::Global;
 use std::sync::ledger::Ledger;
 
-/// The most sessions that are open at a time.
-pub const MOST_SESSIONS: usize = 64;
-
 /// Open sessions in the order of their opening, and the pool that their scores stand in. Each call that takes an index
 /// wants that over which the sessions stand.
 pub struct Table {
@@ -30,7 +32,7 @@ pub struct Table {
 impl Table {
     /// No session, and room for 64.
     pub fn new(alloc: Global, frames: u32) -> Result<Table, NoMemory>
-        requires { frames ≤ 1048576 }
+        requires { frames ≤ MOST_FRAMES }
         ensures stands { (file : FileView) → IfOk result (λ table. TableStands file table) }
         ensures state { IfOk result (λ table. state_of table ≡ new_state frames) }
     {
@@ -63,7 +65,7 @@ impl Table {
     ) -> Option<Told>
         requires stands { TableStands index.now self.old }
         ensures stands { TableStands index.now self.new }
-        ensures told { result ≡ option_map (λ entry. told_of index.now (granted_more budget entry))
+        ensures told { result ≡ option_map (λ session. told_of index.now (granted_more budget session))
             (session_named name.now (state_of self.old)) }
         ensures after { state_of self.new ≡ command_after index.now (state_of self.old) (Grant name.now budget) }
         ensures steps { steps.new
@@ -99,7 +101,7 @@ impl Table {
     /// The session of this name, where one is open.
     pub fn session(&self, name: &str) -> Option<&Session>
         requires { Differ self.now.sessions.items }
-        ensures entry { option_map (λ s. entry_of s.now) result ≡ session_named name.now (state_of self.now) }
+        ensures session { option_map (λ s. session_data s.now) result ≡ session_named name.now (state_of self.now) }
         ensures stands { (file : FileView) → TableStands file self.now →
             IfSome result (λ s. SessionStands s.now file self.now.pool) }
     {

@@ -1,6 +1,7 @@
 // Desks over small index files, whose terms, heads and payloads stand here, and whose documents are d0, d1 and so on.
 
 ghost use Rattle.std.specs.Prelude.{◌≡◌, ◌≤◌, ◌<◌};
+ghost use Rattle.jass_base.specs.declared.limits.TheConstants.{MOST_FRAMES};
 
 use crate::{Desk, Went};
 use gathered_text::{Buffer, flush};
@@ -164,7 +165,7 @@ fn answered_by<L: Ledger>(
     requires parts { blank.parts ≡ L.parts }
     requires some { 0 < blank.parts }
     requires frames { 1 ≤ frames }
-    requires few { frames ≤ 1048576 }
+    requires few { frames ≤ MOST_FRAMES }
 {
     let mut first = MemSink::new(alloc, Row::from_vec(Vec::from_slice(alloc, bad)?));
     let mut second = MemSink::new(alloc, Row::new(alloc));
@@ -195,7 +196,7 @@ fn answered(
     behind: &[u8],
 ) -> Result<Told, AllocError>
     requires frames { 1 ≤ frames }
-    requires few { frames ≤ 1048576 }
+    requires few { frames ≤ MOST_FRAMES }
 {
     answered_by::<Brand>(alloc, Blank::new(1), terms, frames, script, bad, behind)
 }

@@ -1,4 +1,4 @@
-ghost use Rattle.std.specs.Prelude.{ℕ, ◌≡◌, ◌<◌, ◌++◌, All, codes, decimal, length};
+ghost use Rattle.std.specs.Prelude.{◌<◌, ◌++◌, All, codes, decimal, length};
 ghost use Rattle.jass_base.specs.declared.answer.Hit.{Hit};
 ghost use Rattle.session_desk.specs.Replies.{answer_lines, closed_text, end_text, opened_line, refusal_line};
 ghost use Rattle.gathered_text.specs.Gathering.{Gathers};
@@ -132,10 +132,7 @@ pub fn gather_hits<S: Sink, N: Names>(
     ensures { Gathers S.written S.faults S.rest out.old out.new buffer.old buffer.new
         (answer_lines (N.names index.now) name.now hits.now) result }
 {
-    match gather_count(out, buffer, hits.len()) {
-        Ok(()) => {}
-        Err(fault) => return Err(fault),
-    }
+    gather_count(out, buffer, hits.len())?;
     gather_answer(out, buffer, name, index, hits, TAG, 0)
 }
 

@@ -1,7 +1,7 @@
 ghost use Rattle.std.specs.Prelude.{◌≡◌, ◌≤◌, ◌<◌, false, true, IsTrue, length, slice_index};
 ghost use Rattle.std.specs.Str.{IsCharBoundary};
-ghost use Rattle.query_reader.specs.Slices.{BeginsWithout, FindsRun, blank_runs};
-ghost use Rattle.query_reader.specs.Texts.{is_blank};
+ghost use Rattle.query_reader.specs.Slices.{BeginsWithout, FindsRun};
+ghost use Rattle.query_reader.specs.Texts.{is_blank, blank_runs};
 
 use memchr::memchr2;
 

@@ -1,11 +1,6 @@
 -- A bitmap in rows of sixteen bytes: the bits of a row are those of 128 documents.
-use Rattle.std.proofs.Common.{◌≡◌, ℕ, ◌+◌, ◌-◌, ◌*◌, ◌<◌, ◌≤◌, min, List, [], ◌++◌, length, take, drop, refl, sym, ap, ◌∙◌, inl, inr, arith}
-use Rattle.std.specs.Prelude.{slice_range}
-use Rattle.std.proofs.lemmas.Bool.{cases_lt}
-use Rattle.std.proofs.lemmas.List.{length-drop, length-take-le, drop-drop, drop_all, take-append-drop}
-use Rattle.lane_kernels.specs.Bitmap.{set_bits}
-use Rattle.lane_kernels.proofs.SetBits.{set_bits-append}
-use Rattle.plain_codecs.proofs.Bitmaps.{none_set}
+use Rattle.shared_lemmas.proofs.Common.{◌≡◌, ℕ, ◌+◌, ◌-◌, ◌*◌, ◌<◌, ◌≤◌, min, List, [], ◌++◌, length, take, drop, refl, sym, ap, ◌∙◌, inl, inr, arith, slice_range, cases_lt, length-drop, length-take-le, drop-drop, drop_all, take-append-drop}
+use Rattle.session_engine.proofs.Below.{set_bits, set_bits-append, none_set}
 
 -- the documents from a row on
 abbrev pub from_row : List ℕ → ℕ → List ℕ
@@ -34,11 +29,9 @@ row_parted bits row end inside is =
     split ∙ ap (λ (l : List ℕ). here ++ l) (elim (cases_lt (length bits) (16 * row + 16)) [
       | inl short ↦
           ap (set_bits (base + 8 * length (take size rest))) (drop_all size rest (omega (arith, left, is, short)))
-          ∙ none_set (base + 8 * length (take size rest))
-          ∙ sym (none_behind bits (row + 1) (omega (arith, short)))
+          ∙ none_set (base + 8 * length (take size rest)) ∙ sym (none_behind bits (row + 1) (omega (arith, short)))
       | inr full ↦
           let next : base + 8 * length (take size rest) ≡ 128 * (row + 1) = omega (arith, long, is, full) in
           let term_place : 16 * row + size ≡ 16 * (row + 1) = omega (arith, is, full) in
-          ap (λ n. set_bits n (drop size rest)) next
-          ∙ ap (set_bits (128 * (row + 1))) (drop-drop size (16 * row) bits ∙ ap (λ n. drop n bits) term_place)
+          ap (λ n. set_bits n (drop size rest)) next ∙ ap (set_bits (128 * (row + 1))) (drop-drop size (16 * row) bits ∙ ap (λ n. drop n bits) term_place)
     ])

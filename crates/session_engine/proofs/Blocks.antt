@@ -1,17 +1,6 @@
 -- A segment that is scored block by block.
 use Rattle.std.proofs.Common.{◌≡◌, ℕ, ◌+◌, ◌<◌, ◌≤◌, List, [], ◌∷◌, ◌++◌, length, take, drop, refl, sym, ap, ◌∙◌, arith, length-append, length-take, take-append-drop}
-use Rattle.frame_pool.specs.Pool.{PoolView}
-use Rattle.frame_pool.specs.ChainView.{LeavesPool}
-use Rattle.index_file.specs.Giving.{Gives}
-use Rattle.index_file.specs.declared.cursor.Cursor.{Cursor}
-use Rattle.index_layout.specs.View.{FileView}
-use Rattle.index_file.specs.Places.{segment_at}
-use Rattle.index_model.specs.Index.{IndexData, IsIndex}
-use Rattle.index_model.specs.Querying.{segments_at}
-use Rattle.jass_base.specs.Gaps.{AreDocs}
-use Rattle.ranking_model.specs.Scores.{added}
-use Rattle.session_scores.specs.declared.scores.Scores.{Scores}
-use Rattle.session_scores.specs.Scores.{AreScoresOf, ScoresStand, own_chain, own_view, scores_of}
+use Rattle.session_engine.proofs.Below.{PoolView, LeavesPool, Gives, Cursor, FileView, segment_at, IndexData, IsIndex, segments_at, AreDocs, added, Scores, AreScoresOf, ScoresStand, own_chain, own_view, scores_of}
 use Rattle.session_engine.proofs.PartlyScored.{AreScoredBut, all_scored, more_scored, none_scored}
 
 -- some documents of a segment have their weight, and the cursor still gives the rest

@@ -1,13 +1,7 @@
 -- What the entry at a place of a plan tells of its segment.
-use Rattle.std.proofs.Common.{◌≡◌, ℕ, suc, ◌≤◌, List, ◌∷◌, map, length, drop, Some, sym, ap, ◌∙◌, subst, arith}
-use Rattle.std.specs.Prelude.{All, slice_get, sum_by}
-use Rattle.std.specs.Option.{option_map}
-use Rattle.std.proofs.lemmas.List.{take_all}
-use Rattle.std.proofs.lemmas.List.Sums.{sum_by-take-le}
-use Rattle.std.proofs.lemmas.Option.{get_or_from_slice_get, slice_get-map, slice_get_within}
+use Rattle.shared_lemmas.proofs.Common.{◌≡◌, ℕ, suc, ◌≤◌, List, ◌∷◌, map, length, drop, Some, sym, ap, ◌∙◌, subst, arith, All, slice_get, sum_by, option_map, take_all, sum_by-take-le, get_or_from_slice_get, slice_get-map, slice_get_within}
 use Rattle.std.proofs.Math.Seq.{drop-cons}
-use Rattle.ranking_model.specs.declared.plan_segment.PlanSegment.{PlanSegment}
-use Rattle.ranking_model.specs.Plan.{size_of_first}
+use Rattle.session_engine.proofs.Below.{PlanSegment, size_of_first}
 
 -- the item that is there
 pub there : {A : Type 0} (P : A → Type 0) (xs : List A) (n : ℕ) (x : A) → slice_get xs n ≡ Some x → All P xs → P x
@@ -26,6 +20,5 @@ one_first : (segment : PlanSegment) (rest segments : List PlanSegment) → segme
 one_first segment rest segments is = ap (λ (cs : List PlanSegment). size_of_first 1 cs) is ∙ (omega arith)
 
 pub one_size : (n : ℕ) (segments : List PlanSegment) (segment : PlanSegment) → slice_get segments n ≡ Some segment → size_of_first 1 (drop n segments) ≡ length segment.docs
-one_size n segments segment is =
-    one_first segment (drop (suc n) segments) (drop n segments)
+one_size n segments segment is = one_first segment (drop (suc n) segments) (drop n segments)
     (drop-cons segments n segment (slice_get_within segments n segment is) ∙ ap (λ (c : PlanSegment). c ∷ drop (suc n) segments) (get_or_from_slice_get segments n segment segment is))

@@ -1,23 +1,7 @@
 -- A session at the beginning.
-use Rattle.std.proofs.Common.{◌≡◌, ℕ, zero, suc, ◌≤◌, List, [], ◌∷◌, map, length, take, replicate, Option, Some, None, refl, sym, ap, ◌∙◌, subst, arith, set-set}
-use Rattle.std.specs.Prelude.{All, Result, Ok, Err, IfOk, slice_set}
-use Rattle.std.specs.List.{AllByRecursion, range_with_len}
-use Rattle.std.proofs.lemmas.List.{set-get_or}
-use Rattle.std.proofs.lemmas.List.Elements.{recursion_from_All}
-use Rattle.std.proofs.lemmas.List.FromFn.{length-range_with_len}
-use Rattle.std.proofs.lemmas.List.Sums.{sum_by-cons}
-use Rattle.jass_base.specs.declared.faults.NoMemory.{NoMemory}
-use Rattle.jass_base.specs.declared.query_term.QueryTerm.{QueryTerm}
-use Rattle.frame_pool.specs.Pool.{ChainEntry, PoolView, Promises}
-use Rattle.index_layout.specs.View.{FileView}
-use Rattle.index_model.specs.Index.{IndexData}
-use Rattle.ranking_model.specs.declared.plan_segment.PlanSegment.{PlanSegment}
-use Rattle.ranking_model.specs.declared.plan.QueryPlan.{QueryPlan}
-use Rattle.ranking_model.specs.Plan.{size_of_first}
-use Rattle.ranking_model.specs.Scores.{scores_after}
-use Rattle.segment_plan.specs.declared.entry.PlanEntry.{PlanEntry}
-use Rattle.segment_plan.specs.declared.entry.PlanHead.{PlanHead}
-use Rattle.segment_plan.specs.Entries.{PlanView, plan_with}
+use Rattle.shared_lemmas.proofs.Common.{◌≡◌, ℕ, zero, suc, ◌≤◌, List, [], ◌∷◌, map, length, take, replicate, Option, Some, None, refl, sym, ap, ◌∙◌, subst, arith, set-set, All, Result, Ok, Err, IfOk, slice_set, AllByRecursion, range_with_len, set-get_or, recursion_from_All, length-range_with_len}
+use Rattle.shared_lemmas.proofs.Common.{sum_by-cons}
+use Rattle.session_engine.proofs.Below.{NoMemory, QueryTerm, ChainEntry, PoolView, Promises, FileView, IndexData, PlanSegment, QueryPlan, size_of_first, scores_after, PlanEntry, PlanHead, PlanView, plan_with}
 use Rattle.session_engine.specs.Plans.{AreKnown, NamesSegment, segment_named, query_heads}
 use Rattle.session_engine.specs.Standing.{IsPlanned}
 

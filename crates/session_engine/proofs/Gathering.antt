@@ -1,12 +1,6 @@
 -- The steps of the loops over terms and over their segments.
-use Rattle.std.proofs.Common.{◌≡◌, ℕ, suc, ◌+◌, ◌<◌, ◌≤◌, min, List, [], ◌∷◌, ◌++◌, length, get_or, drop, sym, ap, ◌∙◌, arith, append_assoc, append-nil}
-use Rattle.std.specs.Prelude.{sum_by}
-use Rattle.std.proofs.lemmas.List.Sums.{sum_by-cons}
-use Rattle.std.proofs.lemmas.List.{drop_all, drop_more}
-use Rattle.jass_base.specs.declared.query_term.QueryTerm.{QueryTerm}
-use Rattle.index_model.specs.Index.{SegmentData, TermData}
-use Rattle.index_model.specs.Querying.{segments_at}
-use Rattle.segment_plan.specs.declared.entry.PlanHead.{PlanHead}
+use Rattle.shared_lemmas.proofs.Common.{◌≡◌, ℕ, suc, ◌+◌, ◌<◌, ◌≤◌, min, List, [], ◌∷◌, ◌++◌, length, get_or, drop, sym, ap, ◌∙◌, arith, append_assoc, append-nil, sum_by, sum_by-cons, drop_all, drop_more}
+use Rattle.session_engine.proofs.Below.{QueryTerm, SegmentData, TermData, segments_at, PlanHead}
 use Rattle.session_engine.specs.Plans.{heads_at, heads_from}
 
 abbrev pub no_segment : SegmentData
@@ -15,10 +9,8 @@ no_segment = record { impact = 0; docs = [] }
 abbrev pub size : SegmentData → ℕ
 size s = length s.docs
 
-pub sum_step : {A : Type 0} (f : A → ℕ) (xs : List A) (i limit sum new count : ℕ) (d : A) → i < length xs
-    → new ≡ min limit (sum + f (get_or xs i d))
-    → min limit (sum + sum_by f (drop i xs)) ≡ min limit count
-    → min limit (new + sum_by f (drop (i + 1) xs)) ≡ min limit count
+pub sum_step : {A : Type 0} (f : A → ℕ) (xs : List A) (i limit sum new count : ℕ) (d : A) → i < length xs → new ≡ min limit (sum + f (get_or xs i d))
+    → min limit (sum + sum_by f (drop i xs)) ≡ min limit count → min limit (new + sum_by f (drop (i + 1) xs)) ≡ min limit count
 sum_step f xs i limit sum new count d inside now is =
     let left : sum_by f (drop i xs) ≡ f (get_or xs i d) + sum_by f (drop (i + 1) xs) = ap (sum_by f) (drop_more xs i d inside) ∙ sum_by-cons f (get_or xs i d) (drop (i + 1) xs) in
     omega arith
@@ -43,16 +35,14 @@ abbrev pub no_term : QueryTerm
 no_term = record { term = 0; times = 0 }
 
 pub terms_step : (i term_place : ℕ) (query : List QueryTerm) (terms : List TermData) (items new all : List PlanHead) → i < length query → term_place ≡ i
-    → new ≡ items ++ heads_at term_place 0 (segments_at terms (get_or query i no_term).term)
-    → items ++ heads_from i (drop i query) terms ≡ all
+    → new ≡ items ++ heads_at term_place 0 (segments_at terms (get_or query i no_term).term) → items ++ heads_from i (drop i query) terms ≡ all
     → new ++ heads_from (i + 1) (drop (i + 1) query) terms ≡ all
 terms_step i term_place query terms items new all inside same grown is =
     let named : QueryTerm = get_or query i no_term in
     let here : List PlanHead = heads_at i 0 (segments_at terms named.term) in
     let one : suc i ≡ i + 1 = omega arith in
     let left : heads_from i (drop i query) terms ≡ here ++ heads_from (i + 1) (drop (i + 1) query) terms
-    = ap (λ (ns : List QueryTerm). heads_from i ns terms) (drop_more query i no_term inside)
-    ∙ (λ k. here ++ heads_from (one k) (drop (i + 1) query) terms) in
+    = ap (λ (ns : List QueryTerm). heads_from i ns terms) (drop_more query i no_term inside) ∙ (λ k. here ++ heads_from (one k) (drop (i + 1) query) terms) in
     ap (λ (hs : List PlanHead). hs ++ heads_from (i + 1) (drop (i + 1) query) terms) (grown ∙ ap (λ n. items ++ heads_at n 0 (segments_at terms named.term)) same)
     ∙ append_assoc items here (heads_from (i + 1) (drop (i + 1) query) terms) ∙ ap (λ (hs : List PlanHead). items ++ hs) (sym left) ∙ is
 

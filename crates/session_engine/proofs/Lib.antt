@@ -1,3 +1,4 @@
+mod Below
 pub mod Segments
 pub mod Totals
 pub mod Standing

@@ -1,16 +1,8 @@
 -- Some documents have their weight, and others are left.
-use Rattle.std.proofs.Common.{◌≡◌, ℕ, ◌+◌, ◌<◌, ◌≤◌, ◌^◌, List, [], ◌++◌, length, refl, sym, ap, ◌∙◌, subst, arith, append_assoc, append-nil, length-append}
-use Rattle.std.specs.Prelude.{All}
-use Rattle.std.specs.List.{AllByRecursion}
-use Rattle.std.proofs.lemmas.List.Elements.{All-from_recursion, recursion_from_All}
-use Rattle.frame_pool.specs.Pool.{PoolView}
-use Rattle.frame_pool.specs.ChainView.{LeavesPool, chain_view}
-use Rattle.accumulator_pages.specs.Adding.{page_count}
-use Rattle.accumulator_pages.specs.Pages.{HasRoomFor}
+use Rattle.shared_lemmas.proofs.Common.{◌≡◌, ℕ, ◌+◌, ◌<◌, ◌≤◌, ◌^◌, List, [], ◌++◌, length, refl, sym, ap, ◌∙◌, subst, arith, append_assoc, append-nil, All, AllByRecursion, All-from_recursion, recursion_from_All}
+use Rattle.std.proofs.Common.{length-append}
+use Rattle.session_engine.proofs.Below.{PoolView, LeavesPool, chain_view, page_count, HasRoomFor, added, Scores, AreScoresOf, ScoresStand, docs_of, own_chain, own_view, scores_of}
 use Rattle.shared_lemmas.proofs.Lists.{all_back, all_front}
-use Rattle.ranking_model.specs.Scores.{added}
-use Rattle.session_scores.specs.declared.scores.Scores.{Scores}
-use Rattle.session_scores.specs.Scores.{AreScoresOf, ScoresStand, docs_of, own_chain, own_view, scores_of}
 
 -- all documents but the rest have their weight
 pub record AreScoredBut (weight : ℕ) (docs rest : List ℕ) (first : Scores) (old : PoolView) (now : Scores) (new : PoolView) : Type 0 where

@@ -1,13 +1,6 @@
 -- A report by its fields.
-use Rattle.std.proofs.Common.{◌≡◌, ℕ, List, length, ◌∙◌}
-use Rattle.std.specs.Prelude.{Option}
-use Rattle.jass_base.specs.declared.answer.Grade.{Grade}
-use Rattle.jass_base.specs.declared.answer.Hit.{Hit}
-use Rattle.jass_base.specs.declared.answer.Report.{Report}
-use Rattle.ranking_model.specs.declared.plan.QueryPlan.{QueryPlan}
-use Rattle.ranking_model.specs.Plan.{cutoff_after, next_after, size_of_first}
-use Rattle.ranking_model.specs.Scores.{bound_after, first_ranked, least_untouched, runner_up, scores_after}
-use Rattle.final_certificate.specs.Rule.{grade_by, report_by}
+use Rattle.shared_lemmas.proofs.Common.{◌≡◌, ℕ, List, length, ◌∙◌, Option}
+use Rattle.session_engine.proofs.Below.{Grade, Hit, Report, QueryPlan, cutoff_after, next_after, size_of_first, bound_after, first_ranked, least_untouched, runner_up, scores_after, grade_by, report_by}
 
 pub reported : (n : ℕ) (plan : QueryPlan) (k postings of cutoff next bound : ℕ) (grade : Grade) (hits : List Hit) (up : Option Hit) (untouched : Option ℕ)
     → postings ≡ size_of_first n plan.segments → of ≡ length plan.segments → cutoff ≡ cutoff_after n plan.segments → next ≡ next_after n plan.segments → bound ≡ bound_after n plan

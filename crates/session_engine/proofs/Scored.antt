@@ -1,16 +1,6 @@
 -- Entries that are scored one by one.
-use Rattle.std.proofs.Common.{◌≡◌, ℕ, ◌+◌, ◌-◌, drop, ◌<◌, ◌≤◌, ◌^◌, min, List, length, refl, sym, ap, ◌∙◌, subst, arith}
-use Rattle.std.specs.Prelude.{All}
-use Rattle.frame_pool.specs.Pool.{PoolView}
-use Rattle.frame_pool.specs.ChainView.{LeavesPool, chain_view}
-use Rattle.accumulator_pages.specs.Adding.{page_count}
-use Rattle.accumulator_pages.specs.Pages.{HasRoomFor}
-use Rattle.ranking_model.specs.declared.plan.QueryPlan.{QueryPlan}
-use Rattle.ranking_model.specs.declared.plan_segment.PlanSegment.{PlanSegment}
-use Rattle.ranking_model.specs.Plan.{prefix_within, size_of_first}
-use Rattle.ranking_model.specs.Scores.{added, scores_after}
-use Rattle.session_scores.specs.declared.scores.Scores.{Scores}
-use Rattle.session_scores.specs.Scores.{AreScoresOf, ScoresStand, docs_of, own_chain, own_view, scores_of}
+use Rattle.shared_lemmas.proofs.Common.{◌≡◌, ℕ, ◌+◌, ◌-◌, drop, ◌<◌, ◌≤◌, ◌^◌, min, List, length, refl, sym, ap, ◌∙◌, subst, arith, All}
+use Rattle.session_engine.proofs.Below.{PoolView, LeavesPool, chain_view, page_count, HasRoomFor, QueryPlan, PlanSegment, prefix_within, size_of_first, added, scores_after, Scores, AreScoresOf, ScoresStand, docs_of, own_chain, own_view, scores_of}
 use Rattle.session_engine.specs.Standing.{ScoredTo}
 
 -- the segments of a plan from one on up to another are scored, and their postings are counted
@@ -40,8 +30,7 @@ module _ {from i need : ℕ} {plan : QueryPlan} {first : Scores} {old : PoolView
       → HasRoomFor (own_view now new) (docs_of now) count
   room_next count names all next most docs needs =
       let pages : page_count (docs_of now) ≡ page_count names = ap page_count (progress.scored.docs ∙ docs) in
-      let frames = progress.scored.frames in
-      let promise = progress.scored.promise in
+      let frames = progress.scored.frames in let promise = progress.scored.promise in
       omega arith
 
   pub fits_count : (count all : ℕ) → size_of_first (i + 1) plan.segments ≡ size_of_first i plan.segments + count → size_of_first (i + 1) plan.segments ≤ all → all < 2 ^ 32 → postings + count < 2 ^ 32

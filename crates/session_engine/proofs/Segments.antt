@@ -1,52 +1,10 @@
 -- The heads of a query's segments, arranged, name the segments of its plan.
-use Rattle.std.proofs.Common.{◌≡◌, ℕ, zero, suc, ◌+◌, ◌*◌, ◌<◌, ◌≤◌, List, [], ◌∷◌, ◌++◌, map, length, get_or, Bool, true, false, refl, sym, ap, ap₂, ◌∙◌, subst, arith, cond, inl}
-use Rattle.std.specs.Prelude.{All}
-use Rattle.std.specs.List.{AllByRecursion}
-use Rattle.std.specs.declared.cmp.Ordering.{Ordering}
-use Rattle.std.specs.Ordering.{is_gt, nat_cmp, ordering_then}
-use Rattle.std.proofs.lemmas.List.{map-append}
-use Rattle.std.proofs.lemmas.List.Elements.{All-from_recursion, recursion_from_All}
-use Rattle.jass_base.specs.declared.query_term.QueryTerm.{QueryTerm}
-use Rattle.ranking_model.specs.declared.plan_segment.PlanSegment.{PlanSegment}
-use Rattle.ranking_model.specs.Order.{placed, sorted}
-use Rattle.ranking_model.specs.Plan.{plan_cmp}
-use Rattle.ranking_model.specs.Postings.{AreTerms}
-use Rattle.index_model.specs.Index.{SegmentData, TermData, IndexData, IsSegment, IsTerm, IsIndex, FallsTo}
-use Rattle.index_model.specs.Querying.{segments_at, query_segments_at, query_segments_from, query_segments}
-use Rattle.index_model.proofs.FlatOrder.{term_kept}
-use Rattle.shared_lemmas.proofs.Pairs.{Pairs, pairs_by_places}
-use Rattle.shared_lemmas.proofs.Pairs.{pairs_append}
+use Rattle.shared_lemmas.proofs.Common.{◌≡◌, ℕ, zero, suc, ◌+◌, ◌*◌, ◌<◌, ◌≤◌, List, [], ◌∷◌, ◌++◌, map, length, get_or, refl, sym, ap, ap₂, ◌∙◌, subst, arith, inl, All, AllByRecursion, nat_cmp, ordering_then, map-append, All-from_recursion, recursion_from_All}
+use Rattle.session_engine.proofs.Below.{QueryTerm, PlanSegment, sorted, plan_cmp, AreTerms, SegmentData, TermData, IndexData, IsSegment, IsTerm, IsIndex, FallsTo, segments_at, query_segments_at, query_segments_from, query_segments, term_kept, PlanEntry, PlanHead, AreHeads, Fall, entry_of}
+use Rattle.session_engine.proofs.Below.{entry_cmp, plan_with, shape, entry_shape, all_sorted, sorted_map_where}
+use Rattle.shared_lemmas.proofs.Pairs.{Pairs, pairs_by_places, pairs_append}
 use Rattle.shared_lemmas.proofs.Lists.{all_weaker, all_append}
-use Rattle.segment_plan.specs.declared.entry.PlanEntry.{PlanEntry}
-use Rattle.segment_plan.specs.declared.entry.PlanHead.{PlanHead}
-use Rattle.segment_plan.specs.Entries.{AreHeads, Fall, entry_of, entry_cmp, plan_with}
-use Rattle.segment_plan.specs.Shape.{shape, entry_shape}
 use Rattle.session_engine.specs.Plans.{NamesSegment, segment_named, docs_named, heads_at, heads_from, query_heads}
-
--- ---- a sort through a map that keeps the order of some items
-
-module _ {A B : Type 0} (f : A → B) (P : A → Type 0) (cmp : A → A → Ordering) (mapped : B → B → Ordering) (same : (x y : A) → P x → P y → mapped (f x) (f y) ≡ cmp x y) where
-  all_placed : (x : A) (ys : List A) → P x → AllByRecursion P ys → AllByRecursion P (placed cmp x ys)
-  all_placed x [] p h = (p, tt)
-  all_placed x (y ∷ ys) p h = step (is_gt (cmp x y)) refl (all_placed x ys p h.1) where
-    step : (b : Bool) → is_gt (cmp x y) ≡ b → AllByRecursion P (placed cmp x ys) → AllByRecursion P (placed cmp x (y ∷ ys))
-    step true e rest = rw e (h.0, rest)
-    step false e rest = rw e (p, (h.0, h.1))
-
-  pub all_sorted : (xs : List A) → AllByRecursion P xs → AllByRecursion P (sorted cmp xs)
-  all_sorted [] h = tt
-  all_sorted (x ∷ xs) h = all_placed x (sorted cmp xs) h.0 (all_sorted xs h.1)
-
-  placed_map : (x : A) (ys : List A) → P x → AllByRecursion P ys → placed mapped (f x) (map f ys) ≡ map f (placed cmp x ys)
-  placed_map x [] p h = refl
-  placed_map x (y ∷ ys) p h = rw (same x y p h.0) (step (is_gt (cmp x y)) (placed_map x ys p h.1)) where
-    step : (b : Bool) → placed mapped (f x) (map f ys) ≡ map f (placed cmp x ys) → cond b (f y ∷ placed mapped (f x) (map f ys)) (f x ∷ f y ∷ map f ys) ≡ map f (cond b (y ∷ placed cmp x ys) (x ∷ y ∷ ys))
-    step true rest = ap (λ l. f y ∷ l) rest
-    step false rest = refl
-
-  pub sorted_map : (xs : List A) → AllByRecursion P xs → sorted mapped (map f xs) ≡ map f (sorted cmp xs)
-  sorted_map [] h = refl
-  sorted_map (x ∷ xs) h = ap (placed mapped (f x)) (sorted_map xs h.1) ∙ placed_map x (sorted cmp xs) h.0 (all_sorted xs h.1)
 
 -- ---- the entries of a term's segments
 
@@ -124,8 +82,7 @@ module _ (index : IndexData) (all : List QueryTerm) where
   query_segments_are_from term_place (named ∷ query) rest =
       let here : List PlanHead = heads_at term_place 0 (segments_at index.terms named.term) in
       let later : List PlanHead = heads_from (suc term_place) query index.terms in
-      ap (map named_by) (map-append entry here later)
-      ∙ map-append named_by (map entry here) (map entry later)
+      ap (map named_by) (map-append entry here later) ∙ map-append named_by (map entry here) (map entry later)
       ∙ ap₂ (λ (x y : List PlanSegment). x ++ y) (query_segments_are_at term_place 0 named (segments_at index.terms named.term) (first_of all term_place named query no_term rest) (λ i d. let none : 0 + i ≡ i = omega arith in ap (λ n. get_or (segments_at index.terms named.term) n d) none))
       (query_segments_are_from (suc term_place) query (rest_of all term_place named query rest))
 
@@ -140,8 +97,7 @@ module _ (index : IndexData) (all : List QueryTerm) where
   names_from d term_place (named ∷ query) rest many known some h =
       let here : List PlanHead = heads_at term_place 0 (segments_at index.terms named.term) in
       let later : List PlanHead = heads_from (suc term_place) query index.terms in
-      subst (λ (es : List PlanEntry). AllByRecursion Names es) (sym (map-append entry here later))
-      (all_append Names (map entry here) (map entry later)
+      subst (λ (es : List PlanEntry). AllByRecursion Names es) (sym (map-append entry here later)) (all_append Names (map entry here) (map entry later)
       (names_at d term_place 0 named (segments_at index.terms named.term) (first_of all term_place named query no_term rest)
       (λ i d. let none : 0 + i ≡ i = omega arith in ap (λ n. get_or (segments_at index.terms named.term) n d) none) (omega (arith, many)) known.0 some.0
       (omega arith) (segments_of d index.terms named.term h))
@@ -151,8 +107,7 @@ module _ (index : IndexData) (all : List QueryTerm) where
 
   cmp_agrees : (x y : PlanEntry) → Names x → Names y → plan_cmp (named_by x) (named_by y) ≡ entry_cmp x y
   cmp_agrees x y p q =
-      let one = p.count in
-      let other = q.count in
+      let one = p.count in let other = q.count in
       (λ i. ordering_then (ordering_then (nat_cmp y.weight x.weight) (nat_cmp (sym one i) (sym other i))) (nat_cmp x.term_place y.term_place))
 
   shapes : (es : List PlanEntry) → AllByRecursion Names es → map shape (map named_by es) ≡ map entry_shape es
@@ -169,14 +124,13 @@ entries_named index terms is are known = names_from index terms (length index.na
 
 pub arranged_named : (index : IndexData) (terms : List QueryTerm) → IsIndex index → AreTerms terms → All (λ (n : QueryTerm). n.term < length index.terms) terms
     → AllByRecursion (NamesSegment index terms) (plan_with terms (query_heads index terms)).entries
-arranged_named index terms is are known = all_sorted (segment_named index terms) (NamesSegment index terms) entry_cmp plan_cmp (cmp_agrees index terms)
-    (map (entry_of terms) (query_heads index terms)) (entries_named index terms is are known)
+arranged_named index terms is are known = all_sorted entry_cmp (NamesSegment index terms) (map (entry_of terms) (query_heads index terms)) (entries_named index terms is are known)
 
 pub arranged_segments : (index : IndexData) (terms : List QueryTerm) → IsIndex index → AreTerms terms → All (λ (n : QueryTerm). n.term < length index.terms) terms
     → sorted plan_cmp (query_segments index terms) ≡ map (segment_named index terms) (plan_with terms (query_heads index terms)).entries
 arranged_segments index terms is are known =
     ap (sorted plan_cmp) (sym (query_segments_are_from index terms 0 terms (λ i d. ap (λ n. get_or terms n d) (omega arith))))
-    ∙ sorted_map (segment_named index terms) (NamesSegment index terms) entry_cmp plan_cmp (cmp_agrees index terms)
+    ∙ sorted_map_where (segment_named index terms) (NamesSegment index terms) entry_cmp plan_cmp (cmp_agrees index terms)
     (map (entry_of terms) (query_heads index terms)) (entries_named index terms is are known)
 
 pub arranged_shapes : (index : IndexData) (terms : List QueryTerm) → IsIndex index → AreTerms terms → All (λ (n : QueryTerm). n.term < length index.terms) terms

@@ -1,11 +1,6 @@
 -- What calls on other chains leave of sessions.
-use Rattle.std.proofs.Common.{◌≡◌, ◌≢◌, ◌≤◌, ℕ, List, [], ◌∷◌, length, sym, subst, ◌∙◌, ap}
-use Rattle.std.specs.List.{AllByRecursion}
-use Rattle.frame_pool.specs.Pool.{PoolView}
-use Rattle.frame_pool.specs.ChainView.{ChainView, LeavesOthers}
-use Rattle.index_layout.specs.View.{FileView}
-use Rattle.ranking_model.specs.Plan.{size_of_first}
-use Rattle.session_scores.specs.declared.scores.Scores.{Scores}
+use Rattle.shared_lemmas.proofs.Common.{◌≡◌, ◌≢◌, ◌≤◌, ℕ, List, [], ◌∷◌, length, sym, subst, ◌∙◌, ap, AllByRecursion}
+use Rattle.session_engine.proofs.Below.{PoolView, ChainView, LeavesOthers, FileView, size_of_first, Scores}
 use Rattle.session_scores.specs.Scores as scores
 use Rattle.session_engine.specs.Standing.{SessionStands, chain_of, plan_over}
 use Rattle.session_engine.specs.declared.session.Session.{Session}

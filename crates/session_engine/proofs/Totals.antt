@@ -1,18 +1,6 @@
 -- How many postings an index, a term and a query have.
-use Rattle.std.proofs.Common.{◌≡◌, ℕ, suc, ◌+◌, ◌*◌, List, [], ◌∷◌, length, refl, sym, ap, ap₂, ◌∙◌}
-use Rattle.std.specs.Prelude.{sum_by}
-use Rattle.std.specs.List.{flat_map}
-use Rattle.std.proofs.lemmas.List.{length-map, length-append}
-use Rattle.std.proofs.lemmas.List.Sums.{sum_by-cons}
-use Rattle.std.proofs.lemmas.Grind.{flat_map-append}
-use Rattle.jass_base.specs.declared.query_term.QueryTerm.{QueryTerm}
-use Rattle.ranking_model.specs.declared.plan_segment.PlanSegment.{PlanSegment}
-use Rattle.ranking_model.specs.declared.posting.WeightedPosting.{WeightedPosting}
-use Rattle.ranking_model.specs.Plan.{postings_of}
-use Rattle.index_model.specs.Index.{SegmentData, TermData, IndexData}
-use Rattle.index_model.specs.Flat.{segment_entries, term_entries, numbered_from, numbered_flat}
-use Rattle.index_model.specs.Querying.{segments_at, query_segments_at, query_segments_from, query_segments}
-use Rattle.index_layout.specs.View.{term_postings, index_postings}
+use Rattle.shared_lemmas.proofs.Common.{◌≡◌, ℕ, suc, ◌+◌, ◌*◌, List, [], ◌∷◌, length, refl, sym, ap, ap₂, ◌∙◌, sum_by, flat_map, length-map, length-append, sum_by-cons, flat_map-append}
+use Rattle.session_engine.proofs.Below.{QueryTerm, PlanSegment, WeightedPosting, postings_of, SegmentData, TermData, IndexData, segment_entries, term_entries, numbered_from, numbered_flat, segments_at, query_segments_at, query_segments_from, query_segments, term_postings, index_postings}
 use Rattle.session_engine.specs.Plans.{postings_at, postings_of_terms}
 
 abbrev size : SegmentData → ℕ

@@ -15,6 +15,7 @@ use Rattle.session_scores.specs.declared.scores.Scores.{Scores}
 use Rattle.session_scores.specs.Scores as scores
 use Rattle.session_engine.specs.Plans.{AreKnown, session_plan, need_of, query_heads}
 use Rattle.session_engine.specs.declared.session.Session.{Session}
+use Rattle.jass_base.specs.declared.limits.TheConstants.{MOST_TIMES}
 
 -- ---- what is seen of a session
 
@@ -71,7 +72,7 @@ pub record ScoredTo (n : ℕ) (plan : QueryPlan) (need : ℕ) (s : Scores) (pool
 -- the terms of a query are the index's, and a plan is arranged from the segments that they name
 pub record IsPlanned (file : FileView) (terms : List QueryTerm) (plan : PlanView) : Type 0 where
   pub known : AreKnown file terms
-  pub times : All (λ (n : QueryTerm). n.times ≤ 255) terms
+  pub times : All (λ (n : QueryTerm). n.times ≤ MOST_TIMES) terms
   pub arranged : plan ≡ plan_with terms (query_heads file.index terms)
 
 -- the session has scored the longest prefix of its plan that its grants pay for, and its first documents and its report

@@ -1,6 +1,5 @@
-ghost use Rattle.std.specs.Prelude.{ℕ, ◌≡◌, ◌+◌, ◌≤◌, length};
+ghost use Rattle.std.specs.Prelude.{◌≡◌, ◌+◌, ◌≤◌, length};
 ghost use Rattle.frame_pool.specs.ChainView.{LeavesPool};
-ghost use Rattle.index_layout.specs.View.{FileView};
 ghost use Rattle.ranking_model.specs.Plan.{size_of_first};
 ghost use Rattle.ranking_model.specs.Postings.{AreTerms};
 ghost use Rattle.session_scores.specs.Scores.{AreScoresOf, own_chain};

@@ -1,7 +1,4 @@
 ghost use Rattle.std.specs.Prelude.{◌≡◌, ◌+◌, ◌≤◌, min};
-ghost use Rattle.accumulator_pages.specs.Adding.{page_count};
-ghost use Rattle.index_layout.specs.View.{term_postings};
-ghost use Rattle.index_model.specs.Querying.{segments_at};
 ghost use Rattle.session_engine.specs.Plans.{AreKnown, need_of, postings_at};
 
 use crate::laws::a_session_plan_has_its_postings;

@@ -1,7 +1,8 @@
 ghost use Rattle.std.specs.Prelude.{◌≡◌, ◌<◌, ◌≤◌, ◌++◌, All, length, IfOk, OnOk};
 ghost use Rattle.jass_base.specs.declared.query_term.QueryTerm.{QueryTerm};
 ghost use Rattle.index_model.specs.Querying.{segments_at};
-ghost use Rattle.session_engine.specs.Plans.{AreKnown, heads_at, heads_from, query_heads};
+ghost use Rattle.session_engine.specs.Plans.{AreKnown, heads_at, query_heads};
+ghost use Rattle.jass_base.specs.declared.limits.TheConstants.{MOST_QUERY_TERMS, MOST_TIMES};
 
 use index_file::IndexFile;
 use jass_base::{NoMemory, QueryTerm};
@@ -14,10 +15,10 @@ pub fn query_heads(
     index: &IndexFile,
     terms: &[QueryTerm],
 ) -> Result<Vec<PlanHead>, NoMemory>
-    requires few { length terms.now ≤ 256 }
+    requires few { length terms.now ≤ MOST_QUERY_TERMS }
     requires known { AreKnown index.now terms.now }
     ensures heads { IfOk result (λ heads. heads.items ≡ query_heads index.now.index terms.now) }
-    ensures times { IfOk result (λ _. All (λ (n : QueryTerm). n.times ≤ 255) terms.now) }
+    ensures times { IfOk result (λ _. All (λ (n : QueryTerm). n.times ≤ MOST_TIMES) terms.now) }
 {
     let mut heads = Vec::new(alloc);
     let mut term_place = 0;
@@ -38,7 +39,7 @@ fn gather_heads(
     requires { named.term < length index.now.index.terms }
     ensures heads { OnOk result
         (heads.new.items ≡ heads.old.items ++ heads_at term_place 0 (segments_at index.now.index.terms named.term)) }
-    ensures times { named.times ≤ 255 }
+    ensures times { named.times ≤ MOST_TIMES }
 {
     for segment in 0..index.segments(named.term) {
         let head = index.head(named.term, segment);
@@ -48,10 +49,7 @@ fn gather_heads(
             impact: head.impact,
             count: head.count,
         };
-        match heads.push(head) {
-            Ok(()) => {}
-            Err(_) => return Err(NoMemory),
-        }
+        heads.push(head)?;
     }
     Ok(())
 }

@@ -23,6 +23,7 @@ ghost use Rattle.session_engine.specs.Plans.{need_of, plan_postings, postings_of
 ghost use Rattle.session_engine.specs.Standing.{SessionStands, answer_over, chain_of, granted_of, k_of};
 ghost use Rattle.session_engine.specs.Standing.{plan_over, prefix_of, report_of, terms_of};
 ghost use Rattle.session_engine.specs.declared.session.Session.{Session};
+ghost use Rattle.jass_base.specs.declared.limits.TheConstants.{MOST_TIMES};
 
 use final_certificate::laws::a_prefix_has_one_report;
 use index_model::laws::{
@@ -95,7 +96,7 @@ pub fn nothing_is_scored_at_first()
 #[tactic(auto, unfolding(crate::specs::Plans::session_plan))]
 pub fn a_session_plan_is_small()
     ensures { (file : FileView) (terms : List QueryTerm) →
-        IsFileView file → AreTerms terms → All (λ (n : QueryTerm). n.times ≤ 255) terms →
+        IsFileView file → AreTerms terms → All (λ (n : QueryTerm). n.times ≤ MOST_TIMES) terms →
         IsSmall (session_plan file terms) }
 {
     the_flat_list_is_flat();

@@ -1,4 +1,4 @@
-ghost use Rattle.std.specs.Prelude.{ℕ, ◌≡◌, ◌≤◌, length, take};
+ghost use Rattle.std.specs.Prelude.{◌≡◌, ◌≤◌, length, take};
 ghost use Rattle.final_certificate.specs.Rule.{report_by};
 ghost use Rattle.ranking_model.specs.declared.plan.QueryPlan.{QueryPlan};
 ghost use Rattle.ranking_model.specs.Plan.{cutoff_after, next_after};

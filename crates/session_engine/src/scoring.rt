@@ -1,4 +1,4 @@
-ghost use Rattle.std.specs.Prelude.{ℕ, ◌≡◌, ◌+◌, ◌<◌, ◌≤◌, ◌^◌, All, length};
+ghost use Rattle.std.specs.Prelude.{◌≡◌, ◌+◌, ◌<◌, ◌≤◌, ◌^◌, All, length};
 ghost use Rattle.accumulator_pages.specs.Pages.{HasRoomFor};
 ghost use Rattle.frame_pool.specs.ChainView.{LeavesPool};
 ghost use Rattle.index_file.specs.Places.{segment_at};

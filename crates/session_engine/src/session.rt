@@ -1,4 +1,4 @@
-ghost use Rattle.std.specs.Prelude.{ℕ, ◌≡◌, ◌+◌, ◌<◌, ◌≤◌, length, slice_set, None, IfOk, IfErr, OnErr, Err};
+ghost use Rattle.std.specs.Prelude.{◌≡◌, ◌+◌, ◌<◌, ◌≤◌, length, slice_set, None, IfOk, IfErr, OnErr, Err};
 ghost use Rattle.ranking_model.specs.Plan.{granted_with};
 ghost use Rattle.index_layout.specs.View.{FileView};
 ghost use Rattle.frame_pool.specs.Pool.{PoolView, IsInUse, Promises, spare_of};
@@ -6,6 +6,7 @@ ghost use Rattle.frame_pool.specs.ChainView.{LeavesOthers, LeavesPool, chain_vie
 ghost use Rattle.session_engine.specs.Plans.{AreKnown, HasFreeNumber, need_of};
 ghost use Rattle.session_engine.specs.Standing.{IsPlanned, IsSessionOf, SessionStands, answer_over};
 ghost use Rattle.session_engine.specs.Standing.{chain_of, granted_of, k_of, query_of, report_of};
+ghost use Rattle.jass_base.specs.declared.limits.TheConstants.{MOST_HITS};
 
 use crate::entries::score_entries;
 use crate::frames_needed::need;
@@ -53,7 +54,7 @@ impl Session {
     ) -> Result<Session, OpenStop>
         requires known { AreKnown index.now query.terms }
         requires some { 1 ≤ k }
-        requires few { k ≤ 100000 }
+        requires few { k ≤ MOST_HITS }
         requires chain { HasFreeNumber pool.old }
         ensures stands { IfOk result (λ s. SessionStands s index.now pool.new) }
         ensures granted { IfOk result (λ s. granted_of s ≡ 0) }

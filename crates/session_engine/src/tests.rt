@@ -1,8 +1,7 @@
 // Sessions over the file of three documents and one term, whose postings weigh 9, 5 and 1.
 
 ghost use Rattle.std.specs.Prelude.{◌≡◌, ◌<◌, [], ◌∷◌, IfOk};
-ghost use Rattle.session_engine.specs.Standing.{SessionStands, chain_of};
-ghost use Rattle.frame_pool.specs.Pool.{IsInUse};
+ghost use Rattle.session_engine.specs.Standing.{SessionStands};
 
 use crate::laws::a_standing_session_has_its_chain;
 use crate::{OpenStop, Session, need};

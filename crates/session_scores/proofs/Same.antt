@@ -1,13 +1,12 @@
 -- The two words for adding a weight, and what is noted by an addition.
-use Rattle.std.proofs.Common.{◌≡◌, ℕ, ◌+◌, ◌-◌, ◌^◌, ◌<◌, ◌≤◌, List, [], ◌∷◌, ◌++◌, length, get_or, set, refl, sym, ap, ◌∙◌, subst, arith, length-set, get_or-set_same}
-use Rattle.std.specs.Prelude.{All, IfSome, Option, filter}
-use Rattle.std.proofs.lemmas.List.Elements.{All-cons, All-get_or, All-nil}
+use Rattle.shared_lemmas.proofs.Common.{◌≡◌, ℕ, ◌+◌, ◌-◌, ◌^◌, ◌<◌, ◌≤◌, List, [], ◌∷◌, ◌++◌, length, get_or, set, refl, sym, ap, ◌∙◌, subst, arith, length-set, get_or-set_same, All, IfSome, Option, filter, All-cons, All-get_or, All-nil}
 use Rattle.jass_base.specs.declared.answer.Hit.{Hit}
 use Rattle.accumulator_pages.specs.Adding as pages
 use Rattle.accumulator_pages.specs.Reached.{passes}
 use Rattle.ranking_model.specs.Scores.{added, runner_up}
 use Rattle.topk_heap.specs.Noting.{AreNoted, just_behind}
 use Rattle.topk_heap.specs.Standing.{TopView}
+use Rattle.std.proofs.lemmas.List.{append-nil}
 
 pub same_added : (w : ℕ) (docs s : List ℕ) → pages.added w docs s ≡ added w docs s
 same_added w [] s = refl
@@ -15,8 +14,7 @@ same_added w (doc ∷ docs) s = same_added w docs (set s doc (get_or s doc 0 + w
 
 pub noted_after : (top : TopView) (last : Hit) (w : ℕ) (docs s s' p p' n n' : List ℕ) → AreNoted top last (pages.added w docs s) p (n ++ pages.raised w last docs s)
     → s' ≡ pages.added w docs s → p' ≡ p → n' ≡ n ++ pages.raised w last docs s → AreNoted top last s' p' n'
-noted_after top last w docs s s' p p' n n' are is same notes =
-    subst (λ (x : List ℕ). AreNoted top last x p' n') (sym is)
+noted_after top last w docs s s' p p' n n' are is same notes = subst (λ (x : List ℕ). AreNoted top last x p' n') (sym is)
     (subst (λ (x : List ℕ). AreNoted top last (pages.added w docs s) x n') (sym same)
     (subst (λ (x : List ℕ). AreNoted top last (pages.added w docs s) p x) (sym notes) are))
 
@@ -27,21 +25,18 @@ pub cut_now : (top top' : TopView) (scores places noted kept : List ℕ) (last :
     → top' ≡ top → o ≡ runner_up scores top.k → last ≡ just_behind o → kept ≡ filter (passes last scores) noted → AreNoted top' last scores places kept
 cut_now top top' scores places noted kept last o are same next behind keeps =
     let told : last ≡ just_behind (runner_up scores top.k) = behind ∙ ap just_behind next in
-    subst (λ (t : TopView). AreNoted t last scores places kept) (sym same)
-    (subst (λ (n : List ℕ). AreNoted top last scores places n) (sym keeps)
+    subst (λ (t : TopView). AreNoted t last scores places kept) (sym same) (subst (λ (n : List ℕ). AreNoted top last scores places n) (sym keeps)
     (subst (λ (h : Hit). AreNoted top h scores places (filter (passes h scores) noted)) (sym told) are))
 
 pub few_now : (k : ℕ) (scores noted kept : List ℕ) (last : Hit) (o : Option Hit) → length (filter (passes (just_behind (runner_up scores k)) scores) noted) ≤ k + 1
     → o ≡ runner_up scores k → last ≡ just_behind o → kept ≡ filter (passes last scores) noted → length kept ≤ k + 1
 few_now k scores noted kept last o few next behind keeps =
     let told : last ≡ just_behind (runner_up scores k) = behind ∙ ap just_behind next in
-    subst (λ (n : List ℕ). length n ≤ k + 1) (sym keeps)
-    (subst (λ (h : Hit). length (filter (passes h scores) noted) ≤ k + 1) (sym told) few)
+    subst (λ (n : List ℕ). length n ≤ k + 1) (sym keeps) (subst (λ (h : Hit). length (filter (passes h scores) noted) ≤ k + 1) (sym told) few)
 
 pub next_inside : (scores : List ℕ) (k docs n : ℕ) (o : Option Hit) → IfSome (runner_up scores k) (λ (hit : Hit). hit.doc < length scores) → o ≡ runner_up scores k → length scores ≡ n → docs ≡ n
     → IfSome o (λ (hit : Hit). hit.doc < docs)
-next_inside scores k docs n o inside next size same =
-    subst (λ (r : Option Hit). IfSome r (λ (hit : Hit). hit.doc < docs)) (sym next)
+next_inside scores k docs n o inside next size same = subst (λ (r : Option Hit). IfSome r (λ (hit : Hit). hit.doc < docs)) (sym next)
     (subst (λ (m : ℕ). IfSome (runner_up scores k) (λ (hit : Hit). hit.doc < m)) (size ∙ sym same) inside)
 
 pub noted_inside : (top : TopView) (last : Hit) (scores places noted : List ℕ) (n : ℕ) → AreNoted top last scores places noted → length scores ≡ n → (i d : ℕ) → i < length noted → get_or noted i d < n
@@ -66,8 +61,4 @@ pub one_noted : (w doc score : ℕ) (s n n' : List ℕ) (last : Hit) → score �
 one_noted w doc score s n n' last rose notes =
     let before : score - w ≡ get_or s doc 0 = omega arith in
     notes ∙ ap (λ b. n ++ pages.crossed doc b score last) before ∙ ap (λ v. n ++ pages.crossed doc (get_or s doc 0) v last) rose
-    ∙ ap (λ (xs : List ℕ). n ++ xs) (sym (append_nil (pages.crossed doc (get_or s doc 0) (get_or s doc 0 + w) last)))
-  where
-    append_nil : (xs : List ℕ) → xs ++ [] ≡ xs
-    append_nil [] = refl
-    append_nil (x ∷ xs) = ap (λ (ys : List ℕ). x ∷ ys) (append_nil xs)
+    ∙ ap (λ (xs : List ℕ). n ++ xs) (sym (append-nil (pages.crossed doc (get_or s doc 0) (get_or s doc 0 + w) last)))

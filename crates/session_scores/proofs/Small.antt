@@ -1,13 +1,5 @@
 -- How far scores rise, for the tests.
-use Rattle.std.proofs.Common.{◌≡◌, ℕ, zero, suc, ◌+◌, ◌-◌, ◌*◌, ◌/◌, ◌%◌, ◌^◌, ◌<◌, ◌≤◌, List, [], ◌∷◌, length, get_or, set, inl, inr, ◌⊎◌, sym, ap, ◌∙◌, subst, arith}
-use Rattle.std.specs.Prelude.{All}
-use Rattle.std.specs.Int.{bit_at}
-use Rattle.std.proofs.lemmas.Bool.{cases_lt}
-use Rattle.std.proofs.lemmas.Grind.{get_or_default_zero}
-use Rattle.std.proofs.lemmas.List.{get_or_past}
-use Rattle.std.proofs.lemmas.List.Elements.{All-from_get_or, All-get_or}
-use Rattle.std.proofs.lemmas.Nat.Bits.{bit_at-lt, bit_at_above}
-use Rattle.std.proofs.Math.Nat.{mul-add}
+use Rattle.shared_lemmas.proofs.Common.{◌≡◌, ℕ, zero, suc, ◌+◌, ◌-◌, ◌*◌, ◌/◌, ◌%◌, ◌^◌, ◌<◌, ◌≤◌, List, [], ◌∷◌, length, get_or, set, inl, inr, ◌⊎◌, sym, ap, ◌∙◌, subst, arith, All, bit_at, cases_lt, get_or_default_zero, get_or_past, All-from_get_or, All-get_or, bit_at-lt, bit_at_above, mul-add}
 use Rattle.lane_kernels.specs.Bitmap.{bit_of, set_bits}
 use Rattle.accumulator_pages.proofs.Adding.{length-added}
 use Rattle.accumulator_pages.proofs.Bits.{added-bits, bit_of_number_there, length-set_bits}
@@ -47,14 +39,12 @@ few w (suc (suc (suc (suc (suc zero))))) small = omega arith
 few w (suc (suc (suc (suc (suc (suc n)))))) small = absurd (omega arith)
 
 pub most_after : (w m : ℕ) (docs s s' : List ℕ) → s' ≡ added w docs s → length docs ≤ 5 → All (λ score. score ≤ m) s → All (λ score. score ≤ m + 5 * w) s'
-most_after w m docs s s' is small all =
-    subst (λ (x : List ℕ). All (λ score. score ≤ m + 5 * w) x) (sym is)
+most_after w m docs s s' is small all = subst (λ (x : List ℕ). All (λ score. score ≤ m + 5 * w) x) (sym is)
     (All-from_get_or (λ score. score ≤ m + 5 * w) (added w docs s) 0
     (λ i inside. let a = added_most w m docs s (each_most m s all) i in let b = few w (length docs) small in omega arith))
 
 pub fits_after : (w m : ℕ) (docs s : List ℕ) → length docs ≤ 5 → All (λ score. score ≤ m) s → w + m < 1000000 → All (λ score. score < 2 ^ 32) (added w docs s)
-fits_after w m docs s small all low =
-    All-from_get_or (λ score. score < 2 ^ 32) (added w docs s) 0
+fits_after w m docs s small all low = All-from_get_or (λ score. score < 2 ^ 32) (added w docs s) 0
     (λ i inside. let a = added_most w m docs s (each_most m s all) i in let b = few w (length docs) small in omega arith)
 
 -- ---- where bits of one byte are set
@@ -93,13 +83,11 @@ length-bits_added : (w : ℕ) (bits s : List ℕ) → length (added w (set_bits 
 length-bits_added w bits s = ap (λ (xs : List ℕ). length xs) (sym (same_added w (set_bits 0 bits) s)) ∙ length-added w (set_bits 0 bits) s
 
 pub most_after_bits : (w m : ℕ) (bits s s' : List ℕ) → s' ≡ added w (set_bits (128 * 0) bits) s → All (λ score. score ≤ m) s → All (λ score. score ≤ m + w) s'
-most_after_bits w m bits s s' is all =
-    subst (λ (x : List ℕ). All (λ score. score ≤ m + w) x) (sym is)
+most_after_bits w m bits s s' is all = subst (λ (x : List ℕ). All (λ score. score ≤ m + w) x) (sym is)
     (All-from_get_or (λ score. score ≤ m + w) (added w (set_bits (128 * 0) bits) s) 0 (λ i inside. bits_most w m bits s all i (omega (arith, inside, length-bits_added w bits s))))
 
 pub fits_after_bits : (w m : ℕ) (bits s : List ℕ) → All (λ score. score ≤ m) s → w + m < 1000 → All (λ score. score < 2 ^ 32) (added w (set_bits (128 * 0) bits) s)
-fits_after_bits w m bits s all low =
-    All-from_get_or (λ score. score < 2 ^ 32) (added w (set_bits (128 * 0) bits) s) 0
+fits_after_bits w m bits s all low = All-from_get_or (λ score. score < 2 ^ 32) (added w (set_bits (128 * 0) bits) s) 0
     (λ i inside. omega (arith, low, bits_most w m bits s all i (omega (arith, inside, length-bits_added w bits s))))
 
 -- ---- where all bits of a row are set
@@ -128,8 +116,7 @@ row_most w m row bits s size all i =
     omega (arith, most, product)
 
 pub most_after_row : (w m row : ℕ) (bits s s' : List ℕ) → s' ≡ added w (set_bits (128 * row) bits) s → length bits ≡ 16 → All (λ score. score ≤ m) s → All (λ score. score ≤ m + 128 * w) s'
-most_after_row w m row bits s s' is size all =
-    subst (λ (x : List ℕ). All (λ score. score ≤ m + 128 * w) x) (sym is)
+most_after_row w m row bits s s' is size all = subst (λ (x : List ℕ). All (λ score. score ≤ m + 128 * w) x) (sym is)
     (All-from_get_or (λ score. score ≤ m + 128 * w) (added w (set_bits (128 * row) bits) s) 0 (λ i inside. row_most w m row bits s size all i))
 
 pub fits_after_row : (w m row : ℕ) (bits s : List ℕ) → length bits ≡ 16 → All (λ score. score ≤ m) s → 128 * w + m < 1000000 → All (λ score. score < 2 ^ 32) (added w (set_bits (128 * row) bits) s)

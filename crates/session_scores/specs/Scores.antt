@@ -6,6 +6,7 @@ use Rattle.accumulator_pages.specs.Pages as accumulator
 use Rattle.topk_heap.specs.Noting.{AreNoted}
 use Rattle.topk_heap.specs.Standing.{TopStands}
 use Rattle.session_scores.specs.declared.scores.Scores.{Scores}
+use Rattle.jass_base.specs.declared.limits.TheConstants.{MOST_HITS}
 
 -- ---- what is seen of the scores
 
@@ -49,7 +50,7 @@ pub record ScoresStand (s : Scores) (pool : PoolView) : Type 0 where
   pub settled : s.settled ≡ true → IsSettled s pool
   pub docs : s.docs ≡ docs_of s
   pub step : s.step ≡ s.top.k + 1 + 128
-  pub few : s.top.k ≤ 100000
+  pub few : s.top.k ≤ MOST_HITS
   pub limit : s.limit ≤ s.reached.room
   pub block : s.top.k + 1 + s.step ≤ s.reached.room
   pub room : s.reached.room ≤ s.top.room

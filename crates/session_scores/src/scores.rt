@@ -7,6 +7,7 @@ ghost use Rattle.lane_kernels.specs.Bitmap.{set_bits};
 ghost use Rattle.ranking_model.specs.Scores.{added, first_ranked, least_untouched, runner_up};
 ghost use Rattle.topk_heap.specs.Standing.{TopStands};
 ghost use Rattle.session_scores.specs.Scores.{AreScoresOf, IsSettled, ScoresStand, docs_of, k_of, own_chain, own_view, scores_of};
+ghost use Rattle.jass_base.specs.declared.limits.TheConstants.{MOST_HITS};
 
 use accumulator_pages::laws::room_for_more_is_room_for_one;
 use accumulator_pages::{Pages, Reached};
@@ -48,7 +49,7 @@ impl Scores {
         chain: Chain,
     ) -> Result<Scores, (Chain, NoMemory)>
         requires some { 1 ≤ k }
-        requires few { k ≤ 100000 }
+        requires few { k ≤ MOST_HITS }
         requires own { IsInUse pool.now chain }
         requires empty { (chain_view pool.now chain).frames ≡ [] }
         ensures stand { IfOk result (λ scores. ScoresStand scores pool.now) }
@@ -278,7 +279,7 @@ impl Scores {
 /// paid for by the notes before it, and the last of the first documents, which few pass, is soon known.
 fn rooms(alloc: Global, k: u32) -> Result<(Top, Reached), NoMemory>
     requires some { 1 ≤ k }
-    requires few { k ≤ 100000 }
+    requires few { k ≤ MOST_HITS }
     ensures k { IfOk result (λ rooms. rooms.0.k ≡ k) }
     ensures empty { IfOk result (λ rooms. rooms.0.hits ≡ []) }
     ensures stands { IfOk result (λ rooms. (docs : ℕ) → TopStands rooms.0 (replicate docs 0) (replicate docs 0)) }

@@ -1,6 +1,6 @@
 // The first documents as scores rise, where they tie.
-ghost use Rattle.std.specs.Prelude.{◌≡◌, ◌+◌, ◌*◌, ◌<◌, ◌≤◌, ◌^◌, All, length};
-ghost use Rattle.session_scores.specs.Scores.{AreScoresOf, IsSettled, ScoresStand, docs_of, own_view, scores_of};
+ghost use Rattle.std.specs.Prelude.{◌≡◌, ◌+◌, ◌*◌, ◌<◌, ◌≤◌, All, length};
+ghost use Rattle.session_scores.specs.Scores.{ScoresStand, docs_of, own_view, scores_of};
 
 use crate::scores::Scores;
 use frame_pool::FramePool;

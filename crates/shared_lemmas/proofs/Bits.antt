@@ -1,9 +1,5 @@
 -- Numbers by their bits.
-use Rattle.std.proofs.Common.{◌≡◌, ℕ, ◌*◌, ◌/◌, ◌%◌, ◌^◌, ◌<◌, ◌≤◌, sym, ap, ◌∙◌, arith, inl, inr}
-use Rattle.std.specs.Int.{bit_at}
-use Rattle.std.proofs.lemmas.Bool.{cases_lt}
-use Rattle.std.proofs.lemmas.Nat.{shr_split}
-use Rattle.std.proofs.lemmas.Nat.Bits.{bit_at_cat_low}
+use Rattle.shared_lemmas.proofs.Common.{◌≡◌, ℕ, ◌*◌, ◌/◌, ◌%◌, ◌^◌, ◌<◌, ◌≤◌, sym, ap, ◌∙◌, arith, inl, inr, bit_at, cases_lt, shr_split, bit_at_cat_low}
 
 pub bit_at-mod : (n k v : ℕ) → v < k → bit_at (n % 2 ^ k) v ≡ bit_at n v
 bit_at-mod n k v h = sym (bit_at_cat_low (n / 2 ^ k) k (n % 2 ^ k) v h) ∙ ap (λ m. bit_at m v) (shr_split n k)

@@ -1,3 +1,4 @@
+pub mod Common
 pub mod Lists
 pub mod Members
 pub mod Pairs
@@ -7,3 +8,4 @@ pub mod Sums
 pub mod Numbers
 pub mod Bits
 pub mod Texts
+pub mod Results

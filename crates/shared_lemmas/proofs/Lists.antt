@@ -1,8 +1,5 @@
 -- What holds of each item of a list.
-use Rattle.std.proofs.Common.{◌≡◌, ◌⊎◌, ℕ, zero, suc, List, [], ◌∷◌, ◌++◌, map, take, drop, filter, All, Bool, true, false, refl, ap, subst, arith, inl, inr}
-use Rattle.std.specs.List.{AllByRecursion, flat_map}
-use Rattle.std.proofs.lemmas.Bool.{cases_Bool}
-use Rattle.std.proofs.lemmas.List.{get_or-map, length-map}
+use Rattle.shared_lemmas.proofs.Common.{◌≡◌, ℕ, zero, suc, List, [], ◌∷◌, ◌++◌, map, take, drop, filter, All, Bool, true, refl, ap, subst, arith, inl, inr, AllByRecursion, flat_map, AllZip, cases_Bool, get_or-map, length-map}
 
 module _ {A : Type 0} where
   pub all_of : (P : A → Type 0) → ((x : A) → P x) → (xs : List A) → AllByRecursion P xs
@@ -49,19 +46,13 @@ module _ {A : Type 0} (P : A → Type 0) where
 
   pub all_filter : (p : A → Bool) (xs : List A) → AllByRecursion P xs → AllByRecursion P (filter p xs)
   all_filter p [] h = tt
-  all_filter p (x ∷ xs) h = by (cases_Bool (p x)) (all_filter p xs h.1) where
-    by : (p x ≡ true) ⊎ (p x ≡ false) → AllByRecursion P (filter p xs) → AllByRecursion P (filter p (x ∷ xs))
-    by (inl t) rest = rw t (h.0, rest)
-    by (inr f) rest = rw f rest
+  all_filter p (x ∷ xs) h = let rest = all_filter p xs h.1 in elim (cases_Bool (p x)) [ inl t ↦ rw t (h.0, rest) | inr f ↦ rw f rest ]
 
 -- ---- what passes a test
 
 pub filter_passes : {A : Type 0} (p : A → Bool) (xs : List A) → AllByRecursion (λ x. p x ≡ true) (filter p xs)
 filter_passes p [] = tt
-filter_passes p (x ∷ xs) = by (cases_Bool (p x)) (filter_passes p xs) where
-  by : (p x ≡ true) ⊎ (p x ≡ false) → AllByRecursion (λ x. p x ≡ true) (filter p xs) → AllByRecursion (λ x. p x ≡ true) (filter p (x ∷ xs))
-  by (inl t) rest = rw t (t, rest)
-  by (inr f) rest = rw f rest
+filter_passes p (x ∷ xs) = let rest = filter_passes p xs in elim (cases_Bool (p x)) [ inl t ↦ rw t (t, rest) | inr f ↦ rw f rest ]
 
 pub filter_all : {A : Type 0} (p : A → Bool) (xs : List A) → AllByRecursion (λ x. p x ≡ true) xs → filter p xs ≡ xs
 filter_all p [] h = refl
@@ -90,3 +81,11 @@ module _ {A B : Type 0} (P : B → Type 0) where
   pub all_parts : (f : A → List B) (xs : List A) → AllByRecursion P (flat_map f xs) → AllByRecursion (λ x. AllByRecursion P (f x)) xs
   all_parts f [] h = tt
   all_parts f (x ∷ xs) h = (all_front P (f x) (flat_map f xs) h, all_parts f xs (all_back P (f x) (flat_map f xs) h))
+
+-- ---- two lists
+
+pub zip-append : {A B : Type 0} (R : A → B → Type 0) (xs : List A) (ys : List B) (us : List A) (vs : List B) → AllZip R xs ys → AllZip R us vs → AllZip R (xs ++ us) (ys ++ vs)
+zip-append R [] [] us vs h k = k
+zip-append R [] (y ∷ ys) us vs h k = absurd h
+zip-append R (x ∷ xs) [] us vs h k = absurd h
+zip-append R (x ∷ xs) (y ∷ ys) us vs h k = (h.0, zip-append R xs ys us vs h.1 k)

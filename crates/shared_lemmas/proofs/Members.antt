@@ -1,8 +1,5 @@
 -- Being in a list.
-use Rattle.std.proofs.Common.{◌≡◌, ◌⊎◌, ℕ, zero, suc, ◌<◌, List, [], ◌∷◌, length, get_or, refl, sym, subst, arith, inl, inr}
-use Rattle.std.specs.Prelude.{Contains}
-use Rattle.std.specs.List.{AllByRecursion}
-use Rattle.std.proofs.lemmas.List.Elements.{All-from_recursion}
+use Rattle.shared_lemmas.proofs.Common.{◌≡◌, ◌⊎◌, ℕ, zero, suc, ◌<◌, List, [], ◌∷◌, length, get_or, refl, sym, subst, arith, inl, inr, Contains, AllByRecursion, All-from_recursion}
 
 abbrev pub In : {A : Type 0} → A → List A → Type 0
 In x [] = ⊥
@@ -37,3 +34,6 @@ module _ {A : Type 0} (P : A → Type 0) where
 
 pub contains_behind : (x y : ℕ) (xs : List ℕ) → Contains xs x → Contains (y ∷ xs) x
 contains_behind x y xs in_xs = (suc in_xs.0, (let h = in_xs.1 in omega arith), in_xs.2)
+
+pub contains_first : (x y : ℕ) (xs : List ℕ) → y ≡ x → Contains (y ∷ xs) x
+contains_first x y xs is = (0, omega arith, is)

@@ -1,10 +1,5 @@
 -- What holds of all pairs of a list, by recursion.
-use Rattle.std.proofs.Common.{ℕ, zero, suc, ◌+◌, ◌<◌, List, [], ◌∷◌, ◌++◌, map, length, get_or, arith}
-use Rattle.std.specs.Prelude.{⊤, AllPairs}
-use Rattle.std.specs.List.{AllByRecursion}
-use Rattle.std.specs.List.Sorted.{IsStrictlyIncreasing}
-use Rattle.std.proofs.lemmas.List.Elements.{All-from_recursion}
-use Rattle.std.proofs.lemmas.List.Kept.{AllPairs-from_increasing}
+use Rattle.shared_lemmas.proofs.Common.{ℕ, zero, suc, ◌+◌, ◌<◌, List, [], ◌∷◌, ◌++◌, map, length, get_or, arith, ⊤, AllPairs, AllByRecursion, IsStrictlyIncreasing, All-from_recursion, AllPairs-from_increasing}
 use Rattle.shared_lemmas.proofs.Lists.{all_weaker, all_both, all_append, all_front, all_back, all_map, all_unmap}
 
 abbrev pub Pairs : {A : Type 0} → (A → A → Type 0) → List A → Type 0

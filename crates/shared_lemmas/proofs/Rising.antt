@@ -1,6 +1,5 @@
 -- Numbers that rise.
-use Rattle.std.proofs.Common.{ℕ, zero, suc, ◌<◌, ◌≤◌, List, [], ◌∷◌, length, get_or, All, subst, arith, add-one}
-use Rattle.std.specs.List.Sorted.{IsStrictlyIncreasing}
+use Rattle.shared_lemmas.proofs.Common.{ℕ, zero, suc, ◌<◌, ◌≤◌, List, [], ◌∷◌, length, get_or, All, subst, arith, add-one, IsStrictlyIncreasing}
 
 -- each is at least its place
 pub place_below : (xs : List ℕ) (k : ℕ) → IsStrictlyIncreasing xs → k < length xs → k ≤ get_or xs k 0

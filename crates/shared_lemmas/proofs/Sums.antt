@@ -1,7 +1,5 @@
 -- Sums over lists, and ranges.
-use Rattle.std.proofs.Common.{◌≡◌, ℕ, zero, suc, ◌+◌, List, [], ◌∷◌, ◌++◌, map, sum_by, refl, sym, ap, ◌∙◌, arith}
-use Rattle.std.specs.List.{range_with_len}
-use Rattle.std.proofs.lemmas.List.Sums.{sum_by-cons}
+use Rattle.shared_lemmas.proofs.Common.{◌≡◌, ℕ, zero, suc, ◌+◌, List, [], ◌∷◌, ◌++◌, map, sum_by, refl, sym, ap, ◌∙◌, arith, range_with_len, sum_by-cons}
 use native.Mathlib.Numerals.{unary_clauses}
 
 pub sum_map : {A B : Type 0} (f : B → ℕ) (g : A → B) (xs : List A) → sum_by f (map g xs) ≡ sum_by (λ x. f (g x)) xs

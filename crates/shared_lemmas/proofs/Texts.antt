@@ -1,13 +1,8 @@
 -- Texts as bytes: equality, order, and whether they are text at all.
-use Rattle.std.proofs.Common.{Ordering, Less, Equal, Greater, ◌≡◌, ◌≢◌, ℕ, Bool, true, false, List, refl, sym, ◌∙◌, subst}
-use Rattle.std.specs.Ordering.{is_lt, is_eq, nat_cmp, eq_by_cmp}
+use Rattle.shared_lemmas.proofs.Common.{◌≡◌, ◌≢◌, ℕ, Bool, true, false, List, refl, sym, ◌∙◌, subst, inl, inr, is_lt, is_eq, nat_cmp, eq_by_cmp, slice_cmp-IsAntisymmetric, nat_cmp-IsAntisymmetric, slice_cmp, IsUtf8, is_utf8, nat_list_cmp_total, bytes_eq-Decides, IsUtf8-from_is_utf8, cases_Bool}
+use Rattle.std.proofs.Common.{Ordering, Less, Equal, Greater}
 use Rattle.std.specs.Cmp.{tied_itself}
-use Rattle.std.specs.FinMap.{slice_cmp-IsAntisymmetric, nat_cmp-IsAntisymmetric}
-use Rattle.std.specs.Cmp.Lexicographic.{slice_cmp}
-use Rattle.std.specs.Str.{bytes_eq, IsUtf8, is_utf8}
-use Rattle.std.proofs.lemmas.Cmp.{nat_list_cmp_total}
-use Rattle.std.proofs.lemmas.Slice.Eq.{bytes_eq-Decides}
-use Rattle.std.proofs.lemmas.Str.{IsUtf8-from_is_utf8}
+use Rattle.std.specs.Str.{bytes_eq}
 
 -- ---- equality
 
@@ -45,7 +40,4 @@ not_itself a is = (let e : is_lt Equal ≡ true = subst (λ (o : Ordering). is_l
 -- ---- what isn't UTF-8
 
 pub no_utf8 : (bytes : List ℕ) → ¬ IsUtf8 bytes → is_utf8 bytes ≡ false
-no_utf8 bytes never = by_answer (is_utf8 bytes) refl where
-  by_answer : (b : Bool) → is_utf8 bytes ≡ b → is_utf8 bytes ≡ false
-  by_answer true is = absurd (never (IsUtf8-from_is_utf8 bytes is))
-  by_answer false is = is
+no_utf8 bytes never = elim (cases_Bool (is_utf8 bytes)) [ inl is ↦ absurd (never (IsUtf8-from_is_utf8 bytes is)) | inr is ↦ is ]

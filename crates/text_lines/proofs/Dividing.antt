@@ -1,13 +1,7 @@
 -- The first line of a text, and the others.
-use Rattle.std.proofs.Common.{◌≡◌, ◌≢◌, ℕ, zero, suc, ◌+◌, ◌-◌, ◌<◌, ◌≤◌, Bool, true, false, List, [], ◌∷◌, ◌++◌, length, take, drop, map, refl, ap, sym, subst, ◌∙◌, arith}
+use Rattle.shared_lemmas.proofs.Common.{◌≡◌, ◌≢◌, ℕ, zero, suc, ◌+◌, ◌-◌, ◌<◌, ◌≤◌, Bool, true, false, List, [], ◌∷◌, ◌++◌, length, take, drop, map, refl, ap, sym, subst, ◌∙◌, arith, inl, inr, cases_Bool, length-map, length-drop, take_all, All-from_recursion, recursion_from_All, slice_split_at}
+use Rattle.shared_lemmas.proofs.Common.{slice_split_none, slice_split-cons_yes, slice_split-cons_no, length-slice_split, All, ◌==◌, slice_index, Option, Some, None, slice_split, onto_first, AllByRecursion, MakesProgress, item_count, strip_carriage_return}
 use Rattle.std.proofs.lemmas.Bool.{eqb-true}
-use Rattle.std.proofs.lemmas.List.{length-map, length-drop, take_all}
-use Rattle.std.proofs.lemmas.List.Elements.{All-from_recursion, recursion_from_All}
-use Rattle.std.proofs.lemmas.List.Splits.{slice_split_at, slice_split_none, slice_split-cons_yes, slice_split-cons_no, length-slice_split}
-use Rattle.std.specs.Prelude.{All, ◌==◌, slice_index, Option, Some, None}
-use Rattle.std.specs.List.{slice_split, onto_first, AllByRecursion}
-use Rattle.std.specs.Iterator.{MakesProgress, item_count}
-use Rattle.std.specs.Str.Lines.{strip_carriage_return}
 use Rattle.memchr.specs.Find.{IsFirstByte, is_byte}
 use Rattle.text_lines.specs.declared.lines.Line.{Line}
 use Rattle.text_lines.specs.Lines.{LineData, lines_of, lines_of_parts, numbered_from, HasNumberUpTo}
@@ -41,11 +35,7 @@ pub not_feeds : (line : List ℕ) → All (λ b. b ≢ 10) line → All (λ b. i
 not_feeds line all = All-from_recursion (λ b. is_feed b ≡ false) line (onward line (recursion_from_All (λ b. b ≢ 10) line all))
   where
     not_ten : (b : ℕ) → b ≢ 10 → is_feed b ≡ false
-    not_ten b other = here (is_feed b) refl
-      where
-        here : (x : Bool) → is_feed b ≡ x → x ≡ false
-        here true e = absurd (other (eqb-true b 10 e))
-        here false e = refl
+    not_ten b other = elim (cases_Bool (is_feed b)) [ inl e ↦ absurd (other (eqb-true b 10 e)) | inr e ↦ e ]
 
     onward : (xs : List ℕ) → AllByRecursion (λ b. b ≢ 10) xs → AllByRecursion (λ b. is_feed b ≡ false) xs
     onward [] each = tt

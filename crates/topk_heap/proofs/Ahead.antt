@@ -1,19 +1,9 @@
 -- How many hits rank before one, and who is among the first when scores rise.
-use Rattle.std.proofs.Common.{◌≡◌, ◌≢◌, ℕ, zero, suc, ◌+◌, ◌<◌, ◌≤◌, ◌==◌, List, [], ◌∷◌, length, take, get_or, sum_by, Bool, true, false, true≢false, cond, refl, sym, ap, subst, ◌∙◌, arith, inl, inr, ◌⊎◌, eq-eqb, if◌then◌else◌}
-use Rattle.std.specs.List.{AllByRecursion}
-use Rattle.std.specs.Ordering.{is_gt}
-use Rattle.std.proofs.lemmas.Bool.{cases_eq}
-use Rattle.std.proofs.lemmas.Bool.Decides.{nat_tests}
-use Rattle.std.proofs.lemmas.List.{length-take}
-use Rattle.std.proofs.lemmas.List.Sums.{count_by-le-length, sum_by-cons}
-use Rattle.jass_base.specs.declared.answer.Hit.{Hit}
-use Rattle.ranking_model.specs.Order.{placed, sorted}
-use Rattle.ranking_model.specs.Scores.{rank_cmp, hits_from, first_ranked}
-use Rattle.ranking_model.proofs.Sorting.{Ascends, sum_by-sorted, sorted_ascends}
-use Rattle.ranking_model.proofs.Orders.{rank_total}
+use Rattle.shared_lemmas.proofs.Common.{◌≡◌, ◌≢◌, ℕ, zero, suc, ◌+◌, ◌<◌, ◌≤◌, ◌==◌, List, [], ◌∷◌, length, take, get_or, sum_by, Bool, true, false, true≢false, cond, refl, sym, ap, subst, ◌∙◌, arith, inl, inr, ◌⊎◌, eq-eqb, AllByRecursion, is_gt, cases_eq, nat_tests, length-take}
+use Rattle.shared_lemmas.proofs.Common.{count_by-le-length, sum_by-cons}
+use Rattle.topk_heap.proofs.Below.{Hit, sorted, rank_cmp, hits_from, first_ranked, Ascends, sum_by-sorted, sorted_ascends, rank_total, in_hits, in_sorted}
 use Rattle.shared_lemmas.proofs.Members.{In, all_at}
-use Rattle.ranking_model.proofs.Candidates.{in_hits}
-use Rattle.topk_heap.specs.Standing.{AreInOrder}
+use Rattle.topk_heap.specs.Private.Standing.{AreInOrder}
 use Rattle.topk_heap.proofs.Ranking.{Own, all_in_order, first_own}
 
 -- 1 where a hit ranks before x
@@ -74,8 +64,7 @@ ahead_rises x d low high up = by (is_gt (rank_cmp x (record { doc = d; score = l
 pub more_ahead : (x : Hit) (from : ℕ) (old new : List ℕ) → length old ≡ length new → Rises old new → sum_by (ahead x) (hits_from from old) ≤ sum_by (ahead x) (hits_from from new)
 more_ahead x from [] new size up = omega arith
 more_ahead x from (a ∷ old) [] size up = absurd (omega arith)
-more_ahead x from (a ∷ old) (b ∷ new) size up =
-    by (cases_eq a 0) (cases_eq b 0) (more_ahead x (from + 1) old new (omega arith) (λ d. up (suc d)))
+more_ahead x from (a ∷ old) (b ∷ new) size up = by (cases_eq a 0) (cases_eq b 0) (more_ahead x (from + 1) old new (omega arith) (λ d. up (suc d)))
   where
     first : a ≤ b
     first = up 0
@@ -93,24 +82,10 @@ more_ahead x from (a ∷ old) (b ∷ new) size up =
     by (inr e) (inl f) rest = absurd (let u = first in omega arith)
     by (inr e) (inr f) rest = omega (arith, rest, some a old e, some b new f, ahead_rises x from a b first)
 
-in_placed : (z x : Hit) (ys : List Hit) → (z ≡ x) ⊎ In z ys → In z (placed rank_cmp x ys)
-in_placed z x [] h = h
-in_placed z x (y ∷ ys) h = step (is_gt (rank_cmp x y)) h (λ k. in_placed z x ys k) where
-  step : (b : Bool) → (z ≡ x) ⊎ ((z ≡ y) ⊎ In z ys) → ((z ≡ x) ⊎ In z ys → In z (placed rank_cmp x ys)) → In z (if b then y ∷ placed rank_cmp x ys else x ∷ y ∷ ys)
-  step true (inl e) later = inr (later (inl e))
-  step true (inr (inl e)) later = inl e
-  step true (inr (inr there)) later = inr (later (inr there))
-  step false k later = k
-
-in_sorted : (z : Hit) (xs : List Hit) → In z xs → In z (sorted rank_cmp xs)
-in_sorted z [] h = h
-in_sorted z (x ∷ xs) (inl e) = in_placed z x (sorted rank_cmp xs) (inl e)
-in_sorted z (x ∷ xs) (inr there) = in_placed z x (sorted rank_cmp xs) (inr (in_sorted z xs there))
-
 -- a hit of the scores with few hits before it is among the first, and no other is
 pub first_if_few : (scores : List ℕ) (m : ℕ) (x : Hit) → Own scores x → sum_by (ahead x) (hits_from 0 scores) < m → In x (first_ranked scores m)
 first_if_few scores m x own few =
-    in_front m (sorted rank_cmp (hits_from 0 scores)) x (all_in_order scores) (in_sorted x (hits_from 0 scores) (in_hits 0 scores x x.doc (omega arith) own.0 own.1 own.2))
+    in_front m (sorted rank_cmp (hits_from 0 scores)) x (all_in_order scores) (in_sorted rank_cmp x (hits_from 0 scores) (in_hits 0 scores x x.doc (omega arith) own.0 own.1 own.2))
     (let s = sum_by-sorted rank_cmp (ahead x) (hits_from 0 scores) in omega arith)
 
 pub few_if_first : (scores : List ℕ) (m : ℕ) (x : Hit) → In x (first_ranked scores m) → sum_by (ahead x) (hits_from 0 scores) < m

@@ -1,23 +1,7 @@
 -- Who is among the first by some scores.
-use Rattle.std.proofs.Common.{◌≡◌, ◌≢◌, ℕ, ◌+◌, ◌<◌, ◌≤◌, List, [], ◌∷◌, length, get_or, sum_by, Bool, true, false, true≢false, cond, refl, sym, ap, subst, ◌∙◌, arith, inl, inr, ◌⊎◌}
-use Rattle.std.specs.Prelude.{Contains, IfSome, None, Option, Some, nat_lt, slice_get}
-use Rattle.std.specs.List.{AllByRecursion}
-use Rattle.std.specs.Ordering.{is_gt}
-use Rattle.std.proofs.lemmas.Bool.{cases_eq, cases_lt}
-use Rattle.std.proofs.lemmas.Bool.Decides.{nat_tests}
-use Rattle.std.proofs.lemmas.List.{length-take}
-use Rattle.std.proofs.lemmas.Option.{get_or_from_slice_get, slice_get_cases, slice_get_within}
-use Rattle.std.proofs.lemmas.List.Sums.{sum_by-cons, sum_by-take-le}
-use Rattle.frame_pool.specs.Pool.{PoolView}
-use Rattle.frame_pool.specs.ChainView.{ChainView, LeavesOthers, view_places, view_scores}
-use Rattle.accumulator_pages.specs.declared.pages.Pages.{Pages}
-use Rattle.accumulator_pages.specs.Pages.{own_chain, pages_places, pages_scores}
-use Rattle.accumulator_pages.proofs.Standing.{view_stays}
-use Rattle.jass_base.specs.declared.answer.Hit.{Hit}
-use Rattle.ranking_model.specs.Order.{sorted}
-use Rattle.ranking_model.specs.Scores.{rank_cmp, hits_from, first_ranked, runner_up}
-use Rattle.ranking_model.proofs.Sorting.{sum_by-sorted}
-use Rattle.accumulator_pages.specs.Adding.{score_to_pass}
+use Rattle.shared_lemmas.proofs.Common.{◌≡◌, ◌≢◌, ℕ, ◌+◌, ◌<◌, ◌≤◌, List, [], ◌∷◌, length, get_or, sum_by, Bool, true, false, true≢false, cond, refl, sym, ap, subst, ◌∙◌, arith, inl, inr, ◌⊎◌, Contains, IfSome, None, Option, Some, nat_lt, slice_get, AllByRecursion, is_gt, cases_eq, cases_lt}
+use Rattle.shared_lemmas.proofs.Common.{nat_tests, length-take, get_or_from_slice_get, slice_get_cases, slice_get_within, sum_by-cons, sum_by-take-le}
+use Rattle.topk_heap.proofs.Below.{PoolView, ChainView, LeavesOthers, view_places, view_scores, Pages, own_chain, pages_places, pages_scores, view_stays, Hit, sorted, rank_cmp, hits_from, first_ranked, runner_up, sum_by-sorted, score_to_pass}
 use Rattle.shared_lemmas.proofs.Members.{In, in_from_contains, all_at, all_in}
 use Rattle.topk_heap.specs.Noting.{LetsPass, Passes, just_behind}
 use Rattle.topk_heap.specs.Standing.{HaveFirst, TopStands, TopView}
@@ -114,8 +98,7 @@ module _ (scores : List ℕ) (k : ℕ) (t : Hit) (is : runner_up scores k ≡ So
     by i inside (inl e) = subst (λ (y : Hit). is_gt (rank_cmp (just_behind (Some t)) y) ≡ true) (sym (ap (λ j. get_or (first_ranked scores (k + 1)) j t) e ∙ at)) (behind_it t)
     by i inside (inr apart) =
         let size = length-take (k + 1) (sorted rank_cmp (hits_from 0 scores)) in
-        behind_those t (get_or (first_ranked scores (k + 1)) i t)
-        (subst (λ (y : Hit). is_gt (rank_cmp y (get_or (first_ranked scores (k + 1)) i t)) ≡ true) at
+        behind_those t (get_or (first_ranked scores (k + 1)) i t) (subst (λ (y : Hit). is_gt (rank_cmp y (get_or (first_ranked scores (k + 1)) i t)) ≡ true) at
         (order_index (first_ranked scores (k + 1)) (first_in_order scores (k + 1)) i k t (omega arith) within))
 
   pub enough_pass : k + 1 ≤ sum_by (ahead (just_behind (Some t))) (hits_from 0 scores)
@@ -148,8 +131,7 @@ module _ (scores : List ℕ) (k : ℕ) where
     by : (o : Option Hit) → runner_up scores k ≡ o → Passes (just_behind o) scores doc → In (record { doc = doc; score = get_or scores doc 0 }) (first_ranked scores (k + 1))
     by (Some t) is passes = first_if_passes scores k t is doc passes
     by None is passes =
-        let one = any_passes doc in
-        let high = passes.passed in
+        let one = any_passes doc in let high = passes.passed in
         first_of_few scores (k + 1) (record { doc = doc; score = get_or scores doc 0 }) (passes.inside, omega (arith, one, high), refl) (let few = few_first scores k is in omega arith)
 
   pub some_to_pass : (doc : ℕ) → 1 ≤ score_to_pass (just_behind (runner_up scores k)) doc

@@ -1,3 +1,4 @@
+mod Below
 pub mod Ahead
 pub mod Lists
 pub mod Ranking

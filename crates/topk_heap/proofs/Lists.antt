@@ -1,9 +1,5 @@
 -- Being in a list, and what holds of its items and of pairs of them.
-use Rattle.std.proofs.Common.{◌≡◌, ◌≢◌, ℕ, zero, suc, ◌<◌, List, [], ◌∷◌, ◌++◌, length, map, take, get_or, refl, sym, ap, subst, arith, inl, inr, ◌⊎◌}
-use Rattle.std.specs.Prelude.{reverse}
-use Rattle.std.specs.List.{AllByRecursion}
-use Rattle.std.proofs.lemmas.Bool.{cases_eq}
-use Rattle.std.proofs.lemmas.Grind.{reverse_onto}
+use Rattle.shared_lemmas.proofs.Common.{◌≡◌, ◌≢◌, ℕ, zero, suc, ◌<◌, List, [], ◌∷◌, ◌++◌, length, map, take, get_or, refl, sym, ap, subst, arith, inl, inr, ◌⊎◌, reverse, AllByRecursion, cases_eq, reverse_onto, All-from_recursion}
 use Rattle.jass_base.specs.declared.answer.Hit.{Hit}
 use Rattle.shared_lemmas.proofs.Pairs.{Pairs}
 use Rattle.shared_lemmas.proofs.Members.{In, all_at, all_in}
@@ -39,17 +35,12 @@ pub all_by_index : {A : Type 0} (P : A → Type 0) (d : A) (xs : List A) → ((i
 all_by_index P d [] h = tt
 all_by_index P d (x ∷ xs) h = (h 0 (omega arith), all_by_index P d xs (λ i inside. h (suc i) (omega arith)))
 
-pub all_index : {A : Type 0} (P : A → Type 0) (xs : List A) → AllByRecursion P xs → (i : ℕ) (d : A) → i < length xs → P (get_or xs i d)
-all_index P [] h i d inside = absurd (omega arith)
-all_index P (x ∷ xs) h zero d inside = h.0
-all_index P (x ∷ xs) h (suc i) d inside = all_index P xs h.1 i d (omega arith)
-
 -- ---- what holds of all pairs
 
 pub pairs_index : {A : Type 0} (R : A → A → Type 0) (xs : List A) → Pairs R xs → (i j : ℕ) (d : A) → i < j → j < length xs → R (get_or xs i d) (get_or xs j d)
 pairs_index R [] h i j d before inside = absurd (omega arith)
 pairs_index R (x ∷ xs) h i zero d before inside = absurd (omega arith)
-pairs_index R (x ∷ xs) h zero (suc j) d before inside = all_index (λ y. R x y) xs h.0 j d (omega arith)
+pairs_index R (x ∷ xs) h zero (suc j) d before inside = All-from_recursion (λ y. R x y) xs h.0 j d (omega arith)
 pairs_index R (x ∷ xs) h (suc i) (suc j) d before inside = pairs_index R xs h.1 i j d (omega arith) (omega arith)
 
 pub pairs_take : {A : Type 0} (R : A → A → Type 0) (n : ℕ) (xs : List A) → Pairs R xs → Pairs R (take n xs)

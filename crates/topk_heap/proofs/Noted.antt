@@ -1,19 +1,7 @@
 -- Documents that are noted while scores rise over a heap.
-use Rattle.std.proofs.Common.{◌≡◌, ◌≢◌, ℕ, suc, ◌+◌, ◌<◌, ◌≤◌, ◌==◌, Bool, true, false, cond, List, [], ◌∷◌, ◌++◌, length, map, get_or, refl, sym, ap, subst, ◌∙◌, arith, inl, inr, ◌⊎◌, eq-eqb}
-use Rattle.std.specs.Prelude.{All, Contains, filter, nat_le}
-use Rattle.std.specs.List.{AllByRecursion}
-use Rattle.std.proofs.lemmas.Bool.{cases_eq, cases_lt}
-use Rattle.std.proofs.lemmas.Bool.Decides.{nat_tests}
-use Rattle.std.proofs.lemmas.List.{length-map, length-take}
-use Rattle.std.proofs.lemmas.List.Elements.{All-nil, Contains-append_right, recursion_from_All}
-use Rattle.std.proofs.lemmas.List.Kept.{AllPairs-filter}
-use Rattle.jass_base.specs.declared.answer.Hit.{Hit}
-use Rattle.accumulator_pages.specs.Adding.{added, raised, score_to_pass}
-use Rattle.accumulator_pages.specs.Reached.{passes}
-use Rattle.accumulator_pages.proofs.Adding.{added-above, length-added}
-use Rattle.accumulator_pages.proofs.Raising.{raised-all, raised-only, raised-once}
-use Rattle.ranking_model.specs.Order.{sorted}
-use Rattle.ranking_model.specs.Scores.{rank_cmp, hits_from, first_ranked, runner_up}
+use Rattle.shared_lemmas.proofs.Common.{◌≡◌, ◌≢◌, ℕ, suc, ◌+◌, ◌<◌, ◌≤◌, ◌==◌, Bool, true, false, cond, List, [], ◌∷◌, ◌++◌, length, map, get_or, refl, sym, ap, subst, ◌∙◌, arith, inl, inr, ◌⊎◌, eq-eqb, All, Contains, filter, AllByRecursion, cases_eq, cases_lt, leb-true, le-leb, nat_tests}
+use Rattle.shared_lemmas.proofs.Common.{length-map, length-take, All-nil, Contains-append_right, recursion_from_All, All-from_recursion, AllPairs-filter}
+use Rattle.topk_heap.proofs.Below.{Hit, added, raised, score_to_pass, passes, added-above, length-added, raised-all, raised-only, raised-once, sorted, rank_cmp, hits_from, first_ranked, runner_up}
 use Rattle.shared_lemmas.proofs.Pairs.{Pairs, pairs_by_recursion, pairs_append}
 use Rattle.shared_lemmas.proofs.Members.{In, in_from_contains, contains_from_in, all_at, all_in}
 use Rattle.shared_lemmas.proofs.Lists.{all_weaker, all_append}
@@ -21,7 +9,7 @@ use Rattle.topk_heap.specs.Noting.{AreNoted, LetsPass, Passes, just_behind}
 use Rattle.topk_heap.specs.Standing.{HaveFirst, IsTouched, TopStands, TopView, with_heap}
 use Rattle.topk_heap.proofs.Ahead.{more_ahead}
 use Rattle.topk_heap.proofs.Known.{lets_pass, pass_first, passed, some_to_pass}
-use Rattle.topk_heap.proofs.Lists.{all_index, in_append, in_left, in_map, in_right, pairs_index}
+use Rattle.topk_heap.proofs.Lists.{in_append, in_left, in_map, in_right, pairs_index}
 use Rattle.topk_heap.proofs.Raised.{heap_has, placed_after}
 
 -- ---- lists
@@ -97,14 +85,10 @@ module _ (top : TopView) (last : Hit) (scores places noted : List ℕ) (are : Ar
   next = just_behind (runner_up scores top.k)
 
   test_says : (doc : ℕ) → passes next scores doc ≡ true → score_to_pass next doc ≤ get_or scores doc 0
-  test_says doc said = says (score_to_pass next doc) (get_or scores doc 0) said where
-    says : (a b : ℕ) → nat_le a b ≡ true → a ≤ b
-    says a b t = grind (arith, nat_tests)
+  test_says doc said = leb-true (score_to_pass next doc) (get_or scores doc 0) said
 
   test_of : (doc : ℕ) → score_to_pass next doc ≤ get_or scores doc 0 → passes next scores doc ≡ true
-  test_of doc high = says (score_to_pass next doc) (get_or scores doc 0) high where
-    says : (a b : ℕ) → a ≤ b → nat_le a b ≡ true
-    says a b low = grind (arith, nat_tests)
+  test_of doc high = le-leb (score_to_pass next doc) (get_or scores doc 0) high
 
   kept_passes : (doc : ℕ) → In doc (filter (passes next scores) noted) → Passes next scores doc
   kept_passes doc there =
@@ -123,11 +107,10 @@ module _ (top : TopView) (last : Hit) (scores places noted : List ℕ) (are : Ar
   cut_noted = record {
     placed = are.placed;
     all = λ doc is. contains_from_in (with_heap top (filter (passes next scores) noted)) doc
-        (still_known doc is (in_append doc (map (λ (h : Hit). h.doc) top.hits) noted
-        (in_from_contains (with_heap top noted) doc
+        (still_known doc is (in_append doc (map (λ (h : Hit). h.doc) top.hits) noted (in_from_contains (with_heap top noted) doc
         (all_at (λ (h : Hit). Contains (with_heap top noted) h.doc) (first_ranked scores (top.k + 1)) (record { doc = doc; score = get_or scores doc 0 })
         (noted_first top last scores places noted are) (pass_first scores top.k doc is)))));
-    only = λ i d here. all_index (Passes next scores) (filter (passes next scores) noted) (all_in (Passes next scores) (filter (passes next scores) noted) kept_passes) i d here;
+    only = λ i d here. All-from_recursion (Passes next scores) (filter (passes next scores) noted) (all_in (Passes next scores) (filter (passes next scores) noted) kept_passes) i d here;
     once = AllPairs-filter (λ a b. a ≢ b) (passes next scores) noted are.once;
     some = some_to_pass scores top.k;
     enough = lets_pass scores top.k;
@@ -155,12 +138,7 @@ module _ (top : TopView) (last : Hit) (w : ℕ) (docs s places noted : List ℕ)
   }
 
   now : (doc : ℕ) → Contains (raised w last docs s) doc → Passes last (added w docs s) doc
-  now doc has =
-      let is = raised-only w doc last docs s inside has in
-      record {
-        inside = (let a = is.0 in let b = size in omega arith);
-        passed = is.2;
-      }
+  now doc has = let is = raised-only w doc last docs s inside has in record { inside = (let a = is.0 in let b = size in omega arith); passed = is.2 }
 
   only_all : AllByRecursion (Passes last (added w docs s)) (noted ++ raised w last docs s)
   only_all = all_append (Passes last (added w docs s)) noted (raised w last docs s)
@@ -168,12 +146,10 @@ module _ (top : TopView) (last : Hit) (w : ℕ) (docs s places noted : List ℕ)
       (all_in (Passes last (added w docs s)) (raised w last docs s) (λ doc there. now doc (contains_from_in (raised w last docs s) doc there)))
 
   across : AllByRecursion (λ a. AllByRecursion (λ b. a ≢ b) (raised w last docs s)) noted
-  across = all_weaker (Passes last s) (λ a. AllByRecursion (λ b. a ≢ b) (raised w last docs s))
-      (λ a is. all_in (λ b. a ≢ b) (raised w last docs s)
+  across = all_weaker (Passes last s) (λ a. AllByRecursion (λ b. a ≢ b) (raised w last docs s)) (λ a is. all_in (λ b. a ≢ b) (raised w last docs s)
       (λ b there same. let r = raised-only w b last docs s inside (contains_from_in (raised w last docs s) b there) in
       let low : get_or s a 0 < score_to_pass last a = subst (λ d. get_or s d 0 < score_to_pass last d) (sym same) r.1 in
-      let high = is.passed in absurd (omega arith)))
-      noted (recursion_from_All (Passes last s) noted are.only)
+      let high = is.passed in absurd (omega arith))) noted (recursion_from_All (Passes last s) noted are.only)
 
   with_more : (doc : ℕ) → Contains (with_heap top noted) doc → Contains (with_heap top (noted ++ raised w last docs s)) doc
   with_more doc has = contains_from_in (with_heap top (noted ++ raised w last docs s)) doc (by (in_append doc (map (λ (h : Hit). h.doc) top.hits) noted (in_from_contains (with_heap top noted) doc has))) where
@@ -182,8 +158,7 @@ module _ (top : TopView) (last : Hit) (w : ℕ) (docs s places noted : List ℕ)
     by (inr k) = in_right doc (map (λ (h : Hit). h.doc) top.hits) (noted ++ raised w last docs s) (in_left doc noted (raised w last docs s) k)
 
   all_noted : (doc : ℕ) → Passes last (added w docs s) doc → (get_or s doc 0 < score_to_pass last doc) ⊎ (score_to_pass last doc ≤ get_or s doc 0) → Contains (with_heap top (noted ++ raised w last docs s)) doc
-  all_noted doc is (inl low) =
-      Contains-append_right (map (λ (h : Hit). h.doc) top.hits) (noted ++ raised w last docs s) doc
+  all_noted doc is (inl low) = Contains-append_right (map (λ (h : Hit). h.doc) top.hits) (noted ++ raised w last docs s) doc
       (Contains-append_right noted (raised w last docs s) doc (raised-all w doc last docs s (let a = is.inside in let b = size in omega arith) low is.passed))
   all_noted doc is (inr high) = with_more doc (are.all doc (record { inside = (let a = is.inside in let b = size in omega arith); passed = high }))
 
@@ -199,9 +174,8 @@ module _ (top : TopView) (last : Hit) (w : ℕ) (docs s places noted : List ℕ)
       placed = are.placed.placed;
     };
     all = λ doc is. all_noted doc is (cases_lt (get_or s doc 0) (score_to_pass last doc));
-    only = λ i d here. all_index (Passes last (added w docs s)) (noted ++ raised w last docs s) only_all i d here;
-    once = pairs_index (λ a b. a ≢ b) (noted ++ raised w last docs s)
-        (pairs_append (λ a b. a ≢ b) noted (raised w last docs s)
+    only = λ i d here. All-from_recursion (Passes last (added w docs s)) (noted ++ raised w last docs s) only_all i d here;
+    once = pairs_index (λ a b. a ≢ b) (noted ++ raised w last docs s) (pairs_append (λ a b. a ≢ b) noted (raised w last docs s)
         (pairs_by_recursion (λ a b. a ≢ b) noted are.once) (pairs_by_recursion (λ a b. a ≢ b) (raised w last docs s) (raised-once w last docs s inside)) across);
     some = are.some;
     enough = still_lets are.enough;
@@ -210,17 +184,14 @@ module _ (top : TopView) (last : Hit) (w : ℕ) (docs s places noted : List ℕ)
 -- the same of what calls leave
 pub noted_now : (top : TopView) (last : Hit) (w : ℕ) (docs s new places places' noted noted' : List ℕ) → AreNoted top last s places noted → All (λ doc. doc < length s) docs
     → new ≡ added w docs s → places' ≡ places → noted' ≡ noted ++ raised w last docs s → AreNoted top last new places' noted'
-noted_now top last w docs s new places places' noted noted' are inside is same notes =
-    subst (λ (n : List ℕ). AreNoted top last n places' noted') (sym is)
+noted_now top last w docs s new places places' noted noted' are inside is same notes = subst (λ (n : List ℕ). AreNoted top last n places' noted') (sym is)
     (subst (λ (p : List ℕ). AreNoted top last (added w docs s) p noted') (sym same)
-    (subst (λ (m : List ℕ). AreNoted top last (added w docs s) places m) (sym notes)
-    (more_noted top last w docs s places noted are inside)))
+    (subst (λ (m : List ℕ). AreNoted top last (added w docs s) places m) (sym notes) (more_noted top last w docs s places noted are inside)))
 
 -- the same where the heap stood
 pub batch_noted : (top : TopView) (last : Hit) (w n : ℕ) (docs s new places places' noted noted' seen : List ℕ) → TopStands top s places → length s ≡ n → All (λ doc. doc < n) docs
     → last ≡ just_behind (runner_up s top.k) → new ≡ added w docs s → places' ≡ places → noted ≡ [] → noted' ≡ noted ++ raised w last docs s → seen ≡ noted' → AreNoted top last new places' seen
 batch_noted top last w n docs s new places places' noted noted' seen stands size inside told is same cleared notes seen_is =
-    subst (λ (m : List ℕ). AreNoted top last new places' m) (sym seen_is)
-    (noted_now top last w docs s new places places' noted noted'
+    subst (λ (m : List ℕ). AreNoted top last new places' m) (sym seen_is) (noted_now top last w docs s new places places' noted noted'
     (subst (λ (m : List ℕ). AreNoted top last s places m) (sym cleared) (subst (λ (h : Hit). AreNoted top h s places []) (sym told) (none_noted top s places stands)))
     (subst (λ (m : ℕ). All (λ doc. doc < m) docs) (sym size) inside) is same notes)

@@ -1,20 +1,13 @@
 -- A heap that stood before scores rose.
-use Rattle.std.proofs.Common.{◌≡◌, ℕ, zero, suc, ◌+◌, ◌<◌, ◌≤◌, List, [], ◌∷◌, length, map, take, get_or, set, refl, sym, ap, subst, ◌∙◌, arith, inl, inr, ◌⊎◌, length-set, get_or-set_same}
-use Rattle.std.specs.Prelude.{All, IsPermutation, replicate, Contains}
-use Rattle.std.specs.List.{AllByRecursion}
-use Rattle.std.proofs.lemmas.Bool.{cases_eq}
+use Rattle.shared_lemmas.proofs.Common.{◌≡◌, ℕ, zero, suc, ◌+◌, ◌<◌, ◌≤◌, List, [], ◌∷◌, length, map, take, get_or, set, refl, sym, ap, subst, ◌∙◌, arith, inl, inr, ◌⊎◌, length-set, get_or-set_same, All, IsPermutation, replicate, Contains, AllByRecursion, cases_eq, All-cons, All-nil}
+use Rattle.shared_lemmas.proofs.Common.{All-from_recursion, All-permutation, Contains-permutation, IsPermutation-refl}
 use Rattle.std.proofs.lemmas.List.{get_or-set_other}
-use Rattle.std.proofs.lemmas.List.Elements.{All-cons, All-nil}
-use Rattle.std.proofs.lemmas.List.Sorted.{All-permutation, Contains-permutation, IsPermutation-refl}
-use Rattle.jass_base.specs.declared.answer.Hit.{Hit}
-use Rattle.ranking_model.specs.Order.{sorted}
-use Rattle.ranking_model.specs.Scores.{rank_cmp, hits_from, first_ranked}
-use Rattle.accumulator_pages.proofs.Adding.{rises}
+use Rattle.topk_heap.proofs.Below.{Hit, sorted, rank_cmp, hits_from, first_ranked, rises}
 use Rattle.shared_lemmas.proofs.Members.{In, in_from_contains, contains_from_in, all_in}
 use Rattle.shared_lemmas.proofs.Lists.{all_weaker}
 use Rattle.topk_heap.specs.Standing.{HaveFirst, IsPlaced, IsTouched, TopStands, TopView, with_heap}
 use Rattle.topk_heap.proofs.Ahead.{Rises, first_before}
-use Rattle.topk_heap.proofs.Lists.{all_by_index, all_index, in_left, in_map, in_right}
+use Rattle.topk_heap.proofs.Lists.{all_by_index, in_left, in_map, in_right}
 use Rattle.topk_heap.proofs.Ranking.{Own, first_own}
 
 -- the documents have scores after all rose
@@ -25,13 +18,12 @@ placed_after top old scores places size up stands =
     all_weaker (Own old) (λ (h : Hit). IsTouched scores h.doc) (λ h own. let a = own.0 in let b = own.1 in let c = own.2 in let d = up h.doc in (omega arith, omega arith)) (first_ranked old m) (first_own old m) in
     record {
       touched = all_by_index (λ (h : Hit). IsTouched scores h.doc) (record { doc = 0; score = 0 }) top.hits
-          (λ i inside. All-permutation (λ (h : Hit). IsTouched scores h.doc) (first_ranked old m) top.hits stands.hits (λ k d here. all_index (λ (h : Hit). IsTouched scores h.doc) (first_ranked old m) has k d here) i (record { doc = 0; score = 0 }) inside);
+          (λ i inside. All-permutation (λ (h : Hit). IsTouched scores h.doc) (first_ranked old m) top.hits stands.hits (λ k d here. All-from_recursion (λ (h : Hit). IsTouched scores h.doc) (first_ranked old m) has k d here) i (record { doc = 0; score = 0 }) inside);
       placed = stands.placed;
     }
 
 pub heap_has : (top : TopView) (old places docs : List ℕ) (x : Hit) → TopStands top old places → In x (first_ranked old (top.k + 1)) → In x.doc (with_heap top docs)
-heap_has top old places docs x stands there =
-    in_left x.doc (map (λ (h : Hit). h.doc) top.hits) docs (in_map (λ (h : Hit). h.doc) x top.hits
+heap_has top old places docs x stands there = in_left x.doc (map (λ (h : Hit). h.doc) top.hits) docs (in_map (λ (h : Hit). h.doc) x top.hits
     (in_from_contains top.hits x (Contains-permutation (first_ranked old (top.k + 1)) top.hits x stands.hits (contains_from_in (first_ranked old (top.k + 1)) x there))))
 
 -- ---- one document rose
@@ -57,9 +49,7 @@ module _ (scores new : List ℕ) (doc w : ℕ) (is : new ≡ set scores doc (get
   one_first top places stands = all_in (λ (h : Hit). Contains (with_heap top (doc ∷ [])) h.doc) (first_ranked new (top.k + 1)) (λ h there. contains_from_in (with_heap top (doc ∷ [])) h.doc (by h there (cases_eq h.doc doc))) where
     by : (h : Hit) → In h (first_ranked new (top.k + 1)) → (h.doc ≡ doc) ⊎ (h.doc ≡ doc → ⊥) → In h.doc (with_heap top (doc ∷ []))
     by h there (inl e) = in_right h.doc (map (λ (g : Hit). g.doc) top.hits) (doc ∷ []) (inl e)
-    by h there (inr apart) =
-        heap_has top scores places (doc ∷ []) h stands
-        (first_before scores new (top.k + 1) h size up there
+    by h there (inr apart) = heap_has top scores places (doc ∷ []) h stands (first_before scores new (top.k + 1) h size up there
         (sym (ap (λ (s : List ℕ). get_or s h.doc 0) is ∙ get_or-set_other scores doc h.doc (get_or scores doc 0 + w) 0 apart)))
 
 -- ---- nothing has a score
@@ -74,10 +64,7 @@ empty_stands top n empty =
     record {
       hits = subst (λ (xs : List Hit). IsPermutation xs top.hits) (empty ∙ sym none) (IsPermutation-refl top.hits);
       heap = λ i some inside. let e = ap (λ (xs : List Hit). length xs) empty in absurd (omega arith);
-      placed = record {
-        inside = λ i inside. let e = ap (λ (xs : List Hit). length xs) empty in absurd (omega arith);
-        outside = λ doc others. zeros n doc;
-      };
+      placed = record { inside = λ i inside. let e = ap (λ (xs : List Hit). length xs) empty in absurd (omega arith); outside = λ doc others. zeros n doc };
     }
   where
     take-nil : (m : ℕ) → take {A = Hit} m [] ≡ []

@@ -1,25 +1,14 @@
 -- Hits in order, and the first of some scores.
-use Rattle.std.proofs.Common.{◌≡◌, ◌≢◌, ℕ, zero, suc, ◌+◌, ◌-◌, ◌/◌, ◌<◌, ◌≤◌, ◌==◌, List, [], ◌∷◌, length, take, get_or, Bool, true, false, refl, sym, ap, subst, ◌∙◌, arith, inl, inr, ◌⊎◌, true≢false}
-use Rattle.std.specs.Prelude.{IsPermutation, reverse, slice_get, nat_lt, min, Option, Some, None, IfSome, is_some, option_map, if◌then◌else◌}
-use Rattle.std.specs.List.{AllByRecursion}
-use Rattle.std.specs.Ordering.{is_gt}
-use Rattle.std.proofs.lemmas.Bool.{cases_lt}
-use Rattle.std.proofs.lemmas.Bool.Decides.{nat_tests}
-use Rattle.std.proofs.lemmas.List.{get_or-reverse, length-reverse, take_min}
-use Rattle.std.proofs.lemmas.Option.{get_or_from_slice_get, slice_get_past, slice_get_read}
-use Rattle.std.proofs.lemmas.List.Sorted.{IsPermutation-reverse, IsPermutation-sym, IsPermutation-trans}
-use Rattle.jass_base.specs.declared.answer.Hit.{Hit}
-use Rattle.ranking_model.specs.Order.{sorted}
-use Rattle.ranking_model.specs.Scores.{rank_cmp, hits_from, first_ranked, runner_up}
-use Rattle.ranking_model.proofs.Sorting.{Ascends, all_sorted, one_order, sorted_ascending, sorted_ascends, pairs_sorted}
-use Rattle.ranking_model.proofs.Orders.{rank_total, rank_same}
+use Rattle.shared_lemmas.proofs.Common.{◌≡◌, ◌≢◌, ℕ, zero, suc, ◌+◌, ◌-◌, ◌/◌, ◌<◌, ◌≤◌, ◌==◌, List, [], ◌∷◌, length, take, get_or, Bool, true, false, refl, sym, ap, subst, ◌∙◌, arith, inl, inr, ◌⊎◌, true≢false, IsPermutation, reverse, slice_get, nat_lt, min, Option, Some, None, IfSome, is_some}
+use Rattle.shared_lemmas.proofs.Common.{if◌then◌else◌, AllByRecursion, is_gt, cases_lt, nat_tests, get_or-reverse, length-reverse, take_min, take-take, get_or_from_slice_get, slice_get_past, slice_get_read, IsPermutation-reverse, IsPermutation-sym, IsPermutation-trans, All-from_recursion}
+use Rattle.std.specs.Prelude.{option_map}
+use Rattle.topk_heap.proofs.Below.{Hit, sorted, rank_cmp, hits_from, first_ranked, runner_up, Ascends, all_sorted, one_order, sorted_ascending, sorted_ascends, pairs_sorted, rank_total, rank_same, hits_each, ascends_take}
 use Rattle.shared_lemmas.proofs.Pairs.{Pairs}
 use Rattle.shared_lemmas.proofs.Lists.{all_weaker, all_take}
-use Rattle.ranking_model.proofs.Candidates.{hits_each, ascends_take}
 use Rattle.topk_heap.specs.Hits.{hit_at}
-use Rattle.topk_heap.specs.Standing.{AreInOrder, IsHeap}
-use Rattle.topk_heap.proofs.Lists.{all_index, pairs_take}
-use Rattle.topk_heap.proofs.Rows.{take_front}
+use Rattle.topk_heap.specs.Standing.{IsHeap}
+use Rattle.topk_heap.specs.Private.Standing.{AreInOrder}
+use Rattle.topk_heap.proofs.Lists.{pairs_take}
 
 abbrev pub Apart : Hit → Hit → Type 0
 Apart a b = a.doc ≢ b.doc
@@ -54,7 +43,7 @@ order_apart (x ∷ xs) order = (all_weaker (λ (y : Hit). (is_gt (rank_cmp y x) 
 pub order_index : (xs : List Hit) → AreInOrder xs → (i j : ℕ) (d : Hit) → i < j → j < length xs → is_gt (rank_cmp (get_or xs j d) (get_or xs i d)) ≡ true
 order_index [] order i j d up inside = absurd (omega arith)
 order_index (x ∷ xs) order i zero d up inside = absurd (omega arith)
-order_index (x ∷ xs) order zero (suc j) d up inside = (all_index (λ (y : Hit). (is_gt (rank_cmp y x) ≡ true) × (y.doc ≢ x.doc)) xs order.0 j d (omega arith)).0
+order_index (x ∷ xs) order zero (suc j) d up inside = (All-from_recursion (λ (y : Hit). (is_gt (rank_cmp y x) ≡ true) × (y.doc ≢ x.doc)) xs order.0 j d (omega arith)).0
 order_index (x ∷ xs) order (suc i) (suc j) d up inside = order_index xs order.1 i j d (omega arith) (omega arith)
 
 -- the last in front is a heap
@@ -78,13 +67,11 @@ hits_apart from (score ∷ scores) = step (score == 0) (hits_apart (from + 1) sc
   step false rest = (hits_each (λ (h : Hit). from ≢ h.doc) (from + 1) scores (λ i inside some e. absurd (omega arith)), rest)
 
 pub first_own : (scores : List ℕ) (m : ℕ) → AllByRecursion (Own scores) (first_ranked scores m)
-first_own scores m =
-    all_take (Own scores) m (sorted rank_cmp (hits_from 0 scores)) (all_sorted rank_cmp (Own scores) (hits_from 0 scores)
+first_own scores m = all_take (Own scores) m (sorted rank_cmp (hits_from 0 scores)) (all_sorted rank_cmp (Own scores) (hits_from 0 scores)
     (hits_each (Own scores) 0 scores (λ i inside some. let e : i ≡ 0 + i = omega arith in subst (λ d. Own scores (record { doc = d; score = get_or scores i 0 })) e (inside, some, refl))))
 
 pub all_in_order : (scores : List ℕ) → AreInOrder (sorted rank_cmp (hits_from 0 scores))
-all_in_order scores =
-    in_order (sorted rank_cmp (hits_from 0 scores)) (sorted_ascends rank_cmp rank_total (hits_from 0 scores))
+all_in_order scores = in_order (sorted rank_cmp (hits_from 0 scores)) (sorted_ascends rank_cmp rank_total (hits_from 0 scores))
     (pairs_sorted rank_cmp Apart (λ x y apart e. apart (sym e)) (hits_from 0 scores) (hits_apart 0 scores))
 
 pub first_in_order : (scores : List ℕ) (m : ℕ) → AreInOrder (first_ranked scores m)
@@ -94,15 +81,14 @@ first_in_order scores m =
 
 -- hits in order whose heap is the first of some scores are these
 pub is_first : (scores : List ℕ) (m : ℕ) (row : List Hit) → AreInOrder row → IsPermutation (first_ranked scores m) (reverse row) → row ≡ first_ranked scores m
-is_first scores m row order moved =
-    sym (one_order rank_cmp rank_total rank_same (first_ranked scores m) row
+is_first scores m row order moved = sym (one_order rank_cmp rank_total rank_same (first_ranked scores m) row
     (IsPermutation-trans (first_ranked scores m) (reverse row) row moved (IsPermutation-sym row (reverse row) (IsPermutation-reverse row)))
     (sorted_ascending rank_cmp rank_total (first_ranked scores m) (order_ascends (first_ranked scores m) (first_in_order scores m)))
     (sorted_ascending rank_cmp rank_total row (order_ascends row order)))
 
 pub front_is_first : (scores : List ℕ) (k : ℕ) (row : List Hit) → AreInOrder row → IsPermutation (first_ranked scores (k + 1)) (reverse row) → take k row ≡ first_ranked scores k
 front_is_first scores k row order moved =
-    ap (λ (xs : List Hit). take k xs) (is_first scores (k + 1) row order moved) ∙ take_front k (k + 1) (sorted rank_cmp (hits_from 0 scores)) (omega arith)
+    ap (λ (xs : List Hit). take k xs) (is_first scores (k + 1) row order moved) ∙ take-take k (k + 1) (sorted rank_cmp (hits_from 0 scores)) (omega arith)
 
 pub ranked_is : (scores : List ℕ) (k n : ℕ) (row front : List Hit) → AreInOrder row → front ≡ row → n ≡ min (length front) k → IsPermutation (first_ranked scores (k + 1)) (reverse row) → take n front ≡ first_ranked scores k
 ranked_is scores k n row front order same is moved =

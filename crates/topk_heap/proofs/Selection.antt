@@ -1,24 +1,11 @@
 -- What a selection leaves in front of its place is the first of the hits, and at its place the next.
-use Rattle.std.proofs.Common.{◌≡◌, ℕ, zero, suc, ◌-◌, ◌/◌, ◌%◌, ◌<◌, ◌≤◌, List, [], ◌∷◌, ◌++◌, length, map, take, get_or, true, false, true≢false, refl, sym, ap, subst, ◌∙◌, inl, inr, ◌⊎◌, arith}
-use Rattle.std.specs.Prelude.{IsPermutation, None, Some, slice_get}
-use Rattle.std.specs.List.{AllByRecursion}
-use Rattle.std.specs.List.Sorted.{IsSplitAround}
-use Rattle.std.specs.Ordering.{is_gt, is_lt, nat_cmp}
-use Rattle.std.proofs.lemmas.Bool.{cases_lt}
-use Rattle.std.proofs.lemmas.Bool.Decides.{nat_tests}
-use Rattle.std.proofs.lemmas.Grind.{get_or_default_zero}
-use Rattle.std.proofs.lemmas.List.{length-map, length-take, map-append}
-use Rattle.std.proofs.lemmas.Option.{slice_get_past}
-use Rattle.std.proofs.lemmas.List.Sorted.{All-permutation, IsPermutation-append, IsPermutation-cons, IsPermutation-map, IsPermutation-trans, length_permutation}
-use Rattle.jass_base.specs.declared.answer.Hit.{Hit}
-use Rattle.ranking_model.specs.Order.{sorted}
-use Rattle.ranking_model.specs.Scores.{rank_cmp}
-use Rattle.ranking_model.proofs.Candidates.{first_part}
-use Rattle.ranking_model.proofs.Orders.{rank_total, rank_same}
-use Rattle.ranking_model.proofs.Sorting.{Ascends, all_sorted, ascends_append, sort_is_sorted, sorted_ascending, sorted_ascends, sorted_is_permutation}
+use Rattle.shared_lemmas.proofs.Common.{◌≡◌, ℕ, zero, suc, ◌-◌, ◌/◌, ◌%◌, ◌<◌, ◌≤◌, List, [], ◌∷◌, ◌++◌, length, map, take, get_or, true, false, true≢false, refl, sym, ap, subst, ◌∙◌, inl, inr, ◌⊎◌, arith, IsPermutation, None, Some, slice_get, AllByRecursion, IsSplitAround, is_gt, is_lt, nat_cmp}
+use Rattle.shared_lemmas.proofs.Common.{cases_lt, nat_tests, get_or_default_zero, length-map, length-take, map-append, slice_get_past, All-permutation, IsPermutation-append, IsPermutation-cons, IsPermutation-map, IsPermutation-trans, length_permutation}
+use Rattle.topk_heap.proofs.Below.{Hit, sorted, rank_cmp, first_part, rank_total, rank_same, Ascends, all_sorted, ascends_append, sort_is_sorted, sorted_ascending, sorted_ascends, sorted_is_permutation}
 use Rattle.shared_lemmas.proofs.Members.{in_from_contains, all_at}
 use Rattle.shared_lemmas.proofs.Lists.{all_weaker, all_map}
-use Rattle.topk_heap.specs.Hits.{HitsView, hit_of_key, keys_view}
+use Rattle.topk_heap.specs.Hits.{HitsView}
+use Rattle.topk_heap.specs.Private.Rows.{hit_of_key, keys_view}
 use Rattle.topk_heap.proofs.Lists.{all_by_index, in_right}
 
 not_after : (x y : Hit) → is_lt (rank_cmp y x) ≡ false → is_gt (rank_cmp x y) ≡ false
@@ -69,10 +56,8 @@ selected_at all front x back n moved ahead behind size =
     whole = sort_is_sorted rank_cmp rank_total rank_same all (sorted rank_cmp front ++ x ∷ sorted rank_cmp back) items (sorted_ascending rank_cmp rank_total (sorted rank_cmp front ++ x ∷ sorted rank_cmp back) order)
 
 key_order : (a b : ℕ) → b < 18446744073709551616 → a ≤ b → is_gt (rank_cmp (hit_of_key a) (hit_of_key b)) ≡ false
-key_order a b small low =
-    by_parts (a / 4294967296) (a % 4294967296) (b / 4294967296) (b % 4294967296)
-    (let x : b / 4294967296 < 4294967296 = omega arith in omega arith)
-    (by (cases_lt (a / 4294967296) (b / 4294967296)))
+key_order a b small low = by_parts (a / 4294967296) (a % 4294967296) (b / 4294967296) (b % 4294967296)
+    (let x : b / 4294967296 < 4294967296 = omega arith in omega arith) (by (cases_lt (a / 4294967296) (b / 4294967296)))
   where
     by : (a / 4294967296 < b / 4294967296) ⊎ (b / 4294967296 ≤ a / 4294967296) → (a / 4294967296 < b / 4294967296) ⊎ ((a / 4294967296 ≡ b / 4294967296) × (a % 4294967296 ≤ b % 4294967296))
     by (inl under) = inl under
@@ -96,8 +81,7 @@ not_lower a b h = by (cases_lt b a) where
 
 pub selected_key : (keys front : List ℕ) (x : ℕ) (back : List ℕ) (n : ℕ) → IsPermutation keys (front ++ x ∷ back) → IsSplitAround nat_cmp front x back → length front ≡ n
     → ((i : ℕ) → get_or keys i 0 < 18446744073709551616) → slice_get (sorted rank_cmp (map hit_of_key keys)) n ≡ Some (hit_of_key x)
-selected_key keys front x back n moved split size small =
-    selected_at (map hit_of_key keys) (map hit_of_key front) (hit_of_key x) (map hit_of_key back) n
+selected_key keys front x back n moved split size small = selected_at (map hit_of_key keys) (map hit_of_key front) (hit_of_key x) (map hit_of_key back) n
     (subst (λ (xs : List Hit). IsPermutation (map hit_of_key keys) xs) (map-append hit_of_key front (x ∷ back)) (IsPermutation-map hit_of_key keys (front ++ x ∷ back) moved))
     (all_map (λ (y : Hit). is_gt (rank_cmp y (hit_of_key x)) ≡ false) hit_of_key front
     (all_by_index (λ a. is_gt (rank_cmp (hit_of_key a) (hit_of_key x)) ≡ false) 0 front (λ i inside. key_order (get_or front i 0) x x_small (not_lower (get_or front i 0) x (split.0 i 0 inside)))))

@@ -1,23 +1,16 @@
 -- The documents of a heap and those raised beside it, settled.
-use Rattle.std.proofs.Common.{◌≡◌, ◌≢◌, ℕ, zero, suc, ◌+◌, ◌-◌, ◌<◌, ◌≤◌, ◌==◌, List, [], ◌∷◌, ◌++◌, length, map, take, get_or, set, Bool, true, false, refl, sym, ap, subst, ◌∙◌, arith, inl, inr, ◌⊎◌, eq-eqb, if◌then◌else◌, length-set, get_or-set_same}
-use Rattle.std.specs.Prelude.{All, AllPairs, IsPermutation, reverse, Contains, slice_get}
-use Rattle.std.specs.List.{AllByRecursion}
-use Rattle.std.proofs.lemmas.Bool.{cases_eq}
-use Rattle.std.proofs.lemmas.Bool.Decides.{nat_tests}
-use Rattle.std.proofs.lemmas.List.{get_or-reverse, get_or-set_other, length-map, length-reverse}
-use Rattle.std.proofs.lemmas.List.Sorted.{IsPermutation-reverse}
-use Rattle.std.proofs.Math.Seq.{take-append_seam}
-use Rattle.jass_base.specs.declared.answer.Hit.{Hit}
-use Rattle.ranking_model.specs.Order.{sorted}
-use Rattle.ranking_model.specs.Scores.{rank_cmp, first_ranked, runner_up, AreHitsOf}
+use Rattle.shared_lemmas.proofs.Common.{◌≡◌, ◌≢◌, ℕ, zero, suc, ◌+◌, ◌-◌, ◌<◌, ◌≤◌, ◌==◌, List, [], ◌∷◌, ◌++◌, length, map, take, get_or, set, Bool, true, false, refl, sym, ap, subst, ◌∙◌, arith, inl, inr, ◌⊎◌, eq-eqb, if◌then◌else◌, length-set, get_or-set_same, All, AllPairs, IsPermutation}
+use Rattle.shared_lemmas.proofs.Common.{reverse, Contains, slice_get, AllByRecursion, cases_eq, nat_tests, get_or-reverse, length-map, length-reverse, IsPermutation-reverse, take-append_seam, All-from_recursion}
+use Rattle.std.proofs.lemmas.List.{get_or-set_other}
+use Rattle.topk_heap.proofs.Below.{Hit, sorted, rank_cmp, first_ranked, runner_up, AreHitsOf, first_of_candidates}
 use Rattle.shared_lemmas.proofs.Pairs.{Pairs, pairs_by_recursion, pairs_append}
-use Rattle.ranking_model.proofs.Candidates.{first_of_candidates}
 use Rattle.shared_lemmas.proofs.Members.{In, in_from_contains, contains_from_in, all_at, all_in}
 use Rattle.shared_lemmas.proofs.Lists.{all_weaker, all_append, all_map}
 use Rattle.topk_heap.specs.Hits.{HitsView}
-use Rattle.topk_heap.specs.Places.{hit_of, newcomers, rescored, with_places, without_places}
-use Rattle.topk_heap.specs.Standing.{AreInOrder, ArePlacesOf, HaveFirst, IsPlaced, IsTop, IsTouched, TopStands, TopView, top_view, with_heap}
-use Rattle.topk_heap.proofs.Lists.{Has, doc_cases, in_append, in_left, in_right, in_map, in_reverse, in_reversed, all_by_index, all_index, all_reversed, pairs_index}
+use Rattle.topk_heap.specs.Private.Settling.{hit_of, newcomers, rescored, with_places, without_places}
+use Rattle.topk_heap.specs.Standing.{ArePlacesOf, HaveFirst, IsPlaced, IsTouched, TopStands, TopView, top_view, with_heap}
+use Rattle.topk_heap.specs.Private.Standing.{AreInOrder, IsTop}
+use Rattle.topk_heap.proofs.Lists.{Has, doc_cases, in_append, in_left, in_right, in_map, in_reverse, in_reversed, all_by_index, all_reversed, pairs_index}
 use Rattle.topk_heap.proofs.Ranking.{Apart, Own, first_in_order, first_own, heap_of, order_apart}
 
 -- ---- newcomers
@@ -51,8 +44,7 @@ newcomers_have scores places (d ∷ docs) doc (inr there) none = step (get_or pl
 pub row_placed : (row : List Hit) (places : List ℕ) → ArePlacesOf (reverse row) places → AllByRecursion (λ (h : Hit). get_or places h.doc 0 ≢ 0) row
 row_placed row places placed =
     let zero_hit : Hit = record { doc = 0; score = 0 } in
-    all_by_index (λ (h : Hit). get_or places h.doc 0 ≢ 0) zero_hit row
-    (λ i inside none.
+    all_by_index (λ (h : Hit). get_or places h.doc 0 ≢ 0) zero_hit row (λ i inside none.
     let size : length (reverse row) ≡ length row = length-reverse row in
     let j : ℕ = length row - 1 - i in
     let same : get_or (reverse row) j zero_hit ≡ get_or row (length row - 1 - j) zero_hit = get_or-reverse row j zero_hit (omega arith) in
@@ -70,8 +62,7 @@ module _ (scores places raised : List ℕ) (row : List Hit) (m : ℕ)
     (known : AllByRecursion (λ d. IsTouched scores d) raised) (once : Pairs (λ a b. a ≢ b) raised)
     (have : HaveFirst scores m (map (λ (h : Hit). h.doc) (reverse row) ++ raised)) where
   pub candidates_own : AllByRecursion (Own scores) (map (rescored scores) row ++ newcomers scores places raised)
-  candidates_own =
-      all_append (Own scores) (map (rescored scores) row) (newcomers scores places raised)
+  candidates_own = all_append (Own scores) (map (rescored scores) row) (newcomers scores places raised)
       (all_map (Own scores) (rescored scores) row (all_weaker (λ (h : Hit). IsTouched scores h.doc) (λ h. Own scores (rescored scores h)) (λ h is. (is.0, is.1, refl)) row touched))
       (newcomers_all (Own scores) scores places raised (λ d there none. let is = all_at (λ d. IsTouched scores d) raised d known there in (is.0, is.1, refl)))
 
@@ -110,8 +101,7 @@ module _ (scores places raised : List ℕ) (row : List Hit) (m : ℕ)
     outside none (inr k) = in_right h (map (rescored scores) row) (newcomers scores places raised) (subst (λ g. In g (newcomers scores places raised)) is (newcomers_have scores places raised h.doc k (placed.outside h.doc none)))
 
     by : Has (reverse row) h.doc ⊎ AllByRecursion (λ (g : Hit). g.doc ≢ h.doc) (reverse row) → In h (map (rescored scores) row ++ newcomers scores places raised)
-    by (inl has) =
-        in_left h (map (rescored scores) row) (newcomers scores places raised)
+    by (inl has) = in_left h (map (rescored scores) row) (newcomers scores places raised)
         (subst (λ g. In g (map (rescored scores) row)) (ap (λ d. hit_of scores d) has.is ∙ is) (in_map (rescored scores) has.hit row (in_reverse has.hit row has.there)))
     by (inr none) = outside none (in_append h.doc (map (λ (g : Hit). g.doc) (reverse row)) raised among)
 
@@ -143,8 +133,7 @@ without_clears (hit ∷ hits) s h (inr there) = without_clears hits (set s hit.d
 pub all_cleared : (scores places : List ℕ) (row : List Hit) → ArePlacesOf (reverse row) places → (d : ℕ) → get_or (without_places (map (rescored scores) row) places) d 0 ≡ 0
 all_cleared scores places row placed d = by (doc_cases d (reverse row)) where
   by : Has (reverse row) d ⊎ AllByRecursion (λ (h : Hit). h.doc ≢ d) (reverse row) → get_or (without_places (map (rescored scores) row) places) d 0 ≡ 0
-  by (inl has) =
-      subst (λ x. get_or (without_places (map (rescored scores) row) places) x 0 ≡ 0) has.is
+  by (inl has) = subst (λ x. get_or (without_places (map (rescored scores) row) places) x 0 ≡ 0) has.is
       (without_clears (map (rescored scores) row) places (rescored scores has.hit) (in_map (rescored scores) has.hit row (in_reverse has.hit row has.there)))
   by (inr none) = without_keeps (map (rescored scores) row) places d (placed.outside d none)
 
@@ -163,10 +152,8 @@ with_at [] s apart inside j d here = absurd (omega arith)
 with_at (hit ∷ hits) s apart inside zero d here =
     with_keeps hits (set s hit.doc (1 + length hits)) hit.doc (all_weaker (λ h. Apart hit h) (λ (h : Hit). h.doc ≢ hit.doc) (λ h k e. k (sym e)) hits apart.0)
     ∙ get_or-set_same s hit.doc (1 + length hits) 0 inside.0 ∙ omega arith
-with_at (hit ∷ hits) s apart inside (suc j) d here =
-    with_at hits (set s hit.doc (1 + length hits)) apart.1
-    (subst (λ n. AllByRecursion (λ (h : Hit). h.doc < n) hits) (sym (length-set s hit.doc (1 + length hits))) inside.1) j d (omega arith)
-    ∙ omega arith
+with_at (hit ∷ hits) s apart inside (suc j) d here = with_at hits (set s hit.doc (1 + length hits)) apart.1
+    (subst (λ n. AllByRecursion (λ (h : Hit). h.doc < n) hits) (sym (length-set s hit.doc (1 + length hits))) inside.1) j d (omega arith) ∙ omega arith
 
 -- heap places that were all cleared, and those of some hits set
 pub places_are : (row : List Hit) (s : List ℕ) → ((d : ℕ) → get_or s d 0 ≡ 0) → Pairs Apart row → AllByRecursion (λ (h : Hit). h.doc < length s) row → ArePlacesOf (reverse row) (with_places row s)
@@ -191,9 +178,9 @@ pub record Ready (scores places raised : List ℕ) (row : List Hit) (m : ℕ) : 
   pub once : Pairs (λ a b. a ≢ b) raised
   pub have : HaveFirst scores m (map (λ (h : Hit). h.doc) (reverse row) ++ raised)
 
-pub ready : (k : ℕ) (hits aside : HitsView) (top : TopView) (scores places raised : List ℕ) → top_view k hits ≡ top → IsTop k hits aside → IsPlaced top scores places
+pub ready : {k : ℕ} {hits aside : HitsView} {top : TopView} {scores places : List ℕ} (raised : List ℕ) → top_view k hits ≡ top → IsTop k hits aside → IsPlaced top scores places
     → All (IsTouched scores) raised → AllPairs (λ a b. a ≢ b) raised → HaveFirst scores (top.k + 1) (with_heap top raised) → Ready scores places raised hits.hits (k + 1)
-ready k hits aside top scores places raised view order placed known once have =
+ready {k} {hits} {aside} {top} {scores} {places} raised view order placed known once have =
     let here : IsPlaced (top_view k hits) scores places = subst (λ (t : TopView). IsPlaced t scores places) (sym view) placed in
     record {
       touched = all_reversed (λ (h : Hit). IsTouched scores h.doc) hits.hits here.touched;
@@ -204,22 +191,20 @@ ready k hits aside top scores places raised view order placed known once have =
       have = subst (λ (t : TopView). HaveFirst scores (t.k + 1) (with_heap t raised)) (sym view) have;
     }
 
-pub new_are : (scores places raised : List ℕ) (row again gathered new : List Hit) (m : ℕ) → Ready scores places raised row m → again ≡ map (rescored scores) row → gathered ≡ again ++ newcomers scores places raised
+pub new_are : {scores places raised : List ℕ} {row again gathered new : List Hit} {m : ℕ} → Ready scores places raised row m → again ≡ map (rescored scores) row → gathered ≡ again ++ newcomers scores places raised
     → new ≡ take m (sorted rank_cmp gathered) → new ≡ first_ranked scores m
-new_are scores places raised row again gathered new m ready one two three =
+new_are {scores} {places} {raised} {row} {m = m} ready one two three =
     three ∙ ap (λ (xs : List Hit). take m (sorted rank_cmp xs)) (two ∙ ap (λ (xs : List Hit). xs ++ newcomers scores places raised) one)
     ∙ settled scores places raised row m ready.touched ready.apart ready.had ready.known ready.once ready.have
 
 pub standing_are : (scores : List ℕ) (row again gathered front more : List Hit) (n : ℕ) → again ≡ map (rescored scores) row → gathered ≡ again ++ more → front ≡ gathered → n ≡ length row → take n front ≡ map (rescored scores) row
-standing_are scores row again gathered front more n one two three size =
-    ap (λ i. take i front) (size ∙ sym (length-map row (rescored scores)))
+standing_are scores row again gathered front more n one two three size = ap (λ i. take i front) (size ∙ sym (length-map row (rescored scores)))
     ∙ ap (λ (xs : List Hit). take (length (map (rescored scores) row)) xs) (three ∙ two ∙ ap (λ (xs : List Hit). xs ++ more) one)
     ∙ take-append_seam (map (rescored scores) row) more
 
 -- the hits have documents with scores
 pub row_touched : (scores : List ℕ) (row xs : List Hit) → AllByRecursion (λ (h : Hit). IsTouched scores h.doc) row → xs ≡ map (rescored scores) row → (i : ℕ) (d : Hit) → i < length xs → IsTouched scores (get_or xs i d).doc
-row_touched scores row xs touched is i d inside =
-    all_index (λ (h : Hit). IsTouched scores h.doc) xs
+row_touched scores row xs touched is i d inside = All-from_recursion (λ (h : Hit). IsTouched scores h.doc) xs
     (subst (λ (ys : List Hit). AllByRecursion (λ (h : Hit). IsTouched scores h.doc) ys) (sym is) (all_map (λ (h : Hit). IsTouched scores h.doc) (rescored scores) row touched)) i d inside
 
 first_touched : (scores : List ℕ) (m : ℕ) → AllByRecursion (λ (h : Hit). IsTouched scores h.doc) (first_ranked scores m)
@@ -227,7 +212,7 @@ first_touched scores m = all_weaker (Own scores) (λ (h : Hit). IsTouched scores
 
 pub new_touched : (scores : List ℕ) (new xs : List Hit) (m : ℕ) → new ≡ first_ranked scores m → xs ≡ new → (i : ℕ) (d : Hit) → i < length xs → IsTouched scores (get_or xs i d).doc
 new_touched scores new xs m is same i d inside =
-    all_index (λ (h : Hit). IsTouched scores h.doc) xs (subst (λ (ys : List Hit). AllByRecursion (λ (h : Hit). IsTouched scores h.doc) ys) (sym (same ∙ is)) (first_touched scores m)) i d inside
+    All-from_recursion (λ (h : Hit). IsTouched scores h.doc) xs (subst (λ (ys : List Hit). AllByRecursion (λ (h : Hit). IsTouched scores h.doc) ys) (sym (same ∙ is)) (first_touched scores m)) i d inside
 
 pub stands_settled : (k : ℕ) (hits : HitsView) (scores scores' places cleared places' raised : List ℕ) (row sliced front : List Hit) → Ready scores places raised row (k + 1) → length places ≡ length scores
     → sliced ≡ map (rescored scores) row → cleared ≡ without_places sliced places → hits.hits ≡ first_ranked scores (k + 1) → front ≡ hits.hits → places' ≡ with_places front cleared → scores' ≡ scores
@@ -256,12 +241,11 @@ some_still doc old new same some = omega (arith, some, ap (λ (s : List ℕ). ge
 
 pub candidates_are : (scores : List ℕ) (row xs : List Hit) → AllByRecursion (λ (h : Hit). IsTouched scores h.doc) row → xs ≡ row → (i : ℕ) (d : Hit) → i < length xs → IsTouched scores (get_or xs i d).doc
 candidates_are scores row xs touched is i d inside =
-    all_index (λ (h : Hit). IsTouched scores h.doc) xs (subst (λ (ys : List Hit). AllByRecursion (λ (h : Hit). IsTouched scores h.doc) ys) (sym is) touched) i d inside
+    All-from_recursion (λ (h : Hit). IsTouched scores h.doc) xs (subst (λ (ys : List Hit). AllByRecursion (λ (h : Hit). IsTouched scores h.doc) ys) (sym is) touched) i d inside
 
 pub next_of : (scores places raised : List ℕ) (row seen none again gathered : List Hit) (k : ℕ) → Ready scores places raised row (k + 1) → seen ≡ row → none ≡ [] → again ≡ none ++ map (rescored scores) seen
     → gathered ≡ again ++ newcomers scores places raised → slice_get (sorted rank_cmp gathered) k ≡ runner_up scores k
-next_of scores places raised row seen none again gathered k ready one cleared two three =
-    sym (in_front k (sorted rank_cmp gathered) (k + 1) (omega arith))
+next_of scores places raised row seen none again gathered k ready one cleared two three = sym (in_front k (sorted rank_cmp gathered) (k + 1) (omega arith))
     ∙ ap (λ (xs : List Hit). slice_get (take (k + 1) (sorted rank_cmp xs)) k)
     (three ∙ ap (λ (xs : List Hit). xs ++ newcomers scores places raised) (two ∙ ap (λ (xs : List Hit). xs ++ map (rescored scores) seen) cleared ∙ ap (λ (xs : List Hit). map (rescored scores) xs) one))
     ∙ ap (λ (xs : List Hit). slice_get xs k) (settled scores places raised row (k + 1) ready.touched ready.apart ready.had ready.known ready.once ready.have)

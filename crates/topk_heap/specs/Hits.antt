@@ -1,5 +1,5 @@
 -- Hits in a room of fixed size.
-use Rattle.std.specs.Prelude.{ℕ, ◌+◌, ◌-◌, ◌*◌, ◌/◌, ◌%◌, List, length, map, take, slice_index_or, slice_set}
+use Rattle.std.specs.Prelude.{ℕ, List, slice_index_or}
 use Rattle.jass_base.specs.declared.answer.Hit.{Hit}
 
 -- the hits, and how many there is room for
@@ -7,26 +7,6 @@ pub record HitsView : Type 0 where
   pub hits : List Hit
   pub room : ℕ
 
--- a row whose first `count` items are hits
-abbrev pub hits_view : List Hit → ℕ → HitsView
-hits_view row count = record { hits = take count row; room = length row }
-
 -- the hit at a place; document 0 with score 0 past the end
 abbrev pub hit_at : List Hit → ℕ → Hit
 hit_at hits place = slice_index_or hits place (record { doc = 0; score = 0 })
-
--- the hits with another score for the one at a place
-abbrev pub with_score : List Hit → ℕ → ℕ → List Hit
-with_score hits place score = slice_set hits place (record { doc = (hit_at hits place).doc; score = score })
-
--- what hits are sorted by
-abbrev pub rank_key : Hit → ℕ
-rank_key hit = (4294967295 - hit.score) * 4294967296 + hit.doc
-
--- the hit that is sorted by a number
-abbrev pub hit_of_key : ℕ → Hit
-hit_of_key key = record { doc = key % 4294967296; score = 4294967295 - key / 4294967296 }
-
--- a row whose first `count` items are the numbers that hits are sorted by
-abbrev pub keys_view : List ℕ → ℕ → HitsView
-keys_view row count = record { hits = map hit_of_key (take count row); room = length row }

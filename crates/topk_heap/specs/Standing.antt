@@ -1,5 +1,5 @@
 -- The first documents of some scores in a heap, the last of them in front. Heaps: J. W. J. Williams, Algorithm 232 (CACM 1964).
-use Rattle.std.specs.Prelude.{◌≡◌, ◌≢◌, ℕ, ◌+◌, ◌-◌, ◌/◌, ◌<◌, ◌≤◌, true, List, [], ◌∷◌, ◌++◌, ⊤, length, map, reverse, slice_index, IsPermutation, Contains}
+use Rattle.std.specs.Prelude.{◌≡◌, ◌≢◌, ℕ, ◌+◌, ◌-◌, ◌/◌, ◌<◌, ◌≤◌, true, List, [], ◌++◌, ⊤, length, map, reverse, slice_index, IsPermutation, Contains}
 use Rattle.std.specs.List.{AllByRecursion}
 use Rattle.std.specs.Ordering.{is_gt}
 use Rattle.jass_base.specs.declared.answer.Hit.{Hit}
@@ -15,20 +15,6 @@ pub record TopView : Type 0 where
 -- the heap of hits in order is the hits from the last to the first
 abbrev pub top_view : ℕ → HitsView → TopView
 top_view k row = record { k = k; hits = reverse row.hits; room = row.room - (k + 1) }
-
--- each hit ranks before all behind it, and no document is there twice
-abbrev pub AreInOrder : List Hit → Type 0
-AreInOrder [] = ⊤
-AreInOrder (hit ∷ hits) = AllByRecursion (λ other. (is_gt (rank_cmp other hit) ≡ true) × (other.doc ≢ hit.doc)) hits × AreInOrder hits
-
--- hits in order, at most k + 1 of them, with room for at least one document more, and as much room aside; k is at most
--- 100,000
-pub record IsTop (k : ℕ) (row aside : HitsView) : Type 0 where
-  pub order : AreInOrder row.hits
-  pub few : length row.hits ≤ k + 1
-  pub small : k ≤ 100000
-  pub room : k + 1 < row.room
-  pub beside : row.room ≤ aside.room
 
 -- ---- standing
 

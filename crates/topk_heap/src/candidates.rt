@@ -1,7 +1,7 @@
 ghost use Rattle.std.specs.Prelude.{◌≡◌, ℕ, ◌<◌, ◌≤◌, ◌++◌, [], ◌∷◌, IfOk, Some, length, map, slice_get, slice_index, take};
 ghost use Rattle.ranking_model.specs.Order.{sorted};
 ghost use Rattle.ranking_model.specs.Scores.{rank_cmp};
-ghost use Rattle.topk_heap.specs.Hits.{hit_of_key};
+ghost use Rattle.topk_heap.specs.Private.Rows.{hit_of_key};
 
 use crate::hits::rank_key;
 use jass_base::{Hit, NoMemory};
@@ -18,7 +18,8 @@ pub struct Candidates {
 
 impl Model for Candidates {
     ghost use Rattle.std.specs.Prelude.{◌≤◌, length};
-    ghost use Rattle.topk_heap.specs.Hits.{HitsView, keys_view};
+    ghost use Rattle.topk_heap.specs.Hits.{HitsView};
+    ghost use Rattle.topk_heap.specs.Private.Rows.{keys_view};
 
     ghost Value = { HitsView };
 

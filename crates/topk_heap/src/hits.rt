@@ -1,7 +1,7 @@
 ghost use Rattle.std.specs.Prelude.{◌≡◌, ◌<◌, ◌≤◌, ◌++◌, [], ◌∷◌, IfOk, length, min, take};
 ghost use Rattle.ranking_model.specs.Order.{sorted};
 ghost use Rattle.ranking_model.specs.Scores.{rank_cmp};
-ghost use Rattle.topk_heap.specs.Hits.{rank_key, with_score};
+ghost use Rattle.topk_heap.specs.Private.Rows.{rank_key, with_score};
 
 use jass_base::{Hit, NoMemory};
 use std::alloc::Global;
@@ -18,7 +18,8 @@ pub struct Hits {
 
 impl Model for Hits {
     ghost use Rattle.std.specs.Prelude.{◌≤◌, length};
-    ghost use Rattle.topk_heap.specs.Hits.{HitsView, hits_view};
+    ghost use Rattle.topk_heap.specs.Hits.{HitsView};
+    ghost use Rattle.topk_heap.specs.Private.Rows.{hits_view};
 
     ghost Value = { HitsView };
 

@@ -2,8 +2,8 @@
 
 ghost use Rattle.std.specs.Prelude.{◌≡◌, ◌==◌, ◌+◌, ◌<◌, ◌≤◌, ◌++◌, All, length, map, slice_index};
 ghost use Rattle.accumulator_pages.specs.Pages.{Stands, docs_of, pages_places, pages_scores};
-ghost use Rattle.topk_heap.specs.Places.{KeepsScores, newcomers, rescored, with_places, without_places};
-ghost use Rattle.topk_heap.specs.Standing.{IsTouched};
+ghost use Rattle.topk_heap.specs.Places.{KeepsScores};
+ghost use Rattle.topk_heap.specs.Private.Settling.{newcomers, rescored, with_places, without_places};
 
 use crate::candidates::Candidates;
 use crate::hits::Hits;

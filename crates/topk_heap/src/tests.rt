@@ -1,5 +1,5 @@
 // Heaps over pages in a pool: documents that rise one by one, and sessions side by side.
-ghost use Rattle.std.specs.Prelude.{◌≡◌, ◌≢◌, ◌+◌, ◌/◌, ◌<◌, ◌≤◌, ◌^◌, [], All, None, length, replicate, slice_index, slice_index_or};
+ghost use Rattle.std.specs.Prelude.{◌≡◌, ◌≢◌, ◌+◌, ◌/◌, ◌<◌, ◌≤◌, ◌^◌, [], All, None, length, replicate, slice_index_or};
 ghost use Rattle.frame_pool.specs.ChainView.{LeavesOthers, LeavesPool};
 ghost use Rattle.accumulator_pages.specs.Adding.{added};
 ghost use Rattle.accumulator_pages.specs.Pages.{ArePagesOf, HasRoom, HasRoomFor, Stands, docs_of, own_chain, own_view, pages_places, pages_scores};

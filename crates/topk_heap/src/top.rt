@@ -1,10 +1,11 @@
-ghost use Rattle.std.specs.Prelude.{replicate, ◌≡◌, ◌≢◌, ℕ, List, ◌+◌, ◌<◌, ◌≤◌, ◌++◌, [], All, AllPairs, IfOk, IfSome, length, slice_get, slice_index, take};
-ghost use Rattle.accumulator_pages.specs.Pages.{Stands, docs_of, pages_places, pages_scores};
+ghost use Rattle.std.specs.Prelude.{replicate, ◌≡◌, ◌≢◌, ℕ, List, ◌+◌, ◌<◌, ◌≤◌, [], All, AllPairs, IfOk, IfSome, length};
+ghost use Rattle.accumulator_pages.specs.Pages.{Stands, pages_places, pages_scores};
 ghost use Rattle.ranking_model.specs.Scores.{first_ranked, runner_up};
 ghost use Rattle.topk_heap.specs.Hits.{hit_at};
 ghost use Rattle.topk_heap.specs.Noting.{just_behind};
 ghost use Rattle.topk_heap.specs.Places.{KeepsScores};
 ghost use Rattle.topk_heap.specs.Standing.{HaveFirst, IsPlaced, IsTouched, TopStands, with_heap};
+ghost use Rattle.jass_base.specs.declared.limits.TheConstants.{MOST_HITS};
 
 use crate::candidates::Candidates;
 use crate::hits::Hits;
@@ -25,7 +26,8 @@ pub struct Top {
 }
 
 impl Model for Top {
-    ghost use Rattle.topk_heap.specs.Standing.{IsTop, TopView, top_view};
+    ghost use Rattle.topk_heap.specs.Standing.{TopView, top_view};
+    ghost use Rattle.topk_heap.specs.Private.Standing.{IsTop};
 
     ghost Value = { TopView };
 
@@ -39,7 +41,7 @@ impl Top {
     /// documents at a time, and at least for one. No other call takes memory.
     pub fn new(alloc: Global, k: u32, room: usize) -> Result<Top, NoMemory>
         requires some { 1 ≤ k }
-        requires few { k ≤ 100000 }
+        requires few { k ≤ MOST_HITS }
         requires room { room ≤ 4294967296 }
         ensures k { IfOk result (λ top. top.k ≡ k) }
         ensures empty { IfOk result (λ top. top.hits ≡ []) }

@@ -1,9 +1,5 @@
 -- What is read is what the text stands for.
-use Rattle.std.proofs.Common.{◌≡◌, ℕ, true, false, List, [], ◌∷◌, filter, ◌+◌, refl, ap, sym, subst, ◌⊎◌, inl, inr, ◌∙◌, Ok, Err, Some, None, Option, Result}
-use Rattle.std.specs.Prelude.{nat_eq, codes}
-use Rattle.std.specs.Str.{is_utf8}
-use Rattle.std.specs.Cmp.Lexicographic.{pointwise, same_text}
-use Rattle.std.proofs.lemmas.Bool.{cases_Bool}
+use Rattle.shared_lemmas.proofs.Common.{◌≡◌, ℕ, true, false, List, [], ◌∷◌, filter, ◌+◌, refl, ap, sym, subst, ◌⊎◌, inl, inr, ◌∙◌, Ok, Err, Some, None, Option, Result, nat_eq, codes, is_utf8, pointwise, same_text, cases_Bool}
 use Rattle.jass_base.specs.Decimal.{decimal_of}
 use Rattle.text_lines.specs.Lines.{numbered_from}
 use Rattle.trec_run.specs.declared.run_line.RunLine.{RunLine}
@@ -45,10 +41,8 @@ module _ (line : List ℕ) (run : RunLine) (utf8 : is_utf8 line ≡ true) where
 
 pub line_only : (line : List ℕ) (run : RunLine) → read_line line ≡ Ok run → IsRunLine line run
 unfolding read_line
-line_only line run read = by (cases_Bool (is_utf8 line)) where
-  by : (is_utf8 line ≡ true) ⊎ (is_utf8 line ≡ false) → IsRunLine line run
-  by (inl t) = from_columns line run t (columns_of line) refl (rw t at read)
-  by (inr f) = let bad = rw f at read in cc
+line_only line run read =
+    elim (cases_Bool (is_utf8 line)) [ inl t ↦ from_columns line run t (columns_of line) refl (rw t at read) | inr f ↦ let bad = rw f at read in cc ]
 
 pub lines_read : (number : ℕ) (lines : List (List ℕ)) (runs : List RunLine) → AreRunLines (filter has_bytes lines) runs → read_lines (numbered_from number lines) ≡ Ok runs
 lines_read number [] [] h = refl

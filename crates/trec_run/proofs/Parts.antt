@@ -1,13 +1,10 @@
 -- The first part of a line, and the others.
-use Rattle.std.proofs.Common.{◌≡◌, ℕ, suc, ◌+◌, ◌<◌, true, false, ◌⊎◌, inl, inr, List, [], ◌∷◌, ◌++◌, length, get_or, take, drop, filter, refl, ap, sym, ◌∙◌, arith}
-use Rattle.std.specs.Prelude.{All, ◌==◌}
-use Rattle.std.proofs.lemmas.Bool.{cases_Bool, eqb-true}
-use Rattle.std.specs.List.{slice_split}
+use Rattle.shared_lemmas.proofs.Common.{◌≡◌, ℕ, suc, ◌+◌, ◌<◌, true, false, inl, inr, List, [], ◌∷◌, ◌++◌, length, get_or, take, drop, filter, refl, ap, sym, ◌∙◌, arith, All, ◌==◌, cases_Bool, slice_split, take-append-drop, get_or-take, length-take, get_or_default_zero, slice_split_at}
+use Rattle.shared_lemmas.proofs.Common.{slice_split_none}
+use Rattle.std.proofs.lemmas.Bool.{eqb-true}
 use Rattle.std.proofs.Math.Seq.{drop-cons}
-use Rattle.std.proofs.lemmas.List.{take-append-drop, get_or-take, length-take}
-use Rattle.std.proofs.lemmas.Grind.{get_or_default_zero}
-use Rattle.std.proofs.lemmas.List.Splits.{slice_split_at, slice_split_none}
-use Rattle.trec_run.specs.Runs.{is_blank, has_bytes, columns_of, and_column}
+use Rattle.trec_run.specs.Runs.{is_blank, has_bytes, columns_of}
+use Rattle.trec_run.specs.Private.Parts.{and_column}
 
 pub no_columns : columns_of [] ≡ []
 unfolding columns_of
@@ -37,10 +34,8 @@ unfolding columns_of
 unparted text none = ap (filter has_bytes) (slice_split_none is_blank text (λ i d h. ap is_blank (get_or_default_zero text i d h) ∙ none i h)) ∙ kept text []
 
 pub blank_small : (b : ℕ) → is_blank b ≡ true → b < 128
-blank_small b h = by (cases_Bool (b == 32)) where
-  by : ((b == 32) ≡ true) ⊎ ((b == 32) ≡ false) → b < 128
-  by (inl t) = let e : b ≡ 32 = eqb-true b 32 t in omega arith
-  by (inr f) = let e : b ≡ 9 = eqb-true b 9 (rw f at h) in omega arith
+blank_small b h =
+    elim (cases_Bool (b == 32)) [ inl t ↦ let e : b ≡ 32 = eqb-true b 32 t in omega arith | inr f ↦ let e : b ≡ 9 = eqb-true b 9 (rw f at h) in omega arith ]
 
 pub none_there : (text : List ℕ) → length text ≡ 0 → columns_of text ≡ []
 none_there [] h = no_columns

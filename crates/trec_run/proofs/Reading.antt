@@ -1,8 +1,5 @@
 -- What a line stands for, step by step, and the lines behind it.
-use Rattle.std.proofs.Common.{◌≡◌, ◌≢◌, ℕ, true, false, List, [], ◌∷◌, ◌++◌, length, refl, ap, sym, ◌⊎◌, inl, inr, ◌∙◌, Ok, Err, Result}
-use Rattle.std.specs.Prelude.{nat_eq, codes}
-use Rattle.std.specs.Str.{is_utf8}
-use Rattle.std.specs.Cmp.Lexicographic.{pointwise}
+use Rattle.shared_lemmas.proofs.Common.{◌≡◌, ◌≢◌, ℕ, true, false, List, [], ◌∷◌, ◌++◌, length, refl, ap, sym, ◌⊎◌, inl, inr, ◌∙◌, Ok, Err, Result, nat_eq, codes, is_utf8, pointwise}
 use Rattle.jass_base.specs.Decimal.{decimal_of}
 use Rattle.trec_run.specs.declared.run_line.RunLine.{RunLine}
 use Rattle.trec_run.specs.declared.run_line.RunWhy.{RunWhy}

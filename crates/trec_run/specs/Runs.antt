@@ -62,11 +62,6 @@ read_lines (line ∷ lines) = if has_bytes line.bytes then (at_line line.number 
 abbrev pub run_of : List ℕ → Result (List RunLine) RunFault
 run_of text = read_lines (numbered_from 1 (lines_of text))
 
--- a part is a column where it has bytes
-abbrev pub and_column : List ℕ → List (List ℕ) → List (List ℕ)
-and_column [] columns = columns
-and_column (b ∷ bytes) columns = (b ∷ bytes) ∷ columns
-
 -- a line of a run: UTF-8 of six columns, of which the second is Q0, and the fourth and the fifth are numbers
 pub record IsRunLine (line : List ℕ) (run : RunLine) : Type 0 where
   pub text : is_utf8 line ≡ true

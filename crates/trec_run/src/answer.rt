@@ -1,5 +1,4 @@
-ghost use Rattle.std.specs.Prelude.{ℕ, ◌≡◌, ◌+◌, ◌<◌, ◌++◌, length, decimal, flat_map, All};
-ghost use Rattle.std.specs.List.{slice_index_or};
+ghost use Rattle.std.specs.Prelude.{◌+◌, ◌<◌, ◌++◌, length, All};
 ghost use Rattle.jass_base.specs.Outside.{Wrote};
 ghost use Rattle.jass_base.specs.declared.answer.Hit.{Hit};
 ghost use Rattle.ranking_model.specs.Report.{run_lines, tag_of};

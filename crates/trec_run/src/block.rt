@@ -6,6 +6,7 @@ ghost use Rattle.jass_base.specs.declared.answer.Hit.{Hit};
 ghost use Rattle.ranking_model.specs.Report.{run_lines};
 ghost use Rattle.trec_run.specs.Private.Columns.{IsFrame, whole_tag};
 ghost use Rattle.gathered_text.specs.Gathering.{Gathers};
+ghost use Rattle.gathered_text.specs.declared.buffer.TheConstants.{ROOM};
 
 use crate::frame::Frame;
 use crate::line::{SHORT, SHORT_LINE, Shared, gather_line, push_line};
@@ -62,7 +63,7 @@ fn push_each<N: Names>(buffer: &mut Buffer, frame: &Frame, index: &N, hits: &[Hi
     requires names { All (λ (hit : Hit). length (slice_index_or (N.names index.now) hit.doc []) ≤ 128) hits.now }
     requires few { length hits.now ≤ 16 }
     requires ranks { first + length hits.now < 2 ^ 64 }
-    requires room { length buffer.old + 16 * 1024 ≤ 65536 }
+    requires room { length buffer.old + 16 * 1024 ≤ ROOM }
     ensures { (id tag : List ℕ) → IsFrame frame.now id tag
         → buffer.new ≡ buffer.old ++ run_lines (N.names index.now) id tag first hits.now }
 {

@@ -1,5 +1,6 @@
 ghost use Rattle.std.specs.Prelude.{ℕ, ◌≡◌, ◌≢◌, ◌<◌, ◌≤◌, true, false, [], ◌∷◌, length, slice_index, MatchOption};
-ghost use Rattle.trec_run.specs.Runs.{is_blank, columns_of, and_column};
+ghost use Rattle.trec_run.specs.Runs.{is_blank, columns_of};
+ghost use Rattle.trec_run.specs.Private.Parts.{and_column};
 
 /// The columns of a run line.
 #[derive(Clone, Copy)]

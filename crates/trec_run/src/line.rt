@@ -2,6 +2,7 @@ ghost use Rattle.std.specs.Prelude.{◌≡◌, ◌+◌, ◌≤◌, ◌++◌, cod
 ghost use Rattle.ranking_model.specs.Report.{run_line};
 ghost use Rattle.gathered_text.specs.Gathering.{Gathers};
 ghost use Rattle.trec_run.specs.Private.Columns.{AreShort, whole_tag};
+ghost use Rattle.gathered_text.specs.declared.buffer.TheConstants.{ROOM};
 
 use crate::frame::Frame;
 use gathered_text::{Buffer, gather_all};
@@ -43,7 +44,7 @@ impl<'a> Shared<'a> {
 /// Puts a run line for which there is room behind what was gathered.
 pub fn push_line(buffer: &mut Buffer, frame: &Frame, name: &[u8], rank: u64, score: u32)
     requires name { length name.now ≤ 128 }
-    requires room { length buffer.old + 1024 ≤ 65536 }
+    requires room { length buffer.old + 1024 ≤ ROOM }
     ensures line { buffer.new ≡ buffer.old ++ (frame.now.front ++ (name.now ++ (codes " "
         ++ (decimal rank ++ (codes " " ++ (decimal score ++ frame.now.tail)))))) }
     ensures few { length buffer.new ≤ length buffer.old + 1024 }

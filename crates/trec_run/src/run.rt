@@ -1,4 +1,4 @@
-ghost use Rattle.std.specs.Prelude.{ℕ, ◌≡◌, ◌≢◌, ◌⊎◌, ◌<◌, [], ◌∷◌, length, Err, MatchResult, MatchOption, true, false, nat_eq, codes};
+ghost use Rattle.std.specs.Prelude.{◌≡◌, ◌⊎◌, ◌<◌, Err, MatchResult, MatchOption, true, false, nat_eq, codes};
 ghost use Rattle.std.specs.Str.{is_utf8};
 ghost use Rattle.std.specs.Cmp.Lexicographic.{pointwise};
 ghost use Rattle.jass_base.specs.Decimal.{decimal_of};

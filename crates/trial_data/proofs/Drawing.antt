@@ -1,13 +1,7 @@
 -- What the postings of a term keep.
-use Rattle.std.proofs.Common.{◌≡◌, ℕ, zero, suc, ◌+◌, ◌*◌, ◌/◌, ◌%◌, ◌^◌, ◌<◌, ◌≤◌, Bool, true, false, cond, List, [], ◌∷◌, ◌++◌, length, refl, sym, ap, ap₂, ◌∙◌, subst, arith, append_assoc}
-use Rattle.std.specs.Prelude.{⊤, nat_lt, All}
-use Rattle.std.specs.List.Sorted.{IsStrictlyIncreasing}
-use Rattle.std.proofs.lemmas.Bool.Decides.{nat_tests}
+use Rattle.shared_lemmas.proofs.Common.{◌≡◌, ℕ, zero, suc, ◌+◌, ◌*◌, ◌%◌, ◌^◌, ◌<◌, ◌≤◌, Bool, true, false, cond, List, [], ◌∷◌, ◌++◌, length, refl, sym, ap, ap₂, ◌∙◌, subst, arith, append_assoc, ⊤, nat_lt, All, IsStrictlyIncreasing, nat_tests, All-nil, All-cons, sum_by-cons, mul-le, pow-succ'}
+use Rattle.shared_lemmas.proofs.Common.{pow-zero}
 use Rattle.std.proofs.lemmas.List.{append-nil}
-use Rattle.std.proofs.lemmas.List.Elements.{All-nil, All-cons}
-use Rattle.std.proofs.lemmas.List.Sums.{sum_by-cons}
-use Rattle.std.proofs.lemmas.Nat.{mul-le}
-use Rattle.std.proofs.Math.Nat.{pow-succ', pow-zero}
 use Rattle.jass_base.specs.declared.posting.Posting.{Posting}
 use Rattle.jass_base.specs.Postings.{docs_of, HasTfInRange}
 use Rattle.jass_base.proofs.Gaps.{RiseFrom, rising}
@@ -23,8 +17,7 @@ pub tf_small : (number : ℕ) → tf_of number ≤ 8
 tf_small number =
     let low : number % 64 ≤ 63 = omega arith in
     let square : (number % 64) ^ 2 ≡ (number % 64) * (number % 64) = rw (pow-succ' (number % 64) 1, pow-succ' (number % 64) 0, pow-zero (number % 64)) (omega arith) in
-    let few = mul-le (number % 64) (number % 64) 63 63 low low in
-    omega arith
+    omega (arith, mul-le (number % 64) (number % 64) 63 63 low low)
 
 pub are_drawn : (docs term left from state : ℕ) → AreDrawn docs from (postings_from docs term left from state).postings
 are_drawn docs term zero from state = tt
@@ -60,9 +53,7 @@ docs_below docs from (p ∷ ps) h = All-cons (λ doc. doc < docs) p.doc (docs_of
 
 pub tf_fits : (docs from : ℕ) (ps : List Posting) → AreDrawn docs from ps → All HasTfInRange ps
 tf_fits docs from [] h = All-nil HasTfInRange
-tf_fits docs from (p ∷ ps) h =
-    let low = h.3 in
-    All-cons HasTfInRange p ps (h.2, omega arith) (tf_fits docs (p.doc + 1) ps h.4)
+tf_fits docs from (p ∷ ps) h = let low = h.3 in All-cons HasTfInRange p ps (h.2, omega arith) (tf_fits docs (p.doc + 1) ps h.4)
 
 -- each document once
 pub tf_between : (docs from : ℕ) (ps : List Posting) → AreDrawn docs from ps → All (λ (p : Posting). (1 ≤ p.tf) × (p.tf ≤ 8)) ps
@@ -71,19 +62,11 @@ tf_between docs from (p ∷ ps) h = All-cons (λ (p : Posting). (1 ≤ p.tf) × 
 
 pub few_drawn : (docs from : ℕ) (ps : List Posting) → AreDrawn docs from ps → from ≤ docs → from + length ps ≤ docs
 few_drawn docs from [] h within = omega arith
-few_drawn docs from (p ∷ ps) h within =
-    let up = h.0 in
-    let low = h.1 in
-    let more = few_drawn docs (p.doc + 1) ps h.4 (omega arith) in
-    omega arith
+few_drawn docs from (p ∷ ps) h within = omega (arith, h.0, h.1, few_drawn docs (p.doc + 1) ps h.4 (omega (arith, h.1)))
 
 pub tf_sum_small : (docs from : ℕ) (ps : List Posting) → AreDrawn docs from ps → tf_sum ps ≤ 8 * length ps
 tf_sum_small docs from [] h = omega arith
-tf_sum_small docs from (p ∷ ps) h =
-    let low = h.3 in
-    let more = tf_sum_small docs (p.doc + 1) ps h.4 in
-    let split = sum_by-cons (λ (q : Posting). q.tf) p ps in
-    omega arith
+tf_sum_small docs from (p ∷ ps) h = omega (arith, h.3, tf_sum_small docs (p.doc + 1) ps h.4, sum_by-cons (λ (q : Posting). q.tf) p ps)
 
 -- ---- one turn of drawing them
 
@@ -104,9 +87,7 @@ pub record DrawnTo (docs term : ℕ) (whole : DrawnPostings) (ps : List Posting)
 -- the draw that gives no document ends the term
 pub ends : (docs term left from state : ℕ) → docs ≤ (posting_behind term from state).doc → postings_from docs term left from state ≡ none_behind state
 ends docs term zero from state high = refl
-ends docs term (suc left) from state high =
-    let test : nat_lt (posting_behind term from state).doc docs ≡ false = grind (arith, nat_tests) in
-    rw test refl
+ends docs term (suc left) from state high = let test : nat_lt (posting_behind term from state).doc docs ≡ false = grind (arith, nat_tests) in rw test refl
 
 pub drawn_all : (docs term from state number next : ℕ) (whole : DrawnPostings) (ps : List Posting) → DrawnTo docs term whole ps from state
     → next ≡ next_state state → number ≡ drawn next → docs ≤ from + number % (2 * term + 1) → record { postings = ps; state = next } ≡ whole

@@ -1,16 +1,10 @@
 -- The lengths of documents.
-use Rattle.std.proofs.Common.{◌≡◌, ℕ, zero, suc, ◌+◌, ◌*◌, ◌<◌, ◌≤◌, ◌==◌, true, false, cond, List, [], ◌∷◌, length, get_or, set, drop, subst, refl, sym, ap, ◌∙◌, ◌⊎◌, inl, inr, arith, eq-eqb}
-use Rattle.std.specs.Prelude.{All}
-use Rattle.std.proofs.lemmas.Bool.{cases_eq}
-use Rattle.std.proofs.lemmas.Bool.Decides.{nat_tests}
-use Rattle.std.proofs.lemmas.List.{length-set, get_or-set_same, get_or-set_other, drop_more, drop-map}
-use Rattle.std.proofs.lemmas.List.Elements.{All-head, All-tail, All-drop}
-use Rattle.std.proofs.lemmas.List.Sums.{sum_by-cons}
+use Rattle.shared_lemmas.proofs.Common.{◌≡◌, ℕ, ◌+◌, ◌<◌, ◌≤◌, ◌==◌, true, false, cond, List, [], ◌∷◌, length, get_or, set, drop, subst, refl, sym, ap, ◌∙◌, ◌⊎◌, inl, inr, arith, eq-eqb, All, cases_eq, nat_tests, drop_more, drop-map, All-head, All-tail, All-drop, sum_by-cons}
+use Rattle.std.proofs.lemmas.List.{length-set, get_or-set_same, get_or-set_other}
 use Rattle.jass_base.specs.declared.posting.Posting.{Posting}
-use Rattle.jass_base.specs.Ciff.{ListData}
 use Rattle.jass_base.specs.Postings.{docs_of}
-use Rattle.trial_data.specs.Private.Gathering.{with_postings, with_lists}
-use Rattle.trial_data.specs.Trials.{tf_in, doc_length}
+use Rattle.trial_data.specs.Private.Gathering.{with_postings}
+use Rattle.trial_data.specs.Trials.{tf_in}
 
 pub length-with_postings : (lengths : List ℕ) (ps : List Posting) → length (with_postings lengths ps) ≡ length lengths
 length-with_postings lengths [] = refl
@@ -38,15 +32,12 @@ with_postings_at lengths (p ∷ ps) doc below =
         let t : (p.doc == doc) ≡ true = eq-eqb p.doc doc e in
         let here : get_or next doc 0 ≡ get_or lengths doc 0 + p.tf =
         ap (λ n. get_or next n 0) (sym e) ∙ get_or-set_same lengths p.doc (get_or lengths p.doc 0 + p.tf) 0 inside ∙ ap (λ n. get_or lengths n 0 + p.tf) e in
-        let split = tf_in-cons doc p ps in
         let first : cond (p.doc == doc) p.tf 0 ≡ p.tf = rw t refl in
-        omega arith
+        omega (arith, tf_in-cons doc p ps)
     by (inr apart) =
         let f : (p.doc == doc) ≡ false = grind (arith, nat_tests) in
-        let there = get_or-set_other lengths p.doc doc (get_or lengths p.doc 0 + p.tf) 0 (λ e. apart (sym e)) in
-        let split = tf_in-cons doc p ps in
         let first : cond (p.doc == doc) p.tf 0 ≡ 0 = rw f refl in
-        omega arith
+        omega (arith, get_or-set_other lengths p.doc doc (get_or lengths p.doc 0 + p.tf) 0 (λ e. apart (sym e)), tf_in-cons doc p ps)
 
 -- lengths don't fall
 pub grown : (lengths : List ℕ) (ps : List Posting) (doc : ℕ) → All (λ d. d < length lengths) (docs_of ps) → get_or lengths doc 0 ≤ get_or (with_postings lengths ps) doc 0
@@ -74,7 +65,5 @@ sum_within lengths whole ps i inside below is =
     let long : length now ≡ length lengths = length-set lengths p.doc (get_or lengths p.doc 0 + p.tf) in
     let here : get_or now p.doc 0 ≡ get_or lengths p.doc 0 + p.tf = get_or-set_same lengths p.doc (get_or lengths p.doc 0 + p.tf) 0 (below_at (length lengths) ps i inside below) in
     let rest : All (λ doc. doc < length now) (docs_of (drop (i + 1) ps)) = subst (λ (n : ℕ). All (λ doc. doc < n) (docs_of (drop (i + 1) ps))) (sym long) (below_rest (length lengths) ps (i + 1) below) in
-    let more = grown now (drop (i + 1) ps) p.doc rest in
     let same : with_postings now (drop (i + 1) ps) ≡ whole = ap (with_postings lengths) (sym (next_posting ps i inside)) ∙ is in
-    let at = ap (λ (s : List ℕ). get_or s p.doc 0) same in
-    omega arith
+    omega (arith, grown now (drop (i + 1) ps) p.doc rest, ap (λ (s : List ℕ). get_or s p.doc 0) same)

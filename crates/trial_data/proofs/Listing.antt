@@ -1,18 +1,12 @@
 -- What the lists of a trial keep.
-use Rattle.std.proofs.Common.{◌≡◌, ◌≢◌, ℕ, zero, suc, ◌+◌, ◌-◌, ◌*◌, ◌<◌, ◌≤◌, ◌==◌, false, cond, List, [], ◌∷◌, ◌++◌, length, get_or, map, take, drop, replicate, true, eq-eqb, refl, sym, ap, ap₂, ◌∙◌, ◌⊎◌, inl, inr, subst, arith, append_assoc}
-use Rattle.std.specs.Prelude.{All, AllPairs, codes}
-use Rattle.std.specs.List.{AllByRecursion, range_with_len, sum_by}
-use Rattle.std.proofs.lemmas.Bool.{cases_eq}
-use Rattle.std.proofs.lemmas.Bool.Decides.{nat_tests}
-use Rattle.std.proofs.lemmas.List.{length-map, get_or-map, get_or-replicate, length-replicate, map_push, take_at}
-use Rattle.std.proofs.lemmas.List.FromFn.{length-range_with_len, get_or-map-range_with_len}
-use Rattle.std.proofs.lemmas.List.Sums.{sum_by-cons}
-use Rattle.std.proofs.lemmas.Simd.{map-map}
+use Rattle.shared_lemmas.proofs.Common.{◌≡◌, ℕ, zero, suc, ◌+◌, ◌-◌, ◌*◌, ◌<◌, ◌≤◌, ◌==◌, false, cond, List, [], ◌∷◌, ◌++◌, length, get_or, map, take, drop, replicate, true, eq-eqb, refl, sym, ap, ap₂, ◌∙◌, inl, inr, subst, arith, append_assoc, All, AllPairs, codes, range_with_len, cases_eq}
+use Rattle.shared_lemmas.proofs.Common.{nat_tests, length-map, get_or-map, get_or-replicate, length-replicate, map_push, take_at, get_or-map-range_with_len, sum_by-cons, map-map}
+use Rattle.std.specs.List.{sum_by}
 use Rattle.shared_lemmas.proofs.Sums.{sum_map}
 use Rattle.jass_base.specs.declared.posting.Posting.{Posting}
 use Rattle.jass_base.specs.declared.doc_record.DocRecord.{DocRecord}
 use Rattle.jass_base.specs.declared.postings_list.PostingsList.{PostingsList}
-use Rattle.jass_base.specs.Ciff.{HeaderData, ListData, DocData, CollectionData}
+use Rattle.jass_base.specs.Ciff.{HeaderData, ListData, DocData}
 use Rattle.jass_base.specs.CiffViews.{list_data, doc_data}
 use Rattle.jass_base.specs.Lists.{DifferInTerm}
 use Rattle.jass_base.specs.Postings.{docs_of}
@@ -34,9 +28,7 @@ one_more ls l later = ap (λ (ks : List ListData). (let d : DrawnLists = record 
 -- the next list, where terms are left
 pub next_list : (docs terms term state : ℕ) → term < terms → lists_from docs (terms - term) term state
     ≡ put_list (list_with term (term_postings docs term state).postings) (lists_from docs (terms - (term + 1)) (term + 1) (term_postings docs term state).state)
-next_list docs terms term state low =
-    let left : terms - term ≡ suc (terms - (term + 1)) = omega arith in
-    ap (λ n. lists_from docs n term state) left
+next_list docs terms term state low = let left : terms - term ≡ suc (terms - (term + 1)) = omega arith in ap (λ n. lists_from docs n term state) left
 
 pub lists_more : (docs terms term state next : ℕ) (whole : DrawnLists) (lists now : List PostingsList) (list : PostingsList) → term < terms
     → whole ≡ with_front (map list_data lists) (lists_from docs (terms - term) term state)
@@ -61,30 +53,24 @@ rest_more docs terms term state next lengths now whole postings low before is mo
 none_in : (docs from doc : ℕ) (ps : List Posting) → AreDrawn docs from ps → doc < from → tf_in doc ps ≡ 0
 none_in docs from doc [] h low = refl
 none_in docs from doc (p ∷ ps) h low =
-    let up = h.0 in
     let test : (p.doc == doc) ≡ false = grind (arith, nat_tests) in
     let first : cond (p.doc == doc) p.tf 0 ≡ 0 = rw test refl in
     let more = none_in docs (p.doc + 1) doc ps h.4 (omega arith) in
-    let split = tf_in-cons doc p ps in
-    omega arith
+    omega (arith, h.0, tf_in-cons doc p ps)
 
 pub one_in : (docs from doc : ℕ) (ps : List Posting) → AreDrawn docs from ps → tf_in doc ps ≤ 8
 one_in docs from doc [] h = omega arith
-one_in docs from doc (p ∷ ps) h = by (cases_eq p.doc doc) (one_in docs (p.doc + 1) doc ps h.4)
-  where
-    by : (p.doc ≡ doc) ⊎ (p.doc ≡ doc → ⊥) → tf_in doc ps ≤ 8 → tf_in doc (p ∷ ps) ≤ 8
-    by (inl e) later =
-        let few = h.3 in
-        let none = none_in docs (p.doc + 1) doc ps h.4 (omega arith) in
-        let split = tf_in-cons doc p ps in
-        let test : (p.doc == doc) ≡ true = eq-eqb p.doc doc e in
-        let first : cond (p.doc == doc) p.tf 0 ≡ p.tf = rw test refl in
-        omega arith
-    by (inr apart) later =
-        let test : (p.doc == doc) ≡ false = grind (arith, nat_tests) in
-        let first : cond (p.doc == doc) p.tf 0 ≡ 0 = rw test refl in
-        let split = tf_in-cons doc p ps in
-        omega arith
+one_in docs from doc (p ∷ ps) h = let later = one_in docs (p.doc + 1) doc ps h.4 in elim (cases_eq p.doc doc) [
+  | inl e ↦
+      let none = none_in docs (p.doc + 1) doc ps h.4 (omega arith) in
+      let test : (p.doc == doc) ≡ true = eq-eqb p.doc doc e in
+      let first : cond (p.doc == doc) p.tf 0 ≡ p.tf = rw test refl in
+      omega (arith, h.3, tf_in-cons doc p ps)
+  | inr apart ↦
+      let test : (p.doc == doc) ≡ false = grind (arith, nat_tests) in
+      let first : cond (p.doc == doc) p.tf 0 ≡ 0 = rw test refl in
+      omega (arith, tf_in-cons doc p ps)
+]
 
 -- a term adds at most 8 to a document's length
 pub term_adds : (docs term state : ℕ) (lengths : List ℕ) (bound : ℕ) → length lengths ≡ docs → ((doc : ℕ) → get_or lengths doc 0 ≤ bound)
@@ -93,10 +79,7 @@ term_adds docs term state lengths bound long small doc =
     let ps = (term_postings docs term state).postings in
     let drawn = term_drawn docs term state in
     let below = subst (λ (n : ℕ). All (λ d. d < n) (docs_of ps)) (sym long) (docs_below docs 0 ps drawn) in
-    let is = with_postings_at lengths ps doc below in
-    let one = one_in docs 0 doc ps drawn in
-    let before = small doc in
-    omega arith
+    omega (arith, with_postings_at lengths ps doc below, one_in docs 0 doc ps drawn, small doc)
 
 -- ---- the lengths of the documents
 
@@ -113,8 +96,7 @@ with_lists_at docs (suc terms) term state lengths doc long =
     let below = subst (λ (n : ℕ). All (λ x. x < n) (docs_of d.postings)) (sym long) (docs_below docs 0 d.postings drawn) in
     let first = with_postings_at lengths d.postings doc below in
     let later = with_lists_at docs terms (term + 1) d.state (with_postings lengths d.postings) doc (length-with_postings lengths d.postings ∙ long) in
-    let split = sum_by-cons (λ (l : ListData). tf_in doc l.postings) (list_with term d.postings) (lists_from docs terms (term + 1) d.state).lists in
-    omega arith
+    omega (arith, sum_by-cons (λ (l : ListData). tf_in doc l.postings) (list_with term d.postings) (lists_from docs terms (term + 1) d.state).lists)
 
 records : (ls : List ListData) (doc : ℕ) (lengths : List ℕ) → ((i : ℕ) → i < length lengths → get_or lengths i 0 ≡ doc_length ls (doc + i)) → records_from doc lengths ≡ map (doc_with ls) (range_with_len doc (length lengths))
 records ls doc [] h = refl
@@ -155,8 +137,7 @@ cf_small docs (suc terms) term state few =
     let count = few_drawn docs 0 d.postings drawn (omega arith) in
     let first = tf_sum_small docs 0 d.postings drawn in
     let later = cf_small docs terms (term + 1) d.state few in
-    let split = sum_by-cons (λ (l : ListData). l.cf) (list_with term d.postings) (lists_from docs terms (term + 1) d.state).lists in
-    omega arith
+    omega (arith, sum_by-cons (λ (l : ListData). l.cf) (list_with term d.postings) (lists_from docs terms (term + 1) d.state).lists)
 
 pub cf_is : (lists : List PostingsList) (ls : List ListData) → map list_data lists ≡ ls → cf_sum lists ≡ sum_by (λ (l : ListData). l.cf) ls
 cf_is lists ls is = sym (sum_map (λ (l : ListData). l.cf) list_data lists) ∙ ap (sum_by (λ (l : ListData). l.cf)) is

@@ -1,8 +1,5 @@
 -- Names of terms and documents.
-use Rattle.std.proofs.Common.{◌≡◌, ◌≢◌, ℕ, ◌+◌, ◌/◌, ◌%◌, ◌^◌, ◌<◌, ◌≤◌, List, [], ◌∷◌, ◌++◌, length, refl, ap, arith}
-use Rattle.std.specs.Prelude.{All, decimal, codes}
-use Rattle.std.proofs.lemmas.Fmt.{decimal_by_steps, decimal_injective, length-decimal-le}
-use Rattle.std.proofs.lemmas.List.Elements.{All-nil, All-cons, All-push}
+use Rattle.shared_lemmas.proofs.Common.{◌≡◌, ◌≢◌, ℕ, ◌+◌, ◌%◌, ◌^◌, ◌<◌, ◌≤◌, List, [], length, arith, All, decimal, decimal_by_steps, decimal_injective, length-decimal-le, All-nil, All-cons, All-push}
 use Rattle.jass_base.specs.Limits.{IsName}
 use Rattle.trial_data.specs.Trials.{term_name, doc_name}
 
@@ -28,11 +25,7 @@ is_name doc low =
     }
 
 pub term_short : (term : ℕ) → term < 1048576 → length (term_name term) ≤ 65535
-term_short term low =
-    let short = length-decimal-le 7 term (omega arith) (omega arith) (omega arith) in
-    omega arith
+term_short term low = let short = length-decimal-le 7 term (omega arith) (omega arith) (omega arith) in omega arith
 
 pub terms_apart : (a b : ℕ) → a < 1048576 → b < 1048576 → a ≢ b → term_name a ≢ term_name b
-terms_apart a b low small apart is =
-    let same : decimal a ≡ decimal b = cc in
-    apart (decimal_injective a b (omega arith) (omega arith) same)
+terms_apart a b low small apart is = let same : decimal a ≡ decimal b = cc in apart (decimal_injective a b (omega arith) (omega arith) same)

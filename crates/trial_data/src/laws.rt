@@ -1,7 +1,7 @@
 //! Laws of the definitions. Each function does nothing: its contract is the law, and a caller
 //! learns it by the call.
 
-ghost use Rattle.std.specs.Prelude.{ℕ, ◌≡◌, ◌+◌, ◌*◌, ◌<◌, ◌≤◌, length, All};
+ghost use Rattle.std.specs.Prelude.{ℕ, ◌≡◌, ◌+◌, ◌<◌, ◌≤◌, length, All};
 ghost use Rattle.std.specs.List.Sorted.{IsStrictlyIncreasing};
 ghost use Rattle.jass_base.specs.declared.posting.Posting.{Posting};
 ghost use Rattle.jass_base.specs.Postings.{docs_of};

@@ -3,6 +3,7 @@ ghost use Rattle.jass_base.specs.CiffViews.{list_data};
 ghost use Rattle.jass_base.specs.Lists.{HasDocsBelow};
 ghost use Rattle.trial_data.specs.Private.Gathering.{cf_sum, with_lists};
 ghost use Rattle.trial_data.specs.Trials.{list_with, lists_from, term_postings};
+ghost use Rattle.jass_base.specs.declared.limits.TheConstants.{MOST_TRIAL};
 
 use crate::draws::Draws;
 use crate::names::put_name;
@@ -18,8 +19,8 @@ pub(crate) fn draw_lists(
     draws: &mut Draws,
     lengths: &mut [u32],
 ) -> Result<Row<PostingsList>, NoMemory>
-    requires docs { docs ≤ 1048576 }
-    requires terms { terms ≤ 1048576 }
+    requires docs { docs ≤ MOST_TRIAL }
+    requires terms { terms ≤ MOST_TRIAL }
     requires lengths { length lengths.old ≡ docs }
     requires empty { (doc : ℕ) → slice_index lengths.old doc ≡ 0 }
     ensures lists { IfOk result (λ lists. map list_data lists ≡ (lists_from docs terms 0 draws.old).lists) }
@@ -35,10 +36,7 @@ pub(crate) fn draw_lists(
     for term in 0..terms {
         let list = draw_list(alloc, docs, term, draws, &mut postings, &mut name)?;
         add_lengths(lengths, list.postings.as_slice());
-        match lists.push(list) {
-            Ok(()) => {}
-            Err(_) => return Err(NoMemory),
-        }
+        lists.push(list)?;
     }
     Ok(lists)
 }
@@ -52,8 +50,8 @@ fn draw_list(
     postings: &mut Vec<Posting>,
     name: &mut String,
 ) -> Result<PostingsList, NoMemory>
-    requires docs { docs ≤ 1048576 }
-    requires term { term < 1048576 }
+    requires docs { docs ≤ MOST_TRIAL }
+    requires term { term < MOST_TRIAL }
     ensures list { IfOk result (λ list. list_data list
         ≡ list_with term (term_postings docs term draws.old).postings) }
     ensures below { IfOk result (HasDocsBelow docs) }

@@ -1,6 +1,7 @@
-ghost use Rattle.std.specs.Prelude.{◌≡◌, ◌≤◌, ◌<◌, ◌^◌, length, replicate, codes, IfOk};
+ghost use Rattle.std.specs.Prelude.{◌≡◌, ◌≤◌, ◌<◌, ◌^◌, replicate, codes, IfOk};
 ghost use Rattle.jass_base.specs.CiffViews.{collection_data, header_data};
 ghost use Rattle.trial_data.specs.Trials.{trial_collection, trial_state};
+ghost use Rattle.jass_base.specs.declared.limits.TheConstants.{MOST_TRIAL};
 
 use crate::documents::records_of;
 use crate::draws::Draws;
@@ -11,8 +12,8 @@ use std::alloc::Global;
 /// The collection of a seed, with so many documents and terms, at most 1,048,576 of each. A term
 /// that is drawn late has few postings, or none.
 pub fn make(alloc: Global, seed: u32, docs: u32, terms: u32) -> Result<Collection, NoMemory>
-    requires docs { docs ≤ 1048576 }
-    requires terms { terms ≤ 1048576 }
+    requires docs { docs ≤ MOST_TRIAL }
+    requires terms { terms ≤ MOST_TRIAL }
     ensures { IfOk result (λ c. collection_data c ≡ trial_collection seed docs terms) }
 {
     match make_with_draws(alloc, seed, docs, terms) {
@@ -28,8 +29,8 @@ pub fn make_with_draws(
     docs: u32,
     terms: u32,
 ) -> Result<(Collection, Draws), NoMemory>
-    requires docs { docs ≤ 1048576 }
-    requires terms { terms ≤ 1048576 }
+    requires docs { docs ≤ MOST_TRIAL }
+    requires terms { terms ≤ MOST_TRIAL }
     ensures collection { IfOk result (λ x. collection_data x.0 ≡ trial_collection seed docs terms) }
     ensures draws { IfOk result (λ x. x.1 ≡ trial_state seed docs terms) }
 {

@@ -10,10 +10,7 @@ pub(crate) fn put_name(name: &mut String, letter: &str, number: u32) -> Result<(
 {
     let mut digits = Buffer::new();
     name.clear();
-    match name.push_str(letter) {
-        Ok(()) => {}
-        Err(_) => return Err(NoMemory),
-    }
+    name.push_str(letter)?;
     match name.push_str(digits.format(number)) {
         Ok(()) => Ok(()),
         Err(_) => Err(NoMemory),

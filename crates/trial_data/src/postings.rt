@@ -2,6 +2,7 @@ ghost use Rattle.std.specs.Prelude.{ℕ, ◌≡◌, ◌<◌, ◌≤◌, ◌^◌,
 ghost use Rattle.jass_base.specs.Postings.{docs_of};
 ghost use Rattle.trial_data.specs.Private.Gathering.{with_postings};
 ghost use Rattle.trial_data.specs.Trials.{term_postings, tf_of, tf_sum};
+ghost use Rattle.jass_base.specs.declared.limits.TheConstants.{MOST_TRIAL};
 
 use crate::draws::Draws;
 use jass_base::{NoMemory, Posting};
@@ -14,8 +15,8 @@ pub(crate) fn draw_postings(
     draws: &mut Draws,
     postings: &mut Vec<Posting>,
 ) -> Result<(), NoMemory>
-    requires docs { docs ≤ 1048576 }
-    requires term { term < 1048576 }
+    requires docs { docs ≤ MOST_TRIAL }
+    requires term { term < MOST_TRIAL }
     ensures postings { OnOk result (postings.new.items ≡ (term_postings docs term draws.old).postings) }
     ensures state { OnOk result (draws.new ≡ (term_postings docs term draws.old).state) }
 {
@@ -28,10 +29,7 @@ pub(crate) fn draw_postings(
             return Ok(());
         }
         let tf = tf_of(draws.next());
-        match postings.push(Posting { doc, tf }) {
-            Ok(()) => {}
-            Err(_) => return Err(NoMemory),
-        }
+        postings.push(Posting { doc, tf })?;
         from = doc + 1;
     }
 }

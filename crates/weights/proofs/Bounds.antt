@@ -1,8 +1,5 @@
 -- How large the parts of a weight and an impact can be.
-use Rattle.std.proofs.Common.{◌≡◌, ℕ, ◌+◌, ◌*◌, ◌/◌, ◌%◌, ◌^◌, ◌<◌, ◌≤◌, max, min, sym, ap, ◌∙◌, arith, pow_mono, ⊎_elim}
-use Rattle.std.proofs.Math.Nat.{div-le_self, div-le_of_le-mul, div-eq_of_lt, mul_assoc, mul-le-mul_right}
-use Rattle.std.proofs.lemmas.Bool.{cases_lt}
-use Rattle.std.proofs.lemmas.Nat.{le-div, one_shl}
+use Rattle.shared_lemmas.proofs.Common.{◌≡◌, ℕ, ◌+◌, ◌*◌, ◌/◌, ◌%◌, ◌^◌, ◌<◌, ◌≤◌, max, min, sym, ap, ◌∙◌, arith, pow_mono, ⊎_elim, div-le_self, div-le_of_le-mul, div-eq_of_lt, mul_assoc, mul-le-mul_right, cases_lt, le-div, one_shl}
 use Rattle.weights.specs.Logarithm.{lg}
 use Rattle.weights.specs.Weighting.{saturated}
 use Rattle.weights.proofs.Exponents.{lg-at_least, lg-below}
@@ -10,8 +7,7 @@ use Rattle.weights.proofs.Exponents.{lg-at_least, lg-below}
 -- how many documents there are for one posting of a term, times 1,024
 pub rarity_bounds : (docs n : ℕ) → 1 ≤ n → n ≤ docs → docs ≤ 2 ^ 26
     → (1024 ≤ 1024 * (docs + 1) / n) × (1024 * (docs + 1) / n < 2 ^ 37)
-rarity_bounds docs n some within limit =
-    (le-div 1024 (1024 * (docs + 1)) n some (omega arith), omega (arith, div-le_self (1024 * (docs + 1)) n))
+rarity_bounds docs n some within limit = (le-div 1024 (1024 * (docs + 1)) n some (omega arith), omega (arith, div-le_self (1024 * (docs + 1)) n))
 
 pub lg_of_rarity : (docs n : ℕ) → 1 ≤ n → n ≤ docs → docs ≤ 2 ^ 26
     → (10240 ≤ lg (1024 * (docs + 1) / n)) × (lg (1024 * (docs + 1) / n) < 37888)
@@ -22,8 +18,7 @@ lg_of_rarity docs n some within limit =
 
 -- a place in a range is at most as many steps as there are
 pub place-le : (above steps width : ℕ) → above ≤ width → above * steps / width ≤ steps
-place-le above steps width within =
-    div-le_of_le-mul width (mul-le-mul_right steps within)
+place-le above steps width within = div-le_of_le-mul width (mul-le-mul_right steps within)
 
 -- the steps of b bits
 pub steps_of : (b : ℕ) → 1 ≤ b → b ≤ 16 → (1 * 2 ^ b % 2 ^ 64 ≡ 2 ^ b) × (2 ≤ 2 ^ b) × (2 ^ b ≤ 2 ^ 16)

@@ -1,11 +1,8 @@
 -- A range that was widened by each of some weights has their least and their greatest at its ends.
-use Rattle.std.proofs.Common.{◌≡◌, ℕ, ◌^◌, ◌<◌, ◌≤◌, ◌⊎◌, inl, inr, List, [], ◌∷◌, length, refl, ap₂, arith, ⊎_elim}
-use Rattle.std.specs.List.{fold, All, AllByRecursion, Contains}
+use Rattle.shared_lemmas.proofs.Common.{◌≡◌, ℕ, ◌^◌, ◌<◌, ◌≤◌, ◌⊎◌, inl, inr, List, [], ◌∷◌, length, refl, ap₂, arith, AllByRecursion, le_antisymm, All-head, All-weaker, All-from_recursion, recursion_from_All, All-contains, All-contains_itself, Contains-append_right, Contains-permutation}
+use Rattle.shared_lemmas.proofs.Common.{IsPermutation-sym, cases_lt}
+use Rattle.std.specs.List.{fold, All, Contains}
 use Rattle.std.specs.List.Sorted.{IsPermutation}
-use Rattle.std.proofs.Math.Nat.{le_antisymm, zero-lt-suc}
-use Rattle.std.proofs.lemmas.List.Elements.{All-head, All-weaker, All-from_recursion, recursion_from_All, All-contains, All-contains_itself, Contains-get_or, Contains-append_right}
-use Rattle.std.proofs.lemmas.List.Sorted.{Contains-permutation, IsPermutation-sym}
-use Rattle.std.proofs.lemmas.Bool.{cases_lt}
 use Rattle.weights.specs.declared.quantizing.Range.{Range}
 use Rattle.weights.specs.Quantizing.{empty_range, widened, range_of}
 
@@ -30,69 +27,43 @@ pub least-from : (k : ℕ) (r : Range) (ws : List ℕ) → k ≤ r.least → All
 least-from k r [] start each = start
 least-from k r (w ∷ ws) start each = least-from k (widened r w) ws (omega (arith, each.0)) each.1
 
-pub greatest-from : (k : ℕ) (r : Range) (ws : List ℕ) → r.greatest ≤ k → AllByRecursion (λ w. w ≤ k) ws
-    → (fold widened r ws).greatest ≤ k
+pub greatest-from : (k : ℕ) (r : Range) (ws : List ℕ) → r.greatest ≤ k → AllByRecursion (λ w. w ≤ k) ws → (fold widened r ws).greatest ≤ k
 greatest-from k r [] start each = start
 greatest-from k r (w ∷ ws) start each = greatest-from k (widened r w) ws (omega (arith, each.0)) each.1
 
 -- the least is that of the start or one of the weights
 least-among : (r : Range) (ws : List ℕ) → ((fold widened r ws).least ≡ r.least) ⊎ Contains ws (fold widened r ws).least
 least-among r [] = inl refl
-least-among r (w ∷ ws) =
-    ⊎_elim
-    (λ kept. ⊎_elim
-    (λ above. inl (omega (arith, kept)))
-    (λ below.
-    let is : (fold widened (widened r w) ws).least ≡ w = omega (arith, kept) in
-    inr (rw is (Contains-get_or (w ∷ ws) 0 w (zero-lt-suc (length ws)))))
-    (cases_lt r.least w))
-    (λ among. inr (Contains-append_right (w ∷ []) ws _ among))
-    (least-among (widened r w) ws)
+least-among r (w ∷ ws) = elim (least-among (widened r w) ws) [
+  | inl kept ↦ elim (cases_lt r.least w) [ inl above ↦ inl (omega (arith, kept)) | inr below ↦ inr (0, omega arith, omega (arith, kept)) ]
+  | inr among ↦ inr (Contains-append_right (w ∷ []) ws _ among)
+]
 
 -- and so is the greatest
-greatest-among : (r : Range) (ws : List ℕ)
-    → ((fold widened r ws).greatest ≡ r.greatest) ⊎ Contains ws (fold widened r ws).greatest
+greatest-among : (r : Range) (ws : List ℕ) → ((fold widened r ws).greatest ≡ r.greatest) ⊎ Contains ws (fold widened r ws).greatest
 greatest-among r [] = inl refl
-greatest-among r (w ∷ ws) =
-    ⊎_elim
-    (λ kept. ⊎_elim
-    (λ above.
-    let is : (fold widened (widened r w) ws).greatest ≡ w = omega (arith, kept) in
-    inr (rw is (Contains-get_or (w ∷ ws) 0 w (zero-lt-suc (length ws)))))
-    (λ below. inl (omega (arith, kept)))
-    (cases_lt r.greatest w))
-    (λ among. inr (Contains-append_right (w ∷ []) ws _ among))
-    (greatest-among (widened r w) ws)
+greatest-among r (w ∷ ws) = elim (greatest-among (widened r w) ws) [
+  | inl kept ↦ elim (cases_lt r.greatest w) [ inl above ↦ inr (0, omega arith, omega (arith, kept)) | inr below ↦ inl (omega (arith, kept)) ]
+  | inr among ↦ inr (Contains-append_right (w ∷ []) ws _ among)
+]
 
 pub range_of-least : (ws : List ℕ) (w : ℕ) → Contains ws w → (range_of ws).least ≤ w
-range_of-least ws w among =
-    All-contains (λ x. (range_of ws).least ≤ x) ws w (All-from_recursion _ ws (least-le_each empty_range ws)) among
+range_of-least ws w among = All-contains (λ x. (range_of ws).least ≤ x) ws w (All-from_recursion _ ws (least-le_each empty_range ws)) among
 
 pub range_of-greatest : (ws : List ℕ) (w : ℕ) → Contains ws w → w ≤ (range_of ws).greatest
-range_of-greatest ws w among =
-    All-contains (λ x. x ≤ (range_of ws).greatest) ws w (All-from_recursion _ ws (greatest-ge_each empty_range ws)) among
+range_of-greatest ws w among = All-contains (λ x. x ≤ (range_of ws).greatest) ws w (All-from_recursion _ ws (greatest-ge_each empty_range ws)) among
 
 -- of some weights of 64 bits the ends are weights themselves
 pub range_of-least_among : (ws : List ℕ) → 0 < length ws → All (λ w. w < 2 ^ 64) ws → Contains ws (range_of ws).least
 range_of-least_among [] some fit = absurd (omega arith)
 range_of-least_among (w ∷ ws) some fit =
     let fits : w < 2 ^ 64 = All-head (λ x. x < 2 ^ 64) w ws fit in
-    ⊎_elim
-    (λ kept.
-    let is : (range_of (w ∷ ws)).least ≡ w = omega (arith, kept) in
-    rw is (Contains-get_or (w ∷ ws) 0 w (zero-lt-suc (length ws))))
-    (λ among. Contains-append_right (w ∷ []) ws _ among)
-    (least-among (widened empty_range w) ws)
+    elim (least-among (widened empty_range w) ws) [ inl kept ↦ (0, omega arith, omega (arith, kept)) | inr among ↦ Contains-append_right (w ∷ []) ws _ among ]
 
 pub range_of-greatest_among : (ws : List ℕ) → 0 < length ws → Contains ws (range_of ws).greatest
 range_of-greatest_among [] some = absurd (omega arith)
 range_of-greatest_among (w ∷ ws) some =
-    ⊎_elim
-    (λ kept.
-    let is : (range_of (w ∷ ws)).greatest ≡ w = omega (arith, kept) in
-    rw is (Contains-get_or (w ∷ ws) 0 w (zero-lt-suc (length ws))))
-    (λ among. Contains-append_right (w ∷ []) ws _ among)
-    (greatest-among (widened empty_range w) ws)
+    elim (greatest-among (widened empty_range w) ws) [ inl kept ↦ (0, omega arith, omega (arith, kept)) | inr among ↦ Contains-append_right (w ∷ []) ws _ among ]
 
 -- each weight of one list is in the other's range
 least-le : (ws vs : List ℕ) → IsPermutation vs ws → (range_of ws).least ≤ (range_of vs).least

@@ -1,7 +1,5 @@
 -- BM25 rises with the term frequency and falls with the norm.
-use Rattle.std.proofs.Common.{◌≡◌, ℕ, ◌+◌, ◌-◌, ◌*◌, ◌/◌, ◌≤◌, subst, arith}
-use Rattle.std.proofs.Math.Nat.{div-mul-le_self, le_of_mul-le-mul_right, le_trans, mul_assoc, mul-add, mul-le-mul_left, mul-le-mul_right}
-use Rattle.std.proofs.lemmas.Nat.{le-div}
+use Rattle.shared_lemmas.proofs.Common.{◌≡◌, ℕ, ◌+◌, ◌-◌, ◌*◌, ◌/◌, ◌≤◌, subst, arith, div-mul-le_self, le_of_mul-le-mul_right, le_trans, mul_assoc, mul-add, mul-le-mul_left, mul-le-mul_right, le-div}
 use Rattle.weights.specs.Weighting.{saturated}
 
 -- more below the line leaves no more
@@ -18,12 +16,8 @@ grown a q tf d norm some fits =
     let own : q * (1000 * tf + norm) ≡ q * (1000 * tf) + q * norm = mul-add q (1000 * tf) norm in
     let theirs : q * (1000 * (tf + d) + norm) ≡ q * (1000 * (tf + d)) + q * norm = mul-add q (1000 * (tf + d)) norm in
     let mine : q * 1000 * tf ≡ q * (1000 * tf) = mul_assoc q 1000 tf in
-    let other : q * 1000 * (tf + d) ≡ q * (1000 * (tf + d)) = mul_assoc q 1000 (tf + d) in
     let low : q * 1000 ≤ a = le_of_mul-le-mul_right {m = q * 1000} {n = a} {k = tf} (omega (arith, own, mine, fits)) some in
-    let step : q * 1000 * d ≤ a * d = mul-le-mul_right d low in
-    let split : q * 1000 * (tf + d) ≡ q * 1000 * tf + q * 1000 * d = mul-add (q * 1000) tf d in
-    let parts : a * (tf + d) ≡ a * tf + a * d = mul-add a tf d in
-    omega (arith, own, theirs, mine, other, step, split, parts, fits)
+    omega (arith, own, theirs, mine, fits, mul_assoc q 1000 (tf + d), mul-le-mul_right d low, mul-add (q * 1000) tf d, mul-add a tf d)
 
 pub saturated-rises : (rare tf more norm : ℕ) → 1 ≤ tf → tf ≤ more → saturated rare tf norm ≤ saturated rare more norm
 saturated-rises rare tf more norm some le =

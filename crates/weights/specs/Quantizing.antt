@@ -4,6 +4,7 @@ use Rattle.std.specs.Prelude.{ℕ, ◌+◌, ◌-◌, ◌*◌, ◌/◌, ◌^◌, 
 use Rattle.weights.specs.declared.quantizing.Bits.{Bits}
 use Rattle.weights.specs.declared.quantizing.Bits.TheVariants.{Raw, Of}
 use Rattle.weights.specs.declared.quantizing.Range.{Range}
+use Rattle.weights.specs.declared.impact_limit.TheConstants.{GREATEST_IMPACT}
 
 -- the range before its first weight, which then becomes both of its ends
 abbrev pub empty_range : Range
@@ -35,6 +36,6 @@ IsInRange (Of b) range w = Holds range w
 
 -- the impact of a weight: cut off at 65,535 if raw, else its place in the range, from 1 for the least to 2 ^ b - 1 for the greatest
 abbrev pub impact_of : Bits → Range → ℕ → ℕ
-impact_of Raw range w = min w 65535
+impact_of Raw range w = min w GREATEST_IMPACT
 impact_of (Of b) range w =
     if range.least == range.greatest then 1 else 1 + (w - range.least) * (2 ^ b - 2) / (range.greatest - range.least)

@@ -2,6 +2,7 @@
 // and how the weights of a collection become impacts of a few bits.
 #![tactic(auto)]
 
+mod impact_limit;
 pub mod laws;
 mod logarithm;
 mod quantizing;

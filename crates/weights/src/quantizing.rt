@@ -3,6 +3,8 @@
 ghost use Rattle.std.specs.Prelude.{◌≡◌, ◌*◌, ◌/◌, ◌^◌, ◌≤◌};
 ghost use Rattle.weights.specs.Quantizing.{empty_range, widened, IsImpactWidth, IsInRange, impact_of};
 
+use crate::impact_limit::GREATEST_IMPACT;
+
 /// How a weight becomes an impact.
 #[derive(Clone, Copy, PartialEq, Eq, Debug)]
 pub enum Bits {
@@ -53,7 +55,7 @@ pub fn impact_of(bits: Bits, range: Range, w: u64) -> u16
     ensures positive { 1 ≤ result }
 {
     match bits {
-        Bits::Raw => w.min(65_535) as u16,
+        Bits::Raw => w.min(GREATEST_IMPACT) as u16,
         Bits::Of(_) if range.least == range.greatest => 1,
         Bits::Of(b) => {
             let steps = (1u64 << b) - 2;

@@ -1,10 +1,6 @@
 -- A content that is read piece by piece.
-use Rattle.std.proofs.Common.{◌≡◌, ℕ, ◌+◌, ◌<◌, ◌≤◌, List, ◌++◌, length, take, drop, Option, Some, None, sym, ap, subst, ◌∙◌, length-take, length-drop, length-append, take_all, arith}
-use Rattle.std.proofs.lemmas.List.{take-take}
-use Rattle.std.specs.Prelude.{IsSomeAnd, IfSome}
-use Rattle.std.specs.FinMap.{get}
-use Rattle.std.proofs.Math.Seq.{take-add}
-use Rattle.std.proofs.Math.Nat.{min-eq_left}
+use Rattle.shared_lemmas.proofs.Common.{◌≡◌, ℕ, ◌+◌, ◌<◌, ◌≤◌, List, ◌++◌, length, take, drop, Option, Some, None, sym, ap, subst, ◌∙◌, arith, take-take, IsSomeAnd, IfSome, get, take-add, min-eq_left}
+use Rattle.std.proofs.Common.{length-take, length-drop, length-append, take_all}
 use Rattle.jass_base.specs.Outside.{Files, OnContent, ForContent, AreBytesAt}
 use Rattle.whole_files.specs.Private.Fronts.{IsFrontOf}
 
@@ -16,14 +12,6 @@ there (Some files) name P Q R both p q = at (get files name) p q
     at : (o : Option (List ℕ)) → IfSome o P → IsSomeAnd o Q → IsSomeAnd o R
     at None p q = q
     at (Some content) p q = both content p q
-
-pub kept : (files : Option Files) (name : List ℕ) (P : List ℕ → Type 0) → OnContent files name P → ForContent files name P
-kept None name P p = tt
-kept (Some files) name P p = at (get files name) p
-  where
-    at : (o : Option (List ℕ)) → IsSomeAnd o P → IfSome o P
-    at None p = tt
-    at (Some content) p = p
 
 -- one piece more
 pub front_more : (row piece grown content : List ℕ) (at count : ℕ) → at ≡ length row → grown ≡ row ++ take count piece → IsFrontOf row content → AreBytesAt content at count piece → IsFrontOf grown content
@@ -44,5 +32,4 @@ front_whole row piece content at count most behind none room few front bytes =
 
 -- a front that is longer than what is read
 pub front_cut : (row cut content : List ℕ) (most : ℕ) → cut ≡ take most row → most ≤ length row → IsFrontOf row content → cut ≡ take most content
-front_cut row cut content most is many front =
-    is ∙ ap (take most) front.front ∙ take-take most (length row) content many
+front_cut row cut content most is many front = is ∙ ap (take most) front.front ∙ take-take most (length row) content many

@@ -1,4 +1,4 @@
-ghost use Rattle.std.specs.Prelude.{ℕ, ◌≡◌, ◌<◌, ◌≤◌, ◌⊎◌, length, take, IfOk, IsErrOf};
+ghost use Rattle.std.specs.Prelude.{◌≡◌, ◌<◌, ◌≤◌, ◌⊎◌, take, IfOk, IsErrOf};
 ghost use Rattle.jass_base.specs.Outside.{Rose, IsMissing, OnContent};
 
 use jass_base::{Cabinet, ReadStop, Row};

@@ -1,14 +1,12 @@
 -- What is read as a field is one, and each field is read.
-use Rattle.std.proofs.Common.{◌≡◌, ℕ, ◌+◌, ◌*◌, ◌/◌, ◌%◌, ◌<◌, ◌≤◌, Bool, true, false, cond, List, ◌++◌, length, take, drop, Result, Ok, Err, refl, sym, ap, subst, ◌∙◌, ◌⊎◌, inl, inr, eqb-true, append_assoc, arith}
-use Rattle.std.specs.Prelude.{nat_lt, ◌==◌, ◌||◌}
-use Rattle.std.proofs.lemmas.Bool.{le-ltb, ltb-false}
-use Rattle.std.proofs.lemmas.Bool.Decides.{nat_tests}
-use Rattle.std.proofs.lemmas.List.{length-take, length-append, take-append-drop, take_at, drop_at}
+use Rattle.shared_lemmas.proofs.Common.{◌≡◌, ℕ, ◌+◌, ◌*◌, ◌/◌, ◌%◌, ◌<◌, ◌≤◌, Bool, true, false, cond, List, ◌++◌, length, take, drop, Result, Ok, Err, refl, sym, ap, subst, ◌∙◌, ◌⊎◌, inl, inr, eqb-true, append_assoc, arith, nat_lt, ◌==◌, ◌||◌, le-ltb, ltb-false, nat_tests, length-take}
+use Rattle.shared_lemmas.proofs.Common.{length-append, take-append-drop, take_at, drop_at}
 use Rattle.jass_base.specs.Wire.{WireField, WireValue, Number, Eight, Text, Four, wire_of, IsVarint, IsValue, IsField}
 use Rattle.wire_fields.specs.declared.fault.WireWhy.{WireWhy}
 use Rattle.wire_fields.specs.declared.fault.WireWhy.TheVariants.{Cut, FieldNumber}
 use Rattle.wire_fields.specs.Reading.{◌>>=◌, varint_at, some_at, value_at, field_at}
-use Rattle.wire_fields.proofs.VarintLaws.{bound, unless_ok, varint_stands, varint_again}
+use Rattle.wire_fields.proofs.VarintLaws.{bound, varint_stands, varint_again}
+use Rattle.shared_lemmas.proofs.Results.{unless_ok}
 
 some_stand : (n : ℕ) (bytes s rest : List ℕ) → some_at n bytes ≡ Ok (s, rest) → (bytes ≡ s ++ rest) × (length s ≡ n)
 some_stand n bytes s rest is =

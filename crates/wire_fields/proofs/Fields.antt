@@ -1,8 +1,5 @@
 -- A field that is read from its parts.
-use Rattle.std.proofs.Common.{◌≡◌, ℕ, ◌+◌, ◌-◌, ◌/◌, ◌%◌, ◌≤◌, true, false, List, length, drop, Ok, Err, refl, ap, arith}
-use Rattle.std.specs.Prelude.{nat_lt, ◌==◌, ◌||◌, slice_range}
-use Rattle.std.proofs.lemmas.Bool.Decides.{nat_tests}
-use Rattle.std.proofs.lemmas.List.{length-drop, drop-drop}
+use Rattle.shared_lemmas.proofs.Common.{◌≡◌, ℕ, ◌+◌, ◌-◌, ◌/◌, ◌%◌, ◌≤◌, true, false, List, length, drop, Ok, Err, refl, ap, arith, nat_lt, ◌==◌, ◌||◌, slice_range, nat_tests, length-drop, drop-drop}
 use Rattle.jass_base.specs.Wire.{WireValue, Eight, Four}
 use Rattle.wire_fields.specs.declared.fault.WireWhy.{WireWhy}
 use Rattle.wire_fields.specs.declared.fault.WireWhy.TheVariants.{FieldNumber}

@@ -1,13 +1,11 @@
 -- What is read as a varint is one, and each varint is read.
-use Rattle.std.proofs.Common.{◌≡◌, ℕ, zero, suc, ◌+◌, ◌*◌, ◌^◌, ◌%◌, ◌<◌, ◌≤◌, Bool, true, false, cond, List, [], ◌∷◌, ◌++◌, length, Result, Ok, Err, refl, sym, ap, ◌∙◌, arith}
-use Rattle.std.specs.Prelude.{nat_lt}
-use Rattle.std.proofs.lemmas.Bool.Decides.{nat_tests}
-use Rattle.std.proofs.Math.Nat.{pow-suc}
+use Rattle.shared_lemmas.proofs.Common.{◌≡◌, ℕ, zero, suc, ◌+◌, ◌*◌, ◌^◌, ◌%◌, ◌<◌, ◌≤◌, Bool, true, false, cond, List, [], ◌∷◌, ◌++◌, length, Result, Ok, Err, refl, sym, ap, ◌∙◌, arith, nat_lt, nat_tests, pow-suc}
 use Rattle.shared_lemmas.proofs.Numbers.{power_some}
 use Rattle.jass_base.specs.Wire.{AreGroups, IsVarint, groups_value}
 use Rattle.wire_fields.specs.declared.fault.WireWhy.{WireWhy}
 use Rattle.wire_fields.specs.declared.fault.WireWhy.TheVariants.{LongVarint}
 use Rattle.wire_fields.specs.Reading.{◌>>=◌, varint_at, varint_within}
+use Rattle.shared_lemmas.proofs.Results.{if_ok}
 
 abbrev read_as : ℕ → List ℕ → Result (ℕ × List ℕ) WireWhy
 read_as n rest = Ok (n, rest)
@@ -21,22 +19,12 @@ pub record Stands (k : ℕ) (bytes : List ℕ) (n : ℕ) (rest : List ℕ) : Typ
   pub value : n ≡ groups_value s
 
 pub same_read : (n m : ℕ) (rest other : List ℕ) → read_as n rest ≡ read_as m other → (n ≡ m) × (rest ≡ other)
-same_read n m rest other is =
-    let pair : (n, rest) ≡ (m, other) = cc in
-    (ap (λ (p : ℕ × List ℕ). p.0) pair, ap (λ (p : ℕ × List ℕ). p.1) pair)
+same_read n m rest other is = let pair : (n, rest) ≡ (m, other) = cc in (ap (λ (p : ℕ × List ℕ). p.0) pair, ap (λ (p : ℕ × List ℕ). p.1) pair)
 
 -- a step that was read
 pub bound : {A B : Type 0} (r : Result A WireWhy) (f : A → Result B WireWhy) (y : B) → (r >>= f) ≡ Ok y → (x : A) × (r ≡ Ok x) × (f x ≡ Ok y)
 bound (Ok x) f y is = (x, refl, is)
 bound (Err why) f y is = absurd cc
-
-pub unless_ok : {A : Type 0} (test : Bool) (why : WireWhy) (r : Result A WireWhy) (y : A) → cond test (Err why) r ≡ Ok y → (test ≡ false) × (r ≡ Ok y)
-unless_ok true why r y is = absurd cc
-unless_ok false why r y is = (refl, is)
-
-if_ok : {A : Type 0} (test : Bool) (r : Result A WireWhy) (why : WireWhy) (y : A) → cond test r (Err why) ≡ Ok y → (test ≡ true) × (r ≡ Ok y)
-if_ok true r why y is = (refl, is)
-if_ok false r why y is = absurd cc
 
 one_stands : (k b : ℕ) (rest after : List ℕ) (n : ℕ) → b < 128 → read_as b rest ≡ read_as n after → Stands (suc k) (b ∷ rest) n after
 one_stands k b rest after n small is =
@@ -75,10 +63,9 @@ fits : (k : ℕ) (bytes : List ℕ) (n : ℕ) (rest : List ℕ) → varint_withi
 fits k [] n rest is = absurd cc
 fits zero (b ∷ bytes) n rest is =
     let t = if_ok (nat_lt b 2) (Ok (b, bytes)) LongVarint (n, rest) is in
-    let low = t.0 in
     let small : b < 2 = grind (arith, nat_tests) in
     let e = same_read b n bytes rest t.1 in
-    omega (arith, e.0)
+    omega (arith, e.0, t.0)
 fits (suc k) (b ∷ bytes) n rest is = go (nat_lt b 128) refl is (λ m after h. fits k bytes m after h)
   where
     go : (test : Bool) → nat_lt b 128 ≡ test → cond test (read_as b bytes) (varint_within (suc k) bytes >>= λ x. read_as (b % 128 + 128 * x.0) x.1) ≡ read_as n rest
@@ -86,13 +73,11 @@ fits (suc k) (b ∷ bytes) n rest is = go (nat_lt b 128) refl is (λ m after h. 
     go true low is more =
         let small : b < 128 = grind (arith, nat_tests) in
         let e = same_read b n bytes rest is in
-        let some = power_some k in
-        omega (arith, e.0, pow-suc 128 k, some)
+        omega (arith, e.0, pow-suc 128 k, power_some k)
     go false low is more =
         let x = bound (varint_within (suc k) bytes) (λ x. read_as (b % 128 + 128 * x.0) x.1) (n, rest) is in
         let e = same_read (b % 128 + 128 * x.0.0) n x.0.1 rest x.2 in
-        let inner = more x.0.0 x.0.1 x.1 in
-        omega (arith, e.0, pow-suc 128 k, inner)
+        omega (arith, e.0, pow-suc 128 k, more x.0.0 x.0.1 x.1)
 
 -- each varint is read
 again : (k : ℕ) (s rest : List ℕ) → AreGroups s → length s ≤ suc k → groups_value s < 2 * 128 ^ k → varint_within (suc k) (s ++ rest) ≡ Ok (groups_value s, rest)

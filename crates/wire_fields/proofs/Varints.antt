@@ -1,9 +1,5 @@
 -- A varint that is read group by group.
-use Rattle.std.proofs.Common.{◌≡◌, ℕ, suc, ◌+◌, ◌-◌, ◌*◌, ◌^◌, ◌%◌, ◌<◌, ◌≤◌, true, false, List, [], length, get_or, take, drop, Result, Ok, Err, refl, sym, ap, ◌∙◌, add-one, arith, drop-cons}
-use Rattle.std.specs.Prelude.{nat_lt}
-use Rattle.std.proofs.lemmas.Bool.Decides.{nat_tests}
-use Rattle.std.proofs.lemmas.List.{drop_all, take_all, length-drop, drop-drop}
-use Rattle.std.proofs.Math.Nat.{pow-suc}
+use Rattle.shared_lemmas.proofs.Common.{◌≡◌, ℕ, suc, ◌+◌, ◌-◌, ◌*◌, ◌^◌, ◌%◌, ◌<◌, ◌≤◌, true, false, List, [], length, get_or, take, drop, Result, Ok, Err, refl, sym, ap, ◌∙◌, add-one, arith, drop-cons, nat_lt, nat_tests, drop_all, take_all, length-drop, drop-drop, pow-suc}
 use Rattle.shared_lemmas.proofs.Numbers.{value_small}
 use Rattle.wire_fields.specs.declared.fault.WireWhy.{WireWhy}
 use Rattle.wire_fields.specs.declared.fault.WireWhy.TheVariants.{Cut, LongVarint}
@@ -26,10 +22,7 @@ small_byte b high low = omega arith
 
 -- the bytes from a place on, one by one
 pub cut_short : (s : List ℕ) (i : ℕ) → i < 10 → length s ≤ i → varint_within (10 - i) (drop i s) ≡ Err Cut
-cut_short s i few short =
-    let left : 10 - i ≡ suc (9 - i) = omega arith in
-    let none : drop i s ≡ [] = drop_all i s short in
-    rw (left, none) refl
+cut_short s i few short = let left : 10 - i ≡ suc (9 - i) = omega arith in let none : drop i s ≡ [] = drop_all i s short in rw (left, none) refl
 
 pub last_group : (s : List ℕ) (i : ℕ) → i < 9 → i < length s → get_or s i 0 < 128 → varint_within (10 - i) (drop i s) ≡ Ok (get_or s i 0, drop (i + 1) s)
 last_group s i few inside small =
@@ -46,14 +39,10 @@ one_group s i few inside high byte =
     rw (next, add-one, left, drop-cons s i 0 inside, large, small_byte (get_or s i 0) high byte) refl
 
 pub tenth_small : (s : List ℕ) (i : ℕ) → i ≡ 9 → 9 < length s → get_or s 9 0 < 2 → varint_within (10 - i) (drop i s) ≡ Ok (get_or s 9 0, drop 10 s)
-tenth_small s i is inside small =
-    let low : nat_lt (get_or s 9 0) 2 ≡ true = grind (arith, nat_tests) in
-    rw (is, drop-cons s 9 0 inside, low) refl
+tenth_small s i is inside small = let low : nat_lt (get_or s 9 0) 2 ≡ true = grind (arith, nat_tests) in rw (is, drop-cons s 9 0 inside, low) refl
 
 pub tenth_large : (s : List ℕ) (i : ℕ) → i ≡ 9 → 9 < length s → 2 ≤ get_or s 9 0 → varint_within (10 - i) (drop i s) ≡ Err LongVarint
-tenth_large s i is inside large =
-    let high : nat_lt (get_or s 9 0) 2 ≡ false = grind (arith, nat_tests) in
-    rw (is, drop-cons s 9 0 inside, high) refl
+tenth_large s i is inside large = let high : nat_lt (get_or s 9 0) 2 ≡ false = grind (arith, nat_tests) in rw (is, drop-cons s 9 0 inside, high) refl
 
 -- a slice to the end
 pub to_end : (bytes : List ℕ) (at : ℕ) → take (length bytes - at) (drop at bytes) ≡ drop at bytes

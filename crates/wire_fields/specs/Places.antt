@@ -1,12 +1,11 @@
 -- What is read at a place of the bytes.
 use Rattle.std.specs.Prelude.{ℕ, ◌≡◌, ◌≤◌, ◌<◌, ◌+◌, ◌^◌, List, length, drop, Result, Ok, Err, Option, Some, None, slice_range}
 use Rattle.jass_base.specs.Wire as wire
-use Rattle.wire_fields.specs.declared.fault.WireWhy.{WireWhy}
 use Rattle.wire_fields.specs.declared.fault.WireFault.{WireFault}
 use Rattle.wire_fields.specs.declared.field.Field.{Field}
 use Rattle.wire_fields.specs.declared.field.Value.{Value}
 use Rattle.wire_fields.specs.declared.field.Value.TheVariants.{Varint, Eight, Bytes, Four}
-use Rattle.wire_fields.specs.Reading.{varint_at, value_at, field_at}
+use Rattle.wire_fields.specs.Reading.{varint_at, field_at}
 
 -- the bytes of the value end at the place behind the field
 abbrev pub IsWithin : Value → ℕ → Type 0
@@ -30,11 +29,6 @@ field_in bytes f = record { number = f.number; value = value_in bytes f.value }
 abbrev pub ReadsVarint : List ℕ → ℕ → Result (ℕ × ℕ) WireFault → Type 0
 ReadsVarint bytes at (Ok x) = (varint_at (drop at bytes) ≡ Ok (x.0, drop x.1 bytes)) × (at < x.1) × (x.1 ≤ length bytes) × (x.0 < 2 ^ 64)
 ReadsVarint bytes at (Err fault) = (varint_at (drop at bytes) ≡ Err fault.why) × (fault.at ≡ at)
-
--- the value at a place is read, and the place behind it given
-abbrev pub ReadsValue : ℕ → List ℕ → ℕ → Result (Value × ℕ) WireWhy → Type 0
-ReadsValue wire bytes at (Ok x) = (value_at wire (drop at bytes) ≡ Ok (value_in bytes x.0, drop x.1 bytes)) × (at ≤ x.1) × (x.1 ≤ length bytes) × IsWithin x.0 x.1
-ReadsValue wire bytes at (Err why) = value_at wire (drop at bytes) ≡ Err why
 
 -- the field at a place is read, and the place behind it given
 abbrev pub ReadsField : List ℕ → ℕ → Result (Option Field) WireFault → Type 0

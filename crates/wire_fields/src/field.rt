@@ -1,6 +1,7 @@
 ghost use Rattle.std.specs.Prelude.{ℕ, ◌≡◌, ◌≤◌, List, length};
 ghost use Rattle.jass_base.specs.Wire.{number_after, text_after, eight_after};
-ghost use Rattle.wire_fields.specs.Places.{IsWithin, ReadsField, ReadsValue, field_in};
+ghost use Rattle.wire_fields.specs.Places.{IsWithin, ReadsField, field_in};
+ghost use Rattle.wire_fields.specs.Private.Places.{ReadsValue};
 
 use crate::fault::{WireFault, WireWhy};
 use crate::varint::read_varint;
@@ -84,10 +85,7 @@ pub fn next_field(bytes: &[u8], at: usize) -> Result<Option<Field>, WireFault>
     if at == bytes.len() {
         return Ok(None);
     }
-    let (tag, from) = match read_varint(bytes, at) {
-        Ok(read) => read,
-        Err(fault) => return Err(fault),
-    };
+    let (tag, from) = read_varint(bytes, at)?;
     let number = tag / 8;
     if number == 0 || number > 536_870_911 {
         return Err(WireFault {

@@ -1,5 +1,5 @@
 -- What the postings of a list keep while they are gathered.
-use Rattle.std.specs.Prelude.{ℕ, ◌+◌, length, ◌≡◌, ◌<◌, ◌≤◌, ◌^◌, List, All}
+use Rattle.std.specs.Prelude.{ℕ, ◌+◌, length, ◌≡◌, ◌<◌, ◌≤◌, List, All}
 use Rattle.std.specs.List.Sorted.{IsStrictlyIncreasing}
 use Rattle.jass_base.specs.declared.posting.Posting.{Posting}
 use Rattle.jass_base.specs.Postings.{docs_of, HasTfInRange}

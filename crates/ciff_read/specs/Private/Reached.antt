@@ -16,7 +16,7 @@ use Rattle.ciff_read.specs.Marks.{is_marked}
 use Rattle.ciff_read.specs.Pieces.{FileHeader, ListInFile, DocInFile, header_of_file, list_of_file, doc_of_file, terms_kept}
 use Rattle.ciff_read.specs.Private.Places.{start_data}
 use Rattle.ciff_read.specs.Reaching.{FailsReading}
-use Rattle.ciff_read.specs.Window.{Shows}
+use Rattle.ciff_read.specs.Private.Window.{Shows}
 
 -- what a function answers, seen by view, is what reading gives; a read fault or want of memory may come instead
 abbrev pub GivesReading : {X Y : Type 0} → (X → Y) → Result X CiffFault → Result Y CiffRefusal → Type 0

@@ -3,7 +3,7 @@ use Rattle.std.specs.Prelude.{ℕ, ◌≤◌, ◌^◌, List, length, map, slice_
 use Rattle.jass_base.specs.Terms.{BytesRise}
 use Rattle.ciff_read.specs.declared.kept_lists.ListPlace.{ListPlace}
 use Rattle.ciff_read.specs.declared.rising_lists.KeptTerm.{KeptTerm}
-use Rattle.ciff_read.specs.KeptEntries.{terms_in}
+use Rattle.ciff_read.specs.Private.KeptEntries.{terms_in}
 
 -- the term of a list, which stands within the bytes
 abbrev pub term_of : List ℕ → KeptTerm → List ℕ

@@ -1,10 +1,10 @@
 -- The parts of an index from which an export is put together.
-use Rattle.std.specs.Prelude.{ℕ, List, [], map, length}
+use Rattle.std.specs.Prelude.{ℕ, List, [], map}
 use Rattle.std.specs.List.{slice_index_or, sum_by}
 use Rattle.jass_base.specs.Ciff.{DocData}
 use Rattle.jass_base.specs.declared.posting.Posting.{Posting}
 use Rattle.jass_base.specs.declared.postings_list.PostingsList.{PostingsList}
-use Rattle.index_model.specs.Index.{SegmentData, TermData}
+use Rattle.index_model.specs.Index.{TermData}
 
 -- the term with a number
 abbrev pub term_with : List TermData → ℕ → TermData
@@ -21,7 +21,3 @@ name_records names = map (λ (name : List ℕ). record { name = name; length = 0
 -- the sum of the lists' cf
 abbrev pub cf_sum : List PostingsList → ℕ
 cf_sum lists = sum_by (λ (l : PostingsList). l.cf) lists
-
--- how many documents segments have
-abbrev pub docs_count : List SegmentData → ℕ
-docs_count segments = sum_by (λ (s : SegmentData). length s.docs) segments

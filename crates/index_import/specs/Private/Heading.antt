@@ -24,10 +24,10 @@ terms_there content docs w bits range lists = map (term_there content docs w bit
 abbrev pub places_of : List ListEntry → List Place
 places_of lists = map (λ (e : ListEntry). e.place) lists
 
--- the payloads of some terms, where they were kept
-abbrev pub AreKept : Option (List ℕ) → ℕ → List TermData → Type 0
-AreKept None docs terms = ⊤
-AreKept (Some bytes) docs terms = bytes ≡ table_payloads docs terms
+-- bytes that were kept, where there are any, are the payloads of some terms
+abbrev pub ArePayloads : Option (List ℕ) → ℕ → List TermData → Type 0
+ArePayloads None docs terms = ⊤
+ArePayloads (Some bytes) docs terms = bytes ≡ table_payloads docs terms
 
 -- the payloads of one term more, where they are kept still
 abbrev pub KeepsMore : Option (List ℕ) → List ℕ → Option (List ℕ) → Type 0
@@ -39,7 +39,7 @@ KeepsMore (Some before) part (Some after) = after ≡ before ++ part
 pub record AreHeads (files : Option Files) (name : List ℕ) (docs : ℕ) (w : Weighing) (bits : Bits) (range : Range) (lists : List ListEntry) (heads : List TermHeads) (kept : Option (List ℕ)) : Type 0 where
   pub terms : List TermData
   pub heads_are : map entry_data heads ≡ chosen_terms docs terms
-  pub payloads_are : AreKept kept docs terms
+  pub payloads_are : ArePayloads kept docs terms
   pub told : ForContent files name (λ content. terms ≡ terms_there content docs w bits range lists)
 
 -- a refusal comes only for a weight of one of the lists outside the range

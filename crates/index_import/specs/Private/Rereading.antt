@@ -47,10 +47,6 @@ MakesOf w bits range postings (Err fault) = FailsOf w bits range postings fault
 abbrev pub IsInside : List ℕ → ℕ → Weighing → Bits → Range → ℕ → Type 0
 IsInside content docs w bits range at = HasNoneOutside w bits range (list_there content docs at).postings
 
--- it is refused only for a weight outside the range
-abbrev pub FailsInside : List ℕ → ℕ → Weighing → Bits → Range → ℕ → CiffFault → Type 0
-FailsInside content docs w bits range at fault = FailsOf w bits range (list_there content docs at).postings fault
-
--- its segments, or why there are none
+-- the segments of that list, or why there are none
 abbrev pub MakesSegments : List ℕ → ℕ → Weighing → Bits → Range → ℕ → Result (List Segment) CiffFault → Type 0
 MakesSegments content docs w bits range at result = MakesOf w bits range (list_there content docs at).postings result

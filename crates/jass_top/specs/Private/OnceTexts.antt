@@ -7,7 +7,7 @@ use Rattle.session_engine.specs.declared.session.Session.{Session}
 use Rattle.jass_words.specs.Words.{texts}
 use Rattle.jass_top.specs.declared.question.Question.{Question}
 use Rattle.jass_top.specs.Answers.{OnceQuery}
-use Rattle.jass_top.specs.SearchTexts.{report_text}
+use Rattle.jass_top.specs.Private.SearchRuns.{report_text}
 
 -- a question as plain data
 abbrev pub once_of : Question → OnceQuery

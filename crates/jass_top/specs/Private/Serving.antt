@@ -1,5 +1,5 @@
 -- How far the lines of an input are served.
-use Rattle.std.specs.Prelude.{ℕ, ◌≡◌, ◌≤◌, ◌+◌, ◌^◌, true, false, List, [], ◌++◌, length, IfErr, Option, Result, Ok, Err, if◌then◌else◌}
+use Rattle.std.specs.Prelude.{ℕ, ◌≡◌, ◌≤◌, ◌+◌, true, false, List, [], ◌++◌, length, IfErr, Option, Result, Ok, Err, if◌then◌else◌}
 use Rattle.std.specs.List.{concat}
 use Rattle.std.specs.Str.Lines.{strip_carriage_return}
 use Rattle.jass_base.specs.Outside.{Rest, Rose}
@@ -14,8 +14,10 @@ use Rattle.session_desk.specs.Turns.{desk_postings, desk_replies, replies_from, 
 use Rattle.jass_base.specs.declared.faults.WriteFault.{WriteFault}
 use Rattle.jass_top.specs.declared.serve_stop.ServeStop.{ServeStop}
 use Rattle.jass_top.specs.declared.serve_stop.ServeStop.TheVariants as stops
-use Rattle.jass_top.specs.ServeMeaning.{Serves, TakesFront, has_end}
+use Rattle.jass_top.specs.ServeMeaning.{TakesFront, has_end}
+use Rattle.jass_top.specs.Private.ServeRuns.{Serves}
 use Rattle.jass_top.specs.Private.Sides.{Side}
+use Rattle.jass_words.specs.declared.word_limits.TheConstants.{MOST_TAKEN}
 
 -- the line that is handed to a desk: none of its bytes where it is too long
 abbrev pub given_line : Waiting → List ℕ → List ℕ
@@ -32,14 +34,14 @@ pub record Standing (file : FileView) (frames : ℕ) (taken said : List ℕ) (sc
   pub pending : List ℕ
   pub here : Passed taken passed pending
   pub holds : Holds w pending
-  pub counted : length taken + w.left ≡ 2 ^ 30
+  pub counted : length taken + w.left ≡ MOST_TAKEN
   pub endless : has_end passed ≡ false
   pub replies : (rest : List (List ℕ)) → desk_replies file frames (passed ++ rest) ≡ said ++ text_from file state rest
   pub steps : (rest : List (List ℕ)) → desk_postings file frames (passed ++ rest) ≡ scored + steps_from file state rest
 
 -- a line `end` was answered
 pub record Finished (file : FileView) (frames : ℕ) (taken said : List ℕ) (scored : ℕ) : Type 0 where
-  pub size : length taken ≤ 2 ^ 30
+  pub size : length taken ≤ MOST_TAKEN
   pub ended : (more : List ℕ) → has_end (ended_lines (taken ++ more)) ≡ true
   pub replies : (more : List ℕ) → desk_replies file frames (lines_of (taken ++ more)) ≡ said
   pub steps : (more : List ℕ) → desk_postings file frames (lines_of (taken ++ more)) ≡ scored

@@ -1,4 +1,4 @@
-ghost use Rattle.std.specs.Prelude.{ℕ, ◌≡◌, ◌≤◌, ◌↔◌, List, [], length, take, drop};
+ghost use Rattle.std.specs.Prelude.{ℕ, List};
 ghost use Rattle.jass_base.specs.Codecs.{GivesAll, HandsOver};
 ghost use Rattle.plain_codecs.specs.Bitmap.{bitmap_of};
 ghost use Rattle.plain_codecs.specs.BitmapCursor.{Gives};

@@ -1,6 +1,6 @@
 //! The payloads that are read are those of lists of documents.
 
-ghost use Rattle.std.specs.Prelude.{ℕ, ◌≡◌, ◌≤◌, ◌<◌, ◌^◌, List, length, All, Ok};
+ghost use Rattle.std.specs.Prelude.{ℕ, ◌≡◌, ◌≤◌, ◌<◌, List, length, All, Ok};
 ghost use Rattle.jass_base.specs.Gaps.{AreDocs};
 ghost use Rattle.lane_kernels.specs.Bitmap.{set_bits};
 ghost use Rattle.plain_codecs.specs.Bitmap.{bitmap_of, bitmap_size, read_bitmap};

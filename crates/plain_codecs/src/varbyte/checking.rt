@@ -1,4 +1,4 @@
-ghost use Rattle.std.specs.Prelude.{ℕ, ◌≡◌, ◌≤◌, ◌-◌, ◌*◌, ◌^◌, length, drop, sum, IfOk, IfErr, Err};
+ghost use Rattle.std.specs.Prelude.{ℕ, ◌≡◌, ◌≤◌, ◌-◌, ◌*◌, length, drop, sum, IfOk, IfErr, Err};
 ghost use Rattle.jass_base.specs.Codecs.{Checks, IsDocCount};
 ghost use Rattle.jass_base.specs.Gaps.{Judges, read_gaps};
 ghost use Rattle.plain_codecs.specs.Private.Runs.{Continues};
@@ -31,10 +31,7 @@ fn judge(bytes: &[u8], count: u32, d: u32) -> Result<(), PayloadFault>
     let mut left = count;
     while left > 0 {
         let part = left.min(16);
-        place = match skip(bytes, place, part, d) {
-            Ok(behind) => behind,
-            Err(fault) => return Err(fault),
-        };
+        place = skip(bytes, place, part, d)?;
         left -= part;
     }
     if place.at < bytes.len() {
@@ -108,10 +105,7 @@ fn skip_each(bytes: &[u8], from: Place, count: u32, d: u32) -> Result<Place, Pay
     let mut at = from.at;
     let mut least = from.least;
     for _ in 0..count {
-        let (gap, next) = match read_gap(bytes, at) {
-            Ok(read) => read,
-            Err(fault) => return Err(fault),
-        };
+        let (gap, next) = read_gap(bytes, at)?;
         if least + gap >= d {
             return Err(PayloadFault::DocRange);
         }

@@ -1,4 +1,4 @@
-ghost use Rattle.std.specs.Prelude.{◌≡◌, ◌≤◌, ◌^◌, length, take, IfOk, IsTrue, Ok};
+ghost use Rattle.std.specs.Prelude.{◌≡◌, ◌≤◌, length, take, IfOk, IsTrue, Ok};
 ghost use Rattle.jass_base.specs.Codecs.{ChecksInto, IsDocCount};
 ghost use Rattle.jass_base.specs.Gaps.{Judges};
 ghost use Rattle.plain_codecs.specs.Varbyte.{varbyte_of, read_varbyte};
@@ -31,10 +31,7 @@ fn hand_out(bytes: &[u8], count: u32, d: u32, out: &mut [u32]) -> Result<(), Pay
     let mut at = 0;
     let mut least = 0;
     'docs: for i in 0..count as usize {
-        let (gap, next) = match read_gap(bytes, at) {
-            Ok(read) => read,
-            Err(fault) => return Err(fault),
-        };
+        let (gap, next) = read_gap(bytes, at)?;
         let doc = least + gap;
         if doc >= d {
             return Err(PayloadFault::DocRange);

@@ -1,6 +1,6 @@
 //! The payloads that are read are those of lists of documents.
 
-ghost use Rattle.std.specs.Prelude.{ℕ, ◌≡◌, ◌≤◌, ◌<◌, ◌^◌, List, length, All, Ok};
+ghost use Rattle.std.specs.Prelude.{ℕ, ◌≡◌, ◌≤◌, ◌<◌, List, length, All, Ok};
 ghost use Rattle.jass_base.specs.Gaps.{AreDocs};
 ghost use Rattle.plain_codecs.specs.Varbyte.{varbyte_of, read_varbyte};
 ghost use Rattle.jass_base.specs.declared.limits.TheConstants.{MOST_DOCUMENTS};

@@ -1,5 +1,5 @@
 // Gaps in a row: read from bytes, and made into documents.
-ghost use Rattle.std.specs.Prelude.{ℕ, ◌≡◌, ◌+◌, ◌-◌, ◌≤◌, ◌<◌, ◌^◌, List, length, take, drop, sum, ◌++◌, All, IsTrue, IsFalse, IfSome};
+ghost use Rattle.std.specs.Prelude.{ℕ, ◌≡◌, ◌+◌, ◌-◌, ◌≤◌, ◌<◌, List, length, take, drop, sum, ◌++◌, All, IsTrue, IsFalse, IfSome};
 ghost use Rattle.jass_base.specs.Gaps.{docs_from};
 ghost use Rattle.plain_codecs.specs.Private.Runs.{IsRun};
 ghost use Rattle.jass_base.specs.declared.limits.TheConstants.{MOST_DOCUMENTS};

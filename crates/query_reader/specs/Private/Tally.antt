@@ -5,7 +5,8 @@ use Rattle.query_reader.specs.declared.refusal.QueryWhy.{QueryWhy}
 use Rattle.query_reader.specs.declared.refusal.LineFault.{LineFault}
 use Rattle.query_reader.specs.declared.refusal.LineFault.TheVariants as line_faults
 use Rattle.query_reader.specs.Mentions.{Mention, term_number}
-use Rattle.query_reader.specs.Refusals.{◌>>=◌, LineFails}
+use Rattle.query_reader.specs.Refusals.{◌>>=◌}
+use Rattle.query_reader.specs.Private.Lines.{LineFails}
 use Rattle.query_reader.specs.Reading.{broken_limit, unless}
 
 -- the terms with one of them named by a factor more, or behind the others where it isn't among them

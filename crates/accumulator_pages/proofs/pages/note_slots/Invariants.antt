@@ -1,5 +1,4 @@
-use Rattle.std.proofs.Common.{◌≡◌, ◌+◌, ◌-◌, ◌%◌, ◌≤◌, ◌++◌, length, drop, get_or}
-use Rattle.std.specs.List.{flat_map}
+use Rattle.shared_lemmas.proofs.Common.{◌≡◌, ◌+◌, ◌-◌, ◌%◌, ◌≤◌, ◌++◌, length, drop, get_or, flat_map}
 use Rattle.accumulator_pages.specs.Adding.{crossed}
 use Rattle.accumulator_pages.proofs.pages.note_slots.Given as goal
 

@@ -7,9 +7,7 @@ returns-clause-other_stands g c =
     c.calls_on_other_chains_leave_pages.ensures.stands c.args.other.now _ _ _ c.add_small.ensures.leaves.others c.requires.apart c.requires.other_stands
 
 pub returns-clause-other_view : goal.returns-clause-other_view
-returns-clause-other_view g c =
-    c.calls_on_other_chains_leave_pages.ensures.view c.args.other.now _ _ _ c.add_small.ensures.leaves.others c.requires.apart
+returns-clause-other_view g c = c.calls_on_other_chains_leave_pages.ensures.view c.args.other.now _ _ _ c.add_small.ensures.leaves.others c.requires.apart
 
 pub returns-clause-promise : goal.returns-clause-promise
-returns-clause-promise g c =
-    ap (λ (x : ℕ). (chain_view c.add_small.new.pool x).promise) c.add_small.ensures.same.chain ∙ c.add_small.ensures.leaves.promise
+returns-clause-promise g c = ap (λ (x : ℕ). (chain_view c.add_small.new.pool x).promise) c.add_small.ensures.same.chain ∙ c.add_small.ensures.leaves.promise

@@ -1,8 +1,5 @@
-use Rattle.std.proofs.Common.{◌≡◌, List, ℕ, Result, Ok, Err, subst}
-use Rattle.std.specs.Prelude.{IfOk}
-use Rattle.jass_base.specs.declared.collection.Collection.{Collection}
-use Rattle.jass_base.specs.Ciff.{CollectionData, IsCiff}
-use Rattle.jass_base.specs.CiffViews.{collection_data}
+use Rattle.std.proofs.Common.{◌≡◌, List, ℕ, Result, Ok, Err, subst, IfOk}
+use Rattle.ciff_read.proofs.Below.{Collection, CollectionData, IsCiff, collection_data}
 use Rattle.ciff_read.specs.declared.refusal.CiffFault.{CiffFault}
 use Rattle.ciff_read.specs.declared.refusal.CiffRefusal.{CiffRefusal}
 use Rattle.ciff_read.specs.Reading.{read_ciff}

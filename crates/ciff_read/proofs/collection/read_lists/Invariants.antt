@@ -1,7 +1,5 @@
-use Rattle.std.proofs.Common.{◌≡◌, ◌-◌, ◌≤◌, ◌^◌, [], length, drop, All, map}
-use Rattle.std.specs.Prelude.{AllPairs}
-use Rattle.jass_base.specs.CiffViews.{list_data}
-use Rattle.jass_base.specs.Lists.{HasDocsBelow, DifferInTerm}
+use Rattle.std.proofs.Common.{◌≡◌, ◌-◌, ◌≤◌, ◌^◌, [], length, drop, All, map, AllPairs}
+use Rattle.ciff_read.proofs.Below.{list_data, HasDocsBelow, DifferInTerm}
 use Rattle.ciff_read.specs.Reading.{lists_at}
 use Rattle.ciff_read.specs.Counts.{posting_count}
 use Rattle.ciff_read.proofs.Sequences.{with_lists}

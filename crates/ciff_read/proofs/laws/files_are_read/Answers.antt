@@ -5,12 +5,9 @@ use Rattle.ciff_read.proofs.laws.files_are_read.Goals as goal
 
 pub returns : goal.returns
 returns c =
-    let laws : WireLaws = record {
-      varint_found = c.varints_are_read.ensures.found;
-      varint_only = c.varints_are_read.ensures.only;
-      field_found = c.fields_are_read.ensures.found;
-      field_only = c.fields_are_read.ensures.only;
-    } in
+    let varints = c.varints_are_read.ensures in
+    let fields = c.fields_are_read.ensures in
+    let laws : WireLaws = record { varint_found = varints.found; varint_only = varints.only; field_found = fields.found; field_only = fields.only } in
     record {
       found = λ bytes x is. file_found laws bytes x is;
       only = λ bytes x is. file_read laws bytes x is;

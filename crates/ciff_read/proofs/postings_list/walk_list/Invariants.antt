@@ -1,5 +1,4 @@
-use Rattle.std.proofs.Common.{◌≡◌, ◌-◌, length}
-use Rattle.std.specs.Prelude.{fold}
+use Rattle.std.proofs.Common.{◌≡◌, ◌-◌, length, fold}
 use Rattle.ciff_read.specs.Judging.{gather}
 use Rattle.ciff_read.specs.Private.Places.{gathered_of}
 use Rattle.ciff_read.specs.Walking.{entry_inside}

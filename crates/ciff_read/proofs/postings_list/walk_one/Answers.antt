@@ -1,5 +1,4 @@
-use Rattle.std.proofs.Common.{◌∙◌, ap, sym, arith, length, List, ℕ}
-use Rattle.std.specs.Str.{is_utf8}
+use Rattle.shared_lemmas.proofs.Common.{◌∙◌, ap, sym, arith, length, List, ℕ, is_utf8}
 use Rattle.ciff_read.specs.Judging.{ListStart, judge_list}
 use Rattle.ciff_read.specs.Private.Places.{list_start_in, gathered_of}
 use Rattle.ciff_read.specs.Refusals.{placed}
@@ -23,11 +22,10 @@ pub returns-then-term-gt-LONGEST_TERM-clause-refused : goal.returns-then-term-gt
 returns-then-term-gt-LONGEST_TERM-clause-refused c =
     let r = c.in-Ok-walk_list.ensures.read in
     let start = list_start_in c.in-Ok-walk_list.fields in
-    let text = c.in-Some.ensures in
     λ terms.
     list_judged_not c.args.bytes.now c.args.body c.args.at c.args.docs c.args.before terms (record { start = start; entries = r.entries }) r.read c.refused-then-term-gt-LONGEST_TERM.result
     (refuses c.refused-then-term-gt-LONGEST_TERM.result _ (placed c.args.at (judge_list terms start)) c.refused-then-term-gt-LONGEST_TERM.ensures
-    (long_text c.args.at terms start text.1 (omega (arith, c.if-term-gt-LONGEST_TERM.true, ap length text.0))))
+    (long_text c.args.at terms start c.in-Some.ensures.1 (omega (arith, c.if-term-gt-LONGEST_TERM.true, ap length c.in-Some.ensures.0))))
 
 pub returns-clause-walked : goal.returns-clause-walked
 returns-clause-walked c =

@@ -1,5 +1,4 @@
-use Rattle.std.proofs.Common.{◌∙◌, ap, not}
-use Rattle.std.specs.Str.{bytes_eq}
+use Rattle.std.proofs.Common.{◌∙◌, ap, not, bytes_eq}
 use Rattle.ciff_read.proofs.TermLists.{any_map}
 use Rattle.ciff_read.proofs.terms.add_term.Goals as goal
 

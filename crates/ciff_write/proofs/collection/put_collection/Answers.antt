@@ -1,9 +1,7 @@
-use Rattle.std.proofs.Common.{List, length, refl, sym, subst}
-use Rattle.gathered_text.proofs.Compose.{gather_cut, gather_then, gather_same}
+use Rattle.std.proofs.Common.{List, length, refl, sym, subst, All, ◌≤◌, ◌^◌}
+use Rattle.ciff_write.proofs.Below.{gather_cut, gather_then, gather_same, PostingsList}
 use Rattle.ciff_write.proofs.Fields.{file_spelled}
 use Rattle.ciff_write.proofs.Postings.{few_postings}
-use Rattle.std.specs.Prelude.{All, ◌≤◌, ◌^◌}
-use Rattle.jass_base.specs.declared.postings_list.PostingsList.{PostingsList}
 use Rattle.ciff_write.proofs.collection.put_collection.Goals as goal
 
 pub returns-in_err-put_header : goal.returns-in_err-put_header

@@ -1,7 +1,5 @@
 use Rattle.std.proofs.Common.{◌≡◌, ℕ, List, length, ap, ◌∙◌, arith}
-use Rattle.jass_base.specs.Ciff.{DocData}
-use Rattle.jass_base.specs.CiffViews.{doc_data}
-use Rattle.jass_base.specs.CiffText.{number_spelling, text_spelling}
+use Rattle.ciff_write.proofs.Below.{DocData, doc_data, number_spelling, text_spelling}
 use Rattle.ciff_write.proofs.Fields.{three_long}
 use Rattle.ciff_write.proofs.document.doc_len.Goals as goal
 

@@ -1,7 +1,5 @@
 use Rattle.std.proofs.Common.{refl}
-use Rattle.jass_base.specs.Ciff.{DocData}
-use Rattle.jass_base.specs.CiffViews.{doc_data}
-use Rattle.gathered_text.proofs.Compose.{gather_cut, gather_then, gather_same}
+use Rattle.ciff_write.proofs.Below.{DocData, doc_data, gather_cut, gather_then, gather_same}
 use Rattle.ciff_write.proofs.Fields.{doc_spelled}
 use Rattle.ciff_write.proofs.document.put_doc.Goals as goal
 

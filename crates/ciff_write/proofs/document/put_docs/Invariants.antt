@@ -1,7 +1,5 @@
 use Rattle.std.proofs.Common.{◌≡◌, drop, map}
-use Rattle.jass_base.specs.CiffText.{docs_spelling}
-use Rattle.jass_base.specs.CiffViews.{doc_data}
-use Rattle.gathered_text.proofs.Compose.{GathersUpTo}
+use Rattle.ciff_write.proofs.Below.{docs_spelling, doc_data, GathersUpTo}
 use Rattle.ciff_write.proofs.document.put_docs.Given as goal
 
 abbrev pub invariant-loop-doc : goal.invariant-loop-doc

@@ -1,6 +1,5 @@
 use Rattle.std.proofs.Common.{[]}
-use Rattle.jass_base.specs.CiffText.{number_spelling}
-use Rattle.gathered_text.proofs.Compose.{gather_cut}
+use Rattle.ciff_write.proofs.Below.{number_spelling, gather_cut}
 use Rattle.ciff_write.proofs.gather.put_number.Goals as goal
 
 pub returns-in_err-make_room : goal.returns-in_err-make_room

@@ -1,9 +1,6 @@
-use Rattle.std.proofs.Common.{ℕ, List, ◌∷◌, ◌++◌, ◌+◌, ◌*◌, length, ap, sym, ◌∙◌, arith}
-use Rattle.jass_base.specs.Wire.{short_varint}
-use Rattle.gathered_text.proofs.Compose.{gather_cut, gather_then, gather_same}
+use Rattle.shared_lemmas.proofs.Common.{ℕ, List, ◌∷◌, ◌++◌, ◌+◌, ◌*◌, length, ap, sym, ◌∙◌, arith, ◌≢◌, nat_tests}
+use Rattle.ciff_write.proofs.Below.{short_varint, gather_cut, gather_then, gather_same}
 use Rattle.ciff_write.proofs.Fields.{text_some}
-use Rattle.std.proofs.Common.{◌≢◌}
-use Rattle.std.proofs.lemmas.Bool.Decides.{nat_tests}
 use Rattle.ciff_write.proofs.gather.put_text.Goals as goal
 
 pub returns-in_err-put_text_head : goal.returns-in_err-put_text_head

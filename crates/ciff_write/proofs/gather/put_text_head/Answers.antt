@@ -1,6 +1,5 @@
 use Rattle.std.proofs.Common.{[], ◌∷◌, ◌+◌, ◌*◌}
-use Rattle.jass_base.specs.Wire.{short_varint}
-use Rattle.gathered_text.proofs.Compose.{gather_cut}
+use Rattle.ciff_write.proofs.Below.{short_varint, gather_cut}
 use Rattle.ciff_write.proofs.gather.put_text_head.Goals as goal
 
 pub returns-in_err-make_room : goal.returns-in_err-make_room

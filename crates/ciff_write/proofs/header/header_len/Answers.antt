@@ -1,7 +1,5 @@
 use Rattle.std.proofs.Common.{◌≡◌, ℕ, List, length, ap, ◌∙◌, arith}
-use Rattle.jass_base.specs.Ciff.{HeaderData}
-use Rattle.jass_base.specs.CiffViews.{header_data}
-use Rattle.jass_base.specs.CiffText.{number_spelling, text_spelling, eight_spelling}
+use Rattle.ciff_write.proofs.Below.{HeaderData, header_data, number_spelling, text_spelling, eight_spelling}
 use Rattle.ciff_write.proofs.Fields.{eight_long}
 use Rattle.ciff_write.proofs.header.header_len.Goals as goal
 

@@ -1,7 +1,5 @@
 use Rattle.std.proofs.Common.{ℕ, ◌++◌, ap, ◌∙◌}
-use Rattle.jass_base.specs.Ciff.{HeaderData}
-use Rattle.jass_base.specs.CiffViews.{header_data}
-use Rattle.jass_base.specs.CiffText.{number_spelling}
+use Rattle.ciff_write.proofs.Below.{HeaderData, header_data, number_spelling}
 use Rattle.ciff_write.proofs.Fields.{six_put}
 use Rattle.ciff_write.proofs.header.push_numbers.Goals as goal
 

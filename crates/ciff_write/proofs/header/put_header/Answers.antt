@@ -1,8 +1,5 @@
 use Rattle.std.proofs.Common.{◌≡◌, ℕ, List, [], ◌++◌, refl, ap, ◌∙◌, append_assoc}
-use Rattle.jass_base.specs.Ciff.{HeaderData}
-use Rattle.jass_base.specs.CiffViews.{header_data}
-use Rattle.jass_base.specs.CiffText.{number_spelling, eight_spelling}
-use Rattle.gathered_text.proofs.Compose.{gather_cut, gather_then, gather_pushed, gather_same}
+use Rattle.ciff_write.proofs.Below.{HeaderData, header_data, number_spelling, eight_spelling, gather_cut, gather_then, gather_pushed, gather_same}
 use Rattle.ciff_write.proofs.Fields.{header_spelled}
 use Rattle.ciff_write.proofs.header.put_header.Goals as goal
 

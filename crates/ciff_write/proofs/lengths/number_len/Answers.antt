@@ -1,6 +1,5 @@
 use Rattle.std.proofs.Common.{◌≡◌, length, suc, ap, arith}
-use Rattle.jass_base.specs.Wire.{short_varint}
-use Rattle.jass_base.specs.CiffText.{number_spelling}
+use Rattle.ciff_write.proofs.Below.{short_varint, number_spelling}
 use Rattle.ciff_write.proofs.Fields.{number_some}
 use Rattle.ciff_write.proofs.lengths.number_len.Goals as goal
 

@@ -1,6 +1,5 @@
 use Rattle.std.proofs.Common.{◌≡◌, ◌+◌, ◌*◌, ◌<◌, ◌≤◌, length, drop, get_or}
-use Rattle.jass_base.specs.Postings.{docs_of}
-use Rattle.jass_base.specs.CiffText.{postings_spelling}
+use Rattle.ciff_write.proofs.Below.{docs_of, postings_spelling}
 use Rattle.ciff_write.proofs.lengths.postings_len.Given as goal
 
 abbrev pub invariant-loop-posting : goal.invariant-loop-posting

@@ -1,6 +1,5 @@
 use Rattle.std.proofs.Common.{◌≡◌, ◌≢◌, length, suc, ap, arith, length-append}
-use Rattle.jass_base.specs.Wire.{short_varint}
-use Rattle.jass_base.specs.CiffText.{text_spelling, sized}
+use Rattle.ciff_write.proofs.Below.{short_varint, text_spelling, sized}
 use Rattle.std.proofs.lemmas.Bool.Decides.{nat_tests}
 use Rattle.ciff_write.proofs.Fields.{text_some}
 use Rattle.ciff_write.proofs.lengths.text_len.Goals as goal

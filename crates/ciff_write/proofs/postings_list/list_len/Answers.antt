@@ -1,8 +1,5 @@
 use Rattle.std.proofs.Common.{◌≡◌, ℕ, List, length, ap, ◌∙◌, arith}
-use Rattle.jass_base.specs.declared.posting.Posting.{Posting}
-use Rattle.jass_base.specs.Ciff.{ListData}
-use Rattle.jass_base.specs.CiffViews.{list_data}
-use Rattle.jass_base.specs.CiffText.{number_spelling, text_spelling, postings_spelling}
+use Rattle.ciff_write.proofs.Below.{Posting, ListData, list_data, number_spelling, text_spelling, postings_spelling}
 use Rattle.ciff_write.proofs.Fields.{four_long}
 use Rattle.ciff_write.proofs.postings_list.list_len.Goals as goal
 

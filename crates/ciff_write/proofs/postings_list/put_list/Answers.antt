@@ -1,7 +1,5 @@
 use Rattle.std.proofs.Common.{refl}
-use Rattle.jass_base.specs.Ciff.{ListData}
-use Rattle.jass_base.specs.CiffViews.{list_data}
-use Rattle.gathered_text.proofs.Compose.{gather_cut, gather_then, gather_same}
+use Rattle.ciff_write.proofs.Below.{ListData, list_data, gather_cut, gather_then, gather_same}
 use Rattle.ciff_write.proofs.Fields.{list_spelled}
 use Rattle.ciff_write.proofs.postings_list.put_list.Goals as goal
 

@@ -1,8 +1,5 @@
 use Rattle.std.proofs.Common.{drop, flat_map}
-use Rattle.jass_base.specs.CiffText.{sized, list_body}
-use Rattle.jass_base.specs.CiffViews.{list_data}
-use Rattle.jass_base.specs.declared.postings_list.PostingsList.{PostingsList}
-use Rattle.gathered_text.proofs.Compose.{GathersUpTo}
+use Rattle.ciff_write.proofs.Below.{sized, list_body, list_data, PostingsList, GathersUpTo}
 use Rattle.ciff_write.proofs.postings_list.put_lists.Given as goal
 
 abbrev pub invariant-loop-list : goal.invariant-loop-list

@@ -1,7 +1,5 @@
 use Rattle.std.proofs.Common.{[], ◌++◌}
-use Rattle.jass_base.specs.Wire.{short_varint}
-use Rattle.jass_base.specs.CiffText.{sized, number_spelling}
-use Rattle.gathered_text.proofs.Compose.{gather_cut}
+use Rattle.ciff_write.proofs.Below.{short_varint, sized, number_spelling, gather_cut}
 use Rattle.ciff_write.proofs.postings_list.put_posting.Goals as goal
 
 pub returns-in_err-make_room : goal.returns-in_err-make_room

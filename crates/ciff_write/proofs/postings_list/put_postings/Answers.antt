@@ -1,7 +1,5 @@
-use Rattle.std.proofs.Common.{ap}
-use Rattle.std.proofs.lemmas.List.{drop_all}
-use Rattle.jass_base.specs.CiffText.{postings_spelling}
-use Rattle.gathered_text.proofs.Compose.{up_to_more, up_to_failed, up_to_all}
+use Rattle.shared_lemmas.proofs.Common.{ap, drop_all}
+use Rattle.ciff_write.proofs.Below.{postings_spelling, up_to_more, up_to_failed, up_to_all}
 use Rattle.ciff_write.proofs.Postings.{postings_next, next_above}
 use Rattle.ciff_write.proofs.postings_list.put_postings.Goals as goal
 

@@ -1,4 +1,4 @@
-use Rattle.std.proofs.Common.{arith, sym, ◌∙◌}
+use Rattle.std.proofs.Common.{arith}
 use Rattle.codec_packed.proofs.Places.{no_width, too_wide, too_short, not_least, block_there}
 use Rattle.codec_packed.proofs.block.read_block.Goals as goal
 

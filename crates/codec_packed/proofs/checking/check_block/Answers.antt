@@ -1,5 +1,4 @@
-use Rattle.std.proofs.Common.{◌≡◌, ◌≤◌, ◌<◌, ◌+◌, sum, take, ap, arith, rules}
-use Rattle.std.proofs.lemmas.List.{take_all}
+use Rattle.shared_lemmas.proofs.Common.{◌≡◌, ◌≤◌, ◌<◌, ◌+◌, sum, take, ap, arith, rules, take_all}
 use Rattle.codec_packed.proofs.Checks.{no_room, checks_fault, block_far, block_read}
 use Rattle.codec_packed.proofs.checking.check_block.Goals as goal
 

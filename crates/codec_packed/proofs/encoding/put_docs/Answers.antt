@@ -1,6 +1,4 @@
-use Rattle.std.proofs.Common.{◌≡◌, ◌^◌, ◌/◌, ◌++◌, List, ℕ, length, sym, ap, arith}
-use Rattle.std.proofs.lemmas.Result.{on_err_weaker}
-use Rattle.std.proofs.lemmas.List.{take_all}
+use Rattle.shared_lemmas.proofs.Common.{◌≡◌, ◌^◌, ◌/◌, ◌++◌, List, ℕ, length, sym, ap, arith, on_err_weaker, take_all}
 use Rattle.jass_base.specs.Gaps.{gaps_of, gaps_from}
 use Rattle.codec_packed.specs.Packing.{packed_block}
 use Rattle.codec_packed.proofs.Turns.{front_more, front_kept}

@@ -1,5 +1,4 @@
-use Rattle.std.proofs.Common.{drop, sym, ◌∙◌, arith, rules}
-use Rattle.std.proofs.lemmas.List.{length-drop}
+use Rattle.shared_lemmas.proofs.Common.{drop, sym, ◌∙◌, arith, rules, length-drop}
 use Rattle.codec_packed.proofs.Checks.{turn_fault, turn_far, turn_read, turns_end, gaps_end, gaps_longer}
 use Rattle.codec_packed.proofs.tail.check_gaps.Goals as goal
 

@@ -1,6 +1,4 @@
-use Rattle.std.proofs.Common.{◌≡◌, ℕ, ◌+◌, ◌≤◌, List, [], ◌++◌, take, drop, length, sym, ap, ◌∙◌, append_assoc, append-nil, arith}
-use Rattle.std.specs.Int.{w64, to_le_bytes}
-use Rattle.std.proofs.lemmas.List.{drop_all, take-append-le, length-take}
+use Rattle.shared_lemmas.proofs.Common.{◌≡◌, ℕ, ◌+◌, ◌≤◌, List, [], ◌++◌, take, drop, length, sym, ap, ◌∙◌, append_assoc, append-nil, arith, w64, to_le_bytes, drop_all, take-append-le, length-take}
 use Rattle.jass_base.proofs.Gaps.{length-gaps_from}
 use Rattle.jass_base.specs.Gaps.{gaps_of}
 use Rattle.codec_simple8.specs.Simple8.{count_of, word_of, spelled_words}

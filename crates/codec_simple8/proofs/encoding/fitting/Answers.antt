@@ -1,5 +1,4 @@
-use Rattle.std.proofs.Common.{◌≡◌, ◌+◌, ◌<◌, ◌≤◌, drop, length, get_or, bit_or, sym, ap, ◌∙◌, arith}
-use Rattle.std.proofs.lemmas.List.{get_or-drop}
+use Rattle.shared_lemmas.proofs.Common.{◌≡◌, ◌+◌, ◌<◌, ◌≤◌, drop, length, get_or, bit_or, sym, ap, ◌∙◌, arith, get_or-drop}
 use Rattle.jass_base.specs.Gaps.{gaps_of}
 use Rattle.codec_simple8.proofs.GapLists.{left_length}
 use Rattle.codec_simple8.proofs.Tables.{count_most}

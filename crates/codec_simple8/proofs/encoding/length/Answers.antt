@@ -1,9 +1,7 @@
-use Rattle.std.proofs.Common.{◌≡◌, ℕ, List, [], drop, length, ap, ◌∙◌, arith}
-use Rattle.std.proofs.lemmas.List.{drop_all}
-use Rattle.jass_base.proofs.Gaps.{length-gaps_from}
+use Rattle.shared_lemmas.proofs.Common.{◌≡◌, ℕ, List, [], drop, length, ap, ◌∙◌, arith, drop_all}
+use Rattle.jass_base.proofs.Gaps.{length-gaps_from, docs_few}
 use Rattle.jass_base.specs.Gaps.{gaps_of}
 use Rattle.codec_simple8.specs.Simple8.{spelled_words}
-use Rattle.codec_simple8.proofs.GapLists.{docs_few}
 use Rattle.codec_simple8.proofs.Tables.{count_some}
 use Rattle.codec_simple8.proofs.Words.{no_words}
 use Rattle.codec_simple8.proofs.WordParts.{next_length, bytes_few}
@@ -36,5 +34,4 @@ pub returns : goal.returns
 returns c =
     let long = length-gaps_from 0 c.args.docs.now in
     let none : drop c.loop-at.at (gaps_of c.args.docs.now) ≡ [] = drop_all c.loop-at.at (gaps_of c.args.docs.now) (omega (arith, long, c.loop-at-test.false)) in
-    let bytes = ap (λ (gaps : List ℕ). length (spelled_words gaps)) none ∙ ap length no_words in
-    omega (arith, bytes, c.loop-at.invariant.1)
+    omega (arith, c.loop-at.invariant.1, ap (λ (gaps : List ℕ). length (spelled_words gaps)) none ∙ ap length no_words)

@@ -1,9 +1,7 @@
-use Rattle.std.proofs.Common.{◌≡◌, ℕ, List, [], drop, length, ap, ◌∙◌, arith}
-use Rattle.std.proofs.lemmas.List.{drop_all}
+use Rattle.shared_lemmas.proofs.Common.{◌≡◌, ℕ, List, [], drop, length, ap, ◌∙◌, arith, drop_all}
 use Rattle.jass_base.specs.Gaps.{gaps_of}
 use Rattle.codec_simple8.specs.Simple8.{spelled_words}
-use Rattle.jass_base.proofs.Gaps.{length-gaps_from}
-use Rattle.codec_simple8.proofs.GapLists.{docs_few}
+use Rattle.jass_base.proofs.Gaps.{length-gaps_from, docs_few}
 use Rattle.codec_simple8.proofs.Tables.{count_some}
 use Rattle.codec_simple8.proofs.Words.{no_words}
 use Rattle.codec_simple8.proofs.WordParts.{next_length, one_more, bytes_few}

@@ -1,6 +1,4 @@
-use Rattle.std.proofs.Common.{◌≡◌, ℕ, ◌+◌, ◌-◌, ◌*◌, ◌<◌, ◌≤◌, ◌^◌, List, take, drop, length, get_or, true, sym, ap, subst, ◌∙◌, arith}
-use Rattle.std.specs.Simd.Lanes.{number_l}
-use Rattle.std.proofs.lemmas.List.{get_or-drop, get_or-take, length-take-le}
+use Rattle.shared_lemmas.proofs.Common.{◌≡◌, ℕ, ◌+◌, ◌-◌, ◌*◌, ◌<◌, ◌≤◌, ◌^◌, List, take, drop, length, get_or, true, sym, ap, subst, ◌∙◌, arith, number_l, get_or-drop, get_or-take, length-take-le}
 use Rattle.jass_base.specs.Gaps.{AreDocs, gaps_of}
 use Rattle.codec_simple8.specs.Simple8.{count_of, width_of, takes, selector_of}
 use Rattle.codec_simple8.proofs.GapLists.{left_length, docs_gaps_below, Below-drop}
@@ -23,7 +21,6 @@ taken docs at s d are small is few =
 
 pub loop-i-preserved : goal.loop-i-preserved
 loop-i-preserved c =
-    let s = c.args.selector.number in
     let takes_them = taken c.args.docs.now c.args.at c.args.selector.number c.requires.docs.0 c.requires.docs.1 c.args.selector.few c.requires.selector c.requires.few in
     let long = length-take-le (count_of c.args.selector.number) (drop c.args.at (gaps_of c.args.docs.now)) (takes_enough c.args.selector.number (drop c.args.at (gaps_of c.args.docs.now)) takes_them) in
     let short : width_of c.args.selector.number * length (take (count_of c.args.selector.number) (drop c.args.at (gaps_of c.args.docs.now))) ≤ 60 = rw long (bits_most c.args.selector.number c.args.selector.few) in

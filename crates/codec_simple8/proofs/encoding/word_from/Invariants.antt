@@ -1,5 +1,4 @@
-use Rattle.std.proofs.Common.{◌≡◌, ◌≤◌, ◌^◌, drop, take}
-use Rattle.std.specs.Simd.Lanes.{number_l}
+use Rattle.shared_lemmas.proofs.Common.{◌≡◌, ◌≤◌, ◌^◌, drop, take, number_l}
 use Rattle.jass_base.specs.Gaps.{gaps_of}
 use Rattle.codec_simple8.specs.Simple8.{count_of, width_of}
 use Rattle.codec_simple8.proofs.encoding.word_from.Given as goal

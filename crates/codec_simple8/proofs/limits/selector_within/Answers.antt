@@ -1,7 +1,4 @@
-use Rattle.std.proofs.Common.{◌≡◌, ℕ, ◌+◌, ◌-◌, ◌<◌, ◌≤◌, true, false, nat_lt, List, [], ◌∷◌, ◌++◌, replicate, refl, arith}
-use Rattle.std.specs.Prelude.{◌||◌, nat_le, slice_index}
-use Rattle.std.specs.List.{list_all, range_with_len}
-use Rattle.std.proofs.lemmas.Bool.Decides.{nat_tests}
+use Rattle.shared_lemmas.proofs.Common.{◌≡◌, ℕ, ◌+◌, ◌-◌, ◌<◌, ◌≤◌, true, false, nat_lt, List, [], ◌∷◌, ◌++◌, replicate, refl, arith, ◌||◌, nat_le, slice_index, list_all, range_with_len, nat_tests}
 use Rattle.codec_simple8.specs.Simple8.{count_of}
 use Rattle.codec_simple8.proofs.Tables.{at_each}
 use Rattle.codec_simple8.proofs.limits.selector_within.Goals as goal

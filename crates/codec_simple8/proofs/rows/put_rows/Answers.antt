@@ -12,9 +12,6 @@ loop-row-init c =
     (omega arith) (omega arith) (omega arith) (omega arith) c.requires.width (omega (arith, c.requires.least))
     (below_from_All (2 ^ 26) (2 ^ 26) (docs_from c.args.least (fields c.args.width c.args.count c.args.values)) (omega arith) c.requires.below)
 
-pub fields4-requires-clause-pair : goal.fields4-requires-clause-pair
-fields4-requires-clause-pair c = (c.loop-row.invariant.rest, c.loop-row.invariant.pair_is)
-
 pub loop-row-preserved : goal.loop-row-preserved
 loop-row-preserved c =
     fours_more c.args.width (4 * ((c.args.count + 3) / 4 - (c.loop-row.row + 1))) (4 * ((c.args.count + 3) / 4 - c.loop-row.row))

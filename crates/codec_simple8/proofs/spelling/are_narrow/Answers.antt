@@ -1,8 +1,5 @@
-use Rattle.std.proofs.Common.{◌≡◌, ℕ, ◌-◌, ◌/◌, ◌%◌, ◌<◌, ◌≤◌, ◌^◌, List, drop, take, length, length-drop, length-append, min, Bool, nat_lt, ◌⊎◌, inl, inr, refl, sym, ap, subst, ◌∙◌, arith}
-use Rattle.std.specs.Prelude.{◌&&◌}
-use Rattle.std.specs.List.{list_all}
-use Rattle.std.proofs.lemmas.Bool.{cases_lt}
-use Rattle.std.proofs.lemmas.List.{drop-drop}
+use Rattle.shared_lemmas.proofs.Common.{◌≡◌, ℕ, ◌-◌, ◌/◌, ◌%◌, ◌<◌, ◌≤◌, ◌^◌, List, drop, take, length, min, Bool, nat_lt, ◌⊎◌, inl, inr, refl, sym, ap, subst, ◌∙◌, arith, ◌&&◌, list_all, cases_lt, drop-drop}
+use Rattle.std.proofs.Common.{length-drop, length-append}
 use Rattle.codec_simple8.specs.Simple8.{count_of, width_of, fields, gaps_in, word_in}
 use Rattle.codec_simple8.specs.Private.Words.{AreWords, bytes_gaps}
 use Rattle.codec_simple8.proofs.Tables.{count_some}

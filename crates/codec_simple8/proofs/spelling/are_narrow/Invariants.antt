@@ -1,5 +1,4 @@
-use Rattle.std.proofs.Common.{◌≡◌, ◌≤◌, ◌^◌, drop, take, length, nat_lt}
-use Rattle.std.specs.List.{list_all}
+use Rattle.shared_lemmas.proofs.Common.{◌≡◌, ◌≤◌, ◌^◌, drop, take, length, nat_lt, list_all}
 use Rattle.codec_simple8.specs.Private.Words.{AreWords, bytes_gaps}
 use Rattle.codec_simple8.proofs.spelling.are_narrow.Given as goal
 

@@ -1,8 +1,4 @@
-use Rattle.std.proofs.Common.{◌≡◌, ℕ, ◌-◌, ◌*◌, ◌%◌, ◌<◌, ◌≤◌, ◌^◌, replicate, ◌⊎◌, inl, inr, sym, ap, ◌∙◌, arith}
-use Rattle.std.specs.Simd.Lanes.{number_l}
-use Rattle.std.proofs.lemmas.Bool.{cases_lt}
-use Rattle.std.proofs.lemmas.Nat.{one_shl, pow_pos, pow_below}
-use Rattle.std.proofs.Math.Nat.{mul-le-mul_left, pow-le-pow_right}
+use Rattle.shared_lemmas.proofs.Common.{◌≡◌, ℕ, ◌-◌, ◌*◌, ◌%◌, ◌<◌, ◌≤◌, ◌^◌, replicate, inl, inr, sym, ap, ◌∙◌, arith, number_l, cases_lt, one_shl, pow_pos, pow_below, mul-le-mul_left, pow-le-pow_right}
 use Rattle.codec_simple8.specs.Simple8.{count_of, width_of}
 use Rattle.codec_simple8.proofs.Fields.{masked, high_parts, number_times, number_fits, first_fields, all_narrow}
 use Rattle.codec_simple8.proofs.Tables.{bits_most, count_most, width_most, flat_widths}
@@ -10,18 +6,11 @@ use Rattle.codec_simple8.proofs.spelling.gaps_narrow.Goals as goal
 
 -- the bits of the first gaps
 first_bits : (s own count : ℕ) → s < 16 → own ≡ width_of s → count ≤ count_of s → own * count ≤ 60
-first_bits s own count small is few =
-    let le = mul-le-mul_left own few in
-    let most : own * count_of s ≤ 60 = rw is (bits_most s small) in
-    omega (arith, le, most)
+first_bits s own count small is few = let most : own * count_of s ≤ 60 = rw is (bits_most s small) in omega (arith, most, mul-le-mul_left own few)
 
 -- a width that holds no more than some other
 later : (s own width : ℕ) → s < 16 → own ≡ width_of s → width < own → 2 ≤ s
-later s own width small is wider = go (cases_lt s 2)
-  where
-    go : (s < 2) ⊎ (2 ≤ s) → 2 ≤ s
-    go (inl less) = absurd (omega (arith, is, wider, flat_widths s less))
-    go (inr more) = more
+later s own width small is wider = elim (cases_lt s 2) [ inl less ↦ absurd (omega (arith, is, wider, flat_widths s less)) | inr more ↦ more ]
 
 pub returns-then-own-width : goal.returns-then-own-width
 returns-then-own-width c = sym (all_narrow (width_of c.args.selector.number) c.args.width c.args.count c.args.values (omega (arith, c.width-own.ensures, c.if-own-width.true)))

@@ -1,13 +1,10 @@
-use Rattle.std.proofs.Common.{◌≡◌, ◌+◌, ◌%◌, ◌≤◌, drop, length-drop, refl, sym, ap, subst, ◌∙◌, arith}
+use Rattle.std.proofs.Common.{◌≡◌, ◌+◌, ◌%◌, ◌≤◌, drop, length-drop, sym, ap, subst, ◌∙◌, arith}
 use Rattle.std.proofs.lemmas.List.{drop-drop, get_or-drop}
 use Rattle.codec_simple8.specs.Simple8.{count_of, word_in}
 use Rattle.codec_simple8.specs.Private.Words.{AreWords}
 use Rattle.codec_simple8.proofs.Tables.{count_some, count_most}
 use Rattle.codec_simple8.proofs.WordLists.{words_one, spelling_fails, spelling_one, spelling_end}
 use Rattle.codec_simple8.proofs.spelling.is_spelling.Goals as goal
-
-pub loop-left-init : goal.loop-left-init
-loop-left-init c = record { words = c.requires; same = refl }
 
 pub returns-then-not-spells_them : goal.returns-then-not-spells_them
 returns-then-not-spells_them c =
@@ -24,8 +21,7 @@ overflow_cast-left c = record { fits = omega (arith, c.count.ensures, count_most
 pub overflow_sub-left : goal.overflow_sub-left
 overflow_sub-left c =
     let one = words_one (drop c.loop-left.at c.args.bytes.now) c.loop-left.left c.loop-left.invariant.words (omega (arith, c.loop-left-test.true)) in
-    let few : count_of (c.word_at.result % 16) ≤ c.loop-left.left = subst (λ word. count_of (word % 16) ≤ c.loop-left.left) (sym c.word_at.ensures) one.few in
-    omega (arith, c.count.ensures, ap count_of c.of.ensures, few)
+    omega (arith, c.count.ensures, ap count_of c.of.ensures, subst (λ word. count_of (word % 16) ≤ c.loop-left.left) (sym c.word_at.ensures) one.few)
 
 pub loop-left-smaller : goal.loop-left-smaller
 loop-left-smaller c = omega (arith, c.count.ensures, count_some c.of.result.number c.of.result.few, c.loop-left-test.true)

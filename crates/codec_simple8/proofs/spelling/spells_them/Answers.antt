@@ -1,7 +1,5 @@
-use Rattle.std.proofs.Common.{◌≡◌, ℕ, ◌-◌, ◌*◌, ◌/◌, ◌%◌, ◌≤◌, ◌^◌, drop, take, length, length-drop, true, false, nat_lt, sym, ap, ◌∙◌, arith}
-use Rattle.std.specs.Prelude.{nat_le}
-use Rattle.std.specs.List.{list_all}
-use Rattle.std.proofs.lemmas.Bool.Decides.{nat_tests}
+use Rattle.shared_lemmas.proofs.Common.{◌≡◌, ℕ, ◌-◌, ◌*◌, ◌/◌, ◌%◌, ◌≤◌, ◌^◌, drop, take, length, true, false, nat_lt, sym, ap, ◌∙◌, arith, nat_le, list_all, nat_tests}
+use Rattle.std.proofs.Common.{length-drop}
 use Rattle.codec_simple8.specs.Simple8.{count_of, width_of}
 use Rattle.codec_simple8.specs.Private.Words.{bytes_gaps}
 use Rattle.codec_simple8.proofs.Tables.{count_most, width_most, bits_most}

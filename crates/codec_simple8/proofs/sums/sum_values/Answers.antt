@@ -2,11 +2,6 @@ use Rattle.std.proofs.Common.{◌≡◌, ◌+◌, ◌-◌, suc, arith}
 use Rattle.codec_simple8.proofs.Fields.{masked, sum_one, sum_small, sum_all}
 use Rattle.codec_simple8.proofs.sums.sum_values.Goals as goal
 
-pub loop-init : goal.loop-init
-loop-init c =
-    let more : c.args.count - 0 ≡ c.args.count = omega arith in
-    rw more (record { total = omega arith; most = omega arith })
-
 pub overflow_add-sum : goal.overflow_add-sum
 overflow_add-sum c =
     let most = sum_small c.args.width c.loop.rest c.loop.sum c.args.values c.loop.invariant.most in

@@ -1,5 +1,4 @@
-use Rattle.std.proofs.Common.{◌-◌}
-use Rattle.std.specs.Prelude.{sum}
+use Rattle.shared_lemmas.proofs.Common.{◌-◌, sum}
 use Rattle.codec_simple8.specs.Simple8.{fields}
 use Rattle.codec_simple8.proofs.Fields.{Summing}
 use Rattle.codec_simple8.proofs.sums.sum_values.Given as goal

@@ -1,5 +1,4 @@
-use Rattle.std.proofs.Common.{ℕ, ◌+◌, ◌<◌, ◌≤◌, ◌^◌, length}
-use Rattle.std.specs.Prelude.{slice_index}
+use Rattle.shared_lemmas.proofs.Common.{ℕ, ◌+◌, ◌<◌, ◌≤◌, ◌^◌, length, slice_index}
 use Rattle.codec_simple8.proofs.tests.are_docs.Given as goal
 
 abbrev pub invariant-loop-i : goal.invariant-loop-i

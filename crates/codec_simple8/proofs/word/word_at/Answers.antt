@@ -1,9 +1,5 @@
-use Rattle.std.proofs.Common.{◌≡◌, ℕ, suc, ◌+◌, ◌<◌, ◌≤◌, ◌^◌, List, [], ◌∷◌, take, drop, length, length-drop, get_or, ◌⊎◌, inl, inr, refl, ap, ◌∙◌, arith}
-use Rattle.std.specs.Int.{w64, from_le_bytes}
-use Rattle.std.specs.Simd.Lanes.{number_l}
-use Rattle.std.proofs.lemmas.Bool.{cases_lt}
-use Rattle.std.proofs.lemmas.List.{get_or-drop, get_or-take, get_or_past, length-take, length-take-le}
-use Rattle.std.proofs.Math.Nat.{mod-eq_of_lt}
+use Rattle.shared_lemmas.proofs.Common.{◌≡◌, ℕ, suc, ◌+◌, ◌<◌, ◌≤◌, ◌^◌, List, [], ◌∷◌, take, drop, length, get_or, ◌⊎◌, inl, inr, refl, ap, ◌∙◌, arith, w64, from_le_bytes, number_l, cases_lt, get_or-drop, get_or-take, get_or_past, length-take, length-take-le, mod-eq_of_lt}
+use Rattle.std.proofs.Common.{length-drop}
 use Rattle.codec_simple8.specs.Simple8.{word_in}
 use Rattle.codec_simple8.proofs.Digits.{Below, Below-cons, number_below}
 use Rattle.codec_simple8.proofs.word.word_at.Goals as goal
@@ -28,7 +24,6 @@ bytes_below (x ∷ xs) small = Below-cons 256 x xs (small 0) (bytes_below xs (λ
 pub returns : goal.returns
 unfolding word_in
 returns c =
-    let rest = drop c.args.at c.args.bytes.now in
     let size = length-take-le 8 (drop c.args.at c.args.bytes.now) (omega (arith, length-drop c.args.at c.args.bytes.now, c.requires)) in
     let below = number_below 256 (take 8 (drop c.args.at c.args.bytes.now)) (bytes_below (take 8 (drop c.args.at c.args.bytes.now)) (λ i. small i (cases_lt i 8))) in
     let fits : number_l 256 (take 8 (drop c.args.at c.args.bytes.now)) < 2 ^ 64 = omega (arith, below, ap (λ n. 256 ^ n) size) in

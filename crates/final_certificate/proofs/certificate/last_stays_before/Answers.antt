@@ -1,5 +1,4 @@
-use Rattle.std.proofs.Common.{◌∙◌, ap, sym}
-use Rattle.std.specs.Option.{option_copied}
+use Rattle.shared_lemmas.proofs.Common.{◌∙◌, ap, sym, option_copied}
 use Rattle.final_certificate.proofs.Steps.{ends_last}
 use Rattle.final_certificate.proofs.certificate.last_stays_before.Goals as goal
 

@@ -1,6 +1,5 @@
-use Rattle.std.proofs.Common.{◌≡◌, map}
-use Rattle.std.specs.List.{range_with_len}
-use Rattle.frame_pool.specs.Frames.{free_head}
+use Rattle.shared_lemmas.proofs.Common.{◌≡◌, map, range_with_len}
+use Rattle.frame_pool.specs.Private.Tables.{free_head}
 use Rattle.frame_pool.proofs.store.linked_heads.Given as goal
 
 abbrev pub invariant-loop-number : goal.invariant-loop-number

@@ -1,8 +1,5 @@
 -- No frequency is above the greatest.
-use Rattle.std.proofs.Common.{◌≡◌, ◌≤◌, ℕ, List, fold, max, subst, sym}
-use Rattle.std.specs.Prelude.{All}
-use Rattle.std.proofs.lemmas.List.{drop_all}
-use Rattle.std.proofs.lemmas.List.Elements.{All-from_recursion}
+use Rattle.shared_lemmas.proofs.Common.{◌≡◌, ◌≤◌, ℕ, List, fold, max, subst, sym, All, drop_all, All-from_recursion}
 use Rattle.jass_base.specs.declared.posting.Posting.{Posting}
 use Rattle.impact_segments.specs.Bounds.{most_tf}
 use Rattle.impact_segments.proofs.Unwidened.{to_most}

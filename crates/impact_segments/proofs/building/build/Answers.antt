@@ -1,14 +1,7 @@
 -- The lists in order give the terms, and the terms the flat list.
-use Rattle.std.proofs.Common.{◌≡◌, ℕ, ◌≤◌, List, map, filter, length, sym, subst, ap, ◌∙◌, arith}
-use Rattle.std.specs.Prelude.{All}
-use Rattle.std.proofs.lemmas.List.{length-map}
+use Rattle.shared_lemmas.proofs.Common.{◌≡◌, ℕ, ◌≤◌, List, map, filter, length, sym, subst, ap, ◌∙◌, arith, All, length-map}
 use denote.Ref.{Bor}
-use Rattle.jass_base.specs.declared.doc_record.DocRecord.{DocRecord}
-use Rattle.jass_base.specs.declared.postings_list.PostingsList.{PostingsList}
-use Rattle.jass_base.specs.Lists.{HasDocsBelow}
-use Rattle.jass_base.specs.Terms.{HasTermBelow, greatest_impact}
-use Rattle.weights.specs.Quantizing.{IsInRange}
-use Rattle.ranking_model.specs.Order.{sorted}
+use Rattle.impact_segments.proofs.Below.{DocRecord, PostingsList, HasDocsBelow, HasTermBelow, greatest_impact, IsInRange, sorted}
 use Rattle.impact_segments.specs.Private.Weighed.{list_weights}
 use Rattle.impact_segments.specs.Private.Listed.{has_postings, term_cmp, lists_behind}
 use Rattle.impact_segments.proofs.OneIndex.{listed_all, listed_some, listed_shorter, terms_rise, built_flat, as_many, all_names, all_text}

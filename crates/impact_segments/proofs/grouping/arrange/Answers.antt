@@ -1,6 +1,5 @@
 -- The sort leaves the pairs in order, and pairs that tie are equal.
-use Rattle.std.proofs.Common.{rules}
-use Rattle.std.specs.Ordering.{is_lt}
+use Rattle.std.proofs.Common.{rules, is_lt}
 use Rattle.std.proofs.lemmas.List.Sorted.{answers_always}
 use Rattle.ranking_model.proofs.Sorting.{sort_is_sorted}
 use Rattle.impact_segments.specs.Pairs.{pair_cmp}

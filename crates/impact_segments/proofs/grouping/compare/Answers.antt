@@ -1,6 +1,5 @@
 -- The numbers are in the order of the pairs.
-use Rattle.std.proofs.Common.{ap₂, sym, ◌∙◌}
-use Rattle.std.specs.Ordering.{nat_cmp}
+use Rattle.std.proofs.Common.{ap₂, sym, ◌∙◌, nat_cmp}
 use Rattle.impact_segments.proofs.Orders.{in_key_order}
 use Rattle.impact_segments.proofs.grouping.compare.Goals as goal
 

@@ -1,7 +1,6 @@
 -- The pairs in order follow one another.
-use Rattle.std.proofs.Common.{◌≤◌, List, ◌∙◌, sym, subst}
-use Rattle.std.specs.Prelude.{All, AllPairs}
-use Rattle.impact_segments.specs.Pairs.{Follows}
+use Rattle.std.proofs.Common.{◌≤◌, List, ◌∙◌, sym, subst, All, AllPairs}
+use Rattle.impact_segments.specs.Private.Pairs.{Follows}
 use Rattle.impact_segments.specs.declared.doc_impact.DocImpact.{DocImpact}
 use Rattle.impact_segments.proofs.Cutting.{sorted_follows, sorted_positive}
 use Rattle.impact_segments.proofs.grouping.group_in_place.Goals as goal

@@ -1,6 +1,5 @@
 -- One pair more has the impact.
-use Rattle.std.proofs.Common.{◌≡◌}
-use Rattle.std.proofs.lemmas.List.Elements.{All-more}
+use Rattle.shared_lemmas.proofs.Common.{◌≡◌, All-more}
 use Rattle.impact_segments.specs.declared.doc_impact.DocImpact.{DocImpact}
 use Rattle.impact_segments.proofs.grouping.run_length.Goals as goal
 

@@ -1,7 +1,5 @@
 -- The documents of the run are those of the pairs.
-use Rattle.std.proofs.Common.{ℕ, ◌≤◌, List, length, sym, subst}
-use Rattle.std.proofs.lemmas.List.{length-map}
-use Rattle.std.specs.List.Sorted.{IsStrictlyIncreasing}
+use Rattle.shared_lemmas.proofs.Common.{ℕ, ◌≤◌, List, length, sym, subst, length-map, IsStrictlyIncreasing}
 use Rattle.impact_segments.proofs.grouping.segment_of.Goals as goal
 
 pub invariant_of-result : goal.invariant_of-result

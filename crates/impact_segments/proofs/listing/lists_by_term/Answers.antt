@@ -1,18 +1,11 @@
 -- The sort is stable, so it leaves what sorting by insertion leaves.
-use Rattle.std.proofs.Common.{rules, List, refl, sym, ap, ◌∙◌}
-use Rattle.std.specs.declared.cmp.Ordering.{Ordering}
-use Rattle.std.specs.Ordering.{is_lt}
-use Rattle.std.specs.Cmp.{IsTotalOrder, IsStrictWeakOrder}
-use Rattle.std.proofs.lemmas.Cmp.{on_total}
-use Rattle.std.proofs.lemmas.List.Sorted.{answers_always, ranks_by}
-use Rattle.jass_base.specs.declared.postings_list.PostingsList.{PostingsList}
-use Rattle.ranking_model.specs.Order.{sorted}
-use Rattle.ranking_model.proofs.Sorting.{stable_is_sorted}
+use Rattle.shared_lemmas.proofs.Common.{rules, List, refl, sym, ap, ◌∙◌, IsTotalOrder, IsStrictWeakOrder, on_total, answers_always, ranks_by}
+use Rattle.std.proofs.Common.{Ordering, is_lt}
+use Rattle.impact_segments.proofs.Below.{PostingsList, sorted, stable_is_sorted, sorted_map}
 use Rattle.impact_segments.specs.Private.Listed.{term_cmp, lists_behind}
 use Rattle.impact_segments.proofs.Orders.{term_total}
 use Rattle.impact_segments.proofs.listing.lists_by_term.Goals as goal
 use denote.Ref.{Bor}
-use Rattle.ranking_model.proofs.Growing.{sorted_map}
 
 abbrev behind : Bor PostingsList → PostingsList
 behind r = r.now

@@ -1,7 +1,6 @@
 -- Each posting is weighed, judged, and gives one pair more.
 use Rattle.std.proofs.Common.{◌≡◌, ℕ, ap, arith, get_or, length}
-use Rattle.jass_base.specs.declared.posting.Posting.{Posting}
-use Rattle.weights.specs.Quantizing.{impact_of}
+use Rattle.impact_segments.proofs.Below.{Posting, impact_of}
 use Rattle.impact_segments.specs.Collections.{weight_in, weights_in}
 use Rattle.impact_segments.specs.OneList.{outside, pairs_in}
 use Rattle.impact_segments.specs.Pairs.{with_impact}
@@ -11,11 +10,9 @@ use Rattle.impact_segments.proofs.one_list.impacts_of.Goals as goal
 
 pub weigh-weight-requires-clause-below : goal.weigh-weight-requires-clause-below
 weigh-weight-requires-clause-below c =
-    omega (
-      arith,
-      ap length c.new-weigher.ensures.lengths,
-      item_below (length c.args.lengths.now) c.args.list.now c.as_slice-posting-items.result.now c.loop-posting.posting-index (record { doc = 0; tf = 0 }) c.as_slice-posting-items.ensures c.loop-posting-test.true c.requires.list.below,
-    )
+    let low = item_below (length c.args.lengths.now) c.args.list.now c.as_slice-posting-items.result.now c.loop-posting.posting-index (record { doc = 0; tf = 0 })
+    c.as_slice-posting-items.ensures c.loop-posting-test.true c.requires.list.below in
+    omega (arith, low, ap length c.new-weigher.ensures.lengths)
 
 pub loop-posting-preserved : goal.loop-posting-preserved
 loop-posting-preserved c =

@@ -1,8 +1,6 @@
 -- The segments hold the pairs of the list.
-use Rattle.std.proofs.Common.{◌≡◌, ap, arith, length, ◌∙◌}
-use Rattle.std.proofs.lemmas.List.{length-map}
-use Rattle.jass_base.specs.declared.posting.Posting.{Posting}
-use Rattle.weights.specs.Quantizing.{impact_of}
+use Rattle.shared_lemmas.proofs.Common.{◌≡◌, ap, arith, length, ◌∙◌, length-map}
+use Rattle.impact_segments.proofs.Below.{Posting, impact_of}
 use Rattle.impact_segments.specs.Collections.{weight_in}
 use Rattle.impact_segments.proofs.Grouped.{as_many_documents, segments_are}
 use Rattle.impact_segments.proofs.OneList.{are_docs, docs_below_by, docs_rise_by}
@@ -24,9 +22,8 @@ returns-in-Ok-group_in_place-clause-postings c =
 
 pub returns-in-Ok-group_in_place-clause-some : goal.returns-in-Ok-group_in_place-clause-some
 returns-in-Ok-group_in_place-clause-some c =
-    let some = c.requires.list.some in
     let size : length c.in_ok-pairs.pairs.items ≡ length c.args.list.now.postings = ap length c.in_ok-pairs.ensures.pairs ∙ length-map c.args.list.now.postings _ in
-    some_segments c.in-Ok-group_in_place.segments c.in_ok-pairs.pairs.items c.in-Ok-group_in_place.ensures.pairs (omega (arith, size, some))
+    some_segments c.in-Ok-group_in_place.segments c.in_ok-pairs.pairs.items c.in-Ok-group_in_place.ensures.pairs (omega (arith, size, c.requires.list.some))
 
 pub returns-in-Ok-group_in_place-clause-docs : goal.returns-in-Ok-group_in_place-clause-docs
 returns-in-Ok-group_in_place-clause-docs c =

@@ -1,7 +1,6 @@
 -- A term's first segment has its greatest impact.
 use Rattle.std.proofs.Common.{ℕ, ◌+◌, List, max, drop, get_or, sym, ap, ◌∙◌}
-use Rattle.jass_base.specs.declared.segment.Segment.{Segment}
-use Rattle.jass_base.specs.Terms.{greatest_impact}
+use Rattle.impact_segments.proofs.Below.{Segment, greatest_impact}
 use Rattle.impact_segments.proofs.OneTerm.{greatest_more}
 use Rattle.impact_segments.proofs.terms.greatest_impact.Goals as goal
 

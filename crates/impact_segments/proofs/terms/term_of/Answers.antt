@@ -1,6 +1,5 @@
 -- The segments hold the pairs of the list.
-use Rattle.std.proofs.Common.{◌≡◌, ℕ, ◌≤◌, List, length, sym, subst, ap, ◌∙◌, arith}
-use Rattle.std.proofs.lemmas.List.{length-map}
+use Rattle.shared_lemmas.proofs.Common.{◌≡◌, ℕ, ◌≤◌, List, length, sym, subst, ap, ◌∙◌, arith, length-map}
 use Rattle.impact_segments.proofs.OneTerm.{docs_rise, docs_below, some_segments, segments_below, term_is}
 use Rattle.impact_segments.proofs.terms.term_of.Goals as goal
 

@@ -1,16 +1,8 @@
 -- Each list gives one term more.
-use Rattle.std.proofs.Common.{◌≡◌, ℕ, ◌+◌, ◌<◌, ◌≤◌, List, length, get_or, drop, sym, subst}
-use Rattle.std.specs.Prelude.{All}
-use Rattle.std.specs.Ordering.{nat_cmp}
+use Rattle.std.proofs.Common.{◌≡◌, ℕ, ◌+◌, ◌<◌, ◌≤◌, List, length, get_or, drop, sym, subst, All, nat_cmp}
 use Rattle.std.specs.Cmp.Lexicographic.{slice_cmp}
 use denote.Ref.{Bor}
-use Rattle.jass_base.specs.declared.postings_list.PostingsList.{PostingsList}
-use Rattle.jass_base.specs.declared.term_segments.TermSegments.{TermSegments}
-use Rattle.jass_base.specs.Lists.{HasDocsBelow}
-use Rattle.weights.specs.Quantizing.{IsInRange}
-use Rattle.ranking_model.specs.Order.{sorted}
-use Rattle.ranking_model.specs.Flat.{entry_cmp}
-use Rattle.ranking_model.specs.declared.entry.Entry.{Entry}
+use Rattle.impact_segments.proofs.Below.{PostingsList, TermSegments, HasDocsBelow, IsInRange, sorted, entry_cmp, Entry}
 use Rattle.impact_segments.specs.Private.Weighed.{list_weights, list_entries}
 use Rattle.impact_segments.specs.Private.Listed.{lists_behind}
 use Rattle.impact_segments.proofs.OneTerm.{Built, built_more, all_map_at}
@@ -35,4 +27,4 @@ loop-list-preserved c =
     let more = built_more entries (length c.args.weigher.now.docs.now) c.args.lists.now c.loop-list.terms c.in_ok-term.term c.loop-list.list-index c.list-item.result c.loop-list-test.true c.list-item.is
     c.in_ok-term.ensures.term c.in_ok-term.ensures.entries c.in_ok-term.ensures.docs c.loop-list.invariant in
     let P : List TermSegments → Type 0 = λ (l : List TermSegments). Built entries (length c.args.weigher.now.docs.now) c.args.lists.now l (drop (c.loop-list.list-index + 1) c.args.lists.now) in
-    subst P (sym c.in-Ok.ensures.ok) more
+    subst P (sym c.in_ok-push.ensures.ok) more

@@ -1,9 +1,6 @@
-use Rattle.std.proofs.Common.{drop, length}
-use Rattle.std.specs.Ordering.{nat_cmp}
+use Rattle.std.proofs.Common.{drop, length, nat_cmp}
 use Rattle.std.specs.Cmp.Lexicographic.{slice_cmp}
-use Rattle.jass_base.specs.declared.postings_list.PostingsList.{PostingsList}
-use Rattle.ranking_model.specs.Order.{sorted}
-use Rattle.ranking_model.specs.Flat.{entry_cmp}
+use Rattle.impact_segments.proofs.Below.{PostingsList, sorted, entry_cmp}
 use Rattle.impact_segments.specs.Private.Weighed.{list_entries}
 use Rattle.impact_segments.proofs.OneTerm.{Built}
 use Rattle.impact_segments.proofs.terms.terms_of.Given as goal

@@ -1,12 +1,7 @@
 -- The postings are of three documents, and the terms differ.
-use Rattle.std.proofs.Common.{◌≡◌, ◌≢◌, ℕ, ◌<◌, List, [], ◌∷◌, length, get_or, refl, sym, subst, ap, ◌∙◌, arith}
-use Rattle.std.specs.Prelude.{All, AllPairs}
-use Rattle.std.proofs.lemmas.List.Elements.{All-from_recursion}
+use Rattle.shared_lemmas.proofs.Common.{◌≡◌, ◌≢◌, ℕ, ◌<◌, List, [], ◌∷◌, length, get_or, refl, sym, subst, ap, ◌∙◌, arith, All, AllPairs, All-from_recursion}
 use Rattle.shared_lemmas.proofs.Pairs.{pairs_by_places}
-use Rattle.jass_base.specs.declared.posting.Posting.{Posting}
-use Rattle.jass_base.specs.declared.postings_list.PostingsList.{PostingsList}
-use Rattle.jass_base.specs.Lists.{HasDocsBelow, DifferInTerm}
-use Rattle.jass_base.specs.Postings.{docs_of}
+use Rattle.impact_segments.proofs.Below.{Posting, PostingsList, HasDocsBelow, DifferInTerm, docs_of}
 use Rattle.impact_segments.proofs.tests.collection.Goals as goal
 
 below : (n : ℕ) (list : PostingsList) (postings : List Posting) → list.postings ≡ postings → All (λ doc. doc < n) (docs_of postings) → HasDocsBelow n list

@@ -1,9 +1,5 @@
 -- Each turn puts a later document behind the others.
-use Rattle.std.proofs.Common.{ℕ, ◌+◌, ◌%◌, ◌<◌, ◌≤◌, List, [], ◌∷◌, ◌++◌, sym, subst, arith}
-use Rattle.std.specs.Prelude.{All}
-use Rattle.std.specs.List.{AllByRecursion}
-use Rattle.std.specs.List.Sorted.{IsStrictlyIncreasing}
-use Rattle.std.proofs.lemmas.List.Elements.{recursion_from_All, All-push}
+use Rattle.shared_lemmas.proofs.Common.{ℕ, ◌+◌, ◌%◌, ◌<◌, ◌≤◌, List, [], ◌∷◌, ◌++◌, sym, subst, arith, All, AllByRecursion, IsStrictlyIncreasing, recursion_from_All, All-push}
 use Rattle.shared_lemmas.proofs.Pairs.{pairs_append, pairs_map, rising_from_pairs}
 use Rattle.shared_lemmas.proofs.Lists.{all_weaker}
 use Rattle.impact_segments.specs.Pairs.{pair_docs}
@@ -29,7 +25,7 @@ loop-doc-preserved c =
     let B : List DocImpact → Type 0 = λ (l : List DocImpact). All (λ (q : DocImpact). q.doc < doc + 1) l in
     let P : List DocImpact → Type 0 = λ (l : List DocImpact). All (λ (q : DocImpact). 1 ≤ q.impact) l in
     record {
-      rising = subst R (sym c.in-Ok.ensures.items) (rising_more pairs p c.loop-doc.invariant.below c.loop-doc.invariant.rising);
-      below = subst B (sym c.in-Ok.ensures.items) (below_more pairs p c.loop-doc.invariant.below);
-      positive = subst P (sym c.in-Ok.ensures.items) (All-push (λ (q : DocImpact). 1 ≤ q.impact) pairs p c.loop-doc.invariant.positive (omega arith));
+      rising = subst R (sym c.in_ok-push.ensures.items) (rising_more pairs p c.loop-doc.invariant.below c.loop-doc.invariant.rising);
+      below = subst B (sym c.in_ok-push.ensures.items) (below_more pairs p c.loop-doc.invariant.below);
+      positive = subst P (sym c.in_ok-push.ensures.items) (All-push (λ (q : DocImpact). 1 ≤ q.impact) pairs p c.loop-doc.invariant.positive (omega arith));
     }

@@ -1,6 +1,4 @@
-use Rattle.std.proofs.Common.{◌<◌, ◌≤◌}
-use Rattle.std.specs.Prelude.{All}
-use Rattle.std.specs.List.Sorted.{IsStrictlyIncreasing}
+use Rattle.shared_lemmas.proofs.Common.{◌<◌, ◌≤◌, All, IsStrictlyIncreasing}
 use Rattle.impact_segments.specs.Pairs.{pair_docs}
 use Rattle.impact_segments.specs.declared.doc_impact.DocImpact.{DocImpact}
 use Rattle.impact_segments.proofs.tests.striped.Given as goal

@@ -1,6 +1,5 @@
 use Rattle.std.proofs.Common.{◌≡◌, ◌++◌, ◌^◌, length, drop, map, min}
-use Rattle.jass_base.specs.declared.doc_record.DocRecord.{DocRecord}
-use Rattle.weights.specs.Weighting.{length_norm}
+use Rattle.impact_segments.proofs.Below.{DocRecord, length_norm}
 use Rattle.impact_segments.specs.Private.Weighed.{total_length, norms_of}
 use Rattle.impact_segments.proofs.weighing.norms_of.Given as goal
 

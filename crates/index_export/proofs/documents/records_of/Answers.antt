@@ -11,4 +11,4 @@ loop-doc-preserved c =
     let named : List ℕ → DocData = λ (name : List ℕ). record { name = name; length = 0 } in
     let names : List (List ℕ) = c.args.index.now.index.names in
     one_more doc_data named c.loop-doc.docs c.push.new.self _ names c.loop-doc.doc c.name.result.now (name_records names)
-    (there names c.loop-doc.doc c.name.result.now c.name.ensures) c.in-Ok.ensures.ok (ap named c.in_ok-name.ensures.bytes) c.loop-doc.invariant
+    (there names c.loop-doc.doc c.name.result.now c.name.ensures) c.in_ok-push.ensures.ok (ap named c.in_ok-name.ensures.bytes) c.loop-doc.invariant

@@ -1,7 +1,5 @@
 -- The parts of the collection are those of the export.
-use Rattle.std.proofs.Common.{◌≡◌, ◌<◌, ◌^◌, ℕ, List, [], length, sym, ap, ◌∙◌, subst, arith}
-use Rattle.std.specs.Prelude.{All, replicate}
-use Rattle.std.specs.List.{sum_by}
+use Rattle.std.proofs.Common.{◌≡◌, ◌<◌, ◌^◌, ℕ, List, [], length, sym, ap, ◌∙◌, subst, arith, All, replicate, sum_by}
 use Rattle.jass_base.specs.Ciff.{HeaderData, DocData}
 use Rattle.jass_base.specs.CiffViews.{list_data, doc_data, header_data}
 use Rattle.jass_base.specs.Lists.{HasDocsBelow}

@@ -14,7 +14,7 @@ blocks-2-preserved g c =
     let same = c.next_block-given.ensures.block docs gives in (
       drop n docs,
       c.next_block-given.ensures.rest docs gives,
-      block_more c.args.impact n c.blocks-2.postings.items c.add_docs.new.postings.items whole (take n c.next_block-given.new.out) docs same c.in-Ok.ensures c.blocks-2.invariant.2,
+      block_more c.args.impact n c.blocks-2.postings.items c.add_docs.new.postings.items whole (take n c.next_block-given.new.out) docs same c.in_ok-add_docs.ensures c.blocks-2.invariant.2,
       (let counted = block_counted n c.next_block-given.new.out docs same (omega (arith, c.next_block-given.ensures.most, c.next_block-given.array_long)) in omega (arith, counted, c.next_block-given.ensures.steps, c.blocks-2.invariant.3)),
       omega (arith, c.next_block-given.ensures.steps, c.blocks-2.invariant.4),
     )

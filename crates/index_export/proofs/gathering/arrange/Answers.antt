@@ -1,7 +1,5 @@
 -- The sort is stable, so it leaves what sorting by insertion leaves.
-use Rattle.std.proofs.Common.{rules, ℕ}
-use Rattle.std.proofs.lemmas.Cmp.{on_total, nat_cmp_total}
-use Rattle.std.proofs.lemmas.List.Sorted.{answers_always}
+use Rattle.shared_lemmas.proofs.Common.{rules, ℕ, on_total, nat_cmp_total, answers_always}
 use Rattle.jass_base.specs.declared.posting.Posting.{Posting}
 use Rattle.ranking_model.proofs.Sorting.{stable_is_sorted}
 use Rattle.index_export.specs.Exports.{doc_cmp}

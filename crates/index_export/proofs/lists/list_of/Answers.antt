@@ -1,7 +1,5 @@
 -- What is kept of the list of a term.
-use Rattle.std.proofs.Common.{◌≡◌, ◌<◌, ◌≤◌, ℕ, List, length, sym, ap, ◌∙◌, subst, arith}
-use Rattle.std.specs.Prelude.{All}
-use Rattle.std.specs.List.Sorted.{IsStrictlyIncreasing}
+use Rattle.shared_lemmas.proofs.Common.{◌≡◌, ◌<◌, ◌≤◌, ℕ, List, length, sym, ap, ◌∙◌, subst, arith, All, IsStrictlyIncreasing}
 use Rattle.jass_base.specs.declared.posting.Posting.{Posting}
 use Rattle.jass_base.specs.Postings.{docs_of, HasTfInRange}
 use Rattle.index_export.specs.Exports.{term_list, impact_sum}
@@ -17,8 +15,7 @@ impact_sum-requires g c =
     let is = ap impact_sum (c.as_slice.ensures.value ∙ c.in_ok-postings.ensures.postings) in
     let sum = list_sum (length index.names) t (term_is index c.args.t c.is_checked.ensures.index c.requires.t) in
     let small = term_small index c.args.t c.requires.t in
-    let few = c.is_checked.ensures.postings in
-    omega (arith, is, sum, small, few)
+    omega (arith, is, sum, small, c.is_checked.ensures.postings)
 
 pub invariant_of-result : goal.invariant_of-result
 invariant_of-result g c =

@@ -1,6 +1,4 @@
-use Rattle.std.proofs.Common.{◌≡◌, ◌++◌, ◌+◌, ◌≤◌, drop, map, length}
-use Rattle.std.specs.Prelude.{All}
-use Rattle.std.specs.List.{sum_by}
+use Rattle.std.proofs.Common.{◌≡◌, ◌++◌, ◌+◌, ◌≤◌, drop, map, length, All, sum_by}
 use Rattle.jass_base.specs.CiffViews.{list_data}
 use Rattle.jass_base.specs.Lists.{HasDocsBelow}
 use Rattle.index_layout.specs.View.{term_postings}

@@ -1,7 +1,7 @@
 use Rattle.std.proofs.Common.{◌≡◌, ◌≤◌, take, map}
 use Rattle.index_file.specs.declared.segment.Segment.{Segment}
 use Rattle.index_file.specs.Places.{uses_of}
-use Rattle.index_file.specs.Tables.{row_head}
+use Rattle.index_file.specs.Private.Tables.{row_head}
 use Rattle.index_file.proofs.file.uses_of.Given as goal
 
 abbrev pub invariant-segments : goal.invariant-segments

@@ -1,10 +1,8 @@
 use Rattle.std.proofs.Common.{◌≡◌, ◌+◌, ◌-◌, ◌*◌, ◌^◌, ◌≤◌, ◌++◌, List, length, map, drop, All}
-use Rattle.index_layout.specs.Reading.{read_heads}
-use Rattle.index_layout.specs.Heads.{HeadData}
-use Rattle.index_layout.proofs.Behind.{with_heads}
-use Rattle.index_file.specs.Payloads.{IsCounted}
+use Rattle.index_file.proofs.Below.{read_heads, HeadData, with_heads}
+use Rattle.index_file.specs.Private.Payloads.{IsCounted}
 use Rattle.index_file.specs.Private.Sums.{AreSums}
-use Rattle.index_file.specs.Tables.{HasHead, row_head}
+use Rattle.index_file.specs.Private.Tables.{HasHead, row_head}
 use Rattle.index_file.proofs.heads.read_heads.Given as goal
 
 abbrev pub invariant-heads : goal.invariant-heads

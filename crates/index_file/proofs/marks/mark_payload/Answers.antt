@@ -1,6 +1,4 @@
-use Rattle.std.proofs.Common.{◌<◌, ◌-◌, drop, ap, sym, ◌∙◌, arith}
-use Rattle.std.proofs.lemmas.List.{length-drop}
-use Rattle.std.proofs.lemmas.List.Elements.{All-drop}
+use Rattle.shared_lemmas.proofs.Common.{◌<◌, ◌-◌, drop, ap, sym, ◌∙◌, arith, length-drop, All-drop}
 use Rattle.index_file.specs.Private.Marks.{marked, meets_marked}
 use Rattle.index_file.proofs.MarkLists.{block_met, block_passed, block_marked}
 use Rattle.index_file.proofs.marks.mark_payload.Goals as goal
@@ -17,7 +15,6 @@ returns-then-mark_docs-clause-met c =
 pub parts-preserved : goal.parts-preserved
 parts-preserved c =
     let now = c.args.now in
-    let d = c.args.docs in
     let marks = c.parts.marks in
     let left = c.parts.invariant in
     let rest = left.rest in
@@ -29,7 +26,7 @@ parts-preserved c =
       rest = drop n rest;
       given = c.next_block-given.ensures.rest rest left.given;
       many = length-drop n rest ∙ ap (λ k. k - n) left.many;
-      below = All-drop (λ doc. doc < d) n rest left.below;
+      below = All-drop (λ doc. doc < c.args.docs) n rest left.below;
       met = left.met ∙ block_passed now n rest marks passed ∙ ap (meets_marked now (drop n rest)) (sym new);
       same = left.same ∙ block_marked now n rest marks ∙ ap (marked now (drop n rest)) (sym new);
       count = (let l = c.mark_docs.ensures.count in let m = left.count in omega (arith, l, m));

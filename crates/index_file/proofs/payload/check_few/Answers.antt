@@ -1,14 +1,15 @@
-use Rattle.std.proofs.Common.{◌≡◌, ◌+◌, ◌++◌, true, false, ap, sym, subst, ◌∙◌}
-use Rattle.index_layout.specs.Reading.{docs_in, payload_end}
-use Rattle.index_layout.specs.Refusals.{Fails}
+use Rattle.std.proofs.Common.{◌≡◌, ◌+◌, ◌++◌, true, false, ap, sym, subst, ◌∙◌, Err, rules}
+use Rattle.index_file.proofs.Below.{docs_in, payload_end, Fails}
 use Rattle.index_file.specs.Private.Marks.{AreMarks, marked, meets_marked}
-use Rattle.index_file.specs.Tables.{told}
+use Rattle.index_file.specs.Private.Tables.{told}
 use Rattle.index_file.proofs.MarkLists.{marked_are}
 use Rattle.index_file.proofs.OnePayload.{payload_fails, apart_end}
 use Rattle.index_file.proofs.payload.check_few.Goals as goal
 
-pub returns-in-Err-clause-exact : goal.returns-in-Err-clause-exact
-returns-in-Err-clause-exact c = λ earlier are. payload_fails c.args.bytes.now c.args.docs (told c.args.head) c.args.at earlier c.in-Err.fault c.in-Err.ensures.exact
+pub returns-in_err-check_into_block-clause-exact : goal.returns-in_err-check_into_block-clause-exact
+returns-in_err-check_into_block-clause-exact c = λ earlier are.
+    let out : c.from_residual.result ≡ Err c.in_err-check_into_block.field-0.0 = search rules in
+    rw out (payload_fails c.args.bytes.now c.args.docs (told c.args.head) c.args.at earlier c.in_err-check_into_block.field-0.0 c.in_err-check_into_block.ensures.exact)
 
 pub returns-then-mark_docs-clause-exact : goal.returns-then-mark_docs-clause-exact
 returns-then-mark_docs-clause-exact c = λ earlier are.
@@ -16,9 +17,9 @@ returns-then-mark_docs-clause-exact c = λ earlier are.
     let d = c.args.docs in
     let head = told c.args.head in
     let at = c.args.at in
-    let met : true ≡ meets_marked c.args.now (docs_in bytes d head at) c.args.marks.now = sym c.if-mark_docs.true ∙ c.mark_docs.ensures.met ∙ ap (λ docs. meets_marked c.args.now docs c.args.marks.now) c.in-Ok.ensures.docs in
+    let met : true ≡ meets_marked c.args.now (docs_in bytes d head at) c.args.marks.now = sym c.if-mark_docs.true ∙ c.mark_docs.ensures.met ∙ ap (λ docs. meets_marked c.args.now docs c.args.marks.now) c.in_ok-check_into_block.ensures.docs in
     subst (λ fault. Fails fault (payload_end bytes d earlier head at)) (sym c.refused.ensures)
-    (apart_end bytes d c.args.now head at (at + c.args.head.size) earlier c.args.marks.now true c.in-Ok.ensures.exact are c.in-Ok.ensures.payload.docs c.requires.marks met)
+    (apart_end bytes d c.args.now head at (at + c.args.head.size) earlier c.args.marks.now true c.in_ok-check_into_block.ensures.exact are c.in_ok-check_into_block.ensures.payload.docs c.requires.marks met)
 
 pub returns-clause-exact : goal.returns-clause-exact
 returns-clause-exact c = λ earlier are.
@@ -26,12 +27,11 @@ returns-clause-exact c = λ earlier are.
     let d = c.args.docs in
     let head = told c.args.head in
     let at = c.args.at in
-    let met : false ≡ meets_marked c.args.now (docs_in bytes d head at) c.args.marks.now = sym c.if-mark_docs.false ∙ c.mark_docs.ensures.met ∙ ap (λ docs. meets_marked c.args.now docs c.args.marks.now) c.in-Ok.ensures.docs in
-    apart_end bytes d c.args.now head at (at + c.args.head.size) earlier c.args.marks.now false c.in-Ok.ensures.exact are c.in-Ok.ensures.payload.docs c.requires.marks met
+    let met : false ≡ meets_marked c.args.now (docs_in bytes d head at) c.args.marks.now = sym c.if-mark_docs.false ∙ c.mark_docs.ensures.met ∙ ap (λ docs. meets_marked c.args.now docs c.args.marks.now) c.in_ok-check_into_block.ensures.docs in
+    apart_end bytes d c.args.now head at (at + c.args.head.size) earlier c.args.marks.now false c.in_ok-check_into_block.ensures.exact are c.in_ok-check_into_block.ensures.payload.docs c.requires.marks met
 
 pub returns-clause-marks : goal.returns-clause-marks
 returns-clause-marks c = λ earlier are.
-    let d = c.args.docs in
-    let docs = docs_in c.args.bytes.now d (told c.args.head) c.args.at in
-    let new : c.mark_docs.new.marks ≡ marked c.args.now docs c.args.marks.now = c.mark_docs.ensures.marks c.if-mark_docs.false ∙ ap (λ docs. marked c.args.now docs c.args.marks.now) c.in-Ok.ensures.docs in
+    let docs = docs_in c.args.bytes.now c.args.docs (told c.args.head) c.args.at in
+    let new : c.mark_docs.new.marks ≡ marked c.args.now docs c.args.marks.now = c.mark_docs.ensures.marks c.if-mark_docs.false ∙ ap (λ docs. marked c.args.now docs c.args.marks.now) c.in_ok-check_into_block.ensures.docs in
     subst (AreMarks c.args.now (earlier ++ docs)) (sym new) (marked_are c.args.now docs earlier c.args.marks.now are)

@@ -1,22 +1,18 @@
 use Rattle.std.proofs.Common.{[], sym, subst, arith}
-use Rattle.index_layout.specs.Reading.{payload_end}
-use Rattle.index_layout.specs.Refusals.{Fails}
-use Rattle.index_file.specs.Tables.{told}
+use Rattle.index_file.proofs.Below.{payload_end, Fails}
+use Rattle.index_file.specs.Private.Tables.{told}
 use Rattle.index_file.proofs.OnePayload.{payload_cut, payload_not, payload_alone, payload_read}
 use Rattle.index_file.proofs.payload.check_payload.Goals as goal
 
 pub returns-then-bytes-at-clause-exact : goal.returns-then-bytes-at-clause-exact
 returns-then-bytes-at-clause-exact c =
-    let long = c.if-bytes-at.true in
-    let from = c.requires.at in
     subst (λ fault. Fails fault (payload_end c.args.bytes.now c.args.docs [] (told c.args.head) c.args.at)) (sym c.refused.ensures)
-    (payload_cut c.args.bytes.now c.args.docs [] (told c.args.head) c.args.at (omega (arith, long, from)))
+    (payload_cut c.args.bytes.now c.args.docs [] (told c.args.head) c.args.at (omega (arith, c.if-bytes-at.true, c.requires.at)))
 
 pub returns-in-Ok-clause-exact : goal.returns-in-Ok-clause-exact
 returns-in-Ok-clause-exact c =
-    let fits = c.if-bytes-at.false in
     let from = c.requires.at in
-    payload_alone c.args.bytes.now c.args.docs (told c.args.head) c.args.at c.in-Ok.field-0 (omega (arith, fits, from)) c.in-Ok.ensures.judged
+    payload_alone c.args.bytes.now c.args.docs (told c.args.head) c.args.at c.in-Ok.field-0 (omega (arith, c.if-bytes-at.false, from)) c.in-Ok.ensures.judged
 
 pub returns-in-Ok-clause-payload : goal.returns-in-Ok-clause-payload
 returns-in-Ok-clause-payload c =

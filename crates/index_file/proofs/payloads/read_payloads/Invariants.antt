@@ -1,9 +1,9 @@
 use Rattle.std.proofs.Common.{◌≡◌, ◌≤◌, ◌+◌, ℕ, List, All, length, map, take, drop}
-use Rattle.index_layout.specs.Reading.{read_payloads}
-use Rattle.index_layout.proofs.Behind.{with_index}
-use Rattle.index_file.specs.Payloads.{IsPayload, row_heads, row_terms}
-use Rattle.index_file.specs.Tables.{HasHead, row_head}
-use Rattle.index_file.proofs.RowLists.{EndsBy, row_of}
+use Rattle.index_file.proofs.Below.{read_payloads, with_index}
+use Rattle.index_file.specs.Private.Payloads.{IsPayload, row_heads, row_terms}
+use Rattle.index_file.specs.Private.Tables.{HasHead, row_head}
+use Rattle.index_file.proofs.RowLists.{EndsBy}
+use Rattle.index_file.proofs.Standing.{row_of}
 use Rattle.index_file.proofs.payloads.read_payloads.Given as goal
 
 abbrev pub invariant-terms : goal.invariant-terms

@@ -4,8 +4,7 @@ use Rattle.index_file.proofs.plain.are_parts_plain.Goals as goal
 
 pub parts-preserved : goal.parts-preserved
 parts-preserved c =
-    let more = c.parts-test.true in
-    let room : c.parts.at + 8 ≤ length c.args.bytes.now = omega (arith, more) in
+    let room : c.parts.at + 8 ≤ length c.args.bytes.now = omega (arith, c.parts-test.true) in
     record {
       within = room;
       plain = plain_next c.args.bytes.now c.parts.at room c.parts.invariant.plain (c.is_part_plain.ensures c.if-not-is_part_plain.false);

@@ -1,6 +1,6 @@
 use Rattle.std.proofs.Common.{arith}
 use Rattle.jass_base.proofs.Accepting.{all_bytes}
-use Rattle.index_file.specs.Samples.{first_eight, leading}
+use Rattle.index_file.specs.Private.Samples.{first_eight, leading}
 use Rattle.index_file.proofs.Leading.{leading_on, leading_done, number_small, number_fits}
 use Rattle.index_file.proofs.samples.first_eight.Goals as goal
 
@@ -23,9 +23,8 @@ bytes-preserved c = rw c.from.ensures (record {
 pub returns-clause-number : goal.returns-clause-number
 unfolding first_eight
 returns-clause-number c =
-    let all = c.bytes-test.false in
     let most = c.bytes.auto.i-end in
-    leading_done (leading 8 c.args.text.now) c.bytes.number c.bytes.i c.args.text.now (omega (arith, all, most)) c.bytes.invariant.read
+    leading_done (leading 8 c.args.text.now) c.bytes.number c.bytes.i c.args.text.now (omega (arith, c.bytes-test.false, most)) c.bytes.invariant.read
 
 pub returns-clause-bytes : goal.returns-clause-bytes
 returns-clause-bytes c = all_bytes c.args.text.now (λ i. omega (arith, c.type_inv.text i))

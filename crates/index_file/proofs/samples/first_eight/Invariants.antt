@@ -1,5 +1,5 @@
 use Rattle.std.proofs.Common.{◌≡◌, ◌+◌, ◌*◌, ◌-◌, ◌^◌, ◌<◌, drop}
-use Rattle.index_file.specs.Samples.{leading}
+use Rattle.index_file.specs.Private.Samples.{leading}
 use Rattle.index_file.proofs.samples.first_eight.Given as goal
 
 abbrev pub invariant-bytes : goal.invariant-bytes

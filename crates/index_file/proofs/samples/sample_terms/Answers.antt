@@ -1,8 +1,8 @@
 use Rattle.std.proofs.Common.{◌*◌, ◌-◌, ◌<◌, ◌≤◌, length, length-append, ap, ◌∙◌, arith}
 use Rattle.std.specs.Int.{div_ceil}
 use Rattle.jass_base.proofs.Accepting.{all_bytes}
-use Rattle.index_file.specs.Samples.{first_eight}
-use Rattle.index_file.specs.Tables.{part_of}
+use Rattle.index_file.specs.Private.Samples.{first_eight}
+use Rattle.index_file.specs.Private.Tables.{part_of}
 use Rattle.index_file.proofs.Sampling.{sampled_on, term_after, all_sampled}
 use Rattle.index_file.proofs.Standing.{rows_in_order}
 use Rattle.index_file.proofs.samples.sample_terms.Goals as goal
@@ -16,7 +16,7 @@ part-requires c =
 pub samples-preserved : goal.samples-preserved
 unfolding part_of
 samples-preserved c =
-    let more = c.in-Ok.ensures.ok in
+    let more = c.in_ok-push.ensures.ok in
     let count = c.samples.invariant.count in
     let size = ap length more ∙ length-append c.samples.samples _ in
     record {

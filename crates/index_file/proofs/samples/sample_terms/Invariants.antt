@@ -1,5 +1,5 @@
 use Rattle.std.proofs.Common.{◌≡◌, ◌*◌, ◌<◌, ℕ, length, slice_index}
-use Rattle.index_file.specs.Samples.{first_eight, text_at}
+use Rattle.index_file.specs.Private.Samples.{first_eight, text_at}
 use Rattle.index_file.proofs.samples.sample_terms.Given as goal
 
 abbrev pub invariant-samples : goal.invariant-samples

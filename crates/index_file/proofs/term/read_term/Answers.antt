@@ -1,6 +1,6 @@
 use Rattle.std.proofs.Common.{◌≤◌, ℕ, List, length, sym, subst, ◌∙◌}
 use Rattle.index_layout.specs.Reading.{before_bytes}
-use Rattle.index_file.specs.Tables.{before_in}
+use Rattle.index_file.specs.Private.Tables.{before_in}
 use Rattle.index_file.proofs.NextTerms.{shared_fits}
 use Rattle.index_file.proofs.term.read_term.Goals as goal
 

@@ -1,10 +1,8 @@
-use Rattle.std.proofs.Common.{◌≡◌, ◌≤◌, [], All, length, map, take, drop}
-use Rattle.std.specs.List.{flat_map}
-use Rattle.index_layout.specs.Reading.{read_segments}
-use Rattle.index_layout.proofs.Behind.{with_segments}
+use Rattle.std.proofs.Common.{◌≡◌, ◌≤◌, [], All, length, map, take, drop, flat_map}
+use Rattle.index_file.proofs.Below.{read_segments, with_segments}
 use Rattle.index_file.specs.Private.Marks.{AreMarks}
-use Rattle.index_file.specs.Payloads.{IsPayload, row_segment}
-use Rattle.index_file.specs.Tables.{HasHead, row_head}
+use Rattle.index_file.specs.Private.Payloads.{IsPayload, row_segment}
+use Rattle.index_file.specs.Private.Tables.{HasHead, row_head}
 use Rattle.index_file.proofs.SegmentLists.{docs_there}
 use Rattle.index_file.proofs.term_payloads.read_apart.Given as goal
 

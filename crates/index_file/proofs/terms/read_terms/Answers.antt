@@ -1,14 +1,10 @@
-use Rattle.std.proofs.Common.{◌≡◌, ◌+◌, ◌-◌, suc, List, ◌∷◌, [], None, Some, map, drop, length, All, ap, sym, subst, ◌∙◌, arith}
-use Rattle.std.proofs.lemmas.List.{length-append, map-append}
-use Rattle.std.proofs.lemmas.List.Elements.{All-append}
-use Rattle.index_layout.specs.Heads.{TermHeads}
-use Rattle.index_layout.specs.Reading.{HeadsRead, term_in, read_heads, read_terms}
-use Rattle.index_layout.proofs.Behind.{with_terms}
+use Rattle.shared_lemmas.proofs.Common.{◌≡◌, ◌+◌, ◌-◌, suc, List, ◌∷◌, [], None, Some, map, drop, length, All, ap, sym, subst, ◌∙◌, arith, Err, rules, length-append, map-append, All-append}
+use Rattle.index_file.proofs.Below.{TermHeads, HeadsRead, term_in, read_heads, read_terms, with_terms}
 use Rattle.index_file.specs.declared.span.Span.{Span}
 use Rattle.index_file.specs.declared.term_row.TermRow.{TermRow}
-use Rattle.index_file.specs.Payloads.{row_heads}
+use Rattle.index_file.specs.Private.Payloads.{row_heads}
 use Rattle.index_file.specs.Private.Sums.{AreSums}
-use Rattle.index_file.specs.Tables.{AreRows, HasHead, before_in, row_head}
+use Rattle.index_file.specs.Private.Tables.{AreRows, HasHead, before_in, row_head}
 use Rattle.index_file.proofs.TermRows.{terms_on, terms_end, heads_not, counted_on, rows_next}
 use Rattle.index_file.proofs.terms.read_terms.Goals as goal
 
@@ -28,23 +24,23 @@ terms-preserved c =
     let put = c.in-Ok-push.ensures.ok in
     let row : TermRow = record { text = c.len-in-terms.result; segment = c.len-in-terms-2.result } in
     let span : Span = record { from = c.len-start.result; to = c.len-in-terms-3.result } in
-    let here : HeadsRead = record { heads = map (row_head bytes) added; end = c.in-Ok-read_heads.end } in
+    let here : HeadsRead = record { heads = map (row_head bytes) added; end = c.in_ok-at.at } in
     let left = c.args.count - (c.terms.counter + 1) in
     let more : c.args.count - c.terms.counter ≡ suc left = omega arith in
-    let heads : read_heads bytes d _ 65536 c.in-Ok-read_term.read.0 ≡ _ = ap (λ n. read_heads bytes d n 65536 c.in-Ok-read_term.read.0) (sym c.in-Ok-read_term.ensures.heads) ∙ c.in-Ok-read_heads.ensures.exact in
-    let next = rows_next bytes text term newer segments added newest rows row span c.in-Ok-read_term.ensures.term c.in-Ok-read_heads.ensures.kept c.terms.invariant.rows c.len-in-terms.ensures c.len-in-terms-2.ensures c.len-start.ensures c.len-in-terms-3.ensures in
+    let heads : read_heads bytes d _ 65536 c.in_ok-place.place ≡ _ = ap (λ n. read_heads bytes d n 65536 c.in_ok-place.place) (sym c.in_ok-place.ensures.heads) ∙ c.in_ok-at.ensures.exact in
+    let next = rows_next bytes text term newer segments added newest rows row span c.in_ok-place.ensures.term c.in_ok-at.ensures.kept c.terms.invariant.rows c.len-in-terms.ensures c.len-in-terms-2.ensures c.len-start.ensures c.len-in-terms-3.ensures in
     let front = row_heads bytes newer newest c.push-in-terms.new.self in
     record {
-      read = terms_on bytes d (read_terms bytes d c.args.count None c.args.from) (row_heads bytes text segments rows) (c.args.count - c.terms.counter) left before at c.in-Ok-read_term.read.0 here c.terms.invariant.read more c.in-Ok-read_term.ensures.exact heads
+      read = terms_on bytes d (read_terms bytes d c.args.count None c.args.from) (row_heads bytes text segments rows) (c.args.count - c.terms.counter) left before at c.in_ok-place.place here c.terms.invariant.read more c.in_ok-place.ensures.exact heads
           ∙ ap (λ (front : List TermHeads). with_terms front (read_terms bytes d left (Some term) here.end)) (sym next.terms_are ∙ ap (row_heads bytes newer newest) (sym put))
           ∙ ap (λ t. with_terms front (read_terms bytes d left (Some t) here.end)) (sym next.part);
-      at = c.in-Ok-read_heads.ensures.end;
+      at = c.in_ok-at.ensures.end;
       before = next.span_is;
       rows = subst (AreRows newer newest) (sym put) next.are;
-      counted = counted_on bytes d segments added newest c.in-Ok-read_heads.ensures.kept c.terms.invariant.counted c.in-Ok-read_heads.ensures.counted;
-      there = subst (All (HasHead bytes)) (sym c.in-Ok-read_heads.ensures.kept) (All-append (HasHead bytes) segments added c.terms.invariant.there c.in-Ok-read_heads.ensures.there);
-      sums = subst (λ all. AreSums c.read_heads.new.sums all) (sym (ap (map (row_head bytes)) c.in-Ok-read_heads.ensures.kept ∙ map-append (row_head bytes) segments added)) (c.in-Ok-read_heads.ensures.sums (map (row_head bytes) segments) c.terms.invariant.sums);
-      small = c.in-Ok-read_heads.ensures.small;
+      counted = counted_on bytes d segments added newest c.in_ok-at.ensures.kept c.terms.invariant.counted c.in_ok-at.ensures.counted;
+      there = subst (All (HasHead bytes)) (sym c.in_ok-at.ensures.kept) (All-append (HasHead bytes) segments added c.terms.invariant.there c.in_ok-at.ensures.there);
+      sums = subst (λ all. AreSums c.read_heads.new.sums all) (sym (ap (map (row_head bytes)) c.in_ok-at.ensures.kept ∙ map-append (row_head bytes) segments added)) (c.in_ok-at.ensures.sums (map (row_head bytes) segments) c.terms.invariant.sums);
+      small = c.in_ok-at.ensures.small;
       few = omega (arith, c.len-else-len-most_text.ensures, c.if-len-gt4294967295.false);
       count = ap length put ∙ length-append rows (row ∷ []) ∙ ap (λ n. n + 1) c.terms.invariant.count;
     }
@@ -54,12 +50,13 @@ returns-clause-exact c = terms_end c.args.bytes.now c.args.docs (read_terms c.ar
     (row_heads c.args.bytes.now c.terms.text c.terms.segments c.terms.rows) (c.args.count - c.terms.counter)
     (before_in c.terms.text c.terms.before) c.terms.at c.terms.invariant.read (omega arith)
 
-pub returns-in-Err-read_heads-clause-exact : goal.returns-in-Err-read_heads-clause-exact
-returns-in-Err-read_heads-clause-exact c =
+pub returns-in_err-at-clause-exact : goal.returns-in_err-at-clause-exact
+returns-in_err-at-clause-exact c =
     let bytes = c.args.bytes.now in
     let d = c.args.docs in
     let before = before_in c.terms.text c.terms.before in
     let left = c.args.count - (c.terms.counter + 1) in
     let more : c.args.count - c.terms.counter ≡ suc left = omega arith in
-    heads_not bytes d (read_terms bytes d c.args.count None c.args.from) (row_heads bytes c.terms.text c.terms.segments c.terms.rows) (c.args.count - c.terms.counter) left before c.terms.at c.in-Ok-read_term.read.0 c.in-Ok-read_term.read.1 c.in-Err-read_heads.fault
-    c.terms.invariant.read more c.in-Ok-read_term.ensures.exact c.in-Ok-read_term.ensures.heads c.in-Err-read_heads.ensures.exact
+    let out : c.from_residual-in_err-at.result ≡ Err c.in_err-at.field-0.0 = search rules in
+    rw out (heads_not bytes d (read_terms bytes d c.args.count None c.args.from) (row_heads bytes c.terms.text c.terms.segments c.terms.rows) (c.args.count - c.terms.counter) left before c.terms.at c.in_ok-place.place c.in_ok-place.heads c.in_err-at.field-0.0
+    c.terms.invariant.read more c.in_ok-place.ensures.exact c.in_ok-place.ensures.heads c.in_err-at.ensures.exact)

@@ -1,10 +1,8 @@
-use Rattle.std.proofs.Common.{◌≡◌, ◌-◌, ◌+◌, ◌≤◌, ◌<◌, ◌*◌, ◌^◌, length, map, All, None}
-use Rattle.std.specs.Prelude.{IfSome}
-use Rattle.index_layout.specs.Reading.{read_terms}
-use Rattle.index_layout.proofs.Behind.{with_terms}
-use Rattle.index_file.specs.Payloads.{IsCounted, row_heads}
+use Rattle.std.proofs.Common.{◌≡◌, ◌-◌, ◌+◌, ◌≤◌, ◌<◌, ◌*◌, ◌^◌, length, map, All, None, IfSome}
+use Rattle.index_file.proofs.Below.{read_terms, with_terms}
+use Rattle.index_file.specs.Private.Payloads.{IsCounted, row_heads}
 use Rattle.index_file.specs.Private.Sums.{AreSums}
-use Rattle.index_file.specs.Tables.{IsSpan, AreRows, HasHead, before_in, row_head}
+use Rattle.index_file.specs.Private.Tables.{IsSpan, AreRows, HasHead, before_in, row_head}
 use Rattle.index_file.proofs.terms.read_terms.Given as goal
 
 abbrev pub invariant-terms : goal.invariant-terms

@@ -1,15 +1,5 @@
-use Rattle.std.proofs.Common.{ℕ, ◌≡◌, List, [], ◌∷◌, ◌++◌, map, Option, refl, sym, ap, subst, ◌∙◌, arith}
-use Rattle.std.specs.Prelude.{All}
-use Rattle.std.specs.Vec.Iter.{into_iter_items}
-use Rattle.std.proofs.lemmas.List.{map-append}
-use Rattle.jass_base.specs.Outside.{Files, ForContent}
-use Rattle.ciff_read.specs.Pieces.{KeptList}
-use Rattle.ciff_read.specs.Walk.{HasKept}
-use Rattle.ciff_read.proofs.Told.{for_one}
-use Rattle.jass_base.specs.declared.segment.Segment.{Segment}
-use Rattle.index_model.specs.Views.{segment_data}
-use Rattle.index_write.specs.Chosen.{chosen_heads, chosen_payloads, head_data}
-use Rattle.index_write.specs.declared.term_heads.TermHeads.{TermHeads}
+use Rattle.shared_lemmas.proofs.Common.{ℕ, ◌≡◌, List, [], ◌∷◌, ◌++◌, map, Option, refl, sym, ap, subst, ◌∙◌, arith, All, into_iter_items, map-append}
+use Rattle.index_import.proofs.Below.{Files, ForContent, KeptList, HasKept, for_one, Segment, segment_data, chosen_heads, chosen_payloads, head_data, TermHeads}
 use Rattle.index_import.specs.Private.Heading.{AreHeads, KeepsMore}
 use Rattle.index_import.specs.Private.Rereading.{AreSegments, segments_there}
 use Rattle.index_import.specs.Private.Surveying.{HoldsMost, IsReady, KeepsAll}

@@ -1,11 +1,6 @@
 -- The lists that are read again are those of the collection.
-use Rattle.std.proofs.Common.{◌≡◌, ℕ, List, Option, sym, subst, ◌∙◌}
-use Rattle.std.specs.Prelude.{All}
-use Rattle.std.proofs.lemmas.List.Elements.{All-map}
-use Rattle.jass_base.specs.Outside.{Files, ForContent}
-use Rattle.ciff_read.specs.Pieces.{KeptList}
-use Rattle.ciff_read.specs.Walk.{HasKept}
-use Rattle.ciff_read.proofs.Told.{for_one}
+use Rattle.shared_lemmas.proofs.Common.{◌≡◌, ℕ, List, Option, sym, subst, ◌∙◌, All, All-map}
+use Rattle.index_import.proofs.Below.{Files, ForContent, KeptList, HasKept, for_one}
 use Rattle.index_import.specs.Private.Ranging.{range_there}
 use Rattle.index_import.specs.Private.Outlining.{IsOutline}
 use Rattle.index_import.specs.Private.Surveying.{AreGiven, HoldsMost, KeepsAll}

@@ -1,7 +1,5 @@
 -- The last document is the greatest.
-use Rattle.std.proofs.Common.{◌-◌, ◌<◌, ◌^◌, arith, length, subst, sym}
-use Rattle.std.proofs.lemmas.Bool.Decides.{nat_tests}
-use Rattle.std.proofs.lemmas.Option.{get_or_from_slice_get}
+use Rattle.shared_lemmas.proofs.Common.{◌-◌, ◌<◌, ◌^◌, arith, length, subst, sym, nat_tests, get_or_from_slice_get}
 use Rattle.jass_base.specs.declared.posting.Posting.{Posting}
 use Rattle.index_import.proofs.Words.{all_have_words}
 use Rattle.index_import.proofs.kept_postings.have_words.Goals as goal

@@ -1,9 +1,5 @@
 -- The documents as the sort leaves them.
-use Rattle.std.proofs.Common.{rules, ◌≡◌, ℕ, map, sym, ap, ◌∙◌}
-use Rattle.std.proofs.lemmas.Iterator.Adapters.{YieldsList-from_vec}
-use Rattle.std.proofs.lemmas.Iterator.Consumers.{YieldsList-end}
-use Rattle.std.proofs.lemmas.List.{map-id}
-use Rattle.std.proofs.lemmas.List.Sorted.{IsNonDecreasingBy-from_sort_by}
+use Rattle.shared_lemmas.proofs.Common.{rules, ◌≡◌, ℕ, map, sym, ap, ◌∙◌, YieldsList-from_vec, YieldsList-end, map-id, IsNonDecreasingBy-from_sort_by}
 use Rattle.jass_base.specs.declared.doc_record.DocRecord.{DocRecord}
 use Rattle.index_import.proofs.outline.in_order.Goals as goal
 
@@ -15,8 +11,8 @@ returns c =
     let all : c.loop-record.yielded ≡ c.sort_by.new.self.items = sym (map-id c.loop-record.yielded) ∙ end.0 in
     record {
       ordered = c.sort_by.new.self.items;
-      same = c.in-Ok.ensures.permutation;
-      rising = IsNonDecreasingBy-from_sort_by (λ (x : ℕ × DocRecord). x.0) c.sort_by.new.self.items c.in-Ok.ensures.sorted (λ a r f' called. search rules);
+      same = c.in_ok-sort_by.ensures.permutation;
+      rising = IsNonDecreasingBy-from_sort_by (λ (x : ℕ × DocRecord). x.0) c.sort_by.new.self.items c.in_ok-sort_by.ensures.sorted (λ a r f' called. search rules);
       names_are = c.loop-record.invariant.names_are ∙ ap (map (λ (x : ℕ × DocRecord). x.1.name)) all;
       lengths_are = c.loop-record.invariant.lengths_are ∙ ap (map (λ (x : ℕ × DocRecord). x.1.length)) all;
     }

@@ -1,5 +1,4 @@
-use Rattle.std.proofs.Common.{◌≡◌, ◌≤◌, ◌^◌, ◌*◌, take}
-use Rattle.std.specs.List.{sum}
+use Rattle.std.proofs.Common.{◌≡◌, ◌≤◌, ◌^◌, ◌*◌, take, sum}
 use Rattle.index_import.proofs.outline.total_length.Given as goal
 
 abbrev pub invariant-loop-length : goal.invariant-loop-length

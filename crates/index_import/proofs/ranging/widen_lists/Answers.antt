@@ -1,12 +1,6 @@
 -- Each list that is read again widens the range, and each that isn't would leave it.
-use Rattle.std.proofs.Common.{◌≡◌, ℕ, ◌≤◌, ◌^◌, List, refl, sym, subst, ◌∙◌, arith}
-use Rattle.std.specs.Prelude.{All}
-use Rattle.jass_base.specs.Lists.{HasDocsBelow}
-use Rattle.ciff_read.specs.Pieces.{KeptList}
-use Rattle.ciff_read.specs.Walk.{HasKept, LeavesWalk}
-use Rattle.ciff_read.proofs.Told.{for_one}
-use Rattle.weights.specs.declared.quantizing.Bits.TheVariants.{Of}
-use Rattle.weights.specs.declared.quantizing.Range.{Range}
+use Rattle.std.proofs.Common.{◌≡◌, ℕ, ◌≤◌, ◌^◌, List, refl, sym, subst, ◌∙◌, arith, All}
+use Rattle.index_import.proofs.Below.{HasDocsBelow, KeptList, HasKept, LeavesWalk, for_one, Of, Range}
 use Rattle.index_import.specs.Private.Outlining.{list_there}
 use Rattle.index_import.specs.Private.Surveying.{HoldsMost, IsReady, KeepsAll}
 use Rattle.index_import.specs.declared.list_entry.ListEntry.{ListEntry}

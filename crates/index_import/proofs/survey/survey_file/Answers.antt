@@ -1,12 +1,6 @@
 -- Each piece keeps what was kept so far.
-use Rattle.std.proofs.Common.{◌≤◌, ℕ, List, Option, Ok, Err, sym, subst, ◌∙◌, arith}
-use Rattle.std.specs.Prelude.{All}
-use Rattle.std.proofs.lemmas.Bool.Decides.{nat_tests}
-use Rattle.jass_base.specs.Outside.{Files, ForContent}
-use Rattle.ciff_read.specs.Given.{PieceRanges}
-use Rattle.ciff_read.specs.Walk.{StandsFor, StandsTold, WalkView, kept_of}
-use Rattle.ciff_read.specs.declared.piece.Piece.{Piece}
-use Rattle.ciff_read.proofs.Told.{for_one}
+use Rattle.shared_lemmas.proofs.Common.{◌≤◌, ℕ, List, Option, Ok, Err, sym, subst, ◌∙◌, arith, All, nat_tests}
+use Rattle.index_import.proofs.Below.{Files, ForContent, PieceRanges, StandsFor, StandsTold, WalkView, kept_of, Piece, for_one}
 use Rattle.index_import.specs.Private.Surveying.{HoldsMost, KeepsAll}
 use Rattle.index_import.specs.declared.list_entry.ListEntry.{ListEntry}
 use Rattle.index_import.proofs.Surveying.{Follows, Holds, PieceLaws, all_kept, doc_held, doc_told, empty_held, end_told, entry_is, fault_told, gives_there, list_held, list_told, most_told, start_told}

@@ -1,7 +1,5 @@
-use Rattle.std.proofs.Common.{◌≡◌, ◌≤◌, List, ℕ}
-use Rattle.std.specs.Prelude.{All}
-use Rattle.jass_base.specs.Outside.{ForContent, IsMissing}
-use Rattle.ciff_read.specs.Walk.{StandsTold}
+use Rattle.std.proofs.Common.{◌≡◌, ◌≤◌, List, ℕ, All}
+use Rattle.index_import.proofs.Below.{ForContent, IsMissing, StandsTold}
 use Rattle.index_import.specs.Private.Surveying.{HoldsMost, KeepsAll}
 use Rattle.index_import.proofs.Surveying.{Follows, Holds, pieces_left}
 use Rattle.index_import.proofs.survey.survey_file.Given as goal

@@ -1,34 +1,26 @@
-use Rattle.std.proofs.Common.{ℕ, ◌≡◌, ◌<◌, ◌-◌, List, [], ◌∷◌, ◌++◌, length, map, take, get_or, suc, Option, None, Err, refl, sym, ap, ap₂, subst, ◌∙◌, ◌⊎◌, arith, append-nil, append_assoc}
-use Rattle.std.specs.Prelude.{All, AllPairs, IfOk}
-use Rattle.std.specs.Vec.Iter.{into_iter_items}
-use Rattle.std.proofs.lemmas.List.{length-append, length-map}
-use Rattle.jass_base.specs.Outside.{Appended, Extends, Files, ForContent, Sets, content_there}
-use Rattle.jass_base.specs.Segments.{SharesNoDocument}
-use Rattle.jass_base.specs.declared.segment.Segment.{Segment}
-use Rattle.ciff_read.specs.declared.refusal.CiffFault.{CiffFault}
+use Rattle.shared_lemmas.proofs.Common.{ℕ, ◌≡◌, ◌<◌, ◌-◌, List, [], ◌∷◌, ◌++◌, length, map, take, get_or, suc, Option, None, Err, refl, sym, ap, ap₂, subst, ◌∙◌, ◌⊎◌, arith, append-nil, append_assoc, All, AllPairs, IfOk, into_iter_items, length-append, length-map}
+use Rattle.index_import.proofs.Below.{Appended, Extends, Files, ForContent, Sets, content_there, SharesNoDocument, Segment, CiffFault, KeptList, HasKept, SegmentData, TermData, segment_data, front_bytes, chosen_heads, chosen_payloads, table_payloads, WriterView, change_of, entries_totals}
+use Rattle.index_import.proofs.Below.{entry_data, next_heads, Unappended, TermFault, Bits, Range}
 use Rattle.ciff_read.specs.declared.refusal.CiffFault.TheVariants as reading
-use Rattle.ciff_read.specs.Pieces.{KeptList}
-use Rattle.ciff_read.specs.Walk.{HasKept}
-use Rattle.index_model.specs.Index.{SegmentData, TermData}
-use Rattle.index_model.specs.Views.{segment_data}
-use Rattle.index_layout.specs.Layout.{front_bytes}
-use Rattle.index_write.specs.Chosen.{chosen_heads, chosen_payloads, table_payloads}
 use Rattle.index_layout.specs.Heads.{TermHeads as EntryData}
-use Rattle.index_write.specs.Streaming.{WriterView, change_of, entries_totals, entry_data, next_heads}
-use Rattle.index_write.specs.declared.fault.TermFault.{TermFault}
-use Rattle.index_write.specs.Streaming.{Unappended}
-use Rattle.index_import.specs.Private.Heading.{AreKept}
-use Rattle.index_import.specs.Importing.{Writes}
-use Rattle.index_import.specs.Private.Rereading.{FailsInside, IsInside}
+use Rattle.index_import.specs.Private.Heading.{ArePayloads}
+use Rattle.index_import.specs.Private.Writing.{Writes}
+use Rattle.index_import.specs.Private.Rereading.{FailsOf, IsInside}
+use Rattle.index_import.specs.Private.Outlining.{list_there}
 use Rattle.index_import.specs.Private.Surveying.{IsReady}
 use Rattle.index_import.specs.declared.fault.ImportFault.{ImportFault}
 use Rattle.index_import.specs.declared.list_entry.Place.{Place}
+use Rattle.index_import.specs.declared.weighing.Weighing.{Weighing}
 use Rattle.index_import.proofs.Beside.{beside}
 use Rattle.index_import.proofs.Finished.{as_many, fits, found_here, kept_written, left_is, never_changed, next_is, not_appended, not_begun, not_read, only_untold, same_payloads, totals_are, turn_low, whole_text, writer_is}
 use Rattle.index_import.proofs.Ready.{leaves_same, leaves_then, ready_beside}
 use Rattle.index_import.proofs.Turns.{middle, parted, whole}
 use Rattle.index_import.proofs.Written.{extends_sets, payloads_more, sets_wanted}
 use Rattle.index_import.proofs.writing.write_index.Goals as goal
+
+-- the list at a place is refused only for a weight outside the range
+abbrev FailsInside : List ℕ → ℕ → Weighing → Bits → Range → ℕ → CiffFault → Type 0
+FailsInside content docs w bits range at fault = FailsOf w bits range (list_there content docs at).postings fault
 
 abbrev no_term : TermData
 no_term = record { term = []; segments = [] }
@@ -46,7 +38,7 @@ returns-in-Some-clause-written g c = λ made has.
     let after : Option Files = g.C.Cabinet.told c.put_kept.new.files in
     let entries = map entry_data c.args.heads.terms in
     let law = c.appended_payloads_make_the_text.ensures in
-    let kept : c.in-Some.payloads ≡ table_payloads c.args.walk.now.docs made = subst (λ (k : Option (List ℕ)). AreKept k c.args.walk.now.docs made) c.in-Some.is has.payloads_are in
+    let kept : c.in-Some.payloads ≡ table_payloads c.args.walk.now.docs made = subst (λ (k : Option (List ℕ)). ArePayloads k c.args.walk.now.docs made) c.in-Some.is has.payloads_are in
     kept_written old c.args.walk.now.name c.args.index.now c.args.walk.now.docs c.args.names entries made c.requires.as_many has.heads_are law.text law.length
     begun after c.as_slice.result.now c.put_kept.result c.in-Ok.ensures.fits (c.as_slice.ensures ∙ kept) law.file law.prefix law.totals c.in-Ok.ensures.content
     (subst (λ (n : List ℕ). Appended begun after n c.as_slice.result.now c.put_kept.result) c.in-Ok.ensures.name c.put_kept.ensures.content)

@@ -1,11 +1,6 @@
 use Rattle.std.proofs.Common.{◌≡◌, ◌≤◌, ◌-◌, ◌^◌, ◌++◌, List, length, map, take}
-use Rattle.jass_base.specs.Outside.{Sets}
-use Rattle.ciff_read.specs.Walk.{LeavesWalk}
-use Rattle.index_model.specs.Index.{TermData}
-use Rattle.index_layout.specs.Layout.{file_length, front_bytes}
-use Rattle.index_write.specs.Chosen.{table_payloads}
-use Rattle.index_write.specs.Streaming.{entry_data, writer_view}
-use Rattle.index_import.specs.Importing.{HasTerms}
+use Rattle.index_import.proofs.Below.{Sets, LeavesWalk, TermData, file_length, front_bytes, table_payloads, entry_data, writer_view}
+use Rattle.index_import.specs.Private.Writing.{HasTerms}
 use Rattle.index_import.specs.Private.Surveying.{IsReady}
 use Rattle.index_import.proofs.writing.write_index.Given as goal
 

@@ -1,6 +1,4 @@
-use Rattle.std.proofs.Common.{◌≤◌, length}
-use Rattle.std.specs.List.{AllByRecursion}
-use Rattle.std.proofs.lemmas.List.Elements.{recursion_from_All}
+use Rattle.shared_lemmas.proofs.Common.{◌≤◌, length, AllByRecursion, recursion_from_All}
 use Rattle.shared_lemmas.proofs.Lists.{all_weaker}
 use Rattle.index_model.specs.Index.{SegmentData, IndexData, IsSegment, IsTerm, IsIndex}
 use Rattle.index_model.proofs.FlatOrder.{bytes_flat, numbers_flat}

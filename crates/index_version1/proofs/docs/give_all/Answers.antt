@@ -8,5 +8,5 @@ pieces-preserved c = λ docs gives.
     let n = c.next_block-given.result in (
       drop n inv.0,
       c.next_block-given.ensures.rest inv.0 inv.1,
-      block_on c.pieces.docs c.extend.new.self c.next_block-given.new.out inv.0 docs n c.in-Ok.ensures.ok (c.next_block-given.ensures.block inv.0 inv.1) inv.2,
+      block_on c.pieces.docs c.extend.new.self c.next_block-given.new.out inv.0 docs n c.in_ok-extend.ensures.ok (c.next_block-given.ensures.block inv.0 inv.1) inv.2,
     )

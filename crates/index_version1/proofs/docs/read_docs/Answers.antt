@@ -1,5 +1,4 @@
-use Rattle.std.proofs.Common.{arith, sym, subst, ◌<◌}
-use Rattle.std.proofs.lemmas.List.Elements.{All-from_get_or}
+use Rattle.shared_lemmas.proofs.Common.{arith, sym, subst, ◌<◌, All-from_get_or}
 use Rattle.jass_base.specs.Gaps.{AreDocs}
 use Rattle.index_version1.proofs.Marking.{judged_docs, docs_placed}
 use Rattle.index_version1.proofs.docs.read_docs.Goals as goal

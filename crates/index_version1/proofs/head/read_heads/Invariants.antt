@@ -1,6 +1,5 @@
 use Rattle.std.proofs.Common.{◌≡◌, ◌-◌, ◌≤◌, length, map}
-use Rattle.index_layout.specs.Reading.{read_heads}
-use Rattle.index_layout.proofs.Behind.{with_heads}
+use Rattle.index_version1.proofs.Below.{read_heads, with_heads}
 use Rattle.index_version1.specs.Private.Tables.{head_data}
 use Rattle.index_version1.proofs.head.read_heads.Given as goal
 

@@ -1,5 +1,4 @@
-use Rattle.std.proofs.Common.{◌≡◌, ◌==◌, false, take, slice_index}
-use Rattle.std.specs.List.{list_any}
+use Rattle.shared_lemmas.proofs.Common.{◌≡◌, ◌==◌, false, take, slice_index, list_any}
 use Rattle.index_version1.proofs.marks.has_marked.Given as goal
 
 abbrev pub invariant-loop-doc : goal.invariant-loop-doc

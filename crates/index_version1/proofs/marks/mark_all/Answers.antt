@@ -1,5 +1,4 @@
-use Rattle.std.proofs.Common.{arith, get_or, ◌≤◌}
-use Rattle.std.proofs.lemmas.List.Elements.{All-set}
+use Rattle.shared_lemmas.proofs.Common.{arith, get_or, ◌≤◌, All-set}
 use Rattle.index_version1.proofs.Marking.{mark_on, marked_all}
 use Rattle.index_version1.proofs.marks.mark_all.Goals as goal
 

@@ -1,6 +1,5 @@
 use Rattle.std.proofs.Common.{◌≡◌, ◌-◌, ◌++◌}
-use Rattle.index_layout.specs.Reading.{NamesRead}
-use Rattle.index_layout.specs.Refusals.{judged}
+use Rattle.index_version1.proofs.Below.{NamesRead, judged}
 use Rattle.index_version1.specs.Reading.{text_checks, names_from}
 use Rattle.index_version1.proofs.names.read_texts.Given as goal
 

@@ -1,5 +1,4 @@
-use Rattle.std.proofs.Common.{arith, map, None, sym, ◌∙◌}
-use Rattle.std.proofs.lemmas.List.{length-map}
+use Rattle.shared_lemmas.proofs.Common.{arith, map, None, sym, ◌∙◌, length-map}
 use Rattle.index_layout.specs.Reading.{TermsRead}
 use Rattle.index_version1.specs.Private.Tables.{term_heads}
 use Rattle.index_version1.proofs.OldTerms.{terms1_only}

@@ -1,5 +1,4 @@
-use Rattle.std.proofs.Common.{arith, ◌≡◌, ◌+◌, ◌∷◌, List, length, map, ap}
-use Rattle.std.specs.Prelude.{Some}
+use Rattle.std.proofs.Common.{arith, ◌≡◌, ◌+◌, ◌∷◌, List, length, map, ap, Some}
 use Rattle.index_layout.specs.Reading.{read_payloads}
 use Rattle.index_version1.specs.declared.old_term.OldTerm.{OldTerm}
 use Rattle.index_version1.specs.Private.Tables.{term_heads}
@@ -16,11 +15,11 @@ loop-term-preserved c =
     let split : from ≡ old ∷ rest = c.in-Some.ensures.steps.0 in
     let first = first_heads d c.loop-term.invariant.rise.0 old from rest split c.loop-term.invariant.rise.1 in
     record {
-      read = filled_on bytes d (read_payloads bytes d (map term_heads c.args.terms) c.args.from) c.loop-term.filled c.push.new.self c.in-Ok.read.0 old from rest c.loop-term.at c.in-Ok.read.1
-          c.in-Ok-push.ensures.ok split c.loop-term.invariant.read c.in-Ok.ensures.term c.in-Ok.ensures.exact;
-      at = c.in-Ok.ensures.end;
+      read = filled_on bytes d (read_payloads bytes d (map term_heads c.args.terms) c.args.from) c.loop-term.filled c.push.new.self c.in_ok-term.term old from rest c.loop-term.at c.in_ok-term.end
+          c.in-Ok.ensures.ok split c.loop-term.invariant.read c.in_ok-term.ensures.term c.in_ok-term.ensures.exact;
+      at = c.in_ok-term.ensures.end;
       rise = (Some old.term, first.2);
-      marks = c.in-Ok.ensures.most (c.loop-term.mark + 1) (λ k x inside. (let e = c.loop-term.invariant.marks k x inside in omega (arith, e))) (omega arith);
+      marks = c.in_ok-term.ensures.most (c.loop-term.mark + 1) (λ k x inside. (let e = c.loop-term.invariant.marks k x inside in omega (arith, e))) (omega arith);
       size = omega arith;
       few = omega (arith, ap length split);
     }

@@ -1,9 +1,5 @@
-use Rattle.std.proofs.Common.{◌≡◌, ◌≤◌, ◌+◌, ◌^◌, ℕ, List, length, map, All}
-use Rattle.std.specs.Prelude.{Option}
-use Rattle.index_model.specs.Views.{term_data}
-use Rattle.index_layout.proofs.TermLaws.{TermsRise}
-use Rattle.index_layout.specs.Reading.{read_payloads}
-use Rattle.index_layout.proofs.Behind.{with_index}
+use Rattle.std.proofs.Common.{◌≡◌, ◌≤◌, ◌+◌, ◌^◌, ℕ, List, length, map, All, Option}
+use Rattle.index_version1.proofs.Below.{term_data, TermsRise, read_payloads, with_index}
 use Rattle.index_version1.specs.Private.Tables.{term_heads}
 use Rattle.index_version1.proofs.payload.fill_terms.Given as goal
 

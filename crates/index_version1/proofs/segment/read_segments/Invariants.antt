@@ -1,8 +1,5 @@
 use Rattle.std.proofs.Common.{◌≡◌, ◌≤◌, ℕ, [], length, map, drop, All}
-use Rattle.index_model.specs.Views.{segment_data}
-use Rattle.index_layout.specs.Reading.{read_segments}
-use Rattle.index_layout.proofs.HeadLaws.{HeadsFall}
-use Rattle.index_layout.proofs.Behind.{with_segments}
+use Rattle.index_version1.proofs.Below.{segment_data, read_segments, HeadsFall, with_segments}
 use Rattle.index_version1.specs.Private.Tables.{Marks, head_data}
 use Rattle.index_version1.proofs.SegmentSteps.{all_docs}
 use Rattle.index_version1.proofs.segment.read_segments.Given as goal

@@ -1,5 +1,4 @@
-use Rattle.std.proofs.Common.{◌≡◌, drop, map}
-use Rattle.std.specs.Prelude.{max}
+use Rattle.std.proofs.Common.{◌≡◌, drop, map, max}
 use Rattle.index_layout.specs.Heads.{greatest_impact}
 use Rattle.index_version1.specs.Private.Tables.{term_heads}
 use Rattle.index_version1.proofs.sums.greatest.Given as goal

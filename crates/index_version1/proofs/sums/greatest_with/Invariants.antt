@@ -1,5 +1,4 @@
-use Rattle.std.proofs.Common.{◌≡◌, drop, map}
-use Rattle.std.specs.Prelude.{max}
+use Rattle.std.proofs.Common.{◌≡◌, drop, map, max}
 use Rattle.index_layout.specs.Heads.{greatest_of}
 use Rattle.index_version1.specs.Private.Tables.{head_data}
 use Rattle.index_version1.proofs.sums.greatest_with.Given as goal

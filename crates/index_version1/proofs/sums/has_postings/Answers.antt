@@ -1,5 +1,4 @@
-use Rattle.std.proofs.Common.{arith, ap, ◌+◌}
-use Rattle.std.specs.List.{sum_by}
+use Rattle.std.proofs.Common.{arith, ap, ◌+◌, sum_by}
 use Rattle.index_version1.specs.declared.head.Head.{Head}
 use Rattle.index_version1.proofs.Summing.{postings_more, postings_front, unequal}
 use Rattle.index_version1.proofs.sums.has_postings.Goals as goal

@@ -1,5 +1,4 @@
-use Rattle.std.proofs.Common.{◌≡◌, ◌+◌, take}
-use Rattle.std.specs.List.{sum_by}
+use Rattle.std.proofs.Common.{◌≡◌, ◌+◌, take, sum_by}
 use Rattle.index_version1.specs.declared.head.Head.{Head}
 use Rattle.index_version1.proofs.sums.without.Given as goal
 

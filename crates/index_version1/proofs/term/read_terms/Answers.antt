@@ -13,8 +13,8 @@ terms-preserved c =
     let left = c.args.count - (c.terms.counter + 1) in
     let more : c.args.count - c.terms.counter ≡ suc left = omega arith in
     record {
-      read = old_turn bytes d (read_terms1 bytes d c.args.count None c.args.from) c.terms.terms c.push.new.self _ (c.args.count - c.terms.counter) left c.terms.at c.in-Ok.read.1 c.in-Ok-read_heads.read.1
-          c.in-Ok-push.ensures.ok c.terms.invariant.read more (ap (λ (ts : List OldTerm). term1_end bytes (before_of ts) c.terms.at) (sym c.as_slice.ensures) ∙ c.in-Ok.ensures.exact) c.in-Ok.ensures.term
-          (ap (λ n. read_heads bytes d n 65536 c.in-Ok.read.1) (sym c.in-Ok.ensures.heads) ∙ c.in-Ok-read_heads.ensures.exact);
-      at = c.in-Ok-read_heads.ensures.end;
+      read = old_turn bytes d (read_terms1 bytes d c.args.count None c.args.from) c.terms.terms c.push.new.self _ (c.args.count - c.terms.counter) left c.terms.at c.in_ok-term.place c.in_ok-heads.end
+          c.in-Ok.ensures.ok c.terms.invariant.read more (ap (λ (ts : List OldTerm). term1_end bytes (before_of ts) c.terms.at) (sym c.as_slice.ensures) ∙ c.in_ok-term.ensures.exact) c.in_ok-term.ensures.term
+          (ap (λ n. read_heads bytes d n 65536 c.in_ok-term.place) (sym c.in_ok-term.ensures.heads) ∙ c.in_ok-heads.ensures.exact);
+      at = c.in_ok-heads.ensures.end;
     }

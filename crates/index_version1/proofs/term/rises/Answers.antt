@@ -1,8 +1,6 @@
-use Rattle.std.proofs.Common.{ap, sym, ◌∙◌, ◌-◌, arith, length}
-use Rattle.std.specs.Ordering.{is_lt, nat_cmp}
-use Rattle.std.specs.Cmp.Lexicographic.{slice_cmp}
+use Rattle.shared_lemmas.proofs.Common.{ap, sym, ◌∙◌, ◌-◌, arith, length, slice_cmp, nat_tests}
+use Rattle.std.proofs.Common.{is_lt, nat_cmp}
 use Rattle.index_layout.specs.Reading.{rises_behind}
-use Rattle.std.proofs.lemmas.Bool.Decides.{nat_tests}
 use Rattle.index_version1.specs.declared.old_term.OldTerm.{OldTerm}
 use Rattle.index_version1.proofs.TermSteps.{last_of}
 use Rattle.index_version1.proofs.term.rises.Goals as goal

@@ -1,6 +1,5 @@
 use Rattle.std.proofs.Common.{ap, ◌++◌, ◌∙◌}
-use Rattle.index_layout.specs.Bytes.{u32_bytes, u64_bytes}
-use Rattle.index_layout.specs.Layout.{magic}
+use Rattle.index_write.proofs.Below.{u32_bytes, u64_bytes, magic}
 use Rattle.index_write.proofs.Joining.{seven}
 use Rattle.index_write.proofs.bytes.put_numbers.Goals as goal
 

@@ -1,9 +1,7 @@
 use Rattle.std.proofs.Common.{arith, ap, sym, length, drop, map, ◌+◌, ◌∙◌, ◌++◌, ◌≤◌}
-use Rattle.jass_base.specs.declared.term_segments.TermSegments.{TermSegments}
-use Rattle.index_model.specs.Views.{segment_data, term_data}
-use Rattle.index_layout.specs.Bytes.{u32_bytes}
-use Rattle.index_layout.specs.Layout.{term_bytes, heads_bytes, terms_bytes}
-use Rattle.index_write.specs.Chosen.{head_data, chosen_heads, chosen_terms, table_of}
+use Rattle.index_write.proofs.Below.{TermSegments, segment_data, term_data, u32_bytes, term_bytes, heads_bytes, terms_bytes}
+use Rattle.index_write.specs.Chosen.{head_data, chosen_heads, chosen_terms}
+use Rattle.index_write.specs.Private.Table.{table_of}
 use Rattle.index_write.proofs.Memory.{next_at, terms_next, table_next, heads_count, heads_here, heads_behind, heads_reach, entry_is, text_turn, holds_here}
 use Rattle.index_write.proofs.front.put_terms.Goals as goal
 

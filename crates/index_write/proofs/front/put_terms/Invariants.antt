@@ -1,7 +1,7 @@
 use Rattle.std.proofs.Common.{◌≡◌, ◌++◌, [], length, drop, map}
-use Rattle.index_model.specs.Views.{term_data}
-use Rattle.index_layout.specs.Layout.{terms_bytes}
-use Rattle.index_write.specs.Chosen.{head_data, chosen_terms, table_of}
+use Rattle.index_write.proofs.Below.{term_data, terms_bytes}
+use Rattle.index_write.specs.Chosen.{head_data, chosen_terms}
+use Rattle.index_write.specs.Private.Table.{table_of}
 use Rattle.index_write.proofs.front.put_terms.Given as goal
 
 abbrev pub invariant-loop-term : goal.invariant-loop-term

@@ -1,6 +1,7 @@
 use Rattle.std.proofs.Common.{◌≡◌, length, take, map}
 use Rattle.index_model.specs.Views.{term_data}
-use Rattle.index_write.specs.Chosen.{head_data, table_of}
+use Rattle.index_write.specs.Chosen.{head_data}
+use Rattle.index_write.specs.Private.Table.{table_of}
 use Rattle.index_write.proofs.head.index_heads.Given as goal
 
 abbrev pub invariant-loop-term : goal.invariant-loop-term

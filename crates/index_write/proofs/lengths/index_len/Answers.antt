@@ -1,8 +1,5 @@
-use Rattle.std.proofs.Common.{arith, ap, length, ◌∙◌}
-use Rattle.std.specs.List.{sum_by}
-use Rattle.index_model.specs.Views.{index_data}
-use Rattle.index_layout.specs.Heads.{HeadData}
-use Rattle.index_layout.specs.Layout.{names_bytes}
+use Rattle.std.proofs.Common.{arith, ap, length, ◌∙◌, sum_by}
+use Rattle.index_write.proofs.Below.{index_data, HeadData, names_bytes}
 use Rattle.index_write.proofs.Memory.{sizes_map}
 use Rattle.index_write.proofs.lengths.index_len.Goals as goal
 

@@ -1,5 +1,4 @@
-use Rattle.std.proofs.Common.{arith, ap, refl, length, drop, ◌+◌}
-use Rattle.std.proofs.lemmas.List.{length-append}
+use Rattle.shared_lemmas.proofs.Common.{arith, ap, refl, length, drop, ◌+◌, length-append}
 use Rattle.index_layout.specs.Layout.{name_bytes, names_bytes}
 use Rattle.index_write.proofs.Bounds.{name_size}
 use Rattle.index_write.proofs.Memory.{next_at}

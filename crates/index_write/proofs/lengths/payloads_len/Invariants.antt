@@ -1,5 +1,4 @@
-use Rattle.std.proofs.Common.{◌≡◌, take}
-use Rattle.std.specs.List.{sum_by}
+use Rattle.std.proofs.Common.{◌≡◌, take, sum_by}
 use Rattle.index_write.specs.declared.head.PayloadHead.{PayloadHead}
 use Rattle.index_write.proofs.lengths.payloads_len.Given as goal
 

@@ -1,5 +1,4 @@
-use Rattle.std.proofs.Common.{arith, ap, drop}
-use Rattle.std.proofs.lemmas.List.{drop_all}
+use Rattle.shared_lemmas.proofs.Common.{arith, ap, drop, drop_all}
 use Rattle.index_layout.specs.Layout.{shared_with}
 use Rattle.index_write.proofs.Memory.{prefix_of_nothing}
 use Rattle.index_write.proofs.lengths.shared_len.Goals as goal

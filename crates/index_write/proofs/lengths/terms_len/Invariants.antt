@@ -1,6 +1,5 @@
 use Rattle.std.proofs.Common.{◌≡◌, ◌+◌, [], length, drop, map}
-use Rattle.index_model.specs.Views.{term_data}
-use Rattle.index_layout.specs.Layout.{terms_bytes}
+use Rattle.index_write.proofs.Below.{term_data, terms_bytes}
 use Rattle.index_write.specs.Chosen.{chosen_terms}
 use Rattle.index_write.proofs.lengths.terms_len.Given as goal
 

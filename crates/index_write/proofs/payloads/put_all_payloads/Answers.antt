@@ -1,6 +1,7 @@
 use Rattle.std.proofs.Common.{ap, sym, length, drop, map, ◌+◌, ◌∙◌, ◌++◌}
 use Rattle.index_model.specs.Views.{segment_data, term_data}
-use Rattle.index_write.specs.Chosen.{head_data, chosen_heads, chosen_payloads, table_of, table_payloads}
+use Rattle.index_write.specs.Chosen.{head_data, chosen_heads, chosen_payloads, table_payloads}
+use Rattle.index_write.specs.Private.Table.{table_of}
 use Rattle.index_write.proofs.Memory.{next_at, payloads_next, table_next, heads_count, heads_here, heads_behind, text_turn}
 use Rattle.index_write.proofs.payloads.put_all_payloads.Goals as goal
 

@@ -1,6 +1,7 @@
 use Rattle.std.proofs.Common.{◌≡◌, ◌++◌, length, drop, map}
 use Rattle.index_model.specs.Views.{term_data}
-use Rattle.index_write.specs.Chosen.{head_data, table_of, table_payloads}
+use Rattle.index_write.specs.Chosen.{head_data, table_payloads}
+use Rattle.index_write.specs.Private.Table.{table_of}
 use Rattle.index_write.proofs.payloads.put_all_payloads.Given as goal
 
 abbrev pub invariant-loop-term : goal.invariant-loop-term

@@ -1,5 +1,4 @@
-use Rattle.std.proofs.Common.{arith, ap, refl, length, drop, map, ◌+◌}
-use Rattle.std.specs.List.{sum_by}
+use Rattle.std.proofs.Common.{arith, ap, refl, length, drop, map, ◌+◌, sum_by}
 use Rattle.index_layout.specs.Heads.{greatest_of}
 use Rattle.index_write.specs.Chosen.{head_data}
 use Rattle.index_write.proofs.Entries.{count_next, count_of, greatest_next, postings_next, size_of, sizes_next}

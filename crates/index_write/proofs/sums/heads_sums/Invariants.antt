@@ -1,5 +1,4 @@
-use Rattle.std.proofs.Common.{◌≡◌, ◌≤◌, ◌+◌, ◌*◌, ◌^◌, length, drop, map}
-use Rattle.std.specs.Prelude.{max}
+use Rattle.std.proofs.Common.{◌≡◌, ◌≤◌, ◌+◌, ◌*◌, ◌^◌, length, drop, map, max}
 use Rattle.index_layout.specs.Heads.{all_heads, greatest_impact, head_postings, payloads_size}
 use Rattle.index_write.specs.Streaming.{entry_data}
 use Rattle.index_write.proofs.sums.heads_sums.Given as goal

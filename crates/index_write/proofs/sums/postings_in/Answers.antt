@@ -1,8 +1,5 @@
-use Rattle.std.proofs.Common.{arith, ap, length}
-use Rattle.std.specs.List.{sum_by}
-use Rattle.jass_base.specs.declared.segment.Segment.{Segment}
-use Rattle.jass_base.specs.declared.term_segments.TermSegments.{TermSegments}
-use Rattle.index_model.specs.Views.{index_data}
+use Rattle.std.proofs.Common.{arith, ap, length, sum_by}
+use Rattle.index_write.proofs.Below.{Segment, TermSegments, index_data}
 use Rattle.index_write.proofs.sums.postings_in.Goals as goal
 
 pub terms_postings-requires : goal.terms_postings-requires

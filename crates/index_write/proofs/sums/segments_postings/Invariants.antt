@@ -1,5 +1,4 @@
-use Rattle.std.proofs.Common.{◌≡◌, length, take}
-use Rattle.std.specs.List.{sum_by}
+use Rattle.std.proofs.Common.{◌≡◌, length, take, sum_by}
 use Rattle.jass_base.specs.declared.segment.Segment.{Segment}
 use Rattle.index_write.proofs.sums.segments_postings.Given as goal
 

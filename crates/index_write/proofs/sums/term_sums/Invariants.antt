@@ -1,6 +1,4 @@
-use Rattle.std.proofs.Common.{◌≡◌, ◌≤◌, ◌*◌, ◌^◌, drop, map, take}
-use Rattle.std.specs.Prelude.{max}
-use Rattle.std.specs.List.{sum_by}
+use Rattle.std.proofs.Common.{◌≡◌, ◌≤◌, ◌*◌, ◌^◌, drop, map, take, max, sum_by}
 use Rattle.index_layout.specs.Heads.{HeadData, greatest_of}
 use Rattle.index_write.specs.Chosen.{head_data}
 use Rattle.index_write.proofs.sums.term_sums.Given as goal

@@ -1,7 +1,5 @@
-use Rattle.std.proofs.Common.{◌≡◌, length, take}
-use Rattle.std.specs.List.{sum_by}
-use Rattle.jass_base.specs.declared.segment.Segment.{Segment}
-use Rattle.jass_base.specs.declared.term_segments.TermSegments.{TermSegments}
+use Rattle.std.proofs.Common.{◌≡◌, length, take, sum_by}
+use Rattle.index_write.proofs.Below.{Segment, TermSegments}
 use Rattle.index_write.proofs.sums.terms_postings.Given as goal
 
 abbrev pub invariant-loop-term : goal.invariant-loop-term

@@ -1,6 +1,5 @@
 use Rattle.std.proofs.Common.{◌≡◌, ℕ, List, length, All, ap, sym, subst, arith}
-use Rattle.jass_base.specs.declared.segment.Segment.{Segment}
-use Rattle.jass_base.specs.Segments.{HasDocumentsBelow}
+use Rattle.index_write.proofs.Below.{Segment, HasDocumentsBelow}
 use Rattle.jass_base.specs.Terms.{greatest_of}
 use Rattle.index_write.proofs.tests.car_and_cat.Goals as goal
 

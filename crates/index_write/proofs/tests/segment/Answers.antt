@@ -1,5 +1,4 @@
-use Rattle.std.proofs.Common.{◌≡◌, ℕ, ◌<◌, ◌+◌, List, [], ◌∷◌, length, sym, subst, arith}
-use Rattle.std.proofs.lemmas.List.Elements.{All-cons, All-nil}
+use Rattle.shared_lemmas.proofs.Common.{ℕ, ◌<◌, [], ◌∷◌, sym, subst, arith, All-cons, All-nil}
 use Rattle.jass_base.specs.Gaps.{AreDocs}
 use Rattle.index_write.proofs.tests.segment.Goals as goal
 

@@ -1,5 +1,4 @@
-use Rattle.std.proofs.Common.{sym, subst}
-use Rattle.std.specs.Prelude.{AllPairs}
+use Rattle.std.proofs.Common.{sym, subst, AllPairs}
 use Rattle.jass_base.specs.Segments.{SharesNoDocument}
 use Rattle.index_write.proofs.tests.streams.Goals as goal
 

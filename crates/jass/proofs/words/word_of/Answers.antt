@@ -1,6 +1,4 @@
-use Rattle.std.proofs.Common.{◌≡◌, ℕ, List, subst, ◌∙◌}
-use Rattle.std.specs.Prelude.{IfOk}
-use Rattle.std.specs.String.{string_bytes}
+use Rattle.shared_lemmas.proofs.Common.{◌≡◌, ℕ, List, subst, ◌∙◌, IfOk, string_bytes}
 use Rattle.jass.proofs.SoFar.{as_it_stands, no_text}
 use Rattle.jass.proofs.words.word_of.Goals as goal
 

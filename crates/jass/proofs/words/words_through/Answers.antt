@@ -1,8 +1,7 @@
-use Rattle.std.proofs.Common.{◌≡◌, suc, ◌+◌, List, length, Option, Some, String, Global, sym, subst, ◌∙◌, arith}
-use Rattle.std.specs.Option.{option_map}
-use Rattle.std.specs.String.{string_bytes}
+use Rattle.shared_lemmas.proofs.Common.{◌≡◌, suc, ◌+◌, List, length, Option, Some, String, sym, subst, ◌∙◌, arith, option_map, string_bytes}
+use Rattle.std.proofs.Common.{Global}
 use Rattle.jass_words.specs.Words.{texts}
-use Rattle.jass.specs.CommandLine.{GivesWord}
+use Rattle.jass.specs.Private.Words.{GivesWord}
 use Rattle.jass.proofs.SoFar.{SoFar, one_more}
 use Rattle.jass.proofs.words.words_through.Goals as goal
 

@@ -1,5 +1,5 @@
 use Rattle.std.proofs.Common.{◌≡◌, drop}
-use Rattle.jass_base.specs.Decimal.{value_after}
+use Rattle.jass_base.specs.Private.Decimal.{value_after}
 use Rattle.jass_base.proofs.decimal.value_of.Given as goal
 
 abbrev pub invariant-loop-byte : goal.invariant-loop-byte

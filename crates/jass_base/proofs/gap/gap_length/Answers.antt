@@ -1,5 +1,4 @@
-use Rattle.std.proofs.Common.{arith}
-use Rattle.std.proofs.lemmas.Bool.Decides.{nat_tests}
+use Rattle.shared_lemmas.proofs.Common.{arith, nat_tests}
 use Rattle.jass_base.proofs.GapBytes.{length_sum}
 use Rattle.jass_base.proofs.gap.gap_length.Goals as goal
 

@@ -1,5 +1,4 @@
-use Rattle.std.proofs.Common.{Some, sym, ap, ◌∙◌}
-use Rattle.std.specs.Option.{option_map}
+use Rattle.shared_lemmas.proofs.Common.{Some, sym, ap, ◌∙◌, option_map}
 use Rattle.jass_base.proofs.FilesOf.{get-files_of}
 use Rattle.jass_base.proofs.mem_cabinet.content_of.Goals as goal
 

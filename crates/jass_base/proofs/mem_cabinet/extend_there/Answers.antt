@@ -1,5 +1,4 @@
-use Rattle.std.proofs.Common.{sym, ap, ◌∙◌}
-use Rattle.std.specs.Option.{option_copied_mut}
+use Rattle.shared_lemmas.proofs.Common.{sym, ap, ◌∙◌, option_copied_mut}
 use Rattle.jass_base.proofs.FilesOf.{files_of-grown, files_of-kept}
 use Rattle.jass_base.proofs.mem_cabinet.extend_there.Goals as goal
 

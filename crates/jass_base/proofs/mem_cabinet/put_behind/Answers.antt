@@ -1,5 +1,4 @@
-use Rattle.std.proofs.Common.{List, ℕ, ◌++◌, sym, ap, ◌∙◌}
-use Rattle.std.specs.FinMap.{insert}
+use Rattle.shared_lemmas.proofs.Common.{List, ℕ, ◌++◌, sym, ap, ◌∙◌, insert}
 use Rattle.jass_base.specs.FilesOf.{files_of}
 use Rattle.jass_base.proofs.FilesOf.{content_missing}
 use Rattle.jass_base.proofs.mem_cabinet.put_behind.Goals as goal

@@ -1,6 +1,4 @@
-use Rattle.std.proofs.Common.{List, ℕ, ap, ◌∙◌}
-use Rattle.std.specs.FinMap.{insert}
-use Rattle.std.specs.String.{string_bytes}
+use Rattle.shared_lemmas.proofs.Common.{List, ℕ, ap, ◌∙◌, insert, string_bytes}
 use Rattle.jass_base.specs.FilesOf.{files_of}
 use Rattle.jass_base.proofs.FilesOf.{files_of-set, files_of-same}
 use Rattle.jass_base.proofs.mem_cabinet.set.Goals as goal

@@ -1,9 +1,5 @@
-use Rattle.std.proofs.Common.{[], refl, subst, inl, arith}
-use Rattle.std.specs.Io.KnownBytes.{Appends}
-use Rattle.jass_base.specs.declared.answer.Totals.{Totals}
-use Rattle.jass_base.specs.Writing.{AppendsPrefix}
-use Rattle.index_layout.specs.Totals.{totals_of}
-use Rattle.trec_run.specs.Totals.{totals_line}
+use Rattle.shared_lemmas.proofs.Common.{[], refl, subst, inl, arith, Appends}
+use Rattle.jass_top.proofs.Below.{Totals, AppendsPrefix, totals_of, totals_line}
 use Rattle.jass_top.proofs.check.run_check.Goals as goal
 
 pub returns-in-Ok : goal.returns-in-Ok

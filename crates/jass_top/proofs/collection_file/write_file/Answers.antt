@@ -1,8 +1,5 @@
 use Rattle.std.proofs.Common.{List, ℕ, Some, sym, subst}
-use Rattle.jass_base.specs.CiffText.{canonical_ciff}
-use Rattle.jass_base.specs.CiffViews.{collection_data}
-use Rattle.jass_base.specs.Outside.{Sets, Rose}
-use Rattle.jass_base.proofs.Writing.{Rose-earlier}
+use Rattle.jass_top.proofs.Below.{canonical_ciff, collection_data, Sets, Rose, Rose-earlier}
 use Rattle.jass_top.specs.Standing.{LeavesFront}
 use Rattle.jass_top.proofs.MadeFiles.{made, written, written_part}
 use Rattle.jass_top.proofs.collection_file.write_file.Goals as goal

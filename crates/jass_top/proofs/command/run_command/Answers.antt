@@ -1,9 +1,8 @@
 use Rattle.std.proofs.Common.{sym, subst}
-use Rattle.jass_words.specs.declared.command.Command.{Command}
-use Rattle.jass_words.specs.Commands.{command_data}
+use Rattle.jass_top.proofs.Below.{Command, command_data}
 use Rattle.jass_top.specs.Commands.{meaning_of}
-use Rattle.jass_top.specs.Running.{RunsAs}
-use Rattle.jass_top.specs.Worlds.{fed}
+use Rattle.jass_top.specs.Private.Running.{RunsAs}
+use Rattle.jass_top.specs.Private.Worlds.{fed}
 use Rattle.jass_top.proofs.command.run_command.Goals as goal
 
 pub returns-in-Rewrite-clause-runs : goal.returns-in-Rewrite-clause-runs

@@ -1,17 +1,11 @@
 use Rattle.std.proofs.Common.{[], Some, refl, subst, inr, arith}
-use Rattle.jass_base.specs.Ciff.{CollectionData}
-use Rattle.jass_base.specs.CiffText.{canonical_ciff}
-use Rattle.jass_base.specs.CiffViews.{collection_data}
-use Rattle.jass_base.proofs.Writing.{Appends-none, Rose-earlier}
-use Rattle.index_layout.specs.View.{index_postings}
-use Rattle.index_export.specs.Exports.{export_of}
+use Rattle.jass_top.proofs.Below.{CollectionData, canonical_ciff, collection_data, Appends-none, Rose-earlier, index_postings, export_of}
 use Rattle.jass_top.specs.Standing.{LeavesFront}
 use Rattle.jass_top.proofs.export.run_export.Goals as goal
 
 pub returns : goal.returns
 returns g c = λ beside.
-    let index = c.in_ok-file.file.index in
-    let told = g.C.Cabinet.told c.args.files.now in
+    let index = c.in_ok-file.file.index in let told = g.C.Cabinet.told c.args.files.now in
     let after = g.C.Cabinet.told c.write_file.new.files in (
       inr (refl, Rose-earlier (g.C.Cabinet.write_faults c.args.files.now) (g.C.Cabinet.write_faults c.open_index.new.files) (g.C.Cabinet.write_faults c.write_file.new.files) c.in_ok-file.ensures.others c.in-Err-write_file.ensures.cause),
       record {

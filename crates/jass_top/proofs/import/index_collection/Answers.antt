@@ -1,10 +1,5 @@
 use Rattle.std.proofs.Common.{◌≡◌, ℕ, List, [], ◌∷◌, length, map, refl, sym, ap, ◌∙◌, arith}
-use Rattle.jass_base.specs.declared.doc_record.DocRecord.{DocRecord}
-use Rattle.jass_base.specs.Ciff.{DocData}
-use Rattle.jass_base.specs.CiffViews.{collection_data, doc_data}
-use Rattle.impact_segments.specs.Collections.{index_of}
-use Rattle.index_model.specs.Grouping.{index_with}
-use Rattle.index_model.specs.Views.{index_data}
+use Rattle.jass_top.proofs.Below.{DocRecord, DocData, collection_data, doc_data, index_of, index_with, index_data}
 use Rattle.jass_top.proofs.Sizes.{flat_size, index_size}
 use Rattle.jass_top.proofs.import.index_collection.Goals as goal
 

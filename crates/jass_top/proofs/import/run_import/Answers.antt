@@ -1,12 +1,5 @@
-use Rattle.std.proofs.Common.{◌≡◌, Err, Some, refl, ap, sym, subst, inl, inr, arith}
-use Rattle.std.specs.Io.KnownBytes.{Appends}
-use Rattle.jass_base.specs.declared.answer.Totals.{Totals}
-use Rattle.jass_base.specs.Writing.{AppendsPrefix}
-use Rattle.jass_base.proofs.Writing.{Appends-none}
-use Rattle.index_layout.specs.View.{index_text}
-use Rattle.index_import.specs.Importing.{Imports}
-use Rattle.index_import.specs.declared.fault.ImportFault.{ImportFault}
-use Rattle.trec_run.specs.Totals.{totals_line}
+use Rattle.shared_lemmas.proofs.Common.{Err, refl, ap, sym, subst, inl, inr, arith, Appends}
+use Rattle.jass_top.proofs.Below.{Totals, AppendsPrefix, Appends-none, index_text, Imports, ImportFault, totals_line}
 use Rattle.jass_top.specs.declared.stop.Place.TheVariants.{Byte}
 use Rattle.jass_top.specs.Judging.{Refuses, Shows}
 use Rattle.jass_top.specs.MakingMeaning.{made_output}
@@ -27,8 +20,7 @@ returns-in-Err-Refused g c = λ steps.
 
 pub returns-in-Err-ReadFault : goal.returns-in-Err-ReadFault
 returns-in-Err-ReadFault g c = λ steps.
-    let told = g.C.Cabinet.told c.args.files.now in
-    let now = g.C.Cabinet.told c.import_file.new.files in
+    let told = g.C.Cabinet.told c.args.files.now in let now = g.C.Cabinet.told c.import_file.new.files in
     let is = subst (λ (f : ImportFault). Imports told now c.args.ciff.now c.args.index.now c.args.rule c.args.bits (Err f)) c.in-Err-ReadFault.field-0-is c.in-Err-ReadFault.ensures.imported in (
       inl refl,
       unread c.args.ciff.now c.args.rule c.args.bits told (g.C.Cabinet.read_faults c.args.files.now) (g.C.Cabinet.read_faults c.import_file.new.files) (c.in-Err-ReadFault.ensures.read_fault (ap Err c.in-Err-ReadFault.field-0-is)),
@@ -55,19 +47,13 @@ returns-in-Err-WriteFault g c = λ steps.
         output = made_output is.0;
         accepted = accepted c.args.ciff.now c.args.rule c.args.bits told is.0 is.1 is.2;
         exact = refl;
-        left = record {
-          content = is.3;
-          text = (0, Appends-none (g.O.Sink.written c.args.out.now));
-          steps = omega arith;
-          never_less = omega arith;
-        };
+        left = record { content = is.3; text = (0, Appends-none (g.O.Sink.written c.args.out.now)); steps = omega arith; never_less = omega arith };
       },
     )
 
 pub returns-in-Err-NoMemory : goal.returns-in-Err-NoMemory
 returns-in-Err-NoMemory g c = λ steps.
-    let told = g.C.Cabinet.told c.args.files.now in
-    let now = g.C.Cabinet.told c.import_file.new.files in
+    let told = g.C.Cabinet.told c.args.files.now in let now = g.C.Cabinet.told c.import_file.new.files in
     let is = subst (λ (f : ImportFault). Imports told now c.args.ciff.now c.args.index.now c.args.rule c.args.bits (Err f)) c.in-Err-NoMemory.field-0-is c.in-Err-NoMemory.ensures.imported in
     stands c.args.ciff.now c.args.rule c.args.bits c.args.index.now
     (outer g.C.Cabinet g.O.Sink c.args.files.now c.args.out.now steps) (outer g.C.Cabinet g.O.Sink c.import_file.new.files c.args.out.now steps) refl refl is

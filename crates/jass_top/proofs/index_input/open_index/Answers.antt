@@ -1,6 +1,5 @@
 use Rattle.std.proofs.Common.{Err, refl, ap, sym, subst, inl}
-use Rattle.index_layout.specs.declared.refusal.OpenFault.{OpenFault}
-use Rattle.index_file.specs.Opening.{Opens}
+use Rattle.jass_top.proofs.Below.{OpenFault, Opens}
 use Rattle.jass_top.specs.IndexJudging.{judge_index}
 use Rattle.jass_top.specs.declared.stop.Place.TheVariants.{Byte}
 use Rattle.jass_top.specs.Judging.{Refuses, Shows}

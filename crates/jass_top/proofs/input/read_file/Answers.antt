@@ -1,7 +1,5 @@
 use Rattle.std.proofs.Common.{◌≡◌, Err, refl, ap, sym, subst, ◌∙◌, inl}
-use Rattle.jass_base.specs.Ciff.{CollectionData}
-use Rattle.ciff_read.specs.declared.refusal.CiffFault.{CiffFault}
-use Rattle.ciff_read.specs.Reading.{read_ciff}
+use Rattle.jass_top.proofs.Below.{CollectionData, CiffFault, read_ciff}
 use Rattle.ciff_read.specs.Refusals.{Fails}
 use Rattle.jass_top.specs.declared.stop.Place.TheVariants.{Byte}
 use Rattle.jass_top.specs.Judging.{Refuses, Shows, judge_ciff}

@@ -1,8 +1,5 @@
 use Rattle.std.proofs.Common.{◌≡◌, sym, subst, ◌∙◌}
-use Rattle.index_layout.specs.Reading.{read_index}
-use Rattle.index_layout.specs.Refusals.{Fails}
-use Rattle.index_layout.specs.View.{FileView}
-use Rattle.index_layout.specs.declared.refusal.OpenFault.TheVariants.{NoMemory, Refused}
+use Rattle.jass_top.proofs.Below.{read_index, Fails, FileView, NoMemory, Refused}
 use Rattle.jass_top.proofs.MemoryFiles.{view_is, never_fails}
 use Rattle.jass_top.proofs.memory_file.open_text.Goals as goal
 

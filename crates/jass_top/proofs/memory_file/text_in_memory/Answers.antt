@@ -1,8 +1,5 @@
 use Rattle.std.proofs.Common.{refl, sym, ap, subst, ◌∙◌, inl, inr}
-use Rattle.index_model.specs.Views.{index_data}
-use Rattle.index_layout.specs.View.{index_text}
-use Rattle.index_write.specs.declared.fault.SaveFault.{SaveFault}
-use Rattle.index_write.specs.Saving.{Unmade}
+use Rattle.jass_top.proofs.Below.{index_data, index_text, SaveFault, Unmade}
 use Rattle.jass_top.specs.declared.stop.Place.TheVariants.{Byte}
 use Rattle.jass_top.specs.Judging.{Refuses}
 use Rattle.jass_top.proofs.JudgedFiles.{too_large}

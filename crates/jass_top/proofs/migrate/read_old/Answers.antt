@@ -1,9 +1,5 @@
 use Rattle.std.proofs.Common.{◌≡◌, Ok, Err, refl, ap, sym, subst, ◌∙◌, inl}
-use Rattle.index_model.specs.Index.{IndexData}
-use Rattle.index_model.specs.Views.{index_data}
-use Rattle.index_layout.specs.declared.refusal.OpenFault.{OpenFault}
-use Rattle.index_layout.specs.Refusals.{Fails}
-use Rattle.index_version1.specs.Reading.{read_index1}
+use Rattle.jass_top.proofs.Below.{IndexData, index_data, OpenFault, Fails, read_index1}
 use Rattle.jass_top.specs.IndexJudging.{judge_old}
 use Rattle.jass_top.specs.declared.stop.Place.TheVariants.{Byte}
 use Rattle.jass_top.specs.Judging.{Refuses, Shows}

@@ -1,6 +1,5 @@
 use Rattle.std.proofs.Common.{◌≡◌, Some, refl}
-use Rattle.index_model.specs.Index.{IndexData}
-use Rattle.index_model.specs.Views.{index_data}
+use Rattle.jass_top.proofs.Below.{IndexData, index_data}
 use Rattle.jass_top.specs.IndexJudging.{judge_old}
 use Rattle.jass_top.specs.MakingMeaning.{made_output}
 use Rattle.jass_top.specs.Worlds.{outer}

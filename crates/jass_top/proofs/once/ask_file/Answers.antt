@@ -1,6 +1,5 @@
 use Rattle.std.proofs.Common.{◌≡◌, refl, ap, ◌∙◌, inl, arith}
-use Rattle.ranking_model.specs.Search.{query_data}
-use Rattle.session_engine.specs.Standing.{query_of, report_of}
+use Rattle.jass_top.proofs.Below.{query_data, query_of, report_of}
 use Rattle.jass_top.specs.Answers.{once_query}
 use Rattle.jass_top.specs.Private.OnceTexts.{once_of}
 use Rattle.jass_top.proofs.Asking.{had}
@@ -9,11 +8,8 @@ use Rattle.jass_top.proofs.once.ask_file.Goals as goal
 
 pub returns-in-Ok-answered : goal.returns-in-Ok-answered
 returns-in-Ok-answered g c = λ beside.
-    let file = c.args.index.now in
-    let did = c.answer_session-answered.ensures in
-    let s = c.answer_session-answered.new.session in
-    let pool = c.answer_session-answered.new.pool in
-    let opened = c.in-Ok-open in
+    let file = c.args.index.now in let did = c.answer_session-answered.ensures in let s = c.answer_session-answered.new.session in
+    let pool = c.answer_session-answered.new.pool in let opened = c.in-Ok-open in
     let asks : query_data (query_of opened.session) ≡ once_query file.index (once_of c.args.question)
     = ap query_data opened.ensures.query ∙ (λ i. record { id = c.in-Ok.ensures.id i; terms = c.in-Ok.ensures.terms i; unknown = c.in-Ok.ensures.unknown i }) in
     let none : (report_of opened.session).postings ≡ 0 = scored_none c.the_prefix_is_the_longest.ensures.fits file opened.session c.open.new.pool opened.ensures.stands opened.ensures.granted in
@@ -23,11 +19,8 @@ returns-in-Ok-answered g c = λ beside.
 
 pub returns : goal.returns
 returns g c = λ beside.
-    let file = c.args.index.now in
-    let did = c.answer_session-answered.ensures in
-    let s = c.answer_session-answered.new.session in
-    let pool = c.answer_session-answered.new.pool in
-    let opened = c.in-Ok-open in
+    let file = c.args.index.now in let did = c.answer_session-answered.ensures in let s = c.answer_session-answered.new.session in
+    let pool = c.answer_session-answered.new.pool in let opened = c.in-Ok-open in
     let asks : query_data (query_of opened.session) ≡ once_query file.index (once_of c.args.question)
     = ap query_data opened.ensures.query ∙ (λ i. record { id = c.in-Ok.ensures.id i; terms = c.in-Ok.ensures.terms i; unknown = c.in-Ok.ensures.unknown i }) in
     let none : (report_of opened.session).postings ≡ 0 = scored_none c.the_prefix_is_the_longest.ensures.fits file opened.session c.open.new.pool opened.ensures.stands opened.ensures.granted in (

@@ -1,10 +1,9 @@
 use Rattle.std.proofs.Common.{subst}
-use Rattle.index_model.specs.Index.{IndexData}
-use Rattle.index_model.specs.Views.{index_data}
-use Rattle.jass_top.specs.Causes.{Runs}
-use Rattle.jass_top.specs.OnceMeaning.{asking_meaning}
+use Rattle.jass_top.proofs.Below.{IndexData, index_data}
+use Rattle.jass_top.specs.Private.Causes.{Runs}
+use Rattle.jass_top.specs.Private.HeldIndexes.{asking_meaning}
 use Rattle.jass_top.specs.Private.OnceTexts.{once_of}
-use Rattle.jass_top.specs.Worlds.{with_output}
+use Rattle.jass_top.specs.Private.Worlds.{with_output}
 use Rattle.jass_top.proofs.Stopping.{stopped}
 use Rattle.jass_top.proofs.once.ask_made.Goals as goal
 

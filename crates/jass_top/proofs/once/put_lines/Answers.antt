@@ -1,14 +1,15 @@
-use Rattle.std.specs.Prelude.{codes}
+use Rattle.shared_lemmas.proofs.Common.{◌≡◌, Err, rules, codes}
 use Rattle.ranking_model.specs.Report.{report_line, run_lines}
 use Rattle.jass_top.proofs.Wholes.{cut, both}
 use Rattle.jass_top.proofs.once.put_lines.Goals as goal
 
-pub returns-in-Err : goal.returns-in-Err
-returns-in-Err g c =
-    cut g.O.Sink.written g.O.Sink.faults g.O.Sink.rest c.args.out.now c.put_report.new.out (report_line c.args.id.now c.args.report c.args.unknown)
-    (run_lines c.args.index.now.index.names c.args.id.now (codes "jass") 1 c.args.hits.now) c.in-Err.fault c.in-Err.fault c.in-Err.ensures
+pub returns-in_err-put_report : goal.returns-in_err-put_report
+returns-in_err-put_report g c =
+    let out : c.from_residual.result ≡ Err c.in_err-put_report.field-0.0 = search rules in
+    rw out (cut g.O.Sink.written g.O.Sink.faults g.O.Sink.rest c.args.out.now c.put_report.new.out (report_line c.args.id.now c.args.report c.args.unknown)
+    (run_lines c.args.index.now.index.names c.args.id.now (codes "jass") 1 c.args.hits.now) c.in_err-put_report.field-0.0 c.in_err-put_report.field-0.0 c.in_err-put_report.ensures)
 
 pub returns : goal.returns
 returns g c =
     both g.O.Sink.written g.O.Sink.faults g.O.Sink.rest c.args.out.now c.put_report.new.out c.put_answer.new.out (report_line c.args.id.now c.args.report c.args.unknown)
-    (run_lines c.args.index.now.index.names c.args.id.now (codes "jass") 1 c.args.hits.now) c.in-Ok.field-0 c.put_answer.result c.in-Ok.ensures c.put_answer.ensures
+    (run_lines c.args.index.now.index.names c.args.id.now (codes "jass") 1 c.args.hits.now) _ c.put_answer.result c.in_ok-put_report.ensures c.put_answer.ensures

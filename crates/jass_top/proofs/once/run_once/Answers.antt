@@ -1,8 +1,5 @@
 use Rattle.std.proofs.Common.{None, refl}
-use Rattle.weights.specs.declared.weighting.Rule.TheVariants.{Tf}
-use Rattle.weights.specs.declared.quantizing.Bits.TheVariants.{Raw}
-use Rattle.index_model.specs.Views.{index_data}
-use Rattle.impact_segments.specs.Collections.{collection_index}
+use Rattle.jass_top.proofs.Below.{Tf, Raw, index_data, collection_index}
 use Rattle.jass_top.specs.Judging.{judge_ciff}
 use Rattle.jass_top.specs.OnceMeaning.{IsOnceOutput}
 use Rattle.jass_top.specs.Private.OnceTexts.{once_of}

@@ -1,11 +1,10 @@
 use Rattle.std.proofs.Common.{refl, sym, subst}
-use Rattle.jass_words.specs.Words.{CommandData, texts}
-use Rattle.jass_words.specs.Commands.{command_data}
+use Rattle.jass_top.proofs.Below.{CommandData, texts, command_data}
 use Rattle.jass_top.specs.declared.status.Status.{Status}
 use Rattle.jass_top.specs.declared.status.Status.TheVariants as status
 use Rattle.jass_top.specs.Commands.{meaning_of}
 use Rattle.jass_top.specs.Running.{EndsAs}
-use Rattle.jass_top.specs.Stops.{stop_text}
+use Rattle.jass_top.specs.Private.Stops.{stop_text}
 use Rattle.jass_top.specs.Worlds.{world}
 use Rattle.jass_top.proofs.Allowing.{allowed}
 use Rattle.jass_top.proofs.Ended.{as_done, as_stopped}

@@ -1,13 +1,6 @@
-use Rattle.std.proofs.Common.{◌≡◌, ℕ, ◌<◌, List, map, Ok, Err, refl, ap, sym, subst, ◌∙◌, inl, All}
-use Rattle.std.specs.List.{AllByRecursion}
-use Rattle.std.proofs.lemmas.List.{length-map}
-use Rattle.jass_base.specs.declared.query_term.QueryTerm.{QueryTerm}
-use Rattle.jass_base.specs.declared.query.Query.{Query}
-use Rattle.index_file.specs.Places.{texts_of}
-use Rattle.index_model.specs.Index.{TermData}
-use Rattle.query_reader.specs.declared.refusal.QueryFault.{QueryFault}
+use Rattle.shared_lemmas.proofs.Common.{◌≡◌, ℕ, ◌<◌, List, map, Ok, Err, refl, ap, sym, subst, ◌∙◌, inl, All, AllByRecursion, length-map}
+use Rattle.jass_top.proofs.Below.{QueryTerm, Query, texts_of, TermData, QueryFault, read_query_file}
 use Rattle.query_reader.specs.Queries.{QueryData, query_data}
-use Rattle.query_reader.specs.Reading.{read_query_file}
 use Rattle.query_reader.specs.Refusals.{Fails}
 use Rattle.jass_top.specs.declared.stop.Place.TheVariants.{Line}
 use Rattle.jass_top.specs.Judging.{Accepted, Refuses, Shows}

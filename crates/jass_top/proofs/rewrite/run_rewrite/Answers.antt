@@ -1,7 +1,5 @@
 use Rattle.std.proofs.Common.{[], Some, refl, subst, inr, arith}
-use Rattle.jass_base.specs.CiffText.{canonical_ciff}
-use Rattle.jass_base.specs.CiffViews.{collection_data}
-use Rattle.jass_base.proofs.Writing.{Appends-none, Rose-earlier}
+use Rattle.jass_top.proofs.Below.{canonical_ciff, collection_data, Appends-none, Rose-earlier}
 use Rattle.jass_top.specs.Standing.{LeavesFront}
 use Rattle.jass_top.proofs.rewrite.run_rewrite.Goals as goal
 

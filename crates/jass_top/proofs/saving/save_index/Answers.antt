@@ -1,13 +1,5 @@
-use Rattle.std.proofs.Common.{Err, refl, ap, subst, inl, inr, arith}
-use Rattle.std.specs.Io.KnownBytes.{Appends}
-use Rattle.jass_base.specs.declared.answer.Totals.{Totals}
-use Rattle.jass_base.specs.Writing.{AppendsPrefix}
-use Rattle.jass_base.proofs.Writing.{Appends-none}
-use Rattle.index_model.specs.Views.{index_data}
-use Rattle.index_layout.specs.View.{index_text}
-use Rattle.index_write.specs.declared.fault.SaveFault.{SaveFault}
-use Rattle.index_write.specs.Saving.{Unwritten, Untouched}
-use Rattle.trec_run.specs.Totals.{totals_line}
+use Rattle.shared_lemmas.proofs.Common.{Err, refl, ap, subst, inl, inr, arith, Appends}
+use Rattle.jass_top.proofs.Below.{Totals, AppendsPrefix, Appends-none, index_data, index_text, SaveFault, Unwritten, Untouched, totals_line}
 use Rattle.jass_top.specs.MakingMeaning.{made_output}
 use Rattle.jass_top.proofs.JudgedFiles.{fits, too_large, whole_front}
 use Rattle.jass_top.proofs.saving.save_index.Goals as goal

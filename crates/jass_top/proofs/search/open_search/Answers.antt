@@ -1,8 +1,6 @@
 use Rattle.std.proofs.Common.{List, ℕ, [], ◌∷◌, ap, subst}
-use Rattle.index_file.specs.Places.{texts_of}
-use Rattle.index_layout.specs.View.{FileView}
-use Rattle.ranking_model.specs.Search.{QueryData}
-use Rattle.jass_top.specs.Causes.{Unread}
+use Rattle.jass_top.proofs.Below.{texts_of, FileView, QueryData}
+use Rattle.jass_top.specs.Private.Causes.{Unread}
 use Rattle.jass_top.specs.IndexJudging.{judge_index}
 use Rattle.jass_top.specs.Judging.{Accepted, Judged, behind}
 use Rattle.jass_top.specs.SearchMeaning.{SearchInputs, judge_queries}
@@ -12,10 +10,8 @@ use Rattle.jass_top.proofs.search.open_search.Goals as goal
 
 pub returns-clause-unread : goal.returns-clause-unread
 returns-clause-unread g c =
-    let told = g.C.Cabinet.told c.args.files.now in
-    let before : ℕ = g.C.Cabinet.read_faults c.args.files.now in
-    let mid : ℕ = g.C.Cabinet.read_faults c.open_index.new.files in
-    let after : ℕ = g.C.Cabinet.read_faults c.open_queries.new.files in
+    let told = g.C.Cabinet.told c.args.files.now in let before : ℕ = g.C.Cabinet.read_faults c.args.files.now in
+    let mid : ℕ = g.C.Cabinet.read_faults c.open_index.new.files in let after : ℕ = g.C.Cabinet.read_faults c.open_queries.new.files in
     let stop = c.in-Err-open_queries.stop in
     let judged : FileView → Judged (List QueryData) = λ file. judge_queries c.args.queries.now c.args.mode (texts_of file.index.terms) told in
     let inputs : FileView → List QueryData → Judged SearchInputs = λ file asked. Accepted (record { file = file; queries = asked }) in

@@ -1,8 +1,8 @@
 use Rattle.std.proofs.Common.{refl, ap, subst, inl, inr, ◌∙◌}
-use Rattle.jass_base.specs.Outside.{Sets}
-use Rattle.jass_base.proofs.Writing.{Rose-earlier}
+use Rattle.jass_top.proofs.Below.{Sets, Rose-earlier}
 use Rattle.jass_top.specs.declared.search_stop.SearchStop.TheVariants.{Unwritten}
-use Rattle.jass_top.specs.SearchTexts.{asked_of, search_output}
+use Rattle.jass_top.specs.SearchTexts.{search_output}
+use Rattle.jass_top.specs.Private.SearchRuns.{asked_of}
 use Rattle.jass_top.specs.SearchMeaning.{Search}
 use Rattle.jass_top.specs.Worlds.{outer}
 use Rattle.jass_top.proofs.Searched.{part_left}
@@ -11,9 +11,7 @@ use Rattle.jass_top.proofs.search.run_search.Goals as goal
 pub returns-in-Ok : goal.returns-in-Ok
 returns-in-Ok g c =
     let search : Search = record { k = c.args.k; budgets = c.args.budgets.now; tag = c.args.tag.now } in
-    let file = c.in_ok-file.file in
-    let asked = asked_of c.in_ok-file.asked in
-    let output = search_output file search asked in
+    let file = c.in_ok-file.file in let asked = asked_of c.in_ok-file.asked in let output = search_output file search asked in
     record {
       inputs = record { file = file; queries = asked };
       output = output;

@@ -1,8 +1,5 @@
 use Rattle.std.proofs.Common.{◌≡◌, ◌+◌, take, drop}
-use Rattle.frame_pool.specs.ChainView.{LeavesPool}
-use Rattle.ranking_model.specs.Plan.{granted_sum}
-use Rattle.ranking_model.specs.Search.{query_data}
-use Rattle.session_engine.specs.Standing.{IsSessionOf, SessionStands, chain_of, granted_of, k_of, query_of, report_of}
+use Rattle.jass_top.proofs.Below.{LeavesPool, granted_sum, query_data, IsSessionOf, SessionStands, chain_of, granted_of, k_of, query_of, report_of}
 use Rattle.jass_top.specs.declared.search_stop.SearchOutput.TheVariants.{Run, Reports}
 use Rattle.jass_top.specs.SearchTexts.{first_part_of, parts_reports, parts_run, prefixes_for, query_reports, query_run}
 use Rattle.jass_top.proofs.Sides.{SideUpTo}

@@ -1,8 +1,8 @@
 use Rattle.jass_top.proofs.Sides.{sent, unsent}
 use Rattle.jass_top.proofs.search_budgets.gather_hits.Goals as goal
 
-pub returns-in-Ok-flush : goal.returns-in-Ok-flush
-returns-in-Ok-flush g c = sent c.in-Ok.ensures c.in-Ok-flush.ensures.text c.in-Ok-flush.ensures.empty
+pub returns-in-Ok : goal.returns-in-Ok
+returns-in-Ok g c = sent c.in_ok-gather_answer.ensures c.in-Ok.ensures.text c.in-Ok.ensures.empty
 
-pub returns-in-Err-flush : goal.returns-in-Err-flush
-returns-in-Err-flush g c = unsent c.in-Ok.ensures c.in-Err-flush.ensures.text
+pub returns-in-Err : goal.returns-in-Err
+returns-in-Err g c = unsent c.in_ok-gather_answer.ensures c.in-Err.ensures.text

@@ -2,7 +2,8 @@ use Rattle.std.proofs.Common.{ℕ, List, sym, subst}
 use Rattle.jass_top.specs.declared.search_stop.SearchOutput.TheVariants.{Run}
 use Rattle.jass_top.specs.declared.search_stop.SearchStop.TheVariants.{Unwritten}
 use Rattle.jass_top.specs.Private.RunFiles.{WroteFile}
-use Rattle.jass_top.specs.SearchTexts.{asked_of, queries_run}
+use Rattle.jass_top.specs.SearchTexts.{queries_run}
+use Rattle.jass_top.specs.Private.SearchRuns.{asked_of}
 use Rattle.jass_top.proofs.RunFiles.{wrote_file}
 use Rattle.jass_top.proofs.search_file.write_search.Goals as goal
 

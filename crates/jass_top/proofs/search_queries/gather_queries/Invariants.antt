@@ -1,10 +1,9 @@
-use Rattle.std.proofs.Common.{◌≡◌, ◌+◌, ◌≤◌}
-use Rattle.std.specs.List.{AllByRecursion}
-use Rattle.jass_base.specs.declared.query.Query.{Query}
-use Rattle.session_engine.specs.Plans.{AreKnown}
+use Rattle.shared_lemmas.proofs.Common.{◌≡◌, ◌+◌, ◌≤◌, AllByRecursion}
+use Rattle.jass_top.proofs.Below.{Query, AreKnown}
 use Rattle.jass_top.specs.declared.search_stop.SearchStop.TheVariants.{Unwritten}
 use Rattle.jass_top.specs.declared.search_stop.SearchOutput.TheVariants.{Run, Reports}
-use Rattle.jass_top.specs.SearchTexts.{IsReady, asked_of, queries_reports, queries_run, queries_steps}
+use Rattle.jass_top.specs.SearchTexts.{queries_reports, queries_run, queries_steps}
+use Rattle.jass_top.specs.Private.SearchRuns.{IsReady, asked_of}
 use Rattle.jass_top.proofs.Sides.{SideUpTo}
 use Rattle.jass_top.proofs.search_queries.gather_queries.Given as goal
 

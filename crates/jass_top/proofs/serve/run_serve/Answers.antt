@@ -1,6 +1,6 @@
 use Rattle.std.proofs.Common.{refl}
 use Rattle.jass_top.specs.declared.stop.Stop.TheVariants as why
-use Rattle.jass_top.specs.Worlds.{fed}
+use Rattle.jass_top.specs.Private.Worlds.{fed}
 use Rattle.jass_top.proofs.Unserved.{runs_unserved}
 use Rattle.jass_top.proofs.serve.run_serve.Goals as goal
 

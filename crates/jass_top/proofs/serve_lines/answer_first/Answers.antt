@@ -1,29 +1,18 @@
 use Rattle.std.proofs.Common.{Ok, [], sym, ap, subst, ◌∙◌, arith}
-use Rattle.feed_lines.specs.Waiting.{Waiting, passed_to}
-use Rattle.session_desk.specs.State.{DeskState}
-use Rattle.session_desk.specs.Replies.{desk_after, desk_reply, desk_steps}
-use Rattle.jass_base.specs.declared.faults.WriteFault.{WriteFault}
-use Rattle.session_desk.specs.declared.went.Went.{Went}
-use Rattle.session_desk.specs.Endings.{left_where, text_where}
-use Rattle.session_desk.specs.Lines.{is_end}
-use Rattle.gathered_text.specs.Gathering.{Gathers}
+use Rattle.jass_top.proofs.Below.{Waiting, passed_to, DeskState, desk_after, desk_reply, desk_steps, WriteFault, Went, left_where, is_end}
 use Rattle.jass_top.specs.Private.Serving.{Moves}
 use Rattle.jass_top.proofs.Sides.{side_ok, side_err}
-use Rattle.jass_top.proofs.Serving.{goes_last, goes_on, line_cuts, line_finishes, line_moves, opening_steps, stays}
+use Rattle.jass_top.proofs.Serving.{goes_last, goes_on, line_cuts, line_finishes, line_moves, opening_steps, stays, told_reply}
 use Rattle.jass_top.proofs.serve_lines.answer_first.Goals as goal
 
 pub returns-in-Ok-On-clause-answers : goal.returns-in-Ok-On-clause-answers
 returns-in-Ok-On-clause-answers g c =
-    let file = c.args.desk.now.file in
-    let state = c.args.desk.now.state in
-    let w = c.args.lines.now in
+    let file = c.args.desk.now.file in let state = c.args.desk.now.state in let w = c.args.lines.now in
     let line = c.first_line.result.now in
     record {
       text = desk_reply file state line;
       scored = desk_steps file state line;
-      side = side_ok (subst (λ (went : Went). Gathers {E = WriteFault} g.O.Sink.written g.O.Sink.faults g.O.Sink.rest c.args.out.now c.answer_line.new.out
-          c.args.buffer.now c.answer_line.new.buffer (text_where {E = WriteFault} (Ok went) (desk_reply file state c.first_line.result.now))
-          (Ok went)) c.in-Ok-On.field-0-is c.in-Ok-On.ensures.reply);
+      side = side_ok (told_reply (desk_reply file state c.first_line.result.now) c.in-Ok-On.field-0-is c.in-Ok-On.ensures.reply);
       counted = c.answer_line.ensures.steps;
       goes = subst (λ (n : Waiting). Moves file w n state c.answer_line.new.self.state (desk_reply file state line) (desk_steps file state line)) (sym c.pass.ensures)
           (subst (λ (s : DeskState). Moves file w (passed_to c.args.end w) state s (desk_reply file state line) (desk_steps file state line))
@@ -33,41 +22,31 @@ returns-in-Ok-On-clause-answers g c =
 
 pub returns-in-Ok-End-clause-answers : goal.returns-in-Ok-End-clause-answers
 returns-in-Ok-End-clause-answers g c =
-    let file = c.args.desk.now.file in
-    let state = c.args.desk.now.state in
-    let w = c.args.lines.now in
+    let file = c.args.desk.now.file in let state = c.args.desk.now.state in let w = c.args.lines.now in
     let line = c.first_line.result.now in
     record {
       text = desk_reply file state line;
       scored = desk_steps file state line;
-      side = side_ok (subst (λ (went : Went). Gathers {E = WriteFault} g.O.Sink.written g.O.Sink.faults g.O.Sink.rest c.args.out.now c.answer_line.new.out
-          c.args.buffer.now c.answer_line.new.buffer (text_where {E = WriteFault} (Ok went) (desk_reply file state c.first_line.result.now))
-          (Ok went)) c.in-Ok-End.field-0-is c.in-Ok-End.ensures.reply);
+      side = side_ok (told_reply (desk_reply file state c.first_line.result.now) c.in-Ok-End.field-0-is c.in-Ok-End.ensures.reply);
       counted = c.answer_line.ensures.steps;
       goes = line_finishes c.a_line_loses_one_byte.ensures c.pending_bytes_wait.ensures.line c.lines_are_passed.ensures.line file w state c.args.end line c.requires c.first_line.ensures (goes_last c.in-Ok-End.field-0 (is_end line) c.in-Ok-End.field-0-is c.in-Ok-End.ensures.end);
     }
 
 pub returns-in-Ok-NoMemory-clause-answers : goal.returns-in-Ok-NoMemory-clause-answers
 returns-in-Ok-NoMemory-clause-answers g c =
-    let file = c.args.desk.now.file in
-    let state = c.args.desk.now.state in
-    let w = c.args.lines.now in
+    let file = c.args.desk.now.file in let state = c.args.desk.now.state in let w = c.args.lines.now in
     let none = opening_steps file state c.first_line.result.now (c.in-Ok-NoMemory.ensures.memory c.in-Ok-NoMemory.field-0-is) in
     record {
       text = [];
       scored = 0;
-      side = side_ok (subst (λ (went : Went). Gathers {E = WriteFault} g.O.Sink.written g.O.Sink.faults g.O.Sink.rest c.args.out.now c.answer_line.new.out
-          c.args.buffer.now c.answer_line.new.buffer (text_where {E = WriteFault} (Ok went) (desk_reply file state c.first_line.result.now))
-          (Ok went)) c.in-Ok-NoMemory.field-0-is c.in-Ok-NoMemory.ensures.reply);
+      side = side_ok (told_reply (desk_reply file state c.first_line.result.now) c.in-Ok-NoMemory.field-0-is c.in-Ok-NoMemory.ensures.reply);
       counted = omega (arith, c.answer_line.ensures.steps, none);
       goes = subst (λ (s : DeskState). Moves file w w state s [] 0) (sym (c.in-Ok-NoMemory.ensures.after ∙ ap (λ (went : Went). left_where {E = WriteFault} (Ok went) state (desk_after file state c.first_line.result.now)) c.in-Ok-NoMemory.field-0-is)) (stays file w state);
     }
 
 pub returns-in-Err-clause-answers : goal.returns-in-Err-clause-answers
 returns-in-Err-clause-answers g c =
-    let file = c.args.desk.now.file in
-    let state = c.args.desk.now.state in
-    let w = c.args.lines.now in
+    let file = c.args.desk.now.file in let state = c.args.desk.now.state in let w = c.args.lines.now in
     let line = c.first_line.result.now in
     record {
       text = desk_reply file state line;

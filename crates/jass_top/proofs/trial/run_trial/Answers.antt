@@ -1,10 +1,10 @@
 use Rattle.std.proofs.Common.{◌≡◌, ap, subst}
 use Rattle.index_layout.specs.View.{FileView}
 use Rattle.trial_data.specs.Trials.{queries_from, trial_queries}
-use Rattle.jass_top.specs.Causes.{Runs}
+use Rattle.jass_top.specs.Private.Causes.{Runs}
 use Rattle.jass_top.specs.Meanings.{Meaning}
 use Rattle.jass_top.specs.TrialMeaning.{trial_index, trial_meaning, tried_meaning}
-use Rattle.jass_top.specs.Worlds.{with_output}
+use Rattle.jass_top.specs.Private.Worlds.{with_output}
 use Rattle.jass_top.proofs.Stopping.{stopped}
 use Rattle.jass_top.proofs.trial.run_trial.Goals as goal
 

@@ -1,13 +1,10 @@
-use Rattle.std.proofs.Common.{◌≡◌, [], ◌∷◌, refl, ap, subst, inl, inr, arith}
-use Rattle.std.specs.Prelude.{codes}
-use Rattle.index_model.specs.Index.{IndexData}
-use Rattle.index_model.specs.Views.{index_data}
-use Rattle.jass_base.specs.declared.answer.Totals.{Totals}
+use Rattle.shared_lemmas.proofs.Common.{◌≡◌, [], ◌∷◌, refl, ap, subst, inl, inr, arith, codes}
+use Rattle.jass_top.proofs.Below.{IndexData, index_data, Totals}
 use Rattle.jass_top.specs.IndexJudging.{fitting}
 use Rattle.jass_top.specs.Judging.{Accepted, Refuses}
 use Rattle.jass_top.specs.TrialMeaning.{countable, judge_trial}
 use Rattle.jass_top.specs.declared.stop.Place.TheVariants.{Byte}
-use Rattle.jass_top.specs.Causes.{Unheld}
+use Rattle.jass_top.specs.Private.Causes.{Unheld}
 use Rattle.jass_top.proofs.Behind.{unheld_first}
 use Rattle.jass_top.proofs.Trying.{accepted, too_many}
 use Rattle.jass_top.proofs.trial.trial_bytes.Goals as goal

@@ -1,7 +1,5 @@
-use Rattle.std.proofs.Common.{refl, subst, inl, inr, arith}
-use Rattle.std.specs.Io.KnownBytes.{Appends}
-use Rattle.jass_base.specs.Writing.{AppendsPrefix}
-use Rattle.trial_data.specs.Trials.{queries_from}
+use Rattle.shared_lemmas.proofs.Common.{refl, subst, inl, inr, arith, Appends}
+use Rattle.jass_top.proofs.Below.{AppendsPrefix, queries_from}
 use Rattle.jass_top.specs.TrialMeaning.{queries_over}
 use Rattle.jass_top.specs.declared.trial_sums.TrialSums.{TrialSums}
 use Rattle.jass_top.specs.TrialSums.{trial_text}
@@ -10,8 +8,7 @@ use Rattle.jass_top.proofs.trial.try_file.Goals as goal
 
 pub returns-in-Err : goal.returns-in-Err
 returns-in-Err g c = λ beside.
-    let file = c.args.index.now in
-    let asked = queries_from c.args.terms c.args.queries c.args.draws.now in
+    let file = c.args.index.now in let asked = queries_from c.args.terms c.args.queries c.args.draws.now in
     inr (inl (record {
       counting = refl;
       told = refl;
@@ -22,8 +19,7 @@ returns-in-Err g c = λ beside.
 
 pub returns-in-Ok-put_summary : goal.returns-in-Ok-put_summary
 returns-in-Ok-put_summary g c = λ beside.
-    let file = c.args.index.now in
-    let asked = queries_from c.args.terms c.args.queries c.args.draws.now in
+    let file = c.args.index.now in let asked = queries_from c.args.terms c.args.queries c.args.draws.now in
     tried file asked beside.told _ c.requires.accepted (c.a_trial_leaves_its_summary.ensures file (queries_over file.index asked) c.requires.view c.requires.chosen) (record {
       content = refl;
       text = subst (λ (sums : TrialSums). Appends (g.O.Sink.written c.args.out.now) (g.O.Sink.written c.put_summary.new.out) (trial_text file sums)) c.in-Ok.ensures.sums c.in-Ok-put_summary.ensures.bytes;
@@ -32,8 +28,7 @@ returns-in-Ok-put_summary g c = λ beside.
 
 pub returns-in-Err-put_summary : goal.returns-in-Err-put_summary
 returns-in-Err-put_summary g c = λ beside.
-    let file = c.args.index.now in
-    let asked = queries_from c.args.terms c.args.queries c.args.draws.now in
+    let file = c.args.index.now in let asked = queries_from c.args.terms c.args.queries c.args.draws.now in
     let counted = c.in-Ok.ensures.steps in (
       inl (refl, refl, c.in-Err-put_summary.ensures.cause.failed),
       tried file asked beside.told _ c.requires.accepted (c.a_trial_leaves_its_summary.ensures file (queries_over file.index asked) c.requires.view c.requires.chosen) (record {

@@ -5,17 +5,10 @@ use Rattle.jass_top.proofs.trial_queries.try_grants.Goals as goal
 
 pub returns-clause-sums : goal.returns-clause-sums
 returns-clause-sums g c =
-    let file = c.args.index.now in
-    let s = c.args.session.now in
-    let one = c.try_grant-first.ensures in
-    let two = c.try_grant-second.ensures in
-    let three = c.try_grant-last.ensures in
-    let s1 = c.try_grant-first.new.session in
-    let s2 = c.try_grant-second.new.session in
-    let s3 = c.try_grant-last.new.session in
-    let p1 = c.try_grant-first.new.pool in
-    let p2 = c.try_grant-second.new.pool in
-    let p3 = c.try_grant-last.new.pool in
+    let file = c.args.index.now in let s = c.args.session.now in let one = c.try_grant-first.ensures in
+    let two = c.try_grant-second.ensures in let three = c.try_grant-last.ensures in let s1 = c.try_grant-first.new.session in
+    let s2 = c.try_grant-second.new.session in let s3 = c.try_grant-last.new.session in let p1 = c.try_grant-first.new.pool in
+    let p2 = c.try_grant-second.new.pool in let p3 = c.try_grant-last.new.pool in
     let g1 = next_granted s s1 0 (omega arith) c.requires.none one.granted in
     let g2 = next_granted s1 s2 1 (omega arith) g1 two.granted in
     let g3 = next_granted s2 s3 2 (omega arith) g2 three.granted in

@@ -8,23 +8,17 @@ returns-in-Err-try_query-clause-steps g c =
     let words = texts c.as_slice.result.now in
     let drawn = ap texts c.as_slice.ensures.value ∙ c.in-Ok-draw_query.ensures.words in
     let counted = steps_are c.args.index.now c.args.terms c.args.queries c.queries.counter c.queries.draws c.draw_query.new.draws c.queries.sums c.queries.sums words c.queries-test.true drawn c.in-Ok-draw_query.ensures.state in
-    let before = c.queries.invariant.steps in
-    let later = c.queries.invariant.later in
-    let added = c.in-Err-try_query.ensures.steps in
-    let rose = added.0 in
-    let most = added.1 in
+    let before = c.queries.invariant.steps in let later = c.queries.invariant.later in let added = c.in-Err-try_query.ensures.steps in
+    let rose = added.0 in let most = added.1 in
     (omega arith, omega arith)
 
 pub queries-preserved : goal.queries-preserved
 queries-preserved g c =
-    let words = texts c.as_slice.result.now in
-    let more = c.in-Ok-try_query.more in
+    let words = texts c.as_slice.result.now in let more = c.in-Ok-try_query.more in
     let drawn = ap texts c.as_slice.ensures.value ∙ c.in-Ok-draw_query.ensures.words in
     let moved = c.in-Ok-draw_query.ensures.state in
     let counted = steps_are c.args.index.now c.args.terms c.args.queries c.queries.counter c.queries.draws c.draw_query.new.draws c.queries.sums more words c.queries-test.true drawn moved in
-    let before = c.queries.invariant.steps in
-    let later = c.queries.invariant.later in
-    let added = c.in-Ok-try_query.ensures.steps in
+    let before = c.queries.invariant.steps in let later = c.queries.invariant.later in let added = c.in-Ok-try_query.ensures.steps in
     record {
       ready = c.in-Ok-try_query.ensures.ready;
       small = c.in-Ok-try_query.ensures.small c.queries.counter c.queries.invariant.small;

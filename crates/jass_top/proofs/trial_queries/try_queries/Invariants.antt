@@ -1,8 +1,10 @@
 use Rattle.std.proofs.Common.{◌≡◌, ◌+◌, ◌-◌, ◌≤◌}
 use Rattle.trial_data.specs.Trials.{queries_from}
-use Rattle.jass_top.specs.SearchTexts.{IsReady, queries_steps}
+use Rattle.jass_top.specs.SearchTexts.{queries_steps}
+use Rattle.jass_top.specs.Private.SearchRuns.{IsReady}
 use Rattle.jass_top.specs.TrialMeaning.{queries_over, trial_budgets}
-use Rattle.jass_top.specs.TrialSums.{AreSmallSums, no_sums, with_queries}
+use Rattle.jass_top.specs.TrialSums.{no_sums, with_queries}
+use Rattle.jass_top.specs.Private.SmallSums.{AreSmallSums}
 use Rattle.jass_top.proofs.trial_queries.try_queries.Given as goal
 
 abbrev pub invariant-queries : goal.invariant-queries

@@ -1,6 +1,4 @@
-use Rattle.std.proofs.Common.{◌≡◌, sym, ◌∙◌}
-use Rattle.std.specs.Cmp.Lexicographic.{same_text, other_text}
-use Rattle.std.proofs.lemmas.Option.{same_Some}
+use Rattle.shared_lemmas.proofs.Common.{◌≡◌, sym, ◌∙◌, same_text, other_text, same_Some}
 use Rattle.jass_words.specs.Words.{texts}
 use Rattle.jass_words.proofs.Beginnings.{without_file, without_second}
 use Rattle.jass_words.proofs.Terms.{opened1, opened2, files_there}

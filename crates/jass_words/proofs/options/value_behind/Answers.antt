@@ -1,5 +1,4 @@
-use Rattle.std.proofs.lemmas.Bool.Decides.{Decides-eqb}
-use Rattle.std.proofs.lemmas.Slice.Eq.{strip_prefix_is}
+use Rattle.shared_lemmas.proofs.Common.{Decides-eqb, strip_prefix_is}
 use Rattle.jass_words.proofs.options.value_behind.Goals as goal
 
 pub returns : goal.returns

@@ -1,8 +1,4 @@
-use Rattle.std.proofs.Common.{Some, sym, ap, ◌∙◌}
-use Rattle.std.specs.String.{string_bytes}
-use Rattle.std.specs.Option.{option_copied}
-use Rattle.std.specs.Cmp.Lexicographic.{same_text, other_text}
-use Rattle.std.proofs.lemmas.Option.{same_Some}
+use Rattle.shared_lemmas.proofs.Common.{Some, sym, ap, ◌∙◌, string_bytes, option_copied, same_text, other_text, same_Some}
 use Rattle.jass_words.proofs.Terms.{first_word, must}
 use Rattle.jass_words.proofs.reading.is_named.Goals as goal
 

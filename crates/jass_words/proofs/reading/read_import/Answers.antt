@@ -11,8 +11,7 @@ returns-in-Err-clause-bad_word c = c.in-Err.ensures.bad_word import_word c.requi
 
 pub returns-in-Err-read_import_options-clause-bad_word : goal.returns-in-Err-read_import_options-clause-bad_word
 returns-in-Err-read_import_options-clause-bad_word c =
-    let words = c.args.words.now in
-    let place = c.in-Err-read_import_options.place in
+    let words = c.args.words.now in let place = c.in-Err-read_import_options.place in
     let (more, files) = c.in-Ok.ensures.files import_word c.requires in
     let same = behind words 3 more (ap (drop 3) files.parts) in
     let (options, spelled, once) = c.in-Err-read_import_options.ensures.before in

@@ -1,6 +1,6 @@
 use Rattle.std.proofs.Common.{take}
 use Rattle.jass_words.specs.Words.{texts}
-use Rattle.jass_words.specs.Options.{Seen}
+use Rattle.jass_words.specs.Private.Options.{Seen}
 use Rattle.jass_words.proofs.reading.read_import_options.Given as goal
 
 abbrev pub invariant-loop-place : goal.invariant-loop-place

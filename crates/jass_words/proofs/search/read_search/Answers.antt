@@ -1,12 +1,5 @@
-use Rattle.std.proofs.Common.{◌≡◌, ℕ, ◌+◌, ◌-◌, ◌<◌, ◌++◌, List, ◌∷◌, [], length, take, drop, sym, ap, subst, ◌∙◌, arith}
-use Rattle.std.specs.Prelude.{Option, codes}
-use Rattle.std.specs.Option.{unwrap_or}
-use Rattle.std.specs.Cmp.Lexicographic.{same_text, other_text}
-use Rattle.jass_base.specs.declared.answer.Budget.{Budget}
-use Rattle.jass_base.specs.declared.answer.Budget.TheVariants.{All}
-use Rattle.query_reader.specs.declared.mode.Mode.{Mode}
-use Rattle.query_reader.specs.declared.mode.Mode.TheVariants.{Plain}
-use Rattle.std.proofs.lemmas.Option.{same_Some}
+use Rattle.shared_lemmas.proofs.Common.{◌≡◌, ℕ, ◌+◌, ◌-◌, ◌<◌, ◌++◌, List, ◌∷◌, [], length, take, drop, sym, ap, subst, ◌∙◌, arith, Option, codes, unwrap_or, same_text, other_text, same_Some}
+use Rattle.jass_words.proofs.Below.{Budget, All, Mode, Plain}
 use Rattle.jass_words.specs.Searching.{IsSearchOption}
 use Rattle.jass_words.specs.Spelled.{Spell}
 use Rattle.jass_words.specs.Words.{texts}
@@ -38,8 +31,7 @@ returns-then-eq-clause-bad_word c =
 
 pub returns-in-Ok-read_search_options-clause-command : goal.returns-in-Ok-read_search_options-clause-command
 returns-in-Ok-read_search_options-clause-command c =
-    let words = c.args.words.now in
-    let run = c.in-Some.run'.now in
+    let words = c.args.words.now in let run = c.in-Some.run'.now in
     let (later, first) = c.in-Ok.ensures.files search_word c.requires in
     let (more, files) = with_run search_word (texts words) _ _ run later first c.in-Some.ensures.some in
     let same = behind words 4 more (ap (drop 4) files.parts) in
@@ -61,9 +53,7 @@ returns-in-Ok-read_search_options-clause-command c =
 
 pub returns-in-Err-read_search_options-clause-bad_word : goal.returns-in-Err-read_search_options-clause-bad_word
 returns-in-Err-read_search_options-clause-bad_word c =
-    let words = c.args.words.now in
-    let run = c.in-Some.run'.now in
-    let place = c.in-Err-read_search_options.place in
+    let words = c.args.words.now in let run = c.in-Some.run'.now in let place = c.in-Err-read_search_options.place in
     let (later, first) = c.in-Ok.ensures.files search_word c.requires in
     let (more, files) = with_run search_word (texts words) _ _ run later first c.in-Some.ensures.some in
     let same = behind words 4 more (ap (drop 4) files.parts) in

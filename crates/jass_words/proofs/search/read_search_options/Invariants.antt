@@ -1,5 +1,5 @@
 use Rattle.std.proofs.Common.{take}
-use Rattle.jass_words.specs.Commands.{AreRead}
+use Rattle.jass_words.specs.Private.Reading.{AreRead}
 use Rattle.jass_words.specs.Words.{texts}
 use Rattle.jass_words.proofs.search.read_search_options.Given as goal
 

@@ -1,8 +1,6 @@
-use Rattle.std.proofs.Common.{◌≡◌, Some, lit<, Option, None}
-use Rattle.std.specs.Prelude.{IfSome}
-use Rattle.std.proofs.lemmas.Str.Pattern.{split_parts}
+use Rattle.shared_lemmas.proofs.Common.{◌≡◌, Some, lit<, Option, None, IfSome, split_parts}
 use Rattle.jass_words.specs.declared.search_options.SearchOption.{SearchOption}
-use Rattle.jass_words.specs.Commands.{search_data}
+use Rattle.jass_words.specs.Private.Reading.{search_data}
 use Rattle.jass_words.specs.Searching.{IsSearchOption, IsSearchValue, search_key}
 use Rattle.jass_words.proofs.SearchKeys.{spelled_so}
 use Rattle.jass_words.proofs.search_options.search_option.Goals as goal

@@ -1,7 +1,4 @@
-use Rattle.std.proofs.Common.{◌<◌, length, arith}
-use Rattle.std.specs.String.{string_bytes}
-use Rattle.std.proofs.lemmas.List.{length-map}
-use Rattle.std.proofs.lemmas.Option.{slice_get_within}
+use Rattle.shared_lemmas.proofs.Common.{◌<◌, length, arith, string_bytes, length-map, slice_get_within}
 use Rattle.jass_words.specs.Words.{texts}
 use Rattle.jass_words.proofs.Terms.{one_more}
 use Rattle.jass_words.proofs.slots.terms_in.Goals as goal

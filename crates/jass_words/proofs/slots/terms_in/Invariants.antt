@@ -1,5 +1,4 @@
-use Rattle.std.proofs.Common.{take}
-use Rattle.std.specs.List.{AllByRecursion}
+use Rattle.shared_lemmas.proofs.Common.{take, AllByRecursion}
 use Rattle.jass_words.specs.Words.{IsTerm, texts}
 use Rattle.jass_words.proofs.slots.terms_in.Given as goal
 

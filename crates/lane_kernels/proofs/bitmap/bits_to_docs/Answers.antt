@@ -1,5 +1,6 @@
 use Rattle.std.proofs.Common.{ℕ, List, ◌≡◌, ◌++◌, ◌∙◌, ◌+◌, ◌/◌, ◌%◌, ◌^◌, length, ap, arith, length-append}
-use Rattle.lane_kernels.specs.Bitmap.{set_bits, word_bits}
+use Rattle.lane_kernels.specs.Bitmap.{set_bits}
+use Rattle.lane_kernels.specs.Private.Bitmap.{word_bits}
 use Rattle.lane_kernels.proofs.SetBits.{set_bits_of_words}
 use Rattle.lane_kernels.proofs.bitmap.bits_to_docs.Goals as goal
 use lib.Lanes.{number_l}

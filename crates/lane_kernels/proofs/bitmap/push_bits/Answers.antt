@@ -1,6 +1,6 @@
 use Rattle.std.proofs.Common.{List, ℕ, ◌≡◌, ◌-◌, ◌<◌, ◌++◌, ◌∷◌, [], ◌∙◌, length, take, bit_and, sym, ap, arith}
 use Rattle.std.proofs.lemmas.List.{append-nil, append_assoc, length-set, take_more_set}
-use Rattle.lane_kernels.specs.Bitmap.{word_bits}
+use Rattle.lane_kernels.specs.Private.Bitmap.{word_bits}
 use Rattle.lane_kernels.proofs.SetBits.{word_bits_first, word_bits_nil, length-word_bits, room_for_one, word_without_lowest}
 use Rattle.lane_kernels.proofs.bitmap.push_bits.Goals as goal
 

@@ -1,5 +1,5 @@
 use Rattle.std.proofs.Common.{◌≡◌, ◌+◌, ◌<◌, ◌^◌, ◌++◌, length, take}
-use Rattle.lane_kernels.specs.Bitmap.{word_bits}
+use Rattle.lane_kernels.specs.Private.Bitmap.{word_bits}
 use Rattle.lane_kernels.proofs.bitmap.push_bits.Given as goal
 
 abbrev pub invariant-loop-rest : goal.invariant-loop-rest

@@ -1,5 +1,4 @@
-use Rattle.std.proofs.Common.{List, ℕ, ◌≡◌, ◌++◌, ◌/◌, ◌%◌, ◌^◌, ◌-◌, length, drop, replicate, ap, ◌∙◌}
-use Rattle.std.proofs.lemmas.List.{drop-replicate}
+use Rattle.shared_lemmas.proofs.Common.{List, ℕ, ◌≡◌, ◌++◌, ◌/◌, ◌%◌, ◌^◌, ◌-◌, length, drop, replicate, ap, ◌∙◌, drop-replicate}
 use Rattle.lane_kernels.proofs.SetBits.{number_padded}
 use Rattle.lane_kernels.proofs.bitmap.words_of.Goals as goal
 use lib.Lanes.{number_l}
@@ -11,8 +10,7 @@ padded bytes copied is =
     ∙ number_padded bytes (16 - length bytes)
 
 pub returns-clause-low : goal.returns-clause-low
-returns-clause-low c =
-    c.words_of_16-2.ensures.low ∙ ap (λ n. n % 2 ^ 64) (padded c.args.bytes.now c.copy_from_slice.new.self c.copy_from_slice.ensures.after)
+returns-clause-low c = c.words_of_16-2.ensures.low ∙ ap (λ n. n % 2 ^ 64) (padded c.args.bytes.now c.copy_from_slice.new.self c.copy_from_slice.ensures.after)
 
 pub returns-clause-high : goal.returns-clause-high
 returns-clause-high c =

@@ -1,5 +1,4 @@
-use Rattle.std.proofs.Common.{◌≡◌, ◌*◌, ◌/◌, ◌%◌, ◌^◌, ◌<◌, ap, ◌∙◌, arith, length}
-use Rattle.std.proofs.lemmas.List.{take_all}
+use Rattle.shared_lemmas.proofs.Common.{◌≡◌, ◌*◌, ◌/◌, ◌%◌, ◌^◌, ◌<◌, ap, ◌∙◌, arith, length, take_all}
 use Rattle.lane_kernels.proofs.SetBits.{number_below}
 use Rattle.lane_kernels.proofs.bitmap.words_of_16.Goals as goal
 use lib.Lanes.{number_l}

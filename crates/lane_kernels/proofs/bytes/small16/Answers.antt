@@ -1,6 +1,4 @@
-use Rattle.std.proofs.Common.{ltb, take, arith, w8}
-use Rattle.std.proofs.lemmas.List.{length-take-le, take_all}
-use Rattle.std.proofs.lemmas.Simd.{bitmask_splat}
+use Rattle.shared_lemmas.proofs.Common.{ltb, take, arith, w8, length-take-le, take_all, bitmask_splat}
 use Rattle.lane_kernels.proofs.Places.{all_small}
 use Rattle.lane_kernels.proofs.bytes.small16.Goals as goal
 

@@ -1,6 +1,4 @@
-use Rattle.std.proofs.Common.{List, ℕ, ap, ◌∙◌, arith}
-use Rattle.std.proofs.lemmas.List.{map-id, take_all}
-use Rattle.std.proofs.lemmas.Simd.{put_chunk_whole}
+use Rattle.shared_lemmas.proofs.Common.{List, ℕ, ap, ◌∙◌, arith, map-id, take_all, put_chunk_whole}
 use Rattle.lane_kernels.proofs.bytes.widen16.Goals as goal
 use lib.Lanes.{put_chunk}
 

@@ -1,5 +1,4 @@
-use Rattle.std.proofs.Common.{◌≡◌, ◌+◌, ◌*◌, ◌∙◌, ◌≤◌, sum, take, drop, replicate, sym, ap, arith, ℕ, List, get_or, length}
-use Rattle.std.proofs.lemmas.Simd.{length-put_chunk}
+use Rattle.shared_lemmas.proofs.Common.{◌≡◌, ◌+◌, ◌*◌, ◌∙◌, ◌≤◌, sum, take, drop, replicate, sym, ap, arith, ℕ, List, get_or, length, length-put_chunk}
 use Rattle.lane_kernels.specs.Gaps.{running}
 use Rattle.lane_kernels.proofs.Sums.{sum_to_chunk_le}
 use Rattle.lane_kernels.proofs.Running.{same_lanes_left, least_more, done_more, rest_more, all_done, get_or-running}

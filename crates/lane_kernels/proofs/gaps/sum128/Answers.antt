@@ -13,8 +13,7 @@ loop-row-preserved c =
     ∙ ap (λ i. sum (take i c.args.gaps.now)) (omega arith)
 
 pub overflow_add-result : goal.overflow_add-result
-overflow_add-result c =
-    total_fits c.args.gaps.now c.loop-row.sums (4 * c.loop-row.row) c.told-gaps c.fits-gaps c.loop-row.invariant
+overflow_add-result c = total_fits c.args.gaps.now c.loop-row.sums (4 * c.loop-row.row) c.told-gaps c.fits-gaps c.loop-row.invariant
 
 pub returns : goal.returns
 returns c =

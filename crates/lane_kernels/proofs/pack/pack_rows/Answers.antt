@@ -1,5 +1,4 @@
-use Rattle.std.proofs.Common.{◌≡◌, ◌*◌, ◌/◌, ◌≤◌, arith}
-use Rattle.std.proofs.lemmas.Nat.{mul-le}
+use Rattle.shared_lemmas.proofs.Common.{◌≡◌, ◌*◌, ◌/◌, ◌≤◌, arith, mul-le}
 use Rattle.lane_kernels.specs.Block.{block_byte}
 use Rattle.lane_kernels.proofs.Bits.{list_of_all}
 use Rattle.lane_kernels.proofs.PackRows.{none_pending}
@@ -8,10 +7,7 @@ use Rattle.lane_kernels.proofs.pack.pack_rows.Goals as goal
 pub loop-row-init : goal.loop-row-init
 loop-row-init c =
     let none : 0 * c.args.width ≡ 0 = omega arith in
-    record {
-      pending = none_pending c.args.values.now c.args.width (0 * c.args.width) none;
-      done = λ k h. absurd (omega arith);
-    }
+    record { pending = none_pending c.args.values.now c.args.width (0 * c.args.width) none; done = λ k h. absurd (omega arith) }
 
 pub returns : goal.returns
 returns c =

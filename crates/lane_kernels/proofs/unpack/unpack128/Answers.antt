@@ -1,5 +1,4 @@
-use Rattle.std.proofs.Common.{List, ℕ, ◌≡◌, ◌∙◌, length, replicate, sym, ap}
-use Rattle.std.proofs.lemmas.List.{get_or-replicate, length-replicate}
+use Rattle.shared_lemmas.proofs.Common.{List, ℕ, ◌≡◌, ◌∙◌, length, replicate, sym, ap, get_or-replicate, length-replicate}
 use Rattle.lane_kernels.specs.Block.{block_value, block_values}
 use Rattle.lane_kernels.proofs.Bits.{list_of_all}
 use Rattle.lane_kernels.proofs.UnpackRows.{block_value_of_none}

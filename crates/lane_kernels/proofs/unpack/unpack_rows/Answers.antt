@@ -1,5 +1,4 @@
-use Rattle.std.proofs.Common.{List, ℕ, ◌∙◌, length, get_or, ap, arith}
-use Rattle.std.proofs.lemmas.Simd.{length-put_chunk}
+use Rattle.shared_lemmas.proofs.Common.{List, ℕ, ◌∙◌, length, get_or, ap, arith, length-put_chunk}
 use Rattle.lane_kernels.proofs.UnpackRows.{rows_more}
 use Rattle.lane_kernels.proofs.unpack.unpack_rows.Goals as goal
 

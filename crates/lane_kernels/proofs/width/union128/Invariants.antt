@@ -1,5 +1,4 @@
-use Rattle.std.proofs.Common.{ℕ, ◌*◌, ◌^◌, ◌<◌, ◌↔◌, take}
-use Rattle.std.specs.List.{AllByRecursion}
+use Rattle.shared_lemmas.proofs.Common.{ℕ, ◌*◌, ◌^◌, ◌<◌, ◌↔◌, take, AllByRecursion}
 use Rattle.lane_kernels.proofs.width.union128.Given as goal
 
 abbrev pub invariant-loop-row : goal.invariant-loop-row

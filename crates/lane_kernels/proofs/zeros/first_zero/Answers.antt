@@ -1,5 +1,4 @@
-use Rattle.std.proofs.Common.{eqb, arith, w32}
-use Rattle.std.proofs.lemmas.Simd.{length-chunk, bitmask_splat}
+use Rattle.shared_lemmas.proofs.Common.{eqb, arith, w32, length-chunk, bitmask_splat}
 use Rattle.lane_kernels.proofs.Places.{first_in_chunk, none_in_chunk, none_is_zero}
 use Rattle.lane_kernels.proofs.zeros.first_zero.Goals as goal
 use lib.Lanes.{chunk}

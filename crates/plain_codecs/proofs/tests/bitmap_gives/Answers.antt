@@ -1,5 +1,4 @@
-use Rattle.std.proofs.Common.{List, ℕ, refl, subst, drop}
-use Rattle.std.proofs.lemmas.List.{drop-drop}
+use Rattle.shared_lemmas.proofs.Common.{List, ℕ, refl, subst, drop, drop-drop}
 use Rattle.plain_codecs.specs.BitmapCursor.{Gives}
 use Rattle.plain_codecs.proofs.tests.bitmap_gives.Goals as goal
 

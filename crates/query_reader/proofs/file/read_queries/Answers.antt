@@ -1,26 +1,23 @@
 -- Each turn reads one line.
-use Rattle.std.proofs.Common.{◌∙◌, ◌<◌, ap, sym, subst, map, length, rules}
-use Rattle.std.specs.Prelude.{All}
-use Rattle.std.specs.List.{AllByRecursion}
+use Rattle.shared_lemmas.proofs.Common.{◌∙◌, ◌<◌, ap, sym, subst, map, length, rules, All, AllByRecursion}
 use Rattle.jass_base.specs.declared.query_term.QueryTerm.{QueryTerm}
 use Rattle.jass_base.specs.declared.query.Query.{Query}
 use Rattle.text_lines.specs.Lines.{HasNumberUpTo, line_data}
-use Rattle.query_reader.specs.Refusals.{Fails, fault_at}
+use Rattle.query_reader.specs.Refusals.{Fails}
+use Rattle.query_reader.specs.Private.Lines.{fault_at}
 use Rattle.query_reader.specs.Queries.{query_data}
 use Rattle.query_reader.specs.Reading.{read_lines, read_query_file}
 use Rattle.query_reader.proofs.FileReading.{with_front, with_bytes, long-file, at-start, line-read, line-refused, at-end, all-more}
 use Rattle.query_reader.proofs.file.read_queries.Goals as goal
 
-pub returns-then-bytes-gt-LONGEST_FILE-clause-file : goal.returns-then-bytes-gt-LONGEST_FILE-clause-file
-returns-then-bytes-gt-LONGEST_FILE-clause-file g c =
+pub returns-then-bytes-gt-LONGEST_QUERY_FILE-clause-file : goal.returns-then-bytes-gt-LONGEST_QUERY_FILE-clause-file
+returns-then-bytes-gt-LONGEST_QUERY_FILE-clause-file g c =
     let read = read_query_file c.args.bytes.now c.args.mode (g.X.Lexicon.terms c.args.index.now) in
     subst (λ fault. Fails fault read) (sym c.at.ensures) (long-file c.args.bytes.now c.args.mode (g.X.Lexicon.terms c.args.index.now) (search rules))
 
 pub loop-line-init : goal.loop-line-init
 loop-line-init g c =
-    let terms = g.X.Lexicon.terms c.args.index.now in
-    let mode = c.args.mode in
-    let lines = c.into_iter-line-iterator.result in
+    let terms = g.X.Lexicon.terms c.args.index.now in let mode = c.args.mode in let lines = c.into_iter-line-iterator.result in
     record {
       read = ap (λ qs. with_front (map query_data qs) (read_lines mode terms (with_bytes lines))) c.new-queries.ensures ∙ at-start c.args.bytes.now mode terms lines (search rules) (ap with_bytes (c.into_iter-line-iterator.ensures.into_iter_gives ∙ c.new-line-items.ensures.lines));
       numbers = subst (AllByRecursion (HasNumberUpTo (length c.args.bytes.now))) (sym c.into_iter-line-iterator.ensures.into_iter_gives) c.new-line-items.ensures.numbers;
@@ -39,8 +36,7 @@ loop-line-preserved g c =
 
 pub returns-in-Err-clause-file : goal.returns-in-Err-clause-file
 returns-in-Err-clause-file g c =
-    let terms = g.X.Lexicon.terms c.args.index.now in
-    let read = read_query_file c.args.bytes.now c.args.mode terms in
+    let terms = g.X.Lexicon.terms c.args.index.now in let read = read_query_file c.args.bytes.now c.args.mode terms in
     let refused = line-refused c.args.mode terms (map query_data c.loop-line.queries) c.loop-line.line-iterator c.next.new.self (line_data c.in-Some.line) c.in-Err.fault c.in-Some.ensures.steps (search rules) c.in-Err.ensures.query in
     subst (λ fault. Fails fault read) (sym c.at-in-Err.ensures) (subst (Fails (fault_at c.in-Some.line.number c.in-Err.fault)) c.loop-line.invariant.read refused)
 

@@ -1,17 +1,15 @@
 -- Each turn counts in the mention of one run.
-use Rattle.std.proofs.Common.{◌∙◌, ap, sym, subst, arith}
-use Rattle.std.specs.Prelude.{position, bytes_eq}
+use Rattle.shared_lemmas.proofs.Common.{◌∙◌, ap, sym, subst, arith, position, bytes_eq}
 use Rattle.query_reader.specs.Mentions.{Mention}
 use Rattle.query_reader.specs.Texts.{folded_term, folded_mentions}
 use Rattle.query_reader.specs.Private.Tally.{all_counted_in}
-use Rattle.query_reader.specs.Refusals.{LineFails}
+use Rattle.query_reader.specs.Private.Lines.{LineFails}
 use Rattle.query_reader.proofs.Counting.{none-counted, one-counted, one-refused, handed-on, few-more}
 use Rattle.query_reader.proofs.folded.count_characters.Goals as goal
 
 pub returns-in_err-count : goal.returns-in_err-count
 returns-in_err-count g c =
-    let terms = g.X.Lexicon.terms c.args.index.now in
-    let run = c.in-Some.run'.now in
+    let terms = g.X.Lexicon.terms c.args.index.now in let run = c.in-Some.run'.now in
     let m : Mention = record { term = folded_term run; factor = c.factor_behind-factor.result.0 } in
     let rest = folded_mentions c.factor_behind-factor.result.1.now in
     let split = c.in-Some.ensures.same ∙ c.factor_behind-factor.ensures.mention run c.in-Some.ensures.word in
@@ -23,8 +21,7 @@ returns-in_err-count g c =
 
 pub loop-run-preserved : goal.loop-run-preserved
 loop-run-preserved g c =
-    let terms = g.X.Lexicon.terms c.args.index.now in
-    let run = c.in-Some.run'.now in
+    let terms = g.X.Lexicon.terms c.args.index.now in let run = c.in-Some.run'.now in
     let m : Mention = record { term = folded_term run; factor = c.factor_behind-factor.result.0 } in
     let rest = folded_mentions c.factor_behind-factor.result.1.now in
     let split = c.in-Some.ensures.same ∙ c.factor_behind-factor.ensures.mention run c.in-Some.ensures.word in

@@ -1,5 +1,4 @@
-use Rattle.std.proofs.Common.{rules}
-use Rattle.std.proofs.lemmas.Iterator.{text_from_collect}
+use Rattle.shared_lemmas.proofs.Common.{rules, text_from_collect}
 use Rattle.unicode_normalization.proofs.IterLemmas.{Spells-slice}
 use Rattle.caseless.specs.CaseFold.{CaseFoldSteps}
 use Rattle.caseless.proofs.CaselessLemmas.{Spells-CaseFold}

@@ -1,7 +1,5 @@
 -- A text from its first letter or digit on has the same mentions.
-use Rattle.std.proofs.Common.{length, rules, tests}
-use Rattle.std.proofs.lemmas.Iterator.{YieldsList-from_slice}
-use Rattle.std.proofs.lemmas.Iterator.Search.{position_from_yields_List}
+use Rattle.shared_lemmas.proofs.Common.{length, rules, tests, YieldsList-from_slice, position_from_yields_List}
 use Rattle.query_reader.specs.Texts.{is_word}
 use Rattle.query_reader.proofs.Limits.{place_of-some, place_of-none}
 use Rattle.query_reader.proofs.WordRuns.{gap-from, gap-whole}

@@ -1,7 +1,7 @@
 -- The checks of a line in their order.
 use Rattle.std.proofs.Common.{◌∙◌, ap, sym, subst, take, drop, rules}
 use Rattle.query_reader.specs.Queries.{query_data}
-use Rattle.query_reader.specs.Refusals.{LineAnswers}
+use Rattle.query_reader.specs.Private.Lines.{LineAnswers}
 use Rattle.query_reader.proofs.LineReading.{long-line, bad-text, id-end, no-id, good-line}
 use Rattle.query_reader.proofs.line.read_line.Goals as goal
 

@@ -1,7 +1,5 @@
 -- Each turn tallies one word more.
-use Rattle.std.proofs.Common.{take, ap, sym, subst, ◌∙◌, arith}
-use Rattle.std.proofs.lemmas.List.{length-take-le}
-use Rattle.std.specs.Prelude.{position, bytes_eq, Some, None, Err}
+use Rattle.shared_lemmas.proofs.Common.{take, ap, sym, subst, ◌∙◌, arith, length-take-le, position, bytes_eq, Some, None, Err}
 use Rattle.query_reader.specs.Private.Tally.{TalliesIn}
 use Rattle.query_reader.proofs.Words.{named-more, named-same, unknown-more, named-fit, said-few, said-some, said-differ, said-known, so-far-within, never-refused}
 use Rattle.query_reader.proofs.naming.name_terms.Goals as goal
@@ -20,9 +18,7 @@ unreachable-requires g c =
 
 pub loop-word-preserved : goal.loop-word-preserved
 loop-word-preserved g c =
-    let terms = g.X.Lexicon.terms c.args.index.now in
-    let i = c.loop-word.word-index in
-    let words = c.args.words.now in
+    let terms = g.X.Lexicon.terms c.args.index.now in let i = c.loop-word.word-index in let words = c.args.words.now in
     let word = c.word-item.result in
     let found = ap (λ bytes. position (λ t. bytes_eq t bytes) terms) (sym c.as_str.ensures.value ∙ sym c.as_bytes.ensures.value) ∙ sym c.find.ensures.number in
     elim c.match-find.branch [
@@ -42,8 +38,7 @@ loop-word-preserved g c =
 
 pub invariant_of-result : goal.invariant_of-result
 invariant_of-result g c =
-    let terms = g.X.Lexicon.terms c.args.index.now in
-    let words = take c.loop-word.word-index c.args.words.now in
+    let terms = g.X.Lexicon.terms c.args.index.now in let words = take c.loop-word.word-index c.args.words.now in
     let is = c.from_vec.ensures ∙ c.loop-word.invariant.named in
     record {
       few = omega (arith, said-few terms words c.from_vec.result is, length-take-le c.loop-word.word-index c.args.words.now (omega arith), c.requires);
@@ -53,9 +48,7 @@ invariant_of-result g c =
 
 pub returns-clause-times : goal.returns-clause-times
 returns-clause-times g c =
-    let terms = g.X.Lexicon.terms c.args.index.now in
-    let i = c.loop-word.word-index in
-    let words = c.args.words.now in
+    let terms = g.X.Lexicon.terms c.args.index.now in let i = c.loop-word.word-index in let words = c.args.words.now in
     let fit = named-fit terms (take i words) c.from_vec.result (c.from_vec.ensures ∙ c.loop-word.invariant.named) in
     λ k d inside. omega (arith, fit k d inside, length-take-le i words (omega arith))
 

@@ -2,15 +2,14 @@
 use Rattle.std.proofs.Common.{◌∙◌, ◌∷◌, ap, sym, subst, arith}
 use Rattle.query_reader.specs.Texts.{plain_mentions}
 use Rattle.query_reader.specs.Private.Tally.{all_counted_in}
-use Rattle.query_reader.specs.Refusals.{LineFails}
-use Rattle.query_reader.specs.Slices.{mention_data}
+use Rattle.query_reader.specs.Private.Lines.{LineFails}
+use Rattle.query_reader.specs.Private.Slices.{mention_data}
 use Rattle.query_reader.proofs.Counting.{none-counted, one-counted, one-refused, handed-on, first-mention, no-mentions, few-more}
 use Rattle.query_reader.proofs.plain.count_plain.Goals as goal
 
 pub returns-in_err-count : goal.returns-in_err-count
 returns-in_err-count g c =
-    let terms = g.X.Lexicon.terms c.args.index.now in
-    let m = mention_data c.mention_in-mention.result in
+    let terms = g.X.Lexicon.terms c.args.index.now in let m = mention_data c.mention_in-mention.result in
     let rest = plain_mentions c.in-Some.behind.now in
     let split = first-mention c.loop-run.rest.now c.in-Some.run'.now c.in-Some.behind.now c.in-Some.ensures.0 ∙ ap (λ x. x ∷ rest) (sym c.mention_in-mention.ensures) in
     let fails = one-refused terms c.loop-run.tally m rest c.find.result c.in_err-count.field-0.0 c.find.ensures.number c.in_err-count.ensures in
@@ -19,8 +18,7 @@ returns-in_err-count g c =
 
 pub loop-run-preserved : goal.loop-run-preserved
 loop-run-preserved g c =
-    let terms = g.X.Lexicon.terms c.args.index.now in
-    let m = mention_data c.mention_in-mention.result in
+    let terms = g.X.Lexicon.terms c.args.index.now in let m = mention_data c.mention_in-mention.result in
     let rest = plain_mentions c.in-Some.behind.now in
     let split = first-mention c.loop-run.rest.now c.in-Some.run'.now c.in-Some.behind.now c.in-Some.ensures.0 ∙ ap (λ x. x ∷ rest) (sym c.mention_in-mention.ensures) in
     record {

@@ -1,6 +1,5 @@
-use Rattle.std.proofs.Common.{◌∙◌, sym, ap}
-use Rattle.query_reader.specs.Slices.{mention_data}
-use Rattle.std.specs.Option.{option_map}
+use Rattle.shared_lemmas.proofs.Common.{◌∙◌, sym, ap, option_map}
+use Rattle.query_reader.specs.Private.Slices.{mention_data}
 use Rattle.query_reader.proofs.Carets.{weighted-run, whole-run}
 use Rattle.query_reader.proofs.plain.mention_in.Goals as goal
 

@@ -1,6 +1,6 @@
 -- The run ends at the first blank behind it.
 use Rattle.std.proofs.Common.{◌∙◌, ◌∷◌, ◌<◌, drop, length, sym, ap, arith, rules}
-use Rattle.query_reader.specs.Slices.{blank_runs}
+use Rattle.query_reader.specs.Texts.{blank_runs}
 use Rattle.query_reader.proofs.Runs.{first-run, only-run}
 use Rattle.query_reader.proofs.plain.next_run.Goals as goal
 

@@ -1,7 +1,6 @@
 -- What stands behind the last `^` is a factor or none.
-use Rattle.std.proofs.Common.{◌∙◌, sym, ap, rules}
-use Rattle.std.specs.Option.{option_map}
-use Rattle.query_reader.specs.Slices.{mention_data}
+use Rattle.shared_lemmas.proofs.Common.{◌∙◌, sym, ap, rules, option_map}
+use Rattle.query_reader.specs.Private.Slices.{mention_data}
 use Rattle.query_reader.proofs.Carets.{unweighted-whole, unweighted-front, unweighted-behind, weighted-behind}
 use Rattle.query_reader.proofs.plain.weighted_mention.Goals as goal
 
@@ -12,8 +11,7 @@ pub returns-then-caret-eq0 : goal.returns-then-caret-eq0
 returns-then-caret-eq0 c = sym (unweighted-front c.args.run.now c.memrchr.result c.in_ok-caret.caret c.memrchr.ensures c.in_ok-caret.was c.if-caret-eq0.true)
 
 pub returns-in_err-factor : goal.returns-in_err-factor
-returns-in_err-factor c =
-    ap (option_map mention_data) c.from_residual-in_err-factor.ensures
+returns-in_err-factor c = ap (option_map mention_data) c.from_residual-in_err-factor.ensures
     ∙ sym (unweighted-behind c.args.run.now c.memrchr.result c.in_ok-caret.caret c.memrchr.ensures c.in_ok-caret.was (sym c.read_factor.ensures ∙ c.in_err-factor.was))
 
 pub returns : goal.returns

@@ -1,7 +1,5 @@
 -- The place that `position` gives is that of the number, and no place means that no term has it.
-use Rattle.std.proofs.Common.{length, eqb, refl, ap, sym, ◌∙◌, arith, rules, tests}
-use Rattle.std.proofs.lemmas.Iterator.{YieldsList-from_slice}
-use Rattle.std.proofs.lemmas.Iterator.Search.{position_from_yields_List}
+use Rattle.shared_lemmas.proofs.Common.{length, eqb, refl, ap, sym, ◌∙◌, arith, rules, tests, YieldsList-from_slice, position_from_yields_List}
 use Rattle.jass_base.specs.declared.query_term.QueryTerm.{QueryTerm}
 use Rattle.query_reader.proofs.Limits.{place_of-some, place_of-none, named-more, named-too-often, named-too-many, named-first}
 use Rattle.query_reader.proofs.tally.count_known.Goals as goal

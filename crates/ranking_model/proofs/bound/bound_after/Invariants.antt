@@ -1,5 +1,4 @@
-use Rattle.std.proofs.Common.{◌≡◌, sum_by, drop}
-use Rattle.std.specs.List.{range_with_len}
+use Rattle.shared_lemmas.proofs.Common.{◌≡◌, sum_by, drop, range_with_len}
 use Rattle.ranking_model.specs.Scores.{greatest_weight}
 use Rattle.ranking_model.proofs.bound.bound_after.Given as goal
 

@@ -1,6 +1,5 @@
 -- Each number has one digit, and the rest computes.
-use Rattle.std.proofs.Common.{refl, arith}
-use Rattle.std.proofs.lemmas.Fmt.{decimal_digit}
+use Rattle.shared_lemmas.proofs.Common.{refl, arith, decimal_digit}
 use Rattle.ranking_model.specs.Plan.{plan_of}
 use Rattle.ranking_model.proofs.examples.a_run_of_two_budgets.Goals as goal
 

@@ -1,6 +1,5 @@
 -- Both documents stay hits; where document 0 gains 1 it comes first.
-use Rattle.std.proofs.Common.{◌∷◌, [], zero, suc, refl, arith}
-use Rattle.std.proofs.lemmas.List.Sorted.{IsPermutation-refl, IsPermutation-reverse}
+use Rattle.shared_lemmas.proofs.Common.{◌∷◌, [], zero, suc, refl, arith, IsPermutation-refl, IsPermutation-reverse}
 use Rattle.ranking_model.specs.Finality.{IsKept}
 use Rattle.ranking_model.specs.Plan.{plan_of}
 use Rattle.ranking_model.proofs.graded.two_documents_may_swap.Goals as goal

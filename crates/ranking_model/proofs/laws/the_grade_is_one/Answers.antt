@@ -1,14 +1,10 @@
 -- A settled answer is kept, and one of the two grades of a pair says so where the other says that it isn't.
-use Rattle.std.proofs.Common.{◌≡◌, ℕ, List, refl, sym, subst}
-use Rattle.std.specs.Prelude.{IsPermutation}
-use Rattle.std.proofs.lemmas.List.Sorted.{IsPermutation-refl}
+use Rattle.std.proofs.Common.{◌≡◌, refl}
 use Rattle.jass_base.specs.declared.answer.Grade.{Grade}
 use Rattle.jass_base.specs.declared.answer.Grade.TheVariants.{Final, Set, Open}
-use Rattle.ranking_model.specs.Finality.{first_documents, IsSettled, IsKept, IsGradeOf}
+use Rattle.ranking_model.specs.Finality.{IsGradeOf}
+use Rattle.ranking_model.proofs.Promises.{settled_is_kept}
 use Rattle.ranking_model.proofs.laws.the_grade_is_one.Goals as goal
-
-kept : (scores : List ℕ) (k bound : ℕ) → IsSettled scores k bound → IsKept scores k bound
-kept scores k bound settled gains are = subst (IsPermutation (first_documents scores k)) (sym (settled gains are)) (IsPermutation-refl (first_documents scores k))
 
 one : (settled kept : Type 0) (first second : Grade) → IsGradeOf settled kept first → IsGradeOf settled kept second → first ≡ second
 one settled kept Final Final a b = refl
@@ -25,7 +21,7 @@ pub returns-clause-one : goal.returns-clause-one
 returns-clause-one c = λ scores k bound. one _ _
 
 pub returns-clause-kept : goal.returns-clause-kept
-returns-clause-kept c = kept
+returns-clause-kept c = settled_is_kept
 
 pub returns-clause-one_within : goal.returns-clause-one_within
 returns-clause-one_within c = λ scores limits k. one _ _

@@ -1,5 +1,4 @@
-use Rattle.std.proofs.Common.{◌∙◌, ap, length, sum_by}
-use Rattle.std.proofs.Math.Seq.{take-length}
+use Rattle.shared_lemmas.proofs.Common.{◌∙◌, ap, length, sum_by, take-length}
 use Rattle.ranking_model.specs.declared.plan_segment.PlanSegment.{PlanSegment}
 use Rattle.ranking_model.specs.Plan.{plan_segments}
 use Rattle.ranking_model.proofs.Small.{sizes, gains}

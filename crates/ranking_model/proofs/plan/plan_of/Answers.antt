@@ -1,5 +1,4 @@
-use Rattle.std.proofs.Common.{◌∙◌, sym, ap, subst, length, List}
-use Rattle.std.specs.Prelude.{IsSorted}
+use Rattle.shared_lemmas.proofs.Common.{◌∙◌, sym, ap, subst, length, List, IsSorted}
 use Rattle.ranking_model.specs.declared.plan_segment.PlanSegment.{PlanSegment}
 use Rattle.ranking_model.specs.Programs.{AreLight, place_cmp}
 use Rattle.ranking_model.specs.Plan.{plan_segments}

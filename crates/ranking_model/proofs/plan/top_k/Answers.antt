@@ -1,5 +1,4 @@
-use Rattle.std.proofs.Common.{ℕ, List, ◌<◌, sym, ap, subst, ◌∙◌}
-use Rattle.std.specs.Prelude.{All}
+use Rattle.shared_lemmas.proofs.Common.{ℕ, List, ◌<◌, sym, ap, subst, ◌∙◌, All}
 use Rattle.jass_base.specs.declared.answer.Hit.{Hit}
 use Rattle.ranking_model.specs.Scores.{first_ranked}
 use Rattle.ranking_model.proofs.Documents.{answer_below}

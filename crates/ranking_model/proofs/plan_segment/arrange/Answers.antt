@@ -1,7 +1,5 @@
 -- The sort is stable, so it leaves what sorting by insertion leaves.
-use Rattle.std.proofs.Common.{rules, ℕ, length}
-use Rattle.std.proofs.lemmas.List.Sorted.{answers_always}
-use Rattle.std.specs.declared.cmp.Reverse.{Reverse}
+use Rattle.shared_lemmas.proofs.Common.{rules, ℕ, length, answers_always, Reverse}
 use Rattle.ranking_model.specs.declared.plan_segment.PlanSegment.{PlanSegment}
 use Rattle.ranking_model.specs.Plan.{plan_cmp}
 use Rattle.ranking_model.proofs.Sorting.{stable_is_sorted}

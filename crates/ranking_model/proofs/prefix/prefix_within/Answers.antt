@@ -1,5 +1,4 @@
-use Rattle.std.proofs.Common.{◌≡◌, ◌+◌, length, sym, ap, arith}
-use Rattle.std.proofs.lemmas.List.Sums.{sum_by_more}
+use Rattle.shared_lemmas.proofs.Common.{◌≡◌, ◌+◌, length, sym, ap, arith, sum_by_more}
 use Rattle.ranking_model.specs.declared.plan_segment.PlanSegment.{PlanSegment}
 use Rattle.ranking_model.specs.Plan.{size_of_first}
 use Rattle.ranking_model.proofs.Totals.{prefix_is}

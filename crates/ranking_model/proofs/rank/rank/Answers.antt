@@ -1,7 +1,5 @@
 -- The sort leaves the hits in order, and no order of them is another.
-use Rattle.std.proofs.Common.{rules, ℕ}
-use Rattle.std.proofs.lemmas.List.Sorted.{answers_always}
-use Rattle.std.specs.declared.cmp.Reverse.{Reverse}
+use Rattle.shared_lemmas.proofs.Common.{rules, ℕ, answers_always, Reverse}
 use Rattle.jass_base.specs.declared.answer.Hit.{Hit}
 use Rattle.ranking_model.specs.Scores.{rank_cmp}
 use Rattle.ranking_model.proofs.Sorting.{sort_is_sorted}

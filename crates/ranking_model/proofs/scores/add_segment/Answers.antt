@@ -1,5 +1,4 @@
-use Rattle.std.proofs.Common.{◌<◌, length, ap, get_or, arith}
-use Rattle.std.proofs.lemmas.List.Elements.{All-from_recursion}
+use Rattle.shared_lemmas.proofs.Common.{◌<◌, length, ap, get_or, arith, All-from_recursion}
 use Rattle.ranking_model.proofs.Totals.{room_here, added_here}
 use Rattle.ranking_model.proofs.scores.add_segment.Goals as goal
 

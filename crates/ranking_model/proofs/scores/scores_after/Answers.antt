@@ -1,5 +1,4 @@
-use Rattle.std.proofs.Common.{◌∙◌, ap, take, length, sum_by, arith}
-use Rattle.std.proofs.lemmas.List.{length-take}
+use Rattle.shared_lemmas.proofs.Common.{◌∙◌, ap, take, length, sum_by, arith, length-take}
 use Rattle.ranking_model.specs.Scores.{gain_of}
 use Rattle.ranking_model.specs.declared.plan_segment.PlanSegment.{PlanSegment}
 use Rattle.ranking_model.proofs.Totals.{scores_are}

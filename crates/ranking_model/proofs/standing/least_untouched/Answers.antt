@@ -1,6 +1,5 @@
-use Rattle.std.proofs.Common.{◌≡◌, ℕ, ◌<◌, List, length, get_or, Some, None, ◌≤◌, true, false, sym, eq-eqb, lt-ltb, le-ltb, refl, arith}
-use Rattle.std.specs.Prelude.{◌==◌, nat_lt, position}
-use Rattle.std.proofs.lemmas.List.Sums.{position_or_len_is}
+use Rattle.shared_lemmas.proofs.Common.{◌≡◌, ℕ, ◌<◌, List, length, get_or, Some, None, ◌≤◌, true, false, sym, eq-eqb, refl, arith, ◌==◌, nat_lt, position, position_or_len_is}
+use Rattle.std.proofs.Common.{lt-ltb, le-ltb}
 use Rattle.ranking_model.proofs.standing.least_untouched.Goals as goal
 
 first_zero : (scores : List ℕ) (i : ℕ) → i < length scores → ((k : ℕ) → k < i → (get_or scores k 0 == 0) ≡ false) → get_or scores i 0 ≡ 0 → position (λ score. score == 0) scores ≡ Some i

@@ -1,5 +1,4 @@
-use Rattle.std.proofs.Common.{◌≡◌, ℕ, ◌<◌, false, get_or}
-use Rattle.std.specs.Prelude.{◌==◌}
+use Rattle.shared_lemmas.proofs.Common.{◌≡◌, ℕ, ◌<◌, false, get_or, ◌==◌}
 use Rattle.ranking_model.proofs.standing.least_untouched.Given as goal
 
 abbrev pub invariant-loop-doc : goal.invariant-loop-doc

@@ -1,6 +1,5 @@
 -- Each number has one digit, and the rest computes.
-use Rattle.std.proofs.Common.{◌∷◌, [], refl, arith}
-use Rattle.std.proofs.lemmas.Fmt.{decimal_digit}
+use Rattle.shared_lemmas.proofs.Common.{◌∷◌, [], refl, arith, decimal_digit}
 use Rattle.jass_base.specs.declared.answer.Grade.TheVariants.{Final, Open}
 use Rattle.ranking_model.specs.Examples.{report}
 use Rattle.ranking_model.proofs.Searched.{cat_dog_reports, no_reports}

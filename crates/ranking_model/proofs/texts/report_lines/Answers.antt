@@ -1,6 +1,5 @@
 -- Each number has one digit, and the rest computes.
-use Rattle.std.proofs.Common.{refl, arith}
-use Rattle.std.proofs.lemmas.Fmt.{decimal_digit}
+use Rattle.shared_lemmas.proofs.Common.{refl, arith, decimal_digit}
 use Rattle.ranking_model.proofs.texts.report_lines.Goals as goal
 
 pub returns-clause-all : goal.returns-clause-all

@@ -1,7 +1,4 @@
-use Rattle.std.proofs.Common.{◌≡◌, ℕ, ◌*◌, ◌/◌, ◌^◌, ◌<◌, ◌≤◌, List, [], ◌∷◌, ◌++◌, length, arith}
-use Rattle.std.specs.Prelude.{All}
-use Rattle.std.specs.List.{AllByRecursion}
-use Rattle.std.proofs.lemmas.List.Elements.{recursion_from_All}
+use Rattle.shared_lemmas.proofs.Common.{◌≡◌, ℕ, ◌*◌, ◌/◌, ◌^◌, ◌<◌, ◌≤◌, List, [], ◌∷◌, ◌++◌, length, arith, All, AllByRecursion, recursion_from_All}
 use Rattle.jass_base.specs.Gaps.{AreDocs, gaps_of}
 use Rattle.jass_base.specs.Wire.{short_varint}
 use Rattle.plain_codecs.specs.Bitmap.{bitmap_of, bitmap_size}

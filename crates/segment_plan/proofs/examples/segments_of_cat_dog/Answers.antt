@@ -1,6 +1,4 @@
-use Rattle.std.proofs.Common.{◌≡◌, zero, suc, ◌<◌, ◌≤◌, length, inl, arith}
-use Rattle.std.specs.Prelude.{AllPairs}
-use Rattle.std.proofs.lemmas.List.Elements.{All-from_recursion}
+use Rattle.shared_lemmas.proofs.Common.{◌≡◌, zero, suc, ◌<◌, ◌≤◌, length, inl, arith, AllPairs, All-from_recursion}
 use Rattle.segment_plan.specs.declared.entry.PlanHead.{PlanHead}
 use Rattle.segment_plan.specs.Entries.{Fall}
 use Rattle.segment_plan.specs.Examples.{cat_dog_heads}

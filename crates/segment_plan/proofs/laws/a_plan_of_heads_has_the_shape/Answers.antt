@@ -1,5 +1,4 @@
-use Rattle.std.proofs.Common.{refl, sym, ap, ◌∙◌, map}
-use Rattle.std.proofs.lemmas.Simd.{map-map}
+use Rattle.shared_lemmas.proofs.Common.{refl, sym, ap, ◌∙◌, map, map-map}
 use Rattle.ranking_model.specs.Plan.{plan_cmp}
 use Rattle.segment_plan.specs.Entries.{entry_of, entry_cmp}
 use Rattle.segment_plan.specs.Shape.{shape, entry_shape}

@@ -1,5 +1,4 @@
-use Rattle.std.proofs.Common.{ℕ, suc, ◌≡◌, ◌+◌, ◌∙◌, ap, arith, drop, sum_by}
-use Rattle.std.specs.List.{range_with_len}
+use Rattle.shared_lemmas.proofs.Common.{ℕ, suc, ◌≡◌, ◌+◌, ◌∙◌, ap, arith, drop, sum_by, range_with_len}
 use Rattle.ranking_model.specs.Plan.{cutoff_after}
 use Rattle.ranking_model.specs.Scores.{greatest_weight}
 use Rattle.segment_plan.proofs.Alike.{alike_drop, alike_length, alike_greatest, alike_weight, no_weight}

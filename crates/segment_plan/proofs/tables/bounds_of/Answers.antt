@@ -1,5 +1,4 @@
-use Rattle.std.proofs.Common.{rules, ℕ, ◌+◌, ◌∙◌, List, length, ap, arith, refl, get_or, ◌-◌, replicate}
-use Rattle.std.proofs.lemmas.List.{get_or-replicate}
+use Rattle.shared_lemmas.proofs.Common.{rules, ℕ, ◌+◌, ◌∙◌, List, length, ap, arith, refl, get_or, ◌-◌, replicate, get_or-replicate}
 use Rattle.segment_plan.specs.declared.entry.PlanEntry.{PlanEntry}
 use Rattle.segment_plan.proofs.Bounds.{seen_start, seen_step, zeros_at}
 use Rattle.segment_plan.proofs.tables.bounds_of.Goals as goal

@@ -1,8 +1,7 @@
-use Rattle.std.proofs.Common.{◌≡◌, ◌≤◌, length, map, take}
-use Rattle.std.specs.List.{AllByRecursion}
+use Rattle.shared_lemmas.proofs.Common.{◌≡◌, ◌≤◌, length, map, take, AllByRecursion}
 use Rattle.segment_plan.specs.declared.entry.PlanHead.{PlanHead}
 use Rattle.segment_plan.specs.Entries.{entry_of}
-use Rattle.segment_plan.specs.Tables.{AreLight}
+use Rattle.segment_plan.specs.Private.Arranging.{AreLight}
 use Rattle.segment_plan.proofs.tables.weigh.Given as goal
 
 abbrev pub invariant-loop-head : goal.invariant-loop-head

@@ -1,17 +1,14 @@
 -- The answer of the session of the name.
 use Rattle.std.proofs.Common.{◌∙◌, ℕ, List, subst}
-use Rattle.jass_base.specs.declared.faults.WriteFault.{WriteFault}
-use Rattle.gathered_text.specs.Gathering.{Gathers}
-use Rattle.session_desk.specs.Standing.{entry_of, state_of}
+use Rattle.session_desk.proofs.Below.{WriteFault, Gathers}
+use Rattle.session_desk.specs.Standing.{session_data, state_of}
 use Rattle.session_desk.proofs.Granting.{answer_shown}
 use Rattle.session_desk.proofs.Replying.{reply_answered}
 use Rattle.session_desk.proofs.answering.top.Goals as goal
 
 pub returns-in-Some : goal.returns-in-Some
 returns-in-Some g c =
-    let file = c.args.index.now in
-    let s = c.in-Some.session.now in
-    let stands = c.in-Some.ensures.stands file c.requires.stands in
+    let file = c.args.index.now in let s = c.in-Some.session.now in let stands = c.in-Some.ensures.stands file c.requires.stands in
     let hits = c.answer.ensures file c.args.table.now.pool stands ∙ answer_shown s file c.args.table.now.pool stands in
     subst (λ (text : List ℕ). Gathers {T = Unit {0}} {E = WriteFault} g.S.Sink.written g.S.Sink.faults g.S.Sink.rest c.args.out.now c.gather_hits.new.out c.args.buffer.now c.gather_hits.new.buffer text c.gather_hits.result)
-    (reply_answered file c.args.name.now (state_of c.args.table.now) (entry_of s) c.answer.result.now c.in-Some.ensures.entry hits) c.gather_hits.ensures
+    (reply_answered file c.args.name.now (state_of c.args.table.now) (session_data s) c.answer.result.now c.in-Some.ensures.session hits) c.gather_hits.ensures

@@ -1,7 +1,6 @@
 -- What is told of the session of the name.
 use Rattle.std.proofs.Common.{ℕ, List, refl, subst}
-use Rattle.jass_base.specs.declared.faults.WriteFault.{WriteFault}
-use Rattle.gathered_text.specs.Gathering.{Gathers}
+use Rattle.session_desk.proofs.Below.{WriteFault, Gathers}
 use Rattle.session_desk.specs.Standing.{state_of}
 use Rattle.session_desk.proofs.Replying.{reply_told}
 use Rattle.session_desk.proofs.answering.why.Goals as goal
@@ -9,4 +8,4 @@ use Rattle.session_desk.proofs.answering.why.Goals as goal
 pub returns-in-Some : goal.returns-in-Some
 returns-in-Some g c file stands =
     subst (λ (text : List ℕ). Gathers {T = Unit {0}} {E = WriteFault} g.S.Sink.written g.S.Sink.faults g.S.Sink.rest c.args.out.now c.gather_report.new.out c.args.buffer.now c.gather_report.new.buffer text c.gather_report.result)
-    (reply_told file c.args.name.now (state_of c.args.table.now) (λ entry. entry) (λ entry. refl) c.in-Some.told (c.in-Some.ensures file stands)) c.gather_report.ensures
+    (reply_told file c.args.name.now (state_of c.args.table.now) (λ session. session) (λ session. refl) c.in-Some.told (c.in-Some.ensures file stands)) c.gather_report.ensures

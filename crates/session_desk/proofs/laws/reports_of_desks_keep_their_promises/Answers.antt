@@ -7,6 +7,6 @@ use Rattle.session_desk.proofs.laws.reports_of_desks_keep_their_promises.Goals a
 
 pub returns-clause-promised : goal.returns-clause-promised
 unfolding session_plan session_report
-returns-clause-promised c file entry is =
-    c.reports_keep_their_promises.ensures (length file.index.names) (scored_prefix file entry) entry.k (numbered_flat file.index) entry.query.terms (session_report file entry) (c.the_flat_list_is_flat.ensures.numbers file.index is.index)
-    (c.a_prefix_has_one_report.ensures.report (scored_prefix file entry) entry.k (plan_of_session file entry))
+returns-clause-promised c file session is =
+    c.reports_keep_their_promises.ensures (length file.index.names) (scored_prefix file session) session.k (numbered_flat file.index) session.query.terms (session_report file session) (c.the_flat_list_is_flat.ensures.numbers file.index is.index)
+    (c.a_prefix_has_one_report.ensures.report (scored_prefix file session) session.k (plan_of_session file session))

@@ -1,6 +1,5 @@
 -- A character begins behind a blank.
-use Rattle.std.proofs.Common.{arith, rules}
-use Rattle.std.proofs.lemmas.Str.{IsCharBoundary-after_ascii}
+use Rattle.shared_lemmas.proofs.Common.{arith, rules, IsCharBoundary-after_ascii}
 use Rattle.session_desk.proofs.Wording.{small_first}
 use Rattle.session_desk.proofs.words.begins_with_blank.Goals as goal
 

@@ -2,7 +2,7 @@
 use Rattle.std.proofs.Common.{◌≡◌, ◌≤◌, length}
 use denote.Text.{Utf8}
 use denote.Shadow.{shadow}
-use Rattle.query_reader.specs.Slices.{blank_runs}
+use Rattle.query_reader.specs.Texts.{blank_runs}
 use Rattle.session_desk.proofs.words.without_blanks.Given as goal
 
 abbrev pub invariant-loop-rest : goal.invariant-loop-rest

@@ -6,8 +6,7 @@ use Rattle.session_engine.proofs.frames_needed.counted.Goals as goal
 
 pub loop-segment-preserved : goal.loop-segment-preserved
 loop-segment-preserved c =
-    let segments = segments_at c.args.index.now.index.terms c.args.term in
-    let test = c.loop-segment-test.true in
+    let segments = segments_at c.args.index.now.index.terms c.args.term in let test = c.loop-segment-test.true in
     let many = c.segments-segment-end.ensures in (
       omega (arith, c.min-sum.ensures),
       sum_step size segments c.loop-segment.segment c.args.limit c.loop-segment.sum c.min-sum.result (c.args.count + postings_at c.args.index.now.index.terms c.args.term) no_segment (omega arith)

@@ -1,5 +1,4 @@
-use Rattle.std.proofs.Common.{◌≡◌, ◌≤◌, ◌+◌, min, drop}
-use Rattle.std.specs.Prelude.{sum_by}
+use Rattle.shared_lemmas.proofs.Common.{◌≡◌, ◌≤◌, ◌+◌, min, drop, sum_by}
 use Rattle.index_model.specs.Querying.{segments_at}
 use Rattle.session_engine.specs.Plans.{postings_at}
 use Rattle.session_engine.proofs.Gathering.{size}

@@ -1,6 +1,5 @@
 use Rattle.std.proofs.Common.{◌∙◌, arith, ap, ap₂, sym, min}
-use Rattle.accumulator_pages.specs.Adding.{page_count}
-use Rattle.jass_base.specs.declared.query_term.QueryTerm.{QueryTerm}
+use Rattle.session_engine.proofs.Below.{page_count, QueryTerm}
 use Rattle.session_engine.specs.Plans.{postings_at, postings_of_terms}
 use Rattle.session_engine.proofs.Gathering.{counted_all, no_term, sum_step}
 use Rattle.session_engine.proofs.frames_needed.need.Goals as goal
@@ -17,6 +16,5 @@ pub returns : goal.returns
 returns c =
     let terms = c.args.index.now.index.terms in
     counted_all (λ (n : QueryTerm). postings_at terms n.term) c.as_slice-named-items.result.now c.loop-named.named-index c.loop-named.count c.div_ceil-pages.result (postings_of_terms terms c.as_slice-named-items.result.now)
-    c.loop-named-test.false c.loop-named.invariant.0 c.loop-named.invariant.1
-    ∙ ap₂ min (c.div_ceil-pages.ensures ∙ ap page_count c.docs.ensures)
+    c.loop-named-test.false c.loop-named.invariant.0 c.loop-named.invariant.1 ∙ ap₂ min (c.div_ceil-pages.ensures ∙ ap page_count c.docs.ensures)
     (ap (postings_of_terms terms) c.as_slice-named-items.ensures ∙ sym (c.a_session_plan_has_its_postings.ensures c.args.index.now c.args.query.now.terms))

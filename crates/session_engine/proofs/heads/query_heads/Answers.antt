@@ -1,7 +1,4 @@
-use Rattle.std.proofs.Common.{◌≤◌, arith, subst, List}
-use Rattle.std.specs.Prelude.{All}
-use Rattle.std.proofs.lemmas.List.{take_all}
-use Rattle.std.proofs.lemmas.List.Elements.{All-more}
+use Rattle.shared_lemmas.proofs.Common.{◌≤◌, arith, subst, List, All, take_all, All-more}
 use Rattle.jass_base.specs.declared.query_term.QueryTerm.{QueryTerm}
 use Rattle.session_engine.specs.Plans.{query_heads}
 use Rattle.session_engine.proofs.Gathering.{no_term, terms_all, terms_step}

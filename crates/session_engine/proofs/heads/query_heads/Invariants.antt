@@ -1,5 +1,4 @@
-use Rattle.std.proofs.Common.{◌≡◌, ◌≤◌, ◌++◌, drop, take}
-use Rattle.std.specs.Prelude.{All}
+use Rattle.shared_lemmas.proofs.Common.{◌≡◌, ◌≤◌, ◌++◌, drop, take, All}
 use Rattle.jass_base.specs.declared.query_term.QueryTerm.{QueryTerm}
 use Rattle.session_engine.specs.Plans.{heads_from, query_heads}
 use Rattle.session_engine.proofs.heads.query_heads.Given as goal

@@ -1,9 +1,5 @@
 use Rattle.std.proofs.Common.{◌∙◌, List, length, ap}
-use Rattle.ranking_model.specs.declared.plan_segment.PlanSegment.{PlanSegment}
-use Rattle.ranking_model.specs.declared.posting.WeightedPosting.{WeightedPosting}
-use Rattle.ranking_model.specs.Plan.{size_of_first}
-use Rattle.ranking_model.specs.Postings.{weighted_postings}
-use Rattle.index_model.specs.Flat.{numbered_flat}
+use Rattle.session_engine.proofs.Below.{PlanSegment, WeightedPosting, size_of_first, weighted_postings, numbered_flat}
 use Rattle.session_engine.specs.Plans.{session_plan}
 use Rattle.session_engine.proofs.Totals.{query_is_long}
 use Rattle.session_engine.proofs.laws.a_session_plan_has_its_postings.Goals as goal
@@ -13,5 +9,4 @@ unfolding session_plan
 returns c file terms =
     ap (λ (segments : List PlanSegment). size_of_first (length segments) segments) (c.a_plan_has_the_segments_of_its_postings.ensures.segments (length file.index.names) (numbered_flat file.index) terms)
     ∙ c.the_segments_have_all_postings.ensures.number (weighted_postings (numbered_flat file.index) terms)
-    ∙ ap (λ (ps : List WeightedPosting). length ps) (c.a_query_weighs_its_segments.ensures file.index terms)
-    ∙ query_is_long file.index terms
+    ∙ ap (λ (ps : List WeightedPosting). length ps) (c.a_query_weighs_its_segments.ensures file.index terms) ∙ query_is_long file.index terms

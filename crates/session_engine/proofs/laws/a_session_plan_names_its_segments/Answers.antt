@@ -1,9 +1,5 @@
-use Rattle.std.proofs.Common.{◌∙◌, List, length, map, ap}
-use Rattle.std.proofs.lemmas.List.Elements.{All-from_recursion}
-use Rattle.ranking_model.specs.declared.plan_segment.PlanSegment.{PlanSegment}
-use Rattle.segment_plan.specs.Entries.{plan_with}
-use Rattle.index_model.specs.Flat.{numbered_flat}
-use Rattle.segment_plan.specs.Shape.{shape}
+use Rattle.shared_lemmas.proofs.Common.{◌∙◌, List, length, map, ap, All-from_recursion}
+use Rattle.session_engine.proofs.Below.{PlanSegment, plan_with, numbered_flat, shape}
 use Rattle.session_engine.specs.Plans.{NamesSegment, query_heads, session_plan}
 use Rattle.session_engine.proofs.Segments.{arranged_segments, arranged_named, arranged_shapes, heads_are}
 use Rattle.session_engine.proofs.laws.a_session_plan_names_its_segments.Goals as goal

@@ -1,6 +1,5 @@
 use Rattle.std.proofs.Common.{◌∙◌, ap, replicate}
-use Rattle.ranking_model.specs.Plan.{prefix_within}
-use Rattle.segment_plan.specs.Entries.{plan_with}
+use Rattle.session_engine.proofs.Below.{prefix_within, plan_with}
 use Rattle.session_engine.specs.Plans.{query_heads, session_plan}
 use Rattle.session_engine.proofs.First.{none_at_first, zero_at_first}
 use Rattle.session_engine.proofs.laws.nothing_is_scored_at_first.Goals as goal

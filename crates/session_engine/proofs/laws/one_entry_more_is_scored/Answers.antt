@@ -1,6 +1,5 @@
 use Rattle.std.proofs.Common.{◌∙◌, ◌+◌, ap, sym}
-use Rattle.ranking_model.specs.Plan.{size_of_first}
-use Rattle.segment_plan.specs.Entries.{plan_with}
+use Rattle.session_engine.proofs.Below.{size_of_first, plan_with}
 use Rattle.session_engine.specs.Plans.{NamesSegment, segment_named, query_heads, session_plan}
 use Rattle.session_engine.proofs.EntryLists.{mapped_there, one_size, size_most, there}
 use Rattle.session_engine.proofs.laws.one_entry_more_is_scored.Goals as goal
@@ -10,16 +9,14 @@ returns-clause-names c file terms n entry is =
     there (NamesSegment file.index terms) (plan_with terms (query_heads file.index terms)).entries n entry is.at (c.a_session_plan_names_its_segments.ensures.names file terms is.index is.named is.known)
 
 pub returns-clause-scores : goal.returns-clause-scores
-returns-clause-scores c file terms n entry is =
-    c.one_segment_more_is_added.ensures.segment n (session_plan file terms) (segment_named file.index terms entry)
+returns-clause-scores c file terms n entry is = c.one_segment_more_is_added.ensures.segment n (session_plan file terms) (segment_named file.index terms entry)
     (mapped_there (segment_named file.index terms) (plan_with terms (query_heads file.index terms)).entries (session_plan file terms).segments n entry
     (c.a_session_plan_names_its_segments.ensures.segments file terms is.index is.named is.known) is.at)
 
 pub returns-clause-size : goal.returns-clause-size
 returns-clause-size c file terms n entry is =
     let names = there (NamesSegment file.index terms) (plan_with terms (query_heads file.index terms)).entries n entry is.at (c.a_session_plan_names_its_segments.ensures.names file terms is.index is.named is.known) in
-    c.a_prefix_is_resumed.ensures.size n 1 (session_plan file terms).segments
-    ∙ ap (λ k. size_of_first n (session_plan file terms).segments + k)
+    c.a_prefix_is_resumed.ensures.size n 1 (session_plan file terms).segments ∙ ap (λ k. size_of_first n (session_plan file terms).segments + k)
     (one_size n (session_plan file terms).segments (segment_named file.index terms entry)
     (mapped_there (segment_named file.index terms) (plan_with terms (query_heads file.index terms)).entries (session_plan file terms).segments n entry
     (c.a_session_plan_names_its_segments.ensures.segments file terms is.index is.named is.known) is.at) ∙ sym names.count)

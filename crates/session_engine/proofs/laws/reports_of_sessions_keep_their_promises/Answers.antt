@@ -1,7 +1,5 @@
 use Rattle.std.proofs.Common.{length, sym, subst}
-use Rattle.jass_base.specs.declared.answer.Report.{Report}
-use Rattle.index_model.specs.Flat.{numbered_flat}
-use Rattle.ranking_model.specs.Report.{IsReport}
+use Rattle.session_engine.proofs.Below.{Report, numbered_flat, IsReport}
 use Rattle.session_engine.specs.Plans.{session_plan}
 use Rattle.session_engine.specs.Standing.{plan_over}
 use Rattle.session_engine.proofs.laws.reports_of_sessions_keep_their_promises.Goals as goal

@@ -10,7 +10,6 @@ returns c segments has sums =
     let untouched = c.least_untouched.ensures ∙ ap least_untouched sums in
     reported c.args.count segments c.args.k c.args.postings c.len.result c.cutoff.result c.next.result c.rest_bound-bound.result c.grade.result c.hits.result.now c.runner_up.result c.least_untouched.result
     (c.requires.postings ∙ sym (c.prefixes_are_those_of_the_plan.ensures.size c.args.plan.now segments c.args.count has))
-    (c.len.ensures ∙ sym (c.a_segment_for_each_entry.ensures.many c.args.plan.now segments has))
-    (c.cutoff.ensures segments has) (c.next.ensures segments has)
+    (c.len.ensures ∙ sym (c.a_segment_for_each_entry.ensures.many c.args.plan.now segments has)) (c.cutoff.ensures segments has) (c.next.ensures segments has)
     (c.rest_bound-bound.ensures ∙ sym (c.weights_are_those_of_the_plan.ensures.bound c.args.plan.now segments c.args.count has))
     c.grade.ensures.rule hits up untouched

@@ -1,8 +1,5 @@
-use Rattle.std.proofs.Common.{◌+◌, ◌*◌, ap, arith, refl, length, ◌∙◌}
-use Rattle.std.specs.Prelude.{slice_range}
-use Rattle.lane_kernels.specs.Bitmap.{set_bits}
-use Rattle.ranking_model.specs.Scores.{added}
-use Rattle.session_scores.specs.Scores.{scores_of}
+use Rattle.shared_lemmas.proofs.Common.{◌+◌, ◌*◌, ap, arith, refl, length, ◌∙◌, slice_range}
+use Rattle.session_engine.proofs.Below.{set_bits, added, scores_of}
 use Rattle.session_engine.proofs.BitRows.{all_in_front, from_row, none_behind, row_parted}
 use Rattle.session_engine.proofs.PartlyScored.{all_scored, block_fits, block_inside, block_room, more_scored, none_scored}
 use Rattle.session_engine.proofs.scoring.score_bits.Goals as goal

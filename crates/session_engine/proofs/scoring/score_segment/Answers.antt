@@ -1,9 +1,5 @@
-use Rattle.std.proofs.Common.{ℕ, ◌<◌, ◌^◌, ◌∙◌, ap, arith, subst, sym, List, length}
-use Rattle.std.specs.Prelude.{All}
-use Rattle.accumulator_pages.specs.Pages.{HasRoomFor}
-use Rattle.lane_kernels.specs.Bitmap.{set_bits}
-use Rattle.ranking_model.specs.Scores.{added}
-use Rattle.session_scores.specs.Scores.{docs_of, own_view, scores_of}
+use Rattle.shared_lemmas.proofs.Common.{ℕ, ◌<◌, ◌^◌, ◌∙◌, ap, arith, subst, sym, List, length, All}
+use Rattle.session_engine.proofs.Below.{HasRoomFor, set_bits, added, docs_of, own_view, scores_of}
 use Rattle.session_engine.proofs.Blocks.{segment_inside}
 use Rattle.session_engine.proofs.scoring.score_segment.Goals as goal
 
@@ -30,6 +26,5 @@ score_bits-requires-clause-fits g c =
     (sym c.in-Some.ensures.docs) c.requires.fits
 
 pub score_bits-requires-clause-room : goal.score_bits-requires-clause-room
-score_bits-requires-clause-room g c =
-    subst (HasRoomFor (own_view c.args.scores.now c.args.pool.now) (docs_of c.args.scores.now))
+score_bits-requires-clause-room g c = subst (HasRoomFor (own_view c.args.scores.now c.args.pool.now) (docs_of c.args.scores.now))
     (c.requires.count ∙ ap (λ (ds : List ℕ). length ds) (sym c.in-Some.ensures.docs)) c.requires.room

@@ -1,6 +1,6 @@
 use Rattle.std.proofs.Common.{◌≡◌, ◌+◌, ◌++◌, length, map, take}
 use Rattle.accumulator_pages.specs.Pages.{pages_scores}
-use Rattle.topk_heap.specs.Places.{rescored}
+use Rattle.topk_heap.specs.Private.Settling.{rescored}
 use Rattle.topk_heap.proofs.settling.add_rescored.Given as goal
 
 abbrev pub invariant-loop-hit : goal.invariant-loop-hit

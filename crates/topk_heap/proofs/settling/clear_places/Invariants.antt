@@ -1,6 +1,7 @@
 use Rattle.std.proofs.Common.{◌≡◌, drop}
 use Rattle.accumulator_pages.specs.Pages.{pages_places}
-use Rattle.topk_heap.specs.Places.{KeepsScores, without_places}
+use Rattle.topk_heap.specs.Places.{KeepsScores}
+use Rattle.topk_heap.specs.Private.Settling.{without_places}
 use Rattle.topk_heap.proofs.settling.clear_places.Given as goal
 
 abbrev pub invariant-loop-hit : goal.invariant-loop-hit

@@ -1,6 +1,6 @@
 use Rattle.std.proofs.Common.{◌≡◌, ◌≤◌, ◌+◌, ◌++◌, length, drop}
 use Rattle.accumulator_pages.specs.Pages.{pages_places, pages_scores}
-use Rattle.topk_heap.specs.Places.{newcomers}
+use Rattle.topk_heap.specs.Private.Settling.{newcomers}
 use Rattle.topk_heap.proofs.settling.gather.Given as goal
 
 abbrev pub invariant-loop-doc : goal.invariant-loop-doc

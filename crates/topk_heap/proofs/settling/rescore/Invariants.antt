@@ -1,6 +1,6 @@
 use Rattle.std.proofs.Common.{◌≡◌, ◌++◌, ◌<◌, All, length, map, take, drop}
 use Rattle.accumulator_pages.specs.Pages.{docs_of, pages_scores}
-use Rattle.topk_heap.specs.Places.{rescored}
+use Rattle.topk_heap.specs.Private.Settling.{rescored}
 use Rattle.topk_heap.proofs.settling.rescore.Given as goal
 
 abbrev pub invariant-loop-index : goal.invariant-loop-index

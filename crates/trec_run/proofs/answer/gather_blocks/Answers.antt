@@ -1,5 +1,4 @@
-use Rattle.std.proofs.Common.{◌<◌, ℕ, List, length, All, refl, subst, sym, arith}
-use Rattle.std.proofs.lemmas.List.Elements.{All-drop}
+use Rattle.shared_lemmas.proofs.Common.{◌<◌, ℕ, List, length, All, refl, subst, sym, arith, All-drop}
 use Rattle.jass_base.specs.declared.answer.Hit.{Hit}
 use Rattle.trec_run.specs.Private.Columns.{whole_tag}
 use Rattle.gathered_text.proofs.Compose.{up_to_none, up_to_more, up_to_failed}

@@ -1,6 +1,6 @@
-use Rattle.std.proofs.Common.{◌≡◌, ◌+◌, ◌-◌, ◌<◌, ◌∙◌, List, ℕ, true, false, sym, ap, subst, take, drop, get_or, length, arith}
-use Rattle.std.proofs.lemmas.Str.{IsCharBoundary-after_ascii}
-use Rattle.trec_run.specs.Runs.{is_blank, columns_of, and_column}
+use Rattle.shared_lemmas.proofs.Common.{◌≡◌, ◌+◌, ◌-◌, ◌<◌, ◌∙◌, List, ℕ, true, false, sym, ap, subst, take, drop, get_or, length, arith, IsCharBoundary-after_ascii}
+use Rattle.trec_run.specs.Runs.{is_blank, columns_of}
+use Rattle.trec_run.specs.Private.Parts.{and_column}
 use Rattle.trec_run.proofs.Parts.{parted, unparted, blank_small}
 use Rattle.trec_run.proofs.columns.next_part.Goals as goal
 

@@ -1,6 +1,5 @@
-use Rattle.std.proofs.Common.{ℕ, List, ◌∙◌, ap, sym, subst, arith}
+use Rattle.std.proofs.Common.{ℕ, ◌∙◌, sym, subst, arith}
 use Rattle.jass_base.specs.Limits.{IsName}
-use Rattle.trial_data.specs.Trials.{doc_name}
 use Rattle.trial_data.proofs.Naming.{is_name}
 use Rattle.trial_data.proofs.documents.records_of.Goals as goal
 

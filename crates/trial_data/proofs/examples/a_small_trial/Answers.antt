@@ -1,6 +1,5 @@
 -- Each number has one digit, and the rest computes.
-use Rattle.std.proofs.Common.{refl, arith}
-use Rattle.std.proofs.lemmas.Fmt.{decimal_digit}
+use Rattle.shared_lemmas.proofs.Common.{refl, arith, decimal_digit}
 use Rattle.trial_data.specs.Generator.{next_state, drawn}
 use Rattle.trial_data.specs.Trials.{term_postings, trial_collection, trial_state, trial_queries}
 use Rattle.trial_data.proofs.examples.a_small_trial.Goals as goal

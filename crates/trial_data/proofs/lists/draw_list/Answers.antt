@@ -1,7 +1,5 @@
 -- What is kept of the list of a term.
-use Rattle.std.proofs.Common.{◌≡◌, ◌<◌, ◌≤◌, ◌∙◌, ℕ, List, length, ap, sym, subst, arith}
-use Rattle.std.specs.Prelude.{All}
-use Rattle.std.specs.List.Sorted.{IsStrictlyIncreasing}
+use Rattle.shared_lemmas.proofs.Common.{◌≡◌, ◌<◌, ◌≤◌, ◌∙◌, ℕ, List, length, ap, sym, subst, arith, All, IsStrictlyIncreasing}
 use Rattle.jass_base.specs.declared.posting.Posting.{Posting}
 use Rattle.jass_base.specs.Postings.{docs_of, HasTfInRange}
 use Rattle.trial_data.specs.Trials.{term_postings, tf_sum}
@@ -15,9 +13,7 @@ tf_sum-requires c =
     let is = ap tf_sum (c.as_slice-2.ensures ∙ c.in_ok-postings.ensures ∙ c.as_slice.ensures.value ∙ c.in_ok-draw_postings.ensures.postings) in
     let drawn = term_drawn c.args.docs c.args.term c.args.draws.now in
     let few = few_drawn c.args.docs 0 ps drawn (omega arith) in
-    let small = tf_sum_small c.args.docs 0 ps drawn in
-    let docs = c.requires.docs in
-    omega arith
+    omega (arith, tf_sum_small c.args.docs 0 ps drawn, c.requires.docs)
 
 pub invariant_of-result : goal.invariant_of-result
 invariant_of-result c =

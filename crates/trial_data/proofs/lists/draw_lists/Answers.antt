@@ -1,7 +1,5 @@
 -- One list more.
-use Rattle.std.proofs.Common.{◌≡◌, ◌∙◌, ℕ, ◌<◌, ◌≤◌, List, ◌∷◌, [], ◌++◌, get_or, ap, sym, subst, arith}
-use Rattle.std.specs.Prelude.{All}
-use Rattle.std.proofs.lemmas.List.Elements.{All-push}
+use Rattle.shared_lemmas.proofs.Common.{◌≡◌, ◌∙◌, ℕ, ◌<◌, List, [], get_or, ap, sym, subst, arith, All, All-push}
 use Rattle.jass_base.specs.Ciff.{ListData}
 use Rattle.jass_base.specs.declared.posting.Posting.{Posting}
 use Rattle.jass_base.specs.declared.postings_list.PostingsList.{PostingsList}
@@ -26,12 +24,12 @@ loop-term-preserved c =
     let Below : List PostingsList → Type 0 = λ (ls : List PostingsList). All (HasDocsBelow c.args.docs) ls in
     record {
       drawn = lists_more c.args.docs c.args.terms c.loop-term.term c.loop-term.draws c.draw_list.new.draws _ c.loop-term.lists c.push.new.self c.in_ok-list.list c.loop-term-test.true
-          c.loop-term.invariant.drawn c.in_ok-list.ensures.list c.in_ok-list.ensures.state c.in-Ok.ensures.ok;
+          c.loop-term.invariant.drawn c.in_ok-list.ensures.list c.in_ok-list.ensures.state c.in_ok-push.ensures.ok;
       rest = rest_more c.args.docs c.args.terms c.loop-term.term c.loop-term.draws c.draw_list.new.draws c.loop-term.lengths c.add_lengths.new.lengths _ c.as_slice.result.now c.loop-term-test.true
           c.loop-term.invariant.rest ps c.in_ok-list.ensures.state added;
       small = λ doc.
           let most = term_adds c.args.docs c.loop-term.term c.loop-term.draws c.loop-term.lengths _ (c.loop-term.auto.lengths ∙ c.requires.lengths) c.loop-term.invariant.small doc in
           let same = ap (λ (s : List ℕ). get_or s doc 0) (added ∙ ap (with_postings c.loop-term.lengths) ps) in
           omega arith;
-      below = subst Below (sym c.in-Ok.ensures.ok) (All-push (HasDocsBelow c.args.docs) c.loop-term.lists c.in_ok-list.list c.loop-term.invariant.below c.in_ok-list.ensures.below);
+      below = subst Below (sym c.in_ok-push.ensures.ok) (All-push (HasDocsBelow c.args.docs) c.loop-term.lists c.in_ok-list.list c.loop-term.invariant.below c.in_ok-list.ensures.below);
     }

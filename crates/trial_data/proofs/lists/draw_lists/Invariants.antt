@@ -1,5 +1,4 @@
-use Rattle.std.proofs.Common.{◌≡◌, ℕ, ◌-◌, ◌*◌, ◌≤◌, length, get_or, map}
-use Rattle.std.specs.Prelude.{All}
+use Rattle.shared_lemmas.proofs.Common.{◌≡◌, ℕ, ◌-◌, ◌*◌, ◌≤◌, get_or, map, All}
 use Rattle.jass_base.specs.CiffViews.{list_data}
 use Rattle.jass_base.specs.Lists.{HasDocsBelow}
 use Rattle.trial_data.specs.Private.Gathering.{with_lists}

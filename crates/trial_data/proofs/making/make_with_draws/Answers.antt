@@ -1,13 +1,8 @@
 -- The lists, the documents and the header of a whole collection.
-use Rattle.std.proofs.Common.{◌≡◌, ◌∙◌, ℕ, ◌<◌, ◌≤◌, List, length, map, replicate, ap, ap₂, sym, subst, arith}
-use Rattle.std.specs.Prelude.{All}
-use Rattle.std.specs.List.{sum_by}
-use Rattle.std.proofs.lemmas.List.{length-map}
-use Rattle.jass_base.specs.Ciff.{HeaderData, ListData, DocData, CollectionData}
-use Rattle.jass_base.specs.CiffViews.{header_data, list_data, doc_data}
-use Rattle.jass_base.specs.declared.postings_list.PostingsList.{PostingsList}
+use Rattle.shared_lemmas.proofs.Common.{◌∙◌, ℕ, map, ap, sym, subst, arith, All}
+use Rattle.jass_base.specs.CiffViews.{header_data, doc_data}
 use Rattle.jass_base.specs.Lists.{HasDocsBelow}
-use Rattle.trial_data.specs.Private.Gathering.{with_lists, cf_sum, records_from}
+use Rattle.trial_data.specs.Private.Gathering.{cf_sum}
 use Rattle.trial_data.specs.Trials.{lists_from, collection_with, trial_collection, trial_state}
 use Rattle.trial_data.proofs.Listing.{cf_is, cf_small, lists_many, records_many, terms_differ, lengths_are, collection_is}
 use Rattle.trial_data.proofs.making.make_with_draws.Goals as goal
@@ -15,16 +10,12 @@ use Rattle.trial_data.proofs.making.make_with_draws.Goals as goal
 pub cf_sum-requires : goal.cf_sum-requires
 cf_sum-requires c =
     let is = ap cf_sum c.as_slice-2.ensures ∙ cf_is c.in_ok-lists.lists _ c.in_ok-lists.ensures.lists in
-    let small = cf_small c.args.docs c.args.terms 0 c.new-draws.result c.requires.docs in
-    let few = c.requires.terms in
-    omega arith
+    omega (arith, cf_small c.args.docs c.args.terms 0 c.new-draws.result c.requires.docs, c.requires.terms)
 
 pub header_of-requires-clause-terms : goal.header_of-requires-clause-terms
 header_of-requires-clause-terms c =
     let is = c.cf_sum.ensures ∙ ap cf_sum c.as_slice-2.ensures ∙ cf_is c.in_ok-lists.lists _ c.in_ok-lists.ensures.lists in
-    let small = cf_small c.args.docs c.args.terms 0 c.new-draws.result c.requires.docs in
-    let few = c.requires.terms in
-    omega arith
+    omega (arith, cf_small c.args.docs c.args.terms 0 c.new-draws.result c.requires.docs, c.requires.terms)
 
 pub invariant_of-collection : goal.invariant_of-collection
 invariant_of-collection c =

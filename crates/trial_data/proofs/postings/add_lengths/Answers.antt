@@ -1,13 +1,11 @@
-use Rattle.std.proofs.Common.{ℕ, ◌<◌, List, length, drop, sym, subst, arith}
-use Rattle.std.specs.Prelude.{All}
+use Rattle.shared_lemmas.proofs.Common.{ℕ, ◌<◌, length, sym, subst, arith, All}
 use Rattle.jass_base.specs.Postings.{docs_of}
 use Rattle.trial_data.proofs.Lengths.{below_at, sum_within}
 use Rattle.trial_data.proofs.postings.add_lengths.Goals as goal
 
 pub bounds-lengths-posting : goal.bounds-lengths-posting
 bounds-lengths-posting c =
-    let low = below_at (length c.args.lengths.now) c.args.postings.now c.loop-posting.posting-index c.loop-posting-test.true c.requires.below in
-    omega arith
+    omega (arith, below_at (length c.args.lengths.now) c.args.postings.now c.loop-posting.posting-index c.loop-posting-test.true c.requires.below)
 
 pub overflow_add-lengths : goal.overflow_add-lengths
 overflow_add-lengths c =
@@ -17,5 +15,4 @@ overflow_add-lengths c =
 
 pub bounds-lengths-posting-in-loop-posting : goal.bounds-lengths-posting-in-loop-posting
 bounds-lengths-posting-in-loop-posting c =
-    let low = below_at (length c.args.lengths.now) c.args.postings.now c.loop-posting.posting-index c.loop-posting-test.true c.requires.below in
-    omega arith
+    omega (arith, below_at (length c.args.lengths.now) c.args.postings.now c.loop-posting.posting-index c.loop-posting-test.true c.requires.below)

@@ -1,4 +1,4 @@
-use Rattle.std.proofs.Common.{◌≡◌, List, [], ap, refl, sym, arith}
+use Rattle.std.proofs.Common.{List, [], ap, sym, arith}
 use Rattle.jass_base.specs.declared.posting.Posting.{Posting}
 use Rattle.trial_data.specs.Trials.{DrawnPostings, postings_from, term_postings}
 use Rattle.trial_data.proofs.Drawing.{with_front, drawn_all, drawn_more}
@@ -26,4 +26,4 @@ pub draws-preserved : goal.draws-preserved
 draws-preserved c =
     drawn_more c.args.docs c.args.term c.draws.from c.draws.draws c.next.result c.next.new.self c.tf_of-tf.result c.next-in-draws.result c.next-in-draws.new.self
     _ c.draws.postings.items c.push.new.self.items c.draws.invariant c.next.ensures.state c.next.ensures.number c.if-doc-docs.false
-    c.next-in-draws.ensures.state c.next-in-draws.ensures.number c.tf_of-tf.ensures c.in-Ok.ensures.items
+    c.next-in-draws.ensures.state c.next-in-draws.ensures.number c.tf_of-tf.ensures c.in_ok-push.ensures.items

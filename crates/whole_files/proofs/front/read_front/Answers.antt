@@ -1,7 +1,8 @@
 use Rattle.std.proofs.Common.{◌≡◌, ◌≤◌, length, take, Option, subst, ◌∙◌, arith}
 use Rattle.jass_base.specs.Outside.{Files, OnContent, AreBytesAt}
 use Rattle.whole_files.specs.Private.Fronts.{IsFrontOf}
-use Rattle.whole_files.proofs.Fronts.{there, kept, front_more, front_whole, front_cut}
+use Rattle.whole_files.proofs.Fronts.{there, front_more, front_whole, front_cut}
+use Rattle.jass_base.proofs.Contents.{on_for}
 use Rattle.whole_files.proofs.front.read_front.Goals as goal
 
 pub returns-then-len-most-clause-content : goal.returns-then-len-most-clause-content
@@ -33,6 +34,6 @@ pieces-preserved g c =
       same = c.in-Ok.ensures.stays ∙ c.pieces.invariant.same;
       later = omega (arith, c.in-Ok.ensures.cause.later, c.pieces.invariant.later);
       others = omega (arith, c.in-Ok.ensures.others, c.pieces.invariant.others);
-      front = kept told c.args.name.now (IsFrontOf c.extend.new.self) longer;
-      there = λ some. there told c.args.name.now (IsFrontOf c.extend.new.self) (IsFrontOf c.extend.new.self) (λ content. Unit {0}) (λ content a b. tt) (kept told c.args.name.now (IsFrontOf c.extend.new.self) longer) longer;
+      front = on_for told c.args.name.now (IsFrontOf c.extend.new.self) longer;
+      there = λ some. there told c.args.name.now (IsFrontOf c.extend.new.self) (IsFrontOf c.extend.new.self) (λ content. Unit {0}) (λ content a b. tt) (on_for told c.args.name.now (IsFrontOf c.extend.new.self) longer) longer;
     }

@@ -1,36 +1,26 @@
-use Rattle.std.proofs.Common.{refl, ap, ◌∙◌, ◌≡◌, ◌≤◌, ◌<◌, ◌+◌, ◌^◌, arith}
-use Rattle.wire_fields.proofs.Groups.{scale_small, group_small}
+use Rattle.std.proofs.Common.{refl, ap, ◌∙◌, ◌≡◌, ◌<◌, ◌+◌, ◌^◌, arith}
+use Rattle.wire_fields.proofs.Groups.{scale_small, group_fits}
 use Rattle.wire_fields.proofs.Varints.{rest_at, at_start, one_more, ends_cut, ends_group, ends_tenth, ends_long, length-rest}
 use Rattle.wire_fields.proofs.varint.read_groups.Goals as goal
 
 pub overflow_mul-result : goal.overflow_mul-result
 overflow_mul-result c =
-    let few : c.loop-group.scale ≤ 128 ^ 8 = scale_small c.loop-group.group c.loop-group.scale c.loop-group-test.true c.loop-group.invariant.scale_is in
-    let small : c.from.result < 128 = omega arith in
-    omega (arith, group_small c.from.result c.loop-group.scale small few)
+    omega (arith, group_fits c.loop-group.group c.from.result c.loop-group.scale c.loop-group-test.true c.loop-group.invariant.scale_is (omega arith))
 
 pub overflow_add-result : goal.overflow_add-result
 overflow_add-result c =
-    let few : c.loop-group.scale ≤ 128 ^ 8 = scale_small c.loop-group.group c.loop-group.scale c.loop-group-test.true c.loop-group.invariant.scale_is in
-    let small : c.from.result < 128 = omega arith in
-    omega (arith, group_small c.from.result c.loop-group.scale small few)
+    omega (arith, group_fits c.loop-group.group c.from.result c.loop-group.scale c.loop-group-test.true c.loop-group.invariant.scale_is (omega arith))
 
 pub overflow_mul-value : goal.overflow_mul-value
 overflow_mul-value c =
-    let few : c.loop-group.scale ≤ 128 ^ 8 = scale_small c.loop-group.group c.loop-group.scale c.loop-group-test.true c.loop-group.invariant.scale_is in
-    let small : c.from-in-loop-group.result < 128 = omega arith in
-    omega (arith, group_small c.from-in-loop-group.result c.loop-group.scale small few)
+    omega (arith, group_fits c.loop-group.group c.from-in-loop-group.result c.loop-group.scale c.loop-group-test.true c.loop-group.invariant.scale_is (omega arith))
 
 pub overflow_add-value : goal.overflow_add-value
 overflow_add-value c =
-    let few : c.loop-group.scale ≤ 128 ^ 8 = scale_small c.loop-group.group c.loop-group.scale c.loop-group-test.true c.loop-group.invariant.scale_is in
-    let small : c.from-in-loop-group.result < 128 = omega arith in
-    omega (arith, group_small c.from-in-loop-group.result c.loop-group.scale small few)
+    omega (arith, group_fits c.loop-group.group c.from-in-loop-group.result c.loop-group.scale c.loop-group-test.true c.loop-group.invariant.scale_is (omega arith))
 
 pub overflow_mul-scale : goal.overflow_mul-scale
-overflow_mul-scale c =
-    let few : c.loop-group.scale ≤ 128 ^ 8 = scale_small c.loop-group.group c.loop-group.scale c.loop-group-test.true c.loop-group.invariant.scale_is in
-    omega arith
+overflow_mul-scale c = omega (arith, scale_small c.loop-group.group c.loop-group.scale c.loop-group-test.true c.loop-group.invariant.scale_is)
 
 pub loop-group-init : goal.loop-group-init
 loop-group-init c = at_start (rest_at c.args.bytes.now c.args.at)
@@ -40,13 +30,12 @@ returns-then-group-rest c = (ends_cut c.args.bytes.now c.args.at _ _ _ c.loop-gr
 
 pub returns-then-byte-lt128 : goal.returns-then-byte-lt128
 returns-then-byte-lt128 c =
-    let few : c.loop-group.scale ≤ 128 ^ 8 = scale_small c.loop-group.group c.loop-group.scale c.loop-group-test.true c.loop-group.invariant.scale_is in
     let small : c.from.result < 128 = omega (arith, c.from.ensures, c.if-byte-lt128.true) in
     let size = length-rest c.args.bytes.now c.args.at in (
       ends_group c.args.bytes.now c.args.at c.loop-group.group c.loop-group.value c.loop-group.scale c.loop-group.invariant c.from.result (c.args.at + c.loop-group.group + 1) c.loop-group-test.true c.if-group-rest.false c.from.ensures small (omega arith),
       omega arith,
       omega (arith, size, c.if-group-rest.false),
-      omega (arith, group_small c.from.result c.loop-group.scale small few, c.loop-group.invariant.below),
+      omega (arith, group_fits c.loop-group.group c.from.result c.loop-group.scale c.loop-group-test.true c.loop-group.invariant.scale_is small, c.loop-group.invariant.below),
     )
 
 pub loop-group-preserved : goal.loop-group-preserved

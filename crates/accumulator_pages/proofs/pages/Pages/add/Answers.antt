@@ -22,10 +22,7 @@ returns-clause-stands c =
     record {
       in_use = c.raise-score.ensures.own;
       here = record {
-        fields = record {
-          table = c.raise-score.ensures.stand.fields.table;
-          frames = c.raise-score.ensures.stand.fields.frames;
-        };
+        fields = record { table = c.raise-score.ensures.stand.fields.table; frames = c.raise-score.ensures.stand.fields.frames };
         used = c.raise-score.ensures.stand.used;
         touched = touched-rise (pages_scores c.args.self.now c.args.pool.now) c.args.doc c.args.w c.raise-score.result c.from.result c.raise-score.new.self.touched
             (omega (arith, c.requires.inside, size)) c.requires.weight c.raise-score.ensures.score

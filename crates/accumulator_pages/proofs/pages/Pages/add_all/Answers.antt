@@ -1,6 +1,4 @@
-use Rattle.std.proofs.Common.{ℕ, ◌+◌, ◌-◌, ◌<◌, ◌/◌, List, length, get_or, set, eqb, ap, ◌∙◌, refl, sym, subst, arith}
-use Rattle.std.proofs.lemmas.List.{length-append}
-use Rattle.std.proofs.lemmas.List.Elements.{All-get_or}
+use Rattle.shared_lemmas.proofs.Common.{ℕ, ◌+◌, ◌-◌, ◌<◌, ◌/◌, List, length, get_or, set, eqb, ap, ◌∙◌, refl, sym, subst, arith, length-append, All-get_or}
 use Rattle.frame_pool.specs.ChainView.{LeavesPool, chain_view}
 use Rattle.accumulator_pages.specs.Adding.{added, crossed, touched_count}
 use Rattle.accumulator_pages.specs.Pages.{HasRoomFor, own_view, pages_scores}
@@ -19,8 +17,7 @@ raise-score-requires-clause-fits c =
 
 pub raise-score-requires-clause-frame : goal.raise-score-requires-clause-frame
 raise-score-requires-clause-frame c =
-    let d : ℕ = get_or c.args.docs.now c.loop-doc.doc-index 0 in
-    let table = c.loop-doc.invariant.stand.fields.table in
+    let d : ℕ = get_or c.args.docs.now c.loop-doc.doc-index 0 in let table = c.loop-doc.invariant.stand.fields.table in
     let inside : d < c.args.self.now.docs = All-get_or (λ d. d < c.args.self.now.docs) c.args.docs.now c.loop-doc.doc-index 0 (omega (arith, c.loop-doc-test.true)) c.requires.inside in
     has_room c.loop-doc.self.table.items c.loop-doc.self.docs (own_view c.loop-doc.self c.loop-doc.pool) (d / 256) (length c.args.docs.now - c.loop-doc.doc-index) table
     (omega (arith, inside, table.covers, c.loop-doc.invariant.same.docs)) (omega (arith, c.loop-doc-test.true))

@@ -2,7 +2,8 @@ use Rattle.std.proofs.Common.{◌≡◌, ◌+◌, ◌-◌, ◌≤◌, ◌++◌, 
 use Rattle.frame_pool.specs.Pool.{IsInUse}
 use Rattle.frame_pool.specs.ChainView.{LeavesPool}
 use Rattle.accumulator_pages.specs.Adding.{added, raised, touched_count}
-use Rattle.accumulator_pages.specs.Pages.{ArePagesOf, FramesStand, HasRoomFor, docs_of, own_chain, own_view, pages_places, pages_scores}
+use Rattle.accumulator_pages.specs.Pages.{ArePagesOf, HasRoomFor, docs_of, own_chain, own_view, pages_places, pages_scores}
+use Rattle.accumulator_pages.specs.Private.Frames.{FramesStand}
 use Rattle.accumulator_pages.proofs.pages.Pages.add_all.Given as goal
 
 abbrev pub invariant-loop-doc : goal.invariant-loop-doc

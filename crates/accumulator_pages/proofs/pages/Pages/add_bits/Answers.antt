@@ -1,5 +1,4 @@
-use Rattle.std.proofs.Common.{ℕ, ◌*◌, ◌++◌, ◌/◌, List, length, sym, ap, ◌∙◌, arith}
-use Rattle.std.proofs.lemmas.List.Sums.{count_by-le-length}
+use Rattle.shared_lemmas.proofs.Common.{ℕ, ◌*◌, ◌++◌, ◌/◌, List, length, sym, ap, ◌∙◌, arith, count_by-le-length}
 use Rattle.lane_kernels.specs.Bitmap.{set_bits}
 use Rattle.accumulator_pages.specs.Adding.{is_touched}
 use Rattle.accumulator_pages.specs.Pages.{own_view, pages_scores}
@@ -16,15 +15,14 @@ raise_bits-added-requires-clause-frame c =
     (omega (arith, row_inside c.args.row c.args.self.now.docs c.args.bits.now c.requires.bits some c.requires.inside, table.covers)) some c.requires.frames
 
 pub overflow_add-self : goal.overflow_add-self
-overflow_add-self c =
-    omega (
-      arith,
-      length-values (λ x. x.scores) c.raise_bits-added.new.self.docs (own_view c.raise_bits-added.new.self c.raise_bits-added.new.pool),
-      count_by-le-length is_touched (pages_scores c.raise_bits-added.new.self c.raise_bits-added.new.pool),
-      c.raise_bits-added.ensures.zeros,
-      c.raise_bits-added.ensures.touched,
-      c.requires.stands.here.touched,
-    )
+overflow_add-self c = omega (
+  arith,
+  length-values (λ x. x.scores) c.raise_bits-added.new.self.docs (own_view c.raise_bits-added.new.self c.raise_bits-added.new.pool),
+  count_by-le-length is_touched (pages_scores c.raise_bits-added.new.self c.raise_bits-added.new.pool),
+  c.raise_bits-added.ensures.zeros,
+  c.raise_bits-added.ensures.touched,
+  c.requires.stands.here.touched,
+)
 
 pub note_bits-requires-clause-rose : goal.note_bits-requires-clause-rose
 note_bits-requires-clause-rose c =
@@ -35,7 +33,6 @@ note_bits-requires-clause-rose c =
 pub returns-then-added-clause-reached : goal.returns-then-added-clause-reached
 returns-then-added-clause-reached c =
     let size = length-values (λ x. x.scores) c.args.self.now.docs (own_view c.args.self.now c.args.pool.now) in
-    c.note_bits.ensures.docs
-    ∙ ap (λ (docs : List ℕ). c.args.reached.now.docs ++ docs)
+    c.note_bits.ensures.docs ∙ ap (λ (docs : List ℕ). c.args.reached.now.docs ++ docs)
     (sym (raised-by_new c.args.w (128 * c.args.row) c.args.last c.args.bits.now (pages_scores c.args.self.now c.args.pool.now)
     (pages_scores c.raise_bits-added.new.self c.raise_bits-added.new.pool) (λ k d inside. omega (arith, size, c.requires.inside k d inside)) c.raise_bits-added.ensures.scores))

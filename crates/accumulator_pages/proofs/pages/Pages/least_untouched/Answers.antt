@@ -5,15 +5,13 @@ use Rattle.accumulator_pages.proofs.Untouched.{all_touched, first_untouched, joi
 use Rattle.accumulator_pages.proofs.pages.Pages.least_untouched.Goals as goal
 
 pub returns-then-doc-self : goal.returns-then-doc-self
-returns-then-doc-self c =
-    first_untouched (pages_scores c.args.self.now c.args.pool.now) c.args.self.now.docs (256 * c.loop-page.page + c.in-Some.slot)
+returns-then-doc-self c = first_untouched (pages_scores c.args.self.now c.args.pool.now) c.args.self.now.docs (256 * c.loop-page.page + c.in-Some.slot)
     (length-values (λ x. x.scores) c.args.self.now.docs (own_view c.args.self.now c.args.pool.now)) c.if-doc-self.true
     (joined (pages_scores c.args.self.now c.args.pool.now) c.args.self.now.docs c.loop-page.page c.in-Some.slot c.loop-page.invariant c.in-Some.ensures.before)
     (c.in-Some.ensures.untouched c.if-doc-self.true)
 
 pub returns-else-doc-self : goal.returns-else-doc-self
-returns-else-doc-self c =
-    all_touched (pages_scores c.args.self.now c.args.pool.now) c.args.self.now.docs (256 * c.loop-page.page + c.in-Some.slot)
+returns-else-doc-self c = all_touched (pages_scores c.args.self.now c.args.pool.now) c.args.self.now.docs (256 * c.loop-page.page + c.in-Some.slot)
     (length-values (λ x. x.scores) c.args.self.now.docs (own_view c.args.self.now c.args.pool.now)) (omega (arith, c.if-doc-self.false))
     (joined (pages_scores c.args.self.now c.args.pool.now) c.args.self.now.docs c.loop-page.page c.in-Some.slot c.loop-page.invariant c.in-Some.ensures.before)
 
@@ -22,7 +20,6 @@ loop-page-preserved c =
     joined_page (pages_scores c.args.self.now c.args.pool.now) c.args.self.now.docs c.loop-page.page (c.loop-page.page + 1) refl c.loop-page.invariant (c.in_default.ensures.none refl)
 
 pub returns : goal.returns
-returns c =
-    all_touched (pages_scores c.args.self.now c.args.pool.now) c.args.self.now.docs (256 * c.loop-page.page)
+returns c = all_touched (pages_scores c.args.self.now c.args.pool.now) c.args.self.now.docs (256 * c.loop-page.page)
     (length-values (λ x. x.scores) c.args.self.now.docs (own_view c.args.self.now c.args.pool.now))
     (omega (arith, c.loop-page-test.false, c.div_ceil-page-end.ensures)) c.loop-page.invariant

@@ -1,6 +1,4 @@
-use Rattle.std.proofs.Common.{◌≡◌, ℕ, List, length, replicate, cond, rules, sym, ap, ◌∙◌, arith}
-use Rattle.std.specs.Int.{div_ceil}
-use Rattle.std.proofs.lemmas.List.Folds.{sum_by-replicate}
+use Rattle.shared_lemmas.proofs.Common.{◌≡◌, ℕ, List, length, replicate, cond, rules, sym, ap, ◌∙◌, arith, div_ceil, sum_by-replicate}
 use Rattle.frame_pool.specs.ChainView.{ChainView, HeldFrame, chain_view, view_scores}
 use Rattle.accumulator_pages.specs.Adding.{is_touched, touched_count}
 use Rattle.accumulator_pages.proofs.Standing.{no_values, new_stands, new_unused}

@@ -30,8 +30,7 @@ returns-in_default-clause-docs c =
     absurd (omega (arith, c.requires.rose 0 0 c.requires.some, none, c.requires.weight))
 
 has : (c : After-bits_to_docs-count) → HasPage (own_view c.args.self.now c.args.pool.now) (c.args.row / 2) c.in-Some.frame.number
-has c =
-    c.requires.stands.here.fields.table.entries (c.args.row / 2)
+has c = c.requires.stands.here.fields.table.entries (c.args.row / 2)
     (omega (arith, row_inside c.args.row c.args.self.now.docs c.args.bits.now c.requires.bits c.requires.some c.requires.inside, c.requires.stands.here.fields.table.covers))
     ∙ sym c.known_frame.ensures ∙ ap (λ (o : Option FrameId). option_map (λ (f : FrameId). f.number) o) c.in-Some.is
 

@@ -11,16 +11,14 @@ returns-clause-own c =
 
 pub returns-clause-stand : goal.returns-clause-stand
 returns-clause-stand c =
-    let scores : List ℕ = pages_scores c.args.self.now c.args.pool.now in
-    let chain : ℕ = c.frame_of-frame.new.self.chain in
+    let scores : List ℕ = pages_scores c.args.self.now c.args.pool.now in let chain : ℕ = c.frame_of-frame.new.self.chain in
     let size = length-values (λ x. x.scores) c.args.self.now.docs (own_view c.args.self.now c.args.pool.now) in
     let before : c.score_in.result ≡ get_or scores c.args.doc 0 = c.score_in.ensures ∙ ap (λ (s : List ℕ). get_or s c.args.doc 0) c.frame_of-frame.ensures.scores in
     let written = wrote scores (pages_scores c.frame_of-frame.new.self c.frame_of-frame.new.pool) (pages_scores c.frame_of-frame.new.self c.set_score.new.self)
     (256 * (c.args.doc / 256) + c.args.doc % 256) c.args.doc (c.score_in.result + c.args.w) c.frame_of-frame.ensures.scores (place c.args.doc)
     (c.set_score.ensures.scores chain (c.args.doc / 256) c.frame_of-frame.new.self.docs c.frame_of-frame.ensures.has) in
     let raised = written ∙ ap (λ (v : ℕ). set scores c.args.doc (v + c.args.w)) before in
-    let fields = c.frame_of-frame.ensures.fields in
-    let keeps = c.set_score.ensures.keeps chain in
+    let fields = c.frame_of-frame.ensures.fields in let keeps = c.set_score.ensures.keeps chain in
     record {
       fields = record {
         table = table_kept c.frame_of-frame.new.self.table.items c.frame_of-frame.new.self.docs _ _ keeps fields.table;

@@ -29,8 +29,7 @@ pub returns : goal.returns
 returns c =
     let scores : List ℕ = pages_scores c.args.self.now c.args.pool.now in
     let size : length scores ≡ c.args.self.now.docs = length-values (λ x. x.scores) c.args.self.now.docs (own_view c.args.self.now c.args.pool.now) in
-    let docs : ℕ = c.frame_of-frame.new.self.docs in
-    let chain : ℕ = c.frame_of-frame.new.self.chain in
+    let docs : ℕ = c.frame_of-frame.new.self.docs in let chain : ℕ = c.frame_of-frame.new.self.chain in
     let n : ℕ = 128 * (c.args.row % 2) + 8 * length c.args.bits.now - 128 * (c.args.row % 2) in
     let lent : List ℕ = c.scores_mut-slots.result.now in
     let slots : List ℕ = put_mid (128 * (c.args.row % 2)) n lent c.add_where.new.slots in
@@ -41,8 +40,7 @@ returns c =
     c.scores_mut-slots.ensures.scores slots chain (c.args.row / 2) docs c.frame_of-frame.ensures.has
     ∙ ap (λ (s : List ℕ). with_page (c.args.row / 2) slots s) c.frame_of-frame.ensures.scores
     ∙ half_raised c.args.w c.args.row n c.args.bits.now scores lent c.add_where.new.slots c.requires.bits (omega arith) c.scores_mut-slots.ensures.slots are c.add_where.ensures.slots in
-    let fields = c.frame_of-frame.ensures.fields in
-    let keeps = c.scores_mut-slots.ensures.keeps slots chain in
+    let fields = c.frame_of-frame.ensures.fields in let keeps = c.scores_mut-slots.ensures.keeps slots chain in
     record {
       scores = after;
       places = c.scores_mut-slots.ensures.places slots chain docs ∙ c.frame_of-frame.ensures.places;
@@ -54,10 +52,7 @@ returns c =
       frames = search rules;
       own = search rules;
       stand = record {
-        fields = record {
-          table = table_kept c.frame_of-frame.new.self.table.items docs _ _ keeps fields.table;
-          frames = fields.frames ∙ sym keeps.count;
-        };
+        fields = record { table = table_kept c.frame_of-frame.new.self.table.items docs _ _ keeps fields.table; frames = fields.frames ∙ sym keeps.count };
         used = λ page inside entry. subst (λ (s : List ℕ). HasTouched s page) (sym after)
             (used_by_bits c.args.self.now.table.items c.frame_of-frame.new.self.table.items scores c.args.row c.args.w c.args.bits.now
             (omega (arith, fields.table.covers, c.requires.stand.fields.table.covers, c.frame_of-frame.ensures.same.docs)) c.frame_of-frame.ensures.entries

@@ -1,5 +1,4 @@
-use Rattle.std.proofs.Common.{◌∙◌, ap, sym, arith}
-use Rattle.std.proofs.lemmas.List.Filters.{FiltersInPlace-more_no, FiltersInPlace-more_set}
+use Rattle.shared_lemmas.proofs.Common.{◌∙◌, ap, sym, arith, FiltersInPlace-more_no, FiltersInPlace-more_set}
 use Rattle.accumulator_pages.proofs.Keeping.{does_pass, noted_inside}
 use Rattle.accumulator_pages.proofs.reached.Reached.keep_passing.Goals.{then-does_pass, else-does_pass}
 use Rattle.accumulator_pages.proofs.reached.Reached.keep_passing.Goals as goal

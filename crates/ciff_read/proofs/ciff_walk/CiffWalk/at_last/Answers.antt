@@ -1,10 +1,9 @@
-use Rattle.std.proofs.Common.{◌<◌, List, ℕ, drop, length, length-drop, Option, Err, subst, arith}
+use Rattle.std.proofs.Common.{◌<◌, List, ℕ, length, length-drop, Option, Err, subst, arith}
 use Rattle.jass_base.specs.Outside.{Files}
-use Rattle.ciff_read.specs.Pieces.{EndPiece}
-use Rattle.ciff_read.specs.Reaching.{FailsReading}
-use Rattle.ciff_read.specs.Reading.{at_end}
-use Rattle.ciff_read.specs.Walk.{WalkView, EndGiven}
-use Rattle.ciff_read.specs.Window.{AreFrom, Shows, StaysShown}
+use Rattle.ciff_read.specs.Walk.{WalkView}
+use Rattle.ciff_read.specs.Private.Walk.{EndGiven}
+use Rattle.ciff_read.specs.Window.{AreFrom}
+use Rattle.ciff_read.specs.Private.Window.{StaysShown}
 use Rattle.ciff_read.proofs.Files.{at_more}
 use Rattle.ciff_read.proofs.HeldFiles.{reading_refuses}
 use Rattle.ciff_read.proofs.Told.{for_one}
@@ -19,5 +18,4 @@ returns-then-len-self-clause-exact g c =
     let shown : StaysShown told c.self.inside.name old new = subst (λ (name : List ℕ). StaysShown told name old new) c.as_str.ensures.bytes c.in-Ok.ensures.shown in
     let more : (content : List ℕ) → AreFrom content new.start new.bytes.items → at < length content = λ content is. omega (arith, is.within, length-drop new.start content, c.in-Ok.ensures.at.not_before, c.if-len-self.true, c.len.ensures, new.bytes.ok.0) in
     subst (λ (w : WalkView). EndGiven told w (Err c.refused.result)) c.self.view_is
-    (for_one told c.self.inside.name (λ content. Shows content old → Shows content new) (λ content. AreFrom content old.start old.bytes.items → FailsReading c.refused.result (at_end at (drop at content) EndPiece))
-    (λ content keeps shows. reading_refuses c.refused.result _ (at_end at (drop at content) EndPiece) c.refused.ensures (at_more content at EndPiece (more content (keeps shows)))) shown)
+    (for_one _ _ _ _ (λ content keeps shows. reading_refuses _ _ _ c.refused.ensures (at_more _ at _ (more content (keeps shows)))) shown)

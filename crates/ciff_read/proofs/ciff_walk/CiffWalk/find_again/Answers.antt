@@ -1,24 +1,25 @@
-use Rattle.std.proofs.Common.{◌≡◌, ◌≢◌, List, [], ℕ, Option, Ok, length, refl, sym, subst, arith}
-use Rattle.jass_base.specs.CiffViews.{list_data}
-use Rattle.jass_base.specs.Outside.{Files, ForContent}
+use Rattle.std.proofs.Common.{◌≡◌, ◌≢◌, List, [], ℕ, Option, Ok, Err, rules, length, refl, sym, subst, arith}
+use Rattle.ciff_read.proofs.Below.{list_data, Files, ForContent}
 use Rattle.ciff_read.specs.Pieces.{KeptList, ListInFile, list_of_file, terms_kept}
 use Rattle.ciff_read.specs.Reaching.{FailsReading}
 use Rattle.ciff_read.specs.Walk.{WalkView, HasKept, ChangesOnly}
-use Rattle.ciff_read.specs.Window.{AreFrom, Shows}
+use Rattle.ciff_read.specs.Window.{AreFrom}
+use Rattle.ciff_read.specs.Private.Window.{Shows}
 use Rattle.ciff_read.proofs.Again.{told_outside, told_counts}
 use Rattle.ciff_read.proofs.ciff_walk.CiffWalk.find_again.Goals as goal
 
-pub returns-in-Err-clause-told : goal.returns-in-Err-clause-told
-returns-in-Err-clause-told g c =
+pub returns-in_err-list-clause-told : goal.returns-in_err-list-clause-told
+returns-in_err-list-clause-told g c =
     let told : Option Files = g.C.Cabinet.told c.args.files.now in
     let at : ℕ = c.args.at in
-    let fault = c.in-Err.fault in
+    let fault = c.in_err-list.field-0.0 in
     let window = c.self.inside.window in
     let docs : ℕ = c.self.inside.docs in
-    let none = subst (λ (kept : List KeptList). ForContent told c.as_str.result.now (λ content. Shows content window → FailsReading fault (list_of_file content docs 0 (terms_kept kept) at))) c.new-none.ensures c.in-Err.ensures.exact in
+    let none = subst (λ (kept : List KeptList). ForContent told c.as_str.result.now (λ content. Shows content window → FailsReading fault (list_of_file content docs 0 (terms_kept kept) at))) c.new-none.ensures c.in_err-list.ensures.exact in
     let named = subst (λ (name : List ℕ). ForContent told name (λ content. Shows content window → FailsReading fault (list_of_file content docs 0 [] at))) c.as_str.ensures.bytes none in
-    told_outside told c.args.self.now at c.requires.stands fault c.requires.given
-    (subst (λ (w : WalkView). ForContent told w.name (λ content. AreFrom content w.start w.bytes → FailsReading fault (list_of_file content w.docs 0 [] at))) c.self.view_is named)
+    let out : c.from_residual.result ≡ Err fault = search rules in
+    rw out (told_outside told c.args.self.now at c.requires.stands fault c.requires.given
+    (subst (λ (w : WalkView). ForContent told w.name (λ content. AreFrom content w.start w.bytes → FailsReading fault (list_of_file content w.docs 0 [] at))) c.self.view_is named))
 
 pub returns-then-kept-found-clause-told : goal.returns-then-kept-found-clause-told
 returns-then-kept-found-clause-told g c =
@@ -26,8 +27,8 @@ returns-then-kept-found-clause-told g c =
     let at : ℕ = c.args.at in
     let window = c.self.inside.window in
     let docs : ℕ = c.self.inside.docs in
-    let x : ListInFile = record { list = list_data c.in-Ok.list; end = c.in-Ok.field-0-1 } in
-    let none = subst (λ (kept : List KeptList). ForContent told c.as_str.result.now (λ content. Shows content window → list_of_file content docs 0 (terms_kept kept) at ≡ Ok x)) c.new-none.ensures c.in-Ok.ensures.exact in
+    let x : ListInFile = record { list = list_data c.in_ok-list.list; end = c.in_ok-list._end } in
+    let none = subst (λ (kept : List KeptList). ForContent told c.as_str.result.now (λ content. Shows content window → list_of_file content docs 0 (terms_kept kept) at ≡ Ok x)) c.new-none.ensures c.in_ok-list.ensures.exact in
     let named = subst (λ (name : List ℕ). ForContent told name (λ content. Shows content window → list_of_file content docs 0 [] at ≡ Ok x)) c.as_str.ensures.bytes none in
     let kept = subst (λ (w : WalkView). HasKept w.kept at c.count_at-count.result.0) c.self.view_is c.count_at-count.ensures.count in
     let other : c.count_at-count.result.0 ≢ length x.list.postings = λ same. omega (arith, same, c.if-kept-found.true, c.from-kept.ensures, c.len-found.ensures) in

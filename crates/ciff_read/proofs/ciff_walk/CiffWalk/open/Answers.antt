@@ -3,9 +3,9 @@ use Rattle.jass_base.specs.Outside.{Files, ForContent}
 use Rattle.ciff_read.specs.KeptLists.{kept_in}
 use Rattle.ciff_read.specs.Pieces.{header_of_file}
 use Rattle.ciff_read.specs.Private.Reached.{file_header}
-use Rattle.ciff_read.specs.Walk.{StandsFor}
-use Rattle.ciff_read.specs.Window.{AreFrom, Shows}
-use Rattle.ciff_read.proofs.Opening.{new_walk, opened}
+use Rattle.ciff_read.specs.Window.{AreFrom}
+use Rattle.ciff_read.specs.Private.Window.{Shows}
+use Rattle.ciff_read.proofs.Opening.{opened}
 use Rattle.ciff_read.proofs.Told.{for_both, for_one, for_pair}
 use Rattle.ciff_read.proofs.Windows.{none_from}
 use Rattle.ciff_read.proofs.ciff_walk.CiffWalk.open.Goals as goal
@@ -13,18 +13,14 @@ use Rattle.ciff_read.proofs.ciff_walk.CiffWalk.open.Goals as goal
 pub returns-clause-opens : goal.returns-clause-opens
 returns-clause-opens g c =
     let told : Option Files = g.C.Cabinet.told c.args.files.now in
-    let x = c.in-Ok-reach_header.read in
     let first : (content : List ℕ) → Shows content c.new-window.result = λ content. subst (λ (bytes : List ℕ). AreFrom content c.new-window.result.start bytes) (sym c.new-window.ensures.bytes) (none_from content c.new-window.result.start) in
     let here : ForContent told c.args.name.now (λ content. Shows content c.reach.new.self)
-    = for_one told c.args.name.now (λ content. Shows content c.new-window.result → Shows content c.reach.new.self) (λ content. Shows content c.reach.new.self) (λ content keeps. keeps (first content)) c.in-Ok.ensures.shown in
+    = for_one _ _ _ _ (λ content keeps. keeps (first content)) c.in-Ok.ensures.shown in
     let shown : ForContent told c.args.name.now (λ content. Shows content c.reach.new.self → Shows content c.reach_header.new.window)
-    = subst (λ (files : Option Files). ForContent files c.args.name.now (λ content. Shows content c.reach.new.self → Shows content c.reach_header.new.window)) c.in-Ok.ensures.stays c.in-Ok-reach_header.ensures.shown in
-    let exact : ForContent told c.args.name.now (λ content. Shows content c.reach.new.self → header_of_file content ≡ Ok (file_header x))
-    = subst (λ (files : Option Files). ForContent files c.args.name.now (λ content. Shows content c.reach.new.self → header_of_file content ≡ Ok (file_header x))) c.in-Ok.ensures.stays c.in-Ok-reach_header.ensures.exact in
-    for_both told c.args.name.now (λ content. Shows content c.reach.new.self)
-    (λ content. (Shows content c.reach.new.self → Shows content c.reach_header.new.window) × (Shows content c.reach.new.self → header_of_file content ≡ Ok (file_header x)))
-    (λ content. StandsFor content (new_walk c.in-Ok-from_str.name x.0 x.1 (kept_in c.new.result) c.new-2.result.words.items c.reach_header.new.window))
-    (λ content now both. λ none.
-    opened content c.in-Ok-from_str.name x.0 x.1 (kept_in c.new.result) c.new-2.result.words.items c.reach_header.new.window c.new.ensures c.new-2.ensures (both.1 now) (both.0 now))
+    = subst (λ (files : Option Files). ForContent files c.args.name.now (λ content. Shows content c.reach.new.self → Shows content c.reach_header.new.window)) c.in-Ok.ensures.stays c.in_ok-head.ensures.shown in
+    let exact : ForContent told c.args.name.now (λ content. Shows content c.reach.new.self → header_of_file content ≡ Ok (file_header (c.in_ok-head.head, c.in_ok-head.at)))
+    = subst (λ (files : Option Files). ForContent files c.args.name.now (λ content. Shows content c.reach.new.self → header_of_file content ≡ Ok (file_header (c.in_ok-head.head, c.in_ok-head.at)))) c.in-Ok.ensures.stays c.in_ok-head.ensures.exact in
+    for_both _ _ _ _ _ (λ content now both. λ none.
+    opened content c.in-Ok-from_str.name c.in_ok-head.head c.in_ok-head.at (kept_in c.new.result) c.new-2.result.words.items c.reach_header.new.window c.new.ensures c.new-2.ensures (both.1 now) (both.0 now))
     here
-    (for_pair told c.args.name.now (λ content. Shows content c.reach.new.self → Shows content c.reach_header.new.window) (λ content. Shows content c.reach.new.self → header_of_file content ≡ Ok (file_header x)) shown exact)
+    (for_pair told c.args.name.now (λ content. Shows content c.reach.new.self → Shows content c.reach_header.new.window) (λ content. Shows content c.reach.new.self → header_of_file content ≡ Ok (file_header (c.in_ok-head.head, c.in_ok-head.at))) shown exact)

@@ -1,7 +1,5 @@
-use Rattle.std.proofs.Common.{◌≡◌, ◌∙◌, Option, Some, ap, sym}
-use Rattle.std.specs.Option.{option_map}
-use Rattle.jass_base.specs.CiffViews.{header_data}
-use Rattle.jass_base.specs.Outside.{Files}
+use Rattle.std.proofs.Common.{◌≡◌, ◌∙◌, Option, Some, ap, sym, option_map}
+use Rattle.ciff_read.proofs.Below.{header_data, Files}
 use Rattle.ciff_read.specs.Walk.{WalkView}
 use Rattle.ciff_read.proofs.Advancing.{told_start}
 use Rattle.ciff_read.proofs.ciff_walk.CiffWalk.read_piece.Goals as goal

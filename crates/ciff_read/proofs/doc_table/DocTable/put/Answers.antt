@@ -6,8 +6,8 @@ use Rattle.ciff_read.proofs.doc_table.DocTable.put.Goals as goal
 pub reaching-preserved : goal.reaching-preserved
 reaching-preserved c = record {
   same = subst (λ (t : List (Option DocRecord)). t ≡ c.args.self.now.records.items ++ replicate (length t - length c.args.self.now.records.items) None)
-      (sym c.in-Ok.ensures.items)
-      (reaches_more None c.args.self.now.records.items c.reaching.self.records.items c.reaching.invariant.same c.reaching.invariant.longer);
-  longer = omega (arith, c.in-Ok.ensures.len, c.reaching.invariant.longer);
-  enough = omega (arith, c.in-Ok.ensures.len, c.reaching.invariant.enough, c.reaching-test.true);
+      (sym c.in_ok-push.ensures.items)
+      (reaches_more _ _ _ c.reaching.invariant.same c.reaching.invariant.longer);
+  longer = omega (arith, c.in_ok-push.ensures.len, c.reaching.invariant.longer);
+  enough = omega (arith, c.in_ok-push.ensures.len, c.reaching.invariant.enough, c.reaching-test.true);
 }

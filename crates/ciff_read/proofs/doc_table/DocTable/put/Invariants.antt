@@ -1,5 +1,4 @@
-use Rattle.std.proofs.Common.{◌≡◌, ◌+◌, ◌-◌, ◌≤◌, ◌++◌, length}
-use Rattle.std.specs.Prelude.{None, replicate}
+use Rattle.std.proofs.Common.{◌≡◌, ◌+◌, ◌-◌, ◌≤◌, ◌++◌, length, None, replicate}
 use Rattle.ciff_read.proofs.doc_table.DocTable.put.Given as goal
 
 abbrev pub invariant-reaching : goal.invariant-reaching

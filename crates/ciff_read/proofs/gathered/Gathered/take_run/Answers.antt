@@ -1,6 +1,5 @@
 use Rattle.std.proofs.Common.{◌+◌, ◌<◌, ap, refl, arith}
-use Rattle.jass_base.specs.declared.posting.Posting.{Posting}
-use Rattle.wire_fields.proofs.Varints.{to_end}
+use Rattle.ciff_read.proofs.Below.{Posting, to_end}
 use Rattle.ciff_read.specs.Private.Places.{gathered_of}
 use Rattle.ciff_read.proofs.Runs.{Passes, next_in_hand}
 use Rattle.ciff_read.proofs.gathered.Gathered.take_run.Goals as goal

@@ -1,5 +1,4 @@
-use Rattle.std.proofs.Common.{◌∙◌, ◌<◌, length, arith}
-use Rattle.std.proofs.lemmas.Option.{get_or_from_slice_get}
+use Rattle.shared_lemmas.proofs.Common.{◌∙◌, ◌<◌, length, arith, get_or_from_slice_get}
 use Rattle.ciff_read.specs.KeptLists.{entries_in, kept_in}
 use Rattle.ciff_read.proofs.Rising.{entry_kept}
 use Rattle.ciff_read.proofs.kept_lists.KeptLists.guessed.Goals as goal

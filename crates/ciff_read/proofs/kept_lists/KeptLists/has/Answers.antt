@@ -1,9 +1,7 @@
-use Rattle.std.proofs.Common.{◌∙◌, sym, ap, List}
-use Rattle.std.specs.Prelude.{String}
-use Rattle.std.specs.declared.alloc.Global.{Global}
-use Rattle.std.proofs.lemmas.List.{nil_from_length}
+use Rattle.shared_lemmas.proofs.Common.{◌∙◌, sym, ap, List, String, Global, nil_from_length}
 use Rattle.ciff_read.specs.declared.kept_lists.ListPlace.{ListPlace}
-use Rattle.ciff_read.specs.KeptEntries.{hashed_in, terms_in}
+use Rattle.ciff_read.specs.KeptEntries.{hashed_in}
+use Rattle.ciff_read.specs.Private.KeptEntries.{terms_in}
 use Rattle.ciff_read.specs.Seen.{is_seen}
 use Rattle.ciff_read.proofs.KeptTerms.{found_is, seen_first, seen_later}
 use Rattle.ciff_read.proofs.kept_lists.KeptLists.has.Goals as goal

@@ -1,6 +1,5 @@
-use Rattle.std.proofs.Common.{◌∙◌, ◌+◌, ◌-◌, ◌≡◌, ℕ, length, sym, ap, arith}
-use Rattle.std.specs.Ordering.{is_lt}
-use Rattle.ciff_read.specs.KeptEntries.{terms_in}
+use Rattle.std.proofs.Common.{◌∙◌, ◌+◌, ◌-◌, ◌≡◌, ℕ, length, sym, ap, arith, is_lt}
+use Rattle.ciff_read.specs.Private.KeptEntries.{terms_in}
 use Rattle.ciff_read.proofs.RisingTerms.{all_before, terms_count}
 use Rattle.ciff_read.proofs.rising_lists.RisingLists.are_before.Goals as goal
 

@@ -1,5 +1,5 @@
-use Rattle.std.proofs.Common.{ℕ, ◌+◌, ◌-◌, ◌/◌, sym, ◌∙◌, arith}
-use Rattle.ciff_read.specs.KeptEntries.{terms_in}
+use Rattle.std.proofs.Common.{sym, ◌∙◌, arith}
+use Rattle.ciff_read.specs.Private.KeptEntries.{terms_in}
 use Rattle.ciff_read.proofs.RisingTerms.{not_seen, upper, lower, found, missing}
 use Rattle.ciff_read.proofs.rising_lists.RisingLists.has.Goals as goal
 
@@ -8,18 +8,15 @@ returns-then-are_before c = sym (not_seen (terms_in c.args.self.now) c.args.term
 
 pub halves-preserved-in-Less : goal.halves-preserved-in-Less
 halves-preserved-in-Less c =
-    let middle : ℕ = c.halves.from + (c.halves.to - c.halves.from) / 2 in
-    upper (terms_in c.args.self.now) c.args.term.now c.len-to.ensures.rises c.halves.from c.halves.to middle c.halves.invariant (omega arith) (omega (arith, c.halves-test.true)) (sym c.order.ensures ∙ c.in-Less.is)
+    upper _ _ c.len-to.ensures.rises _ _ _ c.halves.invariant (omega arith) (omega (arith, c.halves-test.true)) (sym c.order.ensures ∙ c.in-Less.is)
 
 pub halves-preserved : goal.halves-preserved
 halves-preserved c =
-    let middle : ℕ = c.halves.from + (c.halves.to - c.halves.from) / 2 in
-    lower (terms_in c.args.self.now) c.args.term.now c.len-to.ensures.rises c.halves.from c.halves.to middle c.halves.invariant (omega arith) (omega (arith, c.halves-test.true)) (sym c.order.ensures ∙ c.in-Greater.is)
+    lower _ _ c.len-to.ensures.rises _ _ _ c.halves.invariant (omega arith) (omega (arith, c.halves-test.true)) (sym c.order.ensures ∙ c.in-Greater.is)
 
 pub returns-in-Equal : goal.returns-in-Equal
 returns-in-Equal c =
-    let middle : ℕ = c.halves.from + (c.halves.to - c.halves.from) / 2 in
-    sym (found (terms_in c.args.self.now) c.args.term.now c.len-to.ensures.rises c.halves.from c.halves.to middle c.halves.invariant (omega arith) (omega (arith, c.halves-test.true)) (sym c.order.ensures ∙ c.in-Equal.is))
+    sym (found _ _ c.len-to.ensures.rises _ _ _ c.halves.invariant (omega arith) (omega (arith, c.halves-test.true)) (sym c.order.ensures ∙ c.in-Equal.is))
 
 pub returns : goal.returns
-returns c = sym (missing (terms_in c.args.self.now) c.args.term.now c.len-to.ensures.rises c.halves.from c.halves.to c.halves.invariant (omega (arith, c.halves-test.false)))
+returns c = sym (missing _ _ c.len-to.ensures.rises _ _ c.halves.invariant (omega (arith, c.halves-test.false)))

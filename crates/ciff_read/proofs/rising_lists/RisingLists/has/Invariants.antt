@@ -1,5 +1,5 @@
 use Rattle.std.proofs.Common.{◌-◌}
-use Rattle.ciff_read.specs.KeptEntries.{terms_in}
+use Rattle.ciff_read.specs.Private.KeptEntries.{terms_in}
 use Rattle.ciff_read.proofs.RisingTerms.{Halves}
 use Rattle.ciff_read.proofs.rising_lists.RisingLists.has.Given as goal
 

@@ -3,5 +3,4 @@ use Rattle.ciff_read.proofs.rising_lists.RisingLists.place.Goals as goal
 
 pub returns : goal.returns
 returns c =
-    let f = c.self.inside in
-    place_of_list f.bytes.items f.lists.items c.args.self.now c.self.view_is c.args.index c.index.result.now c.requires c.index.ensures
+    place_of_list _ _ _ c.self.view_is _ _ c.requires c.index.ensures

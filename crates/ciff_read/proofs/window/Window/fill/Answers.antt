@@ -1,7 +1,8 @@
 use Rattle.std.proofs.Common.{◌≡◌, ◌+◌, ℕ, List, Option, subst, ◌∙◌, ◌++◌, take, inr, arith}
-use Rattle.jass_base.specs.Outside.{Files, OnContent, AreBytesAt}
-use Rattle.ciff_read.specs.Window.{AreFrom, Shows}
-use Rattle.ciff_read.proofs.Told.{for_both, on_for, on_there}
+use Rattle.ciff_read.proofs.Below.{Files, OnContent, AreBytesAt, on_for}
+use Rattle.ciff_read.specs.Window.{AreFrom}
+use Rattle.ciff_read.proofs.Told.{for_both, on_there}
+use Rattle.ciff_read.specs.Private.Window.{Shows}
 use Rattle.ciff_read.proofs.Windows.{more_from, read_behind}
 use Rattle.ciff_read.proofs.window.Window.fill.Goals as goal
 

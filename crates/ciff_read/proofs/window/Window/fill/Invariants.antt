@@ -1,6 +1,6 @@
 use Rattle.std.proofs.Common.{◌≡◌, ◌≤◌, ◌-◌, ◌^◌, ◌⊎◌, length}
 use Rattle.jass_base.specs.Outside.{IsMissing}
-use Rattle.ciff_read.specs.Window.{StaysShown}
+use Rattle.ciff_read.specs.Private.Window.{StaysShown}
 use Rattle.ciff_read.proofs.window.Window.fill.Given as goal
 
 abbrev pub invariant-pieces : goal.invariant-pieces

@@ -6,19 +6,15 @@ pub bounds-bytes-self : goal.bounds-bytes-self
 bounds-bytes-self c = inside c.blocks_keep_their_gaps.ensures _ _ _ _ c.requires.stands.0 c.requires.stands.1 c.requires.full
 
 pub overflow_add-start : goal.overflow_add-start
-overflow_add-start c =
-    let long = long_here c.blocks_keep_their_gaps.ensures _ _ _ c.args.bytes.now c.requires.stands.0 c.requires.stands.1 c.requires.full in
-    omega (arith, long)
+overflow_add-start c = omega (arith, long_here c.blocks_keep_their_gaps.ensures _ _ _ c.args.bytes.now c.requires.stands.0 c.requires.stands.1 c.requires.full)
 
 pub overflow_add-end : goal.overflow_add-end
 overflow_add-end c =
-    let long = long_here c.blocks_keep_their_gaps.ensures _ _ _ c.args.bytes.now c.requires.stands.0 c.requires.stands.1 c.requires.full in
-    omega (arith, long, c.from.ensures)
+    omega (arith, c.from.ensures, long_here c.blocks_keep_their_gaps.ensures _ _ _ c.args.bytes.now c.requires.stands.0 c.requires.stands.1 c.requires.full)
 
 pub slice_bounds-unpack128-end : goal.slice_bounds-unpack128-end
 slice_bounds-unpack128-end c =
-    let long = long_here c.blocks_keep_their_gaps.ensures _ _ _ c.args.bytes.now c.requires.stands.0 c.requires.stands.1 c.requires.full in
-    omega (arith, long, c.from.ensures)
+    omega (arith, c.from.ensures, long_here c.blocks_keep_their_gaps.ensures _ _ _ c.args.bytes.now c.requires.stands.0 c.requires.stands.1 c.requires.full)
 
 pub unpack128-requires-clause-width : goal.unpack128-requires-clause-width
 unpack128-requires-clause-width c = narrow_here c.blocks_keep_their_gaps.ensures _ _ _ c.args.bytes.now c.requires.stands.0 c.requires.stands.1 c.requires.full

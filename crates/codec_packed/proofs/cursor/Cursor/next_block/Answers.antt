@@ -1,5 +1,4 @@
-use Rattle.std.proofs.Common.{length, ap, ◌∙◌, arith}
-use Rattle.std.proofs.lemmas.List.{take_all}
+use Rattle.shared_lemmas.proofs.Common.{length, ap, ◌∙◌, arith, take_all}
 use Rattle.codec_packed.proofs.cursor.Cursor.next_block.Goals as goal
 
 pub returns-then-self-ge128 : goal.returns-then-self-ge128

@@ -1,5 +1,4 @@
-use Rattle.std.proofs.Common.{◌<◌, ◌^◌, ◌∙◌, sym, arith}
-use Rattle.std.proofs.lemmas.List.Elements.{All-weaker}
+use Rattle.shared_lemmas.proofs.Common.{◌<◌, ◌^◌, ◌∙◌, sym, arith, All-weaker}
 use Rattle.jass_base.proofs.Gaps.{length-gaps_from}
 use Rattle.jass_base.specs.Gaps.{gaps_of}
 use Rattle.codec_simple8.proofs.Docs.{docs_again}

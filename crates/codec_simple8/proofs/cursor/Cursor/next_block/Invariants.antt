@@ -1,5 +1,5 @@
 use Rattle.std.proofs.Common.{◌≡◌, length}
-use Rattle.codec_simple8.specs.Cursor.{Moved}
+use Rattle.codec_simple8.specs.Private.Cursor.{Moved}
 use Rattle.codec_simple8.proofs.cursor.Cursor.next_block.Given as goal
 
 abbrev pub invariant-loop-self : goal.invariant-loop-self

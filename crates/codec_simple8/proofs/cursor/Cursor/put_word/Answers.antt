@@ -1,6 +1,5 @@
-use Rattle.std.proofs.Common.{◌≡◌, ◌+◌, ◌%◌, ◌<◌, ◌≤◌, ◌^◌, ◌++◌, take, length, length-drop, sym, ap, subst, ◌∙◌, arith}
-use Rattle.std.specs.Prelude.{All}
-use Rattle.std.proofs.lemmas.List.Elements.{All-take}
+use Rattle.shared_lemmas.proofs.Common.{◌≡◌, ◌+◌, ◌%◌, ◌<◌, ◌≤◌, ◌^◌, ◌++◌, take, length, sym, ap, subst, ◌∙◌, arith, All, All-take}
+use Rattle.std.proofs.Common.{length-drop}
 use Rattle.jass_base.specs.Gaps.{docs_from}
 use Rattle.codec_simple8.specs.Simple8.{count_of, width_of, gaps_in, least_behind}
 use Rattle.codec_simple8.proofs.Moves.{given_word, given_least, word_docs, word_held, moved_word, moved_held, next_word}
@@ -22,7 +21,6 @@ overflow_cast-self c = record { fits = omega (arith, c.count-count.ensures, coun
 
 pub overflow_sub-self : goal.overflow_sub-self
 overflow_sub-self c =
-    let g = c.requires.stands.1 in
     let w = given_word c.args.self.now c.args.bytes.now c.requires.stands.0 c.requires.zeros c.requires.some c.requires.stands.1 in
     let few : count_of (c.word_at-word.result % 16) ≤ c.args.self.now.left = omega (arith, subst (λ word. count_of (word % 16) ≤ length c.requires.stands.1.gaps) (sym c.word_at-word.ensures) w.few, c.requires.stands.1.left) in
     omega (arith, c.count-count.ensures, ap count_of c.of-selector.ensures, few)
@@ -52,9 +50,6 @@ returns-then-selector-lt2-clause-left c =
 pub returns-then-selector-lt2-clause-more : goal.returns-then-selector-lt2-clause-more
 returns-then-selector-lt2-clause-more c =
     c.put_zeros.ensures.more (omega (arith, c.count-count.ensures, count_some c.of-selector.result.number c.of-selector.result.few)) (omega (arith, c.requires.room))
-
-pub put_fields-self-requires-clause-room : goal.put_fields-self-requires-clause-room
-put_fields-self-requires-clause-room c = omega (arith, c.requires.room, c.told-out)
 
 pub put_fields-self-requires-clause-least : goal.put_fields-self-requires-clause-least
 put_fields-self-requires-clause-least c = given_least c.args.self.now c.args.bytes.now c.requires.stands.0 c.requires.zeros c.requires.some c.requires.stands.1

@@ -1,5 +1,4 @@
-use Rattle.std.proofs.Common.{◌≡◌, ℕ, ◌+◌, ◌<◌, List, [], ◌∷◌, ◌++◌, take, replicate, length, ap, ◌∙◌, append_assoc, arith}
-use Rattle.std.proofs.lemmas.List.{take_more_set}
+use Rattle.shared_lemmas.proofs.Common.{◌≡◌, ℕ, ◌+◌, ◌<◌, List, [], ◌∷◌, ◌++◌, take, replicate, length, ap, ◌∙◌, append_assoc, arith, take_more_set}
 use Rattle.jass_base.specs.Gaps.{docs_from}
 use Rattle.codec_simple8.proofs.Docs.{one_zero}
 use Rattle.codec_simple8.proofs.Moves.{moved_zeros, zeros_fit}

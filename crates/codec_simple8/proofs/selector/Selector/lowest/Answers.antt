@@ -1,7 +1,4 @@
-use Rattle.std.proofs.Common.{◌≡◌, ℕ, ◌<◌, ◌≤◌, ◌^◌, true, false, nat_eq, nat_lt, List, [], ◌∷◌, replicate, refl, arith}
-use Rattle.std.specs.Prelude.{◌||◌, slice_index}
-use Rattle.std.specs.Simd.Lanes.{number_l}
-use Rattle.std.proofs.lemmas.Bool.Decides.{nat_tests}
+use Rattle.shared_lemmas.proofs.Common.{◌≡◌, ℕ, ◌<◌, ◌≤◌, ◌^◌, true, false, nat_eq, nat_lt, List, [], ◌∷◌, replicate, refl, arith, ◌||◌, slice_index, number_l, nat_tests}
 use Rattle.codec_simple8.specs.Simple8.{count_of, width_of}
 use Rattle.codec_simple8.proofs.Tables.{at_each}
 use Rattle.codec_simple8.proofs.selector.Selector.lowest.Goals as goal

@@ -1,8 +1,6 @@
-use Rattle.std.proofs.Common.{arith, sym, ◌∙◌, ◌≡◌, ◌-◌, ◌+◌, ◌<◌, ap, length, drop, subst, List, ℕ}
-use Rattle.std.specs.Prelude.{slice_range}
-use Rattle.std.proofs.lemmas.List.{with_items_is, length-drop, length-take, length-take-le}
+use Rattle.shared_lemmas.proofs.Common.{arith, sym, ◌∙◌, ◌≡◌, ◌-◌, ◌+◌, ◌<◌, ap, length, drop, subst, List, ℕ, slice_range, with_items_is, length-drop, length-take, length-take-le}
 use borrow.Rule.Slice.PartMut.{put_mid, same_len_mid}
-use Rattle.feed_lines.specs.Waiting.{ReadsSome}
+use Rattle.feed_lines.specs.Private.Reads.{ReadsSome}
 use Rattle.feed_lines.proofs.Holding.{read_behind}
 use Rattle.feed_lines.proofs.held.Held.read.Goals as goal
 

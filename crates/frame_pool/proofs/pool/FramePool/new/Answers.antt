@@ -8,8 +8,7 @@ invariant_of-result c =
     new-pool c.args.frames c.args.chains _ _ c.requires.frames c.requires.chains c.in_ok-frames.ensures (c.in-Ok.ensures.items_if_clones_equal (λ y h. search rules))
 
 pub returns-in-Ok : goal.returns-in-Ok
-returns-in-Ok c =
-    record {
-      unused = new-unused c.args.frames c.args.chains _ _ c.in_ok-frames.ensures (c.in-Ok.ensures.items_if_clones_equal (λ y h. search rules));
-      sound = sound_view _ _ _ _ (new-pool c.args.frames c.args.chains _ _ c.requires.frames c.requires.chains c.in_ok-frames.ensures (c.in-Ok.ensures.items_if_clones_equal (λ y h. search rules)));
-    }
+returns-in-Ok c = record {
+  unused = new-unused c.args.frames c.args.chains _ _ c.in_ok-frames.ensures (c.in-Ok.ensures.items_if_clones_equal (λ y h. search rules));
+  sound = sound_view _ _ _ _ (new-pool c.args.frames c.args.chains _ _ c.requires.frames c.requires.chains c.in_ok-frames.ensures (c.in-Ok.ensures.items_if_clones_equal (λ y h. search rules)));
+}

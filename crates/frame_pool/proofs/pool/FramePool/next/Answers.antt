@@ -15,8 +15,7 @@ returns-then-next c =
     let link : link_of c.self.inside.frames c.args.frame.number ≡ next = sym c.next-next.ensures in
     record {
       next = λ chain page has. sym (next-frame _ _ _ _ _ c.self.invariant c.self.view_is chain c.args.frame.number (of_page c.args.self.now chain page c.args.frame.number has).0
-          ∙ ap (λ (n : ℕ). cond (eqb n 4294967295) None (Some n)) link
-          ∙ ap (λ b. cond b None (Some next)) (eq-eqb next 4294967295 c.if-next.true));
+          ∙ ap (λ (n : ℕ). cond (eqb n 4294967295) None (Some n)) link ∙ ap (λ b. cond b None (Some next)) (eq-eqb next 4294967295 c.if-next.true));
     }
 
 pub returns-else-next : goal.returns-else-next
@@ -25,6 +24,5 @@ returns-else-next c =
     let link : link_of c.self.inside.frames c.args.frame.number ≡ next = sym c.next-next.ensures in
     record {
       next = λ chain page has. sym (next-frame _ _ _ _ _ c.self.invariant c.self.view_is chain c.args.frame.number (of_page c.args.self.now chain page c.args.frame.number has).0
-          ∙ ap (λ (n : ℕ). cond (eqb n 4294967295) None (Some n)) link
-          ∙ ap (λ b. cond b None (Some next)) (ne_eqb next 4294967295 c.if-next.false));
+          ∙ ap (λ (n : ℕ). cond (eqb n 4294967295) None (Some n)) link ∙ ap (λ b. cond b None (Some next)) (ne_eqb next 4294967295 c.if-next.false));
     }

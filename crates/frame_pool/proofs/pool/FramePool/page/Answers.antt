@@ -11,7 +11,4 @@ pub returns : goal.returns
 returns c =
     let page : c.page.result ≡ (content_of c.args.self.now c.args.frame.number).page =
     c.page.ensures ∙ sym (ap (λ (x : FrameContent). x.page) (content_seen _ _ c.args.self.now c.self.view_is c.args.frame.number)) in
-    record {
-      page = λ chain page' has. page ∙ (of_page c.args.self.now chain page' c.args.frame.number has).1;
-      content = page;
-    }
+    record { page = λ chain page' has. page ∙ (of_page c.args.self.now chain page' c.args.frame.number has).1; content = page }

@@ -1,8 +1,7 @@
-use Rattle.std.proofs.Common.{◌≤◌, List, Option, sym, ap, ◌∙◌, arith}
+use Rattle.std.proofs.Common.{◌≤◌, List, Option, sym, ap, ◌∙◌, arith, is_none, position}
 use Rattle.frame_pool.specs.declared.lease.Lease.{Lease}
 use Rattle.frame_pool.specs.Pool.{spare_of}
 use Rattle.frame_pool.proofs.Views.{lease_count, sound_view, sound_pool}
-use Rattle.std.proofs.Common.{is_none, position}
 use Rattle.frame_pool.proofs.Refusals.{none_unused, some_unused, all_in_use_is, spare_is, refused_chains, refused_short, not_refused}
 use Rattle.frame_pool.proofs.Takes.{promised-pool, promises-in_use, promises-view, promises-others, promises-spare}
 use Rattle.frame_pool.proofs.pool.FramePool.promise.Goals as goal
@@ -13,8 +12,7 @@ returns-in_default-clause-refusal c =
     (omega (arith, c.len.ensures, c.self.inside.leases.ok.0, lease_count _ _ c.args.self.now c.self.view_is))
 
 pub returns-in_default-clause-sound : goal.returns-in_default-clause-sound
-returns-in_default-clause-sound c =
-    sound_pool _ _ _ _ _ c.self.invariant c.self.view_is
+returns-in_default-clause-sound c = sound_pool _ _ _ _ _ c.self.invariant c.self.view_is
 
 pub returns-then-free-n-clause-refusal : goal.returns-then-free-n-clause-refusal
 returns-then-free-n-clause-refusal c =
@@ -22,8 +20,7 @@ returns-then-free-n-clause-refusal c =
     refused_short c.args.self.now c.args.n c.spare-free.result (all_in_use_is _ _ c.args.self.now c.self.view_is ∙ unused.2) c.spare-free.ensures.spare c.if-free-n.true
 
 pub returns-then-free-n-clause-sound : goal.returns-then-free-n-clause-sound
-returns-then-free-n-clause-sound c =
-    sound_pool _ _ _ _ _ c.self.invariant c.self.view_is
+returns-then-free-n-clause-sound c = sound_pool _ _ _ _ _ c.self.invariant c.self.view_is
 
 pub invariant_of-self : goal.invariant_of-self
 invariant_of-self c =

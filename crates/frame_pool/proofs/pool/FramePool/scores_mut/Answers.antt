@@ -15,8 +15,7 @@ invariant_of-self-lent c w = lent-kept _ _ _ _ c.self.invariant c.args.frame.num
 
 pub returns : goal.returns
 returns c =
-    let pool : PoolView = c.args.self.now in
-    let frame : ℕ = c.args.frame.number in
+    let pool : PoolView = c.args.self.now in let frame : ℕ = c.args.frame.number in
     let sound : IsSound pool = sound_pool _ _ _ _ _ c.self.invariant c.self.view_is in
     let value : c.scores_mut.result.now ≡ (content_of pool frame).scores =
     c.scores_mut.ensures.scores ∙ sym (ap (λ (x : FrameContent). x.scores) (content_seen _ _ pool c.self.view_is frame)) in

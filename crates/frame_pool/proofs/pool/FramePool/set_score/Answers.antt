@@ -21,8 +21,7 @@ pub returns : goal.returns
 returns c =
     let was : Frame = get_or c.self.inside.frames c.args.frame.number blank in
     let new : Frame = record was { scores = set was.scores c.args.slot c.args.score } in
-    let pool : PoolView = c.args.self.now in
-    let frame : ℕ = c.args.frame.number in
+    let pool : PoolView = c.args.self.now in let frame : ℕ = c.args.frame.number in
     let pool' : PoolView = view_of c.set_score.new.self c.self.inside.leases.items in
     let written : Writes pool pool' frame (frame_content new) =
     writes _ _ _ _ _ _ c.self.invariant c.self.view_is frame new c.requires c.set_score.ensures refl refl in

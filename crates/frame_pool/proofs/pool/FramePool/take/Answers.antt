@@ -1,7 +1,7 @@
 use Rattle.std.proofs.Common.{arith}
-use Rattle.shared_lemmas.proofs.Places.{zeros_there}
 use Rattle.frame_pool.proofs.Views.{sound_view}
 use Rattle.frame_pool.proofs.Takes.{took-room, took-at, takes-view, takes-leaves, takes-values, takes-in_use, takes-has}
+use Rattle.shared_lemmas.proofs.Places.{same_there}
 use Rattle.frame_pool.proofs.pool.FramePool.take.Goals as goal
 
 pub next-self-inside-requires : goal.next-self-inside-requires
@@ -32,8 +32,8 @@ returns c =
       has = takes-has _ _ _ _ _ takes;
       in_use = takes-in_use _ _ _ _ _ takes;
       view = takes-view _ _ _ _ _ takes;
-      scores = takes-values (λ x. x.scores) _ _ _ _ _ takes (zeros_there 256) c.requires.new_page;
-      places = takes-values (λ x. x.places) _ _ _ _ _ takes (zeros_there 256) c.requires.new_page;
+      scores = takes-values (λ x. x.scores) _ _ _ _ _ takes (same_there 0 256) c.requires.new_page;
+      places = takes-values (λ x. x.places) _ _ _ _ _ takes (same_there 0 256) c.requires.new_page;
       leaves = takes-leaves _ _ _ _ _ takes c.requires.own;
       sound = sound_view _ _ _ _ took.0;
     }

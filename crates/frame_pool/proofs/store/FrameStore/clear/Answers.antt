@@ -13,8 +13,7 @@ pub index-requires : goal.index-requires
 index-requires c = omega (arith, (inside_all _ _ _ _ c.args.frame c.self.invariant c.self.view_is c.requires).0, c.self.inside.heads.ok.0)
 
 pub clear_places-requires : goal.clear_places-requires
-clear_places-requires c =
-    λ unset. c.index_mut-2.ensures.value
+clear_places-requires c = λ unset. c.index_mut-2.ensures.value
     ∙ (row_at _ _ _ c.args.frame c.index.result.now c.index_mut-2.result.now c.self.invariant (inside_all _ _ _ _ c.args.frame c.self.invariant c.self.view_is c.requires).0).unset (sym (ap (λ (h : Head). h.placed) c.index.ensures) ∙ unset)
 
 pub index_mut-requires-3 : goal.index_mut-requires-3

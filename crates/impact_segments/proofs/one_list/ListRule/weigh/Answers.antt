@@ -1,6 +1,5 @@
 -- The norm is that of the posting's document.
-use Rattle.std.proofs.Common.{refl, sym, ap, ◌∙◌}
-use Rattle.std.specs.Prelude.{slice_index}
+use Rattle.std.proofs.Common.{refl, sym, ap, ◌∙◌, slice_index}
 use Rattle.weights.specs.declared.weighting.Rule.{Rule}
 use Rattle.impact_segments.specs.Collections.{weight_in}
 use Rattle.impact_segments.proofs.Weights.{weight_by}

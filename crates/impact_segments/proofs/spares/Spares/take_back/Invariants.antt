@@ -1,5 +1,4 @@
-use Rattle.std.proofs.Common.{length}
-use Rattle.std.specs.Prelude.{⊤}
+use Rattle.shared_lemmas.proofs.Common.{length, ⊤}
 use Rattle.impact_segments.proofs.spares.Spares.take_back.Given as goal
 
 abbrev pub invariant-segments : goal.invariant-segments

@@ -1,5 +1,4 @@
-use Rattle.std.proofs.Common.{◌≡◌, ◌<◌, ◌^◌, drop, fold}
-use Rattle.std.specs.List.{flat_map}
+use Rattle.std.proofs.Common.{◌≡◌, ◌<◌, ◌^◌, drop, fold, flat_map}
 use Rattle.weights.specs.Quantizing.{widened, range_of}
 use Rattle.impact_segments.specs.Private.Weighed.{list_weights}
 use Rattle.impact_segments.proofs.weighing.Weigher.range.Given as goal

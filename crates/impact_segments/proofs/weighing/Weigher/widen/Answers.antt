@@ -1,7 +1,6 @@
 -- Each posting is weighed by its term's rarity.
 use Rattle.std.proofs.Common.{length, fold, ap, arith}
-use Rattle.weights.specs.declared.quantizing.Range.{Range}
-use Rattle.weights.specs.Quantizing.{widened}
+use Rattle.impact_segments.proofs.Below.{Range, widened}
 use Rattle.impact_segments.specs.Private.Weighed.{posting_weight, list_weights}
 use Rattle.impact_segments.proofs.Weights.{item_below, widened_more}
 use Rattle.impact_segments.proofs.weighing.Weigher.widen.Goals as goal

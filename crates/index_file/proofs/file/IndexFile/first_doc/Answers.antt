@@ -1,7 +1,5 @@
 use Rattle.std.proofs.Common.{◌≡◌, ℕ, List, [], ◌∷◌, drop, length, ap, ◌∙◌}
-use Rattle.jass_base.specs.Gaps.{gap_in}
-use Rattle.segment_codecs.specs.Codecs.{payload_of}
-use Rattle.index_layout.specs.View.{file_bytes}
+use Rattle.index_file.proofs.Below.{gap_in, payload_of, file_bytes}
 use Rattle.index_file.specs.Places.{segment_at}
 use Rattle.index_file.proofs.OneVarint.{one_there, gap_is, gap_there}
 use Rattle.index_file.proofs.file.IndexFile.first_doc.Goals as goal

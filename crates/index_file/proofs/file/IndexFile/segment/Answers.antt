@@ -1,112 +1,54 @@
-use Rattle.std.proofs.Common.{◌≡◌, ◌+◌, ap, subst, sym, ◌∙◌, ◌<◌, length}
-use Rattle.index_layout.specs.Heads.{HeadData}
-use Rattle.index_layout.specs.View.{FileView}
-use Rattle.index_model.specs.Querying.{segments_at}
-use Rattle.index_file.specs.Opened.{view_of}
+use Rattle.std.proofs.Common.{◌≡◌, ◌+◌, ap, subst, ◌∙◌, sym, ◌<◌, ℕ, List, length}
+use Rattle.index_file.proofs.Below.{HeadData, FileView, segments_at}
 use Rattle.index_file.specs.Places.{segment_at}
-use Rattle.index_file.specs.Tables.{told, row_head}
+use Rattle.index_file.specs.Private.Opened.{Stands}
+use Rattle.index_file.specs.Private.Tables.{told, row_head}
+use Rattle.index_file.specs.declared.segment.Segment.{Segment}
+use Rattle.index_file.specs.declared.segment_head.SegmentHead.{SegmentHead}
+use Rattle.index_file.specs.declared.term_row.TermRow.{TermRow}
 use Rattle.index_file.proofs.CodecPlaces.{codec_there}
-use Rattle.index_file.proofs.Standing.{head_tells, there, segment_of, segment_there, row_of, row_tells}
+use Rattle.index_file.proofs.Standing.{RowTells, SegmentThere, head_tells, there, segment_of, segment_there, row_of, row_tells}
 use Rattle.index_file.proofs.file.IndexFile.segment.Goals as goal
+
+module _ (bytes places text : List ℕ) (rows : List TermRow) (segments : List Segment) (v : FileView) (stands : Stands bytes places text rows segments v)
+    (t s : ℕ) (below : t < length v.index.terms) (inside : s < length (segments_at v.index.terms t)) where
+  abbrev row : Segment
+  row = segment_of segments ((row_of rows t).segment + s)
+
+  -- the row of a segment, and what the head that was read there tells of it
+  here : SegmentThere bytes segments v t s ((row_of rows t).segment + s)
+  here = segment_there bytes text rows segments v t s (there bytes places text rows segments v stands t below) inside
+
+  tells : (h : SegmentHead) → told h ≡ row_head bytes row → RowTells v (told h) row.place (segment_at v.index.terms t s)
+  tells h read = head_tells v h (row_head bytes row) row.place (segment_at v.index.terms t s) read (row_tells bytes places text rows segments v stands t s _ here)
 
 pub bounds-as_slice-first : goal.bounds-as_slice-first
 bounds-as_slice-first c =
     let f = c.self.inside in
-    let v = view_of f.bytes in
-    let below = subst (λ (v : FileView). c.args.t < length v.index.terms) (sym c.self.view_is) c.requires.t in
-    let inside = subst (λ (v : FileView). c.args.s < length (segments_at v.index.terms c.args.t)) (sym c.self.view_is) c.requires.s in
-    let h = there f.bytes f.places f.text f.rows f.segments v c.self.invariant.stands c.args.t below in
-    let place = segment_there f.bytes f.text f.rows f.segments v c.args.t c.args.s h inside in
-    let tells = row_tells f.bytes f.places f.text f.rows f.segments v c.self.invariant.stands c.args.t c.args.s _ place in
-    rw (c.as_slice.ensures, c.as_slice-2.ensures) place.inside
+    let stands = subst (Stands f.bytes f.places f.text f.rows f.segments) c.self.view_is c.self.invariant.stands in
+    rw (c.as_slice.ensures, c.as_slice-2.ensures)
+    (here f.bytes f.places f.text f.rows f.segments c.args.self.now stands c.args.t c.args.s c.requires.t c.requires.s).inside
 
 pub head_of-requires : goal.head_of-requires
 head_of-requires c =
     let f = c.self.inside in
-    let v = view_of f.bytes in
-    let below = subst (λ (v : FileView). c.args.t < length v.index.terms) (sym c.self.view_is) c.requires.t in
-    let inside = subst (λ (v : FileView). c.args.s < length (segments_at v.index.terms c.args.t)) (sym c.self.view_is) c.requires.s in
-    let h = there f.bytes f.places f.text f.rows f.segments v c.self.invariant.stands c.args.t below in
-    let at = segment_there f.bytes f.text f.rows f.segments v c.args.t c.args.s h inside in
-    rw (c.as_slice.ensures, c.as_slice-2.ensures, c.as_slice-3.ensures) (c.self.invariant.stands.payloads _ (record { head = 0; place = 0 }) at.inside).there
+    let stands = subst (Stands f.bytes f.places f.text f.rows f.segments) c.self.view_is c.self.invariant.stands in
+    let at = here f.bytes f.places f.text f.rows f.segments c.args.self.now stands c.args.t c.args.s c.requires.t c.requires.s in
+    rw (c.as_slice.ensures, c.as_slice-2.ensures, c.as_slice-3.ensures) (stands.payloads _ (record { head = 0; place = 0 }) at.inside).there
 
-pub returns-clause-impact : goal.returns-clause-impact
-returns-clause-impact c =
+pub returns : goal.returns
+returns c =
     let f = c.self.inside in
-    let v = view_of f.bytes in
-    let below = subst (λ (v : FileView). c.args.t < length v.index.terms) (sym c.self.view_is) c.requires.t in
-    let inside = subst (λ (v : FileView). c.args.s < length (segments_at v.index.terms c.args.t)) (sym c.self.view_is) c.requires.s in
-    let h = there f.bytes f.places f.text f.rows f.segments v c.self.invariant.stands c.args.t below in
-    let at = segment_there f.bytes f.text f.rows f.segments v c.args.t c.args.s h inside in
-    let row = segment_of f.segments ((row_of f.rows c.args.t).segment + c.args.s) in
-    let read : told c.head_of.result ≡ row_head f.bytes row = rw (sym c.as_slice.ensures, sym c.as_slice-2.ensures, sym c.as_slice-3.ensures) c.head_of.ensures in
-    let tells = head_tells v c.head_of.result (row_head f.bytes row) row.place (segment_at v.index.terms c.args.t c.args.s) read
-    (row_tells f.bytes f.places f.text f.rows f.segments v c.self.invariant.stands c.args.t c.args.s ((row_of f.rows c.args.t).segment + c.args.s) at) in
-    rw (← c.self.view_is) tells.impact
-
-pub returns-clause-count : goal.returns-clause-count
-returns-clause-count c =
-    let f = c.self.inside in
-    let v = view_of f.bytes in
-    let below = subst (λ (v : FileView). c.args.t < length v.index.terms) (sym c.self.view_is) c.requires.t in
-    let inside = subst (λ (v : FileView). c.args.s < length (segments_at v.index.terms c.args.t)) (sym c.self.view_is) c.requires.s in
-    let h = there f.bytes f.places f.text f.rows f.segments v c.self.invariant.stands c.args.t below in
-    let at = segment_there f.bytes f.text f.rows f.segments v c.args.t c.args.s h inside in
-    let row = segment_of f.segments ((row_of f.rows c.args.t).segment + c.args.s) in
-    let read : told c.head_of.result ≡ row_head f.bytes row = rw (sym c.as_slice.ensures, sym c.as_slice-2.ensures, sym c.as_slice-3.ensures) c.head_of.ensures in
-    let tells = head_tells v c.head_of.result (row_head f.bytes row) row.place (segment_at v.index.terms c.args.t c.args.s) read
-    (row_tells f.bytes f.places f.text f.rows f.segments v c.self.invariant.stands c.args.t c.args.s ((row_of f.rows c.args.t).segment + c.args.s) at) in
-    rw (← c.self.view_is) tells.count
-
-pub returns-clause-codec : goal.returns-clause-codec
-returns-clause-codec c =
-    let f = c.self.inside in
-    let v = view_of f.bytes in
-    let below = subst (λ (v : FileView). c.args.t < length v.index.terms) (sym c.self.view_is) c.requires.t in
-    let inside = subst (λ (v : FileView). c.args.s < length (segments_at v.index.terms c.args.t)) (sym c.self.view_is) c.requires.s in
-    let row = segment_of f.segments ((row_of f.rows c.args.t).segment + c.args.s) in
-    let read : told c.head_of.result ≡ row_head f.bytes row = rw (sym c.as_slice.ensures, sym c.as_slice-2.ensures, sym c.as_slice-3.ensures) c.head_of.ensures in
-    let tells = ap (λ (h : HeadData). h.codec) read ∙ codec_there f.bytes f.places f.text f.rows f.segments v c.self.invariant.stands c.args.t c.args.s below inside in
-    rw (← c.self.view_is) tells
-
-pub returns-clause-within : goal.returns-clause-within
-returns-clause-within c =
-    let f = c.self.inside in
-    let v = view_of f.bytes in
-    let below = subst (λ (v : FileView). c.args.t < length v.index.terms) (sym c.self.view_is) c.requires.t in
-    let inside = subst (λ (v : FileView). c.args.s < length (segments_at v.index.terms c.args.t)) (sym c.self.view_is) c.requires.s in
-    let h = there f.bytes f.places f.text f.rows f.segments v c.self.invariant.stands c.args.t below in
-    let at = segment_there f.bytes f.text f.rows f.segments v c.args.t c.args.s h inside in
-    let row = segment_of f.segments ((row_of f.rows c.args.t).segment + c.args.s) in
-    let read : told c.head_of.result ≡ row_head f.bytes row = rw (sym c.as_slice.ensures, sym c.as_slice-2.ensures, sym c.as_slice-3.ensures) c.head_of.ensures in
-    let tells = head_tells v c.head_of.result (row_head f.bytes row) row.place (segment_at v.index.terms c.args.t c.args.s) read
-    (row_tells f.bytes f.places f.text f.rows f.segments v c.self.invariant.stands c.args.t c.args.s ((row_of f.rows c.args.t).segment + c.args.s) at) in
-    rw (c.as_slice.ensures, c.as_slice-2.ensures, ← c.self.view_is) tells.within
-
-pub returns-clause-docs : goal.returns-clause-docs
-returns-clause-docs c =
-    let f = c.self.inside in
-    let v = view_of f.bytes in
-    let below = subst (λ (v : FileView). c.args.t < length v.index.terms) (sym c.self.view_is) c.requires.t in
-    let inside = subst (λ (v : FileView). c.args.s < length (segments_at v.index.terms c.args.t)) (sym c.self.view_is) c.requires.s in
-    let h = there f.bytes f.places f.text f.rows f.segments v c.self.invariant.stands c.args.t below in
-    let at = segment_there f.bytes f.text f.rows f.segments v c.args.t c.args.s h inside in
-    let row = segment_of f.segments ((row_of f.rows c.args.t).segment + c.args.s) in
-    let read : told c.head_of.result ≡ row_head f.bytes row = rw (sym c.as_slice.ensures, sym c.as_slice-2.ensures, sym c.as_slice-3.ensures) c.head_of.ensures in
-    let tells = head_tells v c.head_of.result (row_head f.bytes row) row.place (segment_at v.index.terms c.args.t c.args.s) read
-    (row_tells f.bytes f.places f.text f.rows f.segments v c.self.invariant.stands c.args.t c.args.s ((row_of f.rows c.args.t).segment + c.args.s) at) in
-    rw (← c.self.view_is) tells.docs
-
-pub returns-clause-payload : goal.returns-clause-payload
-returns-clause-payload c =
-    let f = c.self.inside in
-    let v = view_of f.bytes in
-    let below = subst (λ (v : FileView). c.args.t < length v.index.terms) (sym c.self.view_is) c.requires.t in
-    let inside = subst (λ (v : FileView). c.args.s < length (segments_at v.index.terms c.args.t)) (sym c.self.view_is) c.requires.s in
-    let h = there f.bytes f.places f.text f.rows f.segments v c.self.invariant.stands c.args.t below in
-    let at = segment_there f.bytes f.text f.rows f.segments v c.args.t c.args.s h inside in
-    let row = segment_of f.segments ((row_of f.rows c.args.t).segment + c.args.s) in
-    let read : told c.head_of.result ≡ row_head f.bytes row = rw (sym c.as_slice.ensures, sym c.as_slice-2.ensures, sym c.as_slice-3.ensures) c.head_of.ensures in
-    let tells = head_tells v c.head_of.result (row_head f.bytes row) row.place (segment_at v.index.terms c.args.t c.args.s) read
-    (row_tells f.bytes f.places f.text f.rows f.segments v c.self.invariant.stands c.args.t c.args.s ((row_of f.rows c.args.t).segment + c.args.s) at) in
-    rw (c.as_slice.ensures, c.as_slice-2.ensures, ← c.self.view_is) tells.spelled
+    let stands = subst (Stands f.bytes f.places f.text f.rows f.segments) c.self.view_is c.self.invariant.stands in
+    let read : told c.head_of.result ≡ row_head f.bytes (segment_of f.segments ((row_of f.rows c.args.t).segment + c.args.s))
+    = rw (sym c.as_slice.ensures, sym c.as_slice-2.ensures, sym c.as_slice-3.ensures) c.head_of.ensures in
+    let told_here = tells f.bytes f.places f.text f.rows f.segments c.args.self.now stands c.args.t c.args.s c.requires.t c.requires.s c.head_of.result read in
+    record {
+      impact = told_here.impact;
+      count = told_here.count;
+      codec = ap (λ (h : HeadData). h.codec) read
+          ∙ codec_there f.bytes f.places f.text f.rows f.segments c.args.self.now stands c.args.t c.args.s c.requires.t c.requires.s;
+      within = rw (c.as_slice.ensures, c.as_slice-2.ensures) told_here.within;
+      docs = told_here.docs;
+      payload = rw (c.as_slice.ensures, c.as_slice-2.ensures) told_here.spelled;
+    }

@@ -1,29 +1,23 @@
-use Rattle.std.proofs.Common.{subst, sym, ◌<◌, length}
-use Rattle.index_layout.specs.View.{FileView}
-use Rattle.index_file.specs.Opened.{view_of}
-use Rattle.index_file.specs.Tables.{part_of}
+use Rattle.std.proofs.Common.{subst, sym}
+use Rattle.index_file.specs.Private.Opened.{Stands}
+use Rattle.index_file.specs.Private.Tables.{part_of}
 use Rattle.index_file.proofs.Standing.{there, term_text}
 use Rattle.index_file.proofs.file.IndexFile.term_bytes.Goals as goal
 
 pub part-requires : goal.part-requires
 part-requires c =
     let f = c.self.inside in
-    let below = subst (λ (v : FileView). c.args.t < length v.index.terms) (sym c.self.view_is) c.requires in
-    let h = there f.bytes f.places f.text f.rows f.segments (view_of f.bytes) c.self.invariant.stands c.args.t below in
+    let stands = subst (Stands f.bytes f.places f.text f.rows f.segments) c.self.view_is c.self.invariant.stands in
+    let h = there f.bytes f.places f.text f.rows f.segments c.args.self.now stands c.args.t c.requires in
     rw (c.as_slice-rows.ensures, c.as_slice.ensures) (h.order.text_rises, h.order.text_within)
 
-pub returns-clause-term : goal.returns-clause-term
+pub returns : goal.returns
 unfolding part_of
-returns-clause-term c =
+returns c =
     let f = c.self.inside in
-    let below = subst (λ (v : FileView). c.args.t < length v.index.terms) (sym c.self.view_is) c.requires in
-    let h = there f.bytes f.places f.text f.rows f.segments (view_of f.bytes) c.self.invariant.stands c.args.t below in
-    rw (c.part.ensures, c.as_slice-rows.ensures, c.as_slice.ensures, ← c.self.view_is) (sym h.term)
-
-pub returns-clause-text : goal.returns-clause-text
-unfolding part_of
-returns-clause-text c =
-    let f = c.self.inside in
-    let below = subst (λ (v : FileView). c.args.t < length v.index.terms) (sym c.self.view_is) c.requires in
-    let h = there f.bytes f.places f.text f.rows f.segments (view_of f.bytes) c.self.invariant.stands c.args.t below in
-    rw (c.part.ensures, c.as_slice-rows.ensures, c.as_slice.ensures, sym h.term) (term_text (view_of f.bytes) c.self.invariant.stands.view c.args.t below)
+    let stands = subst (Stands f.bytes f.places f.text f.rows f.segments) c.self.view_is c.self.invariant.stands in
+    let h = there f.bytes f.places f.text f.rows f.segments c.args.self.now stands c.args.t c.requires in
+    record {
+      term = rw (c.part.ensures, c.as_slice-rows.ensures, c.as_slice.ensures) (sym h.term);
+      text = rw (c.part.ensures, c.as_slice-rows.ensures, c.as_slice.ensures, sym h.term) (term_text c.args.self.now stands.view c.args.t c.requires);
+    }

@@ -5,7 +5,5 @@ use Rattle.index_file.proofs.file.IndexFile.totals.Goals as goal
 
 pub overflow_cast-result : goal.overflow_cast-result
 overflow_cast-result c =
-    let f = c.self.inside in
-    let small = greatest_small (view_of f.bytes) c.self.invariant.stands.view in
-    let e = c.self.invariant.stands.greatest in
-    rw (c.u32_at.ensures, c.as_slice-bytes.ensures) (omega (arith, e, small))
+    let small = greatest_small (view_of c.self.inside.bytes) c.self.invariant.stands.view in
+    rw (c.u32_at.ensures, c.as_slice-bytes.ensures) (omega (arith, c.self.invariant.stands.greatest, small))

@@ -5,8 +5,7 @@ use Rattle.jass_words.proofs.budgets.Budgets.with.Goals as goal
 
 pub invariant_of-result : goal.invariant_of-result
 invariant_of-result c =
-    let count = c.self.inside.count in
-    let items = c.self.inside.items in
+    let count = c.self.inside.count in let items = c.self.inside.items in
     let (within, size, spare) = c.self.invariant in
     let left : 16 - count - 1 ≡ 16 - (count + 1) = omega arith in (
       omega (arith, within, c.if-self-eq-MOST_BUDGETS.false),

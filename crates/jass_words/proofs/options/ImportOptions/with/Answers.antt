@@ -1,19 +1,11 @@
-use Rattle.std.proofs.Common.{◌≡◌, true, false, Option, Some, None, sym, subst, ◌∙◌, refl}
+use Rattle.std.proofs.Common.{true, false, sym, subst, ◌∙◌}
 use Rattle.std.specs.Option.{is_some}
 use Rattle.jass_words.specs.declared.options.ImportOption.{ImportOption}
-use Rattle.jass_words.specs.Commands.{option_data}
+use Rattle.jass_words.specs.Private.Reading.{option_data}
 use Rattle.jass_words.specs.Options.{IsOption}
-use Rattle.jass_words.proofs.Spelling.{none_spelled}
+use Rattle.jass_words.proofs.Spelling.{none_of, none_spelled, some_of}
 use Rattle.jass_words.proofs.Keys.{rule_seen, width_seen, rule_again, width_again}
 use Rattle.jass_words.proofs.options.ImportOptions.with.Goals as goal
-
-some_of : {A : Type 0} (x : Option A) → is_some x ≡ true → (y : A) × (x ≡ Some y)
-some_of (Some y) is = (y, refl)
-some_of None is = cc
-
-none_of : {A : Type 0} (x : Option A) → is_some x ≡ false → x ≡ None
-none_of (Some y) is = cc
-none_of None is = refl
 
 pub returns-in_default-clause-none : goal.returns-in_default-clause-none
 returns-in_default-clause-none c = λ none words rest options seen are once. none_spelled IsOption words c.args.word.now rest options (c.import_option.ensures.none c.in_default.is) are

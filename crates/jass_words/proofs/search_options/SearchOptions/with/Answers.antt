@@ -1,19 +1,11 @@
 use Rattle.std.proofs.Common.{◌≡◌, true, false, Option, Some, None, sym, subst, ◌∙◌, refl}
 use Rattle.std.specs.Option.{is_some, option_map}
 use Rattle.jass_words.specs.declared.search_options.SearchOption.{SearchOption}
-use Rattle.jass_words.specs.Commands.{search_data}
+use Rattle.jass_words.specs.Private.Reading.{search_data}
 use Rattle.jass_words.specs.Searching.{IsSearchOption}
-use Rattle.jass_words.proofs.Spelling.{none_spelled}
+use Rattle.jass_words.proofs.Spelling.{none_of, none_spelled, some_of}
 use Rattle.jass_words.proofs.SearchKeys.{hits_seen, limits_seen, tag_seen, mode_seen, hits_again, limits_again, tag_again, mode_again}
 use Rattle.jass_words.proofs.search_options.SearchOptions.with.Goals as goal
-
-some_of : {A : Type 0} (x : Option A) → is_some x ≡ true → (y : A) × (x ≡ Some y)
-some_of (Some y) is = (y, refl)
-some_of None is = cc
-
-none_of : {A : Type 0} (x : Option A) → is_some x ≡ false → x ≡ None
-none_of (Some y) is = cc
-none_of None is = refl
 
 same_some : {A B : Type 0} (f : A → B) (x : Option A) → is_some (option_map f x) ≡ is_some x
 same_some f (Some y) = refl

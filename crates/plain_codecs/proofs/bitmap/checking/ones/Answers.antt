@@ -1,5 +1,4 @@
-use Rattle.std.proofs.Common.{ap, sym, length, get_or, List, ℕ, ◌<◌, arith}
-use Rattle.std.proofs.lemmas.Nat.{ones-le}
+use Rattle.shared_lemmas.proofs.Common.{ap, sym, length, get_or, List, ℕ, ◌<◌, arith, ones-le}
 use Rattle.plain_codecs.proofs.Bitmaps.{none_set, ones_more}
 use Rattle.plain_codecs.proofs.bitmap.checking.ones.Goals as goal
 

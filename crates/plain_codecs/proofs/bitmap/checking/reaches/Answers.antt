@@ -1,5 +1,4 @@
-use Rattle.std.proofs.Common.{ap, sym, arith}
-use Rattle.std.specs.Prelude.{not}
+use Rattle.shared_lemmas.proofs.Common.{ap, sym, arith, not}
 use Rattle.plain_codecs.proofs.Bitmaps.{unused_clear, unused_test}
 use Rattle.plain_codecs.proofs.bitmap.checking.reaches.Goals as goal
 

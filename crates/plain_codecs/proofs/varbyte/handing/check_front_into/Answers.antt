@@ -1,5 +1,4 @@
-use Rattle.std.proofs.Common.{◌<◌, ◌∙◌, take, Result, Ok, refl}
-use Rattle.std.proofs.lemmas.List.Elements.{All-take}
+use Rattle.shared_lemmas.proofs.Common.{◌<◌, ◌∙◌, take, Result, Ok, refl, All-take}
 use Rattle.jass_base.specs.declared.payload_fault.PayloadFault.{PayloadFault}
 use Rattle.jass_base.specs.Gaps.{Judges}
 use Rattle.jass_base.proofs.Accepting.{checks_into, all_bytes}

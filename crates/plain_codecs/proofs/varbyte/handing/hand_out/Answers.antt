@@ -1,21 +1,22 @@
-use Rattle.std.proofs.Common.{◌≡◌, refl, arith}
+use Rattle.std.proofs.Common.{◌≡◌, refl, arith, Err, rules}
 use Rattle.plain_codecs.proofs.Handing.{one_handed, none_there, one_above, more_there, all_handed}
 use Rattle.plain_codecs.proofs.varbyte.handing.hand_out.Goals as goal
 
 pub docs-preserved : goal.docs-preserved
 docs-preserved c =
     one_handed c.args.d c.args.count c.args.bytes.now c.args.out.now c.docs.out c.docs.at c.docs.least c.docs.i c.docs.invariant c.docs-test.true
-    c.in-Ok.read.0 c.in-Ok.read.1 c.requires.room c.in-Ok.ensures.value c.in-Ok.ensures.behind c.in-Ok.ensures.within (omega (arith, c.if-doc-d.false))
+    c.in_ok-gap.gap c.in_ok-gap.next c.requires.room c.in_ok-gap.ensures.value c.in_ok-gap.ensures.behind c.in_ok-gap.ensures.within (omega (arith, c.if-doc-d.false))
 
-pub returns-in-Err-clause-judged : goal.returns-in-Err-clause-judged
-returns-in-Err-clause-judged c =
-    let is = none_there c.args.d c.args.count c.args.bytes.now c.args.out.now c.docs.out c.docs.at c.docs.least c.docs.i c.docs.invariant c.docs-test.true c.in-Err.fault c.in-Err.ensures.fault in
-    rw is refl
+pub returns-in_err-gap-clause-judged : goal.returns-in_err-gap-clause-judged
+returns-in_err-gap-clause-judged c =
+    let is = none_there c.args.d c.args.count c.args.bytes.now c.args.out.now c.docs.out c.docs.at c.docs.least c.docs.i c.docs.invariant c.docs-test.true c.in_err-gap.field-0.0 c.in_err-gap.ensures.fault in
+    let out : c.from_residual.result ≡ Err c.in_err-gap.field-0.0 = search rules in
+    rw (is, out) refl
 
 pub returns-then-doc-d-clause-judged : goal.returns-then-doc-d-clause-judged
 returns-then-doc-d-clause-judged c =
     let is = one_above c.args.d c.args.count c.args.bytes.now c.args.out.now c.docs.out c.docs.at c.docs.least c.docs.i c.docs.invariant c.docs-test.true
-    c.in-Ok.read.0 c.in-Ok.read.1 c.in-Ok.ensures.value c.if-doc-d.true in
+    c.in_ok-gap.gap c.in_ok-gap.next c.in_ok-gap.ensures.value c.if-doc-d.true in
     rw is refl
 
 pub returns-then-at-bytes-clause-judged : goal.returns-then-at-bytes-clause-judged

@@ -1,8 +1,5 @@
-use Rattle.std.proofs.Common.{◌≡◌, ◌<◌, ◌+◌, ◌-◌, ◌∙◌, ℕ, length, take, arith}
-use Rattle.std.specs.Prelude.{nat_lt}
-use Rattle.std.proofs.lemmas.Bool.{and_parts, ltb-true}
-use Rattle.std.proofs.lemmas.Bool.Decides.{nat_tests}
-use Rattle.std.proofs.lemmas.List.{length-set, length-take-le}
+use Rattle.shared_lemmas.proofs.Common.{◌≡◌, ◌<◌, ◌+◌, ◌-◌, ◌∙◌, ℕ, length, take, arith, nat_lt, and_parts, ltb-true, nat_tests, length-take-le}
+use Rattle.std.proofs.lemmas.List.{length-set}
 use Rattle.plain_codecs.proofs.Handing.{one_handed, all_handed}
 use Rattle.plain_codecs.proofs.varbyte.handing.hand_out_short.Goals as goal
 

@@ -1,6 +1,4 @@
-use Rattle.std.proofs.Common.{◌+◌, ◌/◌, ◌%◌, ◌*◌, ◌&&◌, ℕ, bit_and, refl, arith}
-use Rattle.std.specs.Prelude.{nat_le, nat_lt}
-use Rattle.std.proofs.lemmas.Bool.{and_parts, leb-true, ltb-true}
+use Rattle.shared_lemmas.proofs.Common.{◌+◌, ◌/◌, ◌%◌, ◌*◌, ◌&&◌, ℕ, bit_and, refl, arith, nat_le, nat_lt, and_parts, leb-true, ltb-true}
 use Rattle.plain_codecs.proofs.ShortGaps.{short_read}
 use Rattle.plain_codecs.proofs.varbyte.short.short_gap.Goals as goal
 

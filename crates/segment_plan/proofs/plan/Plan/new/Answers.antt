@@ -1,9 +1,9 @@
-use Rattle.std.proofs.Common.{rules, ◌≤◌, ◌∙◌, List, sym, subst, arith, length}
-use Rattle.std.proofs.lemmas.List.Elements.{All-from_recursion}
+use Rattle.shared_lemmas.proofs.Common.{rules, ◌≤◌, ◌∙◌, List, sym, subst, arith, length, All-from_recursion}
 use Rattle.segment_plan.specs.declared.entry.PlanHead.{PlanHead}
 use Rattle.segment_plan.proofs.Counting.{none}
 use Rattle.segment_plan.specs.declared.entry.PlanEntry.{PlanEntry}
-use Rattle.segment_plan.specs.Tables.{AreLight, AreSums, AreBoundsFrom}
+use Rattle.segment_plan.specs.Private.Tables.{AreSums, AreBoundsFrom}
+use Rattle.segment_plan.specs.Private.Arranging.{AreLight}
 use Rattle.segment_plan.proofs.Arranged.{arranged_few, light_sorted}
 use Rattle.segment_plan.proofs.plan.Plan.new.Goals as goal
 

@@ -1,7 +1,6 @@
 -- The line is read, and its command answered.
 use Rattle.std.proofs.Common.{◌≡◌, ◌+◌, ◌↔◌, IfOk, IsTrue, Option, subst}
-use Rattle.jass_base.specs.declared.faults.WriteFault.{WriteFault}
-use Rattle.gathered_text.specs.Gathering.{Gathers}
+use Rattle.session_desk.proofs.Below.{WriteFault, Gathers}
 use Rattle.session_desk.specs.declared.went.Went.{Went}
 use Rattle.session_desk.specs.declared.went.Went.TheVariants.{End, NoMemory}
 use Rattle.session_desk.specs.Endings.{left_where, may_take_memory, may_want_memory, text_where}
@@ -28,8 +27,7 @@ returns-clause-after g c =
 
 pub returns-clause-steps : goal.returns-clause-steps
 unfolding desk_steps
-returns-clause-steps g c =
-    subst (λ (v : DeskView). c.answer.new.steps ≡ c.args.steps.now + desk_steps v.file v.state c.args.line.now) c.self.view_is
+returns-clause-steps g c = subst (λ (v : DeskView). c.answer.new.steps ≡ c.args.steps.now + desk_steps v.file v.state c.args.line.now) c.self.view_is
     (subst (λ (o : Option DeskCommand). c.answer.new.steps ≡ c.args.steps.now + steps_of c.self.inside.index (state_of c.self.inside.table) o) c.read_command-command.ensures.command c.answer.ensures.steps)
 
 pub returns-clause-end : goal.returns-clause-end

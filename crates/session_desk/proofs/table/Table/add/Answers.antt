@@ -1,17 +1,12 @@
 -- A session of the query stands behind the others.
-use Rattle.std.proofs.Common.{◌≡◌, ◌+◌, ◌∙◌, ap, length, refl, subst, sym, arith}
-use Rattle.std.specs.List.{AllByRecursion}
-use Rattle.jass_base.specs.declared.query.Query.{Query}
+use Rattle.shared_lemmas.proofs.Common.{◌≡◌, ◌+◌, ◌∙◌, ap, length, refl, subst, sym, arith, AllByRecursion}
+use Rattle.session_desk.proofs.Below.{Query, IsInUse, Promises, spare_of, query_data, need_of, chain_of, Session}
 use Rattle.shared_lemmas.proofs.Lists.{all_weaker}
-use Rattle.frame_pool.specs.Pool.{IsInUse, Promises, spare_of}
-use Rattle.query_reader.specs.Queries.{query_data}
 use Rattle.ranking_model.specs.Search.{query_data as plain_data}
-use Rattle.session_engine.specs.Plans.{need_of}
-use Rattle.session_engine.specs.Standing.{chain_of}
-use Rattle.session_engine.specs.declared.session.Session.{Session}
-use Rattle.session_desk.specs.Standing.{SessionsStand, entries_of, entry_of, state_of}
+use Rattle.session_desk.specs.Standing.{sessions_data, session_data, state_of}
+use Rattle.session_desk.specs.Private.Standing.{SessionsStand}
 use Rattle.session_desk.proofs.Granting.{state_shown}
-use Rattle.session_desk.proofs.Joining.{entry_for, joined_shows, number_free, opened_so, spare_seen}
+use Rattle.session_desk.proofs.Joining.{session_for, joined_shows, number_free, opened_so, spare_seen}
 use Rattle.session_desk.proofs.Placing.{HasOtherName}
 use Rattle.session_desk.proofs.Seating.{Stands, all_stand}
 use Rattle.session_desk.proofs.table.Table.add.Goals as goal
@@ -21,11 +16,8 @@ open-requires-clause-chain c = number_free c.args.index.now c.args.self.now.pool
 
 pub returns-in-Ok-clause-stands : goal.returns-in-Ok-clause-stands
 returns-in-Ok-clause-stands c =
-    let file = c.args.index.now in
-    let old = c.args.self.now.pool in
-    let items = c.args.self.now.sessions.items in
-    let s = c.in-Ok.session in
-    let opened = c.in-Ok.ensures in
+    let file = c.args.index.now in let old = c.args.self.now.pool in let items = c.args.self.now.sessions.items in
+    let s = c.in-Ok.session in let opened = c.in-Ok.ensures in
     let same : s.query ≡ c.args.query = opened.query in
     let used = all_weaker (Stands file old) (λ (t : Session). IsInUse old (chain_of t)) (λ t stands. c.a_standing_session_has_its_chain.ensures.in_use t file old stands) items c.requires.stands.sessions.each in
     let promised = subst (λ (q : Query). Promises old c.open.new.pool (chain_of s) (need_of file q.terms)) (sym same) opened.promised in
@@ -39,15 +31,12 @@ returns-in-Ok-clause-stands c =
 
 pub returns-in-Ok-clause-opens : goal.returns-in-Ok-clause-opens
 returns-in-Ok-clause-opens c =
-    let file = c.args.index.now in
-    let old = c.args.self.now.pool in
-    let items = c.args.self.now.sessions.items in
-    let s = c.in-Ok.session in
-    let opened = c.in-Ok.ensures in
+    let file = c.args.index.now in let old = c.args.self.now.pool in let items = c.args.self.now.sessions.items in
+    let s = c.in-Ok.session in let opened = c.in-Ok.ensures in
     let before = spare_seen file old items c.requires.stands.sessions ∙ sym c.spare-before.ensures.spare in
     let paid : c.spare.result + need_of file c.args.query.terms ≡ c.spare-before.result = omega (arith, opened.spare, c.spare.ensures.spare, c.spare-before.ensures.spare) in
-    let entry : entry_of s ≡ entry_for (query_data c.args.query) c.args.k = λ i. record { query = plain_data (opened.query i); k = opened.k i; granted = opened.granted i } in (
+    let session : session_data s ≡ session_for (query_data c.args.query) c.args.k = λ i. record { query = plain_data (opened.query i); k = opened.k i; granted = opened.granted i } in (
       opened_so file (state_of c.args.self.now) c.args.k c.spare-before.result c.spare.result (query_data c.args.query) before paid,
-      state_shown _ _ _ _ (ap entries_of c.push_reserved.ensures.items) (ap length opened.promised.frames)
-          ∙ joined_shows file items s c.args.k (length old.frames) (length old.frames) c.spare-before.result c.spare.result (query_data c.args.query) before paid entry refl,
+      state_shown _ _ _ _ (ap sessions_data c.push_reserved.ensures.items) (ap length opened.promised.frames)
+          ∙ joined_shows file items s c.args.k (length old.frames) (length old.frames) c.spare-before.result c.spare.result (query_data c.args.query) before paid session refl,
     )

@@ -1,12 +1,6 @@
 -- A name and room are judged, and then mentions.
-use Rattle.std.proofs.Common.{◌∙◌, ℕ, List, Ok, Err, Result, ap, refl, subst, sym}
-use Rattle.std.specs.List.{AllByRecursion}
-use Rattle.index_file.specs.Places.{texts_of}
-use Rattle.query_reader.specs.Queries.{query_data}
-use Rattle.query_reader.specs.Reading.{read_mentions}
-use Rattle.query_reader.specs.Slices.{blank_runs}
-use Rattle.query_reader.specs.Texts.{mentions_of}
-use Rattle.query_reader.specs.declared.mode.Mode.TheVariants.{Plain}
+use Rattle.shared_lemmas.proofs.Common.{◌∙◌, ℕ, List, Ok, Err, Result, ap, refl, subst, sym, AllByRecursion}
+use Rattle.session_desk.proofs.Below.{texts_of, query_data, read_mentions, mentions_of, blank_runs, Plain}
 use Rattle.session_desk.specs.declared.refusal.DeskRefusal.{DeskRefusal}
 use Rattle.session_desk.specs.declared.opening.SessionFault.{SessionFault}
 use Rattle.session_desk.specs.Private.Opening.{Opens}
@@ -28,9 +22,7 @@ add-requires-clause-others c =
 
 pub returns-in-Ok-clause-opens : goal.returns-in-Ok-clause-opens
 returns-in-Ok-clause-opens c =
-    let file = c.args.index.now in
-    let state = state_of c.args.self.now in
-    let name = c.args.name.now in
+    let file = c.args.index.now in let state = state_of c.args.self.now in let name = c.args.name.now in
     let read = read_so _ _ c.in-Ok.ensures.query in
     let named = read_name (texts_of file.index.terms) name (mentions_of Plain c.args.mentions.now) (query_data c.in-Ok.query) read in
     let found = then_fits file state name c.args.k (blank_runs c.args.mentions.now) (sym c.in-None.ensures.refusal)
@@ -40,9 +32,7 @@ returns-in-Ok-clause-opens c =
 
 pub returns-in-Err-clause-opens : goal.returns-in-Err-clause-opens
 returns-in-Err-clause-opens c =
-    let file = c.args.index.now in
-    let state = state_of c.args.self.now in
-    let name = c.args.name.now in
+    let file = c.args.index.now in let state = state_of c.args.self.now in let name = c.args.name.now in
     let found = then_fits file state name c.args.k (blank_runs c.args.mentions.now) (sym c.in-None.ensures.refusal)
     ∙ ap (λ ms. fitting file state c.args.k (read_mentions (texts_of file.index.terms) name ms)) (sym (plain_so c.args.mentions.now)) in
     subst (λ (fault : SessionFault). Opens file (opening file state name c.args.k (blank_runs c.args.mentions.now)) name state state (Err fault)) (sym c.session_fault.ensures)

@@ -1,8 +1,7 @@
 -- No session before this place has the name.
-use Rattle.std.proofs.Common.{◌≢◌, take}
-use Rattle.std.specs.List.{AllByRecursion}
+use Rattle.shared_lemmas.proofs.Common.{◌≢◌, take, AllByRecursion}
 use Rattle.session_engine.specs.declared.session.Session.{Session}
-use Rattle.session_desk.specs.Standing.{name_of}
+use Rattle.session_desk.specs.Private.Standing.{name_of}
 use Rattle.session_desk.proofs.table.Table.place_of.Given as goal
 
 abbrev pub invariant-loop-place : goal.invariant-loop-place

@@ -1,17 +1,12 @@
 use Rattle.std.proofs.Common.{◌∙◌, ◌≤◌, ap, sym, subst, length, arith, replicate}
-use Rattle.frame_pool.specs.ChainView.{chain_view}
-use Rattle.ranking_model.specs.Plan.{size_of_first}
-use Rattle.ranking_model.specs.Postings.{AreTerms}
-use Rattle.segment_plan.specs.Shape.{HasShape}
-use Rattle.segment_plan.specs.Entries.{PlanView}
+use Rattle.session_engine.proofs.Below.{chain_view, size_of_first, AreTerms, HasShape, PlanView}
 use Rattle.session_engine.specs.Plans.{session_plan}
 use Rattle.session_engine.proofs.First.{given_back}
 use Rattle.session_engine.proofs.session.Session.open.Goals as goal
 
 pub returns-in-Ok-new-clause-stands : goal.returns-in-Ok-new-clause-stands
 returns-in-Ok-new-clause-stands c =
-    let file = c.args.index.now in
-    let terms = c.args.query.terms in
+    let file = c.args.index.now in let terms = c.args.query.terms in
     let are : AreTerms c.args.query.terms = record { few = c.args.query.few; named = c.args.query.named; differ = c.args.query.differ } in
     let made = c.in-Ok-new.ensures in
     let view = ap (chain_view c.promise.new.self) made.chain ∙ c.in-Ok-promise.ensures.view in

@@ -6,8 +6,7 @@ use Rattle.session_scores.proofs.Same.{inside_now, noted_after, one_fits, one_no
 use Rattle.session_scores.proofs.scores.Scores.add.Goals as goal
 
 pub add-score-requires-clause-fits : goal.add-score-requires-clause-fits
-add-score-requires-clause-fits c =
-    one_fits c.args.w c.args.doc _ _ _ (ap (λ (p : Pages). pages_scores p c.args.pool.now) c.make_room.ensures.pages)
+add-score-requires-clause-fits c = one_fits c.args.w c.args.doc _ _ _ (ap (λ (p : Pages). pages_scores p c.args.pool.now) c.make_room.ensures.pages)
     (length-values (λ x. x.scores) c.args.self.now.pages.docs (own_view c.args.self.now.pages c.args.pool.now)) c.requires.inside c.requires.fits
 
 pub add-score-requires-clause-frame : goal.add-score-requires-clause-frame
@@ -18,9 +17,7 @@ add-score-requires-clause-frame c =
 
 pub returns-clause-stand : goal.returns-clause-stand
 returns-clause-stand c =
-    let stand = c.make_room.ensures.stand in
-    let s = c.make_room.new.self in
-    let scores : List ℕ = pages_scores s.pages c.args.pool.now in
+    let stand = c.make_room.ensures.stand in let s = c.make_room.new.self in let scores : List ℕ = pages_scores s.pages c.args.pool.now in
     let size = length-values (λ x. x.scores) s.pages.docs (own_view s.pages c.args.pool.now) ∙ ap (λ (p : Pages). p.docs) c.make_room.ensures.pages in
     record {
       pages = c.add-score.ensures.stands;

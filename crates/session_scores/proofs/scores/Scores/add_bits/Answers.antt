@@ -9,9 +9,7 @@ use Rattle.session_scores.proofs.scores.Scores.add_bits.Goals as goal
 
 pub returns-clause-stand : goal.returns-clause-stand
 returns-clause-stand c =
-    let stand = c.make_room.ensures.stand in
-    let s = c.make_room.new.self in
-    let scores : List ℕ = pages_scores s.pages c.args.pool.now in
+    let stand = c.make_room.ensures.stand in let s = c.make_room.new.self in let scores : List ℕ = pages_scores s.pages c.args.pool.now in
     let size = length-values (λ x. x.scores) s.pages.docs (own_view s.pages c.args.pool.now) ∙ ap (λ (p : Pages). p.docs) c.make_room.ensures.pages in
     record {
       pages = c.add_bits.ensures.stands;

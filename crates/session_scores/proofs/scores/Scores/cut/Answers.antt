@@ -12,8 +12,7 @@ runner_up_now-next-requires-clause-first c =
 
 pub just_behind-last-requires : goal.just_behind-last-requires
 just_behind-last-requires c =
-    let s = c.args.self.now in
-    let scores : List ℕ = pages_scores s.pages c.args.pool.now in
+    let s = c.args.self.now in let scores : List ℕ = pages_scores s.pages c.args.pool.now in
     next_inside scores s.top.k _ _ c.runner_up_now-next.result (c.the_runner_up_is_a_document.ensures scores s.top.k) c.runner_up_now-next.ensures.next
     (length-values (λ x. x.scores) s.pages.docs (own_view s.pages c.args.pool.now)) c.requires.stand.docs
 
@@ -27,9 +26,7 @@ returns-clause-limit c = omega (arith, c.requires.stand.step, ap (λ (xs : List 
 
 pub returns-clause-stand : goal.returns-clause-stand
 returns-clause-stand c =
-    let s = c.args.self.now in
-    let stand = c.requires.stand in
-    let scores : List ℕ = pages_scores s.pages c.args.pool.now in
+    let s = c.args.self.now in let stand = c.requires.stand in let scores : List ℕ = pages_scores s.pages c.args.pool.now in
     let places : List ℕ = pages_places s.pages c.args.pool.now in
     let cut = c.those_raised_are_noted.ensures.cut s.top s.last scores places s.reached.docs stand.noted in
     let few = few_now s.top.k scores s.reached.docs c.keep_passing.new.self.docs c.just_behind-last.result c.runner_up_now-next.result

@@ -1,5 +1,4 @@
-use Rattle.std.proofs.Common.{List, ℕ, ◌≡◌, ◌∙◌, length, sym, ap, arith}
-use Rattle.std.proofs.lemmas.List.{with_items_is}
+use Rattle.shared_lemmas.proofs.Common.{List, ℕ, ◌≡◌, ◌∙◌, length, sym, ap, arith, with_items_is}
 use Rattle.topk_heap.proofs.Selection.{none_past}
 use Rattle.topk_heap.proofs.candidates.Candidates.select.Goals as goal
 

@@ -1,8 +1,5 @@
-use Rattle.std.proofs.Common.{List, ◌≡◌, ◌∙◌, length, take, sym, ap, arith}
-use Rattle.std.proofs.lemmas.List.{with_items_is}
-use Rattle.jass_base.specs.declared.answer.Hit.{Hit}
-use Rattle.ranking_model.specs.Order.{sorted}
-use Rattle.ranking_model.specs.Scores.{rank_cmp}
+use Rattle.shared_lemmas.proofs.Common.{List, ◌≡◌, ◌∙◌, length, take, sym, ap, arith, with_items_is}
+use Rattle.topk_heap.proofs.Below.{Hit, sorted, rank_cmp}
 use Rattle.topk_heap.proofs.hits.Hits.keep_first.Goals as goal
 
 pub invariant_of-self : goal.invariant_of-self

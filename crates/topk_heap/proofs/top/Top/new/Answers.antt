@@ -1,5 +1,4 @@
-use Rattle.std.proofs.Common.{List, ap}
-use Rattle.std.specs.Prelude.{reverse}
+use Rattle.shared_lemmas.proofs.Common.{List, ap, reverse}
 use Rattle.jass_base.specs.declared.answer.Hit.{Hit}
 use Rattle.topk_heap.proofs.Raised.{empty_stands}
 use Rattle.topk_heap.proofs.top.Top.new.Goals as goal

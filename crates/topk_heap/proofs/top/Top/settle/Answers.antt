@@ -1,48 +1,30 @@
-use Rattle.std.proofs.Common.{◌∙◌, ◌+◌, ℕ, List, length, ap, subst, sym, arith}
-use Rattle.std.proofs.lemmas.List.{length-take}
-use Rattle.jass_base.specs.declared.answer.Hit.{Hit}
-use Rattle.ranking_model.specs.Order.{sorted}
-use Rattle.ranking_model.specs.Scores.{rank_cmp}
-use Rattle.accumulator_pages.specs.Pages.{pages_places, pages_scores}
-use Rattle.topk_heap.specs.Places.{newcomers}
-use Rattle.topk_heap.specs.Standing.{AreInOrder, IsTouched}
+use Rattle.shared_lemmas.proofs.Common.{◌∙◌, ◌+◌, List, length, ap, subst, sym, arith, length-take, All-from_recursion}
+use Rattle.topk_heap.proofs.Below.{Hit, sorted, rank_cmp, pages_scores}
+use Rattle.topk_heap.specs.Standing.{IsTouched}
+use Rattle.topk_heap.specs.Private.Standing.{AreInOrder}
 use Rattle.topk_heap.proofs.Ranking.{first_in_order}
 use Rattle.topk_heap.proofs.Rows.{docs_placed, docs_scored}
-use Rattle.topk_heap.proofs.Lists.{all_index}
 use Rattle.topk_heap.proofs.Settled.{new_are, new_touched, ready, row_touched, some_still, standing_are, stands_settled, within}
 use Rattle.topk_heap.proofs.top.Top.settle.Goals as goal
 
 pub rescore-requires-clause-inside : goal.rescore-requires-clause-inside
 rescore-requires-clause-inside c i d inside =
-    let scores : List ℕ = pages_scores c.args.pages.now c.args.pool.now in
-    let places : List ℕ = pages_places c.args.pages.now c.args.pool.now in
-    let r = ready c.self.inside.k c.self.inside.hits c.self.inside.candidates c.args.self.now scores places c.args.raised.now c.self.view_is c.self.invariant c.requires.placed c.requires.touched c.requires.once c.requires.first in
-    let is = (all_index (λ (h : Hit). IsTouched scores h.doc) c.self.inside.hits.hits r.touched i d inside).0 in
-    within _ _ _ (docs_scored c.args.pages.now c.args.pool.now) is
+    let r = ready c.args.raised.now c.self.view_is c.self.invariant c.requires.placed c.requires.touched c.requires.once c.requires.first in
+    within _ _ _ (docs_scored c.args.pages.now c.args.pool.now) (All-from_recursion (λ (h : Hit). IsTouched (pages_scores c.args.pages.now c.args.pool.now) h.doc) _ r.touched i d inside).0
 
 pub gather-requires-clause-inside : goal.gather-requires-clause-inside
-gather-requires-clause-inside c i d inside =
-    let is = (c.requires.touched i d inside).0 in
-    within _ _ _ (docs_scored c.args.pages.now c.args.pool.now) is
+gather-requires-clause-inside c i d inside = let is = (c.requires.touched i d inside).0 in within _ _ _ (docs_scored c.args.pages.now c.args.pool.now) is
 
 pub clear_places-requires-clause-inside : goal.clear_places-requires-clause-inside
 clear_places-requires-clause-inside c i d inside =
-    let scores : List ℕ = pages_scores c.args.pages.now c.args.pool.now in
-    let places : List ℕ = pages_places c.args.pages.now c.args.pool.now in
-    let r = ready c.self.inside.k c.self.inside.hits c.self.inside.candidates c.args.self.now scores places c.args.raised.now c.self.view_is c.self.invariant c.requires.placed c.requires.touched c.requires.once c.requires.first in
-    let front = standing_are scores c.self.inside.hits.hits c.rescore.new.hits.hits c.gather.new.hits.hits c.as_slice.result.now (newcomers scores places c.args.raised.now) c.len-standing.result
-    c.rescore.ensures.hits c.gather.ensures.hits c.as_slice.ensures c.len-standing.ensures in
-    let is = (row_touched scores c.self.inside.hits.hits _ r.touched front i d inside).0 in
-    within _ _ _ (docs_scored c.args.pages.now c.args.pool.now) is
+    let r = ready c.args.raised.now c.self.view_is c.self.invariant c.requires.placed c.requires.touched c.requires.once c.requires.first in
+    let front = standing_are _ _ _ _ _ _ _ c.rescore.ensures.hits c.gather.ensures.hits c.as_slice.ensures c.len-standing.ensures in
+    within _ _ _ (docs_scored c.args.pages.now c.args.pool.now) (row_touched _ _ _ r.touched front i d inside).0
 
 pub clear_places-requires-clause-touched : goal.clear_places-requires-clause-touched
 clear_places-requires-clause-touched c i d inside =
-    let scores : List ℕ = pages_scores c.args.pages.now c.args.pool.now in
-    let places : List ℕ = pages_places c.args.pages.now c.args.pool.now in
-    let r = ready c.self.inside.k c.self.inside.hits c.self.inside.candidates c.args.self.now scores places c.args.raised.now c.self.view_is c.self.invariant c.requires.placed c.requires.touched c.requires.once c.requires.first in
-    let front = standing_are scores c.self.inside.hits.hits c.rescore.new.hits.hits c.gather.new.hits.hits c.as_slice.result.now (newcomers scores places c.args.raised.now) c.len-standing.result
-    c.rescore.ensures.hits c.gather.ensures.hits c.as_slice.ensures c.len-standing.ensures in
-    (row_touched scores c.self.inside.hits.hits _ r.touched front i d inside).1
+    let r = ready c.args.raised.now c.self.view_is c.self.invariant c.requires.placed c.requires.touched c.requires.once c.requires.first in
+    (row_touched _ _ _ r.touched (standing_are _ _ _ _ _ _ _ c.rescore.ensures.hits c.gather.ensures.hits c.as_slice.ensures c.len-standing.ensures) i d inside).1
 
 pub set_places-requires-clause-few : goal.set_places-requires-clause-few
 set_places-requires-clause-few c =
@@ -52,33 +34,22 @@ set_places-requires-clause-few c =
 
 pub set_places-requires-clause-inside : goal.set_places-requires-clause-inside
 set_places-requires-clause-inside c i d inside =
-    let scores : List ℕ = pages_scores c.args.pages.now c.args.pool.now in
-    let places : List ℕ = pages_places c.args.pages.now c.args.pool.now in
-    let r = ready c.self.inside.k c.self.inside.hits c.self.inside.candidates c.args.self.now scores places c.args.raised.now c.self.view_is c.self.invariant c.requires.placed c.requires.touched c.requires.once c.requires.first in
-    let new = new_are scores places c.args.raised.now c.self.inside.hits.hits c.rescore.new.hits.hits c.gather.new.hits.hits c.keep_first.new.self.hits (c.self.inside.k + 1) r
-    c.rescore.ensures.hits c.gather.ensures.hits c.keep_first.ensures.hits in
-    let is = (new_touched scores c.keep_first.new.self.hits c.as_slice-2.result.now (c.self.inside.k + 1) new c.as_slice-2.ensures i d inside).0 in
-    within _ _ _ (docs_scored c.args.pages.now c.args.pool.now ∙ sym c.clear_places.ensures.keeps.same.docs) is
+    let r = ready c.args.raised.now c.self.view_is c.self.invariant c.requires.placed c.requires.touched c.requires.once c.requires.first in
+    let new = new_are r c.rescore.ensures.hits c.gather.ensures.hits c.keep_first.ensures.hits in
+    within _ _ _ (docs_scored c.args.pages.now c.args.pool.now ∙ sym c.clear_places.ensures.keeps.same.docs) (new_touched _ _ _ _ new c.as_slice-2.ensures i d inside).0
 
 pub set_places-requires-clause-touched : goal.set_places-requires-clause-touched
 set_places-requires-clause-touched c i d inside =
-    let scores : List ℕ = pages_scores c.args.pages.now c.args.pool.now in
-    let places : List ℕ = pages_places c.args.pages.now c.args.pool.now in
-    let r = ready c.self.inside.k c.self.inside.hits c.self.inside.candidates c.args.self.now scores places c.args.raised.now c.self.view_is c.self.invariant c.requires.placed c.requires.touched c.requires.once c.requires.first in
-    let new = new_are scores places c.args.raised.now c.self.inside.hits.hits c.rescore.new.hits.hits c.gather.new.hits.hits c.keep_first.new.self.hits (c.self.inside.k + 1) r
-    c.rescore.ensures.hits c.gather.ensures.hits c.keep_first.ensures.hits in
-    let is = new_touched scores c.keep_first.new.self.hits c.as_slice-2.result.now (c.self.inside.k + 1) new c.as_slice-2.ensures i d inside in
-    some_still _ _ _ c.clear_places.ensures.keeps.scores is.1
+    let r = ready c.args.raised.now c.self.view_is c.self.invariant c.requires.placed c.requires.touched c.requires.once c.requires.first in
+    let new = new_are r c.rescore.ensures.hits c.gather.ensures.hits c.keep_first.ensures.hits in
+    some_still _ _ _ c.clear_places.ensures.keeps.scores (new_touched _ _ _ _ new c.as_slice-2.ensures i d inside).1
 
 pub invariant_of-self : goal.invariant_of-self
 invariant_of-self c =
-    let scores : List ℕ = pages_scores c.args.pages.now c.args.pool.now in
-    let places : List ℕ = pages_places c.args.pages.now c.args.pool.now in
-    let r = ready c.self.inside.k c.self.inside.hits c.self.inside.candidates c.args.self.now scores places c.args.raised.now c.self.view_is c.self.invariant c.requires.placed c.requires.touched c.requires.once c.requires.first in
-    let new = new_are scores places c.args.raised.now c.self.inside.hits.hits c.rescore.new.hits.hits c.gather.new.hits.hits c.keep_first.new.self.hits (c.self.inside.k + 1) r
-    c.rescore.ensures.hits c.gather.ensures.hits c.keep_first.ensures.hits in
+    let r = ready c.args.raised.now c.self.view_is c.self.invariant c.requires.placed c.requires.touched c.requires.once c.requires.first in
+    let new = new_are r c.rescore.ensures.hits c.gather.ensures.hits c.keep_first.ensures.hits in
     record {
-      order = subst AreInOrder (sym new) (first_in_order scores (c.self.inside.k + 1));
+      order = subst AreInOrder (sym new) (first_in_order (pages_scores c.args.pages.now c.args.pool.now) (c.self.inside.k + 1));
       few = omega (arith, ap (λ (xs : List Hit). length xs) c.keep_first.ensures.hits, length-take (c.self.inside.k + 1) (sorted rank_cmp c.gather.new.hits.hits));
       small = c.self.invariant.small;
       room = omega (arith, c.self.invariant.room, c.keep_first.ensures.room, c.gather.ensures.room, c.rescore.ensures.room);
@@ -87,13 +58,9 @@ invariant_of-self c =
 
 pub returns-clause-stands : goal.returns-clause-stands
 returns-clause-stands c =
-    let scores : List ℕ = pages_scores c.args.pages.now c.args.pool.now in
-    let places : List ℕ = pages_places c.args.pages.now c.args.pool.now in
-    let r = ready c.self.inside.k c.self.inside.hits c.self.inside.candidates c.args.self.now scores places c.args.raised.now c.self.view_is c.self.invariant c.requires.placed c.requires.touched c.requires.once c.requires.first in
-    let new = new_are scores places c.args.raised.now c.self.inside.hits.hits c.rescore.new.hits.hits c.gather.new.hits.hits c.keep_first.new.self.hits (c.self.inside.k + 1) r
-    c.rescore.ensures.hits c.gather.ensures.hits c.keep_first.ensures.hits in
-    let front = standing_are scores c.self.inside.hits.hits c.rescore.new.hits.hits c.gather.new.hits.hits c.as_slice.result.now (newcomers scores places c.args.raised.now) c.len-standing.result
-    c.rescore.ensures.hits c.gather.ensures.hits c.as_slice.ensures c.len-standing.ensures in
-    stands_settled c.self.inside.k c.keep_first.new.self scores _ places _ _ c.args.raised.now c.self.inside.hits.hits _ c.as_slice-2.result.now r
+    let r = ready c.args.raised.now c.self.view_is c.self.invariant c.requires.placed c.requires.touched c.requires.once c.requires.first in
+    let new = new_are r c.rescore.ensures.hits c.gather.ensures.hits c.keep_first.ensures.hits in
+    let front = standing_are _ _ _ _ _ _ _ c.rescore.ensures.hits c.gather.ensures.hits c.as_slice.ensures c.len-standing.ensures in
+    stands_settled c.self.inside.k c.keep_first.new.self _ _ _ _ _ _ _ _ _ r
     (docs_placed c.args.pages.now c.args.pool.now ∙ sym (docs_scored c.args.pages.now c.args.pool.now))
     front c.clear_places.ensures.places new c.as_slice-2.ensures c.set_places.ensures.places (c.set_places.ensures.keeps.scores ∙ c.clear_places.ensures.keeps.scores)

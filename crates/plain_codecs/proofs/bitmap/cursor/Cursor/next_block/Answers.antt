@@ -1,5 +1,4 @@
-use Rattle.std.proofs.Common.{◌≤◌, length, refl, ap, arith}
-use Rattle.std.proofs.lemmas.List.{length-take}
+use Rattle.shared_lemmas.proofs.Common.{◌≤◌, length, refl, ap, arith, length-take}
 use Rattle.plain_codecs.proofs.BitmapCursors.{block, rest, skipped, not_end, at_end}
 use Rattle.plain_codecs.proofs.bitmap.cursor.Cursor.next_block.Goals as goal
 

@@ -7,7 +7,7 @@ use Rattle.index_layout.specs.Heads.{HeadData, TermHeads}
 use Rattle.index_layout.specs.Reading.{docs_in}
 use Rattle.index_file.specs.declared.segment.Segment.{Segment}
 use Rattle.index_file.specs.declared.term_row.TermRow.{TermRow}
-use Rattle.index_file.specs.Tables.{row_head, HasHead}
+use Rattle.index_file.specs.Private.Tables.{row_head, HasHead}
 
 -- the segment of a row
 unfoldable pub row_segment : List ℕ → ℕ → Segment → SegmentData

@@ -4,6 +4,7 @@ use Rattle.std.specs.List.{AllByRecursion}
 use Rattle.frame_pool.specs.Frames.{Frame}
 use Rattle.frame_pool.specs.declared.lease.Lease.{Lease}
 use Rattle.frame_pool.specs.Links.{blank, link_of, no_frame, page_of, walk}
+use Rattle.jass_base.specs.declared.limits.TheConstants.{MOST_FRAMES}
 
 -- the walk ends at this frame, which has no frame behind it; where there is no frame, none is first
 abbrev pub Ends : (ℕ → ℕ) → ℕ → ℕ → ℕ → Type 0
@@ -48,7 +49,7 @@ pub record Kept (n : ℕ) (next page : ℕ → ℕ) (free : ℕ) (leases : List 
   pub each : (c : ℕ) → EachKept n next page owner c (slice_index_or leases c None)
   pub promised_is : promised ≡ sum_by promised_to leases
   pub fits : promised ≤ n
-  pub small : n ≤ 1048576
+  pub small : n ≤ MOST_FRAMES
   pub few : length leases ≤ 1024
 
 -- a frame has 256 slots

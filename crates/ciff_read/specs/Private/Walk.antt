@@ -1,0 +1,71 @@
+-- What the giving of a piece leaves of a walk, and what it gives of a content.
+use Rattle.std.specs.Prelude.{ℕ, ◌≡◌, ◌<◌, ◌≤◌, List, length, drop, All, Option, Result}
+use Rattle.std.specs.List.Sorted.{IsStrictlyIncreasing}
+use Rattle.jass_base.specs.CiffViews.{list_data, doc_data}
+use Rattle.jass_base.specs.Outside.{Files, ForContent}
+use Rattle.ciff_read.specs.declared.refusal.CiffFault.{CiffFault}
+use Rattle.ciff_read.specs.Pieces.{KeptList, list_of_file, postings_kept, terms_kept, places_kept, EndPiece, doc_of_file}
+use Rattle.jass_base.specs.declared.postings_list.PostingsList.{PostingsList}
+use Rattle.jass_base.specs.declared.doc_record.DocRecord.{DocRecord}
+use Rattle.ciff_read.specs.Private.Reached.{GivesReading, MarksOf}
+use Rattle.ciff_read.specs.Reading.{at_end}
+use Rattle.ciff_read.specs.Window.{AreFrom}
+use Rattle.jass_base.specs.declared.limits.TheConstants.{LONGEST_FILE, MOST_DOCUMENTS, MOST_POSTINGS, MOST_TERMS}
+use Rattle.ciff_read.specs.Walk.{WalkView}
+
+-- the ranges of a walk, of its parts
+pub record IsInRange (lists docs at given postings : ℕ) (kept : List KeptList) : Type 0 where
+  pub few_lists : lists ≤ MOST_TERMS
+  pub few_docs : docs ≤ MOST_DOCUMENTS
+  pub counted : postings ≡ postings_kept kept
+  pub few_postings : postings ≤ MOST_POSTINGS
+  pub lists_given : length kept ≤ lists
+  pub docs_given : given ≤ docs
+  pub near : at ≤ LONGEST_FILE
+  pub rising : IsStrictlyIncreasing (places_kept kept)
+  pub before : All (λ (k : KeptList). k.at < at) kept
+
+-- what the giving of a message leaves
+pub record LeavesOthers (old new : WalkView) : Type 0 where
+  pub name : new.name ≡ old.name
+  pub header : new.header ≡ old.header
+  pub lists : new.lists ≡ old.lists
+  pub docs : new.docs ≡ old.docs
+  pub marks : new.marks ≡ old.marks
+  pub given : new.given ≡ old.given
+  pub answered : new.answered ≡ old.answered
+
+-- the list that was given is the one at the walk's place, and the walk stands behind it
+abbrev pub ListGiven : Option Files → WalkView → WalkView → Result PostingsList CiffFault → Type 0
+ListGiven files old new result =
+    ForContent files old.name (λ content. AreFrom content old.start old.bytes → GivesReading (λ (list : PostingsList). record { list = list_data list; end = new.at }) result (list_of_file content old.docs (postings_kept old.kept) (terms_kept old.kept) old.at))
+
+-- what is held of a content stays so
+abbrev pub StaysHeld : Option Files → WalkView → WalkView → Type 0
+StaysHeld files old new = ForContent files old.name (λ content. AreFrom content old.start old.bytes → AreFrom content new.start new.bytes)
+
+-- what the giving of a document leaves, and the end of a file
+pub record LeavesLists (old new : WalkView) : Type 0 where
+  pub name : new.name ≡ old.name
+  pub header : new.header ≡ old.header
+  pub lists : new.lists ≡ old.lists
+  pub docs : new.docs ≡ old.docs
+  pub kept : new.kept ≡ old.kept
+  pub answered : new.answered ≡ old.answered
+
+-- what the end of a file leaves beside that
+pub record LeavesPlace (old new : WalkView) : Type 0 where
+  pub at : new.at ≡ old.at
+  pub marks : new.marks ≡ old.marks
+  pub given : new.given ≡ old.given
+
+-- the document that was given is the one at the walk's place, and the walk stands behind it
+abbrev pub DocGiven : Option Files → WalkView → WalkView → Result (ℕ × DocRecord) CiffFault → Type 0
+DocGiven files old new result =
+    ForContent files old.name (λ content. AreFrom content old.start old.bytes → (numbers : List ℕ) → MarksOf old.marks numbers
+    → GivesReading (λ (x : ℕ × DocRecord). record { doc = record { number = x.0; doc = doc_data x.1 }; end = new.at }) result (doc_of_file content old.docs numbers old.at))
+
+-- nothing is left behind the walk's place
+abbrev pub EndGiven : Option Files → WalkView → Result Unit CiffFault → Type 0
+EndGiven files old result =
+    ForContent files old.name (λ content. AreFrom content old.start old.bytes → GivesReading (λ u. EndPiece) result (at_end old.at (drop old.at content) EndPiece))
