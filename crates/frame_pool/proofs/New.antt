@@ -5,7 +5,8 @@ use Rattle.shared_lemmas.proofs.Lists.{all_weaker}
 use Rattle.frame_pool.specs.declared.lease.Lease.{Lease}
 use Rattle.frame_pool.specs.Frames.{Frame}
 use Rattle.frame_pool.specs.Pool.{ChainEntry, IsUnused}
-use Rattle.frame_pool.specs.Links.{walk, blank, link_of, page_of, frame_content, chain_entry, view_of, free_frame}
+use Rattle.frame_pool.specs.Links.{walk, blank, link_of, frame_content, chain_entry, view_of, free_frame}
+use Rattle.frame_pool.specs.Private.Links.{page_of}
 use Rattle.frame_pool.specs.Private.Kept.{Distinct, EachKept, PoolKept, IsSized, taken_by, promised_to}
 use Rattle.shared_lemmas.proofs.Places.{same_there}
 

@@ -7,7 +7,8 @@ use Rattle.frame_pool.specs.Frames.{Frame}
 use Rattle.frame_pool.specs.Pool.{PoolView, ChainEntry, IsInUse, HasFrame, chain_of, number_after}
 use Rattle.shared_lemmas.proofs.Lists.{all_weaker}
 use Rattle.frame_pool.specs.ChainView.{chain_view, held_frame}
-use Rattle.frame_pool.specs.Links.{walk, link_of, page_of, view_of}
+use Rattle.frame_pool.specs.Links.{walk, link_of, view_of}
+use Rattle.frame_pool.specs.Private.Links.{page_of}
 use Rattle.frame_pool.specs.Private.Kept.{Ends, Distinct, LeaseKept, PoolKept}
 use Rattle.frame_pool.proofs.Walks.{length-walk}
 use Rattle.frame_pool.proofs.Leases.{lease_kept}

@@ -8,7 +8,8 @@ use Rattle.frame_pool.specs.Frames.{Frame}
 use Rattle.frame_pool.specs.Pool.{PoolView, ChainEntry, FrameContent, cleared, content_of, chain_of, IsInUse, HasFrame, IsFree, promise_of, promised, spare_of, with_first, Promises}
 use Rattle.frame_pool.specs.Sound.{IsSound}
 use Rattle.frame_pool.specs.ChainView.{HasPage, number_with_page, frame_with_page, ChainView, HeldFrame, chain_view, held_frame, LacksPage, with_first_held, view_values, LeavesOthers, LeavesPool}
-use Rattle.frame_pool.specs.Links.{walk, blank, link_of, page_of, frame_content, chain_entry, view_of}
+use Rattle.frame_pool.specs.Links.{walk, blank, link_of, frame_content, chain_entry, view_of}
+use Rattle.frame_pool.specs.Private.Links.{page_of}
 use Rattle.frame_pool.specs.Private.Leases.{grown, relinked, relinked_first}
 use Rattle.frame_pool.specs.Private.Kept.{Ends, Belong, LeaseKept, Kept, PoolKept, taken_by}
 use Rattle.frame_pool.proofs.Walks.{length-walk, at_end}

@@ -7,7 +7,8 @@ use Rattle.frame_pool.specs.Frames.{Frame}
 use Rattle.frame_pool.specs.Pool.{PoolView, ChainEntry, FrameContent, content_of, chain_of, IsInUse, HasFrame, promise_of}
 use Rattle.frame_pool.specs.ChainView.{IsTaken}
 use Rattle.frame_pool.specs.Sound.{IsSound}
-use Rattle.frame_pool.specs.Links.{walk, blank, link_of, page_of, frame_content, chain_entry, view_of}
+use Rattle.frame_pool.specs.Links.{walk, blank, link_of, frame_content, chain_entry, view_of}
+use Rattle.frame_pool.specs.Private.Links.{page_of}
 use Rattle.frame_pool.specs.Private.Kept.{Distinct, EachKept, Kept, PoolKept, taken_by, promised_to, IsSized}
 use Rattle.shared_lemmas.proofs.Lists.{all_weaker}
 use Rattle.frame_pool.proofs.Walks.{length-walk, walk-same, not_in}

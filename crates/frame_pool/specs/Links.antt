@@ -8,14 +8,6 @@ use Rattle.frame_pool.specs.Pool.{FrameContent, ChainEntry, PoolView}
 abbrev pub link_of : List Frame → ℕ → ℕ
 link_of frames f = (slice_index_or frames f blank).next
 
--- the page of a frame
-abbrev pub page_of : List Frame → ℕ → ℕ
-page_of frames f = (slice_index_or frames f blank).page
-
--- the number that is linked behind the last frame of a list
-abbrev pub no_frame : ℕ
-no_frame = 4294967295
-
 -- so many frames along the links
 abbrev pub walk : (ℕ → ℕ) → ℕ → ℕ → List ℕ
 walk next zero f = []

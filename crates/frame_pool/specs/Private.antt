@@ -3,3 +3,4 @@ pub mod Tables
 pub mod Lending
 pub mod Leases
 pub mod Kept
+pub mod Links

@@ -1,5 +1,5 @@
 ghost use Rattle.std.specs.Prelude.{◌≡◌, ◌<◌, length, position, is_none};
-ghost use Rattle.frame_pool.specs.Links.{no_frame};
+ghost use Rattle.frame_pool.specs.Private.Links.{no_frame};
 ghost use Rattle.frame_pool.specs.Private.Leases.{grown, relinked, relinked_first};
 
 use crate::store::FrameStore;

@@ -3,7 +3,8 @@ use Rattle.std.specs.Prelude.{◌≡◌, ◌≢◌, ℕ, ◌+◌, ◌-◌, ◌<�
 use Rattle.std.specs.List.{AllByRecursion}
 use Rattle.frame_pool.specs.Frames.{Frame}
 use Rattle.frame_pool.specs.declared.lease.Lease.{Lease}
-use Rattle.frame_pool.specs.Links.{blank, link_of, no_frame, page_of, walk}
+use Rattle.frame_pool.specs.Links.{blank, link_of, walk}
+use Rattle.frame_pool.specs.Private.Links.{no_frame, page_of}
 use Rattle.jass_base.specs.declared.limits.TheConstants.{MOST_FRAMES}
 
 -- the walk ends at this frame, which has no frame behind it; where there is no frame, none is first
