@@ -26,6 +26,7 @@ pub mod WireLaws
 pub mod VarintFront
 pub mod FrontLaws
 pub mod Told
+pub mod UsualWords
 pub mod Windows
 pub mod HeldMessages
 pub mod HeldFiles

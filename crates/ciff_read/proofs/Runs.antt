@@ -83,10 +83,8 @@ walks_behind bytes from at next start old now l run docs before w =
 
 -- ---- a run while its postings are in hand
 
--- the rest of the bytes behind a run, and the postings with those of the run
-pub record InHand (bytes : List ℕ) (from docs before last : ℕ) (start : Result (List Posting) CiffRefusal) (rest : List ℕ) (ps : List Posting) : Type 0 where
-  pub at : ℕ
-  pub rest_is : rest ≡ drop at bytes
+-- the postings up to a place with those of the run before it
+pub record InHand (bytes : List ℕ) (from at docs before last : ℕ) (start : Result (List Posting) CiffRefusal) (ps : List Posting) : Type 0 where
   pub entries : List PlacedEntry
   pub run : IsRun bytes from entries at
   pub forward : from ≤ at
@@ -94,29 +92,16 @@ pub record InHand (bytes : List ℕ) (from docs before last : ℕ) (start : Resu
   pub gathered : Ok ps ≡ fold (gather docs before) start entries
   pub kept : AreKept docs before last ps
 
--- a posting at the front of the rest
-there : (bytes rest : List ℕ) (at size : ℕ) (entry : PostingFields) → at ≤ length bytes → rest ≡ drop at bytes → IsPosting rest 0 entry size → IsPosting bytes at entry (at + size)
-there bytes rest at size entry within is p = let q = subst (λ (s : List ℕ). IsPosting s 0 entry size) is p in record {
-  body = q.body;
-  read = q.read ∙ ap (λ (s : List ℕ). Ok (record { number = 4; value = Text q.body }, s)) (drop-drop size at bytes);
-  spells = q.spells;
-  before = omega (arith, q.before);
-  within = omega (arith, q.within, length-drop at bytes, within);
-}
-
-pub next_in_hand : (bytes : List ℕ) (from docs before last size : ℕ) (start : Result (List Posting) CiffRefusal) (rest later : List ℕ) (ps now : List Posting) (entry : PostingFields) (p : Posting) → InHand bytes from docs before last start rest ps
-    → Passes docs before last ps entry p → IsPosting rest 0 entry size → later ≡ drop size rest → now ≡ ps ++ p ∷ [] → InHand bytes from docs before p.doc start later now
-next_in_hand bytes from docs before last size start rest later ps now entry p h passes posting later_is now_is =
-    let x : PlacedEntry = record { at = h.at; entry = entry } in
-    let q = there bytes rest h.at size entry h.within h.rest_is posting in
-    let more = gathers_usual docs before last ps entry p h.kept passes h.at in
+pub next_in_hand : (bytes : List ℕ) (from at next docs before last : ℕ) (start : Result (List Posting) CiffRefusal) (ps now : List Posting) (entry : PostingFields) (p : Posting) → InHand bytes from at docs before last start ps
+    → Passes docs before last ps entry p → IsPosting bytes at entry next → now ≡ ps ++ p ∷ [] → InHand bytes from next docs before p.doc start now
+next_in_hand bytes from at next docs before last start ps now entry p h passes posting now_is =
+    let x : PlacedEntry = record { at = at; entry = entry } in
+    let more = gathers_usual docs before last ps entry p h.kept passes at in
     record {
-      at = h.at + size;
-      rest_is = later_is ∙ ap (λ (s : List ℕ). drop size s) h.rest_is ∙ drop-drop size h.at bytes;
       entries = h.entries ++ x ∷ [];
-      run = run-snoc bytes from h.at (h.at + size) h.entries entry h.run q;
-      forward = omega (arith, h.forward);
-      within = q.within;
+      run = run-snoc bytes from at next h.entries entry h.run posting;
+      forward = omega (arith, h.forward, posting.before);
+      within = posting.within;
       gathered = gathers_more docs before start (Ok ps) (Ok now) h.entries (x ∷ []) h.gathered (ap (λ (qs : List Posting). Ok qs) now_is ∙ sym more);
       kept = subst (AreKept docs before p.doc) (sym now_is) (kept_usual docs before last ps entry p h.kept passes);
     }

@@ -115,80 +115,9 @@ wider (a ∷ b ∷ c ∷ g ∷ h ∷ i ∷ e ∷ t ∷ rest) docid tf size tag l
   within = omega (arith, size);
 }
 
--- a gap whose first bytes are x, y and z, in a body of so many bytes
-abbrev pub OneByte : ℕ → ℕ → ℕ → Type 0
-OneByte x size docid = (x < 128) × (size ≡ 4) × (docid ≡ x)
-
-abbrev pub TwoBytes : ℕ → ℕ → ℕ → ℕ → Type 0
-TwoBytes x y size docid = (128 ≤ x) × (y < 128) × (size ≡ 5) × (docid ≡ x % 128 + 128 * y)
-
-abbrev pub ThreeBytes : ℕ → ℕ → ℕ → ℕ → ℕ → Type 0
-ThreeBytes x y z size docid = (128 ≤ x) × (128 ≤ y) × (size ≡ 6) × (docid ≡ x % 128 + 128 * (y % 128) + 16384 * (z % 128))
-
-pub gap_is : (x y z a b size docid : ℕ) → x < 256 → y < 256 → a ≡ x / 128 → b ≡ y / 128 → size ≡ 4 + a + a * b → docid ≡ x % 128 + a * (128 * (y % 128)) + a * b * (16384 * (z % 128))
-    → OneByte x size docid ⊎ (TwoBytes x y size docid ⊎ ThreeBytes x y z size docid)
-gap_is x y z a b size docid byte next a_is b_is size_is docid_is =
-    elim (cases_lt x 128) [
-      | inl low ↦
-          let none : a ≡ 0 = omega (arith, a_is) in
-          let size_one = subst (λ n. size ≡ 4 + n + n * b) none size_is in
-          let docid_one = subst (λ n. docid ≡ x % 128 + n * (128 * (y % 128)) + n * b * (16384 * (z % 128))) none docid_is in
-          inl (low, omega (arith, size_one), omega (arith, docid_one))
-      | inr high ↦
-          let some : a ≡ 1 = omega (arith, a_is) in
-          let size_more = subst (λ n. size ≡ 4 + n + n * b) some size_is in
-          let docid_more = subst (λ n. docid ≡ x % 128 + n * (128 * (y % 128)) + n * b * (16384 * (z % 128))) some docid_is in
-          inr (elim (cases_lt y 128) [
-            | inl low ↦
-                let none : b ≡ 0 = omega (arith, b_is) in
-                let docid_two = subst (λ n. docid ≡ x % 128 + 1 * (128 * (y % 128)) + 1 * n * (16384 * (z % 128))) none docid_more in
-                inl (high, low, omega (arith, size_more), omega (arith, docid_two))
-            | inr top ↦
-                let third : b ≡ 1 = omega (arith, b_is) in
-                let docid_three = subst (λ n. docid ≡ x % 128 + 1 * (128 * (y % 128)) + 1 * n * (16384 * (z % 128))) third docid_more in
-                inr (high, top, omega (arith, size_more), omega (arith, docid_three))
-          ])
-    ]
-
-module _ (s : List ℕ) (docid tf size : ℕ) (gap : OneByte (get_or s 3 0) size docid ⊎ (TwoBytes (get_or s 3 0) (get_or s 4 0) size docid ⊎ ThreeBytes (get_or s 3 0) (get_or s 4 0) (get_or s 5 0) size docid)) where
-  pub usual : size + 2 ≤ length s → get_or s 0 0 ≡ 34 → get_or s 1 0 ≡ size → get_or s 2 0 ≡ 8 → get_or s (size - 1) 0 < 128 → get_or s size 0 ≡ 16 → get_or s (size + 1) 0 < 128 → tf ≡ get_or s (size + 1) 0 → Begins s docid tf (size + 2)
-  usual inside tag long first last second low tf_is =
-      elim gap [
-        | inl one ↦
-            let n = one.1 in
-            subst (λ n. Begins s docid tf (n + 2)) (sym n) (narrow s docid tf (omega (arith, inside, n)) tag (long ∙ n) first one.0 (subst (λ n. get_or s n 0 ≡ 16) n second) (subst (λ n. get_or s (n + 1) 0 < 128) n low) one.2 (subst (λ n. tf ≡ get_or s (n + 1) 0) n tf_is))
-        | inr more ↦ elim more [
-          | inl two ↦
-              let n = two.2 in
-              subst (λ n. Begins s docid tf (n + 2)) (sym n) (wide s docid tf (omega (arith, inside, n)) tag (long ∙ n) first two.0 two.1 (subst (λ n. get_or s n 0 ≡ 16) n second) (subst (λ n. get_or s (n + 1) 0 < 128) n low) two.3 (subst (λ n. tf ≡ get_or s (n + 1) 0) n tf_is))
-          | inr three ↦
-              let n = three.2 in
-              let small : get_or s 5 0 < 128 = subst (λ n. get_or s (n - 1) 0 < 128) n last in
-              let docid_is : docid ≡ get_or s 3 0 % 128 + 128 * (get_or s 4 0 % 128 + 128 * get_or s 5 0) = omega (arith, three.3, small) in
-              subst (λ n. Begins s docid tf (n + 2)) (sym n) (wider s docid tf (omega (arith, inside, n)) tag (long ∙ n) first three.0 three.1 small (subst (λ n. get_or s n 0 ≡ 16) n second) (subst (λ n. get_or s (n + 1) 0 < 128) n low) docid_is (subst (λ n. tf ≡ get_or s (n + 1) 0) n tf_is))
-        ]
-      ]
-
-  pub usual_gap : 0 < get_or s (size - 1) 0 → get_or s (size - 1) 0 < 128 → (0 < docid) × (docid < 2 ^ 21)
-  usual_gap last low =
-      elim gap [
-        | inl one ↦
-            let some : 0 < get_or s 3 0 = subst (λ n. 0 < get_or s (n - 1) 0) one.1 last in
-            (omega (arith, some, one.2), omega (arith, one.0, one.2))
-        | inr more ↦ elim more [
-          | inl two ↦
-              let some : 0 < get_or s 4 0 = subst (λ n. 0 < get_or s (n - 1) 0) two.2 last in
-              (omega (arith, some, two.3), omega (arith, two.1, two.3))
-          | inr three ↦
-              let some : 0 < get_or s 5 0 = subst (λ n. 0 < get_or s (n - 1) 0) three.2 last in
-              let small : get_or s 5 0 < 128 = subst (λ n. get_or s (n - 1) 0 < 128) three.2 low in
-              (omega (arith, some, small, three.3), omega (arith, three.3))
-        ]
-      ]
-
 -- the posting at a place
-pub posting_at : (bytes : List ℕ) (at docid tf size next : ℕ) → at ≤ length bytes → 0 < size → at + size ≡ next → Begins (take (length bytes - at) (drop at bytes)) docid tf size → IsPosting bytes at (record { docid = docid; tf = tf }) next
-posting_at bytes at docid tf size next inside some place there = let begins = subst (λ s. Begins s docid tf size) (to_end bytes at) there in record {
+pub posting_at : (bytes : List ℕ) (at docid tf size next : ℕ) → at ≤ length bytes → 0 < size → at + size ≡ next → Begins (drop at bytes) docid tf size → IsPosting bytes at (record { docid = docid; tf = tf }) next
+posting_at bytes at docid tf size next inside some place begins = record {
   body = begins.body;
   read = begins.read ∙ ap (found begins.body) (drop-drop size at bytes ∙ ap (λ n. drop n bytes) place);
   spells = begins.spells;

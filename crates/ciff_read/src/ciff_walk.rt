@@ -282,7 +282,7 @@ impl CiffWalk {
     {
         let none = KeptLists::new(self.alloc);
         let spare = replace(&mut self.spare, Vec::new(self.alloc));
-        let (list, _end) = reach_list(
+        let (list, _end, _rises) = reach_list(
             self.alloc,
             spare,
             &mut self.window,
@@ -320,7 +320,7 @@ impl CiffWalk {
     {
         let at = self.at;
         let spare = replace(&mut self.spare, Vec::new(self.alloc));
-        let (list, end) = reach_list(
+        let (list, end, rises) = reach_list(
             self.alloc,
             spare,
             &mut self.window,
@@ -333,7 +333,7 @@ impl CiffWalk {
         )?;
         let count = list.postings.len() as u32;
         let place = ListPlace { at, count };
-        match self.kept.add(self.alloc, list.term.as_str(), place) {
+        match self.kept.add(self.alloc, list.term.as_str(), place, rises) {
             Ok(()) => {}
             Err(_) => return Err(CiffFault::NoMemory),
         }

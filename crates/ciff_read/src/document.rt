@@ -8,10 +8,10 @@ ghost use Rattle.ciff_read.specs.Refusals.{Answers, Fails};
 use crate::body::Body;
 use crate::doc_fields::DocFields;
 use crate::documents::Documents;
+use crate::known_field::doc_field;
 use crate::refusal::{CiffFault, CiffWhy, refused, refused_field};
 use crate::walked_doc::WalkedDoc;
 use std::alloc::Global;
-use wire_fields::next_field;
 
 /// Walks the fields from a place to the end of `bytes`.
 fn walk_document(bytes: &[u8], from: usize) -> Result<DocFields<'_>, CiffFault>
@@ -25,7 +25,7 @@ fn walk_document(bytes: &[u8], from: usize) -> Result<DocFields<'_>, CiffFault>
     };
     let mut at = from;
     'fields: loop {
-        match next_field(bytes, at) {
+        match doc_field(bytes, at) {
             Ok(Some(field)) => {
                 fields.docid = field.number_or(1, fields.docid);
                 fields.name = field.bytes_or(2, bytes, fields.name);

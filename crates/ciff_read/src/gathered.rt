@@ -27,7 +27,7 @@ pub struct Gathered {
 }
 
 impl Gathered {
-    ghost use Rattle.std.specs.Prelude.{length, IfOk, OnOk, None, []};
+    ghost use Rattle.std.specs.Prelude.{length, take, IfOk, OnOk, None, []};
     ghost use Rattle.ciff_read.specs.Judging.{gather};
     ghost use Rattle.ciff_read.specs.Private.Places.{gathered_of, GathersRun};
 
@@ -85,46 +85,51 @@ impl Gathered {
     }
 
     /// Takes the postings in their usual spelling that stand one behind the other from a place
-    /// on, up to the first that is refused or that there is no room for, and gives the place
-    /// behind them.
-    pub fn take_run(&mut self, alloc: Global, bytes: &[u8], from: usize) -> usize
-        requires { from ≤ length bytes.now }
-        ensures run { GathersRun bytes.now from result self.old self.new }
+    /// to another, up to the first that is refused or that there is no room for, and gives the place
+    /// behind them. Bytes behind the second place are looked at, and don't count.
+    pub fn take_run(&mut self, alloc: Global, bytes: &[u8], from: usize, end: usize) -> usize
+        requires forward { from ≤ end }
+        requires within { end ≤ length bytes.now }
+        ensures run { GathersRun (take end bytes.now) from result self.old self.new }
         ensures docs { self.new.docs ≡ self.old.docs }
         ensures before { self.new.before ≡ self.old.before }
     {
+        if from == end || bytes[from] != POSTING_TAG {
+            return from;
+        }
         if self.refusal.is_some() {
             return from;
         }
-        if from == bytes.len() || bytes[from] != POSTING_TAG {
-            return from;
-        }
         // The loop has all that it changes in locals, which stay in registers.
-        let mut last = replace(&mut self.last, 0);
+        let mut last = u64::from(replace(&mut self.last, 0));
         let mut postings = replace(&mut self.postings, Row::new(alloc)).into_vec();
         let docs = u64::from(self.docs);
         let room = postings
             .capacity()
             .min((MOST_POSTINGS - self.before) as usize);
-        let mut rest = &bytes[from..];
-        'run: while postings.len() < room {
-            let Some((entry, size)) = usual_posting(rest, 0) else {
+        // Each takes six bytes or more: so there is room for those before this place.
+        let stop = (from + 6 * room.saturating_sub(postings.len()))
+            .min(end)
+            .min(bytes.len().saturating_sub(7));
+        let mut at = from;
+        'run: while at < stop {
+            let Some((entry, next)) = usual_posting(bytes, at, end) else {
                 break;
             };
-            let doc = u64::from(last) + entry.docid;
+            let doc = last + entry.docid;
             if doc >= docs {
                 break;
             }
-            last = doc as u32;
+            last = doc;
             postings.push_reserved(Posting {
-                doc: last,
+                doc: doc as u32,
                 tf: entry.tf as u32,
             });
-            rest = &rest[size..];
+            at = next;
         }
-        self.last = last;
+        self.last = last as u32;
         self.postings = Row::from_vec(postings);
-        bytes.len() - rest.len()
+        at
     }
 
     /// The next posting, or why it is refused.

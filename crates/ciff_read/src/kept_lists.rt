@@ -1,8 +1,9 @@
-ghost use Rattle.std.specs.Prelude.{◌≡◌, ◌<◌, ◌∷◌, [], ◌++◌, false, length, Some, IfSome, IsSome, OnOk, OnErr};
+ghost use Rattle.std.specs.Prelude.{◌≡◌, ◌<◌, ◌∷◌, [], ◌++◌, false, not, length, Some, IfSome, IsSome, IsTrue, OnOk, OnErr};
 ghost use Rattle.std.specs.Prelude.{slice_get};
 ghost use Rattle.std.specs.List.Sorted.{IsStrictlyIncreasing};
 ghost use Rattle.ciff_read.specs.KeptEntries.{kept_as};
 ghost use Rattle.ciff_read.specs.Private.KeptEntries.{places_in};
+ghost use Rattle.ciff_read.specs.Private.Reached.{RisesBehind};
 ghost use Rattle.ciff_read.specs.KeptLists.{entries_in, kept_in};
 ghost use Rattle.ciff_read.specs.Walk.{HasKept, IsGiven};
 ghost use Rattle.ciff_read.specs.Pieces.{terms_kept, places_kept};
@@ -40,8 +41,31 @@ impl KeptLists {
         }
     }
 
+    /// Whether no list of the term was given; and whether this is told by its being greater than the
+    /// term of each list that was, which also rise. So it is in most files.
+    pub fn judge(&self, term: &str) -> (bool, bool)
+        ensures new { result.0 ≡ not (is_seen term.now (terms_kept (kept_in self.now))) }
+        ensures rises { IsTrue result.1 → RisesBehind self.now term.now }
+    {
+        if self.rises(term) {
+            return (true, true);
+        }
+        (!self.has(term), false)
+    }
+
+    /// Whether the terms of all lists rise, and then this one.
+    fn rises(&self, term: &str) -> bool
+        ensures rises { IsTrue result → RisesBehind self.now term.now }
+        ensures new { IsTrue result → is_seen term.now (terms_kept (kept_in self.now)) ≡ false }
+    {
+        if self.hashed.is_empty() {
+            return self.rising.are_before(term);
+        }
+        false
+    }
+
     /// Whether a list of the term was given.
-    pub fn has(&self, term: &str) -> bool
+    fn has(&self, term: &str) -> bool
         ensures { result ≡ is_seen term.now (terms_kept (kept_in self.now)) }
     {
         if self.rising.has(term) {
@@ -123,13 +147,20 @@ impl KeptLists {
         self.hashed[index - first]
     }
 
-    /// Keeps one list more, whose term is new.
-    pub fn add(&mut self, alloc: Global, term: &str, place: ListPlace) -> Result<(), NoMemory>
-        requires { is_seen term.now (terms_kept (kept_in self.old)) ≡ false }
+    /// Keeps one list more, whose term is new. Where it is told to rise, it isn't compared again.
+    pub fn add(
+        &mut self,
+        alloc: Global,
+        term: &str,
+        place: ListPlace,
+        rises: bool,
+    ) -> Result<(), NoMemory>
+        requires new { is_seen term.now (terms_kept (kept_in self.old)) ≡ false }
+        requires rises { IsTrue rises → RisesBehind self.old term.now }
         ensures ok { OnOk result (kept_in self.new ≡ kept_in self.old ++ kept_as term.now place ∷ []) }
         ensures err { OnErr result (kept_in self.new ≡ kept_in self.old) }
     {
-        if self.hashed.is_empty() && self.rising.are_before(term) {
+        if rises {
             return self.rising.push(term, place);
         }
         let Ok(term) = String::from_str(alloc, term) else {

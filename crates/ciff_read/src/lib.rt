@@ -16,6 +16,7 @@ mod file_head;
 mod gathered;
 mod header;
 mod kept_lists;
+mod known_field;
 pub mod laws;
 mod list_fields;
 mod message;

@@ -1,4 +1,4 @@
-ghost use Rattle.std.specs.Prelude.{ℕ, ◌≡◌, ◌+◌, ◌≤◌, false, List, length, map, [], ◌∷◌, ◌++◌, IfOk, IfErr};
+ghost use Rattle.std.specs.Prelude.{ℕ, ◌≡◌, ◌+◌, ◌≤◌, false, List, length, map, [], ◌∷◌, ◌++◌, take, IfOk, IfErr};
 ghost use Rattle.jass_base.specs.CiffViews.{list_data};
 ghost use Rattle.jass_base.specs.Lists.{HasDocsBelow};
 ghost use Rattle.wire_fields.specs.Places.{IsWithin};
@@ -11,6 +11,7 @@ ghost use Rattle.jass_base.specs.declared.limits.TheConstants.{LONGEST_TERM, MOS
 
 use crate::body::Body;
 use crate::gathered::Gathered;
+use crate::known_field::list_field;
 use crate::list_fields::ListFields;
 use crate::posting_fields::read_entry;
 use crate::refusal::{CiffFault, CiffWhy, refused, refused_field};
@@ -21,7 +22,7 @@ use indexmap::IndexSet;
 use jass_base::limits::LONGEST_TERM;
 use jass_base::{Posting, PostingsList};
 use std::alloc::Global;
-use wire_fields::{Field, Value, next_field};
+use wire_fields::{Field, Value};
 
 /// The fewest bytes of a posting that has a gap.
 const USUAL_BYTES: usize = 6;
@@ -87,7 +88,7 @@ pub fn walk_one<'a>(
         Ok(gathered) => gathered,
         Err(_) => return Err(CiffFault::NoMemory),
     };
-    let fields = match walk_list(alloc, &bytes[..body.end], body.from, &mut gathered) {
+    let fields = match walk_list(alloc, bytes, body, &mut gathered) {
         Ok(fields) => fields,
         Err(fault) => return Err(fault),
     };
@@ -105,32 +106,33 @@ pub fn walk_one<'a>(
     })
 }
 
-/// Walks the fields from a place to the end of `bytes`, and gathers the postings.
+/// Walks the fields of a message's body, and gathers the postings.
 fn walk_list<'a>(
     alloc: Global,
     bytes: &'a [u8],
-    from: usize,
+    body: Body,
     gathered: &mut Gathered,
 ) -> Result<ListFields<'a>, CiffFault>
-    requires { from ≤ length bytes.now }
-    ensures read { ReadsList bytes.now from result gathered.old gathered.new }
+    requires { body.end ≤ length bytes.now }
+    ensures read { ReadsList (take body.end bytes.now) body.from result gathered.old gathered.new }
     ensures docs { gathered.new.docs ≡ gathered.old.docs }
     ensures before { gathered.new.before ≡ gathered.old.before }
 {
+    let front = &bytes[..body.end];
     let mut fields = ListFields {
         term: b"",
         df: 0,
         cf: 0,
     };
-    let mut at = from;
+    let mut at = body.from;
     'fields: loop {
-        at = gathered.take_run(alloc, bytes, at);
-        match next_field(bytes, at) {
+        at = gathered.take_run(alloc, bytes, at, body.end);
+        match list_field(front, at) {
             Ok(Some(field)) => {
-                fields.term = field.bytes_or(1, bytes, fields.term);
+                fields.term = field.bytes_or(1, front, fields.term);
                 fields.df = field.number_or(2, fields.df);
                 fields.cf = field.number_or(3, fields.cf);
-                match gather(bytes, at, &field, gathered) {
+                match gather(front, at, &field, gathered) {
                     Ok(()) => {}
                     Err(fault) => return Err(fault),
                 }

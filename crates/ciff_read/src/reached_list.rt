@@ -1,9 +1,9 @@
-ghost use Rattle.std.specs.Prelude.{◌≡◌, ◌<◌, ◌≤◌, ◌+◌, ◌⊎◌, false, length, IfOk, IfErr, IsErrOf};
+ghost use Rattle.std.specs.Prelude.{◌≡◌, ◌<◌, ◌≤◌, ◌+◌, ◌⊎◌, false, length, IfOk, IfErr, IsErrOf, IsTrue};
 ghost use Rattle.jass_base.specs.Lists.{HasDocsBelow};
 ghost use Rattle.jass_base.specs.Outside.{Rose, IsMissing};
 ghost use Rattle.ciff_read.specs.KeptLists.{kept_in};
 ghost use Rattle.ciff_read.specs.Pieces.{terms_kept};
-ghost use Rattle.ciff_read.specs.Private.Reached.{ListTold};
+ghost use Rattle.ciff_read.specs.Private.Reached.{ListTold, RisesBehind};
 ghost use Rattle.ciff_read.specs.Private.Plain.{IsPlain};
 ghost use Rattle.ciff_read.specs.Seen.{is_seen};
 ghost use Rattle.jass_base.specs.declared.limits.TheConstants.{LONGEST_FILE, MOST_DOCUMENTS, MOST_POSTINGS};
@@ -20,8 +20,8 @@ use jass_base::{Cabinet, Posting, PostingsList};
 use std::alloc::Global;
 
 /// Reads the list at a place of a file of so many documents, behind lists of so many postings
-/// and of the kept terms, and gives the place behind it. The postings get the memory of the
-/// spare vector.
+/// and of the kept terms, and gives the place behind it, and whether its term is greater than the kept ones, which
+/// also rise. The postings get the memory of the spare vector.
 pub fn reach_list<C: Cabinet>(
     alloc: Global,
     spare: Vec<Posting>,
@@ -32,7 +32,7 @@ pub fn reach_list<C: Cabinet>(
     docs: u32,
     before: u64,
     kept: &KeptLists,
-) -> Result<(PostingsList, u64), CiffFault>
+) -> Result<(PostingsList, u64, bool), CiffFault>
     requires at { at ≤ LONGEST_FILE }
     requires docs { docs ≤ MOST_DOCUMENTS }
     requires before { before ≤ MOST_POSTINGS }
@@ -40,6 +40,7 @@ pub fn reach_list<C: Cabinet>(
     ensures behind { IfOk result (λ x. at < x.1) }
     ensures plain { IfErr result IsPlain }
     ensures new { IfOk result (λ x. is_seen x.0.term (terms_kept (kept_in kept.now)) ≡ false) }
+    ensures rises { IfOk result (λ x. IsTrue x.2 → RisesBehind kept.now x.0.term) }
     ensures few { IfOk result (λ x. before + length x.0.postings ≤ MOST_POSTINGS) }
     ensures below { IfOk result (λ x. HasDocsBelow docs x.0) }
     ensures shown { StaysShown (C.told files.old) name.now window.old window.new }
@@ -59,9 +60,9 @@ pub fn reach_list<C: Cabinet>(
         Ok(walked) => walked,
         Err(fault) => return Err(fault_in_file(fault, window.start)),
     };
-    let is_new = !kept.has(walked.term);
+    let (is_new, rises) = kept.judge(walked.term);
     match walked.finish(alloc, place, is_new) {
-        Ok(list) => Ok((list, window.start + body.end as u64)),
+        Ok(list) => Ok((list, window.start + body.end as u64, rises)),
         Err(fault) => Err(fault_in_file(fault, window.start)),
     }
 }

@@ -382,11 +382,12 @@ fn read_faults_are_answered_again(rt: HostRuntime) {
 
 /// Whether a list of the term wasn't given, and is kept now.
 fn is_new(alloc: Global, kept: &mut KeptLists, term: &str) -> bool {
-    if kept.has(term) {
+    let (new, rises) = kept.judge(term);
+    if !new {
         return false;
     }
     let place = ListPlace { at: 0, count: 1 };
-    kept.add(alloc, term, place).is_ok()
+    kept.add(alloc, term, place, rises).is_ok()
 }
 
 #[test]

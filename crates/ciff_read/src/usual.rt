@@ -1,42 +1,66 @@
-ghost use Rattle.std.specs.Prelude.{◌≤◌, length, IfSome};
-ghost use Rattle.ciff_read.specs.Private.Usual.{IsPosting, IsUsual};
+ghost use Rattle.std.specs.Prelude.{ℕ, ◌≡◌, ◌+◌, ◌<◌, ◌≤◌, ◌/◌, ◌%◌, ◌^◌, length, take, get_or, IfSome};
+ghost use Rattle.ciff_read.specs.Private.Usual.{IsPosting, IsUsual, HasBytes};
 
 use crate::posting_fields::PostingFields;
+use std::simd::prelude::*;
 
 /// The first byte of a posting: the field number 4 with the wire type of bytes.
 pub const POSTING_TAG: u8 = 0x22;
 
+/// The eight bytes at a posting whose gap has one, two or three bytes: the bits that are the same in
+/// all such postings (the first three bytes, the top bits of the gap and of the tf, and the tag of the tf), what
+/// these are, and the bits of the gap from its first byte on. The last of each four is no posting's.
+const BITS: [u64; 12] = [
+    0x0000_80ff_80ff_ffff,
+    0x0080_ff80_80ff_ffff,
+    0x80ff_8080_80ff_ffff,
+    0,
+    0x0000_0010_0008_0422,
+    0x0000_1000_8008_0522,
+    0x0010_0080_8008_0622,
+    1,
+    0x7f,
+    0x7f7f,
+    0x7f_7f7f,
+    0,
+];
+
 /// A posting of a list in its usual spelling, with a gap of one to three bytes and a tf of one byte,
-/// neither of them 0, and the place behind its field. Nearly all postings are spelled so.
+/// neither of them 0, which ends at a place or before it, and the place behind its field. Nearly all
+/// postings are spelled so. There is no branch on the size of the gap, as it can't be foreseen.
 #[inline(always)]
-pub fn usual_posting(bytes: &[u8], at: usize) -> Option<(PostingFields, usize)>
-    requires { at ≤ length bytes.now }
-    ensures posting { IfSome result (λ x. IsPosting bytes.now at x.0 x.1) }
+pub fn usual_posting(bytes: &[u8], at: usize, end: usize) -> Option<(PostingFields, usize)>
+    requires { at + 8 ≤ length bytes.now }
+    ensures posting { IfSome result (λ x. IsPosting (take end bytes.now) at x.0 x.1) }
     ensures usual { IfSome result (λ x. IsUsual x.0) }
+    ensures long { IfSome result (λ x. at + 6 ≤ x.1) }
 {
-    let field = &bytes[at..];
-    if field.len() < 6 || field[0] != POSTING_TAG || field[2] != 0x08 {
+    let word = word_at(bytes, at);
+    // The size of the body, 4 to 6, says how many bytes the gap has.
+    let more = (word / 256 % 4) as usize;
+    if word & BITS[more] != BITS[more + 4] {
         return None;
     }
-    // The top bit of a byte says that one more follows. The bytes of a gap are counted and put
-    // together without a branch, as their number can't be foreseen.
-    let second = field[3] / 128;
-    let third = second * (field[4] / 128);
-    let size = usize::from(field[1]);
-    if size != 4 + usize::from(second) + usize::from(third) || field.len() < size + 2 {
+    let last = at + more;
+    let tf = u64::from(bytes[last + 5]);
+    let next = last + 6;
+    if next > end || tf == 0 {
         return None;
     }
-    let last = field[size - 1];
-    if last == 0 || last >= 128 || field[size] != 0x10 {
+    // Groups of seven bits in bytes: the first ones are put four times, and the second ones twice.
+    let gap = word / 16_777_216 & BITS[more + 8];
+    let docid = (gap + gap % 32_768 + 2 * (gap % 128)) / 4;
+    if docid == 0 {
         return None;
     }
-    let tf = field[size + 1];
-    if tf == 0 || tf >= 128 {
-        return None;
-    }
-    let docid = u64::from(field[3] % 128)
-        + u64::from(second) * (128 * u64::from(field[4] % 128))
-        + u64::from(third) * (16_384 * u64::from(field[5] % 128));
-    let tf = u64::from(tf);
-    Some((PostingFields { docid, tf }, at + size + 2))
+    Some((PostingFields { docid, tf }, next))
+}
+
+/// The eight bytes at a place as a number.
+#[inline(always)]
+fn word_at(bytes: &[u8], at: usize) -> u64
+    requires { at + 8 ≤ length bytes.now }
+    ensures { HasBytes bytes.now at result }
+{
+    Simd::<u64, 1>::from_le_bytes(u8x8::from_slice(&bytes[at..])).to_array()[0]
 }

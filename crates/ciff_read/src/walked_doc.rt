@@ -1,4 +1,4 @@
-ghost use Rattle.std.specs.Prelude.{◌≡◌, ◌≢◌, ◌<◌, ◌&&◌, ◌==◌, IsTrue, All, true, not, nat_lt, OnOk};
+ghost use Rattle.std.specs.Prelude.{◌≡◌, ◌≢◌, ◌<◌, ◌≤◌, ◌&&◌, ◌==◌, IsTrue, All, true, not, nat_lt, length, take, OnOk};
 ghost use Rattle.std.specs.List.{list_all};
 ghost use Rattle.jass_base.specs.Limits.{IsName};
 ghost use Rattle.ciff_read.specs.Judging as judging;
@@ -11,6 +11,7 @@ use crate::text::text_of;
 use jass_base::limits::LONGEST_NAME;
 use jass_base::{DocRecord, Text};
 use std::alloc::Global;
+use std::simd::prelude::*;
 
 /// A document's record whose fields were walked, and whose number is one of the file's. What
 /// is left to judge is whether the number is new, then the name and the length.
@@ -58,6 +59,29 @@ fn is_name(name: &str) -> bool
 
 /// Whether no byte is a blank or a control character.
 fn is_visible(bytes: &[u8]) -> bool
+    ensures test { result ≡ list_all (λ b. nat_lt 32 b && not (b == 127)) bytes.now }
+    ensures visible { IsTrue result → All (λ b. (32 < b) × (b ≢ 127)) bytes.now }
+{
+    if bytes.len() < 16 {
+        return are_visible(bytes);
+    }
+    is_front_visible(bytes) && are_visible(&bytes[16..])
+}
+
+/// The same of the first sixteen bytes, which are looked at together.
+#[inline(always)]
+fn is_front_visible(bytes: &[u8]) -> bool
+    requires { 16 ≤ length bytes.now }
+    ensures { result ≡ (list_all (λ b. nat_lt 32 b) (take 16 bytes.now) && list_all (λ b. not (b == 127)) (take 16 bytes.now)) }
+{
+    let lanes = u8x16::from_slice(bytes);
+    let above = lanes.simd_gt(u8x16::splat(32)).all();
+    let other = lanes.simd_ne(u8x16::splat(127)).all();
+    above & other
+}
+
+/// The same, byte by byte.
+fn are_visible(bytes: &[u8]) -> bool
     ensures test { result ≡ list_all (λ b. nat_lt 32 b && not (b == 127)) bytes.now }
     ensures visible { IsTrue result → All (λ b. (32 < b) × (b ≢ 127)) bytes.now }
 {

@@ -1,5 +1,5 @@
 -- The names of the crates below that many proofs of this crate cite, passed on from one place. Declares nothing.
-pub use Rattle.index_model.proofs.Groups.{IsOtherImpact, IsOtherTerm, entries_behind, new_posting}
+pub use Rattle.index_model.proofs.Groups.{IsOtherTerm, entries_behind}
 pub use Rattle.index_model.specs.Grouping.{with_entries, with_entry}
 pub use Rattle.index_model.specs.Index.{IndexData, SegmentData, TermData}
 pub use Rattle.index_model.specs.Views.{segment_data, term_data}
@@ -10,7 +10,7 @@ pub use Rattle.jass_base.specs.Gaps.{AreDocs}
 pub use Rattle.jass_base.specs.Limits.{IsName, IsText}
 pub use Rattle.jass_base.specs.Lists.{DifferInTerm, HasDocsBelow}
 pub use Rattle.jass_base.specs.Postings.{HasTfInRange, docs_of}
-pub use Rattle.jass_base.specs.Segments.{FallsTo, HasDocumentsBelow, SharesNoDocument}
+pub use Rattle.jass_base.specs.Segments.{FallsTo, SharesNoDocument}
 pub use Rattle.jass_base.specs.Terms.{BytesRise, HasTermBelow, RisesTo, greatest_impact, greatest_of}
 pub use Rattle.jass_base.specs.declared.collection.Collection.{Collection}
 pub use Rattle.jass_base.specs.declared.doc_record.DocRecord.{DocRecord}

@@ -12,3 +12,4 @@ pub mod Grouped
 pub mod ListTerms
 pub mod ListRange
 mod Unwidened
+pub mod Runs

@@ -1,8 +1,8 @@
 -- The pairs of one list, and whether its weights lie in a range.
-use Rattle.shared_lemmas.proofs.Common.{◌≡◌, ℕ, ◌+◌, ◌<◌, ◌≤◌, ◌^◌, List, [], ◌∷◌, ◌++◌, map, length, get_or, drop, Bool, true, false, refl, sym, ap, ◌∙◌, subst, arith, append_assoc, All, Option, Some, None, if◌then◌else◌, AllByRecursion, IsStrictlyIncreasing, recursion_from_All, All-push}
+use Rattle.shared_lemmas.proofs.Common.{◌≡◌, ℕ, ◌+◌, ◌<◌, ◌≤◌, List, [], ◌∷◌, ◌++◌, map, length, get_or, drop, Bool, true, false, refl, sym, ap, ◌∙◌, subst, append_assoc, All, Option, Some, None, if◌then◌else◌, AllByRecursion, IsStrictlyIncreasing, recursion_from_All, All-push}
 use Rattle.shared_lemmas.proofs.Common.{drop_more, map-map}
 use Rattle.shared_lemmas.proofs.Lists.{all_unmap}
-use Rattle.impact_segments.proofs.Below.{AreDocs, HasDocsBelow, docs_of, HasDocumentsBelow, Posting, PostingsList, Segment, Bits, Raw, Of, Range, Rule, impact_of, idf}
+use Rattle.impact_segments.proofs.Below.{HasDocsBelow, docs_of, Posting, PostingsList, Bits, Raw, Of, Range, Rule, impact_of, idf}
 use Rattle.impact_segments.specs.Collections.{weight_in}
 use Rattle.impact_segments.specs.OneList.{first_outside, has_weight, nearer_end, outside}
 use Rattle.impact_segments.specs.Pairs.{pair_docs, with_impact}
@@ -45,13 +45,6 @@ pub positive_more : (pairs longer : List DocImpact) (doc impact : ℕ) → longe
 positive_more pairs longer doc impact is positive all =
     let P : List DocImpact → Type 0 = λ (l : List DocImpact). All (λ (p : DocImpact). 1 ≤ p.impact) l in
     subst P (sym is) (All-push (λ (p : DocImpact). 1 ≤ p.impact) pairs (with_impact impact doc) all positive)
-
--- segments with documents below d have documents of an index of d documents
-pub are_docs : (d : ℕ) (segments : List Segment) → d ≤ 2 ^ 26 → All (HasDocumentsBelow d) segments → All (λ (s : Segment). AreDocs d s.docs) segments
-are_docs d segments few below = λ i s inside.
-    let x : Segment = get_or segments i s in
-    let some = x.some in
-    record { some = omega (arith, some); rising = x.rising; below = below i s inside; limit = few }
 
 -- a weight in front of others, where it is judged alone
 within_more : (b : Bool) (x : ℕ × ℕ) (later : Option (ℕ × ℕ)) → (if b then None else Some x) ≡ None → (if b then later else Some x) ≡ later

@@ -1,17 +1,18 @@
 -- A term's segments from its list, and the terms from the lists.
-use Rattle.shared_lemmas.proofs.Common.{◌≡◌, ℕ, ◌+◌, ◌<◌, ◌≤◌, max, List, [], ◌∷◌, ◌++◌, map, length, get_or, drop, refl, sym, ap, ap₂, ◌∙◌, subst, arith, append-nil, append_assoc, All, AllByRecursion, flat_map, IsStrictlyIncreasing, nat_cmp, slice_cmp, nat_list_cmp_total, tied_itself, length-map}
-use Rattle.shared_lemmas.proofs.Common.{map-append, get_or-map, drop_more, recursion_from_All, All-from_recursion, All-push, map-map}
+use Rattle.shared_lemmas.proofs.Common.{◌≡◌, ℕ, ◌+◌, ◌<◌, ◌≤◌, max, List, [], ◌∷◌, ◌++◌, map, length, get_or, drop, refl, sym, ap, ap₂, ◌∙◌, subst, arith, append-nil, append_assoc, All, AllByRecursion, flat_map, nat_cmp, slice_cmp, nat_list_cmp_total, tied_itself, sum_by, length-append, length-map, sum_by-cons}
+use Rattle.shared_lemmas.proofs.Common.{map-append, get_or-map, drop_more, All-from_recursion, All-push, map-map}
 use Rattle.std.proofs.lemmas.List.Concat.{flat_map-append}
 use Rattle.shared_lemmas.proofs.Pairs.{Pairs, pairs_by_recursion}
 use Rattle.shared_lemmas.proofs.Lists.{all_weaker, all_unmap, all_parts}
 use denote.Ref.{Bor}
-use Rattle.impact_segments.proofs.Below.{DocRecord, Posting, PostingsList, Segment, TermSegments, HasDocsBelow, docs_of, FallsTo, HasDocumentsBelow, HasTermBelow, greatest_of, greatest_impact, Rule, Bits, Range, impact_of, Entry, sorted, entry_cmp, all_sorted, length_sorted, sorted_map}
+use Rattle.impact_segments.proofs.Below.{DocRecord, Posting, PostingsList, Segment, TermSegments, FallsTo, HasTermBelow, greatest_of, greatest_impact, Rule, Bits, Range, impact_of, Entry, sorted, entry_cmp, all_sorted, length_sorted, sorted_map}
 use Rattle.impact_segments.specs.Private.Weighed.{posting_weight, list_entries}
 use Rattle.impact_segments.specs.Private.Held.{term_entries, flat_of_terms}
 use Rattle.impact_segments.specs.Private.Listed.{lists_behind}
-use Rattle.impact_segments.specs.Pairs.{pair_cmp, pairs_of, pair_docs, with_impact}
+use Rattle.impact_segments.specs.Pairs.{pair_cmp, pairs_of, with_impact}
 use Rattle.impact_segments.specs.Private.Pairs.{list_pairs}
 use Rattle.impact_segments.specs.declared.doc_impact.DocImpact.{DocImpact}
+use Rattle.impact_segments.proofs.OneList.{pair_is, pairs_more, positive_more}
 
 pub all_map_at : {A B : Type 0} (P : B → Type 0) (f : A → B) (xs : List A) (i : ℕ) (d : A) → i < length xs → All P (map f xs) → P (f (get_or xs i d))
 all_map_at P f xs i d low h = let inside : i < length (map f xs) = rw length-map low in subst P (get_or-map f xs i d (f d) low) (h i (f d) inside)
@@ -19,8 +20,11 @@ all_map_at P f xs i d low h = let inside : i < length (map f xs) = rw length-map
 -- ---- the pairs of a list
 
 module _ (rule : Rule) (docs : List DocRecord) (bits : Bits) (range : Range) (list : PostingsList) where
+  abbrev pub impact_by : Posting → ℕ
+  impact_by p = impact_of bits range (posting_weight rule docs list p)
+
   abbrev pub pair_of : Posting → DocImpact
-  pair_of p = record { doc = p.doc; impact = impact_of bits range (posting_weight rule docs list p) }
+  pair_of p = record { doc = p.doc; impact = impact_by p }
 
   -- the pairs so far, and those of the postings that are left
   pub record Paired (pairs : List DocImpact) (rest : List Posting) : Type 0 where
@@ -31,41 +35,37 @@ module _ (rule : Rule) (docs : List DocRecord) (bits : Bits) (range : Range) (li
       → impact ≡ impact_of bits range w → w ≡ posting_weight rule docs list (get_or items i d) → 1 ≤ impact → Paired pairs (drop i items) → Paired longer (drop (i + 1) items)
   paired_more pairs longer items i d impact w low is value weight positive paired =
       let p : Posting = get_or items i d in
-      let mine : DocImpact = with_impact impact p.doc in
-      let one : mine ≡ pair_of p = λ j. with_impact ((value ∙ ap (impact_of bits range) weight) j) p.doc in
-      let left : pairs ++ map pair_of (p ∷ drop (i + 1) items) ≡ list_pairs rule docs bits range list = ap (λ (l : List Posting). pairs ++ map pair_of l) (sym (drop_more items i d low)) ∙ paired.value in
-      let P : List DocImpact → Type 0 = λ (l : List DocImpact). All (λ (p : DocImpact). 1 ≤ p.impact) l in
       record {
-        value = ap (λ (l : List DocImpact). l ++ map pair_of (drop (i + 1) items)) is ∙ append_assoc pairs (mine ∷ []) (map pair_of (drop (i + 1) items))
-            ∙ ap (λ (x : DocImpact). pairs ++ x ∷ map pair_of (drop (i + 1) items)) one ∙ left;
-        positive = subst P (sym is) (All-push (λ (p : DocImpact). 1 ≤ p.impact) pairs mine paired.positive positive);
+        value = pairs_more pair_of pairs longer (list_pairs rule docs bits range list) items i d (with_impact impact p.doc) low is (pair_is bits range p.doc impact w (posting_weight rule docs list p) value weight) paired.value;
+        positive = positive_more pairs longer p.doc impact is positive paired.positive;
       }
 
-  pub docs_rise : (pairs : List DocImpact) → pairs ≡ list_pairs rule docs bits range list → IsStrictlyIncreasing (pair_docs pairs)
-  docs_rise pairs is =
-      let P : List ℕ → Type 0 = λ (l : List ℕ). IsStrictlyIncreasing l in
-      subst P (sym (ap pair_docs is ∙ map-map (λ (p : DocImpact). p.doc) pair_of list.postings)) list.rising
+-- ---- the segments of pairs, in whatever form they are held
 
-  pub docs_below : (d : ℕ) (pairs : List DocImpact) → pairs ≡ list_pairs rule docs bits range list → HasDocsBelow d list → AllByRecursion (λ (p : DocImpact). p.doc < d) pairs
-  docs_below d pairs is below =
-      let P : List ℕ → Type 0 = λ (l : List ℕ). AllByRecursion (λ (doc : ℕ). doc < d) l in
-      all_unmap (λ (doc : ℕ). doc < d) (λ (p : DocImpact). p.doc) pairs
-      (subst P (sym (ap pair_docs is ∙ map-map (λ (p : DocImpact). p.doc) pair_of list.postings)) (recursion_from_All (λ (doc : ℕ). doc < d) (docs_of list.postings) below))
+module _ {S : Type 0} (impact : S → ℕ) (docs : S → List ℕ) where
+  abbrev held : List S → List DocImpact
+  held segments = flat_map (λ (s : S). map (with_impact (impact s)) (docs s)) segments
 
--- ---- the segments of pairs
+  as_many_held : (segments : List S) → sum_by (λ (s : S). length (docs s)) segments ≡ length (held segments)
+  as_many_held [] = refl
+  as_many_held (s ∷ ss) =
+      let both = length-append (map (with_impact (impact s)) (docs s)) (held ss) in
+      omega (arith, sum_by-cons (λ (s : S). length (docs s)) s ss, both, length-map (docs s) (with_impact (impact s)), as_many_held ss)
 
-pub some_segments : (segments : List Segment) (pairs : List DocImpact) → pairs_of segments ≡ sorted pair_cmp pairs → 1 ≤ length pairs → 1 ≤ length segments
-some_segments [] pairs is some = let none : 0 ≡ length (sorted pair_cmp pairs) = ap length is in let all = length_sorted pair_cmp pairs in absurd (omega (arith, none, all, some))
-some_segments (s ∷ ss) pairs is some = omega arith
+  pub as_many_documents : (segments : List S) (pairs : List DocImpact) → held segments ≡ sorted pair_cmp pairs → sum_by (λ (s : S). length (docs s)) segments ≡ length pairs
+  as_many_documents segments pairs is = as_many_held segments ∙ ap length is ∙ length_sorted pair_cmp pairs
 
-pub segments_below : (d : ℕ) (segments : List Segment) (pairs : List DocImpact) → pairs_of segments ≡ sorted pair_cmp pairs → AllByRecursion (λ (p : DocImpact). p.doc < d) pairs → All (HasDocumentsBelow d) segments
-segments_below d segments pairs is below =
-    let P : List DocImpact → Type 0 = λ (l : List DocImpact). AllByRecursion (λ (p : DocImpact). p.doc < d) l in
-    let each : AllByRecursion (λ (s : Segment). AllByRecursion (λ (p : DocImpact). p.doc < d) (map (with_impact s.impact) s.docs)) segments
-    = all_parts (λ (p : DocImpact). p.doc < d) (λ (s : Segment). map (with_impact s.impact) s.docs) segments (subst P (sym is) (all_sorted pair_cmp (λ (p : DocImpact). p.doc < d) pairs below)) in
-    All-from_recursion (HasDocumentsBelow d) segments
-    (all_weaker (λ (s : Segment). AllByRecursion (λ (p : DocImpact). p.doc < d) (map (with_impact s.impact) s.docs)) (HasDocumentsBelow d)
-    (λ s h. All-from_recursion (λ (doc : ℕ). doc < d) s.docs (all_unmap (λ (p : DocImpact). p.doc < d) (with_impact s.impact) s.docs h)) segments each)
+  pub some_segments : (segments : List S) (pairs : List DocImpact) → held segments ≡ sorted pair_cmp pairs → 1 ≤ length pairs → 1 ≤ length segments
+  some_segments [] pairs is some = let none : 0 ≡ length (sorted pair_cmp pairs) = ap length is in let all = length_sorted pair_cmp pairs in absurd (omega (arith, none, all, some))
+  some_segments (s ∷ ss) pairs is some = omega arith
+
+  pub segments_below : (d : ℕ) (segments : List S) (pairs : List DocImpact) → held segments ≡ sorted pair_cmp pairs → AllByRecursion (λ (p : DocImpact). p.doc < d) pairs → All (λ (s : S). All (λ doc. doc < d) (docs s)) segments
+  segments_below d segments pairs is below =
+      let P : List DocImpact → Type 0 = λ (l : List DocImpact). AllByRecursion (λ (p : DocImpact). p.doc < d) l in
+      let Q : S → Type 0 = λ (s : S). AllByRecursion (λ (p : DocImpact). p.doc < d) (map (with_impact (impact s)) (docs s)) in
+      let each : AllByRecursion Q segments = all_parts (λ (p : DocImpact). p.doc < d) (λ (s : S). map (with_impact (impact s)) (docs s)) segments (subst P (sym is) (all_sorted pair_cmp (λ (p : DocImpact). p.doc < d) pairs below)) in
+      All-from_recursion (λ (s : S). All (λ doc. doc < d) (docs s)) segments (all_weaker Q (λ (s : S). All (λ doc. doc < d) (docs s))
+      (λ s h. All-from_recursion (λ (doc : ℕ). doc < d) (docs s) (all_unmap (λ (p : DocImpact). p.doc < d) (with_impact (impact s)) (docs s) h)) segments each)
 
 abbrev pub under : List ℕ → DocImpact → Entry (List ℕ)
 under t p = record { term = t; doc = p.doc; impact = p.impact }

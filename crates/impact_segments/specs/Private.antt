@@ -3,4 +3,5 @@ pub mod Held
 pub mod ImpactTable
 pub mod Listed
 pub mod Pairs
+pub mod Runs
 pub mod Weighed

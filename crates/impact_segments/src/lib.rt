@@ -10,11 +10,12 @@ pub mod examples;
 mod grouping;
 mod impact_table;
 pub mod laws;
+mod list_segments;
 mod listing;
 mod one_list;
 mod rows;
 mod scratch;
-mod spares;
+mod segments;
 mod terms;
 mod weighing;
 
@@ -22,10 +23,10 @@ pub use bounds::{can_widen, most_tf, norm_ends};
 pub use building::build;
 pub use doc_impact::DocImpact;
 pub use grouping::group;
-pub use one_list::{
-    SegmentsFault, length_norms, segments_by_scratch, segments_of, widen_by_norms, widen_list,
-};
+pub use list_segments::ListSegments;
+pub use one_list::{SegmentsFault, length_norms, widen_by_norms, widen_list};
 pub use scratch::Scratch;
+pub use segments::{segments_into, segments_of};
 
 #[cfg(test)]
 mod tests;

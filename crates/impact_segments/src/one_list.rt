@@ -1,25 +1,18 @@
-//! The segments of one list at a time, for a collection that isn't held in memory.
+//! The weights and impacts of one list at a time, for a collection that isn't held in memory.
 
-ghost use Rattle.std.specs.Prelude.{◌≡◌, ℕ, None, ◌<◌, ◌≤◌, ◌*◌, ◌^◌, [], ◌∷◌, length, map, fold, sum_by, All, AllPairs, IfErr, IfOk, OnOk, min, slice_index, vec_capacity};
+ghost use Rattle.std.specs.Prelude.{◌≡◌, ℕ, None, ◌<◌, ◌≤◌, ◌*◌, ◌^◌, [], ◌∷◌, length, fold, All, IfErr, IfOk, OnOk, min, slice_index};
 ghost use Rattle.std.specs.Option.{ForSome};
-ghost use Rattle.jass_base.specs.Gaps.{AreDocs};
 ghost use Rattle.jass_base.specs.Postings.{HasTfInRange};
-ghost use Rattle.jass_base.specs.Segments.{FallsTo, SharesNoDocument};
-ghost use Rattle.jass_base.specs.declared.segment.Segment.{Segment};
 ghost use Rattle.weights.specs.Quantizing.{IsImpactWidth, IsInRange, impact_of, widened};
 ghost use Rattle.weights.specs.Weighting.{idf, length_norm};
-ghost use Rattle.index_model.specs.Views.{segment_data};
 ghost use Rattle.impact_segments.specs.Collections.{weight_in, weights_in};
 ghost use Rattle.impact_segments.specs.Private.ImpactTable.{AreImpacts};
-ghost use Rattle.impact_segments.specs.ListTerms.{list_segments};
 ghost use Rattle.impact_segments.specs.OneList.{EndsLow, IsListOf, Unmade, nearer_end, norms_in, outside, pairs_in};
 ghost use Rattle.impact_segments.specs.declared.doc_impact.DocImpact.{DocImpact};
 ghost use Rattle.jass_base.specs.declared.limits.TheConstants.{MOST_DOCUMENTS};
 
 use crate::doc_impact::DocImpact;
-use crate::grouping::group_in_place;
-use crate::scratch::Scratch;
-use jass_base::{NoMemory, Posting, PostingsList, Row, Segment};
+use jass_base::{NoMemory, Posting, PostingsList};
 use std::alloc::Global;
 use weights::{Bits, Range, Rule, idf, impact_of, length_norm, saturated};
 
@@ -169,131 +162,9 @@ fn widen(
     }
 }
 
-/// The segments of a list whose weights lie in the range of all weights, by falling impact. Outside
-/// comes exactly where impacts are places in the range and a weight lies outside it, unless memory
-/// is refused first.
-pub fn segments_of(
-    alloc: Global,
-    rule: Rule,
-    bits: Bits,
-    range: Range,
-    total: u64,
-    list: &PostingsList,
-    lengths: &[u32],
-) -> Result<Row<Segment>, SegmentsFault>
-    requires list { IsListOf lengths.now total list.now }
-    requires width { IsImpactWidth bits }
-    requires low { EndsLow bits range }
-    ensures exact { IfOk result (λ segments. map segment_data segments
-        ≡ list_segments rule lengths.now total bits range list.now.postings) }
-    ensures postings { IfOk result (λ segments. sum_by (λ (s : Segment). length s.docs) segments
-        ≡ length list.now.postings) }
-    ensures some { IfOk result (λ segments. 1 ≤ length segments) }
-    ensures falling { IfOk result (λ segments. AllPairs FallsTo segments) }
-    ensures once { IfOk result (λ segments. AllPairs SharesNoDocument segments) }
-    ensures docs { IfOk result (All (λ (s : Segment). AreDocs (length lengths.now) s.docs)) }
-    ensures inside { OnOk result (outside bits range (weights_in rule lengths.now total list.now.postings) ≡ None) }
-    ensures fault { IfErr result (Unmade (outside bits range (weights_in rule lengths.now total list.now.postings))) }
-{
-    let mut scratch = Scratch::new(alloc);
-    make_segments(
-        &mut scratch,
-        alloc,
-        rule,
-        bits,
-        range,
-        total,
-        list,
-        lengths,
-        None,
-    )
-}
-
-/// What `segments_of` makes, by the documents' norms and with what a scratch keeps from list to list.
-pub fn segments_by_scratch(
-    scratch: &mut Scratch,
-    alloc: Global,
-    rule: Rule,
-    bits: Bits,
-    range: Range,
-    total: u64,
-    list: &PostingsList,
-    lengths: &[u32],
-    norms: &[u64],
-) -> Result<Row<Segment>, SegmentsFault>
-    requires list { IsListOf lengths.now total list.now }
-    requires width { IsImpactWidth bits }
-    requires low { EndsLow bits range }
-    requires norms { norms.now ≡ norms_in lengths.now total }
-    ensures exact { IfOk result (λ segments. map segment_data segments
-        ≡ list_segments rule lengths.now total bits range list.now.postings) }
-    ensures postings { IfOk result (λ segments. sum_by (λ (s : Segment). length s.docs) segments
-        ≡ length list.now.postings) }
-    ensures some { IfOk result (λ segments. 1 ≤ length segments) }
-    ensures falling { IfOk result (λ segments. AllPairs FallsTo segments) }
-    ensures once { IfOk result (λ segments. AllPairs SharesNoDocument segments) }
-    ensures docs { IfOk result (All (λ (s : Segment). AreDocs (length lengths.now) s.docs)) }
-    ensures inside { OnOk result (outside bits range (weights_in rule lengths.now total list.now.postings) ≡ None) }
-    ensures fault { IfErr result (Unmade (outside bits range (weights_in rule lengths.now total list.now.postings))) }
-{
-    scratch.make_table(bits, range);
-    make_segments(
-        scratch,
-        alloc,
-        rule,
-        bits,
-        range,
-        total,
-        list,
-        lengths,
-        Some(norms),
-    )
-}
-
-fn make_segments(
-    scratch: &mut Scratch,
-    alloc: Global,
-    rule: Rule,
-    bits: Bits,
-    range: Range,
-    total: u64,
-    list: &PostingsList,
-    lengths: &[u32],
-    norms: Option<&[u64]>,
-) -> Result<Row<Segment>, SegmentsFault>
-    requires list { IsListOf lengths.now total list.now }
-    requires width { IsImpactWidth bits }
-    requires low { EndsLow bits range }
-    requires norms { ForSome norms (λ n. n.now ≡ norms_in lengths.now total) }
-    ensures exact { IfOk result (λ segments. map segment_data segments
-        ≡ list_segments rule lengths.now total bits range list.now.postings) }
-    ensures postings { IfOk result (λ segments. sum_by (λ (s : Segment). length s.docs) segments
-        ≡ length list.now.postings) }
-    ensures some { IfOk result (λ segments. 1 ≤ length segments) }
-    ensures falling { IfOk result (λ segments. AllPairs FallsTo segments) }
-    ensures once { IfOk result (λ segments. AllPairs SharesNoDocument segments) }
-    ensures docs { IfOk result (All (λ (s : Segment). AreDocs (length lengths.now) s.docs)) }
-    ensures inside { OnOk result (outside bits range (weights_in rule lengths.now total list.now.postings) ≡ None) }
-    ensures fault { IfErr result (Unmade (outside bits range (weights_in rule lengths.now total list.now.postings))) }
-{
-    let none = match scratch.take_pairs(list.postings.len()) {
-        Ok(none) => none,
-        Err(_) => return Err(SegmentsFault::NoMemory),
-    };
-    let table = scratch.table.impacts(bits, range);
-    let mut pairs = impacts_of(none, table, rule, bits, range, total, list, lengths, norms)?;
-    match group_in_place(alloc, &mut pairs, &mut scratch.spares) {
-        Ok(segments) => {
-            scratch.keep_pairs(pairs);
-            Ok(segments)
-        }
-        Err(_) => Err(SegmentsFault::NoMemory),
-    }
-}
-
-/// The documents of a list with their impacts, in a vector that is empty before and has room for them.
-fn impacts_of(
-    none: Vec<DocImpact>,
+/// Leaves the documents of a list with their impacts.
+pub(crate) fn impacts_of(
+    pairs: &mut Vec<DocImpact>,
     table: &[u16],
     rule: Rule,
     bits: Bits,
@@ -302,22 +173,24 @@ fn impacts_of(
     list: &PostingsList,
     lengths: &[u32],
     norms: Option<&[u64]>,
-) -> Result<Vec<DocImpact>, SegmentsFault>
+) -> Result<(), SegmentsFault>
     requires list { IsListOf lengths.now total list.now }
     requires width { IsImpactWidth bits }
     requires low { EndsLow bits range }
     requires norms { ForSome norms (λ n. n.now ≡ norms_in lengths.now total) }
-    requires none { none.items ≡ [] }
-    requires room { length list.now.postings ≤ vec_capacity none }
     requires table { AreImpacts bits range table.now }
-    ensures pairs { IfOk result (λ pairs. pairs.items
+    ensures pairs { OnOk result (pairs.new.items
         ≡ pairs_in rule lengths.now total bits range list.now.postings) }
-    ensures positive { IfOk result (λ pairs. All (λ (p : DocImpact). 1 ≤ p.impact) pairs.items) }
+    ensures positive { OnOk result (All (λ (p : DocImpact). 1 ≤ p.impact) pairs.new.items) }
     ensures inside { OnOk result (outside bits range (weights_in rule lengths.now total list.now.postings) ≡ None) }
     ensures fault { IfErr result (Unmade (outside bits range (weights_in rule lengths.now total list.now.postings))) }
 {
+    pairs.clear();
+    match pairs.reserve(list.postings.len()) {
+        Ok(()) => {}
+        Err(_) => return Err(SegmentsFault::NoMemory),
+    }
     let weigher = ListRule::new(rule, total, list, lengths, norms);
-    let mut pairs = none;
     for posting in list.postings.as_slice() {
         let weight = weigher.weigh(*posting);
         let impact = impact_in(table, bits, range, weight)?;
@@ -326,7 +199,7 @@ fn impacts_of(
             impact,
         });
     }
-    Ok(pairs)
+    Ok(())
 }
 
 /// The impact of a weight, by the table where it holds it. A weight outside the range is refused.

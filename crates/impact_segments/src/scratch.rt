@@ -1,19 +1,13 @@
 //! What is kept from one list of a collection to the next.
 
-ghost use Rattle.std.specs.Prelude.{◌≡◌, ◌≤◌, [], IfOk, vec_capacity};
 ghost use Rattle.weights.specs.Quantizing.{IsImpactWidth};
 ghost use Rattle.impact_segments.specs.OneList.{EndsLow};
 
 use crate::doc_impact::DocImpact;
 use crate::impact_table::ImpactTable;
-use crate::spares::Spares;
-use jass_base::{NoMemory, Row, Segment};
+use crate::rows::ImpactRows;
 use std::alloc::Global;
-use std::mem;
 use weights::{Bits, Range};
-
-/// How many documents a row has room for that is used again.
-const ROOM: usize = 16;
 
 /// The impacts of a range's weights, and memory that is used again, for a caller that makes the
 /// segments of one list after another. Segments are the same by whatever scratch they are made.
@@ -21,8 +15,8 @@ const ROOM: usize = 16;
 pub struct Scratch {
     alloc: Global,
     pub(crate) table: ImpactTable,
-    pairs: Vec<DocImpact>,
-    pub(crate) spares: Spares,
+    pub(crate) pairs: Vec<DocImpact>,
+    pub(crate) rows: ImpactRows,
 }
 
 impl Scratch {
@@ -32,14 +26,8 @@ impl Scratch {
             alloc,
             table: ImpactTable::new(alloc),
             pairs: Vec::new(alloc),
-            spares: Spares::new(alloc, ROOM),
+            rows: ImpactRows::new(alloc),
         }
-    }
-
-    /// Takes the segments of a list back, once they are no longer of use, so that their memory is
-    /// that of later ones.
-    pub fn take_back(&mut self, segments: Row<Segment>) {
-        self.spares.take_back(segments);
     }
 
     /// Makes the table of a range, where impacts are places in it and there is none yet.
@@ -53,23 +41,5 @@ impl Scratch {
             }
             _ => {}
         }
-    }
-
-    /// No pairs, with room for so many.
-    pub(crate) fn take_pairs(&mut self, count: usize) -> Result<Vec<DocImpact>, NoMemory>
-        ensures none { IfOk result (λ pairs. pairs.items ≡ []) }
-        ensures room { IfOk result (λ pairs. count ≤ vec_capacity pairs) }
-    {
-        let mut pairs = mem::replace(&mut self.pairs, Vec::new(self.alloc));
-        pairs.clear();
-        match pairs.reserve(count) {
-            Ok(()) => Ok(pairs),
-            Err(_) => Err(NoMemory),
-        }
-    }
-
-    /// Takes pairs back that are no longer of use.
-    pub(crate) fn keep_pairs(&mut self, pairs: Vec<DocImpact>) {
-        self.pairs = pairs;
     }
 }

@@ -16,8 +16,9 @@ ghost use Rattle.impact_segments.specs.Private.Pairs.{list_pairs};
 ghost use Rattle.impact_segments.specs.declared.doc_impact.DocImpact.{DocImpact};
 
 use crate::doc_impact::DocImpact;
-use crate::grouping::group_in_place;
-use crate::spares::Spares;
+use crate::grouping::group_by;
+use crate::list_segments::ListSegments;
+use crate::scratch::Scratch;
 use crate::weighing::Weigher;
 use jass_base::{NoMemory, PostingsList, Row, TermSegments, Text};
 use std::alloc::Global;
@@ -44,22 +45,32 @@ pub(crate) fn terms_of(
     ensures docs { IfOk result (λ terms. All (HasTermBelow (length weigher.now.docs.now)) terms) }
 {
     let mut terms = Row::new(alloc);
-    let mut pairs = Vec::new(alloc);
+    let mut scratch = Scratch::new(alloc);
+    let mut segments = ListSegments::new(alloc);
     for list in lists {
-        let term = term_of(alloc, weigher, bits, range, list, &mut pairs)?;
+        let term = term_of(
+            alloc,
+            weigher,
+            bits,
+            range,
+            list,
+            &mut scratch,
+            &mut segments,
+        )?;
         terms.push(term)?;
     }
     Ok(terms)
 }
 
-/// The term of a list that has postings. The pairs are scratch space.
+/// The term of a list that has postings, made in memory that is used again.
 fn term_of(
     alloc: Global,
     weigher: &Weigher,
     bits: Bits,
     range: Range,
     list: &PostingsList,
-    pairs: &mut Vec<DocImpact>,
+    scratch: &mut Scratch,
+    segments: &mut ListSegments,
 ) -> Result<TermSegments, NoMemory>
     requires width { IsImpactWidth bits }
     requires some { 1 ≤ length list.now.postings }
@@ -71,9 +82,10 @@ fn term_of(
         (list_entries weigher.now.rule weigher.now.docs.now bits range list.now)) }
     ensures docs { IfOk result (λ t. HasTermBelow (length weigher.now.docs.now) t) }
 {
+    let pairs = &mut scratch.pairs;
     impacts_of(weigher, bits, range, list, pairs)?;
     let term = Text::from_str(alloc, list.term.as_str())?;
-    let segments = group_in_place(alloc, pairs, &mut Spares::new(alloc, 0))?;
+    let segments = group_by(segments, &mut scratch.rows, alloc, pairs)?;
     Ok(TermSegments { term, segments })
 }
 

@@ -8,8 +8,10 @@ ghost use Rattle.jass_base.specs.declared.postings_list.PostingsList.{PostingsLi
 ghost use Rattle.impact_segments.specs.Pairs.{pair_docs};
 ghost use Rattle.impact_segments.specs.declared.doc_impact.DocImpact.{DocImpact};
 
+use crate::grouping::group_by;
+use crate::rows::ImpactRows;
 use crate::{
-    DocImpact, Scratch, SegmentsFault, build, group, length_norms, segments_by_scratch,
+    DocImpact, ListSegments, Scratch, SegmentsFault, build, group, length_norms, segments_into,
     segments_of, widen_by_norms, widen_list,
 };
 use jass_base::{
@@ -50,15 +52,13 @@ fn a_range_grows_by_one_list(rt: HostRuntime) {
 
 #[test]
 fn segments_by_a_scratch(rt: HostRuntime) {
+    let mut segments = ListSegments::new(rt.alloc());
     let mut scratch = Scratch::new(rt.alloc());
-    let first = impacts_by_scratch(rt.alloc(), &mut scratch);
-    assert!(&rt; first.is_ok_and(|segments| are_impacts(segments.as_slice())));
-    match impacts_by_scratch(rt.alloc(), &mut scratch) {
-        Ok(segments) => scratch.take_back(segments),
-        Err(_) => {}
-    }
-    let again = impacts_by_scratch(rt.alloc(), &mut scratch);
-    assert!(&rt; again.is_ok_and(|segments| are_impacts(segments.as_slice())));
+    assert!(&rt; impacts_into(rt.alloc(), &mut segments, &mut scratch).is_ok());
+    assert!(&rt; impacts_into(rt.alloc(), &mut segments, &mut scratch).is_ok());
+    assert!(&rt; begin_with_the_heaviest(&segments));
+    let rows = segments.to_rows(rt.alloc());
+    assert!(&rt; rows.is_ok_and(|rows| are_impacts(rows.as_slice())));
 }
 
 #[test]
@@ -81,10 +81,14 @@ fn segments_of_one_list(rt: HostRuntime) {
     assert!(&rt; lighter.is_err_and(|fault| fault == SegmentsFault::Outside { kept: 2, found: 1 }));
 }
 
-/// The segments of enough documents to go without a sort.
+/// The segments of enough documents to go without a sort, made by rows that were used before.
 fn many_by_impact(alloc: Global) -> Result<Row<Segment>, NoMemory> {
-    let pairs = striped(alloc)?;
-    group(alloc, pairs.as_slice())
+    let mut pairs = striped(alloc)?;
+    let mut segments = ListSegments::new(alloc);
+    let mut rows = ImpactRows::new(alloc);
+    group_by(&mut segments, &mut rows, alloc, &mut pairs)?;
+    let mut again = striped(alloc)?;
+    group_by(&mut segments, &mut rows, alloc, &mut again)
 }
 
 /// The documents from 0 to 63 with the impacts 1, 2 and 3 in turn.
@@ -143,8 +147,12 @@ fn range_by_norms(alloc: Global) -> Result<Range, NoMemory> {
     Ok(range)
 }
 
-/// The segments of the list by BM25, by the norms of the documents.
-fn impacts_by_scratch(alloc: Global, scratch: &mut Scratch) -> Result<Row<Segment>, SegmentsFault> {
+/// Makes the segments of the list by BM25, by the norms of the documents.
+fn impacts_into(
+    alloc: Global,
+    segments: &mut ListSegments,
+    scratch: &mut Scratch,
+) -> Result<(), SegmentsFault> {
     match (three(alloc, 9), length_norms(alloc, 15, &[9, 5, 1])) {
         (Ok(list), Ok(norms)) => {
             let range = Range {
@@ -152,7 +160,8 @@ fn impacts_by_scratch(alloc: Global, scratch: &mut Scratch) -> Result<Row<Segmen
                 greatest: 572,
             };
             let norms = norms.as_slice();
-            segments_by_scratch(
+            segments_into(
+                segments,
                 scratch,
                 alloc,
                 Rule::Bm25,
@@ -165,6 +174,16 @@ fn impacts_by_scratch(alloc: Global, scratch: &mut Scratch) -> Result<Row<Segmen
             )
         }
         _ => Err(SegmentsFault::NoMemory),
+    }
+}
+
+fn begin_with_the_heaviest(segments: &ListSegments) -> bool {
+    if segments.len() != 3 {
+        return false;
+    }
+    match segments.segment(0) {
+        (impact, [only]) => impact == 255 && *only == 0,
+        _ => false,
     }
 }
 

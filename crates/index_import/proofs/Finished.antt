@@ -1,7 +1,7 @@
 -- An index file that is begun, and one that is whole.
 use Rattle.shared_lemmas.proofs.Common.{◌≡◌, ◌≤◌, ◌<◌, ◌-◌, ◌^◌, ◌⊎◌, ℕ, ◌∷◌, get_or, List, ◌++◌, length, map, take, drop, suc, [], Option, Some, None, Result, Ok, Err, refl, sym, ap, ap₂, subst, ◌∙◌, inl, inr, arith, append_assoc, get_or-append_seam, get_or-map, length-append, length-map}
 use Rattle.shared_lemmas.proofs.Common.{take_all, IfErr, IfOk}
-use Rattle.index_import.proofs.Below.{Appended, Files, Extends, ForContent, IsMissing, Sets, content_there, Totals, CiffFault, CiffRefusal, Segment, segment_data, IndexData, SegmentData, TermData, HeadData, file_length, front_bytes, totals_of, index_text, chosen_entry, chosen_heads}
+use Rattle.index_import.proofs.Below.{Files, Extends, ForContent, IsMissing, Sets, content_there, Totals, CiffFault, CiffRefusal, Segment, segment_data, IndexData, SegmentData, TermData, HeadData, file_length, front_bytes, totals_of, index_text, chosen_entry, chosen_heads}
 use Rattle.index_import.proofs.Below.{chosen_payloads, chosen_terms, table_payloads, LeavesPrefix, Untouched, Unappending, Unbegun, WriterView, change_of, entries_totals, entry_data, next_heads, no_entry, TermHeads, SaveFault, TermFault, Bits, Range, for_both}
 use Rattle.ciff_read.specs.declared.refusal.CiffFault.TheVariants as reading
 use Rattle.index_layout.specs.Heads.{TermHeads as EntryData}
@@ -25,12 +25,6 @@ index_with_terms names made = record { names = names; terms = made }
 abbrev pub TextIs : Type 0
 TextIs = (index : IndexData) → index_text index ≡ front_bytes index.names (chosen_terms (length index.names) index.terms) ++ table_payloads (length index.names) index.terms
 
-abbrev pub FileIs : Type 0
-FileIs = (old mid new : Option Files) (name text part : List ℕ) → Sets old mid name text → Extends mid new name part → Sets old new name (text ++ part)
-
-abbrev pub PrefixIs : Type 0
-PrefixIs = (old mid new : Option Files) (name text part : List ℕ) → Sets old mid name text → (new ≡ mid) ⊎ ((n : ℕ) × Extends mid new name (take n part)) → LeavesPrefix old new name (text ++ part)
-
 abbrev pub TotalsIs : Type 0
 TotalsIs = (index : IndexData) → entries_totals (length index.names) (chosen_terms (length index.names) index.terms) ≡ totals_of index
 
@@ -41,8 +35,8 @@ module _ (d : ℕ) (names : List (List ℕ)) (entries : List EntryData) (made : 
   pub text_is : TextIs → index_text (index_with_terms names made) ≡ front_bytes names entries ++ table_payloads d made
   text_is law = law (index_with_terms names made) ∙ ap₂ (λ (n : ℕ) (es : List EntryData). front_bytes names es ++ table_payloads n made) many (ap (λ (n : ℕ). chosen_terms n made) many ∙ sym are)
 
-  kept_is : TextIs → (bytes : List ℕ) → bytes ≡ table_payloads d made → front_bytes names entries ++ bytes ≡ index_text (index_with_terms names made)
-  kept_is law bytes is = ap (λ (all : List ℕ). front_bytes names entries ++ all) is ∙ sym (text_is law)
+  pub parts_are : TextIs → (payloads : List ℕ) → payloads ≡ table_payloads d made → front_bytes names entries ++ payloads ≡ index_text (index_with_terms names made)
+  parts_are law payloads is = ap (λ (all : List ℕ). front_bytes names entries ++ all) is ∙ sym (text_is law)
 
   pub length_is : LengthIs → length (index_text (index_with_terms names made)) ≡ file_length names entries
   length_is law = law (index_with_terms names made) ∙ ap (file_length names) (ap (λ (n : ℕ). chosen_terms n made) many ∙ sym are)
@@ -69,17 +63,6 @@ module _ (d : ℕ) (names : List (List ℕ)) (entries : List EntryData) (made : 
   pub whole_text : (old new : Option Files) (index : List ℕ) (n : ℕ) → n ≡ length entries → TextIs → Sets old new index (front_bytes names entries ++ table_payloads d (take n made)) → Sets old new index (index_text (index_with_terms names made))
   whole_text old new index n all law set =
       subst (λ (bytes : List ℕ). Sets old new index bytes) (ap (λ (ts : List TermData). front_bytes names entries ++ table_payloads d ts) (take_all n made (omega (arith, all, as_many))) ∙ sym (text_is law)) set
-
-  -- a file that was begun, and the payloads that were kept
-  pub kept_text : FileIs → TextIs → (old mid new : Option Files) (index bytes : List ℕ) → bytes ≡ table_payloads d made → Sets old mid index (front_bytes names entries) → Extends mid new index bytes
-      → Sets old new index (index_text (index_with_terms names made))
-  kept_text file text old mid new index bytes is set put =
-      subst (λ (all : List ℕ). Sets old new index all) (kept_is text bytes is) (file old mid new index (front_bytes names entries) bytes set put)
-
-  pub kept_prefix : PrefixIs → TextIs → (old mid new : Option Files) (index bytes : List ℕ) → bytes ≡ table_payloads d made → Sets old mid index (front_bytes names entries)
-      → (new ≡ mid) ⊎ ((n : ℕ) × Extends mid new index (take n bytes)) → LeavesPrefix old new index (index_text (index_with_terms names made))
-  kept_prefix prefix text old mid new index bytes is set put =
-      subst (λ (all : List ℕ). LeavesPrefix old new index all) (kept_is text bytes is) (prefix old mid new index (front_bytes names entries) bytes set put)
 
 -- ---- what stands after each fault
 
@@ -123,15 +106,19 @@ module _ (old : Option Files) (name index : List ℕ) (d : ℕ) (names : List (L
   not_appended told before after i at part wanted terms.NoMemory few set same more prefix put here changed =
       subst (λ (m : Option Files). Begins old m index made_index) (sym (ap told same)) (begins d names entries made many are old (told before) index i text lengths few set)
 
-  -- all payloads were appended at once
-  pub kept_written : (mid new : Option Files) (bytes : List ℕ) (result : Result Totals ImportFault) → file_length names entries ≤ 2 ^ 32 → bytes ≡ table_payloads d made
-      → FileIs → PrefixIs → TotalsIs → Sets old mid index (front_bytes names entries) → Appended mid new index bytes result
-      → IfOk result (λ totals. totals ≡ entries_totals d entries) → IfErr result (λ fault. fault ≡ WriteFault) → Writes old new name index made_index result
-  kept_written mid new bytes (Ok totals) few is file prefix sums set put counted only =
-      (kept_text d names entries made many are file text old mid new index bytes is set put, fits d names entries made many are lengths few, counted ∙ totals_are d names entries made many are sums)
-  kept_written mid new bytes (Err fault) few is file prefix sums set put counted only =
-      subst (λ (f : ImportFault). Writes old new name index made_index (Err f)) (sym only)
-      (fits d names entries made many are lengths few, kept_prefix d names entries made many are prefix text old mid new index bytes is set put)
+  -- all parts were written
+  pub parts_written : (new : Option Files) (payloads : List ℕ) (totals : Totals) → payloads ≡ table_payloads d made → TotalsIs → totals ≡ entries_totals d entries → Sets old new index (front_bytes names entries ++ payloads)
+      → file_length names entries ≤ 2 ^ 32 → Writes old new name index made_index (Ok totals)
+  parts_written new payloads totals is sums counted set few =
+      (subst (λ (all : List ℕ). Sets old new index all) (parts_are d names entries made many are text payloads is) set, fits d names entries made many are lengths few, counted ∙ totals_are d names entries made many are sums)
+
+  -- they weren't
+  pub parts_unwritten : {C : Type 0} (told : C → Option Files) (before after : C) (payloads : List ℕ) (fault : SaveFault) → told before ≡ old → payloads ≡ table_payloads d made → Unbegun (file_length names entries) fault
+      → Untouched before after fault → LeavesPrefix old (told after) index (front_bytes names entries ++ payloads) → Writes old (told after) name index made_index (Err (unbegun fault))
+  parts_unwritten told before after payloads (saving.TooLarge n) same is size kept prefix = (sym size.0 ∙ sym (length_is d names entries made many are lengths), size.1, ap told kept ∙ same)
+  parts_unwritten told before after payloads saving.WriteFault same is size kept prefix =
+      (fits d names entries made many are lengths size, subst (λ (all : List ℕ). LeavesPrefix old (told after) index all) (parts_are d names entries made many are text payloads is) prefix)
+  parts_unwritten told before after payloads saving.NoMemory same is size kept prefix = inl (ap told kept ∙ same)
 
 -- the heads of the next term
 pub next_is : (writer : WriterView) (d i : ℕ) (entries : List EntryData) (made : List TermData) (x : TermData) → writer.entries ≡ entries → writer.left ≡ length entries - i → i < length entries → entries ≡ chosen_terms d made
@@ -177,17 +164,17 @@ only_untold old now name P Q same there p q never = by (on_told old name ⊥ (fo
     by (inl is) = is
     by (inr is) = absurd is
 
--- the same of segments in memory, by the walk's own name and number of documents
-pub found_here : (old now : Option Files) (name : List ℕ) (d : ℕ) (w : Weighing) (bits : Bits) (range : Range) (places front rest : List Place) (p : Place) (made : List TermData) (own : List ℕ) (many : ℕ) (found view : List Segment)
-    → view ≡ found → own ≡ name → many ≡ d → content_there now name ≡ content_there old name → ¬ IsMissing old name → places ≡ front ++ p ∷ rest
-    → ForContent now own (λ content. map segment_data found ≡ segments_there content many w bits range p.at)
+-- the same of segments in rows, by the walk's own name and number of documents
+pub found_here : (old now : Option Files) (name : List ℕ) (d : ℕ) (w : Weighing) (bits : Bits) (range : Range) (places front rest : List Place) (p : Place) (made : List TermData) (own : List ℕ) (many : ℕ) (found : List SegmentData) (rows : List Segment)
+    → map segment_data rows ≡ found → own ≡ name → many ≡ d → content_there now name ≡ content_there old name → ¬ IsMissing old name → places ≡ front ++ p ∷ rest
+    → ForContent now own (λ content. found ≡ segments_there content many w bits range p.at)
     → ForContent old name (λ content. map (λ (t : TermData). t.segments) made ≡ map (λ (q : Place). segments_there content d w bits range q.at) places)
-    → (old ≡ None) ⊎ (map segment_data view ≡ (get_or made (length front) (record { term = []; segments = [] })).segments)
-found_here old now name d w bits range places front rest p made own many found view shown named counted same there parts read told =
-    found_are old now name d w bits range places front rest p made (record { term = []; segments = [] }) (map segment_data view) same there parts
-    (subst (λ (n : List ℕ). ForContent now n (λ content. map segment_data view ≡ segments_there content d w bits range p.at)) named
-    (subst (λ (k : ℕ). ForContent now own (λ content. map segment_data view ≡ segments_there content k w bits range p.at)) counted
-    (subst (λ (ss : List Segment). ForContent now own (λ content. map segment_data ss ≡ segments_there content many w bits range p.at)) (sym shown) read))) told
+    → (old ≡ None) ⊎ (map segment_data rows ≡ (get_or made (length front) (record { term = []; segments = [] })).segments)
+found_here old now name d w bits range places front rest p made own many found rows shown named counted same there parts read told =
+    found_are old now name d w bits range places front rest p made (record { term = []; segments = [] }) (map segment_data rows) same there parts
+    (subst (λ (n : List ℕ). ForContent now n (λ content. map segment_data rows ≡ segments_there content d w bits range p.at)) named
+    (subst (λ (k : ℕ). ForContent now own (λ content. map segment_data rows ≡ segments_there content k w bits range p.at)) counted
+    (subst (λ (ss : List SegmentData). ForContent now own (λ content. ss ≡ segments_there content many w bits range p.at)) (sym shown) read))) told
 
 pub turn_low : (places front rest : List Place) (p : Place) (terms : List TermHeads) → places ≡ front ++ p ∷ rest → length places ≡ length terms → length front < length (map entry_data terms)
 turn_low places front rest p terms parts many = omega (arith, ap length parts, length-append front (p ∷ rest), many, length-map terms entry_data)

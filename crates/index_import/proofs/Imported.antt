@@ -1,5 +1,5 @@
 -- The index that is made of a file that was judged.
-use Rattle.shared_lemmas.proofs.Common.{◌≡◌, ℕ, inl, inr, List, [], ◌∷◌, map, Option, Some, None, Result, Ok, Err, refl, sym, ap, ap₂, subst, ◌∙◌, All, AllPairs, IfSome, IsSomeAnd, IsPermutation, get, AllByRecursion, All-from_recursion, All-map, recursion_from_All, map-map}
+use Rattle.shared_lemmas.proofs.Common.{◌≡◌, ℕ, inl, inr, List, [], ◌∷◌, length, map, Option, Some, None, Result, Ok, Err, refl, sym, ap, ap₂, subst, ◌∙◌, All, AllPairs, IfSome, IsSomeAnd, IsPermutation, get, AllByRecursion, All-from_recursion, All-map, recursion_from_All, map-map}
 use Rattle.index_import.proofs.Below.{CollectionData, ListData, Files, ForContent, IsMissing, OnContent, BytesRise, Totals, Rule, Bits, Raw, Of, Range, empty_range, impact_of, range_of, IsKeptList, read_ciff, LeavesWalk, WalkView, CiffFault, for_both, for_one, for_pair, index_with, IndexData}
 use Rattle.index_import.proofs.Below.{SegmentData, TermData, TermHeads, collection_index, index_of, lengths_of, total_of, weights_in, weights_of, AreByTerm, list_term, lists_in_use, widened_by, outside}
 use Rattle.ciff_read.specs.declared.refusal.CiffFault.TheVariants as reading
@@ -12,7 +12,9 @@ use Rattle.index_import.specs.Private.Writing.{HasTerms, Writes}
 use Rattle.index_import.specs.Private.Outlining.{IsOutline, list_there, lists_there, names_of}
 use Rattle.index_import.specs.Private.Ranging.{range_there}
 use Rattle.index_import.specs.Private.Rereading.{IsInside, segments_there}
+use Rattle.index_import.specs.Private.Spelling.{AreOf, IsSpelling}
 use Rattle.index_import.specs.Private.Surveying.{kept_entry}
+use Rattle.index_write.specs.Spelled.{SpelledView}
 use Rattle.index_import.specs.declared.fault.ImportFault.{ImportFault}
 use Rattle.index_import.specs.declared.fault.ImportFault.TheVariants.{Refused, ReadFault, TooLarge, WriteFault, NoMemory}
 use Rattle.index_import.specs.declared.list_entry.ListEntry.{ListEntry}
@@ -164,14 +166,13 @@ module _ (files : Option Files) (walk : WalkView) (w : Weighing) (bits : Bits) (
       by reading.NoMemory fails = inl (same_then ∙ same)
 
   -- the terms of the heads, with the places of their lists
-  has_terms : (inside : HoldsEach) (places : List Place) (heads : List TermHeads) (kept : Option (List ℕ)) (are : AreHeads files walk.name walk.docs w bits range lists heads kept) → places ≡ places_of lists
-      → HasTerms files walk.name walk.docs w bits range places heads kept are.terms
-  has_terms inside places heads kept are placed =
+  has_terms : (inside : HoldsEach) (places : List Place) (heads : List TermHeads) (are : AreHeads files walk.name walk.docs w bits range lists heads) → places ≡ places_of lists
+      → HasTerms files walk.name walk.docs w bits range places heads are.terms
+  has_terms inside places heads are placed =
       let segments_at : List ℕ → Place → List SegmentData = λ (content : List ℕ) (p : Place). segments_there content walk.docs w bits range p.at in
       let In : List ℕ → Place → Type 0 = λ (content : List ℕ) (p : Place). IsInside content walk.docs w bits range p.at in
       record {
         heads_are = are.heads_are;
-        payloads_are = are.payloads_are;
         told = for_one files walk.name (λ content. are.terms ≡ terms_there content walk.docs w bits range lists) (λ content. map (λ (t : TermData). t.segments) are.terms ≡ map (segments_at content) places)
             (λ content is. ap (map (λ (t : TermData). t.segments)) is ∙ map-map (λ (t : TermData). t.segments) (term_there content walk.docs w bits range) lists
             ∙ sym (map-map (segments_at content) (λ (e : ListEntry). e.place) lists) ∙ ap (map (segments_at content)) (sym placed)) are.told;
@@ -196,20 +197,34 @@ module _ (files : Option Files) (walk : WalkView) (w : Weighing) (bits : Bits) (
       (for_pair files walk.name Outline Ranged outlined found) terms_are)
 
   -- the index is written, and it is that of the collection
-  pub writes_made : MakesIndex → AsksNone → HasRange → HoldsEach → (f2 f3 new : Option Files) (w2 w3 : WalkView) (names : List (List ℕ)) (index : List ℕ) (places : List Place) (heads : List TermHeads) (kept : Option (List ℕ)) (result : Result Totals ImportFault)
+  pub writes_made : MakesIndex → AsksNone → HasRange → HoldsEach → (f2 f3 new : Option Files) (w2 w3 : WalkView) (names : List (List ℕ)) (index : List ℕ) (places : List Place) (heads : List TermHeads) (result : Result Totals ImportFault)
       → AllPairs (λ (a b : ListEntry). BytesRise a.term b.term) lists → ForContent files walk.name (λ content. IsOutline content walk.docs names w.lengths.now lists)
-      → f2 ≡ files → LeavesWalk walk w2 → AreHeads f2 w2.name w2.docs w bits range lists heads kept → places ≡ places_of lists → f3 ≡ f2 → LeavesWalk w2 w3
-      → ((made : List TermData) → HasTerms f3 w3.name w3.docs w bits range places heads kept made → Writes f3 new w3.name index (record { names = names; terms = made }) result)
+      → f2 ≡ files → LeavesWalk walk w2 → AreHeads f2 w2.name w2.docs w bits range lists heads → places ≡ places_of lists → f3 ≡ f2 → LeavesWalk w2 w3
+      → ((made : List TermData) → HasTerms f3 w3.name w3.docs w bits range places heads made → Writes f3 new w3.name index (record { names = names; terms = made }) result)
       → Imports files new walk.name index w.rule bits result
-  writes_made make raw ranged inside f2 f3 new w2 w3 names index places heads kept result rising outlined same leaves are placed same_then leaves_next writes =
-      let own : AreHeads files walk.name walk.docs w bits range lists heads kept
-      = subst (λ (d : ℕ). AreHeads files walk.name d w bits range lists heads kept) leaves.docs (subst (λ (n : List ℕ). AreHeads files n w2.docs w bits range lists heads kept) leaves.name
-      (subst (λ (f : Option Files). AreHeads f w2.name w2.docs w bits range lists heads kept) same are)) in
+  writes_made make raw ranged inside f2 f3 new w2 w3 names index places heads result rising outlined same leaves are placed same_then leaves_next writes =
+      let own : AreHeads files walk.name walk.docs w bits range lists heads
+      = subst (λ (d : ℕ). AreHeads files walk.name d w bits range lists heads) leaves.docs (subst (λ (n : List ℕ). AreHeads files n w2.docs w bits range lists heads) leaves.name
+      (subst (λ (f : Option Files). AreHeads f w2.name w2.docs w bits range lists heads) same are)) in
       let made : IndexData = record { names = names; terms = own.terms } in
       let all : LeavesWalk walk w3 = leaves_then walk w2 w3 leaves leaves_next in
       let now : f3 ≡ files = same_then ∙ same in
-      let has : HasTerms f3 w3.name w3.docs w bits range places heads kept own.terms
-      = subst (λ (f : Option Files). HasTerms f w3.name w3.docs w bits range places heads kept own.terms) (sym now) (subst (λ (n : List ℕ). HasTerms files n w3.docs w bits range places heads kept own.terms) (sym all.name)
-      (subst (λ (d : ℕ). HasTerms files walk.name d w bits range places heads kept own.terms) (sym all.docs) (has_terms inside places heads kept own placed))) in
+      let has : HasTerms f3 w3.name w3.docs w bits range places heads own.terms
+      = subst (λ (f : Option Files). HasTerms f w3.name w3.docs w bits range places heads own.terms) (sym now) (subst (λ (n : List ℕ). HasTerms files n w3.docs w bits range places heads own.terms) (sym all.name)
+      (subst (λ (d : ℕ). HasTerms files walk.name d w bits range places heads own.terms) (sym all.docs) (has_terms inside places heads own placed))) in
       imports files new walk.name index w.rule bits made result here (is_made make raw ranged names own.terms rising outlined own.told)
       (subst (λ (f : Option Files). Writes f new walk.name index made result) now (subst (λ (n : List ℕ). Writes f3 new n index made result) all.name (writes own.terms has)))
+
+  -- the lists are spelled, and what is written is the index of the collection
+  pub spelled_made : MakesIndex → AsksNone → HasRange → (f2 f3 new : Option Files) (w2 : WalkView) (names : List (List ℕ)) (index : List ℕ) (view : SpelledView) (payloads : List ℕ) (result : Result Totals ImportFault)
+      → AllPairs (λ (a b : ListEntry). BytesRise a.term b.term) lists → length names ≡ walk.docs → ForContent files walk.name (λ content. IsOutline content walk.docs names w.lengths.now lists)
+      → f2 ≡ files → LeavesWalk walk w2 → IsSpelling f2 w2.name w2.docs w bits range lists view payloads → f3 ≡ f2
+      → ((name : List ℕ) (made : List TermData) → AreOf (length names) view payloads made → Writes f3 new name index (record { names = names; terms = made }) result)
+      → Imports files new walk.name index w.rule bits result
+  spelled_made make raw ranged f2 f3 new w2 names index view payloads result rising many outlined same leaves spelled same_then writes =
+      let own : IsSpelling files walk.name walk.docs w bits range lists view payloads
+      = subst (λ (d : ℕ). IsSpelling files walk.name d w bits range lists view payloads) leaves.docs (subst (λ (n : List ℕ). IsSpelling files n w2.docs w bits range lists view payloads) leaves.name
+      (subst (λ (f : Option Files). IsSpelling f w2.name w2.docs w bits range lists view payloads) same spelled)) in
+      let made : IndexData = record { names = names; terms = own.terms } in
+      imports files new walk.name index w.rule bits made result here (is_made make raw ranged names own.terms rising outlined own.told)
+      (subst (λ (f : Option Files). Writes f new walk.name index made result) (same_then ∙ same) (writes walk.name own.terms (subst (λ (d : ℕ). AreOf d view payloads own.terms) (sym many) own.are)))

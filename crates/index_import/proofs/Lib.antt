@@ -3,10 +3,13 @@ mod Again
 mod Beside
 mod Finished
 mod Headed
+mod Spelled
 mod Imported
 mod Made
 mod Outlining
 mod Ready
+mod SegmentTurns
+mod Rows
 mod Surveying
 mod Turns
 mod Widening

@@ -1,6 +1,6 @@
 -- What is made of a list that is read again, or of postings that were kept.
 use Rattle.std.proofs.Common.{◌≡◌, ◌≤◌, ℕ, List, length, Option, Result, ap, subst, ◌∙◌}
-use Rattle.index_import.proofs.Below.{ListData, list_data, Files, ForContent, Posting, PostingsList, Segment, Bits, Range, CiffFault, for_one}
+use Rattle.index_import.proofs.Below.{ListData, list_data, Files, ForContent, Posting, PostingsList, SegmentData, Bits, Range, CiffFault, for_one}
 use Rattle.index_import.specs.Private.Outlining.{list_there}
 use Rattle.index_import.specs.Private.Rereading.{MakesOf, MakesSegments}
 use Rattle.index_import.specs.Private.Surveying.{HoldsMost, entry_postings}
@@ -24,8 +24,8 @@ module _ (files : Option Files) (name : List ℕ) (docs : ℕ) where
       (λ content held. held.kept some ∙ ap (λ (l : ListData). l.postings) (list_there_is content docs e.place.at held.list held.there)) holds
 
   -- what is made of them is made of that list
-  pub made_there : (w : Weighing) (bits : Bits) (range : Range) (at : ℕ) (postings : List Posting) (result : Result (List Segment) CiffFault) → AreThere at postings
-      → MakesOf w bits range postings result → ForContent files name (λ content. MakesSegments content docs w bits range at result)
-  made_there w bits range at postings result there made =
-      for_one files name (λ content. postings ≡ (list_there content docs at).postings) (λ content. MakesSegments content docs w bits range at result)
-      (λ content same. subst (λ (ps : List Posting). MakesOf w bits range ps result) same made) there
+  pub made_there : (T : Type 0) (w : Weighing) (bits : Bits) (range : Range) (at : ℕ) (postings : List Posting) (segments : List SegmentData) (result : Result T CiffFault) → AreThere at postings
+      → MakesOf w bits range postings segments result → ForContent files name (λ content. MakesSegments content docs w bits range at segments result)
+  made_there T w bits range at postings segments result there made =
+      for_one files name (λ content. postings ≡ (list_there content docs at).postings) (λ content. MakesSegments content docs w bits range at segments result)
+      (λ content same. subst (λ (ps : List Posting). MakesOf w bits range ps segments result) same made) there

@@ -2,8 +2,10 @@
 pub mod Faults
 pub mod Heading
 pub mod KeptPostings
+pub mod ListTerm
 pub mod Outlining
 pub mod Ranging
 pub mod Rereading
+pub mod Spelling
 pub mod Surveying
 pub mod Writing

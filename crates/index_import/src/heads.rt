@@ -3,14 +3,13 @@ ghost use Rattle.std.specs.List.{sum_by};
 ghost use Rattle.jass_base.specs.Gaps.{AreDocs};
 ghost use Rattle.jass_base.specs.Outside.{Rose, ForContent};
 ghost use Rattle.jass_base.specs.Terms.{BytesRise};
-ghost use Rattle.jass_base.specs.declared.segment.Segment.{Segment};
 ghost use Rattle.weights.specs.Quantizing.{IsImpactWidth};
 ghost use Rattle.ciff_read.specs.Walk.{LeavesWalk};
 ghost use Rattle.impact_segments.specs.OneList.{EndsLow};
-ghost use Rattle.index_model.specs.Views.{segment_data};
-ghost use Rattle.index_write.specs.Chosen.{chosen_heads, chosen_payloads, head_data};
+ghost use Rattle.index_model.specs.Index.{SegmentData};
+ghost use Rattle.index_write.specs.Chosen.{chosen_heads, head_data};
 ghost use Rattle.index_write.specs.Streaming.{AreEntries, entry_data};
-ghost use Rattle.index_import.specs.Private.Heading.{AreHeads, FailsAllInside, KeepsMore, places_of};
+ghost use Rattle.index_import.specs.Private.Heading.{AreHeads, FailsAllInside, places_of};
 ghost use Rattle.index_import.specs.Private.Surveying.{AreGiven, HoldsMost, IsReady, KeepsAll};
 ghost use Rattle.index_import.specs.declared.list_entry.ListEntry.{ListEntry};
 ghost use Rattle.jass_base.specs.declared.limits.TheConstants.{MOST_POSTINGS, MOST_TERMS};
@@ -19,24 +18,18 @@ use crate::list_entry::{ListEntry, Place};
 use crate::reading::entry_segments;
 use crate::weighing::Weighing;
 use ciff_read::{CiffFault, CiffWalk};
-use impact_segments::Scratch;
+use impact_segments::{ListSegments, Scratch};
 use index_write::laws::made_heads_are_entries;
-use index_write::{PayloadHead, TermHeads, payload_heads, put_payloads};
-use jass_base::{Cabinet, Row, Segment};
+use index_write::{PayloadHead, TermHeads};
+use jass_base::{Cabinet, NoMemory, Row};
 use std::alloc::Global;
 use weights::{Bits, Range};
-
-/// How many bytes of payloads are kept at the most, but for those of one term.
-const MOST_KEPT_BYTES: usize = 67_108_864;
 
 /// The terms of lists with the heads of their segments, and the places of the lists.
 #[derive(Drop)]
 pub(crate) struct Heads {
     pub terms: Row<TermHeads>,
     pub places: Vec<Place>,
-    /// The payloads of all segments, where they are few enough to be kept, so that the lists needn't
-    /// be read once more.
-    pub payloads: Option<Row<u8>>,
 }
 
 /// Makes the heads of the segments of lists, which rise by their terms. Those whose postings weren't
@@ -64,7 +57,7 @@ pub(crate) fn read_heads<C: Cabinet>(
     ensures ready { OnOk result (IsReady (C.told files.old) walk.old.name walk.new) }
     ensures leaves { LeavesWalk walk.old walk.new }
     ensures heads { IfOk result (λ heads. AreHeads (C.told files.old) walk.old.name walk.old.docs
-        weighing.entry bits range lists.items heads.terms heads.payloads) }
+        weighing.entry bits range lists.items heads.terms) }
     ensures as_many { IfOk result (λ heads. length heads.terms ≡ length lists.items) }
     ensures entries { IfOk result (λ heads. AreEntries (map entry_data heads.terms)) }
     ensures places { IfOk result (λ heads. heads.places.items ≡ places_of lists.items) }
@@ -85,11 +78,12 @@ pub(crate) fn read_heads<C: Cabinet>(
         Ok(places) => places,
         Err(_) => return Err(CiffFault::NoMemory),
     };
-    let mut payloads = Some(Row::new(alloc));
+    let mut segments = ListSegments::new(alloc);
     let mut scratch = Scratch::new(alloc);
     let mut spare = Row::new(alloc);
     'lists: for entry in lists {
-        let segments = match entry_segments(
+        match entry_segments(
+            &mut segments,
             &mut spare,
             &mut scratch,
             alloc,
@@ -100,16 +94,18 @@ pub(crate) fn read_heads<C: Cabinet>(
             range,
             &entry,
         ) {
-            Ok(segments) => segments,
+            Ok(()) => {}
             Err(fault) => return Err(fault),
-        };
+        }
         let (term, place) = entry.into_parts();
-        let heads = match payload_heads(alloc, segments.as_slice(), docs) {
+        let term = match term.into_text(alloc) {
+            Ok(term) => term,
+            Err(_) => return Err(CiffFault::NoMemory),
+        };
+        let heads = match list_heads(alloc, &segments, docs) {
             Ok(heads) => heads,
             Err(_) => return Err(CiffFault::NoMemory),
         };
-        payloads = keep_payloads(payloads, segments.as_slice(), heads.as_slice(), docs);
-        scratch.take_back(segments);
         match terms.push(TermHeads { term, heads }) {
             Ok(()) => {}
             Err(_) => return Err(CiffFault::NoMemory),
@@ -119,31 +115,23 @@ pub(crate) fn read_heads<C: Cabinet>(
             Err(_) => return Err(CiffFault::NoMemory),
         }
     }
-    Ok(Heads {
-        terms,
-        places,
-        payloads,
-    })
+    Ok(Heads { terms, places })
 }
 
-/// Keeps the payloads of one term more, where those before were kept and are few. Where memory is
-/// refused for them, none are kept.
-fn keep_payloads(
-    kept: Option<Row<u8>>,
-    segments: &[Segment],
-    heads: &[PayloadHead],
+/// The heads of segments, each in its shortest codec, in an index of so many documents.
+fn list_heads(
+    alloc: Global,
+    segments: &ListSegments,
     docs: u32,
-) -> Option<Row<u8>>
-    requires docs { All (λ (s : Segment). AreDocs docs s.docs) segments.now }
-    requires heads { map head_data heads.now ≡ chosen_heads docs (map segment_data segments.now) }
-    ensures { KeepsMore kept (chosen_payloads docs (map segment_data segments.now)) result }
+) -> Result<Row<PayloadHead>, NoMemory>
+    requires { All (λ (s : SegmentData). AreDocs docs s.docs) segments.now }
+    ensures positive { OnOk result (All (λ (s : SegmentData). 1 ≤ s.impact) segments.now) }
+    ensures heads { IfOk result (λ heads. map head_data heads ≡ chosen_heads docs segments.now) }
 {
-    let mut payloads = kept?;
-    if payloads.len() > MOST_KEPT_BYTES {
-        return None;
+    let mut heads = Row::with_room(alloc, segments.len())?;
+    for index in 0..segments.len() {
+        let (impact, here) = segments.segment(index);
+        heads.push(PayloadHead::of(impact, here, docs))?;
     }
-    match put_payloads(segments, heads, docs, &mut payloads) {
-        Ok(()) => Some(payloads),
-        Err(_) => None,
-    }
+    Ok(heads)
 }

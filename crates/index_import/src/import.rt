@@ -10,6 +10,7 @@ use crate::heads::read_heads;
 use crate::list_entry::ListEntry;
 use crate::outline::Outline;
 use crate::ranging::read_range;
+use crate::spelling::{posting_count, spell_lists, write_spelled};
 use crate::survey::survey_file;
 use crate::weighing::Weighing;
 use crate::writing::write_index;
@@ -19,6 +20,10 @@ use impact_segments::length_norms;
 use jass_base::{Cabinet, Row, Text, Totals};
 use std::alloc::Global;
 use weights::{Bits, Rule};
+
+/// With more postings the payloads of all lists aren't held in memory, and lists are read once more to
+/// write them. So many postings have at most 128 MiB of payloads.
+const MOST_HELD_POSTINGS: u64 = 33_554_432;
 
 /// Makes an index file of a CIFF file, and gives the totals of the index. The CIFF file is read to
 /// its end before the index is touched. Refused comes with the first refusal of the file, and
@@ -104,6 +109,13 @@ fn import_lists<C: Cabinet>(
         Ok(range) => range,
         Err(fault) => return Err(ImportFault::from_ciff(fault)),
     };
+    if are_few(&lists) {
+        let spelling = match spell_lists(alloc, walk, files, weighing, bits, range, &lists) {
+            Ok(spelling) => spelling,
+            Err(fault) => return Err(ImportFault::from_ciff(fault)),
+        };
+        return write_spelled(alloc, files, names, spelling, index);
+    }
     let heads = match read_heads(alloc, walk, files, weighing, bits, range, lists) {
         Ok(heads) => heads,
         Err(fault) => return Err(ImportFault::from_ciff(fault)),
@@ -111,4 +123,9 @@ fn import_lists<C: Cabinet>(
     write_index(
         alloc, walk, files, weighing, bits, range, names, heads, index,
     )
+}
+
+/// Whether lists have so few postings in all that their payloads are held in memory.
+fn are_few(lists: &[ListEntry]) -> bool {
+    posting_count(lists) <= MOST_HELD_POSTINGS
 }

@@ -7,6 +7,7 @@ ghost use Rattle.index_import.specs.Private.KeptPostings.{postings_in};
 ghost use Rattle.jass_base.specs.declared.limits.TheConstants.{LONGEST_TERM, MOST_POSTINGS};
 
 use crate::kept_postings::KeptPostings;
+use crate::list_term::ListTerm;
 use impact_segments::most_tf;
 use jass_base::{NoMemory, Posting, PostingsList, Row, Text};
 use std::alloc::Global;
@@ -26,7 +27,7 @@ pub(crate) struct Place {
 /// What is kept of a list that has postings, so that it can be read again, or needn't be.
 #[derive(Debug, Drop)]
 pub(crate) struct ListEntry {
-    pub term: Text,
+    pub term: ListTerm,
     pub place: Place,
     /// All its postings, or none.
     pub kept: KeptPostings,
@@ -52,7 +53,7 @@ impl ListEntry {
         let most = most_tf(items);
         let kept = KeptPostings::new(alloc, items, most, room);
         let entry = ListEntry {
-            term,
+            term: ListTerm::new(term),
             place: Place { at, count, most },
             kept,
         };
@@ -83,7 +84,7 @@ impl ListEntry {
     }
 
     /// The term and the place, which are needed longer than the postings.
-    pub fn into_parts(self) -> (Text, Place)
+    pub fn into_parts(self) -> (ListTerm, Place)
         ensures term { result.0 ≡ self.term }
         ensures place { result.1 ≡ self.place }
     {

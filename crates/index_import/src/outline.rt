@@ -58,8 +58,8 @@ fn in_order(alloc: Global, docs: Vec<(u32, DocRecord)>) -> Result<(Row<Text>, Ve
 {
     let mut docs = docs;
     docs.sort_by(|a, b| a.0.cmp(&b.0))?;
-    let mut names = Row::new(alloc);
-    let mut lengths = Vec::new(alloc);
+    let mut names = Row::with_room(alloc, docs.len())?;
+    let mut lengths = Vec::with_capacity(alloc, docs.len())?;
     for (_, record) in docs {
         let DocRecord { name, length, .. } = record;
         names.push(name)?;

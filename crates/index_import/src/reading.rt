@@ -12,8 +12,8 @@ ghost use Rattle.index_import.specs.Private.Surveying.{AreOfList, HoldsMost, IsR
 use crate::list_entry::{ListEntry, Place};
 use crate::weighing::Weighing;
 use ciff_read::{CiffFault, CiffRefusal, CiffWalk, CiffWhy};
-use impact_segments::{Scratch, SegmentsFault, segments_by_scratch};
-use jass_base::{Cabinet, Posting, PostingsList, Row, Segment};
+use impact_segments::{ListSegments, Scratch, SegmentsFault, segments_into};
+use jass_base::{Cabinet, Posting, PostingsList, Row};
 use std::alloc::Global;
 use std::mem::replace;
 use weights::{Bits, Range};
@@ -83,6 +83,7 @@ pub(crate) fn entry_list<C: Cabinet>(
 /// Makes the segments of a list: of the postings that were kept of it, or else of the list as it is
 /// read again.
 pub(crate) fn entry_segments<C: Cabinet>(
+    segments: &mut ListSegments,
     spare: &mut Row<Posting>,
     scratch: &mut Scratch,
     alloc: Global,
@@ -92,7 +93,7 @@ pub(crate) fn entry_segments<C: Cabinet>(
     bits: Bits,
     range: Range,
     entry: &ListEntry,
-) -> Result<Row<Segment>, CiffFault>
+) -> Result<(), CiffFault>
     requires ready { IsReady (C.told files.old) walk.old.name walk.old }
     requires given { HasKept walk.old.kept entry.now.place.at entry.now.place.count }
     requires keeps { KeepsAll walk.old.docs entry.now }
@@ -103,9 +104,9 @@ pub(crate) fn entry_segments<C: Cabinet>(
     requires low { EndsLow bits range }
     ensures ready { OnOk result (IsReady (C.told files.old) walk.old.name walk.new) }
     ensures leaves { LeavesWalk walk.old walk.new }
-    ensures segments { IfOk result (AreSegments walk.old.docs entry.now.place.count) }
+    ensures segments { OnOk result (AreSegments walk.old.docs entry.now.place.count segments.new) }
     ensures told { ForContent (C.told files.old) walk.old.name (λ content.
-        MakesSegments content walk.old.docs weighing.entry bits range entry.now.place.at result) }
+        MakesSegments content walk.old.docs weighing.entry bits range entry.now.place.at segments.new result) }
     ensures fault { IsErrOf result CiffFault.ReadFault → Rose (C.read_faults files.old) (C.read_faults files.new) }
     ensures stays { C.told files.new ≡ C.told files.old }
     ensures later { C.read_faults files.old ≤ C.read_faults files.new }
@@ -113,6 +114,7 @@ pub(crate) fn entry_segments<C: Cabinet>(
 {
     if entry.kept.is_empty() {
         return match read_segments(
+            segments,
             scratch,
             alloc,
             walk,
@@ -122,18 +124,21 @@ pub(crate) fn entry_segments<C: Cabinet>(
             range,
             entry.place,
         ) {
-            Ok(segments) => Ok(segments),
+            Ok(()) => Ok(()),
             Err(fault) => Err(fault),
         };
     }
-    match kept_segments(spare, scratch, alloc, weighing, bits, range, entry) {
-        Ok(segments) => Ok(segments),
+    match kept_segments(
+        segments, spare, scratch, alloc, weighing, bits, range, entry,
+    ) {
+        Ok(()) => Ok(()),
         Err(fault) => Err(fault),
     }
 }
 
 /// Makes the segments of a list whose postings were kept.
 fn kept_segments(
+    segments: &mut ListSegments,
     spare: &mut Row<Posting>,
     scratch: &mut Scratch,
     alloc: Global,
@@ -141,12 +146,13 @@ fn kept_segments(
     bits: Bits,
     range: Range,
     entry: &ListEntry,
-) -> Result<Row<Segment>, CiffFault>
+) -> Result<(), CiffFault>
     requires of_list { AreOfList (length weighing.lengths.now) entry.now.place.count (entry_postings entry.now) }
     requires width { IsImpactWidth bits }
     requires low { EndsLow bits range }
-    ensures segments { IfOk result (AreSegments (length weighing.entry.lengths.now) entry.now.place.count) }
-    ensures made { MakesOf weighing.entry bits range (entry_postings entry.now) result }
+    ensures segments { OnOk result
+        (AreSegments (length weighing.entry.lengths.now) entry.now.place.count segments.new) }
+    ensures made { MakesOf weighing.entry bits range (entry_postings entry.now) segments.new result }
     ensures fault { IfErr result (λ fault. fault ≢ CiffFault.ReadFault) }
 {
     let list = match entry.unpacked_list(alloc, replace(spare, Row::new(alloc))) {
@@ -154,16 +160,17 @@ fn kept_segments(
         Err(_) => return Err(CiffFault::NoMemory),
     };
     let at = entry.place.at;
-    let made = make_segments(scratch, alloc, weighing, bits, range, &list, at);
+    let made = make_segments(segments, scratch, alloc, weighing, bits, range, &list, at);
     *spare = list.postings;
     match made {
-        Ok(segments) => Ok(segments),
+        Ok(()) => Ok(()),
         Err(fault) => Err(fault),
     }
 }
 
 /// Reads a list again, and makes its segments.
 pub(crate) fn read_segments<C: Cabinet>(
+    segments: &mut ListSegments,
     scratch: &mut Scratch,
     alloc: Global,
     walk: &mut CiffWalk,
@@ -172,7 +179,7 @@ pub(crate) fn read_segments<C: Cabinet>(
     bits: Bits,
     range: Range,
     place: Place,
-) -> Result<Row<Segment>, CiffFault>
+) -> Result<(), CiffFault>
     requires ready { IsReady (C.told files.old) walk.old.name walk.old }
     requires given { HasKept walk.old.kept place.at place.count }
     requires docs { length weighing.lengths.now ≡ walk.old.docs }
@@ -180,19 +187,21 @@ pub(crate) fn read_segments<C: Cabinet>(
     requires low { EndsLow bits range }
     ensures ready { OnOk result (IsReady (C.told files.old) walk.old.name walk.new) }
     ensures leaves { LeavesWalk walk.old walk.new }
-    ensures segments { IfOk result (AreSegments walk.old.docs place.count) }
+    ensures segments { OnOk result (AreSegments walk.old.docs place.count segments.new) }
     ensures told { ForContent (C.told files.old) walk.old.name (λ content.
-        MakesSegments content walk.old.docs weighing.entry bits range place.at result) }
+        MakesSegments content walk.old.docs weighing.entry bits range place.at segments.new result) }
     ensures fault { IsErrOf result CiffFault.ReadFault → Rose (C.read_faults files.old) (C.read_faults files.new) }
     ensures stays { C.told files.new ≡ C.told files.old }
     ensures later { C.read_faults files.old ≤ C.read_faults files.new }
     ensures others { C.write_faults files.old ≤ C.write_faults files.new }
 {
     let list = read_again(walk, files, place)?;
-    let made = make_segments(scratch, alloc, weighing, bits, range, &list, place.at);
+    let made = make_segments(
+        segments, scratch, alloc, weighing, bits, range, &list, place.at,
+    );
     walk.take_back(list.postings);
     match made {
-        Ok(segments) => Ok(segments),
+        Ok(()) => Ok(()),
         Err(fault) => Err(fault),
     }
 }
@@ -200,6 +209,7 @@ pub(crate) fn read_segments<C: Cabinet>(
 /// Makes the segments of a list that stands at a place. A weight outside the range is refused as a
 /// change of the file.
 fn make_segments(
+    segments: &mut ListSegments,
     scratch: &mut Scratch,
     alloc: Global,
     weighing: Weighing<'_>,
@@ -207,13 +217,14 @@ fn make_segments(
     range: Range,
     list: &PostingsList,
     at: u64,
-) -> Result<Row<Segment>, CiffFault>
+) -> Result<(), CiffFault>
     requires some { 1 ≤ length list.now.postings }
     requires below { HasDocsBelow (length weighing.lengths.now) list.now }
     requires width { IsImpactWidth bits }
     requires low { EndsLow bits range }
-    ensures segments { IfOk result (AreSegments (length weighing.entry.lengths.now) (length list.now.postings)) }
-    ensures made { MakesOf weighing.entry bits range list.now.postings result }
+    ensures segments { OnOk result
+        (AreSegments (length weighing.entry.lengths.now) (length list.now.postings) segments.new) }
+    ensures made { MakesOf weighing.entry bits range list.now.postings segments.new result }
     ensures fault { IfErr result (λ fault. fault ≢ CiffFault.ReadFault) }
 {
     let Weighing {
@@ -222,10 +233,10 @@ fn make_segments(
         lengths,
         norms,
     } = weighing;
-    match segments_by_scratch(
-        scratch, alloc, rule, bits, range, total, list, lengths, norms,
+    match segments_into(
+        segments, scratch, alloc, rule, bits, range, total, list, lengths, norms,
     ) {
-        Ok(segments) => Ok(segments),
+        Ok(()) => Ok(()),
         Err(SegmentsFault::Outside { kept, found }) => Err(CiffFault::Refused(CiffRefusal {
             at,
             why: CiffWhy::Changed { kept, found },

@@ -15,7 +15,7 @@ use crate::heads::Heads;
 use crate::reading::read_segments;
 use crate::weighing::Weighing;
 use ciff_read::{CiffFault, CiffRefusal, CiffWalk, CiffWhy};
-use impact_segments::Scratch;
+use impact_segments::{ListSegments, Scratch};
 use index_write::laws::{appended_payloads_make_the_text, changes_are_found};
 use index_write::{IndexWriter, SaveFault, TermFault};
 use jass_base::{Cabinet, Row, Text, Totals};
@@ -23,7 +23,7 @@ use std::alloc::Global;
 use weights::{Bits, Range};
 
 /// Writes the index of the documents of these names, and of the lists that have these heads. Each of
-/// them is read once more, unless the payloads were kept.
+/// them is read once more.
 pub(crate) fn write_index<C: Cabinet>(
     alloc: Global,
     walk: &mut CiffWalk,
@@ -47,7 +47,7 @@ pub(crate) fn write_index<C: Cabinet>(
     requires apart { walk.old.name ≢ index.now }
     ensures written { (made : List TermData)
         → HasTerms (C.told files.old) walk.old.name walk.old.docs weighing.entry bits range
-        heads.places.items heads.terms heads.payloads made
+        heads.places.items heads.terms made
         → Writes (C.told files.old) (C.told files.new) walk.old.name index.now
         (record { names = names; terms = made }) result }
     ensures read_fault { IsErrOf result ImportFault.ReadFault
@@ -59,21 +59,16 @@ pub(crate) fn write_index<C: Cabinet>(
 {
     appended_payloads_make_the_text();
     changes_are_found();
-    let Heads {
-        terms,
-        places,
-        payloads,
-    } = heads;
+    let Heads { terms, places } = heads;
     let mut writer = match IndexWriter::new(alloc, names, terms, files, index) {
         Ok(writer) => writer,
         Err(fault) => return Err(not_begun(fault)),
     };
-    if let Some(payloads) = payloads {
-        return put_kept(writer, payloads.as_slice(), files);
-    }
+    let mut segments = ListSegments::new(alloc);
     let mut scratch = Scratch::new(alloc);
     'places: for place in places {
-        let segments = match read_segments(
+        match read_segments(
+            &mut segments,
             &mut scratch,
             alloc,
             walk,
@@ -83,39 +78,23 @@ pub(crate) fn write_index<C: Cabinet>(
             range,
             place,
         ) {
-            Ok(segments) => segments,
+            Ok(()) => {}
             Err(fault) => return Err(ImportFault::from_ciff(fault)),
+        }
+        let rows = match segments.to_rows(alloc) {
+            Ok(rows) => rows,
+            Err(_) => return Err(ImportFault::NoMemory),
         };
-        writer = match writer.term(segments.as_slice(), files) {
+        writer = match writer.term(rows.as_slice(), files) {
             Ok(writer) => writer,
             Err(fault) => return Err(not_appended(fault, place.at)),
         };
-        scratch.take_back(segments);
     }
     Ok(writer.finish())
 }
 
-/// Appends all payloads at once.
-fn put_kept<C: Cabinet>(
-    writer: IndexWriter,
-    payloads: &[u8],
-    files: &mut C,
-) -> Result<Totals, ImportFault>
-    ensures totals { IfOk result (λ totals. totals ≡ entries_totals writer.docs writer.entries) }
-    ensures content { Appended (C.told files.old) (C.told files.new) writer.name payloads.now result }
-    ensures fault { IfErr result (λ fault. fault ≡ ImportFault.WriteFault) }
-    ensures cause { IfErr result (λ _. Rose (C.write_faults files.old) (C.write_faults files.new)) }
-    ensures later { C.write_faults files.old ≤ C.write_faults files.new }
-    ensures others { C.read_faults files.old ≤ C.read_faults files.new }
-{
-    match writer.put_all(payloads, files) {
-        Ok(totals) => Ok(totals),
-        Err(_) => Err(ImportFault::WriteFault),
-    }
-}
-
 /// Why the index was not begun.
-fn not_begun(fault: SaveFault) -> ImportFault
+pub(crate) fn not_begun(fault: SaveFault) -> ImportFault
     ensures { result ≡ unbegun fault }
 {
     match fault {

@@ -68,7 +68,7 @@ all_payloads_small few d [] are = omega arith
 all_payloads_small few d (t ∷ terms) are =
     omega (arith, payloads_small few d t.segments (All-head (IsTerm d) t terms are).segments, length-append (chosen_payloads d t.segments) (table_payloads d terms), sum_by-cons term_postings t terms, all_payloads_small few d terms (All-tail (IsTerm d) t terms are))
 
-totals_size : (names : List (List ℕ)) (entries : List TermHeads) → length (totals_bytes names entries) ≡ 40
+pub totals_size : (names : List (List ℕ)) (entries : List TermHeads) → length (totals_bytes names entries) ≡ 40
 unfolding totals_bytes
 totals_size names entries = refl
 

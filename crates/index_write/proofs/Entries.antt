@@ -1,11 +1,14 @@
 -- Terms with their heads, from one on.
-use Rattle.shared_lemmas.proofs.Common.{◌≡◌, ℕ, ◌+◌, ◌-◌, ◌*◌, ◌<◌, ◌≤◌, ◌^◌, List, [], ◌∷◌, ◌++◌, length, map, get_or, All, ap, sym, ◌∙◌, refl, arith, slice_index_or, max, sum_by, length-append, length-drop, length-map, get_or-map, All-head, All-tail, All-cons, sum_by-cons, sum_by-append}
+use Rattle.shared_lemmas.proofs.Common.{◌≡◌, ℕ, ◌+◌, ◌-◌, ◌*◌, ◌<◌, ◌≤◌, ◌^◌, List, [], ◌∷◌, ◌++◌, length, map, drop, add-one, get_or, All, ap, sym, ◌∙◌, refl, arith, slice_index_or, max, sum_by, length-append, length-drop, length-map, get_or-map, All-head, All-tail, All-cons, sum_by-cons, sum_by-append}
 use Rattle.index_write.proofs.Below.{u32_bytes, HeadData, all_heads, head_postings, payloads_size, greatest_of, greatest_impact, heads_bytes, rest_behind, shared_with, term_bytes, terms_bytes, greatest_joins}
 use Rattle.index_layout.specs.Heads.{TermHeads as EntryData}
+use Rattle.index_layout.specs.Layout.{head_bytes}
 use Rattle.shared_lemmas.proofs.Lists.{All-unmap}
 use Rattle.index_write.specs.Chosen.{head_data}
 use Rattle.index_write.specs.Streaming.{AreEntries, IsEntry, IsHead, entry_data, heads_left, no_entry}
+use Rattle.index_write.specs.declared.head.PayloadHead.{PayloadHead}
 use Rattle.index_write.specs.declared.term_heads.TermHeads.{TermHeads}
+use Rattle.std.proofs.Math.Seq.{drop-cons}
 use Rattle.index_write.proofs.Bounds.{one_size}
 
 abbrev pub size_of : HeadData → ℕ
@@ -14,11 +17,20 @@ size_of h = h.size
 abbrev pub count_of : HeadData → ℕ
 count_of h = h.count
 
+-- the bytes of heads from one on
+pub heads_next : (heads : List PayloadHead) (i : ℕ) (d : PayloadHead) → i < length heads → heads_bytes (map head_data (drop i heads)) ≡ head_bytes (head_data (get_or heads i d)) ++ heads_bytes (map head_data (drop (i + 1) heads))
+heads_next heads i d inside = rw (add-one i) (ap (λ hs. heads_bytes (map head_data hs)) (drop-cons heads i d inside))
+
 -- the bytes of the terms from one on
 pub entries_next : (before : List ℕ) (t : TermHeads) (from rest : List TermHeads) → from ≡ t ∷ rest
     → terms_bytes before (map entry_data from)
     ≡ (term_bytes before t.term ++ (u32_bytes (length (map head_data t.heads)) ++ heads_bytes (map head_data t.heads))) ++ terms_bytes t.term (map entry_data rest)
 entries_next before t from rest is = ap (λ ts. terms_bytes before (map entry_data ts)) is
+
+pub entries_part : (before term : List ℕ) (heads : List PayloadHead) (t : TermHeads) (from rest : List TermHeads) → from ≡ t ∷ rest → term ≡ t.term → heads ≡ t.heads
+    → terms_bytes before (map entry_data from) ≡ (term_bytes before term ++ (u32_bytes (length heads) ++ heads_bytes (map head_data heads))) ++ terms_bytes term (map entry_data rest)
+entries_part before term heads t from rest is spelled same =
+    rw (spelled, same) (entries_next before t from rest is ∙ ap (λ n. (term_bytes before t.term ++ (u32_bytes n ++ heads_bytes (map head_data t.heads))) ++ terms_bytes t.term (map entry_data rest)) (length-map t.heads head_data))
 
 pub entries_next_size : (before : List ℕ) (t : TermHeads) (from rest : List TermHeads) → from ≡ t ∷ rest
     → length (terms_bytes before (map entry_data from)) ≡ 8 + length (rest_behind before t.term) + 11 * length t.heads + length (terms_bytes t.term (map entry_data rest))

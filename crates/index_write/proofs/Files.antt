@@ -1,5 +1,5 @@
 -- A file that is made empty and then written.
-use Rattle.shared_lemmas.proofs.Common.{◌≡◌, ℕ, ◌+◌, List, [], ◌++◌, length, take, Option, Some, None, Result, Ok, Err, inl, inr, sym, ap, subst, ◌∙◌, ◌⊎◌, OnErr, unwrap_or, insert, take-append-add, take-append_seam}
+use Rattle.shared_lemmas.proofs.Common.{◌≡◌, ℕ, ◌+◌, List, [], ◌++◌, length, take, Option, Some, None, Result, Ok, Err, inl, inr, sym, ap, subst, ◌∙◌, ◌⊎◌, OnErr, unwrap_or, insert, min, arith, take_min, take-append-le, take-append-add, take-append_seam}
 use Rattle.index_write.proofs.Below.{Files, Sets, Extends, content_or_empty, get_set, set_twice}
 use Rattle.index_write.specs.Saving.{LeavesPrefix}
 
@@ -34,3 +34,9 @@ prefix_more old mid new name text part made (inl same) =
     inr (length text, subst (λ (t : List ℕ). Sets old new name t) (sym (take-append_seam text part)) (subst (λ (m : Option Files). Sets old m name text) (sym same) made))
 prefix_more old mid new name text part made (inr (n, put)) =
     inr (length text + n, subst (λ (t : List ℕ). Sets old new name t) (sym (take-append-add text part n)) (sets_more old mid new name text (take n part) made put))
+
+pub prefix_longer : (old new : Option Files) (name text part : List ℕ) → LeavesPrefix old new name text → LeavesPrefix old new name (text ++ part)
+prefix_longer old new name text part (inl same) = inl same
+prefix_longer old new name text part (inr (n, set)) =
+    let k = min n (length text) in
+    inr (k, subst (Sets old new name) (sym (take-append-le k text part (omega arith) ∙ take_min n text)) set)

@@ -1,7 +1,8 @@
 -- Parts that are put one after the other.
-use Rattle.shared_lemmas.proofs.Common.{◌≡◌, ℕ, List, [], ◌++◌, length, ap, sym, refl, ◌∙◌, append_assoc, sum_by, length-map}
-use Rattle.index_write.proofs.Below.{Totals, IndexData, u32_bytes, u64_bytes, HeadData, TermHeads, head_postings, greatest_of, greatest_impact, magic, file_length, names_bytes, terms_bytes, index_greatest, totals_of, index_postings}
-use Rattle.index_layout.specs.Layout.{front_bytes, totals_bytes}
+use Rattle.shared_lemmas.proofs.Common.{◌≡◌, ℕ, List, [], ◌++◌, length, ap, sym, refl, ◌∙◌, append-nil, append_assoc, drop, sum_by, length-map}
+use Rattle.index_write.proofs.Below.{Totals, IndexData, u32_bytes, u64_bytes, HeadData, TermHeads, head_postings, greatest_of, greatest_impact, magic, file_length, names_bytes, shared_with, terms_bytes, index_greatest, totals_of, index_postings}
+use Rattle.index_layout.specs.Bytes.{u16_bytes}
+use Rattle.index_layout.specs.Layout.{front_bytes, totals_bytes, term_bytes}
 use Rattle.index_write.specs.Chosen.{chosen_entry, chosen_terms}
 use Rattle.index_write.specs.Streaming.{entries_totals}
 use Rattle.index_write.specs.Private.Front.{first_bytes}
@@ -38,9 +39,14 @@ entries_first names entries l t a is =
     (ap (λ (t : Totals). t.docs) is) (ap (λ (t : Totals). t.terms) is) (ap (λ (t : Totals). t.postings) is) (ap (λ (t : Totals). t.greatest) is)
 
 -- what stands before the payloads, from its three parts
-pub front_joined : (names : List (List ℕ)) (entries : List TermHeads) (l : ℕ) (t : Totals) (a b c d : List ℕ) → l ≡ file_length names entries → t ≡ entries_totals (length names) entries
-    → a ≡ [] → b ≡ a ++ first_bytes l t → c ≡ b ++ names_bytes names → d ≡ c ++ terms_bytes [] entries → d ≡ front_bytes names entries
+pub front_joined : (names : List (List ℕ)) (entries : List TermHeads) (first : List ℕ) → first ≡ totals_bytes names entries
+    → first ++ (names_bytes names ++ (terms_bytes [] entries ++ [])) ≡ front_bytes names entries
 unfolding front_bytes
-front_joined names entries l t a b c d len is none first named rest =
-    let totals : b ≡ totals_bytes names entries = first ∙ ap (λ xs. xs ++ first_bytes l t) none ∙ entries_first names entries l t len is in
-    rest ∙ ap (λ xs. xs ++ terms_bytes [] entries) (named ∙ ap (λ xs. xs ++ names_bytes names) totals) ∙ append_assoc (totals_bytes names entries) (names_bytes names) (terms_bytes [] entries)
+front_joined names entries first is = ap (λ xs. first ++ (names_bytes names ++ xs)) (append-nil (terms_bytes [] entries)) ∙ ap (λ xs. xs ++ (names_bytes names ++ terms_bytes [] entries)) is
+
+-- a term behind the one before it, from its numbers and the rest
+pub term_joined : (before term head rest : List ℕ) (k : ℕ) → k ≡ shared_with before term → head ≡ u16_bytes k ++ u16_bytes (length rest) → rest ≡ drop k term → head ++ rest ≡ term_bytes before term
+unfolding term_bytes
+term_joined before term head rest k shared is behind =
+    ap (λ xs. xs ++ rest) is ∙ append_assoc (u16_bytes k) (u16_bytes (length rest)) rest
+    ∙ ap (λ r. u16_bytes k ++ (u16_bytes (length r) ++ r)) behind ∙ ap (λ n. u16_bytes n ++ (u16_bytes (length (drop n term)) ++ drop n term)) shared

@@ -3,8 +3,10 @@ mod Counting
 mod Bounds
 mod Texts
 mod Memory
+mod Sending
 mod Files
 mod Joining
 mod Entries
 mod Changes
 mod Streamed
+mod Spelling

@@ -2,8 +2,7 @@
 use Rattle.shared_lemmas.proofs.Common.{◌≡◌, ℕ, ◌<◌, ◌≤◌, ◌^◌, List, [], ◌∷◌, ◌++◌, length, map, get_or, All, ap, ◌∙◌, refl, arith, append-nil, AllPairs, length-map, get_or-map, All-head, All-tail, All-cons, All-nil}
 use Rattle.std.specs.List.{sum_by}
 use Rattle.std.proofs.lemmas.List.Concat.{flat_map-append}
-use Rattle.index_write.proofs.Below.{AreDocs, BytesRise, Segment, Totals, chosen_codec, payload_size, Codec, SegmentData, TermData, IndexData, IsSegment, IsTerm, IsIndex, segment_data, HeadData, head_postings, greatest_of, greatest_impact, index_greatest, totals_of, index_postings}
-use Rattle.jass_base.specs.Segments as memory
+use Rattle.index_write.proofs.Below.{AreDocs, BytesRise, Totals, chosen_codec, payload_size, Codec, SegmentData, TermData, IndexData, IsSegment, IsTerm, IsIndex, HeadData, head_postings, greatest_of, greatest_impact, index_greatest, totals_of, index_postings}
 use Rattle.index_model.specs.Index as model
 use Rattle.index_layout.specs.Heads.{TermHeads as EntryData}
 use Rattle.index_write.specs.Chosen.{chosen_entry, chosen_head, chosen_heads, chosen_payloads, chosen_terms, table_payloads}
@@ -15,7 +14,7 @@ pub payloads_more : (d : ℕ) (terms : List TermData) (t : TermData) → table_p
 payloads_more d terms t =
     flat_map-append (λ (t : TermData). chosen_payloads d t.segments) terms (t ∷ []) ∙ ap (λ xs. table_payloads d terms ++ xs) (append-nil (chosen_payloads d t.segments))
 
-same_totals : (d n p g n2 p2 g2 : ℕ) → n ≡ n2 → p ≡ p2 → g ≡ g2
+pub same_totals : (d n p g n2 p2 g2 : ℕ) → n ≡ n2 → p ≡ p2 → g ≡ g2
     → (let first : Totals = record { docs = d; terms = n; postings = p; greatest = g } in first) ≡ (let second : Totals = record { docs = d; terms = n2; postings = p2; greatest = g2 } in second)
 same_totals d n p g n2 p2 g2 a b c = rw (a, b, c) refl
 
@@ -36,22 +35,26 @@ totals_chosen index =
 abbrev pub Some : Type 0
 Some = (codec : Codec) (d : ℕ) (docs : List ℕ) → AreDocs d docs → 1 ≤ payload_size d docs codec
 
-head_is : Some → (d : ℕ) (s : SegmentData) → IsSegment d s → IsHead (chosen_head d s)
+-- an impact that isn't 0, and the documents of a segment
+abbrev pub HasHead : ℕ → SegmentData → Type 0
+HasHead d s = (1 ≤ s.impact) × AreDocs d s.docs
+
+head_is : Some → (d : ℕ) (s : SegmentData) → HasHead d s → IsHead (chosen_head d s)
 head_is some d s is = record {
-  impact = is.impact.0;
-  count = (let e = is.docs.some in omega (arith, e));
-  size = some (chosen_codec d s.docs) d s.docs is.docs;
+  impact = is.0;
+  count = (let e = is.1.some in omega (arith, e));
+  size = some (chosen_codec d s.docs) d s.docs is.1;
 }
 
-heads_are : Some → (d : ℕ) (segments : List SegmentData) → All (IsSegment d) segments → All IsHead (chosen_heads d segments)
+pub heads_are : Some → (d : ℕ) (segments : List SegmentData) → All (HasHead d) segments → All IsHead (chosen_heads d segments)
 heads_are some d [] are = All-nil IsHead
 heads_are some d (s ∷ segments) are =
-    All-cons IsHead (chosen_head d s) (chosen_heads d segments) (head_is some d s (All-head (IsSegment d) s segments are)) (heads_are some d segments (All-tail (IsSegment d) s segments are))
+    All-cons IsHead (chosen_head d s) (chosen_heads d segments) (head_is some d s (All-head (HasHead d) s segments are)) (heads_are some d segments (All-tail (HasHead d) s segments are))
 
 abbrev no_segment : SegmentData
 no_segment = record { impact = 0; docs = [] }
 
-heads_fall : (d : ℕ) (segments : List SegmentData) → AllPairs model.FallsTo segments → AllPairs FallsTo (chosen_heads d segments)
+pub heads_fall : (d : ℕ) (segments : List SegmentData) → AllPairs model.FallsTo segments → AllPairs FallsTo (chosen_heads d segments)
 heads_fall d segments falling = λ i j other less inside.
     let within = length-map segments (chosen_head d) in
     let one = ap (λ (h : HeadData). h.impact) (get_or-map (chosen_head d) segments i no_segment other (omega (arith, less, inside, within))) in
@@ -64,7 +67,7 @@ entry_is some d t is = record {
   text = is.text;
   fits = is.fits;
   some = (let e = is.some in omega (arith, e, length-map t.segments (chosen_head d)));
-  heads = heads_are some d t.segments is.segments;
+  heads = heads_are some d t.segments (λ i s inside. ((is.segments i s inside).impact.0, (is.segments i s inside).docs));
   falling = heads_fall d t.segments is.falling;
 }
 
@@ -95,30 +98,3 @@ entries_are some index is few =
       each = entries_each some d index.terms is.terms;
       postings = omega (arith, few, postings_chosen d index);
     }
-
--- the heads of segments in memory
-pub memory_heads : Some → (d : ℕ) (segments : List Segment) → All (λ (s : Segment). AreDocs d s.docs) segments → All IsHead (chosen_heads d (map segment_data segments))
-memory_heads some d [] are = All-nil IsHead
-memory_heads some d (s ∷ segments) are =
-    let Docs : Segment → Type 0 = λ (s : Segment). AreDocs d s.docs in
-    let docs = All-head Docs s segments are in
-    All-cons IsHead (chosen_head d (segment_data s)) (chosen_heads d (map segment_data segments)) (record {
-      impact = omega (arith, s.positive);
-      count = (let e = docs.some in omega (arith, e));
-      size = some (chosen_codec d s.docs) d s.docs docs;
-    }) (memory_heads some d segments (All-tail Docs s segments are))
-
-impact_there : (d : ℕ) (segments : List Segment) (i : ℕ) (s : Segment) (other : HeadData) → i < length segments → (get_or (chosen_heads d (map segment_data segments)) i other).impact ≡ (get_or segments i s).impact
-impact_there d segments i s other inside =
-    ap (λ (h : HeadData). h.impact) (get_or-map (chosen_head d) (map segment_data segments) i (segment_data s) other (omega (arith, inside, length-map segments segment_data)))
-    ∙ ap (λ (s : SegmentData). s.impact) (get_or-map segment_data segments i s (segment_data s) inside)
-
-pub memory_falls : (d : ℕ) (segments : List Segment) → AllPairs memory.FallsTo segments → AllPairs FallsTo (chosen_heads d (map segment_data segments))
-memory_falls d [] falling = λ i j other less inside. absurd (omega (arith, inside))
-memory_falls d (s ∷ segments) falling = λ i j other less inside.
-    let all : List Segment = s ∷ segments in
-    let count : length (chosen_heads d (map segment_data all)) ≡ length all = length-map (map segment_data all) (chosen_head d) ∙ length-map all segment_data in
-    let first = impact_there d all i s other (omega (arith, less, inside, count)) in
-    let second = impact_there d all j s other (omega (arith, inside, count)) in
-    let falls = falling i j s less (omega (arith, inside, count)) in
-    omega (arith, first, second, falls)

@@ -1,4 +1,5 @@
 pub mod Chosen
 pub mod Saving
+pub mod Spelled
 pub mod Streaming
 pub mod Private

@@ -1,7 +1,7 @@
 ghost use Rattle.std.specs.Prelude.{◌≡◌, ◌≤◌, ◌<◌, ◌^◌, ◌++◌, length, map, IfOk, IfErr, OnOk};
 ghost use Rattle.index_model.specs.Views.{term_data, index_data};
 ghost use Rattle.index_layout.specs.Heads.{payloads_size};
-ghost use Rattle.index_layout.specs.Layout.{file_length, front_bytes, totals_bytes};
+ghost use Rattle.index_layout.specs.Layout.{file_length, totals_bytes};
 ghost use Rattle.index_layout.specs.View.{index_text};
 ghost use Rattle.index_write.specs.Chosen.{head_data, chosen_terms};
 ghost use Rattle.index_write.specs.Private.Table.{table_of};
@@ -11,9 +11,9 @@ ghost use Rattle.jass_base.specs.declared.limits.TheConstants.{GREATEST_IMPACT, 
 ghost use Rattle.index_write.specs.Private.Front.{Unspelled, first_bytes};
 
 use crate::fault::SaveFault;
-use crate::front::{put_entries, put_names, put_terms};
+use crate::front::{put_names, put_terms};
 use crate::head::{PayloadHead, index_heads};
-use crate::laws::{entries_are_small, tables_have_their_sums, texts_have_their_parts};
+use crate::laws::{tables_have_their_sums, texts_have_their_parts};
 use crate::lengths::{front_len, index_len};
 use crate::payloads::put_all_payloads;
 use crate::sums::totals;
@@ -26,7 +26,7 @@ use std::alloc::Global;
 const MAGIC: &[u8] = b"JASSIDX2";
 
 /// Appends the first 40 bytes: magic, length, documents, terms, postings, the greatest impact, zero.
-fn put_numbers(totals: &Totals, len: u64, out: &mut Row<u8>) -> Result<(), NoMemory>
+pub fn put_numbers(totals: &Totals, len: u64, out: &mut Row<u8>) -> Result<(), NoMemory>
     ensures { OnOk result (out.new ≡ out.old ++ first_bytes len totals.now) }
 {
     out.extend(MAGIC)?;
@@ -95,33 +95,9 @@ pub fn index_bytes(alloc: Global, index: &ImpactIndex) -> Result<Row<u8>, SaveFa
     }
 }
 
-/// What stands before the payloads, by the totals, by how many bytes this has and how many the file.
-fn spelled_front(
-    alloc: Global,
-    names: &[Text],
-    entries: &[TermHeads],
-    totals: &Totals,
-    front: u64,
-    len: u64,
-) -> Result<Row<u8>, NoMemory>
-    requires names { AreNames names.now }
-    requires entries { AreEntries (map entry_data entries.now) }
-    requires totals { totals.now ≡ entries_totals (length names.now) (map entry_data entries.now) }
-    requires front { front ≡ length (front_bytes names.now (map entry_data entries.now)) }
-    requires len { len ≡ file_length names.now (map entry_data entries.now) }
-    ensures { IfOk result (λ row. row ≡ front_bytes names.now (map entry_data entries.now)) }
-{
-    entries_are_small();
-    let mut out = Row::with_room(alloc, front as usize)?;
-    put_numbers(totals, len, &mut out)?;
-    put_names(names, &mut out)?;
-    put_entries(entries, &mut out)?;
-    Ok(out)
-}
-
-/// What stands before the payloads in the file of names, terms and heads that have these totals and
-/// so many bytes of payloads. TooLarge comes exactly where the file would have more than 2^32 bytes.
-pub fn front_of(
+/// The first 40 bytes of the file of names, terms and heads that have these totals and so many bytes
+/// of payloads. TooLarge comes exactly where the file would have more than 2^32 bytes.
+pub fn first_of(
     alloc: Global,
     names: &[Text],
     entries: &[TermHeads],
@@ -133,15 +109,15 @@ pub fn front_of(
     requires totals { totals.now ≡ entries_totals (length names.now) (map entry_data entries.now) }
     requires payloads { payloads ≡ payloads_size (map entry_data entries.now) }
     requires few { payloads < 2 ^ 62 }
-    ensures bytes { IfOk result (λ row. row ≡ front_bytes names.now (map entry_data entries.now)) }
+    ensures bytes { IfOk result (λ row. row ≡ totals_bytes names.now (map entry_data entries.now)) }
     ensures fits { OnOk result (file_length names.now (map entry_data entries.now) ≤ LONGEST_FILE) }
     ensures fault { IfErr result (Unspelled (file_length names.now (map entry_data entries.now))) }
 {
-    let front = front_len(names, entries);
-    let len = front + payloads;
+    let len = front_len(names, entries) + payloads;
     if len <= LONGEST_FILE {
-        match spelled_front(alloc, names, entries, totals, front, len) {
-            Ok(bytes) => Ok(bytes),
+        let mut first = Row::new(alloc);
+        match put_numbers(totals, len, &mut first) {
+            Ok(()) => Ok(first),
             Err(_) => Err(SaveFault::NoMemory),
         }
     } else {

@@ -11,7 +11,7 @@ use jass_base::{Cabinet, Failed, ImpactIndex};
 use std::alloc::Global;
 
 /// Makes bytes the content of a file.
-pub fn put_file<C: Cabinet>(files: &mut C, name: &str, bytes: &[u8]) -> Result<(), Failed>
+fn put_file<C: Cabinet>(files: &mut C, name: &str, bytes: &[u8]) -> Result<(), Failed>
     ensures ok { OnOk result (Sets (C.told files.old) (C.told files.new) name.now bytes.now) }
     ensures err { OnErr result (LeavesPrefix (C.told files.old) (C.told files.new) name.now bytes.now) }
     ensures cause { HasCause (C.write_faults files.old) (C.write_faults files.new) result }

@@ -7,14 +7,11 @@ ghost use Rattle.index_layout.specs.Bytes.{u32_bytes};
 ghost use Rattle.index_layout.specs.Layout.{name_bytes, names_bytes, head_bytes, heads_bytes, term_bytes, terms_bytes};
 ghost use Rattle.index_write.specs.Chosen.{head_data, chosen_terms};
 ghost use Rattle.index_write.specs.Private.Table.{table_of};
-ghost use Rattle.index_write.specs.Streaming.{entry_data};
-ghost use Rattle.index_write.specs.declared.term_heads.TermHeads.{TermHeads};
 ghost use Rattle.jass_base.specs.declared.limits.TheConstants.{GREATEST_IMPACT, LONGEST_NAME, LONGEST_TERM};
 
 use crate::head::PayloadHead;
 use crate::laws::terms_have_documents;
 use crate::lengths::shared_len;
-use crate::term_heads::TermHeads;
 use jass_base::{ImpactIndex, NoMemory, Row, Text};
 
 /// Appends a name behind its length.
@@ -39,15 +36,16 @@ pub fn put_names(names: &[Text], out: &mut Row<u8>) -> Result<(), NoMemory>
     Ok(())
 }
 
-/// Appends a head: impact, count, codec, size of the payload.
+/// The bytes of a head: impact, count, codec, size of the payload.
 #[tactic(auto, unfolding(index_layout::specs::Layout::head_bytes))]
-fn put_head(head: &PayloadHead, out: &mut Row<u8>) -> Result<(), NoMemory>
-    ensures { OnOk result (out.new ≡ out.old ++ head_bytes (head_data head.now)) }
+#[inline(always)]
+pub fn spelled_head(head: &PayloadHead) -> [u8; 11]
+    ensures { result ≡ head_bytes (head_data head.now) }
 {
     let impact = head.impact.to_le_bytes();
     let count = head.count.to_le_bytes();
     let size = head.bytes.to_le_bytes();
-    out.extend(&[
+    [
         impact[0],
         impact[1],
         count[0],
@@ -59,8 +57,7 @@ fn put_head(head: &PayloadHead, out: &mut Row<u8>) -> Result<(), NoMemory>
         size[1],
         size[2],
         size[3],
-    ])?;
-    Ok(())
+    ]
 }
 
 /// Appends the heads of a term.
@@ -68,7 +65,7 @@ fn put_heads(heads: &[PayloadHead], out: &mut Row<u8>) -> Result<(), NoMemory>
     ensures { OnOk result (out.new ≡ out.old ++ heads_bytes (map head_data heads.now)) }
 {
     for head in heads {
-        put_head(head, out)?;
+        out.extend(&spelled_head(head))?;
     }
     Ok(())
 }
@@ -88,7 +85,7 @@ fn put_term(before: &[u8], term: &[u8], out: &mut Row<u8>) -> Result<(), NoMemor
 }
 
 /// Appends a term with the heads of its segments.
-fn put_entry(
+pub fn put_entry(
     before: &[u8],
     term: &[u8],
     heads: &[PayloadHead],
@@ -125,21 +122,6 @@ pub fn put_terms(
         put_entry(before, bytes, here, out)?;
         before = bytes;
         left = rest;
-    }
-    Ok(())
-}
-
-/// Appends terms with their heads.
-pub fn put_entries(entries: &[TermHeads], out: &mut Row<u8>) -> Result<(), NoMemory>
-    requires fit { All (λ (t : TermHeads). length t.term ≤ LONGEST_TERM) entries.now }
-    requires few { All (λ (t : TermHeads). length t.heads < 2 ^ 32) entries.now }
-    ensures { OnOk result (out.new ≡ out.old ++ terms_bytes [] (map entry_data entries.now)) }
-{
-    let mut before: &[u8] = b"";
-    for entry in entries {
-        let bytes = entry.term.as_str().as_bytes();
-        put_entry(before, bytes, entry.heads.as_slice(), out)?;
-        before = bytes;
     }
     Ok(())
 }

@@ -24,18 +24,26 @@ pub struct PayloadHead {
 }
 
 impl PayloadHead {
-    /// The head of a segment in its shortest codec, in an index of `d` documents. It is inlined, so that a
-    /// row gets it from registers.
+    /// The head of a segment in its shortest codec, in an index of `d` documents.
     #[inline(always)]
     pub fn new(segment: &Segment, d: u32) -> PayloadHead
         requires { AreDocs d segment.now.docs }
         ensures { head_data result ≡ chosen_head d (segment_data segment.now) }
     {
-        let docs = segment.docs.as_slice();
+        PayloadHead::of(segment.impact, segment.docs.as_slice(), d)
+    }
+
+    /// The head of the segment of an impact and these documents in its shortest codec, in an index
+    /// of `d` documents. It is inlined, so that a row gets it from registers.
+    #[inline(always)]
+    pub fn of(impact: u16, docs: &[u32], d: u32) -> PayloadHead
+        requires { AreDocs d docs.now }
+        ensures { head_data result ≡ chosen_head d (record { impact = impact; docs = docs.now }) }
+    {
         let choice = shortest(docs, d);
         segments_are_small();
         PayloadHead {
-            impact: segment.impact,
+            impact,
             count: docs.len() as u32,
             codec: choice.codec,
             bytes: choice.size as u32,

@@ -5,15 +5,14 @@ ghost use Rattle.std.specs.Prelude.{◌≡◌, ◌<◌, ◌≤◌, ◌+◌, ◌^
 ghost use Rattle.std.specs.List.{sum_by};
 ghost use Rattle.jass_base.specs.Gaps.{AreDocs};
 ghost use Rattle.jass_base.specs.Outside.{Extends, Files, Sets};
-ghost use Rattle.jass_base.specs.Segments.{FallsTo as SegmentFalls};
 ghost use Rattle.jass_base.specs.Terms.{greatest_impact};
 ghost use Rattle.jass_base.specs.declared.impact_index.ImpactIndex.{ImpactIndex};
 ghost use Rattle.jass_base.specs.declared.segment.Segment.{Segment};
 ghost use Rattle.jass_base.specs.declared.term_segments.TermSegments.{TermSegments};
 ghost use Rattle.segment_codecs.specs.Codecs.{chosen_codec, payload_size};
-ghost use Rattle.index_model.specs.Index.{IndexData, IsIndex, IsTerm, TermData};
-ghost use Rattle.index_model.specs.Views.{index_data, segment_data};
-ghost use Rattle.index_layout.specs.Heads.{HeadData, all_heads};
+ghost use Rattle.index_model.specs.Index.{FallsTo as SegmentFalls, IndexData, IsIndex, IsTerm, SegmentData, TermData};
+ghost use Rattle.index_model.specs.Views.{index_data};
+ghost use Rattle.index_layout.specs.Heads.{HeadData, all_heads, payloads_size};
 ghost use Rattle.index_layout.specs.Heads.{TermHeads as EntryData};
 ghost use Rattle.index_layout.specs.Heads.{greatest_of as greatest_head};
 ghost use Rattle.index_layout.specs.Layout.{file_length, front_bytes, names_bytes, terms_bytes};
@@ -121,16 +120,20 @@ pub fn appended_payloads_make_the_text()
         → (new ≡ mid) ⊎ ((n : ℕ) × Extends mid new name (take n part)) → LeavesPrefix old new name (text ++ part) }
     ensures totals { (index : IndexData) → entries_totals (length index.names)
         (chosen_terms (length index.names) index.terms) ≡ totals_of index }
+    ensures sizes { (d : ℕ) (terms : List TermData) → length (table_payloads d terms)
+        ≡ payloads_size (chosen_terms d terms) }
 {
     texts_have_their_parts();
+    tables_have_their_sums();
 }
 
 /// The heads that are made of an index's segments are those that a writer asks for.
 pub fn made_heads_are_entries()
-    ensures heads { (d : ℕ) (segments : List Segment) → All (λ (s : Segment). AreDocs d s.docs) segments
-        → All IsHead (chosen_heads d (map segment_data segments)) }
-    ensures falling { (d : ℕ) (segments : List Segment) → AllPairs SegmentFalls segments
-        → AllPairs FallsTo (chosen_heads d (map segment_data segments)) }
+    ensures heads { (d : ℕ) (segments : List SegmentData)
+        → All (λ (s : SegmentData). (1 ≤ s.impact) × AreDocs d s.docs) segments
+        → All IsHead (chosen_heads d segments) }
+    ensures falling { (d : ℕ) (segments : List SegmentData) → AllPairs SegmentFalls segments
+        → AllPairs FallsTo (chosen_heads d segments) }
     ensures entry { (d : ℕ) (t : TermData) → IsTerm d t → IsEntry (chosen_entry d t) }
     ensures entries { (index : IndexData) → IsIndex index → index_postings index ≤ MOST_POSTINGS
         → AreEntries (chosen_terms (length index.names) index.terms) }

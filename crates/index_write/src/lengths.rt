@@ -21,7 +21,7 @@ use index_model::laws::indexes_in_memory_are_indexes;
 use jass_base::{ImpactIndex, Text};
 
 /// The bytes of names, each behind its length.
-fn names_len(names: &[Text]) -> u64
+pub fn names_len(names: &[Text]) -> u64
     requires { length (names_bytes names.now) < 2 ^ 62 }
     ensures len { result ≡ length (names_bytes names.now) }
     ensures few { result < 2 ^ 62 }

@@ -11,17 +11,23 @@ mod head;
 pub mod laws;
 mod lengths;
 mod payloads;
+mod pieced_front;
+mod pieces;
+mod spelled_terms;
 mod sums;
 mod term_heads;
+mod whole;
 mod writer;
 
 pub use bytes::index_bytes;
 pub use fault::{SaveFault, TermFault};
 pub use file::write_index;
 pub use head::{PayloadHead, payload_heads};
-pub use payloads::put_payloads;
+pub use payloads::{put_payload, put_payloads};
+pub use spelled_terms::SpelledTerms;
 pub use sums::totals;
 pub use term_heads::TermHeads;
+pub use whole::write_parts;
 pub use writer::IndexWriter;
 
 #[cfg(test)]

@@ -3,8 +3,9 @@
 ghost use Rattle.std.specs.Prelude.{◌≡◌, ◌≤◌, ◌++◌, length, map, All, OnOk};
 ghost use Rattle.jass_base.specs.Gaps.{AreDocs};
 ghost use Rattle.jass_base.specs.declared.segment.Segment.{Segment};
+ghost use Rattle.segment_codecs.specs.Codecs.{chosen_codec, payload_of};
 ghost use Rattle.index_model.specs.Views.{segment_data, term_data};
-ghost use Rattle.index_write.specs.Chosen.{head_data, chosen_head, chosen_heads, chosen_payload, chosen_payloads, table_payloads};
+ghost use Rattle.index_write.specs.Chosen.{head_data, chosen_heads, chosen_payloads, table_payloads};
 ghost use Rattle.jass_base.specs.declared.limits.TheConstants.{GREATEST_IMPACT};
 ghost use Rattle.index_write.specs.Private.Table.{table_of};
 
@@ -13,18 +14,18 @@ use crate::laws::terms_have_documents;
 use jass_base::{ImpactIndex, NoMemory, Row, Segment};
 use segment_codecs::encode;
 
-/// Appends the payload of a segment in the codec of its head.
-fn put_payload(
-    segment: &Segment,
+/// Appends the payload of documents in the codec of their head.
+pub fn put_payload(
+    docs: &[u32],
     head: &PayloadHead,
     d: u32,
     out: &mut Row<u8>,
 ) -> Result<(), NoMemory>
-    requires docs { AreDocs d segment.now.docs }
-    requires head { head_data head.now ≡ chosen_head d (segment_data segment.now) }
-    ensures { OnOk result (out.new ≡ out.old ++ chosen_payload d (segment_data segment.now)) }
+    requires docs { AreDocs d docs.now }
+    requires codec { head.now.codec ≡ chosen_codec d docs.now }
+    ensures { OnOk result (out.new ≡ out.old ++ payload_of (chosen_codec d docs.now) d docs.now) }
 {
-    encode(head.codec, segment.docs.as_slice(), d, out)?;
+    encode(head.codec, docs, d, out)?;
     Ok(())
 }
 
@@ -40,7 +41,7 @@ pub fn put_payloads(
     ensures { OnOk result (out.new ≡ out.old ++ chosen_payloads d (map segment_data segments.now)) }
 {
     for (i, segment) in segments.iter().enumerate() {
-        put_payload(segment, &heads[i], d, out)?;
+        put_payload(segment.docs.as_slice(), &heads[i], d, out)?;
     }
     Ok(())
 }

@@ -77,7 +77,7 @@ pub struct HeadSums {
 }
 
 /// The sums of the heads of a term.
-fn term_sums(heads: &[PayloadHead]) -> HeadSums
+pub fn term_sums(heads: &[PayloadHead]) -> HeadSums
     requires { length heads.now ≤ MOST_POSTINGS }
     ensures postings { result.postings ≡ sum_by (λ (h : HeadData). h.count) (map head_data heads.now) }
     ensures greatest { result.greatest ≡ greatest_of (map head_data heads.now) }

@@ -8,6 +8,7 @@ ghost use Rattle.index_write.specs.Streaming.{AreEntries, AreNames, entry_data};
 ghost use Rattle.jass_base.specs.Segments.{FallsTo, SharesNoDocument, HasDocumentsBelow};
 ghost use Rattle.jass_base.specs.Terms.{RisesTo, HasTermBelow, greatest_of, greatest_impact};
 
+use crate::pieces::{Pieces, put_text, send};
 use crate::{
     IndexWriter, PayloadHead, SaveFault, TermFault, TermHeads, index_bytes, payload_heads, totals,
     write_index,
@@ -98,6 +99,20 @@ fn files_are_written_term_by_term(rt: HostRuntime) {
 }
 
 #[test]
+fn long_texts_go_through(rt: HostRuntime) {
+    let alloc = rt.alloc();
+    let table: [(&[u64], bool, usize); 4] = [
+        (&[], false, 70_010),
+        (&[0], true, 0),
+        (&[1], true, 4),
+        (&[2], true, 70_004),
+    ];
+    for (bad, failed, len) in table {
+        assert!(&rt; puts_texts(alloc, bad, failed, len).is_ok_and(|same| same));
+    }
+}
+
+#[test]
 fn other_segments_are_refused(rt: HostRuntime) {
     let wanted = Err(TermFault::Changed { kept: 3, found: 1 });
     assert!(&rt; refuses_one_segment(rt.alloc(), wanted).is_ok_and(|same| same));
@@ -129,6 +144,24 @@ fn leaves(
     files.store("i", b"old")?;
     let written = write_index(alloc, &index, &mut files, "i");
     Ok(written == answer && files.content("i") == Some(content))
+}
+
+/// Whether a text that finds no room and a short one leave so many bytes, where these calls fail.
+fn puts_texts(alloc: Global, bad: &[u64], failed: bool, len: usize) -> Result<bool, NoMemory> {
+    let long = [b'x'; 70_000];
+    let mut bad_writes = Row::new(alloc);
+    bad_writes.extend(bad)?;
+    let mut files = MemCabinet::new(alloc, Row::new(alloc), bad_writes);
+    files.store("i", b"")?;
+    let mut pieces = Pieces::new();
+    put_text(b"head", &long, &mut pieces, &mut files, "i");
+    put_text(b"more", b"ab", &mut pieces, &mut files, "i");
+    send(&mut pieces, &mut files, "i");
+    let left = match files.content("i") {
+        Some(content) => content.len(),
+        None => return Ok(false),
+    };
+    Ok(pieces.failed() == failed && left == len)
 }
 
 /// The same for a file that is written term by term, with the totals at its end.

@@ -1,6 +1,6 @@
 //! An index file that is written term by term.
 
-ghost use Rattle.std.specs.Prelude.{◌≡◌, ◌≤◌, length, map, All, AllPairs, IfErr, IfOk, IsErr, IsErrOf, OnErr, OnOk};
+ghost use Rattle.std.specs.Prelude.{◌≡◌, ◌≤◌, length, map, All, AllPairs, IfErr, IfOk, IsErrOf, OnErr, OnOk};
 ghost use Rattle.jass_base.specs.Gaps.{AreDocs};
 ghost use Rattle.jass_base.specs.Outside.{Appended, Rose, Sets};
 ghost use Rattle.jass_base.specs.Segments.{SharesNoDocument};
@@ -12,21 +12,20 @@ ghost use Rattle.index_write.specs.Saving.{LeavesPrefix, Untouched};
 ghost use Rattle.index_write.specs.Streaming.{AreEntries, AreNames, Unappended, Unappending, Unbegun, behind_term, change_of, entries_totals, entry_data, heads_left, next_heads};
 ghost use Rattle.jass_base.specs.declared.limits.TheConstants.{LONGEST_FILE};
 
-use crate::bytes::front_of;
+use crate::bytes::first_of;
 use crate::change::same_heads;
 use crate::fault::{SaveFault, TermFault};
-use crate::file::put_file;
 use crate::head::PayloadHead;
 use crate::laws::{changes_are_found, entries_are_small};
 use crate::payloads::put_payloads;
+use crate::pieced_front::put_front;
 use crate::sums::heads_sums;
 use crate::term_heads::TermHeads;
-use jass_base::{Cabinet, Failed, Row, Segment, Text, Totals};
+use jass_base::{Cabinet, Row, Segment, Text, Totals};
 use std::alloc::Global;
 use std::marker::Model;
 
-/// Writes an index file: what stands before the payloads first, and then the payloads, term by term
-/// or all at once.
+/// Writes an index file: what stands before the payloads first, and then the payloads, term by term.
 #[derive(Drop)]
 pub struct IndexWriter {
     name: Text,
@@ -89,7 +88,7 @@ impl IndexWriter {
             postings: sums.postings,
             greatest: sums.greatest,
         };
-        let front = front_of(
+        let first = first_of(
             alloc,
             names.as_slice(),
             terms.as_slice(),
@@ -100,7 +99,13 @@ impl IndexWriter {
             Ok(kept) => kept,
             Err(_) => return Err(SaveFault::NoMemory),
         };
-        match put_file(files, name, front.as_slice()) {
+        match put_front(
+            first.as_slice(),
+            names.as_slice(),
+            terms.as_slice(),
+            files,
+            name,
+        ) {
             Ok(()) => {}
             Err(_) => return Err(SaveFault::WriteFault),
         }
@@ -159,20 +164,6 @@ impl IndexWriter {
             left: left - 1,
             payloads,
         })
-    }
-
-    /// Appends the payloads of all terms at once, in place of `term` for each, and gives the totals of
-    /// the file. That the bytes are these payloads is left to the caller. An Err comes only where the
-    /// files counted a write fault.
-    pub fn put_all<C: Cabinet>(self, payloads: &[u8], files: &mut C) -> Result<Totals, Failed>
-        ensures totals { IfOk result (λ totals. totals ≡ entries_totals self.docs self.entries) }
-        ensures content { Appended (C.told files.old) (C.told files.new) self.name payloads.now result }
-        ensures cause { IsErr result → Rose (C.write_faults files.old) (C.write_faults files.new) }
-        ensures later { C.write_faults files.old ≤ C.write_faults files.new }
-        ensures others { C.read_faults files.old ≤ C.read_faults files.new }
-    {
-        files.append(self.name.as_str(), payloads)?;
-        Ok(self.totals)
     }
 
     /// The totals of the file, all of whose terms were written.

@@ -1,7 +1,8 @@
 -- What is read of a file by a window, part by part.
-use Rattle.std.specs.Prelude.{ℕ, ◌≡◌, List, Result, Ok, Err, Option}
+use Rattle.std.specs.Prelude.{ℕ, ◌≡◌, List, [], All, Bool, Result, Ok, Err, Option}
 use Rattle.jass_base.specs.CiffViews.{list_data, doc_data}
 use Rattle.jass_base.specs.Outside.{Files, ForContent}
+use Rattle.jass_base.specs.Terms.{BytesRise}
 use Rattle.jass_base.specs.declared.postings_list.PostingsList.{PostingsList}
 use Rattle.jass_base.specs.declared.doc_record.DocRecord.{DocRecord}
 use Rattle.ciff_read.specs.declared.file_head.FileHead.{FileHead}
@@ -14,6 +15,7 @@ use Rattle.ciff_read.specs.Judging.{is_among}
 use Rattle.ciff_read.specs.KeptLists.{kept_in}
 use Rattle.ciff_read.specs.Marks.{is_marked}
 use Rattle.ciff_read.specs.Pieces.{FileHeader, ListInFile, DocInFile, header_of_file, list_of_file, doc_of_file, terms_kept}
+use Rattle.ciff_read.specs.Private.KeptEntries.{terms_in}
 use Rattle.ciff_read.specs.Private.Places.{start_data}
 use Rattle.ciff_read.specs.Reaching.{FailsReading}
 use Rattle.ciff_read.specs.Private.Window.{Shows}
@@ -31,12 +33,17 @@ abbrev pub HeaderTold : Option Files → List ℕ → Window → Result (FileHea
 HeaderTold files name old result = ForContent files name (λ content. Shows content old → GivesReading file_header result (header_of_file content))
 
 -- the list that was read, and the place behind it
-abbrev pub list_in_file : PostingsList × ℕ → ListInFile
+abbrev pub list_in_file : PostingsList × ℕ × Bool → ListInFile
 list_in_file x = record { list = list_data x.0; end = x.1 }
 
-abbrev pub ListTold : Option Files → List ℕ → Window → ℕ → ℕ → KeptLists → ℕ → Result (PostingsList × ℕ) CiffFault → Type 0
+abbrev pub ListTold : Option Files → List ℕ → Window → ℕ → ℕ → KeptLists → ℕ → Result (PostingsList × ℕ × Bool) CiffFault → Type 0
 ListTold files name old docs before kept at result =
     ForContent files name (λ content. Shows content old → GivesReading list_in_file result (list_of_file content docs before (terms_kept (kept_in kept)) at))
+
+-- the lists that were given rise by their terms, all of them, and the term is greater than theirs
+pub record RisesBehind (lists : KeptLists) (term : List ℕ) : Type 0 where
+  pub none_hashed : lists.hashed.entries ≡ []
+  pub greatest : All (λ t. BytesRise t term) (terms_in lists.rising)
 
 -- a document's number and record, and the place behind it
 abbrev pub doc_in_file : ℕ × DocRecord × ℕ → DocInFile

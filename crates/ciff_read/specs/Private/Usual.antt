@@ -1,5 +1,5 @@
 -- Postings of a list in their usual spelling, one and several.
-use Rattle.std.specs.Prelude.{ℕ, ◌≡◌, ◌<◌, ◌≤◌, ◌^◌, List, [], ◌∷◌, length, drop, Ok}
+use Rattle.std.specs.Prelude.{ℕ, ◌≡◌, ◌+◌, ◌<◌, ◌≤◌, ◌/◌, ◌%◌, ◌^◌, List, [], ◌∷◌, length, get_or, drop, Ok}
 use Rattle.jass_base.specs.Wire.{Text}
 use Rattle.wire_fields.specs.Reading.{field_at}
 use Rattle.ciff_read.specs.declared.posting_fields.PostingFields.{PostingFields}
@@ -19,6 +19,10 @@ pub record IsUsual (entry : PostingFields) : Type 0 where
   pub small_gap : entry.docid < 2 ^ 21
   pub some_tf : 0 < entry.tf
   pub small_tf : entry.tf < 128
+
+-- the eight bytes at a place are those of the number, the lowest first
+abbrev pub HasBytes : List ℕ → ℕ → ℕ → Type 0
+HasBytes bytes at word = (i : ℕ) → i < 8 → get_or bytes (at + i) 0 ≡ word / 256 ^ i % 256
 
 -- these postings stand in the bytes one behind the other, from a place to another
 abbrev pub IsRun : List ℕ → ℕ → List PlacedEntry → ℕ → Type 0

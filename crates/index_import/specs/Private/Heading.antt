@@ -1,12 +1,12 @@
 -- The heads of the lists of a file that was judged, and the terms that they belong to.
-use Rattle.std.specs.Prelude.{ℕ, ◌≡◌, ◌++◌, List, map, All, Option, Some, None, ⊤}
+use Rattle.std.specs.Prelude.{ℕ, ◌≡◌, List, map, All, Option, ⊤}
 use Rattle.jass_base.specs.Outside.{Files, ForContent}
 use Rattle.weights.specs.declared.quantizing.Bits.{Bits}
 use Rattle.weights.specs.declared.quantizing.Range.{Range}
 use Rattle.ciff_read.specs.declared.refusal.CiffFault.{CiffFault}
 use Rattle.ciff_read.specs.declared.refusal.CiffFault.TheVariants as faults
 use Rattle.index_model.specs.Index.{TermData}
-use Rattle.index_write.specs.Chosen.{chosen_terms, table_payloads}
+use Rattle.index_write.specs.Chosen.{chosen_terms}
 use Rattle.index_write.specs.Streaming.{entry_data}
 use Rattle.index_write.specs.declared.term_heads.TermHeads.{TermHeads}
 use Rattle.index_import.specs.Private.Rereading.{IsInside, segments_there}
@@ -24,22 +24,10 @@ terms_there content docs w bits range lists = map (term_there content docs w bit
 abbrev pub places_of : List ListEntry → List Place
 places_of lists = map (λ (e : ListEntry). e.place) lists
 
--- bytes that were kept, where there are any, are the payloads of some terms
-abbrev pub ArePayloads : Option (List ℕ) → ℕ → List TermData → Type 0
-ArePayloads None docs terms = ⊤
-ArePayloads (Some bytes) docs terms = bytes ≡ table_payloads docs terms
-
--- the payloads of one term more, where they are kept still
-abbrev pub KeepsMore : Option (List ℕ) → List ℕ → Option (List ℕ) → Type 0
-KeepsMore before part None = ⊤
-KeepsMore None part (Some after) = ⊥
-KeepsMore (Some before) part (Some after) = after ≡ before ++ part
-
--- the heads of some terms, which are those of the lists where the content is told, and their payloads, where they were kept
-pub record AreHeads (files : Option Files) (name : List ℕ) (docs : ℕ) (w : Weighing) (bits : Bits) (range : Range) (lists : List ListEntry) (heads : List TermHeads) (kept : Option (List ℕ)) : Type 0 where
+-- the heads of some terms, which are those of the lists where the content is told
+pub record AreHeads (files : Option Files) (name : List ℕ) (docs : ℕ) (w : Weighing) (bits : Bits) (range : Range) (lists : List ListEntry) (heads : List TermHeads) : Type 0 where
   pub terms : List TermData
   pub heads_are : map entry_data heads ≡ chosen_terms docs terms
-  pub payloads_are : ArePayloads kept docs terms
   pub told : ForContent files name (λ content. terms ≡ terms_there content docs w bits range lists)
 
 -- a refusal comes only for a weight of one of the lists outside the range

@@ -11,7 +11,6 @@ use Rattle.index_write.specs.Chosen.{chosen_terms}
 use Rattle.index_write.specs.Saving.{LeavesPrefix}
 use Rattle.index_write.specs.Streaming.{entry_data}
 use Rattle.index_write.specs.declared.term_heads.TermHeads.{TermHeads}
-use Rattle.index_import.specs.Private.Heading.{ArePayloads}
 use Rattle.index_import.specs.Private.Rereading.{IsInside, segments_there}
 use Rattle.index_import.specs.declared.fault.ImportFault.{ImportFault}
 use Rattle.index_import.specs.declared.fault.ImportFault.TheVariants.{Refused, ReadFault, TooLarge, WriteFault, NoMemory}
@@ -20,10 +19,9 @@ use Rattle.index_import.specs.declared.weighing.Weighing.{Weighing}
 use Rattle.index_import.specs.Importing.{Begins}
 use Rattle.jass_base.specs.declared.limits.TheConstants.{LONGEST_FILE}
 
--- the terms have these heads, and these payloads where they were kept; where the content is told their segments are those of the lists at the places
-pub record HasTerms (files : Option Files) (name : List ℕ) (docs : ℕ) (w : Weighing) (bits : Bits) (range : Range) (places : List Place) (heads : List TermHeads) (kept : Option (List ℕ)) (terms : List TermData) : Type 0 where
+-- the terms have these heads; where the content is told their segments are those of the lists at the places
+pub record HasTerms (files : Option Files) (name : List ℕ) (docs : ℕ) (w : Weighing) (bits : Bits) (range : Range) (places : List Place) (heads : List TermHeads) (terms : List TermData) : Type 0 where
   pub heads_are : map entry_data heads ≡ chosen_terms docs terms
-  pub payloads_are : ArePayloads kept docs terms
   pub told : ForContent files name (λ content. map (λ (t : TermData). t.segments) terms ≡ map (λ (p : Place). segments_there content docs w bits range p.at) places)
   pub inside : ForContent files name (λ content. All (λ (p : Place). IsInside content docs w bits range p.at) places)
 

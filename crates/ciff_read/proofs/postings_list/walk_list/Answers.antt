@@ -1,4 +1,5 @@
-use Rattle.std.proofs.Common.{◌≡◌, refl, ap, ◌∙◌, Result, Ok, fold}
+use Rattle.std.proofs.Common.{◌≡◌, refl, ap, ◌∙◌, Result, Ok, fold, take}
+use Rattle.shared_lemmas.proofs.Common.{arith, length-take}
 use Rattle.ciff_read.specs.declared.refusal.CiffRefusal.{CiffRefusal}
 use Rattle.ciff_read.specs.Judging.{ListStart, list_start_of, gather}
 use Rattle.ciff_read.specs.Private.Places.{gathered_of}
@@ -13,14 +14,14 @@ use Rattle.ciff_read.proofs.postings_list.walk_list.Goals as goal
 
 pub fields-init : goal.fields-init
 fields-init c = record {
-  walks = walks_start entry_inside c.args.bytes.now c.args.from _ c.requires ((refl, refl, refl), refl);
+  walks = walks_start entry_inside (take c.args.body.end c.args.bytes.now) c.args.body.from _ (omega (arith, c.requires, c.args.body.in_order, length-take c.args.body.end c.args.bytes.now)) ((refl, refl, refl), refl);
   docs = refl;
   before = refl;
 }
 
 pub fields-preserved : goal.fields-preserved
 fields-preserved c =
-    let bytes = c.args.bytes.now in
+    let bytes = take c.args.body.end c.args.bytes.now in
     let f = field_in bytes c.in-Ok-Some.field in
     let reads = rw c.in-Ok-Some.field-0-is at c.in-Ok-Some.ensures in
     let g = c.in-Ok.ensures.read in
@@ -29,10 +30,10 @@ fields-preserved c =
     let v = c.fields.invariant in
     let docs = c.take_run-at.ensures.docs ∙ v.docs in
     let before = c.take_run-at.ensures.before ∙ v.before in
-    let walks = walks_behind bytes c.args.from c.fields.at c.take_run-at.result start c.fields.gathered old c.fields.fields c.take_run-at.ensures.run v.docs v.before v.walks in
+    let walks = walks_behind bytes c.args.body.from c.fields.at c.take_run-at.result start c.fields.gathered old c.fields.fields c.take_run-at.ensures.run v.docs v.before v.walks in
     let gathered : gathered_of c.gather.new.gathered ≡ fold (gather start.docs start.before) (gathered_of old) g.entries = g.gathered ∙ ap (λ d. fold (gather d old.before) (gathered_of old) g.entries) docs ∙ ap (λ b. fold (gather start.docs b) (gathered_of old) g.entries) before in
     record {
-      walks = walks_on entry_inside bytes c.args.from c.take_run-at.result c.in-Ok-Some.field.next _ walks f g.entries _ reads.1 reads.2 reads.0 g.read
+      walks = walks_on entry_inside bytes c.args.body.from c.take_run-at.result c.in-Ok-Some.field.next _ walks f g.entries _ reads.1 reads.2 reads.0 g.read
           (λ done was. (
             (
               text_more 1 done.fields f c.fields.fields.term.now c.bytes_or-fields.result.now was.0.0 c.bytes_or-fields.ensures,
@@ -48,9 +49,9 @@ fields-preserved c =
 pub returns-in-Ok-None-clause-read : goal.returns-in-Ok-None-clause-read
 returns-in-Ok-None-clause-read c =
     let v = c.fields.invariant in
-    let w = walks_behind c.args.bytes.now c.args.from c.fields.at c.take_run-at.result c.args.gathered.now c.fields.gathered c.take_run-at.new.self c.fields.fields c.take_run-at.ensures.run v.docs v.before v.walks in
+    let w = walks_behind (take c.args.body.end c.args.bytes.now) c.args.body.from c.fields.at c.take_run-at.result c.args.gathered.now c.fields.gathered c.take_run-at.new.self c.fields.fields c.take_run-at.ensures.run v.docs v.before v.walks in
     let end = rw c.in-Ok-None.field-0-is at c.in-Ok-None.ensures in
-    let read = walks_end entry_inside c.args.bytes.now c.args.from c.take_run-at.result _ w end in
+    let read = walks_end entry_inside (take c.args.body.end c.args.bytes.now) c.args.body.from c.take_run-at.result _ w end in
     record {
       entries = w.done.entries;
       read = ap (λ (r : Result Walked CiffRefusal). r >>= λ walked. Ok (record { start = list_start_of walked.fields; entries = walked.entries })) read ∙ ap (λ (x : ListStart). Ok (record { start = x; entries = w.done.entries })) (list_start_is c.fields.fields w.done w.so_far.0);
@@ -60,14 +61,14 @@ returns-in-Ok-None-clause-read c =
 pub returns-in-Err-clause-read : goal.returns-in-Err-clause-read
 returns-in-Err-clause-read c =
     let v = c.fields.invariant in
-    let w = walks_behind c.args.bytes.now c.args.from c.fields.at c.take_run-at.result c.args.gathered.now c.fields.gathered c.take_run-at.new.self c.fields.fields c.take_run-at.ensures.run v.docs v.before v.walks in
-    walks_refused entry_inside c.args.bytes.now c.args.from c.take_run-at.result _ w (λ walked. Ok (record { start = list_start_of walked.fields; entries = walked.entries })) c.in-Err.fault c.refused_field.result c.in-Err.ensures c.refused_field.ensures
+    let w = walks_behind (take c.args.body.end c.args.bytes.now) c.args.body.from c.fields.at c.take_run-at.result c.args.gathered.now c.fields.gathered c.take_run-at.new.self c.fields.fields c.take_run-at.ensures.run v.docs v.before v.walks in
+    walks_refused entry_inside (take c.args.body.end c.args.bytes.now) c.args.body.from c.take_run-at.result _ w (λ walked. Ok (record { start = list_start_of walked.fields; entries = walked.entries })) c.in-Err.fault c.refused_field.result c.in-Err.ensures c.refused_field.ensures
 
 pub returns-in-Err-gather-clause-read : goal.returns-in-Err-gather-clause-read
 returns-in-Err-gather-clause-read c =
     let v = c.fields.invariant in
-    let w = walks_behind c.args.bytes.now c.args.from c.fields.at c.take_run-at.result c.args.gathered.now c.fields.gathered c.take_run-at.new.self c.fields.fields c.take_run-at.ensures.run v.docs v.before v.walks in
+    let w = walks_behind (take c.args.body.end c.args.bytes.now) c.args.body.from c.fields.at c.take_run-at.result c.args.gathered.now c.fields.gathered c.take_run-at.new.self c.fields.fields c.take_run-at.ensures.run v.docs v.before v.walks in
     let reads = rw c.in-Ok-Some.field-0-is at c.in-Ok-Some.ensures in
-    walks_inside entry_inside c.args.bytes.now c.args.from c.take_run-at.result c.in-Ok-Some.field.next _ w
+    walks_inside entry_inside (take c.args.body.end c.args.bytes.now) c.args.body.from c.take_run-at.result c.in-Ok-Some.field.next _ w
     (λ walked. Ok (record { start = list_start_of walked.fields; entries = walked.entries }))
-    (field_in c.args.bytes.now c.in-Ok-Some.field) c.in-Err-gather.fault reads.1 reads.2 reads.0 c.in-Err-gather.ensures.read
+    (field_in (take c.args.body.end c.args.bytes.now) c.in-Ok-Some.field) c.in-Err-gather.fault reads.1 reads.2 reads.0 c.in-Err-gather.ensures.read

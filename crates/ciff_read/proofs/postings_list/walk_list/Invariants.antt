@@ -8,10 +8,10 @@ use Rattle.ciff_read.proofs.postings_list.walk_list.Given as goal
 
 abbrev pub invariant-fields : goal.invariant-fields
 invariant-fields l = record {
-  walks : Walks entry_inside l.bytes l.from l.at (λ done. IsListStart l.fields done × (gathered_of l.gathered ≡ fold (gather l.fn.gathered.docs l.fn.gathered.before) (gathered_of l.fn.gathered) done.entries));
+  walks : Walks entry_inside l.front l.body.from l.at (λ done. IsListStart l.fields done × (gathered_of l.gathered ≡ fold (gather l.fn.gathered.docs l.fn.gathered.before) (gathered_of l.fn.gathered) done.entries));
   docs : l.gathered.docs ≡ l.fn.gathered.docs;
   before : l.gathered.before ≡ l.fn.gathered.before;
 }
 
 abbrev pub decreases-fields : goal.decreases-fields
-decreases-fields l = length l.bytes - l.at
+decreases-fields l = length l.front - l.at

@@ -1,4 +1,5 @@
-use Rattle.std.proofs.Common.{◌∙◌, ◌-◌, ℕ, ap, sym, subst, arith}
+use Rattle.std.proofs.Common.{◌∙◌, ◌-◌, ℕ, not, ap, sym, subst, arith}
+use Rattle.ciff_read.specs.Seen.{is_seen}
 use Rattle.jass_base.specs.CiffViews.{list_data}
 use Rattle.ciff_read.specs.declared.refusal.CiffFault.{CiffFault}
 use Rattle.ciff_read.specs.declared.refusal.CiffFault.TheVariants as faults
@@ -50,7 +51,7 @@ fault_in_file-requires-in-Err-finish g c =
     let place : ℕ = c.args.at - c.reach_message.new.window.start in
     let terms = terms_kept (kept_in c.args.kept.now) in
     let m = message_in c.as_slice-bytes.result.now body in
-    let judged = c.in-Ok.ensures.walked terms ∙ ap (λ b. finished b place c.in-Ok.walked) (sym (not_not c.has-is_new.result ∙ c.has-is_new.ensures)) in
+    let judged = c.in-Ok.ensures.walked terms ∙ ap (λ b. finished b place c.in-Ok.walked) (sym (ap not c.judge-is_new.ensures.new ∙ not_not (is_seen c.in-Ok.walked.term.now terms))) in
     λ refusal is.
     let read = judged ∙ refusal_of c.in-Err-finish.fault refusal _ is c.in-Err-finish.ensures.exact in
     let near = c.refusals_are_near.ensures.list place body.end m refusal (omega (arith, c.in_ok-body.ensures.behind, c.in_ok-body.ensures.front)) (cut_end c.as_slice-bytes.result.now body) c.args.docs c.args.before terms read in
@@ -62,7 +63,7 @@ returns-in-Ok-finish-clause-exact g c =
     let body = c.in_ok-body.body in
     let place : ℕ = c.args.at - w.start in
     let terms = terms_kept (kept_in c.args.kept.now) in
-    let judged = c.in-Ok.ensures.walked terms ∙ ap (λ b. finished b place c.in-Ok.walked) (sym (not_not c.has-is_new.result ∙ c.has-is_new.ensures)) in
+    let judged = c.in-Ok.ensures.walked terms ∙ ap (λ b. finished b place c.in-Ok.walked) (sym (ap not c.judge-is_new.ensures.new ∙ not_not (is_seen c.in-Ok.walked.term.now terms))) in
     for_one _ _ _ _ (λ content read shows.
     list_given content w body c.as_slice-bytes.result.now c.args.at place c.as_slice-bytes.ensures.value (omega (arith, c.in_ok-body.ensures.front)) (read shows) c.args.docs c.args.before terms c.messages_move.ensures.list (list_data c.in-Ok-finish.list) body.in_order c.in_ok-body.ensures.within
     (judged ∙ c.in-Ok-finish.ensures.exact))
@@ -75,7 +76,7 @@ returns-in-Err-finish-clause-exact g c =
     let place : ℕ = c.args.at - w.start in
     let terms = terms_kept (kept_in c.args.kept.now) in
     let m = message_in c.as_slice-bytes.result.now body in
-    let judged = c.in-Ok.ensures.walked terms ∙ ap (λ b. finished b place c.in-Ok.walked) (sym (not_not c.has-is_new.result ∙ c.has-is_new.ensures)) in
+    let judged = c.in-Ok.ensures.walked terms ∙ ap (λ b. finished b place c.in-Ok.walked) (sym (ap not c.judge-is_new.ensures.new ∙ not_not (is_seen c.in-Ok.walked.term.now terms))) in
     let fails = fails_as c.in-Err-finish.fault _ (list_at c.args.docs c.args.before terms place m) (sym judged) c.in-Err-finish.ensures.exact in
     for_one _ _ _ _ (λ content read shows.
     subst (λ (e : CiffFault). FailsReading e (list_of_file content c.args.docs c.args.before terms c.args.at)) (sym c.fault_in_file-in-Err-finish.ensures)
@@ -95,6 +96,6 @@ returns-in-Err-finish-clause-plain g c =
     let place : ℕ = c.args.at - w.start in
     let terms = terms_kept (kept_in c.args.kept.now) in
     let m = message_in c.as_slice-bytes.result.now c.in_ok-body.body in
-    let judged = c.in-Ok.ensures.walked terms ∙ ap (λ b. finished b place c.in-Ok.walked) (sym (not_not c.has-is_new.result ∙ c.has-is_new.ensures)) in
+    let judged = c.in-Ok.ensures.walked terms ∙ ap (λ b. finished b place c.in-Ok.walked) (sym (ap not c.judge-is_new.ensures.new ∙ not_not (is_seen c.in-Ok.walked.term.now terms))) in
     let fails = fails_as c.in-Err-finish.fault _ (list_at c.args.docs c.args.before terms place m) (sym judged) c.in-Err-finish.ensures.exact in
     plain_in_file c.args.docs c.args.before terms place m w.start c.in-Err-finish.fault c.fault_in_file-in-Err-finish.result fails c.fault_in_file-in-Err-finish.ensures

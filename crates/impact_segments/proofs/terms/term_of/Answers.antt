@@ -1,10 +1,12 @@
 -- The segments hold the pairs of the list.
 use Rattle.shared_lemmas.proofs.Common.{◌≡◌, ℕ, ◌≤◌, List, length, sym, subst, ap, ◌∙◌, arith, length-map}
-use Rattle.impact_segments.proofs.OneTerm.{docs_rise, docs_below, some_segments, segments_below, term_is}
+use Rattle.impact_segments.proofs.Below.{Segment}
+use Rattle.impact_segments.proofs.OneList.{docs_below_by, docs_rise_by}
+use Rattle.impact_segments.proofs.OneTerm.{impact_by, some_segments, segments_below, term_is}
 use Rattle.impact_segments.proofs.terms.term_of.Goals as goal
 
-pub group_in_place-requires-clause-rising : goal.group_in_place-requires-clause-rising
-group_in_place-requires-clause-rising c = docs_rise c.args.weigher.now.rule c.args.weigher.now.docs.now c.args.bits c.args.range c.args.list.now c.impacts_of.new.pairs.items c.in_ok-impacts_of.ensures.pairs
+pub group_by-requires-clause-rising : goal.group_by-requires-clause-rising
+group_by-requires-clause-rising c = docs_rise_by (impact_by c.args.weigher.now.rule c.args.weigher.now.docs.now c.args.bits c.args.range c.args.list.now) c.args.list.now c.impacts_of.new.pairs.items c.in_ok-impacts_of.ensures.pairs
 
 pub invariant_of-result : goal.invariant_of-result
 invariant_of-result c =
@@ -14,7 +16,7 @@ invariant_of-result c =
     record {
       term_fits = subst P (sym (c.in_ok-term.ensures.bytes ∙ c.as_str.ensures.bytes)) c.args.list.now.term_fits;
       term_is_text = c.in_ok-term.ensures.utf8;
-      some = some_segments c.in_ok-segments.segments c.impacts_of.new.pairs.items c.in_ok-segments.ensures.pairs some;
+      some = some_segments (λ (s : Segment). s.impact) (λ (s : Segment). s.docs) c.in_ok-segments.segments c.impacts_of.new.pairs.items c.in_ok-segments.ensures.pairs some;
       falling = c.in_ok-segments.ensures.falling;
       once = c.in_ok-segments.ensures.once;
     }
@@ -26,5 +28,5 @@ returns-clause-entries c =
 
 pub returns-clause-docs : goal.returns-clause-docs
 returns-clause-docs c =
-    segments_below (length c.args.weigher.now.docs.now) c.in_ok-segments.segments c.impacts_of.new.pairs.items c.in_ok-segments.ensures.pairs
-    (docs_below c.args.weigher.now.rule c.args.weigher.now.docs.now c.args.bits c.args.range c.args.list.now (length c.args.weigher.now.docs.now) c.impacts_of.new.pairs.items c.in_ok-impacts_of.ensures.pairs c.requires.below)
+    segments_below (λ (s : Segment). s.impact) (λ (s : Segment). s.docs) (length c.args.weigher.now.docs.now) c.in_ok-segments.segments c.impacts_of.new.pairs.items c.in_ok-segments.ensures.pairs
+    (docs_below_by (impact_by c.args.weigher.now.rule c.args.weigher.now.docs.now c.args.bits c.args.range c.args.list.now) c.args.list.now (length c.args.weigher.now.docs.now) c.impacts_of.new.pairs.items c.in_ok-impacts_of.ensures.pairs c.requires.below)

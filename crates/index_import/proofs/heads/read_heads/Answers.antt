@@ -1,12 +1,12 @@
-use Rattle.shared_lemmas.proofs.Common.{ℕ, ◌≡◌, List, [], ◌∷◌, ◌++◌, map, Option, refl, sym, ap, subst, ◌∙◌, arith, All, into_iter_items, map-append}
-use Rattle.index_import.proofs.Below.{Files, ForContent, KeptList, HasKept, for_one, Segment, segment_data, chosen_heads, chosen_payloads, head_data, TermHeads}
-use Rattle.index_import.specs.Private.Heading.{AreHeads, KeepsMore}
+use Rattle.shared_lemmas.proofs.Common.{ℕ, ◌≡◌, List, [], ◌∷◌, ◌++◌, map, Option, refl, sym, ap, subst, ◌∙◌, arith, All, into_iter_items, length-map, map-append}
+use Rattle.index_import.proofs.Below.{Files, ForContent, KeptList, HasKept, for_one, SegmentData, chosen_heads, entry_data, head_data, TermHeads}
+use Rattle.index_import.specs.Private.Heading.{AreHeads}
 use Rattle.index_import.specs.Private.Rereading.{AreSegments, segments_there}
 use Rattle.index_import.specs.Private.Surveying.{HoldsMost, IsReady, KeepsAll}
 use Rattle.index_import.specs.declared.list_entry.ListEntry.{ListEntry}
 use Rattle.index_import.specs.declared.list_entry.Place.{Place}
 use Rattle.index_import.proofs.Again.{told_now}
-use Rattle.index_import.proofs.Headed.{HaveEntries, all_entries, as_many, entries_more, heads_more, no_entries, no_heads}
+use Rattle.index_import.proofs.Headed.{HaveEntries, all_entries, as_many, heads_more, no_entries, no_heads, rows_more, entry_is}
 use Rattle.index_import.proofs.Ready.{leaves_same, leaves_then}
 use Rattle.index_import.proofs.Turns.{middle, parted, whole}
 use Rattle.index_import.proofs.heads.read_heads.Goals as goal
@@ -44,8 +44,8 @@ lists-init g c = record {
   others = omega arith;
   ready = c.requires.ready;
   leaves = leaves_same c.args.walk.now;
-  heads = no_heads (g.C.Cabinet.told c.args.files.now) c.args.walk.now.name c.args.walk.now.docs c.args.weighing c.args.bits c.args.range c.in-Ok.terms c.new.result c.in-Ok.ensures c.new.ensures;
-  entries = no_entries c.in-Ok.terms c.in-Ok.ensures;
+  heads = no_heads (g.C.Cabinet.told c.args.files.now) c.args.walk.now.name c.args.walk.now.docs c.args.weighing c.args.bits c.args.range c.in-Ok.terms c.in-Ok.ensures;
+  entries = subst (λ (hs : List TermHeads). HaveEntries [] (map entry_data hs)) (sym c.in-Ok.ensures) no_entries;
   places = c.in-Ok-with_capacity.ensures.items;
 }
 
@@ -55,19 +55,15 @@ lists-preserved g c =
     let name : List ℕ = c.args.walk.now.name in
     let d : ℕ = c.args.walk.now.docs in
     let entry : ListEntry = c.in-Some.entry in
-    let own : TermHeads = record { term = c.into_parts-term.result.0; heads = c.in-Ok-payload_heads.heads } in
-    let segments : List Segment = c.in-Ok-entry_segments.segments in
+    let own : TermHeads = record { term = c.in-Ok-into_text.term; heads = c.in-Ok-list_heads.heads } in
+    let segments : List SegmentData = c.entry_segments.new.segments in
     let docs : c.lists.walk.docs ≡ d = c.lists.invariant.leaves.docs in
-    let made : map head_data c.in-Ok-payload_heads.heads ≡ chosen_heads d (map segment_data segments)
-    = c.in-Ok-payload_heads.ensures ∙ ap (λ (n : ℕ). chosen_heads n (map segment_data c.as_slice.result.now)) c.requires.docs ∙ ap (λ (ss : List Segment). chosen_heads d (map segment_data ss)) c.as_slice.ensures in
+    let made : map head_data c.in-Ok-list_heads.heads ≡ chosen_heads d segments = c.in-Ok-list_heads.ensures.heads ∙ ap (λ (n : ℕ). chosen_heads n segments) c.requires.docs in
     let of : AreSegments d entry.place.count segments = subst (λ (n : ℕ). AreSegments n entry.place.count segments) docs c.in-Ok-entry_segments.ensures.segments in
-    let read : ForContent told name (λ content. map segment_data segments ≡ segments_there content d c.args.weighing c.args.bits c.args.range entry.place.at)
-    = subst (λ (files : Option Files). ForContent files name (λ content. map segment_data segments ≡ segments_there content d c.args.weighing c.args.bits c.args.range entry.place.at)) c.lists.invariant.same
-    (subst (λ (n : List ℕ). ForContent (g.C.Cabinet.told c.lists.files) n (λ content. map segment_data segments ≡ segments_there content d c.args.weighing c.args.bits c.args.range entry.place.at)) c.lists.invariant.leaves.name
-    (subst (λ (k : ℕ). ForContent (g.C.Cabinet.told c.lists.files) c.lists.walk.name (λ content. map segment_data segments ≡ segments_there content k c.args.weighing c.args.bits c.args.range entry.place.at)) docs c.in-Ok-entry_segments.ensures.told)) in
-    let keeps : KeepsMore c.lists.payloads (chosen_payloads d (map segment_data segments)) c.keep_payloads-payloads.result
-    = subst (λ (ss : List Segment). KeepsMore c.lists.payloads (chosen_payloads d (map segment_data ss)) c.keep_payloads-payloads.result) c.as_slice-in-lists.ensures
-    (subst (λ (n : ℕ). KeepsMore c.lists.payloads (chosen_payloads n (map segment_data c.as_slice-in-lists.result.now)) c.keep_payloads-payloads.result) c.requires.docs c.keep_payloads-payloads.ensures) in
+    let read : ForContent told name (λ content. segments ≡ segments_there content d c.args.weighing c.args.bits c.args.range entry.place.at)
+    = subst (λ (files : Option Files). ForContent files name (λ content. segments ≡ segments_there content d c.args.weighing c.args.bits c.args.range entry.place.at)) c.lists.invariant.same
+    (subst (λ (n : List ℕ). ForContent (g.C.Cabinet.told c.lists.files) n (λ content. segments ≡ segments_there content d c.args.weighing c.args.bits c.args.range entry.place.at)) c.lists.invariant.leaves.name
+    (subst (λ (k : ℕ). ForContent (g.C.Cabinet.told c.lists.files) c.lists.walk.name (λ content. segments ≡ segments_there content k c.args.weighing c.args.bits c.args.range entry.place.at)) docs c.in-Ok-entry_segments.ensures.told)) in
     let ready = subst (λ (files : Option Files). IsReady files name c.entry_segments.new.walk) c.lists.invariant.same (subst (λ (n : List ℕ). IsReady (g.C.Cabinet.told c.lists.files) n c.entry_segments.new.walk) c.lists.invariant.leaves.name c.in-Ok-entry_segments.ensures.ready) in
     record {
       same = c.in-Ok-entry_segments.ensures.stays ∙ c.lists.invariant.same;
@@ -75,10 +71,10 @@ lists-preserved g c =
       others = omega (arith, c.lists.invariant.others, c.in-Ok-entry_segments.ensures.others);
       ready = ready;
       leaves = leaves_then c.args.walk.now c.lists.walk c.entry_segments.new.walk c.lists.invariant.leaves c.in-Ok-entry_segments.ensures.leaves;
-      heads = subst (λ (hs : List TermHeads). AreHeads told name d c.args.weighing c.args.bits c.args.range (c.lists.yielded ++ entry ∷ []) hs c.keep_payloads-payloads.result) (sym c.in-Ok-push.ensures.ok)
-          (heads_more told name d c.args.weighing c.args.bits c.args.range c.lists.yielded c.lists.terms c.lists.payloads c.keep_payloads-payloads.result entry own (map segment_data segments) c.into_parts-term.ensures.term made read keeps c.lists.invariant.heads);
-      entries = subst (λ (hs : List TermHeads). HaveEntries (c.lists.yielded ++ entry ∷ []) hs) (sym c.in-Ok-push.ensures.ok)
-          (entries_more d c.lists.yielded c.lists.terms entry own segments c.into_parts-term.ensures.term made of.some (c.made_heads_are_entries.ensures.heads d segments of.docs_are) (c.made_heads_are_entries.ensures.falling d segments of.falling) of.postings c.lists.invariant.entries);
+      heads = subst (λ (hs : List TermHeads). AreHeads told name d c.args.weighing c.args.bits c.args.range (c.lists.yielded ++ entry ∷ []) hs) (sym c.in-Ok-push.ensures.ok)
+          (heads_more told name d c.args.weighing c.args.bits c.args.range c.lists.yielded c.lists.terms entry own segments (c.in-Ok-into_text.ensures ∙ c.into_parts-term.ensures.term) made read c.lists.invariant.heads);
+      entries = subst (λ (hs : List TermHeads). HaveEntries (c.lists.yielded ++ entry ∷ []) (map entry_data hs)) (sym c.in-Ok-push.ensures.ok)
+          (rows_more d c.lists.yielded c.lists.terms entry own segments (c.in-Ok-into_text.ensures ∙ c.into_parts-term.ensures.term) made (entry_is d entry.place.count entry segments of c.in-Ok-list_heads.ensures.positive (c.made_heads_are_entries.ensures.heads d segments) (c.made_heads_are_entries.ensures.falling d segments)) of.postings c.lists.invariant.entries);
       places = c.in-Ok-push-2.ensures.items ∙ ap (λ (p : Place). c.lists.places.items ++ p ∷ []) c.into_parts-term.ensures.place ∙ ap (λ (ps : List Place). ps ++ entry.place ∷ []) c.lists.invariant.places ∙ sym (map-append (λ (e : ListEntry). e.place) c.lists.yielded (entry ∷ []));
     }
 
@@ -88,7 +84,7 @@ returns-clause-as_many g c =
     = whole c.into_iter-entry-iterator.result c.lists.entry-iterator c.next.new.self c.args.lists.items c.lists.yielded
     c.into_iter-entry-iterator.ensures.into_iter_gives.0 (omega (arith, c.into_iter-entry-iterator.ensures.into_iter_gives.1, c.args.lists.ok.0))
     c.lists.yielded_by c.in-None.ensures.steps in
-    as_many c.args.lists.items c.lists.terms (subst (λ (ls : List ListEntry). HaveEntries ls c.lists.terms) all c.lists.invariant.entries)
+    sym (length-map c.lists.terms entry_data) ∙ as_many c.args.lists.items (map entry_data c.lists.terms) (subst (λ (ls : List ListEntry). HaveEntries ls (map entry_data c.lists.terms)) all c.lists.invariant.entries)
 
 pub returns-clause-entries : goal.returns-clause-entries
 returns-clause-entries g c =
@@ -96,4 +92,4 @@ returns-clause-entries g c =
     = whole c.into_iter-entry-iterator.result c.lists.entry-iterator c.next.new.self c.args.lists.items c.lists.yielded
     c.into_iter-entry-iterator.ensures.into_iter_gives.0 (omega (arith, c.into_iter-entry-iterator.ensures.into_iter_gives.1, c.args.lists.ok.0))
     c.lists.yielded_by c.in-None.ensures.steps in
-    all_entries c.args.lists.items c.lists.terms c.requires.rising c.requires.few c.requires.postings (subst (λ (ls : List ListEntry). HaveEntries ls c.lists.terms) all c.lists.invariant.entries)
+    all_entries c.args.lists.items (map entry_data c.lists.terms) c.requires.rising c.requires.few c.requires.postings (subst (λ (ls : List ListEntry). HaveEntries ls (map entry_data c.lists.terms)) all c.lists.invariant.entries)

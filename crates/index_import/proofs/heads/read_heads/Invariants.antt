@@ -1,4 +1,5 @@
-use Rattle.std.proofs.Common.{◌≡◌, ◌≤◌}
+use Rattle.std.proofs.Common.{◌≡◌, ◌≤◌, map}
+use Rattle.index_write.specs.Streaming.{entry_data}
 use Rattle.ciff_read.specs.Walk.{LeavesWalk}
 use Rattle.index_import.specs.Private.Heading.{AreHeads, places_of}
 use Rattle.index_import.specs.Private.Surveying.{IsReady}
@@ -12,7 +13,7 @@ invariant-lists g l = record {
   others : g.C.Cabinet.write_faults l.fn.files ≤ g.C.Cabinet.write_faults l.files;
   ready : IsReady (g.C.Cabinet.told l.fn.files) l.fn.walk.name l.walk;
   leaves : LeavesWalk l.fn.walk l.walk;
-  heads : AreHeads (g.C.Cabinet.told l.fn.files) l.fn.walk.name l.fn.walk.docs l.weighing l.bits l.range l.yielded l.terms l.payloads;
-  entries : HaveEntries l.yielded l.terms;
+  heads : AreHeads (g.C.Cabinet.told l.fn.files) l.fn.walk.name l.fn.walk.docs l.weighing l.bits l.range l.yielded l.terms;
+  entries : HaveEntries l.yielded (map entry_data l.terms);
   places : l.places.items ≡ places_of l.yielded;
 }

@@ -1,9 +1,9 @@
-use Rattle.shared_lemmas.proofs.Common.{ℕ, ◌≡◌, ◌<◌, ◌-◌, List, [], ◌∷◌, ◌++◌, length, map, take, get_or, suc, Option, None, Err, refl, sym, ap, ap₂, subst, ◌∙◌, ◌⊎◌, arith, append-nil, append_assoc, All, AllPairs, IfOk, into_iter_items, length-append, length-map}
-use Rattle.index_import.proofs.Below.{Appended, Extends, Files, ForContent, Sets, content_there, SharesNoDocument, Segment, CiffFault, KeptList, HasKept, SegmentData, TermData, segment_data, front_bytes, chosen_heads, chosen_payloads, table_payloads, WriterView, change_of, entries_totals}
+use Rattle.shared_lemmas.proofs.Common.{ℕ, ◌≡◌, ◌<◌, ◌-◌, List, [], ◌∷◌, ◌++◌, length, map, take, get_or, suc, Option, None, Err, refl, sym, ap, ap₂, subst, ◌∙◌, ◌⊎◌, arith, append-nil, append_assoc, All, AllPairs, into_iter_items, length-append, length-map}
+use Rattle.index_import.proofs.Below.{Extends, Files, ForContent, Sets, content_there, CiffFault, KeptList, HasKept, SegmentData, TermData, segment_data, front_bytes, chosen_heads, chosen_payloads, table_payloads, WriterView, change_of, entries_totals}
 use Rattle.index_import.proofs.Below.{entry_data, next_heads, Unappended, TermFault, Bits, Range}
 use Rattle.ciff_read.specs.declared.refusal.CiffFault.TheVariants as reading
 use Rattle.index_layout.specs.Heads.{TermHeads as EntryData}
-use Rattle.index_import.specs.Private.Heading.{ArePayloads}
+use Rattle.jass_base.specs.Gaps.{AreDocs}
 use Rattle.index_import.specs.Private.Writing.{Writes}
 use Rattle.index_import.specs.Private.Rereading.{FailsOf, IsInside}
 use Rattle.index_import.specs.Private.Outlining.{list_there}
@@ -12,8 +12,9 @@ use Rattle.index_import.specs.declared.fault.ImportFault.{ImportFault}
 use Rattle.index_import.specs.declared.list_entry.Place.{Place}
 use Rattle.index_import.specs.declared.weighing.Weighing.{Weighing}
 use Rattle.index_import.proofs.Beside.{beside}
-use Rattle.index_import.proofs.Finished.{as_many, fits, found_here, kept_written, left_is, never_changed, next_is, not_appended, not_begun, not_read, only_untold, same_payloads, totals_are, turn_low, whole_text, writer_is}
+use Rattle.index_import.proofs.Finished.{as_many, fits, found_here, left_is, never_changed, next_is, not_appended, not_begun, not_read, only_untold, same_payloads, totals_are, turn_low, whole_text, writer_is}
 use Rattle.index_import.proofs.Ready.{leaves_same, leaves_then, ready_beside}
+use Rattle.index_import.proofs.Rows.{rows_docs, rows_once}
 use Rattle.index_import.proofs.Turns.{middle, parted, whole}
 use Rattle.index_import.proofs.Written.{extends_sets, payloads_more, sets_wanted}
 use Rattle.index_import.proofs.writing.write_index.Goals as goal
@@ -31,21 +32,6 @@ returns-in-Err-clause-written g c = λ made has.
     (not_begun (g.C.Cabinet.told c.args.files.now) c.args.walk.now.name c.args.index.now c.args.walk.now.docs c.args.names (map entry_data c.args.heads.terms) made c.requires.as_many has.heads_are c.appended_payloads_make_the_text.ensures.text c.appended_payloads_make_the_text.ensures.length
     g.C.Cabinet.told c.args.files.now c.new.new.files c.in-Err.fault refl c.in-Err.ensures.fault c.in-Err.ensures.untouched c.in-Err.ensures.front)
 
-pub returns-in-Some-clause-written : goal.returns-in-Some-clause-written
-returns-in-Some-clause-written g c = λ made has.
-    let old : Option Files = g.C.Cabinet.told c.args.files.now in
-    let begun : Option Files = g.C.Cabinet.told c.new.new.files in
-    let after : Option Files = g.C.Cabinet.told c.put_kept.new.files in
-    let entries = map entry_data c.args.heads.terms in
-    let law = c.appended_payloads_make_the_text.ensures in
-    let kept : c.in-Some.payloads ≡ table_payloads c.args.walk.now.docs made = subst (λ (k : Option (List ℕ)). ArePayloads k c.args.walk.now.docs made) c.in-Some.is has.payloads_are in
-    kept_written old c.args.walk.now.name c.args.index.now c.args.walk.now.docs c.args.names entries made c.requires.as_many has.heads_are law.text law.length
-    begun after c.as_slice.result.now c.put_kept.result c.in-Ok.ensures.fits (c.as_slice.ensures ∙ kept) law.file law.prefix law.totals c.in-Ok.ensures.content
-    (subst (λ (n : List ℕ). Appended begun after n c.as_slice.result.now c.put_kept.result) c.in-Ok.ensures.name c.put_kept.ensures.content)
-    (subst (λ (es : List EntryData). IfOk c.put_kept.result (λ totals. totals ≡ entries_totals c.args.walk.now.docs es)) c.in-Ok.ensures.entries
-    (subst (λ (k : ℕ). IfOk c.put_kept.result (λ totals. totals ≡ entries_totals k c.in-Ok.writer.entries)) (c.in-Ok.ensures.docs ∙ c.requires.as_many) c.put_kept.ensures.totals))
-    c.put_kept.ensures.fault
-
 pub places-init : goal.places-init
 places-init g c =
     let front : List ℕ = front_bytes c.args.names (map entry_data c.args.heads.terms) in
@@ -61,11 +47,11 @@ places-init g c =
 
 pub read_segments-requires-clause-given : goal.read_segments-requires-clause-given
 read_segments-requires-clause-given g c =
-    let is : c.args.heads.places.items ≡ c.places.yielded ++ c.in-Some-place.place ∷ into_iter_items c.next.new.self
-    = parted c.into_iter-place-iterator.result c.places.place-iterator c.next.new.self c.args.heads.places.items c.places.yielded c.in-Some-place.place c.into_iter-place-iterator.ensures.into_iter_gives.0 c.places.yielded_by c.in-Some-place.ensures.steps in
-    let kept : HasKept c.args.walk.now.kept c.in-Some-place.place.at c.in-Some-place.place.count
-    = middle (λ (p : Place). HasKept c.args.walk.now.kept p.at p.count) c.places.yielded (into_iter_items c.next.new.self) c.in-Some-place.place (subst (All (λ (p : Place). HasKept c.args.walk.now.kept p.at p.count)) is c.requires.given) in
-    subst (λ (kept : List KeptList). HasKept kept c.in-Some-place.place.at c.in-Some-place.place.count) (sym c.places.invariant.leaves.kept) kept
+    let is : c.args.heads.places.items ≡ c.places.yielded ++ c.in-Some.place ∷ into_iter_items c.next.new.self
+    = parted c.into_iter-place-iterator.result c.places.place-iterator c.next.new.self c.args.heads.places.items c.places.yielded c.in-Some.place c.into_iter-place-iterator.ensures.into_iter_gives.0 c.places.yielded_by c.in-Some.ensures.steps in
+    let kept : HasKept c.args.walk.now.kept c.in-Some.place.at c.in-Some.place.count
+    = middle (λ (p : Place). HasKept c.args.walk.now.kept p.at p.count) c.places.yielded (into_iter_items c.next.new.self) c.in-Some.place (subst (All (λ (p : Place). HasKept c.args.walk.now.kept p.at p.count)) is c.requires.given) in
+    subst (λ (kept : List KeptList). HasKept kept c.in-Some.place.at c.in-Some.place.count) (sym c.places.invariant.leaves.kept) kept
 
 pub returns-in-Err-read_segments-clause-written : goal.returns-in-Err-read_segments-clause-written
 returns-in-Err-read_segments-clause-written g c = λ made has.
@@ -73,10 +59,10 @@ returns-in-Err-read_segments-clause-written g c = λ made has.
     let now : Option Files = g.C.Cabinet.told c.places.files in
     let name : List ℕ = c.args.walk.now.name in
     let d : ℕ = c.args.walk.now.docs in
-    let place : Place = c.in-Some-place.place in
+    let place : Place = c.in-Some.place in
     let set = c.places.invariant.written made has in
     let is : c.args.heads.places.items ≡ c.places.yielded ++ place ∷ into_iter_items c.next.new.self
-    = parted c.into_iter-place-iterator.result c.places.place-iterator c.next.new.self c.args.heads.places.items c.places.yielded place c.into_iter-place-iterator.ensures.into_iter_gives.0 c.places.yielded_by c.in-Some-place.ensures.steps in
+    = parted c.into_iter-place-iterator.result c.places.place-iterator c.next.new.self c.args.heads.places.items c.places.yielded place c.into_iter-place-iterator.ensures.into_iter_gives.0 c.places.yielded_by c.in-Some.ensures.steps in
     let same : content_there now name ≡ content_there old name = beside old now c.args.index.now (front_bytes c.args.names (map entry_data c.args.heads.terms) ++ table_payloads d (take (length c.places.yielded) made)) name c.requires.apart set in
     let told : ForContent now name (λ content. FailsInside content d c.args.weighing c.args.bits c.args.range place.at c.in-Err-read_segments.fault)
     = subst (λ (n : List ℕ). ForContent now n (λ content. FailsInside content d c.args.weighing c.args.bits c.args.range place.at c.in-Err-read_segments.fault)) c.places.invariant.leaves.name
@@ -88,8 +74,23 @@ returns-in-Err-read_segments-clause-written g c = λ made has.
     same c.requires.ready.there (subst (λ (f : CiffFault). ForContent now name (λ content. FailsInside content d c.args.weighing c.args.bits c.args.range place.at f)) refused told) has.inside
     (λ content outside inside. outside (middle (λ (p : Place). IsInside content d c.args.weighing c.args.bits c.args.range p.at) c.places.yielded (into_iter_items c.next.new.self) place (subst (All (λ (p : Place). IsInside content d c.args.weighing c.args.bits c.args.range p.at)) is inside)))))
 
+pub term-requires-clause-docs : goal.term-requires-clause-docs
+term-requires-clause-docs g c =
+    let rows : map segment_data c.as_slice.result.now ≡ c.read_segments.new.segments = ap (map segment_data) c.as_slice.ensures ∙ c.in-Ok-to_rows.ensures in
+    let docs : c.places.walk.docs ≡ c.places.writer.docs = c.places.invariant.leaves.docs ∙ sym (ap (λ (w : WriterView). w.docs) c.places.invariant.writer) in
+    rows_docs c.places.writer.docs c.as_slice.result.now c.read_segments.new.segments rows
+    (subst (λ (d : ℕ). All (λ (s : SegmentData). AreDocs d s.docs) c.read_segments.new.segments) docs c.in-Ok-read_segments.ensures.segments.docs_are)
+
 pub term-requires-clause-once : goal.term-requires-clause-once
-term-requires-clause-once g c = subst (λ (ss : List Segment). AllPairs SharesNoDocument ss) (sym c.as_slice-in-places.ensures) c.in-Ok-read_segments.ensures.segments.once
+term-requires-clause-once g c =
+    let rows : map segment_data c.as_slice.result.now ≡ c.read_segments.new.segments = ap (map segment_data) c.as_slice.ensures ∙ c.in-Ok-to_rows.ensures in
+    rows_once c.as_slice.result.now c.read_segments.new.segments rows c.in-Ok-read_segments.ensures.segments.once
+
+pub returns-in-Err-to_rows-clause-written : goal.returns-in-Err-to_rows-clause-written
+returns-in-Err-to_rows-clause-written g c = λ made has.
+    not_read (g.C.Cabinet.told c.args.files.now) c.args.walk.now.name c.args.index.now c.args.walk.now.docs c.args.names (map entry_data c.args.heads.terms) made c.requires.as_many has.heads_are c.appended_payloads_make_the_text.ensures.text c.appended_payloads_make_the_text.ensures.length
+    (g.C.Cabinet.told c.places.files) (g.C.Cabinet.told c.read_segments.new.files) (length c.places.yielded) reading.NoMemory c.in-Ok-read_segments.ensures.stays c.places.invariant.fits (c.places.invariant.written made has)
+    (λ refusal refused. absurd (cc))
 
 pub returns-in-Err-term-clause-written : goal.returns-in-Err-term-clause-written
 returns-in-Err-term-clause-written g c = λ made has.
@@ -98,18 +99,18 @@ returns-in-Err-term-clause-written g c = λ made has.
     let read : Option Files = g.C.Cabinet.told c.read_segments.new.files in
     let name : List ℕ = c.args.walk.now.name in
     let d : ℕ = c.args.walk.now.docs in
-    let place : Place = c.in-Some-place.place in
+    let place : Place = c.in-Some.place in
     let i : ℕ = length c.places.yielded in
     let entries = map entry_data c.args.heads.terms in
     let writer : WriterView = c.places.writer in
     let set = c.places.invariant.written made has in
     let is : c.args.heads.places.items ≡ c.places.yielded ++ place ∷ into_iter_items c.next.new.self
-    = parted c.into_iter-place-iterator.result c.places.place-iterator c.next.new.self c.args.heads.places.items c.places.yielded place c.into_iter-place-iterator.ensures.into_iter_gives.0 c.places.yielded_by c.in-Some-place.ensures.steps in
+    = parted c.into_iter-place-iterator.result c.places.place-iterator c.next.new.self c.args.heads.places.items c.places.yielded place c.into_iter-place-iterator.ensures.into_iter_gives.0 c.places.yielded_by c.in-Some.ensures.steps in
     let same : content_there now name ≡ content_there old name = beside old now c.args.index.now (front_bytes c.args.names entries ++ table_payloads d (take i made)) name c.requires.apart set in
-    let segments : List SegmentData = map segment_data c.as_slice-in-places.result.now in
+    let segments : List SegmentData = map segment_data c.as_slice.result.now in
     let here : (old ≡ None) ⊎ (segments ≡ (get_or made i no_term).segments)
-    = found_here old now name d c.args.weighing c.args.bits c.args.range c.args.heads.places.items c.places.yielded (into_iter_items c.next.new.self) place made c.places.walk.name c.places.walk.docs c.in-Ok-read_segments.segments c.as_slice-in-places.result.now
-    c.as_slice-in-places.ensures c.places.invariant.leaves.name c.places.invariant.leaves.docs same c.requires.ready.there is c.in-Ok-read_segments.ensures.told has.told in
+    = found_here old now name d c.args.weighing c.args.bits c.args.range c.args.heads.places.items c.places.yielded (into_iter_items c.next.new.self) place made c.places.walk.name c.places.walk.docs c.read_segments.new.segments c.as_slice.result.now
+    (ap (map segment_data) c.as_slice.ensures ∙ c.in-Ok-to_rows.ensures) c.places.invariant.leaves.name c.places.invariant.leaves.docs same c.requires.ready.there is c.in-Ok-read_segments.ensures.told has.told in
     let low : i < length entries = turn_low c.args.heads.places.items c.places.yielded (into_iter_items c.next.new.self) place c.args.heads.terms is c.requires.places in
     let docs : writer.docs ≡ d = ap (λ (w : WriterView). w.docs) c.places.invariant.writer in
     let next : next_heads writer ≡ chosen_heads d (get_or made i no_term).segments
@@ -132,13 +133,13 @@ places-preserved g c =
     let after : Option Files = g.C.Cabinet.told c.term.new.files in
     let name : List ℕ = c.args.walk.now.name in
     let d : ℕ = c.args.walk.now.docs in
-    let place : Place = c.in-Some-place.place in
+    let place : Place = c.in-Some.place in
     let i : ℕ = length c.places.yielded in
     let entries = map entry_data c.args.heads.terms in
     let writer : WriterView = c.places.writer in
     let is : c.args.heads.places.items ≡ c.places.yielded ++ place ∷ into_iter_items c.next.new.self
-    = parted c.into_iter-place-iterator.result c.places.place-iterator c.next.new.self c.args.heads.places.items c.places.yielded place c.into_iter-place-iterator.ensures.into_iter_gives.0 c.places.yielded_by c.in-Some-place.ensures.steps in
-    let segments : List SegmentData = map segment_data c.as_slice-in-places.result.now in
+    = parted c.into_iter-place-iterator.result c.places.place-iterator c.next.new.self c.args.heads.places.items c.places.yielded place c.into_iter-place-iterator.ensures.into_iter_gives.0 c.places.yielded_by c.in-Some.ensures.steps in
+    let segments : List SegmentData = map segment_data c.as_slice.result.now in
     let low : i < length entries = turn_low c.args.heads.places.items c.places.yielded (into_iter_items c.next.new.self) place c.args.heads.terms is c.requires.places in
     let docs : writer.docs ≡ d = ap (λ (w : WriterView). w.docs) c.places.invariant.writer in
     let one : length (c.places.yielded ++ place ∷ []) ≡ suc i = omega (arith, length-append c.places.yielded (place ∷ [])) in
@@ -162,8 +163,8 @@ places-preserved g c =
           let set = c.places.invariant.written made has in
           let same : content_there now name ≡ content_there old name = beside old now c.args.index.now (front_bytes c.args.names entries ++ table_payloads d (take i made)) name c.requires.apart set in
           let here : (old ≡ None) ⊎ (segments ≡ (get_or made i no_term).segments)
-          = found_here old now name d c.args.weighing c.args.bits c.args.range c.args.heads.places.items c.places.yielded (into_iter_items c.next.new.self) place made c.places.walk.name c.places.walk.docs c.in-Ok-read_segments.segments c.as_slice-in-places.result.now
-          c.as_slice-in-places.ensures c.places.invariant.leaves.name c.places.invariant.leaves.docs same c.requires.ready.there is c.in-Ok-read_segments.ensures.told has.told in
+          = found_here old now name d c.args.weighing c.args.bits c.args.range c.args.heads.places.items c.places.yielded (into_iter_items c.next.new.self) place made c.places.walk.name c.places.walk.docs c.read_segments.new.segments c.as_slice.result.now
+          (ap (map segment_data) c.as_slice.ensures ∙ c.in-Ok-to_rows.ensures) c.places.invariant.leaves.name c.places.invariant.leaves.docs same c.requires.ready.there is c.in-Ok-read_segments.ensures.told has.told in
           let more = sets_wanted c.appended_payloads_make_the_text.ensures.file old read after c.args.index.now (front_bytes c.args.names entries ++ table_payloads d (take i made)) (chosen_payloads writer.docs segments) (chosen_payloads d (get_or made i no_term).segments)
           (subst (λ (m : Option Files). Sets old m c.args.index.now (front_bytes c.args.names entries ++ table_payloads d (take i made))) (sym c.in-Ok-read_segments.ensures.stays) set) put
           (same_payloads old writer.docs d segments (get_or made i no_term).segments docs here) in

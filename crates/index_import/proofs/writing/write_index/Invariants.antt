@@ -12,6 +12,6 @@ invariant-places g l = record {
   leaves : LeavesWalk l.fn.walk l.walk;
   writer : l.writer ≡ writer_view l.index l.fn.walk.docs l.fn.heads.terms (length l.fn.heads.terms - length l.yielded);
   fits : file_length l.fn.names (map entry_data l.fn.heads.terms) ≤ 2 ^ 32;
-  written : (made : List TermData) → HasTerms (g.C.Cabinet.told l.fn.files) l.fn.walk.name l.fn.walk.docs l.weighing l.bits l.range l.fn.heads.places.items l.fn.heads.terms l.fn.heads.payloads made
+  written : (made : List TermData) → HasTerms (g.C.Cabinet.told l.fn.files) l.fn.walk.name l.fn.walk.docs l.weighing l.bits l.range l.fn.heads.places.items l.fn.heads.terms made
       → Sets (g.C.Cabinet.told l.fn.files) (g.C.Cabinet.told l.files) l.index (front_bytes l.fn.names (map entry_data l.fn.heads.terms) ++ table_payloads l.fn.walk.docs (take (length l.yielded) made));
 }

@@ -1,3 +1,6 @@
+use Rattle.shared_lemmas.proofs.Common.{[], ap, sum_by, sym, ◌∙◌}
+use Rattle.index_write.proofs.Below.{IndexData}
+use Rattle.index_write.proofs.Entries.{size_of}
 use Rattle.index_write.proofs.Files.{prefix_more, sets_more}
 use Rattle.index_write.proofs.Streamed.{payloads_more, totals_chosen}
 use Rattle.index_write.proofs.laws.appended_payloads_make_the_text.Goals as goal
@@ -13,3 +16,8 @@ returns-clause-prefix c = prefix_more
 
 pub returns-clause-totals : goal.returns-clause-totals
 returns-clause-totals c = totals_chosen
+
+pub returns-clause-sizes : goal.returns-clause-sizes
+returns-clause-sizes c = λ d terms.
+    let index : IndexData = record { names = []; terms = terms } in
+    sym (ap (sum_by size_of) (c.texts_have_their_parts.ensures.heads d index) ∙ c.tables_have_their_sums.ensures.sizes d index)

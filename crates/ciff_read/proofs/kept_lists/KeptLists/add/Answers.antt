@@ -12,6 +12,6 @@ pub returns-clause-ok : goal.returns-clause-ok
 returns-clause-ok c =
     let first = c.args.self.now.rising in
     let later = c.args.self.now.hashed.entries in
-    let new : is_seen (string_bytes c.in-Ok.term) (terms_in (first ++ hashed_in later)) ≡ false = ap (λ (t : List ℕ). is_seen t (terms_in (first ++ hashed_in later))) c.in-Ok.ensures.ok ∙ c.requires in
+    let new : is_seen (string_bytes c.in-Ok.term) (terms_in (first ++ hashed_in later)) ≡ false = ap (λ (t : List ℕ). is_seen t (terms_in (first ++ hashed_in later))) c.in-Ok.ensures.ok ∙ c.requires.new in
     ap (λ (entries : List (String Global × ListPlace)). kept_from (first ++ hashed_in entries)) c.in-Ok-insert.ensures.entries ∙ kept_more _ _ _ _ new
     ∙ ap (λ (t : List ℕ). kept_in c.args.self.now ++ kept_as t c.args.place ∷ []) c.in-Ok.ensures.ok

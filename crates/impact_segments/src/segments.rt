@@ -1,0 +1,147 @@
+//! The segments of one list at a time, for a collection that isn't held in memory.
+
+ghost use Rattle.std.specs.Prelude.{◌≡◌, None, ◌≤◌, length, map, sum_by, All, AllPairs, IfErr, IfOk, OnOk};
+ghost use Rattle.std.specs.Option.{ForSome};
+ghost use Rattle.jass_base.specs.Gaps.{AreDocs};
+ghost use Rattle.jass_base.specs.Segments as rows;
+ghost use Rattle.jass_base.specs.declared.segment.Segment.{Segment};
+ghost use Rattle.weights.specs.Quantizing.{IsImpactWidth};
+ghost use Rattle.index_model.specs.Index.{FallsTo, SegmentData, SharesNoDocument};
+ghost use Rattle.index_model.specs.Views.{segment_data};
+ghost use Rattle.impact_segments.specs.Collections.{weights_in};
+ghost use Rattle.impact_segments.specs.ListTerms.{list_segments};
+ghost use Rattle.impact_segments.specs.OneList.{EndsLow, IsListOf, Unmade, norms_in, outside};
+
+use crate::grouping::group_into;
+use crate::list_segments::ListSegments;
+use crate::one_list::{SegmentsFault, impacts_of};
+use crate::scratch::Scratch;
+use jass_base::{PostingsList, Row, Segment};
+use std::alloc::Global;
+use weights::{Bits, Range, Rule};
+
+/// The segments of a list whose weights lie in the range of all weights, by falling impact. Outside
+/// comes exactly where impacts are places in the range and a weight lies outside it, unless memory
+/// is refused first.
+pub fn segments_of(
+    alloc: Global,
+    rule: Rule,
+    bits: Bits,
+    range: Range,
+    total: u64,
+    list: &PostingsList,
+    lengths: &[u32],
+) -> Result<Row<Segment>, SegmentsFault>
+    requires list { IsListOf lengths.now total list.now }
+    requires width { IsImpactWidth bits }
+    requires low { EndsLow bits range }
+    ensures exact { IfOk result (λ segments. map segment_data segments
+        ≡ list_segments rule lengths.now total bits range list.now.postings) }
+    ensures postings { IfOk result (λ segments. sum_by (λ (s : Segment). length s.docs) segments
+        ≡ length list.now.postings) }
+    ensures some { IfOk result (λ segments. 1 ≤ length segments) }
+    ensures falling { IfOk result (λ segments. AllPairs rows.FallsTo segments) }
+    ensures once { IfOk result (λ segments. AllPairs rows.SharesNoDocument segments) }
+    ensures docs { IfOk result (All (λ (s : Segment). AreDocs (length lengths.now) s.docs)) }
+    ensures inside { OnOk result (outside bits range (weights_in rule lengths.now total list.now.postings) ≡ None) }
+    ensures fault { IfErr result (Unmade (outside bits range (weights_in rule lengths.now total list.now.postings))) }
+{
+    let mut segments = ListSegments::new(alloc);
+    let mut scratch = Scratch::new(alloc);
+    make_segments(
+        &mut segments,
+        &mut scratch,
+        alloc,
+        rule,
+        bits,
+        range,
+        total,
+        list,
+        lengths,
+        None,
+    )?;
+    match segments.to_rows(alloc) {
+        Ok(rows) => Ok(rows),
+        Err(_) => Err(SegmentsFault::NoMemory),
+    }
+}
+
+/// Makes the segments that `segments_of` makes, by the documents' norms, with what a scratch keeps
+/// from list to list, in memory that is used again. After a fault some segments or none are left.
+pub fn segments_into(
+    segments: &mut ListSegments,
+    scratch: &mut Scratch,
+    alloc: Global,
+    rule: Rule,
+    bits: Bits,
+    range: Range,
+    total: u64,
+    list: &PostingsList,
+    lengths: &[u32],
+    norms: &[u64],
+) -> Result<(), SegmentsFault>
+    requires list { IsListOf lengths.now total list.now }
+    requires width { IsImpactWidth bits }
+    requires low { EndsLow bits range }
+    requires norms { norms.now ≡ norms_in lengths.now total }
+    ensures exact { OnOk result (segments.new
+        ≡ list_segments rule lengths.now total bits range list.now.postings) }
+    ensures postings { OnOk result (sum_by (λ (s : SegmentData). length s.docs) segments.new
+        ≡ length list.now.postings) }
+    ensures some { OnOk result (1 ≤ length segments.new) }
+    ensures falling { OnOk result (AllPairs FallsTo segments.new) }
+    ensures once { OnOk result (AllPairs SharesNoDocument segments.new) }
+    ensures docs { OnOk result (All (λ (s : SegmentData). AreDocs (length lengths.now) s.docs) segments.new) }
+    ensures inside { OnOk result (outside bits range (weights_in rule lengths.now total list.now.postings) ≡ None) }
+    ensures fault { IfErr result (Unmade (outside bits range (weights_in rule lengths.now total list.now.postings))) }
+{
+    scratch.make_table(bits, range);
+    make_segments(
+        segments,
+        scratch,
+        alloc,
+        rule,
+        bits,
+        range,
+        total,
+        list,
+        lengths,
+        Some(norms),
+    )
+}
+
+fn make_segments(
+    segments: &mut ListSegments,
+    scratch: &mut Scratch,
+    alloc: Global,
+    rule: Rule,
+    bits: Bits,
+    range: Range,
+    total: u64,
+    list: &PostingsList,
+    lengths: &[u32],
+    norms: Option<&[u64]>,
+) -> Result<(), SegmentsFault>
+    requires list { IsListOf lengths.now total list.now }
+    requires width { IsImpactWidth bits }
+    requires low { EndsLow bits range }
+    requires norms { ForSome norms (λ n. n.now ≡ norms_in lengths.now total) }
+    ensures exact { OnOk result (segments.new
+        ≡ list_segments rule lengths.now total bits range list.now.postings) }
+    ensures postings { OnOk result (sum_by (λ (s : SegmentData). length s.docs) segments.new
+        ≡ length list.now.postings) }
+    ensures some { OnOk result (1 ≤ length segments.new) }
+    ensures falling { OnOk result (AllPairs FallsTo segments.new) }
+    ensures once { OnOk result (AllPairs SharesNoDocument segments.new) }
+    ensures docs { OnOk result (All (λ (s : SegmentData). AreDocs (length lengths.now) s.docs) segments.new) }
+    ensures inside { OnOk result (outside bits range (weights_in rule lengths.now total list.now.postings) ≡ None) }
+    ensures fault { IfErr result (Unmade (outside bits range (weights_in rule lengths.now total list.now.postings))) }
+{
+    let table = scratch.table.impacts(bits, range);
+    let pairs = &mut scratch.pairs;
+    impacts_of(pairs, table, rule, bits, range, total, list, lengths, norms)?;
+    match group_into(segments, &mut scratch.rows, alloc, pairs) {
+        Ok(()) => Ok(()),
+        Err(_) => Err(SegmentsFault::NoMemory),
+    }
+}

@@ -1,0 +1,91 @@
+-- The lists that are spelled, one by one.
+use Rattle.shared_lemmas.proofs.Common.{append-nil, ◌≡◌, ℕ, suc, ◌+◌, ◌<◌, ◌≤◌, ◌^◌, List, [], ◌∷◌, ◌++◌, length, map, take, drop, get_or, Option, refl, sym, ap, ap₂, subst, ◌∙◌, arith, All, AllPairs, flat_map-append, map-append, sum_by-append, take-append-drop, take-suc, length-take}
+use Rattle.std.specs.List.{sum_by}
+use Rattle.index_import.proofs.Below.{BytesRise, Files, ForContent, Bits, Range, for_all, HeadData, SegmentData, TermData, chosen_entry, chosen_heads, chosen_payloads, chosen_terms, head_data, table_payloads, IsEntry, head_postings}
+use Rattle.index_layout.specs.Heads.{TermHeads as EntryData, payloads_size}
+use Rattle.index_write.specs.Spelled.{AreFew, AreSpelled, SpelledView}
+use Rattle.index_import.specs.Private.Heading.{terms_there}
+use Rattle.index_import.specs.Private.Rereading.{AreSegments, segments_there}
+use Rattle.index_import.specs.Private.Spelling.{IsSpelling}
+use Rattle.index_import.specs.declared.list_entry.ListEntry.{ListEntry}
+use Rattle.index_import.specs.declared.weighing.Weighing.{Weighing}
+use Rattle.index_import.proofs.Headed.{HaveEntries, all_entries, as_many, entries_more, no_entries, terms_more}
+
+abbrev count_in : ListEntry → ℕ
+count_in e = e.place.count
+
+-- what is spelled of some lists
+pub record Spells (files : Option Files) (name : List ℕ) (docs : ℕ) (w : Weighing) (bits : Bits) (range : Range) (lists : List ListEntry) (view : SpelledView) (payloads : List ℕ) : Type 0 where
+  pub terms : List TermData
+  pub spelled : AreSpelled view (chosen_terms docs terms)
+  pub payloads_are : payloads ≡ table_payloads docs terms
+  pub entries : HaveEntries lists (chosen_terms docs terms)
+  pub told : ForContent files name (λ content. terms ≡ terms_there content docs w bits range lists)
+
+-- some of the lists have no more postings than all of them
+fewer : (n : ℕ) (lists : List ListEntry) → sum_by count_in (take n lists) ≤ sum_by count_in lists
+fewer n lists =
+    let all : sum_by count_in lists ≡ sum_by count_in (take n lists) + sum_by count_in (drop n lists) = ap (sum_by count_in) (sym (take-append-drop n lists)) ∙ sum_by-append count_in (take n lists) (drop n lists) in
+    omega (arith, all)
+
+module _ (files : Option Files) (name : List ℕ) (docs : ℕ) (w : Weighing) (bits : Bits) (range : Range) where
+  pub spells_none : (view : SpelledView) (payloads : List ℕ) → AreSpelled view [] → payloads ≡ [] → Spells files name docs w bits range [] view payloads
+  spells_none view payloads are none = record {
+    terms = [];
+    spelled = are;
+    payloads_are = none;
+    entries = no_entries;
+    told = for_all files name (λ content. (let nothing : List TermData = [] in nothing ≡ [])) (λ content. refl);
+  }
+
+  -- one list more
+  pub spells_more : (lists : List ListEntry) (i : ℕ) (e : ListEntry) (view after : SpelledView) (payloads more : List ℕ) (term : List ℕ) (heads : List HeadData) (segments : List SegmentData)
+      → i < length lists → e ≡ get_or lists i e → length lists ≤ 2 ^ 24 → sum_by count_in lists ≤ 2 ^ 29
+      → term ≡ e.term → heads ≡ chosen_heads docs segments → AreSegments docs e.place.count segments → IsEntry (chosen_entry docs (record { term = e.term; segments = segments }))
+      → ForContent files name (λ content. segments ≡ segments_there content docs w bits range e.place.at)
+      → more ≡ payloads ++ chosen_payloads docs segments
+      → ((entries : List EntryData) → AreSpelled view entries → AreFew (entries ++ record { term = term; heads = heads } ∷ []) → AreSpelled after (entries ++ record { term = term; heads = heads } ∷ []))
+      → Spells files name docs w bits range (take i lists) view payloads → Spells files name docs w bits range (take (i + 1) lists) after more
+  spells_more lists i e view after payloads more term heads segments low is short few called made are entry told put push so_far =
+      let one : TermData = record { term = e.term; segments = segments } in
+      let next : i + 1 ≡ suc i = omega arith in
+      let taken : take (i + 1) lists ≡ take i lists ++ e ∷ [] = ap (λ (n : ℕ). take n lists) next ∙ take-suc lists i e low ∙ ap (λ (x : ListEntry). take i lists ++ x ∷ []) (sym is) in
+      let entries : List EntryData = chosen_terms docs so_far.terms in
+      let all : chosen_terms docs (so_far.terms ++ one ∷ []) ≡ entries ++ chosen_entry docs one ∷ [] = map-append (chosen_entry docs) so_far.terms (one ∷ []) in
+      let have : HaveEntries (take (i + 1) lists) (entries ++ chosen_entry docs one ∷ [])
+      = subst (λ (ls : List ListEntry). HaveEntries ls (entries ++ chosen_entry docs one ∷ [])) (sym taken) (entries_more docs (take i lists) entries e segments entry are.postings so_far.entries) in
+      let same : (let x : EntryData = record { term = term; heads = heads } in x) ≡ chosen_entry docs one = ap₂ (λ (t : List ℕ) (hs : List HeadData). (let x : EntryData = record { term = t; heads = hs } in x)) called made in
+      let fits : AreFew (entries ++ chosen_entry docs one ∷ []) = record {
+        terms = omega (arith, as_many (take (i + 1) lists) (entries ++ chosen_entry docs one ∷ []) have, short, length-take (i + 1) lists);
+        postings = omega (arith, have.postings, fewer (i + 1) lists, few);
+      } in
+      let spelled : AreSpelled after (entries ++ chosen_entry docs one ∷ [])
+      = subst (λ (x : EntryData). AreFew (entries ++ x ∷ []) → AreSpelled after (entries ++ x ∷ [])) same (push entries so_far.spelled) fits in
+      record {
+        terms = so_far.terms ++ one ∷ [];
+        spelled = subst (AreSpelled after) (sym all) spelled;
+        payloads_are = put ∙ ap (λ (bytes : List ℕ). bytes ++ chosen_payloads docs segments) so_far.payloads_are
+            ∙ ap (λ (bytes : List ℕ). table_payloads docs so_far.terms ++ bytes) (sym (append-nil (chosen_payloads docs segments)))
+            ∙ sym (flat_map-append (λ (t : TermData). chosen_payloads docs t.segments) so_far.terms (one ∷ []));
+        entries = subst (HaveEntries (take (i + 1) lists)) (sym all) have;
+        told = subst (λ (ls : List ListEntry). ForContent files name (λ content. so_far.terms ++ one ∷ [] ≡ terms_there content docs w bits range ls)) (sym taken)
+            (terms_more files name docs w bits range (take i lists) so_far.terms e segments so_far.told told);
+      }
+
+  pub all_spelled : (lists front : List ListEntry) (view : SpelledView) (payloads : List ℕ) → front ≡ lists → AllPairs (λ (a b : ListEntry). BytesRise a.term b.term) lists → length lists ≤ 2 ^ 24 → sum_by count_in lists ≤ 2 ^ 29
+      → ((d : ℕ) (terms : List TermData) → length (table_payloads d terms) ≡ payloads_size (chosen_terms d terms))
+      → Spells files name docs w bits range front view payloads → IsSpelling files name docs w bits range lists view payloads
+  all_spelled lists front view payloads all rising short few sizes so_far =
+      let have : HaveEntries lists (chosen_terms docs so_far.terms) = subst (λ (ls : List ListEntry). HaveEntries ls (chosen_terms docs so_far.terms)) all so_far.entries in
+      record {
+        terms = so_far.terms;
+        are = record {
+          parts = record {
+            spelled = so_far.spelled;
+            are = all_entries lists (chosen_terms docs so_far.terms) rising short few have;
+            sizes = ap length so_far.payloads_are ∙ sizes docs so_far.terms;
+          };
+          payloads_are = so_far.payloads_are;
+        };
+        told = subst (λ (ls : List ListEntry). ForContent files name (λ content. so_far.terms ≡ terms_there content docs w bits range ls)) all so_far.told;
+      }

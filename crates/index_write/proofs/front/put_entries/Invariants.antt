@@ -1,8 +1,0 @@
-use Rattle.std.proofs.Common.{◌≡◌, ◌++◌, [], drop, map}
-use Rattle.index_layout.specs.Layout.{terms_bytes}
-use Rattle.index_write.specs.Streaming.{entry_data}
-use Rattle.index_write.proofs.front.put_entries.Given as goal
-
-abbrev pub invariant-loop-entry : goal.invariant-loop-entry
-invariant-loop-entry l =
-    l.out ++ terms_bytes l.before (map entry_data (drop l.entry-index l.entries)) ≡ l.fn.out ++ terms_bytes [] (map entry_data l.entries)
