@@ -9,6 +9,7 @@ pub mod OneList
 pub mod ByImpact
 pub mod ByTerm
 pub mod Grouped
+pub mod InPlace
 pub mod ListTerms
 pub mod ListRange
 mod Unwidened

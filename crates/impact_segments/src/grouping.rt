@@ -9,7 +9,7 @@ ghost use Rattle.impact_segments.specs.declared.doc_impact.DocImpact.{DocImpact}
 
 use crate::doc_impact::DocImpact;
 use crate::list_segments::ListSegments;
-use crate::rows::{ImpactRows, row_count};
+use crate::places::{ImpactPlaces, impact_count};
 use jass_base::limits::GREATEST_IMPACT;
 use jass_base::{NoMemory, Row, Segment};
 use std::alloc::Global;
@@ -26,9 +26,9 @@ pub fn group(alloc: Global, postings: &[DocImpact]) -> Result<Row<Segment>, NoMe
     ensures once { IfOk result (λ segments. AllPairs SharesNoDocument segments) }
 {
     let mut segments = ListSegments::new(alloc);
-    let mut rows = ImpactRows::new(alloc);
+    let mut places = ImpactPlaces::new(alloc);
     match Vec::from_slice(alloc, postings) {
-        Ok(mut pairs) => group_by(&mut segments, &mut rows, alloc, &mut pairs),
+        Ok(mut pairs) => group_by(&mut segments, &mut places, alloc, &mut pairs),
         Err(_) => Err(NoMemory),
     }
 }
@@ -36,7 +36,7 @@ pub fn group(alloc: Global, postings: &[DocImpact]) -> Result<Row<Segment>, NoMe
 /// The segments of a term whose pairs may be put in order, by memory that is used again.
 pub(crate) fn group_by(
     segments: &mut ListSegments,
-    rows: &mut ImpactRows,
+    places: &mut ImpactPlaces,
     alloc: Global,
     pairs: &mut Vec<DocImpact>,
 ) -> Result<Row<Segment>, NoMemory>
@@ -46,23 +46,22 @@ pub(crate) fn group_by(
     ensures falling { IfOk result (λ segments. AllPairs FallsTo segments) }
     ensures once { IfOk result (λ segments. AllPairs SharesNoDocument segments) }
 {
-    group_into(segments, rows, alloc, pairs)?;
+    group_into(segments, places, pairs)?;
     segments.to_rows(alloc)
 }
 
 /// Leaves the segments of a term whose pairs may be put in order.
 pub(crate) fn group_into(
     segments: &mut ListSegments,
-    rows: &mut ImpactRows,
-    alloc: Global,
+    places: &mut ImpactPlaces,
     pairs: &mut Vec<DocImpact>,
 ) -> Result<(), NoMemory>
     requires rising { IsStrictlyIncreasing (pair_docs pairs.old.items) }
     requires positive { All (λ (p : DocImpact). 1 ≤ p.impact) pairs.old.items }
     ensures { OnOk result (segments.new ≡ segments_in (sorted pair_cmp pairs.old.items)) }
 {
-    match row_count(pairs.as_slice()) {
-        Some(count) => rows.group(segments, alloc, pairs.as_slice(), count),
+    match impact_count(pairs.as_slice()) {
+        Some(count) => places.group(segments, pairs.as_slice(), count),
         None => {
             arrange(pairs);
             segments.cut(pairs.as_slice())

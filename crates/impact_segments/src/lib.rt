@@ -13,7 +13,7 @@ pub mod laws;
 mod list_segments;
 mod listing;
 mod one_list;
-mod rows;
+mod places;
 mod scratch;
 mod segments;
 mod terms;

@@ -5,7 +5,7 @@ ghost use Rattle.impact_segments.specs.OneList.{EndsLow};
 
 use crate::doc_impact::DocImpact;
 use crate::impact_table::ImpactTable;
-use crate::rows::ImpactRows;
+use crate::places::ImpactPlaces;
 use std::alloc::Global;
 use weights::{Bits, Range};
 
@@ -16,7 +16,7 @@ pub struct Scratch {
     alloc: Global,
     pub(crate) table: ImpactTable,
     pub(crate) pairs: Vec<DocImpact>,
-    pub(crate) rows: ImpactRows,
+    pub(crate) places: ImpactPlaces,
 }
 
 impl Scratch {
@@ -26,7 +26,7 @@ impl Scratch {
             alloc,
             table: ImpactTable::new(alloc),
             pairs: Vec::new(alloc),
-            rows: ImpactRows::new(alloc),
+            places: ImpactPlaces::new(alloc),
         }
     }
 

@@ -85,7 +85,7 @@ fn term_of(
     let pairs = &mut scratch.pairs;
     impacts_of(weigher, bits, range, list, pairs)?;
     let term = Text::from_str(alloc, list.term.as_str())?;
-    let segments = group_by(segments, &mut scratch.rows, alloc, pairs)?;
+    let segments = group_by(segments, &mut scratch.places, alloc, pairs)?;
     Ok(TermSegments { term, segments })
 }
 

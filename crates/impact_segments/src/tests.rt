@@ -9,7 +9,7 @@ ghost use Rattle.impact_segments.specs.Pairs.{pair_docs};
 ghost use Rattle.impact_segments.specs.declared.doc_impact.DocImpact.{DocImpact};
 
 use crate::grouping::group_by;
-use crate::rows::ImpactRows;
+use crate::places::ImpactPlaces;
 use crate::{
     DocImpact, ListSegments, Scratch, SegmentsFault, build, group, length_norms, segments_into,
     segments_of, widen_by_norms, widen_list,
@@ -81,14 +81,14 @@ fn segments_of_one_list(rt: HostRuntime) {
     assert!(&rt; lighter.is_err_and(|fault| fault == SegmentsFault::Outside { kept: 2, found: 1 }));
 }
 
-/// The segments of enough documents to go without a sort, made by rows that were used before.
+/// The segments of enough documents to go without a sort, made by places that were used before.
 fn many_by_impact(alloc: Global) -> Result<Row<Segment>, NoMemory> {
     let mut pairs = striped(alloc)?;
     let mut segments = ListSegments::new(alloc);
-    let mut rows = ImpactRows::new(alloc);
-    group_by(&mut segments, &mut rows, alloc, &mut pairs)?;
+    let mut places = ImpactPlaces::new(alloc);
+    group_by(&mut segments, &mut places, alloc, &mut pairs)?;
     let mut again = striped(alloc)?;
-    group_by(&mut segments, &mut rows, alloc, &mut again)
+    group_by(&mut segments, &mut places, alloc, &mut again)
 }
 
 /// The documents from 0 to 63 with the impacts 1, 2 and 3 in turn.

@@ -16,7 +16,7 @@ pub use Rattle.ciff_read.specs.declared.refusal.CiffFault.{CiffFault}
 pub use Rattle.ciff_read.specs.declared.refusal.CiffRefusal.{CiffRefusal}
 pub use Rattle.impact_segments.proofs.OneTerm.{all_map_at}
 pub use Rattle.impact_segments.proofs.Orders.{strictly}
-pub use Rattle.impact_segments.specs.Bounds.{can_widen, most_tf}
+pub use Rattle.impact_segments.specs.Bounds.{can_widen, heaviest, lightest, most_tf}
 pub use Rattle.impact_segments.specs.Collections.{collection_index, index_of, lengths_of, total_of, weights_in, weights_of}
 pub use Rattle.impact_segments.specs.ListTerms.{AreByTerm, list_term, lists_in_use, widened_by}
 pub use Rattle.impact_segments.specs.OneList.{norms_in, outside}
@@ -48,6 +48,7 @@ pub use Rattle.jass_base.specs.declared.header.Header.{Header}
 pub use Rattle.jass_base.specs.declared.posting.Posting.{Posting}
 pub use Rattle.jass_base.specs.declared.postings_list.PostingsList.{PostingsList}
 pub use Rattle.jass_base.specs.declared.segment.Segment.{Segment}
+pub use Rattle.weights.proofs.Ranges.{greatest-ge_start, least-le_start}
 pub use Rattle.weights.specs.Quantizing.{empty_range, impact_of, range_of, widened}
 pub use Rattle.weights.specs.Weighting.{length_norm}
 pub use Rattle.weights.specs.declared.quantizing.Bits.{Bits}

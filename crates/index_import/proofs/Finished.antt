@@ -1,6 +1,6 @@
 -- An index file that is begun, and one that is whole.
-use Rattle.shared_lemmas.proofs.Common.{◌≡◌, ◌≤◌, ◌<◌, ◌-◌, ◌^◌, ◌⊎◌, ℕ, ◌∷◌, get_or, List, ◌++◌, length, map, take, drop, suc, [], Option, Some, None, Result, Ok, Err, refl, sym, ap, ap₂, subst, ◌∙◌, inl, inr, arith, append_assoc, get_or-append_seam, get_or-map, length-append, length-map}
-use Rattle.shared_lemmas.proofs.Common.{take_all, IfErr, IfOk}
+use Rattle.shared_lemmas.proofs.Common.{◌≡◌, ◌≤◌, ◌<◌, ◌-◌, ◌^◌, ◌⊎◌, ℕ, ◌∷◌, get_or, List, ◌++◌, length, map, take, drop, suc, [], Option, Some, None, Ok, Err, refl, sym, ap, ap₂, subst, ◌∙◌, inl, inr, arith, append_assoc, get_or-append_seam, get_or-map, length-append, length-map}
+use Rattle.shared_lemmas.proofs.Common.{take_all}
 use Rattle.index_import.proofs.Below.{Files, Extends, ForContent, IsMissing, Sets, content_there, Totals, CiffFault, CiffRefusal, Segment, segment_data, IndexData, SegmentData, TermData, HeadData, file_length, front_bytes, totals_of, index_text, chosen_entry, chosen_heads}
 use Rattle.index_import.proofs.Below.{chosen_payloads, chosen_terms, table_payloads, LeavesPrefix, Untouched, Unappending, Unbegun, WriterView, change_of, entries_totals, entry_data, next_heads, no_entry, TermHeads, SaveFault, TermFault, Bits, Range, for_both}
 use Rattle.ciff_read.specs.declared.refusal.CiffFault.TheVariants as reading
@@ -9,8 +9,6 @@ use Rattle.index_write.specs.Streaming.{heads_left}
 use Rattle.index_write.specs.declared.fault.SaveFault.TheVariants as saving
 use Rattle.index_write.specs.declared.fault.TermFault.TheVariants as terms
 use Rattle.index_import.specs.Private.Rereading.{segments_there}
-use Rattle.index_import.specs.declared.fault.ImportFault.{ImportFault}
-use Rattle.index_import.specs.declared.fault.ImportFault.TheVariants.{WriteFault}
 use Rattle.index_import.specs.declared.list_entry.Place.{Place}
 use Rattle.index_import.specs.declared.weighing.Weighing.{Weighing}
 use Rattle.index_import.proofs.Beside.{for_same}
@@ -111,14 +109,6 @@ module _ (old : Option Files) (name index : List ℕ) (d : ℕ) (names : List (L
       → file_length names entries ≤ 2 ^ 32 → Writes old new name index made_index (Ok totals)
   parts_written new payloads totals is sums counted set few =
       (subst (λ (all : List ℕ). Sets old new index all) (parts_are d names entries made many are text payloads is) set, fits d names entries made many are lengths few, counted ∙ totals_are d names entries made many are sums)
-
-  -- they weren't
-  pub parts_unwritten : {C : Type 0} (told : C → Option Files) (before after : C) (payloads : List ℕ) (fault : SaveFault) → told before ≡ old → payloads ≡ table_payloads d made → Unbegun (file_length names entries) fault
-      → Untouched before after fault → LeavesPrefix old (told after) index (front_bytes names entries ++ payloads) → Writes old (told after) name index made_index (Err (unbegun fault))
-  parts_unwritten told before after payloads (saving.TooLarge n) same is size kept prefix = (sym size.0 ∙ sym (length_is d names entries made many are lengths), size.1, ap told kept ∙ same)
-  parts_unwritten told before after payloads saving.WriteFault same is size kept prefix =
-      (fits d names entries made many are lengths size, subst (λ (all : List ℕ). LeavesPrefix old (told after) index all) (parts_are d names entries made many are text payloads is) prefix)
-  parts_unwritten told before after payloads saving.NoMemory same is size kept prefix = inl (ap told kept ∙ same)
 
 -- the heads of the next term
 pub next_is : (writer : WriterView) (d i : ℕ) (entries : List EntryData) (made : List TermData) (x : TermData) → writer.entries ≡ entries → writer.left ≡ length entries - i → i < length entries → entries ≡ chosen_terms d made

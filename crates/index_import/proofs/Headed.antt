@@ -1,7 +1,7 @@
 -- The heads of lists that are read again, list by list.
-use Rattle.shared_lemmas.proofs.Common.{rules, append-nil, ◌≡◌, ℕ, ◌+◌, ◌≤◌, ◌^◌, List, [], ◌∷◌, ◌++◌, length, map, Option, Some, None, refl, sym, ap, ap₂, subst, ◌∙◌, arith, All, AllPairs, AllByRecursion, flat_map-append, length-map, map-append, All-push, sum_by-append, sum_by-cons}
+use Rattle.shared_lemmas.proofs.Common.{rules, append-nil, ◌≡◌, ℕ, ◌+◌, ◌≤◌, ◌^◌, List, [], ◌∷◌, ◌++◌, length, map, Option, refl, sym, ap, ap₂, subst, ◌∙◌, arith, All, AllPairs, AllByRecursion, flat_map-append, length-map, map-append, All-push, sum_by-append, sum_by-cons}
 use Rattle.std.specs.List.{sum_by}
-use Rattle.index_import.proofs.Below.{Files, ForContent, BytesRise, Bits, Range, for_all, for_both, SegmentData, TermData, HeadData, all_heads, head_postings, chosen_entry, chosen_head, chosen_heads, chosen_payloads, head_data, AreEntries, FallsTo}
+use Rattle.index_import.proofs.Below.{Files, ForContent, BytesRise, Bits, Range, for_all, for_both, SegmentData, TermData, HeadData, all_heads, head_postings, chosen_entry, chosen_head, chosen_heads, head_data, AreEntries, FallsTo}
 use Rattle.index_import.proofs.Below.{IsEntry, IsHead, RisesTo, entry_data, TermHeads}
 use Rattle.shared_lemmas.proofs.Pairs.{Pairs, pairs_by_places, pairs_by_recursion, pairs_map}
 use Rattle.index_layout.specs.Heads.{TermHeads as EntryData}

@@ -5,6 +5,7 @@ mod Finished
 mod Headed
 mod Spelled
 mod Imported
+mod KeptDocs
 mod Made
 mod Outlining
 mod Ready

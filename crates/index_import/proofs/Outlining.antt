@@ -2,18 +2,19 @@
 use Rattle.shared_lemmas.proofs.Common.{◌≡◌, ◌≢◌, ℕ, ◌+◌, ◌<◌, ◌≤◌, ◌^◌, Bool, true, false, cond, List, [], ◌∷◌, map, length, filter, get_or, refl, sym, ap, subst, ◌∙◌, arith, All, AllPairs, Contains, Decides, nat_eq, nat_lt, not, IsPermutation, IsSortedBy, bytes_eq, IsStrictWeakOrder, slice_cmp}
 use Rattle.shared_lemmas.proofs.Common.{AllByRecursion, AllZip, is_gt, is_lt, nat_cmp, ordering_reverse, Ordering, Less, Equal, Greater, Decides-eqb, Decides-like, same_from_decides, nat_list_cmp_total, get_or_default, length-map, All-filter, All-from_recursion, All-map, length-filter_both}
 use Rattle.shared_lemmas.proofs.Common.{sum_by-filter_both, AllPairs-filter, All-permutation, IsPermutation-map, IsPermutation-sym, length_permutation, ranks_by, sorted_far, sum_by-IsPermutation, sum_by-cons, IsDistinct-IsPermutation, AllPairs-from_IsDistinct, IsDistinct-from_AllPairs}
-use Rattle.shared_lemmas.proofs.Common.{bytes_eq-Decides}
+use Rattle.shared_lemmas.proofs.Common.{bytes_eq-Decides, is_utf8-from_IsUtf8}
 use Rattle.std.specs.List.{sum_by}
-use Rattle.index_import.proofs.Below.{ListData, IsName, IsText, BytesRise, DocRecord, IsKeptList, by_number, collection_of, NumberedDoc, KeptList, postings_kept, terms_kept, HasKept, WalkView, lengths_of, total_of, all_map_at, strictly}
+use Rattle.index_import.proofs.Below.{ListData, IsName, IsText, BytesRise, IsKeptList, by_number, collection_of, NumberedDoc, KeptList, postings_kept, terms_kept, HasKept, WalkView, lengths_of, total_of, all_map_at, strictly}
 use Rattle.shared_lemmas.proofs.Pairs.{pairs_by_places, pairs_by_recursion, pairs_map, AllPairs-unmap}
-use Rattle.index_import.specs.Private.Outlining.{AreInOrder, IsOutline, IsOutlined, has_postings, list_there, lists_there, names_of}
-use Rattle.index_import.specs.Private.Surveying.{AreGiven, AreKept, HoldsMost, IsSurvey, KeepsAll, has_some, kept_entry, numbered}
+use Rattle.index_import.specs.Private.KeptDocs.{AreInOrder, lengths_in, names_in}
+use Rattle.index_import.specs.Private.Outlining.{IsOutline, IsOutlined, has_postings, list_there, lists_there, names_of}
+use Rattle.index_import.specs.Private.Surveying.{AreGiven, AreKept, HoldsMost, IsSurvey, KeepsAll, has_some, kept_entry}
 use Rattle.index_import.specs.declared.list_entry.ListEntry.{ListEntry}
 use Rattle.index_import.proofs.Ready.{list_there_is}
 
 -- ---- facts on all, and on pairs
 
-mapped : {A B : Type 0} (R : B → B → Type 0) (f : A → B) (xs : List A) → AllPairs (λ (x y : A). R (f x) (f y)) xs → AllPairs R (map f xs)
+pub mapped : {A B : Type 0} (R : B → B → Type 0) (f : A → B) (xs : List A) → AllPairs (λ (x y : A). R (f x) (f y)) xs → AllPairs R (map f xs)
 mapped {A} R f xs pairs = pairs_by_places R (map f xs) (pairs_map R f xs (pairs_by_recursion (λ (x y : A). R (f x) (f y)) xs pairs))
 
 -- what differs still does when it changes places
@@ -26,30 +27,24 @@ module _ {K : Type 0} (eq : K → K → Bool) (same : (x y : K) → Decides (eq 
 
 -- ---- the documents
 
-abbrev name_of : ℕ × DocRecord → List ℕ
-name_of x = x.1.name
+module _ (docs ordered : List NumberedDoc) (order : AreInOrder docs ordered) where
+  as_many_docs : length ordered ≡ length docs
+  as_many_docs = length_permutation docs ordered order.same
 
-abbrev length_of : ℕ × DocRecord → ℕ
-length_of x = x.1.length
+  as_many_names : length (names_in ordered) ≡ length docs
+  as_many_names = length-map ordered (λ (r : NumberedDoc). r.doc.name) ∙ as_many_docs
 
-module _ (docs : List (ℕ × DocRecord)) (names : List (List ℕ)) (lengths : List ℕ) (ordered : AreInOrder docs names lengths) where
-  as_many_docs : length ordered.ordered ≡ length docs
-  as_many_docs = length_permutation docs ordered.ordered ordered.same
+  pub as_many_lengths : length (lengths_in ordered) ≡ length docs
+  as_many_lengths = length-map ordered (λ (r : NumberedDoc). r.doc.length) ∙ as_many_docs
 
-  as_many_names : length names ≡ length docs
-  as_many_names = ap length ordered.names_are ∙ length-map ordered.ordered name_of ∙ as_many_docs
+  each_name : All IsName (names_in ordered)
+  each_name = All-map IsName (λ (r : NumberedDoc). r.doc.name) ordered (λ i d low. (order.fit i d low).name)
 
-  pub as_many_lengths : length lengths ≡ length docs
-  as_many_lengths = ap length ordered.lengths_are ∙ length-map ordered.ordered length_of ∙ as_many_docs
+  each_text : All IsText (names_in ordered)
+  each_text = All-map IsText (λ (r : NumberedDoc). r.doc.name) ordered (λ i d low. is_utf8-from_IsUtf8 (get_or ordered i d).doc.name (order.fit i d low).text)
 
-  each_name : All IsName names
-  each_name = subst (All IsName) (sym ordered.names_are) (All-map IsName name_of ordered.ordered (λ i d low. (get_or ordered.ordered i d).1.name_fits))
-
-  each_text : All IsText names
-  each_text = subst (All IsText) (sym ordered.names_are) (All-map IsText name_of ordered.ordered (λ i d low. (get_or ordered.ordered i d).1.name_is_text))
-
-  each_length : All (λ n. n < 2 ^ 31) lengths
-  each_length = subst (All (λ n. n < 2 ^ 31)) (sym ordered.lengths_are) (All-map (λ n. n < 2 ^ 31) length_of ordered.ordered (λ i d low. (get_or ordered.ordered i d).1.length_in_range))
+  each_length : All (λ n. n < 2 ^ 31) (lengths_in ordered)
+  each_length = All-map (λ n. n < 2 ^ 31) (λ (r : NumberedDoc). r.doc.length) ordered (λ i d low. (order.fit i d low).length)
 
 -- ---- the lists that have postings
 
@@ -114,25 +109,27 @@ module _ (kept : List KeptList) (lists : List ListEntry) (same : map kept_entry 
 
 -- ---- the outline, whether or not the content is told
 
-pub outlined : (w : WalkView) (docs : List (ℕ × DocRecord)) (first lists : List ListEntry) (names : List (List ℕ)) (lengths : List ℕ) (total : ℕ)
-    → AreKept w docs first → AreInOrder docs names lengths → IsPermutation first lists → IsSortedBy earlier lists → total ≡ total_of lengths → IsOutlined w names lengths total lists
-outlined w docs first lists names lengths total kept ordered order sorted is = record {
-  names_are = record {
-    few = omega (arith, as_many_names docs names lengths ordered, kept.docs_are, kept.ranges.few_docs);
-    each = each_name docs names lengths ordered;
-    text = each_text docs names lengths ordered;
-  };
-  as_many = as_many_names docs names lengths ordered ∙ kept.docs_are;
-  docs = as_many_lengths docs names lengths ordered ∙ kept.docs_are;
-  few = omega (arith, as_many_lengths docs names lengths ordered, kept.docs_are, kept.ranges.few_docs);
-  small = each_length docs names lengths ordered;
-  total_is = is;
-  given = All-permutation (λ (e : ListEntry). HasKept w.kept e.place.at e.place.count) first lists order (are_given w.kept first kept.lists_are);
-  few_lists = omega (arith, length_permutation first lists order, few_entries w.kept first kept.lists_are, kept.ranges.lists_given, kept.ranges.few_lists);
-  rising = rises lists sorted (AllPairs-unmap (λ (a b : List ℕ). a ≢ b) term_of lists (moved bytes_eq bytes_eq-Decides (map term_of first) (map term_of lists) (IsPermutation-map term_of first lists order) (entries_differ w.kept first kept.lists_are kept.differ)));
-  postings = omega (arith, sum_by-IsPermutation count_of first lists order, few_counted w.kept first kept.lists_are, kept.ranges.few_postings);
-  keep_all = All-permutation (KeepsAll w.docs) first lists order kept.keep_all;
-}
+pub outlined : (w : WalkView) (docs ordered : List NumberedDoc) (first lists : List ListEntry) (lengths : List ℕ) (total : ℕ)
+    → AreKept w docs first → AreInOrder docs ordered → lengths ≡ lengths_in ordered → IsPermutation first lists → IsSortedBy earlier lists → total ≡ total_of lengths → IsOutlined w (names_in ordered) lengths total lists
+outlined w docs ordered first lists lengths total kept in_order same order sorted is =
+    let many : length lengths ≡ length docs = ap length same ∙ as_many_lengths docs ordered in_order in
+    record {
+      names_are = record {
+        few = omega (arith, as_many_names docs ordered in_order, kept.docs_are, kept.ranges.few_docs);
+        each = each_name docs ordered in_order;
+        text = each_text docs ordered in_order;
+      };
+      as_many = as_many_names docs ordered in_order ∙ kept.docs_are;
+      docs = many ∙ kept.docs_are;
+      few = omega (arith, many, kept.docs_are, kept.ranges.few_docs);
+      small = subst (All (λ n. n < 2 ^ 31)) (sym same) (each_length docs ordered in_order);
+      total_is = is;
+      given = All-permutation (λ (e : ListEntry). HasKept w.kept e.place.at e.place.count) first lists order (are_given w.kept first kept.lists_are);
+      few_lists = omega (arith, length_permutation first lists order, few_entries w.kept first kept.lists_are, kept.ranges.lists_given, kept.ranges.few_lists);
+      rising = rises lists sorted (AllPairs-unmap (λ (a b : List ℕ). a ≢ b) term_of lists (moved bytes_eq bytes_eq-Decides (map term_of first) (map term_of lists) (IsPermutation-map term_of first lists order) (entries_differ w.kept first kept.lists_are kept.differ)));
+      postings = omega (arith, sum_by-IsPermutation count_of first lists order, few_counted w.kept first kept.lists_are, kept.ranges.few_postings);
+      keep_all = All-permutation (KeepsAll w.docs) first lists order kept.keep_all;
+    }
 
 -- ---- the outline of a content that is told
 
@@ -161,13 +158,13 @@ lists_again content docs (k ∷ kept) (l ∷ lists) each =
     go false true is again = absurd cc
     go false false is again = again
 
-names_again : (ordered : List (ℕ × DocRecord)) → names_of (map (λ (r : NumberedDoc). r.doc) (map numbered ordered)) ≡ map name_of ordered
+names_again : (ordered : List NumberedDoc) → names_of (map (λ (r : NumberedDoc). r.doc) ordered) ≡ names_in ordered
 names_again [] = refl
-names_again (x ∷ ordered) = ap (λ (names : List (List ℕ)). x.1.name ∷ names) (names_again ordered)
+names_again (r ∷ ordered) = ap (λ (names : List (List ℕ)). r.doc.name ∷ names) (names_again ordered)
 
-lengths_again : (ordered : List (ℕ × DocRecord)) → lengths_of (map (λ (r : NumberedDoc). r.doc) (map numbered ordered)) ≡ map length_of ordered
+lengths_again : (ordered : List NumberedDoc) → lengths_of (map (λ (r : NumberedDoc). r.doc) ordered) ≡ lengths_in ordered
 lengths_again [] = refl
-lengths_again (x ∷ ordered) = ap (λ (lengths : List ℕ). x.1.length ∷ lengths) (lengths_again ordered)
+lengths_again (r ∷ ordered) = ap (λ (lengths : List ℕ). r.doc.length ∷ lengths) (lengths_again ordered)
 
 places_again : (content : List ℕ) (docs : ℕ) (lists : List ListEntry) → lists_there content docs lists ≡ map (λ (k : KeptList). list_there content docs k.at) (map kept_entry lists)
 places_again content docs [] = refl
@@ -175,19 +172,17 @@ places_again content docs (e ∷ lists) = ap (λ (ls : List ListData). list_ther
 
 module _ (law : (records ordered : List NumberedDoc) → IsPermutation ordered records → AllPairs (λ (a b : NumberedDoc). a.number < b.number) ordered → by_number records ≡ ordered) where
   -- records whose numbers differ, in order
-  in_order_again : (docs : List (ℕ × DocRecord)) (names : List (List ℕ)) (lengths : List ℕ) (ordered : AreInOrder docs names lengths) → AllPairs (λ (a b : ℕ × DocRecord). a.0 ≢ b.0) docs → by_number (map numbered docs) ≡ map numbered ordered.ordered
-  in_order_again docs names lengths ordered once =
-      let number : ℕ × DocRecord → ℕ = λ (x : ℕ × DocRecord). x.0 in
-      let apart : AllPairs (λ (a b : ℕ × DocRecord). a.0 ≢ b.0) ordered.ordered
-      = AllPairs-unmap (λ (a b : ℕ). a ≢ b) number ordered.ordered (moved nat_eq Decides-eqb (map number docs) (map number ordered.ordered) (IsPermutation-map number docs ordered.ordered ordered.same) (mapped (λ (a b : ℕ). a ≢ b) number docs once)) in
-      let rising : AllPairs (λ (a b : ℕ × DocRecord). a.0 < b.0) ordered.ordered = λ i j d less low. omega (arith, ordered.rising i j d (omega (arith, less)) low, apart i j d less low) in
-      law (map numbered docs) (map numbered ordered.ordered) (IsPermutation-map numbered ordered.ordered docs (IsPermutation-sym docs ordered.ordered ordered.same))
-      (mapped (λ (a b : NumberedDoc). a.number < b.number) numbered ordered.ordered rising)
+  in_order_again : (docs ordered : List NumberedDoc) → AreInOrder docs ordered → AllPairs (λ (a b : NumberedDoc). a.number ≢ b.number) docs → by_number docs ≡ ordered
+  in_order_again docs ordered order once =
+      let number : NumberedDoc → ℕ = λ (r : NumberedDoc). r.number in
+      let apart : AllPairs (λ (a b : NumberedDoc). a.number ≢ b.number) ordered
+      = AllPairs-unmap (λ (a b : ℕ). a ≢ b) number ordered (moved nat_eq Decides-eqb (map number docs) (map number ordered) (IsPermutation-map number docs ordered order.same) (mapped (λ (a b : ℕ). a ≢ b) number docs once)) in
+      law docs ordered (IsPermutation-sym docs ordered order.same) (λ i j d less low. omega (arith, order.rising i j d less low, apart i j d less low))
 
-  pub outline_is : (content : List ℕ) (w : WalkView) (docs : List (ℕ × DocRecord)) (first lists : List ListEntry) (names : List (List ℕ)) (lengths : List ℕ)
-      → AreKept w docs first → AreInOrder docs names lengths → IsPermutation first lists → IsSurvey content w docs first → IsOutline content w.docs names lengths lists
-  outline_is content w docs first lists names lengths kept ordered order survey =
-      let records : by_number survey.parts.records ≡ map numbered ordered.ordered = ap by_number survey.records ∙ in_order_again docs names lengths ordered survey.once in
+  pub outline_is : (content : List ℕ) (w : WalkView) (docs ordered : List NumberedDoc) (first lists : List ListEntry) (lengths : List ℕ)
+      → AreKept w docs first → AreInOrder docs ordered → lengths ≡ lengths_in ordered → IsPermutation first lists → IsSurvey content w docs first → IsOutline content w.docs (names_in ordered) lengths lists
+  outline_is content w docs ordered first lists lengths kept in_order same order survey =
+      let records : by_number survey.parts.records ≡ ordered = ap by_number survey.records ∙ in_order_again docs ordered in_order survey.once in
       let each : All (λ (k : KeptList). IsKeptList content w.docs k (list_there content w.docs k.at)) w.kept
       = All-from_recursion (λ (k : KeptList). IsKeptList content w.docs k (list_there content w.docs k.at)) w.kept (kept_there content w.docs w.kept survey.parts.lists survey.lists) in
       let there : lists_there content w.docs first ≡ filter has_postings survey.parts.lists
@@ -195,8 +190,8 @@ module _ (law : (records ordered : List NumberedDoc) → IsPermutation ordered r
       record {
         collection = collection_of survey.parts;
         read = survey.read;
-        names_are = ordered.names_are ∙ sym (names_again ordered.ordered) ∙ sym (ap (λ (rs : List NumberedDoc). names_of (map (λ (r : NumberedDoc). r.doc) rs)) records);
-        lengths_are = ordered.lengths_are ∙ sym (lengths_again ordered.ordered) ∙ sym (ap (λ (rs : List NumberedDoc). lengths_of (map (λ (r : NumberedDoc). r.doc) rs)) records);
+        names_are = sym (names_again ordered) ∙ sym (ap (λ (rs : List NumberedDoc). names_of (map (λ (r : NumberedDoc). r.doc) rs)) records);
+        lengths_are = same ∙ sym (lengths_again ordered) ∙ sym (ap (λ (rs : List NumberedDoc). lengths_of (map (λ (r : NumberedDoc). r.doc) rs)) records);
         each = All-permutation (λ (e : ListEntry). IsKeptList content w.docs (kept_entry e) (list_there content w.docs e.place.at)) first lists order
             (of_entries w.kept first kept.lists_are (λ (k : KeptList). IsKeptList content w.docs k (list_there content w.docs k.at)) each);
         most = All-permutation (HoldsMost content w.docs) first lists order survey.most;

@@ -1,5 +1,5 @@
 -- The segments of a list, one by one.
-use Rattle.shared_lemmas.proofs.Common.{◌≡◌, ℕ, suc, ◌+◌, ◌<◌, ◌≤◌, List, [], ◌∷◌, ◌++◌, length, map, take, drop, get_or, Some, ap, subst, sym, ◌∙◌, arith, All, All-head, All-tail, append-nil, flat_map-append, get_or_from_slice_get, map-append, slice_get, sum_by-append, sum_by-cons, take-append-drop, take-suc}
+use Rattle.shared_lemmas.proofs.Common.{◌≡◌, ℕ, suc, ◌+◌, ◌<◌, ◌≤◌, List, [], ◌∷◌, ◌++◌, length, take, Some, ap, subst, ◌∙◌, arith, All, All-head, All-tail, append-nil, flat_map-append, get_or_from_slice_get, map-append, slice_get, sum_by-append, sum_by-cons, take-suc}
 use Rattle.std.specs.List.{sum_by}
 use Rattle.index_import.proofs.Below.{SegmentData, chosen_head, chosen_heads, chosen_payloads}
 use Rattle.jass_base.specs.Gaps.{AreDocs}
@@ -31,9 +31,7 @@ few_segments d (s ∷ segments) are =
     omega (arith, some, sum_by-cons (λ (s : SegmentData). length s.docs) s segments, few_segments d segments (All-tail Docs s segments are))
 
 -- a list has at most as many postings as all
-pub one_of_all : (lists : List ListEntry) (i : ℕ) (e : ListEntry) → i < length lists → e ≡ get_or lists i e → e.place.count ≤ sum_by (λ (e : ListEntry). e.place.count) lists
-one_of_all lists i e low is =
+pub one_of_all : (lists front rest : List ListEntry) (e : ListEntry) → lists ≡ front ++ e ∷ rest → e.place.count ≤ sum_by (λ (e : ListEntry). e.place.count) lists
+one_of_all lists front rest e is =
     let count : ListEntry → ℕ = λ (e : ListEntry). e.place.count in
-    let all : sum_by count lists ≡ sum_by count (take (suc i) lists) + sum_by count (drop (suc i) lists) = ap (sum_by count) (sym (take-append-drop (suc i) lists)) ∙ sum_by-append count (take (suc i) lists) (drop (suc i) lists) in
-    let front : sum_by count (take (suc i) lists) ≡ sum_by count (take i lists) + sum_by count (get_or lists i e ∷ []) = ap (sum_by count) (take-suc lists i e low) ∙ sum_by-append count (take i lists) (get_or lists i e ∷ []) in
-    omega (arith, all, front, sum_by-cons count (get_or lists i e) [], ap count is)
+    omega (arith, ap (sum_by count) is, sum_by-append count front (e ∷ rest), sum_by-cons count e rest)

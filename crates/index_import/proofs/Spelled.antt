@@ -1,7 +1,7 @@
 -- The lists that are spelled, one by one.
-use Rattle.shared_lemmas.proofs.Common.{append-nil, ◌≡◌, ℕ, suc, ◌+◌, ◌<◌, ◌≤◌, ◌^◌, List, [], ◌∷◌, ◌++◌, length, map, take, drop, get_or, Option, refl, sym, ap, ap₂, subst, ◌∙◌, arith, All, AllPairs, flat_map-append, map-append, sum_by-append, take-append-drop, take-suc, length-take}
+use Rattle.shared_lemmas.proofs.Common.{append-nil, append_assoc, ◌≡◌, ℕ, ◌≤◌, ◌^◌, List, [], ◌∷◌, ◌++◌, length, Option, refl, sym, ap, ap₂, subst, ◌∙◌, arith, AllPairs, flat_map-append, length-append, map-append, sum_by-append}
 use Rattle.std.specs.List.{sum_by}
-use Rattle.index_import.proofs.Below.{BytesRise, Files, ForContent, Bits, Range, for_all, HeadData, SegmentData, TermData, chosen_entry, chosen_heads, chosen_payloads, chosen_terms, head_data, table_payloads, IsEntry, head_postings}
+use Rattle.index_import.proofs.Below.{BytesRise, Files, ForContent, Bits, Range, for_all, HeadData, SegmentData, TermData, chosen_entry, chosen_heads, chosen_payloads, chosen_terms, table_payloads, IsEntry}
 use Rattle.index_layout.specs.Heads.{TermHeads as EntryData, payloads_size}
 use Rattle.index_write.specs.Spelled.{AreFew, AreSpelled, SpelledView}
 use Rattle.index_import.specs.Private.Heading.{terms_there}
@@ -22,12 +22,6 @@ pub record Spells (files : Option Files) (name : List ℕ) (docs : ℕ) (w : Wei
   pub entries : HaveEntries lists (chosen_terms docs terms)
   pub told : ForContent files name (λ content. terms ≡ terms_there content docs w bits range lists)
 
--- some of the lists have no more postings than all of them
-fewer : (n : ℕ) (lists : List ListEntry) → sum_by count_in (take n lists) ≤ sum_by count_in lists
-fewer n lists =
-    let all : sum_by count_in lists ≡ sum_by count_in (take n lists) + sum_by count_in (drop n lists) = ap (sum_by count_in) (sym (take-append-drop n lists)) ∙ sum_by-append count_in (take n lists) (drop n lists) in
-    omega (arith, all)
-
 module _ (files : Option Files) (name : List ℕ) (docs : ℕ) (w : Weighing) (bits : Bits) (range : Range) where
   pub spells_none : (view : SpelledView) (payloads : List ℕ) → AreSpelled view [] → payloads ≡ [] → Spells files name docs w bits range [] view payloads
   spells_none view payloads are none = record {
@@ -39,25 +33,23 @@ module _ (files : Option Files) (name : List ℕ) (docs : ℕ) (w : Weighing) (b
   }
 
   -- one list more
-  pub spells_more : (lists : List ListEntry) (i : ℕ) (e : ListEntry) (view after : SpelledView) (payloads more : List ℕ) (term : List ℕ) (heads : List HeadData) (segments : List SegmentData)
-      → i < length lists → e ≡ get_or lists i e → length lists ≤ 2 ^ 24 → sum_by count_in lists ≤ 2 ^ 29
+  pub spells_more : (lists front rest : List ListEntry) (e : ListEntry) (view after : SpelledView) (payloads more : List ℕ) (term : List ℕ) (heads : List HeadData) (segments : List SegmentData)
+      → lists ≡ front ++ e ∷ rest → length lists ≤ 2 ^ 24 → sum_by count_in lists ≤ 2 ^ 29
       → term ≡ e.term → heads ≡ chosen_heads docs segments → AreSegments docs e.place.count segments → IsEntry (chosen_entry docs (record { term = e.term; segments = segments }))
       → ForContent files name (λ content. segments ≡ segments_there content docs w bits range e.place.at)
       → more ≡ payloads ++ chosen_payloads docs segments
       → ((entries : List EntryData) → AreSpelled view entries → AreFew (entries ++ record { term = term; heads = heads } ∷ []) → AreSpelled after (entries ++ record { term = term; heads = heads } ∷ []))
-      → Spells files name docs w bits range (take i lists) view payloads → Spells files name docs w bits range (take (i + 1) lists) after more
-  spells_more lists i e view after payloads more term heads segments low is short few called made are entry told put push so_far =
+      → Spells files name docs w bits range front view payloads → Spells files name docs w bits range (front ++ e ∷ []) after more
+  spells_more lists front rest e view after payloads more term heads segments is short few called made are entry told put push so_far =
       let one : TermData = record { term = e.term; segments = segments } in
-      let next : i + 1 ≡ suc i = omega arith in
-      let taken : take (i + 1) lists ≡ take i lists ++ e ∷ [] = ap (λ (n : ℕ). take n lists) next ∙ take-suc lists i e low ∙ ap (λ (x : ListEntry). take i lists ++ x ∷ []) (sym is) in
       let entries : List EntryData = chosen_terms docs so_far.terms in
       let all : chosen_terms docs (so_far.terms ++ one ∷ []) ≡ entries ++ chosen_entry docs one ∷ [] = map-append (chosen_entry docs) so_far.terms (one ∷ []) in
-      let have : HaveEntries (take (i + 1) lists) (entries ++ chosen_entry docs one ∷ [])
-      = subst (λ (ls : List ListEntry). HaveEntries ls (entries ++ chosen_entry docs one ∷ [])) (sym taken) (entries_more docs (take i lists) entries e segments entry are.postings so_far.entries) in
+      let have : HaveEntries (front ++ e ∷ []) (entries ++ chosen_entry docs one ∷ []) = entries_more docs front entries e segments entry are.postings so_far.entries in
+      let parts : lists ≡ (front ++ e ∷ []) ++ rest = is ∙ sym (append_assoc front (e ∷ []) rest) in
       let same : (let x : EntryData = record { term = term; heads = heads } in x) ≡ chosen_entry docs one = ap₂ (λ (t : List ℕ) (hs : List HeadData). (let x : EntryData = record { term = t; heads = hs } in x)) called made in
       let fits : AreFew (entries ++ chosen_entry docs one ∷ []) = record {
-        terms = omega (arith, as_many (take (i + 1) lists) (entries ++ chosen_entry docs one ∷ []) have, short, length-take (i + 1) lists);
-        postings = omega (arith, have.postings, fewer (i + 1) lists, few);
+        terms = omega (arith, as_many (front ++ e ∷ []) (entries ++ chosen_entry docs one ∷ []) have, short, ap length parts, length-append (front ++ e ∷ []) rest);
+        postings = omega (arith, have.postings, ap (sum_by count_in) parts, sum_by-append count_in (front ++ e ∷ []) rest, few);
       } in
       let spelled : AreSpelled after (entries ++ chosen_entry docs one ∷ [])
       = subst (λ (x : EntryData). AreFew (entries ++ x ∷ []) → AreSpelled after (entries ++ x ∷ [])) same (push entries so_far.spelled) fits in
@@ -67,9 +59,8 @@ module _ (files : Option Files) (name : List ℕ) (docs : ℕ) (w : Weighing) (b
         payloads_are = put ∙ ap (λ (bytes : List ℕ). bytes ++ chosen_payloads docs segments) so_far.payloads_are
             ∙ ap (λ (bytes : List ℕ). table_payloads docs so_far.terms ++ bytes) (sym (append-nil (chosen_payloads docs segments)))
             ∙ sym (flat_map-append (λ (t : TermData). chosen_payloads docs t.segments) so_far.terms (one ∷ []));
-        entries = subst (HaveEntries (take (i + 1) lists)) (sym all) have;
-        told = subst (λ (ls : List ListEntry). ForContent files name (λ content. so_far.terms ++ one ∷ [] ≡ terms_there content docs w bits range ls)) (sym taken)
-            (terms_more files name docs w bits range (take i lists) so_far.terms e segments so_far.told told);
+        entries = subst (HaveEntries (front ++ e ∷ [])) (sym all) have;
+        told = terms_more files name docs w bits range front so_far.terms e segments so_far.told told;
       }
 
   pub all_spelled : (lists front : List ListEntry) (view : SpelledView) (payloads : List ℕ) → front ≡ lists → AllPairs (λ (a b : ListEntry). BytesRise a.term b.term) lists → length lists ≤ 2 ^ 24 → sum_by count_in lists ≤ 2 ^ 29

@@ -6,13 +6,14 @@ use Rattle.index_import.proofs.Below.{piece_data, NumberedDoc, is_among, numbers
 use Rattle.index_import.proofs.Below.{StandsFor, StandsTold, WalkView, kept_of, AreFrom, Piece, CiffFault, CiffRefusal, for_all, for_both, most_tf, list_fits}
 use Rattle.ciff_read.specs.declared.piece.Piece.TheVariants as pieces
 use Rattle.ciff_read.specs.declared.refusal.CiffFault.TheVariants as faults
-use Rattle.index_import.specs.Private.Surveying.{AreKept, HoldsMost, IsSurvey, KeepsAll, entry_postings, has_some, kept_entry, numbered}
+use Rattle.index_import.specs.Private.KeptDocs.{numbered}
+use Rattle.index_import.specs.Private.Surveying.{AreKept, HoldsMost, IsSurvey, KeepsAll, entry_postings, has_some, kept_entry}
 use Rattle.index_import.specs.declared.list_entry.ListEntry.{ListEntry}
 
 -- ---- what is kept, whether or not the content is told
 
 -- what was kept of the pieces that a walk has given
-pub record Holds (name : List ℕ) (w : WalkView) (docs : List (ℕ × DocRecord)) (lists : List ListEntry) : Type 0 where
+pub record Holds (name : List ℕ) (w : WalkView) (docs : List NumberedDoc) (lists : List ListEntry) : Type 0 where
   pub name_is : w.name ≡ name
   pub unanswered : w.answered ≡ None
   pub ranges : KeepsRanges w
@@ -20,7 +21,7 @@ pub record Holds (name : List ℕ) (w : WalkView) (docs : List (ℕ × DocRecord
   pub differ : AllPairs (λ (a b : List ℕ). a ≢ b) (terms_kept w.kept)
   pub given : length docs ≡ w.given
 
-pub nothing_held : (name : List ℕ) (w : WalkView) (docs : List (ℕ × DocRecord)) (lists : List ListEntry) → Begins name w → KeepsRanges w → docs ≡ [] → lists ≡ [] → Holds name w docs lists
+pub nothing_held : (name : List ℕ) (w : WalkView) (docs : List NumberedDoc) (lists : List ListEntry) → Begins name w → KeepsRanges w → docs ≡ [] → lists ≡ [] → Holds name w docs lists
 nothing_held name w docs lists begins ranges no_docs no_lists = record {
   name_is = begins.name_is;
   unanswered = begins.answered;
@@ -62,7 +63,7 @@ terms_more kept k differ new =
     (all_pairs_push (λ (a b : List ℕ). a ≢ b) (terms_kept kept) k.term differ (λ i d low. All-from_recursion (λ (t : List ℕ). t ≢ k.term) (terms_kept kept) (unseen k.term (terms_kept kept) new) i d low))
 
 -- what is kept behind a piece
-module _ (name : List ℕ) (old new : WalkView) (docs : List (ℕ × DocRecord)) (lists : List ListEntry) (before : Holds name old docs lists) (named : new.name ≡ old.name) (unanswered : new.answered ≡ None) (ranges : KeepsRanges new) where
+module _ (name : List ℕ) (old new : WalkView) (docs : List NumberedDoc) (lists : List ListEntry) (before : Holds name old docs lists) (named : new.name ≡ old.name) (unanswered : new.answered ≡ None) (ranges : KeepsRanges new) where
   pub same_held : new.kept ≡ old.kept → new.given ≡ old.given → Holds name new docs lists
   same_held kept given = record {
     name_is = named ∙ before.name_is;
@@ -94,7 +95,7 @@ module _ (name : List ℕ) (old new : WalkView) (docs : List (ℕ × DocRecord))
     given = before.given ∙ sym given;
   }
 
-  pub doc_held : (x : ℕ × DocRecord) (longer : List (ℕ × DocRecord)) → new.kept ≡ old.kept → new.given ≡ old.given + 1 → longer ≡ docs ++ x ∷ [] → Holds name new longer lists
+  pub doc_held : (x : NumberedDoc) (longer : List NumberedDoc) → new.kept ≡ old.kept → new.given ≡ old.given + 1 → longer ≡ docs ++ x ∷ [] → Holds name new longer lists
   doc_held x longer kept given more = record {
     name_is = named ∙ before.name_is;
     unanswered = unanswered;
@@ -137,7 +138,7 @@ pub keeps_more : (docs now : ℕ) (lists longer : List ListEntry) (e : ListEntry
 keeps_more docs now lists longer e same more one all = keeps_same docs now longer same (subst (All (KeepsAll docs)) (sym more) (All-push (KeepsAll docs) lists e all one))
 
 -- what was kept at the end of a file
-pub all_kept : (name : List ℕ) (old new : WalkView) (docs : List (ℕ × DocRecord)) (lists : List ListEntry) → Holds name old docs lists → All (KeepsAll old.docs) lists → KeepsRanges new → new.kept ≡ old.kept → old.given ≡ old.docs → new.docs ≡ old.docs
+pub all_kept : (name : List ℕ) (old new : WalkView) (docs : List NumberedDoc) (lists : List ListEntry) → Holds name old docs lists → All (KeepsAll old.docs) lists → KeepsRanges new → new.kept ≡ old.kept → old.given ≡ old.docs → new.docs ≡ old.docs
     → AreKept new docs lists
 all_kept name old new docs lists before keeps ranges kept given count = record {
   ranges = ranges;
@@ -159,13 +160,13 @@ pieces_left w = headers_left w.header + (w.lists - length w.kept) + (w.docs - w.
 -- ---- what is known of the content, where that is told
 
 -- what was kept are the parts of the content up to the walk's place
-pub record Follows (content : List ℕ) (w : WalkView) (docs : List (ℕ × DocRecord)) : Type 0 where
+pub record Follows (content : List ℕ) (w : WalkView) (docs : List NumberedDoc) : Type 0 where
   pub progress : Progress
   pub parts : Parts
   pub keeps : Keeps w progress
   pub assembles : Assembles content progress parts
-  pub records : parts.records ≡ map numbered docs
-  pub once : AllPairs (λ (a b : ℕ × DocRecord). a.0 ≢ b.0) docs
+  pub records : parts.records ≡ docs
+  pub once : AllPairs (λ (a b : NumberedDoc). a.number ≢ b.number) docs
 
 -- that the pieces of a file make up the collection that is read of it
 pub record PieceLaws : Type 0 where
@@ -185,18 +186,18 @@ last_kept R (x ∷ y ∷ kept) [] k l each = absurd each.1
 last_kept R (x ∷ kept) (y ∷ lists) k l each = last_kept R kept lists k l each.1
 
 -- a number that isn't marked is that of no record
-unnumbered : (number : ℕ) (docs : List (ℕ × DocRecord)) → is_among number (numbers_of (map numbered docs)) ≡ false → AllByRecursion (λ (x : ℕ × DocRecord). x.0 ≢ number) docs
+unnumbered : (number : ℕ) (docs : List NumberedDoc) → is_among number (numbers_of docs) ≡ false → AllByRecursion (λ (x : NumberedDoc). x.number ≢ number) docs
 unnumbered number [] new = tt
-unnumbered number (x ∷ docs) new = go (x.0 == number) refl (λ none. unnumbered number docs none) new
+unnumbered number (x ∷ docs) new = go (x.number == number) refl (λ none. unnumbered number docs none) new
   where
-    go : (test : Bool) → (x.0 == number) ≡ test → (is_among number (numbers_of (map numbered docs)) ≡ false → AllByRecursion (λ (y : ℕ × DocRecord). y.0 ≢ number) docs)
-        → (test || is_among number (numbers_of (map numbered docs))) ≡ false → (x.0 ≢ number) × AllByRecursion (λ (y : ℕ × DocRecord). y.0 ≢ number) docs
+    go : (test : Bool) → (x.number == number) ≡ test → (is_among number (numbers_of docs) ≡ false → AllByRecursion (λ (y : NumberedDoc). y.number ≢ number) docs)
+        → (test || is_among number (numbers_of docs)) ≡ false → (x.number ≢ number) × AllByRecursion (λ (y : NumberedDoc). y.number ≢ number) docs
     go true is again new = absurd cc
     go false is again new = ((λ same. grind (arith, nat_tests)), again new)
 
 module _ (laws : PieceLaws) (content : List ℕ) where
   -- a walk that has given nothing
-  pub nothing_follows : (w : WalkView) (docs : List (ℕ × DocRecord)) → IsSome w.header → w.answered ≡ None → docs ≡ [] → StandsFor content w → Follows content w docs
+  pub nothing_follows : (w : WalkView) (docs : List NumberedDoc) → IsSome w.header → w.answered ≡ None → docs ≡ [] → StandsFor content w → Follows content w docs
   nothing_follows w docs some unanswered none stands = subst (Follows content w) (sym none) (go w.header refl some)
     where
       go : (header : Option HeaderData) → w.header ≡ header → IsSome header → Follows content w []
@@ -212,9 +213,9 @@ module _ (laws : PieceLaws) (content : List ℕ) where
             once = λ i j d less inside. absurd (omega (arith, inside));
           }
 
-  module _ (old new : WalkView) (docs : List (ℕ × DocRecord)) (before : Follows content old docs) where
+  module _ (old new : WalkView) (docs : List NumberedDoc) (before : Follows content old docs) where
     -- one piece more
-    onward : (piece : PieceData) (later : List (ℕ × DocRecord)) → Advances content before.progress piece new → (with_piece before.parts piece).records ≡ map numbered later → AllPairs (λ (a b : ℕ × DocRecord). a.0 ≢ b.0) later → Follows content new later
+    onward : (piece : PieceData) (later : List NumberedDoc) → Advances content before.progress piece new → (with_piece before.parts piece).records ≡ later → AllPairs (λ (a b : NumberedDoc). a.number ≢ b.number) later → Follows content new later
     onward piece later next records once = record {
       progress = next.step.later;
       parts = with_piece before.parts piece;
@@ -241,13 +242,13 @@ module _ (laws : PieceLaws) (content : List ℕ) where
         last_kept (IsKeptList content new.docs) old.kept before.parts.lists k list
         (subst (λ (ks : List KeptList). AllZip (IsKeptList content new.docs) ks all) (sym next.keeps.kept ∙ kept) named)
 
-    pub doc_follows : (number : ℕ) (item : DocRecord) → is_marked old.marks number ≡ false → Advances content before.progress (DocPiece (numbered (number, item))) new → Follows content new (docs ++ (number, item) ∷ [])
+    pub doc_follows : (number : ℕ) (item : DocRecord) → is_marked old.marks number ≡ false → Advances content before.progress (DocPiece (numbered (number, item))) new → Follows content new (docs ++ numbered (number, item) ∷ [])
     doc_follows number item unmarked next =
-        let known : before.progress.numbers ≡ numbers_of (map numbered docs) = before.assembles.numbers ∙ ap numbers_of before.records in
-        let new_number : is_among number (numbers_of (map numbered docs)) ≡ false = ap (is_among number) (sym known) ∙ sym (before.keeps.marks number) ∙ unmarked in
-        onward (DocPiece (numbered (number, item))) (docs ++ (number, item) ∷ []) next
-        (ap (λ (rs : List NumberedDoc). rs ++ numbered (number, item) ∷ []) before.records ∙ sym (map-append numbered docs ((number, item) ∷ [])))
-        (all_pairs_push (λ (a b : ℕ × DocRecord). a.0 ≢ b.0) docs (number, item) before.once (λ i d low. All-from_recursion (λ (x : ℕ × DocRecord). x.0 ≢ number) docs (unnumbered number docs new_number) i d low))
+        let known : before.progress.numbers ≡ numbers_of docs = before.assembles.numbers ∙ ap numbers_of before.records in
+        let new_number : is_among number (numbers_of docs) ≡ false = ap (is_among number) (sym known) ∙ sym (before.keeps.marks number) ∙ unmarked in
+        onward (DocPiece (numbered (number, item))) (docs ++ numbered (number, item) ∷ []) next
+        (ap (λ (rs : List NumberedDoc). rs ++ numbered (number, item) ∷ []) before.records)
+        (all_pairs_push (λ (a b : NumberedDoc). a.number ≢ b.number) docs (numbered (number, item)) before.once (λ i d low. All-from_recursion (λ (x : NumberedDoc). x.number ≢ number) docs (unnumbered number docs new_number) i d low))
 
     -- the last piece
     pub end_follows : (lists : List ListEntry) → new.kept ≡ old.kept → new.docs ≡ old.docs → Advances content before.progress EndPiece new → All (HoldsMost content old.docs) lists → IsSurvey content new docs lists
@@ -285,7 +286,7 @@ pub same_most : (told : Option Files) (name : List ℕ) (docs now : ℕ) (lists 
 same_most told name docs now lists same most = subst (λ (n : ℕ). ForContent told name (λ content. All (HoldsMost content n) lists)) (sym same) most
 
 -- what follows of what a call gives, where the content is told
-module _ (laws : PieceLaws) (told : Option Files) (name : List ℕ) (old new : WalkView) (docs : List (ℕ × DocRecord)) (before : ForContent told name (λ content. Follows content old docs)) where
+module _ (laws : PieceLaws) (told : Option Files) (name : List ℕ) (old new : WalkView) (docs : List NumberedDoc) (before : ForContent told name (λ content. Follows content old docs)) where
   module _ (piece : Piece) (given : ForContent told name (λ content. (p : Progress) → Keeps old p → Advances content p (piece_data piece) new)) where
     next_told : (known : Piece) → piece ≡ known → (R : List ℕ → Type 0) → ((content : List ℕ) (follows : Follows content old docs) → Advances content follows.progress (piece_data known) new → R content) → ForContent told name R
     next_told known is R step =
@@ -299,10 +300,10 @@ module _ (laws : PieceLaws) (told : Option Files) (name : List ℕ) (old new : W
     pub list_told : (at : ℕ) (list : PostingsList) → piece ≡ pieces.List at list → ForContent told name (λ content. Follows content new docs)
     list_told at list is = next_told (pieces.List at list) is (λ content. Follows content new docs) (λ content follows next. list_follows laws content old new docs follows at (list_data list) next)
 
-    pub doc_told : (number : ℕ) (item : DocRecord) (longer : List (ℕ × DocRecord)) → piece ≡ pieces.Doc number item → is_marked old.marks number ≡ false → longer ≡ docs ++ (number, item) ∷ [] → ForContent told name (λ content. Follows content new longer)
+    pub doc_told : (number : ℕ) (item : DocRecord) (longer : List NumberedDoc) → piece ≡ pieces.Doc number item → is_marked old.marks number ≡ false → longer ≡ docs ++ numbered (number, item) ∷ [] → ForContent told name (λ content. Follows content new longer)
     doc_told number item longer is unmarked more =
         next_told (pieces.Doc number item) is (λ content. Follows content new longer)
-        (λ content follows next. subst (λ (ds : List (ℕ × DocRecord)). Follows content new ds) (sym more) (doc_follows laws content old new docs follows number item unmarked next))
+        (λ content follows next. subst (λ (ds : List NumberedDoc). Follows content new ds) (sym more) (doc_follows laws content old new docs follows number item unmarked next))
 
     pub most_told : (at : ℕ) (list : PostingsList) (entry : ListEntry) (lists longer : List ListEntry) → piece ≡ pieces.List at list → new.docs ≡ old.docs → new.kept ≡ old.kept ++ kept_of at list ∷ [] → HasDocsBelow old.docs list
         → entry.place.at ≡ at → entry.place.count ≡ length list.postings → entry.place.most ≡ most_tf list.postings → (1 ≤ length (entry_postings entry) → entry_postings entry ≡ list.postings) → longer ≡ lists ++ entry ∷ []

@@ -1,10 +1,11 @@
 -- A range that is widened by lists that are read again.
-use Rattle.shared_lemmas.proofs.Common.{◌≡◌, ℕ, suc, ◌+◌, ◌<◌, ◌≤◌, ◌^◌, Bool, false, List, [], ◌∷◌, ◌++◌, fold, get_or, length, map, min, take, Option, sym, ap, ap₂, subst, ◌∙◌, arith, All, min-le_right, take-suc, length-map, map-append, All-map, All-push}
-use Rattle.index_import.proofs.Below.{FitsList, ListData, list_data, HasDocsBelow, Files, ForContent, Posting, PostingsList, for_both, Rule, Range, empty_range, range_of, widened, length_norm, can_widen, most_tf, weights_in, widened_by, norms_in, list_fits}
+use Rattle.shared_lemmas.proofs.Common.{◌≡◌, ℕ, suc, ◌+◌, ◌<◌, ◌≤◌, ◌^◌, ◌||◌, Bool, false, nat_lt, nat_tests, slice_index_or, List, [], ◌∷◌, ◌++◌, fold, get_or, length, map, min, take, Option, sym, ap, ap₂, subst, ◌∙◌, arith, All, min-le_right, take-suc, length-map, map-append, All-map, All-push}
+use Rattle.index_import.proofs.Below.{FitsList, ListData, list_data, HasDocsBelow, Files, ForContent, Posting, PostingsList, for_both, Rule, Range, empty_range, range_of, widened, length_norm, can_widen, heaviest, lightest, most_tf, least-le_start, greatest-ge_start, weights_in, widened_by, norms_in, list_fits}
 use Rattle.index_import.specs.Private.Outlining.{list_there}
-use Rattle.index_import.specs.Private.Ranging.{widened_there}
+use Rattle.index_import.specs.Private.Ranging.{CannotWiden, widened_there}
 use Rattle.index_import.specs.Private.Surveying.{HoldsMost}
 use Rattle.index_import.specs.declared.list_entry.ListEntry.{ListEntry}
+use Rattle.index_import.specs.declared.passed_sizes.ListSize.{ListSize}
 use Rattle.index_import.specs.declared.weighing.Weighing.{Weighing}
 use Rattle.index_import.proofs.Ready.{list_there_is}
 
@@ -90,3 +91,13 @@ pub norms_cut : (w : Weighing) (norms : List ℕ) → norms ≡ w.norms.now → 
 norms_cut w norms is =
     let norm : ℕ → ℕ = λ (n : ℕ). min (length_norm (length w.lengths.now) w.total n) (2 ^ 63) in
     subst (All (λ n. n ≤ 2 ^ 63)) (sym (is ∙ w.norms_are)) (All-map (λ n. n ≤ 2 ^ 63) norm w.lengths.now (λ i d low. min-le_right _ _))
+
+-- whoever can't widen a range can't widen one that it was widened to
+pub passed_still : (rule : Rule) (docs : ℕ) (norms range : Range) (weights : List ℕ) (sizes : List ListSize) → All (CannotWiden rule docs norms range) sizes → All (CannotWiden rule docs norms (fold widened range weights)) sizes
+passed_still rule docs norms range weights sizes each i d inside some =
+    still docs (slice_index_or sizes i d).count (lightest rule docs (slice_index_or sizes i d).count norms) range.least (fold widened range weights).least
+    range.greatest (fold widened range weights).greatest (heaviest rule docs (slice_index_or sizes i d).count (slice_index_or sizes i d).most norms)
+    (least-le_start range weights) (greatest-ge_start range weights) (each i d inside some)
+  where
+    still : (docs count low least less greatest greater high : ℕ) → less ≤ least → greatest ≤ greater → (nat_lt docs count || nat_lt low least || nat_lt greatest high) ≡ false → (nat_lt docs count || nat_lt low less || nat_lt greater high) ≡ false
+    still docs count low least less greatest greater high falls rises cannot = grind (arith, nat_tests)

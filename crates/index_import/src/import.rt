@@ -2,11 +2,13 @@ ghost use Rattle.std.specs.Prelude.{◌≢◌, ◌≤◌, ◌⊎◌, IsErrOf};
 ghost use Rattle.jass_base.specs.Outside.{ForContent, IsMissing, Rose};
 ghost use Rattle.weights.specs.Quantizing.{IsImpactWidth};
 ghost use Rattle.index_import.specs.Importing.{Imports};
+ghost use Rattle.index_import.specs.Private.KeptDocs.{names_in};
 ghost use Rattle.index_import.specs.Private.Outlining.{IsOutline, IsOutlined};
 ghost use Rattle.index_import.specs.Private.Surveying.{IsReady};
 
 use crate::fault::ImportFault;
 use crate::heads::read_heads;
+use crate::kept_docs::KeptDocs;
 use crate::list_entry::ListEntry;
 use crate::outline::Outline;
 use crate::ranging::read_range;
@@ -17,7 +19,7 @@ use crate::writing::write_index;
 use ciff_read::CiffWalk;
 use impact_segments::laws::{lists_by_term_make_the_index, widened_lists_have_the_range};
 use impact_segments::length_norms;
-use jass_base::{Cabinet, Row, Text, Totals};
+use jass_base::{Cabinet, Totals};
 use std::alloc::Global;
 use weights::{Bits, Rule};
 
@@ -58,7 +60,7 @@ pub fn import_file<C: Cabinet>(
     };
     let Outline {
         mut walk,
-        names,
+        docs,
         lengths,
         total,
         lists,
@@ -73,7 +75,7 @@ pub fn import_file<C: Cabinet>(
         lengths: &lengths,
         norms: &norms,
     };
-    import_lists(alloc, &mut walk, files, weighing, bits, names, lists, index)
+    import_lists(alloc, &mut walk, files, weighing, bits, docs, lists, index)
 }
 
 /// Makes an index file of a file that was judged. Its lists go by rising terms; those whose postings
@@ -84,14 +86,14 @@ fn import_lists<C: Cabinet>(
     files: &mut C,
     weighing: Weighing<'_>,
     bits: Bits,
-    names: Row<Text>,
+    docs: KeptDocs,
     lists: Vec<ListEntry>,
     index: &str,
 ) -> Result<Totals, ImportFault>
     requires ready { IsReady (C.told files.old) walk.old.name walk.old }
-    requires outlined { IsOutlined walk.old names weighing.lengths.now weighing.total lists.items }
+    requires outlined { IsOutlined walk.old (names_in docs) weighing.lengths.now weighing.total lists.items }
     requires told { ForContent (C.told files.old) walk.old.name (λ content.
-        IsOutline content walk.old.docs names weighing.lengths.now lists.items) }
+        IsOutline content walk.old.docs (names_in docs) weighing.lengths.now lists.items) }
     requires width { IsImpactWidth bits }
     requires apart { walk.old.name ≢ index.now }
     ensures imported { Imports (C.told files.old) (C.told files.new) walk.old.name index.now
@@ -110,15 +112,19 @@ fn import_lists<C: Cabinet>(
         Err(fault) => return Err(ImportFault::from_ciff(fault)),
     };
     if are_few(&lists) {
-        let spelling = match spell_lists(alloc, walk, files, weighing, bits, range, &lists) {
+        let spelling = match spell_lists(alloc, walk, files, weighing, bits, range, lists) {
             Ok(spelling) => spelling,
             Err(fault) => return Err(ImportFault::from_ciff(fault)),
         };
-        return write_spelled(alloc, files, names, spelling, index);
+        return write_spelled(alloc, files, docs, spelling, index);
     }
     let heads = match read_heads(alloc, walk, files, weighing, bits, range, lists) {
         Ok(heads) => heads,
         Err(fault) => return Err(ImportFault::from_ciff(fault)),
+    };
+    let names = match docs.names(alloc) {
+        Ok(names) => names,
+        Err(_) => return Err(ImportFault::NoMemory),
     };
     write_index(
         alloc, walk, files, weighing, bits, range, names, heads, index,

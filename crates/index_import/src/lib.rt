@@ -11,10 +11,12 @@
 mod fault;
 mod heads;
 mod import;
+mod kept_docs;
 mod kept_postings;
 mod list_entry;
 mod list_term;
 mod outline;
+mod passed_sizes;
 mod ranging;
 mod reading;
 mod spelling;

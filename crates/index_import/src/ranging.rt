@@ -6,6 +6,7 @@ ghost use Rattle.index_import.specs.Private.Ranging.{range_there, widened_there}
 ghost use Rattle.index_import.specs.Private.Surveying.{AreGiven, HoldsMost, IsReady, KeepsAll};
 
 use crate::list_entry::{ListEntry, Place};
+use crate::passed_sizes::{ListSize, PassedSizes};
 use crate::reading::entry_list;
 use crate::weighing::Weighing;
 use ciff_read::{CiffFault, CiffWalk};
@@ -49,7 +50,8 @@ pub(crate) fn read_range<C: Cabinet>(
 }
 
 /// The range of the weights of lists. Those that can't widen it, as the number of their postings and
-/// their greatest tf show, are passed over.
+/// their greatest tf show, are passed over, and so is whatever list has the same numbers later, since
+/// the range only grows.
 fn widen_lists<C: Cabinet>(
     alloc: Global,
     walk: &mut CiffWalk,
@@ -83,9 +85,15 @@ fn widen_lists<C: Cabinet>(
     } = weighing;
     let ends = norm_ends(norms);
     let mut range = Range::new();
+    let mut passed = PassedSizes::new();
     for entry in lists {
         let Place { count, most, .. } = entry.place;
+        let size = ListSize { count, most };
+        if passed.has(size) {
+            continue;
+        }
         if !can_widen(range, rule, count, most, norms, ends) {
+            passed.keep(size);
             continue;
         }
         let list = match entry_list(alloc, walk, files, entry) {

@@ -11,6 +11,7 @@ ghost use Rattle.index_model.specs.Index.{SegmentData, TermData};
 ghost use Rattle.index_write.specs.Chosen.{chosen_heads, chosen_payloads, head_data};
 ghost use Rattle.index_write.specs.Streaming.{AreNames};
 ghost use Rattle.index_import.specs.Private.Heading.{FailsAllInside};
+ghost use Rattle.index_import.specs.Private.KeptDocs.{names_in};
 ghost use Rattle.index_import.specs.Private.Spelling.{AreOf, IsSpelling};
 ghost use Rattle.index_import.specs.Private.Surveying.{AreGiven, HoldsMost, IsReady, KeepsAll};
 ghost use Rattle.index_import.specs.Private.Writing.{Writes};
@@ -18,6 +19,7 @@ ghost use Rattle.index_import.specs.declared.list_entry.ListEntry.{ListEntry};
 ghost use Rattle.jass_base.specs.declared.limits.TheConstants.{MOST_POSTINGS, MOST_TERMS};
 
 use crate::fault::ImportFault;
+use crate::kept_docs::KeptDocs;
 use crate::list_entry::ListEntry;
 use crate::reading::entry_segments;
 use crate::weighing::Weighing;
@@ -25,8 +27,8 @@ use crate::writing::not_begun;
 use ciff_read::{CiffFault, CiffWalk};
 use impact_segments::{ListSegments, Scratch};
 use index_write::laws::{appended_payloads_make_the_text, made_heads_are_entries};
-use index_write::{PayloadHead, SpelledTerms, put_payload, write_parts};
-use jass_base::{Cabinet, NoMemory, Row, Text, Totals};
+use index_write::{Blocks, PayloadHead, SpelledTerms, write_parts};
+use jass_base::{Cabinet, NoMemory, Row, Totals};
 use std::alloc::Global;
 use weights::{Bits, Range};
 
@@ -34,11 +36,11 @@ use weights::{Bits, Range};
 #[derive(Drop)]
 pub(crate) struct Spelling {
     pub terms: SpelledTerms,
-    pub payloads: Row<u8>,
+    pub payloads: Blocks,
 }
 
 /// Spells the terms and the payloads of lists, which rise by their terms. Those whose postings weren't
-/// kept are read again.
+/// kept are read again. What was kept of a list is let go behind it, so that the bytes get its memory.
 pub(crate) fn spell_lists<C: Cabinet>(
     alloc: Global,
     walk: &mut CiffWalk,
@@ -46,23 +48,23 @@ pub(crate) fn spell_lists<C: Cabinet>(
     weighing: Weighing<'_>,
     bits: Bits,
     range: Range,
-    lists: &[ListEntry],
+    lists: Vec<ListEntry>,
 ) -> Result<Spelling, CiffFault>
     requires ready { IsReady (C.told files.old) walk.old.name walk.old }
-    requires given { AreGiven walk.old.kept lists.now }
-    requires keep_all { All (KeepsAll walk.old.docs) lists.now }
+    requires given { AreGiven walk.old.kept lists.items }
+    requires keep_all { All (KeepsAll walk.old.docs) lists.items }
     requires told { ForContent (C.told files.old) walk.old.name (λ content.
-        All (HoldsMost content walk.old.docs) lists.now) }
-    requires rising { AllPairs (λ (a b : ListEntry). BytesRise a.term b.term) lists.now }
-    requires few { length lists.now ≤ MOST_TERMS }
-    requires postings { sum_by (λ (e : ListEntry). e.place.count) lists.now ≤ MOST_POSTINGS }
+        All (HoldsMost content walk.old.docs) lists.items) }
+    requires rising { AllPairs (λ (a b : ListEntry). BytesRise a.term b.term) lists.items }
+    requires few { length lists.items ≤ MOST_TERMS }
+    requires postings { sum_by (λ (e : ListEntry). e.place.count) lists.items ≤ MOST_POSTINGS }
     requires docs { length weighing.lengths.now ≡ walk.old.docs }
     requires width { IsImpactWidth bits }
     requires low { EndsLow bits range }
     ensures spelled { IfOk result (λ s. IsSpelling (C.told files.old) walk.old.name walk.old.docs
-        weighing.entry bits range lists.now s.terms s.payloads) }
+        weighing.entry bits range lists.items s.terms s.payloads) }
     ensures told { ForContent (C.told files.old) walk.old.name (λ content.
-        IfErr result (FailsAllInside content walk.old.docs weighing.entry bits range lists.now)) }
+        IfErr result (FailsAllInside content walk.old.docs weighing.entry bits range lists.items)) }
     ensures fault { IsErrOf result CiffFault.ReadFault → Rose (C.read_faults files.old) (C.read_faults files.new) }
     ensures stays { C.told files.new ≡ C.told files.old }
     ensures later { C.read_faults files.old ≤ C.read_faults files.new }
@@ -71,17 +73,14 @@ pub(crate) fn spell_lists<C: Cabinet>(
     made_heads_are_entries();
     appended_payloads_make_the_text();
     let docs = weighing.lengths.len() as u32;
-    let postings = posting_count(lists) as usize;
-    let mut terms = SpelledTerms::with_room(alloc, 4 * postings + 16 * lists.len());
-    let mut payloads = match Row::with_room(alloc, 2 * postings) {
-        Ok(payloads) => payloads,
-        Err(_) => return Err(CiffFault::NoMemory),
-    };
+    let mut terms = SpelledTerms::new(alloc);
+    let mut payloads = Blocks::new(alloc);
+    let mut block = Row::new(alloc);
     let mut segments = ListSegments::new(alloc);
     let mut heads = Row::new(alloc);
     let mut scratch = Scratch::new(alloc);
     let mut spare = Row::new(alloc);
-    for entry in lists {
+    'lists: for entry in lists {
         match entry_segments(
             &mut segments,
             &mut spare,
@@ -92,12 +91,16 @@ pub(crate) fn spell_lists<C: Cabinet>(
             weighing,
             bits,
             range,
-            entry,
+            &entry,
         ) {
             Ok(()) => {}
             Err(fault) => return Err(fault),
         }
-        match spell_segments(&segments, docs, &mut heads, &mut payloads) {
+        match spell_segments(&segments, docs, &mut heads, &mut block) {
+            Ok(()) => {}
+            Err(_) => return Err(CiffFault::NoMemory),
+        }
+        match payloads.push_full(alloc, &mut block) {
             Ok(()) => {}
             Err(_) => return Err(CiffFault::NoMemory),
         }
@@ -105,6 +108,11 @@ pub(crate) fn spell_lists<C: Cabinet>(
             Ok(()) => {}
             Err(_) => return Err(CiffFault::NoMemory),
         }
+        drop(entry);
+    }
+    match payloads.push(block) {
+        Ok(()) => {}
+        Err(_) => return Err(CiffFault::NoMemory),
     }
     Ok(Spelling { terms, payloads })
 }
@@ -120,8 +128,8 @@ pub(crate) fn posting_count(lists: &[ListEntry]) -> u64
     postings.min(1 << 32)
 }
 
-/// Makes the heads of segments, each in its shortest codec, in a row that is used again, and appends
-/// their payloads.
+/// Makes the heads of segments in a row that is used again, and appends their payloads, each in its
+/// shortest codec.
 fn spell_segments(
     segments: &ListSegments,
     docs: u32,
@@ -136,26 +144,25 @@ fn spell_segments(
     heads.truncate(0);
     for index in 0..segments.len() {
         let (impact, here) = segments.segment(index);
-        let head = PayloadHead::of(impact, here, docs);
-        put_payload(here, &head, docs, payloads)?;
+        let head = PayloadHead::put(impact, here, docs, payloads)?;
         heads.push(head)?;
     }
     Ok(())
 }
 
-/// Writes the index of documents of these names, and of lists that were spelled.
+/// Writes the index of these documents, and of lists that were spelled.
 pub(crate) fn write_spelled<C: Cabinet>(
     alloc: Global,
     files: &mut C,
-    names: Row<Text>,
+    docs: KeptDocs,
     spelling: Spelling,
     index: &str,
 ) -> Result<Totals, ImportFault>
-    requires { AreNames names }
+    requires { AreNames (names_in docs) }
     ensures written { (name : List ℕ) (made : List TermData)
-        → AreOf (length names) spelling.terms spelling.payloads made
+        → AreOf (length (names_in docs)) spelling.terms spelling.payloads made
         → Writes (C.told files.old) (C.told files.new) name index.now
-        (record { names = names; terms = made }) result }
+        (record { names = names_in docs; terms = made }) result }
     ensures read_fault { IsErrOf result ImportFault.ReadFault
         → Rose (C.read_faults files.old) (C.read_faults files.new) }
     ensures write_fault { IsErrOf result ImportFault.WriteFault
@@ -165,14 +172,11 @@ pub(crate) fn write_spelled<C: Cabinet>(
 {
     appended_payloads_make_the_text();
     let Spelling { terms, payloads } = spelling;
-    match write_parts(
-        alloc,
-        names.as_slice(),
-        &terms,
-        payloads.as_slice(),
-        files,
-        index,
-    ) {
+    let names = match docs.spelled_names(alloc) {
+        Ok(names) => names,
+        Err(_) => return Err(ImportFault::NoMemory),
+    };
+    match write_parts(alloc, &names, &terms, &payloads, files, index) {
         Ok(totals) => Ok(totals),
         Err(fault) => Err(not_begun(fault)),
     }

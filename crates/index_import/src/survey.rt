@@ -3,10 +3,11 @@ ghost use Rattle.jass_base.specs.Outside.{IsMissing, Rose};
 ghost use Rattle.ciff_read.specs.Walk.{IsOutside};
 ghost use Rattle.index_import.specs.Private.Surveying.{AreKept, IsReady, SurveyTold};
 
+use crate::kept_docs::KeptDocs;
 use crate::list_entry::ListEntry;
 use ciff_read::laws::pieces_make_the_collection;
 use ciff_read::{CiffFault, CiffWalk, Piece};
-use jass_base::{Cabinet, DocRecord};
+use jass_base::Cabinet;
 use std::alloc::Global;
 
 /// How many postings are kept at the most, but for those of short lists.
@@ -16,8 +17,8 @@ const MOST_KEPT_POSTINGS: usize = 4_194_304;
 #[derive(Drop)]
 pub(crate) struct Survey {
     pub walk: CiffWalk,
-    /// The documents' records with their numbers, in the order of the file.
-    pub docs: Vec<(u32, DocRecord)>,
+    /// The documents, in the order of the file.
+    pub docs: KeptDocs,
     /// The lists that have postings, in the order of the file.
     pub lists: Vec<ListEntry>,
 }
@@ -29,7 +30,7 @@ pub(crate) fn survey_file<C: Cabinet>(
     name: &str,
 ) -> Result<Survey, CiffFault>
     ensures ready { IfOk result (λ s. IsReady (C.told files.old) name.now s.walk) }
-    ensures kept { IfOk result (λ s. AreKept s.walk s.docs.items s.lists.items) }
+    ensures kept { IfOk result (λ s. AreKept s.walk s.docs s.lists.items) }
     ensures told { SurveyTold (C.told files.old) name.now result }
     ensures missing { IsMissing (C.told files.old) name.now → MatchResult result (λ _. ⊥) IsOutside }
     ensures fault { IsErrOf result CiffFault.ReadFault
@@ -40,7 +41,7 @@ pub(crate) fn survey_file<C: Cabinet>(
 {
     pieces_make_the_collection();
     let mut walk = CiffWalk::open(alloc, files, name)?;
-    let mut docs = Vec::new(alloc);
+    let mut docs = KeptDocs::new(alloc);
     let mut lists = Vec::new(alloc);
     let mut room = MOST_KEPT_POSTINGS;
     'pieces: loop {
@@ -64,7 +65,7 @@ pub(crate) fn survey_file<C: Cabinet>(
                     }
                 }
             }
-            Piece::Doc { number, item } => match docs.push((number, item)) {
+            Piece::Doc { number, item } => match docs.push(number, item) {
                 Ok(()) => {}
                 Err(_) => return Err(CiffFault::NoMemory),
             },

@@ -1,11 +1,23 @@
 -- Texts that go to a file in pieces.
-use Rattle.shared_lemmas.proofs.Common.{◌≡◌, ◌≤◌, ◌⊎◌, ℕ, List, [], ◌++◌, take, arith, Bool, true, false, refl, sym, ap, subst, ◌∙◌, append-nil, append_assoc}
+use Rattle.shared_lemmas.proofs.Common.{◌≡◌, ◌<◌, ◌≤◌, ◌+◌, ◌⊎◌, ℕ, suc, List, [], ◌∷◌, ◌++◌, length, get_or, take, take-suc, flat_map-append, arith, Bool, true, false, refl, sym, ap, subst, ◌∙◌, append-nil, append_assoc}
 use Rattle.jass_base.specs.declared.cabinet.Cabinet as cabinet
 use Rattle.jass_base.specs.Outside.{Rose}
 use Rattle.jass_base.proofs.Writing.{Rose-earlier}
 use Rattle.index_write.proofs.Below.{Extends}
 use Rattle.index_write.proofs.Files.{prefix_longer, prefix_more, sets_more}
+use Rattle.index_write.specs.Private.Blocks.{joined}
 use Rattle.index_write.specs.Private.Pieces.{Waiting, with_more, IsSent, IsUnderWay, Adds}
+
+-- bytes were appended to any text that was sent, unless writing had failed before
+abbrev pub AppendsTo : {C : Type 0} → cabinet.Ghosts C → List ℕ → C → C → Bool → Bool → List ℕ → Type 0
+AppendsTo {C} g name before after failed lost bytes = (start : C) (text : List ℕ) → IsSent g start before name failed text → IsSent g start after name lost (text ++ bytes)
+
+-- the first blocks, and one more
+pub joined_next : (blocks : List (List ℕ)) (i : ℕ) (block : List ℕ) → i < length blocks → block ≡ get_or blocks i block → joined (take (i + 1) blocks) ≡ joined (take i blocks) ++ block
+joined_next blocks i block low is =
+    let next : i + 1 ≡ suc i = omega arith in
+    ap joined (ap (λ (n : ℕ). take n blocks) next ∙ take-suc blocks i block low ∙ ap (λ (x : List ℕ). take i blocks ++ x ∷ []) (sym is))
+    ∙ flat_map-append (λ (x : List ℕ). x) (take i blocks) (block ∷ []) ∙ ap (λ (xs : List ℕ). joined (take i blocks) ++ xs) (append-nil block)
 
 -- some parts of a text were put, and this is left
 abbrev pub AddsUpTo : {C : Type 0} → cabinet.Ghosts C → C → C → List ℕ → Waiting → Waiting → List ℕ → List ℕ → Type 0
@@ -78,3 +90,12 @@ module _ {C : Type 0} (g : cabinet.Ghosts C) (name : List ℕ) where
   all_sent {start} {a} {b} {x} {z} whole none sound made adds last =
       let m = adds start [] ([], subst (λ f. IsSent g start a name f []) (sym sound) made, sym none) in
       subst (IsSent g start b name z.failed) (sym (m.2 ∙ ap (λ w. m.0 ++ w) last ∙ append-nil m.0)) m.1
+
+  pub appends_none : (a : C) (failed : Bool) → AppendsTo g name a a failed failed []
+  appends_none a failed start text was = subst (IsSent g start a name failed) (sym (append-nil text)) was
+
+  pub appends_same : {a b : C} {failed lost : Bool} {p q : List ℕ} → p ≡ q → AppendsTo g name a b failed lost p → AppendsTo g name a b failed lost q
+  appends_same {a} {b} {failed} {lost} is done = subst (AppendsTo g name a b failed lost) is done
+
+  pub appends_then : {a b c : C} {failed lost after : Bool} (p q : List ℕ) → AppendsTo g name a b failed lost p → AppendsTo g name b c lost after q → AppendsTo g name a c failed after (p ++ q)
+  appends_then {c = c} {after = after} p q first second start text was = subst (IsSent g start c name after) (append_assoc text p q) (second start (text ++ p) (first start text was))

@@ -1,10 +1,10 @@
--- Terms with their heads, and one more behind them.
+-- Terms with their heads, and one more behind them; the parts of a file.
 use Rattle.shared_lemmas.proofs.Common.{◌≡◌, ℕ, ◌+◌, ◌-◌, ◌≤◌, ◌^◌, List, [], ◌∷◌, ◌++◌, length, ap, ap₂, sym, ◌∙◌, refl, arith, append-nil, append_assoc, max, min, sum_by, sum_by-append, flat_map-append, length-append}
-use Rattle.index_write.proofs.Below.{HeadData, Totals, all_heads, file_length, front_bytes, greatest_impact, greatest_joins, greatest_of, head_postings, heads_bytes, names_bytes, payloads_size, term_bytes, terms_bytes, u32_bytes}
+use Rattle.index_write.proofs.Below.{HeadData, Totals, all_heads, file_length, front_bytes, greatest_impact, greatest_joins, greatest_of, head_postings, heads_bytes, names_bytes, term_bytes, terms_bytes, u32_bytes}
 use Rattle.index_layout.specs.Heads.{TermHeads as EntryData}
 use Rattle.index_layout.specs.Layout.{front_bytes, totals_bytes}
 use Rattle.index_write.specs.Private.Front.{first_bytes}
-use Rattle.index_write.specs.Spelled.{AreFew, AreSpelled, HasParts, SpelledView, last_term}
+use Rattle.index_write.specs.Spelled.{AreFew, AreSpelled, HasNames, HasParts, NamesView, SpelledView, last_term}
 use Rattle.index_write.specs.Streaming.{entries_totals}
 use Rattle.index_write.proofs.Entries.{count_of}
 use Rattle.index_write.proofs.Joining.{entries_first}
@@ -40,6 +40,10 @@ pub part_put : (out bytes before last text term : List ℕ) (n : ℕ) (heads : L
     → out ≡ bytes ++ part_of last (record { term = term; heads = heads })
 part_put out bytes before last text term n heads a b c is = is ∙ rw (a, b, c) refl
 
+-- a part that was put behind a block stands behind the blocks and this one
+pub joined_put : (blocks block before last out part : List ℕ) → blocks ++ block ≡ before ++ out → out ≡ last ++ part → blocks ++ block ≡ (before ++ last) ++ part
+joined_put blocks block before last out part moved is = moved ∙ ap (λ xs. before ++ xs) is ∙ sym (append_assoc before last part)
+
 pub spelled_more : (old new : SpelledView) (entries : List EntryData) (t : EntryData) → AreSpelled old entries → AreFew (entries ++ t ∷ []) → new.bytes ≡ old.bytes ++ part_of old.last t → new.last ≡ t.term
     → new.terms ≡ min (old.terms + 1) (2 ^ 32 - 1) → new.postings ≡ min (old.postings + sum_by count_of t.heads) (2 ^ 64 - 1) → new.greatest ≡ max old.greatest (greatest_of t.heads)
     → AreSpelled new (entries ++ t ∷ [])
@@ -56,14 +60,27 @@ spelled_more old new entries t are few bytes last terms postings greatest =
 
 -- ---- the parts of a file
 
-pub totals_of_parts : (docs : ℕ) (view : SpelledView) (entries : List EntryData) → AreSpelled view entries
-    → (let totals : Totals = record { docs = docs; terms = view.terms; postings = view.postings; greatest = view.greatest } in totals) ≡ entries_totals docs entries
-totals_of_parts docs view entries are = same_totals docs view.terms view.postings view.greatest (length entries) (head_postings entries) (greatest_impact entries) are.terms are.postings are.greatest
+-- the totals of so many documents and of spelled terms
+abbrev totals_with : ℕ → SpelledView → Totals
+totals_with docs view = record { docs = docs; terms = view.terms; postings = view.postings; greatest = view.greatest }
 
-pub parts_joined : (names : List (List ℕ)) (view : SpelledView) (entries : List EntryData) (payloads first second : List ℕ) (size : ℕ) (t : Totals) → AreSpelled view entries → size ≡ file_length names entries → t ≡ entries_totals (length names) entries
-    → first ≡ first_bytes size t → second ≡ view.bytes → first ++ (names_bytes names ++ (second ++ payloads)) ≡ front_bytes names entries ++ payloads
-unfolding front_bytes
-parts_joined names view entries payloads first second size t are len totals is same =
-    ap₂ (λ (a b : List ℕ). a ++ (names_bytes names ++ (b ++ payloads))) (is ∙ entries_first names entries size t len totals) (same ∙ are.bytes)
-    ∙ ap (λ xs. totals_bytes names entries ++ xs) (sym (append_assoc (names_bytes names) (terms_bytes [] entries) payloads))
-    ∙ sym (append_assoc (totals_bytes names entries) (names_bytes names ++ terms_bytes [] entries) payloads)
+module _ (named : NamesView) (names : List (List ℕ)) (view : SpelledView) (entries : List EntryData) (payloads : List ℕ) (spelled : HasNames named names) (parts : HasParts view payloads entries) where
+  totals_of_parts : (docs : ℕ) (totals : Totals) → docs ≡ named.count → totals ≡ totals_with docs view → totals ≡ entries_totals (length names) entries
+  totals_of_parts docs totals count is =
+      let are = parts.spelled in
+      is ∙ ap (λ n. totals_with n view) (count ∙ spelled.spelled.count)
+      ∙ same_totals (length names) view.terms view.postings view.greatest (length entries) (head_postings entries) (greatest_impact entries) are.terms are.postings are.greatest
+
+  -- the length that is judged, which isn't cut where it is that of a file
+  length_of_parts : (size : ℕ) (second third : List ℕ) → second ≡ named.bytes → third ≡ view.bytes → size ≡ min (40 + length second + length third + length payloads) (2 ^ 64 - 1) → size ≤ 2 ^ 32 → size ≡ file_length names entries
+  length_of_parts size second third one two is fits =
+      omega (arith, is, fits, ap length one, ap length two, ap length spelled.spelled.bytes, ap length parts.spelled.bytes, parts.sizes)
+
+  pub parts_joined : (docs size : ℕ) (totals : Totals) (first second third : List ℕ) → docs ≡ named.count → totals ≡ totals_with docs view → first ≡ first_bytes size totals → second ≡ named.bytes → third ≡ view.bytes
+      → size ≡ min (40 + length second + length third + length payloads) (2 ^ 64 - 1) → size ≤ 2 ^ 32 → first ++ (second ++ (third ++ payloads)) ≡ front_bytes names entries ++ payloads
+  unfolding front_bytes
+  parts_joined docs size totals first second third count sums is one two len fits =
+      ap (λ xs. xs ++ (second ++ (third ++ payloads))) (is ∙ entries_first names entries size totals (length_of_parts size second third one two len fits) (totals_of_parts docs totals count sums))
+      ∙ ap₂ (λ (a b : List ℕ). totals_bytes names entries ++ (a ++ (b ++ payloads))) (one ∙ spelled.spelled.bytes) (two ∙ parts.spelled.bytes)
+      ∙ ap (λ xs. totals_bytes names entries ++ xs) (sym (append_assoc (names_bytes names) (terms_bytes [] entries) payloads))
+      ∙ sym (append_assoc (totals_bytes names entries) (names_bytes names ++ terms_bytes [] entries) payloads)

@@ -1,8 +1,8 @@
 -- An index that is written term by term.
-use Rattle.shared_lemmas.proofs.Common.{◌≡◌, ℕ, ◌<◌, ◌≤◌, ◌^◌, List, [], ◌∷◌, ◌++◌, length, map, get_or, All, ap, ◌∙◌, refl, arith, append-nil, AllPairs, length-map, get_or-map, All-head, All-tail, All-cons, All-nil}
+use Rattle.shared_lemmas.proofs.Common.{◌≡◌, ℕ, ◌≤◌, ◌^◌, List, [], ◌∷◌, ◌++◌, length, get_or, All, ap, ◌∙◌, refl, arith, append-nil, AllPairs, length-map, get_or-map, All-head, All-tail, All-cons, All-nil}
 use Rattle.std.specs.List.{sum_by}
 use Rattle.std.proofs.lemmas.List.Concat.{flat_map-append}
-use Rattle.index_write.proofs.Below.{AreDocs, BytesRise, Totals, chosen_codec, payload_size, Codec, SegmentData, TermData, IndexData, IsSegment, IsTerm, IsIndex, HeadData, head_postings, greatest_of, greatest_impact, index_greatest, totals_of, index_postings}
+use Rattle.index_write.proofs.Below.{AreDocs, BytesRise, Totals, chosen_codec, payload_size, Codec, SegmentData, TermData, IndexData, IsTerm, IsIndex, HeadData, head_postings, greatest_of, greatest_impact, index_greatest, totals_of, index_postings}
 use Rattle.index_model.specs.Index as model
 use Rattle.index_layout.specs.Heads.{TermHeads as EntryData}
 use Rattle.index_write.specs.Chosen.{chosen_entry, chosen_head, chosen_heads, chosen_payloads, chosen_terms, table_payloads}

@@ -1,10 +1,25 @@
--- Terms with their heads that are spelled one behind the other.
+-- Names, and terms with their heads, that are spelled one behind the other.
 use Rattle.std.specs.Prelude.{ℕ, ◌≡◌, ◌≤◌, List, [], ◌∷◌, length}
 use Rattle.index_layout.specs.Heads.{greatest_impact, head_postings, payloads_size}
 use Rattle.index_layout.specs.Heads.{TermHeads as EntryData}
-use Rattle.index_layout.specs.Layout.{terms_bytes}
-use Rattle.index_write.specs.Streaming.{AreEntries}
+use Rattle.index_layout.specs.Layout.{names_bytes, terms_bytes}
+use Rattle.index_write.specs.Streaming.{AreEntries, AreNames}
 use Rattle.jass_base.specs.declared.limits.TheConstants.{MOST_POSTINGS, MOST_TERMS}
+
+-- the bytes of names, and how many names
+pub record NamesView : Type 0 where
+  pub bytes : List ℕ
+  pub count : ℕ
+
+-- these are some names, in the bytes that an index file has of them
+pub record AreSpelledNames (view : NamesView) (names : List (List ℕ)) : Type 0 where
+  pub bytes : view.bytes ≡ names_bytes names
+  pub count : view.count ≡ length names
+
+-- these are some names that a file may have
+pub record HasNames (view : NamesView) (names : List (List ℕ)) : Type 0 where
+  pub spelled : AreSpelledNames view names
+  pub are : AreNames names
 
 -- the bytes, the last term, how many terms, their postings and their greatest impact
 pub record SpelledView : Type 0 where

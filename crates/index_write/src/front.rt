@@ -16,7 +16,7 @@ use jass_base::{ImpactIndex, NoMemory, Row, Text};
 
 /// Appends a name behind its length.
 #[tactic(auto, unfolding(index_layout::specs::Layout::name_bytes))]
-fn put_name(name: &str, out: &mut Row<u8>) -> Result<(), NoMemory>
+pub fn put_name(name: &str, out: &mut Row<u8>) -> Result<(), NoMemory>
     requires { length name.now ≤ LONGEST_NAME }
     ensures { OnOk result (out.new ≡ out.old ++ name_bytes name.now) }
 {

@@ -1,6 +1,7 @@
 ghost use Rattle.std.specs.Prelude.{◌≡◌, ◌≤◌, ◌++◌, length, map, All, OnOk, IfOk};
 ghost use Rattle.jass_base.specs.Gaps.{AreDocs};
 ghost use Rattle.jass_base.specs.declared.segment.Segment.{Segment};
+ghost use Rattle.segment_codecs.specs.Codecs.{chosen_codec, payload_of, payload_size};
 ghost use Rattle.index_model.specs.Views.{segment_data, term_data};
 ghost use Rattle.index_write.specs.Chosen.{head_data, chosen_head, chosen_heads};
 ghost use Rattle.jass_base.specs.declared.limits.TheConstants.{GREATEST_IMPACT};
@@ -8,7 +9,7 @@ ghost use Rattle.index_write.specs.Private.Table.{table_of};
 
 use crate::laws::{segments_are_small, terms_have_documents};
 use jass_base::{ImpactIndex, NoMemory, Row, Segment};
-use segment_codecs::{Codec, shortest};
+use segment_codecs::{Choice, Codec, put_shortest, shortest};
 use std::alloc::Global;
 
 /// What stands in an index file before the payload of a segment. It is made once for each segment,
@@ -40,7 +41,35 @@ impl PayloadHead {
         requires { AreDocs d docs.now }
         ensures { head_data result ≡ chosen_head d (record { impact = impact; docs = docs.now }) }
     {
-        let choice = shortest(docs, d);
+        PayloadHead::chosen(impact, docs, d, shortest(docs, d))
+    }
+
+    /// Appends the payload of the documents in its shortest codec, and gives the head that `of`
+    /// gives. The codec is chosen as the payload is appended.
+    #[inline(always)]
+    pub fn put(
+        impact: u16,
+        docs: &[u32],
+        d: u32,
+        out: &mut Row<u8>,
+    ) -> Result<PayloadHead, NoMemory>
+        requires { AreDocs d docs.now }
+        ensures head { IfOk result (λ head.
+            head_data head ≡ chosen_head d (record { impact = impact; docs = docs.now })) }
+        ensures payload { OnOk result (out.new ≡ out.old ++ payload_of (chosen_codec d docs.now) d docs.now) }
+    {
+        let choice = put_shortest(docs, d, out)?;
+        Ok(PayloadHead::chosen(impact, docs, d, choice))
+    }
+
+    /// The head of documents whose codec was chosen.
+    #[inline(always)]
+    fn chosen(impact: u16, docs: &[u32], d: u32, choice: Choice) -> PayloadHead
+        requires docs { AreDocs d docs.now }
+        requires codec { choice.codec ≡ chosen_codec d docs.now }
+        requires size { choice.size ≡ payload_size d docs.now (chosen_codec d docs.now) }
+        ensures { head_data result ≡ chosen_head d (record { impact = impact; docs = docs.now }) }
+    {
         segments_are_small();
         PayloadHead {
             impact,

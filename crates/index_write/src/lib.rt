@@ -2,6 +2,7 @@
 
 //! The bytes of an index file, and how they are written: each segment in its shortest codec.
 
+mod blocks;
 mod bytes;
 mod change;
 mod fault;
@@ -13,17 +14,20 @@ mod lengths;
 mod payloads;
 mod pieced_front;
 mod pieces;
+mod spelled_names;
 mod spelled_terms;
 mod sums;
 mod term_heads;
 mod whole;
 mod writer;
 
+pub use blocks::Blocks;
 pub use bytes::index_bytes;
 pub use fault::{SaveFault, TermFault};
 pub use file::write_index;
 pub use head::{PayloadHead, payload_heads};
-pub use payloads::{put_payload, put_payloads};
+pub use payloads::put_payloads;
+pub use spelled_names::SpelledNames;
 pub use spelled_terms::SpelledTerms;
 pub use sums::totals;
 pub use term_heads::TermHeads;

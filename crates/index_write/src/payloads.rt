@@ -15,12 +15,7 @@ use jass_base::{ImpactIndex, NoMemory, Row, Segment};
 use segment_codecs::encode;
 
 /// Appends the payload of documents in the codec of their head.
-pub fn put_payload(
-    docs: &[u32],
-    head: &PayloadHead,
-    d: u32,
-    out: &mut Row<u8>,
-) -> Result<(), NoMemory>
+fn put_payload(docs: &[u32], head: &PayloadHead, d: u32, out: &mut Row<u8>) -> Result<(), NoMemory>
     requires docs { AreDocs d docs.now }
     requires codec { head.now.codec ≡ chosen_codec d docs.now }
     ensures { OnOk result (out.new ≡ out.old ++ payload_of (chosen_codec d docs.now) d docs.now) }

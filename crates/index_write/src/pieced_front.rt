@@ -30,7 +30,7 @@ fn put_name<C: Cabinet>(name: &str, pieces: &mut Pieces, files: &mut C, file: &s
 }
 
 /// Puts the names of the documents.
-pub fn put_names<C: Cabinet>(names: &[Text], pieces: &mut Pieces, files: &mut C, file: &str)
+fn put_names<C: Cabinet>(names: &[Text], pieces: &mut Pieces, files: &mut C, file: &str)
     requires { All IsName names.now }
     ensures { Adds C.Cabinet files.old files.new file.now pieces.old pieces.new (names_bytes names.now) }
 {

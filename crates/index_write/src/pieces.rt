@@ -84,7 +84,7 @@ impl Pieces {
 }
 
 /// Appends bytes to a file, unless writing it failed before. The answer is whether it failed.
-fn append<C: Cabinet>(bytes: &[u8], failed: bool, files: &mut C, name: &str) -> bool
+pub fn append<C: Cabinet>(bytes: &[u8], failed: bool, files: &mut C, name: &str) -> bool
     ensures { (start : C) (text : List ℕ) → IsSent C.Cabinet start files.old name.now failed text
         → IsSent C.Cabinet start files.new name.now result (text ++ bytes.now) }
 {
@@ -107,7 +107,7 @@ pub fn send<C: Cabinet>(pieces: &mut Pieces, files: &mut C, name: &str)
 }
 
 /// Sends what waits to the file, and then bytes.
-pub fn send_behind<C: Cabinet>(bytes: &[u8], pieces: &mut Pieces, files: &mut C, name: &str)
+fn send_behind<C: Cabinet>(bytes: &[u8], pieces: &mut Pieces, files: &mut C, name: &str)
     ensures adds { Adds C.Cabinet files.old files.new name.now pieces.old pieces.new bytes.now }
     ensures none { pieces.new.bytes ≡ [] }
 {

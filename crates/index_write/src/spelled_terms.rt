@@ -1,15 +1,18 @@
 //! Terms with their heads, spelled as they come.
 
-ghost use Rattle.std.specs.Prelude.{◌≡◌, ◌≤◌, [], ◌∷◌, ◌++◌, List, length, map, OnOk};
+ghost use Rattle.std.specs.Prelude.{◌≡◌, ◌≤◌, ◌-◌, ◌^◌, [], ◌∷◌, ◌++◌, List, ℕ, length, map, min, OnOk};
 ghost use Rattle.index_layout.specs.Heads.{TermHeads as EntryData};
 ghost use Rattle.index_write.specs.Chosen.{head_data};
+ghost use Rattle.index_write.specs.Private.Pieces.{IsSent};
 ghost use Rattle.index_write.specs.Spelled.{AreFew, AreSpelled};
 ghost use Rattle.jass_base.specs.declared.limits.TheConstants.{LONGEST_TERM, MOST_POSTINGS};
 
+use crate::blocks::{Blocks, append_blocks};
 use crate::front::put_entry;
 use crate::head::PayloadHead;
+use crate::pieces::append;
 use crate::sums::term_sums;
-use jass_base::{NoMemory, Row, Totals};
+use jass_base::{Cabinet, NoMemory, Row, Totals};
 use std::alloc::Global;
 use std::marker::Model;
 
@@ -17,7 +20,10 @@ use std::marker::Model;
 /// spelled later.
 #[derive(Drop)]
 pub struct SpelledTerms {
-    bytes: Row<u8>,
+    alloc: Global,
+    /// The bytes that stand in full blocks, and those behind them.
+    blocks: Blocks,
+    block: Row<u8>,
     /// The last term, to which the next one is compared.
     last: Row<u8>,
     count: u32,
@@ -27,12 +33,13 @@ pub struct SpelledTerms {
 }
 
 impl Model for SpelledTerms {
+    ghost use Rattle.std.specs.Prelude.{◌++◌};
     ghost use Rattle.index_write.specs.Spelled.{SpelledView};
 
     ghost Value = { SpelledView };
 
     ghost view = { λ s. record {
-      bytes = s.bytes;
+      bytes = s.blocks ++ s.block;
       last = s.last;
       terms = s.count;
       postings = s.postings;
@@ -41,12 +48,14 @@ impl Model for SpelledTerms {
 }
 
 impl SpelledTerms {
-    /// No terms yet, in a row that has room for so many bytes, where these are given.
-    pub fn with_room(alloc: Global, room: usize) -> SpelledTerms
+    /// No terms yet, and no memory is taken.
+    pub fn new(alloc: Global) -> SpelledTerms
         ensures { AreSpelled result [] }
     {
         SpelledTerms {
-            bytes: roomy_row(alloc, room),
+            alloc,
+            blocks: Blocks::new(alloc),
+            block: Row::new(alloc),
             last: Row::new(alloc),
             count: 0,
             postings: 0,
@@ -63,7 +72,8 @@ impl SpelledTerms {
             → AreSpelled self.new (entries ++ record { term = term.now; heads = map head_data heads.now } ∷ [])) }
     {
         let text = term.as_bytes();
-        put_entry(self.last.as_slice(), text, heads, &mut self.bytes)?;
+        put_entry(self.last.as_slice(), text, heads, &mut self.block)?;
+        self.blocks.push_full(self.alloc, &mut self.block)?;
         self.last.truncate(0);
         self.last.extend(text)?;
         let sums = term_sums(heads);
@@ -73,11 +83,21 @@ impl SpelledTerms {
         Ok(())
     }
 
-    /// The bytes of the terms.
-    pub(crate) fn as_slice(&self) -> &[u8]
-        ensures { result.now ≡ self.now.bytes }
+    /// How many bytes the terms have, and 2^64 - 1 where they have more.
+    pub(crate) fn len(&self) -> u64
+        ensures { result ≡ min (length self.now.bytes) (2 ^ 64 - 1) }
     {
-        self.bytes.as_slice()
+        self.blocks.len().saturating_add(self.block.len() as u64)
+    }
+
+    /// Appends the bytes of the terms to a file, unless writing it failed before. The answer is whether
+    /// it failed.
+    pub(crate) fn append<C: Cabinet>(&self, failed: bool, files: &mut C, name: &str) -> bool
+        ensures { (start : C) (text : List ℕ) → IsSent C.Cabinet start files.old name.now failed text
+            → IsSent C.Cabinet start files.new name.now result (text ++ self.now.bytes) }
+    {
+        let failed = append_blocks(&self.blocks, failed, files, name);
+        append(self.block.as_slice(), failed, files, name)
     }
 
     /// The totals of a file of these terms and so many documents.
@@ -95,15 +115,5 @@ impl SpelledTerms {
             postings: self.postings,
             greatest: self.greatest,
         }
-    }
-}
-
-/// An empty row that has room for so many bytes, or for none yet where they aren't given.
-fn roomy_row(alloc: Global, room: usize) -> Row<u8>
-    ensures { result ≡ [] }
-{
-    match Row::with_room(alloc, room) {
-        Ok(row) => row,
-        Err(_) => Row::new(alloc),
     }
 }

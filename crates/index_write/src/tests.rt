@@ -10,8 +10,8 @@ ghost use Rattle.jass_base.specs.Terms.{RisesTo, HasTermBelow, greatest_of, grea
 
 use crate::pieces::{Pieces, put_text, send};
 use crate::{
-    IndexWriter, PayloadHead, SaveFault, TermFault, TermHeads, index_bytes, payload_heads, totals,
-    write_index,
+    Blocks, IndexWriter, PayloadHead, SaveFault, SpelledNames, SpelledTerms, TermFault, TermHeads,
+    index_bytes, payload_heads, totals, write_index, write_parts,
 };
 use jass_base::{
     Cabinet, ImpactIndex, MemCabinet, NoMemory, Row, Segment, TermSegments, Text, Totals,
@@ -99,6 +99,26 @@ fn files_are_written_term_by_term(rt: HostRuntime) {
 }
 
 #[test]
+fn files_are_written_of_spelled_parts(rt: HostRuntime) {
+    let alloc = rt.alloc();
+    let totals = Totals {
+        docs: 3,
+        terms: 1,
+        postings: 3,
+        greatest: 9,
+    };
+    let table: [(&[u64], Result<Totals, SaveFault>, &[u8]); 4] = [
+        (&[], Ok(totals), &SMALL),
+        (&[0], Err(SaveFault::WriteFault), b"old"),
+        (&[2], Err(SaveFault::WriteFault), &SMALL[..40]),
+        (&[4], Err(SaveFault::WriteFault), &SMALL[..100]),
+    ];
+    for (bad, answer, content) in table {
+        assert!(&rt; joins_parts(alloc, bad, answer, content).is_ok_and(|same| same));
+    }
+}
+
+#[test]
 fn long_texts_go_through(rt: HostRuntime) {
     let alloc = rt.alloc();
     let table: [(&[u64], bool, usize); 4] = [
@@ -178,6 +198,44 @@ fn streams(
     let segments = falling(alloc)?;
     let written = streamed(alloc, segments.as_slice(), &mut files);
     Ok(written == answer && files.content("i") == Some(content))
+}
+
+/// The same for a file of the three names, the term `a` and its payloads.
+fn joins_parts(
+    alloc: Global,
+    bad: &[u64],
+    answer: Result<Totals, SaveFault>,
+    content: &[u8],
+) -> Result<bool, NoMemory> {
+    let mut bad_writes = Row::new(alloc);
+    bad_writes.extend(bad)?;
+    let mut files = MemCabinet::new(alloc, Row::new(alloc), bad_writes);
+    files.store("i", b"old")?;
+    let names = spelled_names(alloc)?;
+    let mut terms = SpelledTerms::new(alloc);
+    terms.push("a", &[head(9), head(5), head(1)])?;
+    let payloads = one_block(alloc)?;
+    let written = write_parts(alloc, &names, &terms, &payloads, &mut files, "i");
+    Ok(written == answer && files.content("i") == Some(content))
+}
+
+/// The payloads of the term `a`.
+fn one_block(alloc: Global) -> Result<Blocks, NoMemory> {
+    let mut block = Row::new(alloc);
+    block.extend(&SMALL[100..])?;
+    let mut payloads = Blocks::new(alloc);
+    payloads.push_full(alloc, &mut block)?;
+    payloads.push(block)?;
+    Ok(payloads)
+}
+
+/// The three names.
+fn spelled_names(alloc: Global) -> Result<SpelledNames, NoMemory> {
+    let mut names = SpelledNames::with_room(alloc, 18);
+    names.push("d0")?;
+    names.push("d1")?;
+    names.push("d2")?;
+    Ok(names)
 }
 
 /// Whether one segment on three heads is answered so, and the file left with its front.

@@ -1,64 +1,65 @@
 //! An index file that is written in one call.
 
-ghost use Rattle.std.specs.Prelude.{◌≡◌, ◌≤◌, [], ◌++◌, false, All, List, length, IfErr, IfOk, IsErrOf, OnErr, OnOk};
-ghost use Rattle.jass_base.specs.Limits.{IsName};
+ghost use Rattle.std.specs.Prelude.{◌≡◌, ◌<◌, ◌≤◌, [], ◌++◌, ◌+◌, ◌-◌, ◌^◌, false, List, ℕ, length, min, IfErr, IfOk, IsErrOf, OnErr, OnOk};
 ghost use Rattle.jass_base.specs.Outside.{HasCause, Rose, Sets};
 ghost use Rattle.index_layout.specs.Heads.{TermHeads as EntryData};
-ghost use Rattle.index_layout.specs.Layout.{file_length, front_bytes, names_bytes};
+ghost use Rattle.index_layout.specs.Layout.{file_length, front_bytes};
 ghost use Rattle.index_write.specs.Private.Front.{first_bytes};
 ghost use Rattle.index_write.specs.Private.Pieces.{IsSent};
 ghost use Rattle.index_write.specs.Saving.{LeavesPrefix, Untouched};
-ghost use Rattle.index_write.specs.Spelled.{HasParts};
-ghost use Rattle.index_write.specs.Streaming.{AreNames, Unbegun, entries_totals};
+ghost use Rattle.index_write.specs.Spelled.{HasNames, HasParts};
+ghost use Rattle.index_write.specs.Streaming.{Unbegun, entries_totals};
 ghost use Rattle.jass_base.specs.declared.limits.TheConstants.{LONGEST_FILE};
 
+use crate::blocks::{Blocks, append_blocks};
 use crate::bytes::put_numbers;
 use crate::fault::SaveFault;
 use crate::laws::entries_are_small;
-use crate::lengths::names_len;
-use crate::pieced_front::put_names;
-use crate::pieces::{Pieces, put, send_behind};
+use crate::pieces::append;
+use crate::spelled_names::SpelledNames;
 use crate::spelled_terms::SpelledTerms;
 use jass_base::limits::LONGEST_FILE;
-use jass_base::{Cabinet, Failed, NoMemory, Row, Text, Totals};
+use jass_base::{Cabinet, Failed, NoMemory, Row, Totals};
 use std::alloc::Global;
 
-/// Makes the file of a name the index file of names, spelled terms and payloads, and gives its totals.
+/// Makes the file of a name the index file of spelled names, spelled terms and payloads, and gives
+/// its totals. What it promises holds for the names that were spelled, where a file may have them.
 /// That the payloads are those of the terms is left to the caller. The length is judged, and then all
 /// memory taken, before the file is touched. TooLarge comes exactly where the length is above 2^32,
 /// and a WriteFault only where the files counted one.
 pub fn write_parts<C: Cabinet>(
     alloc: Global,
-    names: &[Text],
+    names: &SpelledNames,
     terms: &SpelledTerms,
-    payloads: &[u8],
+    payloads: &Blocks,
     files: &mut C,
     name: &str,
 ) -> Result<Totals, SaveFault>
-    requires { AreNames names.now }
-    ensures totals { (entries : List EntryData) → HasParts terms.now payloads.now entries
-        → IfOk result (λ totals. totals ≡ entries_totals (length names.now) entries) }
-    ensures content { (entries : List EntryData) → HasParts terms.now payloads.now entries
+    ensures totals { (all : List (List ℕ)) (entries : List EntryData) → HasNames names.now all
+        → HasParts terms.now payloads.now entries
+        → IfOk result (λ totals. totals ≡ entries_totals (length all) entries) }
+    ensures content { (all : List (List ℕ)) (entries : List EntryData) → HasNames names.now all
+        → HasParts terms.now payloads.now entries
         → OnOk result (Sets (C.told files.old) (C.told files.new) name.now
-        (front_bytes names.now entries ++ payloads.now)) }
-    ensures fits { (entries : List EntryData) → HasParts terms.now payloads.now entries
-        → OnOk result (file_length names.now entries ≤ LONGEST_FILE) }
-    ensures fault { (entries : List EntryData) → HasParts terms.now payloads.now entries
-        → IfErr result (Unbegun (file_length names.now entries)) }
+        (front_bytes all entries ++ payloads.now)) }
+    ensures fits { (all : List (List ℕ)) (entries : List EntryData) → HasNames names.now all
+        → HasParts terms.now payloads.now entries → OnOk result (file_length all entries ≤ LONGEST_FILE) }
+    ensures fault { (all : List (List ℕ)) (entries : List EntryData) → HasNames names.now all
+        → HasParts terms.now payloads.now entries → IfErr result (Unbegun (file_length all entries)) }
     ensures untouched { IfErr result (Untouched files.old files.new) }
-    ensures front { (entries : List EntryData) → HasParts terms.now payloads.now entries
+    ensures front { (all : List (List ℕ)) (entries : List EntryData) → HasNames names.now all
+        → HasParts terms.now payloads.now entries
         → OnErr result (LeavesPrefix (C.told files.old) (C.told files.new) name.now
-        (front_bytes names.now entries ++ payloads.now)) }
+        (front_bytes all entries ++ payloads.now)) }
     ensures cause { IsErrOf result SaveFault.WriteFault
         → Rose (C.write_faults files.old) (C.write_faults files.new) }
     ensures later { C.write_faults files.old ≤ C.write_faults files.new }
     ensures others { C.read_faults files.old ≤ C.read_faults files.new }
 {
     entries_are_small();
-    let totals = terms.totals(names.len() as u32);
-    let bytes = terms.as_slice();
-    let front = 40 + names_len(names) + bytes.len() as u64;
-    let len = front.saturating_add(payloads.len() as u64);
+    let totals = terms.totals(names.len());
+    let docs = names.as_slice();
+    let len = file_len(docs, terms, payloads);
     if len > LONGEST_FILE {
         return Err(SaveFault::TooLarge { length: len });
     }
@@ -66,10 +67,20 @@ pub fn write_parts<C: Cabinet>(
         Ok(first) => first,
         Err(_) => return Err(SaveFault::NoMemory),
     };
-    match put_parts(first.as_slice(), names, bytes, payloads, files, name) {
+    match put_parts(first.as_slice(), docs, terms, payloads, files, name) {
         Ok(()) => Ok(totals),
         Err(_) => Err(SaveFault::WriteFault),
     }
+}
+
+/// How many bytes a file of these names, terms and payloads has.
+fn file_len(names: &[u8], terms: &SpelledTerms, payloads: &Blocks) -> u64
+    ensures len { result
+        ≡ min (40 + length names.now + length terms.now.bytes + length payloads.now) (2 ^ 64 - 1) }
+    ensures few { length names.now + length payloads.now < 2 ^ 63 + 2 ^ 62 + 1 }
+{
+    let front = (40 + names.len() as u64).saturating_add(terms.len());
+    front.saturating_add(payloads.len())
 }
 
 /// The first 40 bytes of a file of so many bytes with these totals.
@@ -84,41 +95,35 @@ fn first_bytes(alloc: Global, totals: &Totals, len: u64) -> Result<Row<u8>, NoMe
 /// Fills a file with first bytes, names, terms and payloads. The answer is whether writing failed.
 fn fill<C: Cabinet>(
     first: &[u8],
-    names: &[Text],
-    terms: &[u8],
-    payloads: &[u8],
+    names: &[u8],
+    terms: &SpelledTerms,
+    payloads: &Blocks,
     files: &mut C,
     name: &str,
 ) -> bool
-    requires first { length first.now ≤ 40 }
-    requires names { All IsName names.now }
     ensures { (start : C) → IsSent C.Cabinet start files.old name.now false []
         → IsSent C.Cabinet start files.new name.now result
-        (first.now ++ (names_bytes names.now ++ (terms.now ++ payloads.now))) }
+        (first.now ++ (names.now ++ (terms.now.bytes ++ payloads.now))) }
 {
-    let mut pieces = Pieces::new();
-    put(first, &mut pieces, files, name);
-    put_names(names, &mut pieces, files, name);
-    send_behind(terms, &mut pieces, files, name);
-    send_behind(payloads, &mut pieces, files, name);
-    pieces.failed()
+    let failed = append(first, false, files, name);
+    let failed = append(names, failed, files, name);
+    let failed = terms.append(failed, files, name);
+    append_blocks(payloads, failed, files, name)
 }
 
 /// Makes first bytes, names, terms and payloads the content of a file.
 fn put_parts<C: Cabinet>(
     first: &[u8],
-    names: &[Text],
-    terms: &[u8],
-    payloads: &[u8],
+    names: &[u8],
+    terms: &SpelledTerms,
+    payloads: &Blocks,
     files: &mut C,
     name: &str,
 ) -> Result<(), Failed>
-    requires first { length first.now ≤ 40 }
-    requires names { All IsName names.now }
     ensures ok { OnOk result (Sets (C.told files.old) (C.told files.new) name.now
-        (first.now ++ (names_bytes names.now ++ (terms.now ++ payloads.now)))) }
+        (first.now ++ (names.now ++ (terms.now.bytes ++ payloads.now)))) }
     ensures err { OnErr result (LeavesPrefix (C.told files.old) (C.told files.new) name.now
-        (first.now ++ (names_bytes names.now ++ (terms.now ++ payloads.now)))) }
+        (first.now ++ (names.now ++ (terms.now.bytes ++ payloads.now)))) }
     ensures cause { HasCause (C.write_faults files.old) (C.write_faults files.new) result }
     ensures others { C.read_faults files.old ≤ C.read_faults files.new }
 {

@@ -1,15 +1,15 @@
 -- How many bytes a payload has.
 use Rattle.shared_lemmas.proofs.Common.{◌≡◌, ℕ, zero, suc, ◌*◌, ◌≤◌, List, [], ◌∷◌, length, take, drop, true, refl, arith, ◌/◌, ◌<◌, nat_le, le-leb, AllByRecursion, div-eq_of_lt}
-use Rattle.std.proofs.Common.{length-append}
+use Rattle.std.proofs.Common.{◌++◌, ◌-◌, ap, length-append}
 use Rattle.jass_base.specs.Gaps.{AreDocs, gaps_of, spelled_gaps}
 use Rattle.jass_base.proofs.Gaps.{length-gaps_from}
 use Rattle.jass_base.specs.Wire.{short_varint}
 use Rattle.codec_packed.specs.Packing.{packed_block, packed_gaps}
 use Rattle.codec_simple8.specs.Simple8.{selector_of, spelled_words}
 use Rattle.codec_simple8.proofs.WordParts.{next_length}
-use Rattle.segment_codecs.specs.Codecs.{payload_size, shorter}
+use Rattle.segment_codecs.specs.Codecs.{chosen_codec, payload_size, shorter}
 use Rattle.segment_codecs.specs.declared.codec.Codec.{Codec}
-use Rattle.segment_codecs.specs.declared.codec.Codec.TheVariants.{Simple8, Varbyte, Packed}
+use Rattle.segment_codecs.specs.declared.codec.Codec.TheVariants.{Bitmap, Simple8, Varbyte, Packed}
 
 -- a shortest varint of a gap has one to four bytes
 abbrev pub FewBytes : ℕ → Type 0
@@ -45,3 +45,15 @@ pub words_no_shorter : (d : ℕ) (docs : List ℕ) (codec : Codec) → AreDocs d
 words_no_shorter d docs codec are low =
     let no_less : nat_le (payload_size d docs codec) (payload_size d docs Simple8) ≡ true = le-leb (payload_size d docs codec) (payload_size d docs Simple8) (omega (arith, low, simple8_some d docs are)) in
     rw no_less refl
+
+-- gaps without a full block are chosen where neither the bitmap nor words have fewer bytes
+pub few_gaps : (d : ℕ) (docs : List ℕ) → length docs < 128 → payload_size d docs Varbyte ≤ payload_size d docs Bitmap → payload_size d docs Varbyte ≤ payload_size d docs Simple8 → chosen_codec d docs ≡ Varbyte
+few_gaps d docs few bitmap words =
+    let no_packed : nat_le (payload_size d docs Varbyte) (payload_size d docs Packed) ≡ true = le-leb (payload_size d docs Varbyte) (payload_size d docs Packed) (omega (arith, packed_same d docs few)) in
+    let no_bitmap : nat_le (payload_size d docs Varbyte) (payload_size d docs Bitmap) ≡ true = le-leb (payload_size d docs Varbyte) (payload_size d docs Bitmap) bitmap in
+    let no_words : nat_le (payload_size d docs Varbyte) (payload_size d docs Simple8) ≡ true = le-leb (payload_size d docs Varbyte) (payload_size d docs Simple8) words in
+    rw no_packed (rw no_bitmap (rw no_words refl))
+
+-- bytes with a payload behind them are as much longer
+pub grown : (old new payload : List ℕ) → new ≡ old ++ payload → length new - length old ≡ length payload
+grown old new payload is = omega (arith, ap length is, length-append old payload)

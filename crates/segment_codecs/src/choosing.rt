@@ -10,7 +10,7 @@ use crate::payloads::length;
 const BLOCK: usize = 128;
 
 /// How many bytes a word of Simple-8b has.
-const WORD: u64 = 8;
+pub(crate) const WORD: u64 = 8;
 
 /// The codec whose payload of the documents is the shortest, in an index of `d` documents. Of equal
 /// ones it is the one with the lowest number.

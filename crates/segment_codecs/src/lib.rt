@@ -9,6 +9,7 @@ mod cursor;
 mod handing;
 pub mod laws;
 mod payloads;
+mod putting;
 #[cfg(test)]
 mod tests;
 
@@ -17,3 +18,4 @@ pub use codec::Codec;
 pub use cursor::SegmentCursor;
 pub use handing::{check_front_into, check_into};
 pub use payloads::{check, encode, length};
+pub use putting::put_shortest;

@@ -3,7 +3,7 @@ ghost use Rattle.std.specs.Prelude.{◌≡◌, IsTrue};
 ghost use Rattle.jass_base.specs.Gaps.{AreDocs};
 ghost use Rattle.segment_codecs.specs.Codecs.{payload_of};
 
-use crate::{Codec, SegmentCursor, check, choose, encode, length};
+use crate::{Codec, SegmentCursor, check, choose, encode, length, put_shortest};
 use jass_base::{PayloadFault, Row};
 
 const MOST_DOCS: u32 = 67_108_864;
@@ -64,6 +64,19 @@ fn lists_take_their_codecs(rt: HostRuntime) {
             ] == sizes
         );
     }
+}
+
+#[test]
+fn a_few_documents_are_put_as_varints(rt: HostRuntime) {
+    let docs = [300, 301, 20_000];
+    let mut row = Row::new(rt.alloc());
+    assert!(&rt; are_docs(&docs, 1_048_576));
+    let Ok(choice) = put_shortest(&docs, 1_048_576, &mut row) else {
+        assert!(&rt; false);
+        return;
+    };
+    assert!(&rt; (choice.codec, choice.size) == (Codec::Varbyte, 6));
+    assert!(&rt; row.as_slice() == [0xac, 0x02, 0x00, 0xf2, 0x99, 0x01].as_slice());
 }
 
 #[test]

@@ -1,10 +1,9 @@
 -- A file that was judged, as it is read again.
 use Rattle.std.specs.Prelude.{ℕ, ◌≡◌, ◌<◌, ◌≤◌, ◌^◌, List, [], map, drop, length, filter, All, AllPairs, Result, Ok, Err, nat_lt, Bool}
 use Rattle.std.specs.List.{sum_by}
-use Rattle.std.specs.List.Sorted.{IsNonDecreasingBy, IsPermutation}
+use Rattle.std.specs.List.Sorted.{IsPermutation}
 use Rattle.jass_base.specs.Ciff.{DocData, ListData, CollectionData}
 use Rattle.jass_base.specs.Terms.{BytesRise}
-use Rattle.jass_base.specs.declared.doc_record.DocRecord.{DocRecord}
 use Rattle.ciff_read.specs.declared.refusal.CiffRefusal.{CiffRefusal}
 use Rattle.ciff_read.specs.Assembling.{IsKeptList}
 use Rattle.ciff_read.specs.Reading.{list_at, message_at, read_ciff}
@@ -15,14 +14,6 @@ use Rattle.index_write.specs.Streaming.{AreNames}
 use Rattle.index_import.specs.declared.list_entry.ListEntry.{ListEntry}
 use Rattle.index_import.specs.Private.Surveying.{AreGiven, HoldsMost, KeepsAll, kept_entry}
 use Rattle.jass_base.specs.declared.limits.TheConstants.{MOST_DOCUMENTS, MOST_POSTINGS, MOST_TERMS}
-
--- documents by rising numbers: their names and their lengths
-pub record AreInOrder (docs : List (ℕ × DocRecord)) (names : List (List ℕ)) (lengths : List ℕ) : Type 0 where
-  pub ordered : List (ℕ × DocRecord)
-  pub same : IsPermutation docs ordered
-  pub rising : IsNonDecreasingBy (λ (x : ℕ × DocRecord). x.0) ordered
-  pub names_are : names ≡ map (λ (x : ℕ × DocRecord). x.1.name) ordered
-  pub lengths_are : lengths ≡ map (λ (x : ℕ × DocRecord). x.1.length) ordered
 
 -- what holds of an outline whether or not the content is told
 pub record IsOutlined (w : WalkView) (names : List (List ℕ)) (lengths : List ℕ) (total : ℕ) (lists : List ListEntry) : Type 0 where

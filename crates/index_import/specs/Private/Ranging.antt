@@ -1,12 +1,15 @@
 -- The range of the weights of the lists of a file that was judged.
-use Rattle.std.specs.Prelude.{ℕ, List}
+use Rattle.std.specs.Prelude.{ℕ, ◌≡◌, ◌≤◌, List, false}
 use Rattle.weights.specs.declared.quantizing.Bits.{Bits}
 use Rattle.weights.specs.declared.quantizing.Bits.TheVariants.{Raw, Of}
 use Rattle.weights.specs.declared.quantizing.Range.{Range}
 use Rattle.weights.specs.Quantizing.{empty_range}
+use Rattle.weights.specs.declared.weighting.Rule.{Rule}
+use Rattle.impact_segments.specs.Bounds.{can_widen}
 use Rattle.impact_segments.specs.ListTerms.{widened_by}
 use Rattle.index_import.specs.Private.Outlining.{lists_there}
 use Rattle.index_import.specs.declared.list_entry.ListEntry.{ListEntry}
+use Rattle.index_import.specs.declared.passed_sizes.ListSize.{ListSize}
 use Rattle.index_import.specs.declared.weighing.Weighing.{Weighing}
 
 -- the range of the weights of all lists that entries name
@@ -17,3 +20,7 @@ widened_there content docs w lists = widened_by w.rule w.lengths.now w.total emp
 abbrev pub range_there : List ℕ → ℕ → Weighing → Bits → List ListEntry → Range
 range_there content docs w Raw lists = empty_range
 range_there content docs w (Of b) lists = widened_there content docs w lists
+
+-- no list of this size, in so many documents with these ends of their norms, can widen the range
+abbrev pub CannotWiden : Rule → ℕ → Range → Range → ListSize → Type 0
+CannotWiden rule docs norms range size = 1 ≤ size.count → can_widen rule docs size.count size.most norms range ≡ false

@@ -3,10 +3,8 @@ use Rattle.std.specs.Prelude.{ℕ, ◌≡◌, ◌≢◌, ◌<◌, ◌≤◌, Lis
 use Rattle.std.specs.List.{AllZip}
 use Rattle.std.specs.List.Sorted.{IsStrictlyIncreasing}
 use Rattle.jass_base.specs.Ciff.{FitsList, ListData}
-use Rattle.jass_base.specs.CiffViews.{doc_data}
 use Rattle.jass_base.specs.Outside.{Files, ForContent, IsMissing}
 use Rattle.jass_base.specs.Postings.{HasTfInRange, docs_of}
-use Rattle.jass_base.specs.declared.doc_record.DocRecord.{DocRecord}
 use Rattle.jass_base.specs.declared.posting.Posting.{Posting}
 use Rattle.ciff_read.specs.declared.refusal.CiffFault.{CiffFault}
 use Rattle.ciff_read.specs.Assembling.{Parts, IsKeptList, collection_of}
@@ -47,10 +45,6 @@ KeepsAll docs e = 1 ≤ length (entry_postings e) → AreOfList docs e.place.cou
 abbrev pub has_some : KeptList → Bool
 has_some k = nat_lt 0 k.count
 
--- a document's record with its number
-abbrev pub numbered : ℕ × DocRecord → NumberedDoc
-numbered x = record { number = x.0; doc = doc_data x.1 }
-
 -- a walk over the file of a name that can be asked for lists again
 pub record IsReady (files : Option Files) (name : List ℕ) (w : WalkView) : Type 0 where
   pub there : ¬ IsMissing files name
@@ -60,7 +54,7 @@ pub record IsReady (files : Option Files) (name : List ℕ) (w : WalkView) : Typ
   pub ranges : KeepsRanges w
 
 -- a file was read to its end: all lists were given, whose terms differ, and all documents; kept are these, and the lists with postings, some of them whole
-pub record AreKept (w : WalkView) (docs : List (ℕ × DocRecord)) (lists : List ListEntry) : Type 0 where
+pub record AreKept (w : WalkView) (docs : List NumberedDoc) (lists : List ListEntry) : Type 0 where
   pub ranges : KeepsRanges w
   pub lists_are : map kept_entry lists ≡ filter has_some w.kept
   pub differ : AllPairs (λ (a b : List ℕ). a ≢ b) (terms_kept w.kept)
@@ -77,16 +71,16 @@ pub record HoldsMost (content : List ℕ) (docs : ℕ) (e : ListEntry) : Type 0 
   pub kept : 1 ≤ length (entry_postings e) → entry_postings e ≡ list.postings
 
 -- what is kept is that of the collection that reading the content gives
-pub record IsSurvey (content : List ℕ) (w : WalkView) (docs : List (ℕ × DocRecord)) (entries : List ListEntry) : Type 0 where
+pub record IsSurvey (content : List ℕ) (w : WalkView) (docs : List NumberedDoc) (entries : List ListEntry) : Type 0 where
   pub parts : Parts
   pub read : read_ciff content ≡ Ok (collection_of parts)
-  pub records : parts.records ≡ map numbered docs
-  pub once : AllPairs (λ (a b : ℕ × DocRecord). a.0 ≢ b.0) docs
+  pub records : parts.records ≡ docs
+  pub once : AllPairs (λ (a b : NumberedDoc). a.number ≢ b.number) docs
   pub lists : AllZip (IsKeptList content w.docs) w.kept parts.lists
   pub most : All (HoldsMost content w.docs) entries
 
 abbrev pub Surveys : List ℕ → Result Survey CiffFault → Type 0
-Surveys content (Ok s) = IsSurvey content s.walk s.docs.items s.lists.items
+Surveys content (Ok s) = IsSurvey content s.walk s.docs s.lists.items
 Surveys content (Err fault) = FailsReading fault (read_ciff content)
 
 abbrev pub SurveyTold : Option Files → List ℕ → Result Survey CiffFault → Type 0

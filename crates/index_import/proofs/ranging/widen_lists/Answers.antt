@@ -1,13 +1,29 @@
 -- Each list that is read again widens the range, and each that isn't would leave it.
-use Rattle.std.proofs.Common.{◌≡◌, ℕ, ◌≤◌, ◌^◌, List, refl, sym, subst, ◌∙◌, arith, All}
-use Rattle.index_import.proofs.Below.{HasDocsBelow, KeptList, HasKept, LeavesWalk, for_one, Of, Range}
+use Rattle.std.proofs.lemmas.List.Elements.{All-contains, All-replicate, All-set}
+use Rattle.std.proofs.Common.{rules, ◌≡◌, ℕ, ◌≤◌, ◌^◌, List, length, refl, sym, subst, ◌∙◌, arith, All}
+use Rattle.index_import.proofs.Below.{HasDocsBelow, KeptList, HasKept, LeavesWalk, for_one, Of, Range, weights_in}
 use Rattle.index_import.specs.Private.Outlining.{list_there}
+use Rattle.index_import.specs.Private.Ranging.{CannotWiden}
 use Rattle.index_import.specs.Private.Surveying.{HoldsMost, IsReady, KeepsAll}
 use Rattle.index_import.specs.declared.list_entry.ListEntry.{ListEntry}
 use Rattle.index_import.proofs.Again.{ready_then, told_now, told_then}
-use Rattle.index_import.proofs.Ready.{leaves_then}
-use Rattle.index_import.proofs.Widening.{norms_cut, widens_more, widens_same}
+use Rattle.index_import.proofs.Ready.{leaves_same, leaves_then}
+use Rattle.index_import.proofs.Widening.{norms_cut, passed_still, widens_more, widens_same}
 use Rattle.index_import.proofs.ranging.widen_lists.Goals as goal
+
+pub loop-entry-init : goal.loop-entry-init
+loop-entry-init g c =
+    let w = c.args.weighing in
+    record {
+      ready = c.requires.ready;
+      leaves = leaves_same c.args.walk.now;
+      range = search rules;
+      passed = subst (All (CannotWiden w.rule (length w.norms.now) c.norm_ends-ends.result c.new-range.result)) (sym c.new-passed.ensures)
+          (All-replicate (CannotWiden w.rule (length w.norms.now) c.norm_ends-ends.result c.new-range.result) 64 (record { count = 0; most = 0 }) (λ some. absurd (omega (arith, some))));
+      stays = refl;
+      later = omega arith;
+      others = omega arith;
+    }
 
 pub can_widen-requires-clause-cut : goal.can_widen-requires-clause-cut
 can_widen-requires-clause-cut g c = norms_cut c.args.weighing c.args.weighing.norms.now refl
@@ -46,6 +62,9 @@ loop-entry-preserved g c =
           (told_then (g.C.Cabinet.told c.args.files.now) (g.C.Cabinet.told c.loop-entry.files) c.args.walk.now c.loop-entry.walk
           (λ docs content. c.in-Ok.list.postings ≡ (list_there content docs c.entry-item.result.place.at).postings) before.stays before.leaves (c.in-Ok.ensures.told))
           c.widen_by_norms.ensures before.range;
+      passed = subst (λ (r : Range). All (CannotWiden c.args.weighing.rule (length c.args.weighing.norms.now) c.norm_ends-ends.result r) c.loop-entry.passed) (sym c.widen_by_norms.ensures)
+          (passed_still c.args.weighing.rule (length c.args.weighing.norms.now) c.norm_ends-ends.result c.loop-entry.range
+          (weights_in c.args.weighing.rule c.args.weighing.lengths.now c.args.weighing.total c.in-Ok.list.postings) c.loop-entry.passed before.passed);
       stays = c.entry_list.ensures.stays ∙ before.stays;
       later = omega (arith, c.entry_list.ensures.later, before.later);
       others = omega (arith, c.entry_list.ensures.others, before.others);
@@ -60,6 +79,26 @@ loop-entry-preserved-then-not-can_widen g c =
       range = widens_same c.widened_lists_have_the_range.ensures.one_more c.args.walk.now.docs c.args.weighing c.args.lists.now c.loop-entry.entry-index c.entry-item.result c.loop-entry-test.true c.entry-item.is
           c.lists_inside_leave_the_range.ensures (g.C.Cabinet.told c.args.files.now) c.args.walk.now.name c.args.weighing.norms.now c.norm_ends-ends.result c.loop-entry.range c.can_widen.result
           c.requires.docs c.requires.told refl c.norm_ends-ends.ensures c.can_widen.ensures c.if-not-can_widen.true before.range;
+      passed = subst (All (CannotWiden c.args.weighing.rule (length c.args.weighing.norms.now) c.norm_ends-ends.result c.loop-entry.range)) (sym c.keep.ensures.1)
+          (All-set (CannotWiden c.args.weighing.rule (length c.args.weighing.norms.now) c.norm_ends-ends.result c.loop-entry.range) c.loop-entry.passed c.keep.ensures.0 _ (λ some. sym c.can_widen.ensures ∙ c.if-not-can_widen.true) before.passed);
+      stays = before.stays;
+      later = before.later;
+      others = before.others;
+    }
+
+pub loop-entry-preserved-then-has : goal.loop-entry-preserved-then-has
+loop-entry-preserved-then-has g c =
+    let before = c.loop-entry.invariant in
+    let e : ListEntry = c.entry-item.result in
+    let w = c.args.weighing in
+    record {
+      ready = before.ready;
+      leaves = before.leaves;
+      range = widens_same c.widened_lists_have_the_range.ensures.one_more c.args.walk.now.docs w c.args.lists.now c.loop-entry.entry-index e c.loop-entry-test.true c.entry-item.is
+          c.lists_inside_leave_the_range.ensures (g.C.Cabinet.told c.args.files.now) c.args.walk.now.name w.norms.now c.norm_ends-ends.result c.loop-entry.range _
+          c.requires.docs c.requires.told refl c.norm_ends-ends.ensures refl
+          (All-contains (CannotWiden w.rule (length w.norms.now) c.norm_ends-ends.result c.loop-entry.range) c.loop-entry.passed _ before.passed (c.has.ensures c.if-has.true) e.place.some) before.range;
+      passed = before.passed;
       stays = before.stays;
       later = before.later;
       others = before.others;

@@ -11,9 +11,9 @@ invariant-pieces g l = record {
   others : g.C.Cabinet.write_faults l.fn.files ≤ g.C.Cabinet.write_faults l.files;
   there : ¬ IsMissing (g.C.Cabinet.told l.fn.files) l.name;
   stands : StandsTold (g.C.Cabinet.told l.fn.files) l.walk;
-  holds : Holds l.name l.walk l.docs.items l.lists.items;
+  holds : Holds l.name l.walk l.docs l.lists.items;
   keeps : All (KeepsAll l.walk.docs) l.lists.items;
-  follows : ForContent (g.C.Cabinet.told l.fn.files) l.name (λ (content : List ℕ). Follows content l.walk l.docs.items);
+  follows : ForContent (g.C.Cabinet.told l.fn.files) l.name (λ (content : List ℕ). Follows content l.walk l.docs);
   most : ForContent (g.C.Cabinet.told l.fn.files) l.name (λ (content : List ℕ). All (HoldsMost content l.walk.docs) l.lists.items);
 }
 

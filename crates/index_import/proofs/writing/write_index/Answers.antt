@@ -1,4 +1,4 @@
-use Rattle.shared_lemmas.proofs.Common.{ℕ, ◌≡◌, ◌<◌, ◌-◌, List, [], ◌∷◌, ◌++◌, length, map, take, get_or, suc, Option, None, Err, refl, sym, ap, ap₂, subst, ◌∙◌, ◌⊎◌, arith, append-nil, append_assoc, All, AllPairs, into_iter_items, length-append, length-map}
+use Rattle.shared_lemmas.proofs.Common.{ℕ, ◌≡◌, ◌<◌, ◌-◌, List, [], ◌∷◌, ◌++◌, length, map, take, get_or, suc, Option, None, Err, refl, sym, ap, ap₂, subst, ◌∙◌, ◌⊎◌, arith, append-nil, append_assoc, All, into_iter_items, length-append, length-map}
 use Rattle.index_import.proofs.Below.{Extends, Files, ForContent, Sets, content_there, CiffFault, KeptList, HasKept, SegmentData, TermData, segment_data, front_bytes, chosen_heads, chosen_payloads, table_payloads, WriterView, change_of, entries_totals}
 use Rattle.index_import.proofs.Below.{entry_data, next_heads, Unappended, TermFault, Bits, Range}
 use Rattle.ciff_read.specs.declared.refusal.CiffFault.TheVariants as reading
