@@ -21,7 +21,7 @@ impl ListSize {
     fn place(self) -> usize
         ensures { result < PLACES }
     {
-        (self.count.wrapping_add(self.most.wrapping_mul(8)) % 64) as usize
+        self.count.wrapping_add(self.most.wrapping_mul(8)) as usize % PLACES
     }
 }
 
