@@ -10,10 +10,10 @@ pub record Place (docs : List ℕ) (i least : ℕ) : Type 0 where
 abbrev pub text_from : List ℕ → ℕ → ℕ → List ℕ
 text_from docs i least = spelled_gaps (gaps_from least (drop i docs))
 
--- what was put behind the old bytes
-pub record PutSoFar (docs : List ℕ) (i least : ℕ) (old out : List ℕ) : Type 0 where
+-- what was put behind the old bytes, and what is gathered to be put next
+pub record PutSoFar (docs : List ℕ) (i least : ℕ) (old out gathered : List ℕ) : Type 0 where
   pub place : Place docs i least
-  pub text : out ++ text_from docs i least ≡ old ++ spelled_gaps (gaps_of docs)
+  pub text : out ++ gathered ++ text_from docs i least ≡ old ++ spelled_gaps (gaps_of docs)
   pub kept : take (length old) out ≡ old
   pub long : length old ≤ length out
 

@@ -9,4 +9,5 @@ pub mod Members
 pub mod Reading
 pub mod Runs
 pub mod ShortGaps
+pub mod ShortSpelling
 pub mod VarbyteCursors

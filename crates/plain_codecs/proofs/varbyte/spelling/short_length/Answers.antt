@@ -1,7 +1,7 @@
 -- A gap of documents has no fifth byte.
 use Rattle.shared_lemmas.proofs.Common.{refl, arith, nat_tests}
 use Rattle.jass_base.proofs.GapBytes.{length_sum}
-use Rattle.plain_codecs.proofs.varbyte.short_length.Goals as goal
+use Rattle.plain_codecs.proofs.varbyte.spelling.short_length.Goals as goal
 
 pub returns-clause-is : goal.returns-clause-is
 returns-clause-is c =
