@@ -10,6 +10,7 @@ ghost use Rattle.index_write.specs.Private.Table.{table_of};
 ghost use Rattle.jass_base.specs.declared.limits.TheConstants.{GREATEST_IMPACT, LONGEST_NAME, LONGEST_TERM};
 
 use crate::head::PayloadHead;
+use crate::head_row::HeadRow;
 use crate::laws::terms_have_documents;
 use crate::lengths::shared_len;
 use jass_base::{ImpactIndex, NoMemory, Row, Text};
@@ -60,13 +61,18 @@ pub fn spelled_head(head: &PayloadHead) -> [u8; 11]
     ]
 }
 
-/// Appends the heads of a term.
+/// Appends the heads of a term behind their count.
 fn put_heads(heads: &[PayloadHead], out: &mut Row<u8>) -> Result<(), NoMemory>
-    ensures { OnOk result (out.new ≡ out.old ++ heads_bytes (map head_data heads.now)) }
+    requires { length heads.now < 2 ^ 32 }
+    ensures { OnOk result (out.new
+        ≡ out.old ++ (u32_bytes (length heads.now) ++ heads_bytes (map head_data heads.now))) }
 {
+    let mut waiting = HeadRow::new();
+    waiting.push(&(heads.len() as u32).to_le_bytes());
     for head in heads {
-        out.extend(&spelled_head(head))?;
+        waiting.put_head(head, out)?;
     }
+    waiting.send(out)?;
     Ok(())
 }
 
@@ -78,8 +84,9 @@ fn put_term(before: &[u8], term: &[u8], out: &mut Row<u8>) -> Result<(), NoMemor
 {
     let shared = shared_len(before, term);
     let rest = &term[shared..];
-    out.extend(&(shared as u16).to_le_bytes())?;
-    out.extend(&(rest.len() as u16).to_le_bytes())?;
+    let kept = (shared as u16).to_le_bytes();
+    let added = (rest.len() as u16).to_le_bytes();
+    out.extend(&[kept[0], kept[1], added[0], added[1]])?;
     out.extend(rest)?;
     Ok(())
 }
@@ -97,7 +104,6 @@ pub fn put_entry(
         ++ (u32_bytes (length heads.now) ++ heads_bytes (map head_data heads.now)))) }
 {
     put_term(before, term, out)?;
-    out.extend(&(heads.len() as u32).to_le_bytes())?;
     put_heads(heads, out)?;
     Ok(())
 }

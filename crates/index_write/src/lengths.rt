@@ -38,8 +38,9 @@ pub fn shared_len(before: &[u8], term: &[u8]) -> usize
     ensures shared { result ≡ shared_with before.now term.now }
     ensures within { result ≤ length term.now }
 {
+    let most = before.len().min(term.len());
     let mut shared = 0;
-    'bytes: while shared < before.len() && shared < term.len() && before[shared] == term[shared] {
+    'bytes: while shared < most && before[shared] == term[shared] {
         shared += 1;
     }
     shared

@@ -9,6 +9,7 @@ mod fault;
 mod file;
 mod front;
 mod head;
+mod head_row;
 pub mod laws;
 mod lengths;
 mod payloads;

@@ -5,8 +5,8 @@ use Rattle.index_write.proofs.lengths.shared_len.Given as goal
 abbrev pub invariant-bytes : goal.invariant-bytes
 invariant-bytes l = record {
   counted : l.shared + shared_with (drop l.shared l.before) (drop l.shared l.term) ≡ shared_with l.before l.term;
-  within : (l.shared ≤ length l.before) × (l.shared ≤ length l.term);
+  within : l.shared ≤ l.most;
 }
 
 abbrev pub decreases-bytes : goal.decreases-bytes
-decreases-bytes l = length l.term - l.shared
+decreases-bytes l = l.most - l.shared
