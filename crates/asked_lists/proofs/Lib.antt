@@ -1,0 +1,6 @@
+pub mod Below
+pub mod Lists
+pub mod Places
+pub mod Naming
+pub mod Alike
+pub mod ByTerm
