@@ -1,6 +1,6 @@
 mod Below
 mod Counting
-mod Bounds
+pub mod Bounds
 mod Texts
 mod Memory
 mod Sending
