@@ -14,20 +14,20 @@ use Rattle.asked_lists.proofs.Lists.{filter_mapped, filter_turned, sorted_filter
 abbrev text_of : ListData → List ℕ
 text_of l = l.term
 
-abbrev term_cmp : ListData → ListData → Ordering
+abbrev pub term_cmp : ListData → ListData → Ordering
 term_cmp a b = slice_cmp nat_cmp a.term b.term
 
 term_total : IsTotalOrder term_cmp
 term_total = on_total text_of nat_list_cmp_total
 
-abbrev Differ : ListData → ListData → Type 0
+abbrev pub Differ : ListData → ListData → Type 0
 Differ a b = a.term ≢ b.term
 
 -- the lists of a collection in memory
 pub data_differ : (lists : List PostingsList) → AllPairs DifferInTerm lists → AllPairs Differ (map list_data lists)
 data_differ lists differ = pairs_by_places Differ (map list_data lists) (pairs_map Differ list_data lists (pairs_by_recursion DifferInTerm lists differ))
 
-abbrev by_term : List ListData → List ListData
+abbrev pub by_term : List ListData → List ListData
 by_term lists = sorted term_cmp (lists_in_use lists)
 
 rises : (a b : ListData) → (is_gt (term_cmp a b) ≡ false) × Differ a b → BytesRise a.term b.term
@@ -37,7 +37,7 @@ rises a b h = step (term_cmp a b) refl h.0 where
   step Equal e k = absurd (h.1 (slice_cmp-IsAntisymmetric nat_cmp-IsAntisymmetric a.term b.term e))
   step Greater e k = cc
 
-are_by_term : (c : CollectionData) → AllPairs Differ c.lists → AreByTerm c (by_term c.lists)
+pub are_by_term : (c : CollectionData) → AllPairs Differ c.lists → AreByTerm c (by_term c.lists)
 are_by_term c differ = record {
   same = IsPermutation-sym (lists_in_use c.lists) (by_term c.lists) (sorted_is_permutation term_cmp (lists_in_use c.lists));
   rising = pairs_by_places (λ (a b : ListData). BytesRise a.term b.term) (by_term c.lists)

@@ -4,3 +4,5 @@ pub mod Places
 pub mod Naming
 pub mod Alike
 pub mod ByTerm
+pub mod Segments
+pub mod Sizes
