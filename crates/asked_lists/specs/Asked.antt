@@ -1,9 +1,8 @@
 -- The part of a collection that a query of words asks for: its lists alone. An index of these lists alone answers the query
 -- as that of the whole collection does, where impacts are weights as they stand. This project's.
-use Rattle.std.specs.Prelude.{ℕ, ◌≡◌, Bool, List, length, map, filter, sum_by}
+use Rattle.std.specs.Prelude.{ℕ, ◌≡◌, Bool, List, length, map, filter}
 use Rattle.std.specs.List.{list_any}
 use Rattle.std.specs.Str.{bytes_eq}
-use Rattle.jass_base.specs.declared.postings_list.PostingsList.{PostingsList}
 use Rattle.jass_base.specs.declared.query_term.QueryTerm.{QueryTerm}
 use Rattle.jass_base.specs.Ciff.{ListData, CollectionData}
 use Rattle.ranking_model.specs.Plan.{plan_of}
@@ -23,10 +22,6 @@ asked_lists words lists = filter (λ (l : ListData). is_asked words l.term) list
 -- a collection with these lists alone: its header and its documents stay
 abbrev pub asked_of : CollectionData → List (List ℕ) → CollectionData
 asked_of c words = record { header = c.header; lists = asked_lists words c.lists; docs = c.docs }
-
--- how many postings some lists have together
-abbrev pub postings_in : List PostingsList → ℕ
-postings_in lists = sum_by (λ (l : PostingsList). length l.postings) lists
 
 -- the texts of an index's terms, by number
 abbrev pub term_texts : IndexData → List (List ℕ)

@@ -1,8 +1,8 @@
-ghost use Rattle.std.specs.Prelude.{◌≡◌, ◌≤◌, IfOk, filter, map};
+ghost use Rattle.std.specs.Prelude.{◌≡◌, ◌≤◌, IfOk, filter, length, map, sum_by};
 ghost use Rattle.std.specs.String.{string_bytes};
 ghost use Rattle.jass_base.specs.CiffViews.{collection_data};
 ghost use Rattle.jass_base.specs.declared.postings_list.PostingsList.{PostingsList};
-ghost use Rattle.asked_lists.specs.Asked.{asked_of, is_asked, postings_in};
+ghost use Rattle.asked_lists.specs.Asked.{asked_of, is_asked};
 
 use jass_base::{Collection, NoMemory, PostingsList, Row};
 use std::alloc::Global;
@@ -16,7 +16,8 @@ pub fn asked_collection(
 ) -> Result<Collection, NoMemory>
     ensures asked { IfOk result (λ asked. collection_data asked
         ≡ asked_of (collection_data collection) (map string_bytes words.now)) }
-    ensures few { IfOk result (λ asked. postings_in asked.lists ≤ postings_in collection.lists) }
+    ensures few { IfOk result (λ asked. sum_by (λ (l : PostingsList). length l.postings) asked.lists
+        ≤ sum_by (λ (l : PostingsList). length l.postings) collection.lists) }
 {
     let Collection {
         header,

@@ -8,7 +8,7 @@ ghost use Rattle.weights.specs.declared.quantizing.Bits.{Bits};
 ghost use Rattle.index_layout.specs.View.{index_text};
 ghost use Rattle.impact_segments.specs.Collections.{collection_index};
 ghost use Rattle.asked_lists.specs.Asked.{asked_of};
-ghost use Rattle.asked_lists.specs.Room.{file_room, list_room, name_room};
+ghost use Rattle.asked_lists.specs.Bound.{file_bound, list_bound, name_bound};
 ghost use Rattle.jass_base.specs.declared.limits.TheConstants.{LONGEST_FILE};
 
 use impact_segments::laws::lists_by_term_make_the_index;
@@ -26,36 +26,36 @@ pub fn fits_surely(collection: &Collection) -> bool
     ensures asked { IsTrue result → (rule : Rule) (bits : Bits) (words : List (List ℕ))
         → length (index_text (collection_index rule bits (asked_of (collection_data collection.now) words)))
         ≤ LONGEST_FILE }
-    ensures bound { result ≡ nat_le (file_room collection.now) LONGEST_FILE }
+    ensures bound { result ≡ nat_le (file_bound collection.now) LONGEST_FILE }
 {
     lists_by_term_make_the_index();
     appended_payloads_make_the_text();
     payloads_have_few_bytes();
-    let names = names_room(collection.docs.as_slice());
-    let lists = lists_room(collection.lists.as_slice());
+    let names = names_bound(collection.docs.as_slice());
+    let lists = lists_bound(collection.lists.as_slice());
     names.saturating_add(lists).saturating_add(40) <= LONGEST_FILE
 }
 
 /// The bytes of names with their lengths, as many as 64 bits count.
-fn names_room(docs: &[DocRecord]) -> u64
-    ensures { result ≡ min (sum_by name_room docs.now) (2 ^ 64 - 1) }
+fn names_bound(docs: &[DocRecord]) -> u64
+    ensures { result ≡ min (sum_by name_bound docs.now) (2 ^ 64 - 1) }
 {
-    let mut room: u64 = 0;
+    let mut bytes: u64 = 0;
     for doc in docs {
-        room = room.saturating_add(4 + doc.name.as_str().len() as u64);
+        bytes = bytes.saturating_add(4 + doc.name.as_str().len() as u64);
     }
-    room
+    bytes
 }
 
 /// The bytes that terms, heads and payloads have at most, as many as 64 bits count.
-fn lists_room(lists: &[PostingsList]) -> u64
-    ensures { result ≡ min (sum_by list_room lists.now) (2 ^ 64 - 1) }
+fn lists_bound(lists: &[PostingsList]) -> u64
+    ensures { result ≡ min (sum_by list_bound lists.now) (2 ^ 64 - 1) }
 {
-    let mut room: u64 = 0;
+    let mut bytes: u64 = 0;
     for list in lists {
         let postings = (list.postings.len() as u64).saturating_mul(15);
         let term = 8 + list.term.as_str().len() as u64;
-        room = room.saturating_add(term).saturating_add(postings);
+        bytes = bytes.saturating_add(term).saturating_add(postings);
     }
-    room
+    bytes
 }

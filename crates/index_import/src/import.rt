@@ -12,7 +12,7 @@ use crate::kept_docs::KeptDocs;
 use crate::list_entry::ListEntry;
 use crate::outline::Outline;
 use crate::ranging::read_range;
-use crate::spelling::{posting_count, spell_lists, write_spelled};
+use crate::spelling::{spell_lists, write_spelled};
 use crate::survey::survey_file;
 use crate::weighing::Weighing;
 use crate::writing::write_index;
@@ -131,7 +131,12 @@ fn import_lists<C: Cabinet>(
     )
 }
 
-/// Whether lists have so few postings in all that their payloads are held in memory.
+/// Whether lists have so few postings in all that their payloads are held in memory. Nothing rests on
+/// the answer but memory and time.
 fn are_few(lists: &[ListEntry]) -> bool {
-    posting_count(lists) <= MOST_HELD_POSTINGS
+    let mut postings: u64 = 0;
+    for entry in lists {
+        postings = postings.saturating_add(u64::from(entry.place.count));
+    }
+    postings <= MOST_HELD_POSTINGS
 }

@@ -1,6 +1,6 @@
 //! The terms and the payloads of lists, spelled as an index file has them.
 
-ghost use Rattle.std.specs.Prelude.{ℕ, ◌≡◌, ◌≤◌, ◌^◌, ◌++◌, List, length, map, All, AllPairs, IfErr, IfOk, IsErrOf, OnOk};
+ghost use Rattle.std.specs.Prelude.{ℕ, ◌≡◌, ◌≤◌, ◌++◌, List, length, map, All, AllPairs, IfErr, IfOk, IsErrOf, OnOk};
 ghost use Rattle.std.specs.List.{sum_by};
 ghost use Rattle.jass_base.specs.Gaps.{AreDocs};
 ghost use Rattle.jass_base.specs.Outside.{Rose, ForContent};
@@ -115,17 +115,6 @@ pub(crate) fn spell_lists<C: Cabinet>(
         Err(_) => return Err(CiffFault::NoMemory),
     }
     Ok(Spelling { terms, payloads })
-}
-
-/// How many postings lists have in all, at most 2^32.
-pub(crate) fn posting_count(lists: &[ListEntry]) -> u64
-    ensures { result ≤ 2 ^ 32 }
-{
-    let mut postings: u64 = 0;
-    for entry in lists {
-        postings = postings.saturating_add(u64::from(entry.place.count));
-    }
-    postings.min(1 << 32)
 }
 
 /// Makes the heads of segments in a row that is used again, and appends their payloads, each in its

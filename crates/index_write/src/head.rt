@@ -12,8 +12,8 @@ use jass_base::{ImpactIndex, NoMemory, Row, Segment};
 use segment_codecs::{Choice, Codec, put_shortest, shortest};
 use std::alloc::Global;
 
-/// What stands in an index file before the payload of a segment. It is made once for each segment,
-/// so that its codec is chosen once. The fields stand by falling size, for the least memory.
+/// What stands in an index file before the payload of a segment. The fields stand by falling size, for
+/// the least memory.
 #[derive(Clone, Copy, Debug, PartialEq, Eq)]
 pub struct PayloadHead {
     /// How many documents.

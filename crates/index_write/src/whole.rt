@@ -23,10 +23,11 @@ use jass_base::{Cabinet, Failed, NoMemory, Row, Totals};
 use std::alloc::Global;
 
 /// Makes the file of a name the index file of spelled names, spelled terms and payloads, and gives
-/// its totals. What it promises holds for the names that were spelled, where a file may have them.
-/// That the payloads are those of the terms is left to the caller. The length is judged, and then all
-/// memory taken, before the file is touched. TooLarge comes exactly where the length is above 2^32,
-/// and a WriteFault only where the files counted one.
+/// its totals. What it promises holds for the names and the terms that were spelled, where a file may
+/// have them and the payloads have as many bytes as the heads say. That the payloads are those of the
+/// terms is left to the caller. The length is judged, and then all memory taken, before the file is
+/// touched. TooLarge comes exactly where the length is above 2^32, and a WriteFault only where the
+/// files counted one.
 pub fn write_parts<C: Cabinet>(
     alloc: Global,
     names: &SpelledNames,

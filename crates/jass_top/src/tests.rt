@@ -217,7 +217,7 @@ fn answers_are_printed(rt: HostRuntime) {
     let mut close = ONE_TERM;
     close[39] = 8;
     close[45] = 7;
-    let table: [(&[u8], &str, &[u8]); 19] = [
+    let table: [(&[u8], &str, &[u8]); 20] = [
         (
             &ONE_TERM,
             "once b.ciff 3 all a",
@@ -247,6 +247,11 @@ fn answers_are_printed(rt: HostRuntime) {
             &TWO_TERMS,
             "once b.ciff 2 2 cat dog",
             b"q postings 2 segments 2 of 4 cutoff 3 next 2 bound 3 unknown 0 open\nq Q0 d0 1 3 jass\nq Q0 d2 2 3 jass\n",
+        ),
+        (
+            &TWO_TERMS,
+            "once b.ciff 4 all zzz dog dog",
+            b"q postings 2 segments 2 of 2 cutoff 4 next 0 bound 0 unknown 1 final\nq Q0 d2 1 6 jass\nq Q0 d1 2 4 jass\n",
         ),
         (
             &ONE_TERM,

@@ -1,10 +1,10 @@
-use Rattle.shared_lemmas.proofs.Common.{◌≡◌, ◌≤◌, ℕ, List, All, AllPairs, Bool, arith, filter, length, map, not, refl, ap, sym, subst, ◌∙◌, string_bytes, All-filter, AllPairs-filter, length-filter, count_by-le-length, sum_by-filter_both}
+use Rattle.shared_lemmas.proofs.Common.{◌≡◌, ◌≤◌, ℕ, List, All, AllPairs, Bool, arith, filter, length, map, not, refl, ap, sym, subst, ◌∙◌, string_bytes, sum_by, All-filter, AllPairs-filter, length-filter, count_by-le-length, sum_by-filter_both}
 use Rattle.jass_base.specs.Ciff.{CollectionData, ListData}
 use Rattle.jass_base.specs.CiffViews.{collection_data, list_data}
 use Rattle.jass_base.specs.Lists.{DifferInTerm, HasDocsBelow}
 use Rattle.jass_base.specs.declared.limits.TheConstants.{MOST_TERMS}
 use Rattle.jass_base.specs.declared.postings_list.PostingsList.{PostingsList}
-use Rattle.asked_lists.specs.Asked.{is_asked, postings_in}
+use Rattle.asked_lists.specs.Asked.{is_asked}
 use Rattle.asked_lists.proofs.Lists.{filter_mapped}
 use Rattle.asked_lists.proofs.asked.asked_collection.Goals as goal
 
@@ -33,5 +33,6 @@ returns-clause-asked c =
 pub returns-clause-few : goal.returns-clause-few
 returns-clause-few c =
     let asked : PostingsList → Bool = λ (l : PostingsList). is_asked (map string_bytes c.args.words.now) l.term in
-    subst (λ (ls : List PostingsList). postings_in ls ≤ postings_in c.args.collection.lists) (sym c.in_ok-lists.ensures)
-    (omega (arith, sum_by-filter_both asked (λ l. not (asked l)) (λ l. refl) (λ (l : PostingsList). length l.postings) c.args.collection.lists))
+    let count : PostingsList → ℕ = λ (l : PostingsList). length l.postings in
+    subst (λ (ls : List PostingsList). sum_by count ls ≤ sum_by count c.args.collection.lists) (sym c.in_ok-lists.ensures)
+    (omega (arith, sum_by-filter_both asked (λ l. not (asked l)) (λ l. refl) count c.args.collection.lists))
