@@ -1,5 +1,6 @@
 mod Below
 pub mod Allowing
+pub mod AskedLists
 pub mod Asking
 pub mod Behind
 pub mod Ended

@@ -1,18 +1,15 @@
-ghost use Rattle.std.specs.Prelude.{ℕ, ◌≡◌, ◌≢◌, ◌≤◌, [], ◌∷◌, IfOk, IfErr};
+ghost use Rattle.std.specs.Prelude.{ℕ, ◌≡◌, ◌≢◌, ◌≤◌, IfOk};
 ghost use Rattle.index_layout.specs.View.{index_postings};
 ghost use Rattle.index_model.specs.Views.{index_data};
 ghost use Rattle.ciff_read.specs.Counts.{posting_count};
-ghost use Rattle.jass_base.specs.Ciff.{CollectionData};
 ghost use Rattle.jass_base.specs.CiffViews.{collection_data};
 ghost use Rattle.weights.specs.Quantizing.{IsImpactWidth};
-ghost use Rattle.jass_top.specs.Private.Causes.{Runs, Unread};
+ghost use Rattle.jass_top.specs.Private.Causes.{Runs};
 ghost use Rattle.impact_segments.specs.Collections.{collection_index};
 ghost use Rattle.jass_top.specs.ImportMeaning.{import_meaning};
-ghost use Rattle.jass_top.specs.Judging.{Accepted, Shows, judge_ciff};
 ghost use Rattle.jass_top.specs.Worlds.{outer};
-ghost use Rattle.jass_base.specs.declared.limits.TheConstants.{GREATEST_IMPACT, MOST_POSTINGS};
+ghost use Rattle.jass_base.specs.declared.limits.TheConstants.{GREATEST_IMPACT};
 
-use crate::input::read_file;
 use crate::saving::TOO_LARGE;
 use crate::stop::{OUTPUT, Place, Stop};
 use impact_segments::build;
@@ -62,35 +59,6 @@ pub fn run_import<'a, C: Cabinet, O: Sink>(
     match put_totals(out, totals) {
         Ok(()) => Ok(()),
         Err(_) => Err(Stop::WriteFault { name: OUTPUT }),
-    }
-}
-
-/// Makes the index of a CIFF file in memory.
-pub fn make_index<'a, C: Cabinet>(
-    alloc: Global,
-    ciff: &'a str,
-    rule: Rule,
-    bits: Bits,
-    files: &mut C,
-) -> Result<ImpactIndex, Stop<'a>>
-    requires { IsImpactWidth bits }
-    ensures made { IfOk result (λ index. (c : CollectionData)
-        × Shows (judge_ciff ciff.now (C.told files.old)) (Accepted c)
-        × (index_data index ≡ collection_index rule bits c)) }
-    ensures few { IfOk result (λ index. index_postings (index_data index) ≤ MOST_POSTINGS) }
-    ensures unread { IfErr result (λ stop. Unread (ciff.now ∷ []) (judge_ciff ciff.now (C.told files.old))
-        (C.read_faults files.old) (C.read_faults files.new) stop) }
-    ensures stays { C.told files.new ≡ C.told files.old }
-    ensures later { C.read_faults files.old ≤ C.read_faults files.new }
-    ensures others { C.write_faults files.old ≤ C.write_faults files.new }
-{
-    let collection = match read_file(alloc, files, ciff) {
-        Ok(collection) => collection,
-        Err(stop) => return Err(stop),
-    };
-    match index_collection(alloc, &collection, rule, bits) {
-        Ok(index) => Ok(index),
-        Err(_) => Err(Stop::NoMemory),
     }
 }
 

@@ -1,27 +1,34 @@
 ghost use Rattle.std.specs.Prelude.{◌≡◌, ◌+◌, ◌<◌, ◌≤◌, ◌++◌, length, All, codes};
+ghost use Rattle.asked_lists.specs.Asked.{asked_of};
+ghost use Rattle.ciff_read.specs.Counts.{posting_count};
 ghost use Rattle.index_layout.specs.View.{IsFileView, index_postings, index_text};
 ghost use Rattle.index_model.specs.Views.{index_data};
+ghost use Rattle.jass_base.specs.CiffViews.{collection_data};
 ghost use Rattle.jass_base.specs.declared.answer.Hit.{Hit};
 ghost use Rattle.jass_base.specs.Outside.{Wrote};
 ghost use Rattle.ranking_model.specs.Plan.{granted_with};
 ghost use Rattle.ranking_model.specs.Report.{report_line, run_lines};
 ghost use Rattle.frame_pool.specs.ChainView.{LeavesPool};
 ghost use Rattle.session_engine.specs.Standing.{IsSessionOf, SessionStands, chain_of, granted_of, report_of};
+ghost use Rattle.jass_words.specs.Words.{texts};
 ghost use Rattle.jass_top.specs.Private.Causes.{Runs};
 ghost use Rattle.jass_top.specs.OnceMeaning.{once_meaning};
 ghost use Rattle.jass_top.specs.Private.HeldIndexes.{asking_meaning};
-ghost use Rattle.jass_top.specs.Private.OnceTexts.{once_of, session_text};
+ghost use Rattle.jass_top.specs.Private.OnceTexts.{once_index, once_of, session_text};
 ghost use Rattle.jass_top.specs.Worlds.{Outer, outer};
 ghost use Rattle.jass_base.specs.declared.limits.TheConstants.{LONGEST_FILE, MOST_POSTINGS};
 ghost use Rattle.jass_top.specs.Private.Worlds.{with_output};
 
-use crate::import::make_index;
+use crate::import::index_collection;
+use crate::input::read_file;
 use crate::memory_file::file_in_memory;
 use crate::question::Question;
 use crate::stop::{OUTPUT, Stop};
+use asked_lists::laws::asked_lists_answer_alike;
+use asked_lists::{asked_collection, fits_surely};
 use frame_pool::FramePool;
 use index_file::IndexFile;
-use jass_base::{Budget, Cabinet, Hit, ImpactIndex, Report, Sink, Steps, WriteFault};
+use jass_base::{Budget, Cabinet, Collection, Hit, ImpactIndex, Report, Sink, Steps, WriteFault};
 use query_reader::name_terms;
 use ranking_model::laws::{the_prefix_is_the_longest, the_ranking_has_documents_of_the_scores};
 use session_engine::laws::{
@@ -52,8 +59,64 @@ pub fn run_once<'a, C: Cabinet, O: Sink, L: Ledger>(
         (outer C.Cabinet O.Sink files.old out.old steps.old)
         (outer C.Cabinet O.Sink files.new out.new steps.new) result }
 {
-    let made = make_index(alloc, ciff, Rule::Tf, Bits::Raw, files)?;
-    ask_made(alloc, &made, ciff, question, out, steps)
+    let collection = read_file(alloc, files, ciff)?;
+    ask_collection(alloc, collection, ciff, question, out, steps)
+}
+
+/// Asks the index of a collection. Where this fits a file for certain, that of the lists alone is made whose terms the
+/// words name, since it answers alike.
+fn ask_collection<'a, O: Sink, L: Ledger>(
+    alloc: Global,
+    collection: Collection,
+    input: &'a str,
+    question: Question<'_>,
+    out: &mut O,
+    steps: &mut Steps<L>,
+) -> Result<(), Stop<'a>>
+    requires { posting_count collection.lists ≤ MOST_POSTINGS }
+    ensures { (beside : Outer) → Runs (asking_meaning input.now
+        (once_index (collection_data collection)) (once_of question.entry))
+        (with_output O.Sink out.old (record beside { steps = steps.old }))
+        (with_output O.Sink out.new (record beside { steps = steps.new })) result }
+{
+    if fits_surely(&collection) {
+        return ask_lists(alloc, collection, input, question, out, steps);
+    }
+    let index = match index_collection(alloc, &collection, Rule::Tf, Bits::Raw) {
+        Ok(index) => index,
+        Err(_) => return Err(Stop::NoMemory),
+    };
+    ask_made(alloc, &index, input, question, out, steps)
+}
+
+/// Asks the index of the lists whose terms the words name.
+fn ask_lists<'a, O: Sink, L: Ledger>(
+    alloc: Global,
+    collection: Collection,
+    input: &'a str,
+    question: Question<'_>,
+    out: &mut O,
+    steps: &mut Steps<L>,
+) -> Result<(), Stop<'a>>
+    requires few { posting_count collection.lists ≤ MOST_POSTINGS }
+    requires fits { length (index_text (once_index (collection_data collection))) ≤ LONGEST_FILE }
+    requires fits_asked { length (index_text (once_index
+        (asked_of (collection_data collection) (texts question.terms.now)))) ≤ LONGEST_FILE }
+    ensures { (beside : Outer) → Runs (asking_meaning input.now
+        (once_index (collection_data collection)) (once_of question.entry))
+        (with_output O.Sink out.old (record beside { steps = steps.old }))
+        (with_output O.Sink out.new (record beside { steps = steps.new })) result }
+{
+    asked_lists_answer_alike();
+    let asked = match asked_collection(alloc, collection, question.terms) {
+        Ok(asked) => asked,
+        Err(_) => return Err(Stop::NoMemory),
+    };
+    let index = match index_collection(alloc, &asked, Rule::Tf, Bits::Raw) {
+        Ok(index) => index,
+        Err(_) => return Err(Stop::NoMemory),
+    };
+    ask_made(alloc, &index, input, question, out, steps)
 }
 
 /// Asks an index that was made of an input.

@@ -1,6 +1,11 @@
 -- What a session leaves that answers a query of words, as a function of the view of an index file.
 use Rattle.std.specs.Prelude.{ℕ, List, ◌++◌, codes}
+use Rattle.jass_base.specs.Ciff.{CollectionData}
 use Rattle.ranking_model.specs.Report.{run_lines}
+use Rattle.weights.specs.declared.quantizing.Bits.TheVariants.{Raw}
+use Rattle.weights.specs.declared.weighting.Rule.TheVariants.{Tf}
+use Rattle.impact_segments.specs.Collections.{collection_index}
+use Rattle.index_model.specs.Index.{IndexData}
 use Rattle.index_layout.specs.View.{FileView}
 use Rattle.session_engine.specs.Standing.{answer_over, query_of}
 use Rattle.session_engine.specs.declared.session.Session.{Session}
@@ -12,6 +17,10 @@ use Rattle.jass_top.specs.Private.SearchRuns.{report_text}
 -- a question as plain data
 abbrev pub once_of : Question → OnceQuery
 once_of question = record { k = question.k; budget = question.budget; words = texts question.terms.now }
+
+-- the index of a collection that a query of words is asked of: impacts are term frequencies
+abbrev pub once_index : CollectionData → IndexData
+once_index c = collection_index Tf Raw c
 
 -- the report line, and the run lines of the answer
 abbrev pub session_text : FileView → Session → List ℕ
