@@ -1,5 +1,5 @@
 -- How a query of words runs over an index that answers it as another one does.
-use Rattle.shared_lemmas.proofs.Common.{◌≡◌, ◌≢◌, ◌≤◌, ◌^◌, ◌++◌, ℕ, List, [], ◌∷◌, length, codes, Option, Result, Ok, Err, sym, subst, ◌∙◌, inl, inr}
+use Rattle.shared_lemmas.proofs.Common.{◌≡◌, ◌≢◌, ◌≤◌, ◌^◌, ◌++◌, ℕ, List, [], ◌∷◌, length, codes, Option, Result, Ok, Err, true, false, sym, subst, ◌∙◌, inl, inr}
 use Rattle.ranking_model.specs.declared.posting.WeightedPosting.{WeightedPosting}
 use Rattle.jass_top.proofs.Below.{Files, IndexData, index_text, QueryPlan, granted_sum, prefix_within, size_of_first, weighted_postings, numbered_flat, IsPromised, IsReport, Report, report_line, run_lines, top_k}
 use Rattle.asked_lists.specs.Asked.{AnswerAlike, words_named}
@@ -19,7 +19,7 @@ use Rattle.jass_top.specs.declared.stop.Stop.TheVariants as stops
 use Rattle.jass_top.proofs.JudgedFiles.{fits}
 
 module _ (input : List ℕ) (query : OnceQuery) (one other : IndexData) (one_fits : length (index_text one) ≤ 2 ^ 32) (other_fits : length (index_text other) ≤ 2 ^ 32) (alike : AnswerAlike query.words one other) where
-  granted : ℕ
+  abbrev granted : ℕ
   granted = granted_sum (query.budget ∷ [])
 
   report_is : (report : Report) → IsSearchReport one (once_query one query) query.k (once_prefix one query) report → IsSearchReport other (once_query other query) query.k (once_prefix other query) report
@@ -62,8 +62,8 @@ module _ (input : List ℕ) (query : OnceQuery) (one other : IndexData) (one_fit
 
   stands : (before after : Outer) → Stands (asking_meaning input one query) before after → Stands (asking_meaning input other query) before after
   stands before after (inl is) = inl is
-  stands before after (inr (inl is)) = absurd is.counting
-  stands before after (inr (inr is)) = absurd is.0
+  stands before after (inr (inl is)) = let counts : false ≡ true = is.counting in cc
+  stands before after (inr (inr is)) = let streams : false ≡ true = is.0 in cc
 
   pub asked_runs : (before after : Outer) (result : Result (Unit {0}) Stop) → Runs (asking_meaning input one query) before after result → Runs (asking_meaning input other query) before after result
   asked_runs before after (Ok done) is = had before.told _ is

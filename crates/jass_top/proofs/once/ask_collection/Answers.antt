@@ -1,7 +1,13 @@
-use Rattle.std.proofs.Common.{subst, ◌∙◌, sym}
-use Rattle.jass_top.proofs.Below.{IndexData, collection_data, index_data}
+use Rattle.std.proofs.Common.{subst}
+use Rattle.jass_top.proofs.Below.{IndexData}
 use Rattle.jass_top.specs.Private.Causes.{Runs}
 use Rattle.jass_top.specs.Private.HeldIndexes.{asking_meaning}
-use Rattle.jass_top.specs.Private.OnceTexts.{once_index, once_of}
+use Rattle.jass_top.specs.Private.OnceTexts.{once_of}
 use Rattle.jass_top.specs.Private.Worlds.{with_output}
 use Rattle.jass_top.proofs.once.ask_collection.Goals as goal
+
+pub returns : goal.returns
+returns g c = λ beside.
+    subst (λ (index : IndexData). Runs (asking_meaning c.args.input.now index (once_of c.args.question)) (with_output g.O.Sink c.args.out.now (record beside { steps = c.args.steps.now }))
+    (with_output g.O.Sink c.ask_made.new.out (record beside { steps = c.ask_made.new.steps })) c.ask_made.result)
+    c.in-Ok.ensures.made (c.ask_made.ensures beside)
