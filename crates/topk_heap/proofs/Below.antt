@@ -11,6 +11,6 @@ pub use Rattle.frame_pool.specs.Pool.{PoolView}
 pub use Rattle.jass_base.specs.declared.answer.Hit.{Hit}
 pub use Rattle.ranking_model.proofs.Candidates.{ascends_take, first_of_candidates, first_part, hits_each, in_hits, in_sorted}
 pub use Rattle.ranking_model.proofs.Orders.{rank_same, rank_total}
-pub use Rattle.ranking_model.proofs.Sorting.{Ascends, all_sorted, ascends_append, one_order, pairs_sorted, sort_is_sorted, sorted_ascending, sorted_ascends, sorted_is_permutation, sum_by-sorted}
+pub use Rattle.ranking_model.proofs.Sorting.{Ascends, all_sorted, ascends_append, length_sorted, one_order, pairs_sorted, sort_is_sorted, sorted_ascending, sorted_ascends, sorted_is_permutation, sum_by-sorted}
 pub use Rattle.ranking_model.specs.Order.{sorted}
 pub use Rattle.ranking_model.specs.Scores.{AreHitsOf, first_ranked, hits_from, rank_cmp, runner_up}

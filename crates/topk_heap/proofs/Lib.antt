@@ -3,6 +3,10 @@ pub mod Ahead
 pub mod Lists
 pub mod Ranking
 pub mod Selection
+pub mod TwoOrders
+pub mod ByNumber
+pub mod InPlace
+pub mod Digits
 pub mod Rows
 pub mod Settled
 pub mod Raised

@@ -39,6 +39,11 @@ newcomers_have scores places (d ∷ docs) doc (inr there) none = step (get_or pl
   step true rest = inr rest
   step false rest = rest
 
+-- without hits no document has a heap place
+pub vacant_places : (row : List Hit) (places : List ℕ) → length row ≡ 0 → ArePlacesOf (reverse row) places → (doc : ℕ) → get_or places doc 0 ≡ 0
+vacant_places [] places none placed doc = placed.outside doc tt
+vacant_places (hit ∷ row) places none placed doc = absurd (omega (arith, none))
+
 -- ---- candidates
 
 pub row_placed : (row : List Hit) (places : List ℕ) → ArePlacesOf (reverse row) places → AllByRecursion (λ (h : Hit). get_or places h.doc 0 ≢ 0) row

@@ -1,5 +1,5 @@
 -- The first documents of some scores in a heap, the last of them in front. Heaps: J. W. J. Williams, Algorithm 232 (CACM 1964).
-use Rattle.std.specs.Prelude.{◌≡◌, ◌≢◌, ℕ, ◌+◌, ◌-◌, ◌/◌, ◌<◌, ◌≤◌, true, List, [], ◌++◌, ⊤, length, map, reverse, slice_index, IsPermutation, Contains}
+use Rattle.std.specs.Prelude.{◌≡◌, ◌≢◌, ℕ, ◌+◌, ◌-◌, ◌/◌, ◌<◌, ◌≤◌, true, List, ◌++◌, length, map, reverse, slice_index, IsPermutation, Contains}
 use Rattle.std.specs.List.{AllByRecursion}
 use Rattle.std.specs.Ordering.{is_gt}
 use Rattle.jass_base.specs.declared.answer.Hit.{Hit}

@@ -3,10 +3,14 @@ ghost use Rattle.ranking_model.specs.Order.{sorted};
 ghost use Rattle.ranking_model.specs.Scores.{rank_cmp};
 ghost use Rattle.topk_heap.specs.Private.Rows.{rank_key, with_score};
 
+use crate::counting::rank_by_counting;
 use jass_base::{Hit, NoMemory};
 use std::alloc::Global;
 use std::cmp::Ordering;
 use std::marker::Model;
+
+/// From so many hits on, counting passes are quicker than a sort by comparisons.
+const MANY: usize = 256;
 
 /// Hits in a room of fixed size.
 #[derive(Drop)]
@@ -29,8 +33,8 @@ impl Model for Hits {
 }
 
 impl Hits {
-    /// Room for so many hits, and aside for `few` more: up to these `keep_first` selects before it sorts. No other
-    /// call takes memory.
+    /// Room for so many hits, and aside for `few` more: where there are more than these, `keep_first` selects the first
+    /// before it puts them in order. No other call takes memory.
     pub fn new(alloc: Global, room: usize, few: usize) -> Result<Hits, NoMemory>
         ensures hits { IfOk result (λ hits. hits.hits ≡ []) }
         ensures room { IfOk result (λ hits. hits.room ≡ room) }
@@ -101,12 +105,12 @@ fn rank_first(row: &mut [Hit], hits: usize, count: usize, aside: &mut [Hit])
     ensures len { length row.new ≡ length row.old }
     ensures aside { length aside.new ≡ length aside.old }
 {
-    // Where few of the hits go, a selection saves little.
-    if count < hits / 4 * 3 && count <= aside.len() {
+    // Where few of the hits go, a selection saves nothing.
+    if count <= aside.len() && aside.len() < hits {
         select_first(&mut row[..hits], &mut aside[..count]);
         row[..count].copy_from_slice(&aside[..count]);
     } else {
-        rank(&mut row[..hits]);
+        rank(&mut row[..hits], aside);
     }
 }
 
@@ -118,11 +122,24 @@ fn select_first(hits: &mut [Hit], first: &mut [Hit])
     ensures len { length hits.new ≡ length hits.old }
 {
     let (front, _, _) = hits.select_nth_unstable_by(first.len(), rank_order);
-    rank(front);
+    rank(front, first);
     first.copy_from_slice(front);
 }
 
-fn rank(hits: &mut [Hit])
+/// Puts hits in order.
+fn rank(hits: &mut [Hit], aside: &mut [Hit])
+    ensures hits { hits.new ≡ sorted rank_cmp hits.old }
+    ensures aside { length aside.new ≡ length aside.old }
+{
+    let count = hits.len();
+    if MANY <= count && count <= aside.len() && count <= u32::MAX as usize {
+        rank_by_counting(hits, &mut aside[..count]);
+    } else {
+        rank_by_comparing(hits);
+    }
+}
+
+fn rank_by_comparing(hits: &mut [Hit])
     ensures { hits.new ≡ sorted rank_cmp hits.old }
 {
     hits.sort_unstable_by(rank_order);

@@ -5,6 +5,7 @@
 //! `new` takes memory.
 
 mod candidates;
+mod counting;
 mod hits;
 pub mod laws;
 mod settling;

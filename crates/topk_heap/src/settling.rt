@@ -1,9 +1,9 @@
 //! The steps of settling.
 
-ghost use Rattle.std.specs.Prelude.{◌≡◌, ◌==◌, ◌+◌, ◌<◌, ◌≤◌, ◌++◌, All, length, map, slice_index};
+ghost use Rattle.std.specs.Prelude.{◌≡◌, ◌==◌, ◌+◌, ◌<◌, ◌≤◌, ◌++◌, All, IsTrue, length, map, slice_index};
 ghost use Rattle.accumulator_pages.specs.Pages.{Stands, docs_of, pages_places, pages_scores};
 ghost use Rattle.topk_heap.specs.Places.{KeepsScores};
-ghost use Rattle.topk_heap.specs.Private.Settling.{newcomers, rescored, with_places, without_places};
+ghost use Rattle.topk_heap.specs.Private.Settling.{IsVacant, newcomers, rescored, with_places, without_places};
 
 use crate::candidates::Candidates;
 use crate::hits::Hits;
@@ -26,18 +26,20 @@ pub fn rescore(hits: &mut Hits, pages: &Pages, pool: &FramePool)
     }
 }
 
-/// Puts the raised documents that have no heap place behind the hits.
-pub fn gather(hits: &mut Hits, pages: &Pages, pool: &FramePool, raised: &[u32])
+/// Puts the raised documents that have no heap place behind the hits. `vacant` tells that no document has one, so that
+/// none is looked up.
+pub fn gather(hits: &mut Hits, pages: &Pages, pool: &FramePool, raised: &[u32], vacant: bool)
     requires stands { Stands pages.now pool.now }
     requires inside { All (λ doc. doc < docs_of pages.now) raised.now }
     requires touched { All (λ doc. 0 < slice_index (pages_scores pages.now pool.now) doc) raised.now }
+    requires vacant { IsTrue vacant → IsVacant (pages_places pages.now pool.now) }
     requires room { length hits.old.hits + length raised.now ≤ hits.old.room }
     ensures hits { hits.new.hits ≡ hits.old.hits
         ++ newcomers (pages_scores pages.now pool.now) (pages_places pages.now pool.now) raised.now }
     ensures room { hits.new.room ≡ hits.old.room }
 {
     for doc in raised {
-        if is_outside(pages, pool, *doc) {
+        if vacant || is_outside(pages, pool, *doc) {
             let score = pages.get(pool, *doc);
             hits.push(Hit { doc: *doc, score });
         }
@@ -72,18 +74,25 @@ pub fn add_rescored(candidates: &mut Candidates, pages: &Pages, pool: &FramePool
     }
 }
 
-/// Puts the raised documents that have no heap place behind the candidates.
-pub fn add_raised(candidates: &mut Candidates, pages: &Pages, pool: &FramePool, raised: &[u32])
+/// Puts the raised documents that have no heap place behind the candidates. `vacant` tells that no document has one.
+pub fn add_raised(
+    candidates: &mut Candidates,
+    pages: &Pages,
+    pool: &FramePool,
+    raised: &[u32],
+    vacant: bool,
+)
     requires stands { Stands pages.now pool.now }
     requires inside { All (λ doc. doc < docs_of pages.now) raised.now }
     requires touched { All (λ doc. 0 < slice_index (pages_scores pages.now pool.now) doc) raised.now }
+    requires vacant { IsTrue vacant → IsVacant (pages_places pages.now pool.now) }
     requires room { length candidates.old.hits + length raised.now ≤ candidates.old.room }
     ensures hits { candidates.new.hits ≡ candidates.old.hits
         ++ newcomers (pages_scores pages.now pool.now) (pages_places pages.now pool.now) raised.now }
     ensures room { candidates.new.room ≡ candidates.old.room }
 {
     for doc in raised {
-        if is_outside(pages, pool, *doc) {
+        if vacant || is_outside(pages, pool, *doc) {
             let score = pages.get(pool, *doc);
             candidates.push(Hit { doc: *doc, score });
         }

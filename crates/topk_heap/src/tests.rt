@@ -1,10 +1,12 @@
-// Heaps over pages in a pool: documents that rise one by one, and sessions side by side.
+// Heaps over pages in a pool: documents that rise one by one, and sessions side by side. Hits put in order by counting
+// passes.
 ghost use Rattle.std.specs.Prelude.{◌≡◌, ◌≢◌, ◌+◌, ◌/◌, ◌<◌, ◌≤◌, ◌^◌, [], All, None, length, replicate, slice_index_or};
 ghost use Rattle.frame_pool.specs.ChainView.{LeavesOthers, LeavesPool};
 ghost use Rattle.accumulator_pages.specs.Adding.{added};
 ghost use Rattle.accumulator_pages.specs.Pages.{ArePagesOf, HasRoom, HasRoomFor, Stands, docs_of, own_chain, own_view, pages_places, pages_scores};
 ghost use Rattle.topk_heap.specs.Standing.{TopStands};
 
+use crate::hits::Hits;
 use crate::laws::{
     calls_on_other_chains_leave_a_heap, the_runner_up_is_a_document, those_raised_are_noted,
 };
@@ -170,6 +172,24 @@ fn add_batch(
     top.settle(pages, pool, reached.as_slice());
 }
 
+/// So many hits that counting passes put them in order, three for each score, with such steps from document to document
+/// and from score to score.
+fn many(rt: &impl Abort, alloc: Global, step: u32) -> Hits
+    requires { step ≤ 10000000 }
+{
+    let Ok(mut hits) = Hits::new(alloc, 300, 280) else {
+        panic!(rt; "no memory")
+    };
+    for index in 0..300u32 {
+        let number = index * 7 % 300;
+        hits.push(Hit {
+            doc: number * step,
+            score: number / 3 * step,
+        });
+    }
+    hits
+}
+
 #[test]
 fn documents_rise_one_by_one(rt: HostRuntime) {
     let Ok(mut pool) = FramePool::new(rt.alloc(), 3, 1) else {
@@ -240,4 +260,22 @@ fn a_batch_is_settled(rt: HostRuntime) {
     assert!(rt; top.ranked() == [Hit { doc: 5, score: 5 }].as_slice());
     assert!(rt; top.runner_up() == Some(Hit { doc: 0, score: 2 }));
     pool.give_back(pages.into_chain());
+}
+
+#[test]
+fn many_hits_are_put_in_order(rt: HostRuntime) {
+    // One pass for the documents and one for the scores, two, and three.
+    for step in [1u32, 10000, 10000000] {
+        let mut hits = many(&rt, rt.alloc(), step);
+        hits.keep_first(280);
+        assert!(rt; hits.len() == 280);
+        for place in 0..280u32 {
+            let triple = 99 - place / 3;
+            let hit = Hit {
+                doc: (3 * triple + place % 3) * step,
+                score: triple * step,
+            };
+            assert!(rt; hits.as_slice().get(place as usize).copied() == Some(hit));
+        }
+    }
 }

@@ -49,7 +49,7 @@ impl Top {
         ensures room { IfOk result (λ top. room ≤ top.room) }
     {
         let first = k as usize + 1;
-        let hits = Hits::new(alloc, first + room.max(1), first)?;
+        let hits = Hits::new(alloc, first + room.max(1), first + first / 3)?;
         let candidates = Candidates::new(alloc, first + room.max(1))?;
         Ok(Top {
             k,
@@ -74,7 +74,7 @@ impl Top {
     {
         let standing = self.hits.len();
         rescore(&mut self.hits, pages, pool);
-        gather(&mut self.hits, pages, pool, raised);
+        gather(&mut self.hits, pages, pool, raised, standing == 0);
         clear_places(pages, pool, &self.hits.as_slice()[..standing]);
         self.hits.keep_first(self.k as usize + 1);
         set_places(pages, pool, self.hits.as_slice());
@@ -114,7 +114,8 @@ impl Top {
     {
         self.candidates.clear();
         add_rescored(&mut self.candidates, pages, pool, self.hits.as_slice());
-        add_raised(&mut self.candidates, pages, pool, raised);
+        let vacant = self.hits.len() == 0;
+        add_raised(&mut self.candidates, pages, pool, raised, vacant);
         self.candidates.select(self.k as usize)
     }
 }

@@ -1,5 +1,5 @@
 -- What `settle` does with hits and their heap places, step by step.
-use Rattle.std.specs.Prelude.{ℕ, ◌+◌, ◌==◌, if◌then◌else◌, List, [], ◌∷◌, length, slice_index, slice_set}
+use Rattle.std.specs.Prelude.{◌≡◌, ℕ, ◌+◌, ◌==◌, if◌then◌else◌, List, [], ◌∷◌, length, slice_index, slice_set}
 use Rattle.jass_base.specs.declared.answer.Hit.{Hit}
 
 -- a document with its score
@@ -9,6 +9,10 @@ hit_of scores doc = record { doc = doc; score = slice_index scores doc }
 -- the hit's document with the score that it has now
 abbrev pub rescored : List ℕ → Hit → Hit
 rescored scores hit = hit_of scores hit.doc
+
+-- no document has a heap place
+abbrev pub IsVacant : List ℕ → Type 0
+IsVacant places = (doc : ℕ) → slice_index places doc ≡ 0
 
 -- the hits of those documents that have no heap place
 abbrev pub newcomers : List ℕ → List ℕ → List ℕ → List Hit

@@ -1,8 +1,9 @@
-use Rattle.std.proofs.Common.{◌∙◌, ap}
+use Rattle.shared_lemmas.proofs.Common.{◌∙◌, ap, arith, nat_tests}
+use Rattle.accumulator_pages.specs.Pages.{pages_places}
 use Rattle.topk_heap.proofs.Below.{pages_scores, runner_up}
 use Rattle.topk_heap.specs.Standing.{TopView}
 use Rattle.topk_heap.proofs.Rows.{docs_scored}
-use Rattle.topk_heap.proofs.Settled.{candidates_are, next_of, ready, within}
+use Rattle.topk_heap.proofs.Settled.{candidates_are, next_of, ready, vacant_places, within}
 use Rattle.topk_heap.proofs.top.Top.runner_up_now.Goals as goal
 
 pub add_rescored-requires-clause-inside : goal.add_rescored-requires-clause-inside
@@ -12,6 +13,11 @@ add_rescored-requires-clause-inside c i d inside =
 
 pub add_raised-requires-clause-inside : goal.add_raised-requires-clause-inside
 add_raised-requires-clause-inside c i d inside = let is = (c.requires.touched i d inside).0 in within _ _ _ (docs_scored c.args.pages.now c.args.pool.now) is
+
+pub add_raised-requires-clause-vacant : goal.add_raised-requires-clause-vacant
+add_raised-requires-clause-vacant c none doc =
+    let r = ready c.args.raised.now c.self.view_is c.self.invariant c.requires.placed c.requires.touched c.requires.once c.requires.first in
+    vacant_places c.self.inside.hits.hits (pages_places c.args.pages.now c.args.pool.now) (grind (arith, nat_tests, none, c.len-vacant.ensures)) r.had doc
 
 pub returns-clause-next : goal.returns-clause-next
 returns-clause-next c =

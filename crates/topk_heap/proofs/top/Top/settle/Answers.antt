@@ -1,10 +1,11 @@
-use Rattle.shared_lemmas.proofs.Common.{◌∙◌, ◌+◌, List, length, ap, subst, sym, arith, length-take, All-from_recursion}
+use Rattle.shared_lemmas.proofs.Common.{◌∙◌, ◌+◌, List, length, ap, subst, sym, arith, length-take, nat_tests, All-from_recursion}
 use Rattle.topk_heap.proofs.Below.{Hit, sorted, rank_cmp, pages_scores}
+use Rattle.accumulator_pages.specs.Pages.{pages_places}
 use Rattle.topk_heap.specs.Standing.{IsTouched}
 use Rattle.topk_heap.specs.Private.Standing.{AreInOrder}
 use Rattle.topk_heap.proofs.Ranking.{first_in_order}
 use Rattle.topk_heap.proofs.Rows.{docs_placed, docs_scored}
-use Rattle.topk_heap.proofs.Settled.{new_are, new_touched, ready, row_touched, some_still, standing_are, stands_settled, within}
+use Rattle.topk_heap.proofs.Settled.{new_are, new_touched, ready, row_touched, some_still, standing_are, stands_settled, vacant_places, within}
 use Rattle.topk_heap.proofs.top.Top.settle.Goals as goal
 
 pub rescore-requires-clause-inside : goal.rescore-requires-clause-inside
@@ -14,6 +15,11 @@ rescore-requires-clause-inside c i d inside =
 
 pub gather-requires-clause-inside : goal.gather-requires-clause-inside
 gather-requires-clause-inside c i d inside = let is = (c.requires.touched i d inside).0 in within _ _ _ (docs_scored c.args.pages.now c.args.pool.now) is
+
+pub gather-requires-clause-vacant : goal.gather-requires-clause-vacant
+gather-requires-clause-vacant c none doc =
+    let r = ready c.args.raised.now c.self.view_is c.self.invariant c.requires.placed c.requires.touched c.requires.once c.requires.first in
+    vacant_places c.self.inside.hits.hits (pages_places c.args.pages.now c.args.pool.now) (grind (arith, nat_tests, none, c.len-standing.ensures)) r.had doc
 
 pub clear_places-requires-clause-inside : goal.clear_places-requires-clause-inside
 clear_places-requires-clause-inside c i d inside =
