@@ -1,5 +1,5 @@
 -- The pairs of one list, and whether its weights lie in a range.
-use Rattle.shared_lemmas.proofs.Common.{◌≡◌, ℕ, ◌+◌, ◌<◌, ◌≤◌, List, [], ◌∷◌, ◌++◌, map, length, get_or, drop, Bool, true, false, refl, sym, ap, ◌∙◌, subst, append_assoc, All, Option, Some, None, if◌then◌else◌, AllByRecursion, IsStrictlyIncreasing, recursion_from_All, All-push}
+use Rattle.shared_lemmas.proofs.Common.{◌≡◌, ℕ, ◌+◌, ◌<◌, ◌≤◌, List, [], ◌∷◌, ◌++◌, map, length, get_or, drop, Bool, true, false, refl, sym, ap, ◌∙◌, subst, append_assoc, All, Option, Some, None, if◌then◌else◌, AllByRecursion, IsStrictlyIncreasing, arith, recursion_from_All, All-push}
 use Rattle.shared_lemmas.proofs.Common.{drop_more, map-map}
 use Rattle.shared_lemmas.proofs.Lists.{all_unmap}
 use Rattle.impact_segments.proofs.Below.{HasDocsBelow, docs_of, Posting, PostingsList, Bits, Raw, Of, Range, Rule, impact_of, idf}
@@ -45,6 +45,12 @@ pub positive_more : (pairs longer : List DocImpact) (doc impact : ℕ) → longe
 positive_more pairs longer doc impact is positive all =
     let P : List DocImpact → Type 0 = λ (l : List DocImpact). All (λ (p : DocImpact). 1 ≤ p.impact) l in
     subst P (sym is) (All-push (λ (p : DocImpact). 1 ≤ p.impact) pairs (with_impact impact doc) all positive)
+
+pub greatest_more : (pairs longer : List DocImpact) (doc impact old new : ℕ) → longer ≡ pairs ++ with_impact impact doc ∷ [] → old ≤ new → impact ≤ new
+    → All (λ (p : DocImpact). p.impact ≤ old) pairs → All (λ (p : DocImpact). p.impact ≤ new) longer
+greatest_more pairs longer doc impact old new is up mine all =
+    let P : List DocImpact → Type 0 = λ (l : List DocImpact). All (λ (p : DocImpact). p.impact ≤ new) l in
+    subst P (sym is) (All-push (λ (p : DocImpact). p.impact ≤ new) pairs (with_impact impact doc) (λ k d inside. let below = all k d inside in omega (arith, below, up)) mine)
 
 -- a weight in front of others, where it is judged alone
 within_more : (b : Bool) (x : ℕ × ℕ) (later : Option (ℕ × ℕ)) → (if b then None else Some x) ≡ None → (if b then later else Some x) ≡ later

@@ -9,7 +9,7 @@ ghost use Rattle.impact_segments.specs.declared.doc_impact.DocImpact.{DocImpact}
 
 use crate::doc_impact::DocImpact;
 use crate::list_segments::ListSegments;
-use crate::places::{ImpactPlaces, impact_count};
+use crate::places::{ImpactPlaces, greatest_of, impact_count};
 use jass_base::limits::GREATEST_IMPACT;
 use jass_base::{NoMemory, Row, Segment};
 use std::alloc::Global;
@@ -46,21 +46,24 @@ pub(crate) fn group_by(
     ensures falling { IfOk result (λ segments. AllPairs FallsTo segments) }
     ensures once { IfOk result (λ segments. AllPairs SharesNoDocument segments) }
 {
-    group_into(segments, places, pairs)?;
+    let greatest = greatest_of(pairs.as_slice());
+    group_into(segments, places, pairs, greatest)?;
     segments.to_rows(alloc)
 }
 
-/// Leaves the segments of a term whose pairs may be put in order.
+/// Leaves the segments of a term whose pairs may be put in order. None has an impact above the greatest.
 pub(crate) fn group_into(
     segments: &mut ListSegments,
     places: &mut ImpactPlaces,
     pairs: &mut Vec<DocImpact>,
+    greatest: u16,
 ) -> Result<(), NoMemory>
     requires rising { IsStrictlyIncreasing (pair_docs pairs.old.items) }
     requires positive { All (λ (p : DocImpact). 1 ≤ p.impact) pairs.old.items }
+    requires greatest { All (λ (p : DocImpact). p.impact ≤ greatest) pairs.old.items }
     ensures { OnOk result (segments.new ≡ segments_in (sorted pair_cmp pairs.old.items)) }
 {
-    match impact_count(pairs.as_slice()) {
+    match impact_count(pairs.len(), greatest) {
         Some(count) => places.group(segments, pairs.as_slice(), count),
         None => {
             arrange(pairs);

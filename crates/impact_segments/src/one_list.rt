@@ -162,7 +162,7 @@ fn widen(
     }
 }
 
-/// Leaves the documents of a list with their impacts.
+/// Leaves the documents of a list with their impacts, none of which is above the answer.
 pub(crate) fn impacts_of(
     pairs: &mut Vec<DocImpact>,
     table: &[u16],
@@ -173,7 +173,7 @@ pub(crate) fn impacts_of(
     list: &PostingsList,
     lengths: &[u32],
     norms: Option<&[u64]>,
-) -> Result<(), SegmentsFault>
+) -> Result<u16, SegmentsFault>
     requires list { IsListOf lengths.now total list.now }
     requires width { IsImpactWidth bits }
     requires low { EndsLow bits range }
@@ -182,24 +182,30 @@ pub(crate) fn impacts_of(
     ensures pairs { OnOk result (pairs.new.items
         ≡ pairs_in rule lengths.now total bits range list.now.postings) }
     ensures positive { OnOk result (All (λ (p : DocImpact). 1 ≤ p.impact) pairs.new.items) }
+    ensures greatest { IfOk result (λ greatest. All (λ (p : DocImpact). p.impact ≤ greatest) pairs.new.items) }
     ensures inside { OnOk result (outside bits range (weights_in rule lengths.now total list.now.postings) ≡ None) }
     ensures fault { IfErr result (Unmade (outside bits range (weights_in rule lengths.now total list.now.postings))) }
 {
-    pairs.clear();
-    match pairs.reserve(list.postings.len()) {
+    let postings = list.postings.as_slice();
+    // The row has its length at once: a length in memory would have each posting wait for the one before it.
+    match pairs.resize(postings.len(), DocImpact { doc: 0, impact: 1 }) {
         Ok(()) => {}
         Err(_) => return Err(SegmentsFault::NoMemory),
     }
+    let row = pairs.as_mut_slice();
     let weigher = ListRule::new(rule, total, list, lengths, norms);
-    for posting in list.postings.as_slice() {
-        let weight = weigher.weigh(*posting);
+    let mut greatest = 0;
+    for index in 0..postings.len() {
+        let posting = postings[index];
+        let weight = weigher.weigh(posting);
         let impact = impact_in(table, bits, range, weight)?;
-        pairs.push_reserved(DocImpact {
+        row[index] = DocImpact {
             doc: posting.doc,
             impact,
-        });
+        };
+        greatest = impact.max(greatest);
     }
-    Ok(())
+    Ok(greatest)
 }
 
 /// The impact of a weight, by the table where it holds it. A weight outside the range is refused.

@@ -139,8 +139,8 @@ fn make_segments(
 {
     let table = scratch.table.impacts(bits, range);
     let pairs = &mut scratch.pairs;
-    impacts_of(pairs, table, rule, bits, range, total, list, lengths, norms)?;
-    match group_into(segments, &mut scratch.places, pairs) {
+    let greatest = impacts_of(pairs, table, rule, bits, range, total, list, lengths, norms)?;
+    match group_into(segments, &mut scratch.places, pairs, greatest) {
         Ok(()) => Ok(()),
         Err(_) => Err(SegmentsFault::NoMemory),
     }

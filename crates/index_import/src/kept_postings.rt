@@ -72,11 +72,8 @@ impl KeptPostings {
         ensures { IfOk result (λ postings. postings.items ≡ postings_in self.now) }
     {
         let words = self.words();
-        spare.clear();
-        spare.reserve(words.len())?;
-        for word in words {
-            spare.push_reserved(posting_in(*word));
-        }
+        spare.resize(words.len(), Posting { doc: 0, tf: 0 })?;
+        unpack(spare.as_mut_slice(), words);
         Ok(spare)
     }
 
@@ -121,14 +118,34 @@ fn many_words(alloc: Global, postings: &[Posting]) -> Option<Vec<u32>>
     requires { All HasWord postings.now }
     ensures { IfSome result (λ words. map posting_in words.items ≡ postings.now) }
 {
-    let mut words = match Vec::with_capacity(alloc, postings.len()) {
+    let mut words = match vec![in alloc; 0u32; postings.len()] {
         Ok(words) => words,
         Err(_) => return None,
     };
-    for posting in postings {
-        words.push_reserved(word_of(*posting));
-    }
+    pack(words.as_mut_slice(), postings);
     Some(words)
+}
+
+/// Puts the words of postings into a row of as many. Here and in `unpack` nothing grows, so that
+/// several are made at a time.
+fn pack(words: &mut [u32], postings: &[Posting])
+    requires length { length words.old ≡ length postings.now }
+    requires words { All HasWord postings.now }
+    ensures { map posting_in words.new ≡ postings.now }
+{
+    for index in 0..postings.len() {
+        words[index] = word_of(postings[index]);
+    }
+}
+
+/// Puts the postings of words into a row of as many.
+fn unpack(postings: &mut [Posting], words: &[u32])
+    requires { length postings.old ≡ length words.now }
+    ensures { postings.new ≡ map posting_in words.now }
+{
+    for index in 0..words.len() {
+        postings[index] = posting_in(words[index]);
+    }
 }
 
 /// The word of a posting that has one.
