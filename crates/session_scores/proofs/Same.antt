@@ -5,7 +5,7 @@ use Rattle.accumulator_pages.specs.Adding as pages
 use Rattle.accumulator_pages.specs.Reached.{passes}
 use Rattle.ranking_model.specs.Scores.{added, runner_up}
 use Rattle.topk_heap.specs.Noting.{AreNoted, just_behind}
-use Rattle.topk_heap.specs.Standing.{TopView}
+use Rattle.topk_heap.specs.Standing.{TopView, without_heap}
 use Rattle.std.proofs.lemmas.List.{append-nil}
 
 pub same_added : (w : ℕ) (docs s : List ℕ) → pages.added w docs s ≡ added w docs s
@@ -17,6 +17,12 @@ pub noted_after : (top : TopView) (last : Hit) (w : ℕ) (docs s s' p p' n n' : 
 noted_after top last w docs s s' p p' n n' are is same notes = subst (λ (x : List ℕ). AreNoted top last x p' n') (sym is)
     (subst (λ (x : List ℕ). AreNoted top last (pages.added w docs s) x n') (sym same)
     (subst (λ (x : List ℕ). AreNoted top last (pages.added w docs s) p x) (sym notes) are))
+
+-- what a heap is made of needn't be in it
+pub noted_still : (top top' : TopView) (last : Hit) (scores places noted : List ℕ) → top'.k ≡ top.k → top'.room ≡ top.room
+    → AreNoted (without_heap top) last scores places noted → AreNoted (without_heap top') last scores places noted
+noted_still top top' last scores places noted k room are =
+    subst (λ (t : TopView). AreNoted t last scores places noted) (λ i. record { k = (sym k) i; hits = []; room = (sym room) i }) are
 
 -- ---- what a cut leaves
 

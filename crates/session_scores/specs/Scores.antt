@@ -4,7 +4,7 @@ use Rattle.frame_pool.specs.Pool.{PoolView}
 use Rattle.frame_pool.specs.ChainView.{ChainView}
 use Rattle.accumulator_pages.specs.Pages as accumulator
 use Rattle.topk_heap.specs.Noting.{AreNoted}
-use Rattle.topk_heap.specs.Standing.{TopStands}
+use Rattle.topk_heap.specs.Standing.{HoldsFirst, without_heap}
 use Rattle.session_scores.specs.declared.scores.Scores.{Scores}
 use Rattle.jass_base.specs.declared.limits.TheConstants.{MOST_HITS}
 
@@ -40,13 +40,15 @@ pub record AreScoresOf (old new : Scores) : Type 0 where
 
 -- the heap has the first k + 1 documents by the scores that they have now
 abbrev pub IsSettled : Scores → PoolView → Type 0
-IsSettled s pool = TopStands s.top (scores_of s pool) (accumulator.pages_places s.pages pool)
+IsSettled s pool = HoldsFirst s.top (scores_of s pool)
 
--- whoever passes the hit `last` is in the heap or noted, and k + 1 documents do; notes are cut at a limit, and there is
--- room for the k + 1 that a cut keeps and as many more with a block, and for all notes in the heap
+-- whoever passes the hit `last` is noted, whatever the heap has, and k + 1 documents do; no document has a heap place;
+-- notes are cut at a limit, and there is room for the k + 1 that a cut keeps and as many more with a block, and for all
+-- notes in the heap
 pub record ScoresStand (s : Scores) (pool : PoolView) : Type 0 where
   pub pages : accumulator.Stands s.pages pool
-  pub noted : AreNoted s.top s.last (scores_of s pool) (accumulator.pages_places s.pages pool) s.reached.docs
+  pub noted : AreNoted (without_heap s.top) s.last (scores_of s pool) (accumulator.pages_places s.pages pool)
+      s.reached.docs
   pub settled : s.settled ≡ true → IsSettled s pool
   pub docs : s.docs ≡ docs_of s
   pub step : s.step ≡ s.top.k + 1 + 128

@@ -19,8 +19,9 @@ use topk_heap::laws::{the_runner_up_is_a_document, those_raised_are_noted};
 use topk_heap::{Top, just_behind};
 
 /// The scores of a session's documents and the first k + 1 of them. What is added changes the scores at once and the
-/// first documents at the next `settle`: until then those that passed the last of the first are noted. Where there are
-/// many notes, those that k + 1 documents rank before are forgotten.
+/// first documents at the next `settle`. Whoever may be among the first is noted, so that `settle` ranks those noted
+/// and no others. Where there are many notes, those that k + 1 documents rank before are forgotten. Between an addition
+/// and the next `settle`, `hits` and `runner_up` tell nothing.
 ///
 /// Each call that takes a pool wants the pool of `new`, with this chain as the last call on these scores left it.
 /// Other chains may have changed.
@@ -193,6 +194,9 @@ impl Scores {
     {
         those_raised_are_noted();
         the_runner_up_is_a_document();
+        // The heap is of the grant before.
+        self.top.forget();
+        self.settled = false;
         let next = self
             .top
             .runner_up_now(&self.pages, pool, self.reached.as_slice());
@@ -202,24 +206,16 @@ impl Scores {
         self.limit = self.reached.as_slice().len() + self.step;
     }
 
-    /// Takes in those noted.
-    fn settle_noted(&mut self, pool: &mut FramePool)
-        requires stand { ScoresStand self.old pool.old }
-        ensures settled { IsSettled self.new pool.new }
-        ensures scores { scores_of self.new pool.new ≡ scores_of self.old pool.old }
-        ensures frames { length (own_view self.new pool.new).frames ≡ length (own_view self.old pool.old).frames }
-        ensures none { self.new.reached.docs ≡ [] }
-        ensures stand { ScoresStand self.new pool.new }
-        ensures same { AreScoresOf self.old self.new }
-        ensures leaves { LeavesPool pool.old pool.new (own_chain self.old) }
+    /// Ranks those noted. They stay noted: whoever passes the hit that they passed is one of them.
+    fn settle_noted(&mut self, pool: &FramePool)
+        requires stand { ScoresStand self.old pool.now }
+        ensures settled { IsSettled self.new pool.now }
+        ensures stand { ScoresStand self.new pool.now }
+        ensures pages { self.new.pages ≡ self.old.pages }
+        ensures k { k_of self.new ≡ k_of self.old }
     {
         those_raised_are_noted();
-        the_runner_up_is_a_document();
-        self.top
-            .settle(&mut self.pages, pool, self.reached.as_slice());
-        self.reached.clear();
-        self.last = just_behind(self.top.runner_up(), self.docs);
-        self.limit = self.step;
+        self.top.rank(&self.pages, pool, self.reached.as_slice());
         self.settled = true;
     }
 

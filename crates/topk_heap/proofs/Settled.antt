@@ -8,7 +8,7 @@ use Rattle.shared_lemmas.proofs.Members.{In, in_from_contains, contains_from_in,
 use Rattle.shared_lemmas.proofs.Lists.{all_weaker, all_append, all_map}
 use Rattle.topk_heap.specs.Hits.{HitsView}
 use Rattle.topk_heap.specs.Private.Settling.{hit_of, newcomers, rescored, with_places, without_places}
-use Rattle.topk_heap.specs.Standing.{ArePlacesOf, HaveFirst, IsPlaced, IsTouched, TopStands, TopView, top_view, with_heap}
+use Rattle.topk_heap.specs.Standing.{ArePlacesOf, HoldsFirst, HaveFirst, IsPlaced, IsTouched, TopStands, TopView, top_view, with_heap, without_heap}
 use Rattle.topk_heap.specs.Private.Standing.{AreInOrder, IsTop}
 use Rattle.topk_heap.proofs.Lists.{Has, doc_cases, in_append, in_left, in_right, in_map, in_reverse, in_reversed, all_by_index, all_reversed, pairs_index}
 use Rattle.topk_heap.proofs.Ranking.{Apart, Own, first_in_order, first_own, heap_of, order_apart}
@@ -195,6 +195,21 @@ ready {k} {hits} {aside} {top} {scores} {places} raised view order placed known 
       once = pairs_by_recursion (λ a b. a ≢ b) raised once;
       have = subst (λ (t : TopView). HaveFirst scores (t.k + 1) (with_heap t raised)) (sym view) have;
     }
+
+-- the same where no document has a heap place, and the heap is made anew
+pub ready_anew : (k : ℕ) (hits : HitsView) {top : TopView} {scores places : List ℕ} (noted : List ℕ) → top_view k hits ≡ top → IsPlaced (without_heap top) scores places
+    → All (IsTouched scores) noted → AllPairs (λ a b. a ≢ b) noted → HaveFirst scores (top.k + 1) noted → Ready scores places noted [] (k + 1)
+ready_anew k hits {top} {scores} {places} noted view vacant known once have = record {
+  touched = tt;
+  apart = tt;
+  had = vacant.placed;
+  known = all_by_index (λ d. IsTouched scores d) 0 noted (λ i inside. known i 0 inside);
+  once = pairs_by_recursion (λ a b. a ≢ b) noted once;
+  have = subst (λ (t : TopView). HaveFirst scores (t.k + 1) noted) (sym view) have;
+}
+
+pub has_first : (k : ℕ) (hits : HitsView) (scores : List ℕ) → hits.hits ≡ first_ranked scores (k + 1) → HoldsFirst (top_view k hits) scores
+has_first k hits scores new = subst (λ (xs : List Hit). IsPermutation xs (reverse hits.hits)) new (IsPermutation-reverse hits.hits)
 
 pub new_are : {scores places raised : List ℕ} {row again gathered new : List Hit} {m : ℕ} → Ready scores places raised row m → again ≡ map (rescored scores) row → gathered ≡ again ++ newcomers scores places raised
     → new ≡ take m (sorted rank_cmp gathered) → new ≡ first_ranked scores m

@@ -1,5 +1,5 @@
 -- The first documents of some scores in a heap, the last of them in front. Heaps: J. W. J. Williams, Algorithm 232 (CACM 1964).
-use Rattle.std.specs.Prelude.{◌≡◌, ◌≢◌, ℕ, ◌+◌, ◌-◌, ◌/◌, ◌<◌, ◌≤◌, true, List, ◌++◌, length, map, reverse, slice_index, IsPermutation, Contains}
+use Rattle.std.specs.Prelude.{◌≡◌, ◌≢◌, ℕ, ◌+◌, ◌-◌, ◌/◌, ◌<◌, ◌≤◌, true, List, [], ◌++◌, length, map, reverse, slice_index, IsPermutation, Contains}
 use Rattle.std.specs.List.{AllByRecursion}
 use Rattle.std.specs.Ordering.{is_gt}
 use Rattle.jass_base.specs.declared.answer.Hit.{Hit}
@@ -27,13 +27,21 @@ pub record ArePlacesOf (hits : List Hit) (places : List ℕ) : Type 0 where
   pub inside : (i : ℕ) → i < length hits → slice_index places (hit_at hits i).doc ≡ i + 1
   pub outside : (doc : ℕ) → AllByRecursion (λ hit. hit.doc ≢ doc) hits → slice_index places doc ≡ 0
 
+-- the hits of the heap are the first k + 1 documents of these scores, in whatever order
+abbrev pub HoldsFirst : TopView → List ℕ → Type 0
+HoldsFirst top scores = IsPermutation (first_ranked scores (top.k + 1)) top.hits
+
 -- the heap has the first k + 1 documents of these scores, and these are the heap places
 pub record TopStands (top : TopView) (scores places : List ℕ) : Type 0 where
-  pub hits : IsPermutation (first_ranked scores (top.k + 1)) top.hits
+  pub hits : HoldsFirst top scores
   pub heap : IsHeap top.hits
   pub placed : ArePlacesOf top.hits places
 
 -- ---- what calls ask for
+
+-- as many documents asked for, and as much room, but no heap
+abbrev pub without_heap : TopView → TopView
+without_heap top = record { k = top.k; hits = []; room = top.room }
 
 -- the document has a score
 abbrev pub IsTouched : List ℕ → ℕ → Type 0

@@ -33,8 +33,8 @@ impl Model for Hits {
 }
 
 impl Hits {
-    /// Room for so many hits, and aside for `few` more: where there are more than these, `keep_first` selects the first
-    /// before it puts them in order. No other call takes memory.
+    /// Room for so many hits, and aside for `few` more: where there are more than these, `keep_first` selects up to so
+    /// many before it puts them in order. No other call takes memory.
     pub fn new(alloc: Global, room: usize, few: usize) -> Result<Hits, NoMemory>
         ensures hits { IfOk result (λ hits. hits.hits ≡ []) }
         ensures room { IfOk result (λ hits. hits.room ≡ room) }
@@ -60,6 +60,14 @@ impl Hits {
         ensures { result.now ≡ self.now.hits }
     {
         &self.row[..self.count]
+    }
+
+    /// Forgets all hits.
+    pub fn clear(&mut self)
+        ensures hits { self.new.hits ≡ [] }
+        ensures room { self.new.room ≡ self.old.room }
+    {
+        self.count = 0;
     }
 
     /// Puts a hit behind the others.
@@ -132,6 +140,7 @@ fn rank(hits: &mut [Hit], aside: &mut [Hit])
     ensures aside { length aside.new ≡ length aside.old }
 {
     let count = hits.len();
+    // Places of counting passes have 32 bits.
     if MANY <= count && count <= aside.len() && count <= u32::MAX as usize {
         rank_by_counting(hits, &mut aside[..count]);
     } else {

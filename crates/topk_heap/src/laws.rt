@@ -21,7 +21,8 @@ pub fn calls_on_other_chains_leave_a_heap()
 {}
 
 /// Nobody has to be noted where a heap stands, and after that whom each addition raises over the last hit. At any time
-/// those noted can be cut: whoever ranks behind the hit after the first k goes. Those noted are what settling asks for.
+/// those noted can be cut: whoever ranks behind the hit after the first k goes. Those noted are what settling
+/// and ranking ask for.
 pub fn those_raised_are_noted()
     ensures none { (top : TopView) (scores places : List ℕ) → TopStands top scores places
         → AreNoted top (just_behind (runner_up scores top.k)) scores places [] }

@@ -1,4 +1,4 @@
-//! The steps of settling.
+//! The steps of settling and ranking.
 
 ghost use Rattle.std.specs.Prelude.{◌≡◌, ◌==◌, ◌+◌, ◌<◌, ◌≤◌, ◌++◌, All, IsTrue, length, map, slice_index};
 ghost use Rattle.accumulator_pages.specs.Pages.{Stands, docs_of, pages_places, pages_scores};

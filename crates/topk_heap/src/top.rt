@@ -4,7 +4,8 @@ ghost use Rattle.ranking_model.specs.Scores.{first_ranked, runner_up};
 ghost use Rattle.topk_heap.specs.Hits.{hit_at};
 ghost use Rattle.topk_heap.specs.Noting.{just_behind};
 ghost use Rattle.topk_heap.specs.Places.{KeepsScores};
-ghost use Rattle.topk_heap.specs.Standing.{HaveFirst, IsPlaced, IsTouched, TopStands, with_heap};
+ghost use Rattle.topk_heap.specs.Standing.{HaveFirst, HoldsFirst, IsPlaced, IsTouched, TopStands};
+ghost use Rattle.topk_heap.specs.Standing.{with_heap, without_heap};
 ghost use Rattle.jass_base.specs.declared.limits.TheConstants.{MOST_HITS};
 
 use crate::candidates::Candidates;
@@ -17,7 +18,9 @@ use std::alloc::Global;
 use std::marker::Model;
 
 /// The first k + 1 documents of a session by falling score, then rising number, each with its score. The heap is
-/// these from the last to the first; a document's heap place in the pages is its place there plus 1.
+/// these from the last to the first; once it is settled, a document's heap place in the pages is its place there plus
+/// 1. A session that keeps all who may be among the first as notes needs no heap places: `rank` makes the heap of the
+/// notes.
 #[derive(Drop)]
 pub struct Top {
     k: u32,
@@ -80,10 +83,36 @@ impl Top {
         set_places(pages, pool, self.hits.as_slice());
     }
 
+    /// Forgets the heap. Heap places stay as they are, so one that was settled can't be settled again after this.
+    pub fn forget(&mut self)
+        ensures { self.new ≡ without_heap self.old }
+    {
+        self.hits.clear();
+    }
+
+    /// Makes the heap anew of noted documents, for a session none of whose documents has a heap place; none gets one.
+    /// The first k + 1 documents are among those noted.
+    pub fn rank(&mut self, pages: &Pages, pool: &FramePool, noted: &[u32])
+        requires pages { Stands pages.now pool.now }
+        requires vacant { IsPlaced (without_heap self.old)
+            (pages_scores pages.now pool.now) (pages_places pages.now pool.now) }
+        requires touched { All (IsTouched (pages_scores pages.now pool.now)) noted.now }
+        requires once { AllPairs (λ a b. a ≢ b) noted.now }
+        requires first { HaveFirst (pages_scores pages.now pool.now) (self.old.k + 1) noted.now }
+        requires room { length noted.now ≤ self.old.room }
+        ensures first { HoldsFirst self.new (pages_scores pages.now pool.now) }
+        ensures k { self.new.k ≡ self.old.k }
+        ensures room { self.new.room ≡ self.old.room }
+    {
+        let first = self.k as usize + 1;
+        self.hits.clear();
+        gather(&mut self.hits, pages, pool, noted, true);
+        self.hits.keep_first(first);
+    }
+
     /// The first k documents.
     pub fn ranked(&self) -> &[Hit]
-        ensures { (scores places : List ℕ) → TopStands self.now scores places
-            → result.now ≡ first_ranked scores self.now.k }
+        ensures { (scores : List ℕ) → HoldsFirst self.now scores → result.now ≡ first_ranked scores self.now.k }
     {
         let hits = self.hits.as_slice();
         &hits[..hits.len().min(self.k as usize)]
@@ -92,8 +121,7 @@ impl Top {
     /// The document after the first k, and `None` exactly where at most k documents have a score. It is the last of a
     /// full heap.
     pub fn runner_up(&self) -> Option<Hit>
-        ensures next { (scores places : List ℕ) → TopStands self.now scores places
-            → result ≡ runner_up scores self.now.k }
+        ensures next { (scores : List ℕ) → HoldsFirst self.now scores → result ≡ runner_up scores self.now.k }
         ensures full { IfSome result (λ hit. length self.now.hits ≡ self.now.k + 1) }
         ensures last { IfSome result (λ hit. hit ≡ hit_at self.now.hits 0) }
     {

@@ -1,4 +1,4 @@
--- What `settle` does with hits and their heap places, step by step.
+-- What settling and ranking do with hits and their heap places, step by step.
 use Rattle.std.specs.Prelude.{◌≡◌, ℕ, ◌+◌, ◌==◌, if◌then◌else◌, List, [], ◌∷◌, length, slice_index, slice_set}
 use Rattle.jass_base.specs.declared.answer.Hit.{Hit}
 

@@ -2,6 +2,7 @@ use Rattle.std.proofs.Common.{◌∙◌, ℕ, List, [], ◌∷◌, set, true≢f
 use Rattle.accumulator_pages.specs.declared.pages.Pages.{Pages}
 use Rattle.accumulator_pages.specs.Pages.{HasRoomFor, own_view, pages_places, pages_scores}
 use Rattle.accumulator_pages.proofs.Standing.{length-values}
+use Rattle.topk_heap.specs.Standing.{without_heap}
 use Rattle.session_scores.proofs.Same.{inside_now, noted_after, one_fits, one_noted, one_inside}
 use Rattle.session_scores.proofs.scores.Scores.add.Goals as goal
 
@@ -21,8 +22,8 @@ returns-clause-stand c =
     let size = length-values (λ x. x.scores) s.pages.docs (own_view s.pages c.args.pool.now) ∙ ap (λ (p : Pages). p.docs) c.make_room.ensures.pages in
     record {
       pages = c.add-score.ensures.stands;
-      noted = noted_after s.top s.last c.args.w (c.args.doc ∷ []) scores _ (pages_places s.pages c.args.pool.now) _ s.reached.docs _
-          (c.those_raised_are_noted.ensures.more s.top s.last c.args.w (c.args.doc ∷ []) scores (pages_places s.pages c.args.pool.now) s.reached.docs stand.noted
+      noted = noted_after (without_heap s.top) s.last c.args.w (c.args.doc ∷ []) scores _ (pages_places s.pages c.args.pool.now) _ s.reached.docs _
+          (c.those_raised_are_noted.ensures.more (without_heap s.top) s.last c.args.w (c.args.doc ∷ []) scores (pages_places s.pages c.args.pool.now) s.reached.docs stand.noted
           (inside_now (c.args.doc ∷ []) scores _ size (one_inside c.args.doc _ c.requires.inside)))
           (c.add-score.ensures.scores ∙ ap (λ (v : ℕ). set scores c.args.doc v) c.add-score.ensures.score) c.add-score.ensures.places
           (one_noted c.args.w c.args.doc c.add-score.result scores s.reached.docs c.note.new.self.docs s.last c.add-score.ensures.score c.note.ensures.docs);
