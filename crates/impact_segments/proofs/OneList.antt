@@ -2,26 +2,40 @@
 use Rattle.shared_lemmas.proofs.Common.{◌≡◌, ℕ, ◌+◌, ◌<◌, ◌≤◌, List, [], ◌∷◌, ◌++◌, map, length, get_or, drop, Bool, true, false, refl, sym, ap, ◌∙◌, subst, append_assoc, All, Option, Some, None, if◌then◌else◌, AllByRecursion, IsStrictlyIncreasing, arith, recursion_from_All, All-push}
 use Rattle.shared_lemmas.proofs.Common.{drop_more, map-map}
 use Rattle.shared_lemmas.proofs.Lists.{all_unmap}
-use Rattle.impact_segments.proofs.Below.{HasDocsBelow, docs_of, Posting, PostingsList, Bits, Raw, Of, Range, Rule, impact_of, idf}
+use Rattle.impact_segments.proofs.Below.{docs_of, Posting, PostingsList, Bits, Raw, Of, Range, Rule, impact_of, idf}
 use Rattle.impact_segments.specs.Collections.{weight_in}
-use Rattle.impact_segments.specs.OneList.{first_outside, has_weight, nearer_end, outside}
+use Rattle.impact_segments.specs.OneList.{ArePostingsOf, IsListOf, Unmade, first_outside, has_weight, nearer_end, outside}
 use Rattle.impact_segments.specs.Pairs.{pair_docs, with_impact}
 use Rattle.impact_segments.specs.declared.doc_impact.DocImpact.{DocImpact}
+use Rattle.impact_segments.specs.declared.one_list.SegmentsFault.{SegmentsFault}
+use Rattle.impact_segments.specs.declared.one_list.SegmentsFault.TheVariants.{Outside, NoMemory}
 
-module _ (f : Posting → ℕ) (list : PostingsList) where
+module _ (f : Posting → ℕ) (postings : List Posting) where
   abbrev pub pair_by : Posting → DocImpact
   pair_by p = record { doc = p.doc; impact = f p }
 
-  pub docs_rise_by : (pairs : List DocImpact) → pairs ≡ map pair_by list.postings → IsStrictlyIncreasing (pair_docs pairs)
-  docs_rise_by pairs is =
+  pub docs_rise_by : (pairs : List DocImpact) → pairs ≡ map pair_by postings → IsStrictlyIncreasing (docs_of postings) → IsStrictlyIncreasing (pair_docs pairs)
+  docs_rise_by pairs is rising =
       let P : List ℕ → Type 0 = λ (l : List ℕ). IsStrictlyIncreasing l in
-      subst P (sym (ap pair_docs is ∙ map-map (λ (p : DocImpact). p.doc) pair_by list.postings)) list.rising
+      subst P (sym (ap pair_docs is ∙ map-map (λ (p : DocImpact). p.doc) pair_by postings)) rising
 
-  pub docs_below_by : (d : ℕ) (pairs : List DocImpact) → pairs ≡ map pair_by list.postings → HasDocsBelow d list → AllByRecursion (λ (p : DocImpact). p.doc < d) pairs
+  pub docs_below_by : (d : ℕ) (pairs : List DocImpact) → pairs ≡ map pair_by postings → All (λ (doc : ℕ). doc < d) (docs_of postings) → AllByRecursion (λ (p : DocImpact). p.doc < d) pairs
   docs_below_by d pairs is below =
       let P : List ℕ → Type 0 = λ (l : List ℕ). AllByRecursion (λ (doc : ℕ). doc < d) l in
       all_unmap (λ (doc : ℕ). doc < d) (λ (p : DocImpact). p.doc) pairs
-      (subst P (sym (ap pair_docs is ∙ map-map (λ (p : DocImpact). p.doc) pair_by list.postings)) (recursion_from_All (λ (doc : ℕ). doc < d) (docs_of list.postings) below))
+      (subst P (sym (ap pair_docs is ∙ map-map (λ (p : DocImpact). p.doc) pair_by postings)) (recursion_from_All (λ (doc : ℕ). doc < d) (docs_of postings) below))
+
+-- the postings of a list, whose terms and documents are in range by themselves
+pub of_list : (lengths : List ℕ) (terms : ℕ) (list : PostingsList) → IsListOf lengths terms list → ArePostingsOf lengths terms list.postings
+of_list lengths terms list is = record {
+  few = is.few;
+  small = is.small;
+  total = is.total;
+  some = is.some;
+  rising = list.rising;
+  below = is.below;
+  tf = list.tf_in_range;
+}
 
 -- a weight by what the weigher of a list keeps
 pub weight_same : (rule kept : Rule) (lengths others : List ℕ) (total sum count rare w : ℕ) (p : Posting) → kept ≡ rule → others ≡ lengths → sum ≡ total → rare ≡ idf (length lengths) count
@@ -68,3 +82,21 @@ judged_more weigh bits range items i d w all low is none so_far =
     let rest : List ℕ = map weigh (drop (i + 1) items) in
     sym (inside_more bits range w rest none) ∙ ap (λ (v : ℕ). outside bits range (v ∷ rest)) is
     ∙ ap (λ (l : List Posting). outside bits range (map weigh l)) (sym (drop_more items i d low)) ∙ so_far
+
+-- a weight outside the range is the first one, whatever is behind it
+first_more : (b : Bool) (x y : ℕ × ℕ) (later : Option (ℕ × ℕ)) → (if b then None else Some y) ≡ Some x → (if b then later else Some y) ≡ Some x
+first_more true x y later is = cc
+first_more false x y later is = is
+
+outside_more : (bits : Bits) (range : Range) (w : ℕ) (weights : List ℕ) (x : ℕ × ℕ) → outside bits range (w ∷ []) ≡ Some x → outside bits range (w ∷ weights) ≡ Some x
+outside_more Raw range w weights x is = is
+outside_more (Of b) range w weights x is = first_more (has_weight range w) x (nearer_end range w, w) (first_outside range weights) is
+
+-- a weight that was refused behind others that weren't
+pub refused_there : (weigh : Posting → ℕ) (bits : Bits) (range : Range) (items : List Posting) (i : ℕ) (d : Posting) (w : ℕ) (all : Option (ℕ × ℕ)) (fault : SegmentsFault) → i < length items → w ≡ weigh (get_or items i d)
+    → outside bits range (map weigh (drop i items)) ≡ all → Unmade (outside bits range (w ∷ [])) fault → Unmade all fault
+refused_there weigh bits range items i d w all NoMemory low is so_far made = tt
+refused_there weigh bits range items i d w all (Outside kept found) low is so_far made =
+    let rest : List ℕ = map weigh (drop (i + 1) items) in
+    sym so_far ∙ ap (λ (l : List Posting). outside bits range (map weigh l)) (drop_more items i d low)
+    ∙ ap (λ (v : ℕ). outside bits range (v ∷ rest)) (sym is) ∙ outside_more bits range w rest (kept, found) made

@@ -1,9 +1,9 @@
 -- A list's postings are few enough, and their weights are in the range of all.
-use Rattle.shared_lemmas.proofs.Common.{◌≡◌, ℕ, suc, ◌+◌, ◌<◌, ◌≤◌, ◌^◌, max, min, List, [], ◌∷◌, length, map, drop, get_or, sym, ap, ap₂, ◌∙◌, subst, arith, fold, All, slice_index, AllByRecursion, flat_map, IsStrictlyIncreasing, recursion_from_All, All-from_recursion, length-map, get_or-map}
+use Rattle.shared_lemmas.proofs.Common.{◌≡◌, ℕ, suc, ◌+◌, ◌<◌, ◌≤◌, ◌^◌, max, min, List, [], ◌∷◌, length, map, drop, get_or, slice_get, get_or_from_slice_get, Some, sym, ap, ap₂, ◌∙◌, subst, arith, fold, All, slice_index, AllByRecursion, flat_map, IsStrictlyIncreasing, recursion_from_All, All-from_recursion, length-map, get_or-map}
 use Rattle.shared_lemmas.proofs.Common.{drop_more, map-map}
 use Rattle.shared_lemmas.proofs.Pairs.{Pairs, rising_pairs}
 use Rattle.shared_lemmas.proofs.Lists.{all_weaker, all_parts}
-use Rattle.impact_segments.proofs.Below.{DocRecord, Posting, PostingsList, HasDocsBelow, docs_of, Rule, Bm25, idf, length_norm, saturated, weight_of, saturated_cut, Bits, Of, Range, widened, range_of, empty_range, Holds, IsInRange, least-le_start, greatest-ge_start}
+use Rattle.impact_segments.proofs.Below.{DocRecord, Posting, PostingsList, HasDocsBelow, HasTfInRange, docs_of, Rule, Bm25, idf, length_norm, saturated, weight_of, saturated_cut, Bits, Of, Range, widened, range_of, empty_range, Holds, IsInRange, least-le_start, greatest-ge_start}
 use Rattle.impact_segments.specs.Private.Weighed.{lengths_in, total_length, norms_of, list_weights}
 use Rattle.impact_segments.proofs.OneTerm.{all_map_at}
 
@@ -32,6 +32,16 @@ pub item_below : (docs : ℕ) (list : PostingsList) (items : List Posting) (i : 
 item_below docs list items i d are low below =
     let P : List Posting → Type 0 = λ (l : List Posting). All (λ (doc : ℕ). doc < docs) (docs_of l) in
     all_map_at (λ (doc : ℕ). doc < docs) (λ (p : Posting). p.doc) items i d low (subst P (sym are) below)
+
+-- the document of one of some postings
+pub doc_below : (docs : ℕ) (postings : List Posting) (place : ℕ) (p : Posting) → slice_get postings place ≡ Some p → place < length postings → All (λ (doc : ℕ). doc < docs) (docs_of postings) → p.doc < docs
+doc_below docs postings place p there low below =
+    subst (λ (x : Posting). x.doc < docs) (get_or_from_slice_get postings place p p there)
+    (all_map_at (λ (doc : ℕ). doc < docs) (λ (x : Posting). x.doc) postings place p low below)
+
+-- how often its term stands in it
+pub tf_there : (postings : List Posting) (place : ℕ) (p : Posting) → slice_get postings place ≡ Some p → place < length postings → All HasTfInRange postings → HasTfInRange p
+tf_there postings place p there low all = subst HasTfInRange (get_or_from_slice_get postings place p p there) (all place p low)
 
 -- one posting more in the range
 pub widened_more : (weigh : Posting → ℕ) (r after all : Range) (items : List Posting) (i : ℕ) (d : Posting) (w : ℕ) → i < length items → w ≡ weigh (get_or items i d) → after ≡ widened r w

@@ -1,6 +1,8 @@
 -- The segments of one list, where the documents' lengths and the range of all weights are known.
 use Rattle.std.specs.Prelude.{ℕ, ◌≡◌, ◌+◌, ◌-◌, ◌≤◌, ◌<◌, ◌^◌, ◌&&◌, ⊤, Bool, List, [], ◌∷◌, length, map, min, All, Option, Some, None, if◌then◌else◌, nat_le}
+use Rattle.std.specs.List.Sorted.{IsStrictlyIncreasing}
 use Rattle.jass_base.specs.Lists.{HasDocsBelow}
+use Rattle.jass_base.specs.Postings.{HasTfInRange, docs_of}
 use Rattle.jass_base.specs.declared.posting.Posting.{Posting}
 use Rattle.jass_base.specs.declared.postings_list.PostingsList.{PostingsList}
 use Rattle.weights.specs.declared.weighting.Rule.{Rule}
@@ -22,6 +24,16 @@ pub record IsListOf (lengths : List ℕ) (terms : ℕ) (list : PostingsList) : T
   pub total : terms ≡ total_of lengths
   pub some : 1 ≤ length list.postings
   pub below : HasDocsBelow (length lengths) list
+
+-- postings of one term, by rising documents, which have these lengths and so many terms in all
+pub record ArePostingsOf (lengths : List ℕ) (terms : ℕ) (postings : List Posting) : Type 0 where
+  pub few : length lengths ≤ MOST_DOCUMENTS
+  pub small : All (λ n. n < 2 ^ 31) lengths
+  pub total : terms ≡ total_of lengths
+  pub some : 1 ≤ length postings
+  pub rising : IsStrictlyIncreasing (docs_of postings)
+  pub below : All (λ doc. doc < length lengths) (docs_of postings)
+  pub tf : All HasTfInRange postings
 
 -- how far each length slows the growth of a weight, cut off where no weight is above 1
 abbrev pub norms_in : List ℕ → ℕ → List ℕ

@@ -47,7 +47,7 @@ pub(crate) fn group_by(
     ensures once { IfOk result (λ segments. AllPairs SharesNoDocument segments) }
 {
     let greatest = greatest_of(pairs.as_slice());
-    group_into(segments, places, pairs, greatest)?;
+    group_into(segments, places, pairs.as_mut_slice(), greatest)?;
     segments.to_rows(alloc)
 }
 
@@ -55,26 +55,26 @@ pub(crate) fn group_by(
 pub(crate) fn group_into(
     segments: &mut ListSegments,
     places: &mut ImpactPlaces,
-    pairs: &mut Vec<DocImpact>,
+    pairs: &mut [DocImpact],
     greatest: u16,
 ) -> Result<(), NoMemory>
-    requires rising { IsStrictlyIncreasing (pair_docs pairs.old.items) }
-    requires positive { All (λ (p : DocImpact). 1 ≤ p.impact) pairs.old.items }
-    requires greatest { All (λ (p : DocImpact). p.impact ≤ greatest) pairs.old.items }
-    ensures { OnOk result (segments.new ≡ segments_in (sorted pair_cmp pairs.old.items)) }
+    requires rising { IsStrictlyIncreasing (pair_docs pairs.old) }
+    requires positive { All (λ (p : DocImpact). 1 ≤ p.impact) pairs.old }
+    requires greatest { All (λ (p : DocImpact). p.impact ≤ greatest) pairs.old }
+    ensures { OnOk result (segments.new ≡ segments_in (sorted pair_cmp pairs.old)) }
 {
     match impact_count(pairs.len(), greatest) {
-        Some(count) => places.group(segments, pairs.as_slice(), count),
+        Some(count) => places.group(segments, pairs, count),
         None => {
             arrange(pairs);
-            segments.cut(pairs.as_slice())
+            segments.cut(pairs)
         }
     }
 }
 
 /// By falling impact, then rising document.
-fn arrange(pairs: &mut Vec<DocImpact>)
-    ensures { pairs.new.items ≡ sorted pair_cmp pairs.old.items }
+fn arrange(pairs: &mut [DocImpact])
+    ensures { pairs.new ≡ sorted pair_cmp pairs.old }
 {
     // Most lists have one posting.
     if pairs.len() > 1 {

@@ -7,11 +7,12 @@ ghost use Rattle.weights.specs.Quantizing.{IsImpactWidth, IsInRange, impact_of, 
 ghost use Rattle.weights.specs.Weighting.{idf, length_norm};
 ghost use Rattle.impact_segments.specs.Collections.{weight_in, weights_in};
 ghost use Rattle.impact_segments.specs.Private.ImpactTable.{AreImpacts};
-ghost use Rattle.impact_segments.specs.OneList.{EndsLow, IsListOf, Unmade, nearer_end, norms_in, outside, pairs_in};
+ghost use Rattle.impact_segments.specs.OneList.{ArePostingsOf, EndsLow, IsListOf, Unmade, nearer_end, norms_in, outside, pairs_in};
 ghost use Rattle.impact_segments.specs.declared.doc_impact.DocImpact.{DocImpact};
 ghost use Rattle.jass_base.specs.declared.limits.TheConstants.{MOST_DOCUMENTS};
 
 use crate::doc_impact::DocImpact;
+use crate::list_postings::ListPostings;
 use jass_base::{NoMemory, Posting, PostingsList};
 use std::alloc::Global;
 use weights::{Bits, Range, Rule, idf, impact_of, length_norm, saturated};
@@ -40,22 +41,25 @@ struct ListRule<'a> {
 }
 
 impl<'a> ListRule<'a> {
+    /// What those of a list of so many postings depend on.
     fn new(
         rule: Rule,
         total: u64,
-        list: &PostingsList,
+        count: usize,
         lengths: &'a [u32],
         norms: Option<&'a [u64]>,
     ) -> ListRule<'a>
-        requires list { IsListOf lengths.now total list.now }
+        requires some { 1 ≤ count }
+        requires within_docs { count ≤ length lengths.now }
+        requires few { length lengths.now ≤ MOST_DOCUMENTS }
         requires norms { ForSome norms (λ n. n.now ≡ norms_in lengths.now total) }
         ensures rule { result.rule ≡ rule }
         ensures total { result.total ≡ total }
-        ensures rare { result.rare ≡ idf (length lengths.now) (length list.now.postings) }
+        ensures rare { result.rare ≡ idf (length lengths.now) count }
         ensures limit { result.rare < 27 * 1024 }
         ensures lengths { result.lengths.now ≡ lengths.now }
     {
-        let rare = idf(lengths.len() as u32, list.postings.len() as u32);
+        let rare = idf(lengths.len() as u32, count as u32);
         ListRule {
             rule,
             total,
@@ -128,78 +132,74 @@ pub fn widen_list(range: &mut Range, rule: Rule, total: u64, list: &PostingsList
     widen(range, rule, total, list, lengths, None);
 }
 
-/// What `widen_list` does, by the documents' norms.
-pub fn widen_by_norms(
+/// What `widen_list` does, by the documents' norms, and for postings however they are kept.
+pub fn widen_by_norms<P: ListPostings>(
     range: &mut Range,
     rule: Rule,
     total: u64,
-    list: &PostingsList,
+    list: &P,
     lengths: &[u32],
     norms: &[u64],
 )
-    requires list { IsListOf lengths.now total list.now }
+    requires list { ArePostingsOf lengths.now total (P.postings list.now) }
     requires norms { norms.now ≡ norms_in lengths.now total }
-    ensures { range.new ≡ fold widened range.old (weights_in rule lengths.now total list.now.postings) }
+    ensures { range.new ≡ fold widened range.old (weights_in rule lengths.now total (P.postings list.now)) }
 {
     widen(range, rule, total, list, lengths, Some(norms));
 }
 
-fn widen(
+fn widen<P: ListPostings>(
     range: &mut Range,
     rule: Rule,
     total: u64,
-    list: &PostingsList,
+    list: &P,
     lengths: &[u32],
     norms: Option<&[u64]>,
 )
-    requires list { IsListOf lengths.now total list.now }
+    requires list { ArePostingsOf lengths.now total (P.postings list.now) }
     requires norms { ForSome norms (λ n. n.now ≡ norms_in lengths.now total) }
-    ensures { range.new ≡ fold widened range.old (weights_in rule lengths.now total list.now.postings) }
+    ensures { range.new ≡ fold widened range.old (weights_in rule lengths.now total (P.postings list.now)) }
 {
-    let weigher = ListRule::new(rule, total, list, lengths, norms);
-    for posting in list.postings.as_slice() {
-        range.widen(weigher.weigh(*posting));
+    let count = list.count();
+    let weigher = ListRule::new(rule, total, count, lengths, norms);
+    for place in 0..count {
+        range.widen(weigher.weigh(list.posting(place)));
     }
 }
 
-/// Leaves the documents of a list with their impacts, none of which is above the answer.
-pub(crate) fn impacts_of(
-    pairs: &mut Vec<DocImpact>,
+/// Puts the documents of a list with their impacts into a row of as many. None of these is above the
+/// answer.
+pub(crate) fn impacts_of<P: ListPostings>(
+    pairs: &mut [DocImpact],
     table: &[u16],
     rule: Rule,
     bits: Bits,
     range: Range,
     total: u64,
-    list: &PostingsList,
+    list: &P,
     lengths: &[u32],
     norms: Option<&[u64]>,
 ) -> Result<u16, SegmentsFault>
-    requires list { IsListOf lengths.now total list.now }
+    requires list { ArePostingsOf lengths.now total (P.postings list.now) }
     requires width { IsImpactWidth bits }
     requires low { EndsLow bits range }
     requires norms { ForSome norms (λ n. n.now ≡ norms_in lengths.now total) }
     requires table { AreImpacts bits range table.now }
-    ensures pairs { OnOk result (pairs.new.items
-        ≡ pairs_in rule lengths.now total bits range list.now.postings) }
-    ensures positive { OnOk result (All (λ (p : DocImpact). 1 ≤ p.impact) pairs.new.items) }
-    ensures greatest { IfOk result (λ greatest. All (λ (p : DocImpact). p.impact ≤ greatest) pairs.new.items) }
-    ensures inside { OnOk result (outside bits range (weights_in rule lengths.now total list.now.postings) ≡ None) }
-    ensures fault { IfErr result (Unmade (outside bits range (weights_in rule lengths.now total list.now.postings))) }
+    requires room { length pairs.old ≡ length (P.postings list.now) }
+    ensures pairs { OnOk result (pairs.new ≡ pairs_in rule lengths.now total bits range (P.postings list.now)) }
+    ensures positive { OnOk result (All (λ (p : DocImpact). 1 ≤ p.impact) pairs.new) }
+    ensures greatest { IfOk result (λ greatest. All (λ (p : DocImpact). p.impact ≤ greatest) pairs.new) }
+    ensures inside { OnOk result (outside bits range (weights_in rule lengths.now total (P.postings list.now)) ≡ None) }
+    ensures fault { IfErr result (Unmade (outside bits range (weights_in rule lengths.now total (P.postings list.now)))) }
 {
-    let postings = list.postings.as_slice();
-    // The row has its length at once: a length in memory would have each posting wait for the one before it.
-    match pairs.resize(postings.len(), DocImpact { doc: 0, impact: 1 }) {
-        Ok(()) => {}
-        Err(_) => return Err(SegmentsFault::NoMemory),
-    }
-    let row = pairs.as_mut_slice();
-    let weigher = ListRule::new(rule, total, list, lengths, norms);
+    let count = list.count();
+    let weigher = ListRule::new(rule, total, count, lengths, norms);
     let mut greatest = 0;
-    for index in 0..postings.len() {
-        let posting = postings[index];
+    for place in 0..count {
+        let posting = list.posting(place);
         let weight = weigher.weigh(posting);
         let impact = impact_in(table, bits, range, weight)?;
-        row[index] = DocImpact {
+        pairs[place] = DocImpact {
             doc: posting.doc,
             impact,
         };

@@ -10,13 +10,15 @@ ghost use Rattle.index_model.specs.Index.{FallsTo, SegmentData, SharesNoDocument
 ghost use Rattle.index_model.specs.Views.{segment_data};
 ghost use Rattle.impact_segments.specs.Collections.{weights_in};
 ghost use Rattle.impact_segments.specs.ListTerms.{list_segments};
-ghost use Rattle.impact_segments.specs.OneList.{EndsLow, IsListOf, Unmade, norms_in, outside};
+ghost use Rattle.impact_segments.specs.OneList.{ArePostingsOf, EndsLow, IsListOf, Unmade, norms_in, outside};
 
+use crate::doc_impact::DocImpact;
 use crate::grouping::group_into;
+use crate::list_postings::ListPostings;
 use crate::list_segments::ListSegments;
 use crate::one_list::{SegmentsFault, impacts_of};
 use crate::scratch::Scratch;
-use jass_base::{PostingsList, Row, Segment};
+use jass_base::{NoMemory, PostingsList, Row, Segment};
 use std::alloc::Global;
 use weights::{Bits, Range, Rule};
 
@@ -67,8 +69,8 @@ pub fn segments_of(
 }
 
 /// Makes the segments that `segments_of` makes, by the documents' norms, with what a scratch keeps
-/// from list to list, in memory that is used again. After a fault some segments or none are left.
-pub fn segments_into(
+/// from list to list, in memory that is used again, and of postings however they are kept. After a fault some segments or none are left.
+pub fn segments_into<P: ListPostings>(
     segments: &mut ListSegments,
     scratch: &mut Scratch,
     alloc: Global,
@@ -76,24 +78,24 @@ pub fn segments_into(
     bits: Bits,
     range: Range,
     total: u64,
-    list: &PostingsList,
+    list: &P,
     lengths: &[u32],
     norms: &[u64],
 ) -> Result<(), SegmentsFault>
-    requires list { IsListOf lengths.now total list.now }
+    requires list { ArePostingsOf lengths.now total (P.postings list.now) }
     requires width { IsImpactWidth bits }
     requires low { EndsLow bits range }
     requires norms { norms.now ≡ norms_in lengths.now total }
     ensures exact { OnOk result (segments.new
-        ≡ list_segments rule lengths.now total bits range list.now.postings) }
+        ≡ list_segments rule lengths.now total bits range (P.postings list.now)) }
     ensures postings { OnOk result (sum_by (λ (s : SegmentData). length s.docs) segments.new
-        ≡ length list.now.postings) }
+        ≡ length (P.postings list.now)) }
     ensures some { OnOk result (1 ≤ length segments.new) }
     ensures falling { OnOk result (AllPairs FallsTo segments.new) }
     ensures once { OnOk result (AllPairs SharesNoDocument segments.new) }
     ensures docs { OnOk result (All (λ (s : SegmentData). AreDocs (length lengths.now) s.docs) segments.new) }
-    ensures inside { OnOk result (outside bits range (weights_in rule lengths.now total list.now.postings) ≡ None) }
-    ensures fault { IfErr result (Unmade (outside bits range (weights_in rule lengths.now total list.now.postings))) }
+    ensures inside { OnOk result (outside bits range (weights_in rule lengths.now total (P.postings list.now)) ≡ None) }
+    ensures fault { IfErr result (Unmade (outside bits range (weights_in rule lengths.now total (P.postings list.now)))) }
 {
     scratch.make_table(bits, range);
     make_segments(
@@ -110,7 +112,7 @@ pub fn segments_into(
     )
 }
 
-fn make_segments(
+fn make_segments<P: ListPostings>(
     segments: &mut ListSegments,
     scratch: &mut Scratch,
     alloc: Global,
@@ -118,30 +120,45 @@ fn make_segments(
     bits: Bits,
     range: Range,
     total: u64,
-    list: &PostingsList,
+    list: &P,
     lengths: &[u32],
     norms: Option<&[u64]>,
 ) -> Result<(), SegmentsFault>
-    requires list { IsListOf lengths.now total list.now }
+    requires list { ArePostingsOf lengths.now total (P.postings list.now) }
     requires width { IsImpactWidth bits }
     requires low { EndsLow bits range }
     requires norms { ForSome norms (λ n. n.now ≡ norms_in lengths.now total) }
     ensures exact { OnOk result (segments.new
-        ≡ list_segments rule lengths.now total bits range list.now.postings) }
+        ≡ list_segments rule lengths.now total bits range (P.postings list.now)) }
     ensures postings { OnOk result (sum_by (λ (s : SegmentData). length s.docs) segments.new
-        ≡ length list.now.postings) }
+        ≡ length (P.postings list.now)) }
     ensures some { OnOk result (1 ≤ length segments.new) }
     ensures falling { OnOk result (AllPairs FallsTo segments.new) }
     ensures once { OnOk result (AllPairs SharesNoDocument segments.new) }
     ensures docs { OnOk result (All (λ (s : SegmentData). AreDocs (length lengths.now) s.docs) segments.new) }
-    ensures inside { OnOk result (outside bits range (weights_in rule lengths.now total list.now.postings) ≡ None) }
-    ensures fault { IfErr result (Unmade (outside bits range (weights_in rule lengths.now total list.now.postings))) }
+    ensures inside { OnOk result (outside bits range (weights_in rule lengths.now total (P.postings list.now)) ≡ None) }
+    ensures fault { IfErr result (Unmade (outside bits range (weights_in rule lengths.now total (P.postings list.now)))) }
 {
+    let count = list.count();
+    match make_room(&mut scratch.pairs, count) {
+        Ok(()) => {}
+        Err(_) => return Err(SegmentsFault::NoMemory),
+    }
     let table = scratch.table.impacts(bits, range);
-    let pairs = &mut scratch.pairs;
+    let pairs = &mut scratch.pairs.as_mut_slice()[..count];
     let greatest = impacts_of(pairs, table, rule, bits, range, total, list, lengths, norms)?;
     match group_into(segments, &mut scratch.places, pairs, greatest) {
         Ok(()) => Ok(()),
         Err(_) => Err(SegmentsFault::NoMemory),
     }
+}
+
+/// Makes a row have room for so many pairs. What stands there is of no use.
+fn make_room(pairs: &mut Vec<DocImpact>, count: usize) -> Result<(), NoMemory>
+    ensures { OnOk result (count ≤ length pairs.new.items) }
+{
+    if count > pairs.len() {
+        pairs.resize(count, DocImpact { doc: 0, impact: 0 })?;
+    }
+    Ok(())
 }

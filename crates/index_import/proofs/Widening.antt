@@ -1,12 +1,13 @@
 -- A range that is widened by lists that are read again.
 use Rattle.shared_lemmas.proofs.Common.{◌≡◌, ℕ, suc, ◌+◌, ◌<◌, ◌≤◌, ◌^◌, ◌||◌, Bool, false, nat_lt, nat_tests, slice_index_or, List, [], ◌∷◌, ◌++◌, fold, get_or, length, map, min, take, Option, sym, ap, ap₂, subst, ◌∙◌, arith, All, min-le_right, take-suc, length-map, map-append, All-map, All-push}
-use Rattle.index_import.proofs.Below.{FitsList, ListData, list_data, HasDocsBelow, Files, ForContent, Posting, PostingsList, for_both, Rule, Range, empty_range, range_of, widened, length_norm, can_widen, heaviest, lightest, most_tf, least-le_start, greatest-ge_start, weights_in, widened_by, norms_in, list_fits}
+use Rattle.index_import.proofs.Below.{FitsList, ListData, Files, ForContent, LeavesWalk, WalkView, Posting, for_both, Rule, Range, empty_range, range_of, widened, length_norm, can_widen, heaviest, lightest, most_tf, least-le_start, greatest-ge_start, weights_in, widened_by, norms_in}
 use Rattle.index_import.specs.Private.Outlining.{list_there}
-use Rattle.index_import.specs.Private.Ranging.{CannotWiden, widened_there}
+use Rattle.index_import.specs.Private.Ranging.{CannotWiden, IsWidenedBy, widened_there}
 use Rattle.index_import.specs.Private.Surveying.{HoldsMost}
 use Rattle.index_import.specs.declared.list_entry.ListEntry.{ListEntry}
 use Rattle.index_import.specs.declared.passed_sizes.ListSize.{ListSize}
 use Rattle.index_import.specs.declared.weighing.Weighing.{Weighing}
+use Rattle.index_import.proofs.Again.{told_then}
 use Rattle.index_import.proofs.Ready.{list_there_is}
 
 -- the range of the weights of the lists that were read, which fit; where the content is told it is that of all lists that entries name
@@ -36,22 +37,21 @@ module _ (one_more : OneMore) (docs : ℕ) (w : Weighing) (lists : List ListEntr
       ap (widened_there content docs w) more ∙ ap (widened_by w.rule w.lengths.now w.total empty_range) (map-append there (take i lists) (e ∷ []))
       ∙ one_more w.rule w.lengths.now w.total empty_range (map there (take i lists)) (there e)
 
-  -- a list that was read
-  pub widens_more : (files : Option Files) (name : List ℕ) (list : PostingsList) (range now : Range) → HasDocsBelow (length w.lengths.now) list
-      → ForContent files name (λ content. list.postings ≡ (list_there content docs e.place.at).postings)
-      → now ≡ fold widened range (weights_in w.rule w.lengths.now w.total list.postings)
+  -- a list that was read, or kept
+  pub widens_more : (files : Option Files) (name : List ℕ) (range now : Range) → IsWidenedBy files name docs w e.place.at range now
       → Widens files name docs w (take i lists) range → Widens files name docs w (take (i + 1) lists) now
-  widens_more files name list range now below here then so_far =
+  widens_more files name range now by so_far =
+      let list = by.list in
       let weights : ListData → List ℕ = λ (l : ListData). weights_in w.rule w.lengths.now w.total l.postings in
       record {
-        read = so_far.read ++ list_data list ∷ [];
-        fit = All-push (FitsList (length w.lengths.now)) so_far.read (list_data list) so_far.fit (list_fits (length w.lengths.now) list below);
-        range_is = then ∙ ap (λ (r : Range). fold widened r (weights (list_data list))) so_far.range_is
-            ∙ sym (one_more w.rule w.lengths.now w.total empty_range so_far.read (list_data list));
+        read = so_far.read ++ list ∷ [];
+        fit = All-push (FitsList (length w.lengths.now)) so_far.read list so_far.fit by.fits;
+        range_is = by.range_is ∙ ap (λ (r : Range). fold widened r (weights list)) so_far.range_is
+            ∙ sym (one_more w.rule w.lengths.now w.total empty_range so_far.read list);
         told = for_both files name (λ content. range ≡ widened_there content docs w (take i lists)) (λ content. list.postings ≡ (list_there content docs e.place.at).postings)
             (λ content. now ≡ widened_there content docs w (take (i + 1) lists))
-            (λ content was one. then ∙ ap₂ (λ (r : Range) (ps : List Posting). fold widened r (weights_in w.rule w.lengths.now w.total ps)) was one ∙ sym (range_more content))
-            so_far.told here;
+            (λ content was one. by.range_is ∙ ap₂ (λ (r : Range) (ps : List Posting). fold widened r (weights_in w.rule w.lengths.now w.total ps)) was one ∙ sym (range_more content))
+            so_far.told by.there;
       }
 
   -- a list that can't widen the range
@@ -85,6 +85,16 @@ module _ (one_more : OneMore) (docs : ℕ) (w : Weighing) (lists : List ListEntr
           ∙ sym judged ∙ cannot in
           ap (λ (l : ListData). fold widened range (weights_in w.rule w.lengths.now w.total l.postings)) (sym there)
           ∙ stays w.rule w.lengths.now w.total range holds.list w.few (subst (λ (n : ℕ). FitsList n holds.list) (sym as_many) holds.fits) (subst (λ (n : ℕ). 1 ≤ n) holds.count e.place.some) outside
+
+-- a list that was read of a walk that was left as it was
+pub widened_then : (files now : Option Files) (old mid : WalkView) (w : Weighing) (at : ℕ) (before after : Range) → now ≡ files → LeavesWalk old mid
+    → IsWidenedBy now mid.name mid.docs w at before after → IsWidenedBy files old.name old.docs w at before after
+widened_then files now old mid w at before after same leaves by = record {
+  list = by.list;
+  fits = by.fits;
+  range_is = by.range_is;
+  there = told_then files now old mid (λ docs content. by.list.postings ≡ (list_there content docs at).postings) same leaves by.there;
+}
 
 -- the norms of a collection are cut off
 pub norms_cut : (w : Weighing) (norms : List ℕ) → norms ≡ w.norms.now → All (λ n. n ≤ 2 ^ 63) norms

@@ -107,7 +107,7 @@ fn import_lists<C: Cabinet>(
 {
     lists_by_term_make_the_index();
     widened_lists_have_the_range();
-    let range = match read_range(alloc, walk, files, weighing, bits, &lists) {
+    let range = match read_range(walk, files, weighing, bits, &lists) {
         Ok(range) => range,
         Err(fault) => return Err(ImportFault::from_ciff(fault)),
     };

@@ -1,6 +1,6 @@
 //! Postings in four bytes each, which are kept so that their list needn't be read again.
 
-ghost use Rattle.std.specs.Prelude.{◌≡◌, ◌≤◌, ◌⊎◌, [], length, map, All, IfOk, IfSome, IsTrue, false, true};
+ghost use Rattle.std.specs.Prelude.{◌≡◌, ◌≤◌, ◌⊎◌, [], length, map, All, IfSome, IsTrue, false, true};
 ghost use Rattle.std.specs.List.Sorted.{IsStrictlyIncreasing};
 ghost use Rattle.jass_base.specs.Postings.{docs_of};
 ghost use Rattle.jass_base.specs.declared.posting.Posting.{Posting};
@@ -8,7 +8,8 @@ ghost use Rattle.index_import.specs.Private.KeptPostings.{HasWord, posting_in, p
 ghost use Rattle.index_import.specs.declared.kept_postings.TheConstants.{FEW};
 
 use arrayvec::ArrayVec;
-use jass_base::{NoMemory, Posting};
+use impact_segments::ListPostings;
+use jass_base::Posting;
 use std::alloc::Global;
 
 /// So many postings take no memory of their own.
@@ -67,14 +68,13 @@ impl KeptPostings {
         self.words().is_empty()
     }
 
-    /// The postings, in the memory of a vector that is of no more use.
-    pub fn postings(&self, mut spare: Vec<Posting>) -> Result<Vec<Posting>, NoMemory>
-        ensures { IfOk result (λ postings. postings.items ≡ postings_in self.now) }
+    /// The postings, each by its place.
+    pub fn by_place(&self) -> KeptWords<'_>
+        ensures { result.words.now ≡ words_in self.now }
     {
-        let words = self.words();
-        spare.resize(words.len(), Posting { doc: 0, tf: 0 })?;
-        unpack(spare.as_mut_slice(), words);
-        Ok(spare)
+        KeptWords {
+            words: self.words(),
+        }
     }
 
     fn words(&self) -> &[u32]
@@ -84,6 +84,25 @@ impl KeptPostings {
             KeptPostings::Few(words) => words.as_slice(),
             KeptPostings::Many(words) => words.as_slice(),
         }
+    }
+}
+
+/// The words of postings that were kept.
+#[derive(Clone, Copy)]
+pub(crate) struct KeptWords<'a> {
+    pub words: &'a [u32],
+}
+
+impl<'a> ListPostings for KeptWords<'a> {
+    ghost postings = { λ kept. map posting_in kept.words.now };
+
+    fn count(&self) -> usize {
+        self.words.len()
+    }
+
+    #[inline(always)]
+    fn posting(&self, place: usize) -> Posting {
+        posting_in(self.words[place])
     }
 }
 
@@ -118,34 +137,14 @@ fn many_words(alloc: Global, postings: &[Posting]) -> Option<Vec<u32>>
     requires { All HasWord postings.now }
     ensures { IfSome result (λ words. map posting_in words.items ≡ postings.now) }
 {
-    let mut words = match vec![in alloc; 0u32; postings.len()] {
+    let mut words = match Vec::with_capacity(alloc, postings.len()) {
         Ok(words) => words,
         Err(_) => return None,
     };
-    pack(words.as_mut_slice(), postings);
+    for posting in postings {
+        words.push_reserved(word_of(*posting));
+    }
     Some(words)
-}
-
-/// Puts the words of postings into a row of as many. Here and in `unpack` nothing grows, so that
-/// several are made at a time.
-fn pack(words: &mut [u32], postings: &[Posting])
-    requires length { length words.old ≡ length postings.now }
-    requires words { All HasWord postings.now }
-    ensures { map posting_in words.new ≡ postings.now }
-{
-    for index in 0..postings.len() {
-        words[index] = word_of(postings[index]);
-    }
-}
-
-/// Puts the postings of words into a row of as many.
-fn unpack(postings: &mut [Posting], words: &[u32])
-    requires { length postings.old ≡ length words.now }
-    ensures { postings.new ≡ map posting_in words.now }
-{
-    for index in 0..words.len() {
-        postings[index] = posting_in(words[index]);
-    }
 }
 
 /// The word of a posting that has one.

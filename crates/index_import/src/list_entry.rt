@@ -1,7 +1,5 @@
-ghost use Rattle.std.specs.Prelude.{◌≡◌, ◌<◌, ◌≤◌, ◌⊎◌, ◌^◌, [], length, All, IfOk};
-ghost use Rattle.std.specs.List.Sorted.{IsStrictlyIncreasing};
+ghost use Rattle.std.specs.Prelude.{◌≡◌, ◌<◌, ◌≤◌, ◌⊎◌, ◌^◌, [], length};
 ghost use Rattle.jass_base.specs.Limits.{IsText};
-ghost use Rattle.jass_base.specs.Postings.{HasTfInRange, docs_of};
 ghost use Rattle.impact_segments.specs.Bounds.{most_tf};
 ghost use Rattle.index_import.specs.Private.KeptPostings.{postings_in};
 ghost use Rattle.jass_base.specs.declared.limits.TheConstants.{LONGEST_TERM, MOST_POSTINGS};
@@ -9,7 +7,7 @@ ghost use Rattle.jass_base.specs.declared.limits.TheConstants.{LONGEST_TERM, MOS
 use crate::kept_postings::KeptPostings;
 use crate::list_term::ListTerm;
 use impact_segments::most_tf;
-use jass_base::{NoMemory, Posting, PostingsList, Row, Text};
+use jass_base::{Posting, PostingsList, Row};
 use std::alloc::Global;
 
 /// Where a list stands in a file, how many postings it has, and how often its term stands in one
@@ -58,29 +56,6 @@ impl ListEntry {
             kept,
         };
         (entry, postings)
-    }
-
-    /// The list of the postings that were kept, in a row that is used again. Its term, df and cf are
-    /// left empty, since neither ranges nor segments depend on them.
-    pub fn unpacked_list(
-        &self,
-        alloc: Global,
-        spare: Row<Posting>,
-    ) -> Result<PostingsList, NoMemory>
-        requires rising { IsStrictlyIncreasing (docs_of (postings_in self.now.kept)) }
-        requires tf { All HasTfInRange (postings_in self.now.kept) }
-        ensures { IfOk result (λ list. list.postings ≡ postings_in self.now.kept) }
-    {
-        let postings = self.kept.postings(spare.into_vec())?;
-        match Text::from_str(alloc, "") {
-            Ok(term) => Ok(PostingsList {
-                term,
-                df: 0,
-                cf: 0,
-                postings: Row::from_vec(postings),
-            }),
-            Err(_) => Err(NoMemory),
-        }
     }
 
     /// The term and the place, which are needed longer than the postings.

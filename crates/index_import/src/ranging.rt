@@ -1,25 +1,23 @@
-ghost use Rattle.std.specs.Prelude.{◌≡◌, ◌<◌, ◌≤◌, ◌^◌, length, MatchResult, All, IfOk, IsErrOf, OnOk};
+ghost use Rattle.std.specs.Prelude.{◌≡◌, ◌<◌, ◌≤◌, ◌^◌, length, MatchResult, All, IfErr, IfOk, IsErrOf, OnOk};
 ghost use Rattle.jass_base.specs.Outside.{Rose, ForContent};
-ghost use Rattle.ciff_read.specs.Walk.{IsOutside, LeavesWalk};
+ghost use Rattle.ciff_read.specs.Walk.{HasKept, IsOutside, LeavesWalk};
 ghost use Rattle.impact_segments.specs.OneList.{EndsLow};
-ghost use Rattle.index_import.specs.Private.Ranging.{range_there, widened_there};
+ghost use Rattle.index_import.specs.Private.Ranging.{IsWidenedBy, range_there, widened_there};
 ghost use Rattle.index_import.specs.Private.Surveying.{AreGiven, HoldsMost, IsReady, KeepsAll};
 
 use crate::list_entry::{ListEntry, Place};
 use crate::passed_sizes::{ListSize, PassedSizes};
-use crate::reading::entry_list;
+use crate::reading::read_again;
 use crate::weighing::Weighing;
 use ciff_read::{CiffFault, CiffWalk};
 use impact_segments::laws::{lists_inside_leave_the_range, widened_lists_have_the_range};
 use impact_segments::{can_widen, norm_ends, widen_by_norms};
 use jass_base::Cabinet;
-use std::alloc::Global;
 use weights::{Bits, Range};
 
 /// The range of the weights of lists, where impacts are places in it. They are looked at as far as
 /// they can widen it.
 pub(crate) fn read_range<C: Cabinet>(
-    alloc: Global,
     walk: &mut CiffWalk,
     files: &mut C,
     weighing: Weighing<'_>,
@@ -45,7 +43,7 @@ pub(crate) fn read_range<C: Cabinet>(
 {
     match bits {
         Bits::Raw => Ok(Range::new()),
-        Bits::Of(_) => widen_lists(alloc, walk, files, weighing, lists),
+        Bits::Of(_) => widen_lists(walk, files, weighing, lists),
     }
 }
 
@@ -53,7 +51,6 @@ pub(crate) fn read_range<C: Cabinet>(
 /// their greatest tf show, are passed over, and so is whatever list has the same numbers later, since
 /// the range only grows.
 fn widen_lists<C: Cabinet>(
-    alloc: Global,
     walk: &mut CiffWalk,
     files: &mut C,
     weighing: Weighing<'_>,
@@ -77,12 +74,7 @@ fn widen_lists<C: Cabinet>(
 {
     widened_lists_have_the_range();
     lists_inside_leave_the_range();
-    let Weighing {
-        rule,
-        total,
-        lengths,
-        norms,
-    } = weighing;
+    let Weighing { rule, norms, .. } = weighing;
     let ends = norm_ends(norms);
     let mut range = Range::new();
     let mut passed = PassedSizes::new();
@@ -96,12 +88,54 @@ fn widen_lists<C: Cabinet>(
             passed.keep(size);
             continue;
         }
-        let list = match entry_list(alloc, walk, files, entry) {
-            Ok(list) => list,
+        match widen_by_entry(&mut range, walk, files, weighing, entry) {
+            Ok(()) => {}
             Err(fault) => return Err(fault),
-        };
-        widen_by_norms(&mut range, rule, total, &list, lengths, norms);
-        walk.take_back(list.postings);
+        }
     }
     Ok(range)
+}
+
+/// Makes a range hold the weights of a list, too: of the postings that were kept of it, or else of
+/// the list as it is read again.
+fn widen_by_entry<C: Cabinet>(
+    range: &mut Range,
+    walk: &mut CiffWalk,
+    files: &mut C,
+    weighing: Weighing<'_>,
+    entry: &ListEntry,
+) -> Result<(), CiffFault>
+    requires ready { IsReady (C.told files.old) walk.old.name walk.old }
+    requires given { HasKept walk.old.kept entry.now.place.at entry.now.place.count }
+    requires docs { length weighing.lengths.now ≡ walk.old.docs }
+    requires keeps { KeepsAll walk.old.docs entry.now }
+    requires told { ForContent (C.told files.old) walk.old.name (λ content.
+        HoldsMost content walk.old.docs entry.now) }
+    ensures ready { OnOk result (IsReady (C.told files.old) walk.old.name walk.new) }
+    ensures leaves { LeavesWalk walk.old walk.new }
+    ensures widened { OnOk result (IsWidenedBy (C.told files.old) walk.old.name walk.old.docs weighing.entry
+        entry.now.place.at range.old range.new) }
+    ensures told { ForContent (C.told files.old) walk.old.name (λ content. IfErr result IsOutside) }
+    ensures fault { IsErrOf result CiffFault.ReadFault → Rose (C.read_faults files.old) (C.read_faults files.new) }
+    ensures stays { C.told files.new ≡ C.told files.old }
+    ensures later { C.read_faults files.old ≤ C.read_faults files.new }
+    ensures others { C.write_faults files.old ≤ C.write_faults files.new }
+{
+    let Weighing {
+        rule,
+        total,
+        lengths,
+        norms,
+    } = weighing;
+    if !entry.kept.is_empty() {
+        widen_by_norms(range, rule, total, &entry.kept.by_place(), lengths, norms);
+        return Ok(());
+    }
+    let list = match read_again(walk, files, entry.place) {
+        Ok(list) => list,
+        Err(fault) => return Err(fault),
+    };
+    widen_by_norms(range, rule, total, &list, lengths, norms);
+    walk.take_back(list.postings);
+    Ok(())
 }

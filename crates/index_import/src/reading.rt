@@ -4,18 +4,17 @@ ghost use Rattle.jass_base.specs.Lists.{HasDocsBelow};
 ghost use Rattle.jass_base.specs.Outside.{Rose, ForContent};
 ghost use Rattle.weights.specs.Quantizing.{IsImpactWidth};
 ghost use Rattle.ciff_read.specs.Walk.{HasKept, IsOutside, LeavesWalk};
-ghost use Rattle.impact_segments.specs.OneList.{EndsLow};
+ghost use Rattle.impact_segments.specs.OneList.{ArePostingsOf, EndsLow};
 ghost use Rattle.index_import.specs.Private.Outlining.{list_there};
 ghost use Rattle.index_import.specs.Private.Rereading.{AreSegments, MakesOf, MakesSegments};
-ghost use Rattle.index_import.specs.Private.Surveying.{AreOfList, HoldsMost, IsReady, KeepsAll, entry_postings};
+ghost use Rattle.index_import.specs.Private.Surveying.{HoldsMost, IsReady, KeepsAll};
 
 use crate::list_entry::{ListEntry, Place};
 use crate::weighing::Weighing;
 use ciff_read::{CiffFault, CiffRefusal, CiffWalk, CiffWhy};
-use impact_segments::{ListSegments, Scratch, SegmentsFault, segments_into};
-use jass_base::{Cabinet, Posting, PostingsList, Row};
+use impact_segments::{ListPostings, ListSegments, Scratch, SegmentsFault, segments_into};
+use jass_base::{Cabinet, PostingsList};
 use std::alloc::Global;
-use std::mem::replace;
 use weights::{Bits, Range};
 
 /// Reads a list again.
@@ -43,48 +42,10 @@ pub(crate) fn read_again<C: Cabinet>(
     }
 }
 
-/// The list of an entry: of the postings that were kept, and then without term, df and cf, or else as
-/// it is read again.
-pub(crate) fn entry_list<C: Cabinet>(
-    alloc: Global,
-    walk: &mut CiffWalk,
-    files: &mut C,
-    entry: &ListEntry,
-) -> Result<PostingsList, CiffFault>
-    requires ready { IsReady (C.told files.old) walk.old.name walk.old }
-    requires given { HasKept walk.old.kept entry.now.place.at entry.now.place.count }
-    requires keeps { KeepsAll walk.old.docs entry.now }
-    requires told { ForContent (C.told files.old) walk.old.name (λ content.
-        HoldsMost content walk.old.docs entry.now) }
-    ensures ready { OnOk result (IsReady (C.told files.old) walk.old.name walk.new) }
-    ensures leaves { LeavesWalk walk.old walk.new }
-    ensures below { IfOk result (HasDocsBelow walk.old.docs) }
-    ensures count { IfOk result (λ list. length list.postings ≡ entry.now.place.count) }
-    ensures told { ForContent (C.told files.old) walk.old.name (λ content.
-        MatchResult result (λ list. list.postings ≡ (list_there content walk.old.docs entry.now.place.at).postings)
-        IsOutside) }
-    ensures fault { IsErrOf result CiffFault.ReadFault → Rose (C.read_faults files.old) (C.read_faults files.new) }
-    ensures stays { C.told files.new ≡ C.told files.old }
-    ensures later { C.read_faults files.old ≤ C.read_faults files.new }
-    ensures others { C.write_faults files.old ≤ C.write_faults files.new }
-{
-    if entry.kept.is_empty() {
-        return match read_again(walk, files, entry.place) {
-            Ok(list) => Ok(list),
-            Err(fault) => Err(fault),
-        };
-    }
-    match entry.unpacked_list(alloc, Row::new(alloc)) {
-        Ok(list) => Ok(list),
-        Err(_) => Err(CiffFault::NoMemory),
-    }
-}
-
 /// Makes the segments of a list: of the postings that were kept of it, or else of the list as it is
 /// read again.
 pub(crate) fn entry_segments<C: Cabinet>(
     segments: &mut ListSegments,
-    spare: &mut Row<Posting>,
     scratch: &mut Scratch,
     alloc: Global,
     walk: &mut CiffWalk,
@@ -128,41 +89,16 @@ pub(crate) fn entry_segments<C: Cabinet>(
             Err(fault) => Err(fault),
         };
     }
-    match kept_segments(
-        segments, spare, scratch, alloc, weighing, bits, range, entry,
+    match make_segments(
+        segments,
+        scratch,
+        alloc,
+        weighing,
+        bits,
+        range,
+        &entry.kept.by_place(),
+        entry.place.at,
     ) {
-        Ok(()) => Ok(()),
-        Err(fault) => Err(fault),
-    }
-}
-
-/// Makes the segments of a list whose postings were kept.
-fn kept_segments(
-    segments: &mut ListSegments,
-    spare: &mut Row<Posting>,
-    scratch: &mut Scratch,
-    alloc: Global,
-    weighing: Weighing<'_>,
-    bits: Bits,
-    range: Range,
-    entry: &ListEntry,
-) -> Result<(), CiffFault>
-    requires of_list { AreOfList (length weighing.lengths.now) entry.now.place.count (entry_postings entry.now) }
-    requires width { IsImpactWidth bits }
-    requires low { EndsLow bits range }
-    ensures segments { OnOk result
-        (AreSegments (length weighing.entry.lengths.now) entry.now.place.count segments.new) }
-    ensures made { MakesOf weighing.entry bits range (entry_postings entry.now) segments.new result }
-    ensures fault { IfErr result (λ fault. fault ≢ CiffFault.ReadFault) }
-{
-    let list = match entry.unpacked_list(alloc, replace(spare, Row::new(alloc))) {
-        Ok(list) => list,
-        Err(_) => return Err(CiffFault::NoMemory),
-    };
-    let at = entry.place.at;
-    let made = make_segments(segments, scratch, alloc, weighing, bits, range, &list, at);
-    *spare = list.postings;
-    match made {
         Ok(()) => Ok(()),
         Err(fault) => Err(fault),
     }
@@ -208,23 +144,22 @@ pub(crate) fn read_segments<C: Cabinet>(
 
 /// Makes the segments of a list that stands at a place. A weight outside the range is refused as a
 /// change of the file.
-fn make_segments(
+fn make_segments<P: ListPostings>(
     segments: &mut ListSegments,
     scratch: &mut Scratch,
     alloc: Global,
     weighing: Weighing<'_>,
     bits: Bits,
     range: Range,
-    list: &PostingsList,
+    list: &P,
     at: u64,
 ) -> Result<(), CiffFault>
-    requires some { 1 ≤ length list.now.postings }
-    requires below { HasDocsBelow (length weighing.lengths.now) list.now }
+    requires list { ArePostingsOf weighing.lengths.now weighing.total (P.postings list.now) }
     requires width { IsImpactWidth bits }
     requires low { EndsLow bits range }
     ensures segments { OnOk result
-        (AreSegments (length weighing.entry.lengths.now) (length list.now.postings) segments.new) }
-    ensures made { MakesOf weighing.entry bits range list.now.postings segments.new result }
+        (AreSegments (length weighing.entry.lengths.now) (length (P.postings list.now)) segments.new) }
+    ensures made { MakesOf weighing.entry bits range (P.postings list.now) segments.new result }
     ensures fault { IfErr result (λ fault. fault ≢ CiffFault.ReadFault) }
 {
     let Weighing {

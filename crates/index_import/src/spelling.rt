@@ -79,11 +79,9 @@ pub(crate) fn spell_lists<C: Cabinet>(
     let mut segments = ListSegments::new(alloc);
     let mut heads = Row::new(alloc);
     let mut scratch = Scratch::new(alloc);
-    let mut spare = Row::new(alloc);
     'lists: for entry in lists {
         match entry_segments(
             &mut segments,
-            &mut spare,
             &mut scratch,
             alloc,
             walk,

@@ -8,10 +8,10 @@ use Rattle.impact_segments.proofs.Orders.{pair_total, pair_same, pair_less}
 use Rattle.impact_segments.proofs.Grouped.{sorted_few}
 use Rattle.impact_segments.proofs.grouping.arrange.Goals as goal
 
-pub returns-then-len-gt1 : goal.returns-then-len-gt1
-returns-then-len-gt1 c = sort_is_sorted pair_cmp pair_total pair_same c.args.pairs.now.items c.sort_unstable_by.new.self.items
+pub returns-then-pairs-gt1 : goal.returns-then-pairs-gt1
+returns-then-pairs-gt1 c = sort_is_sorted pair_cmp pair_total pair_same c.args.pairs.now c.sort_unstable_by.new.self
     c.sort_unstable_by.ensures.permutation
     (c.sort_unstable_by.ensures.sorted (λ (a b : DocImpact). is_lt (pair_cmp a b)) pair_less (answers_always _ _ _ (λ f a r f' called. search rules)))
 
-pub returns-else-len-gt1 : goal.returns-else-len-gt1
-returns-else-len-gt1 c = sorted_few c.args.pairs.now.items (omega (arith, c.len.ensures, c.if-len-gt1.false, c.args.pairs.now.ok.0))
+pub returns-else-pairs-gt1 : goal.returns-else-pairs-gt1
+returns-else-pairs-gt1 c = sorted_few c.args.pairs.now (omega (arith, c.if-pairs-gt1.false))

@@ -4,7 +4,11 @@ use Rattle.shared_lemmas.proofs.Lists.{All-unmap}
 use Rattle.shared_lemmas.proofs.Pairs.{AllPairs-unmap}
 use Rattle.index_model.specs.Index.{FallsTo, SharesNoDocument}
 use Rattle.impact_segments.proofs.Below.{AreDocs, SegmentData, segment_data}
+use Rattle.impact_segments.proofs.OneList.{of_list}
 use Rattle.impact_segments.proofs.segments.segments_of.Goals as goal
+
+pub make_segments-requires-clause-list : goal.make_segments-requires-clause-list
+make_segments-requires-clause-list c = of_list c.args.lengths.now c.args.total c.args.list.now c.requires.list
 
 pub returns-in-Ok-clause-falling : goal.returns-in-Ok-clause-falling
 returns-in-Ok-clause-falling c = AllPairs-unmap FallsTo segment_data c.in-Ok.rows (subst (λ (l : List SegmentData). AllPairs FallsTo l) (sym c.in-Ok.ensures) c.in_ok-make_segments.ensures.falling)

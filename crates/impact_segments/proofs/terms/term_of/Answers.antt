@@ -6,7 +6,7 @@ use Rattle.impact_segments.proofs.OneTerm.{impact_by, some_segments, segments_be
 use Rattle.impact_segments.proofs.terms.term_of.Goals as goal
 
 pub group_by-requires-clause-rising : goal.group_by-requires-clause-rising
-group_by-requires-clause-rising c = docs_rise_by (impact_by c.args.weigher.now.rule c.args.weigher.now.docs.now c.args.bits c.args.range c.args.list.now) c.args.list.now c.impacts_of.new.pairs.items c.in_ok-impacts_of.ensures.pairs
+group_by-requires-clause-rising c = docs_rise_by (impact_by c.args.weigher.now.rule c.args.weigher.now.docs.now c.args.bits c.args.range c.args.list.now) c.args.list.now.postings c.impacts_of.new.pairs.items c.in_ok-impacts_of.ensures.pairs c.args.list.now.rising
 
 pub invariant_of-result : goal.invariant_of-result
 invariant_of-result c =
@@ -29,4 +29,4 @@ returns-clause-entries c =
 pub returns-clause-docs : goal.returns-clause-docs
 returns-clause-docs c =
     segments_below (λ (s : Segment). s.impact) (λ (s : Segment). s.docs) (length c.args.weigher.now.docs.now) c.in_ok-segments.segments c.impacts_of.new.pairs.items c.in_ok-segments.ensures.pairs
-    (docs_below_by (impact_by c.args.weigher.now.rule c.args.weigher.now.docs.now c.args.bits c.args.range c.args.list.now) c.args.list.now (length c.args.weigher.now.docs.now) c.impacts_of.new.pairs.items c.in_ok-impacts_of.ensures.pairs c.requires.below)
+    (docs_below_by (impact_by c.args.weigher.now.rule c.args.weigher.now.docs.now c.args.bits c.args.range c.args.list.now) c.args.list.now.postings (length c.args.weigher.now.docs.now) c.impacts_of.new.pairs.items c.in_ok-impacts_of.ensures.pairs c.requires.below)

@@ -1,14 +1,13 @@
 -- Each list that is read again widens the range, and each that isn't would leave it.
 use Rattle.std.proofs.lemmas.List.Elements.{All-contains, All-replicate, All-set}
-use Rattle.std.proofs.Common.{rules, ◌≡◌, ℕ, ◌≤◌, ◌^◌, List, length, refl, sym, subst, ◌∙◌, arith, All}
-use Rattle.index_import.proofs.Below.{HasDocsBelow, KeptList, HasKept, LeavesWalk, for_one, Of, Range, weights_in}
-use Rattle.index_import.specs.Private.Outlining.{list_there}
-use Rattle.index_import.specs.Private.Ranging.{CannotWiden}
-use Rattle.index_import.specs.Private.Surveying.{HoldsMost, IsReady, KeepsAll}
+use Rattle.std.proofs.Common.{rules, ℕ, ◌≤◌, ◌^◌, List, length, refl, sym, subst, ◌∙◌, arith, All}
+use Rattle.index_import.proofs.Below.{KeptList, HasKept, for_one, Of, Range, weights_in}
+use Rattle.index_import.specs.Private.Ranging.{CannotWiden, IsWidenedBy}
+use Rattle.index_import.specs.Private.Surveying.{HoldsMost, KeepsAll}
 use Rattle.index_import.specs.declared.list_entry.ListEntry.{ListEntry}
-use Rattle.index_import.proofs.Again.{ready_then, told_now, told_then}
+use Rattle.index_import.proofs.Again.{ready_then, told_now}
 use Rattle.index_import.proofs.Ready.{leaves_same, leaves_then}
-use Rattle.index_import.proofs.Widening.{norms_cut, passed_still, widens_more, widens_same}
+use Rattle.index_import.proofs.Widening.{norms_cut, passed_still, widened_then, widens_more, widens_same}
 use Rattle.index_import.proofs.ranging.widen_lists.Goals as goal
 
 pub loop-entry-init : goal.loop-entry-init
@@ -28,46 +27,49 @@ loop-entry-init g c =
 pub can_widen-requires-clause-cut : goal.can_widen-requires-clause-cut
 can_widen-requires-clause-cut g c = norms_cut c.args.weighing c.args.weighing.norms.now refl
 
-pub entry_list-requires-clause-given : goal.entry_list-requires-clause-given
-entry_list-requires-clause-given g c =
+pub widen_by_entry-requires-clause-given : goal.widen_by_entry-requires-clause-given
+widen_by_entry-requires-clause-given g c =
     let e : ListEntry = c.entry-item.result in
     subst (λ (kept : List KeptList). HasKept kept e.place.at e.place.count) (sym c.loop-entry.invariant.leaves.kept)
     (subst (λ (x : ListEntry). HasKept c.args.walk.now.kept x.place.at x.place.count) (sym c.entry-item.is) (c.requires.given c.loop-entry.entry-index e c.loop-entry-test.true))
 
-pub entry_list-requires-clause-keeps : goal.entry_list-requires-clause-keeps
-entry_list-requires-clause-keeps g c =
+pub widen_by_entry-requires-clause-keeps : goal.widen_by_entry-requires-clause-keeps
+widen_by_entry-requires-clause-keeps g c =
     let e : ListEntry = c.entry-item.result in
     subst (λ (n : ℕ). KeepsAll n e) (sym c.loop-entry.invariant.leaves.docs)
     (subst (λ (x : ListEntry). KeepsAll c.args.walk.now.docs x) (sym c.entry-item.is) (c.requires.keep_all c.loop-entry.entry-index e c.loop-entry-test.true))
 
-pub entry_list-requires-clause-told : goal.entry_list-requires-clause-told
-entry_list-requires-clause-told g c =
+pub widen_by_entry-requires-clause-told : goal.widen_by_entry-requires-clause-told
+widen_by_entry-requires-clause-told g c =
     let e : ListEntry = c.entry-item.result in
     told_now (g.C.Cabinet.told c.args.files.now) (g.C.Cabinet.told c.loop-entry.files) c.args.walk.now c.loop-entry.walk (λ docs content. HoldsMost content docs e) c.loop-entry.invariant.stays c.loop-entry.invariant.leaves
     (for_one (g.C.Cabinet.told c.args.files.now) c.args.walk.now.name (λ content. All (HoldsMost content c.args.walk.now.docs) c.args.lists.now) (λ content. HoldsMost content c.args.walk.now.docs e)
     (λ content all. subst (HoldsMost content c.args.walk.now.docs) (sym c.entry-item.is) (all c.loop-entry.entry-index e c.loop-entry-test.true)) c.requires.told)
 
+pub widen_by_entry-requires-clause-docs : goal.widen_by_entry-requires-clause-docs
+widen_by_entry-requires-clause-docs g c = c.requires.docs ∙ sym c.loop-entry.invariant.leaves.docs
+
 pub loop-entry-preserved : goal.loop-entry-preserved
 loop-entry-preserved g c =
     let before = c.loop-entry.invariant in
-    let same = sym c.take_back.ensures in
+    let told = g.C.Cabinet.told c.args.files.now in
+    let e : ListEntry = c.entry-item.result in
+    let w = c.args.weighing in
+    let now = c.widen_by_entry.new.range in
+    let by : IsWidenedBy told c.args.walk.now.name c.args.walk.now.docs w e.place.at c.loop-entry.range now
+    = widened_then told (g.C.Cabinet.told c.loop-entry.files) c.args.walk.now c.loop-entry.walk w e.place.at c.loop-entry.range now before.stays before.leaves c.in-Ok.ensures.widened in
     record {
-      ready = subst (IsReady (g.C.Cabinet.told c.args.files.now) c.args.walk.now.name) same
-          (ready_then (g.C.Cabinet.told c.args.files.now) (g.C.Cabinet.told c.loop-entry.files) c.args.walk.now.name c.loop-entry.walk.name c.entry_list.new.walk
-          before.stays before.leaves.name (c.in-Ok.ensures.ready));
-      leaves = subst (LeavesWalk c.args.walk.now) same (leaves_then c.args.walk.now c.loop-entry.walk c.entry_list.new.walk before.leaves c.entry_list.ensures.leaves);
-      range = widens_more c.widened_lists_have_the_range.ensures.one_more c.args.walk.now.docs c.args.weighing c.args.lists.now c.loop-entry.entry-index c.entry-item.result c.loop-entry-test.true c.entry-item.is
-          (g.C.Cabinet.told c.args.files.now) c.args.walk.now.name c.in-Ok.list c.loop-entry.range c.widen_by_norms.new.range
-          (subst (λ (n : ℕ). HasDocsBelow n c.in-Ok.list) (before.leaves.docs ∙ sym c.requires.docs) (c.in-Ok.ensures.below))
-          (told_then (g.C.Cabinet.told c.args.files.now) (g.C.Cabinet.told c.loop-entry.files) c.args.walk.now c.loop-entry.walk
-          (λ docs content. c.in-Ok.list.postings ≡ (list_there content docs c.entry-item.result.place.at).postings) before.stays before.leaves (c.in-Ok.ensures.told))
-          c.widen_by_norms.ensures before.range;
-      passed = subst (λ (r : Range). All (CannotWiden c.args.weighing.rule (length c.args.weighing.norms.now) c.norm_ends-ends.result r) c.loop-entry.passed) (sym c.widen_by_norms.ensures)
-          (passed_still c.args.weighing.rule (length c.args.weighing.norms.now) c.norm_ends-ends.result c.loop-entry.range
-          (weights_in c.args.weighing.rule c.args.weighing.lengths.now c.args.weighing.total c.in-Ok.list.postings) c.loop-entry.passed before.passed);
-      stays = c.entry_list.ensures.stays ∙ before.stays;
-      later = omega (arith, c.entry_list.ensures.later, before.later);
-      others = omega (arith, c.entry_list.ensures.others, before.others);
+      ready = ready_then told (g.C.Cabinet.told c.loop-entry.files) c.args.walk.now.name c.loop-entry.walk.name c.widen_by_entry.new.walk
+          before.stays before.leaves.name c.in-Ok.ensures.ready;
+      leaves = leaves_then c.args.walk.now c.loop-entry.walk c.widen_by_entry.new.walk before.leaves c.widen_by_entry.ensures.leaves;
+      range = widens_more c.widened_lists_have_the_range.ensures.one_more c.args.walk.now.docs w c.args.lists.now c.loop-entry.entry-index e c.loop-entry-test.true c.entry-item.is
+          told c.args.walk.now.name c.loop-entry.range now by before.range;
+      passed = subst (λ (r : Range). All (CannotWiden w.rule (length w.norms.now) c.norm_ends-ends.result r) c.loop-entry.passed) (sym by.range_is)
+          (passed_still w.rule (length w.norms.now) c.norm_ends-ends.result c.loop-entry.range
+          (weights_in w.rule w.lengths.now w.total by.list.postings) c.loop-entry.passed before.passed);
+      stays = c.widen_by_entry.ensures.stays ∙ before.stays;
+      later = omega (arith, c.widen_by_entry.ensures.later, before.later);
+      others = omega (arith, c.widen_by_entry.ensures.others, before.others);
     }
 
 pub loop-entry-preserved-then-not-can_widen : goal.loop-entry-preserved-then-not-can_widen
