@@ -25,7 +25,8 @@ pub record IsListOf (lengths : List ℕ) (terms : ℕ) (list : PostingsList) : T
   pub some : 1 ≤ length list.postings
   pub below : HasDocsBelow (length lengths) list
 
--- postings of one term, by rising documents, which have these lengths and so many terms in all
+-- the same of postings alone: it also says what a list keeps by itself, that they rise by their documents and that
+-- their frequencies are in range
 pub record ArePostingsOf (lengths : List ℕ) (terms : ℕ) (postings : List Posting) : Type 0 where
   pub few : length lengths ≤ MOST_DOCUMENTS
   pub small : All (λ n. n < 2 ^ 31) lengths

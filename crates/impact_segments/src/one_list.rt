@@ -12,7 +12,7 @@ ghost use Rattle.impact_segments.specs.declared.doc_impact.DocImpact.{DocImpact}
 ghost use Rattle.jass_base.specs.declared.limits.TheConstants.{MOST_DOCUMENTS};
 
 use crate::doc_impact::DocImpact;
-use crate::list_postings::ListPostings;
+use crate::postings_by_place::PostingsByPlace;
 use jass_base::{NoMemory, Posting, PostingsList};
 use std::alloc::Global;
 use weights::{Bits, Range, Rule, idf, impact_of, length_norm, saturated};
@@ -29,11 +29,11 @@ pub enum SegmentsFault {
 #[derive(Clone, Copy)]
 struct ListRule<'a> {
     rule: Rule,
-    /// The terms of all documents in all.
+    /// How many terms all documents have together.
     total: u64,
     /// How rare the term of the list is.
     rare: u32,
-    /// The terms of each document.
+    /// How many terms each document has.
     lengths: &'a [u32],
     /// How far each document's length slows the growth of a weight, where the caller has it.
     norms: Option<&'a [u64]>,
@@ -41,7 +41,7 @@ struct ListRule<'a> {
 }
 
 impl<'a> ListRule<'a> {
-    /// What those of a list of so many postings depend on.
+    /// What the weights of a list with so many postings depend on.
     fn new(
         rule: Rule,
         total: u64,
@@ -69,6 +69,7 @@ impl<'a> ListRule<'a> {
         }
     }
 
+    /// The weight of a posting of the list, at least 1.
     fn weigh(&self, posting: Posting) -> u64
         requires few { length self.now.lengths.now ≤ MOST_DOCUMENTS }
         requires total { 1 ≤ self.now.total }
@@ -133,7 +134,7 @@ pub fn widen_list(range: &mut Range, rule: Rule, total: u64, list: &PostingsList
 }
 
 /// What `widen_list` does, by the documents' norms, and for postings however they are kept.
-pub fn widen_by_norms<P: ListPostings>(
+pub fn widen_by_norms<P: PostingsByPlace>(
     range: &mut Range,
     rule: Rule,
     total: u64,
@@ -148,7 +149,8 @@ pub fn widen_by_norms<P: ListPostings>(
     widen(range, rule, total, list, lengths, Some(norms));
 }
 
-fn widen<P: ListPostings>(
+/// The same, with norms where the caller has them.
+fn widen<P: PostingsByPlace>(
     range: &mut Range,
     rule: Rule,
     total: u64,
@@ -167,9 +169,9 @@ fn widen<P: ListPostings>(
     }
 }
 
-/// Puts the documents of a list with their impacts into a row of as many. None of these is above the
-/// answer.
-pub(crate) fn impacts_of<P: ListPostings>(
+/// Puts the documents of a list with their impacts into a row of as many. No impact is above the one
+/// that is returned.
+pub(crate) fn impacts_of<P: PostingsByPlace>(
     pairs: &mut [DocImpact],
     table: &[u16],
     rule: Rule,
@@ -189,8 +191,10 @@ pub(crate) fn impacts_of<P: ListPostings>(
     ensures pairs { OnOk result (pairs.new ≡ pairs_in rule lengths.now total bits range (P.postings list.now)) }
     ensures positive { OnOk result (All (λ (p : DocImpact). 1 ≤ p.impact) pairs.new) }
     ensures greatest { IfOk result (λ greatest. All (λ (p : DocImpact). p.impact ≤ greatest) pairs.new) }
-    ensures inside { OnOk result (outside bits range (weights_in rule lengths.now total (P.postings list.now)) ≡ None) }
-    ensures fault { IfErr result (Unmade (outside bits range (weights_in rule lengths.now total (P.postings list.now)))) }
+    ensures inside { OnOk result
+        (outside bits range (weights_in rule lengths.now total (P.postings list.now)) ≡ None) }
+    ensures fault { IfErr result
+        (Unmade (outside bits range (weights_in rule lengths.now total (P.postings list.now)))) }
 {
     let count = list.count();
     let weigher = ListRule::new(rule, total, count, lengths, norms);

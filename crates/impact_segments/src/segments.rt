@@ -14,9 +14,9 @@ ghost use Rattle.impact_segments.specs.OneList.{ArePostingsOf, EndsLow, IsListOf
 
 use crate::doc_impact::DocImpact;
 use crate::grouping::group_into;
-use crate::list_postings::ListPostings;
 use crate::list_segments::ListSegments;
 use crate::one_list::{SegmentsFault, impacts_of};
+use crate::postings_by_place::PostingsByPlace;
 use crate::scratch::Scratch;
 use jass_base::{NoMemory, PostingsList, Row, Segment};
 use std::alloc::Global;
@@ -53,7 +53,6 @@ pub fn segments_of(
     make_segments(
         &mut segments,
         &mut scratch,
-        alloc,
         rule,
         bits,
         range,
@@ -68,12 +67,12 @@ pub fn segments_of(
     }
 }
 
-/// Makes the segments that `segments_of` makes, by the documents' norms, with what a scratch keeps
-/// from list to list, in memory that is used again, and of postings however they are kept. After a fault some segments or none are left.
-pub fn segments_into<P: ListPostings>(
+/// Makes the segments that `segments_of` makes, of postings however they are kept, by the documents'
+/// norms, with what a scratch keeps from list to list, in memory that is used again. After a fault
+/// some segments or none are left.
+pub fn segments_into<P: PostingsByPlace>(
     segments: &mut ListSegments,
     scratch: &mut Scratch,
-    alloc: Global,
     rule: Rule,
     bits: Bits,
     range: Range,
@@ -94,14 +93,15 @@ pub fn segments_into<P: ListPostings>(
     ensures falling { OnOk result (AllPairs FallsTo segments.new) }
     ensures once { OnOk result (AllPairs SharesNoDocument segments.new) }
     ensures docs { OnOk result (All (λ (s : SegmentData). AreDocs (length lengths.now) s.docs) segments.new) }
-    ensures inside { OnOk result (outside bits range (weights_in rule lengths.now total (P.postings list.now)) ≡ None) }
-    ensures fault { IfErr result (Unmade (outside bits range (weights_in rule lengths.now total (P.postings list.now)))) }
+    ensures inside { OnOk result
+        (outside bits range (weights_in rule lengths.now total (P.postings list.now)) ≡ None) }
+    ensures fault { IfErr result
+        (Unmade (outside bits range (weights_in rule lengths.now total (P.postings list.now)))) }
 {
     scratch.make_table(bits, range);
     make_segments(
         segments,
         scratch,
-        alloc,
         rule,
         bits,
         range,
@@ -112,10 +112,10 @@ pub fn segments_into<P: ListPostings>(
     )
 }
 
-fn make_segments<P: ListPostings>(
+/// The same, with norms where the caller has them.
+fn make_segments<P: PostingsByPlace>(
     segments: &mut ListSegments,
     scratch: &mut Scratch,
-    alloc: Global,
     rule: Rule,
     bits: Bits,
     range: Range,
@@ -136,11 +136,13 @@ fn make_segments<P: ListPostings>(
     ensures falling { OnOk result (AllPairs FallsTo segments.new) }
     ensures once { OnOk result (AllPairs SharesNoDocument segments.new) }
     ensures docs { OnOk result (All (λ (s : SegmentData). AreDocs (length lengths.now) s.docs) segments.new) }
-    ensures inside { OnOk result (outside bits range (weights_in rule lengths.now total (P.postings list.now)) ≡ None) }
-    ensures fault { IfErr result (Unmade (outside bits range (weights_in rule lengths.now total (P.postings list.now)))) }
+    ensures inside { OnOk result
+        (outside bits range (weights_in rule lengths.now total (P.postings list.now)) ≡ None) }
+    ensures fault { IfErr result
+        (Unmade (outside bits range (weights_in rule lengths.now total (P.postings list.now)))) }
 {
     let count = list.count();
-    match make_room(&mut scratch.pairs, count) {
+    match lengthen(&mut scratch.pairs, count) {
         Ok(()) => {}
         Err(_) => return Err(SegmentsFault::NoMemory),
     }
@@ -153,8 +155,9 @@ fn make_segments<P: ListPostings>(
     }
 }
 
-/// Makes a row have room for so many pairs. What stands there is of no use.
-fn make_room(pairs: &mut Vec<DocImpact>, count: usize) -> Result<(), NoMemory>
+/// Makes a row at least so many pairs long. What stands in it is left as it is, since each pair that counts
+/// is written over.
+fn lengthen(pairs: &mut Vec<DocImpact>, count: usize) -> Result<(), NoMemory>
     ensures { OnOk result (count ≤ length pairs.new.items) }
 {
     if count > pairs.len() {

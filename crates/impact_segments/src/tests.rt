@@ -163,7 +163,6 @@ fn impacts_into(
             segments_into(
                 segments,
                 scratch,
-                alloc,
                 Rule::Bm25,
                 Bits::Of(8),
                 range,

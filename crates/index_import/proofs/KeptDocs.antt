@@ -3,7 +3,7 @@ use Rattle.shared_lemmas.proofs.Common.{◌≡◌, ◌∙◌, ℕ, ◌+◌, ◌�
 use Rattle.std.specs.List.Sorted.{IsNonDecreasingBy}
 use Rattle.jass_base.specs.Ciff.{FitsDoc}
 use Rattle.index_import.proofs.Below.{NumberedDoc}
-use Rattle.index_import.specs.Private.KeptDocs.{AreInOrder, IsKept, lengths_in, names_in, record_at, records_at}
+use Rattle.index_import.specs.Private.KeptDocs.{AreInOrder, IsKept, lengths_in, record_at, records_at}
 use Rattle.index_import.specs.declared.kept_docs.KeptDoc.{KeptDoc}
 use Rattle.index_import.proofs.Outlining.{mapped}
 use Rattle.shared_lemmas.proofs.Places.{slice_stays, slice_new}
@@ -32,9 +32,6 @@ module _ (bytes more newer : List ℕ) (grown : newer ≡ bytes ++ more) (docs l
   kept_before : All (IsKept newer) docs
   kept_before i d low = subst (λ (b : List ℕ). IsKept b (get_or docs i d)) (sym grown) (kept_on bytes more (get_or docs i d) (kept i d low))
 
-  pub kept_stay : longer ≡ docs → All (IsKept newer) longer
-  kept_stay same = subst (λ (ds : List KeptDoc). All (IsKept newer) ds) (sym same) kept_before
-
   module _ (d : KeptDoc) (with_doc : longer ≡ docs ++ d ∷ []) (from : d.from ≡ length bytes) (to : d.to ≡ length newer) where
     record_new : record_at newer d ≡ record { number = d.number; doc = record { name = more; length = d.length } }
     record_new =
@@ -62,12 +59,6 @@ ordered_docs bytes docs ordered kept same rising = record {
   fit = All-map (λ (r : NumberedDoc). FitsDoc r.doc) (record_at bytes) ordered (λ i d low. (All-permutation (IsKept bytes) docs ordered same kept i d low).fits);
 }
 
--- the lengths and the names of the documents
+-- the lengths of the documents
 pub lengths_at : (bytes : List ℕ) (docs : List KeptDoc) → map (λ (d : KeptDoc). d.length) docs ≡ lengths_in (records_at bytes docs)
 lengths_at bytes docs = sym (map-map (λ (r : NumberedDoc). r.doc.length) (record_at bytes) docs)
-
--- the names of documents, and of one more
-pub names_next : (bytes : List ℕ) (docs longer : List KeptDoc) (d : KeptDoc) → longer ≡ docs ++ d ∷ [] → names_in (records_at bytes longer) ≡ names_in (records_at bytes docs) ++ slice_range bytes d.from d.to ∷ []
-names_next bytes docs longer d is =
-    ap (λ (ds : List KeptDoc). names_in (records_at bytes ds)) is ∙ ap names_in (map-append (record_at bytes) docs (d ∷ []))
-    ∙ map-append (λ (r : NumberedDoc). r.doc.name) (records_at bytes docs) (record_at bytes d ∷ [])

@@ -52,8 +52,8 @@ kept_postings w docs e postings are same some keeps =
 abbrev pub kept_list : List Posting → ListData
 kept_list postings = record { term = []; df = 0; cf = 0; postings = postings }
 
-pub kept_fit : (w : Weighing) (postings : List Posting) → ArePostingsOf w.lengths.now w.total postings → FitsList (length w.lengths.now) (kept_list postings)
-kept_fit w postings are = record {
+pub kept_list_fits : (w : Weighing) (postings : List Posting) → ArePostingsOf w.lengths.now w.total postings → FitsList (length w.lengths.now) (kept_list postings)
+kept_list_fits w postings are = record {
   text = IsUtf8-nil;
   short = omega arith;
   df = omega arith;

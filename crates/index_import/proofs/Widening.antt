@@ -1,4 +1,4 @@
--- A range that is widened by lists that are read again.
+-- A range that is widened by lists that are read again, or whose postings were kept.
 use Rattle.shared_lemmas.proofs.Common.{◌≡◌, ℕ, suc, ◌+◌, ◌<◌, ◌≤◌, ◌^◌, ◌||◌, Bool, false, nat_lt, nat_tests, slice_index_or, List, [], ◌∷◌, ◌++◌, fold, get_or, length, map, min, take, Option, sym, ap, ap₂, subst, ◌∙◌, arith, All, min-le_right, take-suc, length-map, map-append, All-map, All-push}
 use Rattle.index_import.proofs.Below.{FitsList, ListData, Files, ForContent, LeavesWalk, WalkView, Posting, for_both, Rule, Range, empty_range, range_of, widened, length_norm, can_widen, heaviest, lightest, most_tf, least-le_start, greatest-ge_start, weights_in, widened_by, norms_in}
 use Rattle.index_import.specs.Private.Outlining.{list_there}
@@ -86,7 +86,7 @@ module _ (one_more : OneMore) (docs : ℕ) (w : Weighing) (lists : List ListEntr
           ap (λ (l : ListData). fold widened range (weights_in w.rule w.lengths.now w.total l.postings)) (sym there)
           ∙ stays w.rule w.lengths.now w.total range holds.list w.few (subst (λ (n : ℕ). FitsList n holds.list) (sym as_many) holds.fits) (subst (λ (n : ℕ). 1 ≤ n) holds.count e.place.some) outside
 
--- a list that was read of a walk that was left as it was
+-- a list behind others, which left the walk as it was
 pub widened_then : (files now : Option Files) (old mid : WalkView) (w : Weighing) (at : ℕ) (before after : Range) → now ≡ files → LeavesWalk old mid
     → IsWidenedBy now mid.name mid.docs w at before after → IsWidenedBy files old.name old.docs w at before after
 widened_then files now old mid w at before after same leaves by = record {

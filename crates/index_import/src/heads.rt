@@ -84,7 +84,6 @@ pub(crate) fn read_heads<C: Cabinet>(
         match entry_segments(
             &mut segments,
             &mut scratch,
-            alloc,
             walk,
             files,
             weighing,

@@ -8,7 +8,7 @@ ghost use Rattle.index_import.specs.Private.KeptPostings.{HasWord, posting_in, p
 ghost use Rattle.index_import.specs.declared.kept_postings.TheConstants.{FEW};
 
 use arrayvec::ArrayVec;
-use impact_segments::ListPostings;
+use impact_segments::PostingsByPlace;
 use jass_base::Posting;
 use std::alloc::Global;
 
@@ -70,13 +70,14 @@ impl KeptPostings {
 
     /// The postings, each by its place.
     pub fn by_place(&self) -> KeptWords<'_>
-        ensures { result.words.now ≡ words_in self.now }
+        ensures { map posting_in result.words.now ≡ postings_in self.now }
     {
         KeptWords {
             words: self.words(),
         }
     }
 
+    /// A word for each posting.
     fn words(&self) -> &[u32]
         ensures { result.now ≡ words_in self.now }
     {
@@ -93,7 +94,7 @@ pub(crate) struct KeptWords<'a> {
     pub words: &'a [u32],
 }
 
-impl<'a> ListPostings for KeptWords<'a> {
+impl<'a> PostingsByPlace for KeptWords<'a> {
     ghost postings = { λ kept. map posting_in kept.words.now };
 
     fn count(&self) -> usize {

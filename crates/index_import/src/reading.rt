@@ -12,9 +12,8 @@ ghost use Rattle.index_import.specs.Private.Surveying.{HoldsMost, IsReady, Keeps
 use crate::list_entry::{ListEntry, Place};
 use crate::weighing::Weighing;
 use ciff_read::{CiffFault, CiffRefusal, CiffWalk, CiffWhy};
-use impact_segments::{ListPostings, ListSegments, Scratch, SegmentsFault, segments_into};
+use impact_segments::{ListSegments, PostingsByPlace, Scratch, SegmentsFault, segments_into};
 use jass_base::{Cabinet, PostingsList};
-use std::alloc::Global;
 use weights::{Bits, Range};
 
 /// Reads a list again.
@@ -47,7 +46,6 @@ pub(crate) fn read_again<C: Cabinet>(
 pub(crate) fn entry_segments<C: Cabinet>(
     segments: &mut ListSegments,
     scratch: &mut Scratch,
-    alloc: Global,
     walk: &mut CiffWalk,
     files: &mut C,
     weighing: Weighing<'_>,
@@ -77,7 +75,6 @@ pub(crate) fn entry_segments<C: Cabinet>(
         return match read_segments(
             segments,
             scratch,
-            alloc,
             walk,
             files,
             weighing,
@@ -92,7 +89,6 @@ pub(crate) fn entry_segments<C: Cabinet>(
     match make_segments(
         segments,
         scratch,
-        alloc,
         weighing,
         bits,
         range,
@@ -108,7 +104,6 @@ pub(crate) fn entry_segments<C: Cabinet>(
 pub(crate) fn read_segments<C: Cabinet>(
     segments: &mut ListSegments,
     scratch: &mut Scratch,
-    alloc: Global,
     walk: &mut CiffWalk,
     files: &mut C,
     weighing: Weighing<'_>,
@@ -132,9 +127,7 @@ pub(crate) fn read_segments<C: Cabinet>(
     ensures others { C.write_faults files.old ≤ C.write_faults files.new }
 {
     let list = read_again(walk, files, place)?;
-    let made = make_segments(
-        segments, scratch, alloc, weighing, bits, range, &list, place.at,
-    );
+    let made = make_segments(segments, scratch, weighing, bits, range, &list, place.at);
     walk.take_back(list.postings);
     match made {
         Ok(()) => Ok(()),
@@ -144,10 +137,9 @@ pub(crate) fn read_segments<C: Cabinet>(
 
 /// Makes the segments of a list that stands at a place. A weight outside the range is refused as a
 /// change of the file.
-fn make_segments<P: ListPostings>(
+fn make_segments<P: PostingsByPlace>(
     segments: &mut ListSegments,
     scratch: &mut Scratch,
-    alloc: Global,
     weighing: Weighing<'_>,
     bits: Bits,
     range: Range,
@@ -169,7 +161,7 @@ fn make_segments<P: ListPostings>(
         norms,
     } = weighing;
     match segments_into(
-        segments, scratch, alloc, rule, bits, range, total, list, lengths, norms,
+        segments, scratch, rule, bits, range, total, list, lengths, norms,
     ) {
         Ok(()) => Ok(()),
         Err(SegmentsFault::Outside { kept, found }) => Err(CiffFault::Refused(CiffRefusal {

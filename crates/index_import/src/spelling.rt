@@ -83,7 +83,6 @@ pub(crate) fn spell_lists<C: Cabinet>(
         match entry_segments(
             &mut segments,
             &mut scratch,
-            alloc,
             walk,
             files,
             weighing,

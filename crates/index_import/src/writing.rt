@@ -1,10 +1,10 @@
-ghost use Rattle.std.specs.Prelude.{◌≡◌, ◌≢◌, ◌≤◌, List, length, map, All, IfErr, IfOk, IsErrOf};
-ghost use Rattle.jass_base.specs.Outside.{Appended, Rose};
+ghost use Rattle.std.specs.Prelude.{◌≡◌, ◌≢◌, ◌≤◌, List, length, map, All, IsErrOf};
+ghost use Rattle.jass_base.specs.Outside.{Rose};
 ghost use Rattle.weights.specs.Quantizing.{IsImpactWidth};
 ghost use Rattle.ciff_read.specs.Walk.{HasKept};
 ghost use Rattle.impact_segments.specs.OneList.{EndsLow};
 ghost use Rattle.index_model.specs.Index.{TermData};
-ghost use Rattle.index_write.specs.Streaming.{AreEntries, AreNames, entries_totals, entry_data};
+ghost use Rattle.index_write.specs.Streaming.{AreEntries, AreNames, entry_data};
 ghost use Rattle.index_import.specs.Private.Faults.{unappended, unbegun};
 ghost use Rattle.index_import.specs.Private.Writing.{HasTerms, Writes};
 ghost use Rattle.index_import.specs.Private.Surveying.{IsReady};
@@ -14,7 +14,7 @@ use crate::fault::ImportFault;
 use crate::heads::Heads;
 use crate::reading::read_segments;
 use crate::weighing::Weighing;
-use ciff_read::{CiffFault, CiffRefusal, CiffWalk, CiffWhy};
+use ciff_read::{CiffRefusal, CiffWalk, CiffWhy};
 use impact_segments::{ListSegments, Scratch};
 use index_write::laws::{appended_payloads_make_the_text, changes_are_found};
 use index_write::{IndexWriter, SaveFault, TermFault};
@@ -70,7 +70,6 @@ pub(crate) fn write_index<C: Cabinet>(
         match read_segments(
             &mut segments,
             &mut scratch,
-            alloc,
             walk,
             files,
             weighing,

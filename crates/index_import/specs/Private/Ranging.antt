@@ -24,7 +24,7 @@ abbrev pub range_there : List ℕ → ℕ → Weighing → Bits → List ListEnt
 range_there content docs w Raw lists = empty_range
 range_there content docs w (Of b) lists = widened_there content docs w lists
 
--- the second range is the first, widened by a list that fits; where the content is told it is the one at a place
+-- the second range is the first, widened by a list that fits; where the content is told, its postings are those of the list at a place
 pub record IsWidenedBy (files : Option Files) (name : List ℕ) (docs : ℕ) (w : Weighing) (at : ℕ) (before after : Range) : Type 0 where
   pub list : ListData
   pub fits : FitsList (length w.lengths.now) list

@@ -14,17 +14,17 @@ use Rattle.impact_segments.proofs.one_list.impacts_of.Goals as goal
 
 pub new-weigher-requires-clause-within_docs : goal.new-weigher-requires-clause-within_docs
 new-weigher-requires-clause-within_docs g c =
-    let few = few_rising (length c.args.lengths.now) (g.P.ListPostings.postings c.args.list.now) c.requires.list.rising c.requires.list.below in
+    let few = few_rising (length c.args.lengths.now) (g.P.PostingsByPlace.postings c.args.list.now) c.requires.list.rising c.requires.list.below in
     omega (arith, few, c.count-count.ensures)
 
 pub weigh-weight-requires-clause-below : goal.weigh-weight-requires-clause-below
 weigh-weight-requires-clause-below g c =
-    let low = doc_below (length c.args.lengths.now) (g.P.ListPostings.postings c.args.list.now) c.loop-place.place c.posting-posting.result c.posting-posting.ensures (omega (arith, c.loop-place-test.true, c.count-count.ensures)) c.requires.list.below in
+    let low = doc_below (length c.args.lengths.now) (g.P.PostingsByPlace.postings c.args.list.now) c.loop-place.place c.posting-posting.result c.posting-posting.ensures (omega (arith, c.loop-place-test.true, c.count-count.ensures)) c.requires.list.below in
     omega (arith, low, ap length c.new-weigher.ensures.lengths)
 
 pub weigh-weight-requires-clause-tf : goal.weigh-weight-requires-clause-tf
 weigh-weight-requires-clause-tf g c =
-    tf_there (g.P.ListPostings.postings c.args.list.now) c.loop-place.place c.posting-posting.result c.posting-posting.ensures (omega (arith, c.loop-place-test.true, c.count-count.ensures)) c.requires.list.tf
+    tf_there (g.P.PostingsByPlace.postings c.args.list.now) c.loop-place.place c.posting-posting.result c.posting-posting.ensures (omega (arith, c.loop-place-test.true, c.count-count.ensures)) c.requires.list.tf
 
 pub loop-place-preserved : goal.loop-place-preserved
 loop-place-preserved g c =
@@ -33,7 +33,7 @@ loop-place-preserved g c =
     let total = c.args.total in
     let bits = c.args.bits in
     let range = c.args.range in
-    let items = g.P.ListPostings.postings c.args.list.now in
+    let items = g.P.PostingsByPlace.postings c.args.list.now in
     let count = length items in
     let i = c.loop-place.place in
     let row = c.loop-place.pairs in
@@ -63,7 +63,7 @@ returns-in_err-impact-clause-fault g c =
     let rule = c.args.rule in
     let lengths = c.args.lengths.now in
     let total = c.args.total in
-    let items = g.P.ListPostings.postings c.args.list.now in
+    let items = g.P.PostingsByPlace.postings c.args.list.now in
     let count = length items in
     let i = c.loop-place.place in
     let p : Posting = c.posting-posting.result in

@@ -1,4 +1,4 @@
--- Each posting is one of the list.
+-- Each posting is one of the list, and its weight widens the range.
 use Rattle.std.proofs.Common.{◌≡◌, ◌<◌, ◌∙◌, ℕ, ap, arith, fold, length, sym}
 use Rattle.std.proofs.lemmas.Option.{get_or_from_slice_get}
 use Rattle.impact_segments.proofs.Below.{Posting, idf, widened}
@@ -9,24 +9,24 @@ use Rattle.impact_segments.proofs.one_list.widen.Goals as goal
 
 pub new-weigher-requires-clause-within_docs : goal.new-weigher-requires-clause-within_docs
 new-weigher-requires-clause-within_docs g c =
-    let few = few_rising (length c.args.lengths.now) (g.P.ListPostings.postings c.args.list.now) c.requires.list.rising c.requires.list.below in
+    let few = few_rising (length c.args.lengths.now) (g.P.PostingsByPlace.postings c.args.list.now) c.requires.list.rising c.requires.list.below in
     omega (arith, few, c.count-count.ensures)
 
 pub weigh-requires-clause-below : goal.weigh-requires-clause-below
 weigh-requires-clause-below g c =
-    let low = doc_below (length c.args.lengths.now) (g.P.ListPostings.postings c.args.list.now) c.loop-place.place c.posting.result c.posting.ensures (omega (arith, c.loop-place-test.true, c.count-count.ensures)) c.requires.list.below in
+    let low = doc_below (length c.args.lengths.now) (g.P.PostingsByPlace.postings c.args.list.now) c.loop-place.place c.posting.result c.posting.ensures (omega (arith, c.loop-place-test.true, c.count-count.ensures)) c.requires.list.below in
     omega (arith, low, ap length c.new-weigher.ensures.lengths)
 
 pub weigh-requires-clause-tf : goal.weigh-requires-clause-tf
 weigh-requires-clause-tf g c =
-    tf_there (g.P.ListPostings.postings c.args.list.now) c.loop-place.place c.posting.result c.posting.ensures (omega (arith, c.loop-place-test.true, c.count-count.ensures)) c.requires.list.tf
+    tf_there (g.P.PostingsByPlace.postings c.args.list.now) c.loop-place.place c.posting.result c.posting.ensures (omega (arith, c.loop-place-test.true, c.count-count.ensures)) c.requires.list.tf
 
 pub loop-place-preserved : goal.loop-place-preserved
 loop-place-preserved g c =
     let rule = c.args.rule in
     let lengths = c.args.lengths.now in
     let total = c.args.total in
-    let items = g.P.ListPostings.postings c.args.list.now in
+    let items = g.P.PostingsByPlace.postings c.args.list.now in
     let count = length items in
     let i = c.loop-place.place in
     let p : Posting = c.posting.result in

@@ -10,12 +10,12 @@ use Rattle.impact_segments.proofs.segments.make_segments.Goals as goal
 
 pub group_into-requires-clause-rising : goal.group_into-requires-clause-rising
 group_into-requires-clause-rising g c =
-    let postings = g.P.ListPostings.postings c.args.list.now in
+    let postings = g.P.PostingsByPlace.postings c.args.list.now in
     docs_rise_by (λ (p : Posting). impact_of c.args.bits c.args.range (weight_in c.args.rule c.args.lengths.now c.args.total (length postings) p)) postings c.impacts_of.new.pairs c.in_ok-greatest.ensures.pairs c.requires.list.rising
 
 pub returns-in-Ok-group_into : goal.returns-in-Ok-group_into
 returns-in-Ok-group_into g c =
-    let postings = g.P.ListPostings.postings c.args.list.now in
+    let postings = g.P.PostingsByPlace.postings c.args.list.now in
     let f : Posting → ℕ = λ (p : Posting). impact_of c.args.bits c.args.range (weight_in c.args.rule c.args.lengths.now c.args.total (length postings) p) in
     let pairs = c.impacts_of.new.pairs in
     let d = length c.args.lengths.now in

@@ -1,14 +1,14 @@
 -- What was kept, or is read again, is what is there.
-use Rattle.std.proofs.Common.{◌≡◌, List, ap, map, subst, sym}
+use Rattle.std.proofs.Common.{◌≡◌, List, map, subst, sym}
 use Rattle.index_import.proofs.Below.{HasDocsBelow, Posting, list_data, list_fits}
 use Rattle.index_import.specs.Private.KeptPostings.{posting_in}
 use Rattle.index_import.specs.Private.Surveying.{entry_postings}
-use Rattle.index_import.proofs.Made.{AreThere, all_there, kept_fit, kept_list, kept_postings, read_postings, read_there}
+use Rattle.index_import.proofs.Made.{AreThere, all_there, kept_list_fits, kept_list, kept_postings, read_postings, read_there}
 use Rattle.index_import.proofs.ranging.widen_by_entry.Goals as goal
 
 pub widen_by_norms-requires-clause-list : goal.widen_by_norms-requires-clause-list
 widen_by_norms-requires-clause-list g c =
-    kept_postings c.args.weighing c.args.walk.now.docs c.args.entry.now (map posting_in c.by_place.result.words.now) (ap (map posting_in) c.by_place.ensures) c.requires.docs
+    kept_postings c.args.weighing c.args.walk.now.docs c.args.entry.now (map posting_in c.by_place.result.words.now) c.by_place.ensures c.requires.docs
     (c.is_empty.ensures.some c.if-not-is_empty.true) c.requires.keeps
 
 pub returns-then-not-is_empty-clause-widened : goal.returns-then-not-is_empty-clause-widened
@@ -19,10 +19,10 @@ returns-then-not-is_empty-clause-widened g c =
     let e = c.args.entry.now in
     let some = c.is_empty.ensures.some c.if-not-is_empty.true in
     let postings : List Posting = map posting_in c.by_place.result.words.now in
-    let are : postings ≡ entry_postings e = ap (map posting_in) c.by_place.ensures in
+    let are : postings ≡ entry_postings e = c.by_place.ensures in
     record {
       list = kept_list postings;
-      fits = kept_fit c.args.weighing postings (kept_postings c.args.weighing docs e postings are c.requires.docs some c.requires.keeps);
+      fits = kept_list_fits c.args.weighing postings (kept_postings c.args.weighing docs e postings are c.requires.docs some c.requires.keeps);
       range_is = c.widen_by_norms.ensures;
       there = subst (AreThere told name docs e.place.at) (sym are) (all_there told name docs e some c.requires.told);
     }

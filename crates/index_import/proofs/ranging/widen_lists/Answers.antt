@@ -1,4 +1,4 @@
--- Each list that is read again widens the range, and each that isn't would leave it.
+-- Each list that is weighed widens the range, and each that is passed over would leave it.
 use Rattle.std.proofs.lemmas.List.Elements.{All-contains, All-replicate, All-set}
 use Rattle.std.proofs.Common.{rules, ℕ, ◌≤◌, ◌^◌, List, length, refl, sym, subst, ◌∙◌, arith, All}
 use Rattle.index_import.proofs.Below.{KeptList, HasKept, for_one, Of, Range, weights_in}

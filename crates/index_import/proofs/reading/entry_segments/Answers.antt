@@ -9,7 +9,7 @@ use Rattle.index_import.proofs.reading.entry_segments.Goals as goal
 
 pub make_segments-requires-clause-list : goal.make_segments-requires-clause-list
 make_segments-requires-clause-list g c =
-    kept_postings c.args.weighing c.args.walk.now.docs c.args.entry.now (map posting_in c.by_place.result.words.now) (ap (map posting_in) c.by_place.ensures) c.requires.docs
+    kept_postings c.args.weighing c.args.walk.now.docs c.args.entry.now (map posting_in c.by_place.result.words.now) c.by_place.ensures c.requires.docs
     (c.is_empty.ensures.some c.if-is_empty.false) c.requires.keeps
 
 pub returns-in-Ok-make_segments-clause-segments : goal.returns-in-Ok-make_segments-clause-segments
@@ -17,7 +17,7 @@ returns-in-Ok-make_segments-clause-segments g c =
     let docs = c.args.walk.now.docs in
     let e = c.args.entry.now in
     let counted : length (map posting_in c.by_place.result.words.now) ≡ e.place.count
-    = ap (λ (words : List ℕ). length (map posting_in words)) c.by_place.ensures ∙ (c.requires.keeps (c.is_empty.ensures.some c.if-is_empty.false)).counted in
+    = ap length c.by_place.ensures ∙ (c.requires.keeps (c.is_empty.ensures.some c.if-is_empty.false)).counted in
     subst (λ (n : ℕ). AreSegments docs n c.make_segments.new.segments) counted
     (subst (λ (n : ℕ). AreSegments n (length (map posting_in c.by_place.result.words.now)) c.make_segments.new.segments) c.requires.docs c.in-Ok-make_segments.ensures.segments)
 
@@ -28,7 +28,7 @@ returns-in-Ok-make_segments-clause-told g c =
     let docs = c.args.walk.now.docs in
     let at = c.args.entry.now.place.at in
     let postings : List Posting = map posting_in c.by_place.result.words.now in
-    let are : postings ≡ entry_postings c.args.entry.now = ap (map posting_in) c.by_place.ensures in
+    let are : postings ≡ entry_postings c.args.entry.now = c.by_place.ensures in
     made_there told name docs (Unit {0}) c.args.weighing c.args.bits c.args.range at postings c.make_segments.new.segments (Ok c.in-Ok-make_segments.field-0)
     (subst (AreThere told name docs at) (sym are) (all_there told name docs c.args.entry.now (c.is_empty.ensures.some c.if-is_empty.false) c.requires.told)) c.in-Ok-make_segments.ensures.made
 
@@ -39,6 +39,6 @@ returns-in-Err-make_segments-clause-told g c =
     let docs = c.args.walk.now.docs in
     let at = c.args.entry.now.place.at in
     let postings : List Posting = map posting_in c.by_place.result.words.now in
-    let are : postings ≡ entry_postings c.args.entry.now = ap (map posting_in) c.by_place.ensures in
+    let are : postings ≡ entry_postings c.args.entry.now = c.by_place.ensures in
     made_there told name docs (Unit {0}) c.args.weighing c.args.bits c.args.range at postings c.make_segments.new.segments (Err c.in-Err-make_segments.fault)
     (subst (AreThere told name docs at) (sym are) (all_there told name docs c.args.entry.now (c.is_empty.ensures.some c.if-is_empty.false) c.requires.told)) c.in-Err-make_segments.ensures.made
