@@ -1,5 +1,6 @@
 -- Gaps of up to three bytes, read together.
-use Rattle.shared_lemmas.proofs.Common.{◌≡◌, ℕ, ◌+◌, ◌*◌, ◌/◌, ◌%◌, ◌<◌, ◌≤◌, ◌==◌, Bool, true, false, List, ◌∷◌, length, get_or, take, drop, sym, ap, ◌∙◌, refl, arith, nat_lt, and_zero_l, nat_tests, drop_more, get_or-take, length-take}
+use Rattle.shared_lemmas.proofs.Common.{◌≡◌, ℕ, zero, suc, ◌+◌, ◌-◌, ◌*◌, ◌/◌, ◌%◌, ◌<◌, ◌≤◌, ◌==◌, ◌||◌, Bool, true, false, List, ◌∷◌, length, get_or, take, drop, Err, sym, ap, ◌∙◌, refl, subst, arith, nat_lt, IsOk, and_zero_l, nat_tests, drop_more, get_or-take, length-take}
+use Rattle.jass_base.specs.declared.payload_fault.PayloadFault.TheVariants.{Shape}
 use Rattle.std.specs.Int.Bits.{bit_and}
 use Rattle.jass_base.specs.Gaps.{gap_in}
 use Rattle.plain_codecs.proofs.Reading.{one_small}
@@ -22,6 +23,52 @@ three_small a b e bytes more most some small =
     let not_zero : (e == 0) ≡ false = grind (arith, nat_tests) in
     let neither : (b % 128 + 128 * e == 0) ≡ false = grind (arith, nat_tests) in
     rw (first, second, third, not_zero, neither) refl
+
+-- a gap of two bytes has a second one
+two_some : (a : ℕ) (bytes : List ℕ) → 128 ≤ a → gap_in (a ∷ 0 ∷ bytes) ≡ Err Shape
+unfolding gap_in
+two_some a bytes more = let first : nat_lt a 128 ≡ false = grind (arith, nat_tests) in rw first refl
+
+two_known : (a b : ℕ) (bytes : List ℕ) → 128 ≤ a → b < 128 → IsOk (gap_in (a ∷ b ∷ bytes)) → gap_in (a ∷ b ∷ bytes) ≡ spelled (a % 128 + 128 * b) 2
+two_known a zero bytes more small known = let bad : false ≡ true = subst IsOk (two_some a bytes more) known in cc
+two_known a (suc b) bytes more small known = two_small a (suc b) bytes more (omega arith) small
+
+-- a gap that is known, where one of its first two bytes is the last
+module _ (bytes : List ℕ) (at first second two gap next : ℕ) (room : at + 2 ≤ length bytes)
+    (first_is : first ≡ get_or bytes at 0) (second_is : second ≡ get_or bytes (at + 1) 0) (first_fits : first < 256)
+    (two_is : two ≡ first / 128) (gap_is : gap ≡ first % 128 + two * second * 128) (next_is : next ≡ at + 1 + two)
+    (known : IsOk (gap_in (drop at bytes))) where
+  bytes_are : drop at bytes ≡ first ∷ second ∷ drop (at + 1 + 1) bytes
+  bytes_are =
+      drop_more bytes at 0 (omega (arith, room))
+      ∙ ap (λ (xs : List ℕ). get_or bytes at 0 ∷ xs) (drop_more bytes (at + 1) 0 (omega (arith, room)))
+      ∙ ap (λ b. b ∷ get_or bytes (at + 1) 0 ∷ drop (at + 1 + 1) bytes) (sym first_is)
+      ∙ ap (λ b. first ∷ b ∷ drop (at + 1 + 1) bytes) (sym second_is)
+
+  known_one : first < 128 → gap_in (drop at bytes) ≡ spelled gap (next - at)
+  known_one small =
+      let no_two : two ≡ 0 = omega (arith, two_is, small) in
+      let none : two * second * 128 ≡ 0 * second * 128 = ap (λ n. n * second * 128) no_two in
+      let value : first ≡ gap = omega (arith, gap_is, none, small) in
+      let size : 1 ≡ next - at = omega (arith, next_is, no_two) in
+      ap gap_in bytes_are ∙ one_small first (second ∷ drop (at + 1 + 1) bytes) small ∙ ap (λ n. spelled n 1) value ∙ ap (spelled gap) size
+
+  known_two : 128 ≤ first → second < 128 → gap_in (drop at bytes) ≡ spelled gap (next - at)
+  known_two more small =
+      let one_two : two ≡ 1 = omega (arith, two_is, more, first_fits) in
+      let is : two * second * 128 ≡ 1 * second * 128 = ap (λ n. n * second * 128) one_two in
+      let value : first % 128 + 128 * second ≡ gap = omega (arith, gap_is, is) in
+      let size : 2 ≡ next - at = omega (arith, next_is, one_two) in
+      ap gap_in bytes_are ∙ two_known first second (drop (at + 1 + 1) bytes) more small (subst (λ (xs : List ℕ). IsOk (gap_in xs)) bytes_are known)
+      ∙ ap (λ n. spelled n 2) value ∙ ap (spelled gap) size
+
+  pub known_short : (nat_lt first 128 || nat_lt second 128) ≡ true → gap_in (drop at bytes) ≡ spelled gap (next - at)
+  known_short short = go (nat_lt first 128) (nat_lt second 128) refl refl short
+    where
+      go : (a b : Bool) → nat_lt first 128 ≡ a → nat_lt second 128 ≡ b → (a || b) ≡ true → gap_in (drop at bytes) ≡ spelled gap (next - at)
+      go true b is also either = known_one (grind (arith, nat_tests))
+      go false true is also either = known_two (grind (arith, nat_tests)) (grind (arith, nat_tests))
+      go false false is also either = let bad : false ≡ true = either in cc
 
 -- the next byte of a front of the bytes
 front_more : (bytes : List ℕ) (end at : ℕ) → at < end → at < length bytes → drop at (take end bytes) ≡ get_or bytes at 0 ∷ drop (at + 1) (take end bytes)

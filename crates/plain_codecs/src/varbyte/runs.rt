@@ -1,6 +1,6 @@
 // Gaps in a row: read from bytes, and made into documents.
-ghost use Rattle.std.specs.Prelude.{ℕ, ◌≡◌, ◌+◌, ◌-◌, ◌≤◌, ◌<◌, List, length, take, drop, sum, ◌++◌, All, IsTrue, IsFalse, IfSome};
-ghost use Rattle.jass_base.specs.Gaps.{docs_from};
+ghost use Rattle.std.specs.Prelude.{ℕ, ◌≡◌, ◌+◌, ◌-◌, ◌≤◌, ◌<◌, List, length, take, drop, sum, ◌++◌, All, IsTrue, IsFalse, IsOk, IfSome, Ok};
+ghost use Rattle.jass_base.specs.Gaps.{docs_from, gap_in};
 ghost use Rattle.plain_codecs.specs.Private.Runs.{IsRun};
 ghost use Rattle.jass_base.specs.declared.limits.TheConstants.{MOST_DOCUMENTS};
 
@@ -44,11 +44,34 @@ fn read_each(bytes: &[u8], from: usize, first: usize, end: usize, out: &mut [u32
     laws::gap_varints_are_read();
     let mut at = from;
     for place in first..end {
-        let (gap, next) = known_gap(bytes, at);
+        let (gap, next) = next_gap(bytes, at);
         out[place] = gap;
         at = next;
     }
     at
+}
+
+/// The gap at a place, and the place behind it, as `known_gap` gives them. Most gaps have one byte or
+/// two, and which of these can't be predicted, so they are read without a branch on it.
+#[inline(always)]
+fn next_gap(bytes: &[u8], at: usize) -> (u32, usize)
+    requires within { at ≤ length bytes.now }
+    requires known { IsOk (gap_in (drop at bytes.now)) }
+    ensures value { gap_in (drop at bytes.now) ≡ Ok (record { gap = result.0; size = result.1 - at }) }
+    ensures behind { at < result.1 }
+    ensures within { result.1 ≤ length bytes.now }
+{
+    if bytes.len() - at >= 2 {
+        let first = u32::from(bytes[at]);
+        let second = u32::from(bytes[at + 1]);
+        // Both are looked at, so that there is one branch, which nearly always goes the same way.
+        if (first < 128) | (second < 128) {
+            // 1 where there is a second byte
+            let two = first / 128;
+            return (first % 128 + two * second * 128, at + 1 + two as usize);
+        }
+    }
+    known_gap(bytes, at)
 }
 
 /// Copies sixteen bytes to a place of `out` where each is a gap of its own.
