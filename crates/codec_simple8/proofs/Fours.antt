@@ -68,12 +68,15 @@ more w (suc n) k x =
     let e : suc n + k ≡ suc (n + k) = omega arith in
     record { values = m.values; parts = fields_one w (n + k) (suc n + k) x e ∙ ap (λ (ys : List ℕ). (x % 2 ^ w) ∷ ys) m.parts; most = m.most; long = m.long }
 
--- the least document behind them is no much greater, where there are at most three more
-more_behind : (w n k x least : ℕ) → w ≤ 30 → k ≤ 3 → least_behind least (fields w n x) ≤ 67108864 → least_behind least (fields w (n + k) x) ≤ 3288334339
-more_behind w n k x least small few low =
+-- at most three more of 30 bits at the most, with one for each, add no more than 3 * 2 ^ 30 + 3
+pub three_more : (w k : ℕ) → w ≤ 30 → k ≤ 3 → k * 2 ^ w + k ≤ 3221225475
+three_more w k small few = omega (arith, mul-le k (2 ^ w) 3 1073741824 few (narrow w small), few)
+
+-- the least document behind them is not much greater, where they add no more than that: 2 ^ 26 and that at the most
+more_behind : (w n k x least : ℕ) → k * 2 ^ w + k ≤ 3221225475 → least_behind least (fields w n x) ≤ 67108864 → least_behind least (fields w (n + k) x) ≤ 3288334339
+more_behind w n k x least little low =
     let m = more w n k x in
-    let times : k * 2 ^ w ≤ 3 * 1073741824 = mul-le k (2 ^ w) 3 1073741824 few (narrow w small) in
-    rw m.parts (omega (arith, sum_by-append (λ y. y) (fields w n x) m.values, length-append (fields w n x) m.values, m.most, m.long, times, low))
+    rw m.parts (omega (arith, sum_by-append (λ y. y) (fields w n x) m.values, length-append (fields w n x) m.values, m.most, m.long, little, low))
 
 -- ---- four documents more
 
@@ -86,17 +89,17 @@ pub record Fours (w n : ℕ) (pair first front whole : List ℕ) : Type 0 where
   pub docs : front ++ docs_from next (fields w n rest) ≡ whole
   pub most : least_behind next (fields w n rest) ≤ 3288334339
 
-pub fours_start : (w m n k c count filled values least : ℕ) (out : List ℕ) → m ≡ n → n ≡ count + c → c ≤ 3 → k ≡ filled → w ≤ 30 → least ≤ 67108864
+pub fours_start : (w m n k c count filled values least : ℕ) (out : List ℕ) → m ≡ n → n ≡ count + c → c * 2 ^ w + c ≤ 3221225475 → k ≡ filled → least ≤ 67108864
     → Below (2 ^ 26) (docs_from least (fields w count values))
     → Fours w m (values ∷ (values / 2 ^ w) ∷ []) ((least + 0) % 4294967296 ∷ (least + 1) % 4294967296 ∷ (least + 2) % 4294967296 ∷ (least + 3) % 4294967296 ∷ [])
     (take k out) (take filled out ++ docs_from least (fields w n values))
-fours_start w m n k c count filled values least out same are few from small low below = record {
+fours_start w m n k c count filled values least out same are little from low below = record {
   rest = values;
   next = least;
   pair_is = refl;
   first_is = same_four (omega arith) (omega arith) (omega arith) (omega arith);
   docs = ap (λ n. take n out ++ docs_from least (fields w m values)) from ∙ ap (λ m. take filled out ++ docs_from least (fields w m values)) same;
-  most = rw (same, are) (more_behind w count c values least small few (omega (arith, behind_below (2 ^ 26) least (fields w count values) (omega (arith, low)) below)));
+  most = rw (same, are) (more_behind w count c values least little (omega (arith, behind_below (2 ^ 26) least (fields w count values) (omega (arith, low)) below)));
 }
 
 abbrev plus : ℕ → ℕ → ℕ

@@ -1,5 +1,5 @@
 -- What holds of each of the 16 selectors.
-use Rattle.shared_lemmas.proofs.Common.{◌≡◌, ℕ, zero, suc, ◌+◌, ◌*◌, ◌<◌, ◌≤◌, Bool, true, false, refl, arith, nat_eq, nat_lt, nat_le, ◌||◌, list_all, range_with_len, nat_tests, and_parts}
+use Rattle.shared_lemmas.proofs.Common.{◌≡◌, ℕ, zero, suc, ◌+◌, ◌*◌, ◌-◌, ◌^◌, ◌<◌, ◌≤◌, Bool, true, false, refl, arith, nat_eq, nat_lt, nat_le, ◌||◌, list_all, range_with_len, nat_tests, and_parts}
 use Rattle.codec_simple8.specs.Simple8.{count_of, width_of}
 
 each_from : (p : ℕ → Bool) (n a : ℕ) → list_all p (range_with_len a n) ≡ true → (k : ℕ) → k < n → p (a + k) ≡ true
@@ -9,9 +9,16 @@ each_from p (suc n) a all (suc k) within =
     let there : a + suc k ≡ a + 1 + k = omega arith in
     rw there (each_from p n (a + 1) (and_parts (p a) (list_all p (range_with_len (a + 1) n)) all).1 k (omega arith))
 
+-- a test that each of so many selectors passes, from one on
+each_of : (p : ℕ → Bool) (n a : ℕ) → list_all p (range_with_len a n) ≡ true → (s : ℕ) → a ≤ s → s < a + n → p s ≡ true
+each_of p n a all s from to =
+    let there = each_from p n a all (s - a) (omega (arith, from, to)) in
+    let here : a + (s - a) ≡ s = omega (arith, from) in
+    rw here at there
+
 -- a test that each selector passes
 pub at_each : (p : ℕ → Bool) (n : ℕ) → list_all p (range_with_len 0 n) ≡ true → (s : ℕ) → s < n → p s ≡ true
-at_each p n all s within = let from = each_from p n 0 all s within in let here : 0 + s ≡ s = omega arith in rw here at from
+at_each p n all s within = each_of p n 0 all s (omega arith) (omega (arith, within))
 
 pub count_some : (s : ℕ) → s < 16 → 1 ≤ count_of s
 unfolding count_of
@@ -73,4 +80,32 @@ last_only s within one =
     let t = at_each (λ s. nat_lt 1 (count_of s) || nat_eq s 15) 16 refl s within in
     let u : nat_lt 1 (count_of s) ≡ false = grind (arith, nat_tests) in
     let v : nat_eq s 15 ≡ true = rw u at t in
+    grind (arith, nat_tests)
+
+-- four rows of four have room for the gaps of selectors 5 to 7
+pub four_rows : (s : ℕ) → 5 ≤ s → s ≤ 7 → count_of s ≤ 16
+unfolding count_of
+four_rows s from to =
+    let t = each_of (λ s. nat_le (count_of s) 16) 3 5 refl s from (omega (arith, to)) in grind (arith, nat_tests)
+
+-- the values behind these gaps, with one for each, add no more than three of 30 bits
+pub four_rows_spare : (s : ℕ) → 5 ≤ s → s ≤ 7 → (16 - count_of s) * 2 ^ width_of s + (16 - count_of s) ≤ 3221225475
+unfolding count_of width_of
+four_rows_spare s from to =
+    let t = each_of (λ s. nat_le ((16 - count_of s) * 2 ^ width_of s + (16 - count_of s)) 3221225475) 3 5 refl s from
+    (omega (arith, to)) in
+    grind (arith, nat_tests)
+
+-- and two rows for those of selectors 8 to 11
+pub two_rows : (s : ℕ) → 8 ≤ s → s ≤ 11 → count_of s ≤ 8
+unfolding count_of
+two_rows s from to =
+    let t = each_of (λ s. nat_le (count_of s) 8) 4 8 refl s from (omega (arith, to)) in grind (arith, nat_tests)
+
+-- nor do the values behind these
+pub two_rows_spare : (s : ℕ) → 8 ≤ s → s ≤ 11 → (8 - count_of s) * 2 ^ width_of s + (8 - count_of s) ≤ 3221225475
+unfolding count_of width_of
+two_rows_spare s from to =
+    let t = each_of (λ s. nat_le ((8 - count_of s) * 2 ^ width_of s + (8 - count_of s)) 3221225475) 4 8 refl s from
+    (omega (arith, to)) in
     grind (arith, nat_tests)

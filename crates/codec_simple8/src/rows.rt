@@ -1,5 +1,5 @@
 // The documents of a word, four at a time.
-ghost use Rattle.std.specs.Prelude.{◌≡◌, ℕ, ◌+◌, ◌*◌, ◌/◌, ◌<◌, ◌≤◌, ◌^◌, ◌++◌, All, [], ◌∷◌, length, take};
+ghost use Rattle.std.specs.Prelude.{◌≡◌, ℕ, ◌+◌, ◌-◌, ◌*◌, ◌/◌, ◌<◌, ◌≤◌, ◌^◌, ◌++◌, All, [], ◌∷◌, length, take};
 ghost use Rattle.jass_base.specs.Gaps.{docs_from};
 ghost use Rattle.codec_simple8.specs.Simple8.{count_of, fields, least_behind, width_of};
 ghost use Rattle.jass_base.specs.declared.limits.TheConstants.{MOST_DOCUMENTS};
@@ -9,7 +9,7 @@ use crate::values::put_gaps;
 use std::simd::prelude::*;
 
 /// Writes the documents of a word's gaps behind the first `filled` of a block, the first document
-/// at least `least`, and returns the least that may follow. Up to three more slots are written.
+/// at least `least`, and returns the least that may follow. Up to six more slots are written.
 #[inline(always)]
 pub(crate) fn put_fields(
     values: u64,
@@ -32,30 +32,36 @@ pub(crate) fn put_fields(
     if selector.number == 15 {
         return put_gaps(values, selector, least, out, filled);
     }
-    put_rows(
-        values,
-        selector.count(),
-        selector.width(),
-        least,
-        out,
-        filled,
-    )
+    let count = selector.count();
+    let width = selector.width();
+    // Most words have 5 to 8 gaps, or 10 to 15: these have a constant number of rows each, so that the
+    // end of the loop needn't be predicted.
+    if 5 <= selector.number && selector.number <= 7 {
+        put_rows(values, count, width, 4, least, out, filled)
+    } else if 8 <= selector.number && selector.number <= 11 {
+        put_rows(values, count, width, 2, least, out, filled)
+    } else {
+        put_rows(values, count, width, (count + 3) / 4, least, out, filled)
+    }
 }
 
-/// The same for `count` values of `width` bits each, the first in the lowest bits.
+/// The same for `count` values of `width` bits each, the first in the lowest bits, in `rows` rows of
+/// four documents. What is read of more values adds so little that no lane passes 2^32.
 #[inline(always)]
 fn put_rows(
     values: u64,
     count: usize,
     width: u32,
+    rows: usize,
     least: u32,
     out: &mut [u32],
     filled: usize,
 ) -> u32
     requires some { 0 < count }
-    requires count { count ≤ 60 }
+    requires rows { count ≤ 4 * rows }
     requires width { width ≤ 30 }
-    requires room { filled + 4 * ((count + 3) / 4) ≤ length out.old }
+    requires spare { (4 * rows - count) * 2 ^ width + (4 * rows - count) ≤ 3 * 2 ^ 30 + 3 }
+    requires room { filled + 4 * rows ≤ length out.old }
     requires least { least ≤ MOST_DOCUMENTS }
     requires below { All (λ doc. doc < MOST_DOCUMENTS) (docs_from least (fields width count values)) }
     ensures docs { take (filled + count) out.new ≡ take filled out.old ++ docs_from least (fields width count values) }
@@ -64,7 +70,7 @@ fn put_rows(
 {
     let mut pair = u64x2::from_array([values, values >> width]);
     let mut first = u32x4::splat(least) + u32x4::from_array([0, 1, 2, 3]);
-    for row in 0..(count + 3) / 4 {
+    for row in 0..rows {
         let sums = sums4(fields4(pair, width));
         (sums + first).copy_to_slice(&mut out[filled + 4 * row..]);
         first += sums.swizzle([3, 3, 3, 3]) + u32x4::splat(4);
