@@ -1,30 +1,38 @@
-ghost use Rattle.std.specs.Prelude.{◌≡◌, ◌+◌, ◌≤◌, ◌<◌, [], ◌∷◌, ◌++◌, length, decimal};
-ghost use Rattle.gathered_text.specs.declared.buffer.TheConstants.{ROOM};
+ghost use Rattle.std.specs.Prelude.{◌≡◌, ◌+◌, ◌≤◌, ◌<◌, [], ◌∷◌, ◌++◌, length, decimal, drop};
+ghost use Rattle.gathered_text.specs.declared.buffer.TheConstants.{PIECE, ROOM};
 
 use crate::digit_count::digit_count;
 use crate::short_text::{self, ShortText};
 use itoa::write_digits;
 use std::marker::Model;
 
-/// The room for gathered bytes.
-pub const ROOM: usize = 65_536;
+/// The size of the pieces that go to a sink. Where they begin at multiples of it, no page of a file is written in two
+/// parts, and a system takes many pages at once.
+pub(crate) const PIECE: usize = 131_072;
+
+/// The room for gathered bytes: a piece, and the 16 KiB for which a block of run lines asks. A call that asks for more
+/// puts all that was gathered.
+pub const ROOM: usize = 147_456;
 
 /// Bytes on their way to a sink, for one text or many: `flush` puts the last of them. Contracts see it as their list.
 #[derive(Drop)]
 pub struct Buffer {
     bytes: [u8; ROOM],
     len: usize,
+    /// How far the first of these bytes stands behind a multiple of a piece, counted from the first byte that was put.
+    /// Untold once a put failed.
+    phase: usize,
 }
 
 impl Model for Buffer {
-    ghost use Rattle.std.specs.Prelude.{List, ℕ, take, ◌≤◌};
-    ghost use Rattle.gathered_text.specs.declared.buffer.TheConstants.{ROOM};
+    ghost use Rattle.std.specs.Prelude.{List, ℕ, take, ◌≤◌, ◌<◌};
+    ghost use Rattle.gathered_text.specs.declared.buffer.TheConstants.{PIECE, ROOM};
 
     ghost Value = { List ℕ };
 
     ghost view = { λ b. take b.len b.bytes };
 
-    ghost invariant = { λ b. b.len ≤ ROOM };
+    ghost invariant = { λ b. (b.len ≤ ROOM) × (b.phase < PIECE) };
 }
 
 impl Buffer {
@@ -34,6 +42,7 @@ impl Buffer {
         Buffer {
             bytes: [0; ROOM],
             len: 0,
+            phase: 0,
         }
     }
 
@@ -53,7 +62,34 @@ impl Buffer {
     pub(crate) fn clear(&mut self)
         ensures { self.new ≡ [] }
     {
+        self.phase = (self.phase + self.len) % PIECE;
         self.len = 0;
+    }
+
+    /// Takes bytes into account that go to the sink past the buffer, when it is empty.
+    pub(crate) fn pass(&mut self, count: usize)
+        ensures { self.new ≡ self.old }
+    {
+        self.phase = (self.phase + count % PIECE) % PIECE;
+    }
+
+    /// How many bytes from the front on end at the last multiple of a piece that lies behind some of them; 0 where none
+    /// does. Fewer than a piece stand behind them.
+    pub(crate) fn whole_pieces(&self) -> usize
+        ensures within { result ≤ length self.now }
+        ensures near { length self.now < result + PIECE }
+    {
+        self.len.saturating_sub((self.phase + self.len) % PIECE)
+    }
+
+    /// Forgets so many bytes from the front on; the others move there.
+    pub(crate) fn drop_front(&mut self, count: usize)
+        requires { count ≤ length self.old }
+        ensures { self.new ≡ drop count self.old }
+    {
+        self.bytes.copy_within(count..self.len, 0);
+        self.phase = (self.phase + count) % PIECE;
+        self.len -= count;
     }
 
     /// Puts bytes for which there is room behind the others.

@@ -3,7 +3,7 @@ ghost use Rattle.jass_base.specs.Outside.{Wrote};
 ghost use Rattle.gathered_text.specs.Gathering.{Gathers};
 ghost use Rattle.gathered_text.specs.declared.buffer.TheConstants.{ROOM};
 
-use crate::buffer::{Buffer, ROOM};
+use crate::buffer::{Buffer, PIECE, ROOM};
 use jass_base::{Sink, WriteFault};
 
 /// Puts bytes on the sink.
@@ -27,7 +27,8 @@ pub fn flush<S: Sink>(out: &mut S, buffer: &mut Buffer) -> Result<(), WriteFault
     Ok(())
 }
 
-/// Makes room for so many bytes: what was gathered goes to the sink where there is too little.
+/// Makes room for so many bytes: where there is too little, what was gathered goes to the sink up to the end of its last
+/// whole piece, or all of it where many are asked for.
 #[inline(always)]
 pub fn make_room<S: Sink>(out: &mut S, buffer: &mut Buffer, count: usize) -> Result<(), WriteFault>
     requires { count ≤ ROOM }
@@ -37,7 +38,23 @@ pub fn make_room<S: Sink>(out: &mut S, buffer: &mut Buffer, count: usize) -> Res
     if count <= buffer.room() {
         return Ok(());
     }
-    flush(out, buffer)
+    put_pieces(out, buffer, count)
+}
+
+/// Puts what was gathered up to the end of its last whole piece, or all of it for more bytes than find room behind one.
+#[inline(never)]
+fn put_pieces<S: Sink>(out: &mut S, buffer: &mut Buffer, count: usize) -> Result<(), WriteFault>
+    requires { count ≤ ROOM }
+    ensures text { Gathers S.written S.faults S.rest out.old out.new buffer.old buffer.new [] result }
+    ensures room { IfOk result (λ _. length buffer.new + count ≤ ROOM) }
+{
+    if count > ROOM - PIECE {
+        return flush(out, buffer);
+    }
+    let whole = buffer.whole_pieces();
+    put(out, &buffer.as_slice()[..whole])?;
+    buffer.drop_front(whole);
+    Ok(())
 }
 
 /// Puts bytes behind what was gathered. Those for which the buffer has no room go to the
@@ -51,6 +68,7 @@ pub fn put_bytes<S: Sink>(out: &mut S, buffer: &mut Buffer, bytes: &[u8]) -> Res
         return Ok(());
     }
     flush(out, buffer)?;
+    buffer.pass(bytes.len());
     put(out, bytes)
 }
 

@@ -3,13 +3,13 @@ use Rattle.gathered_text.proofs.Digits.{at_most_twenty, digits_behind}
 use Rattle.gathered_text.proofs.buffer.Buffer.push_number.Goals as goal
 
 pub overflow_add-end : goal.overflow_add-end
-overflow_add-end c = record { fits = omega (arith, c.self.invariant, c.digit_count.ensures, at_most_twenty c.args.number c.ranges.number.fits) }
+overflow_add-end c = record { fits = omega (arith, c.self.invariant.0, c.digit_count.ensures, at_most_twenty c.args.number c.ranges.number.fits) }
 
 pub write_digits-requires : goal.write_digits-requires
 write_digits-requires c =
     let size = ap (λ (xs : List ℕ). length xs) (sym c.self.view_is) ∙ length-take c.self.inside.len c.self.inside.bytes in
     let digits = at_most_twenty c.args.number c.ranges.number.fits in
-    (omega (arith, c.digit_count.ensures), omega (arith, size, digits, c.digit_count.ensures, c.self.told, c.self.invariant, c.requires))
+    (omega (arith, c.digit_count.ensures), omega (arith, size, digits, c.digit_count.ensures, c.self.told, c.self.invariant.0, c.requires))
 
 pub returns-clause-text : goal.returns-clause-text
 returns-clause-text c =
