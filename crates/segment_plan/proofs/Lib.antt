@@ -4,5 +4,7 @@ pub mod Bounds
 pub mod Counting
 pub mod Prefixes
 pub mod Arranged
+pub mod Merging
+pub mod Passes
 pub mod Alike
 pub mod Shapes

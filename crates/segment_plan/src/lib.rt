@@ -8,6 +8,7 @@ mod entry;
 pub mod examples;
 pub mod laws;
 mod plan;
+mod runs;
 mod tables;
 
 pub use entry::{PlanEntry, PlanHead};

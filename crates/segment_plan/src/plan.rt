@@ -3,7 +3,8 @@ ghost use Rattle.segment_plan.specs.Entries.{PlanView, AreHeads, plan_with, entr
 ghost use Rattle.segment_plan.specs.Private.Tables.{HasTables};
 
 use crate::entry::{PlanEntry, PlanHead};
-use crate::tables::{arrange, bounds_of, longest, sums_of, weigh};
+use crate::runs::arrange;
+use crate::tables::{bounds_of, longest, sums_of, weigh};
 use jass_base::{NoMemory, Query};
 use std::alloc::Global;
 use std::marker::Model;
@@ -31,14 +32,14 @@ impl Model for Plan {
 
 impl Plan {
     /// The plan of a query with these segments of its terms. Heads that stand term by term, each
-    /// term's by rising segment, are the quickest to arrange.
+    /// term's by rising segment, are quick to arrange.
     pub fn new(alloc: Global, query: &Query, heads: &[PlanHead]) -> Result<Plan, NoMemory>
         requires { AreHeads query.now.terms heads.now }
         ensures { IfOk result (λ plan. plan ≡ plan_with query.now.terms heads.now) }
     {
         let terms = query.terms.as_slice();
         let mut entries = weigh(alloc, terms, heads)?;
-        arrange(&mut entries)?;
+        arrange(alloc, &mut entries)?;
         let sums = sums_of(alloc, entries.as_slice())?;
         let bounds = bounds_of(alloc, terms.len() as u32, entries.as_slice())?;
         Ok(Plan {

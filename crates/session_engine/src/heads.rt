@@ -20,13 +20,22 @@ pub fn query_heads(
     ensures heads { IfOk result (λ heads. heads.items ≡ query_heads index.now.index terms.now) }
     ensures times { IfOk result (λ _. All (λ (n : QueryTerm). n.times ≤ MOST_TIMES) terms.now) }
 {
-    let mut heads = Vec::new(alloc);
+    let mut heads = Vec::with_capacity(alloc, segment_count(index, terms))?;
     let mut term_place = 0;
     for named in terms {
         gather_heads(index, *named, term_place, &mut heads)?;
         term_place += 1;
     }
     Ok(heads)
+}
+
+/// How many segments some terms have together.
+fn segment_count(index: &IndexFile, terms: &[QueryTerm]) -> usize {
+    let mut count: usize = 0;
+    for named in terms {
+        count = count.saturating_add(index.segments(named.term) as usize);
+    }
+    count
 }
 
 /// Puts the heads of a term's segments behind the others. The term has this place in the query.
