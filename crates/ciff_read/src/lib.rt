@@ -41,6 +41,3 @@ pub use ciff_walk::CiffWalk;
 pub use collection::read_collection;
 pub use piece::Piece;
 pub use refusal::{CiffFault, CiffRefusal, CiffWhy};
-
-#[cfg(test)]
-mod tests;

@@ -14,6 +14,3 @@ mod postings_list;
 mod spelling;
 
 pub use collection::write_collection;
-
-#[cfg(test)]
-mod tests;

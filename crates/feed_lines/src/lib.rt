@@ -12,6 +12,3 @@ pub mod laws;
 
 pub use feed_lines::FeedLines;
 pub use filled::Filled;
-
-#[cfg(test)]
-mod tests;

@@ -7,6 +7,3 @@ mod certificate;
 pub mod laws;
 
 pub use certificate::grade;
-
-#[cfg(test)]
-mod tests;

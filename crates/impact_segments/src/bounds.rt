@@ -78,24 +78,3 @@ fn weight_at(rule: Rule, rare: u32, tf: u32, norm: u64) -> u64
         Rule::Bm25 => saturated(rare, tf, norm),
     }
 }
-
-#[cfg(test)]
-mod tests {
-    use super::*;
-
-    /// Three documents of 9, 5 and 1 terms. The weights of a list of all three lie between those of
-    /// one mention in the longest and of nine in the shortest one.
-    #[test]
-    fn a_list_that_can_widen(rt: HostRuntime) {
-        let norms = [1_188u64, 900, 612];
-        let ends = norm_ends(&norms);
-        let mut range = Range::new();
-        assert!(rt; can_widen(range, Rule::Bm25, 3, 9, &norms, ends));
-        range.widen(296);
-        range.widen(606);
-        assert!(rt; !can_widen(range, Rule::Bm25, 3, 9, &norms, ends));
-        assert!(rt; can_widen(range, Rule::Bm25, 3, 10, &norms, ends));
-        assert!(rt; can_widen(range, Rule::Bm25, 4, 1, &norms, ends));
-        assert!(rt; can_widen(range, Rule::Tf, 3, 9, &norms, ends));
-    }
-}

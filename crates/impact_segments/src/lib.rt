@@ -29,6 +29,3 @@ pub use one_list::{SegmentsFault, length_norms, widen_by_norms, widen_list};
 pub use postings_by_place::PostingsByPlace;
 pub use scratch::Scratch;
 pub use segments::{segments_into, segments_of};
-
-#[cfg(test)]
-mod tests;

@@ -11,6 +11,3 @@ pub mod laws;
 mod lists;
 
 pub use exporting::export_collection;
-
-#[cfg(test)]
-mod tests;

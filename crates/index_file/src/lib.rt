@@ -34,6 +34,3 @@ pub use cursor::Cursor;
 pub use figures::{CodecUse, Head};
 pub use file::IndexFile;
 pub use opening::open;
-
-#[cfg(test)]
-mod tests;

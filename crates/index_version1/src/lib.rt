@@ -19,6 +19,3 @@ mod sums;
 mod term;
 
 pub use reading::read_version1;
-
-#[cfg(test)]
-mod tests;

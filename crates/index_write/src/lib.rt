@@ -34,6 +34,3 @@ pub use sums::totals;
 pub use term_heads::TermHeads;
 pub use whole::write_parts;
 pub use writer::IndexWriter;
-
-#[cfg(test)]
-mod tests;

@@ -40,6 +40,3 @@ mod version;
 
 pub use program::run;
 pub use status::Status;
-
-#[cfg(test)]
-mod tests;

@@ -12,8 +12,6 @@ mod search;
 mod search_options;
 mod serve;
 mod slots;
-#[cfg(test)]
-mod tests;
 mod trial;
 pub mod word_limits;
 

@@ -21,6 +21,3 @@ pub use mode::Mode;
 pub use naming::name_terms;
 pub use query::read_terms;
 pub use refusal::{QueryFault, QueryRefusal, QueryWhy};
-
-#[cfg(test)]
-mod tests;

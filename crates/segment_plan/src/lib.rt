@@ -13,6 +13,3 @@ mod tables;
 
 pub use entry::{PlanEntry, PlanHead};
 pub use plan::Plan;
-
-#[cfg(test)]
-mod tests;

@@ -20,6 +20,3 @@ mod words;
 
 pub use desk::Desk;
 pub use went::Went;
-
-#[cfg(test)]
-mod tests;

@@ -16,6 +16,3 @@ mod stop;
 pub use frames_needed::need;
 pub use session::Session;
 pub use stop::OpenStop;
-
-#[cfg(test)]
-mod tests;

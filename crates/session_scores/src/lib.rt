@@ -5,7 +5,5 @@
 
 pub mod laws;
 mod scores;
-#[cfg(test)]
-mod tests;
 
 pub use scores::Scores;

@@ -9,8 +9,6 @@ mod counting;
 mod hits;
 pub mod laws;
 mod settling;
-#[cfg(test)]
-mod tests;
 mod top;
 
 pub use top::{Top, just_behind};

@@ -19,6 +19,3 @@ pub use report::{gather_report, put_report};
 pub use run::read_run;
 pub use run_line::{RunFault, RunLine, RunWhy};
 pub use totals::put_totals;
-
-#[cfg(test)]
-mod tests;

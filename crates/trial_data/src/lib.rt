@@ -16,6 +16,3 @@ mod questions;
 pub use draws::Draws;
 pub use making::{make, make_with_draws};
 pub use questions::draw_query;
-
-#[cfg(test)]
-mod tests;

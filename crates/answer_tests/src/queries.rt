@@ -1,0 +1,144 @@
+// Query files over a few terms, plain and folded, and what is refused.
+
+ghost use Rattle.std.specs.Prelude.{[], ◌∷◌, codes};
+
+use jass_base::{Lexicon, Query};
+use query_reader::{Mode, QueryFault, name_terms, read_queries, read_terms};
+use std::alloc::{AllocError, Global};
+
+/// The terms `CAT!`, `cat`, `dog` and `strasse`.
+struct FewTerms;
+
+impl Lexicon for FewTerms {
+    ghost terms = { λ _. codes "CAT!" ∷ codes "cat" ∷ codes "dog" ∷ codes "strasse" ∷ [] };
+
+    fn find(&self, term: &[u8]) -> Option<u32> {
+        if b"CAT!".as_slice() == term {
+            Some(0)
+        } else if b"cat".as_slice() == term {
+            Some(1)
+        } else if b"dog".as_slice() == term {
+            Some(2)
+        } else if b"strasse".as_slice() == term {
+            Some(3)
+        } else {
+            None
+        }
+    }
+}
+
+/// How often each of the four terms is named, with the number of the others.
+fn times(query: &Query) -> [u32; 5] {
+    let mut times = [0; 5];
+    for named in query.terms.as_slice() {
+        if named.term < 4 {
+            times[named.term as usize] = u32::from(named.times);
+        }
+    }
+    times[4] = query.unknown;
+    times
+}
+
+#[test]
+fn reads_one_text(rt: HostRuntime) {
+    let table: [(Mode, &str, [u32; 5]); 12] = [
+        (Mode::Folded, "Straße, CAT!", [0, 1, 0, 1, 0]),
+        (Mode::Plain, "Straße, CAT!", [1, 0, 0, 0, 1]),
+        (Mode::Plain, "cat^2 dog", [0, 2, 1, 0, 0]),
+        (Mode::Plain, "cat^256 dog^0 cat^007", [0, 7, 0, 0, 2]),
+        (Mode::Plain, "cat^2^1 ^2 cat^", [0, 0, 0, 0, 3]),
+        (Mode::Plain, "cat\rdog zzz^200 zzz", [0, 0, 0, 0, 3]),
+        (Mode::Folded, "Cat^3 2^x", [0, 3, 0, 0, 2]),
+        (Mode::Folded, "cat^3^2 dog^2x", [0, 3, 1, 0, 2]),
+        (Mode::Folded, "cat^^2 dog ^2 cat^256", [0, 2, 1, 0, 3]),
+        (Mode::Folded, "cat^2dog ^dog^4", [0, 1, 4, 0, 1]),
+        (Mode::Folded, "cat^٣ DOG\rdog", [0, 1, 2, 0, 1]),
+        (Mode::Plain, "", [0, 0, 0, 0, 0]),
+    ];
+    for (mode, text, want) in table {
+        let Ok(query) = read_terms(rt.alloc(), "q", text, mode, &FewTerms) else {
+            assert!(&rt; false, "{text}");
+            return;
+        };
+        assert!(&rt; query.id.as_str() == "q");
+        let got = times(&query);
+        for (got, want) in got.iter().zip(want) {
+            assert_eq!(&rt; *got, want, "{text}");
+        }
+    }
+}
+
+#[test]
+fn refuses_the_first_bad_line(rt: HostRuntime) {
+    let table: [(Mode, &[u8], u32, u32); 9] = [
+        (Mode::Plain, b"1 cat\n\n\r\n \n2 dog", 51, 4),
+        (Mode::Plain, b"1 cat\n\xff\n dog\n", 50, 2),
+        (Mode::Plain, b" \xff", 50, 1),
+        (Mode::Folded, b"\tcat\n\xff", 51, 1),
+        (Mode::Plain, b"1 cat^255 dog\n2 cat^255 dog cat\n 3", 53, 2),
+        (Mode::Folded, b"1 cat^255 Cat", 53, 1),
+        (Mode::Plain, b"1 cat^255\r", 0, 1),
+        (Mode::Plain, b"", 0, 0),
+        (Mode::Plain, b"1 cat\r\r\n2", 0, 2),
+    ];
+    for (mode, bytes, number, line) in table {
+        match read_queries(rt.alloc(), bytes, mode, &FewTerms) {
+            Ok(queries) => {
+                assert_eq!(&rt; number, 0);
+                assert_eq!(&rt; queries.len(), line as usize);
+            }
+            Err(QueryFault::Refused(refusal)) => {
+                assert_eq!(&rt; refusal.why.number(), number);
+                assert_eq!(&rt; refusal.line, line);
+            }
+            Err(QueryFault::NoMemory) => assert!(&rt; false, "no memory"),
+        }
+    }
+}
+
+#[test]
+fn reads_a_file_line_by_line(rt: HostRuntime) {
+    let file = b"301\tCAT  dog\r\n\n302 zzz\n";
+    let Ok(queries) = read_queries(rt.alloc(), file, Mode::Folded, &FewTerms) else {
+        assert!(&rt; false, "no queries");
+        return;
+    };
+    let wants = [("301", [0, 1, 1, 0, 0]), ("302", [0, 0, 0, 0, 1])];
+    assert_eq!(&rt; queries.len(), wants.len());
+    for (query, (id, want)) in queries.as_slice().iter().zip(wants) {
+        assert!(&rt; query.id.as_str() == id);
+        let got = times(query);
+        for (got, want) in got.iter().zip(want) {
+            assert_eq!(&rt; *got, want);
+        }
+    }
+}
+
+fn named(alloc: Global) -> Result<Query, AllocError> {
+    let words = [
+        String::from_str(alloc, "dog")?,
+        String::from_str(alloc, "zzz^2")?,
+        String::from_str(alloc, "cat")?,
+        String::from_str(alloc, "dog")?,
+    ];
+    match name_terms(alloc, "q", &words, &FewTerms) {
+        Ok(query) => Ok(query),
+        Err(_) => Err(AllocError),
+    }
+}
+
+#[test]
+fn names_known_words_and_counts_the_others(rt: HostRuntime) {
+    match named(rt.alloc()) {
+        Ok(query) => {
+            assert!(&rt; query.id.as_str() == "q");
+            let want = [(2, 2), (1, 1)];
+            assert_eq!(&rt; query.unknown, 1);
+            assert_eq!(&rt; query.terms.len(), want.len());
+            for (got, (term, times)) in query.terms.as_slice().iter().zip(want) {
+                assert!(&rt; got.term == term && got.times == times);
+            }
+        }
+        Err(_) => assert!(&rt; false),
+    }
+}

@@ -1,0 +1,50 @@
+// Texts that are longer than the room in which they are gathered go to a sink by pieces: where a put fails, so many bytes
+// of them went.
+
+use gathered_text::put_all;
+use jass_base::{MemSink, Row};
+use std::alloc::{AllocError, Global};
+
+/// How many bytes went of a text of these sizes with so many pieces of 15,000 bytes behind them, where the put with a
+/// number fails, and whether all of it did.
+fn went(
+    alloc: Global,
+    sizes: &[usize],
+    pieces: u32,
+    bad_put: u64,
+) -> Result<(usize, bool), AllocError> {
+    let bytes = vec![in alloc; b'x'; 200_000]?;
+    let bytes = bytes.as_slice();
+    let mut text = Vec::new(alloc);
+    for size in sizes {
+        text.push(&bytes[..bytes.len().min(*size)])?;
+    }
+    for _ in 0..pieces {
+        text.push(&bytes[..bytes.len().min(15_000)])?;
+    }
+    let mut sink = MemSink::new(alloc, Row::from_vec(Vec::from_slice(alloc, &[bad_put])?));
+    let whole = put_all(&mut sink, text.as_slice()).is_ok();
+    Ok((sink.written().len(), whole))
+}
+
+#[test]
+fn long_texts_go_by_pieces(rt: HostRuntime) {
+    // behind a piece that finds no room in one go, the next put ends at a multiple again
+    let table: [(&[usize], u32, u64, usize, bool); 8] = [
+        (&[], 20, 0, 0, false),
+        (&[], 20, 1, 131_072, false),
+        (&[], 20, 2, 262_144, false),
+        (&[], 20, 3, 300_000, true),
+        (&[45_000, 200_000], 12, 1, 45_000, false),
+        (&[45_000, 200_000], 12, 2, 245_000, false),
+        (&[45_000, 200_000], 12, 3, 262_144, false),
+        (&[45_000, 200_000], 12, 4, 393_216, false),
+    ];
+    for (sizes, pieces, bad_put, count, whole) in table {
+        let Ok(left) = went(rt.alloc(), sizes, pieces, bad_put) else {
+            assert!(&rt; false, "no memory");
+            return;
+        };
+        assert!(&rt; left == (count, whole));
+    }
+}

@@ -1,0 +1,421 @@
+// The file of one term and three documents, cut at each place and with single bytes
+// changed, spellings that are not the shortest, and files at the limits.
+
+ghost use Rattle.std.specs.Prelude.{◌≡◌, ◌<◌, None, IsTrue, IfSome};
+ghost use Rattle.ciff_read.specs.Walk.{IsGiven};
+
+use ciff_read::{CiffFault, CiffWalk, CiffWhy, Piece, read_collection};
+use jass_base::{Cabinet, Failed, MemCabinet, NoMemory, PostingsList, Row};
+use std::alloc::{AllocError, Global};
+
+const FILE: [u8; 71] = [
+    0x15, 0x08, 0x01, 0x10, 0x01, 0x18, 0x03, 0x20, 0x01, 0x28, 0x03, 0x30, 0x0f, 0x39, 0x00, 0x00,
+    0x00, 0x00, 0x00, 0x00, 0x14, 0x40, 0x17, 0x0a, 0x01, 0x61, 0x10, 0x03, 0x18, 0x0f, 0x22, 0x02,
+    0x10, 0x09, 0x22, 0x04, 0x08, 0x01, 0x10, 0x05, 0x22, 0x04, 0x08, 0x01, 0x10, 0x01, 0x06, 0x12,
+    0x02, 0x64, 0x30, 0x18, 0x09, 0x08, 0x08, 0x01, 0x12, 0x02, 0x64, 0x31, 0x18, 0x05, 0x08, 0x08,
+    0x02, 0x12, 0x02, 0x64, 0x32, 0x18, 0x01,
+];
+
+/// The same collection: df in a longer varint, the first record's fields in another order
+/// and with one that is unknown.
+const OTHER: [u8; 74] = [
+    0x15, 0x08, 0x01, 0x10, 0x01, 0x18, 0x03, 0x20, 0x01, 0x28, 0x03, 0x30, 0x0f, 0x39, 0x00, 0x00,
+    0x00, 0x00, 0x00, 0x00, 0x14, 0x40, 0x18, 0x0a, 0x01, 0x61, 0x10, 0x83, 0x00, 0x18, 0x0f, 0x22,
+    0x02, 0x10, 0x09, 0x22, 0x04, 0x08, 0x01, 0x10, 0x05, 0x22, 0x04, 0x08, 0x01, 0x10, 0x01, 0x08,
+    0x18, 0x09, 0x12, 0x02, 0x64, 0x30, 0x48, 0x05, 0x08, 0x08, 0x01, 0x12, 0x02, 0x64, 0x31, 0x18,
+    0x05, 0x08, 0x08, 0x02, 0x12, 0x02, 0x64, 0x32, 0x18, 0x01,
+];
+
+/// The refusal's number and place; 0 at the number of documents for a file that is accepted.
+fn answer(alloc: Global, bytes: &[u8]) -> (u32, u64) {
+    match read_collection(alloc, bytes) {
+        Ok(collection) => (0, collection.docs.len() as u64),
+        Err(CiffFault::Refused(refusal)) => (refusal.why.number(), refusal.at),
+        Err(_) => (1, 0),
+    }
+}
+
+/// The file with one byte changed.
+fn changed(place: usize, byte: u8) -> [u8; 71]
+    requires { place < 71 }
+{
+    let mut bytes = FILE;
+    bytes[place] = byte;
+    bytes
+}
+
+#[test]
+fn files_are_accepted(rt: HostRuntime) {
+    let alloc = rt.alloc();
+    assert!(&rt; answer(alloc, &FILE) == (0, 3));
+    assert!(&rt; answer(alloc, &OTHER) == (0, 3));
+    assert!(&rt; answer(alloc, b"\x00") == (0, 0));
+}
+
+#[test]
+fn files_are_refused(rt: HostRuntime) {
+    let alloc = rt.alloc();
+    assert!(&rt; answer(alloc, b"\x00\x00") == (21, 1));
+    assert!(&rt; answer(alloc, &changed(37, 0)) == (15, 34));
+    assert!(&rt; answer(alloc, &changed(26, 0x13)) == (12, 26));
+}
+
+#[test]
+fn cut_files_are_refused_at_the_cut_message(rt: HostRuntime) {
+    let alloc = rt.alloc();
+    for end in 0..71 {
+        let at = match end {
+            0..=21 => 0,
+            22..=45 => 22,
+            46..=52 => 46,
+            53..=61 => 53,
+            _ => 62,
+        };
+        assert!(&rt; answer(alloc, &FILE[..end]) == (10, at));
+    }
+}
+
+#[test]
+fn headers_are_judged_at_the_limits(rt: HostRuntime) {
+    let alloc = rt.alloc();
+    let table: [(&[u8], u32, u64); 9] = [
+        // lists
+        (b"\x05\x10\x80\x80\x80\x08", 10, 6),
+        (b"\x05\x10\x81\x80\x80\x08", 22, 0),
+        // documents
+        (b"\x05\x18\x80\x80\x80\x20", 10, 6),
+        (b"\x05\x18\x81\x80\x80\x20", 22, 0),
+        // the version
+        (b"\x06\x08\xff\xff\xff\xff\x07", 0, 0),
+        (b"\x06\x08\x80\x80\x80\x80\x08", 13, 0),
+        // the end of the message
+        (b"\xfb\xff\xff\xff\x0f", 10, 0),
+        (b"\xfc\xff\xff\xff\x0f", 22, 0),
+        (b"\xff\xff\xff\xff\xff\xff\xff\xff\xff\x02", 11, 0),
+    ];
+    for (bytes, number, at) in table {
+        assert!(&rt; answer(alloc, bytes) == (number, at));
+    }
+}
+
+/// The front of a file, and the letter `a` so often.
+fn filled(alloc: Global, front: &[u8], count: u32) -> Result<Vec<u8>, AllocError> {
+    let mut bytes = Vec::from_slice(alloc, front)?;
+    bytes.resize(front.len() + count as usize, b'a')?;
+    Ok(bytes)
+}
+
+#[test]
+fn texts_are_judged_at_the_limits(rt: HostRuntime) {
+    let alloc = rt.alloc();
+    let table: [(&[u8], u32, u32, u64); 4] = [
+        // a list whose term has 65,535 bytes, and 65,536
+        (b"\x02\x10\x01\x83\x80\x04\x0a\xff\xff\x03", 65_535, 0, 0),
+        (b"\x02\x10\x01\x84\x80\x04\x0a\x80\x80\x04", 65_536, 22, 3),
+        // a document whose name has 1,048,576 bytes, and 1,048,577
+        (b"\x02\x18\x01\x84\x80\x40\x12\x80\x80\x40", 1_048_576, 0, 1),
+        (
+            b"\x02\x18\x01\x85\x80\x40\x12\x81\x80\x40",
+            1_048_577,
+            20,
+            3,
+        ),
+    ];
+    for (front, count, number, at) in table {
+        let Ok(bytes) = filled(alloc, front, count) else {
+            assert!(&rt; false, "no memory");
+            return;
+        };
+        assert!(&rt; answer(alloc, bytes.as_slice()) == (number, at));
+    }
+}
+
+/// What opening a walk over a file of these bytes answers: as above, and 0 at 0 for a walk.
+fn opening(alloc: Global, bytes: &[u8]) -> (u32, u64) {
+    let mut files = MemCabinet::new(alloc, Row::new(alloc), Row::new(alloc));
+    let Ok(()) = files.store("file", bytes) else {
+        return (1, 0);
+    };
+    match CiffWalk::open(alloc, &mut files, "file") {
+        Ok(_) => (0, 0),
+        Err(CiffFault::Refused(refusal)) => (refusal.why.number(), refusal.at),
+        Err(CiffFault::ReadFault) => (4, 0),
+        Err(CiffFault::NoMemory) => (1, 0),
+    }
+}
+
+#[test]
+fn walks_are_opened(rt: HostRuntime) {
+    let alloc = rt.alloc();
+    assert!(&rt; opening(alloc, &FILE) == (0, 0));
+    assert!(&rt; opening(alloc, &FILE[..22]) == (0, 0));
+    assert!(&rt; opening(alloc, &FILE[..21]) == (10, 0));
+    assert!(&rt; opening(alloc, &[]) == (10, 0));
+    assert!(&rt; opening(alloc, b"\xfb\xff\xff\xff\x0f") == (10, 0));
+    assert!(&rt; opening(alloc, b"\xfc\xff\xff\xff\x0f") == (22, 0));
+    assert!(&rt; opening(alloc, b"\x05\x18\x81\x80\x80\x20") == (22, 0));
+    assert!(&rt; opening(alloc, b"\x02\x03\x00") == (12, 1));
+}
+
+#[test]
+fn a_missing_file_is_a_read_fault(rt: HostRuntime) {
+    let alloc = rt.alloc();
+    let mut files = MemCabinet::new(alloc, Row::new(alloc), Row::new(alloc));
+    assert!(&rt;
+        matches!(
+            CiffWalk::open(alloc, &mut files, "file"),
+            Err(CiffFault::ReadFault)
+        )
+    );
+}
+
+/// Two cabinets, of which one is read, so often without a fault; what they hold isn't told.
+#[derive(Drop)]
+struct Switched {
+    first: MemCabinet,
+    second: MemCabinet,
+    is_second: bool,
+    reads: u32,
+    read_faults: u64,
+    write_faults: u64,
+}
+
+impl Cabinet for Switched {
+    ghost told = { λ _. None };
+
+    ghost read_faults = { λ s. s.read_faults };
+
+    ghost write_faults = { λ s. s.write_faults };
+
+    fn read_at(&mut self, name: &str, at: u64, buf: &mut [u8]) -> Result<usize, Failed> {
+        if self.reads == 0 {
+            self.read_faults = self.read_faults.saturating_add(1);
+            return Err(Failed);
+        }
+        self.reads -= 1;
+        let read = if self.is_second {
+            self.second.read_at(name, at, buf)
+        } else {
+            self.first.read_at(name, at, buf)
+        };
+        match read {
+            Ok(count) => Ok(count),
+            Err(failed) => {
+                self.read_faults = self.read_faults.saturating_add(1);
+                Err(failed)
+            }
+        }
+    }
+
+    fn create(&mut self, _name: &str) -> Result<(), Failed> {
+        self.write_faults = self.write_faults.saturating_add(1);
+        Err(Failed)
+    }
+
+    fn append(&mut self, _name: &str, _bytes: &[u8]) -> Result<(), Failed> {
+        self.write_faults = self.write_faults.saturating_add(1);
+        Err(Failed)
+    }
+}
+
+/// A cabinet with the file of one term, and one with a file of these bytes.
+fn cabinets(alloc: Global, second: &[u8]) -> Option<Switched> {
+    let mut files = Switched {
+        first: MemCabinet::new(alloc, Row::new(alloc), Row::new(alloc)),
+        second: MemCabinet::new(alloc, Row::new(alloc), Row::new(alloc)),
+        is_second: false,
+        reads: 100,
+        read_faults: 0,
+        write_faults: 0,
+    };
+    let Ok(()) = files.first.store("file", &FILE) else {
+        return None;
+    };
+    let Ok(()) = files.second.store("file", second) else {
+        return None;
+    };
+    Some(files)
+}
+
+/// Takes the postings of a list back, and gives their number.
+fn count_back(walk: &mut CiffWalk, list: PostingsList) -> u64
+    ensures { walk.new ≡ walk.old }
+{
+    let count = list.postings.len() as u64;
+    walk.take_back(list.postings);
+    count
+}
+
+/// The next piece: what it is, and two of its numbers; of a refusal its number and place.
+fn piece(walk: &mut CiffWalk, files: &mut Switched) -> (u32, u64, u64) {
+    match walk.next_piece(files) {
+        Ok(Piece::Start { lists, docs, .. }) => (1, u64::from(lists), u64::from(docs)),
+        Ok(Piece::List { at, list }) => (2, at, count_back(walk, list)),
+        Ok(Piece::Doc { number, item }) => (3, u64::from(number), u64::from(item.length)),
+        Ok(Piece::End) => (4, 0, 0),
+        Err(CiffFault::Refused(refusal)) => (refusal.why.number(), refusal.at, 0),
+        Err(CiffFault::ReadFault) => (5, 0, 0),
+        Err(CiffFault::NoMemory) => (6, 0, 0),
+    }
+}
+
+#[test]
+fn pieces_come_in_the_order_of_the_file(rt: HostRuntime) {
+    let alloc = rt.alloc();
+    let Some(mut files) = cabinets(alloc, &FILE) else {
+        assert!(&rt; false, "no memory");
+        return;
+    };
+    let Ok(mut walk) = CiffWalk::open(alloc, &mut files, "file") else {
+        assert!(&rt; false, "not opened");
+        return;
+    };
+    assert!(&rt; piece(&mut walk, &mut files) == (1, 1, 3));
+    assert!(&rt; piece(&mut walk, &mut files) == (2, 22, 3));
+    assert!(&rt; piece(&mut walk, &mut files) == (3, 0, 9));
+    assert!(&rt; piece(&mut walk, &mut files) == (3, 1, 5));
+    assert!(&rt; piece(&mut walk, &mut files) == (3, 2, 1));
+    assert!(&rt; piece(&mut walk, &mut files) == (4, 0, 0));
+    assert!(&rt; piece(&mut walk, &mut files) == (4, 0, 0));
+}
+
+/// Reads a document's record, and says whether one came.
+fn read_doc(walk: &mut CiffWalk, files: &mut Switched) -> bool
+    ensures { IsTrue result → walk.new.kept ≡ walk.old.kept }
+{
+    matches!(walk.next_piece(files), Ok(Piece::Doc { .. }))
+}
+
+/// Reads the file of one term to its end, and gives the place of its list.
+fn read_all(walk: &mut CiffWalk, files: &mut Switched) -> Option<u64>
+    ensures { IfSome result (IsGiven walk.new.kept) }
+{
+    let Ok(Piece::Start { .. }) = walk.next_piece(files) else {
+        return None;
+    };
+    let Ok(Piece::List { at, .. }) = walk.next_piece(files) else {
+        return None;
+    };
+    if !read_doc(walk, files) || !read_doc(walk, files) || !read_doc(walk, files) {
+        return None;
+    }
+    let Ok(Piece::End) = walk.next_piece(files) else {
+        return None;
+    };
+    Some(at)
+}
+
+/// A list that is read again: its place, and the number of its postings; of a refusal its
+/// number and place, and the two numbers that differ.
+fn again(walk: &mut CiffWalk, files: &mut Switched, at: u64) -> (u32, u64, u64, u64)
+    requires { IsGiven walk.old.kept at }
+    ensures { walk.new.kept ≡ walk.old.kept }
+{
+    match walk.list_again(files, at) {
+        Ok(list) => (2, at, count_back(walk, list), 0),
+        Err(CiffFault::Refused(refusal)) => match refusal.why {
+            CiffWhy::Changed { kept, found } => (refusal.why.number(), refusal.at, kept, found),
+            why => (why.number(), refusal.at, 0, 0),
+        },
+        Err(CiffFault::ReadFault) => (5, 0, 0, 0),
+        Err(CiffFault::NoMemory) => (6, 0, 0, 0),
+    }
+}
+
+/// The front of the file, and a list of the same term with a posting less.
+const SHORTER: [u8; 40] = [
+    0x15, 0x08, 0x01, 0x10, 0x01, 0x18, 0x03, 0x20, 0x01, 0x28, 0x03, 0x30, 0x0f, 0x39, 0x00, 0x00,
+    0x00, 0x00, 0x00, 0x00, 0x14, 0x40, 0x11, 0x0a, 0x01, 0x61, 0x10, 0x03, 0x18, 0x0f, 0x22, 0x02,
+    0x10, 0x09, 0x22, 0x04, 0x08, 0x01, 0x10, 0x05,
+];
+
+/// What reading the list again answers, twice, where the second cabinet is read after the end
+/// or isn't.
+fn answers(alloc: Global, is_second: bool) -> Option<[(u32, u64, u64, u64); 2]> {
+    let mut files = cabinets(alloc, &SHORTER)?;
+    let Ok(mut walk) = CiffWalk::open(alloc, &mut files, "file") else {
+        return None;
+    };
+    let at = read_all(&mut walk, &mut files)?;
+    files.is_second = is_second;
+    let first = again(&mut walk, &mut files, at);
+    let second = again(&mut walk, &mut files, at);
+    Some([first, second])
+}
+
+#[test]
+fn lists_are_read_again(rt: HostRuntime) {
+    let alloc = rt.alloc();
+    assert!(&rt; answers(alloc, false) == Some([(2, 22, 3, 0), (2, 22, 3, 0)]));
+    assert!(&rt; answers(alloc, true) == Some([(23, 22, 3, 2), (23, 22, 3, 2)]));
+}
+
+/// Which call answers a read fault after so many reads: 1 opening, 2 a piece, 3 the list that is
+/// read again; and whether the next call answers it, too.
+fn fault_after(alloc: Global, reads: u32) -> (u32, bool) {
+    let Some(mut files) = cabinets(alloc, &FILE) else {
+        return (0, false);
+    };
+    files.reads = reads;
+    let mut walk = match CiffWalk::open(alloc, &mut files, "file") {
+        Ok(walk) => walk,
+        Err(fault) => return (1, fault == CiffFault::ReadFault),
+    };
+    let Some(at) = read_all(&mut walk, &mut files) else {
+        return (2, piece(&mut walk, &mut files) == (5, 0, 0));
+    };
+    let first = again(&mut walk, &mut files, at);
+    let second = again(&mut walk, &mut files, at);
+    (3, first == (5, 0, 0, 0) && second == (5, 0, 0, 0))
+}
+
+#[test]
+fn read_faults_are_answered_again(rt: HostRuntime) {
+    let alloc = rt.alloc();
+    assert!(&rt; fault_after(alloc, 0) == (1, true));
+    assert!(&rt; fault_after(alloc, 1) == (2, true));
+    assert!(&rt; fault_after(alloc, 2) == (2, true));
+    assert!(&rt; fault_after(alloc, 3) == (3, true));
+    assert!(&rt; fault_after(alloc, 4) == (3, false));
+}
+
+/// A file of lists without postings, with these terms.
+fn file_of_terms(alloc: Global, terms: &[&str]) -> Result<Row<u8>, NoMemory> {
+    let mut bytes = Row::new(alloc);
+    bytes.extend(&[2, 0x10, (terms.len() % 128) as u8])?;
+    for term in terms {
+        let len = (term.len() % 128) as u8;
+        bytes.extend(&[len.wrapping_add(2), 0x0a, len])?;
+        bytes.extend(term.as_bytes())?;
+    }
+    Ok(bytes)
+}
+
+/// How many lists a walk over the file gives, and the piece behind them.
+fn lists_given(alloc: Global, terms: &[&str]) -> Option<(u32, (u32, u64, u64))> {
+    let bytes = file_of_terms(alloc, terms).ok()?;
+    let mut files = cabinets(alloc, bytes.as_slice())?;
+    files.is_second = true;
+    let mut walk = CiffWalk::open(alloc, &mut files, "file").ok()?;
+    let Ok(Piece::Start { .. }) = walk.next_piece(&mut files) else {
+        return None;
+    };
+    for count in 0..8 {
+        let next = piece(&mut walk, &mut files);
+        if next.0 != 2 {
+            return Some((count, next));
+        }
+    }
+    None
+}
+
+#[test]
+fn each_term_is_new_once(rt: HostRuntime) {
+    let alloc = rt.alloc();
+    let terms = ["a", "ab", "c", "b", "d", "aa"];
+    assert!(&rt; lists_given(alloc, &terms) == Some((6, (4, 0, 0))));
+    for term in terms {
+        let twice = ["a", "ab", "c", "b", "d", "aa", term];
+        assert!(&rt; lists_given(alloc, &twice) == Some((6, (18, 29, 0))));
+    }
+}

@@ -1,0 +1,136 @@
+// Files of one term and three documents that are read and written again, a sink that fails,
+// and postings at the ends of the ranges that are spelled in a way of their own.
+
+use ciff_read::read_collection;
+use ciff_write::write_collection;
+use jass_base::{MemSink, NoMemory, Row};
+use std::alloc::Global;
+
+const FILE: [u8; 71] = [
+    0x15, 0x08, 0x01, 0x10, 0x01, 0x18, 0x03, 0x20, 0x01, 0x28, 0x03, 0x30, 0x0f, 0x39, 0x00, 0x00,
+    0x00, 0x00, 0x00, 0x00, 0x14, 0x40, 0x17, 0x0a, 0x01, 0x61, 0x10, 0x03, 0x18, 0x0f, 0x22, 0x02,
+    0x10, 0x09, 0x22, 0x04, 0x08, 0x01, 0x10, 0x05, 0x22, 0x04, 0x08, 0x01, 0x10, 0x01, 0x06, 0x12,
+    0x02, 0x64, 0x30, 0x18, 0x09, 0x08, 0x08, 0x01, 0x12, 0x02, 0x64, 0x31, 0x18, 0x05, 0x08, 0x08,
+    0x02, 0x12, 0x02, 0x64, 0x32, 0x18, 0x01,
+];
+
+/// The same collection: df in a longer varint, the first record's fields in another order
+/// and with one that is unknown.
+const OTHER: [u8; 74] = [
+    0x15, 0x08, 0x01, 0x10, 0x01, 0x18, 0x03, 0x20, 0x01, 0x28, 0x03, 0x30, 0x0f, 0x39, 0x00, 0x00,
+    0x00, 0x00, 0x00, 0x00, 0x14, 0x40, 0x18, 0x0a, 0x01, 0x61, 0x10, 0x83, 0x00, 0x18, 0x0f, 0x22,
+    0x02, 0x10, 0x09, 0x22, 0x04, 0x08, 0x01, 0x10, 0x05, 0x22, 0x04, 0x08, 0x01, 0x10, 0x01, 0x08,
+    0x18, 0x09, 0x12, 0x02, 0x64, 0x30, 0x48, 0x05, 0x08, 0x08, 0x01, 0x12, 0x02, 0x64, 0x31, 0x18,
+    0x05, 0x08, 0x08, 0x02, 0x12, 0x02, 0x64, 0x32, 0x18, 0x01,
+];
+
+/// The collection without an average length and lengths of documents.
+const EXPORT: [u8; 56] = [
+    0x0c, 0x08, 0x01, 0x10, 0x01, 0x18, 0x03, 0x20, 0x01, 0x28, 0x03, 0x30, 0x0f, 0x17, 0x0a, 0x01,
+    0x61, 0x10, 0x03, 0x18, 0x0f, 0x22, 0x02, 0x10, 0x09, 0x22, 0x04, 0x08, 0x01, 0x10, 0x05, 0x22,
+    0x04, 0x08, 0x01, 0x10, 0x01, 0x04, 0x12, 0x02, 0x64, 0x30, 0x06, 0x08, 0x01, 0x12, 0x02, 0x64,
+    0x31, 0x06, 0x08, 0x02, 0x12, 0x02, 0x64, 0x32,
+];
+
+/// Whether the collection of one file is written as the other one.
+fn is_written(alloc: Global, file: &[u8], canonical: &[u8]) -> bool {
+    let Ok(collection) = read_collection(alloc, file) else {
+        return false;
+    };
+    let mut sink = MemSink::new(alloc, Row::new(alloc));
+    write_collection(&collection, &mut sink).is_ok() && sink.written() == canonical
+}
+
+/// Whether the write of a collection fails where the first put does, with nothing put.
+fn fails(alloc: Global, file: &[u8]) -> bool {
+    let Ok(collection) = read_collection(alloc, file) else {
+        return false;
+    };
+    let mut bad = Row::new(alloc);
+    if bad.push(0).is_err() {
+        return false;
+    }
+    let mut sink = MemSink::new(alloc, bad);
+    write_collection(&collection, &mut sink).is_err() && sink.written().is_empty()
+}
+
+#[test]
+fn collections_are_written(rt: HostRuntime) {
+    let alloc = rt.alloc();
+    let table: [(&[u8], &[u8]); 4] = [
+        (&FILE, &FILE),
+        (&OTHER, &FILE),
+        (&EXPORT, &EXPORT),
+        (b"\x00", b"\x00"),
+    ];
+    for (file, canonical) in table {
+        assert!(&rt; is_written(alloc, file, canonical));
+    }
+    assert!(&rt; fails(alloc, &FILE));
+}
+
+/// A number as a varint of three bytes.
+fn long(number: u32) -> [u8; 3] {
+    let low = (number % 128 + 128) as u8;
+    let middle = (number / 128 % 128 + 128) as u8;
+    [low, middle, (number / 16_384 % 128) as u8]
+}
+
+/// A file with one posting, in the last of its documents.
+fn file_of_one_posting(alloc: Global, doc: u32, tf: u32) -> Result<Row<u8>, NoMemory> {
+    let mut bytes = Row::new(alloc);
+    bytes.extend(b"\x06\x10\x01\x18")?;
+    bytes.extend(&long(doc.saturating_add(1)))?;
+    bytes.extend(b"\x0a\x22\x08\x08")?;
+    bytes.extend(&long(doc))?;
+    bytes.extend(b"\x10")?;
+    bytes.extend(&long(tf))?;
+    for number in 0..doc.saturating_add(1) {
+        bytes.extend(b"\x07\x12\x01d\x08")?;
+        bytes.extend(&long(number))?;
+    }
+    Ok(bytes)
+}
+
+/// Whether the field of a posting is so spelled, and its bytes counted so, where it is the only one
+/// of the only list.
+fn is_spelled(alloc: Global, gap: u32, tf: u32, field: &[u8]) -> bool {
+    let Ok(file) = file_of_one_posting(alloc, gap, tf) else {
+        return false;
+    };
+    let Ok(collection) = read_collection(alloc, file.as_slice()) else {
+        return false;
+    };
+    let mut sink = MemSink::new(alloc, Row::new(alloc));
+    if write_collection(&collection, &mut sink).is_err() {
+        return false;
+    }
+    let Some((header, messages)) = sink.written().split_first() else {
+        return false;
+    };
+    if usize::from(*header) > messages.len() {
+        return false;
+    }
+    match messages[usize::from(*header)..].split_first() {
+        Some((count, fields)) => usize::from(*count) == field.len() && fields.starts_with(field),
+        None => false,
+    }
+}
+
+#[test]
+fn postings_are_spelled(rt: HostRuntime) {
+    let alloc = rt.alloc();
+    let table: [(u32, u32, &[u8]); 8] = [
+        (0, 1, b"\x22\x02\x10\x01"),
+        (1, 1, b"\x22\x04\x08\x01\x10\x01"),
+        (127, 127, b"\x22\x04\x08\x7f\x10\x7f"),
+        (127, 128, b"\x22\x05\x08\x7f\x10\x80\x01"),
+        (128, 127, b"\x22\x05\x08\x80\x01\x10\x7f"),
+        (16_383, 1, b"\x22\x05\x08\xff\x7f\x10\x01"),
+        (16_384, 127, b"\x22\x06\x08\x80\x80\x01\x10\x7f"),
+        (16_384, 128, b"\x22\x07\x08\x80\x80\x01\x10\x80\x01"),
+    ];
+    for (gap, tf, field) in table {
+        assert!(&rt; is_spelled(alloc, gap, tf, field));
+    }
+}

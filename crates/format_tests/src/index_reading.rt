@@ -1,0 +1,198 @@
+// The file of three documents and one term: what is seen of it, what is refused where a byte of it
+// is changed, and where it is refused when it is cut.
+
+ghost use Rattle.std.specs.Prelude.{◌≡◌, ◌<◌};
+
+use index_file::{CodecUse, IndexFile, open};
+use index_layout::{OpenFault, OpenWhy};
+use jass_base::{Lexicon, MemCabinet, Names, NoMemory, Row, Steps, Totals};
+use std::alloc::Global;
+use std::marker::Brand;
+use std::sync::ledger::{Blank, Ledger};
+
+/// Documents d0 to d2; `a`: (0,9), (1,5), (2,1).
+const FILE: [u8; 103] = [
+    0x4a, 0x41, 0x53, 0x53, 0x49, 0x44, 0x58, 0x32, 0x67, 0x00, 0x00, 0x00, 0x00, 0x00, 0x00, 0x00,
+    0x03, 0x00, 0x00, 0x00, 0x01, 0x00, 0x00, 0x00, 0x03, 0x00, 0x00, 0x00, 0x00, 0x00, 0x00, 0x00,
+    0x09, 0x00, 0x00, 0x00, 0x00, 0x00, 0x00, 0x00, 0x02, 0x00, 0x00, 0x00, 0x64, 0x30, 0x02, 0x00,
+    0x00, 0x00, 0x64, 0x31, 0x02, 0x00, 0x00, 0x00, 0x64, 0x32, 0x00, 0x00, 0x01, 0x00, 0x61, 0x03,
+    0x00, 0x00, 0x00, 0x09, 0x00, 0x01, 0x00, 0x00, 0x00, 0x00, 0x01, 0x00, 0x00, 0x00, 0x05, 0x00,
+    0x01, 0x00, 0x00, 0x00, 0x00, 0x01, 0x00, 0x00, 0x00, 0x01, 0x00, 0x01, 0x00, 0x00, 0x00, 0x00,
+    0x01, 0x00, 0x00, 0x00, 0x00, 0x01, 0x02,
+];
+
+/// The file with one byte changed.
+fn changed(place: usize, byte: u8) -> [u8; 103]
+    requires { place < 103 }
+{
+    let mut bytes = FILE;
+    bytes[place] = byte;
+    bytes
+}
+
+/// The bytes as a file, or no memory.
+fn opened(alloc: Global, bytes: &[u8]) -> Result<IndexFile, OpenFault> {
+    let mut row = Row::new(alloc);
+    match row.extend(bytes) {
+        Ok(()) => IndexFile::from_bytes(alloc, row),
+        Err(_) => Err(OpenFault::NoMemory),
+    }
+}
+
+/// The refusal's number and place; 0 at the number of documents for a file that is accepted.
+fn answer(opened: Result<IndexFile, OpenFault>) -> (u32, u64) {
+    match opened {
+        Ok(file) => (0, u64::from(file.totals().docs)),
+        Err(OpenFault::Refused(refusal)) => (refusal.why.number(), refusal.at),
+        Err(OpenFault::ReadFault) => (1, 0),
+        Err(OpenFault::NoMemory) => (2, 0),
+    }
+}
+
+/// The sum over all segments of impact times the first document and one, each read in both ways.
+fn weighed<L: Ledger>(file: &IndexFile, blank: Blank) -> u32
+    requires name { blank.name ≡ L.name }
+    requires parts { blank.parts ≡ L.parts }
+    requires some { 0 < blank.parts }
+{
+    let mut steps = Steps::<L>::new(blank);
+    let mut sum = 0u32;
+    for t in 0..file.terms() {
+        for s in 0..file.segments(t) {
+            let head = file.head(t, s);
+            let mut cursor = file.cursor(t, s);
+            let mut block = [0u32; 128];
+            if file.next_block(&mut cursor, &mut block, &mut steps) != 1 {
+                return 0;
+            }
+            if head.count != 1 || file.first_doc(t, s, &mut steps) != block[0] {
+                return 0;
+            }
+            sum = sum.wrapping_add(u32::from(head.impact).wrapping_mul(block[0].wrapping_add(1)));
+        }
+    }
+    sum
+}
+
+#[test]
+fn a_file_is_seen(rt: HostRuntime) {
+    let Ok(file) = opened(rt.alloc(), &FILE) else {
+        panic!(&rt; "refused");
+    };
+    let totals = Totals {
+        docs: 3,
+        terms: 1,
+        postings: 3,
+        greatest: 9,
+    };
+    let codecs = CodecUse {
+        varbyte: 3,
+        packed: 0,
+        bitmap: 0,
+        simple8: 0,
+    };
+    assert!(&rt; file.totals() == totals);
+    assert!(&rt; file.codecs() == codecs);
+    assert!(&rt; weighed::<Brand>(&file, Blank::new(1)) == 22);
+    assert!(&rt; file.find(b"a") == Some(0));
+    assert!(&rt; file.find(b"b") == None);
+    assert!(&rt; file.find(b"") == None);
+    assert!(&rt; file.terms() == 1 && file.term(0) == "a");
+    assert!(&rt; Names::docs(&file) == 3 && Names::name(&file, 2) == "d2");
+}
+
+#[test]
+fn bits_are_given_of_a_bitmap_alone(rt: HostRuntime) {
+    let mut bytes = changed(73, 2);
+    bytes[100] = 1;
+    let Ok(file) = opened(rt.alloc(), &bytes) else {
+        panic!(&rt; "refused");
+    };
+    assert!(&rt; file.codecs().bitmap == 1);
+    assert!(&rt; file.terms() == 1 && file.segments(0) == 3);
+    assert!(&rt; file.bits(0, 0) == Some([1u8].as_slice()));
+    assert!(&rt; file.bits(0, 1) == None && file.bits(0, 2) == None);
+}
+
+#[test]
+fn changed_files_are_refused(rt: HostRuntime) {
+    let alloc = rt.alloc();
+    let table: [(usize, u8, u32, u64); 5] = [
+        (102, 3, 33, 102),
+        (102, 0, 46, 102),
+        (0, 0x4b, 40, 0),
+        (7, 0x31, 39, 0),
+        (102, 2, 0, 3),
+    ];
+    for (place, byte, number, at) in table {
+        assert!(&rt; answer(opened(alloc, &changed(place, byte))) == (number, at));
+    }
+    assert!(&rt; answer(opened(alloc, &FILE[..102])) == (41, 8));
+}
+
+/// The file of one document, whose name has 1 MiB and so many bytes more, and of no term.
+fn named(alloc: Global, more: u8) -> Result<Row<u8>, NoMemory> {
+    let size = 1_048_576 + u32::from(more);
+    let mut front = [0u8; 44];
+    front[..8].copy_from_slice(b"JASSIDX2");
+    front[8..12].copy_from_slice(&(44 + size).to_le_bytes());
+    front[16] = 1;
+    front[40..].copy_from_slice(&size.to_le_bytes());
+    let mut row = Row::new(alloc);
+    row.extend(&front)?;
+    for _ in 0..256 {
+        row.extend(&[b'n'; 4096])?;
+    }
+    row.extend(&[b'n'; 256][..more as usize])?;
+    Ok(row)
+}
+
+#[test]
+fn a_name_has_a_mebibyte_at_the_most(rt: HostRuntime) {
+    let alloc = rt.alloc();
+    for (more, number, at) in [(0, 0, 1), (1, 42, 40)] {
+        let Ok(bytes) = named(alloc, more) else {
+            panic!(&rt; "no memory");
+        };
+        assert!(&rt; answer(IndexFile::from_bytes(alloc, bytes)) == (number, at));
+    }
+}
+
+/// The answer for bytes that are kept in a cabinet.
+fn answer_by_name(alloc: Global, bytes: &[u8]) -> (u32, u64) {
+    let mut files = MemCabinet::new(alloc, Row::new(alloc), Row::new(alloc));
+    match files.store("i.jass", bytes) {
+        Ok(()) => answer(open(alloc, &mut files, "i.jass")),
+        Err(_) => (2, 0),
+    }
+}
+
+#[test]
+fn cut_files_are_refused_where_a_part_does_not_fit(rt: HostRuntime) {
+    let alloc = rt.alloc();
+    for count in 0..104 {
+        let cut = match count {
+            0..8 => (40, 0),
+            103 => (0, 3),
+            _ => (41, 8),
+        };
+        assert!(&rt; answer_by_name(alloc, &FILE[..count]) == cut);
+        let at = match count {
+            0..40 => 8,
+            40..46 => 40,
+            46..52 => 46,
+            52..58 => 52,
+            58..67 => 58,
+            67..78 => 67,
+            78..89 => 78,
+            89..100 => 89,
+            _ => count as u64,
+        };
+        let counted = changed(8, count as u8);
+        if count >= 8 && count < 103 {
+            assert!(&rt; answer_by_name(alloc, &counted[..count]) == (41, at));
+        }
+    }
+    let mut files = MemCabinet::new(alloc, Row::new(alloc), Row::new(alloc));
+    assert!(&rt; answer(open(alloc, &mut files, "none")) == (1, 0));
+}

@@ -1,0 +1,92 @@
+// The file of three documents with the term `a` at the impacts 9, 5 and 1.
+
+use index_layout::{OpenWhy, refused};
+use index_version1::read_version1;
+use jass_base::{ImpactIndex, PayloadFault};
+use std::alloc::Global;
+
+const SMALL: [u8; 105] = [
+    74, 65, 83, 83, 73, 68, 88, 49, 105, 0, 0, 0, 0, 0, 0, 0, 3, 0, 0, 0, 1, 0, 0, 0, 3, 0, 0, 0,
+    0, 0, 0, 0, 9, 0, 0, 0, 0, 0, 0, 0, 0, 0, 0, 0, 2, 0, 0, 0, 4, 0, 0, 0, 6, 0, 0, 0, 100, 48,
+    100, 49, 100, 50, 1, 0, 97, 3, 0, 0, 0, 9, 0, 1, 0, 0, 0, 0, 1, 0, 0, 0, 5, 0, 1, 0, 0, 0, 0,
+    1, 0, 0, 0, 1, 0, 1, 0, 0, 0, 0, 1, 0, 0, 0, 0, 1, 2,
+];
+
+#[test]
+fn the_small_file_is_read(rt: HostRuntime) {
+    let index = read_version1(rt.alloc(), &SMALL);
+    assert!(&rt; index.is_ok_and(|index| is_small(&index)));
+}
+
+#[test]
+fn changed_bytes_are_refused(rt: HostRuntime) {
+    let alloc = rt.alloc();
+    let table: [(usize, u8, usize, OpenWhy); 12] = [
+        (7, 50, 0, OpenWhy::Magic),
+        (8, 104, 8, OpenWhy::Length),
+        (36, 1, 36, OpenWhy::Totals),
+        (40, 1, 40, OpenWhy::Names),
+        (48, 2, 48, OpenWhy::Names),
+        (58, 32, 58, OpenWhy::Names),
+        (64, 255, 62, OpenWhy::TermOrder),
+        (65, 0, 65, OpenWhy::Heads),
+        (80, 9, 80, OpenWhy::Heads),
+        (104, 3, 104, OpenWhy::Payload(PayloadFault::DocRange)),
+        (104, 0, 104, OpenWhy::DocTwice),
+        (32, 8, 32, OpenWhy::Totals),
+    ];
+    for (place, byte, at, why) in table {
+        assert!(&rt; is_refused(alloc, place, byte, 105, at, why));
+    }
+    for count in 0..105 {
+        let (at, why) = match count {
+            0..8 => (0, OpenWhy::Magic),
+            _ => (8, OpenWhy::Length),
+        };
+        assert!(&rt; is_refused(alloc, 8, 105, count, at, why));
+    }
+    for count in 8..105 {
+        let at = match count {
+            8..40 => 8,
+            40..56 => 40,
+            56..62 => 56,
+            62..69 => 62,
+            69..80 => 69,
+            80..91 => 80,
+            91..102 => 91,
+            _ => count,
+        };
+        assert!(&rt; is_refused(alloc, 8, count as u8, count, at, OpenWhy::Length));
+    }
+}
+
+fn is_small(index: &ImpactIndex) -> bool {
+    let names = index.names.as_slice();
+    let terms = index.terms.as_slice();
+    names.len() == 3
+        && names[2].as_str() == "d2"
+        && terms.len() == 1
+        && terms[0].term.as_str() == "a"
+        && terms[0].segments.len() == 3
+        && index.greatest == 9
+}
+
+/// Whether so many bytes of the file, with this byte at a place, are refused so.
+fn is_refused(
+    alloc: Global,
+    place: usize,
+    byte: u8,
+    count: usize,
+    at: usize,
+    why: OpenWhy,
+) -> bool {
+    let mut bytes = SMALL;
+    if place >= bytes.len() || count > bytes.len() {
+        return false;
+    }
+    bytes[place] = byte;
+    match read_version1(alloc, &bytes[..count]) {
+        Ok(_) => false,
+        Err(fault) => fault == refused(at, why),
+    }
+}

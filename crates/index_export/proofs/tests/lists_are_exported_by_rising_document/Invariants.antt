@@ -1,4 +1,0 @@
-use Rattle.index_export.proofs.tests.lists_are_exported_by_rising_document.Given as goal
-
-abbrev pub ghosts-exported : goal.ghosts-exported
-ghosts-exported g a = record { name = a.blank.name; parts = a.blank.parts }

@@ -1,0 +1,478 @@
+// The program's worked examples: what it prints for small files, and how it ends where an
+// input, an output or the words are at fault.
+
+ghost use Rattle.std.specs.Prelude.{◌≡◌, ◌<◌};
+
+mod indexing;
+mod rewriting;
+mod search_ends;
+mod searching;
+mod serving;
+mod trials;
+
+use jass_base::{Feed, MemCabinet, MemSink, Row, SliceFeed, Steps};
+use jass_top::run;
+use std::alloc::{AllocError, Global};
+use std::marker::Brand;
+use std::sync::ledger::{Blank, Ledger};
+
+/// Documents d0 to d3; `cat`: (0,3), (1,1), (3,1); `dog`: (1,2), (2,3).
+const TWO_TERMS: [u8; 104] = [
+    0x15, 0x08, 0x01, 0x10, 0x02, 0x18, 0x04, 0x20, 0x02, 0x28, 0x04, 0x30, 0x0a, 0x39, 0x00, 0x00,
+    0x00, 0x00, 0x00, 0x00, 0x04, 0x40, 0x19, 0x0a, 0x03, 0x63, 0x61, 0x74, 0x10, 0x03, 0x18, 0x05,
+    0x22, 0x02, 0x10, 0x03, 0x22, 0x04, 0x08, 0x01, 0x10, 0x01, 0x22, 0x04, 0x08, 0x02, 0x10, 0x01,
+    0x15, 0x0a, 0x03, 0x64, 0x6f, 0x67, 0x10, 0x02, 0x18, 0x05, 0x22, 0x04, 0x08, 0x01, 0x10, 0x02,
+    0x22, 0x04, 0x08, 0x01, 0x10, 0x03, 0x06, 0x12, 0x02, 0x64, 0x30, 0x18, 0x03, 0x08, 0x08, 0x01,
+    0x12, 0x02, 0x64, 0x31, 0x18, 0x03, 0x08, 0x08, 0x02, 0x12, 0x02, 0x64, 0x32, 0x18, 0x03, 0x08,
+    0x08, 0x03, 0x12, 0x02, 0x64, 0x33, 0x18, 0x01,
+];
+
+/// Documents d0 to d2; `a`: (0,9), (1,5), (2,1).
+const ONE_TERM: [u8; 71] = [
+    0x15, 0x08, 0x01, 0x10, 0x01, 0x18, 0x03, 0x20, 0x01, 0x28, 0x03, 0x30, 0x0f, 0x39, 0x00, 0x00,
+    0x00, 0x00, 0x00, 0x00, 0x14, 0x40, 0x17, 0x0a, 0x01, 0x61, 0x10, 0x03, 0x18, 0x0f, 0x22, 0x02,
+    0x10, 0x09, 0x22, 0x04, 0x08, 0x01, 0x10, 0x05, 0x22, 0x04, 0x08, 0x01, 0x10, 0x01, 0x06, 0x12,
+    0x02, 0x64, 0x30, 0x18, 0x09, 0x08, 0x08, 0x01, 0x12, 0x02, 0x64, 0x31, 0x18, 0x05, 0x08, 0x08,
+    0x02, 0x12, 0x02, 0x64, 0x32, 0x18, 0x01,
+];
+
+/// The same with a long varint, fields in another order and an unknown field.
+const SLOPPY: [u8; 74] = [
+    0x15, 0x08, 0x01, 0x10, 0x01, 0x18, 0x03, 0x20, 0x01, 0x28, 0x03, 0x30, 0x0f, 0x39, 0x00, 0x00,
+    0x00, 0x00, 0x00, 0x00, 0x14, 0x40, 0x18, 0x0a, 0x01, 0x61, 0x10, 0x83, 0x00, 0x18, 0x0f, 0x22,
+    0x02, 0x10, 0x09, 0x22, 0x04, 0x08, 0x01, 0x10, 0x05, 0x22, 0x04, 0x08, 0x01, 0x10, 0x01, 0x08,
+    0x18, 0x09, 0x12, 0x02, 0x64, 0x30, 0x48, 0x05, 0x08, 0x08, 0x01, 0x12, 0x02, 0x64, 0x31, 0x18,
+    0x05, 0x08, 0x08, 0x02, 0x12, 0x02, 0x64, 0x32, 0x18, 0x01,
+];
+
+/// Documents d0 and d1; `p`: (1,3); `q`: (0,3).
+const LATER_FIRST: [u8; 64] = [
+    0x15, 0x08, 0x01, 0x10, 0x02, 0x18, 0x02, 0x20, 0x02, 0x28, 0x02, 0x30, 0x06, 0x39, 0x00, 0x00,
+    0x00, 0x00, 0x00, 0x00, 0x08, 0x40, 0x0d, 0x0a, 0x01, 0x70, 0x10, 0x01, 0x18, 0x03, 0x22, 0x04,
+    0x08, 0x01, 0x10, 0x03, 0x0b, 0x0a, 0x01, 0x71, 0x10, 0x01, 0x18, 0x03, 0x22, 0x02, 0x10, 0x03,
+    0x06, 0x12, 0x02, 0x64, 0x30, 0x18, 0x03, 0x08, 0x08, 0x01, 0x12, 0x02, 0x64, 0x31, 0x18, 0x03,
+];
+
+/// Documents d0 and d1; `p`: (0,2), (1,3); `q`: (0,1).
+const LEVEL_AT_LAST: [u8; 68] = [
+    0x15, 0x08, 0x01, 0x10, 0x02, 0x18, 0x02, 0x20, 0x02, 0x28, 0x02, 0x30, 0x06, 0x39, 0x00, 0x00,
+    0x00, 0x00, 0x00, 0x00, 0x08, 0x40, 0x11, 0x0a, 0x01, 0x70, 0x10, 0x02, 0x18, 0x05, 0x22, 0x02,
+    0x10, 0x02, 0x22, 0x04, 0x08, 0x01, 0x10, 0x03, 0x0b, 0x0a, 0x01, 0x71, 0x10, 0x01, 0x18, 0x01,
+    0x22, 0x02, 0x10, 0x01, 0x06, 0x12, 0x02, 0x64, 0x30, 0x18, 0x03, 0x08, 0x08, 0x01, 0x12, 0x02,
+    0x64, 0x31, 0x18, 0x03,
+];
+
+/// What `--help` prints.
+const HELP: &[u8] = b"\
+commands:\n\
+once CIFF K BUDGET TERM..  answer a query over a CIFF file\n\
+rewrite FROM TO            write a CIFF file in the canonical spelling\n\
+import CIFF INDEX [weights=tf|bm25] [bits=raw|1..16]  make an index file of a CIFF file\n\
+check INDEX                check an index file, and print its totals\n\
+export INDEX CIFF          write a CIFF file with the impacts as frequencies\n\
+migrate OLD NEW            write an index file of version 1 in version 2\n\
+search INDEX QUERIES RUN [k=K] [budget=B,..] [tag=TAG] [mode=plain|folded]  answer the queries of a file\n\
+serve INDEX frames=N       answer the lines of the input at a desk over an index file\n\
+trial SEED DOCS TERMS QUERIES  answer queries over a collection made from a seed, and print a summary\n\
+--help                     print this text\n\
+--version                  print the name and the version\n\
+\n\
+statuses:\n\
+0  done\n\
+1  no memory\n\
+2  the words are no command\n\
+3  an input is refused\n\
+4  an input could not be read, or is missing\n\
+5  an output could not be written\n\
+6  2^30 bytes of the input were taken, and no line was end\n\
+\n\
+documents: README.md, docs/\n\
+";
+
+/// Which calls fail: reads and writes of files, and puts on the output and on the notes.
+#[derive(Clone, Copy)]
+struct Bad {
+    reads: u64,
+    writes: u64,
+    puts: u64,
+    notes: u64,
+}
+
+/// No call, since there are fewer.
+const NEVER: u64 = 1_000_000;
+
+const NONE: Bad = Bad {
+    reads: NEVER,
+    writes: NEVER,
+    puts: NEVER,
+    notes: NEVER,
+};
+
+/// What kind of call fails.
+#[derive(Clone, Copy)]
+enum Call {
+    Read,
+    Write,
+    Put,
+}
+
+/// The call of this kind and number alone.
+fn only(call: Call, number: u64) -> Bad {
+    match call {
+        Call::Read => Bad {
+            reads: number,
+            ..NONE
+        },
+        Call::Write => Bad {
+            writes: number,
+            ..NONE
+        },
+        Call::Put => Bad {
+            puts: number,
+            ..NONE
+        },
+    }
+}
+
+/// What a run left.
+#[derive(Drop)]
+struct Left {
+    status: u8,
+    out: Vec<u8>,
+    notes: Vec<u8>,
+}
+
+/// Runs words, and gives the number of the status.
+fn ended_by<I: Feed, L: Ledger>(
+    alloc: Global,
+    blank: Blank,
+    words: &[String],
+    files: &mut MemCabinet,
+    input: &mut I,
+    out: &mut MemSink,
+    notes: &mut MemSink,
+) -> u8
+    requires name { blank.name ≡ L.name }
+    requires parts { blank.parts ≡ L.parts }
+    requires some { 0 < blank.parts }
+{
+    let mut steps = Steps::<L>::new(blank);
+    run(alloc, words, files, input, out, notes, &mut steps).number()
+}
+
+/// The same with a fresh ledger.
+fn ended<I: Feed>(
+    alloc: Global,
+    words: &[String],
+    files: &mut MemCabinet,
+    input: &mut I,
+    out: &mut MemSink,
+    notes: &mut MemSink,
+) -> u8 {
+    ended_by::<I, Brand>(alloc, Blank::new(1), words, files, input, out, notes)
+}
+
+/// Runs the words of a line over files and an input. The puts on the output and the notes fail where named.
+fn left_by<I: Feed>(
+    alloc: Global,
+    words: &str,
+    files: &mut MemCabinet,
+    input: &mut I,
+    bad_puts: &[u64],
+    bad_notes: &[u64],
+) -> Result<Left, AllocError> {
+    let words = parted(alloc, words)?;
+    let mut out = MemSink::new(alloc, listed(alloc, bad_puts)?);
+    let mut notes = MemSink::new(alloc, listed(alloc, bad_notes)?);
+    let status = ended(alloc, words.as_slice(), files, input, &mut out, &mut notes);
+    let out = Vec::from_slice(alloc, out.written())?;
+    let notes = Vec::from_slice(alloc, notes.written())?;
+    Ok(Left { status, out, notes })
+}
+
+/// A cabinet with one file. The reads and the writes fail where named.
+fn cabinet_with(
+    alloc: Global,
+    name: &str,
+    content: &[u8],
+    bad_reads: &[u64],
+    bad_writes: &[u64],
+) -> Result<MemCabinet, AllocError> {
+    let bad_reads = listed(alloc, bad_reads)?;
+    let bad_writes = listed(alloc, bad_writes)?;
+    let mut files = MemCabinet::new(alloc, bad_reads, bad_writes);
+    store(&mut files, name, content)?;
+    Ok(files)
+}
+
+/// Puts a file into a cabinet.
+fn store(files: &mut MemCabinet, name: &str, content: &[u8]) -> Result<(), AllocError> {
+    match files.store(name, content) {
+        Ok(()) => Ok(()),
+        Err(_) => Err(AllocError),
+    }
+}
+
+/// The content of a file, where it is there.
+fn content_of(alloc: Global, files: &MemCabinet, name: &str) -> Result<Vec<u8>, AllocError> {
+    match files.content(name) {
+        Some(bytes) => Vec::from_slice(alloc, bytes),
+        None => Ok(Vec::new(alloc)),
+    }
+}
+
+/// Runs words over a cabinet with one file, whose reads and the puts on the output and the notes fail where named.
+fn ran(
+    alloc: Global,
+    ciff: &[u8],
+    words: &str,
+    bad_reads: &[u64],
+    bad_puts: &[u64],
+    bad_notes: &[u64],
+) -> Result<Left, AllocError> {
+    let mut files = cabinet_with(alloc, "b.ciff", ciff, bad_reads, &[])?;
+    let mut input = SliceFeed::new(b"");
+    left_by(alloc, words, &mut files, &mut input, bad_puts, bad_notes)
+}
+
+/// The numbers as a row.
+fn listed(alloc: Global, numbers: &[u64]) -> Result<Row<u64>, AllocError> {
+    Ok(Row::from_vec(Vec::from_slice(alloc, numbers)?))
+}
+
+/// The words between the blanks of a line.
+fn parted(alloc: Global, line: &str) -> Result<Vec<String>, AllocError> {
+    let mut words = Vec::new(alloc);
+    for word in line.split_whitespace() {
+        words.push(String::from_str(alloc, word)?)?;
+    }
+    Ok(words)
+}
+
+#[test]
+fn answers_are_printed(rt: HostRuntime) {
+    let mut earlier_first = LATER_FIRST;
+    earlier_first[25] = b'q';
+    earlier_first[39] = b'p';
+    let mut close = ONE_TERM;
+    close[39] = 8;
+    close[45] = 7;
+    let table: [(&[u8], &str, &[u8]); 20] = [
+        (
+            &ONE_TERM,
+            "once b.ciff 3 all a",
+            b"q postings 3 segments 3 of 3 cutoff 1 next 0 bound 0 unknown 0 final\nq Q0 d0 1 9 jass\nq Q0 d1 2 5 jass\nq Q0 d2 3 1 jass\n",
+        ),
+        (
+            &SLOPPY,
+            "once b.ciff 3 all a",
+            b"q postings 3 segments 3 of 3 cutoff 1 next 0 bound 0 unknown 0 final\nq Q0 d0 1 9 jass\nq Q0 d1 2 5 jass\nq Q0 d2 3 1 jass\n",
+        ),
+        (
+            &TWO_TERMS,
+            "once b.ciff 4 all cat dog",
+            b"q postings 5 segments 4 of 4 cutoff 1 next 0 bound 0 unknown 0 final\nq Q0 d0 1 3 jass\nq Q0 d1 2 3 jass\nq Q0 d2 3 3 jass\nq Q0 d3 4 1 jass\n",
+        ),
+        (
+            &TWO_TERMS,
+            "once b.ciff 4 4 cat dog",
+            b"q postings 3 segments 3 of 4 cutoff 2 next 1 bound 1 unknown 0 open\nq Q0 d0 1 3 jass\nq Q0 d2 2 3 jass\nq Q0 d1 3 2 jass\n",
+        ),
+        (
+            &TWO_TERMS,
+            "once b.ciff 4 0 cat dog",
+            b"q postings 0 segments 0 of 4 cutoff 0 next 3 bound 6 unknown 0 open\n",
+        ),
+        (
+            &TWO_TERMS,
+            "once b.ciff 2 2 cat dog",
+            b"q postings 2 segments 2 of 4 cutoff 3 next 2 bound 3 unknown 0 open\nq Q0 d0 1 3 jass\nq Q0 d2 2 3 jass\n",
+        ),
+        (
+            &TWO_TERMS,
+            "once b.ciff 4 all zzz dog dog",
+            b"q postings 2 segments 2 of 2 cutoff 4 next 0 bound 0 unknown 1 final\nq Q0 d2 1 6 jass\nq Q0 d1 2 4 jass\n",
+        ),
+        (
+            &ONE_TERM,
+            "once b.ciff 1 1 a",
+            b"q postings 1 segments 1 of 3 cutoff 9 next 5 bound 5 unknown 0 final\nq Q0 d0 1 9 jass\n",
+        ),
+        (
+            &ONE_TERM,
+            "once b.ciff 3 2 a",
+            b"q postings 2 segments 2 of 3 cutoff 5 next 1 bound 1 unknown 0 open\nq Q0 d0 1 9 jass\nq Q0 d1 2 5 jass\n",
+        ),
+        (
+            &ONE_TERM,
+            "once b.ciff 2 2 a",
+            b"q postings 2 segments 2 of 3 cutoff 5 next 1 bound 1 unknown 0 final\nq Q0 d0 1 9 jass\nq Q0 d1 2 5 jass\n",
+        ),
+        (
+            &close,
+            "once b.ciff 1 1 a",
+            b"q postings 1 segments 1 of 3 cutoff 9 next 8 bound 8 unknown 0 final\nq Q0 d0 1 9 jass\n",
+        ),
+        (
+            &close,
+            "once b.ciff 1 2 a",
+            b"q postings 2 segments 2 of 3 cutoff 8 next 7 bound 7 unknown 0 open\nq Q0 d0 1 9 jass\n",
+        ),
+        (
+            &earlier_first,
+            "once b.ciff 1 1 p q",
+            b"q postings 1 segments 1 of 2 cutoff 3 next 3 bound 3 unknown 0 final\nq Q0 d0 1 3 jass\n",
+        ),
+        (
+            &LEVEL_AT_LAST,
+            "once b.ciff 2 2 p q",
+            b"q postings 2 segments 2 of 3 cutoff 2 next 1 bound 1 unknown 0 set\nq Q0 d1 1 3 jass\nq Q0 d0 2 2 jass\n",
+        ),
+        (
+            &LATER_FIRST,
+            "once b.ciff 1 1 p q",
+            b"q postings 1 segments 1 of 2 cutoff 3 next 3 bound 3 unknown 0 open\nq Q0 d1 1 3 jass\n",
+        ),
+        (
+            &ONE_TERM,
+            "once b.ciff 4 all a a",
+            b"q postings 3 segments 3 of 3 cutoff 2 next 0 bound 0 unknown 0 final\nq Q0 d0 1 18 jass\nq Q0 d1 2 10 jass\nq Q0 d2 3 2 jass\n",
+        ),
+        (
+            &ONE_TERM,
+            "once b.ciff 4 all a zzz",
+            b"q postings 3 segments 3 of 3 cutoff 1 next 0 bound 0 unknown 1 final\nq Q0 d0 1 9 jass\nq Q0 d1 2 5 jass\nq Q0 d2 3 1 jass\n",
+        ),
+        (
+            &[0],
+            "once b.ciff 4 all a",
+            b"q postings 0 segments 0 of 0 cutoff 0 next 0 bound 0 unknown 1 final\n",
+        ),
+        (&[], "--help", HELP),
+        (&[], "--version", b"jass 0.1.0\n"),
+    ];
+    for (ciff, words, out) in table {
+        let Ok(left) = ran(rt.alloc(), ciff, words, &[], &[], &[]) else {
+            assert!(&rt; false, "no memory");
+            return;
+        };
+        assert_eq!(&rt; left.status, 0, "{words}");
+        assert!(&rt; left.out.as_slice() == out, "{words}");
+        assert!(&rt; left.notes.is_empty(), "{words}");
+    }
+}
+
+#[test]
+fn other_ends_are_noted(rt: HostRuntime) {
+    let mut longer = [0u8; 72];
+    longer[..71].copy_from_slice(&ONE_TERM);
+    let mut same_document = ONE_TERM;
+    same_document[37] = 0;
+    let mut bad_wire = ONE_TERM;
+    bad_wire[26] = 0x13;
+    let table: [(&[u8], &str, &[u64], &[u64], u8, &[u8]); 19] = [
+        (
+            &[],
+            "once b.ciff 3 all a",
+            &[],
+            &[],
+            3,
+            b"b.ciff: refusal 10 at 0\n",
+        ),
+        (
+            &ONE_TERM[..70],
+            "once b.ciff 3 all a",
+            &[],
+            &[],
+            3,
+            b"b.ciff: refusal 10 at 62\n",
+        ),
+        (
+            &longer,
+            "once b.ciff 3 all a",
+            &[],
+            &[],
+            3,
+            b"b.ciff: refusal 21 at 71\n",
+        ),
+        (
+            &same_document,
+            "once b.ciff 3 all a",
+            &[],
+            &[],
+            3,
+            b"b.ciff: refusal 15 at 34\n",
+        ),
+        (
+            &bad_wire,
+            "once b.ciff 3 all a",
+            &[],
+            &[],
+            3,
+            b"b.ciff: refusal 12 at 26\n",
+        ),
+        (&ONE_TERM, "once b.ciff 0 all a", &[], &[], 2, b"word 3\n"),
+        (&ONE_TERM, "search i q", &[], &[], 2, b"word 4\n"),
+        (&ONE_TERM, "search i q i", &[], &[], 2, b"word 4\n"),
+        (&ONE_TERM, "", &[], &[], 2, b"word 1\n"),
+        (&ONE_TERM, "once b.ciff 3 all", &[], &[], 2, b"word 5\n"),
+        (&ONE_TERM, "rewrite b.ciff b.ciff", &[], &[], 2, b"word 3\n"),
+        (&ONE_TERM, "--help once", &[], &[], 2, b"word 2\n"),
+        (&ONE_TERM, "--version 2", &[], &[], 2, b"word 2\n"),
+        (&ONE_TERM, "--help", &[], &[0], 5, b"output: write fault\n"),
+        (
+            &ONE_TERM[..70],
+            "rewrite b.ciff c.ciff",
+            &[],
+            &[],
+            3,
+            b"b.ciff: refusal 10 at 62\n",
+        ),
+        (
+            &ONE_TERM,
+            "once x.ciff 3 all a",
+            &[],
+            &[],
+            4,
+            b"x.ciff: read fault\n",
+        ),
+        (
+            &ONE_TERM,
+            "once b.ciff 3 all a",
+            &[0],
+            &[],
+            4,
+            b"b.ciff: read fault\n",
+        ),
+        (
+            &ONE_TERM,
+            "once b.ciff 3 all a",
+            &[1],
+            &[],
+            4,
+            b"b.ciff: read fault\n",
+        ),
+        (
+            &ONE_TERM,
+            "once b.ciff 3 all a",
+            &[],
+            &[0],
+            5,
+            b"output: write fault\n",
+        ),
+    ];
+    for (ciff, words, bad_reads, bad_puts, status, notes) in table {
+        let (Ok(left), Ok(muted)) = (
+            ran(rt.alloc(), ciff, words, bad_reads, bad_puts, &[]),
+            ran(rt.alloc(), ciff, words, bad_reads, bad_puts, &[0]),
+        ) else {
+            assert!(&rt; false, "no memory");
+            return;
+        };
+        assert_eq!(&rt; left.status, status, "{words}");
+        assert!(&rt; left.notes.as_slice() == notes, "{words}");
+        assert!(&rt; left.out.is_empty(), "{words}");
+        assert_eq!(&rt; muted.status, status, "{words}");
+        assert!(&rt; muted.notes.is_empty() && muted.out.is_empty(), "{words}");
+    }
+}

@@ -1,6 +1,0 @@
--- The rest of the script gets shorter.
-use Rattle.std.proofs.Common.{length}
-use Rattle.session_desk.proofs.tests.answer_all.Given as goal
-
-abbrev pub decreases-loop-end : goal.decreases-loop-end
-decreases-loop-end g l = length l.rest
