@@ -2,6 +2,7 @@ mod Below
 mod CodecPlaces
 mod Contents
 mod Halves
+mod HeadLists
 mod Leading
 mod MarkLists
 mod NextTerms
@@ -10,6 +11,7 @@ mod OneVarint
 mod PlainTexts
 mod Reading
 mod RowLists
+mod RowOrder
 mod Sampling
 mod SegmentLists
 mod Sequences

@@ -1,17 +1,16 @@
 -- What is read of a file, part by part.
-use Rattle.shared_lemmas.proofs.Common.{◌≡◌, ◌≤◌, ◌==◌, ℕ, Bool, true, false, not, List, [], ◌∷◌, length, map, All, None, Result, Ok, Err, ap, sym, subst, ◌∙◌, refl, arith, nat_tests, length-map}
+use Rattle.shared_lemmas.proofs.Common.{◌≡◌, ◌≤◌, ◌<◌, ◌+◌, ◌==◌, ℕ, Bool, true, false, not, List, [], ◌∷◌, length, map, All, None, Result, Ok, Err, ap, sym, subst, ◌∙◌, refl, arith, nat_tests, length-map}
 use Rattle.index_file.proofs.Below.{u32_in, u64_in, OpenRefusal, OpenFault, TermHeads, head_postings, greatest_impact, Front, NamesRead, TermsRead, IndexRead, read_front, read_names, read_terms, read_payloads, name_in, head_codecs, after_front, after_names, after_terms, after_payloads, ◌>>=◌}
 use Rattle.index_file.proofs.Below.{Fails, Check, judged, FileView, IsFileView, file_bytes}
 use Rattle.index_layout.specs.declared.refusal.OpenFault.TheVariants as faults
 use Rattle.index_layout.specs.Reading.{end_checks, read_index}
-use Rattle.index_file.specs.declared.segment.Segment.{Segment}
 use Rattle.index_file.specs.declared.term_row.TermRow.{TermRow}
 use Rattle.index_file.specs.Opened.{view_of}
 use Rattle.index_file.specs.Private.Opened.{Stands}
-use Rattle.index_file.specs.Private.Payloads.{IsPayload, row_heads, row_terms}
-use Rattle.index_file.specs.Private.Tables.{IsNamePlace, AreRows, row_head}
+use Rattle.index_file.specs.Private.Payloads.{IsPlaced, row_heads, row_terms}
+use Rattle.index_file.specs.Private.Tables.{IsNamePlace, AreRows, row_at}
 use Rattle.index_file.proofs.Standing.{same_view}
-use Rattle.index_file.proofs.Wholes.{codecs_are, heads_stay, postings_are, greatest_are, terms_count}
+use Rattle.index_file.proofs.Wholes.{postings_are, greatest_are, terms_count}
 
 -- a step that fails makes the whole fail
 pub fails_on : {A B : Type 0} (fault : OpenFault) (read : Result A OpenRefusal) (f : A → Result B OpenRefusal) → Fails fault read → Fails fault (read >>= f)
@@ -61,52 +60,53 @@ ends_told bytes terms end v is =
     (same_number (u64_in bytes 24) (head_postings terms) p.0, same_number (u32_in bytes 32) (greatest_impact terms) p.1)
 
 -- the view that the tables tell
-abbrev pub view_with : List ℕ → ℕ → List ℕ → List ℕ → List TermRow → List Segment → FileView
-view_with bytes d places text rows segments = record {
-  index = record { names = map (name_in bytes) places; terms = row_terms bytes d text segments rows };
-  codecs = head_codecs (row_heads bytes text segments rows);
+abbrev pub view_with : List ℕ → ℕ → List ℕ → List ℕ → List TermRow → List ℕ → FileView
+view_with bytes d places text rows groups = record {
+  index = record { names = map (name_in bytes) places; terms = row_terms bytes d text groups rows };
+  codecs = head_codecs (row_heads bytes text rows);
 }
 
-module _ (bytes : List ℕ) (d : ℕ) (places text : List ℕ) (rows : List TermRow) (segments : List Segment) where
-  pub stands_there : length places ≡ d → read_index bytes ≡ Ok (view_with bytes d places text rows segments)
-      → bytes ≡ file_bytes (view_with bytes d places text rows segments) → IsFileView (view_with bytes d places text rows segments)
-      → All (IsNamePlace bytes) places → AreRows text segments rows → All (IsPayload bytes d) segments → 40 ≤ length bytes
-      → u64_in bytes 24 ≡ head_postings (row_heads bytes text segments rows) → u32_in bytes 32 ≡ greatest_impact (row_heads bytes text segments rows)
-      → Stands bytes places text rows segments (view_of bytes)
-  stands_there count read spelled view within are payloads front postings greatest =
-      let v = view_with bytes d places text rows segments in
+count_is : (bytes : List ℕ) (d : ℕ) (text groups : List ℕ) (rows : List TermRow) → AreRows bytes d text rows → length rows ≡ length (row_terms bytes d text groups rows) + 1
+count_is bytes d text groups [] are = absurd are
+count_is bytes d text groups (a ∷ rows) are = terms_count bytes d text groups a rows
+
+module _ (bytes : List ℕ) (d : ℕ) (places text : List ℕ) (rows : List TermRow) (groups : List ℕ) where
+  pub stands_there : length places ≡ d → read_index bytes ≡ Ok (view_with bytes d places text rows groups)
+      → bytes ≡ file_bytes (view_with bytes d places text rows groups) → IsFileView (view_with bytes d places text rows groups)
+      → All (IsNamePlace bytes) places → AreRows bytes d text rows → ((t : ℕ) → t + 1 < length rows → IsPlaced bytes d groups (row_at rows t)) → 40 ≤ length bytes
+      → u64_in bytes 24 ≡ head_postings (row_heads bytes text rows) → u32_in bytes 32 ≡ greatest_impact (row_heads bytes text rows)
+      → Stands bytes places text rows groups (view_of bytes)
+  stands_there count read spelled view within are placed front postings greatest =
+      let v = view_with bytes d places text rows groups in
       let all : d ≡ length v.index.names = sym (length-map places (name_in bytes) ∙ count) in
-      let stands : Stands bytes places text rows segments v = record {
+      let stands : Stands bytes places text rows groups v = record {
         spelled = spelled;
         view = view;
         names = refl;
         within = within;
-        terms = ap (λ n. row_terms bytes n text segments rows) all;
-        count = terms_count bytes d text segments rows are;
-        placed = are;
-        codecs = codecs_are bytes text segments rows are;
-        payloads = subst (λ n. All (IsPayload bytes n) segments) all payloads;
+        terms = ap (λ n. row_terms bytes n text groups rows) all;
+        count = count_is bytes d text groups rows are;
+        rows_are = subst (λ n. AreRows bytes n text rows) all are;
+        codecs = refl;
+        placed = λ t inside. subst (λ n. IsPlaced bytes n groups (row_at rows t)) all (placed t inside);
         front = front;
-        postings = postings ∙ postings_are bytes d text segments rows payloads;
-        greatest = greatest ∙ greatest_are bytes d text segments rows;
+        postings = postings ∙ postings_are bytes d text groups rows placed;
+        greatest = greatest ∙ greatest_are bytes d text groups rows;
       } in
-      subst (Stands bytes places text rows segments) (sym (same_view bytes v read)) stands
+      subst (Stands bytes places text rows groups) (sym (same_view bytes v read)) stands
 
 -- what stands before the last checks
-module _ (bytes : List ℕ) (docs terms : ℕ) (places text : List ℕ) (rows : List TermRow) (heads segments : List Segment) (behind_names behind_terms end : ℕ) (same : map (row_head bytes) segments ≡ map (row_head bytes) heads) where
+module _ (bytes : List ℕ) (docs terms : ℕ) (places text : List ℕ) (rows : List TermRow) (groups : List ℕ) (behind_names behind_terms end : ℕ) where
   abbrev pub front_is : Front
   front_is = record { docs = docs; terms = terms }
 
   pub up_to_ends : read_front bytes ≡ Ok front_is
       → read_names bytes docs 40 ≡ Ok (record { names = map (name_in bytes) places; end = behind_names })
-      → read_terms bytes docs terms None behind_names ≡ Ok (record { terms = row_heads bytes text heads rows; end = behind_terms })
-      → read_payloads bytes docs (row_heads bytes text heads rows) behind_terms ≡ Ok (record { terms = row_terms bytes docs text segments rows; end = end })
-      → read_index bytes ≡ judged (end_checks bytes (row_heads bytes text segments rows) end) (view_with bytes docs places text rows segments)
+      → read_terms bytes docs terms None behind_names ≡ Ok (record { terms = row_heads bytes text rows; end = behind_terms })
+      → read_payloads bytes docs (row_heads bytes text rows) behind_terms ≡ Ok (record { terms = row_terms bytes docs text groups rows; end = end })
+      → read_index bytes ≡ judged (end_checks bytes (row_heads bytes text rows) end) (view_with bytes docs places text rows groups)
   up_to_ends front names here payloads =
       let x : NamesRead = record { names = map (name_in bytes) places; end = behind_names } in
-      let y : TermsRead = record { terms = row_heads bytes text segments rows; end = behind_terms } in
-      let z : IndexRead = record { terms = row_terms bytes docs text segments rows; end = end } in
-      let stay = heads_stay bytes text heads segments same rows in
-      front_there bytes front_is front ∙ names_there bytes front_is x names
-      ∙ terms_there bytes front_is x y (here ∙ ap (λ terms. (let r : Result TermsRead OpenRefusal = Ok (record { terms = terms; end = behind_terms }) in r)) (sym stay))
-      ∙ payloads_there bytes front_is x.names y z (ap (λ terms. read_payloads bytes docs terms behind_terms) stay ∙ payloads)
+      let y : TermsRead = record { terms = row_heads bytes text rows; end = behind_terms } in
+      let z : IndexRead = record { terms = row_terms bytes docs text groups rows; end = end } in
+      front_there bytes front_is front ∙ names_there bytes front_is x names ∙ terms_there bytes front_is x y here ∙ payloads_there bytes front_is x.names y z payloads

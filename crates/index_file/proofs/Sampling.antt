@@ -3,11 +3,11 @@ use Rattle.shared_lemmas.proofs.Common.{◌≡◌, ◌<◌, ◌≤◌, ◌+◌, 
 use Rattle.shared_lemmas.proofs.Common.{All-drop}
 use Rattle.std.proofs.Common.{Less, Greater}
 use Rattle.index_layout.specs.View.{FileView}
-use Rattle.index_file.specs.declared.segment.Segment.{Segment}
 use Rattle.index_file.specs.declared.term_row.TermRow.{TermRow}
 use Rattle.index_file.specs.Private.Opened.{IsOpened}
 use Rattle.index_file.specs.Places.{term_at}
-use Rattle.index_file.specs.Private.Samples.{first_eight, row_at, text_at}
+use Rattle.index_file.specs.Private.Samples.{first_eight, text_at}
+use Rattle.index_file.specs.Private.Tables.{row_at}
 use Rattle.index_file.proofs.Leading.{eight_below}
 use Rattle.index_file.proofs.Standing.{there}
 
@@ -20,19 +20,19 @@ text_bytes text rows t bytes =
     let to = (row_at rows (t + 1)).text in
     All-take Byte (to - from) (drop from text) (All-drop Byte from text bytes)
 
-module _ (bytes places text : List ℕ) (rows : List TermRow) (segments : List Segment) (samples : List ℕ) (v : FileView) (is : IsOpened bytes places text rows segments samples v) (t : ℕ) (inside : t < length v.index.terms) where
+module _ (bytes places text : List ℕ) (rows : List TermRow) (groups : List ℕ) (samples : List ℕ) (v : FileView) (is : IsOpened bytes places text rows groups samples v) (t : ℕ) (inside : t < length v.index.terms) where
   pub sample_inside : t / 64 < length samples
   sample_inside = (let count = is.stands.count in let enough = is.sampled.enough in omega (arith, inside, count, enough))
 
   term_bytes : All Byte (term_at v.index.terms t)
-  term_bytes = subst (All Byte) (sym (there bytes places text rows segments v is.stands t inside).term) (text_bytes text rows t is.sampled.bytes)
+  term_bytes = subst (All Byte) (sym (there bytes places text rows groups v is.stands t inside).term) (text_bytes text rows t is.sampled.bytes)
 
   sample_is : t % 64 ≡ 0 → slice_index samples (t / 64) ≡ first_eight (term_at v.index.terms t)
   sample_is even =
       let whole : 64 * (t / 64) ≡ t = omega (arith, even) in
       is.sampled.told (t / 64) sample_inside
       ∙ ap (λ i. first_eight (text_at text rows i)) whole
-      ∙ ap first_eight (sym (there bytes places text rows segments v is.stands t inside).term)
+      ∙ ap first_eight (sym (there bytes places text rows groups v is.stands t inside).term)
 
   pub sample_lower : t % 64 ≡ 0 → (query : List ℕ) → All Byte query → slice_index samples (t / 64) < first_eight query → slice_cmp nat_cmp (term_at v.index.terms t) query ≡ Less
   sample_lower even query others less = eight_below (term_at v.index.terms t) query term_bytes others (subst (λ n. n < first_eight query) (sample_is even) less)

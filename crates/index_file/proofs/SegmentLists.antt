@@ -1,81 +1,117 @@
--- The payloads of a term's segments, read one after the other into their rows.
-use Rattle.shared_lemmas.proofs.Common.{◌≡◌, ◌<◌, ◌+◌, ℕ, map, take, drop, length, slice_index_or, slice_set, All, arith, List, [], ◌∷◌, ◌++◌, Result, Ok, Err, ap, sym, subst, ◌∙◌, refl, flat_map, get_or-map, length-map, map_push, take_more_set, drop-set-lt, flat_map-append, map-set_same}
+-- The payloads of a term's segments, read one after the other, and their groups.
+use Rattle.shared_lemmas.proofs.Common.{◌≡◌, ◌<◌, ◌≤◌, ◌+◌, ◌*◌, ◌%◌, ℕ, drop, length, slice_index, All, arith, List, [], ◌∷◌, ◌++◌, Result, Ok, Err, ap, sym, subst, ◌∙◌, refl, inl, inr, cases_lt, flat_map, flat_map-append, drop-append-le, drop_more, drop_of_length-le, append_assoc, length-append, get_or-append, get_or-append_seam}
 use Rattle.std.proofs.lemmas.List.{append-nil}
-use Rattle.index_file.proofs.Below.{SegmentData, OpenRefusal, HeadData, ◌>>=◌, SegmentsRead, docs_in, payload_end, read_segments, with_segments, behind_segments}
-use Rattle.index_file.specs.declared.segment.Segment.{Segment}
-use Rattle.index_file.specs.Private.Marks.{AreMarks}
-use Rattle.index_file.specs.Private.Payloads.{IsCounted, row_segment}
-use Rattle.index_file.specs.Private.Tables.{row_head}
+use Rattle.index_layout.specs.Reading.{head_in}
+use Rattle.index_layout.specs.declared.refusal.OpenFault.TheVariants as faults
+use Rattle.index_file.proofs.Below.{Fails, OpenFault, SegmentData, OpenRefusal, HeadData, Varbyte, ◌>>=◌, SegmentsRead, docs_in, payload_end, read_segments, with_segments, behind_segments}
+use Rattle.index_file.specs.Private.Payloads.{AreGroups, ArePayloads, IsPayloadAt, payload_place, segment_in}
+use Rattle.index_file.specs.Private.Tables.{IsCounted, heads_from}
+use Rattle.index_file.proofs.HeadLists.{heads_length, head_there}
 
 pub no_segments : (read : Result SegmentsRead OpenRefusal) → read ≡ with_segments [] read
 no_segments (Ok x) = refl
 no_segments (Err e) = refl
 
--- the documents of a row
-abbrev pub docs_there : List ℕ → ℕ → Segment → List ℕ
-docs_there bytes d s = docs_in bytes d (row_head bytes s) s.place
+abbrev pub docs_of : SegmentData → List ℕ
+docs_of s = s.docs
 
--- a row of counted heads is counted
-pub row_counted : (bytes : List ℕ) (d : ℕ) (segments old : List Segment) (i : ℕ) (s : Segment) → All (IsCounted d) (map (row_head bytes) old) → map (row_head bytes) segments ≡ map (row_head bytes) old → i < length segments → IsCounted d (row_head bytes (slice_index_or segments i s))
-row_counted bytes d segments old i s counted heads inside =
-    let all : All (IsCounted d) (map (row_head bytes) segments) = subst (All (IsCounted d)) (sym heads) counted in
-    let n = length-map segments (row_head bytes) in
-    let at = all i (row_head bytes s) (omega (arith, n, inside)) in
-    subst (IsCounted d) (get_or-map (row_head bytes) segments i s (row_head bytes s) inside) at
+pub none : HeadData
+none = record { impact = 0; count = 0; codec = Varbyte; size = 0 }
 
-row_segment_is : (bytes : List ℕ) (d : ℕ) (s : Segment) → row_segment bytes d s ≡ record { impact = (row_head bytes s).impact; docs = docs_there bytes d s }
-unfolding row_segment
-row_segment_is bytes d s = refl
+-- the head of the next segment, and those behind it
+pub heads_left : (bytes : List ℕ) (k head i : ℕ) → i < k → drop i (heads_from bytes k head) ≡ head_in bytes (head + 11 * i) ∷ drop (i + 1) (heads_from bytes k head)
+heads_left bytes k head i inside =
+    let many = heads_length bytes k head in
+    drop_more (heads_from bytes k head) i none (omega (arith, inside, many))
+    ∙ ap (λ h. h ∷ drop (i + 1) (heads_from bytes k head)) (head_there bytes k head i none inside)
 
-module _ (bytes : List ℕ) (d : ℕ) (total : Result SegmentsRead OpenRefusal) (front rest : List Segment) (row s : Segment) (at next : ℕ) (is : total ≡ with_segments (map (row_segment bytes d) front) (read_segments bytes d (flat_map (docs_there bytes d) front) (map (row_head bytes) (row ∷ rest)) at))
-    (head : row_head bytes s ≡ row_head bytes row) (place : s.place ≡ at) where
-  docs_here : docs_in bytes d (row_head bytes row) at ≡ docs_there bytes d s
-  docs_here = sym (ap (λ (h : HeadData). docs_in bytes d h s.place) head ∙ ap (docs_in bytes d (row_head bytes row)) place)
+pub counted_there : (bytes : List ℕ) (d k head i : ℕ) → All (IsCounted d) (heads_from bytes k head) → i < k → IsCounted d (head_in bytes (head + 11 * i))
+counted_there bytes d k head i counted inside =
+    let many = heads_length bytes k head in
+    subst (IsCounted d) (head_there bytes k head i none inside) (counted i none (omega (arith, inside, many)))
 
-  segment_here : (let told : SegmentData = record { impact = (row_head bytes row).impact; docs = docs_in bytes d (row_head bytes row) at } in told) ≡ row_segment bytes d s
-  segment_here =
-      ap (λ (n : ℕ). (let told : SegmentData = record { impact = n; docs = docs_in bytes d (row_head bytes row) at } in told)) (sym (ap (λ (h : HeadData). h.impact) head))
-      ∙ ap (λ (docs : List ℕ). (let told : SegmentData = record { impact = (row_head bytes s).impact; docs = docs } in told)) docs_here
-      ∙ sym (row_segment_is bytes d s)
+module _ (bytes : List ℕ) (d : ℕ) (total : Result SegmentsRead OpenRefusal) (front : List SegmentData) (head at : ℕ) where
+  abbrev all : List SegmentData
+  all = front ++ segment_in bytes d head at ∷ []
 
-  all_docs : flat_map (docs_there bytes d) (front ++ s ∷ []) ≡ flat_map (docs_there bytes d) front ++ docs_there bytes d s
-  all_docs = flat_map-append (docs_there bytes d) front (s ∷ []) ∙ ap (λ docs. flat_map (docs_there bytes d) front ++ docs) (append-nil (docs_there bytes d s))
+  pub all_docs : flat_map docs_of all ≡ flat_map docs_of front ++ docs_in bytes d (head_in bytes head) at
+  unfolding segment_in
+  all_docs = flat_map-append docs_of front (segment_in bytes d head at ∷ []) ∙ ap (λ docs. flat_map docs_of front ++ docs) (append-nil (docs_in bytes d (head_in bytes head) at))
 
   -- one segment more
-  pub segments_on : payload_end bytes d (flat_map (docs_there bytes d) front) (row_head bytes row) at ≡ Ok next
-      → total ≡ with_segments (map (row_segment bytes d) (front ++ s ∷ [])) (read_segments bytes d (flat_map (docs_there bytes d) (front ++ s ∷ [])) (map (row_head bytes) rest) next)
-  segments_on end =
-      let earlier = flat_map (docs_there bytes d) front in
+  pub segments_on : (rest : List HeadData) (next : ℕ) → total ≡ with_segments front (read_segments bytes d (flat_map docs_of front) (head_in bytes head ∷ rest) at)
+      → payload_end bytes d (flat_map docs_of front) (head_in bytes head) at ≡ Ok next → total ≡ with_segments all (read_segments bytes d (flat_map docs_of all) rest next)
+  unfolding segment_in
+  segments_on rest next is end =
+      let earlier = flat_map docs_of front in
+      let docs = docs_in bytes d (head_in bytes head) at in
       is
-      ∙ ap (λ (e : Result ℕ OpenRefusal). with_segments (map (row_segment bytes d) front) (e >>= λ next. (read_segments bytes d (earlier ++ docs_in bytes d (row_head bytes row) at) (map (row_head bytes) rest) next >>= λ later.
-      Ok (record { segments = record { impact = (row_head bytes row).impact; docs = docs_in bytes d (row_head bytes row) at } ∷ later.segments; end = later.end })))) end
-      ∙ behind_segments (map (row_segment bytes d) front) (record { impact = (row_head bytes row).impact; docs = docs_in bytes d (row_head bytes row) at }) (read_segments bytes d (earlier ++ docs_in bytes d (row_head bytes row) at) (map (row_head bytes) rest) next)
-      ∙ ap (λ docs. with_segments (map (row_segment bytes d) front ++ record { impact = (row_head bytes row).impact; docs = docs_in bytes d (row_head bytes row) at } ∷ []) (read_segments bytes d docs (map (row_head bytes) rest) next)) (ap (λ docs. earlier ++ docs) docs_here ∙ sym all_docs)
-      ∙ ap (λ told. with_segments (map (row_segment bytes d) front ++ told ∷ []) (read_segments bytes d (flat_map (docs_there bytes d) (front ++ s ∷ [])) (map (row_head bytes) rest) next)) segment_here
-      ∙ ap (λ all. with_segments all (read_segments bytes d (flat_map (docs_there bytes d) (front ++ s ∷ [])) (map (row_head bytes) rest) next)) (sym (map_push (row_segment bytes d) front s))
+      ∙ ap (λ (e : Result ℕ OpenRefusal). with_segments front (e >>= λ next. (read_segments bytes d (earlier ++ docs) rest next >>= λ later.
+      Ok (record { segments = record { impact = (head_in bytes head).impact; docs = docs } ∷ later.segments; end = later.end })))) end
+      ∙ behind_segments front (record { impact = (head_in bytes head).impact; docs = docs }) (read_segments bytes d (earlier ++ docs) rest next)
+      ∙ ap (λ docs. with_segments all (read_segments bytes d docs rest next)) (sym all_docs)
 
-  pub marks_on : (now : ℕ) (marks : List ℕ) → AreMarks now (flat_map (docs_there bytes d) front ++ docs_there bytes d s) marks → AreMarks now (flat_map (docs_there bytes d) (front ++ s ∷ [])) marks
-  marks_on now marks are = subst (λ docs. AreMarks now docs marks) (sym all_docs) are
+  pub segments_not : (rest : List HeadData) (fault : OpenFault) → total ≡ with_segments front (read_segments bytes d (flat_map docs_of front) (head_in bytes head ∷ rest) at)
+      → Fails fault (payload_end bytes d (flat_map docs_of front) (head_in bytes head) at) → Fails fault total
+  segments_not rest (faults.Refused refusal) is fails =
+      let docs = docs_in bytes d (head_in bytes head) at in
+      is ∙ ap (λ (e : Result ℕ OpenRefusal). with_segments front (e >>= λ next. (read_segments bytes d (flat_map docs_of front ++ docs) rest next >>= λ later.
+      Ok (record { segments = record { impact = (head_in bytes head).impact; docs = docs } ∷ later.segments; end = later.end })))) fails
+  segments_not rest faults.ReadFault is fails = fails
+  segments_not rest faults.NoMemory is fails = tt
 
--- the only segment of a term
-pub only_segment : (bytes : List ℕ) (d : ℕ) (segments : List Segment) (s blank : Segment) (at : ℕ) → length segments ≡ 1 → row_head bytes s ≡ row_head bytes (slice_index_or segments 0 blank) → s.place ≡ at
-    → payload_end bytes d [] (row_head bytes (slice_index_or segments 0 blank)) at ≡ Ok (s.place + (row_head bytes s).size)
-    → read_segments bytes d [] (map (row_head bytes) segments) at ≡ Ok (record { segments = map (row_segment bytes d) (slice_set segments 0 s); end = at + (row_head bytes s).size })
-only_segment bytes d [] s blank at one head place end = absurd (omega (arith, one))
-only_segment bytes d (row ∷ []) s blank at one head place end =
-    segments_on bytes d (read_segments bytes d [] (row_head bytes row ∷ []) at) [] [] row s at (s.place + (row_head bytes s).size) (no_segments (read_segments bytes d [] (row_head bytes row ∷ []) at)) head place end
-    ∙ ap (λ n. (let r : Result SegmentsRead OpenRefusal = Ok (record { segments = row_segment bytes d s ∷ []; end = n + (row_head bytes s).size }) in r)) place
-only_segment bytes d (row ∷ next ∷ rows) s blank at one head place end = absurd (omega (arith, one))
+-- no segment more
+pub segments_end : (bytes : List ℕ) (d k head at : ℕ) (total : Result SegmentsRead OpenRefusal) (front : List SegmentData) (i : ℕ) → k ≤ i
+    → total ≡ with_segments front (read_segments bytes d (flat_map docs_of front) (drop i (heads_from bytes k head)) at) → total ≡ Ok (record { segments = front; end = at })
+segments_end bytes d k head at total front i all is =
+    let many = heads_length bytes k head in
+    is ∙ ap (λ left. with_segments front (read_segments bytes d (flat_map docs_of front) left at)) (drop_of_length-le (heads_from bytes k head) (omega (arith, many, all)))
+    ∙ ap (λ (segments : List SegmentData). (let r : Result SegmentsRead OpenRefusal = Ok (record { segments = segments; end = at }) in r)) (append-nil front)
 
--- the rows behind a row that was read
-pub record RowRead (bytes : List ℕ) (d : ℕ) (rows : List Segment) (i : ℕ) (s : Segment) : Type 0 where
-  pub front : take (i + 1) (slice_set rows i s) ≡ take i rows ++ s ∷ []
-  pub rest : drop (i + 1) (slice_set rows i s) ≡ drop (i + 1) rows
-  pub heads : map (row_head bytes) (slice_set rows i s) ≡ map (row_head bytes) rows
+-- one payload more
+pub payloads_on : (bytes : List ℕ) (d k head at : ℕ) → ArePayloads bytes d k head at → IsPayloadAt bytes d (head_in bytes (head + 11 * k)) (payload_place bytes head at k) → ArePayloads bytes d (k + 1) head at
+payloads_on bytes d k head at are here s inside = elim (cases_lt s k) [
+  | inl l ↦ are s l
+  | inr g ↦ (
+      let last : k ≡ s = omega (arith, inside, g) in
+      subst (λ s. IsPayloadAt bytes d (head_in bytes (head + 11 * s)) (payload_place bytes head at s)) last here)
+]
 
-pub row_read : (bytes : List ℕ) (d : ℕ) (rows : List Segment) (i : ℕ) (s blank : Segment) → i < length rows → row_head bytes s ≡ row_head bytes (slice_index_or rows i blank) → RowRead bytes d rows i s
-row_read bytes d rows i s blank inside head = record {
-  front = take_more_set rows i s inside;
-  rest = drop-set-lt (i + 1) rows i s (omega arith);
-  heads = map-set_same (row_head bytes) rows i s blank head;
-}
+-- the groups when the next payload begins one, and when it doesn't
+group_on : (bytes : List ℕ) (k head at : ℕ) (groups : List ℕ) (place : ℕ) → k % 4 ≡ 0 → place ≡ payload_place bytes head at k → AreGroups bytes k head at groups → AreGroups bytes (k + 1) head at (groups ++ place ∷ [])
+group_on bytes k head at groups place even here are =
+    let count = are.count in
+    let more = length-append groups (place ∷ []) in
+    record {
+      count = omega (arith, even, count, more);
+      told = λ g inside. elim (cases_lt g (length groups)) [
+        | inl l ↦ get_or-append groups (place ∷ []) 0 g l ∙ are.told g l
+        | inr r ↦ (
+            let last : g ≡ length groups = omega (arith, inside, more, r) in
+            let whole : k ≡ 4 * g = omega (arith, even, count, last) in
+            ap (slice_index (groups ++ place ∷ [])) last ∙ get_or-append_seam groups place [] 0 ∙ here ∙ ap (payload_place bytes head at) whole)
+      ];
+    }
+
+group_stays : (bytes : List ℕ) (k head at : ℕ) (groups : List ℕ) → 1 ≤ k % 4 → AreGroups bytes k head at groups → AreGroups bytes (k + 1) head at groups
+group_stays bytes k head at groups odd are = record { count = (let count = are.count in omega (arith, odd, count)); told = are.told }
+
+-- groups behind those of other terms
+pub record KeptGroups (bytes : List ℕ) (k head at : ℕ) (old now : List ℕ) : Type 0 where
+  pub kept : now ≡ old ++ drop (length old) now
+  pub groups : AreGroups bytes k head at (drop (length old) now)
+
+pub groups_pushed : (bytes : List ℕ) (k head at : ℕ) (old now newer : List ℕ) (place : ℕ) → k % 4 ≡ 0 → place ≡ payload_place bytes head at k → newer ≡ now ++ place ∷ []
+    → KeptGroups bytes k head at old now → KeptGroups bytes (k + 1) head at old newer
+groups_pushed bytes k head at old now newer place even here put are =
+    let within : length old ≤ length now = (let e = ap length are.kept in let f = length-append old (drop (length old) now) in omega (arith, e, f)) in
+    let rest : drop (length old) newer ≡ drop (length old) now ++ place ∷ [] = ap (drop (length old)) put ∙ drop-append-le (length old) now (place ∷ []) within in
+    record {
+      kept = put ∙ ap (λ xs. xs ++ place ∷ []) are.kept ∙ append_assoc old (drop (length old) now) (place ∷ []) ∙ ap (λ xs. old ++ xs) (sym rest);
+      groups = subst (AreGroups bytes (k + 1) head at) (sym rest) (group_on bytes k head at (drop (length old) now) place even here are.groups);
+    }
+
+pub groups_stay : (bytes : List ℕ) (k head at : ℕ) (old now newer : List ℕ) → 1 ≤ k % 4 → newer ≡ now → KeptGroups bytes k head at old now → KeptGroups bytes (k + 1) head at old newer
+groups_stay bytes k head at old now newer odd same are =
+    subst (KeptGroups bytes (k + 1) head at old) (sym same)
+    (let stay : KeptGroups bytes (k + 1) head at old now = record { kept = are.kept; groups = group_stays bytes k head at (drop (length old) now) odd are.groups } in stay)

@@ -1,8 +1,6 @@
 -- Parts that are read one after the other.
-use Rattle.shared_lemmas.proofs.Common.{◌≡◌, ◌≤◌, ℕ, suc, map, drop, length, arith, List, [], ◌∷◌, ◌++◌, Result, Ok, Err, append_assoc, ap, sym, ◌∙◌, refl, map_push, length-append, drop-append-le}
+use Rattle.shared_lemmas.proofs.Common.{◌≡◌, ℕ, suc, List, [], ◌∷◌, ◌++◌, Result, Ok, Err, append_assoc, ap, sym, ◌∙◌, refl}
 use Rattle.index_file.proofs.Below.{OpenRefusal, ◌>>=◌, NamesRead, name_end, name_in, read_names}
-use Rattle.index_file.specs.declared.segment.Segment.{Segment}
-use Rattle.index_file.specs.Private.Tables.{row_head}
 
 -- behind names that were read before
 abbrev pub with_names : List (List ℕ) → Result NamesRead OpenRefusal → Result NamesRead OpenRefusal
@@ -19,16 +17,3 @@ names_on bytes total front k left at next is more end =
     is ∙ ap (λ n. with_names front (read_names bytes n at)) more
     ∙ ap (λ (e : Result ℕ OpenRefusal). with_names front (e >>= λ next. (read_names bytes left next >>= λ later. Ok (record { names = name_in bytes at ∷ later.names; end = later.end })))) end
     ∙ behind front (name_in bytes at) (read_names bytes left next)
-
--- rows behind those of before
-pub rows_on : (bytes : List ℕ) (before now new : List Segment) (s : Segment) → now ≡ before ++ drop (length before) now → new ≡ now ++ s ∷ []
-    → (new ≡ before ++ drop (length before) new) ×
-    (map (row_head bytes) (drop (length before) new) ≡ map (row_head bytes) (drop (length before) now) ++ row_head bytes s ∷ [])
-    × (drop (length before) new ≡ drop (length before) now ++ s ∷ [])
-rows_on bytes before now new s kept put =
-    let within : length before ≤ length now = (let e = ap length kept in let f = length-append before (drop (length before) now) in omega (arith, e, f)) in
-    let rest : drop (length before) new ≡ drop (length before) now ++ s ∷ [] = ap (drop (length before)) put ∙ drop-append-le (length before) now (s ∷ []) within in (
-      put ∙ ap (λ xs. xs ++ s ∷ []) kept ∙ append_assoc before (drop (length before) now) (s ∷ []) ∙ ap (λ xs. before ++ xs) (sym rest),
-      ap (map (row_head bytes)) rest ∙ map_push (row_head bytes) (drop (length before) now) s,
-      rest,
-    )

@@ -1,155 +1,167 @@
 -- What an opened file's tables tell of its view.
-use Rattle.shared_lemmas.proofs.Common.{◌≡◌, ◌<◌, ◌≤◌, ◌+◌, ◌-◌, ℕ, zero, suc, List, [], ◌∷◌, ◌++◌, length, map, drop, Some, All, Ok, ap, sym, subst, ◌∙◌, refl, slice_get, slice_index, slice_index_or, arith, slice_range, length-map, get_or-map, get_or-drop, get_or-take, length-drop, length-take-le}
+use Rattle.shared_lemmas.proofs.Common.{◌≡◌, ◌<◌, ◌≤◌, ◌+◌, ◌-◌, ◌*◌, ◌/◌, ◌%◌, ◌^◌, ℕ, zero, suc, List, [], ◌∷◌, ◌++◌, length, map, drop, Some, All, Ok, ap, sym, subst, ◌∙◌, refl, slice_get, slice_index, slice_index_or, arith, slice_range, length-map, length-take, get_or-map}
 use Rattle.shared_lemmas.proofs.Common.{slice_get-get_or, IsUtf8-from_is_utf8}
 use Rattle.std.specs.Prelude.{flat_map, IsUtf8}
-use Rattle.index_file.proofs.Below.{AreDocs, IsText, payload_of, SegmentData, TermData, IsSegment, IsTerm, segments_at, name_in, read_index, greatest_in, index_greatest, FileView, IsFileView, file_bytes, HeadData}
-use Rattle.index_file.specs.declared.segment.Segment.{Segment}
+use Rattle.index_file.proofs.Below.{AreDocs, IsText, payload_of, SegmentData, TermData, IsSegment, IsTerm, Codec, segments_at, name_in, read_index, greatest_in, index_greatest, FileView, IsFileView, file_bytes, HeadData}
+use Rattle.index_layout.specs.Reading.{head_in}
+use Rattle.segment_codecs.specs.Codecs.{payload_size}
+use Rattle.index_file.specs.declared.segment_head.SegmentHead.{SegmentHead}
 use Rattle.index_file.specs.declared.term_row.TermRow.{TermRow}
 use Rattle.index_file.specs.Opened.{view_of, view_or_empty}
 use Rattle.index_file.specs.Private.Opened.{Stands}
-use Rattle.index_file.specs.Private.Payloads.{IsPayload, row_segment, row_terms, term_between}
+use Rattle.index_file.specs.Private.Payloads.{IsPayloadAt, IsPlaced, first_payload, payload_place, row_terms, segment_in, segments_from, term_between}
 use Rattle.index_file.specs.Places.{term_at, segment_at}
-use Rattle.index_file.specs.Private.Tables.{RowsFrom, AreRows, row_head, told}
-use Rattle.index_file.specs.declared.segment_head.SegmentHead.{SegmentHead}
-use Rattle.index_file.proofs.TermRows.{row_below}
+use Rattle.index_file.specs.Private.Tables.{first_head, head_count, row_at, told}
+use Rattle.index_file.proofs.HeadLists.{places_join, segment_from, segments_length}
+use Rattle.index_file.proofs.RowOrder.{InOrder, rows_in_order}
 
 -- the bytes that are read have the view that was read
 pub same_view : (bytes : List ℕ) (v : FileView) → read_index bytes ≡ Ok v → view_of bytes ≡ v
 unfolding view_of
 same_view bytes v is = ap view_or_empty is
 
-abbrev pub row_of : List TermRow → ℕ → TermRow
-row_of rows t = slice_index_or rows t (record { text = 0; segment = 0 })
-
-abbrev pub segment_of : List Segment → ℕ → Segment
-segment_of segments i = slice_index_or segments i (record { head = 0; place = 0 })
-
 abbrev term_of : List TermData → ℕ → TermData
 term_of terms t = slice_index_or terms t (record { term = []; segments = [] })
 
--- neighbouring rows are in order, and within the text and the segments
-pub record InOrder (text : List ℕ) (segments : List Segment) (x y : TermRow) : Type 0 where
-  pub text_rises : x.text ≤ y.text
-  pub text_within : y.text ≤ length text
-  pub segment_rises : x.segment ≤ y.segment
-  pub segment_within : y.segment ≤ length segments
-
-in_order : (text : List ℕ) (segments : List Segment) (a : TermRow) (rows : List TermRow) (t : ℕ) → RowsFrom text segments a rows → t < length rows → InOrder text segments (row_of (a ∷ rows) t) (row_of rows t)
-in_order text segments a [] t are inside = absurd (omega (arith, inside))
-in_order text segments a (b ∷ rows) zero are inside =
-    let below = row_below text segments b rows are.2 in
-    record { text_rises = are.0; text_within = below.0; segment_rises = are.1; segment_within = below.1 }
-in_order text segments a (b ∷ rows) (suc t) are inside = in_order text segments b rows t are.2 (omega (arith, inside))
-
-next_row : (a : TermRow) (rows : List TermRow) (t : ℕ) → row_of rows t ≡ row_of (a ∷ rows) (t + 1)
-next_row a rows t = (let e : suc t ≡ t + 1 = omega arith in ap (row_of (a ∷ rows)) e)
-
-pub rows_in_order : (text : List ℕ) (segments : List Segment) (rows : List TermRow) (t : ℕ) → AreRows text segments rows → t + 1 < length rows → InOrder text segments (row_of rows t) (row_of rows (t + 1))
-rows_in_order text segments [] t are inside = absurd are
-rows_in_order text segments (a ∷ rows) t are inside = subst (λ y. InOrder text segments (row_of (a ∷ rows) t) y) (next_row a rows t) (in_order text segments a rows t are.2 (omega (arith, inside)))
-
-term_there : (bytes : List ℕ) (d : ℕ) (text : List ℕ) (segments : List Segment) (a : TermRow) (rows : List TermRow) (t : ℕ) → t < length rows
-    → term_of (row_terms bytes d text segments (a ∷ rows)) t ≡ term_between bytes d text segments (row_of (a ∷ rows) t) (row_of rows t)
-term_there bytes d text segments a [] t inside = absurd (omega (arith, inside))
-term_there bytes d text segments a (b ∷ rows) zero inside = refl
-term_there bytes d text segments a (b ∷ rows) (suc t) inside = term_there bytes d text segments b rows t (omega (arith, inside))
+term_there : (bytes : List ℕ) (d : ℕ) (text groups : List ℕ) (rows : List TermRow) (t : ℕ) → suc t < length rows
+    → term_of (row_terms bytes d text groups rows) t ≡ term_between bytes d text groups (row_at rows t) (row_at rows (suc t))
+term_there bytes d text groups [] t inside = absurd (omega (arith, inside))
+term_there bytes d text groups (a ∷ []) t inside = absurd (omega (arith, inside))
+term_there bytes d text groups (a ∷ b ∷ rows) zero inside = refl
+term_there bytes d text groups (a ∷ b ∷ rows) (suc t) inside = term_there bytes d text groups (b ∷ rows) t (omega (arith, inside))
 
 -- what is known of the term with a number
-pub record TermThere (bytes text : List ℕ) (rows : List TermRow) (segments : List Segment) (v : FileView) (t : ℕ) : Type 0 where
-  pub order : InOrder text segments (row_of rows t) (row_of rows (t + 1))
-  pub term : term_at v.index.terms t ≡ slice_range text (row_of rows t).text (row_of rows (t + 1)).text
-  pub its_segments : segments_at v.index.terms t ≡ map (row_segment bytes (length v.index.names)) (slice_range segments (row_of rows t).segment (row_of rows (t + 1)).segment)
+pub record TermThere (bytes text : List ℕ) (rows : List TermRow) (groups : List ℕ) (v : FileView) (t : ℕ) : Type 0 where
+  pub order : InOrder bytes (length v.index.names) text (row_at rows t) (row_at rows (t + 1))
+  pub term : term_at v.index.terms t ≡ slice_range text (row_at rows t).text (row_at rows (t + 1)).text
+  pub its_segments : segments_at v.index.terms t
+      ≡ segments_from bytes (length v.index.names) (head_count bytes (row_at rows t)) (first_head (row_at rows t)) (first_payload groups (row_at rows t))
+  pub placed : IsPlaced bytes (length v.index.names) groups (row_at rows t)
 
-pub there : (bytes places text : List ℕ) (rows : List TermRow) (segments : List Segment) (v : FileView) → Stands bytes places text rows segments v → (t : ℕ) → t < length v.index.terms → TermThere bytes text rows segments v t
-there bytes places text [] segments v s t inside = absurd (s.placed)
-there bytes places text (a ∷ rows) segments v s t inside =
-    let d = length v.index.names in
-    let below : t < length rows = omega (arith, inside, s.count) in
-    let is = ap (λ (terms : List TermData). term_of terms t) s.terms ∙ term_there bytes d text segments a rows t below ∙ ap (term_between bytes d text segments (row_of (a ∷ rows) t)) (next_row a rows t) in
-    record {
-      order = subst (λ y. InOrder text segments (row_of (a ∷ rows) t) y) (next_row a rows t) (in_order text segments a rows t s.placed.2 below);
-      term = ap (λ (x : TermData). x.term) is;
-      its_segments = ap (λ (x : TermData). x.segments) is;
-    }
+module _ (bytes places text : List ℕ) (rows : List TermRow) (groups : List ℕ) (v : FileView) (stands : Stands bytes places text rows groups v) (t : ℕ) (inside : t < length v.index.terms) where
+  abbrev d : ℕ
+  d = length v.index.names
 
-pub part_size : {X : Type 0} (xs : List X) (from to : ℕ) → from ≤ to → to ≤ length xs → length (slice_range xs from to) ≡ to - from
-part_size xs from to order within = length-take-le (to - from) (drop from xs) (let l = length-drop from xs in omega (arith, l, order, within))
+  abbrev row : TermRow
+  row = row_at rows t
 
-pub segments_count : (bytes text : List ℕ) (rows : List TermRow) (segments : List Segment) (v : FileView) (t : ℕ) → TermThere bytes text rows segments v t → (row_of rows (t + 1)).segment - (row_of rows t).segment ≡ length (segments_at v.index.terms t)
-segments_count bytes text rows segments v t h =
-    sym (ap (λ (s : List SegmentData). length s) h.its_segments
-    ∙ length-map (slice_range segments (row_of rows t).segment (row_of rows (t + 1)).segment) (row_segment bytes (length v.index.names))
-    ∙ part_size segments (row_of rows t).segment (row_of rows (t + 1)).segment h.order.segment_rises h.order.segment_within)
+  pub row_inside : t + 1 < length rows
+  row_inside = omega (arith, inside, stands.count)
 
--- the segment at a place of a term is that of a row
-pub record SegmentThere (bytes : List ℕ) (segments : List Segment) (v : FileView) (t s i : ℕ) : Type 0 where
-  pub inside : i < length segments
-  pub is : segment_at v.index.terms t s ≡ row_segment bytes (length v.index.names) (segment_of segments i)
+  pub there : TermThere bytes text rows groups v t
+  there =
+      let next : suc t ≡ t + 1 = omega arith in
+      let is = ap (λ (terms : List TermData). term_of terms t) stands.terms
+      ∙ term_there bytes d text groups rows t (omega (arith, row_inside))
+      ∙ ap (λ i. term_between bytes d text groups row (row_at rows i)) next in
+      record {
+        order = rows_in_order bytes d text rows t stands.rows_are row_inside;
+        term = ap (λ (x : TermData). x.term) is;
+        its_segments = ap (λ (x : TermData). x.segments) is;
+        placed = stands.placed t row_inside;
+      }
 
-pub segment_there : (bytes text : List ℕ) (rows : List TermRow) (segments : List Segment) (v : FileView) (t s : ℕ) → TermThere bytes text rows segments v t → s < length (segments_at v.index.terms t) → SegmentThere bytes segments v t s ((row_of rows t).segment + s)
-segment_there bytes text rows segments v t s h below =
-    let from = (row_of rows t).segment in
-    let to = (row_of rows (t + 1)).segment in
-    let d = length v.index.names in
-    let part = slice_range segments from to in
-    let size = part_size segments from to h.order.segment_rises h.order.segment_within in
-    let count = segments_count bytes text rows segments v t h in
-    let short : s < to - from = omega (arith, below, count) in
-    let none : Segment = record { head = 0; place = 0 } in
-    record {
-      inside = (let within = h.order.segment_within in omega (arith, short, within));
-      is = ap (λ (here : List SegmentData). slice_index_or here s (record { impact = 0; docs = [] })) h.its_segments
-          ∙ get_or-map (row_segment bytes d) part s none (record { impact = 0; docs = [] }) (omega (arith, short, size))
-          ∙ ap (row_segment bytes d) (get_or-take (to - from) (drop from segments) s none short ∙ get_or-drop from segments s none);
-    }
+  pub segments_count : head_count bytes row ≡ length (segments_at v.index.terms t)
+  segments_count = sym (ap (λ (s : List SegmentData). length s) there.its_segments
+      ∙ segments_length bytes d (head_count bytes row) (first_head row) (first_payload groups row))
 
--- what the row tells of the segment
-pub record RowTells (v : FileView) (h : HeadData) (place : ℕ) (x : SegmentData) : Type 0 where
+-- what a head and a place tell of a segment
+pub record Tells (v : FileView) (h : HeadData) (place : ℕ) (x : SegmentData) : Type 0 where
   pub impact : h.impact ≡ x.impact
   pub count : h.count ≡ length x.docs
   pub within : place + h.size ≤ length (file_bytes v)
   pub docs : AreDocs (length v.index.names) x.docs
   pub spelled : slice_range (file_bytes v) place (place + h.size) ≡ payload_of h.codec (length v.index.names) x.docs
 
-row_told : (bytes : List ℕ) (v : FileView) (r : Segment) → bytes ≡ file_bytes v → IsPayload bytes (length v.index.names) r → RowTells v (row_head bytes r) r.place (row_segment bytes (length v.index.names) r)
-unfolding row_segment
-row_told bytes v r spelled is = record {
+payload_tells : (bytes : List ℕ) (v : FileView) (head place : ℕ) → bytes ≡ file_bytes v → IsPayloadAt bytes (length v.index.names) (head_in bytes head) place
+    → Tells v (head_in bytes head) place (segment_in bytes (length v.index.names) head place)
+unfolding segment_in
+payload_tells bytes v head place spelled is = record {
   impact = refl;
-  count = sym is.payload.count;
-  within = (let size = ap length spelled in let fits = is.payload.within in omega (arith, size, fits));
-  docs = is.payload.docs;
-  spelled = ap (λ (all : List ℕ). slice_range all r.place (r.place + (row_head bytes r).size)) (sym spelled) ∙ is.payload.spelled;
+  count = sym is.count;
+  within = subst (λ (all : List ℕ). place + (head_in bytes head).size ≤ length all) spelled is.within;
+  docs = is.docs;
+  spelled = ap (λ (all : List ℕ). slice_range all place (place + (head_in bytes head).size)) (sym spelled) ∙ is.spelled;
 }
 
-pub row_tells : (bytes places text : List ℕ) (rows : List TermRow) (segments : List Segment) (v : FileView) → Stands bytes places text rows segments v
-    → (t s i : ℕ) → SegmentThere bytes segments v t s i → RowTells v (row_head bytes (segment_of segments i)) (segment_of segments i).place
-    (segment_at v.index.terms t s)
-row_tells bytes places text rows segments v stands t s i h =
-    subst (RowTells v (row_head bytes (segment_of segments i)) (segment_of segments i).place) (sym h.is)
-    (row_told bytes v (segment_of segments i) stands.spelled (stands.payloads i (record { head = 0; place = 0 }) h.inside))
+-- the segment with a number: its head, the place of its payload, and the group that the payload is in
+module _ (bytes places text : List ℕ) (rows : List TermRow) (groups : List ℕ) (v : FileView) (stands : Stands bytes places text rows groups v)
+    (t s : ℕ) (below : t < length v.index.terms) (inside : s < length (segments_at v.index.terms t)) where
+  abbrev its_row : TermRow
+  its_row = row_at rows t
 
--- the same of the head that was read
-pub head_tells : (v : FileView) (h : SegmentHead) (g : HeadData) (place : ℕ) (x : SegmentData) → told h ≡ g → RowTells v g place x → RowTells v (told h) place x
-head_tells v h g place x is tells = subst (λ g. RowTells v g place x) (sym is) tells
+  abbrev first_place : ℕ
+  first_place = first_payload groups its_row
+
+  abbrev pub segment_place : ℕ
+  segment_place = payload_place bytes (first_head its_row) first_place s
+
+  known : TermThere bytes text rows groups v t
+  known = there bytes places text rows groups v stands t below
+
+  pub head_inside : s < head_count bytes its_row
+  head_inside = omega (arith, inside, segments_count bytes places text rows groups v stands t below)
+
+  pub head_within : first_head its_row + 11 * s + 11 ≤ length bytes
+  head_within = omega (arith, head_inside, known.order.heads.within)
+
+  pub segment_tells : Tells v (head_in bytes (first_head its_row + 11 * s)) segment_place (segment_at v.index.terms t s)
+  segment_tells =
+      let d = length v.index.names in
+      let none : SegmentData = record { impact = 0; docs = [] } in
+      let is = ap (λ (here : List SegmentData). slice_index_or here s none) known.its_segments
+      ∙ segment_from bytes d (head_count bytes its_row) (first_head its_row) first_place s none head_inside in
+      subst (Tells v (head_in bytes (first_head its_row + 11 * s)) segment_place) (sym is)
+      (payload_tells bytes v (first_head its_row + 11 * s) segment_place stands.spelled (known.placed.payloads s head_inside))
+
+  -- the same of a head that was read, and of a place that was found
+  pub read_tells : (h : SegmentHead) (at : ℕ) → told h ≡ head_in bytes (first_head its_row + 11 * s) → at ≡ segment_place → Tells v (told h) at (segment_at v.index.terms t s)
+  read_tells h at read found =
+      subst (λ at. Tells v (told h) at (segment_at v.index.terms t s)) (sym found)
+      (subst (λ h. Tells v h segment_place (segment_at v.index.terms t s)) (sym read) segment_tells)
+
+  -- a payload has a byte or more, so that even the last begins within 32 bits
+  pub place_small : ((codec : Codec) (d : ℕ) (docs : List ℕ) → AreDocs d docs → 1 ≤ payload_size d docs codec) → segment_place < 2 ^ 32
+  place_small some =
+      let tells = segment_tells in
+      let h = head_in bytes (first_head its_row + 11 * s) in
+      let docs = (segment_at v.index.terms t s).docs in
+      let size : segment_place + h.size - segment_place ≡ h.size = omega arith in
+      let least = some h.codec (length v.index.names) docs tells.docs in
+      let most = length-take (segment_place + h.size - segment_place) (drop segment_place (file_bytes v)) in
+      omega (arith, size, least, most, ap (λ (xs : List ℕ). length xs) tells.spelled, tells.within, stands.view.fits)
+
+  pub group_inside : its_row.group + s / 4 < length groups
+  group_inside = omega (arith, head_inside, known.placed.inside)
+
+  pub place_told : payload_place bytes (first_head its_row + 11 * (s - s % 4)) (slice_index groups (its_row.group + s / 4)) (s % 4) ≡ segment_place
+  place_told =
+      let start : 4 * (s / 4) ≡ s - s % 4 = omega arith in
+      let all : s - s % 4 + s % 4 ≡ s = omega arith in
+      let few : s / 4 < (head_count bytes its_row + 3) / 4 = omega (arith, head_inside) in
+      ap (λ at. payload_place bytes (first_head its_row + 11 * (s - s % 4)) at (s % 4))
+      (known.placed.told (s / 4) few ∙ ap (payload_place bytes (first_head its_row) first_place) start)
+      ∙ places_join bytes (first_head its_row) first_place (s - s % 4) (s % 4)
+      ∙ ap (payload_place bytes (first_head its_row) first_place) all
 
 -- terms are text
 pub term_text : (v : FileView) → IsFileView v → (t : ℕ) → t < length v.index.terms → IsUtf8 (term_at v.index.terms t)
 term_text v is t inside = IsUtf8-from_is_utf8 (term_at v.index.terms t) (is.index.terms t (record { term = []; segments = [] }) inside).text
 
 -- names
-pub place_within : (bytes places text : List ℕ) (rows : List TermRow) (segments : List Segment) (v : FileView) → Stands bytes places text rows segments v → (doc : ℕ) → doc < length v.index.names → doc < length places
-place_within bytes places text rows segments v s doc below = let n = ap length s.names ∙ length-map places (name_in bytes) in omega (arith, below, n)
+pub place_within : (bytes places text : List ℕ) (rows : List TermRow) (groups : List ℕ) (v : FileView) → Stands bytes places text rows groups v → (doc : ℕ) → doc < length v.index.names → doc < length places
+place_within bytes places text rows groups v s doc below = let n = ap length s.names ∙ length-map places (name_in bytes) in omega (arith, below, n)
 
-pub name_there : (bytes places text : List ℕ) (rows : List TermRow) (segments : List Segment) (v : FileView) → Stands bytes places text rows segments v → (doc : ℕ) → doc < length v.index.names → slice_get v.index.names doc ≡ Some (name_in bytes (slice_index places doc))
-name_there bytes places text rows segments v s doc below =
+pub name_there : (bytes places text : List ℕ) (rows : List TermRow) (groups : List ℕ) (v : FileView) → Stands bytes places text rows groups v → (doc : ℕ) → doc < length v.index.names → slice_get v.index.names doc ≡ Some (name_in bytes (slice_index places doc))
+name_there bytes places text rows groups v s doc below =
     ap (λ (names : List (List ℕ)). slice_get names doc) s.names
     ∙ slice_get-get_or (map (name_in bytes) places) doc [] (subst (λ n. doc < n) (ap length s.names) below)
-    ∙ ap Some (get_or-map (name_in bytes) places doc 0 [] (place_within bytes places text rows segments v s doc below))
+    ∙ ap Some (get_or-map (name_in bytes) places doc 0 [] (place_within bytes places text rows groups v s doc below))
 
-pub name_text : (bytes places text : List ℕ) (rows : List TermRow) (segments : List Segment) (v : FileView) → Stands bytes places text rows segments v → (doc : ℕ) → doc < length v.index.names → IsUtf8 (name_in bytes (slice_index places doc))
-name_text bytes places text rows segments v s doc below =
+pub name_text : (bytes places text : List ℕ) (rows : List TermRow) (groups : List ℕ) (v : FileView) → Stands bytes places text rows groups v → (doc : ℕ) → doc < length v.index.names → IsUtf8 (name_in bytes (slice_index places doc))
+name_text bytes places text rows groups v s doc below =
     IsUtf8-from_is_utf8 (name_in bytes (slice_index places doc))
-    (subst IsText (ap (λ (names : List (List ℕ)). slice_index_or names doc []) s.names ∙ get_or-map (name_in bytes) places doc 0 [] (place_within bytes places text rows segments v s doc below)) (s.view.index.names_are_text doc [] below))
+    (subst IsText (ap (λ (names : List (List ℕ)). slice_index_or names doc []) s.names ∙ get_or-map (name_in bytes) places doc 0 [] (place_within bytes places text rows groups v s doc below)) (s.view.index.names_are_text doc [] below))
 
 -- impacts have 16 bits
 small_in : (d : ℕ) (segments : List SegmentData) → All (IsSegment d) segments → greatest_in segments ≤ 65535

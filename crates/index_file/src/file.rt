@@ -1,4 +1,4 @@
-ghost use Rattle.std.specs.Prelude.{ℕ, ◌≡◌, ◌+◌, ◌≤◌, ◌<◌, ◌↔◌, List, [], ◌∷◌, Some, length, map, take, drop, slice_get, slice_range, All, IfOk, IfSome, IsSome};
+ghost use Rattle.std.specs.Prelude.{ℕ, ◌≡◌, ◌+◌, ◌*◌, ◌≤◌, ◌<◌, ◌↔◌, List, [], ◌∷◌, Some, length, take, drop, slice_get, slice_range, All, IfOk, IfSome, IsSome};
 ghost use Rattle.std.specs.Str.{IsUtf8};
 ghost use Rattle.std.specs.Ordering.{nat_cmp};
 ghost use Rattle.std.specs.Cmp.Lexicographic.{slice_cmp};
@@ -12,23 +12,23 @@ ghost use Rattle.index_layout.specs.Refusals.{Answers};
 ghost use Rattle.index_layout.specs.Totals.{totals_of};
 ghost use Rattle.index_layout.specs.View.{FileView, IsFileView, file_bytes};
 ghost use Rattle.index_file.specs.Giving.{Gives};
-ghost use Rattle.index_file.specs.Places.{codec_at, codec_use, segment_at, term_at, uses_of};
+ghost use Rattle.index_file.specs.Places.{codec_at, codec_use, segment_at, term_at};
+ghost use Rattle.index_file.specs.Private.Payloads.{payload_place};
 ghost use Rattle.index_file.specs.Private.Samples.{first_eight};
-ghost use Rattle.index_file.specs.Private.Tables.{HasHead, row_head};
 
 use crate::cursor::Cursor;
 use crate::figures::{CodecUse, Head};
 use crate::number::{u32_at, u64_at};
 use crate::samples::sample_terms;
-use crate::segment::Segment;
-use crate::segment_head::{PlacedHead, head_of};
+use crate::segment_head::{PlacedHead, SegmentHead, head_of};
 use crate::span::{Span, part};
 use crate::tables::read_tables;
 use crate::term_row::TermRow;
+use crate::uses::codec_uses;
 use index_layout::OpenFault;
 use jass_base::laws::gap_varints_are_read;
 use jass_base::{Names, Row, Steps, Totals, known_gap};
-use segment_codecs::laws::bitmaps_are_their_documents;
+use segment_codecs::laws::{bitmaps_are_their_documents, payloads_have_few_bytes};
 use segment_codecs::{Codec, SegmentCursor};
 use std::alloc::Global;
 use std::cmp::Ordering;
@@ -42,7 +42,7 @@ pub struct IndexFile {
     places: Row<u32>,
     text: Row<u8>,
     rows: Row<TermRow>,
-    segments: Row<Segment>,
+    groups: Row<u32>,
     samples: Row<u64>,
 }
 
@@ -55,7 +55,7 @@ impl Model for IndexFile {
 
     ghost view = { λ f. view_of f.bytes };
 
-    ghost invariant = { λ f. IsOpened f.bytes f.places f.text f.rows f.segments f.samples (view_of f.bytes) };
+    ghost invariant = { λ f. IsOpened f.bytes f.places f.text f.rows f.groups f.samples (view_of f.bytes) };
 }
 
 impl IndexFile {
@@ -64,7 +64,7 @@ impl IndexFile {
         ensures exact { Answers (λ file. file) result (read_index bytes) }
         ensures accepted { IfOk result (λ file. (bytes ≡ file_bytes file) × IsFileView file) }
     {
-        let (places, text, rows, segments) = read_tables(alloc, bytes.as_slice())?;
+        let (places, text, rows, groups) = read_tables(alloc, bytes.as_slice())?;
         let samples = match sample_terms(alloc, text.as_slice(), rows.as_slice()) {
             Ok(samples) => samples,
             Err(_) => return Err(OpenFault::NoMemory),
@@ -74,7 +74,7 @@ impl IndexFile {
             places,
             text,
             rows,
-            segments,
+            groups,
             samples,
         })
     }
@@ -104,12 +104,12 @@ impl IndexFile {
         ensures { result ≡ codec_use self.now.codecs }
     {
         let bytes = self.bytes.as_slice();
-        let segments = self.segments.as_slice();
+        let uses = codec_uses(bytes, self.rows.as_slice());
         CodecUse {
-            varbyte: uses_of(bytes, segments, Codec::Varbyte),
-            packed: uses_of(bytes, segments, Codec::Packed),
-            bitmap: uses_of(bytes, segments, Codec::Bitmap),
-            simple8: uses_of(bytes, segments, Codec::Simple8),
+            varbyte: uses[0],
+            packed: uses[1],
+            bitmap: uses[2],
+            simple8: uses[3],
         }
     }
 
@@ -186,11 +186,27 @@ impl IndexFile {
         if t >= self.terms() {
             return 0;
         }
-        let rows = self.rows.as_slice();
-        rows[t as usize + 1].segment - rows[t as usize].segment
+        u32_at(
+            self.bytes.as_slice(),
+            self.rows.as_slice()[t as usize].heads as usize,
+        )
+    }
+
+    /// The head of a segment of a term.
+    #[inline(always)]
+    fn segment_head(&self, t: u32, s: u32) -> SegmentHead
+        requires t { t < length self.now.index.terms }
+        requires s { s < length (segments_at self.now.index.terms t) }
+        ensures impact { result.impact ≡ (segment_at self.now.index.terms t s).impact }
+        ensures count { result.count ≡ length (segment_at self.now.index.terms t s).docs }
+        ensures codec { result.codec ≡ codec_at self.now.codecs t s }
+    {
+        let heads = self.rows.as_slice()[t as usize].heads as usize;
+        head_of(self.bytes.as_slice(), heads + 4 + 11 * s as usize)
     }
 
     /// The head of a segment of a term, and the place of its payload.
+    #[inline(always)]
     fn segment(&self, t: u32, s: u32) -> PlacedHead
         requires t { t < length self.now.index.terms }
         requires s { s < length (segments_at self.now.index.terms t) }
@@ -202,11 +218,21 @@ impl IndexFile {
         ensures payload { slice_range (file_bytes self.now) result.place (result.place + result.head.size)
             ≡ payload_of result.head.codec (length self.now.index.names) (segment_at self.now.index.terms t s).docs }
     {
-        let first = self.rows.as_slice()[t as usize].segment;
-        let segment = self.segments.as_slice()[first as usize + s as usize];
+        payloads_have_few_bytes();
+        let bytes = self.bytes.as_slice();
+        let row = self.rows.as_slice()[t as usize];
+        let group_place = self.groups.as_slice()[row.group as usize + s as usize / 4];
+        let heads = row.heads as usize + 4;
+        let before = s as usize % 4;
+        let place = place_behind(
+            bytes,
+            heads + 11 * (s as usize - before),
+            group_place,
+            before,
+        );
         PlacedHead {
-            head: head_of(self.bytes.as_slice(), segment),
-            place: segment.place,
+            head: head_of(bytes, heads + 11 * s as usize),
+            place: place as u32,
         }
     }
 
@@ -217,7 +243,7 @@ impl IndexFile {
         ensures impact { result.impact ≡ (segment_at self.now.index.terms t s).impact }
         ensures count { result.count ≡ length (segment_at self.now.index.terms t s).docs }
     {
-        let head = self.segment(t, s).head;
+        let head = self.segment_head(t, s);
         Head {
             impact: head.impact,
             count: head.count,
@@ -271,9 +297,9 @@ impl IndexFile {
         ensures size { IfSome result (λ bits. length bits.now ≡ bitmap_size (length self.now.index.names)) }
     {
         bitmaps_are_their_documents();
-        let found = self.segment(t, s);
-        match found.head.codec {
+        match self.segment_head(t, s).codec {
             Codec::Bitmap => {
+                let found = self.segment(t, s);
                 let from = found.place as usize;
                 Some(&self.bytes.as_slice()[from..from + found.head.size as usize])
             }
@@ -315,18 +341,20 @@ impl IndexFile {
     }
 }
 
-/// How many segments are in a codec.
-fn uses_of(bytes: &[u8], segments: &[Segment], codec: Codec) -> u64
-    requires { All (HasHead bytes.now) segments.now }
-    ensures { result ≡ uses_of codec (map (λ (s : Segment). (row_head bytes.now s).codec) segments.now) }
+/// The place behind so many payloads, the first of which begins at a place; their heads stand from
+/// another on, and one more head behind them. Without a branch on the number, which no processor foresees.
+#[inline(always)]
+fn place_behind(bytes: &[u8], heads: usize, first: u32, count: usize) -> usize
+    requires few { count < 4 }
+    requires there { heads + 11 * count + 11 ≤ length bytes.now }
+    ensures { result ≡ payload_place bytes.now heads first count }
 {
-    let mut count = 0;
-    'segments: for segment in segments {
-        if head_of(bytes, *segment).codec == codec {
-            count += 1;
-        }
+    let mut place = first as usize;
+    'heads: for i in 0..3 {
+        let size = u32_at(bytes, heads + 11 * count.min(i) + 7) as usize;
+        place += if i < count { size } else { 0 };
     }
-    count
+    place
 }
 
 impl Names for IndexFile {

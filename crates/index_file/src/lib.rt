@@ -20,7 +20,6 @@ mod payloads;
 mod plain;
 mod samples;
 mod searching;
-mod segment;
 mod segment_head;
 mod span;
 mod sums;
@@ -29,6 +28,7 @@ mod term;
 mod term_payloads;
 mod term_row;
 mod terms;
+mod uses;
 
 pub use cursor::Cursor;
 pub use figures::{CodecUse, Head};

@@ -3,11 +3,10 @@ ghost use Rattle.index_layout.specs.Reading.{docs_in, payload_end};
 ghost use Rattle.index_layout.specs.Refusals.{Answers};
 ghost use Rattle.index_file.specs.Private.Marks.{AreMarks};
 ghost use Rattle.jass_base.specs.declared.limits.TheConstants.{LONGEST_FILE, MOST_DOCUMENTS};
-ghost use Rattle.index_file.specs.Private.Payloads.{IsPayloadAt, placed};
+ghost use Rattle.index_file.specs.Private.Payloads.{IsPayloadAt};
 ghost use Rattle.index_file.specs.Private.Tables.{told};
 
 use crate::marks::{mark_docs, mark_payload};
-use crate::segment::Segment;
 use crate::segment_head::SegmentHead;
 use index_layout::{OpenFault, OpenWhy, refused};
 use segment_codecs::laws::{payloads_are_read, payloads_have_few_bytes};
@@ -165,16 +164,4 @@ fn check_many(
         return Err(refused(at, OpenWhy::DocTwice));
     }
     Ok(())
-}
-
-/// The segment with its payload at a place.
-#[inline(always)]
-pub(crate) fn placed(segment: Segment, at: usize) -> Segment
-    requires { at < 2 ^ 32 }
-    ensures { result ≡ placed segment at }
-{
-    Segment {
-        head: segment.head,
-        place: at as u32,
-    }
 }

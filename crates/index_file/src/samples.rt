@@ -1,7 +1,6 @@
-ghost use Rattle.std.specs.Prelude.{◌≡◌, ◌<◌, List, slice_index, All, IfOk};
+ghost use Rattle.std.specs.Prelude.{ℕ, ◌≡◌, ◌<◌, List, slice_index, All, IfOk};
 ghost use Rattle.index_file.specs.Private.Samples.{AreSamples, first_eight};
 ghost use Rattle.index_file.specs.Private.Tables.{AreRows};
-ghost use Rattle.index_file.specs.declared.segment.Segment.{Segment};
 
 use crate::span::{Span, part};
 use crate::term_row::TermRow;
@@ -36,7 +35,7 @@ pub(crate) fn sample_terms(
     text: &[u8],
     rows: &[TermRow],
 ) -> Result<Row<u64>, NoMemory>
-    requires rows { (segments : List Segment) × AreRows text.now segments rows.now }
+    requires rows { (bytes : List ℕ) × (docs : ℕ) × AreRows bytes docs text.now rows.now }
     ensures { IfOk result (λ samples. AreSamples text.now rows.now samples) }
 {
     let mut samples = Row::new(alloc);

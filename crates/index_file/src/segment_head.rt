@@ -1,10 +1,10 @@
-ghost use Rattle.std.specs.Prelude.{◌≡◌, ◌<◌, length, slice_index};
+ghost use Rattle.std.specs.Prelude.{◌≡◌, ◌≤◌, ◌<◌, ◌+◌, length, slice_index};
 ghost use Rattle.std.specs.Option.{unwrap_or};
+ghost use Rattle.index_layout.specs.Reading.{head_in};
 ghost use Rattle.segment_codecs.specs.Codecs.{codec_of};
-ghost use Rattle.index_file.specs.Private.Tables.{HasHead, row_head, told};
+ghost use Rattle.index_file.specs.Private.Tables.{told};
 
 use crate::number::{u16_at, u32_at};
-use crate::segment::Segment;
 use segment_codecs::Codec;
 
 /// The head of a segment: its impact, how many documents, and the codec and size of its payload in
@@ -24,14 +24,13 @@ pub(crate) struct PlacedHead {
     pub(crate) place: u32,
 }
 
-/// The head of a segment, read from the bytes. An unknown codec is none of a checked file.
+/// The head at a place. An unknown codec is none of a checked file.
 #[tactic(auto, unfolding(index_layout::specs::Reading::head_in))]
 #[inline(always)]
-pub(crate) fn head_of(bytes: &[u8], segment: Segment) -> SegmentHead
-    requires { HasHead bytes.now segment }
-    ensures { told result ≡ row_head bytes.now segment }
+pub(crate) fn head_of(bytes: &[u8], at: usize) -> SegmentHead
+    requires { at + 11 ≤ length bytes.now }
+    ensures { told result ≡ head_in bytes.now at }
 {
-    let at = segment.head as usize;
     SegmentHead {
         impact: u16_at(bytes, at),
         codec: codec_at(bytes, at + 6),

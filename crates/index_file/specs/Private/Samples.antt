@@ -1,7 +1,7 @@
 -- The sampled terms of an opened file: of each 64th term, its first bytes.
 use Rattle.std.specs.Prelude.{ℕ, zero, suc, ◌≡◌, ◌+◌, ◌*◌, ◌^◌, ◌<◌, ◌≤◌, List, [], ◌∷◌, length, slice_index, slice_range, All}
-use Rattle.std.specs.List.{slice_index_or}
 use Rattle.index_file.specs.declared.term_row.TermRow.{TermRow}
+use Rattle.index_file.specs.Private.Tables.{row_at}
 
 -- the first bytes of a text as a number, the first of them the highest; a byte that it doesn't have counts 0
 abbrev pub leading : ℕ → List ℕ → ℕ
@@ -13,10 +13,7 @@ leading (suc k) (byte ∷ text) = byte * 256 ^ k + leading k text
 unfoldable pub first_eight : List ℕ → ℕ
 first_eight text = leading 8 text
 
--- the row with a number, and the text of the term between it and the next
-abbrev pub row_at : List TermRow → ℕ → TermRow
-row_at rows i = slice_index_or rows i (record { text = 0; segment = 0 })
-
+-- the text of the term between a row and the next
 abbrev pub text_at : List ℕ → List TermRow → ℕ → List ℕ
 text_at text rows i = slice_range text (row_at rows i).text (row_at rows (i + 1)).text
 

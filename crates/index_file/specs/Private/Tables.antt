@@ -1,28 +1,45 @@
 -- What the tables of an opened file say of its bytes.
-use Rattle.std.specs.Prelude.{ℕ, ◌≡◌, ◌+◌, ◌≤◌, List, [], ◌∷◌, length, Option, Some, None, slice_range}
+use Rattle.std.specs.Prelude.{ℕ, ◌≡◌, ◌+◌, ◌*◌, ◌/◌, ◌≤◌, List, [], ◌∷◌, All, length, map, Option, Some, None, slice_range}
+use Rattle.std.specs.List.{range_with_len, slice_index_or}
 use Rattle.index_file.specs.declared.span.Span.{Span}
 use Rattle.index_file.specs.declared.term_row.TermRow.{TermRow}
 use Rattle.index_layout.specs.Bytes.{u32_in}
 use Rattle.index_layout.specs.Heads.{HeadData}
 use Rattle.index_layout.specs.Reading.{head_in}
-use Rattle.index_file.specs.declared.segment.Segment.{Segment}
 use Rattle.index_file.specs.declared.segment_head.SegmentHead.{SegmentHead}
 
 -- the name whose length stands at a place lies in the bytes
 abbrev pub IsNamePlace : List ℕ → ℕ → Type 0
 IsNamePlace bytes at = at + 4 + u32_in bytes at ≤ length bytes
 
--- the head of a row, which stands in the bytes
-abbrev pub row_head : List ℕ → Segment → HeadData
-row_head bytes s = head_in bytes s.head
-
--- the head of a row lies in the bytes
-abbrev pub HasHead : List ℕ → Segment → Type 0
-HasHead bytes s = s.head + 11 ≤ length bytes
-
 -- a head that was read
 abbrev pub told : SegmentHead → HeadData
 told h = record { impact = h.impact; count = h.count; codec = h.codec; size = h.size }
+
+-- a head of a segment has a document or more, and at most d
+abbrev pub IsCounted : ℕ → HeadData → Type 0
+IsCounted d h = (1 ≤ h.count) × (h.count ≤ d)
+
+-- so many heads that stand one after the other, 11 bytes each, from a place on
+abbrev pub heads_from : List ℕ → ℕ → ℕ → List HeadData
+heads_from bytes k at = map (λ s. head_in bytes (at + 11 * s)) (range_with_len 0 k)
+
+-- how many heads the term of a row has, and where the first stands: behind their number
+abbrev pub head_count : List ℕ → TermRow → ℕ
+head_count bytes row = u32_in bytes row.heads
+
+abbrev pub first_head : TermRow → ℕ
+first_head row = row.heads + 4
+
+-- the heads of a row's term lie in the bytes, there are some, and each has a document or more and at most d
+pub record HasHeads (bytes : List ℕ) (d : ℕ) (row : TermRow) : Type 0 where
+  pub some : 1 ≤ head_count bytes row
+  pub within : first_head row + 11 * head_count bytes row ≤ length bytes
+  pub counted : All (IsCounted d) (heads_from bytes (head_count bytes row) (first_head row))
+
+-- how many groups of four so many segments are, the last of which may have fewer
+abbrev pub group_count : ℕ → ℕ
+group_count segments = (segments + 3) / 4
 
 -- a part of the text of all terms
 unfoldable pub part_of : List ℕ → Span → List ℕ
@@ -36,12 +53,19 @@ abbrev pub before_in : List ℕ → Option Span → Option (List ℕ)
 before_in text None = None
 before_in text (Some s) = Some (part_of text s)
 
--- the rows from one on rise in both fields, up to the ends of the text and of the segments
-abbrev pub RowsFrom : List ℕ → List Segment → TermRow → List TermRow → Type 0
-RowsFrom text segments a [] = (a.text ≡ length text) × (a.segment ≡ length segments)
-RowsFrom text segments a (b ∷ rows) = (a.text ≤ b.text) × (a.segment ≤ b.segment) × RowsFrom text segments b rows
+-- the row with a number
+abbrev pub row_at : List TermRow → ℕ → TermRow
+row_at rows i = slice_index_or rows i (record { text = 0; heads = 0; group = 0 })
+
+-- the rows from one on have heads but for the last; their texts rise to the end of the text, and the groups of each
+-- follow those of the one before
+abbrev pub RowsFrom : List ℕ → ℕ → List ℕ → TermRow → List TermRow → Type 0
+RowsFrom bytes d text a [] = a.text ≡ length text
+RowsFrom bytes d text a (b ∷ rows) =
+    (a.text ≤ b.text) × (b.group ≡ a.group + group_count (head_count bytes a)) × HasHeads bytes d a
+    × RowsFrom bytes d text b rows
 
 -- the rows of terms: the first is at the front, and the last at the end
-abbrev pub AreRows : List ℕ → List Segment → List TermRow → Type 0
-AreRows text segments [] = ⊥
-AreRows text segments (a ∷ rows) = (a.text ≡ 0) × (a.segment ≡ 0) × RowsFrom text segments a rows
+abbrev pub AreRows : List ℕ → ℕ → List ℕ → List TermRow → Type 0
+AreRows bytes d text [] = ⊥
+AreRows bytes d text (a ∷ rows) = (a.text ≡ 0) × (a.group ≡ 0) × RowsFrom bytes d text a rows

@@ -1,25 +1,21 @@
-use Rattle.std.proofs.Common.{◌≡◌, ◌+◌, [], Ok, map, slice_index_or, slice_set, refl, sym, subst, arith}
-use Rattle.index_file.proofs.Below.{payload_end, read_segments, HeadData}
-use Rattle.index_file.specs.declared.segment.Segment.{Segment}
-use Rattle.index_file.specs.Private.Payloads.{IsCounted, placed, row_segment}
-use Rattle.index_file.specs.Private.Tables.{row_head}
-use Rattle.index_file.proofs.SegmentLists.{row_counted, only_segment}
+use Rattle.shared_lemmas.proofs.Common.{◌≡◌, ◌+◌, ◌*◌, [], ◌∷◌, Ok, Result, ap, sym, subst, ◌∙◌, arith}
+use Rattle.index_layout.specs.Reading.{head_in}
+use Rattle.index_file.proofs.Below.{OpenRefusal, SegmentsRead, payload_end, read_segments}
+use Rattle.index_file.specs.Private.Payloads.{segment_in}
+use Rattle.index_file.specs.Private.Tables.{heads_from}
+use Rattle.index_file.proofs.HeadLists.{place_first}
+use Rattle.index_file.proofs.SegmentLists.{no_segments, segments_on}
 use Rattle.index_file.proofs.term_payloads.read_only.Goals as goal
 
-pub check_payload-requires-clause-counted : goal.check_payload-requires-clause-counted
-check_payload-requires-clause-counted c =
-    let one = c.requires.one in
-    subst (IsCounted c.args.docs) (sym c.head_of-head.ensures) (row_counted c.args.bytes.now c.args.docs c.args.segments.now c.args.segments.now 0 (record { head = 0; place = 0 }) c.requires.counted refl (omega (arith, one)))
-
-pub returns-clause-exact : goal.returns-clause-exact
-returns-clause-exact c =
+pub returns-in-Ok-clause-exact : goal.returns-in-Ok-clause-exact
+returns-in-Ok-clause-exact c =
     let bytes = c.args.bytes.now in
     let d = c.args.docs in
-    let rows = c.args.segments.now in
     let at = c.args.from in
-    let blank : Segment = record { head = 0; place = 0 } in
-    let row = slice_index_or rows 0 blank in
-    let read : read_segments bytes d [] (map (row_head bytes) rows) at ≡ Ok (record { segments = map (row_segment bytes d) (slice_set rows 0 (placed row at)); end = at + (row_head bytes row).size })
-    = only_segment bytes d rows (placed row at) blank at c.requires.one refl refl (subst (λ h. payload_end bytes d [] h at ≡ Ok (at + h.size)) c.head_of-head.ensures c.in_ok-check_payload.ensures.exact) in
-    let sized = subst (λ (h : HeadData). read_segments bytes d [] (map (row_head bytes) rows) at ≡ Ok (record { segments = map (row_segment bytes d) (slice_set rows 0 (placed row at)); end = at + h.size })) (sym c.head_of-head.ensures) read in
-    subst (λ (s : Segment). read_segments bytes d [] (map (row_head bytes) rows) at ≡ Ok (record { segments = map (row_segment bytes d) (slice_set rows 0 s); end = at + c.head_of-head.result.size })) (sym c.placed.ensures) sized
+    let next = at + c.head_of-head.result.size in
+    let total = read_segments bytes d [] (heads_from bytes 1 c.args.heads) at in
+    let first : c.args.heads ≡ c.args.heads + 11 * 0 = omega arith in
+    let is_read = c.head_of-head.ensures ∙ ap (head_in bytes) first in
+    segments_on bytes d total [] (c.args.heads + 11 * 0) at [] next (no_segments total)
+    (subst (λ h. payload_end bytes d [] h at ≡ Ok next) is_read c.in_ok-check_payload.ensures.exact)
+    ∙ ap (λ place. (let r : Result SegmentsRead OpenRefusal = Ok (record { segments = segment_in bytes d (c.args.heads + 11 * 0) place ∷ []; end = next }) in r)) (sym (place_first bytes c.args.heads at))

@@ -10,11 +10,11 @@ unfolding name_in
 from_utf8_unchecked-requires c =
     let f = c.self.inside in
     let below = subst (λ (v : FileView). c.args.doc < length v.index.names) (sym c.self.view_is) c.requires in
-    rw (c.u32_at-size.ensures, c.as_slice-bytes.ensures, c.as_slice.ensures) (name_text f.bytes f.places f.text f.rows f.segments (view_of f.bytes) c.self.invariant.stands c.args.doc below)
+    rw (c.u32_at-size.ensures, c.as_slice-bytes.ensures, c.as_slice.ensures) (name_text f.bytes f.places f.text f.rows f.groups (view_of f.bytes) c.self.invariant.stands c.args.doc below)
 
 pub returns : goal.returns
 unfolding name_in
 returns c =
     let f = c.self.inside in
     let below = subst (λ (v : FileView). c.args.doc < length v.index.names) (sym c.self.view_is) c.requires in
-    rw (c.from_utf8_unchecked.ensures, c.u32_at-size.ensures, c.as_slice-bytes.ensures, c.as_slice.ensures, ← c.self.view_is) (name_there f.bytes f.places f.text f.rows f.segments (view_of f.bytes) c.self.invariant.stands c.args.doc below)
+    rw (c.from_utf8_unchecked.ensures, c.u32_at-size.ensures, c.as_slice-bytes.ensures, c.as_slice.ensures, ← c.self.view_is) (name_there f.bytes f.places f.text f.rows f.groups (view_of f.bytes) c.self.invariant.stands c.args.doc below)

@@ -1,21 +1,18 @@
-use Rattle.std.proofs.Common.{arith, subst, sym, ◌<◌, length}
-use Rattle.index_layout.specs.View.{FileView}
-use Rattle.index_file.specs.Opened.{view_of}
+use Rattle.std.proofs.Common.{arith, subst}
+use Rattle.index_file.specs.Private.Opened.{Stands}
 use Rattle.index_file.proofs.Standing.{there, segments_count}
 use Rattle.index_file.proofs.file.IndexFile.segments.Goals as goal
 
-pub overflow_sub-result : goal.overflow_sub-result
-overflow_sub-result c =
+pub u32_at-requires : goal.u32_at-requires
+u32_at-requires c =
     let f = c.self.inside in
-    let inside : c.args.t < length c.args.self.now.index.terms = omega (arith, c.if-t-terms.false, c.terms.ensures) in
-    let below = subst (λ (v : FileView). c.args.t < length v.index.terms) (sym c.self.view_is) inside in
-    let h = there f.bytes f.places f.text f.rows f.segments (view_of f.bytes) c.self.invariant.stands c.args.t below in
-    rw c.as_slice-rows.ensures h.order.segment_rises
+    let stands = subst (Stands f.bytes f.places f.text f.rows f.groups) c.self.view_is c.self.invariant.stands in
+    let h = there f.bytes f.places f.text f.rows f.groups c.args.self.now stands c.args.t (omega (arith, c.if-t-terms.false, c.terms.ensures)) in
+    rw (c.as_slice.ensures, c.as_slice-2.ensures) (omega (arith, h.order.heads.within))
 
 pub returns : goal.returns
 returns c =
     let f = c.self.inside in
-    let inside : c.args.t < length c.args.self.now.index.terms = omega (arith, c.if-t-terms.false, c.terms.ensures) in
-    let below = subst (λ (v : FileView). c.args.t < length v.index.terms) (sym c.self.view_is) inside in
-    let h = there f.bytes f.places f.text f.rows f.segments (view_of f.bytes) c.self.invariant.stands c.args.t below in
-    rw (c.as_slice-rows.ensures, ← c.self.view_is) (segments_count f.bytes f.text f.rows f.segments (view_of f.bytes) c.args.t h)
+    let stands = subst (Stands f.bytes f.places f.text f.rows f.groups) c.self.view_is c.self.invariant.stands in
+    rw (c.u32_at.ensures, c.as_slice.ensures, c.as_slice-2.ensures)
+    (segments_count f.bytes f.places f.text f.rows f.groups c.args.self.now stands c.args.t (omega (arith, c.if-t-terms.false, c.terms.ensures)))
