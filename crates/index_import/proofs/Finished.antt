@@ -1,7 +1,7 @@
 -- An index file that is begun, and one that is whole.
 use Rattle.shared_lemmas.proofs.Common.{◌≡◌, ◌≤◌, ◌<◌, ◌-◌, ◌^◌, ◌⊎◌, ℕ, ◌∷◌, get_or, List, ◌++◌, length, map, take, drop, suc, [], Option, Some, None, Ok, Err, refl, sym, ap, ap₂, subst, ◌∙◌, inl, inr, arith, append_assoc, get_or-append_seam, get_or-map, length-append, length-map}
 use Rattle.shared_lemmas.proofs.Common.{take_all}
-use Rattle.index_import.proofs.Below.{Files, Extends, ForContent, IsMissing, Sets, content_there, Totals, CiffFault, CiffRefusal, Segment, segment_data, IndexData, SegmentData, TermData, HeadData, file_length, front_bytes, totals_of, index_text, chosen_entry, chosen_heads}
+use Rattle.index_import.proofs.Below.{Files, Extends, ForContent, IsMissing, Sets, content_there, Totals, CiffFault, CiffRefusal, IndexData, SegmentData, TermData, HeadData, file_length, front_bytes, totals_of, index_text, chosen_entry, chosen_heads}
 use Rattle.index_import.proofs.Below.{chosen_payloads, chosen_terms, table_payloads, LeavesPrefix, Untouched, Unappending, Unbegun, WriterView, change_of, entries_totals, entry_data, next_heads, no_entry, TermHeads, SaveFault, TermFault, Bits, Range, for_both}
 use Rattle.ciff_read.specs.declared.refusal.CiffFault.TheVariants as reading
 use Rattle.index_layout.specs.Heads.{TermHeads as EntryData}
@@ -154,17 +154,16 @@ only_untold old now name P Q same there p q never = by (on_told old name ⊥ (fo
     by (inl is) = is
     by (inr is) = absurd is
 
--- the same of segments in rows, by the walk's own name and number of documents
-pub found_here : (old now : Option Files) (name : List ℕ) (d : ℕ) (w : Weighing) (bits : Bits) (range : Range) (places front rest : List Place) (p : Place) (made : List TermData) (own : List ℕ) (many : ℕ) (found : List SegmentData) (rows : List Segment)
-    → map segment_data rows ≡ found → own ≡ name → many ≡ d → content_there now name ≡ content_there old name → ¬ IsMissing old name → places ≡ front ++ p ∷ rest
+-- the same by the walk's own name and number of documents
+pub found_here : (old now : Option Files) (name : List ℕ) (d : ℕ) (w : Weighing) (bits : Bits) (range : Range) (places front rest : List Place) (p : Place) (made : List TermData) (own : List ℕ) (many : ℕ) (found : List SegmentData)
+    → own ≡ name → many ≡ d → content_there now name ≡ content_there old name → ¬ IsMissing old name → places ≡ front ++ p ∷ rest
     → ForContent now own (λ content. found ≡ segments_there content many w bits range p.at)
     → ForContent old name (λ content. map (λ (t : TermData). t.segments) made ≡ map (λ (q : Place). segments_there content d w bits range q.at) places)
-    → (old ≡ None) ⊎ (map segment_data rows ≡ (get_or made (length front) (record { term = []; segments = [] })).segments)
-found_here old now name d w bits range places front rest p made own many found rows shown named counted same there parts read told =
-    found_are old now name d w bits range places front rest p made (record { term = []; segments = [] }) (map segment_data rows) same there parts
-    (subst (λ (n : List ℕ). ForContent now n (λ content. map segment_data rows ≡ segments_there content d w bits range p.at)) named
-    (subst (λ (k : ℕ). ForContent now own (λ content. map segment_data rows ≡ segments_there content k w bits range p.at)) counted
-    (subst (λ (ss : List SegmentData). ForContent now own (λ content. ss ≡ segments_there content many w bits range p.at)) (sym shown) read))) told
+    → (old ≡ None) ⊎ (found ≡ (get_or made (length front) (record { term = []; segments = [] })).segments)
+found_here old now name d w bits range places front rest p made own many found named counted same there parts read told =
+    found_are old now name d w bits range places front rest p made (record { term = []; segments = [] }) found same there parts
+    (subst (λ (n : List ℕ). ForContent now n (λ content. found ≡ segments_there content d w bits range p.at)) named
+    (subst (λ (k : ℕ). ForContent now own (λ content. found ≡ segments_there content k w bits range p.at)) counted read)) told
 
 pub turn_low : (places front rest : List Place) (p : Place) (terms : List TermHeads) → places ≡ front ++ p ∷ rest → length places ≡ length terms → length front < length (map entry_data terms)
 turn_low places front rest p terms parts many = omega (arith, ap length parts, length-append front (p ∷ rest), many, length-map terms entry_data)

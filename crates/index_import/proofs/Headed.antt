@@ -1,16 +1,20 @@
 -- The heads of lists that are read again, list by list.
 use Rattle.shared_lemmas.proofs.Common.{rules, append-nil, ◌≡◌, ℕ, ◌+◌, ◌≤◌, ◌^◌, List, [], ◌∷◌, ◌++◌, length, map, Option, refl, sym, ap, ap₂, subst, ◌∙◌, arith, All, AllPairs, AllByRecursion, flat_map-append, length-map, map-append, All-push, sum_by-append, sum_by-cons}
 use Rattle.std.specs.List.{sum_by}
-use Rattle.index_import.proofs.Below.{Files, ForContent, BytesRise, Bits, Range, for_all, for_both, SegmentData, TermData, HeadData, all_heads, head_postings, chosen_entry, chosen_head, chosen_heads, head_data, AreEntries, FallsTo}
+use Rattle.index_import.proofs.Below.{CiffFault, Files, ForContent, BytesRise, Bits, LeavesWalk, Range, WalkView, for_all, for_both, for_one, SegmentData, TermData, HeadData, all_heads, head_postings, chosen_entry, chosen_head, chosen_heads, head_data, AreEntries, FallsTo}
 use Rattle.index_import.proofs.Below.{IsEntry, IsHead, RisesTo, entry_data, TermHeads}
 use Rattle.shared_lemmas.proofs.Pairs.{Pairs, pairs_by_places, pairs_by_recursion, pairs_map}
 use Rattle.index_layout.specs.Heads.{TermHeads as EntryData}
-use Rattle.index_import.specs.Private.Heading.{AreHeads, term_there, terms_there}
+use Rattle.ciff_read.specs.declared.refusal.CiffFault.TheVariants as faults
+use Rattle.index_import.specs.Private.Heading.{AreHeads, AreInside, FailsAllInside, HasOneMore, term_there, terms_there}
+use Rattle.index_import.specs.Private.Outlining.{list_there}
 use Rattle.index_model.specs.Index.{FallsTo as SegmentFalls}
 use Rattle.jass_base.specs.Gaps.{AreDocs}
-use Rattle.index_import.specs.Private.Rereading.{AreSegments, segments_there}
+use Rattle.index_import.specs.Private.Rereading.{AreSegments, FailsOf, IsInside, segments_there}
 use Rattle.index_import.specs.declared.list_entry.ListEntry.{ListEntry}
 use Rattle.index_import.specs.declared.weighing.Weighing.{Weighing}
+use Rattle.index_import.proofs.Again.{told_then}
+use Rattle.index_import.proofs.Turns.{middle}
 
 same_entry : (docs : ℕ) (e : ListEntry) (t : TermHeads) (segments : List SegmentData) → t.term ≡ e.term → map head_data t.heads ≡ chosen_heads docs segments → entry_data t ≡ chosen_entry docs (record { term = e.term; segments = segments })
 same_entry docs e t segments term made = ap₂ (λ (x : List ℕ) (hs : List HeadData). (let entry : EntryData = record { term = x; heads = hs } in entry)) term made
@@ -127,3 +131,25 @@ all_entries lists entries rising few postings have =
 
 pub no_entries : HaveEntries [] []
 no_entries = record { terms = refl; each = λ i d low. absurd (omega (arith, low)); postings = refl }
+
+-- a list that is refused is one of all
+module _ (files now : Option Files) (old walk : WalkView) (w : Weighing) (bits : Bits) (range : Range) (lists front rest : List ListEntry) (e : ListEntry) (is : lists ≡ front ++ e ∷ rest) where
+  pub fails_one : (fault : CiffFault) → now ≡ files → LeavesWalk old walk → ForContent now walk.name (λ content. FailsOf w bits range (list_there content walk.docs e.place.at).postings fault)
+      → ForContent files old.name (λ content. FailsAllInside content old.docs w bits range lists fault)
+  fails_one fault same leaves fails =
+      for_one files old.name (λ content. FailsOf w bits range (list_there content old.docs e.place.at).postings fault) (λ content. FailsAllInside content old.docs w bits range lists fault)
+      (λ content. by content fault) (told_then files now old walk (λ docs content. FailsOf w bits range (list_there content docs e.place.at).postings fault) same leaves fails)
+    where
+      by : (content : List ℕ) (fault : CiffFault) → FailsOf w bits range (list_there content old.docs e.place.at).postings fault → FailsAllInside content old.docs w bits range lists fault
+      by content (faults.Refused refusal) outside = λ inside.
+          outside (middle (λ (e : ListEntry). IsInside content old.docs w bits range e.place.at) front rest e (subst (λ (ls : List ListEntry). AreInside content old.docs w bits range ls) is inside))
+      by content faults.ReadFault fails = tt
+      by content faults.NoMemory fails = tt
+
+-- the heads of a list that was read by a walk's own name and number of documents, which are those before
+pub headed_then : (files now : Option Files) (old walk : WalkView) (w : Weighing) (bits : Bits) (range : Range) (e : ListEntry) (before after : List TermHeads) → now ≡ files → LeavesWalk old walk
+    → HasOneMore now walk.name walk.docs w bits range e before after → HasOneMore files old.name old.docs w bits range e before after
+headed_then files now old walk w bits range e before after same leaves is =
+    subst (λ (d : ℕ). HasOneMore files old.name d w bits range e before after) leaves.docs
+    (subst (λ (n : List ℕ). HasOneMore files n walk.docs w bits range e before after) leaves.name
+    (subst (λ (f : Option Files). HasOneMore f walk.name walk.docs w bits range e before after) same is))

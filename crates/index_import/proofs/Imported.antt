@@ -1,6 +1,6 @@
 -- The index that is made of a file that was judged.
 use Rattle.shared_lemmas.proofs.Common.{◌≡◌, ℕ, inl, inr, List, [], ◌∷◌, length, map, Option, Some, None, Result, Ok, Err, refl, sym, ap, ap₂, subst, ◌∙◌, All, AllPairs, IfSome, IsSomeAnd, IsPermutation, get, AllByRecursion, All-from_recursion, All-map, recursion_from_All, map-map}
-use Rattle.index_import.proofs.Below.{CollectionData, ListData, Files, ForContent, IsMissing, OnContent, BytesRise, Totals, Rule, Bits, Raw, Of, Range, empty_range, impact_of, range_of, IsKeptList, read_ciff, LeavesWalk, WalkView, CiffFault, for_both, for_one, for_pair, index_with, IndexData}
+use Rattle.index_import.proofs.Below.{CollectionData, ListData, Files, ForContent, IsMissing, OnContent, BytesRise, Totals, Rule, Bits, Raw, Of, Range, empty_range, impact_of, range_of, IsKeptList, KeptList, read_ciff, LeavesWalk, WalkView, CiffFault, for_both, for_one, for_pair, index_with, IndexData}
 use Rattle.index_import.proofs.Below.{SegmentData, TermData, TermHeads, collection_index, index_of, lengths_of, total_of, weights_in, weights_of, AreByTerm, list_term, lists_in_use, widened_by, outside}
 use Rattle.ciff_read.specs.declared.refusal.CiffFault.TheVariants as reading
 use Rattle.shared_lemmas.proofs.Pairs.{Pairs, pairs_by_places, pairs_by_recursion, pairs_map}
@@ -9,19 +9,17 @@ use Rattle.index_import.specs.Private.Faults.{unread}
 use Rattle.index_import.specs.Private.Heading.{AreHeads, AreInside, FailsAllInside, places_of, term_there, terms_there}
 use Rattle.index_import.specs.Importing.{Imports, IsMade}
 use Rattle.index_import.specs.Private.Writing.{HasTerms, Writes}
-use Rattle.index_import.specs.Private.Outlining.{IsOutline, list_there, lists_there, names_of}
+use Rattle.index_import.specs.Private.Outlining.{IsOutline, IsOutlined, list_there, lists_there, names_of}
 use Rattle.index_import.specs.Private.Ranging.{range_there}
 use Rattle.index_import.specs.Private.Rereading.{IsInside, segments_there}
 use Rattle.index_import.specs.Private.Spelling.{AreOf, IsSpelling}
-use Rattle.index_import.specs.Private.Surveying.{kept_entry}
+use Rattle.index_import.specs.Private.Surveying.{AreGiven, KeepsAll, kept_entry}
 use Rattle.index_write.specs.Spelled.{SpelledView}
 use Rattle.index_import.specs.declared.fault.ImportFault.{ImportFault}
 use Rattle.index_import.specs.declared.fault.ImportFault.TheVariants.{Refused, ReadFault, TooLarge, WriteFault, NoMemory}
 use Rattle.index_import.specs.declared.list_entry.ListEntry.{ListEntry}
 use Rattle.index_import.specs.declared.list_entry.Place.{Place}
 use Rattle.index_import.specs.declared.weighing.Weighing.{Weighing}
-use Rattle.index_import.proofs.Again.{told_then}
-use Rattle.index_import.proofs.Ready.{leaves_then}
 
 -- what holds of a content holds on it, where the name isn't missing
 on_there : (files : Option Files) (name : List ℕ) (P : List ℕ → Type 0) → ¬ IsMissing files name → ForContent files name P → OnContent files name P
@@ -149,21 +147,19 @@ imports old new name index rule bits made (Err NoMemory) here is writes = inr (m
 -- what is known of a file whose lists were read again once
 module _ (files : Option Files) (walk : WalkView) (w : Weighing) (bits : Bits) (range : Range) (lists : List ListEntry) (here : ¬ IsMissing files walk.name) (found : ForContent files walk.name (λ content. range ≡ range_there content walk.docs w bits lists)) where
   -- no list is refused, since no weight lies outside the range
-  pub never_refused : (inside : HoldsEach) (f2 f3 : Option Files) (w2 : WalkView) (index : List ℕ) (fault : CiffFault) (result : ImportFault) → result ≡ unread fault → f2 ≡ files → LeavesWalk walk w2 → f3 ≡ f2
-      → ForContent f2 w2.name (λ content. FailsAllInside content w2.docs w bits range lists fault) → Imports files f3 walk.name index w.rule bits (Err result)
-  never_refused inside f2 f3 w2 index fault result is same leaves same_then fails =
-      subst (λ (r : ImportFault). Imports files f3 walk.name index w.rule bits (Err r)) (sym is) (by fault
-      (told_then files f2 walk w2 (λ docs content. FailsAllInside content docs w bits range lists fault) same leaves fails))
+  pub never_refused : (inside : HoldsEach) (now : Option Files) (index : List ℕ) (fault : CiffFault) (result : ImportFault) → result ≡ unread fault → now ≡ files
+      → ForContent files walk.name (λ content. FailsAllInside content walk.docs w bits range lists fault) → Imports files now walk.name index w.rule bits (Err result)
+  never_refused inside now index fault result is same fails = subst (λ (r : ImportFault). Imports files now walk.name index w.rule bits (Err r)) (sym is) (by fault fails)
     where
-      by : (fault : CiffFault) → ForContent files walk.name (λ content. FailsAllInside content walk.docs w bits range lists fault) → Imports files f3 walk.name index w.rule bits (Err (unread fault))
+      by : (fault : CiffFault) → ForContent files walk.name (λ content. FailsAllInside content walk.docs w bits range lists fault) → Imports files now walk.name index w.rule bits (Err (unread fault))
       by (reading.Refused refusal) outside = (
         on_there files walk.name (λ content. read_ciff content ≡ Err refusal) here
             (for_both files walk.name (λ content. range ≡ range_there content walk.docs w bits lists) (λ content. ¬ AreInside content walk.docs w bits range lists) (λ content. read_ciff content ≡ Err refusal)
             (λ content is outside. absurd (outside (is_inside inside content walk.docs w lists bits range is))) found outside),
-        same_then ∙ same,
+        same,
       )
-      by reading.ReadFault fails = inl (same_then ∙ same)
-      by reading.NoMemory fails = inl (same_then ∙ same)
+      by reading.ReadFault fails = inl same
+      by reading.NoMemory fails = inl same
 
   -- the terms of the heads, with the places of their lists
   has_terms : (inside : HoldsEach) (places : List Place) (heads : List TermHeads) (are : AreHeads files walk.name walk.docs w bits range lists heads) → places ≡ places_of lists
@@ -197,34 +193,48 @@ module _ (files : Option Files) (walk : WalkView) (w : Weighing) (bits : Bits) (
       (for_pair files walk.name Outline Ranged outlined found) terms_are)
 
   -- the index is written, and it is that of the collection
-  pub writes_made : MakesIndex → AsksNone → HasRange → HoldsEach → (f2 f3 new : Option Files) (w2 w3 : WalkView) (names : List (List ℕ)) (index : List ℕ) (places : List Place) (heads : List TermHeads) (result : Result Totals ImportFault)
+  pub writes_made : MakesIndex → AsksNone → HasRange → HoldsEach → (now new : Option Files) (next : WalkView) (names : List (List ℕ)) (index : List ℕ) (places : List Place) (heads : List TermHeads) (result : Result Totals ImportFault)
       → AllPairs (λ (a b : ListEntry). BytesRise a.term b.term) lists → ForContent files walk.name (λ content. IsOutline content walk.docs names w.lengths.now lists)
-      → f2 ≡ files → LeavesWalk walk w2 → AreHeads f2 w2.name w2.docs w bits range lists heads → places ≡ places_of lists → f3 ≡ f2 → LeavesWalk w2 w3
-      → ((made : List TermData) → HasTerms f3 w3.name w3.docs w bits range places heads made → Writes f3 new w3.name index (record { names = names; terms = made }) result)
+      → AreHeads files walk.name walk.docs w bits range lists heads → places ≡ places_of lists → now ≡ files → LeavesWalk walk next
+      → ((made : List TermData) → HasTerms now next.name next.docs w bits range places heads made → Writes now new next.name index (record { names = names; terms = made }) result)
       → Imports files new walk.name index w.rule bits result
-  writes_made make raw ranged inside f2 f3 new w2 w3 names index places heads result rising outlined same leaves are placed same_then leaves_next writes =
-      let own : AreHeads files walk.name walk.docs w bits range lists heads
-      = subst (λ (d : ℕ). AreHeads files walk.name d w bits range lists heads) leaves.docs (subst (λ (n : List ℕ). AreHeads files n w2.docs w bits range lists heads) leaves.name
-      (subst (λ (f : Option Files). AreHeads f w2.name w2.docs w bits range lists heads) same are)) in
-      let made : IndexData = record { names = names; terms = own.terms } in
-      let all : LeavesWalk walk w3 = leaves_then walk w2 w3 leaves leaves_next in
-      let now : f3 ≡ files = same_then ∙ same in
-      let has : HasTerms f3 w3.name w3.docs w bits range places heads own.terms
-      = subst (λ (f : Option Files). HasTerms f w3.name w3.docs w bits range places heads own.terms) (sym now) (subst (λ (n : List ℕ). HasTerms files n w3.docs w bits range places heads own.terms) (sym all.name)
-      (subst (λ (d : ℕ). HasTerms files walk.name d w bits range places heads own.terms) (sym all.docs) (has_terms inside places heads own placed))) in
-      imports files new walk.name index w.rule bits made result here (is_made make raw ranged names own.terms rising outlined own.told)
-      (subst (λ (f : Option Files). Writes f new walk.name index made result) now (subst (λ (n : List ℕ). Writes f3 new n index made result) all.name (writes own.terms has)))
+  writes_made make raw ranged inside now new next names index places heads result rising outlined are placed same leaves writes =
+      let made : IndexData = record { names = names; terms = are.terms } in
+      let has : HasTerms now next.name next.docs w bits range places heads are.terms
+      = subst (λ (f : Option Files). HasTerms f next.name next.docs w bits range places heads are.terms) (sym same) (subst (λ (n : List ℕ). HasTerms files n next.docs w bits range places heads are.terms) (sym leaves.name)
+      (subst (λ (d : ℕ). HasTerms files walk.name d w bits range places heads are.terms) (sym leaves.docs) (has_terms inside places heads are placed))) in
+      imports files new walk.name index w.rule bits made result here (is_made make raw ranged names are.terms rising outlined are.told)
+      (subst (λ (f : Option Files). Writes f new walk.name index made result) same (subst (λ (n : List ℕ). Writes now new n index made result) leaves.name (writes are.terms has)))
 
   -- the lists are spelled, and what is written is the index of the collection
-  pub spelled_made : MakesIndex → AsksNone → HasRange → (f2 f3 new : Option Files) (w2 : WalkView) (names : List (List ℕ)) (index : List ℕ) (view : SpelledView) (payloads : List ℕ) (result : Result Totals ImportFault)
+  pub spelled_made : MakesIndex → AsksNone → HasRange → (now new : Option Files) (names : List (List ℕ)) (index : List ℕ) (view : SpelledView) (payloads : List ℕ) (result : Result Totals ImportFault)
       → AllPairs (λ (a b : ListEntry). BytesRise a.term b.term) lists → length names ≡ walk.docs → ForContent files walk.name (λ content. IsOutline content walk.docs names w.lengths.now lists)
-      → f2 ≡ files → LeavesWalk walk w2 → IsSpelling f2 w2.name w2.docs w bits range lists view payloads → f3 ≡ f2
-      → ((name : List ℕ) (made : List TermData) → AreOf (length names) view payloads made → Writes f3 new name index (record { names = names; terms = made }) result)
+      → IsSpelling files walk.name walk.docs w bits range lists view payloads → now ≡ files
+      → ((name : List ℕ) (made : List TermData) → AreOf (length names) view payloads made → Writes now new name index (record { names = names; terms = made }) result)
       → Imports files new walk.name index w.rule bits result
-  spelled_made make raw ranged f2 f3 new w2 names index view payloads result rising many outlined same leaves spelled same_then writes =
-      let own : IsSpelling files walk.name walk.docs w bits range lists view payloads
-      = subst (λ (d : ℕ). IsSpelling files walk.name d w bits range lists view payloads) leaves.docs (subst (λ (n : List ℕ). IsSpelling files n w2.docs w bits range lists view payloads) leaves.name
-      (subst (λ (f : Option Files). IsSpelling f w2.name w2.docs w bits range lists view payloads) same spelled)) in
-      let made : IndexData = record { names = names; terms = own.terms } in
-      imports files new walk.name index w.rule bits made result here (is_made make raw ranged names own.terms rising outlined own.told)
-      (subst (λ (f : Option Files). Writes f new walk.name index made result) (same_then ∙ same) (writes walk.name own.terms (subst (λ (d : ℕ). AreOf d view payloads own.terms) (sym many) own.are)))
+  spelled_made make raw ranged now new names index view payloads result rising many outlined spelled same writes =
+      let made : IndexData = record { names = names; terms = spelled.terms } in
+      imports files new walk.name index w.rule bits made result here (is_made make raw ranged names spelled.terms rising outlined spelled.told)
+      (subst (λ (f : Option Files). Writes f new walk.name index made result) same (writes walk.name spelled.terms (subst (λ (d : ℕ). AreOf d view payloads spelled.terms) (sym many) spelled.are)))
+
+-- an index is made of a file that was read by its walk's own name, which is the one before
+pub imports_then : (files now new : Option Files) (old next : WalkView) (index : List ℕ) (rule : Rule) (bits : Bits) (result : Result Totals ImportFault) → now ≡ files → LeavesWalk old next
+    → Imports now new next.name index rule bits result → Imports files new old.name index rule bits result
+imports_then files now new old next index rule bits result same leaves is =
+    subst (λ (f : Option Files). Imports f new old.name index rule bits result) same (subst (λ (n : List ℕ). Imports now new n index rule bits result) leaves.name is)
+
+-- an outline is that of a walk that was asked for lists
+pub outlined_then : (old next : WalkView) (names : List (List ℕ)) (lengths : List ℕ) (total : ℕ) (lists : List ListEntry) → LeavesWalk old next → IsOutlined old names lengths total lists → IsOutlined next names lengths total lists
+outlined_then old next names lengths total lists leaves is = record {
+  names_are = is.names_are;
+  as_many = is.as_many ∙ sym leaves.docs;
+  docs = is.docs ∙ sym leaves.docs;
+  few = is.few;
+  small = is.small;
+  total_is = is.total_is;
+  given = subst (λ (kept : List KeptList). AreGiven kept lists) (sym leaves.kept) is.given;
+  few_lists = is.few_lists;
+  rising = is.rising;
+  postings = is.postings;
+  keep_all = subst (λ (n : ℕ). All (KeepsAll n) lists) (sym leaves.docs) is.keep_all;
+}

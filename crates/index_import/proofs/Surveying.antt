@@ -7,7 +7,7 @@ use Rattle.index_import.proofs.Below.{StandsFor, StandsTold, WalkView, kept_of, 
 use Rattle.ciff_read.specs.declared.piece.Piece.TheVariants as pieces
 use Rattle.ciff_read.specs.declared.refusal.CiffFault.TheVariants as faults
 use Rattle.index_import.specs.Private.KeptDocs.{numbered}
-use Rattle.index_import.specs.Private.Surveying.{AreKept, HoldsMost, IsSurvey, KeepsAll, entry_postings, has_some, kept_entry}
+use Rattle.index_import.specs.Private.Surveying.{AreKept, HoldsMost, IsSurvey, KeepsAll, KeepsList, entry_postings, has_some, kept_entry}
 use Rattle.index_import.specs.declared.list_entry.ListEntry.{ListEntry}
 
 -- ---- what is kept, whether or not the content is told
@@ -74,7 +74,7 @@ module _ (name : List ℕ) (old new : WalkView) (docs : List NumberedDoc) (lists
     given = before.given ∙ sym given;
   }
 
-  pub empty_held : (k : KeptList) → new.kept ≡ old.kept ++ k ∷ [] → new.given ≡ old.given → is_seen k.term (terms_kept old.kept) ≡ false → k.count ≡ 0 → Holds name new docs lists
+  empty_held : (k : KeptList) → new.kept ≡ old.kept ++ k ∷ [] → new.given ≡ old.given → is_seen k.term (terms_kept old.kept) ≡ false → k.count ≡ 0 → Holds name new docs lists
   empty_held k kept given new_term none = record {
     name_is = named ∙ before.name_is;
     unanswered = unanswered;
@@ -84,7 +84,7 @@ module _ (name : List ℕ) (old new : WalkView) (docs : List NumberedDoc) (lists
     given = before.given ∙ sym given;
   }
 
-  pub list_held : (k : KeptList) (entry : ListEntry) (longer : List ListEntry) → new.kept ≡ old.kept ++ k ∷ [] → new.given ≡ old.given → is_seen k.term (terms_kept old.kept) ≡ false → 1 ≤ k.count → kept_entry entry ≡ k → longer ≡ lists ++ entry ∷ [] → Holds name new docs longer
+  list_held : (k : KeptList) (entry : ListEntry) (longer : List ListEntry) → new.kept ≡ old.kept ++ k ∷ [] → new.given ≡ old.given → is_seen k.term (terms_kept old.kept) ≡ false → 1 ≤ k.count → kept_entry entry ≡ k → longer ≡ lists ++ entry ∷ [] → Holds name new docs longer
   list_held k entry longer kept given new_term some is more = record {
     name_is = named ∙ before.name_is;
     unanswered = unanswered;
@@ -110,14 +110,14 @@ entry_is e at list term place count = cc
 
 -- the postings that are kept of a list are its own
 module _ (e : ListEntry) (list : PostingsList) (count : e.place.count ≡ length list.postings) (kept : (entry_postings e ≡ []) ⊎ (entry_postings e ≡ list.postings)) where
-  pub kept_same : 1 ≤ length (entry_postings e) → entry_postings e ≡ list.postings
+  kept_same : 1 ≤ length (entry_postings e) → entry_postings e ≡ list.postings
   kept_same some = one kept
     where
       one : (entry_postings e ≡ []) ⊎ (entry_postings e ≡ list.postings) → entry_postings e ≡ list.postings
       one (inl none) = absurd (omega (arith, some, ap length none))
       one (inr same) = same
 
-  pub kept_fit : (docs : ℕ) → HasDocsBelow docs list → KeepsAll docs e
+  kept_fit : (docs : ℕ) → HasDocsBelow docs list → KeepsAll docs e
   kept_fit docs below some =
       let same : entry_postings e ≡ list.postings = kept_same some in
       record {
@@ -134,8 +134,20 @@ keeps_none docs lists none = subst (All (KeepsAll docs)) (sym none) (All-nil (Ke
 pub keeps_same : (docs now : ℕ) (lists : List ListEntry) → now ≡ docs → All (KeepsAll docs) lists → All (KeepsAll now) lists
 keeps_same docs now lists same all = subst (λ (n : ℕ). All (KeepsAll n) lists) (sym same) all
 
-pub keeps_more : (docs now : ℕ) (lists longer : List ListEntry) (e : ListEntry) → now ≡ docs → longer ≡ lists ++ e ∷ [] → KeepsAll docs e → All (KeepsAll docs) lists → All (KeepsAll now) longer
+keeps_more : (docs now : ℕ) (lists longer : List ListEntry) (e : ListEntry) → now ≡ docs → longer ≡ lists ++ e ∷ [] → KeepsAll docs e → All (KeepsAll docs) lists → All (KeepsAll now) longer
 keeps_more docs now lists longer e same more one all = keeps_same docs now longer same (subst (All (KeepsAll docs)) (sym more) (All-push (KeepsAll docs) lists e all one))
+
+-- keeping a list, whether or not it has postings
+pub list_kept_held : (name : List ℕ) (old new : WalkView) (docs : List NumberedDoc) (lists longer : List ListEntry) (at : ℕ) (list : PostingsList) → Holds name old docs lists → new.name ≡ old.name → new.answered ≡ None → KeepsRanges new
+    → new.kept ≡ old.kept ++ kept_of at list ∷ [] → new.given ≡ old.given → is_seen list.term (terms_kept old.kept) ≡ false → KeepsList at list lists longer → Holds name new docs longer
+list_kept_held name old new docs lists longer at list before named unanswered ranges kept given unseen (inl passed) =
+    subst (Holds name new docs) (sym passed.1) (empty_held name old new docs lists before named unanswered ranges (kept_of at list) kept given unseen passed.0)
+list_kept_held name old new docs lists longer at list before named unanswered ranges kept given unseen (inr (e, of, more)) =
+    list_held name old new docs lists before named unanswered ranges (kept_of at list) e longer kept given unseen (subst (λ (n : ℕ). 1 ≤ n) of.count e.place.some) (entry_is e at list of.term of.placed of.count) more
+
+pub keeps_list : (docs now at : ℕ) (list : PostingsList) (lists longer : List ListEntry) → now ≡ docs → HasDocsBelow docs list → KeepsList at list lists longer → All (KeepsAll docs) lists → All (KeepsAll now) longer
+keeps_list docs now at list lists longer same below (inl passed) all = subst (All (KeepsAll now)) (sym passed.1) (keeps_same docs now lists same all)
+keeps_list docs now at list lists longer same below (inr (e, of, more)) all = keeps_more docs now lists longer e same more (kept_fit e list of.count of.kept docs below) all
 
 -- what was kept at the end of a file
 pub all_kept : (name : List ℕ) (old new : WalkView) (docs : List NumberedDoc) (lists : List ListEntry) → Holds name old docs lists → All (KeepsAll old.docs) lists → KeepsRanges new → new.kept ≡ old.kept → old.given ≡ old.docs → new.docs ≡ old.docs
@@ -305,7 +317,7 @@ module _ (laws : PieceLaws) (told : Option Files) (name : List ℕ) (old new : W
         next_told (pieces.Doc number item) is (λ content. Follows content new longer)
         (λ content follows next. subst (λ (ds : List NumberedDoc). Follows content new ds) (sym more) (doc_follows laws content old new docs follows number item unmarked next))
 
-    pub most_told : (at : ℕ) (list : PostingsList) (entry : ListEntry) (lists longer : List ListEntry) → piece ≡ pieces.List at list → new.docs ≡ old.docs → new.kept ≡ old.kept ++ kept_of at list ∷ [] → HasDocsBelow old.docs list
+    most_told : (at : ℕ) (list : PostingsList) (entry : ListEntry) (lists longer : List ListEntry) → piece ≡ pieces.List at list → new.docs ≡ old.docs → new.kept ≡ old.kept ++ kept_of at list ∷ [] → HasDocsBelow old.docs list
         → entry.place.at ≡ at → entry.place.count ≡ length list.postings → entry.place.most ≡ most_tf list.postings → (1 ≤ length (entry_postings entry) → entry_postings entry ≡ list.postings) → longer ≡ lists ++ entry ∷ []
         → ForContent told name (λ content. All (HoldsMost content old.docs) lists) → ForContent told name (λ content. All (HoldsMost content new.docs) longer)
     most_told at list entry lists longer is count kept below placed counted most same more so_far =
@@ -321,6 +333,13 @@ module _ (laws : PieceLaws) (told : Option Files) (name : List ℕ) (old new : W
           most = most;
           kept = same;
         }))
+
+    pub most_kept : (at : ℕ) (list : PostingsList) (lists longer : List ListEntry) → piece ≡ pieces.List at list → new.docs ≡ old.docs → new.kept ≡ old.kept ++ kept_of at list ∷ [] → HasDocsBelow old.docs list → KeepsList at list lists longer
+        → ForContent told name (λ content. All (HoldsMost content old.docs) lists) → ForContent told name (λ content. All (HoldsMost content new.docs) longer)
+    most_kept at list lists longer is count kept below (inl passed) so_far =
+        subst (λ (ls : List ListEntry). ForContent told name (λ content. All (HoldsMost content new.docs) ls)) (sym passed.1) (same_most told name old.docs new.docs lists count so_far)
+    most_kept at list lists longer is count kept below (inr (e, of, more)) so_far =
+        most_told at list e lists longer is count kept below of.placed of.count of.most (kept_same e list of.count of.kept) more so_far
 
     pub end_told : (lists : List ListEntry) → piece ≡ pieces.End → new.kept ≡ old.kept → new.docs ≡ old.docs → ForContent told name (λ content. All (HoldsMost content old.docs) lists) → ForContent told name (λ content. IsSurvey content new docs lists)
     end_told lists is kept count most =

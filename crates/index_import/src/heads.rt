@@ -1,15 +1,18 @@
-ghost use Rattle.std.specs.Prelude.{◌≡◌, ◌<◌, ◌≤◌, length, map, All, AllPairs, IfErr, IfOk, IsErrOf, OnOk};
+ghost use Rattle.std.specs.Prelude.{◌≡◌, ◌<◌, ◌≤◌, [], ◌∷◌, ◌++◌, length, map, All, AllPairs, IfErr, IfOk, IsErrOf, OnOk};
 ghost use Rattle.std.specs.List.{sum_by};
 ghost use Rattle.jass_base.specs.Gaps.{AreDocs};
 ghost use Rattle.jass_base.specs.Outside.{Rose, ForContent};
 ghost use Rattle.jass_base.specs.Terms.{BytesRise};
 ghost use Rattle.weights.specs.Quantizing.{IsImpactWidth};
-ghost use Rattle.ciff_read.specs.Walk.{LeavesWalk};
+ghost use Rattle.ciff_read.specs.Walk.{HasKept, LeavesWalk};
 ghost use Rattle.impact_segments.specs.OneList.{EndsLow};
 ghost use Rattle.index_model.specs.Index.{SegmentData};
 ghost use Rattle.index_write.specs.Chosen.{chosen_heads, head_data};
 ghost use Rattle.index_write.specs.Streaming.{AreEntries, entry_data};
-ghost use Rattle.index_import.specs.Private.Heading.{AreHeads, FailsAllInside, places_of};
+ghost use Rattle.index_write.specs.declared.term_heads.TermHeads.{TermHeads};
+ghost use Rattle.index_import.specs.Private.Heading.{AreHeads, FailsAllInside, HasOneMore, places_of};
+ghost use Rattle.index_import.specs.Private.Outlining.{list_there};
+ghost use Rattle.index_import.specs.Private.Rereading.{FailsOf};
 ghost use Rattle.index_import.specs.Private.Surveying.{AreGiven, HoldsMost, IsReady, KeepsAll};
 ghost use Rattle.index_import.specs.declared.list_entry.ListEntry.{ListEntry};
 ghost use Rattle.jass_base.specs.declared.limits.TheConstants.{MOST_POSTINGS, MOST_TERMS};
@@ -69,21 +72,80 @@ pub(crate) fn read_heads<C: Cabinet>(
     ensures others { C.write_faults files.old ≤ C.write_faults files.new }
 {
     made_heads_are_entries();
-    let docs = weighing.lengths.len() as u32;
-    let mut terms = match Row::with_room(alloc, lists.len()) {
-        Ok(terms) => terms,
+    let mut reader = match HeadsReader::with_room(alloc, lists.len()) {
+        Ok(reader) => reader,
         Err(_) => return Err(CiffFault::NoMemory),
     };
-    let mut places = match Vec::with_capacity(alloc, lists.len()) {
-        Ok(places) => places,
-        Err(_) => return Err(CiffFault::NoMemory),
-    };
-    let mut segments = ListSegments::new(alloc);
-    let mut scratch = Scratch::new(alloc);
     'lists: for entry in lists {
+        match reader.read(walk, files, weighing, bits, range, entry) {
+            Ok(()) => {}
+            Err(fault) => return Err(fault),
+        }
+    }
+    Ok(reader.into_heads())
+}
+
+/// The heads that were made so far, and memory that is used again from list to list.
+#[derive(Drop)]
+struct HeadsReader {
+    alloc: Global,
+    heads: Heads,
+    segments: ListSegments,
+    scratch: Scratch,
+}
+
+impl HeadsReader {
+    /// No heads yet, with room for those of so many lists.
+    fn with_room(alloc: Global, lists: usize) -> Result<HeadsReader, NoMemory>
+        ensures terms { IfOk result (λ reader. reader.heads.terms ≡ []) }
+        ensures places { IfOk result (λ reader. reader.heads.places.items ≡ []) }
+    {
+        let terms = Row::with_room(alloc, lists)?;
+        let places = Vec::with_capacity(alloc, lists)?;
+        Ok(HeadsReader {
+            alloc,
+            heads: Heads { terms, places },
+            segments: ListSegments::new(alloc),
+            scratch: Scratch::new(alloc),
+        })
+    }
+
+    /// Makes the heads of a list behind the others.
+    #[inline(always)]
+    fn read<C: Cabinet>(
+        &mut self,
+        walk: &mut CiffWalk,
+        files: &mut C,
+        weighing: Weighing<'_>,
+        bits: Bits,
+        range: Range,
+        entry: ListEntry,
+    ) -> Result<(), CiffFault>
+        requires ready { IsReady (C.told files.old) walk.old.name walk.old }
+        requires given { HasKept walk.old.kept entry.place.at entry.place.count }
+        requires keeps { KeepsAll walk.old.docs entry }
+        requires told { ForContent (C.told files.old) walk.old.name (λ content.
+            HoldsMost content walk.old.docs entry) }
+        requires docs { length weighing.lengths.now ≡ walk.old.docs }
+        requires width { IsImpactWidth bits }
+        requires low { EndsLow bits range }
+        ensures ready { OnOk result (IsReady (C.told files.old) walk.old.name walk.new) }
+        ensures leaves { LeavesWalk walk.old walk.new }
+        ensures heads { OnOk result (HasOneMore (C.told files.old) walk.old.name walk.old.docs
+            weighing.entry bits range entry self.old.heads.terms self.new.heads.terms) }
+        ensures places { OnOk result
+            (self.new.heads.places.items ≡ self.old.heads.places.items ++ entry.place ∷ []) }
+        ensures told { ForContent (C.told files.old) walk.old.name (λ content. IfErr result
+            (FailsOf weighing.entry bits range (list_there content walk.old.docs entry.place.at).postings)) }
+        ensures fault { IsErrOf result CiffFault.ReadFault
+            → Rose (C.read_faults files.old) (C.read_faults files.new) }
+        ensures stays { C.told files.new ≡ C.told files.old }
+        ensures later { C.read_faults files.old ≤ C.read_faults files.new }
+        ensures others { C.write_faults files.old ≤ C.write_faults files.new }
+    {
         match entry_segments(
-            &mut segments,
-            &mut scratch,
+            &mut self.segments,
+            &mut self.scratch,
             walk,
             files,
             weighing,
@@ -94,25 +156,42 @@ pub(crate) fn read_heads<C: Cabinet>(
             Ok(()) => {}
             Err(fault) => return Err(fault),
         }
-        let (term, place) = entry.into_parts();
-        let term = match term.into_text(alloc) {
-            Ok(term) => term,
-            Err(_) => return Err(CiffFault::NoMemory),
-        };
-        let heads = match list_heads(alloc, &segments, docs) {
-            Ok(heads) => heads,
-            Err(_) => return Err(CiffFault::NoMemory),
-        };
-        match terms.push(TermHeads { term, heads }) {
-            Ok(()) => {}
-            Err(_) => return Err(CiffFault::NoMemory),
-        }
-        match places.push(place) {
-            Ok(()) => {}
-            Err(_) => return Err(CiffFault::NoMemory),
+        match self.push(entry, weighing.lengths.len() as u32) {
+            Ok(()) => Ok(()),
+            Err(_) => Err(CiffFault::NoMemory),
         }
     }
-    Ok(Heads { terms, places })
+
+    /// Puts the term and the place of a list behind the others, with the heads of the segments that
+    /// were made of it, in an index of so many documents.
+    #[inline(always)]
+    fn push(&mut self, entry: ListEntry, docs: u32) -> Result<(), NoMemory>
+        requires { All (λ (s : SegmentData). AreDocs docs s.docs) self.old.segments }
+        ensures positive { OnOk result (All (λ (s : SegmentData). 1 ≤ s.impact) self.old.segments) }
+        ensures terms { OnOk result ((own : TermHeads) × (own.term ≡ entry.term)
+            × (map head_data own.heads ≡ chosen_heads docs self.old.segments)
+            × (self.new.heads.terms ≡ self.old.heads.terms ++ own ∷ [])) }
+        ensures places { OnOk result
+            (self.new.heads.places.items ≡ self.old.heads.places.items ++ entry.place ∷ []) }
+    {
+        let (term, place) = entry.into_parts();
+        let term = term.into_text(self.alloc)?;
+        let heads = list_heads(self.alloc, &self.segments, docs)?;
+        match self.heads.terms.push(TermHeads { term, heads }) {
+            Ok(()) => {}
+            Err(_) => return Err(NoMemory),
+        }
+        self.heads.places.push(place)?;
+        Ok(())
+    }
+
+    /// All that were made.
+    fn into_heads(self) -> Heads
+        ensures { result ≡ self.heads }
+    {
+        let HeadsReader { heads, .. } = self;
+        heads
+    }
 }
 
 /// The heads of segments, each in its shortest codec, in an index of so many documents.

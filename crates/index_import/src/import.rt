@@ -1,9 +1,13 @@
-ghost use Rattle.std.specs.Prelude.{◌≢◌, ◌≤◌, ◌⊎◌, IsErrOf};
+ghost use Rattle.std.specs.Prelude.{ℕ, ◌≡◌, ◌≢◌, ◌≤◌, ◌⊎◌, List, Err, IfErr, IfOk, IsErrOf};
 ghost use Rattle.jass_base.specs.Outside.{ForContent, IsMissing, Rose};
 ghost use Rattle.weights.specs.Quantizing.{IsImpactWidth};
+ghost use Rattle.weights.specs.declared.quantizing.Bits.{Bits};
+ghost use Rattle.weights.specs.declared.weighting.Rule.{Rule};
+ghost use Rattle.impact_segments.specs.OneList.{EndsLow};
 ghost use Rattle.index_import.specs.Importing.{Imports};
 ghost use Rattle.index_import.specs.Private.KeptDocs.{names_in};
 ghost use Rattle.index_import.specs.Private.Outlining.{IsOutline, IsOutlined};
+ghost use Rattle.index_import.specs.Private.Ranging.{range_there};
 ghost use Rattle.index_import.specs.Private.Surveying.{IsReady};
 
 use crate::fault::ImportFault;
@@ -21,7 +25,7 @@ use impact_segments::laws::{lists_by_term_make_the_index, widened_lists_have_the
 use impact_segments::length_norms;
 use jass_base::{Cabinet, Totals};
 use std::alloc::Global;
-use weights::{Bits, Rule};
+use weights::{Bits, Range, Rule};
 
 /// With more postings the payloads of all lists aren't held in memory, and lists are read once more to
 /// write them. So many postings have at most 128 MiB of payloads.
@@ -50,14 +54,66 @@ pub fn import_file<C: Cabinet>(
     ensures later { C.read_faults files.old ≤ C.read_faults files.new }
     ensures others { C.write_faults files.old ≤ C.write_faults files.new }
 {
+    let outline = match read_outline(alloc, files, ciff) {
+        Ok(outline) => outline,
+        Err(fault) => return Err(fault),
+    };
+    import_outline(alloc, files, outline, rule, bits, index)
+}
+
+/// Reads a file to its end, judges it, and puts in order what it has.
+fn read_outline<C: Cabinet>(
+    alloc: Global,
+    files: &mut C,
+    ciff: &str,
+) -> Result<Outline, ImportFault>
+    ensures ready { IfOk result (λ o. IsReady (C.told files.old) ciff.now o.walk) }
+    ensures outlined { IfOk result (λ o. IsOutlined o.walk (names_in o.docs) o.lengths.items o.total o.lists.items) }
+    ensures told { IfOk result (λ o. ForContent (C.told files.old) ciff.now (λ content.
+        IsOutline content o.walk.docs (names_in o.docs) o.lengths.items o.lists.items)) }
+    ensures failed { IfErr result (λ fault. (index : List ℕ) (rule : Rule) (bits : Bits)
+        → Imports (C.told files.old) (C.told files.new) ciff.now index rule bits (Err fault)) }
+    ensures read_fault { IsErrOf result ImportFault.ReadFault
+        → Rose (C.read_faults files.old) (C.read_faults files.new) ⊎ IsMissing (C.told files.old) ciff.now }
+    ensures write_fault { IfErr result (λ fault. fault ≢ ImportFault.WriteFault) }
+    ensures stays { C.told files.new ≡ C.told files.old }
+    ensures later { C.read_faults files.old ≤ C.read_faults files.new }
+    ensures others { C.write_faults files.old ≤ C.write_faults files.new }
+{
     let survey = match survey_file(alloc, files, ciff) {
         Ok(survey) => survey,
         Err(fault) => return Err(ImportFault::from_ciff(fault)),
     };
-    let outline = match Outline::new(alloc, survey) {
-        Ok(outline) => outline,
-        Err(_) => return Err(ImportFault::NoMemory),
-    };
+    match Outline::new(alloc, survey) {
+        Ok(outline) => Ok(outline),
+        Err(_) => Err(ImportFault::NoMemory),
+    }
+}
+
+/// Makes an index file of what a file has that was judged.
+fn import_outline<C: Cabinet>(
+    alloc: Global,
+    files: &mut C,
+    outline: Outline,
+    rule: Rule,
+    bits: Bits,
+    index: &str,
+) -> Result<Totals, ImportFault>
+    requires ready { IsReady (C.told files.old) outline.walk.name outline.walk }
+    requires outlined { IsOutlined outline.walk (names_in outline.docs) outline.lengths.items outline.total
+        outline.lists.items }
+    requires told { ForContent (C.told files.old) outline.walk.name (λ content.
+        IsOutline content outline.walk.docs (names_in outline.docs) outline.lengths.items outline.lists.items) }
+    requires width { IsImpactWidth bits }
+    requires apart { outline.walk.name ≢ index.now }
+    ensures imported { Imports (C.told files.old) (C.told files.new) outline.walk.name index.now rule bits result }
+    ensures read_fault { IsErrOf result ImportFault.ReadFault
+        → Rose (C.read_faults files.old) (C.read_faults files.new) }
+    ensures write_fault { IsErrOf result ImportFault.WriteFault
+        → Rose (C.write_faults files.old) (C.write_faults files.new) }
+    ensures later { C.read_faults files.old ≤ C.read_faults files.new }
+    ensures others { C.write_faults files.old ≤ C.write_faults files.new }
+{
     let Outline {
         mut walk,
         docs,
@@ -75,7 +131,7 @@ pub fn import_file<C: Cabinet>(
         lengths: &lengths,
         norms: &norms,
     };
-    import_lists(alloc, &mut walk, files, weighing, bits, docs, lists, index)
+    import_lists(alloc, &mut walk, files, weighing, bits, &docs, lists, index)
 }
 
 /// Makes an index file of a file that was judged. Its lists go by rising terms; those whose postings
@@ -86,14 +142,59 @@ fn import_lists<C: Cabinet>(
     files: &mut C,
     weighing: Weighing<'_>,
     bits: Bits,
-    docs: KeptDocs,
+    docs: &KeptDocs,
     lists: Vec<ListEntry>,
     index: &str,
 ) -> Result<Totals, ImportFault>
     requires ready { IsReady (C.told files.old) walk.old.name walk.old }
-    requires outlined { IsOutlined walk.old (names_in docs) weighing.lengths.now weighing.total lists.items }
+    requires outlined { IsOutlined walk.old (names_in docs.now) weighing.lengths.now weighing.total lists.items }
     requires told { ForContent (C.told files.old) walk.old.name (λ content.
-        IsOutline content walk.old.docs (names_in docs) weighing.lengths.now lists.items) }
+        IsOutline content walk.old.docs (names_in docs.now) weighing.lengths.now lists.items) }
+    requires width { IsImpactWidth bits }
+    requires apart { walk.old.name ≢ index.now }
+    ensures imported { Imports (C.told files.old) (C.told files.new) walk.old.name index.now
+        weighing.entry.rule bits result }
+    ensures read_fault { IsErrOf result ImportFault.ReadFault
+        → Rose (C.read_faults files.old) (C.read_faults files.new) }
+    ensures write_fault { IsErrOf result ImportFault.WriteFault
+        → Rose (C.write_faults files.old) (C.write_faults files.new) }
+    ensures later { C.read_faults files.old ≤ C.read_faults files.new }
+    ensures others { C.write_faults files.old ≤ C.write_faults files.new }
+{
+    let range = match read_range(walk, files, weighing, bits, &lists) {
+        Ok(range) => range,
+        Err(fault) => return Err(ImportFault::from_ciff(fault)),
+    };
+    if are_few(&lists) {
+        import_held(
+            alloc, walk, files, weighing, bits, range, docs, lists, index,
+        )
+    } else {
+        import_reread(
+            alloc, walk, files, weighing, bits, range, docs, lists, index,
+        )
+    }
+}
+
+/// Makes an index file of lists whose payloads are held in memory.
+fn import_held<C: Cabinet>(
+    alloc: Global,
+    walk: &mut CiffWalk,
+    files: &mut C,
+    weighing: Weighing<'_>,
+    bits: Bits,
+    range: Range,
+    docs: &KeptDocs,
+    lists: Vec<ListEntry>,
+    index: &str,
+) -> Result<Totals, ImportFault>
+    requires ready { IsReady (C.told files.old) walk.old.name walk.old }
+    requires outlined { IsOutlined walk.old (names_in docs.now) weighing.lengths.now weighing.total lists.items }
+    requires told { ForContent (C.told files.old) walk.old.name (λ content.
+        IsOutline content walk.old.docs (names_in docs.now) weighing.lengths.now lists.items) }
+    requires ranged { ForContent (C.told files.old) walk.old.name (λ content.
+        range ≡ range_there content walk.old.docs weighing bits lists.items) }
+    requires low { EndsLow bits range }
     requires width { IsImpactWidth bits }
     requires apart { walk.old.name ≢ index.now }
     ensures imported { Imports (C.told files.old) (C.told files.new) walk.old.name index.now
@@ -107,17 +208,45 @@ fn import_lists<C: Cabinet>(
 {
     lists_by_term_make_the_index();
     widened_lists_have_the_range();
-    let range = match read_range(walk, files, weighing, bits, &lists) {
-        Ok(range) => range,
+    let spelling = match spell_lists(alloc, walk, files, weighing, bits, range, lists) {
+        Ok(spelling) => spelling,
         Err(fault) => return Err(ImportFault::from_ciff(fault)),
     };
-    if are_few(&lists) {
-        let spelling = match spell_lists(alloc, walk, files, weighing, bits, range, lists) {
-            Ok(spelling) => spelling,
-            Err(fault) => return Err(ImportFault::from_ciff(fault)),
-        };
-        return write_spelled(alloc, files, docs, spelling, index);
-    }
+    write_spelled(alloc, files, docs, spelling, index)
+}
+
+/// Makes an index file of lists that are read once more to write their payloads.
+fn import_reread<C: Cabinet>(
+    alloc: Global,
+    walk: &mut CiffWalk,
+    files: &mut C,
+    weighing: Weighing<'_>,
+    bits: Bits,
+    range: Range,
+    docs: &KeptDocs,
+    lists: Vec<ListEntry>,
+    index: &str,
+) -> Result<Totals, ImportFault>
+    requires ready { IsReady (C.told files.old) walk.old.name walk.old }
+    requires outlined { IsOutlined walk.old (names_in docs.now) weighing.lengths.now weighing.total lists.items }
+    requires told { ForContent (C.told files.old) walk.old.name (λ content.
+        IsOutline content walk.old.docs (names_in docs.now) weighing.lengths.now lists.items) }
+    requires ranged { ForContent (C.told files.old) walk.old.name (λ content.
+        range ≡ range_there content walk.old.docs weighing bits lists.items) }
+    requires low { EndsLow bits range }
+    requires width { IsImpactWidth bits }
+    requires apart { walk.old.name ≢ index.now }
+    ensures imported { Imports (C.told files.old) (C.told files.new) walk.old.name index.now
+        weighing.entry.rule bits result }
+    ensures read_fault { IsErrOf result ImportFault.ReadFault
+        → Rose (C.read_faults files.old) (C.read_faults files.new) }
+    ensures write_fault { IsErrOf result ImportFault.WriteFault
+        → Rose (C.write_faults files.old) (C.write_faults files.new) }
+    ensures later { C.read_faults files.old ≤ C.read_faults files.new }
+    ensures others { C.write_faults files.old ≤ C.write_faults files.new }
+{
+    lists_by_term_make_the_index();
+    widened_lists_have_the_range();
     let heads = match read_heads(alloc, walk, files, weighing, bits, range, lists) {
         Ok(heads) => heads,
         Err(fault) => return Err(ImportFault::from_ciff(fault)),

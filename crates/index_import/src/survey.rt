@@ -1,13 +1,14 @@
-ghost use Rattle.std.specs.Prelude.{◌≡◌, ◌≤◌, ◌⊎◌, IfOk, IsErrOf, MatchResult};
+ghost use Rattle.std.specs.Prelude.{◌≡◌, ◌≤◌, ◌⊎◌, length, IfOk, IsErrOf, MatchResult, OnOk};
 ghost use Rattle.jass_base.specs.Outside.{IsMissing, Rose};
 ghost use Rattle.ciff_read.specs.Walk.{IsOutside};
-ghost use Rattle.index_import.specs.Private.Surveying.{AreKept, IsReady, SurveyTold};
+ghost use Rattle.index_import.specs.Private.Surveying.{AreKept, IsReady, KeepsList, SurveyTold};
+ghost use Rattle.jass_base.specs.declared.limits.TheConstants.{MOST_POSTINGS};
 
 use crate::kept_docs::KeptDocs;
 use crate::list_entry::ListEntry;
 use ciff_read::laws::pieces_make_the_collection;
 use ciff_read::{CiffFault, CiffWalk, Piece};
-use jass_base::Cabinet;
+use jass_base::{Cabinet, NoMemory, PostingsList};
 use std::alloc::Global;
 
 /// How many postings are kept at the most, but for those of short lists.
@@ -21,6 +22,34 @@ pub(crate) struct Survey {
     pub docs: KeptDocs,
     /// The lists that have postings, in the order of the file.
     pub lists: Vec<ListEntry>,
+}
+
+impl Survey {
+    /// Keeps a list behind the others, where it has postings, and hands the memory of these back to
+    /// the walk. The entry has them, too, where they are few or there is room for them; `room` tells
+    /// for how many.
+    #[inline(always)]
+    fn keep_list(
+        &mut self,
+        alloc: Global,
+        at: u64,
+        list: PostingsList,
+        room: &mut usize,
+    ) -> Result<(), NoMemory>
+        requires { length list.postings ≤ MOST_POSTINGS }
+        ensures walk { self.new.walk ≡ self.old.walk }
+        ensures docs { self.new.docs ≡ self.old.docs }
+        ensures lists { OnOk result (KeepsList at list self.old.lists.items self.new.lists.items) }
+    {
+        if list.postings.is_empty() {
+            return Ok(());
+        }
+        let (entry, postings) = ListEntry::new(alloc, at, list, *room);
+        *room = room.saturating_sub(postings.len());
+        self.walk.take_back(postings);
+        self.lists.push(entry)?;
+        Ok(())
+    }
 }
 
 /// Reads a file to its end, and judges it.
@@ -40,12 +69,15 @@ pub(crate) fn survey_file<C: Cabinet>(
     ensures others { C.write_faults files.old ≤ C.write_faults files.new }
 {
     pieces_make_the_collection();
-    let mut walk = CiffWalk::open(alloc, files, name)?;
-    let mut docs = KeptDocs::new(alloc);
-    let mut lists = Vec::new(alloc);
+    let walk = CiffWalk::open(alloc, files, name)?;
+    let mut survey = Survey {
+        walk,
+        docs: KeptDocs::new(alloc),
+        lists: Vec::new(alloc),
+    };
     let mut room = MOST_KEPT_POSTINGS;
     'pieces: loop {
-        let piece = match walk.next_piece(files) {
+        let piece = match survey.walk.next_piece(files) {
             Ok(piece) => piece,
             Err(fault) => return Err(fault),
         };
@@ -54,22 +86,15 @@ pub(crate) fn survey_file<C: Cabinet>(
                 header: _header,
                 ..
             } => {}
-            Piece::List { at, list } => {
-                if !list.postings.is_empty() {
-                    let (entry, postings) = ListEntry::new(alloc, at, list, room);
-                    room = room.saturating_sub(postings.len());
-                    walk.take_back(postings);
-                    match lists.push(entry) {
-                        Ok(()) => {}
-                        Err(_) => return Err(CiffFault::NoMemory),
-                    }
-                }
-            }
-            Piece::Doc { number, item } => match docs.push(number, item) {
+            Piece::List { at, list } => match survey.keep_list(alloc, at, list, &mut room) {
                 Ok(()) => {}
                 Err(_) => return Err(CiffFault::NoMemory),
             },
-            Piece::End => return Ok(Survey { walk, docs, lists }),
+            Piece::Doc { number, item } => match survey.docs.push(number, item) {
+                Ok(()) => {}
+                Err(_) => return Err(CiffFault::NoMemory),
+            },
+            Piece::End => return Ok(survey),
         }
     }
 }

@@ -1,10 +1,12 @@
-ghost use Rattle.std.specs.Prelude.{◌≡◌, ◌≢◌, ◌≤◌, List, length, map, All, IsErrOf};
-ghost use Rattle.jass_base.specs.Outside.{Rose};
+ghost use Rattle.std.specs.Prelude.{◌≡◌, ◌≢◌, ◌≤◌, List, length, map, All, AllPairs, IfErr, IfOk, IsErrOf};
+ghost use Rattle.jass_base.specs.Gaps.{AreDocs};
+ghost use Rattle.jass_base.specs.Outside.{Appended, Rose};
 ghost use Rattle.weights.specs.Quantizing.{IsImpactWidth};
 ghost use Rattle.ciff_read.specs.Walk.{HasKept};
 ghost use Rattle.impact_segments.specs.OneList.{EndsLow};
-ghost use Rattle.index_model.specs.Index.{TermData};
-ghost use Rattle.index_write.specs.Streaming.{AreEntries, AreNames, entry_data};
+ghost use Rattle.index_model.specs.Index.{SegmentData, SharesNoDocument, TermData};
+ghost use Rattle.index_write.specs.Chosen.{chosen_heads, chosen_payloads};
+ghost use Rattle.index_write.specs.Streaming.{AreEntries, AreNames, Unappended, Unappending, behind_term, change_of, entry_data, next_heads};
 ghost use Rattle.index_import.specs.Private.Faults.{unappended, unbegun};
 ghost use Rattle.index_import.specs.Private.Writing.{HasTerms, Writes};
 ghost use Rattle.index_import.specs.Private.Surveying.{IsReady};
@@ -80,16 +82,44 @@ pub(crate) fn write_index<C: Cabinet>(
             Ok(()) => {}
             Err(fault) => return Err(ImportFault::from_ciff(fault)),
         }
-        let rows = match segments.to_rows(alloc) {
-            Ok(rows) => rows,
-            Err(_) => return Err(ImportFault::NoMemory),
-        };
-        writer = match writer.term(rows.as_slice(), files) {
+        writer = match append_segments(alloc, writer, &segments, files) {
             Ok(writer) => writer,
             Err(fault) => return Err(not_appended(fault, place.at)),
         };
     }
     Ok(writer.finish())
+}
+
+/// Appends the payloads of the next term, which has these segments.
+#[inline(always)]
+fn append_segments<C: Cabinet>(
+    alloc: Global,
+    writer: IndexWriter,
+    segments: &ListSegments,
+    files: &mut C,
+) -> Result<IndexWriter, TermFault>
+    requires left { 1 ≤ writer.left }
+    requires docs { All (λ (s : SegmentData). AreDocs writer.docs s.docs) segments.now }
+    requires once { AllPairs SharesNoDocument segments.now }
+    ensures writer { IfOk result (λ after. after ≡ behind_term writer) }
+    ensures content { Appended (C.told files.old) (C.told files.new) writer.name
+        (chosen_payloads writer.docs segments.now) result }
+    ensures fault { IfErr result (Unappended (change_of (next_heads writer)
+        (chosen_heads writer.docs segments.now))) }
+    ensures untouched { IfErr result (Unappending files.old files.new) }
+    ensures cause { IsErrOf result TermFault.WriteFault
+        → Rose (C.write_faults files.old) (C.write_faults files.new) }
+    ensures later { C.write_faults files.old ≤ C.write_faults files.new }
+    ensures others { C.read_faults files.old ≤ C.read_faults files.new }
+{
+    let rows = match segments.to_rows(alloc) {
+        Ok(rows) => rows,
+        Err(_) => return Err(TermFault::NoMemory),
+    };
+    match writer.term(rows.as_slice(), files) {
+        Ok(writer) => Ok(writer),
+        Err(fault) => Err(fault),
+    }
 }
 
 /// Why the index was not begun.

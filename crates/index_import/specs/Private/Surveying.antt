@@ -1,11 +1,12 @@
 -- What the first pass over a file keeps of it.
-use Rattle.std.specs.Prelude.{ℕ, ◌≡◌, ◌≢◌, ◌<◌, ◌≤◌, List, map, length, filter, Bool, Option, None, Result, Ok, Err, nat_lt, All, AllPairs}
+use Rattle.std.specs.Prelude.{ℕ, ◌≡◌, ◌≢◌, ◌<◌, ◌≤◌, ◌⊎◌, [], ◌∷◌, ◌++◌, List, map, length, filter, Bool, Option, None, Result, Ok, Err, nat_lt, All, AllPairs}
 use Rattle.std.specs.List.{AllZip}
 use Rattle.std.specs.List.Sorted.{IsStrictlyIncreasing}
 use Rattle.jass_base.specs.Ciff.{FitsList, ListData}
 use Rattle.jass_base.specs.Outside.{Files, ForContent, IsMissing}
 use Rattle.jass_base.specs.Postings.{HasTfInRange, docs_of}
 use Rattle.jass_base.specs.declared.posting.Posting.{Posting}
+use Rattle.jass_base.specs.declared.postings_list.PostingsList.{PostingsList}
 use Rattle.ciff_read.specs.declared.refusal.CiffFault.{CiffFault}
 use Rattle.ciff_read.specs.Assembling.{Parts, IsKeptList, collection_of}
 use Rattle.ciff_read.specs.Judging.{NumberedDoc}
@@ -40,6 +41,20 @@ pub record AreOfList (docs count : ℕ) (postings : List Posting) : Type 0 where
 -- where postings of a list are kept, they are those of a whole list
 abbrev pub KeepsAll : ℕ → ListEntry → Type 0
 KeepsAll docs e = 1 ≤ length (entry_postings e) → AreOfList docs e.place.count (entry_postings e)
+
+-- what is kept of a list at a place: the greatest term frequency, and all its postings, or none
+pub record IsEntryOf (at : ℕ) (list : PostingsList) (e : ListEntry) : Type 0 where
+  pub term : e.term ≡ list.term
+  pub placed : e.place.at ≡ at
+  pub count : e.place.count ≡ length list.postings
+  pub most : e.place.most ≡ most_tf list.postings
+  pub kept : (entry_postings e ≡ []) ⊎ (entry_postings e ≡ list.postings)
+
+-- a list is kept behind others, where it has postings
+abbrev pub KeepsList : ℕ → PostingsList → List ListEntry → List ListEntry → Type 0
+KeepsList at list before after =
+    ((length list.postings ≡ 0) × (after ≡ before))
+    ⊎ ((e : ListEntry) × IsEntryOf at list e × (after ≡ before ++ e ∷ []))
 
 -- the kept list has postings
 abbrev pub has_some : KeptList → Bool

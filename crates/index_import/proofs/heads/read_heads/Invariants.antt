@@ -13,7 +13,7 @@ invariant-lists g l = record {
   others : g.C.Cabinet.write_faults l.fn.files ≤ g.C.Cabinet.write_faults l.files;
   ready : IsReady (g.C.Cabinet.told l.fn.files) l.fn.walk.name l.walk;
   leaves : LeavesWalk l.fn.walk l.walk;
-  heads : AreHeads (g.C.Cabinet.told l.fn.files) l.fn.walk.name l.fn.walk.docs l.weighing l.bits l.range l.yielded l.terms;
-  entries : HaveEntries l.yielded (map entry_data l.terms);
-  places : l.places.items ≡ places_of l.yielded;
+  heads : AreHeads (g.C.Cabinet.told l.fn.files) l.fn.walk.name l.fn.walk.docs l.weighing l.bits l.range l.yielded l.reader.heads.terms;
+  entries : HaveEntries l.yielded (map entry_data l.reader.heads.terms);
+  places : l.reader.heads.places.items ≡ places_of l.yielded;
 }

@@ -1,4 +1,4 @@
-use Rattle.std.proofs.Common.{◌≡◌, ◌≤◌, ◌+◌, ◌++◌, drop, length, map, vec_capacity}
+use Rattle.std.proofs.Common.{◌≡◌, ◌≤◌, ◌++◌, drop, length, map, vec_capacity}
 use Rattle.index_import.specs.Private.KeptPostings.{posting_in}
 use Rattle.index_import.proofs.kept_postings.many_words.Given as goal
 

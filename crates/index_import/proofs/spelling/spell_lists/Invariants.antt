@@ -11,5 +11,5 @@ invariant-lists g l = record {
   others : g.C.Cabinet.write_faults l.fn.files ≤ g.C.Cabinet.write_faults l.files;
   ready : IsReady (g.C.Cabinet.told l.fn.files) l.fn.walk.name l.walk;
   leaves : LeavesWalk l.fn.walk l.walk;
-  spelled : Spells (g.C.Cabinet.told l.fn.files) l.fn.walk.name l.fn.walk.docs l.weighing l.bits l.range l.yielded l.terms (l.payloads ++ l.block);
+  spelled : Spells (g.C.Cabinet.told l.fn.files) l.fn.walk.name l.fn.walk.docs l.weighing l.bits l.range l.yielded l.speller.terms (l.speller.payloads ++ l.speller.block);
 }

@@ -8,7 +8,7 @@ use Rattle.index_import.proofs.spelling.write_spelled.Goals as goal
 
 pub returns-in-Ok-write_parts-clause-written : goal.returns-in-Ok-write_parts-clause-written
 returns-in-Ok-write_parts-clause-written g c = λ name made are.
-    let names : List (List ℕ) = names_in c.args.docs in
+    let names : List (List ℕ) = names_in c.args.docs.now in
     let entries = chosen_terms (length names) made in
     let law = c.appended_payloads_make_the_text.ensures in
     let named : HasNames c.in-Ok.names names = record { spelled = c.in-Ok.ensures; are = c.requires } in

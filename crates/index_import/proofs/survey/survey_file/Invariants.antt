@@ -10,12 +10,12 @@ invariant-pieces g l = record {
   later : g.C.Cabinet.read_faults l.fn.files ≤ g.C.Cabinet.read_faults l.files;
   others : g.C.Cabinet.write_faults l.fn.files ≤ g.C.Cabinet.write_faults l.files;
   there : ¬ IsMissing (g.C.Cabinet.told l.fn.files) l.name;
-  stands : StandsTold (g.C.Cabinet.told l.fn.files) l.walk;
-  holds : Holds l.name l.walk l.docs l.lists.items;
-  keeps : All (KeepsAll l.walk.docs) l.lists.items;
-  follows : ForContent (g.C.Cabinet.told l.fn.files) l.name (λ (content : List ℕ). Follows content l.walk l.docs);
-  most : ForContent (g.C.Cabinet.told l.fn.files) l.name (λ (content : List ℕ). All (HoldsMost content l.walk.docs) l.lists.items);
+  stands : StandsTold (g.C.Cabinet.told l.fn.files) l.survey.walk;
+  holds : Holds l.name l.survey.walk l.survey.docs l.survey.lists.items;
+  keeps : All (KeepsAll l.survey.walk.docs) l.survey.lists.items;
+  follows : ForContent (g.C.Cabinet.told l.fn.files) l.name (λ (content : List ℕ). Follows content l.survey.walk l.survey.docs);
+  most : ForContent (g.C.Cabinet.told l.fn.files) l.name (λ (content : List ℕ). All (HoldsMost content l.survey.walk.docs) l.survey.lists.items);
 }
 
 abbrev pub decreases-pieces : goal.decreases-pieces
-decreases-pieces g l = pieces_left l.walk
+decreases-pieces g l = pieces_left l.survey.walk

@@ -1,5 +1,5 @@
 use Rattle.shared_lemmas.proofs.Common.{ℕ, ◌≡◌, ◌<◌, ◌-◌, List, [], ◌∷◌, ◌++◌, length, map, take, get_or, suc, Option, None, Err, refl, sym, ap, ap₂, subst, ◌∙◌, ◌⊎◌, arith, append-nil, append_assoc, All, into_iter_items, length-append, length-map}
-use Rattle.index_import.proofs.Below.{Extends, Files, ForContent, Sets, content_there, CiffFault, KeptList, HasKept, SegmentData, TermData, segment_data, front_bytes, chosen_heads, chosen_payloads, table_payloads, WriterView, change_of, entries_totals}
+use Rattle.index_import.proofs.Below.{Extends, Files, ForContent, Sets, content_there, CiffFault, KeptList, HasKept, SegmentData, TermData, front_bytes, chosen_heads, chosen_payloads, table_payloads, WriterView, change_of, entries_totals}
 use Rattle.index_import.proofs.Below.{entry_data, next_heads, Unappended, TermFault, Bits, Range}
 use Rattle.ciff_read.specs.declared.refusal.CiffFault.TheVariants as reading
 use Rattle.index_layout.specs.Heads.{TermHeads as EntryData}
@@ -14,7 +14,6 @@ use Rattle.index_import.specs.declared.weighing.Weighing.{Weighing}
 use Rattle.index_import.proofs.Beside.{beside}
 use Rattle.index_import.proofs.Finished.{as_many, fits, found_here, left_is, never_changed, next_is, not_appended, not_begun, not_read, only_untold, same_payloads, totals_are, turn_low, whole_text, writer_is}
 use Rattle.index_import.proofs.Ready.{leaves_same, leaves_then, ready_beside}
-use Rattle.index_import.proofs.Rows.{rows_docs, rows_once}
 use Rattle.index_import.proofs.Turns.{middle, parted, whole}
 use Rattle.index_import.proofs.Written.{extends_sets, payloads_more, sets_wanted}
 use Rattle.index_import.proofs.writing.write_index.Goals as goal
@@ -74,26 +73,13 @@ returns-in-Err-read_segments-clause-written g c = λ made has.
     same c.requires.ready.there (subst (λ (f : CiffFault). ForContent now name (λ content. FailsInside content d c.args.weighing c.args.bits c.args.range place.at f)) refused told) has.inside
     (λ content outside inside. outside (middle (λ (p : Place). IsInside content d c.args.weighing c.args.bits c.args.range p.at) c.places.yielded (into_iter_items c.next.new.self) place (subst (All (λ (p : Place). IsInside content d c.args.weighing c.args.bits c.args.range p.at)) is inside)))))
 
-pub term-requires-clause-docs : goal.term-requires-clause-docs
-term-requires-clause-docs g c =
-    let rows : map segment_data c.as_slice.result.now ≡ c.read_segments.new.segments = ap (map segment_data) c.as_slice.ensures ∙ c.in-Ok-to_rows.ensures in
+pub append_segments-requires-clause-docs : goal.append_segments-requires-clause-docs
+append_segments-requires-clause-docs g c =
     let docs : c.places.walk.docs ≡ c.places.writer.docs = c.places.invariant.leaves.docs ∙ sym (ap (λ (w : WriterView). w.docs) c.places.invariant.writer) in
-    rows_docs c.places.writer.docs c.as_slice.result.now c.read_segments.new.segments rows
-    (subst (λ (d : ℕ). All (λ (s : SegmentData). AreDocs d s.docs) c.read_segments.new.segments) docs c.in-Ok-read_segments.ensures.segments.docs_are)
+    subst (λ (d : ℕ). All (λ (s : SegmentData). AreDocs d s.docs) c.read_segments.new.segments) docs c.in-Ok-read_segments.ensures.segments.docs_are
 
-pub term-requires-clause-once : goal.term-requires-clause-once
-term-requires-clause-once g c =
-    let rows : map segment_data c.as_slice.result.now ≡ c.read_segments.new.segments = ap (map segment_data) c.as_slice.ensures ∙ c.in-Ok-to_rows.ensures in
-    rows_once c.as_slice.result.now c.read_segments.new.segments rows c.in-Ok-read_segments.ensures.segments.once
-
-pub returns-in-Err-to_rows-clause-written : goal.returns-in-Err-to_rows-clause-written
-returns-in-Err-to_rows-clause-written g c = λ made has.
-    not_read (g.C.Cabinet.told c.args.files.now) c.args.walk.now.name c.args.index.now c.args.walk.now.docs c.args.names (map entry_data c.args.heads.terms) made c.requires.as_many has.heads_are c.appended_payloads_make_the_text.ensures.text c.appended_payloads_make_the_text.ensures.length
-    (g.C.Cabinet.told c.places.files) (g.C.Cabinet.told c.read_segments.new.files) (length c.places.yielded) reading.NoMemory c.in-Ok-read_segments.ensures.stays c.places.invariant.fits (c.places.invariant.written made has)
-    (λ refusal refused. absurd (cc))
-
-pub returns-in-Err-term-clause-written : goal.returns-in-Err-term-clause-written
-returns-in-Err-term-clause-written g c = λ made has.
+pub returns-in-Err-append_segments-clause-written : goal.returns-in-Err-append_segments-clause-written
+returns-in-Err-append_segments-clause-written g c = λ made has.
     let old : Option Files = g.C.Cabinet.told c.args.files.now in
     let now : Option Files = g.C.Cabinet.told c.places.files in
     let read : Option Files = g.C.Cabinet.told c.read_segments.new.files in
@@ -107,30 +93,30 @@ returns-in-Err-term-clause-written g c = λ made has.
     let is : c.args.heads.places.items ≡ c.places.yielded ++ place ∷ into_iter_items c.next.new.self
     = parted c.into_iter-place-iterator.result c.places.place-iterator c.next.new.self c.args.heads.places.items c.places.yielded place c.into_iter-place-iterator.ensures.into_iter_gives.0 c.places.yielded_by c.in-Some.ensures.steps in
     let same : content_there now name ≡ content_there old name = beside old now c.args.index.now (front_bytes c.args.names entries ++ table_payloads d (take i made)) name c.requires.apart set in
-    let segments : List SegmentData = map segment_data c.as_slice.result.now in
+    let segments : List SegmentData = c.read_segments.new.segments in
     let here : (old ≡ None) ⊎ (segments ≡ (get_or made i no_term).segments)
-    = found_here old now name d c.args.weighing c.args.bits c.args.range c.args.heads.places.items c.places.yielded (into_iter_items c.next.new.self) place made c.places.walk.name c.places.walk.docs c.read_segments.new.segments c.as_slice.result.now
-    (ap (map segment_data) c.as_slice.ensures ∙ c.in-Ok-to_rows.ensures) c.places.invariant.leaves.name c.places.invariant.leaves.docs same c.requires.ready.there is c.in-Ok-read_segments.ensures.told has.told in
+    = found_here old now name d c.args.weighing c.args.bits c.args.range c.args.heads.places.items c.places.yielded (into_iter_items c.next.new.self) place made c.places.walk.name c.places.walk.docs c.read_segments.new.segments
+    c.places.invariant.leaves.name c.places.invariant.leaves.docs same c.requires.ready.there is c.in-Ok-read_segments.ensures.told has.told in
     let low : i < length entries = turn_low c.args.heads.places.items c.places.yielded (into_iter_items c.next.new.self) place c.args.heads.terms is c.requires.places in
     let docs : writer.docs ≡ d = ap (λ (w : WriterView). w.docs) c.places.invariant.writer in
     let next : next_heads writer ≡ chosen_heads d (get_or made i no_term).segments
     = next_is writer d i entries made no_term (ap (λ (w : WriterView). w.entries) c.places.invariant.writer) (ap (λ (w : WriterView). w.left) c.places.invariant.writer ∙ left_is c.args.heads.terms i) low has.heads_are in
-    subst (λ (f : ImportFault). Writes old (g.C.Cabinet.told c.term.new.files) name c.args.index.now (record { names = c.args.names; terms = made }) (Err f)) (sym c.not_appended.ensures)
+    subst (λ (f : ImportFault). Writes old (g.C.Cabinet.told c.append_segments.new.files) name c.args.index.now (record { names = c.args.names; terms = made }) (Err f)) (sym c.not_appended.ensures)
     (not_appended old name c.args.index.now d c.args.names entries made c.requires.as_many has.heads_are c.appended_payloads_make_the_text.ensures.text c.appended_payloads_make_the_text.ensures.length
-    g.C.Cabinet.told c.read_segments.new.files c.term.new.files i place.at (chosen_payloads writer.docs segments) (chosen_payloads d (get_or made i no_term).segments) c.in-Err-term.fault c.places.invariant.fits
+    g.C.Cabinet.told c.read_segments.new.files c.append_segments.new.files i place.at (chosen_payloads writer.docs segments) (chosen_payloads d (get_or made i no_term).segments) c.in-Err-append_segments.fault c.places.invariant.fits
     (subst (λ (m : Option Files). Sets old m c.args.index.now (front_bytes c.args.names entries ++ table_payloads d (take i made))) (sym c.in-Ok-read_segments.ensures.stays) set)
-    c.in-Err-term.ensures.untouched (payloads_more d i made no_term (omega (arith, low, as_many d c.args.names entries made c.requires.as_many has.heads_are))) c.appended_payloads_make_the_text.ensures.prefix
-    (subst (λ (n : List ℕ). (g.C.Cabinet.told c.term.new.files ≡ read) ⊎ ((k : ℕ) × Extends read (g.C.Cabinet.told c.term.new.files) n (take k (chosen_payloads writer.docs segments)))) (ap (λ (w : WriterView). w.name) c.places.invariant.writer) c.in-Err-term.ensures.content)
+    c.in-Err-append_segments.ensures.untouched (payloads_more d i made no_term (omega (arith, low, as_many d c.args.names entries made c.requires.as_many has.heads_are))) c.appended_payloads_make_the_text.ensures.prefix
+    (subst (λ (n : List ℕ). (g.C.Cabinet.told c.append_segments.new.files ≡ read) ⊎ ((k : ℕ) × Extends read (g.C.Cabinet.told c.append_segments.new.files) n (take k (chosen_payloads writer.docs segments)))) (ap (λ (w : WriterView). w.name) c.places.invariant.writer) c.in-Err-append_segments.ensures.content)
     (same_payloads old writer.docs d segments (get_or made i no_term).segments docs here)
     (λ kept found changed. never_changed old writer.docs d segments (get_or made i no_term).segments (next_heads writer) docs next here c.changes_are_found.ensures.same kept found
-    (subst (λ (f : TermFault). Unappended (change_of (next_heads writer) (chosen_heads writer.docs segments)) f) changed c.in-Err-term.ensures.fault)))
+    (subst (λ (f : TermFault). Unappended (change_of (next_heads writer) (chosen_heads writer.docs segments)) f) changed c.in-Err-append_segments.ensures.fault)))
 
 pub places-preserved : goal.places-preserved
 places-preserved g c =
     let old : Option Files = g.C.Cabinet.told c.args.files.now in
     let now : Option Files = g.C.Cabinet.told c.places.files in
     let read : Option Files = g.C.Cabinet.told c.read_segments.new.files in
-    let after : Option Files = g.C.Cabinet.told c.term.new.files in
+    let after : Option Files = g.C.Cabinet.told c.append_segments.new.files in
     let name : List ℕ = c.args.walk.now.name in
     let d : ℕ = c.args.walk.now.docs in
     let place : Place = c.in-Some.place in
@@ -139,32 +125,32 @@ places-preserved g c =
     let writer : WriterView = c.places.writer in
     let is : c.args.heads.places.items ≡ c.places.yielded ++ place ∷ into_iter_items c.next.new.self
     = parted c.into_iter-place-iterator.result c.places.place-iterator c.next.new.self c.args.heads.places.items c.places.yielded place c.into_iter-place-iterator.ensures.into_iter_gives.0 c.places.yielded_by c.in-Some.ensures.steps in
-    let segments : List SegmentData = map segment_data c.as_slice.result.now in
+    let segments : List SegmentData = c.read_segments.new.segments in
     let low : i < length entries = turn_low c.args.heads.places.items c.places.yielded (into_iter_items c.next.new.self) place c.args.heads.terms is c.requires.places in
     let docs : writer.docs ≡ d = ap (λ (w : WriterView). w.docs) c.places.invariant.writer in
     let one : length (c.places.yielded ++ place ∷ []) ≡ suc i = omega (arith, length-append c.places.yielded (place ∷ [])) in
     let put : Extends read after c.args.index.now (chosen_payloads writer.docs segments)
-    = subst (λ (n : List ℕ). Extends read after n (chosen_payloads writer.docs segments)) (ap (λ (w : WriterView). w.name) c.places.invariant.writer) c.in-Ok-term.ensures.content in
+    = subst (λ (n : List ℕ). Extends read after n (chosen_payloads writer.docs segments)) (ap (λ (w : WriterView). w.name) c.places.invariant.writer) c.in-Ok-append_segments.ensures.content in
     let written = extends_sets read after c.args.index.now (chosen_payloads writer.docs segments) put in
     let ready = subst (λ (n : List ℕ). IsReady now n c.read_segments.new.walk) c.places.invariant.leaves.name c.in-Ok-read_segments.ensures.ready in
     let ready_read = subst (λ (m : Option Files). IsReady m name c.read_segments.new.walk) (sym c.in-Ok-read_segments.ensures.stays) ready in
     record {
-      later = omega (arith, c.places.invariant.later, c.in-Ok-read_segments.ensures.later, c.in-Ok-term.ensures.others);
-      others = omega (arith, c.places.invariant.others, c.in-Ok-read_segments.ensures.others, c.in-Ok-term.ensures.later);
+      later = omega (arith, c.places.invariant.later, c.in-Ok-read_segments.ensures.later, c.in-Ok-append_segments.ensures.others);
+      others = omega (arith, c.places.invariant.others, c.in-Ok-read_segments.ensures.others, c.in-Ok-append_segments.ensures.later);
       ready = ready_beside read after name c.args.index.now written.0 c.read_segments.new.walk c.requires.apart written.1 ready_read;
       leaves = leaves_then c.args.walk.now c.places.walk c.read_segments.new.walk c.places.invariant.leaves c.in-Ok-read_segments.ensures.leaves;
-      writer = writer_is c.in-Ok-term.writer c.args.index.now d entries (length c.args.heads.terms - length (c.places.yielded ++ place ∷ []))
-          (ap (λ (w : WriterView). w.name) c.in-Ok-term.ensures.writer ∙ ap (λ (w : WriterView). w.name) c.places.invariant.writer)
-          (ap (λ (w : WriterView). w.docs) c.in-Ok-term.ensures.writer ∙ docs)
-          (ap (λ (w : WriterView). w.entries) c.in-Ok-term.ensures.writer ∙ ap (λ (w : WriterView). w.entries) c.places.invariant.writer)
-          (ap (λ (w : WriterView). w.left) c.in-Ok-term.ensures.writer ∙ omega (arith, ap (λ (w : WriterView). w.left) c.places.invariant.writer, one));
+      writer = writer_is c.in-Ok-append_segments.writer c.args.index.now d entries (length c.args.heads.terms - length (c.places.yielded ++ place ∷ []))
+          (ap (λ (w : WriterView). w.name) c.in-Ok-append_segments.ensures.writer ∙ ap (λ (w : WriterView). w.name) c.places.invariant.writer)
+          (ap (λ (w : WriterView). w.docs) c.in-Ok-append_segments.ensures.writer ∙ docs)
+          (ap (λ (w : WriterView). w.entries) c.in-Ok-append_segments.ensures.writer ∙ ap (λ (w : WriterView). w.entries) c.places.invariant.writer)
+          (ap (λ (w : WriterView). w.left) c.in-Ok-append_segments.ensures.writer ∙ omega (arith, ap (λ (w : WriterView). w.left) c.places.invariant.writer, one));
       fits = c.places.invariant.fits;
       written = λ made has.
           let set = c.places.invariant.written made has in
           let same : content_there now name ≡ content_there old name = beside old now c.args.index.now (front_bytes c.args.names entries ++ table_payloads d (take i made)) name c.requires.apart set in
           let here : (old ≡ None) ⊎ (segments ≡ (get_or made i no_term).segments)
-          = found_here old now name d c.args.weighing c.args.bits c.args.range c.args.heads.places.items c.places.yielded (into_iter_items c.next.new.self) place made c.places.walk.name c.places.walk.docs c.read_segments.new.segments c.as_slice.result.now
-          (ap (map segment_data) c.as_slice.ensures ∙ c.in-Ok-to_rows.ensures) c.places.invariant.leaves.name c.places.invariant.leaves.docs same c.requires.ready.there is c.in-Ok-read_segments.ensures.told has.told in
+          = found_here old now name d c.args.weighing c.args.bits c.args.range c.args.heads.places.items c.places.yielded (into_iter_items c.next.new.self) place made c.places.walk.name c.places.walk.docs c.read_segments.new.segments
+          c.places.invariant.leaves.name c.places.invariant.leaves.docs same c.requires.ready.there is c.in-Ok-read_segments.ensures.told has.told in
           let more = sets_wanted c.appended_payloads_make_the_text.ensures.file old read after c.args.index.now (front_bytes c.args.names entries ++ table_payloads d (take i made)) (chosen_payloads writer.docs segments) (chosen_payloads d (get_or made i no_term).segments)
           (subst (λ (m : Option Files). Sets old m c.args.index.now (front_bytes c.args.names entries ++ table_payloads d (take i made))) (sym c.in-Ok-read_segments.ensures.stays) set) put
           (same_payloads old writer.docs d segments (get_or made i no_term).segments docs here) in
