@@ -5,6 +5,7 @@ ghost use Rattle.std.specs.Prelude.{[], ◌∷◌, codes};
 use jass_base::{Lexicon, Query};
 use query_reader::{Mode, QueryFault, name_terms, read_queries, read_terms};
 use std::alloc::{AllocError, Global};
+use std::process::Abort;
 
 /// The terms `CAT!`, `cat`, `dog` and `strasse`.
 struct FewTerms;
@@ -39,60 +40,80 @@ fn times(query: &Query) -> [u32; 5] {
     times
 }
 
+/// Texts of queries, each with how often it names the four terms and how many others.
+const TEXTS: [(Mode, &str, [u32; 5]); 12] = [
+    (Mode::Folded, "Straße, CAT!", [0, 1, 0, 1, 0]),
+    (Mode::Plain, "Straße, CAT!", [1, 0, 0, 0, 1]),
+    (Mode::Plain, "cat^2 dog", [0, 2, 1, 0, 0]),
+    (Mode::Plain, "cat^256 dog^0 cat^007", [0, 7, 0, 0, 2]),
+    (Mode::Plain, "cat^2^1 ^2 cat^", [0, 0, 0, 0, 3]),
+    (Mode::Plain, "cat\rdog zzz^200 zzz", [0, 0, 0, 0, 3]),
+    (Mode::Folded, "Cat^3 2^x", [0, 3, 0, 0, 2]),
+    (Mode::Folded, "cat^3^2 dog^2x", [0, 3, 1, 0, 2]),
+    (Mode::Folded, "cat^^2 dog ^2 cat^256", [0, 2, 1, 0, 3]),
+    (Mode::Folded, "cat^2dog ^dog^4", [0, 1, 4, 0, 1]),
+    (Mode::Folded, "cat^٣ DOG\rdog", [0, 1, 2, 0, 1]),
+    (Mode::Plain, "", [0, 0, 0, 0, 0]),
+];
+
+/// Each text has the counts that stand beside it.
+fn check_texts(rt: &impl Abort, alloc: Global, texts: &[(Mode, &str, [u32; 5])]) {
+    for (mode, text, want) in texts {
+        assert!(rt; text.len() <= 100);
+        let Ok(query) = read_terms(alloc, "q", text, *mode, &FewTerms) else {
+            panic!(rt; "{text}")
+        };
+        assert!(rt; query.id.as_str() == "q");
+        assert!(rt; times(&query) == *want, "{text}");
+    }
+}
+
 #[test]
 fn reads_one_text(rt: HostRuntime) {
-    let table: [(Mode, &str, [u32; 5]); 12] = [
-        (Mode::Folded, "Straße, CAT!", [0, 1, 0, 1, 0]),
-        (Mode::Plain, "Straße, CAT!", [1, 0, 0, 0, 1]),
-        (Mode::Plain, "cat^2 dog", [0, 2, 1, 0, 0]),
-        (Mode::Plain, "cat^256 dog^0 cat^007", [0, 7, 0, 0, 2]),
-        (Mode::Plain, "cat^2^1 ^2 cat^", [0, 0, 0, 0, 3]),
-        (Mode::Plain, "cat\rdog zzz^200 zzz", [0, 0, 0, 0, 3]),
-        (Mode::Folded, "Cat^3 2^x", [0, 3, 0, 0, 2]),
-        (Mode::Folded, "cat^3^2 dog^2x", [0, 3, 1, 0, 2]),
-        (Mode::Folded, "cat^^2 dog ^2 cat^256", [0, 2, 1, 0, 3]),
-        (Mode::Folded, "cat^2dog ^dog^4", [0, 1, 4, 0, 1]),
-        (Mode::Folded, "cat^٣ DOG\rdog", [0, 1, 2, 0, 1]),
-        (Mode::Plain, "", [0, 0, 0, 0, 0]),
-    ];
-    for (mode, text, want) in table {
-        let Ok(query) = read_terms(rt.alloc(), "q", text, mode, &FewTerms) else {
-            assert!(&rt; false, "{text}");
-            return;
-        };
-        assert!(&rt; query.id.as_str() == "q");
-        let got = times(&query);
-        for (got, want) in got.iter().zip(want) {
-            assert_eq!(&rt; *got, want, "{text}");
+    check_texts(&rt, rt.alloc(), &TEXTS);
+}
+
+/// Files of queries, each with the number of its refusal and the line of it, or with 0 and how many queries it has.
+const FILES: [(Mode, &[u8], u32, u32); 9] = [
+    (Mode::Plain, b"1 cat\n\n\r\n \n2 dog", 51, 4),
+    (Mode::Plain, b"1 cat\n\xff\n dog\n", 50, 2),
+    (Mode::Plain, b" \xff", 50, 1),
+    (Mode::Folded, b"\tcat\n\xff", 51, 1),
+    (Mode::Plain, b"1 cat^255 dog\n2 cat^255 dog cat\n 3", 53, 2),
+    (Mode::Folded, b"1 cat^255 Cat", 53, 1),
+    (Mode::Plain, b"1 cat^255\r", 0, 1),
+    (Mode::Plain, b"", 0, 0),
+    (Mode::Plain, b"1 cat\r\r\n2", 0, 2),
+];
+
+/// Each file is read or refused as stands beside it.
+fn check_files(rt: &impl Abort, alloc: Global, files: &[(Mode, &[u8], u32, u32)]) {
+    for (mode, bytes, number, line) in files {
+        match read_queries(alloc, bytes, *mode, &FewTerms) {
+            Ok(queries) => {
+                assert_eq!(rt; *number, 0);
+                assert_eq!(rt; queries.len(), *line as usize);
+            }
+            Err(QueryFault::Refused(refusal)) => {
+                assert_eq!(rt; refusal.why.number(), *number);
+                assert_eq!(rt; refusal.line, *line);
+            }
+            Err(QueryFault::NoMemory) => panic!(rt; "no memory"),
         }
     }
 }
 
 #[test]
 fn refuses_the_first_bad_line(rt: HostRuntime) {
-    let table: [(Mode, &[u8], u32, u32); 9] = [
-        (Mode::Plain, b"1 cat\n\n\r\n \n2 dog", 51, 4),
-        (Mode::Plain, b"1 cat\n\xff\n dog\n", 50, 2),
-        (Mode::Plain, b" \xff", 50, 1),
-        (Mode::Folded, b"\tcat\n\xff", 51, 1),
-        (Mode::Plain, b"1 cat^255 dog\n2 cat^255 dog cat\n 3", 53, 2),
-        (Mode::Folded, b"1 cat^255 Cat", 53, 1),
-        (Mode::Plain, b"1 cat^255\r", 0, 1),
-        (Mode::Plain, b"", 0, 0),
-        (Mode::Plain, b"1 cat\r\r\n2", 0, 2),
-    ];
-    for (mode, bytes, number, line) in table {
-        match read_queries(rt.alloc(), bytes, mode, &FewTerms) {
-            Ok(queries) => {
-                assert_eq!(&rt; number, 0);
-                assert_eq!(&rt; queries.len(), line as usize);
-            }
-            Err(QueryFault::Refused(refusal)) => {
-                assert_eq!(&rt; refusal.why.number(), number);
-                assert_eq!(&rt; refusal.line, line);
-            }
-            Err(QueryFault::NoMemory) => assert!(&rt; false, "no memory"),
-        }
+    check_files(&rt, rt.alloc(), &FILES);
+}
+
+/// The queries have these names, each with how often it names the four terms and how many others.
+fn check_queries(rt: &impl Abort, queries: &[Query], wants: &[(&str, [u32; 5])]) {
+    assert_eq!(rt; queries.len(), wants.len());
+    for (query, (id, want)) in queries.iter().zip(wants) {
+        assert!(rt; query.id.as_str() == *id);
+        assert!(rt; times(query) == *want);
     }
 }
 
@@ -100,18 +121,10 @@ fn refuses_the_first_bad_line(rt: HostRuntime) {
 fn reads_a_file_line_by_line(rt: HostRuntime) {
     let file = b"301\tCAT  dog\r\n\n302 zzz\n";
     let Ok(queries) = read_queries(rt.alloc(), file, Mode::Folded, &FewTerms) else {
-        assert!(&rt; false, "no queries");
-        return;
+        panic!(&rt; "no queries")
     };
     let wants = [("301", [0, 1, 1, 0, 0]), ("302", [0, 0, 0, 0, 1])];
-    assert_eq!(&rt; queries.len(), wants.len());
-    for (query, (id, want)) in queries.as_slice().iter().zip(wants) {
-        assert!(&rt; query.id.as_str() == id);
-        let got = times(query);
-        for (got, want) in got.iter().zip(want) {
-            assert_eq!(&rt; *got, want);
-        }
-    }
+    check_queries(&rt, queries.as_slice(), &wants);
 }
 
 fn named(alloc: Global) -> Result<Query, AllocError> {

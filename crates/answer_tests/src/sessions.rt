@@ -1,6 +1,7 @@
 // Sessions over the file of three documents and one term, whose postings weigh 9, 5 and 1.
 
-ghost use Rattle.std.specs.Prelude.{◌≡◌, ◌<◌, [], ◌∷◌, IfOk};
+ghost use Rattle.std.specs.Prelude.{◌≡◌, ◌<◌, ◌≤◌, [], ◌∷◌, IfOk};
+ghost use Rattle.session_engine.specs.Plans.{HasFreeNumber};
 ghost use Rattle.session_engine.specs.Standing.{SessionStands};
 
 use frame_pool::FramePool;
@@ -11,6 +12,7 @@ use session_engine::laws::a_standing_session_has_its_chain;
 use session_engine::{OpenStop, Session, need};
 use std::alloc::Global;
 use std::marker::Brand;
+use std::process::Abort;
 use std::sync::ledger::{Blank, Ledger};
 
 /// Documents d0 to d2; `a`: (0,9), (1,5), (2,1).
@@ -87,47 +89,72 @@ fn report(segments: u32, cutoff: u32, next: u32) -> Report {
     }
 }
 
+/// What comes of a session for the one term of a file, of whose frames it needs one.
+fn begun(
+    rt: &impl Abort,
+    alloc: Global,
+    file: &IndexFile,
+    pool: &mut FramePool,
+    k: u32,
+) -> Result<Session, OpenStop>
+    requires some { 1 ≤ k }
+    requires few { k ≤ 3 }
+    requires chain { HasFreeNumber pool.old }
+    ensures stands { IfOk result (λ session. SessionStands session file.now pool.new) }
+{
+    assert!(rt; file.terms() == 1);
+    let Ok(query) = asked(alloc) else {
+        panic!(rt; "no memory")
+    };
+    assert!(rt; need(file, &query) == 1);
+    Session::open(alloc, file, pool, query, k)
+}
+
+/// Gives a session's frames back.
+fn close(session: Session, file: &IndexFile, pool: &mut FramePool)
+    requires stands { SessionStands session file.now pool.old }
+{
+    a_standing_session_has_its_chain();
+    session.close(pool);
+}
+
+/// Whether a session for one hit has this last report, and the answer of all postings.
+fn has_all_postings(session: &Session, last: Report) -> bool {
+    session.report() == last
+        && session.answer() == [Hit { doc: 0, score: 9 }].as_slice()
+        && session.frames() == 1
+        && session.query().unknown == 0
+}
+
 #[test]
 fn grants_of_one_posting_and_of_all(rt: HostRuntime) {
-    a_standing_session_has_its_chain();
     let Ok(file) = opened(rt.alloc(), &FILE) else {
         panic!(&rt; "refused")
     };
-    assert!(&rt; file.terms() == 1);
     let Ok(mut pool) = FramePool::new(rt.alloc(), 1, 1) else {
         panic!(&rt; "no memory")
     };
-    let Ok(query) = asked(rt.alloc()) else {
-        panic!(&rt; "no memory")
-    };
-    assert!(&rt; need(&file, &query) == 1);
-    let Ok(mut session) = Session::open(rt.alloc(), &file, &mut pool, query, 1) else {
+    let Ok(mut session) = begun(&rt, rt.alloc(), &file, &mut pool, 1) else {
         panic!(&rt; "refused")
     };
     assert!(&rt; session.answer().is_empty() && session.frames() == 0);
     let reports = granted::<Brand>(&mut session, &file, &mut pool, Blank::new(1));
     assert!(&rt; reports == [report(1, 9, 5), report(2, 5, 1), report(3, 1, 0)]);
-    assert!(&rt; session.report() == report(3, 1, 0));
-    assert!(&rt; session.answer() == [Hit { doc: 0, score: 9 }].as_slice());
-    assert!(&rt; session.frames() == 1 && session.query().unknown == 0 && pool.spare() == 0);
-    session.close(&mut pool);
+    assert!(&rt; has_all_postings(&session, report(3, 1, 0)) && pool.spare() == 0);
+    close(session, &file, &mut pool);
     assert!(&rt; pool.spare() == 1);
 }
 
 #[test]
 fn a_bitmap_is_scored(rt: HostRuntime) {
-    a_standing_session_has_its_chain();
     let Ok(file) = opened(rt.alloc(), &DENSE) else {
         panic!(&rt; "refused")
     };
-    assert!(&rt; file.terms() == 1 && file.codecs().bitmap == 1);
+    assert!(&rt; file.codecs().bitmap == 1);
     let Ok(mut pool) = FramePool::new(rt.alloc(), 1, 1) else {
         panic!(&rt; "no memory")
     };
-    let Ok(query) = asked(rt.alloc()) else {
-        panic!(&rt; "no memory")
-    };
-    let Ok(mut session) = Session::open(rt.alloc(), &file, &mut pool, query, 3) else {
+    let Ok(mut session) = begun(&rt, rt.alloc(), &file, &mut pool, 3) else {
         panic!(&rt; "refused")
     };
     let [_, second, last] = granted::<Brand>(&mut session, &file, &mut pool, Blank::new(1));
@@ -135,24 +162,19 @@ fn a_bitmap_is_scored(rt: HostRuntime) {
     assert!(&rt;
         session.answer() == [Hit { doc: 0, score: 9 }, Hit { doc: 2, score: 9 }].as_slice()
     );
-    session.close(&mut pool);
+    close(session, &file, &mut pool);
 }
 
 #[test]
 fn a_pool_without_spare_frames_is_full(rt: HostRuntime) {
-    a_standing_session_has_its_chain();
     let Ok(file) = opened(rt.alloc(), &FILE) else {
         panic!(&rt; "refused")
     };
-    assert!(&rt; file.terms() == 1);
     let Ok(mut pool) = FramePool::new(rt.alloc(), 0, 1) else {
         panic!(&rt; "no memory")
     };
-    let Ok(query) = asked(rt.alloc()) else {
-        panic!(&rt; "no memory")
-    };
-    match Session::open(rt.alloc(), &file, &mut pool, query, 1) {
-        Ok(session) => session.close(&mut pool),
+    match begun(&rt, rt.alloc(), &file, &mut pool, 1) {
+        Ok(session) => close(session, &file, &mut pool),
         Err(stop) => assert!(&rt; stop == OpenStop::PoolFull { need: 1, free: 0 }),
     }
 }

@@ -4,6 +4,7 @@
 use gathered_text::put_all;
 use jass_base::{MemSink, Row};
 use std::alloc::{AllocError, Global};
+use std::process::Abort;
 
 /// How many bytes went of a text of these sizes with so many pieces of 15,000 bytes behind them, where the put with a
 /// number fails, and whether all of it did.
@@ -27,24 +28,30 @@ fn went(
     Ok((sink.written().len(), whole))
 }
 
+/// The sizes and pieces of texts, the put that fails, how many bytes go, and whether all do. Behind a piece that finds no
+/// room in one go, the next put ends at a multiple again.
+const TEXTS: [(&[usize], u32, u64, usize, bool); 8] = [
+    (&[], 20, 0, 0, false),
+    (&[], 20, 1, 131_072, false),
+    (&[], 20, 2, 262_144, false),
+    (&[], 20, 3, 300_000, true),
+    (&[45_000, 200_000], 12, 1, 45_000, false),
+    (&[45_000, 200_000], 12, 2, 245_000, false),
+    (&[45_000, 200_000], 12, 3, 262_144, false),
+    (&[45_000, 200_000], 12, 4, 393_216, false),
+];
+
+/// So much goes of each text as stands beside it.
+fn check_texts(rt: &impl Abort, alloc: Global, texts: &[(&[usize], u32, u64, usize, bool)]) {
+    for (sizes, pieces, bad_put, count, whole) in texts {
+        let Ok(left) = went(alloc, sizes, *pieces, *bad_put) else {
+            panic!(rt; "no memory")
+        };
+        assert!(rt; left == (*count, *whole));
+    }
+}
+
 #[test]
 fn long_texts_go_by_pieces(rt: HostRuntime) {
-    // behind a piece that finds no room in one go, the next put ends at a multiple again
-    let table: [(&[usize], u32, u64, usize, bool); 8] = [
-        (&[], 20, 0, 0, false),
-        (&[], 20, 1, 131_072, false),
-        (&[], 20, 2, 262_144, false),
-        (&[], 20, 3, 300_000, true),
-        (&[45_000, 200_000], 12, 1, 45_000, false),
-        (&[45_000, 200_000], 12, 2, 245_000, false),
-        (&[45_000, 200_000], 12, 3, 262_144, false),
-        (&[45_000, 200_000], 12, 4, 393_216, false),
-    ];
-    for (sizes, pieces, bad_put, count, whole) in table {
-        let Ok(left) = went(rt.alloc(), sizes, pieces, bad_put) else {
-            assert!(&rt; false, "no memory");
-            return;
-        };
-        assert!(&rt; left == (count, whole));
-    }
+    check_texts(&rt, rt.alloc(), &TEXTS);
 }

@@ -54,16 +54,18 @@ fn fails(alloc: Global, file: &[u8]) -> bool {
     write_collection(&collection, &mut sink).is_err() && sink.written().is_empty()
 }
 
+/// Files, each with what is written of it.
+const FILES: [(&[u8], &[u8]); 4] = [
+    (&FILE, &FILE),
+    (&OTHER, &FILE),
+    (&EXPORT, &EXPORT),
+    (b"\x00", b"\x00"),
+];
+
 #[test]
 fn collections_are_written(rt: HostRuntime) {
     let alloc = rt.alloc();
-    let table: [(&[u8], &[u8]); 4] = [
-        (&FILE, &FILE),
-        (&OTHER, &FILE),
-        (&EXPORT, &EXPORT),
-        (b"\x00", b"\x00"),
-    ];
-    for (file, canonical) in table {
+    for (file, canonical) in &FILES {
         assert!(&rt; is_written(alloc, file, canonical));
     }
     assert!(&rt; fails(alloc, &FILE));
@@ -95,17 +97,23 @@ fn file_of_one_posting(alloc: Global, doc: u32, tf: u32) -> Result<Row<u8>, NoMe
 /// Whether the field of a posting is so spelled, and its bytes counted so, where it is the only one
 /// of the only list.
 fn is_spelled(alloc: Global, gap: u32, tf: u32, field: &[u8]) -> bool {
-    let Ok(file) = file_of_one_posting(alloc, gap, tf) else {
-        return false;
-    };
-    let Ok(collection) = read_collection(alloc, file.as_slice()) else {
+    match file_of_one_posting(alloc, gap, tf) {
+        Ok(file) => is_spelled_in(alloc, file.as_slice(), field),
+        Err(_) => false,
+    }
+}
+
+fn is_spelled_in(alloc: Global, file: &[u8], field: &[u8]) -> bool {
+    let Ok(collection) = read_collection(alloc, file) else {
         return false;
     };
     let mut sink = MemSink::new(alloc, Row::new(alloc));
-    if write_collection(&collection, &mut sink).is_err() {
-        return false;
-    }
-    let Some((header, messages)) = sink.written().split_first() else {
+    write_collection(&collection, &mut sink).is_ok() && begins_with(sink.written(), field)
+}
+
+/// Whether the message behind the header begins with the field, and is counted so.
+fn begins_with(bytes: &[u8], field: &[u8]) -> bool {
+    let Some((header, messages)) = bytes.split_first() else {
         return false;
     };
     if usize::from(*header) > messages.len() {
@@ -117,20 +125,22 @@ fn is_spelled(alloc: Global, gap: u32, tf: u32, field: &[u8]) -> bool {
     }
 }
 
+/// Gaps and frequencies, each with the field of such a posting.
+const FIELDS: [(u32, u32, &[u8]); 8] = [
+    (0, 1, b"\x22\x02\x10\x01"),
+    (1, 1, b"\x22\x04\x08\x01\x10\x01"),
+    (127, 127, b"\x22\x04\x08\x7f\x10\x7f"),
+    (127, 128, b"\x22\x05\x08\x7f\x10\x80\x01"),
+    (128, 127, b"\x22\x05\x08\x80\x01\x10\x7f"),
+    (16_383, 1, b"\x22\x05\x08\xff\x7f\x10\x01"),
+    (16_384, 127, b"\x22\x06\x08\x80\x80\x01\x10\x7f"),
+    (16_384, 128, b"\x22\x07\x08\x80\x80\x01\x10\x80\x01"),
+];
+
 #[test]
 fn postings_are_spelled(rt: HostRuntime) {
     let alloc = rt.alloc();
-    let table: [(u32, u32, &[u8]); 8] = [
-        (0, 1, b"\x22\x02\x10\x01"),
-        (1, 1, b"\x22\x04\x08\x01\x10\x01"),
-        (127, 127, b"\x22\x04\x08\x7f\x10\x7f"),
-        (127, 128, b"\x22\x05\x08\x7f\x10\x80\x01"),
-        (128, 127, b"\x22\x05\x08\x80\x01\x10\x7f"),
-        (16_383, 1, b"\x22\x05\x08\xff\x7f\x10\x01"),
-        (16_384, 127, b"\x22\x06\x08\x80\x80\x01\x10\x7f"),
-        (16_384, 128, b"\x22\x07\x08\x80\x80\x01\x10\x80\x01"),
-    ];
-    for (gap, tf, field) in table {
-        assert!(&rt; is_spelled(alloc, gap, tf, field));
+    for (gap, tf, field) in &FIELDS {
+        assert!(&rt; is_spelled(alloc, *gap, *tf, field));
     }
 }

@@ -18,45 +18,57 @@ fn the_small_file_is_read(rt: HostRuntime) {
     assert!(&rt; index.is_ok_and(|index| is_small(&index)));
 }
 
+/// A place and its new byte, and where the file is refused then, and why.
+const CHANGED: [(usize, u8, usize, OpenWhy); 12] = [
+    (7, 50, 0, OpenWhy::Magic),
+    (8, 104, 8, OpenWhy::Length),
+    (36, 1, 36, OpenWhy::Totals),
+    (40, 1, 40, OpenWhy::Names),
+    (48, 2, 48, OpenWhy::Names),
+    (58, 32, 58, OpenWhy::Names),
+    (64, 255, 62, OpenWhy::TermOrder),
+    (65, 0, 65, OpenWhy::Heads),
+    (80, 9, 80, OpenWhy::Heads),
+    (104, 3, 104, OpenWhy::Payload(PayloadFault::DocRange)),
+    (104, 0, 104, OpenWhy::DocTwice),
+    (32, 8, 32, OpenWhy::Totals),
+];
+
 #[test]
 fn changed_bytes_are_refused(rt: HostRuntime) {
     let alloc = rt.alloc();
-    let table: [(usize, u8, usize, OpenWhy); 12] = [
-        (7, 50, 0, OpenWhy::Magic),
-        (8, 104, 8, OpenWhy::Length),
-        (36, 1, 36, OpenWhy::Totals),
-        (40, 1, 40, OpenWhy::Names),
-        (48, 2, 48, OpenWhy::Names),
-        (58, 32, 58, OpenWhy::Names),
-        (64, 255, 62, OpenWhy::TermOrder),
-        (65, 0, 65, OpenWhy::Heads),
-        (80, 9, 80, OpenWhy::Heads),
-        (104, 3, 104, OpenWhy::Payload(PayloadFault::DocRange)),
-        (104, 0, 104, OpenWhy::DocTwice),
-        (32, 8, 32, OpenWhy::Totals),
-    ];
-    for (place, byte, at, why) in table {
-        assert!(&rt; is_refused(alloc, place, byte, 105, at, why));
+    for (place, byte, at, why) in &CHANGED {
+        assert!(&rt; is_refused(alloc, *place, *byte, 105, *at, *why));
     }
     for count in 0..105 {
-        let (at, why) = match count {
-            0..8 => (0, OpenWhy::Magic),
-            _ => (8, OpenWhy::Length),
-        };
+        let (at, why) = refusal_of_cut(count);
         assert!(&rt; is_refused(alloc, 8, 105, count, at, why));
     }
     for count in 8..105 {
-        let at = match count {
-            8..40 => 8,
-            40..56 => 40,
-            56..62 => 56,
-            62..69 => 62,
-            69..80 => 69,
-            80..91 => 80,
-            91..102 => 91,
-            _ => count,
-        };
+        let at = place_of_cut(count);
         assert!(&rt; is_refused(alloc, 8, count as u8, count, at, OpenWhy::Length));
+    }
+}
+
+/// Where so many bytes of the file are refused, and why.
+fn refusal_of_cut(count: usize) -> (usize, OpenWhy) {
+    match count {
+        0..8 => (0, OpenWhy::Magic),
+        _ => (8, OpenWhy::Length),
+    }
+}
+
+/// Where so many bytes of the file are refused that are told to be all.
+fn place_of_cut(count: usize) -> usize {
+    match count {
+        8..40 => 8,
+        40..56 => 40,
+        56..62 => 56,
+        62..69 => 62,
+        69..80 => 69,
+        80..91 => 80,
+        91..102 => 91,
+        _ => count,
     }
 }
 

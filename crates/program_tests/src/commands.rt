@@ -14,6 +14,7 @@ use jass_base::{Feed, MemCabinet, MemSink, Row, SliceFeed, Steps};
 use jass_top::run;
 use std::alloc::{AllocError, Global};
 use std::marker::Brand;
+use std::process::Abort;
 use std::sync::ledger::{Blank, Ledger};
 
 /// Documents d0 to d3; `cat`: (0,3), (1,1), (3,1); `dog`: (1,2), (2,3).
@@ -362,6 +363,79 @@ fn answers_are_printed(rt: HostRuntime) {
     }
 }
 
+/// A content of `b.ciff`, words, the reads and the puts that fail, the status and the note.
+type End<'a> = (&'a [u8], &'a str, &'a [u64], &'a [u64], u8, &'a [u8]);
+
+/// Ends of runs over whole collections, or over none.
+const ENDS: [End<'static>; 14] = [
+    (
+        &[],
+        "once b.ciff 3 all a",
+        &[],
+        &[],
+        3,
+        b"b.ciff: refusal 10 at 0\n",
+    ),
+    (&ONE_TERM, "once b.ciff 0 all a", &[], &[], 2, b"word 3\n"),
+    (&ONE_TERM, "search i q", &[], &[], 2, b"word 4\n"),
+    (&ONE_TERM, "search i q i", &[], &[], 2, b"word 4\n"),
+    (&ONE_TERM, "", &[], &[], 2, b"word 1\n"),
+    (&ONE_TERM, "once b.ciff 3 all", &[], &[], 2, b"word 5\n"),
+    (&ONE_TERM, "rewrite b.ciff b.ciff", &[], &[], 2, b"word 3\n"),
+    (&ONE_TERM, "--help once", &[], &[], 2, b"word 2\n"),
+    (&ONE_TERM, "--version 2", &[], &[], 2, b"word 2\n"),
+    (&ONE_TERM, "--help", &[], &[0], 5, b"output: write fault\n"),
+    (
+        &ONE_TERM,
+        "once x.ciff 3 all a",
+        &[],
+        &[],
+        4,
+        b"x.ciff: read fault\n",
+    ),
+    (
+        &ONE_TERM,
+        "once b.ciff 3 all a",
+        &[0],
+        &[],
+        4,
+        b"b.ciff: read fault\n",
+    ),
+    (
+        &ONE_TERM,
+        "once b.ciff 3 all a",
+        &[1],
+        &[],
+        4,
+        b"b.ciff: read fault\n",
+    ),
+    (
+        &ONE_TERM,
+        "once b.ciff 3 all a",
+        &[],
+        &[0],
+        5,
+        b"output: write fault\n",
+    ),
+];
+
+/// Each run ends so, with its note alone; where the note can't be put, it ends with the same status.
+fn check_ends(rt: &impl Abort, alloc: Global, ends: &[End<'_>]) {
+    for (ciff, words, bad_reads, bad_puts, status, notes) in ends {
+        let (Ok(left), Ok(muted)) = (
+            ran(alloc, ciff, words, bad_reads, bad_puts, &[]),
+            ran(alloc, ciff, words, bad_reads, bad_puts, &[0]),
+        ) else {
+            panic!(rt; "no memory")
+        };
+        assert_eq!(rt; left.status, *status, "{words}");
+        assert!(rt; left.notes.as_slice() == *notes, "{words}");
+        assert!(rt; left.out.is_empty(), "{words}");
+        assert_eq!(rt; muted.status, *status, "{words}");
+        assert!(rt; muted.notes.is_empty() && muted.out.is_empty(), "{words}");
+    }
+}
+
 #[test]
 fn other_ends_are_noted(rt: HostRuntime) {
     let mut longer = [0u8; 72];
@@ -370,56 +444,26 @@ fn other_ends_are_noted(rt: HostRuntime) {
     same_document[37] = 0;
     let mut bad_wire = ONE_TERM;
     bad_wire[26] = 0x13;
-    let table: [(&[u8], &str, &[u64], &[u64], u8, &[u8]); 19] = [
-        (
-            &[],
-            "once b.ciff 3 all a",
-            &[],
-            &[],
-            3,
-            b"b.ciff: refusal 10 at 0\n",
-        ),
+    let once = "once b.ciff 3 all a";
+    let spoilt: [End; 5] = [
         (
             &ONE_TERM[..70],
-            "once b.ciff 3 all a",
+            once,
             &[],
             &[],
             3,
             b"b.ciff: refusal 10 at 62\n",
         ),
-        (
-            &longer,
-            "once b.ciff 3 all a",
-            &[],
-            &[],
-            3,
-            b"b.ciff: refusal 21 at 71\n",
-        ),
+        (&longer, once, &[], &[], 3, b"b.ciff: refusal 21 at 71\n"),
         (
             &same_document,
-            "once b.ciff 3 all a",
+            once,
             &[],
             &[],
             3,
             b"b.ciff: refusal 15 at 34\n",
         ),
-        (
-            &bad_wire,
-            "once b.ciff 3 all a",
-            &[],
-            &[],
-            3,
-            b"b.ciff: refusal 12 at 26\n",
-        ),
-        (&ONE_TERM, "once b.ciff 0 all a", &[], &[], 2, b"word 3\n"),
-        (&ONE_TERM, "search i q", &[], &[], 2, b"word 4\n"),
-        (&ONE_TERM, "search i q i", &[], &[], 2, b"word 4\n"),
-        (&ONE_TERM, "", &[], &[], 2, b"word 1\n"),
-        (&ONE_TERM, "once b.ciff 3 all", &[], &[], 2, b"word 5\n"),
-        (&ONE_TERM, "rewrite b.ciff b.ciff", &[], &[], 2, b"word 3\n"),
-        (&ONE_TERM, "--help once", &[], &[], 2, b"word 2\n"),
-        (&ONE_TERM, "--version 2", &[], &[], 2, b"word 2\n"),
-        (&ONE_TERM, "--help", &[], &[0], 5, b"output: write fault\n"),
+        (&bad_wire, once, &[], &[], 3, b"b.ciff: refusal 12 at 26\n"),
         (
             &ONE_TERM[..70],
             "rewrite b.ciff c.ciff",
@@ -428,51 +472,7 @@ fn other_ends_are_noted(rt: HostRuntime) {
             3,
             b"b.ciff: refusal 10 at 62\n",
         ),
-        (
-            &ONE_TERM,
-            "once x.ciff 3 all a",
-            &[],
-            &[],
-            4,
-            b"x.ciff: read fault\n",
-        ),
-        (
-            &ONE_TERM,
-            "once b.ciff 3 all a",
-            &[0],
-            &[],
-            4,
-            b"b.ciff: read fault\n",
-        ),
-        (
-            &ONE_TERM,
-            "once b.ciff 3 all a",
-            &[1],
-            &[],
-            4,
-            b"b.ciff: read fault\n",
-        ),
-        (
-            &ONE_TERM,
-            "once b.ciff 3 all a",
-            &[],
-            &[0],
-            5,
-            b"output: write fault\n",
-        ),
     ];
-    for (ciff, words, bad_reads, bad_puts, status, notes) in table {
-        let (Ok(left), Ok(muted)) = (
-            ran(rt.alloc(), ciff, words, bad_reads, bad_puts, &[]),
-            ran(rt.alloc(), ciff, words, bad_reads, bad_puts, &[0]),
-        ) else {
-            assert!(&rt; false, "no memory");
-            return;
-        };
-        assert_eq!(&rt; left.status, status, "{words}");
-        assert!(&rt; left.notes.as_slice() == notes, "{words}");
-        assert!(&rt; left.out.is_empty(), "{words}");
-        assert_eq!(&rt; muted.status, status, "{words}");
-        assert!(&rt; muted.notes.is_empty() && muted.out.is_empty(), "{words}");
-    }
+    check_ends(&rt, rt.alloc(), &spoilt);
+    check_ends(&rt, rt.alloc(), &ENDS);
 }

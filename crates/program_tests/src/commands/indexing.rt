@@ -5,6 +5,7 @@ use super::{
 };
 use jass_base::SliceFeed;
 use std::alloc::{AllocError, Global};
+use std::process::Abort;
 
 /// The index file of `ONE_TERM`, by term frequency and with raw weights.
 const ONE_TERM_INDEX: [u8; 103] = [
@@ -113,33 +114,105 @@ fn outcome_of(alloc: Global, content: &[u8], words: &str, bad: Bad) -> Result<Ou
     })
 }
 
+/// A content of the file `a`, words, the status, the output, the note, and what `b` holds then.
+type Run<'a> = (&'a [u8], &'a str, u8, &'a [u8], &'a [u8], &'a [u8]);
+
+/// Runs over whole files.
+const RUNS: [Run<'static>; 9] = [
+    (&ONE_TERM, "import a b", 0, TOTALS, NOTHING, &ONE_TERM_INDEX),
+    (
+        &OFTEN,
+        "import a b",
+        0,
+        b"documents 5 terms 2 postings 6 greatest 2048\n",
+        NOTHING,
+        &OFTEN_INDEX,
+    ),
+    (&ONE_TERM_INDEX, "check a", 0, TOTALS, NOTHING, OLD),
+    (
+        &ONE_TERM_OLD,
+        "check a",
+        3,
+        NOTHING,
+        b"a: refusal 39 at 0\n",
+        OLD,
+    ),
+    (
+        &ONE_TERM_INDEX,
+        "check x.idx",
+        4,
+        NOTHING,
+        b"x.idx: read fault\n",
+        OLD,
+    ),
+    (
+        &ONE_TERM_INDEX,
+        "export a b",
+        0,
+        NOTHING,
+        NOTHING,
+        &ONE_TERM_EXPORT,
+    ),
+    (
+        &ONE_TERM_EXPORT,
+        "import a b",
+        0,
+        TOTALS,
+        NOTHING,
+        &ONE_TERM_INDEX,
+    ),
+    (
+        &ONE_TERM_OLD,
+        "migrate a b",
+        0,
+        TOTALS,
+        NOTHING,
+        &ONE_TERM_INDEX,
+    ),
+    (
+        &ONE_TERM_INDEX,
+        "migrate a b",
+        3,
+        NOTHING,
+        b"a: refusal 40 at 0\n",
+        OLD,
+    ),
+];
+
+/// Each run ends as told; where its note can't be put, all else is the same.
+fn check_runs(rt: &impl Abort, alloc: Global, runs: &[Run<'_>]) {
+    for (content, words, status, out, notes, made) in runs {
+        let (Ok(left), Ok(muted)) = (
+            outcome_of(alloc, content, words, NONE),
+            outcome_of(alloc, content, words, only_notes(NONE)),
+        ) else {
+            panic!(rt; "no memory")
+        };
+        assert_eq!(rt; left.status, *status, "{words}");
+        assert!(rt; left.out.as_slice() == *out, "{words}");
+        assert!(rt; left.notes.as_slice() == *notes, "{words}");
+        assert!(rt; left.holds(made), "{words}");
+        assert!(rt; muted.is_muted(&left), "{words}");
+    }
+}
+
 #[test]
 fn index_files_are_made_and_checked(rt: HostRuntime) {
+    check_runs(&rt, rt.alloc(), &RUNS);
+}
+
+#[test]
+fn weights_are_spread_over_impacts(rt: HostRuntime) {
     let mut weighed = ONE_TERM_INDEX;
     weighed[32] = 255;
     weighed[67] = 255;
     weighed[78] = 220;
-    let mut past_the_last = ONE_TERM_INDEX;
-    past_the_last[102] = 3;
-    let mut twice = ONE_TERM_INDEX;
-    twice[102] = 0;
-    let mut other_magic = ONE_TERM_INDEX;
-    other_magic[0] = 0x4b;
     let mut often_by_place = OFTEN_INDEX;
     often_by_place[32] = 255;
     often_by_place[33] = 0;
     often_by_place[99] = 255;
     often_by_place[100] = 0;
-    let table: [(&[u8], &str, u8, &[u8], &[u8], &[u8]); 17] = [
-        (&ONE_TERM, "import a b", 0, TOTALS, NOTHING, &ONE_TERM_INDEX),
-        (
-            &OFTEN,
-            "import a b",
-            0,
-            b"documents 5 terms 2 postings 6 greatest 2048\n",
-            NOTHING,
-            &OFTEN_INDEX,
-        ),
+    let runs: [Run; 2] = [
         (
             &OFTEN,
             "import a b bits=8",
@@ -156,117 +229,28 @@ fn index_files_are_made_and_checked(rt: HostRuntime) {
             NOTHING,
             &weighed,
         ),
-        (
-            &ONE_TERM[..70],
-            "import a b",
-            3,
-            NOTHING,
-            b"a: refusal 10 at 62\n",
-            OLD,
-        ),
-        (&ONE_TERM_INDEX, "check a", 0, TOTALS, NOTHING, OLD),
-        (
-            &ONE_TERM_INDEX[..102],
-            "check a",
-            3,
-            NOTHING,
-            b"a: refusal 41 at 8\n",
-            OLD,
-        ),
-        (
-            &past_the_last,
-            "check a",
-            3,
-            NOTHING,
-            b"a: refusal 33 at 102\n",
-            OLD,
-        ),
-        (
-            &twice,
-            "check a",
-            3,
-            NOTHING,
-            b"a: refusal 46 at 102\n",
-            OLD,
-        ),
-        (
-            &other_magic,
-            "check a",
-            3,
-            NOTHING,
-            b"a: refusal 40 at 0\n",
-            OLD,
-        ),
-        (
-            &ONE_TERM_OLD,
-            "check a",
-            3,
-            NOTHING,
-            b"a: refusal 39 at 0\n",
-            OLD,
-        ),
-        (
-            &ONE_TERM_INDEX,
-            "check x.idx",
-            4,
-            NOTHING,
-            b"x.idx: read fault\n",
-            OLD,
-        ),
-        (
-            &ONE_TERM_INDEX,
-            "export a b",
-            0,
-            NOTHING,
-            NOTHING,
-            &ONE_TERM_EXPORT,
-        ),
-        (
-            &ONE_TERM_EXPORT,
-            "import a b",
-            0,
-            TOTALS,
-            NOTHING,
-            &ONE_TERM_INDEX,
-        ),
-        (
-            &twice,
-            "export a b",
-            3,
-            NOTHING,
-            b"a: refusal 46 at 102\n",
-            OLD,
-        ),
-        (
-            &ONE_TERM_OLD,
-            "migrate a b",
-            0,
-            TOTALS,
-            NOTHING,
-            &ONE_TERM_INDEX,
-        ),
-        (
-            &ONE_TERM_INDEX,
-            "migrate a b",
-            3,
-            NOTHING,
-            b"a: refusal 40 at 0\n",
-            OLD,
-        ),
     ];
-    for (content, words, status, out, notes, made) in table {
-        let (Ok(left), Ok(muted)) = (
-            outcome_of(rt.alloc(), content, words, NONE),
-            outcome_of(rt.alloc(), content, words, only_notes(NONE)),
-        ) else {
-            assert!(&rt; false, "no memory");
-            return;
-        };
-        assert_eq!(&rt; left.status, status, "{words}");
-        assert!(&rt; left.out.as_slice() == out, "{words}");
-        assert!(&rt; left.notes.as_slice() == notes, "{words}");
-        assert!(&rt; left.holds(made), "{words}");
-        assert!(&rt; muted.is_muted(&left), "{words}");
+    check_runs(&rt, rt.alloc(), &runs);
+}
+
+#[test]
+fn spoilt_files_are_refused(rt: HostRuntime) {
+    let mut past_the_last = ONE_TERM_INDEX;
+    past_the_last[102] = 3;
+    let mut twice = ONE_TERM_INDEX;
+    twice[102] = 0;
+    let mut other_magic = ONE_TERM_INDEX;
+    other_magic[0] = 0x4b;
+    let refused: [(&[u8], &str, &[u8]); 6] = [
+        (&ONE_TERM[..70], "import a b", b"a: refusal 10 at 62\n"),
+        (&ONE_TERM_INDEX[..102], "check a", b"a: refusal 41 at 8\n"),
+        (&past_the_last, "check a", b"a: refusal 33 at 102\n"),
+        (&twice, "check a", b"a: refusal 46 at 102\n"),
+        (&other_magic, "check a", b"a: refusal 40 at 0\n"),
+        (&twice, "export a b", b"a: refusal 46 at 102\n"),
+    ];
+    for (content, words, note) in refused {
+        check_runs(&rt, rt.alloc(), &[(content, words, 3, NOTHING, note, OLD)]);
     }
 }
 
