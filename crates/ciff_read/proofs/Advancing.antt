@@ -16,9 +16,9 @@ use Rattle.ciff_read.specs.Reading.{at_end}
 use Rattle.ciff_read.specs.Refusals.{◌>>=◌}
 use Rattle.ciff_read.specs.Walk.{WalkView, Keeps, Stands, StandsFor, StandsTold, OneMore, kept_of}
 use Rattle.ciff_read.specs.Private.Walk.{StaysHeld, ListGiven, DocGiven, EndGiven, LeavesOthers, LeavesLists, LeavesPlace}
-use Rattle.ciff_read.specs.Window.{AreFrom}
+use Rattle.whole_files.specs.Windows.{AreFrom}
 use Rattle.ciff_read.proofs.HeldParts.{reading_fails_on, reading_as}
-use Rattle.ciff_read.proofs.Told.{for_all, for_one, for_both, for_pair}
+use Rattle.whole_files.proofs.Told.{for_all, for_one, for_both, for_pair}
 
 equal_turned : (m n : ℕ) → (m == n) ≡ (n == m)
 equal_turned m n = grind (arith, nat_tests)

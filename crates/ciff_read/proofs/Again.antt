@@ -9,10 +9,10 @@ use Rattle.ciff_read.specs.Reaching.{FailsReading}
 use Rattle.ciff_read.specs.Reading.{Message, message_end, message_at, list_at}
 use Rattle.ciff_read.specs.Refusals.{◌>>=◌}
 use Rattle.ciff_read.specs.Walk.{WalkView, Stands, StandsFor, StandsTold, IsListAt, HasKept, IsGiven, IsOutside, FindsAgain}
-use Rattle.ciff_read.specs.Window.{AreFrom}
+use Rattle.whole_files.specs.Windows.{AreFrom}
 use Rattle.ciff_read.proofs.Fewer.{list_alone}
 use Rattle.ciff_read.proofs.Postings.{All-one}
-use Rattle.ciff_read.proofs.Told.{for_both}
+use Rattle.whole_files.proofs.Told.{for_both}
 use Rattle.ciff_read.proofs.WireLaws.{bound, done_is, ended_with}
 
 -- a list that was given stands at its place, with as many postings as are kept

@@ -5,12 +5,12 @@ use Rattle.ciff_read.specs.declared.refusal.CiffWhy.TheVariants.{Cut, Limit}
 use Rattle.ciff_read.specs.declared.refusal.CiffRefusal.{CiffRefusal}
 use Rattle.ciff_read.specs.declared.refusal.CiffFault.{CiffFault}
 use Rattle.ciff_read.specs.declared.refusal.CiffFault.TheVariants as faults
-use Rattle.ciff_read.specs.declared.window.Window.{Window}
+use Rattle.whole_files.specs.declared.window.Window.{Window}
 use Rattle.ciff_read.specs.Reaching.{FailsReading}
 use Rattle.ciff_read.specs.Private.Reaching.{ReadsSize, HoldsMessage}
 use Rattle.ciff_read.specs.Reading.{message_at}
 use Rattle.ciff_read.specs.Refusals.{Fails, why_of}
-use Rattle.ciff_read.specs.Private.Window.{Shows, IsAt, Reaches}
+use Rattle.whole_files.specs.Windows.{Shows, IsAt, Reaches}
 use Rattle.ciff_read.proofs.HeldMessages.{size_there, size_bad, message_held, message_short}
 use Rattle.ciff_read.proofs.Messages.{message_bad, message_over}
 

@@ -6,7 +6,7 @@ use Rattle.ciff_read.proofs.Below.{WireWhy, Cut, LongVarint, ◌>>=◌, varint_w
 use Rattle.wire_fields.specs.Reading.{varint_at}
 use Rattle.ciff_read.specs.declared.refusal.CiffWhy.TheVariants as why
 use Rattle.ciff_read.specs.Reading.{Message, message_at}
-use Rattle.ciff_read.specs.Window.{AreFrom}
+use Rattle.whole_files.specs.Windows.{AreFrom}
 use Rattle.ciff_read.proofs.Messages.{message_there, message_cut}
 
 -- what is read of more bytes: the same, where it was read or enough bytes were there

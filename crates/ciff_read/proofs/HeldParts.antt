@@ -7,7 +7,7 @@ use Rattle.ciff_read.specs.declared.refusal.CiffWhy.{CiffWhy}
 use Rattle.ciff_read.specs.declared.refusal.CiffRefusal.{CiffRefusal}
 use Rattle.ciff_read.specs.declared.refusal.CiffFault.{CiffFault}
 use Rattle.ciff_read.specs.declared.refusal.CiffFault.TheVariants as faults
-use Rattle.ciff_read.specs.declared.window.Window.{Window}
+use Rattle.whole_files.specs.declared.window.Window.{Window}
 use Rattle.ciff_read.specs.Judging.{FileStart, NumberedDoc}
 use Rattle.ciff_read.specs.Moving.{refusal_moved, moved}
 use Rattle.ciff_read.specs.Private.Moving.{fault_moved}

@@ -25,9 +25,7 @@ pub mod Counting
 pub mod WireLaws
 pub mod VarintFront
 pub mod FrontLaws
-pub mod Told
 pub mod UsualWords
-pub mod Windows
 pub mod HeldMessages
 pub mod HeldFiles
 pub mod Near

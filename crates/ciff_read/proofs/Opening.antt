@@ -3,13 +3,13 @@ use Rattle.shared_lemmas.proofs.Common.{◌≡◌, ℕ, ◌%◌, List, [], Some,
 use Rattle.jass_base.specs.CiffViews.{header_data}
 use Rattle.ciff_read.specs.declared.file_head.FileHead.{FileHead}
 use Rattle.ciff_read.specs.declared.refusal.CiffRefusal.{CiffRefusal}
-use Rattle.ciff_read.specs.declared.window.Window.{Window}
+use Rattle.whole_files.specs.declared.window.Window.{Window}
 use Rattle.ciff_read.specs.Marks.{is_marked}
 use Rattle.ciff_read.specs.Pieces.{KeptList, FileHeader, header_of_file, begun, after}
 use Rattle.ciff_read.specs.Private.Reached.{file_header}
 use Rattle.ciff_read.specs.Refusals.{◌>>=◌}
 use Rattle.ciff_read.specs.Walk.{WalkView, Stands}
-use Rattle.ciff_read.specs.Private.Window.{Shows}
+use Rattle.whole_files.specs.Windows.{Shows}
 
 -- what a walk is that has given nothing
 abbrev pub new_walk : List ℕ → FileHead → ℕ → List KeptList → List ℕ → Window → WalkView

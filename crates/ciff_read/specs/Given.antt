@@ -11,7 +11,7 @@ use Rattle.ciff_read.specs.Pieces.{PieceData, StartPiece, ListPiece, DocPiece, E
 use Rattle.ciff_read.specs.Reaching.{FailsReading}
 use Rattle.ciff_read.specs.Seen.{is_seen}
 use Rattle.ciff_read.specs.Walk.{WalkView, Keeps, OneMore, kept_of}
-use Rattle.ciff_read.specs.Window.{AreFrom}
+use Rattle.whole_files.specs.Windows.{AreFrom}
 use Rattle.jass_base.specs.declared.limits.TheConstants.{MOST_DOCUMENTS, MOST_TERMS}
 
 abbrev pub piece_data : Piece → PieceData

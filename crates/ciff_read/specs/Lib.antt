@@ -13,6 +13,5 @@ pub mod Refusals
 pub mod Seen
 pub mod Walk
 pub mod Walking
-pub mod Window
 pub mod Counts
 pub mod Private

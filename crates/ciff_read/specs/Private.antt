@@ -12,4 +12,3 @@ pub mod RisingEntries
 pub mod Table
 pub mod Usual
 pub mod Walk
-pub mod Window

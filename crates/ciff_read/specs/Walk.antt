@@ -15,7 +15,7 @@ use Rattle.ciff_read.specs.Pieces.{KeptList, Progress, header_of_file, IsReached
 use Rattle.jass_base.specs.declared.postings_list.PostingsList.{PostingsList}
 use Rattle.ciff_read.specs.Reaching.{FailsReading}
 use Rattle.ciff_read.specs.Reading.{Message, message_at, list_at}
-use Rattle.ciff_read.specs.Window.{AreFrom}
+use Rattle.whole_files.specs.Windows.{AreFrom}
 use Rattle.jass_base.specs.declared.limits.TheConstants.{LONGEST_FILE, MOST_DOCUMENTS, MOST_POSTINGS, MOST_TERMS}
 
 -- what a walk is: the file's name; what it keeps of the file up to a place; the numbers of the documents that it has given, as marked

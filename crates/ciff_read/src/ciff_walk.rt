@@ -19,11 +19,11 @@ use crate::reached_doc::reach_doc;
 use crate::reached_header::reach_header;
 use crate::reached_list::reach_list;
 use crate::refusal::{CiffFault, CiffWhy, refused};
-use crate::window::Window;
 use jass_base::{Cabinet, DocRecord, Header, Posting, PostingsList, ReadStop, Row, Text};
 use std::alloc::Global;
 use std::marker::Model;
 use std::mem::replace;
+use whole_files::Window;
 
 /// A CIFF file that is read piece by piece: the header, then one list at a time, then one
 /// document's record at a time. It holds the bytes of one message, and keeps the term, the

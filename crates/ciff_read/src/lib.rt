@@ -35,7 +35,6 @@ mod text;
 mod usual;
 mod walked_doc;
 mod walked_list;
-mod window;
 
 pub use ciff_walk::CiffWalk;
 pub use collection::read_collection;

@@ -3,7 +3,7 @@ ghost use Rattle.jass_base.specs.Outside.{Rose, IsMissing};
 ghost use Rattle.ciff_read.specs.Marks.{is_marked};
 ghost use Rattle.ciff_read.specs.Private.Reached.{DocTold};
 ghost use Rattle.jass_base.specs.declared.limits.TheConstants.{LONGEST_FILE};
-ghost use Rattle.ciff_read.specs.Private.Window.{StaysShown};
+ghost use Rattle.whole_files.specs.Windows.{StaysShown};
 
 use crate::doc_set::DocSet;
 use crate::document::walk_doc;
@@ -11,9 +11,9 @@ use crate::laws::{messages_move, refusals_are_near};
 use crate::moved_fault::fault_in_file;
 use crate::reaching::reach_message;
 use crate::refusal::CiffFault;
-use crate::window::Window;
 use jass_base::{Cabinet, DocRecord};
 use std::alloc::Global;
+use whole_files::Window;
 
 /// Reads the document's record at a place of a file of so many documents, behind records of
 /// these numbers, and gives its number, the record, and the place behind it.

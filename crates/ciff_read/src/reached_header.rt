@@ -2,15 +2,15 @@ ghost use Rattle.std.specs.Prelude.{◌≡◌, ◌≤◌, ◌⊎◌, IfOk, IsErr
 ghost use Rattle.jass_base.specs.Outside.{Rose, IsMissing};
 ghost use Rattle.ciff_read.specs.Private.Reached.{HeaderTold};
 ghost use Rattle.jass_base.specs.declared.limits.TheConstants.{LONGEST_FILE};
-ghost use Rattle.ciff_read.specs.Private.Window.{StaysShown};
+ghost use Rattle.whole_files.specs.Windows.{StaysShown};
 
 use crate::file_head::FileHead;
 use crate::header::read_header;
 use crate::reaching::reach_message;
 use crate::refusal::CiffFault;
-use crate::window::Window;
 use jass_base::Cabinet;
 use std::alloc::Global;
+use whole_files::Window;
 
 /// Reads the header of a file, and gives the place behind it.
 pub fn reach_header<C: Cabinet>(

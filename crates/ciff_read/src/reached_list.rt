@@ -7,7 +7,7 @@ ghost use Rattle.ciff_read.specs.Private.Reached.{ListTold, RisesBehind};
 ghost use Rattle.ciff_read.specs.Private.Plain.{IsPlain};
 ghost use Rattle.ciff_read.specs.Seen.{is_seen};
 ghost use Rattle.jass_base.specs.declared.limits.TheConstants.{LONGEST_FILE, MOST_DOCUMENTS, MOST_POSTINGS};
-ghost use Rattle.ciff_read.specs.Private.Window.{StaysShown};
+ghost use Rattle.whole_files.specs.Windows.{StaysShown};
 
 use crate::kept_lists::KeptLists;
 use crate::laws::{messages_move, refusals_are_near};
@@ -15,9 +15,9 @@ use crate::moved_fault::fault_in_file;
 use crate::postings_list::walk_one;
 use crate::reaching::reach_message;
 use crate::refusal::CiffFault;
-use crate::window::Window;
 use jass_base::{Cabinet, Posting, PostingsList};
 use std::alloc::Global;
+use whole_files::Window;
 
 /// Reads the list at a place of a file of so many documents, behind lists of so many postings
 /// and of the kept terms, and gives the place behind it, and whether its term is greater than the kept ones, which

@@ -3,13 +3,13 @@ ghost use Rattle.jass_base.specs.Outside.{Rose, IsMissing};
 ghost use Rattle.jass_base.specs.declared.limits.TheConstants.{LONGEST_FILE};
 ghost use Rattle.ciff_read.specs.Private.Plain.{IsPlain};
 ghost use Rattle.ciff_read.specs.Private.Reaching.{SizeTold, MessageTold};
-ghost use Rattle.ciff_read.specs.Private.Window.{StaysShown};
+ghost use Rattle.whole_files.specs.Windows.{StaysShown};
 
 use crate::body::Body;
 use crate::refusal::{CiffFault, CiffWhy, refused, refused_field};
-use crate::window::Window;
 use jass_base::limits::LONGEST_FILE;
 use jass_base::{Cabinet, ReadStop};
+use whole_files::Window;
 use wire_fields::{WireFault, read_varint};
 
 /// The most bytes that the length of a message has.

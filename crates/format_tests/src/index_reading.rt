@@ -3,6 +3,7 @@
 
 ghost use Rattle.std.specs.Prelude.{◌≡◌, ◌<◌};
 
+use index_check::check_file;
 use index_file::{CodecUse, IndexFile, open};
 use index_layout::{OpenFault, OpenWhy};
 use jass_base::{Lexicon, MemCabinet, Names, NoMemory, Row, Steps, Totals};
@@ -43,9 +44,16 @@ fn opened(alloc: Global, bytes: &[u8]) -> Result<IndexFile, OpenFault> {
 fn answer(opened: Result<IndexFile, OpenFault>) -> (u32, u64) {
     match opened {
         Ok(file) => (0, u64::from(file.totals().docs)),
-        Err(OpenFault::Refused(refusal)) => (refusal.why.number(), refusal.at),
-        Err(OpenFault::ReadFault) => (1, 0),
-        Err(OpenFault::NoMemory) => (2, 0),
+        Err(fault) => told(fault),
+    }
+}
+
+/// The number and place of a refusal.
+fn told(fault: OpenFault) -> (u32, u64) {
+    match fault {
+        OpenFault::Refused(refusal) => (refusal.why.number(), refusal.at),
+        OpenFault::ReadFault => (1, 0),
+        OpenFault::NoMemory => (2, 0),
     }
 }
 
@@ -125,7 +133,7 @@ fn changed_files_are_refused(rt: HostRuntime) {
         (102, 2, 0, 3),
     ];
     for (place, byte, number, at) in table {
-        assert!(&rt; answer(opened(alloc, &changed(place, byte))) == (number, at));
+        assert!(&rt; answer_by_name(alloc, &changed(place, byte)) == (number, at));
     }
     assert!(&rt; answer(opened(alloc, &FILE[..102])) == (41, 8));
 }
@@ -158,13 +166,20 @@ fn a_name_has_a_mebibyte_at_the_most(rt: HostRuntime) {
     }
 }
 
-/// The answer for bytes that are kept in a cabinet.
+/// The answer for bytes that are kept in a cabinet, where opening the file and checking it by pieces
+/// answer the same.
 fn answer_by_name(alloc: Global, bytes: &[u8]) -> (u32, u64) {
     let mut files = MemCabinet::new(alloc, Row::new(alloc), Row::new(alloc));
     match files.store("i.jass", bytes) {
-        Ok(()) => answer(open(alloc, &mut files, "i.jass")),
-        Err(_) => (2, 0),
+        Ok(()) => {}
+        Err(_) => return (2, 0),
     }
+    let opened = answer(open(alloc, &mut files, "i.jass"));
+    let checked = match check_file(alloc, &mut files, "i.jass") {
+        Ok(totals) => (0, u64::from(totals.docs)),
+        Err(fault) => told(fault),
+    };
+    if opened == checked { opened } else { (3, 0) }
 }
 
 #[test]
@@ -195,4 +210,5 @@ fn cut_files_are_refused_where_a_part_does_not_fit(rt: HostRuntime) {
     }
     let mut files = MemCabinet::new(alloc, Row::new(alloc), Row::new(alloc));
     assert!(&rt; answer(open(alloc, &mut files, "none")) == (1, 0));
+    assert!(&rt; check_file(alloc, &mut files, "none") == Err(OpenFault::ReadFault));
 }

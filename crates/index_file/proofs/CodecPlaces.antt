@@ -13,7 +13,8 @@ use Rattle.index_file.specs.declared.term_row.TermRow.{TermRow}
 use Rattle.index_file.specs.Private.Opened.{Stands}
 use Rattle.index_file.specs.Private.Payloads.{row_heads}
 use Rattle.index_file.specs.Places.{all_codecs, codec_at, uses_of}
-use Rattle.index_file.specs.Private.Tables.{first_head, head_count, heads_from, row_at}
+use Rattle.index_file.specs.Private.Tables.{first_head, head_count, row_at}
+use Rattle.index_file.specs.Parts.{heads_from}
 use Rattle.index_file.proofs.HeadLists.{head_there, heads_length, heads_more}
 use Rattle.index_file.proofs.Standing.{head_inside, row_inside}
 

@@ -4,7 +4,7 @@ use Rattle.std.proofs.lemmas.List.FromFn.{get_or-map-range_with_len, length-map-
 use Rattle.index_file.proofs.Below.{HeadData, SegmentData, u32_in}
 use Rattle.index_layout.specs.Reading.{head_in}
 use Rattle.index_file.specs.Private.Payloads.{payload_place, segment_in, segments_from}
-use Rattle.index_file.specs.Private.Tables.{heads_from}
+use Rattle.index_file.specs.Parts.{heads_from}
 
 abbrev head_at : List ℕ → ℕ → ℕ → HeadData
 head_at bytes at s = head_in bytes (at + 11 * s)

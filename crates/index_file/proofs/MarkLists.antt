@@ -3,7 +3,7 @@ use Rattle.shared_lemmas.proofs.Common.{◌≡◌, ◌≢◌, ◌≤◌, ◌<◌
 use Rattle.shared_lemmas.proofs.Common.{All-weaker, All-set, list_any-append, or-false, or-true}
 use Rattle.std.proofs.lemmas.List.{append-nil, append_assoc, get_or-set_same, get_or-set_other, length-set}
 use Rattle.index_file.proofs.Below.{AreDocs, is_among, shares_one, RiseFrom, rise_from}
-use Rattle.index_file.specs.Private.Marks.{AreMarks, marked, meets_marked}
+use Rattle.index_file.specs.Marks.{AreMarks, marked, meets_marked}
 
 -- the documents that are still to come
 pub record Left (gives : List ℕ → Type 0) (now d left : ℕ) (docs before marks : List ℕ) : Type 0 where

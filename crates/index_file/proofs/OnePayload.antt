@@ -3,7 +3,7 @@ use Rattle.shared_lemmas.proofs.Common.{◌≡◌, ℕ, ◌+◌, ◌-◌, ◌≤
 use Rattle.index_file.proofs.Below.{Judges, AreDocs, PayloadFault, Codec, payload_of, read_payload, HeadData, ◌>>=◌, check, judged, refuse, Fails, OpenFault, OpenRefusal, Length, DocTwice, Payload, docs_or_none, payload_placed, shares_one, part_bytes}
 use Rattle.index_layout.specs.declared.refusal.OpenFault.TheVariants as faults
 use Rattle.index_layout.specs.Reading.{read_segment, docs_in, payload_end}
-use Rattle.index_file.specs.Private.Marks.{AreMarks, meets_marked}
+use Rattle.index_file.specs.Marks.{AreMarks, meets_marked}
 use Rattle.index_file.proofs.MarkLists.{meets_is}
 
 judged_ok : {T : Type 0} (r : Result (List ℕ) PayloadFault) (x : T) → Judges r (Ok x) → r ≡ Ok (docs_or_none r)

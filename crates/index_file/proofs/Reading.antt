@@ -8,7 +8,8 @@ use Rattle.index_file.specs.declared.term_row.TermRow.{TermRow}
 use Rattle.index_file.specs.Opened.{view_of}
 use Rattle.index_file.specs.Private.Opened.{Stands}
 use Rattle.index_file.specs.Private.Payloads.{IsPlaced, row_heads, row_terms}
-use Rattle.index_file.specs.Private.Tables.{IsNamePlace, AreRows, row_at}
+use Rattle.index_file.specs.Private.Tables.{AreRows, row_at}
+use Rattle.index_file.specs.Parts.{IsNamePlace}
 use Rattle.index_file.proofs.Standing.{same_view}
 use Rattle.index_file.proofs.Wholes.{postings_are, greatest_are, terms_count}
 

@@ -4,7 +4,8 @@ use Rattle.index_layout.specs.declared.refusal.OpenFault.TheVariants as faults
 use Rattle.index_file.proofs.Below.{Fails, OpenFault, TermData, OpenRefusal, ◌>>=◌, SegmentsRead, IndexRead, read_segments, read_payloads, with_index, behind_index}
 use Rattle.index_file.specs.declared.term_row.TermRow.{TermRow}
 use Rattle.index_file.specs.Private.Payloads.{AreGroups, ArePayloads, IsPlaced, first_payload, payload_place, row_heads, row_terms, segments_from, term_between}
-use Rattle.index_file.specs.Private.Tables.{first_head, group_count, head_count, heads_from, row_at}
+use Rattle.index_file.specs.Private.Tables.{first_head, group_count, head_count, row_at}
+use Rattle.index_file.specs.Parts.{heads_from}
 use Rattle.index_file.proofs.HeadLists.{place_first}
 
 abbrev none : TermRow

@@ -4,8 +4,8 @@ use Rattle.std.proofs.lemmas.List.{append-nil}
 use Rattle.index_layout.specs.Reading.{head_in}
 use Rattle.index_layout.specs.declared.refusal.OpenFault.TheVariants as faults
 use Rattle.index_file.proofs.Below.{Fails, OpenFault, SegmentData, OpenRefusal, HeadData, Varbyte, ◌>>=◌, SegmentsRead, docs_in, payload_end, read_segments, with_segments, behind_segments}
-use Rattle.index_file.specs.Private.Payloads.{AreGroups, ArePayloads, IsPayloadAt, payload_place, segment_in}
-use Rattle.index_file.specs.Private.Tables.{IsCounted, heads_from}
+use Rattle.index_file.specs.Private.Payloads.{AreGroups, ArePayloads, payload_place, segment_in}
+use Rattle.index_file.specs.Parts.{IsCounted, heads_from, IsPayloadAt}
 use Rattle.index_file.proofs.HeadLists.{heads_length, head_there}
 
 pub no_segments : (read : Result SegmentsRead OpenRefusal) → read ≡ with_segments [] read

@@ -9,9 +9,10 @@ use Rattle.index_file.specs.declared.segment_head.SegmentHead.{SegmentHead}
 use Rattle.index_file.specs.declared.term_row.TermRow.{TermRow}
 use Rattle.index_file.specs.Opened.{view_of, view_or_empty}
 use Rattle.index_file.specs.Private.Opened.{Stands}
-use Rattle.index_file.specs.Private.Payloads.{IsPayloadAt, IsPlaced, first_payload, payload_place, row_terms, segment_in, segments_from, term_between}
+use Rattle.index_file.specs.Private.Payloads.{IsPlaced, first_payload, payload_place, row_terms, segment_in, segments_from, term_between}
+use Rattle.index_file.specs.Parts.{told, IsPayloadAt}
 use Rattle.index_file.specs.Places.{term_at, segment_at}
-use Rattle.index_file.specs.Private.Tables.{first_head, head_count, row_at, told}
+use Rattle.index_file.specs.Private.Tables.{first_head, head_count, row_at}
 use Rattle.index_file.proofs.HeadLists.{places_join, segment_from, segments_length}
 use Rattle.index_file.proofs.RowOrder.{InOrder, rows_in_order}
 

@@ -4,7 +4,7 @@ use Rattle.std.proofs.lemmas.Grind.{flat_map-append}
 use Rattle.std.proofs.lemmas.List.{append-nil}
 use Rattle.index_file.proofs.Below.{OpenRefusal, HeadData, TermHeads, all_heads, greatest_of, ◌>>=◌, HeadsRead, TermsRead, term_in, heads_in, read_heads, read_terms, with_terms, behind_terms}
 use Rattle.index_file.specs.declared.sums.Sums.{Sums}
-use Rattle.index_file.specs.Private.Sums.{AreSums}
+use Rattle.index_file.specs.Sums.{AreSums}
 use Rattle.index_file.specs.declared.term_row.TermRow.{TermRow}
 use Rattle.index_file.specs.declared.span.Span.{Span}
 use Rattle.shared_lemmas.proofs.Places.{slice_stays, slice_new}
@@ -12,7 +12,8 @@ use Rattle.index_layout.proofs.Judging.{judged_ok}
 use Rattle.index_layout.specs.Reading.{segments_place, term_checks, term_end}
 use Rattle.index_file.proofs.RowOrder.{row_below}
 use Rattle.index_file.specs.Private.Payloads.{row_heads}
-use Rattle.index_file.specs.Private.Tables.{IsCounted, IsSpan, HasHeads, RowsFrom, AreRows, first_head, group_count, head_count, heads_from, part_of}
+use Rattle.index_file.specs.Private.Tables.{IsSpan, HasHeads, RowsFrom, AreRows, first_head, group_count, head_count, part_of}
+use Rattle.index_file.specs.Parts.{IsCounted, heads_from}
 
 -- one term more
 pub terms_on : (bytes : List ℕ) (d : ℕ) (total : Result TermsRead OpenRefusal) (front : List TermHeads) (k left : ℕ) (before : Option (List ℕ)) (at place : ℕ) (here : HeadsRead) → total ≡ with_terms front (read_terms bytes d k before at) → k ≡ suc left → term_end bytes before at ≡ Ok place

@@ -4,8 +4,9 @@ use Rattle.std.specs.List.{sum_by}
 use Rattle.index_layout.specs.Reading.{head_in}
 use Rattle.index_file.proofs.Below.{SegmentData, TermData, HeadData, all_heads, head_postings, greatest_of, greatest_impact, greatest_in, term_postings}
 use Rattle.index_file.specs.declared.term_row.TermRow.{TermRow}
-use Rattle.index_file.specs.Private.Payloads.{ArePayloads, IsPayloadAt, IsPlaced, first_payload, payload_place, row_heads, row_terms, segment_in, segments_from}
-use Rattle.index_file.specs.Private.Tables.{first_head, head_count, heads_from, row_at}
+use Rattle.index_file.specs.Private.Payloads.{ArePayloads, IsPlaced, first_payload, payload_place, row_heads, row_terms, segment_in, segments_from}
+use Rattle.index_file.specs.Parts.{heads_from, IsPayloadAt}
+use Rattle.index_file.specs.Private.Tables.{first_head, head_count, row_at}
 use Rattle.index_file.proofs.HeadLists.{heads_more, segments_more}
 
 abbrev count_of : HeadData → ℕ

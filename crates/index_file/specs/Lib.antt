@@ -2,4 +2,7 @@ pub mod Opened
 pub mod Places
 pub mod Giving
 pub mod Opening
+pub mod Parts
+pub mod Marks
+pub mod Sums
 pub mod Private

@@ -1,8 +1,6 @@
 -- Words that no clause of a public call cites: those of this crate's own functions.
-pub mod Marks
 pub mod Opened
 pub mod Payloads
 pub mod Plain
 pub mod Samples
-pub mod Sums
 pub mod Tables

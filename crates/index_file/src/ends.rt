@@ -3,7 +3,7 @@ ghost use Rattle.index_layout.specs.Heads.{TermHeads, all_heads};
 ghost use Rattle.index_layout.specs.Reading.{end_checks};
 ghost use Rattle.index_layout.specs.Refusals.{Answers, judged};
 ghost use Rattle.index_layout.specs.View.{FileView};
-ghost use Rattle.index_file.specs.Private.Sums.{AreSums};
+ghost use Rattle.index_file.specs.Sums.{AreSums};
 
 use crate::number::{u32_at, u64_at};
 use crate::sums::Sums;

@@ -342,7 +342,8 @@ impl IndexFile {
 }
 
 /// The place behind so many payloads, the first of which begins at a place; their heads stand from
-/// another on, and one more head behind them. Without a branch on the number, which no processor foresees.
+/// another on, and one more head behind them. All three sizes are looked at whatever the number, which no
+/// processor foresees.
 #[inline(always)]
 fn place_behind(bytes: &[u8], heads: usize, first: u32, count: usize) -> usize
     requires few { count < 4 }

@@ -6,7 +6,7 @@ ghost use Rattle.index_layout.specs.Layout.{shared_with};
 /// Whether a term that has some bytes of the one before and then its rest is above it, and shares
 /// no more with it.
 #[tactic(auto, using(crate::proofs::NextTerms::follows_is))]
-pub(crate) fn follows(before: &[u8], shared: usize, rest: &[u8]) -> bool
+pub fn follows(before: &[u8], shared: usize, rest: &[u8]) -> bool
     ensures { result ≡ (shared_with before.now (take shared before.now ++ rest.now) == shared
         && is_lt (slice_cmp nat_cmp before.now (take shared before.now ++ rest.now))) }
 {

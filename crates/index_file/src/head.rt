@@ -2,7 +2,7 @@ ghost use Rattle.std.specs.Prelude.{◌≡◌, ◌≤◌, ◌+◌, length, IfOk}
 ghost use Rattle.index_layout.specs.Reading.{head_end, head_in};
 ghost use Rattle.index_layout.specs.Refusals.{Answers};
 ghost use Rattle.jass_base.specs.declared.limits.TheConstants.{LONGEST_FILE};
-ghost use Rattle.index_file.specs.Private.Tables.{IsCounted};
+ghost use Rattle.index_file.specs.Parts.{IsCounted};
 
 use crate::number::{u16_at, u32_at};
 use index_layout::{OpenFault, OpenWhy, refused};

@@ -2,8 +2,8 @@ ghost use Rattle.std.specs.Prelude.{◌≡◌, ◌≤◌, ◌+◌, ◌*◌, ◌+
 ghost use Rattle.index_layout.specs.Heads.{HeadData};
 ghost use Rattle.index_layout.specs.Reading.{read_heads};
 ghost use Rattle.index_layout.specs.Refusals.{Answers};
-ghost use Rattle.index_file.specs.Private.Sums.{AreSums};
-ghost use Rattle.index_file.specs.Private.Tables.{IsCounted, heads_from};
+ghost use Rattle.index_file.specs.Sums.{AreSums};
+ghost use Rattle.index_file.specs.Parts.{IsCounted, heads_from};
 ghost use Rattle.jass_base.specs.declared.limits.TheConstants.{GREATEST_IMPACT, LONGEST_FILE, MOST_DOCUMENTS};
 
 use crate::head::read_head;
@@ -14,7 +14,7 @@ use jass_base::limits::GREATEST_IMPACT;
 /// Checks the heads of a term, so many from a place on, adds them to the sums, and gives the place
 /// behind them.
 #[inline(never)]
-pub(crate) fn read_heads(
+pub fn read_heads(
     sums: &mut Sums,
     bytes: &[u8],
     docs: u32,

@@ -15,6 +15,7 @@ mod name;
 mod names;
 mod number;
 mod opening;
+pub mod parts;
 mod payload;
 mod payloads;
 mod plain;

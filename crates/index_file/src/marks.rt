@@ -1,14 +1,13 @@
 ghost use Rattle.std.specs.Prelude.{◌≡◌, ◌≤◌, ◌<◌, All, false, length};
 ghost use Rattle.index_layout.specs.Reading.{docs_in};
-ghost use Rattle.index_file.specs.Private.Marks.{marked, meets_marked};
-ghost use Rattle.index_file.specs.Private.Payloads.{IsPayloadAt};
-ghost use Rattle.index_file.specs.Private.Tables.{told};
+ghost use Rattle.index_file.specs.Marks.{marked, meets_marked};
+ghost use Rattle.index_file.specs.Parts.{told, IsPayloadAt};
 
 use crate::segment_head::SegmentHead;
 use segment_codecs::SegmentCursor;
 
 /// The mark of the next term, which no document has. Behind the greatest one all marks are taken off.
-pub(crate) fn next_mark(marks: &mut [u16], last: u16) -> u16
+pub fn next_mark(marks: &mut [u16], last: u16) -> u16
     requires { All (λ mark. mark ≤ last) marks.old }
     ensures below { All (λ mark. mark < result) marks.new }
     ensures count { length marks.new ≡ length marks.old }

@@ -1,7 +1,7 @@
 ghost use Rattle.std.specs.List.{list_all};
 ghost use Rattle.std.specs.Str.{is_utf8};
 ghost use Rattle.std.specs.Prelude.{nat_lt, not, ◌&&◌, ◌==◌, ◌≡◌, ◌≤◌, ◌<◌, ◌+◌, length, IfOk};
-ghost use Rattle.index_file.specs.Private.Tables.{IsNamePlace};
+ghost use Rattle.index_file.specs.Parts.{IsNamePlace};
 ghost use Rattle.index_layout.specs.Reading.{is_name_text, name_end};
 ghost use Rattle.index_layout.specs.Refusals.{Answers};
 ghost use Rattle.jass_base.specs.declared.limits.TheConstants.{LONGEST_FILE};
@@ -13,7 +13,7 @@ use jass_base::limits::LONGEST_NAME;
 
 /// The place behind the name whose length stands at a place.
 #[tactic(auto, unfolding(index_layout::specs::Reading::name_end, index_layout::specs::Reading::name_checks, index_layout::specs::Reading::name_in))]
-pub(crate) fn name_end(bytes: &[u8], at: usize) -> Result<usize, OpenFault>
+pub fn name_end(bytes: &[u8], at: usize) -> Result<usize, OpenFault>
     requires at { at ≤ length bytes.now }
     requires few { length bytes.now ≤ LONGEST_FILE }
     ensures exact { Answers (λ next. next) result (name_end bytes.now at) }

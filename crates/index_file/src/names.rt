@@ -2,7 +2,7 @@ ghost use Rattle.std.specs.Prelude.{◌≡◌, ◌≤◌, length, map, All, IfOk
 ghost use Rattle.index_layout.specs.Reading.{name_in, read_names};
 ghost use Rattle.index_layout.specs.Refusals.{Answers};
 ghost use Rattle.jass_base.specs.declared.limits.TheConstants.{LONGEST_FILE};
-ghost use Rattle.index_file.specs.Private.Tables.{IsNamePlace};
+ghost use Rattle.index_file.specs.Parts.{IsNamePlace};
 
 use crate::name::name_end;
 use index_layout::OpenFault;

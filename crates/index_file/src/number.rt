@@ -4,7 +4,7 @@ ghost use Rattle.index_layout.specs.Bytes.{u16_in, u32_in, u64_in};
 /// The number of 16 bits at a place.
 #[tactic(auto, unfolding(index_layout::specs::Bytes::u16_in))]
 #[inline(always)]
-pub(crate) fn u16_at(bytes: &[u8], at: usize) -> u16
+pub fn u16_at(bytes: &[u8], at: usize) -> u16
     requires { at + 2 ≤ length bytes.now }
     ensures { result ≡ u16_in bytes.now at }
 {
@@ -14,7 +14,7 @@ pub(crate) fn u16_at(bytes: &[u8], at: usize) -> u16
 /// The number of 32 bits at a place.
 #[tactic(auto, unfolding(index_layout::specs::Bytes::u32_in))]
 #[inline(always)]
-pub(crate) fn u32_at(bytes: &[u8], at: usize) -> u32
+pub fn u32_at(bytes: &[u8], at: usize) -> u32
     requires { at + 4 ≤ length bytes.now }
     ensures { result ≡ u32_in bytes.now at }
 {
@@ -24,7 +24,7 @@ pub(crate) fn u32_at(bytes: &[u8], at: usize) -> u32
 /// The number of 64 bits at a place.
 #[tactic(auto, unfolding(index_layout::specs::Bytes::u64_in))]
 #[inline(always)]
-pub(crate) fn u64_at(bytes: &[u8], at: usize) -> u64
+pub fn u64_at(bytes: &[u8], at: usize) -> u64
     requires { at + 8 ≤ length bytes.now }
     ensures { result ≡ u64_in bytes.now at }
 {

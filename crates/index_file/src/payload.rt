@@ -1,10 +1,9 @@
 ghost use Rattle.std.specs.Prelude.{ℕ, ◌≡◌, ◌≤◌, ◌<◌, ◌+◌, ◌^◌, ◌++◌, List, [], length, take, IfOk};
 ghost use Rattle.index_layout.specs.Reading.{docs_in, payload_end};
 ghost use Rattle.index_layout.specs.Refusals.{Answers};
-ghost use Rattle.index_file.specs.Private.Marks.{AreMarks};
+ghost use Rattle.index_file.specs.Marks.{AreMarks};
 ghost use Rattle.jass_base.specs.declared.limits.TheConstants.{LONGEST_FILE, MOST_DOCUMENTS};
-ghost use Rattle.index_file.specs.Private.Payloads.{IsPayloadAt};
-ghost use Rattle.index_file.specs.Private.Tables.{told};
+ghost use Rattle.index_file.specs.Parts.{told, IsPayloadAt};
 
 use crate::marks::{mark_docs, mark_payload};
 use crate::segment_head::SegmentHead;
@@ -74,8 +73,9 @@ fn check_into_block(
 }
 
 /// The same as `check_payload` behind earlier segments of the term, whose documents are marked: it
-/// may have none of these. Its own are marked too.
-pub(crate) fn check_apart(
+/// may have none of these. Its own are marked too. Inlined, since most segments have one document.
+#[inline(always)]
+pub fn check_apart(
     bytes: &[u8],
     docs: u32,
     head: SegmentHead,

@@ -2,7 +2,7 @@ ghost use Rattle.std.specs.Prelude.{◌≡◌, ◌≤◌, ◌<◌, ◌+◌, leng
 ghost use Rattle.std.specs.Option.{unwrap_or};
 ghost use Rattle.index_layout.specs.Reading.{head_in};
 ghost use Rattle.segment_codecs.specs.Codecs.{codec_of};
-ghost use Rattle.index_file.specs.Private.Tables.{told};
+ghost use Rattle.index_file.specs.Parts.{told};
 
 use crate::number::{u16_at, u32_at};
 use segment_codecs::Codec;
@@ -10,11 +10,11 @@ use segment_codecs::Codec;
 /// The head of a segment: its impact, how many documents, and the codec and size of its payload in
 /// bytes.
 #[derive(Clone, Copy)]
-pub(crate) struct SegmentHead {
-    pub(crate) impact: u16,
-    pub(crate) codec: Codec,
-    pub(crate) count: u32,
-    pub(crate) size: u32,
+pub struct SegmentHead {
+    pub impact: u16,
+    pub codec: Codec,
+    pub count: u32,
+    pub size: u32,
 }
 
 /// A head, and where the payload of its segment begins in the file.
@@ -27,7 +27,7 @@ pub(crate) struct PlacedHead {
 /// The head at a place. An unknown codec is none of a checked file.
 #[tactic(auto, unfolding(index_layout::specs::Reading::head_in))]
 #[inline(always)]
-pub(crate) fn head_of(bytes: &[u8], at: usize) -> SegmentHead
+pub fn head_of(bytes: &[u8], at: usize) -> SegmentHead
     requires { at + 11 ≤ length bytes.now }
     ensures { told result ≡ head_in bytes.now at }
 {

@@ -66,7 +66,7 @@ fn append_term(
 }
 
 /// Whether bytes are the text of a term.
-fn is_term_text(bytes: &[u8]) -> bool
+pub fn is_term_text(bytes: &[u8]) -> bool
     ensures { result ≡ (nat_le (length bytes.now) LONGEST_TERM && is_utf8 bytes.now) }
 {
     bytes.len() <= LONGEST_TERM && (is_plain(bytes) || is_text(bytes))

@@ -3,7 +3,7 @@ ghost use Rattle.index_layout.specs.Reading.{read_segments};
 ghost use Rattle.index_layout.specs.Refusals.{Answers};
 ghost use Rattle.jass_base.specs.declared.limits.TheConstants.{LONGEST_FILE, MOST_DOCUMENTS};
 ghost use Rattle.index_file.specs.Private.Payloads.{AreGroups, ArePayloads, segments_from};
-ghost use Rattle.index_file.specs.Private.Tables.{IsCounted, heads_from};
+ghost use Rattle.index_file.specs.Parts.{IsCounted, heads_from};
 
 use crate::payload::{check_apart, check_payload};
 use crate::segment_head::head_of;

@@ -3,7 +3,7 @@ ghost use Rattle.index_layout.specs.Heads.{all_heads};
 ghost use Rattle.index_layout.specs.Reading.{read_terms};
 ghost use Rattle.index_layout.specs.Refusals.{Answers};
 ghost use Rattle.index_file.specs.Private.Payloads.{row_heads};
-ghost use Rattle.index_file.specs.Private.Sums.{AreSums};
+ghost use Rattle.index_file.specs.Sums.{AreSums};
 ghost use Rattle.index_file.specs.Private.Tables.{AreRows};
 ghost use Rattle.jass_base.specs.declared.limits.TheConstants.{LONGEST_FILE, MOST_DOCUMENTS};
 

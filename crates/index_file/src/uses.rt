@@ -5,7 +5,8 @@ ghost use Rattle.index_layout.specs.Heads.{HeadData};
 ghost use Rattle.index_layout.specs.Reading.{head_codecs};
 ghost use Rattle.index_file.specs.Places.{all_codecs, uses_of};
 ghost use Rattle.index_file.specs.Private.Payloads.{row_heads};
-ghost use Rattle.index_file.specs.Private.Tables.{AreRows, heads_from};
+ghost use Rattle.index_file.specs.Private.Tables.{AreRows};
+ghost use Rattle.index_file.specs.Parts.{heads_from};
 
 use crate::number::u32_at;
 use crate::segment_head::head_of;

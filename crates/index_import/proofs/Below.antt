@@ -1,5 +1,5 @@
 -- The names of the crates below that many proofs of this crate cite, passed on from one place. Declares nothing.
-pub use Rattle.ciff_read.proofs.Told.{for_all, for_both, for_one, for_pair}
+pub use Rattle.whole_files.proofs.Told.{for_all, for_both, for_one, for_pair}
 pub use Rattle.ciff_read.specs.Assembling.{Assembles, IsKeptList, Parts, by_number, collection_of, only_header, with_piece}
 pub use Rattle.ciff_read.specs.Given.{Advances, GivesPiece, GivesTold, PieceRanges, piece_data}
 pub use Rattle.ciff_read.specs.Judging.{NumberedDoc, is_among, numbers_of}
@@ -10,7 +10,7 @@ pub use Rattle.ciff_read.specs.Reading.{Message, list_at, read_ciff}
 pub use Rattle.ciff_read.specs.Refusals.{◌>>=◌}
 pub use Rattle.ciff_read.specs.Seen.{is_seen}
 pub use Rattle.ciff_read.specs.Walk.{Begins, HasKept, IsListAt, Keeps, KeepsRanges, LeavesWalk, StandsFor, StandsTold, WalkView, kept_of}
-pub use Rattle.ciff_read.specs.Window.{AreFrom}
+pub use Rattle.whole_files.specs.Windows.{AreFrom}
 pub use Rattle.ciff_read.specs.declared.piece.Piece.{Piece}
 pub use Rattle.ciff_read.specs.declared.refusal.CiffFault.{CiffFault}
 pub use Rattle.ciff_read.specs.declared.refusal.CiffRefusal.{CiffRefusal}

@@ -3,7 +3,7 @@ ghost use Rattle.jass_top.specs.CheckMeaning.{check_meaning};
 ghost use Rattle.jass_top.specs.Private.Causes.{Runs};
 ghost use Rattle.jass_top.specs.Worlds.{outer};
 
-use crate::index_input::open_index;
+use crate::index_input::check_index;
 use crate::stop::{OUTPUT, Stop};
 use jass_base::{Cabinet, Sink};
 use std::alloc::Global;
@@ -20,8 +20,8 @@ pub fn run_check<'a, C: Cabinet, O: Sink>(
         (outer C.Cabinet O.Sink files.old out.old steps)
         (outer C.Cabinet O.Sink files.new out.new steps) result }
 {
-    let file = open_index(alloc, files, index)?;
-    match put_totals(out, file.totals()) {
+    let totals = check_index(alloc, files, index)?;
+    match put_totals(out, totals) {
         Ok(()) => Ok(()),
         Err(_) => Err(Stop::WriteFault { name: OUTPUT }),
     }

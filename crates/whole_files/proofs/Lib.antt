@@ -1,1 +1,3 @@
-mod Fronts
+pub mod Fronts
+pub mod Told
+pub mod Windows

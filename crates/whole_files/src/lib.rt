@@ -1,7 +1,9 @@
 #![tactic(auto)]
 
-//! The front of a file, read from a cabinet into memory.
+//! Files of a cabinet: the front of one read into memory, and a window that moves over one.
 
 mod front;
+mod window;
 
 pub use front::read_front;
+pub use window::Window;

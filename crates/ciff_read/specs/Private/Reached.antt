@@ -8,7 +8,7 @@ use Rattle.jass_base.specs.declared.doc_record.DocRecord.{DocRecord}
 use Rattle.ciff_read.specs.declared.file_head.FileHead.{FileHead}
 use Rattle.ciff_read.specs.declared.refusal.CiffRefusal.{CiffRefusal}
 use Rattle.ciff_read.specs.declared.refusal.CiffFault.{CiffFault}
-use Rattle.ciff_read.specs.declared.window.Window.{Window}
+use Rattle.whole_files.specs.declared.window.Window.{Window}
 use Rattle.ciff_read.specs.declared.kept_lists.KeptLists.{KeptLists}
 use Rattle.ciff_read.specs.declared.doc_set.DocSet.{DocSet}
 use Rattle.ciff_read.specs.Judging.{is_among}
@@ -18,7 +18,7 @@ use Rattle.ciff_read.specs.Pieces.{FileHeader, ListInFile, DocInFile, header_of_
 use Rattle.ciff_read.specs.Private.KeptEntries.{terms_in}
 use Rattle.ciff_read.specs.Private.Places.{start_data}
 use Rattle.ciff_read.specs.Reaching.{FailsReading}
-use Rattle.ciff_read.specs.Private.Window.{Shows}
+use Rattle.whole_files.specs.Windows.{Shows}
 
 -- what a function answers, seen by view, is what reading gives; a read fault or want of memory may come instead
 abbrev pub GivesReading : {X Y : Type 0} → (X → Y) → Result X CiffFault → Result Y CiffRefusal → Type 0

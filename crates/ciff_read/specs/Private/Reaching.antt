@@ -4,9 +4,9 @@ use Rattle.jass_base.specs.Outside.{Files, ForContent}
 use Rattle.wire_fields.specs.Reading.{varint_at}
 use Rattle.ciff_read.specs.declared.body.Body.{Body}
 use Rattle.ciff_read.specs.declared.refusal.CiffFault.{CiffFault}
-use Rattle.ciff_read.specs.declared.window.Window.{Window}
+use Rattle.whole_files.specs.declared.window.Window.{Window}
 use Rattle.ciff_read.specs.Reading.{Message, message_at}
-use Rattle.ciff_read.specs.Private.Window.{Shows}
+use Rattle.whole_files.specs.Windows.{Shows}
 use Rattle.ciff_read.specs.Reaching.{FailsReading}
 
 -- the length of the message at a place, and the place behind it

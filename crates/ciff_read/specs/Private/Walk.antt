@@ -9,7 +9,7 @@ use Rattle.jass_base.specs.declared.postings_list.PostingsList.{PostingsList}
 use Rattle.jass_base.specs.declared.doc_record.DocRecord.{DocRecord}
 use Rattle.ciff_read.specs.Private.Reached.{GivesReading, MarksOf}
 use Rattle.ciff_read.specs.Reading.{at_end}
-use Rattle.ciff_read.specs.Window.{AreFrom}
+use Rattle.whole_files.specs.Windows.{AreFrom}
 use Rattle.jass_base.specs.declared.limits.TheConstants.{LONGEST_FILE, MOST_DOCUMENTS, MOST_POSTINGS, MOST_TERMS}
 use Rattle.ciff_read.specs.Walk.{WalkView}
 

@@ -7,7 +7,8 @@ use Rattle.index_layout.specs.View.{FileView, IsFileView, file_bytes, index_post
 use Rattle.index_file.specs.declared.term_row.TermRow.{TermRow}
 use Rattle.index_file.specs.Private.Payloads.{IsPlaced, row_heads, row_terms}
 use Rattle.index_file.specs.Private.Samples.{AreSamples}
-use Rattle.index_file.specs.Private.Tables.{IsNamePlace, AreRows, row_at}
+use Rattle.index_file.specs.Private.Tables.{AreRows, row_at}
+use Rattle.index_file.specs.Parts.{IsNamePlace}
 
 -- the tables tell where the parts of the view stand in the bytes
 pub record Stands (bytes places text : List ℕ) (rows : List TermRow) (groups : List ℕ) (v : FileView) : Type 0 where

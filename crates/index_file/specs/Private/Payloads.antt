@@ -1,13 +1,12 @@
 -- What the tables of an opened file tell of its terms and their segments.
 use Rattle.std.specs.Prelude.{ℕ, ◌≡◌, ◌+◌, ◌*◌, ◌≤◌, ◌<◌, List, [], ◌∷◌, length, map, slice_index, slice_range, sum_by}
 use Rattle.std.specs.List.{range_with_len}
-use Rattle.jass_base.specs.Gaps.{AreDocs}
-use Rattle.segment_codecs.specs.Codecs.{payload_of}
 use Rattle.index_model.specs.Index.{SegmentData, TermData}
 use Rattle.index_layout.specs.Heads.{HeadData, TermHeads}
 use Rattle.index_layout.specs.Reading.{docs_in, head_in}
 use Rattle.index_file.specs.declared.term_row.TermRow.{TermRow}
-use Rattle.index_file.specs.Private.Tables.{first_head, group_count, head_count, heads_from}
+use Rattle.index_file.specs.Private.Tables.{first_head, group_count, head_count}
+use Rattle.index_file.specs.Parts.{heads_from, IsPayloadAt}
 
 -- where the payload of the segment with a number begins, of a term whose first head and payload stand at two places:
 -- behind the payloads of the segments before, whose sizes their heads tell
@@ -25,13 +24,6 @@ segment_in bytes d head at = record {
 abbrev pub segments_from : List ℕ → ℕ → ℕ → ℕ → ℕ → List SegmentData
 segments_from bytes d k head at =
     map (λ s. segment_in bytes d (head + 11 * s) (payload_place bytes head at s)) (range_with_len 0 k)
-
--- the payload of a head at a place lies in the bytes, and spells its documents
-pub record IsPayloadAt (bytes : List ℕ) (d : ℕ) (h : HeadData) (at : ℕ) : Type 0 where
-  pub within : at + h.size ≤ length bytes
-  pub docs : AreDocs d (docs_in bytes d h at)
-  pub count : length (docs_in bytes d h at) ≡ h.count
-  pub spelled : slice_range bytes at (at + h.size) ≡ payload_of h.codec d (docs_in bytes d h at)
 
 -- the same of so many heads
 abbrev pub ArePayloads : List ℕ → ℕ → ℕ → ℕ → ℕ → Type 0

@@ -1,28 +1,10 @@
 -- What the tables of an opened file say of its bytes.
-use Rattle.std.specs.Prelude.{ℕ, ◌≡◌, ◌+◌, ◌*◌, ◌/◌, ◌≤◌, List, [], ◌∷◌, All, length, map, Option, Some, None, slice_range}
-use Rattle.std.specs.List.{range_with_len, slice_index_or}
+use Rattle.std.specs.Prelude.{ℕ, ◌≡◌, ◌+◌, ◌*◌, ◌/◌, ◌≤◌, List, [], ◌∷◌, All, length, Option, Some, None, slice_range}
+use Rattle.std.specs.List.{slice_index_or}
 use Rattle.index_file.specs.declared.span.Span.{Span}
 use Rattle.index_file.specs.declared.term_row.TermRow.{TermRow}
 use Rattle.index_layout.specs.Bytes.{u32_in}
-use Rattle.index_layout.specs.Heads.{HeadData}
-use Rattle.index_layout.specs.Reading.{head_in}
-use Rattle.index_file.specs.declared.segment_head.SegmentHead.{SegmentHead}
-
--- the name whose length stands at a place lies in the bytes
-abbrev pub IsNamePlace : List ℕ → ℕ → Type 0
-IsNamePlace bytes at = at + 4 + u32_in bytes at ≤ length bytes
-
--- a head that was read
-abbrev pub told : SegmentHead → HeadData
-told h = record { impact = h.impact; count = h.count; codec = h.codec; size = h.size }
-
--- a head of a segment has a document or more, and at most d
-abbrev pub IsCounted : ℕ → HeadData → Type 0
-IsCounted d h = (1 ≤ h.count) × (h.count ≤ d)
-
--- so many heads that stand one after the other, 11 bytes each, from a place on
-abbrev pub heads_from : List ℕ → ℕ → ℕ → List HeadData
-heads_from bytes k at = map (λ s. head_in bytes (at + 11 * s)) (range_with_len 0 k)
+use Rattle.index_file.specs.Parts.{IsCounted, heads_from}
 
 -- how many heads the term of a row has, and where the first stands: behind their number
 abbrev pub head_count : List ℕ → TermRow → ℕ

@@ -9,7 +9,7 @@ use Rattle.ciff_read.specs.Reading.{doc_at}
 use Rattle.ciff_read.specs.Private.Recording.{recorded, numbered_as}
 use Rattle.ciff_read.proofs.Answering.{fails_as}
 use Rattle.ciff_read.proofs.HeldParts.{refusal_of, not_not, placed_place, doc_given, doc_not, cut_end, not_read_fault, err_is}
-use Rattle.ciff_read.proofs.Told.{for_one}
+use Rattle.whole_files.proofs.Told.{for_one}
 use Rattle.ciff_read.proofs.reached_doc.reach_doc.Goals as goal
 
 pub fault_in_file-requires : goal.fault_in_file-requires

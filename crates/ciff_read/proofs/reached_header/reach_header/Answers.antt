@@ -1,6 +1,6 @@
 use Rattle.ciff_read.specs.Private.Places.{start_data}
 use Rattle.ciff_read.proofs.HeldParts.{header_given, header_not}
-use Rattle.ciff_read.proofs.Told.{for_one}
+use Rattle.whole_files.proofs.Told.{for_one}
 use Rattle.ciff_read.proofs.reached_header.reach_header.Goals as goal
 
 pub returns-in-Ok-clause-exact : goal.returns-in-Ok-clause-exact

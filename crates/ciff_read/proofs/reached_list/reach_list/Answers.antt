@@ -12,7 +12,7 @@ use Rattle.ciff_read.specs.Reading.{list_at}
 use Rattle.ciff_read.proofs.Answering.{fails_as}
 use Rattle.ciff_read.proofs.HeldParts.{refusal_of, not_not, list_given, list_not, cut_end, not_read_fault, err_is}
 use Rattle.ciff_read.proofs.Plain.{plain_in_file}
-use Rattle.ciff_read.proofs.Told.{for_one}
+use Rattle.whole_files.proofs.Told.{for_one}
 use Rattle.ciff_read.proofs.reached_list.reach_list.Goals as goal
 
 pub fault_in_file-requires : goal.fault_in_file-requires

@@ -1,8 +1,8 @@
 use Rattle.std.proofs.Common.{ℕ, ◌+◌, ◌-◌, ◌^◌, ◌<◌, Option, subst, refl, arith}
 use Rattle.jass_base.specs.Outside.{Files, ForContent}
-use Rattle.ciff_read.specs.Private.Window.{Shows, Reaches}
+use Rattle.whole_files.specs.Windows.{Shows, Reaches}
 use Rattle.ciff_read.proofs.HeldFiles.{message_past, message_not, message_ok}
-use Rattle.ciff_read.proofs.Told.{for_one, for_both, for_pair}
+use Rattle.whole_files.proofs.Told.{for_one, for_both, for_pair}
 use Rattle.ciff_read.proofs.reaching.reach_message.Goals as goal
 use Rattle.ciff_read.proofs.reaching.reach_message.Goals.{then-from-gt-LONGEST_FILE-via-then-from-gt-LONGEST_FILE, then-from-gt-LONGEST_FILE-via-else-from-gt-LONGEST_FILE+then-size-from}
 

@@ -1,5 +1,5 @@
 use Rattle.ciff_read.proofs.HeldFiles.{size_ok, size_not}
-use Rattle.ciff_read.proofs.Told.{for_one, for_both}
+use Rattle.whole_files.proofs.Told.{for_one, for_both}
 use Rattle.ciff_read.proofs.reaching.reach_size.Goals as goal
 
 pub returns-in-Ok-read_varint-clause-exact : goal.returns-in-Ok-read_varint-clause-exact

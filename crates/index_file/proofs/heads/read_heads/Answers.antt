@@ -2,9 +2,9 @@ use Rattle.shared_lemmas.proofs.Common.{◌≡◌, ◌+◌, ◌-◌, suc, List, 
 use Rattle.index_layout.specs.Reading.{head_in}
 use Rattle.index_file.proofs.Below.{HeadData, read_heads, with_heads, heads_on}
 use Rattle.index_file.proofs.HeadLists.{heads_more}
-use Rattle.index_file.specs.Private.Tables.{IsCounted, heads_from}
+use Rattle.index_file.specs.Parts.{IsCounted, heads_from}
 use Rattle.index_file.specs.declared.sums.Sums.{Sums}
-use Rattle.index_file.specs.Private.Sums.{AreSums}
+use Rattle.index_file.specs.Sums.{AreSums}
 use Rattle.index_file.proofs.TermRows.{sums_push}
 use Rattle.index_file.proofs.heads.read_heads.Goals as goal
 

@@ -1,7 +1,7 @@
 use Rattle.std.proofs.Common.{◌≡◌, ◌+◌, ◌-◌, ◌*◌, ◌^◌, ◌≤◌, ◌++◌, List, length, All}
 use Rattle.index_file.proofs.Below.{read_heads, HeadData, with_heads}
-use Rattle.index_file.specs.Private.Sums.{AreSums}
-use Rattle.index_file.specs.Private.Tables.{IsCounted, heads_from}
+use Rattle.index_file.specs.Sums.{AreSums}
+use Rattle.index_file.specs.Parts.{IsCounted, heads_from}
 use Rattle.index_file.proofs.heads.read_heads.Given as goal
 
 abbrev pub invariant-heads : goal.invariant-heads

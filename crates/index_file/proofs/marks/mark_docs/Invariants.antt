@@ -1,5 +1,5 @@
 use Rattle.std.proofs.Common.{◌≡◌, drop, length}
-use Rattle.index_file.specs.Private.Marks.{marked, meets_marked}
+use Rattle.index_file.specs.Marks.{marked, meets_marked}
 use Rattle.index_file.proofs.marks.mark_docs.Given as goal
 
 abbrev pub invariant-docs : goal.invariant-docs

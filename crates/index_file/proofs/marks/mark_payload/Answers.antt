@@ -1,5 +1,5 @@
 use Rattle.shared_lemmas.proofs.Common.{◌<◌, ◌-◌, drop, ap, sym, ◌∙◌, arith, length-drop, All-drop}
-use Rattle.index_file.specs.Private.Marks.{marked, meets_marked}
+use Rattle.index_file.specs.Marks.{marked, meets_marked}
 use Rattle.index_file.proofs.MarkLists.{block_met, block_passed, block_marked}
 use Rattle.index_file.proofs.marks.mark_payload.Goals as goal
 

@@ -1,6 +1,6 @@
 use Rattle.std.proofs.Common.{◌+◌, slice_range}
 use Rattle.index_file.proofs.Below.{Gives, docs_in}
-use Rattle.index_file.specs.Private.Tables.{told}
+use Rattle.index_file.specs.Parts.{told}
 use Rattle.index_file.proofs.MarkLists.{Left}
 use Rattle.index_file.proofs.marks.mark_payload.Given as goal
 

@@ -1,6 +1,6 @@
 use Rattle.shared_lemmas.proofs.Common.{length, arith, ◌≡◌, ◌+◌, ◌-◌, suc, ap, sym, ◌∙◌, map, List, ℕ, ◌∷◌, [], subst, All, map_push, length-append, All-push}
 use Rattle.index_layout.specs.Reading.{read_names, name_in}
-use Rattle.index_file.specs.Private.Tables.{IsNamePlace}
+use Rattle.index_file.specs.Parts.{IsNamePlace}
 use Rattle.index_file.proofs.Sequences.{with_names, names_on}
 use Rattle.index_file.proofs.names.read_names.Goals as goal
 

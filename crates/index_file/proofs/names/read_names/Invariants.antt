@@ -1,6 +1,6 @@
 use Rattle.std.proofs.Common.{◌≡◌, ◌-◌, ◌≤◌, length, map, All}
 use Rattle.index_layout.specs.Reading.{read_names, name_in}
-use Rattle.index_file.specs.Private.Tables.{IsNamePlace}
+use Rattle.index_file.specs.Parts.{IsNamePlace}
 use Rattle.index_file.proofs.Sequences.{with_names}
 use Rattle.index_file.proofs.names.read_names.Given as goal
 

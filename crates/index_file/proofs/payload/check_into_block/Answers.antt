@@ -1,6 +1,6 @@
 use Rattle.std.proofs.Common.{◌≡◌, ◌+◌, ◌≤◌, ℕ, List, [], length, take, Result, Ok, Err, sym, subst, arith}
 use Rattle.index_file.proofs.Below.{PayloadFault, read_payload, payload_end, Fails}
-use Rattle.index_file.specs.Private.Tables.{told}
+use Rattle.index_file.specs.Parts.{told}
 use Rattle.index_file.proofs.OnePayload.{payload_cut, payload_not, payload_alone, payload_read, docs_read, front_is, front_judged}
 use Rattle.index_file.proofs.payload.check_into_block.Goals as goal
 

@@ -1,7 +1,7 @@
 use Rattle.std.proofs.Common.{◌+◌, ◌++◌, true, false, sym, subst, ◌≡◌, Err, rules}
 use Rattle.index_file.proofs.Below.{docs_in, payload_end, Fails}
-use Rattle.index_file.specs.Private.Marks.{AreMarks}
-use Rattle.index_file.specs.Private.Tables.{told}
+use Rattle.index_file.specs.Marks.{AreMarks}
+use Rattle.index_file.specs.Parts.{told}
 use Rattle.index_file.proofs.MarkLists.{marked_are}
 use Rattle.index_file.proofs.OnePayload.{payload_fails, apart_end}
 use Rattle.index_file.proofs.payload.check_many.Goals as goal

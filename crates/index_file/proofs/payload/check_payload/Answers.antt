@@ -1,6 +1,6 @@
 use Rattle.std.proofs.Common.{[], sym, subst, arith}
 use Rattle.index_file.proofs.Below.{payload_end, Fails}
-use Rattle.index_file.specs.Private.Tables.{told}
+use Rattle.index_file.specs.Parts.{told}
 use Rattle.index_file.proofs.OnePayload.{payload_cut, payload_not, payload_alone, payload_read}
 use Rattle.index_file.proofs.payload.check_payload.Goals as goal
 

@@ -1,7 +1,8 @@
 use Rattle.shared_lemmas.proofs.Common.{◌≡◌, ◌+◌, ◌<◌, ℕ, Err, Ok, [], drop, length, take, inl, inr, sym, subst, ◌∙◌, arith, cases_lt, rules}
 use Rattle.index_layout.specs.Reading.{read_payloads, read_segments}
 use Rattle.index_file.specs.Private.Payloads.{AreGroups, ArePayloads, IsPlaced, row_heads, row_terms, segments_from}
-use Rattle.index_file.specs.Private.Tables.{HasHeads, first_head, head_count, heads_from, row_at}
+use Rattle.index_file.specs.Private.Tables.{HasHeads, first_head, head_count, row_at}
+use Rattle.index_file.specs.Parts.{heads_from}
 use Rattle.index_file.proofs.RowLists.{index_next, index_not, placed_stays, row_placed}
 use Rattle.index_file.proofs.RowOrder.{rows_in_order}
 use Rattle.index_file.proofs.payloads.read_payloads.Goals as goal

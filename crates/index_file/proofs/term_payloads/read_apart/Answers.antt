@@ -1,9 +1,9 @@
 use Rattle.shared_lemmas.proofs.Common.{◌≡◌, ◌+◌, ◌*◌, ◌++◌, [], ◌∷◌, Ok, Err, Result, rules, ap, sym, subst, ◌∙◌, arith, drop, flat_map}
 use Rattle.index_layout.specs.Reading.{head_in}
 use Rattle.index_file.proofs.Below.{HeadData, OpenRefusal, SegmentsRead, docs_in, payload_end, read_segments, with_segments}
-use Rattle.index_file.specs.Private.Marks.{AreMarks}
-use Rattle.index_file.specs.Private.Payloads.{IsPayloadAt, segment_in, segments_from}
-use Rattle.index_file.specs.Private.Tables.{IsCounted, heads_from, told}
+use Rattle.index_file.specs.Marks.{AreMarks}
+use Rattle.index_file.specs.Private.Payloads.{segment_in, segments_from}
+use Rattle.index_file.specs.Parts.{told, IsCounted, heads_from, IsPayloadAt}
 use Rattle.index_file.proofs.HeadLists.{place_more, segments_more}
 use Rattle.index_file.proofs.SegmentLists.{KeptGroups, all_docs, counted_there, docs_of, groups_pushed, groups_stay, heads_left, payloads_on, segments_end, segments_not, segments_on}
 use Rattle.index_file.proofs.term_payloads.read_apart.Goals.{then-i-eq0+in-Ok, else-i-eq0}

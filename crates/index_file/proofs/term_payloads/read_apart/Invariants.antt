@@ -1,8 +1,8 @@
 use Rattle.std.proofs.Common.{◌≡◌, ◌≤◌, ◌++◌, [], length, drop, flat_map}
 use Rattle.index_file.proofs.Below.{read_segments, with_segments}
-use Rattle.index_file.specs.Private.Marks.{AreMarks}
+use Rattle.index_file.specs.Marks.{AreMarks}
 use Rattle.index_file.specs.Private.Payloads.{AreGroups, ArePayloads, payload_place, segments_from}
-use Rattle.index_file.specs.Private.Tables.{heads_from}
+use Rattle.index_file.specs.Parts.{heads_from}
 use Rattle.index_file.proofs.SegmentLists.{docs_of}
 use Rattle.index_file.proofs.term_payloads.read_apart.Given as goal
 

@@ -2,7 +2,7 @@ use Rattle.shared_lemmas.proofs.Common.{◌≡◌, ◌+◌, ◌*◌, [], ◌∷�
 use Rattle.index_layout.specs.Reading.{head_in}
 use Rattle.index_file.proofs.Below.{OpenRefusal, SegmentsRead, payload_end, read_segments}
 use Rattle.index_file.specs.Private.Payloads.{segment_in}
-use Rattle.index_file.specs.Private.Tables.{heads_from}
+use Rattle.index_file.specs.Parts.{heads_from}
 use Rattle.index_file.proofs.HeadLists.{place_first}
 use Rattle.index_file.proofs.SegmentLists.{no_segments, segments_on}
 use Rattle.index_file.proofs.term_payloads.read_only.Goals as goal

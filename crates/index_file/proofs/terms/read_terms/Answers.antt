@@ -3,7 +3,8 @@ use Rattle.index_file.proofs.Below.{OpenRefusal, TermHeads, HeadsRead, TermsRead
 use Rattle.index_file.specs.declared.span.Span.{Span}
 use Rattle.index_file.specs.declared.term_row.TermRow.{TermRow}
 use Rattle.index_file.specs.Private.Payloads.{row_heads}
-use Rattle.index_file.specs.Private.Tables.{HasHeads, before_in, first_head, group_count, head_count, heads_from}
+use Rattle.index_file.specs.Private.Tables.{HasHeads, before_in, first_head, group_count, head_count}
+use Rattle.index_file.specs.Parts.{heads_from}
 use Rattle.index_file.proofs.TermRows.{closed, end_behind, has_heads, rows_next, terms_end, terms_on}
 use Rattle.index_file.proofs.terms.read_terms.Goals as goal
 

@@ -2,7 +2,7 @@ use Rattle.std.proofs.Common.{◌≡◌, ◌-◌, ◌≤◌, ◌<◌, ◌*◌, �
 use Rattle.index_file.proofs.Below.{all_heads, read_terms, with_terms}
 use Rattle.index_file.proofs.TermRows.{closed}
 use Rattle.index_file.specs.Private.Payloads.{row_heads}
-use Rattle.index_file.specs.Private.Sums.{AreSums}
+use Rattle.index_file.specs.Sums.{AreSums}
 use Rattle.index_file.specs.Private.Tables.{IsSpan, AreRows, before_in}
 use Rattle.index_file.proofs.terms.read_terms.Given as goal
 

@@ -3,7 +3,7 @@ use Rattle.segment_codecs.specs.Codecs.{codec_number}
 use Rattle.segment_codecs.specs.declared.codec.Codec.{Codec}
 use Rattle.index_layout.specs.Heads.{HeadData}
 use Rattle.index_file.specs.Places.{uses_of}
-use Rattle.index_file.specs.Private.Tables.{heads_from}
+use Rattle.index_file.specs.Parts.{heads_from}
 use Rattle.index_file.proofs.uses.add_uses.Given as goal
 
 abbrev pub invariant-heads : goal.invariant-heads

@@ -1,5 +1,5 @@
 -- The list is the one there, and has as many postings as before.
-use Rattle.ciff_read.proofs.Told.{for_one}
+use Rattle.whole_files.proofs.Told.{for_one}
 use Rattle.index_import.proofs.Ready.{list_there_is, one_count}
 use Rattle.index_import.proofs.reading.read_again.Goals as goal
 

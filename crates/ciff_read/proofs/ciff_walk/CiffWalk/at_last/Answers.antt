@@ -2,11 +2,11 @@ use Rattle.std.proofs.Common.{◌<◌, List, ℕ, length, length-drop, Option, E
 use Rattle.jass_base.specs.Outside.{Files}
 use Rattle.ciff_read.specs.Walk.{WalkView}
 use Rattle.ciff_read.specs.Private.Walk.{EndGiven}
-use Rattle.ciff_read.specs.Window.{AreFrom}
-use Rattle.ciff_read.specs.Private.Window.{StaysShown}
+use Rattle.whole_files.specs.Windows.{AreFrom}
+use Rattle.whole_files.specs.Windows.{StaysShown}
 use Rattle.ciff_read.proofs.Files.{at_more}
 use Rattle.ciff_read.proofs.HeldFiles.{reading_refuses}
-use Rattle.ciff_read.proofs.Told.{for_one}
+use Rattle.whole_files.proofs.Told.{for_one}
 use Rattle.ciff_read.proofs.ciff_walk.CiffWalk.at_last.Goals as goal
 
 pub returns-then-len-self-clause-exact : goal.returns-then-len-self-clause-exact

@@ -3,8 +3,8 @@ use Rattle.ciff_read.proofs.Below.{list_data, Files, ForContent}
 use Rattle.ciff_read.specs.Pieces.{KeptList, ListInFile, list_of_file, terms_kept}
 use Rattle.ciff_read.specs.Reaching.{FailsReading}
 use Rattle.ciff_read.specs.Walk.{WalkView, HasKept, ChangesOnly}
-use Rattle.ciff_read.specs.Window.{AreFrom}
-use Rattle.ciff_read.specs.Private.Window.{Shows}
+use Rattle.whole_files.specs.Windows.{AreFrom}
+use Rattle.whole_files.specs.Windows.{Shows}
 use Rattle.ciff_read.proofs.Again.{told_outside, told_counts}
 use Rattle.ciff_read.proofs.ciff_walk.CiffWalk.find_again.Goals as goal
 

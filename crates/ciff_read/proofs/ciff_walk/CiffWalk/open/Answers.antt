@@ -3,11 +3,11 @@ use Rattle.jass_base.specs.Outside.{Files, ForContent}
 use Rattle.ciff_read.specs.KeptLists.{kept_in}
 use Rattle.ciff_read.specs.Pieces.{header_of_file}
 use Rattle.ciff_read.specs.Private.Reached.{file_header}
-use Rattle.ciff_read.specs.Window.{AreFrom}
-use Rattle.ciff_read.specs.Private.Window.{Shows}
+use Rattle.whole_files.specs.Windows.{AreFrom}
+use Rattle.whole_files.specs.Windows.{Shows}
 use Rattle.ciff_read.proofs.Opening.{opened}
-use Rattle.ciff_read.proofs.Told.{for_both, for_one, for_pair}
-use Rattle.ciff_read.proofs.Windows.{none_from}
+use Rattle.whole_files.proofs.Told.{for_both, for_one, for_pair}
+use Rattle.whole_files.proofs.Windows.{none_from}
 use Rattle.ciff_read.proofs.ciff_walk.CiffWalk.open.Goals as goal
 
 pub returns-clause-opens : goal.returns-clause-opens

@@ -2,7 +2,8 @@ use Rattle.std.proofs.Common.{◌≡◌, ◌+◌, ◌*◌, ap, sym, subst, ◌�
 use Rattle.index_layout.specs.Reading.{head_in}
 use Rattle.index_file.proofs.Below.{HeadData}
 use Rattle.index_file.specs.Private.Opened.{Stands}
-use Rattle.index_file.specs.Private.Tables.{first_head, row_at, told}
+use Rattle.index_file.specs.Private.Tables.{first_head, row_at}
+use Rattle.index_file.specs.Parts.{told}
 use Rattle.index_file.proofs.CodecPlaces.{codec_there}
 use Rattle.index_file.proofs.Standing.{group_inside, head_within, place_small, place_told, read_tells, segment_place}
 use Rattle.index_file.proofs.file.IndexFile.segment.Goals as goal

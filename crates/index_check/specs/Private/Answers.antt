@@ -1,0 +1,105 @@
+-- What a part of the check answers, where it reads a piece of a content.
+use Rattle.std.specs.Prelude.{ℕ, ◌≡◌, ◌+◌, ◌-◌, ◌^◌, ◌++◌, min, ⊤, Bool, true, false, List, length}
+use Rattle.std.specs.Prelude.{Option, Some, None, Result, Ok, Err}
+use Rattle.std.specs.List.{sum_by}
+use Rattle.jass_base.specs.Outside.{Files, OnContent}
+use Rattle.jass_base.specs.declared.answer.Totals.{Totals}
+use Rattle.index_model.specs.Index.{SegmentData}
+use Rattle.index_layout.specs.Bytes.{u32_in, u64_in}
+use Rattle.index_layout.specs.Heads.{HeadData, TermHeads, all_heads, head_postings}
+use Rattle.index_layout.specs.Reading.{HeadsRead, IndexRead, SegmentsRead, TermsRead, read_front}
+use Rattle.index_layout.specs.View.{FileView, term_postings}
+use Rattle.index_layout.specs.declared.refusal.OpenFault.{OpenFault}
+use Rattle.index_layout.specs.declared.refusal.OpenFault.TheVariants as faults
+use Rattle.index_layout.specs.declared.refusal.OpenRefusal.{OpenRefusal}
+use Rattle.index_file.specs.Sums.{AreSums}
+use Rattle.index_file.specs.declared.sums.Sums.{Sums}
+use Rattle.index_check.specs.declared.front.Front.{Front}
+
+-- a place in a piece that begins at another place, or a refusal there, as they stand in the whole
+abbrev pub moved : ℕ → Result ℕ OpenRefusal → Result ℕ OpenRefusal
+moved by (Ok place) = Ok (by + place)
+moved by (Err refusal) = Err (record { at = by + refusal.at; why = refusal.why })
+
+-- the same of a fault, whose place is at most 2^64 - 1
+abbrev pub moved_fault : ℕ → OpenFault → OpenFault
+moved_fault by (faults.Refused refusal) =
+    faults.Refused (record { at = min (refusal.at + by) (2 ^ 64 - 1); why = refusal.why })
+moved_fault by faults.ReadFault = faults.ReadFault
+moved_fault by faults.NoMemory = faults.NoMemory
+
+-- a refusal is the one that reading gives; a read fault or want of memory may come instead
+abbrev pub Stops : {A : Type 0} → OpenFault → Result A OpenRefusal → Type 0
+Stops (faults.Refused refusal) read = read ≡ Err refusal
+Stops faults.ReadFault read = ⊤
+Stops faults.NoMemory read = ⊤
+
+-- a place is where reading ends, or a fault stops as reading does
+abbrev pub Ends : {A : Type 0} → (A → ℕ) → Result ℕ OpenFault → Result A OpenRefusal → Type 0
+Ends end_of (Ok place) read = (x : _) × (read ≡ Ok x) × (end_of x ≡ place)
+Ends end_of (Err fault) read = Stops fault read
+
+-- a place is the one that reading gives
+abbrev pub Places : Result ℕ OpenFault → Result ℕ OpenRefusal → Type 0
+Places (Ok place) read = read ≡ Ok place
+Places (Err fault) read = Stops fault read
+
+-- the same, with the number of a term's heads beside the place
+abbrev pub PlacesTerm : Result (ℕ × ℕ) OpenFault → Result ℕ OpenRefusal → Type 0
+PlacesTerm (Ok x) read = read ≡ Ok x.0
+PlacesTerm (Err fault) read = Stops fault read
+
+-- a place is where the segments of heads end, which have as many documents as the heads count
+abbrev pub EndsSegments : List HeadData → Result ℕ OpenFault → Result SegmentsRead OpenRefusal → Type 0
+EndsSegments heads (Ok place) read =
+    (x : SegmentsRead) × (read ≡ Ok x) × (x.end ≡ place)
+    × (sum_by (λ (s : SegmentData). length s.docs) x.segments ≡ sum_by (λ (h : HeadData). h.count) heads)
+EndsSegments heads (Err fault) read = Stops fault read
+
+-- the same for all terms
+abbrev pub EndsIndex : List TermHeads → Result ℕ OpenFault → Result IndexRead OpenRefusal → Type 0
+EndsIndex terms (Ok place) read =
+    (x : IndexRead) × (read ≡ Ok x) × (x.end ≡ place) × (sum_by term_postings x.terms ≡ head_postings terms)
+EndsIndex terms (Err fault) read = Stops fault read
+
+-- a place is where heads end, which were added to sums
+abbrev pub EndsHeads : Sums → Sums → Result ℕ OpenFault → Result HeadsRead OpenRefusal → Type 0
+EndsHeads old new (Ok place) read =
+    (x : HeadsRead) × (read ≡ Ok x) × (x.end ≡ place)
+    × ((heads : List HeadData) → AreSums old heads → AreSums new (heads ++ x.heads))
+EndsHeads old new (Err fault) read = Stops fault read
+
+-- a place is where terms end, and these are the sums of their heads
+abbrev pub EndsTerms : Result (Sums × ℕ) OpenFault → Result TermsRead OpenRefusal → Type 0
+EndsTerms (Ok x) read = (y : TermsRead) × (read ≡ Ok y) × (y.end ≡ x.1) × AreSums x.0 (all_heads y.terms)
+EndsTerms (Err fault) read = Stops fault read
+
+-- the front is the one of a content
+abbrev pub AnswersFront : List ℕ → Result Front OpenFault → Type 0
+AnswersFront content (Ok front) =
+    (read_front content ≡ Ok (record { docs = front.docs; terms = front.terms }))
+    × (front.size ≡ length content) × (front.postings ≡ u64_in content 24) × (front.greatest ≡ u32_in content 32)
+AnswersFront content (Err fault) = Stops fault (read_front content)
+
+-- the last checks of a view are passed, or a fault stops as they do
+abbrev pub AnswersTotals : FileView → Result Totals OpenFault → Result FileView OpenRefusal → Type 0
+AnswersTotals view (Ok totals) read = read ≡ Ok view
+AnswersTotals view (Err fault) read = Stops fault read
+
+-- a file that was read is there, where the contents are told
+abbrev pub IsThere : {A : Type 0} → Option Files → List ℕ → Result A OpenFault → Type 0
+IsThere files name (Ok x) = OnContent files name (λ content. ⊤)
+IsThere files name (Err (faults.Refused refusal)) = OnContent files name (λ content. ⊤)
+IsThere files name (Err faults.ReadFault) = ⊤
+IsThere files name (Err faults.NoMemory) = ⊤
+
+-- reading failed, or memory was wanting: no refusal
+abbrev pub IsNotRefused : OpenFault → Type 0
+IsNotRefused (faults.Refused refusal) = ⊥
+IsNotRefused faults.ReadFault = ⊤
+IsNotRefused faults.NoMemory = ⊤
+
+-- the term before, where there is one
+abbrev pub before_of : Bool → List ℕ → Option (List ℕ)
+before_of true term = None
+before_of false term = Some term
