@@ -6,8 +6,6 @@
 pub mod laws;
 mod pages;
 mod reached;
-#[cfg(test)]
-mod tests;
 
 pub use pages::Pages;
 pub use reached::Reached;

@@ -69,14 +69,19 @@ fn lines_are_taken_up_to_the_limit(rt: HostRuntime) {
     check_cases(&rt, rt.alloc(), &CASES);
 }
 
-/// A line of 1,048,579 bytes and the line `b`, in a feed whose second read fails.
-fn long_line(alloc: Global) -> Result<MemFeed, NoMemory> {
+/// A line of 1,048,579 bytes, and the line `b`.
+fn long_bytes(alloc: Global) -> Result<Row<u8>, NoMemory> {
     let Ok(line) = vec![in alloc; b'a'; 1_048_579] else {
         return Err(NoMemory);
     };
-    let mut bytes = Row::new(alloc);
-    bytes.extend(line.as_slice())?;
+    let mut bytes = Row::from_vec(line);
     bytes.extend(b"\nb\n")?;
+    Ok(bytes)
+}
+
+/// A feed of these lines whose second read fails.
+fn long_line(alloc: Global) -> Result<MemFeed, NoMemory> {
+    let bytes = long_bytes(alloc)?;
     let mut bad = Row::new(alloc);
     bad.extend(&[1])?;
     Ok(MemFeed::new(bytes, bad))

@@ -2,40 +2,88 @@
 
 use final_certificate::grade;
 use jass_base::{Grade, Hit};
+use std::process::Abort;
 
-#[test]
-fn two_of_three_may_be_passed(rt: HostRuntime) {
-    let hits = [hit(0, 3), hit(2, 3)];
-    assert!(&rt; grade(&hits, None, Some(1), 2, 3) == Grade::Open);
+/// Hits, the document behind them, the least one without a score, how many are asked for, what a score may still gain,
+/// and the grade.
+type Case<'a> = (&'a [Hit], Option<Hit>, Option<u32>, u32, u32, Grade);
+
+const FIRST_3: Hit = Hit { doc: 0, score: 3 };
+
+const FIRST_9: Hit = Hit { doc: 0, score: 9 };
+
+const SECOND_5: Hit = Hit { doc: 1, score: 5 };
+
+const SECOND_3: Hit = Hit { doc: 1, score: 3 };
+
+/// Two of three may be passed.
+const MAY_BE_PASSED: [Case<'static>; 1] = [(
+    &[FIRST_3, Hit { doc: 2, score: 3 }],
+    None,
+    Some(1),
+    2,
+    3,
+    Grade::Open,
+)];
+
+/// Hits that are far ahead.
+const FAR_AHEAD: [Case<'static>; 3] = [
+    (&[FIRST_9], None, Some(1), 1, 5, Grade::Final),
+    (&[FIRST_9, SECOND_5], None, Some(2), 2, 1, Grade::Final),
+    (&[FIRST_9, SECOND_5], None, Some(2), 3, 1, Grade::Open),
+];
+
+/// A tie goes to the lower document.
+const TIES: [Case<'static>; 2] = [
+    (&[FIRST_3], None, Some(1), 1, 3, Grade::Final),
+    (&[SECOND_3], None, Some(0), 1, 3, Grade::Open),
+];
+
+/// A final answer may open again.
+const OPEN_AGAIN: [Case<'static>; 2] = [
+    (&[FIRST_9], None, Some(1), 1, 8, Grade::Final),
+    (
+        &[FIRST_9],
+        Some(Hit { doc: 1, score: 8 }),
+        Some(2),
+        1,
+        7,
+        Grade::Open,
+    ),
+];
+
+/// All documents are hit, but may swap.
+const MAY_SWAP: [Case<'static>; 2] = [
+    (
+        &[SECOND_3, Hit { doc: 0, score: 2 }],
+        None,
+        None,
+        2,
+        1,
+        Grade::Set,
+    ),
+    (
+        &[SECOND_3, Hit { doc: 0, score: 2 }],
+        None,
+        None,
+        2,
+        0,
+        Grade::Final,
+    ),
+];
+
+/// Each case has the grade that stands beside it.
+fn check_cases(rt: &impl Abort, cases: &[Case<'_>]) {
+    for (hits, runner_up, least_untouched, k, bound, want) in cases {
+        assert!(rt; grade(hits, *runner_up, *least_untouched, *k, *bound) == *want);
+    }
 }
 
 #[test]
-fn hits_that_are_far_ahead(rt: HostRuntime) {
-    let hits = [hit(0, 9), hit(1, 5)];
-    assert!(&rt; grade(&hits[..1], None, Some(1), 1, 5) == Grade::Final);
-    assert!(&rt; grade(&hits, None, Some(2), 2, 1) == Grade::Final);
-    assert!(&rt; grade(&hits, None, Some(2), 3, 1) == Grade::Open);
-}
-
-#[test]
-fn a_tie_goes_to_the_lower_document(rt: HostRuntime) {
-    assert!(&rt; grade(&[hit(0, 3)], None, Some(1), 1, 3) == Grade::Final);
-    assert!(&rt; grade(&[hit(1, 3)], None, Some(0), 1, 3) == Grade::Open);
-}
-
-#[test]
-fn a_final_answer_may_open_again(rt: HostRuntime) {
-    assert!(&rt; grade(&[hit(0, 9)], None, Some(1), 1, 8) == Grade::Final);
-    assert!(&rt; grade(&[hit(0, 9)], Some(hit(1, 8)), Some(2), 1, 7) == Grade::Open);
-}
-
-#[test]
-fn all_documents_are_hit_but_may_swap(rt: HostRuntime) {
-    let hits = [hit(1, 3), hit(0, 2)];
-    assert!(&rt; grade(&hits, None, None, 2, 1) == Grade::Set);
-    assert!(&rt; grade(&hits, None, None, 2, 0) == Grade::Final);
-}
-
-fn hit(doc: u32, score: u32) -> Hit {
-    Hit { doc, score }
+fn small_indexes_are_graded(rt: HostRuntime) {
+    check_cases(&rt, &MAY_BE_PASSED);
+    check_cases(&rt, &FAR_AHEAD);
+    check_cases(&rt, &TIES);
+    check_cases(&rt, &OPEN_AGAIN);
+    check_cases(&rt, &MAY_SWAP);
 }

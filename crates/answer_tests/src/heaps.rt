@@ -170,6 +170,11 @@ fn add_batch(
     top.settle(pages, pool, reached.as_slice());
 }
 
+/// Whether a heap for one hit has this one, and this document behind it.
+fn has_first(top: &Top, first: Hit, next: Option<Hit>) -> bool {
+    top.ranked() == [first].as_slice() && top.runner_up() == next
+}
+
 #[test]
 fn documents_rise_one_by_one(rt: HostRuntime) {
     let Ok(mut pool) = FramePool::new(rt.alloc(), 3, 1) else {
@@ -179,16 +184,25 @@ fn documents_rise_one_by_one(rt: HostRuntime) {
     assert!(rt; top.ranked().is_empty() && top.runner_up() == None);
 
     add(&rt, &mut pages, &mut top, &mut pool, 1, 5);
-    assert!(rt; top.ranked() == [Hit { doc: 1, score: 5 }].as_slice());
-    assert!(rt; top.runner_up() == None);
+    assert!(rt; has_first(&top, Hit { doc: 1, score: 5 }, None));
 
     add(&rt, &mut pages, &mut top, &mut pool, 0, 9);
-    assert!(rt; top.ranked() == [Hit { doc: 0, score: 9 }].as_slice());
-    assert!(rt; top.runner_up() == Some(Hit { doc: 1, score: 5 }));
+    assert!(rt;
+        has_first(
+            &top,
+            Hit { doc: 0, score: 9 },
+            Some(Hit { doc: 1, score: 5 })
+        )
+    );
 
     add(&rt, &mut pages, &mut top, &mut pool, 2, 1);
-    assert!(rt; top.ranked() == [Hit { doc: 0, score: 9 }].as_slice());
-    assert!(rt; top.runner_up() == Some(Hit { doc: 1, score: 5 }));
+    assert!(rt;
+        has_first(
+            &top,
+            Hit { doc: 0, score: 9 },
+            Some(Hit { doc: 1, score: 5 })
+        )
+    );
     pool.give_back(pages.into_chain());
 }
 
@@ -205,10 +219,14 @@ fn two_sessions_take_turns(rt: HostRuntime) {
     add_beside(&rt, &x, &x_top, &mut y, &mut y_top, &mut pool, 2, 7);
     add_beside(&rt, &y, &y_top, &mut x, &mut x_top, &mut pool, 0, 4);
     add_beside(&rt, &x, &x_top, &mut y, &mut y_top, &mut pool, 2, 1);
-    assert!(rt; x_top.ranked() == [Hit { doc: 0, score: 4 }].as_slice());
-    assert!(rt; x_top.runner_up() == Some(Hit { doc: 1, score: 4 }));
-    assert!(rt; y_top.ranked() == [Hit { doc: 2, score: 8 }].as_slice());
-    assert!(rt; y_top.runner_up() == None);
+    assert!(rt;
+        has_first(
+            &x_top,
+            Hit { doc: 0, score: 4 },
+            Some(Hit { doc: 1, score: 4 })
+        )
+    );
+    assert!(rt; has_first(&y_top, Hit { doc: 2, score: 8 }, None));
     pool.give_back(x.into_chain());
     pool.give_back(y.into_chain());
 }
@@ -237,7 +255,12 @@ fn a_batch_is_settled(rt: HostRuntime) {
         &mut reached,
     );
     assert!(rt; reached.as_slice() == [0, 1, 2, 3, 4].as_slice());
-    assert!(rt; top.ranked() == [Hit { doc: 5, score: 5 }].as_slice());
-    assert!(rt; top.runner_up() == Some(Hit { doc: 0, score: 2 }));
+    assert!(rt;
+        has_first(
+            &top,
+            Hit { doc: 5, score: 5 },
+            Some(Hit { doc: 0, score: 2 })
+        )
+    );
     pool.give_back(pages.into_chain());
 }

@@ -2,7 +2,8 @@
 
 ghost use Rattle.std.specs.Prelude.{[], ◌∷◌, codes};
 
-use jass_base::{Lexicon, Query};
+use crate::words::words_of;
+use jass_base::{Lexicon, Query, QueryTerm};
 use query_reader::{Mode, QueryFault, name_terms, read_queries, read_terms};
 use std::alloc::{AllocError, Global};
 use std::process::Abort;
@@ -127,14 +128,13 @@ fn reads_a_file_line_by_line(rt: HostRuntime) {
     check_queries(&rt, queries.as_slice(), &wants);
 }
 
+/// The query that four words name.
 fn named(alloc: Global) -> Result<Query, AllocError> {
-    let words = [
-        String::from_str(alloc, "dog")?,
-        String::from_str(alloc, "zzz^2")?,
-        String::from_str(alloc, "cat")?,
-        String::from_str(alloc, "dog")?,
-    ];
-    match name_terms(alloc, "q", &words, &FewTerms) {
+    let words = words_of(alloc, "dog zzz^2 cat dog")?;
+    if words.len() != 4 {
+        return Err(AllocError);
+    }
+    match name_terms(alloc, "q", words.as_slice(), &FewTerms) {
         Ok(query) => Ok(query),
         Err(_) => Err(AllocError),
     }
@@ -142,16 +142,13 @@ fn named(alloc: Global) -> Result<Query, AllocError> {
 
 #[test]
 fn names_known_words_and_counts_the_others(rt: HostRuntime) {
-    match named(rt.alloc()) {
-        Ok(query) => {
-            assert!(&rt; query.id.as_str() == "q");
-            let want = [(2, 2), (1, 1)];
-            assert_eq!(&rt; query.unknown, 1);
-            assert_eq!(&rt; query.terms.len(), want.len());
-            for (got, (term, times)) in query.terms.as_slice().iter().zip(want) {
-                assert!(&rt; got.term == term && got.times == times);
-            }
-        }
-        Err(_) => assert!(&rt; false),
-    }
+    let Ok(query) = named(rt.alloc()) else {
+        panic!(&rt; "no memory")
+    };
+    let want = [
+        QueryTerm { term: 2, times: 2 },
+        QueryTerm { term: 1, times: 1 },
+    ];
+    assert!(&rt; query.id.as_str() == "q" && query.unknown == 1);
+    assert!(&rt; query.terms.as_slice() == want.as_slice());
 }

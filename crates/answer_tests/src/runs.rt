@@ -1,31 +1,19 @@
 // Runs as they are read, where there is memory.
 
 use std::alloc::Global;
+use std::process::Abort;
 use trec_run::{RunFault, RunWhy, read_run};
+
+/// Four lines of a search.
+const FOUR_LINES: &[u8] =
+    b"301 Q0 d0 1 3 jass.1\n301 Q0 d2 2 3 jass.1\n301 Q0 d0 1 3 jass.2\n301 Q0 d1 2 3 jass.2\n";
 
 #[test]
 fn four_lines_of_a_search(rt: HostRuntime) {
-    let alloc = rt.alloc();
-    let text =
-        b"301 Q0 d0 1 3 jass.1\n301 Q0 d2 2 3 jass.1\n301 Q0 d0 1 3 jass.2\n301 Q0 d1 2 3 jass.2\n";
-    assert!(&rt; read_run(alloc, text).is_ok_and(|run| run.len() == 4));
-}
-
-#[test]
-fn blanks_and_lines_without_bytes(rt: HostRuntime) {
-    let alloc = rt.alloc();
-    assert!(&rt; is_second(alloc, b"\n\t 1\tQ0  d 2 3 t \r\n"));
-    assert!(&rt; refuses(alloc, b"\r\n1 Q0 d 1 2.5 t\n", 2, RunWhy::Number));
-}
-
-#[test]
-fn bad_lines(rt: HostRuntime) {
-    let alloc = rt.alloc();
-    assert!(&rt; refuses(alloc, b"1 Q0 d 1 2.5 t\n", 1, RunWhy::Number));
-    assert!(&rt; refuses(alloc, b"1 Q0 d 1 2", 1, RunWhy::Columns));
-    assert!(&rt; refuses(alloc, b"1 Q0 d 1 2 t u", 1, RunWhy::Columns));
-    assert!(&rt; refuses(alloc, b"1 Q1 d 1 x t", 1, RunWhy::Columns));
-    assert!(&rt; refuses(alloc, b"1 Q0 d\xff 1 x t", 1, RunWhy::Columns));
+    let Ok(run) = read_run(rt.alloc(), FOUR_LINES) else {
+        panic!(&rt; "refused")
+    };
+    assert!(&rt; run.len() == 4);
 }
 
 /// The one line that follows a line without bytes.
@@ -43,6 +31,33 @@ fn is_second(alloc: Global, text: &[u8]) -> bool {
         },
         Err(_) => false,
     }
+}
+
+#[test]
+fn blanks_and_lines_without_bytes(rt: HostRuntime) {
+    assert!(&rt; is_second(rt.alloc(), b"\n\t 1\tQ0  d 2 3 t \r\n"));
+}
+
+/// Texts, each with its first bad line and why it is bad.
+const REFUSED: [(&[u8], u64, RunWhy); 6] = [
+    (b"\r\n1 Q0 d 1 2.5 t\n", 2, RunWhy::Number),
+    (b"1 Q0 d 1 2.5 t\n", 1, RunWhy::Number),
+    (b"1 Q0 d 1 2", 1, RunWhy::Columns),
+    (b"1 Q0 d 1 2 t u", 1, RunWhy::Columns),
+    (b"1 Q1 d 1 x t", 1, RunWhy::Columns),
+    (b"1 Q0 d\xff 1 x t", 1, RunWhy::Columns),
+];
+
+/// Each text is refused so.
+fn check_refused(rt: &impl Abort, alloc: Global, texts: &[(&[u8], u64, RunWhy)]) {
+    for (text, line, why) in texts {
+        assert!(rt; refuses(alloc, text, *line, *why));
+    }
+}
+
+#[test]
+fn bad_lines(rt: HostRuntime) {
+    check_refused(&rt, rt.alloc(), &REFUSED);
 }
 
 fn refuses(alloc: Global, text: &[u8], line: u64, why: RunWhy) -> bool {

@@ -151,6 +151,11 @@ fn many(rt: &impl Abort, alloc: Global, pool: &mut FramePool, step: u32) -> Scor
     scores
 }
 
+/// Whether scores of which one hit is asked for have this one first, and this one behind it.
+fn has_first(scores: &Scores, first: Hit, next: Hit) -> bool {
+    scores.hits() == [first].as_slice() && scores.runner_up() == Some(next)
+}
+
 #[test]
 fn bits_are_documents(rt: HostRuntime) {
     let Ok(mut pool) = FramePool::new(rt.alloc(), 1, 1) else {
@@ -182,20 +187,17 @@ fn ties_go_to_the_lower_document(rt: HostRuntime) {
     assert!(rt; scores.hits().is_empty() && scores.runner_up() == None);
 
     add(&mut scores, &mut pool, &[3, 1], 4, 0);
-    assert!(rt; scores.hits() == [Hit { doc: 1, score: 4 }].as_slice());
-    assert!(rt; scores.runner_up() == Some(Hit { doc: 3, score: 4 }));
+    assert!(rt; has_first(&scores, Hit { doc: 1, score: 4 }, Hit { doc: 3, score: 4 }));
     assert_eq!(rt; scores.least_untouched(&pool), Some(0));
 
     // Document 2 reaches just the last score, and stands before document 3; document 4 would stand behind.
     add(&mut scores, &mut pool, &[4, 2], 2, 20);
     add(&mut scores, &mut pool, &[4, 2], 2, 30);
-    assert!(rt; scores.hits() == [Hit { doc: 1, score: 4 }].as_slice());
-    assert!(rt; scores.runner_up() == Some(Hit { doc: 2, score: 4 }));
+    assert!(rt; has_first(&scores, Hit { doc: 1, score: 4 }, Hit { doc: 2, score: 4 }));
 
     // The first document rises, and passes nobody.
     add(&mut scores, &mut pool, &[1], 1, 40);
-    assert!(rt; scores.hits() == [Hit { doc: 1, score: 5 }].as_slice());
-    assert!(rt; scores.runner_up() == Some(Hit { doc: 2, score: 4 }));
+    assert!(rt; has_first(&scores, Hit { doc: 1, score: 5 }, Hit { doc: 2, score: 4 }));
 
     assert_eq!(rt; scores.frames(), 1);
     pool.give_back(scores.into_chain());
@@ -212,15 +214,19 @@ fn notes_are_cut_between_two_settlings(rt: HostRuntime) {
     add_row(&mut scores, &mut pool, 1, 2, 128);
     // Now documents 128 and 129 stay alone. Those with the same score and a lower number pass them.
     add(&mut scores, &mut pool, &[6, 4, 3], 1, 384);
-    assert!(rt; scores.hits() == [Hit { doc: 3, score: 2 }].as_slice());
-    assert!(rt; scores.runner_up() == Some(Hit { doc: 4, score: 2 }));
+    assert!(rt; has_first(&scores, Hit { doc: 3, score: 2 }, Hit { doc: 4, score: 2 }));
 
     // Document 4 of the heap falls behind a cut, and is noted as it passes the last hit again.
     add_row(&mut scores, &mut pool, 1, 5, 389);
     add_some(&mut scores, &mut pool, &[3, 5, 6], 1, 1029);
     add(&mut scores, &mut pool, &[4], 10, 1034);
-    assert!(rt; scores.hits() == [Hit { doc: 4, score: 12 }].as_slice());
-    assert!(rt; scores.runner_up() == Some(Hit { doc: 128, score: 7 }));
+    assert!(rt;
+        has_first(
+            &scores,
+            Hit { doc: 4, score: 12 },
+            Hit { doc: 128, score: 7 }
+        )
+    );
     pool.give_back(scores.into_chain());
 }
 

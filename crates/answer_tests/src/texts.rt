@@ -6,6 +6,31 @@ use jass_base::{MemSink, Row};
 use std::alloc::{AllocError, Global};
 use std::process::Abort;
 
+/// A text of these sizes with so many pieces of 15,000 bytes behind them, each of them a front of the same bytes.
+fn text_of<'a>(
+    alloc: Global,
+    bytes: &'a [u8],
+    sizes: &[usize],
+    pieces: u32,
+) -> Result<Vec<&'a [u8]>, AllocError> {
+    let mut text = Vec::new(alloc);
+    for size in sizes {
+        text.push(&bytes[..bytes.len().min(*size)])?;
+    }
+    for _ in 0..pieces {
+        text.push(&bytes[..bytes.len().min(15_000)])?;
+    }
+    Ok(text)
+}
+
+/// How many bytes of a text go where the put with a number fails, and whether all of it does.
+fn put(alloc: Global, text: &[&[u8]], bad_put: u64) -> Result<(usize, bool), AllocError> {
+    let bad = Row::from_vec(Vec::from_slice(alloc, &[bad_put])?);
+    let mut sink = MemSink::new(alloc, bad);
+    let whole = put_all(&mut sink, text).is_ok();
+    Ok((sink.written().len(), whole))
+}
+
 /// How many bytes went of a text of these sizes with so many pieces of 15,000 bytes behind them, where the put with a
 /// number fails, and whether all of it did.
 fn went(
@@ -15,17 +40,8 @@ fn went(
     bad_put: u64,
 ) -> Result<(usize, bool), AllocError> {
     let bytes = vec![in alloc; b'x'; 200_000]?;
-    let bytes = bytes.as_slice();
-    let mut text = Vec::new(alloc);
-    for size in sizes {
-        text.push(&bytes[..bytes.len().min(*size)])?;
-    }
-    for _ in 0..pieces {
-        text.push(&bytes[..bytes.len().min(15_000)])?;
-    }
-    let mut sink = MemSink::new(alloc, Row::from_vec(Vec::from_slice(alloc, &[bad_put])?));
-    let whole = put_all(&mut sink, text.as_slice()).is_ok();
-    Ok((sink.written().len(), whole))
+    let text = text_of(alloc, bytes.as_slice(), sizes, pieces)?;
+    put(alloc, text.as_slice(), bad_put)
 }
 
 /// The sizes and pieces of texts, the put that fails, how many bytes go, and whether all do. Behind a piece that finds no

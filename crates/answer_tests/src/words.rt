@@ -4,12 +4,18 @@ use jass_words::read_words;
 use std::alloc::{AllocError, Global};
 use std::process::Abort;
 
-/// The number of the first bad word, or 0 where the words are a command.
-fn bad_word(alloc: Global, line: &str) -> Result<u32, AllocError> {
+/// The words between the blanks of a line.
+pub(super) fn words_of(alloc: Global, line: &str) -> Result<Vec<String>, AllocError> {
     let mut words = Vec::new(alloc);
     for word in line.split_whitespace() {
         words.push(String::from_str(alloc, word)?)?;
     }
+    Ok(words)
+}
+
+/// The number of the first bad word, or 0 where the words are a command.
+fn bad_word(alloc: Global, line: &str) -> Result<u32, AllocError> {
+    let words = words_of(alloc, line)?;
     match read_words(words.as_slice()) {
         Ok(_) => Ok(0),
         Err(fault) => Ok(fault.which),

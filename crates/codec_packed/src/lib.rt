@@ -10,8 +10,6 @@ mod encoding;
 pub mod laws;
 mod sizes;
 mod tail;
-#[cfg(test)]
-mod tests;
 
 pub use checking::check;
 pub use cursor::Cursor;

@@ -1,14 +1,16 @@
 -- Writing the documents of a word's gaps four at a time.
-use Rattle.shared_lemmas.proofs.Common.{◌≡◌, ℕ, zero, suc, ◌+◌, ◌*◌, ◌-◌, ◌/◌, ◌%◌, ◌^◌, ◌<◌, ◌≤◌, List, [], ◌∷◌, ◌++◌, length, take, get_or, bit_and, refl, sym, ap, subst, ◌∙◌, append_assoc, append-nil, arith, sum, slice_index, take_at, take-take, length-take-le, get_or-take, get_or-append_right}
-use Rattle.shared_lemmas.proofs.Common.{sum_by-cons, sum_by-append, pow_pos, shr-shr, mul-le, take_more_put_chunk, mod-lt, pow-le-pow_right}
+use Rattle.shared_lemmas.proofs.Common.{◌≡◌, ℕ, zero, suc, ◌+◌, ◌*◌, ◌-◌, ◌/◌, ◌%◌, ◌^◌, ◌<◌, ◌≤◌, All, List, [], ◌∷◌, ◌++◌, length, take, get_or, bit_and, refl, sym, ap, subst, ◌∙◌, append_assoc, append-nil, arith, sum, slice_index, take_at, take-take, length-take-le, get_or-take, get_or-append_right}
+use Rattle.shared_lemmas.proofs.Common.{div-one, suc-mul, sum_by-cons, sum_by-append, pow_pos, shr-shr, mul-le, take_more_put_chunk, mod-lt, pow-le-pow_right}
 use Rattle.std.proofs.Common.{length-append}
 use Rattle.shared_lemmas.proofs.Places.{same_four}
 use Rattle.jass_base.proofs.Gaps.{length-docs_from}
 use Rattle.jass_base.specs.Gaps.{docs_from}
-use Rattle.codec_simple8.specs.Simple8.{fields, least_behind}
+use Rattle.codec_simple8.specs.Simple8.{count_of, width_of, fields, least_behind}
 use Rattle.codec_simple8.proofs.Digits.{Below}
-use Rattle.codec_simple8.proofs.Docs.{behind_one, behind_below, docs_parts}
+use Rattle.codec_simple8.proofs.Docs.{behind_one, behind_below, below_behind, docs_parts}
 use Rattle.codec_simple8.proofs.Fields.{fields_one, length-fields, masked}
+use Rattle.codec_simple8.proofs.GapLists.{All-from_below}
+use Rattle.codec_simple8.proofs.Tables.{narrow_sums}
 use lib.Lanes.{zip2, put_chunk}
 
 pub same_two : {a b a' b' : ℕ} → a ≡ a' → b ≡ b' → (let x : List ℕ = a ∷ b ∷ [] in x) ≡ a' ∷ b' ∷ []
@@ -72,11 +74,20 @@ more w (suc n) k x =
 pub three_more : (w k : ℕ) → w ≤ 30 → k ≤ 3 → k * 2 ^ w + k ≤ 3221225475
 three_more w k small few = omega (arith, mul-le k (2 ^ w) 3 1073741824 few (narrow w small), few)
 
--- the least document behind them is not much greater, where they add no more than that: 2 ^ 26 and that at the most
-more_behind : (w n k x least : ℕ) → k * 2 ^ w + k ≤ 3221225475 → least_behind least (fields w n x) ≤ 67108864 → least_behind least (fields w (n + k) x) ≤ 3288334339
+-- the least document behind them is not much greater, where they add no more than that: 2 ^ 27 and that at the most
+more_behind : (w n k x least : ℕ) → k * 2 ^ w + k ≤ 3221225475 → least_behind least (fields w n x) ≤ 134217728 → least_behind least (fields w (n + k) x) ≤ 3355443203
 more_behind w n k x least little low =
     let m = more w n k x in
     rw m.parts (omega (arith, sum_by-append (λ y. y) (fields w n x) m.values, length-append (fields w n x) m.values, m.most, m.long, little, low))
+
+-- the least document behind a word of selectors 5 to 12
+pub narrow_behind : (s least values : ℕ) → 5 ≤ s → s ≤ 12 → least ≤ 67108864 → least_behind least (fields (width_of s) (count_of s) values) ≤ 134217728
+narrow_behind s least values from to low =
+    omega (arith, low, sum_below (width_of s) (count_of s) values, length-fields (width_of s) (count_of s) values, narrow_sums s from to)
+
+pub narrow_docs : (s least values count width : ℕ) → 5 ≤ s → s ≤ 12 → least ≤ 67108864 → count ≡ count_of s → width ≡ width_of s → All (λ doc. doc < 134217728) (docs_from least (fields width count values))
+narrow_docs s least values count width from to low count_is width_is =
+    rw (count_is, width_is) (All-from_below 134217728 (docs_from least (fields (width_of s) (count_of s) values)) (below_behind 134217728 least (fields (width_of s) (count_of s) values) (narrow_behind s least values from to low)))
 
 -- ---- four documents more
 
@@ -87,10 +98,10 @@ pub record Fours (w n : ℕ) (pair first front whole : List ℕ) : Type 0 where
   pub pair_is : pair ≡ rest ∷ (rest / 2 ^ w) ∷ []
   pub first_is : first ≡ next ∷ (next + 1) ∷ (next + 2) ∷ (next + 3) ∷ []
   pub docs : front ++ docs_from next (fields w n rest) ≡ whole
-  pub most : least_behind next (fields w n rest) ≤ 3288334339
+  pub most : least_behind next (fields w n rest) ≤ 3355443203
 
-pub fours_start : (w m n k c count filled values least : ℕ) (out : List ℕ) → m ≡ n → n ≡ count + c → c * 2 ^ w + c ≤ 3221225475 → k ≡ filled → least ≤ 67108864
-    → Below (2 ^ 26) (docs_from least (fields w count values))
+pub fours_start : (w m n k c count filled values least : ℕ) (out : List ℕ) → m ≡ n → n ≡ count + c → c * 2 ^ w + c ≤ 3221225475 → k ≡ filled → least ≤ 134217728
+    → Below (2 ^ 27) (docs_from least (fields w count values))
     → Fours w m (values ∷ (values / 2 ^ w) ∷ []) ((least + 0) % 4294967296 ∷ (least + 1) % 4294967296 ∷ (least + 2) % 4294967296 ∷ (least + 3) % 4294967296 ∷ [])
     (take k out) (take filled out ++ docs_from least (fields w n values))
 fours_start w m n k c count filled values least out same are little from low below = record {
@@ -99,7 +110,7 @@ fours_start w m n k c count filled values least out same are little from low bel
   pair_is = refl;
   first_is = same_four (omega arith) (omega arith) (omega arith) (omega arith);
   docs = ap (λ n. take n out ++ docs_from least (fields w m values)) from ∙ ap (λ m. take filled out ++ docs_from least (fields w m values)) same;
-  most = rw (same, are) (more_behind w count c values least little (omega (arith, behind_below (2 ^ 26) least (fields w count values) (omega (arith, low)) below)));
+  most = rw (same, are) (more_behind w count c values least little (omega (arith, behind_below (2 ^ 27) least (fields w count values) (omega (arith, low)) below)));
 }
 
 abbrev plus : ℕ → ℕ → ℕ
@@ -121,7 +132,7 @@ fours_more w n m i j pair first out whole gaps sums later is place room fours ga
     four : (next a b c d y : ℕ)
         → first ≡ next ∷ (next + 1) ∷ (next + 2) ∷ (next + 3) ∷ []
         → take i out ++ docs_from next (a ∷ b ∷ c ∷ d ∷ fields w n y) ≡ whole
-        → least_behind next (a ∷ b ∷ c ∷ d ∷ fields w n y) ≤ 3288334339
+        → least_behind next (a ∷ b ∷ c ∷ d ∷ fields w n y) ≤ 3355443203
         → gaps ≡ a ∷ b ∷ c ∷ d ∷ []
         → later ≡ y ∷ (y / 2 ^ w) ∷ []
         → Fours w n later (raised first sums) (take j (put_chunk i out (zip2 plus sums first))) whole
@@ -129,7 +140,7 @@ fours_more w n m i j pair first out whole gaps sums later is place room fours ga
         let chain : least_behind (next + a + 1 + b + 1 + c + 1 + d + 1) (fields w n y) ≡ least_behind next (a ∷ b ∷ c ∷ d ∷ fields w n y) =
         behind_one (next + a + 1 + b + 1 + c + 1) d (fields w n y) ∙ behind_one (next + a + 1 + b + 1) c (d ∷ fields w n y)
         ∙ behind_one (next + a + 1) b (c ∷ d ∷ fields w n y) ∙ behind_one next a (b ∷ c ∷ d ∷ fields w n y) in
-        let low : next + a + 1 + b + 1 + c + 1 + d + 1 ≤ 3288334339 = omega (arith, chain, most) in
+        let low : next + a + 1 + b + 1 + c + 1 + d + 1 ≤ 3355443203 = omega (arith, chain, most) in
         let sums_is : sums ≡ a ∷ (a + b) ∷ (a + b + c) ∷ (a + b + c + d) ∷ [] = sums_are a b c d gaps_is (omega (arith, low)) in
         let written : zip2 plus sums first ≡ (next + a) ∷ (next + a + 1 + b) ∷ (next + a + 1 + b + 1 + c) ∷ (next + a + 1 + b + 1 + c + 1 + d) ∷ [] =
         rw (sums_is, first_is) (same_four (omega (arith, low)) (omega (arith, low)) (omega (arith, low)) (omega (arith, low))) in
@@ -154,22 +165,55 @@ fours_more w n m i j pair first out whole gaps sums later is place room fours ga
 -- ---- all of them
 
 -- the documents at the front, where more were written
+pub first_docs : (w n count c filled values least : ℕ) (old out : List ℕ) → n ≡ count + c → filled ≤ length old
+    → take (filled + n) out ≡ take filled old ++ docs_from least (fields w n values)
+    → take (filled + count) out ≡ take filled old ++ docs_from least (fields w count values)
+first_docs w n count c filled values least old out are within front =
+    let x = more w count c values in
+    let parts : docs_from least (fields w n values) ≡ docs_from least (fields w count values) ++ docs_from (least_behind least (fields w count values)) x.values =
+    ap (λ n. docs_from least (fields w n values)) are ∙ ap (docs_from least) x.parts ∙ docs_parts least (fields w count values) x.values in
+    let long : length (take filled old ++ docs_from least (fields w count values)) ≡ filled + count =
+    omega (arith, length-append (take filled old) (docs_from least (fields w count values)), length-take-le filled old within, length-docs_from least (fields w count values), length-fields w count values) in
+    sym (take-take (filled + count) (filled + n) out (omega (arith, are)))
+    ∙ ap (take (filled + count)) (front ∙ ap (λ (docs : List ℕ). take filled old ++ docs) parts
+    ∙ sym (append_assoc (take filled old) (docs_from least (fields w count values)) (docs_from (least_behind least (fields w count values)) x.values)))
+    ∙ take_at (take filled old ++ docs_from least (fields w count values)) (docs_from (least_behind least (fields w count values)) x.values) (filled + count) long
+
 pub fours_all : (w m n k c count filled values least : ℕ) (pair first old out : List ℕ) → m ≡ 0 → n ≡ count + c → k ≡ filled + n → filled ≤ length old
     → Fours w m pair first (take k out) (take filled old ++ docs_from least (fields w n values))
     → take (filled + count) out ≡ take filled old ++ docs_from least (fields w count values)
 unfolding fields
 fours_all w m n k c count filled values least pair first old out none are place within fours =
     let f = subst (λ m. Fours w m pair first (take k out) (take filled old ++ docs_from least (fields w n values))) none fours in
-    let x = more w count c values in
     let front : take k out ≡ take filled old ++ docs_from least (fields w n values) = sym (append-nil (take k out)) ∙ f.docs in
-    let parts : docs_from least (fields w n values) ≡ docs_from least (fields w count values) ++ docs_from (least_behind least (fields w count values)) x.values =
-    ap (λ n. docs_from least (fields w n values)) are ∙ ap (docs_from least) x.parts ∙ docs_parts least (fields w count values) x.values in
-    let long : length (take filled old ++ docs_from least (fields w count values)) ≡ filled + count =
-    omega (arith, length-append (take filled old) (docs_from least (fields w count values)), length-take-le filled old within, length-docs_from least (fields w count values), length-fields w count values) in
-    sym (take-take (filled + count) k out (omega (arith, are, place)))
-    ∙ ap (take (filled + count)) (front ∙ ap (λ (docs : List ℕ). take filled old ++ docs) parts
-    ∙ sym (append_assoc (take filled old) (docs_from least (fields w count values)) (docs_from (least_behind least (fields w count values)) x.values)))
-    ∙ take_at (take filled old ++ docs_from least (fields w count values)) (docs_from (least_behind least (fields w count values)) x.values) (filled + count) long
+    first_docs w n count c filled values least old out are within (ap (λ k. take k out) (sym place) ∙ front)
+
+-- values of two parts of a number
+fields_parts : (w n m x : ℕ) → fields w (n + m) x ≡ fields w n x ++ fields w m (x / 2 ^ (n * w))
+unfolding fields
+fields_parts w zero m x =
+    let none : 0 * w ≡ 0 = omega arith in
+    let e : 0 + m ≡ m = omega arith in
+    ap (λ k. fields w k x) e ∙ sym (ap (λ k. fields w m (x / 2 ^ k)) none ∙ ap (fields w m) (div-one x))
+fields_parts w (suc n) m x =
+    let e : suc n + m ≡ suc (n + m) = omega arith in
+    let f : w + n * w ≡ suc n * w = omega (arith, suc-mul n w) in
+    fields_one w (n + m) (suc n + m) x e ∙ ap (λ (ys : List ℕ). (x % 2 ^ w) ∷ ys) (fields_parts w n m (x / 2 ^ w) ∙ ap (λ y. fields w n (x / 2 ^ w) ++ fields w m y) (shr-shr x w (n * w) ∙ ap (λ k. x / 2 ^ k) f))
+
+-- eight documents, and eight more behind them
+pub sixteen : (w filled values least behind rest : ℕ) (old out newest : List ℕ) → filled ≤ length old
+    → take (filled + 8) out ≡ take filled old ++ docs_from least (fields w 8 values)
+    → behind ≡ least_behind least (fields w 8 values) → rest ≡ values / 2 ^ (8 * w)
+    → take (filled + 8 + 8) newest ≡ take (filled + 8) out ++ docs_from behind (fields w 8 rest)
+    → take (filled + 16) newest ≡ take filled old ++ docs_from least (fields w 16 values)
+sixteen w filled values least behind rest old out newest within first behind_is rest_is second =
+    let size : filled + 16 ≡ filled + 8 + 8 = omega arith in
+    ap (λ k. take k newest) size ∙ second
+    ∙ ap (λ (docs : List ℕ). docs ++ docs_from behind (fields w 8 rest)) first
+    ∙ append_assoc (take filled old) (docs_from least (fields w 8 values)) (docs_from behind (fields w 8 rest))
+    ∙ ap (λ n. take filled old ++ (docs_from least (fields w 8 values) ++ docs_from n (fields w 8 rest))) behind_is
+    ∙ ap (λ x. take filled old ++ (docs_from least (fields w 8 values) ++ docs_from (least_behind least (fields w 8 values)) (fields w 8 x))) rest_is
+    ∙ ap (λ (docs : List ℕ). take filled old ++ docs) (sym (ap (docs_from least) (fields_parts w 8 8 values) ∙ docs_parts least (fields w 8 values) (fields w 8 (values / 2 ^ (8 * w)))))
 
 last_from : (least gap : ℕ) (gaps : List ℕ) → get_or (docs_from least (gap ∷ gaps)) (length gaps) 0 + 1 ≡ least_behind least (gap ∷ gaps)
 last_from least gap [] = omega arith

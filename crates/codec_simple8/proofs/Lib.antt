@@ -14,4 +14,5 @@ pub mod Fields
 pub mod WordLists
 pub mod Reading
 pub mod Fours
+pub mod LaneValues
 pub mod PayloadLaws

@@ -10,7 +10,7 @@ each_from p (suc n) a all (suc k) within =
     rw there (each_from p n (a + 1) (and_parts (p a) (list_all p (range_with_len (a + 1) n)) all).1 k (omega arith))
 
 -- a test that each of so many selectors passes, from one on
-each_of : (p : ℕ → Bool) (n a : ℕ) → list_all p (range_with_len a n) ≡ true → (s : ℕ) → a ≤ s → s < a + n → p s ≡ true
+pub each_of : (p : ℕ → Bool) (n a : ℕ) → list_all p (range_with_len a n) ≡ true → (s : ℕ) → a ≤ s → s < a + n → p s ≡ true
 each_of p n a all s from to =
     let there = each_from p n a all (s - a) (omega (arith, from, to)) in
     let here : a + (s - a) ≡ s = omega (arith, from) in
@@ -44,6 +44,27 @@ count_falls s within = let t = at_each (λ s. nat_le (count_of (s + 1)) (count_o
 pub width_rises : (s : ℕ) → s < 15 → width_of s ≤ width_of (s + 1)
 unfolding width_of
 width_rises s within = let t = at_each (λ s. nat_le (width_of s) (width_of (s + 1))) 15 refl s within in grind (arith, nat_tests)
+
+-- the gaps of a word of selectors 5 to 12, with one for each, add up to little
+pub narrow_sums : (s : ℕ) → 5 ≤ s → s ≤ 12 → count_of s * 2 ^ width_of s + count_of s ≤ 67108864
+unfolding count_of width_of
+narrow_sums s from to =
+    let t = each_of (λ s. nat_le (count_of s * 2 ^ width_of s + count_of s) 67108864) 8 5 refl s from (omega (arith, to)) in
+    grind (arith, nat_tests)
+
+pub narrow_counts : (s : ℕ) → 5 ≤ s → s < 16 → count_of s ≤ 15
+unfolding count_of
+narrow_counts s from to = let t = each_of (λ s. nat_le (count_of s) 15) 11 5 refl s from (omega (arith, to)) in grind (arith, nat_tests)
+
+-- a word of selector 12 has a row of gaps
+pub one_row : (s : ℕ) → s ≡ 12 → count_of s ≡ 4
+unfolding count_of
+one_row s is = rw is refl
+
+-- from the third on each selector has wider ones than the selector before
+pub wider_widths : (s : ℕ) → 2 ≤ s → s < 16 → width_of (s - 1) < width_of s
+unfolding width_of
+wider_widths s from to = let t = each_of (λ s. nat_lt (width_of (s - 1)) (width_of s)) 14 2 refl s from (omega (arith, to)) in grind (arith, nat_tests)
 
 -- the last selector
 pub last_count : count_of 15 ≡ 1
@@ -88,24 +109,8 @@ unfolding count_of
 four_rows s from to =
     let t = each_of (λ s. nat_le (count_of s) 16) 3 5 refl s from (omega (arith, to)) in grind (arith, nat_tests)
 
--- the values behind these gaps, with one for each, add no more than three of 30 bits
-pub four_rows_spare : (s : ℕ) → 5 ≤ s → s ≤ 7 → (16 - count_of s) * 2 ^ width_of s + (16 - count_of s) ≤ 3221225475
-unfolding count_of width_of
-four_rows_spare s from to =
-    let t = each_of (λ s. nat_le ((16 - count_of s) * 2 ^ width_of s + (16 - count_of s)) 3221225475) 3 5 refl s from
-    (omega (arith, to)) in
-    grind (arith, nat_tests)
-
 -- and two rows for those of selectors 8 to 11
 pub two_rows : (s : ℕ) → 8 ≤ s → s ≤ 11 → count_of s ≤ 8
 unfolding count_of
 two_rows s from to =
     let t = each_of (λ s. nat_le (count_of s) 8) 4 8 refl s from (omega (arith, to)) in grind (arith, nat_tests)
-
--- nor do the values behind these
-pub two_rows_spare : (s : ℕ) → 8 ≤ s → s ≤ 11 → (8 - count_of s) * 2 ^ width_of s + (8 - count_of s) ≤ 3221225475
-unfolding count_of width_of
-two_rows_spare s from to =
-    let t = each_of (λ s. nat_le ((8 - count_of s) * 2 ^ width_of s + (8 - count_of s)) 3221225475) 4 8 refl s from
-    (omega (arith, to)) in
-    grind (arith, nat_tests)

@@ -5,6 +5,7 @@
 
 mod checking;
 mod cursor;
+mod eights;
 mod encoding;
 mod handing;
 pub mod laws;
@@ -13,8 +14,6 @@ mod rows;
 mod selector;
 mod spelling;
 mod sums;
-#[cfg(test)]
-mod tests;
 mod values;
 mod word;
 

@@ -1,9 +1,10 @@
-// The documents of a word, four at a time.
+// The documents of a word, four at a time where they aren't put eight at a time.
 ghost use Rattle.std.specs.Prelude.{◌≡◌, ℕ, ◌+◌, ◌-◌, ◌*◌, ◌/◌, ◌<◌, ◌≤◌, ◌^◌, ◌++◌, All, [], ◌∷◌, length, take};
 ghost use Rattle.jass_base.specs.Gaps.{docs_from};
 ghost use Rattle.codec_simple8.specs.Simple8.{count_of, fields, least_behind, width_of};
 ghost use Rattle.jass_base.specs.declared.limits.TheConstants.{MOST_DOCUMENTS};
 
+use crate::eights::put_eights;
 use crate::selector::Selector;
 use crate::values::put_gaps;
 use std::simd::prelude::*;
@@ -32,17 +33,47 @@ pub(crate) fn put_fields(
     if selector.number == 15 {
         return put_gaps(values, selector, least, out, filled);
     }
-    let count = selector.count();
-    let width = selector.width();
-    // Most words have 5 to 8 gaps, or 10 to 15: these have a constant number of rows each, so that the
-    // end of the loop needn't be predicted.
-    if 5 <= selector.number && selector.number <= 7 {
-        put_rows(values, count, width, 4, least, out, filled)
-    } else if 8 <= selector.number && selector.number <= 11 {
-        put_rows(values, count, width, 2, least, out, filled)
-    } else {
-        put_rows(values, count, width, (count + 3) / 4, least, out, filled)
+    if 5 <= selector.number && selector.number <= 12 {
+        return put_narrow(values, selector, least, out, filled);
     }
+    let count = selector.count();
+    put_rows(
+        values,
+        count,
+        selector.width(),
+        (count + 3) / 4,
+        least,
+        out,
+        filled,
+    )
+}
+
+/// The same for words of 4 to 15 gaps of at most 15 bits each, which most words are.
+#[inline(always)]
+#[tactic(auto, using(crate::proofs::Tables::narrow_counts))]
+pub(crate) fn put_narrow(
+    values: u64,
+    selector: Selector,
+    least: u32,
+    out: &mut [u32],
+    filled: usize,
+) -> u32
+    requires from { 5 ≤ selector.number }
+    requires to { selector.number ≤ 12 }
+    requires room { filled + 16 ≤ length out.old }
+    requires least { least ≤ MOST_DOCUMENTS }
+    ensures docs { take (filled + count_of selector.number) out.new ≡ take filled out.old
+        ++ docs_from least (fields (width_of selector.number) (count_of selector.number) values) }
+    ensures next { result
+        ≡ least_behind least (fields (width_of selector.number) (count_of selector.number) values) }
+    ensures length { length out.new ≡ length out.old }
+{
+    let count = selector.count();
+    if selector.number == 12 {
+        return put_rows(values, count, selector.width(), 1, least, out, filled);
+    }
+    put_eights(values, selector, least, out, filled);
+    out[filled + count - 1] + 1
 }
 
 /// The same for `count` values of `width` bits each, the first in the lowest bits, in `rows` rows of
@@ -63,7 +94,7 @@ fn put_rows(
     requires spare { (4 * rows - count) * 2 ^ width + (4 * rows - count) ≤ 3 * 2 ^ 30 + 3 }
     requires room { filled + 4 * rows ≤ length out.old }
     requires least { least ≤ MOST_DOCUMENTS }
-    requires below { All (λ doc. doc < MOST_DOCUMENTS) (docs_from least (fields width count values)) }
+    requires below { All (λ doc. doc < 2 * MOST_DOCUMENTS) (docs_from least (fields width count values)) }
     ensures docs { take (filled + count) out.new ≡ take filled out.old ++ docs_from least (fields width count values) }
     ensures next { result ≡ least_behind least (fields width count values) }
     ensures length { length out.new ≡ length out.old }

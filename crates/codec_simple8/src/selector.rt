@@ -28,6 +28,26 @@ const LOWEST: [u64; 16] = [
     0x0000_0000_0000_0001,
 ];
 
+/// The bits of each gap of a word of each selector that a gap of the selector before has no room for.
+const WIDER: [u64; 16] = [
+    0,
+    0,
+    0x0fff_ffff_ffff_ffff,
+    0x0aaa_aaaa_aaaa_aaaa,
+    0x0924_9249_2492_4924,
+    0x0888_8888_8888_8888,
+    0x0842_1084_2108_4210,
+    0x0820_8208_2082_0820,
+    0x0081_0204_0810_2040,
+    0x0080_8080_8080_8080,
+    0x0c03_00c0_300c_0300,
+    0x0c00_c00c_00c0_0c00,
+    0x0e00_1c00_3800_7000,
+    0x0f80_00f8_000f_8000,
+    0x0ffc_0000_3ff0_0000,
+    0x0fff_ffff_c000_0000,
+];
+
 /// The selector of a word: which of the 16 layouts it has.
 #[derive(Clone, Copy)]
 pub(crate) struct Selector {
@@ -69,6 +89,15 @@ impl Selector {
         ensures { result ≡ number_l (2 ^ width_of self.number) (replicate (count_of self.number) 1) }
     {
         LOWEST[self.number]
+    }
+
+    /// The bits of these gaps that a gap of the selector before has no room for.
+    #[inline(always)]
+    pub fn wider(self) -> u64
+        ensures { result ≡ number_l (2 ^ width_of self.number)
+            (replicate (count_of self.number) (2 ^ width_of self.number - 2 ^ width_of (self.number - 1))) }
+    {
+        WIDER[self.number]
     }
 
     /// The selector before this one: its words have more gaps, none of them wider.

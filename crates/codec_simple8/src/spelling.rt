@@ -1,6 +1,6 @@
 // Whether words are the one spelling of their gaps. Where a selector takes the gaps, so does each
 // greater one: hence only the selector before a word's own is tried.
-ghost use Rattle.std.specs.Prelude.{◌≡◌, ◌+◌, ◌<◌, ◌≤◌, ◌^◌, ℕ, drop, length, nat_lt, take};
+ghost use Rattle.std.specs.Prelude.{◌≡◌, ◌+◌, ◌-◌, ◌<◌, ◌≤◌, ◌^◌, ℕ, drop, length, nat_lt, not, take};
 ghost use Rattle.std.specs.List.{list_all};
 ghost use Rattle.std.specs.Str.{bytes_eq};
 ghost use Rattle.codec_simple8.specs.Simple8.{count_of, fields, spelled_words, width_of, word_in};
@@ -38,12 +38,24 @@ fn spells_them(bytes: &[u8], at: usize, left: u32) -> bool
     if (word / 16) >> used != 0 {
         return false;
     }
+    if has_wider(word / 16, selector) {
+        return true;
+    }
     if selector.number == 0 {
         return true;
     }
     let narrower = selector.before();
     let more = narrower.count();
     more > left as usize || !are_narrow(bytes, at, more, narrower.width())
+}
+
+/// Whether a gap of a word has too many bits for the selector before.
+#[inline(always)]
+fn has_wider(values: u64, selector: Selector) -> bool
+    ensures { result ≡ not (list_all (λ gap. nat_lt gap (2 ^ width_of (selector.number - 1)))
+        (fields (width_of selector.number) (count_of selector.number) values)) }
+{
+    values & selector.wider() != 0
 }
 
 /// Whether a width holds each of the next `count` gaps.

@@ -7,6 +7,7 @@ ghost use Rattle.ciff_read.specs.Walk.{IsGiven};
 use ciff_read::{CiffFault, CiffWalk, CiffWhy, Piece, read_collection};
 use jass_base::{Cabinet, Failed, MemCabinet, NoMemory, PostingsList, Row};
 use std::alloc::{AllocError, Global};
+use std::process::Abort;
 
 const FILE: [u8; 71] = [
     0x15, 0x08, 0x01, 0x10, 0x01, 0x18, 0x03, 0x20, 0x01, 0x28, 0x03, 0x30, 0x0f, 0x39, 0x00, 0x00,
@@ -44,12 +45,20 @@ fn changed(place: usize, byte: u8) -> [u8; 71]
     bytes
 }
 
+/// A file, and what its reading answers.
+type Case<'a> = (&'a [u8], u32, u64);
+
+fn check_answers(rt: &impl Abort, alloc: Global, cases: &[Case<'_>]) {
+    for (bytes, number, at) in cases {
+        assert!(rt; answer(alloc, bytes) == (*number, *at));
+    }
+}
+
+const ACCEPTED: [Case<'static>; 3] = [(&FILE, 0, 3), (&OTHER, 0, 3), (b"\x00", 0, 0)];
+
 #[test]
 fn files_are_accepted(rt: HostRuntime) {
-    let alloc = rt.alloc();
-    assert!(&rt; answer(alloc, &FILE) == (0, 3));
-    assert!(&rt; answer(alloc, &OTHER) == (0, 3));
-    assert!(&rt; answer(alloc, b"\x00") == (0, 0));
+    check_answers(&rt, rt.alloc(), &ACCEPTED);
 }
 
 #[test]
@@ -60,42 +69,44 @@ fn files_are_refused(rt: HostRuntime) {
     assert!(&rt; answer(alloc, &changed(26, 0x13)) == (12, 26));
 }
 
-#[test]
-fn cut_files_are_refused_at_the_cut_message(rt: HostRuntime) {
-    let alloc = rt.alloc();
-    for end in 0..71 {
-        let at = match end {
-            0..=21 => 0,
-            22..=45 => 22,
-            46..=52 => 46,
-            53..=61 => 53,
-            _ => 62,
-        };
-        assert!(&rt; answer(alloc, &FILE[..end]) == (10, at));
+/// Where the message begins that a file of so many bytes cuts.
+fn cut_message(end: usize) -> u64 {
+    match end {
+        0..=21 => 0,
+        22..=45 => 22,
+        46..=52 => 46,
+        53..=61 => 53,
+        _ => 62,
     }
 }
 
 #[test]
-fn headers_are_judged_at_the_limits(rt: HostRuntime) {
+fn cut_files_are_refused_at_the_cut_message(rt: HostRuntime) {
     let alloc = rt.alloc();
-    let table: [(&[u8], u32, u64); 9] = [
-        // lists
-        (b"\x05\x10\x80\x80\x80\x08", 10, 6),
-        (b"\x05\x10\x81\x80\x80\x08", 22, 0),
-        // documents
-        (b"\x05\x18\x80\x80\x80\x20", 10, 6),
-        (b"\x05\x18\x81\x80\x80\x20", 22, 0),
-        // the version
-        (b"\x06\x08\xff\xff\xff\xff\x07", 0, 0),
-        (b"\x06\x08\x80\x80\x80\x80\x08", 13, 0),
-        // the end of the message
-        (b"\xfb\xff\xff\xff\x0f", 10, 0),
-        (b"\xfc\xff\xff\xff\x0f", 22, 0),
-        (b"\xff\xff\xff\xff\xff\xff\xff\xff\xff\x02", 11, 0),
-    ];
-    for (bytes, number, at) in table {
-        assert!(&rt; answer(alloc, bytes) == (number, at));
+    for end in 0..71 {
+        assert!(&rt; answer(alloc, &FILE[..end]) == (10, cut_message(end)));
     }
+}
+
+const HEADERS: [Case<'static>; 9] = [
+    // lists
+    (b"\x05\x10\x80\x80\x80\x08", 10, 6),
+    (b"\x05\x10\x81\x80\x80\x08", 22, 0),
+    // documents
+    (b"\x05\x18\x80\x80\x80\x20", 10, 6),
+    (b"\x05\x18\x81\x80\x80\x20", 22, 0),
+    // the version
+    (b"\x06\x08\xff\xff\xff\xff\x07", 0, 0),
+    (b"\x06\x08\x80\x80\x80\x80\x08", 13, 0),
+    // the end of the message
+    (b"\xfb\xff\xff\xff\x0f", 10, 0),
+    (b"\xfc\xff\xff\xff\x0f", 22, 0),
+    (b"\xff\xff\xff\xff\xff\xff\xff\xff\xff\x02", 11, 0),
+];
+
+#[test]
+fn headers_are_judged_at_the_limits(rt: HostRuntime) {
+    check_answers(&rt, rt.alloc(), &HEADERS);
 }
 
 /// The front of a file, and the letter `a` so often.
@@ -105,29 +116,38 @@ fn filled(alloc: Global, front: &[u8], count: u32) -> Result<Vec<u8>, AllocError
     Ok(bytes)
 }
 
+/// The front of a file, how often the letter `a` follows, and what its reading answers.
+type Filled<'a> = (&'a [u8], u32, u32, u64);
+
+const TEXTS: [Filled<'static>; 4] = [
+    // a list whose term has 65,535 bytes, and 65,536
+    (b"\x02\x10\x01\x83\x80\x04\x0a\xff\xff\x03", 65_535, 0, 0),
+    (b"\x02\x10\x01\x84\x80\x04\x0a\x80\x80\x04", 65_536, 22, 3),
+    // a document whose name has 1,048,576 bytes, and 1,048,577
+    (b"\x02\x18\x01\x84\x80\x40\x12\x80\x80\x40", 1_048_576, 0, 1),
+    (
+        b"\x02\x18\x01\x85\x80\x40\x12\x81\x80\x40",
+        1_048_577,
+        20,
+        3,
+    ),
+];
+
+/// What reading a filled file answers; None where it finds no room.
+fn answer_filled(alloc: Global, front: &[u8], count: u32) -> Option<(u32, u64)> {
+    let bytes = filled(alloc, front, count).ok()?;
+    Some(answer(alloc, bytes.as_slice()))
+}
+
+fn check_texts(rt: &impl Abort, alloc: Global, texts: &[Filled<'_>]) {
+    for (front, count, number, at) in texts {
+        assert!(rt; answer_filled(alloc, front, *count) == Some((*number, *at)));
+    }
+}
+
 #[test]
 fn texts_are_judged_at_the_limits(rt: HostRuntime) {
-    let alloc = rt.alloc();
-    let table: [(&[u8], u32, u32, u64); 4] = [
-        // a list whose term has 65,535 bytes, and 65,536
-        (b"\x02\x10\x01\x83\x80\x04\x0a\xff\xff\x03", 65_535, 0, 0),
-        (b"\x02\x10\x01\x84\x80\x04\x0a\x80\x80\x04", 65_536, 22, 3),
-        // a document whose name has 1,048,576 bytes, and 1,048,577
-        (b"\x02\x18\x01\x84\x80\x40\x12\x80\x80\x40", 1_048_576, 0, 1),
-        (
-            b"\x02\x18\x01\x85\x80\x40\x12\x81\x80\x40",
-            1_048_577,
-            20,
-            3,
-        ),
-    ];
-    for (front, count, number, at) in table {
-        let Ok(bytes) = filled(alloc, front, count) else {
-            assert!(&rt; false, "no memory");
-            return;
-        };
-        assert!(&rt; answer(alloc, bytes.as_slice()) == (number, at));
-    }
+    check_texts(&rt, rt.alloc(), &TEXTS);
 }
 
 /// What opening a walk over a file of these bytes answers: as above, and 0 at 0 for a walk.
@@ -144,17 +164,27 @@ fn opening(alloc: Global, bytes: &[u8]) -> (u32, u64) {
     }
 }
 
+const OPENED: [Case<'static>; 6] = [
+    (&FILE, 0, 0),
+    (&[], 10, 0),
+    (b"\xfb\xff\xff\xff\x0f", 10, 0),
+    (b"\xfc\xff\xff\xff\x0f", 22, 0),
+    (b"\x05\x18\x81\x80\x80\x20", 22, 0),
+    (b"\x02\x03\x00", 12, 1),
+];
+
+fn check_opened(rt: &impl Abort, alloc: Global, cases: &[Case<'_>]) {
+    for (bytes, number, at) in cases {
+        assert!(rt; opening(alloc, bytes) == (*number, *at));
+    }
+}
+
 #[test]
 fn walks_are_opened(rt: HostRuntime) {
     let alloc = rt.alloc();
-    assert!(&rt; opening(alloc, &FILE) == (0, 0));
+    check_opened(&rt, alloc, &OPENED);
     assert!(&rt; opening(alloc, &FILE[..22]) == (0, 0));
     assert!(&rt; opening(alloc, &FILE[..21]) == (10, 0));
-    assert!(&rt; opening(alloc, &[]) == (10, 0));
-    assert!(&rt; opening(alloc, b"\xfb\xff\xff\xff\x0f") == (10, 0));
-    assert!(&rt; opening(alloc, b"\xfc\xff\xff\xff\x0f") == (22, 0));
-    assert!(&rt; opening(alloc, b"\x05\x18\x81\x80\x80\x20") == (22, 0));
-    assert!(&rt; opening(alloc, b"\x02\x03\x00") == (12, 1));
 }
 
 #[test]
@@ -220,20 +250,20 @@ impl Cabinet for Switched {
 
 /// A cabinet with the file of one term, and one with a file of these bytes.
 fn cabinets(alloc: Global, second: &[u8]) -> Option<Switched> {
-    let mut files = Switched {
-        first: MemCabinet::new(alloc, Row::new(alloc), Row::new(alloc)),
-        second: MemCabinet::new(alloc, Row::new(alloc), Row::new(alloc)),
+    Some(Switched {
+        first: cabinet(alloc, &FILE)?,
+        second: cabinet(alloc, second)?,
         is_second: false,
         reads: 100,
         read_faults: 0,
         write_faults: 0,
-    };
-    let Ok(()) = files.first.store("file", &FILE) else {
-        return None;
-    };
-    let Ok(()) = files.second.store("file", second) else {
-        return None;
-    };
+    })
+}
+
+/// A cabinet with a file of these bytes.
+fn cabinet(alloc: Global, bytes: &[u8]) -> Option<MemCabinet> {
+    let mut files = MemCabinet::new(alloc, Row::new(alloc), Row::new(alloc));
+    files.store("file", bytes).ok()?;
     Some(files)
 }
 
@@ -259,24 +289,53 @@ fn piece(walk: &mut CiffWalk, files: &mut Switched) -> (u32, u64, u64) {
     }
 }
 
+/// The pieces of the file of one term, with the end twice.
+const PIECES: [(u32, u64, u64); 7] = [
+    (1, 1, 3),
+    (2, 22, 3),
+    (3, 0, 9),
+    (3, 1, 5),
+    (3, 2, 1),
+    (4, 0, 0),
+    (4, 0, 0),
+];
+
+fn check_pieces(
+    rt: &impl Abort,
+    walk: &mut CiffWalk,
+    files: &mut Switched,
+    pieces: &[(u32, u64, u64)],
+) {
+    for wanted in pieces {
+        assert!(rt; piece(walk, files) == *wanted);
+    }
+}
+
 #[test]
 fn pieces_come_in_the_order_of_the_file(rt: HostRuntime) {
     let alloc = rt.alloc();
     let Some(mut files) = cabinets(alloc, &FILE) else {
-        assert!(&rt; false, "no memory");
-        return;
+        panic!(&rt; "no memory");
     };
-    let Ok(mut walk) = CiffWalk::open(alloc, &mut files, "file") else {
-        assert!(&rt; false, "not opened");
-        return;
+    let Ok(mut walk) = opened(alloc, &mut files) else {
+        panic!(&rt; "not opened");
     };
-    assert!(&rt; piece(&mut walk, &mut files) == (1, 1, 3));
-    assert!(&rt; piece(&mut walk, &mut files) == (2, 22, 3));
-    assert!(&rt; piece(&mut walk, &mut files) == (3, 0, 9));
-    assert!(&rt; piece(&mut walk, &mut files) == (3, 1, 5));
-    assert!(&rt; piece(&mut walk, &mut files) == (3, 2, 1));
-    assert!(&rt; piece(&mut walk, &mut files) == (4, 0, 0));
-    assert!(&rt; piece(&mut walk, &mut files) == (4, 0, 0));
+    check_pieces(&rt, &mut walk, &mut files, &PIECES);
+}
+
+/// Reads the header, and says whether it came.
+fn read_start(walk: &mut CiffWalk, files: &mut Switched) -> bool {
+    matches!(walk.next_piece(files), Ok(Piece::Start { .. }))
+}
+
+/// Reads a list, and gives its place.
+fn read_list(walk: &mut CiffWalk, files: &mut Switched) -> Option<u64>
+    ensures { IfSome result (IsGiven walk.new.kept) }
+{
+    let Ok(Piece::List { at, .. }) = walk.next_piece(files) else {
+        return None;
+    };
+    Some(at)
 }
 
 /// Reads a document's record, and says whether one came.
@@ -286,23 +345,33 @@ fn read_doc(walk: &mut CiffWalk, files: &mut Switched) -> bool
     matches!(walk.next_piece(files), Ok(Piece::Doc { .. }))
 }
 
+/// Reads the end, and says whether it came.
+fn read_end(walk: &mut CiffWalk, files: &mut Switched) -> bool
+    ensures { IsTrue result → walk.new.kept ≡ walk.old.kept }
+{
+    matches!(walk.next_piece(files), Ok(Piece::End))
+}
+
+/// Reads three documents' records and the end, and says whether they came.
+fn read_rest(walk: &mut CiffWalk, files: &mut Switched) -> bool
+    ensures { IsTrue result → walk.new.kept ≡ walk.old.kept }
+{
+    read_doc(walk, files) && read_doc(walk, files) && read_doc(walk, files) && read_end(walk, files)
+}
+
 /// Reads the file of one term to its end, and gives the place of its list.
 fn read_all(walk: &mut CiffWalk, files: &mut Switched) -> Option<u64>
     ensures { IfSome result (IsGiven walk.new.kept) }
 {
-    let Ok(Piece::Start { .. }) = walk.next_piece(files) else {
-        return None;
-    };
-    let Ok(Piece::List { at, .. }) = walk.next_piece(files) else {
-        return None;
-    };
-    if !read_doc(walk, files) || !read_doc(walk, files) || !read_doc(walk, files) {
+    if !read_start(walk, files) {
         return None;
     }
-    let Ok(Piece::End) = walk.next_piece(files) else {
-        return None;
-    };
-    Some(at)
+    let at = read_list(walk, files)?;
+    if read_rest(walk, files) {
+        Some(at)
+    } else {
+        None
+    }
 }
 
 /// A list that is read again: its place, and the number of its postings; of a refusal its
@@ -329,13 +398,16 @@ const SHORTER: [u8; 40] = [
     0x10, 0x09, 0x22, 0x04, 0x08, 0x01, 0x10, 0x05,
 ];
 
+/// A walk over the file in the cabinet.
+fn opened(alloc: Global, files: &mut Switched) -> Result<CiffWalk, CiffFault> {
+    CiffWalk::open(alloc, files, "file")
+}
+
 /// What reading the list again answers, twice, where the second cabinet is read after the end
 /// or isn't.
 fn answers(alloc: Global, is_second: bool) -> Option<[(u32, u64, u64, u64); 2]> {
     let mut files = cabinets(alloc, &SHORTER)?;
-    let Ok(mut walk) = CiffWalk::open(alloc, &mut files, "file") else {
-        return None;
-    };
+    let mut walk = opened(alloc, &mut files).ok()?;
     let at = read_all(&mut walk, &mut files)?;
     files.is_second = is_second;
     let first = again(&mut walk, &mut files, at);
@@ -352,31 +424,50 @@ fn lists_are_read_again(rt: HostRuntime) {
 
 /// Which call answers a read fault after so many reads: 1 opening, 2 a piece, 3 the list that is
 /// read again; and whether the next call answers it, too.
-fn fault_after(alloc: Global, reads: u32) -> (u32, bool) {
-    let Some(mut files) = cabinets(alloc, &FILE) else {
-        return (0, false);
-    };
+fn fault_after(alloc: Global, reads: u32) -> Option<(u32, bool)> {
+    let mut files = cabinets(alloc, &FILE)?;
     files.reads = reads;
-    let mut walk = match CiffWalk::open(alloc, &mut files, "file") {
-        Ok(walk) => walk,
-        Err(fault) => return (1, fault == CiffFault::ReadFault),
-    };
-    let Some(at) = read_all(&mut walk, &mut files) else {
-        return (2, piece(&mut walk, &mut files) == (5, 0, 0));
-    };
-    let first = again(&mut walk, &mut files, at);
-    let second = again(&mut walk, &mut files, at);
-    (3, first == (5, 0, 0, 0) && second == (5, 0, 0, 0))
+    Some(match opened(alloc, &mut files) {
+        Ok(mut walk) => fault_of_walk(&mut walk, &mut files),
+        Err(fault) => (1, fault == CiffFault::ReadFault),
+    })
+}
+
+/// The same for a walk that was opened.
+fn fault_of_walk(walk: &mut CiffWalk, files: &mut Switched) -> (u32, bool) {
+    match read_all(walk, files) {
+        Some(at) => (3, fails_twice(walk, files, at)),
+        None => (2, piece(walk, files) == (5, 0, 0)),
+    }
+}
+
+/// Whether a list that is read again is answered a read fault, twice.
+fn fails_twice(walk: &mut CiffWalk, files: &mut Switched, at: u64) -> bool
+    requires { IsGiven walk.old.kept at }
+{
+    let first = again(walk, files, at);
+    let second = again(walk, files, at);
+    first == (5, 0, 0, 0) && second == (5, 0, 0, 0)
+}
+
+/// How many reads go well, which call answers a fault then, and whether the next one answers it, too.
+const FAULTS: [(u32, u32, bool); 5] = [
+    (0, 1, true),
+    (1, 2, true),
+    (2, 2, true),
+    (3, 3, true),
+    (4, 3, false),
+];
+
+fn check_faults(rt: &impl Abort, alloc: Global, faults: &[(u32, u32, bool)]) {
+    for (reads, call, twice) in faults {
+        assert!(rt; fault_after(alloc, *reads) == Some((*call, *twice)));
+    }
 }
 
 #[test]
 fn read_faults_are_answered_again(rt: HostRuntime) {
-    let alloc = rt.alloc();
-    assert!(&rt; fault_after(alloc, 0) == (1, true));
-    assert!(&rt; fault_after(alloc, 1) == (2, true));
-    assert!(&rt; fault_after(alloc, 2) == (2, true));
-    assert!(&rt; fault_after(alloc, 3) == (3, true));
-    assert!(&rt; fault_after(alloc, 4) == (3, false));
+    check_faults(&rt, rt.alloc(), &FAULTS);
 }
 
 /// A file of lists without postings, with these terms.
@@ -396,12 +487,17 @@ fn lists_given(alloc: Global, terms: &[&str]) -> Option<(u32, (u32, u64, u64))> 
     let bytes = file_of_terms(alloc, terms).ok()?;
     let mut files = cabinets(alloc, bytes.as_slice())?;
     files.is_second = true;
-    let mut walk = CiffWalk::open(alloc, &mut files, "file").ok()?;
-    let Ok(Piece::Start { .. }) = walk.next_piece(&mut files) else {
+    let mut walk = opened(alloc, &mut files).ok()?;
+    lists_behind(&mut walk, &mut files)
+}
+
+/// How many lists come behind the header, and the piece behind them.
+fn lists_behind(walk: &mut CiffWalk, files: &mut Switched) -> Option<(u32, (u32, u64, u64))> {
+    if !read_start(walk, files) {
         return None;
-    };
+    }
     for count in 0..8 {
-        let next = piece(&mut walk, &mut files);
+        let next = piece(walk, files);
         if next.0 != 2 {
             return Some((count, next));
         }
@@ -409,13 +505,27 @@ fn lists_given(alloc: Global, terms: &[&str]) -> Option<(u32, (u32, u64, u64))> 
     None
 }
 
+const TERMS: [&str; 6] = ["a", "ab", "c", "b", "d", "aa"];
+
+/// The six terms, and each of them once more.
+const TWICE: [[&str; 7]; 6] = [
+    ["a", "ab", "c", "b", "d", "aa", "a"],
+    ["a", "ab", "c", "b", "d", "aa", "ab"],
+    ["a", "ab", "c", "b", "d", "aa", "c"],
+    ["a", "ab", "c", "b", "d", "aa", "b"],
+    ["a", "ab", "c", "b", "d", "aa", "d"],
+    ["a", "ab", "c", "b", "d", "aa", "aa"],
+];
+
+fn check_twice(rt: &impl Abort, alloc: Global, rows: &[[&str; 7]]) {
+    for terms in rows {
+        assert!(rt; lists_given(alloc, terms) == Some((6, (18, 29, 0))));
+    }
+}
+
 #[test]
 fn each_term_is_new_once(rt: HostRuntime) {
     let alloc = rt.alloc();
-    let terms = ["a", "ab", "c", "b", "d", "aa"];
-    assert!(&rt; lists_given(alloc, &terms) == Some((6, (4, 0, 0))));
-    for term in terms {
-        let twice = ["a", "ab", "c", "b", "d", "aa", term];
-        assert!(&rt; lists_given(alloc, &twice) == Some((6, (18, 29, 0))));
-    }
+    assert!(&rt; lists_given(alloc, &TERMS) == Some((6, (4, 0, 0))));
+    check_twice(&rt, alloc, &TWICE);
 }

@@ -5,6 +5,7 @@ use ciff_read::read_collection;
 use ciff_write::write_collection;
 use jass_base::{MemSink, NoMemory, Row};
 use std::alloc::Global;
+use std::process::Abort;
 
 const FILE: [u8; 71] = [
     0x15, 0x08, 0x01, 0x10, 0x01, 0x18, 0x03, 0x20, 0x01, 0x28, 0x03, 0x30, 0x0f, 0x39, 0x00, 0x00,
@@ -62,12 +63,16 @@ const FILES: [(&[u8], &[u8]); 4] = [
     (b"\x00", b"\x00"),
 ];
 
+fn check_written(rt: &impl Abort, alloc: Global, files: &[(&[u8], &[u8])]) {
+    for (file, canonical) in files {
+        assert!(rt; is_written(alloc, file, canonical));
+    }
+}
+
 #[test]
 fn collections_are_written(rt: HostRuntime) {
     let alloc = rt.alloc();
-    for (file, canonical) in &FILES {
-        assert!(&rt; is_written(alloc, file, canonical));
-    }
+    check_written(&rt, alloc, &FILES);
     assert!(&rt; fails(alloc, &FILE));
 }
 
@@ -81,17 +86,33 @@ fn long(number: u32) -> [u8; 3] {
 /// A file with one posting, in the last of its documents.
 fn file_of_one_posting(alloc: Global, doc: u32, tf: u32) -> Result<Row<u8>, NoMemory> {
     let mut bytes = Row::new(alloc);
+    put_header(&mut bytes, doc.saturating_add(1))?;
+    put_list(&mut bytes, doc, tf)?;
+    put_documents(&mut bytes, doc.saturating_add(1))?;
+    Ok(bytes)
+}
+
+/// The header of a file of one list and so many documents.
+fn put_header(bytes: &mut Row<u8>, docs: u32) -> Result<(), NoMemory> {
     bytes.extend(b"\x06\x10\x01\x18")?;
-    bytes.extend(&long(doc.saturating_add(1)))?;
+    bytes.extend(&long(docs))
+}
+
+/// A list of one posting.
+fn put_list(bytes: &mut Row<u8>, doc: u32, tf: u32) -> Result<(), NoMemory> {
     bytes.extend(b"\x0a\x22\x08\x08")?;
     bytes.extend(&long(doc))?;
     bytes.extend(b"\x10")?;
-    bytes.extend(&long(tf))?;
-    for number in 0..doc.saturating_add(1) {
+    bytes.extend(&long(tf))
+}
+
+/// The records of so many documents.
+fn put_documents(bytes: &mut Row<u8>, docs: u32) -> Result<(), NoMemory> {
+    for number in 0..docs {
         bytes.extend(b"\x07\x12\x01d\x08")?;
         bytes.extend(&long(number))?;
     }
-    Ok(bytes)
+    Ok(())
 }
 
 /// Whether the field of a posting is so spelled, and its bytes counted so, where it is the only one
@@ -137,10 +158,13 @@ const FIELDS: [(u32, u32, &[u8]); 8] = [
     (16_384, 128, b"\x22\x07\x08\x80\x80\x01\x10\x80\x01"),
 ];
 
+fn check_fields(rt: &impl Abort, alloc: Global, fields: &[(u32, u32, &[u8])]) {
+    for (gap, tf, field) in fields {
+        assert!(rt; is_spelled(alloc, *gap, *tf, field));
+    }
+}
+
 #[test]
 fn postings_are_spelled(rt: HostRuntime) {
-    let alloc = rt.alloc();
-    for (gap, tf, field) in &FIELDS {
-        assert!(&rt; is_spelled(alloc, *gap, *tf, field));
-    }
+    check_fields(&rt, rt.alloc(), &FIELDS);
 }

@@ -64,26 +64,44 @@ fn has_header(collection: &Collection, docs: u32, terms: u64) -> bool {
     header.total_lists == 1 && header.total_docs == docs && header.total_terms == terms
 }
 
+/// Whether the index with these bytes is exported with so many documents and terms, and these postings.
+fn exports<L: Ledger>(
+    alloc: Global,
+    bytes: &[u8],
+    blank: Blank,
+    docs: u32,
+    terms: u64,
+    postings: &[Posting],
+) -> bool
+    requires name { blank.name ≡ L.name }
+    requires parts { blank.parts ≡ L.parts }
+    requires some { 0 < blank.parts }
+{
+    match exported::<L>(alloc, bytes, blank) {
+        Some(collection) => {
+            has_list(&collection, postings, terms)
+                && has_header(&collection, docs, terms)
+                && collection.docs.len() == docs as usize
+        }
+        None => false,
+    }
+}
+
+const FALLING: [Posting; 3] = [
+    Posting { doc: 0, tf: 9 },
+    Posting { doc: 1, tf: 5 },
+    Posting { doc: 2, tf: 1 },
+];
+
+const SORTED: [Posting; 3] = [
+    Posting { doc: 0, tf: 1 },
+    Posting { doc: 2, tf: 3 },
+    Posting { doc: 5, tf: 1 },
+];
+
 #[test]
 fn lists_are_exported_by_rising_document(rt: HostRuntime) {
     let alloc = rt.alloc();
-    let Some(rising) = exported::<Brand>(alloc, &RISING, Blank::new(1)) else {
-        panic!(&rt; "not exported");
-    };
-    let Some(crossing) = exported::<Brand>(alloc, &CROSSING, Blank::new(1)) else {
-        panic!(&rt; "not exported");
-    };
-    let falling = [
-        Posting { doc: 0, tf: 9 },
-        Posting { doc: 1, tf: 5 },
-        Posting { doc: 2, tf: 1 },
-    ];
-    let sorted = [
-        Posting { doc: 0, tf: 1 },
-        Posting { doc: 2, tf: 3 },
-        Posting { doc: 5, tf: 1 },
-    ];
-    assert!(&rt; has_list(&rising, &falling, 15) && has_header(&rising, 3, 15));
-    assert!(&rt; has_list(&crossing, &sorted, 5) && has_header(&crossing, 6, 5));
-    assert!(&rt; rising.docs.len() == 3 && crossing.docs.len() == 6);
+    assert!(&rt; exports::<Brand>(alloc, &RISING, Blank::new(1), 3, 15, &FALLING));
+    assert!(&rt; exports::<Brand>(alloc, &CROSSING, Blank::new(1), 6, 5, &SORTED));
 }

@@ -18,33 +18,34 @@ use jass_base::{
 use std::alloc::Global;
 use weights::{Bits, Range, Rule};
 
+/// The range of the BM25 weights of the list of three documents.
+const RANGE: Range = Range {
+    least: 401,
+    greatest: 572,
+};
+
 #[test]
 fn three_documents(rt: HostRuntime) {
-    let index = built(rt.alloc());
-    assert!(&rt; index.is_ok_and(|index| is_whole(&index)));
+    assert!(&rt; is_built(rt.alloc()));
 }
+
+/// Documents with their impacts, of which two are the same.
+const PAIRS: [DocImpact; 3] = [
+    DocImpact { doc: 3, impact: 5 },
+    DocImpact { doc: 4, impact: 9 },
+    DocImpact { doc: 7, impact: 5 },
+];
 
 #[test]
 fn pairs_by_impact(rt: HostRuntime) {
-    let pairs = [
-        DocImpact { doc: 3, impact: 5 },
-        DocImpact { doc: 4, impact: 9 },
-        DocImpact { doc: 7, impact: 5 },
-    ];
-    let segments = group(rt.alloc(), &pairs);
-    assert!(&rt; segments.is_ok_and(|segments| segments.len() == 2));
-    let many = many_by_impact(rt.alloc());
-    assert!(&rt; many.is_ok_and(|index| has_stripes(&index)));
+    assert!(&rt; count_of_groups(rt.alloc()) == Some(2));
+    assert!(&rt; is_striped(rt.alloc()));
 }
 
 #[test]
 fn a_range_grows_by_one_list(rt: HostRuntime) {
-    let wanted = Range {
-        least: 401,
-        greatest: 572,
-    };
-    assert!(&rt; range_of_three(rt.alloc()).is_ok_and(|range| range == wanted));
-    assert!(&rt; range_by_norms(rt.alloc()).is_ok_and(|range| range == wanted));
+    assert!(&rt; range_of_three(rt.alloc()).ok() == Some(RANGE));
+    assert!(&rt; range_by_norms(rt.alloc()).ok() == Some(RANGE));
 }
 
 #[test]
@@ -54,44 +55,54 @@ fn segments_by_a_scratch(rt: HostRuntime) {
     assert!(&rt; impacts_into(rt.alloc(), &mut segments, &mut scratch).is_ok());
     assert!(&rt; impacts_into(rt.alloc(), &mut segments, &mut scratch).is_ok());
     assert!(&rt; begin_with_the_heaviest(&segments));
-    let rows = segments.to_rows(rt.alloc());
-    assert!(&rt; rows.is_ok_and(|rows| are_impacts(rows.as_slice())));
+    assert!(&rt; has_impacts(rt.alloc(), &segments));
 }
 
 #[test]
 fn segments_of_one_list(rt: HostRuntime) {
     let alloc = rt.alloc();
-    let range = Range {
-        least: 1,
-        greatest: 9,
-    };
-    assert!(&rt; three_segments(alloc, range, 9).is_ok_and(|segments| segments.len() == 3));
-    let heavier = three_segments(alloc, range, 10);
-    assert!(&rt;
-        heavier.is_err_and(|fault| fault == SegmentsFault::Outside { kept: 9, found: 10 })
-    );
-    let narrow = Range {
-        least: 2,
-        greatest: 9,
-    };
-    let lighter = three_segments(alloc, narrow, 9);
-    assert!(&rt; lighter.is_err_and(|fault| fault == SegmentsFault::Outside { kept: 2, found: 1 }));
+    let heavier = SegmentsFault::Outside { kept: 9, found: 10 };
+    let lighter = SegmentsFault::Outside { kept: 2, found: 1 };
+    assert!(&rt; makes(alloc, 1, 9, Ok(3)));
+    assert!(&rt; makes(alloc, 1, 10, Err(heavier)));
+    assert!(&rt; makes(alloc, 2, 9, Err(lighter)));
 }
 
 /// Three documents of 9, 5 and 1 terms. The weights of a list of all three lie between those of
 /// one mention in the longest and of nine in the shortest one.
 #[test]
 fn a_list_that_can_widen(rt: HostRuntime) {
-    let norms = [1_188u64, 900, 612];
-    let ends = norm_ends(&norms);
     let mut range = Range::new();
-    assert!(rt; can_widen(range, Rule::Bm25, 3, 9, &norms, ends));
+    assert!(&rt; widens(range, Rule::Bm25, 3, 9));
     range.widen(296);
     range.widen(606);
-    assert!(rt; !can_widen(range, Rule::Bm25, 3, 9, &norms, ends));
-    assert!(rt; can_widen(range, Rule::Bm25, 3, 10, &norms, ends));
-    assert!(rt; can_widen(range, Rule::Bm25, 4, 1, &norms, ends));
-    assert!(rt; can_widen(range, Rule::Tf, 3, 9, &norms, ends));
+    assert!(&rt; !widens(range, Rule::Bm25, 3, 9));
+    assert!(&rt; widens(range, Rule::Bm25, 3, 10));
+    assert!(&rt; widens(range, Rule::Bm25, 4, 1));
+    assert!(&rt; widens(range, Rule::Tf, 3, 9));
+}
+
+/// Whether a list of so many of the three documents, with a frequency up to one, can widen a range.
+fn widens(range: Range, rule: Rule, count: u32, most: u32) -> bool
+    requires some { 1 ≤ count }
+    requires tf { (1 ≤ most) × (most < 2 ^ 31) }
+{
+    let norms = [1_188u64, 900, 612];
+    can_widen(range, rule, count, most, &norms, norm_ends(&norms))
+}
+
+/// How many segments the pairs make.
+fn count_of_groups(alloc: Global) -> Option<usize> {
+    let segments = group(alloc, &PAIRS).ok()?;
+    Some(segments.len())
+}
+
+/// Whether the index of many documents is made, and has their stripes.
+fn is_striped(alloc: Global) -> bool {
+    match many_by_impact(alloc) {
+        Ok(index) => has_stripes(&index),
+        Err(_) => false,
+    }
 }
 
 /// The segments of enough documents to go without a sort: those of the second term are made by
@@ -177,25 +188,26 @@ fn impacts_into(
     scratch: &mut Scratch,
 ) -> Result<(), SegmentsFault> {
     match (three(alloc, 9), length_norms(alloc, 15, &[9, 5, 1])) {
-        (Ok(list), Ok(norms)) => {
-            let range = Range {
-                least: 401,
-                greatest: 572,
-            };
-            let norms = norms.as_slice();
-            segments_into(
-                segments,
-                scratch,
-                Rule::Bm25,
-                Bits::Of(8),
-                range,
-                15,
-                &list,
-                &[9, 5, 1],
-                norms,
-            )
-        }
+        (Ok(list), Ok(norms)) => segments_into(
+            segments,
+            scratch,
+            Rule::Bm25,
+            Bits::Of(8),
+            RANGE,
+            15,
+            &list,
+            &[9, 5, 1],
+            norms.as_slice(),
+        ),
         _ => Err(SegmentsFault::NoMemory),
+    }
+}
+
+/// Whether the rows of the segments are made, and have the impacts of the list.
+fn has_impacts(alloc: Global, segments: &ListSegments) -> bool {
+    match segments.to_rows(alloc) {
+        Ok(rows) => are_impacts(rows.as_slice()),
+        Err(_) => false,
     }
 }
 
@@ -222,6 +234,17 @@ fn is_single(segment: &Segment, impact: u16, doc: u32) -> bool {
     match segment.docs.as_slice() {
         [only] => segment.impact == impact && *only == doc,
         _ => false,
+    }
+}
+
+/// Whether the list makes so many segments in a range up to 9, or is refused so.
+fn makes(alloc: Global, least: u64, tf: u32, answer: Result<usize, SegmentsFault>) -> bool
+    requires { (1 ≤ tf) × (tf < 2 ^ 31) }
+{
+    let range = Range { least, greatest: 9 };
+    match three_segments(alloc, range, tf) {
+        Ok(segments) => answer == Ok(segments.len()),
+        Err(fault) => answer == Err(fault),
     }
 }
 
@@ -253,6 +276,14 @@ fn three(alloc: Global, tf: u32) -> Result<PostingsList, NoMemory>
 /// The index of the collection by BM25, in 8 bits.
 fn built(alloc: Global) -> Result<ImpactIndex, NoMemory> {
     build(alloc, &collection(alloc)?, Rule::Bm25, Bits::Of(8))
+}
+
+/// Whether that index is made, and whole.
+fn is_built(alloc: Global) -> bool {
+    match built(alloc) {
+        Ok(index) => is_whole(&index),
+        Err(_) => false,
+    }
 }
 
 fn is_whole(index: &ImpactIndex) -> bool {
@@ -302,8 +333,8 @@ fn both(
     ensures { IfOk result (λ lists. lists ≡ first ∷ second ∷ []) }
 {
     let mut lists = Row::new(alloc);
-    lists.push(first).map_err(|refused| refused.1)?;
-    lists.push(second).map_err(|refused| refused.1)?;
+    lists.push(first)?;
+    lists.push(second)?;
     Ok(lists)
 }
 
@@ -322,9 +353,9 @@ fn docs(alloc: Global) -> Result<Row<DocRecord>, NoMemory>
     ensures { IfOk result (λ docs. length docs ≡ 3) }
 {
     let mut docs = Row::new(alloc);
-    docs.push(document(alloc, 9)?).map_err(|refused| refused.1)?;
-    docs.push(document(alloc, 5)?).map_err(|refused| refused.1)?;
-    docs.push(document(alloc, 1)?).map_err(|refused| refused.1)?;
+    docs.push(document(alloc, 9)?)?;
+    docs.push(document(alloc, 5)?)?;
+    docs.push(document(alloc, 1)?)?;
     Ok(docs)
 }
 

@@ -9,6 +9,7 @@ use index_layout::{OpenFault, OpenWhy};
 use jass_base::{Lexicon, MemCabinet, Names, NoMemory, Row, Steps, Totals};
 use std::alloc::Global;
 use std::marker::Brand;
+use std::process::Abort;
 use std::sync::ledger::{Blank, Ledger};
 
 /// Documents d0 to d2; `a`: (0,9), (1,5), (2,1).
@@ -57,8 +58,9 @@ fn told(fault: OpenFault) -> (u32, u64) {
     }
 }
 
-/// The sum over all segments of impact times the first document and one, each read in both ways.
-fn weighed<L: Ledger>(file: &IndexFile, blank: Blank) -> u32
+/// The sum over all segments of impact times the first document and one, each read in both ways; None
+/// where these differ.
+fn weighed<L: Ledger>(file: &IndexFile, blank: Blank) -> Option<u32>
     requires name { blank.name ≡ L.name }
     requires parts { blank.parts ≡ L.parts }
     requires some { 0 < blank.parts }
@@ -66,20 +68,69 @@ fn weighed<L: Ledger>(file: &IndexFile, blank: Blank) -> u32
     let mut steps = Steps::<L>::new(blank);
     let mut sum = 0u32;
     for t in 0..file.terms() {
-        for s in 0..file.segments(t) {
-            let head = file.head(t, s);
-            let mut cursor = file.cursor(t, s);
-            let mut block = [0u32; 128];
-            if file.next_block(&mut cursor, &mut block, &mut steps) != 1 {
-                return 0;
-            }
-            if head.count != 1 || file.first_doc(t, s, &mut steps) != block[0] {
-                return 0;
-            }
-            sum = sum.wrapping_add(u32::from(head.impact).wrapping_mul(block[0].wrapping_add(1)));
-        }
+        sum = sum.wrapping_add(weight_of_term(file, t, &mut steps)?);
     }
-    sum
+    Some(sum)
+}
+
+fn weight_of_term<L: Ledger>(file: &IndexFile, t: u32, steps: &mut Steps<L>) -> Option<u32> {
+    let mut sum = 0u32;
+    for s in 0..file.segments(t) {
+        sum = sum.wrapping_add(weight_of_segment(file, t, s, steps)?);
+    }
+    Some(sum)
+}
+
+fn weight_of_segment<L: Ledger>(
+    file: &IndexFile,
+    t: u32,
+    s: u32,
+    steps: &mut Steps<L>,
+) -> Option<u32> {
+    if t >= file.terms() || s >= file.segments(t) {
+        return None;
+    }
+    let head = file.head(t, s);
+    let mut cursor = file.cursor(t, s);
+    let mut block = [0u32; 128];
+    if file.next_block(&mut cursor, &mut block, steps) != 1 {
+        return None;
+    }
+    if head.count != 1 || file.first_doc(t, s, steps) != block[0] {
+        return None;
+    }
+    Some(u32::from(head.impact).wrapping_mul(block[0].wrapping_add(1)))
+}
+
+const TOTALS: Totals = Totals {
+    docs: 3,
+    terms: 1,
+    postings: 3,
+    greatest: 9,
+};
+
+const CODECS: CodecUse = CodecUse {
+    varbyte: 3,
+    packed: 0,
+    bitmap: 0,
+    simple8: 0,
+};
+
+/// Terms, each with the number by which it is found.
+const FOUND: [(&[u8], Option<u32>); 3] = [(b"a", Some(0)), (b"b", None), (b"", None)];
+
+fn check_found(rt: &impl Abort, file: &IndexFile, rows: &[(&[u8], Option<u32>)]) {
+    for (term, number) in rows {
+        assert!(rt; file.find(term) == *number);
+    }
+}
+
+fn has_term(file: &IndexFile) -> bool {
+    file.terms() == 1 && file.term(0) == "a"
+}
+
+fn has_names(file: &IndexFile) -> bool {
+    Names::docs(file) == 3 && Names::name(file, 2) == "d2"
 }
 
 #[test]
@@ -87,26 +138,21 @@ fn a_file_is_seen(rt: HostRuntime) {
     let Ok(file) = opened(rt.alloc(), &FILE) else {
         panic!(&rt; "refused");
     };
-    let totals = Totals {
-        docs: 3,
-        terms: 1,
-        postings: 3,
-        greatest: 9,
-    };
-    let codecs = CodecUse {
-        varbyte: 3,
-        packed: 0,
-        bitmap: 0,
-        simple8: 0,
-    };
-    assert!(&rt; file.totals() == totals);
-    assert!(&rt; file.codecs() == codecs);
-    assert!(&rt; weighed::<Brand>(&file, Blank::new(1)) == 22);
-    assert!(&rt; file.find(b"a") == Some(0));
-    assert!(&rt; file.find(b"b") == None);
-    assert!(&rt; file.find(b"") == None);
-    assert!(&rt; file.terms() == 1 && file.term(0) == "a");
-    assert!(&rt; Names::docs(&file) == 3 && Names::name(&file, 2) == "d2");
+    assert!(&rt; file.totals() == TOTALS);
+    assert!(&rt; file.codecs() == CODECS);
+    assert!(&rt; weighed::<Brand>(&file, Blank::new(1)) == Some(22));
+    check_found(&rt, &file, &FOUND);
+    assert!(&rt; has_term(&file));
+    assert!(&rt; has_names(&file));
+}
+
+/// Whether the first segment of the term is a bitmap, and it alone.
+fn has_bits(file: &IndexFile) -> bool {
+    file.terms() == 1
+        && file.segments(0) == 3
+        && file.bits(0, 0) == Some([1u8].as_slice())
+        && file.bits(0, 1) == None
+        && file.bits(0, 2) == None
 }
 
 #[test]
@@ -117,24 +163,36 @@ fn bits_are_given_of_a_bitmap_alone(rt: HostRuntime) {
         panic!(&rt; "refused");
     };
     assert!(&rt; file.codecs().bitmap == 1);
-    assert!(&rt; file.terms() == 1 && file.segments(0) == 3);
-    assert!(&rt; file.bits(0, 0) == Some([1u8].as_slice()));
-    assert!(&rt; file.bits(0, 1) == None && file.bits(0, 2) == None);
+    assert!(&rt; has_bits(&file));
+}
+
+/// A place and its new byte, and the answer for the file then.
+const CHANGED: [(usize, u8, u32, u64); 5] = [
+    (102, 3, 33, 102),
+    (102, 0, 46, 102),
+    (0, 0x4b, 40, 0),
+    (7, 0x31, 39, 0),
+    (102, 2, 0, 3),
+];
+
+/// The answer for the file with one byte changed; None where the place is behind its end.
+fn answer_changed(alloc: Global, place: usize, byte: u8) -> Option<(u32, u64)> {
+    if place >= 103 {
+        return None;
+    }
+    Some(answer_by_name(alloc, &changed(place, byte)))
+}
+
+fn check_changed(rt: &impl Abort, alloc: Global, rows: &[(usize, u8, u32, u64)]) {
+    for (place, byte, number, at) in rows {
+        assert!(rt; answer_changed(alloc, *place, *byte) == Some((*number, *at)));
+    }
 }
 
 #[test]
 fn changed_files_are_refused(rt: HostRuntime) {
     let alloc = rt.alloc();
-    let table: [(usize, u8, u32, u64); 5] = [
-        (102, 3, 33, 102),
-        (102, 0, 46, 102),
-        (0, 0x4b, 40, 0),
-        (7, 0x31, 39, 0),
-        (102, 2, 0, 3),
-    ];
-    for (place, byte, number, at) in table {
-        assert!(&rt; answer_by_name(alloc, &changed(place, byte)) == (number, at));
-    }
+    check_changed(&rt, alloc, &CHANGED);
     assert!(&rt; answer(opened(alloc, &FILE[..102])) == (41, 8));
 }
 
@@ -155,15 +213,17 @@ fn named(alloc: Global, more: u8) -> Result<Row<u8>, NoMemory> {
     Ok(row)
 }
 
+/// The answer for such a file; None where it finds no room.
+fn answer_named(alloc: Global, more: u8) -> Option<(u32, u64)> {
+    let bytes = named(alloc, more).ok()?;
+    Some(answer(IndexFile::from_bytes(alloc, bytes)))
+}
+
 #[test]
 fn a_name_has_a_mebibyte_at_the_most(rt: HostRuntime) {
     let alloc = rt.alloc();
-    for (more, number, at) in [(0, 0, 1), (1, 42, 40)] {
-        let Ok(bytes) = named(alloc, more) else {
-            panic!(&rt; "no memory");
-        };
-        assert!(&rt; answer(IndexFile::from_bytes(alloc, bytes)) == (number, at));
-    }
+    assert!(&rt; answer_named(alloc, 0) == Some((0, 1)));
+    assert!(&rt; answer_named(alloc, 1) == Some((42, 40)));
 }
 
 /// The answer for bytes that are kept in a cabinet, where opening the file and checking it by pieces
@@ -182,32 +242,45 @@ fn answer_by_name(alloc: Global, bytes: &[u8]) -> (u32, u64) {
     if opened == checked { opened } else { (3, 0) }
 }
 
+/// The answer for so many bytes of the file.
+fn answer_of_cut(count: usize) -> (u32, u64) {
+    match count {
+        0..8 => (40, 0),
+        103 => (0, 3),
+        _ => (41, 8),
+    }
+}
+
+/// Where the file is refused that is cut to so many bytes and says that it has no more.
+fn place_of_cut(count: usize) -> u64 {
+    match count {
+        0..40 => 8,
+        40..46 => 40,
+        46..52 => 46,
+        52..58 => 52,
+        58..67 => 58,
+        67..78 => 67,
+        78..89 => 78,
+        89..100 => 89,
+        _ => count as u64,
+    }
+}
+
 #[test]
 fn cut_files_are_refused_where_a_part_does_not_fit(rt: HostRuntime) {
     let alloc = rt.alloc();
     for count in 0..104 {
-        let cut = match count {
-            0..8 => (40, 0),
-            103 => (0, 3),
-            _ => (41, 8),
-        };
-        assert!(&rt; answer_by_name(alloc, &FILE[..count]) == cut);
-        let at = match count {
-            0..40 => 8,
-            40..46 => 40,
-            46..52 => 46,
-            52..58 => 52,
-            58..67 => 58,
-            67..78 => 67,
-            78..89 => 78,
-            89..100 => 89,
-            _ => count as u64,
-        };
-        let counted = changed(8, count as u8);
-        if count >= 8 && count < 103 {
-            assert!(&rt; answer_by_name(alloc, &counted[..count]) == (41, at));
-        }
+        assert!(&rt; answer_by_name(alloc, &FILE[..count]) == answer_of_cut(count));
     }
+    for count in 8..103 {
+        let counted = changed(8, count as u8);
+        assert!(&rt; answer_by_name(alloc, &counted[..count]) == (41, place_of_cut(count)));
+    }
+}
+
+#[test]
+fn a_missing_file_is_a_read_fault(rt: HostRuntime) {
+    let alloc = rt.alloc();
     let mut files = MemCabinet::new(alloc, Row::new(alloc), Row::new(alloc));
     assert!(&rt; answer(open(alloc, &mut files, "none")) == (1, 0));
     assert!(&rt; check_file(alloc, &mut files, "none") == Err(OpenFault::ReadFault));

@@ -19,6 +19,7 @@ use jass_base::{
 };
 use segment_codecs::Codec;
 use std::alloc::Global;
+use std::process::Abort;
 use weights::{Bits, Rule};
 
 /// Three documents with the term `a` at the impacts 9, 5 and 1.
@@ -40,105 +41,174 @@ const NO_DOCUMENTS: [u8; 40] = [
     0, 0, 0, 0, 0, 0, 0, 0, 0, 0, 0,
 ];
 
+/// What the index of the terms `car` and `cat` counts.
+const TOTALS_OF_TWO: Totals = Totals {
+    docs: 3,
+    terms: 2,
+    postings: 2,
+    greatest: 1,
+};
+
+/// What the small file counts.
+const TOTALS: Totals = Totals {
+    docs: 3,
+    terms: 1,
+    postings: 3,
+    greatest: 9,
+};
+
+/// The heads of the term `a`.
+const HEADS: [PayloadHead; 3] = [
+    PayloadHead {
+        impact: 9,
+        count: 1,
+        codec: Codec::Varbyte,
+        bytes: 1,
+    },
+    PayloadHead {
+        impact: 5,
+        count: 1,
+        codec: Codec::Varbyte,
+        bytes: 1,
+    },
+    PayloadHead {
+        impact: 1,
+        count: 1,
+        codec: Codec::Varbyte,
+        bytes: 1,
+    },
+];
+
 #[test]
 fn small_files_are_spelled(rt: HostRuntime) {
     let alloc = rt.alloc();
-    let small = small(alloc);
-    assert!(&rt; small.is_ok_and(|index| is_spelled(alloc, &index, 0, &SMALL)));
-    let two = car_and_cat(alloc);
-    assert!(&rt; two.is_ok_and(|index| is_spelled(alloc, &index, 58, &CAR_CAT)));
+    assert!(&rt; is_made(alloc, small(alloc), 0, &SMALL));
+    assert!(&rt; is_made(alloc, car_and_cat(alloc), 58, &CAR_CAT));
     assert!(&rt; is_spelled(alloc, &no_documents(alloc), 0, &NO_DOCUMENTS));
 }
 
 #[test]
 fn totals_are_counted(rt: HostRuntime) {
-    let wanted = Totals {
-        docs: 3,
-        terms: 2,
-        postings: 2,
-        greatest: 1,
-    };
-    assert!(&rt; car_and_cat(rt.alloc()).is_ok_and(|index| totals(&index) == wanted));
+    assert!(&rt; totals_of_two(rt.alloc()) == Some(TOTALS_OF_TWO));
 }
 
-#[test]
-fn files_are_written_or_left(rt: HostRuntime) {
-    let alloc = rt.alloc();
-    let table: [(&[u64], Result<(), SaveFault>, &[u8]); 3] = [
-        (&[], Ok(()), &SMALL),
-        (&[0], Err(SaveFault::WriteFault), b"old"),
-        (&[1], Err(SaveFault::WriteFault), b""),
-    ];
-    for (bad, answer, content) in table {
-        assert!(&rt; leaves(alloc, bad, answer, content).is_ok_and(|same| same));
+/// Which writes fail, what is answered then, and how much of the small file is left; None where the
+/// older file is.
+type Saved<'a> = (&'a [u64], Result<(), SaveFault>, Option<usize>);
+
+const SAVED: [Saved<'static>; 3] = [
+    (&[], Ok(()), Some(103)),
+    (&[0], Err(SaveFault::WriteFault), None),
+    (&[1], Err(SaveFault::WriteFault), Some(0)),
+];
+
+fn check_saved(rt: &impl Abort, alloc: Global, rows: &[Saved<'_>]) {
+    for (bad, answer, left) in rows {
+        assert!(rt; is_true(leaves(alloc, bad, *answer, *left)));
     }
 }
 
 #[test]
+fn files_are_written_or_left(rt: HostRuntime) {
+    check_saved(&rt, rt.alloc(), &SAVED);
+}
+
+#[test]
 fn heads_are_made(rt: HostRuntime) {
-    let wanted = [head(9), head(5), head(1)];
-    assert!(&rt; small_heads(rt.alloc()).is_ok_and(|heads| heads.as_slice() == wanted.as_slice()));
+    assert!(&rt; is_true(has_heads(rt.alloc())));
+}
+
+/// The same for a file that is written term by term.
+type Streamed<'a> = (&'a [u64], Result<Totals, TermFault>, Option<usize>);
+
+const STREAMED: [Streamed<'static>; 4] = [
+    (&[], Ok(TOTALS), Some(103)),
+    (&[0], Err(TermFault::WriteFault), None),
+    (&[1], Err(TermFault::WriteFault), Some(0)),
+    (&[2], Err(TermFault::WriteFault), Some(100)),
+];
+
+fn check_streamed(rt: &impl Abort, alloc: Global, rows: &[Streamed<'_>]) {
+    for (bad, answer, left) in rows {
+        assert!(rt; is_true(streams(alloc, bad, *answer, *left)));
+    }
 }
 
 #[test]
 fn files_are_written_term_by_term(rt: HostRuntime) {
-    let alloc = rt.alloc();
-    let totals = Totals {
-        docs: 3,
-        terms: 1,
-        postings: 3,
-        greatest: 9,
-    };
-    let table: [(&[u64], Result<Totals, TermFault>, &[u8]); 4] = [
-        (&[], Ok(totals), &SMALL),
-        (&[0], Err(TermFault::WriteFault), b"old"),
-        (&[1], Err(TermFault::WriteFault), b""),
-        (&[2], Err(TermFault::WriteFault), &SMALL[..100]),
-    ];
-    for (bad, answer, content) in table {
-        assert!(&rt; streams(alloc, bad, answer, content).is_ok_and(|same| same));
+    check_streamed(&rt, rt.alloc(), &STREAMED);
+}
+
+/// The same for a file of spelled parts.
+type Joined<'a> = (&'a [u64], Result<Totals, SaveFault>, Option<usize>);
+
+const JOINED: [Joined<'static>; 4] = [
+    (&[], Ok(TOTALS), Some(103)),
+    (&[0], Err(SaveFault::WriteFault), None),
+    (&[2], Err(SaveFault::WriteFault), Some(40)),
+    (&[4], Err(SaveFault::WriteFault), Some(100)),
+];
+
+fn check_joined(rt: &impl Abort, alloc: Global, rows: &[Joined<'_>]) {
+    for (bad, answer, left) in rows {
+        assert!(rt; is_true(joins_parts(alloc, bad, *answer, *left)));
     }
 }
 
 #[test]
 fn files_are_written_of_spelled_parts(rt: HostRuntime) {
-    let alloc = rt.alloc();
-    let totals = Totals {
-        docs: 3,
-        terms: 1,
-        postings: 3,
-        greatest: 9,
-    };
-    let table: [(&[u64], Result<Totals, SaveFault>, &[u8]); 4] = [
-        (&[], Ok(totals), &SMALL),
-        (&[0], Err(SaveFault::WriteFault), b"old"),
-        (&[2], Err(SaveFault::WriteFault), &SMALL[..40]),
-        (&[4], Err(SaveFault::WriteFault), &SMALL[..100]),
-    ];
-    for (bad, answer, content) in table {
-        assert!(&rt; joins_parts(alloc, bad, answer, content).is_ok_and(|same| same));
+    check_joined(&rt, rt.alloc(), &JOINED);
+}
+
+/// Which writes fail, whether that is answered, and how many bytes the file is left with.
+type Put<'a> = (&'a [u64], bool, usize);
+
+const PUT: [Put<'static>; 5] = [
+    (&[], false, 70_050),
+    (&[0], true, 3),
+    (&[1], true, 0),
+    (&[2], true, 44),
+    (&[3], true, 70_044),
+];
+
+fn check_put(rt: &impl Abort, alloc: Global, rows: &[Put<'_>]) {
+    for (bad, failed, len) in rows {
+        assert!(rt; is_true(puts_names(alloc, bad, *failed, *len)));
     }
 }
 
 #[test]
 fn long_texts_go_through(rt: HostRuntime) {
-    let alloc = rt.alloc();
-    let table: [(&[u64], bool, usize); 5] = [
-        (&[], false, 70_050),
-        (&[0], true, 3),
-        (&[1], true, 0),
-        (&[2], true, 44),
-        (&[3], true, 70_044),
-    ];
-    for (bad, failed, len) in table {
-        assert!(&rt; puts_names(alloc, bad, failed, len).is_ok_and(|same| same));
-    }
+    check_put(&rt, rt.alloc(), &PUT);
 }
 
 #[test]
 fn other_segments_are_refused(rt: HostRuntime) {
     let wanted = Err(TermFault::Changed { kept: 3, found: 1 });
-    assert!(&rt; refuses_one_segment(rt.alloc(), wanted).is_ok_and(|same| same));
+    assert!(&rt; is_true(refuses_one_segment(rt.alloc(), wanted)));
+}
+
+/// Whether the answer is there, and is yes.
+fn is_true(answer: Result<bool, NoMemory>) -> bool {
+    matches!(answer, Ok(true))
+}
+
+/// Whether the index was made, and is spelled so.
+fn is_made(
+    alloc: Global,
+    index: Result<ImpactIndex, NoMemory>,
+    from: usize,
+    wanted: &[u8],
+) -> bool {
+    match index {
+        Ok(index) => is_spelled(alloc, &index, from, wanted),
+        Err(_) => false,
+    }
+}
+
+fn totals_of_two(alloc: Global) -> Option<Totals> {
+    let index = car_and_cat(alloc).ok()?;
+    Some(totals(&index))
 }
 
 /// Whether the bytes of an index, from a place on, are these.
@@ -153,20 +223,35 @@ fn is_spelled(alloc: Global, index: &ImpactIndex, from: usize, wanted: &[u8]) ->
     }
 }
 
+/// A cabinet with an older file, where these writes fail.
+fn older(alloc: Global, bad: &[u64]) -> Result<MemCabinet, NoMemory> {
+    let mut bad_writes = Row::new(alloc);
+    bad_writes.extend(bad)?;
+    let mut files = MemCabinet::new(alloc, Row::new(alloc), bad_writes);
+    files.store("i", b"old")?;
+    Ok(files)
+}
+
+/// Whether so much of the small file is left, or the older one.
+fn is_left(files: &MemCabinet, left: Option<usize>) -> bool {
+    match (files.content("i"), left) {
+        (Some(content), Some(len)) => content.len() == len && SMALL.starts_with(content),
+        (Some(content), None) => content == b"old".as_slice(),
+        (None, _) => false,
+    }
+}
+
 /// Whether a file that is written over an older one is answered and left so, where these calls fail.
 fn leaves(
     alloc: Global,
     bad: &[u64],
     answer: Result<(), SaveFault>,
-    content: &[u8],
+    left: Option<usize>,
 ) -> Result<bool, NoMemory> {
     let index = small(alloc)?;
-    let mut bad_writes = Row::new(alloc);
-    bad_writes.extend(bad)?;
-    let mut files = MemCabinet::new(alloc, Row::new(alloc), bad_writes);
-    files.store("i", b"old")?;
+    let mut files = older(alloc, bad)?;
     let written = write_index(alloc, &index, &mut files, "i");
-    Ok(written == answer && files.content("i") == Some(content))
+    Ok(written == answer && is_left(&files, left))
 }
 
 /// The same for a file that is written term by term, with the totals at its end.
@@ -174,15 +259,12 @@ fn streams(
     alloc: Global,
     bad: &[u64],
     answer: Result<Totals, TermFault>,
-    content: &[u8],
+    left: Option<usize>,
 ) -> Result<bool, NoMemory> {
-    let mut bad_writes = Row::new(alloc);
-    bad_writes.extend(bad)?;
-    let mut files = MemCabinet::new(alloc, Row::new(alloc), bad_writes);
-    files.store("i", b"old")?;
+    let mut files = older(alloc, bad)?;
     let segments = falling(alloc)?;
     let written = streamed(alloc, segments.as_slice(), &mut files);
-    Ok(written == answer && files.content("i") == Some(content))
+    Ok(written == answer && is_left(&files, left))
 }
 
 /// The same for a file of the three names, the term `a` and its payloads.
@@ -190,18 +272,26 @@ fn joins_parts(
     alloc: Global,
     bad: &[u64],
     answer: Result<Totals, SaveFault>,
-    content: &[u8],
+    left: Option<usize>,
 ) -> Result<bool, NoMemory> {
-    let mut bad_writes = Row::new(alloc);
-    bad_writes.extend(bad)?;
-    let mut files = MemCabinet::new(alloc, Row::new(alloc), bad_writes);
-    files.store("i", b"old")?;
+    let mut files = older(alloc, bad)?;
+    let written = joined(alloc, &mut files)?;
+    Ok(written == answer && is_left(&files, left))
+}
+
+/// What writing the parts answers.
+fn joined(alloc: Global, files: &mut MemCabinet) -> Result<Result<Totals, SaveFault>, NoMemory> {
     let names = spelled_names(alloc)?;
-    let mut terms = SpelledTerms::new(alloc);
-    terms.push("a", &[head(9), head(5), head(1)])?;
+    let terms = spelled_terms(alloc)?;
     let payloads = one_block(alloc)?;
-    let written = write_parts(alloc, &names, &terms, &payloads, &mut files, "i");
-    Ok(written == answer && files.content("i") == Some(content))
+    Ok(write_parts(alloc, &names, &terms, &payloads, files, "i"))
+}
+
+/// The term `a` with its heads.
+fn spelled_terms(alloc: Global) -> Result<SpelledTerms, NoMemory> {
+    let mut terms = SpelledTerms::new(alloc);
+    terms.push("a", &HEADS)?;
+    Ok(terms)
 }
 
 /// The payloads of the term `a`.
@@ -228,7 +318,7 @@ fn refuses_one_segment(alloc: Global, answer: Result<Totals, TermFault>) -> Resu
     let mut files = MemCabinet::new(alloc, Row::new(alloc), Row::new(alloc));
     let segments = one(alloc)?;
     let written = streamed(alloc, segments.as_slice(), &mut files);
-    Ok(written == answer && files.content("i") == Some(&SMALL[..100]))
+    Ok(written == answer && is_left(&files, Some(100)))
 }
 
 /// Writes the file of the three names and the term `a` with the heads at 9, 5 and 1.
@@ -280,15 +370,15 @@ fn kept_terms(alloc: Global) -> Result<Row<TermHeads>, NoMemory>
     let mut heads = Row::new(alloc);
     heads.extend(&[head(9), head(5), head(1)])?;
     let mut terms = Row::new(alloc);
-    terms
-        .push(TermHeads { term, heads })
-        .map_err(|refused| refused.1)?;
+    terms.push(TermHeads { term, heads })?;
     Ok(terms)
 }
 
-fn small_heads(alloc: Global) -> Result<Row<PayloadHead>, NoMemory> {
+/// Whether the heads of the segments of the term `a` are these.
+fn has_heads(alloc: Global) -> Result<bool, NoMemory> {
     let segments = falling(alloc)?;
-    payload_heads(alloc, segments.as_slice(), 3)
+    let heads = payload_heads(alloc, segments.as_slice(), 3)?;
+    Ok(heads.as_slice() == HEADS.as_slice())
 }
 
 /// The head of a segment of one document below 128.
@@ -308,17 +398,15 @@ fn head(impact: u16) -> PayloadHead
 /// Whether a file of two names, of which one finds no room and the other is short, and of no term is
 /// left with so many bytes, where these calls fail.
 fn puts_names(alloc: Global, bad: &[u64], failed: bool, len: usize) -> Result<bool, NoMemory> {
-    let mut bad_writes = Row::new(alloc);
-    bad_writes.extend(bad)?;
-    let mut files = MemCabinet::new(alloc, Row::new(alloc), bad_writes);
-    files.store("i", b"old")?;
+    let mut files = older(alloc, bad)?;
     let ImpactIndex { names, .. } = long_and_short(alloc)?;
     let written = IndexWriter::new(alloc, names, Row::new(alloc), &mut files, "i");
-    let left = match files.content("i") {
-        Some(content) => content.len(),
-        None => return Ok(false),
-    };
-    Ok(written.is_err() == failed && left == len)
+    Ok(written.is_err() == failed && length_left(&files) == Some(len))
+}
+
+fn length_left(files: &MemCabinet) -> Option<usize> {
+    let content = files.content("i")?;
+    Some(content.len())
 }
 
 /// Two documents, whose names have 70,000 bytes and two.
@@ -345,7 +433,7 @@ fn small(alloc: Global) -> Result<ImpactIndex, NoMemory> {
     let names = names(alloc)?;
     let a = term(alloc, "a", falling(alloc)?)?;
     let mut terms = Row::new(alloc);
-    terms.push(a).map_err(|refused| refused.1)?;
+    terms.push(a)?;
     Ok(ImpactIndex {
         names,
         terms,
@@ -379,8 +467,8 @@ fn both(
         ≡ max (greatest_of first.segments) (greatest_of second.segments)) }
 {
     let mut terms = Row::new(alloc);
-    terms.push(first).map_err(|refused| refused.1)?;
-    terms.push(second).map_err(|refused| refused.1)?;
+    terms.push(first)?;
+    terms.push(second)?;
     Ok(terms)
 }
 
@@ -389,13 +477,10 @@ fn names(alloc: Global) -> Result<Row<Text>, NoMemory>
     ensures names { IfOk result (All IsName) }
     ensures texts { IfOk result (All IsText) }
 {
-    let first = name(alloc, "d0")?;
-    let second = name(alloc, "d1")?;
-    let third = name(alloc, "d2")?;
     let mut names = Row::new(alloc);
-    names.push(first).map_err(|refused| refused.1)?;
-    names.push(second).map_err(|refused| refused.1)?;
-    names.push(third).map_err(|refused| refused.1)?;
+    names.push(name(alloc, "d0")?)?;
+    names.push(name(alloc, "d1")?)?;
+    names.push(name(alloc, "d2")?)?;
     Ok(names)
 }
 
@@ -434,7 +519,7 @@ fn one_doc(alloc: Global, doc: u32) -> Result<Row<u32>, NoMemory>
     ensures { IfOk result (λ docs. docs ≡ doc ∷ []) }
 {
     let mut docs = Row::new(alloc);
-    docs.push(doc).map_err(|refused| refused.1)?;
+    docs.push(doc)?;
     Ok(docs)
 }
 
@@ -447,7 +532,7 @@ fn one(alloc: Global) -> Result<Row<Segment>, NoMemory>
 {
     let first = segment(alloc, 1, 0)?;
     let mut segments = Row::new(alloc);
-    segments.push(first).map_err(|refused| refused.1)?;
+    segments.push(first)?;
     Ok(segments)
 }
 
@@ -459,12 +544,9 @@ fn falling(alloc: Global) -> Result<Row<Segment>, NoMemory>
     ensures docs { IfOk result (All (λ (s : Segment). AreDocs 3 s.docs)) }
     ensures greatest { IfOk result (λ segments. greatest_of segments ≡ 9) }
 {
-    let first = segment(alloc, 9, 0)?;
-    let second = segment(alloc, 5, 1)?;
-    let third = segment(alloc, 1, 2)?;
     let mut segments = Row::new(alloc);
-    segments.push(first).map_err(|refused| refused.1)?;
-    segments.push(second).map_err(|refused| refused.1)?;
-    segments.push(third).map_err(|refused| refused.1)?;
+    segments.push(segment(alloc, 9, 0)?)?;
+    segments.push(segment(alloc, 5, 1)?)?;
+    segments.push(segment(alloc, 1, 2)?)?;
     Ok(segments)
 }

@@ -4,6 +4,7 @@ use index_layout::{OpenWhy, refused};
 use index_version1::read_version1;
 use jass_base::{ImpactIndex, PayloadFault};
 use std::alloc::Global;
+use std::process::Abort;
 
 const SMALL: [u8; 105] = [
     74, 65, 83, 83, 73, 68, 88, 49, 105, 0, 0, 0, 0, 0, 0, 0, 3, 0, 0, 0, 1, 0, 0, 0, 3, 0, 0, 0,
@@ -34,20 +35,33 @@ const CHANGED: [(usize, u8, usize, OpenWhy); 12] = [
     (32, 8, 32, OpenWhy::Totals),
 ];
 
-#[test]
-fn changed_bytes_are_refused(rt: HostRuntime) {
-    let alloc = rt.alloc();
-    for (place, byte, at, why) in &CHANGED {
-        assert!(&rt; is_refused(alloc, *place, *byte, 105, *at, *why));
+fn check_changed(rt: &impl Abort, alloc: Global, rows: &[(usize, u8, usize, OpenWhy)]) {
+    for (place, byte, at, why) in rows {
+        assert!(rt; is_refused(alloc, *place, *byte, 105, *at, *why));
     }
+}
+
+/// The file is refused wherever it is cut.
+fn check_cuts(rt: &impl Abort, alloc: Global) {
     for count in 0..105 {
         let (at, why) = refusal_of_cut(count);
-        assert!(&rt; is_refused(alloc, 8, 105, count, at, why));
+        assert!(rt; is_refused(alloc, 8, 105, count, at, why));
     }
+}
+
+/// The same where its front tells the length that is left.
+fn check_counted_cuts(rt: &impl Abort, alloc: Global) {
     for count in 8..105 {
         let at = place_of_cut(count);
-        assert!(&rt; is_refused(alloc, 8, count as u8, count, at, OpenWhy::Length));
+        assert!(rt; is_refused(alloc, 8, count as u8, count, at, OpenWhy::Length));
     }
+}
+
+#[test]
+fn changed_bytes_are_refused(rt: HostRuntime) {
+    check_changed(&rt, rt.alloc(), &CHANGED);
+    check_cuts(&rt, rt.alloc());
+    check_counted_cuts(&rt, rt.alloc());
 }
 
 /// Where so many bytes of the file are refused, and why.

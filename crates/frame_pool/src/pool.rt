@@ -309,6 +309,3 @@ impl FramePool {
         self.leases[at] = None;
     }
 }
-
-#[cfg(test)]
-mod tests;

@@ -68,6 +68,3 @@ pub use slice_feed::SliceFeed;
 pub use steps::Steps;
 pub use term_segments::TermSegments;
 pub use text::Text;
-
-#[cfg(test)]
-mod tests;

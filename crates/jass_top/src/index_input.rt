@@ -39,7 +39,8 @@ pub fn open_index<'a, C: Cabinet>(
     }
 }
 
-/// Checks each byte of an index file, of which no more is held than one part, and gives its totals.
+/// Checks each byte of an index file, and gives its totals. It holds one part with up to 64 KiB behind it, and two bytes
+/// for each document.
 pub fn check_index<'a, C: Cabinet>(
     alloc: Global,
     files: &mut C,

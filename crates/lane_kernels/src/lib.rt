@@ -10,8 +10,6 @@ mod gaps;
 mod lanes;
 pub mod laws;
 mod pack;
-#[cfg(test)]
-mod tests;
 mod unpack;
 mod width;
 mod zeros;

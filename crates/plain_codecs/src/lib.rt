@@ -5,6 +5,4 @@
 //! payload, and a cursor that gives the documents in blocks.
 
 pub mod bitmap;
-#[cfg(test)]
-mod tests;
 pub mod varbyte;

@@ -90,6 +90,29 @@ statuses:\n\
 documents: README.md, docs/\n\
 ";
 
+/// A file, a length, and bytes of it at their places.
+type Changed<'a> = (&'a [u8], usize, &'a [(usize, u8)]);
+
+/// The file, cut to the length or filled up to it by zeros, with those bytes in place of its own.
+fn changed(alloc: Global, change: Changed<'_>) -> Result<Vec<u8>, AllocError> {
+    let (file, length, others) = change;
+    let mut bytes = vec![in alloc; 0; length]?;
+    for (to, from) in bytes.iter_mut().zip(file) {
+        *to = *from;
+    }
+    set_bytes(bytes.as_mut_slice(), others);
+    Ok(bytes)
+}
+
+/// Sets bytes at their places.
+fn set_bytes(bytes: &mut [u8], others: &[(usize, u8)]) {
+    for (at, other) in others {
+        if let Some(byte) = bytes.get_mut(*at) {
+            *byte = *other;
+        }
+    }
+}
+
 /// Which calls fail: reads and writes of files, and puts on the output and on the notes.
 #[derive(Clone, Copy)]
 struct Bad {
@@ -143,6 +166,13 @@ struct Left {
     notes: Vec<u8>,
 }
 
+/// A run of these words has this status, output and note.
+fn check_left(rt: &impl Abort, words: &str, left: &Left, status: u8, out: &[u8], notes: &[u8]) {
+    assert_eq!(rt; left.status, status, "{words}");
+    assert!(rt; left.out.as_slice() == out, "{words}");
+    assert!(rt; left.notes.as_slice() == notes, "{words}");
+}
+
 /// Runs words, and gives the number of the status.
 fn ended_by<I: Feed, L: Ledger>(
     alloc: Global,
@@ -173,6 +203,30 @@ fn ended<I: Feed>(
     ended_by::<I, Brand>(alloc, Blank::new(1), words, files, input, out, notes)
 }
 
+/// An output and notes.
+#[derive(Drop)]
+struct Sinks {
+    out: MemSink,
+    notes: MemSink,
+}
+
+/// Sinks whose puts fail where named.
+fn open_sinks(alloc: Global, bad_puts: &[u64], bad_notes: &[u64]) -> Result<Sinks, AllocError> {
+    let bad_puts = listed(alloc, bad_puts)?;
+    let bad_notes = listed(alloc, bad_notes)?;
+    Ok(Sinks {
+        out: MemSink::new(alloc, bad_puts),
+        notes: MemSink::new(alloc, bad_notes),
+    })
+}
+
+/// What a run left that ended with this status.
+fn left_in(alloc: Global, status: u8, sinks: &Sinks) -> Result<Left, AllocError> {
+    let out = Vec::from_slice(alloc, sinks.out.written())?;
+    let notes = Vec::from_slice(alloc, sinks.notes.written())?;
+    Ok(Left { status, out, notes })
+}
+
 /// Runs the words of a line over files and an input. The puts on the output and the notes fail where named.
 fn left_by<I: Feed>(
     alloc: Global,
@@ -183,12 +237,40 @@ fn left_by<I: Feed>(
     bad_notes: &[u64],
 ) -> Result<Left, AllocError> {
     let words = parted(alloc, words)?;
-    let mut out = MemSink::new(alloc, listed(alloc, bad_puts)?);
-    let mut notes = MemSink::new(alloc, listed(alloc, bad_notes)?);
-    let status = ended(alloc, words.as_slice(), files, input, &mut out, &mut notes);
-    let out = Vec::from_slice(alloc, out.written())?;
-    let notes = Vec::from_slice(alloc, notes.written())?;
-    Ok(Left { status, out, notes })
+    let mut sinks = open_sinks(alloc, bad_puts, bad_notes)?;
+    let Sinks { out, notes } = &mut sinks;
+    let status = ended(alloc, words.as_slice(), files, input, out, notes);
+    left_in(alloc, status, &sinks)
+}
+
+/// What a run left, and what a file holds then.
+#[derive(Drop)]
+struct Made {
+    left: Left,
+    content: Vec<u8>,
+}
+
+/// Whether nothing was noted, and all else is as in another run.
+fn is_muted(muted: &Made, other: &Made) -> bool {
+    muted.left.notes.is_empty()
+        && muted.left.status == other.left.status
+        && muted.left.out.as_slice() == other.left.out.as_slice()
+        && muted.content.as_slice() == other.content.as_slice()
+}
+
+/// Runs words over files and no input, and takes the content of a file behind it. The puts on the output and the notes
+/// fail where named.
+fn made_by(
+    alloc: Global,
+    words: &str,
+    files: &mut MemCabinet,
+    bad: Bad,
+    name: &str,
+) -> Result<Made, AllocError> {
+    let mut input = SliceFeed::new(b"");
+    let left = left_by(alloc, words, files, &mut input, &[bad.puts], &[bad.notes])?;
+    let content = content_of(alloc, files, name)?;
+    Ok(Made { left, content })
 }
 
 /// A cabinet with one file. The reads and the writes fail where named.
@@ -250,117 +332,139 @@ fn parted(alloc: Global, line: &str) -> Result<Vec<String>, AllocError> {
     Ok(words)
 }
 
+/// A content of `b.ciff`, words, and the output.
+type Answer<'a> = (&'a [u8], &'a str, &'a [u8]);
+
+/// Answers over whole collections, or over none.
+const ANSWERS: [Answer<'static>; 17] = [
+    (
+        &ONE_TERM,
+        "once b.ciff 3 all a",
+        b"q postings 3 segments 3 of 3 cutoff 1 next 0 bound 0 unknown 0 final\nq Q0 d0 1 9 jass\nq Q0 d1 2 5 jass\nq Q0 d2 3 1 jass\n",
+    ),
+    (
+        &SLOPPY,
+        "once b.ciff 3 all a",
+        b"q postings 3 segments 3 of 3 cutoff 1 next 0 bound 0 unknown 0 final\nq Q0 d0 1 9 jass\nq Q0 d1 2 5 jass\nq Q0 d2 3 1 jass\n",
+    ),
+    (
+        &TWO_TERMS,
+        "once b.ciff 4 all cat dog",
+        b"q postings 5 segments 4 of 4 cutoff 1 next 0 bound 0 unknown 0 final\nq Q0 d0 1 3 jass\nq Q0 d1 2 3 jass\nq Q0 d2 3 3 jass\nq Q0 d3 4 1 jass\n",
+    ),
+    (
+        &TWO_TERMS,
+        "once b.ciff 4 4 cat dog",
+        b"q postings 3 segments 3 of 4 cutoff 2 next 1 bound 1 unknown 0 open\nq Q0 d0 1 3 jass\nq Q0 d2 2 3 jass\nq Q0 d1 3 2 jass\n",
+    ),
+    (
+        &TWO_TERMS,
+        "once b.ciff 4 0 cat dog",
+        b"q postings 0 segments 0 of 4 cutoff 0 next 3 bound 6 unknown 0 open\n",
+    ),
+    (
+        &TWO_TERMS,
+        "once b.ciff 2 2 cat dog",
+        b"q postings 2 segments 2 of 4 cutoff 3 next 2 bound 3 unknown 0 open\nq Q0 d0 1 3 jass\nq Q0 d2 2 3 jass\n",
+    ),
+    (
+        &TWO_TERMS,
+        "once b.ciff 4 all zzz dog dog",
+        b"q postings 2 segments 2 of 2 cutoff 4 next 0 bound 0 unknown 1 final\nq Q0 d2 1 6 jass\nq Q0 d1 2 4 jass\n",
+    ),
+    (
+        &ONE_TERM,
+        "once b.ciff 1 1 a",
+        b"q postings 1 segments 1 of 3 cutoff 9 next 5 bound 5 unknown 0 final\nq Q0 d0 1 9 jass\n",
+    ),
+    (
+        &ONE_TERM,
+        "once b.ciff 3 2 a",
+        b"q postings 2 segments 2 of 3 cutoff 5 next 1 bound 1 unknown 0 open\nq Q0 d0 1 9 jass\nq Q0 d1 2 5 jass\n",
+    ),
+    (
+        &ONE_TERM,
+        "once b.ciff 2 2 a",
+        b"q postings 2 segments 2 of 3 cutoff 5 next 1 bound 1 unknown 0 final\nq Q0 d0 1 9 jass\nq Q0 d1 2 5 jass\n",
+    ),
+    (
+        &LEVEL_AT_LAST,
+        "once b.ciff 2 2 p q",
+        b"q postings 2 segments 2 of 3 cutoff 2 next 1 bound 1 unknown 0 set\nq Q0 d1 1 3 jass\nq Q0 d0 2 2 jass\n",
+    ),
+    (
+        &LATER_FIRST,
+        "once b.ciff 1 1 p q",
+        b"q postings 1 segments 1 of 2 cutoff 3 next 3 bound 3 unknown 0 open\nq Q0 d1 1 3 jass\n",
+    ),
+    (
+        &ONE_TERM,
+        "once b.ciff 4 all a a",
+        b"q postings 3 segments 3 of 3 cutoff 2 next 0 bound 0 unknown 0 final\nq Q0 d0 1 18 jass\nq Q0 d1 2 10 jass\nq Q0 d2 3 2 jass\n",
+    ),
+    (
+        &ONE_TERM,
+        "once b.ciff 4 all a zzz",
+        b"q postings 3 segments 3 of 3 cutoff 1 next 0 bound 0 unknown 1 final\nq Q0 d0 1 9 jass\nq Q0 d1 2 5 jass\nq Q0 d2 3 1 jass\n",
+    ),
+    (
+        &[0],
+        "once b.ciff 4 all a",
+        b"q postings 0 segments 0 of 0 cutoff 0 next 0 bound 0 unknown 1 final\n",
+    ),
+    (&[], "--help", HELP),
+    (&[], "--version", b"jass 0.1.0\n"),
+];
+
+/// A run is done, and prints what stands beside it.
+fn check_answer(rt: &impl Abort, alloc: Global, answer: Answer<'_>) {
+    let (ciff, words, out) = answer;
+    let Ok(left) = ran(alloc, ciff, words, &[], &[], &[]) else {
+        panic!(rt; "no memory")
+    };
+    check_left(rt, words, &left, 0, out, b"");
+}
+
+/// Each run over a whole collection ends so.
+fn check_answers(rt: &impl Abort, alloc: Global, answers: &[Answer<'_>]) {
+    for answer in answers {
+        check_answer(rt, alloc, *answer);
+    }
+}
+
+/// Answers over collections in which a weight or the order of the terms is another.
+const CHANGED_ANSWERS: [(Changed<'static>, &str, &[u8]); 3] = [
+    (
+        (&ONE_TERM, 71, &[(39, 8), (45, 7)]),
+        "once b.ciff 1 1 a",
+        b"q postings 1 segments 1 of 3 cutoff 9 next 8 bound 8 unknown 0 final\nq Q0 d0 1 9 jass\n",
+    ),
+    (
+        (&ONE_TERM, 71, &[(39, 8), (45, 7)]),
+        "once b.ciff 1 2 a",
+        b"q postings 2 segments 2 of 3 cutoff 8 next 7 bound 7 unknown 0 open\nq Q0 d0 1 9 jass\n",
+    ),
+    (
+        (&LATER_FIRST, 64, &[(25, b'q'), (39, b'p')]),
+        "once b.ciff 1 1 p q",
+        b"q postings 1 segments 1 of 2 cutoff 3 next 3 bound 3 unknown 0 final\nq Q0 d0 1 3 jass\n",
+    ),
+];
+
+/// Each run over a changed collection ends so.
+fn check_changed_answers(rt: &impl Abort, alloc: Global, answers: &[(Changed<'_>, &str, &[u8])]) {
+    for (change, words, out) in answers {
+        let Ok(ciff) = changed(alloc, *change) else {
+            panic!(rt; "no memory")
+        };
+        check_answer(rt, alloc, (ciff.as_slice(), words, out));
+    }
+}
+
 #[test]
 fn answers_are_printed(rt: HostRuntime) {
-    let mut earlier_first = LATER_FIRST;
-    earlier_first[25] = b'q';
-    earlier_first[39] = b'p';
-    let mut close = ONE_TERM;
-    close[39] = 8;
-    close[45] = 7;
-    let table: [(&[u8], &str, &[u8]); 20] = [
-        (
-            &ONE_TERM,
-            "once b.ciff 3 all a",
-            b"q postings 3 segments 3 of 3 cutoff 1 next 0 bound 0 unknown 0 final\nq Q0 d0 1 9 jass\nq Q0 d1 2 5 jass\nq Q0 d2 3 1 jass\n",
-        ),
-        (
-            &SLOPPY,
-            "once b.ciff 3 all a",
-            b"q postings 3 segments 3 of 3 cutoff 1 next 0 bound 0 unknown 0 final\nq Q0 d0 1 9 jass\nq Q0 d1 2 5 jass\nq Q0 d2 3 1 jass\n",
-        ),
-        (
-            &TWO_TERMS,
-            "once b.ciff 4 all cat dog",
-            b"q postings 5 segments 4 of 4 cutoff 1 next 0 bound 0 unknown 0 final\nq Q0 d0 1 3 jass\nq Q0 d1 2 3 jass\nq Q0 d2 3 3 jass\nq Q0 d3 4 1 jass\n",
-        ),
-        (
-            &TWO_TERMS,
-            "once b.ciff 4 4 cat dog",
-            b"q postings 3 segments 3 of 4 cutoff 2 next 1 bound 1 unknown 0 open\nq Q0 d0 1 3 jass\nq Q0 d2 2 3 jass\nq Q0 d1 3 2 jass\n",
-        ),
-        (
-            &TWO_TERMS,
-            "once b.ciff 4 0 cat dog",
-            b"q postings 0 segments 0 of 4 cutoff 0 next 3 bound 6 unknown 0 open\n",
-        ),
-        (
-            &TWO_TERMS,
-            "once b.ciff 2 2 cat dog",
-            b"q postings 2 segments 2 of 4 cutoff 3 next 2 bound 3 unknown 0 open\nq Q0 d0 1 3 jass\nq Q0 d2 2 3 jass\n",
-        ),
-        (
-            &TWO_TERMS,
-            "once b.ciff 4 all zzz dog dog",
-            b"q postings 2 segments 2 of 2 cutoff 4 next 0 bound 0 unknown 1 final\nq Q0 d2 1 6 jass\nq Q0 d1 2 4 jass\n",
-        ),
-        (
-            &ONE_TERM,
-            "once b.ciff 1 1 a",
-            b"q postings 1 segments 1 of 3 cutoff 9 next 5 bound 5 unknown 0 final\nq Q0 d0 1 9 jass\n",
-        ),
-        (
-            &ONE_TERM,
-            "once b.ciff 3 2 a",
-            b"q postings 2 segments 2 of 3 cutoff 5 next 1 bound 1 unknown 0 open\nq Q0 d0 1 9 jass\nq Q0 d1 2 5 jass\n",
-        ),
-        (
-            &ONE_TERM,
-            "once b.ciff 2 2 a",
-            b"q postings 2 segments 2 of 3 cutoff 5 next 1 bound 1 unknown 0 final\nq Q0 d0 1 9 jass\nq Q0 d1 2 5 jass\n",
-        ),
-        (
-            &close,
-            "once b.ciff 1 1 a",
-            b"q postings 1 segments 1 of 3 cutoff 9 next 8 bound 8 unknown 0 final\nq Q0 d0 1 9 jass\n",
-        ),
-        (
-            &close,
-            "once b.ciff 1 2 a",
-            b"q postings 2 segments 2 of 3 cutoff 8 next 7 bound 7 unknown 0 open\nq Q0 d0 1 9 jass\n",
-        ),
-        (
-            &earlier_first,
-            "once b.ciff 1 1 p q",
-            b"q postings 1 segments 1 of 2 cutoff 3 next 3 bound 3 unknown 0 final\nq Q0 d0 1 3 jass\n",
-        ),
-        (
-            &LEVEL_AT_LAST,
-            "once b.ciff 2 2 p q",
-            b"q postings 2 segments 2 of 3 cutoff 2 next 1 bound 1 unknown 0 set\nq Q0 d1 1 3 jass\nq Q0 d0 2 2 jass\n",
-        ),
-        (
-            &LATER_FIRST,
-            "once b.ciff 1 1 p q",
-            b"q postings 1 segments 1 of 2 cutoff 3 next 3 bound 3 unknown 0 open\nq Q0 d1 1 3 jass\n",
-        ),
-        (
-            &ONE_TERM,
-            "once b.ciff 4 all a a",
-            b"q postings 3 segments 3 of 3 cutoff 2 next 0 bound 0 unknown 0 final\nq Q0 d0 1 18 jass\nq Q0 d1 2 10 jass\nq Q0 d2 3 2 jass\n",
-        ),
-        (
-            &ONE_TERM,
-            "once b.ciff 4 all a zzz",
-            b"q postings 3 segments 3 of 3 cutoff 1 next 0 bound 0 unknown 1 final\nq Q0 d0 1 9 jass\nq Q0 d1 2 5 jass\nq Q0 d2 3 1 jass\n",
-        ),
-        (
-            &[0],
-            "once b.ciff 4 all a",
-            b"q postings 0 segments 0 of 0 cutoff 0 next 0 bound 0 unknown 1 final\n",
-        ),
-        (&[], "--help", HELP),
-        (&[], "--version", b"jass 0.1.0\n"),
-    ];
-    for (ciff, words, out) in table {
-        let Ok(left) = ran(rt.alloc(), ciff, words, &[], &[], &[]) else {
-            assert!(&rt; false, "no memory");
-            return;
-        };
-        assert_eq!(&rt; left.status, 0, "{words}");
-        assert!(&rt; left.out.as_slice() == out, "{words}");
-        assert!(&rt; left.notes.is_empty(), "{words}");
-    }
+    check_answers(&rt, rt.alloc(), &ANSWERS);
+    check_changed_answers(&rt, rt.alloc(), &CHANGED_ANSWERS);
 }
 
 /// A content of `b.ciff`, words, the reads and the puts that fail, the status and the note.
@@ -419,60 +523,65 @@ const ENDS: [End<'static>; 14] = [
     ),
 ];
 
-/// Each run ends so, with its note alone; where the note can't be put, it ends with the same status.
+/// A run ends so, with its note alone, or with none where puts of notes fail.
+fn check_end(rt: &impl Abort, alloc: Global, end: End<'_>, bad_notes: &[u64]) {
+    let (ciff, words, bad_reads, bad_puts, status, notes) = end;
+    let Ok(left) = ran(alloc, ciff, words, bad_reads, bad_puts, bad_notes) else {
+        panic!(rt; "no memory")
+    };
+    let notes = if bad_notes.is_empty() { notes } else { b"" };
+    check_left(rt, words, &left, status, b"", notes);
+}
+
+/// Each run ends so; where its note can't be put, all else is the same.
 fn check_ends(rt: &impl Abort, alloc: Global, ends: &[End<'_>]) {
-    for (ciff, words, bad_reads, bad_puts, status, notes) in ends {
-        let (Ok(left), Ok(muted)) = (
-            ran(alloc, ciff, words, bad_reads, bad_puts, &[]),
-            ran(alloc, ciff, words, bad_reads, bad_puts, &[0]),
-        ) else {
+    for end in ends {
+        check_end(rt, alloc, *end, &[]);
+        check_end(rt, alloc, *end, &[0]);
+    }
+}
+
+/// Runs over collections of which a byte is missing, too many or another, each with its words and its note.
+const REFUSED: [(Changed<'static>, &str, &[u8]); 5] = [
+    (
+        (&ONE_TERM, 70, &[]),
+        "once b.ciff 3 all a",
+        b"b.ciff: refusal 10 at 62\n",
+    ),
+    (
+        (&ONE_TERM, 72, &[]),
+        "once b.ciff 3 all a",
+        b"b.ciff: refusal 21 at 71\n",
+    ),
+    (
+        (&ONE_TERM, 71, &[(37, 0)]),
+        "once b.ciff 3 all a",
+        b"b.ciff: refusal 15 at 34\n",
+    ),
+    (
+        (&ONE_TERM, 71, &[(26, 0x13)]),
+        "once b.ciff 3 all a",
+        b"b.ciff: refusal 12 at 26\n",
+    ),
+    (
+        (&ONE_TERM, 70, &[]),
+        "rewrite b.ciff c.ciff",
+        b"b.ciff: refusal 10 at 62\n",
+    ),
+];
+
+/// Each collection is refused so.
+fn check_refused(rt: &impl Abort, alloc: Global, refused: &[(Changed<'_>, &str, &[u8])]) {
+    for (change, words, notes) in refused {
+        let Ok(ciff) = changed(alloc, *change) else {
             panic!(rt; "no memory")
         };
-        assert_eq!(rt; left.status, *status, "{words}");
-        assert!(rt; left.notes.as_slice() == *notes, "{words}");
-        assert!(rt; left.out.is_empty(), "{words}");
-        assert_eq!(rt; muted.status, *status, "{words}");
-        assert!(rt; muted.notes.is_empty() && muted.out.is_empty(), "{words}");
+        check_ends(rt, alloc, &[(ciff.as_slice(), words, &[], &[], 3, notes)]);
     }
 }
 
 #[test]
 fn other_ends_are_noted(rt: HostRuntime) {
-    let mut longer = [0u8; 72];
-    longer[..71].copy_from_slice(&ONE_TERM);
-    let mut same_document = ONE_TERM;
-    same_document[37] = 0;
-    let mut bad_wire = ONE_TERM;
-    bad_wire[26] = 0x13;
-    let once = "once b.ciff 3 all a";
-    let spoilt: [End; 5] = [
-        (
-            &ONE_TERM[..70],
-            once,
-            &[],
-            &[],
-            3,
-            b"b.ciff: refusal 10 at 62\n",
-        ),
-        (&longer, once, &[], &[], 3, b"b.ciff: refusal 21 at 71\n"),
-        (
-            &same_document,
-            once,
-            &[],
-            &[],
-            3,
-            b"b.ciff: refusal 15 at 34\n",
-        ),
-        (&bad_wire, once, &[], &[], 3, b"b.ciff: refusal 12 at 26\n"),
-        (
-            &ONE_TERM[..70],
-            "rewrite b.ciff c.ciff",
-            &[],
-            &[],
-            3,
-            b"b.ciff: refusal 10 at 62\n",
-        ),
-    ];
-    check_ends(&rt, rt.alloc(), &spoilt);
+    check_refused(&rt, rt.alloc(), &REFUSED);
     check_ends(&rt, rt.alloc(), &ENDS);
 }

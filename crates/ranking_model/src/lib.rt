@@ -34,6 +34,3 @@ pub use rank::first_ranked;
 pub use report::report_of;
 pub use scores::scores_after;
 pub use standing::{Standing, standing_of};
-
-#[cfg(test)]
-mod tests;

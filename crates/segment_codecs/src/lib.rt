@@ -10,8 +10,6 @@ mod handing;
 pub mod laws;
 mod payloads;
 mod putting;
-#[cfg(test)]
-mod tests;
 
 pub use choosing::{Choice, choose, shortest};
 pub use codec::Codec;

@@ -15,16 +15,3 @@ pub fn lg(x: u64) -> u32
     let above = u128::from(x - (1 << exponent));
     1024 * exponent + ((above * 1024) >> exponent) as u32
 }
-
-#[cfg(test)]
-mod tests {
-    use super::*;
-
-    #[test]
-    fn logarithms(rt: HostRuntime) {
-        assert_eq!(rt; lg(1), 0);
-        assert_eq!(rt; lg(3), 1_536);
-        assert_eq!(rt; lg(1_365), 10_581);
-        assert_eq!(rt; lg(u64::MAX), 65_535);
-    }
-}

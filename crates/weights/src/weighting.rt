@@ -93,21 +93,3 @@ pub fn length_norm(docs: u32, total: u64, length: u32) -> u64
     let norm = (FLAT_PART * total + LENGTH_PART * u128::from(length) * u128::from(docs)) / total;
     norm.min(MOST_NORM) as u64
 }
-
-#[cfg(test)]
-mod tests {
-    use super::*;
-
-    /// Three documents of 9, 5 and 1 terms, each of which has no term but one that they share.
-    #[test]
-    fn weights_of_three_documents(rt: HostRuntime) {
-        assert_eq!(rt; idf(3, 3), 341);
-        assert_eq!(rt; length_norm(3, 15, 9), 1_188);
-        assert_eq!(rt; length_norm(3, 15, 5), 900);
-        assert_eq!(rt; length_norm(3, 15, 1), 612);
-        assert_eq!(rt; weight_of(Rule::Bm25, 3, 15, 3, 9, 9), 572);
-        assert_eq!(rt; weight_of(Rule::Bm25, 3, 15, 3, 5, 5), 549);
-        assert_eq!(rt; weight_of(Rule::Bm25, 3, 15, 3, 1, 1), 401);
-        assert_eq!(rt; weight_of(Rule::Tf, 3, 15, 3, 9, 9), 9);
-    }
-}

@@ -1,9 +1,10 @@
 // Index files made, checked, exported and upgraded, and with calls that fail.
 
 use super::{
-    Bad, Call, Left, NONE, ONE_TERM, SLOPPY, cabinet_with, content_of, left_by, only, store,
+    Bad, Call, Changed, Made, NONE, ONE_TERM, SLOPPY, cabinet_with, changed, check_left, is_muted,
+    made_by, only, store,
 };
-use jass_base::SliceFeed;
+use jass_base::MemCabinet;
 use std::alloc::{AllocError, Global};
 use std::process::Abort;
 
@@ -67,51 +68,17 @@ const NOTHING: &[u8] = b"";
 /// What the file `b` holds before a run.
 const OLD: &[u8] = b"old";
 
-/// What a run left.
-#[derive(Drop)]
-struct Outcome {
-    status: u8,
-    out: Vec<u8>,
-    notes: Vec<u8>,
-    /// The content of the file `b`.
-    content: Vec<u8>,
-}
-
-impl Outcome {
-    fn holds(&self, text: &[u8]) -> bool {
-        self.content.as_slice() == text
-    }
-
-    /// Whether nothing was noted, and all else is as in another run.
-    fn is_muted(&self, other: &Outcome) -> bool {
-        self.notes.is_empty()
-            && self.status == other.status
-            && self.out.as_slice() == other.out.as_slice()
-            && self.holds(other.content.as_slice())
-    }
-}
-
-/// Runs words over a cabinet with the files `a` and `b`.
-fn outcome_of(alloc: Global, content: &[u8], words: &str, bad: Bad) -> Result<Outcome, AllocError> {
+/// A cabinet with the files `a` and `b`.
+fn two_files(alloc: Global, content: &[u8], bad: Bad) -> Result<MemCabinet, AllocError> {
     let mut files = cabinet_with(alloc, "a", content, &[bad.reads], &[bad.writes])?;
     store(&mut files, "b", OLD)?;
-    let mut input = SliceFeed::new(b"");
-    let left = left_by(
-        alloc,
-        words,
-        &mut files,
-        &mut input,
-        &[bad.puts],
-        &[bad.notes],
-    )?;
-    let content = content_of(alloc, &files, "b")?;
-    let Left { status, out, notes } = left;
-    Ok(Outcome {
-        status,
-        out,
-        notes,
-        content,
-    })
+    Ok(files)
+}
+
+/// Runs words over a cabinet with the files `a` and `b`, and takes the content of `b`.
+fn outcome_of(alloc: Global, content: &[u8], words: &str, bad: Bad) -> Result<Made, AllocError> {
+    let mut files = two_files(alloc, content, bad)?;
+    made_by(alloc, words, &mut files, bad, "b")
 }
 
 /// A content of the file `a`, words, the status, the output, the note, and what `b` holds then.
@@ -179,20 +146,21 @@ const RUNS: [Run<'static>; 9] = [
     ),
 ];
 
+/// A run in which these calls fail ends as told, but for the note beside it.
+fn check_run(rt: &impl Abort, alloc: Global, run: Run<'_>, bad: Bad, notes: &[u8]) {
+    let (content, words, status, out, _, made) = run;
+    let Ok(outcome) = outcome_of(alloc, content, words, bad) else {
+        panic!(rt; "no memory")
+    };
+    check_left(rt, words, &outcome.left, status, out, notes);
+    assert!(rt; outcome.content.as_slice() == made, "{words}");
+}
+
 /// Each run ends as told; where its note can't be put, all else is the same.
 fn check_runs(rt: &impl Abort, alloc: Global, runs: &[Run<'_>]) {
-    for (content, words, status, out, notes, made) in runs {
-        let (Ok(left), Ok(muted)) = (
-            outcome_of(alloc, content, words, NONE),
-            outcome_of(alloc, content, words, only_notes(NONE)),
-        ) else {
-            panic!(rt; "no memory")
-        };
-        assert_eq!(rt; left.status, *status, "{words}");
-        assert!(rt; left.out.as_slice() == *out, "{words}");
-        assert!(rt; left.notes.as_slice() == *notes, "{words}");
-        assert!(rt; left.holds(made), "{words}");
-        assert!(rt; muted.is_muted(&left), "{words}");
+    for run in runs {
+        check_run(rt, alloc, *run, NONE, run.4);
+        check_run(rt, alloc, *run, only_notes(NONE), NOTHING);
     }
 }
 
@@ -201,57 +169,86 @@ fn index_files_are_made_and_checked(rt: HostRuntime) {
     check_runs(&rt, rt.alloc(), &RUNS);
 }
 
+/// Imports by other weights, each with its words, its output, and the index file.
+const SPREAD: [(&[u8], &str, &[u8], Changed<'static>); 2] = [
+    (
+        &OFTEN,
+        "import a b bits=8",
+        b"documents 5 terms 2 postings 6 greatest 255\n",
+        (
+            &OFTEN_INDEX,
+            112,
+            &[(32, 255), (33, 0), (99, 255), (100, 0)],
+        ),
+    ),
+    (
+        &ONE_TERM,
+        "import a b bits=8 weights=bm25",
+        b"documents 3 terms 1 postings 3 greatest 255\n",
+        (&ONE_TERM_INDEX, 103, &[(32, 255), (67, 255), (78, 220)]),
+    ),
+];
+
+/// Each import makes the index file beside it.
+fn check_spread(rt: &impl Abort, alloc: Global, imports: &[(&[u8], &str, &[u8], Changed<'_>)]) {
+    for (content, words, out, change) in imports {
+        let Ok(index) = changed(alloc, *change) else {
+            panic!(rt; "no memory")
+        };
+        let run = (*content, *words, 0, *out, NOTHING, index.as_slice());
+        check_runs(rt, alloc, &[run]);
+    }
+}
+
 #[test]
 fn weights_are_spread_over_impacts(rt: HostRuntime) {
-    let mut weighed = ONE_TERM_INDEX;
-    weighed[32] = 255;
-    weighed[67] = 255;
-    weighed[78] = 220;
-    let mut often_by_place = OFTEN_INDEX;
-    often_by_place[32] = 255;
-    often_by_place[33] = 0;
-    often_by_place[99] = 255;
-    often_by_place[100] = 0;
-    let runs: [Run; 2] = [
-        (
-            &OFTEN,
-            "import a b bits=8",
-            0,
-            b"documents 5 terms 2 postings 6 greatest 255\n",
-            NOTHING,
-            &often_by_place,
-        ),
-        (
-            &ONE_TERM,
-            "import a b bits=8 weights=bm25",
-            0,
-            b"documents 3 terms 1 postings 3 greatest 255\n",
-            NOTHING,
-            &weighed,
-        ),
-    ];
-    check_runs(&rt, rt.alloc(), &runs);
+    check_spread(&rt, rt.alloc(), &SPREAD);
+}
+
+/// Spoilt files, each with a command that refuses it and the note of it.
+const REFUSED: [(Changed<'static>, &str, &[u8]); 6] = [
+    ((&ONE_TERM, 70, &[]), "import a b", b"a: refusal 10 at 62\n"),
+    (
+        (&ONE_TERM_INDEX, 102, &[]),
+        "check a",
+        b"a: refusal 41 at 8\n",
+    ),
+    (
+        (&ONE_TERM_INDEX, 103, &[(102, 3)]),
+        "check a",
+        b"a: refusal 33 at 102\n",
+    ),
+    (
+        (&ONE_TERM_INDEX, 103, &[(102, 0)]),
+        "check a",
+        b"a: refusal 46 at 102\n",
+    ),
+    (
+        (&ONE_TERM_INDEX, 103, &[(0, 0x4b)]),
+        "check a",
+        b"a: refusal 40 at 0\n",
+    ),
+    (
+        (&ONE_TERM_INDEX, 103, &[(102, 0)]),
+        "export a b",
+        b"a: refusal 46 at 102\n",
+    ),
+];
+
+/// Each file is refused so, and nothing is made of it.
+fn check_refused(rt: &impl Abort, alloc: Global, refused: &[(Changed<'_>, &str, &[u8])]) {
+    for (change, words, note) in refused {
+        let Ok(content) = changed(alloc, *change) else {
+            panic!(rt; "no memory")
+        };
+        let run = (content.as_slice(), *words, 3, NOTHING, *note, OLD);
+        check_runs(rt, alloc, &[run]);
+    }
 }
 
 #[test]
 fn spoilt_files_are_refused(rt: HostRuntime) {
-    let mut past_the_last = ONE_TERM_INDEX;
-    past_the_last[102] = 3;
-    let mut twice = ONE_TERM_INDEX;
-    twice[102] = 0;
-    let mut other_magic = ONE_TERM_INDEX;
-    other_magic[0] = 0x4b;
-    let refused: [(&[u8], &str, &[u8]); 6] = [
-        (&ONE_TERM[..70], "import a b", b"a: refusal 10 at 62\n"),
-        (&ONE_TERM_INDEX[..102], "check a", b"a: refusal 41 at 8\n"),
-        (&past_the_last, "check a", b"a: refusal 33 at 102\n"),
-        (&twice, "check a", b"a: refusal 46 at 102\n"),
-        (&other_magic, "check a", b"a: refusal 40 at 0\n"),
-        (&twice, "export a b", b"a: refusal 46 at 102\n"),
-    ];
-    for (content, words, note) in refused {
-        check_runs(&rt, rt.alloc(), &[(content, words, 3, NOTHING, note, OLD)]);
-    }
+    check_refused(&rt, rt.alloc(), &REFUSED);
 }
 
 /// The same calls, and the first put on the notes.
@@ -263,74 +260,105 @@ fn only_notes(bad: Bad) -> Bad {
 /// may hold a front.
 type Case<'a> = (&'a [u8], &'a str, Call, u8, &'a [u8], Option<&'a [u8]>);
 
+/// Whether `b` is as before the run, or holds a front of its text. It is as before where the first write of a file
+/// fails, or one of the first four reads, which come before the last pass of an import.
+fn has_front(left: &Made, call: Call, number: u64, text: Option<&[u8]>) -> bool {
+    let is_begun = match call {
+        Call::Read => number > 3,
+        Call::Write => number > 0,
+        Call::Put => true,
+    };
+    let is_front = match text {
+        Some(text) => text.starts_with(left.content.as_slice()),
+        None => false,
+    };
+    left.content.as_slice() == OLD || is_begun && is_front
+}
+
+/// Whether a run that isn't done ends as told.
+fn ends_as_told(made: &Made, case: Case<'_>, number: u64) -> bool {
+    let (_, _, call, status, notes, text) = case;
+    made.left.status == status
+        && made.left.out.is_empty()
+        && made.left.notes.as_slice() == notes
+        && has_front(made, call, number, text)
+}
+
+/// Whether a run whose note can't be put either leaves all else as another run did.
+fn ends_muted(
+    alloc: Global,
+    case: Case<'_>,
+    number: u64,
+    other: &Made,
+) -> Result<bool, AllocError> {
+    let (content, words, call, ..) = case;
+    let muted = outcome_of(alloc, content, words, only_notes(only(call, number)))?;
+    Ok(is_muted(&muted, other))
+}
+
 /// Whether each run in which one call fails ends as told, from the first call on until a run is done.
 fn each_ends(alloc: Global, case: Case<'_>) -> Result<bool, AllocError> {
-    let (content, words, call, status, notes, text) = case;
+    let (content, words, call, ..) = case;
     for number in 0..40 {
-        let bad = only(call, number);
-        let left = outcome_of(alloc, content, words, bad)?;
-        if left.status == 0 {
-            return Ok(number > 0 && left.notes.is_empty());
+        let made = outcome_of(alloc, content, words, only(call, number))?;
+        if made.left.status == 0 {
+            return Ok(number > 0 && made.left.notes.is_empty());
         }
-        let muted = outcome_of(alloc, content, words, only_notes(bad))?;
-        if left.status != status
-            || !left.out.is_empty()
-            || left.notes.as_slice() != notes
-            || !has_front(&left, call, number, text)
-            || !muted.is_muted(&left)
-        {
+        if !ends_as_told(&made, case, number) || !ends_muted(alloc, case, number, &made)? {
             return Ok(false);
         }
     }
     Ok(false)
 }
 
-/// Whether `b` is as before the run, or holds a front of its text. It is as before where the first write of a file
-/// fails, or one of the first four reads, which come before the last pass of an import.
-fn has_front(left: &Outcome, call: Call, number: u64, text: Option<&[u8]>) -> bool {
-    let is_begun = match call {
-        Call::Read => number > 3,
-        Call::Write => number > 0,
-        Call::Put => true,
-    };
-    left.holds(OLD)
-        || is_begun && text.is_some_and(|text| text.starts_with(left.content.as_slice()))
+const READ: &[u8] = b"a: read fault\n";
+
+const WRITE: &[u8] = b"b: write fault\n";
+
+const PUT: &[u8] = b"output: write fault\n";
+
+/// The texts that commands write.
+const MADE: Option<&[u8]> = Some(&ONE_TERM_INDEX);
+
+const EXPORTED: Option<&[u8]> = Some(&ONE_TERM_EXPORT);
+
+const REWRITTEN: Option<&[u8]> = Some(&ONE_TERM);
+
+/// Commands, with each kind of call that they make.
+const CASES: [Case<'static>; 12] = [
+    (&SLOPPY, "rewrite a b", Call::Read, 4, READ, None),
+    (&SLOPPY, "rewrite a b", Call::Write, 5, WRITE, REWRITTEN),
+    (&ONE_TERM, "import a b", Call::Read, 4, READ, MADE),
+    (&ONE_TERM, "import a b", Call::Write, 5, WRITE, MADE),
+    (&ONE_TERM, "import a b", Call::Put, 5, PUT, MADE),
+    (&ONE_TERM_INDEX, "check a", Call::Read, 4, READ, None),
+    (&ONE_TERM_INDEX, "check a", Call::Put, 5, PUT, None),
+    (&ONE_TERM_INDEX, "export a b", Call::Read, 4, READ, None),
+    (
+        &ONE_TERM_INDEX,
+        "export a b",
+        Call::Write,
+        5,
+        WRITE,
+        EXPORTED,
+    ),
+    (&ONE_TERM_OLD, "migrate a b", Call::Read, 4, READ, None),
+    (&ONE_TERM_OLD, "migrate a b", Call::Write, 5, WRITE, MADE),
+    (&ONE_TERM_OLD, "migrate a b", Call::Put, 5, PUT, MADE),
+];
+
+/// Each command ends as told, whichever of its calls fails.
+fn check_cases(rt: &impl Abort, alloc: Global, cases: &[Case<'_>]) {
+    for case in cases {
+        let Ok(ends) = each_ends(alloc, *case) else {
+            panic!(rt; "no memory")
+        };
+        let words = case.1;
+        assert!(rt; ends, "{words}");
+    }
 }
 
 #[test]
 fn failed_calls_are_noted(rt: HostRuntime) {
-    let read = b"a: read fault\n";
-    let write = b"b: write fault\n";
-    let put = b"output: write fault\n";
-    let made = Some(ONE_TERM_INDEX.as_slice());
-    let exported = Some(ONE_TERM_EXPORT.as_slice());
-    let rewritten = Some(ONE_TERM.as_slice());
-    let table: [Case; 12] = [
-        (&SLOPPY, "rewrite a b", Call::Read, 4, read, None),
-        (&SLOPPY, "rewrite a b", Call::Write, 5, write, rewritten),
-        (&ONE_TERM, "import a b", Call::Read, 4, read, made),
-        (&ONE_TERM, "import a b", Call::Write, 5, write, made),
-        (&ONE_TERM, "import a b", Call::Put, 5, put, made),
-        (&ONE_TERM_INDEX, "check a", Call::Read, 4, read, None),
-        (&ONE_TERM_INDEX, "check a", Call::Put, 5, put, None),
-        (&ONE_TERM_INDEX, "export a b", Call::Read, 4, read, None),
-        (
-            &ONE_TERM_INDEX,
-            "export a b",
-            Call::Write,
-            5,
-            write,
-            exported,
-        ),
-        (&ONE_TERM_OLD, "migrate a b", Call::Read, 4, read, None),
-        (&ONE_TERM_OLD, "migrate a b", Call::Write, 5, write, made),
-        (&ONE_TERM_OLD, "migrate a b", Call::Put, 5, put, made),
-    ];
-    for case in table {
-        let words = case.1;
-        assert!(&rt;
-            each_ends(rt.alloc(), case).is_ok_and(|ends| ends),
-            "{words}"
-        );
-    }
+    check_cases(&rt, rt.alloc(), &CASES);
 }

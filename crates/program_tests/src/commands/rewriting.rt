@@ -1,43 +1,13 @@
 // `rewrite` on small files and a large one.
 
-use super::{Left, ONE_TERM, SLOPPY, TWO_TERMS, cabinet_with, left_by};
-use jass_base::SliceFeed;
+use super::{Made, NONE, ONE_TERM, SLOPPY, TWO_TERMS, cabinet_with, check_left, made_by};
 use std::alloc::{AllocError, Global};
+use std::process::Abort;
 
-/// What a rewrite left.
-#[derive(Drop)]
-struct Rewritten {
-    status: u8,
-    notes: Vec<u8>,
-    /// The content of the file that is written, where it is there.
-    content: Option<Vec<u8>>,
-}
-
-impl Rewritten {
-    fn holds(&self, text: &[u8]) -> bool {
-        match &self.content {
-            Some(content) => content.as_slice() == text,
-            None => false,
-        }
-    }
-}
-
-/// Rewrites a file into another.
-fn rewrite_file(alloc: Global, ciff: &[u8]) -> Result<Rewritten, AllocError> {
+/// Rewrites a file into another, and takes the content of that.
+fn rewrite_file(alloc: Global, ciff: &[u8]) -> Result<Made, AllocError> {
     let mut files = cabinet_with(alloc, "b.ciff", ciff, &[], &[])?;
-    let mut input = SliceFeed::new(b"");
-    let words = "rewrite b.ciff c.ciff";
-    let left = left_by(alloc, words, &mut files, &mut input, &[], &[])?;
-    let content = match files.content("c.ciff") {
-        Some(bytes) => Some(Vec::from_slice(alloc, bytes)?),
-        None => None,
-    };
-    let Left { status, notes, .. } = left;
-    Ok(Rewritten {
-        status,
-        notes,
-        content,
-    })
+    made_by(alloc, "rewrite b.ciff c.ciff", &mut files, NONE, "c.ciff")
 }
 
 /// A canonical file of 88 KB: 120 documents and 120 terms, which have 119 postings each.
@@ -90,35 +60,39 @@ fn add_digits(bytes: &mut Vec<u8>, number: u8) -> Result<(), AllocError> {
     Ok(())
 }
 
+/// A file is rewritten as this one.
+fn check_rewritten(rt: &impl Abort, alloc: Global, ciff: &[u8], canonical: &[u8]) {
+    let Ok(made) = rewrite_file(alloc, ciff) else {
+        panic!(rt; "no memory")
+    };
+    check_left(rt, "rewrite", &made.left, 0, b"", b"");
+    assert!(rt; made.content.as_slice() == canonical);
+}
+
 #[test]
 fn a_large_file_gives_itself(rt: HostRuntime) {
     let Ok(large) = large_file(rt.alloc()) else {
-        assert!(&rt; false, "no memory");
-        return;
+        panic!(&rt; "no memory")
     };
-    let Ok(left) = rewrite_file(rt.alloc(), large.as_slice()) else {
-        assert!(&rt; false, "no memory");
-        return;
-    };
-    assert_eq!(&rt; left.status, 0);
-    assert!(&rt; left.holds(large.as_slice()));
+    check_rewritten(&rt, rt.alloc(), large.as_slice(), large.as_slice());
+}
+
+/// Files, each with its canonical spelling.
+const FILES: [(&[u8], &[u8]); 4] = [
+    (&SLOPPY, &ONE_TERM),
+    (&ONE_TERM, &ONE_TERM),
+    (&TWO_TERMS, &TWO_TERMS),
+    (&[0], &[0]),
+];
+
+/// Each file is rewritten in its canonical spelling.
+fn check_files(rt: &impl Abort, alloc: Global, files: &[(&[u8], &[u8])]) {
+    for (ciff, canonical) in files {
+        check_rewritten(rt, alloc, ciff, canonical);
+    }
 }
 
 #[test]
 fn files_are_rewritten(rt: HostRuntime) {
-    let table: [(&[u8], &[u8]); 4] = [
-        (&SLOPPY, &ONE_TERM),
-        (&ONE_TERM, &ONE_TERM),
-        (&TWO_TERMS, &TWO_TERMS),
-        (&[0], &[0]),
-    ];
-    for (ciff, canonical) in table {
-        let Ok(left) = rewrite_file(rt.alloc(), ciff) else {
-            assert!(&rt; false, "no memory");
-            return;
-        };
-        assert_eq!(&rt; left.status, 0);
-        assert!(&rt; left.notes.is_empty());
-        assert!(&rt; left.holds(canonical));
-    }
+    check_files(&rt, rt.alloc(), &FILES);
 }

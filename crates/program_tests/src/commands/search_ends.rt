@@ -1,10 +1,13 @@
 // How a search ends at its limits, and where a call fails.
 
+ghost use Rattle.std.specs.Prelude.{◌<◌};
+
 use super::searching::{
-    CAT_DOG, CAT_DOG_REPORTS, CAT_DOG_RUN, CAT_DOG_WORDS, Left, NOTHING, OLD, searched,
+    CAT_DOG, CAT_DOG_REPORTS, CAT_DOG_RUN, CAT_DOG_WORDS, NOTHING, OLD, searched,
 };
-use super::{Bad, Call, NONE, ONE_TERM, TWO_TERMS, only};
+use super::{Bad, Call, Made, NONE, ONE_TERM, TWO_TERMS, check_left, is_muted, only};
 use std::alloc::{AllocError, Global};
+use std::process::Abort;
 
 /// The front of a collection of one document and 257 terms, each with one posting: its header.
 const MANY_TERMS_FRONT: [u8; 27] = [
@@ -23,158 +26,178 @@ const MANY_TERMS_DOC: [u8; 10] = [0x09, 0x12, 0x02, b'd', b'0', 0x18, 0xff, 0xfd
 
 const HEX: &[u8; 16] = b"0123456789abcdef";
 
-/// The bytes of the collection of 257 terms: `t00` to `tff`, and `u00`.
-fn many_terms(alloc: Global) -> Result<Vec<u8>, AllocError> {
-    let mut bytes = Vec::from_slice(alloc, &MANY_TERMS_FRONT)?;
-    for number in 0..256usize {
-        let mut list = MANY_TERMS_LIST;
-        list[4] = HEX[number / 16];
-        list[5] = HEX[number % 16];
-        bytes.extend_from_slice(&list)?;
-    }
+/// Puts the list of the term of a number.
+fn put_list(bytes: &mut Vec<u8>, number: usize) -> Result<(), AllocError>
+    requires { number < 256 }
+{
+    let mut list = MANY_TERMS_LIST;
+    list[4] = HEX[number / 16];
+    list[5] = HEX[number % 16];
+    bytes.extend_from_slice(&list)?;
+    Ok(())
+}
+
+/// Puts the list of the last term, and the document.
+fn put_end(bytes: &mut Vec<u8>) -> Result<(), AllocError> {
     let mut last = MANY_TERMS_LIST;
     last[3] = b'u';
     bytes.extend_from_slice(&last)?;
     bytes.extend_from_slice(&MANY_TERMS_DOC)?;
+    Ok(())
+}
+
+/// The bytes of the collection of 257 terms: `t00` to `tff`, and `u00`.
+fn many_terms(alloc: Global) -> Result<Vec<u8>, AllocError> {
+    let mut bytes = Vec::from_slice(alloc, &MANY_TERMS_FRONT)?;
+    for number in 0..256usize {
+        put_list(&mut bytes, number)?;
+    }
+    put_end(&mut bytes)?;
     Ok(bytes)
+}
+
+/// Puts a mention of the term of a number, 255 times.
+fn put_mention(line: &mut Vec<u8>, number: usize) -> Result<(), AllocError>
+    requires { number < 256 }
+{
+    line.extend_from_slice(&[b' ', b't', HEX[number / 16], HEX[number % 16]])?;
+    line.extend_from_slice(b"^255")?;
+    Ok(())
 }
 
 /// A query that names `t00` to `tff` 255 times each, and what stands behind them.
 fn heaviest_query(alloc: Global, behind: &[u8]) -> Result<Vec<u8>, AllocError> {
     let mut line = Vec::from_slice(alloc, b"q")?;
     for number in 0..256usize {
-        let mention = [
-            b' ',
-            b't',
-            HEX[number / 16],
-            HEX[number % 16],
-            b'^',
-            b'2',
-            b'5',
-            b'5',
-        ];
-        line.extend_from_slice(&mention)?;
+        put_mention(&mut line, number)?;
     }
     line.extend_from_slice(behind)?;
     Ok(line)
 }
 
-#[test]
-fn queries_reach_their_limits(rt: HostRuntime) {
-    let table: [(&[u8], u8, &[u8], &[u8], &[u8]); 3] = [
-        (
-            b"",
-            0,
-            b"q postings 256 segments 256 of 256 cutoff 16711425 next 0 bound 0 unknown 0 final\n",
-            NOTHING,
-            b"q Q0 d0 1 4278124800 jass\n",
-        ),
-        (b" u00", 3, NOTHING, b"queries: refusal 52 at line 1\n", OLD),
-        (b" t00", 3, NOTHING, b"queries: refusal 53 at line 1\n", OLD),
-    ];
-    for (behind, status, out, notes, run) in table {
-        let Ok(ciff) = many_terms(rt.alloc()) else {
-            assert!(&rt; false, "no memory");
-            return;
+const WORDS: &str = "search index queries run";
+
+/// What a search for the heaviest query leaves.
+fn heaviest_search(alloc: Global, behind: &[u8]) -> Result<Made, AllocError> {
+    let ciff = many_terms(alloc)?;
+    let queries = heaviest_query(alloc, behind)?;
+    searched(alloc, ciff.as_slice(), queries.as_slice(), WORDS, NONE)
+}
+
+/// What stands behind the heaviest query, the status, the output, the note, and what `run` holds then.
+type Heaviest<'a> = (&'a [u8], u8, &'a [u8], &'a [u8], &'a [u8]);
+
+const HEAVIEST: [Heaviest<'static>; 3] = [
+    (
+        b"",
+        0,
+        b"q postings 256 segments 256 of 256 cutoff 16711425 next 0 bound 0 unknown 0 final\n",
+        NOTHING,
+        b"q Q0 d0 1 4278124800 jass\n",
+    ),
+    (b" u00", 3, NOTHING, b"queries: refusal 52 at line 1\n", OLD),
+    (b" t00", 3, NOTHING, b"queries: refusal 53 at line 1\n", OLD),
+];
+
+/// Each search ends as told.
+fn check_heaviest(rt: &impl Abort, alloc: Global, searches: &[Heaviest<'_>]) {
+    for (behind, status, out, notes, run) in searches {
+        let Ok(made) = heaviest_search(alloc, behind) else {
+            panic!(rt; "no memory")
         };
-        let Ok(queries) = heaviest_query(rt.alloc(), behind) else {
-            assert!(&rt; false, "no memory");
-            return;
-        };
-        let words = "search index queries run";
-        let Ok(left) = searched(rt.alloc(), ciff.as_slice(), queries.as_slice(), words, NONE) else {
-            assert!(&rt; false, "no memory");
-            return;
-        };
-        assert_eq!(&rt; left.status, status);
-        assert!(&rt; left.out.as_slice() == out);
-        assert!(&rt; left.notes.as_slice() == notes);
-        assert!(&rt; left.run_is(run));
+        check_left(rt, WORDS, &made.left, *status, out, notes);
+        assert!(rt; made.content.as_slice() == *run);
     }
 }
 
-/// Whether each search in which one call fails ends as told, from the first call on until a search is done. Its note
-/// is the first of two where the first call fails.
-fn each_search_ends(
-    alloc: Global,
-    call: Call,
-    status: u8,
-    first: &[u8],
-    second: &[u8],
-) -> Result<bool, AllocError> {
+#[test]
+fn queries_reach_their_limits(rt: HostRuntime) {
+    check_heaviest(&rt, rt.alloc(), &HEAVIEST);
+}
+
+/// A search over two terms, whose calls fail where named.
+fn cat_dog(alloc: Global, bad: Bad) -> Result<Made, AllocError> {
+    searched(alloc, &TWO_TERMS, CAT_DOG, CAT_DOG_WORDS, bad)
+}
+
+/// The kind of the call that fails, the status, the note where the first such call fails, and that where another does.
+type Case<'a> = (Call, u8, &'a [u8], &'a [u8]);
+
+const CASES: [Case<'static>; 3] = [
+    (
+        Call::Read,
+        4,
+        b"index: read fault\n",
+        b"queries: read fault\n",
+    ),
+    (Call::Write, 5, b"run: write fault\n", b"run: write fault\n"),
+    (
+        Call::Put,
+        5,
+        b"output: write fault\n",
+        b"output: write fault\n",
+    ),
+];
+
+/// Whether the run and the reports are as before the search where a read fails, and else fronts of their texts. The run
+/// is as before where the first write of a file fails, and it is not where another does.
+fn has_fronts(made: &Made, call: Call, number: u64) -> bool {
+    let run = made.content.as_slice();
+    let out = made.left.out.as_slice();
+    match call {
+        Call::Read => run == OLD && out.is_empty(),
+        Call::Write if number == 0 => run == OLD && CAT_DOG_REPORTS.starts_with(out),
+        _ => CAT_DOG_RUN.starts_with(run) && CAT_DOG_REPORTS.starts_with(out),
+    }
+}
+
+/// Whether a search that isn't done ends as told. Its note is the first of two where the first call fails.
+fn ends_as_told(made: &Made, case: Case<'_>, number: u64) -> bool {
+    let (call, status, first, second) = case;
+    let notes = made.left.notes.as_slice();
+    made.left.status == status
+        && (notes == first || number > 0 && notes == second)
+        && has_fronts(made, call, number)
+}
+
+/// Whether a search whose note can't be put either leaves all else as another did.
+fn ends_muted(alloc: Global, call: Call, number: u64, other: &Made) -> Result<bool, AllocError> {
+    let bad = Bad {
+        notes: 0,
+        ..only(call, number)
+    };
+    let muted = cat_dog(alloc, bad)?;
+    Ok(is_muted(&muted, other))
+}
+
+/// Whether each search in which one call fails ends as told, from the first call on until a search is done.
+fn each_search_ends(alloc: Global, case: Case<'_>) -> Result<bool, AllocError> {
+    let call = case.0;
     for number in 0..40 {
-        let bad = only(call, number);
-        let left = searched(alloc, &TWO_TERMS, CAT_DOG, CAT_DOG_WORDS, bad)?;
-        if left.status == 0 {
-            return Ok(number > 0 && left.notes.is_empty());
+        let made = cat_dog(alloc, only(call, number))?;
+        if made.left.status == 0 {
+            return Ok(number > 0 && made.left.notes.is_empty());
         }
-        let muted = Bad { notes: 0, ..bad };
-        let muted = searched(alloc, &TWO_TERMS, CAT_DOG, CAT_DOG_WORDS, muted)?;
-        let notes = left.notes.as_slice();
-        if left.status != status
-            || !(notes == first || number > 0 && notes == second)
-            || !has_fronts(&left, call, number)
-            || !muted.is_muted(&left)
-        {
+        if !ends_as_told(&made, case, number) || !ends_muted(alloc, call, number, &made)? {
             return Ok(false);
         }
     }
     Ok(false)
 }
 
-/// Whether the run and the reports are as before the search where a read fails, and else fronts of their texts. The run
-/// is as before where the first write of a file fails, and it is not where another does.
-fn has_fronts(left: &Left, call: Call, number: u64) -> bool {
-    if matches!(call, Call::Read) {
-        return left.run_is(OLD) && left.out.is_empty();
+/// Searches end as told, whichever of their calls fails.
+fn check_cases(rt: &impl Abort, alloc: Global, cases: &[Case<'_>]) {
+    for case in cases {
+        let Ok(ends) = each_search_ends(alloc, *case) else {
+            panic!(rt; "no memory")
+        };
+        assert!(rt; ends);
     }
-    let is_run = if matches!(call, Call::Write) && number == 0 {
-        left.run_is(OLD)
-    } else {
-        left.run_begins(CAT_DOG_RUN)
-    };
-    is_run && CAT_DOG_REPORTS.starts_with(left.out.as_slice())
 }
 
 #[test]
 fn failed_calls_of_a_search_are_noted(rt: HostRuntime) {
-    let table: [(Call, u8, &[u8], &[u8]); 3] = [
-        (
-            Call::Read,
-            4,
-            b"index: read fault\n",
-            b"queries: read fault\n",
-        ),
-        (Call::Write, 5, b"run: write fault\n", b"run: write fault\n"),
-        (
-            Call::Put,
-            5,
-            b"output: write fault\n",
-            b"output: write fault\n",
-        ),
-    ];
-    for (call, status, first, second) in table {
-        let ended = each_search_ends(rt.alloc(), call, status, first, second);
-        assert!(&rt; ended.is_ok_and(|ended| ended));
-    }
-}
-
-/// The first query's run lines are few, and its report is among those that fill their buffer.
-#[test]
-fn a_run_goes_before_its_reports(rt: HostRuntime) {
-    let Ok(queries) = many_queries(rt.alloc()) else {
-        assert!(&rt; false, "no memory");
-        return;
-    };
-    let words = "search index queries run";
-    let bad = only(Call::Write, 1);
-    let Ok(left) = searched(rt.alloc(), &ONE_TERM, queries.as_slice(), words, bad) else {
-        assert!(&rt; false, "no memory");
-        return;
-    };
-    assert_eq!(&rt; left.status, 5);
-    assert!(&rt; left.out.is_empty());
-    assert!(&rt; left.notes.as_slice() == b"run: write fault\n".as_slice());
+    check_cases(&rt, rt.alloc(), &CASES);
 }
 
 /// One query of a term, and 2,400 of a term that is unknown.
@@ -184,4 +207,20 @@ fn many_queries(alloc: Global) -> Result<Vec<u8>, AllocError> {
         lines.extend_from_slice(b"x zzz\n")?;
     }
     Ok(lines)
+}
+
+/// What a search for them leaves, in which the second write of a file fails.
+fn many_searched(alloc: Global) -> Result<Made, AllocError> {
+    let queries = many_queries(alloc)?;
+    let bad = only(Call::Write, 1);
+    searched(alloc, &ONE_TERM, queries.as_slice(), WORDS, bad)
+}
+
+/// The first query's run lines are few, and its report is among those that fill their buffer.
+#[test]
+fn a_run_goes_before_its_reports(rt: HostRuntime) {
+    let Ok(made) = many_searched(rt.alloc()) else {
+        panic!(&rt; "no memory")
+    };
+    check_left(&rt, WORDS, &made.left, 5, NOTHING, b"run: write fault\n");
 }

@@ -1,9 +1,12 @@
 // Lines of an input that are served at a desk over an index file.
 
-use super::{Left, NEVER, ONE_TERM, TWO_TERMS, cabinet_with, left_by, listed};
+ghost use Rattle.std.specs.Prelude.{◌<◌};
+
+use super::{Left, NEVER, ONE_TERM, TWO_TERMS, cabinet_with, check_left, left_by, listed};
 use itoa::Buffer;
-use jass_base::{Failed, Feed, MemFeed, Row};
+use jass_base::{Failed, Feed, MemCabinet, MemFeed, Row, SliceFeed};
 use std::alloc::{AllocError, Global};
+use std::process::Abort;
 
 /// A feed of so many bytes `x`, which it doesn't hold.
 #[derive(Drop)]
@@ -35,26 +38,41 @@ const TWO_PAGES_FRONT: [u8; 69] = [
     0x08, 0xa9, 0x02, 0x10, 0x01,
 ];
 
-/// The bytes of that collection. Numbers of documents stand in two bytes each.
+/// Puts a document of that collection. Numbers of documents stand in two bytes each.
+fn put_document(bytes: &mut Vec<u8>, number: u32) -> Result<(), AllocError>
+    requires { number < 300 }
+{
+    let mut digits = Buffer::new();
+    let name = digits.format(number).as_bytes();
+    let size = name.len() as u8;
+    let low = (number % 128) as u8;
+    let high = (number / 128) as u8;
+    let length = match number {
+        0 => 2u8,
+        1 => 3,
+        _ => 1,
+    };
+    bytes.extend_from_slice(&[8 + size, 0x08, 128 + low, high, 0x12, 1 + size, b'd'])?;
+    bytes.extend_from_slice(name)?;
+    bytes.extend_from_slice(&[0x18, length])?;
+    Ok(())
+}
+
+/// The bytes of that collection.
 fn two_pages(alloc: Global) -> Result<Vec<u8>, AllocError> {
     let mut bytes = Vec::from_slice(alloc, &TWO_PAGES_FRONT)?;
     for number in 0..300u32 {
-        let mut digits = Buffer::new();
-        let name = digits.format(number).as_bytes();
-        let size = name.len() as u8;
-        let low = (number % 128) as u8;
-        let high = (number / 128) as u8;
-        let front = [8 + size, 0x08, 128 + low, high, 0x12, 1 + size, b'd'];
-        let length = match number {
-            0 => 2u8,
-            1 => 3,
-            _ => 1,
-        };
-        bytes.extend_from_slice(&front)?;
-        bytes.extend_from_slice(name)?;
-        bytes.extend_from_slice(&[0x18, length])?;
+        put_document(&mut bytes, number)?;
     }
     Ok(bytes)
+}
+
+/// A cabinet with a collection and its index file.
+fn files_of(alloc: Global, ciff: &[u8]) -> Result<MemCabinet, AllocError> {
+    let mut files = cabinet_with(alloc, "ciff", ciff, &[], &[])?;
+    let mut input = SliceFeed::new(b"");
+    let _ = left_by(alloc, "import ciff index", &mut files, &mut input, &[], &[])?;
+    Ok(files)
 }
 
 /// Makes the index file of a collection, and runs words over it and an input. Puts on the output
@@ -67,10 +85,15 @@ fn served_from<I: Feed>(
     bad_put: u64,
     bad_note: u64,
 ) -> Result<Left, AllocError> {
-    let mut files = cabinet_with(alloc, "ciff", ciff, &[], &[])?;
-    let making = "import ciff index";
-    let _ = left_by(alloc, making, &mut files, input, &[], &[])?;
+    let mut files = files_of(alloc, ciff)?;
     left_by(alloc, words, &mut files, input, &[bad_put], &[bad_note])
+}
+
+/// The feed of these lines, one of whose reads fails.
+fn feed_of(alloc: Global, lines: &[u8], bad_read: u64) -> Result<MemFeed, AllocError> {
+    let bytes = Row::from_vec(Vec::from_slice(alloc, lines)?);
+    let bad = listed(alloc, &[bad_read])?;
+    Ok(MemFeed::new(bytes, bad))
 }
 
 /// The same over lines, whose reads fail where named.
@@ -83,136 +106,143 @@ fn served(
     bad_put: u64,
     bad_note: u64,
 ) -> Result<Left, AllocError> {
-    let bytes = Row::from_vec(Vec::from_slice(alloc, lines)?);
-    let mut input = MemFeed::new(bytes, listed(alloc, &[bad_read])?);
+    let mut input = feed_of(alloc, lines, bad_read)?;
     served_from(alloc, ciff, words, &mut input, bad_put, bad_note)
+}
+
+/// A collection, lines, and the output.
+type Served<'a> = (&'a [u8], &'a [u8], &'a [u8]);
+
+const SERVED: [Served<'static>; 3] = [
+    (
+        &TWO_TERMS,
+        b"open x 4 cat dog\nopen y 4 dog cat\ngrant x 1\ngrant y 1\ngrant x 1\ngrant y 4\ngrant y all\ntop x",
+        b"opened x need 1 unknown 0\nopened y need 1 unknown 0\nx postings 1 segments 1 of 4 cutoff 3 next 3 bound 4 unknown 0 open\ny postings 1 segments 1 of 4 cutoff 3 next 3 bound 5 unknown 0 open\nx postings 2 segments 2 of 4 cutoff 3 next 2 bound 3 unknown 0 open\ny postings 5 segments 4 of 4 cutoff 1 next 0 bound 0 unknown 0 final\ny postings 5 segments 4 of 4 cutoff 1 next 0 bound 0 unknown 0 final\nhits 2\nx Q0 d0 1 3 jass\nx Q0 d2 2 3 jass\n",
+    ),
+    (
+        &ONE_TERM,
+        b"open x 4 a\ngrant x 18446744073709551615\ngrant x 18446744073709551615\ngrant x all\n",
+        b"opened x need 1 unknown 0\nx postings 3 segments 3 of 3 cutoff 1 next 0 bound 0 unknown 0 final\nx postings 3 segments 3 of 3 cutoff 1 next 0 bound 0 unknown 0 final\nx postings 3 segments 3 of 3 cutoff 1 next 0 bound 0 unknown 0 final\n",
+    ),
+    (&ONE_TERM, b"", b""),
+];
+
+/// Two sessions of the collection of 300 documents, of which each needs both frames, and what is told of them.
+const TWO_PAGES_LINES: &[u8] =
+    b"open x 3 cat\nopen y 3 dog\ngrant x 1\nclose x\nopen y 3 dog\r\ngrant y 1\ntop y\nend\ntop y\n";
+
+const TWO_PAGES_TOLD: &[u8] =
+    b"opened x need 2 unknown 0\nrefused 74 pool 2 0\nx postings 1 segments 1 of 2 cutoff 2 next 1 bound 1 unknown 0 open\nclosed x\nopened y need 2 unknown 0\ny postings 1 segments 1 of 2 cutoff 3 next 1 bound 1 unknown 0 open\nhits 1\ny Q0 d1 1 3 jass\nbye\n";
+
+/// Each input is answered as stands beside it.
+fn check_served(rt: &impl Abort, alloc: Global, served_lines: &[Served<'_>]) {
+    let words = "serve index frames=2";
+    for (ciff, lines, out) in served_lines {
+        let Ok(left) = served(alloc, ciff, words, lines, NEVER, NEVER, NEVER) else {
+            panic!(rt; "no memory")
+        };
+        check_left(rt, words, &left, 0, out, b"");
+    }
 }
 
 #[test]
 fn lines_are_answered(rt: HostRuntime) {
     let Ok(two_pages) = two_pages(rt.alloc()) else {
-        assert!(&rt; false, "no memory");
-        return;
+        panic!(&rt; "no memory")
     };
-    let table: [(&[u8], &[u8], &[u8]); 4] = [
-        (
-            two_pages.as_slice(),
-            b"open x 3 cat\nopen y 3 dog\ngrant x 1\nclose x\nopen y 3 dog\r\ngrant y 1\ntop y\nend\ntop y\n",
-            b"opened x need 2 unknown 0\nrefused 74 pool 2 0\nx postings 1 segments 1 of 2 cutoff 2 next 1 bound 1 unknown 0 open\nclosed x\nopened y need 2 unknown 0\ny postings 1 segments 1 of 2 cutoff 3 next 1 bound 1 unknown 0 open\nhits 1\ny Q0 d1 1 3 jass\nbye\n",
-        ),
-        (
-            &TWO_TERMS,
-            b"open x 4 cat dog\nopen y 4 dog cat\ngrant x 1\ngrant y 1\ngrant x 1\ngrant y 4\ngrant y all\ntop x",
-            b"opened x need 1 unknown 0\nopened y need 1 unknown 0\nx postings 1 segments 1 of 4 cutoff 3 next 3 bound 4 unknown 0 open\ny postings 1 segments 1 of 4 cutoff 3 next 3 bound 5 unknown 0 open\nx postings 2 segments 2 of 4 cutoff 3 next 2 bound 3 unknown 0 open\ny postings 5 segments 4 of 4 cutoff 1 next 0 bound 0 unknown 0 final\ny postings 5 segments 4 of 4 cutoff 1 next 0 bound 0 unknown 0 final\nhits 2\nx Q0 d0 1 3 jass\nx Q0 d2 2 3 jass\n",
-        ),
-        (
-            &ONE_TERM,
-            b"open x 4 a\ngrant x 18446744073709551615\ngrant x 18446744073709551615\ngrant x all\n",
-            b"opened x need 1 unknown 0\nx postings 3 segments 3 of 3 cutoff 1 next 0 bound 0 unknown 0 final\nx postings 3 segments 3 of 3 cutoff 1 next 0 bound 0 unknown 0 final\nx postings 3 segments 3 of 3 cutoff 1 next 0 bound 0 unknown 0 final\n",
-        ),
-        (&ONE_TERM, b"", b""),
-    ];
-    for (ciff, lines, out) in table {
-        let Ok(left) = served(
-            rt.alloc(),
-            ciff,
-            "serve index frames=2",
-            lines,
-            NEVER,
-            NEVER,
-            NEVER,
-        ) else {
-            assert!(&rt; false, "no memory");
-            return;
-        };
-        assert_eq!(&rt; left.status, 0);
-        assert!(&rt; left.out.as_slice() == out);
-        assert!(&rt; left.notes.is_empty());
+    let first = (two_pages.as_slice(), TWO_PAGES_LINES, TWO_PAGES_TOLD);
+    check_served(&rt, rt.alloc(), &[first]);
+    check_served(&rt, rt.alloc(), &SERVED);
+}
+
+/// Words, the read of the input and the put on the output that fail, the status, the output and the note.
+type Stopped<'a> = (&'a str, u64, u64, u8, &'a [u8], &'a [u8]);
+
+const STOPPED: [Stopped<'static>; 5] = [
+    (
+        "serve index frames=2",
+        1,
+        NEVER,
+        4,
+        b"refused 71 unknown session\n",
+        b"input: read fault\n",
+    ),
+    (
+        "serve index frames=2",
+        NEVER,
+        0,
+        5,
+        b"",
+        b"output: write fault\n",
+    ),
+    (
+        "serve other frames=2",
+        NEVER,
+        NEVER,
+        4,
+        b"",
+        b"other: read fault\n",
+    ),
+    (
+        "serve ciff frames=2",
+        NEVER,
+        NEVER,
+        3,
+        b"",
+        b"ciff: refusal 40 at 0\n",
+    ),
+    ("serve index frames=0", NEVER, NEVER, 2, b"", b"word 3\n"),
+];
+
+/// Serving stops as told where no put on the notes fails, or the first does.
+fn check_stop(rt: &impl Abort, alloc: Global, stopped: Stopped<'_>, bad_note: u64) {
+    let (words, bad_read, bad_put, status, out, notes) = stopped;
+    let lines = b"top z\ntop z";
+    let Ok(left) = served(alloc, &ONE_TERM, words, lines, bad_read, bad_put, bad_note) else {
+        panic!(rt; "no memory")
+    };
+    let notes = if bad_note == 0 { b"" } else { notes };
+    check_left(rt, words, &left, status, out, notes);
+}
+
+/// Serving stops so; where its note can't be put, all else is the same.
+fn check_stops(rt: &impl Abort, alloc: Global, stops: &[Stopped<'_>]) {
+    for stopped in stops {
+        check_stop(rt, alloc, *stopped, NEVER);
+        check_stop(rt, alloc, *stopped, 0);
     }
 }
 
 #[test]
 fn serving_may_stop(rt: HostRuntime) {
-    let table: [(&str, u64, u64, u8, &[u8], &[u8]); 5] = [
-        (
-            "serve index frames=2",
-            1,
-            NEVER,
-            4,
-            b"refused 71 unknown session\n",
-            b"input: read fault\n",
-        ),
-        (
-            "serve index frames=2",
-            NEVER,
-            0,
-            5,
-            b"",
-            b"output: write fault\n",
-        ),
-        (
-            "serve other frames=2",
-            NEVER,
-            NEVER,
-            4,
-            b"",
-            b"other: read fault\n",
-        ),
-        (
-            "serve ciff frames=2",
-            NEVER,
-            NEVER,
-            3,
-            b"",
-            b"ciff: refusal 40 at 0\n",
-        ),
-        ("serve index frames=0", NEVER, NEVER, 2, b"", b"word 3\n"),
-    ];
-    for (words, bad_read, bad_put, status, out, notes) in table {
-        let lines = b"top z\ntop z";
-        let (Ok(left), Ok(muted)) = (
-            served(
-                rt.alloc(),
-                &ONE_TERM,
-                words,
-                lines,
-                bad_read,
-                bad_put,
-                NEVER,
-            ),
-            served(rt.alloc(), &ONE_TERM, words, lines, bad_read, bad_put, 0),
-        ) else {
-            assert!(&rt; false, "no memory");
-            return;
+    check_stops(&rt, rt.alloc(), &STOPPED);
+}
+
+/// The most bytes of an input that are taken.
+const MOST: u64 = 1_073_741_824;
+
+/// How many bytes without a line feed come in, the put on the notes that fails, the status, the output and the note.
+type Long<'a> = (u64, u64, u8, &'a [u8], &'a [u8]);
+
+const LONG: [Long<'static>; 3] = [
+    (MOST - 1, NEVER, 0, b"refused 70 bad line\n", b""),
+    (MOST, NEVER, 6, b"", b"input limit\n"),
+    (MOST, 0, 6, b"", b""),
+];
+
+/// Serving a long input ends as told.
+fn check_long(rt: &impl Abort, alloc: Global, inputs: &[Long<'_>]) {
+    let words = "serve index frames=2";
+    for (size, bad_note, status, out, notes) in inputs {
+        let mut input = Repeated { left: *size };
+        let Ok(left) = served_from(alloc, &ONE_TERM, words, &mut input, NEVER, *bad_note) else {
+            panic!(rt; "no memory")
         };
-        assert_eq!(&rt; left.status, status, "{words}");
-        assert!(&rt; left.out.as_slice() == out, "{words}");
-        assert!(&rt; left.notes.as_slice() == notes, "{words}");
-        assert_eq!(&rt; muted.status, status, "{words}");
-        assert!(&rt;
-            muted.out.as_slice() == out && muted.notes.is_empty(),
-            "{words}"
-        );
+        check_left(rt, words, &left, *status, out, notes);
     }
 }
 
 #[test]
 fn inputs_may_be_long(rt: HostRuntime) {
-    let most = 1_073_741_824u64;
-    let table: [(u64, u64, u8, &[u8], &[u8]); 3] = [
-        (most - 1, NEVER, 0, b"refused 70 bad line\n", b""),
-        (most, NEVER, 6, b"", b"input limit\n"),
-        (most, 0, 6, b"", b""),
-    ];
-    for (size, bad_note, status, out, notes) in table {
-        let mut input = Repeated { left: size };
-        let words = "serve index frames=2";
-        let Ok(left) = served_from(rt.alloc(), &ONE_TERM, words, &mut input, NEVER, bad_note) else {
-            assert!(&rt; false, "no memory");
-            return;
-        };
-        assert_eq!(&rt; left.status, status);
-        assert!(&rt; left.out.as_slice() == out);
-        assert!(&rt; left.notes.as_slice() == notes);
-    }
+    check_long(&rt, rt.alloc(), &LONG);
 }

@@ -1,12 +1,9 @@
-use Rattle.std.proofs.Common.{◌≡◌, ◌+◌, ◌-◌, ◌%◌, ◌^◌, ◌<◌, ◌≤◌, ◌++◌, drop, take, length, length-drop, refl, sym, ap, subst, ◌∙◌, arith}
+use Rattle.std.proofs.Common.{◌≡◌, ◌+◌, ◌-◌, ◌%◌, ◌<◌, ◌≤◌, ◌++◌, drop, take, length, length-drop, refl, sym, ap, subst, ◌∙◌, arith}
 use Rattle.jass_base.specs.Gaps.{docs_from}
 use Rattle.jass_base.specs.declared.payload_fault.PayloadFault.TheVariants.{Cut, Shape, DocRange}
 use Rattle.codec_simple8.specs.Simple8.{count_of, gaps_in, word_in, least_behind, read_words}
-use Rattle.codec_simple8.proofs.Digits.{Below-wider}
-use Rattle.codec_simple8.proofs.Docs.{below_behind}
-use Rattle.codec_simple8.proofs.GapLists.{All-from_below}
 use Rattle.codec_simple8.proofs.HandedWords.{handed_start, handed_one, handed_end}
-use Rattle.codec_simple8.proofs.Reading.{walk_fault, walk_longer, walk_end, word_cut, word_shape, word_range, word_ok, word_behind, few_gaps, least_after}
+use Rattle.codec_simple8.proofs.Reading.{walk_fault, walk_longer, walk_end, word_cut, word_shape, word_range, word_ok, few_gaps}
 use Rattle.codec_simple8.proofs.Tables.{count_some, count_most}
 use Rattle.codec_simple8.proofs.WordLists.{length-gaps_in}
 use Rattle.codec_simple8.proofs.handing.hand_out_words.Goals as goal
@@ -32,24 +29,20 @@ returns-then-gaps-left-clause-judged c =
     (word_shape c.args.d c.words.least c.words.left (drop c.words.at c.args.bytes.now) long many) in
     rw is refl
 
-pub returns-then-behind-from-clause-judged : goal.returns-then-behind-from-clause-judged
-returns-then-behind-from-clause-judged c =
+pub put_word-requires-clause-values : goal.put_word-requires-clause-values
+put_word-requires-clause-values c = omega (arith, c.word_at-word.type_inv)
+
+pub returns-in_default-clause-judged : goal.returns-in_default-clause-judged
+unfolding gaps_in
+returns-in_default-clause-judged c =
     let rest = drop c.words.at c.args.bytes.now in
     let long : 8 ≤ length rest = omega (arith, c.if-bytes-at-lt8.false, length-drop c.words.at c.args.bytes.now) in
     let few = few_gaps c.words.left rest c.word_at-word.result c.of-selector.result.number c.count-gaps.result c.word_at-word.ensures c.of-selector.ensures c.count-gaps.ensures c.if-gaps-left.false in
-    let least = least_after c.words.least rest c.word_at-word.result c.of-selector.result.number c.sum_gaps.result c.from-in-words.result c.word_at-word.ensures c.of-selector.ensures c.sum_gaps.ensures.sum (c.from-in-words.ensures ∙ c.count-gaps.ensures) in
+    let high : c.args.d < least_behind c.words.least (gaps_in (word_in rest)) =
+    rw (sym c.word_at-word.ensures) (rw c.of-selector.ensures at c.in_default.ensures.none refl) in
     let is = walk_fault (read_words c.args.count c.args.d 0 c.args.count c.args.bytes.now) c.args.d c.args.bytes.now c.words.at c.words.left c.words.least DocRange c.words.invariant.walk (omega (arith, c.words-test.true))
-    (word_range c.args.d c.words.least c.words.left rest long few c.words.invariant.walk.low (omega (arith, c.if-behind-from.true, c.from.ensures, c.from-in-words-2.ensures, least))) in
+    (word_range c.args.d c.words.least c.words.left rest long few c.words.invariant.walk.low high) in
     rw is refl
-
-pub put_gaps-least-requires-clause-below : goal.put_gaps-least-requires-clause-below
-unfolding gaps_in
-put_gaps-least-requires-clause-below c =
-    let word = c.word_at-word.result in
-    let sum_is = word_behind c.words.least word c.of-selector.result.number c.sum_gaps.result c.of-selector.ensures c.sum_gaps.ensures.sum in
-    let low : least_behind c.words.least (gaps_in word) ≤ c.args.d = omega (arith, sum_is, c.if-behind-from.false, c.from.ensures, c.from-in-words.ensures, c.from-in-words-2.ensures, c.count-gaps.ensures) in
-    let docs = docs_from c.words.least (gaps_in word) in
-    rw c.of-selector.ensures (All-from_below (2 ^ 26) docs (Below-wider c.args.d (2 ^ 26) docs c.requires.limit (below_behind c.args.d c.words.least (gaps_in word) low)))
 
 pub words-smaller : goal.words-smaller
 words-smaller c = omega (arith, c.count-gaps.ensures, count_some c.of-selector.result.number c.of-selector.result.few, c.words-test.true)
@@ -62,16 +55,15 @@ words-preserved c =
     let filled = c.args.count - c.words.left in
     let long : 8 ≤ length rest = omega (arith, c.if-bytes-at-lt8.false, length-drop c.words.at c.args.bytes.now) in
     let few = few_gaps c.words.left rest c.word_at-word.result c.of-selector.result.number c.count-gaps.result c.word_at-word.ensures c.of-selector.ensures c.count-gaps.ensures c.if-gaps-left.false in
-    let least = least_after c.words.least rest c.word_at-word.result c.of-selector.result.number c.sum_gaps.result c.from-in-words.result c.word_at-word.ensures c.of-selector.ensures c.sum_gaps.ensures.sum (c.from-in-words.ensures ∙ c.count-gaps.ensures) in
-    let low : least_behind c.words.least own ≤ c.args.d = omega (arith, c.if-behind-from.false, c.from.ensures, c.from-in-words-2.ensures, least) in
     let many : 0 < length own = omega (arith, length-gaps_in (word_in rest), count_some (word_in rest % 16) (omega arith)) in
     let count : c.count-gaps.result ≡ length own = c.count-gaps.ensures ∙ ap count_of c.of-selector.ensures ∙ ap (λ word. count_of (word % 16)) c.word_at-word.ensures ∙ sym (length-gaps_in (word_in rest)) in
-    let next : c.put_gaps-least.result ≡ least_behind c.words.least own = (rw c.of-selector.ensures at c.put_gaps-least.ensures.next) ∙ ap (λ word. least_behind c.words.least (gaps_in word)) c.word_at-word.ensures in
-    let put : take (filled + count_of (word_in rest % 16)) c.put_gaps-least.new.out ≡ take filled c.words.out ++ docs_from c.words.least own =
-    subst (λ word. take (filled + count_of (word % 16)) c.put_gaps-least.new.out ≡ take filled c.words.out ++ docs_from c.words.least (gaps_in word)) c.word_at-word.ensures (rw c.of-selector.ensures at c.put_gaps-least.ensures.docs) in
-    rw (next, count) (handed_one (read_words c.args.count c.args.d 0 c.args.count c.args.bytes.now) c.args.d c.args.bytes.now c.args.count c.words.at c.words.left c.words.least c.args.out.now c.words.out c.put_gaps-least.new.out own
+    let next : c.in-Some.behind ≡ least_behind c.words.least own = (rw c.of-selector.ensures at c.in-Some.ensures.some) ∙ ap (λ word. least_behind c.words.least (gaps_in word)) c.word_at-word.ensures in
+    let low : least_behind c.words.least own ≤ c.args.d = omega (arith, next, c.in-Some.ensures.within) in
+    let put : take (filled + count_of (word_in rest % 16)) c.put_word.new.out ≡ take filled c.words.out ++ docs_from c.words.least own =
+    subst (λ word. take (filled + count_of (word % 16)) c.put_word.new.out ≡ take filled c.words.out ++ docs_from c.words.least (gaps_in word)) c.word_at-word.ensures (rw c.of-selector.ensures at c.in-Some.ensures.docs) in
+    rw (next, count) (handed_one (read_words c.args.count c.args.d 0 c.args.count c.args.bytes.now) c.args.d c.args.bytes.now c.args.count c.words.at c.words.left c.words.least c.args.out.now c.words.out c.put_word.new.out own
     c.words.invariant (omega (arith, c.words-test.true)) long many (omega (arith, few, length-gaps_in (word_in rest))) low (word_ok c.args.d c.words.least c.words.left rest long few low)
-    (ap (λ n. take (filled + n) c.put_gaps-least.new.out) (length-gaps_in (word_in rest)) ∙ put) c.put_gaps-least.ensures.length)
+    (ap (λ n. take (filled + n) c.put_word.new.out) (length-gaps_in (word_in rest)) ∙ put) c.put_word.ensures.length)
 
 pub returns-then-at-bytes-clause-judged : goal.returns-then-at-bytes-clause-judged
 returns-then-at-bytes-clause-judged c =

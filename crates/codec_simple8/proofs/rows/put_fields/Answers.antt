@@ -1,64 +1,30 @@
 use Rattle.std.proofs.Common.{◌+◌, ◌*◌, ◌-◌, ◌/◌, ◌<◌, arith}
 use Rattle.codec_simple8.proofs.Fours.{three_more}
-use Rattle.codec_simple8.proofs.Tables.{count_some, count_others, narrow_others, four_rows, four_rows_spare, two_rows, two_rows_spare}
+use Rattle.codec_simple8.proofs.Tables.{count_some, count_others, narrow_others}
 use Rattle.codec_simple8.proofs.rows.put_fields.Goals as goal
 
 pub put_gaps-requires-clause-room : goal.put_gaps-requires-clause-room
 put_gaps-requires-clause-room c = omega (arith, c.requires.room, count_others c.args.selector.number c.requires.from c.args.selector.few)
 
-pub put_rows-requires-clause-some : goal.put_rows-requires-clause-some
-put_rows-requires-clause-some c =
-    omega (arith, c.count-count.ensures, count_some c.args.selector.number c.args.selector.few)
-
-pub put_rows-requires-clause-rows : goal.put_rows-requires-clause-rows
-put_rows-requires-clause-rows c =
-    omega (arith, c.count-count.ensures, four_rows c.args.selector.number c.if-selector-ge5.true c.if-selector-le7.true)
-
-pub put_rows-requires-clause-width : goal.put_rows-requires-clause-width
-put_rows-requires-clause-width c =
-    let others : c.args.selector.number < 15 = omega (arith, c.args.selector.few, c.if-selector-eq15.false) in
-    omega (arith, c.width-width.ensures, narrow_others c.args.selector.number others)
-
-pub put_rows-requires-clause-spare : goal.put_rows-requires-clause-spare
-put_rows-requires-clause-spare c =
-    rw (c.count-count.ensures, c.width-width.ensures) (four_rows_spare c.args.selector.number c.if-selector-ge5.true c.if-selector-le7.true)
-
-pub put_rows-requires-then-selector-le11-clause-some : goal.put_rows-requires-then-selector-le11-clause-some
-put_rows-requires-then-selector-le11-clause-some c =
-    omega (arith, c.count-count.ensures, count_some c.args.selector.number c.args.selector.few)
-
-pub put_rows-requires-then-selector-le11-clause-rows : goal.put_rows-requires-then-selector-le11-clause-rows
-put_rows-requires-then-selector-le11-clause-rows c =
-    omega (arith, c.count-count.ensures, two_rows c.args.selector.number c.if-selector-ge8.true c.if-selector-le11.true)
-
-pub put_rows-requires-then-selector-le11-clause-width : goal.put_rows-requires-then-selector-le11-clause-width
-put_rows-requires-then-selector-le11-clause-width c =
-    let others : c.args.selector.number < 15 = omega (arith, c.args.selector.few, c.if-selector-eq15.false) in
-    omega (arith, c.width-width.ensures, narrow_others c.args.selector.number others)
-
-pub put_rows-requires-then-selector-le11-clause-spare : goal.put_rows-requires-then-selector-le11-clause-spare
-put_rows-requires-then-selector-le11-clause-spare c =
-    rw (c.count-count.ensures, c.width-width.ensures) (two_rows_spare c.args.selector.number c.if-selector-ge8.true c.if-selector-le11.true)
-
 pub overflow_add-count : goal.overflow_add-count
 overflow_add-count c =
     record { fits = omega (arith, c.count-count.ensures, count_others c.args.selector.number c.requires.from c.args.selector.few) }
 
-pub put_rows-requires-else-selector-ge8-clause-some : goal.put_rows-requires-else-selector-ge8-clause-some
-put_rows-requires-else-selector-ge8-clause-some c =
+pub put_rows-requires-clause-some : goal.put_rows-requires-clause-some
+put_rows-requires-clause-some c =
     omega (arith, c.count-count.ensures, count_some c.args.selector.number c.args.selector.few)
 
-pub put_rows-requires-else-selector-ge8-clause-width : goal.put_rows-requires-else-selector-ge8-clause-width
-put_rows-requires-else-selector-ge8-clause-width c =
+pub put_rows-requires-clause-width : goal.put_rows-requires-clause-width
+put_rows-requires-clause-width c =
     let others : c.args.selector.number < 15 = omega (arith, c.args.selector.few, c.if-selector-eq15.false) in
-    omega (arith, c.width-width.ensures, narrow_others c.args.selector.number others)
+    omega (arith, c.width.ensures, narrow_others c.args.selector.number others)
 
-pub put_rows-requires-else-selector-ge8-clause-spare : goal.put_rows-requires-else-selector-ge8-clause-spare
-put_rows-requires-else-selector-ge8-clause-spare c =
+pub put_rows-requires-clause-spare : goal.put_rows-requires-clause-spare
+put_rows-requires-clause-spare c =
     let others : c.args.selector.number < 15 = omega (arith, c.args.selector.few, c.if-selector-eq15.false) in
-    three_more c.width-width.result (4 * ((c.count-count.result + 3) / 4) - c.count-count.result)
-    (omega (arith, c.width-width.ensures, narrow_others c.args.selector.number others)) (omega arith)
+    three_more c.width.result (4 * ((c.count-count.result + 3) / 4) - c.count-count.result)
+    (omega (arith, c.width.ensures, narrow_others c.args.selector.number others)) (omega arith)
 
-pub put_rows-requires-else-selector-ge8-clause-room : goal.put_rows-requires-else-selector-ge8-clause-room
-put_rows-requires-else-selector-ge8-clause-room c =
+pub put_rows-requires-clause-room : goal.put_rows-requires-clause-room
+put_rows-requires-clause-room c =
     omega (arith, c.requires.room, c.count-count.ensures, count_others c.args.selector.number c.requires.from c.args.selector.few)

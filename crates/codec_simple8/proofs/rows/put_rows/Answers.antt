@@ -10,7 +10,7 @@ pub loop-row-init : goal.loop-row-init
 loop-row-init c =
     fours_start c.args.width _ (4 * c.args.rows) _ (4 * c.args.rows - c.args.count) c.args.count c.args.filled c.args.values c.args.least c.args.out.now
     (omega arith) (omega (arith, c.requires.rows)) c.requires.spare (omega arith) (omega (arith, c.requires.least))
-    (below_from_All (2 ^ 26) (2 ^ 26) (docs_from c.args.least (fields c.args.width c.args.count c.args.values)) (omega arith) c.requires.below)
+    (below_from_All (2 ^ 27) (2 ^ 27) (docs_from c.args.least (fields c.args.width c.args.count c.args.values)) (omega arith) c.requires.below)
 
 pub loop-row-preserved : goal.loop-row-preserved
 loop-row-preserved c =
@@ -24,8 +24,8 @@ overflow_add-result-2 c =
     let docs = fours_all c.args.width _ (4 * c.args.rows) _ (4 * c.args.rows - c.args.count) c.args.count c.args.filled c.args.values c.args.least c.loop-row.pair c.loop-row.first
     c.args.out.now c.loop-row.out (omega (arith, c.loop-row-test.false)) (omega (arith, c.requires.rows)) (omega (arith, c.loop-row-test.false, c.loop-row.auto.row-end)) (omega (arith, c.requires.room)) c.loop-row.invariant in
     let last = last_out c.args.width c.args.count c.args.filled c.args.values c.args.least c.args.out.now c.loop-row.out c.requires.some (omega (arith, c.requires.room)) docs in
-    let below = behind_below (2 ^ 26) c.args.least (fields c.args.width c.args.count c.args.values) c.requires.least
-    (below_from_All (2 ^ 26) (2 ^ 26) (docs_from c.args.least (fields c.args.width c.args.count c.args.values)) (omega arith) c.requires.below) in
+    let below = behind_below (2 ^ 27) c.args.least (fields c.args.width c.args.count c.args.values) (omega (arith, c.requires.least))
+    (below_from_All (2 ^ 27) (2 ^ 27) (docs_from c.args.least (fields c.args.width c.args.count c.args.values)) (omega arith) c.requires.below) in
     record { fits = omega (arith, last, below) }
 
 pub returns-clause-docs : goal.returns-clause-docs

@@ -1,9 +1,9 @@
-use Rattle.shared_lemmas.proofs.Common.{◌≡◌, ℕ, ◌-◌, ◌*◌, ◌/◌, ◌%◌, ◌≤◌, ◌^◌, drop, take, length, true, false, nat_lt, sym, ap, ◌∙◌, arith, nat_le, list_all, nat_tests}
+use Rattle.shared_lemmas.proofs.Common.{◌≡◌, ℕ, ◌+◌, ◌-◌, ◌*◌, ◌/◌, ◌%◌, ◌<◌, ◌≤◌, ◌^◌, List, Bool, drop, take, length, true, false, not, nat_lt, inl, inr, refl, sym, ap, subst, ◌∙◌, ◌&&◌, arith, nat_le, list_all, cases_lt, nat_tests, and-false}
 use Rattle.std.proofs.Common.{length-drop}
-use Rattle.codec_simple8.specs.Simple8.{count_of, width_of}
+use Rattle.codec_simple8.specs.Simple8.{count_of, width_of, fields, takes, word_in}
 use Rattle.codec_simple8.specs.Private.Words.{bytes_gaps}
-use Rattle.codec_simple8.proofs.Tables.{count_most, width_most, bits_most}
-use Rattle.codec_simple8.proofs.WordLists.{words_one, test_unused, test_first, test_later}
+use Rattle.codec_simple8.proofs.Tables.{count_most, count_falls, width_most, bits_most}
+use Rattle.codec_simple8.proofs.WordLists.{words_one, narrow_parts, test_unused, test_first, test_later}
 use Rattle.codec_simple8.proofs.Trying.{fails_few}
 use Rattle.codec_simple8.proofs.spelling.spells_them.Goals as goal
 
@@ -32,6 +32,39 @@ pub returns-then-word-used-ne0 : goal.returns-then-word-used-ne0
 returns-then-word-used-ne0 c =
     let bits = used c.word_at-word.result c.of-selector.result.number c.width.result c.count.result c.of-selector.ensures c.width.ensures c.count.ensures in
     rw (sym c.word_at-word.ensures) (test_unused c.word_at-word.result (bytes_gaps (drop c.args.at c.args.bytes.now)) (λ none. c.if-word-used-ne0.true (ap (λ b. c.word_at-word.result / 16 / 2 ^ b) bits ∙ none)))
+
+-- where one of the word's own gaps is too wide
+wide_fails : (bytes : List ℕ) (s : ℕ) → 8 ≤ length bytes → 1 ≤ s → s < 16 → s ≡ word_in bytes % 16 → list_all (λ gap. nat_lt gap (2 ^ width_of (s - 1))) (fields (width_of s) (count_of s) (word_in bytes / 16)) ≡ false
+    → takes (s - 1) (bytes_gaps bytes) ≡ false
+wide_fails bytes s long some small its fails =
+    let before : s - 1 + 1 ≡ s = omega (arith, some) in
+    let fewer : count_of s ≤ count_of (s - 1) = subst (λ k. count_of k ≤ count_of (s - 1)) before (count_falls (s - 1) (omega (arith, some, small))) in
+    let more : count_of (word_in bytes % 16) ≤ count_of (s - 1) = subst (λ k. count_of k ≤ count_of (s - 1)) its fewer in
+    let parts = narrow_parts (λ gap. nat_lt gap (2 ^ width_of (s - 1))) bytes (count_of (s - 1)) (count_of (word_in bytes % 16)) long (inl refl) (omega arith) more in
+    let own : list_all (λ gap. nat_lt gap (2 ^ width_of (s - 1))) (fields (width_of (word_in bytes % 16)) (count_of (word_in bytes % 16)) (word_in bytes / 16)) ≡ false =
+    subst (λ k. list_all (λ gap. nat_lt gap (2 ^ width_of (s - 1))) (fields (width_of k) (count_of k) (word_in bytes / 16)) ≡ false) its fails in
+    let none : list_all (λ gap. nat_lt gap (2 ^ width_of (s - 1))) (take (count_of (s - 1)) (bytes_gaps bytes)) ≡ false = parts ∙ rw own refl in
+    ap (λ b. nat_le (count_of (s - 1)) (length (bytes_gaps bytes)) && b) none ∙ and-false (nat_le (count_of (s - 1)) (length (bytes_gaps bytes)))
+
+pub returns-then-has_wider : goal.returns-then-has_wider
+returns-then-has_wider c =
+    let rest = drop c.args.at c.args.bytes.now in
+    let one = words_one rest c.args.left c.requires.words c.requires.some in
+    let bits = used c.word_at-word.result c.of-selector.result.number c.width.result c.count.result c.of-selector.ensures c.width.ensures c.count.ensures in
+    let none : c.word_at-word.result / 16 / 2 ^ (width_of (c.word_at-word.result % 16) * count_of (c.word_at-word.result % 16)) ≡ 0 = ap (λ b. c.word_at-word.result / 16 / 2 ^ b) (sym bits) ∙ c.if-word-used-ne0.false in
+    elim (cases_lt c.of-selector.result.number 1) [
+      | inl less ↦ rw (sym c.word_at-word.ensures) (test_first c.word_at-word.result (bytes_gaps rest) none (omega (arith, c.of-selector.ensures, less)))
+      | inr some ↦
+          let wide : list_all (λ gap. nat_lt gap (2 ^ width_of (c.of-selector.result.number - 1))) (fields (width_of c.of-selector.result.number) (count_of c.of-selector.result.number) (word_in rest / 16)) ≡ false =
+          not_true (list_all (λ gap. nat_lt gap (2 ^ width_of (c.of-selector.result.number - 1))) (fields (width_of c.of-selector.result.number) (count_of c.of-selector.result.number) (word_in rest / 16)))
+          (ap (λ w. not (list_all (λ gap. nat_lt gap (2 ^ width_of (c.of-selector.result.number - 1))) (fields (width_of c.of-selector.result.number) (count_of c.of-selector.result.number) (w / 16)))) (sym c.word_at-word.ensures) ∙ sym c.has_wider.ensures ∙ c.if-has_wider.true) in
+          let fails = wide_fails rest c.of-selector.result.number one.long some c.of-selector.result.few (c.of-selector.ensures ∙ ap (λ w. w % 16) c.word_at-word.ensures) wide in
+          rw (sym c.word_at-word.ensures) (test_later c.word_at-word.result (bytes_gaps rest) false none (λ first. absurd (omega (arith, some, c.of-selector.ensures, first))) (subst (λ s. takes (s - 1) (bytes_gaps rest) ≡ false) c.of-selector.ensures fails))
+    ]
+  where
+    not_true : (b : Bool) → not b ≡ true → b ≡ false
+    not_true true is = sym is
+    not_true false is = refl
 
 pub returns-then-selector-eq0 : goal.returns-then-selector-eq0
 returns-then-selector-eq0 c =

@@ -1,6 +1,0 @@
-use Rattle.std.proofs.Common.{◌≡◌}
-use Rattle.frame_pool.specs.ChainView.{IsTaken}
-use Rattle.frame_pool.proofs.pool.tests.fill.Given as goal
-
-abbrev pub invariant-loop-slot : goal.invariant-loop-slot
-invariant-loop-slot l = record { chains : l.pool.chains ≡ l.fn.pool.chains; taken : IsTaken l.pool l.frame.number }
