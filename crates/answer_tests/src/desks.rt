@@ -1,15 +1,14 @@
 // Desks over small index files, whose terms, heads and payloads stand here, and whose documents are d0, d1 and so on.
 
 ghost use Rattle.std.specs.Prelude.{◌≡◌, ◌≤◌, ◌<◌, length};
-ghost use Rattle.jass_base.specs.declared.limits.TheConstants.{MOST_FRAMES};
 
 use gathered_text::{Buffer, flush};
 use index_file::IndexFile;
 use itoa::Buffer as Digits;
-use jass_base::{MemSink, Row, Sink, Steps, WriteFault};
+use jass_base::{MemSink, Row, Steps, WriteFault};
 use memchr::memchr;
 use session_desk::{Desk, Went};
-use std::alloc::{AllocError, Global};
+use std::alloc::Global;
 use std::marker::Brand;
 use std::process::Abort;
 use std::sync::ledger::{Blank, Ledger};
@@ -89,71 +88,82 @@ const LEVEL: Terms<'static> = Terms {
     bytes: &LEVEL_AT_LAST,
 };
 
+/// Appends bytes.
+fn put(rt: &impl Abort, bytes: &mut Vec<u8>, more: &[u8]) {
+    bytes.extend_from_slice(more).expect(rt, "no memory");
+}
+
+/// Puts the name of a document.
+fn put_name(rt: &impl Abort, names: &mut Vec<u8>, doc: u32) {
+    let mut digits = Digits::new();
+    let number = digits.format(doc).as_bytes();
+    put(rt, names, &[1 + number.len() as u8, 0, 0, 0, b'd']);
+    put(rt, names, number);
+}
+
 /// The names of so many documents.
-fn names(alloc: Global, docs: u32) -> Result<Vec<u8>, AllocError> {
+fn names(rt: &impl Abort, alloc: Global, docs: u32) -> Vec<u8> {
     let mut names = Vec::new(alloc);
     for doc in 0..docs {
-        let mut digits = Digits::new();
-        let number = digits.format(doc).as_bytes();
-        names.push(1 + number.len() as u8)?;
-        names.extend_from_slice(&[0, 0, 0, b'd'])?;
-        names.extend_from_slice(number)?;
+        put_name(rt, &mut names, doc);
     }
-    Ok(names)
+    names
 }
 
 /// Puts the header of a file of these terms, which has so many bytes.
-fn put_header(bytes: &mut Vec<u8>, terms: Terms<'_>, length: u64) -> Result<(), AllocError> {
-    bytes.extend_from_slice(b"JASSIDX2")?;
-    bytes.extend_from_slice(&length.to_le_bytes())?;
-    bytes.extend_from_slice(&terms.docs.to_le_bytes())?;
-    bytes.extend_from_slice(&terms.terms.to_le_bytes())?;
-    bytes.extend_from_slice(&terms.postings.to_le_bytes())?;
-    bytes.extend_from_slice(&terms.greatest.to_le_bytes())?;
-    bytes.extend_from_slice(&[0; 4])?;
-    Ok(())
+fn put_header(rt: &impl Abort, bytes: &mut Vec<u8>, terms: Terms<'_>, length: u64) {
+    put(rt, bytes, b"JASSIDX2");
+    put(rt, bytes, &length.to_le_bytes());
+    put(rt, bytes, &terms.docs.to_le_bytes());
+    put(rt, bytes, &terms.terms.to_le_bytes());
+    put(rt, bytes, &terms.postings.to_le_bytes());
+    put(rt, bytes, &terms.greatest.to_le_bytes());
+    put(rt, bytes, &[0; 4]);
 }
 
 /// The bytes of the file of these terms.
-fn bytes_of(alloc: Global, terms: Terms<'_>) -> Result<Vec<u8>, AllocError> {
-    let names = names(alloc, terms.docs)?;
+fn bytes_of(rt: &impl Abort, alloc: Global, terms: Terms<'_>) -> Vec<u8> {
+    let names = names(rt, alloc, terms.docs);
     let length = (names.len() as u64)
         .saturating_add(terms.bytes.len() as u64)
         .saturating_add(40);
     let mut bytes = Vec::new(alloc);
-    put_header(&mut bytes, terms, length)?;
-    bytes.extend_from_slice(names.as_slice())?;
-    bytes.extend_from_slice(terms.bytes)?;
-    Ok(bytes)
-}
-
-/// The file of these terms.
-fn file_of(alloc: Global, terms: Terms<'_>) -> Result<IndexFile, AllocError> {
-    let bytes = bytes_of(alloc, terms)?;
-    match IndexFile::from_bytes(alloc, Row::from_vec(bytes)) {
-        Ok(file) => Ok(file),
-        Err(_) => Err(AllocError),
-    }
+    put_header(rt, &mut bytes, terms, length);
+    put(rt, &mut bytes, names.as_slice());
+    put(rt, &mut bytes, terms.bytes);
+    bytes
 }
 
 /// A desk of so many frames over the file of these terms.
-fn desk_over(alloc: Global, terms: Terms<'_>, frames: u32) -> Result<Desk, AllocError>
-    requires frames { 1 ≤ frames }
-    requires few { frames ≤ MOST_FRAMES }
-{
-    let file = file_of(alloc, terms)?;
-    match Desk::new(alloc, file, frames) {
-        Ok(desk) => Ok(desk),
-        Err(_) => Err(AllocError),
-    }
+fn desk_over(rt: &impl Abort, alloc: Global, terms: Terms<'_>, frames: u32) -> Desk {
+    assert!(rt; frames == 1 || frames == 2);
+    let bytes = Row::from_vec(bytes_of(rt, alloc, terms));
+    let file = IndexFile::from_bytes(alloc, bytes).expect(rt, "refused");
+    let Ok(desk) = Desk::new(alloc, file, frames) else {
+        panic!(rt; "no memory")
+    };
+    desk
+}
+
+/// Answers a line, and puts the reply.
+fn answer_one<L: Ledger>(
+    desk: &mut Desk,
+    line: &[u8],
+    out: &mut MemSink,
+    buffer: &mut Buffer,
+    steps: &mut Steps<L>,
+) -> Result<Went, WriteFault> {
+    let went = desk.answer_line(line, out, buffer, steps)?;
+    flush(out, buffer)?;
+    Ok(went)
 }
 
 /// Answers the lines of a script, each of which ends with a line feed, and puts each reply by itself, as far as nothing
 /// fails.
-fn answer_all<S: Sink, L: Ledger>(
+fn answer_all<L: Ledger>(
     desk: &mut Desk,
     script: &[u8],
-    out: &mut S,
+    out: &mut MemSink,
     steps: &mut Steps<L>,
 ) -> Result<Went, WriteFault> {
     let mut buffer = Buffer::new();
@@ -161,8 +171,7 @@ fn answer_all<S: Sink, L: Ledger>(
     let mut went = Went::On;
     while let Some(end) = memchr(b'\n', rest) {
         let (line, behind) = rest.split_at(end);
-        went = desk.answer_line(line, out, &mut buffer, steps)?;
-        flush(out, &mut buffer)?;
+        went = answer_one(desk, line, out, &mut buffer, steps)?;
         rest = &behind[1..];
     }
     Ok(went)
@@ -172,81 +181,62 @@ fn answer_all<S: Sink, L: Ledger>(
 #[derive(Drop)]
 struct Told {
     went: Result<Went, WriteFault>,
-    out: Vec<u8>,
+    sink: MemSink,
 }
 
 /// Whether this was printed, and the last line went so.
 fn is_told(told: &Told, out: &[u8], went: Went) -> bool {
     match &told.went {
-        Ok(last) => *last == went && told.out.as_slice() == out,
+        Ok(last) => *last == went && told.sink.written() == out,
         Err(_) => false,
     }
 }
 
-/// Answers a script at a desk over so many documents, and then another, and closes the desk. Tells how the last line of
-/// the first one went, where nothing fails behind it.
+/// Answers a script at a desk over so many documents, and then another, where nothing fails, and closes the desk. Tells
+/// how the last line of the first one went.
 fn both_answered<L: Ledger>(
+    rt: &impl Abort,
+    blank: Blank,
     mut desk: Desk,
     docs: u32,
     script: &[u8],
     behind: &[u8],
     out: &mut MemSink,
-    steps: &mut Steps<L>,
-) -> Result<Result<Went, WriteFault>, AllocError> {
-    let went = answer_all(&mut desk, script, out, steps);
-    let later = answer_all(&mut desk, behind, out, steps);
-    let file = desk.close();
-    if file.docs() != docs || later.is_err() {
-        return Err(AllocError);
-    }
-    Ok(went)
-}
-
-/// The same at a desk of so many frames over the file of these terms.
-fn answered_into<L: Ledger>(
-    alloc: Global,
-    blank: Blank,
-    terms: Terms<'_>,
-    frames: u32,
-    script: &[u8],
-    behind: &[u8],
-    out: &mut MemSink,
-) -> Result<Result<Went, WriteFault>, AllocError>
+) -> Result<Went, WriteFault>
     requires name { blank.name ≡ L.name }
     requires parts { blank.parts ≡ L.parts }
     requires some { 0 < blank.parts }
-    requires frames { 1 ≤ frames }
-    requires few { frames ≤ MOST_FRAMES }
 {
-    let desk = desk_over(alloc, terms, frames)?;
     let mut steps = Steps::<L>::new(blank);
-    both_answered(desk, terms.docs, script, behind, out, &mut steps)
+    let went = answer_all(&mut desk, script, out, &mut steps);
+    let later = answer_all(&mut desk, behind, out, &mut steps);
+    let file = desk.close();
+    assert!(rt; file.docs() == docs && later.is_ok());
+    went
 }
 
 /// A sink whose puts fail as named.
-fn sink_of(alloc: Global, bad: &[u64]) -> Result<MemSink, AllocError> {
-    let bad = Row::from_vec(Vec::from_slice(alloc, bad)?);
-    Ok(MemSink::new(alloc, bad))
+fn sink_of(rt: &impl Abort, alloc: Global, bad: &[u64]) -> MemSink {
+    let bad = Vec::from_slice(alloc, bad).expect(rt, "no memory");
+    MemSink::new(alloc, Row::from_vec(bad))
 }
 
 /// What a desk of so many frames prints for a script, and then for another behind it, where puts fail as named, but none
 /// behind the script.
 fn answered(
+    rt: &impl Abort,
     alloc: Global,
     terms: Terms<'_>,
     frames: u32,
     script: &[u8],
     bad: &[u64],
     behind: &[u8],
-) -> Result<Told, AllocError>
-    requires frames { 1 ≤ frames }
-    requires few { frames ≤ MOST_FRAMES }
-{
-    let mut sink = sink_of(alloc, bad)?;
+) -> Told {
+    let desk = desk_over(rt, alloc, terms, frames);
+    let mut sink = sink_of(rt, alloc, bad);
     let blank = Blank::new(1);
-    let went = answered_into::<Brand>(alloc, blank, terms, frames, script, behind, &mut sink)?;
-    let out = Vec::from_slice(alloc, sink.written())?;
-    Ok(Told { went, out })
+    let went = both_answered::<Brand>(rt, blank, desk, terms.docs, script, behind, &mut sink);
+    Told { went, sink }
 }
 
 /// Terms of a file, the frames of a desk over it, a script, and what is printed for it.
@@ -331,10 +321,7 @@ const SCRIPTS: [Script<'static>; 6] = [
 /// Each script is answered as stands beside it, to its end.
 fn check_scripts(rt: &impl Abort, alloc: Global, scripts: &[Script<'_>]) {
     for (terms, frames, script, out) in scripts {
-        assert!(rt; *frames == 1 || *frames == 2);
-        let Ok(told) = answered(alloc, *terms, *frames, script, &[], b"") else {
-            panic!(rt; "no memory")
-        };
+        let told = answered(rt, alloc, *terms, *frames, script, &[], b"");
         assert!(rt; is_told(&told, out, Went::End));
     }
 }
@@ -366,81 +353,77 @@ const BAD_LINES_TOLD: &[u8] = b"opened x need 1 unknown 0\n\
     x postings 1 segments 1 of 3 cutoff 9 next 5 bound 5 unknown 0 final\n";
 
 /// Puts a line `why x` that is too long, and one that is just short enough.
-fn put_long_lines(script: &mut Vec<u8>, blanks: &[u8]) -> Result<(), AllocError>
+fn put_long_lines(rt: &impl Abort, script: &mut Vec<u8>, blanks: &[u8])
     requires { 1 ≤ length blanks.now }
 {
-    script.extend_from_slice(b"why x")?;
-    script.extend_from_slice(blanks)?;
-    script.extend_from_slice(b"\nwhy x")?;
-    script.extend_from_slice(&blanks[1..])?;
-    script.extend_from_slice(b"\n")?;
-    Ok(())
+    put(rt, script, b"why x");
+    put(rt, script, blanks);
+    put(rt, script, b"\nwhy x");
+    put(rt, script, &blanks[1..]);
+    put(rt, script, b"\n");
 }
 
 /// Bad lines, and lines that are just too long and just short enough.
-fn bad_script(alloc: Global) -> Result<Vec<u8>, AllocError> {
-    let blanks = vec![in alloc; b' '; 1_048_572]?;
-    let mut script = Vec::from_slice(alloc, BAD_LINES)?;
-    put_long_lines(&mut script, blanks.as_slice())?;
-    Ok(script)
+fn bad_script(rt: &impl Abort, alloc: Global) -> Vec<u8> {
+    let blanks = vec![in alloc; b' '; 1_048_572].expect(rt, "no memory");
+    let mut script = Vec::new(alloc);
+    put(rt, &mut script, BAD_LINES);
+    put_long_lines(rt, &mut script, blanks.as_slice());
+    script
 }
 
-/// What is printed for them.
-fn bad_lines(alloc: Global) -> Result<Told, AllocError> {
-    let script = bad_script(alloc)?;
-    answered(alloc, B, 1, script.as_slice(), &[], b"")
+/// What is printed for them is as told.
+fn check_bad_lines(rt: &impl Abort, alloc: Global) {
+    let script = bad_script(rt, alloc);
+    let told = answered(rt, alloc, B, 1, script.as_slice(), &[], b"");
+    assert!(rt; is_told(&told, BAD_LINES_TOLD, Went::On));
 }
 
 #[test]
 fn bad_lines_change_nothing(rt: HostRuntime) {
-    let Ok(told) = bad_lines(rt.alloc()) else {
-        panic!(&rt; "no memory")
-    };
-    assert!(&rt; is_told(&told, BAD_LINES_TOLD, Went::On));
+    check_bad_lines(&rt, rt.alloc());
 }
 
 /// Puts a line that opens a session without mentions, whose name is of two digits.
-fn put_opening(script: &mut Vec<u8>, number: u8) -> Result<(), AllocError>
+fn put_opening(rt: &impl Abort, script: &mut Vec<u8>, number: u8)
     requires { number < 100 }
 {
-    let name = [b'0' + number / 10, b'0' + number % 10];
-    script.extend_from_slice(b"open n")?;
-    script.extend_from_slice(&name)?;
-    script.extend_from_slice(b" 1\n")?;
-    Ok(())
+    put(rt, script, b"open n");
+    put(rt, script, &[b'0' + number / 10, b'0' + number % 10]);
+    put(rt, script, b" 1\n");
 }
 
 /// The lines that open 65 sessions.
-fn openings(alloc: Global) -> Result<Vec<u8>, AllocError> {
+fn openings(rt: &impl Abort, alloc: Global) -> Vec<u8> {
     let mut script = Vec::new(alloc);
     for number in 0..65u8 {
-        put_opening(&mut script, number)?;
+        put_opening(rt, &mut script, number);
     }
-    Ok(script)
+    script
 }
 
-/// What is printed for 65 sessions without mentions.
-fn many_sessions(alloc: Global) -> Result<Told, AllocError> {
-    let script = openings(alloc)?;
-    answered(alloc, B, 1, script.as_slice(), &[], b"")
+/// The last lines that are printed for 65 sessions without mentions.
+fn check_many_sessions(rt: &impl Abort, alloc: Global) {
+    let script = openings(rt, alloc);
+    let told = answered(rt, alloc, B, 1, script.as_slice(), &[], b"");
+    let last = b"opened n63 need 0 unknown 0\nrefused 73 desk full\n";
+    assert!(rt; told.sink.written().ends_with(last));
 }
 
 #[test]
 fn a_desk_has_64_sessions(rt: HostRuntime) {
-    let Ok(told) = many_sessions(rt.alloc()) else {
-        panic!(&rt; "no memory")
-    };
-    let last = b"opened n63 need 0 unknown 0\nrefused 73 desk full\n";
-    assert!(&rt; told.out.as_slice().ends_with(last));
+    check_many_sessions(&rt, rt.alloc());
+}
+
+/// The last line that is printed behind a script whose second put fails.
+fn check_put_fails(rt: &impl Abort, alloc: Global) {
+    let script = b"open x 1 a\ngrant x 1\n";
+    let told = answered(rt, alloc, B, 1, script, &[1], b"why x\n");
+    let last = b"x postings 1 segments 1 of 3 cutoff 9 next 5 bound 5 unknown 0 final\n";
+    assert!(rt; told.went.is_err() && told.sink.written().ends_with(last));
 }
 
 #[test]
 fn a_line_whose_reply_fails_has_its_effect(rt: HostRuntime) {
-    let script = b"open x 1 a\ngrant x 1\n";
-    let Ok(told) = answered(rt.alloc(), B, 1, script, &[1], b"why x\n") else {
-        panic!(&rt; "no memory")
-    };
-    assert!(&rt; told.went.is_err());
-    let last = b"x postings 1 segments 1 of 3 cutoff 9 next 5 bound 5 unknown 0 final\n";
-    assert!(&rt; told.out.as_slice().ends_with(last));
+    check_put_fails(&rt, rt.alloc());
 }

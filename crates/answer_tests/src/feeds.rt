@@ -1,22 +1,32 @@
 // The lines of short inputs up to a limit, and a line that is too long, in a feed one of whose reads fails.
 
 use feed_lines::{FeedLines, Filled};
-use jass_base::{Feed, MemFeed, NoMemory, Row, SliceFeed};
+use jass_base::{Feed, MemFeed, Row, SliceFeed};
 use std::alloc::Global;
 use std::process::Abort;
 
+/// Appends bytes.
+fn put(rt: &impl Abort, told: &mut Row<u8>, bytes: &[u8]) {
+    told.extend(bytes).expect(rt, "no memory");
+}
+
+/// Puts the next line, where it ends by LF, and a bar behind it.
+fn put_line(rt: &impl Abort, told: &mut Row<u8>, lines: &mut FeedLines) {
+    if let Some(end) = lines.end_of_line() {
+        put(rt, told, lines.line(end));
+        put(rt, told, b"|");
+        lines.pass(end);
+    }
+}
+
 /// The first four lines that end by LF, a bar behind each, and the rest.
-fn lines_and_rest(alloc: Global, lines: &mut FeedLines) -> Result<Row<u8>, NoMemory> {
+fn lines_and_rest(rt: &impl Abort, alloc: Global, lines: &mut FeedLines) -> Row<u8> {
     let mut told = Row::new(alloc);
     for _ in 0..4 {
-        if let Some(end) = lines.end_of_line() {
-            told.extend(lines.line(end))?;
-            told.extend(b"|")?;
-            lines.pass(end);
-        }
+        put_line(rt, &mut told, lines);
     }
-    told.extend(lines.rest())?;
-    Ok(told)
+    put(rt, &mut told, lines.rest());
+    told
 }
 
 /// An input, how many bytes of it may be taken, its lines and the rest, why no more comes, and what stays in the input.
@@ -33,34 +43,36 @@ const CASES: [Case<'static>; 8] = [
     (b"ab\n", 0, b"", Filled::Limit, b"ab\n"),
 ];
 
-/// Whether so many bytes of an input may be taken up to its end or the limit, and give these lines.
-fn gives(
+/// So many bytes of an input may be taken up to its end or the limit, and give these lines.
+fn check_lines(
+    rt: &impl Abort,
     alloc: Global,
     input: &mut SliceFeed<'_>,
     limit: u64,
     want: &[u8],
     last: Filled,
-) -> Result<bool, NoMemory> {
-    let Ok(mut lines) = FeedLines::new(alloc, limit) else {
-        return Err(NoMemory);
-    };
-    if !lines.is_empty() || lines.fill(input).is_err() {
-        return Ok(false);
-    }
-    let told = lines_and_rest(alloc, &mut lines)?;
-    Ok(told.as_slice() == want && lines.fill(input).ok() == Some(last))
+) {
+    let mut lines = FeedLines::new(alloc, limit).expect(rt, "no memory");
+    assert!(rt; lines.is_empty());
+    assert!(rt; lines.fill(input).is_ok());
+    let told = lines_and_rest(rt, alloc, &mut lines);
+    assert!(rt; told.as_slice() == want);
+    assert!(rt; lines.fill(input).ok() == Some(last));
+}
+
+/// These bytes stay in an input.
+fn check_behind(rt: &impl Abort, input: &mut SliceFeed<'_>, behind: &[u8]) {
+    let mut buf = [0u8; 8];
+    assert!(rt; input.read(&mut buf).ok() == Some(behind.len()));
+    assert!(rt; buf.starts_with(behind));
 }
 
 /// Each input gives the lines that stand beside it, and keeps the bytes behind them.
 fn check_cases(rt: &impl Abort, alloc: Global, cases: &[Case<'_>]) {
     for (bytes, limit, want, last, behind) in cases {
         let mut input = SliceFeed::new(bytes);
-        let Ok(right) = gives(alloc, &mut input, *limit, want, *last) else {
-            panic!(rt; "no memory")
-        };
-        assert!(rt; right);
-        let mut buf = [0u8; 8];
-        assert!(rt; input.read(&mut buf).ok() == Some(behind.len()) && buf.starts_with(behind));
+        check_lines(rt, alloc, &mut input, *limit, want, *last);
+        check_behind(rt, &mut input, behind);
     }
 }
 
@@ -69,22 +81,14 @@ fn lines_are_taken_up_to_the_limit(rt: HostRuntime) {
     check_cases(&rt, rt.alloc(), &CASES);
 }
 
-/// A line of 1,048,579 bytes, and the line `b`.
-fn long_bytes(alloc: Global) -> Result<Row<u8>, NoMemory> {
-    let Ok(line) = vec![in alloc; b'a'; 1_048_579] else {
-        return Err(NoMemory);
-    };
+/// A feed of a line of 1,048,579 bytes, and the line `b`, whose second read fails.
+fn long_line(rt: &impl Abort, alloc: Global) -> MemFeed {
+    let line = vec![in alloc; b'a'; 1_048_579].expect(rt, "no memory");
     let mut bytes = Row::from_vec(line);
-    bytes.extend(b"\nb\n")?;
-    Ok(bytes)
-}
-
-/// A feed of these lines whose second read fails.
-fn long_line(alloc: Global) -> Result<MemFeed, NoMemory> {
-    let bytes = long_bytes(alloc)?;
+    put(rt, &mut bytes, b"\nb\n");
     let mut bad = Row::new(alloc);
-    bad.extend(&[1])?;
-    Ok(MemFeed::new(bytes, bad))
+    bad.extend(&[1]).expect(rt, "no memory");
+    MemFeed::new(bytes, bad)
 }
 
 /// What comes of filling, how many bytes wait then, whether they are of a long line, and where the line ends.
@@ -100,31 +104,30 @@ const STEPS: [Step; 3] = [
 fn check_steps(rt: &impl Abort, lines: &mut FeedLines, input: &mut MemFeed, steps: &[Step]) {
     for (filled, waits, long, end) in steps {
         assert!(rt; lines.fill(input).ok() == *filled);
-        assert!(rt;
-            lines.rest().len() == *waits && lines.is_long() == *long && lines.end_of_line() == *end
-        );
+        assert!(rt; lines.rest().len() == *waits && lines.is_long() == *long);
+        assert!(rt; lines.end_of_line() == *end);
     }
 }
 
-/// Whether the line that is left can be passed, and the line `b` stands behind it.
-fn is_passed(lines: &mut FeedLines) -> bool {
-    match lines.end_of_line() {
-        Some(end) => {
-            lines.pass(end);
-            !lines.is_long() && lines.rest() == b"b\n".as_slice()
-        }
-        None => false,
-    }
+/// The line that is left can be passed, and the line `b` stands behind it.
+fn check_passed(rt: &impl Abort, lines: &mut FeedLines) {
+    let Some(end) = lines.end_of_line() else {
+        panic!(rt; "no line")
+    };
+    lines.pass(end);
+    assert!(rt; !lines.is_long());
+    assert!(rt; lines.rest() == b"b\n".as_slice());
+}
+
+/// The front of a long line is lost.
+fn check_long_line(rt: &impl Abort, alloc: Global) {
+    let mut input = long_line(rt, alloc);
+    let mut lines = FeedLines::new(alloc, 2_000_000).expect(rt, "no memory");
+    check_steps(rt, &mut lines, &mut input, &STEPS);
+    check_passed(rt, &mut lines);
 }
 
 #[test]
 fn a_long_line_loses_its_front(rt: HostRuntime) {
-    let Ok(mut input) = long_line(rt.alloc()) else {
-        panic!(&rt; "no memory")
-    };
-    let Ok(mut lines) = FeedLines::new(rt.alloc(), 2_000_000) else {
-        panic!(&rt; "no memory")
-    };
-    check_steps(&rt, &mut lines, &mut input, &STEPS);
-    assert!(&rt; is_passed(&mut lines));
+    check_long_line(&rt, rt.alloc());
 }

@@ -1,21 +1,30 @@
 // Heaps over pages in a pool: documents that rise one by one, and sessions side by side.
-ghost use Rattle.std.specs.Prelude.{◌≡◌, ◌≢◌, ◌+◌, ◌/◌, ◌<◌, ◌≤◌, ◌^◌, [], All, None, length, replicate, slice_index_or};
+ghost use Rattle.std.specs.Prelude.{◌≡◌, ◌≢◌, ◌<◌, ◌≤◌, ◌^◌, [], All, None, length, replicate, slice_index_or};
 ghost use Rattle.frame_pool.specs.ChainView.{LeavesOthers, LeavesPool};
 ghost use Rattle.accumulator_pages.specs.Adding.{added};
-ghost use Rattle.accumulator_pages.specs.Pages.{ArePagesOf, HasRoom, HasRoomFor, Stands, docs_of, own_chain, own_view, pages_places, pages_scores};
+ghost use Rattle.accumulator_pages.specs.Pages.{ArePagesOf, HasRoomFor, Stands, docs_of, own_chain, own_view, pages_places, pages_scores};
 ghost use Rattle.topk_heap.specs.Standing.{TopStands};
 
-use accumulator_pages::laws::calls_on_other_chains_leave_pages;
+use accumulator_pages::laws::{calls_on_other_chains_leave_pages, room_for_more_is_room_for_one};
 use accumulator_pages::{Pages, Reached};
 use frame_pool::FramePool;
 use frame_pool::laws::calls_on_one_chain;
 use jass_base::{Hit, NoMemory};
 use std::alloc::Global;
+use std::marker::Model;
 use std::process::Abort;
 use topk_heap::laws::{
     calls_on_other_chains_leave_a_heap, the_runner_up_is_a_document, those_raised_are_noted,
 };
 use topk_heap::{Top, just_behind};
+
+/// A pool of so many frames for so many chains.
+fn pool_of(rt: &impl Abort, alloc: Global, frames: u32, chains: u32) -> FramePool
+    requires frames { frames ≤ 6 }
+    requires chains { chains ≤ 2 }
+{
+    FramePool::new(alloc, frames, chains).expect(rt, "no memory")
+}
 
 /// A session over some documents for the first one, with a promise of three frames.
 fn opened(
@@ -25,7 +34,7 @@ fn opened(
     docs: u32,
     room: usize,
 ) -> (Pages, Top)
-    requires { room ≤ 4294967296 }
+    requires room { room ≤ 4294967296 }
     ensures stands { Stands result.0 pool.new }
     ensures docs { docs_of result.0 ≡ docs }
     ensures room { room ≤ result.1.room }
@@ -35,12 +44,8 @@ fn opened(
     ensures unused { slice_index_or pool.old.chains (own_chain result.0) None ≡ None }
     ensures others { LeavesOthers pool.old pool.new (own_chain result.0) }
 {
-    let Ok(top) = Top::new(alloc, 1, room) else {
-        panic!(rt; "no memory")
-    };
-    let Ok(chain) = pool.promise(3) else {
-        panic!(rt; "refused")
-    };
+    let top = Top::new(alloc, 1, room).expect(rt, "no memory");
+    let chain = pool.promise(3).expect(rt, "refused");
     match Pages::new(alloc, docs, pool, chain) {
         Ok(pages) => (pages, top),
         Err((chain, NoMemory)) => {
@@ -57,56 +62,136 @@ fn add(rt: &impl Abort, pages: &mut Pages, top: &mut Top, pool: &mut FramePool, 
     requires inside { doc < docs_of pages.old }
     requires weight { 1 ≤ w }
     requires small { w < 1000 }
-    requires frame { HasRoom (own_view pages.old pool.old) (doc / 256) }
+    requires frame { HasRoomFor (own_view pages.old pool.old) (docs_of pages.old) 1 }
     requires room { 1 ≤ top.old.room }
     ensures stands { Stands pages.new pool.new }
     ensures top { TopStands top.new (pages_scores pages.new pool.new) (pages_places pages.new pool.new) }
     ensures same { ArePagesOf pages.old pages.new }
-    ensures frames { length (own_view pages.new pool.new).frames ≤ length (own_view pages.old pool.old).frames + 1 }
     ensures leaves { LeavesPool pool.old pool.new (own_chain pages.old) }
-    ensures promise { (own_view pages.new pool.new).promise ≡ (own_view pages.old pool.old).promise }
     ensures room { top.new.room ≡ top.old.room }
 {
     calls_on_one_chain();
+    room_for_more_is_room_for_one();
     assert!(rt; pages.get(pool, doc) < 1000);
     pages.add(pool, doc, w);
     top.settle(pages, pool, &[doc]);
 }
 
-/// The same beside another session, which still stands.
-fn add_beside(
-    rt: &impl Abort,
-    other: &Pages,
-    other_top: &Top,
-    pages: &mut Pages,
-    top: &mut Top,
-    pool: &mut FramePool,
-    doc: u32,
-    w: u32,
-)
-    requires other { Stands other.now pool.old }
-    requires other_top { TopStands other_top.now (pages_scores other.now pool.old) (pages_places other.now pool.old) }
-    requires apart { own_chain other.now ≢ own_chain pages.old }
-    requires stands { Stands pages.old pool.old }
-    requires top { TopStands top.old (pages_scores pages.old pool.old) (pages_places pages.old pool.old) }
-    requires inside { doc < docs_of pages.old }
+/// A heap for one hit has this one, and this document behind it.
+fn check_first(rt: &impl Abort, top: &Top, first: Hit, next: Option<Hit>) {
+    assert!(rt; top.ranked() == [first].as_slice() && top.runner_up() == next);
+}
+
+/// A session over three documents for the first one, and its pool.
+struct One {
+    pool: FramePool,
+    pages: Pages,
+    top: Top,
+}
+
+impl Model for One {
+    ghost use Rattle.std.specs.Prelude.{ℕ, ◌≡◌, ◌≤◌};
+    ghost use Rattle.accumulator_pages.specs.Pages.{Stands, docs_of, own_view, pages_places, pages_scores};
+    ghost use Rattle.topk_heap.specs.Standing.{TopStands};
+
+    ghost Value = { ℕ };
+
+    ghost view = { λ s. docs_of s.pages };
+
+    ghost invariant = { λ s. (docs_of s.pages ≡ 3) × (((own_view s.pages s.pool).promise ≡ 3) × ((1 ≤ s.top.room)
+        × (Stands s.pages s.pool × TopStands s.top (pages_scores s.pages s.pool) (pages_places s.pages s.pool)))) };
+}
+
+/// A session to which nothing was added.
+fn opened_one(rt: &impl Abort, alloc: Global) -> One {
+    let mut pool = pool_of(rt, alloc, 3, 1);
+    let (pages, top) = opened(rt, alloc, &mut pool, 3, 1);
+    One { pool, pages, top }
+}
+
+/// Adds to the score of a document.
+fn add_to_one(rt: &impl Abort, one: &mut One, doc: u32, w: u32)
+    requires inside { doc < 3 }
     requires weight { 1 ≤ w }
     requires small { w < 1000 }
-    requires frame { HasRoom (own_view pages.old pool.old) (doc / 256) }
-    requires room { 1 ≤ top.old.room }
-    ensures other { Stands other.now pool.new }
-    ensures other_view { own_view other.now pool.new ≡ own_view other.now pool.old }
-    ensures other_top { TopStands other_top.now (pages_scores other.now pool.new) (pages_places other.now pool.new) }
-    ensures stands { Stands pages.new pool.new }
-    ensures top { TopStands top.new (pages_scores pages.new pool.new) (pages_places pages.new pool.new) }
-    ensures same { ArePagesOf pages.old pages.new }
-    ensures frames { length (own_view pages.new pool.new).frames ≤ length (own_view pages.old pool.old).frames + 1 }
-    ensures promise { (own_view pages.new pool.new).promise ≡ (own_view pages.old pool.old).promise }
-    ensures room { top.new.room ≡ top.old.room }
 {
-    calls_on_other_chains_leave_pages();
-    calls_on_other_chains_leave_a_heap();
-    add(rt, pages, top, pool, doc, w);
+    add(rt, &mut one.pages, &mut one.top, &mut one.pool, doc, w);
+}
+
+/// Gives the frames back.
+fn close_one(one: One) {
+    let One {
+        mut pool,
+        pages,
+        top: _,
+    } = one;
+    pool.give_back(pages.into_chain());
+}
+
+/// A document, what its score gains, and the first document then and the one behind it.
+type Step = (u32, u32, Hit, Option<Hit>);
+
+const STEPS: [Step; 3] = [
+    (1, 5, Hit { doc: 1, score: 5 }, None),
+    (
+        0,
+        9,
+        Hit { doc: 0, score: 9 },
+        Some(Hit { doc: 1, score: 5 }),
+    ),
+    (
+        2,
+        1,
+        Hit { doc: 0, score: 9 },
+        Some(Hit { doc: 1, score: 5 }),
+    ),
+];
+
+/// After each step the heap is as stands beside it.
+fn check_steps(rt: &impl Abort, one: &mut One, steps: &[Step]) {
+    for (doc, w, first, next) in steps {
+        assert!(rt; *doc < 3 && 1 <= *w && *w < 1000);
+        add_to_one(rt, one, *doc, *w);
+        check_first(rt, &one.top, *first, *next);
+    }
+}
+
+/// A heap has no hit.
+fn check_empty(rt: &impl Abort, top: &Top) {
+    assert!(rt; top.ranked().is_empty() && top.runner_up() == None);
+}
+
+#[test]
+fn documents_rise_one_by_one(rt: HostRuntime) {
+    let mut one = opened_one(&rt, rt.alloc());
+    check_empty(&rt, &one.top);
+    check_steps(&rt, &mut one, &STEPS);
+    close_one(one);
+}
+
+/// Two sessions over three documents in one pool.
+struct Two {
+    pool: FramePool,
+    x: Pages,
+    x_top: Top,
+    y: Pages,
+    y_top: Top,
+}
+
+impl Model for Two {
+    ghost use Rattle.std.specs.Prelude.{ℕ, ◌≡◌, ◌≢◌, ◌≤◌};
+    ghost use Rattle.accumulator_pages.specs.Pages.{Stands, docs_of, own_chain, own_view, pages_places, pages_scores};
+    ghost use Rattle.topk_heap.specs.Standing.{TopStands};
+
+    ghost Value = { ℕ };
+
+    ghost view = { λ s. docs_of s.x };
+
+    ghost invariant = { λ s. (own_chain s.x ≢ own_chain s.y) × ((docs_of s.x ≡ 3) × ((docs_of s.y ≡ 3)
+        × (((own_view s.x s.pool).promise ≡ 3) × (((own_view s.y s.pool).promise ≡ 3)
+        × ((1 ≤ s.x_top.room) × ((1 ≤ s.y_top.room) × (Stands s.x s.pool × (Stands s.y s.pool
+        × (TopStands s.x_top (pages_scores s.x s.pool) (pages_places s.x s.pool)
+        × TopStands s.y_top (pages_scores s.y s.pool) (pages_places s.y s.pool)))))))))) };
 }
 
 /// A session beside another one, which still stands.
@@ -132,6 +217,74 @@ fn opened_beside(
     calls_on_other_chains_leave_pages();
     calls_on_other_chains_leave_a_heap();
     opened(rt, alloc, pool, 3, 1)
+}
+
+/// Sessions to which nothing was added.
+fn opened_two(rt: &impl Abort, alloc: Global) -> Two {
+    let mut pool = pool_of(rt, alloc, 6, 2);
+    let (x, x_top) = opened(rt, alloc, &mut pool, 3, 1);
+    let (y, y_top) = opened_beside(rt, alloc, &mut pool, &x, &x_top);
+    Two {
+        pool,
+        x,
+        x_top,
+        y,
+        y_top,
+    }
+}
+
+/// Adds to a score of the first session.
+fn add_to_x(rt: &impl Abort, two: &mut Two, doc: u32, w: u32)
+    requires inside { doc < 3 }
+    requires weight { 1 ≤ w }
+    requires small { w < 1000 }
+{
+    calls_on_other_chains_leave_pages();
+    calls_on_other_chains_leave_a_heap();
+    add(rt, &mut two.x, &mut two.x_top, &mut two.pool, doc, w);
+}
+
+/// Adds to a score of the second session.
+fn add_to_y(rt: &impl Abort, two: &mut Two, doc: u32, w: u32)
+    requires inside { doc < 3 }
+    requires weight { 1 ≤ w }
+    requires small { w < 1000 }
+{
+    calls_on_other_chains_leave_pages();
+    calls_on_other_chains_leave_a_heap();
+    add(rt, &mut two.y, &mut two.y_top, &mut two.pool, doc, w);
+}
+
+/// Gives the frames of both back.
+fn close_two(two: Two) {
+    calls_on_other_chains_leave_pages();
+    let Two {
+        mut pool,
+        x,
+        x_top: _,
+        y,
+        y_top: _,
+    } = two;
+    pool.give_back(x.into_chain());
+    pool.give_back(y.into_chain());
+}
+
+#[test]
+fn two_sessions_take_turns(rt: HostRuntime) {
+    let mut two = opened_two(&rt, rt.alloc());
+    // The documents tie in one session, in either order of arrival.
+    add_to_x(&rt, &mut two, 1, 4);
+    add_to_y(&rt, &mut two, 2, 7);
+    add_to_x(&rt, &mut two, 0, 4);
+    add_to_y(&rt, &mut two, 2, 1);
+    check_first(
+        &rt,
+        &two.x_top,
+        Hit { doc: 0, score: 4 },
+        Some(Hit { doc: 1, score: 4 }),
+    );
+    check_first(&rt, &two.y_top, Hit { doc: 2, score: 8 }, None);
+    close_two(two);
 }
 
 /// Adds a weight to the scores of some of six documents, and settles those that have passed the last of the heap.
@@ -170,83 +323,28 @@ fn add_batch(
     top.settle(pages, pool, reached.as_slice());
 }
 
-/// Whether a heap for one hit has this one, and this document behind it.
-fn has_first(top: &Top, first: Hit, next: Option<Hit>) -> bool {
-    top.ranked() == [first].as_slice() && top.runner_up() == next
+/// A heap has this hit alone.
+fn check_ranked(rt: &impl Abort, top: &Top, first: Hit) {
+    assert!(rt; top.ranked() == [first].as_slice());
 }
 
-#[test]
-fn documents_rise_one_by_one(rt: HostRuntime) {
-    let Ok(mut pool) = FramePool::new(rt.alloc(), 3, 1) else {
-        panic!(rt; "no memory")
-    };
-    let (mut pages, mut top) = opened(&rt, rt.alloc(), &mut pool, 3, 1);
-    assert!(rt; top.ranked().is_empty() && top.runner_up() == None);
-
-    add(&rt, &mut pages, &mut top, &mut pool, 1, 5);
-    assert!(rt; has_first(&top, Hit { doc: 1, score: 5 }, None));
-
-    add(&rt, &mut pages, &mut top, &mut pool, 0, 9);
-    assert!(rt;
-        has_first(
-            &top,
-            Hit { doc: 0, score: 9 },
-            Some(Hit { doc: 1, score: 5 })
-        )
-    );
-
-    add(&rt, &mut pages, &mut top, &mut pool, 2, 1);
-    assert!(rt;
-        has_first(
-            &top,
-            Hit { doc: 0, score: 9 },
-            Some(Hit { doc: 1, score: 5 })
-        )
-    );
-    pool.give_back(pages.into_chain());
+/// These documents were noted.
+fn check_reached(rt: &impl Abort, reached: &Reached, docs: &[u32]) {
+    assert!(rt; reached.as_slice() == docs);
 }
 
-#[test]
-fn two_sessions_take_turns(rt: HostRuntime) {
-    let Ok(mut pool) = FramePool::new(rt.alloc(), 6, 2) else {
-        panic!(rt; "no memory")
-    };
-    let (mut x, mut x_top) = opened(&rt, rt.alloc(), &mut pool, 3, 1);
-    let (mut y, mut y_top) = opened_beside(&rt, rt.alloc(), &mut pool, &x, &x_top);
-
-    // The documents tie in one session, in either order of arrival.
-    add_beside(&rt, &y, &y_top, &mut x, &mut x_top, &mut pool, 1, 4);
-    add_beside(&rt, &x, &x_top, &mut y, &mut y_top, &mut pool, 2, 7);
-    add_beside(&rt, &y, &y_top, &mut x, &mut x_top, &mut pool, 0, 4);
-    add_beside(&rt, &x, &x_top, &mut y, &mut y_top, &mut pool, 2, 1);
-    assert!(rt;
-        has_first(
-            &x_top,
-            Hit { doc: 0, score: 4 },
-            Some(Hit { doc: 1, score: 4 })
-        )
-    );
-    assert!(rt; has_first(&y_top, Hit { doc: 2, score: 8 }, None));
-    pool.give_back(x.into_chain());
-    pool.give_back(y.into_chain());
-}
-
-#[test]
-fn a_batch_is_settled(rt: HostRuntime) {
-    let Ok(mut pool) = FramePool::new(rt.alloc(), 3, 1) else {
-        panic!(rt; "no memory")
-    };
-    let Ok(mut reached) = Reached::new(rt.alloc(), 6) else {
-        panic!(rt; "no memory")
-    };
-    let (mut pages, mut top) = opened(&rt, rt.alloc(), &mut pool, 6, 6);
-    add_batch(&rt, &mut pages, &mut top, &mut pool, &[5], 3, &mut reached);
-    assert!(rt; reached.as_slice() == [5].as_slice());
-    assert!(rt; top.ranked() == [Hit { doc: 5, score: 3 }].as_slice());
+/// Two batches in a session over six documents.
+fn check_batches(rt: &impl Abort, alloc: Global) {
+    let mut pool = pool_of(rt, alloc, 3, 1);
+    let mut reached = Reached::new(alloc, 6).expect(rt, "no memory");
+    let (mut pages, mut top) = opened(rt, alloc, &mut pool, 6, 6);
+    add_batch(rt, &mut pages, &mut top, &mut pool, &[5], 3, &mut reached);
+    check_reached(rt, &reached, &[5]);
+    check_ranked(rt, &top, Hit { doc: 5, score: 3 });
 
     // Document 5 is in the heap already, and the others tie. The last of the full heap is then document 0 with score 2.
     add_batch(
-        &rt,
+        rt,
         &mut pages,
         &mut top,
         &mut pool,
@@ -254,13 +352,17 @@ fn a_batch_is_settled(rt: HostRuntime) {
         2,
         &mut reached,
     );
-    assert!(rt; reached.as_slice() == [0, 1, 2, 3, 4].as_slice());
-    assert!(rt;
-        has_first(
-            &top,
-            Hit { doc: 5, score: 5 },
-            Some(Hit { doc: 0, score: 2 })
-        )
+    check_reached(rt, &reached, &[0, 1, 2, 3, 4]);
+    check_first(
+        rt,
+        &top,
+        Hit { doc: 5, score: 5 },
+        Some(Hit { doc: 0, score: 2 }),
     );
     pool.give_back(pages.into_chain());
+}
+
+#[test]
+fn a_batch_is_settled(rt: HostRuntime) {
+    check_batches(&rt, rt.alloc());
 }

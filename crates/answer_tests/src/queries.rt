@@ -5,7 +5,7 @@ ghost use Rattle.std.specs.Prelude.{[], ◌∷◌, codes};
 use crate::words::words_of;
 use jass_base::{Lexicon, Query, QueryTerm};
 use query_reader::{Mode, QueryFault, name_terms, read_queries, read_terms};
-use std::alloc::{AllocError, Global};
+use std::alloc::Global;
 use std::process::Abort;
 
 /// The terms `CAT!`, `cat`, `dog` and `strasse`.
@@ -29,16 +29,34 @@ impl Lexicon for FewTerms {
     }
 }
 
-/// How often each of the four terms is named, with the number of the others.
-fn times(query: &Query) -> [u32; 5] {
-    let mut times = [0; 5];
-    for named in query.terms.as_slice() {
-        if named.term < 4 {
-            times[named.term as usize] = u32::from(named.times);
+/// How often a term is named.
+fn times_of(terms: &[QueryTerm], term: u32) -> u32 {
+    for named in terms {
+        if named.term == term {
+            return u32::from(named.times);
         }
     }
-    times[4] = query.unknown;
-    times
+    0
+}
+
+/// How often each of the four terms is named, with the number of the others.
+fn times(terms: &[QueryTerm], unknown: u32) -> [u32; 5] {
+    [
+        times_of(terms, 0),
+        times_of(terms, 1),
+        times_of(terms, 2),
+        times_of(terms, 3),
+        unknown,
+    ]
+}
+
+/// A query has this name, and names the four terms so often and so many others.
+fn check_query(rt: &impl Abort, query: &Query, id: &str, want: &[u32; 5], text: &str) {
+    assert!(rt; query.id.as_str() == id);
+    assert!(rt;
+        times(query.terms.as_slice(), query.unknown) == *want,
+        "{text}"
+    );
 }
 
 /// Texts of queries, each with how often it names the four terms and how many others.
@@ -57,15 +75,17 @@ const TEXTS: [(Mode, &str, [u32; 5]); 12] = [
     (Mode::Plain, "", [0, 0, 0, 0, 0]),
 ];
 
+/// A text has these counts.
+fn check_text(rt: &impl Abort, alloc: Global, mode: Mode, text: &str, want: &[u32; 5]) {
+    assert!(rt; text.len() <= 100);
+    let query = read_terms(alloc, "q", text, mode, &FewTerms).expect(rt, text);
+    check_query(rt, &query, "q", want, text);
+}
+
 /// Each text has the counts that stand beside it.
 fn check_texts(rt: &impl Abort, alloc: Global, texts: &[(Mode, &str, [u32; 5])]) {
     for (mode, text, want) in texts {
-        assert!(rt; text.len() <= 100);
-        let Ok(query) = read_terms(alloc, "q", text, *mode, &FewTerms) else {
-            panic!(rt; "{text}")
-        };
-        assert!(rt; query.id.as_str() == "q");
-        assert!(rt; times(&query) == *want, "{text}");
+        check_text(rt, alloc, *mode, text, want);
     }
 }
 
@@ -87,20 +107,20 @@ const FILES: [(Mode, &[u8], u32, u32); 9] = [
     (Mode::Plain, b"1 cat\r\r\n2", 0, 2),
 ];
 
+/// The number of a file's refusal and the line of it, or 0 and how many queries it has.
+fn outcome(rt: &impl Abort, alloc: Global, mode: Mode, bytes: &[u8]) -> (u32, usize) {
+    match read_queries(alloc, bytes, mode, &FewTerms) {
+        Ok(queries) => (0, queries.len()),
+        Err(QueryFault::Refused(refusal)) => (refusal.why.number(), refusal.line as usize),
+        Err(QueryFault::NoMemory) => panic!(rt; "no memory"),
+    }
+}
+
 /// Each file is read or refused as stands beside it.
 fn check_files(rt: &impl Abort, alloc: Global, files: &[(Mode, &[u8], u32, u32)]) {
     for (mode, bytes, number, line) in files {
-        match read_queries(alloc, bytes, *mode, &FewTerms) {
-            Ok(queries) => {
-                assert_eq!(rt; *number, 0);
-                assert_eq!(rt; queries.len(), *line as usize);
-            }
-            Err(QueryFault::Refused(refusal)) => {
-                assert_eq!(rt; refusal.why.number(), *number);
-                assert_eq!(rt; refusal.line, *line);
-            }
-            Err(QueryFault::NoMemory) => panic!(rt; "no memory"),
-        }
+        let (found, at) = outcome(rt, alloc, *mode, bytes);
+        assert!(rt; found == *number && at == *line as usize);
     }
 }
 
@@ -111,44 +131,44 @@ fn refuses_the_first_bad_line(rt: HostRuntime) {
 
 /// The queries have these names, each with how often it names the four terms and how many others.
 fn check_queries(rt: &impl Abort, queries: &[Query], wants: &[(&str, [u32; 5])]) {
-    assert_eq!(rt; queries.len(), wants.len());
+    assert!(rt; queries.len() == wants.len());
     for (query, (id, want)) in queries.iter().zip(wants) {
-        assert!(rt; query.id.as_str() == *id);
-        assert!(rt; times(query) == *want);
+        check_query(rt, query, id, want, id);
     }
+}
+
+/// The queries of a file of two lines, and one between them without bytes.
+fn check_lines(rt: &impl Abort, alloc: Global) {
+    let file = b"301\tCAT  dog\r\n\n302 zzz\n";
+    let queries = read_queries(alloc, file, Mode::Folded, &FewTerms).expect(rt, "no queries");
+    let wants = [("301", [0, 1, 1, 0, 0]), ("302", [0, 0, 0, 0, 1])];
+    check_queries(rt, queries.as_slice(), &wants);
 }
 
 #[test]
 fn reads_a_file_line_by_line(rt: HostRuntime) {
-    let file = b"301\tCAT  dog\r\n\n302 zzz\n";
-    let Ok(queries) = read_queries(rt.alloc(), file, Mode::Folded, &FewTerms) else {
-        panic!(&rt; "no queries")
-    };
-    let wants = [("301", [0, 1, 1, 0, 0]), ("302", [0, 0, 0, 0, 1])];
-    check_queries(&rt, queries.as_slice(), &wants);
+    check_lines(&rt, rt.alloc());
 }
 
 /// The query that four words name.
-fn named(alloc: Global) -> Result<Query, AllocError> {
-    let words = words_of(alloc, "dog zzz^2 cat dog")?;
-    if words.len() != 4 {
-        return Err(AllocError);
-    }
-    match name_terms(alloc, "q", words.as_slice(), &FewTerms) {
-        Ok(query) => Ok(query),
-        Err(_) => Err(AllocError),
-    }
+fn named(rt: &impl Abort, alloc: Global) -> Query {
+    let words = words_of(alloc, "dog zzz^2 cat dog").expect(rt, "no memory");
+    assert!(rt; words.len() == 4);
+    name_terms(alloc, "q", words.as_slice(), &FewTerms).expect(rt, "no memory")
 }
 
-#[test]
-fn names_known_words_and_counts_the_others(rt: HostRuntime) {
-    let Ok(query) = named(rt.alloc()) else {
-        panic!(&rt; "no memory")
-    };
+/// It names two terms, in the order in which they come, and another one.
+fn check_named(rt: &impl Abort, alloc: Global) {
+    let query = named(rt, alloc);
     let want = [
         QueryTerm { term: 2, times: 2 },
         QueryTerm { term: 1, times: 1 },
     ];
-    assert!(&rt; query.id.as_str() == "q" && query.unknown == 1);
-    assert!(&rt; query.terms.as_slice() == want.as_slice());
+    assert!(rt; query.id.as_str() == "q" && query.unknown == 1);
+    assert!(rt; query.terms.as_slice() == want.as_slice());
+}
+
+#[test]
+fn names_known_words_and_counts_the_others(rt: HostRuntime) {
+    check_named(&rt, rt.alloc());
 }

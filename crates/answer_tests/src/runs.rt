@@ -2,40 +2,44 @@
 
 use std::alloc::Global;
 use std::process::Abort;
-use trec_run::{RunFault, RunWhy, read_run};
+use trec_run::{RunFault, RunLine, RunWhy, read_run};
 
 /// Four lines of a search.
 const FOUR_LINES: &[u8] =
     b"301 Q0 d0 1 3 jass.1\n301 Q0 d2 2 3 jass.1\n301 Q0 d0 1 3 jass.2\n301 Q0 d1 2 3 jass.2\n";
 
+/// A text has so many lines.
+fn check_count(rt: &impl Abort, alloc: Global, text: &[u8], count: usize) {
+    let run = read_run(alloc, text).expect(rt, "refused");
+    assert!(rt; run.len() == count);
+}
+
 #[test]
 fn four_lines_of_a_search(rt: HostRuntime) {
-    let Ok(run) = read_run(rt.alloc(), FOUR_LINES) else {
-        panic!(&rt; "refused")
-    };
-    assert!(&rt; run.len() == 4);
+    check_count(&rt, rt.alloc(), FOUR_LINES, 4);
+}
+
+/// Whether a line has these columns.
+fn is_line(line: &RunLine) -> bool {
+    line.id.as_str() == "1"
+        && line.name.as_str() == "d"
+        && line.rank == 2
+        && line.score == 3
+        && line.tag.as_str() == "t"
 }
 
 /// The one line that follows a line without bytes.
-fn is_second(alloc: Global, text: &[u8]) -> bool {
-    match read_run(alloc, text) {
-        Ok(run) => match run.as_slice() {
-            [line] => {
-                line.id.as_str() == "1"
-                    && line.name.as_str() == "d"
-                    && line.rank == 2
-                    && line.score == 3
-                    && line.tag.as_str() == "t"
-            }
-            _ => false,
-        },
-        Err(_) => false,
-    }
+fn check_second(rt: &impl Abort, alloc: Global, text: &[u8]) {
+    let run = read_run(alloc, text).expect(rt, "refused");
+    let [line] = run.as_slice() else {
+        panic!(rt; "not one line")
+    };
+    assert!(rt; is_line(line));
 }
 
 #[test]
 fn blanks_and_lines_without_bytes(rt: HostRuntime) {
-    assert!(&rt; is_second(rt.alloc(), b"\n\t 1\tQ0  d 2 3 t \r\n"));
+    check_second(&rt, rt.alloc(), b"\n\t 1\tQ0  d 2 3 t \r\n");
 }
 
 /// Texts, each with its first bad line and why it is bad.

@@ -6,12 +6,11 @@ ghost use Rattle.session_engine.specs.Standing.{SessionStands};
 
 use frame_pool::FramePool;
 use index_file::IndexFile;
-use index_layout::OpenFault;
-use jass_base::{Budget, Grade, Hit, NoMemory, Query, QueryTerm, Report, Row, Steps, Text};
+use jass_base::{Budget, Grade, Hit, Query, QueryTerm, Report, Row, Steps, Text};
 use session_engine::laws::a_standing_session_has_its_chain;
 use session_engine::{OpenStop, Session, need};
 use std::alloc::Global;
-use std::marker::Brand;
+use std::marker::{Brand, Model};
 use std::process::Abort;
 use std::sync::ledger::{Blank, Ledger};
 
@@ -35,57 +34,25 @@ const DENSE: [u8; 79] = [
     0x00, 0x00, 0x00, 0x09, 0x00, 0x02, 0x00, 0x00, 0x00, 0x02, 0x01, 0x00, 0x00, 0x00, 0x05,
 ];
 
-fn opened(alloc: Global, bytes: &[u8]) -> Result<IndexFile, OpenFault> {
+/// The index of a file of these bytes.
+fn index_of(rt: &impl Abort, alloc: Global, bytes: &[u8]) -> IndexFile {
     let mut row = Row::new(alloc);
-    match row.extend(bytes) {
-        Ok(()) => IndexFile::from_bytes(alloc, row),
-        Err(_) => Err(OpenFault::NoMemory),
-    }
+    row.extend(bytes).expect(rt, "no memory");
+    IndexFile::from_bytes(alloc, row).expect(rt, "refused")
 }
 
 /// The query for the term with number 0.
-fn asked(alloc: Global) -> Result<Query, NoMemory>
-    ensures { IfOk result (λ query. query.terms ≡ record { term = 0; times = 1 } ∷ []) }
+fn asked(rt: &impl Abort, alloc: Global) -> Query
+    ensures { result.terms ≡ record { term = 0; times = 1 } ∷ [] }
 {
     let mut terms = Row::new(alloc);
-    terms.extend(&[QueryTerm { term: 0, times: 1 }])?;
-    Ok(Query {
-        id: Text::from_str(alloc, "q")?,
+    terms
+        .extend(&[QueryTerm { term: 0, times: 1 }])
+        .expect(rt, "no memory");
+    Query {
+        id: Text::from_str(alloc, "q").expect(rt, "no memory"),
         terms,
         unknown: 0,
-    })
-}
-
-/// The reports of grants of one posting, of one more, and of all.
-fn granted<L: Ledger>(
-    session: &mut Session,
-    file: &IndexFile,
-    pool: &mut FramePool,
-    blank: Blank,
-) -> [Report; 3]
-    requires name { blank.name ≡ L.name }
-    requires parts { blank.parts ≡ L.parts }
-    requires some { 0 < blank.parts }
-    requires stands { SessionStands session.old file.now pool.old }
-    ensures stands { SessionStands session.new file.now pool.new }
-{
-    let mut steps = Steps::<L>::new(blank);
-    let first = session.grant(file, pool, Budget::Postings(1), &mut steps);
-    let second = session.grant(file, pool, Budget::Postings(1), &mut steps);
-    let last = session.grant(file, pool, Budget::All, &mut steps);
-    [first, second, last]
-}
-
-/// A final report of so many segments of one posting each.
-fn report(segments: u32, cutoff: u32, next: u32) -> Report {
-    Report {
-        postings: u64::from(segments),
-        segments,
-        of: 3,
-        cutoff,
-        next,
-        bound: next,
-        grade: Grade::Final,
     }
 }
 
@@ -103,11 +70,85 @@ fn begun(
     ensures stands { IfOk result (λ session. SessionStands session file.now pool.new) }
 {
     assert!(rt; file.terms() == 1);
-    let Ok(query) = asked(alloc) else {
-        panic!(rt; "no memory")
-    };
+    let query = asked(rt, alloc);
     assert!(rt; need(file, &query) == 1);
     Session::open(alloc, file, pool, query, k)
+}
+
+/// A session with its file and a pool.
+struct Sitting {
+    file: IndexFile,
+    pool: FramePool,
+    session: Session,
+}
+
+impl Model for Sitting {
+    ghost use Rattle.std.specs.Prelude.{ℕ};
+    ghost use Rattle.session_engine.specs.Standing.{SessionStands, k_of};
+
+    ghost Value = { ℕ };
+
+    ghost view = { λ s. k_of s.session };
+
+    ghost invariant = { λ s. SessionStands s.session s.file s.pool };
+}
+
+/// A session for the first k documents of a file, in a pool of one frame.
+fn opened(rt: &impl Abort, alloc: Global, bytes: &[u8], k: u32) -> Sitting
+    requires some { 1 ≤ k }
+    requires few { k ≤ 3 }
+{
+    let file = index_of(rt, alloc, bytes);
+    let mut pool = FramePool::new(alloc, 1, 1).expect(rt, "no memory");
+    let Ok(session) = begun(rt, alloc, &file, &mut pool, k) else {
+        panic!(rt; "refused")
+    };
+    Sitting {
+        file,
+        pool,
+        session,
+    }
+}
+
+/// The report of a grant.
+fn grant<L: Ledger>(sitting: &mut Sitting, budget: Budget, steps: &mut Steps<L>) -> Report {
+    let Sitting {
+        file,
+        pool,
+        session,
+    } = sitting;
+    session.grant(file, pool, budget, steps)
+}
+
+/// The reports of grants of one posting, of one more, and of all.
+fn granted<L: Ledger>(sitting: &mut Sitting, blank: Blank) -> [Report; 3]
+    requires name { blank.name ≡ L.name }
+    requires parts { blank.parts ≡ L.parts }
+    requires some { 0 < blank.parts }
+{
+    let mut steps = Steps::<L>::new(blank);
+    let first = grant(sitting, Budget::Postings(1), &mut steps);
+    let second = grant(sitting, Budget::Postings(1), &mut steps);
+    let last = grant(sitting, Budget::All, &mut steps);
+    [first, second, last]
+}
+
+/// The same with a ledger of its own.
+fn reports(sitting: &mut Sitting) -> [Report; 3] {
+    granted::<Brand>(sitting, Blank::new(1))
+}
+
+/// A final report of so many segments of one posting each.
+fn report(segments: u32, cutoff: u32, next: u32) -> Report {
+    Report {
+        postings: u64::from(segments),
+        segments,
+        of: 3,
+        cutoff,
+        next,
+        bound: next,
+        grade: Grade::Final,
+    }
 }
 
 /// Gives a session's frames back.
@@ -118,63 +159,94 @@ fn close(session: Session, file: &IndexFile, pool: &mut FramePool)
     session.close(pool);
 }
 
-/// Whether a session for one hit has this last report, and the answer of all postings.
-fn has_all_postings(session: &Session, last: Report) -> bool {
-    session.report() == last
-        && session.answer() == [Hit { doc: 0, score: 9 }].as_slice()
-        && session.frames() == 1
-        && session.query().unknown == 0
+/// The pool of a session that gave its frames back.
+fn closed(sitting: Sitting) -> FramePool {
+    let Sitting {
+        file,
+        mut pool,
+        session,
+    } = sitting;
+    close(session, &file, &mut pool);
+    pool
+}
+
+/// Nothing is scored yet.
+fn check_new(rt: &impl Abort, session: &Session) {
+    assert!(rt; session.answer().is_empty() && session.frames() == 0);
+}
+
+/// A session for one hit has this last report, and the answer of all postings.
+fn check_all_postings(rt: &impl Abort, session: &Session, last: Report) {
+    assert!(rt; session.report() == last && session.frames() == 1);
+    assert!(rt; session.answer() == [Hit { doc: 0, score: 9 }].as_slice());
+    assert!(rt; session.query().unknown == 0);
+}
+
+/// The reports of three grants.
+fn check_grants(rt: &impl Abort, sitting: &mut Sitting) {
+    let reports = reports(sitting);
+    assert!(rt; reports == [report(1, 9, 5), report(2, 5, 1), report(3, 1, 0)]);
+}
+
+/// So many frames of a pool are spare.
+fn check_spare(rt: &impl Abort, pool: &FramePool, spare: u32) {
+    assert!(rt; pool.spare() == spare);
 }
 
 #[test]
 fn grants_of_one_posting_and_of_all(rt: HostRuntime) {
-    let Ok(file) = opened(rt.alloc(), &FILE) else {
-        panic!(&rt; "refused")
-    };
-    let Ok(mut pool) = FramePool::new(rt.alloc(), 1, 1) else {
-        panic!(&rt; "no memory")
-    };
-    let Ok(mut session) = begun(&rt, rt.alloc(), &file, &mut pool, 1) else {
-        panic!(&rt; "refused")
-    };
-    assert!(&rt; session.answer().is_empty() && session.frames() == 0);
-    let reports = granted::<Brand>(&mut session, &file, &mut pool, Blank::new(1));
-    assert!(&rt; reports == [report(1, 9, 5), report(2, 5, 1), report(3, 1, 0)]);
-    assert!(&rt; has_all_postings(&session, report(3, 1, 0)) && pool.spare() == 0);
-    close(session, &file, &mut pool);
-    assert!(&rt; pool.spare() == 1);
+    let mut sitting = opened(&rt, rt.alloc(), &FILE, 1);
+    check_new(&rt, &sitting.session);
+    check_grants(&rt, &mut sitting);
+    check_all_postings(&rt, &sitting.session, report(3, 1, 0));
+    check_spare(&rt, &sitting.pool, 0);
+    check_spare(&rt, &closed(sitting), 1);
+}
+
+/// One segment is a bitmap, and two postings are scored in all.
+fn check_bitmap(rt: &impl Abort, sitting: &mut Sitting) {
+    assert!(rt; sitting.file.codecs().bitmap == 1);
+    let [_, second, last] = reports(sitting);
+    assert!(rt; second.postings == 2 && last.postings == 2);
+}
+
+/// The answer is two hits.
+fn check_both(rt: &impl Abort, session: &Session) {
+    assert!(rt;
+        session.answer() == [Hit { doc: 0, score: 9 }, Hit { doc: 2, score: 9 }].as_slice()
+    );
 }
 
 #[test]
 fn a_bitmap_is_scored(rt: HostRuntime) {
-    let Ok(file) = opened(rt.alloc(), &DENSE) else {
-        panic!(&rt; "refused")
-    };
-    assert!(&rt; file.codecs().bitmap == 1);
-    let Ok(mut pool) = FramePool::new(rt.alloc(), 1, 1) else {
-        panic!(&rt; "no memory")
-    };
-    let Ok(mut session) = begun(&rt, rt.alloc(), &file, &mut pool, 3) else {
-        panic!(&rt; "refused")
-    };
-    let [_, second, last] = granted::<Brand>(&mut session, &file, &mut pool, Blank::new(1));
-    assert!(&rt; second.postings == 2 && last.postings == 2);
-    assert!(&rt;
-        session.answer() == [Hit { doc: 0, score: 9 }, Hit { doc: 2, score: 9 }].as_slice()
-    );
-    close(session, &file, &mut pool);
+    let mut sitting = opened(&rt, rt.alloc(), &DENSE, 3);
+    check_bitmap(&rt, &mut sitting);
+    check_both(&rt, &sitting.session);
+    closed(sitting);
+}
+
+/// Why no session for the first hit of a file is opened.
+fn stopped(rt: &impl Abort, alloc: Global, file: &IndexFile, pool: &mut FramePool) -> OpenStop
+    requires chain { HasFreeNumber pool.old }
+{
+    match begun(rt, alloc, file, pool, 1) {
+        Ok(session) => {
+            close(session, file, pool);
+            panic!(rt; "opened")
+        }
+        Err(stop) => stop,
+    }
+}
+
+/// A session whose pool has no frame isn't opened.
+fn check_full(rt: &impl Abort, alloc: Global) {
+    let file = index_of(rt, alloc, &FILE);
+    let mut pool = FramePool::new(alloc, 0, 1).expect(rt, "no memory");
+    let stop = stopped(rt, alloc, &file, &mut pool);
+    assert!(rt; stop == OpenStop::PoolFull { need: 1, free: 0 });
 }
 
 #[test]
 fn a_pool_without_spare_frames_is_full(rt: HostRuntime) {
-    let Ok(file) = opened(rt.alloc(), &FILE) else {
-        panic!(&rt; "refused")
-    };
-    let Ok(mut pool) = FramePool::new(rt.alloc(), 0, 1) else {
-        panic!(&rt; "no memory")
-    };
-    match begun(&rt, rt.alloc(), &file, &mut pool, 1) {
-        Ok(session) => close(session, &file, &mut pool),
-        Err(stop) => assert!(&rt; stop == OpenStop::PoolFull { need: 1, free: 0 }),
-    }
+    check_full(&rt, rt.alloc());
 }

@@ -3,45 +3,39 @@
 
 use gathered_text::put_all;
 use jass_base::{MemSink, Row};
-use std::alloc::{AllocError, Global};
+use std::alloc::Global;
 use std::process::Abort;
+
+/// Puts a piece of this size behind a text, or of all the bytes, where there are fewer.
+fn put_piece<'a>(rt: &impl Abort, text: &mut Vec<&'a [u8]>, bytes: &'a [u8], size: usize) {
+    let piece = &bytes[..bytes.len().min(size)];
+    text.extend_from_slice(&[piece]).expect(rt, "no memory");
+}
 
 /// A text of these sizes with so many pieces of 15,000 bytes behind them, each of them a front of the same bytes.
 fn text_of<'a>(
+    rt: &impl Abort,
     alloc: Global,
     bytes: &'a [u8],
     sizes: &[usize],
     pieces: u32,
-) -> Result<Vec<&'a [u8]>, AllocError> {
+) -> Vec<&'a [u8]> {
     let mut text = Vec::new(alloc);
     for size in sizes {
-        text.push(&bytes[..bytes.len().min(*size)])?;
+        put_piece(rt, &mut text, bytes, *size);
     }
     for _ in 0..pieces {
-        text.push(&bytes[..bytes.len().min(15_000)])?;
+        put_piece(rt, &mut text, bytes, 15_000);
     }
-    Ok(text)
+    text
 }
 
 /// How many bytes of a text go where the put with a number fails, and whether all of it does.
-fn put(alloc: Global, text: &[&[u8]], bad_put: u64) -> Result<(usize, bool), AllocError> {
-    let bad = Row::from_vec(Vec::from_slice(alloc, &[bad_put])?);
-    let mut sink = MemSink::new(alloc, bad);
+fn put(rt: &impl Abort, alloc: Global, text: &[&[u8]], bad_put: u64) -> (usize, bool) {
+    let bad = Vec::from_slice(alloc, &[bad_put]).expect(rt, "no memory");
+    let mut sink = MemSink::new(alloc, Row::from_vec(bad));
     let whole = put_all(&mut sink, text).is_ok();
-    Ok((sink.written().len(), whole))
-}
-
-/// How many bytes went of a text of these sizes with so many pieces of 15,000 bytes behind them, where the put with a
-/// number fails, and whether all of it did.
-fn went(
-    alloc: Global,
-    sizes: &[usize],
-    pieces: u32,
-    bad_put: u64,
-) -> Result<(usize, bool), AllocError> {
-    let bytes = vec![in alloc; b'x'; 200_000]?;
-    let text = text_of(alloc, bytes.as_slice(), sizes, pieces)?;
-    put(alloc, text.as_slice(), bad_put)
+    (sink.written().len(), whole)
 }
 
 /// The sizes and pieces of texts, the put that fails, how many bytes go, and whether all do. Behind a piece that finds no
@@ -58,16 +52,20 @@ const TEXTS: [(&[usize], u32, u64, usize, bool); 8] = [
 ];
 
 /// So much goes of each text as stands beside it.
-fn check_texts(rt: &impl Abort, alloc: Global, texts: &[(&[usize], u32, u64, usize, bool)]) {
+fn check_texts(
+    rt: &impl Abort,
+    alloc: Global,
+    bytes: &[u8],
+    texts: &[(&[usize], u32, u64, usize, bool)],
+) {
     for (sizes, pieces, bad_put, count, whole) in texts {
-        let Ok(left) = went(alloc, sizes, *pieces, *bad_put) else {
-            panic!(rt; "no memory")
-        };
-        assert!(rt; left == (*count, *whole));
+        let text = text_of(rt, alloc, bytes, sizes, *pieces);
+        assert!(rt; put(rt, alloc, text.as_slice(), *bad_put) == (*count, *whole));
     }
 }
 
 #[test]
 fn long_texts_go_by_pieces(rt: HostRuntime) {
-    check_texts(&rt, rt.alloc(), &TEXTS);
+    let bytes = vec![in rt.alloc(); b'x'; 200_000].expect(&rt, "no memory");
+    check_texts(&rt, rt.alloc(), bytes.as_slice(), &TEXTS);
 }

@@ -1,10 +1,17 @@
 // Collections that are made, and queries that are drawn behind them.
 
-ghost use Rattle.std.specs.Prelude.{◌≤◌};
-
-use jass_base::{Collection, NoMemory, Posting};
+use jass_base::{Collection, Posting, PostingsList};
 use std::alloc::Global;
+use std::process::Abort;
 use trial_data::{Draws, draw_query, make, make_with_draws};
+
+/// Whether a list of four documents and 18 mentions has these postings.
+fn is_small_list(list: &PostingsList, postings: &[Posting]) -> bool {
+    list.term.as_str() == "t0"
+        && list.df == 4
+        && list.cf == 18
+        && list.postings.as_slice() == postings
+}
 
 /// Whether the collection has four documents of these lengths, and one list of these postings.
 fn is_small_trial(collection: &Collection, postings: &[Posting], lengths: [u32; 4]) -> bool {
@@ -14,10 +21,7 @@ fn is_small_trial(collection: &Collection, postings: &[Posting], lengths: [u32; 
     let [first, second, third, fourth] = collection.docs.as_slice() else {
         return false;
     };
-    list.term.as_str() == "t0"
-        && list.df == 4
-        && list.cf == 18
-        && list.postings.as_slice() == postings
+    is_small_list(list, postings)
         && fourth.name.as_str() == "D3"
         && [first.length, second.length, third.length, fourth.length] == lengths
 }
@@ -35,43 +39,36 @@ const POSTINGS: [Posting; 4] = [
     Posting { doc: 3, tf: 5 },
 ];
 
-/// A collection of at most ten documents and terms, and the numbers behind it.
-fn made(alloc: Global, seed: u32, docs: u32, terms: u32) -> Result<(Collection, Draws), NoMemory>
-    requires docs { docs ≤ 10 }
-    requires terms { terms ≤ 10 }
-{
-    make_with_draws(alloc, seed, docs, terms)
+/// Three words are drawn, each of them `t0`.
+fn check_words(rt: &impl Abort, alloc: Global, draws: &mut Draws) {
+    let words = draw_query(alloc, draws, 1).expect(rt, "no memory");
+    assert!(rt; words.len() == 3 && words.iter().all(|word| word.as_str() == "t0"));
 }
 
-/// Whether three words are drawn, each of them `t0`.
-fn draws_one_term(alloc: Global, draws: &mut Draws) -> Result<bool, NoMemory> {
-    let words = draw_query(alloc, draws, 1)?;
-    Ok(words.len() == 3 && words.iter().all(|word| word.as_str() == "t0"))
+/// The small trial is as told, and its query.
+fn check_made(rt: &impl Abort, alloc: Global) {
+    let (collection, mut draws) = make_with_draws(alloc, 1, 4, 1).expect(rt, "no memory");
+    assert!(rt; is_small_trial(&collection, &POSTINGS, [5, 2, 6, 5]));
+    assert!(rt; has_small_totals(&collection));
+    check_words(rt, alloc, &mut draws);
 }
 
-/// Whether the small trial is as told, and its query.
-fn is_made(alloc: Global) -> Result<bool, NoMemory> {
-    let (collection, mut draws) = made(alloc, 1, 4, 1)?;
-    Ok(
-        is_small_trial(&collection, &POSTINGS, [5, 2, 6, 5])
-            && has_small_totals(&collection)
-            && draws_one_term(alloc, &mut draws)?,
-    )
+/// A collection of one term has one list.
+fn check_one_list(rt: &impl Abort, alloc: Global) {
+    let collection = make(alloc, 5, 1, 1).expect(rt, "no memory");
+    assert!(rt; collection.lists.len() == 1);
 }
 
-/// How many lists a collection of one term has.
-fn list_count(alloc: Global, seed: u32) -> Result<usize, NoMemory> {
-    let collection = make(alloc, seed, 1, 1)?;
-    Ok(collection.lists.len())
+/// The first numbers of a seed.
+fn check_numbers(rt: &impl Abort) {
+    let mut draws = Draws::new(1);
+    let numbers = [draws.next(), draws.next(), draws.next()];
+    assert!(rt; numbers == [4_310_654, 1_474_224, 2_589_156]);
 }
 
 #[test]
 fn a_small_trial_is_made(rt: HostRuntime) {
-    let mut draws = Draws::new(1);
-    let numbers = [draws.next(), draws.next(), draws.next()];
-    assert!(&rt; numbers == [4_310_654, 1_474_224, 2_589_156]);
-    let (Ok(right), Ok(count)) = (is_made(rt.alloc()), list_count(rt.alloc(), 5)) else {
-        panic!(&rt; "no memory")
-    };
-    assert!(&rt; right && count == 1);
+    check_numbers(&rt);
+    check_made(&rt, rt.alloc());
+    check_one_list(&rt, rt.alloc());
 }

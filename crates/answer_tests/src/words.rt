@@ -14,11 +14,11 @@ pub(super) fn words_of(alloc: Global, line: &str) -> Result<Vec<String>, AllocEr
 }
 
 /// The number of the first bad word, or 0 where the words are a command.
-fn bad_word(alloc: Global, line: &str) -> Result<u32, AllocError> {
-    let words = words_of(alloc, line)?;
+fn bad_word(rt: &impl Abort, alloc: Global, line: &str) -> u32 {
+    let words = words_of(alloc, line).expect(rt, "no memory");
     match read_words(words.as_slice()) {
-        Ok(_) => Ok(0),
-        Err(fault) => Ok(fault.which),
+        Ok(_) => 0,
+        Err(fault) => fault.which,
     }
 }
 
@@ -90,10 +90,7 @@ const LINES: [(&str, u32); 55] = [
 /// Each line has the first bad word that is told of it.
 fn check_lines(rt: &impl Abort, alloc: Global, lines: &[(&str, u32)]) {
     for (line, which) in lines {
-        let Ok(found) = bad_word(alloc, line) else {
-            panic!(rt; "no memory")
-        };
-        assert_eq!(rt; found, *which, "{line}");
+        assert!(rt; bad_word(rt, alloc, line) == *which, "{line}");
     }
 }
 

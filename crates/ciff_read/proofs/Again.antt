@@ -1,6 +1,9 @@
 -- A list that was given is found again at its place.
 use Rattle.shared_lemmas.proofs.Common.{◌≡◌, ◌≢◌, ◌∙◌, ℕ, zero, suc, Bool, true, false, cond, List, [], ◌∷◌, length, drop, All, Option, Some, None, Result, Ok, Err, refl, sym, ap, subst, nat_lt, Contains, All-append, All-nil}
-use Rattle.ciff_read.proofs.Below.{HeaderData, ListData, Files, ForContent}
+use Rattle.ciff_read.proofs.Below.{HeaderData, ListData, PostingsList, list_data, Files, ForContent}
+use Rattle.ciff_read.specs.declared.refusal.CiffWhy.{CiffWhy}
+use Rattle.ciff_read.specs.declared.refusal.CiffWhy.TheVariants as whys
+use Rattle.ciff_read.specs.Private.Plain.{SaysNoChange, IsPlain}
 use Rattle.ciff_read.specs.declared.refusal.CiffRefusal.{CiffRefusal}
 use Rattle.ciff_read.specs.declared.refusal.CiffFault.{CiffFault}
 use Rattle.ciff_read.specs.declared.refusal.CiffFault.TheVariants as faults
@@ -8,7 +11,7 @@ use Rattle.ciff_read.specs.Pieces.{KeptList, Progress, EndPiece, ListPiece, DocP
 use Rattle.ciff_read.specs.Reaching.{FailsReading}
 use Rattle.ciff_read.specs.Reading.{Message, message_end, message_at, list_at}
 use Rattle.ciff_read.specs.Refusals.{◌>>=◌}
-use Rattle.ciff_read.specs.Walk.{WalkView, Stands, StandsFor, StandsTold, IsListAt, HasKept, IsGiven, IsOutside, FindsAgain}
+use Rattle.ciff_read.specs.Walk.{WalkView, Stands, StandsFor, StandsTold, IsListAt, HasKept, IsGiven, IsOutside, FindsAgain, ChangesOnly, SaysChange}
 use Rattle.whole_files.specs.Windows.{AreFrom}
 use Rattle.ciff_read.proofs.Fewer.{list_alone}
 use Rattle.ciff_read.proofs.Postings.{All-one}
@@ -108,6 +111,15 @@ not_refused (faults.Refused refusal) read x is fails = absurd (let e = sym is �
 not_refused faults.ReadFault read x is fails = tt
 not_refused faults.NoMemory read x is fails = tt
 
+says_none : (kept : List KeptList) (at : ℕ) (refusal : CiffRefusal) (why : CiffWhy) → SaysNoChange why → SaysChange kept at refusal why
+says_none kept at refusal (whys.Changed k f) none = absurd none
+says_none kept at refusal why none = tt
+
+pub plain_changes : (kept : List KeptList) (at : ℕ) (fault : CiffFault) → IsPlain fault → ChangesOnly kept at fault
+plain_changes kept at (faults.Refused refusal) plain = says_none kept at refusal refusal.why plain
+plain_changes kept at faults.ReadFault plain = tt
+plain_changes kept at faults.NoMemory plain = tt
+
 -- no list that was given is refused, and each has as many postings as are kept
 module _ (content : List ℕ) (w : WalkView) (stands : Stands content w) (at : ℕ) where
   given_outside : (fault : CiffFault) → IsGiven w.kept at → FailsReading fault (list_of_file content w.docs 0 [] at) → IsOutside fault
@@ -136,3 +148,8 @@ module _ (told : Option Files) (w : WalkView) (at : ℕ) (stands : StandsTold to
   told_counts fault count x kept other reads =
       for_both told w.name (λ content. StandsFor content w) (λ content. AreFrom content w.start w.bytes → alone content ≡ Ok x) (λ content. w.answered ≡ None → IsOutside fault)
       (λ content stand read. λ fresh. let s = stand fresh in absurd (other (given_counts content w s at count x.list kept (read_alone content w.docs at x (read s.shows))))) stands reads
+
+  pub told_again : (list : PostingsList) (end : ℕ) → ForContent told w.name (λ content. AreFrom content w.start w.bytes → alone content ≡ Ok (record { list = list_data list; end = end })) → FindsAgain told w at (Ok list)
+  told_again list end reads =
+      for_both told w.name (λ content. StandsFor content w) (λ content. AreFrom content w.start w.bytes → alone content ≡ Ok (record { list = list_data list; end = end })) (λ content. w.answered ≡ None → IsListAt content w.docs at (list_data list))
+      (λ content stand read. λ fresh. read_alone content w.docs at (record { list = list_data list; end = end }) (read (stand fresh).shows)) stands reads

@@ -1,5 +1,5 @@
 -- A file that is read part by part.
-use Rattle.shared_lemmas.proofs.Common.{◌≡◌, ℕ, ◌<◌, ◌≤◌, List, [], length, drop, Result, Ok, Err, refl, sym, ap, ◌∙◌, drop-cons, drop_all}
+use Rattle.shared_lemmas.proofs.Common.{◌≡◌, ℕ, ◌+◌, ◌-◌, ◌<◌, ◌≤◌, ◌⊎◌, inl, inr, List, [], length, drop, Result, Ok, Err, refl, sym, ap, ◌∙◌, drop-cons, drop_all, arith}
 use Rattle.jass_base.specs.Ciff.{CollectionData}
 use Rattle.ciff_read.specs.declared.refusal.CiffWhy.TheVariants.{Trailing}
 use Rattle.ciff_read.specs.declared.refusal.CiffRefusal.{CiffRefusal}
@@ -11,6 +11,10 @@ use Rattle.ciff_read.proofs.Answering.{fails_on, fails_as}
 
 pub at_last : {A : Type 0} (bytes : List ℕ) (at : ℕ) (x : A) → length bytes ≤ at → at_end at (drop at bytes) x ≡ Ok x
 at_last bytes at x past = rw (drop_all at bytes past) refl
+
+pub past_end : (at start held size : ℕ) → start ≤ at → held ≤ at - start → (at + 1 ≤ start + held) ⊎ (size ≤ start + held) → size ≤ at
+past_end at start held size first short (inl more) = absurd (omega (arith, more))
+past_end at start held size first short (inr all) = omega (arith, all)
 
 pub at_more : {A : Type 0} (bytes : List ℕ) (at : ℕ) (x : A) → at < length bytes → at_end at (drop at bytes) x ≡ Err (record { at = at; why = Trailing })
 at_more bytes at x inside = rw (drop-cons bytes at 0 inside) refl

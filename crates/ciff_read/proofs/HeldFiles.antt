@@ -7,9 +7,11 @@ use Rattle.ciff_read.specs.declared.refusal.CiffFault.{CiffFault}
 use Rattle.ciff_read.specs.declared.refusal.CiffFault.TheVariants as faults
 use Rattle.whole_files.specs.declared.window.Window.{Window}
 use Rattle.ciff_read.specs.Reaching.{FailsReading}
+use Rattle.ciff_read.specs.Private.Plain.{IsPlain}
 use Rattle.ciff_read.specs.Private.Reaching.{ReadsSize, HoldsMessage}
 use Rattle.ciff_read.specs.Reading.{message_at}
 use Rattle.ciff_read.specs.Refusals.{Fails, why_of}
+use Rattle.ciff_read.specs.Walk.{IsOutside}
 use Rattle.whole_files.specs.Windows.{Shows, IsAt, Reaches}
 use Rattle.ciff_read.proofs.HeldMessages.{size_there, size_bad, message_held, message_short}
 use Rattle.ciff_read.proofs.Messages.{message_bad, message_over}
@@ -18,6 +20,17 @@ pub reading_fails : {A : Type 0} (answer : CiffFault) (read : Result A CiffRefus
 reading_fails (faults.Refused refusal) read fails = fails
 reading_fails faults.ReadFault read fails = tt
 reading_fails faults.NoMemory read fails = tt
+
+-- a fault of the world is in place of any reading, and says no change
+pub outside_fails : {A : Type 0} (fault : CiffFault) (read : Result A CiffRefusal) → IsOutside fault → FailsReading fault read
+outside_fails (faults.Refused refusal) read outside = absurd outside
+outside_fails faults.ReadFault read outside = tt
+outside_fails faults.NoMemory read outside = tt
+
+pub outside_plain : (fault : CiffFault) → IsOutside fault → IsPlain fault
+outside_plain (faults.Refused refusal) outside = absurd outside
+outside_plain faults.ReadFault outside = tt
+outside_plain faults.NoMemory outside = tt
 
 pub reading_refuses : {A : Type 0} (answer : CiffFault) (refusal : CiffRefusal) (read : Result A CiffRefusal) → answer ≡ faults.Refused refusal → read ≡ Err refusal → FailsReading answer read
 reading_refuses answer refusal read says is = subst (λ (e : CiffFault). FailsReading e read) (sym says) is

@@ -1,5 +1,5 @@
 -- Parts of a file that are read through a window.
-use Rattle.std.proofs.Common.{◌≡◌, ℕ, ◌+◌, ◌-◌, ◌≤◌, Bool, true, false, not, List, length, drop, Result, Ok, Err, refl, sym, ap, subst, ◌∙◌, length-take, length-drop, arith}
+use Rattle.std.proofs.Common.{◌≡◌, ◌≢◌, ℕ, ◌+◌, ◌-◌, ◌^◌, ◌<◌, ◌≤◌, Bool, true, false, not, List, length, drop, Result, Ok, Err, refl, sym, ap, subst, ◌∙◌, length-take, length-drop, arith}
 use Rattle.std.specs.Prelude.{slice_range}
 use Rattle.jass_base.specs.Ciff.{ListData}
 use Rattle.ciff_read.specs.declared.body.Body.{Body}
@@ -13,9 +13,10 @@ use Rattle.ciff_read.specs.Moving.{refusal_moved, moved}
 use Rattle.ciff_read.specs.Private.Moving.{fault_moved}
 use Rattle.ciff_read.specs.Pieces.{FileHeader, ListInFile, DocInFile, header_of_file, list_of_file, doc_of_file}
 use Rattle.ciff_read.specs.Private.Places.{message_in}
+use Rattle.ciff_read.specs.Private.Plain.{IsNearFault}
 use Rattle.ciff_read.specs.Reaching.{FailsReading}
 use Rattle.ciff_read.specs.Private.Reaching.{HoldsMessage, message_shown}
-use Rattle.ciff_read.specs.Reading.{Message, message_end, header_at, list_at, doc_at}
+use Rattle.ciff_read.specs.Reading.{Message, message_end, message_at, header_at, list_at, doc_at}
 use Rattle.ciff_read.specs.Refusals.{◌>>=◌, placed, Fails}
 use Rattle.ciff_read.proofs.FrontLaws.{header_same}
 use Rattle.ciff_read.proofs.HeldFiles.{reading_fails}
@@ -28,6 +29,16 @@ reading_fails_on faults.NoMemory read f fails = tt
 
 pub reading_as : {A : Type 0} (answer : CiffFault) (read other : Result A CiffRefusal) → read ≡ other → FailsReading answer read → FailsReading answer other
 reading_as {A} answer read other same fails = subst (λ (r : Result A CiffRefusal). FailsReading answer r) same fails
+
+-- what can't be read of a message can't be read of what it holds
+pub header_unread : (content : List ℕ) (fault : CiffFault) → FailsReading fault (message_at 0 (drop 0 content)) → FailsReading fault (header_of_file content)
+header_unread content fault fails = reading_fails_on {B = FileHeader} fault (message_at 0 (drop 0 content)) (λ m. header_at 0 m >>= λ start. Ok (record { start = start; end = message_end m })) fails
+
+pub list_unread : (content : List ℕ) (docs before : ℕ) (terms : List (List ℕ)) (at : ℕ) (fault : CiffFault) → FailsReading fault (message_at at (drop at content)) → FailsReading fault (list_of_file content docs before terms at)
+list_unread content docs before terms at fault fails = reading_fails_on {B = ListInFile} fault (message_at at (drop at content)) (λ m. list_at docs before terms at m >>= λ list. Ok (record { list = list; end = message_end m })) fails
+
+pub doc_unread : (content : List ℕ) (docs : ℕ) (numbers : List ℕ) (at : ℕ) (fault : CiffFault) → FailsReading fault (message_at at (drop at content)) → FailsReading fault (doc_of_file content docs numbers at)
+doc_unread content docs numbers at fault fails = reading_fails_on {B = DocInFile} fault (message_at at (drop at content)) (λ m. doc_at docs numbers at m >>= λ doc. Ok (record { doc = doc; end = message_end m })) fails
 
 -- a message ends where its body does
 pub shown_end : (content : List ℕ) (w : Window) (from end : ℕ) → from ≤ end → end ≤ length w.bytes.items → message_end (message_shown content w from end) ≡ w.start + end
@@ -62,9 +73,6 @@ fails_moved base (faults.Refused refusal) read fails = ap (moved base) fails
 fails_moved base faults.ReadFault read fails = absurd fails
 fails_moved base faults.NoMemory read fails = tt
 
-pub refusal_of : {A : Type 0} (answer : CiffFault) (refusal : CiffRefusal) (read : Result A CiffRefusal) → answer ≡ faults.Refused refusal → Fails answer read → read ≡ Err refusal
-refusal_of answer refusal read is fails = subst (λ (e : CiffFault). Fails e read) is fails
-
 pub not_not : (b : Bool) → not (not b) ≡ b
 not_not true = refl
 not_not false = refl
@@ -97,14 +105,19 @@ module _ (content : List ℕ) (w : Window) (body : Body) (bytes : List ℕ) (at 
 pub cut_end : (bytes : List ℕ) (body : Body) → message_end (message_in bytes body) ≤ body.end
 cut_end bytes body = omega (arith, body.in_order, length-take (body.end - body.from) (drop body.from bytes))
 
--- reading bytes that are held is never a read fault
-pub not_read_fault : {A : Type 0} (base : ℕ) (answer result : CiffFault) (read : Result A CiffRefusal) → Fails answer read → result ≡ fault_moved base answer → result ≡ faults.ReadFault → ⊥
-not_read_fault base (faults.Refused e) result read fails is says = let t : faults.Refused (refusal_moved base e) ≡ faults.ReadFault = sym is ∙ says in cc
-not_read_fault base faults.ReadFault result read fails is says = fails
-not_read_fault base faults.NoMemory result read fails is says = let t : faults.NoMemory ≡ faults.ReadFault = sym is ∙ says in cc
+-- what is refused of bytes that are held is near, and no read fault, also further on in the file
+pub near_fault : {A : Type 0} (n : ℕ) (fault : CiffFault) (read : Result A CiffRefusal) → Fails fault read → ((e : CiffRefusal) → read ≡ Err e → e.at ≤ n) → IsNearFault n fault
+near_fault n (faults.Refused refusal) read fails near = near refusal fails
+near_fault n faults.ReadFault read fails near = fails
+near_fault n faults.NoMemory read fails near = tt
 
-pub err_is : {T : Type 0} (x y : CiffFault) → (let r : Result T CiffFault = Err x in r) ≡ Err y → x ≡ y
-err_is x y is = cc
+pub near_moved : (base n : ℕ) (fault : CiffFault) → IsNearFault n fault → base + n < 2 ^ 64 → (refusal : CiffRefusal) → fault ≡ faults.Refused refusal → base + refusal.at < 2 ^ 64
+near_moved base n fault near fits refusal is = omega (arith, subst (IsNearFault n) is near)
+
+pub moved_other : (base n : ℕ) (fault answer : CiffFault) → IsNearFault n fault → answer ≡ fault_moved base fault → answer ≢ faults.ReadFault
+moved_other base n (faults.Refused e) answer near is says = let t : faults.Refused (refusal_moved base e) ≡ faults.ReadFault = sym is ∙ says in cc
+moved_other base n faults.ReadFault answer near is says = near
+moved_other base n faults.NoMemory answer near is says = let t : faults.NoMemory ≡ faults.ReadFault = sym is ∙ says in cc
 
 refused_is : {A : Type 0} (x y : CiffRefusal) → (let r : Result A CiffRefusal = Err x in r) ≡ Err y → x ≡ y
 refused_is x y is = cc

@@ -40,6 +40,7 @@ pub mod Assembling
 pub mod Ordered
 pub mod Starting
 pub mod Plain
+pub mod ReadingOn
 pub mod Advancing
 pub mod Rising
 pub mod Runs

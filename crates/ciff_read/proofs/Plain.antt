@@ -117,10 +117,13 @@ fails_plain {A} (faults.Refused refusal) read fails plain = subst (λ (r : Resul
 fails_plain faults.ReadFault read fails plain = tt
 fails_plain faults.NoMemory read fails plain = tt
 
-moved_plain : (base : ℕ) (fault : CiffFault) → IsPlain fault → IsPlain (fault_moved base fault)
-moved_plain base (faults.Refused refusal) plain = plain
-moved_plain base faults.ReadFault plain = tt
-moved_plain base faults.NoMemory plain = tt
+pub moved_plain : (base : ℕ) (fault answer : CiffFault) → IsPlain fault → answer ≡ fault_moved base fault → IsPlain answer
+moved_plain base fault answer plain is = subst IsPlain (sym is) (at fault plain)
+  where
+    at : (f : CiffFault) → IsPlain f → IsPlain (fault_moved base f)
+    at (faults.Refused refusal) plain = plain
+    at faults.ReadFault plain = tt
+    at faults.NoMemory plain = tt
 
-pub plain_in_file : (docs before : ℕ) (terms : List (List ℕ)) (at : ℕ) (m : Message) (base : ℕ) (fault answer : CiffFault) → Fails fault (list_at docs before terms at m) → answer ≡ fault_moved base fault → IsPlain answer
-plain_in_file docs before terms at m base fault answer fails is = subst IsPlain (sym is) (moved_plain base fault (fails_plain fault (list_at docs before terms at m) fails (list_plain docs before terms at m)))
+pub list_fault_plain : (docs before : ℕ) (terms : List (List ℕ)) (at : ℕ) (m : Message) (fault : CiffFault) → Fails fault (list_at docs before terms at m) → IsPlain fault
+list_fault_plain docs before terms at m fault fails = fails_plain fault (list_at docs before terms at m) fails (list_plain docs before terms at m)

@@ -2,7 +2,9 @@
 pub mod Finishing
 pub mod Kept
 pub mod KeptEntries
+pub mod Lists
 pub mod Moving
+pub mod OnlyReads
 pub mod Places
 pub mod Plain
 pub mod Reached

@@ -1,16 +1,13 @@
-ghost use Rattle.std.specs.Prelude.{◌≡◌, ◌+◌, ◌<◌, ◌≤◌, ◌⊎◌, [], ◌∷◌, ◌++◌, false, length};
-ghost use Rattle.std.specs.Prelude.{Some, None, IfOk, IfErr, IsErrOf, MatchResult, OnOk};
+ghost use Rattle.std.specs.Prelude.{◌≡◌, ◌<◌, ◌≤◌, ◌⊎◌, length, Some, None, IfOk, IfErr, IsErrOf, MatchResult, OnOk};
 ghost use Rattle.jass_base.specs.Lists.{HasDocsBelow};
 ghost use Rattle.jass_base.specs.Outside.{Rose, IsMissing, ForContent};
-ghost use Rattle.ciff_read.specs.Marks.{is_marked};
-ghost use Rattle.ciff_read.specs.Pieces.{terms_kept};
-ghost use Rattle.ciff_read.specs.Seen.{is_seen};
 ghost use Rattle.ciff_read.specs.Given.{PieceRanges, GivesTold};
 ghost use Rattle.ciff_read.specs.Walk.{IsOutside, StandsTold, SameError, KeepsError};
 ghost use Rattle.ciff_read.specs.Walk.{IsGiven, HasKept, FindsAgain, ChangesOnly, LeavesWalk};
-ghost use Rattle.ciff_read.specs.Walk.{KeepsRanges, Opens, Begins, kept_of, OneMore};
-ghost use Rattle.ciff_read.specs.Private.Walk.{StaysHeld, LeavesOthers, ListGiven};
-ghost use Rattle.ciff_read.specs.Private.Walk.{LeavesLists, LeavesPlace, DocGiven, EndGiven};
+ghost use Rattle.ciff_read.specs.Walk.{KeepsRanges, Opens, Begins};
+ghost use Rattle.ciff_read.specs.Private.OnlyReads.{OnlyReads};
+ghost use Rattle.ciff_read.specs.Private.Walk.{StaysHeld, LeavesOthers, ListGiven, IsListAgain, KeepsList};
+ghost use Rattle.ciff_read.specs.Private.Walk.{LeavesFile, LeavesLists, LeavesPlace, DocGiven, MarksDoc, EndGiven};
 
 use crate::doc_set::DocSet;
 use crate::kept_lists::{KeptLists, ListPlace};
@@ -18,11 +15,11 @@ use crate::piece::Piece;
 use crate::reached_doc::reach_doc;
 use crate::reached_header::reach_header;
 use crate::reached_list::reach_list;
+use crate::reaching::reach;
 use crate::refusal::{CiffFault, CiffWhy, refused};
-use jass_base::{Cabinet, DocRecord, Header, Posting, PostingsList, ReadStop, Row, Text};
+use jass_base::{Cabinet, DocRecord, Header, Posting, PostingsList, Row, Text};
 use std::alloc::Global;
 use std::marker::Model;
-use std::mem::replace;
 use whole_files::Window;
 
 /// A CIFF file that is read piece by piece: the header, then one list at a time, then one
@@ -96,11 +93,7 @@ impl CiffWalk {
         ensures others { C.write_faults files.old ≤ C.write_faults files.new }
     {
         let mut window = Window::new(alloc);
-        match window.reach(files, name, 0, 1) {
-            Ok(()) => {}
-            Err(ReadStop::ReadFault) => return Err(CiffFault::ReadFault),
-            Err(ReadStop::NoMemory) => return Err(CiffFault::NoMemory),
-        }
+        reach(&mut window, files, name, 0, 1)?;
         let (head, at) = reach_header(alloc, &mut window, files, name)?;
         let Ok(name) = Text::from_str(alloc, name) else {
             return Err(CiffFault::NoMemory);
@@ -210,14 +203,9 @@ impl CiffWalk {
         ensures told { GivesTold (C.told files.old) self.old self.new result }
         ensures ranges { IfOk result (PieceRanges self.old self.new) }
         ensures held { StaysHeld (C.told files.old) self.old self.new }
-        ensures name { self.new.name ≡ self.old.name }
-        ensures totals { (self.new.lists ≡ self.old.lists) × (self.new.docs ≡ self.old.docs) }
-        ensures answered { self.new.answered ≡ self.old.answered }
-        ensures fault { IsErrOf result CiffFault.ReadFault
-            → Rose (C.read_faults files.old) (C.read_faults files.new) ⊎ IsMissing (C.told files.old) self.old.name }
-        ensures stays { C.told files.new ≡ C.told files.old }
-        ensures later { C.read_faults files.old ≤ C.read_faults files.new }
-        ensures others { C.write_faults files.old ≤ C.write_faults files.new }
+        ensures leaves { LeavesFile self.old self.new }
+        ensures reads { OnlyReads (C.told files.old) (C.told files.new) self.old.name (C.read_faults files.old)
+            (C.read_faults files.new) (C.write_faults files.old) (C.write_faults files.new) result }
     {
         match self.header.take() {
             Some(header) => Ok(Piece::Start {
@@ -235,14 +223,9 @@ impl CiffWalk {
         ensures told { GivesTold (C.told files.old) self.old self.new result }
         ensures ranges { IfOk result (PieceRanges self.old self.new) }
         ensures held { StaysHeld (C.told files.old) self.old self.new }
-        ensures name { self.new.name ≡ self.old.name }
-        ensures totals { (self.new.lists ≡ self.old.lists) × (self.new.docs ≡ self.old.docs) }
-        ensures answered { self.new.answered ≡ self.old.answered }
-        ensures fault { IsErrOf result CiffFault.ReadFault
-            → Rose (C.read_faults files.old) (C.read_faults files.new) ⊎ IsMissing (C.told files.old) self.old.name }
-        ensures stays { C.told files.new ≡ C.told files.old }
-        ensures later { C.read_faults files.old ≤ C.read_faults files.new }
-        ensures others { C.write_faults files.old ≤ C.write_faults files.new }
+        ensures leaves { LeavesFile self.old self.new }
+        ensures reads { OnlyReads (C.told files.old) (C.told files.new) self.old.name (C.read_faults files.old)
+            (C.read_faults files.new) (C.write_faults files.old) (C.write_faults files.new) result }
     {
         if (self.kept.len() as u64) < u64::from(self.lists) {
             let at = self.at;
@@ -268,30 +251,23 @@ impl CiffWalk {
         requires stands { StandsTold (C.told files.old) self.old }
         requires given { IsGiven self.old.kept at }
         ensures told { FindsAgain (C.told files.old) self.old at result }
-        ensures counted { IfOk result (λ list. HasKept self.old.kept at (length list.postings)) }
-        ensures below { IfOk result (HasDocsBelow self.old.docs) }
-        ensures changed { IfErr result (ChangesOnly self.old.kept at) }
+        ensures counted { MatchResult result (IsListAgain self.old at) (ChangesOnly self.old.kept at) }
         ensures held { StaysHeld (C.told files.old) self.old self.new }
         ensures leaves { LeavesWalk self.old self.new }
         ensures answered { self.new.answered ≡ self.old.answered }
-        ensures fault { IsErrOf result CiffFault.ReadFault
-            → Rose (C.read_faults files.old) (C.read_faults files.new) ⊎ IsMissing (C.told files.old) self.old.name }
-        ensures stays { C.told files.new ≡ C.told files.old }
-        ensures later { C.read_faults files.old ≤ C.read_faults files.new }
-        ensures others { C.write_faults files.old ≤ C.write_faults files.new }
+        ensures reads { OnlyReads (C.told files.old) (C.told files.new) self.old.name (C.read_faults files.old)
+            (C.read_faults files.new) (C.write_faults files.old) (C.write_faults files.new) result }
     {
-        let none = KeptLists::new(self.alloc);
-        let spare = replace(&mut self.spare, Vec::new(self.alloc));
         let (list, _end, _rises) = reach_list(
             self.alloc,
-            spare,
+            &mut self.spare,
             &mut self.window,
             files,
             self.name.as_str(),
             at,
             self.docs,
             0,
-            &none,
+            None,
         )?;
         let (count, index) = self.kept.count_at(at, self.again);
         self.again = index + 1;
@@ -306,30 +282,24 @@ impl CiffWalk {
     /// Gives the next list.
     fn next_list<C: Cabinet>(&mut self, files: &mut C) -> Result<PostingsList, CiffFault>
         requires { length self.old.kept < self.old.lists }
-        ensures kept { IfOk result (λ list. self.new.kept ≡ self.old.kept ++ kept_of self.old.at list ∷ []) }
-        ensures unseen { IfOk result (λ list. is_seen list.term (terms_kept self.old.kept) ≡ false) }
-        ensures below { IfOk result (HasDocsBelow self.old.docs) }
+        ensures given { IfOk result (KeepsList self.old self.new) }
         ensures exact { ListGiven (C.told files.old) self.old self.new result }
         ensures held { StaysHeld (C.told files.old) self.old self.new }
         ensures leaves { LeavesOthers self.old self.new }
-        ensures fault { IsErrOf result CiffFault.ReadFault
-            → Rose (C.read_faults files.old) (C.read_faults files.new) ⊎ IsMissing (C.told files.old) self.old.name }
-        ensures stays { C.told files.new ≡ C.told files.old }
-        ensures later { C.read_faults files.old ≤ C.read_faults files.new }
-        ensures others { C.write_faults files.old ≤ C.write_faults files.new }
+        ensures reads { OnlyReads (C.told files.old) (C.told files.new) self.old.name (C.read_faults files.old)
+            (C.read_faults files.new) (C.write_faults files.old) (C.write_faults files.new) result }
     {
         let at = self.at;
-        let spare = replace(&mut self.spare, Vec::new(self.alloc));
         let (list, end, rises) = reach_list(
             self.alloc,
-            spare,
+            &mut self.spare,
             &mut self.window,
             files,
             self.name.as_str(),
             at,
             self.docs,
             self.postings,
-            &self.kept,
+            Some(&self.kept),
         )?;
         let count = list.postings.len() as u32;
         let place = ListPlace { at, count };
@@ -345,18 +315,12 @@ impl CiffWalk {
     /// Gives the next document's record with its number.
     fn next_doc<C: Cabinet>(&mut self, files: &mut C) -> Result<(u32, DocRecord), CiffFault>
         requires { self.old.given < self.old.docs }
-        ensures given { OnOk result (self.new.given ≡ self.old.given + 1) }
-        ensures marked { IfOk result (λ x. OneMore self.old.marks self.new.marks x.0) }
-        ensures unseen { IfOk result (λ x. is_marked self.old.marks x.0 ≡ false) }
-        ensures below { IfOk result (λ x. x.0 < self.old.docs) }
+        ensures given { IfOk result (MarksDoc self.old self.new) }
         ensures exact { DocGiven (C.told files.old) self.old self.new result }
         ensures held { StaysHeld (C.told files.old) self.old self.new }
         ensures leaves { LeavesLists self.old self.new }
-        ensures fault { IsErrOf result CiffFault.ReadFault
-            → Rose (C.read_faults files.old) (C.read_faults files.new) ⊎ IsMissing (C.told files.old) self.old.name }
-        ensures stays { C.told files.new ≡ C.told files.old }
-        ensures later { C.read_faults files.old ≤ C.read_faults files.new }
-        ensures others { C.write_faults files.old ≤ C.write_faults files.new }
+        ensures reads { OnlyReads (C.told files.old) (C.told files.new) self.old.name (C.read_faults files.old)
+            (C.read_faults files.new) (C.write_faults files.old) (C.write_faults files.new) result }
     {
         let (number, item, end) = reach_doc(
             self.alloc,
@@ -382,17 +346,10 @@ impl CiffWalk {
         ensures held { StaysHeld (C.told files.old) self.old self.new }
         ensures leaves { LeavesLists self.old self.new }
         ensures place { LeavesPlace self.old self.new }
-        ensures fault { IsErrOf result CiffFault.ReadFault
-            → Rose (C.read_faults files.old) (C.read_faults files.new) ⊎ IsMissing (C.told files.old) self.old.name }
-        ensures stays { C.told files.new ≡ C.told files.old }
-        ensures later { C.read_faults files.old ≤ C.read_faults files.new }
-        ensures others { C.write_faults files.old ≤ C.write_faults files.new }
+        ensures reads { OnlyReads (C.told files.old) (C.told files.new) self.old.name (C.read_faults files.old)
+            (C.read_faults files.new) (C.write_faults files.old) (C.write_faults files.new) result }
     {
-        match self.window.reach(files, self.name.as_str(), self.at, 1) {
-            Ok(()) => {}
-            Err(ReadStop::ReadFault) => return Err(CiffFault::ReadFault),
-            Err(ReadStop::NoMemory) => return Err(CiffFault::NoMemory),
-        }
+        reach(&mut self.window, files, self.name.as_str(), self.at, 1)?;
         if self.window.bytes.len() > (self.at - self.window.start) as usize {
             return Err(refused(self.at as usize, CiffWhy::Trailing));
         }

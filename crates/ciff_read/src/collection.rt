@@ -1,8 +1,8 @@
-ghost use Rattle.std.specs.Prelude.{◌≡◌, ◌≤◌, Ok, [], length, drop, All, AllPairs, IfOk};
+ghost use Rattle.std.specs.Prelude.{◌≡◌, ◌≤◌, Ok, [], length, drop, IfOk};
 ghost use Rattle.jass_base.specs.Ciff.{CollectionData, IsCiff};
 ghost use Rattle.jass_base.specs.CiffViews.{collection_data};
-ghost use Rattle.jass_base.specs.Lists.{HasDocsBelow, DifferInTerm};
 ghost use Rattle.ciff_read.specs.Counts.{posting_count};
+ghost use Rattle.ciff_read.specs.Private.Lists.{AreLists};
 ghost use Rattle.ciff_read.specs.Private.Places.{lists_in, docs_in};
 ghost use Rattle.ciff_read.specs.Reading.{lists_at, all_docs_at, read_ciff};
 ghost use Rattle.ciff_read.specs.Refusals.{Answers};
@@ -16,7 +16,7 @@ use crate::message::read_length;
 use crate::postings_list::read_list;
 use crate::refusal::{CiffFault, CiffWhy, refused};
 use indexmap::IndexSet;
-use jass_base::{Collection, DocRecord, PostingsList, Row};
+use jass_base::{Collection, DocRecord, Posting, PostingsList, Row};
 use std::alloc::Global;
 
 /// Reads a whole CIFF file: the collection exactly where the bytes stand for one, else the
@@ -61,19 +61,44 @@ fn read_lists(
     requires from { from ≤ length bytes.now }
     requires docs { docs ≤ MOST_DOCUMENTS }
     ensures exact { Answers (lists_in bytes.now) result (lists_at count docs 0 [] from (drop from bytes.now)) }
-    ensures within { IfOk result (λ x. x.1 ≤ length bytes.now) }
-    ensures count { IfOk result (λ x. length x.0 ≡ count) }
-    ensures below { IfOk result (λ x. All (HasDocsBelow docs) x.0) }
-    ensures differ { IfOk result (λ x. AllPairs DifferInTerm x.0) }
-    ensures few { IfOk result (λ x. posting_count x.0 ≤ MOST_POSTINGS) }
+    ensures given { IfOk result (λ x. AreLists bytes.now count docs x.0 x.1) }
 {
     let mut lists = Row::new(alloc);
     let mut terms: IndexSet<&str> = IndexSet::new(alloc);
+    // The lists stay, so that none hands its memory back.
+    let mut spare = Vec::new(alloc);
+    match fill_lists(
+        alloc, &mut spare, bytes, from, count, docs, &mut lists, &mut terms,
+    ) {
+        Ok(at) => Ok((lists, at)),
+        Err(fault) => Err(fault),
+    }
+}
+
+/// The same, into lists and terms of which there are none yet. It owns nothing but one list at a time.
+fn fill_lists<'a>(
+    alloc: Global,
+    spare: &mut Vec<Posting>,
+    bytes: &'a [u8],
+    from: usize,
+    count: u32,
+    docs: u32,
+    lists: &mut Row<PostingsList>,
+    terms: &mut IndexSet<&'a str>,
+) -> Result<usize, CiffFault>
+    requires from { from ≤ length bytes.now }
+    requires docs { docs ≤ MOST_DOCUMENTS }
+    requires lists { lists.old ≡ [] }
+    requires terms { terms.old.keys ≡ [] }
+    ensures exact { Answers (λ at. lists_in bytes.now (lists.new, at)) result
+        (lists_at count docs 0 [] from (drop from bytes.now)) }
+    ensures given { IfOk result (AreLists bytes.now count docs lists.new) }
+{
     let mut at = from;
     let mut before: u64 = 0;
     'lists: for _ in 0..count {
         let body = read_length(bytes, at)?;
-        let list = read_list(alloc, bytes, at, body, docs, before, &mut terms)?;
+        let list = read_list(alloc, spare, bytes, at, body, docs, before, terms)?;
         before += list.postings.len() as u64;
         at = body.end;
         match lists.push(list) {
@@ -81,7 +106,7 @@ fn read_lists(
             Err(_) => return Err(CiffFault::NoMemory),
         }
     }
-    Ok((lists, at))
+    Ok(at)
 }
 
 /// Reads so many documents' records from a place on, and gives the place behind the last.

@@ -4,7 +4,7 @@ ghost use Rattle.jass_base.specs.declared.limits.TheConstants.{MOST_DOCUMENTS, M
 use jass_base::Header;
 
 /// The first message of a file: what it says of itself, and how many messages follow.
-#[derive(Debug, Drop)]
+#[derive(Drop)]
 pub struct FileHead {
     pub header: Header,
     /// At most 2^24.

@@ -12,7 +12,7 @@ use std::alloc::Global;
 use std::mem::replace;
 
 /// The postings of a list so far, in rising order, and the first refusal among them.
-#[derive(Debug, Drop)]
+#[derive(Drop)]
 pub struct Gathered {
     pub postings: Row<Posting>,
     /// The last document; 0 where there is none yet.
@@ -31,9 +31,10 @@ impl Gathered {
     ghost use Rattle.ciff_read.specs.Judging.{gather};
     ghost use Rattle.ciff_read.specs.Private.Places.{gathered_of, GathersRun};
 
-    /// No postings yet, and room for so many, in the memory of a vector that is of no more use.
+    /// No postings yet, and room for so many, in the memory of the spare vector, which is left empty.
     pub fn with_room(
-        mut spare: Vec<Posting>,
+        alloc: Global,
+        spare: &mut Vec<Posting>,
         docs: u32,
         before: u64,
         room: usize,
@@ -44,10 +45,11 @@ impl Gathered {
         ensures docs { IfOk result (λ gathered. gathered.docs ≡ docs) }
         ensures before { IfOk result (λ gathered. gathered.before ≡ before) }
     {
-        spare.clear();
-        match spare.reserve(room) {
+        let mut postings = replace(spare, Vec::new(alloc));
+        postings.clear();
+        match postings.reserve(room) {
             Ok(()) => Ok(Gathered {
-                postings: Row::from_vec(spare),
+                postings: Row::from_vec(postings),
                 last: 0,
                 docs,
                 before,

@@ -15,7 +15,7 @@ use jass_base::NoMemory;
 use std::alloc::Global;
 
 /// Where a list stands in a file, and how many postings it has.
-#[derive(Clone, Copy, Debug, PartialEq, Eq)]
+#[derive(Clone, Copy)]
 pub struct ListPlace {
     pub at: u64,
     pub count: u32,

@@ -6,7 +6,7 @@ use crate::refusal::{CiffFault, refused_field};
 use wire_fields::next_field;
 
 /// A posting as it stands in the file.
-#[derive(Clone, Copy, Debug, PartialEq, Eq)]
+#[derive(Clone, Copy)]
 pub struct PostingFields {
     /// The document of the first posting of a list, and the gap to the one before of each
     /// later one.

@@ -28,9 +28,10 @@ use wire_fields::{Field, Value};
 const USUAL_BYTES: usize = 6;
 
 /// Reads the postings list of the message at `at`, in a file of so many documents with so
-/// many postings in the lists before, and adds its term to theirs.
+/// many postings in the lists before, and adds its term to theirs. The postings get the memory of the spare vector.
 pub fn read_list<'a>(
     alloc: Global,
+    spare: &mut Vec<Posting>,
     bytes: &'a [u8],
     at: usize,
     body: Body,
@@ -49,7 +50,6 @@ pub fn read_list<'a>(
     ensures exact { Answers list_data result
         (list_at docs before (map (λ t. t.now) terms.old.keys) at (message_in bytes.now body)) }
 {
-    let spare = Vec::new(alloc);
     let walked = walk_one(alloc, spare, bytes, at, body, docs, before)?;
     let is_new = match add_term(terms, walked.term) {
         Ok(is_new) => is_new,
@@ -65,7 +65,7 @@ pub fn read_list<'a>(
 /// have the term is left to the caller. The postings get the memory of the spare vector.
 pub fn walk_one<'a>(
     alloc: Global,
-    spare: Vec<Posting>,
+    spare: &mut Vec<Posting>,
     bytes: &'a [u8],
     at: usize,
     body: Body,
@@ -84,7 +84,8 @@ pub fn walk_one<'a>(
     ensures before { IfOk result (λ list. list.gathered.before ≡ before) }
 {
     let room = (body.end - body.from) / USUAL_BYTES;
-    let mut gathered = match Gathered::with_room(spare, docs, before, room.min(docs as usize)) {
+    let room = room.min(docs as usize);
+    let mut gathered = match Gathered::with_room(alloc, spare, docs, before, room) {
         Ok(gathered) => gathered,
         Err(_) => return Err(CiffFault::NoMemory),
     };

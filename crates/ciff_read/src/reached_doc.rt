@@ -1,10 +1,12 @@
-ghost use Rattle.std.specs.Prelude.{◌≡◌, ◌<◌, ◌≤◌, ◌⊎◌, false, IfOk, IsErrOf};
-ghost use Rattle.jass_base.specs.Outside.{Rose, IsMissing};
-ghost use Rattle.ciff_read.specs.Marks.{is_marked};
-ghost use Rattle.ciff_read.specs.Private.Reached.{DocTold};
+ghost use Rattle.std.specs.Prelude.{◌≤◌, length, IfOk, MatchResult};
 ghost use Rattle.jass_base.specs.declared.limits.TheConstants.{LONGEST_FILE};
+ghost use Rattle.ciff_read.specs.Private.OnlyReads.{OnlyReads};
+ghost use Rattle.ciff_read.specs.Private.Places.{message_in};
+ghost use Rattle.ciff_read.specs.Private.Plain.{IsNearFault};
+ghost use Rattle.ciff_read.specs.Private.Reached.{IsNewDoc, IsNextDoc, DocHeld, DocTold};
 ghost use Rattle.whole_files.specs.Windows.{StaysShown};
 
+use crate::body::Body;
 use crate::doc_set::DocSet;
 use crate::document::walk_doc;
 use crate::laws::{messages_move, refusals_are_near};
@@ -27,30 +29,43 @@ pub fn reach_doc<C: Cabinet>(
     numbers: &DocSet,
 ) -> Result<(u32, DocRecord, u64), CiffFault>
     requires { at ≤ LONGEST_FILE }
-    ensures near { IfOk result (λ x. x.2 ≤ LONGEST_FILE) }
-    ensures behind { IfOk result (λ x. at < x.2) }
-    ensures new { IfOk result (λ x. is_marked numbers.now.words.items x.0 ≡ false) }
-    ensures below { IfOk result (λ x. x.0 < docs) }
+    ensures given { IfOk result (IsNextDoc docs numbers.now at) }
     ensures shown { StaysShown (C.told files.old) name.now window.old window.new }
     ensures exact { DocTold (C.told files.old) name.now window.old docs numbers.now at result }
-    ensures fault { IsErrOf result CiffFault.ReadFault
-        → Rose (C.read_faults files.old) (C.read_faults files.new) ⊎ IsMissing (C.told files.old) name.now }
-    ensures stays { C.told files.new ≡ C.told files.old }
-    ensures later { C.read_faults files.old ≤ C.read_faults files.new }
-    ensures others { C.write_faults files.old ≤ C.write_faults files.new }
+    ensures reads { OnlyReads (C.told files.old) (C.told files.new) name.now (C.read_faults files.old)
+        (C.read_faults files.new) (C.write_faults files.old) (C.write_faults files.new) result }
 {
     messages_move();
-    refusals_are_near();
     let body = reach_message(window, files, name, at)?;
     let place = (at - window.start) as usize;
-    let bytes = window.bytes.as_slice();
-    let walked = match walk_doc(bytes, place, body, docs) {
+    match read_held(alloc, window.bytes.as_slice(), place, body, docs, numbers) {
+        Ok((number, record)) => Ok((number, record, window.start + body.end as u64)),
+        Err(fault) => Err(fault_in_file(fault, window.start)),
+    }
+}
+
+/// Reads the document's record of the message at `at`, and gives its number.
+fn read_held(
+    alloc: Global,
+    bytes: &[u8],
+    at: usize,
+    body: Body,
+    docs: u32,
+    numbers: &DocSet,
+) -> Result<(u32, DocRecord), CiffFault>
+    requires within { body.end ≤ length bytes.now }
+    requires at { at ≤ body.end }
+    ensures given { MatchResult result (λ x. IsNewDoc docs numbers.now x.0) (IsNearFault body.end) }
+    ensures exact { DocHeld docs numbers.now at (message_in bytes.now body) result }
+{
+    refusals_are_near();
+    let walked = match walk_doc(bytes, at, body, docs) {
         Ok(walked) => walked,
-        Err(fault) => return Err(fault_in_file(fault, window.start)),
+        Err(fault) => return Err(fault),
     };
     let is_new = !numbers.contains(walked.number);
-    match walked.finish(alloc, place, is_new) {
-        Ok(record) => Ok((walked.number, record, window.start + body.end as u64)),
-        Err(fault) => Err(fault_in_file(fault, window.start)),
+    match walked.finish(alloc, at, is_new) {
+        Ok(record) => Ok((walked.number, record)),
+        Err(fault) => Err(fault),
     }
 }

@@ -1,5 +1,5 @@
-ghost use Rattle.std.specs.Prelude.{◌≡◌, ◌≤◌, ◌⊎◌, IfOk, IsErrOf};
-ghost use Rattle.jass_base.specs.Outside.{Rose, IsMissing};
+ghost use Rattle.std.specs.Prelude.{◌≤◌, IfOk};
+ghost use Rattle.ciff_read.specs.Private.OnlyReads.{OnlyReads};
 ghost use Rattle.ciff_read.specs.Private.Reached.{HeaderTold};
 ghost use Rattle.jass_base.specs.declared.limits.TheConstants.{LONGEST_FILE};
 ghost use Rattle.whole_files.specs.Windows.{StaysShown};
@@ -22,11 +22,8 @@ pub fn reach_header<C: Cabinet>(
     ensures near { IfOk result (λ x. x.1 ≤ LONGEST_FILE) }
     ensures shown { StaysShown (C.told files.old) name.now window.old window.new }
     ensures exact { HeaderTold (C.told files.old) name.now window.old result }
-    ensures fault { IsErrOf result CiffFault.ReadFault
-        → Rose (C.read_faults files.old) (C.read_faults files.new) ⊎ IsMissing (C.told files.old) name.now }
-    ensures stays { C.told files.new ≡ C.told files.old }
-    ensures later { C.read_faults files.old ≤ C.read_faults files.new }
-    ensures others { C.write_faults files.old ≤ C.write_faults files.new }
+    ensures reads { OnlyReads (C.told files.old) (C.told files.new) name.now (C.read_faults files.old)
+        (C.read_faults files.new) (C.write_faults files.old) (C.write_faults files.new) result }
 {
     let body = reach_message(window, files, name, 0)?;
     match read_header(alloc, window.bytes.as_slice(), 0, body) {

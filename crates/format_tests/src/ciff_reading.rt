@@ -1,12 +1,12 @@
 // The file of one term and three documents, cut at each place and with single bytes
 // changed, spellings that are not the shortest, and files at the limits.
 
-ghost use Rattle.std.specs.Prelude.{◌≡◌, ◌<◌, None, IsTrue, IfSome};
+ghost use Rattle.std.specs.Prelude.{◌≡◌, ◌<◌, ◌≤◌, None, IsTrue, IfSome};
 ghost use Rattle.ciff_read.specs.Walk.{IsGiven};
 
 use ciff_read::{CiffFault, CiffWalk, CiffWhy, Piece, read_collection};
-use jass_base::{Cabinet, Failed, MemCabinet, NoMemory, PostingsList, Row};
-use std::alloc::{AllocError, Global};
+use jass_base::{Cabinet, Failed, MemCabinet, PostingsList, Row};
+use std::alloc::Global;
 use std::process::Abort;
 
 const FILE: [u8; 71] = [
@@ -50,7 +50,8 @@ type Case<'a> = (&'a [u8], u32, u64);
 
 fn check_answers(rt: &impl Abort, alloc: Global, cases: &[Case<'_>]) {
     for (bytes, number, at) in cases {
-        assert!(rt; answer(alloc, bytes) == (*number, *at));
+        let (found, place) = answer(alloc, bytes);
+        assert!(rt; found == *number && place == *at);
     }
 }
 
@@ -63,10 +64,17 @@ fn files_are_accepted(rt: HostRuntime) {
 
 #[test]
 fn files_are_refused(rt: HostRuntime) {
-    let alloc = rt.alloc();
-    assert!(&rt; answer(alloc, b"\x00\x00") == (21, 1));
-    assert!(&rt; answer(alloc, &changed(37, 0)) == (15, 34));
-    assert!(&rt; answer(alloc, &changed(26, 0x13)) == (12, 26));
+    let without_gap = changed(37, 0);
+    let other_wire = changed(26, 0x13);
+    check_answers(
+        &rt,
+        rt.alloc(),
+        &[
+            (b"\x00\x00", 21, 1),
+            (&without_gap, 15, 34),
+            (&other_wire, 12, 26),
+        ],
+    );
 }
 
 /// Where the message begins that a file of so many bytes cuts.
@@ -80,12 +88,16 @@ fn cut_message(end: usize) -> u64 {
     }
 }
 
+fn check_cuts(rt: &impl Abort, alloc: Global) {
+    for end in 0..71 {
+        let (found, place) = answer(alloc, &FILE[..end]);
+        assert!(rt; found == 10 && place == cut_message(end));
+    }
+}
+
 #[test]
 fn cut_files_are_refused_at_the_cut_message(rt: HostRuntime) {
-    let alloc = rt.alloc();
-    for end in 0..71 {
-        assert!(&rt; answer(alloc, &FILE[..end]) == (10, cut_message(end)));
-    }
+    check_cuts(&rt, rt.alloc());
 }
 
 const HEADERS: [Case<'static>; 9] = [
@@ -110,10 +122,12 @@ fn headers_are_judged_at_the_limits(rt: HostRuntime) {
 }
 
 /// The front of a file, and the letter `a` so often.
-fn filled(alloc: Global, front: &[u8], count: u32) -> Result<Vec<u8>, AllocError> {
-    let mut bytes = Vec::from_slice(alloc, front)?;
-    bytes.resize(front.len() + count as usize, b'a')?;
-    Ok(bytes)
+fn filled(rt: &impl Abort, alloc: Global, front: &[u8], count: u32) -> Vec<u8> {
+    let mut bytes = Vec::from_slice(alloc, front).expect(rt, "memory");
+    bytes
+        .resize(front.len() + count as usize, b'a')
+        .expect(rt, "memory");
+    bytes
 }
 
 /// The front of a file, how often the letter `a` follows, and what its reading answers.
@@ -133,15 +147,11 @@ const TEXTS: [Filled<'static>; 4] = [
     ),
 ];
 
-/// What reading a filled file answers; None where it finds no room.
-fn answer_filled(alloc: Global, front: &[u8], count: u32) -> Option<(u32, u64)> {
-    let bytes = filled(alloc, front, count).ok()?;
-    Some(answer(alloc, bytes.as_slice()))
-}
-
 fn check_texts(rt: &impl Abort, alloc: Global, texts: &[Filled<'_>]) {
     for (front, count, number, at) in texts {
-        assert!(rt; answer_filled(alloc, front, *count) == Some((*number, *at)));
+        let bytes = filled(rt, alloc, front, *count);
+        let (found, place) = answer(alloc, bytes.as_slice());
+        assert!(rt; found == *number && place == *at);
     }
 }
 
@@ -151,17 +161,19 @@ fn texts_are_judged_at_the_limits(rt: HostRuntime) {
 }
 
 /// What opening a walk over a file of these bytes answers: as above, and 0 at 0 for a walk.
-fn opening(alloc: Global, bytes: &[u8]) -> (u32, u64) {
-    let mut files = MemCabinet::new(alloc, Row::new(alloc), Row::new(alloc));
-    let Ok(()) = files.store("file", bytes) else {
-        return (1, 0);
-    };
-    match CiffWalk::open(alloc, &mut files, "file") {
-        Ok(_) => (0, 0),
-        Err(CiffFault::Refused(refusal)) => (refusal.why.number(), refusal.at),
-        Err(CiffFault::ReadFault) => (4, 0),
-        Err(CiffFault::NoMemory) => (1, 0),
+fn opening(rt: &impl Abort, alloc: Global, bytes: &[u8]) -> (u32, u64) {
+    let mut files = cabinet(rt, alloc, bytes);
+    match fault_of_opening(alloc, &mut files) {
+        None => (0, 0),
+        Some(CiffFault::Refused(refusal)) => (refusal.why.number(), refusal.at),
+        Some(CiffFault::ReadFault) => (4, 0),
+        Some(CiffFault::NoMemory) => (1, 0),
     }
+}
+
+/// The fault that opening a walk answers.
+fn fault_of_opening(alloc: Global, files: &mut MemCabinet) -> Option<CiffFault> {
+    CiffWalk::open(alloc, files, "file").err()
 }
 
 const OPENED: [Case<'static>; 6] = [
@@ -175,28 +187,26 @@ const OPENED: [Case<'static>; 6] = [
 
 fn check_opened(rt: &impl Abort, alloc: Global, cases: &[Case<'_>]) {
     for (bytes, number, at) in cases {
-        assert!(rt; opening(alloc, bytes) == (*number, *at));
+        let (found, place) = opening(rt, alloc, bytes);
+        assert!(rt; found == *number && place == *at);
     }
 }
 
 #[test]
 fn walks_are_opened(rt: HostRuntime) {
-    let alloc = rt.alloc();
-    check_opened(&rt, alloc, &OPENED);
-    assert!(&rt; opening(alloc, &FILE[..22]) == (0, 0));
-    assert!(&rt; opening(alloc, &FILE[..21]) == (10, 0));
+    check_opened(&rt, rt.alloc(), &OPENED);
+    check_opened(
+        &rt,
+        rt.alloc(),
+        &[(&FILE[..22], 0, 0), (&FILE[..21], 10, 0)],
+    );
 }
 
 #[test]
 fn a_missing_file_is_a_read_fault(rt: HostRuntime) {
     let alloc = rt.alloc();
     let mut files = MemCabinet::new(alloc, Row::new(alloc), Row::new(alloc));
-    assert!(&rt;
-        matches!(
-            CiffWalk::open(alloc, &mut files, "file"),
-            Err(CiffFault::ReadFault)
-        )
-    );
+    assert!(&rt; fault_of_opening(alloc, &mut files) == Some(CiffFault::ReadFault));
 }
 
 /// Two cabinets, of which one is read, so often without a fault; what they hold isn't told.
@@ -249,22 +259,22 @@ impl Cabinet for Switched {
 }
 
 /// A cabinet with the file of one term, and one with a file of these bytes.
-fn cabinets(alloc: Global, second: &[u8]) -> Option<Switched> {
-    Some(Switched {
-        first: cabinet(alloc, &FILE)?,
-        second: cabinet(alloc, second)?,
+fn cabinets(rt: &impl Abort, alloc: Global, second: &[u8]) -> Switched {
+    Switched {
+        first: cabinet(rt, alloc, &FILE),
+        second: cabinet(rt, alloc, second),
         is_second: false,
         reads: 100,
         read_faults: 0,
         write_faults: 0,
-    })
+    }
 }
 
 /// A cabinet with a file of these bytes.
-fn cabinet(alloc: Global, bytes: &[u8]) -> Option<MemCabinet> {
+fn cabinet(rt: &impl Abort, alloc: Global, bytes: &[u8]) -> MemCabinet {
     let mut files = MemCabinet::new(alloc, Row::new(alloc), Row::new(alloc));
-    files.store("file", bytes).ok()?;
-    Some(files)
+    files.store("file", bytes).expect(rt, "memory");
+    files
 }
 
 /// Takes the postings of a list back, and gives their number.
@@ -276,14 +286,23 @@ fn count_back(walk: &mut CiffWalk, list: PostingsList) -> u64
     count
 }
 
+/// The number of a refusal. Each is 10 or more; the bound changes none, and shows that none is that of a piece.
+fn number(why: CiffWhy) -> u32
+    ensures { 4 < result }
+{
+    why.number().max(5)
+}
+
 /// The next piece: what it is, and two of its numbers; of a refusal its number and place.
-fn piece(walk: &mut CiffWalk, files: &mut Switched) -> (u32, u64, u64) {
+fn piece(walk: &mut CiffWalk, files: &mut Switched) -> (u32, u64, u64)
+    ensures { 3 ≤ result.0 → result.0 ≤ 4 → walk.new.kept ≡ walk.old.kept }
+{
     match walk.next_piece(files) {
         Ok(Piece::Start { lists, docs, .. }) => (1, u64::from(lists), u64::from(docs)),
         Ok(Piece::List { at, list }) => (2, at, count_back(walk, list)),
         Ok(Piece::Doc { number, item }) => (3, u64::from(number), u64::from(item.length)),
         Ok(Piece::End) => (4, 0, 0),
-        Err(CiffFault::Refused(refusal)) => (refusal.why.number(), refusal.at, 0),
+        Err(CiffFault::Refused(refusal)) => (number(refusal.why), refusal.at, 0),
         Err(CiffFault::ReadFault) => (5, 0, 0),
         Err(CiffFault::NoMemory) => (6, 0, 0),
     }
@@ -306,26 +325,21 @@ fn check_pieces(
     files: &mut Switched,
     pieces: &[(u32, u64, u64)],
 ) {
-    for wanted in pieces {
-        assert!(rt; piece(walk, files) == *wanted);
+    for (kind, number, other) in pieces {
+        let (found, first, second) = piece(walk, files);
+        assert!(rt; found == *kind && first == *number && second == *other);
     }
+}
+
+fn check_walk(rt: &impl Abort, alloc: Global, files: &mut Switched) {
+    let mut walk = opened(rt, alloc, files);
+    check_pieces(rt, &mut walk, files, &PIECES);
 }
 
 #[test]
 fn pieces_come_in_the_order_of_the_file(rt: HostRuntime) {
-    let alloc = rt.alloc();
-    let Some(mut files) = cabinets(alloc, &FILE) else {
-        panic!(&rt; "no memory");
-    };
-    let Ok(mut walk) = opened(alloc, &mut files) else {
-        panic!(&rt; "not opened");
-    };
-    check_pieces(&rt, &mut walk, &mut files, &PIECES);
-}
-
-/// Reads the header, and says whether it came.
-fn read_start(walk: &mut CiffWalk, files: &mut Switched) -> bool {
-    matches!(walk.next_piece(files), Ok(Piece::Start { .. }))
+    let mut files = cabinets(&rt, rt.alloc(), &FILE);
+    check_walk(&rt, rt.alloc(), &mut files);
 }
 
 /// Reads a list, and gives its place.
@@ -338,32 +352,21 @@ fn read_list(walk: &mut CiffWalk, files: &mut Switched) -> Option<u64>
     Some(at)
 }
 
-/// Reads a document's record, and says whether one came.
-fn read_doc(walk: &mut CiffWalk, files: &mut Switched) -> bool
-    ensures { IsTrue result → walk.new.kept ≡ walk.old.kept }
-{
-    matches!(walk.next_piece(files), Ok(Piece::Doc { .. }))
-}
-
-/// Reads the end, and says whether it came.
-fn read_end(walk: &mut CiffWalk, files: &mut Switched) -> bool
-    ensures { IsTrue result → walk.new.kept ≡ walk.old.kept }
-{
-    matches!(walk.next_piece(files), Ok(Piece::End))
-}
-
 /// Reads three documents' records and the end, and says whether they came.
 fn read_rest(walk: &mut CiffWalk, files: &mut Switched) -> bool
     ensures { IsTrue result → walk.new.kept ≡ walk.old.kept }
 {
-    read_doc(walk, files) && read_doc(walk, files) && read_doc(walk, files) && read_end(walk, files)
+    piece(walk, files).0 == 3
+        && piece(walk, files).0 == 3
+        && piece(walk, files).0 == 3
+        && piece(walk, files).0 == 4
 }
 
 /// Reads the file of one term to its end, and gives the place of its list.
 fn read_all(walk: &mut CiffWalk, files: &mut Switched) -> Option<u64>
     ensures { IfSome result (IsGiven walk.new.kept) }
 {
-    if !read_start(walk, files) {
+    if piece(walk, files).0 != 1 {
         return None;
     }
     let at = read_list(walk, files)?;
@@ -399,38 +402,62 @@ const SHORTER: [u8; 40] = [
 ];
 
 /// A walk over the file in the cabinet.
-fn opened(alloc: Global, files: &mut Switched) -> Result<CiffWalk, CiffFault> {
-    CiffWalk::open(alloc, files, "file")
+fn opened(rt: &impl Abort, alloc: Global, files: &mut Switched) -> CiffWalk {
+    CiffWalk::open(alloc, files, "file").expect(rt, "a walk")
 }
 
 /// What reading the list again answers, twice, where the second cabinet is read after the end
 /// or isn't.
-fn answers(alloc: Global, is_second: bool) -> Option<[(u32, u64, u64, u64); 2]> {
-    let mut files = cabinets(alloc, &SHORTER)?;
-    let mut walk = opened(alloc, &mut files).ok()?;
-    let at = read_all(&mut walk, &mut files)?;
+fn answers(rt: &impl Abort, alloc: Global, is_second: bool) -> [(u32, u64, u64, u64); 2] {
+    let mut files = cabinets(rt, alloc, &SHORTER);
+    answers_of_walk(rt, alloc, &mut files, is_second)
+}
+
+/// The same of a walk over a cabinet.
+fn answers_of_walk(
+    rt: &impl Abort,
+    alloc: Global,
+    files: &mut Switched,
+    is_second: bool,
+) -> [(u32, u64, u64, u64); 2] {
+    let mut walk = opened(rt, alloc, files);
+    read_twice(rt, &mut walk, files, is_second)
+}
+
+fn read_twice(
+    rt: &impl Abort,
+    walk: &mut CiffWalk,
+    files: &mut Switched,
+    is_second: bool,
+) -> [(u32, u64, u64, u64); 2] {
+    let at = read_all(walk, files).expect(rt, "a list");
     files.is_second = is_second;
-    let first = again(&mut walk, &mut files, at);
-    let second = again(&mut walk, &mut files, at);
-    Some([first, second])
+    let first = again(walk, files, at);
+    let second = again(walk, files, at);
+    [first, second]
 }
 
 #[test]
 fn lists_are_read_again(rt: HostRuntime) {
     let alloc = rt.alloc();
-    assert!(&rt; answers(alloc, false) == Some([(2, 22, 3, 0), (2, 22, 3, 0)]));
-    assert!(&rt; answers(alloc, true) == Some([(23, 22, 3, 2), (23, 22, 3, 2)]));
+    assert!(&rt; answers(&rt, alloc, false) == [(2, 22, 3, 0), (2, 22, 3, 0)]);
+    assert!(&rt; answers(&rt, alloc, true) == [(23, 22, 3, 2), (23, 22, 3, 2)]);
 }
 
 /// Which call answers a read fault after so many reads: 1 opening, 2 a piece, 3 the list that is
 /// read again; and whether the next call answers it, too.
-fn fault_after(alloc: Global, reads: u32) -> Option<(u32, bool)> {
-    let mut files = cabinets(alloc, &FILE)?;
+fn fault_after(rt: &impl Abort, alloc: Global, reads: u32) -> (u32, bool) {
+    let mut files = cabinets(rt, alloc, &FILE);
     files.reads = reads;
-    Some(match opened(alloc, &mut files) {
-        Ok(mut walk) => fault_of_walk(&mut walk, &mut files),
+    fault_of_cabinet(alloc, &mut files)
+}
+
+/// The same for a cabinet.
+fn fault_of_cabinet(alloc: Global, files: &mut Switched) -> (u32, bool) {
+    match CiffWalk::open(alloc, files, "file") {
+        Ok(mut walk) => fault_of_walk(&mut walk, files),
         Err(fault) => (1, fault == CiffFault::ReadFault),
-    })
+    }
 }
 
 /// The same for a walk that was opened.
@@ -461,7 +488,8 @@ const FAULTS: [(u32, u32, bool); 5] = [
 
 fn check_faults(rt: &impl Abort, alloc: Global, faults: &[(u32, u32, bool)]) {
     for (reads, call, twice) in faults {
-        assert!(rt; fault_after(alloc, *reads) == Some((*call, *twice)));
+        let (found, again) = fault_after(rt, alloc, *reads);
+        assert!(rt; found == *call && again == *twice);
     }
 }
 
@@ -471,29 +499,52 @@ fn read_faults_are_answered_again(rt: HostRuntime) {
 }
 
 /// A file of lists without postings, with these terms.
-fn file_of_terms(alloc: Global, terms: &[&str]) -> Result<Row<u8>, NoMemory> {
+fn file_of_terms(rt: &impl Abort, alloc: Global, terms: &[&str]) -> Row<u8> {
     let mut bytes = Row::new(alloc);
-    bytes.extend(&[2, 0x10, (terms.len() % 128) as u8])?;
+    bytes
+        .extend(&[2, 0x10, (terms.len() % 128) as u8])
+        .expect(rt, "memory");
     for term in terms {
-        let len = (term.len() % 128) as u8;
-        bytes.extend(&[len.wrapping_add(2), 0x0a, len])?;
-        bytes.extend(term.as_bytes())?;
+        put_term(rt, &mut bytes, term);
     }
-    Ok(bytes)
+    bytes
+}
+
+fn put_term(rt: &impl Abort, bytes: &mut Row<u8>, term: &str) {
+    let len = (term.len() % 128) as u8;
+    bytes
+        .extend(&[len.wrapping_add(2), 0x0a, len])
+        .expect(rt, "memory");
+    bytes.extend(term.as_bytes()).expect(rt, "memory");
 }
 
 /// How many lists a walk over the file gives, and the piece behind them.
-fn lists_given(alloc: Global, terms: &[&str]) -> Option<(u32, (u32, u64, u64))> {
-    let bytes = file_of_terms(alloc, terms).ok()?;
-    let mut files = cabinets(alloc, bytes.as_slice())?;
+fn lists_given(rt: &impl Abort, alloc: Global, terms: &[&str]) -> Option<(u32, (u32, u64, u64))> {
+    let mut files = cabinet_of_terms(rt, alloc, terms);
+    lists_of_walk(rt, alloc, &mut files)
+}
+
+/// A cabinet with the file of these terms, which is read.
+fn cabinet_of_terms(rt: &impl Abort, alloc: Global, terms: &[&str]) -> Switched {
+    let bytes = file_of_terms(rt, alloc, terms);
+    let mut files = cabinets(rt, alloc, bytes.as_slice());
     files.is_second = true;
-    let mut walk = opened(alloc, &mut files).ok()?;
-    lists_behind(&mut walk, &mut files)
+    files
+}
+
+/// How many lists a walk over the cabinet gives, and the piece behind them.
+fn lists_of_walk(
+    rt: &impl Abort,
+    alloc: Global,
+    files: &mut Switched,
+) -> Option<(u32, (u32, u64, u64))> {
+    let mut walk = opened(rt, alloc, files);
+    lists_behind(&mut walk, files)
 }
 
 /// How many lists come behind the header, and the piece behind them.
 fn lists_behind(walk: &mut CiffWalk, files: &mut Switched) -> Option<(u32, (u32, u64, u64))> {
-    if !read_start(walk, files) {
+    if piece(walk, files).0 != 1 {
         return None;
     }
     for count in 0..8 {
@@ -519,13 +570,13 @@ const TWICE: [[&str; 7]; 6] = [
 
 fn check_twice(rt: &impl Abort, alloc: Global, rows: &[[&str; 7]]) {
     for terms in rows {
-        assert!(rt; lists_given(alloc, terms) == Some((6, (18, 29, 0))));
+        assert!(rt; lists_given(rt, alloc, terms) == Some((6, (18, 29, 0))));
     }
 }
 
 #[test]
 fn each_term_is_new_once(rt: HostRuntime) {
     let alloc = rt.alloc();
-    assert!(&rt; lists_given(alloc, &TERMS) == Some((6, (4, 0, 0))));
+    assert!(&rt; lists_given(&rt, alloc, &TERMS) == Some((6, (4, 0, 0))));
     check_twice(&rt, alloc, &TWICE);
 }

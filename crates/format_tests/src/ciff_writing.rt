@@ -3,7 +3,7 @@
 
 use ciff_read::read_collection;
 use ciff_write::write_collection;
-use jass_base::{MemSink, NoMemory, Row};
+use jass_base::{MemSink, Row};
 use std::alloc::Global;
 use std::process::Abort;
 
@@ -34,23 +34,17 @@ const EXPORT: [u8; 56] = [
 ];
 
 /// Whether the collection of one file is written as the other one.
-fn is_written(alloc: Global, file: &[u8], canonical: &[u8]) -> bool {
-    let Ok(collection) = read_collection(alloc, file) else {
-        return false;
-    };
+fn is_written(rt: &impl Abort, alloc: Global, file: &[u8], canonical: &[u8]) -> bool {
+    let collection = read_collection(alloc, file).expect(rt, "a collection");
     let mut sink = MemSink::new(alloc, Row::new(alloc));
     write_collection(&collection, &mut sink).is_ok() && sink.written() == canonical
 }
 
 /// Whether the write of a collection fails where the first put does, with nothing put.
-fn fails(alloc: Global, file: &[u8]) -> bool {
-    let Ok(collection) = read_collection(alloc, file) else {
-        return false;
-    };
+fn fails(rt: &impl Abort, alloc: Global, file: &[u8]) -> bool {
+    let collection = read_collection(alloc, file).expect(rt, "a collection");
     let mut bad = Row::new(alloc);
-    if bad.push(0).is_err() {
-        return false;
-    }
+    bad.extend(&[0]).expect(rt, "memory");
     let mut sink = MemSink::new(alloc, bad);
     write_collection(&collection, &mut sink).is_err() && sink.written().is_empty()
 }
@@ -65,7 +59,7 @@ const FILES: [(&[u8], &[u8]); 4] = [
 
 fn check_written(rt: &impl Abort, alloc: Global, files: &[(&[u8], &[u8])]) {
     for (file, canonical) in files {
-        assert!(rt; is_written(alloc, file, canonical));
+        assert!(rt; is_written(rt, alloc, file, canonical));
     }
 }
 
@@ -73,7 +67,7 @@ fn check_written(rt: &impl Abort, alloc: Global, files: &[(&[u8], &[u8])]) {
 fn collections_are_written(rt: HostRuntime) {
     let alloc = rt.alloc();
     check_written(&rt, alloc, &FILES);
-    assert!(&rt; fails(alloc, &FILE));
+    assert!(&rt; fails(&rt, alloc, &FILE));
 }
 
 /// A number as a varint of three bytes.
@@ -84,50 +78,41 @@ fn long(number: u32) -> [u8; 3] {
 }
 
 /// A file with one posting, in the last of its documents.
-fn file_of_one_posting(alloc: Global, doc: u32, tf: u32) -> Result<Row<u8>, NoMemory> {
+fn file_of_one_posting(rt: &impl Abort, alloc: Global, doc: u32, tf: u32) -> Row<u8> {
     let mut bytes = Row::new(alloc);
-    put_header(&mut bytes, doc.saturating_add(1))?;
-    put_list(&mut bytes, doc, tf)?;
-    put_documents(&mut bytes, doc.saturating_add(1))?;
-    Ok(bytes)
+    put_header(rt, &mut bytes, doc.saturating_add(1));
+    put_list(rt, &mut bytes, doc, tf);
+    put_documents(rt, &mut bytes, doc.saturating_add(1));
+    bytes
 }
 
 /// The header of a file of one list and so many documents.
-fn put_header(bytes: &mut Row<u8>, docs: u32) -> Result<(), NoMemory> {
-    bytes.extend(b"\x06\x10\x01\x18")?;
-    bytes.extend(&long(docs))
+fn put_header(rt: &impl Abort, bytes: &mut Row<u8>, docs: u32) {
+    bytes.extend(b"\x06\x10\x01\x18").expect(rt, "memory");
+    bytes.extend(&long(docs)).expect(rt, "memory");
 }
 
 /// A list of one posting.
-fn put_list(bytes: &mut Row<u8>, doc: u32, tf: u32) -> Result<(), NoMemory> {
-    bytes.extend(b"\x0a\x22\x08\x08")?;
-    bytes.extend(&long(doc))?;
-    bytes.extend(b"\x10")?;
-    bytes.extend(&long(tf))
+fn put_list(rt: &impl Abort, bytes: &mut Row<u8>, doc: u32, tf: u32) {
+    bytes.extend(b"\x0a\x22\x08\x08").expect(rt, "memory");
+    bytes.extend(&long(doc)).expect(rt, "memory");
+    bytes.extend(b"\x10").expect(rt, "memory");
+    bytes.extend(&long(tf)).expect(rt, "memory");
 }
 
 /// The records of so many documents.
-fn put_documents(bytes: &mut Row<u8>, docs: u32) -> Result<(), NoMemory> {
+fn put_documents(rt: &impl Abort, bytes: &mut Row<u8>, docs: u32) {
     for number in 0..docs {
-        bytes.extend(b"\x07\x12\x01d\x08")?;
-        bytes.extend(&long(number))?;
+        bytes.extend(b"\x07\x12\x01d\x08").expect(rt, "memory");
+        bytes.extend(&long(number)).expect(rt, "memory");
     }
-    Ok(())
 }
 
 /// Whether the field of a posting is so spelled, and its bytes counted so, where it is the only one
 /// of the only list.
-fn is_spelled(alloc: Global, gap: u32, tf: u32, field: &[u8]) -> bool {
-    match file_of_one_posting(alloc, gap, tf) {
-        Ok(file) => is_spelled_in(alloc, file.as_slice(), field),
-        Err(_) => false,
-    }
-}
-
-fn is_spelled_in(alloc: Global, file: &[u8], field: &[u8]) -> bool {
-    let Ok(collection) = read_collection(alloc, file) else {
-        return false;
-    };
+fn is_spelled(rt: &impl Abort, alloc: Global, gap: u32, tf: u32, field: &[u8]) -> bool {
+    let file = file_of_one_posting(rt, alloc, gap, tf);
+    let collection = read_collection(alloc, file.as_slice()).expect(rt, "a collection");
     let mut sink = MemSink::new(alloc, Row::new(alloc));
     write_collection(&collection, &mut sink).is_ok() && begins_with(sink.written(), field)
 }
@@ -160,7 +145,7 @@ const FIELDS: [(u32, u32, &[u8]); 8] = [
 
 fn check_fields(rt: &impl Abort, alloc: Global, fields: &[(u32, u32, &[u8])]) {
     for (gap, tf, field) in fields {
-        assert!(rt; is_spelled(alloc, *gap, *tf, field));
+        assert!(rt; is_spelled(rt, alloc, *gap, *tf, field));
     }
 }
 

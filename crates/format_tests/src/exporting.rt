@@ -3,11 +3,13 @@
 
 ghost use Rattle.std.specs.Prelude.{◌≡◌, ◌<◌};
 
+use crate::index_reading::accepted;
 use index_export::export_collection;
 use index_file::IndexFile;
-use jass_base::{Collection, Posting, Row, Steps};
+use jass_base::{Collection, Posting, Steps};
 use std::alloc::Global;
 use std::marker::Brand;
+use std::process::Abort;
 use std::sync::ledger::{Blank, Ledger};
 
 /// Documents d0 to d2; `a`: (0,9), (1,5), (2,1).
@@ -32,17 +34,14 @@ const CROSSING: [u8; 110] = [
     0x01, 0x00, 0x02, 0x00, 0x00, 0x00, 0x00, 0x02, 0x00, 0x00, 0x00, 0x02, 0x00, 0x04,
 ];
 
-/// The collection of the index with these bytes.
-fn exported<L: Ledger>(alloc: Global, bytes: &[u8], blank: Blank) -> Option<Collection>
+/// The collection of the index.
+fn exported<L: Ledger>(alloc: Global, index: &IndexFile, blank: Blank) -> Option<Collection>
     requires name { blank.name ≡ L.name }
     requires parts { blank.parts ≡ L.parts }
     requires some { 0 < blank.parts }
 {
     let mut steps = Steps::<L>::new(blank);
-    let mut row = Row::new(alloc);
-    row.extend(bytes).ok()?;
-    let index = IndexFile::from_bytes(alloc, row).ok()?;
-    export_collection(alloc, &index, &mut steps).ok()
+    export_collection(alloc, index, &mut steps).ok()
 }
 
 /// Whether the collection has one list, of `a`, with these postings.
@@ -64,10 +63,10 @@ fn has_header(collection: &Collection, docs: u32, terms: u64) -> bool {
     header.total_lists == 1 && header.total_docs == docs && header.total_terms == terms
 }
 
-/// Whether the index with these bytes is exported with so many documents and terms, and these postings.
+/// Whether the index is exported with so many documents and terms, and these postings.
 fn exports<L: Ledger>(
     alloc: Global,
-    bytes: &[u8],
+    index: &IndexFile,
     blank: Blank,
     docs: u32,
     terms: u64,
@@ -77,7 +76,7 @@ fn exports<L: Ledger>(
     requires parts { blank.parts ≡ L.parts }
     requires some { 0 < blank.parts }
 {
-    match exported::<L>(alloc, bytes, blank) {
+    match exported::<L>(alloc, index, blank) {
         Some(collection) => {
             has_list(&collection, postings, terms)
                 && has_header(&collection, docs, terms)
@@ -85,6 +84,19 @@ fn exports<L: Ledger>(
         }
         None => false,
     }
+}
+
+/// The same of the index with these bytes.
+fn is_exported(
+    rt: &impl Abort,
+    alloc: Global,
+    bytes: &[u8],
+    docs: u32,
+    terms: u64,
+    postings: &[Posting],
+) -> bool {
+    let index = accepted(rt, alloc, bytes);
+    exports::<Brand>(alloc, &index, Blank::new(1), docs, terms, postings)
 }
 
 const FALLING: [Posting; 3] = [
@@ -102,6 +114,6 @@ const SORTED: [Posting; 3] = [
 #[test]
 fn lists_are_exported_by_rising_document(rt: HostRuntime) {
     let alloc = rt.alloc();
-    assert!(&rt; exports::<Brand>(alloc, &RISING, Blank::new(1), 3, 15, &FALLING));
-    assert!(&rt; exports::<Brand>(alloc, &CROSSING, Blank::new(1), 6, 5, &SORTED));
+    assert!(&rt; is_exported(&rt, alloc, &RISING, 3, 15, &FALLING));
+    assert!(&rt; is_exported(&rt, alloc, &CROSSING, 6, 5, &SORTED));
 }

@@ -1,21 +1,23 @@
 // Three documents of 9, 5 and 1 terms that share one term, from their postings to the index.
 
-ghost use Rattle.std.specs.Prelude.{◌≡◌, ◌<◌, ◌≤◌, ◌^◌, [], ◌∷◌, length, All, IfOk};
+ghost use Rattle.std.specs.Prelude.{◌≡◌, ◌<◌, ◌≤◌, ◌^◌, length, All, AllPairs};
 ghost use Rattle.std.specs.List.Sorted.{IsStrictlyIncreasing};
+ghost use Rattle.jass_base.specs.Gaps.{AreDocs};
 ghost use Rattle.jass_base.specs.Lists.{HasDocsBelow};
 ghost use Rattle.jass_base.specs.Postings.{docs_of, HasTfInRange};
+ghost use Rattle.jass_base.specs.Segments.{SharesNoDocument};
 ghost use Rattle.jass_base.specs.declared.postings_list.PostingsList.{PostingsList};
+ghost use Rattle.jass_base.specs.declared.segment.Segment.{Segment};
+ghost use Rattle.weights.specs.Quantizing.{IsImpactWidth};
 
 use ciff_read::read_collection;
 use impact_segments::{
     DocImpact, ListSegments, Scratch, SegmentsFault, build, can_widen, group, length_norms,
     norm_ends, segments_into, segments_of, widen_by_norms, widen_list,
 };
-use jass_base::{
-    Collection, DocRecord, Header, ImpactIndex, NoMemory, Posting, PostingsList, Row, Segment,
-    TermSegments, Text,
-};
+use jass_base::{ImpactIndex, Posting, PostingsList, Row, Segment, TermSegments, Text};
 use std::alloc::Global;
+use std::process::Abort;
 use weights::{Bits, Range, Rule};
 
 /// The range of the BM25 weights of the list of three documents.
@@ -24,9 +26,31 @@ const RANGE: Range = Range {
     greatest: 572,
 };
 
+/// The collection of three documents named `d` of 9, 5 and 1 terms. The term `0` has no postings;
+/// `a`: (0,9), (1,5), (2,1).
+const THREE_LISTS: &[u8] = b"\x0c\x08\x01\x10\x02\x18\x03\x20\x02\x28\x03\x30\x0f\
+    \x07\x0a\x010\x10\x03\x18\x0f\
+    \x17\x0a\x01a\x10\x03\x18\x0f\x22\x02\x10\x09\x22\x04\x08\x01\x10\x05\x22\x04\x08\x01\x10\x01\
+    \x05\x12\x01d\x18\x09\x07\x08\x01\x12\x01d\x18\x05\x07\x08\x02\x12\x01d\x18\x01";
+
 #[test]
 fn three_documents(rt: HostRuntime) {
-    assert!(&rt; is_built(rt.alloc()));
+    let index = indexed(&rt, rt.alloc(), THREE_LISTS, Rule::Bm25, Bits::Of(8));
+    assert!(&rt; is_whole(&index));
+}
+
+/// The index of the collection in a file.
+pub(crate) fn indexed(
+    rt: &impl Abort,
+    alloc: Global,
+    file: &[u8],
+    rule: Rule,
+    bits: Bits,
+) -> ImpactIndex
+    requires { IsImpactWidth bits }
+{
+    let collection = read_collection(alloc, file).expect(rt, "a collection");
+    build(alloc, &collection, rule, bits).expect(rt, "memory")
 }
 
 /// Documents with their impacts, of which two are the same.
@@ -38,24 +62,23 @@ const PAIRS: [DocImpact; 3] = [
 
 #[test]
 fn pairs_by_impact(rt: HostRuntime) {
-    assert!(&rt; count_of_groups(rt.alloc()) == Some(2));
-    assert!(&rt; is_striped(rt.alloc()));
+    check_groups(&rt, rt.alloc());
+    check_stripes(&rt, rt.alloc());
 }
 
 #[test]
 fn a_range_grows_by_one_list(rt: HostRuntime) {
-    assert!(&rt; range_of_three(rt.alloc()).ok() == Some(RANGE));
-    assert!(&rt; range_by_norms(rt.alloc()).ok() == Some(RANGE));
+    assert!(&rt; range_of_three(&rt, rt.alloc()) == RANGE);
+    assert!(&rt; range_by_norms(&rt, rt.alloc()) == RANGE);
 }
 
 #[test]
 fn segments_by_a_scratch(rt: HostRuntime) {
     let mut segments = ListSegments::new(rt.alloc());
     let mut scratch = Scratch::new(rt.alloc());
-    assert!(&rt; impacts_into(rt.alloc(), &mut segments, &mut scratch).is_ok());
-    assert!(&rt; impacts_into(rt.alloc(), &mut segments, &mut scratch).is_ok());
-    assert!(&rt; begin_with_the_heaviest(&segments));
-    assert!(&rt; has_impacts(rt.alloc(), &segments));
+    make_impacts(&rt, rt.alloc(), &mut segments, &mut scratch);
+    make_impacts(&rt, rt.alloc(), &mut segments, &mut scratch);
+    check_impacts(&rt, rt.alloc(), &segments);
 }
 
 #[test]
@@ -63,9 +86,9 @@ fn segments_of_one_list(rt: HostRuntime) {
     let alloc = rt.alloc();
     let heavier = SegmentsFault::Outside { kept: 9, found: 10 };
     let lighter = SegmentsFault::Outside { kept: 2, found: 1 };
-    assert!(&rt; makes(alloc, 1, 9, Ok(3)));
-    assert!(&rt; makes(alloc, 1, 10, Err(heavier)));
-    assert!(&rt; makes(alloc, 2, 9, Err(lighter)));
+    assert!(&rt; makes(&rt, alloc, 1, 9, Ok(3)));
+    assert!(&rt; makes(&rt, alloc, 1, 10, Err(heavier)));
+    assert!(&rt; makes(&rt, alloc, 2, 9, Err(lighter)));
 }
 
 /// Three documents of 9, 5 and 1 terms. The weights of a list of all three lie between those of
@@ -76,10 +99,23 @@ fn a_list_that_can_widen(rt: HostRuntime) {
     assert!(&rt; widens(range, Rule::Bm25, 3, 9));
     range.widen(296);
     range.widen(606);
-    assert!(&rt; !widens(range, Rule::Bm25, 3, 9));
-    assert!(&rt; widens(range, Rule::Bm25, 3, 10));
-    assert!(&rt; widens(range, Rule::Bm25, 4, 1));
-    assert!(&rt; widens(range, Rule::Tf, 3, 9));
+    check_widening(&rt, range, &WIDENING);
+}
+
+/// Lists by a rule, of so many documents and with a frequency up to one, and whether they can widen
+/// the range from 296 to 606.
+const WIDENING: [(Rule, u32, u32, bool); 4] = [
+    (Rule::Bm25, 3, 9, false),
+    (Rule::Bm25, 3, 10, true),
+    (Rule::Bm25, 4, 1, true),
+    (Rule::Tf, 3, 9, true),
+];
+
+fn check_widening(rt: &impl Abort, range: Range, rows: &[(Rule, u32, u32, bool)]) {
+    for (rule, count, most, can) in rows {
+        assert!(rt; 0 < *count && 0 < *most && *most < 100);
+        assert!(rt; widens(range, *rule, *count, *most) == *can);
+    }
 }
 
 /// Whether a list of so many of the three documents, with a frequency up to one, can widen a range.
@@ -91,45 +127,45 @@ fn widens(range: Range, rule: Rule, count: u32, most: u32) -> bool
     can_widen(range, rule, count, most, &norms, norm_ends(&norms))
 }
 
-/// How many segments the pairs make.
-fn count_of_groups(alloc: Global) -> Option<usize> {
-    let segments = group(alloc, &PAIRS).ok()?;
-    Some(segments.len())
+/// The pairs make two segments.
+fn check_groups(rt: &impl Abort, alloc: Global) {
+    let segments = group(alloc, &PAIRS).expect(rt, "memory");
+    assert!(rt; segments.len() == 2);
 }
 
-/// Whether the index of many documents is made, and has their stripes.
-fn is_striped(alloc: Global) -> bool {
-    match many_by_impact(alloc) {
-        Ok(index) => has_stripes(&index),
-        Err(_) => false,
-    }
-}
-
-/// The segments of enough documents to go without a sort: those of the second term are made by
-/// places that were used before.
-fn many_by_impact(alloc: Global) -> Result<ImpactIndex, NoMemory> {
-    let bytes = striped(alloc)?;
-    match read_collection(alloc, bytes.as_slice()) {
-        Ok(collection) => build(alloc, &collection, Rule::Tf, Bits::Raw),
-        Err(_) => Err(NoMemory),
-    }
+/// The index of many documents has their stripes: they are enough to go without a sort, and the
+/// segments of the second term are made by places that were used before.
+fn check_stripes(rt: &impl Abort, alloc: Global) {
+    let bytes = striped(rt, alloc);
+    let index = indexed(rt, alloc, bytes.as_slice(), Rule::Tf, Bits::Raw);
+    assert!(rt; has_stripes(&index));
 }
 
 /// A file of the documents from 0 to 63, in which two terms stand once, twice and three times in turn.
-fn striped(alloc: Global) -> Result<Row<u8>, NoMemory> {
+fn striped(rt: &impl Abort, alloc: Global) -> Row<u8> {
     let mut bytes = Row::new(alloc);
-    bytes.extend(b"\x04\x10\x02\x18\x40")?;
-    for term in [b'a', b'b'] {
-        bytes.extend(&[0x81, 0x03, 0x0a, 0x01, term, 0x22, 0x02, 0x10, 0x01])?;
-        for doc in 1..64u32 {
-            let tf = (doc % 3) as u8 + 1;
-            bytes.extend(&[0x22, 0x04, 0x08, 0x01, 0x10, tf])?;
-        }
-    }
+    bytes.extend(b"\x04\x10\x02\x18\x40").expect(rt, "memory");
+    put_stripes(rt, &mut bytes, b'a');
+    put_stripes(rt, &mut bytes, b'b');
     for doc in 0..64u8 {
-        bytes.extend(&[0x05, 0x08, doc, 0x12, 0x01, b'd'])?;
+        bytes
+            .extend(&[0x05, 0x08, doc, 0x12, 0x01, b'd'])
+            .expect(rt, "memory");
     }
-    Ok(bytes)
+    bytes
+}
+
+/// The list of one of these terms.
+fn put_stripes(rt: &impl Abort, bytes: &mut Row<u8>, term: u8) {
+    bytes
+        .extend(&[0x81, 0x03, 0x0a, 0x01, term, 0x22, 0x02, 0x10, 0x01])
+        .expect(rt, "memory");
+    for doc in 1..64u32 {
+        let tf = (doc % 3) as u8 + 1;
+        bytes
+            .extend(&[0x22, 0x04, 0x08, 0x01, 0x10, tf])
+            .expect(rt, "memory");
+    }
 }
 
 fn has_stripes(index: &ImpactIndex) -> bool {
@@ -158,17 +194,17 @@ fn is_stripe(segment: &Segment, impact: u16, from: u32, to: u32) -> bool {
 }
 
 /// The range of the BM25 weights of the list of three documents.
-fn range_of_three(alloc: Global) -> Result<Range, NoMemory> {
-    let list = three(alloc, 9)?;
+fn range_of_three(rt: &impl Abort, alloc: Global) -> Range {
+    let list = three(rt, alloc, 9);
     let mut range = Range::new();
     widen_list(&mut range, Rule::Bm25, 15, &list, &[9, 5, 1]);
-    Ok(range)
+    range
 }
 
 /// The same range, by the norms of the documents.
-fn range_by_norms(alloc: Global) -> Result<Range, NoMemory> {
-    let list = three(alloc, 9)?;
-    let norms = length_norms(alloc, 15, &[9, 5, 1])?;
+fn range_by_norms(rt: &impl Abort, alloc: Global) -> Range {
+    let list = three(rt, alloc, 9);
+    let norms = length_norms(alloc, 15, &[9, 5, 1]).expect(rt, "memory");
     let mut range = Range::new();
     widen_by_norms(
         &mut range,
@@ -178,37 +214,37 @@ fn range_by_norms(alloc: Global) -> Result<Range, NoMemory> {
         &[9, 5, 1],
         norms.as_slice(),
     );
-    Ok(range)
+    range
 }
 
 /// Makes the segments of the list by BM25, by the norms of the documents.
-fn impacts_into(
+fn make_impacts(
+    rt: &impl Abort,
     alloc: Global,
     segments: &mut ListSegments,
     scratch: &mut Scratch,
-) -> Result<(), SegmentsFault> {
-    match (three(alloc, 9), length_norms(alloc, 15, &[9, 5, 1])) {
-        (Ok(list), Ok(norms)) => segments_into(
-            segments,
-            scratch,
-            Rule::Bm25,
-            Bits::Of(8),
-            RANGE,
-            15,
-            &list,
-            &[9, 5, 1],
-            norms.as_slice(),
-        ),
-        _ => Err(SegmentsFault::NoMemory),
-    }
+) {
+    let list = three(rt, alloc, 9);
+    let norms = length_norms(alloc, 15, &[9, 5, 1]).expect(rt, "memory");
+    segments_into(
+        segments,
+        scratch,
+        Rule::Bm25,
+        Bits::Of(8),
+        RANGE,
+        15,
+        &list,
+        &[9, 5, 1],
+        norms.as_slice(),
+    )
+    .expect(rt, "segments");
 }
 
-/// Whether the rows of the segments are made, and have the impacts of the list.
-fn has_impacts(alloc: Global, segments: &ListSegments) -> bool {
-    match segments.to_rows(alloc) {
-        Ok(rows) => are_impacts(rows.as_slice()),
-        Err(_) => false,
-    }
+/// The segments begin with the heaviest, and their rows have the impacts of the list.
+fn check_impacts(rt: &impl Abort, alloc: Global, segments: &ListSegments) {
+    assert!(rt; begin_with_the_heaviest(segments));
+    let rows = segments.to_rows(alloc).expect(rt, "memory");
+    assert!(rt; are_impacts(rows.as_slice()));
 }
 
 fn begin_with_the_heaviest(segments: &ListSegments) -> bool {
@@ -238,52 +274,62 @@ fn is_single(segment: &Segment, impact: u16, doc: u32) -> bool {
 }
 
 /// Whether the list makes so many segments in a range up to 9, or is refused so.
-fn makes(alloc: Global, least: u64, tf: u32, answer: Result<usize, SegmentsFault>) -> bool
+fn makes(
+    rt: &impl Abort,
+    alloc: Global,
+    least: u64,
+    tf: u32,
+    answer: Result<usize, SegmentsFault>,
+) -> bool
     requires { (1 ≤ tf) × (tf < 2 ^ 31) }
 {
+    let list = three(rt, alloc, tf);
     let range = Range { least, greatest: 9 };
-    match three_segments(alloc, range, tf) {
+    match segments_of(alloc, Rule::Tf, Bits::Of(8), range, 15, &list, &[9, 5, 1]) {
         Ok(segments) => answer == Ok(segments.len()),
         Err(fault) => answer == Err(fault),
     }
 }
 
-/// The segments of the list by term frequency, in a range.
-fn three_segments(alloc: Global, range: Range, tf: u32) -> Result<Row<Segment>, SegmentsFault>
-    requires tf { (1 ≤ tf) × (tf < 2 ^ 31) }
-    requires low { range.greatest ≤ 2 ^ 40 }
+/// The segments of a list of the three documents, by term frequency.
+pub(crate) fn segments(rt: &impl Abort, alloc: Global, list: PostingsList) -> Row<Segment>
+    requires some { 1 ≤ length list.postings }
+    requires below { HasDocsBelow 3 list }
+    ensures docs { All (λ (s : Segment). AreDocs 3 s.docs) result }
+    ensures once { AllPairs SharesNoDocument result }
 {
-    match three(alloc, tf) {
-        Ok(list) => segments_of(alloc, Rule::Tf, Bits::Of(8), range, 15, &list, &[9, 5, 1]),
-        Err(_) => Err(SegmentsFault::NoMemory),
-    }
+    segments_of(
+        alloc,
+        Rule::Tf,
+        Bits::Raw,
+        Range::new(),
+        15,
+        &list,
+        &[9, 5, 1],
+    )
+    .expect(rt, "segments")
 }
 
 /// The list of a term in three documents, with its frequency in the first.
-fn three(alloc: Global, tf: u32) -> Result<PostingsList, NoMemory>
+pub(crate) fn three(rt: &impl Abort, alloc: Global, tf: u32) -> PostingsList
     requires { (1 ≤ tf) × (tf < 2 ^ 31) }
-    ensures some { IfOk result (λ list. 1 ≤ length list.postings) }
-    ensures below { IfOk result (HasDocsBelow 3) }
+    ensures some { 1 ≤ length result.postings }
+    ensures below { HasDocsBelow 3 result }
 {
     let postings = [
         Posting { doc: 0, tf },
         Posting { doc: 1, tf: 5 },
         Posting { doc: 2, tf: 1 },
     ];
-    list(alloc, "a", &postings)
+    list(rt, alloc, &postings)
 }
 
-/// The index of the collection by BM25, in 8 bits.
-fn built(alloc: Global) -> Result<ImpactIndex, NoMemory> {
-    build(alloc, &collection(alloc)?, Rule::Bm25, Bits::Of(8))
-}
-
-/// Whether that index is made, and whole.
-fn is_built(alloc: Global) -> bool {
-    match built(alloc) {
-        Ok(index) => is_whole(&index),
-        Err(_) => false,
-    }
+/// The list of a term that stands once, in the first document.
+pub(crate) fn one_document(rt: &impl Abort, alloc: Global) -> PostingsList
+    ensures some { 1 ≤ length result.postings }
+    ensures below { HasDocsBelow 3 result }
+{
+    list(rt, alloc, &[Posting { doc: 0, tf: 1 }])
 }
 
 fn is_whole(index: &ImpactIndex) -> bool {
@@ -307,81 +353,19 @@ fn are_terms(terms: &[TermSegments]) -> bool {
     }
 }
 
-fn collection(alloc: Global) -> Result<Collection, NoMemory> {
-    let postings = [
-        Posting { doc: 0, tf: 9 },
-        Posting { doc: 1, tf: 5 },
-        Posting { doc: 2, tf: 1 },
-    ];
-    let unused = list(alloc, "0", &[])?;
-    let used = list(alloc, "a", &postings)?;
-    let header = header(alloc)?;
-    let docs = docs(alloc)?;
-    let lists = both(alloc, unused, used)?;
-    Ok(Collection {
-        header,
-        lists,
-        docs,
-    })
-}
-
-fn both(
-    alloc: Global,
-    first: PostingsList,
-    second: PostingsList,
-) -> Result<Row<PostingsList>, NoMemory>
-    ensures { IfOk result (λ lists. lists ≡ first ∷ second ∷ []) }
-{
-    let mut lists = Row::new(alloc);
-    lists.push(first)?;
-    lists.push(second)?;
-    Ok(lists)
-}
-
-fn header(alloc: Global) -> Result<Header, NoMemory> {
-    Ok(Header {
-        version: 1,
-        total_lists: 2,
-        total_docs: 3,
-        total_terms: 15,
-        average: [0; 8],
-        description: Text::from_str(alloc, "")?,
-    })
-}
-
-fn docs(alloc: Global) -> Result<Row<DocRecord>, NoMemory>
-    ensures { IfOk result (λ docs. length docs ≡ 3) }
-{
-    let mut docs = Row::new(alloc);
-    docs.push(document(alloc, 9)?)?;
-    docs.push(document(alloc, 5)?)?;
-    docs.push(document(alloc, 1)?)?;
-    Ok(docs)
-}
-
-fn document(alloc: Global, length: u32) -> Result<DocRecord, NoMemory>
-    requires { length < 2 ^ 31 }
-{
-    Ok(DocRecord {
-        name: Text::from_str(alloc, "d")?,
-        length,
-    })
-}
-
-fn list(alloc: Global, term: &str, postings: &[Posting]) -> Result<PostingsList, NoMemory>
-    requires term { length term.now ≤ 65535 }
+/// The list of the term `a` with these postings.
+fn list(rt: &impl Abort, alloc: Global, postings: &[Posting]) -> PostingsList
     requires rising { IsStrictlyIncreasing (docs_of postings.now) }
     requires tf { All HasTfInRange postings.now }
-    ensures term { IfOk result (λ list. list.term ≡ term.now) }
-    ensures postings { IfOk result (λ list. list.postings ≡ postings.now) }
+    ensures { result.postings ≡ postings.now }
 {
-    let term = Text::from_str(alloc, term)?;
+    let term = Text::from_str(alloc, "a").expect(rt, "memory");
     let mut row = Row::new(alloc);
-    row.extend(postings)?;
-    Ok(PostingsList {
+    row.extend(postings).expect(rt, "memory");
+    PostingsList {
         term,
         df: 3,
         cf: 15,
         postings: row,
-    })
+    }
 }

@@ -6,7 +6,7 @@ ghost use Rattle.std.specs.Prelude.{◌≡◌, ◌<◌};
 use index_check::check_file;
 use index_file::{CodecUse, IndexFile, open};
 use index_layout::{OpenFault, OpenWhy};
-use jass_base::{Lexicon, MemCabinet, Names, NoMemory, Row, Steps, Totals};
+use jass_base::{Lexicon, MemCabinet, Names, Row, Steps, Totals};
 use std::alloc::Global;
 use std::marker::Brand;
 use std::process::Abort;
@@ -32,13 +32,16 @@ fn changed(place: usize, byte: u8) -> [u8; 103]
     bytes
 }
 
-/// The bytes as a file, or no memory.
-fn opened(alloc: Global, bytes: &[u8]) -> Result<IndexFile, OpenFault> {
+/// The bytes as a file, or why they are none.
+fn opened(rt: &impl Abort, alloc: Global, bytes: &[u8]) -> Result<IndexFile, OpenFault> {
     let mut row = Row::new(alloc);
-    match row.extend(bytes) {
-        Ok(()) => IndexFile::from_bytes(alloc, row),
-        Err(_) => Err(OpenFault::NoMemory),
-    }
+    row.extend(bytes).expect(rt, "memory");
+    IndexFile::from_bytes(alloc, row)
+}
+
+/// The file of bytes that are accepted.
+pub(crate) fn accepted(rt: &impl Abort, alloc: Global, bytes: &[u8]) -> IndexFile {
+    opened(rt, alloc, bytes).expect(rt, "a file")
 }
 
 /// The refusal's number and place; 0 at the number of documents for a file that is accepted.
@@ -71,6 +74,11 @@ fn weighed<L: Ledger>(file: &IndexFile, blank: Blank) -> Option<u32>
         sum = sum.wrapping_add(weight_of_term(file, t, &mut steps)?);
     }
     Some(sum)
+}
+
+/// The same with a fresh ledger.
+fn weight(file: &IndexFile) -> Option<u32> {
+    weighed::<Brand>(file, Blank::new(1))
 }
 
 fn weight_of_term<L: Ledger>(file: &IndexFile, t: u32, steps: &mut Steps<L>) -> Option<u32> {
@@ -133,37 +141,47 @@ fn has_names(file: &IndexFile) -> bool {
     Names::docs(file) == 3 && Names::name(file, 2) == "d2"
 }
 
-#[test]
-fn a_file_is_seen(rt: HostRuntime) {
-    let Ok(file) = opened(rt.alloc(), &FILE) else {
-        panic!(&rt; "refused");
-    };
-    assert!(&rt; file.totals() == TOTALS);
-    assert!(&rt; file.codecs() == CODECS);
-    assert!(&rt; weighed::<Brand>(&file, Blank::new(1)) == Some(22));
-    check_found(&rt, &file, &FOUND);
-    assert!(&rt; has_term(&file));
-    assert!(&rt; has_names(&file));
+fn check_seen(rt: &impl Abort, alloc: Global) {
+    let file = accepted(rt, alloc, &FILE);
+    check_parts(rt, &file);
+    check_found(rt, &file, &FOUND);
 }
 
-/// Whether the first segment of the term is a bitmap, and it alone.
-fn has_bits(file: &IndexFile) -> bool {
-    file.terms() == 1
-        && file.segments(0) == 3
-        && file.bits(0, 0) == Some([1u8].as_slice())
-        && file.bits(0, 1) == None
-        && file.bits(0, 2) == None
+fn check_parts(rt: &impl Abort, file: &IndexFile) {
+    assert!(rt; file.totals() == TOTALS);
+    assert!(rt; file.codecs() == CODECS);
+    assert!(rt; weight(file) == Some(22));
+    assert!(rt; has_term(file));
+    assert!(rt; has_names(file));
+}
+
+#[test]
+fn a_file_is_seen(rt: HostRuntime) {
+    check_seen(&rt, rt.alloc());
+}
+
+/// The segments of the term, each with its bits: the first alone is a bitmap.
+const BITS: [(u32, Option<&[u8]>); 3] = [(0, Some(&[1])), (1, None), (2, None)];
+
+/// The file, where the first segment of the term is a bitmap.
+fn check_bitmap(rt: &impl Abort, alloc: Global) {
+    let mut bytes = changed(73, 2);
+    bytes[100] = 1;
+    let file = accepted(rt, alloc, &bytes);
+    assert!(rt; file.codecs().bitmap == 1);
+    check_bits(rt, &file, &BITS);
+}
+
+fn check_bits(rt: &impl Abort, file: &IndexFile, rows: &[(u32, Option<&[u8]>)]) {
+    for (segment, bits) in rows {
+        assert!(rt; file.terms() == 1 && file.segments(0) == 3 && *segment < 3);
+        assert!(rt; file.bits(0, *segment) == *bits);
+    }
 }
 
 #[test]
 fn bits_are_given_of_a_bitmap_alone(rt: HostRuntime) {
-    let mut bytes = changed(73, 2);
-    bytes[100] = 1;
-    let Ok(file) = opened(rt.alloc(), &bytes) else {
-        panic!(&rt; "refused");
-    };
-    assert!(&rt; file.codecs().bitmap == 1);
-    assert!(&rt; has_bits(&file));
+    check_bitmap(&rt, rt.alloc());
 }
 
 /// A place and its new byte, and the answer for the file then.
@@ -175,17 +193,11 @@ const CHANGED: [(usize, u8, u32, u64); 5] = [
     (102, 2, 0, 3),
 ];
 
-/// The answer for the file with one byte changed; None where the place is behind its end.
-fn answer_changed(alloc: Global, place: usize, byte: u8) -> Option<(u32, u64)> {
-    if place >= 103 {
-        return None;
-    }
-    Some(answer_by_name(alloc, &changed(place, byte)))
-}
-
 fn check_changed(rt: &impl Abort, alloc: Global, rows: &[(usize, u8, u32, u64)]) {
     for (place, byte, number, at) in rows {
-        assert!(rt; answer_changed(alloc, *place, *byte) == Some((*number, *at)));
+        assert!(rt; *place < 103);
+        let (found, there) = answer_by_name(rt, alloc, &changed(*place, *byte));
+        assert!(rt; found == *number && there == *at);
     }
 }
 
@@ -193,47 +205,51 @@ fn check_changed(rt: &impl Abort, alloc: Global, rows: &[(usize, u8, u32, u64)])
 fn changed_files_are_refused(rt: HostRuntime) {
     let alloc = rt.alloc();
     check_changed(&rt, alloc, &CHANGED);
-    assert!(&rt; answer(opened(alloc, &FILE[..102])) == (41, 8));
+    assert!(&rt; answer(opened(&rt, alloc, &FILE[..102])) == (41, 8));
 }
 
 /// The file of one document, whose name has 1 MiB and so many bytes more, and of no term.
-fn named(alloc: Global, more: u8) -> Result<Row<u8>, NoMemory> {
-    let size = 1_048_576 + u32::from(more);
+fn named(rt: &impl Abort, alloc: Global, more: u8) -> Row<u8> {
+    let mut row = Row::new(alloc);
+    row.extend(&front_of_named(1_048_576 + u32::from(more)))
+        .expect(rt, "memory");
+    for _ in 0..256 {
+        row.extend(&[b'n'; 4096]).expect(rt, "memory");
+    }
+    row.extend(&[b'n'; 256][..more as usize])
+        .expect(rt, "memory");
+    row
+}
+
+/// What stands before a name of so many bytes.
+fn front_of_named(size: u32) -> [u8; 44]
+    requires { size < 2_000_000 }
+{
     let mut front = [0u8; 44];
     front[..8].copy_from_slice(b"JASSIDX2");
     front[8..12].copy_from_slice(&(44 + size).to_le_bytes());
     front[16] = 1;
     front[40..].copy_from_slice(&size.to_le_bytes());
-    let mut row = Row::new(alloc);
-    row.extend(&front)?;
-    for _ in 0..256 {
-        row.extend(&[b'n'; 4096])?;
-    }
-    row.extend(&[b'n'; 256][..more as usize])?;
-    Ok(row)
+    front
 }
 
-/// The answer for such a file; None where it finds no room.
-fn answer_named(alloc: Global, more: u8) -> Option<(u32, u64)> {
-    let bytes = named(alloc, more).ok()?;
-    Some(answer(IndexFile::from_bytes(alloc, bytes)))
+/// The answer for such a file.
+fn answer_named(rt: &impl Abort, alloc: Global, more: u8) -> (u32, u64) {
+    answer(IndexFile::from_bytes(alloc, named(rt, alloc, more)))
 }
 
 #[test]
 fn a_name_has_a_mebibyte_at_the_most(rt: HostRuntime) {
     let alloc = rt.alloc();
-    assert!(&rt; answer_named(alloc, 0) == Some((0, 1)));
-    assert!(&rt; answer_named(alloc, 1) == Some((42, 40)));
+    assert!(&rt; answer_named(&rt, alloc, 0) == (0, 1));
+    assert!(&rt; answer_named(&rt, alloc, 1) == (42, 40));
 }
 
 /// The answer for bytes that are kept in a cabinet, where opening the file and checking it by pieces
 /// answer the same.
-fn answer_by_name(alloc: Global, bytes: &[u8]) -> (u32, u64) {
+fn answer_by_name(rt: &impl Abort, alloc: Global, bytes: &[u8]) -> (u32, u64) {
     let mut files = MemCabinet::new(alloc, Row::new(alloc), Row::new(alloc));
-    match files.store("i.jass", bytes) {
-        Ok(()) => {}
-        Err(_) => return (2, 0),
-    }
+    files.store("i.jass", bytes).expect(rt, "memory");
     let opened = answer(open(alloc, &mut files, "i.jass"));
     let checked = match check_file(alloc, &mut files, "i.jass") {
         Ok(totals) => (0, u64::from(totals.docs)),
@@ -266,16 +282,23 @@ fn place_of_cut(count: usize) -> u64 {
     }
 }
 
-#[test]
-fn cut_files_are_refused_where_a_part_does_not_fit(rt: HostRuntime) {
-    let alloc = rt.alloc();
+fn check_cuts(rt: &impl Abort, alloc: Global) {
     for count in 0..104 {
-        assert!(&rt; answer_by_name(alloc, &FILE[..count]) == answer_of_cut(count));
+        assert!(rt; answer_by_name(rt, alloc, &FILE[..count]) == answer_of_cut(count));
     }
+}
+
+fn check_counted_cuts(rt: &impl Abort, alloc: Global) {
     for count in 8..103 {
         let counted = changed(8, count as u8);
-        assert!(&rt; answer_by_name(alloc, &counted[..count]) == (41, place_of_cut(count)));
+        assert!(rt; answer_by_name(rt, alloc, &counted[..count]) == (41, place_of_cut(count)));
     }
+}
+
+#[test]
+fn cut_files_are_refused_where_a_part_does_not_fit(rt: HostRuntime) {
+    check_cuts(&rt, rt.alloc());
+    check_counted_cuts(&rt, rt.alloc());
 }
 
 #[test]

@@ -1,26 +1,31 @@
 // The bytes of small indexes, and files that can't be written.
 
-ghost use Rattle.std.specs.Prelude.{◌≡◌, ℕ, ◌<◌, ◌≤◌, [], ◌∷◌, length, map, max, All, AllPairs, IfOk};
+ghost use Rattle.std.specs.Prelude.{◌≡◌, length, map, All, AllPairs, IfOk};
 ghost use Rattle.jass_base.specs.Gaps.{AreDocs};
-ghost use Rattle.jass_base.specs.Limits.{IsName, IsText};
 ghost use Rattle.jass_base.specs.declared.segment.Segment.{Segment};
-ghost use Rattle.index_write.specs.Streaming.{AreEntries, AreNames, entry_data};
-ghost use Rattle.jass_base.specs.Segments.{FallsTo, SharesNoDocument, HasDocumentsBelow};
-ghost use Rattle.jass_base.specs.Terms.{RisesTo, HasTermBelow, greatest_of, greatest_impact};
+ghost use Rattle.index_write.specs.Streaming.{AreEntries, entry_data};
+ghost use Rattle.jass_base.specs.Segments.{SharesNoDocument};
 
-use ciff_read::read_collection;
-use impact_segments::build;
+use crate::impacts::{indexed, one_document, segments, three};
 use index_write::{
     Blocks, IndexWriter, PayloadHead, SaveFault, SpelledNames, SpelledTerms, TermFault, TermHeads,
     index_bytes, payload_heads, totals, write_index, write_parts,
 };
-use jass_base::{
-    Cabinet, ImpactIndex, MemCabinet, NoMemory, Row, Segment, TermSegments, Text, Totals,
-};
+use jass_base::{Cabinet, ImpactIndex, MemCabinet, Row, Segment, Text, Totals};
 use segment_codecs::Codec;
 use std::alloc::Global;
 use std::process::Abort;
 use weights::{Bits, Rule};
+
+/// The collection of the small file: three documents; `a`: (0,9), (1,5), (2,1).
+const SMALL_LISTS: &[u8] = b"\x04\x10\x01\x18\x03\
+    \x13\x0a\x01a\x22\x02\x10\x09\x22\x04\x08\x01\x10\x05\x22\x04\x08\x01\x10\x01\
+    \x04\x12\x02d0\x06\x08\x01\x12\x02d1\x06\x08\x02\x12\x02d2";
+
+/// The collection of the terms `car` and `cat`, each once in the first of three documents.
+const CAR_CAT_LISTS: &[u8] = b"\x04\x10\x02\x18\x03\
+    \x09\x0a\x03car\x22\x02\x10\x01\x09\x0a\x03cat\x22\x02\x10\x01\
+    \x04\x12\x02d0\x06\x08\x01\x12\x02d1\x06\x08\x02\x12\x02d2";
 
 /// Three documents with the term `a` at the impacts 9, 5 and 1.
 const SMALL: [u8; 103] = [
@@ -79,17 +84,31 @@ const HEADS: [PayloadHead; 3] = [
     },
 ];
 
+/// A collection, and how its index is spelled from a place on.
+type Spelled<'a> = (&'a [u8], usize, &'a [u8]);
+
+const SPELLED: [Spelled<'static>; 3] = [
+    (SMALL_LISTS, 0, &SMALL),
+    (CAR_CAT_LISTS, 58, &CAR_CAT),
+    (b"\x00", 0, &NO_DOCUMENTS),
+];
+
+fn check_spelled(rt: &impl Abort, alloc: Global, rows: &[Spelled<'_>]) {
+    for (lists, from, wanted) in rows {
+        let index = indexed(rt, alloc, lists, Rule::Tf, Bits::Raw);
+        assert!(rt; is_spelled(rt, alloc, &index, *from, wanted));
+    }
+}
+
 #[test]
 fn small_files_are_spelled(rt: HostRuntime) {
-    let alloc = rt.alloc();
-    assert!(&rt; is_made(alloc, small(alloc), 0, &SMALL));
-    assert!(&rt; is_made(alloc, car_and_cat(alloc), 58, &CAR_CAT));
-    assert!(&rt; is_spelled(alloc, &no_documents(alloc), 0, &NO_DOCUMENTS));
+    check_spelled(&rt, rt.alloc(), &SPELLED);
 }
 
 #[test]
 fn totals_are_counted(rt: HostRuntime) {
-    assert!(&rt; totals_of_two(rt.alloc()) == Some(TOTALS_OF_TWO));
+    let index = indexed(&rt, rt.alloc(), CAR_CAT_LISTS, Rule::Tf, Bits::Raw);
+    assert!(&rt; totals(&index) == TOTALS_OF_TWO);
 }
 
 /// Which writes fail, what is answered then, and how much of the small file is left; None where the
@@ -102,20 +121,30 @@ const SAVED: [Saved<'static>; 3] = [
     (&[1], Err(SaveFault::WriteFault), Some(0)),
 ];
 
-fn check_saved(rt: &impl Abort, alloc: Global, rows: &[Saved<'_>]) {
+fn check_saved(rt: &impl Abort, alloc: Global, index: &ImpactIndex, rows: &[Saved<'_>]) {
     for (bad, answer, left) in rows {
-        assert!(rt; is_true(leaves(alloc, bad, *answer, *left)));
+        let mut files = older(rt, alloc, bad);
+        let written = write_index(alloc, index, &mut files, "i");
+        assert!(rt; written == *answer && is_left(&files, *left));
     }
 }
 
 #[test]
 fn files_are_written_or_left(rt: HostRuntime) {
-    check_saved(&rt, rt.alloc(), &SAVED);
+    let index = indexed(&rt, rt.alloc(), SMALL_LISTS, Rule::Tf, Bits::Raw);
+    check_saved(&rt, rt.alloc(), &index, &SAVED);
 }
 
 #[test]
 fn heads_are_made(rt: HostRuntime) {
-    assert!(&rt; is_true(has_heads(rt.alloc())));
+    check_heads(&rt, rt.alloc());
+}
+
+/// The heads of the segments of the term `a`.
+fn check_heads(rt: &impl Abort, alloc: Global) {
+    let segments = segments(rt, alloc, three(rt, alloc, 9));
+    let heads = payload_heads(alloc, segments.as_slice(), 3).expect(rt, "heads");
+    assert!(rt; heads.as_slice() == HEADS.as_slice());
 }
 
 /// The same for a file that is written term by term.
@@ -130,7 +159,10 @@ const STREAMED: [Streamed<'static>; 4] = [
 
 fn check_streamed(rt: &impl Abort, alloc: Global, rows: &[Streamed<'_>]) {
     for (bad, answer, left) in rows {
-        assert!(rt; is_true(streams(alloc, bad, *answer, *left)));
+        let segments = segments(rt, alloc, three(rt, alloc, 9));
+        let mut files = older(rt, alloc, bad);
+        let written = streamed(rt, alloc, &segments, &mut files);
+        assert!(rt; written == *answer && is_left(&files, *left));
     }
 }
 
@@ -151,7 +183,9 @@ const JOINED: [Joined<'static>; 4] = [
 
 fn check_joined(rt: &impl Abort, alloc: Global, rows: &[Joined<'_>]) {
     for (bad, answer, left) in rows {
-        assert!(rt; is_true(joins_parts(alloc, bad, *answer, *left)));
+        let mut files = older(rt, alloc, bad);
+        let written = joined(rt, alloc, &mut files);
+        assert!(rt; written == *answer && is_left(&files, *left));
     }
 }
 
@@ -160,7 +194,8 @@ fn files_are_written_of_spelled_parts(rt: HostRuntime) {
     check_joined(&rt, rt.alloc(), &JOINED);
 }
 
-/// Which writes fail, whether that is answered, and how many bytes the file is left with.
+/// Which writes fail, whether that is answered, and how many bytes the file is left with: a file of
+/// two names, of which one finds no room and the other is short, and of no term.
 type Put<'a> = (&'a [u64], bool, usize);
 
 const PUT: [Put<'static>; 5] = [
@@ -173,8 +208,16 @@ const PUT: [Put<'static>; 5] = [
 
 fn check_put(rt: &impl Abort, alloc: Global, rows: &[Put<'_>]) {
     for (bad, failed, len) in rows {
-        assert!(rt; is_true(puts_names(alloc, bad, *failed, *len)));
+        let mut files = older(rt, alloc, bad);
+        assert!(rt; fails_to_put(rt, alloc, &mut files) == *failed);
+        assert!(rt; length_left(&files) == Some(*len));
     }
+}
+
+/// Whether a file of the two names can't be begun: all that stands before its payloads isn't written.
+fn fails_to_put(rt: &impl Abort, alloc: Global, files: &mut MemCabinet) -> bool {
+    let ImpactIndex { names, .. } = long_and_short(rt, alloc);
+    IndexWriter::new(alloc, names, Row::new(alloc), files, "i").is_err()
 }
 
 #[test]
@@ -184,52 +227,37 @@ fn long_texts_go_through(rt: HostRuntime) {
 
 #[test]
 fn other_segments_are_refused(rt: HostRuntime) {
-    let wanted = Err(TermFault::Changed { kept: 3, found: 1 });
-    assert!(&rt; is_true(refuses_one_segment(rt.alloc(), wanted)));
+    check_one_segment(&rt, rt.alloc());
 }
 
-/// Whether the answer is there, and is yes.
-fn is_true(answer: Result<bool, NoMemory>) -> bool {
-    matches!(answer, Ok(true))
-}
-
-/// Whether the index was made, and is spelled so.
-fn is_made(
-    alloc: Global,
-    index: Result<ImpactIndex, NoMemory>,
-    from: usize,
-    wanted: &[u8],
-) -> bool {
-    match index {
-        Ok(index) => is_spelled(alloc, &index, from, wanted),
-        Err(_) => false,
-    }
-}
-
-fn totals_of_two(alloc: Global) -> Option<Totals> {
-    let index = car_and_cat(alloc).ok()?;
-    Some(totals(&index))
+/// One segment on three heads is refused, and the file left with its front.
+fn check_one_segment(rt: &impl Abort, alloc: Global) {
+    let segments = segments(rt, alloc, one_document(rt, alloc));
+    let mut files = MemCabinet::new(alloc, Row::new(alloc), Row::new(alloc));
+    let written = streamed(rt, alloc, &segments, &mut files);
+    assert!(rt; written == Err(TermFault::Changed { kept: 3, found: 1 }));
+    assert!(rt; is_left(&files, Some(100)));
 }
 
 /// Whether the bytes of an index, from a place on, are these.
-fn is_spelled(alloc: Global, index: &ImpactIndex, from: usize, wanted: &[u8]) -> bool {
-    match index_bytes(alloc, index) {
-        Ok(bytes) => {
-            bytes.as_slice().ends_with(wanted)
-                && from <= bytes.len()
-                && bytes.len() - from == wanted.len()
-        }
-        Err(_) => false,
-    }
+fn is_spelled(
+    rt: &impl Abort,
+    alloc: Global,
+    index: &ImpactIndex,
+    from: usize,
+    wanted: &[u8],
+) -> bool {
+    let bytes = index_bytes(alloc, index).expect(rt, "bytes");
+    from <= bytes.len() && &bytes.as_slice()[from..] == wanted
 }
 
 /// A cabinet with an older file, where these writes fail.
-fn older(alloc: Global, bad: &[u64]) -> Result<MemCabinet, NoMemory> {
+fn older(rt: &impl Abort, alloc: Global, bad: &[u64]) -> MemCabinet {
     let mut bad_writes = Row::new(alloc);
-    bad_writes.extend(bad)?;
+    bad_writes.extend(bad).expect(rt, "memory");
     let mut files = MemCabinet::new(alloc, Row::new(alloc), bad_writes);
-    files.store("i", b"old")?;
-    Ok(files)
+    files.store("i", b"old").expect(rt, "memory");
+    files
 }
 
 /// Whether so much of the small file is left, or the older one.
@@ -241,144 +269,83 @@ fn is_left(files: &MemCabinet, left: Option<usize>) -> bool {
     }
 }
 
-/// Whether a file that is written over an older one is answered and left so, where these calls fail.
-fn leaves(
-    alloc: Global,
-    bad: &[u64],
-    answer: Result<(), SaveFault>,
-    left: Option<usize>,
-) -> Result<bool, NoMemory> {
-    let index = small(alloc)?;
-    let mut files = older(alloc, bad)?;
-    let written = write_index(alloc, &index, &mut files, "i");
-    Ok(written == answer && is_left(&files, left))
-}
-
-/// The same for a file that is written term by term, with the totals at its end.
-fn streams(
-    alloc: Global,
-    bad: &[u64],
-    answer: Result<Totals, TermFault>,
-    left: Option<usize>,
-) -> Result<bool, NoMemory> {
-    let mut files = older(alloc, bad)?;
-    let segments = falling(alloc)?;
-    let written = streamed(alloc, segments.as_slice(), &mut files);
-    Ok(written == answer && is_left(&files, left))
-}
-
-/// The same for a file of the three names, the term `a` and its payloads.
-fn joins_parts(
-    alloc: Global,
-    bad: &[u64],
-    answer: Result<Totals, SaveFault>,
-    left: Option<usize>,
-) -> Result<bool, NoMemory> {
-    let mut files = older(alloc, bad)?;
-    let written = joined(alloc, &mut files)?;
-    Ok(written == answer && is_left(&files, left))
-}
-
-/// What writing the parts answers.
-fn joined(alloc: Global, files: &mut MemCabinet) -> Result<Result<Totals, SaveFault>, NoMemory> {
-    let names = spelled_names(alloc)?;
-    let terms = spelled_terms(alloc)?;
-    let payloads = one_block(alloc)?;
-    Ok(write_parts(alloc, &names, &terms, &payloads, files, "i"))
+/// What writing the three names, the term `a` and its payloads answers.
+fn joined(rt: &impl Abort, alloc: Global, files: &mut MemCabinet) -> Result<Totals, SaveFault> {
+    let names = spelled_names(rt, alloc);
+    let terms = spelled_terms(rt, alloc);
+    let payloads = one_block(rt, alloc);
+    write_parts(alloc, &names, &terms, &payloads, files, "i")
 }
 
 /// The term `a` with its heads.
-fn spelled_terms(alloc: Global) -> Result<SpelledTerms, NoMemory> {
+fn spelled_terms(rt: &impl Abort, alloc: Global) -> SpelledTerms {
     let mut terms = SpelledTerms::new(alloc);
-    terms.push("a", &HEADS)?;
-    Ok(terms)
+    terms.push("a", &HEADS).expect(rt, "memory");
+    terms
 }
 
 /// The payloads of the term `a`.
-fn one_block(alloc: Global) -> Result<Blocks, NoMemory> {
+fn one_block(rt: &impl Abort, alloc: Global) -> Blocks {
     let mut block = Row::new(alloc);
-    block.extend(&SMALL[100..])?;
+    block.extend(&SMALL[100..]).expect(rt, "memory");
     let mut payloads = Blocks::new(alloc);
-    payloads.push_full(alloc, &mut block)?;
-    payloads.push(block)?;
-    Ok(payloads)
+    payloads.push_full(alloc, &mut block).expect(rt, "memory");
+    payloads.push(block).expect(rt, "memory");
+    payloads
 }
 
 /// The three names.
-fn spelled_names(alloc: Global) -> Result<SpelledNames, NoMemory> {
+fn spelled_names(rt: &impl Abort, alloc: Global) -> SpelledNames {
     let mut names = SpelledNames::with_room(alloc, 18);
-    names.push("d0")?;
-    names.push("d1")?;
-    names.push("d2")?;
-    Ok(names)
-}
-
-/// Whether one segment on three heads is answered so, and the file left with its front.
-fn refuses_one_segment(alloc: Global, answer: Result<Totals, TermFault>) -> Result<bool, NoMemory> {
-    let mut files = MemCabinet::new(alloc, Row::new(alloc), Row::new(alloc));
-    let segments = one(alloc)?;
-    let written = streamed(alloc, segments.as_slice(), &mut files);
-    Ok(written == answer && is_left(&files, Some(100)))
+    names.push("d0").expect(rt, "memory");
+    names.push("d1").expect(rt, "memory");
+    names.push("d2").expect(rt, "memory");
+    names
 }
 
 /// Writes the file of the three names and the term `a` with the heads at 9, 5 and 1.
 fn streamed(
+    rt: &impl Abort,
     alloc: Global,
-    segments: &[Segment],
+    segments: &Row<Segment>,
     files: &mut MemCabinet,
 ) -> Result<Totals, TermFault>
     requires docs { All (λ (s : Segment). AreDocs 3 s.docs) segments.now }
     requires once { AllPairs SharesNoDocument segments.now }
 {
-    let writer = match begun(alloc, files) {
-        Ok(writer) => writer,
-        Err(SaveFault::WriteFault) => return Err(TermFault::WriteFault),
-        Err(_) => return Err(TermFault::NoMemory),
-    };
-    let writer = writer.term(segments, files)?;
-    Ok(writer.finish())
-}
-
-/// Writes what stands before the payloads.
-fn begun(alloc: Global, files: &mut MemCabinet) -> Result<IndexWriter, SaveFault>
-    ensures docs { IfOk result (λ writer. writer.docs ≡ 3) }
-    ensures left { IfOk result (λ writer. writer.left ≡ 1) }
-{
-    match kept(alloc) {
-        Ok((names, terms)) => IndexWriter::new(alloc, names, terms, files, "i"),
-        Err(_) => Err(SaveFault::NoMemory),
+    match begun(rt, alloc, files) {
+        Ok(writer) => {
+            let writer = writer.term(segments.as_slice(), files)?;
+            Ok(writer.finish())
+        }
+        Err(SaveFault::WriteFault) => Err(TermFault::WriteFault),
+        Err(_) => Err(TermFault::NoMemory),
     }
 }
 
-/// The three names, and the term `a` with its heads.
-fn kept(alloc: Global) -> Result<(Row<Text>, Row<TermHeads>), NoMemory>
-    ensures names { IfOk result (λ x. AreNames x.0) }
-    ensures docs { IfOk result (λ x. length x.0 ≡ 3) }
-    ensures terms { IfOk result (λ x. AreEntries (map entry_data x.1)) }
-    ensures count { IfOk result (λ x. length x.1 ≡ 1) }
+/// Writes what stands before the payloads.
+fn begun(rt: &impl Abort, alloc: Global, files: &mut MemCabinet) -> Result<IndexWriter, SaveFault>
+    ensures docs { IfOk result (λ writer. writer.docs ≡ 3) }
+    ensures left { IfOk result (λ writer. writer.left ≡ 1) }
 {
-    let names = names(alloc)?;
-    let terms = kept_terms(alloc)?;
-    Ok((names, terms))
+    let ImpactIndex { names, .. } = indexed(rt, alloc, SMALL_LISTS, Rule::Tf, Bits::Raw);
+    assert!(rt; names.len() == 3);
+    IndexWriter::new(alloc, names, kept_terms(rt, alloc), files, "i")
 }
 
-fn kept_terms(alloc: Global) -> Result<Row<TermHeads>, NoMemory>
-    ensures terms { IfOk result (λ terms. AreEntries (map entry_data terms)) }
-    ensures count { IfOk result (λ terms. length terms ≡ 1) }
+/// The term `a` with its heads.
+fn kept_terms(rt: &impl Abort, alloc: Global) -> Row<TermHeads>
+    ensures terms { AreEntries (map entry_data result) }
+    ensures count { length result ≡ 1 }
 {
-    let term = Text::from_str(alloc, "a")?;
+    let term = Text::from_str(alloc, "a").expect(rt, "memory");
     let mut heads = Row::new(alloc);
-    heads.extend(&[head(9), head(5), head(1)])?;
+    heads
+        .extend(&[head(9), head(5), head(1)])
+        .expect(rt, "memory");
     let mut terms = Row::new(alloc);
-    terms.push(TermHeads { term, heads })?;
-    Ok(terms)
-}
-
-/// Whether the heads of the segments of the term `a` are these.
-fn has_heads(alloc: Global) -> Result<bool, NoMemory> {
-    let segments = falling(alloc)?;
-    let heads = payload_heads(alloc, segments.as_slice(), 3)?;
-    Ok(heads.as_slice() == HEADS.as_slice())
+    terms.push(TermHeads { term, heads }).expect(rt, "memory");
+    terms
 }
 
 /// The head of a segment of one document below 128.
@@ -395,158 +362,18 @@ fn head(impact: u16) -> PayloadHead
     }
 }
 
-/// Whether a file of two names, of which one finds no room and the other is short, and of no term is
-/// left with so many bytes, where these calls fail.
-fn puts_names(alloc: Global, bad: &[u64], failed: bool, len: usize) -> Result<bool, NoMemory> {
-    let mut files = older(alloc, bad)?;
-    let ImpactIndex { names, .. } = long_and_short(alloc)?;
-    let written = IndexWriter::new(alloc, names, Row::new(alloc), &mut files, "i");
-    Ok(written.is_err() == failed && length_left(&files) == Some(len))
-}
-
 fn length_left(files: &MemCabinet) -> Option<usize> {
     let content = files.content("i")?;
     Some(content.len())
 }
 
 /// Two documents, whose names have 70,000 bytes and two.
-fn long_and_short(alloc: Global) -> Result<ImpactIndex, NoMemory> {
+fn long_and_short(rt: &impl Abort, alloc: Global) -> ImpactIndex {
     let mut bytes = Row::new(alloc);
-    bytes.extend(b"\x02\x18\x02\xf4\xa2\x04\x12\xf0\xa2\x04")?;
-    bytes.extend(&[b'x'; 70_000])?;
-    bytes.extend(b"\x06\x08\x01\x12\x02ab")?;
-    match read_collection(alloc, bytes.as_slice()) {
-        Ok(collection) => build(alloc, &collection, Rule::Tf, Bits::Raw),
-        Err(_) => Err(NoMemory),
-    }
-}
-
-fn no_documents(alloc: Global) -> ImpactIndex {
-    ImpactIndex {
-        names: Row::new(alloc),
-        terms: Row::new(alloc),
-        greatest: 0,
-    }
-}
-
-fn small(alloc: Global) -> Result<ImpactIndex, NoMemory> {
-    let names = names(alloc)?;
-    let a = term(alloc, "a", falling(alloc)?)?;
-    let mut terms = Row::new(alloc);
-    terms.push(a)?;
-    Ok(ImpactIndex {
-        names,
-        terms,
-        greatest: 9,
-    })
-}
-
-fn car_and_cat(alloc: Global) -> Result<ImpactIndex, NoMemory> {
-    let names = names(alloc)?;
-    let car = term(alloc, "car", one(alloc)?)?;
-    let cat = term(alloc, "cat", one(alloc)?)?;
-    let terms = both(alloc, car, cat)?;
-    Ok(ImpactIndex {
-        names,
-        terms,
-        greatest: 1,
-    })
-}
-
-/// Two terms that rise.
-fn both(
-    alloc: Global,
-    first: TermSegments,
-    second: TermSegments,
-) -> Result<Row<TermSegments>, NoMemory>
-    requires { RisesTo first second }
-    ensures count { IfOk result (λ terms. length terms ≡ 2) }
-    ensures rising { IfOk result (AllPairs RisesTo) }
-    ensures below { (d : ℕ) → HasTermBelow d first → HasTermBelow d second → IfOk result (All (HasTermBelow d)) }
-    ensures greatest { IfOk result (λ terms. greatest_impact terms
-        ≡ max (greatest_of first.segments) (greatest_of second.segments)) }
-{
-    let mut terms = Row::new(alloc);
-    terms.push(first)?;
-    terms.push(second)?;
-    Ok(terms)
-}
-
-fn names(alloc: Global) -> Result<Row<Text>, NoMemory>
-    ensures count { IfOk result (λ names. length names ≡ 3) }
-    ensures names { IfOk result (All IsName) }
-    ensures texts { IfOk result (All IsText) }
-{
-    let mut names = Row::new(alloc);
-    names.push(name(alloc, "d0")?)?;
-    names.push(name(alloc, "d1")?)?;
-    names.push(name(alloc, "d2")?)?;
-    Ok(names)
-}
-
-fn name(alloc: Global, name: &str) -> Result<Text, NoMemory>
-    requires { IsName name.now }
-    ensures name { IfOk result IsName }
-    ensures text { IfOk result IsText }
-{
-    Text::from_str(alloc, name)
-}
-
-fn term(alloc: Global, bytes: &str, segments: Row<Segment>) -> Result<TermSegments, NoMemory>
-    requires fits { length bytes.now ≤ 65535 }
-    requires some { 1 ≤ length segments }
-    requires falling { AllPairs FallsTo segments }
-    requires once { AllPairs SharesNoDocument segments }
-    ensures term { IfOk result (λ term. term.term ≡ bytes.now) }
-    ensures segments { IfOk result (λ term. term.segments ≡ segments) }
-{
-    let term = Text::from_str(alloc, bytes)?;
-    Ok(TermSegments { term, segments })
-}
-
-/// A segment of one document.
-fn segment(alloc: Global, impact: u16, doc: u32) -> Result<Segment, NoMemory>
-    requires { 1 ≤ impact }
-    ensures impact { IfOk result (λ segment. segment.impact ≡ impact) }
-    ensures docs { IfOk result (λ segment. segment.docs ≡ doc ∷ []) }
-    ensures are { doc < 3 → IfOk result (λ (segment : Segment). AreDocs 3 segment.docs) }
-{
-    let docs = one_doc(alloc, doc)?;
-    Ok(Segment { impact, docs })
-}
-
-fn one_doc(alloc: Global, doc: u32) -> Result<Row<u32>, NoMemory>
-    ensures { IfOk result (λ docs. docs ≡ doc ∷ []) }
-{
-    let mut docs = Row::new(alloc);
-    docs.push(doc)?;
-    Ok(docs)
-}
-
-fn one(alloc: Global) -> Result<Row<Segment>, NoMemory>
-    ensures count { IfOk result (λ segments. length segments ≡ 1) }
-    ensures below { IfOk result (All (HasDocumentsBelow 3)) }
-    ensures docs { IfOk result (All (λ (s : Segment). AreDocs 3 s.docs)) }
-    ensures once { IfOk result (AllPairs SharesNoDocument) }
-    ensures greatest { IfOk result (λ segments. greatest_of segments ≡ 1) }
-{
-    let first = segment(alloc, 1, 0)?;
-    let mut segments = Row::new(alloc);
-    segments.push(first)?;
-    Ok(segments)
-}
-
-fn falling(alloc: Global) -> Result<Row<Segment>, NoMemory>
-    ensures some { IfOk result (λ segments. 1 ≤ length segments) }
-    ensures falling { IfOk result (AllPairs FallsTo) }
-    ensures once { IfOk result (AllPairs SharesNoDocument) }
-    ensures below { IfOk result (All (HasDocumentsBelow 3)) }
-    ensures docs { IfOk result (All (λ (s : Segment). AreDocs 3 s.docs)) }
-    ensures greatest { IfOk result (λ segments. greatest_of segments ≡ 9) }
-{
-    let mut segments = Row::new(alloc);
-    segments.push(segment(alloc, 9, 0)?)?;
-    segments.push(segment(alloc, 5, 1)?)?;
-    segments.push(segment(alloc, 1, 2)?)?;
-    Ok(segments)
+    bytes
+        .extend(b"\x02\x18\x02\xf4\xa2\x04\x12\xf0\xa2\x04")
+        .expect(rt, "memory");
+    bytes.extend(&[b'x'; 70_000]).expect(rt, "memory");
+    bytes.extend(b"\x06\x08\x01\x12\x02ab").expect(rt, "memory");
+    indexed(rt, alloc, bytes.as_slice(), Rule::Tf, Bits::Raw)
 }

@@ -12,7 +12,7 @@ mod trials;
 
 use jass_base::{Feed, MemCabinet, MemSink, Row, SliceFeed, Steps};
 use jass_top::run;
-use std::alloc::{AllocError, Global};
+use std::alloc::Global;
 use std::marker::Brand;
 use std::process::Abort;
 use std::sync::ledger::{Blank, Ledger};
@@ -94,14 +94,19 @@ documents: README.md, docs/\n\
 type Changed<'a> = (&'a [u8], usize, &'a [(usize, u8)]);
 
 /// The file, cut to the length or filled up to it by zeros, with those bytes in place of its own.
-fn changed(alloc: Global, change: Changed<'_>) -> Result<Vec<u8>, AllocError> {
+fn changed(rt: &impl Abort, alloc: Global, change: Changed<'_>) -> Vec<u8> {
     let (file, length, others) = change;
-    let mut bytes = vec![in alloc; 0; length]?;
+    let mut bytes = vec![in alloc; 0; length].expect(rt, "no memory");
     for (to, from) in bytes.iter_mut().zip(file) {
         *to = *from;
     }
     set_bytes(bytes.as_mut_slice(), others);
-    Ok(bytes)
+    bytes
+}
+
+/// Appends bytes.
+fn put(rt: &impl Abort, bytes: &mut Vec<u8>, more: &[u8]) {
+    bytes.extend_from_slice(more).expect(rt, "no memory");
 }
 
 /// Sets bytes at their places.
@@ -158,19 +163,19 @@ fn only(call: Call, number: u64) -> Bad {
     }
 }
 
-/// What a run left.
+/// What a run left: its status, its output and its notes.
 #[derive(Drop)]
 struct Left {
     status: u8,
-    out: Vec<u8>,
-    notes: Vec<u8>,
+    out: MemSink,
+    notes: MemSink,
 }
 
 /// A run of these words has this status, output and note.
 fn check_left(rt: &impl Abort, words: &str, left: &Left, status: u8, out: &[u8], notes: &[u8]) {
     assert_eq!(rt; left.status, status, "{words}");
-    assert!(rt; left.out.as_slice() == out, "{words}");
-    assert!(rt; left.notes.as_slice() == notes, "{words}");
+    assert!(rt; left.out.written() == out, "{words}");
+    assert!(rt; left.notes.written() == notes, "{words}");
 }
 
 /// Runs words, and gives the number of the status.
@@ -203,44 +208,26 @@ fn ended<I: Feed>(
     ended_by::<I, Brand>(alloc, Blank::new(1), words, files, input, out, notes)
 }
 
-/// An output and notes.
-#[derive(Drop)]
-struct Sinks {
-    out: MemSink,
-    notes: MemSink,
-}
-
-/// Sinks whose puts fail where named.
-fn open_sinks(alloc: Global, bad_puts: &[u64], bad_notes: &[u64]) -> Result<Sinks, AllocError> {
-    let bad_puts = listed(alloc, bad_puts)?;
-    let bad_notes = listed(alloc, bad_notes)?;
-    Ok(Sinks {
-        out: MemSink::new(alloc, bad_puts),
-        notes: MemSink::new(alloc, bad_notes),
-    })
-}
-
-/// What a run left that ended with this status.
-fn left_in(alloc: Global, status: u8, sinks: &Sinks) -> Result<Left, AllocError> {
-    let out = Vec::from_slice(alloc, sinks.out.written())?;
-    let notes = Vec::from_slice(alloc, sinks.notes.written())?;
-    Ok(Left { status, out, notes })
+/// A sink whose puts fail where named.
+fn sink_of(rt: &impl Abort, alloc: Global, bad: &[u64]) -> MemSink {
+    MemSink::new(alloc, listed(rt, alloc, bad))
 }
 
 /// Runs the words of a line over files and an input. The puts on the output and the notes fail where named.
 fn left_by<I: Feed>(
+    rt: &impl Abort,
     alloc: Global,
     words: &str,
     files: &mut MemCabinet,
     input: &mut I,
     bad_puts: &[u64],
     bad_notes: &[u64],
-) -> Result<Left, AllocError> {
-    let words = parted(alloc, words)?;
-    let mut sinks = open_sinks(alloc, bad_puts, bad_notes)?;
-    let Sinks { out, notes } = &mut sinks;
-    let status = ended(alloc, words.as_slice(), files, input, out, notes);
-    left_in(alloc, status, &sinks)
+) -> Left {
+    let words = parted(rt, alloc, words);
+    let mut out = sink_of(rt, alloc, bad_puts);
+    let mut notes = sink_of(rt, alloc, bad_notes);
+    let status = ended(alloc, words.as_slice(), files, input, &mut out, &mut notes);
+    Left { status, out, notes }
 }
 
 /// What a run left, and what a file holds then.
@@ -252,84 +239,98 @@ struct Made {
 
 /// Whether nothing was noted, and all else is as in another run.
 fn is_muted(muted: &Made, other: &Made) -> bool {
-    muted.left.notes.is_empty()
+    muted.left.notes.written().is_empty()
         && muted.left.status == other.left.status
-        && muted.left.out.as_slice() == other.left.out.as_slice()
+        && muted.left.out.written() == other.left.out.written()
         && muted.content.as_slice() == other.content.as_slice()
 }
 
 /// Runs words over files and no input, and takes the content of a file behind it. The puts on the output and the notes
 /// fail where named.
 fn made_by(
+    rt: &impl Abort,
     alloc: Global,
     words: &str,
     files: &mut MemCabinet,
     bad: Bad,
     name: &str,
-) -> Result<Made, AllocError> {
+) -> Made {
     let mut input = SliceFeed::new(b"");
-    let left = left_by(alloc, words, files, &mut input, &[bad.puts], &[bad.notes])?;
-    let content = content_of(alloc, files, name)?;
-    Ok(Made { left, content })
+    let left = left_by(
+        rt,
+        alloc,
+        words,
+        files,
+        &mut input,
+        &[bad.puts],
+        &[bad.notes],
+    );
+    let content = content_of(rt, alloc, files, name);
+    Made { left, content }
 }
 
 /// A cabinet with one file. The reads and the writes fail where named.
 fn cabinet_with(
+    rt: &impl Abort,
     alloc: Global,
     name: &str,
     content: &[u8],
     bad_reads: &[u64],
     bad_writes: &[u64],
-) -> Result<MemCabinet, AllocError> {
-    let bad_reads = listed(alloc, bad_reads)?;
-    let bad_writes = listed(alloc, bad_writes)?;
+) -> MemCabinet {
+    let bad_reads = listed(rt, alloc, bad_reads);
+    let bad_writes = listed(rt, alloc, bad_writes);
     let mut files = MemCabinet::new(alloc, bad_reads, bad_writes);
-    store(&mut files, name, content)?;
-    Ok(files)
+    store(rt, &mut files, name, content);
+    files
 }
 
 /// Puts a file into a cabinet.
-fn store(files: &mut MemCabinet, name: &str, content: &[u8]) -> Result<(), AllocError> {
-    match files.store(name, content) {
-        Ok(()) => Ok(()),
-        Err(_) => Err(AllocError),
-    }
+fn store(rt: &impl Abort, files: &mut MemCabinet, name: &str, content: &[u8]) {
+    files.store(name, content).expect(rt, "no memory");
 }
 
 /// The content of a file, where it is there.
-fn content_of(alloc: Global, files: &MemCabinet, name: &str) -> Result<Vec<u8>, AllocError> {
-    match files.content(name) {
-        Some(bytes) => Vec::from_slice(alloc, bytes),
-        None => Ok(Vec::new(alloc)),
-    }
+fn content_of(rt: &impl Abort, alloc: Global, files: &MemCabinet, name: &str) -> Vec<u8> {
+    let content = files.content(name).unwrap_or(b"");
+    Vec::from_slice(alloc, content).expect(rt, "no memory")
 }
 
 /// Runs words over a cabinet with one file, whose reads and the puts on the output and the notes fail where named.
 fn ran(
+    rt: &impl Abort,
     alloc: Global,
     ciff: &[u8],
     words: &str,
     bad_reads: &[u64],
     bad_puts: &[u64],
     bad_notes: &[u64],
-) -> Result<Left, AllocError> {
-    let mut files = cabinet_with(alloc, "b.ciff", ciff, bad_reads, &[])?;
+) -> Left {
+    let mut files = cabinet_with(rt, alloc, "b.ciff", ciff, bad_reads, &[]);
     let mut input = SliceFeed::new(b"");
-    left_by(alloc, words, &mut files, &mut input, bad_puts, bad_notes)
+    left_by(
+        rt, alloc, words, &mut files, &mut input, bad_puts, bad_notes,
+    )
 }
 
 /// The numbers as a row.
-fn listed(alloc: Global, numbers: &[u64]) -> Result<Row<u64>, AllocError> {
-    Ok(Row::from_vec(Vec::from_slice(alloc, numbers)?))
+fn listed(rt: &impl Abort, alloc: Global, numbers: &[u64]) -> Row<u64> {
+    Row::from_vec(Vec::from_slice(alloc, numbers).expect(rt, "no memory"))
+}
+
+/// Puts a word behind others.
+fn put_word(rt: &impl Abort, alloc: Global, words: &mut Vec<String>, word: &str) {
+    let word = String::from_str(alloc, word).expect(rt, "no memory");
+    words.push(word).expect(rt, "no memory");
 }
 
 /// The words between the blanks of a line.
-fn parted(alloc: Global, line: &str) -> Result<Vec<String>, AllocError> {
+fn parted(rt: &impl Abort, alloc: Global, line: &str) -> Vec<String> {
     let mut words = Vec::new(alloc);
     for word in line.split_whitespace() {
-        words.push(String::from_str(alloc, word)?)?;
+        put_word(rt, alloc, &mut words, word);
     }
-    Ok(words)
+    words
 }
 
 /// A content of `b.ciff`, words, and the output.
@@ -419,9 +420,7 @@ const ANSWERS: [Answer<'static>; 17] = [
 /// A run is done, and prints what stands beside it.
 fn check_answer(rt: &impl Abort, alloc: Global, answer: Answer<'_>) {
     let (ciff, words, out) = answer;
-    let Ok(left) = ran(alloc, ciff, words, &[], &[], &[]) else {
-        panic!(rt; "no memory")
-    };
+    let left = ran(rt, alloc, ciff, words, &[], &[], &[]);
     check_left(rt, words, &left, 0, out, b"");
 }
 
@@ -454,9 +453,7 @@ const CHANGED_ANSWERS: [(Changed<'static>, &str, &[u8]); 3] = [
 /// Each run over a changed collection ends so.
 fn check_changed_answers(rt: &impl Abort, alloc: Global, answers: &[(Changed<'_>, &str, &[u8])]) {
     for (change, words, out) in answers {
-        let Ok(ciff) = changed(alloc, *change) else {
-            panic!(rt; "no memory")
-        };
+        let ciff = changed(rt, alloc, *change);
         check_answer(rt, alloc, (ciff.as_slice(), words, out));
     }
 }
@@ -526,9 +523,7 @@ const ENDS: [End<'static>; 14] = [
 /// A run ends so, with its note alone, or with none where puts of notes fail.
 fn check_end(rt: &impl Abort, alloc: Global, end: End<'_>, bad_notes: &[u64]) {
     let (ciff, words, bad_reads, bad_puts, status, notes) = end;
-    let Ok(left) = ran(alloc, ciff, words, bad_reads, bad_puts, bad_notes) else {
-        panic!(rt; "no memory")
-    };
+    let left = ran(rt, alloc, ciff, words, bad_reads, bad_puts, bad_notes);
     let notes = if bad_notes.is_empty() { notes } else { b"" };
     check_left(rt, words, &left, status, b"", notes);
 }
@@ -573,9 +568,7 @@ const REFUSED: [(Changed<'static>, &str, &[u8]); 5] = [
 /// Each collection is refused so.
 fn check_refused(rt: &impl Abort, alloc: Global, refused: &[(Changed<'_>, &str, &[u8])]) {
     for (change, words, notes) in refused {
-        let Ok(ciff) = changed(alloc, *change) else {
-            panic!(rt; "no memory")
-        };
+        let ciff = changed(rt, alloc, *change);
         check_ends(rt, alloc, &[(ciff.as_slice(), words, &[], &[], 3, notes)]);
     }
 }

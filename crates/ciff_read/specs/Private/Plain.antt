@@ -1,5 +1,5 @@
--- Faults that no reading before takes part in.
-use Rattle.std.specs.Prelude.{⊤}
+-- What a fault says of its place, and of readings before.
+use Rattle.std.specs.Prelude.{ℕ, ◌≤◌, ⊤}
 use Rattle.ciff_read.specs.declared.refusal.CiffWhy.{CiffWhy}
 use Rattle.ciff_read.specs.declared.refusal.CiffWhy.TheVariants.{Changed}
 use Rattle.ciff_read.specs.declared.refusal.CiffFault.{CiffFault}
@@ -15,3 +15,9 @@ abbrev pub IsPlain : CiffFault → Type 0
 IsPlain (faults.Refused refusal) = SaysNoChange refusal.why
 IsPlain faults.ReadFault = ⊤
 IsPlain faults.NoMemory = ⊤
+
+-- a fault of bytes that are held: no read fault, and a refusal stands at a place or before it
+abbrev pub IsNearFault : ℕ → CiffFault → Type 0
+IsNearFault end (faults.Refused refusal) = refusal.at ≤ end
+IsNearFault end faults.ReadFault = ⊥
+IsNearFault end faults.NoMemory = ⊤

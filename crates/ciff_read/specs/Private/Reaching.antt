@@ -1,5 +1,6 @@
 -- The length of a message, and the message, as a window reads them of a content.
-use Rattle.std.specs.Prelude.{ℕ, ◌≡◌, ◌≤◌, ◌+◌, List, length, drop, Result, Ok, Err, Option, slice_range}
+use Rattle.std.specs.Prelude.{ℕ, ◌≡◌, ◌<◌, ◌≤◌, ◌+◌, List, length, drop, Result, Ok, Err, Option, slice_range}
+use Rattle.jass_base.specs.declared.limits.TheConstants.{LONGEST_FILE}
 use Rattle.jass_base.specs.Outside.{Files, ForContent}
 use Rattle.wire_fields.specs.Reading.{varint_at}
 use Rattle.ciff_read.specs.declared.body.Body.{Body}
@@ -26,6 +27,13 @@ HoldsMessage content at w from end = (message_at at (drop at content) ≡ Ok (me
 abbrev pub ReachesMessage : List ℕ → ℕ → Window → Result Body CiffFault → Type 0
 ReachesMessage content at w (Ok body) = HoldsMessage content at w body.from body.end
 ReachesMessage content at w (Err fault) = FailsReading fault (message_at at (drop at content))
+
+-- a message's body in the window, where the message stands at a place of the file and ends near enough
+pub record IsBodyAt (at : ℕ) (w : Window) (body : Body) : Type 0 where
+  pub within : body.end ≤ length w.bytes.items
+  pub front : w.start ≤ at
+  pub behind : at < w.start + body.end
+  pub near : w.start + body.end ≤ LONGEST_FILE
 
 -- the same of each content that is told and that the window before showed
 abbrev pub SizeTold : Option Files → List ℕ → ℕ → Window → Result (ℕ × ℕ) CiffFault → Type 0

@@ -1,17 +1,20 @@
 -- What the giving of a piece leaves of a walk, and what it gives of a content.
-use Rattle.std.specs.Prelude.{ℕ, ◌≡◌, ◌<◌, ◌≤◌, List, length, drop, All, Option, Result}
+use Rattle.std.specs.Prelude.{ℕ, ◌≡◌, ◌<◌, ◌≤◌, ◌+◌, List, [], ◌∷◌, ◌++◌, length, drop, false, All, Option, Result}
 use Rattle.std.specs.List.Sorted.{IsStrictlyIncreasing}
 use Rattle.jass_base.specs.CiffViews.{list_data, doc_data}
+use Rattle.jass_base.specs.Lists.{HasDocsBelow}
 use Rattle.jass_base.specs.Outside.{Files, ForContent}
 use Rattle.ciff_read.specs.declared.refusal.CiffFault.{CiffFault}
 use Rattle.ciff_read.specs.Pieces.{KeptList, list_of_file, postings_kept, terms_kept, places_kept, EndPiece, doc_of_file}
 use Rattle.jass_base.specs.declared.postings_list.PostingsList.{PostingsList}
 use Rattle.jass_base.specs.declared.doc_record.DocRecord.{DocRecord}
+use Rattle.ciff_read.specs.Marks.{is_marked}
 use Rattle.ciff_read.specs.Private.Reached.{GivesReading, MarksOf}
 use Rattle.ciff_read.specs.Reading.{at_end}
+use Rattle.ciff_read.specs.Seen.{is_seen}
 use Rattle.whole_files.specs.Windows.{AreFrom}
 use Rattle.jass_base.specs.declared.limits.TheConstants.{LONGEST_FILE, MOST_DOCUMENTS, MOST_POSTINGS, MOST_TERMS}
-use Rattle.ciff_read.specs.Walk.{WalkView}
+use Rattle.ciff_read.specs.Walk.{WalkView, HasKept, OneMore, kept_of}
 
 -- the ranges of a walk, of its parts
 pub record IsInRange (lists docs at given postings : ℕ) (kept : List KeptList) : Type 0 where
@@ -25,7 +28,14 @@ pub record IsInRange (lists docs at given postings : ℕ) (kept : List KeptList)
   pub rising : IsStrictlyIncreasing (places_kept kept)
   pub before : All (λ (k : KeptList). k.at < at) kept
 
--- what the giving of a message leaves
+-- what the giving of a piece leaves
+pub record LeavesFile (old new : WalkView) : Type 0 where
+  pub name : new.name ≡ old.name
+  pub lists : new.lists ≡ old.lists
+  pub docs : new.docs ≡ old.docs
+  pub answered : new.answered ≡ old.answered
+
+-- what the giving of a list leaves
 pub record LeavesOthers (old new : WalkView) : Type 0 where
   pub name : new.name ≡ old.name
   pub header : new.header ≡ old.header
@@ -34,6 +44,17 @@ pub record LeavesOthers (old new : WalkView) : Type 0 where
   pub marks : new.marks ≡ old.marks
   pub given : new.given ≡ old.given
   pub answered : new.answered ≡ old.answered
+
+-- the list that was given is kept, its term is new, and its documents are the file's
+pub record KeepsList (old new : WalkView) (list : PostingsList) : Type 0 where
+  pub kept : new.kept ≡ old.kept ++ kept_of old.at list ∷ []
+  pub unseen : is_seen list.term (terms_kept old.kept) ≡ false
+  pub below : HasDocsBelow old.docs list
+
+-- a list with the number of postings that is kept for its place, in documents of the file
+pub record IsListAgain (old : WalkView) (at : ℕ) (list : PostingsList) : Type 0 where
+  pub count : HasKept old.kept at (length list.postings)
+  pub below : HasDocsBelow old.docs list
 
 -- the list that was given is the one at the walk's place, and the walk stands behind it
 abbrev pub ListGiven : Option Files → WalkView → WalkView → Result PostingsList CiffFault → Type 0
@@ -58,6 +79,13 @@ pub record LeavesPlace (old new : WalkView) : Type 0 where
   pub at : new.at ≡ old.at
   pub marks : new.marks ≡ old.marks
   pub given : new.given ≡ old.given
+
+-- the number of the document that was given is marked, and is new
+pub record MarksDoc (old new : WalkView) (x : ℕ × DocRecord) : Type 0 where
+  pub given : new.given ≡ old.given + 1
+  pub marked : OneMore old.marks new.marks x.0
+  pub unseen : is_marked old.marks x.0 ≡ false
+  pub below : x.0 < old.docs
 
 -- the document that was given is the one at the walk's place, and the walk stands behind it
 abbrev pub DocGiven : Option Files → WalkView → WalkView → Result (ℕ × DocRecord) CiffFault → Type 0

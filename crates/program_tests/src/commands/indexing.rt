@@ -5,7 +5,7 @@ use super::{
     made_by, only, store,
 };
 use jass_base::MemCabinet;
-use std::alloc::{AllocError, Global};
+use std::alloc::Global;
 use std::process::Abort;
 
 /// The index file of `ONE_TERM`, by term frequency and with raw weights.
@@ -69,16 +69,16 @@ const NOTHING: &[u8] = b"";
 const OLD: &[u8] = b"old";
 
 /// A cabinet with the files `a` and `b`.
-fn two_files(alloc: Global, content: &[u8], bad: Bad) -> Result<MemCabinet, AllocError> {
-    let mut files = cabinet_with(alloc, "a", content, &[bad.reads], &[bad.writes])?;
-    store(&mut files, "b", OLD)?;
-    Ok(files)
+fn two_files(rt: &impl Abort, alloc: Global, content: &[u8], bad: Bad) -> MemCabinet {
+    let mut files = cabinet_with(rt, alloc, "a", content, &[bad.reads], &[bad.writes]);
+    store(rt, &mut files, "b", OLD);
+    files
 }
 
 /// Runs words over a cabinet with the files `a` and `b`, and takes the content of `b`.
-fn outcome_of(alloc: Global, content: &[u8], words: &str, bad: Bad) -> Result<Made, AllocError> {
-    let mut files = two_files(alloc, content, bad)?;
-    made_by(alloc, words, &mut files, bad, "b")
+fn outcome_of(rt: &impl Abort, alloc: Global, content: &[u8], words: &str, bad: Bad) -> Made {
+    let mut files = two_files(rt, alloc, content, bad);
+    made_by(rt, alloc, words, &mut files, bad, "b")
 }
 
 /// A content of the file `a`, words, the status, the output, the note, and what `b` holds then.
@@ -149,9 +149,7 @@ const RUNS: [Run<'static>; 9] = [
 /// A run in which these calls fail ends as told, but for the note beside it.
 fn check_run(rt: &impl Abort, alloc: Global, run: Run<'_>, bad: Bad, notes: &[u8]) {
     let (content, words, status, out, _, made) = run;
-    let Ok(outcome) = outcome_of(alloc, content, words, bad) else {
-        panic!(rt; "no memory")
-    };
+    let outcome = outcome_of(rt, alloc, content, words, bad);
     check_left(rt, words, &outcome.left, status, out, notes);
     assert!(rt; outcome.content.as_slice() == made, "{words}");
 }
@@ -192,9 +190,7 @@ const SPREAD: [(&[u8], &str, &[u8], Changed<'static>); 2] = [
 /// Each import makes the index file beside it.
 fn check_spread(rt: &impl Abort, alloc: Global, imports: &[(&[u8], &str, &[u8], Changed<'_>)]) {
     for (content, words, out, change) in imports {
-        let Ok(index) = changed(alloc, *change) else {
-            panic!(rt; "no memory")
-        };
+        let index = changed(rt, alloc, *change);
         let run = (*content, *words, 0, *out, NOTHING, index.as_slice());
         check_runs(rt, alloc, &[run]);
     }
@@ -238,9 +234,7 @@ const REFUSED: [(Changed<'static>, &str, &[u8]); 6] = [
 /// Each file is refused so, and nothing is made of it.
 fn check_refused(rt: &impl Abort, alloc: Global, refused: &[(Changed<'_>, &str, &[u8])]) {
     for (change, words, note) in refused {
-        let Ok(content) = changed(alloc, *change) else {
-            panic!(rt; "no memory")
-        };
+        let content = changed(rt, alloc, *change);
         let run = (content.as_slice(), *words, 3, NOTHING, *note, OLD);
         check_runs(rt, alloc, &[run]);
     }
@@ -279,36 +273,31 @@ fn has_front(left: &Made, call: Call, number: u64, text: Option<&[u8]>) -> bool 
 fn ends_as_told(made: &Made, case: Case<'_>, number: u64) -> bool {
     let (_, _, call, status, notes, text) = case;
     made.left.status == status
-        && made.left.out.is_empty()
-        && made.left.notes.as_slice() == notes
+        && made.left.out.written().is_empty()
+        && made.left.notes.written() == notes
         && has_front(made, call, number, text)
 }
 
 /// Whether a run whose note can't be put either leaves all else as another run did.
-fn ends_muted(
-    alloc: Global,
-    case: Case<'_>,
-    number: u64,
-    other: &Made,
-) -> Result<bool, AllocError> {
+fn ends_muted(rt: &impl Abort, alloc: Global, case: Case<'_>, number: u64, other: &Made) -> bool {
     let (content, words, call, ..) = case;
-    let muted = outcome_of(alloc, content, words, only_notes(only(call, number)))?;
-    Ok(is_muted(&muted, other))
+    let bad = only_notes(only(call, number));
+    is_muted(&outcome_of(rt, alloc, content, words, bad), other)
 }
 
 /// Whether each run in which one call fails ends as told, from the first call on until a run is done.
-fn each_ends(alloc: Global, case: Case<'_>) -> Result<bool, AllocError> {
+fn each_ends(rt: &impl Abort, alloc: Global, case: Case<'_>) -> bool {
     let (content, words, call, ..) = case;
     for number in 0..40 {
-        let made = outcome_of(alloc, content, words, only(call, number))?;
+        let made = outcome_of(rt, alloc, content, words, only(call, number));
         if made.left.status == 0 {
-            return Ok(number > 0 && made.left.notes.is_empty());
+            return number > 0 && made.left.notes.written().is_empty();
         }
-        if !ends_as_told(&made, case, number) || !ends_muted(alloc, case, number, &made)? {
-            return Ok(false);
+        if !ends_as_told(&made, case, number) || !ends_muted(rt, alloc, case, number, &made) {
+            return false;
         }
     }
-    Ok(false)
+    false
 }
 
 const READ: &[u8] = b"a: read fault\n";
@@ -350,11 +339,8 @@ const CASES: [Case<'static>; 12] = [
 /// Each command ends as told, whichever of its calls fails.
 fn check_cases(rt: &impl Abort, alloc: Global, cases: &[Case<'_>]) {
     for case in cases {
-        let Ok(ends) = each_ends(alloc, *case) else {
-            panic!(rt; "no memory")
-        };
         let words = case.1;
-        assert!(rt; ends, "{words}");
+        assert!(rt; each_ends(rt, alloc, *case), "{words}");
     }
 }
 

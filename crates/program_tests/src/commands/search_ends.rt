@@ -5,8 +5,8 @@ ghost use Rattle.std.specs.Prelude.{◌<◌};
 use super::searching::{
     CAT_DOG, CAT_DOG_REPORTS, CAT_DOG_RUN, CAT_DOG_WORDS, NOTHING, OLD, searched,
 };
-use super::{Bad, Call, Made, NONE, ONE_TERM, TWO_TERMS, check_left, is_muted, only};
-use std::alloc::{AllocError, Global};
+use super::{Bad, Call, Made, NONE, ONE_TERM, TWO_TERMS, check_left, is_muted, only, put};
+use std::alloc::Global;
 use std::process::Abort;
 
 /// The front of a collection of one document and 257 terms, each with one posting: its header.
@@ -27,61 +27,60 @@ const MANY_TERMS_DOC: [u8; 10] = [0x09, 0x12, 0x02, b'd', b'0', 0x18, 0xff, 0xfd
 const HEX: &[u8; 16] = b"0123456789abcdef";
 
 /// Puts the list of the term of a number.
-fn put_list(bytes: &mut Vec<u8>, number: usize) -> Result<(), AllocError>
+fn put_list(rt: &impl Abort, bytes: &mut Vec<u8>, number: usize)
     requires { number < 256 }
 {
     let mut list = MANY_TERMS_LIST;
     list[4] = HEX[number / 16];
     list[5] = HEX[number % 16];
-    bytes.extend_from_slice(&list)?;
-    Ok(())
+    put(rt, bytes, &list);
 }
 
 /// Puts the list of the last term, and the document.
-fn put_end(bytes: &mut Vec<u8>) -> Result<(), AllocError> {
+fn put_end(rt: &impl Abort, bytes: &mut Vec<u8>) {
     let mut last = MANY_TERMS_LIST;
     last[3] = b'u';
-    bytes.extend_from_slice(&last)?;
-    bytes.extend_from_slice(&MANY_TERMS_DOC)?;
-    Ok(())
+    put(rt, bytes, &last);
+    put(rt, bytes, &MANY_TERMS_DOC);
 }
 
 /// The bytes of the collection of 257 terms: `t00` to `tff`, and `u00`.
-fn many_terms(alloc: Global) -> Result<Vec<u8>, AllocError> {
-    let mut bytes = Vec::from_slice(alloc, &MANY_TERMS_FRONT)?;
+fn many_terms(rt: &impl Abort, alloc: Global) -> Vec<u8> {
+    let mut bytes = Vec::new(alloc);
+    put(rt, &mut bytes, &MANY_TERMS_FRONT);
     for number in 0..256usize {
-        put_list(&mut bytes, number)?;
+        put_list(rt, &mut bytes, number);
     }
-    put_end(&mut bytes)?;
-    Ok(bytes)
+    put_end(rt, &mut bytes);
+    bytes
 }
 
 /// Puts a mention of the term of a number, 255 times.
-fn put_mention(line: &mut Vec<u8>, number: usize) -> Result<(), AllocError>
+fn put_mention(rt: &impl Abort, line: &mut Vec<u8>, number: usize)
     requires { number < 256 }
 {
-    line.extend_from_slice(&[b' ', b't', HEX[number / 16], HEX[number % 16]])?;
-    line.extend_from_slice(b"^255")?;
-    Ok(())
+    put(rt, line, &[b' ', b't', HEX[number / 16], HEX[number % 16]]);
+    put(rt, line, b"^255");
 }
 
 /// A query that names `t00` to `tff` 255 times each, and what stands behind them.
-fn heaviest_query(alloc: Global, behind: &[u8]) -> Result<Vec<u8>, AllocError> {
-    let mut line = Vec::from_slice(alloc, b"q")?;
+fn heaviest_query(rt: &impl Abort, alloc: Global, behind: &[u8]) -> Vec<u8> {
+    let mut line = Vec::new(alloc);
+    put(rt, &mut line, b"q");
     for number in 0..256usize {
-        put_mention(&mut line, number)?;
+        put_mention(rt, &mut line, number);
     }
-    line.extend_from_slice(behind)?;
-    Ok(line)
+    put(rt, &mut line, behind);
+    line
 }
 
 const WORDS: &str = "search index queries run";
 
 /// What a search for the heaviest query leaves.
-fn heaviest_search(alloc: Global, behind: &[u8]) -> Result<Made, AllocError> {
-    let ciff = many_terms(alloc)?;
-    let queries = heaviest_query(alloc, behind)?;
-    searched(alloc, ciff.as_slice(), queries.as_slice(), WORDS, NONE)
+fn heaviest_search(rt: &impl Abort, alloc: Global, behind: &[u8]) -> Made {
+    let ciff = many_terms(rt, alloc);
+    let queries = heaviest_query(rt, alloc, behind);
+    searched(rt, alloc, ciff.as_slice(), queries.as_slice(), WORDS, NONE)
 }
 
 /// What stands behind the heaviest query, the status, the output, the note, and what `run` holds then.
@@ -102,9 +101,7 @@ const HEAVIEST: [Heaviest<'static>; 3] = [
 /// Each search ends as told.
 fn check_heaviest(rt: &impl Abort, alloc: Global, searches: &[Heaviest<'_>]) {
     for (behind, status, out, notes, run) in searches {
-        let Ok(made) = heaviest_search(alloc, behind) else {
-            panic!(rt; "no memory")
-        };
+        let made = heaviest_search(rt, alloc, behind);
         check_left(rt, WORDS, &made.left, *status, out, notes);
         assert!(rt; made.content.as_slice() == *run);
     }
@@ -116,8 +113,8 @@ fn queries_reach_their_limits(rt: HostRuntime) {
 }
 
 /// A search over two terms, whose calls fail where named.
-fn cat_dog(alloc: Global, bad: Bad) -> Result<Made, AllocError> {
-    searched(alloc, &TWO_TERMS, CAT_DOG, CAT_DOG_WORDS, bad)
+fn cat_dog(rt: &impl Abort, alloc: Global, bad: Bad) -> Made {
+    searched(rt, alloc, &TWO_TERMS, CAT_DOG, CAT_DOG_WORDS, bad)
 }
 
 /// The kind of the call that fails, the status, the note where the first such call fails, and that where another does.
@@ -143,7 +140,7 @@ const CASES: [Case<'static>; 3] = [
 /// is as before where the first write of a file fails, and it is not where another does.
 fn has_fronts(made: &Made, call: Call, number: u64) -> bool {
     let run = made.content.as_slice();
-    let out = made.left.out.as_slice();
+    let out = made.left.out.written();
     match call {
         Call::Read => run == OLD && out.is_empty(),
         Call::Write if number == 0 => run == OLD && CAT_DOG_REPORTS.starts_with(out),
@@ -154,44 +151,40 @@ fn has_fronts(made: &Made, call: Call, number: u64) -> bool {
 /// Whether a search that isn't done ends as told. Its note is the first of two where the first call fails.
 fn ends_as_told(made: &Made, case: Case<'_>, number: u64) -> bool {
     let (call, status, first, second) = case;
-    let notes = made.left.notes.as_slice();
+    let notes = made.left.notes.written();
     made.left.status == status
         && (notes == first || number > 0 && notes == second)
         && has_fronts(made, call, number)
 }
 
 /// Whether a search whose note can't be put either leaves all else as another did.
-fn ends_muted(alloc: Global, call: Call, number: u64, other: &Made) -> Result<bool, AllocError> {
+fn ends_muted(rt: &impl Abort, alloc: Global, call: Call, number: u64, other: &Made) -> bool {
     let bad = Bad {
         notes: 0,
         ..only(call, number)
     };
-    let muted = cat_dog(alloc, bad)?;
-    Ok(is_muted(&muted, other))
+    is_muted(&cat_dog(rt, alloc, bad), other)
 }
 
 /// Whether each search in which one call fails ends as told, from the first call on until a search is done.
-fn each_search_ends(alloc: Global, case: Case<'_>) -> Result<bool, AllocError> {
+fn each_search_ends(rt: &impl Abort, alloc: Global, case: Case<'_>) -> bool {
     let call = case.0;
     for number in 0..40 {
-        let made = cat_dog(alloc, only(call, number))?;
+        let made = cat_dog(rt, alloc, only(call, number));
         if made.left.status == 0 {
-            return Ok(number > 0 && made.left.notes.is_empty());
+            return number > 0 && made.left.notes.written().is_empty();
         }
-        if !ends_as_told(&made, case, number) || !ends_muted(alloc, call, number, &made)? {
-            return Ok(false);
+        if !ends_as_told(&made, case, number) || !ends_muted(rt, alloc, call, number, &made) {
+            return false;
         }
     }
-    Ok(false)
+    false
 }
 
 /// Searches end as told, whichever of their calls fails.
 fn check_cases(rt: &impl Abort, alloc: Global, cases: &[Case<'_>]) {
     for case in cases {
-        let Ok(ends) = each_search_ends(alloc, *case) else {
-            panic!(rt; "no memory")
-        };
-        assert!(rt; ends);
+        assert!(rt; each_search_ends(rt, alloc, *case));
     }
 }
 
@@ -201,26 +194,25 @@ fn failed_calls_of_a_search_are_noted(rt: HostRuntime) {
 }
 
 /// One query of a term, and 2,400 of a term that is unknown.
-fn many_queries(alloc: Global) -> Result<Vec<u8>, AllocError> {
-    let mut lines = Vec::from_slice(alloc, b"q a\n")?;
+fn many_queries(rt: &impl Abort, alloc: Global) -> Vec<u8> {
+    let mut lines = Vec::new(alloc);
+    put(rt, &mut lines, b"q a\n");
     for _ in 0..2_400 {
-        lines.extend_from_slice(b"x zzz\n")?;
+        put(rt, &mut lines, b"x zzz\n");
     }
-    Ok(lines)
+    lines
 }
 
 /// What a search for them leaves, in which the second write of a file fails.
-fn many_searched(alloc: Global) -> Result<Made, AllocError> {
-    let queries = many_queries(alloc)?;
+fn many_searched(rt: &impl Abort, alloc: Global) -> Made {
+    let queries = many_queries(rt, alloc);
     let bad = only(Call::Write, 1);
-    searched(alloc, &ONE_TERM, queries.as_slice(), WORDS, bad)
+    searched(rt, alloc, &ONE_TERM, queries.as_slice(), WORDS, bad)
 }
 
 /// The first query's run lines are few, and its report is among those that fill their buffer.
 #[test]
 fn a_run_goes_before_its_reports(rt: HostRuntime) {
-    let Ok(made) = many_searched(rt.alloc()) else {
-        panic!(&rt; "no memory")
-    };
+    let made = many_searched(&rt, rt.alloc());
     check_left(&rt, WORDS, &made.left, 5, NOTHING, b"run: write fault\n");
 }

@@ -5,7 +5,7 @@ use super::{
     changed, check_left, made_by, store,
 };
 use jass_base::MemCabinet;
-use std::alloc::{AllocError, Global};
+use std::alloc::Global;
 use std::process::Abort;
 
 pub(super) const NOTHING: &[u8] = b"";
@@ -31,44 +31,47 @@ pub(super) const CAT_DOG_RUN: &[u8] = b"\
 pub(super) const OLD: &[u8] = b"old";
 
 /// The files of a search: the index file of a collection, queries, and what `run` holds before it.
-fn files_of(
-    alloc: Global,
-    ciff: &[u8],
-    queries: &[u8],
-    bad: Bad,
-) -> Result<MemCabinet, AllocError> {
-    let index = index_of(alloc, ciff)?;
+fn files_of(rt: &impl Abort, alloc: Global, ciff: &[u8], queries: &[u8], bad: Bad) -> MemCabinet {
+    let index = index_of(rt, alloc, ciff);
     let mut files = cabinet_with(
+        rt,
         alloc,
         "index",
         index.as_slice(),
         &[bad.reads],
         &[bad.writes],
-    )?;
-    store(&mut files, "queries", queries)?;
-    store(&mut files, "run", OLD)?;
-    Ok(files)
+    );
+    store(rt, &mut files, "queries", queries);
+    store(rt, &mut files, "run", OLD);
+    files
 }
 
 /// Makes the index file of a collection, and runs the words of a search over it and queries, in which calls fail. Takes
 /// the content of the file `run`.
 pub(super) fn searched(
+    rt: &impl Abort,
     alloc: Global,
     ciff: &[u8],
     queries: &[u8],
     words: &str,
     bad: Bad,
-) -> Result<Made, AllocError> {
-    let mut files = files_of(alloc, ciff, queries, bad)?;
-    made_by(alloc, words, &mut files, bad, "run")
+) -> Made {
+    let mut files = files_of(rt, alloc, ciff, queries, bad);
+    made_by(rt, alloc, words, &mut files, bad, "run")
 }
 
 /// The index file of a collection.
-fn index_of(alloc: Global, ciff: &[u8]) -> Result<Vec<u8>, AllocError> {
-    let mut files = cabinet_with(alloc, "ciff", ciff, &[], &[])?;
-    let made = made_by(alloc, "import ciff index", &mut files, NONE, "index")?;
-    let Made { left: _, content } = made;
-    Ok(content)
+fn index_of(rt: &impl Abort, alloc: Global, ciff: &[u8]) -> Vec<u8> {
+    let mut files = cabinet_with(rt, alloc, "ciff", ciff, &[], &[]);
+    let Made { left: _, content } = made_by(
+        rt,
+        alloc,
+        "import ciff index",
+        &mut files,
+        NONE,
+        "index",
+    );
+    content
 }
 
 /// A collection, queries, words, the output, and what `run` holds then.
@@ -179,9 +182,7 @@ const SEARCHES: [Search<'static>; 14] = [
 /// A search is done, and gives what stands beside it.
 fn check_search(rt: &impl Abort, alloc: Global, search: Search<'_>) {
     let (ciff, queries, words, out, run) = search;
-    let Ok(made) = searched(alloc, ciff, queries, words, NONE) else {
-        panic!(rt; "no memory")
-    };
+    let made = searched(rt, alloc, ciff, queries, words, NONE);
     check_left(rt, words, &made.left, 0, out, NOTHING);
     assert!(rt; made.content.as_slice() == run, "{words}");
 }
@@ -217,9 +218,7 @@ const CHANGED_SEARCHES: [ChangedSearch<'static>; 2] = [
 /// Each search over a changed collection ends so.
 fn check_changed(rt: &impl Abort, alloc: Global, searches: &[ChangedSearch<'_>]) {
     for (change, queries, words, out, run) in searches {
-        let Ok(ciff) = changed(alloc, *change) else {
-            panic!(rt; "no memory")
-        };
+        let ciff = changed(rt, alloc, *change);
         check_search(rt, alloc, (ciff.as_slice(), queries, words, out, run));
     }
 }

@@ -2,10 +2,10 @@
 
 ghost use Rattle.std.specs.Prelude.{◌<◌};
 
-use super::{Left, NEVER, ONE_TERM, TWO_TERMS, cabinet_with, check_left, left_by, listed};
+use super::{Left, NEVER, ONE_TERM, TWO_TERMS, cabinet_with, check_left, left_by, listed, put};
 use itoa::Buffer;
 use jass_base::{Failed, Feed, MemCabinet, MemFeed, Row, SliceFeed};
-use std::alloc::{AllocError, Global};
+use std::alloc::Global;
 use std::process::Abort;
 
 /// A feed of so many bytes `x`, which it doesn't hold.
@@ -39,7 +39,7 @@ const TWO_PAGES_FRONT: [u8; 69] = [
 ];
 
 /// Puts a document of that collection. Numbers of documents stand in two bytes each.
-fn put_document(bytes: &mut Vec<u8>, number: u32) -> Result<(), AllocError>
+fn put_document(rt: &impl Abort, bytes: &mut Vec<u8>, number: u32)
     requires { number < 300 }
 {
     let mut digits = Buffer::new();
@@ -52,52 +52,65 @@ fn put_document(bytes: &mut Vec<u8>, number: u32) -> Result<(), AllocError>
         1 => 3,
         _ => 1,
     };
-    bytes.extend_from_slice(&[8 + size, 0x08, 128 + low, high, 0x12, 1 + size, b'd'])?;
-    bytes.extend_from_slice(name)?;
-    bytes.extend_from_slice(&[0x18, length])?;
-    Ok(())
+    put(
+        rt,
+        bytes,
+        &[8 + size, 0x08, 128 + low, high, 0x12, 1 + size, b'd'],
+    );
+    put(rt, bytes, name);
+    put(rt, bytes, &[0x18, length]);
 }
 
 /// The bytes of that collection.
-fn two_pages(alloc: Global) -> Result<Vec<u8>, AllocError> {
-    let mut bytes = Vec::from_slice(alloc, &TWO_PAGES_FRONT)?;
+fn two_pages(rt: &impl Abort, alloc: Global) -> Vec<u8> {
+    let mut bytes = Vec::new(alloc);
+    put(rt, &mut bytes, &TWO_PAGES_FRONT);
     for number in 0..300u32 {
-        put_document(&mut bytes, number)?;
+        put_document(rt, &mut bytes, number);
     }
-    Ok(bytes)
+    bytes
 }
 
 /// A cabinet with a collection and its index file.
-fn files_of(alloc: Global, ciff: &[u8]) -> Result<MemCabinet, AllocError> {
-    let mut files = cabinet_with(alloc, "ciff", ciff, &[], &[])?;
+fn files_of(rt: &impl Abort, alloc: Global, ciff: &[u8]) -> MemCabinet {
+    let mut files = cabinet_with(rt, alloc, "ciff", ciff, &[], &[]);
     let mut input = SliceFeed::new(b"");
-    let _ = left_by(alloc, "import ciff index", &mut files, &mut input, &[], &[])?;
-    Ok(files)
+    let _ = left_by(
+        rt,
+        alloc,
+        "import ciff index",
+        &mut files,
+        &mut input,
+        &[],
+        &[],
+    );
+    files
 }
 
 /// Makes the index file of a collection, and runs words over it and an input. Puts on the output
 /// and on the notes fail where named.
 fn served_from<I: Feed>(
+    rt: &impl Abort,
     alloc: Global,
     ciff: &[u8],
     words: &str,
     input: &mut I,
     bad_put: u64,
     bad_note: u64,
-) -> Result<Left, AllocError> {
-    let mut files = files_of(alloc, ciff)?;
-    left_by(alloc, words, &mut files, input, &[bad_put], &[bad_note])
+) -> Left {
+    let mut files = files_of(rt, alloc, ciff);
+    left_by(rt, alloc, words, &mut files, input, &[bad_put], &[bad_note])
 }
 
 /// The feed of these lines, one of whose reads fails.
-fn feed_of(alloc: Global, lines: &[u8], bad_read: u64) -> Result<MemFeed, AllocError> {
-    let bytes = Row::from_vec(Vec::from_slice(alloc, lines)?);
-    let bad = listed(alloc, &[bad_read])?;
-    Ok(MemFeed::new(bytes, bad))
+fn feed_of(rt: &impl Abort, alloc: Global, lines: &[u8], bad_read: u64) -> MemFeed {
+    let bytes = Row::from_vec(Vec::from_slice(alloc, lines).expect(rt, "no memory"));
+    MemFeed::new(bytes, listed(rt, alloc, &[bad_read]))
 }
 
 /// The same over lines, whose reads fail where named.
 fn served(
+    rt: &impl Abort,
     alloc: Global,
     ciff: &[u8],
     words: &str,
@@ -105,9 +118,9 @@ fn served(
     bad_read: u64,
     bad_put: u64,
     bad_note: u64,
-) -> Result<Left, AllocError> {
-    let mut input = feed_of(alloc, lines, bad_read)?;
-    served_from(alloc, ciff, words, &mut input, bad_put, bad_note)
+) -> Left {
+    let mut input = feed_of(rt, alloc, lines, bad_read);
+    served_from(rt, alloc, ciff, words, &mut input, bad_put, bad_note)
 }
 
 /// A collection, lines, and the output.
@@ -138,18 +151,14 @@ const TWO_PAGES_TOLD: &[u8] =
 fn check_served(rt: &impl Abort, alloc: Global, served_lines: &[Served<'_>]) {
     let words = "serve index frames=2";
     for (ciff, lines, out) in served_lines {
-        let Ok(left) = served(alloc, ciff, words, lines, NEVER, NEVER, NEVER) else {
-            panic!(rt; "no memory")
-        };
+        let left = served(rt, alloc, ciff, words, lines, NEVER, NEVER, NEVER);
         check_left(rt, words, &left, 0, out, b"");
     }
 }
 
 #[test]
 fn lines_are_answered(rt: HostRuntime) {
-    let Ok(two_pages) = two_pages(rt.alloc()) else {
-        panic!(&rt; "no memory")
-    };
+    let two_pages = two_pages(&rt, rt.alloc());
     let first = (two_pages.as_slice(), TWO_PAGES_LINES, TWO_PAGES_TOLD);
     check_served(&rt, rt.alloc(), &[first]);
     check_served(&rt, rt.alloc(), &SERVED);
@@ -198,9 +207,9 @@ const STOPPED: [Stopped<'static>; 5] = [
 fn check_stop(rt: &impl Abort, alloc: Global, stopped: Stopped<'_>, bad_note: u64) {
     let (words, bad_read, bad_put, status, out, notes) = stopped;
     let lines = b"top z\ntop z";
-    let Ok(left) = served(alloc, &ONE_TERM, words, lines, bad_read, bad_put, bad_note) else {
-        panic!(rt; "no memory")
-    };
+    let left = served(
+        rt, alloc, &ONE_TERM, words, lines, bad_read, bad_put, bad_note,
+    );
     let notes = if bad_note == 0 { b"" } else { notes };
     check_left(rt, words, &left, status, out, notes);
 }
@@ -235,9 +244,7 @@ fn check_long(rt: &impl Abort, alloc: Global, inputs: &[Long<'_>]) {
     let words = "serve index frames=2";
     for (size, bad_note, status, out, notes) in inputs {
         let mut input = Repeated { left: *size };
-        let Ok(left) = served_from(alloc, &ONE_TERM, words, &mut input, NEVER, *bad_note) else {
-            panic!(rt; "no memory")
-        };
+        let left = served_from(rt, alloc, &ONE_TERM, words, &mut input, NEVER, *bad_note);
         check_left(rt, words, &left, *status, out, notes);
     }
 }

@@ -1,4 +1,4 @@
 use Rattle.answer_tests.proofs.desks.answered.Given as goal
 
-abbrev pub ghosts-answered_into : goal.ghosts-answered_into
-ghosts-answered_into a = record { name = a.blank.name; parts = a.blank.parts }
+abbrev pub ghosts-both_answered : goal.ghosts-both_answered
+ghosts-both_answered g a = record { name = a.blank.name; parts = a.blank.parts }

@@ -10,7 +10,7 @@ returns-in-Ok-clause-told g c =
     let old = c.args.self.now in
     let more : length old.kept < old.lists = omega (arith, c.if-len-from.true, c.len.ensures, c.from.ensures, ap (λ (w : WalkView). length w.kept) c.self.view_is, ap (λ (w : WalkView). w.lists) c.self.view_is) in
     let e = c.in-Ok.ensures in
-    told_list told old c.next_list.new.self c.requires more c.self.inside.at c.in-Ok.list (ap (λ (w : WalkView). w.at) c.self.view_is) e.exact e.kept e.leaves
+    told_list told old c.next_list.new.self c.requires more c.self.inside.at c.in-Ok.list (ap (λ (w : WalkView). w.at) c.self.view_is) e.exact e.given.kept e.leaves
 
 pub returns-in-Err-clause-told : goal.returns-in-Err-clause-told
 returns-in-Err-clause-told g c =
@@ -26,7 +26,7 @@ returns-in-Ok-next_doc-clause-told g c =
     let past : old.lists ≤ length old.kept = omega (arith, c.if-len-from.false, c.len.ensures, c.from.ensures, ap (λ (w : WalkView). length w.kept) c.self.view_is, ap (λ (w : WalkView). w.lists) c.self.view_is) in
     let more : old.given < old.docs = omega (arith, c.if-self.true, ap (λ (w : WalkView). w.given) c.self.view_is, ap (λ (w : WalkView). w.docs) c.self.view_is) in
     let e = c.in-Ok-next_doc.ensures in
-    told_doc told old c.next_doc.new.self c.requires past more c.in-Ok-next_doc.number c.in-Ok-next_doc.item e.exact e.marked e.given e.leaves
+    told_doc told old c.next_doc.new.self c.requires past more c.in-Ok-next_doc.number c.in-Ok-next_doc.item e.exact e.given.marked e.given.given e.leaves
 
 pub returns-in-Err-next_doc-clause-told : goal.returns-in-Err-next_doc-clause-told
 returns-in-Err-next_doc-clause-told g c =

@@ -7,7 +7,7 @@ use Rattle.ciff_read.specs.Seen.{is_seen}
 use Rattle.ciff_read.proofs.Postings.{All-one}
 use Rattle.ciff_read.proofs.TermLists.{differ-snoc}
 use Rattle.ciff_read.proofs.Counting.{count_none, count_more}
-use Rattle.ciff_read.proofs.collection.read_lists.Goals as goal
+use Rattle.ciff_read.proofs.collection.fill_lists.Goals as goal
 
 pub lists-preserved : goal.lists-preserved
 lists-preserved c =
@@ -65,9 +65,9 @@ pub lists-init : goal.lists-init
 lists-init c =
     let s = drop c.args.from c.args.bytes.now in
     let total = lists_at c.args.count c.args.docs 0 [] c.args.from s in
-    let none = c.new-lists.ensures in
-    let keys = map (λ t. t.now) c.new-terms.result.keys in
-    let no_keys : keys ≡ [] = ap (map (λ t. t.now)) c.new-terms.ensures.empty in
+    let none = c.requires.lists in
+    let keys = map (λ t. t.now) c.args.terms.now.keys in
+    let no_keys : keys ≡ [] = ap (map (λ t. t.now)) c.requires.terms in
     let all : c.args.count ≡ c.args.count - 0 = omega arith in
     record {
       read = no_lists total
@@ -76,7 +76,7 @@ lists-init c =
           ∙ ap (λ (ls : List PostingsList). with_lists (map list_data ls) (lists_at (c.args.count - 0) c.args.docs 0 keys c.args.from s)) (sym none);
       within = c.requires.from;
       few = omega arith;
-      counted = count_none c.new-lists.result none;
+      counted = count_none c.args.lists.now none;
       count = ap length none;
       below = subst (All (HasDocsBelow c.args.docs)) (sym none) (All-nil (HasDocsBelow c.args.docs));
       terms = no_keys ∙ ap (λ (ls : List PostingsList). map (λ (l : PostingsList). l.term) ls) (sym none);

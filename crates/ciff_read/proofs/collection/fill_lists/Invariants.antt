@@ -3,7 +3,7 @@ use Rattle.ciff_read.proofs.Below.{list_data, HasDocsBelow, DifferInTerm}
 use Rattle.ciff_read.specs.Reading.{lists_at}
 use Rattle.ciff_read.specs.Counts.{posting_count}
 use Rattle.ciff_read.proofs.Sequences.{with_lists}
-use Rattle.ciff_read.proofs.collection.read_lists.Given as goal
+use Rattle.ciff_read.proofs.collection.fill_lists.Given as goal
 
 abbrev pub invariant-lists : goal.invariant-lists
 invariant-lists l = record {
