@@ -1,14 +1,14 @@
 -- Weights added where the bits of a bitmap are set.
-use Rattle.shared_lemmas.proofs.Common.{◌≡◌, ◌≢◌, ◌==◌, ℕ, suc, zero, Bool, true, false, ◌&&◌, cond, eqb, nat_lt, nat_le, ◌++◌, ◌+◌, ◌-◌, ◌*◌, ◌/◌, ◌%◌, ◌<◌, ◌≤◌, List, [], ◌∷◌, length, map, filter, take, drop, get_or, set, count_by, All, AllPairs, refl, sym, ap, ◌∙◌, subst, inl, inr, ◌⊎◌, arith}
-use Rattle.shared_lemmas.proofs.Common.{length-set, get_or-set_other, eq-eqb, bit_at, flat_map, list_any, range_with_len, cases_lt, ne_eqb, eqb_tells, nat_tests, get_or_default_zero, same_number_lists, get_or-drop, get_or-take, get_or_append_left, get_or-append_right, get_or_past, length-drop}
+use Rattle.shared_lemmas.proofs.Common.{◌≡◌, ◌≢◌, ◌==◌, ℕ, suc, zero, Bool, true, false, ◌&&◌, cond, nat_lt, nat_le, ◌++◌, ◌+◌, ◌-◌, ◌*◌, ◌/◌, ◌%◌, ◌<◌, ◌≤◌, List, [], ◌∷◌, length, map, filter, take, drop, get_or, set, count_by, All, AllPairs, refl, sym, ap, ◌∙◌, subst, inl, inr, ◌⊎◌, arith}
+use Rattle.shared_lemmas.proofs.Common.{get_or-set_other, eq-eqb, bit_at, flat_map, list_any, range_with_len, cases_lt, ne_eqb, eqb_tells, nat_tests, get_or_default_zero, same_number_lists, get_or-drop, get_or-take, get_or_append_left, get_or-append_right, get_or_past, length-drop}
 use Rattle.shared_lemmas.proofs.Common.{length-map, length-take, list_any_at, get_or-map-range_with_len, get_or-range_with_len, length-map-range_with_len, length-range_with_len, AllPairs-from_increasing, count_by-le-length, length-filter, sum_by-cons, bit_at-lt, bit_at-zero, same_from_bits_below}
 use Rattle.frame_pool.specs.ChainView.{with_page}
 use Rattle.jass_base.specs.declared.answer.Hit.{Hit}
 use Rattle.lane_kernels.specs.Bitmap.{bit_of, numbers_of_bits, set_bits}
 use Rattle.lane_kernels.proofs.SetBits.{set_bits_from_base, set_bits_members, set_bits_rise, in_range}
-use Rattle.accumulator_pages.specs.Adding.{added, crossed, raised, touched_count, score_to_pass}
+use Rattle.accumulator_pages.specs.Adding.{added, crossed, raised, score_to_pass}
 use Rattle.accumulator_pages.proofs.Adding.{length-added}
-use Rattle.accumulator_pages.proofs.Counting.{touched-rise, worth}
+use Rattle.accumulator_pages.proofs.Counting.{worth}
 use Rattle.accumulator_pages.proofs.Raising.{added-each}
 
 -- ---- how often a number is among those of the set bits
@@ -65,7 +65,7 @@ bit_is_worth bits i = two (bit_of bits i) (omega arith)
     two : (b : ℕ) → b < 2 → worth (b == 1) ≡ b
     two b small = grind (arith, nat_tests)
 
-past_bits : (bits : List ℕ) (i : ℕ) → 8 * length bits ≤ i → bit_of bits i ≡ 0
+pub past_bits : (bits : List ℕ) (i : ℕ) → 8 * length bits ≤ i → bit_of bits i ≡ 0
 past_bits bits i past = ap (λ (b : ℕ). bit_at b (i % 8)) (get_or_past bits (i / 8) 0 (omega arith)) ∙ bit_at-zero (i % 8)
 
 -- the number base + d is there as often as bit d is set
@@ -184,7 +184,7 @@ pub raised-bits : (w base : ℕ) (last : Hit) (bits s : List ℕ)
 raised-bits w base last bits s = raised-apart w last (set_bits base bits) s (bits_apart base bits)
 
 -- a score that is still below a hit's, or was above it already, passes none
-not_crossed : (x before after : ℕ) (last : Hit) → (after < last.score) ⊎ (last.score < before) → crossed x before after last ≡ []
+pub not_crossed : (x before after : ℕ) (last : Hit) → (after < last.score) ⊎ (last.score < before) → crossed x before after last ≡ []
 not_crossed x before after last far =
     ap (λ (b : Bool). cond b (x ∷ []) []) (stays_out before after last.score (score_to_pass last x) (floor_of (nat_lt x last.doc) last.score) far)
   where
@@ -222,56 +222,6 @@ raised-none w base last bits s far = raised-bits w base last bits s
     clear : (score : ℕ) → (score + w < last.score) ⊎ (last.score + w < score + w) → (score + w < last.score) ⊎ (last.score < score)
     clear score (inl below) = inl below
     clear score (inr above) = inr (omega arith)
-
--- ---- how many are touched
-
-counted_same : (p q : ℕ → Bool) (xs : List ℕ) → ((k : ℕ) → k < length xs → q (get_or xs k 0) ≡ p (get_or xs k 0)) → count_by q xs ≡ count_by p xs
-counted_same p q [] same = refl
-counted_same p q (x ∷ xs) same = omega (
-  arith,
-  sum_by-cons (λ y. worth (q y)) x xs,
-  sum_by-cons (λ y. worth (p y)) x xs,
-  ap worth (same 0 (omega arith)),
-  counted_same p q xs (λ k inside. same (suc k) (omega arith)),
-)
-
-alone : (w score : ℕ) → worth (eqb (score + w) w) ≡ worth (eqb score 0)
-alone w score = grind (arith, nat_tests)
-
--- each of some documents that differ and had no score is one more
-pub touched-apart : (w : ℕ) (docs s : List ℕ) → 1 ≤ w → All (λ d. d < length s) docs → AllPairs (λ a b. a ≢ b) docs
-    → touched_count (added w docs s) ≡ touched_count s + count_by (λ d. get_or s d 0 == 0) docs
-touched-apart w [] s some within apart = omega arith
-touched-apart w (x ∷ docs) s some within apart =
-    let after : List ℕ = set s x (get_or s x 0 + w) in
-    let size : length after ≡ length s = length-set s x (get_or s x 0 + w) in
-    omega (
-      arith,
-      touched-apart w docs after some (λ k d inside. omega (arith, size, within (suc k) d (omega arith))) (apart_rest x docs apart),
-      touched-rise s x w (get_or s x 0 + w) (worth (eqb (get_or s x 0 + w) w)) (touched_count s) (within 0 0 (omega arith)) (omega arith) refl refl refl,
-      alone w (get_or s x 0),
-      sum_by-cons (λ d. worth (get_or s d 0 == 0)) x docs,
-      counted_same (λ d. get_or s d 0 == 0) (λ d. get_or after d 0 == 0) docs
-          (λ k inside. ap (λ (v : ℕ). v == 0) (get_or-set_other s x (get_or docs k 0) (get_or s x 0 + w) 0 (apart_first x docs apart k inside))),
-    )
-
-counted_by_bits : (p : ℕ → Bool) (bit : ℕ → ℕ) (base from n : ℕ) → count_by p (in_range bit base from n) ≡ count_by (λ i. (bit i == 1) && p (base + i)) (range_with_len from n)
-counted_by_bits p bit base from zero = refl
-counted_by_bits p bit base from (suc n) = omega (
-  arith,
-  counted_step (bit from == 1) p base from (filter (λ i. bit i == 1) (range_with_len (from + 1) n)),
-  sum_by-cons (λ i. worth ((bit i == 1) && p (base + i))) from (range_with_len (from + 1) n),
-  counted_by_bits p bit base (from + 1) n,
-)
-
-pub touched-bits : (w base : ℕ) (bits s : List ℕ) → 1 ≤ w → All (λ d. d < length s) (set_bits base bits)
-    → touched_count (added w (set_bits base bits) s) ≡ touched_count s + count_by (λ i. (bit_of bits i == 1) && (get_or s (base + i) 0 == 0)) (range_with_len 0 (8 * length bits))
-unfolding numbers_of_bits
-touched-bits w base bits s some within = omega (
-  arith,
-  touched-apart w (set_bits base bits) s some within (bits_apart base bits),
-  counted_by_bits (λ d. get_or s d 0 == 0) (bit_of bits) base 0 (8 * length bits),
-)
 
 -- ---- the slots of half a page
 
@@ -328,23 +278,7 @@ put_half w half slot bits lent part one few size part_size part_is small =
 
 -- ---- what the slots tell
 
--- the slots before: those that were 0 are touched now
-pub touched-slots : (w base : ℕ) (bits s slots : List ℕ) → 1 ≤ w → All (λ d. d < length s) (set_bits base bits) → length slots ≡ 8 * length bits
-    → ((i : ℕ) → i < 8 * length bits → bit_of bits i ≡ 1 → get_or slots i 0 ≡ get_or s (base + i) 0)
-    → touched_count (added w (set_bits base bits) s) ≡ touched_count s + count_by (λ i. (bit_of bits i == 1) && (get_or slots i 0 == 0)) (range_with_len 0 (length slots))
-touched-slots w base bits s slots some within size were = touched-bits w base bits s some within ∙ ap (λ (n : ℕ). touched_count s + n)
-    (counted_same (λ i. (bit_of bits i == 1) && (get_or slots i 0 == 0)) (λ i. (bit_of bits i == 1) && (get_or s (base + i) 0 == 0)) (range_with_len 0 (8 * length bits))
-    (λ k inside. let low : k < 8 * length bits = omega (arith, inside, length-range_with_len 0 (8 * length bits)) in
-    subst (λ (i : ℕ). ((bit_of bits i == 1) && (get_or s (base + i) 0 == 0)) ≡ ((bit_of bits i == 1) && (get_or slots i 0 == 0)))
-    (sym (get_or-range_with_len 0 (8 * length bits) k 0 low ∙ omega arith)) (same k low (eqb_tells (bit_of bits k) 1)))
-    ∙ ap (λ (n : ℕ). count_by (λ i. (bit_of bits i == 1) && (get_or slots i 0 == 0)) (range_with_len 0 n)) (sym size))
-  where
-    same : (i : ℕ) → i < 8 * length bits → ((bit_of bits i == 1) ≡ true) × (bit_of bits i ≡ 1) ⊎ ((bit_of bits i == 1) ≡ false) × (bit_of bits i ≢ 1)
-        → ((bit_of bits i == 1) && (get_or s (base + i) 0 == 0)) ≡ ((bit_of bits i == 1) && (get_or slots i 0 == 0))
-    same i low (inl set) = ap (λ (v : ℕ). (bit_of bits i == 1) && (v == 0)) (sym (were i low set.1))
-    same i low (inr unset) = ap (λ (b : Bool). b && (get_or s (base + i) 0 == 0)) unset.0 ∙ sym (ap (λ (b : Bool). b && (get_or slots i 0 == 0)) unset.0)
-
--- the slots after: where none is at least the hit's score and at most the weight above it, none passed it
+-- where none of the slots after is at least the hit's score and at most the weight above it, none passed it
 pub raised-not_near : (w base : ℕ) (last : Hit) (bits s slots : List ℕ) → length slots ≡ 8 * length bits
     → ((i : ℕ) → i < 8 * length bits → bit_of bits i ≡ 1 → get_or slots i 0 ≡ get_or s (base + i) 0 + w)
     → list_any (λ i. (bit_of bits i == 1) && (nat_le last.score (get_or slots i 0) && nat_le (get_or slots i 0) (last.score + w))) (range_with_len 0 (length slots)) ≡ false

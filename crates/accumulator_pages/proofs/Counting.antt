@@ -1,9 +1,9 @@
 -- Touched documents and pages, counted.
-use Rattle.shared_lemmas.proofs.Common.{◌≡◌, ℕ, suc, zero, Bool, true, false, not, cond, eqb, ◌+◌, ◌*◌, ◌/◌, ◌%◌, ◌<◌, ◌≤◌, List, [], ◌∷◌, length, get_or, set, drop, take, count_by, refl, ap, ◌∙◌, arith, length-set, range_with_len, get_or_default_zero, lt-ltb, le-ltb, nat_tests, get_or-take}
-use Rattle.shared_lemmas.proofs.Common.{get_or-drop, length-take, length-drop, list_any-from_Any, list_any_none, sum_by-set, sum_by-cons, count_by-le-length}
+use Rattle.shared_lemmas.proofs.Common.{◌≡◌, ℕ, suc, zero, Bool, true, false, not, cond, ◌+◌, ◌*◌, ◌/◌, ◌%◌, ◌<◌, List, [], ◌∷◌, length, get_or, drop, take, count_by, refl, ap, ◌∙◌, arith, range_with_len, get_or_default_zero, lt-ltb, le-ltb, get_or-take}
+use Rattle.shared_lemmas.proofs.Common.{get_or-drop, length-take, length-drop, list_any-from_Any, list_any_none, sum_by-cons}
 use Rattle.shared_lemmas.proofs.Places.{in_range}
 use mir.Val.{bool_byte}
-use Rattle.accumulator_pages.specs.Adding.{is_touched, touched_count, page_is_touched}
+use Rattle.accumulator_pages.specs.Adding.{is_touched, page_is_touched}
 use Rattle.accumulator_pages.specs.Pages.{HasTouched}
 
 abbrev pub worth : Bool → ℕ
@@ -13,25 +13,16 @@ pub byte_worth : (b : Bool) → bool_byte b ≡ worth b
 byte_worth true = refl
 byte_worth false = refl
 
-one_touched : (score : ℕ) → worth (is_touched score) + worth (eqb score 0) ≡ 1
-one_touched score = grind (arith, nat_tests)
-
--- a document whose score is the weight alone is one more
-pub touched-rise : (s : List ℕ) (d w score more touched : ℕ) → d < length s → 0 < w → score ≡ get_or s d 0 + w → more ≡ worth (eqb score w) → touched ≡ touched_count s
-    → touched + more ≡ touched_count (set s d score)
-touched-rise s d w score more touched inside some rose more_is is =
-    let new : worth (is_touched score) ≡ 1 = ap worth (lt-ltb 0 score (omega (arith, some, rose))) in
-    let alone : worth (eqb score w) ≡ worth (eqb (get_or s d 0) 0) = same_test score w (get_or s d 0) rose in
-    omega (arith, sum_by-set (λ x. worth (is_touched x)) s d score 0 inside, new, one_touched (get_or s d 0), alone, more_is, is)
-  where
-    same_test : (score w before : ℕ) → score ≡ before + w → worth (eqb score w) ≡ worth (eqb before 0)
-    same_test score w before rose = grind (arith, nat_tests)
-
--- so the count doesn't pass the number of documents
-pub touched-fits : (s : List ℕ) (d w score more touched : ℕ) → d < length s → 0 < w → score ≡ get_or s d 0 + w → more ≡ worth (eqb score w) → touched ≡ touched_count s
-    → touched + more ≤ length s
-touched-fits s d w score more touched inside some rose more_is is =
-    omega (arith, touched-rise s d w score more touched inside some rose more_is is, count_by-le-length is_touched (set s d score), length-set s d score)
+-- one document more is counted where it is touched
+pub counted_on : (p : ℕ → Bool) (xs : List ℕ) (n x : ℕ) → n < length xs → x ≡ get_or xs n 0 → count_by p (take (n + 1) xs) ≡ count_by p (take n xs) + worth (p x)
+counted_on p [] n x inside is = absurd (omega arith)
+counted_on p (y ∷ ys) zero x inside is = omega (arith, sum_by-cons (λ z. worth (p z)) y [], ap (λ z. worth (p z)) is)
+counted_on p (y ∷ ys) (suc n) x inside is =
+    let next : suc n + 1 ≡ suc (n + 1) = omega arith in
+    let more : count_by p (take (suc n + 1) (y ∷ ys)) ≡ worth (p y) + count_by p (take (n + 1) ys) =
+    ap (λ (k : ℕ). count_by p (take k (y ∷ ys))) next ∙ sum_by-cons (λ z. worth (p z)) y (take (n + 1) ys) in
+    let so_far : count_by p (take (suc n) (y ∷ ys)) ≡ worth (p y) + count_by p (take n ys) = sum_by-cons (λ z. worth (p z)) y (take n ys) in
+    omega (arith, more, so_far, counted_on p ys n x (omega arith) is)
 
 pub some_counted : (p : ℕ → Bool) (xs : List ℕ) (i : ℕ) → i < length xs → p (get_or xs i 0) ≡ true → 0 < count_by p xs
 some_counted p [] i inside is = absurd (omega arith)

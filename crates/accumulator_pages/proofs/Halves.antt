@@ -1,15 +1,16 @@
 -- The slots of half a page, to which a weight is added where bits are set.
-use Rattle.shared_lemmas.proofs.Common.{◌≡◌, ◌≢◌, ℕ, Bool, false, ◌++◌, ◌+◌, ◌-◌, ◌*◌, ◌/◌, ◌%◌, ◌^◌, ◌<◌, ◌≤◌, List, [], length, take, drop, get_or, All, refl, sym, ap, ◌∙◌, subst, inl, inr, arith, flat_map, cases_lt, eqb_tells, get_or_default_zero, get_or-drop, get_or-take, length-drop}
-use Rattle.shared_lemmas.proofs.Common.{length-take, All-get_or, length-map-range_with_len, bit_at-lt}
+use Rattle.shared_lemmas.proofs.Common.{◌≡◌, ◌≢◌, ℕ, Bool, false, cond, filter, ◌++◌, ◌+◌, ◌-◌, ◌*◌, ◌/◌, ◌%◌, ◌^◌, ◌<◌, ◌≤◌, List, [], length, take, drop, get_or, All, refl, sym, ap, ◌∙◌, subst, inl, inr, arith, flat_map, cases_lt, eqb_tells, get_or_default_zero, get_or-drop, get_or-take, length-drop}
+use Rattle.shared_lemmas.proofs.Common.{length-take, length-filter, count_by-le-length, All-filter, All-get_or, length-map-range_with_len, bit_at-lt}
 use Rattle.frame_pool.specs.ChainView.{with_page}
 use Rattle.jass_base.specs.declared.answer.Hit.{Hit}
-use Rattle.lane_kernels.specs.Adding.{added_where, near_where, zeros_where}
+use Rattle.lane_kernels.specs.Adding.{added_where, is_near, near_where}
 use Rattle.lane_kernels.specs.Bitmap.{bit_of, set_bits}
 use Rattle.lane_kernels.proofs.SetBits.{set_bits_members}
-use Rattle.accumulator_pages.specs.Adding.{added, crossed, page_count, raised, touched_count}
+use Rattle.accumulator_pages.specs.Adding.{added, crossed, page_count, raised}
 use Rattle.accumulator_pages.specs.Pages.{HasTouched, no_frame}
 use Rattle.accumulator_pages.proofs.Adding.{added-above, length-added}
-use Rattle.accumulator_pages.proofs.Bits.{added-bits, added_is_page, bit_of_number_there, half_bit, part_added, flat_map-same, put_half, raised-not_near, touched-slots}
+use Rattle.accumulator_pages.proofs.Bits.{added-bits, added_is_page, bit_of_number_there, half_bit, part_added, past_bits, flat_map-same, put_half, raised-not_near}
+use Rattle.accumulator_pages.proofs.NearBits.{near_noted, set_bits_picked, unset}
 
 -- ---- the documents of set bits
 
@@ -112,14 +113,6 @@ half_raised w row n bits s lent part few is size are made =
     (λ i low. ap (λ (xs : List ℕ). get_or xs i 0) made_of ∙ part_added w half m i bits lent size (omega (arith, few)) low) small
     ∙ ap (λ (v : ℕ). v + w * half_bit bits half slot) (are slot small within)))
 
--- the slots that were 0 are the documents that are touched now
-pub half_zeros : (w row n told : ℕ) (bits s lent : List ℕ) → length bits ≤ 16 → n ≡ 8 * length bits → length lent ≡ 256 → AreSlots lent s (row / 2)
-    → 1 ≤ w → All (λ d. d < length s) (set_bits (128 * row) bits) → told ≡ zeros_where bits (half_of lent (row % 2) n)
-    → touched_count (added w (set_bits (128 * row) bits) s) ≡ touched_count s + told
-half_zeros w row n told bits s lent few is size are some within counted = touched-slots w (128 * row) bits s (half_of lent (row % 2) n) some within
-    (length-half lent (row % 2) n size (omega arith) (omega (arith, few, is)) ∙ is) (λ i low set. slot_was row n i bits s lent few is are within low set)
-    ∙ ap (λ (k : ℕ). touched_count s + k) (sym counted)
-
 -- no slot near the hit: no document passed it
 pub half_not_near : (w row n : ℕ) (last : Hit) (near : Bool) (bits s lent part : List ℕ) → length bits ≤ 16 → n ≡ 8 * length bits → length lent ≡ 256 → AreSlots lent s (row / 2)
     → All (λ d. d < length s) (set_bits (128 * row) bits) → part ≡ added_where w bits (half_of lent (row % 2) n) → near ≡ near_where w last.score bits part → near ≡ false
@@ -153,7 +146,7 @@ slot_is row k bits s lent few are within inside =
     are (d % 256) (omega arith) (omega (arith, at, within k 0 inside)) ∙ ap (λ (e : ℕ). get_or s e 0) at
 
 -- those noted by their slots are those noted by their scores
-pub noted_by_slots : (w row : ℕ) (last : Hit) (bits s lent : List ℕ) → length bits ≤ 16 → AreSlots lent s (row / 2) → All (λ d. d < length s) (set_bits (128 * row) bits)
+noted_by_slots : (w row : ℕ) (last : Hit) (bits s lent : List ℕ) → length bits ≤ 16 → AreSlots lent s (row / 2) → All (λ d. d < length s) (set_bits (128 * row) bits)
     → flat_map (λ d. crossed d (get_or lent (d % 256) 0 - w) (get_or lent (d % 256) 0) last) (set_bits (128 * row) bits)
     ≡ flat_map (λ d. crossed d (get_or s d 0 - w) (get_or s d 0) last) (set_bits (128 * row) bits)
 noted_by_slots w row last bits s lent few are within =
@@ -166,3 +159,52 @@ pub slots_rose : (w row : ℕ) (bits s lent : List ℕ) → length bits ≤ 16 �
 slots_rose w row bits s lent few are within rose k d inside =
     let is : get_or (set_bits (128 * row) bits) k d ≡ get_or (set_bits (128 * row) bits) k 0 = get_or_default_zero (set_bits (128 * row) bits) k d inside in
     subst (λ (e : ℕ). w ≤ get_or lent (e % 256) 0) (sym is) (omega (arith, rose k 0 inside, slot_is row k bits s lent few are within inside))
+
+-- ---- who of them is near the hit
+
+-- the slots of the set bits have the weight
+pub half_rose : (w row n : ℕ) (bits s lent : List ℕ) → length bits ≤ 16 → n ≡ 8 * length bits → AreSlots lent s (row / 2) → All (λ d. d < length s) (set_bits (128 * row) bits)
+    → All (λ d. w ≤ get_or s d 0) (set_bits (128 * row) bits) → (i : ℕ) → bit_of bits i ≡ 1 → w ≤ get_or (half_of lent (row % 2) n) i 0
+half_rose w row n bits s lent few is are within rose i set =
+    let has = (set_bits_members (128 * row) bits i).1 set in
+    let high : w ≤ get_or s (128 * row + i) 0 = subst (λ (d : ℕ). w ≤ get_or s d 0) has.2 (rose has.0 (128 * row + i) has.1) in
+    elim (cases_lt i (8 * length bits)) as (λ _. w ≤ get_or (half_of lent (row % 2) n) i 0) [
+      | inl low ↦ omega (arith, high, slot_was row n i bits s lent few is are within low set)
+      | inr past ↦ absurd (omega (arith, set, past_bits bits i past))
+    ]
+
+module _ (w row n score : ℕ) (bits near lent : List ℕ) (few : length bits ≤ 16) (long : length near ≡ 16) (is : n ≡ 8 * length bits)
+    (told : (i : ℕ) → bit_of near i ≡ cond (is_near w score (get_or (half_of lent (row % 2) n) i 0)) (bit_of bits i) 0) where
+  near_documents : set_bits (128 * row) near ≡ filter (λ d. is_near w score (get_or lent (d % 256) 0)) (set_bits (128 * row) bits)
+  near_documents = set_bits_picked (λ d. is_near w score (get_or lent (d % 256) 0)) (128 * row) bits near (omega (arith, few, long)) (λ i. told i ∙ elim (cases_lt i (8 * length bits)) [
+    | inl low ↦
+        ap (λ (v : ℕ). cond (is_near w score v) (bit_of bits i) 0)
+        (get_or-take n (drop (128 * (row % 2)) lent) i 0 (omega (arith, low, is)) ∙ get_or-drop (128 * (row % 2)) lent i 0
+        ∙ ap (λ (d : ℕ). get_or lent d 0) (let e : 128 * (row % 2) + i ≡ (128 * row + i) % 256 = omega (arith, low, few) in e))
+    | inr past ↦
+        let none : bit_of bits i ≡ 0 = past_bits bits i past in
+        unset (is_near w score (get_or (half_of lent (row % 2) n) i 0)) (bit_of bits i) none
+        ∙ sym (unset (is_near w score (get_or lent ((128 * row + i) % 256) 0)) (bit_of bits i) none)
+  ])
+
+  pub near_fewer : length (set_bits (128 * row) near) ≤ length (set_bits (128 * row) bits)
+  near_fewer =
+      let p : ℕ → Bool = λ d. is_near w score (get_or lent (d % 256) 0) in
+      let docs : List ℕ = set_bits (128 * row) bits in
+      omega (arith, ap (λ (xs : List ℕ). length xs) near_documents, length-filter p docs, count_by-le-length p docs)
+
+  pub near_rose : All (λ d. w ≤ get_or lent (d % 256) 0) (set_bits (128 * row) bits) → All (λ d. w ≤ get_or lent (d % 256) 0) (set_bits (128 * row) near)
+  near_rose rose =
+      subst (All (λ d. w ≤ get_or lent (d % 256) 0)) (sym near_documents)
+      (All-filter (λ d. is_near w score (get_or lent (d % 256) 0)) (λ d. w ≤ get_or lent (d % 256) 0) (set_bits (128 * row) bits) rose)
+
+-- those noted of them are all that are noted by their scores
+pub noted_by_near : (w row n : ℕ) (last : Hit) (bits near s lent : List ℕ) → length bits ≤ 16 → length near ≡ 16 → n ≡ 8 * length bits
+    → ((i : ℕ) → bit_of near i ≡ cond (is_near w last.score (get_or (half_of lent (row % 2) n) i 0)) (bit_of bits i) 0)
+    → AreSlots lent s (row / 2) → All (λ d. d < length s) (set_bits (128 * row) bits)
+    → flat_map (λ d. crossed d (get_or lent (d % 256) 0 - w) (get_or lent (d % 256) 0) last) (set_bits (128 * row) near)
+    ≡ flat_map (λ d. crossed d (get_or s d 0 - w) (get_or s d 0) last) (set_bits (128 * row) bits)
+noted_by_near w row n last bits near s lent few long is told are within =
+    ap (flat_map (λ d. crossed d (get_or lent (d % 256) 0 - w) (get_or lent (d % 256) 0) last)) (near_documents w row n last.score bits near lent few long is told)
+    ∙ near_noted w last (λ d. get_or lent (d % 256) 0) (set_bits (128 * row) bits)
+    ∙ noted_by_slots w row last bits s lent few are within

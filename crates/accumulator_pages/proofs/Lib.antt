@@ -4,5 +4,6 @@ pub mod Standing
 pub mod Untouched
 pub mod Raising
 pub mod Bits
+pub mod NearBits
 pub mod Halves
 pub mod Keeping

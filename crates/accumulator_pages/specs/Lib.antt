@@ -1,4 +1,3 @@
 pub mod Adding
 pub mod Pages
 pub mod Reached
-pub mod Private

@@ -2,7 +2,7 @@
 use Rattle.std.specs.Prelude.{◌≡◌, ◌≢◌, ℕ, ◌+◌, ◌/◌, ◌<◌, ◌≤◌, ◌==◌, min, if◌then◌else◌, List, length, slice_index, count_by, Option, Some, None}
 use Rattle.frame_pool.specs.Pool.{PoolView, IsInUse}
 use Rattle.frame_pool.specs.ChainView.{ChainView, LacksPage, chain_view, number_with_page, view_scores, view_places}
-use Rattle.accumulator_pages.specs.Adding.{page_count, touched_count}
+use Rattle.accumulator_pages.specs.Adding.{page_count}
 use Rattle.accumulator_pages.specs.declared.pages.Pages.{Pages}
 
 -- ---- what is seen of the pages
@@ -71,10 +71,9 @@ HasTouched scores page = (doc : ℕ) × (doc / 256 ≡ page) × (0 < slice_index
 abbrev pub AreUsed : List ℕ → List ℕ → Type 0
 AreUsed table scores = (page : ℕ) → page < length table → slice_index table page ≢ no_frame → HasTouched scores page
 
--- the fields of pages tell what their chain holds, each page with a frame has a touched document, and all of these are counted
+-- the fields of pages tell what their chain holds, and each page with a frame has a touched document
 pub record PagesStand (pages : Pages) (view : ChainView) : Type 0 where
   pub fields : FieldsStand pages view
-  pub touched : pages.touched ≡ touched_count (view_scores pages.docs view)
   pub used : AreUsed pages.table.items (view_scores pages.docs view)
 
 -- the pages stand in the pool: nothing is read of it but their own chain

@@ -4,6 +4,7 @@
 //! 256 documents that has one with a score. No call but the two `new` takes memory.
 
 pub mod laws;
+mod near;
 mod pages;
 mod reached;
 

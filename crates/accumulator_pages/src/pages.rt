@@ -5,13 +5,13 @@ ghost use Rattle.frame_pool.specs.ChainView.{HasPage, LeavesPool, chain_view};
 ghost use Rattle.lane_kernels.specs.Bitmap.{set_bits};
 ghost use Rattle.accumulator_pages.specs.Adding.{added, crossed, raised, touched_count, touched_pages};
 ghost use Rattle.accumulator_pages.specs.Pages.{ArePagesOf, FieldsStand, HasRoom, HasRoomFor, Stands, docs_of, frame_of_entry, no_frame, own_chain, own_view, pages_places, pages_scores};
-ghost use Rattle.accumulator_pages.specs.Private.Frames.{FramesStand};
 
+use crate::near::near_bits;
 use crate::reached::Reached;
 use frame_pool::laws::calls_on_one_chain;
 use frame_pool::{Chain, FrameId, FramePool};
 use jass_base::{Hit, NoMemory};
-use lane_kernels::{Added, add_where, bits_to_docs, first_zero};
+use lane_kernels::{add_where, bits_to_docs, first_zero};
 use std::alloc::Global;
 
 /// The documents of a page.
@@ -29,7 +29,6 @@ pub struct Pages {
     chain: Chain,
     table: Vec<u32>,
     docs: u32,
-    touched: u32,
     frames: u32,
 }
 
@@ -56,7 +55,6 @@ impl Pages {
                 chain,
                 table,
                 docs,
-                touched: 0,
                 frames: 0,
             }),
             Err(_) => Err((chain, NoMemory)),
@@ -78,8 +76,9 @@ impl Pages {
         ensures same { ArePagesOf self.old self.new }
         ensures leaves { LeavesPool pool.old pool.new (own_chain self.old) }
     {
-        let score = self.raise(pool, doc, w);
-        self.touched += u32::from(score == w);
+        let frame = self.frame_of(pool, doc / PAGE_DOCS);
+        let score = self.score_in(pool, frame, doc) + w;
+        pool.set_score(frame, (doc % PAGE_DOCS) as u8, score);
         score
     }
 
@@ -111,14 +110,10 @@ impl Pages {
         ensures leaves { LeavesPool pool.old pool.new (own_chain self.old) }
     {
         calls_on_one_chain();
-        // Counted aside: a count in memory would have each document wait for the one before it.
-        let mut touched = self.touched;
         for doc in docs {
-            let score = self.raise(pool, *doc, w);
-            touched += u32::from(score == w);
+            let score = self.add(pool, *doc, w);
             reached.note(*doc, score, w, last);
         }
-        self.touched = touched;
     }
 
     /// Adds a weight to the scores of the documents whose bits are set, and notes those that pass the hit `last` by
@@ -160,9 +155,8 @@ impl Pages {
         if !any_set(bits) {
             return;
         }
-        let added = self.raise_bits(pool, row, bits, w, last);
-        self.touched += added.zeros;
-        if added.near {
+        let near = self.raise_bits(pool, row, bits, w, last);
+        if near {
             self.note_bits(pool, row, bits, w, last, reached);
         }
     }
@@ -179,11 +173,16 @@ impl Pages {
         }
     }
 
-    /// How many documents have a score of at least 1.
-    pub fn touched(&self) -> u32
-        ensures { (pool : PoolView) → Stands self.now pool → result ≡ touched_count (pages_scores self.now pool) }
+    /// How many documents have a score. It looks at each document's: a count would cost every posting that is added.
+    pub fn touched(&self, pool: &FramePool) -> u32
+        requires { Stands self.now pool.now }
+        ensures { result ≡ touched_count (pages_scores self.now pool.now) }
     {
-        self.touched
+        let mut touched = 0;
+        for doc in 0..self.docs {
+            touched += u32::from(self.get(pool, doc) > 0);
+        }
+        touched
     }
 
     /// How many frames the chain has, which is how many pages have a document with a score of at least 1.
@@ -243,49 +242,14 @@ impl Pages {
             chain,
             table: _,
             docs: _,
-            touched: _,
             frames: _,
         } = self;
         chain
     }
 
-    /// Adds a weight to the score of a document, and answers the new score. It doesn't count touched documents: those
-    /// whose new score is the weight are touched now.
-    fn raise(&mut self, pool: &mut FramePool, doc: u32, w: u32) -> u32
-        requires own { IsInUse pool.old (own_chain self.old) }
-        requires stand { FramesStand self.old (own_view self.old pool.old) }
-        requires inside { doc < docs_of self.old }
-        requires weight { 1 ≤ w }
-        requires fits { slice_index (pages_scores self.old pool.old) doc + w < 2 ^ 32 }
-        requires frame { HasRoom (own_view self.old pool.old) (doc / 256) }
-        ensures score { result ≡ slice_index (pages_scores self.old pool.old) doc + w }
-        ensures scores { pages_scores self.new pool.new ≡ slice_set (pages_scores self.old pool.old) doc result }
-        ensures places { pages_places self.new pool.new ≡ pages_places self.old pool.old }
-        ensures frames { length (own_view self.new pool.new).frames ≤ length (own_view self.old pool.old).frames + 1 }
-        ensures own { IsInUse pool.new (own_chain self.new) }
-        ensures stand { FramesStand self.new (own_view self.new pool.new) }
-        ensures touched { self.new.touched ≡ self.old.touched }
-        ensures same { ArePagesOf self.old self.new }
-        ensures leaves { LeavesPool pool.old pool.new (own_chain self.old) }
-    {
-        let frame = self.frame_of(pool, doc / PAGE_DOCS);
-        let score = self.score_in(pool, frame, doc) + w;
-        pool.set_score(frame, (doc % PAGE_DOCS) as u8, score);
-        score
-    }
-
-    /// Adds a weight to the scores of the documents whose bits are set, and tells how many of them had none, and
-    /// whether one may have passed the hit. It doesn't count touched documents.
-    fn raise_bits(
-        &mut self,
-        pool: &mut FramePool,
-        row: u32,
-        bits: &[u8],
-        w: u32,
-        last: Hit,
-    ) -> Added
-        requires own { IsInUse pool.old (own_chain self.old) }
-        requires stand { FramesStand self.old (own_view self.old pool.old) }
+    /// Adds a weight to the scores of the documents whose bits are set, and tells whether one may have passed the hit.
+    fn raise_bits(&mut self, pool: &mut FramePool, row: u32, bits: &[u8], w: u32, last: Hit) -> bool
+        requires stands { Stands self.old pool.old }
         requires bits { length bits.now ≤ 16 }
         requires some { 1 ≤ length (set_bits (128 * row) bits.now) }
         requires inside { All (λ doc. doc < docs_of self.old) (set_bits (128 * row) bits.now) }
@@ -296,14 +260,10 @@ impl Pages {
         ensures scores { pages_scores self.new pool.new
             ≡ added w (set_bits (128 * row) bits.now) (pages_scores self.old pool.old) }
         ensures places { pages_places self.new pool.new ≡ pages_places self.old pool.old }
-        ensures zeros { touched_count (pages_scores self.new pool.new)
-            ≡ touched_count (pages_scores self.old pool.old) + result.zeros }
-        ensures none_near { result.near ≡ false
+        ensures none_near { result ≡ false
             → raised w last (set_bits (128 * row) bits.now) (pages_scores self.old pool.old) ≡ [] }
         ensures frames { length (own_view self.new pool.new).frames ≤ length (own_view self.old pool.old).frames + 1 }
-        ensures own { IsInUse pool.new (own_chain self.new) }
-        ensures stand { FramesStand self.new (own_view self.new pool.new) }
-        ensures touched { self.new.touched ≡ self.old.touched }
+        ensures stands { Stands self.new pool.new }
         ensures same { ArePagesOf self.old self.new }
         ensures leaves { LeavesPool pool.old pool.new (own_chain self.old) }
     {
@@ -346,9 +306,13 @@ impl Pages {
         let Some(frame) = self.known_frame(row / 2) else {
             return;
         };
+        // Few of the documents are near the hit, and none of the others passed it: those aren't looked at one by one.
+        let slots = pool.scores_of(frame);
+        let first = 128 * (row % 2) as usize;
+        let near = near_bits(&slots[first..first + 8 * bits.len()], bits, w, last.score);
         let mut block = [0u32; 128];
-        let count = bits_to_docs(bits, 128 * row, &mut block);
-        note_slots(pool.scores_of(frame), &block[..count], w, last, reached);
+        let count = bits_to_docs(&near, 128 * row, &mut block);
+        note_slots(slots, &block[..count], w, last, reached);
     }
 
     /// The frame of a page, which is taken where the page has none.
@@ -364,7 +328,6 @@ impl Pages {
         ensures fields { FieldsStand self.new (own_view self.new pool.new) }
         ensures entries { (other : ℕ) → other ≢ page
             → slice_index self.new.table.items other ≡ slice_index self.old.table.items other }
-        ensures touched { self.new.touched ≡ self.old.touched }
         ensures same { ArePagesOf self.old self.new }
         ensures own { IsInUse pool.new (own_chain self.new) }
         ensures leaves { LeavesPool pool.old pool.new (own_chain self.old) }
@@ -390,7 +353,6 @@ impl Pages {
         ensures fields { FieldsStand self.new (own_view self.new pool.new) }
         ensures entries { (other : ℕ) → other ≢ page
             → slice_index self.new.table.items other ≡ slice_index self.old.table.items other }
-        ensures touched { self.new.touched ≡ self.old.touched }
         ensures same { ArePagesOf self.old self.new }
         ensures own { IsInUse pool.new (own_chain self.new) }
         ensures leaves { LeavesPool pool.old pool.new (own_chain self.old) }

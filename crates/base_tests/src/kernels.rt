@@ -1,8 +1,6 @@
 // Worked examples of the formats that the kernels read and write.
 
-use lane_kernels::{
-    Added, add_where, bits_to_docs, fits128, pack128, running128, unpack128, width128,
-};
+use lane_kernels::{add_where, bits_to_docs, fits128, pack128, running128, unpack128, width128};
 use std::process::Abort;
 
 /// 0, and then 127 times 1: the gaps of the documents 0, 2, .., 254.
@@ -54,15 +52,8 @@ fn check_nears(rt: &impl Abort, rows: &[(u32, bool)]) {
     for (from, near) in rows {
         // Slot 1 is 5, but its bit is not set.
         let mut slots = [0, 5, 7, 0, 0, 0, 0, 9];
-        let added = add_where(&mut slots, &[0b1000_0101], 3, *from);
+        assert!(rt; add_where(&mut slots, &[0b1000_0101], 3, *from) == *near);
         assert!(rt; slots == [3, 5, 10, 0, 0, 0, 0, 12]);
-        assert!(rt;
-            added
-                == Added {
-                    zeros: 1,
-                    near: *near
-                }
-        );
     }
 }
 

@@ -119,7 +119,7 @@ fn fill_second_page(rt: &impl Abort, pages: &mut Pages, pool: &mut FramePool)
     ensures stands { Stands pages.new pool.new }
 {
     add_first(rt, pages, pool, 299, 1);
-    assert!(rt; pages.frames() == 2 && pages.touched() == 2);
+    assert!(rt; pages.frames() == 2 && pages.touched(pool) == 2);
     assert!(rt; has_scores(pages, pool, &[(0, 2), (299, 1), (298, 0)]));
 }
 

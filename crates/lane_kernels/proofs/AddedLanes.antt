@@ -132,17 +132,9 @@ module _ (w place : ℕ) (slots marks old : List ℕ) (many : length marks ≡ 4
   pub new_long : length (added_lanes w marks old) ≡ 4
   new_long = ap length new_are
 
-  -- the masks of the two tests
-  abbrev zero_lanes : List ℕ → List ℕ
-  zero_lanes xs = zip2 (λ a b. cond (eqb a b) 4294967295 0) xs (replicate 4 0)
-
+  -- the masks of the test
   abbrev near_lanes : ℕ → List ℕ → List ℕ
   near_lanes from xs = zip2 (λ a b. cond (leb a b) 4294967295 0) (zip2 (λ a b. (a + (2 ^ 32 - b)) % 2 ^ 32) xs (replicate 4 from)) (replicate 4 w)
-
-  pub zeros_long : (counts : List ℕ) → length counts ≡ 4 → length (counted_lanes marks (zero_lanes old) counts) ≡ 4
-  zeros_long counts long =
-      ap (λ (xs : List ℕ). length (counted_lanes marks (zero_lanes xs) counts)) (loaded ∙ chunk_four place slots within)
-      ∙ length_counted (λ k. cond (eqb (get_or slots (place + k) 0) 0) 4294967295 0) marks counts many long
 
   pub nears_long : (from : ℕ) (counts : List ℕ) → length counts ≡ 4 → length (counted_lanes marks (near_lanes from (added_lanes w marks old)) counts) ≡ 4
   nears_long from counts long =
@@ -164,12 +156,6 @@ module _ (w place : ℕ) (slots marks old : List ℕ) (many : length marks ≡ 4
           | inl below ↦ get_or-put_chunk_below place slots (added_lanes w marks old) i 0 below
           | inr above ↦ get_or-put_chunk_above place slots (added_lanes w marks old) i 0 (omega (arith, new_long))
         ]
-
-    pub zeros_counted : (counts : List ℕ) → length counts ≡ 4 → sum_l counts + 4 < 2 ^ 32
-        → sum_l (counted_lanes marks (zero_lanes old) counts) ≡ sum_l counts + marked_count marks (λ k. eqb (get_or slots (place + k) 0) 0)
-    zeros_counted counts long room =
-        sum_counted (λ k. eqb (get_or slots (place + k) 0) 0) marks _ counts many long
-        (ap zero_lanes (loaded ∙ chunk_four place slots within)) room
 
     pub nears_counted : (from : ℕ) → from < 2 ^ 32 → (counts : List ℕ) → length counts ≡ 4 → sum_l counts + 4 < 2 ^ 32
         → sum_l (counted_lanes marks (near_lanes from (added_lanes w marks old)) counts)

@@ -1,7 +1,7 @@
 -- Adding to the slots of a bitmap, four at a time.
 use Rattle.shared_lemmas.proofs.Common.{◌≡◌, ℕ, zero, suc, ◌+◌, ◌-◌, ◌*◌, ◌/◌, ◌%◌, ◌^◌, ◌<◌, ◌≤◌, Bool, true, false, not, cond, ◌&&◌, ◌||◌, eqb, List, [], ◌∷◌, ◌++◌, length, get_or, count_by, sym, ap, ◌∙◌, refl, arith, inl, inr, ◌⊎◌, Fits, w32, bit_at, list_any, range_with_len, cases_lt, ne_eqb}
 use Rattle.shared_lemmas.proofs.Common.{fill_by_all, length-range_with_len, sum_by-cons, sum_by-append, count_by-le-length, bit_at-lt, sum_fits, fold-sum}
-use Rattle.lane_kernels.specs.Adding.{added_where, is_near, near_where, zeros_where}
+use Rattle.lane_kernels.specs.Adding.{added_where, is_near, near_where}
 use Rattle.lane_kernels.specs.Bitmap.{bit_of}
 use Rattle.lane_kernels.specs.Private.Lanes.{is_marked, weight_at}
 use Rattle.lane_kernels.proofs.AddedLanes.{marked_count}
@@ -39,19 +39,15 @@ any_is_count p [] = refl
 any_is_count p (x ∷ xs) = some_or (p x) (list_any p xs) (count_by p xs) (count_by p (x ∷ xs)) (any_is_count p xs) (sum_by-cons (λ y. cond (p y) 1 0) x xs)
 
 -- ---- the slots whose bits are set
-abbrev pub was_zero : List ℕ → List ℕ → ℕ → Bool
-was_zero bits slots i = eqb (bit_of bits i) 1 && eqb (get_or slots i 0) 0
-
 abbrev pub gets_near : ℕ → ℕ → List ℕ → List ℕ → ℕ → Bool
 gets_near w from bits slots i = eqb (bit_of bits i) 1 && is_near w from (get_or slots i 0 + w * bit_of bits i)
 
--- w was added to those below n, and they were counted
-pub record AddedBelow (w from : ℕ) (bits slots now zeros nears : List ℕ) (n : ℕ) : Type 0 where
+-- w was added to those below n, and those near now were counted
+pub record AddedBelow (w from : ℕ) (bits slots now nears : List ℕ) (n : ℕ) : Type 0 where
   pub long : length now ≡ length slots
-  pub lanes : (length zeros ≡ 4) × (length nears ≡ 4)
+  pub lanes : length nears ≡ 4
   pub done : (i : ℕ) → i < n → get_or now i 0 ≡ get_or slots i 0 + w * bit_of bits i
   pub rest : (i : ℕ) → n ≤ i → get_or now i 0 ≡ get_or slots i 0
-  pub zeros_are : sum_l zeros ≡ count_by (was_zero bits slots) (range_with_len 0 n)
   pub nears_are : sum_l nears ≡ count_by (gets_near w from bits slots) (range_with_len 0 n)
 
 cond_bit : (w b : ℕ) → b < 2 → cond (eqb b 1) w 0 ≡ w * b
@@ -59,7 +55,7 @@ cond_bit w zero h = omega arith
 cond_bit w (suc zero) h = omega arith
 cond_bit w (suc (suc b)) h = absurd (omega arith)
 
-module _ (w from : ℕ) (bits slots now zeros nears : List ℕ) (n : ℕ) (was : AddedBelow w from bits slots now zeros nears n)
+module _ (w from : ℕ) (bits slots now nears : List ℕ) (n : ℕ) (was : AddedBelow w from bits slots now nears n)
     (marks : List ℕ) (are : (k : ℕ) → k < 4 → is_marked marks k ≡ eqb (bit_of bits (n + k)) 1) where
   weight_is : (k : ℕ) → k < 4 → weight_at w marks k ≡ w * bit_of bits (n + k)
   weight_is k h = ap (λ b. cond b w 0) (are k h) ∙ cond_bit w (bit_of bits (n + k)) (bit_at-lt (get_or bits ((n + k) / 8) 0) ((n + k) % 8))
@@ -67,9 +63,6 @@ module _ (w from : ℕ) (bits slots now zeros nears : List ℕ) (n : ℕ) (was :
   pub fits_here : n + 4 ≤ length slots → ((i : ℕ) → i < length slots → get_or slots i 0 + w * bit_of bits i < 2 ^ 32)
       → (k : ℕ) → k < 4 → get_or now (n + k) 0 + weight_at w marks k < 2 ^ 32
   fits_here within fits k h = omega (arith, was.rest (n + k) (omega arith), weight_is k h, fits (n + k) (omega arith))
-
-  pub zeros_room : n ≤ 128 → sum_l zeros + 4 < 2 ^ 32
-  zeros_room few = omega (arith, was.zeros_are, count_most (was_zero bits slots) n)
 
   pub nears_room : n ≤ 128 → sum_l nears + 4 < 2 ^ 32
   nears_room few = omega (arith, was.nears_are, count_most (gets_near w from bits slots) n)
@@ -83,25 +76,14 @@ module _ (w from : ℕ) (bits slots now zeros nears : List ℕ) (n : ℕ) (was :
         sym (ap (λ j. get_or later j 0) place) ∙ at ∙ ap (λ j. get_or slots j 0 + w * bit_of bits j) place
 
     pub four_more : length later ≡ length now → ((i : ℕ) → (i < n) ⊎ (n + 4 ≤ i) → get_or later i 0 ≡ get_or now i 0)
-        → (zs ns : List ℕ) → (length zs ≡ 4) × (length ns ≡ 4)
-        → sum_l zs ≡ sum_l zeros + marked_count marks (λ k. eqb (get_or now (n + k) 0) 0)
+        → (ns : List ℕ) → length ns ≡ 4
         → sum_l ns ≡ sum_l nears + marked_count marks (λ k. is_near w from (get_or later (n + k) 0))
-        → AddedBelow w from bits slots later zs ns (n + 4)
-    four_more same others zs ns lanes zeros_now nears_now = record {
+        → AddedBelow w from bits slots later ns (n + 4)
+    four_more same others ns lanes nears_now = record {
       long = same ∙ was.long;
       lanes = lanes;
       done = λ i h. elim (cases_lt i n) [ inl below ↦ others i (inl below) ∙ was.done i below | inr above ↦ value_is i above h ];
       rest = λ i h. others i (inr h) ∙ was.rest i (omega arith);
-      zeros_are =
-          zeros_now
-          ∙ ap (λ m. m + marked_count marks (λ k. eqb (get_or now (n + k) 0) 0)) was.zeros_are
-          ∙ ap (λ m. count_by (was_zero bits slots) (range_with_len 0 n) + m)
-          (count_same (λ k. is_marked marks k && eqb (get_or now (n + k) 0) 0) (was_zero bits slots) 0 n 4 (λ k i j h e f.
-          ap (λ l. is_marked marks l && eqb (get_or now (n + l) 0) 0) (let a : i ≡ k = omega arith in a)
-          ∙ ap (λ t. t && eqb (get_or now (n + k) 0) 0) (are k h)
-          ∙ ap (λ x. eqb (bit_of bits (n + k)) 1 && eqb x 0) (was.rest (n + k) (omega arith))
-          ∙ ap (was_zero bits slots) (sym f)))
-          ∙ sym (count_more (was_zero bits slots) n 4);
       nears_are =
           nears_now
           ∙ ap (λ m. m + marked_count marks (λ k. is_near w from (get_or later (n + k) 0))) was.nears_are
@@ -128,18 +110,12 @@ pub high_marks : (bits marks : List ℕ) (at : ℕ) → ((k : ℕ) → k < 4 →
 high_marks bits marks at are k h = are k h ∙ ap (λ b. eqb b 1) (sym (bit_in_byte bits at (4 + k) (8 * at + 4 + k) (omega arith) (omega arith)))
 
 -- ---- all slots
-module _ (w from : ℕ) (bits slots now zeros nears : List ℕ) (n : ℕ) (was : AddedBelow w from bits slots now zeros nears n) (all : n ≡ length slots) (few : n ≤ 128) where
+module _ (w from : ℕ) (bits slots now nears : List ℕ) (n : ℕ) (was : AddedBelow w from bits slots now nears n) (all : n ≡ length slots) (few : n ≤ 128) where
   pub all_added : now ≡ added_where w bits slots
   all_added = fill_by_all (λ i. get_or slots i 0 + w * bit_of bits i) now (length slots) 0 was.long (λ k h. was.done k (omega arith))
 
-  pub zeros_fit : Steps (λ s x. Fits w32 (s + x)) (λ s x. s + x) 0 zeros
-  zeros_fit = sum_fits w32 0 zeros (omega (arith, was.zeros_are, count_most (was_zero bits slots) n))
-
   pub nears_fit : Steps (λ s x. Fits w32 (s + x)) (λ s x. s + x) 0 nears
   nears_fit = sum_fits w32 0 nears (omega (arith, was.nears_are, count_most (gets_near w from bits slots) n))
-
-  pub all_zeros : fold_l (λ s x. s + x) 0 zeros ≡ zeros_where bits slots
-  all_zeros = fold-sum 0 zeros ∙ omega (arith, was.zeros_are, ap (λ m. count_by (was_zero bits slots) (range_with_len 0 m)) all)
 
   pub all_near : not (eqb (fold_l (λ s x. s + x) 0 nears) 0) ≡ near_where w from bits now
   all_near =

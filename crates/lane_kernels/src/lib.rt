@@ -14,7 +14,7 @@ mod unpack;
 mod width;
 mod zeros;
 
-pub use adding::{Added, add_where};
+pub use adding::add_where;
 pub use bitmap::bits_to_docs;
 pub use bytes::{small16, widen16};
 pub use gaps::{fits128, running128};

@@ -1,16 +1,12 @@
 use Rattle.std.proofs.Common.{◌≡◌, ◌+◌, ◌-◌, ◌≤◌, ◌++◌, length, drop}
-use Rattle.frame_pool.specs.Pool.{IsInUse}
 use Rattle.frame_pool.specs.ChainView.{LeavesPool}
-use Rattle.accumulator_pages.specs.Adding.{added, raised, touched_count}
-use Rattle.accumulator_pages.specs.Pages.{ArePagesOf, HasRoomFor, docs_of, own_chain, own_view, pages_places, pages_scores}
-use Rattle.accumulator_pages.specs.Private.Frames.{FramesStand}
+use Rattle.accumulator_pages.specs.Adding.{added, raised}
+use Rattle.accumulator_pages.specs.Pages.{ArePagesOf, HasRoomFor, Stands, docs_of, own_chain, own_view, pages_places, pages_scores}
 use Rattle.accumulator_pages.proofs.pages.Pages.add_all.Given as goal
 
 abbrev pub invariant-loop-doc : goal.invariant-loop-doc
 invariant-loop-doc l = record {
-  own : IsInUse l.pool (own_chain l.self);
-  stand : FramesStand l.self (own_view l.self l.pool);
-  touched : l.touched ≡ touched_count (pages_scores l.self l.pool);
+  stands : Stands l.self l.pool;
   same : ArePagesOf l.fn.self l.self;
   left : added l.w (drop l.doc-index l.docs) (pages_scores l.self l.pool) ≡ added l.w l.docs (pages_scores l.fn.self l.fn.pool);
   noted : l.reached.docs ++ raised l.w l.last (drop l.doc-index l.docs) (pages_scores l.self l.pool) ≡ l.fn.reached.docs ++ raised l.w l.last l.docs (pages_scores l.fn.self l.fn.pool);

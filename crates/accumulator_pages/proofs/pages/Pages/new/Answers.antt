@@ -1,6 +1,5 @@
-use Rattle.shared_lemmas.proofs.Common.{◌≡◌, ℕ, List, length, replicate, cond, rules, sym, ap, ◌∙◌, arith, div_ceil, sum_by-replicate}
+use Rattle.shared_lemmas.proofs.Common.{◌≡◌, ℕ, List, length, replicate, rules, sym, ap, ◌∙◌, div_ceil}
 use Rattle.frame_pool.specs.ChainView.{ChainView, HeldFrame, chain_view, view_scores}
-use Rattle.accumulator_pages.specs.Adding.{is_touched, touched_count}
 use Rattle.accumulator_pages.proofs.Standing.{no_values, new_stands, new_unused}
 use Rattle.accumulator_pages.proofs.pages.Pages.new.Goals as goal
 
@@ -9,7 +8,6 @@ returns-in-Ok-clause-stands c =
     let view : ChainView = chain_view c.args.pool.now c.args.chain in
     let made : c.in-Ok.table.items ≡ replicate (div_ceil c.args.docs 256) 4294967295 =
     c.in-Ok.ensures.items_if_clones_equal (λ y h. search rules) ∙ ap (λ (n : ℕ). replicate n 4294967295) c.div_ceil.ensures in
-    let scores : view_scores c.args.docs view ≡ replicate c.args.docs 0 = no_values (λ x. x.scores) c.args.docs view c.requires.empty in
     record {
       in_use = c.requires.own;
       here = record {
@@ -17,7 +15,6 @@ returns-in-Ok-clause-stands c =
           table = new_stands c.in-Ok.table.items c.args.docs view c.requires.empty made;
           frames = sym (ap (λ (hs : List HeldFrame). length hs) c.requires.empty);
         };
-        touched = sym (ap touched_count scores ∙ sum_by-replicate (λ (x : ℕ). cond (is_touched x) 1 0) c.args.docs 0 ∙ omega arith);
         used = new_unused c.in-Ok.table.items (view_scores c.args.docs view) (div_ceil c.args.docs 256) made;
       };
     }

@@ -2,16 +2,16 @@ use Rattle.std.proofs.Common.{◌≡◌, ℕ, ◌*◌, ◌+◌, ◌-◌, ◌/◌
 use borrow.Rule.Slice.PartMut.{put_mid}
 use Rattle.frame_pool.specs.ChainView.{with_page}
 use Rattle.frame_pool.specs.Pool.{with_frame_scores}
-use Rattle.accumulator_pages.specs.Adding.{added, touched_count}
+use Rattle.accumulator_pages.specs.Adding.{added}
 use Rattle.accumulator_pages.specs.Pages.{HasTouched, own_view, pages_scores}
-use Rattle.accumulator_pages.proofs.Halves.{AreSlots, half_fits, half_not_near, half_raised, half_zeros, row_inside, used_by_bits}
+use Rattle.accumulator_pages.proofs.Halves.{AreSlots, half_fits, half_not_near, half_raised, row_inside, used_by_bits}
 use Rattle.accumulator_pages.proofs.Standing.{length-values, table_kept}
 use Rattle.lane_kernels.specs.Bitmap.{set_bits}
 use Rattle.accumulator_pages.proofs.pages.Pages.raise_bits.Goals as goal
 
 pub frame_of-frame-requires-clause-inside : goal.frame_of-frame-requires-clause-inside
 frame_of-frame-requires-clause-inside c =
-    omega (arith, row_inside c.args.row c.args.self.now.docs c.args.bits.now c.requires.bits c.requires.some c.requires.inside, c.requires.stand.fields.table.covers)
+    omega (arith, row_inside c.args.row c.args.self.now.docs c.args.bits.now c.requires.bits c.requires.some c.requires.inside, c.requires.stands.here.fields.table.covers)
 
 pub add_where-requires-clause-fits : goal.add_where-requires-clause-fits
 add_where-requires-clause-fits c =
@@ -44,21 +44,19 @@ returns c =
     record {
       scores = after;
       places = c.scores_mut-slots.ensures.places slots chain docs ∙ c.frame_of-frame.ensures.places;
-      zeros = ap touched_count after
-          ∙ half_zeros c.args.w c.args.row n c.add_where.result.zeros c.args.bits.now scores lent c.requires.bits (omega arith) c.scores_mut-slots.ensures.slots are
-          c.requires.weight (λ k d inside. omega (arith, size, c.requires.inside k d inside)) c.add_where.ensures.zeros;
-      none_near = half_not_near c.args.w c.args.row n c.args.last c.add_where.result.near c.args.bits.now scores lent c.add_where.new.slots c.requires.bits (omega arith)
+      none_near = half_not_near c.args.w c.args.row n c.args.last c.add_where.result c.args.bits.now scores lent c.add_where.new.slots c.requires.bits (omega arith)
           c.scores_mut-slots.ensures.slots are (λ k d inside. omega (arith, size, c.requires.inside k d inside)) c.add_where.ensures.slots c.add_where.ensures.near;
       frames = search rules;
-      own = search rules;
-      stand = record {
-        fields = record { table = table_kept c.frame_of-frame.new.self.table.items docs _ _ keeps fields.table; frames = fields.frames ∙ sym keeps.count };
-        used = λ page inside entry. subst (λ (s : List ℕ). HasTouched s page) (sym after)
-            (used_by_bits c.args.self.now.table.items c.frame_of-frame.new.self.table.items scores c.args.row c.args.w c.args.bits.now
-            (omega (arith, fields.table.covers, c.requires.stand.fields.table.covers, c.frame_of-frame.ensures.same.docs)) c.frame_of-frame.ensures.entries
-            c.requires.bits c.requires.some (λ k d inside. omega (arith, size, c.requires.inside k d inside)) c.requires.weight c.requires.stand.used page inside entry);
+      stands = record {
+        in_use = search rules;
+        here = record {
+          fields = record { table = table_kept c.frame_of-frame.new.self.table.items docs _ _ keeps fields.table; frames = fields.frames ∙ sym keeps.count };
+          used = λ page inside entry. subst (λ (s : List ℕ). HasTouched s page) (sym after)
+              (used_by_bits c.args.self.now.table.items c.frame_of-frame.new.self.table.items scores c.args.row c.args.w c.args.bits.now
+              (omega (arith, fields.table.covers, c.requires.stands.here.fields.table.covers, c.frame_of-frame.ensures.same.docs)) c.frame_of-frame.ensures.entries
+              c.requires.bits c.requires.some (λ k d inside. omega (arith, size, c.requires.inside k d inside)) c.requires.weight c.requires.stands.here.used page inside entry);
+        };
       };
-      touched = search rules;
       same = search rules;
       leaves = search rules;
     }

@@ -1,2 +1,0 @@
--- Words that no clause of a public call cites: those of this crate's own functions.
-pub mod Frames
