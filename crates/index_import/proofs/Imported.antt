@@ -22,7 +22,7 @@ use Rattle.index_import.specs.declared.list_entry.Place.{Place}
 use Rattle.index_import.specs.declared.weighing.Weighing.{Weighing}
 
 -- what holds of a content holds on it, where the name isn't missing
-on_there : (files : Option Files) (name : List ℕ) (P : List ℕ → Type 0) → ¬ IsMissing files name → ForContent files name P → OnContent files name P
+pub on_there : (files : Option Files) (name : List ℕ) (P : List ℕ → Type 0) → ¬ IsMissing files name → ForContent files name P → OnContent files name P
 on_there None name P here is = tt
 on_there (Some files) name P here is = at (get files name) refl is
   where

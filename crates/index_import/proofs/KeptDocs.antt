@@ -1,5 +1,5 @@
 -- Documents whose names stand one behind the other, while bytes and documents are appended, and in another order.
-use Rattle.shared_lemmas.proofs.Common.{◌≡◌, ◌∙◌, ℕ, ◌+◌, ◌≤◌, List, [], ◌∷◌, ◌++◌, length, map, get_or, All, IsPermutation, refl, sym, ap, subst, arith, slice_range, map-append, length-append, All-append, All-cons, All-nil, All-head, All-tail, All-map, All-permutation, IsPermutation-map, map-map}
+use Rattle.shared_lemmas.proofs.Common.{◌≡◌, ◌∙◌, ℕ, ◌+◌, ◌≤◌, List, [], ◌∷◌, ◌++◌, length, map, get_or, All, IsPermutation, refl, sym, ap, subst, arith, slice_range, map-append, length-append, All-append, All-cons, All-nil, All-head, All-tail, All-map, All-permutation, IsPermutation-map, map-map, suc, ◌<◌, take, take-suc}
 use Rattle.std.specs.List.Sorted.{IsNonDecreasingBy}
 use Rattle.jass_base.specs.Ciff.{FitsDoc}
 use Rattle.index_import.proofs.Below.{NumberedDoc}
@@ -62,3 +62,11 @@ ordered_docs bytes docs ordered kept same rising = record {
 -- the lengths of the documents
 pub lengths_at : (bytes : List ℕ) (docs : List KeptDoc) → map (λ (d : KeptDoc). d.length) docs ≡ lengths_in (records_at bytes docs)
 lengths_at bytes docs = sym (map-map (λ (r : NumberedDoc). r.doc.length) (record_at bytes) docs)
+
+-- the length of one document more
+pub lengths_next : (docs : List KeptDoc) (i : ℕ) (d : KeptDoc) → i < length docs
+    → map (λ (d : KeptDoc). d.length) (take (i + 1) docs) ≡ map (λ (d : KeptDoc). d.length) (take i docs) ++ (get_or docs i d).length ∷ []
+lengths_next docs i d low =
+    let one : i + 1 ≡ suc i = omega arith in
+    ap (λ (n : ℕ). map (λ (d : KeptDoc). d.length) (take n docs)) one ∙ ap (map (λ (d : KeptDoc). d.length)) (take-suc docs i d low)
+    ∙ map-append (λ (d : KeptDoc). d.length) (take i docs) (get_or docs i d ∷ [])

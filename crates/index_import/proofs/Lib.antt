@@ -13,6 +13,7 @@ mod SegmentTurns
 mod Rows
 mod Surveying
 mod Turns
+mod Unread
 mod Widening
 mod Words
 mod Written

@@ -7,7 +7,7 @@ use Rattle.std.specs.List.{sum_by}
 use Rattle.index_import.proofs.Below.{ListData, IsName, IsText, BytesRise, IsKeptList, by_number, collection_of, NumberedDoc, KeptList, postings_kept, terms_kept, HasKept, WalkView, lengths_of, total_of, all_map_at, strictly}
 use Rattle.shared_lemmas.proofs.Pairs.{pairs_by_places, pairs_by_recursion, pairs_map, AllPairs-unmap}
 use Rattle.index_import.specs.Private.KeptDocs.{AreInOrder, lengths_in, names_in}
-use Rattle.index_import.specs.Private.Outlining.{IsOutline, IsOutlined, has_postings, list_there, lists_there, names_of}
+use Rattle.index_import.specs.Private.Outlining.{IsOutline, IsOutlined, earlier, has_postings, list_there, lists_there, names_of}
 use Rattle.index_import.specs.Private.Surveying.{AreGiven, AreKept, HoldsMost, IsSurvey, KeepsAll, has_some, kept_entry}
 use Rattle.index_import.specs.declared.list_entry.ListEntry.{ListEntry}
 use Rattle.index_import.proofs.Ready.{list_there_is}
@@ -53,9 +53,6 @@ term_of e = e.term
 
 abbrev count_of : ListEntry → ℕ
 count_of e = e.place.count
-
-abbrev pub earlier : ListEntry → ListEntry → Bool
-earlier a b = is_lt (slice_cmp nat_cmp a.term b.term)
 
 pub earlier_orders : IsStrictWeakOrder earlier
 earlier_orders = ranks_by nat_list_cmp_total term_of

@@ -3,7 +3,7 @@ use Rattle.shared_lemmas.proofs.Common.{◌≡◌, ◌≢◌, ℕ, ◌+◌, ◌-
 use Rattle.shared_lemmas.proofs.Common.{IsStrictlyIncreasing, nat_tests, not_from_Decides, length-append, map-append, All-from_recursion, All-nil, All-push, filter-append, all_pairs_push, bytes_eq-Decides}
 use Rattle.index_import.proofs.Below.{header_data, list_data, FitsList, HeaderData, ListData, HasDocsBelow, Files, ForContent, HasTfInRange, docs_of, DocRecord, Header, Posting, PostingsList, Assembles, IsKeptList, Parts, collection_of, only_header, with_piece, Advances, GivesPiece, GivesTold}
 use Rattle.index_import.proofs.Below.{piece_data, NumberedDoc, is_among, numbers_of, is_marked, DocPiece, EndPiece, IsReached, KeptList, ListPiece, PieceData, Progress, StartPiece, Step, header_of_file, next_of, terms_kept, FailsReading, read_ciff, is_seen, Begins, IsListAt, Keeps, KeepsRanges}
-use Rattle.index_import.proofs.Below.{StandsFor, StandsTold, WalkView, kept_of, AreFrom, Piece, CiffFault, CiffRefusal, for_all, for_both, most_tf, list_fits}
+use Rattle.index_import.proofs.Below.{StandsFor, StandsTold, WalkView, kept_of, AreFrom, Piece, CiffFault, CiffRefusal, for_all, for_both, for_one, most_tf, list_fits}
 use Rattle.ciff_read.specs.declared.piece.Piece.TheVariants as pieces
 use Rattle.ciff_read.specs.declared.refusal.CiffFault.TheVariants as faults
 use Rattle.index_import.specs.Private.KeptDocs.{numbered}
@@ -351,3 +351,12 @@ module _ (laws : PieceLaws) (told : Option Files) (name : List ℕ) (old new : W
   fault_told fault given =
       for_both told name (λ content. Follows content old docs) (λ content. (p : Progress) → Keeps old p → FailsReading fault (next_of content p)) (λ content. FailsReading fault (read_ciff content))
       (λ content follows next. fault_follows laws content old new docs follows fault (next follows.progress follows.keeps)) before given
+
+-- a file whose header is refused is refused
+pub unopened : PieceLaws → (told : Option Files) (name : List ℕ) (fault : CiffFault) → ForContent told name (λ content. FailsReading fault (header_of_file content)) → ForContent told name (λ content. FailsReading fault (read_ciff content))
+unopened laws told name fault fails = for_one told name (λ content. FailsReading fault (header_of_file content)) (λ content. FailsReading fault (read_ciff content)) (λ content. refused fault content) fails
+  where
+    refused : (fault : CiffFault) (content : List ℕ) → FailsReading fault (header_of_file content) → FailsReading fault (read_ciff content)
+    refused (faults.Refused refusal) content is = laws.bad_header content refusal is
+    refused faults.ReadFault content is = tt
+    refused faults.NoMemory content is = tt

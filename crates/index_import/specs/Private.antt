@@ -4,6 +4,7 @@ pub mod Heading
 pub mod KeptDocs
 pub mod KeptPostings
 pub mod ListTerm
+pub mod OnlyReads
 pub mod Outlining
 pub mod Ranging
 pub mod Rereading

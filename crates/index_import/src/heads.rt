@@ -79,7 +79,10 @@ pub(crate) fn read_heads<C: Cabinet>(
     'lists: for entry in lists {
         match reader.read(walk, files, weighing, bits, range, entry) {
             Ok(()) => {}
-            Err(fault) => return Err(fault),
+            Err(fault) => {
+                drop(reader);
+                return Err(fault);
+            }
         }
     }
     Ok(reader.into_heads())

@@ -114,6 +114,13 @@ fn import_outline<C: Cabinet>(
     ensures later { C.read_faults files.old ≤ C.read_faults files.new }
     ensures others { C.write_faults files.old ≤ C.write_faults files.new }
 {
+    let norms = match length_norms(alloc, outline.total, &outline.lengths) {
+        Ok(norms) => norms,
+        Err(_) => {
+            drop(outline);
+            return Err(ImportFault::NoMemory);
+        }
+    };
     let Outline {
         mut walk,
         docs,
@@ -121,17 +128,18 @@ fn import_outline<C: Cabinet>(
         total,
         lists,
     } = outline;
-    let norms = match length_norms(alloc, total, &lengths) {
-        Ok(norms) => norms,
-        Err(_) => return Err(ImportFault::NoMemory),
-    };
     let weighing = Weighing {
         rule,
         total,
         lengths: &lengths,
         norms: &norms,
     };
-    import_lists(alloc, &mut walk, files, weighing, bits, &docs, lists, index)
+    let totals = import_lists(alloc, &mut walk, files, weighing, bits, &docs, lists, index);
+    drop(norms);
+    drop(lengths);
+    drop(docs);
+    drop(walk);
+    totals
 }
 
 /// Makes an index file of a file that was judged. Its lists go by rising terms; those whose postings
@@ -163,7 +171,10 @@ fn import_lists<C: Cabinet>(
 {
     let range = match read_range(walk, files, weighing, bits, &lists) {
         Ok(range) => range,
-        Err(fault) => return Err(ImportFault::from_ciff(fault)),
+        Err(fault) => {
+            drop(lists);
+            return Err(ImportFault::from_ciff(fault));
+        }
     };
     if are_few(&lists) {
         import_held(
@@ -212,7 +223,9 @@ fn import_held<C: Cabinet>(
         Ok(spelling) => spelling,
         Err(fault) => return Err(ImportFault::from_ciff(fault)),
     };
-    write_spelled(alloc, files, docs, spelling, index)
+    let totals = write_spelled(alloc, files, docs, &spelling, index);
+    drop(spelling);
+    totals
 }
 
 /// Makes an index file of lists that are read once more to write their payloads.
@@ -253,7 +266,10 @@ fn import_reread<C: Cabinet>(
     };
     let names = match docs.names(alloc) {
         Ok(names) => names,
-        Err(_) => return Err(ImportFault::NoMemory),
+        Err(_) => {
+            drop(heads);
+            return Err(ImportFault::NoMemory);
+        }
     };
     write_index(
         alloc, walk, files, weighing, bits, range, names, heads, index,

@@ -57,7 +57,12 @@ impl KeptDocs {
     {
         let length = item.length;
         let from = self.bytes.len();
-        self.bytes.extend_from_slice(item.name.as_str().as_bytes())?;
+        let extended = self.bytes.extend_from_slice(item.name.as_str().as_bytes());
+        drop(item);
+        match extended {
+            Ok(()) => {}
+            Err(_) => return Err(NoMemory),
+        }
         let to = self.bytes.len();
         let doc = KeptDoc {
             number,
@@ -65,20 +70,17 @@ impl KeptDocs {
             from,
             to,
         };
-        match self.docs.push(doc) {
-            Ok(()) => Ok(()),
-            // The bytes stay behind the others, and are no document's.
-            Err(_) => Err(NoMemory),
-        }
+        // Where memory is refused the bytes stay behind the others, and are no document's.
+        self.docs.push(doc)?;
+        Ok(())
     }
 
-    /// The same documents by rising numbers.
-    pub fn into_order(self) -> Result<KeptDocs, NoMemory>
-        ensures { IfOk result (AreInOrder self) }
+    /// Puts the documents in order by rising numbers.
+    pub fn put_in_order(&mut self) -> Result<(), NoMemory>
+        ensures { OnOk result (AreInOrder self.old self.new) }
     {
-        let KeptDocs { bytes, mut docs } = self;
-        docs.sort_by(|a, b| a.number.cmp(&b.number))?;
-        Ok(KeptDocs { bytes, docs })
+        self.docs.sort_by(|a, b| a.number.cmp(&b.number))?;
+        Ok(())
     }
 
     /// The lengths of the documents.

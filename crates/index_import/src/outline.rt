@@ -1,7 +1,8 @@
-ghost use Rattle.std.specs.Prelude.{ℕ, ◌≡◌, ◌<◌, ◌≤◌, List, length, IfOk};
+ghost use Rattle.std.specs.Prelude.{ℕ, ◌≡◌, ◌<◌, ◌≤◌, List, length, IfOk, OnOk};
+ghost use Rattle.std.specs.List.Sorted.{IsPermutation, IsSortedBy};
 ghost use Rattle.impact_segments.specs.Collections.{total_of};
-ghost use Rattle.index_import.specs.Private.KeptDocs.{names_in};
-ghost use Rattle.index_import.specs.Private.Outlining.{IsOutline, IsOutlined};
+ghost use Rattle.index_import.specs.Private.KeptDocs.{AreInOrder, lengths_in, names_in};
+ghost use Rattle.index_import.specs.Private.Outlining.{IsOutline, IsOutlined, earlier};
 ghost use Rattle.index_import.specs.Private.Surveying.{AreKept, IsSurvey};
 ghost use Rattle.jass_base.specs.declared.limits.TheConstants.{MOST_DOCUMENTS};
 
@@ -37,15 +38,16 @@ impl Outline {
             → IfOk result (λ o. IsOutline content survey.walk.docs (names_in o.docs) o.lengths.items o.lists.items) }
     {
         records_have_one_order();
-        let Survey {
-            walk,
-            docs,
-            mut lists,
-        } = survey;
-        lists.sort_by(|a, b| a.term.as_str().cmp(b.term.as_str()))?;
-        let docs = docs.into_order()?;
-        let lengths = docs.lengths(alloc)?;
+        let mut survey = survey;
+        let lengths = match put_in_order(alloc, &mut survey) {
+            Ok(lengths) => lengths,
+            Err(_) => {
+                drop(survey);
+                return Err(NoMemory);
+            }
+        };
         let total = total_length(&lengths);
+        let Survey { walk, docs, lists } = survey;
         Ok(Outline {
             walk,
             docs,
@@ -54,6 +56,22 @@ impl Outline {
             lists,
         })
     }
+}
+
+/// Puts the documents in order by their numbers, and the lists by their terms, and gives the lengths of
+/// the documents.
+fn put_in_order(alloc: Global, survey: &mut Survey) -> Result<Vec<u32>, NoMemory>
+    ensures walk { survey.new.walk ≡ survey.old.walk }
+    ensures docs { OnOk result (AreInOrder survey.old.docs survey.new.docs) }
+    ensures lengths { IfOk result (λ lengths. lengths.items ≡ lengths_in survey.new.docs) }
+    ensures same { IsPermutation survey.old.lists.items survey.new.lists.items }
+    ensures sorted { OnOk result (IsSortedBy earlier survey.new.lists.items) }
+{
+    survey
+        .lists
+        .sort_by(|a, b| a.term.as_str().cmp(b.term.as_str()))?;
+    survey.docs.put_in_order()?;
+    survey.docs.lengths(alloc)
 }
 
 /// The terms of documents of these lengths in all, at least 1.

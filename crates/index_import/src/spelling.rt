@@ -80,7 +80,10 @@ pub(crate) fn spell_lists<C: Cabinet>(
     'lists: for entry in lists {
         match speller.spell(walk, files, weighing, bits, range, &entry) {
             Ok(()) => {}
-            Err(fault) => return Err(fault),
+            Err(fault) => {
+                drop(speller);
+                return Err(fault);
+            }
         }
         drop(entry);
     }
@@ -198,12 +201,29 @@ impl Speller {
     {
         let Speller {
             terms,
-            mut payloads,
+            payloads,
             block,
             ..
         } = self;
-        payloads.push(block)?;
-        Ok(Spelling { terms, payloads })
+        Spelling::of(terms, payloads, block)
+    }
+}
+
+impl Spelling {
+    /// Puts the payloads of a last block behind the others.
+    fn of(terms: SpelledTerms, payloads: Blocks, block: Row<u8>) -> Result<Spelling, NoMemory>
+        ensures terms { IfOk result (λ s. s.terms ≡ terms) }
+        ensures payloads { IfOk result (λ s. s.payloads ≡ payloads ++ block) }
+    {
+        let mut payloads = payloads;
+        match payloads.push(block) {
+            Ok(()) => Ok(Spelling { terms, payloads }),
+            Err(_) => {
+                drop(terms);
+                drop(payloads);
+                Err(NoMemory)
+            }
+        }
     }
 }
 
@@ -234,12 +254,12 @@ pub(crate) fn write_spelled<C: Cabinet>(
     alloc: Global,
     files: &mut C,
     docs: &KeptDocs,
-    spelling: Spelling,
+    spelling: &Spelling,
     index: &str,
 ) -> Result<Totals, ImportFault>
     requires { AreNames (names_in docs.now) }
     ensures written { (name : List ℕ) (made : List TermData)
-        → AreOf (length (names_in docs.now)) spelling.terms spelling.payloads made
+        → AreOf (length (names_in docs.now)) spelling.now.terms spelling.now.payloads made
         → Writes (C.told files.old) (C.told files.new) name index.now
         (record { names = names_in docs.now; terms = made }) result }
     ensures read_fault { IsErrOf result ImportFault.ReadFault
@@ -250,12 +270,20 @@ pub(crate) fn write_spelled<C: Cabinet>(
     ensures others { C.write_faults files.old ≤ C.write_faults files.new }
 {
     appended_payloads_make_the_text();
-    let Spelling { terms, payloads } = spelling;
     let names = match docs.spelled_names(alloc) {
         Ok(names) => names,
         Err(_) => return Err(ImportFault::NoMemory),
     };
-    match write_parts(alloc, &names, &terms, &payloads, files, index) {
+    let written = write_parts(
+        alloc,
+        &names,
+        &spelling.terms,
+        &spelling.payloads,
+        files,
+        index,
+    );
+    drop(names);
+    match written {
         Ok(totals) => Ok(totals),
         Err(fault) => Err(not_begun(fault)),
     }

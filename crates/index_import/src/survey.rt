@@ -1,7 +1,8 @@
-ghost use Rattle.std.specs.Prelude.{◌≡◌, ◌≤◌, ◌⊎◌, length, IfOk, IsErrOf, MatchResult, OnOk};
-ghost use Rattle.jass_base.specs.Outside.{IsMissing, Rose};
-ghost use Rattle.ciff_read.specs.Walk.{IsOutside};
-ghost use Rattle.index_import.specs.Private.Surveying.{AreKept, IsReady, KeepsList, SurveyTold};
+ghost use Rattle.std.specs.Prelude.{◌≡◌, ◌≤◌, ◌⊎◌, [], length, IfOk, IsErrOf, MatchResult, OnOk};
+ghost use Rattle.jass_base.specs.Outside.{ForContent, IsMissing, Rose};
+ghost use Rattle.ciff_read.specs.Walk.{Begins, IsOutside, KeepsRanges, StandsTold};
+ghost use Rattle.index_import.specs.Private.OnlyReads.{OnlyReads};
+ghost use Rattle.index_import.specs.Private.Surveying.{AreKept, EndsSurvey, IsReady, KeepsList, SurveyTold};
 ghost use Rattle.jass_base.specs.declared.limits.TheConstants.{MOST_POSTINGS};
 
 use crate::kept_docs::KeptDocs;
@@ -50,6 +51,46 @@ impl Survey {
         self.lists.push(entry)?;
         Ok(())
     }
+
+    /// Keeps the pieces of a file, of which none was read yet, to its end.
+    fn read_pieces<C: Cabinet>(&mut self, alloc: Global, files: &mut C) -> Result<(), CiffFault>
+        requires there { ¬ IsMissing (C.told files.old) self.old.walk.name }
+        requires stands { StandsTold (C.told files.old) self.old.walk }
+        requires begins { Begins self.old.walk.name self.old.walk }
+        requires ranges { KeepsRanges self.old.walk }
+        requires docs { self.old.docs ≡ [] }
+        requires lists { self.old.lists.items ≡ [] }
+        ensures ready { OnOk result (IsReady (C.told files.old) self.old.walk.name self.new.walk) }
+        ensures kept { OnOk result (AreKept self.new.walk self.new.docs self.new.lists.items) }
+        ensures told { ForContent (C.told files.old) self.old.walk.name (λ content.
+            EndsSurvey content self.new.walk self.new.docs self.new.lists.items result) }
+        ensures reads { OnlyReads (C.told files.old) (C.told files.new) (C.read_faults files.old)
+            (C.read_faults files.new) (C.write_faults files.old) (C.write_faults files.new) result }
+    {
+        pieces_make_the_collection();
+        let mut room = MOST_KEPT_POSTINGS;
+        'pieces: loop {
+            let piece = match self.walk.next_piece(files) {
+                Ok(piece) => piece,
+                Err(fault) => return Err(fault),
+            };
+            match piece {
+                Piece::Start {
+                    header: _header,
+                    ..
+                } => {}
+                Piece::List { at, list } => match self.keep_list(alloc, at, list, &mut room) {
+                    Ok(()) => {}
+                    Err(_) => return Err(CiffFault::NoMemory),
+                },
+                Piece::Doc { number, item } => match self.docs.push(number, item) {
+                    Ok(()) => {}
+                    Err(_) => return Err(CiffFault::NoMemory),
+                },
+                Piece::End => return Ok(()),
+            }
+        }
+    }
 }
 
 /// Reads a file to its end, and judges it.
@@ -75,26 +116,11 @@ pub(crate) fn survey_file<C: Cabinet>(
         docs: KeptDocs::new(alloc),
         lists: Vec::new(alloc),
     };
-    let mut room = MOST_KEPT_POSTINGS;
-    'pieces: loop {
-        let piece = match survey.walk.next_piece(files) {
-            Ok(piece) => piece,
-            Err(fault) => return Err(fault),
-        };
-        match piece {
-            Piece::Start {
-                header: _header,
-                ..
-            } => {}
-            Piece::List { at, list } => match survey.keep_list(alloc, at, list, &mut room) {
-                Ok(()) => {}
-                Err(_) => return Err(CiffFault::NoMemory),
-            },
-            Piece::Doc { number, item } => match survey.docs.push(number, item) {
-                Ok(()) => {}
-                Err(_) => return Err(CiffFault::NoMemory),
-            },
-            Piece::End => return Ok(survey),
+    match survey.read_pieces(alloc, files) {
+        Ok(()) => Ok(survey),
+        Err(fault) => {
+            drop(survey);
+            Err(fault)
         }
     }
 }

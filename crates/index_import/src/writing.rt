@@ -80,13 +80,24 @@ pub(crate) fn write_index<C: Cabinet>(
             place,
         ) {
             Ok(()) => {}
-            Err(fault) => return Err(ImportFault::from_ciff(fault)),
+            Err(fault) => {
+                drop(scratch);
+                drop(segments);
+                drop(writer);
+                return Err(ImportFault::from_ciff(fault));
+            }
         }
         writer = match append_segments(alloc, writer, &segments, files) {
             Ok(writer) => writer,
-            Err(fault) => return Err(not_appended(fault, place.at)),
+            Err(fault) => {
+                drop(scratch);
+                drop(segments);
+                return Err(not_appended(fault, place.at));
+            }
         };
     }
+    drop(scratch);
+    drop(segments);
     Ok(writer.finish())
 }
 

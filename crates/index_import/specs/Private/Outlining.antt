@@ -2,6 +2,8 @@
 use Rattle.std.specs.Prelude.{ℕ, ◌≡◌, ◌<◌, ◌≤◌, ◌^◌, List, [], map, drop, length, filter, All, AllPairs, Result, Ok, Err, nat_lt, Bool}
 use Rattle.std.specs.List.{sum_by}
 use Rattle.std.specs.List.Sorted.{IsPermutation}
+use Rattle.std.specs.Ordering.{is_lt, nat_cmp}
+use Rattle.std.specs.Cmp.Lexicographic.{slice_cmp}
 use Rattle.jass_base.specs.Ciff.{DocData, ListData, CollectionData}
 use Rattle.jass_base.specs.Terms.{BytesRise}
 use Rattle.ciff_read.specs.declared.refusal.CiffRefusal.{CiffRefusal}
@@ -14,6 +16,10 @@ use Rattle.index_write.specs.Streaming.{AreNames}
 use Rattle.index_import.specs.declared.list_entry.ListEntry.{ListEntry}
 use Rattle.index_import.specs.Private.Surveying.{AreGiven, HoldsMost, KeepsAll, kept_entry}
 use Rattle.jass_base.specs.declared.limits.TheConstants.{MOST_DOCUMENTS, MOST_POSTINGS, MOST_TERMS}
+
+-- the term of a list comes before another's
+abbrev pub earlier : ListEntry → ListEntry → Bool
+earlier a b = is_lt (slice_cmp nat_cmp a.term b.term)
 
 -- what holds of an outline whether or not the content is told
 pub record IsOutlined (w : WalkView) (names : List (List ℕ)) (lengths : List ℕ) (total : ℕ) (lists : List ListEntry) : Type 0 where

@@ -98,5 +98,10 @@ abbrev pub Surveys : List ℕ → Result Survey CiffFault → Type 0
 Surveys content (Ok s) = IsSurvey content s.walk s.docs s.lists.items
 Surveys content (Err fault) = FailsReading fault (read_ciff content)
 
+-- what is kept at a file's end is the survey, or why there is none
+abbrev pub EndsSurvey : {T : Type 0} → List ℕ → WalkView → List NumberedDoc → List ListEntry → Result T CiffFault → Type 0
+EndsSurvey content w docs lists (Ok done) = IsSurvey content w docs lists
+EndsSurvey content w docs lists (Err fault) = FailsReading fault (read_ciff content)
+
 abbrev pub SurveyTold : Option Files → List ℕ → Result Survey CiffFault → Type 0
 SurveyTold files name result = ForContent files name (λ content. Surveys content result)

@@ -5,7 +5,7 @@ use Rattle.index_import.specs.Private.Surveying.{HoldsMost, KeepsAll}
 use Rattle.index_import.specs.declared.heads.Heads.{Heads}
 use Rattle.index_import.specs.declared.list_entry.ListEntry.{ListEntry}
 use Rattle.index_import.specs.declared.list_entry.Place.{Place}
-use Rattle.index_import.proofs.Again.{ready_then, told_now}
+use Rattle.index_import.proofs.Again.{memory_unread, no_less, no_less_itself, nothing_told, ok_unread, ready_now, ready_then, rose_before, still_fault, told_now}
 use Rattle.index_import.proofs.Headed.{HaveEntries, all_entries, as_many, fails_one, headed_then, heads_more, no_entries, no_heads, rows_more, entry_is}
 use Rattle.index_import.proofs.Ready.{leaves_same, leaves_then}
 use Rattle.index_import.proofs.Turns.{middle, parted, whole}
@@ -118,3 +118,99 @@ returns-clause-places g c =
     c.into_iter-entry-iterator.ensures.into_iter_gives.0 (omega (arith, c.into_iter-entry-iterator.ensures.into_iter_gives.1, c.args.lists.ok.0))
     c.lists.yielded_by c.in-None.ensures.steps in
     ap (λ (h : Heads). h.places.items) c.into_heads.ensures ∙ c.lists.invariant.places ∙ ap (λ (ls : List ListEntry). places_of ls) all
+
+pub returns-in-Err-read-clause-ready : goal.returns-in-Err-read-clause-ready
+returns-in-Err-read-clause-ready g c = tt
+
+pub returns-in-Err-read-clause-heads : goal.returns-in-Err-read-clause-heads
+returns-in-Err-read-clause-heads g c = tt
+
+pub returns-in-Err-read-clause-as_many : goal.returns-in-Err-read-clause-as_many
+returns-in-Err-read-clause-as_many g c = tt
+
+pub returns-in-Err-read-clause-entries : goal.returns-in-Err-read-clause-entries
+returns-in-Err-read-clause-entries g c = tt
+
+pub returns-in-Err-read-clause-places : goal.returns-in-Err-read-clause-places
+returns-in-Err-read-clause-places g c = tt
+
+pub returns-in-Err-read-clause-leaves : goal.returns-in-Err-read-clause-leaves
+returns-in-Err-read-clause-leaves g c = leaves_then c.args.walk.now c.lists.walk c.read.new.walk c.lists.invariant.leaves c.read.ensures.leaves
+
+pub returns-in-Err-read-clause-fault : goal.returns-in-Err-read-clause-fault
+returns-in-Err-read-clause-fault g c = λ is. rose_before (g.C.Cabinet.read_faults c.args.files.now) (g.C.Cabinet.read_faults c.lists.files) (g.C.Cabinet.read_faults c.read.new.files) c.lists.invariant.later (c.in-Err-read.ensures.fault (still_fault is))
+
+pub returns-in-Err-read-clause-stays : goal.returns-in-Err-read-clause-stays
+returns-in-Err-read-clause-stays g c = c.read.ensures.stays ∙ c.lists.invariant.same
+
+pub returns-in-Err-read-clause-later : goal.returns-in-Err-read-clause-later
+returns-in-Err-read-clause-later g c = no_less (g.C.Cabinet.read_faults c.args.files.now) (g.C.Cabinet.read_faults c.lists.files) (g.C.Cabinet.read_faults c.read.new.files) c.lists.invariant.later c.read.ensures.later
+
+pub returns-in-Err-read-clause-others : goal.returns-in-Err-read-clause-others
+returns-in-Err-read-clause-others g c = no_less (g.C.Cabinet.write_faults c.args.files.now) (g.C.Cabinet.write_faults c.lists.files) (g.C.Cabinet.write_faults c.read.new.files) c.lists.invariant.others c.read.ensures.others
+
+pub returns-clause-told : goal.returns-clause-told
+returns-clause-told g c = nothing_told (g.C.Cabinet.told c.args.files.now) c.args.walk.now.name
+
+pub returns-clause-fault : goal.returns-clause-fault
+returns-clause-fault g c = λ is. absurd (ok_unread is)
+
+pub returns-clause-stays : goal.returns-clause-stays
+returns-clause-stays g c = c.lists.invariant.same
+
+pub returns-clause-later : goal.returns-clause-later
+returns-clause-later g c = c.lists.invariant.later
+
+pub returns-clause-others : goal.returns-clause-others
+returns-clause-others g c = c.lists.invariant.others
+
+pub read-requires-clause-ready : goal.read-requires-clause-ready
+read-requires-clause-ready g c = ready_now (g.C.Cabinet.told c.args.files.now) (g.C.Cabinet.told c.lists.files) c.args.walk.now c.lists.walk c.lists.invariant.same c.lists.invariant.leaves c.lists.invariant.ready
+
+pub read-requires-clause-docs : goal.read-requires-clause-docs
+read-requires-clause-docs g c = c.requires.docs ∙ sym c.lists.invariant.leaves.docs
+
+pub read-requires-clause-width : goal.read-requires-clause-width
+read-requires-clause-width g c = c.requires.width
+
+pub read-requires-clause-low : goal.read-requires-clause-low
+read-requires-clause-low g c = c.requires.low
+
+pub returns-in-Err-clause-ready : goal.returns-in-Err-clause-ready
+returns-in-Err-clause-ready g c = tt
+
+pub returns-in-Err-clause-heads : goal.returns-in-Err-clause-heads
+returns-in-Err-clause-heads g c = tt
+
+pub returns-in-Err-clause-as_many : goal.returns-in-Err-clause-as_many
+returns-in-Err-clause-as_many g c = tt
+
+pub returns-in-Err-clause-entries : goal.returns-in-Err-clause-entries
+returns-in-Err-clause-entries g c = tt
+
+pub returns-in-Err-clause-places : goal.returns-in-Err-clause-places
+returns-in-Err-clause-places g c = tt
+
+pub returns-in-Err-clause-leaves : goal.returns-in-Err-clause-leaves
+returns-in-Err-clause-leaves g c = leaves_same c.args.walk.now
+
+pub returns-in-Err-clause-told : goal.returns-in-Err-clause-told
+returns-in-Err-clause-told g c = nothing_told (g.C.Cabinet.told c.args.files.now) c.args.walk.now.name
+
+pub returns-in-Err-clause-fault : goal.returns-in-Err-clause-fault
+returns-in-Err-clause-fault g c = λ is. absurd (memory_unread is)
+
+pub returns-in-Err-clause-stays : goal.returns-in-Err-clause-stays
+returns-in-Err-clause-stays g c = refl
+
+pub returns-in-Err-clause-later : goal.returns-in-Err-clause-later
+returns-in-Err-clause-later g c = no_less_itself (g.C.Cabinet.read_faults c.args.files.now)
+
+pub returns-in-Err-clause-others : goal.returns-in-Err-clause-others
+returns-in-Err-clause-others g c = no_less_itself (g.C.Cabinet.write_faults c.args.files.now)
+
+pub returns-clause-ready : goal.returns-clause-ready
+returns-clause-ready g c = c.lists.invariant.ready
+
+pub returns-clause-leaves : goal.returns-clause-leaves
+returns-clause-leaves g c = c.lists.invariant.leaves

@@ -5,9 +5,10 @@ use Rattle.index_import.proofs.Below.{KeptList, HasKept, for_one, Of, Range, wei
 use Rattle.index_import.specs.Private.Ranging.{CannotWiden, IsWidenedBy}
 use Rattle.index_import.specs.Private.Surveying.{HoldsMost, KeepsAll}
 use Rattle.index_import.specs.declared.list_entry.ListEntry.{ListEntry}
-use Rattle.index_import.proofs.Again.{ready_then, told_now}
+use Rattle.index_import.proofs.Again.{no_less, ok_unread, ready_now, ready_then, rose_before, still_fault, told_now, told_then}
 use Rattle.index_import.proofs.Ready.{leaves_same, leaves_then}
 use Rattle.index_import.proofs.Widening.{norms_cut, passed_still, widened_then, widens_more, widens_same}
+use Rattle.ciff_read.specs.Walk.{IsOutside}
 use Rattle.index_import.proofs.ranging.widen_lists.Goals as goal
 
 pub loop-entry-init : goal.loop-entry-init
@@ -111,3 +112,48 @@ returns-clause-low g c =
     let so_far = c.loop-entry.invariant.range in
     let w = c.args.weighing in
     subst (λ (r : Range). r.greatest ≤ 2 ^ 40) (sym so_far.range_is) (c.widened_lists_have_the_range.ensures.low w.rule (Of 1) w.lengths.now w.total so_far.read w.few so_far.fit)
+
+pub returns-in-Err-clause-ready : goal.returns-in-Err-clause-ready
+returns-in-Err-clause-ready g c = tt
+
+pub returns-in-Err-clause-low : goal.returns-in-Err-clause-low
+returns-in-Err-clause-low g c = tt
+
+pub returns-in-Err-clause-leaves : goal.returns-in-Err-clause-leaves
+returns-in-Err-clause-leaves g c = leaves_then c.args.walk.now c.loop-entry.walk c.widen_by_entry.new.walk c.loop-entry.invariant.leaves c.widen_by_entry.ensures.leaves
+
+pub returns-in-Err-clause-told : goal.returns-in-Err-clause-told
+returns-in-Err-clause-told g c = told_then (g.C.Cabinet.told c.args.files.now) (g.C.Cabinet.told c.loop-entry.files) c.args.walk.now c.loop-entry.walk (λ docs content. IsOutside c.in-Err.fault) c.loop-entry.invariant.stays c.loop-entry.invariant.leaves c.in-Err.ensures.told
+
+pub returns-in-Err-clause-fault : goal.returns-in-Err-clause-fault
+returns-in-Err-clause-fault g c = λ is. rose_before (g.C.Cabinet.read_faults c.args.files.now) (g.C.Cabinet.read_faults c.loop-entry.files) (g.C.Cabinet.read_faults c.widen_by_entry.new.files) c.loop-entry.invariant.later (c.in-Err.ensures.fault (still_fault is))
+
+pub returns-in-Err-clause-stays : goal.returns-in-Err-clause-stays
+returns-in-Err-clause-stays g c = c.widen_by_entry.ensures.stays ∙ c.loop-entry.invariant.stays
+
+pub returns-in-Err-clause-later : goal.returns-in-Err-clause-later
+returns-in-Err-clause-later g c = no_less (g.C.Cabinet.read_faults c.args.files.now) (g.C.Cabinet.read_faults c.loop-entry.files) (g.C.Cabinet.read_faults c.widen_by_entry.new.files) c.loop-entry.invariant.later c.widen_by_entry.ensures.later
+
+pub returns-in-Err-clause-others : goal.returns-in-Err-clause-others
+returns-in-Err-clause-others g c = no_less (g.C.Cabinet.write_faults c.args.files.now) (g.C.Cabinet.write_faults c.loop-entry.files) (g.C.Cabinet.write_faults c.widen_by_entry.new.files) c.loop-entry.invariant.others c.widen_by_entry.ensures.others
+
+pub returns-clause-ready : goal.returns-clause-ready
+returns-clause-ready g c = c.loop-entry.invariant.ready
+
+pub returns-clause-leaves : goal.returns-clause-leaves
+returns-clause-leaves g c = c.loop-entry.invariant.leaves
+
+pub returns-clause-stays : goal.returns-clause-stays
+returns-clause-stays g c = c.loop-entry.invariant.stays
+
+pub returns-clause-later : goal.returns-clause-later
+returns-clause-later g c = c.loop-entry.invariant.later
+
+pub returns-clause-others : goal.returns-clause-others
+returns-clause-others g c = c.loop-entry.invariant.others
+
+pub returns-clause-fault : goal.returns-clause-fault
+returns-clause-fault g c = λ is. absurd (ok_unread is)
+
+pub widen_by_entry-requires-clause-ready : goal.widen_by_entry-requires-clause-ready
+widen_by_entry-requires-clause-ready g c = ready_now (g.C.Cabinet.told c.args.files.now) (g.C.Cabinet.told c.loop-entry.files) c.args.walk.now c.loop-entry.walk c.loop-entry.invariant.stays c.loop-entry.invariant.leaves c.loop-entry.invariant.ready

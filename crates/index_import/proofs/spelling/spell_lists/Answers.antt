@@ -5,7 +5,7 @@ use Rattle.index_write.specs.Spelled.{SpelledView}
 use Rattle.index_import.specs.Private.Spelling.{SpellsOne}
 use Rattle.index_import.specs.Private.Surveying.{HoldsMost, KeepsAll}
 use Rattle.index_import.specs.declared.list_entry.ListEntry.{ListEntry}
-use Rattle.index_import.proofs.Again.{ready_then, told_now}
+use Rattle.index_import.proofs.Again.{memory_unread, no_less, nothing_told, ok_unread, ready_now, ready_then, rose_before, still_fault, told_now}
 use Rattle.index_import.proofs.Headed.{entry_is, fails_one}
 use Rattle.index_import.proofs.Ready.{leaves_same, leaves_then}
 use Rattle.index_import.proofs.SegmentTurns.{one_of_all}
@@ -97,3 +97,63 @@ returns-in-Ok-finish-clause-spelled g c =
     all_spelled (g.C.Cabinet.told c.args.files.now) c.args.walk.now.name c.args.walk.now.docs c.args.weighing c.args.bits c.args.range c.args.lists.items c.lists.yielded spelling.terms spelling.payloads
     all c.requires.rising c.requires.few c.requires.postings c.appended_payloads_make_the_text.ensures.sizes
     (subst (λ (view : SpelledView). Spelled view spelling.payloads) (sym c.in-Ok-finish.ensures.terms) (subst (Spelled c.lists.speller.terms) (sym c.in-Ok-finish.ensures.payloads) c.lists.invariant.spelled))
+
+pub returns-in-Err-clause-spelled : goal.returns-in-Err-clause-spelled
+returns-in-Err-clause-spelled g c = tt
+
+pub returns-in-Err-clause-fault : goal.returns-in-Err-clause-fault
+returns-in-Err-clause-fault g c = λ is. rose_before (g.C.Cabinet.read_faults c.args.files.now) (g.C.Cabinet.read_faults c.lists.files) (g.C.Cabinet.read_faults c.spell.new.files) c.lists.invariant.later (c.in-Err.ensures.fault (still_fault is))
+
+pub returns-in-Err-clause-stays : goal.returns-in-Err-clause-stays
+returns-in-Err-clause-stays g c = c.spell.ensures.stays ∙ c.lists.invariant.same
+
+pub returns-in-Err-clause-later : goal.returns-in-Err-clause-later
+returns-in-Err-clause-later g c = no_less (g.C.Cabinet.read_faults c.args.files.now) (g.C.Cabinet.read_faults c.lists.files) (g.C.Cabinet.read_faults c.spell.new.files) c.lists.invariant.later c.spell.ensures.later
+
+pub returns-in-Err-clause-others : goal.returns-in-Err-clause-others
+returns-in-Err-clause-others g c = no_less (g.C.Cabinet.write_faults c.args.files.now) (g.C.Cabinet.write_faults c.lists.files) (g.C.Cabinet.write_faults c.spell.new.files) c.lists.invariant.others c.spell.ensures.others
+
+pub returns-in-Ok-finish-clause-told : goal.returns-in-Ok-finish-clause-told
+returns-in-Ok-finish-clause-told g c = nothing_told (g.C.Cabinet.told c.args.files.now) c.args.walk.now.name
+
+pub returns-in-Ok-finish-clause-fault : goal.returns-in-Ok-finish-clause-fault
+returns-in-Ok-finish-clause-fault g c = λ is. absurd (ok_unread is)
+
+pub returns-in-Ok-finish-clause-stays : goal.returns-in-Ok-finish-clause-stays
+returns-in-Ok-finish-clause-stays g c = c.lists.invariant.same
+
+pub returns-in-Ok-finish-clause-later : goal.returns-in-Ok-finish-clause-later
+returns-in-Ok-finish-clause-later g c = c.lists.invariant.later
+
+pub returns-in-Ok-finish-clause-others : goal.returns-in-Ok-finish-clause-others
+returns-in-Ok-finish-clause-others g c = c.lists.invariant.others
+
+pub returns-in-Err-finish-clause-told : goal.returns-in-Err-finish-clause-told
+returns-in-Err-finish-clause-told g c = nothing_told (g.C.Cabinet.told c.args.files.now) c.args.walk.now.name
+
+pub returns-in-Err-finish-clause-fault : goal.returns-in-Err-finish-clause-fault
+returns-in-Err-finish-clause-fault g c = λ is. absurd (memory_unread is)
+
+pub returns-in-Err-finish-clause-stays : goal.returns-in-Err-finish-clause-stays
+returns-in-Err-finish-clause-stays g c = c.lists.invariant.same
+
+pub returns-in-Err-finish-clause-later : goal.returns-in-Err-finish-clause-later
+returns-in-Err-finish-clause-later g c = c.lists.invariant.later
+
+pub returns-in-Err-finish-clause-others : goal.returns-in-Err-finish-clause-others
+returns-in-Err-finish-clause-others g c = c.lists.invariant.others
+
+pub spell-requires-clause-ready : goal.spell-requires-clause-ready
+spell-requires-clause-ready g c = ready_now (g.C.Cabinet.told c.args.files.now) (g.C.Cabinet.told c.lists.files) c.args.walk.now c.lists.walk c.lists.invariant.same c.lists.invariant.leaves c.lists.invariant.ready
+
+pub spell-requires-clause-docs : goal.spell-requires-clause-docs
+spell-requires-clause-docs g c = c.requires.docs ∙ sym c.lists.invariant.leaves.docs
+
+pub spell-requires-clause-width : goal.spell-requires-clause-width
+spell-requires-clause-width g c = c.requires.width
+
+pub spell-requires-clause-low : goal.spell-requires-clause-low
+spell-requires-clause-low g c = c.requires.low
+
+pub returns-in-Err-finish-clause-spelled : goal.returns-in-Err-finish-clause-spelled
+returns-in-Err-finish-clause-spelled g c = tt

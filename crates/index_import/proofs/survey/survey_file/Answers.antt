@@ -1,129 +1,121 @@
--- Each piece keeps what was kept so far.
-use Rattle.shared_lemmas.proofs.Common.{ℕ, List, Option, Ok, Err, sym, subst, ◌∙◌, arith, All}
-use Rattle.index_import.proofs.Below.{Files, ForContent, NumberedDoc, PieceRanges, StandsFor, StandsTold, WalkView, Piece, for_one}
-use Rattle.index_import.specs.Private.KeptDocs.{numbered}
-use Rattle.index_import.specs.Private.Surveying.{HoldsMost, KeepsAll}
-use Rattle.index_import.specs.declared.list_entry.ListEntry.{ListEntry}
-use Rattle.index_import.proofs.Surveying.{Follows, Holds, PieceLaws, all_kept, doc_held, doc_told, end_told, fault_told, gives_there, keeps_list, list_kept_held, list_told, most_kept, start_told}
-use Rattle.index_import.proofs.Surveying.{keeps_none, keeps_same, no_most, nothing_follows, nothing_held, same_held, same_most}
+-- What is kept of the file that was opened.
+use Rattle.shared_lemmas.proofs.Common.{◌≡◌, ℕ, List, Option, Err, inl, refl, rules, subst, sym, ◌∙◌}
+use Rattle.index_import.proofs.Below.{Files, FailsReading, IsMissing, StandsFor, read_ciff}
+use Rattle.index_import.proofs.Again.{no_less, ok_unread, ready_then, rose_before, still_fault, told_there}
+use Rattle.index_import.proofs.Surveying.{PieceLaws, unopened}
+use Rattle.index_import.specs.Private.Surveying.{IsSurvey}
 use Rattle.index_import.proofs.survey.survey_file.Goals as goal
 
-pub pieces-init : goal.pieces-init
-pieces-init g c =
-    let told : Option Files = g.C.Cabinet.told c.args.files.now in
+pub returns-in_err-walk-clause-ready : goal.returns-in_err-walk-clause-ready
+returns-in_err-walk-clause-ready g c =
+    let fault = c.in_err-walk.field-0.0 in
+    let out : c.from_residual.result ≡ Err fault = search rules in
+    rw out tt
+
+pub returns-in_err-walk-clause-kept : goal.returns-in_err-walk-clause-kept
+returns-in_err-walk-clause-kept g c =
+    let fault = c.in_err-walk.field-0.0 in
+    let out : c.from_residual.result ≡ Err fault = search rules in
+    rw out tt
+
+pub returns-in_err-walk-clause-told : goal.returns-in_err-walk-clause-told
+returns-in_err-walk-clause-told g c =
+    let fault = c.in_err-walk.field-0.0 in
+    let out : c.from_residual.result ≡ Err fault = search rules in
     let law = c.pieces_make_the_collection.ensures in
     let laws : PieceLaws = record { bad_header = law.bad_header; start = law.start; piece = law.piece; end = law.end; refused = law.refused } in
-    let begins = c.in_ok-walk.ensures.begins in
-    record {
-      same = c.in_ok-walk.ensures.stays;
-      later = c.in_ok-walk.ensures.later;
-      others = c.in_ok-walk.ensures.others;
-      there = c.in_ok-walk.ensures.missing;
-      stands = subst (λ (n : List ℕ). ForContent told n (λ (content : List ℕ). StandsFor content c.in_ok-walk.walk)) (sym begins.name_is) c.in_ok-walk.ensures.opens;
-      holds = nothing_held c.args.name.now c.in_ok-walk.walk c.new.result c.new-2.result.items begins c.in_ok-walk.ensures.ranges c.new.ensures c.new-2.ensures.items;
-      keeps = keeps_none c.in_ok-walk.walk.docs c.new-2.result.items c.new-2.ensures.items;
-      follows = for_one told c.args.name.now (λ content. StandsFor content c.in_ok-walk.walk) (λ content. Follows content c.in_ok-walk.walk c.new.result)
-          (λ content stands. nothing_follows laws content c.in_ok-walk.walk c.new.result begins.header begins.answered c.new.ensures stands) c.in_ok-walk.ensures.opens;
-      most = no_most told c.args.name.now c.in_ok-walk.walk.docs c.new-2.result.items c.new-2.ensures.items;
-    }
+    rw out (unopened laws (g.C.Cabinet.told c.args.files.now) c.args.name.now fault c.in_err-walk.ensures.opens)
+
+pub returns-in_err-walk-clause-missing : goal.returns-in_err-walk-clause-missing
+returns-in_err-walk-clause-missing g c =
+    let fault = c.in_err-walk.field-0.0 in
+    let out : c.from_residual.result ≡ Err fault = search rules in
+    rw out c.in_err-walk.ensures.missing
+
+pub returns-in_err-walk-clause-fault : goal.returns-in_err-walk-clause-fault
+returns-in_err-walk-clause-fault g c =
+    let fault = c.in_err-walk.field-0.0 in
+    let out : c.from_residual.result ≡ Err fault = search rules in
+    rw out (λ is. c.in_err-walk.ensures.fault (still_fault is))
+
+pub returns-in_err-walk-clause-stays : goal.returns-in_err-walk-clause-stays
+returns-in_err-walk-clause-stays g c = c.in_err-walk.ensures.stays
+
+pub returns-in_err-walk-clause-later : goal.returns-in_err-walk-clause-later
+returns-in_err-walk-clause-later g c = c.in_err-walk.ensures.later
+
+pub returns-in_err-walk-clause-others : goal.returns-in_err-walk-clause-others
+returns-in_err-walk-clause-others g c = c.in_err-walk.ensures.others
+
+pub read_pieces-requires-clause-there : goal.read_pieces-requires-clause-there
+read_pieces-requires-clause-there g c = λ missing.
+    c.in_ok-walk.ensures.missing (subst (λ (n : List ℕ). IsMissing (g.C.Cabinet.told c.args.files.now) n) c.in_ok-walk.ensures.begins.name_is
+    (subst (λ (files : Option Files). IsMissing files c.in_ok-walk.walk.name) c.in_ok-walk.ensures.stays missing))
+
+pub read_pieces-requires-clause-begins : goal.read_pieces-requires-clause-begins
+read_pieces-requires-clause-begins g c = record { name_is = refl; header = c.in_ok-walk.ensures.begins.header; kept = c.in_ok-walk.ensures.begins.kept; given = c.in_ok-walk.ensures.begins.given; answered = c.in_ok-walk.ensures.begins.answered }
+
+pub read_pieces-requires-clause-ranges : goal.read_pieces-requires-clause-ranges
+read_pieces-requires-clause-ranges g c = c.in_ok-walk.ensures.ranges
+
+pub read_pieces-requires-clause-docs : goal.read_pieces-requires-clause-docs
+read_pieces-requires-clause-docs g c = c.new.ensures
+
+pub read_pieces-requires-clause-lists : goal.read_pieces-requires-clause-lists
+read_pieces-requires-clause-lists g c = c.new-2.ensures.items
+
+pub returns-in-Ok-clause-ready : goal.returns-in-Ok-clause-ready
+returns-in-Ok-clause-ready g c = ready_then (g.C.Cabinet.told c.args.files.now) (g.C.Cabinet.told c.open.new.files) c.args.name.now c.in_ok-walk.walk.name c.read_pieces.new.self.walk c.in_ok-walk.ensures.stays c.in_ok-walk.ensures.begins.name_is c.in-Ok.ensures.ready
+
+pub returns-in-Ok-clause-kept : goal.returns-in-Ok-clause-kept
+returns-in-Ok-clause-kept g c = c.in-Ok.ensures.kept
+
+pub returns-in-Ok-clause-told : goal.returns-in-Ok-clause-told
+returns-in-Ok-clause-told g c =
+    let s = c.read_pieces.new.self in
+    told_there (g.C.Cabinet.told c.args.files.now) (g.C.Cabinet.told c.open.new.files) c.args.name.now c.in_ok-walk.walk.name (λ content. IsSurvey content s.walk s.docs s.lists.items) c.in_ok-walk.ensures.stays c.in_ok-walk.ensures.begins.name_is c.in-Ok.ensures.told
+
+pub returns-in-Ok-clause-missing : goal.returns-in-Ok-clause-missing
+returns-in-Ok-clause-missing g c = c.in_ok-walk.ensures.missing
+
+pub returns-in-Ok-clause-fault : goal.returns-in-Ok-clause-fault
+returns-in-Ok-clause-fault g c = λ is. absurd (ok_unread is)
+
+pub returns-in-Ok-clause-stays : goal.returns-in-Ok-clause-stays
+returns-in-Ok-clause-stays g c = c.in-Ok.ensures.reads.stays ∙ c.in_ok-walk.ensures.stays
+
+pub returns-in-Ok-clause-later : goal.returns-in-Ok-clause-later
+returns-in-Ok-clause-later g c = no_less (g.C.Cabinet.read_faults c.args.files.now) (g.C.Cabinet.read_faults c.open.new.files) (g.C.Cabinet.read_faults c.read_pieces.new.files) c.in_ok-walk.ensures.later c.in-Ok.ensures.reads.later
+
+pub returns-in-Ok-clause-others : goal.returns-in-Ok-clause-others
+returns-in-Ok-clause-others g c = no_less (g.C.Cabinet.write_faults c.args.files.now) (g.C.Cabinet.write_faults c.open.new.files) (g.C.Cabinet.write_faults c.read_pieces.new.files) c.in_ok-walk.ensures.others c.in-Ok.ensures.reads.others
+
+pub returns-in-Err-clause-ready : goal.returns-in-Err-clause-ready
+returns-in-Err-clause-ready g c = tt
+
+pub returns-in-Err-clause-kept : goal.returns-in-Err-clause-kept
+returns-in-Err-clause-kept g c = tt
 
 pub returns-in-Err-clause-told : goal.returns-in-Err-clause-told
-returns-in-Err-clause-told g c =
-    let told : Option Files = g.C.Cabinet.told c.args.files.now in
-    let law = c.pieces_make_the_collection.ensures in
-    let laws : PieceLaws = record { bad_header = law.bad_header; start = law.start; piece = law.piece; end = law.end; refused = law.refused } in
-    let before = c.pieces.invariant in
-    let given = gives_there told (g.C.Cabinet.told c.pieces.files) c.args.name.now c.pieces.survey.walk c.next_piece.new.self (Err c.in-Err.fault) before.same before.holds.name_is before.holds.unanswered before.stands c.in-Err.ensures.told in
-    fault_told laws told c.args.name.now c.pieces.survey.walk c.next_piece.new.self c.pieces.survey.docs before.follows c.in-Err.fault given
+returns-in-Err-clause-told g c = told_there (g.C.Cabinet.told c.args.files.now) (g.C.Cabinet.told c.open.new.files) c.args.name.now c.in_ok-walk.walk.name (λ content. FailsReading c.in-Err.fault (read_ciff content)) c.in_ok-walk.ensures.stays c.in_ok-walk.ensures.begins.name_is c.in-Err.ensures.told
 
-pub pieces-preserved-in-Start : goal.pieces-preserved-in-Start
-pieces-preserved-in-Start g c =
-    let told : Option Files = g.C.Cabinet.told c.args.files.now in
-    let law = c.pieces_make_the_collection.ensures in
-    let laws : PieceLaws = record { bad_header = law.bad_header; start = law.start; piece = law.piece; end = law.end; refused = law.refused } in
-    let before = c.pieces.invariant in
-    let next = c.in-Ok.ensures in
-    let given = gives_there told (g.C.Cabinet.told c.pieces.files) c.args.name.now c.pieces.survey.walk c.next_piece.new.self (Ok c.in-Ok.piece) before.same before.holds.name_is before.holds.unanswered before.stands next.told in
-    let ranges = subst (λ (x : Piece). PieceRanges c.pieces.survey.walk c.next_piece.new.self x) c.in-Start.is next.ranges in
-    record {
-      same = next.stays ∙ before.same;
-      later = omega (arith, next.later, before.later);
-      others = omega (arith, next.others, before.others);
-      there = before.there;
-      stands = subst (λ (files : Option Files). StandsTold files c.next_piece.new.self) before.same next.stands;
-      holds = same_held c.args.name.now c.pieces.survey.walk c.next_piece.new.self c.pieces.survey.docs c.pieces.survey.lists.items before.holds next.name next.ok next.within ranges.4 ranges.5;
-      keeps = keeps_same c.pieces.survey.walk.docs c.next_piece.new.self.docs c.pieces.survey.lists.items next.totals.1 before.keeps;
-      follows = start_told laws told c.args.name.now c.pieces.survey.walk c.next_piece.new.self c.pieces.survey.docs before.follows c.in-Ok.piece given c.in-Start._header c.in-Start.lists c.in-Start.docs c.in-Start.is;
-      most = same_most told c.args.name.now c.pieces.survey.walk.docs c.next_piece.new.self.docs c.pieces.survey.lists.items next.totals.1 before.most;
-    }
+pub returns-in-Err-clause-missing : goal.returns-in-Err-clause-missing
+returns-in-Err-clause-missing g c = λ missing. absurd (c.in_ok-walk.ensures.missing missing)
 
-pub pieces-preserved-in-Ok-keep_list : goal.pieces-preserved-in-Ok-keep_list
-pieces-preserved-in-Ok-keep_list g c =
-    let told : Option Files = g.C.Cabinet.told c.args.files.now in
-    let law = c.pieces_make_the_collection.ensures in
-    let laws : PieceLaws = record { bad_header = law.bad_header; start = law.start; piece = law.piece; end = law.end; refused = law.refused } in
-    let before = c.pieces.invariant in
-    let next = c.in-Ok.ensures in
-    let docs : List NumberedDoc = c.pieces.survey.docs in
-    let longer : List ListEntry = c.keep_list.new.self.lists.items in
-    let walked = sym c.keep_list.ensures.walk in
-    let same = sym c.keep_list.ensures.docs in
-    let given = gives_there told (g.C.Cabinet.told c.pieces.files) c.args.name.now c.pieces.survey.walk c.next_piece.new.self (Ok c.in-Ok.piece) before.same before.holds.name_is before.holds.unanswered before.stands next.told in
-    let ranges = subst (λ (x : Piece). PieceRanges c.pieces.survey.walk c.next_piece.new.self x) c.in-List.is next.ranges in
-    record {
-      same = next.stays ∙ before.same;
-      later = omega (arith, next.later, before.later);
-      others = omega (arith, next.others, before.others);
-      there = before.there;
-      stands = subst (StandsTold told) walked (subst (λ (files : Option Files). StandsTold files c.next_piece.new.self) before.same next.stands);
-      holds = subst (λ (ds : List NumberedDoc). Holds c.args.name.now c.keep_list.new.self.walk ds longer) same (subst (λ (w : WalkView). Holds c.args.name.now w docs longer) walked
-          (list_kept_held c.args.name.now c.pieces.survey.walk c.next_piece.new.self docs c.pieces.survey.lists.items longer c.in-List.at c.in-List.list before.holds next.name next.ok next.within ranges.4 ranges.1 ranges.3 c.in-Ok-keep_list.ensures.lists));
-      keeps = subst (λ (w : WalkView). All (KeepsAll w.docs) longer) walked
-          (keeps_list c.pieces.survey.walk.docs c.next_piece.new.self.docs c.in-List.at c.in-List.list c.pieces.survey.lists.items longer next.totals.1 ranges.5 c.in-Ok-keep_list.ensures.lists before.keeps);
-      follows = subst (λ (ds : List NumberedDoc). ForContent told c.args.name.now (λ (content : List ℕ). Follows content c.keep_list.new.self.walk ds)) same
-          (subst (λ (w : WalkView). ForContent told c.args.name.now (λ (content : List ℕ). Follows content w docs)) walked
-          (list_told laws told c.args.name.now c.pieces.survey.walk c.next_piece.new.self docs before.follows c.in-Ok.piece given c.in-List.at c.in-List.list c.in-List.is));
-      most = subst (λ (w : WalkView). ForContent told c.args.name.now (λ (content : List ℕ). All (HoldsMost content w.docs) longer)) walked
-          (most_kept laws told c.args.name.now c.pieces.survey.walk c.next_piece.new.self docs before.follows c.in-Ok.piece given c.in-List.at c.in-List.list c.pieces.survey.lists.items longer c.in-List.is
-          next.totals.1 ranges.4 ranges.5 c.in-Ok-keep_list.ensures.lists before.most);
-    }
+pub returns-in-Err-clause-fault : goal.returns-in-Err-clause-fault
+returns-in-Err-clause-fault g c = λ is. inl (rose_before (g.C.Cabinet.read_faults c.args.files.now) (g.C.Cabinet.read_faults c.open.new.files) (g.C.Cabinet.read_faults c.read_pieces.new.files) c.in_ok-walk.ensures.later (c.in-Err.ensures.reads.fault (still_fault is)))
 
-pub pieces-preserved : goal.pieces-preserved
-pieces-preserved g c =
-    let told : Option Files = g.C.Cabinet.told c.args.files.now in
-    let law = c.pieces_make_the_collection.ensures in
-    let laws : PieceLaws = record { bad_header = law.bad_header; start = law.start; piece = law.piece; end = law.end; refused = law.refused } in
-    let before = c.pieces.invariant in
-    let next = c.in-Ok.ensures in
-    let given = gives_there told (g.C.Cabinet.told c.pieces.files) c.args.name.now c.pieces.survey.walk c.next_piece.new.self (Ok c.in-Ok.piece) before.same before.holds.name_is before.holds.unanswered before.stands next.told in
-    let ranges = subst (λ (x : Piece). PieceRanges c.pieces.survey.walk c.next_piece.new.self x) c.in-Doc.is next.ranges in
-    record {
-      same = next.stays ∙ before.same;
-      later = omega (arith, next.later, before.later);
-      others = omega (arith, next.others, before.others);
-      there = before.there;
-      stands = subst (λ (files : Option Files). StandsTold files c.next_piece.new.self) before.same next.stands;
-      holds = doc_held c.args.name.now c.pieces.survey.walk c.next_piece.new.self c.pieces.survey.docs c.pieces.survey.lists.items before.holds next.name next.ok next.within
-          (numbered (c.in-Doc.number, c.in-Doc.item)) c.push.new.self ranges.1 ranges.5 c.in-Ok-push.ensures;
-      keeps = keeps_same c.pieces.survey.walk.docs c.next_piece.new.self.docs c.pieces.survey.lists.items next.totals.1 before.keeps;
-      follows = doc_told laws told c.args.name.now c.pieces.survey.walk c.next_piece.new.self c.pieces.survey.docs before.follows c.in-Ok.piece given c.in-Doc.number c.in-Doc.item c.push.new.self c.in-Doc.is ranges.3 c.in-Ok-push.ensures;
-      most = same_most told c.args.name.now c.pieces.survey.walk.docs c.next_piece.new.self.docs c.pieces.survey.lists.items next.totals.1 before.most;
-    }
+pub returns-in-Err-clause-stays : goal.returns-in-Err-clause-stays
+returns-in-Err-clause-stays g c = c.in-Err.ensures.reads.stays ∙ c.in_ok-walk.ensures.stays
 
-pub returns-in-End-clause-kept : goal.returns-in-End-clause-kept
-returns-in-End-clause-kept g c =
-    let before = c.pieces.invariant in
-    let next = c.in-Ok.ensures in
-    let ranges = subst (λ (x : Piece). PieceRanges c.pieces.survey.walk c.next_piece.new.self x) c.in-End.is next.ranges in
-    all_kept c.args.name.now c.pieces.survey.walk c.next_piece.new.self c.pieces.survey.docs c.pieces.survey.lists.items before.holds before.keeps next.within ranges.0 ranges.3 next.totals.1
+pub returns-in-Err-clause-later : goal.returns-in-Err-clause-later
+returns-in-Err-clause-later g c = no_less (g.C.Cabinet.read_faults c.args.files.now) (g.C.Cabinet.read_faults c.open.new.files) (g.C.Cabinet.read_faults c.read_pieces.new.files) c.in_ok-walk.ensures.later c.in-Err.ensures.reads.later
 
-pub returns-in-End-clause-told : goal.returns-in-End-clause-told
-returns-in-End-clause-told g c =
-    let told : Option Files = g.C.Cabinet.told c.args.files.now in
-    let law = c.pieces_make_the_collection.ensures in
-    let laws : PieceLaws = record { bad_header = law.bad_header; start = law.start; piece = law.piece; end = law.end; refused = law.refused } in
-    let before = c.pieces.invariant in
-    let next = c.in-Ok.ensures in
-    let given = gives_there told (g.C.Cabinet.told c.pieces.files) c.args.name.now c.pieces.survey.walk c.next_piece.new.self (Ok c.in-Ok.piece) before.same before.holds.name_is before.holds.unanswered before.stands next.told in
-    let ranges = subst (λ (x : Piece). PieceRanges c.pieces.survey.walk c.next_piece.new.self x) c.in-End.is next.ranges in
-    end_told laws told c.args.name.now c.pieces.survey.walk c.next_piece.new.self c.pieces.survey.docs before.follows c.in-Ok.piece given c.pieces.survey.lists.items c.in-End.is ranges.0 next.totals.1 before.most
+pub returns-in-Err-clause-others : goal.returns-in-Err-clause-others
+returns-in-Err-clause-others g c = no_less (g.C.Cabinet.write_faults c.args.files.now) (g.C.Cabinet.write_faults c.open.new.files) (g.C.Cabinet.write_faults c.read_pieces.new.files) c.in_ok-walk.ensures.others c.in-Err.ensures.reads.others
+
+pub read_pieces-requires-clause-stands : goal.read_pieces-requires-clause-stands
+read_pieces-requires-clause-stands g c =
+    let w = c.in_ok-walk.walk in
+    told_there (g.C.Cabinet.told c.open.new.files) (g.C.Cabinet.told c.args.files.now) w.name c.args.name.now (λ content. StandsFor content w)
+    (sym c.in_ok-walk.ensures.stays) (sym c.in_ok-walk.ensures.begins.name_is) c.in_ok-walk.ensures.opens

@@ -16,6 +16,8 @@ use Rattle.index_import.proofs.Finished.{as_many, fits, found_here, left_is, nev
 use Rattle.index_import.proofs.Ready.{leaves_same, leaves_then, ready_beside}
 use Rattle.index_import.proofs.Turns.{middle, parted, whole}
 use Rattle.index_import.proofs.Written.{extends_sets, payloads_more, sets_wanted}
+use Rattle.index_import.proofs.Again.{no_less, rose_before}
+use Rattle.index_import.proofs.Unread.{no_fault, unappended_read, unappended_write, unbegun_read, unbegun_write, unread_read, unread_write}
 use Rattle.index_import.proofs.writing.write_index.Goals as goal
 
 -- the list at a place is refused only for a weight outside the range
@@ -176,3 +178,66 @@ returns-clause-written g c = λ made has.
       c.finish.ensures ∙ ap₂ (λ (n : ℕ) (es : List EntryData). entries_totals n es) (ap (λ (w : WriterView). w.docs) c.places.invariant.writer) (ap (λ (w : WriterView). w.entries) c.places.invariant.writer)
           ∙ totals_are d c.args.names entries made c.requires.as_many has.heads_are c.appended_payloads_make_the_text.ensures.totals,
     )
+
+pub returns-in-Err-clause-read_fault : goal.returns-in-Err-clause-read_fault
+returns-in-Err-clause-read_fault g c = λ is. absurd (unbegun_read c.in-Err.fault c.not_begun.result c.not_begun.ensures is)
+
+pub returns-in-Err-clause-write_fault : goal.returns-in-Err-clause-write_fault
+returns-in-Err-clause-write_fault g c = λ is. c.in-Err.ensures.cause (unbegun_write c.in-Err.fault c.not_begun.result c.not_begun.ensures is)
+
+pub returns-in-Err-clause-later : goal.returns-in-Err-clause-later
+returns-in-Err-clause-later g c = c.in-Err.ensures.others
+
+pub returns-in-Err-clause-others : goal.returns-in-Err-clause-others
+returns-in-Err-clause-others g c = c.in-Err.ensures.later
+
+pub returns-in-Err-read_segments-clause-read_fault : goal.returns-in-Err-read_segments-clause-read_fault
+returns-in-Err-read_segments-clause-read_fault g c = λ is. rose_before (g.C.Cabinet.read_faults c.args.files.now) (g.C.Cabinet.read_faults c.places.files) (g.C.Cabinet.read_faults c.read_segments.new.files) c.places.invariant.later (c.in-Err-read_segments.ensures.fault (unread_read c.in-Err-read_segments.fault c.from_ciff.result c.from_ciff.ensures is))
+
+pub returns-in-Err-read_segments-clause-write_fault : goal.returns-in-Err-read_segments-clause-write_fault
+returns-in-Err-read_segments-clause-write_fault g c = λ is. absurd (unread_write c.in-Err-read_segments.fault c.from_ciff.result c.from_ciff.ensures is)
+
+pub returns-in-Err-read_segments-clause-later : goal.returns-in-Err-read_segments-clause-later
+returns-in-Err-read_segments-clause-later g c = no_less (g.C.Cabinet.read_faults c.args.files.now) (g.C.Cabinet.read_faults c.places.files) (g.C.Cabinet.read_faults c.read_segments.new.files) c.places.invariant.later c.read_segments.ensures.later
+
+pub returns-in-Err-read_segments-clause-others : goal.returns-in-Err-read_segments-clause-others
+returns-in-Err-read_segments-clause-others g c = no_less (g.C.Cabinet.write_faults c.args.files.now) (g.C.Cabinet.write_faults c.places.files) (g.C.Cabinet.write_faults c.read_segments.new.files) c.places.invariant.others c.read_segments.ensures.others
+
+pub returns-in-Err-append_segments-clause-read_fault : goal.returns-in-Err-append_segments-clause-read_fault
+returns-in-Err-append_segments-clause-read_fault g c = λ is. absurd (unappended_read c.in-Some.place.at c.in-Err-append_segments.fault c.not_appended.result c.not_appended.ensures is)
+
+pub returns-in-Err-append_segments-clause-write_fault : goal.returns-in-Err-append_segments-clause-write_fault
+returns-in-Err-append_segments-clause-write_fault g c = λ is. rose_before (g.C.Cabinet.write_faults c.args.files.now) (g.C.Cabinet.write_faults c.read_segments.new.files) (g.C.Cabinet.write_faults c.append_segments.new.files) (no_less (g.C.Cabinet.write_faults c.args.files.now) (g.C.Cabinet.write_faults c.places.files) (g.C.Cabinet.write_faults c.read_segments.new.files) c.places.invariant.others c.read_segments.ensures.others) (c.in-Err-append_segments.ensures.cause (unappended_write c.in-Some.place.at c.in-Err-append_segments.fault c.not_appended.result c.not_appended.ensures is))
+
+pub returns-in-Err-append_segments-clause-later : goal.returns-in-Err-append_segments-clause-later
+returns-in-Err-append_segments-clause-later g c = no_less (g.C.Cabinet.read_faults c.args.files.now) (g.C.Cabinet.read_faults c.read_segments.new.files) (g.C.Cabinet.read_faults c.append_segments.new.files) (no_less (g.C.Cabinet.read_faults c.args.files.now) (g.C.Cabinet.read_faults c.places.files) (g.C.Cabinet.read_faults c.read_segments.new.files) c.places.invariant.later c.read_segments.ensures.later) c.append_segments.ensures.others
+
+pub returns-in-Err-append_segments-clause-others : goal.returns-in-Err-append_segments-clause-others
+returns-in-Err-append_segments-clause-others g c = no_less (g.C.Cabinet.write_faults c.args.files.now) (g.C.Cabinet.write_faults c.read_segments.new.files) (g.C.Cabinet.write_faults c.append_segments.new.files) (no_less (g.C.Cabinet.write_faults c.args.files.now) (g.C.Cabinet.write_faults c.places.files) (g.C.Cabinet.write_faults c.read_segments.new.files) c.places.invariant.others c.read_segments.ensures.others) c.append_segments.ensures.later
+
+pub returns-clause-read_fault : goal.returns-clause-read_fault
+returns-clause-read_fault g c = λ is. absurd (no_fault is)
+
+pub returns-clause-write_fault : goal.returns-clause-write_fault
+returns-clause-write_fault g c = λ is. absurd (no_fault is)
+
+pub returns-clause-later : goal.returns-clause-later
+returns-clause-later g c = c.places.invariant.later
+
+pub returns-clause-others : goal.returns-clause-others
+returns-clause-others g c = c.places.invariant.others
+
+pub read_segments-requires-clause-ready : goal.read_segments-requires-clause-ready
+read_segments-requires-clause-ready g c = subst (λ (n : List ℕ). IsReady (g.C.Cabinet.told c.places.files) n c.places.walk) (sym c.places.invariant.leaves.name) c.places.invariant.ready
+
+pub read_segments-requires-clause-docs : goal.read_segments-requires-clause-docs
+read_segments-requires-clause-docs g c = c.requires.docs ∙ sym c.places.invariant.leaves.docs
+
+pub read_segments-requires-clause-width : goal.read_segments-requires-clause-width
+read_segments-requires-clause-width g c = c.requires.width
+
+pub read_segments-requires-clause-low : goal.read_segments-requires-clause-low
+read_segments-requires-clause-low g c = c.requires.low
+
+pub append_segments-requires-clause-once : goal.append_segments-requires-clause-once
+append_segments-requires-clause-once g c = c.in-Ok-read_segments.ensures.segments.once
