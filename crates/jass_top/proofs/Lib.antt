@@ -26,5 +26,6 @@ pub mod Tried
 pub mod Trying
 pub mod Turns
 pub mod Unserved
+pub mod Untouched
 pub mod Wholes
 pub mod Imported

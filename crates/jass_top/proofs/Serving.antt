@@ -1,7 +1,7 @@
 -- Lines of an input that are served one by one.
 use Rattle.shared_lemmas.proofs.Common.{◌≡◌, ℕ, ◌+◌, ◌<◌, ◌≤◌, Bool, true, false, List, [], ◌∷◌, ◌++◌, length, take, drop, Option, Some, None, Result, Ok, Err, refl, sym, ap, subst, ◌∙◌, append_assoc, append-nil, arith, ◌||◌, not, nat_lt, ◌↔◌, IsTrue, if◌then◌else◌, Appends, concat}
 use Rattle.shared_lemmas.proofs.Common.{strip_carriage_return, nat_tests, IsUtf8-nil, is_utf8-from_IsUtf8, is_utf8}
-use Rattle.jass_top.proofs.Below.{blank_runs, Went, text_where, may_take_memory, Gathers, FileView, lines_of, Holds, IsFirstLine, Passed, PassesLine, ended_lines, EndsFirst, Waiting, passed_to, DeskCommand, Open, End, command_in, is_end_command, after_of, reply_to, steps_of, DeskState}
+use Rattle.jass_top.proofs.Below.{blank_runs, Went, text_where, may_take_memory, Gathers, FileView, lines_of, Holds, IsFirstLine, Passed, PassesLine, ended_lines, EndsFirst, Waiting, passed_to, DeskCommand, Open, command_in, is_end_command, after_of, reply_to, steps_of, DeskState}
 use Rattle.jass_top.proofs.Below.{desk_postings, desk_replies, Rest, Wrote, WriteFault}
 use Rattle.session_desk.specs.Endings.{may_want_memory}
 use Rattle.session_desk.specs.declared.went.Went.TheVariants as wents

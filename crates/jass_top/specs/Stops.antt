@@ -2,7 +2,6 @@
 use Rattle.std.specs.Prelude.{ℕ, List, ◌++◌, decimal, codes}
 use Rattle.jass_top.specs.declared.stop.Place.{Place}
 use Rattle.jass_top.specs.declared.stop.Place.TheVariants.{Byte, Line}
-use Rattle.jass_top.specs.declared.stop.Stop.TheVariants.{NoMemory, Refused, ReadFault, WriteFault, InputLimit}
 use Rattle.jass_top.specs.declared.status.Status.{Status}
 use Rattle.jass_top.specs.declared.status.Status.TheVariants as status
 

@@ -23,12 +23,19 @@ pub fn run_export<'a, C: Cabinet, L: Ledger>(
         (with_files C.Cabinet files.old (record beside { steps = steps.old }))
         (with_files C.Cabinet files.new (record beside { steps = steps.new })) result }
 {
-    let file = open_index(alloc, files, index)?;
-    let collection = match export_collection(alloc, &file, steps) {
+    let file = match open_index(alloc, files, index) {
+        Ok(file) => file,
+        Err(stop) => return Err(stop),
+    };
+    let made = export_collection(alloc, &file, steps);
+    drop(file);
+    let collection = match made {
         Ok(collection) => collection,
         Err(_) => return Err(Stop::NoMemory),
     };
-    match write_file(&collection, files, ciff) {
+    let written = write_file(&collection, files, ciff);
+    drop(collection);
+    match written {
         Ok(()) => Ok(()),
         Err(_) => Err(Stop::WriteFault { name: ciff }),
     }

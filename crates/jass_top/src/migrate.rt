@@ -32,8 +32,13 @@ pub fn run_migrate<'a, C: Cabinet, O: Sink>(
         (outer C.Cabinet O.Sink files.old out.old steps)
         (outer C.Cabinet O.Sink files.new out.new steps) result }
 {
-    let index = read_old(alloc, files, from)?;
-    save_index(alloc, &index, from, to, files, out)
+    let index = match read_old(alloc, files, from) {
+        Ok(index) => index,
+        Err(stop) => return Err(stop),
+    };
+    let saved = save_index(alloc, &index, from, to, files, out);
+    drop(index);
+    saved
 }
 
 /// Reads an index file of version 1.

@@ -82,11 +82,15 @@ fn ask_collection<'a, O: Sink, L: Ledger>(
     if fits_surely(&collection) {
         return ask_lists(alloc, collection, input, question, out, steps);
     }
-    let index = match index_collection(alloc, &collection, Rule::Tf, Bits::Raw) {
+    let made = index_collection(alloc, &collection, Rule::Tf, Bits::Raw);
+    drop(collection);
+    let index = match made {
         Ok(index) => index,
         Err(_) => return Err(Stop::NoMemory),
     };
-    ask_made(alloc, &index, input, question, out, steps)
+    let answered = ask_made(alloc, &index, input, question, out, steps);
+    drop(index);
+    answered
 }
 
 /// Asks the index of the lists whose terms the words name.
@@ -112,11 +116,15 @@ fn ask_lists<'a, O: Sink, L: Ledger>(
         Ok(asked) => asked,
         Err(_) => return Err(Stop::NoMemory),
     };
-    let index = match index_collection(alloc, &asked, Rule::Tf, Bits::Raw) {
+    let made = index_collection(alloc, &asked, Rule::Tf, Bits::Raw);
+    drop(asked);
+    let index = match made {
         Ok(index) => index,
         Err(_) => return Err(Stop::NoMemory),
     };
-    ask_made(alloc, &index, input, question, out, steps)
+    let answered = ask_made(alloc, &index, input, question, out, steps);
+    drop(index);
+    answered
 }
 
 /// Asks an index that was made of an input.
@@ -137,7 +145,9 @@ fn ask_made<'a, O: Sink, L: Ledger>(
         Ok(file) => file,
         Err(stop) => return Err(stop),
     };
-    ask_file(alloc, &file, input, question, out, steps)
+    let answered = ask_file(alloc, &file, input, question, out, steps);
+    drop(file);
+    answered
 }
 
 /// Asks an opened index file, whose text fits a file of that name.
@@ -162,15 +172,20 @@ fn ask_file<'a, O: Sink, L: Ledger>(
         return Err(Stop::NoMemory);
     };
     let Ok(mut pool) = FramePool::new(alloc, index.docs().div_ceil(256), 1) else {
+        drop(query);
         return Err(Stop::NoMemory);
     };
     let mut session = match Session::open(alloc, index, &mut pool, query, question.k) {
         Ok(session) => session,
-        Err(OpenStop::NoMemory) => return Err(Stop::NoMemory),
+        Err(OpenStop::NoMemory) => {
+            drop(pool);
+            return Err(Stop::NoMemory);
+        }
         Err(OpenStop::PoolFull { .. }) => unreachable!("the pool has a frame for each page"),
     };
     let answered = answer_session(&mut session, index, &mut pool, question.budget, out, steps);
     session.close(&mut pool);
+    drop(pool);
     match answered {
         Ok(()) => Ok(()),
         Err(_) => Err(Stop::WriteFault { name: OUTPUT }),

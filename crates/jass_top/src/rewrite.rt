@@ -19,8 +19,13 @@ pub fn run_rewrite<'a, C: Cabinet>(
     ensures { (beside : Outer) → Runs (rewrite_meaning from.now to.now)
         (with_files C.Cabinet files.old beside) (with_files C.Cabinet files.new beside) result }
 {
-    let collection = read_file(alloc, files, from)?;
-    match write_file(&collection, files, to) {
+    let collection = match read_file(alloc, files, from) {
+        Ok(collection) => collection,
+        Err(stop) => return Err(stop),
+    };
+    let written = write_file(&collection, files, to);
+    drop(collection);
+    match written {
         Ok(()) => Ok(()),
         Err(_) => Err(Stop::WriteFault { name: to }),
     }

@@ -48,10 +48,20 @@ pub fn run_search<'a, C: Cabinet, O: Sink, L: Ledger>(
     a_search_leaves_its_output();
     let (file, asked) = open_search(alloc, index, queries, mode, files)?;
     match write_search(alloc, asked, k, budgets, tag, &file, steps, files, run, out) {
-        Ok(()) => Ok(()),
-        Err(SearchStop::NoMemory) => Err(Stop::NoMemory),
-        Err(SearchStop::Unwritten(SearchOutput::Run)) => Err(Stop::WriteFault { name: run }),
+        Ok(()) => {
+            drop(file);
+            Ok(())
+        }
+        Err(SearchStop::NoMemory) => {
+            drop(file);
+            Err(Stop::NoMemory)
+        }
+        Err(SearchStop::Unwritten(SearchOutput::Run)) => {
+            drop(file);
+            Err(Stop::WriteFault { name: run })
+        }
         Err(SearchStop::Unwritten(SearchOutput::Reports)) => {
+            drop(file);
             Err(Stop::WriteFault { name: OUTPUT })
         }
     }
@@ -84,6 +94,9 @@ fn open_search<'a, C: Cabinet>(
     };
     match open_queries(alloc, files, queries, mode, &file) {
         Ok(asked) => Ok((file, asked)),
-        Err(stop) => Err(stop),
+        Err(stop) => {
+            drop(file);
+            Err(stop)
+        }
     }
 }

@@ -45,17 +45,25 @@ pub fn write_search<C: Cabinet, O: Sink, L: Ledger>(
     index.is_checked();
     let mut pool = match FramePool::new(alloc, index.docs().div_ceil(256), 1) {
         Ok(pool) => pool,
-        Err(_) => return Err(SearchStop::NoMemory),
+        Err(_) => {
+            drop(queries);
+            return Err(SearchStop::NoMemory);
+        }
     };
     match files.create(name) {
         Ok(()) => {}
-        Err(_) => return Err(SearchStop::Unwritten(SearchOutput::Run)),
+        Err(_) => {
+            drop(pool);
+            drop(queries);
+            return Err(SearchStop::Unwritten(SearchOutput::Run));
+        }
     }
     let mut sink = FileSink { files, name };
     let searched = search_behind(
         alloc, queries, k, budgets, tag, index, &mut pool, steps, &mut sink, out,
     );
     let FileSink { files: _, name: _ } = sink;
+    drop(pool);
     searched
 }
 

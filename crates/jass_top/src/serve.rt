@@ -36,14 +36,22 @@ pub fn run_serve<'a, C: Cabinet, I: Feed, O: Sink, L: Ledger>(
     };
     let mut lines = match FeedLines::new(alloc, MOST_TAKEN) {
         Ok(lines) => lines,
-        Err(_) => return Err(Stop::NoMemory),
+        Err(_) => {
+            drop(file);
+            return Err(Stop::NoMemory);
+        }
     };
     let mut desk = match Desk::new(alloc, file, frames) {
         Ok(desk) => desk,
-        Err(_) => return Err(Stop::NoMemory),
+        Err(_) => {
+            drop(lines);
+            return Err(Stop::NoMemory);
+        }
     };
     let served = serve_lines(&mut desk, &mut lines, input, out, steps);
-    desk.close();
+    drop(lines);
+    let file = desk.close();
+    drop(file);
     match served {
         Ok(()) => Ok(()),
         Err(ServeStop::NoMemory) => Err(Stop::NoMemory),

@@ -57,7 +57,9 @@ pub fn run_trial<'a, O: Sink, L: Ledger>(
         Ok(made) => made,
         Err(stop) => return Err(stop),
     };
-    try_file(alloc, &file, &mut draws, terms, queries, out, steps)
+    let tried = try_file(alloc, &file, &mut draws, terms, queries, out, steps);
+    drop(file);
+    tried
 }
 
 /// Answers queries that are drawn over the index of a trial, and prints a summary.
@@ -139,15 +141,21 @@ fn trial_bytes<'a>(
     impacts_are_small(&index);
     let bytes = match text_in_memory(alloc, &index, NAME) {
         Ok(bytes) => bytes,
-        Err(stop) => return Err(stop),
+        Err(stop) => {
+            drop(index);
+            return Err(stop);
+        }
     };
     if totals(&index).postings > MOST_POSTINGS {
+        drop(bytes);
+        drop(index);
         return Err(Stop::Refused {
             name: NAME,
             number: TOO_MANY,
             at: Place::Byte(AT_POSTINGS),
         });
     }
+    drop(index);
     Ok((bytes, draws))
 }
 
@@ -164,7 +172,9 @@ fn index_trial(
     ensures draws { IfOk result (λ made. made.1 ≡ trial_state seed docs terms) }
 {
     let (collection, draws) = make_with_draws(alloc, seed, docs, terms)?;
-    match index_collection(alloc, &collection, Rule::Bm25, Bits::Of(8)) {
+    let made = index_collection(alloc, &collection, Rule::Bm25, Bits::Of(8));
+    drop(collection);
+    match made {
         Ok(index) => Ok((index, draws)),
         Err(refused) => Err(refused),
     }

@@ -60,13 +60,22 @@ pub fn try_queries<L: Ledger>(
     'queries: for _ in 0..queries {
         let words = match draw_query(alloc, draws, terms) {
             Ok(words) => words,
-            Err(refused) => return Err(refused),
+            Err(refused) => {
+                drop(pool);
+                return Err(refused);
+            }
         };
-        match try_query(alloc, words.as_slice(), index, &mut pool, sums, steps) {
+        let tried = try_query(alloc, words.as_slice(), index, &mut pool, sums, steps);
+        drop(words);
+        match tried {
             Ok(more) => sums = more,
-            Err(refused) => return Err(refused),
+            Err(refused) => {
+                drop(pool);
+                return Err(refused);
+            }
         }
     }
+    drop(pool);
     Ok(sums)
 }
 

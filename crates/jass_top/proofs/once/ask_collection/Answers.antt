@@ -9,5 +9,5 @@ use Rattle.jass_top.proofs.once.ask_collection.Goals as goal
 pub returns : goal.returns
 returns g c = λ beside.
     subst (λ (index : IndexData). Runs (asking_meaning c.args.input.now index (once_of c.args.question)) (with_output g.O.Sink c.args.out.now (record beside { steps = c.args.steps.now }))
-    (with_output g.O.Sink c.ask_made.new.out (record beside { steps = c.ask_made.new.steps })) c.ask_made.result)
-    c.in-Ok.ensures.made (c.ask_made.ensures beside)
+    (with_output g.O.Sink c.ask_made-answered.new.out (record beside { steps = c.ask_made-answered.new.steps })) c.ask_made-answered.result)
+    c.in-Ok.ensures.made (c.ask_made-answered.ensures beside)

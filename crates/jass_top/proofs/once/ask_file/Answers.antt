@@ -1,10 +1,26 @@
 use Rattle.std.proofs.Common.{◌≡◌, refl, ap, ◌∙◌, inl, arith}
 use Rattle.jass_top.proofs.Below.{query_data, query_of, report_of}
+use Rattle.jass_top.specs.declared.stop.Stop.TheVariants as stops
 use Rattle.jass_top.specs.Answers.{once_query}
+use Rattle.jass_top.specs.Private.HeldIndexes.{asking_meaning}
 use Rattle.jass_top.specs.Private.OnceTexts.{once_of}
+use Rattle.jass_top.specs.Private.Worlds.{with_output}
 use Rattle.jass_top.proofs.Asking.{had}
+use Rattle.jass_top.proofs.Stopping.{stopped}
 use Rattle.jass_top.proofs.Turns.{scored_none}
 use Rattle.jass_top.proofs.once.ask_file.Goals as goal
+
+pub returns-in_default : goal.returns-in_default
+returns-in_default g c = λ beside.
+    stopped (asking_meaning c.args.input.now c.args.index.now.index (once_of c.args.question)) (with_output g.O.Sink c.args.out.now (record beside { steps = c.args.steps.now })) stops.NoMemory tt
+
+pub returns-in_default-new : goal.returns-in_default-new
+returns-in_default-new g c = λ beside.
+    stopped (asking_meaning c.args.input.now c.args.index.now.index (once_of c.args.question)) (with_output g.O.Sink c.args.out.now (record beside { steps = c.args.steps.now })) stops.NoMemory tt
+
+pub returns-in-Err-NoMemory : goal.returns-in-Err-NoMemory
+returns-in-Err-NoMemory g c = λ beside.
+    stopped (asking_meaning c.args.input.now c.args.index.now.index (once_of c.args.question)) (with_output g.O.Sink c.args.out.now (record beside { steps = c.args.steps.now })) stops.NoMemory tt
 
 pub returns-in-Ok-answered : goal.returns-in-Ok-answered
 returns-in-Ok-answered g c = λ beside.
@@ -17,8 +33,8 @@ returns-in-Ok-answered g c = λ beside.
     (c.reports_of_sessions_keep_their_promises.ensures.report s file pool did.stands) (c.reports_of_sessions_keep_their_promises.ensures.promised s file pool c.requires.view did.stands)
     (record { content = refl; text = c.in-Ok-answered.ensures.text.bytes; steps = omega (arith, did.steps, none) })
 
-pub returns : goal.returns
-returns g c = λ beside.
+pub returns-in-Err : goal.returns-in-Err
+returns-in-Err g c = λ beside.
     let file = c.args.index.now in let did = c.answer_session-answered.ensures in let s = c.answer_session-answered.new.session in
     let pool = c.answer_session-answered.new.pool in let opened = c.in-Ok-open in
     let asks : query_data (query_of opened.session) ≡ once_query file.index (once_of c.args.question)

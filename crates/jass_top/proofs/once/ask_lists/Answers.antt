@@ -12,7 +12,7 @@ pub returns : goal.returns
 returns g c = λ beside.
     let all = collection_data c.args.collection in let words = texts c.args.question.terms.now in let query = once_of c.args.question in
     let before = with_output g.O.Sink c.args.out.now (record beside { steps = c.args.steps.now }) in
-    let after = with_output g.O.Sink c.ask_made.new.out (record beside { steps = c.ask_made.new.steps }) in
-    let made : index_data c.in-Ok-index_collection.index ≡ once_index (asked_of all words) = c.in-Ok-index_collection.ensures.made ∙ ap once_index c.in-Ok.ensures.asked in
-    asked_runs c.args.input.now query (once_index (asked_of all words)) (once_index all) c.requires.fits_asked c.requires.fits (c.asked_lists_answer_alike.ensures.collection c.args.collection Tf words) before after c.ask_made.result
-    (subst (λ (index : IndexData). Runs (asking_meaning c.args.input.now index query) before after c.ask_made.result) made (c.ask_made.ensures beside))
+    let after = with_output g.O.Sink c.ask_made-answered.new.out (record beside { steps = c.ask_made-answered.new.steps }) in
+    let made : index_data c.in-Ok-made.index ≡ once_index (asked_of all words) = c.in-Ok-made.ensures.made ∙ ap once_index c.in-Ok.ensures.asked in
+    asked_runs c.args.input.now query (once_index (asked_of all words)) (once_index all) c.requires.fits_asked c.requires.fits (c.asked_lists_answer_alike.ensures.collection c.args.collection Tf words) before after c.ask_made-answered.result
+    (subst (λ (index : IndexData). Runs (asking_meaning c.args.input.now index query) before after c.ask_made-answered.result) made (c.ask_made-answered.ensures beside))

@@ -15,5 +15,5 @@ returns-in-Err g c = λ beside.
 pub returns : goal.returns
 returns g c = λ beside.
     subst (λ (made : IndexData). Runs (asking_meaning c.args.input.now made (once_of c.args.question)) (with_output g.O.Sink c.args.out.now (record beside { steps = c.args.steps.now }))
-    (with_output g.O.Sink c.ask_file.new.out (record beside { steps = c.ask_file.new.steps })) c.ask_file.result)
-    c.in-Ok.ensures.index (c.ask_file.ensures beside)
+    (with_output g.O.Sink c.ask_file-answered.new.out (record beside { steps = c.ask_file-answered.new.steps })) c.ask_file-answered.result)
+    c.in-Ok.ensures.index (c.ask_file-answered.ensures beside)

@@ -1,19 +1,43 @@
 use Rattle.std.proofs.Common.{[], Some, refl, subst, inr, arith}
 use Rattle.jass_top.proofs.Below.{canonical_ciff, collection_data, Appends-none, Rose-earlier}
-use Rattle.jass_top.specs.Standing.{LeavesFront}
+use Rattle.jass_top.specs.RewriteMeaning.{rewrite_meaning}
+use Rattle.jass_top.specs.Standing.{LeavesFile, LeavesFront}
+use Rattle.jass_top.specs.Private.Worlds.{with_files}
+use Rattle.jass_top.proofs.Stopping.{stopped_unread}
 use Rattle.jass_top.proofs.rewrite.run_rewrite.Goals as goal
 
-pub returns : goal.returns
-returns g c = λ beside.
-    let text = canonical_ciff (collection_data c.in_ok-collection.collection) in (
-      inr (refl, Rose-earlier (g.C.Cabinet.write_faults c.args.files.now) (g.C.Cabinet.write_faults c.read_file.new.files) (g.C.Cabinet.write_faults c.write_file.new.files) c.in_ok-collection.ensures.others c.in-Err.ensures.cause),
+pub returns-in-Err : goal.returns-in-Err
+returns-in-Err g c = λ beside.
+    stopped_unread (rewrite_meaning c.args.from.now c.args.to.now) (with_files g.C.Cabinet c.args.files.now beside)
+    (with_files g.C.Cabinet c.read_file.new.files beside) c.in-Err.stop refl
+    (record { told = c.in-Err.ensures.stays; written = refl; steps = refl }) c.in-Err.ensures.unread
+
+pub returns-in-Ok-written : goal.returns-in-Ok-written
+returns-in-Ok-written g c = λ beside.
+    let text = canonical_ciff (collection_data c.in-Ok.collection) in
+    record {
+      inputs = collection_data c.in-Ok.collection;
+      output = record { content = text; text = []; steps = 0 };
+      accepted = c.in-Ok.ensures.accepted;
+      exact = refl;
+      left = record {
+        content = subst (λ told. LeavesFile (Some c.args.to.now) told (g.C.Cabinet.told c.write_file-written.new.files) text) c.in-Ok.ensures.stays c.in-Ok-written.ensures.ok;
+        text = Appends-none beside.written;
+        steps = omega arith;
+      };
+    }
+
+pub returns-in-Err-written : goal.returns-in-Err-written
+returns-in-Err-written g c = λ beside.
+    let text = canonical_ciff (collection_data c.in-Ok.collection) in (
+      inr (refl, Rose-earlier (g.C.Cabinet.write_faults c.args.files.now) (g.C.Cabinet.write_faults c.read_file.new.files) (g.C.Cabinet.write_faults c.write_file-written.new.files) c.in-Ok.ensures.others c.in-Err-written.ensures.cause),
       record {
-        inputs = collection_data c.in_ok-collection.collection;
+        inputs = collection_data c.in-Ok.collection;
         output = record { content = text; text = []; steps = 0 };
-        accepted = c.in_ok-collection.ensures.accepted;
+        accepted = c.in-Ok.ensures.accepted;
         exact = refl;
         left = record {
-          content = subst (λ told. LeavesFront (Some c.args.to.now) told (g.C.Cabinet.told c.write_file.new.files) text) c.in_ok-collection.ensures.stays c.in-Err.ensures.err;
+          content = subst (λ told. LeavesFront (Some c.args.to.now) told (g.C.Cabinet.told c.write_file-written.new.files) text) c.in-Ok.ensures.stays c.in-Err-written.ensures.err;
           text = (0, Appends-none beside.written);
           steps = omega arith;
           never_less = omega arith;

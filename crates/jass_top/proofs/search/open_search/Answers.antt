@@ -8,8 +8,8 @@ use Rattle.jass_top.proofs.Behind.{unread_first, unread_then}
 use Rattle.jass_top.proofs.JudgedQueries.{untold_too}
 use Rattle.jass_top.proofs.search.open_search.Goals as goal
 
-pub returns-clause-unread : goal.returns-clause-unread
-returns-clause-unread g c =
+pub returns-in-Err-open_queries-clause-unread : goal.returns-in-Err-open_queries-clause-unread
+returns-in-Err-open_queries-clause-unread g c =
     let told = g.C.Cabinet.told c.args.files.now in let before : ℕ = g.C.Cabinet.read_faults c.args.files.now in
     let mid : ℕ = g.C.Cabinet.read_faults c.open_index.new.files in let after : ℕ = g.C.Cabinet.read_faults c.open_queries.new.files in
     let stop = c.in-Err-open_queries.stop in

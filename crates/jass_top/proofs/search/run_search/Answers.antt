@@ -47,8 +47,8 @@ returns-in-Err-Unwritten-Run g c = (
       c.in_ok-file.ensures.view c.in_ok-file.ensures.stays c.in_ok-file.ensures.accepted c.in-Err-Unwritten-Run.ensures.run.content c.in-Err-Unwritten-Run.ensures.out.bytes c.in-Err-Unwritten-Run.ensures.steps,
 )
 
-pub returns : goal.returns
-returns g c = (
+pub returns-in-Err-Unwritten-Reports : goal.returns-in-Err-Unwritten-Reports
+returns-in-Err-Unwritten-Reports g c = (
   inl (refl, refl, c.in-Err-Unwritten-Reports.ensures.out.failed (c.in-Err-Unwritten-Reports.field-0-is ∙ ap Unwritten c.in-Err-Unwritten-Reports.field-0-0-is)),
   part_left c.a_search_leaves_its_output.ensures c.args.index.now c.args.queries.now c.args.run.now (record { k = c.args.k; budgets = c.args.budgets.now; tag = c.args.tag.now }) c.args.mode
       c.in_ok-file.file (asked_of c.in_ok-file.asked) (g.C.Cabinet.told c.open_search.new.files)

@@ -18,5 +18,5 @@ unfolding trial_queries
 returns g c = λ beside.
     let index : (c.in-Ok.made.0).index ≡ trial_index c.args.seed c.args.docs c.args.terms = ap (λ (v : FileView). v.index) c.in-Ok.ensures.file in
     let asked = ap (queries_from c.args.terms c.args.queries) c.in-Ok.ensures.draws in
-    subst (λ (m : Meaning). Runs m (with_output g.O.Sink c.args.out.now (record beside { steps = c.args.steps.now })) (with_output g.O.Sink c.try_file.new.out (record beside { steps = c.try_file.new.steps })) c.try_file.result)
-    (λ i. tried_meaning (index i) (asked i)) (c.try_file.ensures beside)
+    subst (λ (m : Meaning). Runs m (with_output g.O.Sink c.args.out.now (record beside { steps = c.args.steps.now })) (with_output g.O.Sink c.try_file-tried.new.out (record beside { steps = c.try_file-tried.new.steps })) c.try_file-tried.result)
+    (λ i. tried_meaning (index i) (asked i)) (c.try_file-tried.ensures beside)
