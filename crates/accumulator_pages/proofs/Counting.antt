@@ -13,17 +13,6 @@ pub byte_worth : (b : Bool) → bool_byte b ≡ worth b
 byte_worth true = refl
 byte_worth false = refl
 
--- one document more is counted where it is touched
-pub counted_on : (p : ℕ → Bool) (xs : List ℕ) (n x : ℕ) → n < length xs → x ≡ get_or xs n 0 → count_by p (take (n + 1) xs) ≡ count_by p (take n xs) + worth (p x)
-counted_on p [] n x inside is = absurd (omega arith)
-counted_on p (y ∷ ys) zero x inside is = omega (arith, sum_by-cons (λ z. worth (p z)) y [], ap (λ z. worth (p z)) is)
-counted_on p (y ∷ ys) (suc n) x inside is =
-    let next : suc n + 1 ≡ suc (n + 1) = omega arith in
-    let more : count_by p (take (suc n + 1) (y ∷ ys)) ≡ worth (p y) + count_by p (take (n + 1) ys) =
-    ap (λ (k : ℕ). count_by p (take k (y ∷ ys))) next ∙ sum_by-cons (λ z. worth (p z)) y (take (n + 1) ys) in
-    let so_far : count_by p (take (suc n) (y ∷ ys)) ≡ worth (p y) + count_by p (take n ys) = sum_by-cons (λ z. worth (p z)) y (take n ys) in
-    omega (arith, more, so_far, counted_on p ys n x (omega arith) is)
-
 pub some_counted : (p : ℕ → Bool) (xs : List ℕ) (i : ℕ) → i < length xs → p (get_or xs i 0) ≡ true → 0 < count_by p xs
 some_counted p [] i inside is = absurd (omega arith)
 some_counted p (x ∷ xs) zero inside is = omega (arith, sum_by-cons (λ y. worth (p y)) x xs, ap worth is)

@@ -173,7 +173,7 @@ impl Pages {
         }
     }
 
-    /// How many documents have a score. It looks at each document's: a count would cost every posting that is added.
+    /// How many documents have a score. It looks at the score of each document, since a count would cost every posting.
     pub fn touched(&self, pool: &FramePool) -> u32
         requires { Stands self.now pool.now }
         ensures { result ≡ touched_count (pages_scores self.now pool.now) }

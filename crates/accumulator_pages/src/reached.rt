@@ -64,7 +64,7 @@ impl Reached {
         ensures room { self.new.room ≡ self.old.room }
     {
         // Below the hit's score this wraps to a number above any weight, and above it before the weight was added too
-        // it is more than the weight: hardly any document gets past this test.
+        // it is more than the weight.
         let above = score.wrapping_sub(last.score);
         if above > w {
             return;

@@ -8,10 +8,6 @@ use Rattle.topk_heap.specs.Noting.{AreNoted, just_behind}
 use Rattle.topk_heap.specs.Standing.{TopView, without_heap}
 use Rattle.std.proofs.lemmas.List.{append-nil}
 
-pub same_added : (w : ℕ) (docs s : List ℕ) → pages.added w docs s ≡ added w docs s
-same_added w [] s = refl
-same_added w (doc ∷ docs) s = same_added w docs (set s doc (get_or s doc 0 + w))
-
 pub noted_after : (top : TopView) (last : Hit) (w : ℕ) (docs s s' p p' n n' : List ℕ) → AreNoted top last (pages.added w docs s) p (n ++ pages.raised w last docs s)
     → s' ≡ pages.added w docs s → p' ≡ p → n' ≡ n ++ pages.raised w last docs s → AreNoted top last s' p' n'
 noted_after top last w docs s s' p p' n n' are is same notes = subst (λ (x : List ℕ). AreNoted top last x p' n') (sym is)

@@ -1,8 +1,8 @@
-use Rattle.shared_lemmas.proofs.Common.{ℕ, List, count_by, ltb, ap, ◌∙◌, arith}
+use Rattle.shared_lemmas.proofs.Common.{ℕ, List, count_by, ltb, ap, ◌∙◌, arith, sum_by_more}
 use Rattle.std.proofs.lemmas.List.{take_all}
 use Rattle.accumulator_pages.specs.Adding.{is_touched}
 use Rattle.accumulator_pages.specs.Pages.{own_view, pages_scores}
-use Rattle.accumulator_pages.proofs.Counting.{byte_worth, counted_on}
+use Rattle.accumulator_pages.proofs.Counting.{byte_worth, worth}
 use Rattle.accumulator_pages.proofs.Standing.{length-values}
 use Rattle.accumulator_pages.proofs.pages.Pages.touched.Goals as goal
 
@@ -13,7 +13,8 @@ loop-doc-preserved c =
     omega (
       arith,
       c.loop-doc.invariant,
-      counted_on is_touched scores c.loop-doc.doc c.get.result (omega (arith, size, c.loop-doc-test.true)) c.get.ensures,
+      sum_by_more (λ x. worth (is_touched x)) scores c.loop-doc.doc 0 (omega (arith, size, c.loop-doc-test.true)),
+      ap (λ x. worth (is_touched x)) c.get.ensures,
       c.from-touched.ensures ∙ byte_worth (ltb 0 c.get.result),
     )
 
