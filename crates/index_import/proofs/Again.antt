@@ -1,5 +1,6 @@
--- A walk that is asked for one list after another.
+-- A walk that is asked for one list after another, the counts of faults beside it, and answers that are no read fault.
 use Rattle.std.proofs.Common.{◌≡◌, ◌≤◌, ◌⊎◌, inl, inr, ℕ, List, Option, Some, None, Result, Ok, Err, OnOk, IsErrOf, sym, subst, ◌∙◌, arith}
+use Rattle.std.proofs.Math.Nat.{le_trans}
 use Rattle.std.specs.Bool.{⊤}
 use Rattle.jass_base.specs.Outside.{Rose}
 use Rattle.ciff_read.specs.declared.refusal.CiffFault.TheVariants as faults
@@ -24,9 +25,6 @@ same_fault is = cc
 pub still_fault : {T U E : Type 0} {fault other : E} → (let one : Result T E = Err fault in IsErrOf one other) → (let two : Result U E = Err fault in IsErrOf two other)
 still_fault is = cc
 
-pub no_less : (a b c : ℕ) → a ≤ b → b ≤ c → a ≤ c
-no_less a b c first second = omega arith
-
 pub rose_before : (a b c : ℕ) → a ≤ b → Rose b c → Rose a c
 rose_before a b c first rose = omega arith
 
@@ -41,8 +39,8 @@ pub reads_on : {T : Type 0} (old mid new : Option Files) (r m n w x y : ℕ) (re
 reads_on old mid new r m n w x y result same later others stays more beside fault = record {
   fault = λ is. rose_before r m n later (fault is);
   stays = stays ∙ same;
-  later = no_less r m n later more;
-  others = no_less w x y others beside;
+  later = le_trans later more;
+  others = le_trans others beside;
 }
 
 -- the walk is ready where the same was told, by its name then
@@ -66,9 +64,6 @@ told_there files now name own P same called is = subst (λ (n : List ℕ). ForCo
 -- a walk that was ready is ready now, by its own name
 pub ready_now : (files now : Option Files) (old w : WalkView) → now ≡ files → LeavesWalk old w → IsReady files old.name w → IsReady now w.name w
 ready_now files now old w same leaves is = subst (λ (n : List ℕ). IsReady now n w) (sym leaves.name) (subst (λ (f : Option Files). IsReady f old.name w) (sym same) is)
-
-pub no_less_itself : (n : ℕ) → n ≤ n
-no_less_itself n = omega arith
 
 -- nothing is asked of a content
 pub nothing_told : (files : Option Files) (name : List ℕ) → ForContent files name (λ content. ⊤)

@@ -1,4 +1,4 @@
--- Why no index was made of a file that wasn't read.
+-- Why no index was made: of a file that wasn't read, or by one that couldn't be written.
 use Rattle.std.proofs.Common.{◌≡◌, ℕ, List, Option, Result, Ok, Err, IsErrOf, inl, refl, subst, sym}
 use Rattle.index_import.proofs.Below.{Bits, CiffFault, Files, ForContent, IsMissing, Rule, SaveFault, TermFault, for_one, read_ciff}
 use Rattle.ciff_read.specs.Walk.{IsOutside}

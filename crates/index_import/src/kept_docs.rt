@@ -59,10 +59,7 @@ impl KeptDocs {
         let from = self.bytes.len();
         let extended = self.bytes.extend_from_slice(item.name.as_str().as_bytes());
         drop(item);
-        match extended {
-            Ok(()) => {}
-            Err(_) => return Err(NoMemory),
-        }
+        extended?;
         let to = self.bytes.len();
         let doc = KeptDoc {
             number,

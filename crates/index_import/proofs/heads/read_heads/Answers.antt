@@ -5,7 +5,8 @@ use Rattle.index_import.specs.Private.Surveying.{HoldsMost, KeepsAll}
 use Rattle.index_import.specs.declared.heads.Heads.{Heads}
 use Rattle.index_import.specs.declared.list_entry.ListEntry.{ListEntry}
 use Rattle.index_import.specs.declared.list_entry.Place.{Place}
-use Rattle.index_import.proofs.Again.{memory_unread, no_less, no_less_itself, nothing_told, ok_unread, ready_now, ready_then, rose_before, still_fault, told_now}
+use Rattle.std.proofs.Math.Nat.{le_refl, le_trans}
+use Rattle.index_import.proofs.Again.{memory_unread, nothing_told, ok_unread, ready_now, ready_then, rose_before, still_fault, told_now}
 use Rattle.index_import.proofs.Headed.{HaveEntries, all_entries, as_many, fails_one, headed_then, heads_more, no_entries, no_heads, rows_more, entry_is}
 use Rattle.index_import.proofs.Ready.{leaves_same, leaves_then}
 use Rattle.index_import.proofs.Turns.{middle, parted, whole}
@@ -144,10 +145,10 @@ pub returns-in-Err-read-clause-stays : goal.returns-in-Err-read-clause-stays
 returns-in-Err-read-clause-stays g c = c.read.ensures.stays ∙ c.lists.invariant.same
 
 pub returns-in-Err-read-clause-later : goal.returns-in-Err-read-clause-later
-returns-in-Err-read-clause-later g c = no_less (g.C.Cabinet.read_faults c.args.files.now) (g.C.Cabinet.read_faults c.lists.files) (g.C.Cabinet.read_faults c.read.new.files) c.lists.invariant.later c.read.ensures.later
+returns-in-Err-read-clause-later g c = le_trans c.lists.invariant.later c.read.ensures.later
 
 pub returns-in-Err-read-clause-others : goal.returns-in-Err-read-clause-others
-returns-in-Err-read-clause-others g c = no_less (g.C.Cabinet.write_faults c.args.files.now) (g.C.Cabinet.write_faults c.lists.files) (g.C.Cabinet.write_faults c.read.new.files) c.lists.invariant.others c.read.ensures.others
+returns-in-Err-read-clause-others g c = le_trans c.lists.invariant.others c.read.ensures.others
 
 pub returns-clause-told : goal.returns-clause-told
 returns-clause-told g c = nothing_told (g.C.Cabinet.told c.args.files.now) c.args.walk.now.name
@@ -204,10 +205,10 @@ pub returns-in-Err-clause-stays : goal.returns-in-Err-clause-stays
 returns-in-Err-clause-stays g c = refl
 
 pub returns-in-Err-clause-later : goal.returns-in-Err-clause-later
-returns-in-Err-clause-later g c = no_less_itself (g.C.Cabinet.read_faults c.args.files.now)
+returns-in-Err-clause-later g c = le_refl (g.C.Cabinet.read_faults c.args.files.now)
 
 pub returns-in-Err-clause-others : goal.returns-in-Err-clause-others
-returns-in-Err-clause-others g c = no_less_itself (g.C.Cabinet.write_faults c.args.files.now)
+returns-in-Err-clause-others g c = le_refl (g.C.Cabinet.write_faults c.args.files.now)
 
 pub returns-clause-ready : goal.returns-clause-ready
 returns-clause-ready g c = c.lists.invariant.ready

@@ -5,7 +5,8 @@ use Rattle.index_import.specs.Private.KeptDocs.{names_in}
 use Rattle.index_import.specs.Private.Outlining.{IsOutline}
 use Rattle.index_import.specs.Private.Surveying.{HoldsMost}
 use Rattle.index_import.proofs.Imported.{never_refused, spelled_made}
-use Rattle.index_import.proofs.Again.{no_less, rose_before}
+use Rattle.std.proofs.Math.Nat.{le_trans}
+use Rattle.index_import.proofs.Again.{rose_before}
 use Rattle.index_import.proofs.Unread.{unread_read, unread_write}
 use Rattle.index_import.proofs.import.import_held.Goals as goal
 
@@ -47,10 +48,10 @@ pub returns-clause-write_fault : goal.returns-clause-write_fault
 returns-clause-write_fault g c = λ is. rose_before (g.C.Cabinet.write_faults c.args.files.now) (g.C.Cabinet.write_faults c.spell_lists.new.files) (g.C.Cabinet.write_faults c.write_spelled-totals.new.files) c.spell_lists.ensures.others (c.write_spelled-totals.ensures.write_fault is)
 
 pub returns-clause-later : goal.returns-clause-later
-returns-clause-later g c = no_less (g.C.Cabinet.read_faults c.args.files.now) (g.C.Cabinet.read_faults c.spell_lists.new.files) (g.C.Cabinet.read_faults c.write_spelled-totals.new.files) c.spell_lists.ensures.later c.write_spelled-totals.ensures.later
+returns-clause-later g c = le_trans c.spell_lists.ensures.later c.write_spelled-totals.ensures.later
 
 pub returns-clause-others : goal.returns-clause-others
-returns-clause-others g c = no_less (g.C.Cabinet.write_faults c.args.files.now) (g.C.Cabinet.write_faults c.spell_lists.new.files) (g.C.Cabinet.write_faults c.write_spelled-totals.new.files) c.spell_lists.ensures.others c.write_spelled-totals.ensures.others
+returns-clause-others g c = le_trans c.spell_lists.ensures.others c.write_spelled-totals.ensures.others
 
 pub spell_lists-requires-clause-ready : goal.spell_lists-requires-clause-ready
 spell_lists-requires-clause-ready g c = c.requires.ready

@@ -6,7 +6,8 @@ use Rattle.index_import.specs.Private.Outlining.{IsOutline}
 use Rattle.index_import.specs.Private.Ranging.{range_there}
 use Rattle.index_import.specs.Private.Surveying.{AreGiven, HoldsMost, IsReady, KeepsAll}
 use Rattle.index_import.specs.declared.list_entry.ListEntry.{ListEntry}
-use Rattle.index_import.proofs.Again.{no_less, rose_before, told_now}
+use Rattle.std.proofs.Math.Nat.{le_trans}
+use Rattle.index_import.proofs.Again.{rose_before, told_now}
 use Rattle.index_import.proofs.Imported.{imports_then, outlined_then}
 use Rattle.index_import.proofs.Unread.{outside_imports, unread_read, unread_write}
 use Rattle.index_import.proofs.import.import_lists.Goals as goal
@@ -93,10 +94,10 @@ pub returns-then-are_few-clause-write_fault : goal.returns-then-are_few-clause-w
 returns-then-are_few-clause-write_fault g c = λ is. rose_before (g.C.Cabinet.write_faults c.args.files.now) (g.C.Cabinet.write_faults c.read_range.new.files) (g.C.Cabinet.write_faults c.import_held.new.files) c.read_range.ensures.others (c.import_held.ensures.write_fault is)
 
 pub returns-then-are_few-clause-later : goal.returns-then-are_few-clause-later
-returns-then-are_few-clause-later g c = no_less (g.C.Cabinet.read_faults c.args.files.now) (g.C.Cabinet.read_faults c.read_range.new.files) (g.C.Cabinet.read_faults c.import_held.new.files) c.read_range.ensures.later c.import_held.ensures.later
+returns-then-are_few-clause-later g c = le_trans c.read_range.ensures.later c.import_held.ensures.later
 
 pub returns-then-are_few-clause-others : goal.returns-then-are_few-clause-others
-returns-then-are_few-clause-others g c = no_less (g.C.Cabinet.write_faults c.args.files.now) (g.C.Cabinet.write_faults c.read_range.new.files) (g.C.Cabinet.write_faults c.import_held.new.files) c.read_range.ensures.others c.import_held.ensures.others
+returns-then-are_few-clause-others g c = le_trans c.read_range.ensures.others c.import_held.ensures.others
 
 pub import_held-requires-clause-low : goal.import_held-requires-clause-low
 import_held-requires-clause-low g c = c.in-Ok.ensures.low
@@ -119,10 +120,10 @@ pub returns-else-are_few-clause-write_fault : goal.returns-else-are_few-clause-w
 returns-else-are_few-clause-write_fault g c = λ is. rose_before (g.C.Cabinet.write_faults c.args.files.now) (g.C.Cabinet.write_faults c.read_range.new.files) (g.C.Cabinet.write_faults c.import_reread.new.files) c.read_range.ensures.others (c.import_reread.ensures.write_fault is)
 
 pub returns-else-are_few-clause-later : goal.returns-else-are_few-clause-later
-returns-else-are_few-clause-later g c = no_less (g.C.Cabinet.read_faults c.args.files.now) (g.C.Cabinet.read_faults c.read_range.new.files) (g.C.Cabinet.read_faults c.import_reread.new.files) c.read_range.ensures.later c.import_reread.ensures.later
+returns-else-are_few-clause-later g c = le_trans c.read_range.ensures.later c.import_reread.ensures.later
 
 pub returns-else-are_few-clause-others : goal.returns-else-are_few-clause-others
-returns-else-are_few-clause-others g c = no_less (g.C.Cabinet.write_faults c.args.files.now) (g.C.Cabinet.write_faults c.read_range.new.files) (g.C.Cabinet.write_faults c.import_reread.new.files) c.read_range.ensures.others c.import_reread.ensures.others
+returns-else-are_few-clause-others g c = le_trans c.read_range.ensures.others c.import_reread.ensures.others
 
 pub import_reread-requires-clause-low : goal.import_reread-requires-clause-low
 import_reread-requires-clause-low g c = c.in-Ok.ensures.low

@@ -1,6 +1,6 @@
 -- What the lists of an outline are is known of the outline.
 use Rattle.shared_lemmas.proofs.Common.{inl, refl}
-use Rattle.index_import.proofs.Again.{no_less_itself}
+use Rattle.std.proofs.Math.Nat.{le_refl}
 use Rattle.index_import.proofs.Unread.{memory_no_read, memory_no_write}
 use Rattle.index_import.proofs.import.import_outline.Goals as goal
 
@@ -14,10 +14,10 @@ pub returns-in-Err-clause-write_fault : goal.returns-in-Err-clause-write_fault
 returns-in-Err-clause-write_fault g c = λ is. absurd (memory_no_write is)
 
 pub returns-in-Err-clause-later : goal.returns-in-Err-clause-later
-returns-in-Err-clause-later g c = no_less_itself (g.C.Cabinet.read_faults c.args.files.now)
+returns-in-Err-clause-later g c = le_refl (g.C.Cabinet.read_faults c.args.files.now)
 
 pub returns-in-Err-clause-others : goal.returns-in-Err-clause-others
-returns-in-Err-clause-others g c = no_less_itself (g.C.Cabinet.write_faults c.args.files.now)
+returns-in-Err-clause-others g c = le_refl (g.C.Cabinet.write_faults c.args.files.now)
 
 pub returns-clause-imported : goal.returns-clause-imported
 returns-clause-imported g c = c.import_lists-totals.ensures.imported

@@ -7,7 +7,8 @@ use Rattle.index_import.specs.Private.Surveying.{AreGiven, HoldsMost, IsReady}
 use Rattle.index_import.specs.declared.list_entry.ListEntry.{ListEntry}
 use Rattle.index_import.specs.declared.list_entry.Place.{Place}
 use Rattle.index_import.proofs.Imported.{never_refused, writes_made}
-use Rattle.index_import.proofs.Again.{no_less, rose_before}
+use Rattle.std.proofs.Math.Nat.{le_trans}
+use Rattle.index_import.proofs.Again.{rose_before}
 use Rattle.index_import.proofs.Unread.{memory_no_read, memory_no_write, unread_read, unread_write}
 use Rattle.index_write.specs.Streaming.{AreNames}
 use Rattle.index_import.proofs.import.import_reread.Goals as goal
@@ -58,10 +59,10 @@ pub returns-clause-write_fault : goal.returns-clause-write_fault
 returns-clause-write_fault g c = λ is. rose_before (g.C.Cabinet.write_faults c.args.files.now) (g.C.Cabinet.write_faults c.read_heads.new.files) (g.C.Cabinet.write_faults c.write_index.new.files) c.read_heads.ensures.others (c.write_index.ensures.write_fault is)
 
 pub returns-clause-later : goal.returns-clause-later
-returns-clause-later g c = no_less (g.C.Cabinet.read_faults c.args.files.now) (g.C.Cabinet.read_faults c.read_heads.new.files) (g.C.Cabinet.read_faults c.write_index.new.files) c.read_heads.ensures.later c.write_index.ensures.later
+returns-clause-later g c = le_trans c.read_heads.ensures.later c.write_index.ensures.later
 
 pub returns-clause-others : goal.returns-clause-others
-returns-clause-others g c = no_less (g.C.Cabinet.write_faults c.args.files.now) (g.C.Cabinet.write_faults c.read_heads.new.files) (g.C.Cabinet.write_faults c.write_index.new.files) c.read_heads.ensures.others c.write_index.ensures.others
+returns-clause-others g c = le_trans c.read_heads.ensures.others c.write_index.ensures.others
 
 pub read_heads-requires-clause-ready : goal.read_heads-requires-clause-ready
 read_heads-requires-clause-ready g c = c.requires.ready

@@ -4,7 +4,8 @@ use Rattle.index_import.proofs.Below.{HasDocsBelow, LeavesWalk, Posting, list_da
 use Rattle.index_import.specs.Private.KeptPostings.{posting_in}
 use Rattle.index_import.specs.Private.Surveying.{IsReady, entry_postings}
 use Rattle.index_import.proofs.Made.{AreThere, all_there, kept_list_fits, kept_list, kept_postings, read_postings, read_there}
-use Rattle.index_import.proofs.Again.{no_less_itself, nothing_told, ok_unread, still_fault}
+use Rattle.std.proofs.Math.Nat.{le_refl}
+use Rattle.index_import.proofs.Again.{nothing_told, ok_unread, still_fault}
 use Rattle.index_import.proofs.Ready.{leaves_same}
 use Rattle.index_import.proofs.ranging.widen_by_entry.Goals as goal
 
@@ -62,10 +63,10 @@ pub returns-then-not-is_empty-clause-stays : goal.returns-then-not-is_empty-clau
 returns-then-not-is_empty-clause-stays g c = refl
 
 pub returns-then-not-is_empty-clause-later : goal.returns-then-not-is_empty-clause-later
-returns-then-not-is_empty-clause-later g c = no_less_itself (g.C.Cabinet.read_faults c.args.files.now)
+returns-then-not-is_empty-clause-later g c = le_refl (g.C.Cabinet.read_faults c.args.files.now)
 
 pub returns-then-not-is_empty-clause-others : goal.returns-then-not-is_empty-clause-others
-returns-then-not-is_empty-clause-others g c = no_less_itself (g.C.Cabinet.write_faults c.args.files.now)
+returns-then-not-is_empty-clause-others g c = le_refl (g.C.Cabinet.write_faults c.args.files.now)
 
 pub returns-in-Err-clause-ready : goal.returns-in-Err-clause-ready
 returns-in-Err-clause-ready g c = tt

@@ -5,7 +5,8 @@ use Rattle.index_import.proofs.Below.{KeptList, HasKept, for_one, Of, Range, wei
 use Rattle.index_import.specs.Private.Ranging.{CannotWiden, IsWidenedBy}
 use Rattle.index_import.specs.Private.Surveying.{HoldsMost, KeepsAll}
 use Rattle.index_import.specs.declared.list_entry.ListEntry.{ListEntry}
-use Rattle.index_import.proofs.Again.{no_less, ok_unread, ready_now, ready_then, rose_before, still_fault, told_now, told_then}
+use Rattle.std.proofs.Math.Nat.{le_trans}
+use Rattle.index_import.proofs.Again.{ok_unread, ready_now, ready_then, rose_before, still_fault, told_now, told_then}
 use Rattle.index_import.proofs.Ready.{leaves_same, leaves_then}
 use Rattle.index_import.proofs.Widening.{norms_cut, passed_still, widened_then, widens_more, widens_same}
 use Rattle.ciff_read.specs.Walk.{IsOutside}
@@ -132,10 +133,10 @@ pub returns-in-Err-clause-stays : goal.returns-in-Err-clause-stays
 returns-in-Err-clause-stays g c = c.widen_by_entry.ensures.stays ∙ c.loop-entry.invariant.stays
 
 pub returns-in-Err-clause-later : goal.returns-in-Err-clause-later
-returns-in-Err-clause-later g c = no_less (g.C.Cabinet.read_faults c.args.files.now) (g.C.Cabinet.read_faults c.loop-entry.files) (g.C.Cabinet.read_faults c.widen_by_entry.new.files) c.loop-entry.invariant.later c.widen_by_entry.ensures.later
+returns-in-Err-clause-later g c = le_trans c.loop-entry.invariant.later c.widen_by_entry.ensures.later
 
 pub returns-in-Err-clause-others : goal.returns-in-Err-clause-others
-returns-in-Err-clause-others g c = no_less (g.C.Cabinet.write_faults c.args.files.now) (g.C.Cabinet.write_faults c.loop-entry.files) (g.C.Cabinet.write_faults c.widen_by_entry.new.files) c.loop-entry.invariant.others c.widen_by_entry.ensures.others
+returns-in-Err-clause-others g c = le_trans c.loop-entry.invariant.others c.widen_by_entry.ensures.others
 
 pub returns-clause-ready : goal.returns-clause-ready
 returns-clause-ready g c = c.loop-entry.invariant.ready

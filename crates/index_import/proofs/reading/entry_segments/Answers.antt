@@ -5,7 +5,8 @@ use Rattle.index_import.specs.Private.KeptPostings.{posting_in}
 use Rattle.index_import.specs.Private.Rereading.{AreSegments}
 use Rattle.index_import.specs.Private.Surveying.{entry_postings}
 use Rattle.index_import.proofs.Made.{AreThere, all_there, kept_postings, made_there}
-use Rattle.index_import.proofs.Again.{no_less_itself, ok_unread, same_fault}
+use Rattle.std.proofs.Math.Nat.{le_refl}
+use Rattle.index_import.proofs.Again.{ok_unread, same_fault}
 use Rattle.index_import.proofs.Ready.{leaves_same}
 use Rattle.index_import.proofs.reading.entry_segments.Goals as goal
 
@@ -100,10 +101,10 @@ pub returns-in-Ok-make_segments-clause-stays : goal.returns-in-Ok-make_segments-
 returns-in-Ok-make_segments-clause-stays g c = refl
 
 pub returns-in-Ok-make_segments-clause-later : goal.returns-in-Ok-make_segments-clause-later
-returns-in-Ok-make_segments-clause-later g c = no_less_itself (g.C.Cabinet.read_faults c.args.files.now)
+returns-in-Ok-make_segments-clause-later g c = le_refl (g.C.Cabinet.read_faults c.args.files.now)
 
 pub returns-in-Ok-make_segments-clause-others : goal.returns-in-Ok-make_segments-clause-others
-returns-in-Ok-make_segments-clause-others g c = no_less_itself (g.C.Cabinet.write_faults c.args.files.now)
+returns-in-Ok-make_segments-clause-others g c = le_refl (g.C.Cabinet.write_faults c.args.files.now)
 
 pub returns-in-Err-make_segments-clause-leaves : goal.returns-in-Err-make_segments-clause-leaves
 returns-in-Err-make_segments-clause-leaves g c = leaves_same c.args.walk.now
@@ -112,10 +113,10 @@ pub returns-in-Err-make_segments-clause-stays : goal.returns-in-Err-make_segment
 returns-in-Err-make_segments-clause-stays g c = refl
 
 pub returns-in-Err-make_segments-clause-later : goal.returns-in-Err-make_segments-clause-later
-returns-in-Err-make_segments-clause-later g c = no_less_itself (g.C.Cabinet.read_faults c.args.files.now)
+returns-in-Err-make_segments-clause-later g c = le_refl (g.C.Cabinet.read_faults c.args.files.now)
 
 pub returns-in-Err-make_segments-clause-others : goal.returns-in-Err-make_segments-clause-others
-returns-in-Err-make_segments-clause-others g c = no_less_itself (g.C.Cabinet.write_faults c.args.files.now)
+returns-in-Err-make_segments-clause-others g c = le_refl (g.C.Cabinet.write_faults c.args.files.now)
 
 pub returns-in-Ok-make_segments-clause-ready : goal.returns-in-Ok-make_segments-clause-ready
 returns-in-Ok-make_segments-clause-ready g c = c.requires.ready

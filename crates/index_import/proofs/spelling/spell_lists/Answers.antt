@@ -5,7 +5,8 @@ use Rattle.index_write.specs.Spelled.{SpelledView}
 use Rattle.index_import.specs.Private.Spelling.{SpellsOne}
 use Rattle.index_import.specs.Private.Surveying.{HoldsMost, KeepsAll}
 use Rattle.index_import.specs.declared.list_entry.ListEntry.{ListEntry}
-use Rattle.index_import.proofs.Again.{memory_unread, no_less, nothing_told, ok_unread, ready_now, ready_then, rose_before, still_fault, told_now}
+use Rattle.std.proofs.Math.Nat.{le_trans}
+use Rattle.index_import.proofs.Again.{memory_unread, nothing_told, ok_unread, ready_now, ready_then, rose_before, still_fault, told_now}
 use Rattle.index_import.proofs.Headed.{entry_is, fails_one}
 use Rattle.index_import.proofs.Ready.{leaves_same, leaves_then}
 use Rattle.index_import.proofs.SegmentTurns.{one_of_all}
@@ -108,10 +109,10 @@ pub returns-in-Err-clause-stays : goal.returns-in-Err-clause-stays
 returns-in-Err-clause-stays g c = c.spell.ensures.stays ∙ c.lists.invariant.same
 
 pub returns-in-Err-clause-later : goal.returns-in-Err-clause-later
-returns-in-Err-clause-later g c = no_less (g.C.Cabinet.read_faults c.args.files.now) (g.C.Cabinet.read_faults c.lists.files) (g.C.Cabinet.read_faults c.spell.new.files) c.lists.invariant.later c.spell.ensures.later
+returns-in-Err-clause-later g c = le_trans c.lists.invariant.later c.spell.ensures.later
 
 pub returns-in-Err-clause-others : goal.returns-in-Err-clause-others
-returns-in-Err-clause-others g c = no_less (g.C.Cabinet.write_faults c.args.files.now) (g.C.Cabinet.write_faults c.lists.files) (g.C.Cabinet.write_faults c.spell.new.files) c.lists.invariant.others c.spell.ensures.others
+returns-in-Err-clause-others g c = le_trans c.lists.invariant.others c.spell.ensures.others
 
 pub returns-in-Ok-finish-clause-told : goal.returns-in-Ok-finish-clause-told
 returns-in-Ok-finish-clause-told g c = nothing_told (g.C.Cabinet.told c.args.files.now) c.args.walk.now.name

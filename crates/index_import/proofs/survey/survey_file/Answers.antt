@@ -1,7 +1,8 @@
 -- What is kept of the file that was opened.
 use Rattle.shared_lemmas.proofs.Common.{◌≡◌, ℕ, List, Option, Err, inl, refl, rules, subst, sym, ◌∙◌}
 use Rattle.index_import.proofs.Below.{Files, FailsReading, IsMissing, StandsFor, read_ciff}
-use Rattle.index_import.proofs.Again.{no_less, ok_unread, ready_then, rose_before, still_fault, told_there}
+use Rattle.std.proofs.Math.Nat.{le_trans}
+use Rattle.index_import.proofs.Again.{ok_unread, ready_then, rose_before, still_fault, told_there}
 use Rattle.index_import.proofs.Surveying.{PieceLaws, unopened}
 use Rattle.index_import.specs.Private.Surveying.{IsSurvey}
 use Rattle.index_import.proofs.survey.survey_file.Goals as goal
@@ -85,10 +86,10 @@ pub returns-in-Ok-clause-stays : goal.returns-in-Ok-clause-stays
 returns-in-Ok-clause-stays g c = c.in-Ok.ensures.reads.stays ∙ c.in_ok-walk.ensures.stays
 
 pub returns-in-Ok-clause-later : goal.returns-in-Ok-clause-later
-returns-in-Ok-clause-later g c = no_less (g.C.Cabinet.read_faults c.args.files.now) (g.C.Cabinet.read_faults c.open.new.files) (g.C.Cabinet.read_faults c.read_pieces.new.files) c.in_ok-walk.ensures.later c.in-Ok.ensures.reads.later
+returns-in-Ok-clause-later g c = le_trans c.in_ok-walk.ensures.later c.in-Ok.ensures.reads.later
 
 pub returns-in-Ok-clause-others : goal.returns-in-Ok-clause-others
-returns-in-Ok-clause-others g c = no_less (g.C.Cabinet.write_faults c.args.files.now) (g.C.Cabinet.write_faults c.open.new.files) (g.C.Cabinet.write_faults c.read_pieces.new.files) c.in_ok-walk.ensures.others c.in-Ok.ensures.reads.others
+returns-in-Ok-clause-others g c = le_trans c.in_ok-walk.ensures.others c.in-Ok.ensures.reads.others
 
 pub returns-in-Err-clause-ready : goal.returns-in-Err-clause-ready
 returns-in-Err-clause-ready g c = tt
@@ -109,10 +110,10 @@ pub returns-in-Err-clause-stays : goal.returns-in-Err-clause-stays
 returns-in-Err-clause-stays g c = c.in-Err.ensures.reads.stays ∙ c.in_ok-walk.ensures.stays
 
 pub returns-in-Err-clause-later : goal.returns-in-Err-clause-later
-returns-in-Err-clause-later g c = no_less (g.C.Cabinet.read_faults c.args.files.now) (g.C.Cabinet.read_faults c.open.new.files) (g.C.Cabinet.read_faults c.read_pieces.new.files) c.in_ok-walk.ensures.later c.in-Err.ensures.reads.later
+returns-in-Err-clause-later g c = le_trans c.in_ok-walk.ensures.later c.in-Err.ensures.reads.later
 
 pub returns-in-Err-clause-others : goal.returns-in-Err-clause-others
-returns-in-Err-clause-others g c = no_less (g.C.Cabinet.write_faults c.args.files.now) (g.C.Cabinet.write_faults c.open.new.files) (g.C.Cabinet.write_faults c.read_pieces.new.files) c.in_ok-walk.ensures.others c.in-Err.ensures.reads.others
+returns-in-Err-clause-others g c = le_trans c.in_ok-walk.ensures.others c.in-Err.ensures.reads.others
 
 pub read_pieces-requires-clause-stands : goal.read_pieces-requires-clause-stands
 read_pieces-requires-clause-stands g c =

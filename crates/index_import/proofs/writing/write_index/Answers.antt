@@ -16,7 +16,8 @@ use Rattle.index_import.proofs.Finished.{as_many, fits, found_here, left_is, nev
 use Rattle.index_import.proofs.Ready.{leaves_same, leaves_then, ready_beside}
 use Rattle.index_import.proofs.Turns.{middle, parted, whole}
 use Rattle.index_import.proofs.Written.{extends_sets, payloads_more, sets_wanted}
-use Rattle.index_import.proofs.Again.{no_less, rose_before}
+use Rattle.std.proofs.Math.Nat.{le_trans}
+use Rattle.index_import.proofs.Again.{rose_before}
 use Rattle.index_import.proofs.Unread.{no_fault, unappended_read, unappended_write, unbegun_read, unbegun_write, unread_read, unread_write}
 use Rattle.index_import.proofs.writing.write_index.Goals as goal
 
@@ -198,22 +199,22 @@ pub returns-in-Err-read_segments-clause-write_fault : goal.returns-in-Err-read_s
 returns-in-Err-read_segments-clause-write_fault g c = λ is. absurd (unread_write c.in-Err-read_segments.fault c.from_ciff.result c.from_ciff.ensures is)
 
 pub returns-in-Err-read_segments-clause-later : goal.returns-in-Err-read_segments-clause-later
-returns-in-Err-read_segments-clause-later g c = no_less (g.C.Cabinet.read_faults c.args.files.now) (g.C.Cabinet.read_faults c.places.files) (g.C.Cabinet.read_faults c.read_segments.new.files) c.places.invariant.later c.read_segments.ensures.later
+returns-in-Err-read_segments-clause-later g c = le_trans c.places.invariant.later c.read_segments.ensures.later
 
 pub returns-in-Err-read_segments-clause-others : goal.returns-in-Err-read_segments-clause-others
-returns-in-Err-read_segments-clause-others g c = no_less (g.C.Cabinet.write_faults c.args.files.now) (g.C.Cabinet.write_faults c.places.files) (g.C.Cabinet.write_faults c.read_segments.new.files) c.places.invariant.others c.read_segments.ensures.others
+returns-in-Err-read_segments-clause-others g c = le_trans c.places.invariant.others c.read_segments.ensures.others
 
 pub returns-in-Err-append_segments-clause-read_fault : goal.returns-in-Err-append_segments-clause-read_fault
 returns-in-Err-append_segments-clause-read_fault g c = λ is. absurd (unappended_read c.in-Some.place.at c.in-Err-append_segments.fault c.not_appended.result c.not_appended.ensures is)
 
 pub returns-in-Err-append_segments-clause-write_fault : goal.returns-in-Err-append_segments-clause-write_fault
-returns-in-Err-append_segments-clause-write_fault g c = λ is. rose_before (g.C.Cabinet.write_faults c.args.files.now) (g.C.Cabinet.write_faults c.read_segments.new.files) (g.C.Cabinet.write_faults c.append_segments.new.files) (no_less (g.C.Cabinet.write_faults c.args.files.now) (g.C.Cabinet.write_faults c.places.files) (g.C.Cabinet.write_faults c.read_segments.new.files) c.places.invariant.others c.read_segments.ensures.others) (c.in-Err-append_segments.ensures.cause (unappended_write c.in-Some.place.at c.in-Err-append_segments.fault c.not_appended.result c.not_appended.ensures is))
+returns-in-Err-append_segments-clause-write_fault g c = λ is. rose_before (g.C.Cabinet.write_faults c.args.files.now) (g.C.Cabinet.write_faults c.read_segments.new.files) (g.C.Cabinet.write_faults c.append_segments.new.files) (le_trans c.places.invariant.others c.read_segments.ensures.others) (c.in-Err-append_segments.ensures.cause (unappended_write c.in-Some.place.at c.in-Err-append_segments.fault c.not_appended.result c.not_appended.ensures is))
 
 pub returns-in-Err-append_segments-clause-later : goal.returns-in-Err-append_segments-clause-later
-returns-in-Err-append_segments-clause-later g c = no_less (g.C.Cabinet.read_faults c.args.files.now) (g.C.Cabinet.read_faults c.read_segments.new.files) (g.C.Cabinet.read_faults c.append_segments.new.files) (no_less (g.C.Cabinet.read_faults c.args.files.now) (g.C.Cabinet.read_faults c.places.files) (g.C.Cabinet.read_faults c.read_segments.new.files) c.places.invariant.later c.read_segments.ensures.later) c.append_segments.ensures.others
+returns-in-Err-append_segments-clause-later g c = le_trans (le_trans c.places.invariant.later c.read_segments.ensures.later) c.append_segments.ensures.others
 
 pub returns-in-Err-append_segments-clause-others : goal.returns-in-Err-append_segments-clause-others
-returns-in-Err-append_segments-clause-others g c = no_less (g.C.Cabinet.write_faults c.args.files.now) (g.C.Cabinet.write_faults c.read_segments.new.files) (g.C.Cabinet.write_faults c.append_segments.new.files) (no_less (g.C.Cabinet.write_faults c.args.files.now) (g.C.Cabinet.write_faults c.places.files) (g.C.Cabinet.write_faults c.read_segments.new.files) c.places.invariant.others c.read_segments.ensures.others) c.append_segments.ensures.later
+returns-in-Err-append_segments-clause-others g c = le_trans (le_trans c.places.invariant.others c.read_segments.ensures.others) c.append_segments.ensures.later
 
 pub returns-clause-read_fault : goal.returns-clause-read_fault
 returns-clause-read_fault g c = λ is. absurd (no_fault is)
