@@ -27,7 +27,7 @@ pub struct Gathered {
 }
 
 impl Gathered {
-    ghost use Rattle.std.specs.Prelude.{length, take, IfOk, OnOk, None, []};
+    ghost use Rattle.std.specs.Prelude.{length, take, IfOk, OnOk, []};
     ghost use Rattle.ciff_read.specs.Judging.{gather};
     ghost use Rattle.ciff_read.specs.Private.Places.{gathered_of, GathersRun};
 

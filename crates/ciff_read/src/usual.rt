@@ -1,4 +1,4 @@
-ghost use Rattle.std.specs.Prelude.{ℕ, ◌≡◌, ◌+◌, ◌<◌, ◌≤◌, ◌/◌, ◌%◌, ◌^◌, length, take, get_or, IfSome};
+ghost use Rattle.std.specs.Prelude.{◌+◌, ◌≤◌, length, take, IfSome};
 ghost use Rattle.ciff_read.specs.Private.Usual.{IsPosting, IsUsual, HasBytes};
 
 use crate::posting_fields::PostingFields;
