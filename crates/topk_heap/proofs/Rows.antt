@@ -1,5 +1,5 @@
 -- Rows and heap places, one item on.
-use Rattle.shared_lemmas.proofs.Common.{◌≡◌, ℕ, suc, ◌+◌, ◌-◌, ◌<◌, List, ◌∷◌, length, get_or, set, take, drop, sym, ap, ◌∙◌, subst, arith, drop-cons, get_or_read, length-take, length-drop, get_or-take, take-set-lt}
+use Rattle.shared_lemmas.proofs.Common.{◌≡◌, ℕ, suc, ◌+◌, ◌-◌, ◌<◌, List, ◌∷◌, length, get_or, set, drop, sym, ap, ◌∙◌, subst, arith, drop-cons, get_or_read, length-drop}
 use Rattle.topk_heap.proofs.Below.{Hit, PoolView, LeavesPool, Pages, own_chain, own_view, pages_places, pages_scores, length-values}
 use Rattle.topk_heap.specs.Places.{KeepsScores}
 use Rattle.topk_heap.specs.Private.Rows.{with_score}
@@ -42,9 +42,8 @@ keeps_again first second third one two three both f g = record {
   leaves = both one two three (own_chain first) f.leaves (subst (λ (x : ℕ). LeavesPool two three x) f.same.chain g.leaves);
 }
 
--- ---- the front of a row
+-- ---- a score
 
-pub score_in_front : (n : ℕ) (xs : List Hit) (i score : ℕ) (hit : Hit) → i < length (take n xs) → hit ≡ get_or xs i hit
-    → take n (set xs i (record { doc = hit.doc; score = score })) ≡ with_score (take n xs) i score
-score_in_front n xs i score hit inside read = take-set-lt n xs i (record { doc = hit.doc; score = score }) (omega (arith, length-take n xs, inside))
-    ∙ ap (λ (h : Hit). set (take n xs) i (record { doc = h.doc; score = score })) (get_or_read (take n xs) i hit inside (read ∙ sym (get_or-take n xs i hit (omega (arith, length-take n xs, inside)))) (record { doc = 0; score = 0 }))
+pub score_in_place : (xs : List Hit) (i score : ℕ) (hit : Hit) → i < length xs → hit ≡ get_or xs i hit → set xs i (record { doc = hit.doc; score = score }) ≡ with_score xs i score
+score_in_place xs i score hit inside read =
+    ap (λ (h : Hit). set xs i (record { doc = h.doc; score = score })) (get_or_read xs i hit inside read (record { doc = 0; score = 0 }))

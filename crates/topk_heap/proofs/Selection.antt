@@ -1,11 +1,11 @@
 -- What a selection leaves in front of its place is the first of the hits, and at its place the next.
 use Rattle.shared_lemmas.proofs.Common.{◌≡◌, ℕ, zero, suc, ◌-◌, ◌/◌, ◌%◌, ◌<◌, ◌≤◌, List, [], ◌∷◌, ◌++◌, length, map, take, get_or, true, false, true≢false, refl, sym, ap, subst, ◌∙◌, inl, inr, ◌⊎◌, arith, IsPermutation, None, Some, slice_get, AllByRecursion, IsSplitAround, is_gt, is_lt, nat_cmp}
-use Rattle.shared_lemmas.proofs.Common.{cases_lt, nat_tests, get_or_default_zero, length-map, length-take, map-append, slice_get_past, All-permutation, IsPermutation-append, IsPermutation-cons, IsPermutation-map, IsPermutation-trans, length_permutation}
+use Rattle.shared_lemmas.proofs.Common.{cases_lt, nat_tests, get_or_default_zero, length-map, map-append, slice_get_past, All-permutation, IsPermutation-append, IsPermutation-cons, IsPermutation-map, IsPermutation-trans, length_permutation}
 use Rattle.topk_heap.proofs.Below.{Hit, sorted, rank_cmp, first_part, rank_total, rank_same, Ascends, all_sorted, ascends_append, sort_is_sorted, sorted_ascending, sorted_ascends, sorted_is_permutation}
 use Rattle.shared_lemmas.proofs.Members.{in_from_contains, all_at}
 use Rattle.shared_lemmas.proofs.Lists.{all_weaker, all_map}
 use Rattle.topk_heap.specs.Hits.{HitsView}
-use Rattle.topk_heap.specs.Private.Rows.{hit_of_key, keys_view}
+use Rattle.topk_heap.specs.Private.Rows.{hit_of_key}
 use Rattle.topk_heap.proofs.Lists.{all_by_index, in_right}
 
 not_after : (x y : Hit) → is_lt (rank_cmp y x) ≡ false → is_gt (rank_cmp x y) ≡ false
@@ -99,10 +99,8 @@ selected_key keys front x back n moved split size small = selected_at (map hit_o
     back_small : (i : ℕ) → i < length back → get_or back i 0 < 18446744073709551616
     back_small i inside = all_at (λ a. a < 18446744073709551616) (front ++ x ∷ back) (get_or back i 0) each (in_right (get_or back i 0) front (x ∷ back) (inr (in_from_contains back (get_or back i 0) (i, inside, get_or_default_zero back i (get_or back i 0) inside))))
 
-pub none_past : (row : List ℕ) (count n : ℕ) (view : HitsView) → keys_view row count ≡ view → count ≤ n → None ≡ slice_get (sorted rank_cmp view.hits) n
-none_past row count n view is past =
+pub none_past : (keys : List ℕ) (n : ℕ) (view : HitsView) → map hit_of_key keys ≡ view.hits → length keys ≤ n → None ≡ slice_get (sorted rank_cmp view.hits) n
+none_past keys n view is past =
     let size = length_permutation view.hits (sorted rank_cmp view.hits) (sorted_is_permutation rank_cmp view.hits) in
-    let mapped = ap (λ (v : HitsView). length v.hits) is in
-    let few = length-map (take count row) hit_of_key in
-    let most = length-take count row in
-    sym (slice_get_past (sorted rank_cmp view.hits) n (omega (arith, size, mapped, few, most, past)))
+    let mapped = ap (λ (xs : List Hit). length xs) is in
+    sym (slice_get_past (sorted rank_cmp view.hits) n (omega (arith, size, mapped, length-map keys hit_of_key, past)))

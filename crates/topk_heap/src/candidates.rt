@@ -1,4 +1,4 @@
-ghost use Rattle.std.specs.Prelude.{◌≡◌, ℕ, ◌<◌, ◌≤◌, ◌++◌, [], ◌∷◌, IfOk, Some, length, map, slice_get, slice_index, take};
+ghost use Rattle.std.specs.Prelude.{◌≡◌, ℕ, ◌<◌, ◌++◌, [], ◌∷◌, IfOk, Some, length, map, slice_get, slice_index};
 ghost use Rattle.ranking_model.specs.Order.{sorted};
 ghost use Rattle.ranking_model.specs.Scores.{rank_cmp};
 ghost use Rattle.topk_heap.specs.Private.Rows.{hit_of_key};
@@ -13,19 +13,16 @@ use std::marker::Model;
 #[derive(Drop)]
 pub struct Candidates {
     keys: Vec<u64>,
-    count: usize,
 }
 
 impl Model for Candidates {
-    ghost use Rattle.std.specs.Prelude.{◌≤◌, length};
+    ghost use Rattle.std.specs.Prelude.{vec_capacity};
     ghost use Rattle.topk_heap.specs.Hits.{HitsView};
     ghost use Rattle.topk_heap.specs.Private.Rows.{keys_view};
 
     ghost Value = { HitsView };
 
-    ghost view = { λ c. keys_view c.keys.items c.count };
-
-    ghost invariant = { λ c. c.count ≤ length c.keys.items };
+    ghost view = { λ c. keys_view c.keys.items (vec_capacity c.keys) };
 }
 
 impl Candidates {
@@ -34,8 +31,8 @@ impl Candidates {
         ensures hits { IfOk result (λ candidates. candidates.hits ≡ []) }
         ensures room { IfOk result (λ candidates. candidates.room ≡ room) }
     {
-        match vec![in alloc; 0u64; room] {
-            Ok(keys) => Ok(Candidates { keys, count: 0 }),
+        match Vec::with_capacity(alloc, room) {
+            Ok(keys) => Ok(Candidates { keys }),
             Err(_) => Err(NoMemory),
         }
     }
@@ -45,7 +42,7 @@ impl Candidates {
         ensures hits { self.new.hits ≡ [] }
         ensures room { self.new.room ≡ self.old.room }
     {
-        self.count = 0;
+        self.keys.clear();
     }
 
     /// Puts a hit behind the others.
@@ -54,8 +51,7 @@ impl Candidates {
         ensures hits { self.new.hits ≡ self.old.hits ++ hit ∷ [] }
         ensures room { self.new.room ≡ self.old.room }
     {
-        self.keys[self.count] = rank_key(&hit);
-        self.count += 1;
+        self.keys.push_reserved(rank_key(&hit));
     }
 
     /// The hit after the first n by falling score, then rising document, if there is one. The hits themselves are lost.
@@ -63,23 +59,22 @@ impl Candidates {
         ensures hit { result ≡ slice_get (sorted rank_cmp self.old.hits) n }
         ensures room { self.new.room ≡ self.old.room }
     {
-        if n >= self.count {
+        if n >= self.keys.len() {
             return None;
         }
-        let key = select_key(&mut self.keys, self.count, n);
+        let key = select_key(&mut self.keys, n);
         Some(hit_of_key(key))
     }
 }
 
-/// The number after the first n by size, out of those in front of a row.
-fn select_key(row: &mut [u64], count: usize, n: usize) -> u64
-    requires within { count ≤ length row.old }
-    requires some { n < count }
-    ensures key { slice_get (sorted rank_cmp (map hit_of_key (take count row.old))) n ≡ Some (hit_of_key result) }
-    ensures len { length row.new ≡ length row.old }
+/// The number after the first n by size.
+fn select_key(keys: &mut [u64], n: usize) -> u64
+    requires { n < length keys.old }
+    ensures key { slice_get (sorted rank_cmp (map hit_of_key keys.old)) n ≡ Some (hit_of_key result) }
+    ensures len { length keys.new ≡ length keys.old }
 {
-    numbers_fit(&row[..count]);
-    let (_, key, _) = row[..count].select_nth_unstable(n);
+    numbers_fit(keys);
+    let (_, key, _) = keys.select_nth_unstable(n);
     *key
 }
 

@@ -1,4 +1,4 @@
-ghost use Rattle.std.specs.Prelude.{◌≡◌, ◌<◌, ◌≤◌, ◌++◌, [], ◌∷◌, IfOk, length, min, take};
+ghost use Rattle.std.specs.Prelude.{◌≡◌, ◌<◌, ◌++◌, [], ◌∷◌, IfOk, length, take};
 ghost use Rattle.ranking_model.specs.Order.{sorted};
 ghost use Rattle.ranking_model.specs.Scores.{rank_cmp};
 ghost use Rattle.topk_heap.specs.Private.Rows.{rank_key, with_score};
@@ -16,20 +16,16 @@ const MANY: usize = 256;
 #[derive(Drop)]
 pub struct Hits {
     row: Vec<Hit>,
-    count: usize,
     aside: Vec<Hit>,
 }
 
 impl Model for Hits {
-    ghost use Rattle.std.specs.Prelude.{◌≤◌, length};
+    ghost use Rattle.std.specs.Prelude.{vec_capacity};
     ghost use Rattle.topk_heap.specs.Hits.{HitsView};
-    ghost use Rattle.topk_heap.specs.Private.Rows.{hits_view};
 
     ghost Value = { HitsView };
 
-    ghost view = { λ h. hits_view h.row.items h.count };
-
-    ghost invariant = { λ h. h.count ≤ length h.row.items };
+    ghost view = { λ h. record { hits = h.row.items; room = vec_capacity h.row } };
 }
 
 impl Hits {
@@ -39,27 +35,23 @@ impl Hits {
         ensures hits { IfOk result (λ hits. hits.hits ≡ []) }
         ensures room { IfOk result (λ hits. hits.room ≡ room) }
     {
-        let row = blank_row(alloc, room)?;
+        let row = Vec::with_capacity(alloc, room)?;
         let aside = blank_row(alloc, few)?;
-        Ok(Hits {
-            row,
-            count: 0,
-            aside,
-        })
+        Ok(Hits { row, aside })
     }
 
     /// How many hits there are.
     pub fn len(&self) -> usize
         ensures { result ≡ length self.now.hits }
     {
-        self.count
+        self.row.len()
     }
 
     /// The hits.
     pub fn as_slice(&self) -> &[Hit]
         ensures { result.now ≡ self.now.hits }
     {
-        &self.row[..self.count]
+        self.row.as_slice()
     }
 
     /// Forgets all hits.
@@ -67,7 +59,7 @@ impl Hits {
         ensures hits { self.new.hits ≡ [] }
         ensures room { self.new.room ≡ self.old.room }
     {
-        self.count = 0;
+        self.row.clear();
     }
 
     /// Puts a hit behind the others.
@@ -76,8 +68,7 @@ impl Hits {
         ensures hits { self.new.hits ≡ self.old.hits ++ hit ∷ [] }
         ensures room { self.new.room ≡ self.old.room }
     {
-        self.row[self.count] = hit;
-        self.count += 1;
+        self.row.push_reserved(hit);
     }
 
     /// Changes the score of one hit.
@@ -95,8 +86,8 @@ impl Hits {
         ensures hits { self.new.hits ≡ take count (sorted rank_cmp self.old.hits) }
         ensures room { self.new.room ≡ self.old.room }
     {
-        rank_first(&mut self.row, self.count, count, &mut self.aside);
-        self.count = self.count.min(count);
+        rank_first(&mut self.row, count, &mut self.aside);
+        self.row.truncate(count);
     }
 }
 
@@ -106,19 +97,18 @@ fn blank_row(alloc: Global, len: usize) -> Result<Vec<Hit>, NoMemory>
     vec![in alloc; Hit { doc: 0, score: 0 }; len].map_err(|_| NoMemory)
 }
 
-/// Puts the first of the hits in order in front of their row.
-fn rank_first(row: &mut [Hit], hits: usize, count: usize, aside: &mut [Hit])
-    requires { hits ≤ length row.old }
-    ensures front { take (min hits count) row.new ≡ take count (sorted rank_cmp (take hits row.old)) }
-    ensures len { length row.new ≡ length row.old }
+/// Puts the first of the hits in order in front of the others.
+fn rank_first(hits: &mut [Hit], count: usize, aside: &mut [Hit])
+    ensures front { take count hits.new ≡ take count (sorted rank_cmp hits.old) }
+    ensures len { length hits.new ≡ length hits.old }
     ensures aside { length aside.new ≡ length aside.old }
 {
     // Where few of the hits go, a selection saves nothing.
-    if count <= aside.len() && aside.len() < hits {
-        select_first(&mut row[..hits], &mut aside[..count]);
-        row[..count].copy_from_slice(&aside[..count]);
+    if count <= aside.len() && aside.len() < hits.len() {
+        select_first(hits, &mut aside[..count]);
+        hits[..count].copy_from_slice(&aside[..count]);
     } else {
-        rank(&mut row[..hits], aside);
+        rank(hits, aside);
     }
 }
 

@@ -1,11 +1,7 @@
 -- Rows of hits, and of the numbers that hits are sorted by.
-use Rattle.std.specs.Prelude.{ℕ, ◌+◌, ◌-◌, ◌*◌, ◌/◌, ◌%◌, List, length, map, take, slice_set}
+use Rattle.std.specs.Prelude.{ℕ, ◌+◌, ◌-◌, ◌*◌, ◌/◌, ◌%◌, List, map, slice_set}
 use Rattle.jass_base.specs.declared.answer.Hit.{Hit}
 use Rattle.topk_heap.specs.Hits.{HitsView, hit_at}
-
--- a row whose first `count` items are hits
-abbrev pub hits_view : List Hit → ℕ → HitsView
-hits_view row count = record { hits = take count row; room = length row }
 
 -- the hits with another score for the one at a place
 abbrev pub with_score : List Hit → ℕ → ℕ → List Hit
@@ -19,6 +15,6 @@ rank_key hit = (4294967295 - hit.score) * 4294967296 + hit.doc
 abbrev pub hit_of_key : ℕ → Hit
 hit_of_key key = record { doc = key % 4294967296; score = 4294967295 - key / 4294967296 }
 
--- a row whose first `count` items are the numbers that hits are sorted by
+-- the hits that are sorted by some numbers, with room for so many
 abbrev pub keys_view : List ℕ → ℕ → HitsView
-keys_view row count = record { hits = map hit_of_key (take count row); room = length row }
+keys_view keys room = record { hits = map hit_of_key keys; room = room }

@@ -1,7 +1,5 @@
-use Rattle.shared_lemmas.proofs.Common.{◌≡◌, ◌∙◌, ◌+◌, List, [], length, ap, subst, sym, arith, length-take, IsPermutation, IsPermutation-reverse, reverse}
-use Rattle.topk_heap.proofs.Below.{Hit, sorted, rank_cmp, first_ranked, pages_scores}
-use Rattle.accumulator_pages.specs.Pages.{pages_places}
-use Rattle.topk_heap.specs.Standing.{HoldsFirst, TopView}
+use Rattle.shared_lemmas.proofs.Common.{◌+◌, List, length, ap, subst, sym, arith, length-take}
+use Rattle.topk_heap.proofs.Below.{Hit, sorted, rank_cmp, pages_scores}
 use Rattle.topk_heap.specs.Private.Standing.{AreInOrder}
 use Rattle.topk_heap.proofs.Ranking.{first_in_order}
 use Rattle.topk_heap.proofs.Rows.{docs_scored}
