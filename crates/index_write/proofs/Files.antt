@@ -16,10 +16,6 @@ pub prefix_then : (old mid new : Option Files) (name bytes : List ℕ) → Sets 
 prefix_then old mid new name bytes made (inl same) = inr (0, subst (λ (m : Option Files). Sets old m name []) (sym same) made)
 prefix_then old mid new name bytes made (inr (n, put)) = inr (n, sets_then old mid new name (take n bytes) made put)
 
-pub on_err : {T E : Type 0} (r : Result T E) (P : Type 0) → P → OnErr r P
-on_err (Ok x) P holds = tt
-on_err (Err e) P holds = holds
-
 pub sets_more : (old mid new : Option Files) (name text part : List ℕ) → Sets old mid name text → Extends mid new name part → Sets old new name (text ++ part)
 sets_more None mid new name text part made put = subst (λ (m : Option Files). Extends m new name part) made put
 sets_more (Some old) None new name text part made put = absurd made

@@ -8,10 +8,17 @@ use Rattle.index_write.specs.Streaming.{entries_totals}
 use Rattle.index_write.specs.Private.Front.{first_bytes}
 use Rattle.index_write.proofs.Texts.{table_is, all_counted, greatest_chosen}
 
-pub seven : (a b c d e f g h i j k l m n o : List ℕ) → b ≡ a ++ i → c ≡ b ++ j → d ≡ c ++ k → e ≡ d ++ l → f ≡ e ++ m → g ≡ f ++ n → h ≡ g ++ o
-    → h ≡ a ++ (i ++ (j ++ (k ++ (l ++ (m ++ (n ++ o))))))
-seven a b c d e f g h i j k l m n o ab bc cd de ef fg gh =
-    gh ∙ ap (λ x. x ++ o) (fg ∙ ap (λ x. x ++ n) (ef ∙ ap (λ x. x ++ m) (de ∙ ap (λ x. x ++ l) (cd ∙ ap (λ x. x ++ k) (bc ∙ ap (λ x. x ++ j) ab))))) ∙ simp append_assoc
+-- what two calls put
+pub both_put : (old a b x y : List ℕ) → x ≡ old ++ a → y ≡ x ++ b → y ≡ old ++ (a ++ b)
+both_put old a b x y first second = second ∙ ap (λ xs. xs ++ b) first ∙ append_assoc old a b
+
+pub four_put : (old a b c d w x y z : List ℕ) → w ≡ old ++ a → x ≡ w ++ b → y ≡ x ++ c → z ≡ y ++ d → z ≡ old ++ ((a ++ (b ++ c)) ++ d)
+four_put old a b c d w x y z first second third fourth = both_put old (a ++ (b ++ c)) d y z (both_put old a (b ++ c) w y first (both_put w b c x y second third)) fourth
+
+-- seven pieces, each spelled
+pub seven : (a b c d e f g i j k l m n : List ℕ) → b ≡ i → c ≡ j → d ≡ k → e ≡ l → f ≡ m → g ≡ n
+    → a ++ (b ++ (c ++ (d ++ (e ++ (f ++ (g ++ [])))))) ≡ a ++ (i ++ (j ++ (k ++ (l ++ (m ++ n)))))
+seven a b c d e f g i j k l m n bi cj dk el fm gn = rw (bi, cj, dk, el, fm, gn) (ap (λ xs. a ++ (i ++ (j ++ (k ++ (l ++ (m ++ xs)))))) (append-nil n))
 
 same_first : (l l2 : ℕ) (t : Totals) (d n p g : ℕ) → l ≡ l2 → t.docs ≡ d → t.terms ≡ n → t.postings ≡ p → t.greatest ≡ g
     → first_bytes l t ≡ magic ++ (u64_bytes l2 ++ (u32_bytes d ++ (u32_bytes n ++ (u64_bytes p ++ (u32_bytes g ++ u32_bytes 0)))))

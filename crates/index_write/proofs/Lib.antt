@@ -1,3 +1,4 @@
+mod Begun
 mod Below
 mod Counting
 pub mod Bounds

@@ -1,12 +1,12 @@
 -- Texts that go to a file in pieces.
-use Rattle.shared_lemmas.proofs.Common.{◌≡◌, ◌<◌, ◌≤◌, ◌+◌, ◌⊎◌, ℕ, suc, List, [], ◌∷◌, ◌++◌, length, get_or, take, take-suc, flat_map-append, arith, Bool, true, false, refl, sym, ap, subst, ◌∙◌, append-nil, append_assoc}
+use Rattle.shared_lemmas.proofs.Common.{Ok, Err, inl, inr, ◌≡◌, ◌<◌, ◌≤◌, ◌+◌, ◌⊎◌, ℕ, suc, List, [], ◌∷◌, ◌++◌, length, get_or, take, take-suc, flat_map-append, arith, Bool, true, false, refl, sym, ap, subst, ◌∙◌, append-nil, append_assoc}
 use Rattle.jass_base.specs.declared.cabinet.Cabinet as cabinet
 use Rattle.jass_base.specs.Outside.{Rose}
 use Rattle.jass_base.proofs.Writing.{Rose-earlier}
-use Rattle.index_write.proofs.Below.{Extends}
+use Rattle.index_write.proofs.Below.{Extends, Sets}
 use Rattle.index_write.proofs.Files.{prefix_longer, prefix_more, sets_more}
 use Rattle.index_write.specs.Private.Blocks.{joined}
-use Rattle.index_write.specs.Private.Pieces.{Waiting, with_more, IsSent, IsUnderWay, Adds}
+use Rattle.index_write.specs.Private.Pieces.{Waiting, with_more, IsSent, IsUnderWay, Adds, Makes}
 
 -- bytes were appended to any text that was sent, unless writing had failed before
 abbrev pub AppendsTo : {C : Type 0} → cabinet.Ghosts C → List ℕ → C → C → Bool → Bool → List ℕ → Type 0
@@ -99,3 +99,20 @@ module _ {C : Type 0} (g : cabinet.Ghosts C) (name : List ℕ) where
 
   pub appends_then : {a b c : C} {failed lost after : Bool} (p q : List ℕ) → AppendsTo g name a b failed lost p → AppendsTo g name b c lost after q → AppendsTo g name a c failed after (p ++ q)
   appends_then {c = c} {after = after} p q first second start text was = subst (IsSent g start c name after) (append_assoc text p q) (second start (text ++ p) (first start text was))
+
+  -- a file was made empty
+  pub created : (a b : C) → Sets (g.told a) (g.told b) name [] → g.write_faults a ≤ g.write_faults b → g.read_faults a ≤ g.read_faults b → IsSent g a b name false []
+  created a b made later others = record { content = made; cause = λ no. absurd (cc); later = later; others = others }
+
+  pub uncreated : (a b : C) → (g.told b ≡ g.told a) ⊎ Sets (g.told a) (g.told b) name [] → Rose (g.write_faults a) (g.write_faults b) → g.write_faults a ≤ g.write_faults b → g.read_faults a ≤ g.read_faults b → IsSent g a b name true []
+  uncreated a b (inl same) rose later others = record { content = inl same; cause = λ yes. rose; later = later; others = others }
+  uncreated a b (inr made) rose later others = record { content = inr (0, made); cause = λ yes. rose; later = later; others = others }
+
+  -- a whole text was sent, or a write failed
+  pub made : {T E : Type 0} {x : T} (a b : C) (text : List ℕ) (failed : Bool) → failed ≡ false → IsSent g a b name failed text → Makes {E = E} g a b name text (Ok x)
+  made a b text true is was = absurd (cc)
+  made a b text false is was = record { ok = was.content; err = tt; cause = record { later = was.later; failed = tt }; others = was.others }
+
+  pub unmade : {T E : Type 0} {e : E} (a b : C) (text : List ℕ) (failed : Bool) → failed ≡ true → IsSent g a b name failed text → Makes {T = T} g a b name text (Err e)
+  unmade a b text false is was = absurd (cc)
+  unmade a b text true is was = record { ok = tt; err = was.content; cause = record { later = was.later; failed = was.cause refl }; others = was.others }

@@ -1,4 +1,4 @@
-ghost use Rattle.std.specs.Prelude.{◌≡◌, ◌≤◌, ◌<◌, ◌^◌, ◌++◌, length, map, IfOk, IfErr, OnOk};
+ghost use Rattle.std.specs.Prelude.{◌≡◌, ◌≤◌, ◌<◌, ◌^◌, ◌++◌, length, map, flat_map, IfOk, IfErr, OnOk};
 ghost use Rattle.index_model.specs.Views.{term_data, index_data};
 ghost use Rattle.index_layout.specs.Heads.{payloads_size};
 ghost use Rattle.index_layout.specs.Layout.{file_length, totals_bytes};
@@ -25,18 +25,30 @@ use std::alloc::Global;
 /// The first eight bytes of an index file.
 const MAGIC: &[u8] = b"JASSIDX2";
 
+/// Appends pieces, one behind the other.
+fn put_all(pieces: &[&[u8]], out: &mut Row<u8>) -> Result<(), NoMemory>
+    ensures { OnOk result (out.new ≡ out.old ++ flat_map (λ piece. piece.now) pieces.now) }
+{
+    for piece in pieces {
+        out.extend(piece)?;
+    }
+    Ok(())
+}
+
 /// Appends the first 40 bytes: magic, length, documents, terms, postings, the greatest impact, zero.
 pub fn put_numbers(totals: &Totals, len: u64, out: &mut Row<u8>) -> Result<(), NoMemory>
     ensures { OnOk result (out.new ≡ out.old ++ first_bytes len totals.now) }
 {
-    out.extend(MAGIC)?;
-    out.extend(&len.to_le_bytes())?;
-    out.extend(&totals.docs.to_le_bytes())?;
-    out.extend(&totals.terms.to_le_bytes())?;
-    out.extend(&totals.postings.to_le_bytes())?;
-    out.extend(&u32::from(totals.greatest).to_le_bytes())?;
-    out.extend(&0u32.to_le_bytes())?;
-    Ok(())
+    let pieces: [&[u8]; 7] = [
+        MAGIC,
+        &len.to_le_bytes(),
+        &totals.docs.to_le_bytes(),
+        &totals.terms.to_le_bytes(),
+        &totals.postings.to_le_bytes(),
+        &u32::from(totals.greatest).to_le_bytes(),
+        &0u32.to_le_bytes(),
+    ];
+    put_all(&pieces, out)
 }
 
 /// Appends the first 40 bytes of an index.
@@ -47,12 +59,30 @@ fn put_totals(index: &ImpactIndex, len: u64, out: &mut Row<u8>) -> Result<(), No
 {
     texts_have_their_parts();
     tables_have_their_sums();
-    put_numbers(&totals(index), len, out)?;
-    Ok(())
+    put_numbers(&totals(index), len, out)
+}
+
+/// Appends the bytes of the file, by its heads and its length.
+#[tactic(auto, unfolding(index_layout::specs::Layout::front_bytes))]
+fn spell(
+    index: &ImpactIndex,
+    heads: &[PayloadHead],
+    len: u64,
+    out: &mut Row<u8>,
+) -> Result<(), NoMemory>
+    requires greatest { index.now.greatest ≤ GREATEST_IMPACT }
+    requires heads { map head_data heads.now ≡ table_of (length index.now.names) (map term_data index.now.terms) }
+    requires len { len ≡ length (index_text (index_data index.now)) }
+    ensures { OnOk result (out.new ≡ out.old ++ index_text (index_data index.now)) }
+{
+    texts_have_their_parts();
+    put_totals(index, len, out)?;
+    put_names(index.names.as_slice(), out)?;
+    put_terms(index, heads, out)?;
+    put_all_payloads(index, heads, out)
 }
 
 /// The bytes of the file, by its heads and its length.
-#[tactic(auto, unfolding(index_layout::specs::Layout::front_bytes))]
 fn spelled(
     alloc: Global,
     index: &ImpactIndex,
@@ -64,13 +94,14 @@ fn spelled(
     requires len { len ≡ length (index_text (index_data index.now)) }
     ensures { IfOk result (λ row. row ≡ index_text (index_data index.now)) }
 {
-    texts_have_their_parts();
     let mut out = Row::with_room(alloc, len as usize)?;
-    put_totals(index, len, &mut out)?;
-    put_names(index.names.as_slice(), &mut out)?;
-    put_terms(index, heads, &mut out)?;
-    put_all_payloads(index, heads, &mut out)?;
-    Ok(out)
+    match spell(index, heads, len, &mut out) {
+        Ok(()) => Ok(out),
+        Err(_) => {
+            drop(out);
+            Err(NoMemory)
+        }
+    }
 }
 
 /// The bytes of the file of an index, each segment in its shortest codec. TooLarge comes exactly
@@ -87,9 +118,12 @@ pub fn index_bytes(alloc: Global, index: &ImpactIndex) -> Result<Row<u8>, SaveFa
     };
     let len = index_len(index, heads.as_slice());
     if len > LONGEST_FILE {
+        drop(heads);
         return Err(SaveFault::TooLarge { length: len });
     }
-    match spelled(alloc, index, heads.as_slice(), len) {
+    let made = spelled(alloc, index, heads.as_slice(), len);
+    drop(heads);
+    match made {
         Ok(bytes) => Ok(bytes),
         Err(_) => Err(SaveFault::NoMemory),
     }
@@ -118,7 +152,10 @@ pub fn first_of(
         let mut first = Row::new(alloc);
         match put_numbers(totals, len, &mut first) {
             Ok(()) => Ok(first),
-            Err(_) => Err(SaveFault::NoMemory),
+            Err(_) => {
+                drop(first);
+                Err(SaveFault::NoMemory)
+            }
         }
     } else {
         Err(SaveFault::TooLarge { length: len })

@@ -69,6 +69,5 @@ pub fn same_heads(kept: &[PayloadHead], segments: &[Segment], d: u32) -> Result<
         (chosen_heads d (map segment_data segments.now)) ≡ Some change) }
 {
     same(kept.len() as u64, segments.len() as u64)?;
-    same_numbers(kept, segments, d)?;
-    Ok(())
+    same_numbers(kept, segments, d)
 }

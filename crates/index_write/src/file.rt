@@ -1,24 +1,25 @@
 ghost use Rattle.std.specs.Prelude.{◌≤◌, length, IfErr, IsErrOf, OnOk, OnErr};
-ghost use Rattle.jass_base.specs.Outside.{HasCause, Rose, Sets};
+ghost use Rattle.jass_base.specs.Outside.{Rose, Sets};
 ghost use Rattle.index_model.specs.Views.{index_data};
 ghost use Rattle.index_layout.specs.View.{index_text};
+ghost use Rattle.index_write.specs.Private.Pieces.{Makes};
 ghost use Rattle.index_write.specs.Saving.{LeavesPrefix, Untouched, Unwritten};
 ghost use Rattle.jass_base.specs.declared.limits.TheConstants.{LONGEST_FILE};
 
 use crate::bytes::index_bytes;
 use crate::fault::SaveFault;
+use crate::pieces::{append, create};
 use jass_base::{Cabinet, Failed, ImpactIndex};
 use std::alloc::Global;
 
 /// Makes bytes the content of a file.
 fn put_file<C: Cabinet>(files: &mut C, name: &str, bytes: &[u8]) -> Result<(), Failed>
-    ensures ok { OnOk result (Sets (C.told files.old) (C.told files.new) name.now bytes.now) }
-    ensures err { OnErr result (LeavesPrefix (C.told files.old) (C.told files.new) name.now bytes.now) }
-    ensures cause { HasCause (C.write_faults files.old) (C.write_faults files.new) result }
-    ensures others { C.read_faults files.old ≤ C.read_faults files.new }
+    ensures { Makes C.Cabinet files.old files.new name.now bytes.now result }
 {
-    files.create(name)?;
-    files.append(name, bytes)?;
+    let failed = create(files, name);
+    if append(bytes, failed, files, name) {
+        return Err(Failed);
+    }
     Ok(())
 }
 
@@ -45,7 +46,9 @@ pub fn write_index<C: Cabinet>(
     ensures others { C.read_faults files.old ≤ C.read_faults files.new }
 {
     let bytes = index_bytes(alloc, index)?;
-    match put_file(files, name, bytes.as_slice()) {
+    let put = put_file(files, name, bytes.as_slice());
+    drop(bytes);
+    match put {
         Ok(()) => Ok(()),
         Err(_) => Err(SaveFault::WriteFault),
     }

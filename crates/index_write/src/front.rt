@@ -3,7 +3,7 @@
 ghost use Rattle.std.specs.Prelude.{◌≡◌, ◌≤◌, ◌<◌, ◌+◌, ◌^◌, [], ◌++◌, length, map, All, OnOk};
 ghost use Rattle.jass_base.specs.Limits.{IsName};
 ghost use Rattle.index_model.specs.Views.{term_data};
-ghost use Rattle.index_layout.specs.Bytes.{u32_bytes};
+ghost use Rattle.index_layout.specs.Bytes.{u16_bytes, u32_bytes};
 ghost use Rattle.index_layout.specs.Layout.{name_bytes, names_bytes, head_bytes, heads_bytes, term_bytes, terms_bytes};
 ghost use Rattle.index_write.specs.Chosen.{head_data, chosen_terms};
 ghost use Rattle.index_write.specs.Private.Table.{table_of};
@@ -22,8 +22,7 @@ pub fn put_name(name: &str, out: &mut Row<u8>) -> Result<(), NoMemory>
     ensures { OnOk result (out.new ≡ out.old ++ name_bytes name.now) }
 {
     out.extend(&(name.len() as u32).to_le_bytes())?;
-    out.extend(name.as_bytes())?;
-    Ok(())
+    out.extend(name.as_bytes())
 }
 
 /// Appends the names of the documents.
@@ -72,8 +71,17 @@ fn put_heads(heads: &[PayloadHead], out: &mut Row<u8>) -> Result<(), NoMemory>
     for head in heads {
         waiting.put_head(head, out)?;
     }
-    waiting.send(out)?;
-    Ok(())
+    waiting.send(out)
+}
+
+/// The bytes of two numbers.
+#[inline(always)]
+pub fn two_numbers(first: u16, second: u16) -> [u8; 4]
+    ensures { result ≡ u16_bytes first ++ u16_bytes second }
+{
+    let first = first.to_le_bytes();
+    let second = second.to_le_bytes();
+    [first[0], first[1], second[0], second[1]]
 }
 
 /// Appends a term: how many bytes it shares with the one before, how many it adds, and these.
@@ -84,11 +92,9 @@ fn put_term(before: &[u8], term: &[u8], out: &mut Row<u8>) -> Result<(), NoMemor
 {
     let shared = shared_len(before, term);
     let rest = &term[shared..];
-    let kept = (shared as u16).to_le_bytes();
-    let added = (rest.len() as u16).to_le_bytes();
-    out.extend(&[kept[0], kept[1], added[0], added[1]])?;
-    out.extend(rest)?;
-    Ok(())
+    let head = two_numbers(shared as u16, rest.len() as u16);
+    out.extend(&head)?;
+    out.extend(rest)
 }
 
 /// Appends a term with the heads of its segments.
@@ -104,8 +110,7 @@ pub fn put_entry(
         ++ (u32_bytes (length heads.now) ++ heads_bytes (map head_data heads.now)))) }
 {
     put_term(before, term, out)?;
-    put_heads(heads, out)?;
-    Ok(())
+    put_heads(heads, out)
 }
 
 /// Appends all terms, each with the next of the heads.

@@ -106,8 +106,27 @@ pub fn payload_heads(
     ensures { IfOk result (λ heads. map head_data heads ≡ chosen_heads d (map segment_data segments.now)) }
 {
     let mut heads = Row::with_room(alloc, segments.len())?;
-    push_heads(segments, d, &mut heads)?;
-    Ok(heads)
+    match push_heads(segments, d, &mut heads) {
+        Ok(()) => Ok(heads),
+        Err(_) => {
+            drop(heads);
+            Err(NoMemory)
+        }
+    }
+}
+
+/// Appends the heads of all terms' segments.
+fn push_all_heads(index: &ImpactIndex, heads: &mut Row<PayloadHead>) -> Result<(), NoMemory>
+    requires { index.now.greatest ≤ GREATEST_IMPACT }
+    ensures { OnOk result (map head_data heads.new ≡ map head_data heads.old
+        ++ table_of (length index.now.names) (map term_data index.now.terms)) }
+{
+    terms_have_documents();
+    let d = index.names.len() as u32;
+    for term in index.terms.as_slice() {
+        push_heads(term.segments.as_slice(), d, heads)?;
+    }
+    Ok(())
 }
 
 /// The heads of all terms' segments.
@@ -116,11 +135,12 @@ pub fn index_heads(alloc: Global, index: &ImpactIndex) -> Result<Row<PayloadHead
     ensures { IfOk result (λ heads. map head_data heads
         ≡ table_of (length index.now.names) (map term_data index.now.terms)) }
 {
-    terms_have_documents();
-    let d = index.names.len() as u32;
     let mut heads = Row::new(alloc);
-    for term in index.terms.as_slice() {
-        push_heads(term.segments.as_slice(), d, &mut heads)?;
+    match push_all_heads(index, &mut heads) {
+        Ok(()) => Ok(heads),
+        Err(_) => {
+            drop(heads);
+            Err(NoMemory)
+        }
     }
-    Ok(heads)
 }

@@ -20,8 +20,7 @@ fn put_payload(docs: &[u32], head: &PayloadHead, d: u32, out: &mut Row<u8>) -> R
     requires codec { head.now.codec ≡ chosen_codec d docs.now }
     ensures { OnOk result (out.new ≡ out.old ++ payload_of (chosen_codec d docs.now) d docs.now) }
 {
-    encode(head.codec, docs, d, out)?;
-    Ok(())
+    encode(head.codec, docs, d, out)
 }
 
 /// Appends the payloads of a term's segments.

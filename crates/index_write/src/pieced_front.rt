@@ -1,21 +1,19 @@
 //! What stands before the payloads, put on a file in pieces.
 
-ghost use Rattle.std.specs.Prelude.{◌≡◌, ◌≤◌, ◌<◌, ◌^◌, [], ◌++◌, length, map, false, All, OnErr, OnOk};
+ghost use Rattle.std.specs.Prelude.{◌≡◌, ◌≤◌, ◌<◌, ◌^◌, [], ◌++◌, length, map, false, All};
 ghost use Rattle.jass_base.specs.Limits.{IsName};
-ghost use Rattle.jass_base.specs.Outside.{HasCause, Sets};
-ghost use Rattle.index_layout.specs.Bytes.{u16_bytes, u32_bytes};
+ghost use Rattle.index_layout.specs.Bytes.{u32_bytes};
 ghost use Rattle.index_layout.specs.Layout.{front_bytes, heads_bytes, name_bytes, names_bytes, term_bytes, terms_bytes, totals_bytes};
 ghost use Rattle.index_write.specs.Chosen.{head_data};
-ghost use Rattle.index_write.specs.Private.Pieces.{Adds, IsSent};
-ghost use Rattle.index_write.specs.Saving.{LeavesPrefix};
+ghost use Rattle.index_write.specs.Private.Pieces.{Adds, IsSent, Makes};
 ghost use Rattle.index_write.specs.Streaming.{entry_data};
 ghost use Rattle.index_write.specs.declared.term_heads.TermHeads.{TermHeads};
 ghost use Rattle.jass_base.specs.declared.limits.TheConstants.{LONGEST_NAME, LONGEST_TERM};
 
-use crate::front::spelled_head;
+use crate::front::{spelled_head, two_numbers};
 use crate::head::PayloadHead;
 use crate::lengths::shared_len;
-use crate::pieces::{Pieces, put, put_text, send};
+use crate::pieces::{Pieces, create, put, put_text, send};
 use crate::term_heads::TermHeads;
 use jass_base::{Cabinet, Failed, Text};
 
@@ -47,15 +45,6 @@ fn put_heads<C: Cabinet>(heads: &[PayloadHead], pieces: &mut Pieces, files: &mut
     for head in heads {
         put(&spelled_head(head), pieces, files, file);
     }
-}
-
-/// The bytes of two numbers.
-fn two_numbers(first: u16, second: u16) -> [u8; 4]
-    ensures { result ≡ u16_bytes first ++ u16_bytes second }
-{
-    let first = first.to_le_bytes();
-    let second = second.to_le_bytes();
-    [first[0], first[1], second[0], second[1]]
 }
 
 /// Puts a term behind the one before it.
@@ -141,14 +130,11 @@ pub fn put_front<C: Cabinet>(
     requires names { All IsName names.now }
     requires fit { All (λ (t : TermHeads). length t.term ≤ LONGEST_TERM) entries.now }
     requires few { All (λ (t : TermHeads). length t.heads < 2 ^ 32) entries.now }
-    ensures ok { OnOk result (Sets (C.told files.old) (C.told files.new) name.now
-        (front_bytes names.now (map entry_data entries.now))) }
-    ensures err { OnErr result (LeavesPrefix (C.told files.old) (C.told files.new) name.now
-        (front_bytes names.now (map entry_data entries.now))) }
-    ensures cause { HasCause (C.write_faults files.old) (C.write_faults files.new) result }
-    ensures others { C.read_faults files.old ≤ C.read_faults files.new }
+    ensures { Makes C.Cabinet files.old files.new name.now (front_bytes names.now (map entry_data entries.now)) result }
 {
-    files.create(name)?;
+    if create(files, name) {
+        return Err(Failed);
+    }
     if fill(first, names, entries, files, name) {
         return Err(Failed);
     }

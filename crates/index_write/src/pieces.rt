@@ -83,6 +83,16 @@ impl Pieces {
     }
 }
 
+/// Makes a file empty. The answer is whether that failed.
+pub fn create<C: Cabinet>(files: &mut C, name: &str) -> bool
+    ensures { IsSent C.Cabinet files.old files.new name.now result [] }
+{
+    match files.create(name) {
+        Ok(()) => false,
+        Err(_) => true,
+    }
+}
+
 /// Appends bytes to a file, unless writing it failed before. The answer is whether it failed.
 pub fn append<C: Cabinet>(bytes: &[u8], failed: bool, files: &mut C, name: &str) -> bool
     ensures { (start : C) (text : List ℕ) → IsSent C.Cabinet start files.old name.now failed text

@@ -1,11 +1,11 @@
 //! An index file that is written in one call.
 
-ghost use Rattle.std.specs.Prelude.{◌≡◌, ◌<◌, ◌≤◌, [], ◌++◌, ◌+◌, ◌-◌, ◌^◌, false, List, ℕ, length, min, IfErr, IfOk, IsErrOf, OnErr, OnOk};
-ghost use Rattle.jass_base.specs.Outside.{HasCause, Rose, Sets};
+ghost use Rattle.std.specs.Prelude.{◌≡◌, ◌<◌, ◌≤◌, ◌++◌, ◌+◌, ◌-◌, ◌^◌, List, ℕ, length, min, IfErr, IfOk, IsErrOf, OnErr, OnOk};
+ghost use Rattle.jass_base.specs.Outside.{Rose, Sets};
 ghost use Rattle.index_layout.specs.Heads.{TermHeads as EntryData};
 ghost use Rattle.index_layout.specs.Layout.{file_length, front_bytes};
 ghost use Rattle.index_write.specs.Private.Front.{first_bytes};
-ghost use Rattle.index_write.specs.Private.Pieces.{IsSent};
+ghost use Rattle.index_write.specs.Private.Pieces.{Makes};
 ghost use Rattle.index_write.specs.Saving.{LeavesPrefix, Untouched};
 ghost use Rattle.index_write.specs.Spelled.{HasNames, HasParts};
 ghost use Rattle.index_write.specs.Streaming.{Unbegun, entries_totals};
@@ -15,7 +15,7 @@ use crate::blocks::{Blocks, append_blocks};
 use crate::bytes::put_numbers;
 use crate::fault::SaveFault;
 use crate::laws::entries_are_small;
-use crate::pieces::append;
+use crate::pieces::{append, create};
 use crate::spelled_names::SpelledNames;
 use crate::spelled_terms::SpelledTerms;
 use jass_base::limits::LONGEST_FILE;
@@ -68,7 +68,9 @@ pub fn write_parts<C: Cabinet>(
         Ok(first) => first,
         Err(_) => return Err(SaveFault::NoMemory),
     };
-    match put_parts(first.as_slice(), docs, terms, payloads, files, name) {
+    let put = put_parts(first.as_slice(), docs, terms, payloads, files, name);
+    drop(first);
+    match put {
         Ok(()) => Ok(totals),
         Err(_) => Err(SaveFault::WriteFault),
     }
@@ -89,27 +91,13 @@ fn first_bytes(alloc: Global, totals: &Totals, len: u64) -> Result<Row<u8>, NoMe
     ensures { IfOk result (λ row. row ≡ first_bytes len totals.now) }
 {
     let mut first = Row::new(alloc);
-    put_numbers(totals, len, &mut first)?;
-    Ok(first)
-}
-
-/// Fills a file with first bytes, names, terms and payloads. The answer is whether writing failed.
-fn fill<C: Cabinet>(
-    first: &[u8],
-    names: &[u8],
-    terms: &SpelledTerms,
-    payloads: &Blocks,
-    files: &mut C,
-    name: &str,
-) -> bool
-    ensures { (start : C) → IsSent C.Cabinet start files.old name.now false []
-        → IsSent C.Cabinet start files.new name.now result
-        (first.now ++ (names.now ++ (terms.now.bytes ++ payloads.now))) }
-{
-    let failed = append(first, false, files, name);
-    let failed = append(names, failed, files, name);
-    let failed = terms.append(failed, files, name);
-    append_blocks(payloads, failed, files, name)
+    match put_numbers(totals, len, &mut first) {
+        Ok(()) => Ok(first),
+        Err(_) => {
+            drop(first);
+            Err(NoMemory)
+        }
+    }
 }
 
 /// Makes first bytes, names, terms and payloads the content of a file.
@@ -121,15 +109,14 @@ fn put_parts<C: Cabinet>(
     files: &mut C,
     name: &str,
 ) -> Result<(), Failed>
-    ensures ok { OnOk result (Sets (C.told files.old) (C.told files.new) name.now
-        (first.now ++ (names.now ++ (terms.now.bytes ++ payloads.now)))) }
-    ensures err { OnErr result (LeavesPrefix (C.told files.old) (C.told files.new) name.now
-        (first.now ++ (names.now ++ (terms.now.bytes ++ payloads.now)))) }
-    ensures cause { HasCause (C.write_faults files.old) (C.write_faults files.new) result }
-    ensures others { C.read_faults files.old ≤ C.read_faults files.new }
+    ensures { Makes C.Cabinet files.old files.new name.now
+        (first.now ++ (names.now ++ (terms.now.bytes ++ payloads.now))) result }
 {
-    files.create(name)?;
-    if fill(first, names, terms, payloads, files, name) {
+    let failed = create(files, name);
+    let failed = append(first, failed, files, name);
+    let failed = append(names, failed, files, name);
+    let failed = terms.append(failed, files, name);
+    if append_blocks(payloads, failed, files, name) {
         return Err(Failed);
     }
     Ok(())

@@ -1,13 +1,15 @@
 //! An index file that is written term by term.
 
-ghost use Rattle.std.specs.Prelude.{◌≡◌, ◌≤◌, length, map, All, AllPairs, IfErr, IfOk, IsErrOf, OnErr, OnOk};
+ghost use Rattle.std.specs.Prelude.{◌≡◌, ◌<◌, ◌≤◌, ◌^◌, length, map, All, AllPairs, IfErr, IfOk, IsErrOf, OnErr, OnOk};
 ghost use Rattle.jass_base.specs.Gaps.{AreDocs};
 ghost use Rattle.jass_base.specs.Outside.{Appended, Rose, Sets};
 ghost use Rattle.jass_base.specs.Segments.{SharesNoDocument};
 ghost use Rattle.jass_base.specs.declared.segment.Segment.{Segment};
 ghost use Rattle.index_model.specs.Views.{segment_data};
+ghost use Rattle.index_layout.specs.Heads.{payloads_size};
 ghost use Rattle.index_layout.specs.Layout.{file_length, front_bytes};
 ghost use Rattle.index_write.specs.Chosen.{chosen_heads, chosen_payloads, head_data};
+ghost use Rattle.index_write.specs.Private.Pieces.{Begins, Continues};
 ghost use Rattle.index_write.specs.Saving.{LeavesPrefix, Untouched};
 ghost use Rattle.index_write.specs.Streaming.{AreEntries, AreNames, Unappended, Unappending, Unbegun, behind_term, change_of, entries_totals, entry_data, heads_left, next_heads};
 ghost use Rattle.jass_base.specs.declared.limits.TheConstants.{LONGEST_FILE};
@@ -88,34 +90,29 @@ impl IndexWriter {
             postings: sums.postings,
             greatest: sums.greatest,
         };
-        let first = first_of(
+        let begun = begin(
             alloc,
             names.as_slice(),
             terms.as_slice(),
             &totals,
             sums.payloads,
-        )?;
-        let kept = match Text::from_str(alloc, name) {
-            Ok(kept) => kept,
-            Err(_) => return Err(SaveFault::NoMemory),
-        };
-        match put_front(
-            first.as_slice(),
-            names.as_slice(),
-            terms.as_slice(),
             files,
             name,
-        ) {
-            Ok(()) => {}
-            Err(_) => return Err(SaveFault::WriteFault),
+        );
+        drop(names);
+        match begun {
+            Ok(kept) => Ok(IndexWriter {
+                name: kept,
+                totals,
+                left: terms.len(),
+                entries: terms,
+                payloads: Row::new(alloc),
+            }),
+            Err(fault) => {
+                drop(terms);
+                Err(fault)
+            }
         }
-        Ok(IndexWriter {
-            name: kept,
-            totals,
-            left: terms.len(),
-            entries: terms,
-            payloads: Row::new(alloc),
-        })
     }
 
     /// Appends the payloads of the next term, whose segments must have the heads that `new` was
@@ -175,6 +172,49 @@ impl IndexWriter {
     }
 }
 
+/// Makes a file what stands before the payloads of names, terms and heads that have these totals and
+/// so many bytes of payloads, and gives the file's name to keep.
+fn begin<C: Cabinet>(
+    alloc: Global,
+    names: &[Text],
+    entries: &[TermHeads],
+    totals: &Totals,
+    payloads: u64,
+    files: &mut C,
+    name: &str,
+) -> Result<Text, SaveFault>
+    requires names { AreNames names.now }
+    requires entries { AreEntries (map entry_data entries.now) }
+    requires totals { totals.now ≡ entries_totals (length names.now) (map entry_data entries.now) }
+    requires payloads { payloads ≡ payloads_size (map entry_data entries.now) }
+    requires few { payloads < 2 ^ 62 }
+    ensures name { IfOk result (λ kept. kept ≡ name.now) }
+    ensures begun { Begins C.Cabinet files.old files.new name.now (front_bytes names.now (map entry_data entries.now))
+        (file_length names.now (map entry_data entries.now)) result }
+{
+    entries_are_small();
+    let first = match first_of(alloc, names, entries, totals, payloads) {
+        Ok(first) => first,
+        Err(fault) => return Err(fault),
+    };
+    let kept = match Text::from_str(alloc, name) {
+        Ok(kept) => kept,
+        Err(_) => {
+            drop(first);
+            return Err(SaveFault::NoMemory);
+        }
+    };
+    let put = put_front(first.as_slice(), names, entries, files, name);
+    drop(first);
+    match put {
+        Ok(()) => Ok(kept),
+        Err(_) => {
+            drop(kept);
+            Err(SaveFault::WriteFault)
+        }
+    }
+}
+
 /// The heads of the first of so many terms at the end.
 fn heads_left(entries: &[TermHeads], left: usize) -> &[PayloadHead]
     requires some { 1 ≤ left }
@@ -195,16 +235,8 @@ fn append_payloads<C: Cabinet>(
     name: &str,
 ) -> Result<(), TermFault>
     requires { All (λ (s : Segment). AreDocs d s.docs) segments.now }
-    ensures heads { OnOk result (chosen_heads d (map segment_data segments.now) ≡ map head_data heads.now) }
-    ensures content { Appended (C.told files.old) (C.told files.new) name.now
-        (chosen_payloads d (map segment_data segments.now)) result }
-    ensures fault { IfErr result (Unappended (change_of (map head_data heads.now)
-        (chosen_heads d (map segment_data segments.now)))) }
-    ensures untouched { IfErr result (Unappending files.old files.new) }
-    ensures cause { IsErrOf result TermFault.WriteFault
-        → Rose (C.write_faults files.old) (C.write_faults files.new) }
-    ensures later { C.write_faults files.old ≤ C.write_faults files.new }
-    ensures others { C.read_faults files.old ≤ C.read_faults files.new }
+    ensures { Continues C.Cabinet files.old files.new name.now (map head_data heads.now)
+        (chosen_heads d (map segment_data segments.now)) (chosen_payloads d (map segment_data segments.now)) result }
 {
     changes_are_found();
     match same_heads(heads, segments, d) {

@@ -5,12 +5,12 @@ use Rattle.index_write.specs.Saving.{LeavesPrefix}
 use Rattle.index_write.proofs.Spelling.{parts_joined}
 use Rattle.index_write.proofs.whole.write_parts.Goals as goal
 
-pub returns-in-Ok-put_parts-clause-content : goal.returns-in-Ok-put_parts-clause-content
-returns-in-Ok-put_parts-clause-content g c = λ all entries named has.
-    subst (λ (text : List ℕ). Sets (g.C.Cabinet.told c.args.files.now) (g.C.Cabinet.told c.put_parts.new.files) c.args.name.now text)
+pub returns-in-Ok-put-clause-content : goal.returns-in-Ok-put-clause-content
+returns-in-Ok-put-clause-content g c = λ all entries named has.
+    subst (λ (text : List ℕ). Sets (g.C.Cabinet.told c.args.files.now) (g.C.Cabinet.told c.put_parts-put.new.files) c.args.name.now text)
     (parts_joined c.args.names.now all c.args.terms.now entries c.args.payloads.now named has c.len.result c.file_len-len.result c.totals-totals.result c.as_slice.result.now c.as_slice-docs.result.now c.args.terms.now.bytes
     c.len.ensures c.totals-totals.ensures (c.as_slice.ensures ∙ c.in-Ok.ensures) c.as_slice-docs.ensures refl c.file_len-len.ensures.len (omega (arith, c.if-len-gt-LONGEST_FILE.false)))
-    c.in-Ok-put_parts.ensures.ok
+    c.in-Ok-put.ensures.ok
 
 pub returns-then-len-gt-LONGEST_FILE-clause-fault : goal.returns-then-len-gt-LONGEST_FILE-clause-fault
 returns-then-len-gt-LONGEST_FILE-clause-fault g c = λ all entries named has.
@@ -18,9 +18,9 @@ returns-then-len-gt-LONGEST_FILE-clause-fault g c = λ all entries named has.
     let small = c.entries_are_small.ensures.terms entries has.are in
     (omega (arith, judged.len, judged.few, ap length c.as_slice-docs.ensures, ap length named.spelled.bytes, ap length has.spelled.bytes, has.sizes, small), omega (arith, c.if-len-gt-LONGEST_FILE.true))
 
-pub returns-clause-front : goal.returns-clause-front
-returns-clause-front g c = λ all entries named has.
-    subst (λ (text : List ℕ). LeavesPrefix (g.C.Cabinet.told c.args.files.now) (g.C.Cabinet.told c.put_parts.new.files) c.args.name.now text)
+pub returns-in-Err-put-clause-front : goal.returns-in-Err-put-clause-front
+returns-in-Err-put-clause-front g c = λ all entries named has.
+    subst (λ (text : List ℕ). LeavesPrefix (g.C.Cabinet.told c.args.files.now) (g.C.Cabinet.told c.put_parts-put.new.files) c.args.name.now text)
     (parts_joined c.args.names.now all c.args.terms.now entries c.args.payloads.now named has c.len.result c.file_len-len.result c.totals-totals.result c.as_slice.result.now c.as_slice-docs.result.now c.args.terms.now.bytes
     c.len.ensures c.totals-totals.ensures (c.as_slice.ensures ∙ c.in-Ok.ensures) c.as_slice-docs.ensures refl c.file_len-len.ensures.len (omega (arith, c.if-len-gt-LONGEST_FILE.false)))
-    c.in-Err-put_parts.ensures.err
+    c.in-Err-put.ensures.err

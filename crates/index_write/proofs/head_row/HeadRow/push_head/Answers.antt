@@ -2,12 +2,9 @@ use Rattle.shared_lemmas.proofs.Common.{◌≡◌, ℕ, List, [], ◌∷◌, ◌
 use Rattle.index_layout.specs.Bytes.{u16_bytes}
 use Rattle.index_layout.specs.Layout.{head_bytes}
 use Rattle.index_write.specs.Chosen.{head_data}
+use Rattle.index_write.proofs.Joining.{both_put}
 use Rattle.index_write.proofs.Below.{HeadData, codec_number, u32_bytes}
 use Rattle.index_write.proofs.head_row.HeadRow.push_head.Goals as goal
-
--- what two pushes put
-both_put : (old a b x y : List ℕ) → x ≡ old ++ a → y ≡ x ++ b → y ≡ old ++ (a ++ b)
-both_put old a b x y first second = second ∙ ap (λ xs. xs ++ b) first ∙ append_assoc old a b
 
 head_put : (old a b d x y z out : List ℕ) (n : ℕ) (h : HeadData) → a ≡ u16_bytes h.impact → b ≡ u32_bytes h.count → n ≡ codec_number h.codec → d ≡ u32_bytes h.size
     → x ≡ old ++ a → y ≡ x ++ b → z ≡ y ++ n ∷ [] → out ≡ z ++ d → out ≡ old ++ head_bytes h
