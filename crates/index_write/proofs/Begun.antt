@@ -1,8 +1,9 @@
 -- Why a file was not begun, and what stands then.
-use Rattle.std.proofs.Common.{◌≡◌, ◌≤◌, ◌⊎◌, ℕ, List, None, Some, Option, subst, take, Result, Ok, Err, IsErrOf, inl, refl, arith}
+use Rattle.std.proofs.Common.{◌≡◌, ◌<◌, ◌≤◌, ◌⊎◌, ◌*◌, ◌^◌, ℕ, List, length, None, Some, subst, take, Result, Ok, Err, IsErrOf, inl, refl, arith}
 use Rattle.jass_base.specs.Outside.{Rose}
 use Rattle.index_write.specs.declared.change.Change.{Change}
-use Rattle.index_write.proofs.Below.{Extends, HeadData}
+use Rattle.index_layout.specs.Heads.{TermHeads as EntryData}
+use Rattle.index_write.proofs.Below.{Extends, HeadData, Totals, greatest_impact, head_postings}
 use Rattle.index_write.specs.declared.fault.SaveFault.{SaveFault}
 use Rattle.index_write.specs.declared.fault.SaveFault.TheVariants.{TooLarge, WriteFault, NoMemory}
 use Rattle.index_write.specs.declared.fault.TermFault.{TermFault}
@@ -11,8 +12,8 @@ use Rattle.jass_base.specs.declared.cabinet.Cabinet as cabinet
 use Rattle.index_write.specs.Private.Front.{Unspelled}
 use Rattle.index_write.specs.Private.Pieces.{Begins, Continues, Makes}
 use Rattle.index_write.specs.Saving.{Untouched}
-use Rattle.index_write.specs.Streaming.{Unbegun, change_of}
-use Rattle.jass_base.specs.declared.limits.TheConstants.{LONGEST_FILE}
+use Rattle.index_write.specs.Streaming.{Unbegun, change_of, entries_totals}
+use Rattle.jass_base.specs.declared.limits.TheConstants.{LONGEST_FILE, MOST_POSTINGS}
 
 -- what is no write fault
 pub none_failed : {T E : Type 0} {x : T} {fault : E} → ¬ (let done : Result T E = Ok x in IsErrOf done fault)
@@ -50,6 +51,14 @@ untouched_itself files NoMemory = refl
 
 pub no_less_itself : (n : ℕ) → n ≤ n
 no_less_itself n = omega arith
+
+-- the totals of so many documents, and of the sums over heads
+pub totals_summed : (docs terms postings greatest names : ℕ) (entries : List EntryData) → docs ≡ names → terms ≡ length entries → postings ≡ head_postings entries → greatest ≡ greatest_impact entries
+    → (let t : Totals = record { docs = docs; terms = terms; postings = postings; greatest = greatest } in t) ≡ entries_totals names entries
+totals_summed docs terms postings greatest names entries a b c d = rw (a, b, c, d) refl
+
+pub few_bytes : (bytes heads : ℕ) → bytes ≤ 2 ^ 32 * heads → heads ≤ MOST_POSTINGS → bytes < 2 ^ 62
+few_bytes bytes heads few small = omega (arith)
 
 module _ {C : Type 0} (g : cabinet.Ghosts C) where
   -- the file has too many bytes, or there was no room for its first ones

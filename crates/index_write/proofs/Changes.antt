@@ -1,9 +1,13 @@
 -- The first number in which heads differ.
-use Rattle.shared_lemmas.proofs.Common.{◌≡◌, ℕ, List, [], ◌∷◌, length, ap, sym, ◌∙◌, refl, arith, Option, Some, None, Bool, true, false, ◌==◌, if◌then◌else◌, nat_tests}
+use Rattle.shared_lemmas.proofs.Common.{◌≡◌, ◌<◌, ◌+◌, ℕ, List, [], ◌∷◌, add-one, drop, get_or, length, map, ap, ap₂, sym, ◌∙◌, refl, arith, Option, Some, None, Bool, true, false, ◌==◌, if◌then◌else◌, nat_tests}
 use borrow.Author.Tests.{eqb-true}
-use Rattle.index_write.proofs.Below.{codec_number, codec_of, Codec, HeadData}
+use Rattle.std.proofs.Math.Seq.{drop-cons}
+use Rattle.index_write.proofs.Below.{codec_number, codec_of, Codec, HeadData, Segment, segment_data}
+use Rattle.index_write.proofs.Memory.{next_at}
+use Rattle.index_write.specs.Chosen.{chosen_head, chosen_heads, head_data}
 use Rattle.index_write.specs.Streaming.{change_of, head_change, heads_change, unless_same}
 use Rattle.index_write.specs.declared.change.Change.{Change}
+use Rattle.index_write.specs.declared.head.PayloadHead.{PayloadHead}
 
 pub same_go_on : (kept found : ℕ) (later : Option Change) → kept ≡ found → unless_same kept found later ≡ later
 same_go_on kept found later same = grind (arith, nat_tests, same)
@@ -76,3 +80,45 @@ heads_go_on (h ∷ heads) = head_goes_on h (heads_change heads heads) ∙ heads_
 pub unchanged : (heads : List HeadData) → change_of heads heads ≡ None
 unfolding change_of
 unchanged heads = same_go_on (length heads) (length heads) (heads_change heads heads) refl ∙ heads_go_on heads
+
+-- what four tests choose, where nothing comes later, they choose also before what comes later
+abbrev first_failed : (a b c d : Bool) (w x y z : Change) → Option Change → Option Change
+first_failed a b c d w x y z later = if a then (if b then (if c then (if d then later else Some z) else Some y) else Some x) else Some w
+
+all_passed : (a b c d : Bool) (w x y z : Change) (later : Option Change) → first_failed a b c d w x y z None ≡ None → first_failed a b c d w x y z later ≡ later
+all_passed true true true true w x y z later none = refl
+all_passed true true true false w x y z later none = absurd (cc)
+all_passed true true false d w x y z later none = absurd (cc)
+all_passed true false c d w x y z later none = absurd (cc)
+all_passed false b c d w x y z later none = absurd (cc)
+
+one_failed : (a b c d : Bool) (w x y z : Change) (later : Option Change) (change : Change) → first_failed a b c d w x y z None ≡ Some change → first_failed a b c d w x y z later ≡ Some change
+one_failed true true true true w x y z later change is = absurd (cc)
+one_failed true true true false w x y z later change is = is
+one_failed true true false d w x y z later change is = is
+one_failed true false c d w x y z later change is = is
+one_failed false b c d w x y z later change is = is
+
+abbrev both : ℕ → ℕ → Change
+both kept found = record { kept = kept; found = found }
+
+pub head_passed : (kept found : HeadData) (later : Option Change) → head_change kept found None ≡ None → head_change kept found later ≡ later
+head_passed kept found later none =
+    all_passed (kept.impact == found.impact) (kept.count == found.count) (codec_number kept.codec == codec_number found.codec) (kept.size == found.size)
+    (both kept.impact found.impact) (both kept.count found.count) (both (codec_number kept.codec) (codec_number found.codec)) (both kept.size found.size) later none
+
+pub head_failed : (kept found : HeadData) (later : Option Change) (change : Change) → head_change kept found None ≡ Some change → head_change kept found later ≡ Some change
+head_failed kept found later change is =
+    one_failed (kept.impact == found.impact) (kept.count == found.count) (codec_number kept.codec == codec_number found.codec) (kept.size == found.size)
+    (both kept.impact found.impact) (both kept.count found.count) (both (codec_number kept.codec) (codec_number found.codec)) (both kept.size found.size) later change is
+
+-- the first difference of heads from one on
+pub changes_next : (d : ℕ) (kept : List PayloadHead) (segments : List Segment) (i : ℕ) (k : PayloadHead) (s : Segment) (head : PayloadHead) → i < length kept → i < length segments → s ≡ get_or segments i s
+    → head_data head ≡ chosen_head d (segment_data s)
+    → heads_change (map head_data (drop i kept)) (chosen_heads d (map segment_data (drop i segments)))
+    ≡ head_change (head_data (get_or kept i k)) (head_data head) (heads_change (map head_data (drop (i + 1) kept)) (chosen_heads d (map segment_data (drop (i + 1) segments))))
+changes_next d kept segments i k s head here there is made =
+    let first : drop i kept ≡ get_or kept i k ∷ drop (i + 1) kept = rw (add-one i) (drop-cons kept i k here) in
+    let rest = heads_change (map head_data (drop (i + 1) kept)) (chosen_heads d (map segment_data (drop (i + 1) segments))) in
+    ap₂ (λ (hs : List PayloadHead) (ss : List Segment). heads_change (map head_data hs) (chosen_heads d (map segment_data ss))) first (next_at segments segments i s refl there is)
+    ∙ ap (λ (found : HeadData). head_change (head_data (get_or kept i k)) found rest) (sym made)

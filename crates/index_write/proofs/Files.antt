@@ -1,5 +1,5 @@
 -- A file that is made empty and then written.
-use Rattle.shared_lemmas.proofs.Common.{◌≡◌, ℕ, ◌+◌, List, [], ◌++◌, length, take, Option, Some, None, Result, Ok, Err, inl, inr, sym, ap, subst, ◌∙◌, ◌⊎◌, OnErr, unwrap_or, insert, min, arith, take_min, take-append-le, take-append-add, take-append_seam}
+use Rattle.shared_lemmas.proofs.Common.{◌≡◌, ℕ, ◌+◌, List, [], ◌++◌, length, take, Option, Some, None, inl, inr, sym, ap, subst, ◌∙◌, ◌⊎◌, unwrap_or, insert, min, arith, take_min, take-append-le, take-append-add, take-append_seam}
 use Rattle.index_write.proofs.Below.{Files, Sets, Extends, content_or_empty, get_set, set_twice}
 use Rattle.index_write.specs.Saving.{LeavesPrefix}
 

@@ -65,14 +65,14 @@ abbrev totals_with : ℕ → SpelledView → Totals
 totals_with docs view = record { docs = docs; terms = view.terms; postings = view.postings; greatest = view.greatest }
 
 module _ (named : NamesView) (names : List (List ℕ)) (view : SpelledView) (entries : List EntryData) (payloads : List ℕ) (spelled : HasNames named names) (parts : HasParts view payloads entries) where
-  totals_of_parts : (docs : ℕ) (totals : Totals) → docs ≡ named.count → totals ≡ totals_with docs view → totals ≡ entries_totals (length names) entries
+  pub totals_of_parts : (docs : ℕ) (totals : Totals) → docs ≡ named.count → totals ≡ totals_with docs view → totals ≡ entries_totals (length names) entries
   totals_of_parts docs totals count is =
       let are = parts.spelled in
       is ∙ ap (λ n. totals_with n view) (count ∙ spelled.spelled.count)
       ∙ same_totals (length names) view.terms view.postings view.greatest (length entries) (head_postings entries) (greatest_impact entries) are.terms are.postings are.greatest
 
   -- the length that is judged, which isn't cut where it is that of a file
-  length_of_parts : (size : ℕ) (second third : List ℕ) → second ≡ named.bytes → third ≡ view.bytes → size ≡ min (40 + length second + length third + length payloads) (2 ^ 64 - 1) → size ≤ 2 ^ 32 → size ≡ file_length names entries
+  pub length_of_parts : (size : ℕ) (second third : List ℕ) → second ≡ named.bytes → third ≡ view.bytes → size ≡ min (40 + length second + length third + length payloads) (2 ^ 64 - 1) → size ≤ 2 ^ 32 → size ≡ file_length names entries
   length_of_parts size second third one two is fits =
       omega (arith, is, fits, ap length one, ap length two, ap length spelled.spelled.bytes, ap length parts.spelled.bytes, parts.sizes)
 

@@ -6,6 +6,7 @@ ghost use Rattle.jass_base.specs.declared.segment.Segment.{Segment};
 ghost use Rattle.index_model.specs.Views.{segment_data};
 ghost use Rattle.index_write.specs.Chosen.{head_data, chosen_heads};
 ghost use Rattle.index_write.specs.Streaming.{change_of, head_change, heads_change, unless_same};
+ghost use Rattle.index_write.specs.Private.Differences.{Finds};
 
 use crate::head::PayloadHead;
 use jass_base::Segment;
@@ -31,8 +32,7 @@ fn same(kept: u64, found: u64) -> Result<(), Change>
 
 /// Refuses the first number in which a head differs from the kept one.
 fn same_head(kept: &PayloadHead, found: &PayloadHead) -> Result<(), Change>
-    ensures ok { OnOk result (head_change (head_data kept.now) (head_data found.now) None ≡ None) }
-    ensures err { IfErr result (λ change. head_change (head_data kept.now) (head_data found.now) None ≡ Some change) }
+    ensures { Finds (head_change (head_data kept.now) (head_data found.now) None) result }
 {
     same(u64::from(kept.impact), u64::from(found.impact))?;
     same(u64::from(kept.count), u64::from(found.count))?;
@@ -48,10 +48,7 @@ fn same_head(kept: &PayloadHead, found: &PayloadHead) -> Result<(), Change>
 fn same_numbers(kept: &[PayloadHead], segments: &[Segment], d: u32) -> Result<(), Change>
     requires docs { All (λ (s : Segment). AreDocs d s.docs) segments.now }
     requires count { length kept.now ≡ length segments.now }
-    ensures ok { OnOk result (heads_change (map head_data kept.now)
-        (chosen_heads d (map segment_data segments.now)) ≡ None) }
-    ensures err { IfErr result (λ change. heads_change (map head_data kept.now)
-        (chosen_heads d (map segment_data segments.now)) ≡ Some change) }
+    ensures { Finds (heads_change (map head_data kept.now) (chosen_heads d (map segment_data segments.now))) result }
 {
     for (i, segment) in segments.iter().enumerate() {
         same_head(&kept[i], &PayloadHead::new(segment, d))?;
@@ -63,10 +60,7 @@ fn same_numbers(kept: &[PayloadHead], segments: &[Segment], d: u32) -> Result<()
 #[tactic(auto, unfolding(crate::specs::Streaming::change_of))]
 pub fn same_heads(kept: &[PayloadHead], segments: &[Segment], d: u32) -> Result<(), Change>
     requires { All (λ (s : Segment). AreDocs d s.docs) segments.now }
-    ensures ok { OnOk result (change_of (map head_data kept.now)
-        (chosen_heads d (map segment_data segments.now)) ≡ None) }
-    ensures err { IfErr result (λ change. change_of (map head_data kept.now)
-        (chosen_heads d (map segment_data segments.now)) ≡ Some change) }
+    ensures { Finds (change_of (map head_data kept.now) (chosen_heads d (map segment_data segments.now))) result }
 {
     same(kept.len() as u64, segments.len() as u64)?;
     same_numbers(kept, segments, d)

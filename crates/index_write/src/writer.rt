@@ -146,21 +146,29 @@ impl IndexWriter {
             mut payloads,
         } = self;
         let heads = heads_left(entries.as_slice(), left);
-        append_payloads(
+        let appended = append_payloads(
             heads,
             segments,
             totals.docs,
             &mut payloads,
             files,
             name.as_str(),
-        )?;
-        Ok(IndexWriter {
-            name,
-            totals,
-            entries,
-            left: left - 1,
-            payloads,
-        })
+        );
+        match appended {
+            Ok(()) => Ok(IndexWriter {
+                name,
+                totals,
+                entries,
+                left: left - 1,
+                payloads,
+            }),
+            Err(fault) => {
+                drop(payloads);
+                drop(entries);
+                drop(name);
+                Err(fault)
+            }
+        }
     }
 
     /// The totals of the file, all of whose terms were written.

@@ -1,4 +1,4 @@
-use Rattle.shared_lemmas.proofs.Common.{◌≡◌, ℕ, List, [], ◌∷◌, ◌++◌, ap, append_assoc, ◌∙◌, refl}
+use Rattle.shared_lemmas.proofs.Common.{◌≡◌, ℕ, List, [], ◌∷◌, ◌++◌, ◌∙◌, refl}
 use Rattle.index_layout.specs.Bytes.{u16_bytes}
 use Rattle.index_layout.specs.Layout.{head_bytes}
 use Rattle.index_write.specs.Chosen.{head_data}
