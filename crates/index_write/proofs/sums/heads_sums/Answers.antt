@@ -24,3 +24,23 @@ loop-entry-preserved c =
       few_bytes = omega (arith, here.few_bytes, ap length heads, count_next t from rest next, before.few_bytes);
       within = omega (arith, count_next t from rest next, before.within);
     }
+
+pub overflow_add-postings : goal.overflow_add-postings
+overflow_add-postings c =
+    let entries = c.args.entries.now in
+    let i = c.loop-entry.entry-index in
+    let t = c.entry-item.result in
+    let next = next_at entries entries i t refl c.loop-entry-test.true c.entry-item.is in
+    let here = c.term_sums-here.ensures in
+    let before = c.loop-entry.invariant in
+    omega (arith, here.few_postings, ap length c.as_slice.ensures, count_next t (drop i entries) (drop (i + 1) entries) next, before.few_postings, before.within, c.requires)
+
+pub overflow_add-payloads : goal.overflow_add-payloads
+overflow_add-payloads c =
+    let entries = c.args.entries.now in
+    let i = c.loop-entry.entry-index in
+    let t = c.entry-item.result in
+    let next = next_at entries entries i t refl c.loop-entry-test.true c.entry-item.is in
+    let here = c.term_sums-here.ensures in
+    let before = c.loop-entry.invariant in
+    omega (arith, here.few_bytes, ap length c.as_slice.ensures, count_next t (drop i entries) (drop (i + 1) entries) next, before.few_bytes, before.within, c.requires)
