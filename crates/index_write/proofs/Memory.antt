@@ -1,11 +1,11 @@
 -- An index in memory, seen from its table of heads.
-use Rattle.shared_lemmas.proofs.Common.{suc, add-one, append_assoc, ◌≡◌, ℕ, ◌+◌, ◌*◌, ◌^◌, ◌<◌, ◌≤◌, List, [], ◌∷◌, ◌++◌, length, map, take, drop, get_or, All, ap, sym, subst, ◌∙◌, refl, arith, take-append_seam, drop-append_seam, length-map, length-append, get_or-map, take-map, drop-map}
+use Rattle.shared_lemmas.proofs.Common.{suc, append-nil, flat_map-append, map-append, take-suc, add-one, append_assoc, ◌≡◌, ℕ, ◌+◌, ◌*◌, ◌^◌, ◌<◌, ◌≤◌, List, [], ◌∷◌, ◌++◌, length, map, take, drop, get_or, All, ap, sym, subst, ◌∙◌, refl, arith, take-append_seam, drop-append_seam, length-map, length-append, get_or-map, take-map, drop-map}
 use Rattle.shared_lemmas.proofs.Common.{sum_by-cons}
 use Rattle.std.specs.List.{sum_by}
 use Rattle.std.proofs.Math.Seq.{drop-cons}
 use Rattle.index_write.proofs.Below.{AreDocs, Segment, TermSegments, ImpactIndex, SegmentData, IsSegment, IsTerm, IsIndex, segment_data, term_data, index_data, u32_bytes, HeadData, TermHeads, rest_behind, shared_with, term_bytes, heads_bytes, terms_bytes, term_postings}
 use Rattle.shared_lemmas.proofs.Lists.{All-unmap}
-use Rattle.index_write.specs.Chosen.{head_data, chosen_head, chosen_heads, chosen_terms, chosen_payloads, table_payloads}
+use Rattle.index_write.specs.Chosen.{head_data, chosen_head, chosen_heads, chosen_terms, chosen_payload, chosen_payloads, table_payloads}
 use Rattle.index_write.specs.Private.Table.{table_of}
 use Rattle.index_write.specs.declared.head.PayloadHead.{PayloadHead}
 use Rattle.index_write.proofs.Bounds.{one_size, term_segments_few}
@@ -91,6 +91,16 @@ head_at d heads segments i h s same inside is =
 pub payloads_next : (d : ℕ) (t : TermSegments) (from rest : List TermSegments) → from ≡ t ∷ rest
     → table_payloads d (map term_data from) ≡ chosen_payloads d (map segment_data t.segments) ++ table_payloads d (map term_data rest)
 payloads_next d t from rest is = ap (λ ts. table_payloads d (map term_data ts)) is
+
+-- the payloads of the first segments, and of one more
+pub payloads_more : (d : ℕ) (segments : List Segment) (i : ℕ) (s : Segment) → i < length segments → s ≡ get_or segments i s
+    → chosen_payloads d (map segment_data (take (i + 1) segments)) ≡ chosen_payloads d (map segment_data (take i segments)) ++ chosen_payload d (segment_data s)
+payloads_more d segments i s low is =
+    let first = take i segments in
+    ap (λ (n : ℕ). chosen_payloads d (map segment_data (take n segments))) (add-one i) ∙ ap (λ (ss : List Segment). chosen_payloads d (map segment_data ss)) (take-suc segments i s low)
+    ∙ ap (λ (x : Segment). chosen_payloads d (map segment_data (first ++ x ∷ []))) (sym is) ∙ ap (λ (ss : List SegmentData). chosen_payloads d ss) (map-append segment_data first (s ∷ []))
+    ∙ flat_map-append (chosen_payload d) (map segment_data first) (segment_data s ∷ [])
+    ∙ ap (λ (xs : List ℕ). chosen_payloads d (map segment_data first) ++ xs) (append-nil (chosen_payload d (segment_data s)))
 
 -- the postings of an index in memory
 segments_counted : (segments : List Segment) → sum_by (λ (s : Segment). length s.docs) segments ≡ sum_by (λ (s : SegmentData). length s.docs) (map segment_data segments)
