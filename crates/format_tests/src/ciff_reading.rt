@@ -4,7 +4,7 @@
 ghost use Rattle.std.specs.Prelude.{◌≡◌, ◌<◌, ◌≤◌, length, None, IsTrue, IfSome};
 ghost use Rattle.ciff_read.specs.Walk.{IsGiven};
 
-use ciff_read::{CiffFault, CiffWalk, CiffWhy, Piece, read_collection};
+use ciff_read::{CiffFault, CiffRefusal, CiffWalk, CiffWhy, Piece, read_collection};
 use jass_base::{Cabinet, Failed, MemCabinet, PostingsList, Row};
 use std::alloc::Global;
 use std::process::Abort;
@@ -27,7 +27,13 @@ const OTHER: [u8; 74] = [
     0x05, 0x08, 0x08, 0x02, 0x12, 0x02, 0x64, 0x32, 0x18, 0x01,
 ];
 
-/// The refusal's number and place; 0 at the number of documents for a file that is accepted.
+/// Whether reading a file answers so: the refusal's number and place, and 0 at the number of documents
+/// for a file that is accepted.
+fn answers(alloc: Global, bytes: &[u8], number: u32, at: u64) -> bool {
+    answer(alloc, bytes) == (number, at)
+}
+
+/// What reading a file answers.
 fn answer(alloc: Global, bytes: &[u8]) -> (u32, u64) {
     match read_collection(alloc, bytes) {
         Ok(collection) => {
@@ -62,8 +68,7 @@ type Case<'a> = (&'a [u8], u32, u64);
 
 fn check_answers(rt: &impl Abort, alloc: Global, cases: &[Case<'_>]) {
     for (bytes, number, at) in cases {
-        let (found, place) = answer(alloc, bytes);
-        assert!(rt; found == *number && place == *at);
+        assert!(rt; answers(alloc, bytes, *number, *at));
     }
 }
 
@@ -102,8 +107,7 @@ fn cut_message(end: usize) -> u64 {
 
 fn check_cuts(rt: &impl Abort, alloc: Global) {
     for end in 0..71 {
-        let (found, place) = answer(alloc, &FILE[..end]);
-        assert!(rt; found == 10 && place == cut_message(end));
+        assert!(rt; answers(alloc, &FILE[..end], 10, cut_message(end)));
     }
 }
 
@@ -161,16 +165,22 @@ const TEXTS: [Filled<'static>; 4] = [
 
 fn check_texts(rt: &impl Abort, alloc: Global, texts: &[Filled<'_>]) {
     for (front, count, number, at) in texts {
-        let (found, place) = answer_filled(rt, alloc, front, *count);
-        assert!(rt; found == *number && place == *at);
+        assert!(rt; answers_filled(rt, alloc, front, *count, *number, *at));
     }
 }
 
-fn answer_filled(rt: &impl Abort, alloc: Global, front: &[u8], count: u32) -> (u32, u64) {
+fn answers_filled(
+    rt: &impl Abort,
+    alloc: Global,
+    front: &[u8],
+    count: u32,
+    number: u32,
+    at: u64,
+) -> bool {
     let bytes = filled(rt, alloc, front, count);
-    let found = answer(alloc, bytes.as_slice());
+    let answer = answers(alloc, bytes.as_slice(), number, at);
     drop(bytes);
-    found
+    answer
 }
 
 #[test]
@@ -178,12 +188,13 @@ fn texts_are_judged_at_the_limits(rt: HostRuntime) {
     check_texts(&rt, rt.alloc(), &TEXTS);
 }
 
-/// What opening a walk over a file of these bytes answers: as above, and 0 at 0 for a walk.
-fn opening(rt: &impl Abort, alloc: Global, bytes: &[u8]) -> (u32, u64) {
-    match fault_of_opening(alloc, cabinet(rt, alloc, bytes)) {
+/// Whether opening a walk over a file of these bytes answers so: as above, and 0 at 0 for a walk.
+fn opens(rt: &impl Abort, alloc: Global, bytes: &[u8], number: u32, at: u64) -> bool {
+    let opening = match fault_of_opening(alloc, cabinet(rt, alloc, bytes)) {
         None => (0, 0),
         Some(fault) => told(fault),
-    }
+    };
+    opening == (number, at)
 }
 
 /// The fault that opening a walk answers.
@@ -202,8 +213,7 @@ const OPENED: [Case<'static>; 6] = [
 
 fn check_opened(rt: &impl Abort, alloc: Global, cases: &[Case<'_>]) {
     for (bytes, number, at) in cases {
-        let (found, place) = opening(rt, alloc, bytes);
-        assert!(rt; found == *number && place == *at);
+        assert!(rt; opens(rt, alloc, bytes, *number, *at));
     }
 }
 
@@ -309,25 +319,29 @@ fn count_back(walk: &mut CiffWalk, list: PostingsList) -> u64
     count
 }
 
-/// The number of a refusal. Each is 10 or more; the bound changes none, and shows that none is that of a piece.
-fn number(why: CiffWhy) -> u32
-    ensures { 4 < result }
+/// The number of a fault, and the place of a refusal. Each number of a refusal is 10 or more; the bound
+/// changes none, and shows that none is that of a piece.
+fn numbers(fault: CiffFault) -> (u32, u64, u64)
+    ensures { 4 < result.0 }
 {
-    why.number().max(5)
+    match fault {
+        CiffFault::Refused(refusal) => (refusal.why.number().max(5), refusal.at, 0),
+        CiffFault::ReadFault => (5, 0, 0),
+        CiffFault::NoMemory => (6, 0, 0),
+    }
 }
 
 /// The next piece: what it is, and two of its numbers; of a refusal its number and place.
 fn piece(walk: &mut CiffWalk, files: &mut Switched<'_>) -> (u32, u64, u64)
-    ensures { 3 ≤ result.0 → result.0 ≤ 4 → walk.new.kept ≡ walk.old.kept }
+    ensures stays { 3 ≤ result.0 → result.0 ≤ 4 → walk.new.kept ≡ walk.old.kept }
+    ensures given { result.0 ≡ 2 → IsGiven walk.new.kept result.1 }
 {
     match walk.next_piece(files) {
         Ok(Piece::Start { lists, docs, .. }) => (1, u64::from(lists), u64::from(docs)),
         Ok(Piece::List { at, list }) => (2, at, count_back(walk, list)),
         Ok(Piece::Doc { number, item }) => (3, u64::from(number), u64::from(item.length)),
         Ok(Piece::End) => (4, 0, 0),
-        Err(CiffFault::Refused(refusal)) => (number(refusal.why), refusal.at, 0),
-        Err(CiffFault::ReadFault) => (5, 0, 0),
-        Err(CiffFault::NoMemory) => (6, 0, 0),
+        Err(fault) => numbers(fault),
     }
 }
 
@@ -348,9 +362,8 @@ fn check_pieces(
     files: &mut Switched<'_>,
     pieces: &[(u32, u64, u64)],
 ) {
-    for (kind, number, other) in pieces {
-        let (found, first, second) = piece(walk, files);
-        assert!(rt; found == *kind && first == *number && second == *other);
+    for wanted in pieces {
+        assert!(rt; piece(walk, files) == *wanted);
     }
 }
 
@@ -364,16 +377,6 @@ fn check_walk(rt: &impl Abort, alloc: Global) {
 #[test]
 fn pieces_come_in_the_order_of_the_file(rt: HostRuntime) {
     check_walk(&rt, rt.alloc());
-}
-
-/// Reads a list, and gives its place.
-fn read_list(walk: &mut CiffWalk, files: &mut Switched<'_>) -> Option<u64>
-    ensures { IfSome result (IsGiven walk.new.kept) }
-{
-    let Ok(Piece::List { at, .. }) = walk.next_piece(files) else {
-        return None;
-    };
-    Some(at)
 }
 
 /// Reads three documents' records and the end, and says whether they came.
@@ -393,28 +396,38 @@ fn read_all(walk: &mut CiffWalk, files: &mut Switched<'_>) -> Option<u64>
     if piece(walk, files).0 != 1 {
         return None;
     }
-    let at = read_list(walk, files)?;
-    if read_rest(walk, files) {
+    let (kind, at, _) = piece(walk, files);
+    if kind == 2 && read_rest(walk, files) {
         Some(at)
     } else {
         None
     }
 }
 
+/// What reading a list again answers.
+type Answer = (u32, u64, u64, u64);
+
 /// A list that is read again: its place, and the number of its postings; of a refusal its
 /// number and place, and the two numbers that differ.
-fn again(walk: &mut CiffWalk, files: &mut Switched<'_>, at: u64) -> (u32, u64, u64, u64)
+fn again(walk: &mut CiffWalk, files: &mut Switched<'_>, at: u64) -> Answer
     requires { IsGiven walk.old.kept at }
     ensures { walk.new.kept ≡ walk.old.kept }
 {
     match walk.list_again(files, at) {
         Ok(list) => (2, at, count_back(walk, list), 0),
-        Err(CiffFault::Refused(refusal)) => match refusal.why {
-            CiffWhy::Changed { kept, found } => (refusal.why.number(), refusal.at, kept, found),
-            why => (why.number(), refusal.at, 0, 0),
-        },
-        Err(CiffFault::ReadFault) => (5, 0, 0, 0),
-        Err(CiffFault::NoMemory) => (6, 0, 0, 0),
+        Err(fault) => changes(fault),
+    }
+}
+
+/// The number of a fault, and of a refusal its place and the two numbers that differ.
+fn changes(fault: CiffFault) -> Answer {
+    let (number, at, _) = numbers(fault);
+    match fault {
+        CiffFault::Refused(CiffRefusal {
+            why: CiffWhy::Changed { kept, found },
+            ..
+        }) => (number, at, kept, found),
+        _ => (number, at, 0, 0),
     }
 }
 
@@ -431,16 +444,14 @@ fn opened(rt: &impl Abort, alloc: Global, files: &mut Switched<'_>) -> CiffWalk 
 }
 
 /// Whether the second file is read after the end, and what reading the list again answers, twice.
-type Again = (bool, [(u32, u64, u64, u64); 2]);
-
-const AGAIN: [Again; 2] = [
-    (false, [(2, 22, 3, 0), (2, 22, 3, 0)]),
-    (true, [(23, 22, 3, 2), (23, 22, 3, 2)]),
+const AGAIN: [(bool, Answer, Answer); 2] = [
+    (false, (2, 22, 3, 0), (2, 22, 3, 0)),
+    (true, (23, 22, 3, 2), (23, 22, 3, 2)),
 ];
 
-fn check_again(rt: &impl Abort, alloc: Global, rows: &[Again]) {
-    for (is_second, wanted) in rows {
-        assert!(rt; is_read_again(rt, alloc, *is_second, wanted));
+fn check_again(rt: &impl Abort, alloc: Global, rows: &[(bool, Answer, Answer)]) {
+    for (is_second, first, second) in rows {
+        assert!(rt; is_read_again(rt, alloc, *is_second, *first, *second));
     }
 }
 
@@ -449,26 +460,42 @@ fn is_read_again(
     rt: &impl Abort,
     alloc: Global,
     is_second: bool,
-    wanted: &[(u32, u64, u64, u64); 2],
+    first: Answer,
+    second: Answer,
 ) -> bool {
     let mut files = two_files(&SHORTER);
     let mut walk = opened(rt, alloc, &mut files);
-    let answer = answers_again(rt, &mut walk, &mut files, is_second, wanted);
+    let answer = answers_again(&mut walk, &mut files, is_second, first, second);
     drop(walk);
     answer
 }
 
 /// The same of a walk that was opened.
 fn answers_again(
-    rt: &impl Abort,
     walk: &mut CiffWalk,
     files: &mut Switched<'_>,
     is_second: bool,
-    wanted: &[(u32, u64, u64, u64); 2],
+    first: Answer,
+    second: Answer,
 ) -> bool {
-    let at = read_all(walk, files).expect(rt, "a list");
+    let Some(at) = read_all(walk, files) else {
+        return false;
+    };
     files.is_second = is_second;
-    again(walk, files, at) == wanted[0] && again(walk, files, at) == wanted[1]
+    answers_twice(walk, files, at, first, second)
+}
+
+/// Whether a list that is read again, twice, is answered so.
+fn answers_twice(
+    walk: &mut CiffWalk,
+    files: &mut Switched<'_>,
+    at: u64,
+    first: Answer,
+    second: Answer,
+) -> bool
+    requires { IsGiven walk.old.kept at }
+{
+    again(walk, files, at) == first && again(walk, files, at) == second
 }
 
 #[test]
@@ -494,18 +521,9 @@ fn fault_after(alloc: Global, reads: u32) -> (u32, bool) {
 /// The same for a walk that was opened.
 fn fault_of_walk(walk: &mut CiffWalk, files: &mut Switched<'_>) -> (u32, bool) {
     match read_all(walk, files) {
-        Some(at) => (3, fails_twice(walk, files, at)),
+        Some(at) => (3, answers_twice(walk, files, at, (5, 0, 0, 0), (5, 0, 0, 0))),
         None => (2, piece(walk, files) == (5, 0, 0)),
     }
-}
-
-/// Whether a list that is read again is answered a read fault, twice.
-fn fails_twice(walk: &mut CiffWalk, files: &mut Switched<'_>, at: u64) -> bool
-    requires { IsGiven walk.old.kept at }
-{
-    let first = again(walk, files, at);
-    let second = again(walk, files, at);
-    first == (5, 0, 0, 0) && second == (5, 0, 0, 0)
 }
 
 /// How many reads go well, which call answers a fault then, and whether the next one answers it, too.
@@ -519,8 +537,7 @@ const FAULTS: [(u32, u32, bool); 5] = [
 
 fn check_faults(rt: &impl Abort, alloc: Global, faults: &[(u32, u32, bool)]) {
     for (reads, call, twice) in faults {
-        let (found, again) = fault_after(alloc, *reads);
-        assert!(rt; found == *call && again == *twice);
+        assert!(rt; fault_after(alloc, *reads) == (*call, *twice));
     }
 }
 
