@@ -35,8 +35,14 @@ const THREE_LISTS: &[u8] = b"\x0c\x08\x01\x10\x02\x18\x03\x20\x02\x28\x03\x30\x0
 
 #[test]
 fn three_documents(rt: HostRuntime) {
-    let index = indexed(&rt, rt.alloc(), THREE_LISTS, Rule::Bm25, Bits::Of(8));
-    assert!(&rt; is_whole(&index));
+    check_three(&rt, rt.alloc());
+}
+
+fn check_three(rt: &impl Abort, alloc: Global) {
+    let index = indexed(rt, alloc, THREE_LISTS, Rule::Bm25, Bits::Of(8));
+    let whole = is_whole(&index);
+    drop(index);
+    assert!(rt; whole);
 }
 
 /// The index of the collection in a file.
@@ -50,7 +56,9 @@ pub(crate) fn indexed(
     requires { IsImpactWidth bits }
 {
     let collection = read_collection(alloc, file).expect(rt, "a collection");
-    build(alloc, &collection, rule, bits).expect(rt, "memory")
+    let built = build(alloc, &collection, rule, bits);
+    drop(collection);
+    built.expect(rt, "memory")
 }
 
 /// Documents with their impacts, of which two are the same.
@@ -68,38 +76,80 @@ fn pairs_by_impact(rt: HostRuntime) {
 
 #[test]
 fn a_range_grows_by_one_list(rt: HostRuntime) {
-    assert!(&rt; range_of_three(&rt, rt.alloc()) == RANGE);
-    assert!(&rt; range_by_norms(&rt, rt.alloc()) == RANGE);
+    check_ranges(&rt, rt.alloc());
 }
 
 #[test]
 fn segments_by_a_scratch(rt: HostRuntime) {
-    let mut segments = ListSegments::new(rt.alloc());
-    let mut scratch = Scratch::new(rt.alloc());
-    make_impacts(&rt, rt.alloc(), &mut segments, &mut scratch);
-    make_impacts(&rt, rt.alloc(), &mut segments, &mut scratch);
-    check_impacts(&rt, rt.alloc(), &segments);
+    check_scratch(&rt, rt.alloc());
+}
+
+/// The segments of a list that is made twice.
+fn check_scratch(rt: &impl Abort, alloc: Global) {
+    let mut segments = ListSegments::new(alloc);
+    make_twice(rt, alloc, &mut segments);
+    let heavy = begin_with_the_heaviest(&segments);
+    let impacts = has_impacts(rt, alloc, &segments);
+    drop(segments);
+    assert!(rt; heavy && impacts);
+}
+
+fn make_twice(rt: &impl Abort, alloc: Global, segments: &mut ListSegments) {
+    let mut scratch = Scratch::new(alloc);
+    make_impacts(rt, alloc, segments, &mut scratch);
+    make_impacts(rt, alloc, segments, &mut scratch);
+    drop(scratch);
 }
 
 #[test]
 fn segments_of_one_list(rt: HostRuntime) {
-    let alloc = rt.alloc();
-    let heavier = SegmentsFault::Outside { kept: 9, found: 10 };
-    let lighter = SegmentsFault::Outside { kept: 2, found: 1 };
-    assert!(&rt; makes(&rt, alloc, 1, 9, Ok(3)));
-    assert!(&rt; makes(&rt, alloc, 1, 10, Err(heavier)));
-    assert!(&rt; makes(&rt, alloc, 2, 9, Err(lighter)));
+    check_made(&rt, rt.alloc(), &MADE);
+}
+
+/// The least weight of a range up to 9, the frequency in the first document, and how many segments
+/// the list makes in this range, or why none.
+type Made = (u64, u32, Result<usize, SegmentsFault>);
+
+const MADE: [Made; 3] = [
+    (1, 9, Ok(3)),
+    (1, 10, Err(SegmentsFault::Outside { kept: 9, found: 10 })),
+    (2, 9, Err(SegmentsFault::Outside { kept: 2, found: 1 })),
+];
+
+fn check_made(rt: &impl Abort, alloc: Global, rows: &[Made]) {
+    for (least, tf, answer) in rows {
+        assert!(rt; makes(rt, alloc, *least, *tf, *answer));
+    }
+}
+
+/// Whether the list makes so many segments in a range up to 9, or is refused so.
+fn makes(
+    rt: &impl Abort,
+    alloc: Global,
+    least: u64,
+    tf: u32,
+    answer: Result<usize, SegmentsFault>,
+) -> bool {
+    if tf == 0 || tf >= 100 {
+        return false;
+    }
+    made(rt, alloc, least, tf) == answer
 }
 
 /// Three documents of 9, 5 and 1 terms. The weights of a list of all three lie between those of
 /// one mention in the longest and of nine in the shortest one.
 #[test]
 fn a_list_that_can_widen(rt: HostRuntime) {
+    assert!(&rt; widens(Range::new(), Rule::Bm25, 3, 9));
+    check_widening(&rt, widened(), &WIDENING);
+}
+
+/// The range from 296 to 606.
+fn widened() -> Range {
     let mut range = Range::new();
-    assert!(&rt; widens(range, Rule::Bm25, 3, 9));
     range.widen(296);
     range.widen(606);
-    check_widening(&rt, range, &WIDENING);
+    range
 }
 
 /// Lists by a rule, of so many documents and with a frequency up to one, and whether they can widen
@@ -113,9 +163,16 @@ const WIDENING: [(Rule, u32, u32, bool); 4] = [
 
 fn check_widening(rt: &impl Abort, range: Range, rows: &[(Rule, u32, u32, bool)]) {
     for (rule, count, most, can) in rows {
-        assert!(rt; 0 < *count && 0 < *most && *most < 100);
-        assert!(rt; widens(range, *rule, *count, *most) == *can);
+        assert!(rt; is_widened(range, *rule, *count, *most, *can));
     }
+}
+
+/// Whether such a list can widen a range, or can't.
+fn is_widened(range: Range, rule: Rule, count: u32, most: u32, can: bool) -> bool {
+    if count == 0 || most == 0 || most >= 100 {
+        return false;
+    }
+    widens(range, rule, count, most) == can
 }
 
 /// Whether a list of so many of the three documents, with a frequency up to one, can widen a range.
@@ -130,7 +187,9 @@ fn widens(range: Range, rule: Rule, count: u32, most: u32) -> bool
 /// The pairs make two segments.
 fn check_groups(rt: &impl Abort, alloc: Global) {
     let segments = group(alloc, &PAIRS).expect(rt, "memory");
-    assert!(rt; segments.len() == 2);
+    let count = segments.len();
+    drop(segments);
+    assert!(rt; count == 2);
 }
 
 /// The index of many documents has their stripes: they are enough to go without a sort, and the
@@ -138,7 +197,10 @@ fn check_groups(rt: &impl Abort, alloc: Global) {
 fn check_stripes(rt: &impl Abort, alloc: Global) {
     let bytes = striped(rt, alloc);
     let index = indexed(rt, alloc, bytes.as_slice(), Rule::Tf, Bits::Raw);
-    assert!(rt; has_stripes(&index));
+    drop(bytes);
+    let striped = has_stripes(&index);
+    drop(index);
+    assert!(rt; striped);
 }
 
 /// A file of the documents from 0 to 63, in which two terms stand once, twice and three times in turn.
@@ -193,11 +255,21 @@ fn is_stripe(segment: &Segment, impact: u16, from: u32, to: u32) -> bool {
     }
 }
 
+fn check_ranges(rt: &impl Abort, alloc: Global) {
+    assert!(rt; is_range(range_of_three(rt, alloc)));
+    assert!(rt; is_range(range_by_norms(rt, alloc)));
+}
+
+fn is_range(range: Range) -> bool {
+    range == RANGE
+}
+
 /// The range of the BM25 weights of the list of three documents.
 fn range_of_three(rt: &impl Abort, alloc: Global) -> Range {
     let list = three(rt, alloc, 9);
     let mut range = Range::new();
     widen_list(&mut range, Rule::Bm25, 15, &list, &[9, 5, 1]);
+    drop(list);
     range
 }
 
@@ -214,6 +286,8 @@ fn range_by_norms(rt: &impl Abort, alloc: Global) -> Range {
         &[9, 5, 1],
         norms.as_slice(),
     );
+    drop(norms);
+    drop(list);
     range
 }
 
@@ -226,7 +300,7 @@ fn make_impacts(
 ) {
     let list = three(rt, alloc, 9);
     let norms = length_norms(alloc, 15, &[9, 5, 1]).expect(rt, "memory");
-    segments_into(
+    let made = segments_into(
         segments,
         scratch,
         Rule::Bm25,
@@ -236,17 +310,21 @@ fn make_impacts(
         &list,
         &[9, 5, 1],
         norms.as_slice(),
-    )
-    .expect(rt, "segments");
+    );
+    drop(norms);
+    drop(list);
+    made.expect(rt, "segments");
 }
 
-/// The segments begin with the heaviest, and their rows have the impacts of the list.
-fn check_impacts(rt: &impl Abort, alloc: Global, segments: &ListSegments) {
-    assert!(rt; begin_with_the_heaviest(segments));
+/// Whether the rows of the segments have the impacts of the list.
+fn has_impacts(rt: &impl Abort, alloc: Global, segments: &ListSegments) -> bool {
     let rows = segments.to_rows(alloc).expect(rt, "memory");
-    assert!(rt; are_impacts(rows.as_slice()));
+    let impacts = are_impacts(rows.as_slice());
+    drop(rows);
+    impacts
 }
 
+/// Whether the segments begin with the heaviest.
 fn begin_with_the_heaviest(segments: &ListSegments) -> bool {
     if segments.len() != 3 {
         return false;
@@ -273,21 +351,26 @@ fn is_single(segment: &Segment, impact: u16, doc: u32) -> bool {
     }
 }
 
-/// Whether the list makes so many segments in a range up to 9, or is refused so.
-fn makes(
+/// How many segments the list makes in a range up to 9, or why none.
+fn made(
     rt: &impl Abort,
     alloc: Global,
     least: u64,
     tf: u32,
-    answer: Result<usize, SegmentsFault>,
-) -> bool
+) -> Result<usize, SegmentsFault>
     requires { (1 ≤ tf) × (tf < 2 ^ 31) }
 {
     let list = three(rt, alloc, tf);
     let range = Range { least, greatest: 9 };
-    match segments_of(alloc, Rule::Tf, Bits::Of(8), range, 15, &list, &[9, 5, 1]) {
-        Ok(segments) => answer == Ok(segments.len()),
-        Err(fault) => answer == Err(fault),
+    let made = segments_of(alloc, Rule::Tf, Bits::Of(8), range, 15, &list, &[9, 5, 1]);
+    drop(list);
+    match made {
+        Ok(segments) => {
+            let count = segments.len();
+            drop(segments);
+            Ok(count)
+        }
+        Err(fault) => Err(fault),
     }
 }
 
@@ -298,7 +381,7 @@ pub(crate) fn segments(rt: &impl Abort, alloc: Global, list: PostingsList) -> Ro
     ensures docs { All (λ (s : Segment). AreDocs 3 s.docs) result }
     ensures once { AllPairs SharesNoDocument result }
 {
-    segments_of(
+    let made = segments_of(
         alloc,
         Rule::Tf,
         Bits::Raw,
@@ -306,8 +389,9 @@ pub(crate) fn segments(rt: &impl Abort, alloc: Global, list: PostingsList) -> Ro
         15,
         &list,
         &[9, 5, 1],
-    )
-    .expect(rt, "segments")
+    );
+    drop(list);
+    made.expect(rt, "segments")
 }
 
 /// The list of a term in three documents, with its frequency in the first.
@@ -338,17 +422,19 @@ fn is_whole(index: &ImpactIndex) -> bool {
 
 fn are_names(names: &[Text]) -> bool {
     match names {
-        [first, second, third] => {
-            first.as_str() == "d" && second.as_str() == "d" && third.as_str() == "d"
-        }
+        [first, second, third] => is_text(first, "d") && is_text(second, "d") && is_text(third, "d"),
         _ => false,
     }
+}
+
+pub(crate) fn is_text(text: &Text, wanted: &str) -> bool {
+    text.as_str() == wanted
 }
 
 /// Whether these are the terms of the index: the one without postings is left out.
 fn are_terms(terms: &[TermSegments]) -> bool {
     match terms {
-        [only] => only.term.as_str() == "a" && are_impacts(only.segments.as_slice()),
+        [only] => is_text(&only.term, "a") && are_impacts(only.segments.as_slice()),
         _ => false,
     }
 }

@@ -3,7 +3,7 @@
 ghost use Rattle.std.specs.Prelude.{◌≡◌, length, map, All, AllPairs, IfOk};
 ghost use Rattle.jass_base.specs.Gaps.{AreDocs};
 ghost use Rattle.jass_base.specs.declared.segment.Segment.{Segment};
-ghost use Rattle.index_write.specs.Streaming.{AreEntries, entry_data};
+ghost use Rattle.index_write.specs.Streaming.{AreEntries, AreNames, entry_data};
 ghost use Rattle.jass_base.specs.Segments.{SharesNoDocument};
 
 use crate::impacts::{indexed, one_document, segments, three};
@@ -95,8 +95,7 @@ const SPELLED: [Spelled<'static>; 3] = [
 
 fn check_spelled(rt: &impl Abort, alloc: Global, rows: &[Spelled<'_>]) {
     for (lists, from, wanted) in rows {
-        let index = indexed(rt, alloc, lists, Rule::Tf, Bits::Raw);
-        assert!(rt; is_spelled(rt, alloc, &index, *from, wanted));
+        assert!(rt; is_spelled(rt, alloc, lists, *from, wanted));
     }
 }
 
@@ -107,8 +106,14 @@ fn small_files_are_spelled(rt: HostRuntime) {
 
 #[test]
 fn totals_are_counted(rt: HostRuntime) {
-    let index = indexed(&rt, rt.alloc(), CAR_CAT_LISTS, Rule::Tf, Bits::Raw);
-    assert!(&rt; totals(&index) == TOTALS_OF_TWO);
+    check_totals(&rt, rt.alloc());
+}
+
+fn check_totals(rt: &impl Abort, alloc: Global) {
+    let index = indexed(rt, alloc, CAR_CAT_LISTS, Rule::Tf, Bits::Raw);
+    let counted = totals(&index);
+    drop(index);
+    assert!(rt; counted == TOTALS_OF_TWO);
 }
 
 /// Which writes fail, what is answered then, and how much of the small file is left; None where the
@@ -121,18 +126,37 @@ const SAVED: [Saved<'static>; 3] = [
     (&[1], Err(SaveFault::WriteFault), Some(0)),
 ];
 
-fn check_saved(rt: &impl Abort, alloc: Global, index: &ImpactIndex, rows: &[Saved<'_>]) {
+fn check_saved(rt: &impl Abort, alloc: Global, rows: &[Saved<'_>]) {
     for (bad, answer, left) in rows {
-        let mut files = older(rt, alloc, bad);
-        let written = write_index(alloc, index, &mut files, "i");
-        assert!(rt; written == *answer && is_left(&files, *left));
+        assert!(rt; is_saved(rt, alloc, bad, *answer, *left));
     }
+}
+
+fn is_saved(
+    rt: &impl Abort,
+    alloc: Global,
+    bad: &[u64],
+    answer: Result<(), SaveFault>,
+    left: Option<usize>,
+) -> bool {
+    let mut files = older(rt, alloc, bad);
+    let written = saved(rt, alloc, &mut files);
+    let kept = is_left(&files, left);
+    drop(files);
+    kept && written == answer
+}
+
+/// What writing the index of the small file answers.
+fn saved(rt: &impl Abort, alloc: Global, files: &mut MemCabinet) -> Result<(), SaveFault> {
+    let index = indexed(rt, alloc, SMALL_LISTS, Rule::Tf, Bits::Raw);
+    let written = write_index(alloc, &index, files, "i");
+    drop(index);
+    written
 }
 
 #[test]
 fn files_are_written_or_left(rt: HostRuntime) {
-    let index = indexed(&rt, rt.alloc(), SMALL_LISTS, Rule::Tf, Bits::Raw);
-    check_saved(&rt, rt.alloc(), &index, &SAVED);
+    check_saved(&rt, rt.alloc(), &SAVED);
 }
 
 #[test]
@@ -142,9 +166,22 @@ fn heads_are_made(rt: HostRuntime) {
 
 /// The heads of the segments of the term `a`.
 fn check_heads(rt: &impl Abort, alloc: Global) {
+    assert!(rt; are_made(rt, alloc, &HEADS));
+}
+
+/// Whether these are the heads.
+fn are_made(rt: &impl Abort, alloc: Global, wanted: &[PayloadHead]) -> bool {
+    let heads = heads_of_three(rt, alloc);
+    let same = heads.as_slice() == wanted;
+    drop(heads);
+    same
+}
+
+fn heads_of_three(rt: &impl Abort, alloc: Global) -> Row<PayloadHead> {
     let segments = segments(rt, alloc, three(rt, alloc, 9));
-    let heads = payload_heads(alloc, segments.as_slice(), 3).expect(rt, "heads");
-    assert!(rt; heads.as_slice() == HEADS.as_slice());
+    let made = payload_heads(alloc, segments.as_slice(), 3);
+    drop(segments);
+    made.expect(rt, "heads")
 }
 
 /// The same for a file that is written term by term.
@@ -159,11 +196,34 @@ const STREAMED: [Streamed<'static>; 4] = [
 
 fn check_streamed(rt: &impl Abort, alloc: Global, rows: &[Streamed<'_>]) {
     for (bad, answer, left) in rows {
-        let segments = segments(rt, alloc, three(rt, alloc, 9));
-        let mut files = older(rt, alloc, bad);
-        let written = streamed(rt, alloc, &segments, &mut files);
-        assert!(rt; written == *answer && is_left(&files, *left));
+        assert!(rt; is_streamed(rt, alloc, bad, *answer, *left));
     }
+}
+
+fn is_streamed(
+    rt: &impl Abort,
+    alloc: Global,
+    bad: &[u64],
+    answer: Result<Totals, TermFault>,
+    left: Option<usize>,
+) -> bool {
+    let mut files = older(rt, alloc, bad);
+    let written = streamed_three(rt, alloc, &mut files);
+    let kept = is_left(&files, left);
+    drop(files);
+    kept && written == answer
+}
+
+/// What writing the file with the segments of the three documents answers.
+fn streamed_three(
+    rt: &impl Abort,
+    alloc: Global,
+    files: &mut MemCabinet,
+) -> Result<Totals, TermFault> {
+    let segments = segments(rt, alloc, three(rt, alloc, 9));
+    let written = streamed(rt, alloc, &segments, files);
+    drop(segments);
+    written
 }
 
 #[test]
@@ -183,10 +243,22 @@ const JOINED: [Joined<'static>; 4] = [
 
 fn check_joined(rt: &impl Abort, alloc: Global, rows: &[Joined<'_>]) {
     for (bad, answer, left) in rows {
-        let mut files = older(rt, alloc, bad);
-        let written = joined(rt, alloc, &mut files);
-        assert!(rt; written == *answer && is_left(&files, *left));
+        assert!(rt; is_joined(rt, alloc, bad, *answer, *left));
     }
+}
+
+fn is_joined(
+    rt: &impl Abort,
+    alloc: Global,
+    bad: &[u64],
+    answer: Result<Totals, SaveFault>,
+    left: Option<usize>,
+) -> bool {
+    let mut files = older(rt, alloc, bad);
+    let written = joined(rt, alloc, &mut files);
+    let kept = is_left(&files, left);
+    drop(files);
+    kept && written == answer
 }
 
 #[test]
@@ -208,15 +280,21 @@ const PUT: [Put<'static>; 5] = [
 
 fn check_put(rt: &impl Abort, alloc: Global, rows: &[Put<'_>]) {
     for (bad, failed, len) in rows {
-        let mut files = older(rt, alloc, bad);
-        assert!(rt; fails_to_put(rt, alloc, &mut files) == *failed);
-        assert!(rt; length_left(&files) == Some(*len));
+        assert!(rt; is_put(rt, alloc, bad, *failed, *len));
     }
+}
+
+fn is_put(rt: &impl Abort, alloc: Global, bad: &[u64], failed: bool, len: usize) -> bool {
+    let mut files = older(rt, alloc, bad);
+    let fails = fails_to_put(rt, alloc, &mut files);
+    let left = has_length(&files, len);
+    drop(files);
+    left && fails == failed
 }
 
 /// Whether a file of the two names can't be begun: all that stands before its payloads isn't written.
 fn fails_to_put(rt: &impl Abort, alloc: Global, files: &mut MemCabinet) -> bool {
-    let ImpactIndex { names, .. } = long_and_short(rt, alloc);
+    let names = names_of(long_and_short(rt, alloc));
     IndexWriter::new(alloc, names, Row::new(alloc), files, "i").is_err()
 }
 
@@ -232,23 +310,35 @@ fn other_segments_are_refused(rt: HostRuntime) {
 
 /// One segment on three heads is refused, and the file left with its front.
 fn check_one_segment(rt: &impl Abort, alloc: Global) {
-    let segments = segments(rt, alloc, one_document(rt, alloc));
     let mut files = MemCabinet::new(alloc, Row::new(alloc), Row::new(alloc));
-    let written = streamed(rt, alloc, &segments, &mut files);
-    assert!(rt; written == Err(TermFault::Changed { kept: 3, found: 1 }));
-    assert!(rt; is_left(&files, Some(100)));
+    let written = streamed_one(rt, alloc, &mut files);
+    let kept = is_left(&files, Some(100));
+    drop(files);
+    assert!(rt; kept && written == Err(TermFault::Changed { kept: 3, found: 1 }));
 }
 
-/// Whether the bytes of an index, from a place on, are these.
-fn is_spelled(
-    rt: &impl Abort,
-    alloc: Global,
-    index: &ImpactIndex,
-    from: usize,
-    wanted: &[u8],
-) -> bool {
-    let bytes = index_bytes(alloc, index).expect(rt, "bytes");
-    from <= bytes.len() && &bytes.as_slice()[from..] == wanted
+/// What writing the file with the one segment answers.
+fn streamed_one(rt: &impl Abort, alloc: Global, files: &mut MemCabinet) -> Result<Totals, TermFault> {
+    let segments = segments(rt, alloc, one_document(rt, alloc));
+    let written = streamed(rt, alloc, &segments, files);
+    drop(segments);
+    written
+}
+
+/// Whether the bytes of the index of a collection, from a place on, are these.
+fn is_spelled(rt: &impl Abort, alloc: Global, lists: &[u8], from: usize, wanted: &[u8]) -> bool {
+    let bytes = spelled(rt, alloc, lists);
+    let same = from <= bytes.len() && &bytes.as_slice()[from..] == wanted;
+    drop(bytes);
+    same
+}
+
+/// The bytes of the index of a collection.
+fn spelled(rt: &impl Abort, alloc: Global, lists: &[u8]) -> Row<u8> {
+    let index = indexed(rt, alloc, lists, Rule::Tf, Bits::Raw);
+    let bytes = index_bytes(alloc, &index);
+    drop(index);
+    bytes.expect(rt, "bytes")
 }
 
 /// A cabinet with an older file, where these writes fail.
@@ -262,10 +352,16 @@ fn older(rt: &impl Abort, alloc: Global, bad: &[u64]) -> MemCabinet {
 
 /// Whether so much of the small file is left, or the older one.
 fn is_left(files: &MemCabinet, left: Option<usize>) -> bool {
-    match (files.content("i"), left) {
-        (Some(content), Some(len)) => content.len() == len && SMALL.starts_with(content),
-        (Some(content), None) => content == b"old".as_slice(),
-        (None, _) => false,
+    match files.content("i") {
+        Some(content) => is_content(content, left),
+        None => false,
+    }
+}
+
+fn is_content(content: &[u8], left: Option<usize>) -> bool {
+    match left {
+        Some(len) => content.len() == len && SMALL.starts_with(content),
+        None => content == b"old".as_slice(),
     }
 }
 
@@ -274,7 +370,11 @@ fn joined(rt: &impl Abort, alloc: Global, files: &mut MemCabinet) -> Result<Tota
     let names = spelled_names(rt, alloc);
     let terms = spelled_terms(rt, alloc);
     let payloads = one_block(rt, alloc);
-    write_parts(alloc, &names, &terms, &payloads, files, "i")
+    let written = write_parts(alloc, &names, &terms, &payloads, files, "i");
+    drop(payloads);
+    drop(terms);
+    drop(names);
+    written
 }
 
 /// The term `a` with its heads.
@@ -328,9 +428,16 @@ fn begun(rt: &impl Abort, alloc: Global, files: &mut MemCabinet) -> Result<Index
     ensures docs { IfOk result (λ writer. writer.docs ≡ 3) }
     ensures left { IfOk result (λ writer. writer.left ≡ 1) }
 {
-    let ImpactIndex { names, .. } = indexed(rt, alloc, SMALL_LISTS, Rule::Tf, Bits::Raw);
+    let names = names_of(indexed(rt, alloc, SMALL_LISTS, Rule::Tf, Bits::Raw));
     assert!(rt; names.len() == 3);
     IndexWriter::new(alloc, names, kept_terms(rt, alloc), files, "i")
+}
+
+/// The names of an index's documents.
+fn names_of(index: ImpactIndex) -> Row<Text>
+    ensures { AreNames result }
+{
+    index.names
 }
 
 /// The term `a` with its heads.
@@ -362,18 +469,29 @@ fn head(impact: u16) -> PayloadHead
     }
 }
 
-fn length_left(files: &MemCabinet) -> Option<usize> {
-    let content = files.content("i")?;
-    Some(content.len())
+/// Whether a file of so many bytes is left.
+fn has_length(files: &MemCabinet, len: usize) -> bool {
+    match files.content("i") {
+        Some(content) => content.len() == len,
+        None => false,
+    }
 }
 
 /// Two documents, whose names have 70,000 bytes and two.
 fn long_and_short(rt: &impl Abort, alloc: Global) -> ImpactIndex {
+    let bytes = long_and_short_lists(rt, alloc);
+    let index = indexed(rt, alloc, bytes.as_slice(), Rule::Tf, Bits::Raw);
+    drop(bytes);
+    index
+}
+
+/// The collection of these documents.
+fn long_and_short_lists(rt: &impl Abort, alloc: Global) -> Row<u8> {
     let mut bytes = Row::new(alloc);
     bytes
         .extend(b"\x02\x18\x02\xf4\xa2\x04\x12\xf0\xa2\x04")
         .expect(rt, "memory");
     bytes.extend(&[b'x'; 70_000]).expect(rt, "memory");
     bytes.extend(b"\x06\x08\x01\x12\x02ab").expect(rt, "memory");
-    indexed(rt, alloc, bytes.as_slice(), Rule::Tf, Bits::Raw)
+    bytes
 }
