@@ -47,7 +47,11 @@ pub(crate) fn accepted(rt: &impl Abort, alloc: Global, bytes: &[u8]) -> IndexFil
 /// The refusal's number and place; 0 at the number of documents for a file that is accepted.
 fn answer(opened: Result<IndexFile, OpenFault>) -> (u32, u64) {
     match opened {
-        Ok(file) => (0, u64::from(file.totals().docs)),
+        Ok(file) => {
+            let docs = u64::from(file.totals().docs);
+            drop(file);
+            (0, docs)
+        }
         Err(fault) => told(fault),
     }
 }
@@ -61,53 +65,66 @@ fn told(fault: OpenFault) -> (u32, u64) {
     }
 }
 
-/// The sum over all segments of impact times the first document and one, each read in both ways; None
-/// where these differ.
-fn weighed<L: Ledger>(file: &IndexFile, blank: Blank) -> Option<u32>
+/// The sum over all segments of impact times the first document and one, each read in both ways; 1,000
+/// for a segment where these differ.
+fn weighed<L: Ledger>(file: &IndexFile, blank: Blank) -> u32
     requires name { blank.name ≡ L.name }
     requires parts { blank.parts ≡ L.parts }
     requires some { 0 < blank.parts }
 {
     let mut steps = Steps::<L>::new(blank);
-    let mut sum = 0u32;
-    for t in 0..file.terms() {
-        sum = sum.wrapping_add(weight_of_term(file, t, &mut steps)?);
-    }
-    Some(sum)
+    let sum = weight_of_terms(file, &mut steps);
+    drop(steps);
+    sum
 }
 
 /// The same with a fresh ledger.
-fn weight(file: &IndexFile) -> Option<u32> {
+fn weight(file: &IndexFile) -> u32 {
     weighed::<Brand>(file, Blank::new(1))
 }
 
-fn weight_of_term<L: Ledger>(file: &IndexFile, t: u32, steps: &mut Steps<L>) -> Option<u32> {
+fn weight_of_terms<L: Ledger>(file: &IndexFile, steps: &mut Steps<L>) -> u32 {
     let mut sum = 0u32;
-    for s in 0..file.segments(t) {
-        sum = sum.wrapping_add(weight_of_segment(file, t, s, steps)?);
+    for t in 0..file.terms() {
+        sum = sum.wrapping_add(weight_of_term(file, t, steps));
     }
-    Some(sum)
+    sum
 }
 
-fn weight_of_segment<L: Ledger>(
-    file: &IndexFile,
-    t: u32,
-    s: u32,
-    steps: &mut Steps<L>,
-) -> Option<u32> {
+fn weight_of_term<L: Ledger>(file: &IndexFile, t: u32, steps: &mut Steps<L>) -> u32 {
+    let mut sum = 0u32;
+    for s in 0..file.segments(t) {
+        sum = sum.wrapping_add(weight_of_segment(file, t, s, steps));
+    }
+    sum
+}
+
+fn weight_of_segment<L: Ledger>(file: &IndexFile, t: u32, s: u32, steps: &mut Steps<L>) -> u32 {
     if t >= file.terms() || s >= file.segments(t) {
-        return None;
+        return 1_000;
     }
     let head = file.head(t, s);
+    if head.count != 1 {
+        return 1_000;
+    }
+    let first = file.first_doc(t, s, steps);
+    if first_of_block(file, t, s, steps) != first {
+        return 1_000;
+    }
+    u32::from(head.impact).wrapping_mul(first.wrapping_add(1))
+}
+
+/// The document of a segment, as its only block gives it; the greatest number where that has others.
+fn first_of_block<L: Ledger>(file: &IndexFile, t: u32, s: u32, steps: &mut Steps<L>) -> u32 {
+    if t >= file.terms() || s >= file.segments(t) {
+        return u32::MAX;
+    }
     let mut cursor = file.cursor(t, s);
     let mut block = [0u32; 128];
-    if file.next_block(&mut cursor, &mut block, steps) != 1 {
-        return None;
+    match file.next_block(&mut cursor, &mut block, steps) {
+        1 => block[0],
+        _ => u32::MAX,
     }
-    if head.count != 1 || file.first_doc(t, s, steps) != block[0] {
-        return None;
-    }
-    Some(u32::from(head.impact).wrapping_mul(block[0].wrapping_add(1)))
 }
 
 const TOTALS: Totals = Totals {
@@ -129,8 +146,12 @@ const FOUND: [(&[u8], Option<u32>); 3] = [(b"a", Some(0)), (b"b", None), (b"", N
 
 fn check_found(rt: &impl Abort, file: &IndexFile, rows: &[(&[u8], Option<u32>)]) {
     for (term, number) in rows {
-        assert!(rt; file.find(term) == *number);
+        assert!(rt; is_found(file, term, *number));
     }
+}
+
+fn is_found(file: &IndexFile, term: &[u8], number: Option<u32>) -> bool {
+    file.find(term) == number
 }
 
 fn has_term(file: &IndexFile) -> bool {
@@ -143,16 +164,17 @@ fn has_names(file: &IndexFile) -> bool {
 
 fn check_seen(rt: &impl Abort, alloc: Global) {
     let file = accepted(rt, alloc, &FILE);
-    check_parts(rt, &file);
+    assert!(rt; is_seen(&file));
     check_found(rt, &file, &FOUND);
+    drop(file);
 }
 
-fn check_parts(rt: &impl Abort, file: &IndexFile) {
-    assert!(rt; file.totals() == TOTALS);
-    assert!(rt; file.codecs() == CODECS);
-    assert!(rt; weight(file) == Some(22));
-    assert!(rt; has_term(file));
-    assert!(rt; has_names(file));
+fn is_seen(file: &IndexFile) -> bool {
+    file.totals() == TOTALS
+        && file.codecs() == CODECS
+        && weight(file) == 22
+        && has_term(file)
+        && has_names(file)
 }
 
 #[test]
@@ -164,19 +186,30 @@ fn a_file_is_seen(rt: HostRuntime) {
 const BITS: [(u32, Option<&[u8]>); 3] = [(0, Some(&[1])), (1, None), (2, None)];
 
 /// The file, where the first segment of the term is a bitmap.
-fn check_bitmap(rt: &impl Abort, alloc: Global) {
+fn with_bitmap() -> [u8; 103] {
     let mut bytes = changed(73, 2);
     bytes[100] = 1;
-    let file = accepted(rt, alloc, &bytes);
+    bytes
+}
+
+fn check_bitmap(rt: &impl Abort, alloc: Global) {
+    let file = accepted(rt, alloc, &with_bitmap());
     assert!(rt; file.codecs().bitmap == 1);
     check_bits(rt, &file, &BITS);
+    drop(file);
 }
 
 fn check_bits(rt: &impl Abort, file: &IndexFile, rows: &[(u32, Option<&[u8]>)]) {
     for (segment, bits) in rows {
-        assert!(rt; file.terms() == 1 && file.segments(0) == 3 && *segment < 3);
-        assert!(rt; file.bits(0, *segment) == *bits);
+        assert!(rt; has_bits(file, *segment, *bits));
     }
+}
+
+fn has_bits(file: &IndexFile, segment: u32, bits: Option<&[u8]>) -> bool {
+    if file.terms() != 1 || file.segments(0) != 3 || segment >= 3 {
+        return false;
+    }
+    file.bits(0, segment) == bits
 }
 
 #[test]
@@ -195,17 +228,33 @@ const CHANGED: [(usize, u8, u32, u64); 5] = [
 
 fn check_changed(rt: &impl Abort, alloc: Global, rows: &[(usize, u8, u32, u64)]) {
     for (place, byte, number, at) in rows {
-        assert!(rt; *place < 103);
-        let (found, there) = answer_by_name(rt, alloc, &changed(*place, *byte));
-        assert!(rt; found == *number && there == *at);
+        assert!(rt; answers_changed(rt, alloc, *place, *byte, *number, *at));
     }
+}
+
+/// Whether this is the answer for the file with one byte changed.
+fn answers_changed(
+    rt: &impl Abort,
+    alloc: Global,
+    place: usize,
+    byte: u8,
+    number: u32,
+    at: u64,
+) -> bool {
+    if place >= 103 {
+        return false;
+    }
+    answer_by_name(rt, alloc, &changed(place, byte)) == (number, at)
 }
 
 #[test]
 fn changed_files_are_refused(rt: HostRuntime) {
-    let alloc = rt.alloc();
-    check_changed(&rt, alloc, &CHANGED);
-    assert!(&rt; answer(opened(&rt, alloc, &FILE[..102])) == (41, 8));
+    check_changed(&rt, rt.alloc(), &CHANGED);
+    check_short(&rt, rt.alloc());
+}
+
+fn check_short(rt: &impl Abort, alloc: Global) {
+    assert!(rt; answer(opened(rt, alloc, &FILE[..102])) == (41, 8));
 }
 
 /// The file of one document, whose name has 1 MiB and so many bytes more, and of no term.
@@ -213,12 +262,16 @@ fn named(rt: &impl Abort, alloc: Global, more: u8) -> Row<u8> {
     let mut row = Row::new(alloc);
     row.extend(&front_of_named(1_048_576 + u32::from(more)))
         .expect(rt, "memory");
-    for _ in 0..256 {
-        row.extend(&[b'n'; 4096]).expect(rt, "memory");
-    }
+    put_mebibyte(rt, &mut row);
     row.extend(&[b'n'; 256][..more as usize])
         .expect(rt, "memory");
     row
+}
+
+fn put_mebibyte(rt: &impl Abort, row: &mut Row<u8>) {
+    for _ in 0..256 {
+        row.extend(&[b'n'; 4096]).expect(rt, "memory");
+    }
 }
 
 /// What stands before a name of so many bytes.
@@ -240,22 +293,40 @@ fn answer_named(rt: &impl Abort, alloc: Global, more: u8) -> (u32, u64) {
 
 #[test]
 fn a_name_has_a_mebibyte_at_the_most(rt: HostRuntime) {
-    let alloc = rt.alloc();
-    assert!(&rt; answer_named(&rt, alloc, 0) == (0, 1));
-    assert!(&rt; answer_named(&rt, alloc, 1) == (42, 40));
+    check_named(&rt, rt.alloc(), &NAMED);
 }
 
-/// The answer for bytes that are kept in a cabinet, where opening the file and checking it by pieces
-/// answer the same.
+/// How many bytes more the name has, and the answer for its file.
+const NAMED: [(u8, (u32, u64)); 2] = [(0, (0, 1)), (1, (42, 40))];
+
+fn check_named(rt: &impl Abort, alloc: Global, rows: &[(u8, (u32, u64))]) {
+    for (more, wanted) in rows {
+        assert!(rt; answer_named(rt, alloc, *more) == *wanted);
+    }
+}
+
+/// The answer for bytes that are kept in a cabinet.
 fn answer_by_name(rt: &impl Abort, alloc: Global, bytes: &[u8]) -> (u32, u64) {
     let mut files = MemCabinet::new(alloc, Row::new(alloc), Row::new(alloc));
     files.store("i.jass", bytes).expect(rt, "memory");
-    let opened = answer(open(alloc, &mut files, "i.jass"));
-    let checked = match check_file(alloc, &mut files, "i.jass") {
+    let answer = answer_of_both(alloc, &mut files, "i.jass");
+    drop(files);
+    answer
+}
+
+/// The answer for a file of a cabinet, where opening it and checking it by pieces answer the same.
+fn answer_of_both(alloc: Global, files: &mut MemCabinet, name: &str) -> (u32, u64) {
+    let opened = answer(open(alloc, files, name));
+    let checked = answer_of_check(check_file(alloc, files, name));
+    if opened == checked { opened } else { (3, 0) }
+}
+
+/// The answer of a check.
+fn answer_of_check(checked: Result<Totals, OpenFault>) -> (u32, u64) {
+    match checked {
         Ok(totals) => (0, u64::from(totals.docs)),
         Err(fault) => told(fault),
-    };
-    if opened == checked { opened } else { (3, 0) }
+    }
 }
 
 /// The answer for so many bytes of the file.
@@ -303,8 +374,12 @@ fn cut_files_are_refused_where_a_part_does_not_fit(rt: HostRuntime) {
 
 #[test]
 fn a_missing_file_is_a_read_fault(rt: HostRuntime) {
-    let alloc = rt.alloc();
+    check_missing(&rt, rt.alloc());
+}
+
+fn check_missing(rt: &impl Abort, alloc: Global) {
     let mut files = MemCabinet::new(alloc, Row::new(alloc), Row::new(alloc));
-    assert!(&rt; answer(open(alloc, &mut files, "none")) == (1, 0));
-    assert!(&rt; check_file(alloc, &mut files, "none") == Err(OpenFault::ReadFault));
+    let answer = answer_of_both(alloc, &mut files, "none");
+    drop(files);
+    assert!(rt; answer == (1, 0));
 }

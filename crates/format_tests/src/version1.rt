@@ -2,7 +2,7 @@
 
 use index_layout::{OpenWhy, refused};
 use index_version1::read_version1;
-use jass_base::{ImpactIndex, PayloadFault};
+use jass_base::{ImpactIndex, PayloadFault, TermSegments, Text};
 use std::alloc::Global;
 use std::process::Abort;
 
@@ -15,8 +15,14 @@ const SMALL: [u8; 105] = [
 
 #[test]
 fn the_small_file_is_read(rt: HostRuntime) {
-    let index = read_version1(rt.alloc(), &SMALL);
-    assert!(&rt; index.is_ok_and(|index| is_small(&index)));
+    check_small(&rt, rt.alloc());
+}
+
+fn check_small(rt: &impl Abort, alloc: Global) {
+    let index = read_version1(alloc, &SMALL).expect(rt, "an index");
+    let small = is_small(&index);
+    drop(index);
+    assert!(rt; small);
 }
 
 /// A place and its new byte, and where the file is refused then, and why.
@@ -87,14 +93,18 @@ fn place_of_cut(count: usize) -> usize {
 }
 
 fn is_small(index: &ImpactIndex) -> bool {
-    let names = index.names.as_slice();
-    let terms = index.terms.as_slice();
-    names.len() == 3
-        && names[2].as_str() == "d2"
-        && terms.len() == 1
-        && terms[0].term.as_str() == "a"
-        && terms[0].segments.len() == 3
-        && index.greatest == 9
+    has_names(index.names.as_slice()) && has_term(index.terms.as_slice()) && index.greatest == 9
+}
+
+fn has_names(names: &[Text]) -> bool {
+    names.len() == 3 && names[2].as_str() == "d2"
+}
+
+fn has_term(terms: &[TermSegments]) -> bool {
+    match terms {
+        [only] => only.term.as_str() == "a" && only.segments.len() == 3,
+        _ => false,
+    }
 }
 
 /// Whether so many bytes of the file, with this byte at a place, are refused so.
@@ -111,8 +121,5 @@ fn is_refused(
         return false;
     }
     bytes[place] = byte;
-    match read_version1(alloc, &bytes[..count]) {
-        Ok(_) => false,
-        Err(fault) => fault == refused(at, why),
-    }
+    read_version1(alloc, &bytes[..count]).err() == Some(refused(at, why))
 }
