@@ -37,7 +37,10 @@ const EXPORT: [u8; 56] = [
 fn is_written(rt: &impl Abort, alloc: Global, file: &[u8], canonical: &[u8]) -> bool {
     let collection = read_collection(alloc, file).expect(rt, "a collection");
     let mut sink = MemSink::new(alloc, Row::new(alloc));
-    write_collection(&collection, &mut sink).is_ok() && sink.written() == canonical
+    let written = write_collection(&collection, &mut sink).is_ok() && sink.written() == canonical;
+    drop(sink);
+    drop(collection);
+    written
 }
 
 /// Whether the write of a collection fails where the first put does, with nothing put.
@@ -46,7 +49,10 @@ fn fails(rt: &impl Abort, alloc: Global, file: &[u8]) -> bool {
     let mut bad = Row::new(alloc);
     bad.extend(&[0]).expect(rt, "memory");
     let mut sink = MemSink::new(alloc, bad);
-    write_collection(&collection, &mut sink).is_err() && sink.written().is_empty()
+    let fails = write_collection(&collection, &mut sink).is_err() && sink.written().is_empty();
+    drop(sink);
+    drop(collection);
+    fails
 }
 
 /// Files, each with what is written of it.
@@ -65,9 +71,12 @@ fn check_written(rt: &impl Abort, alloc: Global, files: &[(&[u8], &[u8])]) {
 
 #[test]
 fn collections_are_written(rt: HostRuntime) {
-    let alloc = rt.alloc();
-    check_written(&rt, alloc, &FILES);
-    assert!(&rt; fails(&rt, alloc, &FILE));
+    check_written(&rt, rt.alloc(), &FILES);
+    check_failed(&rt, rt.alloc());
+}
+
+fn check_failed(rt: &impl Abort, alloc: Global) {
+    assert!(rt; fails(rt, alloc, &FILE));
 }
 
 /// A number as a varint of three bytes.
@@ -113,8 +122,13 @@ fn put_documents(rt: &impl Abort, bytes: &mut Row<u8>, docs: u32) {
 fn is_spelled(rt: &impl Abort, alloc: Global, gap: u32, tf: u32, field: &[u8]) -> bool {
     let file = file_of_one_posting(rt, alloc, gap, tf);
     let collection = read_collection(alloc, file.as_slice()).expect(rt, "a collection");
+    drop(file);
     let mut sink = MemSink::new(alloc, Row::new(alloc));
-    write_collection(&collection, &mut sink).is_ok() && begins_with(sink.written(), field)
+    let spelled =
+        write_collection(&collection, &mut sink).is_ok() && begins_with(sink.written(), field);
+    drop(sink);
+    drop(collection);
+    spelled
 }
 
 /// Whether the message behind the header begins with the field, and is counted so.

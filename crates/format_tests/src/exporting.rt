@@ -78,9 +78,11 @@ fn exports<L: Ledger>(
 {
     match exported::<L>(alloc, index, blank) {
         Some(collection) => {
-            has_list(&collection, postings, terms)
+            let exports = has_list(&collection, postings, terms)
                 && has_header(&collection, docs, terms)
-                && collection.docs.len() == docs as usize
+                && collection.docs.len() == docs as usize;
+            drop(collection);
+            exports
         }
         None => false,
     }
@@ -96,7 +98,9 @@ fn is_exported(
     postings: &[Posting],
 ) -> bool {
     let index = accepted(rt, alloc, bytes);
-    exports::<Brand>(alloc, &index, Blank::new(1), docs, terms, postings)
+    let exports = exports::<Brand>(alloc, &index, Blank::new(1), docs, terms, postings);
+    drop(index);
+    exports
 }
 
 const FALLING: [Posting; 3] = [
@@ -113,7 +117,10 @@ const SORTED: [Posting; 3] = [
 
 #[test]
 fn lists_are_exported_by_rising_document(rt: HostRuntime) {
-    let alloc = rt.alloc();
-    assert!(&rt; is_exported(&rt, alloc, &RISING, 3, 15, &FALLING));
-    assert!(&rt; is_exported(&rt, alloc, &CROSSING, 6, 5, &SORTED));
+    check_exported(&rt, rt.alloc());
+}
+
+fn check_exported(rt: &impl Abort, alloc: Global) {
+    assert!(rt; is_exported(rt, alloc, &RISING, 3, 15, &FALLING));
+    assert!(rt; is_exported(rt, alloc, &CROSSING, 6, 5, &SORTED));
 }
