@@ -423,10 +423,12 @@ fn again(walk: &mut CiffWalk, files: &mut Switched<'_>, at: u64) -> Answer
 fn changes(fault: CiffFault) -> Answer {
     let (number, at, _) = numbers(fault);
     match fault {
-        CiffFault::Refused(CiffRefusal {
-            why: CiffWhy::Changed { kept, found },
-            ..
-        }) => (number, at, kept, found),
+        CiffFault::Refused(
+            CiffRefusal {
+                why: CiffWhy::Changed { kept, found },
+                ..
+            },
+        ) => (number, at, kept, found),
         _ => (number, at, 0, 0),
     }
 }
@@ -521,7 +523,10 @@ fn fault_after(alloc: Global, reads: u32) -> (u32, bool) {
 /// The same for a walk that was opened.
 fn fault_of_walk(walk: &mut CiffWalk, files: &mut Switched<'_>) -> (u32, bool) {
     match read_all(walk, files) {
-        Some(at) => (3, answers_twice(walk, files, at, (5, 0, 0, 0), (5, 0, 0, 0))),
+        Some(at) => (
+            3,
+            answers_twice(walk, files, at, (5, 0, 0, 0), (5, 0, 0, 0)),
+        ),
         None => (2, piece(walk, files) == (5, 0, 0)),
     }
 }

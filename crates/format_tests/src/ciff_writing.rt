@@ -124,8 +124,8 @@ fn is_spelled(rt: &impl Abort, alloc: Global, gap: u32, tf: u32, field: &[u8]) -
     let collection = read_collection(alloc, file.as_slice()).expect(rt, "a collection");
     drop(file);
     let mut sink = MemSink::new(alloc, Row::new(alloc));
-    let spelled =
-        write_collection(&collection, &mut sink).is_ok() && begins_with(sink.written(), field);
+    let spelled = write_collection(&collection, &mut sink).is_ok()
+        && begins_with(sink.written(), field);
     drop(sink);
     drop(collection);
     spelled

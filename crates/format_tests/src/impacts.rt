@@ -352,12 +352,7 @@ fn is_single(segment: &Segment, impact: u16, doc: u32) -> bool {
 }
 
 /// How many segments the list makes in a range up to 9, or why none.
-fn made(
-    rt: &impl Abort,
-    alloc: Global,
-    least: u64,
-    tf: u32,
-) -> Result<usize, SegmentsFault>
+fn made(rt: &impl Abort, alloc: Global, least: u64, tf: u32) -> Result<usize, SegmentsFault>
     requires { (1 ≤ tf) × (tf < 2 ^ 31) }
 {
     let list = three(rt, alloc, tf);
@@ -422,12 +417,14 @@ fn is_whole(index: &ImpactIndex) -> bool {
 
 fn are_names(names: &[Text]) -> bool {
     match names {
-        [first, second, third] => is_text(first, "d") && is_text(second, "d") && is_text(third, "d"),
+        [first, second, third] => is_text(first, "d")
+            && is_text(second, "d")
+            && is_text(third, "d"),
         _ => false,
     }
 }
 
-pub(crate) fn is_text(text: &Text, wanted: &str) -> bool {
+fn is_text(text: &Text, wanted: &str) -> bool {
     text.as_str() == wanted
 }
 

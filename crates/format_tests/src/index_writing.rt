@@ -318,7 +318,11 @@ fn check_one_segment(rt: &impl Abort, alloc: Global) {
 }
 
 /// What writing the file with the one segment answers.
-fn streamed_one(rt: &impl Abort, alloc: Global, files: &mut MemCabinet) -> Result<Totals, TermFault> {
+fn streamed_one(
+    rt: &impl Abort,
+    alloc: Global,
+    files: &mut MemCabinet,
+) -> Result<Totals, TermFault> {
     let segments = segments(rt, alloc, one_document(rt, alloc));
     let written = streamed(rt, alloc, &segments, files);
     drop(segments);
