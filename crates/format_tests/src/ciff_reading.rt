@@ -169,6 +169,7 @@ fn check_texts(rt: &impl Abort, alloc: Global, texts: &[Filled<'_>]) {
     }
 }
 
+/// Whether reading the front of a file, and the letter `a` so often, answers so.
 fn answers_filled(
     rt: &impl Abort,
     alloc: Global,
@@ -229,16 +230,16 @@ fn walks_are_opened(rt: HostRuntime) {
 
 #[test]
 fn a_missing_file_is_a_read_fault(rt: HostRuntime) {
-    assert!(&rt; is_missing(rt.alloc()));
+    assert!(&rt; opening_fails(rt.alloc()));
 }
 
 /// Whether opening a walk over a file that isn't there answers a read fault.
-fn is_missing(alloc: Global) -> bool {
+fn opening_fails(alloc: Global) -> bool {
     let files = MemCabinet::new(alloc, Row::new(alloc), Row::new(alloc));
     fault_of_opening(alloc, files) == Some(CiffFault::ReadFault)
 }
 
-/// Two files under each name, of which one is read, so often without a fault; what they hold isn't told.
+/// Two files under the name `file`, of which one is read, and so many reads go well; what they hold isn't told.
 #[derive(Drop)]
 struct Switched<'a> {
     first: &'a [u8],
@@ -256,8 +257,8 @@ impl<'a> Cabinet for Switched<'a> {
 
     ghost write_faults = { λ s. s.write_faults };
 
-    fn read_at(&mut self, _name: &str, at: u64, buf: &mut [u8]) -> Result<usize, Failed> {
-        if self.reads == 0 {
+    fn read_at(&mut self, name: &str, at: u64, buf: &mut [u8]) -> Result<usize, Failed> {
+        if name != "file" || self.reads == 0 {
             self.read_faults = self.read_faults.saturating_add(1);
             return Err(Failed);
         }
@@ -319,8 +320,8 @@ fn count_back(walk: &mut CiffWalk, list: PostingsList) -> u64
     count
 }
 
-/// The number of a fault, and the place of a refusal. Each number of a refusal is 10 or more; the bound
-/// changes none, and shows that none is that of a piece.
+/// The number of a fault, and the place of a refusal, in the shape of a piece. Each number of a refusal
+/// is 10 or more; the bound changes none, and shows that none is that of a piece.
 fn numbers(fault: CiffFault) -> (u32, u64, u64)
     ensures { 4 < result.0 }
 {
@@ -333,8 +334,7 @@ fn numbers(fault: CiffFault) -> (u32, u64, u64)
 
 /// The next piece: what it is, and two of its numbers; of a refusal its number and place.
 fn piece(walk: &mut CiffWalk, files: &mut Switched<'_>) -> (u32, u64, u64)
-    ensures stays { 3 ≤ result.0 → result.0 ≤ 4 → walk.new.kept ≡ walk.old.kept }
-    ensures given { result.0 ≡ 2 → IsGiven walk.new.kept result.1 }
+    ensures { 3 ≤ result.0 → result.0 ≤ 4 → walk.new.kept ≡ walk.old.kept }
 {
     match walk.next_piece(files) {
         Ok(Piece::Start { lists, docs, .. }) => (1, u64::from(lists), u64::from(docs)),
@@ -379,6 +379,16 @@ fn pieces_come_in_the_order_of_the_file(rt: HostRuntime) {
     check_walk(&rt, rt.alloc());
 }
 
+/// Reads a list, and gives its place. Its postings aren't handed back.
+fn read_list(walk: &mut CiffWalk, files: &mut Switched<'_>) -> Option<u64>
+    ensures { IfSome result (IsGiven walk.new.kept) }
+{
+    let Ok(Piece::List { at, .. }) = walk.next_piece(files) else {
+        return None;
+    };
+    Some(at)
+}
+
 /// Reads three documents' records and the end, and says whether they came.
 fn read_rest(walk: &mut CiffWalk, files: &mut Switched<'_>) -> bool
     ensures { IsTrue result → walk.new.kept ≡ walk.old.kept }
@@ -396,8 +406,8 @@ fn read_all(walk: &mut CiffWalk, files: &mut Switched<'_>) -> Option<u64>
     if piece(walk, files).0 != 1 {
         return None;
     }
-    let (kind, at, _) = piece(walk, files);
-    if kind == 2 && read_rest(walk, files) {
+    let at = read_list(walk, files)?;
+    if read_rest(walk, files) {
         Some(at)
     } else {
         None
@@ -415,12 +425,12 @@ fn again(walk: &mut CiffWalk, files: &mut Switched<'_>, at: u64) -> Answer
 {
     match walk.list_again(files, at) {
         Ok(list) => (2, at, count_back(walk, list), 0),
-        Err(fault) => changes(fault),
+        Err(fault) => fault_again(fault),
     }
 }
 
 /// The number of a fault, and of a refusal its place and the two numbers that differ.
-fn changes(fault: CiffFault) -> Answer {
+fn fault_again(fault: CiffFault) -> Answer {
     let (number, at, _) = numbers(fault);
     match fault {
         CiffFault::Refused(
@@ -579,6 +589,7 @@ fn lists_given(rt: &impl Abort, alloc: Global, terms: &[&str]) -> (u32, (u32, u6
     given
 }
 
+/// The same of a file of these bytes.
 fn lists_of_file(rt: &impl Abort, alloc: Global, file: &[u8]) -> (u32, (u32, u64, u64)) {
     let mut files = two_files(file);
     files.is_second = true;

@@ -65,8 +65,10 @@ fn told(fault: OpenFault) -> (u32, u64) {
     }
 }
 
-/// The sum over all segments of impact times the first document and one, each read in both ways; 1,000
-/// for a segment where these differ.
+/// In place of the weight of a segment whose two readings differ: more than the weight of the whole file.
+const UNLIKE: u32 = 1_000;
+
+/// The sum over all segments of impact times the first document and one, each read in both ways.
 fn weighed<L: Ledger>(file: &IndexFile, blank: Blank) -> u32
     requires name { blank.name ≡ L.name }
     requires parts { blank.parts ≡ L.parts }
@@ -101,15 +103,15 @@ fn weight_of_term<L: Ledger>(file: &IndexFile, t: u32, steps: &mut Steps<L>) -> 
 
 fn weight_of_segment<L: Ledger>(file: &IndexFile, t: u32, s: u32, steps: &mut Steps<L>) -> u32 {
     if t >= file.terms() || s >= file.segments(t) {
-        return 1_000;
+        return UNLIKE;
     }
     let head = file.head(t, s);
     if head.count != 1 {
-        return 1_000;
+        return UNLIKE;
     }
     let first = file.first_doc(t, s, steps);
     if first_of_block(file, t, s, steps) != first {
-        return 1_000;
+        return UNLIKE;
     }
     u32::from(head.impact).wrapping_mul(first.wrapping_add(1))
 }

@@ -1,5 +1,6 @@
--- Why a file was not begun, and what stands then.
+-- What the exits of the calls that begin and continue an index file answer.
 use Rattle.std.proofs.Common.{◌≡◌, ◌<◌, ◌≤◌, ◌⊎◌, ◌*◌, ◌^◌, ℕ, List, length, None, Some, subst, take, Result, Ok, Err, IsErrOf, inl, refl, arith}
+use Rattle.std.proofs.Math.Nat.{le_refl}
 use Rattle.jass_base.specs.Outside.{Rose}
 use Rattle.index_write.specs.declared.change.Change.{Change}
 use Rattle.index_layout.specs.Heads.{TermHeads as EntryData}
@@ -15,12 +16,12 @@ use Rattle.index_write.specs.Saving.{Untouched}
 use Rattle.index_write.specs.Streaming.{Unbegun, change_of, entries_totals}
 use Rattle.jass_base.specs.declared.limits.TheConstants.{LONGEST_FILE, MOST_POSTINGS}
 
--- what is no write fault
+-- what is no fault, or still the same one
 pub none_failed : {T E : Type 0} {x : T} {fault : E} → ¬ (let done : Result T E = Ok x in IsErrOf done fault)
 none_failed is = cc
 
-pub same_fault : {T U E : Type 0} {fault other : E} → (let one : Result T E = Err fault in IsErrOf one other) → (let two : Result U E = Err fault in IsErrOf two other)
-same_fault is = cc
+pub still_fault : {T U E : Type 0} {fault other : E} → (let one : Result T E = Err fault in IsErrOf one other) → (let two : Result U E = Err fault in IsErrOf two other)
+still_fault is = cc
 
 pub changed_unwritten : {T : Type 0} (kept found : ℕ) → ¬ (let refused : Result T TermFault = Err (terms.Changed kept found) in IsErrOf refused terms.WriteFault)
 changed_unwritten kept found is = cc
@@ -49,9 +50,6 @@ untouched_itself files (TooLarge n) = refl
 untouched_itself files WriteFault = tt
 untouched_itself files NoMemory = refl
 
-pub no_less_itself : (n : ℕ) → n ≤ n
-no_less_itself n = omega arith
-
 -- the totals of so many documents, and of the sums over heads
 pub totals_summed : (docs terms postings greatest names : ℕ) (entries : List EntryData) → docs ≡ names → terms ≡ length entries → postings ≡ head_postings entries → greatest ≡ greatest_impact entries
     → (let t : Totals = record { docs = docs; terms = terms; postings = postings; greatest = greatest } in t) ≡ entries_totals names entries
@@ -70,8 +68,8 @@ module _ {C : Type 0} (g : cabinet.Ghosts C) where
     untouched = untouched_itself files fault;
     front = inl refl;
     cause = λ is. absurd (unspelled_unwritten size fault why is);
-    later = no_less_itself (g.write_faults files);
-    others = no_less_itself (g.read_faults files);
+    later = le_refl (g.write_faults files);
+    others = le_refl (g.read_faults files);
   }
 
   pub no_room : {T : Type 0} (files : C) (name text : List ℕ) (size : ℕ) → size ≤ LONGEST_FILE → Begins {T = T} g files files name text size (Err NoMemory)
@@ -110,19 +108,19 @@ module _ {C : Type 0} (g : cabinet.Ghosts C) where
     fault = is;
     untouched = refl;
     cause = λ is. absurd (changed_unwritten change.kept change.found is);
-    later = no_less_itself (g.write_faults files);
-    others = no_less_itself (g.read_faults files);
+    later = le_refl (g.write_faults files);
+    others = le_refl (g.read_faults files);
   }
 
-  pub unroomy : {T : Type 0} (files : C) (name : List ℕ) (kept found : List HeadData) (part : List ℕ) → Continues {T = T} g files files name kept found part (Err terms.NoMemory)
-  unroomy files name kept found part = record {
+  pub not_stored : {T : Type 0} (files : C) (name : List ℕ) (kept found : List HeadData) (part : List ℕ) → Continues {T = T} g files files name kept found part (Err terms.NoMemory)
+  not_stored files name kept found part = record {
     heads = tt;
     content = inl refl;
     fault = tt;
     untouched = refl;
     cause = λ is. absurd (memory_unappended is);
-    later = no_less_itself (g.write_faults files);
-    others = no_less_itself (g.read_faults files);
+    later = le_refl (g.write_faults files);
+    others = le_refl (g.read_faults files);
   }
 
   module _ (old new : C) (name : List ℕ) (kept found : List HeadData) (bytes part : List ℕ) (spelled : bytes ≡ part) (later : g.write_faults old ≤ g.write_faults new) (others : g.read_faults old ≤ g.read_faults new) where
@@ -137,9 +135,9 @@ module _ {C : Type 0} (g : cabinet.Ghosts C) where
       others = others;
     }
 
-    pub discontinued : {T : Type 0} → change_of kept found ≡ None → (g.told new ≡ g.told old) ⊎ ((n : ℕ) × Extends (g.told old) (g.told new) name (take n bytes)) → Rose (g.write_faults old) (g.write_faults new)
+    pub not_appended : {T : Type 0} → change_of kept found ≡ None → (g.told new ≡ g.told old) ⊎ ((n : ℕ) × Extends (g.told old) (g.told new) name (take n bytes)) → Rose (g.write_faults old) (g.write_faults new)
         → Continues {T = T} g old new name kept found part (Err terms.WriteFault)
-    discontinued none put rose = record {
+    not_appended none put rose = record {
       heads = tt;
       content = subst (λ (text : List ℕ). (g.told new ≡ g.told old) ⊎ ((n : ℕ) × Extends (g.told old) (g.told new) name (take n text))) spelled put;
       fault = none;

@@ -66,16 +66,16 @@ no_change numbered kept found none =
     let count = agree (length kept) (length found) (heads_change kept found) none in
     sym (heads_same numbered kept found count.0 count.1)
 
-head_goes_on : (h : HeadData) (later : Option Change) → head_change h h later ≡ later
-head_goes_on h later =
-    let sizes = unless_same h.size h.size later in
-    let codecs = unless_same (codec_number h.codec) (codec_number h.codec) sizes in
-    same_go_on h.impact h.impact (unless_same h.count h.count codecs) refl ∙ same_go_on h.count h.count codecs refl
-    ∙ same_go_on (codec_number h.codec) (codec_number h.codec) sizes refl ∙ same_go_on h.size h.size later refl
+pub head_agrees : (kept found : HeadData) (later : Option Change) → kept.impact ≡ found.impact → kept.count ≡ found.count → codec_number kept.codec ≡ codec_number found.codec → kept.size ≡ found.size → head_change kept found later ≡ later
+head_agrees kept found later impact count codec size =
+    let sizes = unless_same kept.size found.size later in
+    let codecs = unless_same (codec_number kept.codec) (codec_number found.codec) sizes in
+    same_go_on kept.impact found.impact (unless_same kept.count found.count codecs) impact ∙ same_go_on kept.count found.count codecs count
+    ∙ same_go_on (codec_number kept.codec) (codec_number found.codec) sizes codec ∙ same_go_on kept.size found.size later size
 
 heads_go_on : (heads : List HeadData) → heads_change heads heads ≡ None
 heads_go_on [] = refl
-heads_go_on (h ∷ heads) = head_goes_on h (heads_change heads heads) ∙ heads_go_on heads
+heads_go_on (h ∷ heads) = head_agrees h h (heads_change heads heads) refl refl refl refl ∙ heads_go_on heads
 
 pub unchanged : (heads : List HeadData) → change_of heads heads ≡ None
 unfolding change_of
@@ -122,10 +122,3 @@ changes_next d kept segments i k s head here there is made =
     let rest = heads_change (map head_data (drop (i + 1) kept)) (chosen_heads d (map segment_data (drop (i + 1) segments))) in
     ap₂ (λ (hs : List PayloadHead) (ss : List Segment). heads_change (map head_data hs) (chosen_heads d (map segment_data ss))) first (next_at segments segments i s refl there is)
     ∙ ap (λ (found : HeadData). head_change (head_data (get_or kept i k)) found rest) (sym made)
-
-pub head_agrees : (kept found : HeadData) (later : Option Change) → kept.impact ≡ found.impact → kept.count ≡ found.count → codec_number kept.codec ≡ codec_number found.codec → kept.size ≡ found.size → head_change kept found later ≡ later
-head_agrees kept found later impact count codec size =
-    let sizes = unless_same kept.size found.size later in
-    let codecs = unless_same (codec_number kept.codec) (codec_number found.codec) sizes in
-    same_go_on kept.impact found.impact (unless_same kept.count found.count codecs) impact ∙ same_go_on kept.count found.count codecs count
-    ∙ same_go_on (codec_number kept.codec) (codec_number found.codec) sizes codec ∙ same_go_on kept.size found.size later size

@@ -1,20 +1,7 @@
--- A file that is made empty and then written.
+-- A file that is written in parts.
 use Rattle.shared_lemmas.proofs.Common.{◌≡◌, ℕ, ◌+◌, List, [], ◌++◌, length, take, Option, Some, None, inl, inr, sym, ap, subst, ◌∙◌, ◌⊎◌, unwrap_or, insert, min, arith, take_min, take-append-le, take-append-add, take-append_seam}
 use Rattle.index_write.proofs.Below.{Files, Sets, Extends, content_or_empty, get_set, set_twice}
 use Rattle.index_write.specs.Saving.{LeavesPrefix}
-
-pub sets_then : (old mid new : Option Files) (name bytes : List ℕ) → Sets old mid name [] → Extends mid new name bytes → Sets old new name bytes
-sets_then None mid new name bytes made put = subst (λ (m : Option Files). Extends m new name bytes) made put
-sets_then (Some old) None new name bytes made put = absurd made
-sets_then (Some old) (Some mid) None name bytes made put = absurd put
-sets_then (Some old) (Some mid) (Some new) name bytes made put =
-    put ∙ ap (λ (m : Files). insert m name (content_or_empty m name ++ bytes)) made
-    ∙ ap (λ o. insert (insert old name []) name (unwrap_or o [] ++ bytes)) (get_set old name [])
-    ∙ set_twice old name [] bytes
-
-pub prefix_then : (old mid new : Option Files) (name bytes : List ℕ) → Sets old mid name [] → (new ≡ mid) ⊎ ((n : ℕ) × Extends mid new name (take n bytes)) → LeavesPrefix old new name bytes
-prefix_then old mid new name bytes made (inl same) = inr (0, subst (λ (m : Option Files). Sets old m name []) (sym same) made)
-prefix_then old mid new name bytes made (inr (n, put)) = inr (n, sets_then old mid new name (take n bytes) made put)
 
 pub sets_more : (old mid new : Option Files) (name text part : List ℕ) → Sets old mid name text → Extends mid new name part → Sets old new name (text ++ part)
 sets_more None mid new name text part made put = subst (λ (m : Option Files). Extends m new name part) made put

@@ -36,7 +36,7 @@ fn put_all(pieces: &[&[u8]], out: &mut Row<u8>) -> Result<(), NoMemory>
 }
 
 /// Appends the first 40 bytes: magic, length, documents, terms, postings, the greatest impact, zero.
-pub fn put_numbers(totals: &Totals, len: u64, out: &mut Row<u8>) -> Result<(), NoMemory>
+fn put_numbers(totals: &Totals, len: u64, out: &mut Row<u8>) -> Result<(), NoMemory>
     ensures { OnOk result (out.new ≡ out.old ++ first_bytes len totals.now) }
 {
     let pieces: [&[u8]; 7] = [
@@ -129,6 +129,20 @@ pub fn index_bytes(alloc: Global, index: &ImpactIndex) -> Result<Row<u8>, SaveFa
     }
 }
 
+/// The first 40 bytes of a file of so many bytes with these totals.
+pub fn first_bytes(alloc: Global, totals: &Totals, len: u64) -> Result<Row<u8>, NoMemory>
+    ensures { IfOk result (λ row. row ≡ first_bytes len totals.now) }
+{
+    let mut first = Row::new(alloc);
+    match put_numbers(totals, len, &mut first) {
+        Ok(()) => Ok(first),
+        Err(_) => {
+            drop(first);
+            Err(NoMemory)
+        }
+    }
+}
+
 /// The first 40 bytes of the file of names, terms and heads that have these totals and so many bytes
 /// of payloads. TooLarge comes exactly where the file would have more than 2^32 bytes.
 pub fn first_of(
@@ -149,13 +163,9 @@ pub fn first_of(
 {
     let len = front_len(names, entries) + payloads;
     if len <= LONGEST_FILE {
-        let mut first = Row::new(alloc);
-        match put_numbers(totals, len, &mut first) {
-            Ok(()) => Ok(first),
-            Err(_) => {
-                drop(first);
-                Err(SaveFault::NoMemory)
-            }
+        match first_bytes(alloc, totals, len) {
+            Ok(first) => Ok(first),
+            Err(_) => Err(SaveFault::NoMemory),
         }
     } else {
         Err(SaveFault::TooLarge { length: len })

@@ -12,7 +12,7 @@ ghost use Rattle.index_write.specs.Streaming.{Unbegun, entries_totals};
 ghost use Rattle.jass_base.specs.declared.limits.TheConstants.{LONGEST_FILE};
 
 use crate::blocks::{Blocks, append_blocks};
-use crate::bytes::put_numbers;
+use crate::bytes::first_bytes;
 use crate::fault::SaveFault;
 use crate::laws::entries_are_small;
 use crate::pieces::{append, create};
@@ -84,20 +84,6 @@ fn file_len(names: &[u8], terms: &SpelledTerms, payloads: &Blocks) -> u64
 {
     let front = (40 + names.len() as u64).saturating_add(terms.len());
     front.saturating_add(payloads.len())
-}
-
-/// The first 40 bytes of a file of so many bytes with these totals.
-fn first_bytes(alloc: Global, totals: &Totals, len: u64) -> Result<Row<u8>, NoMemory>
-    ensures { IfOk result (λ row. row ≡ first_bytes len totals.now) }
-{
-    let mut first = Row::new(alloc);
-    match put_numbers(totals, len, &mut first) {
-        Ok(()) => Ok(first),
-        Err(_) => {
-            drop(first);
-            Err(NoMemory)
-        }
-    }
 }
 
 /// Makes first bytes, names, terms and payloads the content of a file.

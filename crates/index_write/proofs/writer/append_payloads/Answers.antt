@@ -2,7 +2,7 @@
 use Rattle.std.proofs.Common.{◌++◌, ◌∙◌, ap, map, sym}
 use Rattle.index_write.proofs.Below.{segment_data}
 use Rattle.index_write.specs.Chosen.{chosen_heads, chosen_payloads, head_data}
-use Rattle.index_write.proofs.Begun.{changed, continued, discontinued, unroomy}
+use Rattle.index_write.proofs.Begun.{changed, continued, not_appended, not_stored}
 use Rattle.index_write.proofs.writer.append_payloads.Goals as goal
 
 pub put_payloads-requires-clause-heads : goal.put_payloads-requires-clause-heads
@@ -22,7 +22,7 @@ returns-in-Err-put_payloads g c =
     let segments = map segment_data c.args.segments.now in
     let found = chosen_heads c.args.d segments in
     let part = chosen_payloads c.args.d segments in
-    unroomy g.C.Cabinet c.args.files.now c.args.name.now kept found part
+    not_stored g.C.Cabinet c.args.files.now c.args.name.now kept found part
 
 pub returns-in-Ok-append : goal.returns-in-Ok-append
 returns-in-Ok-append g c =
@@ -39,5 +39,5 @@ returns-in-Err-append g c =
     let segments = map segment_data c.args.segments.now in
     let found = chosen_heads c.args.d segments in
     let part = chosen_payloads c.args.d segments in
-    discontinued g.C.Cabinet c.args.files.now c.append.new.self c.args.name.now kept found c.as_slice.result.now part (c.as_slice.ensures ∙ c.in-Ok-put_payloads.ensures ∙ ap (λ xs. xs ++ part) c.truncate.ensures) c.in-Err-append.ensures.cause.later c.in-Err-append.ensures.others
+    not_appended g.C.Cabinet c.args.files.now c.append.new.self c.args.name.now kept found c.as_slice.result.now part (c.as_slice.ensures ∙ c.in-Ok-put_payloads.ensures ∙ ap (λ xs. xs ++ part) c.truncate.ensures) c.in-Err-append.ensures.cause.later c.in-Err-append.ensures.others
     c.in-Ok.ensures c.in-Err-append.ensures.content c.in-Err-append.ensures.cause.failed

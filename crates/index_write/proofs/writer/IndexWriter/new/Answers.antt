@@ -6,7 +6,7 @@ use Rattle.index_write.specs.Saving.{LeavesPrefix}
 use Rattle.index_write.specs.Streaming.{AreEntries, AreNames, Unbegun, entry_data}
 use Rattle.index_write.specs.declared.term_heads.TermHeads.{TermHeads}
 use Rattle.jass_base.specs.declared.limits.TheConstants.{LONGEST_FILE, MOST_DOCUMENTS, MOST_POSTINGS}
-use Rattle.index_write.proofs.Begun.{few_bytes, none_failed, same_fault, totals_summed}
+use Rattle.index_write.proofs.Begun.{few_bytes, none_failed, still_fault, totals_summed}
 use Rattle.index_write.proofs.writer.IndexWriter.new.Goals as goal
 
 pub returns-in-Err-clause-name : goal.returns-in-Err-clause-name
@@ -37,7 +37,7 @@ pub returns-in-Err-clause-front : goal.returns-in-Err-clause-front
 returns-in-Err-clause-front g c = subst (LeavesPrefix (g.C.Cabinet.told c.args.files.now) (g.C.Cabinet.told c.begin-begun.new.files) c.args.name.now) (ap₂ (λ (ns : List (List ℕ)) (ts : List TermHeads). front_bytes ns (map entry_data ts)) c.as_slice-2.ensures c.as_slice-3.ensures) c.in-Err.ensures.begun.front
 
 pub returns-in-Err-clause-cause : goal.returns-in-Err-clause-cause
-returns-in-Err-clause-cause g c = λ is. c.in-Err.ensures.begun.cause (same_fault is)
+returns-in-Err-clause-cause g c = λ is. c.in-Err.ensures.begun.cause (still_fault is)
 
 pub returns-in-Err-clause-later : goal.returns-in-Err-clause-later
 returns-in-Err-clause-later g c = c.in-Err.ensures.begun.later

@@ -6,7 +6,7 @@ use Rattle.index_write.specs.Chosen.{chosen_heads, chosen_payloads}
 use Rattle.index_write.specs.Streaming.{Unappended, WriterView, behind_term, change_of, entry_data, heads_left, next_heads}
 use Rattle.index_write.specs.declared.change.Change.{Change}
 use Rattle.index_write.specs.declared.term_heads.TermHeads.{TermHeads}
-use Rattle.index_write.proofs.Begun.{same_fault}
+use Rattle.index_write.proofs.Begun.{still_fault}
 use Rattle.index_write.proofs.writer.IndexWriter.term.Goals as goal
 
 pub heads_left-heads-requires-clause-some : goal.heads_left-heads-requires-clause-some
@@ -57,4 +57,4 @@ returns-in-Err-clause-fault g c =
     (ap (λ (w : WriterView). chosen_heads w.docs segments) c.self.view_is)) c.in-Err.ensures.fault
 
 pub returns-in-Err-clause-cause : goal.returns-in-Err-clause-cause
-returns-in-Err-clause-cause g c = λ is. c.in-Err.ensures.cause (same_fault is)
+returns-in-Err-clause-cause g c = λ is. c.in-Err.ensures.cause (still_fault is)
