@@ -43,36 +43,68 @@ const CASES: [Case<'static>; 8] = [
     (b"ab\n", 0, b"", Filled::Limit, b"ab\n"),
 ];
 
-/// So many bytes of an input may be taken up to its end or the limit, and give these lines.
-fn check_lines(
+/// Whether so many bytes of an input may be taken up to its end or the limit, and give these lines.
+fn gives(
     rt: &impl Abort,
     alloc: Global,
     input: &mut SliceFeed<'_>,
     limit: u64,
     want: &[u8],
     last: Filled,
-) {
+) -> bool {
     let mut lines = FeedLines::new(alloc, limit).expect(rt, "no memory");
-    assert!(rt; lines.is_empty());
-    assert!(rt; lines.fill(input).is_ok());
-    let told = lines_and_rest(rt, alloc, &mut lines);
-    assert!(rt; told.as_slice() == want);
-    assert!(rt; lines.fill(input).ok() == Some(last));
+    let given = gives_lines(rt, alloc, &mut lines, input, want)
+        && is_filled(&mut lines, input, last);
+    drop(lines);
+    given
 }
 
-/// These bytes stay in an input.
-fn check_behind(rt: &impl Abort, input: &mut SliceFeed<'_>, behind: &[u8]) {
+/// Whether lines to which nothing was taken yet are filled, and are these then.
+fn gives_lines(
+    rt: &impl Abort,
+    alloc: Global,
+    lines: &mut FeedLines,
+    input: &mut SliceFeed<'_>,
+    want: &[u8],
+) -> bool {
+    if !lines.is_empty() || lines.fill(input).is_err() {
+        return false;
+    }
+    let told = lines_and_rest(rt, alloc, lines);
+    let are_wanted = told.as_slice() == want;
+    drop(told);
+    are_wanted
+}
+
+/// Whether a filling ends so.
+fn is_filled(lines: &mut FeedLines, input: &mut SliceFeed<'_>, last: Filled) -> bool {
+    lines.fill(input).ok() == Some(last)
+}
+
+/// Whether these bytes stay in an input.
+fn stays(input: &mut SliceFeed<'_>, behind: &[u8]) -> bool {
     let mut buf = [0u8; 8];
-    assert!(rt; input.read(&mut buf).ok() == Some(behind.len()));
-    assert!(rt; buf.starts_with(behind));
+    input.read(&mut buf).ok() == Some(behind.len()) && buf.starts_with(behind)
+}
+
+/// Whether an input gives these lines, and keeps the bytes behind them.
+fn is_taken(
+    rt: &impl Abort,
+    alloc: Global,
+    bytes: &[u8],
+    limit: u64,
+    want: &[u8],
+    last: Filled,
+    behind: &[u8],
+) -> bool {
+    let mut input = SliceFeed::new(bytes);
+    gives(rt, alloc, &mut input, limit, want, last) && stays(&mut input, behind)
 }
 
 /// Each input gives the lines that stand beside it, and keeps the bytes behind them.
 fn check_cases(rt: &impl Abort, alloc: Global, cases: &[Case<'_>]) {
     for (bytes, limit, want, last, behind) in cases {
-        let mut input = SliceFeed::new(bytes);
-        check_lines(rt, alloc, &mut input, *limit, want, *last);
-        check_behind(rt, &mut input, behind);
+        assert!(rt; is_taken(rt, alloc, bytes, *limit, want, *last, behind));
     }
 }
 
@@ -103,20 +135,24 @@ const STEPS: [Step; 3] = [
 /// Each step gives what stands beside it.
 fn check_steps(rt: &impl Abort, lines: &mut FeedLines, input: &mut MemFeed, steps: &[Step]) {
     for (filled, waits, long, end) in steps {
-        assert!(rt; lines.fill(input).ok() == *filled);
-        assert!(rt; lines.rest().len() == *waits && lines.is_long() == *long);
-        assert!(rt; lines.end_of_line() == *end);
+        assert!(rt; lines.fill(input).ok() == *filled && is_at(lines, *waits, *long, *end));
     }
 }
 
-/// The line that is left can be passed, and the line `b` stands behind it.
-fn check_passed(rt: &impl Abort, lines: &mut FeedLines) {
-    let Some(end) = lines.end_of_line() else {
-        panic!(rt; "no line")
-    };
-    lines.pass(end);
-    assert!(rt; !lines.is_long());
-    assert!(rt; lines.rest() == b"b\n".as_slice());
+/// Whether so many bytes wait, are of a long line or not, and end a line there.
+fn is_at(lines: &FeedLines, waits: usize, long: bool, end: Option<usize>) -> bool {
+    lines.rest().len() == waits && lines.is_long() == long && lines.end_of_line() == end
+}
+
+/// Whether the line that is left can be passed, and the line `b` stands behind it.
+fn is_passed(lines: &mut FeedLines) -> bool {
+    match lines.end_of_line() {
+        Some(end) => {
+            lines.pass(end);
+            !lines.is_long() && lines.rest() == b"b\n".as_slice()
+        }
+        None => false,
+    }
 }
 
 /// The front of a long line is lost.
@@ -124,7 +160,10 @@ fn check_long_line(rt: &impl Abort, alloc: Global) {
     let mut input = long_line(rt, alloc);
     let mut lines = FeedLines::new(alloc, 2_000_000).expect(rt, "no memory");
     check_steps(rt, &mut lines, &mut input, &STEPS);
-    check_passed(rt, &mut lines);
+    drop(input);
+    let passed = is_passed(&mut lines);
+    drop(lines);
+    assert!(rt; passed);
 }
 
 #[test]

@@ -16,31 +16,25 @@ const SECOND_5: Hit = Hit { doc: 1, score: 5 };
 
 const SECOND_3: Hit = Hit { doc: 1, score: 3 };
 
-/// Two of three may be passed.
-const MAY_BE_PASSED: [Case<'static>; 1] = [(
-    &[FIRST_3, Hit { doc: 2, score: 3 }],
-    None,
-    Some(1),
-    2,
-    3,
-    Grade::Open,
-)];
-
-/// Hits that are far ahead.
-const FAR_AHEAD: [Case<'static>; 3] = [
+/// Cases, by what they show.
+const CASES: [Case<'static>; 10] = [
+    // Two of three may be passed.
+    (
+        &[FIRST_3, Hit { doc: 2, score: 3 }],
+        None,
+        Some(1),
+        2,
+        3,
+        Grade::Open,
+    ),
+    // Hits that are far ahead.
     (&[FIRST_9], None, Some(1), 1, 5, Grade::Final),
     (&[FIRST_9, SECOND_5], None, Some(2), 2, 1, Grade::Final),
     (&[FIRST_9, SECOND_5], None, Some(2), 3, 1, Grade::Open),
-];
-
-/// A tie goes to the lower document.
-const TIES: [Case<'static>; 2] = [
+    // A tie goes to the lower document.
     (&[FIRST_3], None, Some(1), 1, 3, Grade::Final),
     (&[SECOND_3], None, Some(0), 1, 3, Grade::Open),
-];
-
-/// A final answer may open again.
-const OPEN_AGAIN: [Case<'static>; 2] = [
+    // A final answer may open again.
     (&[FIRST_9], None, Some(1), 1, 8, Grade::Final),
     (
         &[FIRST_9],
@@ -50,10 +44,7 @@ const OPEN_AGAIN: [Case<'static>; 2] = [
         7,
         Grade::Open,
     ),
-];
-
-/// All documents are hit, but may swap.
-const MAY_SWAP: [Case<'static>; 2] = [
+    // All documents are hit, but may swap.
     (
         &[SECOND_3, Hit { doc: 0, score: 2 }],
         None,
@@ -72,18 +63,25 @@ const MAY_SWAP: [Case<'static>; 2] = [
     ),
 ];
 
+fn is_graded(
+    hits: &[Hit],
+    runner_up: Option<Hit>,
+    least_untouched: Option<u32>,
+    k: u32,
+    bound: u32,
+    want: Grade,
+) -> bool {
+    grade(hits, runner_up, least_untouched, k, bound) == want
+}
+
 /// Each case has the grade that stands beside it.
 fn check_cases(rt: &impl Abort, cases: &[Case<'_>]) {
     for (hits, runner_up, least_untouched, k, bound, want) in cases {
-        assert!(rt; grade(hits, *runner_up, *least_untouched, *k, *bound) == *want);
+        assert!(rt; is_graded(hits, *runner_up, *least_untouched, *k, *bound, *want));
     }
 }
 
 #[test]
 fn small_indexes_are_graded(rt: HostRuntime) {
-    check_cases(&rt, &MAY_BE_PASSED);
-    check_cases(&rt, &FAR_AHEAD);
-    check_cases(&rt, &TIES);
-    check_cases(&rt, &OPEN_AGAIN);
-    check_cases(&rt, &MAY_SWAP);
+    check_cases(&rt, &CASES);
 }

@@ -77,9 +77,9 @@ fn add(rt: &impl Abort, pages: &mut Pages, top: &mut Top, pool: &mut FramePool, 
     top.settle(pages, pool, &[doc]);
 }
 
-/// A heap for one hit has this one, and this document behind it.
-fn check_first(rt: &impl Abort, top: &Top, first: Hit, next: Option<Hit>) {
-    assert!(rt; top.ranked() == [first].as_slice() && top.runner_up() == next);
+/// Whether a heap for one hit has this one, and this document behind it.
+fn is_first(top: &Top, first: Hit, next: Option<Hit>) -> bool {
+    top.ranked() == [first].as_slice() && top.runner_up() == next
 }
 
 /// A session over three documents for the first one, and its pool.
@@ -123,9 +123,11 @@ fn close_one(one: One) {
     let One {
         mut pool,
         pages,
-        top: _,
+        top,
     } = one;
+    drop(top);
     pool.give_back(pages.into_chain());
+    drop(pool);
 }
 
 /// A document, what its score gains, and the first document then and the one behind it.
@@ -152,7 +154,7 @@ fn check_steps(rt: &impl Abort, one: &mut One, steps: &[Step]) {
     for (doc, w, first, next) in steps {
         assert!(rt; *doc < 3 && 1 <= *w && *w < 1000);
         add_to_one(rt, one, *doc, *w);
-        check_first(rt, &one.top, *first, *next);
+        assert!(rt; is_first(&one.top, *first, *next));
     }
 }
 
@@ -257,14 +259,26 @@ fn add_to_y(rt: &impl Abort, two: &mut Two, doc: u32, w: u32)
 
 /// Gives the frames of both back.
 fn close_two(two: Two) {
-    calls_on_other_chains_leave_pages();
     let Two {
         mut pool,
         x,
-        x_top: _,
+        x_top,
         y,
-        y_top: _,
+        y_top,
     } = two;
+    drop(x_top);
+    drop(y_top);
+    close_both(&mut pool, x, y);
+    drop(pool);
+}
+
+/// Gives the frames of two sessions back.
+fn close_both(pool: &mut FramePool, x: Pages, y: Pages)
+    requires x { Stands x pool.old }
+    requires y { Stands y pool.old }
+    requires apart { own_chain x ≢ own_chain y }
+{
+    calls_on_other_chains_leave_pages();
     pool.give_back(x.into_chain());
     pool.give_back(y.into_chain());
 }
@@ -272,19 +286,19 @@ fn close_two(two: Two) {
 #[test]
 fn two_sessions_take_turns(rt: HostRuntime) {
     let mut two = opened_two(&rt, rt.alloc());
-    // The documents tie in one session, in either order of arrival.
-    add_to_x(&rt, &mut two, 1, 4);
-    add_to_y(&rt, &mut two, 2, 7);
-    add_to_x(&rt, &mut two, 0, 4);
-    add_to_y(&rt, &mut two, 2, 1);
-    check_first(
-        &rt,
-        &two.x_top,
-        Hit { doc: 0, score: 4 },
-        Some(Hit { doc: 1, score: 4 }),
-    );
-    check_first(&rt, &two.y_top, Hit { doc: 2, score: 8 }, None);
+    check_turns(&rt, &mut two);
     close_two(two);
+}
+
+/// The documents tie in one session, in either order of arrival.
+fn check_turns(rt: &impl Abort, two: &mut Two) {
+    add_to_x(rt, two, 1, 4);
+    add_to_y(rt, two, 2, 7);
+    add_to_x(rt, two, 0, 4);
+    add_to_y(rt, two, 2, 1);
+    let next = Some(Hit { doc: 1, score: 4 });
+    assert!(rt; is_first(&two.x_top, Hit { doc: 0, score: 4 }, next));
+    assert!(rt; is_first(&two.y_top, Hit { doc: 2, score: 8 }, None));
 }
 
 /// Adds a weight to the scores of some of six documents, and settles those that have passed the last of the heap.
@@ -323,43 +337,47 @@ fn add_batch(
     top.settle(pages, pool, reached.as_slice());
 }
 
-/// A heap has this hit alone.
-fn check_ranked(rt: &impl Abort, top: &Top, first: Hit) {
-    assert!(rt; top.ranked() == [first].as_slice());
-}
-
-/// These documents were noted.
-fn check_reached(rt: &impl Abort, reached: &Reached, docs: &[u32]) {
-    assert!(rt; reached.as_slice() == docs);
+/// These documents were noted, and a heap has this hit.
+fn check_ranked(rt: &impl Abort, reached: &Reached, docs: &[u32], top: &Top, first: Hit) {
+    assert!(rt; reached.as_slice() == docs && top.ranked() == [first].as_slice());
 }
 
 /// Two batches in a session over six documents.
 fn check_batches(rt: &impl Abort, alloc: Global) {
     let mut pool = pool_of(rt, alloc, 3, 1);
-    let mut reached = Reached::new(alloc, 6).expect(rt, "no memory");
     let (mut pages, mut top) = opened(rt, alloc, &mut pool, 6, 6);
-    add_batch(rt, &mut pages, &mut top, &mut pool, &[5], 3, &mut reached);
-    check_reached(rt, &reached, &[5]);
-    check_ranked(rt, &top, Hit { doc: 5, score: 3 });
-
-    // Document 5 is in the heap already, and the others tie. The last of the full heap is then document 0 with score 2.
-    add_batch(
-        rt,
-        &mut pages,
-        &mut top,
-        &mut pool,
-        &[0, 1, 2, 3, 4, 5],
-        2,
-        &mut reached,
-    );
-    check_reached(rt, &reached, &[0, 1, 2, 3, 4]);
-    check_first(
-        rt,
-        &top,
-        Hit { doc: 5, score: 5 },
-        Some(Hit { doc: 0, score: 2 }),
-    );
+    let mut reached = Reached::new(alloc, 6).expect(rt, "no memory");
+    add_two_batches(rt, &mut pages, &mut top, &mut pool, &mut reached);
+    drop(reached);
+    let next = top.runner_up();
+    drop(top);
     pool.give_back(pages.into_chain());
+    drop(pool);
+    assert!(rt; next == Some(Hit { doc: 0, score: 2 }));
+}
+
+/// Adds both batches. Document 5 is in the heap already as the second one comes, in which the others tie. The last of the
+/// full heap is then document 0 with score 2.
+fn add_two_batches(
+    rt: &impl Abort,
+    pages: &mut Pages,
+    top: &mut Top,
+    pool: &mut FramePool,
+    reached: &mut Reached,
+)
+    requires stands { Stands pages.old pool.old }
+    requires top { TopStands top.old (pages_scores pages.old pool.old) (pages_places pages.old pool.old) }
+    requires count { docs_of pages.old ≡ 6 }
+    requires scores { pages_scores pages.old pool.old ≡ replicate 6 0 }
+    requires promise { (own_view pages.old pool.old).promise ≡ 3 }
+    requires notes { reached.old.room ≡ 6 }
+    requires room { 6 ≤ top.old.room }
+    ensures stands { Stands pages.new pool.new }
+{
+    add_batch(rt, pages, top, pool, &[5], 3, reached);
+    check_ranked(rt, reached, &[5], top, Hit { doc: 5, score: 3 });
+    add_batch(rt, pages, top, pool, &[0, 1, 2, 3, 4, 5], 2, reached);
+    check_ranked(rt, reached, &[0, 1, 2, 3, 4], top, Hit { doc: 5, score: 5 });
 }
 
 #[test]

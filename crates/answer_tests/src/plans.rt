@@ -1,32 +1,57 @@
 // A plan of `cat dog` and what it answers, where there is memory.
 
-ghost use Rattle.std.specs.Prelude.{◌≡◌, length, IfOk};
+ghost use Rattle.std.specs.Prelude.{◌≡◌, [], ◌∷◌, length};
 
-use jass_base::{NoMemory, Query, QueryTerm, Row, Text};
+use jass_base::{Query, QueryTerm, Row, Text};
 use segment_plan::examples::segments_of_cat_dog;
 use segment_plan::{Plan, PlanEntry, PlanHead};
 use std::alloc::Global;
+use std::process::Abort;
 
 #[test]
 fn cat_and_dog(rt: HostRuntime) {
-    let alloc = rt.alloc();
-    let Ok(right) = answers(alloc) else {
-        panic!(&rt; "no memory")
-    };
-    assert!(&rt; right);
+    check_plan(&rt, rt.alloc());
 }
 
+const TERMS: [QueryTerm; 2] = [
+    QueryTerm { term: 0, times: 1 },
+    QueryTerm { term: 1, times: 1 },
+];
+
+const HEADS: [PlanHead; 4] = [
+    PlanHead {
+        term_place: 0,
+        segment: 0,
+        impact: 3,
+        count: 1,
+    },
+    PlanHead {
+        term_place: 0,
+        segment: 1,
+        impact: 1,
+        count: 2,
+    },
+    PlanHead {
+        term_place: 1,
+        segment: 0,
+        impact: 3,
+        count: 1,
+    },
+    PlanHead {
+        term_place: 1,
+        segment: 1,
+        impact: 2,
+        count: 1,
+    },
+];
+
 /// The plan of `cat` in documents 0, 1 and 3, and `dog` in documents 1 and 2.
-fn plan_of_both(alloc: Global) -> Result<Plan, NoMemory> {
+fn plan_of_both(rt: &impl Abort, alloc: Global) -> Plan {
     segments_of_cat_dog();
-    let heads = [
-        head(0, 0, 3, 1),
-        head(0, 1, 1, 2),
-        head(1, 0, 3, 1),
-        head(1, 1, 2, 1),
-    ];
-    let query = query(alloc)?;
-    Plan::new(alloc, &query, &heads)
+    let query = query(rt, alloc);
+    let plan = Plan::new(alloc, &query, &HEADS);
+    drop(query);
+    plan.expect(rt, "no memory")
 }
 
 /// Whether the plan has these weights behind its entries.
@@ -46,40 +71,40 @@ fn has_prefixes(plan: &Plan) -> bool
         && plan.within(2, 0) == 0
 }
 
-/// Whether the plan is that of both terms.
-fn answers(alloc: Global) -> Result<bool, NoMemory> {
-    let plan = plan_of_both(alloc)?;
-    let second = PlanEntry {
-        term_place: 1,
-        segment: 0,
-        weight: 3,
-        count: 1,
-    };
-    Ok(plan.len() == 4 && plan.entry(1) == second && has_bounds(&plan) && has_prefixes(&plan))
+const SECOND: PlanEntry = PlanEntry {
+    term_place: 1,
+    segment: 0,
+    weight: 3,
+    count: 1,
+};
+
+/// Whether the plan has four entries, with this second one, and these weights behind them.
+fn is_of_both(plan: &Plan) -> bool {
+    plan.len() == 4 && plan.entry(1) == SECOND && has_bounds(plan) && has_prefixes(plan)
 }
 
-fn query(alloc: Global) -> Result<Query, NoMemory>
-    ensures { IfOk result (λ query. length query.terms ≡ 2) }
+/// The plan is that of both terms.
+fn check_plan(rt: &impl Abort, alloc: Global) {
+    let plan = plan_of_both(rt, alloc);
+    let right = is_of_both(&plan);
+    drop(plan);
+    assert!(rt; right);
+}
+
+fn query(rt: &impl Abort, alloc: Global) -> Query
+    ensures { length result.terms ≡ 2 }
+{
+    Query {
+        id: Text::from_str(alloc, "q").expect(rt, "no memory"),
+        terms: terms(rt, alloc),
+        unknown: 0,
+    }
+}
+
+fn terms(rt: &impl Abort, alloc: Global) -> Row<QueryTerm>
+    ensures { result ≡ record { term = 0; times = 1 } ∷ record { term = 1; times = 1 } ∷ [] }
 {
     let mut terms = Row::new(alloc);
-    terms.extend(&[
-        QueryTerm { term: 0, times: 1 },
-        QueryTerm { term: 1, times: 1 },
-    ])?;
-    Ok(Query {
-        id: Text::from_str(alloc, "q")?,
-        terms,
-        unknown: 0,
-    })
-}
-
-fn head(term_place: u32, segment: u32, impact: u16, count: u32) -> PlanHead
-    ensures { result ≡ record { term_place = term_place; segment = segment; impact = impact; count = count } }
-{
-    PlanHead {
-        term_place,
-        segment,
-        impact,
-        count,
-    }
+    terms.extend(&TERMS).expect(rt, "no memory");
+    terms
 }

@@ -50,13 +50,9 @@ fn times(terms: &[QueryTerm], unknown: u32) -> [u32; 5] {
     ]
 }
 
-/// A query has this name, and names the four terms so often and so many others.
-fn check_query(rt: &impl Abort, query: &Query, id: &str, want: &[u32; 5], text: &str) {
-    assert!(rt; query.id.as_str() == id);
-    assert!(rt;
-        times(query.terms.as_slice(), query.unknown) == *want,
-        "{text}"
-    );
+/// Whether a query has this name, and names the four terms so often and so many others.
+fn is_query(query: &Query, id: &str, want: &[u32; 5]) -> bool {
+    query.id.as_str() == id && times(query.terms.as_slice(), query.unknown) == *want
 }
 
 /// Texts of queries, each with how often it names the four terms and how many others.
@@ -75,17 +71,21 @@ const TEXTS: [(Mode, &str, [u32; 5]); 12] = [
     (Mode::Plain, "", [0, 0, 0, 0, 0]),
 ];
 
-/// A text has these counts.
-fn check_text(rt: &impl Abort, alloc: Global, mode: Mode, text: &str, want: &[u32; 5]) {
-    assert!(rt; text.len() <= 100);
+/// Whether a text has these counts.
+fn has_counts(rt: &impl Abort, alloc: Global, mode: Mode, text: &str, want: &[u32; 5]) -> bool {
+    if text.len() > 100 {
+        return false;
+    }
     let query = read_terms(alloc, "q", text, mode, &FewTerms).expect(rt, text);
-    check_query(rt, &query, "q", want, text);
+    let counted = is_query(&query, "q", want);
+    drop(query);
+    counted
 }
 
 /// Each text has the counts that stand beside it.
 fn check_texts(rt: &impl Abort, alloc: Global, texts: &[(Mode, &str, [u32; 5])]) {
     for (mode, text, want) in texts {
-        check_text(rt, alloc, *mode, text, want);
+        assert!(rt; has_counts(rt, alloc, *mode, text, want), "{text}");
     }
 }
 
@@ -110,9 +110,20 @@ const FILES: [(Mode, &[u8], u32, u32); 9] = [
 /// The number of a file's refusal and the line of it, or 0 and how many queries it has.
 fn outcome(rt: &impl Abort, alloc: Global, mode: Mode, bytes: &[u8]) -> (u32, usize) {
     match read_queries(alloc, bytes, mode, &FewTerms) {
-        Ok(queries) => (0, queries.len()),
-        Err(QueryFault::Refused(refusal)) => (refusal.why.number(), refusal.line as usize),
-        Err(QueryFault::NoMemory) => panic!(rt; "no memory"),
+        Ok(queries) => {
+            let count = queries.len();
+            drop(queries);
+            (0, count)
+        }
+        Err(fault) => told(rt, fault),
+    }
+}
+
+/// The number of a refusal and the line of it.
+fn told(rt: &impl Abort, fault: QueryFault) -> (u32, usize) {
+    match fault {
+        QueryFault::Refused(refusal) => (refusal.why.number(), refusal.line as usize),
+        QueryFault::NoMemory => panic!(rt; "no memory"),
     }
 }
 
@@ -129,20 +140,28 @@ fn refuses_the_first_bad_line(rt: HostRuntime) {
     check_files(&rt, rt.alloc(), &FILES);
 }
 
-/// The queries have these names, each with how often it names the four terms and how many others.
-fn check_queries(rt: &impl Abort, queries: &[Query], wants: &[(&str, [u32; 5])]) {
-    assert!(rt; queries.len() == wants.len());
-    for (query, (id, want)) in queries.iter().zip(wants) {
-        check_query(rt, query, id, want, id);
+/// Whether these are two queries with these names, each with how often it names the four terms and how many others.
+fn are_queries(queries: &[Query], wants: &[(&str, [u32; 5]); 2]) -> bool {
+    match queries {
+        [first, second] => is_wanted(first, &wants[0]) && is_wanted(second, &wants[1]),
+        _ => false,
     }
 }
 
+fn is_wanted(query: &Query, want: &(&str, [u32; 5])) -> bool {
+    is_query(query, want.0, &want.1)
+}
+
+const LINES: &[u8] = b"301\tCAT  dog\r\n\n302 zzz\n";
+
+const WANTS: [(&str, [u32; 5]); 2] = [("301", [0, 1, 1, 0, 0]), ("302", [0, 0, 0, 0, 1])];
+
 /// The queries of a file of two lines, and one between them without bytes.
 fn check_lines(rt: &impl Abort, alloc: Global) {
-    let file = b"301\tCAT  dog\r\n\n302 zzz\n";
-    let queries = read_queries(alloc, file, Mode::Folded, &FewTerms).expect(rt, "no queries");
-    let wants = [("301", [0, 1, 1, 0, 0]), ("302", [0, 0, 0, 0, 1])];
-    check_queries(rt, queries.as_slice(), &wants);
+    let queries = read_queries(alloc, LINES, Mode::Folded, &FewTerms).expect(rt, "no queries");
+    let read = are_queries(queries.as_slice(), &WANTS);
+    drop(queries);
+    assert!(rt; read);
 }
 
 #[test]
@@ -152,20 +171,26 @@ fn reads_a_file_line_by_line(rt: HostRuntime) {
 
 /// The query that four words name.
 fn named(rt: &impl Abort, alloc: Global) -> Query {
-    let words = words_of(alloc, "dog zzz^2 cat dog").expect(rt, "no memory");
+    let words = words_of(rt, alloc, "dog zzz^2 cat dog");
     assert!(rt; words.len() == 4);
-    name_terms(alloc, "q", words.as_slice(), &FewTerms).expect(rt, "no memory")
+    let query = name_terms(alloc, "q", words.as_slice(), &FewTerms);
+    drop(words);
+    query.expect(rt, "no memory")
 }
+
+const NAMED: [QueryTerm; 2] = [
+    QueryTerm { term: 2, times: 2 },
+    QueryTerm { term: 1, times: 1 },
+];
 
 /// It names two terms, in the order in which they come, and another one.
 fn check_named(rt: &impl Abort, alloc: Global) {
     let query = named(rt, alloc);
-    let want = [
-        QueryTerm { term: 2, times: 2 },
-        QueryTerm { term: 1, times: 1 },
-    ];
-    assert!(rt; query.id.as_str() == "q" && query.unknown == 1);
-    assert!(rt; query.terms.as_slice() == want.as_slice());
+    let is_named = query.id.as_str() == "q"
+        && query.unknown == 1
+        && query.terms.as_slice() == NAMED.as_slice();
+    drop(query);
+    assert!(rt; is_named);
 }
 
 #[test]

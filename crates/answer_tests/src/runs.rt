@@ -1,5 +1,6 @@
 // Runs as they are read, where there is memory.
 
+use jass_base::Text;
 use std::alloc::Global;
 use std::process::Abort;
 use trec_run::{RunFault, RunLine, RunWhy, read_run};
@@ -11,7 +12,9 @@ const FOUR_LINES: &[u8] =
 /// A text has so many lines.
 fn check_count(rt: &impl Abort, alloc: Global, text: &[u8], count: usize) {
     let run = read_run(alloc, text).expect(rt, "refused");
-    assert!(rt; run.len() == count);
+    let lines = run.len();
+    drop(run);
+    assert!(rt; lines == count);
 }
 
 #[test]
@@ -21,20 +24,30 @@ fn four_lines_of_a_search(rt: HostRuntime) {
 
 /// Whether a line has these columns.
 fn is_line(line: &RunLine) -> bool {
-    line.id.as_str() == "1"
-        && line.name.as_str() == "d"
+    is_text(&line.id, "1")
+        && is_text(&line.name, "d")
         && line.rank == 2
         && line.score == 3
-        && line.tag.as_str() == "t"
+        && is_text(&line.tag, "t")
+}
+
+fn is_text(text: &Text, wanted: &str) -> bool {
+    text.as_str() == wanted
 }
 
 /// The one line that follows a line without bytes.
 fn check_second(rt: &impl Abort, alloc: Global, text: &[u8]) {
     let run = read_run(alloc, text).expect(rt, "refused");
-    let [line] = run.as_slice() else {
-        panic!(rt; "not one line")
-    };
-    assert!(rt; is_line(line));
+    let second = is_one_line(run.as_slice());
+    drop(run);
+    assert!(rt; second);
+}
+
+fn is_one_line(lines: &[RunLine]) -> bool {
+    match lines {
+        [line] => is_line(line),
+        _ => false,
+    }
 }
 
 #[test]
@@ -65,8 +78,5 @@ fn bad_lines(rt: HostRuntime) {
 }
 
 fn refuses(alloc: Global, text: &[u8], line: u64, why: RunWhy) -> bool {
-    match read_run(alloc, text) {
-        Ok(_) => false,
-        Err(fault) => fault == RunFault::Refused { line, why },
-    }
+    read_run(alloc, text).err() == Some(RunFault::Refused { line, why })
 }

@@ -1,5 +1,6 @@
 // The first documents as scores rise, where they tie. Hits put in order by counting passes.
-ghost use Rattle.std.specs.Prelude.{◌≡◌, ◌+◌, ◌*◌, ◌<◌, ◌≤◌, All, length, replicate};
+ghost use Rattle.std.specs.Prelude.{◌≡◌, ◌+◌, ◌*◌, ◌<◌, ◌≤◌, All, IsTrue, length, replicate};
+ghost use Rattle.lane_kernels.specs.Bitmap.{set_bits};
 ghost use Rattle.session_scores.specs.Scores.{ScoresStand, docs_of, own_view, scores_of};
 
 use frame_pool::FramePool;
@@ -82,9 +83,30 @@ fn most_after(rt: &impl Abort, docs: &[u32], w: u32, most: u32, limit: u32) -> u
     ensures weight { 1 ≤ w }
     ensures most { result ≡ most + w * length docs.now }
 {
-    assert!(rt; docs.len() <= 128 && docs.iter().all(|doc| *doc < limit) && 1 <= w);
+    assert!(rt; docs.len() <= 128 && are_below(docs, limit) && 1 <= w);
     let gain = w.checked_mul(docs.len() as u32).expect(rt, "too much");
     most.checked_add(gain).expect(rt, "too much")
+}
+
+fn are_below(docs: &[u32], limit: u32) -> bool
+    ensures { IsTrue result → All (λ doc. doc < limit) docs.now }
+{
+    docs.iter().all(|doc| *doc < limit)
+}
+
+/// The same for the documents whose bits are set in a row.
+fn most_after_bits(rt: &impl Abort, row: u32, bits: &[u8], w: u32, most: u32, limit: u32) -> u32
+    ensures row { row ≤ 1 }
+    ensures few { length bits.now ≤ 16 }
+    ensures inside { All (λ doc. doc < limit) (set_bits (128 * row) bits.now) }
+    ensures weight { 1 ≤ w }
+    ensures most { result ≡ most + w * length (set_bits (128 * row) bits.now) }
+{
+    assert!(rt; row <= 1 && bits.len() <= 16);
+    let mut block = [0u32; 128];
+    let count = bits_to_docs(bits, 128 * row, &mut block);
+    assert!(rt; count <= 128);
+    most_after(rt, &block[..count], w, most, limit)
 }
 
 /// Adds a weight to the scores of some documents.
@@ -97,11 +119,8 @@ fn add_some(rt: &impl Abort, scored: &mut Scored, docs: &[u32], w: u32) {
 
 /// Adds a weight where bits are set.
 fn add_bits(rt: &impl Abort, scored: &mut Scored, row: u32, bits: &[u8], w: u32) {
-    assert!(rt; scored.docs.div_ceil(256) <= scored.frames && row <= 1 && bits.len() <= 16);
-    let mut block = [0u32; 128];
-    let count = bits_to_docs(bits, 128 * row, &mut block);
-    assert!(rt; count <= 128);
-    let most = most_after(rt, &block[..count], w, scored.most, scored.docs);
+    assert!(rt; scored.docs.div_ceil(256) <= scored.frames);
+    let most = most_after_bits(rt, row, bits, w, scored.most, scored.docs);
     scored.scores.add_bits(&mut scored.pool, row, bits, w);
     scored.most = most;
 }
@@ -146,6 +165,7 @@ fn close(scored: Scored) {
         most: _,
     } = scored;
     pool.give_back(scores.into_chain());
+    drop(pool);
 }
 
 /// The first hits are these.
@@ -171,28 +191,29 @@ fn check_untouched(rt: &impl Abort, scored: &Scored) {
 #[test]
 fn bits_are_documents(rt: HostRuntime) {
     let mut scored = opened(&rt, rt.alloc(), 1, 5, 2);
-    // No bit: no frame is taken.
-    add_byte(&rt, &mut scored, 0, 4);
-    check_frames(&rt, &scored, 0);
+    check_bits(&rt, &mut scored);
+    close(scored);
+}
 
-    add_byte(&rt, &mut scored, 0b10010, 4);
-    check_hits(
-        &rt,
-        &scored,
-        &[Hit { doc: 1, score: 4 }, Hit { doc: 4, score: 4 }],
-    );
-    check_frames(&rt, &scored, 1);
+const BITS: [Hit; 2] = [Hit { doc: 1, score: 4 }, Hit { doc: 4, score: 4 }];
+
+const MORE_BITS: [Hit; 2] = [Hit { doc: 1, score: 8 }, Hit { doc: 2, score: 4 }];
+
+/// Scores that bits raise.
+fn check_bits(rt: &impl Abort, scored: &mut Scored) {
+    // No bit: no frame is taken.
+    add_byte(rt, scored, 0, 4);
+    check_frames(rt, scored, 0);
+
+    add_byte(rt, scored, 0b10010, 4);
+    check_hits(rt, scored, &BITS);
+    check_frames(rt, scored, 1);
 
     // Documents 2 and 3 reach the score of document 4, and stand before it; document 1 rises too.
-    add_byte(&rt, &mut scored, 0b01110, 4);
-    check_hits(
-        &rt,
-        &scored,
-        &[Hit { doc: 1, score: 8 }, Hit { doc: 2, score: 4 }],
-    );
-    check_next(&rt, &scored, Some(Hit { doc: 3, score: 4 }));
-    check_untouched(&rt, &scored);
-    close(scored);
+    add_byte(rt, scored, 0b01110, 4);
+    check_hits(rt, scored, &MORE_BITS);
+    check_next(rt, scored, Some(Hit { doc: 3, score: 4 }));
+    check_untouched(rt, scored);
 }
 
 /// Documents and their weight, and the first hit and the one behind it once they are settled.
@@ -300,6 +321,10 @@ fn hit_at(scored: &Scored, place: u32) -> Option<Hit> {
     }
 }
 
+fn is_at(scored: &Scored, place: u32, hit: Hit) -> bool {
+    hit_at(scored, place) == Some(hit)
+}
+
 /// These hits are in order.
 fn check_order(rt: &impl Abort, scored: &Scored, step: u32)
     requires { step ≤ 50000 }
@@ -310,7 +335,7 @@ fn check_order(rt: &impl Abort, scored: &Scored, step: u32)
             doc: (3 * triple + place % 3) * step,
             score: triple * step + 1,
         };
-        assert!(rt; hit_at(scored, place) == Some(hit));
+        assert!(rt; is_at(scored, place, hit));
     }
 }
 

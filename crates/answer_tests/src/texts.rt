@@ -21,13 +21,21 @@ fn text_of<'a>(
     pieces: u32,
 ) -> Vec<&'a [u8]> {
     let mut text = Vec::new(alloc);
-    for size in sizes {
-        put_piece(rt, &mut text, bytes, *size);
-    }
-    for _ in 0..pieces {
-        put_piece(rt, &mut text, bytes, 15_000);
-    }
+    put_sizes(rt, &mut text, bytes, sizes);
+    put_pieces(rt, &mut text, bytes, pieces);
     text
+}
+
+fn put_sizes<'a>(rt: &impl Abort, text: &mut Vec<&'a [u8]>, bytes: &'a [u8], sizes: &[usize]) {
+    for size in sizes {
+        put_piece(rt, text, bytes, *size);
+    }
+}
+
+fn put_pieces<'a>(rt: &impl Abort, text: &mut Vec<&'a [u8]>, bytes: &'a [u8], pieces: u32) {
+    for _ in 0..pieces {
+        put_piece(rt, text, bytes, 15_000);
+    }
 }
 
 /// How many bytes of a text go where the put with a number fails, and whether all of it does.
@@ -35,7 +43,24 @@ fn put(rt: &impl Abort, alloc: Global, text: &[&[u8]], bad_put: u64) -> (usize, 
     let bad = Vec::from_slice(alloc, &[bad_put]).expect(rt, "no memory");
     let mut sink = MemSink::new(alloc, Row::from_vec(bad));
     let whole = put_all(&mut sink, text).is_ok();
-    (sink.written().len(), whole)
+    let count = sink.written().len();
+    drop(sink);
+    (count, whole)
+}
+
+/// The same of a text of these sizes and so many pieces.
+fn put_text(
+    rt: &impl Abort,
+    alloc: Global,
+    bytes: &[u8],
+    sizes: &[usize],
+    pieces: u32,
+    bad_put: u64,
+) -> (usize, bool) {
+    let text = text_of(rt, alloc, bytes, sizes, pieces);
+    let went = put(rt, alloc, text.as_slice(), bad_put);
+    drop(text);
+    went
 }
 
 /// The sizes and pieces of texts, the put that fails, how many bytes go, and whether all do. Behind a piece that finds no
@@ -59,13 +84,17 @@ fn check_texts(
     texts: &[(&[usize], u32, u64, usize, bool)],
 ) {
     for (sizes, pieces, bad_put, count, whole) in texts {
-        let text = text_of(rt, alloc, bytes, sizes, *pieces);
-        assert!(rt; put(rt, alloc, text.as_slice(), *bad_put) == (*count, *whole));
+        let (found, all) = put_text(rt, alloc, bytes, sizes, *pieces, *bad_put);
+        assert!(rt; found == *count && all == *whole);
     }
 }
 
 #[test]
 fn long_texts_go_by_pieces(rt: HostRuntime) {
-    let bytes = vec![in rt.alloc(); b'x'; 200_000].expect(&rt, "no memory");
-    check_texts(&rt, rt.alloc(), bytes.as_slice(), &TEXTS);
+    check_long(&rt, rt.alloc());
+}
+
+fn check_long(rt: &impl Abort, alloc: Global) {
+    let bytes = vec![in alloc; b'x'; 200_000].expect(rt, "no memory");
+    check_texts(rt, alloc, bytes.as_slice(), &TEXTS);
 }

@@ -1,6 +1,6 @@
 // Collections that are made, and queries that are drawn behind them.
 
-use jass_base::{Collection, Posting, PostingsList};
+use jass_base::{Collection, DocRecord, Header, Posting, PostingsList};
 use std::alloc::Global;
 use std::process::Abort;
 use trial_data::{Draws, draw_query, make, make_with_draws};
@@ -15,20 +15,31 @@ fn is_small_list(list: &PostingsList, postings: &[Posting]) -> bool {
 
 /// Whether the collection has four documents of these lengths, and one list of these postings.
 fn is_small_trial(collection: &Collection, postings: &[Posting], lengths: [u32; 4]) -> bool {
-    let [list] = collection.lists.as_slice() else {
-        return false;
-    };
-    let [first, second, third, fourth] = collection.docs.as_slice() else {
-        return false;
-    };
-    is_small_list(list, postings)
-        && fourth.name.as_str() == "D3"
-        && [first.length, second.length, third.length, fourth.length] == lengths
+    are_small_lists(collection.lists.as_slice(), postings)
+        && are_small_docs(collection.docs.as_slice(), lengths)
 }
 
-/// Whether its header tells one list, four documents and 18 terms.
-fn has_small_totals(collection: &Collection) -> bool {
-    let header = &collection.header;
+fn are_small_lists(lists: &[PostingsList], postings: &[Posting]) -> bool {
+    match lists {
+        [list] => is_small_list(list, postings),
+        _ => false,
+    }
+}
+
+/// Whether these are four documents of these lengths, and the last one is named `D3`.
+fn are_small_docs(docs: &[DocRecord], lengths: [u32; 4]) -> bool {
+    match docs {
+        [first, second, third, fourth] => fourth.name.as_str() == "D3"
+            && first.length == lengths[0]
+            && second.length == lengths[1]
+            && third.length == lengths[2]
+            && fourth.length == lengths[3],
+        _ => false,
+    }
+}
+
+/// Whether a header tells one list, four documents and 18 terms.
+fn has_small_totals(header: &Header) -> bool {
     header.total_lists == 1 && header.total_docs == 4 && header.total_terms == 18
 }
 
@@ -42,21 +53,27 @@ const POSTINGS: [Posting; 4] = [
 /// Three words are drawn, each of them `t0`.
 fn check_words(rt: &impl Abort, alloc: Global, draws: &mut Draws) {
     let words = draw_query(alloc, draws, 1).expect(rt, "no memory");
-    assert!(rt; words.len() == 3 && words.iter().all(|word| word.as_str() == "t0"));
+    let are_t0 = words.len() == 3 && words.iter().all(|word| word.as_str() == "t0");
+    drop(words);
+    assert!(rt; are_t0);
 }
 
 /// The small trial is as told, and its query.
 fn check_made(rt: &impl Abort, alloc: Global) {
     let (collection, mut draws) = make_with_draws(alloc, 1, 4, 1).expect(rt, "no memory");
-    assert!(rt; is_small_trial(&collection, &POSTINGS, [5, 2, 6, 5]));
-    assert!(rt; has_small_totals(&collection));
+    let small = is_small_trial(&collection, &POSTINGS, [5, 2, 6, 5]);
+    let totals = has_small_totals(&collection.header);
+    drop(collection);
+    assert!(rt; small && totals);
     check_words(rt, alloc, &mut draws);
 }
 
 /// A collection of one term has one list.
 fn check_one_list(rt: &impl Abort, alloc: Global) {
     let collection = make(alloc, 5, 1, 1).expect(rt, "no memory");
-    assert!(rt; collection.lists.len() == 1);
+    let count = collection.lists.len();
+    drop(collection);
+    assert!(rt; count == 1);
 }
 
 /// The first numbers of a seed.

@@ -1,25 +1,32 @@
 // The words of commands, and where they are at fault.
 
 use jass_words::read_words;
-use std::alloc::{AllocError, Global};
+use std::alloc::Global;
 use std::process::Abort;
 
 /// The words between the blanks of a line.
-pub(super) fn words_of(alloc: Global, line: &str) -> Result<Vec<String>, AllocError> {
+pub(super) fn words_of(rt: &impl Abort, alloc: Global, line: &str) -> Vec<String> {
     let mut words = Vec::new(alloc);
     for word in line.split_whitespace() {
-        words.push(String::from_str(alloc, word)?)?;
+        put_word(rt, alloc, &mut words, word);
     }
-    Ok(words)
+    words
+}
+
+fn put_word(rt: &impl Abort, alloc: Global, words: &mut Vec<String>, word: &str) {
+    let word = String::from_str(alloc, word).expect(rt, "no memory");
+    words.push(word).expect(rt, "no memory");
 }
 
 /// The number of the first bad word, or 0 where the words are a command.
 fn bad_word(rt: &impl Abort, alloc: Global, line: &str) -> u32 {
-    let words = words_of(alloc, line).expect(rt, "no memory");
-    match read_words(words.as_slice()) {
+    let words = words_of(rt, alloc, line);
+    let which = match read_words(words.as_slice()) {
         Ok(_) => 0,
         Err(fault) => fault.which,
-    }
+    };
+    drop(words);
+    which
 }
 
 /// Lines of words, each with the number of its first bad word.

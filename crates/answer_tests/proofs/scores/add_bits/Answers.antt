@@ -1,4 +1,4 @@
-use Rattle.std.proofs.Common.{◌∙◌, ◌+◌, ◌*◌, ℕ, List, length, ap, arith}
+use Rattle.std.proofs.Common.{◌∙◌, ◌*◌, arith}
 use Rattle.lane_kernels.specs.Bitmap.{set_bits}
 use Rattle.session_scores.specs.Scores.{scores_of}
 use Rattle.answer_tests.proofs.Rising.{fits_after, most_after}
@@ -6,8 +6,8 @@ use Rattle.answer_tests.proofs.scores.add_bits.Goals as goal
 
 pub add_bits-requires-clause-fits : goal.add_bits-requires-clause-fits
 add_bits-requires-clause-fits g c =
-    fits_after c.args.w c.scored.inside.most c.most_after-most.result (set_bits (128 * c.args.row) c.args.bits.now) (scores_of c.scored.inside.scores c.scored.inside.pool)
-    (c.most_after-most.ensures.most ∙ ap (λ (docs : List ℕ). c.scored.inside.most + c.args.w * length docs) c.bits_to_docs-count.ensures.front) (omega arith) c.scored.invariant.1.1.1
+    fits_after c.args.w c.scored.inside.most c.most_after_bits-most.result (set_bits (128 * c.args.row) c.args.bits.now) (scores_of c.scored.inside.scores c.scored.inside.pool)
+    c.most_after_bits-most.ensures.most (omega arith) c.scored.invariant.1.1.1
 
 pub invariant_of-scored : goal.invariant_of-scored
 invariant_of-scored g c = (
@@ -16,8 +16,8 @@ invariant_of-scored g c = (
     rw c.add_bits.ensures.same.chain (c.add_bits.ensures.leaves.promise ∙ c.scored.invariant.1.0),
     (
       c.add_bits.ensures.stand,
-      most_after c.args.w c.scored.inside.most c.most_after-most.result (set_bits (128 * c.args.row) c.args.bits.now) (scores_of c.scored.inside.scores c.scored.inside.pool) _
-          (c.most_after-most.ensures.most ∙ ap (λ (docs : List ℕ). c.scored.inside.most + c.args.w * length docs) c.bits_to_docs-count.ensures.front) c.add_bits.ensures.scores c.scored.invariant.1.1.1,
+      most_after c.args.w c.scored.inside.most c.most_after_bits-most.result (set_bits (128 * c.args.row) c.args.bits.now) (scores_of c.scored.inside.scores c.scored.inside.pool) _
+          c.most_after_bits-most.ensures.most c.add_bits.ensures.scores c.scored.invariant.1.1.1,
     ),
   ),
 )
