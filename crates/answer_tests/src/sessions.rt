@@ -45,15 +45,21 @@ fn index_of(rt: &impl Abort, alloc: Global, bytes: &[u8]) -> IndexFile {
 fn asked(rt: &impl Abort, alloc: Global) -> Query
     ensures { result.terms ≡ record { term = 0; times = 1 } ∷ [] }
 {
+    Query {
+        id: Text::from_str(alloc, "q").expect(rt, "no memory"),
+        terms: terms(rt, alloc),
+        unknown: 0,
+    }
+}
+
+fn terms(rt: &impl Abort, alloc: Global) -> Row<QueryTerm>
+    ensures { result ≡ record { term = 0; times = 1 } ∷ [] }
+{
     let mut terms = Row::new(alloc);
     terms
         .extend(&[QueryTerm { term: 0, times: 1 }])
         .expect(rt, "no memory");
-    Query {
-        id: Text::from_str(alloc, "q").expect(rt, "no memory"),
-        terms,
-        unknown: 0,
-    }
+    terms
 }
 
 /// What comes of a session for the one term of a file, of whose frames it needs one.
@@ -167,6 +173,7 @@ fn closed(sitting: Sitting) -> FramePool {
         session,
     } = sitting;
     close(session, &file, &mut pool);
+    drop(file);
     pool
 }
 
@@ -184,23 +191,26 @@ fn check_all_postings(rt: &impl Abort, session: &Session, last: Report) {
 
 /// The reports of three grants.
 fn check_grants(rt: &impl Abort, sitting: &mut Sitting) {
-    let reports = reports(sitting);
-    assert!(rt; reports == [report(1, 9, 5), report(2, 5, 1), report(3, 1, 0)]);
+    let [first, second, last] = reports(sitting);
+    assert!(rt; first == report(1, 9, 5) && second == report(2, 5, 1) && last == report(3, 1, 0));
 }
 
-/// So many frames of a pool are spare.
-fn check_spare(rt: &impl Abort, pool: &FramePool, spare: u32) {
-    assert!(rt; pool.spare() == spare);
+/// The session scores all postings, and takes the one frame.
+fn check_sitting(rt: &impl Abort, sitting: &mut Sitting) {
+    check_new(rt, &sitting.session);
+    check_grants(rt, sitting);
+    check_all_postings(rt, &sitting.session, report(3, 1, 0));
+    assert!(rt; sitting.pool.spare() == 0);
 }
 
 #[test]
 fn grants_of_one_posting_and_of_all(rt: HostRuntime) {
     let mut sitting = opened(&rt, rt.alloc(), &FILE, 1);
-    check_new(&rt, &sitting.session);
-    check_grants(&rt, &mut sitting);
-    check_all_postings(&rt, &sitting.session, report(3, 1, 0));
-    check_spare(&rt, &sitting.pool, 0);
-    check_spare(&rt, &closed(sitting), 1);
+    check_sitting(&rt, &mut sitting);
+    let pool = closed(sitting);
+    let spare = pool.spare();
+    drop(pool);
+    assert!(&rt; spare == 1);
 }
 
 /// One segment is a bitmap, and two postings are scored in all.
@@ -222,7 +232,7 @@ fn a_bitmap_is_scored(rt: HostRuntime) {
     let mut sitting = opened(&rt, rt.alloc(), &DENSE, 3);
     check_bitmap(&rt, &mut sitting);
     check_both(&rt, &sitting.session);
-    closed(sitting);
+    drop(closed(sitting));
 }
 
 /// Why no session for the first hit of a file is opened.
@@ -241,9 +251,16 @@ fn stopped(rt: &impl Abort, alloc: Global, file: &IndexFile, pool: &mut FramePoo
 /// A session whose pool has no frame isn't opened.
 fn check_full(rt: &impl Abort, alloc: Global) {
     let file = index_of(rt, alloc, &FILE);
-    let mut pool = FramePool::new(alloc, 0, 1).expect(rt, "no memory");
-    let stop = stopped(rt, alloc, &file, &mut pool);
+    let stop = stopped_without_frames(rt, alloc, &file);
+    drop(file);
     assert!(rt; stop == OpenStop::PoolFull { need: 1, free: 0 });
+}
+
+fn stopped_without_frames(rt: &impl Abort, alloc: Global, file: &IndexFile) -> OpenStop {
+    let mut pool = FramePool::new(alloc, 0, 1).expect(rt, "no memory");
+    let stop = stopped(rt, alloc, file, &mut pool);
+    drop(pool);
+    stop
 }
 
 #[test]
