@@ -134,15 +134,19 @@ fn bytes_of(rt: &impl Abort, alloc: Global, terms: Terms<'_>) -> Vec<u8> {
     bytes
 }
 
+/// The file of these terms.
+fn file_of(rt: &impl Abort, alloc: Global, terms: Terms<'_>) -> IndexFile {
+    let bytes = Row::from_vec(bytes_of(rt, alloc, terms));
+    IndexFile::from_bytes(alloc, bytes).expect(rt, "refused")
+}
+
 /// A desk of so many frames over the file of these terms.
 fn desk_over(rt: &impl Abort, alloc: Global, terms: Terms<'_>, frames: u32) -> Desk {
     assert!(rt; frames == 1 || frames == 2);
-    let bytes = Row::from_vec(bytes_of(rt, alloc, terms));
-    let file = IndexFile::from_bytes(alloc, bytes).expect(rt, "refused");
-    let Ok(desk) = Desk::new(alloc, file, frames) else {
-        panic!(rt; "no memory")
-    };
-    desk
+    match Desk::new(alloc, file_of(rt, alloc, terms), frames) {
+        Ok(desk) => desk,
+        Err(_) => panic!(rt; "no memory"),
+    }
 }
 
 /// Answers a line, and puts the reply.
@@ -167,29 +171,25 @@ fn answer_all<L: Ledger>(
     steps: &mut Steps<L>,
 ) -> Result<Went, WriteFault> {
     let mut buffer = Buffer::new();
+    answer_lines(desk, script, out, &mut buffer, steps)
+}
+
+/// The same by way of a buffer.
+fn answer_lines<L: Ledger>(
+    desk: &mut Desk,
+    script: &[u8],
+    out: &mut MemSink,
+    buffer: &mut Buffer,
+    steps: &mut Steps<L>,
+) -> Result<Went, WriteFault> {
     let mut rest = script;
     let mut went = Went::On;
     while let Some(end) = memchr(b'\n', rest) {
         let (line, behind) = rest.split_at(end);
-        went = answer_one(desk, line, out, &mut buffer, steps)?;
+        went = answer_one(desk, line, out, buffer, steps)?;
         rest = &behind[1..];
     }
     Ok(went)
-}
-
-/// What was printed, and how the last line went.
-#[derive(Drop)]
-struct Told {
-    went: Result<Went, WriteFault>,
-    sink: MemSink,
-}
-
-/// Whether this was printed, and the last line went so.
-fn is_told(told: &Told, out: &[u8], went: Went) -> bool {
-    match &told.went {
-        Ok(last) => *last == went && told.sink.written() == out,
-        Err(_) => false,
-    }
 }
 
 /// Answers a script at a desk over so many documents, and then another, where nothing fails, and closes the desk. Tells
@@ -211,7 +211,9 @@ fn both_answered<L: Ledger>(
     let went = answer_all(&mut desk, script, out, &mut steps);
     let later = answer_all(&mut desk, behind, out, &mut steps);
     let file = desk.close();
-    assert!(rt; file.docs() == docs && later.is_ok());
+    let count = file.docs();
+    drop(file);
+    assert!(rt; count == docs && later.is_ok());
     went
 }
 
@@ -221,22 +223,36 @@ fn sink_of(rt: &impl Abort, alloc: Global, bad: &[u64]) -> MemSink {
     MemSink::new(alloc, Row::from_vec(bad))
 }
 
-/// What a desk of so many frames prints for a script, and then for another behind it, where puts fail as named, but none
-/// behind the script.
+/// Puts what a desk of so many frames prints for a script, and then for another behind it, where no put fails behind the
+/// script. Tells how the last line of the script went, where nothing failed.
 fn answered(
     rt: &impl Abort,
     alloc: Global,
     terms: Terms<'_>,
     frames: u32,
     script: &[u8],
-    bad: &[u64],
     behind: &[u8],
-) -> Told {
+    out: &mut MemSink,
+) -> Option<Went> {
     let desk = desk_over(rt, alloc, terms, frames);
-    let mut sink = sink_of(rt, alloc, bad);
-    let blank = Blank::new(1);
-    let went = both_answered::<Brand>(rt, blank, desk, terms.docs, script, behind, &mut sink);
-    Told { went, sink }
+    both_answered::<Brand>(rt, Blank::new(1), desk, terms.docs, script, behind, out).ok()
+}
+
+/// Whether a desk of so many frames prints this for a script, whose last line went so.
+fn is_answered(
+    rt: &impl Abort,
+    alloc: Global,
+    terms: Terms<'_>,
+    frames: u32,
+    script: &[u8],
+    out: &[u8],
+    went: Went,
+) -> bool {
+    let mut sink = sink_of(rt, alloc, &[]);
+    let last = answered(rt, alloc, terms, frames, script, b"", &mut sink);
+    let told = last == Some(went) && sink.written() == out;
+    drop(sink);
+    told
 }
 
 /// Terms of a file, the frames of a desk over it, a script, and what is printed for it.
@@ -321,8 +337,7 @@ const SCRIPTS: [Script<'static>; 6] = [
 /// Each script is answered as stands beside it, to its end.
 fn check_scripts(rt: &impl Abort, alloc: Global, scripts: &[Script<'_>]) {
     for (terms, frames, script, out) in scripts {
-        let told = answered(rt, alloc, *terms, *frames, script, &[], b"");
-        assert!(rt; is_told(&told, out, Went::End));
+        assert!(rt; is_answered(rt, alloc, *terms, *frames, script, out, Went::End));
     }
 }
 
@@ -365,18 +380,20 @@ fn put_long_lines(rt: &impl Abort, script: &mut Vec<u8>, blanks: &[u8])
 
 /// Bad lines, and lines that are just too long and just short enough.
 fn bad_script(rt: &impl Abort, alloc: Global) -> Vec<u8> {
-    let blanks = vec![in alloc; b' '; 1_048_572].expect(rt, "no memory");
     let mut script = Vec::new(alloc);
     put(rt, &mut script, BAD_LINES);
+    let blanks = vec![in alloc; b' '; 1_048_572].expect(rt, "no memory");
     put_long_lines(rt, &mut script, blanks.as_slice());
+    drop(blanks);
     script
 }
 
 /// What is printed for them is as told.
 fn check_bad_lines(rt: &impl Abort, alloc: Global) {
     let script = bad_script(rt, alloc);
-    let told = answered(rt, alloc, B, 1, script.as_slice(), &[], b"");
-    assert!(rt; is_told(&told, BAD_LINES_TOLD, Went::On));
+    let told = is_answered(rt, alloc, B, 1, script.as_slice(), BAD_LINES_TOLD, Went::On);
+    drop(script);
+    assert!(rt; told);
 }
 
 #[test]
@@ -405,9 +422,18 @@ fn openings(rt: &impl Abort, alloc: Global) -> Vec<u8> {
 /// The last lines that are printed for 65 sessions without mentions.
 fn check_many_sessions(rt: &impl Abort, alloc: Global) {
     let script = openings(rt, alloc);
-    let told = answered(rt, alloc, B, 1, script.as_slice(), &[], b"");
+    let full = ends_full(rt, alloc, script.as_slice());
+    drop(script);
+    assert!(rt; full);
+}
+
+fn ends_full(rt: &impl Abort, alloc: Global, script: &[u8]) -> bool {
+    let mut sink = sink_of(rt, alloc, &[]);
+    answered(rt, alloc, B, 1, script, b"", &mut sink);
     let last = b"opened n63 need 0 unknown 0\nrefused 73 desk full\n";
-    assert!(rt; told.sink.written().ends_with(last));
+    let full = sink.written().ends_with(last);
+    drop(sink);
+    full
 }
 
 #[test]
@@ -418,9 +444,12 @@ fn a_desk_has_64_sessions(rt: HostRuntime) {
 /// The last line that is printed behind a script whose second put fails.
 fn check_put_fails(rt: &impl Abort, alloc: Global) {
     let script = b"open x 1 a\ngrant x 1\n";
-    let told = answered(rt, alloc, B, 1, script, &[1], b"why x\n");
+    let mut sink = sink_of(rt, alloc, &[1]);
+    let went = answered(rt, alloc, B, 1, script, b"why x\n", &mut sink);
     let last = b"x postings 1 segments 1 of 3 cutoff 9 next 5 bound 5 unknown 0 final\n";
-    assert!(rt; told.went.is_err() && told.sink.written().ends_with(last));
+    let told = sink.written().ends_with(last);
+    drop(sink);
+    assert!(rt; went == None && told);
 }
 
 #[test]
