@@ -174,7 +174,7 @@ fn answer_all<L: Ledger>(
     answer_lines(desk, script, out, &mut buffer, steps)
 }
 
-/// The same by way of a buffer.
+/// Answers the lines of a script as `answer_all` does, with a buffer for the replies that the caller owns.
 fn answer_lines<L: Ledger>(
     desk: &mut Desk,
     script: &[u8],
@@ -223,8 +223,8 @@ fn sink_of(rt: &impl Abort, alloc: Global, bad: &[u64]) -> MemSink {
     MemSink::new(alloc, Row::from_vec(bad))
 }
 
-/// Puts what a desk of so many frames prints for a script, and then for another behind it, where no put fails behind the
-/// script. Tells how the last line of the script went, where nothing failed.
+/// Puts what a desk of so many frames prints for a script, and then for another one behind it, whose puts must not fail.
+/// Tells how the last line of the first script went, or nothing where a put of it failed.
 fn answered(
     rt: &impl Abort,
     alloc: Global,
@@ -239,7 +239,7 @@ fn answered(
 }
 
 /// Whether a desk of so many frames prints this for a script, whose last line went so.
-fn is_answered(
+fn prints(
     rt: &impl Abort,
     alloc: Global,
     terms: Terms<'_>,
@@ -337,7 +337,7 @@ const SCRIPTS: [Script<'static>; 6] = [
 /// Each script is answered as stands beside it, to its end.
 fn check_scripts(rt: &impl Abort, alloc: Global, scripts: &[Script<'_>]) {
     for (terms, frames, script, out) in scripts {
-        assert!(rt; is_answered(rt, alloc, *terms, *frames, script, out, Went::End));
+        assert!(rt; prints(rt, alloc, *terms, *frames, script, out, Went::End));
     }
 }
 
@@ -391,7 +391,7 @@ fn bad_script(rt: &impl Abort, alloc: Global) -> Vec<u8> {
 /// What is printed for them is as told.
 fn check_bad_lines(rt: &impl Abort, alloc: Global) {
     let script = bad_script(rt, alloc);
-    let told = is_answered(rt, alloc, B, 1, script.as_slice(), BAD_LINES_TOLD, Went::On);
+    let told = prints(rt, alloc, B, 1, script.as_slice(), BAD_LINES_TOLD, Went::On);
     drop(script);
     assert!(rt; told);
 }
@@ -427,11 +427,12 @@ fn check_many_sessions(rt: &impl Abort, alloc: Global) {
     assert!(rt; full);
 }
 
+/// Whether the last session of a script is refused behind the 64th, since the desk is full.
 fn ends_full(rt: &impl Abort, alloc: Global, script: &[u8]) -> bool {
     let mut sink = sink_of(rt, alloc, &[]);
-    answered(rt, alloc, B, 1, script, b"", &mut sink);
+    let went = answered(rt, alloc, B, 1, script, b"", &mut sink);
     let last = b"opened n63 need 0 unknown 0\nrefused 73 desk full\n";
-    let full = sink.written().ends_with(last);
+    let full = went == Some(Went::On) && sink.written().ends_with(last);
     drop(sink);
     full
 }
@@ -449,7 +450,7 @@ fn check_put_fails(rt: &impl Abort, alloc: Global) {
     let last = b"x postings 1 segments 1 of 3 cutoff 9 next 5 bound 5 unknown 0 final\n";
     let told = sink.written().ends_with(last);
     drop(sink);
-    assert!(rt; went == None && told);
+    assert!(rt; went.is_none() && told);
 }
 
 #[test]

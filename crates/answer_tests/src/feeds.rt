@@ -43,8 +43,8 @@ const CASES: [Case<'static>; 8] = [
     (b"ab\n", 0, b"", Filled::Limit, b"ab\n"),
 ];
 
-/// Whether so many bytes of an input may be taken up to its end or the limit, and give these lines.
-fn gives(
+/// Whether an input, of which so many bytes may be taken, gives these lines and then no more, for this reason.
+fn is_read(
     rt: &impl Abort,
     alloc: Global,
     input: &mut SliceFeed<'_>,
@@ -59,7 +59,7 @@ fn gives(
     given
 }
 
-/// Whether lines to which nothing was taken yet are filled, and are these then.
+/// Whether nothing was taken yet, a first filling doesn't fail, and these are the lines then and the rest.
 fn gives_lines(
     rt: &impl Abort,
     alloc: Global,
@@ -76,18 +76,18 @@ fn gives_lines(
     are_wanted
 }
 
-/// Whether a filling ends so.
+/// Whether the next filling comes to this.
 fn is_filled(lines: &mut FeedLines, input: &mut SliceFeed<'_>, last: Filled) -> bool {
     lines.fill(input).ok() == Some(last)
 }
 
 /// Whether these bytes stay in an input.
-fn stays(input: &mut SliceFeed<'_>, behind: &[u8]) -> bool {
+fn keeps(input: &mut SliceFeed<'_>, behind: &[u8]) -> bool {
     let mut buf = [0u8; 8];
     input.read(&mut buf).ok() == Some(behind.len()) && buf.starts_with(behind)
 }
 
-/// Whether an input gives these lines, and keeps the bytes behind them.
+/// Whether an input gives these lines up to the limit, and keeps the bytes behind them.
 fn is_taken(
     rt: &impl Abort,
     alloc: Global,
@@ -98,7 +98,7 @@ fn is_taken(
     behind: &[u8],
 ) -> bool {
     let mut input = SliceFeed::new(bytes);
-    gives(rt, alloc, &mut input, limit, want, last) && stays(&mut input, behind)
+    is_read(rt, alloc, &mut input, limit, want, last) && keeps(&mut input, behind)
 }
 
 /// Each input gives the lines that stand beside it, and keeps the bytes behind them.
@@ -139,7 +139,7 @@ fn check_steps(rt: &impl Abort, lines: &mut FeedLines, input: &mut MemFeed, step
     }
 }
 
-/// Whether so many bytes wait, are of a long line or not, and end a line there.
+/// Whether so many bytes wait, whether they are of a long line, and where the line ends, are as told.
 fn is_at(lines: &FeedLines, waits: usize, long: bool, end: Option<usize>) -> bool {
     lines.rest().len() == waits && lines.is_long() == long && lines.end_of_line() == end
 }

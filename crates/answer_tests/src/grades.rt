@@ -16,7 +16,7 @@ const SECOND_5: Hit = Hit { doc: 1, score: 5 };
 
 const SECOND_3: Hit = Hit { doc: 1, score: 3 };
 
-/// Cases, by what they show.
+/// Cases, each group under what it shows.
 const CASES: [Case<'static>; 10] = [
     // Two of three may be passed.
     (
@@ -63,6 +63,7 @@ const CASES: [Case<'static>; 10] = [
     ),
 ];
 
+/// Whether hits have this grade.
 fn is_graded(
     hits: &[Hit],
     runner_up: Option<Hit>,

@@ -77,7 +77,7 @@ fn add(rt: &impl Abort, pages: &mut Pages, top: &mut Top, pool: &mut FramePool, 
     top.settle(pages, pool, &[doc]);
 }
 
-/// Whether a heap for one hit has this one, and this document behind it.
+/// Whether a heap for one hit has this one, and this one behind it.
 fn is_first(top: &Top, first: Hit, next: Option<Hit>) -> bool {
     top.ranked() == [first].as_slice() && top.runner_up() == next
 }
@@ -268,12 +268,12 @@ fn close_two(two: Two) {
     } = two;
     drop(x_top);
     drop(y_top);
-    close_both(&mut pool, x, y);
+    give_back_both(&mut pool, x, y);
     drop(pool);
 }
 
-/// Gives the frames of two sessions back.
-fn close_both(pool: &mut FramePool, x: Pages, y: Pages)
+/// Gives the frames of two sessions back to the pool that they share.
+fn give_back_both(pool: &mut FramePool, x: Pages, y: Pages)
     requires x { Stands x pool.old }
     requires y { Stands y pool.old }
     requires apart { own_chain x ≢ own_chain y }
@@ -290,7 +290,7 @@ fn two_sessions_take_turns(rt: HostRuntime) {
     close_two(two);
 }
 
-/// The documents tie in one session, in either order of arrival.
+/// Two sessions rise in turns. In the first one the documents tie, and the lower one comes last.
 fn check_turns(rt: &impl Abort, two: &mut Two) {
     add_to_x(rt, two, 1, 4);
     add_to_y(rt, two, 2, 7);
@@ -337,7 +337,7 @@ fn add_batch(
     top.settle(pages, pool, reached.as_slice());
 }
 
-/// These documents were noted, and a heap has this hit.
+/// These documents were noted, and a heap has this hit alone.
 fn check_ranked(rt: &impl Abort, reached: &Reached, docs: &[u32], top: &Top, first: Hit) {
     assert!(rt; reached.as_slice() == docs && top.ranked() == [first].as_slice());
 }
@@ -347,8 +347,9 @@ fn check_batches(rt: &impl Abort, alloc: Global) {
     let mut pool = pool_of(rt, alloc, 3, 1);
     let (mut pages, mut top) = opened(rt, alloc, &mut pool, 6, 6);
     let mut reached = Reached::new(alloc, 6).expect(rt, "no memory");
-    add_two_batches(rt, &mut pages, &mut top, &mut pool, &mut reached);
+    check_both_batches(rt, &mut pages, &mut top, &mut pool, &mut reached);
     drop(reached);
+    // The last of the full heap is document 0 with score 2.
     let next = top.runner_up();
     drop(top);
     pool.give_back(pages.into_chain());
@@ -356,9 +357,9 @@ fn check_batches(rt: &impl Abort, alloc: Global) {
     assert!(rt; next == Some(Hit { doc: 0, score: 2 }));
 }
 
-/// Adds both batches. Document 5 is in the heap already as the second one comes, in which the others tie. The last of the
-/// full heap is then document 0 with score 2.
-fn add_two_batches(
+/// Adds two batches, and checks after each which documents were noted and which hit is first. Document 5 is in the heap
+/// already as the second one comes, in which the others tie.
+fn check_both_batches(
     rt: &impl Abort,
     pages: &mut Pages,
     top: &mut Top,

@@ -8,16 +8,13 @@ use segment_plan::{Plan, PlanEntry, PlanHead};
 use std::alloc::Global;
 use std::process::Abort;
 
-#[test]
-fn cat_and_dog(rt: HostRuntime) {
-    check_plan(&rt, rt.alloc());
-}
-
+/// `cat` and `dog`, each named once.
 const TERMS: [QueryTerm; 2] = [
     QueryTerm { term: 0, times: 1 },
     QueryTerm { term: 1, times: 1 },
 ];
 
+/// The heads of their segments.
 const HEADS: [PlanHead; 4] = [
     PlanHead {
         term_place: 0,
@@ -71,16 +68,17 @@ fn has_prefixes(plan: &Plan) -> bool
         && plan.within(2, 0) == 0
 }
 
-const SECOND: PlanEntry = PlanEntry {
+/// The second entry of the plan: the first segment of `dog`.
+const SECOND_ENTRY: PlanEntry = PlanEntry {
     term_place: 1,
     segment: 0,
     weight: 3,
     count: 1,
 };
 
-/// Whether the plan has four entries, with this second one, and these weights behind them.
+/// Whether the plan has four entries, the second one as told, and the bounds and prefixes of both terms.
 fn is_of_both(plan: &Plan) -> bool {
-    plan.len() == 4 && plan.entry(1) == SECOND && has_bounds(plan) && has_prefixes(plan)
+    plan.len() == 4 && plan.entry(1) == SECOND_ENTRY && has_bounds(plan) && has_prefixes(plan)
 }
 
 /// The plan is that of both terms.
@@ -107,4 +105,9 @@ fn terms(rt: &impl Abort, alloc: Global) -> Row<QueryTerm>
     let mut terms = Row::new(alloc);
     terms.extend(&TERMS).expect(rt, "no memory");
     terms
+}
+
+#[test]
+fn cat_and_dog(rt: HostRuntime) {
+    check_plan(&rt, rt.alloc());
 }

@@ -148,12 +148,15 @@ fn are_queries(queries: &[Query], wants: &[(&str, [u32; 5]); 2]) -> bool {
     }
 }
 
+/// Whether a query has the name and the counts that are wanted.
 fn is_wanted(query: &Query, want: &(&str, [u32; 5])) -> bool {
     is_query(query, want.0, &want.1)
 }
 
+/// A file of two queries, with a line without bytes between them.
 const LINES: &[u8] = b"301\tCAT  dog\r\n\n302 zzz\n";
 
+/// The names of these queries, each with how often it names the four terms and how many others.
 const WANTS: [(&str, [u32; 5]); 2] = [("301", [0, 1, 1, 0, 0]), ("302", [0, 0, 0, 0, 1])];
 
 /// The queries of a file of two lines, and one between them without bytes.
@@ -178,6 +181,7 @@ fn named(rt: &impl Abort, alloc: Global) -> Query {
     query.expect(rt, "no memory")
 }
 
+/// The terms of `dog zzz^2 cat dog`, in the order in which they come.
 const NAMED: [QueryTerm; 2] = [
     QueryTerm { term: 2, times: 2 },
     QueryTerm { term: 1, times: 1 },

@@ -31,6 +31,7 @@ fn is_line(line: &RunLine) -> bool {
         && is_text(&line.tag, "t")
 }
 
+/// Whether a column is this text.
 fn is_text(text: &Text, wanted: &str) -> bool {
     text.as_str() == wanted
 }
@@ -43,6 +44,7 @@ fn check_second(rt: &impl Abort, alloc: Global, text: &[u8]) {
     assert!(rt; second);
 }
 
+/// Whether there is one line, with these columns.
 fn is_one_line(lines: &[RunLine]) -> bool {
     match lines {
         [line] => is_line(line),

@@ -88,13 +88,14 @@ fn most_after(rt: &impl Abort, docs: &[u32], w: u32, most: u32, limit: u32) -> u
     most.checked_add(gain).expect(rt, "too much")
 }
 
+/// Whether all documents are below a limit.
 fn are_below(docs: &[u32], limit: u32) -> bool
     ensures { IsTrue result → All (λ doc. doc < limit) docs.now }
 {
     docs.iter().all(|doc| *doc < limit)
 }
 
-/// The same for the documents whose bits are set in a row.
+/// What no score is above once a weight is added to the documents of a row whose bits are set.
 fn most_after_bits(rt: &impl Abort, row: u32, bits: &[u8], w: u32, most: u32, limit: u32) -> u32
     ensures row { row ≤ 1 }
     ensures few { length bits.now ≤ 16 }
@@ -195,23 +196,25 @@ fn bits_are_documents(rt: HostRuntime) {
     close(scored);
 }
 
-const BITS: [Hit; 2] = [Hit { doc: 1, score: 4 }, Hit { doc: 4, score: 4 }];
+/// The first hits once documents 1 and 4 have risen.
+const TWO_RISEN: [Hit; 2] = [Hit { doc: 1, score: 4 }, Hit { doc: 4, score: 4 }];
 
-const MORE_BITS: [Hit; 2] = [Hit { doc: 1, score: 8 }, Hit { doc: 2, score: 4 }];
+/// The first hits once documents 1, 2 and 3 have risen behind that.
+const THREE_RISEN: [Hit; 2] = [Hit { doc: 1, score: 8 }, Hit { doc: 2, score: 4 }];
 
-/// Scores that bits raise.
+/// Bits raise the scores of their documents, and take a frame only where one is set.
 fn check_bits(rt: &impl Abort, scored: &mut Scored) {
     // No bit: no frame is taken.
     add_byte(rt, scored, 0, 4);
     check_frames(rt, scored, 0);
 
     add_byte(rt, scored, 0b10010, 4);
-    check_hits(rt, scored, &BITS);
+    check_hits(rt, scored, &TWO_RISEN);
     check_frames(rt, scored, 1);
 
     // Documents 2 and 3 reach the score of document 4, and stand before it; document 1 rises too.
     add_byte(rt, scored, 0b01110, 4);
-    check_hits(rt, scored, &MORE_BITS);
+    check_hits(rt, scored, &THREE_RISEN);
     check_next(rt, scored, Some(Hit { doc: 3, score: 4 }));
     check_untouched(rt, scored);
 }
@@ -321,6 +324,7 @@ fn hit_at(scored: &Scored, place: u32) -> Option<Hit> {
     }
 }
 
+/// Whether this hit stands at a place.
 fn is_at(scored: &Scored, place: u32, hit: Hit) -> bool {
     hit_at(scored, place) == Some(hit)
 }

@@ -52,6 +52,7 @@ fn asked(rt: &impl Abort, alloc: Global) -> Query
     }
 }
 
+/// The term with number 0, named once.
 fn terms(rt: &impl Abort, alloc: Global) -> Row<QueryTerm>
     ensures { result ≡ record { term = 0; times = 1 } ∷ [] }
 {
@@ -195,7 +196,7 @@ fn check_grants(rt: &impl Abort, sitting: &mut Sitting) {
     assert!(rt; first == report(1, 9, 5) && second == report(2, 5, 1) && last == report(3, 1, 0));
 }
 
-/// The session scores all postings, and takes the one frame.
+/// A new session has scored nothing. Three grants score all postings, and take the one frame.
 fn check_sitting(rt: &impl Abort, sitting: &mut Sitting) {
     check_new(rt, &sitting.session);
     check_grants(rt, sitting);
@@ -203,14 +204,19 @@ fn check_sitting(rt: &impl Abort, sitting: &mut Sitting) {
     assert!(rt; sitting.pool.spare() == 0);
 }
 
+/// How many frames of the pool are spare once a session gave its own back.
+fn spare_behind(sitting: Sitting) -> u32 {
+    let pool = closed(sitting);
+    let spare = pool.spare();
+    drop(pool);
+    spare
+}
+
 #[test]
 fn grants_of_one_posting_and_of_all(rt: HostRuntime) {
     let mut sitting = opened(&rt, rt.alloc(), &FILE, 1);
     check_sitting(&rt, &mut sitting);
-    let pool = closed(sitting);
-    let spare = pool.spare();
-    drop(pool);
-    assert!(&rt; spare == 1);
+    assert!(&rt; spare_behind(sitting) == 1);
 }
 
 /// One segment is a bitmap, and two postings are scored in all.
@@ -256,6 +262,7 @@ fn check_full(rt: &impl Abort, alloc: Global) {
     assert!(rt; stop == OpenStop::PoolFull { need: 1, free: 0 });
 }
 
+/// Why no session is opened in a pool without frames.
 fn stopped_without_frames(rt: &impl Abort, alloc: Global, file: &IndexFile) -> OpenStop {
     let mut pool = FramePool::new(alloc, 0, 1).expect(rt, "no memory");
     let stop = stopped(rt, alloc, file, &mut pool);

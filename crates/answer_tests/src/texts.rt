@@ -7,7 +7,7 @@ use std::alloc::Global;
 use std::process::Abort;
 
 /// Puts a piece of this size behind a text, or of all the bytes, where there are fewer.
-fn put_piece<'a>(rt: &impl Abort, text: &mut Vec<&'a [u8]>, bytes: &'a [u8], size: usize) {
+fn append_piece<'a>(rt: &impl Abort, text: &mut Vec<&'a [u8]>, bytes: &'a [u8], size: usize) {
     let piece = &bytes[..bytes.len().min(size)];
     text.extend_from_slice(&[piece]).expect(rt, "no memory");
 }
@@ -21,20 +21,22 @@ fn text_of<'a>(
     pieces: u32,
 ) -> Vec<&'a [u8]> {
     let mut text = Vec::new(alloc);
-    put_sizes(rt, &mut text, bytes, sizes);
-    put_pieces(rt, &mut text, bytes, pieces);
+    append_sizes(rt, &mut text, bytes, sizes);
+    append_equal(rt, &mut text, bytes, pieces);
     text
 }
 
-fn put_sizes<'a>(rt: &impl Abort, text: &mut Vec<&'a [u8]>, bytes: &'a [u8], sizes: &[usize]) {
+/// Appends a piece of each of these sizes.
+fn append_sizes<'a>(rt: &impl Abort, text: &mut Vec<&'a [u8]>, bytes: &'a [u8], sizes: &[usize]) {
     for size in sizes {
-        put_piece(rt, text, bytes, *size);
+        append_piece(rt, text, bytes, *size);
     }
 }
 
-fn put_pieces<'a>(rt: &impl Abort, text: &mut Vec<&'a [u8]>, bytes: &'a [u8], pieces: u32) {
+/// Appends so many pieces of 15,000 bytes.
+fn append_equal<'a>(rt: &impl Abort, text: &mut Vec<&'a [u8]>, bytes: &'a [u8], pieces: u32) {
     for _ in 0..pieces {
-        put_piece(rt, text, bytes, 15_000);
+        append_piece(rt, text, bytes, 15_000);
     }
 }
 
@@ -48,7 +50,7 @@ fn put(rt: &impl Abort, alloc: Global, text: &[&[u8]], bad_put: u64) -> (usize, 
     (count, whole)
 }
 
-/// The same of a text of these sizes and so many pieces.
+/// How many bytes go of the text of these sizes and so many pieces where the put with a number fails, and whether all do.
 fn put_text(
     rt: &impl Abort,
     alloc: Global,
@@ -89,12 +91,13 @@ fn check_texts(
     }
 }
 
-#[test]
-fn long_texts_go_by_pieces(rt: HostRuntime) {
-    check_long(&rt, rt.alloc());
-}
-
+/// The texts go as told, where their pieces are fronts of 200,000 bytes.
 fn check_long(rt: &impl Abort, alloc: Global) {
     let bytes = vec![in alloc; b'x'; 200_000].expect(rt, "no memory");
     check_texts(rt, alloc, bytes.as_slice(), &TEXTS);
+}
+
+#[test]
+fn long_texts_go_by_pieces(rt: HostRuntime) {
+    check_long(&rt, rt.alloc());
 }

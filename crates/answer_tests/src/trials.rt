@@ -19,6 +19,7 @@ fn is_small_trial(collection: &Collection, postings: &[Posting], lengths: [u32; 
         && are_small_docs(collection.docs.as_slice(), lengths)
 }
 
+/// Whether there is one list, with these postings.
 fn are_small_lists(lists: &[PostingsList], postings: &[Posting]) -> bool {
     match lists {
         [list] => is_small_list(list, postings),

@@ -13,6 +13,7 @@ pub(super) fn words_of(rt: &impl Abort, alloc: Global, line: &str) -> Vec<String
     words
 }
 
+/// Appends a word.
 fn put_word(rt: &impl Abort, alloc: Global, words: &mut Vec<String>, word: &str) {
     let word = String::from_str(alloc, word).expect(rt, "no memory");
     words.push(word).expect(rt, "no memory");
