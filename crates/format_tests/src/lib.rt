@@ -6,6 +6,8 @@
 #[cfg(test)]
 mod ciff_reading;
 #[cfg(test)]
+mod ciff_walking;
+#[cfg(test)]
 mod ciff_writing;
 #[cfg(test)]
 mod exporting;
