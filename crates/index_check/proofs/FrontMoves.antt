@@ -9,8 +9,8 @@ use Rattle.index_layout.specs.Reading.{Front, front_checks, read_front}
 use Rattle.index_layout.specs.Refusals.{Check, check, judged}
 use Rattle.index_layout.specs.declared.refusal.OpenRefusal.{OpenRefusal}
 use Rattle.index_layout.specs.declared.refusal.OpenWhy.TheVariants.{Old, Magic, Length, Totals, Limit}
+use Rattle.index_file.proofs.Pieces.{piece_u32, piece_u64}
 use Rattle.index_check.specs.Private.Pieces.{IsPiece}
-use Rattle.index_check.proofs.Pieces.{piece_u32, piece_u64}
 
 -- the numbers of a front
 abbrev pub number_checks : List ℕ → List Check

@@ -2,8 +2,8 @@
 use Rattle.shared_lemmas.proofs.Common.{◌≡◌, ◌≤◌, ◌+◌, ◌⊎◌, ◌==◌, inl, inr, ℕ, Bool, false, List, length, sym, ap, ◌∙◌, subst, arith, nat_lt, nat_tests}
 use Rattle.whole_files.specs.Windows.{AreFrom}
 use Rattle.index_layout.specs.Bytes.{u64_in}
+use Rattle.index_file.proofs.Pieces.{piece_u64}
 use Rattle.index_check.specs.Private.Pieces.{IsPiece}
-use Rattle.index_check.proofs.Pieces.{piece_u64}
 use Rattle.jass_base.specs.declared.limits.TheConstants.{LONGEST_FILE}
 
 pub front_piece : (content bytes held : List ℕ) (start : ℕ) → AreFrom content start bytes → start ≤ 0 → held ≡ bytes

@@ -1,65 +1,23 @@
 -- Heads of a piece, read as those of the whole.
-use Rattle.shared_lemmas.proofs.Common.{◌≡◌, ℕ, zero, suc, ◌+◌, ◌*◌, ◌<◌, ◌≤◌, ◌⊎◌, inl, inr, cases_lt, true, nat_lt, List, [], ◌∷◌, ◌++◌, length, Result, Ok, Err, refl, ap, sym, ◌∙◌, arith, nat_tests, is_none, slice_index, ◌==◌, ◌||◌, nat_le, Bool, false, ⊤, if◌then◌else◌}
+use Rattle.shared_lemmas.proofs.Common.{◌≡◌, ℕ, zero, suc, ◌+◌, ◌*◌, ◌<◌, ◌≤◌, ◌⊎◌, inl, inr, cases_lt, true, nat_lt, List, [], ◌∷◌, length, Result, Ok, Err, refl, ap, sym, ◌∙◌, arith, nat_tests, is_none, ◌==◌, ◌||◌, nat_le, Bool, false, ⊤, if◌then◌else◌}
 use Rattle.whole_files.specs.Windows.{AreFrom}
 use Rattle.segment_codecs.specs.Codecs.{codec_of}
-use Rattle.index_layout.specs.Bytes.{u16_in, u32_in}
+use Rattle.index_layout.specs.Bytes.{u16_in}
 use Rattle.index_layout.specs.Heads.{HeadData}
 use Rattle.index_layout.specs.Reading.{HeadsRead, head_in, head_checks, head_end, read_heads}
 use Rattle.index_layout.specs.Refusals.{◌>>=◌, Check, judged, refuse}
 use Rattle.index_layout.specs.declared.refusal.OpenRefusal.{OpenRefusal}
 use Rattle.index_layout.specs.declared.refusal.OpenWhy.TheVariants.{Length}
 use Rattle.index_layout.proofs.Judging.{judged_ok}
-use Rattle.index_file.specs.Parts.{heads_from}
-use Rattle.std.proofs.lemmas.List.FromFn.{map-range_with_len_more}
+use Rattle.index_file.proofs.Pieces.{SameHead, head_moved, same_head}
 use Rattle.index_check.specs.Private.Answers.{moved}
 use Rattle.index_check.specs.Private.Pieces.{IsPiece}
 use Rattle.index_check.proofs.Judging.{judged_moved}
-use Rattle.index_check.proofs.Pieces.{piece_index, piece_u16, piece_u32}
 
 -- heads of a piece that begins at a place, or a refusal there, as they stand in the whole
 abbrev pub moved_heads : ℕ → Result HeadsRead OpenRefusal → Result HeadsRead OpenRefusal
 moved_heads by (Ok x) = Ok (record { heads = x.heads; end = by + x.end })
 moved_heads by (Err refusal) = Err (record { at = by + refusal.at; why = refusal.why })
-
--- the four numbers of a head
-record SameHead (content bytes : List ℕ) (at i : ℕ) : Type 0 where
-  impact : u16_in bytes i ≡ u16_in content (at + i)
-  count : u32_in bytes (i + 2) ≡ u32_in content (at + i + 2)
-  codec : slice_index bytes (i + 6) ≡ slice_index content (at + i + 6)
-  size : u32_in bytes (i + 7) ≡ u32_in content (at + i + 7)
-
-same_head : (content bytes : List ℕ) (at i : ℕ) → AreFrom content at bytes → i + 11 ≤ length bytes → SameHead content bytes at i
-same_head content bytes at i from inside =
-    let two : at + (i + 2) ≡ at + i + 2 = omega arith in
-    let six : at + (i + 6) ≡ at + i + 6 = omega arith in
-    let seven : at + (i + 7) ≡ at + i + 7 = omega arith in
-    record {
-      impact = piece_u16 content bytes at i from (omega (arith, inside));
-      count = piece_u32 content bytes at (i + 2) from (omega (arith, inside)) ∙ ap (u32_in content) two;
-      codec = piece_index content bytes at (i + 6) from (omega (arith, inside)) ∙ ap (slice_index content) six;
-      size = piece_u32 content bytes at (i + 7) from (omega (arith, inside)) ∙ ap (u32_in content) seven;
-    }
-
-pub head_moved : (content bytes : List ℕ) (at i : ℕ) → AreFrom content at bytes → i + 11 ≤ length bytes → head_in bytes i ≡ head_in content (at + i)
-unfolding head_in
-head_moved content bytes at i from inside =
-    let same = same_head content bytes at i from inside in
-    rw (same.impact, same.count, same.codec, same.size) refl
-
--- one head more
-pub heads_more : (bytes : List ℕ) (k at : ℕ) → heads_from bytes (k + 1) at ≡ heads_from bytes k at ++ head_in bytes (at + 11 * k) ∷ []
-heads_more bytes k at = map-range_with_len_more (λ s. head_in bytes (at + 11 * s)) 0 k k (omega arith)
-
-pub heads_from_moved : (content bytes : List ℕ) (at k : ℕ) → AreFrom content at bytes → 11 * k ≤ length bytes → heads_from bytes k 0 ≡ heads_from content k at
-heads_from_moved content bytes at zero from inside = refl
-heads_from_moved content bytes at (suc k) from inside =
-    let one : suc k ≡ k + 1 = omega arith in
-    let place : 0 + 11 * k ≡ 11 * k = omega arith in
-    let here : head_in bytes (0 + 11 * k) ≡ head_in content (at + 11 * k) = ap (head_in bytes) place ∙ head_moved content bytes at (11 * k) from (omega (arith, inside)) in
-    ap (λ n. heads_from bytes n 0) one ∙ heads_more bytes k 0
-    ∙ ap (λ h. heads_from bytes k 0 ++ h ∷ []) here
-    ∙ ap (λ (heads : List HeadData). heads ++ head_in content (at + 11 * k) ∷ []) (heads_from_moved content bytes at k from (omega (arith, inside)))
-    ∙ sym (heads_more content k at) ∙ ap (λ n. heads_from content n at) (sym one)
 
 -- a head that doesn't fit
 head_short : (bytes : List ℕ) (d above at : ℕ) → length bytes < at + 11 → head_end bytes d above at ≡ refuse at Length

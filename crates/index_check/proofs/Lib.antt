@@ -12,7 +12,6 @@ pub mod NameMoves
 pub mod NameRooms
 pub mod PayloadEnds
 pub mod PayloadMoves
-pub mod Pieces
 pub mod Reading
 pub mod SegmentLists
 pub mod SegmentMoves

@@ -4,11 +4,11 @@ use Rattle.jass_base.specs.declared.limits.TheConstants.{LONGEST_NAME}
 use Rattle.index_layout.specs.Bytes.{u32_in}
 use Rattle.index_layout.specs.Reading.{is_name_text, name_checks, name_end, name_in}
 use Rattle.index_layout.specs.declared.refusal.OpenRefusal.{OpenRefusal}
+use Rattle.index_file.proofs.Pieces.{piece_range, piece_u32}
 use Rattle.index_check.specs.Private.Answers.{moved}
 use Rattle.index_check.specs.Private.Pieces.{IsPiece}
 use Rattle.index_layout.proofs.Judging.{NoneWrong}
 use Rattle.index_check.proofs.Judging.{SameChecks, judged_small, judged_then, same_reach}
-use Rattle.index_check.proofs.Pieces.{piece_range, piece_u32}
 
 size_same : (content bytes : List ℕ) (at count : ℕ) → IsPiece content at count bytes → nat_lt (length bytes) 4 ≡ false → u32_in content at ≡ u32_in bytes 0
 size_same content bytes at count piece long =

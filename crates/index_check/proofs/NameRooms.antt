@@ -4,11 +4,12 @@ use Rattle.index_layout.specs.Bytes.{u32_in}
 use Rattle.index_layout.specs.Reading.{name_end}
 use Rattle.index_layout.specs.Refusals.{Fails}
 use Rattle.index_layout.specs.declared.refusal.OpenFault.{OpenFault}
-use Rattle.index_check.specs.Private.Answers.{Stops, moved, moved_fault}
+use Rattle.index_file.specs.Parts.{moved_fault}
+use Rattle.index_file.proofs.Pieces.{piece_u32}
+use Rattle.index_check.specs.Private.Answers.{Stops, moved}
 use Rattle.index_check.specs.Private.Pieces.{IsPiece}
 use Rattle.index_check.proofs.Judging.{stops_moved}
 use Rattle.index_check.proofs.NameMoves.{name_moved, name_small}
-use Rattle.index_check.proofs.Pieces.{piece_u32}
 use Rattle.index_check.proofs.Stopping.{stops_as}
 use Rattle.jass_base.specs.declared.limits.TheConstants.{LONGEST_FILE, LONGEST_NAME}
 

@@ -5,8 +5,8 @@ use Rattle.jass_base.specs.Outside.{Files, ForContent, IsMissing, OnContent, Ros
 use Rattle.index_layout.specs.declared.refusal.OpenFault.{OpenFault}
 use Rattle.index_layout.specs.declared.refusal.OpenFault.TheVariants as faults
 use Rattle.index_layout.specs.declared.refusal.OpenRefusal.{OpenRefusal}
+use Rattle.index_file.specs.Contents.{IsContent, Outside, Reads}
 use Rattle.index_check.specs.Private.Answers.{IsNotRefused, IsThere, Stops}
-use Rattle.index_check.specs.Private.Contents.{IsContent, Outside, Reads}
 
 -- what holds of the content where it is told holds of this one
 pub given : (files : Option Files) (name content : List ℕ) (P : List ℕ → Type 0) → ForContent files name P → IsContent files name content → P content

@@ -13,8 +13,8 @@ use Rattle.index_layout.specs.declared.refusal.OpenRefusal.{OpenRefusal}
 use Rattle.index_layout.proofs.Behind.{behind_segments, with_segments}
 use Rattle.index_file.specs.Marks.{AreMarks}
 use Rattle.index_file.specs.Parts.{IsCounted, heads_from}
+use Rattle.index_file.proofs.Pieces.{head_moved}
 use Rattle.index_check.specs.Private.Answers.{EndsSegments, Stops}
-use Rattle.index_check.proofs.HeadMoves.{head_moved}
 use Rattle.index_check.proofs.Stopping.{stops_as, stops_on}
 
 none : HeadData

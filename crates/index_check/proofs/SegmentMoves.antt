@@ -7,7 +7,8 @@ use Rattle.index_layout.specs.declared.refusal.OpenFault.{OpenFault}
 use Rattle.index_layout.specs.declared.refusal.OpenFault.TheVariants as faults
 use Rattle.index_layout.specs.declared.refusal.OpenRefusal.{OpenRefusal}
 use Rattle.index_file.specs.Marks.{AreMarks}
-use Rattle.index_check.specs.Private.Answers.{Stops, moved, moved_fault}
+use Rattle.index_file.specs.Parts.{moved_fault}
+use Rattle.index_check.specs.Private.Answers.{Stops, moved}
 use Rattle.index_check.specs.Private.Pieces.{IsPiece}
 use Rattle.index_check.proofs.Judging.{stops_moved}
 use Rattle.index_check.proofs.PayloadMoves.{payload_docs, payload_moved, payload_small}

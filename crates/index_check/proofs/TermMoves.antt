@@ -4,11 +4,11 @@ use Rattle.index_layout.specs.Bytes.{u16_in, u32_in}
 use Rattle.index_layout.specs.Layout.{shared_with}
 use Rattle.index_layout.specs.Reading.{before_bytes, heads_in, is_next_term, segments_place, term_checks, term_end, term_in}
 use Rattle.index_layout.specs.declared.refusal.OpenRefusal.{OpenRefusal}
+use Rattle.index_file.proofs.Pieces.{piece_range, piece_u16, piece_u32}
 use Rattle.index_check.specs.Private.Answers.{moved}
 use Rattle.index_check.specs.Private.Pieces.{IsPiece}
 use Rattle.index_layout.proofs.Judging.{NoneWrong, judged_ok}
 use Rattle.index_check.proofs.Judging.{SameChecks, judged_small, judged_then, same_reach}
-use Rattle.index_check.proofs.Pieces.{piece_range, piece_u16, piece_u32}
 
 -- a term has no more bytes of the one before than that has
 pub shared_fits : (before term : List ℕ) (shared : ℕ) (rises : Bool) → (shared_with before term == shared && rises) ≡ true → shared ≤ length before

@@ -1,7 +1,7 @@
 ghost use Rattle.std.specs.Prelude.{ℕ, ◌≡◌, ◌≤◌, ◌<◌, ◌==◌, nat_lt, true, false, List, length, IfOk, IsErrOf};
 ghost use Rattle.index_layout.specs.Bytes.{u64_in};
+ghost use Rattle.index_file.specs.Contents.{IsContent, Reads, outside};
 ghost use Rattle.index_check.specs.Private.Answers.{AnswersFront, IsThere};
-ghost use Rattle.index_check.specs.Private.Contents.{IsContent, Reads, outside};
 ghost use Rattle.index_check.specs.Private.Pieces.{IsPiece};
 ghost use Rattle.jass_base.specs.declared.limits.TheConstants.{LONGEST_FILE, MOST_DOCUMENTS, MOST_TERMS};
 

@@ -1,7 +1,7 @@
 ghost use Rattle.std.specs.Prelude.{ℕ, ◌≡◌, ◌≤◌, ◌+◌, ◌-◌, ◌^◌, min, List, length, IfErr, OnOk};
 ghost use Rattle.whole_files.specs.Windows.{IsAt, Reaches, Shows};
+ghost use Rattle.index_file.specs.Contents.{IsContent, Reads, outside};
 ghost use Rattle.index_check.specs.Private.Answers.{IsNotRefused};
-ghost use Rattle.index_check.specs.Private.Contents.{IsContent, Reads, outside};
 ghost use Rattle.index_check.specs.Private.Pieces.{Holds, IsPiece};
 
 use index_layout::OpenFault;

@@ -7,7 +7,6 @@ mod check;
 mod ends;
 mod front;
 mod held;
-mod moved;
 mod names;
 mod payloads;
 mod probing;

@@ -1,14 +1,13 @@
 ghost use Rattle.std.specs.Prelude.{ℕ, ◌≡◌, ◌≤◌, ◌+◌, List, length, IfOk};
 ghost use Rattle.index_layout.specs.Bytes.{u32_in};
 ghost use Rattle.index_layout.specs.Reading.{NamesRead, name_end, read_names};
+ghost use Rattle.index_file.specs.Contents.{IsContent, Reads, outside};
 ghost use Rattle.index_check.specs.Private.Answers.{Ends, Places};
-ghost use Rattle.index_check.specs.Private.Contents.{IsContent, Reads, outside};
 ghost use Rattle.index_check.specs.Private.Pieces.{Holds};
 ghost use Rattle.jass_base.specs.declared.limits.TheConstants.{LONGEST_FILE, LONGEST_NAME};
 
 use crate::held::Held;
-use crate::moved::moved;
-use index_file::parts::{name_end, u32_at};
+use index_file::parts::{moved, name_end, u32_at};
 use index_layout::OpenFault;
 use jass_base::Cabinet;
 use jass_base::limits::LONGEST_NAME;

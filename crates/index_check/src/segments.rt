@@ -1,16 +1,15 @@
 ghost use Rattle.std.specs.Prelude.{ℕ, ◌≡◌, ◌≤◌, ◌<◌, ◌*◌, ◌++◌, All, List, [], length, IfOk, OnOk};
 ghost use Rattle.index_layout.specs.Reading.{docs_in, payload_end, read_segments};
+ghost use Rattle.index_file.specs.Contents.{IsContent, Reads, outside};
 ghost use Rattle.index_file.specs.Marks.{AreMarks};
 ghost use Rattle.index_file.specs.Parts.{IsCounted, heads_from, told};
 ghost use Rattle.index_check.specs.Private.Answers.{EndsSegments, Places};
-ghost use Rattle.index_check.specs.Private.Contents.{IsContent, Reads, outside};
 ghost use Rattle.index_check.specs.Private.Pieces.{Holds};
 ghost use Rattle.whole_files.specs.Windows.{AreFrom};
 ghost use Rattle.jass_base.specs.declared.limits.TheConstants.{LONGEST_FILE, MOST_DOCUMENTS};
 
 use crate::held::Held;
-use crate::moved::moved;
-use index_file::parts::{SegmentHead, check_apart, head_of};
+use index_file::parts::{SegmentHead, check_apart, head_of, moved};
 use index_layout::{OpenFault, OpenWhy, refused};
 use jass_base::Cabinet;
 

@@ -1,15 +1,13 @@
-ghost use Rattle.std.specs.Prelude.{ℕ, ◌≡◌, ◌≤◌, ◌*◌, ◌+◌, None, List, [], length, IfOk, OnOk};
-ghost use Rattle.index_layout.specs.Heads.{all_heads};
+ghost use Rattle.std.specs.Prelude.{ℕ, ◌≡◌, ◌≤◌, ◌*◌, ◌+◌, None, List, IfOk, OnOk};
 ghost use Rattle.index_layout.specs.Reading.{heads_in, read_heads, read_terms, term_end, term_in};
+ghost use Rattle.index_file.specs.Contents.{IsContent, Reads, outside};
 ghost use Rattle.index_check.specs.Private.Answers.{EndsHeads, EndsTerms, PlacesTerm, before_of};
-ghost use Rattle.index_check.specs.Private.Contents.{IsContent, Reads, outside};
 ghost use Rattle.index_check.specs.Private.Pieces.{Holds};
 ghost use Rattle.jass_base.specs.declared.limits.TheConstants.{GREATEST_IMPACT, LONGEST_FILE, MOST_DOCUMENTS};
 
 use crate::held::Held;
-use crate::moved::moved;
 use crate::term::{check_term, term_room};
-use index_file::parts::{Sums, read_heads};
+use index_file::parts::{Sums, moved, read_heads};
 use index_layout::OpenFault;
 use jass_base::{Cabinet, Row};
 use std::alloc::Global;

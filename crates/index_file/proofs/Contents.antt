@@ -3,6 +3,8 @@ use Rattle.shared_lemmas.proofs.Common.{◌≡◌, ◌<◌, ◌^◌, ℕ, List, 
 use Rattle.index_file.proofs.Below.{Files, OnContent, OpenFault, OpenRefusal, Limit, Answers, FileView}
 use Rattle.index_layout.specs.declared.refusal.OpenFault.TheVariants as faults
 use Rattle.index_layout.specs.Reading.{front_checks, read_front, read_index}
+use Rattle.jass_base.specs.Outside.{IsMissing}
+use Rattle.index_file.specs.Contents.{IsContent}
 use Rattle.index_file.specs.Opening.{Opens}
 
 abbrev too_long : Result FileView OpenRefusal
@@ -19,7 +21,7 @@ front_tells content = elim (cases_lt (2 ^ 32) (length content)) [
   | inr g ↦ ap read_index (take_all 4294967297 content (omega (arith, g)))
 ]
 
-on_content : (files : Option Files) (name : List ℕ) (P Q : List ℕ → Type 0) → ((content : List ℕ) → P content → Q content) → OnContent files name P → OnContent files name Q
+pub on_content : (files : Option Files) (name : List ℕ) (P Q : List ℕ → Type 0) → ((content : List ℕ) → P content → Q content) → OnContent files name P → OnContent files name Q
 on_content None name P Q then there = tt
 on_content (Some files) name P Q then there = at (get files name) there
   where
@@ -36,3 +38,12 @@ opens_front files name row (Err (faults.Refused refusal)) there read =
     (λ content is. sym (front_tells content) ∙ ap read_index (sym is) ∙ read) there
 opens_front files name row (Err faults.ReadFault) there read = tt
 opens_front files name row (Err faults.NoMemory) there read = tt
+
+-- a name that isn't missing, where each content that may be told has P
+pub on_told : (files : Option Files) (name : List ℕ) (P : List ℕ → Type 0) → ¬ IsMissing files name → ((content : List ℕ) → IsContent files name content → P content) → OnContent files name P
+on_told None name P there each = tt
+on_told (Some files) name P there each = at (get files name) refl
+  where
+    at : (o : Option (List ℕ)) → get files name ≡ o → IsSomeAnd o P
+    at None is = absurd (there is)
+    at (Some content) is = each content is

@@ -1,5 +1,5 @@
-pub mod Opened
 pub mod Places
+pub mod Contents
 pub mod Giving
 pub mod Opening
 pub mod Parts

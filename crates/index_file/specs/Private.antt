@@ -1,5 +1,7 @@
 -- Words that no clause of a public call cites: those of this crate's own functions.
+pub mod HeadWords
 pub mod Opened
+pub mod Outlines
 pub mod Payloads
 pub mod Plain
 pub mod Samples

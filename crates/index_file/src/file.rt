@@ -1,4 +1,4 @@
-ghost use Rattle.std.specs.Prelude.{ℕ, ◌≡◌, ◌+◌, ◌*◌, ◌≤◌, ◌<◌, ◌↔◌, List, [], ◌∷◌, Some, length, take, drop, slice_get, slice_range, All, IfOk, IfSome, IsSome};
+ghost use Rattle.std.specs.Prelude.{ℕ, ◌≡◌, ◌+◌, ◌*◌, ◌≤◌, ◌<◌, ◌↔◌, List, [], ◌∷◌, ◌++◌, Some, length, take, drop, slice_get, slice_range, All, IfErr, IfOk, IfSome, IsSome};
 ghost use Rattle.std.specs.Str.{IsUtf8};
 ghost use Rattle.std.specs.Ordering.{nat_cmp};
 ghost use Rattle.std.specs.Cmp.Lexicographic.{slice_cmp};
@@ -8,54 +8,64 @@ ghost use Rattle.plain_codecs.specs.Bitmap.{bitmap_size};
 ghost use Rattle.segment_codecs.specs.Codecs.{payload_of};
 ghost use Rattle.index_model.specs.Querying.{segments_at};
 ghost use Rattle.index_layout.specs.Reading.{read_index};
-ghost use Rattle.index_layout.specs.Refusals.{Answers};
+ghost use Rattle.index_layout.specs.Refusals.{Answers, Fails};
 ghost use Rattle.index_layout.specs.Totals.{totals_of};
-ghost use Rattle.index_layout.specs.View.{FileView, IsFileView, file_bytes};
+ghost use Rattle.index_layout.specs.View.{FileView, IsFileView, file_bytes, view_payloads};
 ghost use Rattle.index_file.specs.Giving.{Gives};
 ghost use Rattle.index_file.specs.Places.{codec_at, codec_use, segment_at, term_at};
+ghost use Rattle.index_file.specs.Private.Outlines.{AreParts, after_outline};
 ghost use Rattle.index_file.specs.Private.Payloads.{payload_place};
 ghost use Rattle.index_file.specs.Private.Samples.{first_eight};
 
 use crate::cursor::Cursor;
+use crate::ends::check_ends;
 use crate::figures::{CodecUse, Head};
+use crate::head_table::HeadTable;
+use crate::moved::moved;
 use crate::number::{u32_at, u64_at};
+use crate::outline::{Outline, take_apart};
+use crate::payloads::read_payloads;
 use crate::samples::sample_terms;
-use crate::segment_head::{PlacedHead, SegmentHead, head_of};
+use crate::segment_head::{PlacedHead, SegmentHead};
 use crate::span::{Span, part};
-use crate::tables::read_tables;
-use crate::term_row::TermRow;
+use crate::term_table::TermTable;
 use crate::uses::codec_uses;
 use index_layout::OpenFault;
+use index_layout::laws::files_are_read;
 use jass_base::laws::gap_varints_are_read;
 use jass_base::{Names, Row, Steps, Totals, known_gap};
-use segment_codecs::laws::{bitmaps_are_their_documents, payloads_have_few_bytes};
+use segment_codecs::laws::{
+    bitmaps_are_their_documents, codecs_have_their_numbers, payloads_are_read,
+    payloads_have_few_bytes,
+};
 use segment_codecs::{Codec, SegmentCursor};
 use std::alloc::Global;
 use std::cmp::Ordering;
 use std::marker::Model;
 use std::sync::ledger::Ledger;
 
-/// A checked index file. Contracts see it as its view.
+/// A checked index file. Contracts see it as its view. It holds the front with the names and the payloads as they
+/// stand in the file, and the terms with their heads in tables.
 #[derive(Drop)]
 pub struct IndexFile {
-    bytes: Row<u8>,
+    front: Row<u8>,
     places: Row<u32>,
-    text: Row<u8>,
-    rows: Row<TermRow>,
+    terms: TermTable,
     groups: Row<u32>,
+    payloads: Row<u8>,
     samples: Row<u64>,
 }
 
 impl Model for IndexFile {
-    ghost use Rattle.index_file.specs.Opened.{view_of};
-    ghost use Rattle.index_file.specs.Private.Opened.{IsOpened};
+    ghost use Rattle.index_file.specs.Private.Opened.{IsOpened, view_of};
     ghost use Rattle.index_layout.specs.View.{FileView};
 
     ghost Value = { FileView };
 
-    ghost view = { λ f. view_of f.bytes };
+    ghost view = { λ f. view_of f.front f.places f.terms f.groups f.payloads };
 
-    ghost invariant = { λ f. IsOpened f.bytes f.places f.text f.rows f.groups f.samples (view_of f.bytes) };
+    ghost invariant = { λ f. IsOpened f.front f.places f.terms f.groups f.payloads f.samples
+        (view_of f.front f.places f.terms f.groups f.payloads) };
 }
 
 impl IndexFile {
@@ -64,17 +74,62 @@ impl IndexFile {
         ensures exact { Answers (λ file. file) result (read_index bytes) }
         ensures accepted { IfOk result (λ file. (bytes ≡ file_bytes file) × IsFileView file) }
     {
-        let (places, text, rows, groups) = read_tables(alloc, bytes.as_slice())?;
-        let samples = match sample_terms(alloc, text.as_slice(), rows.as_slice()) {
+        files_are_read();
+        let (outline, front, payloads, place) = take_apart(alloc, bytes.as_slice())?;
+        drop(bytes);
+        match IndexFile::of_parts(alloc, outline, front, payloads, place) {
+            Ok(file) => Ok(file),
+            Err(fault) => Err(fault),
+        }
+    }
+
+    /// The file of its parts: the tables of what stands before the payloads, the front with the names, and the
+    /// payloads, which begin at a place; or the first refusal behind that place.
+    pub(crate) fn of_parts(
+        alloc: Global,
+        outline: Outline,
+        front: Row<u8>,
+        payloads: Row<u8>,
+        place: usize,
+    ) -> Result<IndexFile, OpenFault>
+        requires parts { (bytes : List ℕ) × AreParts bytes outline front payloads place }
+        ensures accepted { IfOk result (λ file. (bytes : List ℕ) → AreParts bytes outline front payloads place
+            → (bytes ≡ file_bytes file) × IsFileView file) }
+        ensures refused { IfErr result (λ fault. (bytes : List ℕ) → AreParts bytes outline front payloads place
+            → Fails fault (after_outline bytes outline place)) }
+    {
+        files_are_read();
+        payloads_are_read();
+        codecs_have_their_numbers();
+        let Outline {
+            places,
+            terms,
+            count: _,
+            sums,
+        } = outline;
+        let docs = places.len() as u32;
+        let (groups, end) = match read_payloads(
+            alloc,
+            payloads.as_slice(),
+            docs,
+            &terms.heads,
+            terms.rows.as_slice(),
+        ) {
+            Ok(read) => read,
+            Err(fault) => return Err(moved(fault, place)),
+        };
+        let size = place + payloads.len();
+        check_ends(front.as_slice(), size, sums, place + end)?;
+        let samples = match sample_terms(alloc, terms.text.as_slice(), terms.rows.as_slice()) {
             Ok(samples) => samples,
             Err(_) => return Err(OpenFault::NoMemory),
         };
         Ok(IndexFile {
-            bytes,
+            front,
             places,
-            text,
-            rows,
+            terms,
             groups,
+            payloads,
             samples,
         })
     }
@@ -83,19 +138,19 @@ impl IndexFile {
     pub fn is_checked(&self)
         ensures { IsFileView self.now }
     {
-        let _ = &self.bytes;
+        let _ = &self.front;
     }
 
     /// The numbers of documents, terms and postings, and the greatest impact.
     pub fn totals(&self) -> Totals
         ensures { result ≡ totals_of self.now.index }
     {
-        let bytes = self.bytes.as_slice();
+        let front = self.front.as_slice();
         Totals {
             docs: self.docs(),
             terms: self.terms(),
-            postings: u64_at(bytes, 24),
-            greatest: u32_at(bytes, 32) as u16,
+            postings: u64_at(front, 24),
+            greatest: u32_at(front, 32) as u16,
         }
     }
 
@@ -103,8 +158,7 @@ impl IndexFile {
     pub fn codecs(&self) -> CodecUse
         ensures { result ≡ codec_use self.now.codecs }
     {
-        let bytes = self.bytes.as_slice();
-        let uses = codec_uses(bytes, self.rows.as_slice());
+        let uses = codec_uses(&self.terms.heads);
         CodecUse {
             varbyte: uses[0],
             packed: uses[1],
@@ -124,7 +178,7 @@ impl IndexFile {
     pub fn terms(&self) -> u32
         ensures { result ≡ length self.now.index.terms }
     {
-        (self.rows.len() - 1) as u32
+        (self.terms.rows.len() - 1) as u32
     }
 
     /// The name of a document.
@@ -132,10 +186,10 @@ impl IndexFile {
         requires { doc < length self.now.index.names }
         ensures { slice_get self.now.index.names doc ≡ Some result.now }
     {
-        let bytes = self.bytes.as_slice();
+        let front = self.front.as_slice();
         let at = self.places.as_slice()[doc as usize] as usize;
-        let size = u32_at(bytes, at) as usize;
-        unsafe { std::str::from_utf8_unchecked(&bytes[at + 4..at + 4 + size]) }
+        let size = u32_at(front, at) as usize;
+        unsafe { std::str::from_utf8_unchecked(&front[at + 4..at + 4 + size]) }
     }
 
     /// A term by its number.
@@ -152,12 +206,12 @@ impl IndexFile {
         ensures term { result.now ≡ term_at self.now.index.terms t }
         ensures text { IsUtf8 result.now }
     {
-        let rows = self.rows.as_slice();
+        let rows = self.terms.rows.as_slice();
         let span = Span {
             from: rows[t as usize].text,
             to: rows[t as usize + 1].text,
         };
-        part(self.text.as_slice(), span)
+        part(self.terms.text.as_slice(), span)
     }
 
     /// How a term stands to a text, whose first eight bytes are given as a number.
@@ -186,10 +240,8 @@ impl IndexFile {
         if t >= self.terms() {
             return 0;
         }
-        u32_at(
-            self.bytes.as_slice(),
-            self.rows.as_slice()[t as usize].heads as usize,
-        )
+        let rows = self.terms.rows.as_slice();
+        rows[t as usize + 1].head - rows[t as usize].head
     }
 
     /// The head of a segment of a term.
@@ -201,8 +253,8 @@ impl IndexFile {
         ensures count { result.count ≡ length (segment_at self.now.index.terms t s).docs }
         ensures codec { result.codec ≡ codec_at self.now.codecs t s }
     {
-        let heads = self.rows.as_slice()[t as usize].heads as usize;
-        head_of(self.bytes.as_slice(), heads + 4 + 11 * s as usize)
+        let first = self.terms.rows.as_slice()[t as usize].head as usize;
+        self.terms.heads.at(first + s as usize)
     }
 
     /// The head of a segment of a term, and the place of its payload.
@@ -213,25 +265,20 @@ impl IndexFile {
         ensures impact { result.head.impact ≡ (segment_at self.now.index.terms t s).impact }
         ensures count { result.head.count ≡ length (segment_at self.now.index.terms t s).docs }
         ensures codec { result.head.codec ≡ codec_at self.now.codecs t s }
-        ensures within { result.place + result.head.size ≤ length (file_bytes self.now) }
+        ensures within { result.place + result.head.size ≤ length (view_payloads self.now) }
         ensures docs { AreDocs (length self.now.index.names) (segment_at self.now.index.terms t s).docs }
-        ensures payload { slice_range (file_bytes self.now) result.place (result.place + result.head.size)
+        ensures payload { slice_range (view_payloads self.now) result.place (result.place + result.head.size)
             ≡ payload_of result.head.codec (length self.now.index.names) (segment_at self.now.index.terms t s).docs }
     {
         payloads_have_few_bytes();
-        let bytes = self.bytes.as_slice();
-        let row = self.rows.as_slice()[t as usize];
+        let heads = &self.terms.heads;
+        let row = self.terms.rows.as_slice()[t as usize];
         let group_place = self.groups.as_slice()[row.group as usize + s as usize / 4];
-        let heads = row.heads as usize + 4;
+        let at = row.head as usize + s as usize;
         let before = s as usize % 4;
-        let place = place_behind(
-            bytes,
-            heads + 11 * (s as usize - before),
-            group_place,
-            before,
-        );
+        let place = place_behind(heads, at - before, group_place, before);
         PlacedHead {
-            head: head_of(bytes, heads + 11 * s as usize),
+            head: heads.at(at),
             place: place as u32,
         }
     }
@@ -279,9 +326,8 @@ impl IndexFile {
         ensures end { (docs : List ℕ) → Gives self.now cursor.old docs → (result ≡ 0 ↔ docs ≡ []) }
         ensures steps { steps.new ≡ steps.old + result }
     {
-        let bytes = self.bytes.as_slice();
         let from = cursor.from as usize;
-        let payload = &bytes[from..from + cursor.size as usize];
+        let payload = &self.payloads.as_slice()[from..from + cursor.size as usize];
         let given = cursor.segment.next_block(payload, out);
         steps.add(given as u64);
         given
@@ -301,7 +347,7 @@ impl IndexFile {
             Codec::Bitmap => {
                 let found = self.segment(t, s);
                 let from = found.place as usize;
-                Some(&self.bytes.as_slice()[from..from + found.head.size as usize])
+                Some(&self.payloads.as_slice()[from..from + found.head.size as usize])
             }
             _ => None,
         }
@@ -320,7 +366,7 @@ impl IndexFile {
         match found.head.codec {
             Codec::Varbyte => {
                 steps.add(1);
-                known_gap(self.bytes.as_slice(), found.place as usize).0
+                known_gap(self.payloads.as_slice(), found.place as usize).0
             }
             _ => self.first_of_block(t, s, steps),
         }
@@ -341,18 +387,20 @@ impl IndexFile {
     }
 }
 
-/// The place behind so many payloads, the first of which begins at a place; their heads stand from
-/// another on, and one more head behind them. All three sizes are looked at whatever the number, which no
-/// processor foresees.
+/// The place behind so many payloads, the first of which begins at a place; their heads are those from a number
+/// on, and there is one more behind them. All three sizes are looked at whatever the number, which no processor
+/// foresees.
 #[inline(always)]
-fn place_behind(bytes: &[u8], heads: usize, first: u32, count: usize) -> usize
+fn place_behind(heads: &HeadTable, from: usize, first: u32, count: usize) -> usize
     requires few { count < 4 }
-    requires there { heads + 11 * count + 11 ≤ length bytes.now }
-    ensures { result ≡ payload_place bytes.now heads first count }
+    requires there { from + count < length heads.now }
+    ensures { result ≡ payload_place (drop from heads.now) first count }
 {
+    // Every number of a head fits, as their count does.
+    let _ = heads.len();
     let mut place = first as usize;
     'heads: for i in 0..3 {
-        let size = u32_at(bytes, heads + 11 * count.min(i) + 7) as usize;
+        let size = heads.at(from + count.min(i)).size as usize;
         place += if i < count { size } else { 0 };
     }
     place

@@ -1,6 +1,6 @@
 #![tactic(auto)]
 
-//! A file of an index, checked once and then read in place.
+//! A file of an index, checked once; then it is held as its names, its payloads, and tables of its terms and heads.
 
 mod cursor;
 mod ends;
@@ -9,12 +9,16 @@ mod file;
 mod following;
 mod front;
 mod head;
+mod head_table;
 mod heads;
+mod holding;
 mod marks;
+mod moved;
 mod name;
 mod names;
 mod number;
 mod opening;
+mod outline;
 pub mod parts;
 mod payload;
 mod payloads;
@@ -22,12 +26,13 @@ mod plain;
 mod samples;
 mod searching;
 mod segment_head;
+mod small;
 mod span;
 mod sums;
-mod tables;
 mod term;
 mod term_payloads;
 mod term_row;
+mod term_table;
 mod terms;
 mod uses;
 

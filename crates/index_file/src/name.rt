@@ -1,7 +1,7 @@
 ghost use Rattle.std.specs.List.{list_all};
 ghost use Rattle.std.specs.Str.{is_utf8};
 ghost use Rattle.std.specs.Prelude.{nat_lt, not, ◌&&◌, ◌==◌, ◌≡◌, ◌≤◌, ◌<◌, ◌+◌, length, IfOk};
-ghost use Rattle.index_file.specs.Parts.{IsNamePlace};
+ghost use Rattle.index_layout.specs.Bytes.{u32_in};
 ghost use Rattle.index_layout.specs.Reading.{is_name_text, name_end};
 ghost use Rattle.index_layout.specs.Refusals.{Answers};
 ghost use Rattle.jass_base.specs.declared.limits.TheConstants.{LONGEST_FILE};
@@ -17,7 +17,8 @@ pub fn name_end(bytes: &[u8], at: usize) -> Result<usize, OpenFault>
     requires at { at ≤ length bytes.now }
     requires few { length bytes.now ≤ LONGEST_FILE }
     ensures exact { Answers (λ next. next) result (name_end bytes.now at) }
-    ensures within { IfOk result (λ next. (next ≤ length bytes.now) × IsNamePlace bytes.now at) }
+    ensures within { IfOk result (λ next. next ≤ length bytes.now) }
+    ensures next { IfOk result (λ next. next ≡ at + 4 + u32_in bytes.now at) }
 {
     if bytes.len() - at < 4 {
         return Err(refused(at, OpenWhy::Length));

@@ -2,7 +2,7 @@ ghost use Rattle.std.specs.Prelude.{◌≡◌, ◌≤◌, length, map, All, IfOk
 ghost use Rattle.index_layout.specs.Reading.{name_in, read_names};
 ghost use Rattle.index_layout.specs.Refusals.{Answers};
 ghost use Rattle.jass_base.specs.declared.limits.TheConstants.{LONGEST_FILE};
-ghost use Rattle.index_file.specs.Parts.{IsNamePlace};
+ghost use Rattle.index_file.specs.Private.Outlines.{EndsBefore};
 
 use crate::name::name_end;
 use index_layout::OpenFault;
@@ -20,7 +20,8 @@ pub(crate) fn read_names(
     requires few { length bytes.now ≤ LONGEST_FILE }
     ensures exact { Answers (λ x. record { names = map (name_in bytes.now) x.0; end = x.1 }) result
         (read_names bytes.now docs 40) }
-    ensures within { IfOk result (λ x. All (IsNamePlace bytes.now) x.0) }
+    ensures before { IfOk result (λ x. All (EndsBefore bytes.now x.1) x.0) }
+    ensures start { IfOk result (λ x. 40 ≤ x.1) }
     ensures end { IfOk result (λ x. x.1 ≤ length bytes.now) }
     ensures count { IfOk result (λ x. length x.0 ≡ docs) }
 {

@@ -4,6 +4,7 @@
 pub use crate::following::follows;
 pub use crate::heads::read_heads;
 pub use crate::marks::next_mark;
+pub use crate::moved::moved;
 pub use crate::name::name_end;
 pub use crate::number::{u16_at, u32_at, u64_at};
 pub use crate::payload::check_apart;

@@ -1,4 +1,5 @@
 ghost use Rattle.std.specs.Prelude.{ℕ, ◌≡◌, ◌<◌, List, slice_index, All, IfOk};
+ghost use Rattle.index_layout.specs.Heads.{HeadData};
 ghost use Rattle.index_file.specs.Private.Samples.{AreSamples, first_eight};
 ghost use Rattle.index_file.specs.Private.Tables.{AreRows};
 
@@ -35,7 +36,7 @@ pub(crate) fn sample_terms(
     text: &[u8],
     rows: &[TermRow],
 ) -> Result<Row<u64>, NoMemory>
-    requires rows { (bytes : List ℕ) × (docs : ℕ) × AreRows bytes docs text.now rows.now }
+    requires rows { (heads : List HeadData) × AreRows heads text.now rows.now }
     ensures { IfOk result (λ samples. AreSamples text.now rows.now samples) }
 {
     let mut samples = Row::new(alloc);

@@ -17,7 +17,7 @@ pub struct SegmentHead {
     pub size: u32,
 }
 
-/// A head, and where the payload of its segment begins in the file.
+/// A head, and where the payload of its segment begins among all payloads.
 #[derive(Clone, Copy)]
 pub(crate) struct PlacedHead {
     pub(crate) head: SegmentHead,

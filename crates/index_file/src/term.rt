@@ -1,6 +1,5 @@
 ghost use Rattle.std.specs.Str.{is_utf8};
-ghost use Rattle.std.specs.Prelude.{nat_le, ◌≡◌, ◌≤◌, ◌+◌, ◌-◌, ◌++◌, ◌==◌, ◌&&◌, length, take, drop, IfOk, OnOk, IfSome};
-ghost use Rattle.index_layout.specs.Bytes.{u32_in};
+ghost use Rattle.std.specs.Prelude.{nat_le, ◌≡◌, ◌≤◌, ◌+◌, ◌++◌, ◌==◌, ◌&&◌, length, take, drop, IfOk, OnOk, IfSome};
 ghost use Rattle.index_layout.specs.Layout.{shared_with};
 ghost use Rattle.index_layout.specs.Reading.{before_bytes, rises_behind, term_end, term_in, heads_in};
 ghost use Rattle.index_layout.specs.Refusals.{Answers};
@@ -88,7 +87,6 @@ pub(crate) fn read_term(
     ensures term { OnOk result (text.new ≡ text.old ++ term_in bytes.now (before_in text.old before) at) }
     ensures heads { IfOk result (λ x. x.1 ≡ heads_in bytes.now at) }
     ensures some { IfOk result (λ x. 1 ≤ x.1) }
-    ensures number { IfOk result (λ x. (4 ≤ x.0) × (x.1 ≡ u32_in bytes.now (x.0 - 4))) }
     ensures within { IfOk result (λ x. x.0 ≤ length bytes.now) }
 {
     if bytes.len() - at < 4 {

@@ -1,17 +1,19 @@
-ghost use Rattle.std.specs.Prelude.{◌≡◌, ◌<◌, ◌≤◌, ◌+◌, ◌^◌, length, None, IfOk};
+ghost use Rattle.std.specs.Prelude.{◌≡◌, ◌<◌, ◌≤◌, ◌+◌, ◌^◌, All, length, None, IfOk};
 ghost use Rattle.index_layout.specs.Heads.{all_heads};
 ghost use Rattle.index_layout.specs.Reading.{read_terms};
 ghost use Rattle.index_layout.specs.Refusals.{Answers};
-ghost use Rattle.index_file.specs.Private.Payloads.{row_heads};
+ghost use Rattle.index_file.specs.Parts.{IsCounted};
 ghost use Rattle.index_file.specs.Sums.{AreSums};
-ghost use Rattle.index_file.specs.Private.Tables.{AreRows};
+ghost use Rattle.index_file.specs.Private.Tables.{AreRows, row_heads};
 ghost use Rattle.jass_base.specs.declared.limits.TheConstants.{LONGEST_FILE, MOST_DOCUMENTS};
 
+use crate::head_table::HeadTable;
 use crate::heads::read_heads;
 use crate::span::Span;
 use crate::sums::Sums;
 use crate::term::read_term;
 use crate::term_row::TermRow;
+use crate::term_table::TermTable;
 use index_layout::OpenFault;
 use jass_base::Row;
 use std::alloc::Global;
@@ -23,29 +25,33 @@ const TEXT_PER_BYTE: usize = 64;
 /// How many more are held of any file.
 const SPARE_TEXT: usize = 16_777_216;
 
-/// The text of so many terms, their rows, the sums of their heads, and the place behind the last. The
-/// text has at most `most_text` bytes; a file with more wants memory.
+/// So many terms with their heads from a place on in a file of so many bytes, the sums of the heads, and the
+/// place behind the last. A file whose terms have too much text wants memory.
 #[inline(never)]
 pub(crate) fn read_terms(
     alloc: Global,
     bytes: &[u8],
+    size: usize,
     docs: u32,
     count: u32,
     from: usize,
-) -> Result<(Row<u8>, Row<TermRow>, Sums, usize), OpenFault>
+) -> Result<(TermTable, Sums, usize), OpenFault>
     requires from { from ≤ length bytes.now }
     requires few { length bytes.now ≤ LONGEST_FILE }
+    requires size { size ≤ LONGEST_FILE }
     requires docs { docs ≤ MOST_DOCUMENTS }
-    ensures exact { Answers (λ x. record { terms = row_heads bytes.now x.0 x.1; end = x.3 }) result
+    ensures exact { Answers (λ x. record { terms = row_heads x.0.heads x.0.text x.0.rows; end = x.2 }) result
         (read_terms bytes.now docs count None from) }
-    ensures rows { IfOk result (λ x. AreRows bytes.now docs x.0 x.1) }
-    ensures count { IfOk result (λ x. length x.1 ≡ count + 1) }
-    ensures sums { IfOk result (λ x. AreSums x.2 (all_heads (row_heads bytes.now x.0 x.1))) }
-    ensures end { IfOk result (λ x. x.3 ≤ length bytes.now) }
+    ensures rows { IfOk result (λ x. AreRows x.0.heads x.0.text x.0.rows) }
+    ensures counted { IfOk result (λ x. All (IsCounted docs) x.0.heads) }
+    ensures count { IfOk result (λ x. length x.0.rows ≡ count + 1) }
+    ensures sums { IfOk result (λ x. AreSums x.1 (all_heads (row_heads x.0.heads x.0.text x.0.rows))) }
+    ensures end { IfOk result (λ x. (from ≤ x.2) × (x.2 ≤ length bytes.now)) }
 {
-    let most_text = most_text(bytes.len());
+    let most_text = most_text(size);
     let mut text = Row::new(alloc);
     let mut rows = Row::new(alloc);
+    let mut heads = HeadTable::new(alloc);
     let mut sums = Sums {
         postings: 0,
         greatest: 0,
@@ -55,20 +61,25 @@ pub(crate) fn read_terms(
     let mut at = from;
     'terms: for _ in 0..count {
         let start = text.len();
-        let (place, heads) = read_term(&mut text, before, bytes, at)?;
-        at = read_heads(&mut sums, bytes, docs, heads, place)?;
+        let head = heads.len();
+        let (place, some) = read_term(&mut text, before, bytes, at)?;
+        at = read_heads(&mut sums, bytes, docs, some, place)?;
         if text.len() > most_text {
             return Err(OpenFault::NoMemory);
         }
+        match heads.append(bytes, place, some) {
+            Ok(()) => {}
+            Err(_) => return Err(OpenFault::NoMemory),
+        }
         match rows.push(TermRow {
             text: start as u32,
-            heads: (place - 4) as u32,
+            head: head as u32,
             group: groups,
         }) {
             Ok(()) => {}
             Err(_) => return Err(OpenFault::NoMemory),
         }
-        groups += heads.div_ceil(4);
+        groups += some.div_ceil(4);
         before = Some(Span {
             from: start as u32,
             to: text.len() as u32,
@@ -76,10 +87,10 @@ pub(crate) fn read_terms(
     }
     match rows.push(TermRow {
         text: text.len() as u32,
-        heads: 0,
+        head: heads.len() as u32,
         group: groups,
     }) {
-        Ok(()) => Ok((text, rows, sums, at)),
+        Ok(()) => Ok((TermTable { text, rows, heads }, sums, at)),
         Err(_) => Err(OpenFault::NoMemory),
     }
 }

@@ -21,9 +21,17 @@ impl Window {
         ensures bytes { result.bytes.items ≡ [] }
         ensures start { result.start ≡ 0 }
     {
+        Window::at(alloc, 0)
+    }
+
+    /// Nothing of a file, at a place.
+    pub fn at(alloc: Global, start: u64) -> Window
+        ensures bytes { result.bytes.items ≡ [] }
+        ensures start { result.start ≡ start }
+    {
         Window {
             bytes: Vec::new(alloc),
-            start: 0,
+            start,
         }
     }
 
@@ -91,10 +99,15 @@ impl Window {
         self.bytes.truncate(len);
     }
 
-    /// Reads on until so many bytes are held, or the file ends. It isn't inlined, so that a call of `reach`
-    /// that finds all held stays short.
+    /// Reads on until so many bytes are held, or the file ends; nothing is dropped. It isn't inlined, so that a
+    /// call of `reach` that finds all held stays short.
     #[inline(never)]
-    fn fill<C: Cabinet>(&mut self, files: &mut C, name: &str, count: usize) -> Result<(), ReadStop>
+    pub fn fill<C: Cabinet>(
+        &mut self,
+        files: &mut C,
+        name: &str,
+        count: usize,
+    ) -> Result<(), ReadStop>
         requires { self.old.start + count ≤ 2 ^ 63 }
         ensures start { self.new.start ≡ self.old.start }
         ensures shown { StaysShown (C.told files.old) name.now self.old self.new }

@@ -1,5 +1,5 @@
 -- What a part of the check answers, where it reads a piece of a content.
-use Rattle.std.specs.Prelude.{ℕ, ◌≡◌, ◌+◌, ◌-◌, ◌^◌, ◌++◌, min, ⊤, Bool, true, false, List, length}
+use Rattle.std.specs.Prelude.{ℕ, ◌≡◌, ◌+◌, ◌++◌, ⊤, Bool, true, false, List, length}
 use Rattle.std.specs.Prelude.{Option, Some, None, Result, Ok, Err}
 use Rattle.std.specs.List.{sum_by}
 use Rattle.jass_base.specs.Outside.{Files, OnContent}
@@ -20,13 +20,6 @@ use Rattle.index_check.specs.declared.front.Front.{Front}
 abbrev pub moved : ℕ → Result ℕ OpenRefusal → Result ℕ OpenRefusal
 moved by (Ok place) = Ok (by + place)
 moved by (Err refusal) = Err (record { at = by + refusal.at; why = refusal.why })
-
--- the same of a fault, whose place is at most 2^64 - 1
-abbrev pub moved_fault : ℕ → OpenFault → OpenFault
-moved_fault by (faults.Refused refusal) =
-    faults.Refused (record { at = min (refusal.at + by) (2 ^ 64 - 1); why = refusal.why })
-moved_fault by faults.ReadFault = faults.ReadFault
-moved_fault by faults.NoMemory = faults.NoMemory
 
 -- a refusal is the one that reading gives; a read fault or want of memory may come instead
 abbrev pub Stops : {A : Type 0} → OpenFault → Result A OpenRefusal → Type 0

@@ -1,7 +1,7 @@
 use Rattle.std.proofs.Common.{ℕ, ◌≡◌, ◌≤◌, ◌-◌, List, Result, Ok}
 use Rattle.index_layout.specs.Reading.{read_names}
 use Rattle.index_layout.specs.declared.refusal.OpenFault.{OpenFault}
-use Rattle.index_check.specs.Private.Contents.{IsContent, Reads}
+use Rattle.index_file.specs.Contents.{IsContent, Reads}
 use Rattle.index_check.specs.Private.Pieces.{Holds}
 use Rattle.index_check.proofs.NameLists.{ReadSoFar}
 use Rattle.index_check.proofs.names.check_names.Given as goal

@@ -1,7 +1,7 @@
 use Rattle.std.proofs.Common.{ℕ, List, Result, Ok, None, All, length, ◌≡◌, ◌≤◌}
 use Rattle.index_layout.specs.Reading.{TermsRead, read_terms}
 use Rattle.index_layout.specs.declared.refusal.OpenFault.{OpenFault}
-use Rattle.index_check.specs.Private.Contents.{IsContent, Reads}
+use Rattle.index_file.specs.Contents.{IsContent, Reads}
 use Rattle.index_check.specs.Private.Pieces.{Holds}
 use Rattle.index_check.proofs.PayloadEnds.{PayloadsTill}
 use Rattle.index_check.proofs.payloads.check_payloads.Given as goal

@@ -1,8 +1,8 @@
 use Rattle.shared_lemmas.proofs.Common.{rules, ℕ, List, All-weaker, ◌≡◌, ◌≤◌, ◌<◌, ◌+◌, ◌∙◌, refl, sym, length, drop, Result, Ok, Err, arith}
 use Rattle.index_layout.specs.Heads.{HeadData}
 use Rattle.index_layout.specs.declared.refusal.OpenFault.{OpenFault}
+use Rattle.index_file.specs.Contents.{IsContent, Outside}
 use Rattle.index_file.specs.Parts.{heads_from, told}
-use Rattle.index_check.specs.Private.Contents.{IsContent, Outside}
 use Rattle.index_check.proofs.Reading.{content_same, reads_none, reads_then}
 use Rattle.index_check.proofs.SegmentLists.{heads_length, next_counted, next_head, segments_begin, segments_end, segments_more, segments_stop}
 use Rattle.index_check.proofs.segments.check_segments.Goals as goal

@@ -1,8 +1,8 @@
 use Rattle.std.proofs.Common.{ℕ, List, All, ◌≡◌, ◌≤◌, length, Result, Ok}
 use Rattle.index_layout.specs.declared.refusal.OpenFault.{OpenFault}
+use Rattle.index_file.specs.Contents.{IsContent, Reads}
 use Rattle.index_file.specs.Parts.{IsCounted, heads_from}
 use Rattle.whole_files.specs.Windows.{AreFrom}
-use Rattle.index_check.specs.Private.Contents.{IsContent, Reads}
 use Rattle.index_check.specs.Private.Pieces.{Holds}
 use Rattle.index_check.proofs.SegmentLists.{SegmentsStand}
 use Rattle.index_check.proofs.segments.check_segments.Given as goal

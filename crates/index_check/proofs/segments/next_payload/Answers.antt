@@ -1,7 +1,7 @@
 use Rattle.std.proofs.Common.{rules, ◌≡◌, ◌-◌, ◌^◌, ◌≤◌, ◌∙◌, Err, arith, sym, ap, ℕ, List, length}
 use Rattle.index_layout.specs.Reading.{payload_end}
+use Rattle.index_file.specs.Contents.{Outside}
 use Rattle.index_file.specs.Parts.{told}
-use Rattle.index_check.specs.Private.Contents.{Outside}
 use Rattle.index_check.specs.Private.Pieces.{Holds, IsPiece}
 use Rattle.index_check.proofs.PayloadMoves.{payload_docs}
 use Rattle.index_check.proofs.Reading.{reads_else, stops_unread}

@@ -1,6 +1,6 @@
 use Rattle.std.proofs.Common.{ℕ, List, Result, Ok, ◌≡◌, ◌≤◌, ◌*◌, ◌^◌}
 use Rattle.index_layout.specs.declared.refusal.OpenFault.{OpenFault}
-use Rattle.index_check.specs.Private.Contents.{IsContent, Reads}
+use Rattle.index_file.specs.Contents.{IsContent, Reads}
 use Rattle.index_check.specs.Private.Pieces.{Holds}
 use Rattle.index_check.proofs.TermEnds.{TermsTill}
 use Rattle.index_check.proofs.terms.check_terms.Given as goal

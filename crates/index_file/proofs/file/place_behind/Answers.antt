@@ -1,13 +1,14 @@
-use Rattle.std.proofs.Common.{◌≡◌, ◌+◌, ◌*◌, ◌∙◌, ap, arith, min}
-use Rattle.index_file.proofs.Below.{u32_in}
+use Rattle.shared_lemmas.proofs.Common.{◌≡◌, [], ◌+◌, ◌∙◌, ap, arith, drop, min, get_or-drop, length-drop}
 use Rattle.index_file.specs.Private.Payloads.{payload_place}
-use Rattle.index_file.proofs.HeadLists.{place_more, size_there}
+use Rattle.index_file.specs.Private.Tables.{head_at}
+use Rattle.index_file.proofs.HeadLists.{place_more, size_of}
 use Rattle.index_file.proofs.file.place_behind.Goals.{then-i-count, else-i-count}
 use Rattle.index_file.proofs.file.place_behind.Goals as goal
 
 pub heads-preserved : goal.heads-preserved
 heads-preserved c =
-    let bytes = c.args.bytes.now in
+    let heads = c.args.heads.now in
+    let left = drop c.args.from heads in
     let i = c.heads.i in
     let place = c.heads.invariant.place in
     let few = c.heads.invariant.few in
@@ -17,20 +18,21 @@ heads-preserved c =
           let here : c.min.result ≡ i = c.min.ensures ∙ omega (arith, below) in
           let now : min c.args.count i ≡ i = omega (arith, below) in
           let next : min c.args.count (i + 1) ≡ i + 1 = omega (arith, below) in
-          let size = c.u32_at-size.ensures ∙ ap (λ n. u32_in bytes (c.args.heads + 11 * n + 7)) here in
-          let told = size_there bytes (c.args.heads + 11 * i) in
-          let more = place_more bytes c.args.heads c.args.first i in
-          let before = ap (payload_place bytes c.args.heads c.args.first) now in
-          let after = ap (payload_place bytes c.args.heads c.args.first) next in
+          let long = length-drop c.args.from heads in
+          let size = ap size_of (c.at.ensures ∙ ap (λ k. head_at heads (c.args.from + k)) here) in
+          let told = ap size_of (get_or-drop c.args.from heads i (head_at [] 0)) in
+          let more = place_more left c.args.first i (omega (arith, below, long, c.requires.there)) in
+          let before = ap (payload_place left c.args.first) now in
+          let after = ap (payload_place left c.args.first) next in
           let is = w.place-is in
           record {
             place = omega (arith, place, is, size, told, more, before, after);
-            few = omega (arith, few, is, c.u32_at-size.type_inv);
+            few = omega (arith, few, is);
           })
       | else-i-count w ↦ (
           let over = w.if-i-count.false in
           let same : min c.args.count i ≡ min c.args.count (i + 1) = omega (arith, over) in
-          let stays = ap (payload_place bytes c.args.heads c.args.first) same in
+          let stays = ap (payload_place left c.args.first) same in
           let is = w.place-is in
           record {
             place = omega (arith, place, is, stays);

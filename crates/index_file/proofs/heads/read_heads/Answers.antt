@@ -1,7 +1,7 @@
 use Rattle.shared_lemmas.proofs.Common.{◌≡◌, ◌+◌, ◌-◌, suc, List, [], ◌∷◌, ◌++◌, append_assoc, All, subst, ap, refl, sym, ◌∙◌, arith, max, All-push}
 use Rattle.index_layout.specs.Reading.{head_in}
 use Rattle.index_file.proofs.Below.{HeadData, read_heads, with_heads, heads_on}
-use Rattle.index_file.proofs.HeadLists.{heads_more}
+use Rattle.index_file.proofs.HeadsFrom.{heads_more}
 use Rattle.index_file.specs.Parts.{IsCounted, heads_from}
 use Rattle.index_file.specs.declared.sums.Sums.{Sums}
 use Rattle.index_file.specs.Sums.{AreSums}

@@ -3,14 +3,14 @@ use Rattle.std.specs.Int.{div_ceil}
 use Rattle.jass_base.proofs.Accepting.{all_bytes}
 use Rattle.index_file.specs.Private.Samples.{first_eight}
 use Rattle.index_file.specs.Private.Tables.{part_of}
-use Rattle.index_file.proofs.Sampling.{sampled_on, term_after, all_sampled}
+use Rattle.index_file.proofs.SampledTerms.{sampled_on, term_after, all_sampled}
 use Rattle.index_file.proofs.RowOrder.{rows_in_order}
 use Rattle.index_file.proofs.samples.sample_terms.Goals as goal
 
 pub part-requires : goal.part-requires
 part-requires c =
     let before : c.samples.i < div_ceil (length c.args.rows.now - 1) 64 = omega (arith, c.samples-test.true, c.div_ceil-i-end.ensures) in
-    let order = rows_in_order c.requires.rows.0 c.requires.rows.1 c.args.text.now c.args.rows.now (64 * c.samples.i) c.requires.rows.2 (term_after (length c.args.rows.now) c.samples.i before) in
+    let order = rows_in_order c.requires.rows.0 c.args.text.now c.args.rows.now (64 * c.samples.i) c.requires.rows.1 (term_after (length c.args.rows.now) c.samples.i before) in
     (order.text_rises, order.text_within)
 
 pub samples-preserved : goal.samples-preserved

@@ -2,6 +2,7 @@
 use Rattle.shared_lemmas.proofs.Common.{◌≡◌, ℕ, ◌+◌, ◌-◌, ◌<◌, ◌≤◌, List, length, take, drop, slice_index, slice_range, refl, ap, ◌∙◌, arith, drop-drop, drop-take, take-take, get_or-take, get_or-drop}
 use Rattle.whole_files.specs.Windows.{AreFrom}
 use Rattle.index_layout.specs.Bytes.{u16_in, u32_in, u64_in}
+use Rattle.index_layout.specs.Reading.{head_in}
 
 pub piece_index : (content bytes : List ℕ) (at i : ℕ) → AreFrom content at bytes → i < length bytes → slice_index bytes i ≡ slice_index content (at + i)
 piece_index content bytes at i from inside =
@@ -64,3 +65,28 @@ piece_range content bytes at from to are order inside =
     ∙ take-take (to - from) (length bytes - from) (drop from (drop at content)) few
     ∙ ap (take (to - from)) (drop-drop from at content)
     ∙ ap (λ n. take n (drop (at + from) content)) many
+
+-- the four numbers of a head
+pub record SameHead (content bytes : List ℕ) (at i : ℕ) : Type 0 where
+  pub impact : u16_in bytes i ≡ u16_in content (at + i)
+  pub count : u32_in bytes (i + 2) ≡ u32_in content (at + i + 2)
+  pub codec : slice_index bytes (i + 6) ≡ slice_index content (at + i + 6)
+  pub size : u32_in bytes (i + 7) ≡ u32_in content (at + i + 7)
+
+pub same_head : (content bytes : List ℕ) (at i : ℕ) → AreFrom content at bytes → i + 11 ≤ length bytes → SameHead content bytes at i
+same_head content bytes at i from inside =
+    let two : at + (i + 2) ≡ at + i + 2 = omega arith in
+    let six : at + (i + 6) ≡ at + i + 6 = omega arith in
+    let seven : at + (i + 7) ≡ at + i + 7 = omega arith in
+    record {
+      impact = piece_u16 content bytes at i from (omega (arith, inside));
+      count = piece_u32 content bytes at (i + 2) from (omega (arith, inside)) ∙ ap (u32_in content) two;
+      codec = piece_index content bytes at (i + 6) from (omega (arith, inside)) ∙ ap (slice_index content) six;
+      size = piece_u32 content bytes at (i + 7) from (omega (arith, inside)) ∙ ap (u32_in content) seven;
+    }
+
+pub head_moved : (content bytes : List ℕ) (at i : ℕ) → AreFrom content at bytes → i + 11 ≤ length bytes → head_in bytes i ≡ head_in content (at + i)
+unfolding head_in
+head_moved content bytes at i from inside =
+    let same = same_head content bytes at i from inside in
+    rw (same.impact, same.count, same.codec, same.size) refl

@@ -1,0 +1,107 @@
+ghost use Rattle.std.specs.Prelude.{◌≡◌, ◌≤◌, length, IfErr, IfOk, IsErrOf};
+ghost use Rattle.index_layout.specs.Reading.{read_index};
+ghost use Rattle.index_layout.specs.Refusals.{Fails};
+ghost use Rattle.index_file.specs.Private.Outlines.{AreParts, IsOutline, IsOutlineOf, after_outline};
+ghost use Rattle.jass_base.specs.declared.limits.TheConstants.{LONGEST_FILE, MOST_DOCUMENTS};
+
+use crate::front::read_front;
+use crate::holding::not_apart;
+use crate::names::read_names;
+use crate::small::are_bytes;
+use crate::sums::Sums;
+use crate::term_table::TermTable;
+use crate::terms::read_terms;
+use index_layout::OpenFault;
+use jass_base::Row;
+use std::alloc::Global;
+
+/// What stands before the payloads of a file, as tables: where the names stand, the terms with their heads,
+/// how many terms there are, and the sums of the heads.
+#[derive(Drop)]
+pub(crate) struct Outline {
+    pub(crate) places: Row<u32>,
+    pub(crate) terms: TermTable,
+    pub(crate) count: u32,
+    pub(crate) sums: Sums,
+}
+
+/// The outline of a whole file, and the places behind the names and behind the terms; or the first refusal.
+pub(crate) fn read_outline(
+    alloc: Global,
+    bytes: &[u8],
+) -> Result<(Outline, usize, usize), OpenFault>
+    ensures outline { IfOk result (λ x. IsOutline bytes.now x.0 x.1 x.2) }
+    ensures few { IfOk result (λ x. length x.0.places ≤ MOST_DOCUMENTS) }
+    ensures fits { IfOk result (λ _. length bytes.now ≤ LONGEST_FILE) }
+    ensures read { IfOk result (λ x. read_index bytes.now ≡ after_outline bytes.now x.0 x.2) }
+    ensures refused { IfErr result (λ fault. Fails fault (read_index bytes.now)) }
+{
+    let size = bytes.len();
+    let (docs, count) = read_front(bytes, size)?;
+    let (places, names_end) = read_names(alloc, bytes, docs)?;
+    let (terms, sums, terms_end) = read_terms(alloc, bytes, size, docs, count, names_end)?;
+    let outline = Outline {
+        places,
+        terms,
+        count,
+        sums,
+    };
+    Ok((outline, names_end, terms_end))
+}
+
+/// The parts of a whole file: its outline, the front with the names, the payloads, and the place of these; or the
+/// first refusal of what stands before them.
+pub(crate) fn take_apart(
+    alloc: Global,
+    bytes: &[u8],
+) -> Result<(Outline, Row<u8>, Row<u8>, usize), OpenFault>
+    ensures parts { IfOk result (λ x. AreParts bytes.now x.0 x.1 x.2 x.3) }
+    ensures read { IfOk result (λ x. read_index bytes.now ≡ after_outline bytes.now x.0 x.3) }
+    ensures refused { IfErr result (λ fault. Fails fault (read_index bytes.now)) }
+{
+    are_bytes(bytes);
+    let (outline, names_end, terms_end) = read_outline(alloc, bytes)?;
+    let front = held(alloc, &bytes[..names_end])?;
+    let payloads = held(alloc, &bytes[terms_end..])?;
+    Ok((outline, front, payloads, terms_end))
+}
+
+/// A copy of some bytes of a file.
+fn held(alloc: Global, bytes: &[u8]) -> Result<Row<u8>, OpenFault>
+    ensures same { IfOk result (λ row. row ≡ bytes.now) }
+    ensures fault { IfErr result (λ fault. fault ≡ OpenFault.NoMemory) }
+{
+    let mut row = Row::new(alloc);
+    match row.extend(bytes) {
+        Ok(()) => Ok(row),
+        Err(_) => Err(OpenFault::NoMemory),
+    }
+}
+
+/// The outline of a file of so many bytes by its front with the names and its part with the terms, where these
+/// end as the parts do.
+pub(crate) fn outline_of(
+    alloc: Global,
+    front: &[u8],
+    terms: &[u8],
+    size: usize,
+) -> Result<Outline, OpenFault>
+    requires few { length front.now ≤ LONGEST_FILE }
+    requires few_terms { length terms.now ≤ LONGEST_FILE }
+    ensures outline { IfOk result (λ outline. IsOutlineOf front.now terms.now size outline) }
+    ensures few { IfOk result (λ outline. length outline.places ≤ MOST_DOCUMENTS) }
+    ensures unread { ¬ IsErrOf result OpenFault.ReadFault }
+{
+    let (docs, count) = read_front(front, size)?;
+    let (places, names_end) = read_names(alloc, front, docs)?;
+    let (table, sums, terms_end) = read_terms(alloc, terms, size, docs, count, 0)?;
+    if names_end < front.len() || terms_end < terms.len() {
+        return Err(not_apart());
+    }
+    Ok(Outline {
+        places,
+        terms: table,
+        count,
+        sums,
+    })
+}
