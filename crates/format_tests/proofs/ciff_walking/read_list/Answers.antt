@@ -4,7 +4,7 @@ use Rattle.ciff_read.specs.Given.{PieceRanges}
 use Rattle.ciff_read.specs.Pieces.{KeptList}
 use Rattle.ciff_read.specs.Walk.{IsGiven}
 use Rattle.ciff_read.proofs.Rising.{given_last}
-use Rattle.format_tests.proofs.ciff_reading.read_list.Goals as goal
+use Rattle.format_tests.proofs.ciff_walking.read_list.Goals as goal
 
 pub returns : goal.returns
 returns c =
