@@ -70,6 +70,16 @@ NAME = struct.pack("<I", 1) + b"d"
 HEADER = number(1, 1) + number(2, 1) + number(3, 1)
 SMALL = message(HEADER) + message(text(1, b"a") + text(4, number(2, 1))) + message(text(2, b"d"))
 
+# Index files that promise what they don't have, and the note that is wanted of each command that opens one.
+SHORT = [
+    ("2^26 names", index(MOST, 0, 0), "it: refusal 41 at 40"),
+    ("2^24 terms", index(0, 1 << 24, 0), "it: refusal 41 at 40"),
+    ("all limits", index(MOST, 1 << 24, 1 << 29, NAME), "it: refusal 41 at 45"),
+    ("2^32 - 1 heads", index(1, 1, 1, NAME + struct.pack("<HH", 0, 1) + b"a" + b"\xff" * 4), "it: refusal 41 at 54"),
+]
+# These commands: a search opens its index first, so that its queries aren't read.
+OPENING = [("checked", "check it"), ("exported", "export it new"), ("searched", "search it ciff new")]
+
 # What the file is, the words of the command, the bytes of its file `it`, and the note that is wanted. No large text is
 # held here: the greatest memory of a process is at least that of the one that began it.
 CASES = [
@@ -78,12 +88,9 @@ CASES = [
     ("2^24 lists", "import it new", message(number(1, 1) + number(2, 1 << 24) + number(3, MOST)),
      "it: refusal 10 at 13"),
     ("a list of 4 GB", "import it new", message(HEADER) + varint((1 << 32) - 100) + b"\x0a", "it: refusal 10 at 7"),
-    ("2^26 names", "check it", index(MOST, 0, 0), "it: refusal 41 at 40"),
-    ("2^24 terms", "check it", index(0, 1 << 24, 0), "it: refusal 41 at 40"),
-    ("all limits", "check it", index(MOST, 1 << 24, 1 << 29, NAME), "it: refusal 41 at 45"),
-    ("2^32 - 1 heads", "check it", index(1, 1, 1, NAME + struct.pack("<HH", 0, 1) + b"a" + b"\xff" * 4),
-     "it: refusal 41 at 54"),
+    *((f"{what}, {how}", words, content, wanted) for what, content, wanted in SHORT for how, words in OPENING),
     ("terms that are alike", "export it new", alike_terms(700), "no memory"),
+    ("the same, searched", "search it ciff new", alike_terms(700), "no memory"),
     ("the same, checked", "check it", alike_terms(700), "it: refusal 41 at 79606"),
     ("a word of 1 MB", "search small it new", line(b"a", (1 << 20) - 2), ""),
     ("the same, folded", "search small it new mode=folded", line(b"a", (1 << 20) - 2), ""),

@@ -46,6 +46,15 @@ const LEVEL_AT_LAST: [u8; 54] = [
     0x00, 0x00, 0x00, 0x01, 0x00, 0x00,
 ];
 
+/// `p`: (0,7), (1,7), (2,2000); `q`: (0,998), (2,1); of three documents. The head of impact 2,000 doesn't fit a word.
+const ASIDE: [u8; 67] = [
+    0x00, 0x00, 0x01, 0x00, 0x70, 0x02, 0x00, 0x00, 0x00, 0xd0, 0x07, 0x01, 0x00, 0x00, 0x00, 0x00,
+    0x01, 0x00, 0x00, 0x00, 0x07, 0x00, 0x02, 0x00, 0x00, 0x00, 0x00, 0x02, 0x00, 0x00, 0x00, 0x00,
+    0x00, 0x01, 0x00, 0x71, 0x02, 0x00, 0x00, 0x00, 0xe6, 0x03, 0x01, 0x00, 0x00, 0x00, 0x00, 0x01,
+    0x00, 0x00, 0x00, 0x01, 0x00, 0x01, 0x00, 0x00, 0x00, 0x00, 0x01, 0x00, 0x00, 0x00, 0x02, 0x00,
+    0x00, 0x00, 0x02,
+];
+
 /// The terms, heads and payloads of a file, and its numbers.
 #[derive(Clone, Copy)]
 struct Terms<'a> {
@@ -86,6 +95,14 @@ const LEVEL: Terms<'static> = Terms {
     postings: 3,
     greatest: 3,
     bytes: &LEVEL_AT_LAST,
+};
+
+const HEAVY: Terms<'static> = Terms {
+    docs: 3,
+    terms: 2,
+    postings: 5,
+    greatest: 2_000,
+    bytes: &ASIDE,
 };
 
 /// Appends bytes.
@@ -259,7 +276,7 @@ fn prints(
 type Script<'a> = (Terms<'a>, u32, &'a [u8], &'a [u8]);
 
 /// Scripts whose last line is `end`.
-const SCRIPTS: [Script<'static>; 6] = [
+const SCRIPTS: [Script<'static>; 7] = [
     (
         C,
         2,
@@ -330,6 +347,17 @@ const SCRIPTS: [Script<'static>; 6] = [
         hits 2\nx Q0 d1 1 3 jass\nx Q0 d0 2 2 jass\n\
         x postings 3 segments 3 of 3 cutoff 1 next 0 bound 0 unknown 0 final\n\
         hits 2\nx Q0 d0 1 3 jass\nx Q0 d1 2 3 jass\n\
+        bye\n",
+    ),
+    (
+        HEAVY,
+        1,
+        b"open x 2 p q^2\ngrant x 2\ntop x\ngrant x all\ntop x\nend\n",
+        b"opened x need 1 unknown 0\n\
+        x postings 2 segments 2 of 4 cutoff 1996 next 7 bound 9 unknown 0 set\n\
+        hits 2\nx Q0 d2 1 2000 jass\nx Q0 d0 2 1996 jass\n\
+        x postings 5 segments 4 of 4 cutoff 2 next 0 bound 0 unknown 0 final\n\
+        hits 2\nx Q0 d0 1 2003 jass\nx Q0 d2 2 2002 jass\n\
         bye\n",
     ),
 ];

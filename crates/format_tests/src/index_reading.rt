@@ -308,7 +308,7 @@ fn check_named(rt: &impl Abort, alloc: Global, rows: &[(u8, (u32, u64))]) {
 }
 
 /// The answer for bytes that are kept in a cabinet.
-fn answer_by_name(rt: &impl Abort, alloc: Global, bytes: &[u8]) -> (u32, u64) {
+pub(crate) fn answer_by_name(rt: &impl Abort, alloc: Global, bytes: &[u8]) -> (u32, u64) {
     let mut files = MemCabinet::new(alloc, Row::new(alloc), Row::new(alloc));
     files.store("i.jass", bytes).expect(rt, "memory");
     let answer = answer_of_both(alloc, &mut files, "i.jass");

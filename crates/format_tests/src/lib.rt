@@ -12,6 +12,8 @@ mod ciff_writing;
 #[cfg(test)]
 mod exporting;
 #[cfg(test)]
+mod head_bounds;
+#[cfg(test)]
 mod impacts;
 #[cfg(test)]
 mod index_reading;

@@ -1,7 +1,8 @@
 ghost use Rattle.std.specs.Prelude.{◌≡◌, ◌+◌, ◌≤◌, ◌<◌, [], ◌∷◌, ◌++◌, length, decimal, drop};
 ghost use Rattle.gathered_text.specs.declared.buffer.TheConstants.{PIECE, ROOM};
 
-use crate::digit_count::digit_count;
+use crate::copying::copy_text;
+use crate::digit_count::{digit_count, three_digits};
 use crate::short_text::{self, ShortText};
 use itoa::write_digits;
 use std::marker::Model;
@@ -99,7 +100,7 @@ impl Buffer {
         ensures { self.new ≡ self.old ++ bytes.now }
     {
         let end = self.len + bytes.len();
-        self.bytes[self.len..end].copy_from_slice(bytes);
+        copy_text(&mut self.bytes[self.len..end], bytes);
         self.len = end;
     }
 
@@ -125,7 +126,25 @@ impl Buffer {
     }
 
     /// Puts the digits of a number behind the others.
+    #[inline(always)]
     pub fn push_number(&mut self, number: u64)
+        requires { length self.old + 20 ≤ ROOM }
+        ensures text { self.new ≡ self.old ++ decimal number }
+        ensures few { length self.new ≤ length self.old + 20 }
+    {
+        // Most ranks have three digits.
+        if number < 100 || number >= 1000 {
+            self.push_digits(number);
+            return;
+        }
+        let end = self.len + 3;
+        self.bytes[self.len..end].copy_from_slice(&three_digits(number));
+        self.len = end;
+    }
+
+    /// The same for a number of any size.
+    #[inline(never)]
+    fn push_digits(&mut self, number: u64)
         requires { length self.old + 20 ≤ ROOM }
         ensures text { self.new ≡ self.old ++ decimal number }
         ensures few { length self.new ≤ length self.old + 20 }

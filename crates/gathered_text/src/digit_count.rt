@@ -1,4 +1,4 @@
-ghost use Rattle.std.specs.Prelude.{◌≡◌, ◌<◌, length, decimal};
+ghost use Rattle.std.specs.Prelude.{◌≡◌, ◌≤◌, ◌<◌, length, decimal};
 
 /// How many decimal digits a number has. Four go at a time, since most numbers of a line have no more.
 pub fn digit_count(number: u64) -> usize
@@ -27,4 +27,17 @@ fn digits_of_few(number: u64) -> usize
     } else {
         4
     }
+}
+
+/// The digits of a number that has three of them.
+#[inline(always)]
+pub fn three_digits(number: u64) -> [u8; 3]
+    requires { (100 ≤ number) × (number < 1000) }
+    ensures { result ≡ decimal number }
+{
+    [
+        b'0' + (number / 100) as u8,
+        b'0' + (number / 10 % 10) as u8,
+        b'0' + (number % 10) as u8,
+    ]
 }

@@ -4,6 +4,7 @@
 //! system call in the end. Nothing here takes memory.
 
 mod buffer;
+mod copying;
 mod digit_count;
 mod gather;
 mod short_text;

@@ -13,8 +13,8 @@ use Rattle.index_layout.specs.declared.refusal.OpenFault.TheVariants as faults
 use Rattle.index_layout.specs.declared.refusal.OpenRefusal.{OpenRefusal}
 use Rattle.index_file.specs.Contents.{IsContent}
 use Rattle.index_check.specs.Checking.{Checks}
-use Rattle.index_check.specs.Private.Answers.{IsThere, Stops}
-use Rattle.index_check.proofs.Stopping.{stops_as, stops_on}
+use Rattle.index_file.specs.Answers.{IsThere, Stops}
+use Rattle.index_file.proofs.Stopping.{stops_as, stops_on}
 
 -- a term without segments
 abbrev bare : TermData

@@ -10,8 +10,9 @@ use Rattle.index_layout.proofs.Greatest.{greatest_joins}
 use Rattle.index_file.specs.Parts.{heads_from, moved_fault}
 use Rattle.index_file.specs.Sums.{AreSums}
 use Rattle.index_file.specs.declared.sums.Sums.{Sums}
-use Rattle.index_check.specs.Private.Answers.{EndsHeads, Stops}
-use Rattle.index_check.specs.Private.Pieces.{IsPiece}
+use Rattle.index_file.specs.Answers.{Stops}
+use Rattle.index_check.specs.Private.Answers.{EndsHeads}
+use Rattle.index_file.specs.Pieces.{IsPiece}
 use Rattle.index_check.proofs.HeadMoves.{heads_moved, heads_small, moved_heads}
 
 abbrev count_of : HeadData → ℕ

@@ -11,7 +11,7 @@ use Rattle.index_layout.specs.declared.refusal.OpenWhy.TheVariants.{Length}
 use Rattle.index_layout.proofs.Judging.{judged_ok}
 use Rattle.index_file.proofs.Pieces.{SameHead, head_moved, same_head}
 use Rattle.index_check.specs.Private.Answers.{moved}
-use Rattle.index_check.specs.Private.Pieces.{IsPiece}
+use Rattle.index_file.specs.Pieces.{IsPiece}
 use Rattle.index_check.proofs.Judging.{judged_moved}
 
 -- heads of a piece that begins at a place, or a refusal there, as they stand in the whole

@@ -2,7 +2,7 @@
 use Rattle.shared_lemmas.proofs.Common.{◌≡◌, ◌≤◌, ◌+◌, ◌-◌, ◌⊎◌, inl, inr, ℕ, min, List, length, take, drop, sym, ap, ◌∙◌, arith, take-take, length-take-le, length-drop}
 use Rattle.whole_files.specs.Windows.{AreFrom}
 use Rattle.whole_files.proofs.Windows.{later_from}
-use Rattle.index_check.specs.Private.Pieces.{IsPiece}
+use Rattle.index_file.specs.Pieces.{IsPiece}
 
 -- the first so many
 first_from : (content bytes : List ℕ) (at n : ℕ) → AreFrom content at bytes → n ≤ length bytes → AreFrom content at (take n bytes)

@@ -7,7 +7,8 @@ use Rattle.index_layout.specs.declared.refusal.OpenWhy.{OpenWhy}
 use Rattle.index_layout.specs.Refusals.{Check, Fails, judged, refuse}
 use Rattle.index_layout.proofs.Judging.{NoneWrong}
 use Rattle.index_file.specs.Parts.{moved_fault}
-use Rattle.index_check.specs.Private.Answers.{Stops, moved}
+use Rattle.index_file.specs.Answers.{Stops}
+use Rattle.index_check.specs.Private.Answers.{moved}
 
 -- the first checks are those of a content, the others of a piece of it that begins at a place; behind a check that
 -- refuses they need not agree

@@ -1,7 +1,5 @@
 pub mod Checked
 pub mod Counting
-pub mod FrontMoves
-pub mod Fronts
 pub mod HeadEnds
 pub mod HeadMoves
 pub mod HeadsRead
@@ -12,10 +10,8 @@ pub mod NameMoves
 pub mod NameRooms
 pub mod PayloadEnds
 pub mod PayloadMoves
-pub mod Reading
 pub mod SegmentLists
 pub mod SegmentMoves
-pub mod Stopping
 pub mod TermEnds
 pub mod TermMoves
 pub mod TermRooms

@@ -4,8 +4,8 @@ use Rattle.index_layout.specs.Reading.{NamesRead, name_end, name_in, read_names}
 use Rattle.index_layout.specs.Refusals.{◌>>=◌}
 use Rattle.index_layout.specs.declared.refusal.OpenFault.{OpenFault}
 use Rattle.index_layout.specs.declared.refusal.OpenRefusal.{OpenRefusal}
-use Rattle.index_check.specs.Private.Answers.{Stops}
-use Rattle.index_check.proofs.Stopping.{stops_as, stops_on}
+use Rattle.index_file.specs.Answers.{Stops}
+use Rattle.index_file.proofs.Stopping.{stops_as, stops_on}
 
 -- behind names that were read before
 abbrev pub with_names : List (List ℕ) → Result NamesRead OpenRefusal → Result NamesRead OpenRefusal

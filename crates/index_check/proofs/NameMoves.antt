@@ -6,7 +6,7 @@ use Rattle.index_layout.specs.Reading.{is_name_text, name_checks, name_end, name
 use Rattle.index_layout.specs.declared.refusal.OpenRefusal.{OpenRefusal}
 use Rattle.index_file.proofs.Pieces.{piece_range, piece_u32}
 use Rattle.index_check.specs.Private.Answers.{moved}
-use Rattle.index_check.specs.Private.Pieces.{IsPiece}
+use Rattle.index_file.specs.Pieces.{IsPiece}
 use Rattle.index_layout.proofs.Judging.{NoneWrong}
 use Rattle.index_check.proofs.Judging.{SameChecks, judged_small, judged_then, same_reach}
 

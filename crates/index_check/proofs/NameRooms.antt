@@ -6,11 +6,12 @@ use Rattle.index_layout.specs.Refusals.{Fails}
 use Rattle.index_layout.specs.declared.refusal.OpenFault.{OpenFault}
 use Rattle.index_file.specs.Parts.{moved_fault}
 use Rattle.index_file.proofs.Pieces.{piece_u32}
-use Rattle.index_check.specs.Private.Answers.{Stops, moved}
-use Rattle.index_check.specs.Private.Pieces.{IsPiece}
+use Rattle.index_file.specs.Answers.{Stops}
+use Rattle.index_check.specs.Private.Answers.{moved}
+use Rattle.index_file.specs.Pieces.{IsPiece}
 use Rattle.index_check.proofs.Judging.{stops_moved}
 use Rattle.index_check.proofs.NameMoves.{name_moved, name_small}
-use Rattle.index_check.proofs.Stopping.{stops_as}
+use Rattle.index_file.proofs.Stopping.{stops_as}
 use Rattle.jass_base.specs.declared.limits.TheConstants.{LONGEST_FILE, LONGEST_NAME}
 
 -- the piece has so many bytes where the content has

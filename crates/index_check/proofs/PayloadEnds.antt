@@ -11,7 +11,8 @@ use Rattle.index_layout.specs.declared.refusal.OpenRefusal.{OpenRefusal}
 use Rattle.index_layout.proofs.Behind.{behind_index, with_index}
 use Rattle.index_layout.proofs.Judging.{bind_ok}
 use Rattle.index_file.specs.Parts.{IsCounted, heads_from}
-use Rattle.index_check.specs.Private.Answers.{EndsIndex, EndsSegments, Stops}
+use Rattle.index_file.specs.Answers.{Stops}
+use Rattle.index_check.specs.Private.Answers.{EndsIndex, EndsSegments}
 use Rattle.index_check.proofs.HeadsRead.{heads_read, term_read}
 
 abbrev count_of : HeadData → ℕ

@@ -11,7 +11,7 @@ use Rattle.index_layout.specs.declared.refusal.OpenWhy.{OpenWhy}
 use Rattle.index_layout.specs.declared.refusal.OpenWhy.TheVariants.{DocTwice, Length, Payload}
 use Rattle.index_file.proofs.Pieces.{piece_range}
 use Rattle.index_check.specs.Private.Answers.{moved}
-use Rattle.index_check.specs.Private.Pieces.{IsPiece}
+use Rattle.index_file.specs.Pieces.{IsPiece}
 
 -- the steps of a payload at a place: whether it is cut, what it is read as, and what was met before
 abbrev payload_steps : Bool → Result (List ℕ) PayloadFault → List ℕ → ℕ → ℕ → Result ℕ OpenRefusal

@@ -14,8 +14,9 @@ use Rattle.index_layout.proofs.Behind.{behind_segments, with_segments}
 use Rattle.index_file.specs.Marks.{AreMarks}
 use Rattle.index_file.specs.Parts.{IsCounted, heads_from}
 use Rattle.index_file.proofs.Pieces.{head_moved}
-use Rattle.index_check.specs.Private.Answers.{EndsSegments, Stops}
-use Rattle.index_check.proofs.Stopping.{stops_as, stops_on}
+use Rattle.index_file.specs.Answers.{Stops}
+use Rattle.index_check.specs.Private.Answers.{EndsSegments}
+use Rattle.index_file.proofs.Stopping.{stops_as, stops_on}
 
 none : HeadData
 none = record { impact = 0; count = 0; codec = Varbyte; size = 0 }

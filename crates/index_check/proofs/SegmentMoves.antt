@@ -8,11 +8,12 @@ use Rattle.index_layout.specs.declared.refusal.OpenFault.TheVariants as faults
 use Rattle.index_layout.specs.declared.refusal.OpenRefusal.{OpenRefusal}
 use Rattle.index_file.specs.Marks.{AreMarks}
 use Rattle.index_file.specs.Parts.{moved_fault}
-use Rattle.index_check.specs.Private.Answers.{Stops, moved}
-use Rattle.index_check.specs.Private.Pieces.{IsPiece}
+use Rattle.index_file.specs.Answers.{Stops}
+use Rattle.index_check.specs.Private.Answers.{moved}
+use Rattle.index_file.specs.Pieces.{IsPiece}
 use Rattle.index_check.proofs.Judging.{stops_moved}
 use Rattle.index_check.proofs.PayloadMoves.{payload_docs, payload_moved, payload_small}
-use Rattle.index_check.proofs.Stopping.{stops_as}
+use Rattle.index_file.proofs.Stopping.{stops_as}
 
 module _ (content bytes : List ℕ) (at d : ℕ) (earlier : List ℕ) (h : HeadData) (piece : IsPiece content at h.size bytes) where
   pub next_there : payload_end bytes d earlier h 0 ≡ Ok (0 + h.size) → payload_end content d earlier h at ≡ Ok (at + h.size)

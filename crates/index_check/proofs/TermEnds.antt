@@ -11,7 +11,8 @@ use Rattle.index_layout.specs.declared.refusal.OpenRefusal.{OpenRefusal}
 use Rattle.index_layout.proofs.Behind.{behind_terms, with_terms}
 use Rattle.index_file.specs.Sums.{AreSums}
 use Rattle.index_file.specs.declared.sums.Sums.{Sums}
-use Rattle.index_check.specs.Private.Answers.{EndsHeads, EndsTerms, Stops, before_of}
+use Rattle.index_file.specs.Answers.{Stops}
+use Rattle.index_check.specs.Private.Answers.{EndsHeads, EndsTerms, before_of}
 
 -- one term more
 terms_on : (bytes : List ℕ) (d : ℕ) (total : Result TermsRead OpenRefusal) (front : List TermHeads) (k left : ℕ) (before : Option (List ℕ)) (at place : ℕ) (here : HeadsRead) → total ≡ with_terms front (read_terms bytes d k before at) → k ≡ suc left → term_end bytes before at ≡ Ok place

@@ -3,7 +3,7 @@ use Rattle.shared_lemmas.proofs.Common.{◌≡◌, ◌≤◌, ◌<◌, ◌+◌, 
 use Rattle.index_layout.specs.Bytes.{u16_in, u32_in}
 use Rattle.index_layout.specs.Reading.{heads_in, segments_place}
 use Rattle.index_file.proofs.Pieces.{piece_u16, piece_u32}
-use Rattle.index_check.specs.Private.Pieces.{IsPiece}
+use Rattle.index_file.specs.Pieces.{IsPiece}
 
 -- a piece that holds four bytes tells the room of the term
 pub room_there : (content bytes : List ℕ) (at room : ℕ) → IsPiece content at 4 bytes → (4 ≤ length bytes → room ≡ 8 + u16_in bytes 2) → at + 4 ≤ length content → room ≡ 8 + u16_in content (at + 2)

@@ -3,11 +3,11 @@ ghost use Rattle.jass_base.specs.Outside.{Rose, IsMissing};
 ghost use Rattle.index_check.specs.Checking.{Checks};
 
 use crate::ends::check_ends;
-use crate::front::check_front;
 use crate::held::Held;
 use crate::names::check_names;
 use crate::payloads::check_payloads;
 use crate::terms::check_terms;
+use index_file::parts::check_front;
 use index_layout::OpenFault;
 use index_layout::laws::files_are_read;
 use jass_base::{Cabinet, Totals};

@@ -7,8 +7,7 @@ ghost use Rattle.index_layout.specs.View.{FileView};
 ghost use Rattle.index_file.specs.Sums.{AreSums};
 ghost use Rattle.index_check.specs.Private.Answers.{AnswersTotals};
 
-use crate::front::Front;
-use index_file::parts::Sums;
+use index_file::parts::{Front, Sums};
 use index_layout::{OpenFault, OpenWhy, refused};
 use jass_base::Totals;
 

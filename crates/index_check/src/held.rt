@@ -1,8 +1,9 @@
 ghost use Rattle.std.specs.Prelude.{ℕ, ◌≡◌, ◌≤◌, ◌+◌, ◌-◌, ◌^◌, min, List, length, IfErr, OnOk};
 ghost use Rattle.whole_files.specs.Windows.{IsAt, Reaches, Shows};
 ghost use Rattle.index_file.specs.Contents.{IsContent, Reads, outside};
-ghost use Rattle.index_check.specs.Private.Answers.{IsNotRefused};
-ghost use Rattle.index_check.specs.Private.Pieces.{Holds, IsPiece};
+ghost use Rattle.index_file.specs.Answers.{IsNotRefused};
+ghost use Rattle.index_file.specs.Pieces.{IsPiece};
+ghost use Rattle.index_check.specs.Private.Pieces.{Holds};
 
 use index_layout::OpenFault;
 use jass_base::{Cabinet, ReadStop};

@@ -5,11 +5,9 @@
 
 mod check;
 mod ends;
-mod front;
 mod held;
 mod names;
 mod payloads;
-mod probing;
 mod segments;
 mod term;
 mod terms;

@@ -1,7 +1,8 @@
 ghost use Rattle.std.specs.Prelude.{ℕ, ◌≡◌, ◌≤◌, ◌*◌, ◌+◌, None, Ok, List, length, IfOk, IfErr};
 ghost use Rattle.index_layout.specs.Reading.{TermsRead, heads_in, read_payloads, read_terms, segments_place};
 ghost use Rattle.index_file.specs.Contents.{IsContent, Reads, outside};
-ghost use Rattle.index_check.specs.Private.Answers.{EndsIndex, IsNotRefused};
+ghost use Rattle.index_file.specs.Answers.{IsNotRefused};
+ghost use Rattle.index_check.specs.Private.Answers.{EndsIndex};
 ghost use Rattle.index_check.specs.Private.Pieces.{Holds};
 ghost use Rattle.whole_files.specs.Windows.{IsAt};
 ghost use Rattle.jass_base.specs.declared.limits.TheConstants.{LONGEST_FILE, MOST_DOCUMENTS};

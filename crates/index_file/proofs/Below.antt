@@ -3,11 +3,11 @@ pub use Rattle.index_layout.proofs.Behind.{behind_index, behind_segments, behind
 pub use Rattle.index_layout.proofs.PayloadLaws.{part_bytes}
 pub use Rattle.index_layout.specs.Bytes.{u32_in, u64_in}
 pub use Rattle.index_layout.specs.Heads.{HeadData, TermHeads, all_heads, greatest_impact, greatest_of, head_postings}
-pub use Rattle.index_layout.specs.Reading.{Front, HeadsRead, IndexRead, NamesRead, SegmentsRead, TermsRead, after_front, after_names, after_payloads, after_terms, docs_in, docs_or_none, end_checks, head_codecs, heads_in, is_among, name_end, name_in, payload_end, payload_placed, read_front}
-pub use Rattle.index_layout.specs.Reading.{read_heads, read_index, read_names, read_payloads, read_segments, read_terms, shares_one, term_end, term_in}
-pub use Rattle.index_layout.specs.Refusals.{Answers, Check, Fails, check, judged, refuse, ◌>>=◌}
+pub use Rattle.index_layout.specs.Reading.{Front, HeadsRead, IndexRead, NamesRead, SegmentsRead, TermsRead, after_front, after_names, after_payloads, after_terms, docs_in, docs_or_none, head_codecs, heads_in, is_among, name_end, name_in, payload_end, payload_placed, read_front}
+pub use Rattle.index_layout.specs.Reading.{read_heads, read_names, read_payloads, read_segments, read_terms, shares_one, term_in}
+pub use Rattle.index_layout.specs.Refusals.{Answers, Fails, check, judged, refuse, ◌>>=◌}
 pub use Rattle.index_layout.specs.Totals.{greatest_in, index_greatest}
-pub use Rattle.index_layout.specs.View.{FileView, HaveCodecs, IsFileView, file_bytes, term_postings}
+pub use Rattle.index_layout.specs.View.{FileView, IsFileView, file_bytes}
 pub use Rattle.index_layout.specs.declared.refusal.OpenFault.{OpenFault}
 pub use Rattle.index_layout.specs.declared.refusal.OpenRefusal.{OpenRefusal}
 pub use Rattle.index_layout.specs.declared.refusal.OpenWhy.TheVariants.{DocTwice, Length, Limit, Payload}

@@ -1,8 +1,9 @@
 -- How many segments are in each codec: counted head by head, and the heads of all terms one after the other.
-use Rattle.shared_lemmas.proofs.Common.{◌≡◌, ◌≢◌, ◌<◌, ◌≤◌, ◌+◌, ◌-◌, ◌==◌, Bool, true, false, ℕ, zero, suc, List, [], ◌∷◌, ◌++◌, length, map, take, drop, ap, sym, ◌∙◌, refl, slice_index, slice_set, slice_range, arith, nat_tests}
-use Rattle.shared_lemmas.proofs.Common.{length-append, map-append, filter-append, map_push, take_more, take-append-drop, drop-drop, drop_all}
+use Rattle.shared_lemmas.proofs.Common.{◌≡◌, ◌≢◌, ◌<◌, ◌≤◌, ◌+◌, ◌==◌, Bool, true, false, ℕ, zero, suc, List, [], ◌∷◌, ◌++◌, length, map, take, drop, ap, sym, ◌∙◌, refl, slice_index, slice_set, slice_range, arith, nat_tests}
+use Rattle.shared_lemmas.proofs.Common.{length-append, map-append, filter-append, map_push, take_more, drop_all}
 use Rattle.std.specs.List.{filter}
 use Rattle.std.proofs.lemmas.List.{get_or-set_other}
+use Rattle.std.proofs.lemmas.List.Folds.{drop_split}
 use Rattle.std.proofs.lemmas.Grind.{get_or-set_at}
 use Rattle.segment_codecs.specs.declared.codec.Codec.TheVariants.{Packed, Bitmap, Simple8}
 use Rattle.segment_codecs.specs.Codecs.{codec_number}
@@ -73,21 +74,13 @@ set_by_one (n ∷ uses) zero (suc i) = omega arith
 set_by_one (n ∷ uses) (suc at) zero = omega arith
 set_by_one (n ∷ uses) (suc at) (suc i) = set_by_one uses at i
 
--- the heads up to a later place, and those from there on
-parted : (heads : List HeadData) (from to : ℕ) → from ≤ to → slice_range heads from to ++ drop to heads ≡ drop from heads
-parted heads from to first =
-    let far : from + (to - from) ≡ to = omega (arith, first) in
-    ap (λ n. slice_range heads from to ++ drop n heads) (sym far)
-    ∙ ap (λ last. slice_range heads from to ++ last) (sym (drop-drop (to - from) from heads))
-    ∙ take-append-drop (to - from) (drop from heads)
-
 codecs_from : (heads : List HeadData) (text : List ℕ) (a : TermRow) (rows : List TermRow) → RowsFrom heads text a rows
     → all_codecs (head_codecs (row_heads heads text (a ∷ rows))) ≡ map head_codec (drop a.head heads)
 codecs_from heads text a [] are = ap (map head_codec) (sym (drop_all a.head heads (omega (arith, are.1))))
 codecs_from heads text a (b ∷ rows) are =
     ap (λ (later : List Codec). map head_codec (slice_range heads a.head b.head) ++ later) (codecs_from heads text b rows are.3)
     ∙ sym (map-append head_codec (slice_range heads a.head b.head) (drop b.head heads))
-    ∙ ap (map head_codec) (parted heads a.head b.head (let rises = are.1 in omega (arith, rises)))
+    ∙ ap (map head_codec) (sym (drop_split heads a.head b.head (omega (arith, are.1))))
 
 -- the codecs of all terms are those of all heads
 pub all_head_codecs : (heads : List HeadData) (text : List ℕ) (rows : List TermRow) → AreRows heads text rows

@@ -3,8 +3,11 @@ use Rattle.shared_lemmas.proofs.Common.{◌≡◌, ◌<◌, ◌^◌, ℕ, List, 
 use Rattle.index_file.proofs.Below.{Files, OnContent, OpenFault, OpenRefusal, Limit, Answers, FileView}
 use Rattle.index_layout.specs.declared.refusal.OpenFault.TheVariants as faults
 use Rattle.index_layout.specs.Reading.{front_checks, read_front, read_index}
-use Rattle.jass_base.specs.Outside.{IsMissing}
+use Rattle.std.specs.Prelude.{⊤}
+use Rattle.index_file.specs.Answers.{IsThere, Stops}
 use Rattle.index_file.specs.Contents.{IsContent}
+use Rattle.index_file.specs.declared.front.Front.{Front}
+use Rattle.index_file.proofs.Reading.{front_not}
 use Rattle.index_file.specs.Opening.{Opens}
 
 abbrev too_long : Result FileView OpenRefusal
@@ -39,11 +42,19 @@ opens_front files name row (Err (faults.Refused refusal)) there read =
 opens_front files name row (Err faults.ReadFault) there read = tt
 opens_front files name row (Err faults.NoMemory) there read = tt
 
--- a name that isn't missing, where each content that may be told has P
-pub on_told : (files : Option Files) (name : List ℕ) (P : List ℕ → Type 0) → ¬ IsMissing files name → ((content : List ℕ) → IsContent files name content → P content) → OnContent files name P
-on_told None name P there each = tt
-on_told (Some files) name P there each = at (get files name) refl
+-- where the content of a name has P, it has Q, if each content with P that may be told has Q
+pub on_each : (files : Option Files) (name : List ℕ) (P Q : List ℕ → Type 0) → ((content : List ℕ) → IsContent files name content → P content → Q content) → OnContent files name P → OnContent files name Q
+on_each None name P Q each there = tt
+on_each (Some files) name P Q each there = at (get files name) refl there
   where
-    at : (o : Option (List ℕ)) → get files name ≡ o → IsSomeAnd o P
-    at None is = absurd (there is)
-    at (Some content) is = each content is
+    at : (o : Option (List ℕ)) → get files name ≡ o → IsSomeAnd o P → IsSomeAnd o Q
+    at None is there = there
+    at (Some content) is there = each content is there
+
+-- a front that is refused
+pub opens_refused : (files : Option Files) (name : List ℕ) (fault : OpenFault) → (let first : Result Front OpenFault = Err fault in IsThere files name first)
+    → ((content : List ℕ) → IsContent files name content → Stops fault (read_front content)) → (let result : Result FileView OpenFault = Err fault in Opens files name result)
+opens_refused files name (faults.Refused refusal) there stops =
+    on_each files name (λ content. ⊤) (λ content. read_index content ≡ Err refusal) (λ content is any. front_not content (faults.Refused refusal) (stops content is)) there
+opens_refused files name faults.ReadFault there stops = tt
+opens_refused files name faults.NoMemory there stops = tt

@@ -1,5 +1,5 @@
 -- The parts of a file: its outline, its front with the names, and its payloads.
-use Rattle.shared_lemmas.proofs.Common.{◌≡◌, ◌<◌, ◌≤◌, ◌+◌, ℕ, suc, List, [], ◌∷◌, ◌++◌, length, map, take, drop, All, None, Result, Ok, ap, ap₂, sym, subst, ◌∙◌, refl, arith, slice_index_or, slice_range, length-take-le, take-take, drop-drop, length-append, All-append, take-append-drop}
+use Rattle.shared_lemmas.proofs.Common.{◌≡◌, ◌<◌, ◌≤◌, ◌+◌, ℕ, suc, List, [], ◌∷◌, ◌++◌, length, map, take, drop, All, None, Result, Ok, ap, ap₂, sym, subst, ◌∙◌, refl, arith, slice_index_or, slice_range, length-take-le, drop-drop, length-append, All-append, take-append-drop, take_all}
 use Rattle.std.proofs.Math.Seq.{drop-append-add, drop-append_seam, take-append_seam}
 use Rattle.std.proofs.lemmas.List.{length-drop}
 use Rattle.whole_files.specs.Windows.{AreFrom}
@@ -9,7 +9,7 @@ use Rattle.index_file.proofs.Below.{u32_in, TermHeads, OpenRefusal, Front, Names
 use Rattle.index_file.specs.declared.outline.Outline.{Outline}
 use Rattle.index_file.specs.Parts.{IsCounted}
 use Rattle.index_file.specs.Sums.{AreSums}
-use Rattle.index_file.specs.Private.Outlines.{AreParts, EndsBefore, IsOutline, IsOutlineOf, after_outline}
+use Rattle.index_file.specs.Private.Outlines.{AreParts, EndsBefore, IsOutline, IsOutlineOfEach, after_outline}
 use Rattle.index_file.specs.Private.Tables.{AreRows, row_heads}
 use Rattle.index_file.proofs.Joined.{names_on, terms_on}
 use Rattle.index_file.proofs.Pieces.{piece_range, piece_u32}
@@ -91,9 +91,6 @@ module _ (bytes front : List ℕ) (from : AreFrom bytes 0 front) where
       let size = piece_u32 bytes front 0 at from (omega (arith, e)) ∙ ap (u32_in bytes) zero in
       omega (arith, e, size)
 
-  pub front_first : 40 ≤ length front → take 40 bytes ≡ take 40 front
-  front_first long = sym (ap (take 40) from.front ∙ take-take 40 (length front) bytes long)
-
 -- the outline of each file that begins with a front and terms
 pub outline_joins : (bytes front terms : List ℕ) (o : Outline) (d names_end terms_end : ℕ) → length o.places ≡ d → AreFrom bytes 0 front → AreFrom bytes (length front) terms
     → read_front bytes ≡ front_told d o.count
@@ -133,7 +130,7 @@ parts_of bytes front payloads o names_end terms_end is front_is payloads_is fits
     }
 
 -- the parts of a file that was read part by part
-pub parts_join : (front terms payloads : List ℕ) (o : Outline) (place size : ℕ) → IsOutlineOf front terms size o → place ≡ length front + length terms → place + length payloads ≡ size
+pub parts_join : (front terms payloads : List ℕ) (o : Outline) (place size : ℕ) → IsOutlineOfEach front terms size o → place ≡ length front + length terms → place + length payloads ≡ size
     → All (λ byte. byte < 256) front → All (λ byte. byte < 256) terms → All (λ byte. byte < 256) payloads → length o.places ≤ MOST_DOCUMENTS → size ≤ LONGEST_FILE
     → AreParts (front ++ (terms ++ payloads)) o front payloads place
 parts_join front terms payloads o place size are place_is whole small_front small_terms small_payloads few fits =
@@ -155,6 +152,12 @@ parts_join front terms payloads o place size are place_is whole small_front smal
       few = few;
       small = All-append (λ byte. byte < 256) front (terms ++ payloads) small_front (All-append (λ byte. byte < 256) terms payloads small_terms small_payloads);
     }
+
+-- a part that reaches to the end
+pub rest_is : (content rest : List ℕ) (place : ℕ) → AreFrom content place rest → place + length rest ≡ length content → rest ≡ drop place content
+rest_is content rest place is whole =
+    let size = length-drop place content in
+    is.front ∙ take_all (length rest) (drop place content) (omega (arith, size, whole))
 
 -- a content is its parts
 pub content_joins : (content front terms payloads : List ℕ) (place : ℕ) → AreFrom content 0 front → AreFrom content (length front) terms → place ≡ length front + length terms → payloads ≡ drop place content

@@ -1,12 +1,11 @@
 -- Heads in words: what a word tells, and what it still tells when heads are put aside.
-use Rattle.shared_lemmas.proofs.Common.{◌≡◌, ◌<◌, ◌≤◌, ◌+◌, ◌-◌, ◌*◌, ◌/◌, ◌%◌, ◌^◌, Bool, true, false, nat_lt, ℕ, suc, List, [], ◌∷◌, ◌++◌, length, map, All, ap, ap₂, ◌∙◌, refl, arith, length-map, map-append, map_push, get_or-append, get_or-append_seam, lt-ltb, ltb-false, ltb-true, map-range_with_len_more}
+use Rattle.shared_lemmas.proofs.Common.{◌≡◌, ◌<◌, ◌≤◌, ◌+◌, ◌-◌, ◌*◌, ◌/◌, ◌%◌, ◌^◌, Bool, true, false, nat_lt, ℕ, suc, List, [], ◌∷◌, ◌++◌, length, map, All, ap, ap₂, ◌∙◌, sym, subst, refl, arith, length-map, length-append, All-push, append-nil, map-append, map_push, get_or-append, get_or-append_seam, lt-ltb, ltb-false, ltb-true}
 use Rattle.std.specs.Option.{unwrap_or}
 use Rattle.segment_codecs.specs.Codecs.{codec_number, codec_of}
 use Rattle.segment_codecs.specs.declared.codec.Codec.TheVariants.{Packed, Bitmap, Simple8}
 use Rattle.index_file.proofs.Below.{Codec, Varbyte, HeadData}
 use Rattle.index_file.specs.declared.segment_head.SegmentHead.{SegmentHead}
-use Rattle.index_layout.specs.Reading.{head_in}
-use Rattle.index_file.specs.Parts.{heads_from, told}
+use Rattle.index_file.specs.Parts.{told}
 use Rattle.index_file.specs.Private.HeadWords.{IsWord, all_told, head_of_word, heads_of_words, unpacked}
 use Rattle.index_file.specs.Private.Tables.{head_at}
 
@@ -65,13 +64,34 @@ words_stay aside more (word ∷ words) are =
     ap₂ (λ (h : HeadData) (heads : List HeadData). h ∷ heads) (word_stays aside more word (are 0 0 (omega arith)))
     (words_stay aside more words (λ k d inside. are (suc k) d (omega (arith, inside))))
 
--- a word that has its head in itself
-own_head : (aside : List HeadData) (word : ℕ) → word < 2 ^ 31 → head_of_word aside word ≡ unpacked word
-own_head aside word small = (let e = lt-ltb word (2 ^ 31) small in rw e refl)
+-- one head more: some heads come to stand aside behind the others, and a word tells the new one
+pub record IsNext (aside later : List SegmentHead) (word : ℕ) (h : HeadData) : Type 0 where
+  pub more : List SegmentHead
+  pub put : later ≡ aside ++ more
+  pub is : IsWord (length later) word
+  pub tells : head_of_word (all_told later) word ≡ h
 
--- the word of the last head aside
-last_head : (aside : List SegmentHead) (h : SegmentHead) → head_of_word (all_told (aside ++ h ∷ [])) (2 ^ 31 + length aside) ≡ told h
-last_head aside h = by_test (nat_lt (2 ^ 31 + length aside) (2 ^ 31)) refl
+-- the word has the head in itself
+pub own_next : (aside later : List SegmentHead) (word own : ℕ) (h : HeadData) → later ≡ aside → word ≡ own → own < 2 ^ 31 → unpacked own ≡ h → IsNext aside later word h
+own_next aside later word own h same alike small is =
+    let low = lt-ltb own (2 ^ 31) small in
+    record {
+      more = [];
+      put = same ∙ sym (append-nil aside);
+      is = omega (arith, alike, small);
+      tells = rw (alike, low) is;
+    }
+
+-- the head is put aside
+pub aside_next : (aside later : List SegmentHead) (word : ℕ) (h : SegmentHead) → later ≡ aside ++ h ∷ [] → word ≡ 2 ^ 31 + length aside → IsNext aside later word (told h)
+aside_next aside later word h put alike =
+    let size = ap length put ∙ length-append aside (h ∷ []) in
+    record {
+      more = h ∷ [];
+      put = put;
+      is = omega (arith, alike, size);
+      tells = ap₂ (λ (later : List SegmentHead) (word : ℕ). head_of_word (all_told later) word) put alike ∙ by_test (nat_lt (2 ^ 31 + length aside) (2 ^ 31)) refl;
+    }
   where
     by_test : (b : Bool) → nat_lt (2 ^ 31 + length aside) (2 ^ 31) ≡ b → head_of_word (all_told (aside ++ h ∷ [])) (2 ^ 31 + length aside) ≡ told h
     by_test true e = absurd (omega (arith, ltb-true (2 ^ 31 + length aside) (2 ^ 31) e))
@@ -82,21 +102,18 @@ last_head aside h = by_test (nat_lt (2 ^ 31 + length aside) (2 ^ 31)) refl
         ∙ ap (λ (heads : List HeadData). head_at heads (length (map told aside))) (map-append told aside (h ∷ []))
         ∙ get_or-append_seam (map told aside) (told h) [] (record { impact = 0; count = 0; codec = Varbyte; size = 0 }))
 
--- one head more, in a word of its own
-pub push_own : (aside : List HeadData) (words newer : List ℕ) (word : ℕ) (h : HeadData) → newer ≡ words ++ word ∷ [] → word < 2 ^ 31 → unpacked word ≡ h
-    → heads_of_words aside newer ≡ heads_of_words aside words ++ h ∷ []
-push_own aside words newer word h more small is =
-    ap (heads_of_words aside) more ∙ map_push (head_of_word aside) words word
-    ∙ ap (λ (last : HeadData). heads_of_words aside words ++ last ∷ []) (own_head aside word small ∙ is)
+-- the words with one more tell the heads with the new one
+pub heads_push : (aside later : List SegmentHead) (words newer : List ℕ) (word : ℕ) (h : HeadData) → All (IsWord (length aside)) words → newer ≡ words ++ word ∷ [] → IsNext aside later word h
+    → heads_of_words (all_told later) newer ≡ heads_of_words (all_told aside) words ++ h ∷ []
+heads_push aside later words newer word h are more next =
+    ap (heads_of_words (all_told later)) more ∙ map_push (head_of_word (all_told later)) words word
+    ∙ ap₂ (λ (heads : List HeadData) (last : HeadData). heads ++ last ∷ [])
+    (ap (λ (later : List SegmentHead). heads_of_words (all_told later) words) next.put ∙ words_stay aside next.more words are) next.tells
 
--- one head more, put aside
-pub push_aside : (aside later : List SegmentHead) (words newer : List ℕ) (word : ℕ) (h : SegmentHead) → All (IsWord (length aside)) words → later ≡ aside ++ h ∷ []
-    → newer ≡ words ++ word ∷ [] → word ≡ 2 ^ 31 + length aside → heads_of_words (all_told later) newer ≡ heads_of_words (all_told aside) words ++ told h ∷ []
-push_aside aside later words newer w h are put more is =
-    ap₂ (λ (later : List SegmentHead) (newer : List ℕ). heads_of_words (all_told later) newer) put (more ∙ ap (λ n. words ++ n ∷ []) is)
-    ∙ map_push (head_of_word (all_told (aside ++ h ∷ []))) words (2 ^ 31 + length aside)
-    ∙ ap₂ (λ (heads : List HeadData) (last : HeadData). heads ++ last ∷ []) (words_stay aside (h ∷ []) words are) (last_head aside h)
-
--- the heads of some bytes, one more
-pub heads_next : (bytes : List ℕ) (k from : ℕ) → heads_from bytes (k + 1) from ≡ heads_from bytes k from ++ head_in bytes (from + 11 * k) ∷ []
-heads_next bytes k from = map-range_with_len_more (λ s. head_in bytes (from + 11 * s)) 0 k k (omega arith)
+-- and none of them tells a head behind those aside
+pub words_push : (aside later : List SegmentHead) (words newer : List ℕ) (word : ℕ) (h : HeadData) → All (IsWord (length aside)) words → newer ≡ words ++ word ∷ [] → IsNext aside later word h
+    → All (IsWord (length later)) newer
+words_push aside later words newer word h are more next =
+    let wider = ap length next.put ∙ length-append aside next.more in
+    subst (All (IsWord (length later))) (sym more) (All-push (IsWord (length later)) words word
+    (λ k d inside. (let is = are k d inside in omega (arith, is, wider))) next.is)

@@ -1,15 +1,18 @@
 mod Assembled
 mod Below
 mod CodecUses
+pub mod ContentReads
 mod Contents
 mod FileParts
-mod FrontNumbers
+mod FrontMoves
+mod Fronts
 mod Halves
 mod HeadLists
 mod HeadWords
 mod HeadsFrom
 mod Joined
 mod Leading
+mod Loads
 mod MarkLists
 mod NextTerms
 mod OnePayload
@@ -25,5 +28,6 @@ mod SegmentLists
 mod Sequences
 mod Shifted
 mod Standing
+pub mod Stopping
 mod TermRows
 mod Wholes

@@ -1,10 +1,12 @@
 -- What is read of a file, step by step.
-use Rattle.shared_lemmas.proofs.Common.{◌≡◌, ◌≤◌, ◌==◌, ℕ, not, false, List, length, None, Result, Ok, ap, ◌∙◌, arith, nat_tests}
+use Rattle.std.specs.Result.{IsErrOf}
+use Rattle.shared_lemmas.proofs.Common.{◌≡◌, ◌≤◌, ◌==◌, ℕ, not, false, List, length, None, Result, Ok, Err, ap, refl, ◌∙◌, arith, nat_tests}
 use Rattle.index_file.proofs.Below.{u32_in, u64_in, OpenRefusal, OpenFault, TermHeads, head_postings, greatest_impact, Front, NamesRead, TermsRead, IndexRead, read_front, read_names, read_terms, read_payloads, after_front, after_names, after_terms, after_payloads, ◌>>=◌}
 use Rattle.index_file.proofs.Below.{Fails, judged, FileView}
 use Rattle.index_layout.proofs.Judging.{judged_ok}
 use Rattle.index_layout.specs.declared.refusal.OpenFault.TheVariants as faults
 use Rattle.index_layout.specs.Reading.{end_checks, read_index}
+use Rattle.index_file.specs.Answers.{Stops}
 
 -- a step that fails makes the whole fail
 pub fails_on : {A B : Type 0} (fault : OpenFault) (read : Result A OpenRefusal) (f : A → Result B OpenRefusal) → Fails fault read → Fails fault (read >>= f)
@@ -16,6 +18,12 @@ pub fails_as : {A : Type 0} (fault : OpenFault) (x y : Result A OpenRefusal) →
 fails_as (faults.Refused refusal) x y same is = same ∙ is
 fails_as faults.ReadFault x y same is = is
 fails_as faults.NoMemory x y same is = tt
+
+-- a step that stops fails, but where a read fails
+pub fails_stopped : {A B : Type 0} (fault : OpenFault) (read : Result A OpenRefusal) → ¬ (let result : Result B OpenFault = Err fault in IsErrOf result faults.ReadFault) → Stops fault read → Fails fault read
+fails_stopped (faults.Refused refusal) read unread is = is
+fails_stopped faults.ReadFault read unread is = absurd (unread refl)
+fails_stopped faults.NoMemory read unread is = tt
 
 module _ (bytes : List ℕ) where
   pub front_not : (fault : OpenFault) → Fails fault (read_front bytes) → Fails fault (read_index bytes)

@@ -39,7 +39,3 @@ module _ (heads : List HeadData) (text : List ℕ) where
   rows_in_order [] t are inside = absurd are
   rows_in_order (a ∷ rows) t are inside =
       subst (λ y. InOrder (row_at (a ∷ rows) t) y) (next_row a rows t) (in_order a rows t are.3 (omega (arith, inside)))
-
-  pub some_row : (rows : List TermRow) → AreRows heads text rows → 1 ≤ length rows
-  some_row [] are = absurd are
-  some_row (a ∷ rows) are = omega arith

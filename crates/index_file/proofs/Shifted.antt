@@ -171,9 +171,6 @@ module _ (bytes : List ℕ) (d : ℕ) where
   payloads_within (t ∷ terms) at low =
       terms_pass (length bytes) t (read_payloads bytes d terms) (λ next is. payloads_within terms next is) (read_segments bytes d [] t.heads at) (segments_within t.heads [] at low)
 
-  pub end_within : (terms : List TermHeads) (at : ℕ) (x : IndexRead) → read_payloads bytes d terms at ≡ Ok x → at ≤ length bytes → x.end ≤ length bytes
-  end_within terms at x is low = subst (IsWithin (length bytes)) is (payloads_within terms at low)
-
   pub refused_within : (terms : List TermHeads) (at : ℕ) (refusal : OpenRefusal) → read_payloads bytes d terms at ≡ Err refusal → at ≤ length bytes → refusal.at ≤ length bytes
   refused_within terms at refusal is low = subst (IsWithin (length bytes)) is (payloads_within terms at low)
 

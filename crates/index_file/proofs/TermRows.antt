@@ -1,8 +1,7 @@
 -- Rows of terms while their texts and heads grow.
-use Rattle.shared_lemmas.proofs.Common.{◌≡◌, ◌+◌, ◌-◌, ◌≤◌, ℕ, suc, length, arith, List, [], ◌∷◌, ◌++◌, Option, Some, Result, Ok, ap, sym, subst, ◌∙◌, refl, max, drop, drop_all, slice_range, append_assoc, length-append, sum_by-cons, sum_by-append}
+use Rattle.shared_lemmas.proofs.Common.{◌≡◌, ◌+◌, ◌-◌, ◌≤◌, ℕ, suc, length, arith, List, [], ◌∷◌, ◌++◌, Option, Some, Result, Ok, ap, sym, subst, ◌∙◌, refl, max, append_assoc, length-append, sum_by-cons, sum_by-append}
 use Rattle.std.proofs.lemmas.Grind.{flat_map-append}
 use Rattle.std.proofs.lemmas.List.{append-nil}
-use Rattle.std.proofs.lemmas.List.Folds.{drop_split}
 use Rattle.index_layout.specs.declared.refusal.OpenFault.TheVariants as faults
 use Rattle.index_file.proofs.Below.{Fails, OpenFault, OpenRefusal, HeadData, TermHeads, all_heads, greatest_of, ◌>>=◌, HeadsRead, TermsRead, term_in, heads_in, read_heads, read_terms, with_terms, behind_terms}
 use Rattle.index_file.specs.declared.sums.Sums.{Sums}
@@ -160,17 +159,6 @@ rows_next heads more longer text term newer rows newest row groups next sums spa
     subst (λ some. RowsThere some newer newest next (front ++ t ∷ []) sums span term) (sym wider)
     (subst (λ t. RowsThere (heads ++ more) t newest next (front ++ record { term = term; heads = more } ∷ []) sums span term) (sym grown)
     (subst (λ r. RowsThere (heads ++ more) (text ++ term) r next (front ++ record { term = term; heads = more } ∷ []) sums span term) (sym put) there))
-
--- the terms of rows have all heads, in their order
-pub all_row_heads : (heads : List HeadData) (text : List ℕ) (rows : List TermRow) → AreRows heads text rows → all_heads (row_heads heads text rows) ≡ heads
-all_row_heads heads text [] are = absurd are
-all_row_heads heads text (a ∷ rows) are = heads_behind a rows are.3 ∙ ap (λ n. drop n heads) are.1
-  where
-    heads_behind : (a : TermRow) (rows : List TermRow) → RowsFrom heads text a rows → all_heads (row_heads heads text (a ∷ rows)) ≡ drop a.head heads
-    heads_behind a [] are = sym (drop_all a.head heads (omega (arith, are.1)))
-    heads_behind a (b ∷ rows) are =
-        ap (λ later. slice_range heads a.head b.head ++ later) (heads_behind b rows are.3)
-        ∙ sym (drop_split heads a.head b.head (omega (arith, are.1)))
 
 -- the sums of more heads
 greatest_push : (heads : List HeadData) (h : HeadData) → greatest_of (heads ++ h ∷ []) ≡ max (greatest_of heads) h.impact

@@ -1,8 +1,10 @@
 pub mod Places
+pub mod Answers
 pub mod Contents
 pub mod Giving
 pub mod Opening
 pub mod Parts
+pub mod Pieces
 pub mod Marks
 pub mod Sums
 pub mod Private

@@ -75,8 +75,7 @@ impl IndexFile {
         ensures accepted { IfOk result (λ file. (bytes ≡ file_bytes file) × IsFileView file) }
     {
         files_are_read();
-        let (outline, front, payloads, place) = take_apart(alloc, bytes.as_slice())?;
-        drop(bytes);
+        let (outline, front, payloads, place) = take_apart(alloc, bytes)?;
         match IndexFile::of_parts(alloc, outline, front, payloads, place) {
             Ok(file) => Ok(file),
             Err(fault) => Err(fault),
@@ -84,7 +83,7 @@ impl IndexFile {
     }
 
     /// The file of its parts: the tables of what stands before the payloads, the front with the names, and the
-    /// payloads, which begin at a place; or the first refusal behind that place.
+    /// payloads, which begin at a place; or the first refusal of the payloads or of the totals.
     pub(crate) fn of_parts(
         alloc: Global,
         outline: Outline,

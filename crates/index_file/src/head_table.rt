@@ -1,6 +1,7 @@
-ghost use Rattle.std.specs.Prelude.{◌≡◌, ◌≤◌, ◌<◌, ◌+◌, ◌*◌, ◌^◌, ◌++◌, ◌∷◌, [], length, IfOk, IfSome, OnErr, OnOk};
+ghost use Rattle.std.specs.Prelude.{◌≡◌, ◌≤◌, ◌<◌, ◌+◌, ◌*◌, ◌^◌, ◌++◌, ◌∷◌, [], length, All, IfOk, IfSome, OnErr, OnOk};
+ghost use Rattle.std.specs.Vec.{vec_len, vec_capacity};
 ghost use Rattle.index_file.specs.Parts.{heads_from, told};
-ghost use Rattle.index_file.specs.Private.HeadWords.{unpacked};
+ghost use Rattle.index_file.specs.Private.HeadWords.{IsWord, all_told, heads_of_words, unpacked};
 ghost use Rattle.index_file.specs.Private.Tables.{head_at};
 
 use crate::segment_head::{SegmentHead, head_of};
@@ -12,13 +13,27 @@ use std::marker::Model;
 /// The first word whose head stands aside.
 const ASIDE: u32 = 0x8000_0000;
 
+/// One above the greatest impact, count and size that a word has room for.
+const IMPACTS: u16 = 1024;
+
+const COUNTS: u32 = 512;
+
+const SIZES: u32 = 1024;
+
+/// By how much a word grows for one document more, for one byte more, and for the next codec.
+const DOCUMENT: u32 = 1024;
+
+const BYTE: u32 = 0x8_0000;
+
+const CODEC: u32 = 0x2000_0000;
+
 /// The heads of all segments, in four bytes each where its numbers are small, as those of most are. Such a
 /// word has the impact in its lowest ten bits, then the count in nine, the size in ten, and the number of
 /// the codec in two. Any other word has its highest bit set, and the rest tells which of the heads aside
 /// is meant.
 #[derive(Drop)]
 pub(crate) struct HeadTable {
-    words: Row<u32>,
+    words: Vec<u32>,
     aside: Row<SegmentHead>,
 }
 
@@ -29,9 +44,9 @@ impl Model for HeadTable {
 
     ghost Value = { List HeadData };
 
-    ghost view = { λ t. heads_of_words (all_told t.aside) t.words };
+    ghost view = { λ t. heads_of_words (all_told t.aside) t.words.items };
 
-    ghost invariant = { λ t. All (IsWord (length t.aside)) t.words };
+    ghost invariant = { λ t. All (IsWord (length t.aside)) t.words.items };
 }
 
 impl HeadTable {
@@ -40,7 +55,7 @@ impl HeadTable {
         ensures { result ≡ [] }
     {
         HeadTable {
-            words: Row::new(alloc),
+            words: Vec::new(alloc),
             aside: Row::new(alloc),
         }
     }
@@ -62,20 +77,13 @@ impl HeadTable {
         if word < ASIDE {
             return unpacked(word);
         }
-        self.aside.as_slice()[(word - ASIDE) as usize]
-    }
-
-    /// Puts a head behind the others.
-    pub(crate) fn push(&mut self, head: SegmentHead) -> Result<(), NoMemory>
-        ensures { OnOk result (self.new ≡ self.old ++ told head ∷ []) }
-    {
-        let word = match packed(head) {
-            Some(word) => word,
-            None => put_aside(&mut self.aside, head)?,
-        };
-        match self.words.push(word) {
-            Ok(()) => Ok(()),
-            Err(_) => Err(NoMemory),
+        // Field by field: as a whole it would be copied into the form that it has in memory, the other one, too.
+        let head = &self.aside.as_slice()[(word - ASIDE) as usize];
+        SegmentHead {
+            impact: head.impact,
+            codec: head.codec,
+            count: head.count,
+            size: head.size,
         }
     }
 
@@ -84,11 +92,38 @@ impl HeadTable {
         requires { from + 11 * count ≤ length bytes.now }
         ensures { OnOk result (self.new ≡ self.old ++ heads_from bytes.now count from) }
     {
-        'heads: for i in 0..count as usize {
-            self.push(head_of(bytes, from + 11 * i))?;
+        match self.words.reserve(count as usize) {
+            Ok(()) => append_words(&mut self.words, &mut self.aside, bytes, from, count),
+            Err(_) => Err(NoMemory),
         }
-        Ok(())
     }
+}
+
+/// Appends the words of so many heads that stand in some bytes from a place on. There is room for them.
+#[inline(always)]
+fn append_words(
+    words: &mut Vec<u32>,
+    aside: &mut Row<SegmentHead>,
+    bytes: &[u8],
+    from: usize,
+    count: u32,
+) -> Result<(), NoMemory>
+    requires place { from + 11 * count ≤ length bytes.now }
+    requires room { vec_len words.old + count ≤ vec_capacity words.old }
+    requires words { All (IsWord (length aside.old)) words.old.items }
+    ensures heads { OnOk result (heads_of_words (all_told aside.new) words.new.items
+        ≡ heads_of_words (all_told aside.old) words.old.items ++ heads_from bytes.now count from) }
+    ensures words { All (IsWord (length aside.new)) words.new.items }
+{
+    'heads: for i in 0..count as usize {
+        let head = head_of(bytes, from + 11 * i);
+        let word = match packed(head) {
+            Some(word) => word,
+            None => put_aside(aside, head)?,
+        };
+        words.push_reserved(word);
+    }
+    Ok(())
 }
 
 /// Puts a head aside, and gives the word that tells it.
@@ -116,13 +151,13 @@ fn unpacked(word: u32) -> SegmentHead
     ensures { told result ≡ unpacked word }
 {
     SegmentHead {
-        impact: (word % 1024) as u16,
-        codec: match Codec::from_number((word / 0x2000_0000) as u8) {
+        impact: (word % DOCUMENT) as u16,
+        codec: match Codec::from_number((word / CODEC) as u8) {
             Some(codec) => codec,
             None => Codec::Varbyte,
         },
-        count: word / 1024 % 512,
-        size: word / 0x8_0000 % 1024,
+        count: word / DOCUMENT % COUNTS,
+        size: word / BYTE % SIZES,
     }
 }
 
@@ -132,9 +167,9 @@ fn packed(head: SegmentHead) -> Option<u32>
     ensures word { IfSome result (λ word. unpacked word ≡ told head) }
     ensures small { IfSome result (λ word. word < 2 ^ 31) }
 {
-    if head.impact >= 1024 || head.count >= 512 || head.size >= 1024 {
+    if head.impact >= IMPACTS || head.count >= COUNTS || head.size >= SIZES {
         return None;
     }
     let codec = u32::from(head.codec.number());
-    Some(u32::from(head.impact) + 1024 * head.count + 0x8_0000 * head.size + 0x2000_0000 * codec)
+    Some(u32::from(head.impact) + DOCUMENT * head.count + BYTE * head.size + CODEC * codec)
 }

@@ -23,6 +23,7 @@ pub mod parts;
 mod payload;
 mod payloads;
 mod plain;
+mod probing;
 mod samples;
 mod searching;
 mod segment_head;

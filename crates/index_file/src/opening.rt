@@ -1,29 +1,32 @@
-ghost use Rattle.std.specs.Prelude.{ℕ, ◌≡◌, ◌≤◌, ◌⊎◌, List, IfOk, IsErrOf};
+ghost use Rattle.std.specs.Prelude.{ℕ, ◌≡◌, ◌≤◌, ◌⊎◌, List, length, IfErr, IfOk, IfSome, IsErrOf};
 ghost use Rattle.jass_base.specs.Outside.{Rose, IsMissing, OnContent};
+ghost use Rattle.whole_files.specs.Windows.{Shows};
 ghost use Rattle.index_layout.specs.View.{IsFileView, file_bytes};
-ghost use Rattle.index_file.specs.Contents.{Reads, outside};
+ghost use Rattle.index_file.specs.Answers.{IsNotRefused};
+ghost use Rattle.index_file.specs.Contents.{IsContent, Reads, outside};
 ghost use Rattle.index_file.specs.Opening.{Opens};
-ghost use Rattle.index_file.specs.Private.Outlines.{IsOutlined};
+ghost use Rattle.index_file.specs.Private.Outlines.{AreLeadingParts};
+ghost use Rattle.jass_base.specs.declared.limits.TheConstants.{LONGEST_FILE};
 
 use crate::file::IndexFile;
-use crate::holding::{hold_front, hold_last, hold_terms, not_apart, rest_from};
-use crate::number::{u32_at, u64_at};
-use crate::outline::{Outline, outline_of};
+use crate::front::{Front, check_front};
+use crate::holding::{begin_at, front_of, hold, hold_names, hold_terms};
+use crate::outline::{Outline, first_bytes, outline_of};
 use crate::small::are_bytes;
 use index_layout::OpenFault;
 use index_layout::laws::files_are_read;
 use jass_base::limits::LONGEST_FILE;
 use jass_base::{Cabinet, ReadStop, Row};
 use std::alloc::Global;
-use whole_files::read_front;
+use whole_files::{Window, read_front};
 
 /// How many bytes of a file are read at the most: one more than an index file may have, since a
 /// longer file is refused whatever else stands in it.
 const MOST_BYTES: usize = LONGEST_FILE as usize + 1;
 
-/// Opens the index file with a name, or tells the first refusal. It is read part by part, so that it isn't
-/// held whole: the terms are let go before the payloads are read. Only a file that is refused is read whole
-/// behind that, for its first refusal.
+/// Opens the index file with a name, or tells the first refusal. Its front is checked first. Then it is read part
+/// by part, so that it isn't held whole: the terms are let go before the payloads are read. Only a file that is
+/// refused behind its front is read whole, for its first refusal.
 pub fn open<C: Cabinet>(alloc: Global, files: &mut C, name: &str) -> Result<IndexFile, OpenFault>
     ensures exact { Opens (C.told files.old) name.now result }
     ensures accepted { IfOk result (λ file. IsFileView file) }
@@ -34,11 +37,11 @@ pub fn open<C: Cabinet>(alloc: Global, files: &mut C, name: &str) -> Result<Inde
     ensures others { C.write_faults files.old ≤ C.write_faults files.new }
 {
     files_are_read();
-    match open_parts(alloc, files, name) {
-        Ok(file) => Ok(file),
-        Err(OpenFault::Refused(_)) => open_whole(alloc, files, name),
-        Err(OpenFault::ReadFault) => Err(OpenFault::ReadFault),
-        Err(OpenFault::NoMemory) => Err(OpenFault::NoMemory),
+    let front = check_front(alloc, files, name)?;
+    match open_parts(alloc, files, name, front) {
+        Ok(Some(file)) => Ok(file),
+        Ok(None) => open_whole(alloc, files, name),
+        Err(fault) => Err(fault),
     }
 }
 
@@ -59,65 +62,88 @@ fn open_whole<C: Cabinet>(alloc: Global, files: &mut C, name: &str) -> Result<In
     }
 }
 
-/// The file, where it is read part by part. A refusal says that this can't be done, and isn't told as the
-/// file's.
-fn open_parts<C: Cabinet>(alloc: Global, files: &mut C, name: &str) -> Result<IndexFile, OpenFault>
-    ensures spelled { IfOk result (λ file.
-        OnContent (C.told files.old) name.now (λ content. content ≡ file_bytes file)) }
-    ensures accepted { IfOk result (λ file. IsFileView file) }
+/// The file whose front was checked, read part by part; none where it is refused behind the front.
+fn open_parts<C: Cabinet>(
+    alloc: Global,
+    files: &mut C,
+    name: &str,
+    front: Front,
+) -> Result<Option<IndexFile>, OpenFault>
+    requires size { front.size ≤ LONGEST_FILE }
+    requires told { OnContent (C.told files.old) name.now (λ content. front.size ≡ length content) }
+    ensures spelled { IfOk result (λ found. IfSome found (λ file.
+        OnContent (C.told files.old) name.now (λ content. content ≡ file_bytes file))) }
+    ensures accepted { IfOk result (λ found. IfSome found (λ file. IsFileView file)) }
+    ensures unrefused { IfErr result (λ fault. IsNotRefused fault) }
     ensures reads { Reads (outside C.Cabinet files.old) (outside C.Cabinet files.new) name.now result }
 {
-    let Outlined {
-        front,
+    let mut part = Window::new(alloc);
+    let Some(leading) = open_leading(alloc, files, name, &mut part, front)? else {
+        return Ok(None);
+    };
+    let LeadingParts {
+        front: names,
         outline,
         place,
-        size,
-    } = open_outline(alloc, files, name)?;
-    let payloads = rest_from(alloc, files, name, place)?;
-    are_bytes(front.as_slice());
-    are_bytes(payloads.as_slice());
-    if place + payloads.len() != size {
-        return Err(not_apart());
+    } = leading;
+    let left = front.size - place;
+    begin_at(&mut part, place as u64);
+    if !hold(files, name, &mut part, left, left)? {
+        return Ok(None);
     }
-    match IndexFile::of_parts(alloc, outline, front, payloads, place) {
-        Ok(file) => Ok(file),
+    let payloads = front_of(part, left);
+    are_bytes(names.as_slice());
+    are_bytes(payloads.as_slice());
+    match IndexFile::of_parts(alloc, outline, names, payloads, place) {
+        Ok(file) => Ok(Some(file)),
         Err(OpenFault::NoMemory) => Err(OpenFault::NoMemory),
-        Err(_) => Err(not_apart()),
+        Err(_) => Ok(None),
     }
 }
 
-/// What stands before the payloads of a file: the front with the names, the tables, the place behind, and the
-/// size that the front tells.
+/// What stands before the payloads of a file: the front with the names, the tables, and the place behind.
 #[derive(Drop)]
-pub(crate) struct Outlined {
+pub(crate) struct LeadingParts {
     pub(crate) front: Row<u8>,
     pub(crate) outline: Outline,
     pub(crate) place: usize,
-    pub(crate) size: usize,
 }
 
-/// Reads what stands before the payloads.
-fn open_outline<C: Cabinet>(alloc: Global, files: &mut C, name: &str) -> Result<Outlined, OpenFault>
-    ensures part { IfOk result (λ part. (terms : List ℕ) × IsOutlined (C.told files.old) name.now part terms) }
+/// Reads what stands before the payloads of a file by way of a part at its front; none where it is refused.
+fn open_leading<C: Cabinet>(
+    alloc: Global,
+    files: &mut C,
+    name: &str,
+    part: &mut Window,
+    front: Front,
+) -> Result<Option<LeadingParts>, OpenFault>
+    requires size { front.size ≤ LONGEST_FILE }
+    requires start { part.old.start ≡ 0 }
+    requires shown { (content : List ℕ) → Shows content part.old }
+    ensures leading { IfOk result (λ found. IfSome found (λ leading.
+        (terms : List ℕ) × AreLeadingParts (C.told files.old) name.now front.size leading terms)) }
+    ensures unrefused { IfErr result (λ fault. IsNotRefused fault) }
     ensures reads { Reads (outside C.Cabinet files.old) (outside C.Cabinet files.new) name.now result }
 {
-    let front = hold_front(alloc, files, name)?;
-    let size = u64_at(front.as_slice(), 8);
-    if size == 0 || size > LONGEST_FILE {
-        return Err(not_apart());
+    let Some(names_end) = hold_names(files, name, part, front.docs, front.size)? else {
+        return Ok(None);
+    };
+    let names = first_bytes(alloc, part.bytes.as_slice(), names_end)?;
+    begin_at(part, names_end as u64);
+    let left = front.size - names_end;
+    let Some(terms_size) = hold_terms(files, name, part, front.terms, left)? else {
+        return Ok(None);
+    };
+    let terms = &part.bytes.as_slice()[..terms_size];
+    are_bytes(terms);
+    match outline_of(alloc, names.as_slice(), terms, front.size) {
+        Ok(Some(outline)) => Ok(Some(LeadingParts {
+            front: names,
+            outline,
+            place: names_end + terms_size,
+        })),
+        Ok(None) => Ok(None),
+        Err(OpenFault::NoMemory) => Err(OpenFault::NoMemory),
+        Err(_) => Ok(None),
     }
-    // How much text the terms may have goes by the size, so it isn't taken on trust.
-    hold_last(alloc, files, name, size)?;
-    let count = u32_at(front.as_slice(), 20);
-    let terms = hold_terms(alloc, files, name, front.len(), count)?;
-    let place = front.len() + terms.len();
-    are_bytes(terms.as_slice());
-    let outline = outline_of(alloc, front.as_slice(), terms.as_slice(), size as usize)?;
-    drop(terms);
-    Ok(Outlined {
-        front,
-        outline,
-        place,
-        size: size as usize,
-    })
 }

@@ -1,11 +1,11 @@
-ghost use Rattle.std.specs.Prelude.{◌≡◌, ◌≤◌, length, IfErr, IfOk, IsErrOf};
+ghost use Rattle.std.specs.Prelude.{◌≡◌, ◌≤◌, length, take, IfErr, IfOk, IfSome, IsErrOf};
 ghost use Rattle.index_layout.specs.Reading.{read_index};
 ghost use Rattle.index_layout.specs.Refusals.{Fails};
-ghost use Rattle.index_file.specs.Private.Outlines.{AreParts, IsOutline, IsOutlineOf, after_outline};
+ghost use Rattle.index_file.specs.Private.Outlines.{AreParts, IsOutline, IsOutlineOfEach, after_outline};
 ghost use Rattle.jass_base.specs.declared.limits.TheConstants.{LONGEST_FILE, MOST_DOCUMENTS};
 
 use crate::front::read_front;
-use crate::holding::not_apart;
+use crate::holding::rest_of;
 use crate::names::read_names;
 use crate::small::are_bytes;
 use crate::sums::Sums;
@@ -37,71 +37,79 @@ pub(crate) fn read_outline(
     ensures refused { IfErr result (λ fault. Fails fault (read_index bytes.now)) }
 {
     let size = bytes.len();
-    let (docs, count) = read_front(bytes, size)?;
-    let (places, names_end) = read_names(alloc, bytes, docs)?;
-    let (terms, sums, terms_end) = read_terms(alloc, bytes, size, docs, count, names_end)?;
+    let front = read_front(bytes, size)?;
+    let (places, names_end) = read_names(alloc, bytes, front.docs)?;
+    let (terms, sums, terms_end) = read_terms(
+        alloc,
+        bytes,
+        size,
+        front.docs,
+        front.terms,
+        names_end,
+    )?;
     let outline = Outline {
         places,
         terms,
-        count,
+        count: front.terms,
         sums,
     };
     Ok((outline, names_end, terms_end))
 }
 
 /// The parts of a whole file: its outline, the front with the names, the payloads, and the place of these; or the
-/// first refusal of what stands before them.
+/// first refusal of what stands before them. The payloads stay in the memory of the file.
 pub(crate) fn take_apart(
     alloc: Global,
-    bytes: &[u8],
+    bytes: Row<u8>,
 ) -> Result<(Outline, Row<u8>, Row<u8>, usize), OpenFault>
-    ensures parts { IfOk result (λ x. AreParts bytes.now x.0 x.1 x.2 x.3) }
-    ensures read { IfOk result (λ x. read_index bytes.now ≡ after_outline bytes.now x.0 x.3) }
-    ensures refused { IfErr result (λ fault. Fails fault (read_index bytes.now)) }
+    ensures parts { IfOk result (λ x. AreParts bytes x.0 x.1 x.2 x.3) }
+    ensures read { IfOk result (λ x. read_index bytes ≡ after_outline bytes x.0 x.3) }
+    ensures refused { IfErr result (λ fault. Fails fault (read_index bytes)) }
 {
-    are_bytes(bytes);
-    let (outline, names_end, terms_end) = read_outline(alloc, bytes)?;
-    let front = held(alloc, &bytes[..names_end])?;
-    let payloads = held(alloc, &bytes[terms_end..])?;
-    Ok((outline, front, payloads, terms_end))
+    are_bytes(bytes.as_slice());
+    let (outline, names_end, terms_end) = read_outline(alloc, bytes.as_slice())?;
+    let front = first_bytes(alloc, bytes.as_slice(), names_end)?;
+    Ok((outline, front, rest_of(bytes, terms_end), terms_end))
 }
 
-/// A copy of some bytes of a file.
-fn held(alloc: Global, bytes: &[u8]) -> Result<Row<u8>, OpenFault>
-    ensures same { IfOk result (λ row. row ≡ bytes.now) }
+/// A copy of the first bytes of a file.
+pub(crate) fn first_bytes(alloc: Global, bytes: &[u8], count: usize) -> Result<Row<u8>, OpenFault>
+    requires { count ≤ length bytes.now }
+    ensures same { IfOk result (λ row. row ≡ take count bytes.now) }
     ensures fault { IfErr result (λ fault. fault ≡ OpenFault.NoMemory) }
 {
     let mut row = Row::new(alloc);
-    match row.extend(bytes) {
+    match row.extend(&bytes[..count]) {
         Ok(()) => Ok(row),
         Err(_) => Err(OpenFault::NoMemory),
     }
 }
 
-/// The outline of a file of so many bytes by its front with the names and its part with the terms, where these
-/// end as the parts do.
+/// The outline of a file of so many bytes by its front with the names and its part with the terms; or a refusal
+/// that is met in them. There is none where the names or the terms end before the part does.
 pub(crate) fn outline_of(
     alloc: Global,
     front: &[u8],
     terms: &[u8],
     size: usize,
-) -> Result<Outline, OpenFault>
-    requires few { length front.now ≤ LONGEST_FILE }
-    requires few_terms { length terms.now ≤ LONGEST_FILE }
-    ensures outline { IfOk result (λ outline. IsOutlineOf front.now terms.now size outline) }
-    ensures few { IfOk result (λ outline. length outline.places ≤ MOST_DOCUMENTS) }
+) -> Result<Option<Outline>, OpenFault>
+    requires within { length front.now ≤ size }
+    requires size { size ≤ LONGEST_FILE }
+    requires few { length terms.now ≤ LONGEST_FILE }
+    ensures outline { IfOk result (λ found. IfSome found (IsOutlineOfEach front.now terms.now size)) }
+    ensures few { IfOk result (λ found. IfSome found (λ outline. length outline.places ≤ MOST_DOCUMENTS)) }
     ensures unread { ¬ IsErrOf result OpenFault.ReadFault }
 {
-    let (docs, count) = read_front(front, size)?;
-    let (places, names_end) = read_names(alloc, front, docs)?;
-    let (table, sums, terms_end) = read_terms(alloc, terms, size, docs, count, 0)?;
+    let told = read_front(front, size)?;
+    let (places, names_end) = read_names(alloc, front, told.docs)?;
+    let (table, sums, terms_end) = read_terms(alloc, terms, size, told.docs, told.terms, 0)?;
     if names_end < front.len() || terms_end < terms.len() {
-        return Err(not_apart());
+        return Ok(None);
     }
-    Ok(Outline {
+    Ok(Some(Outline {
         places,
         terms: table,
-        count,
+        count: told.terms,
         sums,
-    })
+    }))
 }

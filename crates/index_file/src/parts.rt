@@ -2,6 +2,7 @@
 //! that doesn't hold the whole file.
 
 pub use crate::following::follows;
+pub use crate::front::{Front, check_front};
 pub use crate::heads::read_heads;
 pub use crate::marks::next_mark;
 pub use crate::moved::moved;

@@ -62,12 +62,12 @@ pub(crate) fn read_terms(
     'terms: for _ in 0..count {
         let start = text.len();
         let head = heads.len();
-        let (place, some) = read_term(&mut text, before, bytes, at)?;
-        at = read_heads(&mut sums, bytes, docs, some, place)?;
+        let (place, head_count) = read_term(&mut text, before, bytes, at)?;
+        at = read_heads(&mut sums, bytes, docs, head_count, place)?;
         if text.len() > most_text {
             return Err(OpenFault::NoMemory);
         }
-        match heads.append(bytes, place, some) {
+        match heads.append(bytes, place, head_count) {
             Ok(()) => {}
             Err(_) => return Err(OpenFault::NoMemory),
         }
@@ -79,7 +79,7 @@ pub(crate) fn read_terms(
             Ok(()) => {}
             Err(_) => return Err(OpenFault::NoMemory),
         }
-        groups += some.div_ceil(4);
+        groups += head_count.div_ceil(4);
         before = Some(Span {
             from: start as u32,
             to: text.len() as u32,

@@ -92,12 +92,12 @@ fn gather_blocks<S: Sink, N: Names>(
     ensures { Gathers S.written S.faults S.rest out.old out.new buffer.old buffer.new
         (run_lines (N.names index.now) shared.now.id.now (whole_tag shared.now) 1 hits.now) result }
 {
-    let frame = frame_of(shared);
+    let mut frame = frame_of(shared);
     let mut rank: u64 = 1;
     let mut rest = hits;
     while !rest.is_empty() {
         let (block, behind) = rest.split_at(rest.len().min(BLOCK));
-        gather_block(out, buffer, shared, &frame, index, block, rank)?;
+        gather_block(out, buffer, shared, &mut frame, index, block, rank)?;
         rank += block.len() as u64;
         rest = behind;
     }

@@ -21,16 +21,17 @@ pub fn gather_block<S: Sink, N: Names>(
     out: &mut S,
     buffer: &mut Buffer,
     shared: &Shared<'_>,
-    frame: &Option<Frame>,
+    frame: &mut Option<Frame>,
     index: &N,
     hits: &[Hit],
     first: u64,
 ) -> Result<(), WriteFault>
     requires docs { All (λ (hit : Hit). hit.doc < length (N.names index.now)) hits.now }
-    requires frame { IfSome frame.now (λ frame. IsFrame frame shared.now.id.now (whole_tag shared.now)) }
+    requires frame { IfSome frame.old (λ frame. IsFrame frame shared.now.id.now (whole_tag shared.now)) }
     requires few { length hits.now ≤ 16 }
     requires ranks { first + length hits.now < 2 ^ 64 }
-    ensures { Gathers S.written S.faults S.rest out.old out.new buffer.old buffer.new
+    ensures frame { IfSome frame.new (λ frame. IsFrame frame shared.now.id.now (whole_tag shared.now)) }
+    ensures text { Gathers S.written S.faults S.rest out.old out.new buffer.old buffer.new
         (run_lines (N.names index.now) shared.now.id.now (whole_tag shared.now) first hits.now) result }
 {
     let Some(frame) = frame else {
@@ -58,19 +59,24 @@ fn longest_name<N: Names>(index: &N, hits: &[Hit]) -> usize
 }
 
 /// Puts run lines with this frame, for which there is room behind what was gathered.
-fn push_each<N: Names>(buffer: &mut Buffer, frame: &Frame, index: &N, hits: &[Hit], first: u64)
+fn push_each<N: Names>(buffer: &mut Buffer, frame: &mut Frame, index: &N, hits: &[Hit], first: u64)
     requires docs { All (λ (hit : Hit). hit.doc < length (N.names index.now)) hits.now }
     requires names { All (λ (hit : Hit). length (slice_index_or (N.names index.now) hit.doc []) ≤ 128) hits.now }
     requires few { length hits.now ≤ 16 }
     requires ranks { first + length hits.now < 2 ^ 64 }
     requires room { length buffer.old + 16 * 1024 ≤ ROOM }
-    ensures { (id tag : List ℕ) → IsFrame frame.now id tag
+    requires short { length frame.old.tail ≤ 53 }
+    ensures frame { (id tag : List ℕ) → IsFrame frame.old id tag → IsFrame frame.new id tag }
+    ensures lines { (id tag : List ℕ) → IsFrame frame.old id tag
         → buffer.new ≡ buffer.old ++ run_lines (N.names index.now) id tag first hits.now }
 {
     let mut rank = first;
     for hit in hits {
         let name = index.name(hit.doc).as_bytes();
-        push_line(buffer, frame, name, rank, hit.score);
+        if hit.score != frame.score {
+            frame.end_with(hit.score);
+        }
+        push_line(buffer, frame, name, rank);
         rank += 1;
     }
 }

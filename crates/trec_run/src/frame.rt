@@ -1,14 +1,33 @@
-ghost use Rattle.std.specs.Prelude.{◌≡◌, IfSome};
+ghost use Rattle.std.specs.Prelude.{◌≡◌, ◌≤◌, ◌++◌, codes, decimal, length, IfSome};
 ghost use Rattle.trec_run.specs.Private.Columns.{AreShort, IsFrame, front_of, tail_of, whole_tag};
 
 use crate::line::Shared;
 use gathered_text::ShortText;
+use itoa::Buffer as Digits;
 
-/// What the run lines of an answer have before the name, and behind the score.
+/// What the run lines of an answer have before the name, and behind the rank. Most lines have the score of the line
+/// before, so that what stands behind the rank is put together once for the lines of a score.
 #[derive(Drop)]
 pub struct Frame {
     pub front: ShortText,
     pub tail: ShortText,
+    pub score: u32,
+    pub ending: ShortText,
+}
+
+impl Frame {
+    /// Puts together what stands behind the rank in the lines of a score.
+    #[inline(never)]
+    pub fn end_with(&mut self, score: u32)
+        requires { length self.old.tail ≤ 53 }
+        ensures score { self.new.score ≡ score }
+        ensures ending { self.new.ending ≡ codes " " ++ (decimal score ++ self.old.tail) }
+        ensures front { self.new.front ≡ self.old.front }
+        ensures tail { self.new.tail ≡ self.old.tail }
+    {
+        self.ending = ending_of(score, &self.tail);
+        self.score = score;
+    }
 }
 
 /// The frame of the lines that share these columns, where both of its texts are short.
@@ -18,10 +37,27 @@ pub fn frame_of(shared: &Shared<'_>) -> Option<Frame>
     if !shared.are_short() {
         return None;
     }
+    let tail = tail(shared);
+    let ending = ending_of(0, &tail);
     Some(Frame {
         front: front(shared),
-        tail: tail(shared),
+        tail,
+        score: 0,
+        ending,
     })
+}
+
+/// What stands behind the rank in the lines of a score.
+fn ending_of(score: u32, tail: &ShortText) -> ShortText
+    requires { length tail.now ≤ 53 }
+    ensures { result ≡ codes " " ++ (decimal score ++ tail.now) }
+{
+    let mut digits = Digits::new();
+    let mut ending = ShortText::new();
+    ending.push(b" ");
+    ending.push(digits.format(score).as_bytes());
+    ending.push(&tail.row()[..tail.len()]);
+    ending
 }
 
 fn front(shared: &Shared<'_>) -> ShortText

@@ -16,7 +16,7 @@ pub const SHORT: usize = 128;
 const SHORT_ID: usize = 60;
 
 /// The most bytes of the tag, with its point and its part, in such a line.
-const SHORT_TAG: usize = 62;
+const SHORT_TAG: usize = 51;
 
 /// The room that such a line needs at the most.
 pub const SHORT_LINE: usize = 1024;
@@ -41,21 +41,19 @@ impl<'a> Shared<'a> {
     }
 }
 
-/// Puts a run line for which there is room behind what was gathered.
-pub fn push_line(buffer: &mut Buffer, frame: &Frame, name: &[u8], rank: u64, score: u32)
+/// Puts a run line for which there is room behind what was gathered. Its score is that of the frame's ending.
+pub fn push_line(buffer: &mut Buffer, frame: &Frame, name: &[u8], rank: u64)
     requires name { length name.now ≤ 128 }
     requires room { length buffer.old + 1024 ≤ ROOM }
     ensures line { buffer.new ≡ buffer.old ++ (frame.now.front ++ (name.now ++ (codes " "
-        ++ (decimal rank ++ (codes " " ++ (decimal score ++ frame.now.tail)))))) }
+        ++ (decimal rank ++ frame.now.ending)))) }
     ensures few { length buffer.new ≤ length buffer.old + 1024 }
 {
     buffer.push_short(&frame.front);
     buffer.push(name);
     buffer.push(b" ");
     buffer.push_number(rank);
-    buffer.push(b" ");
-    buffer.push_number(u64::from(score));
-    buffer.push_short(&frame.tail);
+    buffer.push_short(&frame.ending);
 }
 
 /// Gathers a run line piece by piece.

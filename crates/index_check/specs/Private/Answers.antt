@@ -1,31 +1,22 @@
 -- What a part of the check answers, where it reads a piece of a content.
-use Rattle.std.specs.Prelude.{ℕ, ◌≡◌, ◌+◌, ◌++◌, ⊤, Bool, true, false, List, length}
+use Rattle.std.specs.Prelude.{ℕ, ◌≡◌, ◌+◌, ◌++◌, Bool, true, false, List, length}
 use Rattle.std.specs.Prelude.{Option, Some, None, Result, Ok, Err}
 use Rattle.std.specs.List.{sum_by}
-use Rattle.jass_base.specs.Outside.{Files, OnContent}
 use Rattle.jass_base.specs.declared.answer.Totals.{Totals}
 use Rattle.index_model.specs.Index.{SegmentData}
-use Rattle.index_layout.specs.Bytes.{u32_in, u64_in}
 use Rattle.index_layout.specs.Heads.{HeadData, TermHeads, all_heads, head_postings}
-use Rattle.index_layout.specs.Reading.{HeadsRead, IndexRead, SegmentsRead, TermsRead, read_front}
+use Rattle.index_layout.specs.Reading.{HeadsRead, IndexRead, SegmentsRead, TermsRead}
 use Rattle.index_layout.specs.View.{FileView, term_postings}
 use Rattle.index_layout.specs.declared.refusal.OpenFault.{OpenFault}
-use Rattle.index_layout.specs.declared.refusal.OpenFault.TheVariants as faults
 use Rattle.index_layout.specs.declared.refusal.OpenRefusal.{OpenRefusal}
+use Rattle.index_file.specs.Answers.{Stops}
 use Rattle.index_file.specs.Sums.{AreSums}
 use Rattle.index_file.specs.declared.sums.Sums.{Sums}
-use Rattle.index_check.specs.declared.front.Front.{Front}
 
 -- a place in a piece that begins at another place, or a refusal there, as they stand in the whole
 abbrev pub moved : ℕ → Result ℕ OpenRefusal → Result ℕ OpenRefusal
 moved by (Ok place) = Ok (by + place)
 moved by (Err refusal) = Err (record { at = by + refusal.at; why = refusal.why })
-
--- a refusal is the one that reading gives; a read fault or want of memory may come instead
-abbrev pub Stops : {A : Type 0} → OpenFault → Result A OpenRefusal → Type 0
-Stops (faults.Refused refusal) read = read ≡ Err refusal
-Stops faults.ReadFault read = ⊤
-Stops faults.NoMemory read = ⊤
 
 -- a place is where reading ends, or a fault stops as reading does
 abbrev pub Ends : {A : Type 0} → (A → ℕ) → Result ℕ OpenFault → Result A OpenRefusal → Type 0
@@ -67,30 +58,10 @@ abbrev pub EndsTerms : Result (Sums × ℕ) OpenFault → Result TermsRead OpenR
 EndsTerms (Ok x) read = (y : TermsRead) × (read ≡ Ok y) × (y.end ≡ x.1) × AreSums x.0 (all_heads y.terms)
 EndsTerms (Err fault) read = Stops fault read
 
--- the front is the one of a content
-abbrev pub AnswersFront : List ℕ → Result Front OpenFault → Type 0
-AnswersFront content (Ok front) =
-    (read_front content ≡ Ok (record { docs = front.docs; terms = front.terms }))
-    × (front.size ≡ length content) × (front.postings ≡ u64_in content 24) × (front.greatest ≡ u32_in content 32)
-AnswersFront content (Err fault) = Stops fault (read_front content)
-
 -- the last checks of a view are passed, or a fault stops as they do
 abbrev pub AnswersTotals : FileView → Result Totals OpenFault → Result FileView OpenRefusal → Type 0
 AnswersTotals view (Ok totals) read = read ≡ Ok view
 AnswersTotals view (Err fault) read = Stops fault read
-
--- a file that was read is there, where the contents are told
-abbrev pub IsThere : {A : Type 0} → Option Files → List ℕ → Result A OpenFault → Type 0
-IsThere files name (Ok x) = OnContent files name (λ content. ⊤)
-IsThere files name (Err (faults.Refused refusal)) = OnContent files name (λ content. ⊤)
-IsThere files name (Err faults.ReadFault) = ⊤
-IsThere files name (Err faults.NoMemory) = ⊤
-
--- reading failed, or memory was wanting: no refusal
-abbrev pub IsNotRefused : OpenFault → Type 0
-IsNotRefused (faults.Refused refusal) = ⊥
-IsNotRefused faults.ReadFault = ⊤
-IsNotRefused faults.NoMemory = ⊤
 
 -- the term before, where there is one
 abbrev pub before_of : Bool → List ℕ → Option (List ℕ)

@@ -1,6 +1,6 @@
 -- What stands before the payloads of a file, as tables.
-use Rattle.std.specs.Prelude.{ℕ, ◌≡◌, ◌+◌, ◌*◌, ◌≤◌, ◌<◌, List, length, map, drop, All, Option, None, Result, Ok}
-use Rattle.jass_base.specs.Outside.{Files, IsMissing}
+use Rattle.std.specs.Prelude.{ℕ, ◌≡◌, ◌+◌, ◌≤◌, ◌<◌, List, length, map, drop, All, Option, None, Result, Ok}
+use Rattle.jass_base.specs.Outside.{Files}
 use Rattle.whole_files.specs.Windows.{AreFrom}
 use Rattle.index_layout.specs.Bytes.{u32_in}
 use Rattle.index_layout.specs.Heads.{all_heads}
@@ -8,7 +8,7 @@ use Rattle.index_layout.specs.Reading.{after_payloads, name_in, read_front, read
 use Rattle.index_layout.specs.Refusals.{◌>>=◌}
 use Rattle.index_layout.specs.View.{FileView}
 use Rattle.index_layout.specs.declared.refusal.OpenRefusal.{OpenRefusal}
-use Rattle.index_file.specs.declared.opening.Outlined.{Outlined}
+use Rattle.index_file.specs.declared.opening.LeadingParts.{LeadingParts}
 use Rattle.index_file.specs.declared.outline.Outline.{Outline}
 use Rattle.index_file.specs.Contents.{IsContent}
 use Rattle.index_file.specs.Parts.{IsCounted}
@@ -52,19 +52,18 @@ pub record AreParts (bytes : List ℕ) (o : Outline) (front payloads : List ℕ)
   pub small : All (λ byte. byte < 256) bytes
 
 -- the tables are those of each file of so many bytes which begins with this front, and behind that with these terms
-abbrev pub IsOutlineOf : List ℕ → List ℕ → ℕ → Outline → Type 0
-IsOutlineOf front terms size o =
+abbrev pub IsOutlineOfEach : List ℕ → List ℕ → ℕ → Outline → Type 0
+IsOutlineOfEach front terms size o =
     (bytes : List ℕ) → length bytes ≡ size → AreFrom bytes 0 front → AreFrom bytes (length front) terms
     → IsOutline bytes o (length front) (length front + length terms)
 
--- some terms were read behind the front, from the content where it is told, and the tables are theirs
-pub record IsOutlined (files : Option Files) (name : List ℕ) (part : Outlined) (terms : List ℕ) : Type 0 where
-  pub outline : IsOutlineOf part.front terms part.size part.outline
-  pub place : part.place ≡ length part.front + length terms
-  pub near : part.place ≤ 2 * LONGEST_FILE
+-- some terms were read behind the front of a file of so many bytes, from the content where it is told, and the tables
+-- are theirs
+pub record AreLeadingParts (files : Option Files) (name : List ℕ) (size : ℕ) (l : LeadingParts) (terms : List ℕ) : Type 0 where
+  pub outline : IsOutlineOfEach l.front terms size l.outline
+  pub place : l.place ≡ length l.front + length terms
+  pub within : l.place ≤ size
   pub small : All (λ byte. byte < 256) terms
-  pub few : length part.outline.places ≤ MOST_DOCUMENTS
-  pub fits : part.size ≤ LONGEST_FILE
+  pub few : length l.outline.places ≤ MOST_DOCUMENTS
   pub content : (content : List ℕ) → IsContent files name content
-      → AreFrom content 0 part.front × AreFrom content (length part.front) terms
-  pub there : ¬ IsMissing files name
+      → AreFrom content 0 l.front × AreFrom content (length l.front) terms

@@ -1,5 +1,5 @@
 -- What the run lines of an answer share.
-use Rattle.std.specs.Prelude.{ℕ, ◌≡◌, ◌+◌, ◌≤◌, List, ◌++◌, codes, length}
+use Rattle.std.specs.Prelude.{ℕ, ◌≡◌, ◌+◌, ◌≤◌, List, ◌++◌, codes, decimal, length}
 use Rattle.trec_run.specs.declared.frame.Frame.{Frame}
 use Rattle.trec_run.specs.declared.line.Shared.{Shared}
 
@@ -15,12 +15,14 @@ front_of id = id ++ codes " Q0 "
 abbrev pub tail_of : List ℕ → List ℕ
 tail_of tag = codes " " ++ (tag ++ codes "\n")
 
--- both have at most 64 bytes
+-- both have at most 64 bytes, the second with a score
 pub record AreShort (shared : Shared) : Type 0 where
   pub front : length shared.id.now ≤ 60
-  pub tail : length shared.tag.now + length shared.point.now + length shared.part.now ≤ 62
+  pub tail : length shared.tag.now + length shared.point.now + length shared.part.now ≤ 51
 
 -- the frame of the lines with this id and this tag
 pub record IsFrame (frame : Frame) (id tag : List ℕ) : Type 0 where
   pub front : frame.front ≡ front_of id
   pub tail : frame.tail ≡ tail_of tag
+  pub short : length frame.tail ≤ 53
+  pub ending : frame.ending ≡ codes " " ++ (decimal frame.score ++ frame.tail)

@@ -4,11 +4,11 @@ use Rattle.jass_base.specs.declared.answer.Totals.{Totals}
 use Rattle.index_layout.specs.Reading.{Front, end_checks, read_index, read_payloads, read_terms}
 use Rattle.index_layout.specs.Refusals.{judged}
 use Rattle.index_layout.specs.declared.refusal.OpenFault.{OpenFault}
-use Rattle.index_check.specs.declared.front.Front.{Front as Checked}
+use Rattle.index_file.specs.declared.front.Front.{Front as Checked}
 use Rattle.index_check.specs.Private.Pieces.{Holds}
 use Rattle.index_check.proofs.Checked.{checks_err, checks_ok, front_stops, made_view, names_stop, payloads_stop, terms_stop, up_to_ends}
-use Rattle.index_check.proofs.Reading.{content_same, there_as, there_else}
-use Rattle.index_check.proofs.Stopping.{stops_as}
+use Rattle.index_file.proofs.ContentReads.{content_same, there_as, there_else}
+use Rattle.index_file.proofs.Stopping.{stops_as}
 use Rattle.index_check.proofs.Totals.{totals_are, view_read}
 use Rattle.index_check.proofs.check.check_file.Goals as goal
 

@@ -1,7 +1,7 @@
 use Rattle.shared_lemmas.proofs.Common.{rules, ℕ, ◌≡◌, ◌+◌, ◌-◌, suc, sym, ◌∙◌, arith}
 use Rattle.index_layout.specs.Reading.{read_names}
 use Rattle.index_check.proofs.NameLists.{names_more, names_stop}
-use Rattle.index_check.proofs.Reading.{content_same}
+use Rattle.index_file.proofs.ContentReads.{content_same}
 use Rattle.index_check.proofs.names.check_names.Goals as goal
 
 pub returns-in_err-at-clause-exact : goal.returns-in_err-at-clause-exact

@@ -1,7 +1,8 @@
 use Rattle.shared_lemmas.proofs.Common.{ℕ, sym, ◌∙◌, arith}
-use Rattle.index_check.specs.Private.Pieces.{Holds, IsPiece}
+use Rattle.index_file.specs.Pieces.{IsPiece}
+use Rattle.index_check.specs.Private.Pieces.{Holds}
 use Rattle.index_check.proofs.NameRooms.{name_ends, name_room_told, name_stops}
-use Rattle.index_check.proofs.Reading.{content_same}
+use Rattle.index_file.proofs.ContentReads.{content_same}
 use Rattle.index_check.proofs.names.next_name.Goals as goal
 
 pub returns-in-Ok-clause-exact : goal.returns-in-Ok-clause-exact

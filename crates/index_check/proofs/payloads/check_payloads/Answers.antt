@@ -1,9 +1,10 @@
 use Rattle.std.proofs.Common.{All, subst, Err, rules, inl, refl, sym, length, ◌∙◌, ◌+◌, ◌<◌, ◌≤◌, ◌≡◌, arith}
 use Rattle.std.proofs.lemmas.List.Elements.{All-replicate}
 use Rattle.index_layout.specs.Reading.{read_payloads}
-use Rattle.index_check.specs.Private.Pieces.{Holds, IsPiece}
+use Rattle.index_file.specs.Pieces.{IsPiece}
+use Rattle.index_check.specs.Private.Pieces.{Holds}
 use Rattle.index_check.proofs.PayloadEnds.{counted_ahead, payloads_end, payloads_next, payloads_start, payloads_stop, term_ahead}
-use Rattle.index_check.proofs.Reading.{content_same, stops_unread}
+use Rattle.index_file.proofs.ContentReads.{content_same, stops_unread}
 use Rattle.index_check.proofs.payloads.check_payloads.Goals as goal
 
 pub terms-init : goal.terms-init

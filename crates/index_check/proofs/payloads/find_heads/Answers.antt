@@ -1,6 +1,7 @@
 use Rattle.std.proofs.Common.{sym, ◌∙◌, ◌+◌, ◌*◌, ◌≤◌, length, arith}
-use Rattle.index_check.specs.Private.Pieces.{Holds, IsPiece}
-use Rattle.index_check.proofs.Reading.{content_same}
+use Rattle.index_file.specs.Pieces.{IsPiece}
+use Rattle.index_check.specs.Private.Pieces.{Holds}
+use Rattle.index_file.proofs.ContentReads.{content_same}
 use Rattle.index_check.proofs.TermRooms.{heads_found, heads_held, term_held}
 use Rattle.index_check.proofs.payloads.find_heads.Goals as goal
 

@@ -3,7 +3,7 @@ use Rattle.index_layout.specs.Heads.{HeadData}
 use Rattle.index_layout.specs.declared.refusal.OpenFault.{OpenFault}
 use Rattle.index_file.specs.Contents.{IsContent, Outside}
 use Rattle.index_file.specs.Parts.{heads_from, told}
-use Rattle.index_check.proofs.Reading.{content_same, reads_none, reads_then}
+use Rattle.index_file.proofs.ContentReads.{content_same, reads_none, reads_then}
 use Rattle.index_check.proofs.SegmentLists.{heads_length, next_counted, next_head, segments_begin, segments_end, segments_more, segments_stop}
 use Rattle.index_check.proofs.segments.check_segments.Goals as goal
 

@@ -2,9 +2,10 @@ use Rattle.std.proofs.Common.{rules, ◌≡◌, ◌-◌, ◌^◌, ◌≤◌, ◌
 use Rattle.index_layout.specs.Reading.{payload_end}
 use Rattle.index_file.specs.Contents.{Outside}
 use Rattle.index_file.specs.Parts.{told}
-use Rattle.index_check.specs.Private.Pieces.{Holds, IsPiece}
+use Rattle.index_file.specs.Pieces.{IsPiece}
+use Rattle.index_check.specs.Private.Pieces.{Holds}
 use Rattle.index_check.proofs.PayloadMoves.{payload_docs}
-use Rattle.index_check.proofs.Reading.{reads_else, stops_unread}
+use Rattle.index_file.proofs.ContentReads.{reads_else, stops_unread}
 use Rattle.index_check.proofs.SegmentMoves.{marked_docs, marks_are, next_marks, next_stops, next_there, marks_unread}
 use Rattle.index_check.proofs.segments.next_payload.Goals as goal
 

@@ -1,5 +1,5 @@
 use Rattle.std.proofs.Common.{Err, rules, refl, sym, ◌∙◌, ◌<◌, ◌≡◌, arith}
-use Rattle.index_check.proofs.Reading.{content_same}
+use Rattle.index_file.proofs.ContentReads.{content_same}
 use Rattle.index_check.proofs.TermEnds.{heads_stop, term_stops, till_end, till_next, till_start}
 use Rattle.index_check.specs.Private.Pieces.{Holds}
 use Rattle.index_check.proofs.terms.check_terms.Goals as goal

@@ -1,7 +1,8 @@
 use Rattle.std.proofs.Common.{rules, arith, ◌∙◌, ◌*◌, ◌+◌, ◌≡◌, Err, [], refl}
 use Rattle.index_layout.specs.Reading.{read_heads}
-use Rattle.index_check.specs.Private.Pieces.{Holds, IsPiece}
-use Rattle.index_check.proofs.Reading.{stops_unread}
+use Rattle.index_file.specs.Pieces.{IsPiece}
+use Rattle.index_check.specs.Private.Pieces.{Holds}
+use Rattle.index_file.proofs.ContentReads.{stops_unread}
 use Rattle.index_check.proofs.HeadEnds.{heads_ended, heads_stopped}
 use Rattle.index_check.proofs.terms.next_heads.Goals as goal
 

@@ -1,10 +1,11 @@
 use Rattle.std.proofs.Common.{ap, sym, ◌∙◌, arith}
 use Rattle.index_layout.specs.Reading.{term_end}
 use Rattle.index_check.specs.Private.Answers.{before_of, moved}
-use Rattle.index_check.specs.Private.Pieces.{Holds, IsPiece}
+use Rattle.index_file.specs.Pieces.{IsPiece}
+use Rattle.index_check.specs.Private.Pieces.{Holds}
 use Rattle.index_check.proofs.Judging.{stops_moved}
-use Rattle.index_check.proofs.Reading.{content_same}
-use Rattle.index_check.proofs.Stopping.{stops_as}
+use Rattle.index_file.proofs.ContentReads.{content_same}
+use Rattle.index_file.proofs.Stopping.{stops_as}
 use Rattle.index_check.proofs.TermMoves.{term_moved, term_small, term_there}
 use Rattle.index_check.proofs.TermRooms.{room_there}
 use Rattle.index_check.proofs.terms.next_term.Goals as goal

@@ -1,10 +1,14 @@
-use Rattle.std.proofs.Common.{arith, ◌∙◌, sym}
-use Rattle.index_file.proofs.FrontNumbers.{front_as}
+use Rattle.std.proofs.Common.{refl, length}
+use Rattle.index_file.proofs.Fronts.{front_fitting, front_told, front_whole_told}
 use Rattle.index_file.proofs.front.read_front.Goals as goal
 
-pub returns-clause-other : goal.returns-clause-other
-returns-clause-other c = λ other whole first.
-    rw (c.u32_at-docs.ensures, c.u32_at-terms.ensures) (front_as other c.args.bytes.now first (omega (arith, c.if-bytes-lt40.false)) (omega (arith, whole, c.if-size-gt4294967296.false))
-    (sym c.starts_with.ensures.value ∙ c.if-starts_with.false) (sym c.starts_with-2.ensures.value ∙ c.if-not-starts_with.false) (sym c.u64_at.ensures ∙ c.if-u64_at-size.false ∙ whole)
-    (omega (arith, c.if-docs-gt-MOST_DOCUMENTS.false, c.u32_at-docs.ensures)) (omega (arith, c.if-terms-gt-MOST_TERMS.false, c.u32_at-terms.ensures))
-    (omega (arith, c.if-u64_at-gt-MOST_POSTINGS.false, c.u64_at-2.ensures)) (sym c.u32_at.ensures ∙ c.if-u32_at-ne0.false))
+pub returns-clause-exact : goal.returns-clause-exact
+returns-clause-exact c = λ whole.
+    front_whole_told c.args.bytes.now c.args.size c.told_size.result _ _ c.judge_front.result (record { exact = c.judge_front.ensures.exact }) refl refl c.told_size.ensures.told whole
+
+pub returns-clause-told : goal.returns-clause-told
+returns-clause-told c =
+    front_told c.args.bytes.now c.args.size c.told_size.result _ _ c.judge_front.result (record { exact = c.judge_front.ensures.exact }) refl refl c.told_size.ensures.told c.judge_front.ensures.long
+
+pub returns-clause-long : goal.returns-clause-long
+returns-clause-long c = front_fitting (length c.args.bytes.now) c.args.size _ c.judge_front.result refl c.judge_front.ensures.long c.judge_front.ensures.short

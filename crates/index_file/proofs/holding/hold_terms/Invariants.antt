@@ -6,8 +6,8 @@ use Rattle.index_file.proofs.holding.hold_terms.Given as goal
 
 abbrev pub invariant-terms : goal.invariant-terms
 invariant-terms g l = record {
-  start : l.part.start ≡ l.from;
-  shown : (content : List ℕ) → IsContent (g.C.Cabinet.told l.fn.files) l.name content → Shows content l.part;
+  start : l.part.start ≡ l.fn.part.start;
+  shown : (content : List ℕ) → IsContent (g.C.Cabinet.told l.fn.files) l.name content → Shows content l.fn.part → Shows content l.part;
   at : l.at ≤ 2 ^ 37;
   reads : (let result : Result ℕ OpenFault = Ok l.at in Reads
       (record { told = g.C.Cabinet.told l.fn.files; read_faults = g.C.Cabinet.read_faults l.fn.files; write_faults = g.C.Cabinet.write_faults l.fn.files })

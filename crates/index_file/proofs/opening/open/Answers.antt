@@ -1,10 +1,19 @@
-use Rattle.std.proofs.Common.{◌≡◌, ◌∙◌, ap, Ok}
-use Rattle.index_layout.specs.Reading.{read_index}
-use Rattle.index_file.proofs.Below.{file_bytes}
-use Rattle.index_file.proofs.Contents.{on_content}
+use Rattle.std.proofs.Common.{rules, ◌≡◌, Err, length, sym, subst}
+use Rattle.std.specs.Prelude.{⊤}
+use Rattle.index_file.proofs.Below.{OnContent}
+use Rattle.index_file.proofs.Contents.{on_each, opens_refused}
 use Rattle.index_file.proofs.opening.open.Goals as goal
 
-pub returns-in-Ok-clause-exact : goal.returns-in-Ok-clause-exact
-returns-in-Ok-clause-exact g c =
-    on_content (g.C.Cabinet.told c.args.files.now) c.args.name.now (λ content. content ≡ file_bytes c.in-Ok.file) (λ content. read_index content ≡ Ok c.in-Ok.file)
-    (λ content is. ap read_index is ∙ c.files_are_read.ensures.found c.in-Ok.file c.in-Ok.ensures.accepted) c.in-Ok.ensures.spelled
+pub returns-in_err-front-clause-exact : goal.returns-in_err-front-clause-exact
+returns-in_err-front-clause-exact g c =
+    let fault = c.in_err-front.field-0.0 in
+    let out : c.from_residual.result ≡ Err fault = search rules in
+    rw out (opens_refused (g.C.Cabinet.told c.args.files.now) c.args.name.now fault c.in_err-front.ensures.there c.in_err-front.ensures.exact)
+
+pub open_parts-requires : goal.open_parts-requires
+open_parts-requires g c = record {
+  size = c.in_ok-front.ensures.size.1;
+  told = subst (λ files. OnContent files c.args.name.now (λ content. c.in_ok-front.front.size ≡ length content)) (sym c.in_ok-front.ensures.reads.stays)
+      (on_each (g.C.Cabinet.told c.args.files.now) c.args.name.now (λ content. ⊤) (λ content. c.in_ok-front.front.size ≡ length content)
+      (λ content told any. (c.in_ok-front.ensures.exact content told).1) c.in_ok-front.ensures.there);
+}

@@ -28,7 +28,7 @@ terms-preserved c =
     let newest = c.push.new.self in
     let longer = c.append.new.self in
     let place = c.in_ok-place.place in
-    let n = c.in_ok-place.some in
+    let n = c.in_ok-place.head_count in
     let more = heads_from bytes n place in
     let many : length more ≡ n = heads_length bytes n place in
     let row : TermRow = record { text = c.len-start.result; head = c.len-head.result; group = groups } in
