@@ -77,7 +77,7 @@ SHORT = [
     ("all limits", index(MOST, 1 << 24, 1 << 29, NAME), "it: refusal 41 at 45"),
     ("2^32 - 1 heads", index(1, 1, 1, NAME + struct.pack("<HH", 0, 1) + b"a" + b"\xff" * 4), "it: refusal 41 at 54"),
 ]
-# These commands: a search opens its index first, so that its queries aren't read.
+# The commands that open one; a search opens its index first, so that its queries aren't read.
 OPENING = [("checked", "check it"), ("exported", "export it new"), ("searched", "search it ciff new")]
 
 # What the file is, the words of the command, the bytes of its file `it`, and the note that is wanted. No large text is

@@ -73,7 +73,7 @@ fn check_heads(rt: &impl Abort, alloc: Global, docs: u32, bitmap: u32) {
     assert!(rt; read);
 }
 
-/// A cabinet with this file.
+/// A cabinet with the file of so many documents, by the name `i`.
 fn written(rt: &impl Abort, alloc: Global, docs: u32, bitmap: u32) -> MemCabinet {
     let mut files = MemCabinet::new(alloc, Row::new(alloc), Row::new(alloc));
     put_file(rt, alloc, docs, bitmap, &mut files);

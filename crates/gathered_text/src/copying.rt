@@ -2,7 +2,7 @@ ghost use Rattle.std.specs.Prelude.{◌≡◌, length};
 
 use std::simd::prelude::*;
 
-/// Copies a text. One of 8 to 32 bytes, as most names have, takes two moves, which overlap, and no call.
+/// Copies a text. One of 8 to 32 bytes, as most names have, takes two moves, which may overlap, and no call.
 #[inline(always)]
 pub fn copy_text(to: &mut [u8], from: &[u8])
     requires { length to.old ≡ length from.now }

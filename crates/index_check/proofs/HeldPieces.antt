@@ -1,17 +1,9 @@
 -- What is held from a place on is a piece of the content.
-use Rattle.shared_lemmas.proofs.Common.{◌≡◌, ◌≤◌, ◌+◌, ◌-◌, ◌⊎◌, inl, inr, ℕ, min, List, length, take, drop, sym, ap, ◌∙◌, arith, take-take, length-take-le, length-drop}
+use Rattle.shared_lemmas.proofs.Common.{◌≡◌, ◌≤◌, ◌+◌, ◌-◌, ◌⊎◌, inl, inr, ℕ, min, List, length, take, drop, ap, ◌∙◌, arith, length-take-le, length-drop}
 use Rattle.whole_files.specs.Windows.{AreFrom}
 use Rattle.whole_files.proofs.Windows.{later_from}
 use Rattle.index_file.specs.Pieces.{IsPiece}
-
--- the first so many
-first_from : (content bytes : List ℕ) (at n : ℕ) → AreFrom content at bytes → n ≤ length bytes → AreFrom content at (take n bytes)
-first_from content bytes at n is few =
-    let size : length (take n bytes) ≡ n = length-take-le n bytes few in
-    record {
-      front = ap (take n) is.front ∙ take-take n (length bytes) (drop at content) few ∙ ap (λ k. take k (drop at content)) (sym size);
-      within = omega (arith, size, few, is.within);
-    }
+use Rattle.index_file.proofs.ContentReads.{first_from}
 
 least : (a b n : ℕ) → n ≡ min a b → (n ≤ a) × (n ≤ b)
 least a b n is = (omega (arith, is), omega (arith, is))

@@ -2,6 +2,7 @@
 use Rattle.shared_lemmas.proofs.Common.{◌≡◌, ◌≤◌, ◌⊎◌, inl, inr, ℕ, List, [], length, take, drop, Option, Some, None, IsSomeAnd, IfSome, Result, Ok, Err, ap, sym, ◌∙◌, subst, arith, refl, get, length-take-le, take-take}
 use Rattle.std.specs.Prelude.{⊤}
 use Rattle.whole_files.specs.Windows.{AreFrom}
+use Rattle.whole_files.proofs.Windows.{none_from}
 use Rattle.jass_base.specs.Outside.{Files, ForContent, IsMissing, OnContent, Rose}
 use Rattle.index_layout.specs.declared.refusal.OpenFault.{OpenFault}
 use Rattle.index_layout.specs.declared.refusal.OpenFault.TheVariants as faults
@@ -14,14 +15,9 @@ pub given : (files : Option Files) (name content : List ℕ) (P : List ℕ → T
 given None name content P p is = absurd is
 given (Some files) name content P p is = subst (λ (o : Option (List ℕ)). IfSome o P) is p
 
--- the same, where the name is said to be there
-pub given_there : (files : Option Files) (name content : List ℕ) (P : List ℕ → Type 0) → OnContent files name P → IsContent files name content → P content
-given_there None name content P p is = absurd is
-given_there (Some files) name content P p is = subst (λ (o : Option (List ℕ)). IsSomeAnd o P) is p
-
 -- nothing is a part of each content
-pub none_from : (content bytes : List ℕ) (start : ℕ) → bytes ≡ [] → AreFrom content start bytes
-none_from content bytes start is = subst (AreFrom content start) (sym is) (record { front = refl; within = omega arith })
+pub nothing_from : (content bytes : List ℕ) (start : ℕ) → bytes ≡ [] → AreFrom content start bytes
+nothing_from content bytes start is = subst (AreFrom content start) (sym is) (none_from content start)
 
 -- the first bytes of a part are a part from the same place on
 pub first_from : (content bytes : List ℕ) (start count : ℕ) → AreFrom content start bytes → count ≤ length bytes → AreFrom content start (take count bytes)
@@ -35,24 +31,6 @@ first_from content bytes start count is inside =
 -- the content carries over a call that changes nothing told
 pub content_same : (told then : Option Files) (name content : List ℕ) → told ≡ then → IsContent told name content → IsContent then name content
 content_same told then name content same is = subst (λ (files : Option Files). IsContent files name content) same is
-
--- a name whose content has P is there
-pub there_told : (files : Option Files) (name : List ℕ) (P : List ℕ → Type 0) → OnContent files name P → OnContent files name (λ content. ⊤)
-there_told None name P p = tt
-there_told (Some files) name P p = at (get files name) p
-  where
-    at : (o : Option (List ℕ)) → IsSomeAnd o P → IsSomeAnd o (λ content. ⊤)
-    at None p = p
-    at (Some content) p = tt
-
--- a name that isn't missing is there
-pub there_unless : (files : Option Files) (name : List ℕ) → ¬ IsMissing files name → OnContent files name (λ content. ⊤)
-there_unless None name is = tt
-there_unless (Some files) name is = at (get files name) is
-  where
-    at : (o : Option (List ℕ)) → ((let none : Option (List ℕ) = None in o ≡ none) → ⊥) → IsSomeAnd o (λ content. ⊤)
-    at None is = is refl
-    at (Some content) is = tt
 
 -- a name that is there is so for each answer
 pub there_as : {A : Type 0} (files : Option Files) (name : List ℕ) (result : Result A OpenFault) → OnContent files name (λ content. ⊤) → IsThere files name result
@@ -80,24 +58,6 @@ reads_none before name x = record {
   later = omega arith;
   others = omega arith;
   fault = λ is. (let bad : ⊥ = cc in absurd bad);
-}
-
--- a call that reads no more than another, which succeeded, and answers a value
-pub reads_ok : {S T : Type 0} (before after : Outside) (name : List ℕ) (x : S) (y : T) → (let result : Result S OpenFault = Ok x in Reads before after name result) → (let result : Result T OpenFault = Ok y in Reads before after name result)
-reads_ok before after name x y is = record {
-  stays = is.stays;
-  later = is.later;
-  others = is.others;
-  fault = λ is. (let bad : ⊥ = cc in absurd bad);
-}
-
--- the fault is the one that the call before answered
-pub reads_as : {S T : Type 0} (before after : Outside) (name : List ℕ) (fault : OpenFault) → (let result : Result S OpenFault = Err fault in Reads before after name result) → (let result : Result T OpenFault = Err fault in Reads before after name result)
-reads_as {S} {T} before after name fault is = record {
-  stays = is.stays;
-  later = is.later;
-  others = is.others;
-  fault = λ same. is.fault (let s : fault ≡ faults.ReadFault = cc in ap (λ f. (let result : Result S OpenFault = Err f in result)) s);
 }
 
 -- a fault that isn't one of reading comes behind a call that succeeded

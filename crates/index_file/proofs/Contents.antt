@@ -24,24 +24,6 @@ front_tells content = elim (cases_lt (2 ^ 32) (length content)) [
   | inr g ↦ ap read_index (take_all 4294967297 content (omega (arith, g)))
 ]
 
-pub on_content : (files : Option Files) (name : List ℕ) (P Q : List ℕ → Type 0) → ((content : List ℕ) → P content → Q content) → OnContent files name P → OnContent files name Q
-on_content None name P Q then there = tt
-on_content (Some files) name P Q then there = at (get files name) there
-  where
-    at : (o : Option (List ℕ)) → IsSomeAnd o P → IsSomeAnd o Q
-    at None there = there
-    at (Some content) there = then content there
-
-pub opens_front : (files : Option Files) (name row : List ℕ) (result : Result FileView OpenFault) → OnContent files name (λ content. row ≡ take 4294967297 content) → Answers (λ file. file) result (read_index row) → Opens files name result
-opens_front files name row (Ok file) there read =
-    on_content files name (λ content. row ≡ take 4294967297 content) (λ content. read_index content ≡ Ok file)
-    (λ content is. sym (front_tells content) ∙ ap read_index (sym is) ∙ read) there
-opens_front files name row (Err (faults.Refused refusal)) there read =
-    on_content files name (λ content. row ≡ take 4294967297 content) (λ content. read_index content ≡ Err refusal)
-    (λ content is. sym (front_tells content) ∙ ap read_index (sym is) ∙ read) there
-opens_front files name row (Err faults.ReadFault) there read = tt
-opens_front files name row (Err faults.NoMemory) there read = tt
-
 -- where the content of a name has P, it has Q, if each content with P that may be told has Q
 pub on_each : (files : Option Files) (name : List ℕ) (P Q : List ℕ → Type 0) → ((content : List ℕ) → IsContent files name content → P content → Q content) → OnContent files name P → OnContent files name Q
 on_each None name P Q each there = tt
@@ -50,6 +32,16 @@ on_each (Some files) name P Q each there = at (get files name) refl there
     at : (o : Option (List ℕ)) → get files name ≡ o → IsSomeAnd o P → IsSomeAnd o Q
     at None is there = there
     at (Some content) is there = each content is there
+
+pub opens_front : (files : Option Files) (name row : List ℕ) (result : Result FileView OpenFault) → OnContent files name (λ content. row ≡ take 4294967297 content) → Answers (λ file. file) result (read_index row) → Opens files name result
+opens_front files name row (Ok file) there read =
+    on_each files name (λ content. row ≡ take 4294967297 content) (λ content. read_index content ≡ Ok file)
+    (λ content told is. sym (front_tells content) ∙ ap read_index (sym is) ∙ read) there
+opens_front files name row (Err (faults.Refused refusal)) there read =
+    on_each files name (λ content. row ≡ take 4294967297 content) (λ content. read_index content ≡ Err refusal)
+    (λ content told is. sym (front_tells content) ∙ ap read_index (sym is) ∙ read) there
+opens_front files name row (Err faults.ReadFault) there read = tt
+opens_front files name row (Err faults.NoMemory) there read = tt
 
 -- a front that is refused
 pub opens_refused : (files : Option Files) (name : List ℕ) (fault : OpenFault) → (let first : Result Front OpenFault = Err fault in IsThere files name first)

@@ -9,7 +9,7 @@ use Rattle.index_file.proofs.Below.{u32_in, TermHeads, OpenRefusal, Front, Names
 use Rattle.index_file.specs.declared.outline.Outline.{Outline}
 use Rattle.index_file.specs.Parts.{IsCounted}
 use Rattle.index_file.specs.Sums.{AreSums}
-use Rattle.index_file.specs.Private.Outlines.{AreParts, EndsBefore, IsOutline, IsOutlineOfEach, after_outline}
+use Rattle.index_file.specs.Private.Outlines.{AreParts, EndsBefore, IsOutline, FixesOutline, after_outline}
 use Rattle.index_file.specs.Private.Tables.{AreRows, row_heads}
 use Rattle.index_file.proofs.Joined.{names_on, terms_on}
 use Rattle.index_file.proofs.Pieces.{piece_range, piece_u32}
@@ -130,7 +130,7 @@ parts_of bytes front payloads o names_end terms_end is front_is payloads_is fits
     }
 
 -- the parts of a file that was read part by part
-pub parts_join : (front terms payloads : List ℕ) (o : Outline) (place size : ℕ) → IsOutlineOfEach front terms size o → place ≡ length front + length terms → place + length payloads ≡ size
+pub parts_join : (front terms payloads : List ℕ) (o : Outline) (place size : ℕ) → FixesOutline front terms size o → place ≡ length front + length terms → place + length payloads ≡ size
     → All (λ byte. byte < 256) front → All (λ byte. byte < 256) terms → All (λ byte. byte < 256) payloads → length o.places ≤ MOST_DOCUMENTS → size ≤ LONGEST_FILE
     → AreParts (front ++ (terms ++ payloads)) o front payloads place
 parts_join front terms payloads o place size are place_is whole small_front small_terms small_payloads few fits =

@@ -36,10 +36,10 @@ not_long : (n most : ℕ) (is_long : Bool) → is_long ≡ nat_lt most n → is_
 not_long n most is_long is no_longer = grind (arith, nat_tests)
 
 -- whether the content has the size that is told
-pub front_fits : (content held now : List ℕ) (size : ℕ) (is_long fits : Bool) → IsPiece content 0 40 held → now ≡ held → (40 ≤ length now → size ≡ u64_in now 8) → is_long ≡ nat_lt LONGEST_FILE (length content)
+pub size_fits : (content held now : List ℕ) (size : ℕ) (is_long fits : Bool) → IsPiece content 0 40 held → now ≡ held → (40 ≤ length now → size ≡ u64_in now 8) → is_long ≡ nat_lt LONGEST_FILE (length content)
     → (40 ≤ length content → length content ≤ LONGEST_FILE → fits ≡ (size == length content))
     → is_long ≡ false → 40 ≤ length content → fits ≡ (u64_in content 8 == length content)
-front_fits content held now size is_long fits is same told long has short many =
+size_fits content held now size is_long fits is same told long has short many =
     let all : 40 ≤ length held = front_whole content held is many in
     let here : 40 ≤ length now = subst (λ (xs : List ℕ). 40 ≤ length xs) (sym same) all in
     let inside : 8 + 8 ≤ length held = omega (arith, all) in
@@ -58,24 +58,24 @@ fits_told content bytes size told fits is whole test tells long =
     let inside : 8 + 8 ≤ length bytes = omega (arith, long) in
     test ∙ ap (λ n. n == size) (tells long ∙ piece_u64 content bytes 0 8 is inside) ∙ ap (λ n. u64_in content 8 == n) whole
 
-pub front_told : (bytes : List ℕ) (size told : ℕ) (long fits : Bool) (result : Result Front OpenFault) → JudgedBy bytes long fits result
+pub told_of_each : (bytes : List ℕ) (size told : ℕ) (long fits : Bool) (result : Result Front OpenFault) → JudgedBy bytes long fits result
     → long ≡ nat_lt LONGEST_FILE size → fits ≡ (told == size) → (40 ≤ length bytes → told ≡ u64_in bytes 8) → IfOk result (λ front. 40 ≤ length bytes)
     → IfOk result (λ front. (content : List ℕ) → size ≡ length content → AreFrom content 0 bytes → (let r : Result Read OpenRefusal = Ok (record { docs = front.docs; terms = front.terms }) in read_front content ≡ r))
-front_told bytes size told long fits (Ok front) by longer test tells enough = λ content whole is.
+told_of_each bytes size told long fits (Ok front) by longer test tells enough = λ content whole is.
     let few : length bytes ≤ length content = is.within in
     (by.exact content (record { from = is; within = omega (arith, few); enough = inl enough }) (longer ∙ ap (nat_lt LONGEST_FILE) whole)
     (λ short many. fits_told content bytes size told fits is whole test tells enough)).0
-front_told bytes size told long fits (Err fault) by longer test tells enough = tt
+told_of_each bytes size told long fits (Err fault) by longer test tells enough = tt
 
 -- the same for all of a file
-pub front_whole_told : (bytes : List ℕ) (size told : ℕ) (long fits : Bool) (result : Result Front OpenFault) → JudgedBy bytes long fits result
+pub told_of_whole : (bytes : List ℕ) (size told : ℕ) (long fits : Bool) (result : Result Front OpenFault) → JudgedBy bytes long fits result
     → long ≡ nat_lt LONGEST_FILE size → fits ≡ (told == size) → (40 ≤ length bytes → told ≡ u64_in bytes 8) → size ≡ length bytes → AnswersFront bytes result
-front_whole_told bytes size told long fits result by longer test tells whole =
+told_of_whole bytes size told long fits result by longer test tells whole =
     let is : AreFrom bytes 0 bytes = record { front = sym (take-length bytes); within = omega arith } in
     by.exact bytes (record { from = is; within = omega arith; enough = inr (omega arith) }) (longer ∙ ap (nat_lt LONGEST_FILE) whole)
     (λ short many. fits_told bytes bytes size told fits is whole test tells many)
 
-pub front_fitting : (n size : ℕ) (long : Bool) (result : Result Front OpenFault) → long ≡ nat_lt LONGEST_FILE size → IfOk result (λ front. 40 ≤ n) → IfOk result (λ front. long ≡ false)
+pub long_and_fitting : (n size : ℕ) (long : Bool) (result : Result Front OpenFault) → long ≡ nat_lt LONGEST_FILE size → IfOk result (λ front. 40 ≤ n) → IfOk result (λ front. long ≡ false)
     → IfOk result (λ front. (40 ≤ n) × (size ≤ LONGEST_FILE))
-front_fitting n size long (Ok front) longer many short = (many, not_long size LONGEST_FILE long longer short)
-front_fitting n size long (Err fault) longer many short = tt
+long_and_fitting n size long (Ok front) longer many short = (many, not_long size LONGEST_FILE long longer short)
+long_and_fitting n size long (Err fault) longer many short = tt

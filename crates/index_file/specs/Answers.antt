@@ -14,7 +14,7 @@ Stops (faults.Refused refusal) read = read ≡ Err refusal
 Stops faults.ReadFault read = ⊤
 Stops faults.NoMemory read = ⊤
 
--- the front is the one of a content
+-- the front is the one of a content, with its size and totals; or a fault stops as reading its front does
 abbrev pub AnswersFront : List ℕ → Result Front OpenFault → Type 0
 AnswersFront content (Ok front) =
     (read_front content ≡ Ok (record { docs = front.docs; terms = front.terms }))

@@ -13,18 +13,22 @@ use std::marker::Model;
 /// The first word whose head stands aside.
 const ASIDE: u32 = 0x8000_0000;
 
-/// One above the greatest impact, count and size that a word has room for.
+/// One above the greatest impact that a word has room for.
 const IMPACTS: u16 = 1024;
 
+/// One above the greatest count.
 const COUNTS: u32 = 512;
 
+/// One above the greatest size.
 const SIZES: u32 = 1024;
 
-/// By how much a word grows for one document more, for one byte more, and for the next codec.
+/// By how much a word grows for one document more.
 const DOCUMENT: u32 = 1024;
 
+/// For one byte more.
 const BYTE: u32 = 0x8_0000;
 
+/// For the next codec.
 const CODEC: u32 = 0x2000_0000;
 
 /// The heads of all segments, in four bytes each where its numbers are small, as those of most are. Such a
@@ -77,7 +81,7 @@ impl HeadTable {
         if word < ASIDE {
             return unpacked(word);
         }
-        // Field by field: as a whole it would be copied into the form that it has in memory, the other one, too.
+        // Field by field: as a whole it would go through memory, and so would the head of a word.
         let head = &self.aside.as_slice()[(word - ASIDE) as usize];
         SegmentHead {
             impact: head.impact,

@@ -1,4 +1,4 @@
-ghost use Rattle.std.specs.Prelude.{ℕ, ◌≡◌, ◌≤◌, ◌+◌, [], List, true, length, drop, IfErr, IfOk, IfSome};
+ghost use Rattle.std.specs.Prelude.{ℕ, ◌≡◌, ◌≤◌, [], List, true, length, drop, IfErr, IfOk, IfSome};
 ghost use Rattle.whole_files.specs.Windows.{AreFrom, Shows};
 ghost use Rattle.index_file.specs.Answers.{IsNotRefused};
 ghost use Rattle.index_file.specs.Contents.{IsContent, Reads, outside};
@@ -10,7 +10,8 @@ use jass_base::{Cabinet, ReadStop, Row};
 use whole_files::Window;
 
 /// Sees to it that the front of a file of so many bytes is held with so many names, whose lengths tell where
-/// they end, and gives that place; none where it is behind the size. No byte of a name is checked.
+/// they end, and gives that place; none where it is behind the size, or behind the file's end. No byte of a name is
+/// checked.
 pub(crate) fn hold_names<C: Cabinet>(
     files: &mut C,
     name: &str,
@@ -43,8 +44,8 @@ pub(crate) fn hold_names<C: Cabinet>(
 }
 
 /// Sees to it that so many terms are held with their heads, which stand at the front of a part of a file and
-/// have so many bytes at the most. Their lengths tell how many they have; none where that is more. No byte of
-/// them is checked.
+/// have so many bytes at the most. Their lengths tell how many they have; none where that is more, or where the
+/// file ends before. No byte of them is checked.
 pub(crate) fn hold_terms<C: Cabinet>(
     files: &mut C,
     name: &str,
@@ -114,7 +115,7 @@ pub(crate) fn hold<C: Cabinet>(
 }
 
 /// Lets go of what a part holds, and begins it at another place. Its memory is used again.
-pub(crate) fn begin_at(part: &mut Window, start: u64)
+pub(crate) fn start_over_at(part: &mut Window, start: u64)
     ensures bytes { part.new.bytes.items ≡ [] }
     ensures start { part.new.start ≡ start }
 {

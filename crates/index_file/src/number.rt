@@ -3,8 +3,8 @@ ghost use Rattle.index_layout.specs.Bytes.{u16_in, u32_in, u64_in};
 
 use std::simd::prelude::*;
 
-// Each number is one load: of a number made of single bytes the bytes are loaded one by one where
-// parts of it are compared.
+// Each number is one load. Where it is put together of single bytes, the compiler loads these one by one if only parts
+// of it are compared.
 
 /// The number of 16 bits at a place.
 #[inline(always)]

@@ -3,14 +3,14 @@ ghost use Rattle.jass_base.specs.Outside.{Rose, IsMissing, OnContent};
 ghost use Rattle.whole_files.specs.Windows.{Shows};
 ghost use Rattle.index_layout.specs.View.{IsFileView, file_bytes};
 ghost use Rattle.index_file.specs.Answers.{IsNotRefused};
-ghost use Rattle.index_file.specs.Contents.{IsContent, Reads, outside};
+ghost use Rattle.index_file.specs.Contents.{Reads, outside};
 ghost use Rattle.index_file.specs.Opening.{Opens};
 ghost use Rattle.index_file.specs.Private.Outlines.{AreLeadingParts};
 ghost use Rattle.jass_base.specs.declared.limits.TheConstants.{LONGEST_FILE};
 
 use crate::file::IndexFile;
 use crate::front::{Front, check_front};
-use crate::holding::{begin_at, front_of, hold, hold_names, hold_terms};
+use crate::holding::{front_of, hold, hold_names, hold_terms, start_over_at};
 use crate::outline::{Outline, first_bytes, outline_of};
 use crate::small::are_bytes;
 use index_layout::OpenFault;
@@ -82,12 +82,12 @@ fn open_parts<C: Cabinet>(
         return Ok(None);
     };
     let LeadingParts {
-        front: names,
+        names,
         outline,
         place,
     } = leading;
     let left = front.size - place;
-    begin_at(&mut part, place as u64);
+    start_over_at(&mut part, place as u64);
     if !hold(files, name, &mut part, left, left)? {
         return Ok(None);
     }
@@ -104,12 +104,13 @@ fn open_parts<C: Cabinet>(
 /// What stands before the payloads of a file: the front with the names, the tables, and the place behind.
 #[derive(Drop)]
 pub(crate) struct LeadingParts {
-    pub(crate) front: Row<u8>,
+    pub(crate) names: Row<u8>,
     pub(crate) outline: Outline,
     pub(crate) place: usize,
 }
 
-/// Reads what stands before the payloads of a file by way of a part at its front; none where it is refused.
+/// Reads what stands before the payloads of a file through an empty part, which then has the terms; none where it is
+/// refused.
 fn open_leading<C: Cabinet>(
     alloc: Global,
     files: &mut C,
@@ -129,7 +130,7 @@ fn open_leading<C: Cabinet>(
         return Ok(None);
     };
     let names = first_bytes(alloc, part.bytes.as_slice(), names_end)?;
-    begin_at(part, names_end as u64);
+    start_over_at(part, names_end as u64);
     let left = front.size - names_end;
     let Some(terms_size) = hold_terms(files, name, part, front.terms, left)? else {
         return Ok(None);
@@ -138,7 +139,7 @@ fn open_leading<C: Cabinet>(
     are_bytes(terms);
     match outline_of(alloc, names.as_slice(), terms, front.size) {
         Ok(Some(outline)) => Ok(Some(LeadingParts {
-            front: names,
+            names,
             outline,
             place: names_end + terms_size,
         })),

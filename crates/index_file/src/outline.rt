@@ -1,7 +1,7 @@
 ghost use Rattle.std.specs.Prelude.{◌≡◌, ◌≤◌, length, take, IfErr, IfOk, IfSome, IsErrOf};
 ghost use Rattle.index_layout.specs.Reading.{read_index};
 ghost use Rattle.index_layout.specs.Refusals.{Fails};
-ghost use Rattle.index_file.specs.Private.Outlines.{AreParts, IsOutline, IsOutlineOfEach, after_outline};
+ghost use Rattle.index_file.specs.Private.Outlines.{AreParts, IsOutline, FixesOutline, after_outline};
 ghost use Rattle.jass_base.specs.declared.limits.TheConstants.{LONGEST_FILE, MOST_DOCUMENTS};
 
 use crate::front::read_front;
@@ -86,7 +86,7 @@ pub(crate) fn first_bytes(alloc: Global, bytes: &[u8], count: usize) -> Result<R
 }
 
 /// The outline of a file of so many bytes by its front with the names and its part with the terms; or a refusal
-/// that is met in them. There is none where the names or the terms end before the part does.
+/// that is met in them. No outline is given where the names or the terms end before their part does.
 pub(crate) fn outline_of(
     alloc: Global,
     front: &[u8],
@@ -96,7 +96,7 @@ pub(crate) fn outline_of(
     requires within { length front.now ≤ size }
     requires size { size ≤ LONGEST_FILE }
     requires few { length terms.now ≤ LONGEST_FILE }
-    ensures outline { IfOk result (λ found. IfSome found (IsOutlineOfEach front.now terms.now size)) }
+    ensures outline { IfOk result (λ found. IfSome found (FixesOutline front.now terms.now size)) }
     ensures few { IfOk result (λ found. IfSome found (λ outline. length outline.places ≤ MOST_DOCUMENTS)) }
     ensures unread { ¬ IsErrOf result OpenFault.ReadFault }
 {

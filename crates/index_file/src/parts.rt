@@ -1,5 +1,5 @@
-//! The parts of an index file, each checked where it stands in some bytes: what a check is made of
-//! that doesn't hold the whole file.
+//! The parts of an index file, each checked where it stands in some bytes, and the front, which is read by the file's
+//! name: what a check is made of that doesn't hold the whole file.
 
 pub use crate::following::follows;
 pub use crate::front::{Front, check_front};

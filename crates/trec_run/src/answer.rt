@@ -1,4 +1,4 @@
-ghost use Rattle.std.specs.Prelude.{◌+◌, ◌<◌, ◌++◌, length, All};
+ghost use Rattle.std.specs.Prelude.{◌<◌, ◌++◌, length, All};
 ghost use Rattle.jass_base.specs.Outside.{Wrote};
 ghost use Rattle.jass_base.specs.declared.answer.Hit.{Hit};
 ghost use Rattle.ranking_model.specs.Report.{run_lines, tag_of};
@@ -92,7 +92,11 @@ fn gather_blocks<S: Sink, N: Names>(
     ensures { Gathers S.written S.faults S.rest out.old out.new buffer.old buffer.new
         (run_lines (N.names index.now) shared.now.id.now (whole_tag shared.now) 1 hits.now) result }
 {
-    let mut frame = frame_of(shared);
+    let first = match hits.first() {
+        Some(hit) => hit.score,
+        None => 0,
+    };
+    let mut frame = frame_of(shared, first);
     let mut rank: u64 = 1;
     let mut rest = hits;
     while !rest.is_empty() {

@@ -58,7 +58,8 @@ fn longest_name<N: Names>(index: &N, hits: &[Hit]) -> usize
     longest
 }
 
-/// Puts run lines with this frame, for which there is room behind what was gathered.
+/// Puts run lines with this frame, for which there is room behind what was gathered. The frame is then ended for the
+/// lines of the last hit's score.
 fn push_each<N: Names>(buffer: &mut Buffer, frame: &mut Frame, index: &N, hits: &[Hit], first: u64)
     requires docs { All (λ (hit : Hit). hit.doc < length (N.names index.now)) hits.now }
     requires names { All (λ (hit : Hit). length (slice_index_or (N.names index.now) hit.doc []) ≤ 128) hits.now }

@@ -30,24 +30,24 @@ impl Frame {
     }
 }
 
-/// The frame of the lines that share these columns, where both of its texts are short.
-pub fn frame_of(shared: &Shared<'_>) -> Option<Frame>
+/// The frame of the lines that share these columns, ended for the lines of a score, where its texts are short.
+pub fn frame_of(shared: &Shared<'_>, score: u32) -> Option<Frame>
     ensures { IfSome result (λ frame. IsFrame frame shared.now.id.now (whole_tag shared.now)) }
 {
     if !shared.are_short() {
         return None;
     }
     let tail = tail(shared);
-    let ending = ending_of(0, &tail);
+    let ending = ending_of(score, &tail);
     Some(Frame {
         front: front(shared),
         tail,
-        score: 0,
+        score,
         ending,
     })
 }
 
-/// What stands behind the rank in the lines of a score.
+/// What stands behind the rank in the lines of a score. Such a tail is a blank, a short tag and the line's end.
 fn ending_of(score: u32, tail: &ShortText) -> ShortText
     requires { length tail.now ≤ 53 }
     ensures { result ≡ codes " " ++ (decimal score ++ tail.now) }

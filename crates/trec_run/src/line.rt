@@ -32,7 +32,7 @@ pub struct Shared<'a> {
 }
 
 impl<'a> Shared<'a> {
-    /// Whether what stands before the name, and what stands behind the score, are short texts.
+    /// Whether what stands before the name, and what stands behind the rank with any score, are short texts.
     pub fn are_short(&self) -> bool
         ensures { IsTrue result → AreShort self.now }
     {

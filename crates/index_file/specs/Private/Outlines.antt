@@ -52,18 +52,18 @@ pub record AreParts (bytes : List ℕ) (o : Outline) (front payloads : List ℕ)
   pub small : All (λ byte. byte < 256) bytes
 
 -- the tables are those of each file of so many bytes which begins with this front, and behind that with these terms
-abbrev pub IsOutlineOfEach : List ℕ → List ℕ → ℕ → Outline → Type 0
-IsOutlineOfEach front terms size o =
+abbrev pub FixesOutline : List ℕ → List ℕ → ℕ → Outline → Type 0
+FixesOutline front terms size o =
     (bytes : List ℕ) → length bytes ≡ size → AreFrom bytes 0 front → AreFrom bytes (length front) terms
     → IsOutline bytes o (length front) (length front + length terms)
 
 -- some terms were read behind the front of a file of so many bytes, from the content where it is told, and the tables
 -- are theirs
 pub record AreLeadingParts (files : Option Files) (name : List ℕ) (size : ℕ) (l : LeadingParts) (terms : List ℕ) : Type 0 where
-  pub outline : IsOutlineOfEach l.front terms size l.outline
-  pub place : l.place ≡ length l.front + length terms
+  pub outline : FixesOutline l.names terms size l.outline
+  pub place : l.place ≡ length l.names + length terms
   pub within : l.place ≤ size
   pub small : All (λ byte. byte < 256) terms
   pub few : length l.outline.places ≤ MOST_DOCUMENTS
   pub content : (content : List ℕ) → IsContent files name content
-      → AreFrom content 0 l.front × AreFrom content (length l.front) terms
+      → AreFrom content 0 l.names × AreFrom content (length l.names) terms

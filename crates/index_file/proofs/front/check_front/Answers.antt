@@ -3,8 +3,8 @@ use Rattle.whole_files.specs.Windows.{Reaches, Shows}
 use Rattle.index_layout.specs.Reading.{read_front}
 use Rattle.index_file.specs.declared.front.Front.{Front}
 use Rattle.index_file.specs.Pieces.{IsPiece}
-use Rattle.index_file.proofs.Fronts.{front_fits, front_piece}
-use Rattle.index_file.proofs.ContentReads.{content_same, given, none_from, stops_unread, there_unread}
+use Rattle.index_file.proofs.Fronts.{size_fits, front_piece}
+use Rattle.index_file.proofs.ContentReads.{content_same, given, nothing_from, stops_unread, there_unread}
 use Rattle.index_file.proofs.front.check_front.Goals as goal
 
 pub returns-in_err-is_long-clause-exact : goal.returns-in_err-is_long-clause-exact
@@ -25,7 +25,7 @@ returns-clause-exact g c =
     let then = content_same _ _ name content (sym c.in_ok-is_long.ensures.reads.stays) is in
     let last = content_same _ _ name content (sym c.in-Ok.ensures.stays) then in
     let held : List ℕ = c.as_slice-2.result.now in
-    let nothing : Shows content empty = none_from content empty.bytes.items empty.start c.new-window.ensures.bytes in
+    let nothing : Shows content empty = nothing_from content empty.bytes.items empty.start c.new-window.ensures.bytes in
     let shown : Shows content window = given _ name content (λ content. Shows content empty → Shows content window) c.in-Ok.ensures.shown then nothing in
     let reached : Reaches content window empty.start 40 = given _ name content (λ content. Shows content empty → Reaches content window empty.start 40) c.in-Ok.ensures.reached then nothing in
     let start : window.start ≤ 0 = omega (arith, c.in-Ok.ensures.start, c.new-window.ensures.start) in
@@ -33,7 +33,7 @@ returns-clause-exact g c =
     let piece : IsPiece content 0 40 held = front_piece content window.bytes.items held window.start shown start c.as_slice-2.ensures.value reach in
     let long = c.in_ok-is_long.ensures.has content is in
     c.judge_front.ensures.exact content piece long
-    (front_fits content held c.as_slice.result.now c.told_size-size.result c.in_ok-is_long.is_long c.in_ok-fits.fits piece (c.as_slice.ensures.value ∙ sym c.as_slice-2.ensures.value)
+    (size_fits content held c.as_slice.result.now c.told_size-size.result c.in_ok-is_long.is_long c.in_ok-fits.fits piece (c.as_slice.ensures.value ∙ sym c.as_slice-2.ensures.value)
     c.told_size-size.ensures.told long (c.in_ok-fits.ensures.has content last))
 
 pub returns-clause-reads : goal.returns-clause-reads

@@ -3,8 +3,8 @@ use Rattle.std.specs.Prelude.{IfSome}
 use Rattle.whole_files.specs.Windows.{AreFrom}
 use Rattle.jass_base.specs.declared.limits.TheConstants.{MOST_DOCUMENTS}
 use Rattle.index_file.specs.declared.outline.Outline.{Outline}
-use Rattle.index_file.specs.Private.Outlines.{IsOutlineOfEach}
-use Rattle.index_file.proofs.ContentReads.{content_same, first_from, none_from}
+use Rattle.index_file.specs.Private.Outlines.{FixesOutline}
+use Rattle.index_file.proofs.ContentReads.{content_same, first_from, nothing_from}
 use Rattle.index_file.proofs.opening.open_leading.Goals as goal
 
 pub returns-in-Ok-Some-clause-leading : goal.returns-in-Ok-Some-clause-leading
@@ -27,8 +27,8 @@ returns-in-Ok-Some-clause-leading g c =
     let terms_size : length terms ≡ count = ap length terms_are ∙ length-take-le count second.bytes.items held_terms in (
       terms,
       record {
-        outline = subst (λ (front : List ℕ). IsOutlineOfEach front terms size c.in-Ok-Some.outline) c.as_slice-3.ensures
-            (subst (λ o. IfSome o (IsOutlineOfEach c.as_slice-3.result.now terms size)) c.in-Ok-Some.field-0-is c.in-Ok-Some.ensures.outline);
+        outline = subst (λ (front : List ℕ). FixesOutline front terms size c.in-Ok-Some.outline) c.as_slice-3.ensures
+            (subst (λ o. IfSome o (FixesOutline c.as_slice-3.result.now terms size)) c.in-Ok-Some.field-0-is c.in-Ok-Some.ensures.outline);
         place = omega (arith, names_size, terms_size);
         within = omega (arith, fits, left);
         small = c.are_bytes.ensures;
@@ -36,8 +36,8 @@ returns-in-Ok-Some-clause-leading g c =
         content = λ content told.
             let then = content_same _ _ name content (sym c.in_ok-names_end.ensures.reads.stays) told in
             let begins : AreFrom content 0 first.bytes.items = subst (λ n. AreFrom content n first.bytes.items) c.in_ok-names_end.ensures.start (c.in_ok-names_end.ensures.shown content told (c.requires.shown content)) in
-            let nothing = none_from content c.begin_at.new.part.bytes.items c.begin_at.new.part.start c.begin_at.ensures.bytes in
-            let follows : AreFrom content end second.bytes.items = subst (λ n. AreFrom content n second.bytes.items) (c.in_ok-terms_size.ensures.start ∙ c.begin_at.ensures.start) (c.in_ok-terms_size.ensures.shown content then nothing) in (
+            let nothing = nothing_from content c.start_over_at.new.part.bytes.items c.start_over_at.new.part.start c.start_over_at.ensures.bytes in
+            let follows : AreFrom content end second.bytes.items = subst (λ n. AreFrom content n second.bytes.items) (c.in_ok-terms_size.ensures.start ∙ c.start_over_at.ensures.start) (c.in_ok-terms_size.ensures.shown content then nothing) in (
               subst (AreFrom content 0) (sym names_are) (first_from content first.bytes.items 0 end begins held),
               subst (λ n. AreFrom content n terms) (sym names_size) (subst (AreFrom content end) (sym terms_are) (first_from content second.bytes.items end count follows held_terms)),
             );
