@@ -1,4 +1,4 @@
-// The bytes of small indexes, and files that can't be written.
+// Index files that are written as a whole, term by term or of spelled parts, and what is left where a write fails.
 
 ghost use Rattle.std.specs.Prelude.{◌≡◌, length, map, All, AllPairs, IfOk};
 ghost use Rattle.jass_base.specs.Gaps.{AreDocs};
@@ -7,52 +7,16 @@ ghost use Rattle.index_write.specs.Streaming.{AreEntries, AreNames, entry_data};
 ghost use Rattle.jass_base.specs.Segments.{SharesNoDocument};
 
 use crate::impacts::{indexed, one_document, segments, three};
+use crate::index_spelling::{SMALL, SMALL_LISTS};
 use index_write::{
     Blocks, IndexWriter, PayloadHead, SaveFault, SpelledNames, SpelledTerms, TermFault, TermHeads,
-    index_bytes, payload_heads, totals, write_index, write_parts,
+    payload_heads, write_index, write_parts,
 };
 use jass_base::{Cabinet, ImpactIndex, MemCabinet, Row, Segment, Text, Totals};
 use segment_codecs::Codec;
 use std::alloc::Global;
 use std::process::Abort;
 use weights::{Bits, Rule};
-
-/// The collection of the small file: three documents; `a`: (0,9), (1,5), (2,1).
-const SMALL_LISTS: &[u8] = b"\x04\x10\x01\x18\x03\
-    \x13\x0a\x01a\x22\x02\x10\x09\x22\x04\x08\x01\x10\x05\x22\x04\x08\x01\x10\x01\
-    \x04\x12\x02d0\x06\x08\x01\x12\x02d1\x06\x08\x02\x12\x02d2";
-
-/// The collection of the terms `car` and `cat`, each once in the first of three documents.
-const CAR_CAT_LISTS: &[u8] = b"\x04\x10\x02\x18\x03\
-    \x09\x0a\x03car\x22\x02\x10\x01\x09\x0a\x03cat\x22\x02\x10\x01\
-    \x04\x12\x02d0\x06\x08\x01\x12\x02d1\x06\x08\x02\x12\x02d2";
-
-/// Three documents with the term `a` at the impacts 9, 5 and 1.
-const SMALL: [u8; 103] = [
-    74, 65, 83, 83, 73, 68, 88, 50, 103, 0, 0, 0, 0, 0, 0, 0, 3, 0, 0, 0, 1, 0, 0, 0, 3, 0, 0, 0,
-    0, 0, 0, 0, 9, 0, 0, 0, 0, 0, 0, 0, 2, 0, 0, 0, 100, 48, 2, 0, 0, 0, 100, 49, 2, 0, 0, 0, 100,
-    50, 0, 0, 1, 0, 97, 3, 0, 0, 0, 9, 0, 1, 0, 0, 0, 0, 1, 0, 0, 0, 5, 0, 1, 0, 0, 0, 0, 1, 0, 0,
-    0, 1, 0, 1, 0, 0, 0, 0, 1, 0, 0, 0, 0, 1, 2,
-];
-
-/// What stands behind the names where the terms are `car` and `cat`.
-const CAR_CAT: [u8; 44] = [
-    0, 0, 3, 0, 99, 97, 114, 1, 0, 0, 0, 1, 0, 1, 0, 0, 0, 0, 1, 0, 0, 0, 2, 0, 1, 0, 116, 1, 0, 0,
-    0, 1, 0, 1, 0, 0, 0, 0, 1, 0, 0, 0, 0, 0,
-];
-
-const NO_DOCUMENTS: [u8; 40] = [
-    74, 65, 83, 83, 73, 68, 88, 50, 40, 0, 0, 0, 0, 0, 0, 0, 0, 0, 0, 0, 0, 0, 0, 0, 0, 0, 0, 0, 0,
-    0, 0, 0, 0, 0, 0, 0, 0, 0, 0, 0,
-];
-
-/// What the index of the terms `car` and `cat` counts.
-const TOTALS_OF_TWO: Totals = Totals {
-    docs: 3,
-    terms: 2,
-    postings: 2,
-    greatest: 1,
-};
 
 /// What the small file counts.
 const TOTALS: Totals = Totals {
@@ -83,38 +47,6 @@ const HEADS: [PayloadHead; 3] = [
         bytes: 1,
     },
 ];
-
-/// A collection, and how its index is spelled from a place on.
-type Spelled<'a> = (&'a [u8], usize, &'a [u8]);
-
-const SPELLED: [Spelled<'static>; 3] = [
-    (SMALL_LISTS, 0, &SMALL),
-    (CAR_CAT_LISTS, 58, &CAR_CAT),
-    (b"\x00", 0, &NO_DOCUMENTS),
-];
-
-fn check_spelled(rt: &impl Abort, alloc: Global, rows: &[Spelled<'_>]) {
-    for (lists, from, wanted) in rows {
-        assert!(rt; is_spelled(rt, alloc, lists, *from, wanted));
-    }
-}
-
-#[test]
-fn small_files_are_spelled(rt: HostRuntime) {
-    check_spelled(&rt, rt.alloc(), &SPELLED);
-}
-
-#[test]
-fn totals_are_counted(rt: HostRuntime) {
-    check_totals(&rt, rt.alloc());
-}
-
-fn check_totals(rt: &impl Abort, alloc: Global) {
-    let index = indexed(rt, alloc, CAR_CAT_LISTS, Rule::Tf, Bits::Raw);
-    let counted = totals(&index);
-    drop(index);
-    assert!(rt; counted == TOTALS_OF_TWO);
-}
 
 /// Which writes fail, what is answered then, and how much of the small file is left; None where the
 /// older file is.
@@ -327,22 +259,6 @@ fn streamed_one(
     let written = streamed(rt, alloc, &segments, files);
     drop(segments);
     written
-}
-
-/// Whether the bytes of the index of a collection, from a place on, are these.
-fn is_spelled(rt: &impl Abort, alloc: Global, lists: &[u8], from: usize, wanted: &[u8]) -> bool {
-    let bytes = spelled(rt, alloc, lists);
-    let same = from <= bytes.len() && &bytes.as_slice()[from..] == wanted;
-    drop(bytes);
-    same
-}
-
-/// The bytes of the index of a collection.
-fn spelled(rt: &impl Abort, alloc: Global, lists: &[u8]) -> Row<u8> {
-    let index = indexed(rt, alloc, lists, Rule::Tf, Bits::Raw);
-    let bytes = index_bytes(alloc, &index);
-    drop(index);
-    bytes.expect(rt, "bytes")
 }
 
 /// A cabinet with an older file, where these writes fail.

@@ -18,6 +18,8 @@ mod impacts;
 #[cfg(test)]
 mod index_reading;
 #[cfg(test)]
+mod index_spelling;
+#[cfg(test)]
 mod index_writing;
 #[cfg(test)]
 mod version1;
