@@ -1,5 +1,5 @@
 -- What calls that read a content by its name give together.
-use Rattle.shared_lemmas.proofs.Common.{◌≡◌, ◌≤◌, ◌⊎◌, inl, inr, ℕ, List, [], length, take, drop, Option, Some, None, IsSomeAnd, IfSome, Result, Ok, Err, ap, sym, ◌∙◌, subst, arith, refl, get, length-take-le, take-take}
+use Rattle.shared_lemmas.proofs.Common.{◌≡◌, ◌≤◌, ◌⊎◌, inl, inr, ℕ, List, [], length, take, drop, Option, Some, None, IfSome, Result, Ok, Err, ap, sym, ◌∙◌, subst, arith, refl, length-take-le, take-take}
 use Rattle.std.specs.Prelude.{⊤}
 use Rattle.whole_files.specs.Windows.{AreFrom}
 use Rattle.whole_files.proofs.Windows.{none_from}

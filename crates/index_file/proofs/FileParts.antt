@@ -7,11 +7,14 @@ use Rattle.jass_base.specs.declared.limits.TheConstants.{LONGEST_FILE, MOST_DOCU
 use Rattle.index_layout.specs.Reading.{name_in, read_index}
 use Rattle.index_file.proofs.Below.{u32_in, TermHeads, OpenRefusal, Front, NamesRead, TermsRead, read_front, read_names, read_terms, all_heads}
 use Rattle.index_file.specs.declared.outline.Outline.{Outline}
+use Rattle.index_file.specs.declared.sums.Sums.{Sums}
+use Rattle.index_file.specs.declared.term_table.TermTable.{TermTable}
 use Rattle.index_file.specs.Parts.{IsCounted}
 use Rattle.index_file.specs.Sums.{AreSums}
-use Rattle.index_file.specs.Private.Outlines.{AreParts, EndsBefore, IsOutline, FixesOutline, after_outline}
+use Rattle.index_file.specs.Private.Outlines.{AreParts, EndsBefore, IsOutline, FixesNames, FixesOutline, after_outline}
+use Rattle.index_file.specs.Private.Gathered.{FixesTerms}
 use Rattle.index_file.specs.Private.Tables.{AreRows, row_heads}
-use Rattle.index_file.proofs.Joined.{names_on, terms_on}
+use Rattle.index_file.proofs.Joined.{names_on}
 use Rattle.index_file.proofs.Pieces.{piece_range, piece_u32}
 use Rattle.index_file.proofs.Reading.{front_there, names_there, terms_there}
 
@@ -92,26 +95,18 @@ module _ (bytes front : List ℕ) (from : AreFrom bytes 0 front) where
       omega (arith, e, size)
 
 -- the outline of each file that begins with a front and terms
-pub outline_joins : (bytes front terms : List ℕ) (o : Outline) (d names_end terms_end : ℕ) → length o.places ≡ d → AreFrom bytes 0 front → AreFrom bytes (length front) terms
-    → read_front bytes ≡ front_told d o.count
-    → read_names front d 40 ≡ names_told (map (name_in front) o.places) names_end
-    → read_terms terms d o.count None 0 ≡ terms_told (row_heads o.terms.heads o.terms.text o.terms.rows) terms_end
-    → All (EndsBefore front names_end) o.places → AreRows o.terms.heads o.terms.text o.terms.rows → length o.terms.rows ≡ o.count + 1
-    → All (IsCounted d) o.terms.heads → AreSums o.sums (all_heads (row_heads o.terms.heads o.terms.text o.terms.rows))
-    → 40 ≤ names_end → names_end ≡ length front → terms_end ≡ length terms
-    → IsOutline bytes o (length front) (length front + length terms)
-outline_joins bytes front terms o d names_end terms_end same first second front_read names_read terms_read ends rows count counted sums long names_whole terms_whole =
-    let all = subst (λ n. All (EndsBefore front n) o.places) names_whole ends in
+pub outline_joins : (front terms : List ℕ) (size count : ℕ) (places : List ℕ) (table : TermTable) (sums : Sums) → FixesNames front size count places → FixesTerms terms (length places) count table sums
+    → FixesOutline front terms size (record { places = places; terms = table; count = count; sums = sums })
+outline_joins front terms size count places table sums names are bytes long first second =
+    let o : Outline = record { places = places; terms = table; count = count; sums = sums } in
     let inside = front_within bytes front first in
     let within : length front + length terms ≤ length bytes = (let e = second.within in let l = length-drop (length front) bytes in omega (arith, e, l, inside)) in
-    let all_names : 0 + names_end ≡ length front = omega (arith, names_whole) in
-    let zero_on : length front + 0 ≡ length front = omega arith in
-    outline_at bytes o d (length front) (length front + length terms) same front_read
-    (names_on bytes front 0 first inside d 40 (record { names = map (name_in front) o.places; end = names_end }) names_read ∙ ap₂ names_told (sym (names_same bytes front first o.places all)) all_names)
-    (ap (read_terms bytes d o.count None) (sym zero_on)
-    ∙ terms_on bytes terms (length front) second within d o.count None 0 (record { terms = row_heads o.terms.heads o.terms.text o.terms.rows; end = terms_end }) terms_read
-    ∙ ap (λ n. terms_told (row_heads o.terms.heads o.terms.text o.terms.rows) (length front + n)) terms_whole)
-    (ends_same bytes front first o.places all) rows count counted sums (omega (arith, long, names_whole)) (omega arith) within
+    let start : 0 + length front ≡ length front = omega arith in
+    let read : read_names bytes (length places) 40 ≡ names_told (map (name_in bytes) places) (length front) =
+    names_on bytes front 0 first inside (length places) 40 (record { names = map (name_in front) places; end = length front }) names.names
+    ∙ ap₂ names_told (sym (names_same bytes front first places names.before)) start in
+    outline_at bytes o (length places) (length front) (length front + length terms) refl (names.read bytes long first) read (are.read bytes (length front) second)
+    (ends_same bytes front first places names.before) are.rows are.count_is are.counted are.sums_are names.long (omega arith) within
 
 -- the parts of a file that is there as a whole
 pub parts_of : (bytes front payloads : List ℕ) (o : Outline) (names_end terms_end : ℕ) → IsOutline bytes o names_end terms_end → front ≡ take names_end bytes → payloads ≡ drop terms_end bytes

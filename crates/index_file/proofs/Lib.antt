@@ -6,6 +6,7 @@ mod Contents
 mod FileParts
 mod FrontMoves
 mod Fronts
+mod Gathering
 mod Halves
 mod HeadLists
 mod HeadWords
@@ -30,4 +31,5 @@ mod Shifted
 mod Standing
 pub mod Stopping
 mod TermRows
+mod TermSteps
 mod Wholes

@@ -1,72 +1,19 @@
 -- Rows of terms while their texts and heads grow.
-use Rattle.shared_lemmas.proofs.Common.{◌≡◌, ◌+◌, ◌-◌, ◌≤◌, ℕ, suc, length, arith, List, [], ◌∷◌, ◌++◌, Option, Some, Result, Ok, ap, sym, subst, ◌∙◌, refl, max, append_assoc, length-append, sum_by-cons, sum_by-append}
+use Rattle.shared_lemmas.proofs.Common.{◌≡◌, ◌+◌, ◌-◌, ◌≤◌, ℕ, length, arith, List, [], ◌∷◌, ◌++◌, ap, sym, subst, ◌∙◌, refl, max, append_assoc, length-append, sum_by-cons, sum_by-append}
 use Rattle.std.proofs.lemmas.Grind.{flat_map-append}
 use Rattle.std.proofs.lemmas.List.{append-nil}
-use Rattle.index_layout.specs.declared.refusal.OpenFault.TheVariants as faults
-use Rattle.index_file.proofs.Below.{Fails, OpenFault, OpenRefusal, HeadData, TermHeads, all_heads, greatest_of, ◌>>=◌, HeadsRead, TermsRead, term_in, heads_in, read_heads, read_terms, with_terms, behind_terms}
+use Rattle.index_file.proofs.Below.{HeadData, TermHeads, all_heads, greatest_of}
 use Rattle.index_file.specs.declared.sums.Sums.{Sums}
 use Rattle.index_file.specs.Sums.{AreSums}
 use Rattle.index_file.specs.declared.term_row.TermRow.{TermRow}
 use Rattle.index_file.specs.declared.span.Span.{Span}
 use Rattle.shared_lemmas.proofs.Places.{slice_stays, slice_new}
-use Rattle.index_layout.proofs.Judging.{judged_ok}
-use Rattle.index_layout.specs.Reading.{segments_place, term_checks, term_end}
 use Rattle.index_file.proofs.RowOrder.{heads_below, text_below}
-use Rattle.index_file.specs.Private.Tables.{IsSpan, RowsFrom, AreRows, group_count, part_of, row_heads}
-
--- one term more
-pub terms_on : (bytes : List ℕ) (d : ℕ) (total : Result TermsRead OpenRefusal) (front : List TermHeads) (k left : ℕ) (before : Option (List ℕ)) (at place : ℕ) (here : HeadsRead) → total ≡ with_terms front (read_terms bytes d k before at) → k ≡ suc left → term_end bytes before at ≡ Ok place
-    → read_heads bytes d (heads_in bytes at) 65536 place ≡ Ok here
-    → total ≡ with_terms (front ++ record { term = term_in bytes before at; heads = here.heads } ∷ []) (read_terms bytes d left (Some (term_in bytes before at)) here.end)
-terms_on bytes d total front k left before at place here is more end heads =
-    is ∙ ap (λ n. with_terms front (read_terms bytes d n before at)) more
-    ∙ ap (λ (e : Result ℕ OpenRefusal). with_terms front (e >>= λ place. (read_heads bytes d (heads_in bytes at) 65536 place >>= λ here. (read_terms bytes d left (Some (term_in bytes before at)) here.end >>= λ later.
-    Ok (record { terms = record { term = term_in bytes before at; heads = here.heads } ∷ later.terms; end = later.end }))))) end
-    ∙ ap (λ (e : Result HeadsRead OpenRefusal). with_terms front (e >>= λ here. (read_terms bytes d left (Some (term_in bytes before at)) here.end >>= λ later.
-    Ok (record { terms = record { term = term_in bytes before at; heads = here.heads } ∷ later.terms; end = later.end })))) heads
-    ∙ behind_terms front (record { term = term_in bytes before at; heads = here.heads }) (read_terms bytes d left (Some (term_in bytes before at)) here.end)
-
--- no term more
-pub terms_end : (bytes : List ℕ) (d : ℕ) (total : Result TermsRead OpenRefusal) (front : List TermHeads) (k : ℕ) (before : Option (List ℕ)) (at : ℕ) → total ≡ with_terms front (read_terms bytes d k before at) → k ≡ 0 → total ≡ Ok (record { terms = front; end = at })
-terms_end bytes d total front k before at is none =
-    is ∙ ap (λ n. with_terms front (read_terms bytes d n before at)) none
-    ∙ ap (λ (terms : List TermHeads). (let r : Result TermsRead OpenRefusal = Ok (record { terms = terms; end = at }) in r)) (append-nil front)
-
--- a term that is refused, or whose heads are
-pub term_not : (bytes : List ℕ) (d : ℕ) (total : Result TermsRead OpenRefusal) (front : List TermHeads) (k left : ℕ) (before : Option (List ℕ)) (at : ℕ) (fault : OpenFault) → total ≡ with_terms front (read_terms bytes d k before at) → k ≡ suc left
-    → Fails fault (term_end bytes before at) → Fails fault total
-term_not bytes d total front k left before at (faults.Refused refusal) is more fails =
-    is ∙ ap (λ n. with_terms front (read_terms bytes d n before at)) more
-    ∙ ap (λ (e : Result ℕ OpenRefusal). with_terms front (e >>= λ place. (read_heads bytes d (heads_in bytes at) 65536 place >>= λ here. (read_terms bytes d left (Some (term_in bytes before at)) here.end >>= λ later.
-    Ok (record { terms = record { term = term_in bytes before at; heads = here.heads } ∷ later.terms; end = later.end }))))) fails
-term_not bytes d total front k left before at faults.ReadFault is more fails = fails
-term_not bytes d total front k left before at faults.NoMemory is more fails = tt
-
-pub heads_not : (bytes : List ℕ) (d : ℕ) (total : Result TermsRead OpenRefusal) (front : List TermHeads) (k left : ℕ) (before : Option (List ℕ)) (at place : ℕ) (fault : OpenFault) → total ≡ with_terms front (read_terms bytes d k before at) → k ≡ suc left
-    → term_end bytes before at ≡ Ok place → Fails fault (read_heads bytes d (heads_in bytes at) 65536 place) → Fails fault total
-heads_not bytes d total front k left before at place (faults.Refused refusal) is more end fails =
-    is ∙ ap (λ n. with_terms front (read_terms bytes d n before at)) more
-    ∙ ap (λ (e : Result ℕ OpenRefusal). with_terms front (e >>= λ place. (read_heads bytes d (heads_in bytes at) 65536 place >>= λ here. (read_terms bytes d left (Some (term_in bytes before at)) here.end >>= λ later.
-    Ok (record { terms = record { term = term_in bytes before at; heads = here.heads } ∷ later.terms; end = later.end }))))) end
-    ∙ ap (λ (e : Result HeadsRead OpenRefusal). with_terms front (e >>= λ here. (read_terms bytes d left (Some (term_in bytes before at)) here.end >>= λ later.
-    Ok (record { terms = record { term = term_in bytes before at; heads = here.heads } ∷ later.terms; end = later.end })))) fails
-heads_not bytes d total front k left before at place faults.ReadFault is more end fails = fails
-heads_not bytes d total front k left before at place faults.NoMemory is more end fails = tt
-
--- the heads of a term stand behind its place
-pub end_behind : (bytes : List ℕ) (before : Option (List ℕ)) (at place : ℕ) → term_end bytes before at ≡ Ok place → at ≤ place
-unfolding term_end
-end_behind bytes before at place end =
-    let is = (judged_ok (term_checks bytes before at) (segments_place bytes at + 4) place end).1 in
-    omega (arith, is)
+use Rattle.index_file.specs.Private.Tables.{IsSpan, RowsFrom, AreRows, closed, group_count, part_of, row_heads}
 
 part_new : (text term : List ℕ) (span : Span) → span.from ≡ length text → span.to ≡ length (text ++ term) → part_of (text ++ term) span ≡ term
 unfolding part_of
 part_new text term span from to = slice_new text term span.from span.to from to
-
--- the rows of the terms read, and a last one where texts, heads and groups end
-abbrev pub closed : List TermRow → List ℕ → List HeadData → ℕ → List TermRow
-closed rows text heads groups = rows ++ record { text = length text; head = length heads; group = groups } ∷ []
 
 -- one term more: its row takes the place of the last, and a new last one stands behind it
 module _ (heads more : List HeadData) (text term : List ℕ) (last row after : TermRow) (at_text : row.text ≡ last.text) (at_head : row.head ≡ last.head) (at_group : row.group ≡ last.group)

@@ -1,4 +1,5 @@
 -- Words that no clause of a public call cites: those of this crate's own functions.
+pub mod Gathered
 pub mod HeadWords
 pub mod Opened
 pub mod Outlines

@@ -24,13 +24,14 @@ pub fn read_heads(
     requires from { from ≤ length bytes.now }
     requires few { length bytes.now ≤ LONGEST_FILE }
     requires docs { docs ≤ MOST_DOCUMENTS }
-    requires small { sums.old.postings ≤ MOST_DOCUMENTS * from }
+    requires small { sums.old.postings ≤ MOST_DOCUMENTS * LONGEST_FILE }
     ensures exact { Answers (λ end. record { heads = heads_from bytes.now count from; end = end }) result
         (read_heads bytes.now docs count (GREATEST_IMPACT + 1) from) }
     ensures counted { IfOk result (λ _. All (IsCounted docs) (heads_from bytes.now count from)) }
     ensures sums { OnOk result ((heads : List HeadData) → AreSums sums.old heads
         → AreSums sums.new (heads ++ heads_from bytes.now count from)) }
-    ensures small { IfOk result (λ end. sums.new.postings ≤ MOST_DOCUMENTS * end) }
+    ensures small { IfOk result (λ end. sums.new.postings + MOST_DOCUMENTS * from
+        ≤ sums.old.postings + MOST_DOCUMENTS * end) }
     ensures place { IfOk result (λ end. end ≡ from + 11 * count) }
     ensures end { IfOk result (λ end. end ≤ length bytes.now) }
 {

@@ -1,10 +1,10 @@
-ghost use Rattle.std.specs.Prelude.{ℕ, ◌≡◌, ◌≤◌, [], List, true, length, drop, IfErr, IfOk, IfSome};
+ghost use Rattle.std.specs.Prelude.{ℕ, ◌≡◌, ◌≤◌, ◌+◌, [], List, true, length, drop, IfErr, IfOk, IfSome};
 ghost use Rattle.whole_files.specs.Windows.{AreFrom, Shows};
 ghost use Rattle.index_file.specs.Answers.{IsNotRefused};
 ghost use Rattle.index_file.specs.Contents.{IsContent, Reads, outside};
 ghost use Rattle.jass_base.specs.declared.limits.TheConstants.{LONGEST_FILE};
 
-use crate::number::{u16_at, u32_at};
+use crate::number::u32_at;
 use index_layout::OpenFault;
 use jass_base::{Cabinet, ReadStop, Row};
 use whole_files::Window;
@@ -38,44 +38,6 @@ pub(crate) fn hold_names<C: Cabinet>(
         at += 4 + u32_at(part.bytes.as_slice(), at) as usize;
     }
     if !hold(files, name, part, at, size)? {
-        return Ok(None);
-    }
-    Ok(Some(at))
-}
-
-/// Sees to it that so many terms are held with their heads, which stand at the front of a part of a file and
-/// have so many bytes at the most. Their lengths tell how many they have; none where that is more, or where the
-/// file ends before. No byte of them is checked.
-pub(crate) fn hold_terms<C: Cabinet>(
-    files: &mut C,
-    name: &str,
-    part: &mut Window,
-    count: u32,
-    most: usize,
-) -> Result<Option<usize>, OpenFault>
-    requires start { part.old.start ≤ LONGEST_FILE }
-    requires most { most ≤ LONGEST_FILE }
-    ensures held { IfOk result (λ found. IfSome found (λ end. end ≤ length part.new.bytes.items)) }
-    ensures within { IfOk result (λ found. IfSome found (λ end. end ≤ most)) }
-    ensures start { part.new.start ≡ part.old.start }
-    ensures shown { (content : List ℕ) → IsContent (C.told files.old) name.now content
-        → Shows content part.old → Shows content part.new }
-    ensures unrefused { IfErr result (λ fault. IsNotRefused fault) }
-    ensures reads { Reads (outside C.Cabinet files.old) (outside C.Cabinet files.new) name.now result }
-{
-    let mut at = 0;
-    'terms: for _ in 0..count {
-        if !hold(files, name, part, at + 4, most)? {
-            return Ok(None);
-        }
-        let size = u16_at(part.bytes.as_slice(), at + 2) as usize;
-        if !hold(files, name, part, at + 8 + size, most)? {
-            return Ok(None);
-        }
-        let heads = u32_at(part.bytes.as_slice(), at + 4 + size) as usize;
-        at += 8 + size + 11 * heads;
-    }
-    if !hold(files, name, part, at, most)? {
         return Ok(None);
     }
     Ok(Some(at))
@@ -123,6 +85,27 @@ pub(crate) fn start_over_at(part: &mut Window, start: u64)
     part.start = start;
 }
 
+/// Lets go of the first bytes of a part.
+pub(crate) fn let_go(part: &mut Window, count: usize)
+    requires count { count ≤ length part.old.bytes.items }
+    requires place { part.old.start + count ≤ LONGEST_FILE }
+    ensures start { part.new.start ≡ part.old.start + count }
+    ensures shown { (content : List ℕ) → Shows content part.old → Shows content part.new }
+{
+    drop_first(&mut part.bytes, count);
+    part.start += count as u64;
+}
+
+/// Drops the first of some bytes. The rest moves to the front of their memory.
+fn drop_first(bytes: &mut Vec<u8>, count: usize)
+    requires { count ≤ length bytes.old.items }
+    ensures { bytes.new.items ≡ drop count bytes.old.items }
+{
+    let left = bytes.len() - count;
+    bytes.copy_within(count.., 0);
+    bytes.truncate(left);
+}
+
 /// The first bytes of a part, in its memory.
 pub(crate) fn front_of(part: Window, count: usize) -> Row<u8>
     requires { count ≤ length part.bytes.items }
@@ -144,9 +127,7 @@ pub(crate) fn rest_of(bytes: Row<u8>, at: usize) -> Row<u8>
     ensures { result ≡ drop at bytes }
 {
     let mut rest = bytes.into_vec();
-    let len = rest.len() - at;
-    rest.copy_within(at.., 0);
-    rest.truncate(len);
+    drop_first(&mut rest, at);
     rest.shrink_to_fit();
     Row::from_vec(rest)
 }

@@ -10,8 +10,9 @@ ghost use Rattle.jass_base.specs.declared.limits.TheConstants.{LONGEST_FILE};
 
 use crate::file::IndexFile;
 use crate::front::{Front, check_front};
-use crate::holding::{front_of, hold, hold_names, hold_terms, start_over_at};
-use crate::outline::{Outline, first_bytes, outline_of};
+use crate::held_terms::read_held_terms;
+use crate::holding::{front_of, hold, hold_names, start_over_at};
+use crate::outline::{Outline, first_bytes, names_of};
 use crate::small::are_bytes;
 use index_layout::OpenFault;
 use index_layout::laws::files_are_read;
@@ -25,7 +26,7 @@ use whole_files::{Window, read_front};
 const MOST_BYTES: usize = LONGEST_FILE as usize + 1;
 
 /// Opens the index file with a name, or tells the first refusal. Its front is checked first. Then it is read part
-/// by part, so that it isn't held whole: the terms are let go before the payloads are read. Only a file that is
+/// by part, so that it isn't held whole: what was read of the terms is let go of on the way. Only a file that is
 /// refused behind its front is read whole, for its first refusal.
 pub fn open<C: Cabinet>(alloc: Global, files: &mut C, name: &str) -> Result<IndexFile, OpenFault>
     ensures exact { Opens (C.told files.old) name.now result }
@@ -109,8 +110,7 @@ pub(crate) struct LeadingParts {
     pub(crate) place: usize,
 }
 
-/// Reads what stands before the payloads of a file through an empty part, which then has the terms; none where it is
-/// refused.
+/// Reads what stands before the payloads of a file through an empty part; none where it is refused.
 fn open_leading<C: Cabinet>(
     alloc: Global,
     files: &mut C,
@@ -130,21 +130,23 @@ fn open_leading<C: Cabinet>(
         return Ok(None);
     };
     let names = first_bytes(alloc, part.bytes.as_slice(), names_end)?;
-    start_over_at(part, names_end as u64);
-    let left = front.size - names_end;
-    let Some(terms_size) = hold_terms(files, name, part, front.terms, left)? else {
+    let Some((places, count)) = names_of(alloc, names.as_slice(), front.size)? else {
         return Ok(None);
     };
-    let terms = &part.bytes.as_slice()[..terms_size];
-    are_bytes(terms);
-    match outline_of(alloc, names.as_slice(), terms, front.size) {
-        Ok(Some(outline)) => Ok(Some(LeadingParts {
-            names,
-            outline,
-            place: names_end + terms_size,
-        })),
-        Ok(None) => Ok(None),
-        Err(OpenFault::NoMemory) => Err(OpenFault::NoMemory),
-        Err(_) => Ok(None),
-    }
+    start_over_at(part, names_end as u64);
+    let docs = places.len() as u32;
+    let held = read_held_terms(alloc, files, name, part, docs, count, front.size)?;
+    let Some((terms, sums, place)) = held else {
+        return Ok(None);
+    };
+    Ok(Some(LeadingParts {
+        names,
+        outline: Outline {
+            places,
+            terms,
+            count,
+            sums,
+        },
+        place,
+    }))
 }

@@ -1,7 +1,7 @@
-ghost use Rattle.std.specs.Prelude.{◌≡◌, ◌≤◌, length, take, IfErr, IfOk, IfSome, IsErrOf};
+ghost use Rattle.std.specs.Prelude.{◌≡◌, ◌≤◌, length, take, IfErr, IfOk, IfSome};
 ghost use Rattle.index_layout.specs.Reading.{read_index};
 ghost use Rattle.index_layout.specs.Refusals.{Fails};
-ghost use Rattle.index_file.specs.Private.Outlines.{AreParts, IsOutline, FixesOutline, after_outline};
+ghost use Rattle.index_file.specs.Private.Outlines.{AreParts, IsOutline, FixesNames, after_outline};
 ghost use Rattle.jass_base.specs.declared.limits.TheConstants.{LONGEST_FILE, MOST_DOCUMENTS};
 
 use crate::front::read_front;
@@ -85,31 +85,30 @@ pub(crate) fn first_bytes(alloc: Global, bytes: &[u8], count: usize) -> Result<R
     }
 }
 
-/// The outline of a file of so many bytes by its front with the names and its part with the terms; or a refusal
-/// that is met in them. No outline is given where the names or the terms end before their part does.
-pub(crate) fn outline_of(
+/// Where the names of a file of so many bytes stand in its front, and how many terms the front tells; none where it is
+/// refused, or has more behind the names.
+pub(crate) fn names_of(
     alloc: Global,
     front: &[u8],
-    terms: &[u8],
     size: usize,
-) -> Result<Option<Outline>, OpenFault>
+) -> Result<Option<(Row<u32>, u32)>, OpenFault>
     requires within { length front.now ≤ size }
     requires size { size ≤ LONGEST_FILE }
-    requires few { length terms.now ≤ LONGEST_FILE }
-    ensures outline { IfOk result (λ found. IfSome found (FixesOutline front.now terms.now size)) }
-    ensures few { IfOk result (λ found. IfSome found (λ outline. length outline.places ≤ MOST_DOCUMENTS)) }
-    ensures unread { ¬ IsErrOf result OpenFault.ReadFault }
+    ensures names { IfOk result (λ found. IfSome found (λ x. FixesNames front.now size x.1 x.0)) }
+    ensures few { IfOk result (λ found. IfSome found (λ x. length x.0 ≤ MOST_DOCUMENTS)) }
+    ensures fault { IfErr result (λ fault. fault ≡ OpenFault.NoMemory) }
 {
-    let told = read_front(front, size)?;
-    let (places, names_end) = read_names(alloc, front, told.docs)?;
-    let (table, sums, terms_end) = read_terms(alloc, terms, size, told.docs, told.terms, 0)?;
-    if names_end < front.len() || terms_end < terms.len() {
+    let Ok(told) = read_front(front, size) else {
         return Ok(None);
+    };
+    match read_names(alloc, front, told.docs) {
+        Ok((places, end)) => {
+            if end < front.len() {
+                return Ok(None);
+            }
+            Ok(Some((places, told.terms)))
+        }
+        Err(OpenFault::NoMemory) => Err(OpenFault::NoMemory),
+        Err(_) => Ok(None),
     }
-    Ok(Some(Outline {
-        places,
-        terms: table,
-        count: told.terms,
-        sums,
-    }))
 }

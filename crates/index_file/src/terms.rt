@@ -7,15 +7,10 @@ ghost use Rattle.index_file.specs.Sums.{AreSums};
 ghost use Rattle.index_file.specs.Private.Tables.{AreRows, row_heads};
 ghost use Rattle.jass_base.specs.declared.limits.TheConstants.{LONGEST_FILE, MOST_DOCUMENTS};
 
-use crate::head_table::HeadTable;
-use crate::heads::read_heads;
-use crate::span::Span;
 use crate::sums::Sums;
-use crate::term::read_term;
-use crate::term_row::TermRow;
+use crate::term_reader::TermReader;
 use crate::term_table::TermTable;
 use index_layout::OpenFault;
-use jass_base::Row;
 use std::alloc::Global;
 
 /// How many bytes of terms are held for each byte of a file. A term is spelled by what differs from
@@ -49,54 +44,17 @@ pub(crate) fn read_terms(
     ensures end { IfOk result (λ x. (from ≤ x.2) × (x.2 ≤ length bytes.now)) }
 {
     let most_text = most_text(size);
-    let mut text = Row::new(alloc);
-    let mut rows = Row::new(alloc);
-    let mut heads = HeadTable::new(alloc);
-    let mut sums = Sums {
-        postings: 0,
-        greatest: 0,
-    };
-    let mut before: Option<Span> = None;
-    let mut groups = 0u32;
+    let mut reader = TermReader::new(alloc);
     let mut at = from;
     'terms: for _ in 0..count {
-        let start = text.len();
-        let head = heads.len();
-        let (place, head_count) = read_term(&mut text, before, bytes, at)?;
-        at = read_heads(&mut sums, bytes, docs, head_count, place)?;
-        if text.len() > most_text {
-            return Err(OpenFault::NoMemory);
-        }
-        match heads.append(bytes, place, head_count) {
-            Ok(()) => {}
-            Err(_) => return Err(OpenFault::NoMemory),
-        }
-        match rows.push(TermRow {
-            text: start as u32,
-            head: head as u32,
-            group: groups,
-        }) {
-            Ok(()) => {}
-            Err(_) => return Err(OpenFault::NoMemory),
-        }
-        groups += head_count.div_ceil(4);
-        before = Some(Span {
-            from: start as u32,
-            to: text.len() as u32,
-        });
+        at = reader.read_one(bytes, docs, at, most_text)?;
     }
-    match rows.push(TermRow {
-        text: text.len() as u32,
-        head: heads.len() as u32,
-        group: groups,
-    }) {
-        Ok(()) => Ok((TermTable { text, rows, heads }, sums, at)),
-        Err(_) => Err(OpenFault::NoMemory),
-    }
+    let (table, sums) = reader.finish()?;
+    Ok((table, sums, at))
 }
 
 /// How many bytes of terms are held at the most of a file of this size: fewer than 2^32.
-fn most_text(size: usize) -> usize
+pub(crate) fn most_text(size: usize) -> usize
     requires { size ≤ LONGEST_FILE }
     ensures { result < 2 ^ 32 }
 {

@@ -51,6 +51,15 @@ pub record AreParts (bytes : List ℕ) (o : Outline) (front payloads : List ℕ)
   pub few : length o.places ≤ MOST_DOCUMENTS
   pub small : All (λ byte. byte < 256) bytes
 
+-- the names are those of each file of so many bytes which begins with this front, and it has so many terms
+pub record FixesNames (front : List ℕ) (size count : ℕ) (places : List ℕ) : Type 0 where
+  pub read : (bytes : List ℕ) → length bytes ≡ size → AreFrom bytes 0 front
+      → read_front bytes ≡ Ok (record { docs = length places; terms = count })
+  pub names : read_names front (length places) 40
+      ≡ Ok (record { names = map (name_in front) places; end = length front })
+  pub before : All (EndsBefore front (length front)) places
+  pub long : 40 ≤ length front
+
 -- the tables are those of each file of so many bytes which begins with this front, and behind that with these terms
 abbrev pub FixesOutline : List ℕ → List ℕ → ℕ → Outline → Type 0
 FixesOutline front terms size o =

@@ -1,5 +1,5 @@
 -- What the tables of an opened file say of its terms and their heads.
-use Rattle.std.specs.Prelude.{ℕ, ◌≡◌, ◌+◌, ◌-◌, ◌/◌, ◌<◌, ◌≤◌, List, [], ◌∷◌, length, Option, Some, None, slice_range}
+use Rattle.std.specs.Prelude.{ℕ, ◌≡◌, ◌+◌, ◌-◌, ◌/◌, ◌<◌, ◌≤◌, List, [], ◌∷◌, ◌++◌, length, Option, Some, None, slice_range}
 use Rattle.std.specs.List.{slice_index_or}
 use Rattle.segment_codecs.specs.declared.codec.Codec.TheVariants.{Varbyte}
 use Rattle.index_layout.specs.Heads.{HeadData, TermHeads}
@@ -52,3 +52,7 @@ RowsFrom heads text a (b ∷ rows) =
 abbrev pub AreRows : List HeadData → List ℕ → List TermRow → Type 0
 AreRows heads text [] = ⊥
 AreRows heads text (a ∷ rows) = (a.text ≡ 0) × (a.head ≡ 0) × (a.group ≡ 0) × RowsFrom heads text a rows
+
+-- the rows of the terms read so far, and a last one where texts, heads and groups end
+abbrev pub closed : List TermRow → List ℕ → List HeadData → ℕ → List TermRow
+closed rows text heads groups = rows ++ record { text = length text; head = length heads; group = groups } ∷ []
