@@ -6,4 +6,3 @@ pub mod Raising
 pub mod Bits
 pub mod NearBits
 pub mod Halves
-pub mod Keeping

@@ -1,8 +1,7 @@
 -- The two words for adding a weight, and what is noted by an addition.
-use Rattle.shared_lemmas.proofs.Common.{◌≡◌, ℕ, ◌+◌, ◌-◌, ◌^◌, ◌<◌, ◌≤◌, List, [], ◌∷◌, ◌++◌, length, get_or, set, refl, sym, ap, ◌∙◌, subst, arith, length-set, get_or-set_same, All, IfSome, Option, filter, All-cons, All-get_or, All-nil}
+use Rattle.shared_lemmas.proofs.Common.{◌≡◌, ℕ, ◌+◌, ◌-◌, ◌^◌, ◌<◌, List, [], ◌∷◌, ◌++◌, length, get_or, set, sym, ap, ◌∙◌, subst, arith, length-set, get_or-set_same, All, IfSome, Option, All-cons, All-get_or, All-nil}
 use Rattle.jass_base.specs.declared.answer.Hit.{Hit}
 use Rattle.accumulator_pages.specs.Adding as pages
-use Rattle.accumulator_pages.specs.Reached.{passes}
 use Rattle.ranking_model.specs.Scores.{added, runner_up}
 use Rattle.topk_heap.specs.Noting.{AreNoted, just_behind}
 use Rattle.topk_heap.specs.Standing.{TopView, without_heap}
@@ -22,27 +21,15 @@ noted_still top top' last scores places noted k room are =
 
 -- ---- what a cut leaves
 
-pub cut_now : (top top' : TopView) (scores places noted kept : List ℕ) (last : Hit) (o : Option Hit)
-    → AreNoted top (just_behind (runner_up scores top.k)) scores places (filter (passes (just_behind (runner_up scores top.k)) scores) noted)
-    → top' ≡ top → o ≡ runner_up scores top.k → last ≡ just_behind o → kept ≡ filter (passes last scores) noted → AreNoted top' last scores places kept
-cut_now top top' scores places noted kept last o are same next behind keeps =
-    let told : last ≡ just_behind (runner_up scores top.k) = behind ∙ ap just_behind next in
-    subst (λ (t : TopView). AreNoted t last scores places kept) (sym same) (subst (λ (n : List ℕ). AreNoted top last scores places n) (sym keeps)
-    (subst (λ (h : Hit). AreNoted top h scores places (filter (passes h scores) noted)) (sym told) are))
-
-pub few_now : (k : ℕ) (scores noted kept : List ℕ) (last : Hit) (o : Option Hit) → length (filter (passes (just_behind (runner_up scores k)) scores) noted) ≤ k + 1
-    → o ≡ runner_up scores k → last ≡ just_behind o → kept ≡ filter (passes last scores) noted → length kept ≤ k + 1
-few_now k scores noted kept last o few next behind keeps =
-    let told : last ≡ just_behind (runner_up scores k) = behind ∙ ap just_behind next in
-    subst (λ (n : List ℕ). length n ≤ k + 1) (sym keeps) (subst (λ (h : Hit). length (filter (passes h scores) noted) ≤ k + 1) (sym told) few)
+pub cut_now : (top top' : TopView) (scores places kept : List ℕ) (last : Hit) (o : Option Hit) → AreNoted top (just_behind (runner_up scores top.k)) scores places kept
+    → top' ≡ top → o ≡ runner_up scores top.k → last ≡ just_behind o → AreNoted top' last scores places kept
+cut_now top top' scores places kept last o are same next behind =
+    subst (λ (t : TopView). AreNoted t last scores places kept) (sym same) (subst (λ (h : Hit). AreNoted top h scores places kept) (sym (behind ∙ ap just_behind next)) are)
 
 pub next_inside : (scores : List ℕ) (k docs n : ℕ) (o : Option Hit) → IfSome (runner_up scores k) (λ (hit : Hit). hit.doc < length scores) → o ≡ runner_up scores k → length scores ≡ n → docs ≡ n
     → IfSome o (λ (hit : Hit). hit.doc < docs)
 next_inside scores k docs n o inside next size same = subst (λ (r : Option Hit). IfSome r (λ (hit : Hit). hit.doc < docs)) (sym next)
     (subst (λ (m : ℕ). IfSome (runner_up scores k) (λ (hit : Hit). hit.doc < m)) (size ∙ sym same) inside)
-
-pub noted_inside : (top : TopView) (last : Hit) (scores places noted : List ℕ) (n : ℕ) → AreNoted top last scores places noted → length scores ≡ n → (i d : ℕ) → i < length noted → get_or noted i d < n
-noted_inside top last scores places noted n are size i d here = let inside = (are.only i d here).inside in omega (arith, inside, size)
 
 pub inside_now : (docs s : List ℕ) (n : ℕ) → length s ≡ n → All (λ doc. doc < n) docs → All (λ doc. doc < length s) docs
 inside_now docs s n size inside = subst (λ (m : ℕ). All (λ doc. doc < m) docs) (sym size) inside

@@ -169,7 +169,8 @@ impl Scores {
         }
     }
 
-    /// Cuts the notes where so many more are too many.
+    /// Cuts the notes where so many more are too many. Inlined, since each row of a bitmap asks, and hardly any cuts.
+    #[inline(always)]
     fn make_room(&mut self, pool: &FramePool, docs: usize)
         requires stand { ScoresStand self.old pool.now }
         requires block { docs ≤ 128 }
@@ -185,6 +186,7 @@ impl Scores {
 
     /// Forgets those noted that k + 1 documents rank before. Whoever comes to be at the last of these or ahead of it
     /// later is noted then.
+    #[inline(never)]
     fn cut(&mut self, pool: &FramePool)
         requires stand { ScoresStand self.old pool.now }
         ensures limit { length self.new.reached.docs + 128 ≤ self.new.limit }
@@ -194,15 +196,8 @@ impl Scores {
     {
         those_raised_are_noted();
         the_runner_up_is_a_document();
-        // The heap is of the grant before.
-        self.top.forget();
-        self.settled = false;
-        let next = self
-            .top
-            .runner_up_now(&self.pages, pool, self.reached.as_slice());
-        let last = just_behind(next, self.docs);
-        self.reached.keep_passing(&self.pages, pool, last);
-        self.last = last;
+        let next = self.top.cut(&self.pages, pool, &mut self.reached);
+        self.last = just_behind(next, self.docs);
         self.limit = self.reached.as_slice().len() + self.step;
     }
 

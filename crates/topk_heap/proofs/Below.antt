@@ -4,7 +4,6 @@ pub use Rattle.accumulator_pages.proofs.Raising.{raised-all, raised-once, raised
 pub use Rattle.accumulator_pages.proofs.Standing.{length-values, view_stays}
 pub use Rattle.accumulator_pages.specs.Adding.{added, raised, score_to_pass}
 pub use Rattle.accumulator_pages.specs.Pages.{own_chain, own_view, pages_places, pages_scores}
-pub use Rattle.accumulator_pages.specs.Reached.{passes}
 pub use Rattle.accumulator_pages.specs.declared.pages.Pages.{Pages}
 pub use Rattle.frame_pool.specs.ChainView.{ChainView, LeavesOthers, LeavesPool, view_places, view_scores}
 pub use Rattle.frame_pool.specs.Pool.{PoolView}

@@ -43,6 +43,12 @@ pass_ahead w doc score low = by (cases_lt doc w.doc) where
       let s : score < w.score + 1 = subst (λ (b : Bool). score < cond b w.score (w.score + 1)) f low in
       grind (arith, nat_tests)
 
+passes_behind : (w h : Hit) → is_gt (rank_cmp w h) ≡ true → score_to_pass w h.doc ≤ h.score
+passes_behind w h ahead_of = by (cases_lt h.score (score_to_pass w h.doc)) where
+  by : (h.score < score_to_pass w h.doc) ⊎ (score_to_pass w h.doc ≤ h.score) → score_to_pass w h.doc ≤ h.score
+  by (inr high) = high
+  by (inl low) = absurd (true≢false (sym ahead_of ∙ pass_ahead w h.doc h.score low))
+
 pub any_passes : (doc : ℕ) → score_to_pass (just_behind None) doc ≡ 1
 any_passes doc = let f : nat_lt doc 0 ≡ false = grind (arith, nat_tests) in ap (λ (b : Bool). cond {A = ℕ} b 0 (0 + 1)) f
 
@@ -133,6 +139,18 @@ module _ (scores : List ℕ) (k : ℕ) where
     by None is passes =
         let one = any_passes doc in let high = passes.passed in
         first_of_few scores (k + 1) (record { doc = doc; score = get_or scores doc 0 }) (passes.inside, omega (arith, one, high), refl) (let few = few_first scores k is in omega arith)
+
+  pub first_passes : (h : Hit) → In h (first_ranked scores (k + 1)) → Passes (just_behind (runner_up scores k)) scores h.doc
+  first_passes h there = by (runner_up scores k) refl where
+    own : Own scores h
+    own = all_at (Own scores) (first_ranked scores (k + 1)) h (first_own scores (k + 1)) there
+
+    by : (o : Option Hit) → runner_up scores k ≡ o → Passes (just_behind o) scores h.doc
+    by (Some t) is = record {
+      inside = own.0;
+      passed = omega (arith, own.2, passes_behind (just_behind (Some t)) h (all_at (λ y. is_gt (rank_cmp (just_behind (Some t)) y) ≡ true) (first_ranked scores (k + 1)) h (each_passes scores k t is) there));
+    }
+    by None is = record { inside = own.0; passed = omega (arith, own.1, own.2, any_passes h.doc) }
 
   pub some_to_pass : (doc : ℕ) → 1 ≤ score_to_pass (just_behind (runner_up scores k)) doc
   some_to_pass doc = by (runner_up scores k) refl where

@@ -1,63 +1,20 @@
 -- Documents that are noted while scores rise over a heap.
-use Rattle.shared_lemmas.proofs.Common.{◌≡◌, ◌≢◌, ℕ, suc, ◌+◌, ◌<◌, ◌≤◌, ◌==◌, Bool, true, false, cond, List, [], ◌∷◌, ◌++◌, length, map, get_or, refl, sym, ap, subst, ◌∙◌, arith, inl, inr, ◌⊎◌, eq-eqb, All, Contains, filter, AllByRecursion, cases_eq, cases_lt, leb-true, le-leb, nat_tests}
-use Rattle.shared_lemmas.proofs.Common.{length-map, length-take, All-nil, Contains-append_right, recursion_from_All, All-from_recursion, AllPairs-filter}
-use Rattle.topk_heap.proofs.Below.{Hit, added, raised, score_to_pass, passes, added-above, length-added, raised-all, raised-only, raised-once, sorted, rank_cmp, hits_from, first_ranked, runner_up}
-use Rattle.shared_lemmas.proofs.Pairs.{Pairs, pairs_by_recursion, pairs_append}
-use Rattle.shared_lemmas.proofs.Members.{In, in_from_contains, contains_from_in, all_at, all_in}
-use Rattle.shared_lemmas.proofs.Lists.{all_weaker, all_append}
+use Rattle.shared_lemmas.proofs.Common.{◌≡◌, ◌≢◌, ℕ, ◌+◌, ◌<◌, ◌≤◌, ◌==◌, false, List, [], ◌++◌, length, map, get_or, refl, sym, subst, ◌∙◌, arith, inl, inr, ◌⊎◌, eq-eqb, All, AllPairs, Contains, AllByRecursion, cases_eq, cases_lt, nat_tests}
+use Rattle.shared_lemmas.proofs.Common.{All-nil, All-permutation, Contains-append_right, Contains-permutation, IsDistinct-IsPermutation, recursion_from_All, All-from_recursion}
+use Rattle.std.proofs.lemmas.Bool.Decides.{Decides-eqb}
+use Rattle.std.proofs.lemmas.Map.Made.{AllPairs-from_IsDistinct, IsDistinct-from_AllPairs}
+use Rattle.topk_heap.proofs.Below.{Hit, added, raised, score_to_pass, added-above, length-added, raised-all, raised-only, raised-once, first_ranked, runner_up}
+use Rattle.shared_lemmas.proofs.Pairs.{pairs_by_places, pairs_by_recursion, pairs_append, pairs_map}
+use Rattle.shared_lemmas.proofs.Members.{In, in_from_contains, contains_from_in, all_in}
+use Rattle.shared_lemmas.proofs.Lists.{all_weaker, all_append, all_map}
+use Rattle.topk_heap.specs.Hits.{hit_docs}
 use Rattle.topk_heap.specs.Noting.{AreNoted, LetsPass, Passes, just_behind}
-use Rattle.topk_heap.specs.Standing.{HaveFirst, IsTouched, TopStands, TopView, with_heap}
+use Rattle.topk_heap.specs.Standing.{AreFirst, HaveFirst, IsTouched, TopStands, TopView, with_heap}
 use Rattle.topk_heap.proofs.Ahead.{more_ahead}
-use Rattle.topk_heap.proofs.Known.{lets_pass, pass_first, passed, some_to_pass}
+use Rattle.topk_heap.proofs.Known.{first_passes, lets_pass, pass_first, passed, some_to_pass}
 use Rattle.topk_heap.proofs.Lists.{in_append, in_left, in_map, in_right, pairs_index}
 use Rattle.topk_heap.proofs.Raised.{heap_has, placed_after}
-
--- ---- lists
-
-kept_is : {A : Type 0} (p : A → Bool) (x : A) (xs : List A) → In x (filter p xs) → In x xs × (p x ≡ true)
-kept_is p x [] there = absurd there
-kept_is {A} p x (y ∷ ys) there = step (p y) refl (λ k. kept_is p x ys k) there where
-  step : (b : Bool) → p y ≡ b → (In x (filter p ys) → In x ys × (p x ≡ true)) → In x (cond b (y ∷ filter p ys) (filter p ys)) → In x (y ∷ ys) × (p x ≡ true)
-  step true e later (inl same) = (inl same, ap p same ∙ e)
-  step true e later (inr k) = (inr (later k).0, (later k).1)
-  step false e later k = (inr (later k).0, (later k).1)
-
-kept_there : {A : Type 0} (p : A → Bool) (x : A) (xs : List A) → p x ≡ true → In x xs → In x (filter p xs)
-kept_there p x [] yes_it there = absurd there
-kept_there {A} p x (y ∷ ys) yes_it there = step (p y) refl (λ k. kept_there p x ys yes_it k) there where
-  step : (b : Bool) → p y ≡ b → (In x ys → In x (filter p ys)) → In x (y ∷ ys) → In x (cond b (y ∷ filter p ys) (filter p ys))
-  step true e later (inl same) = inl same
-  step true e later (inr k) = inr (later k)
-  step false e later (inl same) = cc
-  step false e later (inr k) = later k
-
-abbrev without : ℕ → List ℕ → List ℕ
-without x [] = []
-without x (y ∷ ys) = cond (x == y) ys (y ∷ without x ys)
-
-without_is_less : (x : ℕ) (ys : List ℕ) → In x ys → length ys ≡ suc (length (without x ys))
-without_is_less x [] there = absurd there
-without_is_less x (y ∷ ys) there = by (cases_eq x y) there (λ k. without_is_less x ys k) where
-  by : (x ≡ y) ⊎ (x ≡ y → ⊥) → In x (y ∷ ys) → (In x ys → length ys ≡ suc (length (without x ys))) → length (y ∷ ys) ≡ suc (length (without x (y ∷ ys)))
-  by (inl e) k later = let t : (x == y) ≡ true = eq-eqb x y e in rw t refl
-  by (inr apart) (inl e) later = absurd (apart e)
-  by (inr apart) (inr k) later = let f : (x == y) ≡ false = grind (arith, nat_tests) in rw f (ap suc (later k))
-
-still_there : (x z : ℕ) (ys : List ℕ) → x ≢ z → In z ys → In z (without x ys)
-still_there x z [] apart there = absurd there
-still_there x z (y ∷ ys) apart there = by (cases_eq x y) there (λ k. still_there x z ys apart k) where
-  by : (x ≡ y) ⊎ (x ≡ y → ⊥) → In z (y ∷ ys) → (In z ys → In z (without x ys)) → In z (without x (y ∷ ys))
-  by (inl e) (inl same) later = absurd (apart (e ∙ sym same))
-  by (inl e) (inr k) later = let t : (x == y) ≡ true = eq-eqb x y e in rw t k
-  by (inr other) (inl same) later = let f : (x == y) ≡ false = grind (arith, nat_tests) in rw f (inl same)
-  by (inr other) (inr k) later = let f : (x == y) ≡ false = grind (arith, nat_tests) in rw f (inr (later k))
-
-no_more : (xs ys : List ℕ) → Pairs (λ a b. a ≢ b) xs → ((x : ℕ) → In x xs → In x ys) → length xs ≤ length ys
-no_more [] ys apart among = omega arith
-no_more (x ∷ xs) ys apart among =
-    let rest = no_more xs (without x ys) apart.1 (λ z there. still_there x z ys (all_at (λ y. x ≢ y) xs z apart.0 there) (among z (inr there))) in
-    let less = without_is_less x ys (among x (inl refl)) in
-    omega (arith, rest, less)
+use Rattle.topk_heap.proofs.Ranking.{first_in_order, order_apart}
 
 -- ---- nobody is noted, and those noted are cut
 
@@ -80,50 +37,40 @@ noted_touched top last scores places noted are i d here =
     let passes = are.only i d here in
     (passes.inside, (let a = are.some (get_or noted i d) in let b = passes.passed in omega arith))
 
-module _ (top : TopView) (last : Hit) (scores places noted : List ℕ) (are : AreNoted top last scores places noted) where
+flips : (a b : ℕ) → (a == b) ≡ (b == a)
+flips a b = by (cases_eq a b) where
+  by : (a ≡ b) ⊎ (a ≡ b → ⊥) → (a == b) ≡ (b == a)
+  by (inl e) = eq-eqb a b e ∙ sym (eq-eqb b a (sym e))
+  by (inr apart) = let f : (a == b) ≡ false = grind (arith, nat_tests) in let g : (b == a) ≡ false = grind (arith, nat_tests) in f ∙ sym g
+
+module _ (top : TopView) (last : Hit) (scores places noted first : List ℕ) (are : AreNoted top last scores places noted) (moved : AreFirst scores (top.k + 1) first) where
   abbrev next : Hit
   next = just_behind (runner_up scores top.k)
 
-  test_says : (doc : ℕ) → passes next scores doc ≡ true → score_to_pass next doc ≤ get_or scores doc 0
-  test_says doc said = leb-true (score_to_pass next doc) (get_or scores doc 0) said
+  abbrev docs : List ℕ
+  docs = hit_docs (first_ranked scores (top.k + 1))
 
-  test_of : (doc : ℕ) → score_to_pass next doc ≤ get_or scores doc 0 → passes next scores doc ≡ true
-  test_of doc high = le-leb (score_to_pass next doc) (get_or scores doc 0) high
+  first_known : (doc : ℕ) → Passes next scores doc → Contains first doc
+  first_known doc is = Contains-permutation docs first doc moved
+      (contains_from_in docs doc (in_map (λ (h : Hit). h.doc) (record { doc = doc; score = get_or scores doc 0 }) (first_ranked scores (top.k + 1)) (pass_first scores top.k doc is)))
 
-  kept_passes : (doc : ℕ) → In doc (filter (passes next scores) noted) → Passes next scores doc
-  kept_passes doc there =
-      let is = kept_is (passes next scores) doc noted there in
-      record {
-        inside = (all_at (Passes last scores) noted doc (recursion_from_All (Passes last scores) noted are.only) is.0).inside;
-        passed = test_says doc is.1;
-      }
+  first_pass : All (Passes next scores) docs
+  first_pass = All-from_recursion (Passes next scores) docs (all_map (Passes next scores) (λ (h : Hit). h.doc) (first_ranked scores (top.k + 1))
+      (all_in (λ (h : Hit). Passes next scores h.doc) (first_ranked scores (top.k + 1)) (first_passes scores top.k)))
 
-  still_known : (doc : ℕ) → Passes next scores doc → In doc (map (λ (h : Hit). h.doc) top.hits) ⊎ In doc noted → In doc (with_heap top (filter (passes next scores) noted))
-  still_known doc is (inl k) = in_left doc (map (λ (h : Hit). h.doc) top.hits) (filter (passes next scores) noted) k
-  still_known doc is (inr k) =
-      in_right doc (map (λ (h : Hit). h.doc) top.hits) (filter (passes next scores) noted) (kept_there (passes next scores) doc noted (test_of doc is.passed) k)
+  first_once : AllPairs (λ a b. a ≢ b) docs
+  first_once = pairs_by_places (λ a b. a ≢ b) docs
+      (pairs_map (λ (a b : ℕ). a ≢ b) (λ (h : Hit). h.doc) (first_ranked scores (top.k + 1)) (order_apart (first_ranked scores (top.k + 1)) (first_in_order scores (top.k + 1))))
 
-  pub cut_noted : AreNoted top next scores places (filter (passes next scores) noted)
+  pub cut_noted : AreNoted top next scores places first
   cut_noted = record {
     placed = are.placed;
-    all = λ doc is. contains_from_in (with_heap top (filter (passes next scores) noted)) doc
-        (still_known doc is (in_append doc (map (λ (h : Hit). h.doc) top.hits) noted (in_from_contains (with_heap top noted) doc
-        (all_at (λ (h : Hit). Contains (with_heap top noted) h.doc) (first_ranked scores (top.k + 1)) (record { doc = doc; score = get_or scores doc 0 })
-        (noted_first top last scores places noted are) (pass_first scores top.k doc is)))));
-    only = λ i d here. All-from_recursion (Passes next scores) (filter (passes next scores) noted) (all_in (Passes next scores) (filter (passes next scores) noted) kept_passes) i d here;
-    once = AllPairs-filter (λ a b. a ≢ b) (passes next scores) noted are.once;
+    all = λ doc is. Contains-append_right (map (λ (h : Hit). h.doc) top.hits) first doc (first_known doc is);
+    only = All-permutation (Passes next scores) docs first moved first_pass;
+    once = AllPairs-from_IsDistinct Decides-eqb first (IsDistinct-IsPermutation (λ a b. a == b) flips docs first moved (IsDistinct-from_AllPairs Decides-eqb docs first_once));
     some = some_to_pass scores top.k;
     enough = lets_pass scores top.k;
   }
-
-  pub few_noted : length (filter (passes next scores) noted) ≤ top.k + 1
-  few_noted =
-      let most = no_more (filter (passes next scores) noted) (map (λ (h : Hit). h.doc) (first_ranked scores (top.k + 1)))
-      (pairs_by_recursion (λ a b. a ≢ b) (filter (passes next scores) noted) (AllPairs-filter (λ a b. a ≢ b) (passes next scores) noted are.once))
-      (λ doc there. in_map (λ (h : Hit). h.doc) (record { doc = doc; score = get_or scores doc 0 }) (first_ranked scores (top.k + 1)) (pass_first scores top.k doc (kept_passes doc there))) in
-      let same = length-map (first_ranked scores (top.k + 1)) (λ (h : Hit). h.doc) in
-      let size = length-take (top.k + 1) (sorted rank_cmp (hits_from 0 scores)) in
-      omega (arith, most, same, size)
 
 -- ---- scores rise
 

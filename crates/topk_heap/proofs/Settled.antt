@@ -1,14 +1,14 @@
 -- The documents of a heap and those raised beside it, settled.
 use Rattle.shared_lemmas.proofs.Common.{◌≡◌, ◌≢◌, ℕ, zero, suc, ◌+◌, ◌-◌, ◌<◌, ◌≤◌, ◌==◌, List, [], ◌∷◌, ◌++◌, length, map, take, get_or, set, Bool, true, false, refl, sym, ap, subst, ◌∙◌, arith, inl, inr, ◌⊎◌, eq-eqb, if◌then◌else◌, length-set, get_or-set_same, All, AllPairs, IsPermutation}
-use Rattle.shared_lemmas.proofs.Common.{reverse, Contains, slice_get, AllByRecursion, cases_eq, nat_tests, get_or-reverse, length-map, length-reverse, IsPermutation-reverse, take-append_seam, All-from_recursion}
+use Rattle.shared_lemmas.proofs.Common.{reverse, Contains, slice_get, AllByRecursion, cases_eq, nat_tests, get_or-reverse, length-map, length-reverse, length-take, length_permutation, IsPermutation-reverse, Option, take-append_seam, All-from_recursion}
 use Rattle.std.proofs.lemmas.List.{get_or-set_other}
 use Rattle.topk_heap.proofs.Below.{Hit, sorted, rank_cmp, first_ranked, runner_up, AreHitsOf, first_of_candidates}
 use Rattle.shared_lemmas.proofs.Pairs.{Pairs, pairs_by_recursion, pairs_append}
 use Rattle.shared_lemmas.proofs.Members.{In, in_from_contains, contains_from_in, all_at, all_in}
 use Rattle.shared_lemmas.proofs.Lists.{all_weaker, all_append, all_map}
-use Rattle.topk_heap.specs.Hits.{HitsView}
+use Rattle.topk_heap.specs.Hits.{HitsView, hit_docs}
 use Rattle.topk_heap.specs.Private.Settling.{hit_of, newcomers, rescored, with_places, without_places}
-use Rattle.topk_heap.specs.Standing.{ArePlacesOf, HoldsFirst, HaveFirst, IsPlaced, IsTouched, TopStands, TopView, top_view, with_heap, without_heap}
+use Rattle.topk_heap.specs.Standing.{AreFirst, ArePlacesOf, HoldsFirst, HaveFirst, IsPlaced, IsTouched, TopStands, TopView, top_view, with_heap, without_heap}
 use Rattle.topk_heap.specs.Private.Standing.{AreInOrder, IsTop}
 use Rattle.topk_heap.proofs.Lists.{Has, doc_cases, in_append, in_left, in_right, in_map, in_reverse, in_reversed, all_by_index, all_reversed, pairs_index}
 use Rattle.topk_heap.proofs.Ranking.{Apart, Own, first_in_order, first_own, heap_of, order_apart}
@@ -257,24 +257,42 @@ within doc n m same inside = omega arith
 pub some_still : (doc : ℕ) (old new : List ℕ) → new ≡ old → 1 ≤ get_or old doc 0 → 0 < get_or new doc 0
 some_still doc old new same some = omega (arith, some, ap (λ (s : List ℕ). get_or s doc 0) same)
 
--- ---- candidates
+-- ---- a cut
 
-pub candidates_are : (scores : List ℕ) (row xs : List Hit) → AllByRecursion (λ (h : Hit). IsTouched scores h.doc) row → xs ≡ row → (i : ℕ) (d : Hit) → i < length xs → IsTouched scores (get_or xs i d).doc
-candidates_are scores row xs touched is i d inside =
-    All-from_recursion (λ (h : Hit). IsTouched scores h.doc) xs (subst (λ (ys : List Hit). AllByRecursion (λ (h : Hit). IsTouched scores h.doc) ys) (sym is) touched) i d inside
+-- where no document has a heap place all are newcomers
+all_new : (scores docs : List ℕ) → newcomers scores [] docs ≡ map (hit_of scores) docs
+all_new scores [] = refl
+all_new scores (doc ∷ docs) = ap (λ (hits : List Hit). hit_of scores doc ∷ hits) (all_new scores docs)
 
-pub next_of : (scores places raised : List ℕ) (row seen none again gathered : List Hit) (k : ℕ) → Ready scores places raised row (k + 1) → seen ≡ row → none ≡ [] → again ≡ none ++ map (rescored scores) seen
-    → gathered ≡ again ++ newcomers scores places raised → slice_get (sorted rank_cmp gathered) k ≡ runner_up scores k
-next_of scores places raised row seen none again gathered k ready one cleared two three = sym (in_front k (sorted rank_cmp gathered) (k + 1) (omega arith))
-    ∙ ap (λ (xs : List Hit). slice_get (take (k + 1) (sorted rank_cmp xs)) k)
-    (three ∙ ap (λ (xs : List Hit). xs ++ newcomers scores places raised) (two ∙ ap (λ (xs : List Hit). xs ++ map (rescored scores) seen) cleared ∙ ap (λ (xs : List Hit). map (rescored scores) xs) one))
-    ∙ ap (λ (xs : List Hit). slice_get xs k) (settled scores places raised row (k + 1) ready.touched ready.apart ready.had ready.known ready.once ready.have)
-  where
-    in_front : (i : ℕ) (xs : List Hit) (n : ℕ) → i < n → slice_get (take n xs) i ≡ slice_get xs i
-    in_front i [] n below = none_there n i where
-      none_there : (n i : ℕ) → slice_get {X = Hit} (take n []) i ≡ slice_get {X = Hit} [] i
-      none_there zero i = refl
-      none_there (suc n) i = refl
-    in_front i (x ∷ xs) zero below = absurd (omega arith)
-    in_front zero (x ∷ xs) (suc n) below = refl
-    in_front (suc i) (x ∷ xs) (suc n) below = in_front i xs n (omega arith)
+in_front : (i : ℕ) (xs : List Hit) (n : ℕ) → i < n → slice_get (take n xs) i ≡ slice_get xs i
+in_front i [] n below = none_there n i where
+  none_there : (n i : ℕ) → slice_get {X = Hit} (take n []) i ≡ slice_get {X = Hit} [] i
+  none_there zero i = refl
+  none_there (suc n) i = refl
+in_front i (x ∷ xs) zero below = absurd (omega arith)
+in_front zero (x ∷ xs) (suc n) below = refl
+in_front (suc i) (x ∷ xs) (suc n) below = in_front i xs n (omega arith)
+
+pub noted_within : (scores noted seen : List ℕ) (n : ℕ) → All (IsTouched scores) noted → seen ≡ noted → length scores ≡ n → All (λ doc. doc < n) seen
+noted_within scores noted seen n known same size = subst (λ (xs : List ℕ). All (λ doc. doc < n) xs) (sym same) (λ i d here. within _ _ _ size (known i d here).0)
+
+module _ (scores noted : List ℕ) {seen : List ℕ} (top : TopView) (none gathered : List Hit) (k : ℕ) (known : All (IsTouched scores) noted) (once : AllPairs (λ a b. a ≢ b) noted) (have : HaveFirst scores (top.k + 1) noted)
+    (seen_is : seen ≡ noted) (cleared : none ≡ []) (is : gathered ≡ none ++ map (hit_of scores) seen) (same : k ≡ top.k) where
+  vacant : ArePlacesOf [] []
+  vacant = record { inside = λ i inside. absurd (omega (arith, inside)); outside = λ doc others. refl }
+
+  first_gathered : take (k + 1) (sorted rank_cmp gathered) ≡ first_ranked scores (k + 1)
+  first_gathered =
+      ap (λ (xs : List Hit). take (k + 1) (sorted rank_cmp xs)) (is ∙ ap (λ (xs : List Hit). xs ++ map (hit_of scores) seen) cleared ∙ ap (map (hit_of scores)) seen_is ∙ sym (all_new scores noted))
+      ∙ settled scores [] noted [] (k + 1) tt tt vacant (all_by_index (λ d. IsTouched scores d) 0 noted (λ i inside. known i 0 inside)) (pairs_by_recursion (λ a b. a ≢ b) noted once)
+      (subst (λ n. HaveFirst scores (n + 1) noted) (sym same) have)
+
+  pub next_gathered : (o : Option Hit) → o ≡ slice_get (sorted rank_cmp gathered) k → o ≡ runner_up scores top.k
+  next_gathered o told = told ∙ sym (in_front k (sorted rank_cmp gathered) (k + 1) (omega arith)) ∙ ap (λ (xs : List Hit). slice_get xs k) first_gathered ∙ ap (runner_up scores) same
+
+  pub docs_gathered : (docs : List ℕ) → IsPermutation (hit_docs (take (k + 1) (sorted rank_cmp gathered))) docs → AreFirst scores (top.k + 1) docs
+  docs_gathered docs moved = subst (λ n. AreFirst scores (n + 1) docs) same (subst (λ (xs : List Hit). IsPermutation (hit_docs xs) docs) first_gathered moved)
+
+  pub few_gathered : (docs : List ℕ) → IsPermutation (hit_docs (take (k + 1) (sorted rank_cmp gathered))) docs → length docs ≤ top.k + 1
+  few_gathered docs moved =
+      omega (arith, same, length_permutation (hit_docs (take (k + 1) (sorted rank_cmp gathered))) docs moved, length-map (take (k + 1) (sorted rank_cmp gathered)) (λ (h : Hit). h.doc), length-take (k + 1) (sorted rank_cmp gathered))

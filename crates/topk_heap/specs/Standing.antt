@@ -1,10 +1,10 @@
 -- The first documents of some scores in a heap, the last of them in front. Heaps: J. W. J. Williams, Algorithm 232 (CACM 1964).
-use Rattle.std.specs.Prelude.{◌≡◌, ◌≢◌, ℕ, ◌+◌, ◌-◌, ◌/◌, ◌<◌, ◌≤◌, true, List, [], ◌++◌, length, map, reverse, slice_index, IsPermutation, Contains}
+use Rattle.std.specs.Prelude.{◌≡◌, ◌≢◌, ℕ, ◌+◌, ◌-◌, ◌/◌, ◌<◌, ◌≤◌, true, List, [], ◌++◌, length, reverse, slice_index, IsPermutation, Contains}
 use Rattle.std.specs.List.{AllByRecursion}
 use Rattle.std.specs.Ordering.{is_gt}
 use Rattle.jass_base.specs.declared.answer.Hit.{Hit}
 use Rattle.ranking_model.specs.Scores.{rank_cmp, first_ranked}
-use Rattle.topk_heap.specs.Hits.{HitsView, hit_at}
+use Rattle.topk_heap.specs.Hits.{HitsView, hit_docs, hit_at}
 
 -- how many documents are asked for, the heap, and how many raised documents there is room for at a time
 pub record TopView : Type 0 where
@@ -54,8 +54,12 @@ pub record IsPlaced (top : TopView) (scores places : List ℕ) : Type 0 where
 
 -- the documents of the heap, and some others
 abbrev pub with_heap : TopView → List ℕ → List ℕ
-with_heap top docs = map (λ (hit : Hit). hit.doc) top.hits ++ docs
+with_heap top docs = hit_docs top.hits ++ docs
 
 -- the first m documents of some scores are among these
 abbrev pub HaveFirst : List ℕ → ℕ → List ℕ → Type 0
 HaveFirst scores m docs = AllByRecursion (λ hit. Contains docs hit.doc) (first_ranked scores m)
+
+-- these are the first m documents of some scores, in whatever order
+abbrev pub AreFirst : List ℕ → ℕ → List ℕ → Type 0
+AreFirst scores m docs = IsPermutation (hit_docs (first_ranked scores m)) docs

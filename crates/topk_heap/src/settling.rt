@@ -3,7 +3,7 @@
 ghost use Rattle.std.specs.Prelude.{◌≡◌, ◌==◌, ◌+◌, ◌<◌, ◌≤◌, ◌++◌, All, IsTrue, length, map, slice_index};
 ghost use Rattle.accumulator_pages.specs.Pages.{Stands, docs_of, pages_places, pages_scores};
 ghost use Rattle.topk_heap.specs.Places.{KeepsScores};
-ghost use Rattle.topk_heap.specs.Private.Settling.{IsVacant, newcomers, rescored, with_places, without_places};
+ghost use Rattle.topk_heap.specs.Private.Settling.{IsVacant, hit_of, newcomers, rescored, with_places, without_places};
 
 use crate::candidates::Candidates;
 use crate::hits::Hits;
@@ -56,46 +56,18 @@ fn is_outside(pages: &Pages, pool: &FramePool, doc: u32) -> bool
     pages.heap_place(pool, doc) == 0
 }
 
-/// Puts hits behind the candidates, each with the score that its document has now.
-pub fn add_rescored(candidates: &mut Candidates, pages: &Pages, pool: &FramePool, hits: &[Hit])
+/// Puts documents behind the candidates, each with the score that it has now.
+pub fn add_noted(candidates: &mut Candidates, pages: &Pages, pool: &FramePool, noted: &[u32])
     requires stands { Stands pages.now pool.now }
-    requires inside { All (λ hit. hit.doc < docs_of pages.now) hits.now }
-    requires room { length candidates.old.hits + length hits.now ≤ candidates.old.room }
+    requires inside { All (λ doc. doc < docs_of pages.now) noted.now }
+    requires room { length candidates.old.hits + length noted.now ≤ candidates.old.room }
     ensures hits { candidates.new.hits
-        ≡ candidates.old.hits ++ map (rescored (pages_scores pages.now pool.now)) hits.now }
+        ≡ candidates.old.hits ++ map (hit_of (pages_scores pages.now pool.now)) noted.now }
     ensures room { candidates.new.room ≡ candidates.old.room }
 {
-    for hit in hits {
-        let score = pages.get(pool, hit.doc);
-        candidates.push(Hit {
-            doc: hit.doc,
-            score,
-        });
-    }
-}
-
-/// Puts the raised documents that have no heap place behind the candidates. `vacant` tells that no document has one.
-pub fn add_raised(
-    candidates: &mut Candidates,
-    pages: &Pages,
-    pool: &FramePool,
-    raised: &[u32],
-    vacant: bool,
-)
-    requires stands { Stands pages.now pool.now }
-    requires inside { All (λ doc. doc < docs_of pages.now) raised.now }
-    requires touched { All (λ doc. 0 < slice_index (pages_scores pages.now pool.now) doc) raised.now }
-    requires vacant { IsTrue vacant → IsVacant (pages_places pages.now pool.now) }
-    requires room { length candidates.old.hits + length raised.now ≤ candidates.old.room }
-    ensures hits { candidates.new.hits ≡ candidates.old.hits
-        ++ newcomers (pages_scores pages.now pool.now) (pages_places pages.now pool.now) raised.now }
-    ensures room { candidates.new.room ≡ candidates.old.room }
-{
-    for doc in raised {
-        if vacant || is_outside(pages, pool, *doc) {
-            let score = pages.get(pool, *doc);
-            candidates.push(Hit { doc: *doc, score });
-        }
+    for doc in noted {
+        let score = pages.get(pool, *doc);
+        candidates.push(Hit { doc: *doc, score });
     }
 }
 

@@ -4,14 +4,14 @@ ghost use Rattle.ranking_model.specs.Scores.{first_ranked, runner_up};
 ghost use Rattle.topk_heap.specs.Hits.{hit_at};
 ghost use Rattle.topk_heap.specs.Noting.{just_behind};
 ghost use Rattle.topk_heap.specs.Places.{KeepsScores};
-ghost use Rattle.topk_heap.specs.Standing.{HaveFirst, HoldsFirst, IsPlaced, IsTouched, TopStands};
+ghost use Rattle.topk_heap.specs.Standing.{AreFirst, HaveFirst, HoldsFirst, IsPlaced, IsTouched, TopStands};
 ghost use Rattle.topk_heap.specs.Standing.{with_heap, without_heap};
 ghost use Rattle.jass_base.specs.declared.limits.TheConstants.{MOST_HITS};
 
 use crate::candidates::Candidates;
 use crate::hits::Hits;
-use crate::settling::{add_raised, add_rescored, clear_places, gather, rescore, set_places};
-use accumulator_pages::Pages;
+use crate::settling::{add_noted, clear_places, gather, rescore, set_places};
+use accumulator_pages::{Pages, Reached};
 use frame_pool::FramePool;
 use jass_base::{Hit, NoMemory};
 use std::alloc::Global;
@@ -83,13 +83,6 @@ impl Top {
         set_places(pages, pool, self.hits.as_slice());
     }
 
-    /// Forgets the heap. Heap places stay as they are, so one that was settled can't be settled again after this.
-    pub fn forget(&mut self)
-        ensures { self.new ≡ without_heap self.old }
-    {
-        self.hits.clear();
-    }
-
     /// Makes the heap anew of noted documents, for a session none of whose documents has a heap place; none gets one.
     /// The first k + 1 documents are among those noted.
     pub fn rank(&mut self, pages: &Pages, pool: &FramePool, noted: &[u32])
@@ -128,23 +121,23 @@ impl Top {
         self.hits.as_slice().get(self.k as usize).copied()
     }
 
-    /// The document after the first k by the scores that documents have now, as `settle` would tell it. What is seen
-    /// of the heap stays.
-    pub fn runner_up_now(&mut self, pages: &Pages, pool: &FramePool, raised: &[u32]) -> Option<Hit>
+    /// Keeps of the noted documents the first k + 1 by the scores that they have now, in no stated order, and answers
+    /// the document after the first k. The first k + 1 documents are among those noted. What is seen of the heap stays.
+    pub fn cut(&mut self, pages: &Pages, pool: &FramePool, noted: &mut Reached) -> Option<Hit>
         requires pages { Stands pages.now pool.now }
-        requires placed { IsPlaced self.old (pages_scores pages.now pool.now) (pages_places pages.now pool.now) }
-        requires touched { All (IsTouched (pages_scores pages.now pool.now)) raised.now }
-        requires once { AllPairs (λ a b. a ≢ b) raised.now }
-        requires first { HaveFirst (pages_scores pages.now pool.now) (self.old.k + 1) (with_heap self.old raised.now) }
-        requires room { length raised.now ≤ self.old.room }
+        requires touched { All (IsTouched (pages_scores pages.now pool.now)) noted.old.docs }
+        requires once { AllPairs (λ a b. a ≢ b) noted.old.docs }
+        requires first { HaveFirst (pages_scores pages.now pool.now) (self.old.k + 1) noted.old.docs }
+        requires room { noted.old.room ≤ self.old.room }
         ensures next { result ≡ runner_up (pages_scores pages.now pool.now) self.old.k }
+        ensures first { AreFirst (pages_scores pages.now pool.now) (self.old.k + 1) noted.new.docs }
+        ensures few { length noted.new.docs ≤ self.old.k + 1 }
+        ensures notes { noted.new.room ≡ noted.old.room }
         ensures same { self.new ≡ self.old }
     {
         self.candidates.clear();
-        add_rescored(&mut self.candidates, pages, pool, self.hits.as_slice());
-        let vacant = self.hits.len() == 0;
-        add_raised(&mut self.candidates, pages, pool, raised, vacant);
-        self.candidates.select(self.k as usize)
+        add_noted(&mut self.candidates, pages, pool, noted.as_slice());
+        self.candidates.select(self.k as usize, noted)
     }
 }
 

@@ -15,6 +15,10 @@ rank_key hit = (4294967295 - hit.score) * 4294967296 + hit.doc
 abbrev pub hit_of_key : ℕ → Hit
 hit_of_key key = record { doc = key % 4294967296; score = 4294967295 - key / 4294967296 }
 
+-- the document of the hit that is sorted by a number
+abbrev pub doc_of_key : ℕ → ℕ
+doc_of_key key = key % 4294967296
+
 -- the hits that are sorted by some numbers, with room for so many
 abbrev pub keys_view : List ℕ → ℕ → HitsView
 keys_view keys room = record { hits = map hit_of_key keys; room = room }
