@@ -1,10 +1,8 @@
-ghost use Rattle.std.specs.Prelude.{◌≡◌, ◌+◌, ◌≤◌, ◌<◌, [], ◌∷◌, ◌++◌, length, decimal, drop};
+ghost use Rattle.std.specs.Prelude.{◌≡◌, ◌+◌, ◌≤◌, ◌<◌, [], ◌∷◌, ◌++◌, codes, length, decimal, drop};
 ghost use Rattle.gathered_text.specs.declared.buffer.TheConstants.{PIECE, ROOM};
 
-use crate::copying::copy_text;
-use crate::digit_count::{digit_count, three_digits};
-use crate::short_text::{self, ShortText};
-use itoa::write_digits;
+use crate::parts::{put_byte, put_number, put_short, put_text};
+use crate::short_text::ShortText;
 use std::marker::Model;
 
 /// The size of the pieces that go to a sink. Where they begin at multiples of it, no page of a file is written in two
@@ -99,9 +97,7 @@ impl Buffer {
         requires { length self.old + length bytes.now ≤ ROOM }
         ensures { self.new ≡ self.old ++ bytes.now }
     {
-        let end = self.len + bytes.len();
-        copy_text(&mut self.bytes[self.len..end], bytes);
-        self.len = end;
+        self.len = put_text(&mut self.bytes, self.len, bytes);
     }
 
     /// Puts a byte for which there is room behind the others.
@@ -109,48 +105,24 @@ impl Buffer {
         requires { length self.old < ROOM }
         ensures { self.new ≡ self.old ++ byte ∷ [] }
     {
-        self.bytes[self.len] = byte;
-        self.len += 1;
+        self.len = put_byte(&mut self.bytes, self.len, byte);
     }
 
-    /// Puts a short text behind the others. Its whole row is copied, and has to find room. Inlined, so that a loop over
-    /// lines holds the row in registers.
+    /// Puts a line's parts behind the others: a short text, a text, a blank, a number and a short text. The length is
+    /// stored once, since each store of it would have to be waited for. Beside the text it has to find room for 149
+    /// bytes: two rows of 64, a blank and 20 digits.
     #[inline(always)]
-    pub fn push_short(&mut self, text: &ShortText)
-        requires { length self.old + 64 ≤ ROOM }
-        ensures text { self.new ≡ self.old ++ text.now }
-        ensures few { length self.new ≤ length self.old + 64 }
+    pub fn push_line(&mut self, front: &ShortText, text: &[u8], number: u64, ending: &ShortText)
+        requires { length self.old + length text.now + 149 ≤ ROOM }
+        ensures line { self.new ≡ self.old ++ (front.now ++ (text.now ++ (codes " "
+            ++ (decimal number ++ ending.now)))) }
+        ensures few { length self.new ≤ length self.old + length text.now + 149 }
     {
-        self.bytes[self.len..self.len + short_text::ROOM].copy_from_slice(text.row());
-        self.len += text.len();
-    }
-
-    /// Puts the digits of a number behind the others.
-    #[inline(always)]
-    pub fn push_number(&mut self, number: u64)
-        requires { length self.old + 20 ≤ ROOM }
-        ensures text { self.new ≡ self.old ++ decimal number }
-        ensures few { length self.new ≤ length self.old + 20 }
-    {
-        // Most ranks have three digits.
-        if number < 100 || number >= 1000 {
-            self.push_digits(number);
-            return;
-        }
-        let end = self.len + 3;
-        self.bytes[self.len..end].copy_from_slice(&three_digits(number));
-        self.len = end;
-    }
-
-    /// The same for a number of any size.
-    #[inline(never)]
-    fn push_digits(&mut self, number: u64)
-        requires { length self.old + 20 ≤ ROOM }
-        ensures text { self.new ≡ self.old ++ decimal number }
-        ensures few { length self.new ≤ length self.old + 20 }
-    {
-        let end = self.len + digit_count(number);
-        write_digits(number, &mut self.bytes, end);
-        self.len = end;
+        let room = &mut self.bytes;
+        let named = put_short(room, self.len, front);
+        let parted = put_text(room, named, text);
+        let numbered = put_byte(room, parted, b' ');
+        let ended = put_number(room, numbered, number);
+        self.len = put_short(room, ended, ending);
     }
 }

@@ -7,6 +7,7 @@ mod buffer;
 mod copying;
 mod digit_count;
 mod gather;
+mod parts;
 mod short_text;
 
 pub use buffer::Buffer;

@@ -1,12 +1,13 @@
-ghost use Rattle.std.specs.Prelude.{◌≡◌, ◌+◌, ◌≤◌, [], ◌++◌, length, take};
+ghost use Rattle.std.specs.Prelude.{◌≡◌, ◌+◌, ◌≤◌, [], ◌++◌, codes, decimal, length, take};
 
+use crate::parts::{put_byte, put_number, put_text};
 use std::marker::Model;
 
 /// The most bytes of a short text.
-pub const ROOM: usize = 64;
+const ROOM: usize = 64;
 
-/// A text of few bytes in a row of fixed size, which is copied as a whole: such a copy takes a few moves and no call.
-/// Contracts see it as its list.
+/// A text of few bytes in a row of fixed size, of which the half or all is copied: such a copy takes a few moves and no
+/// call. Contracts see it as its list.
 #[derive(Drop)]
 pub struct ShortText {
     bytes: [u8; ROOM],
@@ -33,7 +34,7 @@ impl ShortText {
         }
     }
 
-    pub fn len(&self) -> usize
+    pub(crate) fn len(&self) -> usize
         ensures count { result ≡ length self.now }
         ensures few { result ≤ 64 }
     {
@@ -41,7 +42,7 @@ impl ShortText {
     }
 
     /// The text and the rest of its row.
-    pub fn row(&self) -> &[u8; ROOM]
+    pub(crate) fn row(&self) -> &[u8; ROOM]
         ensures { take (length self.now) result.now ≡ self.now }
     {
         &self.bytes
@@ -52,8 +53,18 @@ impl ShortText {
         requires { length self.old + length bytes.now ≤ 64 }
         ensures { self.new ≡ self.old ++ bytes.now }
     {
-        let end = self.len + bytes.len();
-        self.bytes[self.len..end].copy_from_slice(bytes);
-        self.len = end;
+        self.len = put_text(&mut self.bytes, self.len, bytes);
+    }
+
+    /// Becomes a blank, a number and a text of at most 53 bytes. The row is written where it stands, and not cleared before.
+    #[inline(always)]
+    pub fn set_numbered(&mut self, number: u32, text: &ShortText)
+        requires { length text.now ≤ 53 }
+        ensures { self.new ≡ codes " " ++ (decimal number ++ text.now) }
+    {
+        let row = &mut self.bytes;
+        let at = put_byte(row, 0, b' ');
+        let numbered = put_number(row, at, u64::from(number));
+        self.len = put_text(row, numbered, &text.row()[..text.len()]);
     }
 }

@@ -1,4 +1,5 @@
 pub mod Lines
+pub mod Named
 pub mod Parts
 pub mod Reading
 pub mod Accepting

@@ -1,15 +1,14 @@
 //! The run lines of a few hits.
 
-ghost use Rattle.std.specs.Prelude.{ℕ, ◌≡◌, ◌+◌, ◌*◌, ◌<◌, ◌≤◌, ◌^◌, ◌++◌, [], length, All, IfSome, List};
-ghost use Rattle.std.specs.List.{slice_index_or};
+ghost use Rattle.std.specs.Prelude.{ℕ, ◌≡◌, ◌+◌, ◌*◌, ◌<◌, ◌≤◌, ◌^◌, ◌++◌, [], length, map, All, IfSome, List};
 ghost use Rattle.jass_base.specs.declared.answer.Hit.{Hit};
 ghost use Rattle.ranking_model.specs.Report.{run_lines};
-ghost use Rattle.trec_run.specs.Private.Columns.{IsFrame, whole_tag};
+ghost use Rattle.trec_run.specs.Private.Columns.{IsFrame, names_of, whole_tag};
 ghost use Rattle.gathered_text.specs.Gathering.{Gathers};
 ghost use Rattle.gathered_text.specs.declared.buffer.TheConstants.{ROOM};
 
 use crate::frame::Frame;
-use crate::line::{SHORT, SHORT_LINE, Shared, gather_line, push_line};
+use crate::line::{SHORT, SHORT_LINE, Shared, gather_line};
 use gathered_text::{Buffer, make_room};
 use jass_base::{Hit, Names, Sink, WriteFault};
 
@@ -37,48 +36,52 @@ pub fn gather_block<S: Sink, N: Names>(
     let Some(frame) = frame else {
         return gather_each(out, buffer, shared, index, hits, first);
     };
-    // Names are seldom in a cache. All are looked up before a line is written, since the loads then overlap.
-    if longest_name(index, hits) > SHORT {
+    // Names are seldom in a cache. Each is looked up once, and all before a line is written: the loads then overlap.
+    let mut row: [&[u8]; BLOCK] = [&[]; BLOCK];
+    let names = &mut row[..hits.len()];
+    if look_up(index, hits, names) > SHORT {
         return gather_each(out, buffer, shared, index, hits, first);
     }
     make_room(out, buffer, BLOCK * SHORT_LINE)?;
-    push_each(buffer, frame, index, hits, first);
+    push_each(buffer, frame, hits, names, first);
     Ok(())
 }
 
-/// The bytes of the longest name of some hits.
-fn longest_name<N: Names>(index: &N, hits: &[Hit]) -> usize
-    requires { All (λ (hit : Hit). hit.doc < length (N.names index.now)) hits.now }
-    ensures { All (λ (hit : Hit). length (slice_index_or (N.names index.now) hit.doc []) ≤ result) hits.now }
+/// Writes the name of each hit at its place, and answers the bytes of the longest.
+fn look_up<'a, N: Names>(index: &'a N, hits: &[Hit], names: &mut [&'a [u8]]) -> usize
+    requires docs { All (λ (hit : Hit). hit.doc < length (N.names index.now)) hits.now }
+    requires places { length names.old ≡ length hits.now }
+    ensures names { map (λ name. name.now) names.new ≡ names_of (N.names index.now) hits.now }
+    ensures longest { All (λ name. length name.now ≤ result) names.new }
 {
     let mut longest = 0;
-    for hit in hits {
-        longest = longest.max(index.name(hit.doc).len());
+    for i in 0..hits.len() {
+        let name = index.name(hits[i].doc).as_bytes();
+        longest = longest.max(name.len());
+        names[i] = name;
     }
     longest
 }
 
-/// Puts run lines with this frame, for which there is room behind what was gathered. The frame is then ended for the
-/// lines of the last hit's score.
-fn push_each<N: Names>(buffer: &mut Buffer, frame: &mut Frame, index: &N, hits: &[Hit], first: u64)
-    requires docs { All (λ (hit : Hit). hit.doc < length (N.names index.now)) hits.now }
-    requires names { All (λ (hit : Hit). length (slice_index_or (N.names index.now) hit.doc []) ≤ 128) hits.now }
+/// Puts run lines with this frame and these names, for which there is room behind what was gathered. The frame is then
+/// ended for the lines of the last hit's score.
+fn push_each(buffer: &mut Buffer, frame: &mut Frame, hits: &[Hit], names: &[&[u8]], first: u64)
+    requires places { length names.now ≡ length hits.now }
+    requires lengths { All (λ name. length name.now ≤ 128) names.now }
     requires few { length hits.now ≤ 16 }
     requires ranks { first + length hits.now < 2 ^ 64 }
     requires room { length buffer.old + 16 * 1024 ≤ ROOM }
     requires short { length frame.old.tail ≤ 53 }
     ensures frame { (id tag : List ℕ) → IsFrame frame.old id tag → IsFrame frame.new id tag }
-    ensures lines { (id tag : List ℕ) → IsFrame frame.old id tag
-        → buffer.new ≡ buffer.old ++ run_lines (N.names index.now) id tag first hits.now }
+    ensures lines { (all : List (List ℕ)) (id tag : List ℕ) → map (λ name. name.now) names.now ≡ names_of all hits.now
+        → IsFrame frame.old id tag → buffer.new ≡ buffer.old ++ run_lines all id tag first hits.now }
 {
-    let mut rank = first;
-    for hit in hits {
-        let name = index.name(hit.doc).as_bytes();
-        if hit.score != frame.score {
-            frame.end_with(hit.score);
+    for i in 0..hits.len() {
+        let score = hits[i].score;
+        if score != frame.score {
+            frame.end_with(score);
         }
-        push_line(buffer, frame, name, rank);
-        rank += 1;
+        buffer.push_line(&frame.front, names[i], first + i as u64, &frame.ending);
     }
 }
 

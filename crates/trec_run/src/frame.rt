@@ -3,7 +3,6 @@ ghost use Rattle.trec_run.specs.Private.Columns.{AreShort, IsFrame, front_of, ta
 
 use crate::line::Shared;
 use gathered_text::ShortText;
-use itoa::Buffer as Digits;
 
 /// What the run lines of an answer have before the name, and behind the rank. Most lines have the score of the line
 /// before, so that what stands behind the rank is put together once for the lines of a score.
@@ -25,7 +24,7 @@ impl Frame {
         ensures front { self.new.front ≡ self.old.front }
         ensures tail { self.new.tail ≡ self.old.tail }
     {
-        self.ending = ending_of(score, &self.tail);
+        self.ending.set_numbered(score, &self.tail);
         self.score = score;
     }
 }
@@ -52,11 +51,8 @@ fn ending_of(score: u32, tail: &ShortText) -> ShortText
     requires { length tail.now ≤ 53 }
     ensures { result ≡ codes " " ++ (decimal score ++ tail.now) }
 {
-    let mut digits = Digits::new();
     let mut ending = ShortText::new();
-    ending.push(b" ");
-    ending.push(digits.format(score).as_bytes());
-    ending.push(&tail.row()[..tail.len()]);
+    ending.set_numbered(score, tail);
     ending
 }
 

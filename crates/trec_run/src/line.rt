@@ -1,10 +1,8 @@
-ghost use Rattle.std.specs.Prelude.{◌≡◌, ◌+◌, ◌≤◌, ◌++◌, codes, decimal, length, IsTrue};
+ghost use Rattle.std.specs.Prelude.{IsTrue};
 ghost use Rattle.ranking_model.specs.Report.{run_line};
 ghost use Rattle.gathered_text.specs.Gathering.{Gathers};
 ghost use Rattle.trec_run.specs.Private.Columns.{AreShort, whole_tag};
-ghost use Rattle.gathered_text.specs.declared.buffer.TheConstants.{ROOM};
 
-use crate::frame::Frame;
 use gathered_text::{Buffer, gather_all};
 use itoa::Buffer as Digits;
 use jass_base::{Sink, WriteFault};
@@ -18,7 +16,7 @@ const SHORT_ID: usize = 60;
 /// The most bytes of the tag, with its point and its part, in such a line.
 const SHORT_TAG: usize = 51;
 
-/// The room that such a line needs at the most.
+/// The room that is asked for such a line, of which it needs 277 bytes at the most.
 pub const SHORT_LINE: usize = 1024;
 
 /// The columns that the run lines of an answer share; the tag has a point and a part behind it, or two texts without
@@ -39,21 +37,6 @@ impl<'a> Shared<'a> {
         let tag = self.tag.len().saturating_add(self.point.len());
         self.id.len() <= SHORT_ID && tag.saturating_add(self.part.len()) <= SHORT_TAG
     }
-}
-
-/// Puts a run line for which there is room behind what was gathered. Its score is that of the frame's ending.
-pub fn push_line(buffer: &mut Buffer, frame: &Frame, name: &[u8], rank: u64)
-    requires name { length name.now ≤ 128 }
-    requires room { length buffer.old + 1024 ≤ ROOM }
-    ensures line { buffer.new ≡ buffer.old ++ (frame.now.front ++ (name.now ++ (codes " "
-        ++ (decimal rank ++ frame.now.ending)))) }
-    ensures few { length buffer.new ≤ length buffer.old + 1024 }
-{
-    buffer.push_short(&frame.front);
-    buffer.push(name);
-    buffer.push(b" ");
-    buffer.push_number(rank);
-    buffer.push_short(&frame.ending);
 }
 
 /// Gathers a run line piece by piece.

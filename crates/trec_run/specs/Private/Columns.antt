@@ -1,5 +1,7 @@
 -- What the run lines of an answer share.
-use Rattle.std.specs.Prelude.{ℕ, ◌≡◌, ◌+◌, ◌≤◌, List, ◌++◌, codes, decimal, length}
+use Rattle.std.specs.Prelude.{ℕ, ◌≡◌, ◌+◌, ◌≤◌, List, ◌++◌, codes, decimal, length, map, []}
+use Rattle.std.specs.List.{slice_index_or}
+use Rattle.jass_base.specs.declared.answer.Hit.{Hit}
 use Rattle.trec_run.specs.declared.frame.Frame.{Frame}
 use Rattle.trec_run.specs.declared.line.Shared.{Shared}
 
@@ -26,3 +28,7 @@ pub record IsFrame (frame : Frame) (id tag : List ℕ) : Type 0 where
   pub tail : frame.tail ≡ tail_of tag
   pub short : length frame.tail ≤ 53
   pub ending : frame.ending ≡ codes " " ++ (decimal frame.score ++ frame.tail)
+
+-- the names of some hits
+abbrev pub names_of : List (List ℕ) → List Hit → List (List ℕ)
+names_of names hits = map (λ hit. slice_index_or names hit.doc []) hits
