@@ -5,6 +5,10 @@ ghost use Rattle.std.specs.Prelude.{ℕ, ◌≡◌, ◌↔◌, ◌<◌, ◌≤�
 ghost use Rattle.std.specs.List.Sorted.{IsStrictlyIncreasing};
 ghost use Rattle.jass_base.specs.Gaps.{GapSpelling, gaps_from, docs_from, spelled_gaps, gap_in, read_gaps};
 ghost use Rattle.jass_base.specs.Wire.{IsShortVarint, short_varint};
+ghost use Rattle.jass_base.specs.declared.limits.TheConstants.{GREATEST_IMPACT, LONGEST_FILE, LONGEST_FILE_NAME, LONGEST_LINE};
+ghost use Rattle.jass_base.specs.declared.limits.TheConstants.{LONGEST_NAME, LONGEST_OLD_NAME, LONGEST_QUERY_FILE, LONGEST_TERM};
+ghost use Rattle.jass_base.specs.declared.limits.TheConstants.{MOST_DOCUMENTS, MOST_FRAMES, MOST_HITS, MOST_POSTINGS, MOST_QUERY_TERMS};
+ghost use Rattle.jass_base.specs.declared.limits.TheConstants.{MOST_TERMS, MOST_TERM_WORDS, MOST_TIMES, MOST_TRIAL};
 
 /// `short_varint` is the one shortest varint of a number of 64 bits.
 pub fn shortest_varints_are_one()
@@ -68,4 +72,25 @@ pub fn spelled_gaps_are_read()
         → All (λ doc. least ≤ doc) docs }
     ensures below { (d least count : ℕ) (docs bytes : List ℕ) → read_gaps d least count bytes ≡ Ok docs
         → All (λ doc. doc < d) docs }
+{}
+
+/// The limits of collections, index files, queries, pools of frames, trials and the command line.
+pub fn the_limits_are()
+    ensures terms { MOST_TERMS ≡ 16777216 }
+    ensures documents { MOST_DOCUMENTS ≡ 67108864 }
+    ensures postings { MOST_POSTINGS ≡ 536870912 }
+    ensures term { LONGEST_TERM ≡ 65535 }
+    ensures name { LONGEST_NAME ≡ 1048576 }
+    ensures old_name { LONGEST_OLD_NAME ≡ 65535 }
+    ensures impact { GREATEST_IMPACT ≡ 65535 }
+    ensures file { LONGEST_FILE ≡ 4294967296 }
+    ensures query_terms { MOST_QUERY_TERMS ≡ 256 }
+    ensures times { MOST_TIMES ≡ 255 }
+    ensures hits { MOST_HITS ≡ 100000 }
+    ensures line { LONGEST_LINE ≡ 1048576 }
+    ensures query_file { LONGEST_QUERY_FILE ≡ 268435456 }
+    ensures frames { MOST_FRAMES ≡ 1048576 }
+    ensures trial { MOST_TRIAL ≡ 1048576 }
+    ensures term_words { MOST_TERM_WORDS ≡ 255 }
+    ensures file_name { LONGEST_FILE_NAME ≡ 4096 }
 {}

@@ -22,6 +22,7 @@ ghost use Rattle.session_desk.specs.Replies.{desk_after, desk_refusal, desk_repl
 ghost use Rattle.session_desk.specs.Replies.{opening, plan_of_session, refusal_line, scored_prefix, session_report};
 ghost use Rattle.session_desk.specs.State.{DeskState, OpenSession, granted_more, new_state, session_named};
 ghost use Rattle.session_desk.specs.Turns.{desk_postings, replies_from, sessions_from, steps_from};
+ghost use Rattle.session_desk.specs.declared.desk_limits.TheConstants.{LONGEST_SESSION_NAME, MOST_SESSIONS};
 
 use final_certificate::laws::a_prefix_has_one_report;
 use index_model::laws::the_flat_list_is_flat;
@@ -172,3 +173,9 @@ pub fn grants_pay_for_the_steps()
     the_prefix_is_the_longest();
     a_prefix_is_resumed();
 }
+
+/// The limits of a desk.
+pub fn the_limits_of_a_desk_are()
+    ensures sessions { MOST_SESSIONS ≡ 64 }
+    ensures name { LONGEST_SESSION_NAME ≡ 32 }
+{}

@@ -6,6 +6,7 @@ ghost use Rattle.weights.specs.declared.quantizing.Bits.{Bits};
 ghost use Rattle.weights.specs.declared.quantizing.Range.{Range};
 ghost use Rattle.weights.specs.Weighting.{saturated};
 ghost use Rattle.weights.specs.Quantizing.{range_of, IsInRange, impact_of};
+ghost use Rattle.weights.specs.declared.impact_limit.TheConstants.{GREATEST_IMPACT};
 
 /// BM25 rises with the term frequency, and falls where a document slows its growth further.
 pub fn bm25_follows_frequencies()
@@ -30,4 +31,9 @@ pub fn ranges_end_at_weights()
         → Contains weights (range_of weights).least }
     ensures greatest { (weights : List ℕ) → 0 < length weights → Contains weights (range_of weights).greatest }
     ensures any_order { (weights others : List ℕ) → IsPermutation weights others → range_of weights ≡ range_of others }
+{}
+
+/// The limit of impacts.
+pub fn the_greatest_impact_is()
+    ensures impact { GREATEST_IMPACT ≡ 65535 }
 {}
