@@ -5,7 +5,7 @@ use Rattle.std.proofs.Common.{length-append}
 use Rattle.jass_base.specs.declared.answer.Budget.{Budget}
 use Rattle.jass_words.specs.Numbers.{IsBudget}
 use Rattle.jass_words.specs.Spelled.{Spell}
-use Rattle.jass_words.specs.Searching.{AreBudgets}
+use Rattle.jass_words.specs.Options.{AreBudgets}
 use Rattle.jass_words.proofs.Spelling.{as_many, spelled_more, none_spelled}
 
 abbrev pub parts_of : List ℕ → List (List ℕ)

@@ -1,12 +1,13 @@
 mod Below
+pub mod Bad
+pub mod Loops
+pub mod Tables
 pub mod Spelling
 pub mod Commas
-pub mod Keys
-pub mod SearchKeys
-pub mod Parts
-pub mod Beginnings
+pub mod Settings
 pub mod Limits
-pub mod Serving
+pub mod Forms
+pub mod Faults
+pub mod Alone
 pub mod Short
-pub mod Sizes
 pub mod Terms

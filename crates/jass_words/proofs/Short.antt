@@ -1,14 +1,19 @@
 -- Words that begin a command are short.
-use Rattle.shared_lemmas.proofs.Common.{◌≡◌, ℕ, suc, ◌≤◌, Bool, true, false, List, [], ◌∷◌, ◌++◌, length, Some, None, sym, ap, subst, eqb, ◌*◌, ◌+◌, ◌∙◌, arith, if◌then◌else◌, codes, ◌&&◌, nat_le, nat_lt, ◌^◌, is_ascii_digit, AllByRecursion, list_all, slice_split, join_with_byte}
+use Rattle.shared_lemmas.proofs.Common.{◌≡◌, ℕ, suc, ◌≤◌, Bool, true, false, List, [], ◌∷◌, ◌++◌, length, Some, None, sym, ap, subst, eqb, ◌*◌, ◌+◌, ◌∙◌, arith, if◌then◌else◌, ◌&&◌, nat_le, nat_lt, ◌^◌, is_ascii_digit, AllByRecursion, list_all, slice_split, join_with_byte}
 use Rattle.shared_lemmas.proofs.Common.{join_with_byte-slice_split, digits_value, leb-true, recursion_from_All}
 use Rattle.std.proofs.Common.{length-append}
 use Rattle.jass_words.proofs.Below.{is_decimal, decimal_of, Budget, Rule, Tf, Bm25, Bits, Raw, Of, Mode, Plain, Folded}
 use Rattle.jass_base.specs.declared.answer.Budget.TheVariants as budgets
-use Rattle.jass_words.specs.Options.{OptionData, Weights, Width, IsRule, IsBits, IsOption, AreOptions}
-use Rattle.jass_words.specs.Words.{CommandData, Once, Rewrite, Import, Check, Export, Migrate, Search, Serve, Trial, Help, Version, IsTerm, IsCommand, IsBegun}
+use Rattle.jass_words.specs.declared.keys.Key.{Key}
+use Rattle.jass_words.specs.declared.keys.Key.TheVariants as keys
+use Rattle.jass_words.specs.declared.names.Name.{Name}
+use Rattle.jass_words.specs.declared.names.Name.TheVariants as names
 use Rattle.jass_words.specs.Numbers.{IsBudget}
+use Rattle.jass_words.specs.Options.{Said, OptionData, AreBudgets, IsMode, IsRule, IsBits, IsValue, IsOption, key_text}
+use Rattle.jass_words.specs.Slots.{Slot, File, Number, Postings, Value, Values, Says, files_with, Tail, Ends, Terms, May, Must, Extra, IsTail, IsForm, IsTerm}
 use Rattle.jass_words.specs.Spelled.{Spell}
-use Rattle.jass_words.specs.Searching.{SearchData, Hits, Limits, Tag, Reading, AreBudgets, IsMode, IsSearchOption}
+use Rattle.jass_words.specs.Table.{word_of, slots_of, tail_of}
+use Rattle.jass_words.specs.Words.{IsBegun}
 
 -- the second of four facts
 second : (a b c d : Bool) → (a && b && c && d) ≡ true → b ≡ true
@@ -25,34 +30,6 @@ few_digits word k is = at (is_decimal word) (λ i. is_decimal word) is
         let few : nat_le (length word) 20 ≡ true = second (nat_le 1 (length word)) (nat_le (length word) 20) (list_all is_ascii_digit word) (nat_lt (digits_value 10 word) (2 ^ 64)) same in
         let fits : length word ≤ 20 = leb-true (length word) 20 few in
         fits
-
-short_decimal : (word : List ℕ) (k : ℕ) → decimal_of word ≡ Some k → length word ≤ 65535
-short_decimal word k is = omega (arith, few_digits word k is)
-
-short_budget : (word : List ℕ) (budget : Budget) → IsBudget word budget → length word ≤ 65535
-short_budget word (budgets.Postings n) is = short_decimal word n is
-short_budget word budgets.All is = (let size : length word ≡ 3 = ap length is in omega (arith, size))
-
-short_rule : (value : List ℕ) (rule : Rule) → IsRule value rule → length value ≤ 20
-short_rule value Tf is = (let size : length value ≡ 2 = ap length is in omega (arith, size))
-short_rule value Bm25 is = (let size : length value ≡ 4 = ap length is in omega (arith, size))
-
-short_bits : (value : List ℕ) (bits : Bits) → IsBits value bits → length value ≤ 20
-short_bits value Raw is = (let size : length value ≡ 3 = ap length is in omega (arith, size))
-short_bits value (Of bits) is = few_digits value bits is.0
-
-short_option : (word : List ℕ) (option : OptionData) → IsOption word option → length word ≤ 65535
-short_option word (Weights rule) is =
-    let size : length word ≡ 8 + length is.0 = ap length is.1 ∙ length-append (codes "weights=") is.0 in
-    omega (arith, size, short_rule is.0 rule is.2)
-short_option word (Width bits) is =
-    let size : length word ≡ 5 + length is.0 = ap length is.1 ∙ length-append (codes "bits=") is.0 in
-    omega (arith, size, short_bits is.0 bits is.2)
-
-short_options : (words : List (List ℕ)) (options : List OptionData) → AreOptions words options → AllByRecursion IsTerm words
-short_options [] options are = tt
-short_options (w ∷ words) [] are = absurd are
-short_options (w ∷ words) (o ∷ options) are = (short_option w o are.0, short_options words options are.1)
 
 few_budget : (word : List ℕ) (budget : Budget) → IsBudget word budget → length word ≤ 20
 few_budget word (budgets.Postings n) is = few_digits word n is
@@ -75,50 +52,65 @@ short_limits value limits are =
     let same : length (join_with_byte 44 (slice_split (λ b. eqb b 44) value)) ≡ length value = ap length (join_with_byte-slice_split 44 value) in
     omega (arith, rest, same, are.few)
 
-short_mode : (value : List ℕ) (mode : Mode) → IsMode value mode → length value ≤ 20
+short_mode : (value : List ℕ) (mode : Mode) → IsMode value mode → length value ≤ 65000
 short_mode value Plain is = (let size : length value ≡ 5 = ap length is in omega (arith, size))
 short_mode value Folded is = (let size : length value ≡ 6 = ap length is in omega (arith, size))
 
-short_search_option : (word : List ℕ) (option : SearchData) → IsSearchOption word option → length word ≤ 65535
-short_search_option word (Hits k) is = let size : length word ≡ suc (suc (length is.0)) = ap length is.1 in omega (arith, size, few_digits is.0 k is.2.decimal)
-short_search_option word (Limits limits) is =
-    let size : length word ≡ suc (suc (suc (suc (suc (suc (suc (length is.0))))))) = ap length is.1 in
-    omega (arith, size, short_limits is.0 limits is.2)
-short_search_option word (Tag tag) is =
-    let size : length word ≡ suc (suc (suc (suc (length is.0)))) = ap length is.1 in
-    let same : length is.0 ≡ length tag = ap length is.2.0 in
-    omega (arith, size, same, is.2.1.fits)
-short_search_option word (Reading mode) is =
-    let size : length word ≡ suc (suc (suc (suc (suc (length is.0))))) = ap length is.1 in
-    omega (arith, size, short_mode is.0 mode is.2)
+short_rule : (value : List ℕ) (rule : Rule) → IsRule value rule → length value ≤ 65000
+short_rule value Tf is = (let size : length value ≡ 2 = ap length is in omega (arith, size))
+short_rule value Bm25 is = (let size : length value ≡ 4 = ap length is in omega (arith, size))
 
-short_search : (words : List (List ℕ)) (options : List SearchData) → Spell IsSearchOption words options → AllByRecursion IsTerm words
-short_search [] options are = tt
-short_search (w ∷ words) [] are = absurd are
-short_search (w ∷ words) (o ∷ options) are = (short_search_option w o are.0, short_search words options are.1)
+short_bits : (value : List ℕ) (bits : Bits) → IsBits value bits → length value ≤ 65000
+short_bits value Raw is = (let size : length value ≡ 3 = ap length is in omega (arith, size))
+short_bits value (Of bits) is = omega (arith, few_digits value bits is.0)
 
-short_command : (words : List (List ℕ)) (command : CommandData) → IsCommand words command → AllByRecursion IsTerm words
-short_command words (Once ciff k budget terms) is = subst (AllByRecursion IsTerm) (sym is.parts)
-    (omega arith, (omega (arith, is.file.fits), (short_decimal is.count k is.counted.decimal, (short_budget is.limit budget is.limited, recursion_from_All IsTerm terms is.named.each))))
-short_command words (Rewrite from to) is = subst (AllByRecursion IsTerm) (sym is.parts) (omega arith, (omega (arith, is.read.fits), (omega (arith, is.written.fits), tt)))
-short_command words (Export from to) is = subst (AllByRecursion IsTerm) (sym is.parts) (omega arith, (omega (arith, is.read.fits), (omega (arith, is.written.fits), tt)))
-short_command words (Migrate from to) is = subst (AllByRecursion IsTerm) (sym is.parts) (omega arith, (omega (arith, is.read.fits), (omega (arith, is.written.fits), tt)))
-short_command words (Check index) is = subst (AllByRecursion IsTerm) (sym is.parts) (omega arith, (omega (arith, is.file.fits), tt))
-short_command words (Import ciff index rule bits) is = subst (AllByRecursion IsTerm) (sym is.files.parts)
-    (omega arith, (omega (arith, is.files.read.fits), (omega (arith, is.files.written.fits), short_options is.more is.options is.spelled)))
-short_command words (Search index queries run k limits tag mode) is = subst (AllByRecursion IsTerm) (sym is.files.parts)
-    (omega arith, (omega (arith, is.files.read.fits), (omega (arith, is.files.written.fits), (omega (arith, is.output.fits), short_search is.more is.options is.spelled))))
-short_command words (Serve index frames) is =
-    let size = ap length is.shared.parts in
-    subst (AllByRecursion IsTerm) (sym is.parts) (omega arith, (omega (arith, is.file.fits), (omega (arith, size, few_digits is.shared.count frames is.shared.counted.decimal), tt)))
-short_command words (Trial seed docs terms queries) is = subst (AllByRecursion IsTerm) (sym is.parts)
-    (omega arith, (short_decimal is.first seed is.seeded.decimal, (short_decimal is.second docs is.sized.decimal, (short_decimal is.third terms is.named.decimal, (short_decimal is.fourth queries is.asked.decimal, tt)))))
-short_command words Help is = subst (AllByRecursion IsTerm) (sym is.parts) (omega arith, tt)
-short_command words Version is = subst (AllByRecursion IsTerm) (sym is.parts) (omega arith, tt)
+short_value : (key : Key) (value : List ℕ) (said : Said key) → IsValue key value said → length value ≤ 65000
+short_value keys.Hits value k is = omega (arith, few_digits value k is.decimal)
+short_value keys.Limits value limits is = short_limits value limits is
+short_value keys.Tag value tag is = (let same : length value ≡ length tag = ap length is.0 in omega (arith, same, is.1.fits))
+short_value keys.Reading value mode is = short_mode value mode is
+short_value keys.Weights value rule is = short_rule value rule is
+short_value keys.Width value bits is = short_bits value bits is
+short_value keys.Frames value frames is = omega (arith, few_digits value frames is.decimal)
+
+short_key : (key : Key) → length (key_text key) ≤ 500
+short_key keys.Hits = omega arith
+short_key key = omega arith
+
+short_option : (word : List ℕ) (option : OptionData) → IsOption word option → IsTerm word
+short_option word option is =
+    let size : length word ≡ length (key_text option.key) + suc (length is.value) = ap length is.parts ∙ length-append (key_text option.key) (61 ∷ is.value) in
+    omega (arith, size, short_key option.key, short_value option.key is.value option.said is.says)
+
+short_options : (words : List (List ℕ)) (options : List OptionData) → Spell IsOption words options → AllByRecursion IsTerm words
+short_options [] options are = tt
+short_options (w ∷ words) [] are = absurd are
+short_options (w ∷ words) (o ∷ options) are = (short_option w o are.0, short_options words options are.1)
+
+short_tail : (tail : Tail) (words : List (List ℕ)) (extra : Extra tail) → IsTail tail words extra → AllByRecursion IsTerm words
+short_tail Ends words extra is = subst (AllByRecursion IsTerm) (sym is) tt
+short_tail Terms words terms is = subst (AllByRecursion IsTerm) (sym is.0) (recursion_from_All IsTerm terms is.1.each)
+short_tail (May allowed) words options are = short_options words options are.spelled
+short_tail (Must key) words said (word, is, says) = subst (AllByRecursion IsTerm) (sym is) (short_option word (record { key = key; said = said }) says, tt)
+
+short_slot : (slot : Slot) (before : List (List ℕ)) (word : List ℕ) (value : Value slot) → Says slot before word value → IsTerm word
+short_slot File before word file is = (let size : length word ≤ 4096 = is.1.fits in omega (arith, size))
+short_slot (Number least most) before word n is = omega (arith, few_digits word n is.decimal)
+short_slot Postings before word budget is = omega (arith, few_budget word budget is)
+
+short_form : (slots : List Slot) (tail : Tail) (before words : List (List ℕ)) (values : Values slots) (extra : Extra tail) → IsForm slots tail before words values extra → AllByRecursion IsTerm words
+short_form [] tail before words values extra is = short_tail tail words extra is
+short_form (slot ∷ slots) tail before [] values extra is = tt
+short_form (slot ∷ slots) tail before (word ∷ words) values extra is = (short_slot slot before word values.0 is.0, short_form slots tail (files_with slot values.0 before) words values.1 extra is.1)
+
+short_name : (name : Name) → IsTerm (word_of name)
+short_name names.Once = omega arith
+short_name name = omega arith
 
 front : (words rest : List (List ℕ)) → AllByRecursion IsTerm (words ++ rest) → AllByRecursion IsTerm words
 front [] rest all = tt
 front (w ∷ words) rest all = (all.0, front words rest all.1)
 
 pub short_words : (words : List (List ℕ)) → IsBegun words → AllByRecursion IsTerm words
-short_words words (rest, command, is) = front words rest (short_command (words ++ rest) command is)
+short_words words (rest, command, is) = front words rest (subst (AllByRecursion IsTerm) (sym is.parts)
+    (short_name is.name, short_form (slots_of is.name) (tail_of is.name) [] is.behind is.values is.extra is.form))

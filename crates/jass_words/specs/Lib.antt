@@ -1,7 +1,10 @@
 pub mod Commands
+pub mod Grants
 pub mod Numbers
 pub mod Options
-pub mod Searching
+pub mod Slots
 pub mod Spelled
+pub mod Table
+pub mod Widths
 pub mod Words
 pub mod Private

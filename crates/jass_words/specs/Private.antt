@@ -1,4 +1,3 @@
 -- Words that no clause of a public call cites: those of this crate's own functions.
+pub mod Faults
 pub mod Reading
-pub mod Options
-pub mod Files

@@ -1,7 +1,9 @@
 ghost use Rattle.std.specs.Prelude.{◌≡◌, ◌≤◌, ◌++◌, ◌∷◌, [], IfSome, None, length};
 ghost use Rattle.jass_base.specs.declared.answer.Budget.TheVariants.{All};
+ghost use Rattle.jass_words.specs.Grants.{granted};
 ghost use Rattle.jass_words.specs.declared.word_limits.TheConstants.{MOST_BUDGETS};
 
+use crate::grants::Grants;
 use crate::word_limits::MOST_BUDGETS;
 use jass_base::Budget;
 use std::marker::Model;
@@ -75,10 +77,15 @@ impl Budgets {
         })
     }
 
-    pub fn as_slice(&self) -> &[Budget]
-        ensures items { result.now ≡ self.now }
-        ensures few { length result.now ≤ MOST_BUDGETS }
+    /// These budgets as they are granted.
+    pub fn grants(self) -> Grants
+        requires { 1 ≤ length self }
+        ensures { granted result ≡ self }
     {
-        &self.items[..self.count]
+        let items = self.items;
+        Grants {
+            items,
+            count: self.count,
+        }
     }
 }

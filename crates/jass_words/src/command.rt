@@ -1,4 +1,11 @@
-use crate::budgets::Budgets;
+ghost use Rattle.std.specs.Prelude.{◌≢◌, ◌≤◌, length};
+ghost use Rattle.jass_base.specs.declared.limits.TheConstants.{MOST_FRAMES, MOST_HITS, MOST_TERM_WORDS};
+ghost use Rattle.weights.specs.Quantizing.{IsImpactWidth};
+ghost use Rattle.jass_words.specs.Options.{IsTag};
+ghost use Rattle.jass_words.specs.Widths.{IsImpactWidth-prop};
+ghost use Rattle.jass_words.specs.Words.{IsTrialSize};
+
+use crate::grants::Grants;
 use jass_base::Budget;
 use query_reader::Mode;
 use weights::{Bits, Rule};
@@ -6,79 +13,107 @@ use weights::{Bits, Rule};
 /// A command, with what its words say.
 #[derive(Clone, Copy)]
 pub enum Command<'a> {
-    /// `once CIFF K BUDGET TERM..`: answers a query of words over a CIFF file.
-    Once {
-        ciff: &'a str,
-        /// 1 to 100,000 hits.
-        k: u32,
-        budget: Budget,
-        /// 1 to 255 terms of at most 65,535 bytes, each as it stands.
-        terms: &'a [String],
-    },
-    /// `rewrite FROM TO`: writes a CIFF file anew in the canonical spelling.
+    /// Answers a query of words over a CIFF file.
+    Once(Once<'a>),
+    /// Writes a CIFF file anew in the canonical spelling.
     Rewrite {
         from: &'a str,
         to: &'a str,
     },
-    /// `import CIFF INDEX [weights=RULE] [bits=BITS]`: makes an index file of a CIFF file.
-    Import {
-        ciff: &'a str,
-        index: &'a str,
-        /// `tf` where no option says otherwise.
-        rule: Rule,
-        /// `raw` where no option says otherwise.
-        bits: Bits,
-    },
-    /// `check INDEX`: prints the totals of an index file, each byte of which is checked.
+    /// Makes an index file of a CIFF file.
+    Import(Import<'a>),
+    /// Prints the totals of an index file, each byte of which is checked.
     Check {
         index: &'a str,
     },
-    /// `export INDEX CIFF`: writes a CIFF file with the impacts of an index as term frequencies.
+    /// Writes a CIFF file with the impacts of an index as term frequencies.
     Export {
         index: &'a str,
         ciff: &'a str,
     },
-    /// `migrate OLD NEW`: writes an index file of version 1 in version 2.
+    /// Writes an index file of version 1 in version 2.
     Migrate {
         from: &'a str,
         to: &'a str,
     },
-    /// `search INDEX QUERIES RUN [k=K] [budget=BUDGET,..] [tag=TAG] [mode=MODE]`: answers the
-    /// queries of a file over an index file, once for each budget, and writes a run file.
+    /// Answers the queries of a file over an index file, once for each budget, and writes a run
+    /// file.
     Search {
         index: &'a str,
         queries: &'a str,
         run: &'a str,
-        /// 1 to 100,000 hits; 1,000 where no option says otherwise.
-        k: u32,
         /// 1 to 16; `all` alone where no option says otherwise.
-        budgets: Budgets,
-        /// 1 to 64 visible ASCII characters; `jass` where no option says otherwise.
-        tag: &'a str,
-        /// `plain` where no option says otherwise.
-        mode: Mode,
+        budgets: Grants,
+        asked: Asked<'a>,
     },
-    /// `serve INDEX frames=FRAMES`: answers the lines of the input at a desk of sessions over an
-    /// index file.
-    Serve {
-        index: &'a str,
-        /// 1 to 1,048,576.
-        frames: u32,
-    },
-    /// `trial SEED DOCS TERMS QUERIES`: makes a collection and its index in memory, searches it,
-    /// and prints a summary.
-    Trial {
-        /// Below 2^31.
-        seed: u32,
-        /// 1 to 1,048,576.
-        docs: u32,
-        /// 1 to 1,048,576.
-        terms: u32,
-        /// At most 10,000.
-        queries: u32,
-    },
-    /// `--help`: prints the commands, the statuses and where the documents are.
+    /// Answers the lines of the input at a desk of sessions over an index file.
+    Serve(Serve<'a>),
+    /// Makes a collection and its index in memory, searches it, and prints a summary.
+    Trial(Trial),
+    /// Prints the commands, the statuses and where the documents are.
     Help,
-    /// `--version`: prints the program's name and version.
+    /// Prints the program's name and version.
     Version,
+}
+
+/// `once CIFF K BUDGET TERM..`.
+#[derive(Clone, Copy)]
+pub struct Once<'a> {
+    pub ciff: &'a str,
+    /// 1 to 100,000 hits.
+    pub k: u32,
+    pub budget: Budget,
+    /// 1 to 255 terms of at most 65,535 bytes, each as it stands.
+    pub terms: &'a [String],
+    pub ghost hits: { (1 ≤ k) × (k ≤ MOST_HITS) },
+    pub ghost few_terms: { length terms.now ≤ MOST_TERM_WORDS },
+}
+
+/// `import CIFF INDEX [weights=RULE] [bits=BITS]`.
+#[derive(Clone, Copy)]
+pub struct Import<'a> {
+    pub ciff: &'a str,
+    pub index: &'a str,
+    /// `tf` where no option says otherwise.
+    pub rule: Rule,
+    /// `raw` where no option says otherwise.
+    pub bits: Bits,
+    pub ghost width: { IsImpactWidth bits } by { IsImpactWidth-prop bits },
+    pub ghost apart: { ciff.now ≢ index.now },
+}
+
+/// What `search INDEX QUERIES RUN [k=K] [budget=BUDGET,..] [tag=TAG] [mode=MODE]` asks of each query, beside its budgets.
+#[derive(Clone, Copy)]
+pub struct Asked<'a> {
+    /// 1 to 100,000 hits; 1,000 where no option says otherwise.
+    pub k: u32,
+    /// 1 to 64 visible ASCII characters; `jass` where no option says otherwise.
+    pub tag: &'a str,
+    /// `plain` where no option says otherwise.
+    pub mode: Mode,
+    pub ghost hits: { (1 ≤ k) × (k ≤ MOST_HITS) },
+    pub ghost tagged: { IsTag tag.now },
+}
+
+/// `serve INDEX frames=FRAMES`.
+#[derive(Clone, Copy)]
+pub struct Serve<'a> {
+    pub index: &'a str,
+    /// 1 to 1,048,576.
+    pub frames: u32,
+    pub ghost shared: { (1 ≤ frames) × (frames ≤ MOST_FRAMES) },
+}
+
+/// `trial SEED DOCS TERMS QUERIES`.
+#[derive(Clone, Copy)]
+pub struct Trial {
+    /// Below 2^31.
+    pub seed: u32,
+    /// 1 to 1,048,576.
+    pub docs: u32,
+    /// 1 to 1,048,576.
+    pub terms: u32,
+    /// At most 10,000.
+    pub queries: u32,
+    pub ghost size: { IsTrialSize seed docs terms queries },
 }

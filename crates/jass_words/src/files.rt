@@ -1,42 +1,19 @@
-ghost use Rattle.std.specs.Prelude.{ℕ, ◌≡◌, Some, List, [], IfOk, IfErr, slice_get};
-ghost use Rattle.jass_words.specs.Words.{texts, HasFiles, IsBadWord};
-ghost use Rattle.jass_words.specs.Private.Files.{TakesFiles, TakesTwoFiles};
+ghost use Rattle.jass_words.specs.Words.{texts};
+ghost use Rattle.jass_words.specs.Private.Reading.{ReadsFiles};
 
-use crate::reading::WordFault;
-use crate::slots::file_at;
+use crate::slots::{file_at, read_end};
+use crate::word_fault::WordFault;
 
-/// The two files behind a command's name, which differ as texts.
+/// Reads two files, which differ as texts, and nothing behind them.
 pub fn read_files<'a>(words: &'a [String]) -> Result<(&'a str, &'a str), WordFault>
-    ensures files { (name : List ℕ) → slice_get (texts words.now) 0 ≡ Some name
-        → IfOk result (λ f. (more : List (List ℕ)) × HasFiles name (texts words.now) f.0.now f.1.now more) }
-    ensures bad_word { (name : List ℕ) → slice_get (texts words.now) 0 ≡ Some name → TakesFiles name
-        → IfErr result (λ fault. IsBadWord (texts words.now) fault.which) }
+    ensures { ReadsFiles (texts words.now) result }
 {
-    let Some(from) = file_at(words, 1) else {
+    let Some(from) = file_at(words, 1, &[]) else {
         return Err(WordFault { which: 2 });
     };
-    let Some(to) = file_at(words, 2) else {
+    let Some(to) = file_at(words, 2, &[from]) else {
         return Err(WordFault { which: 3 });
     };
-    if from == to {
-        return Err(WordFault { which: 3 });
-    }
-    Ok((from, to))
-}
-
-/// The two files behind a command's name, where nothing else may stand behind them.
-pub fn read_two_files<'a>(words: &'a [String]) -> Result<(&'a str, &'a str), WordFault>
-    ensures files { (name : List ℕ) → slice_get (texts words.now) 0 ≡ Some name
-        → IfOk result (λ f. HasFiles name (texts words.now) f.0.now f.1.now []) }
-    ensures bad_word { (name : List ℕ) → slice_get (texts words.now) 0 ≡ Some name → TakesTwoFiles name
-        → IfErr result (λ fault. IsBadWord (texts words.now) fault.which) }
-{
-    let (from, to) = match read_files(words) {
-        Ok(files) => files,
-        Err(fault) => return Err(fault),
-    };
-    if words.len() > 3 {
-        return Err(WordFault { which: 4 });
-    }
+    read_end(words, 3)?;
     Ok((from, to))
 }

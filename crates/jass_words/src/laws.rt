@@ -2,11 +2,12 @@
 
 ghost use Rattle.std.specs.Prelude.{ℕ, ◌≡◌, ◌≤◌, List, length};
 ghost use Rattle.std.specs.List.{AllByRecursion};
-ghost use Rattle.jass_base.specs.declared.answer.Budget.{Budget};
-ghost use Rattle.query_reader.specs.declared.mode.Mode.{Mode};
-ghost use Rattle.jass_words.specs.Searching.{IsWithinLimits};
-ghost use Rattle.jass_words.specs.Words.{CommandData, Search, Trial, IsCommand, IsBegun, IsTrialSize};
+ghost use Rattle.jass_words.specs.Words.{CommandData, IsCommand, IsBegun};
 ghost use Rattle.jass_base.specs.declared.limits.TheConstants.{LONGEST_TERM};
+ghost use Rattle.jass_words.specs.declared.names.TheConstants.{NAMES};
+ghost use Rattle.jass_words.specs.declared.word_limits.TheConstants.{LONGEST_TAG, MOST_BITS, MOST_BUDGETS};
+ghost use Rattle.jass_words.specs.declared.word_limits.TheConstants.{MOST_QUERIES, MOST_SEED, MOST_TAKEN};
+ghost use Rattle.jass_words.specs.Table.{all_names};
 
 /// Words are one command at most.
 pub fn words_are_one_command()
@@ -20,16 +21,17 @@ pub fn a_command_has_short_words()
     ensures { (words : List (List ℕ)) → IsBegun words → AllByRecursion (λ word. length word ≤ LONGEST_TERM) words }
 {}
 
-/// The numbers of a trial are within their limits.
-pub fn a_trial_is_within_limits()
-    ensures { (words : List (List ℕ)) (seed docs terms queries : ℕ)
-        → IsCommand words (Trial seed docs terms queries) → IsTrialSize seed docs terms queries }
+/// The table's rows stand in the order of the help text.
+pub fn the_rows_are()
+    ensures { NAMES ≡ all_names }
 {}
 
-/// A search asks for 1 to 100,000 hits under 1 to 16 budgets with a tag, whether options say so or
-/// not.
-pub fn a_search_is_within_limits()
-    ensures { (words : List (List ℕ)) (index queries run : List ℕ) (k : ℕ) (limits : List Budget)
-        (tag : List ℕ) (mode : Mode) → IsCommand words (Search index queries run k limits tag mode)
-        → IsWithinLimits k limits tag }
+/// The limits of the words in numerals.
+pub fn the_word_limits_are()
+    ensures budgets { MOST_BUDGETS ≡ 16 }
+    ensures bits { MOST_BITS ≡ 16 }
+    ensures tag { LONGEST_TAG ≡ 64 }
+    ensures seed { MOST_SEED ≡ 2147483647 }
+    ensures queries { MOST_QUERIES ≡ 10000 }
+    ensures taken { MOST_TAKEN ≡ 1073741824 }
 {}

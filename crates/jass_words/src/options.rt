@@ -1,116 +1,137 @@
-ghost use Rattle.std.specs.Prelude.{ℕ, ◌≡◌, ◌≢◌, ◌++◌, ◌∷◌, [], List, None, IfSome, MatchOption};
-ghost use Rattle.weights.specs.declared.weighting.Rule.{Rule};
-ghost use Rattle.weights.specs.declared.quantizing.Bits.{Bits};
-ghost use Rattle.jass_words.specs.Private.Reading.{option_data};
-ghost use Rattle.jass_words.specs.Options.{OptionData, AreOptions, HaveKeysOnce, IsBits, IsOption, IsRule};
-ghost use Rattle.jass_words.specs.Private.Options.{Seen};
+ghost use Rattle.std.specs.Prelude.{◌≡◌, ◌≤◌, ◌↔◌, ◌++◌, ◌∷◌, [], List, ℕ, None, false, IfOk, IfErr, IfSome, drop, length};
+ghost use Rattle.jass_words.specs.declared.keys.Key.{Key};
+ghost use Rattle.std.specs.List.{Contains};
+ghost use Rattle.jass_base.specs.declared.limits.TheConstants.{MOST_FRAMES};
+ghost use Rattle.jass_words.specs.Options.{AreOptions, IsOption, OptionData};
+ghost use Rattle.jass_words.specs.Slots.{May, Must, IsTail};
+ghost use Rattle.jass_words.specs.Words.{texts};
+ghost use Rattle.jass_words.specs.Private.Faults.{IsTailFault};
+ghost use Rattle.jass_words.specs.Private.Reading.{AreRead, Takes, found, is_found, option_data};
 
-use crate::word_limits::MOST_BITS;
-use jass_base::read_decimal;
+use crate::budgets::Budgets;
+use crate::keys::Key;
+use crate::option_words::{OptionWord, read_option};
+use crate::word_fault::WordFault;
+use query_reader::Mode;
 use weights::{Bits, Rule};
 
-/// An option of `import`.
+/// What the options of a command say.
 #[derive(Clone, Copy)]
-enum ImportOption {
-    /// `weights=RULE`.
-    Weights(Rule),
-    /// `bits=BITS`.
-    Width(Bits),
-}
-
-/// The options of `import` that were read so far.
-#[derive(Clone, Copy)]
-pub struct ImportOptions {
+pub struct Options<'a> {
+    pub hits: Option<u32>,
+    pub limits: Option<Budgets>,
+    pub tag: Option<&'a str>,
+    pub mode: Option<Mode>,
     pub rule: Option<Rule>,
     pub bits: Option<Bits>,
+    pub frames: Option<u32>,
 }
 
-impl ImportOptions {
-    /// These options and that of one word more; `None` where it is none, or its key stood before.
-    pub fn with(self, word: &str) -> Option<ImportOptions>
-        ensures some { (words : List (List ℕ)) → Seen words self.rule self.bits
-            → IfSome result (λ next. Seen (words ++ word.now ∷ []) next.rule next.bits) }
-        ensures none { result ≡ None → (words rest : List (List ℕ)) (options : List OptionData)
-            → Seen words self.rule self.bits → AreOptions (words ++ word.now ∷ rest) options
-            → ¬ HaveKeysOnce options }
+impl<'a> Options<'a> {
+    fn none() -> Options<'a>
+        ensures { (key : Key) → found result key ≡ None }
     {
-        let Some(option) = import_option(word) else {
+        Options {
+            hits: None,
+            limits: None,
+            tag: None,
+            mode: None,
+            rule: None,
+            bits: None,
+            frames: None,
+        }
+    }
+
+    /// Whether there is an option of a key.
+    fn has(&self, key: Key) -> bool
+        ensures { result ≡ is_found self.now key }
+    {
+        match key {
+            Key::Hits => self.hits.is_some(),
+            Key::Limits => self.limits.is_some(),
+            Key::Tag => self.tag.is_some(),
+            Key::Reading => self.mode.is_some(),
+            Key::Weights => self.rule.is_some(),
+            Key::Width => self.bits.is_some(),
+            Key::Frames => self.frames.is_some(),
+        }
+    }
+
+    /// Takes an option in.
+    fn put(&mut self, option: OptionWord<'a>)
+        ensures { Takes self.old (option_data option.entry) self.new }
+    {
+        match option {
+            OptionWord::Hits(k) => self.hits = Some(k),
+            OptionWord::Limits(budgets) => self.limits = Some(budgets),
+            OptionWord::Tag(tag) => self.tag = Some(tag),
+            OptionWord::Reading(mode) => self.mode = Some(mode),
+            OptionWord::Weights(rule) => self.rule = Some(rule),
+            OptionWord::Width(bits) => self.bits = Some(bits),
+            OptionWord::Frames(frames) => self.frames = Some(frames),
+        }
+    }
+
+    /// The option of one word more; `None` where it is none of the allowed keys, or its key stood
+    /// before.
+    fn next(&self, word: &'a str, allowed: &[Key]) -> Option<OptionWord<'a>>
+        ensures some { IfSome result (λ option. IsOption word.now (option_data option)) }
+        ensures allows { IfSome result (λ option. Contains allowed.now (option_data option).key) }
+        ensures new { IfSome result (λ option. is_found self.now (option_data option).key ≡ false) }
+        ensures none { result ≡ None → (words rest : List (List ℕ)) (options : List OptionData)
+            → AreRead allowed.now words self.now → ¬ AreOptions allowed.now (words ++ word.now ∷ rest) options }
+    {
+        let Some(option) = read_option(word) else {
             return None;
         };
-        match option {
-            ImportOption::Weights(rule) => {
-                if self.rule.is_some() {
-                    return None;
-                }
-                Some(ImportOptions {
-                    rule: Some(rule),
-                    bits: self.bits,
-                })
-            }
-            ImportOption::Width(bits) => {
-                if self.bits.is_some() {
-                    return None;
-                }
-                Some(ImportOptions {
-                    rule: self.rule,
-                    bits: Some(bits),
-                })
-            }
+        let key = option.key();
+        if key.is_among(allowed) && !self.has(key) {
+            Some(option)
+        } else {
+            None
         }
     }
 }
 
-/// The option that a word spells.
-fn import_option(word: &str) -> Option<ImportOption>
-    ensures some { IfSome result (λ option. IsOption word.now (option_data option)) }
-    ensures none { result ≡ None → (option : OptionData) → ¬ IsOption word.now option }
+/// Reads the options from a place on, each of which has one of the allowed keys.
+pub fn read_options<'a>(
+    words: &'a [String],
+    place: u32,
+    allowed: &[Key],
+) -> Result<Options<'a>, WordFault>
+    requires there { place ≤ length words.now }
+    requires near { place ≤ 1000 }
+    ensures options { IfOk result (λ read. AreRead allowed.now (drop place (texts words.now)) read) }
+    ensures fault { IfErr result (λ fault. IsTailFault (May allowed.now) place (texts words.now) fault.which) }
 {
-    let bytes = word.as_bytes();
-    if let Some(value) = value_behind(bytes, b"weights=") {
-        return match read_rule(value) {
-            Some(rule) => Some(ImportOption::Weights(rule)),
-            None => None,
-        };
+    let mut read = Options::none();
+    for (n, word) in words[place as usize..].iter().enumerate() {
+        match read.next(word.as_str(), allowed) {
+            Some(option) => read.put(option),
+            None => {
+                return Err(WordFault {
+                    which: place + 1 + n as u32,
+                });
+            }
+        }
     }
-    if let Some(value) = value_behind(bytes, b"bits=") {
-        return match read_bits(value) {
-            Some(bits) => Some(ImportOption::Width(bits)),
-            None => None,
-        };
-    }
-    None
+    Ok(read)
 }
 
-/// What stands behind a key in a word.
-pub fn value_behind<'a>(word: &'a [u8], key: &[u8]) -> Option<&'a [u8]>
-    ensures { MatchOption result ((value : List ℕ) → word.now ≢ key.now ++ value)
-        (λ value. word.now ≡ key.now ++ value.now) }
+/// Reads the option `frames=FRAMES` at a place, behind which no word stands.
+pub fn read_frames(words: &[String], place: u32) -> Result<u32, WordFault>
+    requires there { place ≤ length words.now }
+    requires near { place ≤ 1000 }
+    ensures frames { IfOk result (λ frames. IsTail (Must Key.Frames) (drop place (texts words.now)) frames) }
+    ensures limits { IfOk result (λ frames. (1 ≤ frames) × (frames ≤ MOST_FRAMES)) }
+    ensures fault { IfErr result (λ fault. IsTailFault (Must Key.Frames) place (texts words.now) fault.which) }
 {
-    word.strip_prefix(key)
-}
-
-fn read_rule(value: &[u8]) -> Option<Rule>
-    ensures some { IfSome result (λ rule. IsRule value.now rule) }
-    ensures none { result ≡ None → (rule : Rule) → ¬ IsRule value.now rule }
-{
-    if value == b"tf".as_slice() {
-        Some(Rule::Tf)
-    } else if value == b"bm25".as_slice() {
-        Some(Rule::Bm25)
-    } else {
-        None
-    }
-}
-
-fn read_bits(value: &[u8]) -> Option<Bits>
-    ensures some { IfSome result (λ bits. IsBits value.now bits) }
-    ensures none { result ≡ None → (bits : Bits) → ¬ IsBits value.now bits }
-{
-    if value == b"raw".as_slice() {
-        return Some(Bits::Raw);
-    }
-    match read_decimal(value) {
-        Some(bits) if bits >= 1 && bits <= MOST_BITS => Some(Bits::Of(bits as u8)),
-        _ => None,
+    let options = match read_options(words, place, &[Key::Frames]) {
+        Ok(options) => options,
+        Err(fault) => return Err(fault),
+    };
+    match options.frames {
+        Some(frames) => Ok(frames),
+        None => Err(WordFault { which: place + 1 }),
     }
 }

@@ -1,21 +1,33 @@
-ghost use Rattle.std.specs.Prelude.{ℕ, ◌≡◌, ◌<◌, ◌≤◌, ◌↔◌, List, Some, None, IsTrue, IfSome, length, take, slice_get};
+ghost use Rattle.std.specs.Prelude.{ℕ, ◌≡◌, ◌≢◌, ◌<◌, ◌≤◌, ◌↔◌, [], List, IfErr, IfOk, IfSome, IsTrue, None, drop, length, map};
 ghost use Rattle.std.specs.List.{AllByRecursion};
+ghost use Rattle.std.specs.Option.{option_map};
 ghost use Rattle.jass_base.specs.declared.answer.Budget.{Budget};
-ghost use Rattle.jass_words.specs.Numbers.{IsNumber, IsCount, IsBudget};
-ghost use Rattle.jass_words.specs.Words.{texts, IsFile, IsTerm};
+ghost use Rattle.jass_words.specs.Numbers.{IsNumber, IsBudget};
+ghost use Rattle.jass_words.specs.Slots.{Ends, File, Number, Postings, IsFile};
+ghost use Rattle.jass_words.specs.Words.{texts};
+ghost use Rattle.jass_words.specs.Private.Faults.{Finds, IsTailFault};
 
-use jass_base::limits::{LONGEST_FILE_NAME, LONGEST_TERM, MOST_HITS};
+use crate::word_fault::WordFault;
+use jass_base::limits::LONGEST_FILE_NAME;
 use jass_base::{Budget, read_decimal};
 
-/// The word at a place, where it can name a file: 1 to 4,096 bytes, none of them zero.
-pub fn file_at(words: &[String], place: usize) -> Option<&str>
-    ensures some { IfSome result (λ file. slice_get (texts words.now) place ≡ Some file.now) }
-    ensures file { IfSome result (λ file. IsFile file.now) }
-    ensures none { result ≡ None → (word : List ℕ) → slice_get (texts words.now) place ≡ Some word → ¬ IsFile word }
+/// The word at a place, where it can name a file, 1 to 4,096 bytes, none of them zero, and is
+/// none of the others.
+pub fn file_at<'a>(words: &'a [String], place: usize, others: &[&str]) -> Option<&'a str>
+    ensures says { Finds File (map (λ other. other.now) others.now) place (texts words.now)
+        (option_map (λ file. file.now) result) }
+    ensures apart { IfSome result (λ file. AllByRecursion (λ other. other ≢ file.now)
+        (map (λ other. other.now) others.now)) }
+    ensures there { IfSome result (λ _. place < length words.now) }
 {
-    match words.get(place) {
-        Some(word) if is_file(word.as_str()) => Some(word.as_str()),
-        _ => None,
+    let Some(word) = words.get(place) else {
+        return None;
+    };
+    let word = word.as_str();
+    if is_file(word) && is_apart(word, others) {
+        Some(word)
+    } else {
+        None
     }
 }
 
@@ -26,23 +38,34 @@ fn is_file(word: &str) -> bool
     !bytes.is_empty() && bytes.len() <= LONGEST_FILE_NAME && bytes.iter().all(|byte| *byte != 0)
 }
 
-/// The number of hits in the word at a place.
-pub fn count_at(words: &[String], place: usize) -> Option<u32>
-    ensures some { IfSome result (λ k. IfSome (slice_get (texts words.now) place) (λ word. IsCount word k)) }
-    ensures there { IfSome result (λ k. place < length words.now) }
-    ensures none { result ≡ None → (word : List ℕ) (k : ℕ) → slice_get (texts words.now) place ≡ Some word
-        → ¬ IsCount word k }
+/// Whether none of the others is this word.
+fn is_apart(word: &str, others: &[&str]) -> bool
+    ensures { IsTrue result ↔ AllByRecursion (λ other. other ≢ word.now) (map (λ other. other.now) others.now) }
 {
-    number_at(words, place, 1, MOST_HITS)
+    for other in others {
+        if *other == word {
+            return false;
+        }
+    }
+    true
+}
+
+/// Sees that no word stands at a place or behind it.
+pub fn read_end(words: &[String], place: u32) -> Result<(), WordFault>
+    requires { place ≤ 1000 }
+    ensures end { IfOk result (λ _. drop place (texts words.now) ≡ []) }
+    ensures fault { IfErr result (λ fault. IsTailFault Ends place (texts words.now) fault.which) }
+{
+    if words.len() > place as usize {
+        return Err(WordFault { which: place + 1 });
+    }
+    Ok(())
 }
 
 /// The number from a least to a greatest one in the word at a place.
 pub fn number_at(words: &[String], place: usize, least: u32, most: u32) -> Option<u32>
-    ensures some { IfSome result (λ n. IfSome (slice_get (texts words.now) place)
-        (λ word. IsNumber word least most n)) }
-    ensures there { IfSome result (λ n. place < length words.now) }
-    ensures none { result ≡ None → (word : List ℕ) (n : ℕ) → slice_get (texts words.now) place ≡ Some word
-        → ¬ IsNumber word least most n }
+    ensures says { Finds (Number least most) [] place (texts words.now) result }
+    ensures there { IfSome result (λ _. place < length words.now) }
 {
     let Some(word) = words.get(place) else {
         return None;
@@ -50,16 +73,8 @@ pub fn number_at(words: &[String], place: usize, least: u32, most: u32) -> Optio
     read_number(word.as_str(), least, most)
 }
 
-/// The number of hits that a word spells.
-pub fn read_count(word: &str) -> Option<u32>
-    ensures some { IfSome result (λ k. IsCount word.now k) }
-    ensures none { result ≡ None → (k : ℕ) → ¬ IsCount word.now k }
-{
-    read_number(word, 1, MOST_HITS)
-}
-
 /// The number from a least to a greatest one that a word spells.
-fn read_number(word: &str, least: u32, most: u32) -> Option<u32>
+pub fn read_number(word: &str, least: u32, most: u32) -> Option<u32>
     ensures some { IfSome result (λ n. IsNumber word.now least most n) }
     ensures none { result ≡ None → (n : ℕ) → ¬ IsNumber word.now least most n }
 {
@@ -71,10 +86,8 @@ fn read_number(word: &str, least: u32, most: u32) -> Option<u32>
 
 /// The number of postings, or `all`, in the word at a place.
 pub fn budget_at(words: &[String], place: usize) -> Option<Budget>
-    ensures some { IfSome result (λ budget. IfSome (slice_get (texts words.now) place) (λ word. IsBudget word budget)) }
-    ensures there { IfSome result (λ k. place < length words.now) }
-    ensures none { result ≡ None → (word : List ℕ) (budget : Budget) → slice_get (texts words.now) place ≡ Some word
-        → ¬ IsBudget word budget }
+    ensures says { Finds Postings [] place (texts words.now) result }
+    ensures there { IfSome result (λ _. place < length words.now) }
 {
     let Some(word) = words.get(place) else {
         return None;
@@ -94,18 +107,4 @@ pub fn read_budget(word: &str) -> Option<Budget>
         Some(postings) => Some(Budget::Postings(postings)),
         None => None,
     }
-}
-
-/// The place of the first word that is no term; how many words there are where each is a term.
-pub fn terms_in(words: &[String]) -> usize
-    ensures within { result ≤ length words.now }
-    ensures terms { AllByRecursion IsTerm (take result (texts words.now)) }
-    ensures next { (word : List ℕ) → slice_get (texts words.now) result ≡ Some word → ¬ IsTerm word }
-{
-    for (place, word) in words.iter().enumerate() {
-        if word.len() > LONGEST_TERM {
-            return place;
-        }
-    }
-    words.len()
 }

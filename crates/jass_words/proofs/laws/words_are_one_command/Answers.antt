@@ -1,4 +1,4 @@
-use Rattle.jass_words.proofs.Parts.{one_command}
+use Rattle.jass_words.proofs.Forms.{one_command}
 use Rattle.jass_words.proofs.laws.words_are_one_command.Goals as goal
 
 pub returns : goal.returns
