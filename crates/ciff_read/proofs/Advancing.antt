@@ -1,5 +1,5 @@
 -- The piece that a walk gives is the next one of the content.
-use Rattle.shared_lemmas.proofs.Common.{◌≡◌, ◌∙◌, ℕ, suc, ◌+◌, ◌<◌, ◌≤◌, Bool, true, false, cond, List, [], ◌∷◌, ◌++◌, length, drop, Option, Some, None, Result, Ok, Err, refl, sym, ap, subst, arith, ◌==◌, ◌||◌, nat_lt, nat_tests, length-append, list_any-append, cond-true, cond-false, lt-ltb}
+use Rattle.shared_lemmas.proofs.Common.{◌≡◌, ◌∙◌, ℕ, suc, ◌+◌, ◌<◌, ◌≤◌, Bool, true, false, cond, List, [], ◌∷◌, ◌++◌, length, drop, Option, Some, None, Result, Ok, Err, refl, sym, ap, subst, arith, ◌==◌, ◌||◌, nat_lt, nat_tests, length-append, length-drop, list_any-append, cond-true, cond-false, lt-ltb}
 use Rattle.shared_lemmas.proofs.Common.{le-ltb}
 use Rattle.ciff_read.proofs.Below.{HeaderData, header_data, list_data, doc_data, Files, ForContent, DocRecord, Header, PostingsList}
 use Rattle.ciff_read.specs.declared.piece.Piece.{Piece}
@@ -14,8 +14,8 @@ use Rattle.ciff_read.specs.Private.Reached.{GivesReading, MarksOf}
 use Rattle.ciff_read.specs.Reaching.{FailsReading}
 use Rattle.ciff_read.specs.Reading.{at_end}
 use Rattle.ciff_read.specs.Refusals.{◌>>=◌}
-use Rattle.ciff_read.specs.Walk.{WalkView, Keeps, Stands, StandsFor, StandsTold, OneMore, kept_of}
-use Rattle.ciff_read.specs.Private.Walk.{StaysHeld, ListGiven, DocGiven, EndGiven, LeavesOthers, LeavesLists, LeavesPlace}
+use Rattle.ciff_read.specs.Walk.{WalkView, IsWalkOver, Keeps, Stands, StandsFor, StandsTold, OneMore, kept_of}
+use Rattle.ciff_read.specs.Private.Walk.{StaysHeld, StaysOver, ListGiven, DocGiven, EndGiven, LeavesOthers, LeavesLists, LeavesPlace}
 use Rattle.whole_files.specs.Windows.{AreFrom}
 use Rattle.ciff_read.proofs.HeldParts.{reading_fails_on, reading_as}
 use Rattle.whole_files.proofs.Told.{for_all, for_one, for_both, for_pair}
@@ -34,6 +34,10 @@ turned false false false same = refl
 end_as : {A B : Type 0} (at : ℕ) (s : List ℕ) (x : A) (y : B) → (at_end at s x >>= λ z. Ok y) ≡ at_end at s y
 end_as at [] x y = refl
 end_as at (b ∷ s) x y = refl
+
+no_more : {A : Type 0} (at : ℕ) (s : List ℕ) (x : A) → at_end at s x ≡ Ok x → length s ≡ 0
+no_more at [] x is = refl
+no_more at (b ∷ s) x is = absurd cc
 
 next_as : (content : List ℕ) (p : Progress) (header : Option HeaderData) → p.header ≡ header → next_of content p ≡ next_behind header content p
 unfolding next_of
@@ -191,7 +195,7 @@ module _ (content : List ℕ) (p : Progress) (old : WalkView) (keeps : Keeps old
 -- the same where the content is told
 module _ (told : Option Files) (old now : WalkView) where
   abbrev Given : Result Piece CiffFault → List ℕ → Type 0
-  Given result content = old.answered ≡ None → AreFrom content old.start old.bytes → (p : Progress) → Keeps old p → GivesPiece content p result now
+  Given result content = old.answered ≡ None → IsWalkOver content old → (p : Progress) → Keeps old p → GivesPiece content p result now
 
   abbrev Read : {X Y : Type 0} → (X → Y) → Result X CiffFault → (List ℕ → Result Y CiffRefusal) → List ℕ → Type 0
   Read view result read content = AreFrom content old.start old.bytes → GivesReading view result (read content)
@@ -201,7 +205,7 @@ module _ (told : Option Files) (old now : WalkView) where
   told_start header lists docs lists_are docs_are had gone lists_stay docs_stay at kept given marks =
       subst (λ n. GivesTold told old now (Ok (pieces.Start header n docs))) (sym lists_are)
       (subst (λ n. GivesTold told old now (Ok (pieces.Start header old.lists n))) (sym docs_are)
-      (for_all told old.name (Given (Ok (pieces.Start header old.lists old.docs))) (λ content. λ fresh shows p keeps. start_given content p old keeps (header_data header) now had gone lists_stay docs_stay at kept given marks)))
+      (for_all told old.name (Given (Ok (pieces.Start header old.lists old.docs))) (λ content. λ fresh over p keeps. start_given content p old keeps (header_data header) now had gone lists_stay docs_stay at kept given marks)))
 
   module _ (none : old.header ≡ None) where
     module _ (more : length old.kept < old.lists) where
@@ -215,12 +219,12 @@ module _ (told : Option Files) (old now : WalkView) where
       told_list at list here exact kept leaves =
           subst (λ n. GivesTold told old now (Ok (pieces.List n list))) (sym here)
           (for_one told old.name (Read list_read_to (Ok list) next_list) (Given (Ok (pieces.List old.at list)))
-          (λ content read. λ fresh shows p keeps. list_advances content p old keeps none more list now (read shows) kept leaves.header leaves.lists leaves.docs leaves.given leaves.marks) exact)
+          (λ content read. λ fresh over p keeps. list_advances content p old keeps none more list now (read over.shows) kept leaves.header leaves.lists leaves.docs leaves.given leaves.marks) exact)
 
       pub told_list_not : (fault : CiffFault) → ListGiven told old now (Err fault) → GivesTold told old now (Err fault)
       told_list_not fault exact =
           for_one told old.name (Read list_read_to (Err fault) next_list) (Given (Err fault))
-          (λ content fails. λ fresh shows p keeps. list_fails content p old keeps none more fault (fails shows)) exact
+          (λ content fails. λ fresh over p keeps. list_fails content p old keeps none more fault (fails over.shows)) exact
 
     module _ (lists_given : old.lists ≤ length old.kept) where
       module _ (more : old.given < old.docs) where
@@ -233,27 +237,43 @@ module _ (told : Option Files) (old now : WalkView) where
         pub told_doc : (number : ℕ) (item : DocRecord) → DocGiven told old now (Ok (number, item)) → OneMore old.marks now.marks number → now.given ≡ old.given + 1 → LeavesLists old now → GivesTold told old now (Ok (pieces.Doc number item))
         told_doc number item exact marks given leaves =
             for_one told old.name (DocRead (Ok (number, item))) (Given (Ok (pieces.Doc number item)))
-            (λ content read. λ fresh shows p keeps.
-            doc_advances content p old keeps none lists_given more number item now (read shows p.numbers keeps.marks) marks given leaves.header leaves.lists leaves.docs leaves.kept) exact
+            (λ content read. λ fresh over p keeps.
+            doc_advances content p old keeps none lists_given more number item now (read over.shows p.numbers keeps.marks) marks given leaves.header leaves.lists leaves.docs leaves.kept) exact
 
         pub told_doc_not : (fault : CiffFault) → DocGiven told old now (Err fault) → GivesTold told old now (Err fault)
         told_doc_not fault exact =
             for_one told old.name (DocRead (Err fault)) (Given (Err fault))
-            (λ content fails. λ fresh shows p keeps. doc_fails content p old keeps none lists_given more fault (fails shows p.numbers keeps.marks)) exact
+            (λ content fails. λ fresh over p keeps. doc_fails content p old keeps none lists_given more fault (fails over.shows p.numbers keeps.marks)) exact
 
       module _ (docs_given : old.docs ≤ old.given) where
         abbrev the_end : List ℕ → Result PieceData CiffRefusal
         the_end content = at_end old.at (drop old.at content) EndPiece
 
+        abbrev EndRead : Result (Unit {0}) CiffFault → List ℕ → Type 0
+        EndRead result content = IsWalkOver content old → GivesReading (λ (v : Unit {0}). EndPiece) result (the_end content)
+
         pub told_end : (u : Unit {0}) → EndGiven told old (Ok u) → LeavesLists old now → LeavesPlace old now → GivesTold told old now (Ok pieces.End)
         told_end u exact leaves place =
-            for_one told old.name (Read (λ (v : Unit {0}). EndPiece) (Ok u) the_end) (Given (Ok pieces.End))
-            (λ content read. λ fresh shows p keeps. end_advances content p old keeps none lists_given docs_given now (read shows) leaves.header leaves.lists leaves.docs place.at leaves.kept place.given place.marks) exact
+            for_one told old.name (EndRead (Ok u)) (Given (Ok pieces.End))
+            (λ content read. λ fresh over p keeps. end_advances content p old keeps none lists_given docs_given now (read over) leaves.header leaves.lists leaves.docs place.at leaves.kept place.given place.marks) exact
 
         pub told_end_not : (fault : CiffFault) → EndGiven told old (Err fault) → GivesTold told old now (Err fault)
         told_end_not fault exact =
-            for_one told old.name (Read (λ (v : Unit {0}). EndPiece) (Err fault) the_end) (Given (Err fault))
-            (λ content fails. λ fresh shows p keeps. end_fails content p old keeps none lists_given docs_given fault (fails shows)) exact
+            for_one told old.name (EndRead (Err fault)) (Given (Err fault))
+            (λ content fails. λ fresh over p keeps. end_fails content p old keeps none lists_given docs_given fault (fails over)) exact
+
+-- a walk that gives a piece holds bytes of the content, and it ends where the walk has given the end
+module _ (told : Option Files) (old now : WalkView) (held : StaysHeld told old now) where
+  pub over_on : now.ended ≡ old.ended → old.at ≤ now.at → StaysOver told old now
+  over_on same forward =
+      for_one told old.name (λ content. AreFrom content old.start old.bytes → AreFrom content now.start now.bytes) (λ content. IsWalkOver content old → IsWalkOver content now)
+      (λ content shows over. record { shows = shows over.shows; ends = λ is. omega (arith, over.ends (sym same ∙ is), forward) }) held
+
+  pub over_end : (u : Unit {0}) → now.at ≡ old.at → EndGiven told old (Ok u) → StaysOver told old now
+  over_end u stays exact =
+      for_both told old.name (λ content. AreFrom content old.start old.bytes → AreFrom content now.start now.bytes) (λ content. IsWalkOver content old → at_end old.at (drop old.at content) EndPiece ≡ Ok EndPiece)
+      (λ content. IsWalkOver content old → IsWalkOver content now)
+      (λ content shows ended over. record { shows = shows over.shows; ends = λ is. omega (arith, stays, no_more old.at (drop old.at content) EndPiece (ended over), length-drop old.at content) }) held exact
 
 -- one piece more
 further : (count : ℕ) (content : List ℕ) (p : Progress) (step : Step) (r : Result FileHeader CiffRefusal) → (r >>= λ h. after count content (begun h)) ≡ Ok p → next_of content p ≡ Ok step
@@ -262,18 +282,18 @@ further count content p step (Ok h) reached next =
     ap (λ (q : Result Progress CiffRefusal). q >>= λ q. next_of content q >>= λ s. Ok s.later) reached ∙ ap (λ (s : Result Step CiffRefusal). s >>= λ s. Ok s.later) next
 further count content p step (Err e) reached next = absurd cc
 
-stands_further : (content : List ℕ) (old now : WalkView) (piece : PieceData) (stands : Stands content old) → Advances content stands.progress piece now → AreFrom content now.start now.bytes → Stands content now
-stands_further content old now piece stands gives shows = record {
+stands_further : (content : List ℕ) (old now : WalkView) (piece : PieceData) (stands : Stands content old) → Advances content stands.progress piece now → IsWalkOver content now → Stands content now
+stands_further content old now piece stands gives over = record {
   progress = gives.step.later;
   reached = record { count = suc stands.reached.count; reached = further stands.reached.count content stands.progress gives.step (header_of_file content) stands.reached.reached gives.next };
   keeps = gives.keeps;
-  shows = shows;
+  over = over;
 }
 
 -- a walk that gives a piece stands for the content
-module _ (told : Option Files) (old now : WalkView) (held : StaysHeld told old now) (name : now.name ≡ old.name) (answered : now.answered ≡ old.answered) (stands : StandsTold told old) where
+module _ (told : Option Files) (old now : WalkView) (held : StaysOver told old now) (name : now.name ≡ old.name) (answered : now.answered ≡ old.answered) (stands : StandsTold told old) where
   abbrev Held : List ℕ → Type 0
-  Held content = AreFrom content old.start old.bytes → AreFrom content now.start now.bytes
+  Held content = IsWalkOver content old → IsWalkOver content now
 
   standing : ForContent told old.name (λ content. StandsFor content old × Held content)
   standing = for_pair told old.name (λ content. StandsFor content old) Held stands held
@@ -287,4 +307,4 @@ module _ (told : Option Files) (old now : WalkView) (held : StaysHeld told old n
       (λ content both given. λ fresh.
       let none : old.answered ≡ None = sym answered ∙ fresh in
       let s = both.0 none in
-      stands_further content old now (piece_data piece) s (given none s.shows s.progress s.keeps) (both.1 s.shows)) standing gives)
+      stands_further content old now (piece_data piece) s (given none s.over s.progress s.keeps) (both.1 s.over)) standing gives)

@@ -3,7 +3,7 @@ use Rattle.shared_lemmas.proofs.Common.{◌≡◌, ◌≢◌, ◌∙◌, ℕ, ze
 use Rattle.ciff_read.proofs.Below.{HeaderData, ListData, PostingsList, list_data, Files, ForContent}
 use Rattle.ciff_read.specs.declared.refusal.CiffWhy.{CiffWhy}
 use Rattle.ciff_read.specs.declared.refusal.CiffWhy.TheVariants as whys
-use Rattle.ciff_read.specs.Private.Plain.{SaysNoChange, IsPlain}
+use Rattle.ciff_read.specs.Plain.{SaysNoChange, IsPlain}
 use Rattle.ciff_read.specs.declared.refusal.CiffRefusal.{CiffRefusal}
 use Rattle.ciff_read.specs.declared.refusal.CiffFault.{CiffFault}
 use Rattle.ciff_read.specs.declared.refusal.CiffFault.TheVariants as faults
@@ -11,7 +11,7 @@ use Rattle.ciff_read.specs.Pieces.{KeptList, Progress, EndPiece, ListPiece, DocP
 use Rattle.ciff_read.specs.Reaching.{FailsReading}
 use Rattle.ciff_read.specs.Reading.{Message, message_end, message_at, list_at}
 use Rattle.ciff_read.specs.Refusals.{◌>>=◌}
-use Rattle.ciff_read.specs.Walk.{WalkView, Stands, StandsFor, StandsTold, IsListAt, HasKept, IsGiven, IsOutside, FindsAgain, ChangesOnly, SaysChange}
+use Rattle.ciff_read.specs.Walk.{WalkView, Stands, StandsFor, StandsTold, IsListAt, HasKept, HoldsOther, IsGiven, IsOutside, FindsAgain, ChangesOnly, SaysChange}
 use Rattle.whole_files.specs.Windows.{AreFrom}
 use Rattle.ciff_read.proofs.Fewer.{list_alone}
 use Rattle.ciff_read.proofs.Postings.{All-one}
@@ -111,14 +111,17 @@ not_refused (faults.Refused refusal) read x is fails = absurd (let e = sym is �
 not_refused faults.ReadFault read x is fails = tt
 not_refused faults.NoMemory read x is fails = tt
 
-says_none : (kept : List KeptList) (at : ℕ) (refusal : CiffRefusal) (why : CiffWhy) → SaysNoChange why → SaysChange kept at refusal why
-says_none kept at refusal (whys.Changed k f) none = absurd none
-says_none kept at refusal why none = tt
+says_none : (now : WalkView) (at : ℕ) (refusal : CiffRefusal) (why : CiffWhy) → SaysNoChange why → SaysChange now at refusal why
+says_none now at refusal (whys.Changed k f) none = absurd none
+says_none now at refusal why none = tt
 
-pub plain_changes : (kept : List KeptList) (at : ℕ) (fault : CiffFault) → IsPlain fault → ChangesOnly kept at fault
-plain_changes kept at (faults.Refused refusal) plain = says_none kept at refusal refusal.why plain
-plain_changes kept at faults.ReadFault plain = tt
-plain_changes kept at faults.NoMemory plain = tt
+pub plain_changes : (now : WalkView) (at : ℕ) (fault : CiffFault) → IsPlain fault → ChangesOnly now at fault
+plain_changes now at (faults.Refused refusal) plain = says_none now at refusal refusal.why plain
+plain_changes now at faults.ReadFault plain = tt
+plain_changes now at faults.NoMemory plain = tt
+
+pub changes_refused : (now : WalkView) (at : ℕ) (fault : CiffFault) (kept found : ℕ) → fault ≡ faults.Refused (record { at = at; why = whys.Changed kept found }) → HoldsOther now at kept found → ChangesOnly now at fault
+changes_refused now at fault kept found is holds = subst (ChangesOnly now at) (sym is) (refl, holds)
 
 -- no list that was given is refused, and each has as many postings as are kept
 module _ (content : List ℕ) (w : WalkView) (stands : Stands content w) (at : ℕ) where
@@ -142,14 +145,14 @@ module _ (told : Option Files) (w : WalkView) (at : ℕ) (stands : StandsTold to
   pub told_outside : (fault : CiffFault) → IsGiven w.kept at → ForContent told w.name (λ content. AreFrom content w.start w.bytes → FailsReading fault (alone content)) → FindsAgain told w at (Err fault)
   told_outside fault given fails =
       for_both told w.name (λ content. StandsFor content w) (λ content. AreFrom content w.start w.bytes → FailsReading fault (alone content)) (λ content. w.answered ≡ None → IsOutside fault)
-      (λ content stand failing. λ fresh. let s = stand fresh in given_outside content w s at fault given (failing s.shows)) stands fails
+      (λ content stand failing. λ fresh. let s = stand fresh in given_outside content w s at fault given (failing s.over.shows)) stands fails
 
   pub told_counts : (fault : CiffFault) (count : ℕ) (x : ListInFile) → HasKept w.kept at count → count ≢ length x.list.postings → ForContent told w.name (λ content. AreFrom content w.start w.bytes → alone content ≡ Ok x) → FindsAgain told w at (Err fault)
   told_counts fault count x kept other reads =
       for_both told w.name (λ content. StandsFor content w) (λ content. AreFrom content w.start w.bytes → alone content ≡ Ok x) (λ content. w.answered ≡ None → IsOutside fault)
-      (λ content stand read. λ fresh. let s = stand fresh in absurd (other (given_counts content w s at count x.list kept (read_alone content w.docs at x (read s.shows))))) stands reads
+      (λ content stand read. λ fresh. let s = stand fresh in absurd (other (given_counts content w s at count x.list kept (read_alone content w.docs at x (read s.over.shows))))) stands reads
 
   pub told_again : (list : PostingsList) (end : ℕ) → ForContent told w.name (λ content. AreFrom content w.start w.bytes → alone content ≡ Ok (record { list = list_data list; end = end })) → FindsAgain told w at (Ok list)
   told_again list end reads =
       for_both told w.name (λ content. StandsFor content w) (λ content. AreFrom content w.start w.bytes → alone content ≡ Ok (record { list = list_data list; end = end })) (λ content. w.answered ≡ None → IsListAt content w.docs at (list_data list))
-      (λ content stand read. λ fresh. read_alone content w.docs at (record { list = list_data list; end = end }) (read (stand fresh).shows)) stands reads
+      (λ content stand read. λ fresh. read_alone content w.docs at (record { list = list_data list; end = end }) (read (stand fresh).over.shows)) stands reads

@@ -7,7 +7,7 @@ use Rattle.ciff_read.specs.declared.refusal.CiffFault.{CiffFault}
 use Rattle.ciff_read.specs.declared.refusal.CiffFault.TheVariants as faults
 use Rattle.whole_files.specs.declared.window.Window.{Window}
 use Rattle.ciff_read.specs.Reaching.{FailsReading}
-use Rattle.ciff_read.specs.Private.Plain.{IsPlain}
+use Rattle.ciff_read.specs.Plain.{IsPlain}
 use Rattle.ciff_read.specs.Private.Reaching.{ReadsSize, HoldsMessage}
 use Rattle.ciff_read.specs.Reading.{message_at}
 use Rattle.ciff_read.specs.Refusals.{Fails, why_of}

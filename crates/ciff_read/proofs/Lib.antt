@@ -28,6 +28,7 @@ pub mod FrontLaws
 pub mod UsualWords
 pub mod HeldMessages
 pub mod HeldFiles
+pub mod HeldBodies
 pub mod Near
 pub mod HeldParts
 pub mod KeptTerms

@@ -1,5 +1,5 @@
 -- A walk that was opened.
-use Rattle.shared_lemmas.proofs.Common.{◌≡◌, ℕ, ◌%◌, List, [], Some, None, Result, Ok, refl, ap, ◌∙◌, nat_eq, bit_at-zero}
+use Rattle.shared_lemmas.proofs.Common.{◌≡◌, ℕ, ◌%◌, List, [], false, Some, None, Result, Ok, refl, ap, ◌∙◌, nat_eq, bit_at-zero}
 use Rattle.jass_base.specs.CiffViews.{header_data}
 use Rattle.ciff_read.specs.declared.file_head.FileHead.{FileHead}
 use Rattle.ciff_read.specs.declared.refusal.CiffRefusal.{CiffRefusal}
@@ -22,6 +22,7 @@ new_walk name head at kept marks w = record {
   kept = kept;
   marks = marks;
   given = 0;
+  ended = false;
   answered = None;
   start = w.start;
   bytes = w.bytes.items;
@@ -41,5 +42,5 @@ opened content name head at kept marks w none unmarked is shows = record {
     given = refl;
     marks = λ n. ap (λ (words : List ℕ). is_marked words n) unmarked ∙ ap (λ b. nat_eq b 1) (bit_at-zero (n % 64));
   };
-  shows = shows;
+  over = record { shows = shows; ends = λ is. absurd cc };
 }

@@ -1,4 +1,4 @@
--- No refusal of a list says that something changed: it is read once.
+-- No refusal of a message says that something changed: it is read once.
 use Rattle.shared_lemmas.proofs.Common.{◌≡◌, ℕ, zero, suc, ◌+◌, ◌^◌, ◌-◌, Bool, true, false, cond, List, [], ◌∷◌, ◌++◌, length, Result, Ok, Err, sym, subst, ◌==◌, ◌||◌, ◌&&◌, not, nat_lt, nat_le, ⊤, fold, is_utf8}
 use Rattle.ciff_read.proofs.Below.{Posting, WireField, WireValue, Number, Eight, Text, Four, WireWhy, field_at}
 use Rattle.wire_fields.specs.declared.fault.WireWhy.TheVariants as wire
@@ -8,11 +8,14 @@ use Rattle.ciff_read.specs.declared.refusal.CiffWhy.TheVariants as whys
 use Rattle.ciff_read.specs.declared.refusal.CiffRefusal.{CiffRefusal}
 use Rattle.ciff_read.specs.declared.refusal.CiffFault.{CiffFault}
 use Rattle.ciff_read.specs.declared.refusal.CiffFault.TheVariants as faults
-use Rattle.ciff_read.specs.Judging.{ListStart, list_start_of, over31, over63, last_from, judge_list, judge, gather, postings_of}
+use Rattle.ciff_read.specs.Judging.{FileStart, ListStart, NumberedDoc, start_of, list_start_of, numbered_of, is_among, is_name, over31, over63, last_from, judge_header, judge_list, judge_doc, judge, gather, postings_of}
 use Rattle.ciff_read.specs.Private.Moving.{fault_moved}
-use Rattle.ciff_read.specs.Reading.{Message, list_walk_at, list_at}
+use Rattle.ciff_read.specs.Private.Places.{numbered_in}
+use Rattle.ciff_read.specs.Private.Recording.{judge_rest, recorded}
+use Rattle.ciff_read.specs.declared.walked_doc.WalkedDoc.{WalkedDoc}
+use Rattle.ciff_read.specs.Reading.{Message, start_at, list_walk_at, numbered_at, header_at, list_at, doc_at}
 use Rattle.ciff_read.specs.Refusals.{◌>>=◌, placed, field_placed, why_of, Fails}
-use Rattle.ciff_read.specs.Private.Plain.{SaysNoChange, IsPlain}
+use Rattle.ciff_read.specs.Plain.{SaysNoChange, IsPlain}
 use Rattle.ciff_read.specs.Seen.{is_seen}
 use Rattle.ciff_read.specs.Walking.{PlacedEntry, in_front, walk, walk_within, nothing_inside, entry_of, entry_at, entry_in, entry_inside}
 
@@ -100,6 +103,24 @@ four false false true d x = tt
 four false false false true x = tt
 four false false false false x = tt
 
+three : (a b c : Bool) (x : FileStart) → IsPlainWhy (cond a (Err whys.Range) (cond b (Err whys.Text) (cond c (Err whys.Limit) (Ok x))))
+three true b c x = tt
+three false true c x = tt
+three false false true x = tt
+three false false false x = tt
+
+rest : (c d e f : Bool) (x : NumberedDoc) → IsPlainWhy (cond c (Err whys.DocTwice) (cond d (Err whys.Text) (cond e (Err whys.NameText) (cond f (Err whys.Range) (Ok x)))))
+rest true d e f x = tt
+rest false true e f x = tt
+rest false false true f x = tt
+rest false false false true x = tt
+rest false false false false x = tt
+
+six : (a b c d e f : Bool) (x : NumberedDoc) → IsPlainWhy (cond a (Err whys.Range) (cond b (Err whys.DocRange) (cond c (Err whys.DocTwice) (cond d (Err whys.Text) (cond e (Err whys.NameText) (cond f (Err whys.Range) (Ok x)))))))
+six true b c d e f x = tt
+six false true c d e f x = tt
+six false false c d e f x = rest c d e f x
+
 start_plain : (terms : List (List ℕ)) (x : ListStart) → IsPlainWhy (judge_list terms x)
 start_plain terms x = four (not (is_utf8 x.term)) (nat_lt 65535 (length x.term)) (is_seen x.term terms) (over63 x.df || over63 x.cf) x
 
@@ -110,6 +131,22 @@ list_plain docs before terms at m =
     (then_plain (walk entry_inside m.from m.body) (λ walked. Ok (record { start = list_start_of walked.fields; entries = walked.entries })) (walk_plain entry_inside entry_plain (length m.body) m.from m.body) (λ w. tt))
     (λ w. then_plain (placed at (judge_list terms w.start)) (λ start. postings_of docs before w.entries >>= λ postings. Ok (record { term = start.term; df = start.df; cf = start.cf; postings = postings })) (placed_plain at (judge_list terms w.start) (start_plain terms w.start))
     (λ start. then_plain (postings_of docs before w.entries) (λ postings. Ok (record { term = start.term; df = start.df; cf = start.cf; postings = postings })) (fold_plain docs before w.entries (Ok []) tt) (λ ps. tt)))
+
+header_plain : (at : ℕ) (m : Message) → Plain (header_at at m)
+unfolding header_at
+header_plain at m =
+    then_plain (start_at m.from m.body) (λ start. placed at (judge_header start))
+    (then_plain (walk nothing_inside m.from m.body) (λ walked. Ok (start_of walked.fields)) (walk_plain nothing_inside (λ at next f. tt) (length m.body) m.from m.body) (λ w. tt))
+    (λ x. placed_plain at (judge_header x)
+    (three (over31 x.header.version || over31 x.lists || over31 x.docs || over31 x.header.total_lists || over31 x.header.total_docs || over63 x.header.total_terms) (not (is_utf8 x.header.description)) (nat_lt 16777216 x.lists || nat_lt 67108864 x.docs) x))
+
+doc_plain : (docs : ℕ) (numbers : List ℕ) (at : ℕ) (m : Message) → Plain (doc_at docs numbers at m)
+unfolding doc_at
+doc_plain docs numbers at m =
+    then_plain (numbered_at m.from m.body) (λ x. placed at (judge_doc docs numbers x))
+    (then_plain (walk nothing_inside m.from m.body) (λ walked. Ok (numbered_of walked.fields)) (walk_plain nothing_inside (λ at next f. tt) (length m.body) m.from m.body) (λ w. tt))
+    (λ x. placed_plain at (judge_doc docs numbers x)
+    (six (over31 x.number) (nat_le docs x.number) (is_among x.number numbers) (not (is_utf8 x.doc.name)) (not (is_name x.doc.name)) (over31 x.doc.length) x))
 
 -- what fails as the reading of a list does is plain, also further on in the file
 fails_plain : {A : Type 0} (fault : CiffFault) (read : Result A CiffRefusal) → Fails fault read → Plain read → IsPlain fault
@@ -127,3 +164,14 @@ moved_plain base fault answer plain is = subst IsPlain (sym is) (at fault plain)
 
 pub list_fault_plain : (docs before : ℕ) (terms : List (List ℕ)) (at : ℕ) (m : Message) (fault : CiffFault) → Fails fault (list_at docs before terms at m) → IsPlain fault
 list_fault_plain docs before terms at m fault fails = fails_plain fault (list_at docs before terms at m) fails (list_plain docs before terms at m)
+
+pub header_fault_plain : (at : ℕ) (m : Message) (fault : CiffFault) → Fails fault (header_at at m) → IsPlain fault
+header_fault_plain at m fault fails = fails_plain fault (header_at at m) fails (header_plain at m)
+
+pub doc_fault_plain : (docs : ℕ) (numbers : List ℕ) (at : ℕ) (m : Message) (fault : CiffFault) → Fails fault (doc_at docs numbers at m) → IsPlain fault
+doc_fault_plain docs numbers at m fault fails = fails_plain fault (doc_at docs numbers at m) fails (doc_plain docs numbers at m)
+
+pub rest_fault_plain : (seen : Bool) (at : ℕ) (d : WalkedDoc) (fault : CiffFault) → Fails fault (recorded seen at d) → IsPlain fault
+rest_fault_plain seen at d fault fails =
+    let x = numbered_in d.fields in
+    fails_plain fault (recorded seen at d) fails (placed_plain at (judge_rest seen x) (rest seen (not (is_utf8 x.doc.name)) (not (is_name x.doc.name)) (over31 x.doc.length) x))

@@ -7,6 +7,7 @@ pub mod KeptLists
 pub mod Marks
 pub mod Moving
 pub mod Pieces
+pub mod Plain
 pub mod Reaching
 pub mod Reading
 pub mod Refusals

@@ -1,5 +1,5 @@
 -- A walk over a file as plain data, and the content that it stands for.
-use Rattle.std.specs.Prelude.{ℕ, ◌==◌, ◌||◌, ◌≡◌, ◌≢◌, ◌<◌, ◌≤◌, ⊤, List, [], length, drop, All, Contains, MatchResult, Option, Some, None, Result, Ok, Err, IsSome}
+use Rattle.std.specs.Prelude.{ℕ, ◌-◌, ◌==◌, ◌||◌, ◌≡◌, ◌≢◌, ◌<◌, ◌≤◌, ⊤, Bool, true, false, List, [], length, drop, All, Contains, MatchResult, Option, Some, None, Result, Ok, Err, IsSome}
 use Rattle.std.specs.List.Sorted.{IsStrictlyIncreasing}
 use Rattle.jass_base.specs.Ciff.{HeaderData, ListData}
 use Rattle.jass_base.specs.CiffViews.{list_data}
@@ -19,7 +19,8 @@ use Rattle.whole_files.specs.Windows.{AreFrom}
 use Rattle.jass_base.specs.declared.limits.TheConstants.{LONGEST_FILE, MOST_DOCUMENTS, MOST_POSTINGS, MOST_TERMS}
 
 -- what a walk is: the file's name; what it keeps of the file up to a place; the numbers of the documents that it has given, as marked
--- bits, and how many these are; the error that it has answered; and the bytes of the file that it holds, from a place on
+-- bits, and how many these are; whether it has given the end; the error that it has answered; and the bytes of the file that it holds,
+-- from a place on
 pub record WalkView : Type 0 where
   pub name : List ℕ
   pub header : Option HeaderData
@@ -29,6 +30,7 @@ pub record WalkView : Type 0 where
   pub kept : List KeptList
   pub marks : List ℕ
   pub given : ℕ
+  pub ended : Bool
   pub answered : Option CiffFault
   pub start : ℕ
   pub bytes : List ℕ
@@ -50,7 +52,15 @@ pub record Begins (name : List ℕ) (w : WalkView) : Type 0 where
   pub header : IsSome w.header
   pub kept : w.kept ≡ []
   pub given : w.given ≡ 0
+  pub ended : w.ended ≡ false
   pub answered : w.answered ≡ None
+
+-- a walk that has given the header, all lists, all documents and the end
+pub record IsAtEnd (w : WalkView) : Type 0 where
+  pub header : w.header ≡ None
+  pub lists : length w.kept ≡ w.lists
+  pub docs : w.given ≡ w.docs
+  pub ended : w.ended ≡ true
 
 -- the walk keeps what was given
 pub record Keeps (w : WalkView) (p : Progress) : Type 0 where
@@ -62,12 +72,17 @@ pub record Keeps (w : WalkView) (p : Progress) : Type 0 where
   pub given : w.given ≡ length p.numbers
   pub marks : (n : ℕ) → is_marked w.marks n ≡ is_among n p.numbers
 
+-- the bytes that the walk holds are of the content, which ends at the walk's place where the walk has given the end
+pub record IsWalkOver (content : List ℕ) (w : WalkView) : Type 0 where
+  pub shows : AreFrom content w.start w.bytes
+  pub ends : w.ended ≡ true → length content ≤ w.at
+
 -- no check fails before the walk's place, what it keeps is what the messages there hold, and what it holds is of the content
 pub record Stands (content : List ℕ) (w : WalkView) : Type 0 where
   pub progress : Progress
   pub reached : IsReached content progress
   pub keeps : Keeps w progress
-  pub shows : AreFrom content w.start w.bytes
+  pub over : IsWalkOver content w
 
 -- the same of a walk that has answered no error
 abbrev pub StandsFor : List ℕ → WalkView → Type 0
@@ -106,14 +121,27 @@ abbrev pub FindsAgain : Option Files → WalkView → ℕ → Result PostingsLis
 FindsAgain files old at result =
     ForContent files old.name (λ content. old.answered ≡ None → MatchResult result (λ list. IsListAt content old.docs at (list_data list)) IsOutside)
 
--- a refusal for another number of postings than the kept one says both numbers, and stands at the list's place
-abbrev pub SaysChange : List KeptList → ℕ → CiffRefusal → CiffWhy → Type 0
-SaysChange kept at refusal (whys.Changed k f) = (refusal.at ≡ at) × HasKept kept at k × (k ≢ f)
-SaysChange kept at refusal why = ⊤
+-- the list that the bytes stand for which the walk holds at a place of the file
+pub record HoldsList (w : WalkView) (at : ℕ) (list : ListData) : Type 0 where
+  pub front : w.start ≤ at
+  pub there : IsListAt w.bytes w.docs (at - w.start) list
 
-abbrev pub ChangesOnly : List KeptList → ℕ → CiffFault → Type 0
-ChangesOnly kept at (faults.Refused refusal) = SaysChange kept at refusal refusal.why
-ChangesOnly kept at fault = ⊤
+-- the walk holds a list at a place that has so many postings, which isn't the number that was kept of it
+pub record HoldsOther (w : WalkView) (at kept found : ℕ) : Type 0 where
+  pub list : ListData
+  pub holds : HoldsList w at list
+  pub found_is : found ≡ length list.postings
+  pub kept_is : HasKept w.kept at kept
+  pub other : kept ≢ found
+
+-- a refusal for another number of postings than the kept one says both numbers, and stands at the list's place
+abbrev pub SaysChange : WalkView → ℕ → CiffRefusal → CiffWhy → Type 0
+SaysChange now at refusal (whys.Changed kept found) = (refusal.at ≡ at) × HoldsOther now at kept found
+SaysChange now at refusal why = ⊤
+
+abbrev pub ChangesOnly : WalkView → ℕ → CiffFault → Type 0
+ChangesOnly now at (faults.Refused refusal) = SaysChange now at refusal refusal.why
+ChangesOnly now at fault = ⊤
 
 -- what reading a list again leaves: all but what is held of the file, and the error that is answered
 pub record LeavesWalk (old new : WalkView) : Type 0 where
@@ -125,10 +153,12 @@ pub record LeavesWalk (old new : WalkView) : Type 0 where
   pub kept : new.kept ≡ old.kept
   pub marks : new.marks ≡ old.marks
   pub given : new.given ≡ old.given
+  pub ended : new.ended ≡ old.ended
 
--- an error, once it is answered, is answered at each later call, and the walk stays
-abbrev pub SameError : {T : Type 0} → WalkView → WalkView → Result T CiffFault → Type 0
-SameError old now result = (fault : CiffFault) → old.answered ≡ Some fault → (result ≡ Err fault) × (now ≡ old)
+-- an error, once it is answered, is answered at each later call, and the walk and the files stay
+abbrev pub SameError : {T F : Type 0} → WalkView → WalkView → F → F → Result T CiffFault → Type 0
+SameError old now files after result =
+    (fault : CiffFault) → old.answered ≡ Some fault → (result ≡ Err fault) × (now ≡ old) × (after ≡ files)
 
 -- an error that is answered is kept
 abbrev pub KeepsError : {T : Type 0} → WalkView → Result T CiffFault → Type 0

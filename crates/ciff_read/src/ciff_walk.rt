@@ -1,13 +1,15 @@
-ghost use Rattle.std.specs.Prelude.{◌≡◌, ◌<◌, ◌≤◌, ◌⊎◌, length, Some, None, IfOk, IfErr, IsErrOf, MatchResult, OnOk};
+ghost use Rattle.std.specs.Prelude.{◌≡◌, ◌<◌, ◌≤◌, ◌⊎◌, length, true, Some, None, IfOk, IfErr, IsErrOf, MatchResult, OnErr, OnOk};
+ghost use Rattle.jass_base.specs.CiffViews.{list_data};
 ghost use Rattle.jass_base.specs.Lists.{HasDocsBelow};
 ghost use Rattle.jass_base.specs.Outside.{Rose, IsMissing, ForContent};
-ghost use Rattle.ciff_read.specs.Given.{PieceRanges, GivesTold};
+ghost use Rattle.ciff_read.specs.Given.{PieceRanges, GivesTold, SameEnd};
 ghost use Rattle.ciff_read.specs.Walk.{IsOutside, StandsTold, SameError, KeepsError};
-ghost use Rattle.ciff_read.specs.Walk.{IsGiven, HasKept, FindsAgain, ChangesOnly, LeavesWalk};
+ghost use Rattle.ciff_read.specs.Walk.{IsGiven, HasKept, HoldsList, FindsAgain, ChangesOnly, LeavesWalk};
 ghost use Rattle.ciff_read.specs.Walk.{KeepsRanges, Opens, Begins};
+ghost use Rattle.ciff_read.specs.Plain.{IsPlain};
 ghost use Rattle.ciff_read.specs.Private.OnlyReads.{OnlyReads};
 ghost use Rattle.ciff_read.specs.Private.Walk.{StaysHeld, LeavesOthers, ListGiven, IsListAgain, KeepsList};
-ghost use Rattle.ciff_read.specs.Private.Walk.{LeavesFile, LeavesLists, LeavesPlace, DocGiven, MarksDoc, EndGiven};
+ghost use Rattle.ciff_read.specs.Private.Walk.{LeavesFile, LeavesLists, LeavesPlace, DocGiven, MarksDoc, EndGiven, EndsAgain, StaysOver};
 
 use crate::doc_set::DocSet;
 use crate::kept_lists::{KeptLists, ListPlace};
@@ -45,6 +47,8 @@ pub struct CiffWalk {
     /// The numbers of the documents that were given, and how many these are.
     numbers: DocSet,
     given: u32,
+    /// Whether the end was given.
+    ended: bool,
     /// The error that was answered, and is answered again.
     answered: Option<CiffFault>,
     /// The memory of postings that were taken back.
@@ -70,6 +74,7 @@ impl Model for CiffWalk {
       kept = kept_in w.kept;
       marks = w.numbers.words.items;
       given = w.given;
+      ended = w.ended;
       answered = w.answered;
       start = w.window.start;
       bytes = w.window.bytes.items;
@@ -86,6 +91,7 @@ impl CiffWalk {
         ensures opens { ForContent (C.told files.old) name.now (λ content. Opens content result) }
         ensures missing { IsMissing (C.told files.old) name.now → MatchResult result (λ _. ⊥) IsOutside }
         ensures ranges { IfOk result KeepsRanges }
+        ensures plain { IfErr result IsPlain }
         ensures fault { IsErrOf result CiffFault.ReadFault
             → Rose (C.read_faults files.old) (C.read_faults files.new) ⊎ IsMissing (C.told files.old) name.now }
         ensures stays { C.told files.new ≡ C.told files.old }
@@ -111,6 +117,7 @@ impl CiffWalk {
             postings: 0,
             numbers: DocSet::new(alloc),
             given: 0,
+            ended: false,
             answered: None,
             spare: Vec::new(alloc),
         })
@@ -118,7 +125,8 @@ impl CiffWalk {
 
     /// Gives the next piece of the file, in the order of the file: the header, then the lists,
     /// then the documents' records. `End` comes once the file was read to its end, and again at
-    /// each later call. After an error each later call answers the same error without reading.
+    /// each later call, without reading. After an error each later call answers the same error
+    /// without reading.
     pub fn next_piece<C: Cabinet>(&mut self, files: &mut C) -> Result<Piece, CiffFault>
         requires there { IsMissing (C.told files.old) self.old.name → ⊥ }
         requires stands { StandsTold (C.told files.old) self.old }
@@ -127,16 +135,18 @@ impl CiffWalk {
         ensures ranges { IfOk result (PieceRanges self.old self.new) }
         ensures within { KeepsRanges self.new }
         ensures ok { OnOk result (self.new.answered ≡ None) }
+        ensures plain { IfErr result (λ fault. self.old.answered ≡ None → IsPlain fault) }
         ensures keeps { KeepsError self.new result }
-        ensures same { SameError self.old self.new result }
-        ensures name { self.new.name ≡ self.old.name }
-        ensures totals { (self.new.lists ≡ self.old.lists) × (self.new.docs ≡ self.old.docs) }
+        ensures same { SameError self.old self.new files.old files.new result }
+        ensures ended { SameEnd self.old self.new files.old files.new result }
         ensures fault { IsErrOf result CiffFault.ReadFault
             → Rose (C.read_faults files.old) (C.read_faults files.new)
             ⊎ (self.old.answered ≡ Some CiffFault.ReadFault) }
         ensures stays { C.told files.new ≡ C.told files.old }
         ensures later { C.read_faults files.old ≤ C.read_faults files.new }
         ensures others { C.write_faults files.old ≤ C.write_faults files.new }
+        ensures name { self.new.name ≡ self.old.name }
+        ensures totals { (self.new.lists ≡ self.old.lists) × (self.new.docs ≡ self.old.docs) }
     {
         if let Some(fault) = self.answered {
             return Err(fault);
@@ -152,8 +162,8 @@ impl CiffWalk {
 
     /// Reads a list again that was given, by the place that came with it. It may be called after
     /// `End`. Changed comes only where the list that is found has another number of postings than
-    /// the one that was given. After an error each later call answers the same error without
-    /// reading.
+    /// the one that was given, and says both numbers. After an error each later call answers the
+    /// same error without reading.
     pub fn list_again<C: Cabinet>(
         &mut self,
         files: &mut C,
@@ -166,10 +176,11 @@ impl CiffWalk {
         ensures stands { StandsTold (C.told files.old) self.new }
         ensures counted { IfOk result (λ list. HasKept self.old.kept at (length list.postings)) }
         ensures below { IfOk result (HasDocsBelow self.old.docs) }
-        ensures changed { IfErr result (λ fault. self.old.answered ≡ None → ChangesOnly self.old.kept at fault) }
+        ensures holds { IfOk result (λ list. HoldsList self.new at (list_data list)) }
+        ensures changed { IfErr result (λ fault. self.old.answered ≡ None → ChangesOnly self.new at fault) }
         ensures ok { OnOk result (self.new.answered ≡ None) }
         ensures keeps { KeepsError self.new result }
-        ensures same { SameError self.old self.new result }
+        ensures same { SameError self.old self.new files.old files.new result }
         ensures leaves { LeavesWalk self.old self.new }
         ensures fault { IsErrOf result CiffFault.ReadFault
             → Rose (C.read_faults files.old) (C.read_faults files.new)
@@ -202,7 +213,9 @@ impl CiffWalk {
     fn read_piece<C: Cabinet>(&mut self, files: &mut C) -> Result<Piece, CiffFault>
         ensures told { GivesTold (C.told files.old) self.old self.new result }
         ensures ranges { IfOk result (PieceRanges self.old self.new) }
-        ensures held { StaysHeld (C.told files.old) self.old self.new }
+        ensures plain { IfErr result IsPlain }
+        ensures over { StaysOver (C.told files.old) self.old self.new }
+        ensures ended { SameEnd self.old self.new files.old files.new result }
         ensures leaves { LeavesFile self.old self.new }
         ensures reads { OnlyReads (C.told files.old) (C.told files.new) self.old.name (C.read_faults files.old)
             (C.read_faults files.new) (C.write_faults files.old) (C.write_faults files.new) result }
@@ -222,7 +235,9 @@ impl CiffWalk {
         requires { self.old.header ≡ None }
         ensures told { GivesTold (C.told files.old) self.old self.new result }
         ensures ranges { IfOk result (PieceRanges self.old self.new) }
-        ensures held { StaysHeld (C.told files.old) self.old self.new }
+        ensures plain { IfErr result IsPlain }
+        ensures over { StaysOver (C.told files.old) self.old self.new }
+        ensures ended { SameEnd self.old self.new files.old files.new result }
         ensures leaves { LeavesFile self.old self.new }
         ensures reads { OnlyReads (C.told files.old) (C.told files.new) self.old.name (C.read_faults files.old)
             (C.read_faults files.new) (C.write_faults files.old) (C.write_faults files.new) result }
@@ -251,7 +266,7 @@ impl CiffWalk {
         requires stands { StandsTold (C.told files.old) self.old }
         requires given { IsGiven self.old.kept at }
         ensures told { FindsAgain (C.told files.old) self.old at result }
-        ensures counted { MatchResult result (IsListAgain self.old at) (ChangesOnly self.old.kept at) }
+        ensures counted { MatchResult result (IsListAgain self.new at) (ChangesOnly self.new at) }
         ensures held { StaysHeld (C.told files.old) self.old self.new }
         ensures leaves { LeavesWalk self.old self.new }
         ensures answered { self.new.answered ≡ self.old.answered }
@@ -283,6 +298,7 @@ impl CiffWalk {
     fn next_list<C: Cabinet>(&mut self, files: &mut C) -> Result<PostingsList, CiffFault>
         requires { length self.old.kept < self.old.lists }
         ensures given { IfOk result (KeepsList self.old self.new) }
+        ensures plain { IfErr result IsPlain }
         ensures exact { ListGiven (C.told files.old) self.old self.new result }
         ensures held { StaysHeld (C.told files.old) self.old self.new }
         ensures leaves { LeavesOthers self.old self.new }
@@ -316,6 +332,9 @@ impl CiffWalk {
     fn next_doc<C: Cabinet>(&mut self, files: &mut C) -> Result<(u32, DocRecord), CiffFault>
         requires { self.old.given < self.old.docs }
         ensures given { IfOk result (MarksDoc self.old self.new) }
+        ensures plain { IfErr result IsPlain }
+        ensures stays { self.new.ended ≡ self.old.ended }
+        ensures forward { self.old.at ≤ self.new.at }
         ensures exact { DocGiven (C.told files.old) self.old self.new result }
         ensures held { StaysHeld (C.told files.old) self.old self.new }
         ensures leaves { LeavesLists self.old self.new }
@@ -340,19 +359,27 @@ impl CiffWalk {
         Ok((number, item))
     }
 
-    /// Sees to it that nothing is left behind the last message.
+    /// Sees to it that nothing is left behind the last message, unless that was seen before.
     fn at_last<C: Cabinet>(&mut self, files: &mut C) -> Result<(), CiffFault>
         ensures exact { EndGiven (C.told files.old) self.old result }
+        ensures plain { IfErr result IsPlain }
+        ensures ended { OnOk result (self.new.ended ≡ true) }
+        ensures unended { OnErr result (self.new.ended ≡ self.old.ended) }
+        ensures again { EndsAgain self.old self.new files.old files.new result }
         ensures held { StaysHeld (C.told files.old) self.old self.new }
         ensures leaves { LeavesLists self.old self.new }
         ensures place { LeavesPlace self.old self.new }
         ensures reads { OnlyReads (C.told files.old) (C.told files.new) self.old.name (C.read_faults files.old)
             (C.read_faults files.new) (C.write_faults files.old) (C.write_faults files.new) result }
     {
+        if self.ended {
+            return Ok(());
+        }
         reach(&mut self.window, files, self.name.as_str(), self.at, 1)?;
         if self.window.bytes.len() > (self.at - self.window.start) as usize {
             return Err(refused(self.at as usize, CiffWhy::Trailing));
         }
+        self.ended = true;
         Ok(())
     }
 }

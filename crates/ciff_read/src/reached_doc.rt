@@ -1,7 +1,8 @@
-ghost use Rattle.std.specs.Prelude.{◌≤◌, length, IfOk, MatchResult};
+ghost use Rattle.std.specs.Prelude.{◌≤◌, length, IfErr, IfOk, MatchResult};
 ghost use Rattle.jass_base.specs.declared.limits.TheConstants.{LONGEST_FILE};
 ghost use Rattle.ciff_read.specs.Private.OnlyReads.{OnlyReads};
 ghost use Rattle.ciff_read.specs.Private.Places.{message_in};
+ghost use Rattle.ciff_read.specs.Plain.{IsPlain};
 ghost use Rattle.ciff_read.specs.Private.Plain.{IsNearFault};
 ghost use Rattle.ciff_read.specs.Private.Reached.{IsNewDoc, IsNextDoc, DocHeld, DocTold};
 ghost use Rattle.whole_files.specs.Windows.{StaysShown};
@@ -30,6 +31,7 @@ pub fn reach_doc<C: Cabinet>(
 ) -> Result<(u32, DocRecord, u64), CiffFault>
     requires { at ≤ LONGEST_FILE }
     ensures given { IfOk result (IsNextDoc docs numbers.now at) }
+    ensures plain { IfErr result IsPlain }
     ensures shown { StaysShown (C.told files.old) name.now window.old window.new }
     ensures exact { DocTold (C.told files.old) name.now window.old docs numbers.now at result }
     ensures reads { OnlyReads (C.told files.old) (C.told files.new) name.now (C.read_faults files.old)
@@ -56,6 +58,7 @@ fn read_held(
     requires within { body.end ≤ length bytes.now }
     requires at { at ≤ body.end }
     ensures given { MatchResult result (λ x. IsNewDoc docs numbers.now x.0) (IsNearFault body.end) }
+    ensures plain { IfErr result IsPlain }
     ensures exact { DocHeld docs numbers.now at (message_in bytes.now body) result }
 {
     refusals_are_near();

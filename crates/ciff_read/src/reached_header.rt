@@ -1,4 +1,5 @@
-ghost use Rattle.std.specs.Prelude.{◌≤◌, IfOk};
+ghost use Rattle.std.specs.Prelude.{◌≤◌, IfErr, IfOk};
+ghost use Rattle.ciff_read.specs.Plain.{IsPlain};
 ghost use Rattle.ciff_read.specs.Private.OnlyReads.{OnlyReads};
 ghost use Rattle.ciff_read.specs.Private.Reached.{HeaderTold};
 ghost use Rattle.jass_base.specs.declared.limits.TheConstants.{LONGEST_FILE};
@@ -20,6 +21,7 @@ pub fn reach_header<C: Cabinet>(
     name: &str,
 ) -> Result<(FileHead, u64), CiffFault>
     ensures near { IfOk result (λ x. x.1 ≤ LONGEST_FILE) }
+    ensures plain { IfErr result IsPlain }
     ensures shown { StaysShown (C.told files.old) name.now window.old window.new }
     ensures exact { HeaderTold (C.told files.old) name.now window.old result }
     ensures reads { OnlyReads (C.told files.old) (C.told files.new) name.now (C.read_faults files.old)

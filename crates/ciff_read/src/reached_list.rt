@@ -1,4 +1,4 @@
-ghost use Rattle.std.specs.Prelude.{◌≡◌, ◌≤◌, IsTrue, length, not, MatchResult};
+ghost use Rattle.std.specs.Prelude.{◌≡◌, ◌≤◌, IsTrue, length, not, IfOk, MatchResult};
 ghost use Rattle.std.specs.Option.{option_map};
 ghost use Rattle.jass_base.specs.CiffViews.{list_data};
 ghost use Rattle.jass_base.specs.declared.limits.TheConstants.{LONGEST_FILE, MOST_DOCUMENTS, MOST_POSTINGS};
@@ -7,8 +7,9 @@ ghost use Rattle.ciff_read.specs.Reading.{list_at};
 ghost use Rattle.ciff_read.specs.Refusals.{Answers};
 ghost use Rattle.ciff_read.specs.Private.OnlyReads.{OnlyReads};
 ghost use Rattle.ciff_read.specs.Private.Places.{message_in};
-ghost use Rattle.ciff_read.specs.Private.Plain.{IsNearFault, IsPlain};
-ghost use Rattle.ciff_read.specs.Private.Reached.{IsNewList, IsNextList, IsToldToRise, ListTold, terms_behind};
+ghost use Rattle.ciff_read.specs.Private.Plain.{IsNearFault};
+ghost use Rattle.ciff_read.specs.Plain.{IsPlain};
+ghost use Rattle.ciff_read.specs.Private.Reached.{HoldsRead, IsNewList, IsNextList, IsToldToRise, ListTold, terms_behind};
 ghost use Rattle.whole_files.specs.Windows.{StaysShown};
 
 use crate::body::Body;
@@ -40,6 +41,7 @@ pub fn reach_list<C: Cabinet>(
     requires docs { docs ≤ MOST_DOCUMENTS }
     requires before { before ≤ MOST_POSTINGS }
     ensures given { MatchResult result (IsNextList docs before (option_map (λ k. k.now) kept.entry) at) IsPlain }
+    ensures held { IfOk result (HoldsRead docs before (option_map (λ k. k.now) kept.entry) at window.new) }
     ensures shown { StaysShown (C.told files.old) name.now window.old window.new }
     ensures exact { ListTold (C.told files.old) name.now window.old docs before
         (option_map (λ k. k.now) kept.entry) at result }

@@ -1,11 +1,11 @@
-ghost use Rattle.std.specs.Prelude.{◌≡◌, ◌<◌, ◌≤◌, ◌+◌, ◌^◌, [], OnOk, MatchResult};
+ghost use Rattle.std.specs.Prelude.{◌≡◌, ◌<◌, ◌≤◌, ◌+◌, ◌^◌, [], IfOk, OnOk, MatchResult};
 ghost use Rattle.jass_base.specs.Outside.{IsMissing};
 ghost use Rattle.jass_base.specs.declared.limits.TheConstants.{LONGEST_FILE};
 ghost use Rattle.ciff_read.specs.Walk.{IsOutside};
 ghost use Rattle.ciff_read.specs.Private.OnlyReads.{OnlyReads};
-ghost use Rattle.ciff_read.specs.Private.Plain.{IsPlain};
-ghost use Rattle.ciff_read.specs.Private.Reaching.{IsBodyAt, SizeTold, MessageTold};
-ghost use Rattle.whole_files.specs.Windows.{IsAt, StaysShown, ReachesTold};
+ghost use Rattle.ciff_read.specs.Plain.{IsPlain};
+ghost use Rattle.ciff_read.specs.Private.Reaching.{HoldsBody, HoldsSize, IsBodyAt, SizeTold, MessageTold};
+ghost use Rattle.whole_files.specs.Windows.{IsAt, KeepsFrom, StaysShown, ReachesTold};
 
 use crate::body::Body;
 use crate::refusal::{CiffFault, CiffWhy, refused, refused_field};
@@ -29,6 +29,7 @@ pub fn reach<C: Cabinet>(
     ensures at { MatchResult result (λ _. IsAt at window.new) IsOutside }
     ensures shown { StaysShown (C.told files.old) name.now window.old window.new }
     ensures reached { OnOk result (ReachesTold (C.told files.old) name.now window.old window.new at count) }
+    ensures keeps { OnOk result (KeepsFrom at window.old window.new) }
     ensures there { OnOk result (window.old.bytes.items ≡ [] → 1 ≤ count → ¬ IsMissing (C.told files.old) name.now) }
     ensures reads { OnlyReads (C.told files.old) (C.told files.new) name.now (C.read_faults files.old)
         (C.read_faults files.new) (C.write_faults files.old) (C.write_faults files.new) result }
@@ -49,6 +50,7 @@ fn reach_size<C: Cabinet>(
 ) -> Result<(u64, u64), CiffFault>
     requires { at ≤ LONGEST_FILE }
     ensures place { MatchResult result (λ x. at < x.1) IsPlain }
+    ensures held { IfOk result (HoldsSize at window.new) }
     ensures shown { StaysShown (C.told files.old) name.now window.old window.new }
     ensures exact { SizeTold (C.told files.old) name.now at window.old result }
     ensures reads { OnlyReads (C.told files.old) (C.told files.new) name.now (C.read_faults files.old)
@@ -73,6 +75,7 @@ pub fn reach_message<C: Cabinet>(
 ) -> Result<Body, CiffFault>
     requires { at ≤ LONGEST_FILE }
     ensures held { MatchResult result (IsBodyAt at window.new) IsPlain }
+    ensures message { IfOk result (HoldsBody at window.new) }
     ensures shown { StaysShown (C.told files.old) name.now window.old window.new }
     ensures exact { MessageTold (C.told files.old) name.now at window.old window.new result }
     ensures reads { OnlyReads (C.told files.old) (C.told files.new) name.now (C.read_faults files.old)

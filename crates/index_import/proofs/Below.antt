@@ -9,8 +9,7 @@ pub use Rattle.ciff_read.specs.Reaching.{FailsReading}
 pub use Rattle.ciff_read.specs.Reading.{Message, list_at, read_ciff}
 pub use Rattle.ciff_read.specs.Refusals.{◌>>=◌}
 pub use Rattle.ciff_read.specs.Seen.{is_seen}
-pub use Rattle.ciff_read.specs.Walk.{Begins, HasKept, IsListAt, Keeps, KeepsRanges, LeavesWalk, StandsFor, StandsTold, WalkView, kept_of}
-pub use Rattle.whole_files.specs.Windows.{AreFrom}
+pub use Rattle.ciff_read.specs.Walk.{Begins, HasKept, IsGiven, IsListAt, IsWalkOver, Keeps, KeepsRanges, LeavesWalk, StandsFor, StandsTold, WalkView, kept_of}
 pub use Rattle.ciff_read.specs.declared.piece.Piece.{Piece}
 pub use Rattle.ciff_read.specs.declared.refusal.CiffFault.{CiffFault}
 pub use Rattle.ciff_read.specs.declared.refusal.CiffRefusal.{CiffRefusal}

@@ -1,6 +1,7 @@
 mod Below
 mod Again
 mod Beside
+mod Changing
 mod Finished
 mod Headed
 mod Spelled
@@ -8,6 +9,7 @@ mod Imported
 mod KeptDocs
 mod Made
 mod Outlining
+mod Outside
 mod Ready
 mod SegmentTurns
 mod Rows

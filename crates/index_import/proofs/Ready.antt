@@ -43,7 +43,7 @@ module _ (at : ℕ) where
   one_count kept a b rising first second = one kept a b (rising_pairs (map (λ (k : KeptList). k.at) kept) rising) first second
 
 pub leaves_same : (w : WalkView) → LeavesWalk w w
-leaves_same w = record { name = refl; header = refl; lists = refl; docs = refl; at = refl; kept = refl; marks = refl; given = refl }
+leaves_same w = record { name = refl; header = refl; lists = refl; docs = refl; at = refl; kept = refl; marks = refl; given = refl; ended = refl }
 
 pub leaves_then : (old mid new : WalkView) → LeavesWalk old mid → LeavesWalk mid new → LeavesWalk old new
 leaves_then old mid new first second = record {
@@ -55,6 +55,7 @@ leaves_then old mid new first second = record {
   kept = second.kept ∙ first.kept;
   marks = second.marks ∙ first.marks;
   given = second.given ∙ first.given;
+  ended = second.ended ∙ first.ended;
 }
 
 -- a walk stays ready while another file is written

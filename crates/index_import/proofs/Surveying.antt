@@ -3,7 +3,7 @@ use Rattle.shared_lemmas.proofs.Common.{◌≡◌, ◌≢◌, ℕ, ◌+◌, ◌-
 use Rattle.shared_lemmas.proofs.Common.{IsStrictlyIncreasing, nat_tests, not_from_Decides, length-append, map-append, All-from_recursion, All-nil, All-push, filter-append, all_pairs_push, bytes_eq-Decides}
 use Rattle.index_import.proofs.Below.{header_data, list_data, FitsList, HeaderData, ListData, HasDocsBelow, Files, ForContent, HasTfInRange, docs_of, DocRecord, Header, Posting, PostingsList, Assembles, IsKeptList, Parts, collection_of, only_header, with_piece, Advances, GivesPiece, GivesTold}
 use Rattle.index_import.proofs.Below.{piece_data, NumberedDoc, is_among, numbers_of, is_marked, DocPiece, EndPiece, IsReached, KeptList, ListPiece, PieceData, Progress, StartPiece, Step, header_of_file, next_of, terms_kept, FailsReading, read_ciff, is_seen, Begins, IsListAt, Keeps, KeepsRanges}
-use Rattle.index_import.proofs.Below.{StandsFor, StandsTold, WalkView, kept_of, AreFrom, Piece, CiffFault, CiffRefusal, for_all, for_both, for_one, most_tf, list_fits}
+use Rattle.index_import.proofs.Below.{StandsFor, StandsTold, WalkView, kept_of, IsWalkOver, Piece, CiffFault, CiffRefusal, for_all, for_both, for_one, most_tf, list_fits}
 use Rattle.ciff_read.specs.declared.piece.Piece.TheVariants as pieces
 use Rattle.ciff_read.specs.declared.refusal.CiffFault.TheVariants as faults
 use Rattle.index_import.specs.Private.KeptDocs.{numbered}
@@ -286,9 +286,9 @@ pub gives_there : (told now : Option Files) (name : List ℕ) (old new : WalkVie
 gives_there told now name old new result same named unanswered stands gives =
     subst (λ (n : List ℕ). ForContent told n (λ content. (p : Progress) → Keeps old p → GivesPiece content p result new)) named
     (for_both told old.name (λ content. StandsFor content old)
-    (λ content. old.answered ≡ None → AreFrom content old.start old.bytes → (p : Progress) → Keeps old p → GivesPiece content p result new)
+    (λ content. old.answered ≡ None → IsWalkOver content old → (p : Progress) → Keeps old p → GivesPiece content p result new)
     (λ content. (p : Progress) → Keeps old p → GivesPiece content p result new)
-    (λ content here given. given unanswered (here unanswered).shows) stands (subst (λ (files : Option Files). GivesTold files old new result) same gives))
+    (λ content here given. given unanswered (here unanswered).over) stands (subst (λ (files : Option Files). GivesTold files old new result) same gives))
 
 -- nothing is kept of no list, and what was kept stays so where the documents are as many
 pub no_most : (told : Option Files) (name : List ℕ) (docs : ℕ) (lists : List ListEntry) → lists ≡ [] → ForContent told name (λ content. All (HoldsMost content docs) lists)

@@ -1,11 +1,14 @@
 -- The index file that is made of a CIFF file.
-use Rattle.std.specs.Prelude.{ℕ, ◌≡◌, ◌<◌, ◌≤◌, ◌⊎◌, List, length, take, Option, Result, Ok, Err}
+use Rattle.std.specs.Prelude.{ℕ, ◌≡◌, ◌≢◌, ◌<◌, ◌≤◌, ◌⊎◌, ⊤, List, length, take, Option, Result, Ok, Err}
 use Rattle.jass_base.specs.Ciff.{CollectionData}
 use Rattle.jass_base.specs.Outside.{Files, OnContent, Sets}
 use Rattle.jass_base.specs.declared.answer.Totals.{Totals}
 use Rattle.weights.specs.declared.weighting.Rule.{Rule}
 use Rattle.weights.specs.declared.quantizing.Bits.{Bits}
 use Rattle.ciff_read.specs.Reading.{read_ciff}
+use Rattle.ciff_read.specs.Walk.{IsGiven, KeepsRanges, WalkView}
+use Rattle.ciff_read.specs.declared.refusal.CiffWhy.{CiffWhy}
+use Rattle.ciff_read.specs.declared.refusal.CiffWhy.TheVariants.{Changed}
 use Rattle.impact_segments.specs.Collections.{collection_index}
 use Rattle.index_model.specs.Index.{IndexData}
 use Rattle.index_layout.specs.Totals.{totals_of}
@@ -31,3 +34,23 @@ Imports old new name index rule bits (Err ReadFault) = (new ≡ old) ⊎ ((made 
 Imports old new name index rule bits (Err (TooLarge n)) = (made : IndexData) × IsMade old name rule bits made × (n ≡ length (index_text made)) × (LONGEST_FILE < n) × (new ≡ old)
 Imports old new name index rule bits (Err WriteFault) = (made : IndexData) × IsMade old name rule bits made × (length (index_text made) ≤ LONGEST_FILE) × LeavesPrefix old new index (index_text made)
 Imports old new name index rule bits (Err NoMemory) = (new ≡ old) ⊎ ((made : IndexData) × IsMade old name rule bits made × Begins old new index made)
+
+-- a refusal for a change says two numbers that differ, and P holds of its place and of the one that was kept
+abbrev pub ChangesWhere : (ℕ → ℕ → Type 0) → ℕ → CiffWhy → Type 0
+ChangesWhere P at (Changed kept found) = P at kept × (kept ≢ found)
+ChangesWhere P at why = ⊤
+
+abbrev pub ImportChanges : (ℕ → ℕ → Type 0) → ImportFault → Type 0
+ImportChanges P (Refused refusal) = ChangesWhere P refusal.at refusal.why
+ImportChanges P ReadFault = ⊤
+ImportChanges P (TooLarge n) = ⊤
+ImportChanges P WriteFault = ⊤
+ImportChanges P NoMemory = ⊤
+
+-- a walk over the file of a name, within its ranges, was given a list at a place
+abbrev pub WasGiven : List ℕ → ℕ → Type 0
+WasGiven name at = (w : WalkView) × (w.name ≡ name) × KeepsRanges w × IsGiven w.kept at
+
+-- a refusal for a change stands at the place of a list of the file of a name, and says two numbers that differ
+abbrev pub SaysChanged : List ℕ → ImportFault → Type 0
+SaysChanged name fault = ImportChanges (λ at kept. WasGiven name at) fault

@@ -10,8 +10,10 @@ ghost use Rattle.index_model.specs.Index.{SegmentData};
 ghost use Rattle.index_write.specs.Chosen.{chosen_heads, head_data};
 ghost use Rattle.index_write.specs.Streaming.{AreEntries, entry_data};
 ghost use Rattle.index_write.specs.declared.term_heads.TermHeads.{TermHeads};
+ghost use Rattle.index_import.specs.Private.Faults.{ChangesAt, ChangesGiven};
 ghost use Rattle.index_import.specs.Private.Heading.{AreHeads, FailsAllInside, HasOneMore, places_of};
 ghost use Rattle.index_import.specs.Private.Outlining.{list_there};
+ghost use Rattle.index_import.specs.Private.Ranging.{HasOrder};
 ghost use Rattle.index_import.specs.Private.Rereading.{FailsOf};
 ghost use Rattle.index_import.specs.Private.Surveying.{AreGiven, HoldsMost, IsReady, KeepsAll};
 ghost use Rattle.index_import.specs.declared.list_entry.ListEntry.{ListEntry};
@@ -57,6 +59,7 @@ pub(crate) fn read_heads<C: Cabinet>(
     requires docs { length weighing.lengths.now ≡ walk.old.docs }
     requires width { IsImpactWidth bits }
     requires low { EndsLow bits range }
+    requires order { HasOrder range }
     ensures ready { OnOk result (IsReady (C.told files.old) walk.old.name walk.new) }
     ensures leaves { LeavesWalk walk.old walk.new }
     ensures heads { IfOk result (λ heads. AreHeads (C.told files.old) walk.old.name walk.old.docs
@@ -64,6 +67,7 @@ pub(crate) fn read_heads<C: Cabinet>(
     ensures as_many { IfOk result (λ heads. length heads.terms ≡ length lists.items) }
     ensures entries { IfOk result (λ heads. AreEntries (map entry_data heads.terms)) }
     ensures places { IfOk result (λ heads. heads.places.items ≡ places_of lists.items) }
+    ensures changed { IfErr result (ChangesGiven walk.old.kept) }
     ensures told { ForContent (C.told files.old) walk.old.name (λ content.
         IfErr result (FailsAllInside content walk.old.docs weighing.entry bits range lists.items)) }
     ensures fault { IsErrOf result CiffFault.ReadFault → Rose (C.read_faults files.old) (C.read_faults files.new) }
@@ -132,10 +136,12 @@ impl HeadsReader {
         requires docs { length weighing.lengths.now ≡ walk.old.docs }
         requires width { IsImpactWidth bits }
         requires low { EndsLow bits range }
+        requires order { HasOrder range }
         ensures ready { OnOk result (IsReady (C.told files.old) walk.old.name walk.new) }
         ensures leaves { LeavesWalk walk.old walk.new }
         ensures heads { OnOk result (HasOneMore (C.told files.old) walk.old.name walk.old.docs
             weighing.entry bits range entry self.old.heads.terms self.new.heads.terms) }
+        ensures changed { IfErr result (ChangesAt entry.place.at) }
         ensures places { OnOk result
             (self.new.heads.places.items ≡ self.old.heads.places.items ++ entry.place ∷ []) }
         ensures told { ForContent (C.told files.old) walk.old.name (λ content. IfErr result

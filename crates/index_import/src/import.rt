@@ -4,10 +4,11 @@ ghost use Rattle.weights.specs.Quantizing.{IsImpactWidth};
 ghost use Rattle.weights.specs.declared.quantizing.Bits.{Bits};
 ghost use Rattle.weights.specs.declared.weighting.Rule.{Rule};
 ghost use Rattle.impact_segments.specs.OneList.{EndsLow};
-ghost use Rattle.index_import.specs.Importing.{Imports};
+ghost use Rattle.ciff_read.specs.Walk.{IsGiven};
+ghost use Rattle.index_import.specs.Importing.{ImportChanges, Imports, SaysChanged};
 ghost use Rattle.index_import.specs.Private.KeptDocs.{names_in};
 ghost use Rattle.index_import.specs.Private.Outlining.{IsOutline, IsOutlined};
-ghost use Rattle.index_import.specs.Private.Ranging.{range_there};
+ghost use Rattle.index_import.specs.Private.Ranging.{HasOrder, range_there};
 ghost use Rattle.index_import.specs.Private.Surveying.{IsReady};
 
 use crate::fault::ImportFault;
@@ -34,7 +35,8 @@ const MOST_HELD_POSTINGS: u64 = 33_554_432;
 /// Makes an index file of a CIFF file, and gives the totals of the index. The CIFF file is read to
 /// its end before the index is touched. Refused comes with the first refusal of the file, and
 /// TooLarge where the index would have more than 2^32 bytes; both leave the index as it is, but for
-/// a file that changes while it is read. After another fault the index is as it was, or begins as
+/// a file that changes while it is read: Changed comes only for that, with the place of a list and
+/// two numbers that should agree and don't. After another fault the index is as it was, or begins as
 /// it should.
 pub fn import_file<C: Cabinet>(
     alloc: Global,
@@ -47,6 +49,7 @@ pub fn import_file<C: Cabinet>(
     requires width { IsImpactWidth bits }
     requires apart { ciff.now ≢ index.now }
     ensures imported { Imports (C.told files.old) (C.told files.new) ciff.now index.now rule bits result }
+    ensures changed { IfErr result (SaysChanged ciff.now) }
     ensures read_fault { IsErrOf result ImportFault.ReadFault
         → Rose (C.read_faults files.old) (C.read_faults files.new) ⊎ IsMissing (C.told files.old) ciff.now }
     ensures write_fault { IsErrOf result ImportFault.WriteFault
@@ -73,6 +76,7 @@ fn read_outline<C: Cabinet>(
         IsOutline content o.walk.docs (names_in o.docs) o.lengths.items o.lists.items)) }
     ensures failed { IfErr result (λ fault. (index : List ℕ) (rule : Rule) (bits : Bits)
         → Imports (C.told files.old) (C.told files.new) ciff.now index rule bits (Err fault)) }
+    ensures changed { IfErr result (ImportChanges (λ at kept. ⊥)) }
     ensures read_fault { IsErrOf result ImportFault.ReadFault
         → Rose (C.read_faults files.old) (C.read_faults files.new) ⊎ IsMissing (C.told files.old) ciff.now }
     ensures write_fault { IfErr result (λ fault. fault ≢ ImportFault.WriteFault) }
@@ -107,6 +111,7 @@ fn import_outline<C: Cabinet>(
     requires width { IsImpactWidth bits }
     requires apart { outline.walk.name ≢ index.now }
     ensures imported { Imports (C.told files.old) (C.told files.new) outline.walk.name index.now rule bits result }
+    ensures changed { IfErr result (ImportChanges (λ at kept. IsGiven outline.walk.kept at)) }
     ensures read_fault { IsErrOf result ImportFault.ReadFault
         → Rose (C.read_faults files.old) (C.read_faults files.new) }
     ensures write_fault { IsErrOf result ImportFault.WriteFault
@@ -162,6 +167,7 @@ fn import_lists<C: Cabinet>(
     requires apart { walk.old.name ≢ index.now }
     ensures imported { Imports (C.told files.old) (C.told files.new) walk.old.name index.now
         weighing.entry.rule bits result }
+    ensures changed { IfErr result (ImportChanges (λ at kept. IsGiven walk.old.kept at)) }
     ensures read_fault { IsErrOf result ImportFault.ReadFault
         → Rose (C.read_faults files.old) (C.read_faults files.new) }
     ensures write_fault { IsErrOf result ImportFault.WriteFault
@@ -206,10 +212,12 @@ fn import_held<C: Cabinet>(
     requires ranged { ForContent (C.told files.old) walk.old.name (λ content.
         range ≡ range_there content walk.old.docs weighing bits lists.items) }
     requires low { EndsLow bits range }
+    requires order { HasOrder range }
     requires width { IsImpactWidth bits }
     requires apart { walk.old.name ≢ index.now }
     ensures imported { Imports (C.told files.old) (C.told files.new) walk.old.name index.now
         weighing.entry.rule bits result }
+    ensures changed { IfErr result (ImportChanges (λ at kept. IsGiven walk.old.kept at)) }
     ensures read_fault { IsErrOf result ImportFault.ReadFault
         → Rose (C.read_faults files.old) (C.read_faults files.new) }
     ensures write_fault { IsErrOf result ImportFault.WriteFault
@@ -247,10 +255,12 @@ fn import_reread<C: Cabinet>(
     requires ranged { ForContent (C.told files.old) walk.old.name (λ content.
         range ≡ range_there content walk.old.docs weighing bits lists.items) }
     requires low { EndsLow bits range }
+    requires order { HasOrder range }
     requires width { IsImpactWidth bits }
     requires apart { walk.old.name ≢ index.now }
     ensures imported { Imports (C.told files.old) (C.told files.new) walk.old.name index.now
         weighing.entry.rule bits result }
+    ensures changed { IfErr result (ImportChanges (λ at kept. IsGiven walk.old.kept at)) }
     ensures read_fault { IsErrOf result ImportFault.ReadFault
         → Rose (C.read_faults files.old) (C.read_faults files.new) }
     ensures write_fault { IsErrOf result ImportFault.WriteFault

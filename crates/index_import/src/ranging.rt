@@ -2,7 +2,8 @@ ghost use Rattle.std.specs.Prelude.{◌≡◌, ◌<◌, ◌≤◌, ◌^◌, leng
 ghost use Rattle.jass_base.specs.Outside.{Rose, ForContent};
 ghost use Rattle.ciff_read.specs.Walk.{HasKept, IsOutside, LeavesWalk};
 ghost use Rattle.impact_segments.specs.OneList.{EndsLow};
-ghost use Rattle.index_import.specs.Private.Ranging.{IsWidenedBy, range_there, widened_there};
+ghost use Rattle.index_import.specs.Private.Faults.{ChangesAs};
+ghost use Rattle.index_import.specs.Private.Ranging.{HasOrder, IsWidenedBy, range_there, widened_there};
 ghost use Rattle.index_import.specs.Private.Surveying.{AreGiven, HoldsMost, IsReady, KeepsAll};
 
 use crate::list_entry::{ListEntry, Place};
@@ -33,6 +34,8 @@ pub(crate) fn read_range<C: Cabinet>(
     ensures ready { OnOk result (IsReady (C.told files.old) walk.old.name walk.new) }
     ensures leaves { LeavesWalk walk.old walk.new }
     ensures low { IfOk result (EndsLow bits) }
+    ensures order { IfOk result HasOrder }
+    ensures changed { IfErr result (ChangesAs (HasKept walk.old.kept)) }
     ensures told { ForContent (C.told files.old) walk.old.name (λ content.
         MatchResult result
         (λ range. range ≡ range_there content walk.old.docs weighing.entry bits lists.now) IsOutside) }
@@ -65,6 +68,8 @@ fn widen_lists<C: Cabinet>(
     ensures ready { OnOk result (IsReady (C.told files.old) walk.old.name walk.new) }
     ensures leaves { LeavesWalk walk.old walk.new }
     ensures low { IfOk result (λ range. range.greatest ≤ 2 ^ 40) }
+    ensures order { IfOk result HasOrder }
+    ensures changed { IfErr result (ChangesAs (HasKept walk.old.kept)) }
     ensures told { ForContent (C.told files.old) walk.old.name (λ content.
         MatchResult result (λ range. range ≡ widened_there content walk.old.docs weighing.entry lists.now) IsOutside) }
     ensures fault { IsErrOf result CiffFault.ReadFault → Rose (C.read_faults files.old) (C.read_faults files.new) }
@@ -115,6 +120,7 @@ fn widen_by_entry<C: Cabinet>(
     ensures leaves { LeavesWalk walk.old walk.new }
     ensures widened { OnOk result (IsWidenedBy (C.told files.old) walk.old.name walk.old.docs weighing.entry
         entry.now.place.at range.old range.new) }
+    ensures changed { IfErr result (ChangesAs (HasKept walk.old.kept)) }
     ensures told { ForContent (C.told files.old) walk.old.name (λ content. IfErr result IsOutside) }
     ensures fault { IsErrOf result CiffFault.ReadFault → Rose (C.read_faults files.old) (C.read_faults files.new) }
     ensures stays { C.told files.new ≡ C.told files.old }

@@ -5,7 +5,9 @@ ghost use Rattle.jass_base.specs.Outside.{Rose, ForContent};
 ghost use Rattle.weights.specs.Quantizing.{IsImpactWidth};
 ghost use Rattle.ciff_read.specs.Walk.{HasKept, IsOutside, LeavesWalk};
 ghost use Rattle.impact_segments.specs.OneList.{ArePostingsOf, EndsLow};
+ghost use Rattle.index_import.specs.Private.Faults.{ChangesAt, ChangesKept};
 ghost use Rattle.index_import.specs.Private.Outlining.{list_there};
+ghost use Rattle.index_import.specs.Private.Ranging.{HasOrder};
 ghost use Rattle.index_import.specs.Private.Rereading.{AreSegments, MakesOf, MakesSegments};
 ghost use Rattle.index_import.specs.Private.Surveying.{HoldsMost, IsReady, KeepsAll};
 
@@ -28,6 +30,7 @@ pub(crate) fn read_again<C: Cabinet>(
     ensures leaves { LeavesWalk walk.old walk.new }
     ensures below { IfOk result (HasDocsBelow walk.old.docs) }
     ensures count { IfOk result (λ list. length list.postings ≡ place.count) }
+    ensures changed { IfErr result (ChangesKept walk.old.kept place.at) }
     ensures told { ForContent (C.told files.old) walk.old.name (λ content.
         MatchResult result (λ list. list_data list ≡ list_there content walk.old.docs place.at) IsOutside) }
     ensures fault { IsErrOf result CiffFault.ReadFault → Rose (C.read_faults files.old) (C.read_faults files.new) }
@@ -61,9 +64,11 @@ pub(crate) fn entry_segments<C: Cabinet>(
     requires docs { length weighing.lengths.now ≡ walk.old.docs }
     requires width { IsImpactWidth bits }
     requires low { EndsLow bits range }
+    requires order { HasOrder range }
     ensures ready { OnOk result (IsReady (C.told files.old) walk.old.name walk.new) }
     ensures leaves { LeavesWalk walk.old walk.new }
     ensures segments { OnOk result (AreSegments walk.old.docs entry.now.place.count segments.new) }
+    ensures changed { IfErr result (ChangesAt entry.now.place.at) }
     ensures told { ForContent (C.told files.old) walk.old.name (λ content.
         MakesSegments content walk.old.docs weighing.entry bits range entry.now.place.at segments.new result) }
     ensures fault { IsErrOf result CiffFault.ReadFault → Rose (C.read_faults files.old) (C.read_faults files.new) }
@@ -116,9 +121,11 @@ pub(crate) fn read_segments<C: Cabinet>(
     requires docs { length weighing.lengths.now ≡ walk.old.docs }
     requires width { IsImpactWidth bits }
     requires low { EndsLow bits range }
+    requires order { HasOrder range }
     ensures ready { OnOk result (IsReady (C.told files.old) walk.old.name walk.new) }
     ensures leaves { LeavesWalk walk.old walk.new }
     ensures segments { OnOk result (AreSegments walk.old.docs place.count segments.new) }
+    ensures changed { IfErr result (ChangesAt place.at) }
     ensures told { ForContent (C.told files.old) walk.old.name (λ content.
         MakesSegments content walk.old.docs weighing.entry bits range place.at segments.new result) }
     ensures fault { IsErrOf result CiffFault.ReadFault → Rose (C.read_faults files.old) (C.read_faults files.new) }
@@ -149,9 +156,11 @@ fn make_segments<P: PostingsByPlace>(
     requires list { ArePostingsOf weighing.lengths.now weighing.total (P.postings list.now) }
     requires width { IsImpactWidth bits }
     requires low { EndsLow bits range }
+    requires order { HasOrder range }
     ensures segments { OnOk result
         (AreSegments (length weighing.entry.lengths.now) (length (P.postings list.now)) segments.new) }
     ensures made { MakesOf weighing.entry bits range (P.postings list.now) segments.new result }
+    ensures changed { IfErr result (ChangesAt at) }
     ensures fault { IfErr result (λ fault. fault ≢ CiffFault.ReadFault) }
 {
     let Weighing {

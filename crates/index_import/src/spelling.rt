@@ -12,9 +12,12 @@ ghost use Rattle.index_model.specs.Index.{SegmentData, TermData};
 ghost use Rattle.index_write.specs.Chosen.{chosen_heads, chosen_payloads, head_data};
 ghost use Rattle.index_write.specs.Spelled.{AreSpelled};
 ghost use Rattle.index_write.specs.Streaming.{AreNames};
+ghost use Rattle.index_import.specs.Importing.{ImportChanges};
+ghost use Rattle.index_import.specs.Private.Faults.{ChangesAt, ChangesGiven};
 ghost use Rattle.index_import.specs.Private.Heading.{FailsAllInside};
 ghost use Rattle.index_import.specs.Private.KeptDocs.{names_in};
 ghost use Rattle.index_import.specs.Private.Outlining.{list_there};
+ghost use Rattle.index_import.specs.Private.Ranging.{HasOrder};
 ghost use Rattle.index_import.specs.Private.Rereading.{FailsOf};
 ghost use Rattle.index_import.specs.Private.Spelling.{AreOf, IsSpelling, PutsTerm, SpellsOne};
 ghost use Rattle.index_import.specs.Private.Surveying.{AreGiven, HoldsMost, IsReady, KeepsAll};
@@ -65,8 +68,10 @@ pub(crate) fn spell_lists<C: Cabinet>(
     requires docs { length weighing.lengths.now ≡ walk.old.docs }
     requires width { IsImpactWidth bits }
     requires low { EndsLow bits range }
+    requires order { HasOrder range }
     ensures spelled { IfOk result (λ s. IsSpelling (C.told files.old) walk.old.name walk.old.docs
         weighing.entry bits range lists.items s.terms s.payloads) }
+    ensures changed { IfErr result (ChangesGiven walk.old.kept) }
     ensures told { ForContent (C.told files.old) walk.old.name (λ content.
         IfErr result (FailsAllInside content walk.old.docs weighing.entry bits range lists.items)) }
     ensures fault { IsErrOf result CiffFault.ReadFault → Rose (C.read_faults files.old) (C.read_faults files.new) }
@@ -143,11 +148,13 @@ impl Speller {
         requires docs { length weighing.lengths.now ≡ walk.old.docs }
         requires width { IsImpactWidth bits }
         requires low { EndsLow bits range }
+        requires order { HasOrder range }
         ensures ready { OnOk result (IsReady (C.told files.old) walk.old.name walk.new) }
         ensures leaves { LeavesWalk walk.old walk.new }
         ensures spelled { OnOk result (SpellsOne (C.told files.old) walk.old.name walk.old.docs
             weighing.entry bits range entry.now self.old.terms self.new.terms
             (self.old.payloads ++ self.old.block) (self.new.payloads ++ self.new.block)) }
+        ensures changed { IfErr result (ChangesAt entry.now.place.at) }
         ensures told { ForContent (C.told files.old) walk.old.name (λ content. IfErr result
             (FailsOf weighing.entry bits range (list_there content walk.old.docs entry.now.place.at).postings)) }
         ensures fault { IsErrOf result CiffFault.ReadFault
@@ -262,6 +269,7 @@ pub(crate) fn write_spelled<C: Cabinet>(
         → AreOf (length (names_in docs.now)) spelling.now.terms spelling.now.payloads made
         → Writes (C.told files.old) (C.told files.new) name index.now
         (record { names = names_in docs.now; terms = made }) result }
+    ensures changed { IfErr result (ImportChanges (λ at kept. ⊥)) }
     ensures read_fault { IsErrOf result ImportFault.ReadFault
         → Rose (C.read_faults files.old) (C.read_faults files.new) }
     ensures write_fault { IsErrOf result ImportFault.WriteFault

@@ -1,5 +1,6 @@
-ghost use Rattle.std.specs.Prelude.{◌≡◌, ◌≤◌, ◌⊎◌, [], length, IfOk, IsErrOf, MatchResult, OnOk};
+ghost use Rattle.std.specs.Prelude.{◌≡◌, ◌≤◌, ◌⊎◌, [], length, IfErr, IfOk, IsErrOf, MatchResult, OnOk};
 ghost use Rattle.jass_base.specs.Outside.{ForContent, IsMissing, Rose};
+ghost use Rattle.ciff_read.specs.Plain.{IsPlain};
 ghost use Rattle.ciff_read.specs.Walk.{Begins, IsOutside, KeepsRanges, StandsTold};
 ghost use Rattle.index_import.specs.Private.OnlyReads.{OnlyReads};
 ghost use Rattle.index_import.specs.Private.Surveying.{AreKept, EndsSurvey, IsReady, KeepsList, SurveyTold};
@@ -62,6 +63,7 @@ impl Survey {
         requires lists { self.old.lists.items ≡ [] }
         ensures ready { OnOk result (IsReady (C.told files.old) self.old.walk.name self.new.walk) }
         ensures kept { OnOk result (AreKept self.new.walk self.new.docs self.new.lists.items) }
+        ensures plain { IfErr result IsPlain }
         ensures told { ForContent (C.told files.old) self.old.walk.name (λ content.
             EndsSurvey content self.new.walk self.new.docs self.new.lists.items result) }
         ensures reads { OnlyReads (C.told files.old) (C.told files.new) (C.read_faults files.old)
@@ -101,6 +103,7 @@ pub(crate) fn survey_file<C: Cabinet>(
 ) -> Result<Survey, CiffFault>
     ensures ready { IfOk result (λ s. IsReady (C.told files.old) name.now s.walk) }
     ensures kept { IfOk result (λ s. AreKept s.walk s.docs s.lists.items) }
+    ensures plain { IfErr result IsPlain }
     ensures told { SurveyTold (C.told files.old) name.now result }
     ensures missing { IsMissing (C.told files.old) name.now → MatchResult result (λ _. ⊥) IsOutside }
     ensures fault { IsErrOf result CiffFault.ReadFault

@@ -2,12 +2,14 @@ ghost use Rattle.std.specs.Prelude.{◌≡◌, ◌≢◌, ◌≤◌, List, lengt
 ghost use Rattle.jass_base.specs.Gaps.{AreDocs};
 ghost use Rattle.jass_base.specs.Outside.{Appended, Rose};
 ghost use Rattle.weights.specs.Quantizing.{IsImpactWidth};
-ghost use Rattle.ciff_read.specs.Walk.{HasKept};
+ghost use Rattle.ciff_read.specs.Walk.{HasKept, IsGiven};
 ghost use Rattle.impact_segments.specs.OneList.{EndsLow};
 ghost use Rattle.index_model.specs.Index.{SegmentData, SharesNoDocument, TermData};
 ghost use Rattle.index_write.specs.Chosen.{chosen_heads, chosen_payloads};
 ghost use Rattle.index_write.specs.Streaming.{AreEntries, AreNames, Unappended, Unappending, behind_term, change_of, entry_data, next_heads};
+ghost use Rattle.index_import.specs.Importing.{ImportChanges};
 ghost use Rattle.index_import.specs.Private.Faults.{unappended, unbegun};
+ghost use Rattle.index_import.specs.Private.Ranging.{HasOrder};
 ghost use Rattle.index_import.specs.Private.Writing.{HasTerms, Writes};
 ghost use Rattle.index_import.specs.Private.Surveying.{IsReady};
 ghost use Rattle.index_import.specs.declared.list_entry.Place.{Place};
@@ -42,6 +44,7 @@ pub(crate) fn write_index<C: Cabinet>(
     requires docs { length weighing.lengths.now ≡ walk.old.docs }
     requires width { IsImpactWidth bits }
     requires low { EndsLow bits range }
+    requires order { HasOrder range }
     requires names { AreNames names }
     requires as_many { length names ≡ walk.old.docs }
     requires entries { AreEntries (map entry_data heads.terms) }
@@ -52,6 +55,7 @@ pub(crate) fn write_index<C: Cabinet>(
         heads.places.items heads.terms made
         → Writes (C.told files.old) (C.told files.new) walk.old.name index.now
         (record { names = names; terms = made }) result }
+    ensures changed { IfErr result (ImportChanges (λ at kept. IsGiven walk.old.kept at)) }
     ensures read_fault { IsErrOf result ImportFault.ReadFault
         → Rose (C.read_faults files.old) (C.read_faults files.new) }
     ensures write_fault { IsErrOf result ImportFault.WriteFault

@@ -8,6 +8,16 @@ use Rattle.whole_files.specs.Windows.{AreFrom}
 pub none_from : (content : List ℕ) (start : ℕ) → AreFrom content start []
 none_from content start = record { front = refl; within = omega arith }
 
+-- bytes hold what they have from a place on, and the front of what grew
+pub all_from : (at : ℕ) (bytes : List ℕ) → AreFrom bytes at (drop at bytes)
+all_from at bytes = record { front = sym (take_all (length (drop at bytes)) (drop at bytes) (omega arith)); within = omega arith }
+
+pub kept_front : (bytes front grown more : List ℕ) → grown ≡ bytes ++ more → AreFrom bytes 0 front → AreFrom grown 0 front
+kept_front bytes front grown more is kept = record {
+  front = kept.front ∙ sym (take-append-le (length front) bytes more kept.within) ∙ ap (take (length front)) (sym is);
+  within = omega (arith, kept.within, ap length is, length-append bytes more);
+}
+
 -- without the first so many
 pub later_from : (content bytes rest : List ℕ) (start at : ℕ) → AreFrom content start bytes → start ≤ at → at ≤ start + length bytes → rest ≡ drop (at - start) bytes → AreFrom content at rest
 later_from content bytes rest start at is first last same =

@@ -1,5 +1,5 @@
 -- A part of a content that is held in memory: how far it reaches, and what moving it keeps.
-use Rattle.std.specs.Prelude.{ℕ, ◌≡◌, ◌≤◌, ◌+◌, List, length, take, drop, ◌⊎◌, Option}
+use Rattle.std.specs.Prelude.{ℕ, ◌≡◌, ◌≤◌, ◌+◌, ◌-◌, List, length, take, drop, ◌⊎◌, Option}
 use Rattle.jass_base.specs.Outside.{Files, ForContent}
 use Rattle.whole_files.specs.declared.window.Window.{Window}
 
@@ -28,3 +28,7 @@ StaysShown files name old new = ForContent files name (λ content. Shows content
 -- what a call that succeeds gives beside that
 abbrev pub ReachesTold : Option Files → List ℕ → Window → Window → ℕ → ℕ → Type 0
 ReachesTold files name old new at count = ForContent files name (λ content. Shows content old → Reaches content new at count)
+
+-- the bytes that were held from a place on are those that are held from there now, with more behind them or none
+abbrev pub KeepsFrom : ℕ → Window → Window → Type 0
+KeepsFrom at old new = IsAt at old → AreFrom new.bytes.items (at - new.start) (drop (at - old.start) old.bytes.items)

@@ -1,6 +1,6 @@
-ghost use Rattle.std.specs.Prelude.{ℕ, ◌≡◌, ◌+◌, ◌<◌, ◌≤◌, ◌^◌, ◌⊎◌, [], List, length, drop, IsTrue, IsErrOf, OnOk};
+ghost use Rattle.std.specs.Prelude.{ℕ, ◌≡◌, ◌+◌, ◌-◌, ◌<◌, ◌≤◌, ◌^◌, ◌⊎◌, [], List, length, drop, IsTrue, IsErrOf, OnOk};
 ghost use Rattle.jass_base.specs.Outside.{Rose, IsMissing};
-ghost use Rattle.whole_files.specs.Windows.{Shows, IsAt, StaysShown, ReachesTold};
+ghost use Rattle.whole_files.specs.Windows.{AreFrom, Shows, IsAt, KeepsFrom, StaysShown, ReachesTold};
 
 use jass_base::{Cabinet, ReadStop};
 use std::alloc::Global;
@@ -48,6 +48,7 @@ impl Window {
         ensures at { OnOk result (IsAt at self.new) }
         ensures shown { StaysShown (C.told files.old) name.now self.old self.new }
         ensures reached { OnOk result (ReachesTold (C.told files.old) name.now self.old self.new at count) }
+        ensures keeps { OnOk result (KeepsFrom at self.old self.new) }
         ensures there { OnOk result (self.old.bytes.items ≡ [] → 1 ≤ count → ¬ IsMissing (C.told files.old) name.now) }
         ensures fault { IsErrOf result ReadStop.ReadFault
             → Rose (C.read_faults files.old) (C.read_faults files.new) ⊎ IsMissing (C.told files.old) name.now }
@@ -77,6 +78,7 @@ impl Window {
     fn begin_at(&mut self, at: u64)
         ensures start { self.new.start ≡ at }
         ensures fewer { length self.new.bytes.items ≤ length self.old.bytes.items }
+        ensures rest { IsAt at self.old → self.new.bytes.items ≡ drop (at - self.old.start) self.old.bytes.items }
         ensures shown { (content : List ℕ) → Shows content self.old → Shows content self.new }
     {
         if at < self.start || at - self.start > self.bytes.len() as u64 {
@@ -112,6 +114,7 @@ impl Window {
         ensures start { self.new.start ≡ self.old.start }
         ensures shown { StaysShown (C.told files.old) name.now self.old self.new }
         ensures reached { OnOk result (ReachesTold (C.told files.old) name.now self.old self.new self.old.start count) }
+        ensures keeps { OnOk result (AreFrom self.new.bytes.items 0 self.old.bytes.items) }
         ensures there { OnOk result (length self.old.bytes.items < count → ¬ IsMissing (C.told files.old) name.now) }
         ensures fault { IsErrOf result ReadStop.ReadFault
             → Rose (C.read_faults files.old) (C.read_faults files.new) ⊎ IsMissing (C.told files.old) name.now }

@@ -1,5 +1,5 @@
 -- What is read of a file by a window, part by part.
-use Rattle.std.specs.Prelude.{ℕ, ◌≡◌, ◌<◌, ◌≤◌, ◌+◌, List, [], length, All, Bool, false, IsTrue, Result, Ok, Err, Option, Some, None}
+use Rattle.std.specs.Prelude.{ℕ, ◌≡◌, ◌<◌, ◌≤◌, ◌+◌, ◌-◌, List, [], drop, length, All, Bool, false, IsTrue, Result, Ok, Err, Option, Some, None}
 use Rattle.jass_base.specs.CiffViews.{list_data, doc_data}
 use Rattle.jass_base.specs.Lists.{HasDocsBelow}
 use Rattle.jass_base.specs.Outside.{Files, ForContent}
@@ -20,7 +20,7 @@ use Rattle.ciff_read.specs.Pieces.{FileHeader, ListInFile, DocInFile, header_of_
 use Rattle.ciff_read.specs.Private.KeptEntries.{terms_in}
 use Rattle.ciff_read.specs.Private.Places.{start_data}
 use Rattle.ciff_read.specs.Reaching.{FailsReading}
-use Rattle.ciff_read.specs.Reading.{Message, doc_at}
+use Rattle.ciff_read.specs.Reading.{Message, doc_at, list_at, message_at}
 use Rattle.ciff_read.specs.Refusals.{Answers}
 use Rattle.ciff_read.specs.Seen.{is_seen}
 use Rattle.whole_files.specs.Windows.{Shows}
@@ -73,6 +73,13 @@ pub record IsNextList (docs before : ℕ) (kept : Option KeptLists) (at : ℕ) (
   pub list : IsNewList docs before kept (x.0, x.2)
   pub near : x.1 ≤ LONGEST_FILE
   pub behind : at < x.1
+
+-- the list at a place, as the bytes that are held have it
+pub record HoldsRead (docs before : ℕ) (kept : Option KeptLists) (at : ℕ) (w : Window) (x : PostingsList × ℕ × Bool) : Type 0 where
+  pub front : w.start ≤ at
+  pub message : Message
+  pub there : message_at (at - w.start) (drop (at - w.start) w.bytes.items) ≡ Ok message
+  pub judged : list_at docs before (terms_behind kept) (at - w.start) message ≡ Ok (list_data x.0)
 
 -- a document's number and record, and the place behind it
 abbrev pub doc_in_file : ℕ × DocRecord × ℕ → DocInFile

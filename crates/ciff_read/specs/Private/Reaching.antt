@@ -1,5 +1,5 @@
 -- The length of a message, and the message, as a window reads them of a content.
-use Rattle.std.specs.Prelude.{ℕ, ◌≡◌, ◌<◌, ◌≤◌, ◌+◌, List, length, drop, Result, Ok, Err, Option, slice_range}
+use Rattle.std.specs.Prelude.{ℕ, ◌≡◌, ◌<◌, ◌≤◌, ◌+◌, ◌-◌, List, length, drop, Result, Ok, Err, Option, slice_range}
 use Rattle.jass_base.specs.declared.limits.TheConstants.{LONGEST_FILE}
 use Rattle.jass_base.specs.Outside.{Files, ForContent}
 use Rattle.wire_fields.specs.Reading.{varint_at}
@@ -7,7 +7,8 @@ use Rattle.ciff_read.specs.declared.body.Body.{Body}
 use Rattle.ciff_read.specs.declared.refusal.CiffFault.{CiffFault}
 use Rattle.whole_files.specs.declared.window.Window.{Window}
 use Rattle.ciff_read.specs.Reading.{Message, message_at}
-use Rattle.whole_files.specs.Windows.{Shows}
+use Rattle.ciff_read.specs.Private.Places.{message_in}
+use Rattle.whole_files.specs.Windows.{IsAt, Shows}
 use Rattle.ciff_read.specs.Reaching.{FailsReading}
 
 -- the length of the message at a place, and the place behind it
@@ -41,3 +42,13 @@ SizeTold files name at old result = ForContent files name (λ content. Shows con
 
 abbrev pub MessageTold : Option Files → List ℕ → ℕ → Window → Window → Result Body CiffFault → Type 0
 MessageTold files name at old new result = ForContent files name (λ content. Shows content old → ReachesMessage content at new result)
+
+-- the length of the message at a place, as the bytes that are held say it
+pub record HoldsSize (at : ℕ) (w : Window) (x : ℕ × ℕ) : Type 0 where
+  pub is_at : IsAt at w
+  pub read : varint_at (drop (at - w.start) w.bytes.items) ≡ Ok (x.0, drop (x.1 - w.start) w.bytes.items)
+  pub within : x.1 ≤ w.start + length w.bytes.items
+
+-- the message at a place, as the bytes that are held have it
+abbrev pub HoldsBody : ℕ → Window → Body → Type 0
+HoldsBody at w body = message_at (at - w.start) (drop (at - w.start) w.bytes.items) ≡ Ok (message_in w.bytes.items body)

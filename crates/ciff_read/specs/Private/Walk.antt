@@ -1,5 +1,5 @@
 -- What the giving of a piece leaves of a walk, and what it gives of a content.
-use Rattle.std.specs.Prelude.{ℕ, ◌≡◌, ◌<◌, ◌≤◌, ◌+◌, List, [], ◌∷◌, ◌++◌, length, drop, false, All, Option, Result}
+use Rattle.std.specs.Prelude.{ℕ, ◌≡◌, ◌<◌, ◌≤◌, ◌+◌, List, [], ◌∷◌, ◌++◌, length, drop, true, false, All, Option, Result, Ok}
 use Rattle.std.specs.List.Sorted.{IsStrictlyIncreasing}
 use Rattle.jass_base.specs.CiffViews.{list_data, doc_data}
 use Rattle.jass_base.specs.Lists.{HasDocsBelow}
@@ -14,7 +14,7 @@ use Rattle.ciff_read.specs.Reading.{at_end}
 use Rattle.ciff_read.specs.Seen.{is_seen}
 use Rattle.whole_files.specs.Windows.{AreFrom}
 use Rattle.jass_base.specs.declared.limits.TheConstants.{LONGEST_FILE, MOST_DOCUMENTS, MOST_POSTINGS, MOST_TERMS}
-use Rattle.ciff_read.specs.Walk.{WalkView, HasKept, OneMore, kept_of}
+use Rattle.ciff_read.specs.Walk.{WalkView, HasKept, HoldsList, IsWalkOver, OneMore, kept_of}
 
 -- the ranges of a walk, of its parts
 pub record IsInRange (lists docs at given postings : ℕ) (kept : List KeptList) : Type 0 where
@@ -43,7 +43,9 @@ pub record LeavesOthers (old new : WalkView) : Type 0 where
   pub docs : new.docs ≡ old.docs
   pub marks : new.marks ≡ old.marks
   pub given : new.given ≡ old.given
+  pub ended : new.ended ≡ old.ended
   pub answered : new.answered ≡ old.answered
+  pub forward : old.at ≤ new.at
 
 -- the list that was given is kept, its term is new, and its documents are the file's
 pub record KeepsList (old new : WalkView) (list : PostingsList) : Type 0 where
@@ -51,10 +53,11 @@ pub record KeepsList (old new : WalkView) (list : PostingsList) : Type 0 where
   pub unseen : is_seen list.term (terms_kept old.kept) ≡ false
   pub below : HasDocsBelow old.docs list
 
--- a list with the number of postings that is kept for its place, in documents of the file
-pub record IsListAgain (old : WalkView) (at : ℕ) (list : PostingsList) : Type 0 where
-  pub count : HasKept old.kept at (length list.postings)
-  pub below : HasDocsBelow old.docs list
+-- a list with the number of postings that is kept for its place, in documents of the file, which the walk holds there
+pub record IsListAgain (now : WalkView) (at : ℕ) (list : PostingsList) : Type 0 where
+  pub count : HasKept now.kept at (length list.postings)
+  pub below : HasDocsBelow now.docs list
+  pub holds : HoldsList now at (list_data list)
 
 -- the list that was given is the one at the walk's place, and the walk stands behind it
 abbrev pub ListGiven : Option Files → WalkView → WalkView → Result PostingsList CiffFault → Type 0
@@ -64,6 +67,10 @@ ListGiven files old new result =
 -- what is held of a content stays so
 abbrev pub StaysHeld : Option Files → WalkView → WalkView → Type 0
 StaysHeld files old new = ForContent files old.name (λ content. AreFrom content old.start old.bytes → AreFrom content new.start new.bytes)
+
+-- a walk that has given the end stands at the end of the content
+abbrev pub StaysOver : Option Files → WalkView → WalkView → Type 0
+StaysOver files old new = ForContent files old.name (λ content. IsWalkOver content old → IsWalkOver content new)
 
 -- what the giving of a document leaves, and the end of a file
 pub record LeavesLists (old new : WalkView) : Type 0 where
@@ -96,4 +103,8 @@ DocGiven files old new result =
 -- nothing is left behind the walk's place
 abbrev pub EndGiven : Option Files → WalkView → Result Unit CiffFault → Type 0
 EndGiven files old result =
-    ForContent files old.name (λ content. AreFrom content old.start old.bytes → GivesReading (λ u. EndPiece) result (at_end old.at (drop old.at content) EndPiece))
+    ForContent files old.name (λ content. IsWalkOver content old → GivesReading (λ u. EndPiece) result (at_end old.at (drop old.at content) EndPiece))
+
+-- the end was given before, so that nothing is read
+abbrev pub EndsAgain : {F : Type 0} → WalkView → WalkView → F → F → Result Unit CiffFault → Type 0
+EndsAgain old now files after result = old.ended ≡ true → (result ≡ Ok tt) × (now ≡ old) × (after ≡ files)

@@ -1,5 +1,5 @@
 -- The range of the weights of the lists of a file that was judged.
-use Rattle.std.specs.Prelude.{ℕ, ◌≡◌, ◌≤◌, List, Option, false, fold, length}
+use Rattle.std.specs.Prelude.{ℕ, ◌≡◌, ◌≤◌, ◌⊎◌, List, Option, false, fold, length}
 use Rattle.jass_base.specs.Ciff.{FitsList, ListData}
 use Rattle.jass_base.specs.Outside.{Files, ForContent}
 use Rattle.weights.specs.declared.quantizing.Bits.{Bits}
@@ -34,3 +34,7 @@ pub record IsWidenedBy (files : Option Files) (name : List ℕ) (docs : ℕ) (w 
 -- no list of this size, in so many documents with these ends of their norms, can widen the range
 abbrev pub CannotWiden : Rule → ℕ → Range → Range → ListSize → Type 0
 CannotWiden rule docs norms range size = 1 ≤ size.count → can_widen rule docs size.count size.most norms range ≡ false
+
+-- the ends of a range are in order, unless no weight widened it
+abbrev pub HasOrder : Range → Type 0
+HasOrder range = (range.least ≤ range.greatest) ⊎ (range ≡ empty_range)

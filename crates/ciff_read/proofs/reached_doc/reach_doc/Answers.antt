@@ -4,6 +4,7 @@ use Rattle.ciff_read.specs.Pieces.{doc_of_file}
 use Rattle.ciff_read.specs.Private.Reached.{doc_numbered}
 use Rattle.ciff_read.specs.Reaching.{FailsReading}
 use Rattle.ciff_read.proofs.HeldParts.{doc_given, doc_not, doc_unread, near_moved, moved_other}
+use Rattle.ciff_read.proofs.Plain.{moved_plain}
 use Rattle.ciff_read.proofs.ReadingOn.{reads_else}
 use Rattle.whole_files.proofs.Told.{for_one}
 use Rattle.ciff_read.proofs.reached_doc.reach_doc.Goals as goal
@@ -40,3 +41,12 @@ returns-in_err-body-clause-exact g c =
     let fault = c.in_err-body.field-0.0 in
     let out : c.from_residual.result ≡ Err fault = search rules in
     rw out (for_one _ _ _ _ (λ content read shows numbers marks. doc_unread content c.args.docs numbers c.args.at fault (read shows)) c.in_err-body.ensures.exact)
+
+pub returns-in-Err-clause-plain : goal.returns-in-Err-clause-plain
+returns-in-Err-clause-plain g c = moved_plain c.reach_message.new.window.start c.in-Err.fault c.fault_in_file.result c.in-Err.ensures.plain c.fault_in_file.ensures
+
+pub returns-in_err-body-clause-plain : goal.returns-in_err-body-clause-plain
+returns-in_err-body-clause-plain g c =
+    let fault = c.in_err-body.field-0.0 in
+    let out : c.from_residual.result ≡ Err fault = search rules in
+    rw out c.in_err-body.ensures.held

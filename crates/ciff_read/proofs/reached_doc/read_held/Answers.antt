@@ -4,6 +4,7 @@ use Rattle.ciff_read.specs.Private.Places.{message_in}
 use Rattle.ciff_read.specs.Private.Recording.{recorded}
 use Rattle.ciff_read.specs.Reading.{doc_at}
 use Rattle.ciff_read.proofs.Answering.{fails_as}
+use Rattle.ciff_read.proofs.Plain.{doc_fault_plain, rest_fault_plain}
 use Rattle.ciff_read.proofs.HeldParts.{not_not, placed_place, cut_end, near_fault}
 use Rattle.ciff_read.proofs.reached_doc.read_held.Goals as goal
 
@@ -33,3 +34,9 @@ returns-in-Err-finish-clause-exact c =
 
 pub returns-in-Err-finish-clause-given : goal.returns-in-Err-finish-clause-given
 returns-in-Err-finish-clause-given c = near_fault c.args.body.end c.in-Err-finish.fault _ c.in-Err-finish.ensures.exact (λ e is. omega (arith, placed_place c.args.at _ e is, c.requires.at))
+
+pub returns-in-Err-clause-plain : goal.returns-in-Err-clause-plain
+returns-in-Err-clause-plain c = doc_fault_plain c.args.docs [] c.args.at (message_in c.args.bytes.now c.args.body) c.in-Err.fault (c.in-Err.ensures.refused [])
+
+pub returns-in-Err-finish-clause-plain : goal.returns-in-Err-finish-clause-plain
+returns-in-Err-finish-clause-plain c = rest_fault_plain _ c.args.at c.in-Ok.walked c.in-Err-finish.fault c.in-Err-finish.ensures.exact

@@ -1,6 +1,7 @@
 use Rattle.std.proofs.Common.{◌≡◌, Err, rules}
 use Rattle.ciff_read.specs.Private.Places.{start_data}
 use Rattle.ciff_read.proofs.HeldParts.{header_given, header_not, header_unread}
+use Rattle.ciff_read.proofs.Plain.{header_fault_plain}
 use Rattle.whole_files.proofs.Told.{for_one}
 use Rattle.ciff_read.proofs.reached_header.reach_header.Goals as goal
 
@@ -23,3 +24,12 @@ returns-in_err-body-clause-exact g c =
     let fault = c.in_err-body.field-0.0 in
     let out : c.from_residual.result ≡ Err fault = search rules in
     rw out (for_one _ _ _ _ (λ content read shows. header_unread content fault (read shows)) c.in_err-body.ensures.exact)
+
+pub returns-in-Err-clause-plain : goal.returns-in-Err-clause-plain
+returns-in-Err-clause-plain g c = header_fault_plain 0 _ c.in-Err.fault c.in-Err.ensures
+
+pub returns-in_err-body-clause-plain : goal.returns-in_err-body-clause-plain
+returns-in_err-body-clause-plain g c =
+    let fault = c.in_err-body.field-0.0 in
+    let out : c.from_residual.result ≡ Err fault = search rules in
+    rw out c.in_err-body.ensures.held

@@ -2,6 +2,7 @@ use Rattle.std.proofs.Common.{◌≡◌, ◌-◌, ℕ, Err, rules, option_map, s
 use Rattle.jass_base.specs.CiffViews.{list_data}
 use Rattle.ciff_read.specs.declared.refusal.CiffFault.{CiffFault}
 use Rattle.ciff_read.specs.Pieces.{list_of_file}
+use Rattle.ciff_read.specs.Private.Places.{message_in}
 use Rattle.ciff_read.specs.Private.Reached.{terms_behind}
 use Rattle.ciff_read.specs.Reaching.{FailsReading}
 use Rattle.ciff_read.proofs.HeldParts.{list_given, list_not, list_unread, near_moved, moved_other}
@@ -53,3 +54,7 @@ returns-in_err-body-clause-given g c =
     let fault = c.in_err-body.field-0.0 in
     let out : c.from_residual.result ≡ Err fault = search rules in
     rw out c.in_err-body.ensures.held
+
+pub returns-in-Ok-clause-held : goal.returns-in-Ok-clause-held
+returns-in-Ok-clause-held g c =
+    record { front = c.in_ok-body.ensures.held.front; message = message_in c.reach_message.new.window.bytes.items c.in_ok-body.body; there = c.in_ok-body.ensures.message; judged = rw (sym c.as_slice-bytes.ensures.value) c.in-Ok.ensures.exact }

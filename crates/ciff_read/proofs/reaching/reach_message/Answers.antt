@@ -2,6 +2,7 @@ use Rattle.std.proofs.Common.{◌≡◌, ℕ, ◌+◌, ◌-◌, ◌^◌, ◌<◌
 use Rattle.jass_base.specs.Outside.{Files, ForContent}
 use Rattle.whole_files.specs.Windows.{Shows, Reaches}
 use Rattle.ciff_read.proofs.HeldFiles.{message_past, message_not, message_ok, outside_fails, outside_plain}
+use Rattle.ciff_read.proofs.HeldBodies.{body_held}
 use Rattle.ciff_read.proofs.ReadingOn.{shown_on}
 use Rattle.whole_files.proofs.Told.{for_all, for_one, for_both, for_pair}
 use Rattle.ciff_read.proofs.reaching.reach_message.Goals as goal
@@ -70,3 +71,8 @@ returns-then-len-front-clause-shown g c = shown_on _ _ _ c.args.window.now c.rea
 
 pub returns-clause-shown : goal.returns-clause-shown
 returns-clause-shown g c = shown_on _ _ _ c.args.window.now c.reach_size.new.window c.reach.new.window c.in_ok-size.ensures.reads.stays c.in_ok-size.ensures.shown c.in_ok-reach.ensures.shown
+
+pub returns-clause-message : goal.returns-clause-message
+returns-clause-message g c =
+    body_held c.args.at c.reach_size.new.window c.reach.new.window (c.in_ok-size.size, c.in_ok-size.from) c.in_ok-size.ensures.held c.in_ok-size.ensures.place c.in_ok-reach.ensures.keeps c.in_ok-reach.ensures.at _ _ _
+    (omega (arith, c.if-from-gt-LONGEST_FILE.false, c.if-size-from.false)) refl (omega (arith, c.if-len-front.false, c.len.ensures, c.reach.new.window.bytes.ok.0)) refl refl

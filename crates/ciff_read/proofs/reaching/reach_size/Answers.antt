@@ -1,5 +1,6 @@
 use Rattle.std.proofs.Common.{◌≡◌, Err, rules}
 use Rattle.ciff_read.proofs.HeldFiles.{size_ok, size_not, outside_fails, outside_plain}
+use Rattle.ciff_read.proofs.HeldBodies.{size_held}
 use Rattle.whole_files.proofs.Told.{for_all, for_one, for_both}
 use Rattle.ciff_read.proofs.reaching.reach_size.Goals as goal
 
@@ -24,3 +25,6 @@ returns-in_err-reach-clause-place g c =
     let fault = c.in_err-reach.field-0.0 in
     let out : c.from_residual.result ≡ Err fault = search rules in
     rw out (outside_plain fault c.in_err-reach.ensures.at)
+
+pub returns-in-Ok-clause-held : goal.returns-in-Ok-clause-held
+returns-in-Ok-clause-held g c = size_held _ _ _ _ c.in_ok-reach.ensures.at c.as_slice.ensures.value c.in-Ok.ensures

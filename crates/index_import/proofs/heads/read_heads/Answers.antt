@@ -7,6 +7,7 @@ use Rattle.index_import.specs.declared.list_entry.ListEntry.{ListEntry}
 use Rattle.index_import.specs.declared.list_entry.Place.{Place}
 use Rattle.std.proofs.Math.Nat.{le_refl, le_trans}
 use Rattle.index_import.proofs.Again.{memory_unread, nothing_told, ok_unread, ready_now, ready_then, rose_before, still_fault, told_now}
+use Rattle.index_import.proofs.Changing.{at_given}
 use Rattle.index_import.proofs.Headed.{HaveEntries, all_entries, as_many, fails_one, headed_then, heads_more, no_entries, no_heads, rows_more, entry_is}
 use Rattle.index_import.proofs.Ready.{leaves_same, leaves_then}
 use Rattle.index_import.proofs.Turns.{middle, parted, whole}
@@ -215,3 +216,11 @@ returns-clause-ready g c = c.lists.invariant.ready
 
 pub returns-clause-leaves : goal.returns-clause-leaves
 returns-clause-leaves g c = c.lists.invariant.leaves
+
+pub returns-in-Err-read-clause-changed : goal.returns-in-Err-read-clause-changed
+returns-in-Err-read-clause-changed g c =
+    let is : c.args.lists.items ≡ c.lists.yielded ++ c.in-Some.entry ∷ into_iter_items c.next.new.self
+    = parted c.into_iter-entry-iterator.result c.lists.entry-iterator c.next.new.self c.args.lists.items c.lists.yielded c.in-Some.entry c.into_iter-entry-iterator.ensures.into_iter_gives.0 c.lists.yielded_by c.in-Some.ensures.steps in
+    let kept : HasKept c.args.walk.now.kept c.in-Some.entry.place.at c.in-Some.entry.place.count
+    = middle (λ (e : ListEntry). HasKept c.args.walk.now.kept e.place.at e.place.count) c.lists.yielded (into_iter_items c.next.new.self) c.in-Some.entry (subst (All (λ (e : ListEntry). HasKept c.args.walk.now.kept e.place.at e.place.count)) is c.requires.given) in
+    at_given c.args.walk.now.kept c.in-Some.entry.place.at c.in-Some.entry.place.count c.in-Err-read.fault kept c.in-Err-read.ensures.changed

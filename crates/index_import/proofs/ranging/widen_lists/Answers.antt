@@ -1,12 +1,13 @@
 -- Each list that is weighed widens the range, and each that is passed over would leave it.
 use Rattle.std.proofs.lemmas.List.Elements.{All-contains, All-replicate, All-set}
-use Rattle.std.proofs.Common.{rules, ℕ, ◌≤◌, ◌^◌, List, length, refl, sym, subst, ◌∙◌, arith, All}
-use Rattle.index_import.proofs.Below.{KeptList, HasKept, for_one, Of, Range, weights_in}
-use Rattle.index_import.specs.Private.Ranging.{CannotWiden, IsWidenedBy}
+use Rattle.std.proofs.Common.{rules, inr, ℕ, ◌≤◌, ◌^◌, List, length, refl, sym, subst, ◌∙◌, arith, All}
+use Rattle.index_import.proofs.Below.{KeptList, HasKept, for_one, Of, Range, empty_range, weights_in}
+use Rattle.index_import.specs.Private.Ranging.{CannotWiden, HasOrder, IsWidenedBy}
 use Rattle.index_import.specs.Private.Surveying.{HoldsMost, KeepsAll}
 use Rattle.index_import.specs.declared.list_entry.ListEntry.{ListEntry}
 use Rattle.std.proofs.Math.Nat.{le_trans}
 use Rattle.index_import.proofs.Again.{ok_unread, ready_now, ready_then, rose_before, still_fault, told_now, told_then}
+use Rattle.index_import.proofs.Outside.{lists_order}
 use Rattle.index_import.proofs.Ready.{leaves_same, leaves_then}
 use Rattle.index_import.proofs.Widening.{norms_cut, passed_still, widened_then, widens_more, widens_same}
 use Rattle.ciff_read.specs.Walk.{IsOutside}
@@ -158,3 +159,9 @@ returns-clause-fault g c = λ is. absurd (ok_unread is)
 
 pub widen_by_entry-requires-clause-ready : goal.widen_by_entry-requires-clause-ready
 widen_by_entry-requires-clause-ready g c = ready_now (g.C.Cabinet.told c.args.files.now) (g.C.Cabinet.told c.loop-entry.files) c.args.walk.now c.loop-entry.walk c.loop-entry.invariant.stays c.loop-entry.invariant.leaves c.loop-entry.invariant.ready
+
+pub returns-clause-order : goal.returns-clause-order
+returns-clause-order g c =
+    let so_far = c.loop-entry.invariant.range in
+    let w = c.args.weighing in
+    subst HasOrder (sym so_far.range_is) (lists_order w.rule w.lengths.now w.total empty_range so_far.read (inr refl))

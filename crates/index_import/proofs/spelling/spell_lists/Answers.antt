@@ -7,6 +7,7 @@ use Rattle.index_import.specs.Private.Surveying.{HoldsMost, KeepsAll}
 use Rattle.index_import.specs.declared.list_entry.ListEntry.{ListEntry}
 use Rattle.std.proofs.Math.Nat.{le_trans}
 use Rattle.index_import.proofs.Again.{memory_unread, nothing_told, ok_unread, ready_now, ready_then, rose_before, still_fault, told_now}
+use Rattle.index_import.proofs.Changing.{at_given}
 use Rattle.index_import.proofs.Headed.{entry_is, fails_one}
 use Rattle.index_import.proofs.Ready.{leaves_same, leaves_then}
 use Rattle.index_import.proofs.SegmentTurns.{one_of_all}
@@ -158,3 +159,11 @@ spell-requires-clause-low g c = c.requires.low
 
 pub returns-in-Err-finish-clause-spelled : goal.returns-in-Err-finish-clause-spelled
 returns-in-Err-finish-clause-spelled g c = tt
+
+pub returns-in-Err-clause-changed : goal.returns-in-Err-clause-changed
+returns-in-Err-clause-changed g c =
+    let is : c.args.lists.items ≡ c.lists.yielded ++ c.in-Some.entry ∷ into_iter_items c.next.new.self
+    = parted c.into_iter-entry-iterator.result c.lists.entry-iterator c.next.new.self c.args.lists.items c.lists.yielded c.in-Some.entry c.into_iter-entry-iterator.ensures.into_iter_gives.0 c.lists.yielded_by c.in-Some.ensures.steps in
+    let kept : HasKept c.args.walk.now.kept c.in-Some.entry.place.at c.in-Some.entry.place.count
+    = middle (λ (e : ListEntry). HasKept c.args.walk.now.kept e.place.at e.place.count) c.lists.yielded (into_iter_items c.next.new.self) c.in-Some.entry (subst (All (λ (e : ListEntry). HasKept c.args.walk.now.kept e.place.at e.place.count)) is c.requires.given) in
+    at_given c.args.walk.now.kept c.in-Some.entry.place.at c.in-Some.entry.place.count c.in-Err.fault kept c.in-Err.ensures.changed

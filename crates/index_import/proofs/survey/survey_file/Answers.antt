@@ -54,7 +54,7 @@ read_pieces-requires-clause-there g c = λ missing.
     (subst (λ (files : Option Files). IsMissing files c.in_ok-walk.walk.name) c.in_ok-walk.ensures.stays missing))
 
 pub read_pieces-requires-clause-begins : goal.read_pieces-requires-clause-begins
-read_pieces-requires-clause-begins g c = record { name_is = refl; header = c.in_ok-walk.ensures.begins.header; kept = c.in_ok-walk.ensures.begins.kept; given = c.in_ok-walk.ensures.begins.given; answered = c.in_ok-walk.ensures.begins.answered }
+read_pieces-requires-clause-begins g c = record { name_is = refl; header = c.in_ok-walk.ensures.begins.header; kept = c.in_ok-walk.ensures.begins.kept; given = c.in_ok-walk.ensures.begins.given; ended = c.in_ok-walk.ensures.begins.ended; answered = c.in_ok-walk.ensures.begins.answered }
 
 pub read_pieces-requires-clause-ranges : goal.read_pieces-requires-clause-ranges
 read_pieces-requires-clause-ranges g c = c.in_ok-walk.ensures.ranges

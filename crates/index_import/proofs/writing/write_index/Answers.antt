@@ -1,5 +1,5 @@
 use Rattle.shared_lemmas.proofs.Common.{ℕ, ◌≡◌, ◌<◌, ◌-◌, List, [], ◌∷◌, ◌++◌, length, map, take, get_or, suc, Option, None, Err, refl, sym, ap, ap₂, subst, ◌∙◌, ◌⊎◌, arith, append-nil, append_assoc, All, into_iter_items, length-append, length-map}
-use Rattle.index_import.proofs.Below.{Extends, Files, ForContent, Sets, content_there, CiffFault, KeptList, HasKept, SegmentData, TermData, front_bytes, chosen_heads, chosen_payloads, table_payloads, WriterView, change_of, entries_totals}
+use Rattle.index_import.proofs.Below.{Extends, Files, ForContent, Sets, content_there, CiffFault, KeptList, HasKept, IsGiven, SegmentData, TermData, front_bytes, chosen_heads, chosen_payloads, table_payloads, WriterView, change_of, entries_totals}
 use Rattle.index_import.proofs.Below.{entry_data, next_heads, Unappended, TermFault, Bits, Range}
 use Rattle.ciff_read.specs.declared.refusal.CiffFault.TheVariants as reading
 use Rattle.index_layout.specs.Heads.{TermHeads as EntryData}
@@ -12,6 +12,7 @@ use Rattle.index_import.specs.declared.fault.ImportFault.{ImportFault}
 use Rattle.index_import.specs.declared.list_entry.Place.{Place}
 use Rattle.index_import.specs.declared.weighing.Weighing.{Weighing}
 use Rattle.index_import.proofs.Beside.{beside}
+use Rattle.index_import.proofs.Changing.{at_given, has_given, unappended_as, unread_as}
 use Rattle.index_import.proofs.Finished.{as_many, fits, found_here, left_is, never_changed, next_is, not_appended, not_begun, not_read, only_untold, same_payloads, totals_are, turn_low, whole_text, writer_is}
 use Rattle.index_import.proofs.Ready.{leaves_same, leaves_then, ready_beside}
 use Rattle.index_import.proofs.Turns.{middle, parted, whole}
@@ -242,3 +243,24 @@ read_segments-requires-clause-low g c = c.requires.low
 
 pub append_segments-requires-clause-once : goal.append_segments-requires-clause-once
 append_segments-requires-clause-once g c = c.in-Ok-read_segments.ensures.segments.once
+
+pub returns-in-Err-read_segments-clause-changed : goal.returns-in-Err-read_segments-clause-changed
+returns-in-Err-read_segments-clause-changed g c =
+    let place : Place = c.in-Some.place in
+    let is : c.args.heads.places.items ≡ c.places.yielded ++ place ∷ into_iter_items c.next.new.self
+    = parted c.into_iter-place-iterator.result c.places.place-iterator c.next.new.self c.args.heads.places.items c.places.yielded place c.into_iter-place-iterator.ensures.into_iter_gives.0 c.places.yielded_by c.in-Some.ensures.steps in
+    let kept : HasKept c.args.walk.now.kept place.at place.count
+    = middle (λ (p : Place). HasKept c.args.walk.now.kept p.at p.count) c.places.yielded (into_iter_items c.next.new.self) place (subst (All (λ (p : Place). HasKept c.args.walk.now.kept p.at p.count)) is c.requires.given) in
+    unread_as (λ at kept. IsGiven c.args.walk.now.kept at) c.in-Err-read_segments.fault c.from_ciff.result c.from_ciff.ensures
+    (at_given c.args.walk.now.kept place.at place.count c.in-Err-read_segments.fault kept c.in-Err-read_segments.ensures.changed)
+
+pub returns-in-Err-append_segments-clause-changed : goal.returns-in-Err-append_segments-clause-changed
+returns-in-Err-append_segments-clause-changed g c =
+    let place : Place = c.in-Some.place in
+    let is : c.args.heads.places.items ≡ c.places.yielded ++ place ∷ into_iter_items c.next.new.self
+    = parted c.into_iter-place-iterator.result c.places.place-iterator c.next.new.self c.args.heads.places.items c.places.yielded place c.into_iter-place-iterator.ensures.into_iter_gives.0 c.places.yielded_by c.in-Some.ensures.steps in
+    let kept : HasKept c.args.walk.now.kept place.at place.count
+    = middle (λ (p : Place). HasKept c.args.walk.now.kept p.at p.count) c.places.yielded (into_iter_items c.next.new.self) place (subst (All (λ (p : Place). HasKept c.args.walk.now.kept p.at p.count)) is c.requires.given) in
+    let writer : WriterView = c.places.writer in
+    unappended_as (λ at kept. IsGiven c.args.walk.now.kept at) place.at (next_heads writer) (chosen_heads writer.docs c.read_segments.new.segments) c.in-Err-append_segments.fault c.not_appended.result c.not_appended.ensures
+    c.in-Err-append_segments.ensures.fault (λ n. has_given c.args.walk.now.kept place.at place.count kept)

@@ -1,11 +1,12 @@
-use Rattle.std.proofs.Common.{◌≡◌, ◌≢◌, List, [], ℕ, Option, Ok, Err, rules, length, refl, sym, subst, arith}
-use Rattle.ciff_read.proofs.Below.{HasDocsBelow, list_data, Files, ForContent}
+use Rattle.std.proofs.Common.{◌≡◌, ◌≢◌, List, [], ℕ, Option, Ok, Err, rules, length, sym, subst, arith}
+use Rattle.ciff_read.proofs.Below.{list_data, Files, ForContent}
+use Rattle.ciff_read.specs.KeptLists.{kept_in}
 use Rattle.ciff_read.specs.Pieces.{ListInFile, list_of_file}
 use Rattle.ciff_read.specs.Reaching.{FailsReading}
-use Rattle.ciff_read.specs.Walk.{WalkView, HasKept, ChangesOnly}
+use Rattle.ciff_read.specs.Walk.{WalkView, HasKept}
 use Rattle.whole_files.specs.Windows.{AreFrom}
 use Rattle.whole_files.specs.Windows.{Shows}
-use Rattle.ciff_read.proofs.Again.{told_outside, told_counts, told_again, plain_changes}
+use Rattle.ciff_read.proofs.Again.{told_outside, told_counts, told_again, changes_refused, plain_changes}
 use Rattle.ciff_read.proofs.ciff_walk.CiffWalk.find_again.Goals as goal
 
 pub returns-in_err-list-clause-told : goal.returns-in_err-list-clause-told
@@ -46,18 +47,27 @@ returns-clause-told g c =
 
 pub returns-then-kept-found-clause-counted : goal.returns-then-kept-found-clause-counted
 returns-then-kept-found-clause-counted g c =
-    let kept = subst (λ (w : WalkView). HasKept w.kept c.args.at c.count_at-count.result.0) c.self.view_is c.count_at-count.ensures.count in
-    subst (ChangesOnly c.args.self.now.kept c.args.at) (sym c.refused.ensures) (refl, subst (HasKept c.args.self.now.kept c.args.at) (sym c.from-kept.ensures) kept, λ same. omega (arith, same, c.if-kept-found.true))
+    let held = c.in_ok-list.ensures.held in
+    changes_refused _ c.args.at c.refused.result _ _ c.refused.ensures (record {
+      list = list_data c.in_ok-list.list;
+      holds = record { front = held.front; there = record { message = held.message; there = held.there; judged = held.judged } };
+      found_is = c.len-found.ensures;
+      kept_is = subst (HasKept (kept_in c.self.inside.kept) c.args.at) (sym c.from-kept.ensures) c.count_at-count.ensures.count;
+      other = λ same. omega (arith, same, c.if-kept-found.true);
+    })
 
 pub returns-in_err-list-clause-counted : goal.returns-in_err-list-clause-counted
 returns-in_err-list-clause-counted g c =
     let fault = c.in_err-list.field-0.0 in
     let out : c.from_residual.result ≡ Err fault = search rules in
-    rw out (plain_changes c.args.self.now.kept c.args.at fault c.in_err-list.ensures.given)
+    rw out (plain_changes _ c.args.at fault c.in_err-list.ensures.given)
 
 pub returns-clause-counted : goal.returns-clause-counted
 returns-clause-counted g c =
-    let list = c.in_ok-list.list in
-    let kept = subst (λ (w : WalkView). HasKept w.kept c.args.at c.count_at-count.result.0) c.self.view_is c.count_at-count.ensures.count in
-    let same : c.count_at-count.result.0 ≡ length list.postings = omega (arith, c.if-kept-found.false, c.from-kept.ensures, c.len-found.ensures) in
-    record { count = subst (HasKept c.args.self.now.kept c.args.at) same kept; below = subst (λ (w : WalkView). HasDocsBelow w.docs list) c.self.view_is c.in_ok-list.ensures.given.list.below }
+    let held = c.in_ok-list.ensures.held in
+    let same : c.count_at-count.result.0 ≡ length c.in_ok-list.list.postings = omega (arith, c.if-kept-found.false, c.from-kept.ensures, c.len-found.ensures) in
+    record {
+      count = subst (HasKept (kept_in c.self.inside.kept) c.args.at) same c.count_at-count.ensures.count;
+      below = c.in_ok-list.ensures.given.list.below;
+      holds = record { front = held.front; there = record { message = held.message; there = held.there; judged = held.judged } };
+    }

@@ -1,7 +1,7 @@
 use Rattle.std.proofs.Common.{◌<◌, ◌≤◌, length, Option, ap, arith}
 use Rattle.jass_base.specs.Outside.{Files}
 use Rattle.ciff_read.specs.Walk.{WalkView}
-use Rattle.ciff_read.proofs.Advancing.{told_list, told_list_not, told_doc, told_doc_not, told_end, told_end_not}
+use Rattle.ciff_read.proofs.Advancing.{told_list, told_list_not, told_doc, told_doc_not, told_end, told_end_not, over_end}
 use Rattle.ciff_read.proofs.ciff_walk.CiffWalk.read_message.Goals as goal
 
 pub returns-in-Ok-clause-told : goal.returns-in-Ok-clause-told
@@ -52,3 +52,8 @@ returns-in-Err-at_last-clause-told g c =
     let past : old.lists ≤ length old.kept = omega (arith, c.if-len-from.false, c.len.ensures, c.from.ensures, ap (λ (w : WalkView). length w.kept) c.self.view_is, ap (λ (w : WalkView). w.lists) c.self.view_is) in
     let all : old.docs ≤ old.given = omega (arith, c.if-self.false, ap (λ (w : WalkView). w.given) c.self.view_is, ap (λ (w : WalkView). w.docs) c.self.view_is) in
     told_end_not told old c.at_last.new.self c.requires past all c.in-Err-at_last.fault c.in-Err-at_last.ensures.exact
+
+pub returns-in-Ok-at_last-clause-over : goal.returns-in-Ok-at_last-clause-over
+returns-in-Ok-at_last-clause-over g c =
+    let e = c.in-Ok-at_last.ensures in
+    over_end (g.C.Cabinet.told c.args.files.now) c.args.self.now c.at_last.new.self e.held c.in-Ok-at_last.field-0 e.place.at e.exact

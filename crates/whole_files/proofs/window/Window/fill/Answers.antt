@@ -1,11 +1,22 @@
-use Rattle.std.proofs.Common.{◌≡◌, ◌+◌, ℕ, List, Option, subst, ◌∙◌, ◌++◌, take, inr, arith}
+use Rattle.std.proofs.Common.{◌≡◌, ◌+◌, ℕ, List, Option, subst, ◌∙◌, ◌++◌, take, inl, inr, refl, arith}
 use Rattle.jass_base.specs.Outside.{AreBytesAt, Files, OnContent}
 use Rattle.jass_base.proofs.Contents.{on_for}
 use Rattle.whole_files.specs.Windows.{AreFrom}
-use Rattle.whole_files.proofs.Told.{for_both, on_there}
+use Rattle.whole_files.proofs.Told.{for_all, for_both, on_there}
 use Rattle.whole_files.specs.Windows.{Shows}
-use Rattle.whole_files.proofs.Windows.{more_from, read_behind}
+use Rattle.whole_files.proofs.Windows.{all_from, kept_front, more_from, read_behind}
 use Rattle.whole_files.proofs.window.Window.fill.Goals as goal
+
+pub pieces-init : goal.pieces-init
+pieces-init g c = record {
+  same = refl;
+  later = omega arith;
+  others = omega arith;
+  start = refl;
+  there = inl refl;
+  kept = all_from 0 c.args.self.now.bytes.items;
+  shown = for_all _ _ _ (λ content shows. shows);
+}
 
 pub pieces-preserved : goal.pieces-preserved
 pieces-preserved g c =
@@ -26,6 +37,7 @@ pieces-preserved g c =
       others = omega (arith, c.in-Ok-read_at.ensures.others, c.pieces.invariant.others);
       start = c.pieces.invariant.start;
       there = inr (on_there told c.args.name.now (λ content. AreBytesAt content at c.in-Ok-read_at.read piece) read);
+      kept = kept_front bytes c.args.self.now.bytes.items grown (take c.in-Ok-read_at.read piece) is c.pieces.invariant.kept;
       shown = for_both told c.args.name.now (λ content. Shows content c.args.self.now → AreFrom content start bytes) (λ content. AreBytesAt content at c.in-Ok-read_at.read piece) (λ content. Shows content c.args.self.now → AreFrom content start grown)
           (λ content before here shows. more_from content bytes piece grown start at c.in-Ok-read_at.read (omega (arith, c.len-held.ensures, c.pieces.self.bytes.ok.0)) is (before shows) here)
           c.pieces.invariant.shown (on_for told c.args.name.now (λ content. AreBytesAt content at c.in-Ok-read_at.read piece) read);
