@@ -1,7 +1,7 @@
 // The bytes of small indexes, and what they count.
 
 use crate::impacts::indexed;
-use index_write::{index_bytes, totals};
+use index_write::{SaveFault, bytes_within, index_bytes, totals};
 use jass_base::{Row, Totals};
 use std::alloc::Global;
 use std::process::Abort;
@@ -62,6 +62,36 @@ fn check_spelled(rt: &impl Abort, alloc: Global, rows: &[Spelled<'_>]) {
 #[test]
 fn small_files_are_spelled(rt: HostRuntime) {
     check_spelled(&rt, rt.alloc(), &SPELLED);
+}
+
+/// How many bytes a file may have, and whether the small file, of 103, is made then. The first is what
+/// its names, terms and postings show without a look at the documents.
+const WITHIN: [(u64, bool); 4] = [(112, true), (103, true), (102, false), (0, false)];
+
+#[test]
+fn longer_files_are_not_made(rt: HostRuntime) {
+    check_within(&rt, rt.alloc(), &WITHIN);
+}
+
+fn check_within(rt: &impl Abort, alloc: Global, rows: &[(u64, bool)]) {
+    for (most, fits) in rows {
+        assert!(rt; is_within(rt, alloc, *most, *fits));
+    }
+}
+
+/// Whether the small file is made, or its length is told.
+fn is_within(rt: &impl Abort, alloc: Global, most: u64, fits: bool) -> bool {
+    let index = indexed(rt, alloc, SMALL_LISTS, Rule::Tf, Bits::Raw);
+    let made = bytes_within(alloc, &index, most);
+    drop(index);
+    match made {
+        Ok(bytes) => {
+            let same = bytes.as_slice() == SMALL.as_slice();
+            drop(bytes);
+            same && fits
+        }
+        Err(fault) => fault == SaveFault::TooLarge { length: 103 } && !fits,
+    }
 }
 
 #[test]

@@ -5,17 +5,21 @@ use Rattle.index_write.specs.declared.fault.SaveFault.{SaveFault}
 use Rattle.index_write.specs.declared.fault.SaveFault.TheVariants.{TooLarge, WriteFault, NoMemory}
 use Rattle.jass_base.specs.declared.limits.TheConstants.{LONGEST_FILE}
 
--- a fault of a text that is made in memory: it has more than 2^32 bytes, or memory was refused
-abbrev pub Unmade : List ℕ → SaveFault → Type 0
-Unmade text (TooLarge n) = (length text ≡ n) × (LONGEST_FILE < n)
-Unmade text WriteFault = ⊥
-Unmade text NoMemory = ⊤
+-- a fault of a text that is made in memory where it has at most so many bytes: it has more, or it hasn't and memory was refused
+abbrev pub UnmadeWithin : ℕ → List ℕ → SaveFault → Type 0
+UnmadeWithin most text (TooLarge n) = (length text ≡ n) × (most < n)
+UnmadeWithin most text WriteFault = ⊥
+UnmadeWithin most text NoMemory = length text ≤ most
 
--- a fault of a text that is written to a file: writing is tried only where it fits
+-- the same of a text of at most 2^32 bytes
+abbrev pub Unmade : List ℕ → SaveFault → Type 0
+Unmade text fault = UnmadeWithin LONGEST_FILE text fault
+
+-- a fault of a text that is written to a file: it has more than 2^32 bytes; where it hasn't, writing failed or memory was refused
 abbrev pub Unwritten : List ℕ → SaveFault → Type 0
 Unwritten text (TooLarge n) = (length text ≡ n) × (LONGEST_FILE < n)
 Unwritten text WriteFault = length text ≤ LONGEST_FILE
-Unwritten text NoMemory = ⊤
+Unwritten text NoMemory = length text ≤ LONGEST_FILE
 
 -- the contents are as before, or the name has a prefix of the text and every other name stays
 abbrev pub LeavesPrefix : Option Files → Option Files → List ℕ → List ℕ → Type 0

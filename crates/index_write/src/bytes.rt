@@ -5,7 +5,7 @@ ghost use Rattle.index_layout.specs.Layout.{file_length, totals_bytes};
 ghost use Rattle.index_layout.specs.View.{index_text};
 ghost use Rattle.index_write.specs.Chosen.{head_data, chosen_terms};
 ghost use Rattle.index_write.specs.Private.Table.{table_of};
-ghost use Rattle.index_write.specs.Saving.{Unmade};
+ghost use Rattle.index_write.specs.Saving.{Unmade, UnmadeWithin};
 ghost use Rattle.index_write.specs.Streaming.{AreEntries, AreNames, entries_totals, entry_data};
 ghost use Rattle.jass_base.specs.declared.limits.TheConstants.{GREATEST_IMPACT, LONGEST_FILE};
 ghost use Rattle.index_write.specs.Private.Front.{Unspelled, first_bytes};
@@ -14,7 +14,7 @@ use crate::fault::SaveFault;
 use crate::front::{put_names, put_terms};
 use crate::head::{PayloadHead, index_heads};
 use crate::laws::{tables_have_their_sums, texts_have_their_parts};
-use crate::lengths::{front_len, index_len};
+use crate::lengths::{front_len, index_len, length_above};
 use crate::payloads::put_all_payloads;
 use crate::sums::totals;
 use crate::term_heads::TermHeads;
@@ -105,22 +105,31 @@ fn spelled(
 }
 
 /// The bytes of the file of an index, each segment in its shortest codec. TooLarge comes exactly
-/// where they are more than 2^32, unless memory is refused first.
+/// where they are more than 2^32, before memory is taken.
 pub fn index_bytes(alloc: Global, index: &ImpactIndex) -> Result<Row<u8>, SaveFault>
     ensures bytes { IfOk result (λ row. row ≡ index_text (index_data index.now)) }
     ensures fits { OnOk result (length (index_text (index_data index.now)) ≤ LONGEST_FILE) }
     ensures fault { IfErr result (Unmade (index_text (index_data index.now))) }
 {
+    bytes_within(alloc, index, LONGEST_FILE)
+}
+
+/// The bytes of the file of an index, each segment in its shortest codec. TooLarge comes exactly
+/// where they are more than so many, before memory is taken.
+pub fn bytes_within(alloc: Global, index: &ImpactIndex, most: u64) -> Result<Row<u8>, SaveFault>
+    ensures bytes { IfOk result (λ row. row ≡ index_text (index_data index.now)) }
+    ensures fits { OnOk result (length (index_text (index_data index.now)) ≤ most) }
+    ensures fault { IfErr result (UnmadeWithin most (index_text (index_data index.now))) }
+{
     let _greatest = index.greatest;
+    if let Some(length) = length_above(index, most) {
+        return Err(SaveFault::TooLarge { length });
+    }
     let heads = match index_heads(alloc, index) {
         Ok(heads) => heads,
         Err(_) => return Err(SaveFault::NoMemory),
     };
     let len = index_len(index, heads.as_slice());
-    if len > LONGEST_FILE {
-        drop(heads);
-        return Err(SaveFault::TooLarge { length: len });
-    }
     let made = spelled(alloc, index, heads.as_slice(), len);
     drop(heads);
     match made {

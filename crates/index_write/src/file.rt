@@ -23,10 +23,9 @@ fn put_file<C: Cabinet>(files: &mut C, name: &str, bytes: &[u8]) -> Result<(), F
     Ok(())
 }
 
-/// Makes the file of a name the file of an index, each segment in its shortest codec. All memory is
-/// taken, and the length judged, before the file is touched. TooLarge comes exactly where the
-/// length is above 2^32, unless memory is refused first; a WriteFault only where the files counted
-/// one.
+/// Makes the file of a name the file of an index, each segment in its shortest codec. The length is
+/// judged before memory is taken, and all memory is taken before the file is touched. TooLarge comes
+/// exactly where the length is above 2^32; a WriteFault only where the files counted one.
 pub fn write_index<C: Cabinet>(
     alloc: Global,
     index: &ImpactIndex,

@@ -1,7 +1,7 @@
 // What the parts of an index file are, and that their sizes fit 64 bits. Each function does nothing:
 // its contract is the law, and a caller learns it by the call.
 
-ghost use Rattle.std.specs.Prelude.{◌≡◌, ◌<◌, ◌≤◌, ◌+◌, ◌^◌, ◌⊎◌, [], ◌∷◌, ◌++◌, List, ℕ, Option, None, length, map, take, All, AllPairs};
+ghost use Rattle.std.specs.Prelude.{◌≡◌, ◌<◌, ◌≤◌, ◌+◌, ◌*◌, ◌^◌, ◌⊎◌, [], ◌∷◌, ◌++◌, List, ℕ, Option, None, length, map, take, All, AllPairs};
 ghost use Rattle.std.specs.List.{sum_by};
 ghost use Rattle.jass_base.specs.Gaps.{AreDocs};
 ghost use Rattle.jass_base.specs.Outside.{Extends, Files, Sets};
@@ -81,6 +81,19 @@ pub(crate) fn parts_are_small()
         → length (table_payloads (length index.names) index.terms) ≤ 2 ^ 52 }
     ensures postings { (index : IndexData) → IsIndex index → index_postings index ≤ 2 ^ 50 }
 {
+    payloads_have_few_bytes();
+}
+
+/// The text of an index has what stands before its payloads and the payloads, of at most four bytes
+/// for each posting.
+pub(crate) fn indexes_have_four_bytes_a_posting()
+    ensures length { (index : IndexData) → length (index_text index) ≡ 40 + length (names_bytes index.names)
+        + length (terms_bytes [] (chosen_terms (length index.names) index.terms))
+        + length (table_payloads (length index.names) index.terms) }
+    ensures few { (index : IndexData) → IsIndex index
+        → length (table_payloads (length index.names) index.terms) ≤ 4 * index_postings index }
+{
+    texts_have_their_parts();
     payloads_have_few_bytes();
 }
 

@@ -1,12 +1,14 @@
 //! How many bytes the parts of an index file have.
 
-ghost use Rattle.std.specs.Prelude.{◌≡◌, ◌≤◌, ◌<◌, ◌+◌, ◌*◌, ◌^◌, [], length, map};
+ghost use Rattle.std.specs.Prelude.{◌≡◌, ◌≤◌, ◌<◌, ◌+◌, ◌*◌, ◌^◌, [], length, map, All, IfSome, IsNone};
 ghost use Rattle.std.specs.List.{sum_by};
-ghost use Rattle.index_model.specs.Views.{term_data, index_data};
+ghost use Rattle.jass_base.specs.Gaps.{AreDocs};
+ghost use Rattle.jass_base.specs.declared.segment.Segment.{Segment};
+ghost use Rattle.index_model.specs.Views.{segment_data, term_data, index_data};
 ghost use Rattle.index_layout.specs.Heads.{payloads_size};
 ghost use Rattle.index_layout.specs.Layout.{file_length, front_bytes, names_bytes, rest_behind, shared_with, terms_bytes};
 ghost use Rattle.index_layout.specs.View.{index_text};
-ghost use Rattle.index_write.specs.Chosen.{head_data, chosen_terms};
+ghost use Rattle.index_write.specs.Chosen.{head_data, chosen_payloads, chosen_terms, table_payloads};
 ghost use Rattle.index_write.specs.Private.Table.{table_of};
 ghost use Rattle.index_write.specs.Streaming.{AreEntries, AreNames, entry_data};
 ghost use Rattle.index_write.specs.declared.head.PayloadHead.{PayloadHead};
@@ -14,11 +16,14 @@ ghost use Rattle.jass_base.specs.declared.limits.TheConstants.{GREATEST_IMPACT};
 
 use crate::head::PayloadHead;
 use crate::laws::{
-    entries_are_small, parts_are_small, tables_have_their_sums, texts_have_their_parts,
+    entries_are_small, indexes_have_four_bytes_a_posting, parts_are_small, tables_have_their_sums,
+    terms_have_documents, texts_have_their_parts,
 };
+use crate::sums::postings_in;
 use crate::term_heads::TermHeads;
 use index_model::laws::indexes_in_memory_are_indexes;
-use jass_base::{ImpactIndex, Text};
+use jass_base::{ImpactIndex, Segment, Text};
+use segment_codecs::shortest;
 
 /// The bytes of names, each behind its length.
 pub fn names_len(names: &[Text]) -> u64
@@ -97,6 +102,54 @@ pub fn index_len(index: &ImpactIndex, heads: &[PayloadHead]) -> u64
     texts_have_their_parts();
     tables_have_their_sums();
     40 + names_len(index.names.as_slice()) + terms_len(index) + payloads_len(heads)
+}
+
+/// The bytes of the payloads of segments, each in its shortest codec, in an index of `d` documents.
+fn segments_len(segments: &[Segment], d: u32) -> u64
+    requires docs { All (λ (s : Segment). AreDocs d s.docs) segments.now }
+    requires few { length (chosen_payloads d (map segment_data segments.now)) < 2 ^ 62 }
+    ensures { result ≡ length (chosen_payloads d (map segment_data segments.now)) }
+{
+    let mut len = 0;
+    for segment in segments {
+        len += shortest(segment.docs.as_slice(), d).size;
+    }
+    len
+}
+
+/// The bytes of the payloads of all terms, each in its shortest codec.
+fn all_payloads_len(index: &ImpactIndex) -> u64
+    requires { index.now.greatest ≤ GREATEST_IMPACT }
+    ensures len { result ≡ length (table_payloads (length index.now.names) (map term_data index.now.terms)) }
+    ensures few { result < 2 ^ 62 }
+{
+    indexes_in_memory_are_indexes();
+    parts_are_small();
+    terms_have_documents();
+    let d = index.names.len() as u32;
+    let mut len = 0;
+    for term in index.terms.as_slice() {
+        len += segments_len(term.segments.as_slice(), d);
+    }
+    len
+}
+
+/// The bytes of the file of an index, if they are more than so many. It takes no memory. No payload has
+/// more than four bytes for each posting, so that a smaller index needs no pass over its documents.
+pub fn length_above(index: &ImpactIndex, most: u64) -> Option<u64>
+    requires { index.now.greatest ≤ GREATEST_IMPACT }
+    ensures some { IfSome result (λ len. (length (index_text (index_data index.now)) ≡ len) × (most < len)) }
+    ensures none { IsNone result → length (index_text (index_data index.now)) ≤ most }
+{
+    indexes_in_memory_are_indexes();
+    parts_are_small();
+    indexes_have_four_bytes_a_posting();
+    let front = 40 + names_len(index.names.as_slice()) + terms_len(index);
+    if front + 4 * postings_in(index) <= most {
+        return None;
+    }
+    let len = front + all_payloads_len(index);
+    if len > most { Some(len) } else { None }
 }
 
 /// The bytes of terms with their heads.

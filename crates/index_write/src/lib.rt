@@ -23,7 +23,7 @@ mod whole;
 mod writer;
 
 pub use blocks::Blocks;
-pub use bytes::index_bytes;
+pub use bytes::{bytes_within, index_bytes};
 pub use fault::{SaveFault, TermFault};
 pub use file::write_index;
 pub use head::{PayloadHead, payload_heads};

@@ -41,7 +41,7 @@ fn terms_postings(terms: &[TermSegments]) -> u64
 }
 
 /// The postings of an index.
-fn postings_in(index: &ImpactIndex) -> u64
+pub fn postings_in(index: &ImpactIndex) -> u64
     requires { index.now.greatest ≤ GREATEST_IMPACT }
     ensures { result ≡ index_postings (index_data index.now) }
 {
