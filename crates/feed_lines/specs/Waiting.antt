@@ -1,8 +1,9 @@
 -- The bytes of an input that wait to be passed as lines, and what becomes of them. Lines end by LF, as in POSIX; a line
 -- of at most 1,048,576 bytes fits with a CR and its LF. This project's.
-use Rattle.std.specs.Prelude.{ℕ, ◌≡◌, ◌≢◌, ◌<◌, ◌+◌, Bool, true, false, ◌||◌, nat_le, List, [], ◌∷◌, ◌++◌, length, take, drop, All, Option, Some, None, Result, Ok, Err, if◌then◌else◌, ◌⊎◌}
+use Rattle.std.specs.Prelude.{ℕ, ◌≡◌, ◌≢◌, ◌<◌, ◌≤◌, ◌+◌, Bool, true, false, ◌||◌, nat_le, List, [], ◌∷◌, ◌++◌, length, take, drop, All, Option, Some, None, Result, Ok, Err, if◌then◌else◌, ◌⊎◌}
 use Rattle.std.specs.Io.KnownBytes.{Consumes, Keeps, IsAtEnd}
 use Rattle.feed_lines.specs.declared.filled.Filled.{Filled}
+use Rattle.feed_lines.specs.declared.room.TheConstants.{ROOM}
 use Rattle.feed_lines.specs.declared.filled.Filled.TheVariants.{More, End, Limit}
 
 -- the bytes that were taken and not passed, whether the line that they begin has lost bytes before them, and how many
@@ -37,10 +38,11 @@ abbrev pub FirstEnd : List ℕ → Option ℕ → Type 0
 FirstEnd bytes None = All (λ b. b ≢ 10) bytes
 FirstEnd bytes (Some end) = EndsFirst bytes end
 
--- bytes were taken off the front of the input, at least one, and wait behind those that were kept
+-- bytes were taken off the front of the input, at least one and at most as many as there is room for, and wait behind those that were kept
 pub record Takes (before after : Option (List ℕ)) (old new : Waiting) : Type 0 where
   pub taken : List ℕ
   pub some : 0 < length taken
+  pub most : length taken ≤ ROOM
   pub consumed : Consumes before after taken
   pub counted : old.left ≡ new.left + length taken
   pub bytes : new.bytes ≡ (kept old).bytes ++ taken

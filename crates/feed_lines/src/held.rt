@@ -2,12 +2,10 @@ ghost use Rattle.std.specs.Prelude.{ℕ, ◌≡◌, ◌+◌, ◌<◌, ◌≤◌,
 ghost use Rattle.jass_base.specs.Outside.{HasCause};
 ghost use Rattle.feed_lines.specs.Private.Reads.{Reads};
 
+use crate::room::ROOM;
 use jass_base::{Failed, Feed, NoMemory};
 use std::alloc::Global;
 use std::marker::Model;
-
-/// The room for held bytes: a line of 1,048,576 bytes with its CR and LF.
-pub(crate) const ROOM: usize = 1_048_578;
 
 /// Bytes that were taken from an input and are still wanted. Contracts see it as their list.
 #[derive(Drop)]

@@ -9,6 +9,7 @@ mod feed_lines;
 mod filled;
 mod held;
 pub mod laws;
+pub mod room;
 
 pub use feed_lines::FeedLines;
 pub use filled::Filled;

@@ -1,5 +1,5 @@
-// The trusted edge, once each: the host's files as a cabinet, and streams as a feed and a sink.
-// The exit status of a command line that tells its arguments.
+// The trusted edge: the host's files as a cabinet, and streams as a feed and a sink; an answer over
+// them. The exit status of a command line that tells its arguments.
 
 ghost use Rattle.std.specs.Prelude.{◌≡◌, ◌<◌, Some, map};
 
@@ -8,7 +8,7 @@ use crate::host_cabinet::HostCabinet;
 use crate::host_feed::HostFeed;
 use crate::host_sink::HostSink;
 use crate::program::run_line;
-use jass_base::{Cabinet, Feed, MemCabinet, MemSink, Row, Sink, SliceFeed, Steps};
+use jass_base::{Cabinet, Failed, Feed, MemCabinet, MemSink, Row, Sink, SliceFeed, Steps};
 use std::alloc::Global;
 use std::env::FillError;
 use std::marker::Brand;
@@ -30,6 +30,26 @@ fn files_are_made_and_read(rt: HostRuntime) {
             .read_at("jass_no_such_file.tmp", 0, &mut piece)
             .is_err()
     );
+}
+
+#[test]
+fn a_file_made_again_keeps_nothing(rt: HostRuntime) {
+    let name = "jass_host_cabinet_again.tmp";
+    let mut files = HostCabinet::new(&rt);
+    let left = made_again(&mut files, name);
+    drop(files);
+    assert!(&rt; std::fs::remove_file(&rt, name).is_ok());
+    assert_eq!(&rt; left.unwrap_or(0), 4);
+}
+
+/// How many bytes a file has, up to 16, that is made once more and gets 4.
+fn made_again(files: &mut HostCabinet<'_>, name: &str) -> Result<usize, Failed> {
+    let mut piece = [0u8; 16];
+    files.create(name)?;
+    files.append(name, b"segment")?;
+    files.create(name)?;
+    files.append(name, b"term")?;
+    files.read_at(name, 0, &mut piece)
 }
 
 #[test]
@@ -107,4 +127,63 @@ fn exit_statuses_are_those_of_runs(rt: HostRuntime) {
         assert_eq!(&rt; ended, status);
         assert!(&rt; notes.written() == noted);
     }
+}
+
+/// The example file, which `data/b.ciff` holds too.
+const EXAMPLE: &[u8] =
+    b"\x15\x08\x01\x10\x01\x18\x03\x20\x01\x28\x03\x30\x0f\x39\0\0\0\0\0\0\x14\x40\
+    \x17\x0a\x01a\x10\x03\x18\x0f\x22\x02\x10\x09\x22\x04\x08\x01\x10\x05\x22\x04\x08\x01\x10\x01\
+    \x06\x12\x02d0\x18\x09\x08\x08\x01\x12\x02d1\x18\x05\x08\x08\x02\x12\x02d2\x18\x01";
+
+/// What the example prints.
+const ANSWER: &[u8] = b"q postings 3 segments 3 of 3 cutoff 1 next 0 bound 0 unknown 0 final\n\
+    q Q0 d0 1 9 jass\nq Q0 d1 2 5 jass\nq Q0 d2 3 1 jass\n";
+
+/// The exit status of a command line over the host's files, what it prints, and what it notes.
+fn host_exit<L: Ledger>(
+    rt: &HostRuntime,
+    blank: Blank,
+    arguments: &[&[u8]],
+) -> (u8, HostSink<Vec<u8>>, HostSink<Vec<u8>>)
+    requires name { blank.name ≡ L.name }
+    requires parts { blank.parts ≡ L.parts }
+    requires some { 0 < blank.parts }
+{
+    let alloc = rt.alloc();
+    let mut files = HostCabinet::new(rt);
+    let mut input = HostFeed::new(b"".as_slice());
+    let mut out = HostSink::new(Vec::new(alloc));
+    let mut notes = HostSink::new(Vec::new(alloc));
+    let mut steps = Steps::<L>::new(blank);
+    let line = Line { arguments };
+    let status = run_line(
+        alloc, &line, &mut files, &mut input, &mut out, &mut notes, &mut steps,
+    );
+    (status.number(), out, notes)
+}
+
+fn exits_at_host(
+    rt: &HostRuntime,
+    arguments: &[&[u8]],
+) -> (u8, HostSink<Vec<u8>>, HostSink<Vec<u8>>) {
+    host_exit::<Brand>(rt, Blank::new(1), arguments)
+}
+
+/// Makes the example file.
+fn make_example(rt: &HostRuntime, name: &str) -> Result<(), Failed> {
+    let mut files = HostCabinet::new(rt);
+    files.create(name)?;
+    files.append(name, EXAMPLE)
+}
+
+#[test]
+fn the_example_is_answered(rt: HostRuntime) {
+    let name = "jass_host_example.tmp";
+    assert!(&rt; make_example(&rt, name).is_ok());
+    let arguments: [&[u8]; 6] = [b"jass", b"once", name.as_bytes(), b"3", b"all", b"a"];
+    let (ended, out, notes) = exits_at_host(&rt, &arguments);
+    assert!(&rt; std::fs::remove_file(&rt, name).is_ok());
+    assert_eq!(&rt; ended, 0);
+    assert!(&rt; out.inner().as_slice() == ANSWER);
+    assert!(&rt; notes.inner().as_slice() == b"".as_slice());
 }

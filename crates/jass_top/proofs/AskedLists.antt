@@ -1,5 +1,5 @@
 -- How a query of words runs over an index that answers it as another one does.
-use Rattle.shared_lemmas.proofs.Common.{◌≡◌, ◌≢◌, ◌≤◌, ◌^◌, ◌++◌, ℕ, List, [], ◌∷◌, length, codes, Option, Result, Ok, Err, true, false, sym, subst, ◌∙◌, inl, inr}
+use Rattle.shared_lemmas.proofs.Common.{◌≡◌, ◌≢◌, ◌≤◌, ◌^◌, ◌++◌, ℕ, List, [], ◌∷◌, length, codes, Option, Result, Ok, Err, true, false, sym, subst, ◌∙◌, inl, inr, ◌⊎◌}
 use Rattle.ranking_model.specs.declared.posting.WeightedPosting.{WeightedPosting}
 use Rattle.jass_top.proofs.Below.{Files, IndexData, index_text, QueryPlan, granted_sum, prefix_within, size_of_first, weighted_postings, numbered_flat, IsPromised, IsReport, Report, report_line, run_lines, top_k}
 use Rattle.asked_lists.specs.Asked.{AnswerAlike, words_named}
@@ -8,10 +8,9 @@ use Rattle.jass_top.specs.IndexJudging.{fitting}
 use Rattle.jass_top.specs.Judging.{Accepted, Missing, Refuses, Shows}
 use Rattle.jass_top.specs.Meanings.{Output}
 use Rattle.jass_top.specs.OnceMeaning.{IsOnceOutput}
-use Rattle.jass_top.specs.Private.Causes.{Runs}
+use Rattle.jass_top.specs.Private.Causes.{Came, Runs, UnreadFile, UnreadFeed}
 use Rattle.jass_top.specs.Private.HeldIndexes.{asking_meaning}
 use Rattle.jass_top.specs.SearchMeaning.{IsSearchReport}
-use Rattle.jass_top.specs.Standing.{Had, Stands}
 use Rattle.jass_top.specs.Worlds.{Outer}
 use Rattle.jass_top.specs.declared.stop.Place.{Place}
 use Rattle.jass_top.specs.declared.stop.Stop.{Stop}
@@ -40,18 +39,12 @@ module _ (input : List ℕ) (query : OnceQuery) (one other : IndexData) (one_fit
     });
   }
 
-  had : (told : Option Files) (P : Output → Type 0) → Had (asking_meaning input one query) told P → Had (asking_meaning input other query) told P
-  had told P is = record {
-    inputs = other;
-    output = is.output;
-    accepted = inr (fits input other other_fits);
-    exact = output_is is.output (subst (λ (index : IndexData). IsOnceOutput query index is.output) (is_one is.accepted) is.exact);
-    left = is.left;
-  }
-    where
-      is_one : Shows (fitting input one) (Accepted is.inputs) → is.inputs ≡ one
-      is_one (inl untold) = let both = sym (fits input one one_fits) ∙ untold in cc
-      is_one (inr same) = let both : Accepted one ≡ Accepted is.inputs = sym (fits input one one_fits) ∙ same in cc
+  is_one : (inputs : IndexData) → Shows (fitting input one) (Accepted inputs) → inputs ≡ one
+  is_one inputs (inl untold) = let both = sym (fits input one one_fits) ∙ untold in cc
+  is_one inputs (inr same) = let both : Accepted one ≡ Accepted inputs = sym (fits input one one_fits) ∙ same in cc
+
+  exact : (inputs : IndexData) (output : Output) → Shows (fitting input one) (Accepted inputs) → IsOnceOutput query inputs output → IsOnceOutput query other output
+  exact inputs output accepted is = output_is output (subst (λ (index : IndexData). IsOnceOutput query index output) (is_one inputs accepted) is)
 
   never_refused : (name : List ℕ) (number : ℕ) (at : Place) → ¬ Shows (fitting input one) (Refuses name number at)
   never_refused name number at (inl untold) = let both = sym (fits input one one_fits) ∙ untold in cc
@@ -60,16 +53,42 @@ module _ (input : List ℕ) (query : OnceQuery) (one other : IndexData) (one_fit
   never_missing : (name : List ℕ) → fitting input one ≢ Missing name
   never_missing name is = let both = sym (fits input one one_fits) ∙ is in cc
 
-  stands : (before after : Outer) → Stands (asking_meaning input one query) before after → Stands (asking_meaning input other query) before after
-  stands before after (inl is) = inl is
-  stands before after (inr (inl is)) = let counts : false ≡ true = is.counting in cc
-  stands before after (inr (inr is)) = let streams : false ≡ true = is.0 in cc
+  module _ (before after : Outer) where
+    unread : (name : List ℕ) → UnreadFile (asking_meaning input one query) before after name ⊎ UnreadFeed (asking_meaning input one query) before after name
+        → UnreadFile (asking_meaning input other query) before after name ⊎ UnreadFeed (asking_meaning input other query) before after name
+    unread name (inr feed) = let bad : false ≡ true = feed.feeds in cc
+    unread name (inl is) = inl (record {
+      input = is.input;
+      cause = elim is.cause [ inl rose ↦ inl rose | inr missing ↦ absurd (never_missing name missing) ];
+      stands = elim is.stands [ inl kept ↦ inl kept | inr over ↦ absurd over.stands ];
+    })
 
-  pub asked_runs : (before after : Outer) (result : Result (Unit {0}) Stop) → Runs (asking_meaning input one query) before after result → Runs (asking_meaning input other query) before after result
-  asked_runs before after (Ok done) is = had before.told _ is
-  asked_runs before after (Err stops.NoMemory) is = stands before after is
-  asked_runs before after (Err (stops.Refused name number at)) is = absurd (never_refused name.now number at is.1)
-  asked_runs before after (Err (stops.ReadFault name)) (named, inl rose, is) = (named, inl rose, stands before after is)
-  asked_runs before after (Err (stops.ReadFault name)) (named, inr missing, is) = absurd (never_missing name.now missing)
-  asked_runs before after (Err (stops.WriteFault name)) is = (is.0, had before.told _ is.1)
-  asked_runs before after (Err stops.InputLimit) is = absurd is
+    came : (result : Result (Unit {0}) Stop) → Came (asking_meaning input one query) before after result → Came (asking_meaning input other query) before after result
+    came (Ok done) is = record {
+      inputs = other;
+      input = is.input;
+      output = is.output;
+      accepted = inr (fits input other other_fits);
+      had = λ feeds. (let bad : false ≡ true = feeds in cc);
+      exact = exact is.inputs is.output is.accepted is.exact;
+      left = is.left;
+    }
+    came (Err stops.NoMemory) is = elim is [ inl kept ↦ inl kept | inr over ↦ absurd over.stands ]
+    came (Err (stops.Refused name number at)) is = absurd (never_refused name.now number at is.1)
+    came (Err (stops.ReadFault name)) is = unread name.now is
+    came (Err (stops.WriteFault name)) is = (
+      is.0,
+      record {
+        inputs = other;
+        accepted = inr (fits input other other_fits);
+        stands = record { output = is.1.stands.output; exact = exact is.1.inputs is.1.stands.output is.1.accepted is.1.stands.exact; stands = is.1.stands.stands };
+      },
+    )
+    came (Err stops.InputLimit) is = absurd is.stands
+
+    pub asked_runs : (result : Result (Unit {0}) Stop) → Runs (asking_meaning input one query) before after result → Runs (asking_meaning input other query) before after result
+    asked_runs result is = record {
+      came = came result is.came;
+      untouched = record { no_files = is.untouched.no_files; no_output = is.untouched.no_output; no_feed = is.untouched.no_feed; rest = is.untouched.rest };
+      taken = is.taken;
+    }

@@ -5,11 +5,9 @@ use Rattle.jass_top.proofs.Below.{query_of, report_of, terms_of, Session}
 use Rattle.session_engine.specs.Plans.{session_plan}
 use Rattle.jass_top.specs.Answers.{OnceQuery, once_prefix, once_query, once_steps, once_text}
 use Rattle.jass_top.specs.Meanings.{Output}
-use Rattle.jass_top.specs.Private.HeldIndexes.{asking_meaning}
+use Rattle.jass_top.specs.OnceMeaning.{IsOnceOutput}
 use Rattle.jass_top.specs.Private.OnceTexts.{session_text}
 use Rattle.jass_top.specs.SearchMeaning.{IsSearchReport}
-use Rattle.jass_top.specs.Standing.{Had}
-use Rattle.jass_top.proofs.JudgedFiles.{fits}
 use Rattle.jass_top.proofs.Turns.{granted_more}
 
 module _ (file : FileView) (query : OnceQuery) (opened s : Session) (pool : PoolView) (stands : SessionStands s file pool) (is : IsSessionOf opened s)
@@ -50,12 +48,6 @@ module _ (file : FileView) (query : OnceQuery) (opened s : Session) (pool : Pool
   abbrev pub answered : Output
   answered = record { content = []; text = session_text file s; steps = (report_of s).postings }
 
-  pub had : (input : List ℕ) (told : Option Files) (P : Output → Type 0) → length (index_text file.index) ≤ 2 ^ 32 → IsReport (prefix_of s) (plan_over file s) (k_of s) (report_of s)
-      → IsPromised (weighted_postings (numbered_flat file.index) (terms_of s)) (prefix_of s) (plan_over file s) (k_of s) (report_of s) → P answered → Had (asking_meaning input file.index query) told P
-  had input told P few exact promised left = record {
-    inputs = file.index;
-    output = answered;
-    accepted = inr (fits input file.index few);
-    exact = record { report = report_of s; answer = report_is exact promised; whole = λ i. record { content = []; text = text_is i; steps = steps_are i } };
-    left = left;
-  }
+  pub exact : IsReport (prefix_of s) (plan_over file s) (k_of s) (report_of s)
+      → IsPromised (weighted_postings (numbered_flat file.index) (terms_of s)) (prefix_of s) (plan_over file s) (k_of s) (report_of s) → IsOnceOutput query file.index answered
+  exact reported promised = record { report = report_of s; answer = report_is reported promised; whole = λ i. record { content = []; text = text_is i; steps = steps_are i } }

@@ -1,11 +1,17 @@
 -- Inputs that are judged one behind the other.
-use Rattle.std.proofs.Common.{◌≡◌, ◌≤◌, ℕ, List, [], ◌∷◌, ap, ◌∙◌, inl, inr}
+use Rattle.std.proofs.Common.{◌≡◌, ◌≤◌, ℕ, List, [], ◌∷◌, refl, ap, ◌∙◌, inl, inr}
 use Rattle.jass_base.proofs.Writing.{Rose-earlier}
 use Rattle.jass_top.specs.declared.stop.Stop.{Stop}
 use Rattle.jass_top.specs.declared.stop.Stop.TheVariants as stops
 use Rattle.jass_top.specs.Causes.{IsOneOf}
 use Rattle.jass_top.specs.Private.Causes.{Unheld, Unread}
-use Rattle.jass_top.specs.Judging.{Judged, Accepted, Refuses, Untold, Shows, behind}
+use Rattle.jass_top.specs.Judging.{Judged, Accepted, Missing, Refuses, Untold, Shows, behind}
+
+pub behind_both : {A B D : Type 0} (judged : Judged A) (next : A → Judged B) (last : B → Judged D) → behind (behind judged next) last ≡ behind judged (λ x. behind (next x) last)
+behind_both (Accepted x) next last = refl
+behind_both (Missing name) next last = refl
+behind_both (Refuses name number at) next last = refl
+behind_both Untold next last = refl
 
 pub shown_then : {A B : Type 0} (judged : Judged A) (x : A) (next : A → Judged B) (other : Judged B) → Shows judged (Accepted x) → Shows (next x) other → Shows (behind judged next) other
 shown_then judged x next other (inl untold) shows = inl (ap (λ j. behind j next) untold)
@@ -39,6 +45,14 @@ unread_then first more judged x next before mid after (stops.ReadFault name) (in
 unread_then first more judged x next before mid after (stops.ReadFault name) (inr had) untold later (one, inr is) = (inr one, inr (ap (λ j. behind j next) had ∙ is))
 unread_then first more judged x next before mid after (stops.WriteFault name) shows untold later why = why
 unread_then first more judged x next before mid after stops.InputLimit shows untold later why = why
+
+-- an input was had, and what is judged behind it isn't held
+pub unheld_then : {A B : Type 0} (reads : List (List ℕ)) (judged : Judged A) (x : A) (next : A → Judged B) (before after : ℕ) (stop : Stop) → Shows judged (Accepted x) → Unheld reads (next x) stop → Unread reads (behind judged next) before after stop
+unheld_then reads judged x next before after stops.NoMemory shows why = tt
+unheld_then reads judged x next before after (stops.Refused name number at) shows (one, refused) = (one, shown_then judged x next (Refuses name.now number at) shows refused)
+unheld_then reads judged x next before after (stops.ReadFault name) shows why = absurd why
+unheld_then reads judged x next before after (stops.WriteFault name) shows why = absurd why
+unheld_then reads judged x next before after stops.InputLimit shows why = absurd why
 
 -- the index wasn't held
 pub unheld_first : {A B : Type 0} (reads : List (List ℕ)) (judged : Judged A) (next : A → Judged B) (stop : Stop) → Unheld reads judged stop → Unheld reads (behind judged next) stop

@@ -6,9 +6,11 @@ use Rattle.jass_top.specs.IndexJudging.{fitting}
 use Rattle.jass_top.specs.Judging.{Judged, Accepted, Missing, Refuses, Shows, behind, judge_ciff, judged_ciff, judged_content}
 use Rattle.jass_top.specs.ImportMeaning.{import_meaning}
 use Rattle.jass_top.specs.MakingMeaning.{judge_made, made_output}
-use Rattle.jass_top.specs.Standing.{Stands}
+use Rattle.jass_top.specs.Endings.{Over}
+use Rattle.jass_top.specs.Standing.{FilePart, Keeps}
 use Rattle.jass_top.specs.Worlds.{Outer}
 use Rattle.jass_top.proofs.JudgedFiles.{fits, too_large}
+use Rattle.jass_top.proofs.Stopping.{uncounted}
 
 module _ (ciff : List ℕ) (rule : Rule) (bits : Bits) where
   abbrev pub judge_import : Option Files → Judged IndexData
@@ -44,22 +46,12 @@ module _ (ciff : List ℕ) (rule : Rule) (bits : Bits) where
 
 module _ (ciff : List ℕ) (rule : Rule) (bits : Bits) (index : List ℕ) (before after : Outer) where
   -- an import that stopped left nothing, or a part of the index
-  pub stands : after.written ≡ before.written → after.steps ≡ before.steps → (after.told ≡ before.told) ⊎ ((made : IndexData) × IsMade before.told ciff rule bits made × Begins before.told after.told index made)
-      → Stands (import_meaning ciff index rule bits) before after
-  stands written steps (inl same) = inl (record { told = same; written = written; steps = steps })
-  stands written steps (inr (made, is, inl same)) = inl (record { told = same; written = written; steps = steps })
-  stands written steps (inr (made, is, inr (few, part))) = inr (inr (
-    search rules,
-    record {
-      inputs = made;
-      output = made_output made;
-      accepted = accepted ciff rule bits before.told made is few;
-      exact = refl;
-      left = record {
-        content = inr part;
-        text = (0, subst (λ (w : Option (List ℕ)). Appends before.written w []) (sym written) (Appends-none before.written));
-        steps = omega (arith, steps);
-        never_less = omega (arith, steps);
-      };
-    },
-  ))
+  pub stands : after.written ≡ before.written → after.left ≡ before.left → after.steps ≡ before.steps → (after.told ≡ before.told) ⊎ ((made : IndexData) × IsMade before.told ciff rule bits made × Begins before.told after.told index made)
+      → Keeps before after ⊎ Over (import_meaning ciff index rule bits) (λ made. FilePart index (made_output made)) before after
+  stands written left steps (inl same) = inl (record { told = same; written = written; left = left; steps = steps })
+  stands written left steps (inr (made, is, inl same)) = inl (record { told = same; written = written; left = left; steps = steps })
+  stands written left steps (inr (made, is, inr (few, part))) = inr (record {
+    inputs = made;
+    accepted = accepted ciff rule bits before.told made is few;
+    stands = record { content = inr part; written = written; steps = uncounted before after 0 steps };
+  })

@@ -3,7 +3,8 @@ use Rattle.shared_lemmas.proofs.Common.{◌≡◌, ◌≢◌, ℕ, List, take, O
 use Rattle.jass_top.proofs.Below.{CollectionData, IsCiff, Files, OnContent, IsMissing, Rose, CiffRefusal, read_ciff, number_of}
 use Rattle.jass_top.specs.declared.stop.Place.{Place}
 use Rattle.jass_top.specs.declared.stop.Place.TheVariants.{Byte}
-use Rattle.jass_top.specs.Judging.{Accepted, Missing, Refuses, Untold, IsRefused, Shows, judged_ciff, judged_content, judge_ciff}
+use Rattle.jass_top.specs.Judging.{Accepted, Missing, Refuses, Untold, IsRefused, Shows, judged_ciff, judged_content, judged_there, judge_ciff, judge_content}
+use Rattle.jass_top.specs.Private.Inputs.{AcceptsSuch}
 
 pub shown : (told : Option Files) (name row : List ℕ) (result : Result CollectionData CiffRefusal) → ((bytes : List ℕ) → read_ciff (take 4294967312 bytes) ≡ read_ciff bytes)
     → OnContent told name (λ content. row ≡ take 4294967312 content) → read_ciff row ≡ result → Shows (judge_ciff name told) (judged_ciff name result)
@@ -86,3 +87,56 @@ refused name other files number place is = at (get files name) is
     at : (o : Option (List ℕ)) → judged_content name o ≡ Refuses other number place → (other ≡ name) × (content : List ℕ) × (o ≡ Some content) × IsRefused content number place
     at None is = cc
     at (Some content) is = let (same, refusal) = read content (read_ciff content) refl is in (same, content, refl, refusal)
+
+-- ---- the content alone
+
+pub content_such : (told : Option Files) (name : List ℕ) (P : List ℕ → Type 0) → OnContent told name P → AcceptsSuch (judge_content name told) P
+unfolding judge_content
+content_such None name P there = inl refl
+content_such (Some files) name P there = inr (at (get files name) there)
+  where
+    at : (o : Option (List ℕ)) → IsSomeAnd o P → (content : List ℕ) × (judged_there name o ≡ Accepted content) × P content
+    at None there = absurd there
+    at (Some content) there = (content, refl, there)
+
+pub unread_content : (told : Option Files) (name : List ℕ) (before after : ℕ) → Rose before after ⊎ IsMissing told name → Rose before after ⊎ (judge_content name told ≡ Missing name)
+unfolding judge_content
+unread_content told name before after (inl rose) = inl rose
+unread_content None name before after (inr is) = absurd is
+unread_content (Some files) name before after (inr is) = inr (ap (judged_there name) is)
+
+pub content_found : (name : List ℕ) (files : Files) (content : List ℕ) → judge_content name (Some files) ≡ Accepted content → get files name ≡ Some content
+unfolding judge_content
+content_found name files content is = at (get files name) is
+  where
+    at : (o : Option (List ℕ)) → judged_there name o ≡ Accepted content → o ≡ Some content
+    at None is = cc
+    at (Some other) is = let same : other ≡ content = cc in ap Some same
+
+pub content_only : (name : List ℕ) (files : Files) (content : List ℕ) → get files name ≡ Some content → judge_content name (Some files) ≡ Accepted content
+unfolding judge_content
+content_only name files content there = ap (judged_there name) there
+
+pub content_told : (name : List ℕ) (files : Files) → judge_content name (Some files) ≢ Untold
+unfolding judge_content
+content_told name files is = at (get files name) is
+  where
+    at : (o : Option (List ℕ)) → judged_there name o ≢ Untold
+    at None is = cc
+    at (Some content) is = cc
+
+pub content_missed : (name other : List ℕ) (files : Files) → judge_content name (Some files) ≡ Missing other → (other ≡ name) × (get files name ≡ None)
+unfolding judge_content
+content_missed name other files is = at (get files name) is
+  where
+    at : (o : Option (List ℕ)) → judged_there name o ≡ Missing other → (other ≡ name) × (o ≡ None)
+    at None is = let same : other ≡ name = cc in (same, refl)
+    at (Some content) is = cc
+
+pub content_unrefused : (name other : List ℕ) (files : Files) (number : ℕ) (place : Place) → judge_content name (Some files) ≢ Refuses other number place
+unfolding judge_content
+content_unrefused name other files number place is = at (get files name) is
+  where
+    at : (o : Option (List ℕ)) → judged_there name o ≢ Refuses other number place
+    at None is = cc
+    at (Some content) is = cc

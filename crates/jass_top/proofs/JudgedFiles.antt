@@ -1,8 +1,10 @@
 -- What an index file is judged to be, from what opening it gave, and what is judged behind other inputs.
 use Rattle.shared_lemmas.proofs.Common.{◌≡◌, ◌≢◌, ◌≤◌, ◌<◌, ◌^◌, ℕ, List, length, take, Option, Some, None, Result, Ok, Err, true, false, nat_le, refl, sym, ap, subst, ◌∙◌, ◌⊎◌, inl, inr, arith, IsSomeAnd, get, nat_tests, take_all}
 use Rattle.jass_top.proofs.Below.{Files, OnContent, IsMissing, Rose, Sets, IndexData, OpenRefusal, read_index, FileView, index_text, read_index1}
-use Rattle.jass_top.specs.IndexJudging.{judged_file, judged_index, judged_old, judge_index, judge_old, fitting}
+use Rattle.index_layout.specs.Refusals.{number_of}
+use Rattle.jass_top.specs.IndexJudging.{IsFirstRefusal, judged_file, judged_index, judged_old, judge_index, judge_old, fitting}
 use Rattle.jass_top.specs.Standing.{LeavesFront}
+use Rattle.jass_top.specs.declared.stop.Place.{Place}
 use Rattle.jass_top.specs.declared.stop.Place.TheVariants.{Byte}
 use Rattle.jass_top.specs.Judging.{Accepted, Missing, Refuses, Untold, Shows}
 
@@ -100,3 +102,51 @@ old_told name files is = at (get files name) is
     at : (o : Option (List ℕ)) → judged_old name o ≢ Untold
     at None is = cc
     at (Some content) is = result_told name (read_index1 content) is
+
+-- ---- what isn't accepted is missing, or has a first refusal
+
+never_missing : {A : Type 0} (name other : List ℕ) (result : Result A OpenRefusal) → judged_file name result ≢ Missing other
+never_missing name other (Ok c) is = cc
+never_missing name other (Err e) is = cc
+
+first_refusal : {A : Type 0} (name other : List ℕ) (number : ℕ) (place : Place) (result : Result A OpenRefusal) → judged_file name result ≡ Refuses other number place → (other ≡ name) × IsFirstRefusal result number place
+first_refusal name other number place (Ok c) is = cc
+first_refusal name other number place (Err e) is =
+    let same : other ≡ name = cc in
+    let numbered : number ≡ number_of e.why = cc in
+    let placed : place ≡ Byte e.at = cc in
+    (same, record { refusal = e; first = refl; numbered = numbered; placed = placed })
+
+pub index_missed : (name other : List ℕ) (files : Files) → judge_index name (Some files) ≡ Missing other → (other ≡ name) × (get files name ≡ None)
+unfolding judge_index
+index_missed name other files is = at (get files name) is
+  where
+    at : (o : Option (List ℕ)) → judged_index name o ≡ Missing other → (other ≡ name) × (o ≡ None)
+    at None is = let same : other ≡ name = cc in (same, refl)
+    at (Some content) is = absurd (never_missing name other (read_index content) is)
+
+pub index_refused : (name other : List ℕ) (files : Files) (number : ℕ) (place : Place) → judge_index name (Some files) ≡ Refuses other number place
+    → (other ≡ name) × (content : List ℕ) × (get files name ≡ Some content) × IsFirstRefusal (read_index content) number place
+unfolding judge_index
+index_refused name other files number place is = at (get files name) is
+  where
+    at : (o : Option (List ℕ)) → judged_index name o ≡ Refuses other number place → (other ≡ name) × (content : List ℕ) × (o ≡ Some content) × IsFirstRefusal (read_index content) number place
+    at None is = cc
+    at (Some content) is = let (same, first) = first_refusal name other number place (read_index content) is in (same, content, refl, first)
+
+pub old_missed : (name other : List ℕ) (files : Files) → judge_old name (Some files) ≡ Missing other → (other ≡ name) × (get files name ≡ None)
+unfolding judge_old
+old_missed name other files is = at (get files name) is
+  where
+    at : (o : Option (List ℕ)) → judged_old name o ≡ Missing other → (other ≡ name) × (o ≡ None)
+    at None is = let same : other ≡ name = cc in (same, refl)
+    at (Some content) is = absurd (never_missing name other (read_index1 content) is)
+
+pub old_refused : (name other : List ℕ) (files : Files) (number : ℕ) (place : Place) → judge_old name (Some files) ≡ Refuses other number place
+    → (other ≡ name) × (content : List ℕ) × (get files name ≡ Some content) × IsFirstRefusal (read_index1 content) number place
+unfolding judge_old
+old_refused name other files number place is = at (get files name) is
+  where
+    at : (o : Option (List ℕ)) → judged_old name o ≡ Refuses other number place → (other ≡ name) × (content : List ℕ) × (o ≡ Some content) × IsFirstRefusal (read_index1 content) number place
+    at None is = cc
+    at (Some content) is = let (same, first) = first_refusal name other number place (read_index1 content) is in (same, content, refl, first)

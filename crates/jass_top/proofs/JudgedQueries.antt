@@ -1,89 +1,147 @@
 -- What a query file is judged to be, from what reading it gave.
-use Rattle.shared_lemmas.proofs.Common.{◌≡◌, ◌≢◌, ◌≤◌, ◌<◌, ℕ, List, [], ◌∷◌, length, map, take, Bool, true, false, nat_lt, Option, Some, None, Result, Ok, Err, refl, sym, ap, ◌∙◌, ◌⊎◌, inl, inr, arith, IsSomeAnd, get, nat_tests, take_all}
+use Rattle.shared_lemmas.proofs.Common.{◌≡◌, ◌≢◌, ◌≤◌, ◌<◌, ℕ, List, [], ◌∷◌, length, map, take, Bool, true, false, nat_lt, Option, Some, None, Result, Ok, Err, refl, sym, ap, subst, ◌∙◌, inl, inr, arith, nat_tests, take_all}
 use Rattle.std.proofs.Common.{length-take}
-use Rattle.jass_top.proofs.Below.{Query, Files, OnContent, IsMissing, Rose, QueryData, Mode, QueryRefusal}
+use Rattle.jass_top.proofs.Below.{Query, Files, QueryData, Mode, QueryRefusal}
+use Rattle.text_lines.specs.Lines.{LineData}
 use Rattle.query_reader.specs.Queries as reader
 use Rattle.query_reader.specs.Reading.{read_query_file}
+use Rattle.query_reader.specs.Refusals.{number_of}
+use Rattle.jass_top.specs.declared.stop.Place.{Place}
+use Rattle.jass_top.specs.declared.stop.Place.TheVariants.{Line}
+use Rattle.jass_top.specs.declared.stop.Stop.{Stop}
 use Rattle.jass_top.specs.IndexJudging.{judge_index}
-use Rattle.jass_top.specs.Judging.{Accepted, Missing, Untold, Shows}
-use Rattle.jass_top.specs.SearchMeaning.{judge_queries, judged_queries, judged_query_file, plain_query}
+use Rattle.jass_top.specs.Judging.{Judged, Accepted, Missing, Refuses, Untold, Shows, behind, judge_content}
+use Rattle.jass_top.specs.QueryJudging.{IsRefusedQuery, LineQuery, in_lines, judge_queries, judged_queries, plain_query, with_lines, without_lines}
+use Rattle.jass_top.specs.Private.Causes.{Unheld, Unread}
+use Rattle.jass_top.specs.Private.Inputs.{AcceptsSuch, HasInput}
 use Rattle.jass_top.specs.Private.SearchRuns.{asked_of}
+use Rattle.jass_top.proofs.Behind.{shown_then, unheld_then}
 use Rattle.jass_top.proofs.JudgedFiles.{index_told}
 
 -- a front that is too long is refused as the whole file is
-pub front_enough : (bytes : List ℕ) (mode : Mode) (terms : List (List ℕ)) → read_query_file (take 268435457 bytes) mode terms ≡ read_query_file bytes mode terms
-unfolding read_query_file
-front_enough bytes mode terms = at (nat_lt 268435456 (length bytes)) refl
+pub front_judged : (name : List ℕ) (mode : Mode) (terms : List (List ℕ)) (content : List ℕ) → judge_queries name mode terms (take 268435457 content) ≡ judge_queries name mode terms content
+unfolding judge_queries read_query_file
+front_judged name mode terms content = at (nat_lt 268435456 (length content)) refl
   where
-    at : (b : Bool) → nat_lt 268435456 (length bytes) ≡ b → read_query_file (take 268435457 bytes) mode terms ≡ read_query_file bytes mode terms
+    at : (b : Bool) → nat_lt 268435456 (length content) ≡ b → judge_queries name mode terms (take 268435457 content) ≡ judge_queries name mode terms content
     at true is =
-        let long : 268435456 < length bytes = grind (arith, nat_tests, is) in
-        let front : nat_lt 268435456 (length (take 268435457 bytes)) ≡ true = grind (arith, nat_tests, long, length-take 268435457 bytes) in
+        let long : 268435456 < length content = grind (arith, nat_tests, is) in
+        let front : nat_lt 268435456 (length (take 268435457 content)) ≡ true = grind (arith, nat_tests, long, length-take 268435457 content) in
         rw (front, is) refl
     at false is =
-        let fits : length bytes ≤ 268435457 = grind (arith, nat_tests, is) in
-        ap (λ (b : List ℕ). read_query_file b mode terms) (take_all 268435457 bytes fits)
+        let fits : length content ≤ 268435457 = grind (arith, nat_tests, is) in
+        ap (judge_queries name mode terms) (take_all 268435457 content fits)
 
-pub shown_queries : (told : Option Files) (name row : List ℕ) (mode : Mode) (terms : List (List ℕ)) (result : Result (List reader.QueryData) QueryRefusal)
-    → OnContent told name (λ content. row ≡ take 268435457 content) → read_query_file row mode terms ≡ result → Shows (judge_queries name mode terms told) (judged_queries name result)
-unfolding judge_queries
-shown_queries None name row mode terms result there is = inl refl
-shown_queries (Some files) name row mode terms result there is = at (get files name) there
-  where
-    at : (o : Option (List ℕ)) → IsSomeAnd o (λ content. row ≡ take 268435457 content) → Shows (judged_query_file name mode terms o) (judged_queries name result)
-    at None there = absurd there
-    at (Some content) there = inr (ap (judged_queries name) (sym (front_enough content mode terms) ∙ ap (λ (b : List ℕ). read_query_file b mode terms) (sym there) ∙ is))
+-- ---- lines
 
-pub unread_queries : (told : Option Files) (name : List ℕ) (mode : Mode) (terms : List (List ℕ)) (before after : ℕ) → Rose before after ⊎ IsMissing told name
-    → Rose before after ⊎ (judge_queries name mode terms told ≡ Missing name)
-unfolding judge_queries
-unread_queries told name mode terms before after (inl rose) = inl rose
-unread_queries None name mode terms before after (inr is) = absurd is
-unread_queries (Some files) name mode terms before after (inr is) = inr (ap (judged_query_file name mode terms) is)
+-- the law of query files
+abbrev pub HoldQueries : Type 0
+HoldQueries = (bytes : List ℕ) (mode : Mode) (terms : List (List ℕ)) (asked : List reader.QueryData) → read_query_file bytes mode terms ≡ Ok asked → reader.IsQueryFile bytes mode terms asked
 
--- where the index is untold, so are the queries
-pub untold_too : (index name : List ℕ) (mode : Mode) (terms : List (List ℕ)) (told : Option Files) → judge_index index told ≡ Untold → judge_queries name mode terms told ≡ Untold
-unfolding judge_queries
-untold_too index name mode terms None untold = refl
-untold_too index name mode terms (Some files) untold = absurd (index_told index files untold)
+-- queries stay as they are where there is one in each line
+same_queries : (mode : Mode) (terms : List (List ℕ)) (lines : List LineData) (asked : List reader.QueryData) → reader.AreQueryLines mode terms lines asked → without_lines (in_lines lines (map plain_query asked)) ≡ map plain_query asked
+same_queries mode terms [] [] are = refl
+same_queries mode terms [] (query ∷ asked) are = absurd are
+same_queries mode terms (line ∷ lines) [] are = absurd are
+same_queries mode terms (line ∷ lines) (query ∷ asked) are = ap (λ (queries : List QueryData). plain_query query ∷ queries) (same_queries mode terms lines asked are.1)
 
 -- the queries that were read, as plain data
-pub plain_queries : (queries : List Query) → map plain_query (map reader.query_data queries) ≡ asked_of queries
+plain_queries : (queries : List Query) → map plain_query (map reader.query_data queries) ≡ asked_of queries
 plain_queries [] = refl
 plain_queries (query ∷ queries) = ap (λ (asked : List QueryData). record { id = query.id; terms = query.terms; unknown = query.unknown } ∷ asked) (plain_queries queries)
 
+-- ---- from what reading a content gave
+
+pub queries_read : HoldQueries → (name bytes : List ℕ) (mode : Mode) (terms : List (List ℕ)) (queries : List Query) → read_query_file bytes mode terms ≡ Ok (map reader.query_data queries)
+    → HasInput (judge_queries name mode terms bytes) (λ lined. without_lines lined ≡ asked_of queries)
+unfolding judge_queries
+queries_read law name bytes mode terms queries read =
+    let asked : List reader.QueryData = map reader.query_data queries in
+    let holds : reader.IsQueryFile bytes mode terms asked = law bytes mode terms asked read in
+    record {
+      input = with_lines bytes (map plain_query asked);
+      accepted = inr (ap (judged_queries name bytes) read);
+      holds = same_queries mode terms (reader.query_lines bytes) asked holds.lines ∙ plain_queries queries;
+    }
+
+pub refusal_read : (name bytes : List ℕ) (mode : Mode) (terms : List (List ℕ)) (refusal : QueryRefusal) (number : ℕ) → read_query_file bytes mode terms ≡ Err refusal → number ≡ number_of refusal.why
+    → Shows (judge_queries name mode terms bytes) (Refuses name number (Line refusal.line))
+unfolding judge_queries
+refusal_read name bytes mode terms refusal number read numbered = inr (ap (judged_queries name bytes) read ∙ ap (λ (n : ℕ). Refuses name n (Line refusal.line)) (sym numbered))
+
+-- ---- from what reading the front of a content gave
+
+module _ (told : Option Files) (name bytes : List ℕ) (mode : Mode) (terms : List (List ℕ)) where
+  whole : (content : List ℕ) → bytes ≡ take 268435457 content → judge_queries name mode terms bytes ≡ judge_queries name mode terms content
+  whole content front = ap (judge_queries name mode terms) front ∙ front_judged name mode terms content
+
+  pub queries_had : (P : List LineQuery → Type 0) → AcceptsSuch (judge_content name told) (λ content. bytes ≡ take 268435457 content) → HasInput (judge_queries name mode terms bytes) P
+      → HasInput (behind (judge_content name told) (judge_queries name mode terms)) P
+  queries_had P (inl untold) had = record { input = had.input; accepted = inl (ap (λ j. behind j (judge_queries name mode terms)) untold); holds = had.holds }
+  queries_had P (inr (content, there, front)) had = record {
+    input = had.input;
+    accepted = shown_then (judge_content name told) content (judge_queries name mode terms) (Accepted had.input) (inr there) (subst (λ (j : Judged (List LineQuery)). Shows j (Accepted had.input)) (whole content front) had.accepted);
+    holds = had.holds;
+  }
+
+  pub queries_unheld : (before after : ℕ) (stop : Stop) → AcceptsSuch (judge_content name told) (λ content. bytes ≡ take 268435457 content) → Unheld (name ∷ []) (judge_queries name mode terms bytes) stop
+      → Unread (name ∷ []) (behind (judge_content name told) (judge_queries name mode terms)) before after stop
+  queries_unheld before after stop (inl untold) why = unheld_then (name ∷ []) (judge_content name told) bytes (judge_queries name mode terms) before after stop (inl untold) why
+  queries_unheld before after stop (inr (content, there, front)) why =
+      unheld_then (name ∷ []) (judge_content name told) content (judge_queries name mode terms) before after stop (inr there) (subst (λ (j : Judged (List LineQuery)). Unheld (name ∷ []) j stop) (whole content front) why)
+
+-- where the index is untold, so is the content
+pub untold_too : (index name : List ℕ) (told : Option Files) → judge_index index told ≡ Untold → judge_content name told ≡ Untold
+unfolding judge_content
+untold_too index name None untold = refl
+untold_too index name (Some files) untold = absurd (index_told index files untold)
+
 -- ---- what is accepted holds its queries
 
-pub queries_found : ((bytes : List ℕ) (mode : Mode) (terms : List (List ℕ)) (asked : List reader.QueryData) → read_query_file bytes mode terms ≡ Ok asked → reader.IsQueryFile bytes mode terms asked)
-    → (name : List ℕ) (mode : Mode) (terms : List (List ℕ)) (files : Files) (queries : List QueryData) → judge_queries name mode terms (Some files) ≡ Accepted queries
-    → (content : List ℕ) × (get files name ≡ Some content) × (asked : List reader.QueryData) × reader.IsQueryFile content mode terms asked × (queries ≡ map plain_query asked)
+pub queries_found : HoldQueries → (name : List ℕ) (mode : Mode) (terms : List (List ℕ)) (content : List ℕ) (queries : List LineQuery) → judge_queries name mode terms content ≡ Accepted queries
+    → (asked : List reader.QueryData) × reader.IsQueryFile content mode terms asked × (queries ≡ with_lines content (map plain_query asked)) × (without_lines queries ≡ map plain_query asked)
 unfolding judge_queries
-queries_found law name mode terms files queries is = at (get files name) refl is
+queries_found law name mode terms content queries is = at (read_query_file content mode terms) refl is
   where
-    read : (content : List ℕ) (result : Result (List reader.QueryData) QueryRefusal) → read_query_file content mode terms ≡ result → judged_queries name result ≡ Accepted queries
-        → (asked : List reader.QueryData) × reader.IsQueryFile content mode terms asked × (queries ≡ map plain_query asked)
-    read content (Ok asked) gives is = let same : queries ≡ map plain_query asked = cc in (asked, law content mode terms asked gives, same)
-    read content (Err e) gives is = cc
-
-    at : (o : Option (List ℕ)) → get files name ≡ o → judged_query_file name mode terms o ≡ Accepted queries
-        → (content : List ℕ) × (get files name ≡ Some content) × (asked : List reader.QueryData) × reader.IsQueryFile content mode terms asked × (queries ≡ map plain_query asked)
-    at None there is = cc
-    at (Some content) there is = let (asked, holds, same) = read content (read_query_file content mode terms) refl is in (content, there, asked, holds, same)
+    at : (result : Result (List reader.QueryData) QueryRefusal) → read_query_file content mode terms ≡ result → judged_queries name content result ≡ Accepted queries
+        → (asked : List reader.QueryData) × reader.IsQueryFile content mode terms asked × (queries ≡ with_lines content (map plain_query asked)) × (without_lines queries ≡ map plain_query asked)
+    at (Ok asked) read is =
+        let lined : queries ≡ with_lines content (map plain_query asked) = cc in
+        let holds : reader.IsQueryFile content mode terms asked = law content mode terms asked read in
+        (asked, holds, lined, ap without_lines lined ∙ same_queries mode terms (reader.query_lines content) asked holds.lines)
+    at (Err e) read is = cc
 
 pub queries_only : ((bytes : List ℕ) (mode : Mode) (terms : List (List ℕ)) (asked : List reader.QueryData) → reader.IsQueryFile bytes mode terms asked → read_query_file bytes mode terms ≡ Ok asked)
-    → (name : List ℕ) (mode : Mode) (terms : List (List ℕ)) (files : Files) (content : List ℕ) (asked : List reader.QueryData) → get files name ≡ Some content → reader.IsQueryFile content mode terms asked
-    → judge_queries name mode terms (Some files) ≡ Accepted (map plain_query asked)
+    → (name : List ℕ) (mode : Mode) (terms : List (List ℕ)) (content : List ℕ) (asked : List reader.QueryData) → reader.IsQueryFile content mode terms asked
+    → judge_queries name mode terms content ≡ Accepted (with_lines content (map plain_query asked))
 unfolding judge_queries
-queries_only law name mode terms files content asked there is = ap (judged_query_file name mode terms) there ∙ ap (judged_queries name) (law content mode terms asked is)
+queries_only law name mode terms content asked is = ap (judged_queries name content) (law content mode terms asked is)
 
-pub queries_told : (name : List ℕ) (mode : Mode) (terms : List (List ℕ)) (files : Files) → judge_queries name mode terms (Some files) ≢ Untold
+pub queries_told : (name : List ℕ) (mode : Mode) (terms : List (List ℕ)) (content : List ℕ) → judge_queries name mode terms content ≢ Untold
 unfolding judge_queries
-queries_told name mode terms files is = at (get files name) is
+queries_told name mode terms content is = at (read_query_file content mode terms) is
   where
-    read : (result : Result (List reader.QueryData) QueryRefusal) → judged_queries name result ≢ Untold
-    read (Ok asked) is = cc
-    read (Err e) is = cc
+    at : (result : Result (List reader.QueryData) QueryRefusal) → judged_queries name content result ≢ Untold
+    at (Ok asked) is = cc
+    at (Err e) is = cc
 
-    at : (o : Option (List ℕ)) → judged_query_file name mode terms o ≢ Untold
-    at None is = cc
-    at (Some content) is = read (read_query_file content mode terms) is
+pub queries_there : (name other : List ℕ) (mode : Mode) (terms : List (List ℕ)) (content : List ℕ) → judge_queries name mode terms content ≢ Missing other
+unfolding judge_queries
+queries_there name other mode terms content is = at (read_query_file content mode terms) is
+  where
+    at : (result : Result (List reader.QueryData) QueryRefusal) → judged_queries name content result ≢ Missing other
+    at (Ok asked) is = cc
+    at (Err e) is = cc
+
+pub queries_refused : (name other : List ℕ) (mode : Mode) (terms : List (List ℕ)) (content : List ℕ) (number : ℕ) (place : Place) → judge_queries name mode terms content ≡ Refuses other number place
+    → (other ≡ name) × IsRefusedQuery content mode terms number place
+unfolding judge_queries
+queries_refused name other mode terms content number place is = at (read_query_file content mode terms) refl is
+  where
+    at : (result : Result (List reader.QueryData) QueryRefusal) → read_query_file content mode terms ≡ result → judged_queries name content result ≡ Refuses other number place → (other ≡ name) × IsRefusedQuery content mode terms number place
+    at (Ok asked) read is = cc
+    at (Err e) read is =
+        let same : other ≡ name = cc in
+        let numbered : number ≡ number_of e.why = cc in
+        let placed : place ≡ Line e.line = cc in
+        (same, record { refusal = e; first = read; numbered = numbered; placed = placed })

@@ -1,13 +1,14 @@
 mod Below
-pub mod Allowing
 pub mod AskedLists
 pub mod Asking
 pub mod Behind
-pub mod Ended
+pub mod EndingCauses
 pub mod Endings
+pub mod Exported
 pub mod Judged
 pub mod JudgedFiles
 pub mod JudgedQueries
+pub mod JudgedSearch
 pub mod MadeFiles
 pub mod Making
 pub mod MemoryFiles
@@ -19,6 +20,7 @@ pub mod Searched
 pub mod ServedLast
 pub mod ServedLines
 pub mod Serving
+pub mod Shortest
 pub mod Sides
 pub mod Sizes
 pub mod Stopping

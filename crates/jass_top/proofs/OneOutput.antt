@@ -1,13 +1,14 @@
 -- A command has one output for its inputs.
 use Rattle.shared_lemmas.proofs.Common.{◌≡◌, ℕ, List, [], ◌∷◌, refl, sym, ap, ◌∙◌, sum_by, AllZip}
-use Rattle.jass_top.proofs.Below.{Grade, Report, QueryPlan, IsGrade, IsReport, QueryData, prefixes_granted, report_lines, IndexData, CommandData, Once, Search, Serve, Trial, trial_queries}
+use Rattle.jass_top.proofs.Below.{Grade, Report, QueryPlan, IsGrade, IsReport, QueryData, prefixes_granted, report_lines, IndexData, CommandData, Once, Rewrite, Import, Check, Export, Migrate, Search, Serve, Trial, Help, Version, trial_queries}
 use Rattle.ranking_model.specs.Report.{report_of}
 use Rattle.jass_top.specs.Answers.{OnceQuery, once_plan, once_prefix, once_steps, once_text}
 use Rattle.jass_top.specs.Commands.{meaning_of}
 use Rattle.jass_top.specs.Meanings.{HasOneOutput, Output}
 use Rattle.jass_top.specs.OnceMeaning.{IsOnceOutput}
-use Rattle.jass_top.specs.SearchMeaning.{AreSearchReports, IsSearchOutput, IsSearchReport, SearchInputs, plan_over_index, scored_postings}
+use Rattle.jass_top.specs.SearchMeaning.{AreSearchReports, IsSearchOutput, IsSearchReport, SearchInputs, plan_over_index, scored_postings, search_within}
 use Rattle.jass_top.specs.SearchMeaning as asked
+use Rattle.jass_top.specs.QueryJudging.{without_lines}
 use Rattle.jass_top.specs.TrialMeaning.{AreTrialReports, IsTrialOutput, queries_over, trial_budgets, trial_prefix, trial_summary}
 
 -- ---- reports are one
@@ -41,15 +42,15 @@ module _ (one_grade : (scores : List ℕ) (k bound : ℕ) (first second : Grade)
   same_reports index search (query ∷ queries) [] other is theirs = absurd is
   same_reports index search (query ∷ queries) (r ∷ rs) [] is theirs = absurd theirs
   same_reports index search (query ∷ queries) (r ∷ rs) (t ∷ ts) is theirs =
-      let first : r ≡ t = same_reports_at index query search.k (prefixes_granted search.budgets (plan_over_index index query)) r t is.0 theirs.0 in
+      let first : r ≡ t = same_reports_at index query search.k (search.stops (plan_over_index index query)) r t is.0 theirs.0 in
       let rest : rs ≡ ts = same_reports index search queries rs ts is.1 theirs.1 in
       λ i. first i ∷ rest i
 
   same_search : (search : asked.Search) (inputs : SearchInputs) (one other : Output) → IsSearchOutput search inputs one → IsSearchOutput search inputs other → one ≡ other
   same_search search inputs one other is theirs =
-      let reports = same_reports inputs.file.index search inputs.queries is.reports.reports theirs.reports.reports is.reports.each theirs.reports.each in
+      let reports = same_reports inputs.index search (without_lines inputs.queries) is.reports.reports theirs.reports.reports is.reports.each theirs.reports.each in
       let content : one.content ≡ other.content = is.run ∙ sym theirs.run in
-      let text : one.text ≡ other.text = is.reports.is ∙ ap (report_lines inputs.queries) reports ∙ sym theirs.reports.is in
+      let text : one.text ≡ other.text = is.reports.is ∙ ap (report_lines (without_lines inputs.queries)) reports ∙ sym theirs.reports.is in
       let steps : one.steps ≡ other.steps = is.steps ∙ sym theirs.steps in
       λ i. record { content = content i; text = text i; steps = steps i }
 
@@ -69,11 +70,21 @@ module _ (one_grade : (scores : List ℕ) (k bound : ℕ) (first second : Grade)
       let first = same_reports_after index 1 queries is.first theirs.first is.first_are theirs.first_are in
       let second = same_reports_after index 2 queries is.second theirs.second is.second_are theirs.second_are in
       let last = same_reports_after index 3 queries is.last theirs.last is.last_are theirs.last_are in
-      is.whole ∙ (λ i. record { content = []; text = trial_summary index queries (first i) (second i) (last i); steps = sum_by (scored_postings index trial_budgets) queries }) ∙ sym theirs.whole
+      is.whole ∙ (λ i. record { content = []; text = trial_summary index queries (first i) (second i) (last i); steps = sum_by (scored_postings index (prefixes_granted trial_budgets)) queries }) ∙ sym theirs.whole
+
+  -- two outputs of which each is this one
+  same_texts : (whole one other : Output) → one ≡ whole → other ≡ whole → (one.content ≡ other.content) × (one.text ≡ other.text)
+  same_texts whole one other is theirs = (ap (λ (o : Output). o.content) (is ∙ sym theirs), ap (λ (o : Output). o.text) (is ∙ sym theirs))
 
   pub one_output : (command : CommandData) → HasOneOutput (meaning_of command)
-  one_output (Once ciff k budget terms) = λ inputs one other is theirs. same_answer (record { k = k; budget = budget; words = terms }) inputs one other is theirs
-  one_output (Search index queries run k limits tag mode) = λ inputs one other is theirs. same_search (record { k = k; budgets = limits; tag = tag }) inputs one other is theirs
-  one_output (Serve index frames) = tt
-  one_output (Trial seed docs terms queries) = λ inputs one other is theirs. same_trial (queries_over inputs (trial_queries seed docs terms queries)) inputs one other is theirs
-  one_output command = λ inputs one other is theirs. is ∙ sym theirs
+  one_output (Once ciff k budget terms) = λ inputs input one other is theirs. same_texts other one other (same_answer (record { k = k; budget = budget; words = terms }) inputs one other is theirs) refl
+  one_output (Search index queries run k limits tag mode) = λ inputs input one other is theirs. same_texts other one other (same_search (search_within k limits tag) inputs one other is theirs) refl
+  one_output (Serve index frames) = λ file input one other is theirs. (is.content ∙ sym theirs.content, is.text ∙ sym theirs.text)
+  one_output (Trial seed docs terms queries) = λ inputs input one other is theirs. same_texts other one other (same_trial (queries_over inputs (trial_queries seed docs terms queries)) inputs one other is theirs) refl
+  one_output (Rewrite from to) = λ inputs input one other is theirs. same_texts _ one other is theirs
+  one_output (Import ciff index rule bits) = λ inputs input one other is theirs. same_texts _ one other is theirs
+  one_output (Check index) = λ inputs input one other is theirs. same_texts _ one other is theirs
+  one_output (Export index ciff) = λ inputs input one other is theirs. same_texts _ one other is theirs
+  one_output (Migrate from to) = λ inputs input one other is theirs. same_texts _ one other is theirs
+  one_output Help = λ inputs input one other is theirs. same_texts _ one other is theirs
+  one_output Version = λ inputs input one other is theirs. same_texts _ one other is theirs

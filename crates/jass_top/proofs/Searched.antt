@@ -1,13 +1,18 @@
 -- What a search leaves query by query is its output.
-use Rattle.shared_lemmas.proofs.Common.{◌≡◌, ℕ, ◌==◌, List, [], ◌∷◌, ◌++◌, length, map, refl, sym, ap, subst, ◌∙◌, ◌+◌, ◌≤◌, Option, Some, if◌then◌else◌, AllZip, nat_cmp, length-map, flat_map-map}
+use Rattle.shared_lemmas.proofs.Common.{◌≡◌, ℕ, zero, suc, ◌==◌, List, [], ◌∷◌, ◌++◌, length, map, take, refl, sym, ap, subst, ◌∙◌, ◌+◌, ◌≤◌, arith, Option, Some, None, if◌then◌else◌, AllZip, nat_cmp, length-map, flat_map-map, take_all}
 use Rattle.std.proofs.Common.{flat_map}
-use Rattle.jass_top.proofs.Below.{Budget, Report, QueryTerm, Files, AppendsPrefix, Entry, QueryPlan, IsFlat, plan_of, weighted_postings, IsPromised, IsReport, report_line, top_k, QueryData, first_part, prefixes_granted, report_lines, run_parts, report_by, numbered_flat, FileView, IsFileView, Mode}
+use Rattle.std.specs.List.{last_or, range_with_len, sum_by}
+use Rattle.std.specs.Option.{unwrap_or}
+use Rattle.jass_top.proofs.Below.{Budget, Report, QueryTerm, Files, AppendsPrefix, Entry, QueryPlan, IsFlat, IndexData, PlanSegment, plan_of, weighted_postings, IsPromised, IsReport, granted_sum, prefix_within, size_of_first, report_line, top_k, QueryData, first_part, prefix_granted, prefixes_granted, report_lines, run_parts, report_by, numbered_flat, FileView, IsFileView, Mode}
 use Rattle.ranking_model.specs.Search as model
 use Rattle.session_engine.specs.Plans.{session_plan}
-use Rattle.jass_top.specs.SearchMeaning.{AreSearchReports, IsSearchOutput, IsSearchReport, Search, judge_search, plan_over_index, search_meaning}
-use Rattle.jass_top.specs.SearchTexts.{first_part_of, parts_reports, parts_run, plan_for, prefixes_for, query_run, queries_reports, search_output}
+use Rattle.jass_top.specs.QueryJudging.{LineQuery, without_lines}
+use Rattle.jass_top.specs.SearchMeaning.{AreSearchReports, IsSearchOutput, IsSearchReport, Search, SearchInputs, judge_search, plan_over_index, postings_within, scored_in, search_meaning, search_within}
+use Rattle.jass_top.specs.SearchTexts.{budgets_output, first_part_of, parts_reports, parts_run, plan_for, prefixes_for, query_run, search_output, stops_for, stops_reports, stops_run}
 use Rattle.jass_top.specs.Judging.{Accepted, Shows}
-use Rattle.jass_top.specs.Standing.{DoesPart, LeavesFront}
+use Rattle.jass_top.specs.Endings.{Over}
+use Rattle.jass_top.specs.Private.Inputs.{HasInput}
+use Rattle.jass_top.specs.Standing.{LeavesFront, OfOutput, PartOfEach}
 use Rattle.jass_top.specs.Worlds.{Outer}
 use Rattle.jass_top.proofs.Turns.{ForEach}
 
@@ -20,21 +25,37 @@ KeepPromises = (docs n k : ℕ) (flat : List (Entry ℕ)) (terms : List QueryTer
 abbrev pub GiveReports : Type 0
 GiveReports = (n k : ℕ) (plan : QueryPlan) → IsReport n plan k (report_by n plan k)
 
+-- the law of prefixes that fit
+abbrev pub Fits : Type 0
+Fits = (budget : ℕ) (segments : List PlanSegment) → size_of_first (prefix_within budget segments) segments ≤ budget
+
+-- ---- the last prefix within budgets
+
+last_in_range : {A : Type 0} (f : ℕ → A) (o : Option A) (from n : ℕ) → last_or o (map f (range_with_len from (suc n))) ≡ Some (f (from + n))
+last_in_range f o from zero = (let same : from ≡ from + zero = omega arith in ap (λ (at : ℕ). Some (f at)) same)
+last_in_range f o from (suc n) = (let same : from + 1 + n ≡ from + suc n = omega arith in last_in_range f (Some (f from)) (from + 1) n ∙ ap (λ (at : ℕ). Some (f at)) same)
+
+pub scored_within : Fits → (budgets : List Budget) (plan : QueryPlan) → scored_in (prefixes_granted budgets) plan ≡ postings_within budgets plan
+scored_within fits [] plan = (let none = fits (granted_sum []) plan.segments in omega (arith, none))
+scored_within fits (budget ∷ budgets) plan =
+    let all : List Budget = budget ∷ budgets in
+    let last : last_or None (prefixes_granted all plan) ≡ Some (prefix_granted (1 + length budgets) all plan) = last_in_range (λ j. prefix_granted j all plan) None 1 (length budgets) in
+    let whole : take (1 + length budgets) all ≡ all = take_all (1 + length budgets) all (omega arith) in
+    ap (λ (o : Option ℕ). size_of_first (unwrap_or o 0) plan.segments) last
+    ∙ ap (λ (granted : List Budget). postings_within granted plan) whole
+
 -- ---- the run
 
-module _ (each : ForEach) (file : FileView) (k : ℕ) (budgets : List Budget) (tag : List ℕ) where
-  first_same : (plan : QueryPlan) → first_part (map (λ n. top_k n plan k) (prefixes_granted budgets plan)) ≡ first_part_of budgets
-  first_same plan =
-      let few : length (map (λ n. top_k n plan k) (prefixes_granted budgets plan)) ≡ length budgets
-      = length-map (prefixes_granted budgets plan) (λ n. top_k n plan k) ∙ each budgets plan in
-      ap (λ (count : ℕ). if count == 1 then 0 else 1) few
+module _ (file : FileView) (search : Search) where
+  first_same : (plan : QueryPlan) → first_part (map (λ n. top_k n plan search.k) (search.stops plan)) ≡ first_part_of (search.stops plan)
+  first_same plan = ap (λ (count : ℕ). if count == 1 then 0 else 1) (length-map (search.stops plan) (λ n. top_k n plan search.k))
 
-  run_of : (query : QueryData) → query_run file k budgets tag query
-      ≡ model.query_run file.index.names (plan_over_index file.index query) query.id k (prefixes_granted budgets (plan_over_index file.index query)) tag
+  run_of : (query : QueryData) → stops_run file search query
+      ≡ model.query_run file.index.names (plan_over_index file.index query) query.id search.k (search.stops (plan_over_index file.index query)) search.tag
   unfolding parts_run session_plan
   run_of query =
       let plan : QueryPlan = plan_over_index file.index query in
-      ap (λ part. run_parts file.index.names query.id tag part (map (λ n. top_k n plan k) (prefixes_granted budgets plan))) (sym (first_same plan))
+      ap (λ part. run_parts file.index.names query.id search.tag part (map (λ n. top_k n plan search.k) (search.stops plan))) (sym (first_same plan))
 
 -- ---- the reports
 
@@ -54,51 +75,75 @@ module _ (give : GiveReports) (keep : KeepPromises) (file : FileView) (flat : Is
   reports_are query (n ∷ prefixes) = (report_is query n, reports_are query prefixes)
 
   abbrev reports_of : QueryData → List Report
-  reports_of query = reports_at query (prefixes_for file search.budgets query)
+  reports_of query = reports_at query (stops_for file search query)
 
   query_reports_are : (query : QueryData) → AreSearchReports file.index search query (reports_of query)
   unfolding session_plan
-  query_reports_are query = reports_are query (prefixes_for file search.budgets query)
+  query_reports_are query = reports_are query (stops_for file search query)
 
   all_reports_are : (queries : List QueryData) → AllZip (AreSearchReports file.index search) queries (map reports_of queries)
   all_reports_are [] = tt
   all_reports_are (query ∷ queries) = (query_reports_are query, all_reports_are queries)
 
-  lines_are : (queries : List QueryData) → queries_reports file search.k search.budgets queries ≡ report_lines queries (map reports_of queries)
+  lines_are : (queries : List QueryData) → (search_output file search queries).text ≡ report_lines queries (map reports_of queries)
   unfolding parts_reports
   lines_are [] = refl
   lines_are (query ∷ queries) =
-      let these : parts_reports file search.k query (prefixes_for file search.budgets query) ≡ flat_map (λ report. report_line query.id report query.unknown) (reports_of query)
-      = sym (flat_map-map (λ report. report_line query.id report query.unknown) (λ n. report_by n (plan_for file query) search.k) (prefixes_for file search.budgets query)) in
+      let these : parts_reports file search.k query (stops_for file search query) ≡ flat_map (λ report. report_line query.id report query.unknown) (reports_of query)
+      = sym (flat_map-map (λ report. report_line query.id report query.unknown) (λ n. report_by n (plan_for file query) search.k) (stops_for file search query)) in
       λ i. these i ++ lines_are queries i
 
-  pub searched : ForEach → (queries : List QueryData) → IsSearchOutput search (record { file = file; queries = queries }) (search_output file search queries)
+  pub searched : (queries : List LineQuery) → IsSearchOutput search (record { index = file.index; queries = queries }) (search_output file search (without_lines queries))
   unfolding session_plan
-  searched each queries = record {
-    run = λ i. flat_map (λ query. run_of each file search.k search.budgets search.tag query i) queries;
-    reports = record { reports = map reports_of queries; each = all_reports_are queries; is = lines_are queries };
+  searched queries = record {
+    run = λ i. flat_map (λ query. run_of file search query i) (without_lines queries);
+    reports = record { reports = map reports_of (without_lines queries); each = all_reports_are (without_lines queries); is = lines_are (without_lines queries) };
     steps = refl;
   }
 
+-- ---- within budgets
+
+pub same_output : Fits → ForEach → (file : FileView) (k : ℕ) (budgets : List Budget) (tag : List ℕ) (queries : List QueryData) → search_output file (search_within k budgets tag) queries ≡ budgets_output file k budgets tag queries
+same_output fits each file k budgets tag queries = λ i. record {
+  content = flat_map (λ query. same_run query i) queries;
+  text = (budgets_output file k budgets tag queries).text;
+  steps = sum_by (λ query. scored_within fits budgets (plan_for file query) i) queries;
+}
+  where
+    same_run : (query : QueryData) → stops_run file (search_within k budgets tag) query ≡ query_run file k budgets tag query
+    same_run query = ap (λ (count : ℕ). parts_run file k tag query (if count == 1 then 0 else 1) (prefixes_for file budgets query)) (each budgets (plan_for file query))
+
 -- ---- a part of it
 
--- the law of what a search leaves
+-- the law of what a search leaves within budgets
 abbrev pub LeaveOutputs : Type 0
-LeaveOutputs = (file : FileView) (search : Search) (queries : List QueryData) → IsFileView file
-    → IsSearchOutput search (record { file = file; queries = queries }) (search_output file search queries)
+LeaveOutputs = (file : FileView) (k : ℕ) (budgets : List Budget) (tag : List ℕ) (queries : List LineQuery) → IsFileView file
+    → IsSearchOutput (search_within k budgets tag) (record { index = file.index; queries = queries }) (budgets_output file k budgets tag (without_lines queries))
 
-pub part_left : LeaveOutputs → (index queries run : List ℕ) (search : Search) (mode : Mode) (file : FileView) (asked : List QueryData) (told : Option Files) (before after : Outer) → IsFileView file → told ≡ before.told
-    → Shows (judge_search index queries mode before.told) (Accepted (record { file = file; queries = asked })) → LeavesFront (Some run) told after.told (search_output file search asked).content
-    → AppendsPrefix before.written after.written (search_output file search asked).text → (before.steps ≤ after.steps) × (after.steps ≤ before.steps + (search_output file search asked).steps) → DoesPart (search_meaning index queries run search mode) before after
-part_left law index queries run search mode file asked told before after view same accepted content text steps = record {
-  inputs = record { file = file; queries = asked };
-  output = search_output file search asked;
-  accepted = accepted;
-  exact = law file search asked view;
-  left = record {
-    content = subst (λ old. LeavesFront (Some run) old after.told (search_output file search asked).content) same content;
-    text = text;
-    steps = steps.1;
-    never_less = steps.0;
+-- the inputs are those of an index file and some queries
+abbrev pub AreInputs : FileView → List QueryData → SearchInputs → Type 0
+AreInputs file asked inputs = (inputs.index ≡ file.index) × (without_lines inputs.queries ≡ asked)
+
+pub exact_for : LeaveOutputs → (file : FileView) (k : ℕ) (budgets : List Budget) (tag : List ℕ) (asked : List QueryData) (inputs : SearchInputs) → IsFileView file → AreInputs file asked inputs
+    → IsSearchOutput (search_within k budgets tag) inputs (budgets_output file k budgets tag asked)
+exact_for law file k budgets tag asked inputs view are =
+    subst (λ (queries : List QueryData). IsSearchOutput (search_within k budgets tag) inputs (budgets_output file k budgets tag queries)) are.1
+    (subst (λ (index : IndexData). IsSearchOutput (search_within k budgets tag) (record { index = index; queries = inputs.queries }) (budgets_output file k budgets tag (without_lines inputs.queries))) (sym are.0) (law file k budgets tag inputs.queries view))
+
+pub part_left : LeaveOutputs → (index queries run : List ℕ) (k : ℕ) (budgets : List Budget) (tag : List ℕ) (mode : Mode) (file : FileView) (asked : List QueryData) (told : Option Files) (before after : Outer) → IsFileView file → told ≡ before.told
+    → HasInput (judge_search index queries mode before.told) (AreInputs file asked) → LeavesFront (Some run) told after.told (budgets_output file k budgets tag asked).content
+    → AppendsPrefix before.written after.written (budgets_output file k budgets tag asked).text → (before.steps ≤ after.steps) × (after.steps ≤ before.steps + (budgets_output file k budgets tag asked).steps)
+    → Over (search_meaning index queries run (search_within k budgets tag) mode) (OfOutput (IsSearchOutput (search_within k budgets tag)) (PartOfEach run)) before after
+part_left law index queries run k budgets tag mode file asked told before after view same had content text steps = record {
+  inputs = had.input;
+  accepted = had.accepted;
+  stands = record {
+    output = budgets_output file k budgets tag asked;
+    exact = exact_for law file k budgets tag asked had.input view had.holds;
+    stands = record {
+      content = subst (λ old. LeavesFront (Some run) old after.told (budgets_output file k budgets tag asked).content) same content;
+      text = text;
+      steps = record { never_less = steps.0; at_most = steps.1 };
+    };
   };
 }

@@ -1,5 +1,5 @@
 -- What a trial leaves query by query is its summary.
-use Rattle.shared_lemmas.proofs.Common.{◌≡◌, ℕ, ◌+◌, cond, List, [], ◌∷◌, ◌++◌, length, map, refl, ap, arith, codes, count_by, nat_cmp, sum_by-cons}
+use Rattle.shared_lemmas.proofs.Common.{◌≡◌, ℕ, ◌+◌, cond, List, [], ◌∷◌, ◌++◌, length, map, refl, sym, ap, arith, codes, count_by, nat_cmp, sum_by-cons}
 use Rattle.std.specs.List.{sum_by}
 use Rattle.jass_top.proofs.Below.{Report, IsFlat, IsReport, QueryData, numbered_flat, FileView, chosen_view, codec_use}
 use Rattle.session_engine.specs.Plans.{session_plan}
@@ -7,9 +7,9 @@ use Rattle.shared_lemmas.proofs.Sums.{sum_map}
 use Rattle.jass_top.specs.declared.trial_sums.BudgetSum.{BudgetSum}
 use Rattle.jass_top.specs.declared.trial_sums.TrialSums.{TrialSums}
 use Rattle.jass_top.specs.SearchMeaning.{IsSearchReport, plan_over_index}
-use Rattle.jass_top.specs.TrialMeaning.{AreTrialReports, IsTrialOutput, budget_line, hit_scores, index_line, is_final, sum_line, trial_prefix, trial_scores, use_line}
+use Rattle.jass_top.specs.TrialMeaning.{AreTrialReports, IsTrialOutput, budget_line, hit_scores, index_line, is_final, sum_line, trial_budgets, trial_prefix, trial_scores, use_line}
 use Rattle.jass_top.specs.TrialSums.{budget_text, hits_after, no_sums, report_after, trial_output, with_queries, with_query}
-use Rattle.jass_top.proofs.Searched.{GiveReports, KeepPromises}
+use Rattle.jass_top.proofs.Searched.{Fits, GiveReports, KeepPromises, scored_within}
 
 -- ---- the sums
 
@@ -63,9 +63,9 @@ module _ (give : GiveReports) (keep : KeepPromises) (file : FileView) (flat : Is
   reports_are grants [] = tt
   reports_are grants (query ∷ queries) = (report_is query grants, reports_are grants queries)
 
-  pub summed_up : file ≡ chosen_view file.index → (queries : List QueryData) → IsTrialOutput queries file.index (trial_output file queries)
+  pub summed_up : Fits → file ≡ chosen_view file.index → (queries : List QueryData) → IsTrialOutput queries file.index (trial_output file queries)
   unfolding session_plan
-  summed_up chosen queries =
+  summed_up fits chosen queries =
       let front : use_line file.index (codec_use file.codecs) ≡ index_line file.index = ap (λ (v : FileView). use_line file.index (codec_use v.codecs)) chosen in
       let one = line_is file queries 1 (codes "1000") (λ s. s.first) (λ q s. refl) (λ q s. refl) (λ q s. refl) refl refl refl in
       let two = line_is file queries 2 (codes "10000") (λ s. s.second) (λ q s. refl) (λ q s. refl) (λ q s. refl) refl refl refl in
@@ -77,5 +77,5 @@ module _ (give : GiveReports) (keep : KeepPromises) (file : FileView) (flat : Is
         first_are = reports_are 1 queries;
         second_are = reports_are 2 queries;
         last_are = reports_are 3 queries;
-        whole = λ i. record { content = []; text = front i ++ (one i ++ (two i ++ three i)); steps = (trial_output file queries).steps };
+        whole = λ i. record { content = []; text = front i ++ (one i ++ (two i ++ three i)); steps = sum_by (λ query. sym (scored_within fits trial_budgets (plan_over_index file.index query)) i) queries };
       }

@@ -8,7 +8,6 @@ use Rattle.jass_top.specs.Answers.{words_query}
 use Rattle.jass_top.specs.Judging.{Judged, Accepted, Refuses, behind}
 use Rattle.jass_top.specs.Meanings.{Output}
 use Rattle.jass_top.specs.SearchTexts.{queries_steps, query_steps}
-use Rattle.jass_top.specs.Standing.{Had}
 use Rattle.jass_top.specs.TrialMeaning.{IsTrialOutput, countable, judge_trial, queries_over, tried_meaning, trial_budgets}
 use Rattle.jass_top.specs.TrialSums.{hits_after, report_after, trial_output, with_queries, with_query}
 use Rattle.jass_top.proofs.JudgedFiles.{fits}
@@ -73,16 +72,3 @@ module _ (file : FileView) (terms queries i state next : ℕ) (sums more : Trial
 
   pub steps_are : queries_steps file trial_budgets left ≡ query_steps file trial_budgets (words_query file.index words) + queries_steps file trial_budgets later
   steps_are = ap (queries_steps file trial_budgets) left_is ∙ sum_by-cons (query_steps file trial_budgets) (words_query file.index words) later
-
--- ---- the end
-
--- the index and its summary
-pub tried : (file : FileView) (asked : List (List (List ℕ))) (told : Option Files) (P : Output → Type 0) → judge_trial file.index ≡ Accepted file.index
-    → IsTrialOutput (queries_over file.index asked) file.index (trial_output file (queries_over file.index asked)) → P (trial_output file (queries_over file.index asked)) → Had (tried_meaning file.index asked) told P
-tried file asked told P judged exact left = record {
-  inputs = file.index;
-  output = trial_output file (queries_over file.index asked);
-  accepted = inr judged;
-  exact = exact;
-  left = left;
-}

@@ -1,5 +1,5 @@
 -- What index files, and indexes that become files, are judged to be.
-use Rattle.std.specs.Prelude.{ℕ, nat_le, List, length, Option, Some, None, Result, Ok, Err, if◌then◌else◌}
+use Rattle.std.specs.Prelude.{ℕ, ◌≡◌, nat_le, List, length, Option, Some, None, Result, Ok, Err, if◌then◌else◌}
 use Rattle.std.specs.FinMap.{get}
 use Rattle.jass_base.specs.Outside.{Files}
 use Rattle.index_model.specs.Index.{IndexData}
@@ -8,6 +8,7 @@ use Rattle.index_layout.specs.Reading.{read_index}
 use Rattle.index_layout.specs.Refusals.{number_of}
 use Rattle.index_layout.specs.View.{FileView, index_text}
 use Rattle.index_version1.specs.Reading.{read_index1}
+use Rattle.jass_top.specs.declared.stop.Place.{Place}
 use Rattle.jass_top.specs.declared.stop.Place.TheVariants.{Byte}
 use Rattle.jass_top.specs.Judging.{Judged, Accepted, Missing, Refuses, Untold}
 use Rattle.jass_base.specs.declared.limits.TheConstants.{LONGEST_FILE}
@@ -33,6 +34,13 @@ judged_old name (Some content) = judged_file name (read_index1 content)
 unfoldable pub judge_old : List ℕ → Option Files → Judged IndexData
 judge_old name None = Untold
 judge_old name (Some files) = judged_old name (get files name)
+
+-- what reading a content gave is a first refusal with this number and place
+pub record IsFirstRefusal {A : Type 0} (read : Result A OpenRefusal) (number : ℕ) (at : Place) : Type 0 where
+  pub refusal : OpenRefusal
+  pub first : read ≡ Err refusal
+  pub numbered : number ≡ number_of refusal.why
+  pub placed : at ≡ Byte refusal.at
 
 -- an index that is to become a file, of the input of this name: 49 at the file's length where that is above 2^32 bytes
 unfoldable pub fitting : List ℕ → IndexData → Judged IndexData

@@ -43,6 +43,15 @@ behind (Missing name) next = Missing name
 behind (Refuses name number at) next = Refuses name number at
 behind Untold next = Untold
 
+-- a file by its content: it has this one, or is missing
+abbrev pub judged_there : List ℕ → Option (List ℕ) → Judged (List ℕ)
+judged_there name None = Missing name
+judged_there name (Some content) = Accepted content
+
+unfoldable pub judge_content : List ℕ → Option Files → Judged (List ℕ)
+judge_content name None = Untold
+judge_content name (Some files) = judged_there name (get files name)
+
 -- a CIFF file, by its content's collection or first refusal
 unfoldable pub judge_ciff : List ℕ → Option Files → Judged CollectionData
 judge_ciff name None = Untold

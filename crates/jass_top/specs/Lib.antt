@@ -12,11 +12,10 @@ pub mod MakingMeaning
 pub mod Meanings
 pub mod MigrateMeaning
 pub mod OnceMeaning
+pub mod QueryJudging
 pub mod RewriteMeaning
-pub mod Running
 pub mod SearchMeaning
 pub mod SearchTexts
-pub mod ServeEndings
 pub mod ServeMeaning
 pub mod Standing
 pub mod Stops

@@ -1,5 +1,5 @@
 -- What `once` means: an answer to a query of words over a CIFF file, on the output.
-use Rattle.std.specs.Prelude.{◌≡◌, List, ℕ, [], None}
+use Rattle.std.specs.Prelude.{◌≡◌, List, ℕ, []}
 use Rattle.jass_base.specs.declared.answer.Report.{Report}
 use Rattle.weights.specs.declared.weighting.Rule.TheVariants.{Tf}
 use Rattle.weights.specs.declared.quantizing.Bits.TheVariants.{Raw}
@@ -10,6 +10,7 @@ use Rattle.jass_top.specs.Judging.{judge_ciff}
 use Rattle.jass_top.specs.MakingMeaning.{on_made}
 use Rattle.jass_top.specs.Meanings.{Output, Meaning}
 use Rattle.jass_top.specs.SearchMeaning.{IsSearchReport}
+use Rattle.jass_top.specs.Standing.{OfOutput, TextPart}
 
 -- the report line and the run lines of an answer over an index, whose report keeps what it promises; a step is a posting
 -- that is scored
@@ -21,4 +22,5 @@ pub record IsOnceOutput (query : OnceQuery) (index : IndexData) (output : Output
 
 -- the index is the collection's, weighed by term frequency, with the weights as impacts
 abbrev pub once_meaning : List ℕ → OnceQuery → Meaning
-once_meaning ciff query = on_made ciff (judge_ciff ciff) (collection_index Tf Raw) None (IsOnceOutput query)
+once_meaning ciff query = on_made ciff (judge_ciff ciff) (collection_index Tf Raw) (IsOnceOutput query)
+    (OfOutput (IsOnceOutput query) TextPart)

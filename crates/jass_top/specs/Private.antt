@@ -5,9 +5,8 @@ pub mod Serving
 pub mod Sides
 pub mod Causes
 pub mod ServeRuns
-pub mod Running
-pub mod Allowed
 pub mod HeldIndexes
+pub mod Inputs
 pub mod SearchRuns
 pub mod Stops
 pub mod SmallSums

@@ -1,7 +1,8 @@
 -- What `search` means: the answers to the queries of a file over an index, as run lines in a file, and a report line
 -- for each answer on the output.
-use Rattle.std.specs.Prelude.{◌≡◌, ℕ, List, [], ◌∷◌, length, map, sum_by, Option, Some, None, Result, Ok, Err, true, false}
-use Rattle.std.specs.FinMap.{get}
+use Rattle.std.specs.Prelude.{◌≡◌, ℕ, List, [], ◌∷◌, length, sum_by, Option, Some, None}
+use Rattle.std.specs.List.{last_or}
+use Rattle.std.specs.Option.{unwrap_or}
 use Rattle.jass_base.specs.declared.answer.Budget.{Budget}
 use Rattle.jass_base.specs.declared.answer.Report.{Report}
 use Rattle.jass_base.specs.Outside.{Files}
@@ -10,58 +11,44 @@ use Rattle.ranking_model.specs.Plan.{granted_sum, plan_of, prefix_within, size_o
 use Rattle.ranking_model.specs.Postings.{weighted_postings}
 use Rattle.ranking_model.specs.Promises.{IsPromised}
 use Rattle.ranking_model.specs.Report.{IsReport}
-use Rattle.ranking_model.specs.Search.{AreReportLines, AreReportsAt, QueryData, prefixes_granted, search_run}
+use Rattle.ranking_model.specs.Search.{AreReportLines, AreReportsAt, QueryData, prefixes_granted, search_run_at}
 use Rattle.index_model.specs.Flat.{numbered_flat}
 use Rattle.index_model.specs.Index.{IndexData}
-use Rattle.index_layout.specs.View.{FileView}
 use Rattle.index_file.specs.Places.{texts_of}
 use Rattle.query_reader.specs.declared.mode.Mode.{Mode}
-use Rattle.query_reader.specs.declared.refusal.QueryRefusal.{QueryRefusal}
-use Rattle.query_reader.specs.Queries as reader
-use Rattle.query_reader.specs.Reading.{read_query_file}
-use Rattle.query_reader.specs.Refusals.{number_of}
-use Rattle.jass_top.specs.declared.stop.Place.TheVariants.{Line}
 use Rattle.jass_top.specs.IndexJudging.{judge_index}
-use Rattle.jass_top.specs.Judging.{Judged, Accepted, Missing, Refuses, Untold, behind}
-use Rattle.jass_top.specs.Meanings.{Output, Meaning}
+use Rattle.jass_top.specs.Judging.{Judged, Accepted, behind, judge_content}
+use Rattle.jass_top.specs.Meanings.{Output, Meaning, reading_meaning}
+use Rattle.jass_top.specs.QueryJudging.{LineQuery, judge_queries, without_lines}
+use Rattle.jass_top.specs.Standing.{OfOutput, PartOfEach}
 
 -- ---- the inputs
 
-abbrev pub plain_query : reader.QueryData → QueryData
-plain_query query = record { id = query.id; terms = query.terms; unknown = query.unknown }
-
-abbrev pub judged_queries : List ℕ → Result (List reader.QueryData) QueryRefusal → Judged (List QueryData)
-judged_queries name (Ok queries) = Accepted (map plain_query queries)
-judged_queries name (Err refusal) = Refuses name (number_of refusal.why) (Line refusal.line)
-
-abbrev pub judged_query_file : List ℕ → Mode → List (List ℕ) → Option (List ℕ) → Judged (List QueryData)
-judged_query_file name mode terms None = Missing name
-judged_query_file name mode terms (Some content) = judged_queries name (read_query_file content mode terms)
-
--- a query file over the terms of an index, by its content's queries or first refusal
-unfoldable pub judge_queries : List ℕ → Mode → List (List ℕ) → Option Files → Judged (List QueryData)
-judge_queries name mode terms None = Untold
-judge_queries name mode terms (Some files) = judged_query_file name mode terms (get files name)
-
--- an index file, and queries over it
+-- an index, and queries over it
 pub record SearchInputs : Type 0 where
-  pub file : FileView
-  pub queries : List QueryData
+  pub index : IndexData
+  pub queries : List LineQuery
 
--- the index first, then the queries
+-- the index file first, then the content of the query file, then its queries
 abbrev pub judge_search : List ℕ → List ℕ → Mode → Option Files → Judged SearchInputs
 judge_search index queries mode told =
     behind (judge_index index told) (λ file.
-    behind (judge_queries queries mode (texts_of file.index.terms) told) (λ asked.
-    Accepted (record { file = file; queries = asked })))
+    behind (judge_content queries told) (λ content.
+    behind (judge_queries queries mode (texts_of file.index.terms) content) (λ asked.
+    Accepted (record { index = file.index; queries = asked }))))
 
 -- ---- the output
 
--- what is asked of each query: how many documents, the budgets as grants in parts, and the tag of its run lines
+-- what is asked of each query: how many documents, where to stop, as prefixes of its plan with an answer at each, and the
+-- tag of its run lines
 pub record Search : Type 0 where
   pub k : ℕ
-  pub budgets : List Budget
+  pub stops : QueryPlan → List ℕ
   pub tag : List ℕ
+
+-- budgets are grants in parts: each stops at the longest prefix that it and those before it pay for
+abbrev pub search_within : ℕ → List Budget → List ℕ → Search
+search_within k budgets tag = record { k = k; stops = prefixes_granted budgets; tag = tag }
 
 -- the plan of a query over an index
 abbrev pub plan_over_index : IndexData → QueryData → QueryPlan
@@ -73,36 +60,41 @@ pub record IsSearchReport (index : IndexData) (query : QueryData) (k n : ℕ) (r
   pub promised : IsPromised (weighted_postings (numbered_flat index) query.terms) n (plan_over_index index query) k
       report
 
--- one report for each budget
+-- one report for each stop
 abbrev pub AreSearchReports : IndexData → Search → QueryData → List Report → Type 0
 AreSearchReports index search query reports =
-    AreReportsAt (IsSearchReport index query search.k)
-    (prefixes_granted search.budgets (plan_over_index index query)) reports
+    AreReportsAt (IsSearchReport index query search.k) (search.stops (plan_over_index index query)) reports
 
--- the postings that are scored for a query in the end
-abbrev pub scored_postings : IndexData → List Budget → QueryData → ℕ
-scored_postings index budgets query =
-    let segments = (plan_over_index index query).segments in
-    size_of_first (prefix_within (granted_sum budgets) segments) segments
+-- the last of some prefixes, 0 where there is none
+abbrev pub last_prefix : List ℕ → ℕ
+last_prefix prefixes = unwrap_or (last_or None prefixes) 0
 
--- the run lines in the file and the report lines on the output, query by query, for each query budget by budget; a step
--- is a posting that is newly scored
+-- the postings of a plan that are scored in the end
+abbrev pub scored_in : (QueryPlan → List ℕ) → QueryPlan → ℕ
+scored_in stops plan = size_of_first (last_prefix (stops plan)) plan.segments
+
+-- within budgets these are the postings of the longest prefix that all of them pay for
+abbrev pub postings_within : List Budget → QueryPlan → ℕ
+postings_within budgets plan = size_of_first (prefix_within (granted_sum budgets) plan.segments) plan.segments
+
+-- the postings of a query over an index that are scored in the end
+abbrev pub scored_postings : IndexData → (QueryPlan → List ℕ) → QueryData → ℕ
+scored_postings index stops query = scored_in stops (plan_over_index index query)
+
+-- the run lines in the file and the report lines on the output, query by query, for each query stop by stop; a step is a
+-- posting that is newly scored
 pub record IsSearchOutput (search : Search) (inputs : SearchInputs) (output : Output) : Type 0 where
   pub run : output.content
-      ≡ search_run inputs.file.index.names (numbered_flat inputs.file.index) inputs.queries search.k search.budgets
-      search.tag
-  pub reports : AreReportLines (AreSearchReports inputs.file.index search) inputs.queries output.text
-  pub steps : output.steps ≡ sum_by (scored_postings inputs.file.index search.budgets) inputs.queries
+      ≡ search_run_at search.stops inputs.index.names (numbered_flat inputs.index) (without_lines inputs.queries)
+      search.k search.tag
+  pub reports : AreReportLines (AreSearchReports inputs.index search) (without_lines inputs.queries) output.text
+  pub steps : output.steps ≡ sum_by (scored_postings inputs.index search.stops) (without_lines inputs.queries)
 
+-- it writes and prints while it still takes memory
 abbrev pub search_meaning : List ℕ → List ℕ → List ℕ → Search → Mode → Meaning
-search_meaning index queries run search mode = record {
-  reads = index ∷ queries ∷ [];
-  files = index ∷ queries ∷ [];
-  Inputs = SearchInputs;
-  judge = judge_search index queries mode;
-  file = Some run;
-  prints = true;
-  counts = false;
-  streams = true;
-  IsOutput = IsSearchOutput search;
-}
+search_meaning index queries run search mode =
+    record (reading_meaning (index ∷ queries ∷ []) (judge_search index queries mode) (IsSearchOutput search)
+    (OfOutput (IsSearchOutput search) (PartOfEach run))) {
+      file = Some run;
+      AtMemory = OfOutput (IsSearchOutput search) (PartOfEach run);
+    }

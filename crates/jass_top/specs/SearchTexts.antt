@@ -2,7 +2,6 @@
 use Rattle.std.specs.Prelude.{ℕ, ◌==◌, List, map, flat_map, sum_by, length, if◌then◌else◌}
 use Rattle.jass_base.specs.declared.answer.Budget.{Budget}
 use Rattle.ranking_model.specs.declared.plan.QueryPlan.{QueryPlan}
-use Rattle.ranking_model.specs.Plan.{granted_sum, prefix_within, size_of_first}
 use Rattle.ranking_model.specs.Report.{report_line}
 use Rattle.ranking_model.specs.Scores.{top_k}
 use Rattle.ranking_model.specs.Search.{QueryData, prefixes_granted, run_parts}
@@ -10,14 +9,11 @@ use Rattle.final_certificate.specs.Rule.{report_by}
 use Rattle.index_layout.specs.View.{FileView}
 use Rattle.session_engine.specs.Plans.{session_plan}
 use Rattle.jass_top.specs.Meanings.{Output}
-use Rattle.jass_top.specs.SearchMeaning.{Search}
+use Rattle.jass_top.specs.SearchMeaning.{Search, postings_within, scored_in}
 
--- the plan of a query, and its prefixes, one for each budget
+-- the plan of a query
 abbrev pub plan_for : FileView → QueryData → QueryPlan
 plan_for file query = session_plan file query.terms
-
-abbrev pub prefixes_for : FileView → List Budget → QueryData → List ℕ
-prefixes_for file budgets query = prefixes_granted budgets (plan_for file query)
 
 -- the run lines of a query's answers at some prefixes, as parts from a number on
 unfoldable pub parts_run : FileView → ℕ → List ℕ → QueryData → ℕ → List ℕ → List ℕ
@@ -29,9 +25,40 @@ unfoldable pub parts_reports : FileView → ℕ → QueryData → List ℕ → L
 parts_reports file k query prefixes =
     flat_map (λ n. report_line query.id (report_by n (plan_for file query) k) query.unknown) prefixes
 
--- the part of the first budget: 0 where it is the only one, else 1
-abbrev pub first_part_of : List Budget → ℕ
-first_part_of budgets = if length budgets == 1 then 0 else 1
+-- the part of the first of some answers: 0 where it is the only one, else 1
+abbrev pub first_part_of : {A : Type 0} → List A → ℕ
+first_part_of answers = if length answers == 1 then 0 else 1
+
+-- ---- where a rule stops
+
+-- the stops of a query
+abbrev pub stops_for : FileView → Search → QueryData → List ℕ
+stops_for file search query = search.stops (plan_for file query)
+
+-- what one query leaves, and the postings that are scored for it in the end
+abbrev pub stops_run : FileView → Search → QueryData → List ℕ
+stops_run file search query =
+    parts_run file search.k search.tag query (first_part_of (stops_for file search query)) (stops_for file search query)
+
+abbrev pub stops_reports : FileView → Search → QueryData → List ℕ
+stops_reports file search query = parts_reports file search.k query (stops_for file search query)
+
+abbrev pub stops_steps : FileView → Search → QueryData → ℕ
+stops_steps file search query = scored_in search.stops (plan_for file query)
+
+-- what all queries leave
+abbrev pub search_output : FileView → Search → List QueryData → Output
+search_output file search queries = record {
+  content = flat_map (stops_run file search) queries;
+  text = flat_map (stops_reports file search) queries;
+  steps = sum_by (stops_steps file search) queries;
+}
+
+-- ---- within budgets
+
+-- the prefixes of a query's plan, one for each budget
+abbrev pub prefixes_for : FileView → List Budget → QueryData → List ℕ
+prefixes_for file budgets query = prefixes_granted budgets (plan_for file query)
 
 -- what one query leaves
 abbrev pub query_run : FileView → ℕ → List Budget → List ℕ → QueryData → List ℕ
@@ -43,8 +70,7 @@ query_reports file k budgets query = parts_reports file k query (prefixes_for fi
 
 -- the postings that are scored for it in the end
 abbrev pub query_steps : FileView → List Budget → QueryData → ℕ
-query_steps file budgets query =
-    let segments = (plan_for file query).segments in size_of_first (prefix_within (granted_sum budgets) segments) segments
+query_steps file budgets query = postings_within budgets (plan_for file query)
 
 -- what all queries leave
 abbrev pub queries_run : FileView → ℕ → List Budget → List ℕ → List QueryData → List ℕ
@@ -56,9 +82,9 @@ queries_reports file k budgets queries = flat_map (query_reports file k budgets)
 abbrev pub queries_steps : FileView → List Budget → List QueryData → ℕ
 queries_steps file budgets queries = sum_by (query_steps file budgets) queries
 
-abbrev pub search_output : FileView → Search → List QueryData → Output
-search_output file search queries = record {
-  content = queries_run file search.k search.budgets search.tag queries;
-  text = queries_reports file search.k search.budgets queries;
-  steps = queries_steps file search.budgets queries;
+abbrev pub budgets_output : FileView → ℕ → List Budget → List ℕ → List QueryData → Output
+budgets_output file k budgets tag queries = record {
+  content = queries_run file k budgets tag queries;
+  text = queries_reports file k budgets queries;
+  steps = queries_steps file budgets queries;
 }

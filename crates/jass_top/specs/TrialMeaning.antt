@@ -1,6 +1,6 @@
 -- What `trial` means: of a collection from a seed an index is made, queries over it are answered, and a summary is put on
 -- the output. Which collection, which queries and what is summed up are this project's.
-use Rattle.std.specs.Prelude.{◌≡◌, ℕ, nat_le, Bool, true, false, List, [], ◌∷◌, ◌++◌, length, map, sum_by, count_by, None, decimal, codes, if◌then◌else◌}
+use Rattle.std.specs.Prelude.{◌≡◌, ℕ, nat_le, Bool, true, false, List, [], ◌∷◌, ◌++◌, length, map, sum_by, count_by, decimal, codes, if◌then◌else◌}
 use Rattle.std.specs.List.{AllZip}
 use Rattle.jass_base.specs.declared.answer.Budget.{Budget}
 use Rattle.jass_base.specs.declared.answer.Budget.TheVariants.{Postings, All}
@@ -11,7 +11,7 @@ use Rattle.jass_base.specs.declared.answer.Report.{Report}
 use Rattle.weights.specs.declared.weighting.Rule.TheVariants.{Bm25}
 use Rattle.weights.specs.declared.quantizing.Bits.TheVariants.{Of}
 use Rattle.ranking_model.specs.Scores.{top_k}
-use Rattle.ranking_model.specs.Search.{QueryData, prefix_granted}
+use Rattle.ranking_model.specs.Search.{QueryData, prefix_granted, prefixes_granted}
 use Rattle.index_model.specs.Index.{IndexData, TermData}
 use Rattle.index_layout.specs.View.{chosen_codecs, index_postings}
 use Rattle.index_file.specs.declared.figures.CodecUse.{CodecUse}
@@ -22,8 +22,9 @@ use Rattle.jass_top.specs.Answers.{words_query}
 use Rattle.impact_segments.specs.Collections.{collection_index}
 use Rattle.jass_top.specs.IndexJudging.{fitting}
 use Rattle.jass_top.specs.Judging.{Judged, Accepted, Refuses, behind}
-use Rattle.jass_top.specs.Meanings.{Output, Meaning}
+use Rattle.jass_top.specs.Meanings.{Output, Meaning, reading_meaning}
 use Rattle.jass_top.specs.SearchMeaning.{IsSearchReport, plan_over_index, scored_postings}
+use Rattle.jass_top.specs.Standing.{OfOutput, StepsAlone, TextPart}
 use Rattle.jass_base.specs.declared.limits.TheConstants.{MOST_POSTINGS}
 
 -- ---- the index that is made
@@ -130,26 +131,22 @@ pub record IsTrialOutput (queries : List QueryData) (index : IndexData) (output 
   pub whole : output ≡ record {
     content = [];
     text = trial_summary index queries first second last;
-    steps = sum_by (scored_postings index trial_budgets) queries;
+    steps = sum_by (scored_postings index (prefixes_granted trial_budgets)) queries;
   }
 
 -- the queries of words over an index
 abbrev pub queries_over : IndexData → List (List (List ℕ)) → List QueryData
 queries_over index asked = map (words_query index) asked
 
--- the index stands for an input of the name `trial`, which is no file
+-- the index stands for an input of the name `trial`, which is no file; steps are counted while memory is still taken
 abbrev pub tried_meaning : IndexData → List (List (List ℕ)) → Meaning
-tried_meaning index asked = record {
-  reads = codes "trial" ∷ [];
-  files = [];
-  Inputs = IndexData;
-  judge = λ told. judge_trial index;
-  file = None;
-  prints = true;
-  counts = true;
-  streams = false;
-  IsOutput = λ made output. IsTrialOutput (queries_over made asked) made output;
-}
+tried_meaning index asked =
+    record (reading_meaning (codes "trial" ∷ []) (λ told. judge_trial index)
+    (λ made. IsTrialOutput (queries_over made asked) made)
+    (λ made. OfOutput (λ (index : IndexData). IsTrialOutput (queries_over index asked) index) TextPart made)) {
+      files = [];
+      AtMemory = λ made. OfOutput (λ (index : IndexData). IsTrialOutput (queries_over index asked) index) StepsAlone made;
+    }
 
 abbrev pub trial_meaning : ℕ → ℕ → ℕ → ℕ → Meaning
 trial_meaning seed docs terms queries =

@@ -1,7 +1,7 @@
-ghost use Rattle.std.specs.Prelude.{ℕ};
 ghost use Rattle.jass_top.specs.CheckMeaning.{check_meaning};
 ghost use Rattle.jass_top.specs.Private.Causes.{Runs};
-ghost use Rattle.jass_top.specs.Worlds.{outer};
+ghost use Rattle.jass_top.specs.Private.Worlds.{with_files, with_output};
+ghost use Rattle.jass_top.specs.Worlds.{Outer};
 
 use crate::index_input::check_index;
 use crate::stop::{OUTPUT, Stop};
@@ -16,9 +16,9 @@ pub fn run_check<'a, C: Cabinet, O: Sink>(
     files: &mut C,
     out: &mut O,
 ) -> Result<(), Stop<'a>>
-    ensures { (steps : ℕ) → Runs (check_meaning index.now)
-        (outer C.Cabinet O.Sink files.old out.old steps)
-        (outer C.Cabinet O.Sink files.new out.new steps) result }
+    ensures { (beside : Outer) → Runs (check_meaning index.now)
+        (with_output O.Sink out.old (with_files C.Cabinet files.old beside))
+        (with_output O.Sink out.new (with_files C.Cabinet files.new beside)) result }
 {
     let totals = check_index(alloc, files, index)?;
     match put_totals(out, totals) {

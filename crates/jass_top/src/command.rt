@@ -1,9 +1,7 @@
-ghost use Rattle.std.specs.Prelude.{◌≡◌};
 ghost use Rattle.jass_words.specs.Commands.{command_data};
 ghost use Rattle.jass_top.specs.Commands.{meaning_of};
-ghost use Rattle.jass_top.specs.Private.Allowed.{IsAllowed};
-ghost use Rattle.jass_top.specs.Private.Running.{RunsAs, IsOnFiles};
-ghost use Rattle.jass_top.specs.Private.Worlds.{fed};
+ghost use Rattle.jass_top.specs.Private.Causes.{Runs};
+ghost use Rattle.jass_top.specs.Worlds.{outer};
 
 use crate::check::run_check;
 use crate::export::run_export;
@@ -11,7 +9,6 @@ use crate::help::run_help;
 use crate::import::run_import;
 use crate::migrate::run_migrate;
 use crate::once::run_once;
-use crate::question::Question;
 use crate::rewrite::run_rewrite;
 use crate::search::run_search;
 use crate::serve::run_serve;
@@ -23,7 +20,7 @@ use jass_words::Command;
 use std::alloc::Global;
 use std::sync::ledger::Ledger;
 
-/// Runs a command. Only `serve` takes from the input.
+/// Runs a command.
 pub fn run_command<'a, C: Cabinet, I: Feed, O: Sink, L: Ledger>(
     alloc: Global,
     command: Command<'a>,
@@ -32,33 +29,22 @@ pub fn run_command<'a, C: Cabinet, I: Feed, O: Sink, L: Ledger>(
     out: &mut O,
     steps: &mut Steps<L>,
 ) -> Result<(), Stop<'a>>
-    requires { IsAllowed (command_data command) }
-    ensures runs { RunsAs (meaning_of (command_data command.entry))
-        (fed C.Cabinet I.Feed O.Sink files.old input.old out.old steps.old)
-        (fed C.Cabinet I.Feed O.Sink files.new input.new out.new steps.new) result }
-    ensures feed { IsOnFiles (meaning_of (command_data command.entry)) → I.left input.new ≡ I.left input.old }
+    ensures { Runs (meaning_of (command_data command.entry))
+        (outer C.Cabinet I.Feed O.Sink files.old input.old out.old steps.old)
+        (outer C.Cabinet I.Feed O.Sink files.new input.new out.new steps.new) result }
 {
     match command {
-        Command::Once {
-            ciff,
-            k,
-            budget,
-            terms,
-        } => run_once(
+        Command::Once(once) => run_once(alloc, once, files, out, steps),
+        Command::Rewrite { from, to } => run_rewrite(alloc, from, to, files),
+        Command::Import(import) => run_import(
             alloc,
-            ciff,
-            Question { k, budget, terms },
+            import.ciff,
+            import.index,
+            import.rule,
+            import.bits,
             files,
             out,
-            steps,
         ),
-        Command::Rewrite { from, to } => run_rewrite(alloc, from, to, files),
-        Command::Import {
-            ciff,
-            index,
-            rule,
-            bits,
-        } => run_import(alloc, ciff, index, rule, bits, files, out),
         Command::Check { index } => run_check(alloc, index, files, out),
         Command::Export { index, ciff } => run_export(alloc, index, ciff, files, steps),
         Command::Migrate { from, to } => run_migrate(alloc, from, to, files, out),
@@ -66,31 +52,36 @@ pub fn run_command<'a, C: Cabinet, I: Feed, O: Sink, L: Ledger>(
             index,
             queries,
             run,
-            k,
             budgets,
-            tag,
-            mode,
+            asked,
         } => run_search(
             alloc,
             index,
             queries,
             run,
-            k,
             budgets.as_slice(),
-            tag,
-            mode,
+            asked,
             files,
             out,
             steps,
         ),
-        Command::Trial {
-            seed,
-            docs,
-            terms,
-            queries,
-        } => run_trial(alloc, seed, docs, terms, queries, out, steps),
-        Command::Serve { index, frames } => run_serve(
-            alloc, index, frames, files, input, out, steps,
+        Command::Trial(trial) => run_trial(
+            alloc,
+            trial.seed,
+            trial.docs,
+            trial.terms,
+            trial.queries,
+            out,
+            steps,
+        ),
+        Command::Serve(serve) => run_serve(
+            alloc,
+            serve.index,
+            serve.frames,
+            files,
+            input,
+            out,
+            steps,
         ),
         Command::Help => run_help(out),
         Command::Version => run_version(out),

@@ -1,7 +1,7 @@
 ghost use Rattle.jass_top.specs.Private.Causes.{Runs};
 ghost use Rattle.jass_top.specs.ExportMeaning.{export_meaning};
 ghost use Rattle.jass_top.specs.Worlds.{Outer};
-ghost use Rattle.jass_top.specs.Private.Worlds.{with_files};
+ghost use Rattle.jass_top.specs.Private.Worlds.{with_files, with_steps};
 
 use crate::collection_file::write_file;
 use crate::index_input::open_index;
@@ -20,8 +20,8 @@ pub fn run_export<'a, C: Cabinet, L: Ledger>(
     steps: &mut Steps<L>,
 ) -> Result<(), Stop<'a>>
     ensures { (beside : Outer) → Runs (export_meaning index.now ciff.now)
-        (with_files C.Cabinet files.old (record beside { steps = steps.old }))
-        (with_files C.Cabinet files.new (record beside { steps = steps.new })) result }
+        (with_files C.Cabinet files.old (with_steps steps.old beside))
+        (with_files C.Cabinet files.new (with_steps steps.new beside)) result }
 {
     let file = match open_index(alloc, files, index) {
         Ok(file) => file,

@@ -1,26 +1,16 @@
+ghost use Rattle.std.specs.Prelude.{◌≡◌, ◌≤◌, ◌+◌, ◌++◌, [], length};
 ghost use Rattle.jass_top.specs.Private.Causes.{Runs};
-ghost use Rattle.jass_top.specs.HelpMeaning.{help_meaning};
+ghost use Rattle.jass_top.specs.HelpMeaning.{commands_text, form_text, help_meaning, row_text};
 ghost use Rattle.jass_top.specs.Worlds.{Outer};
 ghost use Rattle.jass_top.specs.Private.Worlds.{with_output};
 
-use crate::fixed_text::print_text;
-use crate::stop::Stop;
+use crate::stop::{OUTPUT, Stop};
+use gathered_text::Buffer;
 use jass_base::Sink;
+use jass_words::{NAMES, Name};
 
-/// The commands with their words, the statuses, and where the documents are.
-const TEXT: &str = "\
-commands:\n\
-once CIFF K BUDGET TERM..  answer a query over a CIFF file\n\
-rewrite FROM TO            write a CIFF file in the canonical spelling\n\
-import CIFF INDEX [weights=tf|bm25] [bits=raw|1..16]  make an index file of a CIFF file\n\
-check INDEX                check an index file, and print its totals\n\
-export INDEX CIFF          write a CIFF file with the impacts as frequencies\n\
-migrate OLD NEW            write an index file of version 1 in version 2\n\
-search INDEX QUERIES RUN [k=K] [budget=B,..] [tag=TAG] [mode=plain|folded]  answer the queries of a file\n\
-serve INDEX frames=N       answer the lines of the input at a desk over an index file\n\
-trial SEED DOCS TERMS QUERIES  answer queries over a collection made from a seed, and print a summary\n\
---help                     print this text\n\
---version                  print the name and the version\n\
+/// What stands behind the commands: the statuses, and where the documents are.
+const STATUSES: &[u8] = b"\
 \n\
 statuses:\n\
 0  done\n\
@@ -39,5 +29,49 @@ pub fn run_help<'a, O: Sink>(out: &mut O) -> Result<(), Stop<'a>>
     ensures { (beside : Outer) → Runs help_meaning
         (with_output O.Sink out.old beside) (with_output O.Sink out.new beside) result }
 {
-    print_text(out, TEXT)
+    let mut text = Buffer::new();
+    push_commands(&mut text);
+    text.push(STATUSES);
+    match out.put(text.as_slice()) {
+        Ok(()) => Ok(()),
+        Err(_) => Err(Stop::WriteFault { name: OUTPUT }),
+    }
+}
+
+/// Puts the commands, in the order of their table.
+fn push_commands(text: &mut Buffer)
+    requires { text.old ≡ [] }
+    ensures commands { text.new ≡ commands_text }
+    ensures few { length text.new ≤ 100000 }
+{
+    text.push(b"commands:\n");
+    for name in NAMES {
+        push_row(text, name);
+    }
+}
+
+/// Puts the lines of a command.
+fn push_row(text: &mut Buffer, name: Name)
+    requires { length text.old ≤ 100000 }
+    ensures row { text.new ≡ text.old ++ row_text name }
+    ensures few { length text.new ≤ length text.old + 1100 }
+{
+    let row = name.row();
+    text.push(row.word.as_bytes());
+    push_form(text, row.form.as_bytes());
+    text.push(b"\n    ");
+    text.push(row.does.as_bytes());
+    text.push(b"\n");
+}
+
+/// Puts the words behind a command's first one, where there are some.
+fn push_form(text: &mut Buffer, form: &[u8])
+    requires { length text.old + length form.now ≤ 110000 }
+    ensures form { text.new ≡ text.old ++ form_text form.now }
+    ensures few { length text.new ≤ length text.old + length form.now + 1 }
+{
+    if !form.is_empty() {
+        text.push(b" ");
+        text.push(form);
+    }
 }

@@ -1,4 +1,4 @@
-ghost use Rattle.std.specs.Prelude.{ℕ, ◌≡◌, ◌≢◌, ◌≤◌, IfOk};
+ghost use Rattle.std.specs.Prelude.{◌≡◌, ◌≢◌, ◌≤◌, IfOk};
 ghost use Rattle.index_layout.specs.View.{index_postings};
 ghost use Rattle.index_model.specs.Views.{index_data};
 ghost use Rattle.ciff_read.specs.Counts.{posting_count};
@@ -7,7 +7,8 @@ ghost use Rattle.weights.specs.Quantizing.{IsImpactWidth};
 ghost use Rattle.jass_top.specs.Private.Causes.{Runs};
 ghost use Rattle.impact_segments.specs.Collections.{collection_index};
 ghost use Rattle.jass_top.specs.ImportMeaning.{import_meaning};
-ghost use Rattle.jass_top.specs.Worlds.{outer};
+ghost use Rattle.jass_top.specs.Private.Worlds.{with_files, with_output};
+ghost use Rattle.jass_top.specs.Worlds.{Outer};
 ghost use Rattle.jass_base.specs.declared.limits.TheConstants.{GREATEST_IMPACT};
 
 use crate::saving::TOO_LARGE;
@@ -32,9 +33,9 @@ pub fn run_import<'a, C: Cabinet, O: Sink>(
 ) -> Result<(), Stop<'a>>
     requires width { IsImpactWidth bits }
     requires apart { ciff.now ≢ index.now }
-    ensures { (steps : ℕ) → Runs (import_meaning ciff.now index.now rule bits)
-        (outer C.Cabinet O.Sink files.old out.old steps)
-        (outer C.Cabinet O.Sink files.new out.new steps) result }
+    ensures { (beside : Outer) → Runs (import_meaning ciff.now index.now rule bits)
+        (with_output O.Sink out.old (with_files C.Cabinet files.old beside))
+        (with_output O.Sink out.new (with_files C.Cabinet files.new beside)) result }
 {
     let totals = match import_file(alloc, files, ciff, index, rule, bits) {
         Ok(totals) => totals,

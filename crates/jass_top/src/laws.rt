@@ -1,33 +1,59 @@
 //! Laws of what commands mean. Each function does nothing: its contract is the law.
 
-ghost use Rattle.std.specs.Prelude.{ℕ, ◌≡◌, ◌≢◌, ◌<◌, List, All, Some, None, map};
+ghost use Rattle.std.specs.Prelude.{ℕ, ◌≡◌, ◌≢◌, ◌<◌, ◌⊎◌, true, false, List, All, Some, None, map, ◌≤◌, length, sum_by};
 ghost use Rattle.std.specs.FinMap.{get};
 ghost use Rattle.jass_base.specs.Ciff.{CollectionData, IsCiff};
-ghost use Rattle.jass_base.specs.Outside.{Files};
-ghost use Rattle.index_layout.specs.View.{FileView, IsFileView, chosen_view, file_bytes};
-ghost use Rattle.index_model.specs.Index.{IndexData};
+ghost use Rattle.jass_base.specs.Outside.{Files, Rose};
+ghost use Rattle.index_layout.specs.View.{FileView, IsFileView, chosen_view, file_bytes, index_text};
+ghost use Rattle.index_model.specs.Index.{IndexData, IsIndex};
+ghost use Rattle.jass_base.specs.CiffText.{canonical_ciff};
+ghost use Rattle.jass_base.specs.declared.answer.Budget.{Budget};
+ghost use Rattle.index_layout.specs.Reading.{read_index};
+ghost use Rattle.impact_segments.specs.Collections.{collection_index};
+ghost use Rattle.index_export.specs.Exports.{export_of};
+ghost use Rattle.index_model.specs.Flat.{numbered_flat};
 ghost use Rattle.index_version1.specs.Files.{IsIndexFile1};
+ghost use Rattle.index_version1.specs.Reading.{read_index1};
 ghost use Rattle.query_reader.specs.declared.mode.Mode.{Mode};
 ghost use Rattle.query_reader.specs.Queries as reader;
-ghost use Rattle.ranking_model.specs.Search.{QueryData};
-ghost use Rattle.jass_top.specs.IndexJudging.{judge_index, judge_old};
-ghost use Rattle.jass_words.specs.Words.{CommandData};
+ghost use Rattle.ranking_model.specs.Search.{QueryData, AreReportLines, AreReportsAt, prefixes_granted, search_run};
+ghost use Rattle.jass_top.specs.IndexJudging.{judge_index, judge_old, IsFirstRefusal};
+ghost use Rattle.jass_words.specs.Words.{CommandData, Serve};
+ghost use Rattle.jass_base.specs.declared.limits.TheConstants.{LONGEST_FILE};
+ghost use Rattle.weights.specs.declared.quantizing.Bits.TheVariants.{Raw};
+ghost use Rattle.weights.specs.declared.weighting.Rule.TheVariants.{Tf};
 ghost use Rattle.jass_top.specs.declared.stop.Place.{Place};
+ghost use Rattle.jass_top.specs.declared.status.Status.{Status};
+ghost use Rattle.jass_top.specs.Causes.{WriteFailed};
 ghost use Rattle.jass_top.specs.Commands.{meaning_of};
-ghost use Rattle.jass_top.specs.Judging.{Accepted, Missing, Refuses, Untold, IsRefused, judge_ciff};
-ghost use Rattle.jass_top.specs.Meanings.{HasOneOutput};
-ghost use Rattle.jass_top.specs.SearchMeaning.{IsSearchOutput, Search, judge_queries, plain_query};
-ghost use Rattle.jass_top.specs.SearchTexts.{search_output};
+ghost use Rattle.jass_top.specs.Endings.{Ends};
+ghost use Rattle.jass_top.specs.Judging.{Accepted, Missing, Refuses, Untold, IsRefused, IsUnaccepted, judge_ciff, judge_content};
+ghost use Rattle.jass_top.specs.Meanings.{HasOneOutput, Output};
+ghost use Rattle.jass_top.specs.SearchMeaning.{IsSearchOutput, IsSearchReport, Search, SearchInputs};
+ghost use Rattle.jass_top.specs.SearchMeaning.{plan_over_index, postings_within, search_within};
+ghost use Rattle.jass_top.specs.SearchTexts.{search_output, budgets_output};
+ghost use Rattle.jass_top.specs.ServeMeaning.{IsAnswered};
+ghost use Rattle.jass_top.specs.Standing.{Keeps};
+ghost use Rattle.jass_top.specs.ExportMeaning.{export_meaning};
+ghost use Rattle.jass_top.specs.ImportMeaning.{import_meaning};
+ghost use Rattle.jass_top.specs.QueryJudging.{IsRefusedQuery, LineQuery, judge_queries, plain_query, with_lines, without_lines};
 ghost use Rattle.jass_top.specs.TrialMeaning.{IsTrialOutput};
 ghost use Rattle.jass_top.specs.TrialSums.{trial_output};
+ghost use Rattle.jass_top.specs.Worlds.{World};
 
 use ciff_read::laws::files_are_read;
+use ciff_write::laws::canonical_files_stand;
 use final_certificate::laws::a_prefix_has_one_report;
+use index_export::laws::an_export_keeps_the_index;
+use index_layout::laws::lengths_are_known;
 use index_model::laws::the_flat_list_is_flat;
 use index_version1::laws::indexes_are_read;
 use query_reader::laws::query_files_are_read;
-use ranking_model::laws::{reports_keep_their_promises, the_grade_is_one};
+use ranking_model::laws::{
+    reports_keep_their_promises, the_grade_is_one, the_prefix_is_the_longest,
+};
 use ranking_model::prefix_laws::each_budget_has_its_prefix;
+use segment_codecs::laws::the_choice_is_the_first_of_the_shortest;
 
 /// A CIFF file is accepted exactly where it is there and its content stands for the collection. It
 /// is judged wherever contents are told: else it is missing, or its content has a first refusal.
@@ -48,7 +74,7 @@ pub fn files_are_judged()
 
 /// An index file is accepted exactly where it is there and its content is the bytes of the view,
 /// which is one of a file; a file of version 1 exactly where its content is one of the index. They
-/// are judged wherever contents are told.
+/// are judged wherever contents are told: else one is missing, or its content has a first refusal.
 pub fn index_files_are_judged()
     ensures found { (name : List ℕ) (files : Files) (v : FileView) → judge_index name (Some files) ≡ Accepted v
         → (content : List ℕ) × (get files name ≡ Some content)
@@ -63,38 +89,120 @@ pub fn index_files_are_judged()
         → judge_old name (Some files) ≡ Accepted index }
     ensures told { (name : List ℕ) (files : Files) → judge_index name (Some files) ≢ Untold }
     ensures told_old { (name : List ℕ) (files : Files) → judge_old name (Some files) ≢ Untold }
+    ensures missing { (name other : List ℕ) (files : Files) → judge_index name (Some files) ≡ Missing other
+        → (other ≡ name) × (get files name ≡ None) }
+    ensures missing_old { (name other : List ℕ) (files : Files) → judge_old name (Some files) ≡ Missing other
+        → (other ≡ name) × (get files name ≡ None) }
+    ensures refused { (name other : List ℕ) (files : Files) (number : ℕ) (at : Place)
+        → judge_index name (Some files) ≡ Refuses other number at → (other ≡ name) × (content : List ℕ)
+        × (get files name ≡ Some content) × IsFirstRefusal (read_index content) number at }
+    ensures refused_old { (name other : List ℕ) (files : Files) (number : ℕ) (at : Place)
+        → judge_old name (Some files) ≡ Refuses other number at → (other ≡ name) × (content : List ℕ)
+        × (get files name ≡ Some content) × IsFirstRefusal (read_index1 content) number at }
 {
     index_layout::laws::files_are_read();
     indexes_are_read();
 }
 
-/// A query file over the terms of an index is accepted exactly where it is there and its content
-/// holds the queries. It is judged wherever contents are told.
+/// The content of a file is accepted exactly where it is there. It is judged wherever contents are
+/// told, never refused, and missing only where it isn't there.
+pub fn contents_are_judged()
+    ensures found { (name : List ℕ) (files : Files) (content : List ℕ)
+        → judge_content name (Some files) ≡ Accepted content → get files name ≡ Some content }
+    ensures only { (name : List ℕ) (files : Files) (content : List ℕ)
+        → get files name ≡ Some content → judge_content name (Some files) ≡ Accepted content }
+    ensures told { (name : List ℕ) (files : Files) → judge_content name (Some files) ≢ Untold }
+    ensures missing { (name other : List ℕ) (files : Files) → judge_content name (Some files) ≡ Missing other
+        → (other ≡ name) × (get files name ≡ None) }
+    ensures never_refused { (name other : List ℕ) (files : Files) (number : ℕ) (at : Place)
+        → judge_content name (Some files) ≢ Refuses other number at }
+{}
+
+/// The content of a query file over the terms of an index is accepted exactly where it holds the
+/// queries, each in its line. It is always judged: else it has a first refusal.
 pub fn query_files_are_judged()
-    ensures found { (name : List ℕ) (mode : Mode) (terms : List (List ℕ)) (files : Files) (queries : List QueryData)
-        → judge_queries name mode terms (Some files) ≡ Accepted queries → (content : List ℕ)
-        × (get files name ≡ Some content) × (asked : List reader.QueryData)
-        × reader.IsQueryFile content mode terms asked × (queries ≡ map plain_query asked) }
-    ensures only { (name : List ℕ) (mode : Mode) (terms : List (List ℕ)) (files : Files) (content : List ℕ)
-        (asked : List reader.QueryData) → get files name ≡ Some content
-        → reader.IsQueryFile content mode terms asked
-        → judge_queries name mode terms (Some files) ≡ Accepted (map plain_query asked) }
-    ensures told { (name : List ℕ) (mode : Mode) (terms : List (List ℕ)) (files : Files)
-        → judge_queries name mode terms (Some files) ≢ Untold }
+    ensures found { (name : List ℕ) (mode : Mode) (terms : List (List ℕ)) (content : List ℕ)
+        (queries : List LineQuery) → judge_queries name mode terms content ≡ Accepted queries
+        → (asked : List reader.QueryData) × reader.IsQueryFile content mode terms asked
+        × (queries ≡ with_lines content (map plain_query asked))
+        × (without_lines queries ≡ map plain_query asked) }
+    ensures only { (name : List ℕ) (mode : Mode) (terms : List (List ℕ)) (content : List ℕ)
+        (asked : List reader.QueryData) → reader.IsQueryFile content mode terms asked
+        → judge_queries name mode terms content ≡ Accepted (with_lines content (map plain_query asked)) }
+    ensures told { (name : List ℕ) (mode : Mode) (terms : List (List ℕ)) (content : List ℕ)
+        → judge_queries name mode terms content ≢ Untold }
+    ensures never_missing { (name other : List ℕ) (mode : Mode) (terms : List (List ℕ)) (content : List ℕ)
+        → judge_queries name mode terms content ≢ Missing other }
+    ensures refused { (name other : List ℕ) (mode : Mode) (terms : List (List ℕ)) (content : List ℕ) (number : ℕ)
+        (at : Place) → judge_queries name mode terms content ≡ Refuses other number at
+        → (other ≡ name) × IsRefusedQuery content mode terms number at }
 {
     query_files_are_read();
 }
 
 /// What a search leaves query by query is its output: the run of the definitions over the flat list
-/// of the index, and a report for each query and budget, which keeps what it promises.
+/// of the index, and a report for each query and stop, which keeps what it promises; so is what
+/// it leaves within budgets, whose stops are the prefixes that they pay for.
 pub fn a_search_leaves_its_output()
-    ensures { (file : FileView) (search : Search) (queries : List QueryData) → IsFileView file
-        → IsSearchOutput search (record { file = file; queries = queries }) (search_output file search queries) }
+    ensures at_stops { (file : FileView) (search : Search) (queries : List LineQuery) → IsFileView file
+        → IsSearchOutput search (record { index = file.index; queries = queries })
+        (search_output file search (without_lines queries)) }
+    ensures within_budgets { (file : FileView) (k : ℕ) (budgets : List Budget) (tag : List ℕ)
+        (queries : List LineQuery) → IsFileView file
+        → IsSearchOutput (search_within k budgets tag) (record { index = file.index; queries = queries })
+        (budgets_output file k budgets tag (without_lines queries)) }
 {
     the_flat_list_is_flat();
+    the_prefix_is_the_longest();
     each_budget_has_its_prefix();
     a_prefix_has_one_report();
     reports_keep_their_promises();
+}
+
+/// The output of a search within budgets is said by these alone: the run has an answer for each
+/// budget, the output a report for each, and a step is a posting that all budgets together pay for.
+pub fn a_search_stops_within_its_budgets()
+    ensures run { (k : ℕ) (budgets : List Budget) (tag : List ℕ) (inputs : SearchInputs) (output : Output)
+        → IsSearchOutput (search_within k budgets tag) inputs output
+        → output.content ≡ search_run inputs.index.names (numbered_flat inputs.index)
+        (without_lines inputs.queries) k budgets tag }
+    ensures reports { (k : ℕ) (budgets : List Budget) (tag : List ℕ) (inputs : SearchInputs) (output : Output)
+        → IsSearchOutput (search_within k budgets tag) inputs output
+        → AreReportLines (λ query reports. AreReportsAt (IsSearchReport inputs.index query k)
+        (prefixes_granted budgets (plan_over_index inputs.index query)) reports)
+        (without_lines inputs.queries) output.text }
+    ensures steps { (k : ℕ) (budgets : List Budget) (tag : List ℕ) (inputs : SearchInputs) (output : Output)
+        → IsSearchOutput (search_within k budgets tag) inputs output
+        → output.steps ≡ sum_by (λ query. postings_within budgets (plan_over_index inputs.index query))
+        (without_lines inputs.queries) }
+{
+    the_prefix_is_the_longest();
+}
+
+/// The import of an export is the exported index. The CIFF file that `export` leaves of an index file,
+/// where it has at most 2^32 bytes, is accepted as the collection of the index; the index of that
+/// collection, by raw term frequencies, is the exported one; and so `import` with `tf` and `raw`
+/// leaves the text of the same index.
+pub fn an_import_of_an_export_is_the_index()
+    ensures collection { (ciff : List ℕ) (files : Files) (view : FileView) → IsFileView view
+        → length (canonical_ciff (export_of view.index)) ≤ LONGEST_FILE
+        → get files ciff ≡ Some (canonical_ciff (export_of view.index))
+        → judge_ciff ciff (Some files) ≡ Accepted (export_of view.index) }
+    ensures index { (index : IndexData) → IsIndex index → collection_index Tf Raw (export_of index) ≡ index }
+    ensures accepted { (index ciff again : List ℕ) (files : Files) (view : FileView) (input : List ℕ)
+        (exported : Output)
+        → IsFileView view → (export_meaning index ciff).IsOutput view input exported
+        → length exported.content ≤ LONGEST_FILE → get files ciff ≡ Some exported.content
+        → (import_meaning ciff again Tf Raw).judge (Some files) ≡ Accepted view.index }
+    ensures text { (ciff again : List ℕ) (view : FileView) (input : List ℕ) (imported : Output)
+        → (import_meaning ciff again Tf Raw).IsOutput view.index input imported
+        → imported.content ≡ index_text view.index }
+{
+    files_are_judged();
+    canonical_files_stand();
+    an_export_keeps_the_index();
+    lengths_are_known();
+    the_choice_is_the_first_of_the_shortest();
 }
 
 /// What a trial leaves query by query is its summary, with a report for each query and grant, which
@@ -104,13 +212,42 @@ pub fn a_trial_leaves_its_summary()
         → IsTrialOutput queries file.index (trial_output file queries) }
 {
     the_flat_list_is_flat();
+    the_prefix_is_the_longest();
     a_prefix_has_one_report();
     reports_keep_their_promises();
 }
 
-/// A command has one output at most for its inputs.
+/// A command has one output at most for its inputs and the bytes of the feed, but for its steps.
 pub fn a_command_has_one_output()
     ensures { (command : CommandData) → HasOneOutput (meaning_of command) }
 {
     the_grade_is_one();
 }
+
+/// Why a run ends as it does. Where an input isn't accepted nothing is left, and running out of memory and counted read
+/// faults alone take precedence over a refusal. Where the inputs are accepted and no fault is counted, the command is
+/// done unless memory was wanted, or the feed was too long; that is so of `serve` alone, and never where the feed tells
+/// an input that is answered.
+pub fn endings_have_causes()
+    ensures unaccepted { (command : CommandData) (before after : World) (result : Status)
+        → Ends (meaning_of command) before after result
+        → IsUnaccepted ((meaning_of command).judge before.outer.told) → Keeps before.outer after.outer }
+    ensures refuses { (command : CommandData) (before after : World) (result : Status)
+        → Ends (meaning_of command) before after result → (name : List ℕ) (number : ℕ) (at : Place)
+        → (meaning_of command).judge before.outer.told ≡ Refuses name number at → result ≢ Status.Refused
+        → (result ≡ Status.NoMemory)
+        ⊎ ((result ≡ Status.ReadFault) × Rose before.outer.read_faults after.outer.read_faults) }
+    ensures complete { (command : CommandData) (before after : World) (result : Status)
+        → Ends (meaning_of command) before after result → (inputs : (meaning_of command).Inputs)
+        → (meaning_of command).judge before.outer.told ≡ Accepted inputs
+        → ¬ Rose before.outer.read_faults after.outer.read_faults
+        → ((name : List ℕ) → ¬ WriteFailed (meaning_of command) before.outer after.outer name)
+        → ((meaning_of command).feeds ≡ true → ¬ Rose before.outer.feed_faults after.outer.feed_faults)
+        → result ≢ Status.InputLimit → result ≢ Status.Done → result ≡ Status.NoMemory }
+    ensures feeds { (command : CommandData) (before after : World) (result : Status)
+        → Ends (meaning_of command) before after result → (meaning_of command).feeds ≡ false
+        → result ≢ Status.InputLimit }
+    ensures answered { (index : List ℕ) (frames : ℕ) (before after : World) (result : Status) (input : List ℕ)
+        → Ends (meaning_of (Serve index frames)) before after result → before.outer.left ≡ Some input
+        → IsAnswered input → result ≢ Status.InputLimit }
+{}

@@ -19,7 +19,6 @@ mod note;
 mod once;
 mod program;
 mod queries_input;
-mod question;
 mod rewrite;
 mod saving;
 mod search;

@@ -1,10 +1,11 @@
-ghost use Rattle.std.specs.Prelude.{ℕ, ◌≡◌, ◌≤◌, [], ◌∷◌, IfOk, IfErr};
+ghost use Rattle.std.specs.Prelude.{◌≡◌, ◌≤◌, [], ◌∷◌, IfOk, IfErr};
 ghost use Rattle.index_model.specs.Views.{index_data};
 ghost use Rattle.jass_top.specs.Private.Causes.{Runs, Unread};
 ghost use Rattle.jass_top.specs.IndexJudging.{judge_old};
 ghost use Rattle.jass_top.specs.Judging.{Accepted, Shows};
 ghost use Rattle.jass_top.specs.MigrateMeaning.{migrate_meaning};
-ghost use Rattle.jass_top.specs.Worlds.{outer};
+ghost use Rattle.jass_top.specs.Private.Worlds.{with_files, with_output};
+ghost use Rattle.jass_top.specs.Worlds.{Outer};
 
 use crate::saving::save_index;
 use crate::stop::{Place, Stop};
@@ -28,9 +29,9 @@ pub fn run_migrate<'a, C: Cabinet, O: Sink>(
     files: &mut C,
     out: &mut O,
 ) -> Result<(), Stop<'a>>
-    ensures { (steps : ℕ) → Runs (migrate_meaning from.now to.now)
-        (outer C.Cabinet O.Sink files.old out.old steps)
-        (outer C.Cabinet O.Sink files.new out.new steps) result }
+    ensures { (beside : Outer) → Runs (migrate_meaning from.now to.now)
+        (with_output O.Sink out.old (with_files C.Cabinet files.old beside))
+        (with_output O.Sink out.new (with_files C.Cabinet files.new beside)) result }
 {
     let index = match read_old(alloc, files, from) {
         Ok(index) => index,

@@ -15,20 +15,20 @@ ghost use Rattle.jass_top.specs.Private.Causes.{Runs};
 ghost use Rattle.jass_top.specs.OnceMeaning.{once_meaning};
 ghost use Rattle.jass_top.specs.Private.HeldIndexes.{asking_meaning};
 ghost use Rattle.jass_top.specs.Private.OnceTexts.{once_index, once_of, session_text};
-ghost use Rattle.jass_top.specs.Worlds.{Outer, outer};
+ghost use Rattle.jass_top.specs.Worlds.{Outer};
 ghost use Rattle.jass_base.specs.declared.limits.TheConstants.{LONGEST_FILE, MOST_POSTINGS};
-ghost use Rattle.jass_top.specs.Private.Worlds.{with_output};
+ghost use Rattle.jass_top.specs.Private.Worlds.{with_files, with_output, with_steps};
 
 use crate::import::index_collection;
 use crate::input::read_file;
 use crate::memory_file::file_in_memory;
-use crate::question::Question;
 use crate::stop::{OUTPUT, Stop};
 use asked_lists::laws::asked_lists_answer_alike;
 use asked_lists::{asked_collection, fits_surely};
 use frame_pool::FramePool;
 use index_file::IndexFile;
 use jass_base::{Budget, Cabinet, Collection, Hit, ImpactIndex, Report, Sink, Steps, WriteFault};
+use jass_words::Once;
 use query_reader::name_terms;
 use ranking_model::laws::{the_prefix_is_the_longest, the_ranking_has_documents_of_the_scores};
 use session_engine::laws::{
@@ -49,18 +49,17 @@ const TAG: &str = "jass";
 /// Answers a query of words over a CIFF file on the output.
 pub fn run_once<'a, C: Cabinet, O: Sink, L: Ledger>(
     alloc: Global,
-    ciff: &'a str,
-    question: Question<'_>,
+    question: Once<'a>,
     files: &mut C,
     out: &mut O,
     steps: &mut Steps<L>,
 ) -> Result<(), Stop<'a>>
-    ensures { Runs (once_meaning ciff.now (once_of question.entry))
-        (outer C.Cabinet O.Sink files.old out.old steps.old)
-        (outer C.Cabinet O.Sink files.new out.new steps.new) result }
+    ensures { (beside : Outer) → Runs (once_meaning question.entry.ciff.now (once_of question.entry))
+        (with_output O.Sink out.old (with_files C.Cabinet files.old (with_steps steps.old beside)))
+        (with_output O.Sink out.new (with_files C.Cabinet files.new (with_steps steps.new beside))) result }
 {
-    let collection = read_file(alloc, files, ciff)?;
-    ask_collection(alloc, collection, ciff, question, out, steps)
+    let collection = read_file(alloc, files, question.ciff)?;
+    ask_collection(alloc, collection, question.ciff, question, out, steps)
 }
 
 /// Asks the index of a collection. Where this fits a file for certain, that of the lists alone is made whose terms the
@@ -69,15 +68,15 @@ fn ask_collection<'a, O: Sink, L: Ledger>(
     alloc: Global,
     collection: Collection,
     input: &'a str,
-    question: Question<'_>,
+    question: Once<'_>,
     out: &mut O,
     steps: &mut Steps<L>,
 ) -> Result<(), Stop<'a>>
     requires { posting_count collection.lists ≤ MOST_POSTINGS }
     ensures { (beside : Outer) → Runs (asking_meaning input.now
         (once_index (collection_data collection)) (once_of question.entry))
-        (with_output O.Sink out.old (record beside { steps = steps.old }))
-        (with_output O.Sink out.new (record beside { steps = steps.new })) result }
+        (with_output O.Sink out.old (with_steps steps.old beside))
+        (with_output O.Sink out.new (with_steps steps.new beside)) result }
 {
     if fits_surely(&collection) {
         return ask_lists(alloc, collection, input, question, out, steps);
@@ -98,7 +97,7 @@ fn ask_lists<'a, O: Sink, L: Ledger>(
     alloc: Global,
     collection: Collection,
     input: &'a str,
-    question: Question<'_>,
+    question: Once<'_>,
     out: &mut O,
     steps: &mut Steps<L>,
 ) -> Result<(), Stop<'a>>
@@ -108,8 +107,8 @@ fn ask_lists<'a, O: Sink, L: Ledger>(
         (asked_of (collection_data collection) (texts question.terms.now)))) ≤ LONGEST_FILE }
     ensures { (beside : Outer) → Runs (asking_meaning input.now
         (once_index (collection_data collection)) (once_of question.entry))
-        (with_output O.Sink out.old (record beside { steps = steps.old }))
-        (with_output O.Sink out.new (record beside { steps = steps.new })) result }
+        (with_output O.Sink out.old (with_steps steps.old beside))
+        (with_output O.Sink out.new (with_steps steps.new beside)) result }
 {
     asked_lists_answer_alike();
     let asked = match asked_collection(alloc, collection, question.terms) {
@@ -132,14 +131,14 @@ fn ask_made<'a, O: Sink, L: Ledger>(
     alloc: Global,
     index: &ImpactIndex,
     input: &'a str,
-    question: Question<'_>,
+    question: Once<'_>,
     out: &mut O,
     steps: &mut Steps<L>,
 ) -> Result<(), Stop<'a>>
     requires { index_postings (index_data index.now) ≤ MOST_POSTINGS }
     ensures { (beside : Outer) → Runs (asking_meaning input.now (index_data index.now) (once_of question.entry))
-        (with_output O.Sink out.old (record beside { steps = steps.old }))
-        (with_output O.Sink out.new (record beside { steps = steps.new })) result }
+        (with_output O.Sink out.old (with_steps steps.old beside))
+        (with_output O.Sink out.new (with_steps steps.new beside)) result }
 {
     let file = match file_in_memory(alloc, index, input) {
         Ok(file) => file,
@@ -155,15 +154,15 @@ fn ask_file<'a, O: Sink, L: Ledger>(
     alloc: Global,
     index: &IndexFile,
     input: &'a str,
-    question: Question<'_>,
+    question: Once<'_>,
     out: &mut O,
     steps: &mut Steps<L>,
 ) -> Result<(), Stop<'a>>
     requires view { IsFileView index.now }
     requires fits { length (index_text index.now.index) ≤ LONGEST_FILE }
     ensures { (beside : Outer) → Runs (asking_meaning input.now index.now.index (once_of question.entry))
-        (with_output O.Sink out.old (record beside { steps = steps.old }))
-        (with_output O.Sink out.new (record beside { steps = steps.new })) result }
+        (with_output O.Sink out.old (with_steps steps.old beside))
+        (with_output O.Sink out.new (with_steps steps.new beside)) result }
 {
     a_standing_session_has_its_chain();
     reports_of_sessions_keep_their_promises();

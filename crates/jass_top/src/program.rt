@@ -1,8 +1,7 @@
 ghost use Rattle.std.specs.Prelude.{◌≡◌, ◌≢◌};
 ghost use Rattle.jass_words.specs.Words.{CommandData, texts, IsCommand};
 ghost use Rattle.jass_top.specs.Commands.{meaning_of};
-ghost use Rattle.jass_top.specs.Endings.{AreSome, EndsAtWords};
-ghost use Rattle.jass_top.specs.Running.{EndsAs};
+ghost use Rattle.jass_top.specs.Endings.{AreSome, Ends, EndsAtWords};
 ghost use Rattle.jass_top.specs.Private.Stops.{status_of};
 ghost use Rattle.jass_top.specs.Worlds.{world};
 
@@ -11,9 +10,7 @@ use crate::note::{put_stop, put_word};
 use crate::status::Status;
 use crate::stop::Stop;
 use jass_base::{Cabinet, Feed, Sink, Steps};
-use jass_words::laws::{
-    a_search_is_within_limits, a_trial_is_within_limits, words_are_one_command,
-};
+use jass_words::laws::words_are_one_command;
 use jass_words::read_words;
 use std::alloc::Global;
 use std::sync::ledger::Ledger;
@@ -33,13 +30,11 @@ pub fn run<C: Cabinet, I: Feed, O: Sink, E: Sink, L: Ledger>(
     ensures words { result ≡ Status.Words → EndsAtWords (texts words.now)
         (world C.Cabinet I.Feed O.Sink E.Sink files.old input.old out.old notes.old steps.old)
         (world C.Cabinet I.Feed O.Sink E.Sink files.new input.new out.new notes.new steps.new) }
-    ensures ends { (command : CommandData) → IsCommand (texts words.now) command → EndsAs (meaning_of command)
+    ensures ends { (command : CommandData) → IsCommand (texts words.now) command → Ends (meaning_of command)
         (world C.Cabinet I.Feed O.Sink E.Sink files.old input.old out.old notes.old steps.old)
         (world C.Cabinet I.Feed O.Sink E.Sink files.new input.new out.new notes.new steps.new) result }
 {
     words_are_one_command();
-    a_search_is_within_limits();
-    a_trial_is_within_limits();
     let command = match read_words(words) {
         Ok(command) => command,
         Err(fault) => {

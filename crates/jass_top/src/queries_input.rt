@@ -1,17 +1,20 @@
-ghost use Rattle.std.specs.Prelude.{◌≡◌, ◌≤◌, [], ◌∷◌, IfOk, IfErr};
+ghost use Rattle.std.specs.Prelude.{◌≡◌, ◌≤◌, ◌+◌, [], ◌∷◌, take, IfOk, IfErr};
 ghost use Rattle.std.specs.List.{AllByRecursion};
 ghost use Rattle.jass_base.specs.declared.query.Query.{Query};
 ghost use Rattle.index_file.specs.Places.{texts_of};
 ghost use Rattle.session_engine.specs.Plans.{AreKnown};
-ghost use Rattle.jass_top.specs.Private.Causes.{Unread};
-ghost use Rattle.jass_top.specs.Judging.{Accepted, Shows};
-ghost use Rattle.jass_top.specs.SearchMeaning.{judge_queries};
+ghost use Rattle.jass_top.specs.Private.Causes.{Unheld, Unread};
+ghost use Rattle.jass_top.specs.Private.Inputs.{AcceptsSuch, HasInput};
 ghost use Rattle.jass_top.specs.Private.SearchRuns.{asked_of};
+ghost use Rattle.jass_top.specs.Judging.{behind, judge_content};
+ghost use Rattle.jass_top.specs.QueryJudging.{judge_queries, without_lines};
+ghost use Rattle.jass_base.specs.declared.limits.TheConstants.{LONGEST_QUERY_FILE};
 
 use crate::stop::{Place, Stop};
 use index_file::IndexFile;
 use jass_base::limits::LONGEST_QUERY_FILE;
 use jass_base::{Cabinet, Query, ReadStop, Row};
+use query_reader::laws::query_files_are_read;
 use query_reader::{Mode, QueryFault, read_queries};
 use std::alloc::Global;
 use whole_files::read_front;
@@ -28,24 +31,69 @@ pub fn open_queries<'a, C: Cabinet>(
     mode: Mode,
     index: &IndexFile,
 ) -> Result<Row<Query>, Stop<'a>>
-    ensures accepted { IfOk result (λ queries.
-        Shows (judge_queries name.now mode (texts_of index.now.index.terms) (C.told files.old))
-        (Accepted (asked_of queries))) }
+    ensures accepted { IfOk result (λ queries. HasInput
+        (behind (judge_content name.now (C.told files.old))
+        (judge_queries name.now mode (texts_of index.now.index.terms)))
+        (λ lined. without_lines lined ≡ asked_of queries)) }
     ensures known { IfOk result (λ queries.
         AllByRecursion (λ (query : Query). AreKnown index.now query.terms) queries) }
     ensures unread { IfErr result (λ stop. Unread (name.now ∷ [])
-        (judge_queries name.now mode (texts_of index.now.index.terms) (C.told files.old))
+        (behind (judge_content name.now (C.told files.old))
+        (judge_queries name.now mode (texts_of index.now.index.terms)))
         (C.read_faults files.old) (C.read_faults files.new) stop) }
     ensures stays { C.told files.new ≡ C.told files.old }
     ensures later { C.read_faults files.old ≤ C.read_faults files.new }
     ensures others { C.write_faults files.old ≤ C.write_faults files.new }
 {
-    let bytes = match read_front(alloc, files, name, MOST_BYTES) {
+    let bytes = match query_bytes(alloc, files, name) {
         Ok(bytes) => bytes,
-        Err(ReadStop::ReadFault) => return Err(Stop::ReadFault { name }),
-        Err(ReadStop::NoMemory) => return Err(Stop::NoMemory),
+        Err(stop) => return Err(stop),
     };
-    match read_queries(alloc, bytes.as_slice(), mode, index) {
+    match queries_in(alloc, bytes.as_slice(), name, mode, index) {
+        Ok(queries) => Ok(queries),
+        Err(stop) => Err(stop),
+    }
+}
+
+/// Reads the content of a query file, of a longer one the front, which is refused as the whole is.
+fn query_bytes<'a, C: Cabinet>(
+    alloc: Global,
+    files: &mut C,
+    name: &'a str,
+) -> Result<Row<u8>, Stop<'a>>
+    ensures accepted { IfOk result (λ bytes. AcceptsSuch (judge_content name.now (C.told files.old))
+        (λ content. bytes ≡ take (LONGEST_QUERY_FILE + 1) content)) }
+    ensures unread { IfErr result (λ stop. Unread (name.now ∷ []) (judge_content name.now (C.told files.old))
+        (C.read_faults files.old) (C.read_faults files.new) stop) }
+    ensures stays { C.told files.new ≡ C.told files.old }
+    ensures later { C.read_faults files.old ≤ C.read_faults files.new }
+    ensures others { C.write_faults files.old ≤ C.write_faults files.new }
+{
+    match read_front(alloc, files, name, MOST_BYTES) {
+        Ok(bytes) => Ok(bytes),
+        Err(ReadStop::ReadFault) => Err(Stop::ReadFault { name }),
+        Err(ReadStop::NoMemory) => Err(Stop::NoMemory),
+    }
+}
+
+/// The queries of a content over the terms of an index. The content is that of the file of this name.
+fn queries_in<'a>(
+    alloc: Global,
+    bytes: &[u8],
+    name: &'a str,
+    mode: Mode,
+    index: &IndexFile,
+) -> Result<Row<Query>, Stop<'a>>
+    ensures accepted { IfOk result (λ queries. HasInput
+        (judge_queries name.now mode (texts_of index.now.index.terms) bytes.now)
+        (λ lined. without_lines lined ≡ asked_of queries)) }
+    ensures known { IfOk result (λ queries.
+        AllByRecursion (λ (query : Query). AreKnown index.now query.terms) queries) }
+    ensures unheld { IfErr result (λ stop. Unheld (name.now ∷ [])
+        (judge_queries name.now mode (texts_of index.now.index.terms) bytes.now) stop) }
+{
+    query_files_are_read();
+    match read_queries(alloc, bytes, mode, index) {
         Ok(queries) => Ok(queries),
         Err(QueryFault::Refused(refusal)) => Err(Stop::Refused {
             name,

@@ -1,8 +1,8 @@
-ghost use Rattle.std.specs.Prelude.{ℕ};
 ghost use Rattle.index_model.specs.Views.{index_data};
 ghost use Rattle.jass_top.specs.Private.Causes.{Runs};
 ghost use Rattle.jass_top.specs.Private.HeldIndexes.{saving_meaning};
-ghost use Rattle.jass_top.specs.Worlds.{outer};
+ghost use Rattle.jass_top.specs.Private.Worlds.{with_files, with_output};
+ghost use Rattle.jass_top.specs.Worlds.{Outer};
 
 use crate::stop::{OUTPUT, Place, Stop};
 use index_write::{SaveFault, totals, write_index};
@@ -22,9 +22,9 @@ pub fn save_index<'a, C: Cabinet, O: Sink>(
     files: &mut C,
     out: &mut O,
 ) -> Result<(), Stop<'a>>
-    ensures { (steps : ℕ) → Runs (saving_meaning input.now file.now (index_data index.now))
-        (outer C.Cabinet O.Sink files.old out.old steps)
-        (outer C.Cabinet O.Sink files.new out.new steps) result }
+    ensures { (beside : Outer) → Runs (saving_meaning input.now file.now (index_data index.now))
+        (with_output O.Sink out.old (with_files C.Cabinet files.old beside))
+        (with_output O.Sink out.new (with_files C.Cabinet files.new beside)) result }
 {
     match write_index(alloc, index, files, file) {
         Ok(()) => {}

@@ -4,11 +4,12 @@ ghost use Rattle.jass_base.specs.declared.query.Query.{Query};
 ghost use Rattle.index_layout.specs.View.{IsFileView};
 ghost use Rattle.session_engine.specs.Plans.{AreKnown};
 ghost use Rattle.jass_top.specs.Private.Causes.{Runs, Unread};
-ghost use Rattle.jass_top.specs.Judging.{Accepted, Shows};
-ghost use Rattle.jass_top.specs.SearchMeaning.{judge_search, search_meaning};
+ghost use Rattle.jass_top.specs.Private.Inputs.{HasInput};
 ghost use Rattle.jass_top.specs.Private.SearchRuns.{asked_of};
-ghost use Rattle.jass_top.specs.Worlds.{outer};
-ghost use Rattle.jass_base.specs.declared.limits.TheConstants.{MOST_HITS};
+ghost use Rattle.jass_top.specs.Private.Worlds.{with_files, with_output, with_steps};
+ghost use Rattle.jass_top.specs.QueryJudging.{without_lines};
+ghost use Rattle.jass_top.specs.SearchMeaning.{judge_search, search_meaning, search_within};
+ghost use Rattle.jass_top.specs.Worlds.{Outer};
 ghost use Rattle.jass_words.specs.declared.word_limits.TheConstants.{MOST_BUDGETS};
 
 use crate::index_input::open_index;
@@ -19,6 +20,7 @@ use crate::search_stop::{SearchOutput, SearchStop};
 use crate::stop::{OUTPUT, Stop};
 use index_file::IndexFile;
 use jass_base::{Budget, Cabinet, Query, Row, Sink, Steps};
+use jass_words::Asked;
 use query_reader::Mode;
 use std::alloc::Global;
 use std::sync::ledger::Ledger;
@@ -29,25 +31,23 @@ pub fn run_search<'a, C: Cabinet, O: Sink, L: Ledger>(
     index: &'a str,
     queries: &'a str,
     run: &'a str,
-    k: u32,
     budgets: &[Budget],
-    tag: &str,
-    mode: Mode,
+    asked: Asked<'a>,
     files: &mut C,
     out: &mut O,
     steps: &mut Steps<L>,
 ) -> Result<(), Stop<'a>>
-    requires some { 1 ≤ k }
-    requires few_hits { k ≤ MOST_HITS }
     requires few_budgets { length budgets.now ≤ MOST_BUDGETS }
-    ensures { Runs (search_meaning index.now queries.now run.now
-        (record { k = k; budgets = budgets.now; tag = tag.now }) mode)
-        (outer C.Cabinet O.Sink files.old out.old steps.old)
-        (outer C.Cabinet O.Sink files.new out.new steps.new) result }
+    ensures { (beside : Outer) → Runs (search_meaning index.now queries.now run.now
+        (search_within asked.entry.k budgets.now asked.entry.tag.now) asked.entry.mode)
+        (with_output O.Sink out.old (with_files C.Cabinet files.old (with_steps steps.old beside)))
+        (with_output O.Sink out.new (with_files C.Cabinet files.new (with_steps steps.new beside))) result }
 {
     a_search_leaves_its_output();
-    let (file, asked) = open_search(alloc, index, queries, mode, files)?;
-    match write_search(alloc, asked, k, budgets, tag, &file, steps, files, run, out) {
+    let (file, found) = open_search(alloc, index, queries, asked.mode, files)?;
+    match write_search(
+        alloc, found, asked.k, budgets, asked.tag, &file, steps, files, run, out,
+    ) {
         Ok(()) => {
             drop(file);
             Ok(())
@@ -75,9 +75,9 @@ fn open_search<'a, C: Cabinet>(
     mode: Mode,
     files: &mut C,
 ) -> Result<(IndexFile, Row<Query>), Stop<'a>>
-    ensures accepted { IfOk result (λ found.
-        Shows (judge_search index.now queries.now mode (C.told files.old))
-        (Accepted (record { file = found.0; queries = asked_of found.1 }))) }
+    ensures accepted { IfOk result (λ found. HasInput
+        (judge_search index.now queries.now mode (C.told files.old))
+        (λ inputs. (inputs.index ≡ found.0.index) × (without_lines inputs.queries ≡ asked_of found.1))) }
     ensures view { IfOk result (λ found. IsFileView found.0) }
     ensures known { IfOk result (λ found.
         AllByRecursion (λ (query : Query). AreKnown found.0 query.terms) found.1) }

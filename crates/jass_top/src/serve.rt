@@ -1,7 +1,8 @@
 ghost use Rattle.std.specs.Prelude.{◌≤◌};
 ghost use Rattle.jass_base.specs.declared.limits.TheConstants.{MOST_FRAMES};
-ghost use Rattle.jass_top.specs.Private.ServeRuns.{RunsServing};
-ghost use Rattle.jass_top.specs.Private.Worlds.{fed};
+ghost use Rattle.jass_top.specs.Private.Causes.{Runs};
+ghost use Rattle.jass_top.specs.ServeMeaning.{serve_meaning};
+ghost use Rattle.jass_top.specs.Worlds.{outer};
 
 use crate::index_input::open_index;
 use crate::serve_lines::serve_lines;
@@ -26,9 +27,9 @@ pub fn run_serve<'a, C: Cabinet, I: Feed, O: Sink, L: Ledger>(
 ) -> Result<(), Stop<'a>>
     requires some { 1 ≤ frames }
     requires few { frames ≤ MOST_FRAMES }
-    ensures { RunsServing index.now frames
-        (fed C.Cabinet I.Feed O.Sink files.old input.old out.old steps.old)
-        (fed C.Cabinet I.Feed O.Sink files.new input.new out.new steps.new) result }
+    ensures { Runs (serve_meaning index.now frames)
+        (outer C.Cabinet I.Feed O.Sink files.old input.old out.old steps.old)
+        (outer C.Cabinet I.Feed O.Sink files.new input.new out.new steps.new) result }
 {
     let file = match open_index(alloc, files, index) {
         Ok(file) => file,

@@ -4,7 +4,10 @@ ghost use Rattle.session_desk.specs.State.{new_state};
 ghost use Rattle.jass_top.specs.declared.serve_stop.ServeStop.{ServeStop};
 ghost use Rattle.session_desk.specs.declared.went.Went.{Went};
 ghost use Rattle.feed_lines.specs.Waiting.{EndsFirst, nothing_yet};
-ghost use Rattle.jass_top.specs.Private.Serving.{AnswersLines, AnswersLast, Served, given_line};
+ghost use Rattle.jass_top.specs.Private.ServeRuns.{Served};
+ghost use Rattle.jass_top.specs.Private.Serving.{AnswersLines, AnswersLast, given_line};
+ghost use Rattle.jass_top.specs.Private.Worlds.{with_feed, with_output, with_steps};
+ghost use Rattle.jass_top.specs.Worlds.{Outer};
 ghost use Rattle.jass_words.specs.declared.word_limits.TheConstants.{MOST_TAKEN};
 
 use crate::serve_stop::ServeStop;
@@ -27,8 +30,9 @@ pub fn serve_lines<I: Feed, O: Sink, L: Ledger>(
 ) -> Result<(), ServeStop>
     requires new { desk.old.state ≡ new_state desk.old.state.frames }
     requires nothing { lines.old ≡ nothing_yet MOST_TAKEN }
-    ensures served { Served O.written O.faults O.rest out.old out.new desk.old.file desk.old.state.frames
-        (I.left input.old) (I.left input.new) steps.old steps.new result }
+    ensures served { (beside : Outer) → Served desk.old.file desk.old.state.frames
+        (with_output O.Sink out.old (with_feed I.Feed input.old (with_steps steps.old beside)))
+        (with_output O.Sink out.new (with_feed I.Feed input.new (with_steps steps.new beside))) result }
     ensures later { I.faults input.old ≤ I.faults input.new }
     ensures failed { result ≡ Err ServeStop.ReadFault → Rose (I.faults input.old) (I.faults input.new) }
 {

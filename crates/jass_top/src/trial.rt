@@ -9,7 +9,7 @@ ghost use Rattle.jass_top.specs.Judging.{Accepted};
 ghost use Rattle.jass_top.specs.TrialMeaning.{judge_trial, trial_index, trial_meaning, tried_meaning};
 ghost use Rattle.jass_top.specs.Worlds.{Outer};
 ghost use Rattle.jass_base.specs.declared.limits.TheConstants.{MOST_TRIAL};
-ghost use Rattle.jass_top.specs.Private.Worlds.{with_output};
+ghost use Rattle.jass_top.specs.Private.Worlds.{with_output, with_steps};
 ghost use Rattle.jass_words.specs.declared.word_limits.TheConstants.{MOST_QUERIES};
 
 use crate::import::{impacts_are_small, index_collection};
@@ -50,8 +50,8 @@ pub fn run_trial<'a, O: Sink, L: Ledger>(
 ) -> Result<(), Stop<'a>>
     requires { IsTrialSize seed docs terms queries }
     ensures { (beside : Outer) → Runs (trial_meaning seed docs terms queries)
-        (with_output O.Sink out.old (record beside { steps = steps.old }))
-        (with_output O.Sink out.new (record beside { steps = steps.new })) result }
+        (with_output O.Sink out.old (with_steps steps.old beside))
+        (with_output O.Sink out.new (with_steps steps.new beside)) result }
 {
     let (file, mut draws) = match make_trial(alloc, seed, docs, terms) {
         Ok(made) => made,
@@ -78,8 +78,8 @@ fn try_file<'a, O: Sink, L: Ledger>(
     requires chosen { index.now ≡ chosen_view index.now.index }
     requires accepted { judge_trial index.now.index ≡ Accepted index.now.index }
     ensures { (beside : Outer) → Runs (tried_meaning index.now.index (queries_from terms queries draws.old))
-        (with_output O.Sink out.old (record beside { steps = steps.old }))
-        (with_output O.Sink out.new (record beside { steps = steps.new })) result }
+        (with_output O.Sink out.old (with_steps steps.old beside))
+        (with_output O.Sink out.new (with_steps steps.new beside)) result }
 {
     a_trial_leaves_its_summary();
     let sums = match try_queries(alloc, index, draws, terms, queries, steps) {

@@ -66,17 +66,28 @@ const LEVEL_AT_LAST: [u8; 68] = [
 /// What `--help` prints.
 const HELP: &[u8] = b"\
 commands:\n\
-once CIFF K BUDGET TERM..  answer a query over a CIFF file\n\
-rewrite FROM TO            write a CIFF file in the canonical spelling\n\
-import CIFF INDEX [weights=tf|bm25] [bits=raw|1..16]  make an index file of a CIFF file\n\
-check INDEX                check an index file, and print its totals\n\
-export INDEX CIFF          write a CIFF file with the impacts as frequencies\n\
-migrate OLD NEW            write an index file of version 1 in version 2\n\
-search INDEX QUERIES RUN [k=K] [budget=B,..] [tag=TAG] [mode=plain|folded]  answer the queries of a file\n\
-serve INDEX frames=N       answer the lines of the input at a desk over an index file\n\
-trial SEED DOCS TERMS QUERIES  answer queries over a collection made from a seed, and print a summary\n\
---help                     print this text\n\
---version                  print the name and the version\n\
+once CIFF K BUDGET TERM..\n\
+\x20   answer a query over a CIFF file\n\
+rewrite FROM TO\n\
+\x20   write a CIFF file in the canonical spelling\n\
+import CIFF INDEX [weights=tf|bm25] [bits=raw|1..16]\n\
+\x20   make an index file of a CIFF file\n\
+check INDEX\n\
+\x20   check an index file, and print its totals\n\
+export INDEX CIFF\n\
+\x20   write a CIFF file with the impacts as frequencies\n\
+migrate OLD NEW\n\
+\x20   write an index file of version 1 in version 2\n\
+search INDEX QUERIES RUN [k=K] [budget=B,..] [tag=TAG] [mode=plain|folded]\n\
+\x20   answer the queries of a file\n\
+serve INDEX frames=N\n\
+\x20   answer the lines of the input at a desk over an index file\n\
+trial SEED DOCS TERMS QUERIES\n\
+\x20   answer queries over a collection made from a seed, and print a summary\n\
+--help\n\
+\x20   print this text\n\
+--version\n\
+\x20   print the name and the version\n\
 \n\
 statuses:\n\
 0  done\n\

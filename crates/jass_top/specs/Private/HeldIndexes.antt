@@ -1,13 +1,15 @@
 -- Indexes that were made in memory.
-use Rattle.std.specs.Prelude.{ℕ, ◌≡◌, ◌≤◌, List, length, Option, Some, None}
+use Rattle.std.specs.Prelude.{ℕ, ◌≡◌, ◌≤◌, List, length}
 use Rattle.index_model.specs.Index.{IndexData, IsIndex}
 use Rattle.index_layout.specs.View.{index_postings, index_text}
 use Rattle.jass_base.specs.declared.limits.TheConstants.{LONGEST_FILE, MOST_POSTINGS}
 use Rattle.jass_top.specs.Judging.{Accepted}
 use Rattle.jass_top.specs.Meanings.{Output, Meaning}
-use Rattle.jass_top.specs.MakingMeaning.{made_output, on_made}
+use Rattle.jass_top.specs.MakingMeaning.{making_meaning, on_made}
 use Rattle.jass_top.specs.Answers.{OnceQuery}
 use Rattle.jass_top.specs.OnceMeaning.{IsOnceOutput}
+use Rattle.jass_top.specs.Standing.{OfOutput, TextPart}
+use Rattle.jass_top.specs.Worlds.{Outer}
 
 -- bytes are the text of an index that fits a file
 pub record IsTextOf (bytes : List ℕ) (index : IndexData) : Type 0 where
@@ -17,13 +19,13 @@ pub record IsTextOf (bytes : List ℕ) (index : IndexData) : Type 0 where
   pub spelled : bytes ≡ index_text index
 
 -- what a command means of an index that was made of an input, which is accepted
-abbrev pub on_index : List ℕ → IndexData → Option (List ℕ) → (IndexData → Output → Type 0) → Meaning
-on_index input index file IsOutput = on_made input (λ told. Accepted index) (λ made. made) file IsOutput
+abbrev pub on_index : List ℕ → IndexData → (IndexData → Output → Type 0) → (IndexData → Outer → Outer → Type 0) → Meaning
+on_index input index IsOutput part = on_made input (λ told. Accepted index) (λ made. made) IsOutput part
 
 -- the index becomes a file
 abbrev pub saving_meaning : List ℕ → List ℕ → IndexData → Meaning
-saving_meaning input file index = on_index input index (Some file) (λ made output. output ≡ made_output made)
+saving_meaning input file index = making_meaning input file (λ told. Accepted index) (λ made. made)
 
 -- the index is asked
 abbrev pub asking_meaning : List ℕ → IndexData → OnceQuery → Meaning
-asking_meaning input index query = on_index input index None (IsOnceOutput query)
+asking_meaning input index query = on_index input index (IsOnceOutput query) (OfOutput (IsOnceOutput query) TextPart)

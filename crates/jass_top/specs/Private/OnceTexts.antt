@@ -10,12 +10,12 @@ use Rattle.index_layout.specs.View.{FileView}
 use Rattle.session_engine.specs.Standing.{answer_over, query_of}
 use Rattle.session_engine.specs.declared.session.Session.{Session}
 use Rattle.jass_words.specs.Words.{texts}
-use Rattle.jass_top.specs.declared.question.Question.{Question}
+use Rattle.jass_words.specs.declared.command.Once.{Once}
 use Rattle.jass_top.specs.Answers.{OnceQuery}
 use Rattle.jass_top.specs.Private.SearchRuns.{report_text}
 
 -- a question as plain data
-abbrev pub once_of : Question → OnceQuery
+abbrev pub once_of : Once → OnceQuery
 once_of question = record { k = question.k; budget = question.budget; words = texts question.terms.now }
 
 -- the index of a collection that a query of words is asked of: impacts are term frequencies

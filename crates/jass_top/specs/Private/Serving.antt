@@ -14,8 +14,7 @@ use Rattle.session_desk.specs.Turns.{desk_postings, desk_replies, replies_from, 
 use Rattle.jass_base.specs.declared.faults.WriteFault.{WriteFault}
 use Rattle.jass_top.specs.declared.serve_stop.ServeStop.{ServeStop}
 use Rattle.jass_top.specs.declared.serve_stop.ServeStop.TheVariants as stops
-use Rattle.jass_top.specs.ServeMeaning.{TakesFront, has_end}
-use Rattle.jass_top.specs.Private.ServeRuns.{Serves}
+use Rattle.jass_top.specs.ServeMeaning.{has_end}
 use Rattle.jass_top.specs.Private.Sides.{Side}
 use Rattle.jass_words.specs.declared.word_limits.TheConstants.{MOST_TAKEN}
 
@@ -107,14 +106,3 @@ pub record AnswersLast {S T : Type 0} (written : S → Option (List ℕ)) (fault
   pub same : result ≡ Err stops.NoMemory → out ≡ old
   pub counted : later ≡ steps + scored
   pub goes : GoesLast file w state text scored result
-
--- ---- all lines
-
--- how the lines of an input were served on an output
-pub record Served {S T : Type 0} (written : S → Option (List ℕ)) (faults : S → ℕ) (rest : S → Rest) (old out : S)
-    (file : FileView) (frames : ℕ) (before left : Option (List ℕ)) (steps later : ℕ) (result : Result T ServeStop) : Type 0 where
-  pub serves : Serves file frames before left (written old) (written out) steps later result
-  pub taken : TakesFront before left
-  pub never_less : faults old ≤ faults out
-  pub failed : IfErr result (λ e. e ≡ stops.WriteFault → Rose (faults old) (faults out))
-  pub rest_stays : rest out ≡ rest old

@@ -1,42 +1,40 @@
-use Rattle.std.proofs.Common.{[], Some, refl, subst, inl, inr, arith}
-use Rattle.jass_top.proofs.Below.{CollectionData, canonical_ciff, collection_data, Appends-none, Rose-earlier, index_postings, export_of}
-use Rattle.jass_top.specs.ExportMeaning.{export_meaning}
+use Rattle.std.proofs.Common.{[], Some, refl, subst, inr, arith}
+use Rattle.jass_top.proofs.Below.{CollectionData, canonical_ciff, collection_data, Appends-none, Rose-earlier, index_postings}
+use Rattle.jass_top.specs.ExportMeaning.{export_meaning, exported}
 use Rattle.jass_top.specs.Standing.{LeavesFile, LeavesFront}
-use Rattle.jass_top.specs.Private.Worlds.{with_files}
-use Rattle.jass_top.proofs.Stopping.{stopped_unread}
+use Rattle.jass_top.specs.Private.Worlds.{with_files, with_steps}
+use Rattle.jass_top.proofs.Stopping.{counted, ran_on_files, stopped_unread}
 use Rattle.jass_top.proofs.export.run_export.Goals as goal
 
 pub returns-in-Err : goal.returns-in-Err
 returns-in-Err g c = λ beside.
-    stopped_unread (export_meaning c.args.index.now c.args.ciff.now) (with_files g.C.Cabinet c.args.files.now (record beside { steps = c.args.steps.now }))
-    (with_files g.C.Cabinet c.open_index.new.files (record beside { steps = c.args.steps.now })) c.in-Err.stop refl
-    (record { told = c.in-Err.ensures.stays; written = refl; steps = refl }) c.in-Err.ensures.unread
+    ran_on_files refl refl refl refl refl refl refl
+    (stopped_unread (export_meaning c.args.index.now c.args.ciff.now) (with_files g.C.Cabinet c.args.files.now (with_steps c.args.steps.now beside))
+    (with_files g.C.Cabinet c.open_index.new.files (with_steps c.args.steps.now beside)) c.in-Err.stop refl
+    (record { told = c.in-Err.ensures.stays; written = refl; left = refl; steps = refl }) c.in-Err.ensures.unread)
 
 pub returns-in-Err-made : goal.returns-in-Err-made
 returns-in-Err-made g c = λ beside.
-    let index = c.in-Ok.file.index in
-    inr (inl (record {
-      counting = refl;
-      told = c.in-Ok.ensures.stays;
-      written = refl;
-      never_less = c.in-Err-made.ensures.later;
-      had = record {
-        inputs = c.in-Ok.file;
-        output = record { content = canonical_ciff (export_of index); text = []; steps = index_postings index };
-        accepted = c.in-Ok.ensures.accepted;
-        exact = refl;
-        left = c.in-Err-made.ensures.counted;
+    ran_on_files refl refl refl refl refl refl refl (inr (record {
+      inputs = c.in-Ok.file;
+      accepted = c.in-Ok.ensures.accepted;
+      stands = record {
+        told = c.in-Ok.ensures.stays;
+        written = refl;
+        steps = record { never_less = c.in-Err-made.ensures.later; at_most = c.in-Err-made.ensures.counted };
       };
     }))
 
 pub returns-in-Ok-written : goal.returns-in-Ok-written
 returns-in-Ok-written g c = λ beside.
-    let index = c.in-Ok.file.index in let told = g.C.Cabinet.told c.args.files.now in
+    let told = g.C.Cabinet.told c.args.files.now in
     let after = g.C.Cabinet.told c.write_file-written.new.files in
-    record {
+    ran_on_files refl refl refl refl refl refl refl (record {
       inputs = c.in-Ok.file;
-      output = record { content = canonical_ciff (export_of index); text = []; steps = index_postings index };
+      input = [];
+      output = exported c.in-Ok.file;
       accepted = c.in-Ok.ensures.accepted;
+      had = λ feeds. cc;
       exact = refl;
       left = record {
         content = subst (λ (d : CollectionData). LeavesFile (Some c.args.ciff.now) told after (canonical_ciff d)) c.in-Ok-made.ensures.collection
@@ -44,24 +42,22 @@ returns-in-Ok-written g c = λ beside.
         text = Appends-none beside.written;
         steps = c.in-Ok-made.ensures.steps;
       };
-    }
+    })
 
 pub returns-in-Err-written : goal.returns-in-Err-written
 returns-in-Err-written g c = λ beside.
-    let index = c.in-Ok.file.index in let told = g.C.Cabinet.told c.args.files.now in
-    let after = g.C.Cabinet.told c.write_file-written.new.files in (
+    let told = g.C.Cabinet.told c.args.files.now in
+    let after = g.C.Cabinet.told c.write_file-written.new.files in
+    ran_on_files refl refl refl refl refl refl refl (
       inr (refl, Rose-earlier (g.C.Cabinet.write_faults c.args.files.now) (g.C.Cabinet.write_faults c.open_index.new.files) (g.C.Cabinet.write_faults c.write_file-written.new.files) c.in-Ok.ensures.others c.in-Err-written.ensures.cause),
       record {
         inputs = c.in-Ok.file;
-        output = record { content = canonical_ciff (export_of index); text = []; steps = index_postings index };
         accepted = c.in-Ok.ensures.accepted;
-        exact = refl;
-        left = record {
+        stands = record {
           content = subst (λ (d : CollectionData). LeavesFront (Some c.args.ciff.now) told after (canonical_ciff d)) c.in-Ok-made.ensures.collection
               (subst (λ old. LeavesFront (Some c.args.ciff.now) old after (canonical_ciff (collection_data c.in-Ok-made.collection))) c.in-Ok.ensures.stays c.in-Err-written.ensures.err);
-          text = (0, Appends-none beside.written);
-          steps = omega (arith, c.in-Ok-made.ensures.steps);
-          never_less = omega (arith, c.in-Ok-made.ensures.steps);
+          written = refl;
+          steps = counted _ _ (index_postings c.in-Ok.file.index) c.in-Ok-made.ensures.steps;
         };
       },
     )

@@ -1,92 +1,94 @@
-use Rattle.shared_lemmas.proofs.Common.{Err, refl, ap, sym, subst, inl, inr, arith, Appends}
-use Rattle.jass_top.proofs.Below.{Totals, AppendsPrefix, Appends-none, index_text, Imports, ImportFault, totals_line}
+use Rattle.shared_lemmas.proofs.Common.{[], Err, refl, ap, sym, subst, inl, inr, arith, Appends}
+use Rattle.jass_top.proofs.Below.{Totals, AppendsPrefix, Imports, ImportFault, totals_line}
 use Rattle.jass_top.specs.declared.stop.Place.TheVariants.{Byte}
 use Rattle.jass_top.specs.Judging.{Refuses, Shows}
 use Rattle.jass_top.specs.MakingMeaning.{made_output}
-use Rattle.jass_top.specs.Worlds.{outer}
+use Rattle.jass_top.specs.Private.Worlds.{with_files, with_output}
 use Rattle.jass_top.proofs.Imported.{accepted, judge_import, larger, refused, stands, unread}
-use Rattle.jass_top.proofs.JudgedFiles.{whole_front}
+use Rattle.jass_top.proofs.Stopping.{ran_on_both, uncounted}
 use Rattle.jass_top.proofs.import.run_import.Goals as goal
 
 pub returns-in-Err-Refused : goal.returns-in-Err-Refused
-returns-in-Err-Refused g c = λ steps.
+returns-in-Err-Refused g c = λ beside.
     let told = g.C.Cabinet.told c.args.files.now in
-    let is = subst (λ (f : ImportFault). Imports told (g.C.Cabinet.told c.import_file.new.files) c.args.ciff.now c.args.index.now c.args.rule c.args.bits (Err f)) c.in-Err-Refused.field-0-is c.in-Err-Refused.ensures.imported in (
+    let is = subst (λ (f : ImportFault). Imports told (g.C.Cabinet.told c.import_file.new.files) c.args.ciff.now c.args.index.now c.args.rule c.args.bits (Err f)) c.in-Err-Refused.field-0-is c.in-Err-Refused.ensures.imported in
+    ran_on_both refl refl refl refl refl refl (
       inl refl,
       subst (λ n. Shows (judge_import c.args.ciff.now c.args.rule c.args.bits told) (Refuses c.args.ciff.now n (Byte c.in-Err-Refused.refusal.at))) (sym c.number.ensures)
           (refused c.args.ciff.now c.args.rule c.args.bits told c.in-Err-Refused.refusal is.0),
-      record { told = is.1; written = refl; steps = refl },
+      record { told = is.1; written = refl; left = refl; steps = refl },
     )
 
 pub returns-in-Err-ReadFault : goal.returns-in-Err-ReadFault
-returns-in-Err-ReadFault g c = λ steps.
+returns-in-Err-ReadFault g c = λ beside.
     let told = g.C.Cabinet.told c.args.files.now in let now = g.C.Cabinet.told c.import_file.new.files in
-    let is = subst (λ (f : ImportFault). Imports told now c.args.ciff.now c.args.index.now c.args.rule c.args.bits (Err f)) c.in-Err-ReadFault.field-0-is c.in-Err-ReadFault.ensures.imported in (
-      inl refl,
-      unread c.args.ciff.now c.args.rule c.args.bits told (g.C.Cabinet.read_faults c.args.files.now) (g.C.Cabinet.read_faults c.import_file.new.files) (c.in-Err-ReadFault.ensures.read_fault (ap Err c.in-Err-ReadFault.field-0-is)),
-      stands c.args.ciff.now c.args.rule c.args.bits c.args.index.now
-          (outer g.C.Cabinet g.O.Sink c.args.files.now c.args.out.now steps) (outer g.C.Cabinet g.O.Sink c.import_file.new.files c.args.out.now steps) refl refl is,
-    )
+    let is = subst (λ (f : ImportFault). Imports told now c.args.ciff.now c.args.index.now c.args.rule c.args.bits (Err f)) c.in-Err-ReadFault.field-0-is c.in-Err-ReadFault.ensures.imported in
+    ran_on_both refl refl refl refl refl refl (inl (record {
+      input = inl refl;
+      cause = unread c.args.ciff.now c.args.rule c.args.bits told (g.C.Cabinet.read_faults c.args.files.now) (g.C.Cabinet.read_faults c.import_file.new.files) (c.in-Err-ReadFault.ensures.read_fault (ap Err c.in-Err-ReadFault.field-0-is));
+      stands = stands c.args.ciff.now c.args.rule c.args.bits c.args.index.now
+          (with_output g.O.Sink c.args.out.now (with_files g.C.Cabinet c.args.files.now beside)) (with_output g.O.Sink c.args.out.now (with_files g.C.Cabinet c.import_file.new.files beside)) refl refl refl is;
+    }))
 
 pub returns-in-Err-TooLarge : goal.returns-in-Err-TooLarge
-returns-in-Err-TooLarge g c = λ steps.
+returns-in-Err-TooLarge g c = λ beside.
     let told = g.C.Cabinet.told c.args.files.now in
-    let is = subst (λ (f : ImportFault). Imports told (g.C.Cabinet.told c.import_file.new.files) c.args.ciff.now c.args.index.now c.args.rule c.args.bits (Err f)) c.in-Err-TooLarge.field-0-is c.in-Err-TooLarge.ensures.imported in (
+    let is = subst (λ (f : ImportFault). Imports told (g.C.Cabinet.told c.import_file.new.files) c.args.ciff.now c.args.index.now c.args.rule c.args.bits (Err f)) c.in-Err-TooLarge.field-0-is c.in-Err-TooLarge.ensures.imported in
+    ran_on_both refl refl refl refl refl refl (
       inl refl,
       larger c.args.ciff.now c.args.rule c.args.bits told is.0 c.in-Err-TooLarge.length is.1 is.2 is.3,
-      record { told = is.4; written = refl; steps = refl },
+      record { told = is.4; written = refl; left = refl; steps = refl },
     )
 
 pub returns-in-Err-WriteFault : goal.returns-in-Err-WriteFault
-returns-in-Err-WriteFault g c = λ steps.
+returns-in-Err-WriteFault g c = λ beside.
     let told = g.C.Cabinet.told c.args.files.now in
-    let is = subst (λ (f : ImportFault). Imports told (g.C.Cabinet.told c.import_file.new.files) c.args.ciff.now c.args.index.now c.args.rule c.args.bits (Err f)) c.in-Err-WriteFault.field-0-is c.in-Err-WriteFault.ensures.imported in (
+    let is = subst (λ (f : ImportFault). Imports told (g.C.Cabinet.told c.import_file.new.files) c.args.ciff.now c.args.index.now c.args.rule c.args.bits (Err f)) c.in-Err-WriteFault.field-0-is c.in-Err-WriteFault.ensures.imported in
+    ran_on_both refl refl refl refl refl refl (
       inr (refl, c.in-Err-WriteFault.ensures.write_fault (ap Err c.in-Err-WriteFault.field-0-is)),
       record {
         inputs = is.0;
-        output = made_output is.0;
         accepted = accepted c.args.ciff.now c.args.rule c.args.bits told is.0 is.1 is.2;
-        exact = refl;
-        left = record { content = is.3; text = (0, Appends-none (g.O.Sink.written c.args.out.now)); steps = omega arith; never_less = omega arith };
+        stands = inl (record { content = is.3; written = refl; steps = uncounted _ _ 0 refl });
       },
     )
 
 pub returns-in-Err-NoMemory : goal.returns-in-Err-NoMemory
-returns-in-Err-NoMemory g c = λ steps.
+returns-in-Err-NoMemory g c = λ beside.
     let told = g.C.Cabinet.told c.args.files.now in let now = g.C.Cabinet.told c.import_file.new.files in
     let is = subst (λ (f : ImportFault). Imports told now c.args.ciff.now c.args.index.now c.args.rule c.args.bits (Err f)) c.in-Err-NoMemory.field-0-is c.in-Err-NoMemory.ensures.imported in
-    stands c.args.ciff.now c.args.rule c.args.bits c.args.index.now
-    (outer g.C.Cabinet g.O.Sink c.args.files.now c.args.out.now steps) (outer g.C.Cabinet g.O.Sink c.import_file.new.files c.args.out.now steps) refl refl is
+    ran_on_both refl refl refl refl refl refl (stands c.args.ciff.now c.args.rule c.args.bits c.args.index.now
+    (with_output g.O.Sink c.args.out.now (with_files g.C.Cabinet c.args.files.now beside)) (with_output g.O.Sink c.args.out.now (with_files g.C.Cabinet c.import_file.new.files beside)) refl refl refl is)
 
 pub returns-in-Ok-put_totals : goal.returns-in-Ok-put_totals
-returns-in-Ok-put_totals g c = λ steps.
+returns-in-Ok-put_totals g c = λ beside.
     let is = c.in-Ok.ensures.imported in
-    record {
+    ran_on_both refl refl refl refl refl c.in-Ok-put_totals.ensures.rest_stays (record {
       inputs = is.0;
+      input = [];
       output = made_output is.0;
       accepted = accepted c.args.ciff.now c.args.rule c.args.bits (g.C.Cabinet.told c.args.files.now) is.0 is.1 is.3;
+      had = λ feeds. cc;
       exact = refl;
       left = record {
         content = is.2;
         text = subst (λ (t : Totals). Appends (g.O.Sink.written c.args.out.now) (g.O.Sink.written c.put_totals.new.out) (totals_line t)) is.4 c.in-Ok-put_totals.ensures.bytes;
         steps = omega arith;
       };
-    }
+    })
 
 pub returns-in-Err : goal.returns-in-Err
-returns-in-Err g c = λ steps.
-    let is = c.in-Ok.ensures.imported in (
+returns-in-Err g c = λ beside.
+    let is = c.in-Ok.ensures.imported in
+    ran_on_both refl refl refl refl refl c.in-Err.ensures.rest_stays (
       inl (refl, refl, c.in-Err.ensures.cause.failed),
       record {
         inputs = is.0;
-        output = made_output is.0;
         accepted = accepted c.args.ciff.now c.args.rule c.args.bits (g.C.Cabinet.told c.args.files.now) is.0 is.1 is.3;
-        exact = refl;
-        left = record {
-          content = whole_front (g.C.Cabinet.told c.args.files.now) (g.C.Cabinet.told c.import_file.new.files) c.args.index.now (index_text is.0) is.2;
+        stands = inr (record {
+          content = is.2;
           text = subst (λ (t : Totals). AppendsPrefix (g.O.Sink.written c.args.out.now) (g.O.Sink.written c.put_totals.new.out) (totals_line t)) is.4 c.in-Err.ensures.bytes;
-          steps = omega arith;
-          never_less = omega arith;
-        };
+          steps = uncounted _ _ 0 refl;
+        });
       },
     )

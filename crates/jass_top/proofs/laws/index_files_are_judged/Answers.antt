@@ -1,5 +1,5 @@
 use Rattle.index_layout.specs.View.{file_bytes}
-use Rattle.jass_top.proofs.JudgedFiles.{index_found, old_found, index_only, old_only, index_told, old_told}
+use Rattle.jass_top.proofs.JudgedFiles.{index_found, old_found, index_only, old_only, index_told, old_told, index_missed, old_missed, index_refused, old_refused}
 use Rattle.jass_top.proofs.laws.index_files_are_judged.Goals as goal
 
 pub returns-clause-found : goal.returns-clause-found
@@ -23,3 +23,15 @@ returns-clause-told c = index_told
 
 pub returns-clause-told_old : goal.returns-clause-told_old
 returns-clause-told_old c = old_told
+
+pub returns-clause-missing : goal.returns-clause-missing
+returns-clause-missing c = index_missed
+
+pub returns-clause-missing_old : goal.returns-clause-missing_old
+returns-clause-missing_old c = old_missed
+
+pub returns-clause-refused : goal.returns-clause-refused
+returns-clause-refused c = index_refused
+
+pub returns-clause-refused_old : goal.returns-clause-refused_old
+returns-clause-refused_old c = old_refused

@@ -1,39 +1,27 @@
-use Rattle.shared_lemmas.proofs.Common.{◌≡◌, ℕ, ◌<◌, List, map, Ok, Err, refl, ap, sym, subst, ◌∙◌, inl, All, AllByRecursion, length-map}
-use Rattle.jass_top.proofs.Below.{QueryTerm, Query, texts_of, TermData, QueryFault, read_query_file}
-use Rattle.query_reader.specs.Queries.{QueryData, query_data}
-use Rattle.query_reader.specs.Refusals.{Fails}
-use Rattle.jass_top.specs.declared.stop.Place.TheVariants.{Line}
-use Rattle.jass_top.specs.Judging.{Accepted, Refuses, Shows}
-use Rattle.jass_top.specs.SearchMeaning.{judge_queries}
-use Rattle.jass_top.proofs.JudgedQueries.{plain_queries, shown_queries, unread_queries}
+use Rattle.std.proofs.Common.{ℕ, List, [], ◌∷◌, ◌≡◌, subst}
+use Rattle.jass_top.proofs.Below.{texts_of}
+use Rattle.jass_top.specs.Judging.{judge_content}
+use Rattle.jass_top.specs.QueryJudging.{judge_queries, without_lines}
+use Rattle.jass_top.specs.Private.Causes.{Unheld}
+use Rattle.jass_top.specs.Private.Inputs.{HasInput}
+use Rattle.jass_top.specs.Private.SearchRuns.{asked_of}
+use Rattle.jass_top.proofs.Behind.{unread_first}
+use Rattle.jass_top.proofs.JudgedQueries.{queries_had, queries_unheld}
 use Rattle.jass_top.proofs.queries_input.open_queries.Goals as goal
 
-pub returns-in-Err-ReadFault-clause-unread : goal.returns-in-Err-ReadFault-clause-unread
-returns-in-Err-ReadFault-clause-unread g c = (
-  inl refl,
-  unread_queries (g.C.Cabinet.told c.args.files.now) c.args.name.now c.args.mode (texts_of c.args.index.now.index.terms) (g.C.Cabinet.read_faults c.args.files.now) (g.C.Cabinet.read_faults c.read_front.new.files)
-      (c.in-Err-ReadFault.ensures.fault (ap Err c.in-Err-ReadFault.field-0-is)),
-)
+pub returns-in-Err-clause-unread : goal.returns-in-Err-clause-unread
+returns-in-Err-clause-unread g c =
+    unread_first c.args.name.now [] (judge_content c.args.name.now (g.C.Cabinet.told c.args.files.now)) (judge_queries c.args.name.now c.args.mode (texts_of c.args.index.now.index.terms))
+    (g.C.Cabinet.read_faults c.args.files.now) (g.C.Cabinet.read_faults c.query_bytes.new.files) c.in-Err.stop c.in-Err.ensures.unread
 
-pub returns-in-Ok-read_queries-clause-accepted : goal.returns-in-Ok-read_queries-clause-accepted
-returns-in-Ok-read_queries-clause-accepted g c =
-    let told = g.C.Cabinet.told c.args.files.now in
+pub returns-in-Ok-queries_in-clause-accepted : goal.returns-in-Ok-queries_in-clause-accepted
+returns-in-Ok-queries_in-clause-accepted g c =
     let terms : List (List ℕ) = texts_of c.args.index.now.index.terms in
-    subst (λ queries. Shows (judge_queries c.args.name.now c.args.mode terms told) (Accepted queries)) (plain_queries c.in-Ok-read_queries.queries)
-    (shown_queries told c.args.name.now c.in-Ok.bytes c.args.mode terms (Ok (map query_data c.in-Ok-read_queries.queries)) c.in-Ok.ensures.content
-    (ap (λ (b : List ℕ). read_query_file b c.args.mode terms) (sym c.as_slice.ensures) ∙ c.in-Ok-read_queries.ensures.file))
+    queries_had (g.C.Cabinet.told c.args.files.now) c.args.name.now c.in-Ok.bytes c.args.mode terms (λ lined. without_lines lined ≡ asked_of c.in-Ok-queries_in.queries) c.in-Ok.ensures.accepted
+    (subst (λ (bytes : List ℕ). HasInput (judge_queries c.args.name.now c.args.mode terms bytes) (λ lined. without_lines lined ≡ asked_of c.in-Ok-queries_in.queries)) c.as_slice.ensures c.in-Ok-queries_in.ensures.accepted)
 
-pub returns-in-Ok-read_queries-clause-known : goal.returns-in-Ok-read_queries-clause-known
-returns-in-Ok-read_queries-clause-known g c =
-    subst (λ (n : ℕ). AllByRecursion (λ (query : Query). All (λ (named : QueryTerm). named.term < n) query.terms) c.in-Ok-read_queries.queries) (length-map c.args.index.now.index.terms (λ (t : TermData). t.term)) c.in-Ok-read_queries.ensures.known
-
-pub returns-in-Err-Refused-clause-unread : goal.returns-in-Err-Refused-clause-unread
-returns-in-Err-Refused-clause-unread g c =
-    let told = g.C.Cabinet.told c.args.files.now in
+pub returns-clause-unread : goal.returns-clause-unread
+returns-clause-unread g c =
     let terms : List (List ℕ) = texts_of c.args.index.now.index.terms in
-    let read : read_query_file c.as_slice.result.now c.args.mode terms ≡ Err c.in-Err-Refused.refusal
-    = subst (λ (f : QueryFault). Fails {Y = List QueryData} f (read_query_file c.as_slice.result.now c.args.mode terms)) c.in-Err-Refused.field-0-is c.in-Err-Refused.ensures.file in (
-      inl refl,
-      subst (λ n. Shows (judge_queries c.args.name.now c.args.mode terms told) (Refuses c.args.name.now n (Line c.in-Err-Refused.refusal.line))) (sym c.number.ensures)
-          (shown_queries told c.args.name.now c.in-Ok.bytes c.args.mode terms (Err c.in-Err-Refused.refusal) c.in-Ok.ensures.content (ap (λ (b : List ℕ). read_query_file b c.args.mode terms) (sym c.as_slice.ensures) ∙ read)),
-    )
+    queries_unheld (g.C.Cabinet.told c.args.files.now) c.args.name.now c.in-Ok.bytes c.args.mode terms (g.C.Cabinet.read_faults c.args.files.now) (g.C.Cabinet.read_faults c.query_bytes.new.files) c.in-Err-queries_in.stop
+    c.in-Ok.ensures.accepted (subst (λ (bytes : List ℕ). Unheld (c.args.name.now ∷ []) (judge_queries c.args.name.now c.args.mode terms bytes) c.in-Err-queries_in.stop) c.as_slice.ensures c.in-Err-queries_in.ensures.unheld)

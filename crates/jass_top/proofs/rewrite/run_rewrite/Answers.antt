@@ -1,46 +1,47 @@
 use Rattle.std.proofs.Common.{[], Some, refl, subst, inr, arith}
 use Rattle.jass_top.proofs.Below.{canonical_ciff, collection_data, Appends-none, Rose-earlier}
-use Rattle.jass_top.specs.RewriteMeaning.{rewrite_meaning}
+use Rattle.jass_top.specs.RewriteMeaning.{rewrite_meaning, rewritten}
 use Rattle.jass_top.specs.Standing.{LeavesFile, LeavesFront}
 use Rattle.jass_top.specs.Private.Worlds.{with_files}
-use Rattle.jass_top.proofs.Stopping.{stopped_unread}
+use Rattle.jass_top.proofs.Stopping.{ran_on_files, stopped_unread, uncounted}
 use Rattle.jass_top.proofs.rewrite.run_rewrite.Goals as goal
 
 pub returns-in-Err : goal.returns-in-Err
 returns-in-Err g c = λ beside.
-    stopped_unread (rewrite_meaning c.args.from.now c.args.to.now) (with_files g.C.Cabinet c.args.files.now beside)
+    ran_on_files refl refl refl refl refl refl refl
+    (stopped_unread (rewrite_meaning c.args.from.now c.args.to.now) (with_files g.C.Cabinet c.args.files.now beside)
     (with_files g.C.Cabinet c.read_file.new.files beside) c.in-Err.stop refl
-    (record { told = c.in-Err.ensures.stays; written = refl; steps = refl }) c.in-Err.ensures.unread
+    (record { told = c.in-Err.ensures.stays; written = refl; left = refl; steps = refl }) c.in-Err.ensures.unread)
 
 pub returns-in-Ok-written : goal.returns-in-Ok-written
 returns-in-Ok-written g c = λ beside.
-    let text = canonical_ciff (collection_data c.in-Ok.collection) in
-    record {
-      inputs = collection_data c.in-Ok.collection;
-      output = record { content = text; text = []; steps = 0 };
+    let collection = collection_data c.in-Ok.collection in
+    ran_on_files refl refl refl refl refl refl refl (record {
+      inputs = collection;
+      input = [];
+      output = rewritten collection;
       accepted = c.in-Ok.ensures.accepted;
+      had = λ feeds. cc;
       exact = refl;
       left = record {
-        content = subst (λ told. LeavesFile (Some c.args.to.now) told (g.C.Cabinet.told c.write_file-written.new.files) text) c.in-Ok.ensures.stays c.in-Ok-written.ensures.ok;
+        content = subst (λ told. LeavesFile (Some c.args.to.now) told (g.C.Cabinet.told c.write_file-written.new.files) (canonical_ciff collection)) c.in-Ok.ensures.stays c.in-Ok-written.ensures.ok;
         text = Appends-none beside.written;
         steps = omega arith;
       };
-    }
+    })
 
 pub returns-in-Err-written : goal.returns-in-Err-written
 returns-in-Err-written g c = λ beside.
-    let text = canonical_ciff (collection_data c.in-Ok.collection) in (
+    let collection = collection_data c.in-Ok.collection in
+    ran_on_files refl refl refl refl refl refl refl (
       inr (refl, Rose-earlier (g.C.Cabinet.write_faults c.args.files.now) (g.C.Cabinet.write_faults c.read_file.new.files) (g.C.Cabinet.write_faults c.write_file-written.new.files) c.in-Ok.ensures.others c.in-Err-written.ensures.cause),
       record {
-        inputs = collection_data c.in-Ok.collection;
-        output = record { content = text; text = []; steps = 0 };
+        inputs = collection;
         accepted = c.in-Ok.ensures.accepted;
-        exact = refl;
-        left = record {
-          content = subst (λ told. LeavesFront (Some c.args.to.now) told (g.C.Cabinet.told c.write_file-written.new.files) text) c.in-Ok.ensures.stays c.in-Err-written.ensures.err;
-          text = (0, Appends-none beside.written);
-          steps = omega arith;
-          never_less = omega arith;
+        stands = record {
+          content = subst (λ told. LeavesFront (Some c.args.to.now) told (g.C.Cabinet.told c.write_file-written.new.files) (canonical_ciff collection)) c.in-Ok.ensures.stays c.in-Err-written.ensures.err;
+          written = refl;
+          steps = uncounted _ _ 0 refl;
         };
       },
     )

@@ -1,57 +1,58 @@
-use Rattle.std.proofs.Common.{refl, ap, subst, inl, inr, ◌∙◌}
+use Rattle.std.proofs.Common.{[], refl, ap, subst, inl, inr, ◌∙◌}
 use Rattle.jass_top.proofs.Below.{Sets, Rose-earlier}
 use Rattle.jass_top.specs.declared.search_stop.SearchStop.TheVariants.{Unwritten}
-use Rattle.jass_top.specs.SearchTexts.{search_output}
+use Rattle.jass_top.specs.SearchTexts.{budgets_output}
 use Rattle.jass_top.specs.Private.SearchRuns.{asked_of}
-use Rattle.jass_top.specs.SearchMeaning.{Search}
-use Rattle.jass_top.specs.Worlds.{outer}
-use Rattle.jass_top.proofs.Searched.{part_left}
+use Rattle.jass_top.specs.Private.Worlds.{with_files, with_output, with_steps}
+use Rattle.jass_top.proofs.Searched.{exact_for, part_left}
+use Rattle.jass_top.proofs.Stopping.{ran_on_both}
 use Rattle.jass_top.proofs.search.run_search.Goals as goal
 
 pub returns-in-Ok : goal.returns-in-Ok
-returns-in-Ok g c =
-    let search : Search = record { k = c.args.k; budgets = c.args.budgets.now; tag = c.args.tag.now } in
-    let file = c.in_ok-file.file in let asked = asked_of c.in_ok-file.asked in let output = search_output file search asked in
-    record {
-      inputs = record { file = file; queries = asked };
+returns-in-Ok g c = λ beside.
+    let file = c.in_ok-file.file in let asked = asked_of c.in_ok-file.found in
+    let output = budgets_output file c.args.asked.k c.args.budgets.now c.args.asked.tag.now asked in
+    ran_on_both refl refl refl refl refl c.in-Ok.ensures.out.rest_stays (record {
+      inputs = c.in_ok-file.ensures.accepted.input;
+      input = [];
       output = output;
-      accepted = c.in_ok-file.ensures.accepted;
-      exact = c.a_search_leaves_its_output.ensures file search asked c.in_ok-file.ensures.view;
+      accepted = c.in_ok-file.ensures.accepted.accepted;
+      had = λ feeds. cc;
+      exact = exact_for c.a_search_leaves_its_output.ensures.within_budgets file c.args.asked.k c.args.budgets.now c.args.asked.tag.now asked c.in_ok-file.ensures.accepted.input c.in_ok-file.ensures.view c.in_ok-file.ensures.accepted.holds;
       left = record {
         content = subst (λ told. Sets told (g.C.Cabinet.told c.write_search.new.files) c.args.run.now output.content) c.in_ok-file.ensures.stays c.in-Ok.ensures.run.content;
         text = c.in-Ok.ensures.out.bytes;
         steps = c.in-Ok.ensures.steps;
       };
-    }
+    })
 
 pub returns-in-Err-NoMemory : goal.returns-in-Err-NoMemory
-returns-in-Err-NoMemory g c =
-    inr (inr (
-      refl,
-      part_left c.a_search_leaves_its_output.ensures c.args.index.now c.args.queries.now c.args.run.now (record { k = c.args.k; budgets = c.args.budgets.now; tag = c.args.tag.now }) c.args.mode
-          c.in_ok-file.file (asked_of c.in_ok-file.asked) (g.C.Cabinet.told c.open_search.new.files)
-          (outer g.C.Cabinet g.O.Sink c.args.files.now c.args.out.now c.args.steps.now) (outer g.C.Cabinet g.O.Sink c.write_search.new.files c.write_search.new.out c.write_search.new.steps)
-          c.in_ok-file.ensures.view c.in_ok-file.ensures.stays c.in_ok-file.ensures.accepted c.in-Err-NoMemory.ensures.run.content c.in-Err-NoMemory.ensures.out.bytes c.in-Err-NoMemory.ensures.steps,
+returns-in-Err-NoMemory g c = λ beside.
+    ran_on_both refl refl refl refl refl c.in-Err-NoMemory.ensures.out.rest_stays (inr (
+    part_left c.a_search_leaves_its_output.ensures.within_budgets c.args.index.now c.args.queries.now c.args.run.now c.args.asked.k c.args.budgets.now c.args.asked.tag.now c.args.asked.mode
+    c.in_ok-file.file (asked_of c.in_ok-file.found) (g.C.Cabinet.told c.open_search.new.files)
+    (with_output g.O.Sink c.args.out.now (with_files g.C.Cabinet c.args.files.now (with_steps c.args.steps.now beside))) (with_output g.O.Sink c.write_search.new.out (with_files g.C.Cabinet c.write_search.new.files (with_steps c.write_search.new.steps beside)))
+    c.in_ok-file.ensures.view c.in_ok-file.ensures.stays c.in_ok-file.ensures.accepted c.in-Err-NoMemory.ensures.run.content c.in-Err-NoMemory.ensures.out.bytes c.in-Err-NoMemory.ensures.steps
     ))
 
 pub returns-in-Err-Unwritten-Run : goal.returns-in-Err-Unwritten-Run
-returns-in-Err-Unwritten-Run g c = (
+returns-in-Err-Unwritten-Run g c = λ beside. ran_on_both refl refl refl refl refl c.in-Err-Unwritten-Run.ensures.out.rest_stays (
   inr (
     refl,
     Rose-earlier (g.C.Cabinet.write_faults c.args.files.now) (g.C.Cabinet.write_faults c.open_search.new.files) (g.C.Cabinet.write_faults c.write_search.new.files) c.in_ok-file.ensures.others
         (c.in-Err-Unwritten-Run.ensures.run.failed (c.in-Err-Unwritten-Run.field-0-is ∙ ap Unwritten c.in-Err-Unwritten-Run.field-0-0-is)),
   ),
-  part_left c.a_search_leaves_its_output.ensures c.args.index.now c.args.queries.now c.args.run.now (record { k = c.args.k; budgets = c.args.budgets.now; tag = c.args.tag.now }) c.args.mode
-      c.in_ok-file.file (asked_of c.in_ok-file.asked) (g.C.Cabinet.told c.open_search.new.files)
-      (outer g.C.Cabinet g.O.Sink c.args.files.now c.args.out.now c.args.steps.now) (outer g.C.Cabinet g.O.Sink c.write_search.new.files c.write_search.new.out c.write_search.new.steps)
+  part_left c.a_search_leaves_its_output.ensures.within_budgets c.args.index.now c.args.queries.now c.args.run.now c.args.asked.k c.args.budgets.now c.args.asked.tag.now c.args.asked.mode
+      c.in_ok-file.file (asked_of c.in_ok-file.found) (g.C.Cabinet.told c.open_search.new.files)
+      (with_output g.O.Sink c.args.out.now (with_files g.C.Cabinet c.args.files.now (with_steps c.args.steps.now beside))) (with_output g.O.Sink c.write_search.new.out (with_files g.C.Cabinet c.write_search.new.files (with_steps c.write_search.new.steps beside)))
       c.in_ok-file.ensures.view c.in_ok-file.ensures.stays c.in_ok-file.ensures.accepted c.in-Err-Unwritten-Run.ensures.run.content c.in-Err-Unwritten-Run.ensures.out.bytes c.in-Err-Unwritten-Run.ensures.steps,
 )
 
 pub returns-in-Err-Unwritten-Reports : goal.returns-in-Err-Unwritten-Reports
-returns-in-Err-Unwritten-Reports g c = (
+returns-in-Err-Unwritten-Reports g c = λ beside. ran_on_both refl refl refl refl refl c.in-Err-Unwritten-Reports.ensures.out.rest_stays (
   inl (refl, refl, c.in-Err-Unwritten-Reports.ensures.out.failed (c.in-Err-Unwritten-Reports.field-0-is ∙ ap Unwritten c.in-Err-Unwritten-Reports.field-0-0-is)),
-  part_left c.a_search_leaves_its_output.ensures c.args.index.now c.args.queries.now c.args.run.now (record { k = c.args.k; budgets = c.args.budgets.now; tag = c.args.tag.now }) c.args.mode
-      c.in_ok-file.file (asked_of c.in_ok-file.asked) (g.C.Cabinet.told c.open_search.new.files)
-      (outer g.C.Cabinet g.O.Sink c.args.files.now c.args.out.now c.args.steps.now) (outer g.C.Cabinet g.O.Sink c.write_search.new.files c.write_search.new.out c.write_search.new.steps)
+  part_left c.a_search_leaves_its_output.ensures.within_budgets c.args.index.now c.args.queries.now c.args.run.now c.args.asked.k c.args.budgets.now c.args.asked.tag.now c.args.asked.mode
+      c.in_ok-file.file (asked_of c.in_ok-file.found) (g.C.Cabinet.told c.open_search.new.files)
+      (with_output g.O.Sink c.args.out.now (with_files g.C.Cabinet c.args.files.now (with_steps c.args.steps.now beside))) (with_output g.O.Sink c.write_search.new.out (with_files g.C.Cabinet c.write_search.new.files (with_steps c.write_search.new.steps beside)))
       c.in_ok-file.ensures.view c.in_ok-file.ensures.stays c.in_ok-file.ensures.accepted c.in-Err-Unwritten-Reports.ensures.run.content c.in-Err-Unwritten-Reports.ensures.out.bytes c.in-Err-Unwritten-Reports.ensures.steps,
 )

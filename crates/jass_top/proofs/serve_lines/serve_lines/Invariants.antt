@@ -1,5 +1,5 @@
 use Rattle.std.proofs.Common.{◌≡◌, ◌≤◌, []}
-use Rattle.jass_top.proofs.ServedLines.{Serving}
+use Rattle.jass_top.proofs.ServedLines.{ServingPiece}
 use Rattle.jass_top.proofs.serve_lines.serve_lines.Given as goal
 
 abbrev pub invariant-pieces : goal.invariant-pieces
@@ -7,7 +7,7 @@ invariant-pieces g l = record {
   file : l.desk.file ≡ l.fn.desk.file;
   empty : l.buffer ≡ [];
   later : g.I.Feed.faults l.fn.input ≤ g.I.Feed.faults l.input;
-  serving : Serving g.O.Sink.written g.O.Sink.faults g.O.Sink.rest l.fn.out l.out l.fn.desk.file l.fn.desk.state.frames (g.I.Feed.left l.fn.input) (g.I.Feed.left l.input) l.fn.steps l.steps l.lines l.desk.state;
+  serving : ServingPiece g.O.Sink.written g.O.Sink.faults g.O.Sink.rest l.fn.out l.out l.fn.desk.file l.fn.desk.state.frames (g.I.Feed.left l.fn.input) (g.I.Feed.left l.input) l.fn.steps l.steps l.lines l.desk.state;
 }
 
 abbrev pub decreases-pieces : goal.decreases-pieces
