@@ -40,4 +40,14 @@ pub trait Cabinet {
         ensures content { Appended (told self.old) (told self.new) name.now bytes.now result }
         ensures cause { HasCause (write_faults self.old) (write_faults self.new) result }
         ensures others { read_faults self.old ≤ read_faults self.new };
+
+    /// Ends the writing of a name, behind its last `append`: a cabinet that holds back what is
+    /// written until then puts it in place. Contents stay as they are, also after a failure.
+    fn finish(&mut self, _name: &str) -> Result<(), Failed>
+        ensures stays { told self.new ≡ told self.old }
+        ensures cause { HasCause (write_faults self.old) (write_faults self.new) result }
+        ensures others { read_faults self.old ≤ read_faults self.new }
+    {
+        Ok(())
+    }
 }

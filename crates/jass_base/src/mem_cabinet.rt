@@ -18,7 +18,8 @@ use std::alloc::Global;
 use std::collections::BTreeMap;
 
 /// A cabinet in memory, some of whose calls fail. A refused growth inside `create` or
-/// `append` counts as a write fault.
+/// `append` counts as a write fault. What is written stands at once, so that `finish` changes
+/// no content.
 #[derive(Debug, Drop)]
 pub struct MemCabinet {
     alloc: Global,
@@ -33,7 +34,7 @@ pub struct MemCabinet {
 
 impl MemCabinet {
     /// The lists name the calls that fail, counted from 0: the reads, and the calls of
-    /// `create` and `append` together.
+    /// `create`, `append` and `finish` together.
     pub fn new(alloc: Global, bad_reads: Row<u64>, bad_writes: Row<u64>) -> MemCabinet
         ensures told { ⟦<MemCabinet as Cabinet>⟧.told result ≡ Some empty }
         ensures read_faults { ⟦<MemCabinet as Cabinet>⟧.read_faults result ≡ 0 }
@@ -78,7 +79,7 @@ impl MemCabinet {
         content_of(&self.files, name)
     }
 
-    /// Counts a call of `create` or `append`, and answers whether it is to fail.
+    /// Counts a call of `create`, `append` or `finish`, and answers whether it is to fail.
     fn fails_to_write(&mut self) -> bool
         ensures told { ⟦<MemCabinet as Cabinet>⟧.told self.new ≡ ⟦<MemCabinet as Cabinet>⟧.told self.old }
         ensures reads { ⟦<MemCabinet as Cabinet>⟧.read_faults self.new
@@ -257,5 +258,22 @@ impl Cabinet for MemCabinet {
                 Err(Failed)
             }
         }
+    }
+
+    fn finish(&mut self, _name: &str) -> Result<(), Failed>
+        ensures stays { ⟦<MemCabinet as Cabinet>⟧.told self.new ≡ ⟦<MemCabinet as Cabinet>⟧.told self.old }
+        ensures cause { HasCause (⟦<MemCabinet as Cabinet>⟧.write_faults self.old)
+            (⟦<MemCabinet as Cabinet>⟧.write_faults self.new) result }
+        ensures others { ⟦<MemCabinet as Cabinet>⟧.read_faults self.old
+            ≤ ⟦<MemCabinet as Cabinet>⟧.read_faults self.new }
+        ensures named { IsErr result ↔ FailsNext (⟦<MemCabinet as Scripted>⟧.writes self.old) }
+        ensures next { ⟦<MemCabinet as Scripted>⟧.writes self.new
+            ≡ called (⟦<MemCabinet as Scripted>⟧.writes self.old) }
+        ensures script_stays { ⟦<MemCabinet as Scripted>⟧.reads self.new ≡ ⟦<MemCabinet as Scripted>⟧.reads self.old }
+    {
+        if self.fails_to_write() {
+            return Err(Failed);
+        }
+        Ok(())
     }
 }
