@@ -2,13 +2,17 @@
 # Wrong bodies beside those of the gate: trials/wrong_bodies/CRATE/*.edit, in the form of must-fail edits. Each has to be refused
 # by the check of CRATE; or, where its first line is '# refused by tests: NAME' or '# refused by run: NAME', by the tests of the
 # crate NAME or by its stored run. They are tried in a clone of the last commit: what isn't committed isn't tried.
-# Run it before a change is handed in: trials/wrong_bodies.sh [CRATE..], or of all crates that have edits here.
+# Run it before a change is handed in: trials/wrong_bodies.sh [CRATE..], or of all crates that have edits here. What the checkout
+# has built is taken over; rt proves a crate anew where a text of it, or of one below it, differs.
 set -euo pipefail
 top=$(git -C "$(dirname "$0")" rev-parse --show-toplevel)
 room=$(mktemp -d)
 trap 'rm -rf "$room"' EXIT
 git clone -q "$top" "$room/jass"
 cd "$room/jass"
+for built in "$top"/crates/*/out/rlib; do
+    [ ! -d "$built" ] || (mkdir -p "crates${built#"$top/crates"}" && cp -a "$built/." "crates${built#"$top/crates"}")
+done
 if [ $# = 0 ]; then
     for folder in trials/wrong_bodies/*/; do
         set -- "$@" "$(basename "$folder")"
