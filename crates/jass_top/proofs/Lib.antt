@@ -5,6 +5,7 @@ pub mod Behind
 pub mod EndingCauses
 pub mod Endings
 pub mod Exported
+pub mod Finished
 pub mod Judged
 pub mod JudgedFiles
 pub mod JudgedQueries

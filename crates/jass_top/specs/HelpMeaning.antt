@@ -16,7 +16,7 @@ abbrev pub row_text : Name → List ℕ
 row_text name = word_of name ++ (form_text (form_of name) ++ (codes "\n    " ++ (does_of name ++ codes "\n")))
 
 abbrev pub commands_text : List ℕ
-commands_text = codes "commands:\n" ++ flat_map row_text all_names
+commands_text = codes "commands, with * behind the file that is written:\n" ++ flat_map row_text all_names
 
 abbrev pub statuses_text : List ℕ
 statuses_text =

@@ -1,3 +1,4 @@
+ghost use Rattle.std.specs.Prelude.{◌≤◌};
 ghost use Rattle.jass_top.specs.CheckMeaning.{check_meaning};
 ghost use Rattle.jass_top.specs.Private.Causes.{Runs};
 ghost use Rattle.jass_top.specs.Private.Worlds.{with_files, with_output};
@@ -16,9 +17,10 @@ pub fn run_check<'a, C: Cabinet, O: Sink>(
     files: &mut C,
     out: &mut O,
 ) -> Result<(), Stop<'a>>
-    ensures { (beside : Outer) → Runs (check_meaning index.now)
+    ensures runs { (beside : Outer) → Runs (check_meaning index.now)
         (with_output O.Sink out.old (with_files C.Cabinet files.old beside))
         (with_output O.Sink out.new (with_files C.Cabinet files.new beside)) result }
+    ensures later { C.write_faults files.old ≤ C.write_faults files.new }
 {
     let totals = check_index(alloc, files, index)?;
     match put_totals(out, totals) {

@@ -1,7 +1,7 @@
 ghost use Rattle.std.specs.Prelude.{◌≡◌, Some, OnOk, OnErr};
 ghost use Rattle.jass_base.specs.CiffText.{canonical_ciff};
 ghost use Rattle.jass_base.specs.CiffViews.{collection_data};
-ghost use Rattle.jass_base.specs.Outside.{Rose, Sets, Puts, HasCause, content_there, others_told};
+ghost use Rattle.jass_base.specs.Outside.{Sets, Puts, HasCause, content_there, others_told};
 ghost use Rattle.jass_top.specs.Standing.{LeavesFront};
 
 use ciff_write::write_collection;
@@ -17,7 +17,7 @@ pub fn write_file<C: Cabinet>(
         (canonical_ciff (collection_data collection.now))) }
     ensures err { OnErr result (LeavesFront (Some name.now) (C.told files.old) (C.told files.new)
         (canonical_ciff (collection_data collection.now))) }
-    ensures cause { OnErr result (Rose (C.write_faults files.old) (C.write_faults files.new)) }
+    ensures cause { HasCause (C.write_faults files.old) (C.write_faults files.new) result }
 {
     match files.create(name) {
         Ok(()) => {}

@@ -1,3 +1,5 @@
+ghost use Rattle.std.specs.Prelude.{◌≡◌, ◌≤◌};
+ghost use Rattle.std.specs.Option.{option_map};
 ghost use Rattle.jass_words.specs.Commands.{command_data};
 ghost use Rattle.jass_top.specs.Commands.{meaning_of};
 ghost use Rattle.jass_top.specs.Private.Causes.{Runs};
@@ -20,7 +22,7 @@ use jass_words::Command;
 use std::alloc::Global;
 use std::sync::ledger::Ledger;
 
-/// Runs a command.
+/// Runs a command, and ends the writing of its file behind all that it writes and prints.
 pub fn run_command<'a, C: Cabinet, I: Feed, O: Sink, L: Ledger>(
     alloc: Global,
     command: Command<'a>,
@@ -32,6 +34,48 @@ pub fn run_command<'a, C: Cabinet, I: Feed, O: Sink, L: Ledger>(
     ensures { Runs (meaning_of (command_data command.entry))
         (outer C.Cabinet I.Feed O.Sink files.old input.old out.old steps.old)
         (outer C.Cabinet I.Feed O.Sink files.new input.new out.new steps.new) result }
+{
+    let file = written_by(command);
+    match do_command(alloc, command, files, input, out, steps) {
+        Ok(()) => {}
+        Err(stop) => return Err(stop),
+    }
+    let Some(name) = file else {
+        return Ok(());
+    };
+    match files.finish(name) {
+        Ok(()) => Ok(()),
+        Err(_) => Err(Stop::WriteFault { name }),
+    }
+}
+
+/// The file that a command writes.
+fn written_by<'a>(command: Command<'a>) -> Option<&'a str>
+    ensures { option_map (λ name. name.now) result ≡ (meaning_of (command_data command.entry)).file }
+{
+    match command {
+        Command::Rewrite { from: _, to } => Some(to),
+        Command::Import(import) => Some(import.index),
+        Command::Export { index: _, ciff } => Some(ciff),
+        Command::Migrate { from: _, to } => Some(to),
+        Command::Search { run, .. } => Some(run),
+        _ => None,
+    }
+}
+
+/// Runs a command, but for the end of what it writes.
+fn do_command<'a, C: Cabinet, I: Feed, O: Sink, L: Ledger>(
+    alloc: Global,
+    command: Command<'a>,
+    files: &mut C,
+    input: &mut I,
+    out: &mut O,
+    steps: &mut Steps<L>,
+) -> Result<(), Stop<'a>>
+    ensures runs { Runs (meaning_of (command_data command.entry))
+        (outer C.Cabinet I.Feed O.Sink files.old input.old out.old steps.old)
+        (outer C.Cabinet I.Feed O.Sink files.new input.new out.new steps.new) result }
+    ensures later { C.write_faults files.old ≤ C.write_faults files.new }
 {
     match command {
         Command::Once(once) => run_once(alloc, once, files, out, steps),

@@ -1,3 +1,4 @@
+ghost use Rattle.std.specs.Prelude.{◌≤◌};
 ghost use Rattle.jass_top.specs.Private.Causes.{Runs};
 ghost use Rattle.jass_top.specs.ExportMeaning.{export_meaning};
 ghost use Rattle.jass_top.specs.Worlds.{Outer};
@@ -19,9 +20,10 @@ pub fn run_export<'a, C: Cabinet, L: Ledger>(
     files: &mut C,
     steps: &mut Steps<L>,
 ) -> Result<(), Stop<'a>>
-    ensures { (beside : Outer) → Runs (export_meaning index.now ciff.now)
+    ensures runs { (beside : Outer) → Runs (export_meaning index.now ciff.now)
         (with_files C.Cabinet files.old (with_steps steps.old beside))
         (with_files C.Cabinet files.new (with_steps steps.new beside)) result }
+    ensures later { C.write_faults files.old ≤ C.write_faults files.new }
 {
     let file = match open_index(alloc, files, index) {
         Ok(file) => file,

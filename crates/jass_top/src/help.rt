@@ -44,7 +44,7 @@ fn push_commands(text: &mut Buffer)
     ensures commands { text.new ≡ commands_text }
     ensures few { length text.new ≤ 100000 }
 {
-    text.push(b"commands:\n");
+    text.push(b"commands, with * behind the file that is written:\n");
     for name in NAMES {
         push_row(text, name);
     }

@@ -33,9 +33,10 @@ pub fn run_import<'a, C: Cabinet, O: Sink>(
 ) -> Result<(), Stop<'a>>
     requires width { IsImpactWidth bits }
     requires apart { ciff.now ≢ index.now }
-    ensures { (beside : Outer) → Runs (import_meaning ciff.now index.now rule bits)
+    ensures runs { (beside : Outer) → Runs (import_meaning ciff.now index.now rule bits)
         (with_output O.Sink out.old (with_files C.Cabinet files.old beside))
         (with_output O.Sink out.new (with_files C.Cabinet files.new beside)) result }
+    ensures later { C.write_faults files.old ≤ C.write_faults files.new }
 {
     let totals = match import_file(alloc, files, ciff, index, rule, bits) {
         Ok(totals) => totals,

@@ -29,9 +29,10 @@ pub fn run_migrate<'a, C: Cabinet, O: Sink>(
     files: &mut C,
     out: &mut O,
 ) -> Result<(), Stop<'a>>
-    ensures { (beside : Outer) → Runs (migrate_meaning from.now to.now)
+    ensures runs { (beside : Outer) → Runs (migrate_meaning from.now to.now)
         (with_output O.Sink out.old (with_files C.Cabinet files.old beside))
         (with_output O.Sink out.new (with_files C.Cabinet files.new beside)) result }
+    ensures later { C.write_faults files.old ≤ C.write_faults files.new }
 {
     let index = match read_old(alloc, files, from) {
         Ok(index) => index,

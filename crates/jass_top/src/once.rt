@@ -54,9 +54,10 @@ pub fn run_once<'a, C: Cabinet, O: Sink, L: Ledger>(
     out: &mut O,
     steps: &mut Steps<L>,
 ) -> Result<(), Stop<'a>>
-    ensures { (beside : Outer) → Runs (once_meaning question.entry.ciff.now (once_of question.entry))
+    ensures runs { (beside : Outer) → Runs (once_meaning question.entry.ciff.now (once_of question.entry))
         (with_output O.Sink out.old (with_files C.Cabinet files.old (with_steps steps.old beside)))
         (with_output O.Sink out.new (with_files C.Cabinet files.new (with_steps steps.new beside))) result }
+    ensures later { C.write_faults files.old ≤ C.write_faults files.new }
 {
     let collection = read_file(alloc, files, question.ciff)?;
     ask_collection(alloc, collection, question.ciff, question, out, steps)

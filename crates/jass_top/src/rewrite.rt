@@ -1,3 +1,4 @@
+ghost use Rattle.std.specs.Prelude.{◌≤◌};
 ghost use Rattle.jass_top.specs.Private.Causes.{Runs};
 ghost use Rattle.jass_top.specs.RewriteMeaning.{rewrite_meaning};
 ghost use Rattle.jass_top.specs.Worlds.{Outer};
@@ -16,8 +17,9 @@ pub fn run_rewrite<'a, C: Cabinet>(
     to: &'a str,
     files: &mut C,
 ) -> Result<(), Stop<'a>>
-    ensures { (beside : Outer) → Runs (rewrite_meaning from.now to.now)
+    ensures runs { (beside : Outer) → Runs (rewrite_meaning from.now to.now)
         (with_files C.Cabinet files.old beside) (with_files C.Cabinet files.new beside) result }
+    ensures later { C.write_faults files.old ≤ C.write_faults files.new }
 {
     let collection = match read_file(alloc, files, from) {
         Ok(collection) => collection,

@@ -1,3 +1,4 @@
+ghost use Rattle.std.specs.Prelude.{◌≤◌};
 ghost use Rattle.index_model.specs.Views.{index_data};
 ghost use Rattle.jass_top.specs.Private.Causes.{Runs};
 ghost use Rattle.jass_top.specs.Private.HeldIndexes.{saving_meaning};
@@ -22,9 +23,10 @@ pub fn save_index<'a, C: Cabinet, O: Sink>(
     files: &mut C,
     out: &mut O,
 ) -> Result<(), Stop<'a>>
-    ensures { (beside : Outer) → Runs (saving_meaning input.now file.now (index_data index.now))
+    ensures runs { (beside : Outer) → Runs (saving_meaning input.now file.now (index_data index.now))
         (with_output O.Sink out.old (with_files C.Cabinet files.old beside))
         (with_output O.Sink out.new (with_files C.Cabinet files.new beside)) result }
+    ensures later { C.write_faults files.old ≤ C.write_faults files.new }
 {
     match write_index(alloc, index, files, file) {
         Ok(()) => {}

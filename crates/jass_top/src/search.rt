@@ -38,10 +38,11 @@ pub fn run_search<'a, C: Cabinet, O: Sink, L: Ledger>(
     steps: &mut Steps<L>,
 ) -> Result<(), Stop<'a>>
     requires few_budgets { length budgets.now ≤ MOST_BUDGETS }
-    ensures { (beside : Outer) → Runs (search_meaning index.now queries.now run.now
+    ensures runs { (beside : Outer) → Runs (search_meaning index.now queries.now run.now
         (search_within asked.entry.k budgets.now asked.entry.tag.now) asked.entry.mode)
         (with_output O.Sink out.old (with_files C.Cabinet files.old (with_steps steps.old beside)))
         (with_output O.Sink out.new (with_files C.Cabinet files.new (with_steps steps.new beside))) result }
+    ensures later { C.write_faults files.old ≤ C.write_faults files.new }
 {
     a_search_leaves_its_output();
     let (file, found) = open_search(alloc, index, queries, asked.mode, files)?;

@@ -27,9 +27,10 @@ pub fn run_serve<'a, C: Cabinet, I: Feed, O: Sink, L: Ledger>(
 ) -> Result<(), Stop<'a>>
     requires some { 1 ≤ frames }
     requires few { frames ≤ MOST_FRAMES }
-    ensures { Runs (serve_meaning index.now frames)
+    ensures runs { Runs (serve_meaning index.now frames)
         (outer C.Cabinet I.Feed O.Sink files.old input.old out.old steps.old)
         (outer C.Cabinet I.Feed O.Sink files.new input.new out.new steps.new) result }
+    ensures later { C.write_faults files.old ≤ C.write_faults files.new }
 {
     let file = match open_index(alloc, files, index) {
         Ok(file) => file,

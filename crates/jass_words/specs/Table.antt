@@ -26,15 +26,15 @@ word_of names.Trial = codes "trial"
 word_of names.Help = codes "--help"
 word_of names.Version = codes "--version"
 
--- the words behind it, as they are shown
+-- the words behind it, as they are shown; * marks the file that is written
 abbrev pub form_of : Name → List ℕ
 form_of names.Once = codes "CIFF K BUDGET TERM.."
-form_of names.Rewrite = codes "FROM TO"
-form_of names.Import = codes "CIFF INDEX [weights=tf|bm25] [bits=raw|1..16]"
+form_of names.Rewrite = codes "FROM TO*"
+form_of names.Import = codes "CIFF INDEX* [weights=tf|bm25] [bits=raw|1..16]"
 form_of names.Check = codes "INDEX"
-form_of names.Export = codes "INDEX CIFF"
-form_of names.Migrate = codes "OLD NEW"
-form_of names.Search = codes "INDEX QUERIES RUN [k=K] [budget=B,..] [tag=TAG] [mode=plain|folded]"
+form_of names.Export = codes "INDEX CIFF*"
+form_of names.Migrate = codes "OLD NEW*"
+form_of names.Search = codes "INDEX QUERIES RUN* [k=K] [budget=B,..] [tag=TAG] [mode=plain|folded]"
 form_of names.Serve = codes "INDEX frames=N"
 form_of names.Trial = codes "SEED DOCS TERMS QUERIES"
 form_of names.Help = []

@@ -38,7 +38,8 @@ pub const NAMES: [Name; 11] = [
 pub struct Row {
     /// The first word.
     pub word: &'static str,
-    /// The words behind it, as they are shown; empty where there are none.
+    /// The words behind it, as they are shown, with a `*` behind the file that is written; empty
+    /// where there are none.
     pub form: &'static str,
     /// What it does.
     pub does: &'static str,
@@ -60,12 +61,12 @@ impl Name {
             },
             Name::Rewrite => Row {
                 word: "rewrite",
-                form: "FROM TO",
+                form: "FROM TO*",
                 does: "write a CIFF file in the canonical spelling",
             },
             Name::Import => Row {
                 word: "import",
-                form: "CIFF INDEX [weights=tf|bm25] [bits=raw|1..16]",
+                form: "CIFF INDEX* [weights=tf|bm25] [bits=raw|1..16]",
                 does: "make an index file of a CIFF file",
             },
             Name::Check => Row {
@@ -75,17 +76,17 @@ impl Name {
             },
             Name::Export => Row {
                 word: "export",
-                form: "INDEX CIFF",
+                form: "INDEX CIFF*",
                 does: "write a CIFF file with the impacts as frequencies",
             },
             Name::Migrate => Row {
                 word: "migrate",
-                form: "OLD NEW",
+                form: "OLD NEW*",
                 does: "write an index file of version 1 in version 2",
             },
             Name::Search => Row {
                 word: "search",
-                form: "INDEX QUERIES RUN [k=K] [budget=B,..] [tag=TAG] [mode=plain|folded]",
+                form: "INDEX QUERIES RUN* [k=K] [budget=B,..] [tag=TAG] [mode=plain|folded]",
                 does: "answer the queries of a file",
             },
             Name::Serve => Row {

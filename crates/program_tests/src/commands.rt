@@ -65,20 +65,20 @@ const LEVEL_AT_LAST: [u8; 68] = [
 
 /// What `--help` prints.
 const HELP: &[u8] = b"\
-commands:\n\
+commands, with * behind the file that is written:\n\
 once CIFF K BUDGET TERM..\n\
 \x20   answer a query over a CIFF file\n\
-rewrite FROM TO\n\
+rewrite FROM TO*\n\
 \x20   write a CIFF file in the canonical spelling\n\
-import CIFF INDEX [weights=tf|bm25] [bits=raw|1..16]\n\
+import CIFF INDEX* [weights=tf|bm25] [bits=raw|1..16]\n\
 \x20   make an index file of a CIFF file\n\
 check INDEX\n\
 \x20   check an index file, and print its totals\n\
-export INDEX CIFF\n\
+export INDEX CIFF*\n\
 \x20   write a CIFF file with the impacts as frequencies\n\
-migrate OLD NEW\n\
+migrate OLD NEW*\n\
 \x20   write an index file of version 1 in version 2\n\
-search INDEX QUERIES RUN [k=K] [budget=B,..] [tag=TAG] [mode=plain|folded]\n\
+search INDEX QUERIES RUN* [k=K] [budget=B,..] [tag=TAG] [mode=plain|folded]\n\
 \x20   answer the queries of a file\n\
 serve INDEX frames=N\n\
 \x20   answer the lines of the input at a desk over an index file\n\

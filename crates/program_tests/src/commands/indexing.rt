@@ -269,11 +269,24 @@ fn has_front(left: &Made, call: Call, number: u64, text: Option<&[u8]>) -> bool 
     left.content.as_slice() == OLD || is_begun && is_front
 }
 
+/// Whether a run has written and printed all, so that only the end of its writing can have failed.
+fn is_whole(made: &Made, words: &str, text: Option<&[u8]>) -> bool {
+    let printed = if words.starts_with("import") || words.starts_with("migrate") {
+        TOTALS
+    } else {
+        NOTHING
+    };
+    match text {
+        Some(text) => made.content.as_slice() == text && made.left.out.written() == printed,
+        None => false,
+    }
+}
+
 /// Whether a run that isn't done ends as told.
 fn ends_as_told(made: &Made, case: Case<'_>, number: u64) -> bool {
-    let (_, _, call, status, notes, text) = case;
+    let (_, words, call, status, notes, text) = case;
     made.left.status == status
-        && made.left.out.written().is_empty()
+        && (made.left.out.written().is_empty() || is_whole(made, words, text))
         && made.left.notes.written() == notes
         && has_front(made, call, number, text)
 }
@@ -285,17 +298,23 @@ fn ends_muted(rt: &impl Abort, alloc: Global, case: Case<'_>, number: u64, other
     is_muted(&outcome_of(rt, alloc, content, words, bad), other)
 }
 
-/// Whether each run in which one call fails ends as told, from the first call on until a run is done.
+/// Whether each run in which one call fails ends as told, from the first call on until a run is done. The last write
+/// ends the writing, behind all that is written and printed.
 fn each_ends(rt: &impl Abort, alloc: Global, case: Case<'_>) -> bool {
-    let (content, words, call, ..) = case;
+    let (content, words, call, _, _, text) = case;
+    let mut is_last = false;
     for number in 0..40 {
         let made = outcome_of(rt, alloc, content, words, only(call, number));
         if made.left.status == 0 {
-            return number > 0 && made.left.notes.written().is_empty();
+            return is_last && made.left.notes.written().is_empty();
         }
         if !ends_as_told(&made, case, number) || !ends_muted(rt, alloc, case, number, &made) {
             return false;
         }
+        is_last = match call {
+            Call::Write => is_whole(&made, words, text),
+            _ => true,
+        };
     }
     false
 }

@@ -166,17 +166,25 @@ fn ends_muted(rt: &impl Abort, alloc: Global, call: Call, number: u64, other: &M
     is_muted(&cat_dog(rt, alloc, bad), other)
 }
 
-/// Whether each search in which one call fails ends as told, from the first call on until a search is done.
+/// Whether each search in which one call fails ends as told, from the first call on until a search is done. The last
+/// write ends the writing, behind the whole run and all reports.
 fn each_search_ends(rt: &impl Abort, alloc: Global, case: Case<'_>) -> bool {
     let call = case.0;
+    let mut is_last = false;
     for number in 0..40 {
         let made = cat_dog(rt, alloc, only(call, number));
         if made.left.status == 0 {
-            return number > 0 && made.left.notes.written().is_empty();
+            return is_last && made.left.notes.written().is_empty();
         }
         if !ends_as_told(&made, case, number) || !ends_muted(rt, alloc, call, number, &made) {
             return false;
         }
+        is_last = match call {
+            Call::Write => {
+                made.content.as_slice() == CAT_DOG_RUN && made.left.out.written() == CAT_DOG_REPORTS
+            }
+            _ => true,
+        };
     }
     false
 }

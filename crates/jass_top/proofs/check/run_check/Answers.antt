@@ -5,8 +5,8 @@ use Rattle.jass_top.specs.Private.Worlds.{with_files, with_output}
 use Rattle.jass_top.proofs.Stopping.{ran_on_both, same, stopped_unread, uncounted}
 use Rattle.jass_top.proofs.check.run_check.Goals as goal
 
-pub returns-in-Ok : goal.returns-in-Ok
-returns-in-Ok g c = λ beside.
+pub returns-in-Ok-clause-runs : goal.returns-in-Ok-clause-runs
+returns-in-Ok-clause-runs g c = λ beside.
     let view = c.in_ok-totals.ensures.accepted.0 in
     ran_on_both refl refl refl refl refl c.in-Ok.ensures.rest_stays (record {
       inputs = view;
@@ -22,8 +22,8 @@ returns-in-Ok g c = λ beside.
       };
     })
 
-pub returns-in-Err : goal.returns-in-Err
-returns-in-Err g c = λ beside.
+pub returns-in-Err-clause-runs : goal.returns-in-Err-clause-runs
+returns-in-Err-clause-runs g c = λ beside.
     let view = c.in_ok-totals.ensures.accepted.0 in
     ran_on_both refl refl refl refl refl c.in-Err.ensures.rest_stays (
       inl (refl, refl, c.in-Err.ensures.cause.failed),

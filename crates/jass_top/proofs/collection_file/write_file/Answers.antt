@@ -1,5 +1,6 @@
-use Rattle.std.proofs.Common.{List, ℕ, Some, sym, subst}
-use Rattle.jass_top.proofs.Below.{canonical_ciff, collection_data, Sets, Rose, Rose-earlier}
+use Rattle.std.proofs.Common.{List, ℕ, Some, Ok, Err, sym, subst, arith}
+use Rattle.jass_top.proofs.Below.{canonical_ciff, collection_data, Sets, Rose-earlier, WriteFault}
+use Rattle.jass_base.specs.Outside.{HasCause}
 use Rattle.jass_top.specs.Standing.{LeavesFront}
 use Rattle.jass_top.proofs.MadeFiles.{made, written, written_part}
 use Rattle.jass_top.proofs.collection_file.write_file.Goals as goal
@@ -22,7 +23,15 @@ returns-in-Err-written-clause-err g c =
     (written_part (g.C.Cabinet.told c.args.files.now) (g.C.Cabinet.told c.create.new.self) (g.C.Cabinet.told c.write_behind-written.new.sink.files.now) c.args.name.now text
     c.in-Ok.ensures.content c.in-Err-written.ensures.put c.write_behind-written.ensures.others)
 
+pub returns-in-Ok-written-clause-cause : goal.returns-in-Ok-written-clause-cause
+returns-in-Ok-written-clause-cause g c =
+    subst (λ files. HasCause {T = Unit {0}} {E = WriteFault} (g.C.Cabinet.write_faults c.args.files.now) (g.C.Cabinet.write_faults files) (Ok tt)) (sym (c.files-1.given.1 (sym c.write_behind-written.ensures.same_reference)))
+    (record { later = omega (arith, c.in-Ok.ensures.cause.later, c.in-Ok-written.ensures.cause.later); failed = tt })
+
 pub returns-in-Err-written-clause-cause : goal.returns-in-Err-written-clause-cause
 returns-in-Err-written-clause-cause g c =
-    subst (λ files. Rose (g.C.Cabinet.write_faults c.args.files.now) (g.C.Cabinet.write_faults files)) (sym (c.files-1.given.1 (sym c.write_behind-written.ensures.same_reference)))
-    (Rose-earlier (g.C.Cabinet.write_faults c.args.files.now) (g.C.Cabinet.write_faults c.create.new.self) (g.C.Cabinet.write_faults c.write_behind-written.new.sink.files.now) c.in-Ok.ensures.cause.later c.in-Err-written.ensures.cause.failed)
+    subst (λ files. HasCause {T = Unit {0}} {E = WriteFault} (g.C.Cabinet.write_faults c.args.files.now) (g.C.Cabinet.write_faults files) (Err (record {}))) (sym (c.files-1.given.1 (sym c.write_behind-written.ensures.same_reference)))
+    (record {
+      later = omega (arith, c.in-Ok.ensures.cause.later, c.in-Err-written.ensures.cause.later);
+      failed = Rose-earlier (g.C.Cabinet.write_faults c.args.files.now) (g.C.Cabinet.write_faults c.create.new.self) (g.C.Cabinet.write_faults c.write_behind-written.new.sink.files.now) c.in-Ok.ensures.cause.later c.in-Err-written.ensures.cause.failed;
+    })

@@ -1,71 +1,31 @@
-use Rattle.std.proofs.Common.{◌≡◌, List, sym, subst}
-use Rattle.jass_words.specs.Grants.{granted}
-use Rattle.jass_top.proofs.Below.{Budget, Command, command_data}
+use Rattle.std.proofs.Common.{◌≡◌, Some, refl, sym, ap, ◌∙◌}
+use Rattle.std.specs.Option.{option_map}
+use Rattle.jass_top.proofs.Below.{command_data}
 use Rattle.jass_top.specs.Commands.{meaning_of}
-use Rattle.jass_top.specs.Private.Causes.{Runs}
-use Rattle.jass_top.specs.SearchMeaning.{search_meaning, search_within}
 use Rattle.jass_top.specs.Worlds.{outer}
+use Rattle.jass_top.proofs.Finished.{StandsSame, finished, taken_after, untouched_after, unwritten}
 use Rattle.jass_top.proofs.command.run_command.Goals as goal
 
-pub returns-in-Rewrite : goal.returns-in-Rewrite
-returns-in-Rewrite g c =
+pub returns-in-Ok-finish : goal.returns-in-Ok-finish
+returns-in-Ok-finish g c =
+    let command = command_data c.args.command in
     let before = outer g.C.Cabinet g.I.Feed g.O.Sink c.args.files.now c.args.input.now c.args.out.now c.args.steps.now in
-    let after = outer g.C.Cabinet g.I.Feed g.O.Sink c.run_rewrite.new.files c.args.input.now c.args.out.now c.args.steps.now in
-    subst (λ (command : Command). Runs (meaning_of (command_data command)) before after c.run_rewrite.result) (sym c.in-Rewrite.is) (c.run_rewrite.ensures before)
+    let mid = outer g.C.Cabinet g.I.Feed g.O.Sink c.do_command.new.files c.do_command.new.input c.do_command.new.out c.do_command.new.steps in
+    let after = outer g.C.Cabinet g.I.Feed g.O.Sink c.finish.new.self c.do_command.new.input c.do_command.new.out c.do_command.new.steps in
+    let file : (meaning_of command).file ≡ Some c.in-Some.name.now = sym c.written_by-file.ensures ∙ ap (option_map (λ name. name.now)) c.in-Some.is in
+    let same : StandsSame mid after = record { told = c.finish.ensures.stays; written = refl; left = refl; steps = refl; out_faults = refl; feed_faults = refl; out_rest = refl } in
+    finished command c.in-Some.name.now before mid after file same c.in-Ok.ensures.runs
 
-pub returns-in-Help : goal.returns-in-Help
-returns-in-Help g c =
+pub returns-in-Err-finish : goal.returns-in-Err-finish
+returns-in-Err-finish g c =
+    let command = command_data c.args.command in
     let before = outer g.C.Cabinet g.I.Feed g.O.Sink c.args.files.now c.args.input.now c.args.out.now c.args.steps.now in
-    let after = outer g.C.Cabinet g.I.Feed g.O.Sink c.args.files.now c.args.input.now c.run_help.new.out c.args.steps.now in
-    subst (λ (command : Command). Runs (meaning_of (command_data command)) before after c.run_help.result) (sym c.in-Help.is) (c.run_help.ensures before)
-
-pub returns-in-Version : goal.returns-in-Version
-returns-in-Version g c =
-    let before = outer g.C.Cabinet g.I.Feed g.O.Sink c.args.files.now c.args.input.now c.args.out.now c.args.steps.now in
-    let after = outer g.C.Cabinet g.I.Feed g.O.Sink c.args.files.now c.args.input.now c.run_version.new.out c.args.steps.now in
-    subst (λ (command : Command). Runs (meaning_of (command_data command)) before after c.run_version.result) (sym c.in-Version.is) (c.run_version.ensures before)
-
-pub returns-in-Import : goal.returns-in-Import
-returns-in-Import g c =
-    let before = outer g.C.Cabinet g.I.Feed g.O.Sink c.args.files.now c.args.input.now c.args.out.now c.args.steps.now in
-    let after = outer g.C.Cabinet g.I.Feed g.O.Sink c.run_import.new.files c.args.input.now c.run_import.new.out c.args.steps.now in
-    subst (λ (command : Command). Runs (meaning_of (command_data command)) before after c.run_import.result) (sym c.in-Import.is) (c.run_import.ensures before)
-
-pub returns-in-Check : goal.returns-in-Check
-returns-in-Check g c =
-    let before = outer g.C.Cabinet g.I.Feed g.O.Sink c.args.files.now c.args.input.now c.args.out.now c.args.steps.now in
-    let after = outer g.C.Cabinet g.I.Feed g.O.Sink c.run_check.new.files c.args.input.now c.run_check.new.out c.args.steps.now in
-    subst (λ (command : Command). Runs (meaning_of (command_data command)) before after c.run_check.result) (sym c.in-Check.is) (c.run_check.ensures before)
-
-pub returns-in-Export : goal.returns-in-Export
-returns-in-Export g c =
-    let before = outer g.C.Cabinet g.I.Feed g.O.Sink c.args.files.now c.args.input.now c.args.out.now c.args.steps.now in
-    let after = outer g.C.Cabinet g.I.Feed g.O.Sink c.run_export.new.files c.args.input.now c.args.out.now c.run_export.new.steps in
-    subst (λ (command : Command). Runs (meaning_of (command_data command)) before after c.run_export.result) (sym c.in-Export.is) (c.run_export.ensures before)
-
-pub returns-in-Migrate : goal.returns-in-Migrate
-returns-in-Migrate g c =
-    let before = outer g.C.Cabinet g.I.Feed g.O.Sink c.args.files.now c.args.input.now c.args.out.now c.args.steps.now in
-    let after = outer g.C.Cabinet g.I.Feed g.O.Sink c.run_migrate.new.files c.args.input.now c.run_migrate.new.out c.args.steps.now in
-    subst (λ (command : Command). Runs (meaning_of (command_data command)) before after c.run_migrate.result) (sym c.in-Migrate.is) (c.run_migrate.ensures before)
-
-pub returns-in-Once : goal.returns-in-Once
-returns-in-Once g c =
-    let before = outer g.C.Cabinet g.I.Feed g.O.Sink c.args.files.now c.args.input.now c.args.out.now c.args.steps.now in
-    let after = outer g.C.Cabinet g.I.Feed g.O.Sink c.run_once.new.files c.args.input.now c.run_once.new.out c.run_once.new.steps in
-    subst (λ (command : Command). Runs (meaning_of (command_data command)) before after c.run_once.result) (sym c.in-Once.is) (c.run_once.ensures before)
-
-pub returns-in-Search : goal.returns-in-Search
-returns-in-Search g c =
-    let before = outer g.C.Cabinet g.I.Feed g.O.Sink c.args.files.now c.args.input.now c.args.out.now c.args.steps.now in
-    let after = outer g.C.Cabinet g.I.Feed g.O.Sink c.run_search.new.files c.args.input.now c.run_search.new.out c.run_search.new.steps in
-    let is : c.as_slice.result.now ≡ granted c.in-Search.budgets = c.as_slice.ensures.items in
-    subst (λ (command : Command). Runs (meaning_of (command_data command)) before after c.run_search.result) (sym c.in-Search.is)
-    (subst (λ (budgets : List Budget). Runs (search_meaning c.in-Search.index.now c.in-Search.queries.now c.in-Search.run'.now (search_within c.in-Search.asked.k budgets c.in-Search.asked.tag.now) c.in-Search.asked.mode) before after c.run_search.result)
-    is (c.run_search.ensures before))
-
-pub returns-in-Trial : goal.returns-in-Trial
-returns-in-Trial g c =
-    let before = outer g.C.Cabinet g.I.Feed g.O.Sink c.args.files.now c.args.input.now c.args.out.now c.args.steps.now in
-    let after = outer g.C.Cabinet g.I.Feed g.O.Sink c.args.files.now c.args.input.now c.run_trial.new.out c.run_trial.new.steps in
-    subst (λ (command : Command). Runs (meaning_of (command_data command)) before after c.run_trial.result) (sym c.in-Trial.is) (c.run_trial.ensures before)
+    let mid = outer g.C.Cabinet g.I.Feed g.O.Sink c.do_command.new.files c.do_command.new.input c.do_command.new.out c.do_command.new.steps in
+    let after = outer g.C.Cabinet g.I.Feed g.O.Sink c.finish.new.self c.do_command.new.input c.do_command.new.out c.do_command.new.steps in
+    let file : (meaning_of command).file ≡ Some c.in-Some.name.now = sym c.written_by-file.ensures ∙ ap (option_map (λ name. name.now)) c.in-Some.is in
+    let same : StandsSame mid after = record { told = c.finish.ensures.stays; written = refl; left = refl; steps = refl; out_faults = refl; feed_faults = refl; out_rest = refl } in
+    record {
+      came = unwritten command c.in-Some.name.now before mid after file same c.in-Ok.ensures.runs c.do_command.ensures.later c.in-Err-finish.ensures.cause.failed;
+      untouched = untouched_after command c.in-Some.name.now before mid after file same c.in-Ok.ensures.runs;
+      taken = taken_after command c.in-Some.name.now before mid after file same c.in-Ok.ensures.runs;
+    }

@@ -6,15 +6,15 @@ use Rattle.jass_top.specs.Private.Worlds.{with_files, with_steps}
 use Rattle.jass_top.proofs.Stopping.{counted, ran_on_files, stopped_unread}
 use Rattle.jass_top.proofs.export.run_export.Goals as goal
 
-pub returns-in-Err : goal.returns-in-Err
-returns-in-Err g c = λ beside.
+pub returns-in-Err-clause-runs : goal.returns-in-Err-clause-runs
+returns-in-Err-clause-runs g c = λ beside.
     ran_on_files refl refl refl refl refl refl refl
     (stopped_unread (export_meaning c.args.index.now c.args.ciff.now) (with_files g.C.Cabinet c.args.files.now (with_steps c.args.steps.now beside))
     (with_files g.C.Cabinet c.open_index.new.files (with_steps c.args.steps.now beside)) c.in-Err.stop refl
     (record { told = c.in-Err.ensures.stays; written = refl; left = refl; steps = refl }) c.in-Err.ensures.unread)
 
-pub returns-in-Err-made : goal.returns-in-Err-made
-returns-in-Err-made g c = λ beside.
+pub returns-in-Err-made-clause-runs : goal.returns-in-Err-made-clause-runs
+returns-in-Err-made-clause-runs g c = λ beside.
     ran_on_files refl refl refl refl refl refl refl (inr (record {
       inputs = c.in-Ok.file;
       accepted = c.in-Ok.ensures.accepted;
@@ -25,8 +25,8 @@ returns-in-Err-made g c = λ beside.
       };
     }))
 
-pub returns-in-Ok-written : goal.returns-in-Ok-written
-returns-in-Ok-written g c = λ beside.
+pub returns-in-Ok-written-clause-runs : goal.returns-in-Ok-written-clause-runs
+returns-in-Ok-written-clause-runs g c = λ beside.
     let told = g.C.Cabinet.told c.args.files.now in
     let after = g.C.Cabinet.told c.write_file-written.new.files in
     ran_on_files refl refl refl refl refl refl refl (record {
@@ -44,12 +44,12 @@ returns-in-Ok-written g c = λ beside.
       };
     })
 
-pub returns-in-Err-written : goal.returns-in-Err-written
-returns-in-Err-written g c = λ beside.
+pub returns-in-Err-written-clause-runs : goal.returns-in-Err-written-clause-runs
+returns-in-Err-written-clause-runs g c = λ beside.
     let told = g.C.Cabinet.told c.args.files.now in
     let after = g.C.Cabinet.told c.write_file-written.new.files in
     ran_on_files refl refl refl refl refl refl refl (
-      inr (refl, Rose-earlier (g.C.Cabinet.write_faults c.args.files.now) (g.C.Cabinet.write_faults c.open_index.new.files) (g.C.Cabinet.write_faults c.write_file-written.new.files) c.in-Ok.ensures.others c.in-Err-written.ensures.cause),
+      inr (refl, Rose-earlier (g.C.Cabinet.write_faults c.args.files.now) (g.C.Cabinet.write_faults c.open_index.new.files) (g.C.Cabinet.write_faults c.write_file-written.new.files) c.in-Ok.ensures.others c.in-Err-written.ensures.cause.failed),
       record {
         inputs = c.in-Ok.file;
         accepted = c.in-Ok.ensures.accepted;

@@ -15,6 +15,6 @@ next_row names i d low =
 pub loop-name-preserved : goal.loop-name-preserved
 loop-name-preserved c = record {
   rows = c.push_row.ensures.row ∙ ap (λ (text : List ℕ). text ++ row_text (get_or all_names c.loop-name.name-index Once)) c.loop-name.invariant.rows
-      ∙ ap (λ (rows : List ℕ). codes "commands:\n" ++ rows) (sym (next_row all_names c.loop-name.name-index Once c.loop-name-test.true));
+      ∙ ap (λ (rows : List ℕ). codes "commands, with * behind the file that is written:\n" ++ rows) (sym (next_row all_names c.loop-name.name-index Once c.loop-name-test.true));
   few = omega (arith, c.push_row.ensures.few, c.loop-name.invariant.few);
 }

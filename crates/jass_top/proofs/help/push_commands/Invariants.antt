@@ -6,6 +6,6 @@ use Rattle.jass_top.proofs.help.push_commands.Given as goal
 
 abbrev pub invariant-loop-name : goal.invariant-loop-name
 invariant-loop-name l = record {
-  rows : l.text ≡ codes "commands:\n" ++ flat_map row_text (take l.name-index all_names);
-  few : length l.text ≤ 10 + 1100 * l.name-index;
+  rows : l.text ≡ codes "commands, with * behind the file that is written:\n" ++ flat_map row_text (take l.name-index all_names);
+  few : length l.text ≤ 50 + 1100 * l.name-index;
 }

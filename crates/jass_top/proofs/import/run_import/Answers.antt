@@ -8,8 +8,8 @@ use Rattle.jass_top.proofs.Imported.{accepted, judge_import, larger, refused, st
 use Rattle.jass_top.proofs.Stopping.{ran_on_both, uncounted}
 use Rattle.jass_top.proofs.import.run_import.Goals as goal
 
-pub returns-in-Err-Refused : goal.returns-in-Err-Refused
-returns-in-Err-Refused g c = λ beside.
+pub returns-in-Err-Refused-clause-runs : goal.returns-in-Err-Refused-clause-runs
+returns-in-Err-Refused-clause-runs g c = λ beside.
     let told = g.C.Cabinet.told c.args.files.now in
     let is = subst (λ (f : ImportFault). Imports told (g.C.Cabinet.told c.import_file.new.files) c.args.ciff.now c.args.index.now c.args.rule c.args.bits (Err f)) c.in-Err-Refused.field-0-is c.in-Err-Refused.ensures.imported in
     ran_on_both refl refl refl refl refl refl (
@@ -19,8 +19,8 @@ returns-in-Err-Refused g c = λ beside.
       record { told = is.1; written = refl; left = refl; steps = refl },
     )
 
-pub returns-in-Err-ReadFault : goal.returns-in-Err-ReadFault
-returns-in-Err-ReadFault g c = λ beside.
+pub returns-in-Err-ReadFault-clause-runs : goal.returns-in-Err-ReadFault-clause-runs
+returns-in-Err-ReadFault-clause-runs g c = λ beside.
     let told = g.C.Cabinet.told c.args.files.now in let now = g.C.Cabinet.told c.import_file.new.files in
     let is = subst (λ (f : ImportFault). Imports told now c.args.ciff.now c.args.index.now c.args.rule c.args.bits (Err f)) c.in-Err-ReadFault.field-0-is c.in-Err-ReadFault.ensures.imported in
     ran_on_both refl refl refl refl refl refl (inl (record {
@@ -30,8 +30,8 @@ returns-in-Err-ReadFault g c = λ beside.
           (with_output g.O.Sink c.args.out.now (with_files g.C.Cabinet c.args.files.now beside)) (with_output g.O.Sink c.args.out.now (with_files g.C.Cabinet c.import_file.new.files beside)) refl refl refl is;
     }))
 
-pub returns-in-Err-TooLarge : goal.returns-in-Err-TooLarge
-returns-in-Err-TooLarge g c = λ beside.
+pub returns-in-Err-TooLarge-clause-runs : goal.returns-in-Err-TooLarge-clause-runs
+returns-in-Err-TooLarge-clause-runs g c = λ beside.
     let told = g.C.Cabinet.told c.args.files.now in
     let is = subst (λ (f : ImportFault). Imports told (g.C.Cabinet.told c.import_file.new.files) c.args.ciff.now c.args.index.now c.args.rule c.args.bits (Err f)) c.in-Err-TooLarge.field-0-is c.in-Err-TooLarge.ensures.imported in
     ran_on_both refl refl refl refl refl refl (
@@ -40,8 +40,8 @@ returns-in-Err-TooLarge g c = λ beside.
       record { told = is.4; written = refl; left = refl; steps = refl },
     )
 
-pub returns-in-Err-WriteFault : goal.returns-in-Err-WriteFault
-returns-in-Err-WriteFault g c = λ beside.
+pub returns-in-Err-WriteFault-clause-runs : goal.returns-in-Err-WriteFault-clause-runs
+returns-in-Err-WriteFault-clause-runs g c = λ beside.
     let told = g.C.Cabinet.told c.args.files.now in
     let is = subst (λ (f : ImportFault). Imports told (g.C.Cabinet.told c.import_file.new.files) c.args.ciff.now c.args.index.now c.args.rule c.args.bits (Err f)) c.in-Err-WriteFault.field-0-is c.in-Err-WriteFault.ensures.imported in
     ran_on_both refl refl refl refl refl refl (
@@ -53,15 +53,15 @@ returns-in-Err-WriteFault g c = λ beside.
       },
     )
 
-pub returns-in-Err-NoMemory : goal.returns-in-Err-NoMemory
-returns-in-Err-NoMemory g c = λ beside.
+pub returns-in-Err-NoMemory-clause-runs : goal.returns-in-Err-NoMemory-clause-runs
+returns-in-Err-NoMemory-clause-runs g c = λ beside.
     let told = g.C.Cabinet.told c.args.files.now in let now = g.C.Cabinet.told c.import_file.new.files in
     let is = subst (λ (f : ImportFault). Imports told now c.args.ciff.now c.args.index.now c.args.rule c.args.bits (Err f)) c.in-Err-NoMemory.field-0-is c.in-Err-NoMemory.ensures.imported in
     ran_on_both refl refl refl refl refl refl (stands c.args.ciff.now c.args.rule c.args.bits c.args.index.now
     (with_output g.O.Sink c.args.out.now (with_files g.C.Cabinet c.args.files.now beside)) (with_output g.O.Sink c.args.out.now (with_files g.C.Cabinet c.import_file.new.files beside)) refl refl refl is)
 
-pub returns-in-Ok-put_totals : goal.returns-in-Ok-put_totals
-returns-in-Ok-put_totals g c = λ beside.
+pub returns-in-Ok-put_totals-clause-runs : goal.returns-in-Ok-put_totals-clause-runs
+returns-in-Ok-put_totals-clause-runs g c = λ beside.
     let is = c.in-Ok.ensures.imported in
     ran_on_both refl refl refl refl refl c.in-Ok-put_totals.ensures.rest_stays (record {
       inputs = is.0;
@@ -77,8 +77,8 @@ returns-in-Ok-put_totals g c = λ beside.
       };
     })
 
-pub returns-in-Err : goal.returns-in-Err
-returns-in-Err g c = λ beside.
+pub returns-in-Err-clause-runs : goal.returns-in-Err-clause-runs
+returns-in-Err-clause-runs g c = λ beside.
     let is = c.in-Ok.ensures.imported in
     ran_on_both refl refl refl refl refl c.in-Err.ensures.rest_stays (
       inl (refl, refl, c.in-Err.ensures.cause.failed),

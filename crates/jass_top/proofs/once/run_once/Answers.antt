@@ -8,8 +8,8 @@ use Rattle.jass_top.specs.Standing.{OfOutput, TextPart}
 use Rattle.jass_top.proofs.Making.{HasRead, carry_answer, made_runs}
 use Rattle.jass_top.proofs.once.run_once.Goals as goal
 
-pub returns : goal.returns
-returns g c = λ beside.
+pub returns-clause-runs : goal.returns-clause-runs
+returns-clause-runs g c = λ beside.
     let collection = collection_data c.in_ok-collection.collection in
     let IsOutput = IsOnceOutput (once_of c.args.question) in
     let before = with_output g.O.Sink c.args.out.now (with_files g.C.Cabinet c.args.files.now (with_steps c.args.steps.now beside)) in

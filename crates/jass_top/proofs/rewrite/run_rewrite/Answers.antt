@@ -6,15 +6,15 @@ use Rattle.jass_top.specs.Private.Worlds.{with_files}
 use Rattle.jass_top.proofs.Stopping.{ran_on_files, stopped_unread, uncounted}
 use Rattle.jass_top.proofs.rewrite.run_rewrite.Goals as goal
 
-pub returns-in-Err : goal.returns-in-Err
-returns-in-Err g c = λ beside.
+pub returns-in-Err-clause-runs : goal.returns-in-Err-clause-runs
+returns-in-Err-clause-runs g c = λ beside.
     ran_on_files refl refl refl refl refl refl refl
     (stopped_unread (rewrite_meaning c.args.from.now c.args.to.now) (with_files g.C.Cabinet c.args.files.now beside)
     (with_files g.C.Cabinet c.read_file.new.files beside) c.in-Err.stop refl
     (record { told = c.in-Err.ensures.stays; written = refl; left = refl; steps = refl }) c.in-Err.ensures.unread)
 
-pub returns-in-Ok-written : goal.returns-in-Ok-written
-returns-in-Ok-written g c = λ beside.
+pub returns-in-Ok-written-clause-runs : goal.returns-in-Ok-written-clause-runs
+returns-in-Ok-written-clause-runs g c = λ beside.
     let collection = collection_data c.in-Ok.collection in
     ran_on_files refl refl refl refl refl refl refl (record {
       inputs = collection;
@@ -30,11 +30,11 @@ returns-in-Ok-written g c = λ beside.
       };
     })
 
-pub returns-in-Err-written : goal.returns-in-Err-written
-returns-in-Err-written g c = λ beside.
+pub returns-in-Err-written-clause-runs : goal.returns-in-Err-written-clause-runs
+returns-in-Err-written-clause-runs g c = λ beside.
     let collection = collection_data c.in-Ok.collection in
     ran_on_files refl refl refl refl refl refl refl (
-      inr (refl, Rose-earlier (g.C.Cabinet.write_faults c.args.files.now) (g.C.Cabinet.write_faults c.read_file.new.files) (g.C.Cabinet.write_faults c.write_file-written.new.files) c.in-Ok.ensures.others c.in-Err-written.ensures.cause),
+      inr (refl, Rose-earlier (g.C.Cabinet.write_faults c.args.files.now) (g.C.Cabinet.write_faults c.read_file.new.files) (g.C.Cabinet.write_faults c.write_file-written.new.files) c.in-Ok.ensures.others c.in-Err-written.ensures.cause.failed),
       record {
         inputs = collection;
         accepted = c.in-Ok.ensures.accepted;

@@ -5,8 +5,8 @@ use Rattle.jass_top.proofs.JudgedFiles.{fits, too_large}
 use Rattle.jass_top.proofs.Stopping.{ran_on_both, same, uncounted}
 use Rattle.jass_top.proofs.saving.save_index.Goals as goal
 
-pub returns-in-Err-TooLarge : goal.returns-in-Err-TooLarge
-returns-in-Err-TooLarge g c = λ beside.
+pub returns-in-Err-TooLarge-clause-runs : goal.returns-in-Err-TooLarge-clause-runs
+returns-in-Err-TooLarge-clause-runs g c = λ beside.
     let made = index_data c.args.index.now in
     let fault = subst (λ (f : SaveFault). Unwritten (index_text made) f) c.in-Err-TooLarge.field-0-is c.in-Err-TooLarge.ensures.fault in
     let kept = subst (λ (f : SaveFault). Untouched c.args.files.now c.write_index.new.files f) c.in-Err-TooLarge.field-0-is c.in-Err-TooLarge.ensures.untouched in
@@ -16,8 +16,8 @@ returns-in-Err-TooLarge g c = λ beside.
       record { told = ap g.C.Cabinet.told kept; written = refl; left = refl; steps = refl },
     )
 
-pub returns-in-Err-WriteFault : goal.returns-in-Err-WriteFault
-returns-in-Err-WriteFault g c = λ beside.
+pub returns-in-Err-WriteFault-clause-runs : goal.returns-in-Err-WriteFault-clause-runs
+returns-in-Err-WriteFault-clause-runs g c = λ beside.
     let made = index_data c.args.index.now in
     let few = subst (λ (f : SaveFault). Unwritten (index_text made) f) c.in-Err-WriteFault.field-0-is c.in-Err-WriteFault.ensures.fault in
     ran_on_both refl refl refl refl refl refl (
@@ -29,8 +29,8 @@ returns-in-Err-WriteFault g c = λ beside.
       },
     )
 
-pub returns-in-Ok-put_totals : goal.returns-in-Ok-put_totals
-returns-in-Ok-put_totals g c = λ beside.
+pub returns-in-Ok-put_totals-clause-runs : goal.returns-in-Ok-put_totals-clause-runs
+returns-in-Ok-put_totals-clause-runs g c = λ beside.
     let made = index_data c.args.index.now in
     ran_on_both refl refl refl refl refl c.in-Ok-put_totals.ensures.rest_stays (record {
       inputs = made;
@@ -46,8 +46,8 @@ returns-in-Ok-put_totals g c = λ beside.
       };
     })
 
-pub returns-in-Err : goal.returns-in-Err
-returns-in-Err g c = λ beside.
+pub returns-in-Err-clause-runs : goal.returns-in-Err-clause-runs
+returns-in-Err-clause-runs g c = λ beside.
     let made = index_data c.args.index.now in
     ran_on_both refl refl refl refl refl c.in-Err.ensures.rest_stays (
       inl (refl, refl, c.in-Err.ensures.cause.failed),

@@ -8,8 +8,8 @@ use Rattle.jass_top.proofs.Searched.{exact_for, part_left}
 use Rattle.jass_top.proofs.Stopping.{ran_on_both}
 use Rattle.jass_top.proofs.search.run_search.Goals as goal
 
-pub returns-in-Ok : goal.returns-in-Ok
-returns-in-Ok g c = λ beside.
+pub returns-in-Ok-clause-runs : goal.returns-in-Ok-clause-runs
+returns-in-Ok-clause-runs g c = λ beside.
     let file = c.in_ok-file.file in let asked = asked_of c.in_ok-file.found in
     let output = budgets_output file c.args.asked.k c.args.budgets.now c.args.asked.tag.now asked in
     ran_on_both refl refl refl refl refl c.in-Ok.ensures.out.rest_stays (record {
@@ -26,8 +26,8 @@ returns-in-Ok g c = λ beside.
       };
     })
 
-pub returns-in-Err-NoMemory : goal.returns-in-Err-NoMemory
-returns-in-Err-NoMemory g c = λ beside.
+pub returns-in-Err-NoMemory-clause-runs : goal.returns-in-Err-NoMemory-clause-runs
+returns-in-Err-NoMemory-clause-runs g c = λ beside.
     ran_on_both refl refl refl refl refl c.in-Err-NoMemory.ensures.out.rest_stays (inr (
     part_left c.a_search_leaves_its_output.ensures.within_budgets c.args.index.now c.args.queries.now c.args.run.now c.args.asked.k c.args.budgets.now c.args.asked.tag.now c.args.asked.mode
     c.in_ok-file.file (asked_of c.in_ok-file.found) (g.C.Cabinet.told c.open_search.new.files)
@@ -35,8 +35,8 @@ returns-in-Err-NoMemory g c = λ beside.
     c.in_ok-file.ensures.view c.in_ok-file.ensures.stays c.in_ok-file.ensures.accepted c.in-Err-NoMemory.ensures.run.content c.in-Err-NoMemory.ensures.out.bytes c.in-Err-NoMemory.ensures.steps
     ))
 
-pub returns-in-Err-Unwritten-Run : goal.returns-in-Err-Unwritten-Run
-returns-in-Err-Unwritten-Run g c = λ beside. ran_on_both refl refl refl refl refl c.in-Err-Unwritten-Run.ensures.out.rest_stays (
+pub returns-in-Err-Unwritten-Run-clause-runs : goal.returns-in-Err-Unwritten-Run-clause-runs
+returns-in-Err-Unwritten-Run-clause-runs g c = λ beside. ran_on_both refl refl refl refl refl c.in-Err-Unwritten-Run.ensures.out.rest_stays (
   inr (
     refl,
     Rose-earlier (g.C.Cabinet.write_faults c.args.files.now) (g.C.Cabinet.write_faults c.open_search.new.files) (g.C.Cabinet.write_faults c.write_search.new.files) c.in_ok-file.ensures.others
@@ -48,8 +48,8 @@ returns-in-Err-Unwritten-Run g c = λ beside. ran_on_both refl refl refl refl re
       c.in_ok-file.ensures.view c.in_ok-file.ensures.stays c.in_ok-file.ensures.accepted c.in-Err-Unwritten-Run.ensures.run.content c.in-Err-Unwritten-Run.ensures.out.bytes c.in-Err-Unwritten-Run.ensures.steps,
 )
 
-pub returns-in-Err-Unwritten-Reports : goal.returns-in-Err-Unwritten-Reports
-returns-in-Err-Unwritten-Reports g c = λ beside. ran_on_both refl refl refl refl refl c.in-Err-Unwritten-Reports.ensures.out.rest_stays (
+pub returns-in-Err-Unwritten-Reports-clause-runs : goal.returns-in-Err-Unwritten-Reports-clause-runs
+returns-in-Err-Unwritten-Reports-clause-runs g c = λ beside. ran_on_both refl refl refl refl refl c.in-Err-Unwritten-Reports.ensures.out.rest_stays (
   inl (refl, refl, c.in-Err-Unwritten-Reports.ensures.out.failed (c.in-Err-Unwritten-Reports.field-0-is ∙ ap Unwritten c.in-Err-Unwritten-Reports.field-0-0-is)),
   part_left c.a_search_leaves_its_output.ensures.within_budgets c.args.index.now c.args.queries.now c.args.run.now c.args.asked.k c.args.budgets.now c.args.asked.tag.now c.args.asked.mode
       c.in_ok-file.file (asked_of c.in_ok-file.found) (g.C.Cabinet.told c.open_search.new.files)

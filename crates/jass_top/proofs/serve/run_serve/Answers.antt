@@ -6,26 +6,26 @@ use Rattle.jass_top.specs.Worlds.{outer}
 use Rattle.jass_top.proofs.Unserved.{did_all, did_first, did_front, did_part, did_taken, opened, ran, runs_unserved, served_as, stopped_as}
 use Rattle.jass_top.proofs.serve.run_serve.Goals as goal
 
-pub returns-in-Err-new-2 : goal.returns-in-Err-new-2
-returns-in-Err-new-2 g c =
+pub returns-in-Err-new-2-clause-runs : goal.returns-in-Err-new-2-clause-runs
+returns-in-Err-new-2-clause-runs g c =
     let before = outer g.C.Cabinet g.I.Feed g.O.Sink c.args.files.now c.args.input.now c.args.out.now c.args.steps.now in
     let after = outer g.C.Cabinet g.I.Feed g.O.Sink c.open_index.new.files c.args.input.now c.args.out.now c.args.steps.now in
     runs_unserved c.args.index.now c.args.frames before after why.NoMemory tt (record { told = c.in-Ok.ensures.stays; written = refl; left = refl; steps = refl }) refl
 
-pub returns-in-Err : goal.returns-in-Err
-returns-in-Err g c =
+pub returns-in-Err-clause-runs : goal.returns-in-Err-clause-runs
+returns-in-Err-clause-runs g c =
     let before = outer g.C.Cabinet g.I.Feed g.O.Sink c.args.files.now c.args.input.now c.args.out.now c.args.steps.now in
     let after = outer g.C.Cabinet g.I.Feed g.O.Sink c.open_index.new.files c.args.input.now c.args.out.now c.args.steps.now in
     runs_unserved c.args.index.now c.args.frames before after c.in-Err.stop c.in-Err.ensures.unread (record { told = c.in-Err.ensures.stays; written = refl; left = refl; steps = refl }) refl
 
-pub returns-in-Err-new : goal.returns-in-Err-new
-returns-in-Err-new g c =
+pub returns-in-Err-new-clause-runs : goal.returns-in-Err-new-clause-runs
+returns-in-Err-new-clause-runs g c =
     let before = outer g.C.Cabinet g.I.Feed g.O.Sink c.args.files.now c.args.input.now c.args.out.now c.args.steps.now in
     let after = outer g.C.Cabinet g.I.Feed g.O.Sink c.open_index.new.files c.args.input.now c.args.out.now c.args.steps.now in
     runs_unserved c.args.index.now c.args.frames before after why.NoMemory tt (record { told = c.in-Ok.ensures.stays; written = refl; left = refl; steps = refl }) refl
 
-pub returns-in-Ok-served : goal.returns-in-Ok-served
-returns-in-Ok-served g c =
+pub returns-in-Ok-served-clause-runs : goal.returns-in-Ok-served-clause-runs
+returns-in-Ok-served-clause-runs g c =
     let before = outer g.C.Cabinet g.I.Feed g.O.Sink c.args.files.now c.args.input.now c.args.out.now c.args.steps.now in
     let after = outer g.C.Cabinet g.I.Feed g.O.Sink c.open_index.new.files c.serve_lines-served.new.input c.serve_lines-served.new.out c.serve_lines-served.new.steps in
     let told = g.C.Cabinet.told c.open_index.new.files in let reads = g.C.Cabinet.read_faults c.open_index.new.files in let writes = g.C.Cabinet.write_faults c.open_index.new.files in
@@ -33,8 +33,8 @@ returns-in-Ok-served g c =
     let served = served_as c.in-Ok-new-2.ensures.file (ap (λ (s : DeskState). s.frames) c.in-Ok-new-2.ensures.state) (c.in-Ok-served.ensures.served mid) in
     ran c.args.index.now c.args.frames before after _ served.rest_stays served.taken (did_all c.args.index.now c.args.frames before after told reads writes c.in-Ok.ensures.stays c.in-Ok.file c.in-Ok.ensures.accepted served)
 
-pub returns-in-Err-NoMemory : goal.returns-in-Err-NoMemory
-returns-in-Err-NoMemory g c =
+pub returns-in-Err-NoMemory-clause-runs : goal.returns-in-Err-NoMemory-clause-runs
+returns-in-Err-NoMemory-clause-runs g c =
     let before = outer g.C.Cabinet g.I.Feed g.O.Sink c.args.files.now c.args.input.now c.args.out.now c.args.steps.now in
     let after = outer g.C.Cabinet g.I.Feed g.O.Sink c.open_index.new.files c.serve_lines-served.new.input c.serve_lines-served.new.out c.serve_lines-served.new.steps in
     let told = g.C.Cabinet.told c.open_index.new.files in let reads = g.C.Cabinet.read_faults c.open_index.new.files in let writes = g.C.Cabinet.write_faults c.open_index.new.files in
@@ -43,8 +43,8 @@ returns-in-Err-NoMemory g c =
     let served = stopped_as c.in-Err-NoMemory.is same (served_as c.in-Ok-new-2.ensures.file (ap (λ (s : DeskState). s.frames) c.in-Ok-new-2.ensures.state) (c.serve_lines-served.ensures.served mid)) in
     ran c.args.index.now c.args.frames before after _ served.rest_stays served.taken (inr (did_first c.args.index.now c.args.frames before after told reads writes c.in-Ok.ensures.stays c.in-Ok.file c.in-Ok.ensures.accepted served))
 
-pub returns-in-Err-ReadFault : goal.returns-in-Err-ReadFault
-returns-in-Err-ReadFault g c =
+pub returns-in-Err-ReadFault-clause-runs : goal.returns-in-Err-ReadFault-clause-runs
+returns-in-Err-ReadFault-clause-runs g c =
     let before = outer g.C.Cabinet g.I.Feed g.O.Sink c.args.files.now c.args.input.now c.args.out.now c.args.steps.now in
     let after = outer g.C.Cabinet g.I.Feed g.O.Sink c.open_index.new.files c.serve_lines-served.new.input c.serve_lines-served.new.out c.serve_lines-served.new.steps in
     let told = g.C.Cabinet.told c.open_index.new.files in let reads = g.C.Cabinet.read_faults c.open_index.new.files in let writes = g.C.Cabinet.write_faults c.open_index.new.files in
@@ -53,8 +53,8 @@ returns-in-Err-ReadFault g c =
     let served = stopped_as c.in-Err-ReadFault.is same (served_as c.in-Ok-new-2.ensures.file (ap (λ (s : DeskState). s.frames) c.in-Ok-new-2.ensures.state) (c.serve_lines-served.ensures.served mid)) in
     ran c.args.index.now c.args.frames before after _ served.rest_stays served.taken (inr (record { feeds = refl; named = refl; cause = c.serve_lines-served.ensures.failed (c.in-Err-ReadFault.is ∙ ap Err same); stands = did_taken c.args.index.now c.args.frames before after told reads writes c.in-Ok.ensures.stays c.in-Ok.file c.in-Ok.ensures.accepted served }))
 
-pub returns-in-Err-WriteFault : goal.returns-in-Err-WriteFault
-returns-in-Err-WriteFault g c =
+pub returns-in-Err-WriteFault-clause-runs : goal.returns-in-Err-WriteFault-clause-runs
+returns-in-Err-WriteFault-clause-runs g c =
     let before = outer g.C.Cabinet g.I.Feed g.O.Sink c.args.files.now c.args.input.now c.args.out.now c.args.steps.now in
     let after = outer g.C.Cabinet g.I.Feed g.O.Sink c.open_index.new.files c.serve_lines-served.new.input c.serve_lines-served.new.out c.serve_lines-served.new.steps in
     let told = g.C.Cabinet.told c.open_index.new.files in let reads = g.C.Cabinet.read_faults c.open_index.new.files in let writes = g.C.Cabinet.write_faults c.open_index.new.files in
@@ -63,8 +63,8 @@ returns-in-Err-WriteFault g c =
     let served = stopped_as c.in-Err-WriteFault.is same (served_as c.in-Ok-new-2.ensures.file (ap (λ (s : DeskState). s.frames) c.in-Ok-new-2.ensures.state) (c.serve_lines-served.ensures.served mid)) in
     ran c.args.index.now c.args.frames before after _ served.rest_stays served.taken ((inl (refl, refl, served.failed refl), did_part c.args.index.now c.args.frames before after told reads writes c.in-Ok.ensures.stays c.in-Ok.file c.in-Ok.ensures.accepted served))
 
-pub returns-in-Err-Limit : goal.returns-in-Err-Limit
-returns-in-Err-Limit g c =
+pub returns-in-Err-Limit-clause-runs : goal.returns-in-Err-Limit-clause-runs
+returns-in-Err-Limit-clause-runs g c =
     let before = outer g.C.Cabinet g.I.Feed g.O.Sink c.args.files.now c.args.input.now c.args.out.now c.args.steps.now in
     let after = outer g.C.Cabinet g.I.Feed g.O.Sink c.open_index.new.files c.serve_lines-served.new.input c.serve_lines-served.new.out c.serve_lines-served.new.steps in
     let told = g.C.Cabinet.told c.open_index.new.files in let reads = g.C.Cabinet.read_faults c.open_index.new.files in let writes = g.C.Cabinet.write_faults c.open_index.new.files in
