@@ -1,20 +1,14 @@
 ghost use Rattle.std.specs.Prelude.{◌≡◌, ◌≤◌, None};
 ghost use Rattle.jass_base.specs.Outside.{Rose};
 
-use crate::opened::{Opened, is_open};
+use crate::host_files::HostFiles;
 use jass_base::{Cabinet, Failed};
-use std::fs::{File, OpenOptions};
-use std::io::Write;
-use std::os::unix::fs::FileExt;
 
-/// The host's files by path. It tells no content. Each Err of the host raises a count, which
-/// stays at its last value. The file that was read last stays open, and so does the one that was
-/// written last: a file that is replaced on the way is read to its end as it was.
+/// The host's files as a cabinet. It tells no content. Each Err of the host raises a count, which
+/// stays at its last value.
 #[derive(Drop)]
 pub struct HostCabinet<'a> {
-    rt: &'a HostRuntime,
-    reading: Option<Opened>,
-    writing: Option<Opened>,
+    files: HostFiles<'a>,
     read_faults: u64,
     write_faults: u64,
 }
@@ -25,9 +19,7 @@ impl<'a> HostCabinet<'a> {
         ensures written { ⟦<HostCabinet<'a> as Cabinet>⟧.write_faults result ≡ 0 }
     {
         HostCabinet {
-            rt,
-            reading: None,
-            writing: None,
+            files: HostFiles::new(rt),
             read_faults: 0,
             write_faults: 0,
         }
@@ -60,54 +52,30 @@ impl<'a> Cabinet for HostCabinet<'a> {
     ghost write_faults = { λ c. c.write_faults };
 
     fn read_at(&mut self, name: &str, at: u64, buf: &mut [u8]) -> Result<usize, Failed> {
-        if !is_open(&self.reading, name) {
-            self.reading = match File::open(self.rt, name) {
-                Ok(file) => Opened::new(name, file),
-                Err(_) => None,
-            };
-        }
-        let read = match &self.reading {
-            Some(opened) => opened.file.read_at(buf, at),
-            None => return Err(self.read_fault()),
-        };
-        match read {
+        match self.files.read_at(name, at, buf) {
             Ok(count) => Ok(count),
             Err(_) => Err(self.read_fault()),
         }
     }
 
     fn create(&mut self, name: &str) -> Result<(), Failed> {
-        self.writing = match File::create(self.rt, name) {
-            Ok(file) => Opened::new(name, file),
-            Err(_) => None,
-        };
-        match self.writing {
-            Some(_) => Ok(()),
-            None => Err(self.write_fault()),
-        }
-    }
-
-    fn append(&mut self, name: &str, bytes: &[u8]) -> Result<(), Failed> {
-        if !is_open(&self.writing, name) {
-            self.writing = match open_behind(self.rt, name) {
-                Ok(file) => Opened::new(name, file),
-                Err(_) => None,
-            };
-        }
-        let put = match &mut self.writing {
-            Some(opened) => opened.file.write_all(bytes),
-            None => return Err(self.write_fault()),
-        };
-        match put {
+        match self.files.create(name) {
             Ok(()) => Ok(()),
             Err(_) => Err(self.write_fault()),
         }
     }
-}
 
-/// Opens a file to write behind its content, and makes it where it is missing.
-fn open_behind(rt: &HostRuntime, name: &str) -> std::io::Result<File> {
-    let mut options = OpenOptions::new();
-    options.append(true).create(true);
-    options.open(rt, name)
+    fn append(&mut self, name: &str, bytes: &[u8]) -> Result<(), Failed> {
+        match self.files.append(name, bytes) {
+            Ok(()) => Ok(()),
+            Err(_) => Err(self.write_fault()),
+        }
+    }
+
+    fn finish(&mut self, name: &str) -> Result<(), Failed> {
+        match self.files.finish(name) {
+            Ok(()) => Ok(()),
+            Err(_) => Err(self.write_fault()),
+        }
+    }
 }

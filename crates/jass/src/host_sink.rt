@@ -1,26 +1,27 @@
 ghost use Rattle.std.specs.Prelude.{◌≡◌, None};
 
 use jass_base::{Failed, Sink};
-use std::io::Write;
+use std::io;
+use std::io::{ErrorKind, Write};
 
-/// A stream of the host as a sink. It tells no content. Each Err of the host raises a count,
-/// which stays at its last value.
+/// A stream of the host as a sink; where it is None every write fails. It tells no content. Each
+/// Err of the host raises a count, which stays at its last value.
 #[derive(Drop)]
 pub struct HostSink<W: Write + Drop> {
-    inner: W,
+    inner: Option<W>,
     faults: u64,
 }
 
 impl<W: Write + Drop> HostSink<W> {
-    pub fn new(inner: W) -> HostSink<W>
+    pub fn new(inner: Option<W>) -> HostSink<W>
         ensures quiet { ⟦<HostSink<W> as Sink>⟧.faults result ≡ 0 }
     {
         HostSink { inner, faults: 0 }
     }
 
     #[cfg(test)]
-    pub fn inner(&self) -> &W {
-        &self.inner
+    pub fn inner(&self) -> Option<&W> {
+        self.inner.as_ref()
     }
 }
 
@@ -30,7 +31,11 @@ impl<W: Write + Drop> Sink for HostSink<W> {
     ghost faults = { λ s. s.faults };
 
     fn put(&mut self, bytes: &[u8]) -> Result<(), Failed> {
-        match self.inner.write_all(bytes) {
+        let put = match &mut self.inner {
+            Some(inner) => inner.write_all(bytes),
+            None => Err(io::Error::from(ErrorKind::NotConnected)),
+        };
+        match put {
             Ok(()) => Ok(()),
             Err(_) => {
                 self.faults = self.faults.saturating_add(1);

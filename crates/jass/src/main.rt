@@ -7,12 +7,16 @@ use std::marker::Brand;
 use std::sync::ledger::{Blank, Ledger};
 
 mod arguments;
+mod file_identity;
 mod host_arguments;
 mod host_cabinet;
 mod host_feed;
+mod host_files;
 mod host_sink;
-mod opened;
+mod part_file;
 mod program;
+mod standard_streams;
+mod target;
 #[cfg(test)]
 mod tests;
 mod words;
@@ -25,6 +29,7 @@ use host_cabinet::HostCabinet;
 use host_feed::HostFeed;
 use host_sink::HostSink;
 use program::{Exit, run_line};
+use standard_streams::StandardStreams;
 
 fn main(rt: HostRuntime) -> Exit {
     counted::<Brand>(&rt, Blank::new(1))
@@ -38,10 +43,11 @@ fn counted<L: Ledger>(rt: &HostRuntime, blank: Blank) -> Exit
     requires some { 0 < blank.parts }
     ensures { EndsRun result }
 {
+    let streams = StandardStreams::hold(rt);
     let mut files = HostCabinet::new(rt);
-    let mut input = HostFeed::new(rt.reader());
-    let mut out = HostSink::new(rt.stdout());
-    let mut notes = HostSink::new(rt.stderr());
+    let mut input = HostFeed::new(streams.input.usable(rt.reader()));
+    let mut out = HostSink::new(streams.output.usable(rt.stdout()));
+    let mut notes = HostSink::new(streams.notes.usable(rt.stderr()));
     let mut steps = Steps::<L>::new(blank);
     run_line(
         rt.alloc(),

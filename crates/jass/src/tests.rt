@@ -8,23 +8,51 @@ use crate::host_cabinet::HostCabinet;
 use crate::host_feed::HostFeed;
 use crate::host_sink::HostSink;
 use crate::program::run_line;
-use jass_base::{Cabinet, Failed, Feed, MemCabinet, MemSink, Row, Sink, SliceFeed, Steps};
+use jass_base::{Cabinet, Feed, MemCabinet, MemSink, Row, Sink, SliceFeed, Steps};
 use std::alloc::Global;
 use std::env::FillError;
+use std::fs::{
+    Permissions, hard_link, metadata, remove_file, set_permissions, symlink_metadata, write,
+};
 use std::marker::Brand;
+use std::os::unix::fs::{MetadataExt, PermissionsExt, symlink};
 use std::sync::ledger::{Blank, Ledger};
+
+/// Makes a file by a cabinet of its own; whether each call went well.
+fn makes(rt: &HostRuntime, name: &str, bytes: &[u8]) -> bool {
+    let mut files = HostCabinet::new(rt);
+    files.create(name).is_ok() && files.append(name, bytes).is_ok() && files.finish(name).is_ok()
+}
+
+/// Whether a file of up to 16 bytes holds these.
+fn holds(rt: &HostRuntime, name: &str, bytes: &[u8]) -> bool {
+    let mut files = HostCabinet::new(rt);
+    let mut piece = [0u8; 16];
+    match files.read_at(name, 0, &mut piece) {
+        Ok(count) => piece.get(..count) == Some(bytes),
+        Err(_) => false,
+    }
+}
+
+/// Whether a name, or a link of the name, stands.
+fn stands(rt: &HostRuntime, name: &str) -> bool {
+    symlink_metadata(rt, name).is_ok()
+}
 
 #[test]
 fn files_are_made_and_read(rt: HostRuntime) {
     let mut files = HostCabinet::new(&rt);
-    let name = "jass_host_cabinet_test.tmp";
+    let name = "jass_host_made.tmp";
     let mut piece = [0u8; 8];
     assert!(&rt; files.create(name).is_ok());
     assert!(&rt; files.append(name, b"segment").is_ok());
+    assert!(&rt; !stands(&rt, name));
+    assert!(&rt; files.finish(name).is_ok());
     let count = files.read_at(name, 3, &mut piece).unwrap_or(0);
     assert_eq!(&rt; count, 4);
     assert!(&rt; piece == *b"ment\0\0\0\0");
-    assert!(&rt; std::fs::remove_file(&rt, name).is_ok());
+    assert!(&rt; files.finish(name).is_ok());
+    assert!(&rt; remove_file(&rt, name).is_ok());
     assert!(&rt;
         files
             .read_at("jass_no_such_file.tmp", 0, &mut piece)
@@ -33,34 +61,97 @@ fn files_are_made_and_read(rt: HostRuntime) {
 }
 
 #[test]
-fn a_file_made_again_keeps_nothing(rt: HostRuntime) {
-    let name = "jass_host_cabinet_again.tmp";
-    let mut files = HostCabinet::new(&rt);
-    let left = made_again(&mut files, name);
-    drop(files);
-    assert!(&rt; std::fs::remove_file(&rt, name).is_ok());
-    assert_eq!(&rt; left.unwrap_or(0), 4);
+fn a_file_made_again_keeps_its_rights_alone(rt: HostRuntime) {
+    let name = "jass_host_again.tmp";
+    assert!(&rt; makes(&rt, name, b"segment"));
+    assert!(&rt; set_permissions(&rt, name, Permissions::from_mode(0o640)).is_ok());
+    assert!(&rt; write(&rt, "jass_host_again.tmp.part", b"left behind by a crash").is_ok());
+    assert!(&rt; makes(&rt, name, b"term"));
+    assert!(&rt; holds(&rt, name, b"term"));
+    assert_eq!(&rt; rights(&rt, name), 0o640);
+    assert!(&rt; !stands(&rt, "jass_host_again.tmp.part"));
+    assert!(&rt; remove_file(&rt, name).is_ok());
 }
 
-/// How many bytes a file has, up to 16, that is made once more and gets 4.
-fn made_again(files: &mut HostCabinet<'_>, name: &str) -> Result<usize, Failed> {
+/// The permission bits of a file; 0 where it can't be looked at.
+fn rights(rt: &HostRuntime, name: &str) -> u32 {
+    match metadata(rt, name) {
+        Ok(found) => found.mode() & 0o777,
+        Err(_) => 0,
+    }
+}
+
+#[test]
+fn a_file_that_is_not_finished_is_as_before(rt: HostRuntime) {
+    let name = "jass_host_unfinished.tmp";
+    assert!(&rt; makes(&rt, name, b"segment"));
+    assert!(&rt; begins(&rt, name));
+    assert!(&rt; holds(&rt, name, b"segment"));
+    assert!(&rt; !stands(&rt, "jass_host_unfinished.tmp.part"));
+    assert!(&rt; remove_file(&rt, name).is_ok());
+}
+
+/// Makes a file and doesn't finish it.
+fn begins(rt: &HostRuntime, name: &str) -> bool {
+    let mut files = HostCabinet::new(rt);
+    files.create(name).is_ok() && files.append(name, b"term").is_ok()
+}
+
+#[test]
+fn a_part_of_another_run_is_left_alone(rt: HostRuntime) {
+    let name = "jass_host_runs.tmp";
+    let mut first = HostCabinet::new(&rt);
+    let mut second = HostCabinet::new(&rt);
+    assert!(&rt; first.create(name).is_ok());
+    assert!(&rt; second.create(name).is_ok());
+    assert!(&rt; first.finish(name).is_err());
+    assert!(&rt; !stands(&rt, name));
+    assert!(&rt; second.finish(name).is_ok());
+    assert!(&rt; remove_file(&rt, name).is_ok());
+}
+
+/// Names that lead to one file, and one whose part would stand in its place.
+const ALIASES: [&str; 5] = [
+    "jass_host_read.tmp.part",
+    "./jass_host_read.tmp.part",
+    "jass_host_link.tmp",
+    "jass_host_hard_link.tmp",
+    "jass_host_read.tmp",
+];
+
+#[test]
+fn nothing_is_made_in_place_of_what_was_read(rt: HostRuntime) {
+    let [name, _, link, hard, _] = ALIASES;
     let mut piece = [0u8; 16];
-    files.create(name)?;
-    files.append(name, b"segment")?;
-    files.create(name)?;
-    files.append(name, b"term")?;
-    files.read_at(name, 0, &mut piece)
+    assert!(&rt; makes(&rt, name, b"segment"));
+    assert!(&rt; symlink(&rt, name, link).is_ok());
+    assert!(&rt; hard_link(&rt, name, hard).is_ok());
+    let mut files = HostCabinet::new(&rt);
+    assert!(&rt; files.read_at(name, 0, &mut piece).is_ok());
+    for alias in ALIASES {
+        assert!(&rt; files.create(alias).is_err());
+        assert!(&rt; holds(&rt, name, b"segment"));
+    }
+    assert!(&rt; makes(&rt, link, b"term"));
+    assert!(&rt; symlink_metadata(&rt, link).is_ok_and(|found| found.is_symlink()));
+    assert!(&rt; holds(&rt, name, b"term"));
+    for made in [link, hard, name] {
+        assert!(&rt; remove_file(&rt, made).is_ok());
+    }
 }
 
 #[test]
 fn streams_are_read_and_written(rt: HostRuntime) {
     let mut piece = [0u8; 4];
-    let mut feed = HostFeed::new(b"posting".as_slice());
+    let mut feed = HostFeed::new(Some(b"posting".as_slice()));
     assert_eq!(&rt; feed.read(&mut piece).unwrap_or(0), 4);
     assert!(&rt; piece == *b"post");
-    let mut sink = HostSink::new(Vec::new(rt.alloc()));
+    let mut sink = HostSink::new(Some(Vec::new(rt.alloc())));
     assert!(&rt; sink.put(b"impact").is_ok());
-    assert!(&rt; sink.inner().as_slice() == b"impact".as_slice());
+    assert!(&rt;
+        sink.inner()
+            .is_some_and(|put| put.as_slice() == b"impact".as_slice())
+    );
 }
 
 /// A command line in memory.
@@ -151,9 +242,9 @@ fn host_exit<L: Ledger>(
 {
     let alloc = rt.alloc();
     let mut files = HostCabinet::new(rt);
-    let mut input = HostFeed::new(b"".as_slice());
-    let mut out = HostSink::new(Vec::new(alloc));
-    let mut notes = HostSink::new(Vec::new(alloc));
+    let mut input = HostFeed::new(Some(b"".as_slice()));
+    let mut out = HostSink::new(Some(Vec::new(alloc)));
+    let mut notes = HostSink::new(Some(Vec::new(alloc)));
     let mut steps = Steps::<L>::new(blank);
     let line = Line { arguments };
     let status = run_line(
@@ -169,21 +260,14 @@ fn exits_at_host(
     host_exit::<Brand>(rt, Blank::new(1), arguments)
 }
 
-/// Makes the example file.
-fn make_example(rt: &HostRuntime, name: &str) -> Result<(), Failed> {
-    let mut files = HostCabinet::new(rt);
-    files.create(name)?;
-    files.append(name, EXAMPLE)
-}
-
 #[test]
 fn the_example_is_answered(rt: HostRuntime) {
     let name = "jass_host_example.tmp";
-    assert!(&rt; make_example(&rt, name).is_ok());
+    assert!(&rt; makes(&rt, name, EXAMPLE));
     let arguments: [&[u8]; 6] = [b"jass", b"once", name.as_bytes(), b"3", b"all", b"a"];
     let (ended, out, notes) = exits_at_host(&rt, &arguments);
-    assert!(&rt; std::fs::remove_file(&rt, name).is_ok());
+    assert!(&rt; remove_file(&rt, name).is_ok());
     assert_eq!(&rt; ended, 0);
-    assert!(&rt; out.inner().as_slice() == ANSWER);
-    assert!(&rt; notes.inner().as_slice() == b"".as_slice());
+    assert!(&rt; out.inner().is_some_and(|put| put.as_slice() == ANSWER));
+    assert!(&rt; notes.inner().is_some_and(|put| put.is_empty()));
 }
