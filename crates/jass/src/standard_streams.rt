@@ -1,5 +1,5 @@
 use std::fs::{File, OpenOptions};
-use std::os::fd::{AsFd, AsRawFd, BorrowedFd};
+use std::os::fd::{AsFd, AsRawFd};
 
 /// Linux's error number of a call on a descriptor that isn't open.
 const NOT_OPEN: i32 = 9;
@@ -17,10 +17,13 @@ pub struct StandardStreams {
 impl StandardStreams {
     /// To be called before any file is opened: the system gives the least number that is free.
     pub fn hold(rt: &HostRuntime) -> StandardStreams {
-        let (stdin, stdout, stderr) = (rt.stdin(), rt.stdout(), rt.stderr());
-        let input = Stream::hold(rt, stdin.as_fd(), OpenOptions::new().write(true));
-        let output = Stream::hold(rt, stdout.as_fd(), OpenOptions::new().read(true));
-        let notes = Stream::hold(rt, stderr.as_fd(), OpenOptions::new().read(true));
+        let mut writing = OpenOptions::new();
+        writing.write(true);
+        let mut reading = OpenOptions::new();
+        reading.read(true);
+        let input = Stream::hold(rt, &rt.stdin(), &writing);
+        let output = Stream::hold(rt, &rt.stdout(), &reading);
+        let notes = Stream::hold(rt, &rt.stderr(), &reading);
         StandardStreams {
             input,
             output,
@@ -42,7 +45,7 @@ pub enum Stream {
 
 impl Stream {
     /// `how` opens a file for the other use than the stream's.
-    fn hold(rt: &HostRuntime, stream: BorrowedFd<'_>, how: &OpenOptions) -> Stream {
+    fn hold<S: AsFd + AsRawFd>(rt: &HostRuntime, stream: &S, how: &OpenOptions) -> Stream {
         if is_open(stream) {
             return Stream::Open;
         }
@@ -63,8 +66,8 @@ impl Stream {
 
 /// Whether a descriptor can be duplicated. A call that fails for want of descriptors says nothing
 /// of this one, and then no file can be opened either.
-fn is_open(stream: BorrowedFd<'_>) -> bool {
-    match stream.try_clone_to_owned() {
+fn is_open<S: AsFd>(stream: &S) -> bool {
+    match stream.as_fd().try_clone_to_owned() {
         Ok(_) => true,
         Err(e) => e.raw_os_error() != Some(NOT_OPEN),
     }
