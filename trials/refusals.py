@@ -6,9 +6,10 @@ usage: refusals.py PROGRAM
 For each command on a small input, and each kind of call (refuse.c): the first call is refused, then the second, and
 so on until a run has no such call. Of each run it is asked that it ends by itself, with a status that the kind allows;
 with 0 that the output and the files are those of a run without refusal; else that one note stands on standard error,
-that the output is a prefix of that run's, and that a file which is written is as at entry or a prefix; at 1 that files
-are as at entry, but for those of `search` and `import`; and that no other file changed. A run that ends with 1 is
-made once more with notes that can't be put, and has to end the same. Needs a C compiler.
+that the output is a prefix of that run's, with nothing at 1 and 4 but by `search` and `serve`, and that files are as at
+entry, but that a part that stood there may be gone. Where a call on a file is refused, one run may leave the new file
+at 5: the one that could not have the folder written to the disk behind the renaming. A run that ends with 1 is made
+once more with notes that can't be put, and has to end the same. Needs a C compiler.
 """
 import os
 import shutil
@@ -20,7 +21,8 @@ from console import version_1
 
 HERE = os.path.dirname(os.path.abspath(__file__))
 # The statuses beside 0 that a refused call of each kind may have.
-KINDS = {"alloc": {1}, "io": {4, 5}, "short": set()}
+# Where the host's edge is refused memory, that call on a file fails.
+KINDS = {"alloc": {1, 4, 5}, "io": {4, 5}, "file": {4, 5}, "short": set()}
 DIALOGUE = b"open a 3 a\ngrant a 1\nbad\nopen a 1 a\nopen b 2 a^3 x\ngrant b all\ntop b\nwhy a\nclose a\ntop a\nend\n"
 QUERIES = b"q1 a\nq2 a^2 b\n\nq3 b\n"
 
@@ -88,14 +90,24 @@ def fault_of(kind, words, target, entry, whole, got):
         return f"its notes are {notes!r}"
     if not whole[0].startswith(output):
         return "its output is no prefix"
-    if status in (1, 4) and not words.startswith(("search", "serve", "import")) and (output or files != entry):
-        return f"ended with {status} and left something"
+    if status in (1, 4) and output and not words.startswith(("search", "serve")):
+        return f"ended with {status} and printed something"
     for name in files.keys() | entry.keys():
         before, after = entry.get(name), files.get(name)
-        if after == before or (name == target and after is not None and whole[2][target].startswith(after)):
+        if after == before or (name == f"{target}.part" and after is None):
             continue
-        return f"left {name} neither as it was nor as a prefix"
+        if name == target and kind == "file" and after == whole[2][target]:
+            continue
+        return f"left {name} other than it was"
     return None
+
+
+def entries_of(inputs, target):
+    """The files at entry: without the one that is written, with an old one, and with a part that was left behind."""
+    if not target:
+        return [inputs]
+    old = dict(inputs, **{target: b"old content\n" * 400})
+    return [inputs, old, dict(old, **{f"{target}.part": b"left behind by a crash"})]
 
 
 def try_command(trial, words, target, given, inputs):
@@ -103,13 +115,13 @@ def try_command(trial, words, target, given, inputs):
     counts = {}
     for kind in KINDS:
         runs = faults = 0
-        for entry in [inputs] + ([dict(inputs, **{target: b"old content\n" * 400})] if target else []):
+        for entry in entries_of(inputs, target):
             trial.lay(entry)
             status, output, notes, files, _ = trial.run(words, given)
             if status:
                 raise SystemExit(f"{words}: ended with {status} where nothing was refused")
             whole = (output, notes, files)
-            number = 0
+            number = placed = 0
             while True:
                 number += 1
                 trial.lay(entry)
@@ -120,6 +132,9 @@ def try_command(trial, words, target, given, inputs):
                 if got[4] is None:
                     raise SystemExit(f"{words}: {kind} {number}: was killed, and ended with {got[0]}")
                 fault = fault_of(kind, words, target, entry, whole, got)
+                placed += bool(got[0] and target and got[3].get(target) == files[target])
+                if not fault and placed > 1:
+                    fault = "a second run that failed and left the new file"
                 if not fault and kind == "alloc" and got[0]:
                     trial.lay(entry)
                     with open("/dev/full", "wb") as full:
@@ -150,7 +165,7 @@ def main(words):
                 file.write(content)
         trial = Trial(program, shim, folder)
         inputs = trial.files()
-        print("runs with a refused allocation, a failed call, a short call:")
+        print("runs with a refused allocation, a failed call, a failed call on a file, a short call:")
         for words, target, given in COMMANDS:
             counts = try_command(trial, words, target, given, inputs)
             faults += sum(count for _, count in counts.values())

@@ -1,8 +1,9 @@
 /* Makes one call of a program fail, for refusals.py, which loads it in front of the C library.
 
    REFUSE has a kind and a number. `alloc N`: call N of malloc or realloc has no memory. `io N`: call N of read, pread,
-   write or open fails with EIO. `short N`: call N of read, pread or write that would move several bytes moves one. At
-   the end the number of calls of that kind is put on descriptor 9. */
+   write or open fails with EIO. `file N`: call N of rename, fsync, unlink, close, statx, readlink, fchmod, fchown or
+   fcntl does, though close closes. `short N`: call N of read, pread or write that would move several bytes moves one.
+   At the end the number of calls of that kind is put on descriptor 9. */
 #define _GNU_SOURCE
 #include <dlfcn.h>
 #include <errno.h>
@@ -11,6 +12,7 @@
 #include <stdio.h>
 #include <stdlib.h>
 #include <string.h>
+#include <sys/stat.h>
 #include <unistd.h>
 
 static char kind;
@@ -111,6 +113,76 @@ ssize_t pread(int fd, void *bytes, size_t size, off_t offset)
         return -1;
     }
     return next(fd, bytes, size > 1 && refused('s') ? 1 : size, offset);
+}
+
+/* Whether this call on a file is refused, and why it is then said to have failed. */
+static int file_refused(void)
+{
+    if (!refused('f'))
+        return 0;
+    errno = EIO;
+    return 1;
+}
+
+int rename(const char *from, const char *to)
+{
+    int (*next)(const char *, const char *) = (int (*)(const char *, const char *))dlsym(RTLD_NEXT, "rename");
+    return file_refused() ? -1 : next(from, to);
+}
+
+int fsync(int fd)
+{
+    int (*next)(int) = (int (*)(int))dlsym(RTLD_NEXT, "fsync");
+    return file_refused() ? -1 : next(fd);
+}
+
+int unlink(const char *path)
+{
+    int (*next)(const char *) = (int (*)(const char *))dlsym(RTLD_NEXT, "unlink");
+    return file_refused() ? -1 : next(path);
+}
+
+int close(int fd)
+{
+    int (*next)(int) = (int (*)(int))dlsym(RTLD_NEXT, "close");
+    int closed = next(fd);
+    return file_refused() ? -1 : closed;
+}
+
+int statx(int folder, const char *path, int flags, unsigned mask, struct statx *found)
+{
+    int (*next)(int, const char *, int, unsigned, struct statx *) =
+        (int (*)(int, const char *, int, unsigned, struct statx *))dlsym(RTLD_NEXT, "statx");
+    return file_refused() ? -1 : next(folder, path, flags, mask, found);
+}
+
+ssize_t readlink(const char *path, char *bytes, size_t size)
+{
+    ssize_t (*next)(const char *, char *, size_t) =
+        (ssize_t (*)(const char *, char *, size_t))dlsym(RTLD_NEXT, "readlink");
+    return file_refused() ? -1 : next(path, bytes, size);
+}
+
+int fchmod(int fd, mode_t mode)
+{
+    int (*next)(int, mode_t) = (int (*)(int, mode_t))dlsym(RTLD_NEXT, "fchmod");
+    return file_refused() ? -1 : next(fd, mode);
+}
+
+int fchown(int fd, uid_t user, gid_t group)
+{
+    int (*next)(int, uid_t, gid_t) = (int (*)(int, uid_t, gid_t))dlsym(RTLD_NEXT, "fchown");
+    return file_refused() ? -1 : next(fd, user, group);
+}
+
+int fcntl(int fd, int what, ...)
+{
+    int (*next)(int, int, ...) = (int (*)(int, int, ...))dlsym(RTLD_NEXT, "fcntl");
+    va_list rest;
+    va_start(rest, what);
+    long given = va_arg(rest, long);
+    va_end(rest);
+    return file_refused() ? -1 : next(fd, what, given);
 }
 
 ssize_t __write(int fd, const void *bytes, size_t size)
