@@ -33,23 +33,7 @@ impl<'a> PartFile<'a> {
         let folder = File::open(rt, folder_of(&target.path))?;
         // Where this fails and something stands there, the next call fails.
         let _ = remove_file(rt, &target.part);
-        let mode = if target.old.is_some() {
-            OWN_MODE
-        } else {
-            NEW_MODE
-        };
-        let file = OpenOptions::new()
-            .write(true)
-            .create_new(true)
-            .mode(mode)
-            .open(rt, &target.part)?;
-        let own = match file.metadata() {
-            Ok(found) => FileIdentity::of(&found),
-            Err(e) => {
-                let _ = remove_file(rt, &target.part);
-                return Err(e);
-            }
-        };
+        let (file, own) = make(rt, &target)?;
         let part = PartFile {
             rt,
             file,
@@ -115,6 +99,27 @@ impl<'a> Drop for PartFile<'a> {
             own: _,
             whole: _,
         } = self;
+    }
+}
+
+/// Makes a part's file, where nothing stands.
+fn make(rt: &HostRuntime, target: &Target) -> io::Result<(File, FileIdentity)> {
+    let mode = if target.old.is_some() {
+        OWN_MODE
+    } else {
+        NEW_MODE
+    };
+    let file = OpenOptions::new()
+        .write(true)
+        .create_new(true)
+        .mode(mode)
+        .open(rt, &target.part)?;
+    match file.metadata() {
+        Ok(found) => Ok((file, FileIdentity::of(&found))),
+        Err(e) => {
+            let _ = remove_file(rt, &target.part);
+            Err(e)
+        }
     }
 }
 
