@@ -1,6 +1,6 @@
-use crate::file_identity::{FileIdentity, identity_at};
+use crate::file_identity::FileIdentity;
 use crate::target::Target;
-use std::fs::{File, Metadata, OpenOptions, Permissions, remove_file, rename};
+use std::fs::{File, Metadata, OpenOptions, Permissions, remove_file, rename, symlink_metadata};
 use std::io;
 use std::io::{ErrorKind, Write};
 use std::os::unix::fs::{MetadataExt, OpenOptionsExt, PermissionsExt, fchown};
@@ -82,7 +82,10 @@ impl<'a> PartFile<'a> {
 
     /// Whether what stands at the part's path is this file, and not that of another run.
     fn stands(&self) -> bool {
-        identity_at(self.rt, &self.target.part).is_ok_and(|at| at == Some(self.own))
+        match symlink_metadata(self.rt, &self.target.part) {
+            Ok(found) => FileIdentity::of(&found) == self.own,
+            Err(_) => false,
+        }
     }
 }
 
