@@ -1,0 +1,10 @@
+pub mod Printed
+pub mod Added
+pub mod Written
+pub mod Agreeing
+pub mod Lists
+pub mod Lifting
+pub mod Edges
+pub mod Steps
+pub mod Refuting
+pub mod Deciding

@@ -1,0 +1,4 @@
+pub mod Rows
+pub mod Verdicts
+pub mod Audits
+pub mod Private
