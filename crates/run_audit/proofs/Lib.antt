@@ -1,3 +1,5 @@
+pub mod Gathered
+pub mod Turns
 pub mod Printed
 pub mod Added
 pub mod Written
