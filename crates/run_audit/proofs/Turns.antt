@@ -4,13 +4,15 @@ use Rattle.std.specs.List.{slice_index_or}
 use Rattle.jass_base.specs.declared.answer.Budget.{Budget}
 use Rattle.jass_base.specs.declared.answer.Hit.{Hit}
 use Rattle.jass_base.specs.declared.answer.Report.{Report}
+use Rattle.jass_base.specs.declared.query.Query.{Query}
 use Rattle.ranking_model.specs.declared.entry.Entry.{Entry}
 use Rattle.ranking_model.specs.declared.plan.QueryPlan.{QueryPlan}
 use Rattle.ranking_model.specs.Plan.{granted_sum, plan_of, prefix_within}
 use Rattle.ranking_model.specs.Report.{IsReport, report_line, tag_of}
 use Rattle.ranking_model.specs.Scores.{bound_after, scores_after, top_k}
-use Rattle.ranking_model.specs.Search.{AreReports, IsSearchReports, QueryData, first_part, prefix_granted, prefixes_granted, report_lines}
+use Rattle.ranking_model.specs.Search.{AreReports, IsSearchReports, QueryData, first_part, prefix_granted, prefixes_granted, query_data, report_lines}
 use Rattle.trec_run.specs.declared.run_line.RunLine.{RunLine}
+use Rattle.run_audit.specs.Audits.{queries_data}
 use Rattle.run_audit.specs.Private.Grading.{report_by}
 use Rattle.run_audit.specs.Private.Texts.{first_part_of, plan_for, queries_reports, queries_rows, query_reports, query_rows_for, reports_at, rows_at}
 use Rattle.run_audit.specs.Rows.{answers_at, hit_rows, part_rows, query_rows, search_rows}
@@ -62,6 +64,11 @@ module _ (many : ForEach) (plan : QueryPlan) (k : ℕ) (query : QueryData) (budg
   pub reports_end : reports_at plan k query (drop i (prefixes_granted budgets plan)) ≡ []
   unfolding reports_at
   reports_end = ap (flat_map (λ n. report_line query.id (report_by n plan k) query.unknown)) none_left
+
+-- ---- a query more
+
+pub queries_turn : (queries : List Query) (i : ℕ) (item : Query) → i < length queries → item ≡ get_or queries i item → queries_data (drop i queries) ≡ query_data item ∷ queries_data (drop (i + 1) queries)
+queries_turn queries i item inside is = ap queries_data (drop_more queries i item inside) ∙ ap (λ (q : Query). query_data q ∷ queries_data (drop (i + 1) queries)) (sym is)
 
 -- ---- all queries
 

@@ -20,6 +20,7 @@ use crate::verdict::Verdict;
 use index_file::IndexFile;
 use jass_base::{NoMemory, Query, Steps};
 use ranking_model::laws::a_plan_has_the_segments_of_its_postings;
+use ranking_model::prefix_laws::each_budget_has_its_prefix;
 use std::alloc::Global;
 use std::sync::ledger::Ledger;
 use trec_run::RunLine;
@@ -41,6 +42,7 @@ pub fn check_answers<L: Ledger>(
     ensures steps { Counts steps.old steps.new
         (queries_postings (numbered_flat index.now.index) (queries_data queries.now)) result }
 {
+    each_budget_has_its_prefix();
     let given = Given { run, reports };
     let mut places = Places {
         run: Place::start(),

@@ -106,7 +106,20 @@ fn check_answer(
     ensures reports { OnOk result (Advances given.now.reports.now places.old.reports places.new.reports
         (report_line query.now.id answer.now.report query.now.unknown)) }
 {
-    check_report(alloc, given.reports, query, answer.report, &mut places.reports)?;
-    check_hits(index, given.run, query.id.as_str(), tag, answer.hits.as_slice(), &mut places.run);
+    check_report(
+        alloc,
+        given.reports,
+        query,
+        answer.report,
+        &mut places.reports,
+    )?;
+    check_hits(
+        index,
+        given.run,
+        query.id.as_str(),
+        tag,
+        answer.hits.as_slice(),
+        &mut places.run,
+    );
     Ok(())
 }

@@ -85,7 +85,15 @@ fn read_segments<L: Ledger>(
     let mut segments = Vec::new(alloc);
     let mut term_place = 0;
     for named in terms {
-        read_term(alloc, index, *named, term_place, &mut segments, &mut block, steps)?;
+        read_term(
+            alloc,
+            index,
+            *named,
+            term_place,
+            &mut segments,
+            &mut block,
+            steps,
+        )?;
         term_place += 1;
     }
     Ok(segments)

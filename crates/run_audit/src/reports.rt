@@ -26,12 +26,7 @@ pub fn check_report(
 }
 
 /// The report line of an answer.
-fn report_text(
-    alloc: Global,
-    id: &str,
-    unknown: u32,
-    report: Report,
-) -> Result<Row<u8>, NoMemory>
+fn report_text(alloc: Global, id: &str, unknown: u32, report: Report) -> Result<Row<u8>, NoMemory>
     ensures { IfOk result (λ line. line ≡ report_line id.now report unknown) }
 {
     let mut postings = Digits::new();

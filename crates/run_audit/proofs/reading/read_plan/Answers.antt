@@ -34,7 +34,7 @@ returns-clause-small g c =
     let made : c.from_vec.result ≡ plan_segments (weighted_postings (numbered_flat index) c.args.terms.now)
     = c.from_vec.ensures ∙ c.in_ok-arrange.ensures ∙ ap (sorted plan_cmp) c.in_ok-segments.ensures.segments ∙ sym (c.the_plan_has_the_named_segments.ensures index c.args.terms.now is.index c.requires.terms) in
     let small = c.plans_are_small.ensures (length index.names) (numbered_flat index) c.args.terms.now (c.the_flat_list_is_flat.ensures.numbers index is.index) c.requires.terms c.in_ok-segments.ensures.times
-        (subst (λ (n : ℕ). n ≤ 2 ^ 29) (sym (flat_is_long index)) is.postings) in
+    (subst (λ (n : ℕ). n ≤ 2 ^ 29) (sym (flat_is_long index)) is.postings) in
     subst IsSmall (λ i. record { docs = sym c.docs.ensures i; terms = length c.args.terms.now; segments = sym made i }) small
 
 pub returns-clause-steps : goal.returns-clause-steps
