@@ -14,7 +14,7 @@ use Rattle.run_audit.specs.Rows.{IsColumn, IsLastColumn, IsPrintable, rows_text}
 
 -- ---- decimals
 
-abbrev IsDigit : ℕ → Type 0
+abbrev pub IsDigit : ℕ → Type 0
 IsDigit b = (48 ≤ b) × (b ≤ 57)
 
 digit_is : (c : ℕ) → digit_value c < 10 → IsDigit c
@@ -32,20 +32,20 @@ digits_pass : (ds : List ℕ) → AllByRecursion IsDigit ds → list_all is_asci
 digits_pass [] h = refl
 digits_pass (c ∷ cs) h = let low = le-leb 48 c h.0.0 in let high = le-leb c 57 h.0.1 in rw (low, high, digits_pass cs h.1) refl
 
-small_ascii : (ds : List ℕ) → AllByRecursion (λ b. b < 128) ds → IsAscii ds
+pub small_ascii : (ds : List ℕ) → AllByRecursion (λ b. b < 128) ds → IsAscii ds
 small_ascii [] h i = omega arith
 small_ascii (d ∷ ds) h zero = h.0
 small_ascii (d ∷ ds) h (suc i) = small_ascii ds h.1 i
 
-digits_small : (ds : List ℕ) → AllByRecursion IsDigit ds → AllByRecursion (λ b. b < 128) ds
+pub digits_small : (ds : List ℕ) → AllByRecursion IsDigit ds → AllByRecursion (λ b. b < 128) ds
 digits_small [] h = tt
 digits_small (d ∷ ds) h = (omega (arith, h.0.1), digits_small ds h.1)
 
 module _ (n : ℕ) (small : n < 2 ^ 64) where
-  decimal_digits : AllByRecursion IsDigit (decimal n)
+  pub decimal_digits : AllByRecursion IsDigit (decimal n)
   decimal_digits = digits_are (decimal n) (decimal_is_IsNumeral n small).0.1
 
-  decimal_some : 1 ≤ length (decimal n)
+  pub decimal_some : 1 ≤ length (decimal n)
   decimal_some = omega (arith, (decimal_is_IsNumeral n small).0.0)
 
   decimal_read : decimal_of (decimal n) ≡ Some n

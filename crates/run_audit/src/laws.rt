@@ -1,6 +1,6 @@
 //! Laws over the definitions. Each function does nothing: its contract is the law, and a caller learns it by the call.
 
-ghost use Rattle.std.specs.Prelude.{ℕ, ◌≡◌, List, Ok, All};
+ghost use Rattle.std.specs.Prelude.{ℕ, ◌≡◌, List, Ok};
 ghost use Rattle.std.specs.List.{AllByRecursion};
 ghost use Rattle.jass_base.specs.declared.answer.Budget.{Budget};
 ghost use Rattle.ranking_model.specs.declared.entry.Entry.{Entry};
@@ -8,10 +8,17 @@ ghost use Rattle.ranking_model.specs.Search.{IsSearchReports, QueryData, search_
 ghost use Rattle.trec_run.specs.declared.run_line.RunLine.{RunLine};
 ghost use Rattle.trec_run.specs.Runs.{run_of};
 ghost use Rattle.run_audit.specs.declared.verdict.Verdict.{Verdict};
-ghost use Rattle.run_audit.specs.Audits.{IsAudit, SearchData};
+ghost use Rattle.index_model.specs.Flat.{numbered_flat};
+ghost use Rattle.index_layout.specs.View.{FileView, IsFileView};
+ghost use Rattle.run_audit.specs.Audits.{IsAskable, IsAudit, SearchData};
 ghost use Rattle.run_audit.specs.Rows.{IsPrintable, rows_text, search_rows};
 ghost use Rattle.run_audit.specs.Verdicts.{IsVerdict};
 
+use index_model::laws::the_flat_list_is_flat;
+use ranking_model::laws::{
+    a_plan_has_the_segments_of_its_postings, plans_are_small, the_grade_is_one,
+};
+use ranking_model::prefix_laws::{each_budget_has_its_prefix, scores_stay_small};
 use text_lines::laws::lines_end_by_line_feeds;
 use trec_run::laws::runs_are_read;
 
@@ -44,4 +51,46 @@ pub fn printed_rows_are_read()
 {
     runs_are_read();
     lines_end_by_line_feeds();
+}
+
+/// What is said of a run and of reports beside a search is one verdict, whatever way the search is written out.
+pub fn an_audit_has_one_verdict()
+    ensures { (names : List (List ℕ)) (flat : List (Entry ℕ)) (queries : List QueryData) (search : SearchData)
+        (run : List RunLine) (reports : List ℕ) (first second : Verdict) →
+        IsAudit names flat queries search run reports first → IsAudit names flat queries search run reports second →
+        first ≡ second }
+{
+    a_verdict_is_one();
+    the_grade_is_one();
+}
+
+/// The rows of a search over an index file are printed, where the ids of its queries and its tag are columns.
+pub fn a_search_prints_its_rows()
+    ensures { (file : FileView) (queries : List QueryData) (search : SearchData) →
+        IsFileView file → IsAskable queries search →
+        AllByRecursion IsPrintable (search_rows file.index.names (numbered_flat file.index)
+        queries search.k search.budgets search.tag) }
+{
+    a_plan_has_the_segments_of_its_postings();
+    each_budget_has_its_prefix();
+    plans_are_small();
+    scores_stay_small();
+    the_flat_list_is_flat();
+}
+
+/// The run of such a search is read as its rows, so that with its reports it is audited with a yes.
+pub fn a_search_is_audited_with_yes()
+    ensures read { (file : FileView) (queries : List QueryData) (search : SearchData) →
+        IsFileView file → IsAskable queries search →
+        run_of (search_run file.index.names (numbered_flat file.index) queries search.k search.budgets search.tag)
+        ≡ Ok (search_rows file.index.names (numbered_flat file.index) queries search.k search.budgets search.tag) }
+    ensures yes { (file : FileView) (queries : List QueryData) (search : SearchData)
+        (run : List RunLine) (reports : List ℕ) → IsFileView file → IsAskable queries search →
+        run_of (search_run file.index.names (numbered_flat file.index) queries search.k search.budgets search.tag) ≡ Ok run →
+        IsSearchReports file.index.names (numbered_flat file.index) queries search.k search.budgets reports →
+        IsAudit file.index.names (numbered_flat file.index) queries search run reports Verdict.Yes }
+{
+    a_search_writes_its_rows();
+    printed_rows_are_read();
+    a_search_prints_its_rows();
 }
