@@ -4,6 +4,8 @@
 //! since a crate that has tests is proved twice.
 
 #[cfg(test)]
+mod audits;
+#[cfg(test)]
 mod desks;
 #[cfg(test)]
 mod feeds;
