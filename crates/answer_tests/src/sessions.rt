@@ -74,7 +74,7 @@ fn begun(
     requires some { 1 ≤ k }
     requires few { k ≤ 3 }
     requires chain { HasFreeNumber pool.old }
-    ensures stands { IfOk result (λ session. SessionStands session file.now pool.new) }
+    ensures stands { IfOk result (λ session. SessionStands session file.now.index pool.new) }
 {
     assert!(rt; file.terms() == 1);
     let query = asked(rt, alloc);
@@ -97,7 +97,7 @@ impl Model for Sitting {
 
     ghost view = { λ s. k_of s.session };
 
-    ghost invariant = { λ s. SessionStands s.session s.file s.pool };
+    ghost invariant = { λ s. SessionStands s.session s.file.index s.pool };
 }
 
 /// A session for the first k documents of a file, in a pool of one frame.
@@ -160,7 +160,7 @@ fn report(segments: u32, cutoff: u32, next: u32) -> Report {
 
 /// Gives a session's frames back.
 fn close(session: Session, file: &IndexFile, pool: &mut FramePool)
-    requires stands { SessionStands session file.now pool.old }
+    requires stands { SessionStands session file.now.index pool.old }
 {
     a_standing_session_has_its_chain();
     session.close(pool);

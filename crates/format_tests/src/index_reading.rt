@@ -4,7 +4,7 @@
 ghost use Rattle.std.specs.Prelude.{◌≡◌, ◌<◌};
 
 use index_check::check_file;
-use index_file::{CodecUse, IndexFile, open};
+use index_file::{CodecUse, IndexFile, Piece, Source, open};
 use index_layout::{OpenFault, OpenWhy};
 use jass_base::{Lexicon, MemCabinet, Names, Row, Steps, Totals};
 use std::alloc::Global;
@@ -203,15 +203,41 @@ fn check_bitmap(rt: &impl Abort, alloc: Global) {
 
 fn check_bits(rt: &impl Abort, file: &IndexFile, rows: &[(u32, Option<&[u8]>)]) {
     for (segment, bits) in rows {
-        assert!(rt; has_bits(file, *segment, *bits));
+        assert!(rt; has_bits::<Brand>(file, *segment, *bits, Blank::new(1)));
     }
 }
 
-fn has_bits(file: &IndexFile, segment: u32, bits: Option<&[u8]>) -> bool {
+/// Whether a segment is handed out in these bits, or in a block where there are none.
+fn has_bits<L: Ledger>(file: &IndexFile, segment: u32, bits: Option<&[u8]>, blank: Blank) -> bool
+    requires name { blank.name ≡ L.name }
+    requires parts { blank.parts ≡ L.parts }
+    requires some { 0 < blank.parts }
+{
+    let mut steps = Steps::<L>::new(blank);
+    let is = hands_out(file, segment, bits, &mut steps);
+    drop(steps);
+    is
+}
+
+fn hands_out<L: Ledger>(
+    file: &IndexFile,
+    segment: u32,
+    bits: Option<&[u8]>,
+    steps: &mut Steps<L>,
+) -> bool {
     if file.terms() != 1 || file.segments(0) != 3 || segment >= 3 {
         return false;
     }
-    file.bits(0, segment) == bits
+    let mut cursor = file.start(0, segment);
+    let mut block = [0u32; 128];
+    match file.hand_out(&mut cursor, &mut block, steps) {
+        Piece::Bits {
+            row,
+            bits: given,
+            count,
+        } => row == 0 && count == 1 && bits == Some(given),
+        Piece::Block { count } => count == 1 && bits.is_none(),
+    }
 }
 
 #[test]

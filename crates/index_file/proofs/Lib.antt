@@ -33,3 +33,4 @@ pub mod Stopping
 mod TermRows
 mod TermSteps
 mod Wholes
+pub mod Handed

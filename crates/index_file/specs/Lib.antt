@@ -8,3 +8,5 @@ pub mod Pieces
 pub mod Marks
 pub mod Sums
 pub mod Private
+pub mod Sources
+pub mod Handing

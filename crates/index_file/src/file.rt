@@ -52,7 +52,7 @@ pub struct IndexFile {
     places: Row<u32>,
     terms: TermTable,
     groups: Row<u32>,
-    payloads: Row<u8>,
+    pub(crate) payloads: Row<u8>,
     samples: Row<u64>,
 }
 
@@ -258,7 +258,7 @@ impl IndexFile {
 
     /// The head of a segment of a term, and the place of its payload.
     #[inline(always)]
-    fn segment(&self, t: u32, s: u32) -> PlacedHead
+    pub(crate) fn segment(&self, t: u32, s: u32) -> PlacedHead
         requires t { t < length self.now.index.terms }
         requires s { s < length (segments_at self.now.index.terms t) }
         ensures impact { result.head.impact ≡ (segment_at self.now.index.terms t s).impact }
@@ -330,26 +330,6 @@ impl IndexFile {
         let given = cursor.segment.next_block(payload, out);
         steps.add(given as u64);
         given
-    }
-
-    /// The bitmap of a segment, and `None` where its documents are spelled in another codec. Bit i is set where
-    /// document i is in the segment; bit 0 is the lowest bit of the first byte.
-    pub fn bits(&self, t: u32, s: u32) -> Option<&[u8]>
-        requires t { t < length self.now.index.terms }
-        requires s { s < length (segments_at self.now.index.terms t) }
-        ensures codec { IsSome result ↔ codec_at self.now.codecs t s ≡ Codec.Bitmap }
-        ensures docs { IfSome result (λ bits. set_bits 0 bits.now ≡ (segment_at self.now.index.terms t s).docs) }
-        ensures size { IfSome result (λ bits. length bits.now ≡ bitmap_size (length self.now.index.names)) }
-    {
-        bitmaps_are_their_documents();
-        match self.segment_head(t, s).codec {
-            Codec::Bitmap => {
-                let found = self.segment(t, s);
-                let from = found.place as usize;
-                Some(&self.payloads.as_slice()[from..from + found.head.size as usize])
-            }
-            _ => None,
-        }
     }
 
     /// The document of a segment that has one.

@@ -10,7 +10,7 @@ use Rattle.jass_top.specs.Private.OnceTexts.{session_text}
 use Rattle.jass_top.specs.SearchMeaning.{IsSearchReport}
 use Rattle.jass_top.proofs.Turns.{granted_more}
 
-module _ (file : FileView) (query : OnceQuery) (opened s : Session) (pool : PoolView) (stands : SessionStands s file pool) (is : IsSessionOf opened s)
+module _ (file : FileView) (query : OnceQuery) (opened s : Session) (pool : PoolView) (stands : SessionStands s file.index pool) (is : IsSessionOf opened s)
     (asks : query_data (query_of opened) ≡ once_query file.index query) (k_is : k_of opened ≡ query.k) (grants : granted_of s ≡ granted_with (granted_of opened) query.budget) (none : granted_of opened ≡ 0) where
   same : query_data (query_of s) ≡ once_query file.index query
   same = ap query_data is.query ∙ asks
@@ -36,8 +36,8 @@ module _ (file : FileView) (query : OnceQuery) (opened s : Session) (pool : Pool
   steps_are = ap (λ r. r.postings) stands.report
       ∙ (λ i. size_of_first (at i) (plan_of (length file.index.names) (numbered_flat file.index) (same i).terms).segments)
 
-  report_is : IsReport (prefix_of s) (plan_over file s) (k_of s) (report_of s)
-      → IsPromised (weighted_postings (numbered_flat file.index) (terms_of s)) (prefix_of s) (plan_over file s) (k_of s) (report_of s)
+  report_is : IsReport (prefix_of s) (plan_over file.index s) (k_of s) (report_of s)
+      → IsPromised (weighted_postings (numbered_flat file.index) (terms_of s)) (prefix_of s) (plan_over file.index s) (k_of s) (report_of s)
       → IsSearchReport file.index (once_query file.index query) query.k (once_prefix file.index query) (report_of s)
   unfolding session_plan
   report_is exact promised = subst (λ n. IsSearchReport file.index (once_query file.index query) query.k n (report_of s)) at
@@ -48,6 +48,6 @@ module _ (file : FileView) (query : OnceQuery) (opened s : Session) (pool : Pool
   abbrev pub answered : Output
   answered = record { content = []; text = session_text file s; steps = (report_of s).postings }
 
-  pub exact : IsReport (prefix_of s) (plan_over file s) (k_of s) (report_of s)
-      → IsPromised (weighted_postings (numbered_flat file.index) (terms_of s)) (prefix_of s) (plan_over file s) (k_of s) (report_of s) → IsOnceOutput query file.index answered
+  pub exact : IsReport (prefix_of s) (plan_over file.index s) (k_of s) (report_of s)
+      → IsPromised (weighted_postings (numbered_flat file.index) (terms_of s)) (prefix_of s) (plan_over file.index s) (k_of s) (report_of s) → IsOnceOutput query file.index answered
   exact reported promised = record { report = report_of s; answer = report_is reported promised; whole = λ i. record { content = []; text = text_is i; steps = steps_are i } }

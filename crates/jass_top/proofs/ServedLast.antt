@@ -8,19 +8,19 @@ use Rattle.jass_top.specs.Private.Sides.{Side}
 use Rattle.jass_top.proofs.Sides.{side_ok, side_err, side_none}
 use Rattle.jass_top.proofs.Serving.{Loses, given_as, replies_ended, replies_given, replies_none, side_flushed, side_unflushed, steps_ended, steps_given, steps_none}
 
-one_reply : (file : FileView) (state : DeskState) (actual line : List ℕ) → read_desk_line actual ≡ read_desk_line line → text_from file state (actual ∷ []) ≡ desk_reply file state line
+one_reply : (file : FileView) (state : DeskState) (actual line : List ℕ) → read_desk_line actual ≡ read_desk_line line → text_from file state (actual ∷ []) ≡ desk_reply file.index state line
 one_reply file state actual line same = at (is_end line) refl
   where
-    at : (b : Bool) → is_end line ≡ b → text_from file state (actual ∷ []) ≡ desk_reply file state line
+    at : (b : Bool) → is_end line ≡ b → text_from file state (actual ∷ []) ≡ desk_reply file.index state line
     at true is = replies_ended file state actual line [] same is
-    at false is = replies_given file state actual line [] same is ∙ ap (λ (t : List ℕ). desk_reply file state line ++ t) (replies_none file (desk_after file state line)) ∙ append-nil (desk_reply file state line)
+    at false is = replies_given file state actual line [] same is ∙ ap (λ (t : List ℕ). desk_reply file.index state line ++ t) (replies_none file (desk_after file.index state line)) ∙ append-nil (desk_reply file.index state line)
 
-one_step : (file : FileView) (state : DeskState) (actual line : List ℕ) → read_desk_line actual ≡ read_desk_line line → steps_from file state (actual ∷ []) ≡ desk_steps file state line
+one_step : (file : FileView) (state : DeskState) (actual line : List ℕ) → read_desk_line actual ≡ read_desk_line line → steps_from file.index state (actual ∷ []) ≡ desk_steps file.index state line
 one_step file state actual line same = at (is_end line) refl
   where
-    at : (b : Bool) → is_end line ≡ b → steps_from file state (actual ∷ []) ≡ desk_steps file state line
+    at : (b : Bool) → is_end line ≡ b → steps_from file.index state (actual ∷ []) ≡ desk_steps file.index state line
     at true is = steps_ended file state actual line [] same is
-    at false is = (let sum = steps_given file state actual line [] same is in let none = steps_none file (desk_after file state line) in omega (arith, sum, none))
+    at false is = (let sum = steps_given file state actual line [] same is in let none = steps_none file (desk_after file.index state line) in omega (arith, sum, none))
 
 module _ (whole : (w : Waiting) (pending : List ℕ) → Holds w pending → w.long ≡ false → pending ≡ w.bytes)
     (long : (w : Waiting) (pending : List ℕ) → Holds w pending → w.long ≡ true → 1048577 < length pending)
@@ -30,21 +30,21 @@ module _ (whole : (w : Waiting) (pending : List ℕ) → Holds w pending → w.l
   none_left no_lines file w state empty short frames taken said scored s =
       let is : lines_of taken ≡ s.passed ++ [] = all taken s.passed s.pending s.here ∙ ap (λ (p : List ℕ). s.passed ++ lines_of p) (whole w s.pending s.holds short ∙ empty) ∙ ap (λ (ls : List (List ℕ)). s.passed ++ ls) no_lines in
       record {
-        replies = ap (desk_replies file frames) is ∙ s.replies [] ∙ ap (λ (t : List ℕ). said ++ t) (replies_none file state);
-        steps = (let sum = ap (desk_postings file frames) is ∙ s.steps [] in let none = steps_none file state in omega (arith, sum, none));
+        replies = ap (desk_replies file.index frames) is ∙ s.replies [] ∙ ap (λ (t : List ℕ). said ++ t) (replies_none file state);
+        steps = (let sum = ap (desk_postings file.index frames) is ∙ s.steps [] in let none = steps_none file state in omega (arith, sum, none));
       }
 
   -- a line waits
   pub last_whole : (loses : Loses) (free : (w : Waiting) (pending : List ℕ) → Holds w pending → All (λ b. b ≢ 10) w.bytes → All (λ b. b ≢ 10) pending)
       (last : (line : List ℕ) → All (λ b. b ≢ 10) line → line ≢ [] → lines_of line ≡ strip_carriage_return line ∷ [])
       (file : FileView) (w : Waiting) (state : DeskState) (line : List ℕ) → All (λ b. b ≢ 10) w.bytes → (0 < length w.bytes) ⊎ (w.long ≡ true) → line ≡ given_line w w.bytes
-      → Leads file w state (desk_reply file state line) (desk_steps file state line) (IsWhole file)
+      → Leads file w state (desk_reply file.index state line) (desk_steps file.index state line) (IsWhole file)
   last_whole loses free last file w state line clean some given frames taken said scored s =
       let same = given_as loses w w.bytes s.pending (whole w s.pending s.holds) (long w s.pending s.holds) ∙ ap read_desk_line (sym given) in
       let is : lines_of taken ≡ s.passed ++ strip_carriage_return s.pending ∷ [] = all taken s.passed s.pending s.here ∙ ap (λ (ls : List (List ℕ)). s.passed ++ ls) (last s.pending (free w s.pending s.holds clean) there) in
       record {
-        replies = ap (desk_replies file frames) is ∙ s.replies (strip_carriage_return s.pending ∷ []) ∙ ap (λ (t : List ℕ). said ++ t) (one_reply file state (strip_carriage_return s.pending) line same);
-        steps = (let sum = ap (desk_postings file frames) is ∙ s.steps (strip_carriage_return s.pending ∷ []) in let one = one_step file state (strip_carriage_return s.pending) line same in omega (arith, sum, one));
+        replies = ap (desk_replies file.index frames) is ∙ s.replies (strip_carriage_return s.pending ∷ []) ∙ ap (λ (t : List ℕ). said ++ t) (one_reply file state (strip_carriage_return s.pending) line same);
+        steps = (let sum = ap (desk_postings file.index frames) is ∙ s.steps (strip_carriage_return s.pending ∷ []) in let one = one_step file state (strip_carriage_return s.pending) line same in omega (arith, sum, one));
       }
     where
       there : s.pending ≢ []
@@ -57,8 +57,8 @@ module _ (whole : (w : Waiting) (pending : List ℕ) → Holds w pending → w.l
 whole_front : (file : FileView) (frames : ℕ) (taken said : List ℕ) (scored : ℕ) → IsWhole file frames taken said scored → IsFrontAt file frames taken said scored []
 whole_front file frames taken said scored is = record {
   others = [];
-  replies = ap (λ (t : List ℕ). desk_replies file frames (lines_of t)) (append-nil taken) ∙ is.replies ∙ sym (append-nil said);
-  steps = (let sum = ap (λ (t : List ℕ). desk_postings file frames (lines_of t)) (append-nil taken) ∙ is.steps in omega (arith, sum));
+  replies = ap (λ (t : List ℕ). desk_replies file.index frames (lines_of t)) (append-nil taken) ∙ is.replies ∙ sym (append-nil said);
+  steps = (let sum = ap (λ (t : List ℕ). desk_postings file.index frames (lines_of t)) (append-nil taken) ∙ is.steps in omega (arith, sum));
 }
 
 module _ {S : Type 0} {written : S → Option (List ℕ)} {faults : S → ℕ} {rest : S → Rest} where

@@ -17,11 +17,11 @@ use Rattle.jass_top.proofs.Sides.{side_none, side_then}
 use Rattle.jass_top.proofs.Serving.{answers_as, replies_none, steps_none}
 
 -- at the beginning nothing was said
-at_first : (file : FileView) (frames : ℕ) (rest : List (List ℕ)) → desk_replies file frames rest ≡ text_from file (new_state frames) rest
+at_first : (file : FileView) (frames : ℕ) (rest : List (List ℕ)) → desk_replies file.index frames rest ≡ text_from file (new_state frames) rest
 unfolding desk_replies text_from
 at_first file frames rest = refl
 
-steps_first : (file : FileView) (frames : ℕ) (rest : List (List ℕ)) → desk_postings file frames rest ≡ steps_from file (new_state frames) rest
+steps_first : (file : FileView) (frames : ℕ) (rest : List (List ℕ)) → desk_postings file.index frames rest ≡ steps_from file.index (new_state frames) rest
 unfolding desk_postings
 steps_first file frames rest = refl
 
@@ -46,7 +46,7 @@ pub record IsPiece (file : FileView) (frames : ℕ) (taken said : List ℕ) : Ty
   pub last : List ℕ
   pub parts : taken ≡ earlier ++ last
   pub one_read : length last ≤ ROOM
-  pub answered : desk_replies file frames (ended_lines earlier) ≡ said
+  pub answered : desk_replies file.index frames (ended_lines earlier) ≡ said
 
 -- what a command meets beside the output, the feed and the steps
 abbrev meets : {S : Type 0} → (S → Option (List ℕ)) → (S → ℕ) → (S → Rest) → Outer → S → Option (List ℕ) → ℕ → ℕ → Outer
@@ -118,7 +118,7 @@ module _ {S : Type 0} {written : S → Option (List ℕ)} {faults : S → ℕ} {
       last = [];
       parts = refl;
       one_read = omega arith;
-      answered = ap (desk_replies file frames) (passed_whole [] [] [] none (All-nil (λ b. b ≢ 10))) ∙ at_first file frames [] ∙ replies_none file (new_state frames);
+      answered = ap (desk_replies file.index frames) (passed_whole [] [] [] none (All-nil (λ b. b ≢ 10))) ∙ at_first file frames [] ∙ replies_none file (new_state frames);
     };
   }
 
@@ -189,11 +189,11 @@ regrouped : (one two three four : List ℕ) → (one ++ (two ++ three)) ++ four 
 regrouped one two three four = ap (λ (t : List ℕ). t ++ four) (sym (append_assoc one two three)) ∙ append_assoc (one ++ two) three four
 
 -- what is said for the lines that were passed
-first_replies : (file : FileView) (frames : ℕ) (taken said : List ℕ) (scored : ℕ) (w : Waiting) (state : DeskState) → (s : Standing file frames taken said scored w state) → desk_replies file frames s.passed ≡ said
-first_replies file frames taken said scored w state s = ap (desk_replies file frames) (sym (append-nil s.passed)) ∙ s.replies [] ∙ ap (λ (t : List ℕ). said ++ t) (replies_none file state) ∙ append-nil said
+first_replies : (file : FileView) (frames : ℕ) (taken said : List ℕ) (scored : ℕ) (w : Waiting) (state : DeskState) → (s : Standing file frames taken said scored w state) → desk_replies file.index frames s.passed ≡ said
+first_replies file frames taken said scored w state s = ap (desk_replies file.index frames) (sym (append-nil s.passed)) ∙ s.replies [] ∙ ap (λ (t : List ℕ). said ++ t) (replies_none file state) ∙ append-nil said
 
-first_steps : (file : FileView) (frames : ℕ) (taken said : List ℕ) (scored : ℕ) (w : Waiting) (state : DeskState) → (s : Standing file frames taken said scored w state) → desk_postings file frames s.passed ≡ scored
-first_steps file frames taken said scored w state s = (let sum = ap (desk_postings file frames) (sym (append-nil s.passed)) ∙ s.steps [] in let none = steps_none file state in omega (arith, sum, none))
+first_steps : (file : FileView) (frames : ℕ) (taken said : List ℕ) (scored : ℕ) (w : Waiting) (state : DeskState) → (s : Standing file frames taken said scored w state) → desk_postings file.index frames s.passed ≡ scored
+first_steps file frames taken said scored w state s = (let sum = ap (desk_postings file.index frames) (sym (append-nil s.passed)) ∙ s.steps [] in let none = steps_none file state in omega (arith, sum, none))
 
 -- nothing was taken
 pub still_left : {before after : Option (List ℕ)} {w u : Waiting} → TakesNothing before after w u → u.left ≡ w.left
@@ -225,7 +225,7 @@ module _ {S : Type 0} {written : S → Option (List ℕ)} {faults : S → ℕ} {
       record {
         serves = record {
           input = s.taken ++ behind;
-          output = record { content = []; text = desk_replies file frames (lines_of (s.taken ++ behind)); steps = desk_postings file frames (lines_of (s.taken ++ behind)) };
+          output = record { content = []; text = desk_replies file.index frames (lines_of (s.taken ++ behind)); steps = desk_postings file.index frames (lines_of (s.taken ++ behind)) };
           had = had before left s.taken s.consumed;
           exact = record {
             answered = inr (ap (λ (n : ℕ). has_end (ended_lines (take n (s.taken ++ behind)))) (sym size) ∙ ap (λ (t : List ℕ). has_end (ended_lines t)) (take-append-add s.taken behind k) ∙ f.ended (take k behind));
@@ -283,9 +283,9 @@ module _ {S : Type 0} {written : S → Option (List ℕ)} {faults : S → ℕ} {
       let sent : List ℕ = s.said ++ take side.bytes.0 text in
       let lines : List (List ℕ) = lines_of (p.earlier ++ p.last) in
       let at_last : lines_of (s.taken ++ []) ≡ lines = ap lines_of (append-nil s.taken ∙ p.parts) in
-      let replied : desk_replies file frames lines ≡ sent ++ (drop side.bytes.0 text ++ front.others) =
-      ap (desk_replies file frames) (sym at_last) ∙ front.replies ∙ ap (λ (t : List ℕ). (s.said ++ t) ++ front.others) (sym (take-append-drop side.bytes.0 text)) ∙ regrouped s.said (take side.bytes.0 text) (drop side.bytes.0 text) front.others in
-      let sum : desk_postings file frames (lines_of (s.taken ++ [])) ≡ desk_postings file frames lines = ap (desk_postings file frames) at_last in
+      let replied : desk_replies file.index frames lines ≡ sent ++ (drop side.bytes.0 text ++ front.others) =
+      ap (desk_replies file.index frames) (sym at_last) ∙ front.replies ∙ ap (λ (t : List ℕ). (s.said ++ t) ++ front.others) (sym (take-append-drop side.bytes.0 text)) ∙ regrouped s.said (take side.bytes.0 text) (drop side.bytes.0 text) front.others in
+      let sum : desk_postings file.index frames (lines_of (s.taken ++ [])) ≡ desk_postings file.index frames lines = ap (desk_postings file.index frames) at_last in
       record {
         serves = record {
           earlier = p.earlier;
@@ -343,14 +343,14 @@ module _ {S : Type 0} {written : S → Option (List ℕ)} {faults : S → ℕ} {
         → ServedBeside written faults rest old out file frames before left steps later (Err stops.ReadFault)
     served_fault {old} {out} {file} {frames} {before} {left} {steps} {later} {w} {state} s free = λ beside one other.
         let lines = passed_whole s.taken s.stands.passed s.stands.pending s.stands.here (all_free w s.stands.pending s.stands.holds free) in
-        let scored = ap (desk_postings file frames) lines ∙ first_steps file frames s.taken s.said s.scored w state s.stands in
+        let scored = ap (desk_postings file.index frames) lines ∙ first_steps file frames s.taken s.said s.scored w state s.stands in
         record {
           serves = record {
             taken = s.taken;
             consumed = s.consumed;
             replies = record {
               told = refl;
-              text = subst (λ (t : List ℕ). Appends (written old) (written out) t) (sym (ap (desk_replies file frames) lines ∙ first_replies file frames s.taken s.said s.scored w state s.stands)) (exactly old out s.said tt s.side);
+              text = subst (λ (t : List ℕ). Appends (written old) (written out) t) (sym (ap (desk_replies file.index frames) lines ∙ first_replies file frames s.taken s.said s.scored w state s.stands)) (exactly old out s.said tt s.side);
               scored = omega (arith, s.counted, scored);
             };
           };
@@ -362,9 +362,9 @@ module _ {S : Type 0} {written : S → Option (List ℕ)} {faults : S → ℕ} {
 
     -- all that waited is answered before the next read
     pub all_answered : {old out : S} {file : FileView} {frames : ℕ} {before left : Option (List ℕ)} {steps later : ℕ} {w : Waiting} {state : DeskState}
-        → (s : Serving written faults rest old out file frames before left steps later w state) → All (λ b. b ≢ 10) w.bytes → desk_replies file frames (ended_lines s.taken) ≡ s.said
+        → (s : Serving written faults rest old out file frames before left steps later w state) → All (λ b. b ≢ 10) w.bytes → desk_replies file.index frames (ended_lines s.taken) ≡ s.said
     all_answered {file = file} {frames = frames} {w = w} {state = state} s free =
-        ap (desk_replies file frames) (passed_whole s.taken s.stands.passed s.stands.pending s.stands.here (all_free w s.stands.pending s.stands.holds free)) ∙ first_replies file frames s.taken s.said s.scored w state s.stands
+        ap (desk_replies file.index frames) (passed_whole s.taken s.stands.passed s.stands.pending s.stands.here (all_free w s.stands.pending s.stands.holds free)) ∙ first_replies file frames s.taken s.said s.scored w state s.stands
 
     -- nothing was read since
     pub piece_still : {old out : S} {file : FileView} {frames : ℕ} {before left : Option (List ℕ)} {steps later : ℕ} {w : Waiting} {state : DeskState}
@@ -393,7 +393,7 @@ module _ {S : Type 0} {written : S → Option (List ℕ)} {faults : S → ℕ} {
         let size : length s.taken ≡ MOST_TAKEN = omega (arith, s.stands.counted, none) in
         let front : take MOST_TAKEN (s.taken ++ rest_of left) ≡ s.taken = ap (λ (n : ℕ). take n (s.taken ++ rest_of left)) (sym size) ∙ take-append_seam s.taken (rest_of left) in
         let lines = ap ended_lines front ∙ passed_whole s.taken s.stands.passed s.stands.pending s.stands.here (all_free w s.stands.pending s.stands.holds free) in
-        let scored = ap (desk_postings file frames) lines ∙ first_steps file frames s.taken s.said s.scored w state s.stands in
+        let scored = ap (desk_postings file.index frames) lines ∙ first_steps file frames s.taken s.said s.scored w state s.stands in
         record {
           serves = record {
             input = s.taken ++ rest_of left;
@@ -403,7 +403,7 @@ module _ {S : Type 0} {written : S → Option (List ℕ)} {faults : S → ℕ} {
             endless = ap has_end lines ∙ s.stands.endless;
             replies = record {
               told = refl;
-              text = subst (λ (t : List ℕ). Appends (written old) (written out) t) (sym (ap (desk_replies file frames) lines ∙ first_replies file frames s.taken s.said s.scored w state s.stands)) (exactly old out s.said tt s.side);
+              text = subst (λ (t : List ℕ). Appends (written old) (written out) t) (sym (ap (desk_replies file.index frames) lines ∙ first_replies file frames s.taken s.said s.scored w state s.stands)) (exactly old out s.said tt s.side);
               scored = omega (arith, s.counted, scored);
             };
           };
@@ -423,7 +423,7 @@ module _ {S : Type 0} {written : S → Option (List ℕ)} {faults : S → ℕ} {
       record {
         serves = record {
           input = s.taken;
-          output = record { content = []; text = desk_replies file frames (lines_of s.taken); steps = desk_postings file frames (lines_of s.taken) };
+          output = record { content = []; text = desk_replies file.index frames (lines_of s.taken); steps = desk_postings file.index frames (lines_of s.taken) };
           had = had_all before left s.taken s.consumed end;
           exact = record { answered = inl (omega (arith, s.stands.counted, some)); content = refl; text = refl; steps = refl };
           left = record {

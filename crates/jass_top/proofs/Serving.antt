@@ -16,41 +16,41 @@ use Rattle.jass_top.specs.Private.Sides.{Side}
 -- ---- the replies to lines, one by one
 
 replies_more : (file : FileView) (state : DeskState) (line : List ℕ) (lines : List (List ℕ)) → is_end line ≡ false
-    → text_from file state (line ∷ lines) ≡ desk_reply file state line ++ text_from file (desk_after file state line) lines
+    → text_from file state (line ∷ lines) ≡ desk_reply file.index state line ++ text_from file (desk_after file.index state line) lines
 unfolding text_from replies_from
-replies_more file state line lines is = ap (λ (b : Bool). desk_reply file state line ++ concat (if b then [] else replies_from file (desk_after file state line) lines)) is
+replies_more file state line lines is = ap (λ (b : Bool). desk_reply file.index state line ++ concat (if b then [] else replies_from file.index (desk_after file.index state line) lines)) is
 
-replies_last : (file : FileView) (state : DeskState) (line : List ℕ) (lines : List (List ℕ)) → is_end line ≡ true → text_from file state (line ∷ lines) ≡ desk_reply file state line
+replies_last : (file : FileView) (state : DeskState) (line : List ℕ) (lines : List (List ℕ)) → is_end line ≡ true → text_from file state (line ∷ lines) ≡ desk_reply file.index state line
 unfolding text_from replies_from
-replies_last file state line lines is = ap (λ (b : Bool). desk_reply file state line ++ concat (if b then [] else replies_from file (desk_after file state line) lines)) is ∙ append-nil (desk_reply file state line)
+replies_last file state line lines is = ap (λ (b : Bool). desk_reply file.index state line ++ concat (if b then [] else replies_from file.index (desk_after file.index state line) lines)) is ∙ append-nil (desk_reply file.index state line)
 
 pub replies_none : (file : FileView) (state : DeskState) → text_from file state [] ≡ []
 unfolding text_from replies_from
 replies_none file state = refl
 
 steps_more : (file : FileView) (state : DeskState) (line : List ℕ) (lines : List (List ℕ)) → is_end line ≡ false
-    → steps_from file state (line ∷ lines) ≡ desk_steps file state line + steps_from file (desk_after file state line) lines
+    → steps_from file.index state (line ∷ lines) ≡ desk_steps file.index state line + steps_from file.index (desk_after file.index state line) lines
 unfolding steps_from
-steps_more file state line lines is = ap (λ (b : Bool). desk_steps file state line + (if b then 0 else steps_from file (desk_after file state line) lines)) is
+steps_more file state line lines is = ap (λ (b : Bool). desk_steps file.index state line + (if b then 0 else steps_from file.index (desk_after file.index state line) lines)) is
 
-steps_last : (file : FileView) (state : DeskState) (line : List ℕ) (lines : List (List ℕ)) → is_end line ≡ true → steps_from file state (line ∷ lines) ≡ desk_steps file state line + 0
+steps_last : (file : FileView) (state : DeskState) (line : List ℕ) (lines : List (List ℕ)) → is_end line ≡ true → steps_from file.index state (line ∷ lines) ≡ desk_steps file.index state line + 0
 unfolding steps_from
-steps_last file state line lines is = ap (λ (b : Bool). desk_steps file state line + (if b then 0 else steps_from file (desk_after file state line) lines)) is
+steps_last file state line lines is = ap (λ (b : Bool). desk_steps file.index state line + (if b then 0 else steps_from file.index (desk_after file.index state line) lines)) is
 
-pub steps_none : (file : FileView) (state : DeskState) → steps_from file state [] ≡ 0
+pub steps_none : (file : FileView) (state : DeskState) → steps_from file.index state [] ≡ 0
 unfolding steps_from
 steps_none file state = refl
 
 -- a desk reads the line and no more
-same_reply : (file : FileView) (state : DeskState) (line other : List ℕ) → read_desk_line line ≡ read_desk_line other → desk_reply file state line ≡ desk_reply file state other
+same_reply : (file : FileView) (state : DeskState) (line other : List ℕ) → read_desk_line line ≡ read_desk_line other → desk_reply file.index state line ≡ desk_reply file.index state other
 unfolding desk_reply
 same_reply file state line other is = ap (reply_to file state) is
 
-same_after : (file : FileView) (state : DeskState) (line other : List ℕ) → read_desk_line line ≡ read_desk_line other → desk_after file state line ≡ desk_after file state other
+same_after : (file : FileView) (state : DeskState) (line other : List ℕ) → read_desk_line line ≡ read_desk_line other → desk_after file.index state line ≡ desk_after file.index state other
 unfolding desk_after
 same_after file state line other is = ap (after_of file state) is
 
-same_steps : (file : FileView) (state : DeskState) (line other : List ℕ) → read_desk_line line ≡ read_desk_line other → desk_steps file state line ≡ desk_steps file state other
+same_steps : (file : FileView) (state : DeskState) (line other : List ℕ) → read_desk_line line ≡ read_desk_line other → desk_steps file.index state line ≡ desk_steps file.index state other
 unfolding desk_steps
 same_steps file state line other is = ap (steps_of file state) is
 
@@ -105,21 +105,21 @@ then_leads P file w new state after first second n m moves leads frames taken sa
 -- ---- one line
 
 pub replies_given : (file : FileView) (state : DeskState) (actual line : List ℕ) (rest : List (List ℕ)) → read_desk_line actual ≡ read_desk_line line → is_end line ≡ false
-    → text_from file state (actual ∷ rest) ≡ desk_reply file state line ++ text_from file (desk_after file state line) rest
+    → text_from file state (actual ∷ rest) ≡ desk_reply file.index state line ++ text_from file (desk_after file.index state line) rest
 replies_given file state actual line rest same on = replies_more file state actual rest (same_end actual line same ∙ on)
-    ∙ ap (λ (t : List ℕ). t ++ text_from file (desk_after file state actual) rest) (same_reply file state actual line same)
-    ∙ ap (λ (s : DeskState). desk_reply file state line ++ text_from file s rest) (same_after file state actual line same)
+    ∙ ap (λ (t : List ℕ). t ++ text_from file (desk_after file.index state actual) rest) (same_reply file state actual line same)
+    ∙ ap (λ (s : DeskState). desk_reply file.index state line ++ text_from file s rest) (same_after file state actual line same)
 
 pub steps_given : (file : FileView) (state : DeskState) (actual line : List ℕ) (rest : List (List ℕ)) → read_desk_line actual ≡ read_desk_line line → is_end line ≡ false
-    → steps_from file state (actual ∷ rest) ≡ desk_steps file state line + steps_from file (desk_after file state line) rest
+    → steps_from file.index state (actual ∷ rest) ≡ desk_steps file.index state line + steps_from file.index (desk_after file.index state line) rest
 steps_given file state actual line rest same on = steps_more file state actual rest (same_end actual line same ∙ on)
-    ∙ ap (λ (n : ℕ). n + steps_from file (desk_after file state actual) rest) (same_steps file state actual line same)
-    ∙ ap (λ (s : DeskState). desk_steps file state line + steps_from file s rest) (same_after file state actual line same)
+    ∙ ap (λ (n : ℕ). n + steps_from file.index (desk_after file.index state actual) rest) (same_steps file state actual line same)
+    ∙ ap (λ (s : DeskState). desk_steps file.index state line + steps_from file.index s rest) (same_after file state actual line same)
 
-pub replies_ended : (file : FileView) (state : DeskState) (actual line : List ℕ) (rest : List (List ℕ)) → read_desk_line actual ≡ read_desk_line line → is_end line ≡ true → text_from file state (actual ∷ rest) ≡ desk_reply file state line
+pub replies_ended : (file : FileView) (state : DeskState) (actual line : List ℕ) (rest : List (List ℕ)) → read_desk_line actual ≡ read_desk_line line → is_end line ≡ true → text_from file state (actual ∷ rest) ≡ desk_reply file.index state line
 replies_ended file state actual line rest same last = replies_last file state actual rest (same_end actual line same ∙ last) ∙ same_reply file state actual line same
 
-pub steps_ended : (file : FileView) (state : DeskState) (actual line : List ℕ) (rest : List (List ℕ)) → read_desk_line actual ≡ read_desk_line line → is_end line ≡ true → steps_from file state (actual ∷ rest) ≡ desk_steps file state line
+pub steps_ended : (file : FileView) (state : DeskState) (actual line : List ℕ) (rest : List (List ℕ)) → read_desk_line actual ≡ read_desk_line line → is_end line ≡ true → steps_from file.index state (actual ∷ rest) ≡ desk_steps file.index state line
 steps_ended file state actual line rest same last =
     let sum = steps_last file state actual rest (same_end actual line same ∙ last) in
     let is = same_steps file state actual line same in
@@ -145,8 +145,8 @@ end_there (x ∷ lines) line more is = at (is_end x) refl (end_there lines line 
 pub standing_front : (file : FileView) (frames : ℕ) (w : Waiting) (state : DeskState) (taken said : List ℕ) (scored : ℕ) → Standing file frames taken said scored w state → IsFront file frames taken said scored
 standing_front file frames w state taken said scored s more = record {
   others = text_from file state (lines_of (s.pending ++ more));
-  replies = ap (desk_replies file frames) (s.here.lines more) ∙ s.replies (lines_of (s.pending ++ more));
-  steps = (let sum = ap (desk_postings file frames) (s.here.lines more) ∙ s.steps (lines_of (s.pending ++ more)) in omega (arith, sum));
+  replies = ap (desk_replies file.index frames) (s.here.lines more) ∙ s.replies (lines_of (s.pending ++ more));
+  steps = (let sum = ap (desk_postings file.index frames) (s.here.lines more) ∙ s.steps (lines_of (s.pending ++ more)) in omega (arith, sum));
 }
 
 finished_front : (file : FileView) (frames : ℕ) (taken said : List ℕ) (scored : ℕ) → Finished file frames taken said scored → IsFront file frames taken said scored
@@ -162,7 +162,7 @@ module _ (loses : Loses) (passes : PassesFirst) (passed_line : PassedLine) where
   same_line w pending line end p is = given_as loses w (take end w.bytes) p.line p.whole p.many ∙ ap read_desk_line (sym is)
 
   pub line_moves : (file : FileView) (w : Waiting) (state : DeskState) (end : ℕ) (line : List ℕ) → EndsFirst w.bytes end → line ≡ given_line w (take end w.bytes) → is_end line ≡ false
-      → Moves file w (passed_to end w) state (desk_after file state line) (desk_reply file state line) (desk_steps file state line)
+      → Moves file w (passed_to end w) state (desk_after file.index state line) (desk_reply file.index state line) (desk_steps file.index state line)
   line_moves file w state end line first is on frames taken said scored s =
       let p = passes w s.pending end s.holds first in let actual = strip_carriage_return p.line in
       let same = same_line w s.pending line end p is in
@@ -173,14 +173,14 @@ module _ (loses : Loses) (passes : PassesFirst) (passed_line : PassedLine) where
         holds = p.holds;
         counted = s.counted;
         endless = still_endless s.passed actual s.endless (same_end actual line same ∙ on);
-        replies = λ rest. ap (desk_replies file frames) (append_assoc s.passed (actual ∷ []) rest) ∙ s.replies (actual ∷ rest) ∙ ap (λ (t : List ℕ). said ++ t) (replies_given file state actual line rest same on)
-            ∙ sym (append_assoc said (desk_reply file state line) (text_from file (desk_after file state line) rest));
-        steps = λ rest. (let one = ap (desk_postings file frames) (append_assoc s.passed (actual ∷ []) rest) ∙ s.steps (actual ∷ rest) in
+        replies = λ rest. ap (desk_replies file.index frames) (append_assoc s.passed (actual ∷ []) rest) ∙ s.replies (actual ∷ rest) ∙ ap (λ (t : List ℕ). said ++ t) (replies_given file state actual line rest same on)
+            ∙ sym (append_assoc said (desk_reply file.index state line) (text_from file (desk_after file.index state line) rest));
+        steps = λ rest. (let one = ap (desk_postings file.index frames) (append_assoc s.passed (actual ∷ []) rest) ∙ s.steps (actual ∷ rest) in
             let two = steps_given file state actual line rest same on in omega (arith, one, two));
       }
 
   pub line_finishes : (file : FileView) (w : Waiting) (state : DeskState) (end : ℕ) (line : List ℕ) → EndsFirst w.bytes end → line ≡ given_line w (take end w.bytes) → is_end line ≡ true
-      → Leads file w state (desk_reply file state line) (desk_steps file state line) (Finished file)
+      → Leads file w state (desk_reply file.index state line) (desk_steps file.index state line) (Finished file)
   line_finishes file w state end line first is last frames taken said scored s =
       let p = passes w s.pending end s.holds first in let actual = strip_carriage_return p.line in
       let same = same_line w s.pending line end p is in
@@ -189,19 +189,19 @@ module _ (loses : Loses) (passes : PassesFirst) (passed_line : PassedLine) where
       record {
         size = omega (arith, s.counted);
         ended = λ more. ap has_end (after.ended more ∙ append_assoc s.passed (actual ∷ []) (ended_lines (drop (end + 1) w.bytes ++ more))) ∙ end_there s.passed actual (ended_lines (drop (end + 1) w.bytes ++ more)) (same_end actual line same ∙ last);
-        replies = λ more. ap (desk_replies file frames) (lines more) ∙ s.replies (actual ∷ lines_of (drop (end + 1) w.bytes ++ more))
+        replies = λ more. ap (desk_replies file.index frames) (lines more) ∙ s.replies (actual ∷ lines_of (drop (end + 1) w.bytes ++ more))
             ∙ ap (λ (t : List ℕ). said ++ t) (replies_ended file state actual line (lines_of (drop (end + 1) w.bytes ++ more)) same last);
-        steps = λ more. (let one = ap (desk_postings file frames) (lines more) ∙ s.steps (actual ∷ lines_of (drop (end + 1) w.bytes ++ more)) in
+        steps = λ more. (let one = ap (desk_postings file.index frames) (lines more) ∙ s.steps (actual ∷ lines_of (drop (end + 1) w.bytes ++ more)) in
             let two = steps_ended file state actual line (lines_of (drop (end + 1) w.bytes ++ more)) same last in omega (arith, one, two));
       }
 
   pub line_cuts : (file : FileView) (w : Waiting) (state : DeskState) (end : ℕ) (line : List ℕ) → EndsFirst w.bytes end → line ≡ given_line w (take end w.bytes)
-      → Leads file w state (desk_reply file state line) (desk_steps file state line) (IsFront file)
+      → Leads file w state (desk_reply file.index state line) (desk_steps file.index state line) (IsFront file)
   line_cuts file w state end line first is frames taken said scored s = at (is_end line) refl
     where
-      at : (b : Bool) → is_end line ≡ b → IsFront file frames taken (said ++ desk_reply file state line) (scored + desk_steps file state line)
-      at true last = finished_front file frames taken (said ++ desk_reply file state line) (scored + desk_steps file state line) (line_finishes file w state end line first is last frames taken said scored s)
-      at false on = standing_front file frames (passed_to end w) (desk_after file state line) taken (said ++ desk_reply file state line) (scored + desk_steps file state line) (line_moves file w state end line first is on frames taken said scored s)
+      at : (b : Bool) → is_end line ≡ b → IsFront file frames taken (said ++ desk_reply file.index state line) (scored + desk_steps file.index state line)
+      at true last = finished_front file frames taken (said ++ desk_reply file.index state line) (scored + desk_steps file.index state line) (line_finishes file w state end line first is last frames taken said scored s)
+      at false on = standing_front file frames (passed_to end w) (desk_after file.index state line) taken (said ++ desk_reply file.index state line) (scored + desk_steps file.index state line) (line_moves file w state end line first is on frames taken said scored s)
 
 -- ---- how a line went
 
@@ -214,7 +214,7 @@ goes_last went true is if_end = refl
 goes_last went false is if_end = (let bad : IsTrue false = if_end.0 is in cc)
 
 -- a line that takes memory scores nothing
-pub opening_steps : (file : FileView) (state : DeskState) (line : List ℕ) → IsTrue (may_want_memory state line) → desk_steps file state line ≡ 0
+pub opening_steps : (file : FileView) (state : DeskState) (line : List ℕ) → IsTrue (may_want_memory state line) → desk_steps file.index state line ≡ 0
 unfolding may_want_memory desk_steps
 opening_steps file state line wants = at (read_desk_line line) wants
   where

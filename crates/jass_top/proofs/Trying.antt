@@ -41,14 +41,14 @@ pub next_granted : (s t : Session) (j : ℕ) → j < length trial_budgets → gr
     → granted_of t ≡ granted_sum (take (j + 1) trial_budgets)
 next_granted s t j inside before granted = granted ∙ ap (λ n. granted_with n (get_or trial_budgets j All)) before ∙ granted_more trial_budgets j All inside
 
-module _ (file : FileView) (s t : Session) (pool : PoolView) (j : ℕ) (stands : SessionStands t file pool) (same : query_of t ≡ query_of s) (ten : k_of t ≡ 10) (granted : granted_of t ≡ granted_sum (take j trial_budgets)) where
+module _ (file : FileView) (s t : Session) (pool : PoolView) (j : ℕ) (stands : SessionStands t file.index pool) (same : query_of t ≡ query_of s) (ten : k_of t ≡ 10) (granted : granted_of t ≡ granted_sum (take j trial_budgets)) where
   pub report_is : report_of t ≡ report_after file j (query_data (query_of s))
   unfolding report_after
-  report_is = stands.report ∙ (λ i. report_by (prefix_is file s t pool trial_budgets j stands same granted i) (session_plan file (same i).terms) (ten i))
+  report_is = stands.report ∙ (λ i. report_by (prefix_is file s t pool trial_budgets j stands same granted i) (session_plan file.index (same i).terms) (ten i))
 
-  pub hits_are : answer_over file t ≡ hits_after file j (query_data (query_of s))
+  pub hits_are : answer_over file.index t ≡ hits_after file j (query_data (query_of s))
   unfolding hits_after
-  hits_are = λ i. top_k (prefix_is file s t pool trial_budgets j stands same granted i) (session_plan file (same i).terms) (ten i)
+  hits_are = λ i. top_k (prefix_is file s t pool trial_budgets j stands same granted i) (session_plan file.index (same i).terms) (ten i)
 
 -- ---- one query more
 

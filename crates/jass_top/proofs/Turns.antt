@@ -12,27 +12,27 @@ abbrev pub ComeFrom : Type 0
 ComeFrom = (budgets : List Budget) (plan : QueryPlan) (j : ℕ) → j < length budgets → drop j (prefixes_granted budgets plan) ≡ prefix_granted (j + 1) budgets plan ∷ drop (j + 1) (prefixes_granted budgets plan)
 
 module _ (from : ComeFrom) (file : FileView) (k : ℕ) (budgets : List Budget) (s t : Session) (i : ℕ) (inside : i < length budgets)
-    (same : query_of t ≡ query_of s) (asked : k_of t ≡ k) (at : prefix_of t ≡ prefix_granted (i + 1) budgets (session_plan file (terms_of s))) where
-  answer_is : (tag : List ℕ) (part : ℕ) → answer_text file t tag part ≡ run_lines file.index.names (query_of s).id (tag_of tag part) 1 (top_k (prefix_granted (i + 1) budgets (session_plan file (terms_of s))) (session_plan file (terms_of s)) k)
-  answer_is tag part = λ x. run_lines file.index.names (same x).id (tag_of tag part) 1 (top_k (at x) (session_plan file (same x).terms) (asked x))
+    (same : query_of t ≡ query_of s) (asked : k_of t ≡ k) (at : prefix_of t ≡ prefix_granted (i + 1) budgets (session_plan file.index (terms_of s))) where
+  answer_is : (tag : List ℕ) (part : ℕ) → answer_text file t tag part ≡ run_lines file.index.names (query_of s).id (tag_of tag part) 1 (top_k (prefix_granted (i + 1) budgets (session_plan file.index (terms_of s))) (session_plan file.index (terms_of s)) k)
+  answer_is tag part = λ x. run_lines file.index.names (same x).id (tag_of tag part) 1 (top_k (at x) (session_plan file.index (same x).terms) (asked x))
 
   pub run_turn : (tag : List ℕ) (part : ℕ) → parts_run file k tag (query_data (query_of s)) part (drop i (prefixes_for file budgets (query_data (query_of s))))
       ≡ answer_text file t tag part ++ parts_run file k tag (query_data (query_of s)) (part + 1) (drop (i + 1) (prefixes_for file budgets (query_data (query_of s))))
   unfolding parts_run
   run_turn tag part =
-      ap (λ ns. run_parts file.index.names (query_of s).id tag part (map (λ n. top_k n (session_plan file (terms_of s)) k) ns)) (from budgets (session_plan file (terms_of s)) i inside)
-      ∙ ap (λ (text : List ℕ). text ++ run_parts file.index.names (query_of s).id tag (part + 1) (map (λ n. top_k n (session_plan file (terms_of s)) k) (drop (i + 1) (prefixes_granted budgets (session_plan file (terms_of s)))))) (sym (answer_is tag part))
+      ap (λ ns. run_parts file.index.names (query_of s).id tag part (map (λ n. top_k n (session_plan file.index (terms_of s)) k) ns)) (from budgets (session_plan file.index (terms_of s)) i inside)
+      ∙ ap (λ (text : List ℕ). text ++ run_parts file.index.names (query_of s).id tag (part + 1) (map (λ n. top_k n (session_plan file.index (terms_of s)) k) (drop (i + 1) (prefixes_granted budgets (session_plan file.index (terms_of s)))))) (sym (answer_is tag part))
 
-  pub report_turn : report_of t ≡ report_by (prefix_of t) (plan_over file t) (k_of t) → parts_reports file k (query_data (query_of s)) (drop i (prefixes_for file budgets (query_data (query_of s))))
+  pub report_turn : report_of t ≡ report_by (prefix_of t) (plan_over file.index t) (k_of t) → parts_reports file k (query_data (query_of s)) (drop i (prefixes_for file budgets (query_data (query_of s))))
       ≡ report_text t ++ parts_reports file k (query_data (query_of s)) (drop (i + 1) (prefixes_for file budgets (query_data (query_of s))))
   unfolding parts_reports
   report_turn reported =
-      let line : ℕ → List ℕ = λ n. report_line (query_of s).id (report_by n (session_plan file (terms_of s)) k) (query_of s).unknown in
-      let is : report_text t ≡ line (prefix_granted (i + 1) budgets (session_plan file (terms_of s)))
+      let line : ℕ → List ℕ = λ n. report_line (query_of s).id (report_by n (session_plan file.index (terms_of s)) k) (query_of s).unknown in
+      let is : report_text t ≡ line (prefix_granted (i + 1) budgets (session_plan file.index (terms_of s)))
       = ap (λ r. report_line (query_of t).id r (query_of t).unknown) reported
-      ∙ (λ x. report_line (same x).id (report_by (at x) (session_plan file (same x).terms) (asked x)) (same x).unknown) in
-      ap (flat_map line) (from budgets (session_plan file (terms_of s)) i inside)
-      ∙ ap (λ (text : List ℕ). text ++ flat_map line (drop (i + 1) (prefixes_granted budgets (session_plan file (terms_of s))))) (sym is)
+      ∙ (λ x. report_line (same x).id (report_by (at x) (session_plan file.index (same x).terms) (asked x)) (same x).unknown) in
+      ap (flat_map line) (from budgets (session_plan file.index (terms_of s)) i inside)
+      ∙ ap (λ (text : List ℕ). text ++ flat_map line (drop (i + 1) (prefixes_granted budgets (session_plan file.index (terms_of s))))) (sym is)
 
 -- ---- steps
 
@@ -62,21 +62,21 @@ sum_more budgets i d inside = ap (sum_by amount_of) (take_more budgets i d insid
 pub granted_more : (budgets : List Budget) (i : ℕ) (d : Budget) → i < length budgets → granted_with (granted_sum (take i budgets)) (get_or budgets i d) ≡ granted_sum (take (i + 1) budgets)
 granted_more budgets i d inside = omega (arith, sum_more budgets i d inside)
 
-pub prefix_is : (file : FileView) (s t : Session) (pool : PoolView) (budgets : List Budget) (j : ℕ) → SessionStands t file pool → query_of t ≡ query_of s → granted_of t ≡ granted_sum (take j budgets)
-    → prefix_of t ≡ prefix_granted j budgets (session_plan file (terms_of s))
-prefix_is file s t pool budgets j stands same granted = stands.prefix ∙ (λ x. prefix_within (granted x) (session_plan file (same x).terms).segments)
+pub prefix_is : (file : FileView) (s t : Session) (pool : PoolView) (budgets : List Budget) (j : ℕ) → SessionStands t file.index pool → query_of t ≡ query_of s → granted_of t ≡ granted_sum (take j budgets)
+    → prefix_of t ≡ prefix_granted j budgets (session_plan file.index (terms_of s))
+prefix_is file s t pool budgets j stands same granted = stands.prefix ∙ (λ x. prefix_within (granted x) (session_plan file.index (same x).terms).segments)
 
-pub scored_part : Resumes → Sizes → (file : FileView) (s t : Session) (pool : PoolView) (budgets : List Budget) (j : ℕ) → SessionStands t file pool → query_of t ≡ query_of s → granted_of t ≡ granted_sum (take j budgets)
+pub scored_part : Resumes → Sizes → (file : FileView) (s t : Session) (pool : PoolView) (budgets : List Budget) (j : ℕ) → SessionStands t file.index pool → query_of t ≡ query_of s → granted_of t ≡ granted_sum (take j budgets)
     → (report_of t).postings ≤ query_steps file budgets (query_data (query_of s))
 scored_part resumes sizes file s t pool budgets j stands same granted =
-    let segments : List PlanSegment = (session_plan file (terms_of s)).segments in
+    let segments : List PlanSegment = (session_plan file.index (terms_of s)).segments in
     let is : (report_of t).postings ≡ size_of_first (prefix_within (granted_sum (take j budgets)) segments) segments
-    = ap (λ r. r.postings) stands.report ∙ (λ x. size_of_first (prefix_is file s t pool budgets j stands same granted x) (session_plan file (same x).terms).segments) in
+    = ap (λ r. r.postings) stands.report ∙ (λ x. size_of_first (prefix_is file s t pool budgets j stands same granted x) (session_plan file.index (same x).terms).segments) in
     omega (arith, is, part_scored resumes sizes (granted_sum (take j budgets)) (granted_sum budgets) segments (part_granted budgets j))
 
-pub scored_none : ((budget : ℕ) (segments : List PlanSegment) → size_of_first (prefix_within budget segments) segments ≤ budget) → (file : FileView) (s : Session) (pool : PoolView) → SessionStands s file pool → granted_of s ≡ 0 → (report_of s).postings ≡ 0
+pub scored_none : ((budget : ℕ) (segments : List PlanSegment) → size_of_first (prefix_within budget segments) segments ≤ budget) → (file : FileView) (s : Session) (pool : PoolView) → SessionStands s file.index pool → granted_of s ≡ 0 → (report_of s).postings ≡ 0
 scored_none fits file s pool stands none =
-    let segments : List PlanSegment = (session_plan file (terms_of s)).segments in
+    let segments : List PlanSegment = (session_plan file.index (terms_of s)).segments in
     let is : (report_of s).postings ≡ size_of_first (prefix_within (granted_of s) segments) segments = ap (λ r. r.postings) stands.report ∙ ap (λ n. size_of_first n segments) stands.prefix in
     omega (arith, is, fits (granted_of s) segments, none)
 

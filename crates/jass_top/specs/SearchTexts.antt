@@ -13,7 +13,7 @@ use Rattle.jass_top.specs.SearchMeaning.{Search, postings_within, scored_in}
 
 -- the plan of a query
 abbrev pub plan_for : FileView → QueryData → QueryPlan
-plan_for file query = session_plan file query.terms
+plan_for file query = session_plan file.index query.terms
 
 -- the run lines of a query's answers at some prefixes, as parts from a number on
 unfoldable pub parts_run : FileView → ℕ → List ℕ → QueryData → ℕ → List ℕ → List ℕ

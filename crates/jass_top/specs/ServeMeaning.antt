@@ -31,16 +31,16 @@ IsAnswered input = (length input < MOST_TAKEN) ⊎ (has_end (lines_taken input) 
 pub record IsServeOutput (frames : ℕ) (file : FileView) (input : List ℕ) (output : Output) : Type 0 where
   pub answered : IsAnswered input
   pub content : output.content ≡ []
-  pub text : output.text ≡ desk_replies file frames (lines_of input)
-  pub steps : output.steps ≡ desk_postings file frames (lines_of input)
+  pub text : output.text ≡ desk_replies file.index frames (lines_of input)
+  pub steps : output.steps ≡ desk_postings file.index frames (lines_of input)
 
 -- ---- where serving stopped
 
 -- what a desk has written and counted for lines, and no file is changed
 pub record Replies (file : FileView) (frames : ℕ) (lines : List (List ℕ)) (before after : Outer) : Type 0 where
   pub told : after.told ≡ before.told
-  pub text : Appends before.written after.written (desk_replies file frames lines)
-  pub scored : after.steps ≡ before.steps + desk_postings file frames lines
+  pub text : Appends before.written after.written (desk_replies file.index frames lines)
+  pub scored : after.steps ≡ before.steps + desk_postings file.index frames lines
 
 -- the first of the lines were answered
 pub record ServesFirst (frames : ℕ) (file : FileView) (before after : Outer) : Type 0 where
@@ -67,9 +67,9 @@ pub record ServesPart (frames : ℕ) (file : FileView) (before after : Outer) : 
   pub told : after.told ≡ before.told
   pub sent : List ℕ
   pub text : Appends before.written after.written sent
-  pub whole : (more : List ℕ) × (sent ≡ desk_replies file frames (ended_lines earlier) ++ more)
-  pub part : (n : ℕ) × (sent ≡ take n (desk_replies file frames (lines_of (earlier ++ last))))
-  pub steps : CountsPart before after (desk_postings file frames (lines_of (earlier ++ last)))
+  pub whole : (more : List ℕ) × (sent ≡ desk_replies file.index frames (ended_lines earlier) ++ more)
+  pub part : (n : ℕ) × (sent ≡ take n (desk_replies file.index frames (lines_of (earlier ++ last))))
+  pub steps : CountsPart before after (desk_postings file.index frames (lines_of (earlier ++ last)))
 
 -- the input has 2^30 bytes or more, and no line of the first of them is `end`: these were taken, and the lines were answered
 -- that end within them

@@ -201,8 +201,8 @@ fn answer_session<O: Sink, L: Ledger>(
     out: &mut O,
     steps: &mut Steps<L>,
 ) -> Result<(), WriteFault>
-    requires { SessionStands session.old index.now pool.old }
-    ensures stands { SessionStands session.new index.now pool.new }
+    requires { SessionStands session.old index.now.index pool.old }
+    ensures stands { SessionStands session.new index.now.index pool.new }
     ensures granted { granted_of session.new ≡ granted_with (granted_of session.old) budget }
     ensures same { IsSessionOf session.old session.new }
     ensures leaves { LeavesPool pool.old pool.new (chain_of session.old) }

@@ -36,7 +36,7 @@ pub fn open_queries<'a, C: Cabinet>(
         (judge_queries name.now mode (texts_of index.now.index.terms)))
         (λ lined. without_lines lined ≡ asked_of queries)) }
     ensures known { IfOk result (λ queries.
-        AllByRecursion (λ (query : Query). AreKnown index.now query.terms) queries) }
+        AllByRecursion (λ (query : Query). AreKnown index.now.index query.terms) queries) }
     ensures unread { IfErr result (λ stop. Unread (name.now ∷ [])
         (behind (judge_content name.now (C.told files.old))
         (judge_queries name.now mode (texts_of index.now.index.terms)))
@@ -88,7 +88,7 @@ fn queries_in<'a>(
         (judge_queries name.now mode (texts_of index.now.index.terms) bytes.now)
         (λ lined. without_lines lined ≡ asked_of queries)) }
     ensures known { IfOk result (λ queries.
-        AllByRecursion (λ (query : Query). AreKnown index.now query.terms) queries) }
+        AllByRecursion (λ (query : Query). AreKnown index.now.index query.terms) queries) }
     ensures unheld { IfErr result (λ stop. Unheld (name.now ∷ [])
         (judge_queries name.now mode (texts_of index.now.index.terms) bytes.now) stop) }
 {

@@ -81,7 +81,7 @@ fn open_search<'a, C: Cabinet>(
         (λ inputs. (inputs.index ≡ found.0.index) × (without_lines inputs.queries ≡ asked_of found.1))) }
     ensures view { IfOk result (λ found. IsFileView found.0) }
     ensures known { IfOk result (λ found.
-        AllByRecursion (λ (query : Query). AreKnown found.0 query.terms) found.1) }
+        AllByRecursion (λ (query : Query). AreKnown found.0.index query.terms) found.1) }
     ensures unread { IfErr result (λ stop. Unread (index.now ∷ queries.now ∷ [])
         (judge_search index.now queries.now mode (C.told files.old))
         (C.read_faults files.old) (C.read_faults files.new) stop) }

@@ -46,9 +46,9 @@ pub fn gather_budgets<R: Sink, O: Sink, L: Ledger>(
     out_buffer: &mut Buffer,
 ) -> Result<(), SearchOutput>
     requires few { length budgets.now ≤ MOST_BUDGETS }
-    requires stands { SessionStands session.old index.now pool.old }
+    requires stands { SessionStands session.old index.now.index pool.old }
     requires none { granted_of session.old ≡ 0 }
-    ensures stands { SessionStands session.new index.now pool.new }
+    ensures stands { SessionStands session.new index.now.index pool.new }
     ensures same { IsSessionOf session.old session.new }
     ensures leaves { LeavesPool pool.old pool.new (chain_of session.old) }
     ensures steps { Stepped steps.old steps.new
@@ -94,8 +94,8 @@ fn gather_budget<R: Sink, O: Sink, L: Ledger>(
     out: &mut O,
     out_buffer: &mut Buffer,
 ) -> Result<(), SearchOutput>
-    requires stands { SessionStands session.old index.now pool.old }
-    ensures stands { SessionStands session.new index.now pool.new }
+    requires stands { SessionStands session.old index.now.index pool.old }
+    ensures stands { SessionStands session.new index.now.index pool.new }
     ensures granted { granted_of session.new ≡ granted_with (granted_of session.old) budget }
     ensures same { IsSessionOf session.old session.new }
     ensures leaves { LeavesPool pool.old pool.new (chain_of session.old) }

@@ -35,7 +35,7 @@ pub fn write_search<C: Cabinet, O: Sink, L: Ledger>(
     requires some { 1 ≤ k }
     requires few_hits { k ≤ MOST_HITS }
     requires few_budgets { length budgets.now ≤ MOST_BUDGETS }
-    requires known { AllByRecursion (λ (query : Query). AreKnown index.now query.terms) queries }
+    requires known { AllByRecursion (λ (query : Query). AreKnown index.now.index query.terms) queries }
     ensures steps { Stepped steps.old steps.new (queries_steps index.now budgets.now (asked_of queries)) result }
     ensures run { WroteFile C.told C.write_faults (SearchStop.Unwritten SearchOutput.Run) files.old files.new name.now
         (queries_run index.now k budgets.now tag.now (asked_of queries)) result }
@@ -83,7 +83,7 @@ fn search_behind<'a, C: Cabinet, O: Sink, L: Ledger>(
     requires some { 1 ≤ k }
     requires few_hits { k ≤ MOST_HITS }
     requires few_budgets { length budgets.now ≤ MOST_BUDGETS }
-    requires known { AllByRecursion (λ (query : Query). AreKnown index.now query.terms) queries }
+    requires known { AllByRecursion (λ (query : Query). AreKnown index.now.index query.terms) queries }
     requires ready { IsReady index.now pool.old }
     ensures steps { Stepped steps.old steps.new (queries_steps index.now budgets.now (asked_of queries)) result }
     ensures same_reference { sink.new.files.ghost_name ≡ sink.old.files.ghost_name }

@@ -39,7 +39,7 @@ pub fn search_all<R: Sink, O: Sink, L: Ledger>(
     requires some { 1 ≤ k }
     requires few_hits { k ≤ MOST_HITS }
     requires few_budgets { length budgets.now ≤ MOST_BUDGETS }
-    requires known { AllByRecursion (λ (query : Query). AreKnown index.now query.terms) queries }
+    requires known { AllByRecursion (λ (query : Query). AreKnown index.now.index query.terms) queries }
     requires ready { IsReady index.now pool.old }
     ensures steps { Stepped steps.old steps.new (queries_steps index.now budgets.now (asked_of queries)) result }
     ensures run { WroteSide R.written R.faults R.rest (SearchStop.Unwritten SearchOutput.Run) run.old run.new
@@ -91,7 +91,7 @@ fn gather_queries<R: Sink, O: Sink, L: Ledger>(
     requires some { 1 ≤ k }
     requires few_hits { k ≤ MOST_HITS }
     requires few_budgets { length budgets.now ≤ MOST_BUDGETS }
-    requires known { AllByRecursion (λ (query : Query). AreKnown index.now query.terms) queries }
+    requires known { AllByRecursion (λ (query : Query). AreKnown index.now.index query.terms) queries }
     requires ready { IsReady index.now pool.old }
     ensures steps { Stepped steps.old steps.new (queries_steps index.now budgets.now (asked_of queries)) result }
     ensures run { Side R.written R.faults R.rest (SearchStop.Unwritten SearchOutput.Run)
@@ -127,7 +127,7 @@ fn gather_query<R: Sink, O: Sink, L: Ledger>(
     requires some { 1 ≤ k }
     requires few_hits { k ≤ MOST_HITS }
     requires few_budgets { length budgets.now ≤ MOST_BUDGETS }
-    requires known { AreKnown index.now query.terms }
+    requires known { AreKnown index.now.index query.terms }
     requires ready { IsReady index.now pool.old }
     ensures ready { IsReady index.now pool.new }
     ensures steps { Stepped steps.old steps.new (query_steps index.now budgets.now (query_data query)) result }

@@ -18,7 +18,7 @@ ghost use Rattle.jass_words.specs.declared.word_limits.TheConstants.{MOST_QUERIE
 use crate::trial_sums::{BudgetSum, TrialSums};
 use frame_pool::FramePool;
 use frame_pool::laws::calls_on_one_chain;
-use index_file::IndexFile;
+use index_file::{IndexFile, Source};
 use jass_base::{Budget, NoMemory, Steps};
 use query_reader::name_terms;
 use ranking_model::laws::the_prefix_is_the_longest;
@@ -120,11 +120,11 @@ fn try_grants<L: Ledger>(
     sums: TrialSums,
     steps: &mut Steps<L>,
 ) -> TrialSums
-    requires stands { SessionStands session.old index.now pool.old }
+    requires stands { SessionStands session.old index.now.index pool.old }
     requires none { granted_of session.old ≡ 0 }
     requires hits { k_of session.old ≡ 10 }
     requires small { AreSmallSums MOST_QUERIES sums }
-    ensures stands { SessionStands session.new index.now pool.new }
+    ensures stands { SessionStands session.new index.now.index pool.new }
     ensures same { IsSessionOf session.old session.new }
     ensures leaves { LeavesPool pool.old pool.new (chain_of session.old) }
     ensures sums { result ≡ with_query index.now (query_data (query_of session.old)) sums }
@@ -167,20 +167,20 @@ fn try_grant<L: Ledger>(
     sum: BudgetSum,
     steps: &mut Steps<L>,
 ) -> BudgetSum
-    requires stands { SessionStands session.old index.now pool.old }
+    requires stands { SessionStands session.old index.now.index pool.old }
     requires hits { k_of session.old ≡ 10 }
     requires small { IsSmallSum MOST_QUERIES sum }
-    ensures stands { SessionStands session.new index.now pool.new }
+    ensures stands { SessionStands session.new index.now.index pool.new }
     ensures granted { granted_of session.new ≡ granted_with (granted_of session.old) budget }
     ensures same { IsSessionOf session.old session.new }
     ensures leaves { LeavesPool pool.old pool.new (chain_of session.old) }
     ensures steps { steps.new + (report_of session.old).postings ≡ steps.old + (report_of session.new).postings }
-    ensures sum { result ≡ with_answer sum (report_of session.new) (answer_over index.now session.new) }
+    ensures sum { result ≡ with_answer sum (report_of session.new) (answer_over index.now.index session.new) }
     ensures small { (n : ℕ) → IsSmallSum n sum → IsSmallSum (n + 1) result }
 {
     a_session_plan_is_small();
     one_entry_more_is_scored();
-    index.is_checked();
+    index.is_searchable();
     let report = session.grant(index, pool, budget, steps);
     sum.with(report, session.answer())
 }

@@ -5,7 +5,7 @@ pub use Rattle.frame_pool.specs.Pool.{ChainEntry, IsInUse, PoolView, Promises, s
 pub use Rattle.gathered_text.proofs.Compose.{gather_cut, gather_same, gather_then}
 pub use Rattle.gathered_text.specs.Gathering.{Gathers}
 pub use Rattle.index_file.specs.Places.{texts_of}
-pub use Rattle.index_layout.specs.View.{FileView}
+pub use Rattle.index_model.specs.Index.{IndexData}
 pub use Rattle.jass_base.specs.declared.answer.Budget.{Budget}
 pub use Rattle.jass_base.specs.declared.answer.Hit.{Hit}
 pub use Rattle.jass_base.specs.declared.answer.Report.{Report}

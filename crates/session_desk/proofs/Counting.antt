@@ -1,7 +1,7 @@
 -- Each line scores what the sessions gain by it.
 use Rattle.shared_lemmas.proofs.Common.{◌≡◌, ℕ, ◌+◌, ◌-◌, ◌≤◌, ◌^◌, Bool, true, false, not, cond, List, [], ◌∷◌, ◌++◌, filter, Option, Some, None, Result, Ok, Err, refl, sym, ap, subst, ◌∙◌, arith, sum_by-append, sum_by-cons, bytes_eq-Decides, ⊤, sum_by, AllByRecursion, find, option_map_or}
 use Rattle.std.proofs.lemmas.Bool.{true≢false}
-use Rattle.session_desk.proofs.Below.{Budget, FileView}
+use Rattle.session_desk.proofs.Below.{Budget, IndexData}
 use Rattle.session_desk.specs.declared.refusal.DeskRefusal.{DeskRefusal}
 use Rattle.session_desk.specs.Lines.{DeskCommand, Open, Grant, Top, Why, Close, End, is_end, read_desk_line}
 use Rattle.session_desk.specs.Replies.{after_of, desk_after, desk_steps, opening, session_report, steps_of, with_opened}
@@ -131,96 +131,96 @@ module _ (p : OpenSession → ℕ) where
 
 -- ---- a line, and lines
 
-abbrev all_scored : FileView → List OpenSession → ℕ
-all_scored file sessions = sum_by (λ (e : OpenSession). (session_report file e).postings) sessions
+abbrev all_scored : IndexData → List OpenSession → ℕ
+all_scored index sessions = sum_by (λ (e : OpenSession). (session_report index e).postings) sessions
 
-abbrev pub Rises : FileView → Type 0
-Rises file = (e : OpenSession) (budget : Budget) → e.granted ≤ 2 ^ 64 - 1 → (session_report file e).postings ≤ (session_report file (granted_more budget e)).postings
+abbrev pub Rises : IndexData → Type 0
+Rises index = (e : OpenSession) (budget : Budget) → e.granted ≤ 2 ^ 64 - 1 → (session_report index e).postings ≤ (session_report index (granted_more budget e)).postings
 
-abbrev pub IsPaid : FileView → Type 0
-IsPaid file = (e : OpenSession) → (session_report file e).postings ≤ e.granted
+abbrev pub IsPaid : IndexData → Type 0
+IsPaid index = (e : OpenSession) → (session_report index e).postings ≤ e.granted
 
-command_counts : (file : FileView) → Rises file → IsPaid file → (state : DeskState) (command : Option DeskCommand) → Orderly state.sessions
-    → steps_of file state command + all_scored file state.sessions ≡ all_scored file (ended_by state command) + all_scored file (after_of file state command).sessions
-command_counts file rises paid state None orderly = omega arith
-command_counts file rises paid state (Some (Open name k words)) orderly = here (opening file state name k words) refl
+command_counts : (index : IndexData) → Rises index → IsPaid index → (state : DeskState) (command : Option DeskCommand) → Orderly state.sessions
+    → steps_of index state command + all_scored index state.sessions ≡ all_scored index (ended_by state command) + all_scored index (after_of index state command).sessions
+command_counts index rises paid state None orderly = omega arith
+command_counts index rises paid state (Some (Open name k words)) orderly = here (opening index state name k words) refl
   where
-    here : (r : Result OpenSession DeskRefusal) → opening file state name k words ≡ r → 0 + all_scored file state.sessions ≡ all_scored file [] + all_scored file (with_opened state r).sessions
+    here : (r : Result OpenSession DeskRefusal) → opening index state name k words ≡ r → 0 + all_scored index state.sessions ≡ all_scored index [] + all_scored index (with_opened state r).sessions
     here (Ok session) is =
-        let p = λ (e : OpenSession). (session_report file e).postings in
-        let none : session.granted ≡ 0 = ap (λ (e : OpenSession). e.granted) (opened_for file state name k words session is).is in
+        let p = λ (e : OpenSession). (session_report index e).postings in
+        let none : session.granted ≡ 0 = ap (λ (e : OpenSession). e.granted) (opened_for index state name k words session is).is in
         omega (arith, sum_by-append p state.sessions (session ∷ []), sum_by-cons p session [], paid session, none)
     here (Err refusal) is = omega arith
-command_counts file rises paid state (Some (Grant name budget)) orderly = omega (arith, sum_more (λ (e : OpenSession). (session_report file e).postings) rises name budget state.sessions orderly)
-command_counts file rises paid state (Some (Top name)) orderly = omega arith
-command_counts file rises paid state (Some (Why name)) orderly = omega arith
-command_counts file rises paid state (Some (Close name)) orderly = omega (arith, sum_less (λ (e : OpenSession). (session_report file e).postings) name state.sessions)
-command_counts file rises paid state (Some End) orderly = omega arith
+command_counts index rises paid state (Some (Grant name budget)) orderly = omega (arith, sum_more (λ (e : OpenSession). (session_report index e).postings) rises name budget state.sessions orderly)
+command_counts index rises paid state (Some (Top name)) orderly = omega arith
+command_counts index rises paid state (Some (Why name)) orderly = omega arith
+command_counts index rises paid state (Some (Close name)) orderly = omega (arith, sum_less (λ (e : OpenSession). (session_report index e).postings) name state.sessions)
+command_counts index rises paid state (Some End) orderly = omega arith
 
-command_orderly : (file : FileView) (state : DeskState) (command : Option DeskCommand) → Orderly state.sessions → Orderly (after_of file state command).sessions
-command_orderly file state None orderly = orderly
-command_orderly file state (Some (Open name k words)) orderly = here (opening file state name k words) refl
+command_orderly : (index : IndexData) (state : DeskState) (command : Option DeskCommand) → Orderly state.sessions → Orderly (after_of index state command).sessions
+command_orderly index state None orderly = orderly
+command_orderly index state (Some (Open name k words)) orderly = here (opening index state name k words) refl
   where
-    here : (r : Result OpenSession DeskRefusal) → opening file state name k words ≡ r → Orderly (with_opened state r).sessions
+    here : (r : Result OpenSession DeskRefusal) → opening index state name k words ≡ r → Orderly (with_opened state r).sessions
     here (Ok session) is =
-        let opened = opened_for file state name k words session is in
-        let named : session.query.id ≡ name = named_for file state name k words session opened in
+        let opened = opened_for index state name k words session is in
+        let named : session.query.id ≡ name = named_for index state name k words session opened in
         orderly_join state.sessions session orderly (omega (arith, ap (λ (e : OpenSession). e.granted) opened.is)) (subst (λ n. AllByRecursion (Unnamed n) state.sessions) (sym named) (none_of name state.sessions opened.free))
     here (Err refusal) is = orderly
-command_orderly file state (Some (Grant name budget)) orderly = orderly_more name budget state.sessions orderly
-command_orderly file state (Some (Top name)) orderly = orderly
-command_orderly file state (Some (Why name)) orderly = orderly
-command_orderly file state (Some (Close name)) orderly = orderly_less name state.sessions orderly
-command_orderly file state (Some End) orderly = orderly
+command_orderly index state (Some (Grant name budget)) orderly = orderly_more name budget state.sessions orderly
+command_orderly index state (Some (Top name)) orderly = orderly
+command_orderly index state (Some (Why name)) orderly = orderly
+command_orderly index state (Some (Close name)) orderly = orderly_less name state.sessions orderly
+command_orderly index state (Some End) orderly = orderly
 
-line_counts : (file : FileView) → Rises file → IsPaid file → (state : DeskState) (line : List ℕ) → Orderly state.sessions
-    → desk_steps file state line + all_scored file state.sessions ≡ all_scored file (ended_by state (read_desk_line line)) + all_scored file (desk_after file state line).sessions
+line_counts : (index : IndexData) → Rises index → IsPaid index → (state : DeskState) (line : List ℕ) → Orderly state.sessions
+    → desk_steps index state line + all_scored index state.sessions ≡ all_scored index (ended_by state (read_desk_line line)) + all_scored index (desk_after index state line).sessions
 unfolding desk_steps desk_after
-line_counts file rises paid state line orderly = command_counts file rises paid state (read_desk_line line) orderly
+line_counts index rises paid state line orderly = command_counts index rises paid state (read_desk_line line) orderly
 
-line_orderly : (file : FileView) (state : DeskState) (line : List ℕ) → Orderly state.sessions → Orderly (desk_after file state line).sessions
+line_orderly : (index : IndexData) (state : DeskState) (line : List ℕ) → Orderly state.sessions → Orderly (desk_after index state line).sessions
 unfolding desk_after
-line_orderly file state line orderly = command_orderly file state (read_desk_line line) orderly
+line_orderly index state line orderly = command_orderly index state (read_desk_line line) orderly
 
-steps_cons : (file : FileView) (state : DeskState) (line : List ℕ) (lines : List (List ℕ)) → steps_from file state (line ∷ lines) ≡ desk_steps file state line + cond (is_end line) 0 (steps_from file (desk_after file state line) lines)
+steps_cons : (index : IndexData) (state : DeskState) (line : List ℕ) (lines : List (List ℕ)) → steps_from index state (line ∷ lines) ≡ desk_steps index state line + cond (is_end line) 0 (steps_from index (desk_after index state line) lines)
 unfolding steps_from
-steps_cons file state line lines = refl
+steps_cons index state line lines = refl
 
-sessions_cons : (file : FileView) (state : DeskState) (line : List ℕ) (lines : List (List ℕ))
-    → sessions_from file state (line ∷ lines) ≡ ended_by state (read_desk_line line) ++ cond (is_end line) (desk_after file state line).sessions (sessions_from file (desk_after file state line) lines)
+sessions_cons : (index : IndexData) (state : DeskState) (line : List ℕ) (lines : List (List ℕ))
+    → sessions_from index state (line ∷ lines) ≡ ended_by state (read_desk_line line) ++ cond (is_end line) (desk_after index state line).sessions (sessions_from index (desk_after index state line) lines)
 unfolding sessions_from
-sessions_cons file state line lines = refl
+sessions_cons index state line lines = refl
 
-none_counted : (file : FileView) (state : DeskState) → steps_from file state [] + all_scored file state.sessions ≡ all_scored file (sessions_from file state [])
+none_counted : (index : IndexData) (state : DeskState) → steps_from index state [] + all_scored index state.sessions ≡ all_scored index (sessions_from index state [])
 unfolding steps_from sessions_from
-none_counted file state = omega arith
+none_counted index state = omega arith
 
-lines_count : (file : FileView) → Rises file → IsPaid file → (state : DeskState) (lines : List (List ℕ)) → Orderly state.sessions → steps_from file state lines + all_scored file state.sessions ≡ all_scored file (sessions_from file state lines)
-lines_count file rises paid state [] orderly = none_counted file state
-lines_count file rises paid state (line ∷ lines) orderly = here (is_end line) refl (lines_count file rises paid (desk_after file state line) lines (line_orderly file state line orderly))
+lines_count : (index : IndexData) → Rises index → IsPaid index → (state : DeskState) (lines : List (List ℕ)) → Orderly state.sessions → steps_from index state lines + all_scored index state.sessions ≡ all_scored index (sessions_from index state lines)
+lines_count index rises paid state [] orderly = none_counted index state
+lines_count index rises paid state (line ∷ lines) orderly = here (is_end line) refl (lines_count index rises paid (desk_after index state line) lines (line_orderly index state line orderly))
   where
-    here : (b : Bool) → is_end line ≡ b → steps_from file (desk_after file state line) lines + all_scored file (desk_after file state line).sessions ≡ all_scored file (sessions_from file (desk_after file state line) lines)
-        → steps_from file state (line ∷ lines) + all_scored file state.sessions ≡ all_scored file (sessions_from file state (line ∷ lines))
+    here : (b : Bool) → is_end line ≡ b → steps_from index (desk_after index state line) lines + all_scored index (desk_after index state line).sessions ≡ all_scored index (sessions_from index (desk_after index state line) lines)
+        → steps_from index state (line ∷ lines) + all_scored index state.sessions ≡ all_scored index (sessions_from index state (line ∷ lines))
     here b is later = joins b
-        (steps_cons file state line lines ∙ ap (λ (e : Bool). desk_steps file state line + cond e 0 (steps_from file (desk_after file state line) lines)) is)
-        (ap (all_scored file) (sessions_cons file state line lines ∙ ap (λ (e : Bool). ended_by state (read_desk_line line) ++ cond e (desk_after file state line).sessions (sessions_from file (desk_after file state line) lines)) is))
+        (steps_cons index state line lines ∙ ap (λ (e : Bool). desk_steps index state line + cond e 0 (steps_from index (desk_after index state line) lines)) is)
+        (ap (all_scored index) (sessions_cons index state line lines ∙ ap (λ (e : Bool). ended_by state (read_desk_line line) ++ cond e (desk_after index state line).sessions (sessions_from index (desk_after index state line) lines)) is))
         later
       where
-        joins : (b : Bool) → steps_from file state (line ∷ lines) ≡ desk_steps file state line + cond b 0 (steps_from file (desk_after file state line) lines)
-            → all_scored file (sessions_from file state (line ∷ lines)) ≡ all_scored file (ended_by state (read_desk_line line) ++ cond b (desk_after file state line).sessions (sessions_from file (desk_after file state line) lines))
-            → steps_from file (desk_after file state line) lines + all_scored file (desk_after file state line).sessions ≡ all_scored file (sessions_from file (desk_after file state line) lines)
-            → steps_from file state (line ∷ lines) + all_scored file state.sessions ≡ all_scored file (sessions_from file state (line ∷ lines))
+        joins : (b : Bool) → steps_from index state (line ∷ lines) ≡ desk_steps index state line + cond b 0 (steps_from index (desk_after index state line) lines)
+            → all_scored index (sessions_from index state (line ∷ lines)) ≡ all_scored index (ended_by state (read_desk_line line) ++ cond b (desk_after index state line).sessions (sessions_from index (desk_after index state line) lines))
+            → steps_from index (desk_after index state line) lines + all_scored index (desk_after index state line).sessions ≡ all_scored index (sessions_from index (desk_after index state line) lines)
+            → steps_from index state (line ∷ lines) + all_scored index state.sessions ≡ all_scored index (sessions_from index state (line ∷ lines))
         joins true first second later =
-            omega (arith, first, second, line_counts file rises paid state line orderly, sum_by-append (λ (e : OpenSession). (session_report file e).postings) (ended_by state (read_desk_line line)) (desk_after file state line).sessions)
+            omega (arith, first, second, line_counts index rises paid state line orderly, sum_by-append (λ (e : OpenSession). (session_report index e).postings) (ended_by state (read_desk_line line)) (desk_after index state line).sessions)
         joins false first second later = omega (
           arith,
           first,
           second,
           later,
-          line_counts file rises paid state line orderly,
-          sum_by-append (λ (e : OpenSession). (session_report file e).postings) (ended_by state (read_desk_line line)) (sessions_from file (desk_after file state line) lines),
+          line_counts index rises paid state line orderly,
+          sum_by-append (λ (e : OpenSession). (session_report index e).postings) (ended_by state (read_desk_line line)) (sessions_from index (desk_after index state line) lines),
         )
 
-pub all_counted : (file : FileView) → Rises file → IsPaid file → (frames : ℕ) (lines : List (List ℕ)) → desk_postings file frames lines ≡ all_scored file (sessions_from file (new_state frames) lines)
+pub all_counted : (index : IndexData) → Rises index → IsPaid index → (frames : ℕ) (lines : List (List ℕ)) → desk_postings index frames lines ≡ all_scored index (sessions_from index (new_state frames) lines)
 unfolding desk_postings
-all_counted file rises paid frames lines = omega (arith, lines_count file rises paid (new_state frames) lines tt)
+all_counted index rises paid frames lines = omega (arith, lines_count index rises paid (new_state frames) lines tt)

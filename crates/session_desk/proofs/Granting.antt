@@ -2,7 +2,7 @@
 use Rattle.std.proofs.Common.{◌≡◌, ℕ, ◌+◌, ◌-◌, ◌≤◌, List, [], ◌∷◌, ◌++◌, length, get_or, Some, None, refl, sym, ap, subst, ◌∙◌, arith}
 use Rattle.shared_lemmas.proofs.Lists.{all_back}
 use Rattle.std.specs.List.{AllByRecursion, find, remove, slice_set}
-use Rattle.session_desk.proofs.Below.{Budget, Report, FileView, granted_with, top_k, report_by, LeavesOthers, LeavesPool, chain_view, IsInUse, PoolView, spare_of, need_of, IsSessionOf, SessionStands, answer_over, chain_of, granted_of, k_of, plan_over, report_of, terms_of, Session}
+use Rattle.session_desk.proofs.Below.{Budget, Report, IndexData, granted_with, top_k, report_by, LeavesOthers, LeavesPool, chain_view, IsInUse, PoolView, spare_of, need_of, IsSessionOf, SessionStands, answer_over, chain_of, granted_of, k_of, plan_over, report_of, terms_of, Session}
 use Rattle.ranking_model.specs.Search.{query_data}
 use Rattle.session_desk.specs.declared.told.Told.{Told}
 use Rattle.session_desk.specs.Replies.{session_answer, session_report}
@@ -44,10 +44,10 @@ module _ (sessions : List Session) (name : List ℕ) (place : ℕ) (at : IsAt se
       ∙ found_there name at.front at.session at.back (names_before at.front at.session at.back name at.named (subst Differ at.parts differ)) at.named
       ∙ ap (λ s. Some (session_data s)) (sym (session_is here is))
 
-  pub changed_stand : OthersStay → (file : FileView) (old new : PoolView) (here there : Session) → here ≡ get_or sessions place here → SessionsStand file old sessions
-      → LeavesPool old new (chain_of here) → IsSessionOf here there → SessionStands there file new → SessionsStand file new (slice_set sessions place there)
-  changed_stand stay file old new here there is stand leaves same stands = subst (SessionsStand file new) (sym (changed_is there))
-      (still_stand stay file old new at.front here there at.back (subst (SessionsStand file old) (at.parts ∙ ap (λ s. at.front ++ s ∷ at.back) (sym (session_is here is))) stand) leaves same stands)
+  pub changed_stand : OthersStay → (index : IndexData) (old new : PoolView) (here there : Session) → here ≡ get_or sessions place here → SessionsStand index old sessions
+      → LeavesPool old new (chain_of here) → IsSessionOf here there → SessionStands there index new → SessionsStand index new (slice_set sessions place there)
+  changed_stand stay index old new here there is stand leaves same stands = subst (SessionsStand index new) (sym (changed_is there))
+      (still_stand stay index old new at.front here there at.back (subst (SessionsStand index old) (at.parts ∙ ap (λ s. at.front ++ s ∷ at.back) (sym (session_is here is))) stand) leaves same stands)
 
   pub changed_shows : (change : OpenSession → OpenSession) (here there : Session) → here ≡ get_or sessions place here → Differ sessions → session_data there ≡ change (session_data here)
       → sessions_data (slice_set sessions place there) ≡ with_named name change (sessions_data sessions)
@@ -57,19 +57,19 @@ module _ (sessions : List Session) (name : List ℕ) (place : ℕ) (at : IsAt se
       ∙ changes_there name change at.front at.session there at.back (names_before at.front at.session at.back name at.named apart) at.named (names_behind at.front at.session at.back name at.named apart)
       (changed ∙ ap (λ s. change (session_data s)) (session_is here is)) ∙ ap (λ ss. with_named name change (sessions_data ss)) (sym at.parts)
 
-  pub stands_at : (file : FileView) (pool : PoolView) (here : Session) → here ≡ get_or sessions place here → SessionsStand file pool sessions → SessionStands here file pool
-  stands_at file pool here is stand =
-      subst (Stands file pool) (sym (session_is here is)) (all_back (Stands file pool) at.front (at.session ∷ at.back) (subst (AllByRecursion (Stands file pool)) at.parts stand.each)).0
+  pub stands_at : (index : IndexData) (pool : PoolView) (here : Session) → here ≡ get_or sessions place here → SessionsStand index pool sessions → SessionStands here index pool
+  stands_at index pool here is stand =
+      subst (Stands index pool) (sym (session_is here is)) (all_back (Stands index pool) at.front (at.session ∷ at.back) (subst (AllByRecursion (Stands index pool)) at.parts stand.each)).0
 
   pub gone_is : remove sessions place ≡ at.front ++ at.back
   gone_is = ap (λ ss. remove ss place) at.parts ∙ ap (remove (at.front ++ at.session ∷ at.back)) (sym at.behind) ∙ remove_at at.front at.session at.back
 
-  pub gone_stand : OthersStay → (file : FileView) (old new : PoolView) (here : Session) → here ≡ get_or sessions place here → SessionsStand file old sessions
-      → IsInUse old (chain_of here) → (chain_view old (chain_of here)).promise ≡ need_of file (terms_of here)
+  pub gone_stand : OthersStay → (index : IndexData) (old new : PoolView) (here : Session) → here ≡ get_or sessions place here → SessionsStand index old sessions
+      → IsInUse old (chain_of here) → (chain_view old (chain_of here)).promise ≡ need_of index (terms_of here)
       → new.frames ≡ old.frames → new.chains ≡ slice_set old.chains (chain_of here) None → LeavesOthers old new (chain_of here)
-      → spare_of new ≡ spare_of old + (chain_view old (chain_of here)).promise → SessionsStand file new (remove sessions place)
-  gone_stand stay file old new here is stand in_use promise frames chains others spare = subst (SessionsStand file new) (sym gone_is)
-      (others_stand stay file old new at.front here at.back (subst (SessionsStand file old) (at.parts ∙ ap (λ s. at.front ++ s ∷ at.back) (sym (session_is here is))) stand)
+      → spare_of new ≡ spare_of old + (chain_view old (chain_of here)).promise → SessionsStand index new (remove sessions place)
+  gone_stand stay index old new here is stand in_use promise frames chains others spare = subst (SessionsStand index new) (sym gone_is)
+      (others_stand stay index old new at.front here at.back (subst (SessionsStand index old) (at.parts ∙ ap (λ s. at.front ++ s ∷ at.back) (sym (session_is here is))) stand)
       in_use promise frames chains others spare)
 
   pub gone_shows : Differ sessions → sessions_data (remove sessions place) ≡ without_named name (sessions_data sessions)
@@ -84,17 +84,17 @@ module _ (sessions : List Session) (name : List ℕ) (place : ℕ) (at : IsAt se
 pub session_granted : (here there : Session) (budget : Budget) → IsSessionOf here there → granted_of there ≡ granted_with (granted_of here) budget → session_data there ≡ granted_more budget (session_data here)
 session_granted here there budget same granted = λ i. record { query = query_data (same.query i); k = same.k i; granted = granted i }
 
-pub report_shown : (s : Session) (file : FileView) (pool : PoolView) → SessionStands s file pool → report_of s ≡ session_report file (session_data s)
+pub report_shown : (s : Session) (index : IndexData) (pool : PoolView) → SessionStands s index pool → report_of s ≡ session_report index (session_data s)
 unfolding session_report
-report_shown s file pool stands = stands.report ∙ ap (λ n. report_by n (plan_over file s) (k_of s)) stands.prefix
+report_shown s index pool stands = stands.report ∙ ap (λ n. report_by n (plan_over index s) (k_of s)) stands.prefix
 
-pub answer_shown : (s : Session) (file : FileView) (pool : PoolView) → SessionStands s file pool → answer_over file s ≡ session_answer file (session_data s)
+pub answer_shown : (s : Session) (index : IndexData) (pool : PoolView) → SessionStands s index pool → answer_over index s ≡ session_answer index (session_data s)
 unfolding session_answer
-answer_shown s file pool stands = ap (λ n. top_k n (plan_over file s) (k_of s)) stands.prefix
+answer_shown s index pool stands = ap (λ n. top_k n (plan_over index s) (k_of s)) stands.prefix
 
-pub told_shown : (file : FileView) (session : OpenSession) (report : Report) (unknown : ℕ) → report ≡ session_report file session → unknown ≡ session.query.unknown
-    → (let told : Told = record { report = report; unknown = unknown } in told) ≡ told_of file session
-told_shown file session report unknown first second = λ i. record { report = first i; unknown = second i }
+pub told_shown : (index : IndexData) (session : OpenSession) (report : Report) (unknown : ℕ) → report ≡ session_report index session → unknown ≡ session.query.unknown
+    → (let told : Told = record { report = report; unknown = unknown } in told) ≡ told_of index session
+told_shown index session report unknown first second = λ i. record { report = first i; unknown = second i }
 
 pub state_shown : (sessions others : List OpenSession) (frames count : ℕ) → sessions ≡ others → frames ≡ count
     → (let state : DeskState = record { sessions = sessions; frames = frames } in state) ≡ record { sessions = others; frames = count }

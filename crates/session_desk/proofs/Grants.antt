@@ -1,7 +1,7 @@
 -- The sum of a session's grants, and what it pays for.
 use Rattle.shared_lemmas.proofs.Common.{◌≡◌, ℕ, ◌+◌, ◌-◌, ◌≤◌, ◌^◌, Bool, true, false, cond, List, [], ◌∷◌, ◌++◌, length, drop, Option, Some, None, refl, sym, ap, ◌∙◌, append-nil, append_assoc, arith, sum_by-append, sum_by-cons, codes, decimal, AllByRecursion}
 use Rattle.std.proofs.lemmas.Bool.{true≢false}
-use Rattle.session_desk.proofs.Below.{Budget, Report, PlanSegment, QueryPlan, amount_of, granted_sum, granted_with, prefix_within, size_of_first, report_line, run_lines, top_k, query_run, report_by, FileView}
+use Rattle.session_desk.proofs.Below.{Budget, Report, PlanSegment, QueryPlan, amount_of, granted_sum, granted_with, prefix_within, size_of_first, report_line, run_lines, top_k, query_run, report_by, IndexData}
 use Rattle.session_desk.specs.Alone.{after_lines, budget_in, budgets_in, command_names, does_close, does_name}
 use Rattle.session_desk.specs.Lines.{DeskCommand, Open, Grant, Top, Why, Close, End, read_desk_line}
 use Rattle.session_desk.specs.Replies.{answer_lines, answer_text, command_reply, desk_after, desk_reply, plan_of_session, reply_of, reply_to, report_text, scored_prefix, session_answer, session_report}
@@ -51,13 +51,13 @@ line_budgets_none : (name line : List ℕ) → does_name name line ≡ false →
 unfolding does_name
 line_budgets_none name line other = none_budgeted name (read_desk_line line) other
 
-after_cons : (file : FileView) (state : DeskState) (line : List ℕ) (lines : List (List ℕ)) → after_lines file state (line ∷ lines) ≡ after_lines file (desk_after file state line) lines
+after_cons : (index : IndexData) (state : DeskState) (line : List ℕ) (lines : List (List ℕ)) → after_lines index state (line ∷ lines) ≡ after_lines index (desk_after index state line) lines
 unfolding after_lines
-after_cons file state line lines = refl
+after_cons index state line lines = refl
 
-after_none : (file : FileView) (state : DeskState) → after_lines file state [] ≡ state
+after_none : (index : IndexData) (state : DeskState) → after_lines index state [] ≡ state
 unfolding after_lines
-after_none file state = refl
+after_none index state = refl
 
 budgets_cons : (name line : List ℕ) (lines : List (List ℕ)) → budgets_in name (line ∷ lines) ≡ budget_in name (read_desk_line line) ++ budgets_in name lines
 unfolding budgets_in
@@ -67,22 +67,22 @@ budgets_none : (name : List ℕ) → budgets_in name [] ≡ []
 unfolding budgets_in
 budgets_none name = refl
 
-pub lines_grant : (file : FileView) (name : List ℕ) (state : DeskState) (session : OpenSession) (budgets : List Budget) (lines : List (List ℕ)) → session_named name state ≡ Some session → session.granted ≡ granted_sum budgets
-    → AllByRecursion (λ line. does_close name line ≡ false) lines → session_named name (after_lines file state lines) ≡ Some (record session { granted = granted_sum (budgets ++ budgets_in name lines) })
-lines_grant file name state session budgets [] found is stays = ap (session_named name) (after_none file state) ∙ found
+pub lines_grant : (index : IndexData) (name : List ℕ) (state : DeskState) (session : OpenSession) (budgets : List Budget) (lines : List (List ℕ)) → session_named name state ≡ Some session → session.granted ≡ granted_sum budgets
+    → AllByRecursion (λ line. does_close name line ≡ false) lines → session_named name (after_lines index state lines) ≡ Some (record session { granted = granted_sum (budgets ++ budgets_in name lines) })
+lines_grant index name state session budgets [] found is stays = ap (session_named name) (after_none index state) ∙ found
     ∙ ap (λ e. Some e) (given_already session (budgets ++ budgets_in name []) (is ∙ ap granted_sum (sym (ap (λ bs. budgets ++ bs) (budgets_none name) ∙ append-nil budgets))))
-lines_grant file name state session budgets (line ∷ lines) found is stays = ap (session_named name) (after_cons file state line lines)
-    ∙ here (does_name name line) refl (λ s e bs f g. lines_grant file name s e bs lines f g stays.1)
+lines_grant index name state session budgets (line ∷ lines) found is stays = ap (session_named name) (after_cons index state line lines)
+    ∙ here (does_name name line) refl (λ s e bs f g. lines_grant index name s e bs lines f g stays.1)
     ∙ ap (λ bs. Some (given session (budgets ++ bs))) (sym (budgets_cons name line lines))
   where
     here : (b : Bool) → does_name name line ≡ b
-        → ((s : DeskState) (e : OpenSession) (bs : List Budget) → session_named name s ≡ Some e → e.granted ≡ granted_sum bs → session_named name (after_lines file s lines) ≡ Some (given e (bs ++ budgets_in name lines)))
-        → session_named name (after_lines file (desk_after file state line) lines) ≡ Some (given session (budgets ++ (budget_in name (read_desk_line line) ++ budgets_in name lines)))
+        → ((s : DeskState) (e : OpenSession) (bs : List Budget) → session_named name s ≡ Some e → e.granted ≡ granted_sum bs → session_named name (after_lines index s lines) ≡ Some (given e (bs ++ budgets_in name lines)))
+        → session_named name (after_lines index (desk_after index state line) lines) ≡ Some (given session (budgets ++ (budget_in name (read_desk_line line) ++ budgets_in name lines)))
     here true names later =
         let more : List Budget = budgets ++ budget_in name (read_desk_line line) in
-        later (desk_after file state line) (given session more) more (own_line file name state session line names stays.0 found ∙ ap (λ e. Some e) (line_grants name session budgets line names is)) refl
+        later (desk_after index state line) (given session more) more (own_line index name state session line names stays.0 found ∙ ap (λ e. Some e) (line_grants name session budgets line names is)) refl
         ∙ ap (λ bs. Some (given session bs)) (append_assoc budgets (budget_in name (read_desk_line line)) (budgets_in name lines))
-    here false other later = later (desk_after file state line) session budgets (other_line file name state session line other found) is
+    here false other later = later (desk_after index state line) session budgets (other_line index name state session line other found) is
         ∙ ap (λ bs. Some (given session (budgets ++ (bs ++ budgets_in name lines)))) (sym (line_budgets_none name line other))
 
 -- ---- what is paid for
@@ -99,49 +99,49 @@ size_rises size prefix before after segments less =
 pub granted_rises : (session : OpenSession) (budget : Budget) → session.granted ≤ 2 ^ 64 - 1 → session.granted ≤ granted_with session.granted budget
 granted_rises session budget most = omega (arith, most)
 
-pub size_is : (file : FileView) (session : OpenSession) → (session_report file session).postings ≡ size_of_first (scored_prefix file session) (plan_of_session file session).segments
+pub size_is : (index : IndexData) (session : OpenSession) → (session_report index session).postings ≡ size_of_first (scored_prefix index session) (plan_of_session index session).segments
 unfolding session_report
-size_is file session = refl
+size_is index session = refl
 
 -- ---- one search
 
-pub reported : (file : FileView) (session : OpenSession) (budgets : List Budget) → session.granted ≡ granted_sum budgets
-    → session_report file session ≡ report_by (prefix_within (granted_sum budgets) (plan_of_session file session).segments) (plan_of_session file session) session.k
+pub reported : (index : IndexData) (session : OpenSession) (budgets : List Budget) → session.granted ≡ granted_sum budgets
+    → session_report index session ≡ report_by (prefix_within (granted_sum budgets) (plan_of_session index session).segments) (plan_of_session index session) session.k
 unfolding session_report
-reported file session budgets is = ap (λ g. report_by (prefix_within g (plan_of_session file session).segments) (plan_of_session file session) session.k) is
+reported index session budgets is = ap (λ g. report_by (prefix_within g (plan_of_session index session).segments) (plan_of_session index session) session.k) is
 
-pub answered : (file : FileView) (session : OpenSession) (budgets : List Budget) → session.granted ≡ granted_sum budgets
-    → session_answer file session ≡ top_k (prefix_within (granted_sum budgets) (plan_of_session file session).segments) (plan_of_session file session) session.k
+pub answered : (index : IndexData) (session : OpenSession) (budgets : List Budget) → session.granted ≡ granted_sum budgets
+    → session_answer index session ≡ top_k (prefix_within (granted_sum budgets) (plan_of_session index session).segments) (plan_of_session index session) session.k
 unfolding session_answer
-answered file session budgets is = ap (λ g. top_k (prefix_within g (plan_of_session file session).segments) (plan_of_session file session) session.k) is
+answered index session budgets is = ap (λ g. top_k (prefix_within g (plan_of_session index session).segments) (plan_of_session index session) session.k) is
 
-reply_is : (file : FileView) (state : DeskState) (line : List ℕ) (command : DeskCommand) → read_desk_line line ≡ Some command → desk_reply file state line ≡ command_reply file state command
+reply_is : (index : IndexData) (state : DeskState) (line : List ℕ) (command : DeskCommand) → read_desk_line line ≡ Some command → desk_reply index state line ≡ command_reply index state command
 unfolding desk_reply
-reply_is file state line command read = ap (reply_to file state) read
+reply_is index state line command read = ap (reply_to index state) read
 
-pub grant_told : (file : FileView) (state : DeskState) (line name : List ℕ) (session : OpenSession) (budgets : List Budget) (budget : Budget)
+pub grant_told : (index : IndexData) (state : DeskState) (line name : List ℕ) (session : OpenSession) (budgets : List Budget) (budget : Budget)
     → read_desk_line line ≡ Some (Grant name budget) → session_named name state ≡ Some session → session.granted ≡ granted_sum budgets
-    → desk_reply file state line
-    ≡ report_line session.query.id (report_by (prefix_within (granted_sum (budgets ++ budget ∷ [])) (plan_of_session file session).segments) (plan_of_session file session) session.k) session.query.unknown
-grant_told file state line name session budgets budget read found is =
-    reply_is file state line (Grant name budget) read ∙ ap (reply_of (λ e. report_text file (granted_more budget e))) found
-    ∙ ap (λ (r : Report). report_line session.query.id r session.query.unknown) (reported file (granted_more budget session) (budgets ++ budget ∷ []) (ap (λ g. granted_with g budget) is ∙ granted_behind budgets budget))
+    → desk_reply index state line
+    ≡ report_line session.query.id (report_by (prefix_within (granted_sum (budgets ++ budget ∷ [])) (plan_of_session index session).segments) (plan_of_session index session) session.k) session.query.unknown
+grant_told index state line name session budgets budget read found is =
+    reply_is index state line (Grant name budget) read ∙ ap (reply_of (λ e. report_text index (granted_more budget e))) found
+    ∙ ap (λ (r : Report). report_line session.query.id r session.query.unknown) (reported index (granted_more budget session) (budgets ++ budget ∷ []) (ap (λ g. granted_with g budget) is ∙ granted_behind budgets budget))
 
-pub why_told : (file : FileView) (state : DeskState) (line name : List ℕ) (session : OpenSession) (budgets : List Budget)
-    → read_desk_line line ≡ Some (Why name) → session_named name state ≡ Some session → session.granted ≡ granted_sum budgets → desk_reply file state line
-    ≡ report_line session.query.id (report_by (prefix_within (granted_sum budgets) (plan_of_session file session).segments) (plan_of_session file session) session.k) session.query.unknown
-why_told file state line name session budgets read found is = reply_is file state line (Why name) read ∙ ap (reply_of (report_text file)) found
-    ∙ ap (λ (r : Report). report_line session.query.id r session.query.unknown) (reported file session budgets is)
+pub why_told : (index : IndexData) (state : DeskState) (line name : List ℕ) (session : OpenSession) (budgets : List Budget)
+    → read_desk_line line ≡ Some (Why name) → session_named name state ≡ Some session → session.granted ≡ granted_sum budgets → desk_reply index state line
+    ≡ report_line session.query.id (report_by (prefix_within (granted_sum budgets) (plan_of_session index session).segments) (plan_of_session index session) session.k) session.query.unknown
+why_told index state line name session budgets read found is = reply_is index state line (Why name) read ∙ ap (reply_of (report_text index)) found
+    ∙ ap (λ (r : Report). report_line session.query.id r session.query.unknown) (reported index session budgets is)
 
 one_run : (names : List (List ℕ)) (plan : QueryPlan) (id : List ℕ) (k n : ℕ) → answer_lines names id (top_k n plan k) ≡ codes "hits " ++ (decimal (length (top_k n plan k)) ++ (codes "\n" ++ query_run names plan id k (n ∷ []) (codes "jass")))
 unfolding answer_lines
 one_run names plan id k n = ap (λ (t : List ℕ). codes "hits " ++ (decimal (length (top_k n plan k)) ++ (codes "\n" ++ t))) (sym (append-nil (run_lines names id (codes "jass") 1 (top_k n plan k))))
 
-pub top_told : (file : FileView) (state : DeskState) (line name : List ℕ) (session : OpenSession) (budgets : List Budget)
+pub top_told : (index : IndexData) (state : DeskState) (line name : List ℕ) (session : OpenSession) (budgets : List Budget)
     → read_desk_line line ≡ Some (Top name) → session_named name state ≡ Some session → session.granted ≡ granted_sum budgets
-    → (let plan = plan_of_session file session in
+    → (let plan = plan_of_session index session in
     let prefix = prefix_within (granted_sum budgets) plan.segments in
-    desk_reply file state line ≡ codes "hits " ++ (decimal (length (top_k prefix plan session.k)) ++ (codes "\n" ++ query_run file.index.names plan session.query.id session.k (prefix ∷ []) (codes "jass"))))
-top_told file state line name session budgets read found is = reply_is file state line (Top name) read ∙ ap (reply_of (answer_text file)) found
-    ∙ ap (answer_lines file.index.names session.query.id) (answered file session budgets is)
-    ∙ one_run file.index.names (plan_of_session file session) session.query.id session.k (prefix_within (granted_sum budgets) (plan_of_session file session).segments)
+    desk_reply index state line ≡ codes "hits " ++ (decimal (length (top_k prefix plan session.k)) ++ (codes "\n" ++ query_run index.names plan session.query.id session.k (prefix ∷ []) (codes "jass"))))
+top_told index state line name session budgets read found is = reply_is index state line (Top name) read ∙ ap (reply_of (answer_text index)) found
+    ∙ ap (answer_lines index.names session.query.id) (answered index session budgets is)
+    ∙ one_run index.names (plan_of_session index session) session.query.id session.k (prefix_within (granted_sum budgets) (plan_of_session index session).segments)

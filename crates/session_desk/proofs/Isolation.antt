@@ -1,7 +1,7 @@
 -- A reply reads the session that its line names, and no other line changes it.
 use Rattle.shared_lemmas.proofs.Common.{◌≡◌, ℕ, Bool, true, false, not, cond, List, [], ◌∷◌, ◌++◌, Option, Some, None, Result, Ok, Err, refl, sym, ap, ◌∙◌, bytes_eq-Decides, bytes_eq, is_some, find}
 use Rattle.std.proofs.lemmas.Bool.{true≢false}
-use Rattle.session_desk.proofs.Below.{Budget, FileView}
+use Rattle.session_desk.proofs.Below.{Budget, IndexData}
 use Rattle.shared_lemmas.proofs.Texts.{bytes_same}
 use Rattle.session_desk.specs.declared.refusal.DeskRefusal.{DeskRefusal}
 use Rattle.session_desk.specs.declared.refusal.DeskRefusal.TheVariants.{NameInUse}
@@ -73,19 +73,19 @@ found_joined name (e ∷ sessions) other session found = here (is_named name e) 
 
 -- ---- commands that name another session, or none
 
-pub other_command : (file : FileView) (name : List ℕ) (state : DeskState) (session : OpenSession) (command : Option DeskCommand) → command_names name command ≡ false
-    → session_named name state ≡ Some session → session_named name (after_of file state command) ≡ Some session
-other_command file name state session None other found = found
-other_command file name state session (Some (Open n k words)) other found = here (opening file state n k words)
+pub other_command : (index : IndexData) (name : List ℕ) (state : DeskState) (session : OpenSession) (command : Option DeskCommand) → command_names name command ≡ false
+    → session_named name state ≡ Some session → session_named name (after_of index state command) ≡ Some session
+other_command index name state session None other found = found
+other_command index name state session (Some (Open n k words)) other found = here (opening index state n k words)
   where
     here : (r : Result OpenSession DeskRefusal) → session_named name (with_opened state r) ≡ Some session
     here (Ok e) = found_joined name state.sessions e session found
     here (Err refusal) = found
-other_command file name state session (Some (Grant n budget)) other found = found_changed name n budget state.sessions other ∙ found
-other_command file name state session (Some (Top n)) other found = found
-other_command file name state session (Some (Why n)) other found = found
-other_command file name state session (Some (Close n)) other found = found_without name n state.sessions other ∙ found
-other_command file name state session (Some End) other found = found
+other_command index name state session (Some (Grant n budget)) other found = found_changed name n budget state.sessions other ∙ found
+other_command index name state session (Some (Top n)) other found = found
+other_command index name state session (Some (Why n)) other found = found
+other_command index name state session (Some (Close n)) other found = found_without name n state.sessions other ∙ found
+other_command index name state session (Some End) other found = found
 
 -- ---- commands that name the session
 
@@ -98,47 +98,47 @@ after_command session None = session
 taken : (name n : List ℕ) (state : DeskState) (session : OpenSession) → bytes_eq n name ≡ true → session_named name state ≡ Some session → session_named n state ≡ Some session
 taken name n state session same found = ap (λ m. session_named m state) (bytes_same n name same) ∙ found
 
-refused : (file : FileView) (n : List ℕ) (k : ℕ) (words : List (List ℕ)) (state : DeskState) (session : OpenSession) → session_named n state ≡ Some session → opening file state n k words ≡ Err NameInUse
-refused file n k words state session found = refused_first file state n k words NameInUse (name_taken state n (ap is_some found))
+refused : (index : IndexData) (n : List ℕ) (k : ℕ) (words : List (List ℕ)) (state : DeskState) (session : OpenSession) → session_named n state ≡ Some session → opening index state n k words ≡ Err NameInUse
+refused index n k words state session found = refused_first index state n k words NameInUse (name_taken state n (ap is_some found))
 
-pub same_reply : (file : FileView) (name : List ℕ) (first second : DeskState) (session : OpenSession) (command : Option DeskCommand) → command_names name command ≡ true
-    → session_named name first ≡ Some session → session_named name second ≡ Some session → reply_to file first command ≡ reply_to file second command
-same_reply file name first second session None names a b = absurd (true≢false (sym names))
-same_reply file name first second session (Some (Open n k words)) names a b =
-    ap (opened_reply file) (refused file n k words first session (taken name n first session names a) ∙ sym (refused file n k words second session (taken name n second session names b)))
-same_reply file name first second session (Some (Grant n budget)) names a b = ap (reply_of _) (taken name n first session names a ∙ sym (taken name n second session names b))
-same_reply file name first second session (Some (Top n)) names a b = ap (reply_of _) (taken name n first session names a ∙ sym (taken name n second session names b))
-same_reply file name first second session (Some (Why n)) names a b = ap (reply_of _) (taken name n first session names a ∙ sym (taken name n second session names b))
-same_reply file name first second session (Some (Close n)) names a b = ap (reply_of _) (taken name n first session names a ∙ sym (taken name n second session names b))
-same_reply file name first second session (Some End) names a b = absurd (true≢false (sym names))
+pub same_reply : (index : IndexData) (name : List ℕ) (first second : DeskState) (session : OpenSession) (command : Option DeskCommand) → command_names name command ≡ true
+    → session_named name first ≡ Some session → session_named name second ≡ Some session → reply_to index first command ≡ reply_to index second command
+same_reply index name first second session None names a b = absurd (true≢false (sym names))
+same_reply index name first second session (Some (Open n k words)) names a b =
+    ap (opened_reply index) (refused index n k words first session (taken name n first session names a) ∙ sym (refused index n k words second session (taken name n second session names b)))
+same_reply index name first second session (Some (Grant n budget)) names a b = ap (reply_of _) (taken name n first session names a ∙ sym (taken name n second session names b))
+same_reply index name first second session (Some (Top n)) names a b = ap (reply_of _) (taken name n first session names a ∙ sym (taken name n second session names b))
+same_reply index name first second session (Some (Why n)) names a b = ap (reply_of _) (taken name n first session names a ∙ sym (taken name n second session names b))
+same_reply index name first second session (Some (Close n)) names a b = ap (reply_of _) (taken name n first session names a ∙ sym (taken name n second session names b))
+same_reply index name first second session (Some End) names a b = absurd (true≢false (sym names))
 
-pub own_command : (file : FileView) (name : List ℕ) (state : DeskState) (session : OpenSession) (command : Option DeskCommand) → command_names name command ≡ true → command_closes name command ≡ false
-    → session_named name state ≡ Some session → session_named name (after_of file state command) ≡ Some (after_command session command)
-own_command file name state session None names stays found = absurd (true≢false (sym names))
-own_command file name state session (Some (Open n k words)) names stays found = ap (λ r. session_named name (with_opened state r)) (refused file n k words state session (taken name n state session names found)) ∙ found
-own_command file name state session (Some (Grant n budget)) names stays found =
+pub own_command : (index : IndexData) (name : List ℕ) (state : DeskState) (session : OpenSession) (command : Option DeskCommand) → command_names name command ≡ true → command_closes name command ≡ false
+    → session_named name state ≡ Some session → session_named name (after_of index state command) ≡ Some (after_command session command)
+own_command index name state session None names stays found = absurd (true≢false (sym names))
+own_command index name state session (Some (Open n k words)) names stays found = ap (λ r. session_named name (with_opened state r)) (refused index n k words state session (taken name n state session names found)) ∙ found
+own_command index name state session (Some (Grant n budget)) names stays found =
     ap (λ m. find (is_named name) (with_named m (granted_more budget) state.sessions)) (bytes_same n name names) ∙ found_granted name budget state.sessions session found
-own_command file name state session (Some (Top n)) names stays found = found
-own_command file name state session (Some (Why n)) names stays found = found
-own_command file name state session (Some (Close n)) names stays found = absurd (true≢false (sym names ∙ stays))
-own_command file name state session (Some End) names stays found = absurd (true≢false (sym names))
+own_command index name state session (Some (Top n)) names stays found = found
+own_command index name state session (Some (Why n)) names stays found = found
+own_command index name state session (Some (Close n)) names stays found = absurd (true≢false (sym names ∙ stays))
+own_command index name state session (Some End) names stays found = absurd (true≢false (sym names))
 
 -- ---- a desk with this session alone
 
 pub alone_found : (name : List ℕ) (frames : ℕ) (session : OpenSession) → is_named name session ≡ true → session_named name (alone frames session) ≡ Some session
 alone_found name frames session named = ap (λ (b : Bool). cond b (Some session) None) named
 
-alone_after : (file : FileView) (name : List ℕ) (frames : ℕ) (session : OpenSession) (command : Option DeskCommand) → is_named name session ≡ true → command_names name command ≡ true → command_closes name command ≡ false
-    → after_of file (alone frames session) command ≡ alone frames (after_command session command)
-alone_after file name frames session None named names stays = refl
-alone_after file name frames session (Some (Open n k words)) named names stays =
-    ap (with_opened (alone frames session)) (refused file n k words (alone frames session) session (taken name n (alone frames session) session names (alone_found name frames session named)))
-alone_after file name frames session (Some (Grant n budget)) named names stays =
+alone_after : (index : IndexData) (name : List ℕ) (frames : ℕ) (session : OpenSession) (command : Option DeskCommand) → is_named name session ≡ true → command_names name command ≡ true → command_closes name command ≡ false
+    → after_of index (alone frames session) command ≡ alone frames (after_command session command)
+alone_after index name frames session None named names stays = refl
+alone_after index name frames session (Some (Open n k words)) named names stays =
+    ap (with_opened (alone frames session)) (refused index n k words (alone frames session) session (taken name n (alone frames session) session names (alone_found name frames session named)))
+alone_after index name frames session (Some (Grant n budget)) named names stays =
     ap (λ (b : Bool). alone frames (cond b (granted_more budget session) session)) (ap (λ m. is_named m session) (bytes_same n name names) ∙ named)
-alone_after file name frames session (Some (Top n)) named names stays = refl
-alone_after file name frames session (Some (Why n)) named names stays = refl
-alone_after file name frames session (Some (Close n)) named names stays = absurd (true≢false (sym names ∙ stays))
-alone_after file name frames session (Some End) named names stays = refl
+alone_after index name frames session (Some (Top n)) named names stays = refl
+alone_after index name frames session (Some (Why n)) named names stays = refl
+alone_after index name frames session (Some (Close n)) named names stays = absurd (true≢false (sym names ∙ stays))
+alone_after index name frames session (Some End) named names stays = refl
 
 pub still_named : (name : List ℕ) (session : OpenSession) (command : Option DeskCommand) → is_named name session ≡ true → is_named name (after_command session command) ≡ true
 still_named name session None named = named
@@ -152,78 +152,78 @@ closing_names name (Some other) closes = absurd (true≢false (sym closes))
 
 -- ---- lines
 
-own_replies_cons : (file : FileView) (name : List ℕ) (state : DeskState) (line : List ℕ) (lines : List (List ℕ)) → own_replies file name state (line ∷ lines)
-    ≡ cond (is_end line) [] (cond (does_close name line) (desk_reply file state line ∷ []) (cond (does_name name line) (desk_reply file state line ∷ own_replies file name (desk_after file state line) lines) (own_replies file name (desk_after file state line) lines)))
+own_replies_cons : (index : IndexData) (name : List ℕ) (state : DeskState) (line : List ℕ) (lines : List (List ℕ)) → own_replies index name state (line ∷ lines)
+    ≡ cond (is_end line) [] (cond (does_close name line) (desk_reply index state line ∷ []) (cond (does_name name line) (desk_reply index state line ∷ own_replies index name (desk_after index state line) lines) (own_replies index name (desk_after index state line) lines)))
 unfolding own_replies
-own_replies_cons file name state line lines = refl
+own_replies_cons index name state line lines = refl
 
 own_lines_cons : (name line : List ℕ) (lines : List (List ℕ))
     → own_lines name (line ∷ lines) ≡ cond (is_end line) [] (cond (does_close name line) (line ∷ []) (cond (does_name name line) (line ∷ own_lines name lines) (own_lines name lines)))
 unfolding own_lines
 own_lines_cons name line lines = refl
 
-replies_none : (file : FileView) (state : DeskState) → replies_from file state [] ≡ []
+replies_none : (index : IndexData) (state : DeskState) → replies_from index state [] ≡ []
 unfolding replies_from
-replies_none file state = refl
+replies_none index state = refl
 
-replies_cons : (file : FileView) (state : DeskState) (line : List ℕ) (lines : List (List ℕ)) → replies_from file state (line ∷ lines) ≡ desk_reply file state line ∷ cond (is_end line) [] (replies_from file (desk_after file state line) lines)
+replies_cons : (index : IndexData) (state : DeskState) (line : List ℕ) (lines : List (List ℕ)) → replies_from index state (line ∷ lines) ≡ desk_reply index state line ∷ cond (is_end line) [] (replies_from index (desk_after index state line) lines)
 unfolding replies_from
-replies_cons file state line lines = refl
+replies_cons index state line lines = refl
 
-replies_on : (file : FileView) (state : DeskState) (line : List ℕ) (lines : List (List ℕ)) → is_end line ≡ false → replies_from file state (line ∷ lines) ≡ desk_reply file state line ∷ replies_from file (desk_after file state line) lines
-replies_on file state line lines more = replies_cons file state line lines ∙ ap (λ (b : Bool). desk_reply file state line ∷ cond b [] (replies_from file (desk_after file state line) lines)) more
+replies_on : (index : IndexData) (state : DeskState) (line : List ℕ) (lines : List (List ℕ)) → is_end line ≡ false → replies_from index state (line ∷ lines) ≡ desk_reply index state line ∷ replies_from index (desk_after index state line) lines
+replies_on index state line lines more = replies_cons index state line lines ∙ ap (λ (b : Bool). desk_reply index state line ∷ cond b [] (replies_from index (desk_after index state line) lines)) more
 
-same_reply_line : (file : FileView) (name : List ℕ) (first second : DeskState) (session : OpenSession) (line : List ℕ) → does_name name line ≡ true
-    → session_named name first ≡ Some session → session_named name second ≡ Some session → desk_reply file first line ≡ desk_reply file second line
+same_reply_line : (index : IndexData) (name : List ℕ) (first second : DeskState) (session : OpenSession) (line : List ℕ) → does_name name line ≡ true
+    → session_named name first ≡ Some session → session_named name second ≡ Some session → desk_reply index first line ≡ desk_reply index second line
 unfolding desk_reply does_name
-same_reply_line file name first second session line names a b = same_reply file name first second session (read_desk_line line) names a b
+same_reply_line index name first second session line names a b = same_reply index name first second session (read_desk_line line) names a b
 
-pub other_line : (file : FileView) (name : List ℕ) (state : DeskState) (session : OpenSession) (line : List ℕ) → does_name name line ≡ false → session_named name state ≡ Some session → session_named name (desk_after file state line) ≡ Some session
+pub other_line : (index : IndexData) (name : List ℕ) (state : DeskState) (session : OpenSession) (line : List ℕ) → does_name name line ≡ false → session_named name state ≡ Some session → session_named name (desk_after index state line) ≡ Some session
 unfolding desk_after does_name
-other_line file name state session line other found = other_command file name state session (read_desk_line line) other found
+other_line index name state session line other found = other_command index name state session (read_desk_line line) other found
 
-pub own_line : (file : FileView) (name : List ℕ) (state : DeskState) (session : OpenSession) (line : List ℕ) → does_name name line ≡ true → does_close name line ≡ false
-    → session_named name state ≡ Some session → session_named name (desk_after file state line) ≡ Some (after_command session (read_desk_line line))
+pub own_line : (index : IndexData) (name : List ℕ) (state : DeskState) (session : OpenSession) (line : List ℕ) → does_name name line ≡ true → does_close name line ≡ false
+    → session_named name state ≡ Some session → session_named name (desk_after index state line) ≡ Some (after_command session (read_desk_line line))
 unfolding desk_after does_name does_close
-own_line file name state session line names stays found = own_command file name state session (read_desk_line line) names stays found
+own_line index name state session line names stays found = own_command index name state session (read_desk_line line) names stays found
 
-alone_line : (file : FileView) (name : List ℕ) (frames : ℕ) (session : OpenSession) (line : List ℕ) → is_named name session ≡ true → does_name name line ≡ true → does_close name line ≡ false
-    → desk_after file (alone frames session) line ≡ alone frames (after_command session (read_desk_line line))
+alone_line : (index : IndexData) (name : List ℕ) (frames : ℕ) (session : OpenSession) (line : List ℕ) → is_named name session ≡ true → does_name name line ≡ true → does_close name line ≡ false
+    → desk_after index (alone frames session) line ≡ alone frames (after_command session (read_desk_line line))
 unfolding desk_after does_name does_close
-alone_line file name frames session line named names stays = alone_after file name frames session (read_desk_line line) named names stays
+alone_line index name frames session line named names stays = alone_after index name frames session (read_desk_line line) named names stays
 
 closing_line : (name line : List ℕ) → does_close name line ≡ true → does_name name line ≡ true
 unfolding does_name does_close
 closing_line name line closes = closing_names name (read_desk_line line) closes
 
-none_told : (file : FileView) (name : List ℕ) (frames : ℕ) (state : DeskState) (session : OpenSession) → own_replies file name state [] ≡ replies_from file (alone frames session) (own_lines name [])
+none_told : (index : IndexData) (name : List ℕ) (frames : ℕ) (state : DeskState) (session : OpenSession) → own_replies index name state [] ≡ replies_from index (alone frames session) (own_lines name [])
 unfolding own_replies own_lines replies_from
-none_told file name frames state session = refl
+none_told index name frames state session = refl
 
 -- the replies to the lines of one session are those that it would get alone
-pub told_alone : (file : FileView) (name : List ℕ) (frames : ℕ) (state : DeskState) (session : OpenSession) (lines : List (List ℕ)) → is_named name session ≡ true → session_named name state ≡ Some session
-    → own_replies file name state lines ≡ replies_from file (alone frames session) (own_lines name lines)
-told_alone file name frames state session [] named found = none_told file name frames state session
-told_alone file name frames state session (line ∷ lines) named found = own_replies_cons file name state line lines
-    ∙ here (is_end line) (does_close name line) (does_name name line) refl refl refl (λ s e. told_alone file name frames s e lines)
-    ∙ ap (replies_from file (alone frames session)) (sym (own_lines_cons name line lines))
+pub told_alone : (index : IndexData) (name : List ℕ) (frames : ℕ) (state : DeskState) (session : OpenSession) (lines : List (List ℕ)) → is_named name session ≡ true → session_named name state ≡ Some session
+    → own_replies index name state lines ≡ replies_from index (alone frames session) (own_lines name lines)
+told_alone index name frames state session [] named found = none_told index name frames state session
+told_alone index name frames state session (line ∷ lines) named found = own_replies_cons index name state line lines
+    ∙ here (is_end line) (does_close name line) (does_name name line) refl refl refl (λ s e. told_alone index name frames s e lines)
+    ∙ ap (replies_from index (alone frames session)) (sym (own_lines_cons name line lines))
   where
     here : (e c n : Bool) → is_end line ≡ e → does_close name line ≡ c → does_name name line ≡ n
-        → ((s : DeskState) (x : OpenSession) → is_named name x ≡ true → session_named name s ≡ Some x → own_replies file name s lines ≡ replies_from file (alone frames x) (own_lines name lines))
-        → cond e [] (cond c (desk_reply file state line ∷ []) (cond n (desk_reply file state line ∷ own_replies file name (desk_after file state line) lines) (own_replies file name (desk_after file state line) lines)))
-        ≡ replies_from file (alone frames session) (cond e [] (cond c (line ∷ []) (cond n (line ∷ own_lines name lines) (own_lines name lines))))
-    here true c n a b d later = sym (replies_none file (alone frames session))
+        → ((s : DeskState) (x : OpenSession) → is_named name x ≡ true → session_named name s ≡ Some x → own_replies index name s lines ≡ replies_from index (alone frames x) (own_lines name lines))
+        → cond e [] (cond c (desk_reply index state line ∷ []) (cond n (desk_reply index state line ∷ own_replies index name (desk_after index state line) lines) (own_replies index name (desk_after index state line) lines)))
+        ≡ replies_from index (alone frames session) (cond e [] (cond c (line ∷ []) (cond n (line ∷ own_lines name lines) (own_lines name lines))))
+    here true c n a b d later = sym (replies_none index (alone frames session))
     here false true n a b d later =
-        ap (λ r. r ∷ []) (same_reply_line file name state (alone frames session) session line (closing_line name line b) found (alone_found name frames session named))
-        ∙ ap (λ rs. desk_reply file (alone frames session) line ∷ rs) (sym (replies_none file (desk_after file (alone frames session) line)))
-        ∙ sym (replies_on file (alone frames session) line [] a)
+        ap (λ r. r ∷ []) (same_reply_line index name state (alone frames session) session line (closing_line name line b) found (alone_found name frames session named))
+        ∙ ap (λ rs. desk_reply index (alone frames session) line ∷ rs) (sym (replies_none index (desk_after index (alone frames session) line)))
+        ∙ sym (replies_on index (alone frames session) line [] a)
     here false false true a b d later =
-        ap (λ r. r ∷ own_replies file name (desk_after file state line) lines) (same_reply_line file name state (alone frames session) session line d found (alone_found name frames session named))
-        ∙ ap (λ rs. desk_reply file (alone frames session) line ∷ rs) (
-        later (desk_after file state line) (after_command session (read_desk_line line)) (still_named name session (read_desk_line line) named) (own_line file name state session line d b found)
-        ∙ ap (λ s. replies_from file s (own_lines name lines)) (sym (alone_line file name frames session line named d b)))
-        ∙ sym (replies_on file (alone frames session) line (own_lines name lines) a)
-    here false false false a b d later = later (desk_after file state line) session named (other_line file name state session line d found)
+        ap (λ r. r ∷ own_replies index name (desk_after index state line) lines) (same_reply_line index name state (alone frames session) session line d found (alone_found name frames session named))
+        ∙ ap (λ rs. desk_reply index (alone frames session) line ∷ rs) (
+        later (desk_after index state line) (after_command session (read_desk_line line)) (still_named name session (read_desk_line line) named) (own_line index name state session line d b found)
+        ∙ ap (λ s. replies_from index s (own_lines name lines)) (sym (alone_line index name frames session line named d b)))
+        ∙ sym (replies_on index (alone frames session) line (own_lines name lines) a)
+    here false false false a b d later = later (desk_after index state line) session named (other_line index name state session line d found)
 
 pub has_name : (name : List ℕ) (state : DeskState) (session : OpenSession) → session_named name state ≡ Some session → is_named name session ≡ true
 has_name name state session found = (bytes_eq-Decides session.query.id name).1 (name_of_found name state.sessions session found)

@@ -2,7 +2,7 @@
 use Rattle.shared_lemmas.proofs.Common.{◌≡◌, ℕ, ◌+◌, ◌-◌, ◌<◌, ◌≤◌, Bool, true, false, cond, List, [], ◌∷◌, ◌++◌, length, map, Option, Some, None, Result, Ok, Err, refl, sym, ap, subst, ◌∙◌, arith, leb-true, leb-false, ltb-true, map-append, sum_by-cons, count_by, is_some, nat_le, nat_lt}
 use Rattle.shared_lemmas.proofs.Common.{AllByRecursion, find, list_all}
 use Rattle.std.proofs.lemmas.Bool.{true≢false}
-use Rattle.session_desk.proofs.Below.{FileView, ChainEntry, PoolView, spare_of, texts_of, Plain, QueryFault, QueryRefusal, QueryWhy, Mention, named_of, unknown_of, first_broken, unless, Fails, at_line, plain_mention, blank_runs, HasFreeNumber, need_of, Session}
+use Rattle.session_desk.proofs.Below.{IndexData, ChainEntry, PoolView, spare_of, texts_of, Plain, QueryFault, QueryRefusal, QueryWhy, Mention, named_of, unknown_of, first_broken, unless, Fails, at_line, plain_mention, blank_runs, HasFreeNumber, need_of, Session}
 use Rattle.query_reader.specs.declared.refusal.QueryFault.TheVariants as faults
 use Rattle.query_reader.specs.Queries as reader
 use Rattle.query_reader.specs.Reading.{read_mentions}
@@ -27,8 +27,8 @@ all_counted [] all = omega arith
 all_counted (None ∷ entries) all = absurd (true≢false (sym all))
 all_counted (Some e ∷ entries) all = omega (arith, sum_by-cons (λ (o : Option ChainEntry). cond (is_some o) 1 0) (Some e) entries, all_counted entries all)
 
-pub number_free : (file : FileView) (pool : PoolView) (sessions : List Session) → SessionsStand file pool sessions → length sessions < 64 → HasFreeNumber pool
-number_free file pool sessions stand few = here (list_all is_some pool.chains) refl
+pub number_free : (index : IndexData) (pool : PoolView) (sessions : List Session) → SessionsStand index pool sessions → length sessions < 64 → HasFreeNumber pool
+number_free index pool sessions stand few = here (list_all is_some pool.chains) refl
   where
     here : (b : Bool) → list_all is_some pool.chains ≡ b → b ≡ false
     here true all = absurd (omega (arith, all_counted pool.chains all, stand.numbers, stand.in_use, few))
@@ -36,33 +36,33 @@ number_free file pool sessions stand few = here (list_all is_some pool.chains) r
 
 -- ---- there are frames
 
-pub spare_seen : (file : FileView) (pool : PoolView) (sessions : List Session) → SessionsStand file pool sessions
-    → spare_frames file (record { sessions = sessions_data sessions; frames = length pool.frames }) ≡ spare_of pool
-spare_seen file pool sessions stand = omega (arith, stand.spare)
+pub spare_seen : (index : IndexData) (pool : PoolView) (sessions : List Session) → SessionsStand index pool sessions
+    → spare_frames index (record { sessions = sessions_data sessions; frames = length pool.frames }) ≡ spare_of pool
+spare_seen index pool sessions stand = omega (arith, stand.spare)
 
 abbrev pub session_for : reader.QueryData → ℕ → OpenSession
 session_for query k = record { query = record { id = query.id; terms = query.terms; unknown = query.unknown }; k = k; granted = 0 }
 
-fits_then : (file : FileView) (state : DeskState) (k : ℕ) (query : reader.QueryData) → need_of file query.terms ≤ spare_frames file state → fitting file state k (Ok query) ≡ Ok (session_for query k)
-fits_then file state k query room =
-    ap (λ (b : Bool). cond b (let r : Result OpenSession DeskRefusal = Err (PoolFull (need_of file query.terms) (spare_frames file state)) in r) (Ok (session_for query k))) (here (nat_lt (spare_frames file state) (need_of file query.terms)) refl)
+fits_then : (index : IndexData) (state : DeskState) (k : ℕ) (query : reader.QueryData) → need_of index query.terms ≤ spare_frames index state → fitting index state k (Ok query) ≡ Ok (session_for query k)
+fits_then index state k query room =
+    ap (λ (b : Bool). cond b (let r : Result OpenSession DeskRefusal = Err (PoolFull (need_of index query.terms) (spare_frames index state)) in r) (Ok (session_for query k))) (here (nat_lt (spare_frames index state) (need_of index query.terms)) refl)
   where
-    here : (b : Bool) → nat_lt (spare_frames file state) (need_of file query.terms) ≡ b → b ≡ false
-    here true less = absurd (omega (arith, room, ltb-true (spare_frames file state) (need_of file query.terms) less))
+    here : (b : Bool) → nat_lt (spare_frames index state) (need_of index query.terms) ≡ b → b ≡ false
+    here true less = absurd (omega (arith, room, ltb-true (spare_frames index state) (need_of index query.terms) less))
     here false less = refl
 
-pub opened_so : (file : FileView) (state : DeskState) (k before after : ℕ) (query : reader.QueryData) → spare_frames file state ≡ before → after + need_of file query.terms ≡ before
-    → opened_reply file (fitting file state k (Ok query)) ≡ opened_line query.id (before - after) query.unknown
-opened_so file state k before after query spare paid = ap (opened_reply file) (fits_then file state k query (omega (arith, spare, paid)))
-    ∙ ap (λ (n : ℕ). opened_line query.id n query.unknown) (let is : need_of file query.terms ≡ before - after = omega (arith, paid) in is)
+pub opened_so : (index : IndexData) (state : DeskState) (k before after : ℕ) (query : reader.QueryData) → spare_frames index state ≡ before → after + need_of index query.terms ≡ before
+    → opened_reply index (fitting index state k (Ok query)) ≡ opened_line query.id (before - after) query.unknown
+opened_so index state k before after query spare paid = ap (opened_reply index) (fits_then index state k query (omega (arith, spare, paid)))
+    ∙ ap (λ (n : ℕ). opened_line query.id n query.unknown) (let is : need_of index query.terms ≡ before - after = omega (arith, paid) in is)
 
-pub joined_shows : (file : FileView) (sessions : List Session) (s : Session) (k frames count before after : ℕ) (query : reader.QueryData)
-    → (let state : DeskState = record { sessions = sessions_data sessions; frames = count } in spare_frames file state ≡ before) → after + need_of file query.terms ≡ before
+pub joined_shows : (index : IndexData) (sessions : List Session) (s : Session) (k frames count before after : ℕ) (query : reader.QueryData)
+    → (let state : DeskState = record { sessions = sessions_data sessions; frames = count } in spare_frames index state ≡ before) → after + need_of index query.terms ≡ before
     → session_data s ≡ session_for query k → frames ≡ count → (let new : DeskState = record { sessions = sessions_data (sessions ++ s ∷ []); frames = frames } in new)
-    ≡ with_opened (record { sessions = sessions_data sessions; frames = count }) (fitting file (record { sessions = sessions_data sessions; frames = count }) k (Ok query))
-joined_shows file sessions s k frames count before after query spare paid is same =
+    ≡ with_opened (record { sessions = sessions_data sessions; frames = count }) (fitting index (record { sessions = sessions_data sessions; frames = count }) k (Ok query))
+joined_shows index sessions s k frames count before after query spare paid is same =
     (λ i. record { sessions = (map-append session_data sessions (s ∷ []) ∙ ap (λ e. sessions_data sessions ++ e ∷ []) is) i; frames = same i })
-    ∙ ap (with_opened (record { sessions = sessions_data sessions; frames = count })) (sym (fits_then file (record { sessions = sessions_data sessions; frames = count }) k query (omega (arith, spare, paid))))
+    ∙ ap (with_opened (record { sessions = sessions_data sessions; frames = count })) (sym (fits_then index (record { sessions = sessions_data sessions; frames = count }) k query (omega (arith, spare, paid))))
 
 -- ---- what is judged before
 
@@ -95,14 +95,14 @@ room_there state name free few = ap (λ (b : Bool). judges b (nat_le MOST_SESSIO
     here true e = absurd (omega (arith, few, leb-true 64 (length state.sessions) e))
     here false e = refl
 
-pub refused_first : (file : FileView) (state : DeskState) (name : List ℕ) (k : ℕ) (words : List (List ℕ)) (refusal : DeskRefusal) → room_refusal name state ≡ Some refusal → opening file state name k words ≡ Err refusal
+pub refused_first : (index : IndexData) (state : DeskState) (name : List ℕ) (k : ℕ) (words : List (List ℕ)) (refusal : DeskRefusal) → room_refusal name state ≡ Some refusal → opening index state name k words ≡ Err refusal
 unfolding opening
-refused_first file state name k words refusal is = ap (λ o. unless_refused o (fitting file state k (read_mentions (texts_of file.index.terms) name (map plain_mention words)))) is
+refused_first index state name k words refusal is = ap (λ o. unless_refused o (fitting index state k (read_mentions (texts_of index.terms) name (map plain_mention words)))) is
 
-pub then_fits : (file : FileView) (state : DeskState) (name : List ℕ) (k : ℕ) (words : List (List ℕ)) → room_refusal name state ≡ None
-    → opening file state name k words ≡ fitting file state k (read_mentions (texts_of file.index.terms) name (map plain_mention words))
+pub then_fits : (index : IndexData) (state : DeskState) (name : List ℕ) (k : ℕ) (words : List (List ℕ)) → room_refusal name state ≡ None
+    → opening index state name k words ≡ fitting index state k (read_mentions (texts_of index.terms) name (map plain_mention words))
 unfolding opening
-then_fits file state name k words is = ap (λ o. unless_refused o (fitting file state k (read_mentions (texts_of file.index.terms) name (map plain_mention words)))) is
+then_fits index state name k words is = ap (λ o. unless_refused o (fitting index state k (read_mentions (texts_of index.terms) name (map plain_mention words)))) is
 
 -- ---- mentions
 
@@ -122,10 +122,10 @@ read_name terms name mentions query is = here (first_broken terms [] mentions) i
     here (Some why) e = cc
     here None e = let same : (let q : reader.QueryData = record { id = name; terms = named_of terms mentions; unknown = unknown_of terms mentions } in q) ≡ query = cc in sym (ap (λ (q : reader.QueryData). q.id) same)
 
-pub refused_so : (file : FileView) (name : List ℕ) (state : DeskState) (k : ℕ) (read : Result reader.QueryData QueryWhy) (found : Result OpenSession DeskRefusal) (fault : QueryFault)
-    → found ≡ fitting file state k read → Fails fault (at_line 1 read) → Opens file found name state state (Err (refuses fault))
-refused_so file name state k (Ok query) found (faults.Refused refusal) is fails = cc
-refused_so file name state k (Err why) found (faults.Refused refusal) is fails =
+pub refused_so : (index : IndexData) (name : List ℕ) (state : DeskState) (k : ℕ) (read : Result reader.QueryData QueryWhy) (found : Result OpenSession DeskRefusal) (fault : QueryFault)
+    → found ≡ fitting index state k read → Fails fault (at_line 1 read) → Opens index found name state state (Err (refuses fault))
+refused_so index name state k (Ok query) found (faults.Refused refusal) is fails = cc
+refused_so index name state k (Err why) found (faults.Refused refusal) is fails =
     let whole : (let r : QueryRefusal = record { line = 1; why = why } in r) ≡ refusal = cc in
     (is ∙ ap (λ (r : QueryRefusal). Err (query_refusal r.why)) whole, refl)
-refused_so file name state k read found faults.NoMemory is fails = refl
+refused_so index name state k read found faults.NoMemory is fails = refl

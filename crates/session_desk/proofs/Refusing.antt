@@ -1,6 +1,6 @@
 -- A refused line changes nothing.
 use Rattle.shared_lemmas.proofs.Common.{◌≡◌, ℕ, Bool, true, false, not, cond, List, [], ◌∷◌, Option, Some, None, Result, Ok, Err, refl, sym, ap, ◌∙◌, find, option_map_or, result_err}
-use Rattle.index_layout.specs.View.{FileView}
+use Rattle.index_model.specs.Index.{IndexData}
 use Rattle.session_desk.specs.declared.refusal.DeskRefusal.{DeskRefusal}
 use Rattle.session_desk.specs.declared.refusal.DeskRefusal.TheVariants.{BadLine, UnknownSession}
 use Rattle.session_desk.specs.Lines.{DeskCommand, Open, Grant, Top, Why, Close, End, read_desk_line}
@@ -40,37 +40,37 @@ unknown None refusal is = (refl, cc)
 unknown_reply : (text : OpenSession → List ℕ) (found : Option OpenSession) (refusal : DeskRefusal) → unknown_refusal found ≡ Some refusal → reply_of text found ≡ refusal_line refusal
 unknown_reply text found refusal is = let no = unknown found refusal is in ap (reply_of text) no.0 ∙ ap refusal_line no.1
 
-command_replied : (file : FileView) (state : DeskState) (command : Option DeskCommand) (refusal : DeskRefusal) → refusal_of file state command ≡ Some refusal → reply_to file state command ≡ refusal_line refusal
-command_replied file state None refusal is = let same : BadLine ≡ refusal = cc in ap refusal_line same
-command_replied file state (Some (Open name k words)) refusal is = ap (opened_reply file) (opening_refused (opening file state name k words) refusal is)
-command_replied file state (Some (Grant name budget)) refusal is = unknown_reply _ (session_named name state) refusal is
-command_replied file state (Some (Top name)) refusal is = unknown_reply _ (session_named name state) refusal is
-command_replied file state (Some (Why name)) refusal is = unknown_reply _ (session_named name state) refusal is
-command_replied file state (Some (Close name)) refusal is = unknown_reply _ (session_named name state) refusal is
-command_replied file state (Some End) refusal is = cc
+command_replied : (index : IndexData) (state : DeskState) (command : Option DeskCommand) (refusal : DeskRefusal) → refusal_of index state command ≡ Some refusal → reply_to index state command ≡ refusal_line refusal
+command_replied index state None refusal is = let same : BadLine ≡ refusal = cc in ap refusal_line same
+command_replied index state (Some (Open name k words)) refusal is = ap (opened_reply index) (opening_refused (opening index state name k words) refusal is)
+command_replied index state (Some (Grant name budget)) refusal is = unknown_reply _ (session_named name state) refusal is
+command_replied index state (Some (Top name)) refusal is = unknown_reply _ (session_named name state) refusal is
+command_replied index state (Some (Why name)) refusal is = unknown_reply _ (session_named name state) refusal is
+command_replied index state (Some (Close name)) refusal is = unknown_reply _ (session_named name state) refusal is
+command_replied index state (Some End) refusal is = cc
 
-command_left : (file : FileView) (state : DeskState) (command : Option DeskCommand) (refusal : DeskRefusal) → refusal_of file state command ≡ Some refusal → after_of file state command ≡ state
-command_left file state None refusal is = refl
-command_left file state (Some (Open name k words)) refusal is = ap (with_opened state) (opening_refused (opening file state name k words) refusal is)
-command_left file state (Some (Grant name budget)) refusal is = ap (λ es. record state { sessions = es }) (with_none name _ state.sessions (unknown (session_named name state) refusal is).0)
-command_left file state (Some (Top name)) refusal is = refl
-command_left file state (Some (Why name)) refusal is = refl
-command_left file state (Some (Close name)) refusal is = ap (λ es. record state { sessions = es }) (without_none name state.sessions (unknown (session_named name state) refusal is).0)
-command_left file state (Some End) refusal is = refl
+command_left : (index : IndexData) (state : DeskState) (command : Option DeskCommand) (refusal : DeskRefusal) → refusal_of index state command ≡ Some refusal → after_of index state command ≡ state
+command_left index state None refusal is = refl
+command_left index state (Some (Open name k words)) refusal is = ap (with_opened state) (opening_refused (opening index state name k words) refusal is)
+command_left index state (Some (Grant name budget)) refusal is = ap (λ es. record state { sessions = es }) (with_none name _ state.sessions (unknown (session_named name state) refusal is).0)
+command_left index state (Some (Top name)) refusal is = refl
+command_left index state (Some (Why name)) refusal is = refl
+command_left index state (Some (Close name)) refusal is = ap (λ es. record state { sessions = es }) (without_none name state.sessions (unknown (session_named name state) refusal is).0)
+command_left index state (Some End) refusal is = refl
 
-command_unpaid : (file : FileView) (state : DeskState) (command : Option DeskCommand) (refusal : DeskRefusal) → refusal_of file state command ≡ Some refusal → steps_of file state command ≡ 0
-command_unpaid file state None refusal is = refl
-command_unpaid file state (Some (Grant name budget)) refusal is = ap (λ (o : Option OpenSession). option_map_or (newly_scored file budget) o 0) (unknown (session_named name state) refusal is).0
-command_unpaid file state (Some other) refusal is = refl
+command_unpaid : (index : IndexData) (state : DeskState) (command : Option DeskCommand) (refusal : DeskRefusal) → refusal_of index state command ≡ Some refusal → steps_of index state command ≡ 0
+command_unpaid index state None refusal is = refl
+command_unpaid index state (Some (Grant name budget)) refusal is = ap (λ (o : Option OpenSession). option_map_or (newly_scored index budget) o 0) (unknown (session_named name state) refusal is).0
+command_unpaid index state (Some other) refusal is = refl
 
-pub line_replied : (file : FileView) (state : DeskState) (line : List ℕ) (refusal : DeskRefusal) → desk_refusal file state line ≡ Some refusal → desk_reply file state line ≡ refusal_line refusal
+pub line_replied : (index : IndexData) (state : DeskState) (line : List ℕ) (refusal : DeskRefusal) → desk_refusal index state line ≡ Some refusal → desk_reply index state line ≡ refusal_line refusal
 unfolding desk_refusal desk_reply
-line_replied file state line refusal is = command_replied file state (read_desk_line line) refusal is
+line_replied index state line refusal is = command_replied index state (read_desk_line line) refusal is
 
-pub line_left : (file : FileView) (state : DeskState) (line : List ℕ) (refusal : DeskRefusal) → desk_refusal file state line ≡ Some refusal → desk_after file state line ≡ state
+pub line_left : (index : IndexData) (state : DeskState) (line : List ℕ) (refusal : DeskRefusal) → desk_refusal index state line ≡ Some refusal → desk_after index state line ≡ state
 unfolding desk_refusal desk_after
-line_left file state line refusal is = command_left file state (read_desk_line line) refusal is
+line_left index state line refusal is = command_left index state (read_desk_line line) refusal is
 
-pub line_unpaid : (file : FileView) (state : DeskState) (line : List ℕ) (refusal : DeskRefusal) → desk_refusal file state line ≡ Some refusal → desk_steps file state line ≡ 0
+pub line_unpaid : (index : IndexData) (state : DeskState) (line : List ℕ) (refusal : DeskRefusal) → desk_refusal index state line ≡ Some refusal → desk_steps index state line ≡ 0
 unfolding desk_refusal desk_steps
-line_unpaid file state line refusal is = command_unpaid file state (read_desk_line line) refusal is
+line_unpaid index state line refusal is = command_unpaid index state (read_desk_line line) refusal is

@@ -5,7 +5,7 @@ use Rattle.std.proofs.lemmas.Bool.{true≢false}
 use Rattle.std.proofs.lemmas.List.{length-set}
 use Rattle.std.specs.List.{slice_set, slice_index_or}
 use Rattle.shared_lemmas.proofs.Lists.{all_append, all_back, all_front, all_weaker}
-use Rattle.session_desk.proofs.Below.{Query, FileView, LeavesOthers, LeavesPool, chain_view, ChainEntry, IsInUse, PoolView, Promises, spare_of, need_of, IsSessionOf, SessionStands, chain_of, terms_of, Session}
+use Rattle.session_desk.proofs.Below.{Query, IndexData, LeavesOthers, LeavesPool, chain_view, ChainEntry, IsInUse, PoolView, Promises, spare_of, need_of, IsSessionOf, SessionStands, chain_of, terms_of, Session}
 use Rattle.session_desk.specs.State.{OpenSession, needs}
 use Rattle.session_desk.specs.Standing.{sessions_data, session_data}
 use Rattle.session_desk.specs.Private.Standing.{AreApart, Differ, SessionsStand, name_of}
@@ -14,13 +14,13 @@ use Rattle.session_desk.proofs.Placing.{HasOtherName}
 abbrev pub HasOtherChain : ℕ → Session → Type 0
 HasOtherChain chain s = chain_of s ≢ chain
 
-abbrev pub Stands : FileView → PoolView → Session → Type 0
-Stands file pool s = SessionStands s file pool
+abbrev pub Stands : IndexData → PoolView → Session → Type 0
+Stands index pool s = SessionStands s index pool
 
 -- a call on another chain leaves sessions
 abbrev pub OthersStay : Type 0
-OthersStay = (sessions : List Session) (file : FileView) (old new : PoolView) (chain : ℕ) → LeavesOthers old new chain
-    → AllByRecursion (HasOtherChain chain) sessions → AllByRecursion (Stands file old) sessions → AllByRecursion (Stands file new) sessions
+OthersStay = (sessions : List Session) (index : IndexData) (old new : PoolView) (chain : ℕ) → LeavesOthers old new chain
+    → AllByRecursion (HasOtherChain chain) sessions → AllByRecursion (Stands index old) sessions → AllByRecursion (Stands index new) sessions
 
 -- ---- apart
 
@@ -77,16 +77,16 @@ differ_joined (t ∷ sessions) s apart differ =
 
 -- ---- standing
 
-others_stay : OthersStay → (file : FileView) (old new : PoolView) (s : Session) (sessions : List Session) → LeavesOthers old new (chain_of s)
-    → AllByRecursion (AreApart s) sessions → AllByRecursion (Stands file old) sessions → AllByRecursion (Stands file new) sessions
-others_stay stay file old new s sessions leaves apart stand = stay sessions file old new (chain_of s) leaves (other_chains s sessions apart) stand
+others_stay : OthersStay → (index : IndexData) (old new : PoolView) (s : Session) (sessions : List Session) → LeavesOthers old new (chain_of s)
+    → AllByRecursion (AreApart s) sessions → AllByRecursion (Stands index old) sessions → AllByRecursion (Stands index new) sessions
+others_stay stay index old new s sessions leaves apart stand = stay sessions index old new (chain_of s) leaves (other_chains s sessions apart) stand
 
 -- ---- frames and chains
 
-needs_parted : (file : FileView) (front : List Session) (s : Session) (back : List Session)
-    → needs file (sessions_data (front ++ s ∷ back)) ≡ needs file (sessions_data front) + need_of file (terms_of s) + needs file (sessions_data back)
-needs_parted file front s back =
-    let f = λ (e : OpenSession). need_of file e.query.terms in
+needs_parted : (index : IndexData) (front : List Session) (s : Session) (back : List Session)
+    → needs index (sessions_data (front ++ s ∷ back)) ≡ needs index (sessions_data front) + need_of index (terms_of s) + needs index (sessions_data back)
+needs_parted index front s back =
+    let f = λ (e : OpenSession). need_of index e.query.terms in
     omega (
       arith,
       ap (sum_by f) (map-append session_data front (s ∷ back)),
@@ -94,9 +94,9 @@ needs_parted file front s back =
       sum_by-cons f (session_data s) (sessions_data back),
     )
 
-needs_joined : (file : FileView) (front back : List Session) → needs file (sessions_data (front ++ back)) ≡ needs file (sessions_data front) + needs file (sessions_data back)
-needs_joined file front back =
-    let f = λ (e : OpenSession). need_of file e.query.terms in
+needs_joined : (index : IndexData) (front back : List Session) → needs index (sessions_data (front ++ back)) ≡ needs index (sessions_data front) + needs index (sessions_data back)
+needs_joined index front back =
+    let f = λ (e : OpenSession). need_of index e.query.terms in
     ap (sum_by f) (map-append session_data front back) ∙ sum_by-append f (sessions_data front) (sessions_data back)
 
 abbrev one_where_used : Option ChainEntry → ℕ
@@ -115,16 +115,16 @@ same_length front s t back = length-append front (t ∷ back) ∙ sym (length-ap
 
 -- ---- a session changes
 
-pub still_stand : OthersStay → (file : FileView) (old new : PoolView) (front : List Session) (s t : Session) (back : List Session) → SessionsStand file old (front ++ s ∷ back)
-    → LeavesPool old new (chain_of s) → IsSessionOf s t → SessionStands t file new → SessionsStand file new (front ++ t ∷ back)
-still_stand stay file old new front s t back stand leaves same stands =
+pub still_stand : OthersStay → (index : IndexData) (old new : PoolView) (front : List Session) (s t : Session) (back : List Session) → SessionsStand index old (front ++ s ∷ back)
+    → LeavesPool old new (chain_of s) → IsSessionOf s t → SessionStands t index new → SessionsStand index new (front ++ t ∷ back)
+still_stand stay index old new front s t back stand leaves same stands =
     let differ = stand.differ in
     let named : name_of t ≡ name_of s = ap (λ q. q.id) same.query in
-    let front_stand = all_front (Stands file old) front (s ∷ back) stand.each in
-    let back_stand = (all_back (Stands file old) front (s ∷ back) stand.each).1 in
+    let front_stand = all_front (Stands index old) front (s ∷ back) stand.each in
+    let back_stand = (all_back (Stands index old) front (s ∷ back) stand.each).1 in
     record {
-      each = all_append (Stands file new) front (t ∷ back) (others_stay stay file old new s front leaves.others (apart_before front s back differ) front_stand)
-          (stands, others_stay stay file old new s back leaves.others (apart_behind front s back differ) back_stand);
+      each = all_append (Stands index new) front (t ∷ back) (others_stay stay index old new s front leaves.others (apart_before front s back differ) front_stand)
+          (stands, others_stay stay index old new s back leaves.others (apart_behind front s back differ) back_stand);
       differ = differ_changed front s t back named same.chain differ;
       few = omega (arith, stand.few, same_length front s t back);
       numbers = sym (length-map new.chains is_some) ∙ ap length leaves.in_use ∙ length-map old.chains is_some ∙ stand.numbers;
@@ -134,9 +134,9 @@ still_stand stay file old new front s t back stand leaves same stands =
         stand.spare,
         leaves.spare,
         leaves.frames,
-        needs_parted file front s back,
-        needs_parted file front t back,
-        ap (λ (q : Query). need_of file q.terms) same.query,
+        needs_parted index front s back,
+        needs_parted index front t back,
+        ap (λ (q : Query). need_of index q.terms) same.query,
       );
     }
 
@@ -151,16 +151,16 @@ used_once entries chain used = ap (λ (b : Bool). cond b 1 0) used
 
 -- ---- a session goes
 
-pub others_stand : OthersStay → (file : FileView) (old new : PoolView) (front : List Session) (s : Session) (back : List Session) → SessionsStand file old (front ++ s ∷ back)
-    → IsInUse old (chain_of s) → (chain_view old (chain_of s)).promise ≡ need_of file (terms_of s)
+pub others_stand : OthersStay → (index : IndexData) (old new : PoolView) (front : List Session) (s : Session) (back : List Session) → SessionsStand index old (front ++ s ∷ back)
+    → IsInUse old (chain_of s) → (chain_view old (chain_of s)).promise ≡ need_of index (terms_of s)
     → new.frames ≡ old.frames → new.chains ≡ slice_set old.chains (chain_of s) None → LeavesOthers old new (chain_of s) → spare_of new ≡ spare_of old + (chain_view old (chain_of s)).promise
-    → SessionsStand file new (front ++ back)
-others_stand stay file old new front s back stand in_use promise frames chains others spare =
+    → SessionsStand index new (front ++ back)
+others_stand stay index old new front s back stand in_use promise frames chains others spare =
     let differ = stand.differ in
     let some : chain_of s < length old.chains = used_inside old.chains (chain_of s) in_use in
     record {
-      each = all_append (Stands file new) front back (others_stay stay file old new s front others (apart_before front s back differ) (all_front (Stands file old) front (s ∷ back) stand.each))
-          (others_stay stay file old new s back others (apart_behind front s back differ) (all_back (Stands file old) front (s ∷ back) stand.each).1);
+      each = all_append (Stands index new) front back (others_stay stay index old new s front others (apart_before front s back differ) (all_front (Stands index old) front (s ∷ back) stand.each))
+          (others_stay stay index old new s back others (apart_behind front s back differ) (all_back (Stands index old) front (s ∷ back) stand.each).1);
       differ = differ_gone front s back differ;
       few = omega (arith, stand.few, length-append front back, length-append front (s ∷ back));
       numbers = ap length chains ∙ length-set old.chains (chain_of s) None ∙ stand.numbers;
@@ -173,7 +173,7 @@ others_stand stay file old new front s back stand in_use promise frames chains o
         length-append front back,
         length-append front (s ∷ back),
       );
-      spare = omega (arith, spare, promise, stand.spare, ap length frames, needs_parted file front s back, needs_joined file front back);
+      spare = omega (arith, spare, promise, stand.spare, ap length frames, needs_parted index front s back, needs_joined index front back);
     }
 
 -- sessions with chains in use are apart from one whose chain was in no use
@@ -187,26 +187,26 @@ apart_from old s (t ∷ sessions) unused names used = (
 
 -- ---- a session joins
 
-pub all_stand : OthersStay → (file : FileView) (old new : PoolView) (sessions : List Session) (s : Session) → SessionsStand file old sessions → length sessions < 64
+pub all_stand : OthersStay → (index : IndexData) (old new : PoolView) (sessions : List Session) (s : Session) → SessionsStand index old sessions → length sessions < 64
     → AllByRecursion (HasOtherName (name_of s)) sessions → AllByRecursion (λ (t : Session). IsInUse old (chain_of t)) sessions
-    → SessionStands s file new → Promises old new (chain_of s) (need_of file (terms_of s)) → LeavesOthers old new (chain_of s)
-    → spare_of new + need_of file (terms_of s) ≡ spare_of old → SessionsStand file new (sessions ++ s ∷ [])
-all_stand stay file old new sessions s stand few names used stands promises others spare =
+    → SessionStands s index new → Promises old new (chain_of s) (need_of index (terms_of s)) → LeavesOthers old new (chain_of s)
+    → spare_of new + need_of index (terms_of s) ≡ spare_of old → SessionsStand index new (sessions ++ s ∷ [])
+all_stand stay index old new sessions s stand few names used stands promises others spare =
     let apart = apart_from old s sessions promises.was_unused names used in
     record {
-      each = all_append (Stands file new) sessions (s ∷ []) (others_stay stay file old new s sessions others apart stand.each) (stands, tt);
+      each = all_append (Stands index new) sessions (s ∷ []) (others_stay stay index old new s sessions others apart stand.each) (stands, tt);
       differ = differ_joined sessions s apart stand.differ;
       few = omega (arith, few, length-append sessions (s ∷ []));
       numbers = ap length promises.chains ∙ length-set old.chains (chain_of s) _ ∙ stand.numbers;
       in_use = omega (
         arith,
         ap (count_by is_some) promises.chains,
-        sum_by-set one_where_used old.chains (chain_of s) (Some (record { promise = need_of file (terms_of s); frames = [] })) None promises.exists,
+        sum_by-set one_where_used old.chains (chain_of s) (Some (record { promise = need_of index (terms_of s); frames = [] })) None promises.exists,
         ap one_where_used promises.was_unused,
         stand.in_use,
         length-append sessions (s ∷ []),
       );
-      spare = omega (arith, spare, stand.spare, ap length promises.frames, needs_joined file sessions (s ∷ []), sum_by-cons (λ (e : OpenSession). need_of file e.query.terms) (session_data s) []);
+      spare = omega (arith, spare, stand.spare, ap length promises.frames, needs_joined index sessions (s ∷ []), sum_by-cons (λ (e : OpenSession). need_of index e.query.terms) (session_data s) []);
     }
 
 -- ---- the last session goes, and then the others

@@ -2,7 +2,7 @@
 use Rattle.std.specs.Prelude.{ℕ, Bool, false, List, [], ◌∷◌, ◌++◌, bytes_eq, Option, Some, None, if◌then◌else◌}
 use Rattle.std.specs.Option.{option_map_or}
 use Rattle.jass_base.specs.declared.answer.Budget.{Budget}
-use Rattle.index_layout.specs.View.{FileView}
+use Rattle.index_model.specs.Index.{IndexData}
 use Rattle.session_desk.specs.State.{DeskState, OpenSession}
 use Rattle.session_desk.specs.Lines.{DeskCommand, Open, Grant, Top, Why, Close, End, is_end, read_desk_line}
 use Rattle.session_desk.specs.Replies.{desk_after, desk_reply}
@@ -42,13 +42,13 @@ own_lines name (line ∷ lines) =
     else own_lines name lines))
 
 -- the replies that a desk gives to these lines, among whatever others
-unfoldable pub own_replies : FileView → List ℕ → DeskState → List (List ℕ) → List (List ℕ)
-own_replies file name state [] = []
-own_replies file name state (line ∷ lines) =
+unfoldable pub own_replies : IndexData → List ℕ → DeskState → List (List ℕ) → List (List ℕ)
+own_replies index name state [] = []
+own_replies index name state (line ∷ lines) =
     if is_end line then []
-    else (if does_close name line then desk_reply file state line ∷ []
-    else (if does_name name line then desk_reply file state line ∷ own_replies file name (desk_after file state line) lines
-    else own_replies file name (desk_after file state line) lines))
+    else (if does_close name line then desk_reply index state line ∷ []
+    else (if does_name name line then desk_reply index state line ∷ own_replies index name (desk_after index state line) lines
+    else own_replies index name (desk_after index state line) lines))
 
 -- a desk at which this session is the only one
 abbrev pub alone : ℕ → OpenSession → DeskState
@@ -65,6 +65,6 @@ budgets_in name [] = []
 budgets_in name (line ∷ lines) = budget_in name (read_desk_line line) ++ budgets_in name lines
 
 -- the state after lines
-unfoldable pub after_lines : FileView → DeskState → List (List ℕ) → DeskState
-after_lines file state [] = state
-after_lines file state (line ∷ lines) = after_lines file (desk_after file state line) lines
+unfoldable pub after_lines : IndexData → DeskState → List (List ℕ) → DeskState
+after_lines index state [] = state
+after_lines index state (line ∷ lines) = after_lines index (desk_after index state line) lines

@@ -5,6 +5,7 @@ use Rattle.jass_base.specs.declared.answer.Budget.{Budget}
 use Rattle.ranking_model.specs.Plan.{granted_with}
 use Rattle.ranking_model.specs.Search.{QueryData}
 use Rattle.index_layout.specs.View.{FileView}
+use Rattle.index_model.specs.Index.{IndexData}
 use Rattle.session_engine.specs.Plans.{need_of}
 
 -- an open session: its query, whose id is the session's name, how many documents are asked for, and the sum of its grants
@@ -35,11 +36,11 @@ abbrev pub session_named : List ℕ → DeskState → Option OpenSession
 session_named name state = find (is_named name) state.sessions
 
 -- the frames that sessions need at the most, and those that no open session may need
-abbrev pub needs : FileView → List OpenSession → ℕ
-needs file sessions = sum_by (λ (e : OpenSession). need_of file e.query.terms) sessions
+abbrev pub needs : IndexData → List OpenSession → ℕ
+needs index sessions = sum_by (λ (e : OpenSession). need_of index e.query.terms) sessions
 
-abbrev pub spare_frames : FileView → DeskState → ℕ
-spare_frames file state = state.frames - needs file state.sessions
+abbrev pub spare_frames : IndexData → DeskState → ℕ
+spare_frames index state = state.frames - needs index state.sessions
 
 -- a session to which a budget more is granted
 abbrev pub granted_more : Budget → OpenSession → OpenSession

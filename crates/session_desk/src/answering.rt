@@ -1,5 +1,5 @@
 ghost use Rattle.std.specs.Prelude.{◌≡◌, ◌≤◌, ◌+◌, ◌↔◌, IfOk, IsTrue, Ok, Some, length, option_map};
-ghost use Rattle.index_layout.specs.View.{FileView};
+ghost use Rattle.index_model.specs.Index.{IndexData};
 ghost use Rattle.query_reader.specs.Texts.{blank_runs};
 ghost use Rattle.session_desk.specs.Private.Commands.{FitsLine, command_data};
 ghost use Rattle.session_desk.specs.Endings.{left_where, may_take_memory, text_where};
@@ -36,15 +36,16 @@ pub fn answer<S: Sink, L: Ledger>(
     buffer: &mut Buffer,
     steps: &mut Steps<L>,
 ) -> Result<Went, WriteFault>
-    requires stands { TableStands index.now table.old }
+    requires stands { TableStands index.now.index table.old }
     requires fits { FitsLine command }
-    ensures stands { TableStands index.now table.new }
+    ensures stands { TableStands index.now.index table.new }
     ensures reply { Gathers S.written S.faults S.rest out.old out.new buffer.old buffer.new
-        (text_where result (reply_to index.now (state_of table.old) (option_map command_data command.entry))) result }
+        (text_where result (reply_to index.now.index (state_of table.old)
+        (option_map command_data command.entry))) result }
     ensures after { state_of table.new ≡ left_where result (state_of table.old)
-        (after_of index.now (state_of table.old) (option_map command_data command.entry)) }
+        (after_of index.now.index (state_of table.old) (option_map command_data command.entry)) }
     ensures steps { steps.new
-        ≡ steps.old + steps_of index.now (state_of table.old) (option_map command_data command.entry) }
+        ≡ steps.old + steps_of index.now.index (state_of table.old) (option_map command_data command.entry) }
     ensures end { IfOk result (λ went.
         went ≡ Went.End ↔ IsTrue (is_end_command (option_map command_data command.entry))) }
     ensures memory { IfOk result (λ went. went ≡ Went.NoMemory →
@@ -81,14 +82,14 @@ fn open<S: Sink>(
     out: &mut S,
     buffer: &mut Buffer,
 ) -> Result<Went, WriteFault>
-    requires stands { TableStands index.now table.old }
+    requires stands { TableStands index.now.index table.old }
     requires fits { (1 ≤ k) × (k ≤ MOST_HITS) × (length mentions.now ≤ LONGEST_LINE) }
-    ensures stands { TableStands index.now table.new }
+    ensures stands { TableStands index.now.index table.new }
     ensures reply { Gathers S.written S.faults S.rest out.old out.new buffer.old buffer.new
         (text_where result
-        (command_reply index.now (state_of table.old) (Open name.now k (blank_runs mentions.now)))) result }
+        (command_reply index.now.index (state_of table.old) (Open name.now k (blank_runs mentions.now)))) result }
     ensures after { state_of table.new ≡ left_where result (state_of table.old)
-        (command_after index.now (state_of table.old) (Open name.now k (blank_runs mentions.now))) }
+        (command_after index.now.index (state_of table.old) (Open name.now k (blank_runs mentions.now))) }
     ensures on { IfOk result (λ went. went ≡ Went.End → ⊥) }
     ensures memory { IfOk result (λ went. went ≡ Went.NoMemory →
         IsTrue (may_take_memory (state_of table.old) (Some (Open name.now k (blank_runs mentions.now))))) }
@@ -126,12 +127,12 @@ fn grant<S: Sink, L: Ledger>(
     buffer: &mut Buffer,
     steps: &mut Steps<L>,
 ) -> Result<(), WriteFault>
-    requires stands { TableStands index.now table.old }
-    ensures stands { TableStands index.now table.new }
+    requires stands { TableStands index.now.index table.old }
+    ensures stands { TableStands index.now.index table.new }
     ensures reply { Gathers S.written S.faults S.rest out.old out.new buffer.old buffer.new
-        (command_reply index.now (state_of table.old) (Grant name.now budget)) result }
-    ensures after { state_of table.new ≡ command_after index.now (state_of table.old) (Grant name.now budget) }
-    ensures steps { steps.new ≡ steps.old + command_steps index.now (state_of table.old) (Grant name.now budget) }
+        (command_reply index.now.index (state_of table.old) (Grant name.now budget)) result }
+    ensures after { state_of table.new ≡ command_after index.now.index (state_of table.old) (Grant name.now budget) }
+    ensures steps { steps.new ≡ steps.old + command_steps index.now.index (state_of table.old) (Grant name.now budget) }
 {
     match table.grant(index, name, budget, steps) {
         Some(told) => gather_report(out, buffer, name, told.unknown, told.report),
@@ -147,9 +148,9 @@ fn top<S: Sink>(
     out: &mut S,
     buffer: &mut Buffer,
 ) -> Result<(), WriteFault>
-    requires stands { TableStands index.now table.now }
+    requires stands { TableStands index.now.index table.now }
     ensures { Gathers S.written S.faults S.rest out.old out.new buffer.old buffer.new
-        (command_reply index.now (state_of table.now) (Top name.now)) result }
+        (command_reply index.now.index (state_of table.now) (Top name.now)) result }
 {
     a_session_plan_names_its_segments();
     the_ranking_has_documents_of_the_scores();
@@ -166,9 +167,9 @@ fn why<S: Sink>(
     out: &mut S,
     buffer: &mut Buffer,
 ) -> Result<(), WriteFault>
-    ensures { (file : FileView) → TableStands file table.now →
+    ensures { (index : IndexData) → TableStands index table.now →
         Gathers S.written S.faults S.rest out.old out.new buffer.old buffer.new
-        (command_reply file (state_of table.now) (Why name.now)) result }
+        (command_reply index (state_of table.now) (Why name.now)) result }
 {
     match table.told(name) {
         Some(told) => gather_report(out, buffer, name, told.unknown, told.report),
@@ -184,11 +185,11 @@ fn close<S: Sink>(
     out: &mut S,
     buffer: &mut Buffer,
 ) -> Result<(), WriteFault>
-    requires stands { TableStands index.now table.old }
-    ensures stands { TableStands index.now table.new }
+    requires stands { TableStands index.now.index table.old }
+    ensures stands { TableStands index.now.index table.new }
     ensures reply { Gathers S.written S.faults S.rest out.old out.new buffer.old buffer.new
-        (command_reply index.now (state_of table.old) (Close name.now)) result }
-    ensures after { state_of table.new ≡ command_after index.now (state_of table.old) (Close name.now) }
+        (command_reply index.now.index (state_of table.old) (Close name.now)) result }
+    ensures after { state_of table.new ≡ command_after index.now.index (state_of table.old) (Close name.now) }
 {
     if table.close(index, name) {
         gather_closed(out, buffer, name)

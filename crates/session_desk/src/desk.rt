@@ -35,7 +35,7 @@ impl Model for Desk {
 
     ghost view = { λ d. record { file = d.index; state = state_of d.table } };
 
-    ghost invariant = { λ d. TableStands d.index d.table };
+    ghost invariant = { λ d. TableStands d.index.index d.table };
 }
 
 impl Desk {
@@ -69,10 +69,10 @@ impl Desk {
     ) -> Result<Went, WriteFault>
         ensures file { self.new.file ≡ self.old.file }
         ensures reply { Gathers S.written S.faults S.rest out.old out.new buffer.old buffer.new
-            (text_where result (desk_reply self.old.file self.old.state line.now)) result }
+            (text_where result (desk_reply self.old.file.index self.old.state line.now)) result }
         ensures after { self.new.state ≡ left_where result self.old.state
-            (desk_after self.old.file self.old.state line.now) }
-        ensures steps { steps.new ≡ steps.old + desk_steps self.old.file self.old.state line.now }
+            (desk_after self.old.file.index self.old.state line.now) }
+        ensures steps { steps.new ≡ steps.old + desk_steps self.old.file.index self.old.state line.now }
         ensures end { IfOk result (λ went. went ≡ Went.End ↔ IsTrue (is_end line.now)) }
         ensures memory { IfOk result (λ went. went ≡ Went.NoMemory →
             IsTrue (may_want_memory self.old.state line.now)) }

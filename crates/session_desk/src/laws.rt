@@ -13,7 +13,8 @@ ghost use Rattle.ranking_model.specs.Scores.{top_k};
 ghost use Rattle.ranking_model.specs.Search.{query_run};
 ghost use Rattle.final_certificate.specs.Rule.{report_by};
 ghost use Rattle.index_model.specs.Flat.{numbered_flat};
-ghost use Rattle.index_layout.specs.View.{FileView, IsFileView};
+ghost use Rattle.index_file.specs.Sources.{IsSearchable};
+ghost use Rattle.index_model.specs.Index.{IndexData};
 ghost use Rattle.query_reader.specs.Texts.{plain_mention};
 ghost use Rattle.session_desk.specs.declared.refusal.DeskRefusal.{DeskRefusal};
 ghost use Rattle.session_desk.specs.Alone.{after_lines, alone, budgets_in, does_close, own_lines, own_replies};
@@ -32,118 +33,120 @@ use ranking_model::prefix_laws::a_prefix_is_resumed;
 /// Lines are answered in turn, up to and with the first line `end`.
 #[tactic(auto, unfolding(crate::specs::Turns::replies_from, crate::specs::Turns::steps_from))]
 pub fn lines_are_answered_in_turn()
-    ensures none { (file : FileView) (state : DeskState) →
-        (concat (replies_from file state []) ≡ []) × (steps_from file state [] ≡ 0) }
-    ensures on { (file : FileView) (state : DeskState) (line : List ℕ) (lines : List (List ℕ)) →
+    ensures none { (index : IndexData) (state : DeskState) →
+        (concat (replies_from index state []) ≡ []) × (steps_from index state [] ≡ 0) }
+    ensures on { (index : IndexData) (state : DeskState) (line : List ℕ) (lines : List (List ℕ)) →
         is_end line ≡ false →
-        concat (replies_from file state (line ∷ lines))
-        ≡ desk_reply file state line ++ concat (replies_from file (desk_after file state line) lines) }
-    ensures end { (file : FileView) (state : DeskState) (line : List ℕ) (lines : List (List ℕ)) →
-        is_end line ≡ true → concat (replies_from file state (line ∷ lines)) ≡ desk_reply file state line }
-    ensures on_steps { (file : FileView) (state : DeskState) (line : List ℕ) (lines : List (List ℕ)) →
+        concat (replies_from index state (line ∷ lines))
+        ≡ desk_reply index state line ++ concat (replies_from index (desk_after index state line) lines) }
+    ensures end { (index : IndexData) (state : DeskState) (line : List ℕ) (lines : List (List ℕ)) →
+        is_end line ≡ true → concat (replies_from index state (line ∷ lines)) ≡ desk_reply index state line }
+    ensures on_steps { (index : IndexData) (state : DeskState) (line : List ℕ) (lines : List (List ℕ)) →
         is_end line ≡ false →
-        steps_from file state (line ∷ lines)
-        ≡ desk_steps file state line + steps_from file (desk_after file state line) lines }
-    ensures end_steps { (file : FileView) (state : DeskState) (line : List ℕ) (lines : List (List ℕ)) →
-        is_end line ≡ true → steps_from file state (line ∷ lines) ≡ desk_steps file state line }
+        steps_from index state (line ∷ lines)
+        ≡ desk_steps index state line + steps_from index (desk_after index state line) lines }
+    ensures end_steps { (index : IndexData) (state : DeskState) (line : List ℕ) (lines : List (List ℕ)) →
+        is_end line ≡ true → steps_from index state (line ∷ lines) ≡ desk_steps index state line }
 {}
 
 /// A refused line has one line as its reply, and leaves the sessions and counts no steps.
 pub fn refused_lines_leave_the_state()
-    ensures reply { (file : FileView) (state : DeskState) (line : List ℕ) (refusal : DeskRefusal) →
-        desk_refusal file state line ≡ Some refusal → desk_reply file state line ≡ refusal_line refusal }
-    ensures after { (file : FileView) (state : DeskState) (line : List ℕ) (refusal : DeskRefusal) →
-        desk_refusal file state line ≡ Some refusal → desk_after file state line ≡ state }
-    ensures steps { (file : FileView) (state : DeskState) (line : List ℕ) (refusal : DeskRefusal) →
-        desk_refusal file state line ≡ Some refusal → desk_steps file state line ≡ 0 }
+    ensures reply { (index : IndexData) (state : DeskState) (line : List ℕ) (refusal : DeskRefusal) →
+        desk_refusal index state line ≡ Some refusal → desk_reply index state line ≡ refusal_line refusal }
+    ensures after { (index : IndexData) (state : DeskState) (line : List ℕ) (refusal : DeskRefusal) →
+        desk_refusal index state line ≡ Some refusal → desk_after index state line ≡ state }
+    ensures steps { (index : IndexData) (state : DeskState) (line : List ℕ) (refusal : DeskRefusal) →
+        desk_refusal index state line ≡ Some refusal → desk_steps index state line ≡ 0 }
 {}
 
 /// What is opened depends on its line and the index alone, has nothing granted, and is then found by its name.
 pub fn a_session_is_opened_by_its_line()
-    ensures same { (file : FileView) (first second : DeskState) (name : List ℕ) (k : ℕ)
+    ensures same { (index : IndexData) (first second : DeskState) (name : List ℕ) (k : ℕ)
         (words others : List (List ℕ)) (session other : OpenSession) →
         map plain_mention words ≡ map plain_mention others →
-        opening file first name k words ≡ Ok session → opening file second name k others ≡ Ok other → session ≡ other }
-    ensures none { (file : FileView) (state : DeskState) (name : List ℕ) (k : ℕ) (words : List (List ℕ))
+        opening index first name k words ≡ Ok session → opening index second name k others ≡ Ok other →
+        session ≡ other }
+    ensures none { (index : IndexData) (state : DeskState) (name : List ℕ) (k : ℕ) (words : List (List ℕ))
         (session : OpenSession) →
-        opening file state name k words ≡ Ok session → session.granted ≡ 0 }
-    ensures found { (file : FileView) (state : DeskState) (line name : List ℕ) (k : ℕ) (words : List (List ℕ))
+        opening index state name k words ≡ Ok session → session.granted ≡ 0 }
+    ensures found { (index : IndexData) (state : DeskState) (line name : List ℕ) (k : ℕ) (words : List (List ℕ))
         (session : OpenSession) →
-        read_desk_line line ≡ Some (Open name k words) → opening file state name k words ≡ Ok session →
-        session_named name (desk_after file state line) ≡ Some session }
+        read_desk_line line ≡ Some (Open name k words) → opening index state name k words ≡ Ok session →
+        session_named name (desk_after index state line) ≡ Some session }
 {}
 
 /// Isolation: the replies to the lines that name a session, up to the one that closes it, are those of a desk that has
 /// no other session, to these lines alone. So two sessions that were opened with the same name, k and mentions are told
 /// the same, whatever other lines stand before, between and after, and whatever the numbers of frames.
 pub fn sessions_are_answered_alone()
-    ensures alone { (file : FileView) (name : List ℕ) (state : DeskState) (session : OpenSession)
+    ensures alone { (index : IndexData) (name : List ℕ) (state : DeskState) (session : OpenSession)
         (lines : List (List ℕ)) (frames : ℕ) →
         session_named name state ≡ Some session →
-        own_replies file name state lines ≡ replies_from file (alone frames session) (own_lines name lines) }
-    ensures same { (file : FileView) (name : List ℕ) (first second : DeskState) (session : OpenSession)
+        own_replies index name state lines ≡ replies_from index (alone frames session) (own_lines name lines) }
+    ensures same { (index : IndexData) (name : List ℕ) (first second : DeskState) (session : OpenSession)
         (lines others : List (List ℕ)) →
         session_named name first ≡ Some session → session_named name second ≡ Some session →
         own_lines name lines ≡ own_lines name others →
-        own_replies file name first lines ≡ own_replies file name second others }
-    ensures opened { (file : FileView) (first second : DeskState) (line other name : List ℕ) (k : ℕ)
+        own_replies index name first lines ≡ own_replies index name second others }
+    ensures opened { (index : IndexData) (first second : DeskState) (line other name : List ℕ) (k : ℕ)
         (words more : List (List ℕ)) (session twin : OpenSession) (lines others : List (List ℕ)) →
         read_desk_line line ≡ Some (Open name k words) → read_desk_line other ≡ Some (Open name k more) →
         map plain_mention words ≡ map plain_mention more →
-        opening file first name k words ≡ Ok session → opening file second name k more ≡ Ok twin →
+        opening index first name k words ≡ Ok session → opening index second name k more ≡ Ok twin →
         own_lines name lines ≡ own_lines name others →
-        own_replies file name (desk_after file first line) lines
-        ≡ own_replies file name (desk_after file second other) others }
+        own_replies index name (desk_after index first line) lines
+        ≡ own_replies index name (desk_after index second other) others }
 {}
 
 /// Lines that don't close a session leave its query and k, and grant it the sum of the budgets that name it.
 pub fn a_session_has_the_sum_of_its_grants()
-    ensures { (file : FileView) (name : List ℕ) (state : DeskState) (session : OpenSession) (budgets : List Budget)
+    ensures { (index : IndexData) (name : List ℕ) (state : DeskState) (session : OpenSession) (budgets : List Budget)
         (lines : List (List ℕ)) →
         session_named name state ≡ Some session → session.granted ≡ granted_sum budgets →
         AllByRecursion (λ line. does_close name line ≡ false) lines →
-        session_named name (after_lines file state lines)
+        session_named name (after_lines index state lines)
         ≡ Some (record session { granted = granted_sum (budgets ++ budgets_in name lines) }) }
 {}
 
 /// Each report and answer of a session is that of one search alone with the sum of its grants.
 pub fn sessions_answer_as_one_search()
-    ensures grant { (file : FileView) (state : DeskState) (line name : List ℕ) (session : OpenSession)
+    ensures grant { (index : IndexData) (state : DeskState) (line name : List ℕ) (session : OpenSession)
         (budgets : List Budget) (budget : Budget) →
         read_desk_line line ≡ Some (Grant name budget) → session_named name state ≡ Some session →
         session.granted ≡ granted_sum budgets →
-        let plan = plan_of_session file session in
+        let plan = plan_of_session index session in
         let prefix = prefix_within (granted_sum (budgets ++ budget ∷ [])) plan.segments in
-        desk_reply file state line
+        desk_reply index state line
         ≡ report_line session.query.id (report_by prefix plan session.k) session.query.unknown }
-    ensures why { (file : FileView) (state : DeskState) (line name : List ℕ) (session : OpenSession)
+    ensures why { (index : IndexData) (state : DeskState) (line name : List ℕ) (session : OpenSession)
         (budgets : List Budget) →
         read_desk_line line ≡ Some (Why name) → session_named name state ≡ Some session →
         session.granted ≡ granted_sum budgets →
-        let plan = plan_of_session file session in
+        let plan = plan_of_session index session in
         let prefix = prefix_within (granted_sum budgets) plan.segments in
-        desk_reply file state line
+        desk_reply index state line
         ≡ report_line session.query.id (report_by prefix plan session.k) session.query.unknown }
-    ensures top { (file : FileView) (state : DeskState) (line name : List ℕ) (session : OpenSession)
+    ensures top { (index : IndexData) (state : DeskState) (line name : List ℕ) (session : OpenSession)
         (budgets : List Budget) →
         read_desk_line line ≡ Some (Top name) → session_named name state ≡ Some session →
         session.granted ≡ granted_sum budgets →
-        let plan = plan_of_session file session in
+        let plan = plan_of_session index session in
         let prefix = prefix_within (granted_sum budgets) plan.segments in
-        desk_reply file state line
+        desk_reply index state line
         ≡ codes "hits " ++ (decimal (length (top_k prefix plan session.k)) ++ (codes "\n"
-        ++ query_run file.index.names plan session.query.id session.k (prefix ∷ []) (codes "jass"))) }
+        ++ query_run index.names plan session.query.id session.k (prefix ∷ []) (codes "jass"))) }
 {}
 
 /// A printed report is that of its prefix, with the one grade that it has, and keeps its promises for every later
 /// prefix.
 #[tactic(auto, unfolding(crate::specs::Replies::session_report))]
 pub fn reports_of_desks_keep_their_promises()
-    ensures report { (file : FileView) (session : OpenSession) →
-        IsReport (scored_prefix file session) (plan_of_session file session) session.k (session_report file session) }
-    ensures promised { (file : FileView) (session : OpenSession) → IsFileView file →
-        IsPromised (weighted_postings (numbered_flat file.index) session.query.terms) (scored_prefix file session)
-        (plan_of_session file session) session.k (session_report file session) }
+    ensures report { (index : IndexData) (session : OpenSession) →
+        IsReport (scored_prefix index session) (plan_of_session index session) session.k
+        (session_report index session) }
+    ensures promised { (index : IndexData) (session : OpenSession) → IsSearchable index →
+        IsPromised (weighted_postings (numbered_flat index) session.query.terms) (scored_prefix index session)
+        (plan_of_session index session) session.k (session_report index session) }
 {
     a_prefix_has_one_report();
     the_flat_list_is_flat();
@@ -152,9 +155,10 @@ pub fn reports_of_desks_keep_their_promises()
 
 /// The steps of a desk are the postings that were scored in the end for the sessions that were ever open.
 pub fn the_steps_are_those_of_the_sessions()
-    ensures { (file : FileView) (frames : ℕ) (lines : List (List ℕ)) →
-        desk_postings file frames lines
-        ≡ sum_by (λ (e : OpenSession). (session_report file e).postings) (sessions_from file (new_state frames) lines) }
+    ensures { (index : IndexData) (frames : ℕ) (lines : List (List ℕ)) →
+        desk_postings index frames lines
+        ≡ sum_by (λ (e : OpenSession). (session_report index e).postings)
+        (sessions_from index (new_state frames) lines) }
 {
     the_prefix_is_the_longest();
     a_prefix_is_resumed();
@@ -163,12 +167,13 @@ pub fn the_steps_are_those_of_the_sessions()
 /// The postings that are scored for a session are at most the sum of its grants. A grant scores what it adds to them,
 /// and a second grant of all adds nothing.
 pub fn grants_pay_for_the_steps()
-    ensures most { (file : FileView) (session : OpenSession) →
-        (session_report file session).postings ≤ session.granted }
-    ensures paid { (file : FileView) (session : OpenSession) (budget : Budget) → session.granted ≤ 2 ^ 64 - 1 →
-        (session_report file session).postings + newly_scored file budget session
-        ≡ (session_report file (granted_more budget session)).postings }
-    ensures again { (file : FileView) (session : OpenSession) → newly_scored file All (granted_more All session) ≡ 0 }
+    ensures most { (index : IndexData) (session : OpenSession) →
+        (session_report index session).postings ≤ session.granted }
+    ensures paid { (index : IndexData) (session : OpenSession) (budget : Budget) → session.granted ≤ 2 ^ 64 - 1 →
+        (session_report index session).postings + newly_scored index budget session
+        ≡ (session_report index (granted_more budget session)).postings }
+    ensures again { (index : IndexData) (session : OpenSession) →
+        newly_scored index All (granted_more All session) ≡ 0 }
 {
     the_prefix_is_the_longest();
     a_prefix_is_resumed();

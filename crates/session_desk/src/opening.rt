@@ -49,12 +49,13 @@ impl Table {
         k: u32,
         mentions: &str,
     ) -> Result<Opened, SessionFault>
-        requires stands { TableStands index.now self.old }
+        requires stands { TableStands index.now.index self.old }
         requires some { 1 ≤ k }
         requires few { k ≤ MOST_HITS }
         requires fits { length mentions.now ≤ LONGEST_LINE }
-        ensures stands { TableStands index.now self.new }
-        ensures opens { Opens index.now (opening index.now (state_of self.old) name.now k (blank_runs mentions.now))
+        ensures stands { TableStands index.now.index self.new }
+        ensures opens { Opens index.now.index
+            (opening index.now.index (state_of self.old) name.now k (blank_runs mentions.now))
             name.now (state_of self.old) (state_of self.new) result }
         ensures memory { IsErrOf result SessionFault.NoMemory → IsTrue (has_room name.now (state_of self.old)) }
     {
@@ -93,14 +94,14 @@ impl Table {
         query: Query,
         k: u32,
     ) -> Result<Opened, SessionFault>
-        requires stands { TableStands index.now self.old }
+        requires stands { TableStands index.now.index self.old }
         requires others { AllByRecursion (λ (s : Session). name_of s ≢ query.id) self.old.sessions.items }
         requires room { length self.old.sessions.items < MOST_SESSIONS }
-        requires known { AreKnown index.now query.terms }
+        requires known { AreKnown index.now.index query.terms }
         requires some { 1 ≤ k }
         requires few { k ≤ MOST_HITS }
-        ensures stands { TableStands index.now self.new }
-        ensures opens { Opens index.now (fitting index.now (state_of self.old) k (Ok (query_data query)))
+        ensures stands { TableStands index.now.index self.new }
+        ensures opens { Opens index.now.index (fitting index.now.index (state_of self.old) k (Ok (query_data query)))
             query.id (state_of self.old) (state_of self.new) result }
     {
         calls_on_other_chains_leave_sessions();

@@ -1,5 +1,5 @@
 ghost use Rattle.std.specs.Prelude.{◌≡◌, ◌≤◌, ◌+◌, IfOk, IfSome, option_map, is_some};
-ghost use Rattle.index_layout.specs.View.{FileView};
+ghost use Rattle.index_model.specs.Index.{IndexData};
 ghost use Rattle.session_engine.specs.Standing.{SessionStands};
 ghost use Rattle.session_desk.specs.Lines.{Close, Grant};
 ghost use Rattle.session_desk.specs.Replies.{command_after, command_steps};
@@ -33,7 +33,7 @@ impl Table {
     /// No session, and room for 64.
     pub fn new(alloc: Global, frames: u32) -> Result<Table, NoMemory>
         requires { frames ≤ MOST_FRAMES }
-        ensures stands { (file : FileView) → IfOk result (λ table. TableStands file table) }
+        ensures stands { (index : IndexData) → IfOk result (λ table. TableStands index table) }
         ensures state { IfOk result (λ table. state_of table ≡ new_state frames) }
     {
         let pool = FramePool::new(alloc, frames, MOST_SESSIONS as u32)?;
@@ -63,13 +63,13 @@ impl Table {
         budget: Budget,
         steps: &mut Steps<L>,
     ) -> Option<Told>
-        requires stands { TableStands index.now self.old }
-        ensures stands { TableStands index.now self.new }
-        ensures told { result ≡ option_map (λ session. told_of index.now (granted_more budget session))
+        requires stands { TableStands index.now.index self.old }
+        ensures stands { TableStands index.now.index self.new }
+        ensures told { result ≡ option_map (λ session. told_of index.now.index (granted_more budget session))
             (session_named name.now (state_of self.old)) }
-        ensures after { state_of self.new ≡ command_after index.now (state_of self.old) (Grant name.now budget) }
+        ensures after { state_of self.new ≡ command_after index.now.index (state_of self.old) (Grant name.now budget) }
         ensures steps { steps.new
-            ≡ steps.old + command_steps index.now (state_of self.old) (Grant name.now budget) }
+            ≡ steps.old + command_steps index.now.index (state_of self.old) (Grant name.now budget) }
     {
         calls_on_other_chains_leave_sessions();
         let place = self.place_of(name)?;
@@ -81,10 +81,10 @@ impl Table {
 
     /// Closes the session of this name. False where no such session is open.
     pub fn close(&mut self, index: &IndexFile, name: &str) -> bool
-        requires stands { TableStands index.now self.old }
-        ensures stands { TableStands index.now self.new }
+        requires stands { TableStands index.now.index self.old }
+        ensures stands { TableStands index.now.index self.new }
         ensures open { result ≡ is_some (session_named name.now (state_of self.old)) }
-        ensures after { state_of self.new ≡ command_after index.now (state_of self.old) (Close name.now) }
+        ensures after { state_of self.new ≡ command_after index.now.index (state_of self.old) (Close name.now) }
     {
         calls_on_other_chains_leave_sessions();
         a_standing_session_has_its_chain();
@@ -102,8 +102,8 @@ impl Table {
     pub fn session(&self, name: &str) -> Option<&Session>
         requires { Differ self.now.sessions.items }
         ensures session { option_map (λ s. session_data s.now) result ≡ session_named name.now (state_of self.now) }
-        ensures stands { (file : FileView) → TableStands file self.now →
-            IfSome result (λ s. SessionStands s.now file self.now.pool) }
+        ensures stands { (index : IndexData) → TableStands index self.now →
+            IfSome result (λ s. SessionStands s.now index self.now.pool) }
     {
         let place = self.place_of(name)?;
         Some(&self.sessions[place])
@@ -111,8 +111,8 @@ impl Table {
 
     /// What a report line tells of the session of this name. `None` where no such session is open.
     pub fn told(&self, name: &str) -> Option<Told>
-        ensures { (file : FileView) → TableStands file self.now →
-            result ≡ option_map (told_of file) (session_named name.now (state_of self.now)) }
+        ensures { (index : IndexData) → TableStands index self.now →
+            result ≡ option_map (told_of index) (session_named name.now (state_of self.now)) }
     {
         let place = self.place_of(name)?;
         let session = &self.sessions[place];
@@ -124,7 +124,7 @@ impl Table {
 
     /// Closes all sessions.
     pub fn close_all(self)
-        requires { (file : FileView) × TableStands file self }
+        requires { (index : IndexData) × TableStands index self }
     {
         a_standing_session_has_its_chain();
         let Table {

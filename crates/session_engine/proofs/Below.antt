@@ -4,10 +4,10 @@ pub use Rattle.accumulator_pages.specs.Pages.{HasRoomFor}
 pub use Rattle.final_certificate.specs.Rule.{grade_by, report_by}
 pub use Rattle.frame_pool.specs.ChainView.{ChainView, LeavesOthers, LeavesPool, chain_view}
 pub use Rattle.frame_pool.specs.Pool.{ChainEntry, PoolView, Promises}
-pub use Rattle.index_file.specs.Giving.{Gives}
+pub use Rattle.index_file.specs.Sources.{HandsOut, piece_count, piece_docs}
 pub use Rattle.index_file.specs.Places.{segment_at}
-pub use Rattle.index_file.specs.declared.cursor.Cursor.{Cursor}
-pub use Rattle.index_layout.specs.View.{FileView, index_postings, term_postings}
+pub use Rattle.index_file.specs.declared.piece.Piece.{Piece}
+pub use Rattle.index_layout.specs.View.{index_postings, term_postings}
 pub use Rattle.index_model.proofs.FlatOrder.{term_kept}
 pub use Rattle.index_model.specs.Flat.{numbered_flat, numbered_from, segment_entries, term_entries}
 pub use Rattle.index_model.specs.Index.{FallsTo, IndexData, IsIndex, IsSegment, IsTerm, SegmentData, TermData}

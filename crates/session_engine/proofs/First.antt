@@ -1,7 +1,7 @@
 -- A session at the beginning.
 use Rattle.shared_lemmas.proofs.Common.{◌≡◌, ℕ, zero, suc, ◌≤◌, List, [], ◌∷◌, map, length, take, replicate, Option, Some, None, refl, sym, ap, ◌∙◌, subst, arith, set-set, All, Result, Ok, Err, IfOk, slice_set, AllByRecursion, range_with_len, set-get_or, recursion_from_All, length-range_with_len}
 use Rattle.shared_lemmas.proofs.Common.{sum_by-cons}
-use Rattle.session_engine.proofs.Below.{NoMemory, QueryTerm, ChainEntry, PoolView, Promises, FileView, IndexData, PlanSegment, QueryPlan, size_of_first, scores_after, PlanEntry, PlanHead, PlanView, plan_with}
+use Rattle.session_engine.proofs.Below.{NoMemory, QueryTerm, ChainEntry, PoolView, Promises, IndexData, PlanSegment, QueryPlan, size_of_first, scores_after, PlanEntry, PlanHead, PlanView, plan_with}
 use Rattle.session_engine.specs.Plans.{AreKnown, NamesSegment, segment_named, query_heads}
 use Rattle.session_engine.specs.Standing.{IsPlanned}
 
@@ -40,7 +40,7 @@ given_back old promised new chain other n is same frames chains =
     (λ i. record { frames = one i; chains = two i })
 
 -- the plan of the heads that were gathered
-pub planned : (file : FileView) (terms : List QueryTerm) (heads : List PlanHead) (r : Result PlanView NoMemory) → AreKnown file terms → All (λ (n : QueryTerm). n.times ≤ 255) terms → heads ≡ query_heads file.index terms
-    → IfOk r (λ plan. plan ≡ plan_with terms heads) → IfOk r (λ plan. IsPlanned file terms plan)
-planned file terms heads (Ok plan) known times is made = record { known = known; times = times; arranged = made ∙ ap (plan_with terms) is }
-planned file terms heads (Err e) known times is made = tt
+pub planned : (index : IndexData) (terms : List QueryTerm) (heads : List PlanHead) (r : Result PlanView NoMemory) → AreKnown index terms → All (λ (n : QueryTerm). n.times ≤ 255) terms → heads ≡ query_heads index terms
+    → IfOk r (λ plan. plan ≡ plan_with terms heads) → IfOk r (λ plan. IsPlanned index terms plan)
+planned index terms heads (Ok plan) known times is made = record { known = known; times = times; arranged = made ∙ ap (plan_with terms) is }
+planned index terms heads (Err e) known times is made = tt

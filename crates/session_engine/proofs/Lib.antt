@@ -6,7 +6,7 @@ pub mod Gathering
 pub mod EntryLists
 pub mod PartlyScored
 pub mod BitRows
-pub mod Blocks
+pub mod Pieces
 pub mod Reports
 pub mod First
 pub mod Scored

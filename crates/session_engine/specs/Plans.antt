@@ -1,4 +1,4 @@
--- The plan of a query over an index file, and what it needs of a pool of frames.
+-- The plan of a query over an index, and what it needs of a pool of frames.
 use Rattle.std.specs.Prelude.{ℕ, suc, ◌≡◌, ◌<◌, ◌≤◌, min, false, All, List, [], ◌∷◌, ◌++◌, length, slice_get, sum_by}
 use Rattle.std.specs.Prelude.{Some}
 use Rattle.std.specs.List.{slice_index_or}
@@ -10,7 +10,6 @@ use Rattle.ranking_model.specs.Postings.{AreTerms}
 use Rattle.index_model.specs.Index.{SegmentData, TermData, IndexData, IsIndex}
 use Rattle.index_model.specs.Flat.{numbered_flat}
 use Rattle.index_model.specs.Querying.{segments_at}
-use Rattle.index_layout.specs.View.{FileView}
 use Rattle.index_file.specs.Places.{segment_at}
 use Rattle.segment_plan.specs.declared.entry.PlanEntry.{PlanEntry}
 use Rattle.segment_plan.specs.declared.entry.PlanHead.{PlanHead}
@@ -19,20 +18,20 @@ use Rattle.accumulator_pages.specs.Adding.{page_count}
 use Rattle.frame_pool.specs.Pool.{PoolView, all_in_use}
 
 -- the terms are numbers of the index's terms
-abbrev pub AreKnown : FileView → List QueryTerm → Type 0
-AreKnown file terms = All (λ (n : QueryTerm). n.term < length file.index.terms) terms
+abbrev pub AreKnown : IndexData → List QueryTerm → Type 0
+AreKnown index terms = All (λ (n : QueryTerm). n.term < length index.terms) terms
 
--- the plan of a query with these terms over the index of a file
-unfoldable pub session_plan : FileView → List QueryTerm → QueryPlan
-session_plan file terms = plan_of (length file.index.names) (numbered_flat file.index) terms
+-- the plan of a query with these terms over an index
+unfoldable pub session_plan : IndexData → List QueryTerm → QueryPlan
+session_plan index terms = plan_of (length index.names) (numbered_flat index) terms
 
 -- the number of postings of all segments of a plan
 abbrev pub plan_postings : QueryPlan → ℕ
 plan_postings plan = size_of_first (length plan.segments) plan.segments
 
 -- how many frames a query can use at the most: one for each page of 256 documents, and one for each posting of its plan
-abbrev pub need_of : FileView → List QueryTerm → ℕ
-need_of file terms = min (page_count (length file.index.names)) (plan_postings (session_plan file terms))
+abbrev pub need_of : IndexData → List QueryTerm → ℕ
+need_of index terms = min (page_count (length index.names)) (plan_postings (session_plan index terms))
 
 -- a number for one chain more is free
 abbrev pub HasFreeNumber : PoolView → Type 0
@@ -78,12 +77,12 @@ pub record NamesSegment (index : IndexData) (terms : List QueryTerm) (entry : Pl
   pub some : 1 ≤ entry.count
   pub weight : 1 ≤ entry.weight
 
--- the plan of a query with known terms over the file has this entry at a place
-pub record HasEntry (file : FileView) (terms : List QueryTerm) (n : ℕ) (entry : PlanEntry) : Type 0 where
-  pub index : IsIndex file.index
+-- the plan of a query with known terms over the index has this entry at a place
+pub record HasEntry (index : IndexData) (terms : List QueryTerm) (n : ℕ) (entry : PlanEntry) : Type 0 where
+  pub is_index : IsIndex index
   pub named : AreTerms terms
-  pub known : AreKnown file terms
-  pub at : slice_get (plan_with terms (query_heads file.index terms)).entries n ≡ Some entry
+  pub known : AreKnown index terms
+  pub at : slice_get (plan_with terms (query_heads index terms)).entries n ≡ Some entry
 
 -- the number of postings of the term with a number
 abbrev pub postings_at : List TermData → ℕ → ℕ

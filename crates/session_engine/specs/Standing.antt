@@ -1,4 +1,4 @@
--- When a session stands over an index file and a pool: it answers at the prefix of its plan that its grants pay for.
+-- When a session stands over an index and a pool: it answers at the prefix of its plan that its grants pay for.
 use Rattle.std.specs.Prelude.{ℕ, ◌≡◌, ◌≤◌, All, List, length}
 use Rattle.jass_base.specs.declared.answer.Hit.{Hit}
 use Rattle.jass_base.specs.declared.answer.Report.{Report}
@@ -7,7 +7,7 @@ use Rattle.jass_base.specs.declared.query.Query.{Query}
 use Rattle.ranking_model.specs.declared.plan.QueryPlan.{QueryPlan}
 use Rattle.ranking_model.specs.Plan.{prefix_within, size_of_first}
 use Rattle.ranking_model.specs.Scores.{scores_after, top_k}
-use Rattle.index_layout.specs.View.{FileView}
+use Rattle.index_model.specs.Index.{IndexData}
 use Rattle.segment_plan.specs.Entries.{PlanView, plan_with}
 use Rattle.final_certificate.specs.Rule.{report_by}
 use Rattle.frame_pool.specs.Pool.{PoolView}
@@ -45,13 +45,13 @@ prefix_of s = s.scored
 abbrev pub report_of : Session → Report
 report_of s = s.report
 
--- its plan over a file
-abbrev pub plan_over : FileView → Session → QueryPlan
-plan_over file s = session_plan file (terms_of s)
+-- its plan over an index
+abbrev pub plan_over : IndexData → Session → QueryPlan
+plan_over index s = session_plan index (terms_of s)
 
--- its answer over a file
-abbrev pub answer_over : FileView → Session → List Hit
-answer_over file s = top_k (prefix_of s) (plan_over file s) (k_of s)
+-- its answer over an index
+abbrev pub answer_over : IndexData → Session → List Hit
+answer_over index s = top_k (prefix_of s) (plan_over index s) (k_of s)
 
 -- the same query, number of documents and chain
 pub record IsSessionOf (old new : Session) : Type 0 where
@@ -70,17 +70,17 @@ pub record ScoredTo (n : ℕ) (plan : QueryPlan) (need : ℕ) (s : Scores) (pool
   pub promise : (scores.own_view s pool).promise ≡ need
 
 -- the terms of a query are the index's, and a plan is arranged from the segments that they name
-pub record IsPlanned (file : FileView) (terms : List QueryTerm) (plan : PlanView) : Type 0 where
-  pub known : AreKnown file terms
+pub record IsPlanned (index : IndexData) (terms : List QueryTerm) (plan : PlanView) : Type 0 where
+  pub known : AreKnown index terms
   pub times : All (λ (n : QueryTerm). n.times ≤ MOST_TIMES) terms
-  pub arranged : plan ≡ plan_with terms (query_heads file.index terms)
+  pub arranged : plan ≡ plan_with terms (query_heads index terms)
 
 -- the session has scored the longest prefix of its plan that its grants pay for, and its first documents and its report
 -- are those of this prefix; its chain has the promise that the query needs
-pub record SessionStands (s : Session) (file : FileView) (pool : PoolView) : Type 0 where
-  pub planned : IsPlanned file (terms_of s) s.plan
-  pub prefix : prefix_of s ≡ prefix_within (granted_of s) (plan_over file s).segments
-  pub scored : ScoredTo (prefix_of s) (plan_over file s) (need_of file (terms_of s)) s.scores pool
+pub record SessionStands (s : Session) (index : IndexData) (pool : PoolView) : Type 0 where
+  pub planned : IsPlanned index (terms_of s) s.plan
+  pub prefix : prefix_of s ≡ prefix_within (granted_of s) (plan_over index s).segments
+  pub scored : ScoredTo (prefix_of s) (plan_over index s) (need_of index (terms_of s)) s.scores pool
   pub settled : scores.IsSettled s.scores pool
   pub asked : scores.k_of s.scores ≡ k_of s
-  pub report : report_of s ≡ report_by (prefix_of s) (plan_over file s) (k_of s)
+  pub report : report_of s ≡ report_by (prefix_of s) (plan_over index s) (k_of s)

@@ -12,7 +12,7 @@ use crate::laws::{
 use crate::scoring::{WeighedSegment, score_segment};
 use frame_pool::FramePool;
 use frame_pool::laws::calls_on_one_chain;
-use index_file::IndexFile;
+use index_file::Source;
 use jass_base::{QueryTerm, Steps};
 use ranking_model::prefix_laws::scores_stay_small;
 use segment_plan::Plan;
@@ -20,9 +20,9 @@ use session_scores::Scores;
 use std::sync::ledger::Ledger;
 
 /// Scores the entries of a plan from one on up to another, in their order, and answers how many postings they have.
-pub fn score_entries<L: Ledger>(
+pub fn score_entries<S: Source, L: Ledger>(
     scores: &mut Scores,
-    index: &IndexFile,
+    source: &S,
     pool: &mut FramePool,
     terms: &[QueryTerm],
     plan: &Plan,
@@ -31,20 +31,20 @@ pub fn score_entries<L: Ledger>(
     steps: &mut Steps<L>,
 ) -> u64
     requires terms { AreTerms terms.now }
-    requires planned { IsPlanned index.now terms.now plan.now }
-    requires scored { ScoredTo from (session_plan index.now terms.now) (need_of index.now terms.now)
-        scores.old pool.old }
+    requires planned { IsPlanned (S.index source.now) terms.now plan.now }
+    requires scored { ScoredTo from (session_plan (S.index source.now) terms.now)
+        (need_of (S.index source.now) terms.now) scores.old pool.old }
     requires order { from ≤ to }
     requires within { to ≤ length plan.now.entries }
-    ensures scored { ScoredTo to (session_plan index.now terms.now) (need_of index.now terms.now)
+    ensures scored { ScoredTo to (session_plan (S.index source.now) terms.now) (need_of (S.index source.now) terms.now)
         scores.new pool.new }
-    ensures postings { size_of_first from (session_plan index.now terms.now).segments + result
-        ≡ size_of_first to (session_plan index.now terms.now).segments }
+    ensures postings { size_of_first from (session_plan (S.index source.now) terms.now).segments + result
+        ≡ size_of_first to (session_plan (S.index source.now) terms.now).segments }
     ensures steps { steps.new ≡ steps.old + result }
     ensures same { AreScoresOf scores.old scores.new }
     ensures leaves { LeavesPool pool.old pool.new (own_chain scores.old) }
 {
-    index.is_checked();
+    source.is_searchable();
     a_session_plan_names_its_segments();
     a_session_plan_is_small();
     one_entry_more_is_scored();
@@ -60,7 +60,7 @@ pub fn score_entries<L: Ledger>(
             weight: entry.weight,
             count: entry.count,
         };
-        score_segment(scores, index, pool, segment, &mut block, steps);
+        score_segment(scores, source, pool, segment, &mut block, steps);
         postings += u64::from(entry.count);
     }
     postings

@@ -11,8 +11,8 @@ ghost use Rattle.ranking_model.specs.Promises.{IsPromised};
 ghost use Rattle.ranking_model.specs.Report.{IsReport};
 ghost use Rattle.ranking_model.specs.Scores.{added, scores_after};
 ghost use Rattle.index_model.specs.Flat.{numbered_flat};
-ghost use Rattle.index_model.specs.Index.{IsIndex};
-ghost use Rattle.index_layout.specs.View.{FileView, IsFileView};
+ghost use Rattle.index_model.specs.Index.{IndexData, IsIndex};
+ghost use Rattle.index_file.specs.Sources.{IsSearchable};
 ghost use Rattle.segment_plan.specs.declared.entry.PlanEntry.{PlanEntry};
 ghost use Rattle.segment_plan.specs.Entries.{AreHeads, plan_with};
 ghost use Rattle.segment_plan.specs.Shape.{HasShape};
@@ -39,21 +39,21 @@ use session_scores::laws::calls_on_other_chains_leave_scores;
 /// A query's plan has the segments that the entries of its arranged heads name, entry by entry.
 #[tactic(auto, unfolding(crate::specs::Plans::session_plan))]
 pub fn a_session_plan_names_its_segments()
-    ensures docs { (file : FileView) (terms : List QueryTerm) →
-        (session_plan file terms).docs ≡ length file.index.names }
-    ensures heads { (file : FileView) (terms : List QueryTerm) →
-        IsIndex file.index → AreTerms terms → AreKnown file terms →
-        AreHeads terms (query_heads file.index terms) }
-    ensures segments { (file : FileView) (terms : List QueryTerm) →
-        IsIndex file.index → AreTerms terms → AreKnown file terms →
-        (session_plan file terms).segments
-        ≡ map (segment_named file.index terms) (plan_with terms (query_heads file.index terms)).entries }
-    ensures names { (file : FileView) (terms : List QueryTerm) →
-        IsIndex file.index → AreTerms terms → AreKnown file terms →
-        All (NamesSegment file.index terms) (plan_with terms (query_heads file.index terms)).entries }
-    ensures shape { (file : FileView) (terms : List QueryTerm) →
-        IsIndex file.index → AreTerms terms → AreKnown file terms →
-        HasShape (plan_with terms (query_heads file.index terms)) (session_plan file terms) }
+    ensures docs { (index : IndexData) (terms : List QueryTerm) →
+        (session_plan index terms).docs ≡ length index.names }
+    ensures heads { (index : IndexData) (terms : List QueryTerm) →
+        IsIndex index → AreTerms terms → AreKnown index terms →
+        AreHeads terms (query_heads index terms) }
+    ensures segments { (index : IndexData) (terms : List QueryTerm) →
+        IsIndex index → AreTerms terms → AreKnown index terms →
+        (session_plan index terms).segments
+        ≡ map (segment_named index terms) (plan_with terms (query_heads index terms)).entries }
+    ensures names { (index : IndexData) (terms : List QueryTerm) →
+        IsIndex index → AreTerms terms → AreKnown index terms →
+        All (NamesSegment index terms) (plan_with terms (query_heads index terms)).entries }
+    ensures shape { (index : IndexData) (terms : List QueryTerm) →
+        IsIndex index → AreTerms terms → AreKnown index terms →
+        HasShape (plan_with terms (query_heads index terms)) (session_plan index terms) }
 {
     a_plan_has_the_segments_of_its_postings();
     the_plan_has_the_named_segments();
@@ -61,18 +61,18 @@ pub fn a_session_plan_names_its_segments()
 
 /// An entry of the arranged heads names a segment of the index, whose postings are the next segment of the plan.
 pub fn one_entry_more_is_scored()
-    ensures names { (file : FileView) (terms : List QueryTerm) (n : ℕ) (entry : PlanEntry) →
-        HasEntry file terms n entry → NamesSegment file.index terms entry }
-    ensures scores { (file : FileView) (terms : List QueryTerm) (n : ℕ) (entry : PlanEntry) →
-        HasEntry file terms n entry →
-        scores_after (n + 1) (session_plan file terms)
-        ≡ added entry.weight (docs_named file.index terms entry) (scores_after n (session_plan file terms)) }
-    ensures size { (file : FileView) (terms : List QueryTerm) (n : ℕ) (entry : PlanEntry) →
-        HasEntry file terms n entry →
-        size_of_first (n + 1) (session_plan file terms).segments
-        ≡ size_of_first n (session_plan file terms).segments + entry.count }
-    ensures most { (file : FileView) (terms : List QueryTerm) (n : ℕ) →
-        size_of_first n (session_plan file terms).segments ≤ plan_postings (session_plan file terms) }
+    ensures names { (index : IndexData) (terms : List QueryTerm) (n : ℕ) (entry : PlanEntry) →
+        HasEntry index terms n entry → NamesSegment index terms entry }
+    ensures scores { (index : IndexData) (terms : List QueryTerm) (n : ℕ) (entry : PlanEntry) →
+        HasEntry index terms n entry →
+        scores_after (n + 1) (session_plan index terms)
+        ≡ added entry.weight (docs_named index terms entry) (scores_after n (session_plan index terms)) }
+    ensures size { (index : IndexData) (terms : List QueryTerm) (n : ℕ) (entry : PlanEntry) →
+        HasEntry index terms n entry →
+        size_of_first (n + 1) (session_plan index terms).segments
+        ≡ size_of_first n (session_plan index terms).segments + entry.count }
+    ensures most { (index : IndexData) (terms : List QueryTerm) (n : ℕ) →
+        size_of_first n (session_plan index terms).segments ≤ plan_postings (session_plan index terms) }
 {
     a_session_plan_names_its_segments();
     one_segment_more_is_added();
@@ -82,11 +82,11 @@ pub fn one_entry_more_is_scored()
 /// Without a grant nothing is scored.
 #[tactic(auto, unfolding(crate::specs::Plans::session_plan))]
 pub fn nothing_is_scored_at_first()
-    ensures prefix { (file : FileView) (terms : List QueryTerm) →
-        IsIndex file.index → AreTerms terms → AreKnown file terms →
-        prefix_within 0 (session_plan file terms).segments ≡ 0 }
-    ensures scores { (file : FileView) (terms : List QueryTerm) →
-        scores_after 0 (session_plan file terms) ≡ replicate (length file.index.names) 0 }
+    ensures prefix { (index : IndexData) (terms : List QueryTerm) →
+        IsIndex index → AreTerms terms → AreKnown index terms →
+        prefix_within 0 (session_plan index terms).segments ≡ 0 }
+    ensures scores { (index : IndexData) (terms : List QueryTerm) →
+        scores_after 0 (session_plan index terms) ≡ replicate (length index.names) 0 }
 {
     a_session_plan_names_its_segments();
     the_prefix_is_the_longest();
@@ -95,9 +95,9 @@ pub fn nothing_is_scored_at_first()
 /// The numbers of a query's plan fit their types.
 #[tactic(auto, unfolding(crate::specs::Plans::session_plan))]
 pub fn a_session_plan_is_small()
-    ensures { (file : FileView) (terms : List QueryTerm) →
-        IsFileView file → AreTerms terms → All (λ (n : QueryTerm). n.times ≤ MOST_TIMES) terms →
-        IsSmall (session_plan file terms) }
+    ensures { (index : IndexData) (terms : List QueryTerm) →
+        IsSearchable index → AreTerms terms → All (λ (n : QueryTerm). n.times ≤ MOST_TIMES) terms →
+        IsSmall (session_plan index terms) }
 {
     the_flat_list_is_flat();
     plans_are_small();
@@ -106,8 +106,8 @@ pub fn a_session_plan_is_small()
 /// A query's plan has the postings of its terms.
 #[tactic(auto, unfolding(crate::specs::Plans::session_plan))]
 pub fn a_session_plan_has_its_postings()
-    ensures { (file : FileView) (terms : List QueryTerm) →
-        plan_postings (session_plan file terms) ≡ postings_of_terms file.index.terms terms }
+    ensures { (index : IndexData) (terms : List QueryTerm) →
+        plan_postings (session_plan index terms) ≡ postings_of_terms index.terms terms }
 {
     a_plan_has_the_segments_of_its_postings();
     a_query_weighs_its_segments();
@@ -116,22 +116,22 @@ pub fn a_session_plan_has_its_postings()
 
 /// A session that stands has its chain, with the promise that its query needs, and has scored what its grants pay for.
 pub fn a_standing_session_has_its_chain()
-    ensures in_use { (s : Session) (file : FileView) (pool : PoolView) → SessionStands s file pool →
+    ensures in_use { (s : Session) (index : IndexData) (pool : PoolView) → SessionStands s index pool →
         IsInUse pool (chain_of s) }
-    ensures promise { (s : Session) (file : FileView) (pool : PoolView) → SessionStands s file pool →
-        (chain_view pool (chain_of s)).promise ≡ need_of file (terms_of s) }
-    ensures prefix { (s : Session) (file : FileView) (pool : PoolView) → SessionStands s file pool →
-        prefix_of s ≡ prefix_within (granted_of s) (plan_over file s).segments }
+    ensures promise { (s : Session) (index : IndexData) (pool : PoolView) → SessionStands s index pool →
+        (chain_view pool (chain_of s)).promise ≡ need_of index (terms_of s) }
+    ensures prefix { (s : Session) (index : IndexData) (pool : PoolView) → SessionStands s index pool →
+        prefix_of s ≡ prefix_within (granted_of s) (plan_over index s).segments }
 {}
 
 /// A session that stands still does so after a call on another chain, and so do any number of sessions.
 pub fn calls_on_other_chains_leave_sessions()
-    ensures one { (s : Session) (file : FileView) (old new : PoolView) (chain : ℕ) → LeavesOthers old new chain →
-        chain_of s ≢ chain → SessionStands s file old → SessionStands s file new }
-    ensures all { (sessions : List Session) (file : FileView) (old new : PoolView) (chain : ℕ) →
+    ensures one { (s : Session) (index : IndexData) (old new : PoolView) (chain : ℕ) → LeavesOthers old new chain →
+        chain_of s ≢ chain → SessionStands s index old → SessionStands s index new }
+    ensures all { (sessions : List Session) (index : IndexData) (old new : PoolView) (chain : ℕ) →
         LeavesOthers old new chain → AllByRecursion (λ (s : Session). chain_of s ≢ chain) sessions →
-        AllByRecursion (λ (s : Session). SessionStands s file old) sessions →
-        AllByRecursion (λ (s : Session). SessionStands s file new) sessions }
+        AllByRecursion (λ (s : Session). SessionStands s index old) sessions →
+        AllByRecursion (λ (s : Session). SessionStands s index new) sessions }
 {
     calls_on_other_chains_leave_scores();
 }
@@ -139,27 +139,28 @@ pub fn calls_on_other_chains_leave_sessions()
 /// Grants in parts are one grant of their sum: sessions of the same terms and k to which the same sum is granted have
 /// scored the same, and report and answer the same, whatever their grants and other sessions were.
 pub fn grants_in_parts_are_one_grant()
-    ensures prefix { (s t : Session) (file : FileView) (pool other : PoolView) →
-        SessionStands s file pool → SessionStands t file other →
+    ensures prefix { (s t : Session) (index : IndexData) (pool other : PoolView) →
+        SessionStands s index pool → SessionStands t index other →
         terms_of s ≡ terms_of t → k_of s ≡ k_of t → granted_of s ≡ granted_of t →
         prefix_of s ≡ prefix_of t }
-    ensures report { (s t : Session) (file : FileView) (pool other : PoolView) →
-        SessionStands s file pool → SessionStands t file other →
+    ensures report { (s t : Session) (index : IndexData) (pool other : PoolView) →
+        SessionStands s index pool → SessionStands t index other →
         terms_of s ≡ terms_of t → k_of s ≡ k_of t → granted_of s ≡ granted_of t →
         report_of s ≡ report_of t }
-    ensures answer { (s t : Session) (file : FileView) (pool other : PoolView) →
-        SessionStands s file pool → SessionStands t file other →
+    ensures answer { (s t : Session) (index : IndexData) (pool other : PoolView) →
+        SessionStands s index pool → SessionStands t index other →
         terms_of s ≡ terms_of t → k_of s ≡ k_of t → granted_of s ≡ granted_of t →
-        answer_over file s ≡ answer_over file t }
+        answer_over index s ≡ answer_over index t }
 {}
 
 /// The report of a session is that of its prefix, and keeps its promises for every later prefix.
 #[tactic(auto, unfolding(crate::specs::Plans::session_plan))]
 pub fn reports_of_sessions_keep_their_promises()
-    ensures report { (s : Session) (file : FileView) (pool : PoolView) → SessionStands s file pool →
-        IsReport (prefix_of s) (plan_over file s) (k_of s) (report_of s) }
-    ensures promised { (s : Session) (file : FileView) (pool : PoolView) → IsFileView file → SessionStands s file pool →
-        IsPromised (weighted_postings (numbered_flat file.index) (terms_of s)) (prefix_of s) (plan_over file s) (k_of s)
+    ensures report { (s : Session) (index : IndexData) (pool : PoolView) → SessionStands s index pool →
+        IsReport (prefix_of s) (plan_over index s) (k_of s) (report_of s) }
+    ensures promised { (s : Session) (index : IndexData) (pool : PoolView) →
+        IsSearchable index → SessionStands s index pool →
+        IsPromised (weighted_postings (numbered_flat index) (terms_of s)) (prefix_of s) (plan_over index s) (k_of s)
         (report_of s) }
 {
     the_flat_list_is_flat();

@@ -1,6 +1,6 @@
 ghost use Rattle.std.specs.Prelude.{◌≡◌, ◌+◌, ◌<◌, ◌≤◌, length, slice_set, None, IfOk, IfErr, OnErr, Err};
 ghost use Rattle.ranking_model.specs.Plan.{granted_with};
-ghost use Rattle.index_layout.specs.View.{FileView};
+ghost use Rattle.index_model.specs.Index.{IndexData};
 ghost use Rattle.frame_pool.specs.Pool.{PoolView, IsInUse, Promises, spare_of};
 ghost use Rattle.frame_pool.specs.ChainView.{LeavesOthers, LeavesPool, chain_view};
 ghost use Rattle.session_engine.specs.Plans.{AreKnown, HasFreeNumber, need_of};
@@ -16,7 +16,7 @@ use crate::reporting::report_at;
 use crate::stop::OpenStop;
 use frame_pool::FramePool;
 use frame_pool::laws::calls_on_one_chain;
-use index_file::IndexFile;
+use index_file::Source;
 use jass_base::{Budget, Hit, NoMemory, Query, Report, Steps};
 use ranking_model::granted_with;
 use ranking_model::laws::the_prefix_is_the_longest;
@@ -27,9 +27,9 @@ use session_scores::Scores;
 use std::alloc::Global;
 use std::sync::ledger::Ledger;
 
-/// A query that is answered in parts, over one index file and one pool. It ends only by `close`.
+/// A query that is answered in parts, over one source of segments and one pool. It ends only by `close`.
 ///
-/// Each call that takes an index or a pool wants those of `open`, the pool with this session's chain as the last call
+/// Each call that takes a source or a pool wants those of `open`, the pool with this session's chain as the last call
 /// on this session left it. Other chains may have changed.
 pub struct Session {
     scores: Scores,
@@ -45,46 +45,47 @@ impl Session {
     /// A session to which nothing is granted. k is 1 to 100,000. No other call takes memory.
     ///
     /// `PoolFull` comes exactly where the query needs more frames than are spare, and else only `NoMemory`.
-    pub fn open(
+    pub fn open<S: Source>(
         alloc: Global,
-        index: &IndexFile,
+        source: &S,
         pool: &mut FramePool,
         query: Query,
         k: u32,
     ) -> Result<Session, OpenStop>
-        requires known { AreKnown index.now query.terms }
+        requires known { AreKnown (S.index source.now) query.terms }
         requires some { 1 ≤ k }
         requires few { k ≤ MOST_HITS }
         requires chain { HasFreeNumber pool.old }
-        ensures stands { IfOk result (λ s. SessionStands s index.now pool.new) }
+        ensures stands { IfOk result (λ s. SessionStands s (S.index source.now) pool.new) }
         ensures granted { IfOk result (λ s. granted_of s ≡ 0) }
         ensures query { IfOk result (λ s. query_of s ≡ query) }
         ensures k { IfOk result (λ s. k_of s ≡ k) }
         ensures promised { IfOk result
-            (λ s. Promises pool.old pool.new (chain_of s) (need_of index.now query.terms)) }
+            (λ s. Promises pool.old pool.new (chain_of s) (need_of (S.index source.now) query.terms)) }
         ensures others { IfOk result (λ s. LeavesOthers pool.old pool.new (chain_of s)) }
-        ensures spare { IfOk result (λ _. spare_of pool.new + need_of index.now query.terms ≡ spare_of pool.old) }
-        ensures full { spare_of pool.old < need_of index.now query.terms
-            → result ≡ Err (OpenStop.PoolFull (need_of index.now query.terms) (spare_of pool.old)) }
-        ensures memory { need_of index.now query.terms ≤ spare_of pool.old
+        ensures spare { IfOk result
+            (λ _. spare_of pool.new + need_of (S.index source.now) query.terms ≡ spare_of pool.old) }
+        ensures full { spare_of pool.old < need_of (S.index source.now) query.terms
+            → result ≡ Err (OpenStop.PoolFull (need_of (S.index source.now) query.terms) (spare_of pool.old)) }
+        ensures memory { need_of (S.index source.now) query.terms ≤ spare_of pool.old
             → IfErr result (λ stop. stop ≡ OpenStop.NoMemory) }
         ensures refused { OnErr result (pool.new ≡ pool.old) }
     {
         a_session_plan_names_its_segments();
         nothing_is_scored_at_first();
-        index.is_checked();
-        let need = need(index, &query);
+        source.is_searchable();
+        let need = need(source, &query);
         let free = pool.spare();
         if need > free {
             return Err(OpenStop::PoolFull { need, free });
         }
-        let Ok(plan) = plan_of(alloc, index, &query) else {
+        let Ok(plan) = plan_of(alloc, source, &query) else {
             return Err(OpenStop::NoMemory);
         };
         let Ok(chain) = pool.promise(need) else {
             return Err(OpenStop::NoMemory);
         };
-        match Scores::new(alloc, index.docs(), k, pool, chain) {
+        match Scores::new(alloc, source.docs(), k, pool, chain) {
             Ok(scores) => {
                 let report = report_at(&scores, pool, &plan, k, 0, 0);
                 Ok(Session {
@@ -106,15 +107,15 @@ impl Session {
 
     /// Adds the budget to what was granted, scores the segments that it pays for now, and counts their postings as
     /// steps. The report is of all grants so far.
-    pub fn grant<L: Ledger>(
+    pub fn grant<S: Source, L: Ledger>(
         &mut self,
-        index: &IndexFile,
+        source: &S,
         pool: &mut FramePool,
         budget: Budget,
         steps: &mut Steps<L>,
     ) -> Report
-        requires stands { SessionStands self.old index.now pool.old }
-        ensures stands { SessionStands self.new index.now pool.new }
+        requires stands { SessionStands self.old (S.index source.now) pool.old }
+        ensures stands { SessionStands self.new (S.index source.now) pool.new }
         ensures granted { granted_of self.new ≡ granted_with (granted_of self.old) budget }
         ensures same { IsSessionOf self.old self.new }
         ensures report { result ≡ report_of self.new }
@@ -127,7 +128,7 @@ impl Session {
         prefixes_are_those_of_the_plan();
         a_session_plan_names_its_segments();
         calls_on_one_chain();
-        index.is_checked();
+        source.is_searchable();
         self.granted = granted_with(self.granted, budget);
         let before = self.report.postings;
         let to = self.scored + self.plan.within(self.scored, self.granted - before);
@@ -135,7 +136,7 @@ impl Session {
         let terms = query.terms.as_slice();
         let more = score_entries(
             &mut self.scores,
-            index,
+            source,
             pool,
             terms,
             &self.plan,
@@ -152,8 +153,8 @@ impl Session {
 
     /// The first k documents of what is scored, by falling score, then rising number.
     pub fn answer(&self) -> &[Hit]
-        ensures { (file : FileView) (pool : PoolView) → SessionStands self.now file pool
-            → result.now ≡ answer_over file self.now }
+        ensures { (index : IndexData) (pool : PoolView) → SessionStands self.now index pool
+            → result.now ≡ answer_over index self.now }
     {
         self.scores.hits()
     }
@@ -173,7 +174,7 @@ impl Session {
 
     /// How many frames the session's chain has.
     pub fn frames(&self) -> u32
-        ensures { (file : FileView) (pool : PoolView) → SessionStands self.now file pool
+        ensures { (index : IndexData) (pool : PoolView) → SessionStands self.now index pool
             → result ≡ length (chain_view pool (chain_of self.now)).frames }
     {
         self.scores.frames()
@@ -201,12 +202,12 @@ impl Session {
 }
 
 /// The plan of a query.
-fn plan_of(alloc: Global, index: &IndexFile, query: &Query) -> Result<Plan, NoMemory>
-    requires { AreKnown index.now query.now.terms }
-    ensures { IfOk result (λ plan. IsPlanned index.now query.now.terms plan) }
+fn plan_of<S: Source>(alloc: Global, source: &S, query: &Query) -> Result<Plan, NoMemory>
+    requires { AreKnown (S.index source.now) query.now.terms }
+    ensures { IfOk result (λ plan. IsPlanned (S.index source.now) query.now.terms plan) }
 {
     a_session_plan_names_its_segments();
-    index.is_checked();
-    let heads = query_heads(alloc, index, query.terms.as_slice())?;
+    source.is_searchable();
+    let heads = query_heads(alloc, source, query.terms.as_slice())?;
     Plan::new(alloc, query, heads.as_slice())
 }

@@ -25,4 +25,4 @@ once_index c = collection_index Tf Raw c
 -- the report line, and the run lines of the answer
 abbrev pub session_text : FileView → Session → List ℕ
 session_text file s =
-    report_text s ++ run_lines file.index.names (query_of s).id (codes "jass") 1 (answer_over file s)
+    report_text s ++ run_lines file.index.names (query_of s).id (codes "jass") 1 (answer_over file.index s)

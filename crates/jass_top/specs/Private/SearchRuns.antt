@@ -20,7 +20,7 @@ asked_of queries = map query_data queries
 
 -- the run lines of a session's answer as a part, and its report line
 abbrev pub answer_text : FileView → Session → List ℕ → ℕ → List ℕ
-answer_text file s tag part = run_lines file.index.names (query_of s).id (tag_of tag part) 1 (answer_over file s)
+answer_text file s tag part = run_lines file.index.names (query_of s).id (tag_of tag part) 1 (answer_over file.index s)
 
 abbrev pub report_text : Session → List ℕ
 report_text s = report_line (query_of s).id (report_of s) (query_of s).unknown

@@ -24,7 +24,7 @@ given_line w line = if w.long then [] else strip_carriage_return line
 
 -- the replies to lines at a desk, as one text
 unfoldable pub text_from : FileView → DeskState → List (List ℕ) → List ℕ
-text_from file state lines = concat (replies_from file state lines)
+text_from file state lines = concat (replies_from file.index state lines)
 
 -- of the bytes that were taken some lines were answered, none of which is `end`; this was said, and so many postings were
 -- scored; the others wait
@@ -35,21 +35,21 @@ pub record Standing (file : FileView) (frames : ℕ) (taken said : List ℕ) (sc
   pub holds : Holds w pending
   pub counted : length taken + w.left ≡ MOST_TAKEN
   pub endless : has_end passed ≡ false
-  pub replies : (rest : List (List ℕ)) → desk_replies file frames (passed ++ rest) ≡ said ++ text_from file state rest
-  pub steps : (rest : List (List ℕ)) → desk_postings file frames (passed ++ rest) ≡ scored + steps_from file state rest
+  pub replies : (rest : List (List ℕ)) → desk_replies file.index frames (passed ++ rest) ≡ said ++ text_from file state rest
+  pub steps : (rest : List (List ℕ)) → desk_postings file.index frames (passed ++ rest) ≡ scored + steps_from file.index state rest
 
 -- a line `end` was answered
 pub record Finished (file : FileView) (frames : ℕ) (taken said : List ℕ) (scored : ℕ) : Type 0 where
   pub size : length taken ≤ MOST_TAKEN
   pub ended : (more : List ℕ) → has_end (ended_lines (taken ++ more)) ≡ true
-  pub replies : (more : List ℕ) → desk_replies file frames (lines_of (taken ++ more)) ≡ said
-  pub steps : (more : List ℕ) → desk_postings file frames (lines_of (taken ++ more)) ≡ scored
+  pub replies : (more : List ℕ) → desk_replies file.index frames (lines_of (taken ++ more)) ≡ said
+  pub steps : (more : List ℕ) → desk_postings file.index frames (lines_of (taken ++ more)) ≡ scored
 
 -- what was said and scored is the front of it, whatever follows
 pub record IsFrontAt (file : FileView) (frames : ℕ) (taken said : List ℕ) (scored : ℕ) (more : List ℕ) : Type 0 where
   pub others : List ℕ
-  pub replies : desk_replies file frames (lines_of (taken ++ more)) ≡ said ++ others
-  pub steps : scored ≤ desk_postings file frames (lines_of (taken ++ more))
+  pub replies : desk_replies file.index frames (lines_of (taken ++ more)) ≡ said ++ others
+  pub steps : scored ≤ desk_postings file.index frames (lines_of (taken ++ more))
 
 abbrev pub IsFront : FileView → ℕ → List ℕ → List ℕ → ℕ → Type 0
 IsFront file frames taken said scored = (more : List ℕ) → IsFrontAt file frames taken said scored more
@@ -85,8 +85,8 @@ pub record AnswersLines {S : Type 0} (written : S → Option (List ℕ)) (faults
 
 -- what was said and scored is all of it, where nothing follows
 pub record IsWhole (file : FileView) (frames : ℕ) (taken said : List ℕ) (scored : ℕ) : Type 0 where
-  pub replies : desk_replies file frames (lines_of taken) ≡ said
-  pub steps : desk_postings file frames (lines_of taken) ≡ scored
+  pub replies : desk_replies file.index frames (lines_of taken) ≡ said
+  pub steps : desk_postings file.index frames (lines_of taken) ≡ scored
 
 -- how the line behind the last LF goes
 abbrev pub GoesLast : {T : Type 0} → FileView → Waiting → DeskState → List ℕ → ℕ → Result T ServeStop → Type 0

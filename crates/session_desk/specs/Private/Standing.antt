@@ -1,7 +1,7 @@
--- When the sessions in one pool stand over an index file.
+-- When the sessions in one pool stand over an index.
 use Rattle.std.specs.Prelude.{ℕ, ◌≡◌, ◌≢◌, ◌≤◌, ◌+◌, ⊤, List, [], ◌∷◌, length, count_by, is_some, vec_capacity}
 use Rattle.std.specs.List.{AllByRecursion}
-use Rattle.index_layout.specs.View.{FileView}
+use Rattle.index_model.specs.Index.{IndexData}
 use Rattle.frame_pool.specs.Pool.{PoolView, spare_of}
 use Rattle.session_engine.specs.Standing.{SessionStands, chain_of, query_of}
 use Rattle.session_engine.specs.declared.session.Session.{Session}
@@ -24,15 +24,15 @@ Differ [] = ⊤
 Differ (s ∷ sessions) = AllByRecursion (AreApart s) sessions × Differ sessions
 
 -- the sessions stand in a pool of 64 chain numbers, and each frame that one may need is promised
-pub record SessionsStand (file : FileView) (pool : PoolView) (sessions : List Session) : Type 0 where
-  pub each : AllByRecursion (λ (s : Session). SessionStands s file pool) sessions
+pub record SessionsStand (index : IndexData) (pool : PoolView) (sessions : List Session) : Type 0 where
+  pub each : AllByRecursion (λ (s : Session). SessionStands s index pool) sessions
   pub differ : Differ sessions
   pub few : length sessions ≤ MOST_SESSIONS
   pub numbers : length pool.chains ≡ MOST_SESSIONS
   pub in_use : count_by is_some pool.chains ≡ length sessions
-  pub spare : spare_of pool + needs file (sessions_data sessions) ≡ length pool.frames
+  pub spare : spare_of pool + needs index (sessions_data sessions) ≡ length pool.frames
 
 -- and there is room for 64
-pub record TableStands (file : FileView) (table : Table) : Type 0 where
-  pub sessions : SessionsStand file table.pool table.sessions.items
+pub record TableStands (index : IndexData) (table : Table) : Type 0 where
+  pub sessions : SessionsStand index table.pool table.sessions.items
   pub room : MOST_SESSIONS ≤ vec_capacity table.sessions

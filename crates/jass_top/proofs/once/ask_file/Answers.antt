@@ -40,7 +40,7 @@ returns-in-Ok-answered g c = λ beside.
       accepted = inr (fits c.args.input.now file.index c.requires.fits);
       had = λ feeds. cc;
       exact = exact file (once_of c.args.question) opened.session s pool did.stands did.same asks opened.ensures.k did.granted opened.ensures.granted
-          (c.reports_of_sessions_keep_their_promises.ensures.report s file pool did.stands) (c.reports_of_sessions_keep_their_promises.ensures.promised s file pool c.requires.view did.stands);
+          (c.reports_of_sessions_keep_their_promises.ensures.report s file.index pool did.stands) (c.reports_of_sessions_keep_their_promises.ensures.promised s file.index pool (record { is_index = c.requires.view.index; postings = c.requires.view.postings }) did.stands);
       left = record { content = refl; text = c.in-Ok-answered.ensures.text.bytes; steps = omega (arith, did.steps, none) };
     })
 
@@ -59,7 +59,7 @@ returns-in-Err g c = λ beside.
         stands = record {
           output = answered file (once_of c.args.question) opened.session s pool did.stands did.same asks opened.ensures.k did.granted opened.ensures.granted;
           exact = exact file (once_of c.args.question) opened.session s pool did.stands did.same asks opened.ensures.k did.granted opened.ensures.granted
-              (c.reports_of_sessions_keep_their_promises.ensures.report s file pool did.stands) (c.reports_of_sessions_keep_their_promises.ensures.promised s file pool c.requires.view did.stands);
+              (c.reports_of_sessions_keep_their_promises.ensures.report s file.index pool did.stands) (c.reports_of_sessions_keep_their_promises.ensures.promised s file.index pool (record { is_index = c.requires.view.index; postings = c.requires.view.postings }) did.stands);
           stands = record { told = refl; text = c.in-Err.ensures.text.bytes; steps = record { never_less = omega (arith, did.steps, none); at_most = omega (arith, did.steps, none) } };
         };
       },

@@ -8,7 +8,7 @@ use Rattle.jass_top.proofs.search_budgets.gather_budgets.Given as goal
 abbrev pub invariant-loop-budget : goal.invariant-loop-budget
 invariant-loop-budget g l = record {
   part : l.part ≡ first_part_of l.budgets + l.budget-index;
-  stands : SessionStands l.session l.index l.pool;
+  stands : SessionStands l.session l.index.index l.pool;
   same : IsSessionOf l.fn.session l.session;
   granted : granted_of l.session ≡ granted_sum (take l.budget-index l.budgets);
   leaves : LeavesPool l.fn.pool l.pool (chain_of l.fn.session);

@@ -10,7 +10,7 @@ loop-query-init g c =
     let file = c.args.index.now in let budgets = c.args.budgets.now in
     let all : c.args.queries ≡ c.into_iter-query-iterator.result.rest.items = sym (c.into_iter-query-iterator.ensures.into_iter_gives.0 ∙ c.into_vec-query-items.ensures) in
     record {
-      known = subst (AllByRecursion (λ (query : Query). AreKnown file query.terms)) all c.requires.known;
+      known = subst (AllByRecursion (λ (query : Query). AreKnown file.index query.terms)) all c.requires.known;
       ready = c.requires.ready;
       steps = ap (λ (xs : List Query). c.args.steps.now + queries_steps file budgets (asked_of xs)) (sym all);
       later = omega arith;
@@ -25,7 +25,7 @@ loop-query-preserved g c =
     let counted : queries_steps file budgets (asked_of c.loop-query.query-iterator.rest.items) ≡ query_steps file budgets (query_data c.in-Some.query) + queries_steps file budgets (asked_of c.next.new.self.rest.items)
     = ap (λ (xs : List Query). queries_steps file budgets (asked_of xs)) next ∙ sum_by-cons (query_steps file budgets) (query_data c.in-Some.query) (asked_of c.next.new.self.rest.items) in
     record {
-      known = (subst (AllByRecursion (λ (query : Query). AreKnown file query.terms)) next c.loop-query.invariant.known).1;
+      known = (subst (AllByRecursion (λ (query : Query). AreKnown file.index query.terms)) next c.loop-query.invariant.known).1;
       ready = c.in_ok-gather_query.ensures.ready;
       steps = omega (arith, counted, c.in_ok-gather_query.ensures.steps, c.loop-query.invariant.steps);
       later = omega (arith, c.in_ok-gather_query.ensures.steps, c.loop-query.invariant.later);
@@ -36,7 +36,7 @@ loop-query-preserved g c =
 pub gather_query-requires-clause-known : goal.gather_query-requires-clause-known
 gather_query-requires-clause-known g c =
     let next : c.loop-query.query-iterator.rest.items ≡ c.in-Some.query ∷ c.next.new.self.rest.items = c.in-Some.ensures.steps.0 in
-    (subst (AllByRecursion (λ (query : Query). AreKnown c.args.index.now query.terms)) next c.loop-query.invariant.known).0
+    (subst (AllByRecursion (λ (query : Query). AreKnown c.args.index.now.index query.terms)) next c.loop-query.invariant.known).0
 
 pub returns-in_err-gather_query-clause-steps : goal.returns-in_err-gather_query-clause-steps
 returns-in_err-gather_query-clause-steps g c =

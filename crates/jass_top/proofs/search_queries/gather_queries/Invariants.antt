@@ -9,7 +9,7 @@ use Rattle.jass_top.proofs.search_queries.gather_queries.Given as goal
 
 abbrev pub invariant-loop-query : goal.invariant-loop-query
 invariant-loop-query g l = record {
-  known : AllByRecursion (λ (query : Query). AreKnown l.index query.terms) l.query-iterator.rest.items;
+  known : AllByRecursion (λ (query : Query). AreKnown l.index.index query.terms) l.query-iterator.rest.items;
   ready : IsReady l.index l.pool;
   steps : l.steps + queries_steps l.index l.budgets (asked_of l.query-iterator.rest.items) ≡ l.fn.steps + queries_steps l.index l.budgets (asked_of l.fn.queries);
   later : l.fn.steps ≤ l.steps;

@@ -17,9 +17,9 @@ pub returns-in-Ok-On : goal.returns-in-Ok-On
 returns-in-Ok-On g c =
     let file = c.args.desk.now.file in let state = c.args.desk.now.state in let line = c.last_line.result.now in
     record {
-      answers = last_sent c.args.out.now c.answer_line.new.out c.send.new.out c.args.buffer.now c.answer_line.new.buffer (desk_reply file state line) c.args.steps.now c.answer_line.new.steps (desk_steps file state line) file c.args.lines.now state wents.On c.send.result
+      answers = last_sent c.args.out.now c.answer_line.new.out c.send.new.out c.args.buffer.now c.answer_line.new.buffer (desk_reply file.index state line) c.args.steps.now c.answer_line.new.steps (desk_steps file.index state line) file c.args.lines.now state wents.On c.send.result
           c.requires.empty (subst (λ (went : Went). Gathers {E = WriteFault} g.O.Sink.written g.O.Sink.faults g.O.Sink.rest c.args.out.now c.answer_line.new.out
-          c.args.buffer.now c.answer_line.new.buffer (text_where {E = WriteFault} (Ok went) (desk_reply file state line))
+          c.args.buffer.now c.answer_line.new.buffer (text_where {E = WriteFault} (Ok went) (desk_reply file.index state line))
           (Ok went)) c.in-Ok-On.field-0-is c.in-Ok-On.ensures.reply) c.send.ensures.text c.send.ensures.stop c.answer_line.ensures.steps
           (last_whole c.pending_bytes_wait.ensures.whole c.pending_bytes_wait.ensures.long c.lines_are_passed.ensures.all c.a_line_loses_one_byte.ensures c.pending_bytes_wait.ensures.free c.lines_end_by_line_feeds.ensures.last
           file c.args.lines.now state line c.requires.free (something_there c.args.lines.now.bytes c.args.lines.now.long (sym c.nothing_waits.ensures ∙ c.if-nothing_waits.false)) c.last_line.ensures);
@@ -29,9 +29,9 @@ pub returns-in-Ok-End : goal.returns-in-Ok-End
 returns-in-Ok-End g c =
     let file = c.args.desk.now.file in let state = c.args.desk.now.state in let line = c.last_line.result.now in
     record {
-      answers = last_sent c.args.out.now c.answer_line.new.out c.send-in-Ok-End.new.out c.args.buffer.now c.answer_line.new.buffer (desk_reply file state line) c.args.steps.now c.answer_line.new.steps (desk_steps file state line) file c.args.lines.now state wents.End c.send-in-Ok-End.result
+      answers = last_sent c.args.out.now c.answer_line.new.out c.send-in-Ok-End.new.out c.args.buffer.now c.answer_line.new.buffer (desk_reply file.index state line) c.args.steps.now c.answer_line.new.steps (desk_steps file.index state line) file c.args.lines.now state wents.End c.send-in-Ok-End.result
           c.requires.empty (subst (λ (went : Went). Gathers {E = WriteFault} g.O.Sink.written g.O.Sink.faults g.O.Sink.rest c.args.out.now c.answer_line.new.out
-          c.args.buffer.now c.answer_line.new.buffer (text_where {E = WriteFault} (Ok went) (desk_reply file state line))
+          c.args.buffer.now c.answer_line.new.buffer (text_where {E = WriteFault} (Ok went) (desk_reply file.index state line))
           (Ok went)) c.in-Ok-End.field-0-is c.in-Ok-End.ensures.reply) c.send-in-Ok-End.ensures.text c.send-in-Ok-End.ensures.stop c.answer_line.ensures.steps
           (last_whole c.pending_bytes_wait.ensures.whole c.pending_bytes_wait.ensures.long c.lines_are_passed.ensures.all c.a_line_loses_one_byte.ensures c.pending_bytes_wait.ensures.free c.lines_end_by_line_feeds.ensures.last
           file c.args.lines.now state line c.requires.free (something_there c.args.lines.now.bytes c.args.lines.now.long (sym c.nothing_waits.ensures ∙ c.if-nothing_waits.false)) c.last_line.ensures);
@@ -49,7 +49,7 @@ pub returns-in-Err : goal.returns-in-Err
 returns-in-Err g c =
     let file = c.args.desk.now.file in let state = c.args.desk.now.state in let line = c.last_line.result.now in
     record {
-      answers = last_unsent c.args.out.now c.answer_line.new.out c.args.buffer.now c.answer_line.new.buffer (desk_reply file state line) c.args.steps.now c.answer_line.new.steps (desk_steps file state line) file c.args.lines.now state _
+      answers = last_unsent c.args.out.now c.answer_line.new.out c.args.buffer.now c.answer_line.new.buffer (desk_reply file.index state line) c.args.steps.now c.answer_line.new.steps (desk_steps file.index state line) file c.args.lines.now state _
           c.requires.empty c.in-Err.ensures.reply c.answer_line.ensures.steps
           (last_whole c.pending_bytes_wait.ensures.whole c.pending_bytes_wait.ensures.long c.lines_are_passed.ensures.all c.a_line_loses_one_byte.ensures c.pending_bytes_wait.ensures.free c.lines_end_by_line_feeds.ensures.last
           file c.args.lines.now state line c.requires.free (something_there c.args.lines.now.bytes c.args.lines.now.long (sym c.nothing_waits.ensures ∙ c.if-nothing_waits.false)) c.last_line.ensures);

@@ -8,12 +8,12 @@ use Rattle.session_desk.proofs.Grants.{granted_rises, size_is, size_rises}
 use Rattle.session_desk.proofs.laws.the_steps_are_those_of_the_sessions.Goals as goal
 
 pub returns : goal.returns
-returns c file frames lines =
-    let rises : Rises file = λ e budget most. omega (
+returns c index frames lines =
+    let rises : Rises index = λ e budget most. omega (
       arith,
-      size_is file e,
-      size_is file (granted_more budget e),
-      size_rises c.a_prefix_is_resumed.ensures.size c.a_prefix_is_resumed.ensures.prefix e.granted (granted_with e.granted budget) (plan_of_session file e).segments (granted_rises e budget most),
+      size_is index e,
+      size_is index (granted_more budget e),
+      size_rises c.a_prefix_is_resumed.ensures.size c.a_prefix_is_resumed.ensures.prefix e.granted (granted_with e.granted budget) (plan_of_session index e).segments (granted_rises e budget most),
     ) in
-    let paid : IsPaid file = λ e. omega (arith, size_is file e, c.the_prefix_is_the_longest.ensures.fits e.granted (plan_of_session file e).segments) in
-    all_counted file rises paid frames lines
+    let paid : IsPaid index = λ e. omega (arith, size_is index e, c.the_prefix_is_the_longest.ensures.fits e.granted (plan_of_session index e).segments) in
+    all_counted index rises paid frames lines

@@ -3,4 +3,4 @@ use Rattle.session_engine.proofs.Scored.{Progress}
 use Rattle.session_engine.proofs.entries.score_entries.Given as goal
 
 abbrev pub invariant-loop-i : goal.invariant-loop-i
-invariant-loop-i g l = Progress l.from l.i (need_of l.index l.terms) (session_plan l.index l.terms) l.fn.scores l.fn.pool l.scores l.pool l.fn.steps l.steps l.postings
+invariant-loop-i g l = Progress l.from l.i (need_of (g.S.Source.index l.source) l.terms) (session_plan (g.S.Source.index l.source) l.terms) l.fn.scores l.fn.pool l.scores l.pool l.fn.steps l.steps l.postings

@@ -5,5 +5,5 @@ use Rattle.session_engine.proofs.Gathering.{size}
 use Rattle.session_engine.proofs.frames_needed.counted.Given as goal
 
 abbrev pub invariant-loop-segment : goal.invariant-loop-segment
-invariant-loop-segment l = (l.sum ≤ l.limit)
-    × (min l.limit (l.sum + sum_by size (drop l.segment (segments_at l.index.index.terms l.term))) ≡ min l.limit (l.count + postings_at l.index.index.terms l.term))
+invariant-loop-segment g l = (l.sum ≤ l.limit)
+    × (min l.limit (l.sum + sum_by size (drop l.segment (segments_at (g.S.Source.index l.source).terms l.term))) ≡ min l.limit (l.count + postings_at (g.S.Source.index l.source).terms l.term))

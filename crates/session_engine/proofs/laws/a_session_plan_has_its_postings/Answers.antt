@@ -6,7 +6,7 @@ use Rattle.session_engine.proofs.laws.a_session_plan_has_its_postings.Goals as g
 
 pub returns : goal.returns
 unfolding session_plan
-returns c file terms =
-    ap (λ (segments : List PlanSegment). size_of_first (length segments) segments) (c.a_plan_has_the_segments_of_its_postings.ensures.segments (length file.index.names) (numbered_flat file.index) terms)
-    ∙ c.the_segments_have_all_postings.ensures.number (weighted_postings (numbered_flat file.index) terms)
-    ∙ ap (λ (ps : List WeightedPosting). length ps) (c.a_query_weighs_its_segments.ensures file.index terms) ∙ query_is_long file.index terms
+returns c index terms =
+    ap (λ (segments : List PlanSegment). size_of_first (length segments) segments) (c.a_plan_has_the_segments_of_its_postings.ensures.segments (length index.names) (numbered_flat index) terms)
+    ∙ c.the_segments_have_all_postings.ensures.number (weighted_postings (numbered_flat index) terms)
+    ∙ ap (λ (ps : List WeightedPosting). length ps) (c.a_query_weighs_its_segments.ensures index terms) ∙ query_is_long index terms

@@ -5,10 +5,10 @@ use Rattle.session_engine.proofs.First.{none_at_first, zero_at_first}
 use Rattle.session_engine.proofs.laws.nothing_is_scored_at_first.Goals as goal
 
 pub returns-clause-prefix : goal.returns-clause-prefix
-returns-clause-prefix c file terms is are known =
-    none_at_first file.index terms (plan_with terms (query_heads file.index terms)).entries (session_plan file terms).segments (prefix_within 0 (session_plan file terms).segments)
-    (c.a_session_plan_names_its_segments.ensures.names file terms is are known) (c.a_session_plan_names_its_segments.ensures.segments file terms is are known)
-    (c.the_prefix_is_the_longest.ensures.there 0 (session_plan file terms).segments) (c.the_prefix_is_the_longest.ensures.fits 0 (session_plan file terms).segments)
+returns-clause-prefix c index terms is are known =
+    none_at_first index terms (plan_with terms (query_heads index terms)).entries (session_plan index terms).segments (prefix_within 0 (session_plan index terms).segments)
+    (c.a_session_plan_names_its_segments.ensures.names index terms is are known) (c.a_session_plan_names_its_segments.ensures.segments index terms is are known)
+    (c.the_prefix_is_the_longest.ensures.there 0 (session_plan index terms).segments) (c.the_prefix_is_the_longest.ensures.fits 0 (session_plan index terms).segments)
 
 pub returns-clause-scores : goal.returns-clause-scores
-returns-clause-scores c file terms = zero_at_first (session_plan file terms) ∙ ap (λ n. replicate n 0) (c.a_session_plan_names_its_segments.ensures.docs file terms)
+returns-clause-scores c index terms = zero_at_first (session_plan index terms) ∙ ap (λ n. replicate n 0) (c.a_session_plan_names_its_segments.ensures.docs index terms)

@@ -13,22 +13,22 @@ use Rattle.session_desk.proofs.desk.Desk.answer_line.Goals as goal
 pub returns-clause-reply : goal.returns-clause-reply
 unfolding desk_reply
 returns-clause-reply g c =
-    subst (λ (v : DeskView). Gathers {T = Went} {E = WriteFault} g.S.Sink.written g.S.Sink.faults g.S.Sink.rest c.args.out.now c.answer.new.out c.args.buffer.now c.answer.new.buffer (text_where c.answer.result (desk_reply v.file v.state c.args.line.now)) c.answer.result) c.self.view_is
+    subst (λ (v : DeskView). Gathers {T = Went} {E = WriteFault} g.S.Sink.written g.S.Sink.faults g.S.Sink.rest c.args.out.now c.answer.new.out c.args.buffer.now c.answer.new.buffer (text_where c.answer.result (desk_reply v.file.index v.state c.args.line.now)) c.answer.result) c.self.view_is
     (subst (λ (o : Option DeskCommand). Gathers {T = Went} {E = WriteFault} g.S.Sink.written g.S.Sink.faults g.S.Sink.rest c.args.out.now c.answer.new.out
-    c.args.buffer.now c.answer.new.buffer (text_where c.answer.result (reply_to c.self.inside.index (state_of c.self.inside.table) o)) c.answer.result)
+    c.args.buffer.now c.answer.new.buffer (text_where c.answer.result (reply_to c.self.inside.index.index (state_of c.self.inside.table) o)) c.answer.result)
     c.read_command-command.ensures.command c.answer.ensures.reply)
 
 pub returns-clause-after : goal.returns-clause-after
 unfolding desk_after
 returns-clause-after g c =
-    subst (λ (v : DeskView). state_of c.answer.new.table ≡ left_where c.answer.result v.state (desk_after v.file v.state c.args.line.now)) c.self.view_is
-    (subst (λ (o : Option DeskCommand). state_of c.answer.new.table ≡ left_where c.answer.result (state_of c.self.inside.table) (after_of c.self.inside.index (state_of c.self.inside.table) o))
+    subst (λ (v : DeskView). state_of c.answer.new.table ≡ left_where c.answer.result v.state (desk_after v.file.index v.state c.args.line.now)) c.self.view_is
+    (subst (λ (o : Option DeskCommand). state_of c.answer.new.table ≡ left_where c.answer.result (state_of c.self.inside.table) (after_of c.self.inside.index.index (state_of c.self.inside.table) o))
     c.read_command-command.ensures.command c.answer.ensures.after)
 
 pub returns-clause-steps : goal.returns-clause-steps
 unfolding desk_steps
-returns-clause-steps g c = subst (λ (v : DeskView). c.answer.new.steps ≡ c.args.steps.now + desk_steps v.file v.state c.args.line.now) c.self.view_is
-    (subst (λ (o : Option DeskCommand). c.answer.new.steps ≡ c.args.steps.now + steps_of c.self.inside.index (state_of c.self.inside.table) o) c.read_command-command.ensures.command c.answer.ensures.steps)
+returns-clause-steps g c = subst (λ (v : DeskView). c.answer.new.steps ≡ c.args.steps.now + desk_steps v.file.index v.state c.args.line.now) c.self.view_is
+    (subst (λ (o : Option DeskCommand). c.answer.new.steps ≡ c.args.steps.now + steps_of c.self.inside.index.index (state_of c.self.inside.table) o) c.read_command-command.ensures.command c.answer.ensures.steps)
 
 pub returns-clause-end : goal.returns-clause-end
 unfolding is_end

@@ -9,12 +9,12 @@ use Rattle.session_desk.proofs.table.Table.close.Goals as goal
 pub returns-in-Some-clause-stands : goal.returns-in-Some-clause-stands
 returns-in-Some-clause-stands c =
     let items = c.args.self.now.sessions.items in let here = c.remove-session.result in let pool = c.args.self.now.pool in
-    let stands = stands_at items c.args.name.now c.in-Some.place c.in-Some.ensures c.args.index.now pool here c.remove-session.ensures.value c.requires.stands.sessions in
+    let stands = stands_at items c.args.name.now c.in-Some.place c.in-Some.ensures c.args.index.now.index pool here c.remove-session.ensures.value c.requires.stands.sessions in
     let chain = c.a_standing_session_has_its_chain.ensures in
     record {
-      sessions = subst (SessionsStand c.args.index.now c.close.new.pool) (sym c.remove-session.ensures.items)
-          (gone_stand items c.args.name.now c.in-Some.place c.in-Some.ensures c.calls_on_other_chains_leave_sessions.ensures.all c.args.index.now pool c.close.new.pool here c.remove-session.ensures.value c.requires.stands.sessions
-          (chain.in_use here c.args.index.now pool stands) (chain.promise here c.args.index.now pool stands) c.close.ensures.frames c.close.ensures.chains c.close.ensures.others c.close.ensures.spare);
+      sessions = subst (SessionsStand c.args.index.now.index c.close.new.pool) (sym c.remove-session.ensures.items)
+          (gone_stand items c.args.name.now c.in-Some.place c.in-Some.ensures c.calls_on_other_chains_leave_sessions.ensures.all c.args.index.now.index pool c.close.new.pool here c.remove-session.ensures.value c.requires.stands.sessions
+          (chain.in_use here c.args.index.now.index pool stands) (chain.promise here c.args.index.now.index pool stands) c.close.ensures.frames c.close.ensures.chains c.close.ensures.others c.close.ensures.spare);
       room = omega (arith, c.remove-session.ensures.capacity, c.requires.stands.room);
     }
 

@@ -13,7 +13,7 @@ use Rattle.session_desk.proofs.table.Table.open.Goals as goal
 
 pub returns-in-Some-clause-opens : goal.returns-in-Some-clause-opens
 returns-in-Some-clause-opens c =
-    (refused_first c.args.index.now (state_of c.args.self.now) c.args.name.now c.args.k (blank_runs c.args.mentions.now) c.in-Some.refusal (sym c.in-Some.ensures.refusal), refl)
+    (refused_first c.args.index.now.index (state_of c.args.self.now) c.args.name.now c.args.k (blank_runs c.args.mentions.now) c.in-Some.refusal (sym c.in-Some.ensures.refusal), refl)
 
 pub add-requires-clause-others : goal.add-requires-clause-others
 add-requires-clause-others c =
@@ -22,18 +22,18 @@ add-requires-clause-others c =
 
 pub returns-in-Ok-clause-opens : goal.returns-in-Ok-clause-opens
 returns-in-Ok-clause-opens c =
-    let file = c.args.index.now in let state = state_of c.args.self.now in let name = c.args.name.now in
+    let index = c.args.index.now.index in let state = state_of c.args.self.now in let name = c.args.name.now in
     let read = read_so _ _ c.in-Ok.ensures.query in
-    let named = read_name (texts_of file.index.terms) name (mentions_of Plain c.args.mentions.now) (query_data c.in-Ok.query) read in
-    let found = then_fits file state name c.args.k (blank_runs c.args.mentions.now) (sym c.in-None.ensures.refusal)
-    ∙ ap (fitting file state c.args.k) (ap (read_mentions (texts_of file.index.terms) name) (sym (plain_so c.args.mentions.now)) ∙ read) in
-    subst (λ (r : Result OpenSession DeskRefusal). Opens file r name state (state_of c.add.new.self) c.add.result) (sym found)
-    (subst (λ (n : List ℕ). Opens file (fitting file state c.args.k (Ok (query_data c.in-Ok.query))) n state (state_of c.add.new.self) c.add.result) named c.add.ensures.opens)
+    let named = read_name (texts_of index.terms) name (mentions_of Plain c.args.mentions.now) (query_data c.in-Ok.query) read in
+    let found = then_fits index state name c.args.k (blank_runs c.args.mentions.now) (sym c.in-None.ensures.refusal)
+    ∙ ap (fitting index state c.args.k) (ap (read_mentions (texts_of index.terms) name) (sym (plain_so c.args.mentions.now)) ∙ read) in
+    subst (λ (r : Result OpenSession DeskRefusal). Opens index r name state (state_of c.add.new.self) c.add.result) (sym found)
+    (subst (λ (n : List ℕ). Opens index (fitting index state c.args.k (Ok (query_data c.in-Ok.query))) n state (state_of c.add.new.self) c.add.result) named c.add.ensures.opens)
 
 pub returns-in-Err-clause-opens : goal.returns-in-Err-clause-opens
 returns-in-Err-clause-opens c =
-    let file = c.args.index.now in let state = state_of c.args.self.now in let name = c.args.name.now in
-    let found = then_fits file state name c.args.k (blank_runs c.args.mentions.now) (sym c.in-None.ensures.refusal)
-    ∙ ap (λ ms. fitting file state c.args.k (read_mentions (texts_of file.index.terms) name ms)) (sym (plain_so c.args.mentions.now)) in
-    subst (λ (fault : SessionFault). Opens file (opening file state name c.args.k (blank_runs c.args.mentions.now)) name state state (Err fault)) (sym c.session_fault.ensures)
-    (refused_so file name state c.args.k (read_mentions (texts_of file.index.terms) name (mentions_of Plain c.args.mentions.now)) _ c.in-Err.fault found c.in-Err.ensures.query)
+    let index = c.args.index.now.index in let state = state_of c.args.self.now in let name = c.args.name.now in
+    let found = then_fits index state name c.args.k (blank_runs c.args.mentions.now) (sym c.in-None.ensures.refusal)
+    ∙ ap (λ ms. fitting index state c.args.k (read_mentions (texts_of index.terms) name ms)) (sym (plain_so c.args.mentions.now)) in
+    subst (λ (fault : SessionFault). Opens index (opening index state name c.args.k (blank_runs c.args.mentions.now)) name state state (Err fault)) (sym c.session_fault.ensures)
+    (refused_so index name state c.args.k (read_mentions (texts_of index.terms) name (mentions_of Plain c.args.mentions.now)) _ c.in-Err.fault found c.in-Err.ensures.query)

@@ -7,10 +7,10 @@ use Rattle.session_engine.proofs.session.Session.grant.Goals as goal
 
 pub overflow_add-before : goal.overflow_add-before
 overflow_add-before g c =
-    let s = c.args.self.now in let file = c.args.index.now in let plan = session_plan file s.query.terms in
+    let s = c.args.self.now in let index = g.S.Source.index c.args.source.now in let plan = session_plan index s.query.terms in
     let stands = c.requires.stands in
     let are : AreTerms s.query.terms = record { few = s.query.few; named = s.query.named; differ = s.query.differ } in
-    let shape = subst (λ (p : PlanView). HasShape p plan) (sym stands.planned.arranged) (c.a_session_plan_names_its_segments.ensures.shape file s.query.terms c.is_checked.ensures.index are stands.planned.known) in
+    let shape = subst (λ (p : PlanView). HasShape p plan) (sym stands.planned.arranged) (c.a_session_plan_names_its_segments.ensures.shape index s.query.terms c.is_searchable.ensures.is_index are stands.planned.known) in
     let paid : s.report.postings ≡ size_of_first s.scored plan.segments = ap (λ (r : Report). r.postings) stands.report in
     let low : s.granted ≤ c.granted_with-self.result = omega (arith, c.fits-self, c.granted_with-self.ensures) in
     let grown : s.scored + c.within.result ≡ prefix_within c.granted_with-self.result plan.segments
@@ -18,24 +18,24 @@ overflow_add-before g c =
     (c.within.ensures.many ∙ sym (c.prefixes_are_those_of_the_plan.ensures.resumed s.plan plan s.scored (c.granted_with-self.result - s.report.postings) shape)) c.a_prefix_is_resumed.ensures.prefix in
     let terms = c.as_slice-terms.ensures in
     let more : size_of_first s.scored plan.segments + c.score_entries-more.result ≡ size_of_first (s.scored + c.within.result) plan.segments
-    = subst (λ (ts : List QueryTerm). size_of_first s.scored (session_plan file ts).segments + c.score_entries-more.result ≡ size_of_first (s.scored + c.within.result) (session_plan file ts).segments) terms c.score_entries-more.ensures.postings in
+    = subst (λ (ts : List QueryTerm). size_of_first s.scored (session_plan index ts).segments + c.score_entries-more.result ≡ size_of_first (s.scored + c.within.result) (session_plan index ts).segments) terms c.score_entries-more.ensures.postings in
     let most = c.the_prefix_is_the_longest.ensures.fits c.granted_with-self.result plan.segments in
     let same = ap (λ n. size_of_first n plan.segments) grown in
     omega (arith, paid, more, most, same, c.granted_with-self.type_inv)
 
 pub returns-clause-stands : goal.returns-clause-stands
 returns-clause-stands g c =
-    let s = c.args.self.now in let file = c.args.index.now in let plan = session_plan file s.query.terms in
+    let s = c.args.self.now in let index = g.S.Source.index c.args.source.now in let plan = session_plan index s.query.terms in
     let stands = c.requires.stands in
     let are : AreTerms s.query.terms = record { few = s.query.few; named = s.query.named; differ = s.query.differ } in
-    let shape = subst (λ (p : PlanView). HasShape p plan) (sym stands.planned.arranged) (c.a_session_plan_names_its_segments.ensures.shape file s.query.terms c.is_checked.ensures.index are stands.planned.known) in
+    let shape = subst (λ (p : PlanView). HasShape p plan) (sym stands.planned.arranged) (c.a_session_plan_names_its_segments.ensures.shape index s.query.terms c.is_searchable.ensures.is_index are stands.planned.known) in
     let paid : s.report.postings ≡ size_of_first s.scored plan.segments = ap (λ (r : Report). r.postings) stands.report in
     let low : s.granted ≤ c.granted_with-self.result = omega (arith, c.fits-self, c.granted_with-self.ensures) in
     let grown : s.scored + c.within.result ≡ prefix_within c.granted_with-self.result plan.segments
     = prefix_grown s.scored s.granted c.granted_with-self.result s.report.postings c.within.result plan.segments stands.prefix low paid
     (c.within.ensures.many ∙ sym (c.prefixes_are_those_of_the_plan.ensures.resumed s.plan plan s.scored (c.granted_with-self.result - s.report.postings) shape)) c.a_prefix_is_resumed.ensures.prefix in
     let terms = c.as_slice-terms.ensures in
-    let scored = after_settle (subst (λ (ts : List QueryTerm). ScoredTo (s.scored + c.within.result) (session_plan file ts) (need_of file ts) c.score_entries-more.new.scores c.score_entries-more.new.pool) terms c.score_entries-more.ensures.scored)
+    let scored = after_settle (subst (λ (ts : List QueryTerm). ScoredTo (s.scored + c.within.result) (session_plan index ts) (need_of index ts) c.score_entries-more.new.scores c.score_entries-more.new.pool) terms c.score_entries-more.ensures.scored)
     c.settle.ensures.stand c.settle.ensures.scores c.settle.ensures.frames c.settle.ensures.same c.settle.ensures.leaves in
     let report = c.report_at-report.ensures plan shape scored.sums in
     record {
@@ -49,15 +49,15 @@ returns-clause-stands g c =
 
 pub returns-clause-steps : goal.returns-clause-steps
 returns-clause-steps g c =
-    let s = c.args.self.now in let file = c.args.index.now in let plan = session_plan file s.query.terms in
+    let s = c.args.self.now in let index = g.S.Source.index c.args.source.now in let plan = session_plan index s.query.terms in
     let stands = c.requires.stands in
     let are : AreTerms s.query.terms = record { few = s.query.few; named = s.query.named; differ = s.query.differ } in
-    let shape = subst (λ (p : PlanView). HasShape p plan) (sym stands.planned.arranged) (c.a_session_plan_names_its_segments.ensures.shape file s.query.terms c.is_checked.ensures.index are stands.planned.known) in
+    let shape = subst (λ (p : PlanView). HasShape p plan) (sym stands.planned.arranged) (c.a_session_plan_names_its_segments.ensures.shape index s.query.terms c.is_searchable.ensures.is_index are stands.planned.known) in
     let paid : s.report.postings ≡ size_of_first s.scored plan.segments = ap (λ (r : Report). r.postings) stands.report in
     let terms = c.as_slice-terms.ensures in
     let more : size_of_first s.scored plan.segments + c.score_entries-more.result ≡ size_of_first (s.scored + c.within.result) plan.segments
-    = subst (λ (ts : List QueryTerm). size_of_first s.scored (session_plan file ts).segments + c.score_entries-more.result ≡ size_of_first (s.scored + c.within.result) (session_plan file ts).segments) terms c.score_entries-more.ensures.postings in
-    let scored = after_settle (subst (λ (ts : List QueryTerm). ScoredTo (s.scored + c.within.result) (session_plan file ts) (need_of file ts) c.score_entries-more.new.scores c.score_entries-more.new.pool) terms c.score_entries-more.ensures.scored)
+    = subst (λ (ts : List QueryTerm). size_of_first s.scored (session_plan index ts).segments + c.score_entries-more.result ≡ size_of_first (s.scored + c.within.result) (session_plan index ts).segments) terms c.score_entries-more.ensures.postings in
+    let scored = after_settle (subst (λ (ts : List QueryTerm). ScoredTo (s.scored + c.within.result) (session_plan index ts) (need_of index ts) c.score_entries-more.new.scores c.score_entries-more.new.pool) terms c.score_entries-more.ensures.scored)
     c.settle.ensures.stand c.settle.ensures.scores c.settle.ensures.frames c.settle.ensures.same c.settle.ensures.leaves in
     let report = c.report_at-report.ensures plan shape scored.sums in
     let postings = ap (λ (r : Report). r.postings) report in
