@@ -1,7 +1,7 @@
 -- Pages that stand in a pool.
 use Rattle.shared_lemmas.proofs.Common.{◌≡◌, ◌≢◌, ℕ, suc, zero, true, not, cond, ◌==◌, ◌+◌, ◌/◌, ◌%◌, ◌<◌, ◌≤◌, min, List, [], ◌∷◌, map, length, get_or, set, replicate, count_by, Option, Some, None, refl, sym, ap, ◌∙◌, subst, inl, inr, arith, get_or-set_same, get_or_past, length-replicate}
 use Rattle.shared_lemmas.proofs.Common.{get_or-replicate, get_or_read, cases_lt, div_ceil, range_with_len, eqb_tells, sum_by-replicate, length-map-range_with_len, get_or-map-range_with_len}
-use Rattle.std.proofs.Common.{option_map, find}
+use Rattle.std.proofs.Common.{Bool, false, if◌then◌else◌, is_some, option_map, find}
 use Rattle.shared_lemmas.proofs.Places.{in_range}
 use Rattle.frame_pool.specs.Pool.{PoolView, FrameContent}
 use Rattle.frame_pool.specs.ChainView.{ChainView, HasPage, HeldFrame, KeepsFrames, LeavesOthers, frame_with_page, number_with_page, slot_value, view_values, view_scores}
@@ -120,6 +120,17 @@ frames_are_pages table docs frames view stands is used =
     (λ i j inside is. subst (λ (k : ℕ). page_is_touched scores k ≡ not (get_or table i 0 == no_frame)) (let same : i ≡ j = omega arith in same) (page_tells table docs view stands used i inside)) in
     let pages : length table ≡ page_count (length scores) = stands.covers ∙ ap page_count (sym (length-values (λ x. x.scores) docs view)) in
     omega (arith, all, stands.frames, is, ap (λ (n : ℕ). count_by (page_is_touched scores) (range_with_len 0 n)) pages)
+
+-- a page has a frame exactly where it has a touched document
+pub has_frame_where_touched : (table : List ℕ) (docs : ℕ) (view : ChainView) → TableStands table docs view
+    → ((page : ℕ) → page < length table → get_or table page 0 ≢ no_frame → HasTouched (view_scores docs view) page)
+    → (page : ℕ) → page < length table → is_some (number_with_page view page) ≡ page_is_touched (view_scores docs view) page
+has_frame_where_touched table docs view stands used page inside =
+    ap is_some (stands.entries page inside) ∙ told (get_or table page 0) (get_or table page 0 == no_frame) ∙ sym (page_tells table docs view stands used page inside)
+  where
+    told : (entry : ℕ) (vacant : Bool) → is_some (if vacant then None else Some entry) ≡ not vacant
+    told entry true = refl
+    told entry false = refl
 
 -- a document with a score has a frame
 pub held_page : (table : List ℕ) (docs : ℕ) (view : ChainView) (d number : ℕ) → TableStands table docs view → d / 256 < length table → number ≡ get_or table (d / 256) number → 0 < get_or (view_scores docs view) d 0

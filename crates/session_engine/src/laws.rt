@@ -1,7 +1,7 @@
 //! Laws of sessions, and of the plans that they follow. Each function does nothing of its own: its contract is the law,
 //! and a caller learns it by the call.
 
-ghost use Rattle.std.specs.Prelude.{◌≡◌, ◌≢◌, ℕ, ◌+◌, ◌≤◌, List, All, length, map, replicate};
+ghost use Rattle.std.specs.Prelude.{◌≡◌, ◌≢◌, ℕ, ◌+◌, ◌<◌, ◌≤◌, List, All, is_some, length, map, replicate};
 ghost use Rattle.std.specs.List.{AllByRecursion};
 ghost use Rattle.jass_base.specs.declared.query_term.QueryTerm.{QueryTerm};
 ghost use Rattle.ranking_model.specs.Limits.{IsSmall};
@@ -16,7 +16,8 @@ ghost use Rattle.index_file.specs.Sources.{IsSearchable};
 ghost use Rattle.segment_plan.specs.declared.entry.PlanEntry.{PlanEntry};
 ghost use Rattle.segment_plan.specs.Entries.{AreHeads, plan_with};
 ghost use Rattle.segment_plan.specs.Shape.{HasShape};
-ghost use Rattle.frame_pool.specs.ChainView.{LeavesOthers, chain_view};
+ghost use Rattle.frame_pool.specs.ChainView.{LeavesOthers, chain_view, number_with_page, view_scores};
+ghost use Rattle.accumulator_pages.specs.Adding.{page_count, page_is_touched, touched_pages};
 ghost use Rattle.frame_pool.specs.Pool.{IsInUse, PoolView};
 ghost use Rattle.session_engine.specs.Plans.{AreKnown, HasEntry, NamesSegment, segment_named, docs_named};
 ghost use Rattle.session_engine.specs.Plans.{need_of, plan_postings, postings_of_terms, query_heads, session_plan};
@@ -34,7 +35,7 @@ use ranking_model::laws::{
     the_prefix_is_the_longest, the_segments_have_all_postings,
 };
 use ranking_model::prefix_laws::{a_prefix_is_resumed, one_segment_more_is_added};
-use session_scores::laws::calls_on_other_chains_leave_scores;
+use session_scores::laws::{calls_on_other_chains_leave_scores, the_chain_has_the_scores};
 
 /// A query's plan has the segments that the entries of its arranged heads name, entry by entry.
 #[tactic(auto, unfolding(crate::specs::Plans::session_plan))]
@@ -166,4 +167,35 @@ pub fn reports_of_sessions_keep_their_promises()
     the_flat_list_is_flat();
     a_prefix_has_one_report();
     reports_keep_their_promises();
+}
+
+/// What a session that stands has in its pool: the scores of its prefix, in frames of the pages of 256 documents that
+/// have one with a score, no others, and never more of them than its query needs.
+pub fn a_session_has_the_scores_of_its_prefix()
+    ensures scores { (s : Session) (index : IndexData) (pool : PoolView) → SessionStands s index pool →
+        view_scores (length index.names) (chain_view pool (chain_of s))
+        ≡ scores_after (prefix_of s) (plan_over index s) }
+    ensures pages { (s : Session) (index : IndexData) (pool : PoolView) (page : ℕ) → SessionStands s index pool →
+        page < page_count (length index.names) →
+        is_some (number_with_page (chain_view pool (chain_of s)) page)
+        ≡ page_is_touched (scores_after (prefix_of s) (plan_over index s)) page }
+    ensures frames { (s : Session) (index : IndexData) (pool : PoolView) → SessionStands s index pool →
+        length (chain_view pool (chain_of s)).frames ≡ touched_pages (scores_after (prefix_of s) (plan_over index s)) }
+    ensures need { (s : Session) (index : IndexData) (pool : PoolView) → SessionStands s index pool →
+        length (chain_view pool (chain_of s)).frames ≤ need_of index (terms_of s) }
+{
+    the_chain_has_the_scores();
+    a_session_plan_names_its_segments();
+    one_entry_more_is_scored();
+}
+
+/// The steps of a session that stands, which its report tells, are paid for by its grants: they are the postings of its
+/// prefix, and at most the sum of what was granted.
+pub fn grants_pay_for_a_session()
+    ensures steps { (s : Session) (index : IndexData) (pool : PoolView) → SessionStands s index pool →
+        (report_of s).postings ≡ size_of_first (prefix_of s) (plan_over index s).segments }
+    ensures paid { (s : Session) (index : IndexData) (pool : PoolView) → SessionStands s index pool →
+        (report_of s).postings ≤ granted_of s }
+{
+    the_prefix_is_the_longest();
 }
