@@ -37,8 +37,8 @@ usual_tag = record {
   visible = All-from_recursion (λ b. (33 ≤ b) × (b ≤ 126)) (codes "jass") ((omega arith, omega arith), ((omega arith, omega arith), ((omega arith, omega arith), ((omega arith, omega arith), tt))));
 }
 
-pub hits_within : (allowed : List Key) (words : List (List ℕ)) (read : Options) → AreRead allowed words read → IsHits (unwrap_or read.hits 1000)
-hits_within allowed words read seen = fits_or keys.Hits IsHits (number_fits 100000) allowed words read seen 1000 (omega arith, omega arith)
+pub hits_within : (usual : ℕ) → IsHits usual → (allowed : List Key) (words : List (List ℕ)) (read : Options) → AreRead allowed words read → IsHits (unwrap_or read.hits usual)
+hits_within usual fits allowed words read seen = fits_or keys.Hits IsHits (number_fits 100000) allowed words read seen usual fits
 
 pub budgets_within : (allowed : List Key) (words : List (List ℕ)) (read : Options) → AreRead allowed words read → IsFew (unwrap_or read.limits (budgets.All ∷ []))
 budgets_within allowed words read seen = fits_or keys.Limits IsFew few_budgets allowed words read seen (budgets.All ∷ []) (omega arith, omega arith)

@@ -1,4 +1,4 @@
-use Rattle.shared_lemmas.proofs.Common.{sym, subst, ap, ◌∙◌, inr}
+use Rattle.shared_lemmas.proofs.Common.{sym, subst, ap, ◌∙◌, inr, arith}
 use Rattle.jass_words.specs.Options.{IsTag}
 use Rattle.std.proofs.Common.{unwrap_or}
 use Rattle.jass_words.proofs.Limits.{IsHits, IsFew, hits_within, budgets_within, tag_within, now_or}
@@ -8,7 +8,7 @@ pub invariant_of-result : goal.invariant_of-result
 invariant_of-result c =
     let seen = c.in-Ok.ensures.options in
     record {
-      hits = subst IsHits (sym c.unwrap_or.ensures) (hits_within _ _ c.in-Ok.options seen);
+      hits = subst IsHits (sym c.unwrap_or.ensures) (hits_within 1000 (omega arith, omega arith) _ _ c.in-Ok.options seen);
       tagged = subst IsTag (sym (ap (λ t. t.now) c.unwrap_or-in-Ok.ensures ∙ now_or c.in-Ok.options.tag _)) (tag_within _ _ c.in-Ok.options seen);
     }
 
