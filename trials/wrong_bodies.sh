@@ -3,21 +3,35 @@
 # by the check of CRATE; or, where its first line is '# refused by tests: NAME' or '# refused by run: NAME', by the tests of the
 # crate NAME or by its stored run. They are tried in a clone of the last commit: what isn't committed isn't tried.
 # Run it before a change is handed in: trials/wrong_bodies.sh [CRATE..], or of all crates that have edits here. What the checkout
-# has built is taken over; rt proves a crate anew where a text of it, or of one below it, differs.
+# has built of the crates below these is taken over; rt proves a crate anew where a text of it, or of one below it, differs.
 set -euo pipefail
 top=$(git -C "$(dirname "$0")" rev-parse --show-toplevel)
 room=$(mktemp -d)
 trap 'rm -rf "$room"' EXIT
 git clone -q "$top" "$room/jass"
 cd "$room/jass"
-for built in "$top"/crates/*/out/rlib; do
-    [ ! -d "$built" ] || (mkdir -p "crates${built#"$top/crates"}" && cp -a "$built/." "crates${built#"$top/crates"}")
-done
 if [ $# = 0 ]; then
     for folder in trials/wrong_bodies/*/; do
         set -- "$@" "$(basename "$folder")"
     done
 fi
+
+# Takes over what the checkout has built of the crates that a crate stands on.
+declare -A taken=()
+take_below() {
+    local below built
+    for below in $(sed -n "s/^$1:\(.*\)/\1/p" crates.txt); do
+        built=$top/crates/$below/out/rlib
+        [ -z "${taken[$below]-}" ] && [ -d "crates/$below" ] || continue
+        taken[$below]=yes
+        [ ! -d "$built" ] || (mkdir -p "crates/$below/out" && cp -a "$built" "crates/$below/out")
+        take_below "$below"
+    done
+}
+
+for crate in "$@"; do
+    take_below "$crate"
+done
 refused=0 missed=0
 
 # Counts an edit, by what came of it.
@@ -72,6 +86,7 @@ for crate in "$@"; do
     for edit in trials/wrong_bodies/"$crate"/*.edit; do
         if grep -q '^# refused by ' "$edit"; then
             ran+=("$crate/$(basename "$edit")")
+            take_below "$(sed -n '1s/.*: //p' "$edit")"
         else
             proved+=("$crate/$(basename "$edit")")
             cp "$edit" "crates/$crate/must-fail"
