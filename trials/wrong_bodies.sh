@@ -34,9 +34,10 @@ for crate in "$@"; do
 done
 refused=0 missed=0
 
-# Counts an edit, by what came of it.
+# Counts an edit, by what came of it. One that is refused for a name alone is shown: it says little of the contract.
 count() {
     case $2 in
+    *'(only because'*) refused=$((refused + 1)) && echo "$1: $2" ;;
     refused*) refused=$((refused + 1)) ;;
     *) missed=$((missed + 1)) && echo "$1: $2" ;;
     esac
