@@ -410,7 +410,7 @@ def main(words):
                 small[name] = file.read()
         small["b.idx"] = Folder(program, path, small).whole("import b.ciff new")[3]["new"]
         small["new"] = OLD
-        large = {"b.ciff": ciff(6000, 60, 1), "old.idx": old_index(40_000)}
+        large = {"b.ciff": ciff(2000, 60, 1), "old.idx": old_index(12_000)}
         large["q.txt"] = b"".join(b"q%d t%d t%d\n" % (place, place % 60, (7 * place + 1) % 60) for place in range(200))
         large["b.idx"] = Folder(program, path, large).whole("import b.ciff new")[3]["new"]
         large["new"] = OLD
