@@ -44,15 +44,15 @@ steps_none file state = refl
 -- a desk reads the line and no more
 same_reply : (file : FileView) (state : DeskState) (line other : List ℕ) → read_desk_line line ≡ read_desk_line other → desk_reply file.index state line ≡ desk_reply file.index state other
 unfolding desk_reply
-same_reply file state line other is = ap (reply_to file state) is
+same_reply file state line other is = ap (reply_to file.index state) is
 
 same_after : (file : FileView) (state : DeskState) (line other : List ℕ) → read_desk_line line ≡ read_desk_line other → desk_after file.index state line ≡ desk_after file.index state other
 unfolding desk_after
-same_after file state line other is = ap (after_of file state) is
+same_after file state line other is = ap (after_of file.index state) is
 
 same_steps : (file : FileView) (state : DeskState) (line other : List ℕ) → read_desk_line line ≡ read_desk_line other → desk_steps file.index state line ≡ desk_steps file.index state other
 unfolding desk_steps
-same_steps file state line other is = ap (steps_of file state) is
+same_steps file state line other is = ap (steps_of file.index state) is
 
 same_end : (line other : List ℕ) → read_desk_line line ≡ read_desk_line other → is_end line ≡ is_end other
 unfolding is_end
@@ -218,7 +218,7 @@ pub opening_steps : (file : FileView) (state : DeskState) (line : List ℕ) → 
 unfolding may_want_memory desk_steps
 opening_steps file state line wants = at (read_desk_line line) wants
   where
-    at : (c : Option DeskCommand) → IsTrue (may_take_memory state c) → steps_of file state c ≡ 0
+    at : (c : Option DeskCommand) → IsTrue (may_take_memory state c) → steps_of file.index state c ≡ 0
     at None wants = cc
     at (Some (Open name k words)) wants = refl
     at (Some other) wants = cc

@@ -97,7 +97,8 @@ fn score_piece(
 }
 
 /// Adds a weight to the scores of the documents whose bits are set, by rows of 128. Bit i of the bytes is that of
-/// document 128 * first + i.
+/// document 128 * first + i. Not inlined: within the loop over pieces it would take the registers of `add_all`.
+#[inline(never)]
 fn score_bits(scores: &mut Scores, pool: &mut FramePool, first: u32, bits: &[u8], weight: u32)
     requires few { 128 * first + 8 * length bits.now ≤ MOST_DOCUMENTS }
     requires weight { 1 ≤ weight }
