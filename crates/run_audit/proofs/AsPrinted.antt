@@ -71,7 +71,7 @@ tag_with : (tag : List ℕ) (part : ℕ) → part < 2 ^ 64 → IsLastColumn tag 
 tag_with tag part small is =
     let digits = All-from_recursion IsDigit (decimal part) (decimal_digits part small) in
     let all = λ (P : ℕ → Type 0) (of_tag : All P tag) (point : P 46) (digit : (b : ℕ) → IsDigit b → P b).
-        All-append P tag (codes "." ++ decimal part) of_tag (All-append P (codes ".") (decimal part) (All-from_recursion P (codes ".") (point, tt)) (All-weaker IsDigit P digit (decimal part) digits)) in
+    All-append P tag (codes "." ++ decimal part) of_tag (All-append P (codes ".") (decimal part) (All-from_recursion P (codes ".") (point, tt)) (All-weaker IsDigit P digit (decimal part) digits)) in
     record {
       column = record {
         utf8 = is_utf8-from_IsUtf8 (tag ++ (codes "." ++ decimal part)) (IsUtf8-append tag (codes "." ++ decimal part) (IsUtf8-from_is_utf8 tag is.column.utf8)
