@@ -1,5 +1,5 @@
 -- The rows of a search are rows that are printed, and a search has one text of reports.
-use Rattle.shared_lemmas.proofs.Common.{◌≡◌, ◌≢◌, ℕ, ◌+◌, ◌<◌, ◌≤◌, ◌^◌, ◌==◌, Bool, true, false, List, [], ◌∷◌, ◌++◌, length, take, map, flat_map, get_or, refl, sym, ap, subst, ◌∙◌, ◌⊎◌, inl, inr, arith, codes, decimal, if◌then◌else◌, cases_Bool, ne_eqb}
+use Rattle.shared_lemmas.proofs.Common.{◌≡◌, ◌≢◌, ℕ, ◌+◌, ◌<◌, ◌≤◌, ◌^◌, ◌==◌, Bool, true, false, List, [], ◌∷◌, ◌++◌, length, flat_map, get_or, refl, sym, ap, subst, ◌∙◌, arith, codes, decimal, if◌then◌else◌}
 use Rattle.shared_lemmas.proofs.Common.{All, AllByRecursion, AllZip, All-append, All-weaker, All-from_recursion, IsUtf8-from_is_utf8, is_utf8-from_IsUtf8, IsUtf8-from_ascii, length-append, length-take}
 use Rattle.shared_lemmas.proofs.Lists.{all_take}
 use Rattle.std.proofs.lemmas.Str.{IsUtf8-append}
@@ -29,7 +29,7 @@ use Rattle.trec_run.specs.declared.run_line.RunLine.{RunLine}
 use Rattle.run_audit.specs.Audits.{SearchData}
 use Rattle.run_audit.specs.declared.search.TheConstants.{MOST_BUDGETS}
 use Rattle.run_audit.specs.Rows.{IsColumn, IsLastColumn, IsPrintable, answers_at, hit_rows, part_rows, query_rows}
-use Rattle.run_audit.proofs.Printed.{IsDigit, decimal_digits, decimal_some, digits_small, small_ascii}
+use Rattle.run_audit.proofs.Printed.{IsDigit, decimal_digits, digits_small, small_ascii}
 
 -- ---- hits
 

@@ -1,8 +1,7 @@
 -- The segments that are read for a query, and their postings.
-use Rattle.shared_lemmas.proofs.Common.{◌≡◌, ℕ, suc, ◌+◌, ◌*◌, ◌<◌, ◌≤◌, List, [], ◌∷◌, ◌++◌, length, map, drop, get_or, refl, sym, ap, ap₂, ◌∙◌, arith, sum_by, flat_map, append_assoc, append-nil, drop_more, drop_all, length-map, length-append, sum_by-cons, sum_by-append, flat_map-append, Result, Ok, Err, IsErr}
+use Rattle.shared_lemmas.proofs.Common.{◌≡◌, ℕ, suc, ◌+◌, ◌*◌, ◌<◌, ◌≤◌, List, [], ◌∷◌, ◌++◌, length, drop, get_or, refl, sym, ap, ap₂, ◌∙◌, arith, sum_by, flat_map, append_assoc, drop_more, length-map, length-append, sum_by-cons, sum_by-append, Result, Ok, Err, IsErr}
 use Rattle.jass_base.specs.declared.query_term.QueryTerm.{QueryTerm}
 use Rattle.ranking_model.specs.declared.plan_segment.PlanSegment.{PlanSegment}
-use Rattle.ranking_model.specs.declared.posting.WeightedPosting.{WeightedPosting}
 use Rattle.ranking_model.specs.Plan.{postings_of}
 use Rattle.index_model.specs.Flat.{numbered_flat, numbered_from, segment_entries, term_entries}
 use Rattle.index_model.specs.Index.{IndexData, SegmentData, TermData}

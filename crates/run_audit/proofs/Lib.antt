@@ -1,3 +1,4 @@
+pub mod Identified
 pub mod AsPrinted
 pub mod Gathered
 pub mod Turns

@@ -1,16 +1,16 @@
 -- Rows that are printed are read as they are.
-use Rattle.shared_lemmas.proofs.Common.{◌≡◌, ◌≢◌, ℕ, suc, ◌+◌, ◌-◌, ◌<◌, ◌≤◌, ◌^◌, ◌||◌, ◌&&◌, ◌==◌, Bool, true, false, List, [], ◌∷◌, ◌++◌, length, zero, get_or, take, filter, flat_map, list_all, refl, sym, ap, ap₂, subst, ◌∙◌, ◌⊎◌, inl, inr, arith, Some, Ok, codes, decimal, nat_lt, nat_le}
-use Rattle.shared_lemmas.proofs.Common.{All, AllByRecursion, All-append, All-weaker, All-from_recursion, IsAscii, IsUtf8, is_utf8, IsUtf8-from_is_utf8, is_utf8-from_IsUtf8, IsUtf8-from_ascii, append_assoc, append-nil, length-append, length-decimal-le, get_or-append-add, slice_split, slice_split_at, slice_split_none}
-use Rattle.shared_lemmas.proofs.Common.{digits_value, digit_value, is_ascii_digit, strip_carriage_return, cases_Bool, cases_lt, flat_map-cons, eqb-true, ne_eqb, le-leb, lt-ltb, nat_tests, filter-append}
+use Rattle.shared_lemmas.proofs.Common.{◌≡◌, ◌≢◌, ℕ, suc, ◌+◌, ◌-◌, ◌<◌, ◌≤◌, ◌^◌, ◌==◌, true, false, List, [], ◌∷◌, ◌++◌, length, zero, get_or, filter, list_all, refl, sym, ap, ap₂, subst, ◌∙◌, ◌⊎◌, inl, inr, arith, Some, codes, decimal, nat_lt, nat_le}
+use Rattle.shared_lemmas.proofs.Common.{All, AllByRecursion, All-append, All-weaker, All-from_recursion, IsAscii, IsUtf8, is_utf8, IsUtf8-from_is_utf8, is_utf8-from_IsUtf8, IsUtf8-from_ascii, append_assoc, length-append, length-decimal-le, get_or-append-add, slice_split_at, slice_split_none}
+use Rattle.shared_lemmas.proofs.Common.{digits_value, digit_value, is_ascii_digit, strip_carriage_return, cases_lt, flat_map-cons, ne_eqb, le-leb, lt-ltb, nat_tests}
 use Rattle.std.proofs.lemmas.Str.{IsUtf8-append}
 use Rattle.std.proofs.lemmas.Fmt.{decimal_is_IsNumeral}
 use Rattle.std.specs.Str.Parse.{AllDigits}
-use Rattle.jass_base.specs.Decimal.{decimal_of, is_decimal}
+use Rattle.jass_base.specs.Decimal.{decimal_of}
 use Rattle.ranking_model.specs.Report.{run_line}
 use Rattle.text_lines.specs.Lines.{lines_of}
 use Rattle.trec_run.specs.declared.run_line.RunLine.{RunLine}
 use Rattle.trec_run.specs.Runs.{IsRunLine, AreRunLines, columns_of, has_bytes, is_blank}
-use Rattle.run_audit.specs.Rows.{IsColumn, IsLastColumn, IsPrintable, rows_text}
+use Rattle.run_audit.specs.Rows.{IsColumn, IsPrintable, rows_text}
 
 -- ---- decimals
 

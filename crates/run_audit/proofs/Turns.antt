@@ -1,5 +1,5 @@
 -- What a search leaves of a query, from a budget on, and of queries, from one on.
-use Rattle.shared_lemmas.proofs.Common.{◌≡◌, ℕ, ◌+◌, ◌<◌, ◌≤◌, List, [], ◌∷◌, ◌++◌, length, take, drop, map, flat_map, refl, sym, ap, ◌∙◌, subst, arith, AllZip, drop_all, length-map, flat_map-map, ◌==◌, if◌then◌else◌, get_or, Some, slice_get, get_or_from_slice_get, drop_more}
+use Rattle.shared_lemmas.proofs.Common.{◌≡◌, ℕ, ◌+◌, ◌<◌, ◌≤◌, List, [], ◌∷◌, ◌++◌, length, drop, map, flat_map, refl, sym, ap, ◌∙◌, arith, AllZip, drop_all, length-map, flat_map-map, ◌==◌, if◌then◌else◌, get_or, Some, slice_get, get_or_from_slice_get, drop_more}
 use Rattle.std.specs.List.{slice_index_or}
 use Rattle.jass_base.specs.declared.answer.Budget.{Budget}
 use Rattle.jass_base.specs.declared.answer.Hit.{Hit}
@@ -7,7 +7,6 @@ use Rattle.jass_base.specs.declared.answer.Report.{Report}
 use Rattle.jass_base.specs.declared.query.Query.{Query}
 use Rattle.ranking_model.specs.declared.entry.Entry.{Entry}
 use Rattle.ranking_model.specs.declared.plan.QueryPlan.{QueryPlan}
-use Rattle.ranking_model.specs.Plan.{granted_sum, plan_of, prefix_within}
 use Rattle.ranking_model.specs.Report.{IsReport, report_line, tag_of}
 use Rattle.ranking_model.specs.Scores.{bound_after, scores_after, top_k}
 use Rattle.ranking_model.specs.Search.{AreReports, IsSearchReports, QueryData, first_part, prefix_granted, prefixes_granted, query_data, report_lines}

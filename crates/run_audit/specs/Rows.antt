@@ -1,5 +1,5 @@
 -- The run of a search as rows of columns. The columns are TREC's; what stands in them is this project's.
-use Rattle.std.specs.Prelude.{ℕ, ◌≡◌, ◌<◌, ◌≤◌, ◌≢◌, ◌^◌, ◌+◌, List, [], ◌∷◌, ◌++◌, length, map, flat_map, All}
+use Rattle.std.specs.Prelude.{ℕ, ◌<◌, ◌≤◌, ◌≢◌, ◌^◌, ◌+◌, List, [], ◌∷◌, ◌++◌, length, map, flat_map, All}
 use Rattle.std.specs.List.{slice_index_or}
 use Rattle.jass_base.specs.Limits.{IsText}
 use Rattle.jass_base.specs.declared.answer.Budget.{Budget}

@@ -5,13 +5,15 @@ ghost use Rattle.std.specs.List.{AllByRecursion};
 ghost use Rattle.jass_base.specs.declared.answer.Budget.{Budget};
 ghost use Rattle.ranking_model.specs.declared.entry.Entry.{Entry};
 ghost use Rattle.ranking_model.specs.Search.{IsSearchReports, QueryData, search_run};
+ghost use Rattle.query_reader.specs.declared.mode.Mode.{Mode};
+ghost use Rattle.query_reader.specs.Queries.{IsQueryFile, QueryData as FileQuery};
 ghost use Rattle.trec_run.specs.declared.run_line.RunLine.{RunLine};
 ghost use Rattle.trec_run.specs.Runs.{run_of};
 ghost use Rattle.run_audit.specs.declared.verdict.Verdict.{Verdict};
 ghost use Rattle.index_model.specs.Flat.{numbered_flat};
 ghost use Rattle.index_layout.specs.View.{FileView, IsFileView};
 ghost use Rattle.run_audit.specs.Audits.{IsAskable, IsAudit, SearchData};
-ghost use Rattle.run_audit.specs.Rows.{IsPrintable, rows_text, search_rows};
+ghost use Rattle.run_audit.specs.Rows.{IsColumn, IsPrintable, rows_text, search_rows};
 ghost use Rattle.run_audit.specs.Verdicts.{IsVerdict};
 
 use index_model::laws::the_flat_list_is_flat;
@@ -94,3 +96,10 @@ pub fn a_search_is_audited_with_yes()
     printed_rows_are_read();
     a_search_prints_its_rows();
 }
+
+/// The ids of the queries of a file are columns.
+pub fn ids_of_a_query_file_are_columns()
+    ensures { (bytes : List ℕ) (mode : Mode) (terms : List (List ℕ)) (queries : List FileQuery) →
+        IsQueryFile bytes mode terms queries →
+        AllByRecursion (λ (query : FileQuery). IsColumn query.id) queries }
+{}

@@ -1,5 +1,5 @@
 -- What a search leaves of one query, as functions of its plan: the grades are those of the rule.
-use Rattle.std.specs.Prelude.{ℕ, ◌+◌, List, map, flat_map, length, ◌==◌, if◌then◌else◌}
+use Rattle.std.specs.Prelude.{ℕ, List, flat_map, length, ◌==◌, if◌then◌else◌}
 use Rattle.jass_base.specs.declared.answer.Budget.{Budget}
 use Rattle.ranking_model.specs.declared.entry.Entry.{Entry}
 use Rattle.ranking_model.specs.declared.plan.QueryPlan.{QueryPlan}

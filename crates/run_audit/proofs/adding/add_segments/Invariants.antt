@@ -1,4 +1,4 @@
-use Rattle.std.proofs.Common.{◌≡◌, ◌<◌, ◌+◌, ℕ, take, length, get_or, sum_by}
+use Rattle.std.proofs.Common.{◌≡◌, ◌<◌, ℕ, take, length, get_or, sum_by}
 use Rattle.ranking_model.specs.Scores.{gain_of}
 use Rattle.run_audit.proofs.adding.add_segments.Given as goal
 

@@ -1,4 +1,4 @@
-use Rattle.std.proofs.Common.{◌≡◌, List, [], true, length, refl, sym, subst, arith}
+use Rattle.std.proofs.Common.{◌≡◌, List, [], true, refl, sym, subst, arith}
 use Rattle.trec_run.specs.declared.run_line.RunLine.{RunLine}
 use Rattle.index_model.specs.Flat.{numbered_flat}
 use Rattle.run_audit.specs.declared.place.Place.{Place}

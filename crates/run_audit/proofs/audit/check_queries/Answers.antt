@@ -1,4 +1,4 @@
-use Rattle.shared_lemmas.proofs.Common.{◌≡◌, ◌+◌, ◌≤◌, ℕ, List, length, drop, sym, ap, ◌∙◌, arith, sum_by-cons, drop_all}
+use Rattle.shared_lemmas.proofs.Common.{◌+◌, List, length, drop, ap, ◌∙◌, arith, sum_by-cons, drop_all}
 use Rattle.jass_base.specs.declared.query.Query.{Query}
 use Rattle.ranking_model.specs.Postings.{weighted_postings}
 use Rattle.ranking_model.specs.Search.{QueryData, query_data}

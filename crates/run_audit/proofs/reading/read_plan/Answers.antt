@@ -1,6 +1,4 @@
 use Rattle.shared_lemmas.proofs.Common.{◌≡◌, ◌≤◌, ◌^◌, ℕ, List, length, sym, ap, subst, ◌∙◌, arith}
-use Rattle.ranking_model.specs.declared.plan.QueryPlan.{QueryPlan}
-use Rattle.ranking_model.specs.declared.plan_segment.PlanSegment.{PlanSegment}
 use Rattle.ranking_model.specs.declared.posting.WeightedPosting.{WeightedPosting}
 use Rattle.ranking_model.specs.Limits.{IsSmall}
 use Rattle.ranking_model.specs.Order.{sorted}

@@ -1,4 +1,4 @@
-use Rattle.std.proofs.Common.{ℕ, ◌≡◌, ◌++◌, ◌+◌, ◌≤◌, List, drop}
+use Rattle.std.proofs.Common.{◌≡◌, ◌++◌, ◌+◌, ◌≤◌, drop}
 use Rattle.index_model.specs.Querying.{query_segments_at, segments_at}
 use Rattle.run_audit.specs.Private.Reading.{segments_postings}
 use Rattle.run_audit.proofs.reading.read_term.Given as goal

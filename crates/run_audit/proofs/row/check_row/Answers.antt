@@ -1,5 +1,4 @@
-use Rattle.shared_lemmas.proofs.Common.{◌≡◌, ◌≢◌, [], ◌∷◌, true, false, true≢false, Some, None, List, slice_get, get_or, sym, ap, ◌∙◌, IsTrue, slice_get_past, get_or_from_slice_get}
-use Rattle.trec_run.specs.declared.run_line.RunLine.{RunLine}
+use Rattle.shared_lemmas.proofs.Common.{◌≡◌, [], ◌∷◌, true≢false, sym, ◌∙◌, slice_get_past, get_or_from_slice_get}
 use Rattle.run_audit.specs.Private.Texts.{wanted_row}
 use Rattle.run_audit.proofs.Agreeing.{compared_no_more, missing}
 use Rattle.run_audit.proofs.row.check_row.Goals.{else-place-run-via-then-place-run+else-is_row, else-place-run-via-else-place-run}
