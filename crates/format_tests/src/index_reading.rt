@@ -203,12 +203,16 @@ fn check_bitmap(rt: &impl Abort, alloc: Global) {
 
 fn check_bits(rt: &impl Abort, file: &IndexFile, rows: &[(u32, Option<&[u8]>)]) {
     for (segment, bits) in rows {
-        assert!(rt; has_bits::<Brand>(file, *segment, *bits, Blank::new(1)));
+        assert!(rt; has_bits(file, *segment, *bits));
     }
 }
 
 /// Whether a segment is handed out in these bits, or in a block where there are none.
-fn has_bits<L: Ledger>(file: &IndexFile, segment: u32, bits: Option<&[u8]>, blank: Blank) -> bool
+fn has_bits(file: &IndexFile, segment: u32, bits: Option<&[u8]>) -> bool {
+    gives_bits::<Brand>(file, segment, bits, Blank::new(1))
+}
+
+fn gives_bits<L: Ledger>(file: &IndexFile, segment: u32, bits: Option<&[u8]>, blank: Blank) -> bool
     requires name { blank.name ≡ L.name }
     requires parts { blank.parts ≡ L.parts }
     requires some { 0 < blank.parts }
