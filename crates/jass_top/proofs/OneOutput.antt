@@ -1,6 +1,6 @@
 -- A command has one output for its inputs.
 use Rattle.shared_lemmas.proofs.Common.{◌≡◌, ℕ, List, [], ◌∷◌, refl, sym, ap, ◌∙◌, sum_by, AllZip}
-use Rattle.jass_top.proofs.Below.{Grade, Report, QueryPlan, IsGrade, IsReport, QueryData, prefixes_granted, report_lines, IndexData, CommandData, Once, Rewrite, Import, Check, Export, Migrate, Search, Serve, Trial, Help, Version, trial_queries}
+use Rattle.jass_top.proofs.Below.{Grade, Report, QueryPlan, IsGrade, IsReport, QueryData, prefixes_granted, report_lines, IndexData, CommandData, Once, Search, Serve, Trial, trial_queries}
 use Rattle.ranking_model.specs.Report.{report_of}
 use Rattle.jass_top.specs.Answers.{OnceQuery, once_plan, once_prefix, once_steps, once_text}
 use Rattle.jass_top.specs.Commands.{meaning_of}
@@ -81,10 +81,4 @@ module _ (one_grade : (scores : List ℕ) (k bound : ℕ) (first second : Grade)
   one_output (Search index queries run k limits tag mode) = λ inputs input one other is theirs. same_texts other one other (same_search (search_within k limits tag) inputs one other is theirs) refl
   one_output (Serve index frames) = λ file input one other is theirs. (is.content ∙ sym theirs.content, is.text ∙ sym theirs.text)
   one_output (Trial seed docs terms queries) = λ inputs input one other is theirs. same_texts other one other (same_trial (queries_over inputs (trial_queries seed docs terms queries)) inputs one other is theirs) refl
-  one_output (Rewrite from to) = λ inputs input one other is theirs. same_texts _ one other is theirs
-  one_output (Import ciff index rule bits) = λ inputs input one other is theirs. same_texts _ one other is theirs
-  one_output (Check index) = λ inputs input one other is theirs. same_texts _ one other is theirs
-  one_output (Export index ciff) = λ inputs input one other is theirs. same_texts _ one other is theirs
-  one_output (Migrate from to) = λ inputs input one other is theirs. same_texts _ one other is theirs
-  one_output Help = λ inputs input one other is theirs. same_texts _ one other is theirs
-  one_output Version = λ inputs input one other is theirs. same_texts _ one other is theirs
+  one_output command = λ inputs input one other is theirs. same_texts _ one other is theirs
