@@ -1,5 +1,5 @@
 -- Inputs that are judged one behind the other.
-use Rattle.std.proofs.Common.{◌≡◌, ◌≤◌, ℕ, List, [], ◌∷◌, refl, ap, ◌∙◌, inl, inr}
+use Rattle.std.proofs.Common.{◌≡◌, ◌≢◌, ◌≤◌, ℕ, List, [], ◌∷◌, ◌++◌, refl, ap, ◌∙◌, inl, inr}
 use Rattle.jass_base.proofs.Writing.{Rose-earlier}
 use Rattle.jass_top.specs.declared.stop.Stop.{Stop}
 use Rattle.jass_top.specs.declared.stop.Stop.TheVariants as stops
@@ -62,3 +62,53 @@ unheld_first reads judged next (stops.Refused name number at) (one, inr is) = (o
 unheld_first reads judged next (stops.ReadFault name) why = why
 unheld_first reads judged next (stops.WriteFault name) why = why
 unheld_first reads judged next stops.InputLimit why = why
+
+-- ---- some inputs and others behind them
+
+one_of_more : (names more : List (List ℕ)) (name : List ℕ) → IsOneOf names name → IsOneOf (names ++ more) name
+one_of_more [] more name one = absurd one
+one_of_more (first ∷ names) more name (inl is) = inl is
+one_of_more (first ∷ names) more name (inr one) = inr (one_of_more names more name one)
+
+one_of_last : (names more : List (List ℕ)) (name : List ℕ) → IsOneOf more name → IsOneOf (names ++ more) name
+one_of_last [] more name one = one
+one_of_last (first ∷ names) more name one = inr (one_of_last names more name one)
+
+-- some weren't had
+pub unread_before : {A B : Type 0} (names more : List (List ℕ)) (judged : Judged A) (next : A → Judged B) (before after : ℕ) (stop : Stop) → Unread names judged before after stop
+    → Unread (names ++ more) (behind judged next) before after stop
+unread_before names more judged next before after stops.NoMemory why = tt
+unread_before names more judged next before after (stops.Refused name number at) (one, inl untold) = (one_of_more names more name.now one, inl (ap (λ j. behind j next) untold))
+unread_before names more judged next before after (stops.Refused name number at) (one, inr is) = (one_of_more names more name.now one, inr (ap (λ j. behind j next) is))
+unread_before names more judged next before after (stops.ReadFault name) (one, inl rose) = (one_of_more names more name.now one, inl rose)
+unread_before names more judged next before after (stops.ReadFault name) (one, inr is) = (one_of_more names more name.now one, inr (ap (λ j. behind j next) is))
+unread_before names more judged next before after (stops.WriteFault name) why = why
+unread_before names more judged next before after stops.InputLimit why = why
+
+-- some were had, and the others weren't; where those are untold, so are these
+pub unread_behind : {A B : Type 0} (names more : List (List ℕ)) (judged : Judged A) (x : A) (next : A → Judged B) (before mid after : ℕ) (stop : Stop) → Shows judged (Accepted x)
+    → (judged ≡ Untold → next x ≡ Untold) → before ≤ mid → Unread more (next x) mid after stop → Unread (names ++ more) (behind judged next) before after stop
+unread_behind names more judged x next before mid after stops.NoMemory shows untold later why = tt
+unread_behind names more judged x next before mid after (stops.Refused name number at) shows untold later (one, refused) =
+    (one_of_last names more name.now one, shown_then judged x next (Refuses name.now number at) shows refused)
+unread_behind names more judged x next before mid after (stops.ReadFault name) shows untold later (one, inl rose) = (one_of_last names more name.now one, inl (Rose-earlier before mid after later rose))
+unread_behind names more judged x next before mid after (stops.ReadFault name) (inl none) untold later (one, inr is) =
+    let other : next x ≡ Untold = untold none in
+    cc
+unread_behind names more judged x next before mid after (stops.ReadFault name) (inr had) untold later (one, inr is) = (one_of_last names more name.now one, inr (ap (λ j. behind j next) had ∙ is))
+unread_behind names more judged x next before mid after (stops.WriteFault name) shows untold later why = why
+unread_behind names more judged x next before mid after stops.InputLimit shows untold later why = why
+
+-- ---- what is told
+
+pub behind_told : {A B : Type 0} (judged : Judged A) (next : A → Judged B) → judged ≢ Untold → ((x : A) → next x ≢ Untold) → behind judged next ≢ Untold
+behind_told (Accepted x) next told others is = others x is
+behind_told (Missing name) next told others is = cc
+behind_told (Refuses name number at) next told others is = cc
+behind_told Untold next told others is = told refl
+
+pub behind_found : {A B : Type 0} (judged : Judged A) (next : A → Judged B) (y : B) → behind judged next ≡ Accepted y → (x : A) × (judged ≡ Accepted x) × (next x ≡ Accepted y)
+behind_found (Accepted x) next y is = (x, refl, is)
+behind_found (Missing name) next y is = cc
+behind_found (Refuses name number at) next y is = cc
+behind_found Untold next y is = cc

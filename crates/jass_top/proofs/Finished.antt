@@ -1,6 +1,6 @@
 -- The end of writing a file changes nothing that is told. Where it fails, a part of the output stands: all of it.
 use Rattle.shared_lemmas.proofs.Common.{◌≡◌, ◌≤◌, ◌+◌, ℕ, List, length, take, take_all, false, Option, Some, None, Ok, true, refl, sym, subst, ◌∙◌, inr, arith, Appends}
-use Rattle.jass_top.proofs.Below.{Check, CommandData, Export, Files, Help, Import, Migrate, Once, Rewrite, Search, Serve, Trial, Version, AppendsPrefix, Rose, Rose-earlier, Sets}
+use Rattle.jass_top.proofs.Below.{Audit, Check, CommandData, Export, Files, Help, Import, Migrate, Once, Rewrite, Search, Serve, Trial, Version, AppendsPrefix, Rose, Rose-earlier, Sets}
 use Rattle.jass_top.specs.Causes.{WriteFailed}
 use Rattle.jass_top.specs.Commands.{meaning_of}
 use Rattle.jass_top.specs.Endings.{Does, Over, Untouched}
@@ -108,6 +108,7 @@ whole_stands (Search index queries run k limits tag mode) name before after file
 }
 whole_stands (Once ciff k budget terms) name before after file untouched does = cc
 whole_stands (Check index) name before after file untouched does = cc
+whole_stands (Audit index queries run reports k limits tag mode) name before after file untouched does = cc
 whole_stands (Serve index frames) name before after file untouched does = cc
 whole_stands (Trial seed docs terms queries) name before after file untouched does = cc
 whole_stands Help name before after file untouched does = cc

@@ -7,6 +7,7 @@ pub mod Endings
 pub mod Exported
 pub mod Finished
 pub mod Judged
+pub mod JudgedAudit
 pub mod JudgedFiles
 pub mod JudgedQueries
 pub mod JudgedSearch

@@ -1,7 +1,11 @@
 -- A command has one output for its inputs.
 use Rattle.shared_lemmas.proofs.Common.{◌≡◌, ℕ, List, [], ◌∷◌, refl, sym, ap, ◌∙◌, sum_by, AllZip}
-use Rattle.jass_top.proofs.Below.{Grade, Report, QueryPlan, IsGrade, IsReport, QueryData, prefixes_granted, report_lines, IndexData, CommandData, Once, Search, Serve, Trial, trial_queries}
+use Rattle.jass_top.proofs.Below.{Entry, Grade, Report, QueryPlan, numbered_flat, IsGrade, IsReport, QueryData, prefixes_granted, report_lines, IndexData, CommandData, Once, Search, Audit, Serve, Trial, trial_queries}
 use Rattle.ranking_model.specs.Report.{report_of}
+use Rattle.trec_run.specs.declared.run_line.RunLine.{RunLine}
+use Rattle.run_audit.specs.declared.verdict.Verdict.{Verdict}
+use Rattle.run_audit.specs.Audits.{IsAudit, SearchData}
+use Rattle.jass_top.specs.AuditMeaning.{AuditInputs, IsAuditOutput, audit_postings, verdict_line}
 use Rattle.jass_top.specs.Answers.{OnceQuery, once_plan, once_prefix, once_steps, once_text}
 use Rattle.jass_top.specs.Commands.{meaning_of}
 use Rattle.jass_top.specs.Meanings.{HasOneOutput, Output}
@@ -11,9 +15,14 @@ use Rattle.jass_top.specs.SearchMeaning as asked
 use Rattle.jass_top.specs.QueryJudging.{without_lines}
 use Rattle.jass_top.specs.TrialMeaning.{AreTrialReports, IsTrialOutput, queries_over, trial_budgets, trial_prefix, trial_summary}
 
+-- the law of verdicts
+abbrev pub OneVerdict : Type 0
+OneVerdict = (names : List (List ℕ)) (flat : List (Entry ℕ)) (queries : List QueryData) (search : SearchData) (run : List RunLine) (reports : List ℕ) (first second : Verdict)
+    → IsAudit names flat queries search run reports first → IsAudit names flat queries search run reports second → first ≡ second
+
 -- ---- reports are one
 
-module _ (one_grade : (scores : List ℕ) (k bound : ℕ) (first second : Grade) → IsGrade scores k bound first → IsGrade scores k bound second → first ≡ second) where
+module _ (one_grade : (scores : List ℕ) (k bound : ℕ) (first second : Grade) → IsGrade scores k bound first → IsGrade scores k bound second → first ≡ second) (one_verdict : OneVerdict) where
   same_report : (n : ℕ) (plan : QueryPlan) (k : ℕ) (one other : Report) → IsReport n plan k one → IsReport n plan k other → one ≡ other
   same_report n plan k one other is theirs =
       let grade : one.grade ≡ other.grade = one_grade _ k _ one.grade other.grade is.graded theirs.graded in
@@ -72,6 +81,12 @@ module _ (one_grade : (scores : List ℕ) (k bound : ℕ) (first second : Grade)
       let last = same_reports_after index 3 queries is.last theirs.last is.last_are theirs.last_are in
       is.whole ∙ (λ i. record { content = []; text = trial_summary index queries (first i) (second i) (last i); steps = sum_by (scored_postings index (prefixes_granted trial_budgets)) queries }) ∙ sym theirs.whole
 
+  same_audit : (search : SearchData) (inputs : AuditInputs) (one other : Output) → IsAuditOutput search inputs one → IsAuditOutput search inputs other → one ≡ other
+  same_audit search inputs one other is theirs =
+      let verdict : is.verdict ≡ theirs.verdict
+      = one_verdict inputs.index.names (numbered_flat inputs.index) (without_lines inputs.queries) search inputs.run inputs.reports is.verdict theirs.verdict is.audit theirs.audit in
+      is.whole ∙ ap (λ (v : Verdict). (let o : Output = record { content = []; text = verdict_line v; steps = audit_postings inputs } in o)) verdict ∙ sym theirs.whole
+
   -- two outputs of which each is this one
   same_texts : (whole one other : Output) → one ≡ whole → other ≡ whole → (one.content ≡ other.content) × (one.text ≡ other.text)
   same_texts whole one other is theirs = (ap (λ (o : Output). o.content) (is ∙ sym theirs), ap (λ (o : Output). o.text) (is ∙ sym theirs))
@@ -79,6 +94,8 @@ module _ (one_grade : (scores : List ℕ) (k bound : ℕ) (first second : Grade)
   pub one_output : (command : CommandData) → HasOneOutput (meaning_of command)
   one_output (Once ciff k budget terms) = λ inputs input one other is theirs. same_texts other one other (same_answer (record { k = k; budget = budget; words = terms }) inputs one other is theirs) refl
   one_output (Search index queries run k limits tag mode) = λ inputs input one other is theirs. same_texts other one other (same_search (search_within k limits tag) inputs one other is theirs) refl
+  one_output (Audit index queries run reports k limits tag mode) = λ inputs input one other is theirs.
+      same_texts other one other (same_audit (record { k = k; budgets = limits; tag = tag }) inputs one other is theirs) refl
   one_output (Serve index frames) = λ file input one other is theirs. (is.content ∙ sym theirs.content, is.text ∙ sym theirs.text)
   one_output (Trial seed docs terms queries) = λ inputs input one other is theirs. same_texts other one other (same_trial (queries_over inputs (trial_queries seed docs terms queries)) inputs one other is theirs) refl
   one_output command = λ inputs input one other is theirs. same_texts _ one other is theirs

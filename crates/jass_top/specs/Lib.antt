@@ -1,4 +1,5 @@
 pub mod Answers
+pub mod AuditMeaning
 pub mod Causes
 pub mod CheckMeaning
 pub mod Commands

@@ -3,6 +3,7 @@ pub mod OnceTexts
 pub mod RunFiles
 pub mod Serving
 pub mod Sides
+pub mod Audits
 pub mod Causes
 pub mod ServeRuns
 pub mod HeldIndexes

@@ -5,6 +5,7 @@ ghost use Rattle.jass_top.specs.Commands.{meaning_of};
 ghost use Rattle.jass_top.specs.Private.Causes.{Runs};
 ghost use Rattle.jass_top.specs.Worlds.{outer};
 
+use crate::audit::run_audit_command;
 use crate::check::run_check;
 use crate::export::run_export;
 use crate::help::run_help;
@@ -109,6 +110,7 @@ fn do_command<'a, C: Cabinet, I: Feed, O: Sink, L: Ledger>(
             out,
             steps,
         ),
+        Command::Audit(audit) => run_audit_command(alloc, audit, files, out, steps),
         Command::Trial(trial) => run_trial(
             alloc,
             trial.seed,

@@ -53,6 +53,7 @@ use ranking_model::laws::{
     reports_keep_their_promises, the_grade_is_one, the_prefix_is_the_longest,
 };
 use ranking_model::prefix_laws::each_budget_has_its_prefix;
+use run_audit::laws::an_audit_has_one_verdict;
 use segment_codecs::laws::the_choice_is_the_first_of_the_shortest;
 
 /// A CIFF file is accepted exactly where it is there and its content stands for the collection. It
@@ -222,6 +223,7 @@ pub fn a_command_has_one_output()
     ensures { (command : CommandData) → HasOneOutput (meaning_of command) }
 {
     the_grade_is_one();
+    an_audit_has_one_verdict();
 }
 
 /// Why a run ends as it does. Where an input isn't accepted nothing is left, and running out of memory and counted read

@@ -3,9 +3,12 @@
 //! The program as one call: it reads the command's words, runs the command over a cabinet,
 //! an input, an output and notes, and answers a status.
 
+mod audit;
+mod audit_input;
 mod check;
 mod collection_file;
 mod command;
+mod content_input;
 mod export;
 mod fixed_text;
 mod help;

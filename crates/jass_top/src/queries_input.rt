@@ -1,23 +1,22 @@
-ghost use Rattle.std.specs.Prelude.{◌≡◌, ◌≤◌, ◌+◌, [], ◌∷◌, take, IfOk, IfErr};
+ghost use Rattle.std.specs.Prelude.{◌≡◌, ◌≤◌, [], ◌∷◌, IfOk, IfErr};
 ghost use Rattle.std.specs.List.{AllByRecursion};
 ghost use Rattle.jass_base.specs.declared.query.Query.{Query};
 ghost use Rattle.index_file.specs.Places.{texts_of};
 ghost use Rattle.session_engine.specs.Plans.{AreKnown};
 ghost use Rattle.jass_top.specs.Private.Causes.{Unheld, Unread};
-ghost use Rattle.jass_top.specs.Private.Inputs.{AcceptsSuch, HasInput};
+ghost use Rattle.jass_top.specs.Private.Inputs.{HasInput};
 ghost use Rattle.jass_top.specs.Private.SearchRuns.{asked_of};
 ghost use Rattle.jass_top.specs.Judging.{behind, judge_content};
 ghost use Rattle.jass_top.specs.QueryJudging.{judge_queries, without_lines};
-ghost use Rattle.jass_base.specs.declared.limits.TheConstants.{LONGEST_QUERY_FILE};
 
+use crate::content_input::file_front;
 use crate::stop::{Place, Stop};
 use index_file::IndexFile;
 use jass_base::limits::LONGEST_QUERY_FILE;
-use jass_base::{Cabinet, Query, ReadStop, Row};
+use jass_base::{Cabinet, Query, Row};
 use query_reader::laws::query_files_are_read;
 use query_reader::{Mode, QueryFault, read_queries};
 use std::alloc::Global;
-use whole_files::read_front;
 
 /// How many bytes of a file are read at the most: one more than a query file may have, since a
 /// longer file is refused whatever else stands in it.
@@ -45,34 +44,13 @@ pub fn open_queries<'a, C: Cabinet>(
     ensures later { C.read_faults files.old ≤ C.read_faults files.new }
     ensures others { C.write_faults files.old ≤ C.write_faults files.new }
 {
-    let bytes = match query_bytes(alloc, files, name) {
+    let bytes = match file_front(alloc, files, name, MOST_BYTES) {
         Ok(bytes) => bytes,
         Err(stop) => return Err(stop),
     };
     match queries_in(alloc, bytes.as_slice(), name, mode, index) {
         Ok(queries) => Ok(queries),
         Err(stop) => Err(stop),
-    }
-}
-
-/// Reads the content of a query file, of a longer one the front, which is refused as the whole is.
-fn query_bytes<'a, C: Cabinet>(
-    alloc: Global,
-    files: &mut C,
-    name: &'a str,
-) -> Result<Row<u8>, Stop<'a>>
-    ensures accepted { IfOk result (λ bytes. AcceptsSuch (judge_content name.now (C.told files.old))
-        (λ content. bytes ≡ take (LONGEST_QUERY_FILE + 1) content)) }
-    ensures unread { IfErr result (λ stop. Unread (name.now ∷ []) (judge_content name.now (C.told files.old))
-        (C.read_faults files.old) (C.read_faults files.new) stop) }
-    ensures stays { C.told files.new ≡ C.told files.old }
-    ensures later { C.read_faults files.old ≤ C.read_faults files.new }
-    ensures others { C.write_faults files.old ≤ C.write_faults files.new }
-{
-    match read_front(alloc, files, name, MOST_BYTES) {
-        Ok(bytes) => Ok(bytes),
-        Err(ReadStop::ReadFault) => Err(Stop::ReadFault { name }),
-        Err(ReadStop::NoMemory) => Err(Stop::NoMemory),
     }
 }
 
@@ -98,7 +76,7 @@ fn queries_in<'a>(
         Err(QueryFault::Refused(refusal)) => Err(Stop::Refused {
             name,
             number: refusal.why.number(),
-            at: Place::Line(refusal.line),
+            at: Place::Line(u64::from(refusal.line)),
         }),
         Err(QueryFault::NoMemory) => Err(Stop::NoMemory),
     }

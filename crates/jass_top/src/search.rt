@@ -69,7 +69,7 @@ pub fn run_search<'a, C: Cabinet, O: Sink, L: Ledger>(
 }
 
 /// Opens the index file, and reads the queries over it.
-fn open_search<'a, C: Cabinet>(
+pub fn open_search<'a, C: Cabinet>(
     alloc: Global,
     index: &'a str,
     queries: &'a str,

@@ -2,7 +2,7 @@
 #[derive(Clone, Copy)]
 pub enum Place {
     Byte(u64),
-    Line(u32),
+    Line(u64),
 }
 
 /// Why a command stopped before its end.

@@ -46,6 +46,8 @@ pub enum Command<'a> {
         budgets: Grants,
         asked: Asked<'a>,
     },
+    /// Says whether a run and its reports are those of the search.
+    Audit(Audit<'a>),
     /// Answers the lines of the input at a desk of sessions over an index file.
     Serve(Serve<'a>),
     /// Makes a collection and its index in memory, searches it, and prints a summary.
@@ -82,7 +84,8 @@ pub struct Import<'a> {
     pub ghost apart: { ciff.now ≢ index.now },
 }
 
-/// What `search INDEX QUERIES RUN [k=K] [budget=BUDGET,..] [tag=TAG] [mode=MODE]` asks of each query, beside its budgets.
+/// What `search INDEX QUERIES RUN [k=K] [budget=BUDGET,..] [tag=TAG] [mode=MODE]` asks of each query, beside its budgets;
+/// an audit asks the same.
 #[derive(Clone, Copy)]
 pub struct Asked<'a> {
     /// 1 to 100,000 hits; 1,000 where no option says otherwise.
@@ -93,6 +96,20 @@ pub struct Asked<'a> {
     pub mode: Mode,
     pub ghost hits: { (1 ≤ k) × (k ≤ MOST_HITS) },
     pub ghost tagged: { IsTag tag.now },
+}
+
+/// `audit INDEX QUERIES RUN REPORTS [k=K] [budget=BUDGET,..] [tag=TAG] [mode=MODE]`.
+#[derive(Clone, Copy)]
+pub struct Audit<'a> {
+    pub index: &'a str,
+    pub queries: &'a str,
+    /// The file that is said to be the search's run.
+    pub run: &'a str,
+    /// The file that is said to be what the search printed.
+    pub reports: &'a str,
+    /// 1 to 16; `all` alone where no option says otherwise.
+    pub budgets: Grants,
+    pub asked: Asked<'a>,
 }
 
 /// `serve INDEX frames=FRAMES`.

@@ -16,6 +16,7 @@ pub struct Grants {
 impl Grants {
     pub fn as_slice(&self) -> &[Budget]
         ensures items { result.now ≡ take self.now.count self.now.items }
+        ensures some { 1 ≤ length result.now }
         ensures few { length result.now ≤ MOST_BUDGETS }
     {
         &self.items[..self.count]

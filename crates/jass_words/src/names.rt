@@ -12,6 +12,7 @@ pub enum Name {
     Export,
     Migrate,
     Search,
+    Audit,
     Serve,
     Trial,
     Help,
@@ -19,7 +20,7 @@ pub enum Name {
 }
 
 /// The commands, in the order of the help text.
-pub const NAMES: [Name; 11] = [
+pub const NAMES: [Name; 12] = [
     Name::Once,
     Name::Rewrite,
     Name::Import,
@@ -27,6 +28,7 @@ pub const NAMES: [Name; 11] = [
     Name::Export,
     Name::Migrate,
     Name::Search,
+    Name::Audit,
     Name::Serve,
     Name::Trial,
     Name::Help,
@@ -88,6 +90,11 @@ impl Name {
                 word: "search",
                 form: "INDEX QUERIES RUN* [k=K] [budget=B,..] [tag=TAG] [mode=plain|folded]",
                 does: "answer the queries of a file",
+            },
+            Name::Audit => Row {
+                word: "audit",
+                form: "INDEX QUERIES RUN REPORTS [k=K] [budget=B,..] [tag=TAG] [mode=plain|folded]",
+                does: "say whether a run and its reports are those of the search",
             },
             Name::Serve => Row {
                 word: "serve",

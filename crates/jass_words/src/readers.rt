@@ -6,7 +6,7 @@ ghost use Rattle.jass_words.specs.Words.{texts};
 ghost use Rattle.jass_words.specs.Private.Reading.{ReadsAs};
 
 use crate::budgets::Budgets;
-use crate::command::{Asked, Command, Import, Once, Serve, Trial};
+use crate::command::{Asked, Audit, Command, Import, Once, Serve, Trial};
 use crate::files::read_files;
 use crate::keys::Key;
 use crate::options::{read_frames, read_options};
@@ -127,6 +127,39 @@ pub fn read_search<'a>(words: &'a [String]) -> Result<Command<'a>, WordFault>
             },
             budgets: options.limits.unwrap_or(Budgets::all()).grants(),
         }),
+        Err(fault) => Err(fault),
+    }
+}
+
+pub fn read_audit<'a>(words: &'a [String]) -> Result<Command<'a>, WordFault>
+    ensures { ReadsAs Name.Audit (texts words.now) result }
+{
+    let Some(index) = file_at(words, 1, &[]) else {
+        return Err(WordFault { which: 2 });
+    };
+    let Some(queries) = file_at(words, 2, &[index]) else {
+        return Err(WordFault { which: 3 });
+    };
+    let Some(run) = file_at(words, 3, &[index, queries]) else {
+        return Err(WordFault { which: 4 });
+    };
+    let Some(reports) = file_at(words, 4, &[index, queries, run]) else {
+        return Err(WordFault { which: 5 });
+    };
+    let allowed = [Key::Hits, Key::Limits, Key::Tag, Key::Reading];
+    match read_options(words, 5, &allowed) {
+        Ok(options) => Ok(Command::Audit(Audit {
+            index,
+            queries,
+            run,
+            reports,
+            asked: Asked {
+                k: options.hits.unwrap_or(USUAL_HITS),
+                tag: options.tag.unwrap_or("jass"),
+                mode: options.mode.unwrap_or(Mode::Plain),
+            },
+            budgets: options.limits.unwrap_or(Budgets::all()).grants(),
+        })),
         Err(fault) => Err(fault),
     }
 }

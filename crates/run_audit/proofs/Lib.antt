@@ -9,6 +9,7 @@ pub mod Agreeing
 pub mod Lists
 pub mod Lifting
 pub mod Edges
+pub mod Named
 pub mod Steps
 pub mod Refuting
 pub mod Deciding

@@ -1,8 +1,11 @@
 //! Laws over the definitions. Each function does nothing: its contract is the law, and a caller learns it by the call.
 
-ghost use Rattle.std.specs.Prelude.{ℕ, ◌≡◌, List, Ok};
+ghost use Rattle.std.specs.Prelude.{ℕ, ◌≡◌, ◌≤◌, All, List, Ok};
 ghost use Rattle.std.specs.List.{AllByRecursion};
 ghost use Rattle.jass_base.specs.declared.answer.Budget.{Budget};
+ghost use Rattle.jass_base.specs.declared.limits.TheConstants.{MOST_TIMES};
+ghost use Rattle.jass_base.specs.declared.query_term.QueryTerm.{QueryTerm};
+ghost use Rattle.ranking_model.specs.Postings.{AreTerms};
 ghost use Rattle.ranking_model.specs.declared.entry.Entry.{Entry};
 ghost use Rattle.ranking_model.specs.Search.{IsSearchReports, QueryData, search_run};
 ghost use Rattle.query_reader.specs.declared.mode.Mode.{Mode};
@@ -102,4 +105,12 @@ pub fn ids_of_a_query_file_are_columns()
     ensures { (bytes : List ℕ) (mode : Mode) (terms : List (List ℕ)) (queries : List FileQuery) →
         IsQueryFile bytes mode terms queries →
         AllByRecursion (λ (query : FileQuery). IsColumn query.id) queries }
+{}
+
+/// The terms of the queries of a file differ, and each is named 1 to 255 times.
+pub fn terms_of_a_query_file_can_be_asked()
+    ensures { (bytes : List ℕ) (mode : Mode) (terms : List (List ℕ)) (queries : List FileQuery) →
+        IsQueryFile bytes mode terms queries →
+        AllByRecursion (λ (query : FileQuery). AreTerms query.terms
+        × All (λ (n : QueryTerm). n.times ≤ MOST_TIMES) query.terms) queries }
 {}

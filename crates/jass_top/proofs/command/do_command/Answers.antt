@@ -69,3 +69,9 @@ returns-in-Trial-clause-runs g c =
     let before = outer g.C.Cabinet g.I.Feed g.O.Sink c.args.files.now c.args.input.now c.args.out.now c.args.steps.now in
     let after = outer g.C.Cabinet g.I.Feed g.O.Sink c.args.files.now c.args.input.now c.run_trial.new.out c.run_trial.new.steps in
     subst (λ (command : Command). Runs (meaning_of (command_data command)) before after c.run_trial.result) (sym c.in-Trial.is) (c.run_trial.ensures before)
+
+pub returns-in-Audit-clause-runs : goal.returns-in-Audit-clause-runs
+returns-in-Audit-clause-runs g c =
+    let before = outer g.C.Cabinet g.I.Feed g.O.Sink c.args.files.now c.args.input.now c.args.out.now c.args.steps.now in
+    let after = outer g.C.Cabinet g.I.Feed g.O.Sink c.run_audit_command.new.files c.args.input.now c.run_audit_command.new.out c.run_audit_command.new.steps in
+    subst (λ (command : Command). Runs (meaning_of (command_data command)) before after c.run_audit_command.result) (sym c.in-Audit.is) (c.run_audit_command.ensures.runs before)

@@ -1,9 +1,9 @@
 use Rattle.std.proofs.Common.{Err, refl, ap, inl, take, ◌≡◌}
 use Rattle.jass_top.proofs.Judged.{content_such, unread_content}
-use Rattle.jass_top.proofs.queries_input.query_bytes.Goals as goal
+use Rattle.jass_top.proofs.content_input.file_front.Goals as goal
 
 pub returns-in-Ok-clause-accepted : goal.returns-in-Ok-clause-accepted
-returns-in-Ok-clause-accepted g c = content_such (g.C.Cabinet.told c.args.files.now) c.args.name.now (λ content. c.in-Ok.bytes ≡ take 268435457 content) c.in-Ok.ensures.content
+returns-in-Ok-clause-accepted g c = content_such (g.C.Cabinet.told c.args.files.now) c.args.name.now (λ content. c.in-Ok.bytes ≡ take c.args.most content) c.in-Ok.ensures.content
 
 pub returns-in-Err-ReadFault-clause-unread : goal.returns-in-Err-ReadFault-clause-unread
 returns-in-Err-ReadFault-clause-unread g c = (
